@@ -1,0 +1,138 @@
+/* genie.h: Genie-DOS disks (TRSDOS family, 1983) for hosts in C and C++.
+ *
+ * A disk is an image that the caller lends for one call: blocks x units x 1,280 bytes, at most 1,966,080. The library keeps nothing between calls.
+ * Every call tests all that it is given, whatever the numbers and whatever the image holds, and answers with one number: 0 if it was done, else
+ * the first refusal of the table below whose case holds. A refused call changes nothing; what it hands back is said at "Answers under a refusal".
+ *
+ * WHAT THE CALLER SEES TO
+ *   - No pointer is null, neither that of a slice nor that of an outgoing number. An empty slice (length 0) may have any other pointer.
+ *   - A slice's pointer is good for as many bytes as the length beside it says.
+ *   - Slices and outgoing numbers do not overlap.
+ * Nothing else is asked: a size_t may hold any value.
+ *
+ * ARGUMENTS THAT MANY CALLS SHARE
+ *   image, image_len      the disk; const where the call only reads it.
+ *   blocks                1 to 192.
+ *   units                 granules in a block, 1 to 8. Granule number = block x units + unit; a granule is 5 sectors of 256 bytes.
+ *   start                 the directory's first sector, a multiple of 5, with at least 10 sectors from there to the end of the disk.
+ *   open_code             the 16-bit code that stands for "no password".
+ *   name, name_len        11 bytes: name of 1 to 8, then type of 0 to 3, each padded right with 20H. Allowed bytes: 30H to 39H, 41H to 5DH.
+ *                         A name that comes in must be exactly 11 bytes long.
+ *   handle, handle_len    at least GENIE_HANDLE_BYTES bytes, of which only the first 19 are used; const where the call leaves them alone:
+ *                           0        slot of the file's first entry
+ *                           1        level, 0 (everything) to 7 (nothing)
+ *                           2, 3     record length, 1 to 256, low byte first
+ *                           4 to 7   position, 0 to 1,966,080, low byte first
+ *                           8 to 18  name, 11 bytes
+ *                         Between calls the caller may set the position (bytes 4 to 7).
+ *   checking              whether password codes are tested.
+ *   code                  the password code given; any 16-bit number is good.
+ *
+ * REFUSALS, in the order in which they are tested
+ */
+#ifndef GENIE_H
+#define GENIE_H
+
+#include <stdbool.h>
+#include <stddef.h>
+#include <stdint.h>
+
+#ifdef __cplusplus
+extern "C" {
+#endif
+
+enum genie_refusal {
+    GENIE_DONE = 0,         /* accepted */
+    GENIE_GEOMETRY = 1,     /* blocks, units, start or the image's length is not as said above */
+    GENIE_INCONSISTENT = 2, /* the disk is not consistent (directory, names, chains, runs, GAT or HIT contradict each other) */
+    GENIE_RANGE = 12,       /* a position, record length, level, date or sector (0 to 7,679) is out of range; position + length passes 1,966,080 in
+                               a write; the buffer is shorter than the record length; the handle is under 19 bytes; the listing's name buffer is
+                               under 11 bytes. A handle's three numbers are tested in every call that takes one, used or not. */
+    GENIE_NAME = 3,         /* the name is not well formed, or not 11 bytes long (calls by name) */
+    GENIE_STALE = 7,        /* the handle's slot is none that the directory has, or is not in use, or an extension, or has another name */
+    GENIE_NOT_FOUND = 4,    /* no file has that name (look up, open) */
+    GENIE_PASSWORD = 5,     /* wrong password code (open; create of a file that exists) */
+    GENIE_LEVEL = 6,        /* level over 5 for reading, over 4 for write, allot and trim, over 1 for kill; or a system file in the last four */
+    GENIE_PAST_END = 10,    /* a read passes the file's size; the sector read is not one of the file's */
+    GENIE_NO_GROWTH = 11,   /* the file may not grow (flag E) and more granules are needed than it owns */
+    GENIE_DISK_FULL = 9,    /* more further granules are needed than are free */
+    GENIE_DIRECTORY_FULL = 8 /* fewer permitted slots are free than the call needs */
+};
+
+/* Answers under a refusal: every outgoing number is 0, every lent buffer and the image are as they stood. Two exceptions: look up tells its count
+ * under refusal 4; a refused open or create leaves 19 zeros in a handle buffer of at least 19 bytes (using that handle is refusal 12). */
+
+#define GENIE_HANDLE_BYTES 19
+#define GENIE_NAME_BYTES 11
+#define GENIE_SECTOR_BYTES 256
+#define GENIE_GRANULE_BYTES 1280
+#define GENIE_HIGHEST_POSITION 1966080
+
+/* Check: whether the image is a consistent disk. Refusals 1, 2. (Every other call makes this check first.) */
+uint8_t genie_check(const uint8_t *image, size_t image_len, size_t blocks, size_t units, size_t start, uint16_t open_code);
+
+/* Look up: the slot of the file's first entry in *slot; in *compared how many entries were compared, those whose HIT byte is the name's hash, by
+ * rising slot number, the found one included. Under refusal 4 *compared counts them all. Refusals 1, 2, 3, 4. */
+uint8_t genie_look_up(const uint8_t *image, size_t image_len, size_t blocks, size_t units, size_t start, uint16_t open_code,
+                      const uint8_t *name, size_t name_len, size_t *slot, size_t *compared);
+
+/* Open: makes a handle with position 0 and the record length given (1 to 256). Its level is 0 if checking is off, the file's main code is
+ * open_code, or code is the main code; the file's stored level if code is the worker code only. Refusals 1, 2, 12, 3, 4, 5. */
+uint8_t genie_open(const uint8_t *image, size_t image_len, size_t blocks, size_t units, size_t start, uint16_t open_code,
+                   const uint8_t *name, size_t name_len, size_t length, bool checking, uint16_t code,
+                   uint8_t *handle, size_t handle_len);
+
+/* Create: an empty file with that name, date (day 0 to 31, month 0 to 15, year since 1980 0 to 15), record length (1 to 256) and codes, in the first
+ * permitted free slot; *old is 0, the handle has level 0. If the file exists nothing changes on the disk: it is opened as by genie_open with
+ * main_code as the code given, and *old is 1. The numbers are tested either way. Refusals 1, 2, 12, 3, 5, 8. */
+uint8_t genie_create(uint8_t *image, size_t image_len, size_t blocks, size_t units, size_t start, uint16_t open_code,
+                     const uint8_t *name, size_t name_len, size_t day, size_t month, size_t year, size_t length,
+                     uint16_t main_code, uint16_t worker_code, bool checking, size_t *old,
+                     uint8_t *handle, size_t handle_len);
+
+/* Read record: the file's bytes from the handle's position, as many as its record length, go to the start of the buffer; the rest of the buffer is
+ * untouched; the handle's position advances by the record length. Refusals 1, 2, 12, 7, 6, 10. */
+uint8_t genie_read_record(const uint8_t *image, size_t image_len, size_t blocks, size_t units, size_t start, uint16_t open_code,
+                          uint8_t *handle, size_t handle_len, uint8_t *buffer, size_t buffer_len);
+
+/* Read sector: where the file's sector k (0 to 7,679) lies. Its bytes are image[*from] up to, not including, image[*to]: 256 of them, or fewer in the
+ * file's last sector. Nothing is copied, the position plays no part and does not move. Refusals 1, 2, 12, 7, 6, 10. */
+uint8_t genie_read_sector(const uint8_t *image, size_t image_len, size_t blocks, size_t units, size_t start, uint16_t open_code,
+                          const uint8_t *handle, size_t handle_len, size_t k, size_t *from, size_t *to);
+
+/* Write record: the first bytes of the buffer, as many as the handle's record length, go to the file at the handle's position, and the position
+ * advances by that length. Bytes between the old size and the position become zero. Sequential: the size becomes position + length, even if smaller.
+ * Not sequential (random): the larger of that and the old size. Exactly the granules that the new size lacks are taken. The file's flag B (worked
+ * on) is set. Refusals 1, 2, 12, 7, 6, 11, 9, 8. */
+uint8_t genie_write_record(uint8_t *image, size_t image_len, size_t blocks, size_t units, size_t start, uint16_t open_code,
+                           uint8_t *handle, size_t handle_len, bool sequential, const uint8_t *buffer, size_t buffer_len);
+
+/* Allot: takes granules until the file owns those of its sectors 0 to k (k is 0 to 7,679); none if it does. The size does not change.
+ * Refusals 1, 2, 12, 7, 6, 11, 9, 8. */
+uint8_t genie_allot(uint8_t *image, size_t image_len, size_t blocks, size_t units, size_t start, uint16_t open_code,
+                    const uint8_t *handle, size_t handle_len, size_t k);
+
+/* Trim: gives back the granules that the size does not need, the last ones; with the file's flag F (keep space) set nothing changes.
+ * Refusals 1, 2, 12, 7, 6. */
+uint8_t genie_trim(uint8_t *image, size_t image_len, size_t blocks, size_t units, size_t start, uint16_t open_code,
+                   const uint8_t *handle, size_t handle_len);
+
+/* Kill: the file is gone, its granules and slots are free. The handle stays as it is, and is stale. Refusals 1, 2, 12, 7, 6. */
+uint8_t genie_kill(uint8_t *image, size_t image_len, size_t blocks, size_t units, size_t start, uint16_t open_code,
+                   const uint8_t *handle, size_t handle_len);
+
+/* List: the file with that number, counted from 0 by rising slot, system files left out. Its name goes to the first 11 bytes of name (a buffer of at
+ * least 11 bytes), its size in bytes and the granules it owns to *size and *granules; *more is 1. Past the last file the call is accepted too: *more,
+ * *size and *granules are 0, the name buffer is as it stood. Refusals 1, 2, 12. */
+uint8_t genie_list(const uint8_t *image, size_t image_len, size_t blocks, size_t units, size_t start, uint16_t open_code,
+                   size_t number, uint8_t *name, size_t name_len, size_t *size, size_t *granules, size_t *more);
+
+/* Count: in *files the files that the listing tells, in *free the granules that are free. Refusals 1, 2. */
+uint8_t genie_count(const uint8_t *image, size_t image_len, size_t blocks, size_t units, size_t start, uint16_t open_code,
+                    size_t *files, size_t *free);
+
+#ifdef __cplusplus
+}
+#endif
+
+#endif
