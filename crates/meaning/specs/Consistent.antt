@@ -1,0 +1,103 @@
+-- A consistent disk (01). A part stands for each kind of fault: it says what must hold of one slot, one file, or the directory.
+use Prim.Native.Nat.{ℕ, zero, suc, _+_, _-_, _*_, _/_, _%_}
+use mathlib.Core.Bool.{Bool, true, false, not, cond, _&&_, _||_, Bool·beq}
+use mathlib.Core.List.{List, [], _∷_, _++_}
+use lib.Dec.{leb, ltb, eqb}
+use lib.ListN.{length}
+use Rattle.meaning.specs.Lists.{count, every, some, each, has, keep, distinct, same, all, any}
+use Rattle.meaning.specs.Layout
+use Rattle.meaning.specs.Names
+use Rattle.meaning.specs.Bits
+use Rattle.meaning.specs.Entries
+use Rattle.meaning.specs.Chain
+use Rattle.meaning.specs.declared.Geometry.{Geometry}
+
+module _ (g : Geometry) (d : List ℕ) where
+  -- The 1FH byte is allowed and the directory fits the image.
+  unfoldable pub lengthHolds : Bool
+  lengthHolds =
+      all (has (0 ∷ 5 ∷ 10 ∷ 15 ∷ 20 ∷ []) (Layout.aboveTen g d)
+      ∷ leb (g .start + Layout.directorySectors g d) (Layout.sectors g) ∷ [])
+
+  -- A slot's HIT byte is nonzero exactly if its entry is in use.
+  unfoldable pub hitHolds : ℕ → Bool
+  hitHolds s = Bool·beq (not (eqb (Layout.hit g d s) 0)) (Entries.inUse g d s)
+
+  -- HIT bytes equal the hashes. An extension's HIT byte is its file's hash.
+  unfoldable pub hashHolds : ℕ → Bool
+  hashHolds p = every (λ s. eqb (Layout.hit g d s) (Names.hash (Entries.nameOf g d p))) (Chain.chain g d p)
+
+  -- Names of in-use primary entries are well formed; bit 5 is zero.
+  unfoldable pub nameHolds : ℕ → Bool
+  nameHolds p = Names.wellFormed (Entries.nameOf g d p) && not (Bits.bit 5 (Layout.field g d p 0))
+
+  -- After an FFH block every later pair of that entry starts with FFH.
+  unfoldable pub pairsHold : ℕ → Bool
+  pairsHold s = every (λ k. ltb k (Entries.runs g d s) || eqb (Entries.block g d s k) 0xff) (count 0 4)
+
+  -- an in-use extension: byte 00 is 90H, it points back, and has at least one run
+  unfoldable pub follows : ℕ → ℕ → Bool
+  follows s x =
+      all (Layout.isSlot g d x ∷ eqb (Layout.field g d x 0) 0x90 ∷ eqb (Layout.field g d x 1) s
+      ∷ leb 1 (Entries.runs g d x) ∷ [])
+
+  -- Markers are FEH or FFH. Each FEH link leads to such an extension. Each entry before the last of a chain has four runs.
+  unfoldable pub linkHolds : ℕ → Bool
+  linkHolds s =
+      any (eqb (Entries.marker g d s) 0xff
+      ∷ all (eqb (Entries.marker g d s) 0xfe ∷ follows s (Entries.link g d s) ∷ eqb (Entries.runs g d s) 4 ∷ []) ∷ [])
+
+  -- Runs lie on the disk, their first unit is below units per block.
+  unfoldable pub runsHold : ℕ → Bool
+  runsHold s =
+      every (λ k. all (ltb (Entries.firstUnit g d s k) (g .units)
+      ∷ leb (Entries.runStart g d s k + Entries.runLength g d s k) (Layout.granules g) ∷ []))
+      (count 0 (Entries.runs g d s))
+
+  -- their GAT bits are set
+  unfoldable pub gatHolds : ℕ → Bool
+  gatHolds s = every (Layout.taken g d) (Entries.entryGranules g d s)
+
+  -- n = 0 only with e = 0; the size fits the granules owned.
+  unfoldable pub sizeHolds : ℕ → Bool
+  sizeHolds p =
+      all ((not (eqb (Entries.sectorCount g d p) 0) || eqb (Entries.endByte g d p) 0)
+      ∷ leb (Entries.sizeOf g d p) (Layout.granuleBytes * length (Chain.owned g d p)) ∷ [])
+
+  -- Directory granules are in no run of a file without the system flag.
+  unfoldable pub offDirectory : ℕ → Bool
+  offDirectory p =
+      any (Entries.system g d p
+      ∷ every (λ n. not (has (Layout.directoryGranules g d) n)) (Chain.owned g d p) ∷ [])
+
+  -- an entry in use
+  abbrev pub entryHolds : ℕ → Bool
+  entryHolds s = all (pairsHold s ∷ linkHolds s ∷ runsHold s ∷ gatHolds s ∷ [])
+
+  unfoldable pub slotHolds : ℕ → Bool
+  slotHolds s = all (hitHolds s ∷ any (not (Entries.inUse g d s) ∷ entryHolds s ∷ []) ∷ [])
+
+  unfoldable pub fileHolds : ℕ → Bool
+  fileHolds p = all (nameHolds p ∷ hashHolds p ∷ sizeHolds p ∷ offDirectory p ∷ [])
+
+  unfoldable pub namesDiffer : List ℕ → Bool
+  namesDiffer [] = true
+  namesDiffer (p ∷ ps) =
+      every (λ q. not (same (Entries.nameOf g d p) (Entries.nameOf g d q))) ps && namesDiffer ps
+
+  -- every entry that some file's chain meets, file by file
+  unfoldable pub met : List ℕ
+  met = each (Chain.chain g d) (Chain.files g d)
+
+  unfoldable pub consistent : Bool
+  consistent =
+      all (lengthHolds
+      ∷ every slotHolds (Layout.slots g d)
+      ∷ every fileHolds (Chain.files g d)
+      ∷ namesDiffer (Chain.files g d)
+      -- each in-use extension belongs to exactly one file's chain
+      ∷ distinct met ∷ every (has met) (keep (Entries.inUse g d) (Layout.slots g d))
+      -- no granule is in two runs
+      ∷ distinct (each (Chain.owned g d) (Chain.files g d))
+      -- directory granules are set in the GAT
+      ∷ every (Layout.taken g d) (Layout.directoryGranules g d) ∷ [])

@@ -1,0 +1,25 @@
+-- What is free: granules, and slots for a new entry (01, Calls).
+use Prim.Native.Nat.{ℕ}
+use mathlib.Core.Bool.{Bool, not}
+use mathlib.Core.List.{List, [], _∷_}
+use lib.Dec.{ltb, eqb}
+use Rattle.meaning.specs.Lists.{count, keep, all}
+use Rattle.meaning.specs.Layout.{taken, granules, isSlot, row, column, hit}
+use Rattle.meaning.specs.declared.Geometry.{Geometry}
+
+module _ (g : Geometry) where
+  -- the free granules, rising: the clear GAT bits in range
+  unfoldable pub freeGranules : List ℕ → List ℕ
+  freeGranules d = keep (λ n. not (taken g d n)) (count 0 (granules g))
+
+  -- Rows 0 to 3 with s 0 to 7 are kept for system files and never permitted.
+  unfoldable pub permitted : List ℕ → ℕ → Bool
+  permitted d s = all (isSlot g d s ∷ not (all (ltb (row s) 4 ∷ ltb (column s) 8 ∷ [])) ∷ [])
+
+  -- of those with HIT byte 0
+  unfoldable pub freeSlot : List ℕ → ℕ → Bool
+  freeSlot d s = all (permitted d s ∷ eqb (hit g d s) 0 ∷ [])
+
+  -- the free permitted slots, rising
+  unfoldable pub freeSlots : List ℕ → List ℕ
+  freeSlots d = keep (freeSlot d) (count 0 256)

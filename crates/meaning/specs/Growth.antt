@@ -1,0 +1,95 @@
+-- Granules are taken one at a time (01, Calls). `takeOne` is the choice of a granule and of its place in the directory; a growth is
+-- `takeOne` done so many times.
+use Prim.Native.Nat.{ℕ, zero, suc, _+_, _-_, _*_, _/_, _%_}
+use mathlib.Core.Bool.{Bool, true, false, not, cond}
+use mathlib.Core.List.{List, [], _∷_, _++_}
+use lib.Dec.{leb, ltb}
+use lib.ListN.{length, replicate}
+use lib.Seq.{sets}
+use Rattle.meaning.specs.Lists.{all, firstOr, lastOr}
+use Rattle.meaning.specs.Layout
+use Rattle.meaning.specs.Entries
+use Rattle.meaning.specs.Chain
+use Rattle.meaning.specs.Free
+use Rattle.meaning.specs.declared.Geometry.{Geometry}
+
+-- what a growth leaves: the disk, or the word that an extension found no slot
+pub data Grown : Type 0 where
+  grown : List ℕ → Grown
+  noSlot : Grown
+
+-- one growth, then another
+unfoldable pub andThen : Grown → (List ℕ → Grown) → Grown
+andThen (grown d) f = f d
+andThen noSlot f = noSlot
+
+-- the growth found no slot
+unfoldable pub fails : Grown → Bool
+fails (grown d) = false
+fails noSlot = true
+
+-- the disk that a growth leaves, z where it found no slot
+unfoldable pub diskOr : List ℕ → Grown → List ℕ
+diskOr z (grown d) = d
+diskOr z noSlot = z
+
+-- the file at slot p grows
+module _ (g : Geometry) (p : ℕ) where
+  -- the last entry of the file
+  abbrev pub tail : List ℕ → ℕ
+  tail d = lastOr p (Chain.chain g d p)
+
+  -- the granule just after the last run, where there is a run
+  abbrev pub after : List ℕ → ℕ
+  after d =
+      let e = tail d in let k = Entries.runs g d e - 1 in
+      Entries.runStart g d e k + Entries.runLength g d e k
+
+  -- the one just after the last run, if it exists, is free and the run has fewer than 32 (and there is a run at all)
+  unfoldable pub lengthens : List ℕ → Bool
+  lengthens d =
+      let e = tail d in let k = Entries.runs g d e - 1 in
+      all (leb 1 (Entries.runs g d e) ∷ ltb (after d) (Layout.granules g) ∷ not (Layout.taken g d (after d))
+      ∷ ltb (Entries.runLength g d e k) 32 ∷ [])
+
+  -- the last run longer by one: one further granule in the low five bits of its pair
+  abbrev pub lengthened : List ℕ → List ℕ
+  lengthened d =
+      let e = tail d in let k = Entries.runs g d e - 1 in
+      let at = 0x17 + 2 * k in
+      Layout.takeGranule g (Layout.setField g d e at (Layout.field g d e at + 1)) (after d)
+
+  -- granule n as a new run of its own, pair k of entry e
+  abbrev pub withPair : List ℕ → ℕ → ℕ → ℕ → List ℕ
+  withPair d e k n =
+      Layout.takeGranule g
+      (Layout.setField g (Layout.setField g d e (0x16 + 2 * k) (n / g .units)) e (0x17 + 2 * k) (n % g .units * 32))
+      n
+
+  -- Extension: byte 00 is 90H, byte 01 the slot before it in the chain, 02 to 15 zero; a new one's unused pairs, marker and link are FFH.
+  abbrev pub newExtension : ℕ → List ℕ
+  newExtension e = 0x90 ∷ e ∷ (replicate 20 0 ++ replicate 10 0xff)
+
+  -- slot x as an extension after entry e, hooked by marker FEH and link. An extension's HIT byte is its file's hash.
+  abbrev pub withExtension : List ℕ → ℕ → ℕ → List ℕ
+  withExtension d e x =
+      let linked = Layout.setField g (Layout.setField g d e 0x1e 0xfe) e 0x1f x in
+      sets (sets linked (Layout.entryAt g x) (newExtension e)) (Layout.hitAt g x) (Layout.hit g d p ∷ [])
+
+  -- A run beyond the fourth starts an extension in the first permitted slot.
+  unfoldable pub extended : List ℕ → List ℕ → ℕ → ℕ → Grown
+  extended [] d e n = noSlot
+  extended (x ∷ xs) d e n = grown (withPair (withExtension d e x) x 0 n)
+
+  -- one granule more: the one just after the last run; else the lowest free one, as a new run. (Some granule is free: 9 is tested before.)
+  unfoldable pub takeOne : List ℕ → Grown
+  takeOne d =
+      let e = tail d in let n = firstOr 0 (Free.freeGranules g d) in
+      cond (lengthens d) (grown (lengthened d))
+      (cond (ltb (Entries.runs g d e) 4) (grown (withPair d e (Entries.runs g d e) n))
+      (extended (Free.freeSlots g d) d e n))
+
+  -- k granules more
+  unfoldable pub grow : ℕ → List ℕ → Grown
+  grow zero d = grown d
+  grow (suc k) d = andThen (takeOne d) (grow k)

@@ -1,0 +1,128 @@
+-- Where things are on a disk (01, Geometry and Directory layout). An image is the list of its bytes; a sector is 256 of them.
+use Prim.Native.Nat.{ℕ, zero, suc, _+_, _-_, _*_, _/_, _%_}
+use mathlib.Core.Bool.{Bool}
+use mathlib.Core.List.{List, [], _∷_}
+use lib.Dec.{leb, ltb, eqb}
+use lib.ListN.{length, getD, set}
+use Rattle.meaning.specs.Lists.{count, keep, all}
+use Rattle.meaning.specs.Bits.{bit, withBit, withoutBit}
+use Rattle.meaning.specs.declared.Geometry.{Geometry}
+
+-- Geometry ----------------------------------------------------------------------------------------------------------------
+
+-- A granule is 5 sectors of 256 bytes. This is the only place where that 5 stands.
+abbrev pub granuleSectors : ℕ
+granuleSectors = 5
+
+abbrev pub granuleBytes : ℕ
+granuleBytes = granuleSectors * 256
+
+-- The caller states: blocks 1 to 192, units per block 1 to 8.
+abbrev pub mostBlocks : ℕ
+mostBlocks = 192
+
+abbrev pub mostUnits : ℕ
+mostUnits = 8
+
+-- position 0 to 1,966,080: the bytes of the largest disk
+abbrev pub highest : ℕ
+highest = mostBlocks * mostUnits * granuleBytes
+
+-- sector 0 to 7,679: a sector number is below this
+abbrev pub sectorNumbers : ℕ
+sectorNumbers = mostBlocks * mostUnits * granuleSectors
+
+-- Granule number = block × units + unit: so many granules are on a disk.
+unfoldable pub granules : Geometry → ℕ
+granules g = g .blocks * g .units
+
+abbrev pub sectors : Geometry → ℕ
+sectors g = granules g * granuleSectors
+
+-- Directory start: a sector number, multiple of 5. The image length must be blocks × units × 1,280 bytes exactly, and at least 10
+-- sectors must lie from the directory start to the end. Refusal 1 is given exactly where this is false.
+unfoldable pub fitsGeometry : Geometry → List ℕ → Bool
+fitsGeometry g d =
+    all (leb 1 (g .blocks) ∷ leb (g .blocks) mostBlocks ∷ leb 1 (g .units) ∷ leb (g .units) mostUnits
+    ∷ eqb (g .start % granuleSectors) 0
+    ∷ eqb (length d) (granules g * granuleBytes)
+    ∷ leb (g .start + 10) (sectors g) ∷ [])
+
+-- the sectors of a granule
+abbrev pub granuleSectorsOf : ℕ → List ℕ
+granuleSectorsOf n = count (n * granuleSectors) granuleSectors
+
+-- n things of k each to hold a size: ⌈size / k⌉
+abbrev pub roundUp : ℕ → ℕ → ℕ
+roundUp size k = (size + (k - 1)) / k
+
+-- the granules that a size needs: ⌈size/1280⌉
+abbrev pub granulesFor : ℕ → ℕ
+granulesFor size = roundUp size granuleBytes
+
+-- byte i of an image; 0 past its end, where no call looks
+abbrev pub byte : List ℕ → ℕ → ℕ
+byte d i = getD d i 0
+
+-- GAT ---------------------------------------------------------------------------------------------------------------------
+
+-- Sector 0, GAT: byte b, bit u stands for unit u of block b.
+abbrev pub gatAt : Geometry → ℕ → ℕ
+gatAt g n = 256 * g .start + n / g .units
+
+-- A set bit means taken.
+unfoldable pub taken : Geometry → List ℕ → ℕ → Bool
+taken g d n = bit (n % g .units) (byte d (gatAt g n))
+
+unfoldable pub takeGranule : Geometry → List ℕ → ℕ → List ℕ
+takeGranule g d n = set d (gatAt g n) (withBit (n % g .units) (byte d (gatAt g n)))
+
+unfoldable pub freeGranule : Geometry → List ℕ → ℕ → List ℕ
+freeGranule g d n = set d (gatAt g n) (withoutBit (n % g .units) (byte d (gatAt g n)))
+
+-- HIT ---------------------------------------------------------------------------------------------------------------------
+
+-- Sector 1, HIT: slot number = 32 × row + s, row 0 to 7.
+abbrev pub row : ℕ → ℕ
+row slot = slot / 32
+
+abbrev pub column : ℕ → ℕ
+column slot = slot % 32
+
+abbrev pub hitAt : Geometry → ℕ → ℕ
+hitAt g slot = 256 * (g .start + 1) + slot
+
+unfoldable pub hit : Geometry → List ℕ → ℕ → ℕ
+hit g d slot = byte d (hitAt g slot)
+
+-- Byte 1FH is the number of directory sectors above 10.
+abbrev pub aboveTen : Geometry → List ℕ → ℕ
+aboveTen g d = byte d (hitAt g 0x1f)
+
+unfoldable pub directorySectors : Geometry → List ℕ → ℕ
+directorySectors g d = 10 + aboveTen g d
+
+-- With d directory sectors, s runs from 0 to d − 3.
+unfoldable pub isSlot : Geometry → List ℕ → ℕ → Bool
+isSlot g d slot = all (ltb slot 256 ∷ ltb (column slot + 2) (directorySectors g d) ∷ [])
+
+-- the slots of the directory, rising
+unfoldable pub slots : Geometry → List ℕ → List ℕ
+slots g d = keep (isSlot g d) (count 0 256)
+
+-- Entries -----------------------------------------------------------------------------------------------------------------
+
+-- The entry of a slot is in directory sector s + 2 at byte 32 × row.
+abbrev pub entryAt : Geometry → ℕ → ℕ
+entryAt g slot = 256 * (g .start + 2 + column slot) + 32 * row slot
+
+-- byte k of an entry
+unfoldable pub field : Geometry → List ℕ → ℕ → ℕ → ℕ
+field g d slot k = byte d (entryAt g slot + k)
+
+unfoldable pub setField : Geometry → List ℕ → ℕ → ℕ → ℕ → List ℕ
+setField g d slot k v = set d (entryAt g slot + k) v
+
+-- the granules that the directory lies in
+abbrev pub directoryGranules : Geometry → List ℕ → List ℕ
+directoryGranules g d = count (g .start / granuleSectors) (directorySectors g d / granuleSectors)

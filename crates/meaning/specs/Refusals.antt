@@ -1,0 +1,99 @@
+-- Refusal numbers, in order of test (01). Each call has one list of them, in the table's order; its number is the first that holds.
+use Prim.Native.Nat.{ℕ, _+_, _-_}
+use mathlib.Core.Bool.{Bool, not, cond}
+use mathlib.Core.List.{List, [], _∷_}
+use lib.Dec.{leb, ltb, eqb}
+use lib.ListN.{length, replicate}
+use Rattle.meaning.specs.Lists.{all, any, same}
+use Rattle.meaning.specs.Layout
+use Rattle.meaning.specs.Names
+use Rattle.meaning.specs.Entries
+use Rattle.meaning.specs.Chain
+use Rattle.meaning.specs.Consistent
+use Rattle.meaning.specs.Free
+use Rattle.meaning.specs.Growth
+use Rattle.meaning.specs.declared.Geometry.{Geometry}
+use Rattle.meaning.specs.declared.Handle.{Handle}
+use Rattle.meaning.specs.declared.NewFile.{NewFile}
+
+-- Where several apply, the first in the table is returned and no other; 0 where none does: the call is accepted.
+unfoldable pub first : List (ℕ × Bool) → ℕ
+first [] = 0
+first (c ∷ cs) = cond (c .1) (c .0) (first cs)
+
+abbrev pub accepted : ℕ → Bool
+accepted n = eqb n 0
+
+-- 12: position, length, level, date or sector out of range ------------------------------------------------------------------
+
+-- record length (1 to 256)
+unfoldable pub goodLength : ℕ → Bool
+goodLength len = all (leb 1 len ∷ leb len 256 ∷ [])
+
+-- position (0 to 1,966,080), record length (1 to 256) and level (0 to 7): tested by each call that is given a handle
+unfoldable pub inRange : Handle → Bool
+inRange h = all (leb (h .at) Layout.highest ∷ leb 1 (h .len) ∷ leb (h .len) 256 ∷ leb (h .level) 7 ∷ [])
+
+-- day 0 to 31, month and year offset 0 to 15
+unfoldable pub newInRange : NewFile → Bool
+newInRange f = all (leb (f .day) 31 ∷ leb (f .month) 15 ∷ leb (f .year) 15 ∷ leb 1 (f .len) ∷ leb (f .len) 256 ∷ [])
+
+-- a refused open or create hands back a handle of zeros
+abbrev pub noHandle : Handle
+noHandle = record { slot = 0; name = replicate 11 0; at = 0; len = 0; level = 0 }
+
+-- the handle at another position
+abbrev pub movedTo : Handle → ℕ → Handle
+movedTo h at = record { slot = h .slot; name = h .name; at = at; len = h .len; level = h .level }
+
+module _ (g : Geometry) (d : List ℕ) where
+  -- 1: geometry or image length not as above
+  abbrev pub badGeometry : ℕ × Bool
+  badGeometry = (1, not (Layout.fitsGeometry g d))
+
+  -- 2: disk not consistent
+  abbrev pub notConsistent : ℕ × Bool
+  notConsistent = (2, not (Consistent.consistent g d))
+
+  -- Check as a call answers 0, 1 or 2.
+  unfoldable pub check : ℕ
+  check = first (badGeometry ∷ notConsistent ∷ [])
+
+  -- 3: name not well formed (calls by name)
+  abbrev pub badName : List ℕ → ℕ × Bool
+  badName n = (3, not (Names.nameComesIn n))
+
+  -- A handle is stale unless its slot is one the directory has, in use, primary and carries its name.
+  unfoldable pub fresh : Handle → Bool
+  fresh h = all (Layout.isSlot g d (h .slot) ∷ Entries.primary g d (h .slot) ∷ same (Entries.nameOf g d (h .slot)) (h .name) ∷ [])
+
+  -- 7: handle stale
+  abbrev pub staleHandle : Handle → ℕ × Bool
+  staleHandle h = (7, not (fresh h))
+
+  -- what every call with a handle tests first; `ranged` is the call's own test 12, `rest` what it tests after
+  abbrev pub handleRefusals : Handle → Bool → List (ℕ × Bool) → List (ℕ × Bool)
+  handleRefusals h ranged rest = badGeometry ∷ notConsistent ∷ (12, not ranged) ∷ staleHandle h ∷ rest
+
+  -- 6: level over 5 for reading
+  abbrev pub notForReading : Handle → ℕ × Bool
+  notForReading h = (6, ltb 5 (h .level))
+
+  -- 6: level over 4 for write, allot, trim, over 1 for kill; or write, allot, trim or kill of a system file
+  abbrev pub protected : ℕ → Handle → ℕ × Bool
+  protected most h = (6, any (ltb most (h .level) ∷ Entries.system g d (h .slot) ∷ []))
+
+  -- how many granules the file at slot s lacks of those wanted: none if it owns as many
+  abbrev pub lacking : ℕ → ℕ → ℕ
+  lacking s wanted = wanted - length (Chain.owned g d s)
+
+  -- 11: E set and more granules needed than owned. 9: more further granules needed than are free. 8: fewer permitted slots free than the
+  -- rule needs: the growth finds no slot. Here k further granules are needed.
+  abbrev pub cannotGrow : ℕ → ℕ → List (ℕ × Bool)
+  cannotGrow s k =
+      (11, all (Entries.noGrowth g d s ∷ ltb 0 k ∷ [])) ∷ (9, ltb (length (Free.freeGranules g d)) k)
+      ∷ (8, Growth.fails (Growth.grow g s k d)) ∷ []
+
+  -- Growth is whole or refused: the disk with k granules more for the file at slot s.
+  abbrev pub larger : ℕ → ℕ → List ℕ
+  larger s k = Growth.diskOr d (Growth.grow g s k d)

@@ -1,0 +1,80 @@
+// The shapes that document 01 speaks of. What they mean is in specs/.
+
+// What the caller states of a disk: blocks, units per block, the sector where the directory starts, and the code that stands
+// for "no password".
+pub struct Geometry {
+    pub blocks: usize,
+    pub units: usize,
+    pub start: usize,
+    pub anyone: u16,
+}
+
+// What a caller holds of an open file: slot, name, position, record length and level.
+pub struct Handle {
+    pub slot: usize,
+    pub name: [u8; 11],
+    pub at: usize,
+    pub len: usize,
+    pub level: usize,
+}
+
+// What a caller gives for a new file: the date (the year as its offset from 1980), the record length and the two codes.
+pub struct NewFile {
+    pub day: usize,
+    pub month: usize,
+    pub year: usize,
+    pub len: usize,
+    pub main: u16,
+    pub worker: u16,
+}
+
+// The two kinds of write.
+pub enum Mode {
+    Sequential,
+    Random,
+}
+
+// In every answer `number` is the refusal number of 01's table, 0 where the call was accepted.
+
+// What look up answers: the slot, and how many entries were compared.
+pub struct LookedUp {
+    pub number: u8,
+    pub slot: usize,
+    pub compared: usize,
+}
+
+// What every call with a handle answers, and open: the handle as the call leaves it.
+pub struct Answer {
+    pub number: u8,
+    pub handle: Handle,
+}
+
+// What create answers. `old`: a file of that name was there.
+pub struct Created {
+    pub number: u8,
+    pub old: bool,
+    pub handle: Handle,
+}
+
+// What read sector answers: a part of the image, from a place up to another, which it does not hold.
+pub struct Part {
+    pub number: u8,
+    pub from: usize,
+    pub to: usize,
+}
+
+// What the listing answers: one file, or, where `more` is false, "no more".
+pub struct Listed {
+    pub number: u8,
+    pub more: bool,
+    pub name: [u8; 11],
+    pub size: usize,
+    pub granules: usize,
+}
+
+// What the counts answer: FILES and FREE.
+pub struct Counts {
+    pub number: u8,
+    pub files: usize,
+    pub free: usize,
+}

@@ -1,0 +1,229 @@
+-- What the tests of one entry and of one file say, opened
+use mathlib.Core.Path.{_≡_, refl, ap, sym, _∙_, subst}
+use mathlib.Core.Logic.{_≢_, _⊎_, inl, inr}
+use mathlib.Core.Bool.{Bool, true, false, not, cond, _&&_, _||_}
+use mathlib.Core.List.{List, [], _∷_, _++_}
+use Prim.Native.Nat.{ℕ, zero, suc, _+_, _*_, _≤_, _<_}
+use native.Mathlib.Omega.{arith}
+use native.Mathlib.Decide.{ℕ-discrete}
+use lib.ListN.{length}
+use lib.Dec.{T, eqb, leb, eqb→eq, eqb-refl, T-not, not-T, ltb, ltb→lt, lt→ltb, leb→le, le→leb, nltb→le}
+use Rattle.meaning.specs.Lists.{count, every, some, keep, each, has, all, any}
+use Rattle.meaning.specs.Layout.{isSlot, taken, field, granules, hit, directoryGranules, granuleBytes}
+use Rattle.meaning.specs.Bits.{bit}
+use Rattle.meaning.specs.Names.{hash, wellFormed}
+use Rattle.meaning.specs.Entries.{inUse, system, block, marker, link, runs, runsFrom, firstUnit, runStart, runLength, entryGranules, nameOf, sizeOf, sectorCount, endByte}
+use Rattle.meaning.specs.Chain.{chain, chainFrom, owned}
+use Rattle.meaning.specs.Consistent.{pairsHold, follows, linkHolds, runsHold, gatHolds, entryHolds, nameHolds, hashHolds, sizeHolds, offDirectory, fileHolds}
+use Rattle.meaning.specs.declared.Geometry.{Geometry}
+use Rattle.promises.specs.Members
+use Rattle.promises.specs.Words.{words}
+
+pub record Follows (g : Geometry) (d : List ℕ) (s x : ℕ) : Type 0 where
+  pub slot : T (isSlot g d x)
+  pub flags : field g d x 0 ≡ 0x90
+  pub before : field g d x 1 ≡ s
+  pub some′ : 1 ≤ runs g d x
+
+pub record Linked (g : Geometry) (d : List ℕ) (s : ℕ) : Type 0 where
+  pub marked : marker g d s ≡ 0xfe
+  pub next : Follows g d s (link g d s)
+  pub full : runs g d s ≡ 4
+
+pub record Run (g : Geometry) (d : List ℕ) (s k : ℕ) : Type 0 where
+  pub unit : firstUnit g d s k < g .units
+  pub inside : runStart g d s k + runLength g d s k ≤ granules g
+
+pub record Entry (g : Geometry) (d : List ℕ) (s : ℕ) : Type 0 where
+  pub pairs : (k : ℕ) → k < 4 → runs g d s ≤ k → block g d s k ≡ 0xff
+  pub linked : (marker g d s ≡ 0xff) ⊎ Linked g d s
+  pub run : (k : ℕ) → k < runs g d s → Run g d s k
+  pub gat : (n : ℕ) → Members.In n (entryGranules g d s) → T (taken g d n)
+
+pub record Filed (g : Geometry) (d : List ℕ) (p : ℕ) : Type 0 where
+  pub name : T (wellFormed (nameOf g d p))
+  pub zero′ : T (not (bit 5 (field g d p 0)))
+  pub hashes : (s : ℕ) → Members.In s (chain g d p) → hit g d s ≡ hash (nameOf g d p)
+  pub count′ : sectorCount g d p ≡ 0 → endByte g d p ≡ 0
+  pub fits : sizeOf g d p ≤ granuleBytes * length (owned g d p)
+  pub off : T (not (system g d p)) → (n : ℕ) → Members.In n (owned g d p) → Members.In n (directoryGranules g d) → ⊥
+
+ruleset parts = (Members.and-l, Members.and-r)
+
+module _ (g : Geometry) (d : List ℕ) where
+  pub runsFrom-le : (s k n : ℕ) → runsFrom g d s n k ≤ k + n
+  unfolding runsFrom
+  runsFrom-le s k zero = omega arith
+  runsFrom-le s k (suc n) = go (eqb (block g d s k) 0xff) (runsFrom-le s (k + 1) n)
+    where
+      go : (b : Bool) → runsFrom g d s n (k + 1) ≤ k + 1 + n → cond b k (runsFrom g d s n (k + 1)) ≤ k + suc n
+      go true h = omega arith
+      go false h = omega arith
+
+  pub runs-le : (s : ℕ) → runs g d s ≤ 4
+  unfolding runs
+  runs-le s = runsFrom-le s 0 4
+
+  runsFrom-is : (s k left r : ℕ) → k ≤ r → r ≤ k + left → ((j : ℕ) → k ≤ j → j < r → block g d s j ≢ 0xff) → (r < k + left → block g d s r ≡ 0xff) → runsFrom g d s left k ≡ r
+  unfolding runsFrom
+  runsFrom-is s k zero r a b f e = omega arith
+  runsFrom-is s k (suc left) r a b f e = go (ℕ-discrete k r) (λ l. runsFrom-is s (k + 1) left r l (omega arith) (λ j m. f j (omega arith)) (λ m. e (omega arith)))
+    where
+      go : Dec (k ≡ r) → (k + 1 ≤ r → runsFrom g d s left (k + 1) ≡ r) → cond (eqb (block g d s k) 0xff) k (runsFrom g d s left (k + 1)) ≡ r
+      go (yes q) ih = rw (q, e (omega arith))
+      go (no q) ih = rw (Members.no-false {b = eqb (block g d s k) 0xff} (λ t. f k (omega arith) (omega arith) (eqb→eq _ _ t))) (ih (omega arith))
+
+  -- as many runs as there are blocks before the first FFH
+  pub runs-is : (s r : ℕ) → r ≤ 4 → ((j : ℕ) → j < r → block g d s j ≢ 0xff) → (r < 4 → block g d s r ≡ 0xff) → runs g d s ≡ r
+  unfolding runs
+  runs-is s r b f e = runsFrom-is s 0 4 r (omega arith) (omega arith) (λ j m. f j) (λ l. e (omega arith))
+
+  runsFrom-has : (s k left j : ℕ) → k ≤ j → j < runsFrom g d s left k → block g d s j ≢ 0xff
+  unfolding runsFrom
+  runsFrom-has s k zero j a b = absurd (omega arith)
+  runsFrom-has s k (suc left) j a b = go (Members.decide (eqb (block g d s k) 0xff)) (ℕ-discrete k j) (runsFrom-has s (k + 1) left j)
+    where
+      go : Members.Test (eqb (block g d s k) 0xff) → Dec (k ≡ j) → (k + 1 ≤ j → j < runsFrom g d s left (k + 1) → block g d s j ≢ 0xff) → block g d s j ≢ 0xff
+      go (Members.Test.holds t) q ih = absurd (omega (arith, rw (Members.T-true {b = eqb (block g d s k) 0xff} t) at b))
+      go (Members.Test.fails t) (yes q) ih = rw (← q) (λ m. t (Members.eq-T m))
+      go (Members.Test.fails t) (no q) ih = ih (omega arith) (rw (Members.no-false {b = eqb (block g d s k) 0xff} t) at b)
+
+  pub runs-has : (s j : ℕ) → j < runs g d s → block g d s j ≢ 0xff
+  unfolding runs
+  runs-has s j b = runsFrom-has s 0 4 j (omega arith) b
+
+  pub follows-says : (s x : ℕ) → T (follows g d s x) → Follows g d s x
+  unfolding words
+  follows-says s x t =
+      let a : T (isSlot g d x) = search parts depth 5 in
+      let b : T (eqb (field g d x 0) 0x90) = search parts depth 5 in
+      let c : T (eqb (field g d x 1) s) = search parts depth 5 in
+      let e : T (leb 1 (runs g d x)) = search parts depth 5 in
+      record { slot = a; flags = eqb→eq _ _ b; before = eqb→eq _ _ c; some′ = leb→le _ _ e }
+
+  pub says-follows : (s x : ℕ) → Follows g d s x → T (follows g d s x)
+  unfolding words
+  says-follows s x f =
+      let a : T (isSlot g d x) = f .slot in
+      let b : T (eqb (field g d x 0) 0x90) = Members.eq-T (f .flags) in
+      let c : T (eqb (field g d x 1) s) = Members.eq-T (f .before) in
+      let e : T (leb 1 (runs g d x)) = le→leb _ _ (f .some′) in
+      search Members.and-i depth 5
+
+  pub entry : (s : ℕ) → T (entryHolds g d s) → Entry g d s
+  unfolding words
+  entry s t =
+      let ps : T (pairsHold g d s) = search parts depth 5 in
+      let ls : T (linkHolds g d s) = search parts depth 5 in
+      let rs : T (runsHold g d s) = search parts depth 5 in
+      let gs : T (gatHolds g d s) = search parts depth 5 in
+      record {
+        pairs = λ k h l. pair k l (Members.or-e (ltb k (runs g d s)) _ (Members.every-all (λ k. ltb k (runs g d s) || eqb (block g d s k) 0xff) ps (Members.in-count k 0 4 (omega arith) (omega arith))));
+        linked = links (Members.any-e (eqb (marker g d s) 0xff) (all (eqb (marker g d s) 0xfe ∷ follows g d s (link g d s) ∷ eqb (runs g d s) 4 ∷ [])) ls);
+        run = λ k h. let r = Members.every-all (λ k. all (ltb (firstUnit g d s k) (g .units) ∷ leb (runStart g d s k + runLength g d s k) (granules g) ∷ [])) rs (Members.in-count k 0 (runs g d s) (omega arith) (omega arith)) in
+            record { unit = ltb→lt _ _ (Members.and-l (ltb (firstUnit g d s k) (g .units)) _ r); inside = leb→le _ _ (Members.all-second (ltb (firstUnit g d s k) (g .units)) (leb (runStart g d s k + runLength g d s k) (granules g)) r) };
+        gat = λ n i. Members.every-all (taken g d) gs i;
+      }
+    where
+      pair : (k : ℕ) → runs g d s ≤ k → T (ltb k (runs g d s)) ⊎ T (eqb (block g d s k) 0xff) → block g d s k ≡ 0xff
+      pair k l (inl t) = absurd (omega (arith, ltb→lt k (runs g d s) t))
+      pair k l (inr t) = eqb→eq _ _ t
+
+      links : T (eqb (marker g d s) 0xff) ⊎ T (all (eqb (marker g d s) 0xfe ∷ follows g d s (link g d s) ∷ eqb (runs g d s) 4 ∷ [])) → (marker g d s ≡ 0xff) ⊎ Linked g d s
+      links (inl t) = inl (eqb→eq _ _ t)
+      links (inr t) =
+          let m : T (eqb (marker g d s) 0xfe) = search parts depth 5 in
+          let f : T (follows g d s (link g d s)) = search parts depth 5 in
+          let r : T (eqb (runs g d s) 4) = search parts depth 5 in
+          inr (record { marked = eqb→eq _ _ m; next = follows-says s (link g d s) f; full = eqb→eq _ _ r })
+
+  pub says-entry : (s : ℕ) → Entry g d s → T (entryHolds g d s)
+  unfolding words
+  says-entry s e =
+      let ps : T (pairsHold g d s) = Members.all-every (λ k. ltb k (runs g d s) || eqb (block g d s k) 0xff) (count 0 4) (λ k i. pair k (Members.count-in k 0 4 i .1) (Members.decide (ltb k (runs g d s)))) in
+      let ls : T (linkHolds g d s) = links (e .linked) in
+      let rs : T (runsHold g d s) = Members.all-every (λ k. all (ltb (firstUnit g d s k) (g .units) ∷ leb (runStart g d s k + runLength g d s k) (granules g) ∷ [])) (count 0 (runs g d s)) (λ k i.
+      let r = e .run k (omega (arith, Members.count-in k 0 (runs g d s) i)) in
+      Members.all-two (ltb (firstUnit g d s k) (g .units)) (leb (runStart g d s k + runLength g d s k) (granules g)) (lt→ltb _ _ (r .unit)) (le→leb _ _ (r .inside))) in
+      let gs : T (gatHolds g d s) = Members.all-every (taken g d) (entryGranules g d s) (e .gat) in
+      search Members.and-i depth 5
+    where
+      pair : (k : ℕ) → k < 0 + 4 → Members.Test (ltb k (runs g d s)) → T (ltb k (runs g d s) || eqb (block g d s k) 0xff)
+      pair k h (Members.Test.holds t) = Members.or-l (ltb k (runs g d s)) _ t
+      pair k h (Members.Test.fails f) = Members.or-r (ltb k (runs g d s)) _ (Members.eq-T (e .pairs k (omega arith) (nltb→le k (runs g d s) (not-T (ltb k (runs g d s)) f))))
+
+      links : (marker g d s ≡ 0xff) ⊎ Linked g d s → T (linkHolds g d s)
+      links (inl m) = Members.any-l (eqb (marker g d s) 0xff) (all (eqb (marker g d s) 0xfe ∷ follows g d s (link g d s) ∷ eqb (runs g d s) 4 ∷ [])) (Members.eq-T m)
+      links (inr l) =
+          let m : T (eqb (marker g d s) 0xfe) = Members.eq-T (l .marked) in
+          let f : T (follows g d s (link g d s)) = says-follows s (link g d s) (l .next) in
+          let r : T (eqb (runs g d s) 4) = Members.eq-T (l .full) in
+          let a : T (all (eqb (marker g d s) 0xfe ∷ follows g d s (link g d s) ∷ eqb (runs g d s) 4 ∷ [])) = search Members.and-i depth 5 in
+          Members.any-r (eqb (marker g d s) 0xff) (all (eqb (marker g d s) 0xfe ∷ follows g d s (link g d s) ∷ eqb (runs g d s) 4 ∷ [])) a
+
+  pub filed : (p : ℕ) → T (fileHolds g d p) → Filed g d p
+  unfolding words
+  filed p t =
+      let a : T (wellFormed (nameOf g d p)) = search parts depth 8 in
+      let b : T (not (bit 5 (field g d p 0))) = search parts depth 8 in
+      let c : T (hashHolds g d p) = search parts depth 8 in
+      let e : T (not (eqb (sectorCount g d p) 0) || eqb (endByte g d p) 0) = search parts depth 8 in
+      let f : T (leb (sizeOf g d p) (granuleBytes * length (owned g d p))) = search parts depth 8 in
+      let o : T (offDirectory g d p) = search parts depth 8 in
+      record {
+        name = a;
+        zero′ = b;
+        hashes = λ s i. eqb→eq _ _ (Members.every-all (λ s. eqb (hit g d s) (hash (nameOf g d p))) c i);
+        count′ = λ q. eqb→eq _ _ (Members.if-or (eqb (sectorCount g d p) 0) _ e (Members.eq-T q));
+        fits = leb→le _ _ f;
+        off = λ u n i j. away u (Members.any-e (system g d p) (every (λ n. not (has (directoryGranules g d) n)) (owned g d p)) o) n i j;
+      }
+    where
+      away : T (not (system g d p)) → T (system g d p) ⊎ T (every (λ n. not (has (directoryGranules g d) n)) (owned g d p))
+          → (n : ℕ) → Members.In n (owned g d p) → Members.In n (directoryGranules g d) → ⊥
+      away u (inl t) n i j = T-not (system g d p) u t
+      away u (inr t) n i j = T-not (has (directoryGranules g d) n) (Members.every-all (λ n. not (has (directoryGranules g d) n)) t i) (Members.in-has j)
+
+  pub says-filed : (p : ℕ) → Filed g d p → T (fileHolds g d p)
+  unfolding words
+  says-filed p f =
+      let a : T (wellFormed (nameOf g d p)) = f .name in
+      let b : T (not (bit 5 (field g d p 0))) = f .zero′ in
+      let c : T (hashHolds g d p) = Members.all-every (λ s. eqb (hit g d s) (hash (nameOf g d p))) (chain g d p) (λ s i. Members.eq-T (f .hashes s i)) in
+      let e : T (not (eqb (sectorCount g d p) 0) || eqb (endByte g d p) 0) = Members.or-if (eqb (sectorCount g d p) 0) _ (λ t. Members.eq-T (f .count′ (eqb→eq _ _ t))) in
+      let h : T (leb (sizeOf g d p) (granuleBytes * length (owned g d p))) = le→leb _ _ (f .fits) in
+      let o : T (offDirectory g d p) = away (Members.decide (system g d p)) in
+      search Members.and-i depth 8
+    where
+      away : Members.Test (system g d p) → T (offDirectory g d p)
+      away (Members.Test.holds t) = Members.any-l (system g d p) (every (λ n. not (has (directoryGranules g d) n)) (owned g d p)) t
+      away (Members.Test.fails u) = Members.any-r (system g d p) (every (λ n. not (has (directoryGranules g d) n)) (owned g d p)) (Members.all-every (λ n. not (has (directoryGranules g d) n)) (owned g d p) (λ n i. not-T (has (directoryGranules g d) n) (λ t. f .off (not-T (system g d p) u) n i (Members.has-in n (directoryGranules g d) t))))
+
+  -- Chains: each entry but the first is linked to by one before it
+  pub data Pred (p y : ℕ) (xs : List ℕ) : Type 0 where
+    first : y ≡ p → Pred p y xs
+    after : (x : ℕ) → Members.In x (Members.front xs) → marker g d x ≡ 0xfe → link g d x ≡ y → Pred p y xs
+
+  pub chainFrom-pred : (n p y : ℕ) → Members.In y (chainFrom g d n p) → Pred p y (chainFrom g d n p)
+  unfolding chainFrom Members.front
+  chainFrom-pred zero p y i = Members.none-in i
+  chainFrom-pred (suc n) p y i = go (Members.in-cons i) (chainFrom-pred n (link g d p) y)
+    where
+      rest : List ℕ
+      rest = chainFrom g d n (link g d p)
+
+      deeper : T (eqb (marker g d p) 0xfe) → Members.In y rest → Pred (link g d p) y rest → Pred p y (p ∷ cond (eqb (marker g d p) 0xfe) rest [])
+      deeper t i (first e) = after p (rw (Members.T-true {b = eqb (marker g d p) 0xfe} t) (Members.front-here p i)) (eqb→eq _ _ t) (sym e)
+      deeper t i (after x j m l) = after x (rw (Members.T-true {b = eqb (marker g d p) 0xfe} t) (Members.front-there p rest j)) m l
+
+      into : (b : Bool) → eqb (marker g d p) 0xfe ≡ b → Members.In y (cond b rest []) → (Members.In y rest → Pred (link g d p) y rest) → Pred p y (p ∷ cond (eqb (marker g d p) 0xfe) rest [])
+      into true e i r = deeper (Members.true-T e) i (r i)
+      into false e i r = Members.none-in i
+
+      go : (y ≡ p) ⊎ Members.In y (cond (eqb (marker g d p) 0xfe) rest []) → (Members.In y rest → Pred (link g d p) y rest) → Pred p y (p ∷ cond (eqb (marker g d p) 0xfe) rest [])
+      go (inl e) r = first e
+      go (inr i) r = into (eqb (marker g d p) 0xfe) refl i r
+
+  pub chain-pred : (p y : ℕ) → Members.In y (chain g d p) → Pred p y (chain g d p)
+  unfolding chain
+  chain-pred p y i = chainFrom-pred _ p y i

@@ -1,0 +1,201 @@
+-- k granules more, and the call that asks for them
+use mathlib.Core.Path.{_≡_, refl, ap, ap₂, sym, _∙_, subst}
+use mathlib.Core.Logic.{_≢_, _⊎_, inl, inr}
+use mathlib.Core.Bool.{Bool, true, false, not, cond, _&&_, _||_}
+use mathlib.Core.List.{List, [], _∷_, _++_, append-assoc}
+use Prim.Native.Nat.{ℕ, zero, suc, _+_, _-_, _*_, _/_, _%_, _≤_, _<_}
+use native.Mathlib.Omega.{arith}
+use native.Mathlib.Decide.{ℕ-discrete, decLt}
+use lib.ListN.{length, getD, set, length-set, length-append}
+use lib.Seq.{length-sets}
+use lib.Dec.{T, eqb, leb, ltb, T-not, not-T, eqb→eq, ltb→lt, nltb→le}
+use Rattle.meaning.specs.Lists.{count, every, keep}
+use Rattle.meaning.specs.Layout.{isSlot, taken, granules, hit}
+use Rattle.meaning.specs.Entries.{system, runs, nameOf}
+use Rattle.meaning.specs.Chain.{chain, owned}
+use Rattle.meaning.specs.Consistent.{consistent}
+use Rattle.meaning.specs.Growth.{tail, after, lengthens, lengthened, withPair, withExtension, takeOne, Grown, grown, noSlot, extended, grow, andThen}
+use Rattle.meaning.specs.Free.{freeGranules, freeSlots}
+use Rattle.meaning.specs.Lists.{firstOr}
+use Rattle.meaning.specs.Plain.{fileAt, plain, hush, reserved}
+use Rattle.meaning.specs.declared.Geometry.{Geometry}
+use Rattle.promises.specs.Members
+use Rattle.promises.specs.Members.{In}
+use Rattle.promises.specs.Facts
+use Rattle.promises.specs.Facts.{Sound, File}
+use Rattle.promises.specs.Entry
+use Rattle.promises.specs.Places
+use Rattle.promises.specs.Change
+use Rattle.promises.specs.Others
+use Rattle.promises.specs.Create
+use Rattle.promises.specs.Longer
+use Rattle.promises.specs.Tail
+use Rattle.promises.specs.Take
+use Rattle.promises.specs.Extend
+use Rattle.promises.specs.TakeNew
+use Rattle.promises.specs.TakeOne
+use Rattle.promises.specs.TakeOne.{Took}
+use Rattle.promises.specs.Named
+use Rattle.promises.specs.KillMeans
+use Rattle.meaning.specs.Layout.{byte, field, directoryGranules, granuleBytes, granuleSectors, aboveTen}
+use Rattle.meaning.specs.Growth.{fails, diskOr}
+use Rattle.meaning.specs.Allot.{allot}
+use Rattle.meaning.specs.Refusals.{first, cannotGrow, larger, lacking}
+use Rattle.meaning.specs.Plain.{Found, found, nothing, allottedTo}
+use Rattle.meaning.specs.declared.Handle.{Handle}
+use mathlib.Core.List.{append-nil}
+use native.Mathlib.Nat.{add-zero, add-suc, suc-add}
+use Prim.Native.Nat.{max}
+use Rattle.promises.specs.Words.{words}
+
+-- the file at p has k granules more, and all else is as it was
+pub record Grew (g : Geometry) (d d′ : List ℕ) (p k : ℕ) : Type 0 where
+  pub sound : Sound g d′
+  pub fits : Places.Fits g d′
+  pub file : File g d′ p
+  pub user : T (not (system g d′ p))
+  pub long : length d′ ≡ length d
+  pub above : aboveTen g d′ ≡ aboveTen g d
+  pub low : (j : ℕ) → j < 0x16 → field g d′ p j ≡ field g d p j
+  pub name : nameOf g d′ p ≡ nameOf g d p
+  pub reserved′ : reserved g d′ ≡ reserved g d
+  pub new : List ℕ
+  pub owned′ : owned g d′ p ≡ owned g d p ++ new
+  pub many : length new ≡ k
+  pub free : length (freeGranules g d) ≡ length (freeGranules g d′) + k
+  pub attributes : fileAt g d′ p .attributes ≡ fileAt g d p .attributes
+  pub bytes : fileAt g d′ p .bytes ≡ fileAt g d p .bytes
+  pub others : (n : List ℕ) → n ≢ nameOf g d p → hush (plain g d′ n) ≡ hush (plain g d n)
+  pub same : (i : ℕ) → (In (i / granuleBytes) (directoryGranules g d) → ⊥) → byte d′ i ≡ byte d i
+
+module _ (g : Geometry) where
+  grew-none : (d : List ℕ) (p : ℕ) → Sound g d → Places.Fits g d → File g d p → T (not (system g d p)) → Grew g d d p 0
+  grew-none d p c k f u = record {
+    sound = c;
+    fits = k;
+    file = f;
+    user = u;
+    long = refl;
+    above = refl;
+    low = λ j b. refl;
+    name = refl;
+    reserved′ = refl;
+    new = [];
+    owned′ = sym (append-nil (owned g d p));
+    many = refl;
+    free = omega arith;
+    attributes = refl;
+    bytes = refl;
+    others = λ n q. refl;
+    same = λ i o. refl;
+  }
+
+  grew-one : (d d₁ : List ℕ) (p : ℕ) → Sound g d → Places.Fits g d → File g d p → T (not (system g d p)) → Took g d d₁ p → Grew g d d₁ p 1
+  unfolding nameOf
+  grew-one d d₁ p c k f u w =
+      let m = w .which in let h = w .change in let l = w .longer in
+      let s : Others.Same g d d₁ p = λ i a b e. l .same i a in
+      let n : nameOf g d₁ p ≡ nameOf g d p = Members.map-eq (field g d₁ p) (field g d p) (count 5 11) (λ j i. l .low j (omega (arith, Members.count-in j 5 11 i))) in
+      let file′ = Longer.grown-file g d d₁ c p f m l u in
+      record {
+        sound = Change.changed g d d₁ c p h;
+        fits = record { blocks-lo = k .blocks-lo; blocks-hi = k .blocks-hi; units-lo = k .units-lo; units-hi = k .units-hi; start-at = k .start-at; size = w .long ∙ k .size };
+        file = w .file;
+        user = rw (l .low 0 (omega arith)) u;
+        long = w .long;
+        above = h .above;
+        low = l .low;
+        name = n;
+        reserved′ = Others.reserved-stays g d d₁ c p h;
+        new = m ∷ [];
+        owned′ = l .more;
+        many = refl;
+        free = omega (arith, Longer.grown-free g d d₁ c p f m l);
+        attributes = ap (λ (x : Rattle.meaning.specs.Plain.File). x .attributes) file′;
+        bytes = ap (λ (x : Rattle.meaning.specs.Plain.File). x .bytes) file′;
+        others = λ b q. Others.others-plain g d d₁ c p h s b (λ z a. q (sym a)) (λ z a. q (sym a ∙ n));
+        same = l .same;
+      }
+
+  grew-trans : (a b e : List ℕ) (p j k : ℕ) → Grew g a b p j → Grew g b e p k → Grew g a e p (j + k)
+  unfolding words
+  grew-trans a b e p j k x y = record {
+    sound = y .sound;
+    fits = y .fits;
+    file = y .file;
+    user = y .user;
+    long = y .long ∙ x .long;
+    above = y .above ∙ x .above;
+    low = λ i h. y .low i h ∙ x .low i h;
+    name = y .name ∙ x .name;
+    reserved′ = y .reserved′ ∙ x .reserved′;
+    new = x .new ++ y .new;
+    owned′ = y .owned′ ∙ ap (λ (l : List ℕ). l ++ y .new) (x .owned′) ∙ append-assoc (owned g a p) (x .new) (y .new);
+    many = length-append (x .new) (y .new) ∙ ap₂ (λ (m n : ℕ). m + n) (x .many) (y .many);
+    free = omega (arith, x .free, y .free);
+    attributes = y .attributes ∙ x .attributes;
+    bytes = y .bytes ∙ x .bytes;
+    others = λ n q. y .others n (λ z. q (z ∙ x .name)) ∙ x .others n q;
+    same = λ i o. y .same i (λ z. o (subst (λ (v : ℕ). In (i / granuleBytes) (count (g .start / granuleSectors) ((10 + v) / granuleSectors))) (x .above) z)) ∙ x .same i o;
+  }
+
+  pub grow-grew : (k : ℕ) (d d′ : List ℕ) (p : ℕ) → Sound g d → Places.Fits g d → File g d p → T (not (system g d p)) → k ≤ length (freeGranules g d)
+      → grow g p k d ≡ grown d′ → Grew g d d′ p k
+  unfolding grow andThen
+  grow-grew zero d d′ p c w f u room q = let r : d ≡ d′ = cc in subst (λ (l : List ℕ). Grew g d l p 0) r (grew-none d p c w f u)
+  grow-grew (suc k) d d′ p c w f u room q = go (takeOne g p d) refl q (λ d₁ x. grow-grew k d₁ d′ p (x .sound) (x .fits) (x .file) (x .user) (omega (arith, x .free)))
+    where
+      go : (t : Grown) → takeOne g p d ≡ t → andThen t (grow g p k) ≡ grown d′ → ((d₁ : List ℕ) → Grew g d d₁ p 1 → grow g p k d₁ ≡ grown d′ → Grew g d₁ d′ p k) → Grew g d d′ p (suc k)
+      go (grown d₁) e q ih =
+          let x = grew-one d d₁ p c w f u (TakeOne.take-one g d c w p f u (omega arith) d₁ e) in
+          subst (λ (j : ℕ). Grew g d d′ p j) (omega arith) (grew-trans d d₁ d′ p 1 k x (ih d₁ x q))
+      go noSlot e q ih = absurd (let z : _≡_ {A = ℕ} 0 1 = cc in omega arith)
+
+not-fails : (z : List ℕ) (t : Grown) → (T (fails t) → ⊥) → t ≡ grown (diskOr z t)
+unfolding fails diskOr
+not-fails z (grown d) f = refl
+not-fails z noSlot f = absurd (f tt)
+
+-- what a growth that passed its refusals leaves
+pub larger-grew : (g : Geometry) (d : List ℕ) (h : Handle) (k : ℕ) → KillMeans.Holds g d h → first (cannotGrow g d (h .slot) k) ≡ 0 → Grew g d (larger g d (h .slot) k) (h .slot) k
+larger-grew g d h k w e =
+    let p₁ = KillMeans.passed 11 _ _ (omega arith) e in
+    let p₂ = KillMeans.passed 9 _ _ (omega arith) (p₁ .1) in
+    let p₃ = KillMeans.passed 8 _ _ (omega arith) (p₂ .1) in
+    grow-grew g k d (larger g d (h .slot) k) (h .slot) (w .sound) (w .fits) (w .file) (w .user)
+    (nltb→le (length (freeGranules g d)) k (not-T (ltb (length (freeGranules g d)) k) (p₂ .0))) (not-fails d (grow g (h .slot) k d) (p₃ .0))
+
+pub record AllotMeans (g : Geometry) (d d′ : List ℕ) (p k : ℕ) : Type 0 where
+  pub long : length d′ ≡ length d
+  pub consistent′ : consistent g d′ ≡ true
+  pub reserved′ : reserved g d′ ≡ reserved g d
+  pub own : plain g d′ (nameOf g d p) ≡ found (allottedTo k (fileAt g d p))
+  pub others : (n : List ℕ) → n ≢ nameOf g d p → hush (plain g d′ n) ≡ hush (plain g d n)
+  pub free : length (freeGranules g d) ≡ length (freeGranules g d′) + lacking g d p (k / granuleSectors + 1)
+
+allotted : (g : Geometry) (d d′ : List ℕ) (p k : ℕ) → Grew g d d′ p (lacking g d p (k / granuleSectors + 1)) → fileAt g d′ p ≡ allottedTo k (fileAt g d p)
+unfolding fileAt allottedTo
+allotted g d d′ p k x = λ i. record {
+  attributes = x .attributes i;
+  granules = many i;
+  bytes = x .bytes i;
+}
+  where
+    many : length (owned g d′ p) ≡ max (length (owned g d p)) (k / granuleSectors + 1)
+    many = ap length (x .owned′) ∙ length-append (owned g d p) (x .new) ∙ omega (arith, x .many)
+
+pub allot-means : (g : Geometry) (d : List ℕ) (h : Handle) (k : ℕ) → allot g d h k .0 .number ≡ 0 → AllotMeans g d (allot g d h k .1) (h .slot) k
+unfolding allot
+allot-means g d h k e =
+    let p = h .slot in
+    let w = KillMeans.holds g d h _ 4 (cannotGrow g d p (lacking g d p (k / granuleSectors + 1))) e in
+    let x = larger-grew g d h (lacking g d p (k / granuleSectors + 1)) (w .0) (w .1) in
+    let d′ = larger g d p (lacking g d p (k / granuleSectors + 1)) in
+    rw e (record {
+      long = x .long;
+      consistent′ = Facts.back g d′ (x .sound);
+      reserved′ = x .reserved′;
+      own = Named.plain-is g d′ (x .sound) p (nameOf g d p) (x .file) (x .name) ∙ ap {B = Found} found (allotted g d d′ p k x);
+      others = x .others;
+      free = x .free;
+    })

@@ -1,0 +1,72 @@
+-- The plain list of named files of a sound disk
+use mathlib.Core.Path.{_≡_, refl, ap, ap₂, sym, _∙_, subst}
+use mathlib.Core.Logic.{_≢_, _⊎_, inl, inr}
+use mathlib.Core.Bool.{Bool, true, false, not, cond, _&&_, _||_}
+use mathlib.Core.List.{List, [], _∷_, _++_}
+use Prim.Native.Nat.{ℕ, zero, suc, _+_, _*_, _%_, _≤_, _<_}
+use native.Mathlib.Omega.{arith}
+use lib.ListN.{length, take}
+use lib.Dec.{T, eqb, eqb→eq}
+use Rattle.meaning.specs.Lists.{count, every, some, keep, each, has, same}
+use Rattle.meaning.specs.Layout.{isSlot, slots, hit}
+use Rattle.meaning.specs.Names.{hash}
+use Rattle.meaning.specs.Entries.{primary, nameOf}
+use Rattle.meaning.specs.Chain.{chain}
+use Rattle.meaning.specs.LookUp.{candidates, carries, named, missing}
+use Rattle.meaning.specs.Plain.{Found, found, nothing, fileAt, foundIn, plain}
+use Rattle.meaning.specs.declared.Geometry.{Geometry}
+use Rattle.promises.specs.Members
+use Rattle.promises.specs.Members.{In}
+use Rattle.promises.specs.Facts
+use Rattle.promises.specs.Facts.{File, Sound}
+use Rattle.promises.specs.Entry
+use Rattle.promises.specs.Change
+use Rattle.promises.specs.Words.{words}
+
+only : (p : ℕ) (xs : List ℕ) → In p xs → ((x : ℕ) → In x xs → x ≡ p) → take 1 xs ≡ p ∷ []
+only p [] i f = Members.none-in i
+only p (x ∷ xs) i f = rw (f x Members.In.here)
+
+empty : (xs : List ℕ) → ((x : ℕ) → In x xs → ⊥) → xs ≡ []
+empty [] f = refl
+empty (x ∷ xs) f = absurd (f x Members.In.here)
+
+module _ (g : Geometry) (d : List ℕ) where
+  named-in : (n : List ℕ) (x : ℕ) → In x (keep (carries g d n) (candidates g d n)) → File g d x × (nameOf g d x ≡ n)
+  unfolding words
+  named-in n x i =
+      let a = Members.keep-in (carries g d n) x (candidates g d n) i in
+      let b = Members.keep-in (λ s. eqb (hit g d s) (hash n)) x (slots g d) (a .0) in
+      (record { slot = Facts.slots-in g d x (b .0); primary′ = Members.and-l (primary g d x) _ (a .1) }, Members.same-eq _ _ (Members.all-second (primary g d x) (same (nameOf g d x) n) (a .1)))
+
+  pub none-named : (n : List ℕ) → ((p : ℕ) → File g d p → nameOf g d p ≢ n) → named g d n ≡ []
+  unfolding words
+  none-named n f = rw (empty (keep (carries g d n) (candidates g d n)) (λ x i. let k = named-in n x i in f x (k .0) (k .1)))
+
+  module _ (c : Sound g d) where
+    in-named : (p : ℕ) → File g d p → In p (keep (carries g d (nameOf g d p)) (candidates g d (nameOf g d p)))
+    unfolding words
+    in-named p f =
+        Members.in-keep (carries g d (nameOf g d p))
+        (Members.in-keep (λ s. eqb (hit g d s) (hash (nameOf g d p))) (Facts.in-slots g d p (f .slot)) (Members.eq-T (Change.filed-at g d c p f .hashes p (Change.chain-head g d c p (f .slot)))))
+        (Members.all-two (primary g d p) (same (nameOf g d p) (nameOf g d p)) (f .primary′) (Members.same-refl (nameOf g d p)))
+
+    pub named-is : (p : ℕ) → File g d p → named g d (nameOf g d p) ≡ p ∷ []
+    unfolding words
+    named-is p f = only p _ (in-named p f) (λ x i. let k = named-in (nameOf g d p) x i in c .names x p (k .0) f (k .1))
+
+    -- there is a file of that name, or none
+    pub look : (n : List ℕ) → ((p : ℕ) × File g d p × (nameOf g d p ≡ n)) ⊎ ((p : ℕ) → File g d p → nameOf g d p ≢ n)
+    look n = go (keep (carries g d n) (candidates g d n)) refl
+      where
+        go : (xs : List ℕ) → keep (carries g d n) (candidates g d n) ≡ xs → ((p : ℕ) × File g d p × (nameOf g d p ≡ n)) ⊎ ((p : ℕ) → File g d p → nameOf g d p ≢ n)
+        go [] e = inr (λ p f q. Members.none-in (subst (λ (l : List ℕ). In p l) e (subst (λ (m : List ℕ). In p (keep (carries g d m) (candidates g d m))) q (in-named p f))))
+        go (x ∷ xs) e = let k = named-in n x (rw e Members.In.here) in inl (x, k .0, k .1)
+
+    pub plain-is : (p : ℕ) (n : List ℕ) → File g d p → nameOf g d p ≡ n → plain g d n ≡ found (fileAt g d p)
+    unfolding plain foundIn
+    plain-is p n f e = rw (← e, named-is p f)
+
+  pub plain-none : (n : List ℕ) → ((p : ℕ) → File g d p → nameOf g d p ≢ n) → plain g d n ≡ nothing
+  unfolding plain foundIn
+  plain-none n f = rw (none-named n f)

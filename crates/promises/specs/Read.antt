@@ -1,0 +1,47 @@
+-- A record read is the plain file's bytes
+use mathlib.Core.Path.{_≡_, refl, ap, ap₂, sym, _∙_, subst}
+use mathlib.Core.Bool.{Bool, true, false, not, cond, _&&_, _||_}
+use mathlib.Core.List.{List, [], _∷_, _++_, map}
+use Prim.Native.Nat.{ℕ, zero, suc, _+_, _-_, _≤_, _<_, min}
+use native.Mathlib.Omega.{arith}
+use lib.ListN.{length, getD, take, drop, length-take, length-drop, length-map}
+use lib.Seq.{getD-take, getD-drop, ext-getD}
+use lib.Dec.{T, ltb, not-T, nltb→le}
+use Rattle.meaning.specs.Lists.{count}
+use Rattle.meaning.specs.Layout.{byte}
+use Rattle.meaning.specs.Chain.{place}
+use Rattle.meaning.specs.Entries.{sizeOf}
+use Rattle.meaning.specs.Read.{fetch, readRecord}
+use Rattle.meaning.specs.Refusals.{first}
+use Rattle.meaning.specs.Plain.{fileAt}
+use Rattle.meaning.specs.declared.Geometry.{Geometry}
+use Rattle.meaning.specs.declared.Handle.{Handle}
+use Rattle.promises.specs.KillMeans
+use Rattle.promises.specs.Over
+use Rattle.promises.specs.Trim.{length-count}
+use Rattle.promises.specs.Words.{words}
+
+part-of : (G : ℕ → ℕ) (i n s : ℕ) → i + n ≤ s → map G (count i n) ≡ take n (drop i (map G (count 0 s)))
+part-of G i n s h = ext-getD 0 (map G (count i n)) (take n (drop i (map G (count 0 s)))) (left ∙ sym right) (λ j b. point j (omega (arith, left)))
+  where
+    left : length (map G (count i n)) ≡ n
+    left = length-map (count i n) G ∙ length-count i n
+
+    right : length (take n (drop i (map G (count 0 s)))) ≡ n
+    right = length-take n (drop i (map G (count 0 s))) ∙ ap (min n) (length-drop i (map G (count 0 s)) ∙ ap (λ (x : ℕ). x - i) (length-map (count 0 s) G ∙ length-count 0 s)) ∙ omega arith
+
+    point : (j : ℕ) → j < n → getD (map G (count i n)) j 0 ≡ getD (take n (drop i (map G (count 0 s)))) j 0
+    point j b = Over.map-count G i n j b ∙ sym (getD-take n (drop i (map G (count 0 s))) j 0 b ∙ getD-drop i (map G (count 0 s)) j 0 ∙ Over.map-count G 0 s (i + j) (omega arith) ∙ ap G (omega arith))
+
+pub read-means : (g : Geometry) (d : List ℕ) (h : Handle) (b : List ℕ) → readRecord g d h b .0 .number ≡ 0
+    → readRecord g d h b .1 ≡ take (h .len) (drop (h .at) (fileAt g d (h .slot) .bytes)) ++ drop (h .len) b
+unfolding readRecord fileAt words
+read-means g d h b e =
+    let p₁ = KillMeans.passed 1 _ _ (omega arith) e in
+    let p₂ = KillMeans.passed 2 _ _ (omega arith) (p₁ .1) in
+    let p₃ = KillMeans.passed 12 _ _ (omega arith) (p₂ .1) in
+    let p₄ = KillMeans.passed 7 _ _ (omega arith) (p₃ .1) in
+    let p₅ = KillMeans.passed 6 _ _ (omega arith) (p₄ .1) in
+    let p₆ = KillMeans.passed 10 _ _ (omega arith) (p₅ .1) in
+    let in′ = nltb→le (sizeOf g d (h .slot)) (h .at + h .len) (not-T (ltb (sizeOf g d (h .slot)) (h .at + h .len)) (p₆ .0)) in
+    rw e (ap (λ (l : List ℕ). l ++ drop (h .len) b) (part-of (λ j. byte d (place g d (h .slot) j)) (h .at) (h .len) (sizeOf g d (h .slot)) in′))

@@ -1,0 +1,173 @@
+-- A file whose bytes, size and B flag changed, and nothing else
+use mathlib.Core.Path.{_≡_, refl, ap, ap₂, sym, _∙_, subst}
+use mathlib.Core.Logic.{_≢_, _⊎_, inl, inr}
+use mathlib.Core.Bool.{Bool, true, false, not, cond, _&&_, _||_}
+use mathlib.Core.List.{List, [], _∷_, _++_, map, append-assoc}
+use Prim.Native.Nat.{ℕ, zero, suc, _+_, _-_, _*_, _/_, _%_, _≤_, _<_}
+use native.Mathlib.Omega.{arith}
+use native.Mathlib.Decide.{ℕ-discrete, decLt}
+use native.Mathlib.Numerals.{add-one}
+use lib.ListN.{length, getD, length-append, List·getD-append}
+use lib.Dec.{T, eqb, leb, ltb, T-not, not-T, eqb→eq}
+use Rattle.meaning.specs.Lists.{count, keep, each, has}
+use Rattle.meaning.specs.Layout.{byte, isSlot, taken, field, granules, hit, directoryGranules, granuleBytes, aboveTen}
+use Rattle.meaning.specs.Bits.{bit, digit}
+use Rattle.meaning.specs.Entries.{inUse, extension, system, primary, marker, link, block, nameOf, runs, entryGranules, sizeOf}
+use Rattle.meaning.specs.Chain.{chain, owned, place}
+use Rattle.meaning.specs.Growth.{tail}
+use Rattle.meaning.specs.Free.{freeGranules}
+use Rattle.meaning.specs.Read.{fetch}
+use Rattle.meaning.specs.Plain.{File, fileAt}
+use Rattle.meaning.specs.declared.Geometry.{Geometry}
+use Rattle.promises.specs.Members
+use Rattle.promises.specs.Members.{In, Distinct}
+use Rattle.promises.specs.Counting
+use Rattle.promises.specs.Facts
+use Rattle.promises.specs.Facts.{Sound}
+use Rattle.promises.specs.Entry
+use Rattle.promises.specs.Frame
+use Rattle.promises.specs.Frame.{Agree}
+use Rattle.promises.specs.Places
+use Rattle.promises.specs.Change
+use Rattle.promises.specs.Change.{entriesOf, granulesOf}
+use Rattle.meaning.specs.Entries.{sectorCount, endByte}
+use Rattle.promises.specs.Others
+
+-- the bytes of an entry that a write does not touch
+pub record Kept (k : ℕ) : Type 0 where
+  pub flags : k ≢ 1
+  pub ends : k ≢ 3
+  pub low : k ≢ 0x14
+  pub high : k ≢ 0x15
+
+pub record Rewrites (g : Geometry) (d d′ : List ℕ) (p : ℕ) : Type 0 where
+  pub above : aboveTen g d′ ≡ aboveTen g d
+  pub agrees : (x : ℕ) → T (isSlot g d x) → x ≢ p → Agree g d d′ x
+  pub hits : (x : ℕ) → T (isSlot g d x) → hit g d′ x ≡ hit g d x
+  pub fixed : (k : ℕ) → k < 32 → Kept k → field g d′ p k ≡ field g d p k
+  pub keeps : (n : ℕ) → n < granules g → taken g d′ n ≡ taken g d n
+  pub none : sectorCount g d′ p ≡ 0 → endByte g d′ p ≡ 0
+  pub fits : sizeOf g d′ p ≤ granuleBytes * length (owned g d p)
+  pub same : (i : ℕ) → (In (i / granuleBytes) (directoryGranules g d) → ⊥) → (In (i / granuleBytes) (owned g d p) → ⊥) → byte d′ i ≡ byte d i
+
+module _ (g : Geometry) (d d′ : List ℕ) (c : Sound g d) (p : ℕ) (f : Facts.File g d p) (h : Rewrites g d d′ p) where
+  slot-of : (x : ℕ) → In x (chain g d p) → T (isSlot g d x)
+  slot-of x i = Change.members g d c p x f i .slot
+
+  steady : (x : ℕ) → T (isSlot g d x) → (k : ℕ) → k < 32 → Kept k → field g d′ x k ≡ field g d x k
+  steady x t k b o = go (ℕ-discrete x p)
+    where
+      go : Dec (x ≡ p) → field g d′ x k ≡ field g d x k
+      go (yes q) = rw q (h .fixed k b o)
+      go (no q) = h .agrees x t q k b
+
+  -- flags, back pointer and everything from 16 on; 01 is the back pointer only of an extension
+  tail-bytes : (x : ℕ) → T (isSlot g d x) → (k : ℕ) → 0x16 ≤ k → k < 32 → field g d′ x k ≡ field g d x k
+  tail-bytes x t k a b = steady x t k b (record { flags = omega arith; ends = omega arith; low = omega arith; high = omega arith })
+
+  flag : (x : ℕ) → T (isSlot g d x) → field g d′ x 0 ≡ field g d x 0
+  flag x t = steady x t 0 (omega arith) (record { flags = omega arith; ends = omega arith; low = omega arith; high = omega arith })
+
+  pub rw-chain : chain g d′ p ≡ chain g d p
+  rw-chain = Frame.chain-links g d d′ (h .above) p (λ x i. (tail-bytes x (slot-of x i) 0x1e (omega arith) (omega arith), tail-bytes x (slot-of x i) 0x1f (omega arith) (omega arith)))
+
+  kept-granules : (x : ℕ) → T (isSlot g d x) → entryGranules g d′ x ≡ entryGranules g d x
+  kept-granules x t = Frame.entryGranules-pairs g d d′ x (λ k a b. tail-bytes x t k a (omega arith))
+
+  kept-runs : (x : ℕ) → T (isSlot g d x) → runs g d′ x ≡ runs g d x
+  kept-runs x t = Frame.runs-blocks g d d′ x (λ j b. tail-bytes x t (0x16 + 2 * j) (omega arith) (omega arith))
+
+  pub rw-owned : owned g d′ p ≡ owned g d p
+  unfolding owned
+  rw-owned = ap (each (entryGranules g d′)) rw-chain ∙ Members.each-eq (entryGranules g d′) (entryGranules g d) (chain g d p) (λ x i. kept-granules x (slot-of x i))
+
+  pub rw-file : Facts.File g d′ p
+  rw-file = record { slot = rw (Frame.slot-eq g d d′ (h .above) p) (f .slot); primary′ = rw (flag p (f .slot)) (f .primary′) }
+
+  entry-was : (x : ℕ) → In x (chain g d p) → Entry.Entry g d x
+  entry-was x i = let k = Change.members g d c p x f i in Change.entry-at g d c x (k .slot) (k .used)
+
+  next′ : (x : ℕ) → Entry.Linked g d x → Entry.Follows g d′ x (link g d x)
+  next′ x l =
+      let t = l .next .slot in
+      let n : link g d x ≢ p = λ q. T-not (extension g d p) (Facts.file-first g d p f) (Change.flags-extension (field g d p 0) (rw q at (l .next .flags))) in
+      Frame.follows-eq g d d′ x (link g d x) (Frame.slot-eq g d d′ (h .above) (link g d x)) (h .agrees (link g d x) t n) (l .next)
+
+  entry′ : (x : ℕ) → In x (chain g d p) → Entry.Entry g d′ x
+  entry′ x i =
+      let t = slot-of x i in let w = entry-was x i in
+      record {
+        pairs = λ j a q. tail-bytes x t (0x16 + 2 * j) (omega arith) (omega arith) ∙ w .pairs j a (rw (kept-runs x t) at q);
+        linked = go t (w .linked);
+        run = λ j q. let v = w .run j (rw (kept-runs x t) at q) in
+            let u : j < 4 = omega (arith, Entry.runs-le g d′ x) in
+            record {
+              unit = rw (tail-bytes x t (0x17 + 2 * j) (omega arith) (omega arith)) (v .unit);
+              inside = rw (tail-bytes x t (0x16 + 2 * j) (omega arith) (omega arith), tail-bytes x t (0x17 + 2 * j) (omega arith) (omega arith)) (v .inside);
+            };
+        gat = λ n j. let o = rw (kept-granules x t) at j in rw (h .keeps n (Change.owned-lt g d c p n f (Change.granule-owned g d c p x n i o))) (w .gat n o);
+      }
+    where
+      go : T (isSlot g d x) → (marker g d x ≡ 0xff) ⊎ Entry.Linked g d x → (marker g d′ x ≡ 0xff) ⊎ Entry.Linked g d′ x
+      go t (inl q) = inl (tail-bytes x t 0x1e (omega arith) (omega arith) ∙ q)
+      go t (inr q) = inr (record { marked = tail-bytes x t 0x1e (omega arith) (omega arith) ∙ q .marked; next = rw (tail-bytes x t 0x1f (omega arith) (omega arith)) (next′ x q); full = kept-runs x t ∙ q .full })
+
+  pub rw-name : nameOf g d′ p ≡ nameOf g d p
+  unfolding nameOf
+  rw-name = Members.map-eq (field g d′ p) (field g d p) (count 5 11) (λ k i. let q = Members.count-in k 5 11 i in h .fixed k (omega arith) (record { flags = omega arith; ends = omega arith; low = omega arith; high = omega arith }))
+
+  filed′ : Entry.Filed g d′ p
+  filed′ = record {
+    name = rw rw-name (was .name);
+    zero′ = rw (flag p (f .slot)) (was .zero′);
+    hashes = λ x i. let j = rw rw-chain at i in rw (rw-name, h .hits x (slot-of x j)) (was .hashes x j);
+    count′ = h .none;
+    fits = rw rw-owned (h .fits);
+    off = λ u n i j. was .off (rw (flag p (f .slot)) at u) n (rw rw-owned at i) (rw (Frame.directory-eq g d d′ (h .above)) at j);
+  }
+    where
+      was : Entry.Filed g d p
+      was = Change.filed-at g d c p f
+
+  own′ : Change.Own g d d′ p
+  own′ = record {
+    slots′ = λ x i. rw (Frame.slot-eq g d d′ (h .above) x) (slot-of x (rw rw-chain at i));
+    used = λ x i. let j = rw rw-chain at i in rw (flag x (slot-of x j)) (Change.members g d c p x f j .used);
+    later = λ x i n. let j = rw rw-chain at i in rw (flag x (slot-of x j)) (Change.extends g d c p x f j n);
+    entry = λ x i. entry′ x (rw rw-chain at i);
+    filed = filed′;
+    once = rw rw-chain (c .once p f);
+    single = rw rw-owned (c .single p f);
+    name = λ q k n w. n (c .names q p k f (w ∙ rw-name));
+  }
+
+  mine : entriesOf g d p ≡ chain g d p
+  mine = Change.entriesOf-is g d p f
+
+  mine′ : entriesOf g d′ p ≡ chain g d p
+  mine′ = Change.entriesOf-is g d′ p rw-file ∙ rw-chain
+
+  grans : granulesOf g d p ≡ owned g d p
+  grans = Change.granulesOf-is g d p f
+
+  grans′ : granulesOf g d′ p ≡ owned g d p
+  grans′ = Change.granulesOf-is g d′ p rw-file ∙ rw-owned
+
+  pub rw-change : T (not (system g d p)) → Change.Change g d d′ p
+  rw-change u = record {
+    above = h .above;
+    agrees = λ x t a b. h .agrees x t (λ q. a (rw (q, mine) (Change.chain-head g d c p (f .slot))));
+    hits = λ x t a b. h .hits x t;
+    gone = λ x i n. absurd (n (rw mine′ (rw mine at i)));
+    unhit = λ x i n. absurd (n (rw mine′ (rw mine at i)));
+    born = λ x i n. absurd (n (rw mine (rw mine′ at i)));
+    nonzero = λ x i. let j = rw mine′ at i in rw (h .hits x (slot-of x j)) (Change.used-hit g d c x (slot-of x j) (Change.members g d c p x f j .used));
+    keeps = λ n l a b. h .keeps n l;
+    freed = λ n i a. absurd (a (rw grans′ (rw grans at i)));
+    fresh = λ n i a. absurd (a (rw grans (rw grans′ at i)));
+    off = λ n i j. Change.filed-at g d c p f .off u n (rw grans at i) j;
+    own = λ q. own′;
+  }
+
+  pub rw-same : Others.Same g d d′ p
+  rw-same = λ i a b e. h .same i a (λ j. b (rw grans j))

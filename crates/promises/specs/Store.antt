@@ -1,0 +1,85 @@
+-- Bytes stored at places one after the other, and the places of a file
+use mathlib.Core.Path.{_≡_, refl, ap, ap₂, sym, _∙_, subst}
+use mathlib.Core.Logic.{_≢_, _⊎_, inl, inr}
+use mathlib.Core.Bool.{Bool, true, false, not, cond, _&&_, _||_}
+use mathlib.Core.List.{List, [], _∷_, _++_, map, append-assoc}
+use Prim.Native.Nat.{ℕ, zero, suc, _+_, _-_, _*_, _/_, _%_, _≤_, _<_}
+use native.Mathlib.Omega.{arith}
+use native.Mathlib.Nat.{div-add-mod', mod-lt}
+use native.Mathlib.Numerals.{add-one}
+use native.Mathlib.Decide.{ℕ-discrete, decLt}
+use lib.ListN.{length, getD, set, length-set}
+use lib.Seq.{getD-set-same, getD-set-other}
+use lib.Dec.{T, eqb, leb, ltb, T-not, not-T, eqb→eq, ltb→lt, leb→le}
+use Rattle.meaning.specs.Lists.{count, keep, each, has}
+use Rattle.meaning.specs.Layout.{byte, isSlot, taken, freeGranule, field, setField, gatAt, hitAt, entryAt, granules, hit, directoryGranules, directorySectors, granuleBytes, aboveTen}
+use Rattle.meaning.specs.Bits.{bit, digit}
+use Rattle.meaning.specs.Entries.{extension, sizeOf, block, firstUnit, runStart, runLength, runGranules, runs, entryGranules}
+use Rattle.meaning.specs.Chain.{chain, owned}
+use Rattle.meaning.specs.Growth.{tail}
+use Rattle.meaning.specs.declared.Geometry.{Geometry}
+use Rattle.promises.specs.Members
+use Rattle.promises.specs.Members.{In, Distinct}
+use Rattle.promises.specs.Facts
+use Rattle.promises.specs.Facts.{Sound, File}
+use Rattle.promises.specs.Entry
+use Rattle.promises.specs.Frame
+use Rattle.promises.specs.Frame.{Agree}
+use Rattle.promises.specs.Places
+use Rattle.promises.specs.Change
+use Rattle.promises.specs.Shrink
+use Rattle.promises.specs.Take
+use Rattle.promises.specs.Others
+use Rattle.meaning.specs.Entries
+use Rattle.meaning.specs.Layout.{slots}
+use Rattle.meaning.specs.Write.{store}
+use Rattle.meaning.specs.Chain.{place}
+
+pub store-length : (F : ℕ → ℕ) (bs d : List ℕ) (i : ℕ) → length (store F d i bs) ≡ length d
+unfolding store
+store-length F [] d i = refl
+store-length F (b ∷ bs) d i = store-length F bs (set d (F i) b) (i + 1) ∙ length-set d (F i) b
+
+pub store-other : (F : ℕ → ℕ) (bs d : List ℕ) (i j : ℕ) → ((k : ℕ) → i ≤ k → k < i + length bs → j ≢ F k) → byte (store F d i bs) j ≡ byte d j
+unfolding store
+store-other F [] d i j n = refl
+store-other F (b ∷ bs) d i j n =
+    store-other F bs (set d (F i) b) (i + 1) j (λ k a e. n k (omega arith) (omega arith)) ∙ getD-set-other d (F i) j b 0 (n i (omega arith) (omega arith))
+
+pub store-at : (F : ℕ → ℕ) (bs d : List ℕ) (i k : ℕ) → i ≤ k → k < i + length bs
+    → ((a b : ℕ) → i ≤ a → a < i + length bs → i ≤ b → b < i + length bs → F a ≡ F b → a ≡ b)
+    → ((a : ℕ) → i ≤ a → a < i + length bs → F a < length d) → byte (store F d i bs) (F k) ≡ getD bs (k - i) 0
+unfolding store
+store-at F [] d i k a b inj l = absurd (omega arith)
+store-at F (x ∷ bs) d i k a b inj l = go (ℕ-discrete k i) (λ q. store-at F bs (set d (F i) x) (i + 1) k q (omega arith)
+    (λ u v s t y z. inj u v (omega arith) (omega arith) (omega arith) (omega arith)) (λ u s t. rw length-set (l u (omega arith) (omega arith))))
+  where
+    go : Dec (k ≡ i) → (i + 1 ≤ k → byte (store F (set d (F i) x) (i + 1) bs) (F k) ≡ getD bs (k - (i + 1)) 0) → byte (store F (set d (F i) x) (i + 1) bs) (F k) ≡ getD (x ∷ bs) (k - i) 0
+    go (yes q) ih =
+        let z : k - i ≡ 0 = omega arith in
+        rw z (rw q (store-other F bs (set d (F i) x) (i + 1) (F i) (λ j s t w. away j s t (inj i j (omega arith) (omega arith) (omega arith) (omega arith) w)) ∙ getD-set-same d (F i) x 0 (l i (omega arith) (omega arith))))
+      where
+        away : (j : ℕ) → i + 1 ≤ j → j < i + 1 + length bs → i ≡ j → ⊥
+        away j s t w = omega arith
+    go (no q) ih =
+        let z : k - i ≡ suc (k - (i + 1)) = omega arith in
+        rw z (ih (omega arith))
+
+getD-inj : {xs : List ℕ} → Distinct xs → (a b : ℕ) → a < length xs → b < length xs → getD xs a 0 ≡ getD xs b 0 → a ≡ b
+getD-inj Members.Distinct.done a b h l e = absurd (omega arith)
+getD-inj (Members.Distinct.fresh n r) zero zero h l e = refl
+getD-inj (Members.Distinct.fresh {xs = xs} n r) zero (suc b) h l e = absurd (n (rw e (Others.getD-in xs b (omega arith))))
+getD-inj (Members.Distinct.fresh {xs = xs} n r) (suc a) zero h l e = absurd (n (rw (← e) (Others.getD-in xs a (omega arith))))
+getD-inj (Members.Distinct.fresh n r) (suc a) (suc b) h l e = ap suc (getD-inj r a b (omega arith) (omega arith) e)
+
+module _ (g : Geometry) (d : List ℕ) (c : Sound g d) (k : Places.Fits g d) (p : ℕ) (f : File g d p) where
+  pub place-inj : (a b : ℕ) → a < granuleBytes * length (owned g d p) → b < granuleBytes * length (owned g d p) → place g d p a ≡ place g d p b → a ≡ b
+  unfolding place
+  place-inj a b h l e =
+      let q = getD-inj (c .single p f) (a / granuleBytes) (b / granuleBytes) (omega arith) (omega arith) (omega arith) in
+      omega arith
+
+  pub place-lt : (a : ℕ) → a < granuleBytes * length (owned g d p) → place g d p a < length d
+  place-lt a h =
+      let q = Change.owned-lt g d c p (place g d p a / granuleBytes) f (Others.place-in g d p a h) in
+      omega (arith, k .size)

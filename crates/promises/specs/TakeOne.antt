@@ -1,0 +1,104 @@
+-- One granule more, and k granules more
+use mathlib.Core.Path.{_≡_, refl, ap, ap₂, sym, _∙_, subst}
+use mathlib.Core.Logic.{_≢_, _⊎_, inl, inr}
+use mathlib.Core.Bool.{Bool, true, false, not, cond, _&&_, _||_}
+use mathlib.Core.List.{List, [], _∷_, _++_, append-assoc}
+use Prim.Native.Nat.{ℕ, zero, suc, _+_, _-_, _*_, _/_, _%_, _≤_, _<_}
+use native.Mathlib.Omega.{arith}
+use native.Mathlib.Decide.{ℕ-discrete, decLt}
+use lib.ListN.{length, getD, set, length-set, length-append}
+use lib.Seq.{length-sets}
+use lib.Dec.{T, eqb, leb, ltb, T-not, not-T, eqb→eq, ltb→lt, nltb→le}
+use Rattle.meaning.specs.Lists.{count, every, keep}
+use Rattle.meaning.specs.Layout.{isSlot, taken, granules, hit}
+use Rattle.meaning.specs.Entries.{system, runs, nameOf}
+use Rattle.meaning.specs.Chain.{chain, owned}
+use Rattle.meaning.specs.Consistent.{consistent}
+use Rattle.meaning.specs.Growth.{tail, after, lengthens, lengthened, withPair, withExtension, takeOne, Grown, grown, noSlot, extended, grow, andThen}
+use Rattle.meaning.specs.Free.{freeGranules, freeSlots}
+use Rattle.meaning.specs.Lists.{firstOr}
+use Rattle.meaning.specs.Plain.{fileAt, plain, hush, reserved}
+use Rattle.meaning.specs.declared.Geometry.{Geometry}
+use Rattle.promises.specs.Members
+use Rattle.promises.specs.Members.{In}
+use Rattle.promises.specs.Facts
+use Rattle.promises.specs.Facts.{Sound, File}
+use Rattle.promises.specs.Entry
+use Rattle.promises.specs.Places
+use Rattle.promises.specs.Change
+use Rattle.promises.specs.Others
+use Rattle.promises.specs.Create
+use Rattle.promises.specs.Longer
+use Rattle.promises.specs.Tail
+use Rattle.promises.specs.Take
+use Rattle.promises.specs.Extend
+use Rattle.promises.specs.TakeNew
+use Rattle.promises.specs.Words.{words}
+
+-- a granule taken: which, and what it means
+pub record Took (g : Geometry) (d d′ : List ℕ) (p : ℕ) : Type 0 where
+  pub which : ℕ
+  pub change : Change.Change g d d′ p
+  pub longer : Longer.Longer g d d′ p which
+  pub long : length d′ ≡ length d
+  pub file : File g d′ p
+
+free-in : (g : Geometry) (d : List ℕ) → 1 ≤ length (freeGranules g d) → In (firstOr 0 (freeGranules g d)) (freeGranules g d)
+free-in g d h = Create.first-in (freeGranules g d) (λ t. omega (arith, eqb→eq (length (freeGranules g d)) 0 t))
+
+free-says : (g : Geometry) (d : List ℕ) (n : ℕ) → In n (freeGranules g d) → (n < granules g) × (T (taken g d n) → ⊥)
+unfolding freeGranules
+free-says g d n i =
+    let a = Members.keep-in (λ n. not (taken g d n)) n (count 0 (granules g)) i in
+    (omega (arith, Members.count-in n 0 (granules g) (a .0)), T-not (taken g d n) (a .1))
+
+module _ (g : Geometry) (d : List ℕ) (c : Sound g d) (k : Places.Fits g d) (p : ℕ) (f : File g d p) (u : T (not (system g d p))) (room : 1 ≤ length (freeGranules g d)) where
+  abbrev e : ℕ
+  e = tail g p d
+
+  abbrev n : ℕ
+  n = firstOr 0 (freeGranules g d)
+
+  is-free : (n < granules g) × (T (taken g d n) → ⊥)
+  is-free = free-says g d n (free-in g d room)
+
+  by-tail : (d′ : List ℕ) (m : ℕ) → Tail.Grows g d d′ p m → length d′ ≡ length d → Took g d d′ p
+  by-tail d′ m w l = record { which = m; change = Tail.grows-change g d d′ c p f m w u; longer = Tail.grows-longer g d d′ c p f m w; long = l; file = Tail.grows-file g d d′ c p f m w }
+
+  by-extension : (x : ℕ) → T (isSlot g d x) → hit g d x ≡ 0 → runs g d e ≡ 4 → Took g d (withPair g p (withExtension g p d e x) x 0 n) p
+  unfolding words
+  by-extension x t z full =
+      let d′ = withPair g p (withExtension g p d e x) x 0 n in
+      let w = TakeNew.new-extends g d c k p f x t z n full (is-free .0) (is-free .1) in
+      record {
+        which = n;
+        change = Extend.extends-change g d d′ c p f x n w u;
+        longer = Extend.extends-longer g d d′ c p f x n w;
+        long = simp length-set;
+        file = Extend.extends-file g d d′ c p f x n w;
+      }
+
+  extended-took : (d′ : List ℕ) (xs : List ℕ) → ((x : ℕ) → In x xs → T (isSlot g d x) × (hit g d x ≡ 0)) → runs g d e ≡ 4 → extended g p xs d e n ≡ grown d′ → Took g d d′ p
+  unfolding extended
+  extended-took d′ [] a full q = absurd (let z : _≡_ {A = ℕ} 0 1 = cc in omega arith)
+  extended-took d′ (x ∷ xs) a full q =
+      let r : withPair g p (withExtension g p d e x) x 0 n ≡ d′ = cc in
+      let s = a x Members.In.here in
+      subst (λ (l : List ℕ). Took g d l p) r (by-extension x (s .0) (s .1) full)
+
+  pub take-one : (d′ : List ℕ) → takeOne g p d ≡ grown d′ → Took g d d′ p
+  unfolding takeOne words
+  take-one d′ q = go (Members.decide (lengthens g p d)) (Members.decide (ltb (runs g d e) 4))
+    where
+      go : Members.Test (lengthens g p d) → Members.Test (ltb (runs g d e) 4) → Took g d d′ p
+      go (Members.Test.holds t) b =
+          let r : grown (lengthened g p d) ≡ grown d′ = rw (Members.T-true {b = lengthens g p d} t) at q in
+          let s : lengthened g p d ≡ d′ = cc in
+          subst (λ (l : List ℕ). Took g d l p) s (by-tail (lengthened g p d) (after g p d) (Take.lengthened-grows g d c k p f t) (simp length-set))
+      go (Members.Test.fails a) (Members.Test.holds t) =
+          let r : grown (withPair g p d e (runs g d e) n) ≡ grown d′ = rw (Members.no-false {b = lengthens g p d} a, Members.T-true {b = ltb (runs g d e) 4} t) at q in
+          let s : withPair g p d e (runs g d e) n ≡ d′ = cc in
+          subst (λ (l : List ℕ). Took g d l p) s (by-tail (withPair g p d e (runs g d e) n) n (Take.paired-grows g d c k p f n (ltb→lt (runs g d e) 4 t) (is-free .0) (is-free .1)) (simp length-set))
+      go (Members.Test.fails a) (Members.Test.fails b) =
+          let r : extended g p (freeSlots g d) d e n ≡ grown d′ = rw (Members.no-false {b = lengthens g p d} a, Members.no-false {b = ltb (runs g d e) 4} b) at q in
+          extended-took d′ (freeSlots g d) (Create.slots-free g d) (omega (arith, nltb→le (runs g d e) 4 (not-T (ltb (runs g d e) 4) b), Entry.runs-le g d e)) r

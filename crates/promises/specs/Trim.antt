@@ -1,0 +1,195 @@
+-- Trim: the last granules given back, one at a time
+use mathlib.Core.Path.{_≡_, refl, ap, ap₂, sym, _∙_, subst}
+use mathlib.Core.Logic.{_≢_, _⊎_, inl, inr}
+use mathlib.Core.Bool.{Bool, true, false, not, cond, _&&_, _||_}
+use mathlib.Core.List.{List, [], _∷_, _++_, append-assoc}
+use Prim.Native.Nat.{ℕ, zero, suc, _+_, _-_, _*_, _/_, _%_, _≤_, _<_}
+use native.Mathlib.Omega.{arith}
+use native.Mathlib.Decide.{ℕ-discrete, decLt}
+use lib.ListN.{length, getD, set, length-set, length-append}
+use lib.Seq.{length-sets}
+use lib.Dec.{T, eqb, leb, ltb, T-not, not-T, eqb→eq, ltb→lt, nltb→le}
+use Rattle.meaning.specs.Lists.{count, every, keep}
+use Rattle.meaning.specs.Layout.{isSlot, taken, granules, hit}
+use Rattle.meaning.specs.Entries.{system, runs, nameOf}
+use Rattle.meaning.specs.Chain.{chain, owned}
+use Rattle.meaning.specs.Consistent.{consistent}
+use Rattle.meaning.specs.Plain.{fileAt, plain, hush, reserved}
+use Rattle.meaning.specs.declared.Geometry.{Geometry}
+use Rattle.promises.specs.Members
+use Rattle.promises.specs.Members.{In}
+use Rattle.promises.specs.Facts
+use Rattle.promises.specs.Facts.{Sound, File}
+use Rattle.promises.specs.Entry
+use Rattle.promises.specs.Places
+use Rattle.promises.specs.Change
+use Rattle.promises.specs.Others
+use Rattle.promises.specs.Named
+use Rattle.promises.specs.KillMeans
+use Rattle.meaning.specs.Layout.{byte, field, directoryGranules, granuleBytes, granuleSectors, aboveTen}
+use Rattle.meaning.specs.declared.Handle.{Handle}
+use mathlib.Core.List.{append-nil}
+use native.Mathlib.Nat.{add-zero, add-suc, suc-add}
+use Prim.Native.Nat.{max}
+use Rattle.meaning.specs.Lists.{times}
+use Rattle.meaning.specs.Entries.{sizeOf, keepsSpace}
+use Rattle.meaning.specs.Bits.{bit}
+use Rattle.meaning.specs.Drop.{dropOne}
+use Rattle.meaning.specs.Free.{freeGranules}
+use Rattle.meaning.specs.Trim.{trim}
+use Rattle.meaning.specs.Layout.{granulesFor}
+use Rattle.meaning.specs.Refusals.{first}
+use Rattle.meaning.specs.Plain.{Found, found, trimmed}
+use Rattle.promises.specs.Shorter
+use Rattle.promises.specs.DropLast
+use Rattle.promises.specs.DropLast.{Dropped}
+use lib.ListN.{length-map}
+use Rattle.promises.specs.Words.{words}
+
+-- the file at p has lost its last k granules, and all else is as it was
+pub record Shrank (g : Geometry) (d d′ : List ℕ) (p k : ℕ) : Type 0 where
+  pub sound : Sound g d′
+  pub fits : Places.Fits g d′
+  pub file : File g d′ p
+  pub user : T (not (system g d′ p))
+  pub long : length d′ ≡ length d
+  pub name : nameOf g d′ p ≡ nameOf g d p
+  pub size : sizeOf g d′ p ≡ sizeOf g d p
+  pub reserved′ : reserved g d′ ≡ reserved g d
+  pub old : List ℕ
+  pub owned′ : owned g d p ≡ owned g d′ p ++ old
+  pub many : length old ≡ k
+  pub free : length (freeGranules g d′) ≡ length (freeGranules g d) + k
+  pub attributes : fileAt g d′ p .attributes ≡ fileAt g d p .attributes
+  pub bytes : fileAt g d′ p .bytes ≡ fileAt g d p .bytes
+  pub others : (n : List ℕ) → n ≢ nameOf g d p → hush (plain g d′ n) ≡ hush (plain g d n)
+
+module _ (g : Geometry) where
+  shrank-none : (d : List ℕ) (p : ℕ) → Sound g d → Places.Fits g d → File g d p → T (not (system g d p)) → Shrank g d d p 0
+  shrank-none d p c k f u = record {
+    sound = c;
+    fits = k;
+    file = f;
+    user = u;
+    long = refl;
+    name = refl;
+    size = refl;
+    reserved′ = refl;
+    old = [];
+    owned′ = sym (append-nil (owned g d p));
+    many = refl;
+    free = omega arith;
+    attributes = refl;
+    bytes = refl;
+    others = λ n q. refl;
+  }
+
+  shrank-one : (d d₁ : List ℕ) (p : ℕ) → Sound g d → Places.Fits g d → File g d p → T (not (system g d p)) → Dropped g d d₁ p → Shrank g d d₁ p 1
+  unfolding nameOf
+  shrank-one d d₁ p c k f u w =
+      let m = w .which in let h = w .change in let l = w .shorter in
+      let s : Others.Same g d d₁ p = λ i a b e. l .same i a in
+      let n : nameOf g d₁ p ≡ nameOf g d p = Members.map-eq (field g d₁ p) (field g d p) (count 5 11) (λ j i. l .low j (omega (arith, Members.count-in j 5 11 i))) in
+      let file′ = Shorter.shrunk-file g d d₁ c p f m l u in
+      record {
+        sound = Change.changed g d d₁ c p h;
+        fits = record { blocks-lo = k .blocks-lo; blocks-hi = k .blocks-hi; units-lo = k .units-lo; units-hi = k .units-hi; start-at = k .start-at; size = w .long ∙ k .size };
+        file = w .file;
+        user = rw (l .low 0 (omega arith)) u;
+        long = w .long;
+        name = n;
+        size = Shorter.size-same g d d₁ c p f m l;
+        reserved′ = Others.reserved-stays g d d₁ c p h;
+        old = m ∷ [];
+        owned′ = l .less;
+        many = refl;
+        free = omega (arith, Shorter.shrunk-free g d d₁ c p f m l);
+        attributes = sym (ap (λ (x : Rattle.meaning.specs.Plain.File). x .attributes) file′);
+        bytes = sym (ap (λ (x : Rattle.meaning.specs.Plain.File). x .bytes) file′);
+        others = λ b q. Others.others-plain g d d₁ c p h s b (λ z a. q (sym a)) (λ z a. q (sym a ∙ n));
+      }
+
+  shrank-trans : (a b e : List ℕ) (p j k : ℕ) → Shrank g a b p j → Shrank g b e p k → Shrank g a e p (j + k)
+  shrank-trans a b e p j k x y = record {
+    sound = y .sound;
+    fits = y .fits;
+    file = y .file;
+    user = y .user;
+    long = y .long ∙ x .long;
+    name = y .name ∙ x .name;
+    size = y .size ∙ x .size;
+    reserved′ = y .reserved′ ∙ x .reserved′;
+    old = y .old ++ x .old;
+    owned′ = x .owned′ ∙ ap (λ (l : List ℕ). l ++ x .old) (y .owned′) ∙ append-assoc (owned g e p) (y .old) (x .old);
+    many = length-append (y .old) (x .old) ∙ ap₂ (λ (m n : ℕ). m + n) (y .many) (x .many) ∙ omega arith;
+    free = omega (arith, x .free, y .free);
+    attributes = y .attributes ∙ x .attributes;
+    bytes = y .bytes ∙ x .bytes;
+    others = λ n q. y .others n (λ z. q (z ∙ x .name)) ∙ x .others n q;
+  }
+
+  pub times-shrank : (k : ℕ) (d : List ℕ) (p : ℕ) → Sound g d → Places.Fits g d → File g d p → T (not (system g d p))
+      → sizeOf g d p + granuleBytes * k ≤ granuleBytes * length (owned g d p) → Shrank g d (times k (dropOne g p) d) p k
+  times-shrank zero d p c w f u room = shrank-none d p c w f u
+  times-shrank (suc k) d p c w f u room =
+      let d₁ = dropOne g p d in
+      let x = shrank-one d d₁ p c w f u (DropLast.drop-one g d c w p f u (omega arith)) in
+      let l = ap length (x .owned′) ∙ length-append (owned g d₁ p) (x .old) in
+      subst (λ (j : ℕ). Shrank g d (times k (dropOne g p) d₁) p j) (omega arith)
+      (shrank-trans d d₁ (times k (dropOne g p) d₁) p 1 k x (times-shrank k d₁ p (x .sound) (x .fits) (x .file) (x .user) (omega (arith, x .size, x .many, l))))
+
+pub record TrimMeans (g : Geometry) (d d′ : List ℕ) (p : ℕ) : Type 0 where
+  pub long : length d′ ≡ length d
+  pub consistent′ : consistent g d′ ≡ true
+  pub reserved′ : reserved g d′ ≡ reserved g d
+  pub own : plain g d′ (nameOf g d p) ≡ found (trimmed (fileAt g d p))
+  pub others : (n : List ℕ) → n ≢ nameOf g d p → hush (plain g d′ n) ≡ hush (plain g d n)
+
+pub length-count : (i n : ℕ) → length (count i n) ≡ n
+length-count i zero = refl
+length-count i (suc n) = ap suc (length-count (i + 1) n)
+
+pub bytes-length : (g : Geometry) (d : List ℕ) (p : ℕ) → length (fileAt g d p .bytes) ≡ sizeOf g d p
+unfolding fileAt words
+bytes-length g d p = length-map (count 0 (sizeOf g d p)) _ ∙ length-count 0 (sizeOf g d p)
+
+trim-kept : (g : Geometry) (d : List ℕ) (p : ℕ) → T (keepsSpace g d p) → fileAt g d p ≡ trimmed (fileAt g d p)
+unfolding trimmed fileAt
+trim-kept g d p t = rw (Members.T-true {b = keepsSpace g d p} t)
+
+trim-done : (g : Geometry) (d d′ : List ℕ) (p : ℕ) → (T (keepsSpace g d p) → ⊥) → granulesFor (sizeOf g d p) ≤ length (owned g d p)
+    → Shrank g d d′ p (length (owned g d p) - granulesFor (sizeOf g d p)) → fileAt g d′ p ≡ trimmed (fileAt g d p)
+unfolding trimmed fileAt
+trim-done g d d′ p t h x = λ i. record { attributes = x .attributes i; granules = many i; bytes = x .bytes i }
+  where
+    many : length (owned g d′ p) ≡ cond (keepsSpace g d p) (length (owned g d p)) (granulesFor (length (fileAt g d p .bytes)))
+    many = rw (Members.no-false {b = keepsSpace g d p} t, bytes-length g d p) (omega (arith, h, x .many, ap length (x .owned′) ∙ length-append (owned g d′ p) (x .old)))
+
+pub trim-means : (g : Geometry) (d : List ℕ) (h : Handle) → trim g d h .0 .number ≡ 0 → TrimMeans g d (trim g d h .1) (h .slot)
+unfolding trim
+trim-means g d h e =
+    let p = h .slot in
+    let w = KillMeans.holds g d h _ 4 [] e .0 in
+    rw e (go p w (Members.decide (keepsSpace g d p)))
+  where
+    go : (p : ℕ) → KillMeans.Holds g d h → Members.Test (keepsSpace g d (h .slot))
+        → TrimMeans g d (cond (not (keepsSpace g d (h .slot))) (times (length (owned g d (h .slot)) - granulesFor (sizeOf g d (h .slot))) (dropOne g (h .slot)) d) d) (h .slot)
+    go p w (Members.Test.holds t) = rw (Members.T-true {b = keepsSpace g d (h .slot)} t) (record {
+      long = refl;
+      consistent′ = Facts.back g d (w .sound);
+      reserved′ = refl;
+      own = Named.plain-is g d (w .sound) (h .slot) (nameOf g d (h .slot)) (w .file) refl ∙ ap {B = Found} found (trim-kept g d (h .slot) t);
+      others = λ n q. refl;
+    })
+    go p w (Members.Test.fails t) =
+        let k = length (owned g d (h .slot)) - granulesFor (sizeOf g d (h .slot)) in
+        let fit = Change.filed-at g d (w .sound) (h .slot) (w .file) .fits in
+        let x = times-shrank g k d (h .slot) (w .sound) (w .fits) (w .file) (w .user) (omega (arith, fit)) in
+        let d′ = times k (dropOne g (h .slot)) d in
+        rw (Members.no-false {b = keepsSpace g d (h .slot)} t) (record {
+          long = x .long;
+          consistent′ = Facts.back g d′ (x .sound);
+          reserved′ = x .reserved′;
+          own = Named.plain-is g d′ (x .sound) (h .slot) (nameOf g d (h .slot)) (x .file) (x .name) ∙ ap {B = Found} found (trim-done g d d′ (h .slot) t (omega (arith, fit)) x);
+          others = x .others;
+        })

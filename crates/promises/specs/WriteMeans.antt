@@ -1,0 +1,242 @@
+-- Demand 2 of a write: the statement that meaning makes of it
+use mathlib.Core.Path.{_≡_, refl, ap, ap₂, sym, _∙_, subst}
+use mathlib.Core.Logic.{_≢_, _⊎_, inl, inr}
+use mathlib.Core.Bool.{Bool, true, false, not, cond, _&&_, _||_}
+use mathlib.Core.List.{List, [], _∷_, _++_, append-assoc}
+use Prim.Native.Nat.{ℕ, zero, suc, _+_, _-_, _*_, _/_, _%_, _≤_, _<_}
+use native.Mathlib.Omega.{arith}
+use native.Mathlib.Decide.{ℕ-discrete, decLt}
+use lib.Seq.{length-sets}
+use lib.Dec.{T, eqb, leb, ltb, T-not, not-T, eqb→eq, ltb→lt, nltb→le, leb→le}
+use Rattle.meaning.specs.Lists.{count, every, keep, all}
+use Rattle.meaning.specs.Layout
+use Rattle.meaning.specs.Bits
+use Rattle.meaning.specs.Layout.{isSlot, taken, granules, hit}
+use Rattle.meaning.specs.Entries.{system, runs, nameOf}
+use Rattle.meaning.specs.Chain.{chain, owned}
+use Rattle.meaning.specs.Consistent.{consistent}
+use Rattle.meaning.specs.declared.Geometry.{Geometry}
+use Rattle.promises.specs.Members
+use Rattle.promises.specs.Members.{In}
+use Rattle.promises.specs.Facts
+use Rattle.promises.specs.Facts.{Sound, File}
+use Rattle.promises.specs.Entry
+use Rattle.promises.specs.Places
+use Rattle.promises.specs.Change
+use Rattle.promises.specs.Others
+use Rattle.promises.specs.Named
+use Rattle.promises.specs.KillMeans
+use Rattle.meaning.specs.Layout.{byte, field, directoryGranules, granuleBytes, granuleSectors, aboveTen}
+use Rattle.meaning.specs.declared.Handle.{Handle}
+use mathlib.Core.List.{append-nil}
+use native.Mathlib.Nat.{add-zero, add-suc, suc-add}
+use Prim.Native.Nat.{max}
+use mathlib.Core.List.{map}
+use Rattle.promises.specs.Store.{store-length}
+use lib.ListN.{length-set}
+use lib.ListN.{length, getD, set, take, drop, replicate, length-append, length-take, length-map}
+use Rattle.meaning.specs.Lists.{same}
+use Rattle.meaning.specs.Entries.{sizeOf, primary}
+use Rattle.meaning.specs.Chain.{place}
+use Rattle.meaning.specs.Read
+use Rattle.meaning.specs.Write.{writeRecord, sizeAfter, store, withSize}
+use Rattle.meaning.specs.Refusals.{larger, lacking, cannotGrow, first, inRange}
+use Rattle.meaning.specs.Layout.{granulesFor, highest}
+use Rattle.meaning.specs.Plain
+use Rattle.meaning.specs.Plain.{AreBytes, Found, found, nothing, fileAt, plain, hush, with′, reserved, writtenTo, overwritten}
+use Rattle.meaning.specs.declared.Mode.{Mode}
+use Rattle.promises.specs.Grow
+use Rattle.promises.specs.Grow.{Grew}
+use Rattle.promises.specs.Rewrite
+use Rattle.promises.specs.Write
+use Rattle.promises.specs.Over
+use Rattle.promises.specs.Trim.{bytes-length, length-count}
+use Rattle.promises.specs.Words.{words}
+
+-- the data part, on a disk that is large enough
+module _ (g : Geometry) (d : List ℕ) (c : Sound g d) (k : Places.Fits g d) (p : ℕ) (f : File g d p) (u : T (not (system g d p)))
+    (m : Mode) (at : ℕ) (r : List ℕ) (fit : sizeAfter m (sizeOf g d p) (at + length r) ≤ granuleBytes * length (owned g d p)) where
+  abbrev size : ℕ
+  size = sizeAfter m (sizeOf g d p) (at + length r)
+
+  end : at + length r ≤ granuleBytes * length (owned g d p)
+  end = omega (arith, fit, Over.after-end m (sizeOf g d p) (at + length r))
+
+  abbrev d′ : List ℕ
+  d′ = withSize g d (store (place g d p) (store (place g d p) d (sizeOf g d p) (replicate (at - sizeOf g d p) 0)) at r) p size
+
+  rewrites : Rewrite.Rewrites g d d′ p
+  rewrites = Write.write-rewrites g d c k p f u at size r end fit
+
+  change : Change.Change g d d′ p
+  change = Rewrite.rw-change g d d′ c p f rewrites u
+
+  place-same : (j : ℕ) → place g d′ p j ≡ place g d p j
+  unfolding place
+  place-same j = rw (Rewrite.rw-owned g d d′ c p f rewrites)
+
+  abbrev O : List ℕ
+  O = fileAt g d p .bytes
+
+  len-O : length O ≡ sizeOf g d p
+  len-O = bytes-length g d p
+
+  O-at : (j : ℕ) → j < sizeOf g d p → getD O j 0 ≡ Layout.byte d (place g d p j)
+  unfolding fileAt words
+  O-at j h = Over.map-count (λ j. Layout.byte d (place g d p j)) 0 (sizeOf g d p) j h ∙ ap (λ (x : ℕ). Layout.byte d (place g d p x)) (omega arith)
+
+  abbrev G : ℕ → ℕ
+  G j = Layout.byte d′ (place g d p j)
+
+  written-bytes : map G (count 0 (sizeAfter m (length O) (at + length r))) ≡ overwritten m O at r
+  written-bytes = Over.is-overwritten m O at r G
+      (λ j h o. Write.old-in g d c k p f u at size r end fit j (omega (arith, len-O)) o ∙ sym (O-at j (omega (arith, len-O))))
+      (λ j a b. Write.zero-in g d c k p f u at size r end fit j (omega (arith, len-O)) b)
+      (λ j a b. Write.written-in g d c k p f u at size r end fit j a b)
+      (length-map (count 0 (sizeAfter m (length O) (at + length r))) G ∙ length-count 0 (sizeAfter m (length O) (at + length r)))
+
+  own-bytes : fileAt g d′ p .bytes ≡ overwritten m O at r
+  unfolding fileAt words
+  own-bytes = ap (λ (n : ℕ). Read.fetch g d′ p 0 n) (Write.new-size g d c k p f u at size r end fit ∙ ap (λ (n : ℕ). sizeAfter m n (at + length r)) (sym len-O))
+      ∙ Members.map-eq _ _ (count 0 (sizeAfter m (length O) (at + length r))) (λ j i. ap (Layout.byte d′) (place-same j)) ∙ written-bytes
+
+  kept : (j : ℕ) → j < 32 → Rewrite.Kept j → field g d′ p j ≡ field g d p j
+  kept = rewrites .fixed
+
+  own-attributes : fileAt g d′ p .attributes ≡ set (fileAt g d p .attributes) 1 (Bits.withBit 5 (getD (fileAt g d p .attributes) 1 0))
+  unfolding fileAt
+  own-attributes =
+      let at′ : (j : ℕ) → j < 32 → j ≢ 1 → j ≢ 3 → j ≢ 0x14 → j ≢ 0x15 → field g d′ p j ≡ field g d p j = λ j a b v w x. kept j a (record { flags = b; ends = v; low = w; high = x }) in
+      rw (
+        at′ 0 (omega arith) (omega arith) (omega arith) (omega arith) (omega arith),
+        Write.f1 g d c k p f u at size r end fit,
+        at′ 2 (omega arith) (omega arith) (omega arith) (omega arith) (omega arith),
+        at′ 4 (omega arith) (omega arith) (omega arith) (omega arith) (omega arith),
+        at′ 16 (omega arith) (omega arith) (omega arith) (omega arith) (omega arith),
+        at′ 17 (omega arith) (omega arith) (omega arith) (omega arith) (omega arith),
+        at′ 18 (omega arith) (omega arith) (omega arith) (omega arith) (omega arith),
+        at′ 19 (omega arith) (omega arith) (omega arith) (omega arith) (omega arith),
+      )
+
+  own-granules : fileAt g d′ p .granules ≡ length (owned g d p)
+  unfolding fileAt
+  own-granules = ap length (Rewrite.rw-owned g d d′ c p f rewrites)
+
+-- what a write leaves of the file at p, and of the others
+pub record Wrote (g : Geometry) (d d′ : List ℕ) (p : ℕ) (w : Plain.File) : Type 0 where
+  pub long : length d′ ≡ length d
+  pub consistent′ : consistent g d′ ≡ true
+  pub reserved′ : reserved g d′ ≡ reserved g d
+  pub own : plain g d′ (nameOf g d p) ≡ found w
+  pub others : (n : List ℕ) → n ≢ nameOf g d p → hush (plain g d′ n) ≡ hush (plain g d n)
+
+-- growth, then the data part
+module _ (g : Geometry) (d d₁ : List ℕ) (p : ℕ) (m : Mode) (at : ℕ) (r : List ℕ)
+    (x : Grew g d d₁ p (lacking g d p (granulesFor (sizeAfter m (sizeOf g d p) (at + length r))))) where
+  abbrev size₀ : ℕ
+  size₀ = sizeAfter m (sizeOf g d p) (at + length r)
+
+  size₁ : sizeOf g d₁ p ≡ sizeOf g d p
+  unfolding words
+  size₁ = rw (x .low 3 (omega arith), x .low 0x14 (omega arith), x .low 0x15 (omega arith))
+
+  own₁ : length (owned g d₁ p) ≡ length (owned g d p) + lacking g d p (granulesFor size₀)
+  own₁ = ap length (x .owned′) ∙ length-append (owned g d p) (x .new) ∙ ap (λ (y : ℕ). length (owned g d p) + y) (x .many)
+
+  fit₁ : sizeAfter m (sizeOf g d₁ p) (at + length r) ≤ granuleBytes * length (owned g d₁ p)
+  fit₁ = rw size₁ (omega (arith, own₁))
+
+  abbrev img : ℕ → List ℕ
+  img o = withSize g d₁ (store (place g d₁ p) (store (place g d₁ p) d₁ o (replicate (at - o) 0)) at r) p (sizeAfter m o (at + length r))
+
+  written-file : fileAt g (img (sizeOf g d₁ p)) p ≡ writtenTo m at r (fileAt g d p)
+  unfolding writtenTo
+  written-file = λ i. record {
+    attributes = (own-attributes g d₁ (x .sound) (x .fits) p (x .file) (x .user) m at r fit₁ ∙ ap (λ (l : List ℕ). set l 1 (Bits.withBit 5 (getD l 1 0))) (x .attributes)) i;
+    granules = many i;
+    bytes = (own-bytes g d₁ (x .sound) (x .fits) p (x .file) (x .user) m at r fit₁ ∙ ap (λ (l : List ℕ). overwritten m l at r) (x .bytes)) i;
+  }
+    where
+      long : length (overwritten m (fileAt g d p .bytes) at r) ≡ size₀
+      long = Over.overwritten-length m (fileAt g d p .bytes) at r ∙ ap (λ (y : ℕ). sizeAfter m y (at + length r)) (bytes-length g d p)
+
+      many : fileAt g (img (sizeOf g d₁ p)) p .granules ≡ max (fileAt g d p .granules) (granulesFor (length (overwritten m (fileAt g d p .bytes) at r)))
+      many = own-granules g d₁ (x .sound) (x .fits) p (x .file) (x .user) m at r fit₁ ∙ rw long (own₁ ∙ maxed)
+        where
+          maxed : length (owned g d p) + lacking g d p (granulesFor size₀) ≡ max (fileAt g d p .granules) (granulesFor size₀)
+          maxed = unfold fileAt in omega arith
+
+  pub wrote : Wrote g d (img (sizeOf g d₁ p)) p (writtenTo m at r (fileAt g d p))
+  unfolding words
+  wrote =
+      let d₄ = img (sizeOf g d₁ p) in
+      let w = rewrites g d₁ (x .sound) (x .fits) p (x .file) (x .user) m at r fit₁ in
+      let h = change g d₁ (x .sound) (x .fits) p (x .file) (x .user) m at r fit₁ in
+      let s = Change.changed g d₁ d₄ (x .sound) p h in
+      let n = Rewrite.rw-name g d₁ d₄ (x .sound) p (x .file) w ∙ x .name in
+      record {
+        long = simp (length-set, store-length) (x .long);
+        consistent′ = Facts.back g d₄ s;
+        reserved′ = Others.reserved-stays g d₁ d₄ (x .sound) p h ∙ x .reserved′;
+        own = Named.plain-is g d₄ s p (nameOf g d p) (Rewrite.rw-file g d₁ d₄ (x .sound) p (x .file) w) n ∙ ap {B = Found} found written-file;
+        others = λ b q. Others.others-plain g d₁ d₄ (x .sound) p h (Rewrite.rw-same g d₁ d₄ (x .sound) p (x .file) w) b (λ z a. q (sym a ∙ x .name)) (λ z a. q (sym a ∙ n)) ∙ x .others b q;
+      }
+
+pub write-wrote : (g : Geometry) (d : List ℕ) (m : Mode) (h : Handle) (b : List ℕ) → writeRecord g d m h b .0 .number ≡ 0
+    → KillMeans.Holds g d h × Wrote g d (writeRecord g d m h b .1) (h .slot) (writtenTo m (h .at) (take (h .len) b) (fileAt g d (h .slot)))
+unfolding writeRecord words
+write-wrote g d m h b e =
+    let p = h .slot in
+    let r = take (h .len) b in
+    let more = lacking g d p (granulesFor (sizeAfter m (sizeOf g d p) (h .at + h .len))) in
+    let w = KillMeans.holds g d h _ 4 (cannotGrow g d p more) e in
+    let p₁ = KillMeans.passed 1 _ _ (omega arith) e in
+    let p₂ = KillMeans.passed 2 _ _ (omega arith) (p₁ .1) in
+    let p₃ = KillMeans.passed 12 _ _ (omega arith) (p₂ .1) in
+    let fit : Bool = all (leb (h .at + h .len) highest ∷ leb (h .len) (length b) ∷ []) in
+    let range : T (inRange h && fit) = KillMeans.yes-T (inRange h && fit) (p₃ .0) in
+    let short = leb→le (h .len) (length b) (Members.all-second (leb (h .at + h .len) highest) (leb (h .len) (length b)) (Members.and-r (inRange h) fit range)) in
+    let lr : length r ≡ h .len = length-take (h .len) b ∙ omega arith in
+    let d₁ = larger g d p more in
+    let x : Grew g d d₁ p more = Grow.larger-grew g d h more (w .0) (w .1) in
+    let y : Grew g d d₁ p (lacking g d p (granulesFor (sizeAfter m (sizeOf g d p) (h .at + length r)))) =
+    subst (λ (l : ℕ). Grew g d d₁ p (lacking g d p (granulesFor (sizeAfter m (sizeOf g d p) (h .at + l))))) (sym lr) x in
+    let image : ℕ → ℕ → List ℕ = λ o l. withSize g d (store (place g d₁ p) (store (place g d₁ p) d₁ o (replicate (h .at - o) 0)) (h .at) r) p (sizeAfter m o (h .at + l)) in
+    let same′ : image (sizeOf g d₁ p) (length r) ≡ image (sizeOf g d p) (h .len) = ap₂ image (size₁ g d d₁ p m (h .at) r y) lr in
+    (w .0, rw e (subst (λ (i : List ℕ). Wrote g d i p (writtenTo m (h .at) r (fileAt g d p))) same′ (wrote g d d₁ p m (h .at) r y)))
+
+found-inj : (a b : Plain.File) → found a ≡ found b → a ≡ b
+found-inj a b e = cc
+
+-- Demand 2 of a write, as one statement
+pub WriteMeans : Type 0
+WriteMeans =
+    (g : Geometry) (d : List ℕ) (m : Mode) (h : Handle) (b : List ℕ) → AreBytes d → AreBytes b
+    → writeRecord g d m h b .0 .number ≡ 0
+    → (f : Plain.File) → plain g d (h .name) ≡ found f
+    → let d′ = writeRecord g d m h b .1 in
+    (consistent g d′ ≡ true)
+    × (reserved g d′ ≡ reserved g d)
+    × ((n : List ℕ) → hush (plain g d′ n) ≡ hush (with′ (plain g d) (h .name) (found (writtenTo m (h .at) (take (h .len) b) f)) n))
+
+pub write-means : WriteMeans
+unfolding WriteMeans
+write-means g d m h b ad ab e f q =
+    let w = write-wrote g d m h b e in
+    let k = w .0 in let x = w .1 in
+    let i : f ≡ fileAt g d (h .slot) = sym (found-inj _ _ (sym (Named.plain-is g d (k .sound) (h .slot) (h .name) (k .file) (k .name′)) ∙ q)) in
+    (x .consistent′, x .reserved′, λ n. rw i (go k x n (Members.decide (same n (h .name)))))
+  where
+    go : KillMeans.Holds g d h → Wrote g d (writeRecord g d m h b .1) (h .slot) (writtenTo m (h .at) (take (h .len) b) (fileAt g d (h .slot))) → (n : List ℕ) → Members.Test (same n (h .name))
+        → hush (plain g (writeRecord g d m h b .1) n) ≡ hush (with′ (plain g d) (h .name) (found (writtenTo m (h .at) (take (h .len) b) (fileAt g d (h .slot)))) n)
+    go k x n (Members.Test.holds t) =
+        let z : n ≡ nameOf g d (h .slot) = Members.same-eq n (h .name) t ∙ sym (k .name′) in
+        ap hush (ap (plain g (writeRecord g d m h b .1)) z ∙ x .own) ∙ ap hush (sym (with-own t))
+      where
+        with-own : T (same n (h .name)) → with′ (plain g d) (h .name) (found (writtenTo m (h .at) (take (h .len) b) (fileAt g d (h .slot)))) n ≡ found (writtenTo m (h .at) (take (h .len) b) (fileAt g d (h .slot)))
+        with-own t = unfold with′ in rw (Members.T-true {b = same n (h .name)} t)
+    go k x n (Members.Test.fails t) =
+        x .others n (λ z. t (subst (λ (l : List ℕ). T (same n l)) (z ∙ k .name′) (Members.same-refl n))) ∙ ap hush (sym with-other)
+      where
+        with-other : with′ (plain g d) (h .name) (found (writtenTo m (h .at) (take (h .len) b) (fileAt g d (h .slot)))) n ≡ plain g d n
+        with-other = unfold with′ in rw (Members.no-false {b = same n (h .name)} t)
