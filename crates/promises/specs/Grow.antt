@@ -19,24 +19,24 @@ use Rattle.meaning.specs.Free.{freeGranules, freeSlots}
 use Rattle.meaning.specs.Lists.{firstOr}
 use Rattle.meaning.specs.Plain.{fileAt, plain, hush, reserved}
 use Rattle.meaning.specs.declared.Geometry.{Geometry}
-use Rattle.promises.specs.Members
-use Rattle.promises.specs.Members.{In}
-use Rattle.promises.specs.Facts
-use Rattle.promises.specs.Facts.{Sound, File}
-use Rattle.promises.specs.Entry
-use Rattle.promises.specs.Places
-use Rattle.promises.specs.Change
-use Rattle.promises.specs.Others
-use Rattle.promises.specs.Create
-use Rattle.promises.specs.Longer
-use Rattle.promises.specs.Tail
-use Rattle.promises.specs.Take
-use Rattle.promises.specs.Extend
-use Rattle.promises.specs.TakeNew
-use Rattle.promises.specs.TakeOne
-use Rattle.promises.specs.TakeOne.{Took}
-use Rattle.promises.specs.Named
-use Rattle.promises.specs.KillMeans
+use Rattle.laws.specs.Members
+use Rattle.laws.specs.Members.{In}
+use Rattle.laws.specs.Facts
+use Rattle.laws.specs.Facts.{Sound, File}
+use Rattle.laws.specs.Entry
+use Rattle.laws.specs.Places
+use Rattle.laws.specs.Change
+use Rattle.laws.specs.Others
+use Rattle.laws.specs.Create
+use Rattle.laws.specs.Longer
+use Rattle.laws.specs.Tail
+use Rattle.laws.specs.Take
+use Rattle.laws.specs.Extend
+use Rattle.laws.specs.TakeNew
+use Rattle.laws.specs.TakeOne
+use Rattle.laws.specs.TakeOne.{Took}
+use Rattle.laws.specs.Named
+use Rattle.laws.specs.KillMeans
 use Rattle.meaning.specs.Layout.{byte, field, directoryGranules, granuleBytes, granuleSectors, aboveTen}
 use Rattle.meaning.specs.Growth.{fails, diskOr}
 use Rattle.meaning.specs.Allot.{allot}
@@ -46,7 +46,7 @@ use Rattle.meaning.specs.declared.Handle.{Handle}
 use mathlib.Core.List.{append-nil}
 use native.Mathlib.Nat.{add-zero, add-suc, suc-add}
 use Prim.Native.Nat.{max}
-use Rattle.promises.specs.Words.{words}
+use Rattle.laws.specs.Words.{words}
 
 -- the file at p has k granules more, and all else is as it was
 pub record Grew (g : Geometry) (d d′ : List ℕ) (p k : ℕ) : Type 0 where

@@ -16,10 +16,10 @@ use Rattle.meaning.specs.Refusals.{first}
 use Rattle.meaning.specs.Plain.{fileAt}
 use Rattle.meaning.specs.declared.Geometry.{Geometry}
 use Rattle.meaning.specs.declared.Handle.{Handle}
-use Rattle.promises.specs.KillMeans
+use Rattle.laws.specs.KillMeans
 use Rattle.promises.specs.Over
 use Rattle.promises.specs.Trim.{length-count}
-use Rattle.promises.specs.Words.{words}
+use Rattle.laws.specs.Words.{words}
 
 part-of : (G : ℕ → ℕ) (i n s : ℕ) → i + n ≤ s → map G (count i n) ≡ take n (drop i (map G (count 0 s)))
 part-of G i n s h = ext-getD 0 (map G (count i n)) (take n (drop i (map G (count 0 s)))) (left ∙ sym right) (λ j b. point j (omega (arith, left)))

@@ -26,7 +26,7 @@ use Rattle.meaning.specs.declared.Handle.{Handle}
 use Rattle.meaning.specs.declared.NewFile.{NewFile}
 use Rattle.meaning.specs.declared.Mode.{Mode}
 use Rattle.meaning.specs.declared.Mode.the-variants.{Sequential, Random}
-use Rattle.promises.specs.Words.{words}
+use Rattle.laws.specs.Words.{words}
 
 abbrev tiny : Geometry
 tiny = record { blocks = 2; units = 2; start = 0; anyone = 0 }

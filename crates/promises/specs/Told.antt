@@ -18,8 +18,8 @@ use Rattle.meaning.specs.declared.NewFile.{NewFile}
 use Rattle.meaning.specs.declared.Mode.{Mode}
 use Rattle.meaning.specs.declared.Answer.{Answer}
 use Rattle.meaning.specs.declared.Created.{Created}
-use Rattle.promises.specs.KillMeans
-use Rattle.promises.specs.Create
+use Rattle.laws.specs.KillMeans
+use Rattle.laws.specs.Create
 use Rattle.promises.specs.Grow
 use Rattle.promises.specs.Trim
 use Rattle.promises.specs.Read

@@ -16,16 +16,16 @@ use Rattle.meaning.specs.Chain.{chain, owned}
 use Rattle.meaning.specs.Consistent.{consistent}
 use Rattle.meaning.specs.Plain.{fileAt, plain, hush, reserved}
 use Rattle.meaning.specs.declared.Geometry.{Geometry}
-use Rattle.promises.specs.Members
-use Rattle.promises.specs.Members.{In}
-use Rattle.promises.specs.Facts
-use Rattle.promises.specs.Facts.{Sound, File}
-use Rattle.promises.specs.Entry
-use Rattle.promises.specs.Places
-use Rattle.promises.specs.Change
-use Rattle.promises.specs.Others
-use Rattle.promises.specs.Named
-use Rattle.promises.specs.KillMeans
+use Rattle.laws.specs.Members
+use Rattle.laws.specs.Members.{In}
+use Rattle.laws.specs.Facts
+use Rattle.laws.specs.Facts.{Sound, File}
+use Rattle.laws.specs.Entry
+use Rattle.laws.specs.Places
+use Rattle.laws.specs.Change
+use Rattle.laws.specs.Others
+use Rattle.laws.specs.Named
+use Rattle.laws.specs.KillMeans
 use Rattle.meaning.specs.Layout.{byte, field, directoryGranules, granuleBytes, granuleSectors, aboveTen}
 use Rattle.meaning.specs.declared.Handle.{Handle}
 use mathlib.Core.List.{append-nil}
@@ -40,11 +40,11 @@ use Rattle.meaning.specs.Trim.{trim}
 use Rattle.meaning.specs.Layout.{granulesFor}
 use Rattle.meaning.specs.Refusals.{first}
 use Rattle.meaning.specs.Plain.{Found, found, trimmed}
-use Rattle.promises.specs.Shorter
-use Rattle.promises.specs.DropLast
-use Rattle.promises.specs.DropLast.{Dropped}
+use Rattle.laws.specs.Shorter
+use Rattle.laws.specs.DropLast
+use Rattle.laws.specs.DropLast.{Dropped}
 use lib.ListN.{length-map}
-use Rattle.promises.specs.Words.{words}
+use Rattle.laws.specs.Words.{words}
 
 -- the file at p has lost its last k granules, and all else is as it was
 pub record Shrank (g : Geometry) (d d′ : List ℕ) (p k : ℕ) : Type 0 where

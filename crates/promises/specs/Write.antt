@@ -18,17 +18,17 @@ use Rattle.meaning.specs.Entries.{extension, sizeOf, block, firstUnit, runStart
 use Rattle.meaning.specs.Chain.{chain, owned}
 use Rattle.meaning.specs.Growth.{tail}
 use Rattle.meaning.specs.declared.Geometry.{Geometry}
-use Rattle.promises.specs.Members
-use Rattle.promises.specs.Members.{In, Distinct}
-use Rattle.promises.specs.Facts
-use Rattle.promises.specs.Facts.{Sound, File}
-use Rattle.promises.specs.Entry
-use Rattle.promises.specs.Frame
-use Rattle.promises.specs.Frame.{Agree}
-use Rattle.promises.specs.Places
-use Rattle.promises.specs.Change
-use Rattle.promises.specs.Take
-use Rattle.promises.specs.Others
+use Rattle.laws.specs.Members
+use Rattle.laws.specs.Members.{In, Distinct}
+use Rattle.laws.specs.Facts
+use Rattle.laws.specs.Facts.{Sound, File}
+use Rattle.laws.specs.Entry
+use Rattle.laws.specs.Frame
+use Rattle.laws.specs.Frame.{Agree}
+use Rattle.laws.specs.Places
+use Rattle.laws.specs.Change
+use Rattle.laws.specs.Take
+use Rattle.laws.specs.Others
 use Rattle.meaning.specs.Entries
 use Rattle.meaning.specs.Layout.{slots}
 use Rattle.meaning.specs.Chain.{place}
@@ -36,9 +36,9 @@ use lib.ListN.{replicate, length-replicate, getD-replicate}
 use Rattle.meaning.specs.Entries.{system, sectorCount, endByte}
 use Rattle.meaning.specs.Write.{store, withSize}
 use Rattle.meaning.specs.Layout.{roundUp}
-use Rattle.promises.specs.Rewrite
-use Rattle.promises.specs.Store.{store-length, store-other, store-at, place-inj, place-lt}
-use Rattle.promises.specs.Words.{words}
+use Rattle.laws.specs.Rewrite
+use Rattle.laws.specs.Store.{store-length, store-other, store-at, place-inj, place-lt}
+use Rattle.laws.specs.Words.{words}
 
 -- a place of the directory is in one of its granules
 pub in-directory : (g : Geometry) (d : List ℕ) (i : ℕ) → g .start % 5 ≡ 0 → Places.Dir g d → 256 * g .start ≤ i → i < 256 * (g .start + directorySectors g d) → In (i / granuleBytes) (directoryGranules g d)

@@ -16,23 +16,23 @@ use Rattle.meaning.specs.Entries.{system, runs, nameOf}
 use Rattle.meaning.specs.Chain.{chain, owned}
 use Rattle.meaning.specs.Consistent.{consistent}
 use Rattle.meaning.specs.declared.Geometry.{Geometry}
-use Rattle.promises.specs.Members
-use Rattle.promises.specs.Members.{In}
-use Rattle.promises.specs.Facts
-use Rattle.promises.specs.Facts.{Sound, File}
-use Rattle.promises.specs.Entry
-use Rattle.promises.specs.Places
-use Rattle.promises.specs.Change
-use Rattle.promises.specs.Others
-use Rattle.promises.specs.Named
-use Rattle.promises.specs.KillMeans
+use Rattle.laws.specs.Members
+use Rattle.laws.specs.Members.{In}
+use Rattle.laws.specs.Facts
+use Rattle.laws.specs.Facts.{Sound, File}
+use Rattle.laws.specs.Entry
+use Rattle.laws.specs.Places
+use Rattle.laws.specs.Change
+use Rattle.laws.specs.Others
+use Rattle.laws.specs.Named
+use Rattle.laws.specs.KillMeans
 use Rattle.meaning.specs.Layout.{byte, field, directoryGranules, granuleBytes, granuleSectors, aboveTen}
 use Rattle.meaning.specs.declared.Handle.{Handle}
 use mathlib.Core.List.{append-nil}
 use native.Mathlib.Nat.{add-zero, add-suc, suc-add}
 use Prim.Native.Nat.{max}
 use mathlib.Core.List.{map}
-use Rattle.promises.specs.Store.{store-length}
+use Rattle.laws.specs.Store.{store-length}
 use lib.ListN.{length-set}
 use lib.ListN.{length, getD, set, take, drop, replicate, length-append, length-take, length-map}
 use Rattle.meaning.specs.Lists.{same}
@@ -47,11 +47,11 @@ use Rattle.meaning.specs.Plain.{AreBytes, Found, found, nothing, fileAt, plain,
 use Rattle.meaning.specs.declared.Mode.{Mode}
 use Rattle.promises.specs.Grow
 use Rattle.promises.specs.Grow.{Grew}
-use Rattle.promises.specs.Rewrite
+use Rattle.laws.specs.Rewrite
 use Rattle.promises.specs.Write
 use Rattle.promises.specs.Over
 use Rattle.promises.specs.Trim.{bytes-length, length-count}
-use Rattle.promises.specs.Words.{words}
+use Rattle.laws.specs.Words.{words}
 
 -- the data part, on a disk that is large enough
 module _ (g : Geometry) (d : List ℕ) (c : Sound g d) (k : Places.Fits g d) (p : ℕ) (f : File g d p) (u : T (not (system g d p)))

@@ -16,17 +16,17 @@ use Rattle.meaning.specs.Entries.{marker, link, runs}
 use Rattle.meaning.specs.Chain.{chain, owned}
 use Rattle.meaning.specs.Growth.{tail, withPair, withExtension, newExtension}
 use Rattle.meaning.specs.declared.Geometry.{Geometry}
-use Rattle.promises.specs.Members
-use Rattle.promises.specs.Members.{In}
-use Rattle.promises.specs.Facts
-use Rattle.promises.specs.Facts.{Sound, File}
-use Rattle.promises.specs.Frame.{Agree}
-use Rattle.promises.specs.Places
-use Rattle.promises.specs.Change
-use Rattle.promises.specs.Create
-use Rattle.promises.specs.Take
-use Rattle.promises.specs.Extend
-use Rattle.promises.specs.Words.{words}
+use Rattle.laws.specs.Members
+use Rattle.laws.specs.Members.{In}
+use Rattle.laws.specs.Facts
+use Rattle.laws.specs.Facts.{Sound, File}
+use Rattle.laws.specs.Frame.{Agree}
+use Rattle.laws.specs.Places
+use Rattle.laws.specs.Change
+use Rattle.laws.specs.Create
+use Rattle.laws.specs.Take
+use Rattle.laws.specs.Extend
+use Rattle.laws.specs.Words.{words}
 
 new-ffs : (g : Geometry) (p e k : ℕ) → 0x16 ≤ k → k < 32 → getD (newExtension g p e) k 0 ≡ 0xff
 new-ffs g p e k a b = eqb→eq _ _ (Members.every-all (λ k. eqb (getD (newExtension g p e) k 0) 0xff) {xs = count 0x16 10} tt (Members.in-count k 0x16 10 a (omega arith)))

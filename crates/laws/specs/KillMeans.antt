@@ -19,15 +19,15 @@ use Rattle.meaning.specs.Kill.{killed}
 use Rattle.meaning.specs.Plain.{Found, found, nothing, File, fileAt, plain, hush, with′, reserved}
 use Rattle.meaning.specs.declared.Geometry.{Geometry}
 use Rattle.meaning.specs.declared.Handle.{Handle}
-use Rattle.promises.specs.Members
-use Rattle.promises.specs.Members.{In}
-use Rattle.promises.specs.Counting
-use Rattle.promises.specs.Facts
-use Rattle.promises.specs.Places
-use Rattle.promises.specs.Change
-use Rattle.promises.specs.Others
-use Rattle.promises.specs.Kill
-use Rattle.promises.specs.Words.{words}
+use Rattle.laws.specs.Members
+use Rattle.laws.specs.Members.{In}
+use Rattle.laws.specs.Counting
+use Rattle.laws.specs.Facts
+use Rattle.laws.specs.Places
+use Rattle.laws.specs.Change
+use Rattle.laws.specs.Others
+use Rattle.laws.specs.Kill
+use Rattle.laws.specs.Words.{words}
 
 -- a refusal that was not given does not apply
 pub passed : (n : ℕ) (b : Bool) (cs : List (ℕ × Bool)) → n ≢ 0 → first ((n, b) ∷ cs) ≡ 0 → (T b → ⊥) × (first cs ≡ 0)

@@ -26,21 +26,21 @@ use Rattle.meaning.specs.Refusals.{first}
 use Rattle.meaning.specs.Plain.{Found, found, nothing, fileAt, plain, hush, reserved, bornAs}
 use Rattle.meaning.specs.declared.Geometry.{Geometry}
 use Rattle.meaning.specs.declared.NewFile.{NewFile}
-use Rattle.promises.specs.Members
-use Rattle.promises.specs.Members.{In, Distinct}
-use Rattle.promises.specs.Bits
-use Rattle.promises.specs.Facts
-use Rattle.promises.specs.Facts.{File, Sound}
-use Rattle.promises.specs.Entry
-use Rattle.promises.specs.Frame
-use Rattle.promises.specs.Frame.{Agree}
-use Rattle.promises.specs.Places
-use Rattle.promises.specs.Change
-use Rattle.promises.specs.Change.{entriesOf, granulesOf}
-use Rattle.promises.specs.Named
-use Rattle.promises.specs.Others
-use Rattle.promises.specs.KillMeans
-use Rattle.promises.specs.Words.{words}
+use Rattle.laws.specs.Members
+use Rattle.laws.specs.Members.{In, Distinct}
+use Rattle.laws.specs.Bits
+use Rattle.laws.specs.Facts
+use Rattle.laws.specs.Facts.{File, Sound}
+use Rattle.laws.specs.Entry
+use Rattle.laws.specs.Frame
+use Rattle.laws.specs.Frame.{Agree}
+use Rattle.laws.specs.Places
+use Rattle.laws.specs.Change
+use Rattle.laws.specs.Change.{entriesOf, granulesOf}
+use Rattle.laws.specs.Named
+use Rattle.laws.specs.Others
+use Rattle.laws.specs.KillMeans
+use Rattle.laws.specs.Words.{words}
 
 -- an entry of 32 bytes and its HIT byte written whole
 unfoldable pub withEntry : Geometry → List ℕ → ℕ → List ℕ → ℕ → List ℕ

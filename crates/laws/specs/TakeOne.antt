@@ -19,21 +19,21 @@ use Rattle.meaning.specs.Free.{freeGranules, freeSlots}
 use Rattle.meaning.specs.Lists.{firstOr}
 use Rattle.meaning.specs.Plain.{fileAt, plain, hush, reserved}
 use Rattle.meaning.specs.declared.Geometry.{Geometry}
-use Rattle.promises.specs.Members
-use Rattle.promises.specs.Members.{In}
-use Rattle.promises.specs.Facts
-use Rattle.promises.specs.Facts.{Sound, File}
-use Rattle.promises.specs.Entry
-use Rattle.promises.specs.Places
-use Rattle.promises.specs.Change
-use Rattle.promises.specs.Others
-use Rattle.promises.specs.Create
-use Rattle.promises.specs.Longer
-use Rattle.promises.specs.Tail
-use Rattle.promises.specs.Take
-use Rattle.promises.specs.Extend
-use Rattle.promises.specs.TakeNew
-use Rattle.promises.specs.Words.{words}
+use Rattle.laws.specs.Members
+use Rattle.laws.specs.Members.{In}
+use Rattle.laws.specs.Facts
+use Rattle.laws.specs.Facts.{Sound, File}
+use Rattle.laws.specs.Entry
+use Rattle.laws.specs.Places
+use Rattle.laws.specs.Change
+use Rattle.laws.specs.Others
+use Rattle.laws.specs.Create
+use Rattle.laws.specs.Longer
+use Rattle.laws.specs.Tail
+use Rattle.laws.specs.Take
+use Rattle.laws.specs.Extend
+use Rattle.laws.specs.TakeNew
+use Rattle.laws.specs.Words.{words}
 
 -- a granule taken: which, and what it means
 pub record Took (g : Geometry) (d d′ : List ℕ) (p : ℕ) : Type 0 where

@@ -17,19 +17,19 @@ use Rattle.meaning.specs.Entries.{inUse, system, nameOf}
 use Rattle.meaning.specs.Chain.{chain, owned}
 use Rattle.meaning.specs.Kill.{killEntry, killed}
 use Rattle.meaning.specs.declared.Geometry.{Geometry}
-use Rattle.promises.specs.Members
-use Rattle.promises.specs.Members.{In, Distinct}
-use Rattle.promises.specs.Bits
-use Rattle.promises.specs.Facts
-use Rattle.promises.specs.Facts.{File, Sound}
-use Rattle.promises.specs.Entry
-use Rattle.promises.specs.Frame
-use Rattle.promises.specs.Frame.{Agree}
-use Rattle.promises.specs.Places
-use Rattle.promises.specs.Change
-use Rattle.promises.specs.Change.{entriesOf, granulesOf}
-use Rattle.promises.specs.Others
-use Rattle.promises.specs.Words.{words}
+use Rattle.laws.specs.Members
+use Rattle.laws.specs.Members.{In, Distinct}
+use Rattle.laws.specs.Bits
+use Rattle.laws.specs.Facts
+use Rattle.laws.specs.Facts.{File, Sound}
+use Rattle.laws.specs.Entry
+use Rattle.laws.specs.Frame
+use Rattle.laws.specs.Frame.{Agree}
+use Rattle.laws.specs.Places
+use Rattle.laws.specs.Change
+use Rattle.laws.specs.Change.{entriesOf, granulesOf}
+use Rattle.laws.specs.Others
+use Rattle.laws.specs.Words.{words}
 
 -- one entry let go
 killEntry-byte : (g : Geometry) (d l : List ℕ) (x i : ℕ) → i ≢ hitAt g x → i ≢ entryAt g x + 0 → byte (killEntry g l x) i ≡ byte l i

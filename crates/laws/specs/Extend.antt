@@ -19,21 +19,21 @@ use Rattle.meaning.specs.Free.{freeGranules}
 use Rattle.meaning.specs.Read.{fetch}
 use Rattle.meaning.specs.Plain.{File, fileAt}
 use Rattle.meaning.specs.declared.Geometry.{Geometry}
-use Rattle.promises.specs.Members
-use Rattle.promises.specs.Members.{In, Distinct}
-use Rattle.promises.specs.Counting
-use Rattle.promises.specs.Facts
-use Rattle.promises.specs.Facts.{Sound}
-use Rattle.promises.specs.Entry
-use Rattle.promises.specs.Frame
-use Rattle.promises.specs.Frame.{Agree}
-use Rattle.promises.specs.Places
-use Rattle.promises.specs.Change
-use Rattle.promises.specs.Change.{entriesOf, granulesOf}
-use Rattle.promises.specs.Longer
+use Rattle.laws.specs.Members
+use Rattle.laws.specs.Members.{In, Distinct}
+use Rattle.laws.specs.Counting
+use Rattle.laws.specs.Facts
+use Rattle.laws.specs.Facts.{Sound}
+use Rattle.laws.specs.Entry
+use Rattle.laws.specs.Frame
+use Rattle.laws.specs.Frame.{Agree}
+use Rattle.laws.specs.Places
+use Rattle.laws.specs.Change
+use Rattle.laws.specs.Change.{entriesOf, granulesOf}
+use Rattle.laws.specs.Longer
 use native.Mathlib.Nat.{mod-lt}
-use Rattle.promises.specs.Take.{run-start}
-use Rattle.promises.specs.Words.{words}
+use Rattle.laws.specs.Take.{run-start}
+use Rattle.laws.specs.Words.{words}
 
 pub record Extends (g : Geometry) (d d′ : List ℕ) (p x m : ℕ) : Type 0 where
   pub above : aboveTen g d′ ≡ aboveTen g d

@@ -16,8 +16,8 @@ use Rattle.meaning.specs.Entries.{inUse, system, block, marker, link, runs, run
 use Rattle.meaning.specs.Chain.{chain, chainFrom, owned}
 use Rattle.meaning.specs.Consistent.{pairsHold, follows, linkHolds, runsHold, gatHolds, entryHolds, nameHolds, hashHolds, sizeHolds, offDirectory, fileHolds}
 use Rattle.meaning.specs.declared.Geometry.{Geometry}
-use Rattle.promises.specs.Members
-use Rattle.promises.specs.Words.{words}
+use Rattle.laws.specs.Members
+use Rattle.laws.specs.Words.{words}
 
 pub record Follows (g : Geometry) (d : List ℕ) (s x : ℕ) : Type 0 where
   pub slot : T (isSlot g d x)

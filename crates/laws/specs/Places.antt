@@ -17,11 +17,11 @@ use Rattle.meaning.specs.Bits.{bit, digit, putDigit}
 use Rattle.meaning.specs.Entries.{runs, runStart, runLength, runGranules, entryGranules}
 use Rattle.meaning.specs.Consistent.{lengthHolds}
 use Rattle.meaning.specs.declared.Geometry.{Geometry}
-use Rattle.promises.specs.Members
-use Rattle.promises.specs.Members.{In, Distinct}
-use Rattle.promises.specs.Bits
-use Rattle.promises.specs.Entry
-use Rattle.promises.specs.Words.{words}
+use Rattle.laws.specs.Members
+use Rattle.laws.specs.Members.{In, Distinct}
+use Rattle.laws.specs.Bits
+use Rattle.laws.specs.Entry
+use Rattle.laws.specs.Words.{words}
 
 pub record Fits (g : Geometry) (d : List ℕ) : Type 0 where
   pub blocks-lo : 1 ≤ g .blocks

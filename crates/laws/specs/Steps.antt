@@ -16,12 +16,12 @@ use Rattle.meaning.specs.Free.{freeGranules}
 use Rattle.meaning.specs.Growth.{takeOne, grown}
 use Rattle.meaning.specs.Drop.{dropOne}
 use Rattle.meaning.specs.declared.Geometry.{Geometry}
-use Rattle.promises.specs.Members
-use Rattle.promises.specs.Facts
-use Rattle.promises.specs.Places
-use Rattle.promises.specs.Change
-use Rattle.promises.specs.TakeOne
-use Rattle.promises.specs.DropLast
+use Rattle.laws.specs.Members
+use Rattle.laws.specs.Facts
+use Rattle.laws.specs.Places
+use Rattle.laws.specs.Change
+use Rattle.laws.specs.TakeOne
+use Rattle.laws.specs.DropLast
 
 -- what a call by a handle has passed, of the disk d and the file at slot p
 pub record Ready (g : Geometry) (d : List ℕ) (p : ℕ) : Type 0 where

@@ -15,10 +15,10 @@ use Rattle.meaning.specs.Entries.{inUse, system, primary, block, marker, link, 
 use Rattle.meaning.specs.Chain.{chain, chainFrom, owned}
 use Rattle.meaning.specs.Consistent.{hashHolds, fileHolds}
 use Rattle.meaning.specs.declared.Geometry.{Geometry}
-use Rattle.promises.specs.Members
-use Rattle.promises.specs.Facts.{File}
-use Rattle.promises.specs.Entry
-use Rattle.promises.specs.Words.{words}
+use Rattle.laws.specs.Members
+use Rattle.laws.specs.Facts.{File}
+use Rattle.laws.specs.Entry
+use Rattle.laws.specs.Words.{words}
 
 -- the entry at s is the same in both
 abbrev pub Agree : Geometry → List ℕ → List ℕ → ℕ → Type 0

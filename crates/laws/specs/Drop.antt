@@ -19,21 +19,21 @@ use Rattle.meaning.specs.Entries.{extension, sizeOf, block, firstUnit, runStart
 use Rattle.meaning.specs.Chain.{chain, owned}
 use Rattle.meaning.specs.Growth.{tail}
 use Rattle.meaning.specs.declared.Geometry.{Geometry}
-use Rattle.promises.specs.Members
-use Rattle.promises.specs.Members.{In, Distinct}
-use Rattle.promises.specs.Facts
-use Rattle.promises.specs.Facts.{Sound, File}
-use Rattle.promises.specs.Entry
-use Rattle.promises.specs.Frame
-use Rattle.promises.specs.Frame.{Agree}
-use Rattle.promises.specs.Places
-use Rattle.promises.specs.Change
-use Rattle.promises.specs.Shrink
-use Rattle.promises.specs.Take
-use Rattle.promises.specs.Others
+use Rattle.laws.specs.Members
+use Rattle.laws.specs.Members.{In, Distinct}
+use Rattle.laws.specs.Facts
+use Rattle.laws.specs.Facts.{Sound, File}
+use Rattle.laws.specs.Entry
+use Rattle.laws.specs.Frame
+use Rattle.laws.specs.Frame.{Agree}
+use Rattle.laws.specs.Places
+use Rattle.laws.specs.Change
+use Rattle.laws.specs.Shrink
+use Rattle.laws.specs.Take
+use Rattle.laws.specs.Others
 use Rattle.meaning.specs.Entries
 use Rattle.meaning.specs.Layout.{slots}
-use Rattle.promises.specs.Words.{words}
+use Rattle.laws.specs.Words.{words}
 
 -- a file that owns something has a run in its last entry
 module _ (g : Geometry) (d : List ℕ) (c : Sound g d) (p : ℕ) (f : File g d p) where

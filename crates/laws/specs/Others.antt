@@ -16,16 +16,16 @@ use Rattle.meaning.specs.Chain.{owned, files, place}
 use Rattle.meaning.specs.Read.{fetch}
 use Rattle.meaning.specs.Plain.{Found, found, nothing, fileAt, plain, hush, reserved}
 use Rattle.meaning.specs.declared.Geometry.{Geometry}
-use Rattle.promises.specs.Members
-use Rattle.promises.specs.Members.{In}
-use Rattle.promises.specs.Facts
-use Rattle.promises.specs.Facts.{File, Sound}
-use Rattle.promises.specs.Entry
-use Rattle.promises.specs.Frame
-use Rattle.promises.specs.Change
-use Rattle.promises.specs.Change.{entriesOf, granulesOf}
-use Rattle.promises.specs.Named
-use Rattle.promises.specs.Words.{words}
+use Rattle.laws.specs.Members
+use Rattle.laws.specs.Members.{In}
+use Rattle.laws.specs.Facts
+use Rattle.laws.specs.Facts.{File, Sound}
+use Rattle.laws.specs.Entry
+use Rattle.laws.specs.Frame
+use Rattle.laws.specs.Change
+use Rattle.laws.specs.Change.{entriesOf, granulesOf}
+use Rattle.laws.specs.Named
+use Rattle.laws.specs.Words.{words}
 
 pub getD-in : (xs : List ℕ) (i : ℕ) → i < length xs → In (getD xs i 0) xs
 getD-in [] i h = absurd (omega arith)

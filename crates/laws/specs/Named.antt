@@ -15,13 +15,13 @@ use Rattle.meaning.specs.Chain.{chain}
 use Rattle.meaning.specs.LookUp.{candidates, carries, named, missing}
 use Rattle.meaning.specs.Plain.{Found, found, nothing, fileAt, foundIn, plain}
 use Rattle.meaning.specs.declared.Geometry.{Geometry}
-use Rattle.promises.specs.Members
-use Rattle.promises.specs.Members.{In}
-use Rattle.promises.specs.Facts
-use Rattle.promises.specs.Facts.{File, Sound}
-use Rattle.promises.specs.Entry
-use Rattle.promises.specs.Change
-use Rattle.promises.specs.Words.{words}
+use Rattle.laws.specs.Members
+use Rattle.laws.specs.Members.{In}
+use Rattle.laws.specs.Facts
+use Rattle.laws.specs.Facts.{File, Sound}
+use Rattle.laws.specs.Entry
+use Rattle.laws.specs.Change
+use Rattle.laws.specs.Words.{words}
 
 only : (p : ℕ) (xs : List ℕ) → In p xs → ((x : ℕ) → In x xs → x ≡ p) → take 1 xs ≡ p ∷ []
 only p [] i f = Members.none-in i

@@ -18,15 +18,15 @@ use Rattle.meaning.specs.Consistent.{hitHolds, entryHolds, fileHolds}
 use Rattle.meaning.specs.Growth.{tail}
 use Rattle.meaning.specs.Lists.{lastOr}
 use Rattle.meaning.specs.declared.Geometry.{Geometry}
-use Rattle.promises.specs.Members
-use Rattle.promises.specs.Members.{In, Distinct}
-use Rattle.promises.specs.Facts
-use Rattle.promises.specs.Facts.{File, Sound}
-use Rattle.promises.specs.Entry
-use Rattle.promises.specs.Frame
-use Rattle.promises.specs.Places
-use Rattle.promises.specs.Frame.{Agree}
-use Rattle.promises.specs.Words.{words}
+use Rattle.laws.specs.Members
+use Rattle.laws.specs.Members.{In, Distinct}
+use Rattle.laws.specs.Facts
+use Rattle.laws.specs.Facts.{File, Sound}
+use Rattle.laws.specs.Entry
+use Rattle.laws.specs.Frame
+use Rattle.laws.specs.Places
+use Rattle.laws.specs.Frame.{Agree}
+use Rattle.laws.specs.Words.{words}
 
 -- the entries, and the granules, of the file at slot p; none if there is no file at p
 unfoldable pub entriesOf : Geometry → List ℕ → ℕ → List ℕ

@@ -13,8 +13,8 @@ use Rattle.meaning.specs.Entries.{inUse, primary, extension, nameOf}
 use Rattle.meaning.specs.Chain.{chain, owned, files}
 use Rattle.meaning.specs.Consistent.{lengthHolds, hitHolds, entryHolds, slotHolds, fileHolds, namesDiffer, met, consistent}
 use Rattle.meaning.specs.declared.Geometry.{Geometry}
-use Rattle.promises.specs.Members
-use Rattle.promises.specs.Words.{words}
+use Rattle.laws.specs.Members
+use Rattle.laws.specs.Words.{words}
 
 -- p is the slot of a file
 pub record File (g : Geometry) (d : List ℕ) (p : ℕ) : Type 0 where

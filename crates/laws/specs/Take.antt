@@ -20,17 +20,17 @@ use Rattle.meaning.specs.Growth.{tail, after, lengthens, lengthened, withPair, 
 use Rattle.meaning.specs.Free.{freeGranules}
 use Rattle.meaning.specs.Lists.{firstOr}
 use Rattle.meaning.specs.declared.Geometry.{Geometry}
-use Rattle.promises.specs.Members
-use Rattle.promises.specs.Members.{In, Distinct}
-use Rattle.promises.specs.Facts
-use Rattle.promises.specs.Facts.{Sound, File}
-use Rattle.promises.specs.Entry
-use Rattle.promises.specs.Frame
-use Rattle.promises.specs.Frame.{Agree}
-use Rattle.promises.specs.Places
-use Rattle.promises.specs.Change
-use Rattle.promises.specs.Tail
-use Rattle.promises.specs.Words.{words}
+use Rattle.laws.specs.Members
+use Rattle.laws.specs.Members.{In, Distinct}
+use Rattle.laws.specs.Facts
+use Rattle.laws.specs.Facts.{Sound, File}
+use Rattle.laws.specs.Entry
+use Rattle.laws.specs.Frame
+use Rattle.laws.specs.Frame.{Agree}
+use Rattle.laws.specs.Places
+use Rattle.laws.specs.Change
+use Rattle.laws.specs.Tail
+use Rattle.laws.specs.Words.{words}
 
 -- pair j of the entry e written, and granule m marked free (0) or taken (1)
 module _ (v : ℕ) (bv : v < 2) (g : Geometry) (d : List ℕ) (c : Sound g d) (k : Places.Fits g d) (e : ℕ) (t : T (isSlot g d e)) (j : ℕ) (hj : j < 4)
