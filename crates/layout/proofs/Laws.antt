@@ -1,0 +1,70 @@
+-- One step of each recursion at the code's numbers, and two bounds.
+use mathlib.Core.Path.{_≡_, refl, sym, ap, _∙_}
+use mathlib.Core.List.{List, [], _∷_, _++_, map}
+use mathlib.Core.Bool.{Bool, true, false, cond, _&&_, and-true}
+use Prim.Native.Nat.{ℕ, zero, suc, _+_, _-_, _*_, _/_, _%_, _^_, _≤_, _<_}
+use native.Mathlib.Omega.{arith}
+use native.Mathlib.Nat.{mul-le-mul, div-lt-iff-lt-mul, mod-lt, div-one, div-div-eq-div-mul, pow-succ'}
+use native.Mathlib.Numerals.{add-one}
+use lib.ListN.{length, getD, take, drop}
+use lib.Seq.{drop-cons, drop-length}
+use lib.Dec.{eqb, leb}
+use borrow.Author.Tests.{le-leb, eq-eqb}
+use Rattle.meaning.specs.Lists.{same, all, count}
+use Rattle.meaning.specs.Layout.{granules, fitsGeometry, field, entryAt}
+use Rattle.meaning.specs.Bits.{digit}
+use Rattle.meaning.specs.Entries.{runsFrom, block, nameOf}
+use Rattle.meaning.specs.declared.Geometry.{Geometry}
+
+pub below : (a b m n : ℕ) → a ≤ m → b ≤ n → a * b ≤ m * n
+below a b m n p q = mul-le-mul {n₁ = a} {m₁ = b} {n₂ = m} {m₂ = n} p q
+
+pub left-more : {n i : ℕ} → i < n → n - i ≡ suc (n - (i + 1))
+left-more h = omega arith
+
+pub left-none : {n i : ℕ} → n ≤ i → n - i ≡ 0
+left-none h = omega arith
+
+-- the GAT byte of a granule that there is
+pub gat-low : (g : Geometry) (n : ℕ) → n < granules g → 1 ≤ g .units → n / g .units < g .blocks
+unfolding granules
+gat-low g n h u = div-lt-iff-lt-mul {k = g .units} {x = n} {y = g .blocks} u .1 h
+
+pub runs-more : (g : Geometry) (d : List ℕ) (s m k : ℕ) → runsFrom g d s (suc m) k ≡ cond (eqb (block g d s k) 0xff) k (runsFrom g d s m (k + 1))
+unfolding runsFrom
+runs-more g d s m k = refl
+
+pub runs-none : (g : Geometry) (d : List ℕ) (s k : ℕ) → runsFrom g d s 0 k ≡ k
+unfolding runsFrom
+runs-none g d s k = refl
+
+-- a bit as a shift finds it
+pub digit-at : (u x : ℕ) → digit x u ≡ x / 2 ^ u % 2
+unfolding digit
+digit-at zero x = ap (λ (y : ℕ). y % 2) (sym (div-one x))
+digit-at (suc u) x =
+    digit-at u (x / 2) ∙ ap (λ (y : ℕ). y % 2) (div-div-eq-div-mul x 2 (2 ^ u) ∙ ap (λ (y : ℕ). x / y) (sym (pow-succ' 2 u)))
+
+-- the eleven bytes of a name as a part of the image
+part-at : (d : List ℕ) (a i n : ℕ) → a + i + n ≤ length d → map (λ k. getD d (a + k) 0) (count i n) ≡ take n (drop (a + i) d)
+part-at d a i zero h = refl
+part-at d a i (suc n) h =
+    let e : suc (a + i) ≡ a + (i + 1) = omega arith in
+    simp (drop-cons d (a + i) 0 (omega arith), e, part-at d a (i + 1) n (omega arith))
+
+pub name-at : (g : Geometry) (d n : List ℕ) (s : ℕ) → entryAt g s + 16 ≤ length d → same (nameOf g d s) n ≡ same (take 11 (drop (entryAt g s + 5) d)) n
+unfolding nameOf field
+name-at g d n s h = ap (λ (l : List ℕ). same l n) (part-at d (entryAt g s) 5 11 (omega arith))
+
+-- two names from byte i on
+pub same-more : (s t : List ℕ) (at m i : ℕ) → at + i < length s → i < length t
+    → same (take (suc m) (drop (at + i) s)) (drop i t) ≡ (eqb (getD s (at + i) 0) (getD t i 0) && same (take m (drop (at + (i + 1)) s)) (drop (i + 1) t))
+same-more s t at m i h k =
+    let e : suc (at + i) ≡ at + (i + 1) = omega arith in
+    simp (drop-cons s (at + i) 0 h, drop-cons t i 0 k, e, add-one)
+
+-- the geometry's first six tests passed
+pub fits-rest : (g : Geometry) (d : List ℕ) → 1 ≤ g .blocks → g .blocks ≤ 192 → 1 ≤ g .units → g .units ≤ 8 → g .start % 5 ≡ 0 → length d ≡ granules g * 1280
+    → fitsGeometry g d ≡ leb (g .start + 10) (granules g * 5)
+unfolding fitsGeometry all
+fits-rest g d a b c e f h = simp (le-leb _ _ a, le-leb _ _ b, le-leb _ _ c, le-leb _ _ e, eq-eqb _ _ f, eq-eqb _ _ h, and-true)

@@ -1,0 +1,220 @@
+-- Two images with the same HIT and entries: the same files at the same places. (The GAT and the data may differ.)
+use mathlib.Core.Path.{_≡_, refl, sym, ap, _∙_}
+use mathlib.Core.List.{List, [], _∷_, _++_}
+use mathlib.Core.Bool.{Bool, true, false, not, cond, _&&_}
+use Prim.Native.Nat.{ℕ, zero, suc, _+_, _-_, _*_, _/_, _%_, _≤_, _<_}
+use native.Mathlib.Omega.{arith}
+use native.Mathlib.Numerals.{add-one}
+use lib.ListN.{length, getD, set, length-set}
+use lib.Seq.{getD-set-other}
+use lib.Dec.{eqb}
+use borrow.Author.Tests.{eqb-true}
+use Rattle.meaning.specs.Lists.{count, each, keep, through}
+use Rattle.meaning.specs.Layout.{directorySectors, field, granules, slots, isSlot, freeGranule, gatAt, byte}
+use Rattle.meaning.specs.Bits.{bit, withoutBit}
+use Rattle.meaning.specs.Entries.{inUse, extension, primary, marker, link, block, runs, runsFrom, runStart, runLength, runGranules, entryGranules, sizeOf}
+use Rattle.meaning.specs.Chain.{chainFrom, chain, owned, place}
+use Rattle.meaning.specs.declared.Geometry.{Geometry}
+use Rattle.layout.specs.Room.{Room, Slot}
+use Rattle.layout.proofs.Laws.{gat-low}
+use Rattle.layout.proofs.Lists.{and-l}
+use Rattle.seek.specs.Seek.{Sound, Used}
+use Rattle.seek.proofs.Laws.{slots-same}
+use Rattle.seek.proofs.Sound.{Low}
+
+pub record Same (g : Geometry) (d d′ : List ℕ) : Type 0 where
+  pub long : length d′ ≡ length d
+  pub bytes : (a : ℕ) → 256 * (g .start + 1) ≤ a → a < 256 * (g .start + directorySectors g d) → getD d′ a 0 ≡ getD d a 0
+
+pub opened : (g : Geometry) (d d′ : List ℕ) → getD d′ (256 * (g .start + 1) + 31) 0 ≡ getD d (256 * (g .start + 1) + 31) 0 → directorySectors g d′ ≡ directorySectors g d
+unfolding directorySectors
+opened g d d′ q = ap (λ (k : ℕ). 10 + k) q
+
+runs-low : (g : Geometry) (d : List ℕ) (s left k : ℕ) → runsFrom g d s left k ≤ k + left
+unfolding runsFrom
+runs-low g d s zero k = omega arith
+runs-low g d s (suc left) k = by (runs-low g d s left (k + 1)) (eqb (block g d s k) 0xff)
+  where
+    by : runsFrom g d s left (k + 1) ≤ k + 1 + left → (t : Bool) → cond t k (runsFrom g d s left (k + 1)) ≤ k + suc left
+    by ih true = omega arith
+    by ih false = omega arith
+
+pub runs-four : (g : Geometry) (d : List ℕ) (s : ℕ) → runs g d s ≤ 4
+unfolding runs
+runs-four g d s = runs-low g d s 4 0
+
+pub same-refl : (g : Geometry) (d : List ℕ) → Same g d d
+same-refl g d = record { long = refl; bytes = λ a h l. refl }
+
+module _ (g : Geometry) (d d′ : List ℕ) (r : Room g d) (e : Same g d d′) where
+  pub same-sectors : directorySectors g d′ ≡ directorySectors g d
+  same-sectors = opened g d d′ (e .bytes (256 * (g .start + 1) + 31) (omega arith) (let t = r .ten in omega arith))
+
+  pub same-room : Room g d′
+  same-room =
+      record {
+        blocks-low = r .blocks-low;
+        blocks-high = r .blocks-high;
+        units-low = r .units-low;
+        units-high = r .units-high;
+        most = r .most;
+        whole = e .long ∙ r .whole;
+        ten = rw same-sectors (r .ten);
+        thirty = rw same-sectors (r .thirty);
+        directory = rw same-sectors (r .directory);
+      }
+
+  pub same-slot : {s : ℕ} → Slot g d s → Slot g d′ s
+  same-slot {s} sl = record { low = sl .low; held = rw same-sectors (sl .held) }
+
+  pub same-field : (s k : ℕ) → Slot g d s → k < 32 → field g d′ s k ≡ field g d s k
+  unfolding field
+  same-field s k sl h =
+      let l = sl .low in let m = sl .held in
+      e .bytes (256 * (g .start + 2 + s % 32) + 32 * (s / 32) + k) (omega arith) (omega arith)
+
+  pub same-used : {s : ℕ} → Used g d s → Used g d′ s
+  same-used {s} u = record { slot = same-slot (u .slot); used = ap (bit 4) (same-field s 0 (u .slot) (omega arith)) ∙ u .used }
+
+  runs-from : (s : ℕ) → Slot g d s → (left k : ℕ) → k + left ≤ 4 → runsFrom g d′ s left k ≡ runsFrom g d s left k
+  unfolding runsFrom
+  runs-from s sl zero k h = refl
+  runs-from s sl (suc left) k h =
+      ap (λ (b : ℕ). cond (eqb b 0xff) k (runsFrom g d′ s left (k + 1))) (same-field s (0x16 + 2 * k) sl (omega arith))
+      ∙ ap (λ (b : ℕ). cond (eqb (block g d s k) 0xff) k b) (runs-from s sl left (k + 1) (omega arith))
+
+  pub same-runs : (s : ℕ) → Slot g d s → runs g d′ s ≡ runs g d s
+  unfolding runs
+  same-runs s sl = runs-from s sl 4 0 (omega arith)
+
+  pub same-start : (s k : ℕ) → Slot g d s → k < 4 → runStart g d′ s k ≡ runStart g d s k
+  same-start s k sl h = rw (same-field s (0x16 + 2 * k) sl (omega arith), same-field s (0x17 + 2 * k) sl (omega arith))
+
+  pub same-len : (s k : ℕ) → Slot g d s → k < 4 → runLength g d′ s k ≡ runLength g d s k
+  same-len s k sl h = rw (same-field s (0x17 + 2 * k) sl (omega arith))
+
+  each-same : (s : ℕ) → Slot g d s → (j n : ℕ) → j + n ≤ 4 → each (runGranules g d′ s) (count j n) ≡ each (runGranules g d s) (count j n)
+  each-same s sl j zero h = refl
+  each-same s sl j (suc n) h =
+      ap (λ (a : ℕ). count a (runLength g d′ s j) ++ each (runGranules g d′ s) (count (j + 1) n)) (same-start s j sl (omega arith))
+      ∙ ap (λ (a : ℕ). count (runStart g d s j) a ++ each (runGranules g d′ s) (count (j + 1) n)) (same-len s j sl (omega arith))
+      ∙ ap (λ (l : List ℕ). runGranules g d s j ++ l) (each-same s sl (j + 1) n (omega arith))
+
+  pub same-entry : (s : ℕ) → Slot g d s → entryGranules g d′ s ≡ entryGranules g d s
+  unfolding entryGranules
+  same-entry s sl =
+      let h = runs-four g d s in
+      ap (λ (n : ℕ). each (runGranules g d′ s) (count 0 n)) (same-runs s sl) ∙ each-same s sl 0 (runs g d s) (omega arith)
+
+  pub same-slots : slots g d′ ≡ slots g d
+  same-slots = slots-same g d d′ same-sectors
+
+module _ (g : Geometry) (d d′ : List ℕ) (snd : Sound g d) (e : Same g d d′) where
+  -- the granules along a chain
+  pub same-chain : (left s : ℕ) → Used g d s → each (entryGranules g d′) (chainFrom g d′ left s) ≡ each (entryGranules g d) (chainFrom g d left s)
+  unfolding chainFrom
+  same-chain zero s u = refl
+  same-chain (suc left) s u =
+      let r = snd .room in
+      ap (λ (l : List ℕ). l ++ each (entryGranules g d′) (cond (eqb (marker g d′ s) 0xfe) (chainFrom g d′ left (link g d′ s)) [])) (same-entry g d d′ r e s (u .slot))
+      ∙ ap (λ (m : ℕ). entryGranules g d s ++ each (entryGranules g d′) (cond (eqb m 0xfe) (chainFrom g d′ left (link g d′ s)) [])) (same-field g d d′ r e s 0x1e (u .slot) (omega arith))
+      ∙ ap (λ (m : ℕ). entryGranules g d s ++ each (entryGranules g d′) (cond (eqb (marker g d s) 0xfe) (chainFrom g d′ left m) [])) (same-field g d d′ r e s 0x1f (u .slot) (omega arith))
+      ∙ ap (λ (l : List ℕ). entryGranules g d s ++ l) (by (λ w. same-chain left (link g d s) w) (eqb (marker g d s) 0xfe) refl)
+    where
+      by : (Used g d (link g d s) → each (entryGranules g d′) (chainFrom g d′ left (link g d s)) ≡ each (entryGranules g d) (chainFrom g d left (link g d s)))
+          → (t : Bool) → eqb (marker g d s) 0xfe ≡ t
+          → each (entryGranules g d′) (cond t (chainFrom g d′ left (link g d s)) []) ≡ each (entryGranules g d) (cond t (chainFrom g d left (link g d s)) [])
+      by ih true q = ih (snd .next s u (eqb-true (marker g d s) 0xfe q))
+      by ih false q = refl
+
+  pub same-owned : (s : ℕ) → Used g d s → owned g d′ s ≡ owned g d s
+  unfolding owned chain
+  same-owned s u =
+      ap (λ (l : List ℕ). each (entryGranules g d′) (chainFrom g d′ (length l) s)) (same-slots g d d′ (snd .room) e) ∙ same-chain (length (slots g d)) s u
+
+  pub same-place : (s i : ℕ) → Used g d s → place g d′ s i ≡ place g d s i
+  unfolding place
+  same-place s i u = ap (λ (l : List ℕ). 1280 * getD l (i / 1280) 0 + i % 1280) (same-owned s u)
+
+pub same-sym : (g : Geometry) (d d′ : List ℕ) → Room g d → Same g d d′ → Same g d′ d
+same-sym g d d′ r e =
+    record { long = sym (e .long); bytes = λ a h l. sym (e .bytes a h (rw (same-sectors g d d′ r e) at l)) }
+
+pub same-trans : (g : Geometry) (d d′ d″ : List ℕ) → Room g d → Same g d d′ → Same g d′ d″ → Same g d d″
+same-trans g d d′ d″ r e f =
+    record {
+      long = f .long ∙ e .long;
+      bytes = λ a h l. f .bytes a h (rw (same-sectors g d d′ r e) l) ∙ e .bytes a h l;
+    }
+
+-- a byte stored before the HIT, or behind the directory
+pub same-before : (g : Geometry) (d : List ℕ) (i v : ℕ) → i < 256 * (g .start + 1) → Same g d (set d i v)
+same-before g d i v h = record { long = length-set d i v; bytes = λ a k l. getD-set-other d i a v 0 (λ q. omega arith) }
+
+pub same-behind : (g : Geometry) (d : List ℕ) (i v : ℕ) → 256 * (g .start + directorySectors g d) ≤ i → Same g d (set d i v)
+same-behind g d i v h = record { long = length-set d i v; bytes = λ a k l. getD-set-other d i a v 0 (λ q. omega arith) }
+
+pub same-free : (g : Geometry) (d : List ℕ) (n : ℕ) → Room g d → n < granules g → Same g d (freeGranule g d n)
+unfolding freeGranule
+same-free g d n r h =
+    let l = gat-low g n h (r .units-low) in let b = r .blocks-high in
+    same-before g d (gatAt g n) (withoutBit (n % g .units) (byte d (gatAt g n))) (omega arith)
+
+module _ (g : Geometry) (d d′ : List ℕ) (snd : Sound g d) (e : Same g d d′) where
+  slot-back : {s : ℕ} → Slot g d′ s → Slot g d s
+  slot-back sl = same-slot g d′ d (same-room g d d′ (snd .room) e) (same-sym g d d′ (snd .room) e) sl
+
+  used-back : {s : ℕ} → Used g d′ s → Used g d s
+  used-back u = same-used g d′ d (same-room g d d′ (snd .room) e) (same-sym g d d′ (snd .room) e) u
+
+  f-same : (s k : ℕ) → Slot g d s → k < 32 → field g d′ s k ≡ field g d s k
+  f-same = same-field g d d′ (snd .room) e
+
+  primary-same : (s : ℕ) → Slot g d s → primary g d′ s ≡ primary g d s
+  primary-same s sl = rw (f-same s 0 sl (omega arith))
+
+  size-same : (s : ℕ) → Slot g d s → sizeOf g d′ s ≡ sizeOf g d s
+  unfolding sizeOf
+  size-same s sl = rw (f-same s 3 sl (omega arith), f-same s 0x14 sl (omega arith), f-same s 0x15 sl (omega arith))
+
+  pub same-sound : Sound g d′
+  same-sound =
+      record {
+        room = same-room g d d′ (snd .room) e;
+        next = λ s u m.
+            let w = used-back u in
+            rw (f-same s 0x1f (w .slot) (omega arith)) (same-used g d d′ (snd .room) e (snd .next s w (sym (f-same s 0x1e (w .slot) (omega arith)) ∙ m)));
+        run = λ s k u l.
+            let w = used-back u in
+            let l′ : k < runs g d s = rw (same-runs g d d′ (snd .room) e s (w .slot)) at l in
+            let q = runs-four g d s in
+            rw (same-start g d d′ (snd .room) e s k (w .slot) (omega arith), same-len g d d′ (snd .room) e s k (w .slot) (omega arith)) (snd .run s k w l′);
+        size = λ s sl p.
+            let w = slot-back sl in
+            let p′ : primary g d s ≡ true = sym (primary-same s w) ∙ p in
+            rw (size-same s w, same-owned g d d′ snd e s (record { slot = w; used = and-l (inUse g d s) (not (extension g d s)) p′ })) (snd .size s w p′);
+      }
+
+module _ (g : Geometry) (d d′ : List ℕ) (snd : Sound g d) (e : Same g d d′) where
+  pub same-slots-of : (left s : ℕ) → Used g d s → chainFrom g d′ left s ≡ chainFrom g d left s
+  unfolding chainFrom
+  same-slots-of zero s u = refl
+  same-slots-of (suc left) s u =
+      let r = snd .room in
+      ap (λ (m : ℕ). s ∷ cond (eqb m 0xfe) (chainFrom g d′ left (link g d′ s)) []) (same-field g d d′ r e s 0x1e (u .slot) (omega arith))
+      ∙ ap (λ (m : ℕ). s ∷ cond (eqb (marker g d s) 0xfe) (chainFrom g d′ left m) []) (same-field g d d′ r e s 0x1f (u .slot) (omega arith))
+      ∙ ap (λ (l : List ℕ). s ∷ l) (by (λ w. same-slots-of left (link g d s) w) (eqb (marker g d s) 0xfe) refl)
+    where
+      by : (Used g d (link g d s) → chainFrom g d′ left (link g d s) ≡ chainFrom g d left (link g d s)) → (t : Bool) → eqb (marker g d s) 0xfe ≡ t
+          → cond t (chainFrom g d′ left (link g d s)) [] ≡ cond t (chainFrom g d left (link g d s)) []
+      by ih true q = ih (snd .next s u (eqb-true (marker g d s) 0xfe q))
+      by ih false q = refl
+
+-- granules given back, one after the other
+pub same-all : (g : Geometry) (d : List ℕ) (xs : List ℕ) → Room g d → Low (granules g) xs → Same g d (through (freeGranule g) d xs)
+unfolding Low
+same-all g d [] r l = same-refl g d
+same-all g d (x ∷ xs) r l =
+    let e = same-free g d x r (l 0 (omega arith)) in
+    same-trans g d (freeGranule g d x) (through (freeGranule g) (freeGranule g d x) xs) r e
+    (same-all g (freeGranule g d x) xs (same-room g d (freeGranule g d x) r e) (λ k h. l (suc k) (omega arith)))

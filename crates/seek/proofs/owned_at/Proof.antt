@@ -1,0 +1,41 @@
+use native.Mathlib.Omega.{arith}
+use Prim.Native.Nat.{ℕ, _-_, _*_}
+use lib.ListN.{getD}
+use mathlib.Core.Path.{_≡_, refl, ap, sym, _∙_}
+use Rattle.meaning.specs.Lists.{each}
+use Rattle.meaning.specs.Chain.{owned, chain, chainFrom}
+use Rattle.meaning.specs.Entries.{entryGranules}
+use Rattle.seek.proofs.Laws.{slots-length}
+use borrow.Author.Needs.{needs}
+use Rattle.seek.proofs.owned_at.Statement.{statement}
+use Rattle.seek.proofs.owned_at.Tie as tie
+use Rattle.seek.proofs.owned_at.Reads as reads
+use Rattle.seek.proofs.owned_at.Lts as lts
+use Rattle.layout.proofs.directory_sectors.Reads as directory-sectors-reads
+use Rattle.seek.proofs.entry_walk.Reads as entry-walk-reads
+
+-- src/lib.rt:74:9
+directory-sectors-requires : tie.Need-directory-sectors-requires
+directory-sectors-requires c κs = search needs
+
+-- src/lib.rt:75:37
+sub-entry-walk : tie.Need-sub-entry-walk
+sub-entry-walk c = search needs
+
+-- src/lib.rt:75:32
+mul-entry-walk : tie.Need-mul-entry-walk
+mul-entry-walk c = search needs
+
+-- src/lib.rt:75:5
+entry-walk-requires : tie.Need-entry-walk-requires
+entry-walk-requires c κs = search needs
+
+-- src/lib.rt:70:1
+returns : tie.Need-returns
+unfolding owned chain
+returns c = let a = c .before .before .before .args in (c .entry-walk .ensures .0 ∙ ap (λ (n : ℕ). getD (each (entryGranules (a .g) (a .image .now)) (chainFrom (a .g) (a .image .now) n (a .s))) (a .k) 0) (ap (λ (n : ℕ). 8 * (n - 2)) (c .before .directory-sectors .ensures) ∙ sym (slots-length (a .g) (a .image .now) (omega arith) (omega arith))), c .entry-walk .ensures .1)
+
+pub owned-at-spec : {M : Type 1} → statement M
+owned-at-spec =
+    tie.close
+    (tie.spec directory-sectors-requires sub-entry-walk mul-entry-walk entry-walk-requires returns)

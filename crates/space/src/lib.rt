@@ -1,0 +1,128 @@
+// Granules taken and given back, entries cleared.
+use meaning::Geometry;
+ghost use mathlib.Core.Path.{_≡_};
+ghost use Prim.Native.Nat.{_+_, _*_, _<_, _≤_};
+ghost use lib.ListN.{length};
+ghost use Rattle.meaning.specs.Lists.{count, each, through};
+ghost use Rattle.meaning.specs.Layout.{granules, takeGranule, freeGranule};
+ghost use Rattle.meaning.specs.Bits.{withBit, withoutBit};
+ghost use Rattle.meaning.specs.Kill.{killEntry};
+ghost use Rattle.meaning.specs.Entries.{entryGranules};
+ghost use Rattle.meaning.specs.Chain.{chainFrom, chain, owned};
+ghost use Rattle.layout.specs.Room.{Room, Slot};
+ghost use Rattle.seek.specs.Seek.{Sound, Used};
+
+pub fn without_bit(b: u8, u: usize) -> u8
+    requires { ⌜ u < 8 ⌝ }
+    ensures { λ r. ⌜ r ≡ withoutBit u b ⌝ }
+{
+    let p: u8 = 1 << u;
+    if (b >> u) % 2 == 1 { b - p } else { b }
+}
+
+pub fn with_bit(b: u8, u: usize) -> u8
+    requires { ⌜ u < 8 ⌝ }
+    ensures { λ r. ⌜ r ≡ withBit u b ⌝ }
+{
+    let p: u8 = 1 << u;
+    if (b >> u) % 2 == 1 { b } else { b + p }
+}
+
+pub fn free_granule(image: &mut [u8], g: Geometry, n: usize)
+    requires { ⌜ Room g (now image) × (n < granules g) ⌝ }
+    ensures { λ _. ⌜ now (image .exit) ≡ freeGranule g (now (image .entry)) n ⌝ }
+{
+    let at = 256 * g.start + n / g.units;
+    image[at] = without_bit(image[at], n % g.units);
+}
+
+pub fn take_granule(image: &mut [u8], g: Geometry, n: usize)
+    requires { ⌜ Room g (now image) × (n < granules g) ⌝ }
+    ensures { λ _. ⌜ now (image .exit) ≡ takeGranule g (now (image .entry)) n ⌝ }
+{
+    let at = 256 * g.start + n / g.units;
+    image[at] = with_bit(image[at], n % g.units);
+}
+
+// Clears bit 4 of an entry, and its HIT byte.
+pub fn kill_entry(image: &mut [u8], g: Geometry, s: usize)
+    requires { ⌜ Room g (now image) × Slot g (now image) s ⌝ }
+    ensures { λ _. ⌜ now (image .exit) ≡ killEntry g (now (image .entry)) s ⌝ }
+{
+    let at = 256 * (g.start + 2 + s % 32) + 32 * (s / 32);
+    image[at] = without_bit(image[at], 4);
+    image[256 * (g.start + 1) + s] = 0;
+}
+
+// Gives back n granules from a on.
+pub fn free_run(image: &mut [u8], g: Geometry, a: usize, n: usize)
+    requires { ⌜ Room g (now image) × (a + n ≤ granules g) ⌝ }
+    ensures { λ _. ⌜ now (image .exit) ≡ through (freeGranule g) (now (image .entry)) (count a n) ⌝ }
+{
+    let mut k = 0;
+    while k < n {
+        free_granule(image, g, a + k);
+        k += 1;
+    }
+}
+
+// Gives back the granules of the entry at slot s.
+pub fn free_entry(image: &mut [u8], g: Geometry, s: usize)
+    requires { ⌜ Sound g (now image) × Used g (now image) s ⌝ }
+    ensures { λ _. ⌜ now (image .exit) ≡ through (freeGranule g) (now (image .entry)) (entryGranules g (now (image .entry)) s) ⌝ }
+{
+    let n = layout::runs(image, g, s);
+    let mut j = 0;
+    while j < n {
+        let a = layout::run_start(image, g, s, j);
+        let len = layout::run_length(image, g, s, j);
+        free_run(image, g, a, len);
+        j += 1;
+    }
+}
+
+// Gives back the granules of a file from the entry at slot s on, `most` entries at the most.
+pub fn free_chain(image: &mut [u8], g: Geometry, s: usize, most: usize)
+    requires { ⌜ Sound g (now image) × Used g (now image) s ⌝ }
+    ensures { λ _. ⌜ now (image .exit) ≡ through (freeGranule g) (now (image .entry)) (each (entryGranules g (now (image .entry))) (chainFrom g (now (image .entry)) most s)) ⌝ }
+{
+    let mut at = s;
+    let mut left = most;
+    while 0 < left {
+        free_entry(image, g, at);
+        if layout::field(image, g, at, 0x1e) != 0xfe {
+            return;
+        }
+        at = layout::field(image, g, at, 0x1f);
+        left -= 1;
+    }
+}
+
+// Clears the entries of a file from the one at slot s on. Each is left by what its marker and link said before.
+pub fn kill_chain(image: &mut [u8], g: Geometry, s: usize, most: usize)
+    requires { ⌜ Sound g (now image) × Used g (now image) s ⌝ }
+    ensures { λ _. ⌜ now (image .exit) ≡ through (killEntry g) (now (image .entry)) (chainFrom g (now (image .entry)) most s) ⌝ }
+{
+    let mut at = s;
+    let mut left = most;
+    while 0 < left {
+        let marker = layout::field(image, g, at, 0x1e);
+        let link = layout::field(image, g, at, 0x1f);
+        kill_entry(image, g, at);
+        if marker != 0xfe {
+            return;
+        }
+        at = link;
+        left -= 1;
+    }
+}
+
+// What an accepted kill leaves of the image.
+pub fn kill_file(image: &mut [u8], g: Geometry, s: usize)
+    requires { ⌜ Sound g (now image) × Used g (now image) s ⌝ }
+    ensures { λ _. ⌜ now (image .exit) ≡ through (killEntry g) (through (freeGranule g) (now (image .entry)) (owned g (now (image .entry)) s)) (chain g (now (image .entry)) s) ⌝ }
+{
+    let most = 8 * (layout::directory_sectors(image, g) - 2);
+    free_chain(image, g, s, most);
+    kill_chain(image, g, s, most);
+}
