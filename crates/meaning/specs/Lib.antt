@@ -19,4 +19,5 @@ pub mod Trim
 pub mod Kill
 pub mod Listing
 pub mod Plain
+pub mod Samples
 pub mod Table

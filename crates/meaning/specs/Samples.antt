@@ -1,0 +1,123 @@
+-- Small whole disks, written out byte by byte, on which the table and the facts compute.
+use Prim.Native.Nat.{ℕ, _+_, _-_}
+use mathlib.Core.List.{List, [], _∷_, _++_}
+use mathlib.Core.Bool.{Bool, true}
+use lib.ListN.{length, replicate, set}
+use Rattle.meaning.specs.Lists.{all, any, firstOr, lastOr}
+use Rattle.meaning.specs.Bits.{digit, putDigit}
+use Rattle.meaning.specs.Layout.{granules, fitsGeometry, taken, takeGranule, freeGranule, hit, directorySectors, isSlot, slots, field, setField}
+use Rattle.meaning.specs.Names.{wellFormed, hash}
+use Rattle.meaning.specs.Entries.{nameOf, sizeOf, runsFrom, runs, entryGranules}
+use Rattle.meaning.specs.Chain.{chainFrom, chain, owned, files, place}
+use Rattle.meaning.specs.Consistent.{lengthHolds, hitHolds, hashHolds, nameHolds, pairsHold, follows, linkHolds, runsHold, gatHolds, sizeHolds, offDirectory, slotHolds, fileHolds, namesDiffer, met, consistent}
+use Rattle.meaning.specs.Free.{freeGranules, permitted, freeSlot, freeSlots}
+use Rattle.meaning.specs.Growth.{andThen, fails, diskOr, lengthens, extended, takeOne, grow}
+use Rattle.meaning.specs.Drop.{unhooked, dropOne}
+use Rattle.meaning.specs.Refusals.{first, goodLength, inRange, newInRange, check, fresh}
+use Rattle.meaning.specs.LookUp.{candidates, carries, comparedIn, named, lookUp}
+use Rattle.meaning.specs.Open.{full, admits, open′}
+use Rattle.meaning.specs.Create.{create}
+use Rattle.meaning.specs.Read.{fetch, readRecord, readSector}
+use Rattle.meaning.specs.Write.{store, sizeAfter, writeRecord}
+use Rattle.meaning.specs.Allot.{allot}
+use Rattle.meaning.specs.Trim.{trim}
+use Rattle.meaning.specs.Kill.{killEntry, kill}
+use Rattle.meaning.specs.Listing.{shown, listed, tellFirst, list, counts, digits, slashed, line, listing}
+use Rattle.meaning.specs.Plain.{fileAt, foundIn, plain, bornAs, overwritten, writtenTo, allottedTo, trimmed, with′, hush, reserved}
+use Rattle.meaning.specs.declared.Geometry.{Geometry}
+
+-- what stands where, by rising places, from one place up to the end; zeros between
+abbrev pub laid : ℕ → List (ℕ × List ℕ) → ℕ → List ℕ
+laid from [] end = replicate (end - from) 0
+laid from (p ∷ ps) end = replicate (p .0 - from) 0 ++ (p .1 ++ laid (p .0 + length (p .1)) ps end)
+
+-- the image with these bytes in these places, and every other as it was
+abbrev pub changed : List ℕ → List (ℕ × ℕ) → List ℕ
+changed d [] = d
+changed d (c ∷ cs) = changed (set d (c .0) (c .1)) cs
+
+-- Names ---------------------------------------------------------------------------------------------------------------------
+
+-- PULS01/DAT
+abbrev pub puls : List ℕ
+puls = 0x50 ∷ 0x55 ∷ 0x4c ∷ 0x53 ∷ 0x30 ∷ 0x31 ∷ 0x20 ∷ 0x20 ∷ 0x44 ∷ 0x41 ∷ 0x54 ∷ []
+
+-- LEER
+abbrev pub leer : List ℕ
+leer = 0x4c ∷ 0x45 ∷ 0x45 ∷ 0x52 ∷ 0x20 ∷ 0x20 ∷ 0x20 ∷ 0x20 ∷ 0x20 ∷ 0x20 ∷ 0x20 ∷ []
+
+-- A disk of two files ---------------------------------------------------------------------------------------------------------
+
+-- 4 blocks of 3 units, the directory at the front
+abbrev pub three : Geometry
+three = record { blocks = 4; units = 3; start = 0; anyone = 0x9999 }
+
+-- PULS01/DAT in slot A3H with an extension in slot 81H, LEER in slot 80H, a killed entry in slot 82H. PULS01/DAT owns granules 3, 4, 2,
+-- 5, 6, 11 and 10, in five runs, and has 257 bytes; LEER owns granule 8 and has 256. Granules 0 and 1 are reserved, 7 and 9 free.
+-- What no call may read or change holds odd bytes: GAT bits of no unit, GAT bytes of no block, HIT places of no slot, a dead entry,
+-- an extension's bytes 02 to 15 (among them its file's name), a link behind FFH, the second byte of a pair behind FFH.
+abbrev pub sample : List ℕ
+sample =
+    laid 0 (
+    (0, 0x07 ∷ 0x07 ∷ 0xa5 ∷ 0x06 ∷ 0xff ∷ [])
+    ∷ (0x128, 0x55 ∷ [])
+    ∷ (0x180, 0x70 ∷ 0xc1 ∷ 0x00 ∷ [])
+    ∷ (0x1a3, 0xc1 ∷ [])
+    -- slot 80H
+    ∷ (640, 0x10 ∷ 0x09 ∷ 0x3a ∷ 0x00 ∷ 0x00 ∷ leer)
+    ∷ (
+      656,
+      0x99 ∷ 0x99 ∷ 0x00 ∷ 0x00 ∷ 0x01 ∷ 0x00
+          ∷ 0x02 ∷ 0x40 ∷ 0xff ∷ 0x00 ∷ 0xff ∷ 0xff ∷ 0xff ∷ 0x12 ∷ 0xff ∷ 0x81 ∷ [],
+    )
+    -- slot 81H
+    ∷ (896, 0x90 ∷ 0xa3 ∷ 0x01 ∷ 0x02 ∷ 0x03 ∷ puls)
+    ∷ (
+      912,
+      0x04 ∷ 0x05 ∷ 0x06 ∷ 0x07 ∷ 0x08 ∷ 0x09
+          ∷ 0x03 ∷ 0x20 ∷ 0xff ∷ 0x21 ∷ 0xff ∷ 0xff ∷ 0xff ∷ 0xff ∷ 0xff ∷ 0x80 ∷ [],
+    )
+    -- slot 82H, dead
+    ∷ (1152, 0x2f ∷ 0xff ∷ 0xff ∷ 0xff ∷ 0xff ∷ puls)
+    ∷ (
+      1168,
+      0x01 ∷ 0x02 ∷ 0x03 ∷ 0x04 ∷ 0xff ∷ 0xff
+          ∷ 0x01 ∷ 0x00 ∷ 0xff ∷ 0xff ∷ 0x01 ∷ 0x00 ∷ 0xff ∷ 0xff ∷ 0xfe ∷ 0x81 ∷ [],
+    )
+    -- slot A3H
+    ∷ (1440, 0x1d ∷ 0x09 ∷ 0x3a ∷ 0x01 ∷ 0x00 ∷ puls)
+    ∷ (
+      1456,
+      0x34 ∷ 0x12 ∷ 0x78 ∷ 0x56 ∷ 0x02 ∷ 0x00
+          ∷ 0x01 ∷ 0x01 ∷ 0x00 ∷ 0x40 ∷ 0x01 ∷ 0x41 ∷ 0x03 ∷ 0x40 ∷ 0xfe ∷ 0x81 ∷ [],
+    )
+    -- the first two bytes of PULS01/DAT, and its last two
+    ∷ (3840, 0x41 ∷ 0x42 ∷ [])
+    ∷ (4095, 0x43 ∷ 0x44 ∷ [])
+    -- what lies behind its end
+    ∷ (4097, 0x45 ∷ 0x46 ∷ 0x47 ∷ [])
+    -- the first byte of LEER, and its last
+    ∷ (10240, 0x61 ∷ [])
+    ∷ (10495, 0x62 ∷ 0x63 ∷ 0x64 ∷ [])
+    ∷ []) 15360
+
+-- A disk of one pair ----------------------------------------------------------------------------------------------------------
+
+-- 20 blocks of so many units
+abbrev pub wide : ℕ → Geometry
+wide units = record { blocks = 20; units = units; start = 0; anyone = 0 }
+
+-- so long an image whose only file, LEER in slot 80H, has the pair 11H 42H and no bytes; every granule is set in the GAT
+abbrev pub onePair : ℕ → List ℕ
+onePair =
+    laid 0 (
+    (0, replicate 20 0xff)
+    ∷ (0x180, 0x70 ∷ [])
+    ∷ (640, 0x10 ∷ 0x09 ∷ 0x3a ∷ 0x00 ∷ 0x00 ∷ leer)
+    ∷ (656, replicate 6 0 ++ (0x11 ∷ 0x42 ∷ replicate 8 0xff))
+    ∷ [])
+
+-- Every definition that is shut, opened by one name: `unfolding opened` computes through all of them.
+unfoldable pub opened : Bool
+unfolding all any firstOr lastOr digit putDigit granules fitsGeometry taken takeGranule freeGranule hit directorySectors isSlot slots field setField wellFormed hash nameOf sizeOf runsFrom runs entryGranules chainFrom chain owned files place lengthHolds hitHolds hashHolds nameHolds pairsHold follows linkHolds runsHold gatHolds sizeHolds offDirectory slotHolds fileHolds namesDiffer met consistent freeGranules permitted freeSlot freeSlots andThen fails diskOr lengthens extended takeOne grow unhooked dropOne first goodLength inRange newInRange check fresh candidates carries comparedIn named lookUp full admits open′ create fetch readRecord readSector store sizeAfter writeRecord allot trim killEntry kill shown listed tellFirst list counts digits slashed line listing fileAt foundIn plain bornAs overwritten writtenTo allottedTo trimmed with′ hush reserved
+opened = true
