@@ -1,0 +1,344 @@
+-- What each accepted call of a list does, from demand 2 of the calls
+use mathlib.Core.Path.{_≡_, refl, ap, ap₂, sym, _∙_, subst}
+use mathlib.Core.Logic.{_≢_, _⊎_, inl, inr}
+use mathlib.Core.Bool.{Bool, true, false, not, cond, _&&_, _||_}
+use mathlib.Core.List.{List, [], _∷_, _++_, map}
+use Prim.Native.Nat.{ℕ, zero, suc, _+_, _*_, _%_, _≤_, _<_}
+use native.Mathlib.Omega.{arith}
+use lib.ListN.{length, getD, set, take, List·getD-map}
+use lib.Dec.{T, eqb, eqb→eq, ltb, not-T, T-not, ltb→lt}
+use Rattle.meaning.specs.Lists.{count}
+use Rattle.meaning.specs.Layout.{fitsGeometry}
+use Rattle.meaning.specs.Bits.{bit}
+use Rattle.meaning.specs.Entries.{system, nameOf, accessLevel}
+use Rattle.meaning.specs.Consistent.{consistent}
+use Rattle.meaning.specs.Lists.{firstOr}
+use Rattle.meaning.specs.Free.{freeSlots}
+use Rattle.meaning.specs.Refusals.{first, movedTo, noHandle, cannotGrow, lacking}
+use Rattle.meaning.specs.LookUp.{lookUp, named, missing}
+use Rattle.meaning.specs.Open.{open′, full, openedAt}
+use Rattle.meaning.specs.Create.{create}
+use Rattle.meaning.specs.Read.{readRecord, readSector}
+use Rattle.meaning.specs.Write.{writeRecord}
+use Rattle.meaning.specs.Allot.{allot}
+use Rattle.meaning.specs.Trim.{trim}
+use Rattle.meaning.specs.Kill.{kill}
+use Rattle.meaning.specs.Plain.{File, Found, found, nothing, fileAt, foundIn, plain, hush, bornAs, writtenTo, allottedTo, trimmed}
+use Rattle.meaning.specs.declared.Geometry.{Geometry}
+use Rattle.meaning.specs.declared.Handle.{Handle}
+use Rattle.meaning.specs.declared.NewFile.{NewFile}
+use Rattle.meaning.specs.declared.Mode.{Mode}
+use Rattle.laws.specs.Members
+use Rattle.laws.specs.KillMeans
+use Rattle.laws.specs.KillMeans.{Holds}
+use Rattle.laws.specs.Named
+use Rattle.laws.specs.Create
+use Rattle.promises.specs.Grow
+use Rattle.promises.specs.Trim
+use Rattle.promises.specs.WriteMeans
+use Rattle.laws.specs.Words.{words}
+use Rattle.together.specs.Inter.{Name, Own, own}
+use Rattle.together.specs.Lists.{Op, known, answer, Grip, grip, State, abs, changed, born, levelOf, eff, Held, Good, handleAt, atPlace}
+use Rattle.together.specs.Lists.Op.{looks, opens, creates, places, reads, readsSector, writes, allots, trims, kills}
+
+-- Lists of handles -------------------------------------------------------------------------------------------------------
+
+map-snoc : (hs : List Handle) (h : Handle) → map grip (hs ++ (h ∷ [])) ≡ map grip hs ++ (grip h ∷ [])
+map-snoc [] h = refl
+map-snoc (x ∷ hs) h = ap (λ (l : List Grip). grip x ∷ l) (map-snoc hs h)
+
+map-set : (hs : List Handle) (i : ℕ) (h : Handle) → map grip (set hs i h) ≡ set (map grip hs) i (grip h)
+map-set [] i h = refl
+map-set (x ∷ hs) zero h = refl
+map-set (x ∷ hs) (suc i) h = ap (λ (l : List Grip). grip x ∷ l) (map-set hs i h)
+
+held-snoc : (n : Name) (hs : List Handle) (h : Handle) → Held n hs → h .name ≡ n → Held n (hs ++ (h ∷ []))
+unfolding Held
+held-snoc n [] h k e = (e, tt)
+held-snoc n (x ∷ hs) h k e = (k .0, held-snoc n hs h (k .1) e)
+
+held-set : (n : Name) (hs : List Handle) (i : ℕ) (h : Handle) → Held n hs → h .name ≡ n → Held n (set hs i h)
+unfolding Held
+held-set n [] i h k e = tt
+held-set n (x ∷ hs) zero h k e = (e, k .1)
+held-set n (x ∷ hs) (suc i) h k e = (k .0, held-set n hs i h (k .1) e)
+
+pub held-at : (n : Name) (hs : List Handle) (i : ℕ) → Held n hs → T (ltb i (length hs)) → handleAt hs i .name ≡ n
+unfolding Held
+held-at n hs i k t = go hs i k (ltb→lt i (length hs) t)
+  where
+    go : (hs : List Handle) (i : ℕ) → Held n hs → i < length hs → handleAt hs i .name ≡ n
+    go [] i k h = absurd (omega arith)
+    go (x ∷ hs) zero k h = k .0
+    go (x ∷ hs) (suc i) k h = go hs i (k .1) (omega arith)
+
+-- Files ------------------------------------------------------------------------------------------------------------------
+
+-- a file that is no system file is told whole
+user-whole : (g : Geometry) (d : List ℕ) (p : ℕ) → T (not (system g d p)) → hush (found (fileAt g d p)) ≡ found (fileAt g d p)
+unfolding hush fileAt
+user-whole g d p u = rw (Members.no-false {b = system g d p} (T-not (system g d p) u))
+
+module _ (g : Geometry) (d : List ℕ) (n : Name) (h : Handle) (w : Holds g d h) (e : h .name ≡ n) where
+  called : nameOf g d (h .slot) ≡ n
+  called = w .name′ ∙ e
+
+  abs-own : abs g d n ≡ found (fileAt g d (h .slot))
+  unfolding abs
+  abs-own = ap hush (Named.plain-is g d (w .sound) (h .slot) n (w .file) called) ∙ user-whole g d (h .slot) (w .user)
+
+  abs-changed : (d′ : List ℕ) (u : File → File) → plain g d′ (nameOf g d (h .slot)) ≡ found (u (fileAt g d (h .slot))) → abs g d′ n ≡ changed u (abs g d n)
+  unfolding changed
+  abs-changed d′ u o = go ∙ sym (ap (changed u) abs-own)
+    where
+      go : abs g d′ n ≡ hush (found (u (fileAt g d (h .slot))))
+      go = unfold abs in (ap (λ (m : Name). hush (plain g d′ m)) (sym called) ∙ ap hush o)
+
+  abs-gone : (d′ : List ℕ) → plain g d′ (nameOf g d (h .slot)) ≡ nothing → abs g d′ n ≡ nothing
+  unfolding abs hush
+  abs-gone d′ o = ap (λ (m : Name). hush (plain g d′ m)) (sym called) ∙ ap hush o
+
+  abs-others : (d′ : List ℕ) → ((m : Name) → m ≢ nameOf g d (h .slot) → hush (plain g d′ m) ≡ hush (plain g d m)) → (m : Name) → m ≢ n → abs g d′ m ≡ abs g d m
+  unfolding abs
+  abs-others d′ o m q = o m (λ z. q (z ∙ called))
+
+good-after : (g : Geometry) (d d′ : List ℕ) → Good g d → length d′ ≡ length d → consistent g d′ ≡ true → Good g d′
+unfolding Good fitsGeometry
+good-after g d d′ k l c = (rw l (k .0), c)
+
+-- the level that open gives
+open-level : (g : Geometry) (d : List ℕ) (n : Name) (checking : Bool) (code : ℕ) → (T (missing g d n) → ⊥)
+    → cond (full g d (firstOr 0 (named g d n)) checking code) 0 (accessLevel g d (firstOr 0 (named g d n))) ≡ levelOf g checking code (abs g d n)
+unfolding abs plain firstOr foundIn hush levelOf fileAt full
+open-level g d n checking code h = go (named g d n) h
+  where
+    go : (xs : List ℕ) → (T (eqb (length xs) 0) → ⊥) → cond (full g d (firstOr 0 xs) checking code) 0 (accessLevel g d (firstOr 0 xs)) ≡ levelOf g checking code (hush (foundIn g d xs))
+    go [] h = absurd (h tt)
+    go (x ∷ xs) h = refl
+
+-- a name that is not found has no file, and one that is found has one
+abs-missing : (g : Geometry) (d : List ℕ) (n : Name) → T (missing g d n) → abs g d n ≡ nothing
+unfolding abs plain foundIn hush
+abs-missing g d n t = go (named g d n) t
+  where
+    go : (xs : List ℕ) → T (eqb (length xs) 0) → hush (foundIn g d xs) ≡ nothing
+    go [] t = refl
+    go (x ∷ xs) t = let e = eqb→eq (length (x ∷ xs)) 0 t in absurd (omega arith)
+
+new-level : (g : Geometry) (checking : Bool) (code : ℕ) (x : Found) → x ≡ nothing → 0 ≡ levelOf g checking code x
+unfolding levelOf
+new-level g checking code x e = sym (ap (levelOf g checking code) e)
+
+abs-old : (g : Geometry) (d : List ℕ) (n : Name) (f : NewFile) → (T (missing g d n) → ⊥) → abs g d n ≡ born f (abs g d n)
+unfolding abs plain foundIn hush born
+abs-old g d n f t = go (named g d n) t
+  where
+    go : (xs : List ℕ) → (T (eqb (length xs) 0) → ⊥) → hush (foundIn g d xs) ≡ born f (hush (foundIn g d xs))
+    go [] t = absurd (t tt)
+    go (x ∷ xs) t = refl
+
+-- Each call --------------------------------------------------------------------------------------------------------------
+
+pub record Effect (g : Geometry) (n : Name) (d : List ℕ) (hs : List Handle) (c : Op) (d′ : List ℕ) (hs′ : List Handle) : Type 0 where
+  pub good : Good g d′
+  pub held : Held n hs′
+  pub file : abs g d′ n ≡ eff g c (own grip (abs g) n d hs) .file
+  pub grips : map grip hs′ ≡ eff g c (own grip (abs g) n d hs) .grips
+  pub spares : (m : Name) → m ≢ n → abs g d′ m ≡ abs g d m
+
+module _ (g : Geometry) (n : Name) (d : List ℕ) (hs : List Handle) (k : Good g d) (held : Held n hs) where
+  abbrev before : State
+  before = own grip (abs g) n d hs
+
+  grip-at : (i : ℕ) → getD (map grip hs) i (grip noHandle) ≡ grip (handleAt hs i)
+  grip-at i = List·getD-map grip hs i noHandle
+
+  abs-same : (m : Name) → m ≢ n → abs g d m ≡ abs g d m
+  abs-same m q = refl
+
+  look-effect : lookUp g d n .number ≡ 0 → Effect g n d hs looks d hs
+  unfolding eff
+  look-effect e = record { good = k; held = held; file = refl; grips = refl; spares = abs-same }
+
+  open-effect : (len : ℕ) (checking : Bool) (code : ℕ) → open′ g d n len checking code .number ≡ 0
+      → Effect g n d hs (opens len checking code) d (hs ++ (open′ g d n len checking code .handle ∷ []))
+  unfolding eff open′
+  open-effect len checking code e =
+      let p₁ = KillMeans.passed 1 _ _ (omega arith) e in
+      let p₂ = KillMeans.passed 2 _ _ (omega arith) (p₁ .1) in
+      let p₃ = KillMeans.passed 12 _ _ (omega arith) (p₂ .1) in
+      let p₄ = KillMeans.passed 3 _ _ (omega arith) (p₃ .1) in
+      let p₅ = KillMeans.passed 4 _ _ (omega arith) (p₄ .1) in
+      rw e (record {
+        good = k;
+        held = held-snoc n hs (openedAt g d (firstOr 0 (named g d n)) n len checking code) held refl;
+        file = refl;
+        grips = map-snoc hs _ ∙ ap (λ (l : ℕ). map grip hs ++ (record { at = 0; len = len; level = l } ∷ [])) (open-level g d n checking code (p₅ .0));
+        spares = abs-same;
+      })
+
+  place-effect : (i at : ℕ) → T (ltb i (length hs)) → Effect g n d hs (places i at) d (set hs i (movedTo (handleAt hs i) at))
+  unfolding eff
+  place-effect i at t = record {
+    good = k;
+    held = held-set n hs i _ held (held-at n hs i held t);
+    file = refl;
+    grips = map-set hs i _ ∙ ap (λ (x : Grip). set (map grip hs) i (atPlace x at)) (sym (grip-at i));
+    spares = abs-same;
+  }
+
+  moved : (i : ℕ) → map grip (set hs i (movedTo (handleAt hs i) (handleAt hs i .at + handleAt hs i .len)))
+      ≡ set (map grip hs) i (atPlace (getD (map grip hs) i (grip noHandle)) (getD (map grip hs) i (grip noHandle) .at + getD (map grip hs) i (grip noHandle) .len))
+  moved i = map-set hs i _ ∙ ap (λ (x : Grip). set (map grip hs) i (atPlace x (x .at + x .len))) (sym (grip-at i))
+
+  read-effect : (i : ℕ) (b : List ℕ) → T (ltb i (length hs)) → readRecord g d (handleAt hs i) b .0 .number ≡ 0
+      → Effect g n d hs (reads i b) d (set hs i (readRecord g d (handleAt hs i) b .0 .handle))
+  unfolding eff readRecord
+  read-effect i b t e = rw e (record {
+    good = k;
+    held = held-set n hs i _ held (held-at n hs i held t);
+    file = refl;
+    grips = moved i;
+    spares = abs-same;
+  })
+
+  sector-effect : (i j : ℕ) → Effect g n d hs (readsSector i j) d hs
+  unfolding eff
+  sector-effect i j = record { good = k; held = held; file = refl; grips = refl; spares = abs-same }
+
+  write-effect : (m : Mode) (i : ℕ) (b : List ℕ) → T (ltb i (length hs)) → writeRecord g d m (handleAt hs i) b .0 .number ≡ 0
+      → Effect g n d hs (writes m i b) (writeRecord g d m (handleAt hs i) b .1) (set hs i (writeRecord g d m (handleAt hs i) b .0 .handle))
+  unfolding eff
+  write-effect m i b t e =
+      let h = handleAt hs i in
+      let q = held-at n hs i held t in
+      let w = WriteMeans.write-wrote g d m h b e in
+      let d′ = writeRecord g d m h b .1 in
+      record {
+        good = good-after g d d′ k (w .1 .long) (w .1 .consistent′);
+        held = held-set n hs i _ held (name-kept q);
+        file = abs-changed g d n h (w .0) q d′ (writtenTo m (h .at) (take (h .len) b)) (w .1 .own)
+            ∙ ap (λ (x : Grip). changed (writtenTo m (x .at) (take (x .len) b)) (abs g d n)) (sym (grip-at i));
+        grips = handle-moved;
+        spares = abs-others g d n h (w .0) q d′ (w .1 .others);
+      }
+    where
+      name-kept : handleAt hs i .name ≡ n → writeRecord g d m (handleAt hs i) b .0 .handle .name ≡ n
+      name-kept q = unfold writeRecord in rw e q
+
+      handle-moved : map grip (set hs i (writeRecord g d m (handleAt hs i) b .0 .handle))
+          ≡ set (map grip hs) i (atPlace (getD (map grip hs) i (grip noHandle)) (getD (map grip hs) i (grip noHandle) .at + getD (map grip hs) i (grip noHandle) .len))
+      handle-moved = unfold writeRecord in rw e (moved i)
+
+  allot-effect : (i j : ℕ) → T (ltb i (length hs)) → allot g d (handleAt hs i) j .0 .number ≡ 0
+      → Effect g n d hs (allots i j) (allot g d (handleAt hs i) j .1) hs
+  unfolding eff
+  allot-effect i j t e =
+      let h = handleAt hs i in
+      let q = held-at n hs i held t in
+      let x = Grow.allot-means g d h j e in
+      let d′ = allot g d h j .1 in
+      let w : Holds g d h = unfold allot in (KillMeans.holds g d h _ 4 _ e .0) in
+      record {
+        good = good-after g d d′ k (x .long) (x .consistent′);
+        held = held;
+        file = abs-changed g d n h w q d′ (allottedTo j) (x .own);
+        grips = refl;
+        spares = abs-others g d n h w q d′ (x .others);
+      }
+
+  trim-effect : (i : ℕ) → T (ltb i (length hs)) → trim g d (handleAt hs i) .0 .number ≡ 0
+      → Effect g n d hs (trims i) (trim g d (handleAt hs i) .1) hs
+  unfolding eff
+  trim-effect i t e =
+      let h = handleAt hs i in
+      let q = held-at n hs i held t in
+      let x = Trim.trim-means g d h e in
+      let d′ = trim g d h .1 in
+      let w : Holds g d h = unfold trim in (KillMeans.holds g d h _ 4 [] e .0) in
+      record {
+        good = good-after g d d′ k (x .long) (x .consistent′);
+        held = held;
+        file = abs-changed g d n h w q d′ trimmed (x .own);
+        grips = refl;
+        spares = abs-others g d n h w q d′ (x .others);
+      }
+
+  kill-effect : (i : ℕ) → T (ltb i (length hs)) → kill g d (handleAt hs i) .0 .number ≡ 0
+      → Effect g n d hs (kills i) (kill g d (handleAt hs i) .1) hs
+  unfolding eff
+  kill-effect i t e =
+      let h = handleAt hs i in
+      let q = held-at n hs i held t in
+      let x = KillMeans.kill-means g d h e in
+      let d′ = kill g d h .1 in
+      let w : Holds g d h = unfold kill in (KillMeans.holds g d h _ 1 [] e .0) in
+      record {
+        good = good-after g d d′ k (x .long) (x .consistent′);
+        held = held;
+        file = abs-gone g d n h w q d′ (x .gone);
+        grips = refl;
+        spares = abs-others g d n h w q d′ (x .others);
+      }
+
+  create-old : (f : NewFile) (checking : Bool) → create g d n f checking .0 .number ≡ 0 → (T (missing g d n) → ⊥)
+      → Effect g n d hs (creates f checking) (create g d n f checking .1) (hs ++ (create g d n f checking .0 .handle ∷ []))
+  unfolding create eff
+  create-old f checking e t = rw (e, Members.no-false {b = missing g d n} t) (record {
+    good = k;
+    held = held-snoc n hs (openedAt g d (firstOr 0 (named g d n)) n (f .len) checking (f .main)) held refl;
+    file = abs-old g d n f t;
+    grips = map-snoc hs _ ∙ ap (λ (l : ℕ). map grip hs ++ (record { at = 0; len = f .len; level = l } ∷ [])) (open-level g d n checking (f .main) t);
+    spares = abs-same;
+  })
+
+  new-handle : (f : NewFile) (checking : Bool) → create g d n f checking .0 .number ≡ 0 → T (missing g d n)
+      → (create g d n f checking .0 .old ≡ false) × (create g d n f checking .0 .handle ≡ record { slot = firstOr 0 (freeSlots g d); name = n; at = 0; len = f .len; level = 0 })
+  unfolding create
+  new-handle f checking e t = rw (e, Members.T-true {b = missing g d n} t) (refl, refl)
+
+  new-file : (f : NewFile) (d′ : List ℕ) → T (missing g d n) → plain g d′ n ≡ found (bornAs f) → abs g d′ n ≡ born f (abs g d n)
+  unfolding born
+  new-file f d′ t e = told ∙ sym (ap (born f) (abs-missing g d n t))
+    where
+      told : abs g d′ n ≡ hush (found (bornAs f))
+      told = unfold abs in ap hush e
+
+  create-new : (f : NewFile) (checking : Bool) → create g d n f checking .0 .number ≡ 0 → T (missing g d n)
+      → Effect g n d hs (creates f checking) (create g d n f checking .1) (hs ++ (create g d n f checking .0 .handle ∷ []))
+  unfolding eff abs
+  create-new f checking e t =
+      let h = new-handle f checking e t in
+      let x = Create.create-means g d n f checking e (h .0) in
+      let d′ = create g d n f checking .1 in
+      record {
+        good = good-after g d d′ k (x .long) (x .consistent′);
+        held = held-snoc n hs _ held (ap (λ (y : Handle). y .name) (h .1));
+        file = new-file f d′ t (x .born);
+        grips = map-snoc hs _ ∙ ap (λ (y : Handle). map grip hs ++ (grip y ∷ [])) (h .1)
+            ∙ ap (λ (l : ℕ). map grip hs ++ (record { at = 0; len = f .len; level = l } ∷ [])) (new-level g checking (f .main) (abs g d n) (abs-missing g d n t));
+        spares = x .others;
+      }
+
+  create-effect : (f : NewFile) (checking : Bool) → create g d n f checking .0 .number ≡ 0
+      → Effect g n d hs (creates f checking) (create g d n f checking .1) (hs ++ (create g d n f checking .0 .handle ∷ []))
+  create-effect f checking e = go (Members.decide (missing g d n))
+    where
+      go : Members.Test (missing g d n) → Effect g n d hs (creates f checking) (create g d n f checking .1) (hs ++ (create g d n f checking .0 .handle ∷ []))
+      go (Members.Test.fails t) = create-old f checking e t
+      go (Members.Test.holds t) = create-new f checking e t
+
+-- the call as one of the list
+pub effect : (g : Geometry) (n : Name) (d : List ℕ) (hs : List Handle) (c : Op) → Good g d → Held n hs → T (known hs c) → answer g n d hs c .number ≡ 0
+    → Effect g n d hs c (answer g n d hs c .disk) (answer g n d hs c .handles)
+unfolding answer known
+effect g n d hs looks k h t e = look-effect g n d hs k h e
+effect g n d hs (opens len checking code) k h t e = open-effect g n d hs k h len checking code e
+effect g n d hs (creates f checking) k h t e = create-effect g n d hs k h f checking e
+effect g n d hs (places i at) k h t e = place-effect g n d hs k h i at t
+effect g n d hs (reads i b) k h t e = read-effect g n d hs k h i b t e
+effect g n d hs (readsSector i j) k h t e = sector-effect g n d hs k h i j
+effect g n d hs (writes m i b) k h t e = write-effect g n d hs k h m i b t e
+effect g n d hs (allots i j) k h t e = allot-effect g n d hs k h i j t e
+effect g n d hs (trims i) k h t e = trim-effect g n d hs k h i t e
+effect g n d hs (kills i) k h t e = kill-effect g n d hs k h i t e

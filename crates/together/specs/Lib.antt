@@ -1,0 +1,9 @@
+pub mod Inter
+pub mod Lists
+pub mod Effects
+pub mod Together
+pub mod Chains
+pub mod Quiet
+pub mod Still
+pub mod Bytes
+pub mod Demand3
