@@ -306,6 +306,8 @@ pub record CreateMeans (g : Geometry) (d d′ n : List ℕ) (f : NewFile) : Type
   pub free′ : freeGranules g d′ ≡ freeGranules g d
   pub born : plain g d′ n ≡ found (bornAs f)
   pub others : (m : List ℕ) → m ≢ n → hush (plain g d′ m) ≡ hush (plain g d m)
+  pub beyond′ : (m : List ℕ) → m ≢ n → Others.beyond g d′ m ≡ Others.beyond g d m
+  pub was : plain g d n ≡ nothing
   pub same′ : (q : ℕ) → Facts.File g d q → T (not (system g d q)) → fileAt g d′ q ≡ fileAt g d q
 
 made-length : (g : Geometry) (d : List ℕ) (c : Sound g d) (k : Places.Fits g d) (x : ℕ) (t : T (isSlot g d x)) (z : hit g d x ≡ 0)
@@ -331,6 +333,8 @@ create-made g d c k x t z n w f free =
       free′ = free-stays g d c k x t z n w f free;
       born = Named.plain-is g d′ (Change.changed g d d′ c x h) x n v m ∙ ap {B = Found} found (made-born g d c k x t z n w f free);
       others = λ b e. Others.others-plain g d d′ c x h s b (λ q. absurd (no′ q)) (λ q a. e (sym a ∙ m));
+      beyond′ = λ b e. Others.beyond-plain g d d′ c x h s b (λ q. absurd (no′ q)) (λ q a. e (sym a ∙ m));
+      was = Named.plain-none g d n free;
       same′ = λ q a u. Others.others g d d′ c x h s q a (λ e. no′ (rw e at a)) u;
     }
 

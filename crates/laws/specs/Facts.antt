@@ -59,7 +59,7 @@ module _ (g : Geometry) (d : List ℕ) where
   unfolding files
   in-files p f = Members.in-keep (primary g d) (in-slots p (f .slot)) (f .primary′)
 
-  files-distinct : Members.Distinct (files g d)
+  pub files-distinct : Members.Distinct (files g d)
   unfolding files
   files-distinct = Members.keep-distinct (primary g d) slots-distinct
 

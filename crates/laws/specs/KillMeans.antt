@@ -76,6 +76,7 @@ pub record KillMeans (g : Geometry) (d d′ : List ℕ) (p : ℕ) : Type 0 where
   pub free : length (freeGranules g d′) ≡ length (freeGranules g d) + length (owned g d p)
   pub gone : plain g d′ (nameOf g d p) ≡ nothing
   pub others : (n : List ℕ) → n ≢ nameOf g d p → hush (plain g d′ n) ≡ hush (plain g d n)
+  pub beyond′ : (n : List ℕ) → n ≢ nameOf g d p → Others.beyond g d′ n ≡ Others.beyond g d n
   pub same′ : (q : ℕ) → Facts.File g d q → q ≢ p → T (not (system g d q)) → fileAt g d′ q ≡ fileAt g d q
 
 kill-free : (g : Geometry) (d : List ℕ) (c : Facts.Sound g d) (k : Places.Fits g d) (p : ℕ) (f : Facts.File g d p)
@@ -103,5 +104,6 @@ kill-means g d h e =
       free = kill-free g d (w .sound) (w .fits) p (w .file);
       gone = Others.gone-plain g d (killed g d p) (w .sound) p x (w .file) n;
       others = λ m k. Others.others-plain g d (killed g d p) (w .sound) p x s m (λ f q. k (sym q)) (λ f. absurd (n f));
+      beyond′ = λ m k. Others.beyond-plain g d (killed g d p) (w .sound) p x s m (λ f q. k (sym q)) (λ f. absurd (n f));
       same′ = Others.others g d (killed g d p) (w .sound) p x s;
     })

@@ -24,5 +24,7 @@ pub mod Drop
 pub mod Unhook
 pub mod DropLast
 pub mod Steps
+pub mod Bytes
+pub mod Tally
 pub mod Rewrite
 pub mod Store

@@ -55,6 +55,9 @@ module _ (g : Geometry) (d : List ℕ) where
     unfolding words
     named-is p f = only p _ (in-named p f) (λ x i. let k = named-in (nameOf g d p) x i in c .names x p (k .0) f (k .1))
 
+    pub named-at : (p : ℕ) (n : List ℕ) → File g d p → nameOf g d p ≡ n → named g d n ≡ p ∷ []
+    named-at p n f e = subst (λ (m : List ℕ). named g d m ≡ p ∷ []) e (named-is p f)
+
     -- there is a file of that name, or none
     pub look : (n : List ℕ) → ((p : ℕ) × File g d p × (nameOf g d p ≡ n)) ⊎ ((p : ℕ) → File g d p → nameOf g d p ≢ n)
     look n = go (keep (carries g d n) (candidates g d n)) refl
@@ -65,7 +68,7 @@ module _ (g : Geometry) (d : List ℕ) where
 
     pub plain-is : (p : ℕ) (n : List ℕ) → File g d p → nameOf g d p ≡ n → plain g d n ≡ found (fileAt g d p)
     unfolding plain foundIn
-    plain-is p n f e = rw (← e, named-is p f)
+    plain-is p n f e = rw (named-at p n f e)
 
   pub plain-none : (n : List ℕ) → ((p : ℕ) → File g d p → nameOf g d p ≢ n) → plain g d n ≡ nothing
   unfolding plain foundIn

@@ -14,7 +14,9 @@ use Rattle.meaning.specs.Bits.{bit}
 use Rattle.meaning.specs.Entries.{system, nameOf, sizeOf}
 use Rattle.meaning.specs.Chain.{owned, files, place}
 use Rattle.meaning.specs.Read.{fetch}
-use Rattle.meaning.specs.Plain.{Found, found, nothing, fileAt, plain, hush, reserved}
+use Rattle.meaning.specs.LookUp.{named}
+use Rattle.meaning.specs.Plain
+use Rattle.meaning.specs.Plain.{Found, found, nothing, fileAt, foundIn, plain, hush, reserved}
 use Rattle.meaning.specs.declared.Geometry.{Geometry}
 use Rattle.laws.specs.Members
 use Rattle.laws.specs.Members.{In}
@@ -44,6 +46,29 @@ abbrev pub Same : Geometry → List ℕ → List ℕ → ℕ → Type 0
 Same g d d′ p = (i : ℕ) → (In (i / granuleBytes) (directoryGranules g d) → ⊥) → (In (i / granuleBytes) (granulesOf g d p) → ⊥)
     → (In (i / granuleBytes) (granulesOf g d′ p) → ⊥) → byte d′ i ≡ byte d i
 
+-- The file at slot p with its bytes that lie in a granule of the directory put to 0: what a change of another file must leave alone
+-- even of a system file.
+unfoldable pub beyondAt : Geometry → List ℕ → ℕ → Plain.File
+beyondAt g d p =
+    record {
+      attributes = fileAt g d p .attributes;
+      granules = fileAt g d p .granules;
+      bytes = map (λ j. cond (has (directoryGranules g d) (place g d p j / granuleBytes)) 0 (byte d (place g d p j))) (count 0 (sizeOf g d p));
+    }
+
+unfoldable pub beyondIn : Geometry → List ℕ → List ℕ → Found
+beyondIn g d [] = nothing
+beyondIn g d (p ∷ ps) = found (beyondAt g d p)
+
+-- the plain list of named files, told so
+unfoldable pub beyond : Geometry → List ℕ → Plain.Plain
+beyond g d n = beyondIn g d (named g d n)
+
+-- the name n stands at the same slot in both, and not at p; or at none
+pub data Elsewhere (g : Geometry) (d d′ : List ℕ) (p : ℕ) (n : List ℕ) : Type 0 where
+  bears : (q : ℕ) → File g d q → q ≢ p → named g d n ≡ q ∷ [] → named g d′ n ≡ q ∷ [] → Elsewhere g d d′ p n
+  lacks : named g d n ≡ [] → named g d′ n ≡ [] → Elsewhere g d d′ p n
+
 pub attribute-low : (k : ℕ) → In k (0 ∷ 1 ∷ 2 ∷ 4 ∷ count 0x10 4) → k < 0x16
 attribute-low k i = ltb→lt k 0x16 (Members.every-all (λ k. ltb k 0x16) tt i)
 
@@ -54,11 +79,39 @@ pub length-count : (i n : ℕ) → length (count i n) ≡ n
 length-count i zero = refl
 length-count i (suc n) = ap suc (length-count (i + 1) n)
 
+-- a file that is no system file is told whole
+pub beyond-whole : (g : Geometry) (d : List ℕ) → Sound g d → (p : ℕ) → File g d p → T (not (system g d p)) → beyondAt g d p ≡ fileAt g d p
+unfolding beyondAt fileAt words
+beyond-whole g d c p f u = λ i. record {
+  attributes = fileAt g d p .attributes;
+  granules = fileAt g d p .granules;
+  bytes = Members.map-eq _ _ (count 0 (sizeOf g d p)) (λ j k. one j (omega (arith, Members.count-in j 0 (sizeOf g d p) k))) i;
+}
+  where
+    one : (j : ℕ) → j < sizeOf g d p → cond (has (directoryGranules g d) (place g d p j / granuleBytes)) 0 (byte d (place g d p j)) ≡ byte d (place g d p j)
+    one j b = rw (Members.no-false {b = has (directoryGranules g d) (place g d p j / granuleBytes)} (λ t.
+        Change.filed-at g d c p f .off u _ (place-in g d p j (omega (arith, Change.filed-at g d c p f .fits))) (Members.has-in _ _ t)))
+
 pub file-length : (g : Geometry) (d : List ℕ) (p : ℕ) → length (fileAt g d p .bytes) ≡ sizeOf g d p
 unfolding fileAt words
 file-length g d p = length-map (count 0 (sizeOf g d p)) _ ∙ length-count 0 (sizeOf g d p)
 
 module _ (g : Geometry) (d d′ : List ℕ) (c : Sound g d) (p : ℕ) (h : Change.Change g d d′ p) where
+  others-at : (n : List ℕ) → (File g d p → nameOf g d p ≢ n) → (File g d′ p → nameOf g d′ p ≢ n) → Elsewhere g d d′ p n
+  others-at n a b = go (Named.look g d c n)
+    where
+      go : ((q : ℕ) × File g d q × (nameOf g d q ≡ n)) ⊎ ((q : ℕ) → File g d q → nameOf g d q ≢ n) → Elsewhere g d d′ p n
+      go (inl w) =
+          let q = w .0 in let f = w .1 in
+          let e : q ≢ p = λ e. a (rw e at f) (rw e at (w .2)) in
+          Elsewhere.bears q f e (Named.named-at g d c q n f (w .2))
+          (Named.named-at g d′ (Change.changed g d d′ c p h) q n (Change.file-stays g d d′ c p h q f e) (Change.name-stays g d d′ c p h q f e ∙ w .2))
+      go (inr w) = Elsewhere.lacks (Named.none-named g d n w) (Named.none-named g d′ n (λ q f e. other q f e (ℕ-discrete q p)))
+        where
+          other : (q : ℕ) → File g d′ q → nameOf g d′ q ≡ n → Dec (q ≡ p) → ⊥
+          other q f e (yes k) = b (rw k at f) (rw k at e)
+          other q f e (no k) = let v = Change.file-was g d d′ c p h q f k in w q v (sym (Change.name-stays g d d′ c p h q v k) ∙ e)
+
   size-stays : (q : ℕ) → File g d q → q ≢ p → sizeOf g d′ q ≡ sizeOf g d q
   unfolding words
   size-stays q f n = let a = Change.spared-first g d d′ c p h q f n in rw (a 3 (omega arith), a 0x14 (omega arith), a 0x15 (omega arith))
@@ -96,23 +149,40 @@ module _ (g : Geometry) (d d′ : List ℕ) (c : Sound g d) (p : ℕ) (h : Chang
             (ap (λ (m : ℕ). replicate {A = ℕ} m 0) (file-length g d′ q ∙ size-stays q f n ∙ sym (file-length g d q)))
         same (Members.Test.fails t) = rw (Change.spared-first g d d′ c p h q f n 0 (omega arith), Members.no-false {b = system g d q} t) (bytes-stay q f n (not-T (system g d q) t))
 
+    -- its bytes beyond the directory, a system file's too
+    beyond-bytes : (q : ℕ) → File g d q → q ≢ p → beyondAt g d′ q .bytes ≡ beyondAt g d q .bytes
+    unfolding beyondAt place words
+    beyond-bytes q f n =
+        rw (size-stays q f n, Change.owned-stays g d d′ c p h q f n, Frame.directory-eq g d d′ (h .above))
+        (Members.map-eq _ _ (count 0 (sizeOf g d q)) (λ j k. one j (omega (arith, Members.count-in j 0 (sizeOf g d q) k)) (Members.in? (place g d q j / granuleBytes) (directoryGranules g d))))
+      where
+        one : (j : ℕ) → j < sizeOf g d q → In (place g d q j / granuleBytes) (directoryGranules g d) ⊎ (In (place g d q j / granuleBytes) (directoryGranules g d) → ⊥)
+            → cond (has (directoryGranules g d) (place g d q j / granuleBytes)) 0 (byte d′ (place g d q j)) ≡ cond (has (directoryGranules g d) (place g d q j / granuleBytes)) 0 (byte d (place g d q j))
+        one j b (inl t) = rw (Members.T-true {b = has (directoryGranules g d) (place g d q j / granuleBytes)} (Members.in-has t))
+        one j b (inr t) =
+            let o = place-in g d q j (omega (arith, Change.filed-at g d c q f .fits)) in
+            rw (s (place g d q j) t (Change.foreign-granule g d d′ c p h q _ f n o) (Change.foreign-granule′ g d d′ c p h q _ f n o))
+
+    pub beyond-stays : (q : ℕ) → File g d q → q ≢ p → beyondAt g d′ q ≡ beyondAt g d q
+    unfolding beyondAt
+    beyond-stays q f n = λ i. record { attributes = attributes-stay q f n i; granules = granules-stay q f n i; bytes = beyond-bytes q f n i }
+
     -- what stands under any other name
     pub others-plain : (n : List ℕ) → (File g d p → nameOf g d p ≢ n) → (File g d′ p → nameOf g d′ p ≢ n) → hush (plain g d′ n) ≡ hush (plain g d n)
-    others-plain n a b = go (Named.look g d c n)
+    unfolding plain foundIn
+    others-plain n a b = go (others-at n a b)
       where
-        go : ((q : ℕ) × File g d q × (nameOf g d q ≡ n)) ⊎ ((q : ℕ) → File g d q → nameOf g d q ≢ n) → hush (plain g d′ n) ≡ hush (plain g d n)
-        go (inl w) =
-            let q = w .0 in let f = w .1 in
-            let e : q ≢ p = λ e. a (rw e at f) (rw e at (w .2)) in
-            rw (
-              Named.plain-is g d c q n f (w .2),
-              Named.plain-is g d′ (Change.changed g d d′ c p h) q n (Change.file-stays g d d′ c p h q f e) (Change.name-stays g d d′ c p h q f e ∙ w .2),
-            ) (hushed q f e)
-        go (inr w) = rw (Named.plain-none g d n w, Named.plain-none g d′ n (λ q f e. other q f e (ℕ-discrete q p)))
-          where
-            other : (q : ℕ) → File g d′ q → nameOf g d′ q ≡ n → Dec (q ≡ p) → ⊥
-            other q f e (yes k) = b (rw k at f) (rw k at e)
-            other q f e (no k) = let v = Change.file-was g d d′ c p h q f k in w q v (sym (Change.name-stays g d d′ c p h q v k) ∙ e)
+        go : Elsewhere g d d′ p n → hush (foundIn g d′ (named g d′ n)) ≡ hush (foundIn g d (named g d n))
+        go (Elsewhere.bears q f e x y) = rw (x, y) (hushed q f e)
+        go (Elsewhere.lacks x y) = rw (x, y)
+
+    pub beyond-plain : (n : List ℕ) → (File g d p → nameOf g d p ≢ n) → (File g d′ p → nameOf g d′ p ≢ n) → beyond g d′ n ≡ beyond g d n
+    unfolding beyond beyondIn
+    beyond-plain n a b = go (others-at n a b)
+      where
+        go : Elsewhere g d d′ p n → beyondIn g d′ (named g d′ n) ≡ beyondIn g d (named g d n)
+        go (Elsewhere.bears q f e x y) = rw (x, y) (ap {B = Found} found (beyond-stays q f e))
+        go (Elsewhere.lacks x y) = rw (x, y)
 
   -- a file that is gone
   pub gone-plain : File g d p → (File g d′ p → ⊥) → plain g d′ (nameOf g d p) ≡ nothing

@@ -169,5 +169,9 @@ module _ (g : Geometry) (d d′ : List ℕ) (c : Sound g d) (p : ℕ) (f : Facts
     own = λ q. own′;
   }
 
+  pub rw-free : freeGranules g d′ ≡ freeGranules g d
+  unfolding freeGranules
+  rw-free = Members.keep-eq _ _ (count 0 (granules g)) (λ n i. ap not (h .keeps n (omega (arith, Members.count-in n 0 (granules g) i))))
+
   pub rw-same : Others.Same g d d′ p
   rw-same = λ i a b e. h .same i a (λ j. b (rw grans j))

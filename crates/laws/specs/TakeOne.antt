@@ -52,6 +52,10 @@ free-says g d n i =
     let a = Members.keep-in (λ n. not (taken g d n)) n (count 0 (granules g)) i in
     (omega (arith, Members.count-in n 0 (granules g) (a .0)), T-not (taken g d n) (a .1))
 
+-- the lowest free granule, where there is one
+pub first-free : (g : Geometry) (d : List ℕ) → 1 ≤ length (freeGranules g d) → (firstOr 0 (freeGranules g d) < granules g) × (T (taken g d (firstOr 0 (freeGranules g d))) → ⊥)
+first-free g d room = free-says g d (firstOr 0 (freeGranules g d)) (free-in g d room)
+
 module _ (g : Geometry) (d : List ℕ) (c : Sound g d) (k : Places.Fits g d) (p : ℕ) (f : File g d p) (u : T (not (system g d p))) (room : 1 ≤ length (freeGranules g d)) where
   abbrev e : ℕ
   e = tail g p d
@@ -60,7 +64,7 @@ module _ (g : Geometry) (d : List ℕ) (c : Sound g d) (k : Places.Fits g d) (p 
   n = firstOr 0 (freeGranules g d)
 
   is-free : (n < granules g) × (T (taken g d n) → ⊥)
-  is-free = free-says g d n (free-in g d room)
+  is-free = first-free g d room
 
   by-tail : (d′ : List ℕ) (m : ℕ) → Tail.Grows g d d′ p m → length d′ ≡ length d → Took g d d′ p
   by-tail d′ m w l = record { which = m; change = Tail.grows-change g d d′ c p f m w u; longer = Tail.grows-longer g d d′ c p f m w; long = l; file = Tail.grows-file g d d′ c p f m w }

@@ -34,6 +34,8 @@ use Rattle.laws.specs.Take
 use Rattle.laws.specs.Extend
 use Rattle.laws.specs.TakeNew
 use Rattle.laws.specs.TakeOne
+use Rattle.laws.specs.Bytes
+use Rattle.laws.specs.Bytes.{Small}
 use Rattle.laws.specs.TakeOne.{Took}
 use Rattle.laws.specs.Named
 use Rattle.laws.specs.KillMeans
@@ -66,6 +68,8 @@ pub record Grew (g : Geometry) (d d′ : List ℕ) (p k : ℕ) : Type 0 where
   pub attributes : fileAt g d′ p .attributes ≡ fileAt g d p .attributes
   pub bytes : fileAt g d′ p .bytes ≡ fileAt g d p .bytes
   pub others : (n : List ℕ) → n ≢ nameOf g d p → hush (plain g d′ n) ≡ hush (plain g d n)
+  pub beyond′ : (n : List ℕ) → n ≢ nameOf g d p → Others.beyond g d′ n ≡ Others.beyond g d n
+  pub small : Small d → Small d′
   pub same : (i : ℕ) → (In (i / granuleBytes) (directoryGranules g d) → ⊥) → byte d′ i ≡ byte d i
 
 module _ (g : Geometry) where
@@ -87,12 +91,14 @@ module _ (g : Geometry) where
     attributes = refl;
     bytes = refl;
     others = λ n q. refl;
+    beyond′ = λ n q. refl;
+    small = λ b. b;
     same = λ i o. refl;
   }
 
-  grew-one : (d d₁ : List ℕ) (p : ℕ) → Sound g d → Places.Fits g d → File g d p → T (not (system g d p)) → Took g d d₁ p → Grew g d d₁ p 1
+  grew-one : (d d₁ : List ℕ) (p : ℕ) → Sound g d → Places.Fits g d → File g d p → T (not (system g d p)) → (Small d → Small d₁) → Took g d d₁ p → Grew g d d₁ p 1
   unfolding nameOf
-  grew-one d d₁ p c k f u w =
+  grew-one d d₁ p c k f u b w =
       let m = w .which in let h = w .change in let l = w .longer in
       let s : Others.Same g d d₁ p = λ i a b e. l .same i a in
       let n : nameOf g d₁ p ≡ nameOf g d p = Members.map-eq (field g d₁ p) (field g d p) (count 5 11) (λ j i. l .low j (omega (arith, Members.count-in j 5 11 i))) in
@@ -114,6 +120,8 @@ module _ (g : Geometry) where
         attributes = ap (λ (x : Rattle.meaning.specs.Plain.File). x .attributes) file′;
         bytes = ap (λ (x : Rattle.meaning.specs.Plain.File). x .bytes) file′;
         others = λ b q. Others.others-plain g d d₁ c p h s b (λ z a. q (sym a)) (λ z a. q (sym a ∙ n));
+        beyond′ = λ b q. Others.beyond-plain g d d₁ c p h s b (λ z a. q (sym a)) (λ z a. q (sym a ∙ n));
+        small = b;
         same = l .same;
       }
 
@@ -136,6 +144,8 @@ module _ (g : Geometry) where
     attributes = y .attributes ∙ x .attributes;
     bytes = y .bytes ∙ x .bytes;
     others = λ n q. y .others n (λ z. q (z ∙ x .name)) ∙ x .others n q;
+    beyond′ = λ n q. y .beyond′ n (λ z. q (z ∙ x .name)) ∙ x .beyond′ n q;
+    small = λ b. y .small (x .small b);
     same = λ i o. y .same i (λ z. o (subst (λ (v : ℕ). In (i / granuleBytes) (count (g .start / granuleSectors) ((10 + v) / granuleSectors))) (x .above) z)) ∙ x .same i o;
   }
 
@@ -147,7 +157,7 @@ module _ (g : Geometry) where
     where
       go : (t : Grown) → takeOne g p d ≡ t → andThen t (grow g p k) ≡ grown d′ → ((d₁ : List ℕ) → Grew g d d₁ p 1 → grow g p k d₁ ≡ grown d′ → Grew g d₁ d′ p k) → Grew g d d′ p (suc k)
       go (grown d₁) e q ih =
-          let x = grew-one d d₁ p c w f u (TakeOne.take-one g d c w p f u (omega arith) d₁ e) in
+          let x = grew-one d d₁ p c w f u (λ b. Bytes.take-small g d c w p f b (TakeOne.first-free g d (omega arith) .0) d₁ e) (TakeOne.take-one g d c w p f u (omega arith) d₁ e) in
           subst (λ (j : ℕ). Grew g d d′ p j) (omega arith) (grew-trans d d₁ d′ p 1 k x (ih d₁ x q))
       go noSlot e q ih = absurd (let z : _≡_ {A = ℕ} 0 1 = cc in omega arith)
 
@@ -171,6 +181,8 @@ pub record AllotMeans (g : Geometry) (d d′ : List ℕ) (p k : ℕ) : Type 0 wh
   pub reserved′ : reserved g d′ ≡ reserved g d
   pub own : plain g d′ (nameOf g d p) ≡ found (allottedTo k (fileAt g d p))
   pub others : (n : List ℕ) → n ≢ nameOf g d p → hush (plain g d′ n) ≡ hush (plain g d n)
+  pub beyond′ : (n : List ℕ) → n ≢ nameOf g d p → Others.beyond g d′ n ≡ Others.beyond g d n
+  pub small : Small d → Small d′
   pub free : length (freeGranules g d) ≡ length (freeGranules g d′) + lacking g d p (k / granuleSectors + 1)
 
 allotted : (g : Geometry) (d d′ : List ℕ) (p k : ℕ) → Grew g d d′ p (lacking g d p (k / granuleSectors + 1)) → fileAt g d′ p ≡ allottedTo k (fileAt g d p)
@@ -197,5 +209,7 @@ allot-means g d h k e =
       reserved′ = x .reserved′;
       own = Named.plain-is g d′ (x .sound) p (nameOf g d p) (x .file) (x .name) ∙ ap {B = Found} found (allotted g d d′ p k x);
       others = x .others;
+      beyond′ = x .beyond′;
+      small = x .small;
       free = x .free;
     })

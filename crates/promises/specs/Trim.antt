@@ -25,6 +25,8 @@ use Rattle.laws.specs.Places
 use Rattle.laws.specs.Change
 use Rattle.laws.specs.Others
 use Rattle.laws.specs.Named
+use Rattle.laws.specs.Bytes
+use Rattle.laws.specs.Bytes.{Small}
 use Rattle.laws.specs.KillMeans
 use Rattle.meaning.specs.Layout.{byte, field, directoryGranules, granuleBytes, granuleSectors, aboveTen}
 use Rattle.meaning.specs.declared.Handle.{Handle}
@@ -63,6 +65,8 @@ pub record Shrank (g : Geometry) (d d′ : List ℕ) (p k : ℕ) : Type 0 where
   pub attributes : fileAt g d′ p .attributes ≡ fileAt g d p .attributes
   pub bytes : fileAt g d′ p .bytes ≡ fileAt g d p .bytes
   pub others : (n : List ℕ) → n ≢ nameOf g d p → hush (plain g d′ n) ≡ hush (plain g d n)
+  pub beyond′ : (n : List ℕ) → n ≢ nameOf g d p → Others.beyond g d′ n ≡ Others.beyond g d n
+  pub small : Small d → Small d′
 
 module _ (g : Geometry) where
   shrank-none : (d : List ℕ) (p : ℕ) → Sound g d → Places.Fits g d → File g d p → T (not (system g d p)) → Shrank g d d p 0
@@ -82,11 +86,13 @@ module _ (g : Geometry) where
     attributes = refl;
     bytes = refl;
     others = λ n q. refl;
+    beyond′ = λ n q. refl;
+    small = λ b. b;
   }
 
-  shrank-one : (d d₁ : List ℕ) (p : ℕ) → Sound g d → Places.Fits g d → File g d p → T (not (system g d p)) → Dropped g d d₁ p → Shrank g d d₁ p 1
+  shrank-one : (d d₁ : List ℕ) (p : ℕ) → Sound g d → Places.Fits g d → File g d p → T (not (system g d p)) → (Small d → Small d₁) → Dropped g d d₁ p → Shrank g d d₁ p 1
   unfolding nameOf
-  shrank-one d d₁ p c k f u w =
+  shrank-one d d₁ p c k f u b w =
       let m = w .which in let h = w .change in let l = w .shorter in
       let s : Others.Same g d d₁ p = λ i a b e. l .same i a in
       let n : nameOf g d₁ p ≡ nameOf g d p = Members.map-eq (field g d₁ p) (field g d p) (count 5 11) (λ j i. l .low j (omega (arith, Members.count-in j 5 11 i))) in
@@ -107,6 +113,8 @@ module _ (g : Geometry) where
         attributes = sym (ap (λ (x : Rattle.meaning.specs.Plain.File). x .attributes) file′);
         bytes = sym (ap (λ (x : Rattle.meaning.specs.Plain.File). x .bytes) file′);
         others = λ b q. Others.others-plain g d d₁ c p h s b (λ z a. q (sym a)) (λ z a. q (sym a ∙ n));
+        beyond′ = λ b q. Others.beyond-plain g d d₁ c p h s b (λ z a. q (sym a)) (λ z a. q (sym a ∙ n));
+        small = b;
       }
 
   shrank-trans : (a b e : List ℕ) (p j k : ℕ) → Shrank g a b p j → Shrank g b e p k → Shrank g a e p (j + k)
@@ -126,6 +134,8 @@ module _ (g : Geometry) where
     attributes = y .attributes ∙ x .attributes;
     bytes = y .bytes ∙ x .bytes;
     others = λ n q. y .others n (λ z. q (z ∙ x .name)) ∙ x .others n q;
+    beyond′ = λ n q. y .beyond′ n (λ z. q (z ∙ x .name)) ∙ x .beyond′ n q;
+    small = λ b. y .small (x .small b);
   }
 
   pub times-shrank : (k : ℕ) (d : List ℕ) (p : ℕ) → Sound g d → Places.Fits g d → File g d p → T (not (system g d p))
@@ -133,7 +143,7 @@ module _ (g : Geometry) where
   times-shrank zero d p c w f u room = shrank-none d p c w f u
   times-shrank (suc k) d p c w f u room =
       let d₁ = dropOne g p d in
-      let x = shrank-one d d₁ p c w f u (DropLast.drop-one g d c w p f u (omega arith)) in
+      let x = shrank-one d d₁ p c w f u (λ b. Bytes.drop-small g d c w p f b) (DropLast.drop-one g d c w p f u (omega arith)) in
       let l = ap length (x .owned′) ∙ length-append (owned g d₁ p) (x .old) in
       subst (λ (j : ℕ). Shrank g d (times k (dropOne g p) d₁) p j) (omega arith)
       (shrank-trans d d₁ (times k (dropOne g p) d₁) p 1 k x (times-shrank k d₁ p (x .sound) (x .fits) (x .file) (x .user) (omega (arith, x .size, x .many, l))))
@@ -144,6 +154,9 @@ pub record TrimMeans (g : Geometry) (d d′ : List ℕ) (p : ℕ) : Type 0 where
   pub reserved′ : reserved g d′ ≡ reserved g d
   pub own : plain g d′ (nameOf g d p) ≡ found (trimmed (fileAt g d p))
   pub others : (n : List ℕ) → n ≢ nameOf g d p → hush (plain g d′ n) ≡ hush (plain g d n)
+  pub beyond′ : (n : List ℕ) → n ≢ nameOf g d p → Others.beyond g d′ n ≡ Others.beyond g d n
+  pub free : length (freeGranules g d) + length (owned g d p) ≡ length (freeGranules g d′) + length (owned g d′ p)
+  pub small : Small d → Small d′
 
 pub length-count : (i n : ℕ) → length (count i n) ≡ n
 length-count i zero = refl
@@ -180,6 +193,9 @@ trim-means g d h e =
       reserved′ = refl;
       own = Named.plain-is g d (w .sound) (h .slot) (nameOf g d (h .slot)) (w .file) refl ∙ ap {B = Found} found (trim-kept g d (h .slot) t);
       others = λ n q. refl;
+      beyond′ = λ n q. refl;
+      free = refl;
+      small = λ b. b;
     })
     go p w (Members.Test.fails t) =
         let k = length (owned g d (h .slot)) - granulesFor (sizeOf g d (h .slot)) in
@@ -192,4 +208,7 @@ trim-means g d h e =
           reserved′ = x .reserved′;
           own = Named.plain-is g d′ (x .sound) (h .slot) (nameOf g d (h .slot)) (x .file) (x .name) ∙ ap {B = Found} found (trim-done g d d′ (h .slot) t (omega (arith, fit)) x);
           others = x .others;
+          beyond′ = x .beyond′;
+          free = omega (arith, x .free, x .many, ap length (x .owned′) ∙ length-append (owned g d′ (h .slot)) (x .old));
+          small = x .small;
         })

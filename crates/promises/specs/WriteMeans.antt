@@ -43,6 +43,7 @@ use Rattle.meaning.specs.Write.{writeRecord, sizeAfter, store, withSize}
 use Rattle.meaning.specs.Refusals.{larger, lacking, cannotGrow, first, inRange}
 use Rattle.meaning.specs.Layout.{granulesFor, highest}
 use Rattle.meaning.specs.Plain
+use Rattle.meaning.specs.Free.{freeGranules}
 use Rattle.meaning.specs.Plain.{AreBytes, Found, found, nothing, fileAt, plain, hush, with′, reserved, writtenTo, overwritten}
 use Rattle.meaning.specs.declared.Mode.{Mode}
 use Rattle.promises.specs.Grow
@@ -129,6 +130,11 @@ pub record Wrote (g : Geometry) (d d′ : List ℕ) (p : ℕ) (w : Plain.File) :
   pub reserved′ : reserved g d′ ≡ reserved g d
   pub own : plain g d′ (nameOf g d p) ≡ found w
   pub others : (n : List ℕ) → n ≢ nameOf g d p → hush (plain g d′ n) ≡ hush (plain g d n)
+  pub beyond′ : (n : List ℕ) → n ≢ nameOf g d p → Others.beyond g d′ n ≡ Others.beyond g d n
+  pub free : length (freeGranules g d) + length (owned g d p) ≡ length (freeGranules g d′) + length (owned g d′ p)
+  pub file′ : File g d′ p
+  pub name′ : nameOf g d′ p ≡ nameOf g d p
+  pub told : fileAt g d′ p ≡ w
 
 -- growth, then the data part
 module _ (g : Geometry) (d d₁ : List ℕ) (p : ℕ) (m : Mode) (at : ℕ) (r : List ℕ)
@@ -166,6 +172,12 @@ module _ (g : Geometry) (d d₁ : List ℕ) (p : ℕ) (m : Mode) (at : ℕ) (r :
           maxed : length (owned g d p) + lacking g d p (granulesFor size₀) ≡ max (fileAt g d p .granules) (granulesFor size₀)
           maxed = unfold fileAt in omega arith
 
+  free₄ : length (freeGranules g d) + length (owned g d p) ≡ length (freeGranules g (img (sizeOf g d₁ p))) + length (owned g (img (sizeOf g d₁ p)) p)
+  free₄ =
+      let d₄ = img (sizeOf g d₁ p) in
+      let w = rewrites g d₁ (x .sound) (x .fits) p (x .file) (x .user) m at r fit₁ in
+      rw (Rewrite.rw-free g d₁ d₄ (x .sound) p (x .file) w, Rewrite.rw-owned g d₁ d₄ (x .sound) p (x .file) w) (omega (arith, x .free, own₁))
+
   pub wrote : Wrote g d (img (sizeOf g d₁ p)) p (writtenTo m at r (fileAt g d p))
   unfolding words
   wrote =
@@ -179,6 +191,11 @@ module _ (g : Geometry) (d d₁ : List ℕ) (p : ℕ) (m : Mode) (at : ℕ) (r :
         consistent′ = Facts.back g d₄ s;
         reserved′ = Others.reserved-stays g d₁ d₄ (x .sound) p h ∙ x .reserved′;
         own = Named.plain-is g d₄ s p (nameOf g d p) (Rewrite.rw-file g d₁ d₄ (x .sound) p (x .file) w) n ∙ ap {B = Found} found written-file;
+        beyond′ = λ b q. Others.beyond-plain g d₁ d₄ (x .sound) p h (Rewrite.rw-same g d₁ d₄ (x .sound) p (x .file) w) b (λ z a. q (sym a ∙ x .name)) (λ z a. q (sym a ∙ n)) ∙ x .beyond′ b q;
+        free = free₄;
+        file′ = Rewrite.rw-file g d₁ d₄ (x .sound) p (x .file) w;
+        name′ = n;
+        told = written-file;
         others = λ b q. Others.others-plain g d₁ d₄ (x .sound) p h (Rewrite.rw-same g d₁ d₄ (x .sound) p (x .file) w) b (λ z a. q (sym a ∙ x .name)) (λ z a. q (sym a ∙ n)) ∙ x .others b q;
       }
 
