@@ -3,7 +3,8 @@ use meaning::Geometry;
 ghost use mathlib.Core.Path.{_≡_};
 ghost use Prim.Native.Nat.{_+_, _*_, _<_, _≤_};
 ghost use lib.ListN.{length};
-ghost use Rattle.meaning.specs.Lists.{count, each, through};
+ghost use Rattle.meaning.specs.Lists.{count, each, through, firstOr};
+ghost use Rattle.meaning.specs.Free.{freeSlots};
 ghost use Rattle.meaning.specs.Layout.{granules, takeGranule, freeGranule};
 ghost use Rattle.meaning.specs.Bits.{withBit, withoutBit};
 ghost use Rattle.meaning.specs.Kill.{killEntry};
@@ -125,4 +126,31 @@ pub fn kill_file(image: &mut [u8], g: Geometry, s: usize)
     let most = 8 * (layout::directory_sectors(image, g) - 2);
     free_chain(image, g, s, most);
     kill_chain(image, g, s, most);
+}
+
+// The first permitted slot with HIT byte 0, by rising slot number; 256 where there is none. Rows 0 to 3 begin behind the slots kept
+// for system files.
+pub fn first_free_slot(image: &[u8], g: Geometry) -> usize
+    requires { ⌜ Room g (now image) ⌝ }
+    ensures { λ r. ⌜ r ≡ firstOr 256 (freeSlots g (now (image .entry))) ⌝ }
+{
+    let n = layout::directory_sectors(image, g) - 2;
+    let mut found = 256;
+    let mut row = 0;
+    'rows: while row < 8 {
+        let mut s = 0;
+        if row < 4 {
+            s = 8;
+        }
+        while s < n {
+            let slot = 32 * row + s;
+            if layout::hit(image, g, slot) == 0 {
+                found = slot;
+                break 'rows;
+            }
+            s += 1;
+        }
+        row += 1;
+    }
+    found
 }
