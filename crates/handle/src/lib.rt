@@ -1,0 +1,108 @@
+// What every call with a handle tests first, in the table's order: 1, 2, 12, 7, and then 6.
+// `checked` is the answer of the check of the whole disk; `ranged` is the call's own test 12.
+use meaning::Geometry;
+use meaning::Handle;
+ghost use mathlib.Core.Path.{_≡_};
+ghost use mathlib.Core.List.{[], _∷_};
+ghost use Rattle.meaning.specs.Entries.{system};
+ghost use Rattle.meaning.specs.Refusals.{first, check, inRange, fresh, handleRefusals, notForReading, protected};
+ghost use Rattle.layout.specs.Room.{Room, Slot};
+
+// Position, record length and level are in range.
+pub fn in_range(h: Handle) -> bool
+    ensures { λ r. ⌜ r ≡ inRange h ⌝ }
+{
+    if layout::HIGHEST < h.at {
+        return false;
+    }
+    if h.len < 1 {
+        return false;
+    }
+    if 256 < h.len {
+        return false;
+    }
+    h.level <= 7
+}
+
+// Whether the handle is not stale.
+pub fn fresh(image: &[u8], g: Geometry, h: Handle) -> bool
+    requires { ⌜ Room g (now image) ⌝ }
+    ensures { λ r. ⌜ r ≡ fresh g (now (image .entry)) h ⌝ }
+{
+    let s = h.slot;
+    if !layout::is_slot(image, g, s) {
+        return false;
+    }
+    if !layout::primary(image, g, s) {
+        return false;
+    }
+    let name = h.name;
+    layout::same_name(
+        image,
+        256 * (g.start + 2 + s % 32) + 32 * (s / 32) + 5,
+        &name,
+    )
+}
+
+pub fn system(image: &[u8], g: Geometry, s: usize) -> bool
+    requires { ⌜ Room g (now image) × Slot g (now image) s ⌝ }
+    ensures { λ r. ⌜ r ≡ system g (now (image .entry)) s ⌝ }
+{
+    (layout::field(image, g, s, 0) >> 6) % 2 == 1
+}
+
+pub fn handle_number(image: &[u8], g: Geometry, h: Handle, ranged: bool, checked: u8) -> u8
+    requires { ⌜ checked ≡ check g (now image) ⌝ }
+    ensures { λ r. ⌜ r ≡ first (handleRefusals g (now (image .entry)) h ranged []) ⌝ }
+{
+    if checked != 0 {
+        return checked;
+    }
+    if !ranged {
+        return 12;
+    }
+    if !fresh(image, g, h) {
+        return 7;
+    }
+    0
+}
+
+// The same, then 6 for a call that reads.
+pub fn reading_number(image: &[u8], g: Geometry, h: Handle, ranged: bool, checked: u8) -> u8
+    requires { ⌜ checked ≡ check g (now image) ⌝ }
+    ensures { λ r. ⌜ r ≡ first (handleRefusals g (now (image .entry)) h ranged (notForReading g (now (image .entry)) h ∷ [])) ⌝ }
+{
+    let number = handle_number(image, g, h, ranged, checked);
+    if number != 0 {
+        return number;
+    }
+    if 5 < h.level {
+        return 6;
+    }
+    0
+}
+
+// The same, then 6 for a call that changes the disk and is allowed up to level `most`.
+pub fn changing_number(
+    image: &[u8],
+    g: Geometry,
+    h: Handle,
+    ranged: bool,
+    most: usize,
+    checked: u8,
+) -> u8
+    requires { ⌜ checked ≡ check g (now image) ⌝ }
+    ensures { λ r. ⌜ r ≡ first (handleRefusals g (now (image .entry)) h ranged (protected g (now (image .entry)) most h ∷ [])) ⌝ }
+{
+    let number = handle_number(image, g, h, ranged, checked);
+    if number != 0 {
+        return number;
+    }
+    if most < h.level {
+        return 6;
+    }
+    if system(image, g, h.slot) {
+        return 6;
+    }
+    0
+}
