@@ -21,3 +21,4 @@ pub mod Listing
 pub mod Plain
 pub mod Samples
 pub mod Table
+pub mod Facts

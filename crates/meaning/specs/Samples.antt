@@ -1,9 +1,10 @@
 -- Small whole disks, written out byte by byte, on which the table and the facts compute.
-use Prim.Native.Nat.{ℕ, _+_, _-_}
-use mathlib.Core.List.{List, [], _∷_, _++_}
-use mathlib.Core.Bool.{Bool, true}
+use Prim.Native.Nat.{ℕ, _+_, _-_, _*_}
+use mathlib.Core.List.{List, [], _∷_, _++_, map}
+use mathlib.Core.Bool.{Bool, true, cond}
+use lib.Dec.{ltb}
 use lib.ListN.{length, replicate, set}
-use Rattle.meaning.specs.Lists.{all, any, firstOr, lastOr}
+use Rattle.meaning.specs.Lists.{count, each, all, any, firstOr, lastOr}
 use Rattle.meaning.specs.Bits.{digit, putDigit}
 use Rattle.meaning.specs.Layout.{granules, fitsGeometry, taken, takeGranule, freeGranule, hit, directorySectors, isSlot, slots, field, setField}
 use Rattle.meaning.specs.Names.{wellFormed, hash}
@@ -25,6 +26,7 @@ use Rattle.meaning.specs.Kill.{killEntry, kill}
 use Rattle.meaning.specs.Listing.{shown, listed, tellFirst, list, counts, digits, slashed, line, listing}
 use Rattle.meaning.specs.Plain.{fileAt, foundIn, plain, bornAs, overwritten, writtenTo, allottedTo, trimmed, with′, hush, reserved}
 use Rattle.meaning.specs.declared.Geometry.{Geometry}
+use Rattle.meaning.specs.declared.Handle.{Handle}
 
 -- what stands where, by rising places, from one place up to the end; zeros between
 abbrev pub laid : ℕ → List (ℕ × List ℕ) → ℕ → List ℕ
@@ -36,15 +38,28 @@ abbrev pub changed : List ℕ → List (ℕ × ℕ) → List ℕ
 changed d [] = d
 changed d (c ∷ cs) = changed (set d (c .0) (c .1)) cs
 
+-- the image with these bytes from that place on, and every other as it was
+abbrev pub written : List ℕ → ℕ → List ℕ → List ℕ
+written d at [] = d
+written d at (b ∷ bs) = written (set d at b) (at + 1) bs
+
 -- Names ---------------------------------------------------------------------------------------------------------------------
 
--- PULS01/DAT
+-- PULS01/DAT: its hash is C1H
 abbrev pub puls : List ℕ
 puls = 0x50 ∷ 0x55 ∷ 0x4c ∷ 0x53 ∷ 0x30 ∷ 0x31 ∷ 0x20 ∷ 0x20 ∷ 0x44 ∷ 0x41 ∷ 0x54 ∷ []
 
--- LEER
+-- PULS13/DAT: another name with that hash
+abbrev pub puls13 : List ℕ
+puls13 = 0x50 ∷ 0x55 ∷ 0x4c ∷ 0x53 ∷ 0x31 ∷ 0x33 ∷ 0x20 ∷ 0x20 ∷ 0x44 ∷ 0x41 ∷ 0x54 ∷ []
+
+-- LEER: its hash is 70H
 abbrev pub leer : List ℕ
 leer = 0x4c ∷ 0x45 ∷ 0x45 ∷ 0x52 ∷ 0x20 ∷ 0x20 ∷ 0x20 ∷ 0x20 ∷ 0x20 ∷ 0x20 ∷ 0x20 ∷ []
+
+-- NEU: its hash is 32H
+abbrev pub neu : List ℕ
+neu = 0x4e ∷ 0x45 ∷ 0x55 ∷ 0x20 ∷ 0x20 ∷ 0x20 ∷ 0x20 ∷ 0x20 ∷ 0x20 ∷ 0x20 ∷ 0x20 ∷ []
 
 -- A disk of two files ---------------------------------------------------------------------------------------------------------
 
@@ -52,54 +67,120 @@ leer = 0x4c ∷ 0x45 ∷ 0x45 ∷ 0x52 ∷ 0x20 ∷ 0x20 ∷ 0x20 ∷ 0x20 ∷ 0
 abbrev pub three : Geometry
 three = record { blocks = 4; units = 3; start = 0; anyone = 0x9999 }
 
--- PULS01/DAT in slot A3H with an extension in slot 81H, LEER in slot 80H, a killed entry in slot 82H. PULS01/DAT owns granules 3, 4, 2,
--- 5, 6, 11 and 10, in five runs, and has 257 bytes; LEER owns granule 8 and has 256. Granules 0 and 1 are reserved, 7 and 9 free.
--- What no call may read or change holds odd bytes: GAT bits of no unit, GAT bytes of no block, HIT places of no slot, a dead entry,
--- an extension's bytes 02 to 15 (among them its file's name), a link behind FFH, the second byte of a pair behind FFH.
+-- where its HIT is, and the entries of slots 80H, 81H, 82H and A3H
+abbrev pub hits : ℕ
+hits = 256
+
+abbrev pub e80 : ℕ
+e80 = 640
+
+abbrev pub e81 : ℕ
+e81 = 896
+
+abbrev pub e82 : ℕ
+e82 = 1152
+
+abbrev pub eA3 : ℕ
+eA3 = 1440
+
+-- LEER in slot 80H owns granule 8 and has 1,278 bytes. PULS01/DAT in slot A3H, with an extension in slot 81H, owns granules 3, 4, 2, 5, 6,
+-- 11 and 10, in five runs, and has 257 bytes; it is invisible, its level 5, its main code 1234H, its worker code 5678H. Slot 82H holds a
+-- killed entry. Granules 0 and 1 are reserved, 7 and 9 free.
+-- What no call may read or change holds odd bytes: GAT bits of no unit, GAT bytes of no block, HIT places of no slot, the killed
+-- entry, an extension's bytes 02 to 15 (its file's name among them), links behind FFH, second bytes of pairs behind FFH.
 abbrev pub sample : List ℕ
 sample =
     laid 0 (
     (0, 0x07 ∷ 0x07 ∷ 0xa5 ∷ 0x06 ∷ 0xff ∷ [])
-    ∷ (0x128, 0x55 ∷ [])
-    ∷ (0x180, 0x70 ∷ 0xc1 ∷ 0x00 ∷ [])
-    ∷ (0x1a3, 0xc1 ∷ [])
-    -- slot 80H
-    ∷ (640, 0x10 ∷ 0x09 ∷ 0x3a ∷ 0x00 ∷ 0x00 ∷ leer)
+    ∷ (hits + 0x28, 0x55 ∷ [])
+    ∷ (hits + 0x80, 0x70 ∷ 0xc1 ∷ 0x00 ∷ [])
+    ∷ (hits + 0xa3, 0xc1 ∷ [])
+    ∷ (e80, 0x10 ∷ 0x09 ∷ 0x3a ∷ 0xfe ∷ 0x00 ∷ leer)
     ∷ (
-      656,
-      0x99 ∷ 0x99 ∷ 0x00 ∷ 0x00 ∷ 0x01 ∷ 0x00
+      e80 + 0x10,
+      0x99 ∷ 0x99 ∷ 0x00 ∷ 0x00 ∷ 0x05 ∷ 0x00
           ∷ 0x02 ∷ 0x40 ∷ 0xff ∷ 0x00 ∷ 0xff ∷ 0xff ∷ 0xff ∷ 0x12 ∷ 0xff ∷ 0x81 ∷ [],
     )
-    -- slot 81H
-    ∷ (896, 0x90 ∷ 0xa3 ∷ 0x01 ∷ 0x02 ∷ 0x03 ∷ puls)
+    ∷ (e81, 0x90 ∷ 0xa3 ∷ 0x01 ∷ 0x02 ∷ 0x03 ∷ puls)
     ∷ (
-      912,
+      e81 + 0x10,
       0x04 ∷ 0x05 ∷ 0x06 ∷ 0x07 ∷ 0x08 ∷ 0x09
           ∷ 0x03 ∷ 0x20 ∷ 0xff ∷ 0x21 ∷ 0xff ∷ 0xff ∷ 0xff ∷ 0xff ∷ 0xff ∷ 0x80 ∷ [],
     )
-    -- slot 82H, dead
-    ∷ (1152, 0x2f ∷ 0xff ∷ 0xff ∷ 0xff ∷ 0xff ∷ puls)
+    ∷ (e82, 0x2f ∷ 0xff ∷ 0xff ∷ 0xff ∷ 0xff ∷ puls)
     ∷ (
-      1168,
+      e82 + 0x10,
       0x01 ∷ 0x02 ∷ 0x03 ∷ 0x04 ∷ 0xff ∷ 0xff
           ∷ 0x01 ∷ 0x00 ∷ 0xff ∷ 0xff ∷ 0x01 ∷ 0x00 ∷ 0xff ∷ 0xff ∷ 0xfe ∷ 0x81 ∷ [],
     )
-    -- slot A3H
-    ∷ (1440, 0x1d ∷ 0x09 ∷ 0x3a ∷ 0x01 ∷ 0x00 ∷ puls)
+    ∷ (eA3, 0x1d ∷ 0x09 ∷ 0x3a ∷ 0x01 ∷ 0x00 ∷ puls)
     ∷ (
-      1456,
+      eA3 + 0x10,
       0x34 ∷ 0x12 ∷ 0x78 ∷ 0x56 ∷ 0x02 ∷ 0x00
           ∷ 0x01 ∷ 0x01 ∷ 0x00 ∷ 0x40 ∷ 0x01 ∷ 0x41 ∷ 0x03 ∷ 0x40 ∷ 0xfe ∷ 0x81 ∷ [],
     )
-    -- the first two bytes of PULS01/DAT, and its last two
+    -- granule 3: the first bytes of PULS01/DAT, its last two, and what lies behind them
     ∷ (3840, 0x41 ∷ 0x42 ∷ [])
-    ∷ (4095, 0x43 ∷ 0x44 ∷ [])
-    -- what lies behind its end
-    ∷ (4097, 0x45 ∷ 0x46 ∷ 0x47 ∷ [])
-    -- the first byte of LEER, and its last
-    ∷ (10240, 0x61 ∷ [])
-    ∷ (10495, 0x62 ∷ 0x63 ∷ 0x64 ∷ [])
+    ∷ (4095, 0x43 ∷ 0x44 ∷ 0x45 ∷ 0x46 ∷ [])
+    -- granule 8: the first bytes of LEER; its last one, and what lies behind it up to granule 9 and in it
+    ∷ (10240, 0x61 ∷ 0x62 ∷ [])
+    ∷ (11517, 0x63 ∷ 0x64 ∷ 0x65 ∷ 0x66 ∷ 0x67 ∷ 0x68 ∷ [])
     ∷ []) 15360
+
+-- a handle: slot, name, position, record length, level
+abbrev pub held : ℕ → List ℕ → ℕ → ℕ → ℕ → Handle
+held slot name at len level = record { slot = slot; name = name; at = at; len = len; level = level }
+
+-- A disk with gaps ------------------------------------------------------------------------------------------------------------
+
+-- LEER in slot 80H owns nothing and has no byte; granules 2, 4, 6, 8 and 10 are free, the others reserved
+abbrev pub gaps : List ℕ
+gaps =
+    laid 0 (
+    (0, 0x03 ∷ 0x05 ∷ 0x02 ∷ 0x05 ∷ [])
+    ∷ (hits + 0x80, 0x70 ∷ [])
+    ∷ (e80, 0x10 ∷ 0x09 ∷ 0x3a ∷ 0x00 ∷ 0x00 ∷ leer)
+    ∷ (e80 + 0x10, replicate 6 0 ++ replicate 10 0xff)
+    ∷ []) 15360
+
+-- the same after LEER has taken all five, the last one in an extension in slot 81H
+abbrev pub filled : List ℕ
+filled =
+    laid 0 (
+    (0, 0x07 ∷ 0x07 ∷ 0x07 ∷ 0x07 ∷ [])
+    ∷ (hits + 0x80, 0x70 ∷ 0x70 ∷ [])
+    ∷ (e80, 0x10 ∷ 0x09 ∷ 0x3a ∷ 0x00 ∷ 0x00 ∷ leer)
+    ∷ (e80 + 0x10, replicate 6 0 ++ (0x00 ∷ 0x40 ∷ 0x01 ∷ 0x20 ∷ 0x02 ∷ 0x00 ∷ 0x02 ∷ 0x40 ∷ 0xfe ∷ 0x81 ∷ []))
+    ∷ (e81, 0x90 ∷ 0x80 ∷ [])
+    ∷ (e81 + 0x16, 0x03 ∷ 0x20 ∷ replicate 8 0xff)
+    ∷ []) 15360
+
+-- A crowded disk --------------------------------------------------------------------------------------------------------------
+
+-- a name of one letter, another one for each number below 32
+abbrev letterOf : ℕ → ℕ
+letterOf i = cond (ltb i 10) (0x30 + i) (0x37 + i)
+
+abbrev nameAt : ℕ → List ℕ
+nameAt i = letterOf i ∷ replicate 10 0x20
+
+-- an entry of that name, with these last ten bytes
+abbrev entryOf : ℕ → List ℕ → List ℕ
+entryOf i end = 0x10 ∷ 0x00 ∷ 0x00 ∷ 0x00 ∷ 0x00 ∷ (nameAt i ++ (replicate 6 0 ++ end))
+
+-- a file in every permitted slot, number 8 × (row − 4) + s; the one in slot 80H owns granules 2, 4, 6 and 8, the others nothing;
+-- granule 10 is free
+abbrev pub crowded : List ℕ
+crowded =
+    laid 0 (
+    (0, 0x07 ∷ 0x07 ∷ 0x07 ∷ 0x05 ∷ [])
+    ∷ (hits + 0x80, map (λ s. hash (nameAt s)) (count 0 8))
+    ∷ (hits + 0xa0, map (λ s. hash (nameAt (8 + s))) (count 0 8))
+    ∷ (hits + 0xc0, map (λ s. hash (nameAt (16 + s))) (count 0 8))
+    ∷ (hits + 0xe0, map (λ s. hash (nameAt (24 + s))) (count 0 8))
+    ∷ (e80, entryOf 0 (0x00 ∷ 0x40 ∷ 0x01 ∷ 0x20 ∷ 0x02 ∷ 0x00 ∷ 0x02 ∷ 0x40 ∷ 0xff ∷ 0xff ∷ []))
+    ∷ (e80 + 0x20, each (λ r. entryOf (8 * r) (replicate 10 0xff)) (count 1 3))
+    ∷ map (λ s. (512 + 256 * s + 128, each (λ r. entryOf (8 * r + s) (replicate 10 0xff)) (count 0 4))) (count 1 7)) 15360
 
 -- A disk of one pair ----------------------------------------------------------------------------------------------------------
 
@@ -112,9 +193,9 @@ abbrev pub onePair : ℕ → List ℕ
 onePair =
     laid 0 (
     (0, replicate 20 0xff)
-    ∷ (0x180, 0x70 ∷ [])
-    ∷ (640, 0x10 ∷ 0x09 ∷ 0x3a ∷ 0x00 ∷ 0x00 ∷ leer)
-    ∷ (656, replicate 6 0 ++ (0x11 ∷ 0x42 ∷ replicate 8 0xff))
+    ∷ (hits + 0x80, 0x70 ∷ [])
+    ∷ (e80, 0x10 ∷ 0x09 ∷ 0x3a ∷ 0x00 ∷ 0x00 ∷ leer)
+    ∷ (e80 + 0x10, replicate 6 0 ++ (0x11 ∷ 0x42 ∷ replicate 8 0xff))
     ∷ [])
 
 -- Every definition that is shut, opened by one name: `unfolding opened` computes through all of them.
