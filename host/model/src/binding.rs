@@ -1,0 +1,407 @@
+//! The exported functions of `libgenie.a`, and the one place where they are called.
+
+use crate::library::Library;
+
+/// The linked library; None if the crate was built without one (see build.rs).
+pub fn linked() -> Option<Box<dyn Library>> {
+    #[cfg(genie_linked)]
+    return Some(Box::new(bound::Linked));
+    #[cfg(not(genie_linked))]
+    None
+}
+
+/// The linked library, for tests that are nothing without it.
+pub fn linked_or_fail() -> Box<dyn Library> {
+    linked().expect(
+        "built without libgenie.a: build the library first, or name its directory in GENIE_LIB_DIR",
+    )
+}
+
+#[cfg(genie_linked)]
+mod bound {
+    use crate::calls::{Birth, Number};
+    use crate::geometry::Geometry;
+    use crate::library::Library;
+
+    extern "C" {
+        fn genie_check(image: *const u8, image_len: usize, blocks: usize, units: usize, start: usize, open_code: u16) -> u8;
+        fn genie_look_up(
+            image: *const u8,
+            image_len: usize,
+            blocks: usize,
+            units: usize,
+            start: usize,
+            open_code: u16,
+            name: *const u8,
+            name_len: usize,
+            slot: *mut usize,
+            compared: *mut usize,
+        ) -> u8;
+        fn genie_open(
+            image: *const u8,
+            image_len: usize,
+            blocks: usize,
+            units: usize,
+            start: usize,
+            open_code: u16,
+            name: *const u8,
+            name_len: usize,
+            length: usize,
+            checking: bool,
+            code: u16,
+            handle: *mut u8,
+            handle_len: usize,
+        ) -> u8;
+        fn genie_create(
+            image: *mut u8,
+            image_len: usize,
+            blocks: usize,
+            units: usize,
+            start: usize,
+            open_code: u16,
+            name: *const u8,
+            name_len: usize,
+            day: usize,
+            month: usize,
+            year: usize,
+            length: usize,
+            main_code: u16,
+            worker_code: u16,
+            checking: bool,
+            old: *mut usize,
+            handle: *mut u8,
+            handle_len: usize,
+        ) -> u8;
+        fn genie_read_record(
+            image: *const u8,
+            image_len: usize,
+            blocks: usize,
+            units: usize,
+            start: usize,
+            open_code: u16,
+            handle: *mut u8,
+            handle_len: usize,
+            buffer: *mut u8,
+            buffer_len: usize,
+        ) -> u8;
+        fn genie_read_sector(
+            image: *const u8,
+            image_len: usize,
+            blocks: usize,
+            units: usize,
+            start: usize,
+            open_code: u16,
+            handle: *const u8,
+            handle_len: usize,
+            k: usize,
+            from: *mut usize,
+            to: *mut usize,
+        ) -> u8;
+        fn genie_write_record(
+            image: *mut u8,
+            image_len: usize,
+            blocks: usize,
+            units: usize,
+            start: usize,
+            open_code: u16,
+            handle: *mut u8,
+            handle_len: usize,
+            sequential: bool,
+            buffer: *const u8,
+            buffer_len: usize,
+        ) -> u8;
+        fn genie_allot(
+            image: *mut u8,
+            image_len: usize,
+            blocks: usize,
+            units: usize,
+            start: usize,
+            open_code: u16,
+            handle: *const u8,
+            handle_len: usize,
+            k: usize,
+        ) -> u8;
+        fn genie_trim(
+            image: *mut u8,
+            image_len: usize,
+            blocks: usize,
+            units: usize,
+            start: usize,
+            open_code: u16,
+            handle: *const u8,
+            handle_len: usize,
+        ) -> u8;
+        fn genie_kill(
+            image: *mut u8,
+            image_len: usize,
+            blocks: usize,
+            units: usize,
+            start: usize,
+            open_code: u16,
+            handle: *const u8,
+            handle_len: usize,
+        ) -> u8;
+        fn genie_list(
+            image: *const u8,
+            image_len: usize,
+            blocks: usize,
+            units: usize,
+            start: usize,
+            open_code: u16,
+            number: usize,
+            name: *mut u8,
+            name_len: usize,
+            size: *mut usize,
+            granules: *mut usize,
+            more: *mut usize,
+        ) -> u8;
+        fn genie_count(
+            image: *const u8,
+            image_len: usize,
+            blocks: usize,
+            units: usize,
+            start: usize,
+            open_code: u16,
+            files: *mut usize,
+            free: *mut usize,
+        ) -> u8;
+    }
+
+    pub struct Linked;
+
+    // Safety, for all of them: every slice is lent with its own length and every outgoing number is a
+    // reference, so no pointer is null, none overlaps another that is written, and all outlive the call.
+    impl Library for Linked {
+        fn title(&self) -> &'static str {
+            "library"
+        }
+        fn check(&self, image: &[u8], g: &Geometry) -> Number {
+            unsafe { genie_check(image.as_ptr(), image.len(), g.blocks, g.units, g.start, g.open_code) }
+        }
+        fn look_up(&self, image: &[u8], g: &Geometry, name: &[u8], slot: &mut usize, compared: &mut usize) -> Number {
+            unsafe {
+                genie_look_up(
+                    image.as_ptr(),
+                    image.len(),
+                    g.blocks,
+                    g.units,
+                    g.start,
+                    g.open_code,
+                    name.as_ptr(),
+                    name.len(),
+                    slot,
+                    compared,
+                )
+            }
+        }
+        fn open(
+            &self,
+            image: &[u8],
+            g: &Geometry,
+            name: &[u8],
+            length: usize,
+            checking: bool,
+            code: u16,
+            handle: &mut [u8],
+        ) -> Number {
+            unsafe {
+                genie_open(
+                    image.as_ptr(),
+                    image.len(),
+                    g.blocks,
+                    g.units,
+                    g.start,
+                    g.open_code,
+                    name.as_ptr(),
+                    name.len(),
+                    length,
+                    checking,
+                    code,
+                    handle.as_mut_ptr(),
+                    handle.len(),
+                )
+            }
+        }
+        fn create(
+            &self,
+            image: &mut [u8],
+            g: &Geometry,
+            name: &[u8],
+            birth: &Birth,
+            old: &mut usize,
+            handle: &mut [u8],
+        ) -> Number {
+            unsafe {
+                genie_create(
+                    image.as_mut_ptr(),
+                    image.len(),
+                    g.blocks,
+                    g.units,
+                    g.start,
+                    g.open_code,
+                    name.as_ptr(),
+                    name.len(),
+                    birth.day,
+                    birth.month,
+                    birth.year,
+                    birth.length,
+                    birth.main_code,
+                    birth.worker_code,
+                    birth.checking,
+                    old,
+                    handle.as_mut_ptr(),
+                    handle.len(),
+                )
+            }
+        }
+        fn read_record(&self, image: &[u8], g: &Geometry, handle: &mut [u8], buffer: &mut [u8]) -> Number {
+            unsafe {
+                genie_read_record(
+                    image.as_ptr(),
+                    image.len(),
+                    g.blocks,
+                    g.units,
+                    g.start,
+                    g.open_code,
+                    handle.as_mut_ptr(),
+                    handle.len(),
+                    buffer.as_mut_ptr(),
+                    buffer.len(),
+                )
+            }
+        }
+        fn read_sector(
+            &self,
+            image: &[u8],
+            g: &Geometry,
+            handle: &[u8],
+            k: usize,
+            from: &mut usize,
+            to: &mut usize,
+        ) -> Number {
+            unsafe {
+                genie_read_sector(
+                    image.as_ptr(),
+                    image.len(),
+                    g.blocks,
+                    g.units,
+                    g.start,
+                    g.open_code,
+                    handle.as_ptr(),
+                    handle.len(),
+                    k,
+                    from,
+                    to,
+                )
+            }
+        }
+        fn write_record(
+            &self,
+            image: &mut [u8],
+            g: &Geometry,
+            handle: &mut [u8],
+            sequential: bool,
+            buffer: &[u8],
+        ) -> Number {
+            unsafe {
+                genie_write_record(
+                    image.as_mut_ptr(),
+                    image.len(),
+                    g.blocks,
+                    g.units,
+                    g.start,
+                    g.open_code,
+                    handle.as_mut_ptr(),
+                    handle.len(),
+                    sequential,
+                    buffer.as_ptr(),
+                    buffer.len(),
+                )
+            }
+        }
+        fn allot(&self, image: &mut [u8], g: &Geometry, handle: &[u8], k: usize) -> Number {
+            unsafe {
+                genie_allot(
+                    image.as_mut_ptr(),
+                    image.len(),
+                    g.blocks,
+                    g.units,
+                    g.start,
+                    g.open_code,
+                    handle.as_ptr(),
+                    handle.len(),
+                    k,
+                )
+            }
+        }
+        fn trim(&self, image: &mut [u8], g: &Geometry, handle: &[u8]) -> Number {
+            unsafe {
+                genie_trim(
+                    image.as_mut_ptr(),
+                    image.len(),
+                    g.blocks,
+                    g.units,
+                    g.start,
+                    g.open_code,
+                    handle.as_ptr(),
+                    handle.len(),
+                )
+            }
+        }
+        fn kill(&self, image: &mut [u8], g: &Geometry, handle: &[u8]) -> Number {
+            unsafe {
+                genie_kill(
+                    image.as_mut_ptr(),
+                    image.len(),
+                    g.blocks,
+                    g.units,
+                    g.start,
+                    g.open_code,
+                    handle.as_ptr(),
+                    handle.len(),
+                )
+            }
+        }
+        fn list(
+            &self,
+            image: &[u8],
+            g: &Geometry,
+            which: usize,
+            name: &mut [u8],
+            size: &mut usize,
+            granules: &mut usize,
+            more: &mut usize,
+        ) -> Number {
+            unsafe {
+                genie_list(
+                    image.as_ptr(),
+                    image.len(),
+                    g.blocks,
+                    g.units,
+                    g.start,
+                    g.open_code,
+                    which,
+                    name.as_mut_ptr(),
+                    name.len(),
+                    size,
+                    granules,
+                    more,
+                )
+            }
+        }
+        fn count(&self, image: &[u8], g: &Geometry, files: &mut usize, free: &mut usize) -> Number {
+            unsafe {
+                genie_count(
+                    image.as_ptr(),
+                    image.len(),
+                    g.blocks,
+                    g.units,
+                    g.start,
+                    g.open_code,
+                    files,
+                    free,
+                )
+            }
+        }
+    }
+}

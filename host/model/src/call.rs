@@ -1,0 +1,173 @@
+//! A call as a value, so that it can be made up, printed, and performed on any library.
+
+use crate::calls::{Birth, Number};
+use crate::geometry::Geometry;
+use crate::library::Library;
+
+/// A call with all it is given. Handles, buffers and names are what the caller lends, of any length.
+#[derive(Clone, Debug)]
+pub enum Call {
+    Check,
+    LookUp { name: Vec<u8> },
+    Open { name: Vec<u8>, length: usize, checking: bool, code: u16, handle: Vec<u8> },
+    Create { name: Vec<u8>, birth: Birth, handle: Vec<u8> },
+    ReadRecord { handle: Vec<u8>, buffer: Vec<u8> },
+    ReadSector { handle: Vec<u8>, k: usize },
+    WriteRecord { handle: Vec<u8>, sequential: bool, buffer: Vec<u8> },
+    Allot { handle: Vec<u8>, k: usize },
+    Trim { handle: Vec<u8> },
+    Kill { handle: Vec<u8> },
+    List { which: usize, name: Vec<u8> },
+    Count,
+}
+
+impl Call {
+    pub fn title(&self) -> &'static str {
+        match self {
+            Call::Check => "check",
+            Call::LookUp { .. } => "look up",
+            Call::Open { .. } => "open",
+            Call::Create { .. } => "create",
+            Call::ReadRecord { .. } => "read record",
+            Call::ReadSector { .. } => "read sector",
+            Call::WriteRecord { sequential: true, .. } => "write sequential",
+            Call::WriteRecord { sequential: false, .. } => "write random",
+            Call::Allot { .. } => "allot",
+            Call::Trim { .. } => "trim",
+            Call::Kill { .. } => "kill",
+            Call::List { .. } => "list",
+            Call::Count => "count",
+        }
+    }
+}
+
+/// The numbers that each call can give, 0 included.
+pub const POSSIBLE: [(&str, &[Number]); 13] = [
+    ("check", &[0, 1, 2]),
+    ("look up", &[0, 1, 2, 3, 4]),
+    ("open", &[0, 1, 2, 12, 3, 4, 5]),
+    ("create", &[0, 1, 2, 12, 3, 5, 8]),
+    ("read record", &[0, 1, 2, 12, 7, 6, 10]),
+    ("read sector", &[0, 1, 2, 12, 7, 6, 10]),
+    ("write sequential", &[0, 1, 2, 12, 7, 6, 11, 9, 8]),
+    ("write random", &[0, 1, 2, 12, 7, 6, 11, 9, 8]),
+    ("allot", &[0, 1, 2, 12, 7, 6, 11, 9, 8]),
+    ("trim", &[0, 1, 2, 12, 7, 6]),
+    ("kill", &[0, 1, 2, 12, 7, 6]),
+    ("list", &[0, 1, 2, 12]),
+    ("count", &[0, 1, 2]),
+];
+
+/// All that a call answers and leaves, the image apart.
+#[derive(Clone, Debug, PartialEq, Eq)]
+pub struct Outcome {
+    pub number: Number,
+    /// The outgoing numbers, by name.
+    pub numbers: Vec<(&'static str, usize)>,
+    pub handle: Vec<u8>,
+    pub buffer: Vec<u8>,
+    pub name: Vec<u8>,
+    /// Nothing was written beside what was lent.
+    pub within: bool,
+}
+
+impl Outcome {
+    pub fn numbered(&self, title: &str) -> usize {
+        self.numbers.iter().find(|(name, _)| *name == title).expect("an outgoing number of this call").1
+    }
+}
+
+const EDGE: usize = 64;
+const EDGE_BYTE: u8 = 0xA7;
+
+/// Bytes to lend, with an edge before and behind that nobody may write on.
+#[derive(Clone)]
+pub struct Lent {
+    all: Vec<u8>,
+}
+
+impl Lent {
+    pub fn new(content: &[u8]) -> Lent {
+        let mut all = vec![EDGE_BYTE; content.len() + 2 * EDGE];
+        all[EDGE..EDGE + content.len()].copy_from_slice(content);
+        Lent { all }
+    }
+
+    pub fn bytes(&self) -> &[u8] {
+        std::hint::black_box(&self.all[EDGE..self.all.len() - EDGE])
+    }
+
+    pub fn lend(&mut self) -> &mut [u8] {
+        let end = self.all.len() - EDGE;
+        &mut self.all[EDGE..end]
+    }
+
+    pub fn edges_whole(&self) -> bool {
+        let all = std::hint::black_box(&self.all);
+        all[..EDGE].iter().chain(&all[all.len() - EDGE..]).all(|&byte| byte == EDGE_BYTE)
+    }
+}
+
+/// What outgoing numbers hold before the call: whoever leaves one alone is found out.
+const UNSET: usize = 0x5EED_0B57_AC1E_D00D;
+
+pub fn perform(library: &dyn Library, image: &mut [u8], g: &Geometry, call: &Call) -> Outcome {
+    let nothing = Vec::new();
+    let (handle, buffer, name) = match call {
+        Call::Open { handle, name, .. } | Call::Create { handle, name, .. } => (handle, &nothing, name),
+        Call::LookUp { name } | Call::List { name, .. } => (&nothing, &nothing, name),
+        Call::ReadRecord { handle, buffer } | Call::WriteRecord { handle, buffer, .. } => (handle, buffer, &nothing),
+        Call::ReadSector { handle, .. } | Call::Allot { handle, .. } => (handle, &nothing, &nothing),
+        Call::Trim { handle } | Call::Kill { handle } => (handle, &nothing, &nothing),
+        Call::Check | Call::Count => (&nothing, &nothing, &nothing),
+    };
+    let (mut handle, mut buffer, mut name) = (Lent::new(handle), Lent::new(buffer), Lent::new(name));
+    let (mut one, mut two, mut three) = (UNSET, UNSET, UNSET);
+    let mut numbers = Vec::new();
+    let number = match call {
+        Call::Check => library.check(image, g),
+        Call::LookUp { .. } => {
+            let number = library.look_up(image, g, name.lend(), &mut one, &mut two);
+            numbers = vec![("slot", one), ("compared", two)];
+            number
+        }
+        Call::Open { length, checking, code, .. } => {
+            library.open(image, g, name.lend(), *length, *checking, *code, handle.lend())
+        }
+        Call::Create { birth, .. } => {
+            let number = library.create(image, g, name.lend(), birth, &mut one, handle.lend());
+            numbers = vec![("old", one)];
+            number
+        }
+        Call::ReadRecord { .. } => library.read_record(image, g, handle.lend(), buffer.lend()),
+        Call::ReadSector { k, .. } => {
+            let number = library.read_sector(image, g, handle.lend(), *k, &mut one, &mut two);
+            numbers = vec![("from", one), ("to", two)];
+            number
+        }
+        Call::WriteRecord { sequential, .. } => {
+            library.write_record(image, g, handle.lend(), *sequential, buffer.lend())
+        }
+        Call::Allot { k, .. } => library.allot(image, g, handle.lend(), *k),
+        Call::Trim { .. } => library.trim(image, g, handle.lend()),
+        Call::Kill { .. } => library.kill(image, g, handle.lend()),
+        Call::List { which, .. } => {
+            let number = library.list(image, g, *which, name.lend(), &mut one, &mut two, &mut three);
+            numbers = vec![("size", one), ("granules", two), ("more", three)];
+            number
+        }
+        Call::Count => {
+            let number = library.count(image, g, &mut one, &mut two);
+            numbers = vec![("files", one), ("free", two)];
+            number
+        }
+    };
+    Outcome {
+        number,
+        numbers,
+        within: handle.edges_whole() && buffer.edges_whole() && name.edges_whole(),
+        handle: handle.bytes().to_vec(),
+        buffer: buffer.bytes().to_vec(),
+        name: name.bytes().to_vec(),
+    }
+}

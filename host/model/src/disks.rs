@@ -1,0 +1,380 @@
+//! Random consistent disks, built by placing files at random, not by calls: scattered files,
+//! extensions, system files that own directory granules, reserved granules, files and extensions in
+//! kept slots, all flags, levels and codes, and odd bytes wherever 01 tests none.
+
+use crate::directory::{
+    directory_granules, hit_place, put_entry, set_taken, slots, Entry, Pair, ENTRY_BYTES, EXTENSION_FLAGS,
+    LENGTH_PLACE, MARKER_LAST, MARKER_LINK, PAIRS,
+};
+use crate::geometry::{Geometry, GRANULE_BYTES, GRANULE_SECTORS, MOST_BLOCKS, MOST_UNITS, SECTOR_BYTES};
+use crate::names::{hash, Name, BLANK, FULL_NAME_BYTES, NAME_BYTES};
+use crate::random::Random;
+use crate::space::{permitted, LONGEST_RUN};
+
+#[derive(Clone)]
+pub struct Disk {
+    pub g: Geometry,
+    pub image: Vec<u8>,
+    /// The codes in use on it: tests pick from them, so that they meet.
+    pub codes: Vec<u16>,
+}
+
+/// How a disk is filled.
+#[derive(Clone, Copy, Debug)]
+struct Plan {
+    g: Geometry,
+    /// Directory sectors.
+    d: usize,
+    /// Files wanted, and how many granules in a hundred they may take together.
+    files: usize,
+    filling: usize,
+    /// Reserved granules in a hundred; with a comb every second granule is reserved.
+    reserved: usize,
+    comb: bool,
+    /// How many permitted slots stay free, if that is planned.
+    slots_left: Option<usize>,
+    /// Chance in a hundred that a place 01 does not test holds odd bytes.
+    odd: usize,
+}
+
+fn plan(random: &mut Random) -> Plan {
+    let (blocks, units) = loop {
+        let (blocks, units) = match random.within(0, 9) {
+            0 => (MOST_BLOCKS, random.within(1, MOST_UNITS)),
+            1 => (random.within(1, MOST_BLOCKS), MOST_UNITS),
+            2 | 3 => (random.within(1, MOST_BLOCKS), random.within(1, MOST_UNITS)),
+            4 => (random.within(1, 3), random.within(1, MOST_UNITS)),
+            _ => (random.within(4, 40), random.within(1, MOST_UNITS)),
+        };
+        if blocks * units >= 2 {
+            break (blocks, units);
+        }
+    };
+    let most = (blocks * units).min(6);
+    let d_granules = if random.percent(40) { most } else { random.within(2, most) };
+    let last_start = blocks * units - d_granules;
+    let start = match random.within(0, 4) {
+        0 => 0,
+        1 => last_start,
+        _ => random.within(0, last_start),
+    };
+    let open_code = if random.percent(30) { 0xFFFF } else { random.next() as u16 };
+    let d = d_granules * GRANULE_SECTORS;
+    Plan {
+        g: Geometry { blocks, units, start: start * GRANULE_SECTORS, open_code },
+        d,
+        files: match random.within(0, 5) {
+            0 => random.within(0, 3),
+            1 => random.within(0, 8 * (d - 2)),
+            _ => random.within(2, 24),
+        },
+        filling: *random.pick(&[0, 30, 60, 80, 95, 100]),
+        reserved: *random.pick(&[0, 0, 5, 30]),
+        comb: random.percent(25),
+        slots_left: if random.percent(35) { Some(random.within(0, 4)) } else { None },
+        odd: *random.pick(&[0, 30, 100]),
+    }
+}
+
+pub fn random_part(random: &mut Random, most: usize, least: usize, part: &mut [u8]) {
+    const ALLOWED: &[u8] = b"0123456789ABCDEFGHIJKLMNOPQRSTUVWXYZ[\\]";
+    const FEW: &[u8] = b"0A]";
+    let letters = if random.percent(30) { FEW } else { ALLOWED };
+    let filled = if random.percent(25) { most } else { random.within(least, most) };
+    for (i, byte) in part.iter_mut().enumerate() {
+        *byte = if i < filled { *random.pick(letters) } else { BLANK };
+    }
+}
+
+/// A well-formed name.
+pub fn random_name(random: &mut Random) -> Name {
+    let mut bytes = [BLANK; FULL_NAME_BYTES];
+    random_part(random, NAME_BYTES, 1, &mut bytes[..NAME_BYTES]);
+    random_part(random, FULL_NAME_BYTES - NAME_BYTES, 0, &mut bytes[NAME_BYTES..]);
+    bytes
+}
+
+/// A well-formed name with the hash of another one, if a few hundred trials find one.
+pub fn random_name_like(random: &mut Random, like: &Name) -> Name {
+    for _ in 0..700 {
+        let bytes = random_name(random);
+        if hash(&bytes) == hash(like) {
+            return bytes;
+        }
+    }
+    random_name(random)
+}
+
+/// A size for a file with so many granules; often at the edges of sectors and granules.
+fn random_size(random: &mut Random, granules: usize) -> usize {
+    let most = granules * GRANULE_BYTES;
+    let near = |random: &mut Random, step: usize| {
+        let edge = random.within(0, most / step) * step;
+        (edge + random.within(0, 2)).saturating_sub(1)
+    };
+    let size = match random.within(0, 6) {
+        0 => 0,
+        1 => most,
+        2 => near(random, SECTOR_BYTES),
+        3 => near(random, GRANULE_BYTES),
+        _ => random.within(0, most),
+    };
+    size.min(most)
+}
+
+struct Builder<'a> {
+    random: &'a mut Random,
+    plan: Plan,
+    image: Vec<u8>,
+    /// Granules that nothing holds yet.
+    free: Vec<bool>,
+    free_slots: Vec<u8>,
+    names: Vec<Name>,
+    codes: Vec<u16>,
+}
+
+impl Builder<'_> {
+    fn g(&self) -> Geometry {
+        self.plan.g
+    }
+
+    fn take_slot(&mut self, kept: bool) -> Option<u8> {
+        let wanted = |slot: &u8| permitted(*slot) != kept;
+        let at = self.free_slots.iter().position(wanted).or(if self.free_slots.is_empty() { None } else { Some(0) })?;
+        Some(self.free_slots.remove(at))
+    }
+
+    fn new_name(&mut self) -> Name {
+        loop {
+            let bytes = match self.names.is_empty() {
+                false if self.random.percent(25) => {
+                    let like = *self.random.pick(&self.names);
+                    random_name_like(self.random, &like)
+                }
+                _ => random_name(self.random),
+            };
+            if !self.names.contains(&bytes) {
+                self.names.push(bytes);
+                return bytes;
+            }
+        }
+    }
+
+    /// A run of free granules: its first granule and its length.
+    fn place_run(&mut self, after: Option<usize>) -> Option<(usize, usize)> {
+        let granules = self.free.len();
+        let first = match after {
+            Some(next) if next < granules && self.free[next] && self.random.percent(20) => next,
+            _ => {
+                let from = self.random.within(0, granules - 1);
+                (from..granules).chain(0..from).find(|&granule| self.free[granule])?
+            }
+        };
+        let wanted = match self.random.within(0, 9) {
+            0 => LONGEST_RUN,
+            1 => self.random.within(1, LONGEST_RUN),
+            2..=4 => self.random.within(1, 4),
+            _ => 1,
+        };
+        let length = (first..granules.min(first + wanted)).take_while(|&granule| self.free[granule]).count();
+        self.free[first..first + length].fill(false);
+        Some((first, length))
+    }
+
+    /// The pair of a run.
+    fn pair(&self, (first, length): (usize, usize)) -> Pair {
+        Pair { further: (length - 1) as u8, ..Pair::of_granule(&self.g(), first) }
+    }
+
+    /// Writes the entries of a file with these runs.
+    fn place_file(&mut self, system: bool, runs: &[(usize, usize)]) -> bool {
+        let entries = runs.len().div_ceil(PAIRS).max(1);
+        if self.free_slots.len() < entries {
+            return false;
+        }
+        let mut slots = Vec::new();
+        for _ in 0..entries {
+            let kept = self.random.percent(if system { 80 } else { 15 });
+            slots.push(self.take_slot(kept).expect("counted"));
+        }
+        let g = self.g();
+        let name = self.new_name();
+        let granules: usize = runs.iter().map(|run| run.1).sum();
+        for &(first, length) in runs {
+            for granule in first..first + length {
+                set_taken(&mut self.image, &g, granule, true);
+            }
+        }
+        for (i, &slot) in slots.iter().enumerate() {
+            let mut bytes = Entry([0; ENTRY_BYTES]);
+            if i == 0 {
+                self.random.fill(&mut bytes.0);
+                bytes.0[0x00] = 0x10 | if system { 0x40 } else { 0 } | self.random.byte() & 0x0F;
+                if self.random.percent(60) {
+                    bytes.0[0x00] &= 0xF8;
+                }
+                bytes.0[0x01] &= if self.random.percent(60) { 0x3F } else { 0xFF };
+                bytes.0[0x05..0x10].copy_from_slice(&name);
+                let main = *self.random.pick(&self.codes);
+                let worker = *self.random.pick(&self.codes);
+                bytes.0[0x10..0x12].copy_from_slice(&main.to_le_bytes());
+                bytes.0[0x12..0x14].copy_from_slice(&worker.to_le_bytes());
+                bytes.set_size(random_size(self.random, granules));
+            } else {
+                match self.random.within(0, 3) {
+                    0 => self.random.fill(&mut bytes.0[0x02..0x16]),
+                    1 => bytes.0[0x05..0x10].copy_from_slice(&name),
+                    _ => {}
+                }
+                bytes.0[0x00] = EXTENSION_FLAGS;
+                bytes.0[0x01] = slots[i - 1];
+            }
+            bytes.0[0x16..].fill(0xFF);
+            for pair in 0..PAIRS {
+                match runs.get(PAIRS * i + pair) {
+                    Some(&run) => bytes.set_pair(pair, self.pair(run)),
+                    None => {
+                        if self.random.percent(self.plan.odd) {
+                            bytes.0[0x17 + 2 * pair] = self.random.byte();
+                        }
+                    }
+                }
+            }
+            match slots.get(i + 1) {
+                Some(&next) => bytes.set_link(MARKER_LINK, next),
+                None => {
+                    let link = if self.random.percent(self.plan.odd) { self.random.byte() } else { 0xFF };
+                    bytes.set_link(MARKER_LAST, link);
+                }
+            }
+            put_entry(&mut self.image, &g, slot, &bytes);
+            self.image[hit_place(&g, slot)] = hash(&name);
+        }
+        true
+    }
+
+    /// System files; some own directory granules, in any order, alone or with their neighbours.
+    fn place_system_files(&mut self) {
+        let mut directory: Vec<usize> = directory_granules(&self.g(), self.plan.d).collect();
+        self.random.shuffle(&mut directory);
+        for _ in 0..self.random.within(0, 3) {
+            let mut runs = Vec::new();
+            for _ in 0..self.random.within(0, 6) {
+                let of_directory = self.random.percent(50);
+                if of_directory && !directory.is_empty() {
+                    let first = directory.pop().expect("not empty");
+                    let mut length = 1;
+                    while length < LONGEST_RUN && self.random.percent(50) {
+                        let next = first + length;
+                        let own = directory.iter().position(|&granule| granule == next);
+                        match own {
+                            Some(at) => {
+                                directory.remove(at);
+                            }
+                            None if next < self.free.len() && self.free[next] => self.free[next] = false,
+                            None => break,
+                        }
+                        length += 1;
+                    }
+                    runs.push((first, length));
+                } else {
+                    let after = runs.last().map(|&(first, length): &(usize, usize)| first + length);
+                    runs.extend(self.place_run(after));
+                }
+            }
+            if !self.place_file(true, &runs) {
+                self.give_back(&runs);
+            }
+        }
+    }
+
+    /// Runs that found no slots are free again; directory granules among them stay reserved.
+    fn give_back(&mut self, runs: &[(usize, usize)]) {
+        for &(first, length) in runs {
+            for granule in first..first + length {
+                self.free[granule] = !directory_granules(&self.g(), self.plan.d).contains(&granule);
+            }
+        }
+    }
+
+    fn place_files(&mut self) {
+        let most = self.free.len() * self.plan.filling / 100;
+        let mut used = 0;
+        for _ in 0..self.plan.files {
+            let wanted = match self.random.within(0, 9) {
+                0 => 0,
+                1..=6 => self.random.within(1, PAIRS),
+                7 | 8 => self.random.within(5, 12),
+                _ => self.random.within(13, 60),
+            };
+            let mut runs: Vec<(usize, usize)> = Vec::new();
+            for _ in 0..wanted {
+                if used >= most {
+                    break;
+                }
+                let after = runs.last().map(|&(first, length)| first + length);
+                let Some(run) = self.place_run(after) else { break };
+                used += run.1;
+                runs.push(run);
+            }
+            while runs.len().div_ceil(PAIRS).max(1) > self.free_slots.len() && !runs.is_empty() {
+                let run = runs.pop().expect("not empty");
+                self.give_back(&[run]);
+            }
+            if !self.place_file(false, &runs) {
+                break;
+            }
+        }
+        if let Some(left) = self.plan.slots_left {
+            while self.free_slots.iter().filter(|&&slot| permitted(slot)).count() > left {
+                let at = self.free_slots.iter().position(|&slot| permitted(slot)).expect("counted");
+                self.free_slots.swap(0, at);
+                let only = vec![self.free_slots.remove(0)];
+                let others = std::mem::replace(&mut self.free_slots, only);
+                self.place_file(false, &[]);
+                self.free_slots = others;
+            }
+        }
+    }
+}
+
+pub fn random_disk(random: &mut Random) -> Disk {
+    let plan = plan(random);
+    let (g, d) = (plan.g, plan.d);
+    let mut image = vec![0; g.granules() * GRANULE_BYTES];
+    // Whatever is not set below holds anything: data, GAT and HIT places out of range, dead entries.
+    random.fill(&mut image);
+    image[hit_place(&g, LENGTH_PLACE as u8)] = (d - 10) as u8;
+    let mut free_slots: Vec<u8> = slots(d).collect();
+    for &slot in &free_slots {
+        image[hit_place(&g, slot)] = 0;
+        let place = crate::directory::entry_place(&g, slot);
+        image[place] &= !(1 << 4);
+    }
+    random.shuffle(&mut free_slots);
+
+    let mut free = vec![true; g.granules()];
+    for granule in 0..g.granules() {
+        let of_directory = directory_granules(&g, d).contains(&granule);
+        let reserved = of_directory
+            || random.percent(plan.reserved)
+            || plan.comb && granule % 2 == 0;
+        free[granule] = !reserved;
+        set_taken(&mut image, &g, granule, reserved);
+    }
+    let codes = vec![g.open_code, 0, 0xFFFF, random.next() as u16, random.next() as u16];
+    let mut builder = Builder { random, plan, image, free, free_slots, names: Vec::new(), codes };
+    builder.place_system_files();
+    builder.place_files();
+    Disk { g, image: builder.image, codes: builder.codes }
+}
+
+/// An empty disk: zeros, but for the directory's length and its reserved granules.
+pub fn empty_disk(g: Geometry, d: usize, reserved: &[usize]) -> Disk {
+    let mut image = vec![0; g.granules() * GRANULE_BYTES];
+    image[hit_place(&g, LENGTH_PLACE as u8)] = (d - 10) as u8;
+    for granule in directory_granules(&g, d).chain(reserved.iter().copied()) {
+        set_taken(&mut image, &g, granule, true);
+    }
+    Disk { g, image, codes: vec![g.open_code] }
+}

@@ -1,0 +1,24 @@
+//! Document 01 as a plain model, and the tests that hold the library against it.
+//!
+//! The model is written from document 01 alone, slowly and readably, one module a concept: it is a
+//! second opinion on what the document says, so it shares no line with the library or its proofs.
+//! Beside it stand random disks, ways to damage them, random calls, and the binding of the library.
+
+// The model: document 01.
+pub mod calls;
+pub mod consistency;
+pub mod directory;
+pub mod geometry;
+pub mod handle;
+pub mod names;
+pub mod space;
+
+// The library under test.
+pub mod binding;
+pub mod library;
+
+// Disks and calls made up at random, and the comparison.
+pub mod call;
+pub mod damage;
+pub mod disks;
+pub mod random;

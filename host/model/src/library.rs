@@ -1,0 +1,158 @@
+//! The exported interface as a trait, so that the same tests run on the model and on the library.
+//! Whoever implements it sets every outgoing number, also under a refusal.
+
+use crate::calls::{self, Birth, Number};
+use crate::geometry::Geometry;
+
+#[allow(clippy::too_many_arguments)]
+pub trait Library {
+    fn title(&self) -> &'static str;
+    fn check(&self, image: &[u8], g: &Geometry) -> Number;
+    fn look_up(&self, image: &[u8], g: &Geometry, name: &[u8], slot: &mut usize, compared: &mut usize) -> Number;
+    fn open(
+        &self,
+        image: &[u8],
+        g: &Geometry,
+        name: &[u8],
+        length: usize,
+        checking: bool,
+        code: u16,
+        handle: &mut [u8],
+    ) -> Number;
+    fn create(
+        &self,
+        image: &mut [u8],
+        g: &Geometry,
+        name: &[u8],
+        birth: &Birth,
+        old: &mut usize,
+        handle: &mut [u8],
+    ) -> Number;
+    fn read_record(&self, image: &[u8], g: &Geometry, handle: &mut [u8], buffer: &mut [u8]) -> Number;
+    fn read_sector(
+        &self,
+        image: &[u8],
+        g: &Geometry,
+        handle: &[u8],
+        k: usize,
+        from: &mut usize,
+        to: &mut usize,
+    ) -> Number;
+    fn write_record(
+        &self,
+        image: &mut [u8],
+        g: &Geometry,
+        handle: &mut [u8],
+        sequential: bool,
+        buffer: &[u8],
+    ) -> Number;
+    fn allot(&self, image: &mut [u8], g: &Geometry, handle: &[u8], k: usize) -> Number;
+    fn trim(&self, image: &mut [u8], g: &Geometry, handle: &[u8]) -> Number;
+    fn kill(&self, image: &mut [u8], g: &Geometry, handle: &[u8]) -> Number;
+    fn list(
+        &self,
+        image: &[u8],
+        g: &Geometry,
+        which: usize,
+        name: &mut [u8],
+        size: &mut usize,
+        granules: &mut usize,
+        more: &mut usize,
+    ) -> Number;
+    fn count(&self, image: &[u8], g: &Geometry, files: &mut usize, free: &mut usize) -> Number;
+}
+
+/// The model itself.
+pub struct Model;
+
+impl Library for Model {
+    fn title(&self) -> &'static str {
+        "model"
+    }
+    fn check(&self, image: &[u8], g: &Geometry) -> Number {
+        calls::check(image, g)
+    }
+    fn look_up(&self, image: &[u8], g: &Geometry, name: &[u8], slot: &mut usize, compared: &mut usize) -> Number {
+        calls::look_up(image, g, name, slot, compared)
+    }
+    fn open(
+        &self,
+        image: &[u8],
+        g: &Geometry,
+        name: &[u8],
+        length: usize,
+        checking: bool,
+        code: u16,
+        handle: &mut [u8],
+    ) -> Number {
+        calls::open(image, g, name, length, checking, code, handle)
+    }
+    fn create(
+        &self,
+        image: &mut [u8],
+        g: &Geometry,
+        name: &[u8],
+        birth: &Birth,
+        old: &mut usize,
+        handle: &mut [u8],
+    ) -> Number {
+        calls::create(image, g, name, birth, old, handle)
+    }
+    fn read_record(&self, image: &[u8], g: &Geometry, handle: &mut [u8], buffer: &mut [u8]) -> Number {
+        calls::read_record(image, g, handle, buffer)
+    }
+    fn read_sector(
+        &self,
+        image: &[u8],
+        g: &Geometry,
+        handle: &[u8],
+        k: usize,
+        from: &mut usize,
+        to: &mut usize,
+    ) -> Number {
+        calls::read_sector(image, g, handle, k, from, to)
+    }
+    fn write_record(
+        &self,
+        image: &mut [u8],
+        g: &Geometry,
+        handle: &mut [u8],
+        sequential: bool,
+        buffer: &[u8],
+    ) -> Number {
+        calls::write_record(image, g, handle, sequential, buffer)
+    }
+    fn allot(&self, image: &mut [u8], g: &Geometry, handle: &[u8], k: usize) -> Number {
+        calls::allot(image, g, handle, k)
+    }
+    fn trim(&self, image: &mut [u8], g: &Geometry, handle: &[u8]) -> Number {
+        calls::trim(image, g, handle)
+    }
+    fn kill(&self, image: &mut [u8], g: &Geometry, handle: &[u8]) -> Number {
+        calls::kill(image, g, handle)
+    }
+    fn list(
+        &self,
+        image: &[u8],
+        g: &Geometry,
+        which: usize,
+        name: &mut [u8],
+        size: &mut usize,
+        granules: &mut usize,
+        more: &mut usize,
+    ) -> Number {
+        calls::list(image, g, which, name, size, granules, more)
+    }
+    fn count(&self, image: &[u8], g: &Geometry, files: &mut usize, free: &mut usize) -> Number {
+        calls::count(image, g, files, free)
+    }
+}
+
+/// The model, and the linked library if there is one: hand-written cases run on each.
+pub fn libraries() -> Vec<Box<dyn Library>> {
+    let mut all: Vec<Box<dyn Library>> = vec![Box::new(Model)];
+    if let Some(linked) = crate::binding::linked() {
+        all.push(linked);
+    }
+    all
+}
