@@ -24,7 +24,14 @@ mod bound {
     use crate::library::Library;
 
     extern "C" {
-        fn genie_check(image: *const u8, image_len: usize, blocks: usize, units: usize, start: usize, open_code: u16) -> u8;
+        fn genie_check(
+            image: *const u8,
+            image_len: usize,
+            blocks: usize,
+            units: usize,
+            start: usize,
+            open_code: u16,
+        ) -> u8;
         fn genie_look_up(
             image: *const u8,
             image_len: usize,
@@ -176,9 +183,25 @@ mod bound {
             "library"
         }
         fn check(&self, image: &[u8], g: &Geometry) -> Number {
-            unsafe { genie_check(image.as_ptr(), image.len(), g.blocks, g.units, g.start, g.open_code) }
+            unsafe {
+                genie_check(
+                    image.as_ptr(),
+                    image.len(),
+                    g.blocks,
+                    g.units,
+                    g.start,
+                    g.open_code,
+                )
+            }
         }
-        fn look_up(&self, image: &[u8], g: &Geometry, name: &[u8], slot: &mut usize, compared: &mut usize) -> Number {
+        fn look_up(
+            &self,
+            image: &[u8],
+            g: &Geometry,
+            name: &[u8],
+            slot: &mut usize,
+            compared: &mut usize,
+        ) -> Number {
             unsafe {
                 genie_look_up(
                     image.as_ptr(),
@@ -254,7 +277,13 @@ mod bound {
                 )
             }
         }
-        fn read_record(&self, image: &[u8], g: &Geometry, handle: &mut [u8], buffer: &mut [u8]) -> Number {
+        fn read_record(
+            &self,
+            image: &[u8],
+            g: &Geometry,
+            handle: &mut [u8],
+            buffer: &mut [u8],
+        ) -> Number {
             unsafe {
                 genie_read_record(
                     image.as_ptr(),

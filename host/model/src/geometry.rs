@@ -43,7 +43,7 @@ impl Geometry {
     pub fn fits(&self, image_len: usize) -> bool {
         (1..=MOST_BLOCKS).contains(&self.blocks)
             && (1..=MOST_UNITS).contains(&self.units)
-            && self.start % GRANULE_SECTORS == 0
+            && self.start.is_multiple_of(GRANULE_SECTORS)
             && image_len == self.granules() * GRANULE_BYTES
             && self.start <= self.sectors()
             && self.sectors() - self.start >= LEAST_DIRECTORY_SECTORS

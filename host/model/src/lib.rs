@@ -19,6 +19,10 @@ pub mod library;
 
 // Disks and calls made up at random, and the comparison.
 pub mod call;
+pub mod caller;
+pub mod compare;
 pub mod damage;
 pub mod disks;
+pub mod interleave;
+pub mod plain;
 pub mod random;

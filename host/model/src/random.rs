@@ -8,7 +8,7 @@ impl Random {
         Random(seed)
     }
 
-    pub fn next(&mut self) -> u64 {
+    pub fn draw(&mut self) -> u64 {
         self.0 = self.0.wrapping_add(0x9E37_79B9_7F4A_7C15);
         let mut x = self.0;
         x = (x ^ (x >> 30)).wrapping_mul(0xBF58_476D_1CE4_E5B9);
@@ -21,13 +21,13 @@ impl Random {
         assert!(low <= high);
         let span = (high - low) as u64;
         if span == u64::MAX {
-            return self.next() as usize;
+            return self.draw() as usize;
         }
-        low + (self.next() % (span + 1)) as usize
+        low + (self.draw() % (span + 1)) as usize
     }
 
     pub fn byte(&mut self) -> u8 {
-        self.next() as u8
+        self.draw() as u8
     }
 
     /// True so many times in a hundred.
@@ -41,7 +41,7 @@ impl Random {
 
     pub fn fill(&mut self, bytes: &mut [u8]) {
         for part in bytes.chunks_mut(8) {
-            part.copy_from_slice(&self.next().to_le_bytes()[..part.len()]);
+            part.copy_from_slice(&self.draw().to_le_bytes()[..part.len()]);
         }
     }
 
@@ -49,10 +49,5 @@ impl Random {
         for i in (1..things.len()).rev() {
             things.swap(i, self.within(0, i));
         }
-    }
-
-    /// A generator of its own for a part of the run.
-    pub fn split(&mut self) -> Random {
-        Random(self.next())
     }
 }

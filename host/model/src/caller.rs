@@ -1,0 +1,459 @@
+//! Calls made up at random for the disk as it stands: mostly sensible ones at the edges of what is
+//! accepted, some of every senseless kind.
+
+use crate::call::{Call, Outcome};
+use crate::calls::{Birth, ACCEPTED};
+use crate::directory::{directory_sectors, entry, files, owned, slots};
+use crate::disks::{random_name, random_name_like, Disk};
+use crate::geometry::{Geometry, GRANULE_BYTES, GRANULE_SECTORS, HIGHEST_POSITION, HIGHEST_SECTOR};
+use crate::handle::{Handle, HANDLE_BYTES};
+use crate::names::{Name, BLANK, FULL_NAME_BYTES};
+use crate::random::Random;
+use crate::space::free_granules;
+
+const MOST_HANDLES: usize = 24;
+
+pub struct Caller {
+    /// Handles that calls gave, the newest last; many of them get stale.
+    handles: Vec<Handle>,
+    codes: Vec<u16>,
+    /// A sober caller sends few senseless numbers: its calls go deeper into a disk's life.
+    sober: bool,
+}
+
+/// The number of directory sectors, where the image holds them: the disk may be damaged.
+fn directory_within(image: &[u8], g: &Geometry) -> Option<usize> {
+    directory_sectors(image, g).filter(|d| g.start + d <= g.sectors())
+}
+
+/// A number of any kind, huge ones included.
+pub fn wild(random: &mut Random) -> usize {
+    match random.within(0, 3) {
+        0 => *random.pick(&[
+            0,
+            1,
+            255,
+            256,
+            257,
+            65_535,
+            65_536,
+            1 << 31,
+            1 << 32,
+            (1 << 32) + 1,
+        ]),
+        1 => usize::MAX - random.within(0, 2),
+        2 => (1 << 63) + random.within(0, 2) - 1,
+        _ => (random.draw() as usize) >> random.within(0, 63),
+    }
+}
+
+/// A geometry that is not the disk's, or a wrong image length.
+pub fn odd_geometry(random: &mut Random, g: &Geometry, image_len: usize) -> (Geometry, usize) {
+    let mut odd = *g;
+    let mut length = image_len;
+    match random.within(0, 9) {
+        0 => odd.blocks = wild(random),
+        1 => odd.units = wild(random),
+        2 => odd.start = wild(random),
+        // The same length, told otherwise.
+        3 => (odd.blocks, odd.units) = (g.units, g.blocks),
+        4 if g.units.is_multiple_of(2) => (odd.blocks, odd.units) = (g.blocks * 2, g.units / 2),
+        4 if g.blocks.is_multiple_of(2) => (odd.blocks, odd.units) = (g.blocks / 2, g.units * 2),
+        4 => odd.blocks = 0,
+        5 => odd.start = random.within(0, g.sectors() / GRANULE_SECTORS + 1) * GRANULE_SECTORS,
+        6 => odd.start = g.start + random.within(1, 4),
+        7 => {
+            length = *random.pick(&[
+                0,
+                1,
+                GRANULE_BYTES,
+                image_len - 1,
+                image_len - GRANULE_BYTES,
+            ])
+        }
+        8 => odd.start = g.sectors() - *random.pick(&[0, 5, 10]),
+        _ => {
+            // Sums and products that wrap around to the right length.
+            odd.blocks = g.blocks.wrapping_add(1 << random.within(56, 63));
+            if random.percent(50) {
+                (odd.blocks, odd.units) = (1 << 60, 16 * g.units);
+            }
+        }
+    }
+    (odd, length)
+}
+
+impl Caller {
+    pub fn new(disk: &Disk, sober: bool) -> Caller {
+        Caller {
+            handles: Vec::new(),
+            codes: disk.codes.clone(),
+            sober,
+        }
+    }
+
+    /// Keeps the handles that a call gave.
+    pub fn learn(&mut self, call: &Call, outcome: &Outcome) {
+        let gives = matches!(
+            call,
+            Call::Open { .. }
+                | Call::Create { .. }
+                | Call::ReadRecord { .. }
+                | Call::WriteRecord { .. }
+        );
+        if gives && outcome.number == ACCEPTED {
+            self.handles
+                .push(Handle::read(&outcome.handle).expect("19 bytes"));
+            if self.handles.len() > MOST_HANDLES {
+                self.handles.remove(0);
+            }
+        }
+    }
+
+    fn code(&self, random: &mut Random) -> u16 {
+        if random.percent(90) {
+            *random.pick(&self.codes)
+        } else {
+            random.draw() as u16
+        }
+    }
+
+    fn some_file(random: &mut Random, image: &[u8], g: &Geometry) -> Option<u8> {
+        let d = directory_within(image, g)?;
+        let all = files(image, g, d);
+        (!all.is_empty()).then(|| *random.pick(&all))
+    }
+
+    fn name(&self, random: &mut Random, image: &[u8], g: &Geometry) -> Vec<u8> {
+        let there = Self::some_file(random, image, g).map(|slot| entry(image, g, slot).name());
+        match (random.within(0, 19), there) {
+            (0..=10, Some(name)) => name.to_vec(),
+            (11 | 12, Some(name)) => random_name_like(random, &name).to_vec(),
+            (13, Some(mut name)) => {
+                // One byte away from a name that is there.
+                name[random.within(0, FULL_NAME_BYTES - 1)] = *random.pick(b"A0]Z ");
+                name.to_vec()
+            }
+            (14, _) => Self::bad_name(random),
+            (15, Some(name)) => {
+                // The right bytes, but not 11 of them.
+                let mut bytes = name.to_vec();
+                bytes.extend([BLANK; 5]);
+                bytes.truncate(*random.pick(&[0, 1, 8, 10, 12, 16]));
+                bytes
+            }
+            _ => random_name(random).to_vec(),
+        }
+    }
+
+    fn bad_name(random: &mut Random) -> Vec<u8> {
+        let mut bytes = random_name(random);
+        match random.within(0, 2) {
+            0 => bytes[0] = BLANK,
+            1 => {
+                bytes[random.within(0, 10)] =
+                    *random.pick(&[0, 0x2F, 0x3A, 0x40, 0x5E, 0x61, 0x7D, 0xC1, 0xFF])
+            }
+            _ => (bytes[1], bytes[2]) = (BLANK, b'A'),
+        }
+        bytes.to_vec()
+    }
+
+    fn length(&self, random: &mut Random) -> usize {
+        match random.within(if self.sober { 2 } else { 0 }, 19) {
+            0 => *random.pick(&[0, 257]),
+            1 => wild(random),
+            2..=6 => 256,
+            7 | 8 => 1,
+            9 => 255,
+            _ => random.within(1, 256),
+        }
+    }
+
+    /// A handle's bytes, mostly good, of a buffer that may be longer, seldom shorter.
+    fn lent_handle(&self, random: &mut Random, handle: &Handle) -> Vec<u8> {
+        let mut bytes = handle.bytes().to_vec();
+        match random.within(if self.sober { 1 } else { 0 }, 39) {
+            0 => bytes.truncate(random.within(0, HANDLE_BYTES - 1)),
+            1..=4 => bytes.extend((0..random.within(1, 20)).map(|_| random.byte())),
+            _ => {}
+        }
+        bytes
+    }
+
+    /// A place for a handle to come.
+    fn handle_room(random: &mut Random) -> Vec<u8> {
+        let length = match random.within(0, 29) {
+            0 => random.within(0, HANDLE_BYTES - 1),
+            1..=3 => random.within(HANDLE_BYTES, 40),
+            _ => HANDLE_BYTES,
+        };
+        (0..length).map(|_| random.byte()).collect()
+    }
+
+    fn position(
+        random: &mut Random,
+        size: usize,
+        granules: usize,
+        free: usize,
+        length: usize,
+    ) -> u32 {
+        let around = |random: &mut Random, at: usize| {
+            (at + random.within(0, 3)).saturating_sub(random.within(0, 2))
+        };
+        let position = match random.within(0, 29) {
+            0..=5 => random.within(0, size),
+            6 | 7 => size,
+            8..=10 => around(random, size.saturating_sub(length)),
+            11 | 12 => around(random, size),
+            13..=15 => around(random, (granules * GRANULE_BYTES).saturating_sub(length)),
+            16..=18 => random.within(0, (granules + 2) * GRANULE_BYTES),
+            19 => around(
+                random,
+                ((granules + free) * GRANULE_BYTES).saturating_sub(length),
+            ),
+            20 => random.within(0, (granules + free + 1) * GRANULE_BYTES),
+            21 => around(random, HIGHEST_POSITION - 256),
+            22 => around(random, HIGHEST_POSITION.saturating_sub(length)),
+            23 => *random.pick(&[
+                HIGHEST_POSITION,
+                HIGHEST_POSITION + 1,
+                u32::MAX as usize,
+                1 << 31,
+            ]),
+            24 => random.draw() as usize,
+            _ => 0,
+        };
+        position as u32
+    }
+
+    /// A handle, with its position set, for the disk as it stands.
+    fn handle(&self, random: &mut Random, image: &[u8], g: &Geometry, kind: &str) -> Handle {
+        let there = Self::some_file(random, image, g);
+        let mut handle = match there {
+            _ if !self.handles.is_empty() && random.percent(40) => *random.pick(&self.handles),
+            Some(slot) => Handle {
+                slot,
+                level: 0,
+                length: self.length(random) as u16,
+                position: 0,
+                name: entry(image, g, slot).name(),
+            },
+            None => Handle {
+                slot: random.byte(),
+                level: 0,
+                length: 1,
+                position: 0,
+                name: random_name(random),
+            },
+        };
+        if random.percent(if self.sober { 3 } else { 25 }) {
+            handle.level = *random.pick(&[1, 2, 4, 5, 6, 7, 8, 255]);
+        }
+        match random.within(0, if self.sober { 399 } else { 39 }) {
+            0 => handle.slot = random.byte(),
+            1 => handle.name = random_name(random),
+            2 => random.fill(&mut handle.name),
+            3 => handle.length = *random.pick(&[0, 257, 256 + 12, 65_535]),
+            4 => handle.slot = handle.slot.wrapping_add(32),
+            5 => handle.slot |= 0x1F,
+            6 => {
+                // A handle of an extension, should its bytes look like a name.
+                if let Some(d) = directory_within(image, g) {
+                    handle.slot = *random.pick(&slots(d).collect::<Vec<_>>());
+                    handle.name = entry(image, g, handle.slot).name();
+                }
+            }
+            7 => {
+                handle = Handle {
+                    slot: 0,
+                    level: 0,
+                    length: 0,
+                    position: 0,
+                    name: [0; 11],
+                }
+            }
+            _ => {}
+        }
+        let (size, granules) = Self::extent(image, g, &handle);
+        let free = if kind == "read" {
+            0
+        } else {
+            free_granules(image, g).count()
+        };
+        let length = handle.length as usize;
+        handle.position = match self.sober {
+            true if kind == "read" => random.within(0, size.saturating_sub(length)) as u32,
+            true if random.percent(50) => size as u32,
+            _ => Self::position(random, size, granules, free, length),
+        };
+        handle
+    }
+
+    /// Size and granules of the file in a handle's slot, as far as there is one.
+    fn extent(image: &[u8], g: &Geometry, handle: &Handle) -> (usize, usize) {
+        match directory_within(image, g) {
+            Some(d) if !handle.is_stale(image, g, d) => {
+                let size = entry(image, g, handle.slot).size().unwrap_or(0);
+                (size, owned(image, g, d, handle.slot).len())
+            }
+            _ => (0, 0),
+        }
+    }
+
+    fn buffer(random: &mut Random, handle: &Handle) -> Vec<u8> {
+        let length = (handle.length as usize).min(300);
+        let room = match random.within(0, 29) {
+            0 => random.within(0, length),
+            1 => length.saturating_sub(1),
+            2..=9 => length + random.within(1, 40),
+            _ => length,
+        };
+        (0..room).map(|_| random.byte()).collect()
+    }
+
+    fn sector(
+        random: &mut Random,
+        image: &[u8],
+        g: &Geometry,
+        handle: &Handle,
+        growth: bool,
+    ) -> usize {
+        let (size, granules) = Self::extent(image, g, handle);
+        let (n, owned) = (size.div_ceil(256), granules * GRANULE_SECTORS);
+        let around = |random: &mut Random, at: usize| (at + random.within(0, 2)).saturating_sub(1);
+        match random.within(0, 19) {
+            0 => *random.pick(&[HIGHEST_SECTOR, HIGHEST_SECTOR + 1]),
+            1 => wild(random),
+            2 if growth => around(
+                random,
+                owned + free_granules(image, g).count() * GRANULE_SECTORS,
+            ),
+            3 if growth => random.within(0, g.sectors()),
+            4..=8 if growth => {
+                let further = random.within(0, 4);
+                around(random, owned + GRANULE_SECTORS * further)
+            }
+            9..=11 if growth => owned + GRANULE_SECTORS * random.within(0, 24),
+            4..=8 => around(random, n),
+            _ => random.within(0, n),
+        }
+    }
+
+    /// Some call.
+    pub fn make(&self, random: &mut Random, image: &[u8], g: &Geometry) -> Call {
+        match random.within(0, 99) {
+            0..=2 => Call::Check,
+            3..=9 => Call::LookUp {
+                name: self.name(random, image, g),
+            },
+            10..=19 => Call::Open {
+                name: self.name(random, image, g),
+                length: self.length(random),
+                checking: random.percent(80),
+                code: self.code(random),
+                handle: Self::handle_room(random),
+            },
+            20..=29 => Call::Create {
+                name: self.name(random, image, g),
+                birth: self.birth(random),
+                handle: Self::handle_room(random),
+            },
+            30..=40 => {
+                let handle = self.handle(random, image, g, "read");
+                let buffer = Self::buffer(random, &handle);
+                Call::ReadRecord {
+                    handle: self.lent_handle(random, &handle),
+                    buffer,
+                }
+            }
+            41..=49 => {
+                let handle = self.handle(random, image, g, "read");
+                let k = Self::sector(random, image, g, &handle, false);
+                Call::ReadSector {
+                    handle: self.lent_handle(random, &handle),
+                    k,
+                }
+            }
+            50..=69 => {
+                let handle = self.handle(random, image, g, "write");
+                let buffer = Self::buffer(random, &handle);
+                Call::WriteRecord {
+                    handle: self.lent_handle(random, &handle),
+                    sequential: random.percent(50),
+                    buffer,
+                }
+            }
+            70..=78 => {
+                let handle = self.handle(random, image, g, "allot");
+                let k = Self::sector(random, image, g, &handle, true);
+                Call::Allot {
+                    handle: self.lent_handle(random, &handle),
+                    k,
+                }
+            }
+            79..=86 => {
+                let handle = self.handle(random, image, g, "trim");
+                Call::Trim {
+                    handle: self.lent_handle(random, &handle),
+                }
+            }
+            87..=91 => {
+                let handle = self.handle(random, image, g, "kill");
+                Call::Kill {
+                    handle: self.lent_handle(random, &handle),
+                }
+            }
+            92..=96 => {
+                let which = if random.percent(20) {
+                    wild(random)
+                } else {
+                    random.within(0, 30)
+                };
+                let room = match random.within(0, 9) {
+                    0 => random.within(0, FULL_NAME_BYTES - 1),
+                    1 => random.within(FULL_NAME_BYTES, 20),
+                    _ => FULL_NAME_BYTES,
+                };
+                Call::List {
+                    which,
+                    name: (0..room).map(|_| random.byte()).collect(),
+                }
+            }
+            _ => Call::Count,
+        }
+    }
+
+    fn birth(&self, random: &mut Random) -> Birth {
+        let part = |random: &mut Random, highest: usize| match random.within(0, 29) {
+            0 => highest + 1,
+            1 => wild(random),
+            2 => highest,
+            _ => random.within(0, highest),
+        };
+        Birth {
+            day: part(random, 31),
+            month: part(random, 15),
+            year: part(random, 15),
+            length: self.length(random),
+            main_code: self.code(random),
+            worker_code: self.code(random),
+            checking: random.percent(80),
+        }
+    }
+
+    /// A name for tests that want a new file.
+    pub fn new_name(random: &mut Random, image: &[u8], g: &Geometry) -> Name {
+        let d = directory_sectors(image, g).expect("a consistent disk");
+        let there: Vec<Name> = files(image, g, d)
+            .iter()
+            .map(|&slot| entry(image, g, slot).name())
+            .collect();
+        loop {
+            let name = random_name(random);
+            if !there.contains(&name) {
+                return name;
+            }
+        }
+    }
+}

@@ -1,0 +1,519 @@
+//! The comparison: each call is performed on the model and on the library under test, each with an
+//! image of its own, and all they answer and leave must be alike.
+
+use crate::call::{perform, Call, Lent, Outcome, POSSIBLE};
+use crate::caller::{odd_geometry, Caller};
+use crate::calls::{Number, ACCEPTED, LEVEL};
+use crate::consistency::consistent;
+use crate::damage::{random_flips, DAMAGES};
+use crate::directory::{
+    chain, directory_sectors, entry, gat_place, hit_place, owned, slots, ENTRY_BYTES, LENGTH_PLACE,
+};
+use crate::disks::{random_disk, Disk};
+use crate::geometry::{Geometry, GRANULE_BYTES, SECTOR_BYTES};
+use crate::handle::Handle;
+use crate::library::{Library, Model};
+use crate::names::written;
+use crate::random::Random;
+use std::collections::BTreeMap;
+
+/// How often each call gave each number, and how often other things worth meeting were met.
+#[derive(Default, Clone)]
+pub struct Seen {
+    pub numbers: BTreeMap<(&'static str, Number), usize>,
+    pub events: BTreeMap<&'static str, usize>,
+    pub calls: usize,
+    pub disks: usize,
+}
+
+/// What a run must have met beside the numbers.
+pub const EVENTS: &[&str] = &[
+    "look up compared several",
+    "look up compared several and found none",
+    "open grants the stored level",
+    "create finds an old file",
+    "create opens a system file",
+    "read of a system file",
+    "read crosses granules",
+    "sector part under 256 bytes",
+    "write fills a gap with zeros",
+    "write shrinks the file",
+    "write within the file",
+    "write crosses granules",
+    "growth lengthens a run",
+    "growth adds runs",
+    "growth adds an extension",
+    "growth adds several extensions",
+    "growth fills the disk",
+    "size grows within the granules under E",
+    "trim cuts a run",
+    "trim empties pairs",
+    "trim empties an extension",
+    "trim empties several extensions",
+    "trim gives back all",
+    "trim under F",
+    "kill of a file with extensions",
+    "list tells a file",
+    "list tells no more",
+    "level refused on a system file",
+    "a long buffer's rest is untouched",
+    "still consistent after flips",
+];
+
+impl Seen {
+    fn event(&mut self, what: &'static str, happened: bool) {
+        debug_assert!(EVENTS.contains(&what), "{what} is not listed");
+        if happened {
+            *self.events.entry(what).or_default() += 1;
+        }
+    }
+
+    /// What never occurred: each number by each call that can give it, and each event.
+    pub fn missing(&self) -> Vec<String> {
+        let mut all = Vec::new();
+        for (title, numbers) in POSSIBLE {
+            for number in numbers {
+                if !self.numbers.contains_key(&(title, *number)) {
+                    all.push(format!("{title} never gave {number}"));
+                }
+            }
+        }
+        for event in EVENTS {
+            if !self.events.contains_key(event) {
+                all.push(format!("never met: {event}"));
+            }
+        }
+        all
+    }
+
+    /// A table for the reader.
+    pub fn table(&self) -> String {
+        let mut text = format!("{} disks, {} calls\n", self.disks, self.calls);
+        for (title, numbers) in POSSIBLE {
+            text += &format!("  {title:<17}");
+            for number in numbers {
+                let times = self.numbers.get(&(title, *number)).copied().unwrap_or(0);
+                text += &format!(" {number}:{times}");
+            }
+            text += "\n";
+        }
+        for event in EVENTS {
+            text += &format!(
+                "  {event}: {}\n",
+                self.events.get(event).copied().unwrap_or(0)
+            );
+        }
+        text
+    }
+}
+
+/// What stands at a place of the image.
+pub fn what_is(image: &[u8], g: &Geometry, place: usize) -> String {
+    if !g.fits(image.len()) {
+        return format!("byte {place}");
+    }
+    let from = g.start * SECTOR_BYTES;
+    let d = directory_sectors(image, g).unwrap_or(10);
+    if place >= from && place < from + SECTOR_BYTES {
+        let byte = place - from;
+        return match byte < g.blocks {
+            true => format!("GAT byte {byte}"),
+            false => format!("GAT sector's byte {byte}, past the last block"),
+        };
+    }
+    if place >= from + SECTOR_BYTES && place < from + 2 * SECTOR_BYTES {
+        let slot = place - from - SECTOR_BYTES;
+        return match slot {
+            LENGTH_PLACE => "HIT byte 1FH, the directory's length".into(),
+            _ if slot % 32 <= d - 3 => format!("HIT of slot {slot:02X}H"),
+            _ => format!("HIT place {slot:02X}H, no slot"),
+        };
+    }
+    if place >= from && place < from + d * SECTOR_BYTES {
+        let (sector, byte) = ((place - from) / SECTOR_BYTES, (place - from) % SECTOR_BYTES);
+        let slot = byte / ENTRY_BYTES * 32 + sector - 2;
+        return format!("entry byte {:02X}H of slot {slot:02X}H", byte % ENTRY_BYTES);
+    }
+    let granule = place / GRANULE_BYTES;
+    let (byte, bit) = gat_place(g, granule);
+    let mut text = format!("byte {} of granule {granule}", place % GRANULE_BYTES);
+    if consistent(image, g) {
+        for slot in crate::directory::files(image, g, d) {
+            if let Some(at) = owned(image, g, d, slot)
+                .iter()
+                .position(|&own| own == granule)
+            {
+                let name = written(&entry(image, g, slot).name());
+                text += &format!(
+                    ", byte {} of {name}",
+                    at * GRANULE_BYTES + place % GRANULE_BYTES
+                );
+            }
+        }
+    }
+    if image[byte] & bit == 0 {
+        text += ", free";
+    }
+    text
+}
+
+fn first_difference(mine: &[u8], theirs: &[u8]) -> Option<usize> {
+    if mine == theirs {
+        return None;
+    }
+    Some(
+        mine.iter()
+            .zip(theirs)
+            .position(|(a, b)| a != b)
+            .unwrap_or(mine.len().min(theirs.len())),
+    )
+}
+
+/// A disk with calls on it, on both sides.
+pub struct Session<'a> {
+    library: &'a dyn Library,
+    g: Geometry,
+    mine: Lent,
+    theirs: Lent,
+    caller: Caller,
+}
+
+impl<'a> Session<'a> {
+    pub fn new(library: &'a dyn Library, disk: &Disk, sober: bool) -> Session<'a> {
+        Session {
+            library,
+            g: disk.g,
+            mine: Lent::new(&disk.image),
+            theirs: Lent::new(&disk.image),
+            caller: Caller::new(disk, sober),
+        }
+    }
+
+    pub fn image(&self) -> &[u8] {
+        self.mine.bytes()
+    }
+
+    /// Another content of the image, on both sides.
+    pub fn set_image(&mut self, image: &[u8]) {
+        self.mine = Lent::new(image);
+        self.theirs = Lent::new(image);
+    }
+
+    /// Performs a call on both sides, under the disk's geometry or another; the text says what differs.
+    pub fn both(
+        &mut self,
+        g: &Geometry,
+        length: usize,
+        call: &Call,
+        seen: &mut Seen,
+    ) -> Result<Outcome, String> {
+        let before = Before::of(self.mine.bytes(), &self.g, call);
+        let mine = perform(&Model, &mut self.mine.lend()[..length], g, call);
+        let theirs = perform(self.library, &mut self.theirs.lend()[..length], g, call);
+        seen.calls += 1;
+        *seen.numbers.entry((call.title(), mine.number)).or_default() += 1;
+        if mine.number == ACCEPTED {
+            before.note(self.mine.bytes(), &self.g, call, &mine, seen);
+        }
+        seen.event(
+            "level refused on a system file",
+            mine.number == LEVEL
+                && before.is_some_and(|b| b.entry.is_system() && b.handle.level <= 1),
+        );
+        let mut wrong = Vec::new();
+        if mine.number != theirs.number {
+            wrong.push(format!(
+                "number: model {}, library {}",
+                mine.number, theirs.number
+            ));
+        }
+        for ((title, a), (_, b)) in mine.numbers.iter().zip(&theirs.numbers) {
+            if a != b {
+                wrong.push(format!("{title}: model {a}, library {b}"));
+            }
+        }
+        for (title, a, b) in [
+            ("handle", &mine.handle, &theirs.handle),
+            ("buffer", &mine.buffer, &theirs.buffer),
+            ("name", &mine.name, &theirs.name),
+        ] {
+            if let Some(at) = first_difference(a, b) {
+                wrong.push(format!(
+                    "{title} byte {at}: model {:02X}H, library {:02X}H",
+                    a[at], b[at]
+                ));
+            }
+        }
+        if !theirs.within || !self.theirs.edges_whole() {
+            wrong.push("the library wrote beside what it was lent".into());
+        }
+        if let Some(at) = first_difference(self.mine.bytes(), self.theirs.bytes()) {
+            let (a, b) = (self.mine.bytes()[at], self.theirs.bytes()[at]);
+            let what = what_is(self.mine.bytes(), &self.g, at);
+            wrong.push(format!(
+                "image byte {at} ({what}): model {a:02X}H, library {b:02X}H"
+            ));
+        }
+        if wrong.is_empty() {
+            Ok(mine)
+        } else {
+            Err(format!(
+                "{}\n  {call:02X?}\n  on {g:?}, image length {length}",
+                wrong.join("\n  ")
+            ))
+        }
+    }
+
+    /// One random call, seldom under an odd geometry.
+    pub fn step(&mut self, random: &mut Random, seen: &mut Seen) -> Result<Outcome, String> {
+        let (mut g, mut length) = (self.g, self.mine.bytes().len());
+        let call = self.caller.make(random, self.mine.bytes(), &self.g);
+        if random.percent(3) {
+            (g, length) = odd_geometry(random, &self.g, length);
+        }
+        let outcome = self.both(&g, length, &call, seen)?;
+        self.caller.learn(&call, &outcome);
+        Ok(outcome)
+    }
+}
+
+/// The state of a call's file before the call.
+#[derive(Clone)]
+struct State {
+    handle: Handle,
+    entry: crate::directory::Entry,
+    chain: usize,
+    runs: usize,
+    granules: usize,
+    size: usize,
+}
+
+struct Before(Option<State>);
+
+impl Before {
+    fn state(image: &[u8], g: &Geometry, handle: &[u8]) -> Option<State> {
+        let d = directory_sectors(image, g).filter(|d| g.start + d <= g.sectors())?;
+        let handle = Handle::read(handle).filter(|handle| !handle.is_stale(image, g, d))?;
+        let this = entry(image, g, handle.slot);
+        let walked = chain(image, g, d, handle.slot);
+        Some(State {
+            handle,
+            entry: this,
+            chain: walked.len(),
+            runs: walked
+                .iter()
+                .map(|&slot| entry(image, g, slot).pairs().len())
+                .sum(),
+            granules: owned(image, g, d, handle.slot).len(),
+            size: this.size()?,
+        })
+    }
+
+    fn of(image: &[u8], g: &Geometry, call: &Call) -> Before {
+        Before(match call {
+            Call::ReadRecord { handle, .. }
+            | Call::ReadSector { handle, .. }
+            | Call::WriteRecord { handle, .. }
+            | Call::Allot { handle, .. }
+            | Call::Trim { handle }
+            | Call::Kill { handle } => Self::state(image, g, handle),
+            _ => None,
+        })
+    }
+
+    fn is_some_and(&self, holds: impl Fn(&State) -> bool) -> bool {
+        self.0.as_ref().is_some_and(holds)
+    }
+
+    /// Notes what an accepted call did.
+    fn note(&self, image: &[u8], g: &Geometry, call: &Call, outcome: &Outcome, seen: &mut Seen) {
+        match call {
+            Call::LookUp { .. } => {
+                seen.event("look up compared several", outcome.numbered("compared") > 1)
+            }
+            Call::Open { .. } => seen.event("open grants the stored level", outcome.handle[1] > 0),
+            Call::Create { .. } => {
+                let old = outcome.numbered("old") == 1;
+                seen.event("create finds an old file", old);
+                let slot = outcome.handle[0];
+                seen.event(
+                    "create opens a system file",
+                    old && entry(image, g, slot).is_system(),
+                );
+            }
+            Call::List { .. } => {
+                seen.event("list tells a file", outcome.numbered("more") == 1);
+                seen.event("list tells no more", outcome.numbered("more") == 0);
+            }
+            Call::ReadSector { .. } => seen.event(
+                "sector part under 256 bytes",
+                outcome.numbered("to") - outcome.numbered("from") < 256,
+            ),
+            _ => {}
+        }
+        let Some(was) = &self.0 else { return };
+        let (position, length) = (was.handle.position(), was.handle.length());
+        let crosses = position / GRANULE_BYTES != (position + length - 1) / GRANULE_BYTES;
+        match call {
+            Call::ReadRecord { buffer, .. } => {
+                seen.event("read of a system file", was.entry.is_system());
+                seen.event("read crosses granules", crosses);
+                seen.event("a long buffer's rest is untouched", buffer.len() > length);
+            }
+            Call::WriteRecord { sequential, .. } => {
+                let end = position + length;
+                seen.event("write fills a gap with zeros", position > was.size);
+                seen.event("write shrinks the file", *sequential && end < was.size);
+                seen.event("write within the file", !*sequential && end <= was.size);
+                seen.event("write crosses granules", crosses);
+                seen.event(
+                    "size grows within the granules under E",
+                    was.entry.no_growth() && end > was.size,
+                );
+            }
+            _ => {}
+        }
+        if let Call::Kill { .. } = call {
+            seen.event("kill of a file with extensions", was.chain > 1);
+            return;
+        }
+        let Some(is) = Self::state(image, g, &was.handle.bytes()) else {
+            return;
+        };
+        if is.granules > was.granules {
+            seen.event(
+                "growth lengthens a run",
+                is.granules - was.granules > is.runs - was.runs,
+            );
+            seen.event("growth adds runs", is.runs > was.runs);
+            seen.event("growth adds an extension", is.chain == was.chain + 1);
+            seen.event("growth adds several extensions", is.chain > was.chain + 1);
+            seen.event(
+                "growth fills the disk",
+                crate::space::free_granules(image, g).next().is_none(),
+            );
+        }
+        if let Call::Trim { .. } = call {
+            let given_back = is.granules < was.granules;
+            let emptied = was.chain - is.chain;
+            seen.event(
+                "trim cuts a run",
+                given_back && was.granules - is.granules > was.runs - is.runs,
+            );
+            seen.event("trim empties pairs", is.runs < was.runs);
+            seen.event("trim empties an extension", emptied == 1);
+            seen.event("trim empties several extensions", emptied > 1);
+            seen.event("trim gives back all", given_back && is.granules == 0);
+            let too_many = was.granules > was.size.div_ceil(GRANULE_BYTES);
+            seen.event("trim under F", was.entry.keeps_space() && too_many);
+        }
+    }
+}
+
+/// What a whole run is given.
+#[derive(Clone, Copy, Debug)]
+pub struct Bounds {
+    pub seed: u64,
+    pub seconds: f64,
+    pub calls: usize,
+}
+
+const CALLS_A_DISK: usize = 60;
+
+/// A run: random disks, random calls on each, damaged copies of each. Ends at the bounds or at the
+/// first difference; the text names the seed of the disk, so that `disk_run` repeats it.
+pub fn run(library: &dyn Library, bounds: &Bounds, seen: &mut Seen) -> Result<(), String> {
+    let started = std::time::Instant::now();
+    let mut seeds = Random::new(bounds.seed);
+    while seen.calls < bounds.calls && started.elapsed().as_secs_f64() < bounds.seconds {
+        let seed = seeds.draw();
+        disk_run(library, seed, seen)
+            .map_err(|text| format!("run seed {}, disk seed {seed}: {text}", bounds.seed))?;
+    }
+    Ok(())
+}
+
+/// The part of a run that belongs to one disk.
+pub fn disk_run(library: &dyn Library, seed: u64, seen: &mut Seen) -> Result<(), String> {
+    let mut random = Random::new(seed);
+    let disk = random_disk(&mut random);
+    if !consistent(&disk.image, &disk.g) {
+        return Err("the made-up disk is not consistent".into());
+    }
+    seen.disks += 1;
+    let sober = random.percent(50);
+    let mut session = Session::new(library, &disk, sober);
+    for number in 0..CALLS_A_DISK {
+        let outcome = session
+            .step(&mut random, seen)
+            .map_err(|text| format!("call {number}: {text}"))?;
+        seen.event(
+            "look up compared several and found none",
+            outcome.number == 4
+                && outcome
+                    .numbers
+                    .first()
+                    .is_some_and(|(title, _)| *title == "slot")
+                && outcome.numbered("compared") > 1,
+        );
+    }
+
+    // Damaged copies: the check, and one call each.
+    let whole = Disk {
+        g: disk.g,
+        image: session.image().to_vec(),
+        codes: disk.codes.clone(),
+    };
+    let length = whole.image.len();
+    for _ in 0..6 {
+        let mut copy = whole.clone();
+        let title = if random.percent(50) {
+            let damage = random.pick(DAMAGES);
+            if !damage.apply(&mut copy, &mut random) {
+                continue;
+            }
+            damage.title
+        } else {
+            let times = *random.pick(&[1, 1, 2, 5]);
+            random_flips(&mut copy, &mut random, times);
+            "flips"
+        };
+        session.set_image(&copy.image);
+        let outcome = session
+            .both(&disk.g, length, &Call::Check, seen)
+            .map_err(|text| format!("{title}: {text}"))?;
+        seen.event(
+            "still consistent after flips",
+            title == "flips" && outcome.number == ACCEPTED,
+        );
+        for _ in 0..if outcome.number == ACCEPTED { 6 } else { 1 } {
+            session
+                .step(&mut random, seen)
+                .map_err(|text| format!("{title}: {text}"))?;
+        }
+    }
+
+    // Nonsense for a directory.
+    let mut image = whole.image;
+    let from = disk.g.start * SECTOR_BYTES;
+    let d = directory_sectors(&image, &disk.g).expect("consistent");
+    random.fill(&mut image[from + 2 * SECTOR_BYTES..from + d * SECTOR_BYTES]);
+    if random.percent(50) {
+        for slot in slots(d) {
+            image[hit_place(&disk.g, slot)] = random.byte();
+        }
+    }
+    session.set_image(&image);
+    session
+        .both(&disk.g, length, &Call::Check, seen)
+        .map_err(|text| format!("random directory: {text}"))?;
+
+    // Geometries for the same bytes.
+    for _ in 0..4 {
+        let (g, length) = odd_geometry(&mut random, &disk.g, length);
+        session
+            .both(&g, length, &Call::Check, seen)
+            .map_err(|text| format!("odd geometry: {text}"))?;
+    }
+    Ok(())
+}

@@ -1,0 +1,212 @@
+//! The model against demands 1 and 2: it refuses without a trace, and accepted calls do to the disk
+//! what they would do to a plain list of named files.
+
+use genie_model::call::{perform, Call};
+use genie_model::caller::Caller;
+use genie_model::calls::ACCEPTED;
+use genie_model::consistency::consistent;
+use genie_model::directory::{directory_sectors, files, owned, slots};
+use genie_model::disks::random_disk;
+use genie_model::geometry::SECTOR_BYTES;
+use genie_model::handle::{Handle, HANDLE_BYTES};
+use genie_model::interleave::{demand_three, Tally};
+use genie_model::library::Model;
+use genie_model::names::{hash, Name};
+use genie_model::plain::{effect, files_of};
+use genie_model::random::Random;
+use genie_model::space::{free_granules, reserved_granules};
+
+#[test]
+fn calls_do_what_a_plain_list_of_files_would() {
+    let mut seeds = Random::new(3);
+    let mut calls = 0;
+    while calls < 8_000 {
+        let seed = seeds.draw();
+        let mut random = Random::new(seed);
+        let disk = random_disk(&mut random);
+        let g = disk.g;
+        if g.granules() > 500 {
+            continue;
+        }
+        let d = directory_sectors(&disk.image, &g).expect("consistent");
+        let mut caller = Caller::new(&disk, true);
+        let mut image = disk.image.clone();
+        let reserved = reserved_granules(&image, &g, d);
+        for number in 0..60 {
+            calls += 1;
+            let call = caller.make(&mut random, &image, &g);
+            let before = image.clone();
+            let mut plain = files_of(&before, &g);
+            let outcome = perform(&Model, &mut image, &g, &call);
+            let at = format!("disk seed {seed}, call {number}: {call:02X?}");
+            assert!(outcome.within, "{at}");
+            caller.learn(&call, &outcome);
+
+            let (lent_handle, lent_buffer, lent_name) = lent(&call);
+            if outcome.number != ACCEPTED {
+                assert!(image == before, "a refusal wrote: {at}");
+                assert_eq!(outcome.buffer, lent_buffer, "{at}");
+                assert_eq!(outcome.name, lent_name, "{at}");
+                let gives_handle = matches!(call, Call::Open { .. } | Call::Create { .. });
+                if gives_handle && lent_handle.len() >= HANDLE_BYTES {
+                    assert_eq!(outcome.handle[..HANDLE_BYTES], [0; HANDLE_BYTES], "{at}");
+                    assert_eq!(
+                        outcome.handle[HANDLE_BYTES..],
+                        lent_handle[HANDLE_BYTES..],
+                        "{at}"
+                    );
+                } else {
+                    assert_eq!(outcome.handle, lent_handle, "{at}");
+                }
+                for (title, told) in &outcome.numbers {
+                    assert!(
+                        *told == 0 || *title == "compared" && outcome.number == 4,
+                        "{at}"
+                    );
+                }
+                continue;
+            }
+
+            assert!(consistent(&image, &g), "{at}");
+            assert_eq!(reserved_granules(&image, &g, d), reserved, "{at}");
+            let all_owned: usize = files(&image, &g, d)
+                .iter()
+                .map(|&file| owned(&image, &g, d, file).len())
+                .sum();
+            assert_eq!(
+                free_granules(&image, &g).count() + reserved.len() + all_owned,
+                g.granules(),
+                "{at}"
+            );
+
+            // Reads answer the plain file's bytes.
+            let handled = || Handle::read(&lent_handle).expect("accepted");
+            match &call {
+                Call::ReadRecord { .. } => {
+                    let h = handled();
+                    let file = &plain[&h.name];
+                    if !owns_directory(&before, &g, d, h.slot) {
+                        assert_eq!(
+                            outcome.buffer[..h.length()],
+                            file.bytes[h.position()..][..h.length()],
+                            "{at}"
+                        );
+                    }
+                    assert_eq!(
+                        outcome.buffer[h.length()..],
+                        lent_buffer[h.length()..],
+                        "{at}"
+                    );
+                    let after = Handle::read(&outcome.handle).expect("19 bytes");
+                    assert_eq!(
+                        after,
+                        Handle {
+                            position: h.position + h.length as u32,
+                            ..h
+                        },
+                        "{at}"
+                    );
+                }
+                Call::ReadSector { k, .. } => {
+                    let h = handled();
+                    let part = &before[outcome.numbered("from")..outcome.numbered("to")];
+                    assert!((1..=SECTOR_BYTES).contains(&part.len()), "{at}");
+                    if !owns_directory(&before, &g, d, h.slot) {
+                        let bytes = &plain[&h.name].bytes;
+                        let end = ((k + 1) * SECTOR_BYTES).min(bytes.len());
+                        assert_eq!(part, &bytes[k * SECTOR_BYTES..end], "{at}");
+                    }
+                }
+                Call::LookUp { name } => {
+                    let name: Name = name[..].try_into().expect("accepted");
+                    let slot = outcome.numbered("slot") as u8;
+                    let up_to_hit = slots(d)
+                        .filter(|&other| other <= slot)
+                        .filter(|&other| {
+                            genie_model::directory::hit(&before, &g, other) == hash(&name)
+                        })
+                        .count();
+                    assert_eq!(outcome.numbered("compared"), up_to_hit, "{at}");
+                    assert_eq!(
+                        genie_model::directory::entry(&before, &g, slot).name(),
+                        name,
+                        "{at}"
+                    );
+                }
+                Call::WriteRecord { .. } => {
+                    let h = handled();
+                    let after = Handle::read(&outcome.handle).expect("19 bytes");
+                    assert_eq!(
+                        after,
+                        Handle {
+                            position: h.position + h.length as u32,
+                            ..h
+                        },
+                        "{at}"
+                    );
+                    // What was written is what is read back.
+                    let mut buffer = vec![0; h.length()];
+                    let again = &mut h.bytes();
+                    assert_eq!(
+                        genie_model::calls::read_record(&image, &g, again, &mut buffer),
+                        ACCEPTED,
+                        "{at}"
+                    );
+                    assert_eq!(buffer, lent_buffer[..h.length()], "{at}");
+                }
+                _ => {}
+            }
+
+            // The list afterwards is the list with the call's own file changed.
+            let files_before = plain.len();
+            effect(&mut plain, &call);
+            let after = files_of(&image, &g);
+            assert!(after == plain, "other files than a plain list: {at}");
+            if let Call::Create { .. } = call {
+                assert_eq!(
+                    outcome.numbered("old") == 1,
+                    plain.len() == files_before,
+                    "{at}"
+                );
+            }
+        }
+    }
+}
+
+fn owns_directory(image: &[u8], g: &genie_model::geometry::Geometry, d: usize, file: u8) -> bool {
+    let directory = genie_model::directory::directory_granules(g, d);
+    owned(image, g, d, file)
+        .iter()
+        .any(|granule| directory.contains(granule))
+}
+
+/// What a call lends: handle, buffer, name.
+fn lent(call: &Call) -> (Vec<u8>, Vec<u8>, Vec<u8>) {
+    let none = Vec::new;
+    match call.clone() {
+        Call::Check | Call::Count => (none(), none(), none()),
+        Call::LookUp { name } | Call::List { name, .. } => (none(), none(), name),
+        Call::Open { name, handle, .. } | Call::Create { name, handle, .. } => {
+            (handle, none(), name)
+        }
+        Call::ReadRecord { handle, buffer } | Call::WriteRecord { handle, buffer, .. } => {
+            (handle, buffer, none())
+        }
+        Call::ReadSector { handle, .. }
+        | Call::Allot { handle, .. }
+        | Call::Trim { handle }
+        | Call::Kill { handle } => (handle, none(), none()),
+    }
+}
+
+#[test]
+fn interleavings_agree_on_the_model() {
+    let (mut seeds, mut tally) = (Random::new(4), Tally::default());
+    for _ in 0..250 {
+        demand_three(&Model, seeds.draw(), &mut tally).unwrap_or_else(|text| panic!("{text}"));
+    }
+    assert!(
+        tally.accepted > 500 && tally.quiet > 100 && tally.other_image > 50,
+        "{tally:?}"
+    );
+}
