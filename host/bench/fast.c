@@ -79,14 +79,24 @@ static inline uint8_t *entry_out(uint8_t *image, const struct disk *d, size_t sl
 
 /* ---- Names ---- */
 
-static inline uint8_t hash(const uint8_t *name)
+/* A name in two numbers: bytes 0 to 7, bytes 8 to 10. */
+struct name {
+    uint64_t first;
+    uint32_t type;
+};
+
+static inline struct name name_at(const uint8_t *p) { return (struct name){ load8(p), load4(p + 7) >> 8 }; }
+
+/* Byte i is turned left 11 - i times in all, and 8 times is not at all: so bytes 8 to 10 turn as 0 to 2 do, and byte i turns 3 to the left, i to the
+ * right. The right turns go by halves: 4 for bytes 4 to 7, then 2, then 1. */
+static inline uint8_t hash(struct name n)
 {
-    unsigned h = 0;
-    for (size_t i = 0; i < NAME; i++) {
-        h ^= name[i];
-        h = (h << 1 | h >> 7) & 0xFF;
-    }
-    return (uint8_t)(h ? h : 1);
+    const uint64_t v = n.first ^ n.type;
+    const uint32_t high4 = (uint32_t)(v >> 32), four = (uint32_t)v ^ ((high4 >> 4 & 0x0F0F0F0F) | (high4 << 4 & 0xF0F0F0F0));
+    const uint32_t high2 = four >> 16, two = four ^ ((high2 >> 2 & 0x3F3F) | (high2 << 6 & 0xC0C0));
+    const uint8_t high1 = (uint8_t)(two >> 8), one = (uint8_t)two ^ (uint8_t)(high1 >> 1 | high1 << 7);
+    const uint8_t h = (uint8_t)(one << 3 | one >> 5);
+    return h ? h : 1;
 }
 
 static inline bool same_name(const uint8_t *a, const uint8_t *b) { return load8(a) == load8(b) && load4(a + 7) == load4(b + 7); }
@@ -107,10 +117,9 @@ static inline uint64_t padded(uint64_t v)
     return whole;
 }
 
-static inline bool well_formed(const uint8_t *name)
+static inline bool well_formed(struct name n)
 {
-    uint64_t first = padded(load8(name));
-    uint64_t type = padded((load4(name + 7) >> 8) | 0x2020202020000000u);
+    const uint64_t first = padded(n.first), type = padded(n.type | 0x2020202020000000u);
     return first != 0 && first != BAD_NAME && type != BAD_NAME;
 }
 
@@ -159,9 +168,11 @@ static bool consistent(const uint8_t *image, size_t start, struct disk *d)
         store8((uint8_t *)directory + first / 8, mask);
     }
 
-    uint8_t last[256], before[256]; /* by hash: the last slot met; by slot: the one before it with that hash */
-    memset(last, NO_SLOT, sizeof last);
-    size_t extensions = 0, met = 0; /* in use; in a chain */
+    /* The files met so far, numbered from 1: by hash the last one (0: none), by file the one before it with that hash, and the names. */
+    uint8_t last[256] = { 0 }, before[MAX_SLOTS + 1];
+    uint64_t first_parts[MAX_SLOTS + 1];
+    uint32_t types[MAX_SLOTS + 1];
+    size_t files = 0, extensions = 0, met = 0; /* extensions in use; extensions in a chain */
 
     for (size_t s = 0; s < columns; s++) {
         const uint8_t *entry = entry_of(image, d, s);
@@ -173,11 +184,15 @@ static bool consistent(const uint8_t *image, size_t start, struct disk *d)
                 extensions++;
                 continue;
             }
-            if ((flags & ZERO) || !well_formed(entry + E_NAME) || hash(entry + E_NAME) != h) return false;
-            for (size_t other = last[h]; other != NO_SLOT; other = before[other])
-                if (same_name(entry_of(image, d, other) + E_NAME, entry + E_NAME)) return false;
-            before[slot] = last[h];
-            last[h] = (uint8_t)slot;
+            const struct name name = name_at(entry + E_NAME);
+            if ((flags & ZERO) || !well_formed(name) || hash(name) != h) return false;
+            for (size_t other = last[h]; other; other = before[other])
+                if (first_parts[other] == name.first && types[other] == name.type) return false;
+            files++;
+            first_parts[files] = name.first;
+            types[files] = name.type;
+            before[files] = last[h];
+            last[h] = (uint8_t)files;
 
             /* The chain. A granule that is not left fails, and so does one past the disk: the map has 0 there. No chain comes round: an extension
              * met twice would have to be met from the same entry twice. */
@@ -247,7 +262,7 @@ static uint8_t examine(IMAGE, size_t blocks, size_t units, size_t start, struct 
 static size_t find(const uint8_t *image, const struct disk *d, const uint8_t *name, size_t *compared)
 {
     const uint8_t *const hit = hit_of(image, d);
-    const uint8_t h = hash(name);
+    const uint8_t h = hash(name_at(name));
     size_t count = 0;
     for (size_t row = 0; row < 8; row++) {
         const uint8_t *at = hit + 32 * row, *const end = at + d->columns;
@@ -397,6 +412,18 @@ static void mark(uint8_t *image, const struct disk *d, size_t granule, size_t co
 
 /* ---- Growth ---- */
 
+/* How many granules from `granule` on are free, at most `most` (up to 32); they are taken from the map. Past the disk none is. */
+static inline size_t take(const struct disk *d, uint64_t *taken, size_t granule, size_t most)
+{
+    if (granule >= d->granules) return 0;
+    if (most > d->granules - granule) most = d->granules - granule;
+    uint8_t *const place = (uint8_t *)taken + granule / 8;
+    const uint64_t here = load8(place), from = here >> (granule & 7) | (uint64_t)1 << most; /* a stop bit after `most` */
+    const size_t count = (size_t)__builtin_ctzll(from);
+    store8(place, here | run_mask(granule, count));
+    return count;
+}
+
 /* Takes `need` further granules for the file in `slot`, whole or refused (9, 8). */
 static uint8_t grow(uint8_t *image, struct disk *d, size_t slot, const struct extent *x, size_t need)
 {
@@ -408,32 +435,23 @@ static uint8_t grow(uint8_t *image, struct disk *d, size_t slot, const struct ex
     /* First on paper: how far the last run grows, then the new runs. */
     uint16_t first[MAX_GRANULES];
     uint8_t count[MAX_GRANULES];
-    size_t runs = 0, longer = 0, begun = 0, old_count = 0;
+    size_t runs = 0, longer = 0, begun = 0;
     uint8_t *const last = entry_out(image, d, x->last_slot);
     if (x->last_runs) {
         const uint8_t *const pair = last + E_PAIRS + 2 * (x->last_runs - 1);
-        old_count = run_count(pair);
+        const size_t old_count = run_count(pair), most = RUN_LIMIT - old_count;
         begun = run_granule(pair, d) + old_count;
-        for (size_t g = begun; longer < need && old_count + longer < RUN_LIMIT && g < d->granules && !(taken[g / 64] >> g % 64 & 1); g++) {
-            taken[g / 64] |= (uint64_t)1 << g % 64;
-            longer++;
-        }
+        longer = take(d, taken, begun, need < most ? need : most);
     }
-    size_t want = need - longer;
-    for (size_t w = 0; want; ) {
+    /* A granule is free as long as `want` is not 0, so the search stays on the disk. */
+    for (size_t want = need - longer, w = 0; want; ) {
         if (taken[w] == UINT64_MAX) {
             w++;
             continue;
         }
-        size_t g = 64 * w + (size_t)__builtin_ctzll(~taken[w]), c = 0;
-        first[runs] = (uint16_t)g;
-        while (c < want && c < RUN_LIMIT && g < d->granules && !(taken[g / 64] >> g % 64 & 1)) {
-            taken[g / 64] |= (uint64_t)1 << g % 64;
-            c++;
-            g++;
-        }
-        count[runs++] = (uint8_t)c;
-        want -= c;
+        first[runs] = (uint16_t)(64 * w + (size_t)__builtin_ctzll(~taken[w]));
+        count[runs] = (uint8_t)take(d, taken, first[runs], want < RUN_LIMIT ? want : RUN_LIMIT);
+        want -= count[runs++];
     }
 
     /* Runs beyond the fourth need extensions. */
@@ -492,7 +510,7 @@ uint8_t FAST(look_up)(IMAGE, GEO, const uint8_t *name, size_t name_len, size_t *
     *slot = *compared = 0;
     const uint8_t refusal = EXAMINE(&d);
     if (refusal) return refusal;
-    if (name_len != NAME || !well_formed(name)) return GENIE_NAME;
+    if (name_len != NAME || !well_formed(name_at(name))) return GENIE_NAME;
     const size_t found = find(image, &d, name, compared);
     if (found == NO_SLOT) return GENIE_NOT_FOUND;
     *slot = found;
@@ -507,7 +525,7 @@ uint8_t FAST(open)(IMAGE, GEO, const uint8_t *name, size_t name_len, size_t leng
     const uint8_t refusal = EXAMINE(&d);
     if (refusal) return refusal;
     if (length < 1 || length > 256 || handle_len < HANDLE) return GENIE_RANGE;
-    if (name_len != NAME || !well_formed(name)) return GENIE_NAME;
+    if (name_len != NAME || !well_formed(name_at(name))) return GENIE_NAME;
     const size_t slot = find(image, &d, name, &compared);
     if (slot == NO_SLOT) return GENIE_NOT_FOUND;
     const size_t level = level_of(entry_of(image, &d, slot), open_code, checking, code);
@@ -526,7 +544,7 @@ uint8_t FAST(create)(IMAGE_OUT, GEO, const uint8_t *name, size_t name_len, size_
     const uint8_t refusal = EXAMINE(&d);
     if (refusal) return refusal;
     if (day > 31 || month > 15 || year > 15 || length < 1 || length > 256 || handle_len < HANDLE) return GENIE_RANGE;
-    if (name_len != NAME || !well_formed(name)) return GENIE_NAME;
+    if (name_len != NAME || !well_formed(name_at(name))) return GENIE_NAME;
     size_t slot = find(image, &d, name, &compared);
     if (slot != NO_SLOT) {
         const size_t level = level_of(entry_of(image, &d, slot), open_code, checking, main_code);
@@ -547,7 +565,7 @@ uint8_t FAST(create)(IMAGE_OUT, GEO, const uint8_t *name, size_t name_len, size_
     memcpy(e + E_NAME, name, NAME);
     store2(e + E_MAIN, main_code);
     store2(e + E_WORKER, worker_code);
-    image[d.directory + SECTOR + slot] = hash(name);
+    image[d.directory + SECTOR + slot] = hash(name_at(name));
     put_handle(handle, slot, 0, length, name);
     return GENIE_DONE;
 }

@@ -1,0 +1,277 @@
+/* bench CALL DISK LIBRARY N      makes the call N times on the disk, by that library: genie (proved), fast (C for speed) or none (no library: what the
+ *                                driver itself costs)
+ * bench time CALL DISK LIBRARY   wall time of one call in nanoseconds, the driver's own work included
+ * bench same                     whether genie and fast answer alike and leave image, handle, buffer and numbers alike, for each call on each disk
+ * bench names                    the calls, then the disks, a line each: name and title
+ * bench image DISK FILE          writes the disk to a file and says its geometry
+ */
+#define _POSIX_C_SOURCE 200809L
+#include "disks.h"
+#include "fast.h"
+
+#include <stdio.h>
+#include <stdlib.h>
+#include <string.h>
+#include <time.h>
+
+#define LIBRARY_CALLS(X) \
+    X(check) X(look_up) X(open) X(create) X(read_record) X(read_sector) X(write_record) X(allot) X(trim) X(kill) X(list) X(count)
+
+struct library {
+    const char *name;
+#define MEMBER(call) __typeof__(genie_##call) *call;
+    LIBRARY_CALLS(MEMBER)
+};
+
+/* No library: what the driver costs by itself. */
+#define I const uint8_t *i, size_t il, size_t b, size_t u, size_t s, uint16_t c
+#define IO uint8_t *i, size_t il, size_t b, size_t u, size_t s, uint16_t c
+#define USE (void)i, (void)il, (void)b, (void)u, (void)s, (void)c
+#define NONE __attribute__((noinline)) static uint8_t
+NONE none_check(I) { USE; return 0; }
+NONE none_look_up(I, const uint8_t *n, size_t nl, size_t *o, size_t *p) { USE, (void)n, (void)nl, (void)o, (void)p; return 0; }
+NONE none_open(I, const uint8_t *n, size_t nl, size_t l, bool k, uint16_t w, uint8_t *h, size_t hl)
+{
+    USE, (void)n, (void)nl, (void)l, (void)k, (void)w, (void)h, (void)hl;
+    return 0;
+}
+NONE none_create(IO, const uint8_t *n, size_t nl, size_t d, size_t m, size_t y, size_t l, uint16_t w, uint16_t v, bool k, size_t *o, uint8_t *h, size_t hl)
+{
+    USE, (void)n, (void)nl, (void)d, (void)m, (void)y, (void)l, (void)w, (void)v, (void)k, (void)o, (void)h, (void)hl;
+    return 0;
+}
+NONE none_read_record(I, uint8_t *h, size_t hl, uint8_t *f, size_t fl) { USE, (void)h, (void)hl, (void)f, (void)fl; return 0; }
+NONE none_read_sector(I, const uint8_t *h, size_t hl, size_t k, size_t *f, size_t *t) { USE, (void)h, (void)hl, (void)k, (void)f, (void)t; return 0; }
+NONE none_write_record(IO, uint8_t *h, size_t hl, bool q, const uint8_t *f, size_t fl) { USE, (void)h, (void)hl, (void)q, (void)f, (void)fl; return 0; }
+NONE none_allot(IO, const uint8_t *h, size_t hl, size_t k) { USE, (void)h, (void)hl, (void)k; return 0; }
+NONE none_trim(IO, const uint8_t *h, size_t hl) { USE, (void)h, (void)hl; return 0; }
+NONE none_kill(IO, const uint8_t *h, size_t hl) { USE, (void)h, (void)hl; return 0; }
+NONE none_list(I, size_t n, uint8_t *m, size_t ml, size_t *z, size_t *g, size_t *o) { USE, (void)n, (void)m, (void)ml, (void)z, (void)g, (void)o; return 0; }
+NONE none_count(I, size_t *f, size_t *r) { USE, (void)f, (void)r; return 0; }
+
+#define GENIE(call) genie_##call,
+#define SWIFT(call) fast_##call,
+#define NOTHING(call) none_##call,
+static const struct library libraries[] = {
+    { "genie", LIBRARY_CALLS(GENIE) },
+    { "fast", LIBRARY_CALLS(SWIFT) },
+    { "none", LIBRARY_CALLS(NOTHING) },
+};
+
+/* What is measured. The last four are for the cost of a byte; they are no calls of their own. */
+enum what { CHECK, LOOK_UP, OPEN, CREATE, READ, SECTOR, WRITE, APPEND, ALLOT, TRIM, KILL, LIST, COUNT, READ_1, WRITE_1, FILL_0, FILL_1000, WHATS };
+
+static const struct {
+    const char *name, *title;
+    bool changes; /* the directory */
+} whats[WHATS] = {
+    [CHECK] = { "check", "check", false },
+    [LOOK_UP] = { "look_up", "look up", false },
+    [OPEN] = { "open", "open", false },
+    [CREATE] = { "create", "create a new file", true },
+    [READ] = { "read_record", "read 256 bytes", false },
+    [SECTOR] = { "read_sector", "read a sector", false },
+    [WRITE] = { "write_record", "write 256 bytes", true },
+    [APPEND] = { "append", "append 256 bytes, one more granule", true },
+    [ALLOT] = { "allot", "allot 10 granules", true },
+    [TRIM] = { "trim", "trim to half", true },
+    [KILL] = { "kill", "kill", true },
+    [LIST] = { "list", "list the last file", false },
+    [COUNT] = { "count", "count", false },
+    [READ_1] = { "read_1", "read 1 byte", false },
+    [WRITE_1] = { "write_1", "write 1 byte", true },
+    [FILL_0] = { "fill_0", "write 1 byte at the size", true },
+    [FILL_1000] = { "fill_1000", "write 1 byte 1,000 past the size", true },
+};
+
+enum { SECTOR_BYTES = 256, LONGEST_DIRECTORY = 30 * SECTOR_BYTES };
+
+struct work {
+    enum what what;
+    struct bench_disk disk;
+    size_t directory_len;
+    uint8_t directory[LONGEST_DIRECTORY]; /* as it stands before each call */
+    uint8_t fresh[GENIE_HANDLE_BYTES];    /* likewise the handle */
+    size_t k;
+    /* What a call leaves. */
+    uint8_t answer, handle[GENIE_HANDLE_BYTES], buffer[256], name[GENIE_NAME_BYTES];
+    size_t numbers[3];
+};
+
+static void stop(const char *why)
+{
+    fprintf(stderr, "bench: %s\n", why);
+    exit(2);
+}
+
+static void set_size(struct work *w, size_t size)
+{
+    uint8_t *const e = w->disk.image + (w->disk.start + w->disk.subject_slot % 32 + 2) * SECTOR_BYTES + w->disk.subject_slot / 32 * 32;
+    const size_t n = (size + SECTOR_BYTES - 1) / SECTOR_BYTES;
+    e[3] = (uint8_t)size;
+    e[20] = (uint8_t)n;
+    e[21] = (uint8_t)(n >> 8);
+}
+
+static void prepare(struct work *w, enum what what, size_t disk)
+{
+    memset(w, 0, sizeof *w);
+    w->what = what;
+    if (!bench_disk_make(disk, &w->disk)) stop("no memory for the disk");
+    struct bench_disk *const d = &w->disk;
+    const size_t middle = d->subject_size / 2 / GENIE_GRANULE_BYTES * GENIE_GRANULE_BYTES;
+    size_t length = 256, position = middle;
+    switch (what) {
+    case APPEND: position = d->subject_size; break;
+    case ALLOT: w->k = (d->subject_size + GENIE_GRANULE_BYTES - 1) / GENIE_GRANULE_BYTES * 5 + 49; break;
+    case SECTOR: w->k = middle / SECTOR_BYTES; break;
+    case TRIM: set_size(w, middle); break;
+    case READ_1:
+    case WRITE_1: length = 1; break;
+    case FILL_0:
+    case FILL_1000:
+        set_size(w, middle);
+        length = 1;
+        position = what == FILL_0 ? middle : middle + 1000;
+        break;
+    default: break;
+    }
+    w->fresh[0] = (uint8_t)d->subject_slot;
+    w->fresh[2] = (uint8_t)length;
+    w->fresh[3] = (uint8_t)(length >> 8);
+    for (size_t i = 0; i < 4; i++) w->fresh[4 + i] = (uint8_t)(position >> 8 * i);
+    memcpy(w->fresh + 8, d->subject, GENIE_NAME_BYTES);
+    w->directory_len = (10 + (size_t)d->image[d->start * SECTOR_BYTES + SECTOR_BYTES + 0x1F]) * SECTOR_BYTES;
+    memcpy(w->directory, d->image + d->start * SECTOR_BYTES, w->directory_len);
+}
+
+/* One call, on the disk as it stood at first. (What a write puts into the file's sectors is the same each time.) */
+static void once(struct work *w, const struct library *lib)
+{
+#define DISK d->image, d->image_len, d->blocks, d->units, d->start, d->open_code
+#define HANDLE w->handle, sizeof w->handle
+    struct bench_disk *const d = &w->disk;
+    if (whats[w->what].changes) memcpy(d->image + d->start * SECTOR_BYTES, w->directory, w->directory_len);
+    memcpy(w->handle, w->fresh, sizeof w->handle);
+    switch (w->what) {
+    case CHECK: w->answer = lib->check(DISK); break;
+    case LOOK_UP: w->answer = lib->look_up(DISK, d->subject, sizeof d->subject, &w->numbers[0], &w->numbers[1]); break;
+    case OPEN: w->answer = lib->open(DISK, d->subject, sizeof d->subject, 256, true, 0, HANDLE); break;
+    case CREATE:
+        w->answer = lib->create(DISK, (const uint8_t *)"FRISCH  NEU", GENIE_NAME_BYTES, 9, 10, 3, 256, 0x1234, 0x5678, true, &w->numbers[0], HANDLE);
+        break;
+    case READ:
+    case READ_1: w->answer = lib->read_record(DISK, HANDLE, w->buffer, sizeof w->buffer); break;
+    case SECTOR: w->answer = lib->read_sector(DISK, HANDLE, w->k, &w->numbers[0], &w->numbers[1]); break;
+    case WRITE:
+    case WRITE_1:
+    case FILL_0:
+    case FILL_1000: w->answer = lib->write_record(DISK, HANDLE, false, w->buffer, sizeof w->buffer); break;
+    case APPEND: w->answer = lib->write_record(DISK, HANDLE, true, w->buffer, sizeof w->buffer); break;
+    case ALLOT: w->answer = lib->allot(DISK, HANDLE, w->k); break;
+    case TRIM: w->answer = lib->trim(DISK, HANDLE); break;
+    case KILL: w->answer = lib->kill(DISK, HANDLE); break;
+    case LIST: w->answer = lib->list(DISK, d->files - 1, w->name, sizeof w->name, &w->numbers[0], &w->numbers[1], &w->numbers[2]); break;
+    case COUNT: w->answer = lib->count(DISK, &w->numbers[0], &w->numbers[1]); break;
+    case WHATS: break;
+    }
+}
+
+static size_t named(const char *name, const char *const *names, size_t count, const char *kind)
+{
+    for (size_t i = 0; i < count; i++)
+        if (!strcmp(name, names[i])) return i;
+    fprintf(stderr, "bench: no %s '%s'\n", kind, name);
+    exit(2);
+}
+
+static double now(void)
+{
+    struct timespec t;
+    clock_gettime(CLOCK_MONOTONIC, &t);
+    return (double)t.tv_sec * 1e9 + (double)t.tv_nsec;
+}
+
+/* The quickest of many rounds, each of about 2 ms: what else the machine does then counts least. */
+static double nanoseconds(struct work *w, const struct library *lib)
+{
+    size_t count = 1;
+    double best = 0;
+    for (double spent = 0; spent < 2e6; count *= 2) {
+        const double begin = now();
+        for (size_t i = 0; i < count; i++) once(w, lib);
+        spent = now() - begin;
+        best = spent / (double)count;
+    }
+    for (int round = 0; round < 30; round++) {
+        const double begin = now();
+        for (size_t i = 0; i < count; i++) once(w, lib);
+        const double each = (now() - begin) / (double)count;
+        if (each < best) best = each;
+    }
+    return best;
+}
+
+static int same(void)
+{
+    static struct work a, b;
+    int unlike = 0;
+    for (size_t disk = 0; disk < BENCH_DISKS; disk++)
+        for (enum what what = 0; what < WHATS; what++) {
+            prepare(&a, what, disk);
+            prepare(&b, what, disk);
+            for (size_t i = 0; i < sizeof a.buffer; i++) a.buffer[i] = b.buffer[i] = (uint8_t)(i * 5 + 1);
+            once(&a, &libraries[0]);
+            once(&b, &libraries[1]);
+            const bool alike = a.answer == b.answer && !memcmp(a.disk.image, b.disk.image, a.disk.image_len) &&
+                               !memcmp(a.handle, b.handle, sizeof a.handle) && !memcmp(a.buffer, b.buffer, sizeof a.buffer) &&
+                               !memcmp(a.name, b.name, sizeof a.name) && !memcmp(a.numbers, b.numbers, sizeof a.numbers);
+            printf("%s %s: %d %d%s\n", bench_disk_names[disk], whats[what].name, a.answer, b.answer, alike ? "" : " UNLIKE");
+            unlike += !alike;
+            free(a.disk.image);
+            free(b.disk.image);
+        }
+    return unlike ? 1 : 0;
+}
+
+static int write_image(const char *disk, const char *path)
+{
+    struct bench_disk d;
+    if (!bench_disk_make(named(disk, bench_disk_names, BENCH_DISKS, "disk"), &d)) stop("no memory for the disk");
+    FILE *const f = fopen(path, "wb");
+    if (!f || fwrite(d.image, 1, d.image_len, f) != d.image_len || fclose(f)) stop("the image cannot be written");
+    printf("blocks %zu units %zu start %zu open_code %u\n", d.blocks, d.units, d.start, d.open_code);
+    free(d.image);
+    return 0;
+}
+
+int main(int argc, char **argv)
+{
+    static struct work w;
+    const char *what_names[WHATS], *library_names[3];
+    for (size_t i = 0; i < WHATS; i++) what_names[i] = whats[i].name;
+    for (size_t i = 0; i < 3; i++) library_names[i] = libraries[i].name;
+
+    if (argc == 2 && !strcmp(argv[1], "same")) return same();
+    if (argc == 2 && !strcmp(argv[1], "names")) {
+        for (size_t i = 0; i < WHATS; i++) printf("call %s %s\n", whats[i].name, whats[i].title);
+        for (size_t i = 0; i < BENCH_DISKS; i++) printf("disk %s %s\n", bench_disk_names[i], bench_disk_titles[i]);
+        return 0;
+    }
+    if (argc == 4 && !strcmp(argv[1], "image")) return write_image(argv[2], argv[3]);
+    if (argc != 5) stop("CALL DISK LIBRARY N, or: time CALL DISK LIBRARY, or: same, or: names, or: image DISK FILE");
+    const bool timed = !strcmp(argv[1], "time");
+    char **const words = argv + 1 + timed;
+    const enum what what = (enum what)named(words[0], what_names, WHATS, "call");
+    const size_t disk = named(words[1], bench_disk_names, BENCH_DISKS, "disk");
+    const struct library *const lib = &libraries[named(words[2], library_names, 3, "library")];
+    prepare(&w, what, disk);
+    if (timed) {
+        printf("%.1f\n", nanoseconds(&w, lib));
+    } else {
+        const long n = strtol(words[3], NULL, 10);
+        for (long i = 0; i < n; i++) once(&w, lib);
+    }
+    free(w.disk.image);
+    return 0;
+}
