@@ -1,0 +1,65 @@
+//! `gdos check`.
+
+use super::{counted, disk_of, json_head, shown, Command, Output, JSON};
+use crate::args::Args;
+use crate::failure::Failure;
+use crate::json::Json;
+use crate::shape;
+use std::ffi::OsStr;
+
+pub const COMMAND: Command = Command {
+    name: "check",
+    summary: "test whether images are consistent disks",
+    usage: "[OPTIONS] IMAGE...",
+    about: "\
+Tests the directory, every file's chain and runs, and that no granule belongs to two files. An image that passes
+may be worked on; one that does not is refused with 1 (length or geometry) or 2 (not consistent). The status is
+that of the worst image.
+",
+    groups: &[("Options", &[JSON]), ("Geometry", shape::OPTIONS)],
+    examples: &["gdos check disk.img", "gdos check --preset dd80ds week1.img week2.img"],
+    run,
+};
+
+fn run(args: &Args) -> Result<Output, Failure> {
+    if args.words.is_empty() {
+        return Err(Failure::Wrong("which image? Its name is missing".to_string()));
+    }
+    let mut output = Output::default();
+    let mut images = Vec::new();
+    for image in &args.words {
+        match check(args, image) {
+            Ok((line, json)) => {
+                output.text.extend(line.into_bytes());
+                images.push(json);
+            }
+            Err(failure) => {
+                images.push(failure.json());
+                output.failures.push(failure);
+            }
+        }
+    }
+    output.json = Json::object([("images", Json::List(images))]);
+    Ok(output)
+}
+
+fn check(args: &Args, image: &OsStr) -> Result<(String, Json), Failure> {
+    let disk = disk_of(args, image)?;
+    let path = shown(image);
+    let (geometry, counts) = (disk.geometry(), disk.count().map_err(Failure::image(&path))?);
+    let line = format!(
+        "{path}: consistent: {} of {}, directory at sector {}, {}, {} free\n",
+        counted(geometry.blocks, "block"),
+        counted(geometry.units, "unit"),
+        geometry.start,
+        counted(counts.files, "file"),
+        counted(counts.free, "granule"),
+    );
+    let mut json = json_head(&path, geometry);
+    json.extend([
+        ("consistent", true.into()),
+        ("files", counts.files.into()),
+        ("free", counts.free.into()),
+    ]);
+    Ok((line, Json::Object(json)))
+}

@@ -1,0 +1,156 @@
+//! `gdos get` and `gdos cat`.
+
+use super::{chosen, counted, disk_of, image_and_files, json_head, open, password, shown, Command, Output};
+use super::{CODE, FORCE, JSON, UNLOCK};
+use crate::args::{Args, Spec};
+use crate::failure::Failure;
+use crate::image;
+use crate::json::Json;
+use crate::names::{host_name, Typed};
+use crate::shape;
+use genie_dos::{Disk, Password};
+use std::ffi::{OsStr, OsString};
+use std::path::{Path, PathBuf};
+
+const OUTPUT: Spec = Spec {
+    long: "output",
+    short: Some(b'o'),
+    value: Some("DIR"),
+    help: "the folder to write to (the present one); - for standard output",
+};
+const ALL: Spec = Spec {
+    long: "all",
+    short: Some(b'a'),
+    value: None,
+    help: "patterns find system files too",
+};
+
+pub const COMMAND: Command = Command {
+    name: "get",
+    summary: "copy files from a disk to the host",
+    usage: "[OPTIONS] IMAGE NAME...",
+    about: "\
+Copies each named file, and each that a pattern fits, to a file of the host: PULS01/DAT to PULS01.DAT. A line tells
+of each. A file that is refused or cannot be written does not stop the others; the status is that of the worst.
+Files of the host are not overwritten unless --force is given, and never left half written.
+",
+    groups: &[
+        (
+            "Options",
+            &[
+                OUTPUT,
+                Spec {
+                    help: "overwrite files of the host",
+                    ..FORCE
+                },
+                ALL,
+                CODE,
+                UNLOCK,
+                JSON,
+            ],
+        ),
+        ("Geometry", shape::OPTIONS),
+    ],
+    examples: &[
+        "gdos get disk.img PULS01/DAT",
+        "gdos get disk.img '*/DAT' -o series",
+        "gdos get disk.img PULS01/DAT -o -",
+    ],
+    run,
+};
+
+pub const CAT: Command = Command {
+    name: "cat",
+    summary: "write files of a disk to standard output",
+    usage: "[OPTIONS] IMAGE NAME...",
+    about: "\
+Writes the bytes of each named file, one file after the other, and nothing else. A file that is refused is left out
+and told on standard error.
+",
+    groups: &[("Options", &[CODE, UNLOCK]), ("Geometry", shape::OPTIONS)],
+    examples: &["gdos cat disk.img PULS01/DAT | xxd | less"],
+    run: |args| {
+        let (image, words) = image_and_files(args)?;
+        to_standard_output(args, image, words)
+    },
+};
+
+fn run(args: &Args) -> Result<Output, Failure> {
+    let (image, words) = image_and_files(args)?;
+    let folder = match args.value("output") {
+        Some(folder) if folder == "-" && args.has("json") => {
+            return Err(Failure::Wrong(
+                "-o - writes the files themselves, so --json has no place".to_string(),
+            ));
+        }
+        Some(folder) if folder == "-" => return to_standard_output(args, image, words),
+        Some(folder) => PathBuf::from(folder),
+        None => PathBuf::new(),
+    };
+    if !folder.as_os_str().is_empty() && !folder.is_dir() {
+        return Err(Failure::Wrong(format!("{} is not a folder", folder.display())));
+    }
+    let disk = disk_of(args, image)?;
+    let (path, password) = (shown(image), password(args, disk.geometry())?);
+    let mut output = Output::default();
+    let mut told = Vec::new();
+    for choice in chosen(&disk, &path, words, args.has("all"))? {
+        match choice.and_then(|typed| get_one(&disk, &path, &typed, password, &folder, args.has("force"))) {
+            Ok((line, json)) => {
+                output.text.extend(line.into_bytes());
+                told.push(json);
+            }
+            Err(failure) => {
+                told.push(failure.json());
+                output.failures.push(failure);
+            }
+        }
+    }
+    let mut json = json_head(&path, disk.geometry());
+    json.push(("files", Json::List(told)));
+    output.json = Json::Object(json);
+    Ok(output)
+}
+
+fn get_one(
+    disk: &Disk,
+    path: &str,
+    typed: &Typed,
+    password: Password,
+    folder: &Path,
+    force: bool,
+) -> Result<(String, Json), Failure> {
+    let bytes = contents(disk, path, typed, password)?;
+    let host = folder.join(host_name(&typed.name));
+    image::write_new(&host, &bytes, force)?;
+    let line = format!(
+        "{} to {}, {}\n",
+        typed.text,
+        host.display(),
+        counted(bytes.len(), "byte")
+    );
+    let json = Json::object([
+        ("name", typed.text.as_str().into()),
+        ("host", host.to_string_lossy().into_owned().into()),
+        ("size", bytes.len().into()),
+    ]);
+    Ok((line, json))
+}
+
+fn to_standard_output(args: &Args, image: &OsStr, words: &[OsString]) -> Result<Output, Failure> {
+    let disk = disk_of(args, image)?;
+    let (path, password) = (shown(image), password(args, disk.geometry())?);
+    let mut output = Output::default();
+    for choice in chosen(&disk, &path, words, args.has("all"))? {
+        match choice.and_then(|typed| contents(&disk, &path, &typed, password)) {
+            Ok(bytes) => output.text.extend(bytes),
+            Err(failure) => output.failures.push(failure),
+        }
+    }
+    Ok(output)
+}
+
+fn contents(disk: &Disk, path: &str, typed: &Typed, password: Password) -> Result<Vec<u8>, Failure> {
+    let handle = open(disk, path, typed, password)?;
+    disk.contents(&handle).map_err(Failure::file(path, &typed.text))
+}

@@ -1,0 +1,109 @@
+//! `gdos new`.
+
+use super::{counted, json_head, only_image, shown, Command, Output, FORCE, JSON};
+use crate::args::{number, Args, Spec};
+use crate::failure::Failure;
+use crate::image;
+use crate::json::Json;
+use crate::shape::{self, Wanted};
+use genie_dos::Disk;
+use std::path::Path;
+
+const DIRECTORY: Spec = Spec {
+    long: "directory",
+    short: None,
+    value: Some("SECTORS"),
+    help: "length of the directory: 10, 15, 20, 25 or 30 sectors (10)",
+};
+const RESERVE: Spec = Spec {
+    long: "reserve",
+    short: None,
+    value: Some("LIST"),
+    help: "granules that no file may take, as 0,1,40; or none (0, the boot sector's)",
+};
+
+pub const COMMAND: Command = Command {
+    name: "new",
+    summary: "make an image of an empty disk",
+    usage: "[OPTIONS] IMAGE",
+    about: "\
+Makes a consistent disk without files. State its geometry, by --preset or by --blocks, --units and --start. A
+directory of 10, 15, 20, 25 or 30 sectors has room for 32, 72, 112, 152 or 192 files; a badly scattered file takes
+more than one place. All bytes but the directory's are zero, and the disk has neither a system nor a label on it.
+",
+    groups: &[
+        (
+            "Options",
+            &[
+                DIRECTORY,
+                RESERVE,
+                Spec {
+                    help: "replace an image that is there",
+                    ..FORCE
+                },
+                JSON,
+            ],
+        ),
+        ("Geometry", shape::OPTIONS),
+    ],
+    examples: &[
+        "gdos new --preset dd80ds --directory 30 disk.img",
+        "gdos new --blocks 16 --units 2 --start 80 small.img",
+    ],
+    run,
+};
+
+fn run(args: &Args) -> Result<Output, Failure> {
+    let image = only_image(args)?;
+    let path = shown(image);
+    let geometry = Wanted::from_args(args)?.whole().ok_or_else(|| {
+        Failure::Wrong("a new disk needs its geometry: --preset, or --blocks, --units and --start".to_string())
+    })?;
+    let sectors = args.number("directory")?.unwrap_or(10);
+    if ![10, 15, 20, 25, 30].contains(&sectors) {
+        return Err(Failure::Wrong(format!(
+            "a directory has 10, 15, 20, 25 or 30 sectors, not {sectors}"
+        )));
+    }
+    let reserved = reserved(args)?;
+    if let (Some(granules), Some(off)) = (geometry.granules(), reserved.iter().max()) {
+        if *off >= granules {
+            return Err(Failure::Wrong(format!(
+                "--reserve: the disk has granules 0 to {}, not {off}",
+                granules - 1
+            )));
+        }
+    }
+    let disk = Disk::blank(geometry, sectors, &reserved).map_err(Failure::image(&path))?;
+    image::write_new(Path::new(image), disk.image(), args.has("force"))?;
+    let free = disk.count().map_err(Failure::image(&path))?.free;
+    let mut json = json_head(&path, geometry);
+    json.extend([
+        ("bytes", disk.image().len().into()),
+        ("directory_sectors", sectors.into()),
+        ("free", free.into()),
+    ]);
+    let text = format!(
+        "{path}: {} bytes, {} free\n",
+        disk.image().len(),
+        counted(free, "granule")
+    );
+    Ok(Output {
+        text: text.into_bytes(),
+        json: Json::Object(json),
+        ..Output::default()
+    })
+}
+
+fn reserved(args: &Args) -> Result<Vec<usize>, Failure> {
+    let list = args.value("reserve").map_or("0".into(), |list| list.to_string_lossy());
+    if list == "none" {
+        return Ok(Vec::new());
+    }
+    let granules: Option<Vec<_>> = list.split(',').map(number).collect();
+    granules.ok_or_else(|| {
+        Failure::Wrong(format!(
+            "--reserve wants granule numbers, as 0,1,40, or none, not {list:?}"
+        ))
+    })
+}

@@ -1,0 +1,268 @@
+//! `gdos put`.
+
+use super::{counted, disk_to_change, image_and_rest, json_head, keep, password, refused, shown, Command, Output};
+use super::{CODE, FORCE, JSON, UNLOCK};
+use crate::args::{Args, Spec};
+use crate::date;
+use crate::failure::Failure;
+use crate::image;
+use crate::json::Json;
+use crate::names::Typed;
+use crate::shape;
+use genie_dos::{Date, Disk, Kind, NewFile, Password, Refusal};
+use std::ffi::{OsStr, OsString};
+use std::path::Path;
+
+const AS: Spec = Spec {
+    long: "as",
+    short: None,
+    value: Some("NAME"),
+    help: "the file's name on the disk (one file only)",
+};
+const DATE: Spec = Spec {
+    long: "date",
+    short: None,
+    value: Some("DATE"),
+    help: "the date of new files, as 1983-10-09 (today's)",
+};
+const RECORD_LENGTH: Spec = Spec {
+    long: "record-length",
+    short: None,
+    value: Some("N"),
+    help: "the record length of new files, 1 to 256 (256)",
+};
+const WORKER_CODE: Spec = Spec {
+    long: "worker-code",
+    short: None,
+    value: Some("CODE"),
+    help: "the worker code of new files (the same as --code)",
+};
+
+pub const COMMAND: Command = Command {
+    name: "put",
+    summary: "copy files of the host to a disk",
+    usage: "[OPTIONS] IMAGE FILE...",
+    about: "\
+Copies whole files: puls01.dat becomes PULS01/DAT, or what --as says; - is standard input and needs --as. A line
+tells of each. All files are put or none: if one is refused, the image stays as it is.
+
+A file that is on the disk already is an error unless --force is given. Then its content is replaced and space that
+it no longer needs is given back; its date, codes, record length and flags stay, for no call of the system changes
+them. (To have new ones: gdos rm, then gdos put.) Only an empty file cannot be put over one that is not empty.
+
+New files get today's date (UTC). The disk's years end with 1995: later days are written as that year's, and a note
+says so. Both codes are the open code, that is no password, unless --code says otherwise.
+",
+    groups: &[
+        (
+            "Options",
+            &[
+                AS,
+                Spec {
+                    help: "overwrite files that are on the disk",
+                    ..FORCE
+                },
+                DATE,
+                RECORD_LENGTH,
+                Spec {
+                    help: "main code of new files, and the code to open old ones by (the open code)",
+                    ..CODE
+                },
+                WORKER_CODE,
+                Spec {
+                    help: "overwrite old files without checking their passwords",
+                    ..UNLOCK
+                },
+                JSON,
+            ],
+        ),
+        ("Geometry", shape::OPTIONS),
+    ],
+    examples: &[
+        "gdos put disk.img eich01.dat eich02.dat",
+        "gdos put disk.img calibration.bin --as EICH01/DAT --force",
+        "gdos put disk.img puls01.dat --date 1983-10-09 --record-length 128",
+    ],
+    run,
+};
+
+/// A file of the host, read, with its name on the disk.
+struct Source {
+    typed: Typed,
+    host: String,
+    bytes: Vec<u8>,
+}
+
+fn run(args: &Args) -> Result<Output, Failure> {
+    let (image, words) = image_and_rest(args)?;
+    let mut output = Output::default();
+    let wanted_date = date(args, &mut output.notes)?;
+    let record_length = args.number("record-length")?.unwrap_or(256);
+    let (main_code, worker_code) = (args.code("code")?, args.code("worker-code")?);
+    let sources = sources(args, words)?;
+
+    let (mut disk, locked) = disk_to_change(args, image)?;
+    let (path, geometry) = (shown(image), disk.geometry());
+    let main_code = main_code.unwrap_or(geometry.open_code);
+    let new = NewFile {
+        date: wanted_date,
+        record_length,
+        main_code,
+        worker_code: worker_code.unwrap_or(main_code),
+        checking: !args.has("unlock"),
+    };
+    // Old files and the parts of new ones are opened as create opens: by the main code.
+    let password = match args.has("unlock") {
+        true => Password::Unchecked,
+        false => password(args, geometry)?,
+    };
+    let mut put = Vec::new();
+    for source in &sources {
+        put.push((
+            source,
+            put_one(&mut disk, &path, source, &new, password, args.has("force"))?,
+        ));
+    }
+    let mut told = Vec::new();
+    for (source, old) in put {
+        let (line, json) = report(&disk, &path, source, old)?;
+        output.text.extend(line.into_bytes());
+        told.push(json);
+    }
+    keep(disk, locked, image)?;
+    let mut json = json_head(&path, geometry);
+    json.push(("files", Json::List(told)));
+    output.json = Json::Object(json);
+    Ok(output)
+}
+
+/// The date given, or today's as far as the disk can hold it.
+fn date(args: &Args, notes: &mut Vec<String>) -> Result<Date, Failure> {
+    if let Some(given) = args.value("date") {
+        let parsed = given.to_str().and_then(date::parse);
+        return parsed.ok_or_else(|| {
+            Failure::Wrong(format!(
+                "--date wants a date from 1980 on, as 1983-10-09, not {given:?}"
+            ))
+        });
+    }
+    let today = date::today();
+    let clamped = date::clamped(today);
+    if clamped != today {
+        notes.push(format!(
+            "the disk's dates go from 1980 to 1995: today, {today}, is written as {clamped}"
+        ));
+    }
+    Ok(clamped)
+}
+
+/// Reads all files of the host before the image is touched.
+fn sources(args: &Args, words: &[OsString]) -> Result<Vec<Source>, Failure> {
+    let named = args.value("as").map(OsStr::to_string_lossy);
+    if words.is_empty() {
+        return Err(Failure::Wrong("which files of the host? Name some".to_string()));
+    }
+    if named.is_some() && words.len() > 1 {
+        return Err(Failure::Wrong(
+            "--as names one file, but several are to be put".to_string(),
+        ));
+    }
+    let mut sources: Vec<Source> = Vec::new();
+    for word in words {
+        let standard_input = word == "-";
+        let host = match standard_input {
+            true => "standard input".to_string(),
+            false => word.to_string_lossy().into_owned(),
+        };
+        let typed = match &named {
+            Some(name) => Typed::new(name),
+            None if standard_input => {
+                return Err(Failure::Wrong("standard input has no name: say --as NAME".to_string()))
+            }
+            None => Typed::for_host(Path::new(word)),
+        };
+        if let Some(twin) = sources
+            .iter()
+            .find(|s| s.typed.wrong.is_none() && s.typed.name == typed.name)
+        {
+            return Err(Failure::Wrong(format!(
+                "{} and {host} would both become {}",
+                twin.host, typed.text
+            )));
+        }
+        let bytes = match standard_input {
+            true => image::read_standard_input()?,
+            false => image::read(Path::new(word))?,
+        };
+        sources.push(Source { typed, host, bytes });
+    }
+    Ok(sources)
+}
+
+/// Puts one file on the disk in memory; answers whether it was there before.
+fn put_one(
+    disk: &mut Disk,
+    path: &str,
+    source: &Source,
+    new: &NewFile,
+    password: Password,
+    force: bool,
+) -> Result<bool, Failure> {
+    let Source { typed, host, bytes } = source;
+    let refused = |refusal| refused(path, typed)(refusal);
+    let created = disk.create(&typed.name, new).map_err(refused)?;
+    if created.old && !force {
+        return Err(Failure::Wrong(format!(
+            "{} is on {path} already; --force overwrites it",
+            typed.text
+        )));
+    }
+    write(disk, typed, bytes, password).map_err(refused)?;
+    if bytes.is_empty() && disk.read_sector(&created.handle, 0).is_ok() {
+        return Err(Failure::Wrong(format!(
+            "{host} is empty and {} is not; no call of the system empties a file: remove it first, by gdos rm",
+            typed.text
+        )));
+    }
+    disk.trim(&created.handle).map_err(refused)?;
+    Ok(created.old)
+}
+
+/// Writes the file from its start: records of 256 bytes, then one of what is left.
+fn write(disk: &mut Disk, typed: &Typed, bytes: &[u8], password: Password) -> Result<(), Refusal> {
+    let mut position = 0;
+    let (records, rest) = bytes.split_at(bytes.len() / 256 * 256);
+    for part in [records, rest].into_iter().filter(|part| !part.is_empty()) {
+        let length = part.len().min(256);
+        let mut handle = disk.open(&typed.name, length, password)?;
+        handle.set_position(position);
+        for record in part.chunks(length) {
+            disk.write_record(&mut handle, Kind::Sequential, record)?;
+        }
+        position = handle.position();
+    }
+    Ok(())
+}
+
+fn report(disk: &Disk, path: &str, source: &Source, old: bool) -> Result<(String, Json), Failure> {
+    let Source { typed, host, .. } = source;
+    let entries = disk.entries().map_err(Failure::image(path))?;
+    let entry = entries.iter().find(|entry| entry.name() == typed.name);
+    let entry = entry.ok_or_else(|| Failure::file(path, &typed.text)(Refusal::NotFound))?;
+    let (size, granules) = (entry.size(), entry.granules());
+    let line = format!(
+        "{host} to {}, {}, {}{}\n",
+        entry.name(),
+        counted(size, "byte"),
+        counted(granules, "granule"),
+        if old { ", overwritten" } else { "" }
+    );
+    let json = Json::object([
+        ("name", entry.name().to_string().into()),
+        ("host", host.as_str().into()),
+        ("size", size.into()),
+        ("granules", granules.into()),
+        ("overwritten", old.into()),
+    ]);
+    Ok((line, json))
+}

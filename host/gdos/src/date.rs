@@ -1,0 +1,98 @@
+//! Dates: as given, or today's.
+
+use genie_dos::Date;
+use std::time::{SystemTime, UNIX_EPOCH};
+
+/// `1983-10-09`. Whether the directory can hold it is for the library to say, but it counts years from 1980.
+pub fn parse(typed: &str) -> Option<Date> {
+    let mut parts = typed
+        .split('-')
+        .map(|part| match part.bytes().all(|b| b.is_ascii_digit()) {
+            true => part.parse().ok(),
+            false => None,
+        });
+    let date = Date::new(parts.next()??, parts.next()??, parts.next()??);
+    (parts.next().is_none() && date.year >= Date::FIRST_YEAR).then_some(date)
+}
+
+/// Today by the host's clock, in UTC.
+pub fn today() -> Date {
+    let since = SystemTime::now().duration_since(UNIX_EPOCH).unwrap_or_default();
+    from_days(since.as_secs() / 86_400)
+}
+
+/// The date a number of days after 1 January 1970.
+fn from_days(days: u64) -> Date {
+    let mut left = days as usize;
+    let mut year = 1970;
+    while left >= 365 + leap(year) {
+        left -= 365 + leap(year);
+        year += 1;
+    }
+    let months = [31, 28 + leap(year), 31, 30, 31, 30, 31, 31, 30, 31, 30, 31];
+    let mut month = 0;
+    while left >= months[month] {
+        left -= months[month];
+        month += 1;
+    }
+    Date::new(year, month + 1, left + 1)
+}
+
+fn leap(year: usize) -> usize {
+    usize::from(year.is_multiple_of(4) && !year.is_multiple_of(100) || year.is_multiple_of(400))
+}
+
+/// The nearest date that the directory can hold: the same day of its first or last year, or the day before if that
+/// year has no 29 February.
+pub fn clamped(date: Date) -> Date {
+    let year = date.year.clamp(Date::FIRST_YEAR, Date::LAST_YEAR);
+    let no_such_day = date.month == 2 && date.day == 29 && leap(year) == 0;
+    Date {
+        year,
+        day: date.day - usize::from(no_such_day),
+        ..date
+    }
+}
+
+#[cfg(test)]
+mod tests {
+    use super::*;
+
+    #[test]
+    fn typed_dates() {
+        assert_eq!(parse("1983-10-09"), Some(Date::new(1983, 10, 9)));
+        assert_eq!(parse("1996-13-32"), Some(Date::new(1996, 13, 32)));
+        for wrong in [
+            "",
+            "1983",
+            "1983-10",
+            "1983-10-09-1",
+            "1979-12-31",
+            "1983-+1-09",
+            "09.10.1983",
+            "1983--9",
+            "x-1-1",
+        ] {
+            assert_eq!(parse(wrong), None, "{wrong}");
+        }
+    }
+
+    #[test]
+    fn days_of_the_calendar() {
+        assert_eq!(from_days(0), Date::new(1970, 1, 1));
+        assert_eq!(from_days(59), Date::new(1970, 3, 1));
+        assert_eq!(from_days(789), Date::new(1972, 2, 29));
+        assert_eq!(from_days(5_030), Date::new(1983, 10, 10));
+        assert_eq!(from_days(11_016), Date::new(2000, 2, 29));
+        assert_eq!(from_days(20_772), Date::new(2026, 11, 15));
+        assert_eq!(from_days(47_541), Date::new(2100, 3, 1));
+    }
+
+    #[test]
+    fn years_are_clamped() {
+        assert_eq!(clamped(Date::new(2026, 11, 15)), Date::new(1995, 11, 15));
+        assert_eq!(clamped(Date::new(1970, 1, 1)), Date::new(1980, 1, 1));
+        assert_eq!(clamped(Date::new(1988, 2, 29)), Date::new(1988, 2, 29));
+        assert_eq!(clamped(Date::new(2028, 2, 29)), Date::new(1995, 2, 28));
+    }
+}

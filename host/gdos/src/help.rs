@@ -1,0 +1,93 @@
+//! The help texts.
+
+use crate::args::Spec;
+use crate::commands::{Command, COMMANDS};
+use crate::shape;
+
+const ABOUT: &str = "\
+gdos: Genie-DOS disk images (TRSDOS family, 1983)
+
+Usage: gdos COMMAND [OPTIONS] IMAGE [ARGUMENTS]
+       gdos COMMAND --help
+";
+
+const GEOMETRY: &str = "\
+The geometry
+  An image is raw: the disk's sectors of 256 bytes in order, which is also the JV1 container. It does not say
+  how its disk is organized. State it by --preset, or by --blocks, --units and --start (these go before the
+  preset's numbers); numbers are typed as 1440, 5A0H or 0x5A0. What you leave open is searched: if exactly one
+  geometry makes the disk consistent, that one is taken. `gdos probe` shows what would be found.
+";
+
+const NAMES: &str = "\
+Names
+  A file is named as on the machine, PULS01/DAT: 1 to 8 characters, then a slash and a type of up to 3. Allowed
+  are digits, letters (small ones count as capital) and [ \\ ]. In patterns * stands for any characters, the slash
+  too, and ? for one that is no slash; they do not find system files. Put patterns in quotes: '*/DAT'.
+";
+
+const STATUS: &str = "\
+Exit status
+  0  done
+  1  refused by the disk's rules; the message has the number, what it means and the file
+  2  wrong usage, or a file of the host that cannot be read or written
+  Unless the status is 0 no image was changed. An image is never left half written: a change is made to a copy
+  beside it, which is then put in its place.
+";
+
+/// `gdos --help`.
+pub fn overview() -> String {
+    let mut text = format!("{ABOUT}\nCommands\n");
+    for command in COMMANDS {
+        text += &format!("  {:<7}{}\n", command.name, command.summary);
+    }
+    text + "\n" + NAMES + "\n" + GEOMETRY + "\n" + &presets() + "\n" + STATUS
+}
+
+/// `gdos --version`.
+pub fn version() -> String {
+    format!("gdos {}\n", env!("CARGO_PKG_VERSION"))
+}
+
+/// `gdos COMMAND --help`.
+pub fn on(command: &Command) -> String {
+    let mut text = format!(
+        "gdos {}: {}\n\nUsage: gdos {} {}\n",
+        command.name, command.summary, command.name, command.usage
+    );
+    text += &format!("\n{}", command.about);
+    for (title, specs) in command.groups {
+        text += &format!("\n{title}\n");
+        for spec in *specs {
+            text += &option(spec);
+        }
+        if std::ptr::eq(*specs, shape::OPTIONS) {
+            text += &format!("\n{}", presets());
+        }
+    }
+    text += "\nExamples\n";
+    for example in command.examples {
+        text += &format!("  {example}\n");
+    }
+    text + "\nExit status: 0 done, 1 refused, 2 wrong usage or I/O. `gdos --help` tells more.\n"
+}
+
+fn option(spec: &Spec) -> String {
+    let short = spec
+        .short
+        .map_or("    ".to_string(), |letter| format!("-{}, ", letter as char));
+    let value = spec.value.map_or(String::new(), |value| format!(" {value}"));
+    format!("  {:<26}{}\n", format!("{short}--{}{value}", spec.long), spec.help)
+}
+
+fn presets() -> String {
+    let mut text = String::from("Presets\n");
+    for preset in shape::PRESETS {
+        let g = preset.geometry;
+        text += &format!(
+            "  {:<9}{:>3} blocks of {} units, directory at sector {:>4}: {}\n",
+            preset.name, g.blocks, g.units, g.start, preset.about
+        );
+    }
+    text
+}

@@ -1,0 +1,589 @@
+use crate::entry::Directory;
+use crate::{sys, Date, Entry, Geometry, Handle, Name, Refusal};
+
+/// A disk: the bytes of its image and the geometry that the caller states for it.
+///
+/// The image can be owned (`Disk<Vec<u8>>`) or lent (`Disk<&[u8]>` to look only, `Disk<&mut [u8]>`). Any bytes will
+/// do: each call tests the geometry, the image's length and the whole directory before it does anything, so that a
+/// damaged disk is refused with [`Refusal::Inconsistent`] and stays as it is.
+///
+/// ```
+/// use genie_dos::{Date, Disk, Geometry, Kind, Name, NewFile, Password};
+///
+/// let geometry = Geometry::new(16, 2, 80, 0x4296);
+/// let mut disk = Disk::blank(geometry, 10, &[0])?;
+///
+/// let name: Name = "PULS01/DAT".parse().unwrap();
+/// let new = NewFile { record_length: 257 / 2, ..NewFile::open(geometry, Date::new(1983, 10, 9)) };
+/// let mut handle = disk.create(&name, &new)?.handle;
+/// disk.write_record(&mut handle, Kind::Sequential, &[7; 128])?;
+/// disk.write_record(&mut handle, Kind::Sequential, &[8; 128])?;
+///
+/// let lent = Disk::new(disk.image(), geometry);
+/// let handle = lent.open(&name, 1, Password::Unchecked)?;
+/// assert_eq!(lent.contents(&handle)?.len(), 256);
+/// assert_eq!(lent.listing()?, "FILES 1\nPULS01/DAT 256 1\nFREE 28\n");
+/// # Ok::<(), genie_dos::Refusal>(())
+/// ```
+#[derive(Clone, Debug)]
+pub struct Disk<B = Vec<u8>> {
+    image: B,
+    geometry: Geometry,
+}
+
+/// The answer of [`Disk::look_up`].
+#[derive(Clone, Copy, Debug, PartialEq, Eq)]
+pub struct LookUp {
+    /// The slot of the file's primary entry, or why there is none.
+    pub slot: Result<u8, Refusal>,
+    /// How many entries were compared: those whose hash is the name's, up to the found one. Told also where the name
+    /// was not found.
+    pub compared: usize,
+}
+
+/// How [`Disk::open`] is to treat the file's password.
+#[derive(Clone, Copy, Debug, PartialEq, Eq)]
+pub enum Password {
+    /// Checking is off: every file opens at level 0.
+    Unchecked,
+    /// Checking is on and this code is given.
+    Code(u16),
+}
+
+/// What [`Disk::create`] puts into a new file's entry.
+#[derive(Clone, Copy, Debug, PartialEq, Eq)]
+pub struct NewFile {
+    /// The file's date.
+    pub date: Date,
+    /// The record length, 1 to 256; the handle's as well.
+    pub record_length: usize,
+    /// The main code. If the file exists, this is the code that it is opened by.
+    pub main_code: u16,
+    /// The worker code.
+    pub worker_code: u16,
+    /// Whether the password of an existing file is checked.
+    pub checking: bool,
+}
+
+impl NewFile {
+    /// A file without a password, records of 256 bytes, checking on.
+    pub const fn open(geometry: Geometry, date: Date) -> NewFile {
+        NewFile {
+            date,
+            record_length: 256,
+            main_code: geometry.open_code,
+            worker_code: geometry.open_code,
+            checking: true,
+        }
+    }
+}
+
+/// The answer of [`Disk::create`].
+#[derive(Clone, Copy, Debug, PartialEq, Eq)]
+pub struct Created {
+    /// The file, open at position 0.
+    pub handle: Handle,
+    /// The file was there before: it was opened and nothing changed.
+    pub old: bool,
+}
+
+/// The two kinds of write.
+#[derive(Clone, Copy, Debug, PartialEq, Eq)]
+pub enum Kind {
+    /// The file ends behind the record, even if it was longer.
+    Sequential,
+    /// The file ends behind the record or where it ended, whichever is later.
+    Random,
+}
+
+/// A file of the listing.
+#[derive(Clone, Copy, Debug, PartialEq, Eq)]
+pub struct Listed {
+    /// Its name.
+    pub name: Name,
+    /// Its size in bytes.
+    pub size: usize,
+    /// Granules that it owns.
+    pub granules: usize,
+}
+
+/// The answer of [`Disk::count`].
+#[derive(Clone, Copy, Debug, PartialEq, Eq)]
+pub struct Counts {
+    /// Files, system files left out.
+    pub files: usize,
+    /// Free granules.
+    pub free: usize,
+}
+
+/// A refusal number as a result.
+fn accepted(number: u8) -> Result<(), Refusal> {
+    Refusal::from_number(number).map_or(Ok(()), Err)
+}
+
+impl<B> Disk<B> {
+    /// A disk of these bytes. Nothing is tested yet: each call does so.
+    pub const fn new(image: B, geometry: Geometry) -> Disk<B> {
+        Disk { image, geometry }
+    }
+
+    /// The geometry stated for the disk.
+    pub const fn geometry(&self) -> Geometry {
+        self.geometry
+    }
+
+    /// Gives the image back.
+    pub fn into_image(self) -> B {
+        self.image
+    }
+}
+
+impl Disk<Vec<u8>> {
+    /// An empty disk: a directory of `directory_sectors` (10, 15, 20, 25 or 30), its granules and the `reserved` ones
+    /// taken, every other byte zero. Refused as the library refuses such a disk; a reserved granule that the disk
+    /// does not have is [`Refusal::Range`].
+    ///
+    /// ```
+    /// use genie_dos::{Disk, Geometry, Refusal};
+    ///
+    /// let disk = Disk::blank(Geometry::new(16, 2, 80, 0x4296), 10, &[0])?;
+    /// assert_eq!(disk.count()?.free, 32 - 3);
+    ///
+    /// let odd_start = Disk::blank(Geometry::new(16, 2, 81, 0x4296), 10, &[0]);
+    /// assert_eq!(odd_start.err(), Some(Refusal::Geometry));
+    /// # Ok::<(), Refusal>(())
+    /// ```
+    pub fn blank(geometry: Geometry, directory_sectors: usize, reserved: &[usize]) -> Result<Disk, Refusal> {
+        let granules = geometry.granules().ok_or(Refusal::Geometry)?;
+        let mut disk = Disk::new(vec![0; granules * Geometry::GRANULE_BYTES], geometry);
+        if disk.check() == Err(Refusal::Geometry) {
+            return Err(Refusal::Geometry);
+        }
+        // From here on the start is a multiple of 5 with two granules behind it, so GAT and HIT are on the disk.
+        let gat = geometry.start * Geometry::SECTOR_BYTES;
+        let hit = gat + Geometry::SECTOR_BYTES;
+        let above_ten = directory_sectors
+            .checked_sub(10)
+            .and_then(|above| u8::try_from(above).ok());
+        disk.image[hit + 0x1f] = above_ten.ok_or(Refusal::Inconsistent)?;
+        let first = geometry.start / Geometry::GRANULE_SECTORS;
+        let directory = first..first + directory_sectors / Geometry::GRANULE_SECTORS;
+        if directory.end > granules {
+            return Err(Refusal::Inconsistent);
+        }
+        for granule in directory.chain(reserved.iter().copied()) {
+            if granule >= granules {
+                return Err(Refusal::Range);
+            }
+            disk.image[gat + granule / geometry.units] |= 1 << (granule % geometry.units);
+        }
+        disk.check().map(|()| disk)
+    }
+}
+
+/// Calls that only look.
+impl<B: AsRef<[u8]>> Disk<B> {
+    /// The image's bytes.
+    pub fn image(&self) -> &[u8] {
+        self.image.as_ref()
+    }
+
+    /// Tests geometry, image length and consistency: accepted, or refused with 1 or 2.
+    ///
+    /// ```
+    /// use genie_dos::{Disk, Geometry, Refusal};
+    ///
+    /// let geometry = Geometry::new(16, 2, 80, 0x4296);
+    /// assert_eq!(Disk::new([0u8; 40_960], geometry).check(), Err(Refusal::Inconsistent));
+    /// assert_eq!(Disk::new([0u8; 40_959], geometry).check(), Err(Refusal::Geometry));
+    /// ```
+    pub fn check(&self) -> Result<(), Refusal> {
+        let (image, g) = (self.image.as_ref(), self.geometry);
+        // SAFETY: the slice is a live reference.
+        accepted(unsafe { sys::genie_check(image.as_ptr(), image.len(), g.blocks, g.units, g.start, g.open_code) })
+    }
+
+    /// Finds a file's slot and tells how many entries were compared.
+    ///
+    /// ```
+    /// # use genie_dos::*;
+    /// # let disk = Disk::blank(Geometry::new(16, 2, 80, 0x4296), 10, &[0])?;
+    /// let answer = disk.look_up(&"PULS01/DAT".parse().unwrap());
+    /// assert_eq!(answer, LookUp { slot: Err(Refusal::NotFound), compared: 0 });
+    /// # Ok::<(), Refusal>(())
+    /// ```
+    pub fn look_up(&self, name: &Name) -> LookUp {
+        let (image, g, name) = (self.image.as_ref(), self.geometry, name.as_bytes());
+        let (mut slot, mut compared) = (0, 0);
+        // SAFETY: the slices are live references; the outgoing numbers are locals.
+        let number = unsafe {
+            sys::genie_look_up(
+                image.as_ptr(),
+                image.len(),
+                g.blocks,
+                g.units,
+                g.start,
+                g.open_code,
+                name.as_ptr(),
+                name.len(),
+                &mut slot,
+                &mut compared,
+            )
+        };
+        // A slot is below 256.
+        LookUp {
+            slot: accepted(number).map(|()| slot as u8),
+            compared,
+        }
+    }
+
+    /// Opens a file for records of `length` bytes (1 to 256).
+    ///
+    /// The level is 0 if checking is off, the file has no password, or the code is its main code; it is the file's own
+    /// level if the code is its worker code only; any other code is refused.
+    pub fn open(&self, name: &Name, length: usize, password: Password) -> Result<Handle, Refusal> {
+        let (image, g, name) = (self.image.as_ref(), self.geometry, name.as_bytes());
+        let (checking, code) = match password {
+            Password::Unchecked => (false, 0),
+            Password::Code(code) => (true, code),
+        };
+        let mut handle = Handle::zeros();
+        let lent = handle.as_mut_bytes();
+        // SAFETY: the slices are live references, the handle's a local.
+        accepted(unsafe {
+            sys::genie_open(
+                image.as_ptr(),
+                image.len(),
+                g.blocks,
+                g.units,
+                g.start,
+                g.open_code,
+                name.as_ptr(),
+                name.len(),
+                length,
+                checking,
+                code,
+                lent.as_mut_ptr(),
+                lent.len(),
+            )
+        })?;
+        Ok(handle)
+    }
+
+    /// Reads the record at the handle's position into the buffer's start and advances the position. The rest of the
+    /// buffer stays as it is.
+    pub fn read_record(&self, handle: &mut Handle, buffer: &mut [u8]) -> Result<(), Refusal> {
+        let (image, g, lent) = (self.image.as_ref(), self.geometry, handle.as_mut_bytes());
+        // SAFETY: the slices are live references, those written to are exclusive.
+        accepted(unsafe {
+            sys::genie_read_record(
+                image.as_ptr(),
+                image.len(),
+                g.blocks,
+                g.units,
+                g.start,
+                g.open_code,
+                lent.as_mut_ptr(),
+                lent.len(),
+                buffer.as_mut_ptr(),
+                buffer.len(),
+            )
+        })
+    }
+
+    /// The file's bytes in its sector `k`: 1 to 256 bytes, a part of the image itself. Position and record length play
+    /// no part.
+    ///
+    /// ```
+    /// # use genie_dos::*;
+    /// # let mut disk = Disk::blank(Geometry::new(16, 2, 80, 0x4296), 10, &[0])?;
+    /// # let name = "PULS01/DAT".parse().unwrap();
+    /// # let mut handle = disk.create(&name, &NewFile::open(disk.geometry(), Date::new(1983, 10, 9)))?.handle;
+    /// # disk.write_record(&mut handle, Kind::Sequential, &[1; 256])?;
+    /// let sector: &[u8] = disk.read_sector(&handle, 0)?;
+    /// assert!(disk.image().as_ptr_range().contains(&sector.as_ptr()));
+    /// assert_eq!(disk.read_sector(&handle, 1), Err(Refusal::PastEnd));
+    /// # Ok::<(), Refusal>(())
+    /// ```
+    pub fn read_sector(&self, handle: &Handle, k: usize) -> Result<&[u8], Refusal> {
+        let (image, g, lent) = (self.image.as_ref(), self.geometry, handle.as_bytes());
+        let (mut from, mut to) = (0, 0);
+        // SAFETY: the slices are live references; the outgoing numbers are locals.
+        accepted(unsafe {
+            sys::genie_read_sector(
+                image.as_ptr(),
+                image.len(),
+                g.blocks,
+                g.units,
+                g.start,
+                g.open_code,
+                lent.as_ptr(),
+                lent.len(),
+                k,
+                &mut from,
+                &mut to,
+            )
+        })?;
+        Ok(&image[from..to])
+    }
+
+    /// The file of a running number, from 0, by rising slot; none past the last. System files are left out.
+    pub fn list(&self, number: usize) -> Result<Option<Listed>, Refusal> {
+        let (image, g) = (self.image.as_ref(), self.geometry);
+        let mut name = [b' '; Name::LEN];
+        let (mut size, mut granules, mut more) = (0, 0, 0);
+        // SAFETY: the image is a live reference; name and outgoing numbers are locals.
+        accepted(unsafe {
+            sys::genie_list(
+                image.as_ptr(),
+                image.len(),
+                g.blocks,
+                g.units,
+                g.start,
+                g.open_code,
+                number,
+                name.as_mut_ptr(),
+                name.len(),
+                &mut size,
+                &mut granules,
+                &mut more,
+            )
+        })?;
+        Ok((more != 0).then(|| Listed {
+            name: Name::from_bytes(name),
+            size,
+            granules,
+        }))
+    }
+
+    /// How many files the listing has, and how many granules are free.
+    pub fn count(&self) -> Result<Counts, Refusal> {
+        let (image, g) = (self.image.as_ref(), self.geometry);
+        let (mut files, mut free) = (0, 0);
+        // SAFETY: the image is a live reference; the outgoing numbers are locals.
+        accepted(unsafe {
+            sys::genie_count(
+                image.as_ptr(),
+                image.len(),
+                g.blocks,
+                g.units,
+                g.start,
+                g.open_code,
+                &mut files,
+                &mut free,
+            )
+        })?;
+        Ok(Counts { files, free })
+    }
+
+    /// All files of the listing.
+    pub fn files(&self) -> Result<Vec<Listed>, Refusal> {
+        let mut files = Vec::new();
+        while let Some(file) = self.list(files.len())? {
+            files.push(file);
+        }
+        Ok(files)
+    }
+
+    /// The listing as text: `FILES`, a line for each file (name, size, granules), `FREE`.
+    pub fn listing(&self) -> Result<String, Refusal> {
+        let Counts { files, free } = self.count()?;
+        let mut text = format!("FILES {files}\n");
+        for file in self.files()? {
+            text += &format!("{} {} {}\n", file.name, file.size, file.granules);
+        }
+        text += &format!("FREE {free}\n");
+        Ok(text)
+    }
+
+    /// The whole file, sector by sector. Position and record length play no part.
+    pub fn contents(&self, handle: &Handle) -> Result<Vec<u8>, Refusal> {
+        let mut bytes = Vec::new();
+        for k in 0.. {
+            match self.read_sector(handle, k) {
+                Ok(part) => bytes.extend_from_slice(part),
+                Err(Refusal::PastEnd) => break,
+                // Only a file of the largest size: there is no sector number past its last one.
+                Err(Refusal::Range) if k * Geometry::SECTOR_BYTES == Geometry::MOST_BYTES => break,
+                Err(refusal) => return Err(refusal),
+            }
+        }
+        Ok(bytes)
+    }
+
+    /// The entries of all files, system files included, by rising slot: dates, flags, codes and places, which the
+    /// library does not tell. The disk is checked first; the entries are then read by this crate.
+    pub fn entries(&self) -> Result<Vec<Entry>, Refusal> {
+        self.check()?;
+        Ok(Directory::new(self.image.as_ref(), self.geometry).entries())
+    }
+
+    /// Sectors of the directory: 10, 15, 20, 25 or 30. The disk is checked first.
+    pub fn directory_sectors(&self) -> Result<usize, Refusal> {
+        self.check()?;
+        Ok(Directory::new(self.image.as_ref(), self.geometry).sectors())
+    }
+}
+
+/// Calls that change the disk.
+impl<B: AsMut<[u8]>> Disk<B> {
+    /// Creates a file of size 0, or opens the one that is there.
+    ///
+    /// ```
+    /// # use genie_dos::*;
+    /// # let mut disk = Disk::blank(Geometry::new(16, 2, 80, 0x4296), 10, &[0])?;
+    /// let name = "LEER".parse().unwrap();
+    /// let new = NewFile::open(disk.geometry(), Date::new(1983, 10, 9));
+    /// assert!(!disk.create(&name, &new)?.old);
+    /// assert!(disk.create(&name, &new)?.old);
+    /// # Ok::<(), Refusal>(())
+    /// ```
+    pub fn create(&mut self, name: &Name, new: &NewFile) -> Result<Created, Refusal> {
+        let (image, g, name) = (self.image.as_mut(), self.geometry, name.as_bytes());
+        let mut handle = Handle::zeros();
+        let lent = handle.as_mut_bytes();
+        let mut old = 0;
+        // SAFETY: the slices are live references, the image's is exclusive; the others written to are locals.
+        accepted(unsafe {
+            sys::genie_create(
+                image.as_mut_ptr(),
+                image.len(),
+                g.blocks,
+                g.units,
+                g.start,
+                g.open_code,
+                name.as_ptr(),
+                name.len(),
+                new.date.day,
+                new.date.month,
+                // A year before 1980 becomes one that is far out of range.
+                new.date.year.wrapping_sub(Date::FIRST_YEAR),
+                new.record_length,
+                new.main_code,
+                new.worker_code,
+                new.checking,
+                &mut old,
+                lent.as_mut_ptr(),
+                lent.len(),
+            )
+        })?;
+        Ok(Created { handle, old: old != 0 })
+    }
+
+    /// Writes the buffer's first bytes, as many as a record has, at the handle's position and advances it. Bytes between
+    /// the old end and the position become zero; granules are taken as needed.
+    ///
+    /// ```
+    /// # use genie_dos::*;
+    /// # let mut disk = Disk::blank(Geometry::new(16, 2, 80, 0x4296), 10, &[0])?;
+    /// # let name = "PULS01/DAT".parse().unwrap();
+    /// # disk.create(&name, &NewFile::open(disk.geometry(), Date::new(1983, 10, 9)))?;
+    /// let mut handle = disk.open(&name, 2, Password::Unchecked)?;
+    /// handle.set_position(3);
+    /// disk.write_record(&mut handle, Kind::Sequential, b"XY")?;
+    /// assert_eq!(disk.contents(&handle)?, b"\0\0\0XY");
+    ///
+    /// handle.set_position(0);
+    /// disk.write_record(&mut handle, Kind::Random, b"AB")?;
+    /// assert_eq!(disk.contents(&handle)?, b"AB\0XY");
+    ///
+    /// assert_eq!(disk.write_record(&mut handle, Kind::Random, b"!"), Err(Refusal::Range));
+    /// # Ok::<(), Refusal>(())
+    /// ```
+    pub fn write_record(&mut self, handle: &mut Handle, kind: Kind, buffer: &[u8]) -> Result<(), Refusal> {
+        let (image, g, lent) = (self.image.as_mut(), self.geometry, handle.as_mut_bytes());
+        // SAFETY: the slices are live references, those written to are exclusive.
+        accepted(unsafe {
+            sys::genie_write_record(
+                image.as_mut_ptr(),
+                image.len(),
+                g.blocks,
+                g.units,
+                g.start,
+                g.open_code,
+                lent.as_mut_ptr(),
+                lent.len(),
+                kind == Kind::Sequential,
+                buffer.as_ptr(),
+                buffer.len(),
+            )
+        })
+    }
+
+    /// Takes granules until the file owns those up to its sector `k`; its size stays.
+    ///
+    /// ```
+    /// # use genie_dos::*;
+    /// # let mut disk = Disk::blank(Geometry::new(16, 2, 80, 0x4296), 10, &[0])?;
+    /// # let name = "LEER".parse().unwrap();
+    /// # let handle = disk.create(&name, &NewFile::open(disk.geometry(), Date::new(1983, 10, 9)))?.handle;
+    /// disk.allot(&handle, 5)?; // sector 5 is in the second granule
+    /// assert_eq!(disk.files()?[0].granules, 2);
+    /// disk.trim(&handle)?; // the file is empty: both go back
+    /// assert_eq!(disk.files()?[0].granules, 0);
+    /// # Ok::<(), Refusal>(())
+    /// ```
+    pub fn allot(&mut self, handle: &Handle, k: usize) -> Result<(), Refusal> {
+        let (image, g, lent) = (self.image.as_mut(), self.geometry, handle.as_bytes());
+        // SAFETY: the slices are live references, the image's is exclusive.
+        accepted(unsafe {
+            sys::genie_allot(
+                image.as_mut_ptr(),
+                image.len(),
+                g.blocks,
+                g.units,
+                g.start,
+                g.open_code,
+                lent.as_ptr(),
+                lent.len(),
+                k,
+            )
+        })
+    }
+
+    /// Gives back the granules that the file's size does not need. A file with the flag F keeps them.
+    pub fn trim(&mut self, handle: &Handle) -> Result<(), Refusal> {
+        let (image, g, lent) = (self.image.as_mut(), self.geometry, handle.as_bytes());
+        // SAFETY: the slices are live references, the image's is exclusive.
+        accepted(unsafe {
+            sys::genie_trim(
+                image.as_mut_ptr(),
+                image.len(),
+                g.blocks,
+                g.units,
+                g.start,
+                g.open_code,
+                lent.as_ptr(),
+                lent.len(),
+            )
+        })
+    }
+
+    /// Removes the file and frees its granules. The handle is stale from then on.
+    ///
+    /// ```
+    /// # use genie_dos::*;
+    /// # let mut disk = Disk::blank(Geometry::new(16, 2, 80, 0x4296), 10, &[0])?;
+    /// # let name = "LEER".parse().unwrap();
+    /// # let handle = disk.create(&name, &NewFile::open(disk.geometry(), Date::new(1983, 10, 9)))?.handle;
+    /// disk.kill(&handle)?;
+    /// assert_eq!(disk.kill(&handle), Err(Refusal::Stale));
+    /// # Ok::<(), Refusal>(())
+    /// ```
+    pub fn kill(&mut self, handle: &Handle) -> Result<(), Refusal> {
+        let (image, g, lent) = (self.image.as_mut(), self.geometry, handle.as_bytes());
+        // SAFETY: the slices are live references, the image's is exclusive.
+        accepted(unsafe {
+            sys::genie_kill(
+                image.as_mut_ptr(),
+                image.len(),
+                g.blocks,
+                g.units,
+                g.start,
+                g.open_code,
+                lent.as_ptr(),
+                lent.len(),
+            )
+        })
+    }
+}

@@ -1,0 +1,273 @@
+use crate::{Geometry, Name};
+use std::fmt;
+
+/// A day as the directory keeps it: year 1980 to 1995, month 0 to 15, day 0 to 31.
+///
+/// ```
+/// use genie_dos::Date;
+///
+/// let date = Date::new(1983, 10, 9);
+/// assert_eq!(date.to_string(), "1983-10-09");
+/// ```
+#[derive(Clone, Copy, Debug, PartialEq, Eq, PartialOrd, Ord, Hash)]
+pub struct Date {
+    /// The whole year, as 1983.
+    pub year: usize,
+    /// The month; 1 is January.
+    pub month: usize,
+    /// The day of the month.
+    pub day: usize,
+}
+
+impl Date {
+    /// The year from which the directory counts.
+    pub const FIRST_YEAR: usize = 1980;
+    /// The last year that the directory can hold.
+    pub const LAST_YEAR: usize = 1995;
+
+    /// A date of any numbers: create refuses those that the directory cannot hold.
+    pub const fn new(year: usize, month: usize, day: usize) -> Date {
+        Date { year, month, day }
+    }
+}
+
+impl fmt::Display for Date {
+    fn fmt(&self, f: &mut fmt::Formatter<'_>) -> fmt::Result {
+        f.pad(&format!("{:04}-{:02}-{:02}", self.year, self.month, self.day))
+    }
+}
+
+/// Consecutive granules of a file.
+#[derive(Clone, Copy, Debug, PartialEq, Eq)]
+pub struct Run {
+    /// Number of the first granule.
+    pub first: usize,
+    /// How many granules, 1 to 32.
+    pub granules: usize,
+}
+
+/// The directory's entry of a file, as [`Disk::entries`](crate::Disk::entries) finds it: what the listing leaves out.
+#[derive(Clone, Debug, PartialEq, Eq)]
+pub struct Entry {
+    slot: u8,
+    bytes: [u8; Entry::LEN],
+    runs: Vec<Run>,
+}
+
+impl Entry {
+    /// Bytes of an entry.
+    pub const LEN: usize = 32;
+
+    /// The slot of the primary entry.
+    pub fn slot(&self) -> u8 {
+        self.slot
+    }
+
+    /// The 32 bytes of the primary entry.
+    pub fn as_bytes(&self) -> &[u8; Entry::LEN] {
+        &self.bytes
+    }
+
+    /// The file's name.
+    pub fn name(&self) -> Name {
+        let mut name = [0; Name::LEN];
+        name.copy_from_slice(&self.bytes[0x05..0x10]);
+        Name::from_bytes(name)
+    }
+
+    /// A system file: not listed, and no call changes it.
+    pub fn is_system(&self) -> bool {
+        self.bytes[0x00] & 0x40 != 0
+    }
+
+    /// The flag "invisible". The library lists such a file all the same.
+    pub fn is_invisible(&self) -> bool {
+        self.bytes[0x00] & 0x08 != 0
+    }
+
+    /// The level that the worker code gives, 0 to 7.
+    pub fn level(&self) -> u8 {
+        self.bytes[0x00] & 0x07
+    }
+
+    /// F: trim leaves the file's space alone.
+    pub fn keeps_space(&self) -> bool {
+        self.bytes[0x01] & 0x80 != 0
+    }
+
+    /// E: the file takes no further granule.
+    pub fn may_not_grow(&self) -> bool {
+        self.bytes[0x01] & 0x40 != 0
+    }
+
+    /// B: the file was written to.
+    pub fn was_worked_on(&self) -> bool {
+        self.bytes[0x01] & 0x20 != 0
+    }
+
+    /// The date given on create.
+    pub fn date(&self) -> Date {
+        let (year, month) = (self.bytes[0x02] >> 4, self.bytes[0x02] & 0x0f);
+        Date::new(
+            Date::FIRST_YEAR + usize::from(year),
+            usize::from(month),
+            usize::from(self.bytes[0x01] & 0x1f),
+        )
+    }
+
+    /// The record length given on create, 1 to 256.
+    pub fn record_length(&self) -> u16 {
+        match self.bytes[0x04] {
+            0 => 256,
+            length => u16::from(length),
+        }
+    }
+
+    /// The main code: it opens the file at level 0.
+    pub fn main_code(&self) -> u16 {
+        self.word(0x10)
+    }
+
+    /// The worker code: it opens the file at the entry's level.
+    pub fn worker_code(&self) -> u16 {
+        self.word(0x12)
+    }
+
+    /// The file's size in bytes.
+    pub fn size(&self) -> usize {
+        let sectors = usize::from(self.word(0x14));
+        match usize::from(self.bytes[0x03]) {
+            0 => Geometry::SECTOR_BYTES * sectors,
+            end => Geometry::SECTOR_BYTES * sectors.saturating_sub(1) + end,
+        }
+    }
+
+    /// Where the file lies, in its own order.
+    pub fn runs(&self) -> &[Run] {
+        &self.runs
+    }
+
+    /// Granules that the file owns.
+    pub fn granules(&self) -> usize {
+        self.runs.iter().map(|run| run.granules).sum()
+    }
+
+    fn word(&self, at: usize) -> u16 {
+        u16::from_le_bytes([self.bytes[at], self.bytes[at + 1]])
+    }
+}
+
+/// The directory of a disk that was found consistent, read plainly. Every place is looked up safely, so that a
+/// mistake here could answer wrongly and no more.
+pub(crate) struct Directory<'a> {
+    image: &'a [u8],
+    geometry: Geometry,
+}
+
+impl<'a> Directory<'a> {
+    pub(crate) fn new(image: &'a [u8], geometry: Geometry) -> Directory<'a> {
+        Directory { image, geometry }
+    }
+
+    /// Sectors of the directory: 10, 15, 20, 25 or 30.
+    pub(crate) fn sectors(&self) -> usize {
+        10 + usize::from(self.sector(1).get(0x1f).copied().unwrap_or(0))
+    }
+
+    fn sector(&self, number: usize) -> &'a [u8] {
+        let from = (self.geometry.start + number) * Geometry::SECTOR_BYTES;
+        self.image.get(from..from + Geometry::SECTOR_BYTES).unwrap_or(&[])
+    }
+
+    /// Slot numbers that the directory has, rising: 32 x row + s with s below its sectors less two.
+    pub(crate) fn slots(&self) -> impl Iterator<Item = u8> {
+        let entry_sectors = self.sectors() - 2;
+        (0..=u8::MAX).filter(move |slot| usize::from(slot % 32) < entry_sectors)
+    }
+
+    /// The entry's bytes: slot 32 x row + s is in directory sector s + 2 at byte 32 x row.
+    fn bytes(&self, slot: u8) -> Option<[u8; Entry::LEN]> {
+        let (row, s) = (usize::from(slot / 32), usize::from(slot % 32));
+        let bytes = self.sector(s + 2).get(Entry::LEN * row..Entry::LEN * (row + 1))?;
+        bytes.try_into().ok()
+    }
+
+    /// Primary entries in use, by rising slot.
+    pub(crate) fn entries(&self) -> Vec<Entry> {
+        let primary = |bytes: &[u8; Entry::LEN]| bytes[0x00] & 0x90 == 0x10;
+        let found = self
+            .slots()
+            .filter_map(|slot| Some((slot, self.bytes(slot).filter(primary)?)));
+        found
+            .map(|(slot, bytes)| Entry {
+                slot,
+                bytes,
+                runs: self.runs(bytes),
+            })
+            .collect()
+    }
+
+    /// The runs of an entry and of its extensions. No chain is longer than the number of slots.
+    fn runs(&self, primary: [u8; Entry::LEN]) -> Vec<Run> {
+        let mut runs = Vec::new();
+        let mut bytes = primary;
+        for _ in 0..=u8::MAX {
+            let pairs = bytes[0x16..0x1e].chunks_exact(2).take_while(|pair| pair[0] != 0xff);
+            runs.extend(pairs.map(|pair| Run {
+                first: usize::from(pair[0]) * self.geometry.units + usize::from(pair[1] >> 5),
+                granules: usize::from(pair[1] & 0x1f) + 1,
+            }));
+            match (bytes[0x1e], self.bytes(bytes[0x1f])) {
+                (0xfe, Some(next)) => bytes = next,
+                _ => break,
+            }
+        }
+        runs
+    }
+}
+
+#[cfg(test)]
+mod tests {
+    use super::*;
+
+    fn entry(bytes: [u8; 32]) -> Entry {
+        Entry {
+            slot: 0x25,
+            bytes,
+            runs: vec![Run { first: 53, granules: 3 }, Run { first: 2, granules: 1 }],
+        }
+    }
+
+    #[test]
+    fn the_bytes_of_an_entry() {
+        let mut bytes = [0; 32];
+        bytes[..5].copy_from_slice(&[0x5d, 0xe9, 0x3a, 1, 80]);
+        bytes[5..16].copy_from_slice(b"PULS01  DAT");
+        bytes[16..22].copy_from_slice(&[0x96, 0x42, 0x34, 0x12, 2, 0]);
+        let e = entry(bytes);
+        assert_eq!(e.slot(), 0x25);
+        assert_eq!(e.name().to_string(), "PULS01/DAT");
+        assert!(e.is_system() && e.is_invisible());
+        assert_eq!(e.level(), 5);
+        assert!(e.keeps_space() && e.may_not_grow() && e.was_worked_on());
+        // 9 October 1983: day 9, byte 02 is 3AH.
+        assert_eq!(e.date(), Date::new(1983, 10, 9));
+        assert_eq!(e.record_length(), 80);
+        assert_eq!((e.main_code(), e.worker_code()), (0x4296, 0x1234));
+        assert_eq!(e.size(), 257);
+        assert_eq!(e.granules(), 4);
+    }
+
+    #[test]
+    fn sizes() {
+        for (size, sectors, end) in [(0, 0, 0), (255, 1, 255), (256, 1, 0), (257, 2, 1)] {
+            let mut bytes = [0; 32];
+            bytes[0x03] = end;
+            bytes[0x14] = sectors;
+            assert_eq!(entry(bytes).size(), size);
+        }
+        assert_eq!(entry([0; 32]).record_length(), 256);
+        assert_eq!(entry([0; 32]).date().to_string(), "1980-00-00");
+        assert!(!entry([0; 32]).is_system());
+    }
+}

@@ -1,0 +1,44 @@
+//! Genie-DOS disks (TRSDOS family, 1983) for Rust programs: a safe wrapper over the proved library `libgenie.a`.
+//!
+//! A [`Disk`] is the bytes of an image together with its [`Geometry`]. Each call answers as the library does: done, or
+//! refused with a [`Refusal`], and a refused call has changed nothing. Any bytes and any numbers may be given; the
+//! library tests them in each call.
+//!
+//! The listing of a disk of 16 blocks of 2 units with two files:
+//!
+//! ```
+//! use genie_dos::{Date, Disk, Geometry, Kind, NewFile, Password};
+//!
+//! let geometry = Geometry::new(16, 2, 80, 0x4296);
+//! let mut disk = Disk::blank(geometry, 10, &[0])?;
+//! let new = NewFile::open(geometry, Date::new(1983, 10, 9));
+//!
+//! // 257 bytes: a record of 256, then one of 1 byte through a second handle.
+//! let name = "PULS01/DAT".parse().unwrap();
+//! let mut handle = disk.create(&name, &new)?.handle;
+//! disk.write_record(&mut handle, Kind::Sequential, &[0x55; 256])?;
+//! let mut rest = disk.open(&name, 1, Password::Unchecked)?;
+//! rest.set_position(handle.position());
+//! disk.write_record(&mut rest, Kind::Sequential, &[0x55])?;
+//!
+//! disk.create(&"LEER".parse().unwrap(), &new)?;
+//! assert_eq!(disk.listing()?, "FILES 2\nPULS01/DAT 257 1\nLEER 0 0\nFREE 28\n");
+//! # Ok::<(), genie_dos::Refusal>(())
+//! ```
+
+#![warn(missing_docs)]
+
+mod disk;
+mod entry;
+mod geometry;
+mod handle;
+mod name;
+mod refusal;
+mod sys;
+
+pub use disk::{Counts, Created, Disk, Kind, Listed, LookUp, NewFile, Password};
+pub use entry::{Date, Entry, Run};
+pub use geometry::Geometry;
+pub use handle::Handle;
+pub use name::{BadName, Name};
+pub use refusal::Refusal;

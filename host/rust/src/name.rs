@@ -1,0 +1,166 @@
+use std::fmt;
+use std::str::FromStr;
+
+/// A file's name and type: 11 bytes, 8 for the name and 3 for the type, each padded right with blanks.
+///
+/// People type `PULS01/DAT`, or `LEER` for a file without a type. Allowed are the digits, the capital letters and
+/// `[`, `\`, `]`. Small letters are not taken for capital ones: that is for the program that talks to people.
+///
+/// ```
+/// use genie_dos::Name;
+///
+/// let name: Name = "PULS01/DAT".parse()?;
+/// assert_eq!(name.as_bytes(), b"PULS01  DAT");
+/// assert_eq!(name.to_string(), "PULS01/DAT");
+///
+/// assert_eq!("LEER".parse::<Name>()?.as_bytes(), b"LEER       ");
+/// assert!("puls01/dat".parse::<Name>().is_err());
+/// # Ok::<(), genie_dos::BadName>(())
+/// ```
+#[derive(Clone, Copy, PartialEq, Eq, PartialOrd, Ord, Hash)]
+pub struct Name([u8; Name::LEN]);
+
+/// What is wrong with a name as typed.
+#[derive(Clone, Copy, Debug, PartialEq, Eq)]
+pub enum BadName {
+    /// Nothing stands before the slash.
+    Empty,
+    /// More than 8 characters before the slash.
+    NameTooLong,
+    /// More than 3 characters behind the slash.
+    TypeTooLong,
+    /// A character that names cannot have.
+    Character(char),
+}
+
+impl Name {
+    /// Bytes of a name, its type included.
+    pub const LEN: usize = 11;
+    /// Bytes of the name without its type.
+    const BODY: usize = 8;
+
+    /// Any 11 bytes. The library answers [`Refusal::Name`](crate::Refusal::Name) to those that are no name.
+    pub const fn from_bytes(bytes: [u8; Name::LEN]) -> Name {
+        Name(bytes)
+    }
+
+    /// The 11 bytes, blanks included.
+    pub fn as_bytes(&self) -> &[u8; Name::LEN] {
+        &self.0
+    }
+}
+
+fn allowed(c: char) -> bool {
+    matches!(c, '0'..='9' | 'A'..=']')
+}
+
+/// Puts a part's characters at the start of its place; the rest of the place stays blank.
+fn fill(place: &mut [u8], part: &str, too_long: BadName) -> Result<(), BadName> {
+    if let Some(c) = part.chars().find(|&c| !allowed(c)) {
+        return Err(BadName::Character(c));
+    }
+    // What is allowed is ASCII, so bytes are characters from here on.
+    place
+        .get_mut(..part.len())
+        .ok_or(too_long)?
+        .copy_from_slice(part.as_bytes());
+    Ok(())
+}
+
+impl FromStr for Name {
+    type Err = BadName;
+
+    fn from_str(typed: &str) -> Result<Name, BadName> {
+        let (body, kind) = typed.split_once('/').unwrap_or((typed, ""));
+        let mut bytes = [b' '; Name::LEN];
+        let (body_place, kind_place) = bytes.split_at_mut(Name::BODY);
+        fill(body_place, body, BadName::NameTooLong)?;
+        fill(kind_place, kind, BadName::TypeTooLong)?;
+        if body.is_empty() {
+            return Err(BadName::Empty);
+        }
+        Ok(Name(bytes))
+    }
+}
+
+/// As people type it: the name, then a slash and the type if there is one.
+impl fmt::Display for Name {
+    fn fmt(&self, f: &mut fmt::Formatter<'_>) -> fmt::Result {
+        let (body, kind) = self.0.split_at(Name::BODY);
+        let mut typed = String::from_utf8_lossy(body.trim_ascii_end()).into_owned();
+        if !kind.trim_ascii_end().is_empty() {
+            typed.push('/');
+            typed.push_str(&String::from_utf8_lossy(kind.trim_ascii_end()));
+        }
+        f.pad(&typed)
+    }
+}
+
+impl fmt::Debug for Name {
+    fn fmt(&self, f: &mut fmt::Formatter<'_>) -> fmt::Result {
+        write!(f, "Name({:?})", String::from_utf8_lossy(&self.0))
+    }
+}
+
+impl fmt::Display for BadName {
+    fn fmt(&self, f: &mut fmt::Formatter<'_>) -> fmt::Result {
+        match self {
+            BadName::Empty => write!(f, "the name is empty"),
+            BadName::NameTooLong => write!(f, "a name has at most 8 characters"),
+            BadName::TypeTooLong => write!(f, "a type has at most 3 characters"),
+            BadName::Character(c) => write!(f, "a name cannot have the character {c:?}"),
+        }
+    }
+}
+
+impl std::error::Error for BadName {}
+
+#[cfg(test)]
+mod tests {
+    use super::*;
+
+    fn bytes(typed: &str) -> Result<[u8; 11], BadName> {
+        typed.parse::<Name>().map(|n| *n.as_bytes())
+    }
+
+    #[test]
+    fn names_as_typed() {
+        assert_eq!(bytes("A"), Ok(*b"A          "));
+        assert_eq!(bytes("A/"), Ok(*b"A          "));
+        assert_eq!(bytes("ABCDEFGH/XYZ"), Ok(*b"ABCDEFGHXYZ"));
+        assert_eq!(bytes("09[\\]/0"), Ok(*b"09[\\]   0  "));
+    }
+
+    #[test]
+    fn bad_names() {
+        assert_eq!(bytes(""), Err(BadName::Empty));
+        assert_eq!(bytes("/DAT"), Err(BadName::Empty));
+        assert_eq!(bytes("ABCDEFGHI"), Err(BadName::NameTooLong));
+        assert_eq!(bytes("A/WXYZ"), Err(BadName::TypeTooLong));
+        assert_eq!(bytes("A B"), Err(BadName::Character(' ')));
+        assert_eq!(bytes("A/B/C"), Err(BadName::Character('/')));
+        assert_eq!(bytes("puls01"), Err(BadName::Character('p')));
+        assert_eq!(bytes("MÜHLE"), Err(BadName::Character('Ü')));
+        assert_eq!(bytes("A^"), Err(BadName::Character('^')));
+        assert_eq!(bytes("A@"), Err(BadName::Character('@')));
+        assert_eq!(bytes("A:"), Err(BadName::Character(':')));
+    }
+
+    #[test]
+    fn back_to_text() {
+        for typed in ["A", "ABCDEFGH/XYZ", "PULS01/DAT", "LEER", "X/1"] {
+            assert_eq!(typed.parse::<Name>().unwrap().to_string(), typed);
+        }
+        assert_eq!(format!("[{:8}]", "AB/C".parse::<Name>().unwrap()), "[AB/C    ]");
+        // Bytes that are no name are shown as they can be.
+        assert_eq!(Name::from_bytes(*b"           ").to_string(), "");
+        assert_eq!(
+            Name::from_bytes([0xff; 11])
+                .to_string()
+                .chars()
+                .filter(|&c| c == '\u{fffd}')
+                .count(),
+            11
+        );
+    }
+}

@@ -1,0 +1,144 @@
+use std::fmt;
+
+/// Why the library refused a call. A refused call has changed nothing.
+///
+/// Where several reasons apply the library gives the first in the order of test, which is the order of [`Refusal::ALL`].
+///
+/// ```
+/// use genie_dos::Refusal;
+///
+/// assert_eq!(Refusal::Password.number(), 5);
+/// assert_eq!(Refusal::from_number(5), Some(Refusal::Password));
+/// assert_eq!(Refusal::from_number(0), None); // 0 is "accepted"
+/// assert_eq!(Refusal::Password.to_string(), "5 (wrong password code)");
+/// ```
+#[derive(Clone, Copy, Debug, PartialEq, Eq, Hash)]
+#[non_exhaustive]
+pub enum Refusal {
+    /// 1: the geometry or the image's length is not allowed.
+    Geometry,
+    /// 2: the disk is not consistent.
+    Inconsistent,
+    /// 12: a position, length, level, date or sector out of range, or a buffer shorter than the record.
+    Range,
+    /// 3: the name is not well formed (calls by name).
+    Name,
+    /// 7: the handle is stale: its slot does not hold a file of its name.
+    Stale,
+    /// 4: there is no file of this name.
+    NotFound,
+    /// 5: wrong password code.
+    Password,
+    /// 6: the handle's level does not allow it, or it would change a system file.
+    Access,
+    /// 10: a read past the file's size.
+    PastEnd,
+    /// 11: the file may not grow (E) and owns too few granules.
+    NoGrowth,
+    /// 9: more granules needed than are free.
+    NoSpace,
+    /// 8: too few directory slots free.
+    NoSlot,
+    /// A number that this crate does not know: the library is newer.
+    Other(u8),
+}
+
+impl Refusal {
+    /// The numbers that the library gives today, in the order in which it tests.
+    pub const ALL: [Refusal; 12] = [
+        Refusal::Geometry,
+        Refusal::Inconsistent,
+        Refusal::Range,
+        Refusal::Name,
+        Refusal::Stale,
+        Refusal::NotFound,
+        Refusal::Password,
+        Refusal::Access,
+        Refusal::PastEnd,
+        Refusal::NoGrowth,
+        Refusal::NoSpace,
+        Refusal::NoSlot,
+    ];
+
+    /// The refusal number.
+    pub fn number(self) -> u8 {
+        match self {
+            Refusal::Geometry => 1,
+            Refusal::Inconsistent => 2,
+            Refusal::Name => 3,
+            Refusal::NotFound => 4,
+            Refusal::Password => 5,
+            Refusal::Access => 6,
+            Refusal::Stale => 7,
+            Refusal::NoSlot => 8,
+            Refusal::NoSpace => 9,
+            Refusal::PastEnd => 10,
+            Refusal::NoGrowth => 11,
+            Refusal::Range => 12,
+            Refusal::Other(number) => number,
+        }
+    }
+
+    /// The refusal of a number; none for 0, which stands for "accepted".
+    pub fn from_number(number: u8) -> Option<Refusal> {
+        if number == 0 {
+            return None;
+        }
+        let known = Refusal::ALL.into_iter().find(|r| r.number() == number);
+        Some(known.unwrap_or(Refusal::Other(number)))
+    }
+
+    /// What the number means, in a few words.
+    pub fn meaning(self) -> &'static str {
+        match self {
+            Refusal::Geometry => "geometry or image length not allowed",
+            Refusal::Inconsistent => "disk not consistent",
+            Refusal::Name => "name not well formed",
+            Refusal::NotFound => "name not found",
+            Refusal::Password => "wrong password code",
+            Refusal::Access => "access level too low for this, or a system file",
+            Refusal::Stale => "handle stale: its file is gone",
+            Refusal::NoSlot => "too few directory slots free",
+            Refusal::NoSpace => "too few granules free",
+            Refusal::PastEnd => "read past the end of the file",
+            Refusal::NoGrowth => "file may not grow (flag E)",
+            Refusal::Range => "position, length, level, date or sector out of range",
+            Refusal::Other(_) => "refused by a newer library",
+        }
+    }
+}
+
+/// The number and what it means: `5 (wrong password code)`.
+impl fmt::Display for Refusal {
+    fn fmt(&self, f: &mut fmt::Formatter<'_>) -> fmt::Result {
+        write!(f, "{} ({})", self.number(), self.meaning())
+    }
+}
+
+impl std::error::Error for Refusal {}
+
+#[cfg(test)]
+mod tests {
+    use super::*;
+
+    #[test]
+    fn every_number_has_its_refusal_and_its_own_text() {
+        let mut texts = Vec::new();
+        for number in 1..=12 {
+            let refusal = Refusal::from_number(number).unwrap();
+            assert_ne!(refusal, Refusal::Other(number));
+            assert_eq!(refusal.number(), number);
+            assert!(!texts.contains(&refusal.meaning()));
+            texts.push(refusal.meaning());
+        }
+        assert_eq!(Refusal::from_number(0), None);
+        assert_eq!(Refusal::from_number(13), Some(Refusal::Other(13)));
+        assert_eq!(Refusal::Other(13).number(), 13);
+    }
+
+    #[test]
+    fn all_is_in_the_order_of_test() {
+        let numbers: Vec<u8> = Refusal::ALL.iter().map(|r| r.number()).collect();
+        assert_eq!(numbers, [1, 2, 12, 3, 7, 4, 5, 6, 10, 11, 9, 8]);
+    }
+}

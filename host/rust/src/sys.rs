@@ -1,0 +1,168 @@
+//! The exported functions of libgenie.a, as `host/include/genie.h` declares them.
+//!
+//! A slice is a pointer and a length. Every function answers the refusal number, 0 if it accepts. It tests whatever it
+//! is lent: its only demands are those of any C function, that the pointers are not null, that the lent parts are there
+//! for their whole length and do not overlap. References and slices of safe Rust meet them, so each call in
+//! `disk.rs` passes nothing else.
+
+extern "C" {
+    pub fn genie_check(
+        image: *const u8,
+        image_len: usize,
+        blocks: usize,
+        units: usize,
+        start: usize,
+        open_code: u16,
+    ) -> u8;
+
+    pub fn genie_look_up(
+        image: *const u8,
+        image_len: usize,
+        blocks: usize,
+        units: usize,
+        start: usize,
+        open_code: u16,
+        name: *const u8,
+        name_len: usize,
+        slot: *mut usize,
+        compared: *mut usize,
+    ) -> u8;
+
+    pub fn genie_open(
+        image: *const u8,
+        image_len: usize,
+        blocks: usize,
+        units: usize,
+        start: usize,
+        open_code: u16,
+        name: *const u8,
+        name_len: usize,
+        length: usize,
+        checking: bool,
+        code: u16,
+        handle: *mut u8,
+        handle_len: usize,
+    ) -> u8;
+
+    pub fn genie_create(
+        image: *mut u8,
+        image_len: usize,
+        blocks: usize,
+        units: usize,
+        start: usize,
+        open_code: u16,
+        name: *const u8,
+        name_len: usize,
+        day: usize,
+        month: usize,
+        year: usize,
+        length: usize,
+        main_code: u16,
+        worker_code: u16,
+        checking: bool,
+        old: *mut usize,
+        handle: *mut u8,
+        handle_len: usize,
+    ) -> u8;
+
+    pub fn genie_read_record(
+        image: *const u8,
+        image_len: usize,
+        blocks: usize,
+        units: usize,
+        start: usize,
+        open_code: u16,
+        handle: *mut u8,
+        handle_len: usize,
+        buffer: *mut u8,
+        buffer_len: usize,
+    ) -> u8;
+
+    pub fn genie_read_sector(
+        image: *const u8,
+        image_len: usize,
+        blocks: usize,
+        units: usize,
+        start: usize,
+        open_code: u16,
+        handle: *const u8,
+        handle_len: usize,
+        k: usize,
+        from: *mut usize,
+        to: *mut usize,
+    ) -> u8;
+
+    pub fn genie_write_record(
+        image: *mut u8,
+        image_len: usize,
+        blocks: usize,
+        units: usize,
+        start: usize,
+        open_code: u16,
+        handle: *mut u8,
+        handle_len: usize,
+        sequential: bool,
+        buffer: *const u8,
+        buffer_len: usize,
+    ) -> u8;
+
+    pub fn genie_allot(
+        image: *mut u8,
+        image_len: usize,
+        blocks: usize,
+        units: usize,
+        start: usize,
+        open_code: u16,
+        handle: *const u8,
+        handle_len: usize,
+        k: usize,
+    ) -> u8;
+
+    pub fn genie_trim(
+        image: *mut u8,
+        image_len: usize,
+        blocks: usize,
+        units: usize,
+        start: usize,
+        open_code: u16,
+        handle: *const u8,
+        handle_len: usize,
+    ) -> u8;
+
+    pub fn genie_kill(
+        image: *mut u8,
+        image_len: usize,
+        blocks: usize,
+        units: usize,
+        start: usize,
+        open_code: u16,
+        handle: *const u8,
+        handle_len: usize,
+    ) -> u8;
+
+    pub fn genie_list(
+        image: *const u8,
+        image_len: usize,
+        blocks: usize,
+        units: usize,
+        start: usize,
+        open_code: u16,
+        number: usize,
+        name: *mut u8,
+        name_len: usize,
+        size: *mut usize,
+        granules: *mut usize,
+        more: *mut usize,
+    ) -> u8;
+
+    pub fn genie_count(
+        image: *const u8,
+        image_len: usize,
+        blocks: usize,
+        units: usize,
+        start: usize,
+        open_code: u16,
+        files: *mut usize,
+        free: *mut usize,
+    ) -> u8;
+}
