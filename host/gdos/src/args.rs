@@ -103,19 +103,14 @@ impl Args {
 
     /// The option's value as given.
     pub fn value(&self, long: &str) -> Option<&OsStr> {
-        self.options
-            .iter()
-            .find(|(name, _)| *name == long)
-            .map(|(_, value)| value.as_os_str())
+        self.options.iter().find(|(name, _)| *name == long).map(|(_, value)| value.as_os_str())
     }
 
     /// The option's value as a number: 1440, 5A0H or 0x5A0.
     pub fn number(&self, long: &str) -> Result<Option<usize>, String> {
         let Some(value) = self.value(long) else { return Ok(None) };
         let number = value.to_str().and_then(number);
-        number
-            .map(Some)
-            .ok_or_else(|| format!("--{long} wants a number, as 1440 or 5A0H, not {value:?}"))
+        number.map(Some).ok_or_else(|| format!("--{long} wants a number, as 1440 or 5A0H, not {value:?}"))
     }
 
     /// The option's value as a password code: a number of 16 bits.
@@ -123,9 +118,7 @@ impl Args {
         let Some(number) = self.number(long)? else {
             return Ok(None);
         };
-        u16::try_from(number)
-            .map(Some)
-            .map_err(|_| format!("--{long} wants a code of 16 bits, at most FFFFH"))
+        u16::try_from(number).map(Some).map_err(|_| format!("--{long} wants a code of 16 bits, at most FFFFH"))
     }
 }
 
@@ -149,24 +142,9 @@ mod tests {
     use super::*;
 
     const SPECS: [Spec; 3] = [
-        Spec {
-            long: "force",
-            short: Some(b'f'),
-            value: None,
-            help: "",
-        },
-        Spec {
-            long: "all",
-            short: Some(b'a'),
-            value: None,
-            help: "",
-        },
-        Spec {
-            long: "output",
-            short: Some(b'o'),
-            value: Some("DIR"),
-            help: "",
-        },
+        Spec { long: "force", short: Some(b'f'), value: None, help: "" },
+        Spec { long: "all", short: Some(b'a'), value: None, help: "" },
+        Spec { long: "output", short: Some(b'o'), value: Some("DIR"), help: "" },
     ];
 
     fn parse(words: &[&str]) -> Result<Args, String> {
@@ -225,18 +203,7 @@ mod tests {
         assert_eq!(number("5a0h"), Some(1440));
         assert_eq!(number("0x5A0"), Some(1440));
         assert_eq!(number("10H"), Some(16));
-        for wrong in [
-            "",
-            "H",
-            "0x",
-            "-1",
-            "+1",
-            "+1H",
-            "5A0",
-            "1 ",
-            "1.0",
-            "99999999999999999999",
-        ] {
+        for wrong in ["", "H", "0x", "-1", "+1", "+1H", "5A0", "1 ", "1.0", "99999999999999999999"] {
             assert_eq!(number(wrong), None, "{wrong}");
         }
     }

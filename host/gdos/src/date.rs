@@ -5,12 +5,10 @@ use std::time::{SystemTime, UNIX_EPOCH};
 
 /// `1983-10-09`. Whether the directory can hold it is for the library to say, but it counts years from 1980.
 pub fn parse(typed: &str) -> Option<Date> {
-    let mut parts = typed
-        .split('-')
-        .map(|part| match part.bytes().all(|b| b.is_ascii_digit()) {
-            true => part.parse().ok(),
-            false => None,
-        });
+    let mut parts = typed.split('-').map(|part| match part.bytes().all(|b| b.is_ascii_digit()) {
+        true => part.parse().ok(),
+        false => None,
+    });
     let date = Date::new(parts.next()??, parts.next()??, parts.next()??);
     (parts.next().is_none() && date.year >= Date::FIRST_YEAR).then_some(date)
 }
@@ -47,11 +45,7 @@ fn leap(year: usize) -> usize {
 pub fn clamped(date: Date) -> Date {
     let year = date.year.clamp(Date::FIRST_YEAR, Date::LAST_YEAR);
     let no_such_day = date.month == 2 && date.day == 29 && leap(year) == 0;
-    Date {
-        year,
-        day: date.day - usize::from(no_such_day),
-        ..date
-    }
+    Date { year, day: date.day - usize::from(no_such_day), ..date }
 }
 
 #[cfg(test)]
@@ -62,17 +56,9 @@ mod tests {
     fn typed_dates() {
         assert_eq!(parse("1983-10-09"), Some(Date::new(1983, 10, 9)));
         assert_eq!(parse("1996-13-32"), Some(Date::new(1996, 13, 32)));
-        for wrong in [
-            "",
-            "1983",
-            "1983-10",
-            "1983-10-09-1",
-            "1979-12-31",
-            "1983-+1-09",
-            "09.10.1983",
-            "1983--9",
-            "x-1-1",
-        ] {
+        for wrong in
+            ["", "1983", "1983-10", "1983-10-09-1", "1979-12-31", "1983-+1-09", "09.10.1983", "1983--9", "x-1-1"]
+        {
             assert_eq!(parse(wrong), None, "{wrong}");
         }
     }

@@ -10,12 +10,7 @@ use std::path::Path;
 #[derive(Debug)]
 pub enum Failure {
     /// The library refused. Exit status 1.
-    Refused {
-        refusal: Refusal,
-        image: String,
-        file: Option<String>,
-        detail: Option<String>,
-    },
+    Refused { refusal: Refusal, image: String, file: Option<String>, detail: Option<String> },
     /// Wrong usage, or the host's files are not as they should be. Exit status 2.
     Wrong(String),
 }
@@ -23,12 +18,7 @@ pub enum Failure {
 impl Failure {
     /// The image as a whole was refused.
     pub fn image(image: &str) -> impl Fn(Refusal) -> Failure + '_ {
-        move |refusal| Failure::Refused {
-            refusal,
-            image: image.to_string(),
-            file: None,
-            detail: None,
-        }
+        move |refusal| Failure::Refused { refusal, image: image.to_string(), file: None, detail: None }
     }
 
     /// A call on a file of the image was refused.
@@ -49,14 +39,9 @@ impl Failure {
     /// Adds what the number alone does not tell.
     pub fn because(self, why: impl fmt::Display) -> Failure {
         match self {
-            Failure::Refused {
-                refusal, image, file, ..
-            } => Failure::Refused {
-                refusal,
-                image,
-                file,
-                detail: Some(why.to_string()),
-            },
+            Failure::Refused { refusal, image, file, .. } => {
+                Failure::Refused { refusal, image, file, detail: Some(why.to_string()) }
+            }
             wrong => wrong,
         }
     }
@@ -72,12 +57,7 @@ impl Failure {
     /// For `--json`.
     pub fn json(&self) -> Json {
         match self {
-            Failure::Refused {
-                refusal,
-                image,
-                file,
-                detail,
-            } => Json::object([(
+            Failure::Refused { refusal, image, file, detail } => Json::object([(
                 "refused",
                 Json::object([
                     ("number", refusal.number().into()),
@@ -102,12 +82,7 @@ impl From<String> for Failure {
 impl fmt::Display for Failure {
     fn fmt(&self, f: &mut fmt::Formatter<'_>) -> fmt::Result {
         match self {
-            Failure::Refused {
-                refusal,
-                image,
-                file,
-                detail,
-            } => {
+            Failure::Refused { refusal, image, file, detail } => {
                 write!(f, "refused: {refusal}: ")?;
                 if let Some(file) = file {
                     write!(f, "{file} on ")?;
@@ -127,16 +102,10 @@ mod tests {
     #[test]
     fn messages_tell_number_meaning_and_file() {
         let refused = Failure::file("disk.img", "PULS01/DAT")(Refusal::Password);
-        assert_eq!(
-            refused.to_string(),
-            "refused: 5 (wrong password code): PULS01/DAT on disk.img"
-        );
+        assert_eq!(refused.to_string(), "refused: 5 (wrong password code): PULS01/DAT on disk.img");
         assert_eq!(refused.status(), 1);
         let refused = Failure::image("disk.img")(Refusal::Inconsistent).because("and why");
-        assert_eq!(
-            refused.to_string(),
-            "refused: 2 (disk not consistent): disk.img: and why"
-        );
+        assert_eq!(refused.to_string(), "refused: 2 (disk not consistent): disk.img: and why");
         assert_eq!(
             refused.json().to_string(),
             r#"{"refused":{"number":2,"meaning":"disk not consistent","image":"disk.img","file":null,"detail":"and why"}}"#

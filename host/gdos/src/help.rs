@@ -31,8 +31,8 @@ Exit status
   0  done
   1  refused by the disk's rules; the message has the number, what it means and the file
   2  wrong usage, or a file of the host that cannot be read or written
-  Unless the status is 0 no image was changed. An image is never left half written: a change is made to a copy
-  beside it, which is then put in its place.
+  Where a command was refused or failed no image was changed. An image is never left half written: a change is
+  made to a copy beside it, which is then put in its place.
 ";
 
 /// `gdos --help`.
@@ -51,17 +51,15 @@ pub fn version() -> String {
 
 /// `gdos COMMAND --help`.
 pub fn on(command: &Command) -> String {
-    let mut text = format!(
-        "gdos {}: {}\n\nUsage: gdos {} {}\n",
-        command.name, command.summary, command.name, command.usage
-    );
+    let mut text =
+        format!("gdos {}: {}\n\nUsage: gdos {} {}\n", command.name, command.summary, command.name, command.usage);
     text += &format!("\n{}", command.about);
     for (title, specs) in command.groups {
         text += &format!("\n{title}\n");
         for spec in *specs {
             text += &option(spec);
         }
-        if std::ptr::eq(*specs, shape::OPTIONS) {
+        if *title == shape::TITLE {
             text += &format!("\n{}", presets());
         }
     }
@@ -73,9 +71,7 @@ pub fn on(command: &Command) -> String {
 }
 
 fn option(spec: &Spec) -> String {
-    let short = spec
-        .short
-        .map_or("    ".to_string(), |letter| format!("-{}, ", letter as char));
+    let short = spec.short.map_or("    ".to_string(), |letter| format!("-{}, ", letter as char));
     let value = spec.value.map_or(String::new(), |value| format!(" {value}"));
     format!("  {:<26}{}\n", format!("{short}--{}{value}", spec.long), spec.help)
 }

@@ -39,37 +39,23 @@ impl Locked {
         // A link stays a link: what it leads to is replaced.
         let real = path.canonicalize().map_err(Failure::io("open", path))?;
         loop {
-            let file = OpenOptions::new()
-                .read(true)
-                .write(true)
-                .open(&real)
-                .map_err(Failure::io("write to", path))?;
+            let file = OpenOptions::new().read(true).write(true).open(&real).map_err(Failure::io("write to", path))?;
             match file.lock() {
                 Err(e) if e.kind() != ErrorKind::Unsupported => return Err(Failure::io("lock", path)(e)),
                 _ => {}
             }
             let held = file.metadata().map_err(Failure::io("open", path))?;
             if !held.is_file() {
-                return Err(Failure::Wrong(format!(
-                    "cannot write to {}: not a regular file",
-                    path.display()
-                )));
+                return Err(Failure::Wrong(format!("cannot write to {}: not a regular file", path.display())));
             }
             if held.permissions().readonly() {
-                return Err(Failure::Wrong(format!(
-                    "cannot write to {}: it is write-protected",
-                    path.display()
-                )));
+                return Err(Failure::Wrong(format!("cannot write to {}: it is write-protected", path.display())));
             }
             // Whoever held the lock before may have put another file in its place.
             let there = fs::metadata(&real).map_err(Failure::io("open", path))?;
             if (held.dev(), held.ino()) == (there.dev(), there.ino()) {
                 let bytes = read_whole(&file).map_err(Failure::io("read", path))?;
-                return Ok(Locked {
-                    path: real,
-                    file,
-                    bytes,
-                });
+                return Ok(Locked { path: real, file, bytes });
             }
         }
     }
@@ -107,10 +93,7 @@ impl Locked {
 pub fn write_new(path: &Path, bytes: &[u8], force: bool) -> Result<(), Failure> {
     let there = fs::metadata(path).ok().filter(|_| force);
     if there.as_ref().is_some_and(|there| there.permissions().readonly()) {
-        return Err(Failure::Wrong(format!(
-            "cannot write {}: it is write-protected",
-            path.display()
-        )));
+        return Err(Failure::Wrong(format!("cannot write {}: it is write-protected", path.display())));
     }
     let write = || {
         let real = match &there {
@@ -120,8 +103,7 @@ pub fn write_new(path: &Path, bytes: &[u8], force: bool) -> Result<(), Failure> 
         let copy = Copy::beside(&real, 0o666)?;
         copy.fill(bytes)?;
         if let Some(there) = &there {
-            copy.file
-                .set_permissions(Permissions::from_mode(there.mode() & 0o7777))?;
+            copy.file.set_permissions(Permissions::from_mode(there.mode() & 0o7777))?;
         }
         copy.file.sync_all()?;
         match force {
@@ -147,9 +129,7 @@ struct Copy {
 impl Copy {
     /// A new empty file in the same folder.
     fn beside(path: &Path, mode: u32) -> io::Result<Copy> {
-        let name = path
-            .file_name()
-            .ok_or_else(|| io::Error::new(ErrorKind::InvalidInput, "not a file's name"))?;
+        let name = path.file_name().ok_or_else(|| io::Error::new(ErrorKind::InvalidInput, "not a file's name"))?;
         let mut number = 0;
         loop {
             let mut temporary = OsString::from(".");
@@ -157,13 +137,7 @@ impl Copy {
             temporary.push(format!(".gdos-{}-{number}.tmp", std::process::id()));
             let path = path.with_file_name(temporary);
             match OpenOptions::new().write(true).create_new(true).mode(mode).open(&path) {
-                Ok(file) => {
-                    return Ok(Copy {
-                        path,
-                        file,
-                        moved: false.into(),
-                    })
-                }
+                Ok(file) => return Ok(Copy { path, file, moved: false.into() }),
                 Err(e) if e.kind() == ErrorKind::AlreadyExists && number < 1000 => number += 1,
                 Err(e) => return Err(e),
             }
@@ -212,9 +186,6 @@ fn sync_folder_of(path: &Path) -> io::Result<()> {
     let Ok(folder) = File::open(folder) else { return Ok(()) };
     folder.sync_all().or_else(|e| match e.kind() {
         ErrorKind::Unsupported | ErrorKind::InvalidInput => Ok(()),
-        kind => Err(io::Error::new(
-            kind,
-            format!("it is in its place, but its folder could not be synced: {e}"),
-        )),
+        kind => Err(io::Error::new(kind, format!("it is in its place, but its folder could not be synced: {e}"))),
     })
 }

@@ -127,18 +127,12 @@ mod tests {
             ("d", Some(65535u16).into()),
             ("e", None::<&str>.into()),
         ]);
-        assert_eq!(
-            value.to_string(),
-            r#"{"a":null,"b":[true,7,[]],"c":{},"d":65535,"e":null}"#
-        );
+        assert_eq!(value.to_string(), r#"{"a":null,"b":[true,7,[]],"c":{},"d":65535,"e":null}"#);
     }
 
     #[test]
     fn escapes() {
         let odd = "q\" b\\ n\n r\r t\t z\0 e\x1b d\x7f ü € \u{2028}";
-        assert_eq!(
-            Json::from(odd).to_string(),
-            r#""q\" b\\ n\n r\r t\t z\u0000 e\u001b d\u007f ü € \u2028""#
-        );
+        assert_eq!(Json::from(odd).to_string(), r#""q\" b\\ n\n r\r t\t z\u0000 e\u001b d\u007f ü € \u2028""#);
     }
 }

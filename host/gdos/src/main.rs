@@ -34,9 +34,7 @@ fn run(mut words: impl Iterator<Item = OsString>) -> u8 {
         _ => {}
     }
     let Some(command) = commands::find(&first) else {
-        complain(&format!(
-            "gdos: there is no command {first:?}; `gdos --help` lists them"
-        ));
+        complain(&format!("gdos: there is no command {first:?}; `gdos --help` lists them"));
         return 2;
     };
     match Args::parse(&command.options(), words) {
@@ -44,10 +42,7 @@ fn run(mut words: impl Iterator<Item = OsString>) -> u8 {
         Ok(Asked::Help) => print(help::on(command).as_bytes()),
         Ok(Asked::Version) => print(help::version().as_bytes()),
         Err(wrong) => {
-            complain(&format!(
-                "gdos {}: {wrong}; `gdos {} --help` tells more",
-                command.name, command.name
-            ));
+            complain(&format!("gdos {}: {wrong}; `gdos {} --help` tells more", command.name, command.name));
             2
         }
     }
@@ -80,17 +75,15 @@ fn perform(command: &Command, args: &Args) -> u8 {
     for failure in &output.failures {
         complain(&format!("gdos: {failure}"));
     }
+    let status = output.failures.iter().map(Failure::status).max().unwrap_or(0);
     let printed = match json {
         true => print(format!("{}\n", output.json).as_bytes()),
         false => print(&output.text),
     };
-    output
-        .failures
-        .iter()
-        .map(Failure::status)
-        .chain([printed])
-        .max()
-        .unwrap_or(0)
+    if printed != 0 && status == 0 {
+        complain("gdos: apart from its report the command was carried out");
+    }
+    status.max(printed)
 }
 
 /// Writes to standard output. Whoever reads it may stop reading: that is no fault.

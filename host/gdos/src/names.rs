@@ -37,11 +37,7 @@ impl Typed {
 
 impl From<Name> for Typed {
     fn from(name: Name) -> Typed {
-        Typed {
-            text: name.to_string(),
-            name,
-            wrong: None,
-        }
+        Typed { text: name.to_string(), name, wrong: None }
     }
 }
 
@@ -97,34 +93,14 @@ mod tests {
 
     #[test]
     fn patterns() {
-        for pattern in [
-            "*",
-            "PULS01/DAT",
-            "puls01/dat",
-            "PULS*",
-            "*/DAT",
-            "PULS??/DAT",
-            "P*1*T",
-            "***",
-            "*/*",
-            "?*",
-            "*01/D?T",
-        ] {
+        for pattern in
+            ["*", "PULS01/DAT", "puls01/dat", "PULS*", "*/DAT", "PULS??/DAT", "P*1*T", "***", "*/*", "?*", "*01/D?T"]
+        {
             assert!(fits(pattern, "PULS01/DAT"), "{pattern}");
         }
-        for pattern in [
-            "",
-            "?",
-            "PULS",
-            "PULS01",
-            "*/BAS",
-            "PULS?/DAT",
-            "PULS01?DAT",
-            "*1",
-            "PULS01/DAT?",
-            "X*",
-            "PULS01/",
-        ] {
+        for pattern in
+            ["", "?", "PULS", "PULS01", "*/BAS", "PULS?/DAT", "PULS01?DAT", "*1", "PULS01/DAT?", "X*", "PULS01/"]
+        {
             assert!(!fits(pattern, "PULS01/DAT"), "{pattern}");
         }
         assert!(fits("*", "LEER") && fits("L??R", "LEER") && !fits("*/*", "LEER") && !fits("LEER?", "LEER"));

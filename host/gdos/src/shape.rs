@@ -8,6 +8,9 @@ use genie_dos::{Counts, Disk, Geometry, Refusal};
 /// The code of "no password" where none is stated: the TRSDOS family's code of a blank password.
 pub const OPEN_CODE: u16 = 0x4296;
 
+/// What the help calls these options.
+pub const TITLE: &str = "Geometry";
+
 /// Options that state the geometry.
 pub const OPTIONS: &[Spec] = &[
     Spec {
@@ -16,24 +19,9 @@ pub const OPTIONS: &[Spec] = &[
         value: Some("NAME"),
         help: "blocks, units and start of a known kind of disk (below)",
     },
-    Spec {
-        long: "blocks",
-        short: None,
-        value: Some("N"),
-        help: "blocks of the disk, 1 to 192",
-    },
-    Spec {
-        long: "units",
-        short: None,
-        value: Some("N"),
-        help: "units (granules) in a block, 1 to 8",
-    },
-    Spec {
-        long: "start",
-        short: None,
-        value: Some("SECTOR"),
-        help: "the directory's first sector, a multiple of 5",
-    },
+    Spec { long: "blocks", short: None, value: Some("N"), help: "blocks of the disk, 1 to 192" },
+    Spec { long: "units", short: None, value: Some("N"), help: "units (granules) in a block, 1 to 8" },
+    Spec { long: "start", short: None, value: Some("SECTOR"), help: "the directory's first sector, a multiple of 5" },
     Spec {
         long: "open-code",
         short: None,
@@ -50,11 +38,7 @@ pub struct Preset {
 }
 
 const fn preset(name: &'static str, blocks: usize, units: usize, start: usize, about: &'static str) -> Preset {
-    Preset {
-        name,
-        geometry: Geometry::new(blocks, units, start, OPEN_CODE),
-        about,
-    }
+    Preset { name, geometry: Geometry::new(blocks, units, start, OPEN_CODE), about }
 }
 
 /// The system's description gives the units of a block for each density, and the directory's place for 35 tracks (track
@@ -70,22 +54,13 @@ pub const PRESETS: &[Preset] = &[
     preset("dd80", 96, 3, 720, "5 inch, double density, one side, 80 tracks"),
     preset("dd40ds", 48, 6, 720, "5 inch, double density, two sides, 40 tracks"),
     preset("dd80ds", 96, 6, 1440, "5 inch, double density, two sides, 80 tracks"),
-    preset(
-        "largest",
-        192,
-        8,
-        3840,
-        "the largest disk that a directory can organize",
-    ),
+    preset("largest", 192, 8, 3840, "the largest disk that a directory can organize"),
 ];
 
 /// The preset that a geometry is of.
 pub fn preset_of(geometry: Geometry) -> Option<&'static str> {
     let same = |g: Geometry| (g.blocks, g.units, g.start) == (geometry.blocks, geometry.units, geometry.start);
-    PRESETS
-        .iter()
-        .find(|preset| same(preset.geometry))
-        .map(|preset| preset.name)
+    PRESETS.iter().find(|preset| same(preset.geometry)).map(|preset| preset.name)
 }
 
 /// What the user says of the geometry; what is left open is searched.
@@ -147,11 +122,7 @@ impl Wanted {
     pub fn consistent(&self, image: &[u8]) -> Vec<Fit> {
         let fit = |geometry| {
             let disk = Disk::new(image, geometry);
-            Some(Fit {
-                geometry,
-                counts: disk.count().ok()?,
-                directory_sectors: disk.directory_sectors().ok()?,
-            })
+            Some(Fit { geometry, counts: disk.count().ok()?, directory_sectors: disk.directory_sectors().ok()? })
         };
         self.fitting(image.len()).into_iter().filter_map(fit).collect()
     }
@@ -178,13 +149,13 @@ impl Wanted {
     /// The refusal of an image that no geometry fits: 1 if none has its length, else 2.
     pub fn none_fits(&self, image_len: usize, path: &str) -> Failure {
         let tried = self.fitting(image_len).len();
+        let stated = self.blocks.or(self.units).or(self.start).is_some();
+        let and_options = if stated { " and the options" } else { "" };
         match tried {
-            0 => Failure::image(path)(Refusal::Geometry).because(format!(
-                "no geometry that agrees with the options has {image_len} bytes"
-            )),
-            _ => Failure::image(path)(Refusal::Inconsistent).because(format!(
-                "under none of the {tried} geometries of {image_len} bytes that agree with the options"
-            )),
+            0 => Failure::image(path)(Refusal::Geometry)
+                .because(format!("no geometry fits its length of {image_len} bytes{and_options}")),
+            _ => Failure::image(path)(Refusal::Inconsistent)
+                .because(format!("under none of the {tried} geometries that fit its length{and_options}")),
         }
     }
 }
@@ -199,12 +170,8 @@ fn named(name: &str) -> Result<Geometry, Failure> {
 
 /// The options that state a geometry, and what it would mean.
 fn described(fit: &Fit) -> String {
-    let Geometry {
-        blocks, units, start, ..
-    } = fit.geometry;
-    let preset = preset_of(fit.geometry)
-        .map(|name| format!(", preset {name}"))
-        .unwrap_or_default();
+    let Geometry { blocks, units, start, .. } = fit.geometry;
+    let preset = preset_of(fit.geometry).map(|name| format!(", preset {name}")).unwrap_or_default();
     let Counts { files, free } = fit.counts;
     format!("--blocks {blocks} --units {units} --start {start}  ({files} files, {free} granules free{preset})")
 }
@@ -224,12 +191,7 @@ pub fn json(geometry: Geometry) -> Json {
 mod tests {
     use super::*;
 
-    const ANY: Wanted = Wanted {
-        blocks: None,
-        units: None,
-        start: None,
-        open_code: OPEN_CODE,
-    };
+    const ANY: Wanted = Wanted { blocks: None, units: None, start: None, open_code: OPEN_CODE };
 
     #[test]
     fn every_preset_is_a_disk() {
@@ -250,23 +212,11 @@ mod tests {
         // The largest: 192 blocks of 8 units only.
         let largest = ANY.fitting(1_966_080);
         assert_eq!(largest.len(), 1535);
-        assert_eq!(
-            largest.last().map(|g| (g.blocks, g.units, g.start)),
-            Some((192, 8, 7670))
-        );
+        assert_eq!(largest.last().map(|g| (g.blocks, g.units, g.start)), Some((192, 8, 7670)));
         for none in [0, 1, 256, 1280, 2559, 1_966_081, 1_966_080 + 1280, 193 * 7 * 1280] {
             assert!(ANY.fitting(none).is_empty(), "{none}");
         }
-        assert_eq!(
-            Wanted {
-                units: Some(2),
-                start: Some(80),
-                ..ANY
-            }
-            .fitting(40_960)
-            .len(),
-            1
-        );
+        assert_eq!(Wanted { units: Some(2), start: Some(80), ..ANY }.fitting(40_960).len(), 1);
         assert!(Wanted { start: Some(81), ..ANY }.fitting(40_960).is_empty());
     }
 
@@ -279,10 +229,6 @@ mod tests {
         let nothing = [0; 40_960];
         assert_eq!(ANY.find(&nothing, "x").unwrap_err().status(), 1);
         assert!(ANY.find(&nothing, "x").unwrap_err().to_string().contains("refused: 2"));
-        assert!(ANY
-            .find(&nothing[1..], "x")
-            .unwrap_err()
-            .to_string()
-            .contains("refused: 1"));
+        assert!(ANY.find(&nothing[1..], "x").unwrap_err().to_string().contains("refused: 1"));
     }
 }

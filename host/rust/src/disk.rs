@@ -14,7 +14,7 @@ use crate::{sys, Date, Entry, Geometry, Handle, Name, Refusal};
 /// let mut disk = Disk::blank(geometry, 10, &[0])?;
 ///
 /// let name: Name = "PULS01/DAT".parse().unwrap();
-/// let new = NewFile { record_length: 257 / 2, ..NewFile::open(geometry, Date::new(1983, 10, 9)) };
+/// let new = NewFile { record_length: 128, ..NewFile::open(geometry, Date::new(1983, 10, 9)) };
 /// let mut handle = disk.create(&name, &new)?.handle;
 /// disk.write_record(&mut handle, Kind::Sequential, &[7; 128])?;
 /// disk.write_record(&mut handle, Kind::Sequential, &[8; 128])?;
@@ -140,8 +140,8 @@ impl<B> Disk<B> {
 
 impl Disk<Vec<u8>> {
     /// An empty disk: a directory of `directory_sectors` (10, 15, 20, 25 or 30), its granules and the `reserved` ones
-    /// taken, every other byte zero. Refused as the library refuses such a disk; a reserved granule that the disk
-    /// does not have is [`Refusal::Range`].
+    /// taken. Outside the directory every byte is E5H, as formatting leaves it. Refused as the library refuses such a
+    /// disk; a reserved granule that the disk does not have is [`Refusal::Range`].
     ///
     /// ```
     /// use genie_dos::{Disk, Geometry, Refusal};
@@ -155,22 +155,20 @@ impl Disk<Vec<u8>> {
     /// ```
     pub fn blank(geometry: Geometry, directory_sectors: usize, reserved: &[usize]) -> Result<Disk, Refusal> {
         let granules = geometry.granules().ok_or(Refusal::Geometry)?;
-        let mut disk = Disk::new(vec![0; granules * Geometry::GRANULE_BYTES], geometry);
+        let mut disk = Disk::new(vec![0xe5; granules * Geometry::GRANULE_BYTES], geometry);
         if disk.check() == Err(Refusal::Geometry) {
             return Err(Refusal::Geometry);
         }
         // From here on the start is a multiple of 5 with two granules behind it, so GAT and HIT are on the disk.
         let gat = geometry.start * Geometry::SECTOR_BYTES;
         let hit = gat + Geometry::SECTOR_BYTES;
-        let above_ten = directory_sectors
-            .checked_sub(10)
-            .and_then(|above| u8::try_from(above).ok());
-        disk.image[hit + 0x1f] = above_ten.ok_or(Refusal::Inconsistent)?;
+        let above_ten = directory_sectors.checked_sub(10).and_then(|above| u8::try_from(above).ok());
+        let above_ten = above_ten.ok_or(Refusal::Inconsistent)?;
+        let end = gat + directory_sectors * Geometry::SECTOR_BYTES;
+        disk.image.get_mut(gat..end).ok_or(Refusal::Inconsistent)?.fill(0);
+        disk.image[hit + 0x1f] = above_ten;
         let first = geometry.start / Geometry::GRANULE_SECTORS;
         let directory = first..first + directory_sectors / Geometry::GRANULE_SECTORS;
-        if directory.end > granules {
-            return Err(Refusal::Inconsistent);
-        }
         for granule in directory.chain(reserved.iter().copied()) {
             if granule >= granules {
                 return Err(Refusal::Range);
@@ -231,16 +229,25 @@ impl<B: AsRef<[u8]>> Disk<B> {
             )
         };
         // A slot is below 256.
-        LookUp {
-            slot: accepted(number).map(|()| slot as u8),
-            compared,
-        }
+        LookUp { slot: accepted(number).map(|()| slot as u8), compared }
     }
 
     /// Opens a file for records of `length` bytes (1 to 256).
     ///
     /// The level is 0 if checking is off, the file has no password, or the code is its main code; it is the file's own
     /// level if the code is its worker code only; any other code is refused.
+    ///
+    /// ```
+    /// # use genie_dos::*;
+    /// # let mut disk = Disk::blank(Geometry::new(16, 2, 80, 0x4296), 10, &[0])?;
+    /// let name = "EICH01/DAT".parse().unwrap();
+    /// let new = NewFile { main_code: 0x1234, ..NewFile::open(disk.geometry(), Date::new(1983, 10, 9)) };
+    /// disk.create(&name, &new)?;
+    /// assert_eq!(disk.open(&name, 256, Password::Code(0x1234))?.level(), 0);
+    /// assert_eq!(disk.open(&name, 256, Password::Code(0x4321)), Err(Refusal::Password));
+    /// assert!(disk.open(&name, 256, Password::Unchecked).is_ok());
+    /// # Ok::<(), Refusal>(())
+    /// ```
     pub fn open(&self, name: &Name, length: usize, password: Password) -> Result<Handle, Refusal> {
         let (image, g, name) = (self.image.as_ref(), self.geometry, name.as_bytes());
         let (checking, code) = match password {
@@ -272,6 +279,23 @@ impl<B: AsRef<[u8]>> Disk<B> {
 
     /// Reads the record at the handle's position into the buffer's start and advances the position. The rest of the
     /// buffer stays as it is.
+    ///
+    /// ```
+    /// # use genie_dos::*;
+    /// # let mut disk = Disk::blank(Geometry::new(16, 2, 80, 0x4296), 10, &[0])?;
+    /// # let name = "PULS01/DAT".parse().unwrap();
+    /// # let mut handle = disk.create(&name, &NewFile::open(disk.geometry(), Date::new(1983, 10, 9)))?.handle;
+    /// # disk.write_record(&mut handle, Kind::Sequential, &[7; 256])?;
+    /// let mut handle = disk.open(&name, 100, Password::Unchecked)?;
+    /// let mut buffer = [0; 100];
+    /// disk.read_record(&mut handle, &mut buffer)?;
+    /// disk.read_record(&mut handle, &mut buffer)?;
+    /// assert_eq!(handle.position(), 200);
+    /// // The file has 256 bytes: there is no third record.
+    /// assert_eq!(disk.read_record(&mut handle, &mut buffer), Err(Refusal::PastEnd));
+    /// assert_eq!(handle.position(), 200);
+    /// # Ok::<(), Refusal>(())
+    /// ```
     pub fn read_record(&self, handle: &mut Handle, buffer: &mut [u8]) -> Result<(), Refusal> {
         let (image, g, lent) = (self.image.as_ref(), self.geometry, handle.as_mut_bytes());
         // SAFETY: the slices are live references, those written to are exclusive.
@@ -328,6 +352,17 @@ impl<B: AsRef<[u8]>> Disk<B> {
     }
 
     /// The file of a running number, from 0, by rising slot; none past the last. System files are left out.
+    ///
+    /// ```
+    /// # use genie_dos::*;
+    /// # let mut disk = Disk::blank(Geometry::new(16, 2, 80, 0x4296), 10, &[0])?;
+    /// # let name = "LEER".parse().unwrap();
+    /// # disk.create(&name, &NewFile::open(disk.geometry(), Date::new(1983, 10, 9)))?;
+    /// assert_eq!(disk.list(0)?, Some(Listed { name: "LEER".parse().unwrap(), size: 0, granules: 0 }));
+    /// assert_eq!(disk.list(1)?, None);
+    /// assert_eq!(disk.count()?, Counts { files: 1, free: 29 });
+    /// # Ok::<(), Refusal>(())
+    /// ```
     pub fn list(&self, number: usize) -> Result<Option<Listed>, Refusal> {
         let (image, g) = (self.image.as_ref(), self.geometry);
         let mut name = [b' '; Name::LEN];
@@ -349,11 +384,7 @@ impl<B: AsRef<[u8]>> Disk<B> {
                 &mut more,
             )
         })?;
-        Ok((more != 0).then(|| Listed {
-            name: Name::from_bytes(name),
-            size,
-            granules,
-        }))
+        Ok((more != 0).then(|| Listed { name: Name::from_bytes(name), size, granules }))
     }
 
     /// How many files the listing has, and how many granules are free.
@@ -413,6 +444,19 @@ impl<B: AsRef<[u8]>> Disk<B> {
 
     /// The entries of all files, system files included, by rising slot: dates, flags, codes and places, which the
     /// library does not tell. The disk is checked first; the entries are then read by this crate.
+    ///
+    /// ```
+    /// # use genie_dos::*;
+    /// # let mut disk = Disk::blank(Geometry::new(16, 2, 80, 0x4296), 10, &[0])?;
+    /// # let name = "LEER".parse().unwrap();
+    /// # let handle = disk.create(&name, &NewFile::open(disk.geometry(), Date::new(1983, 10, 9)))?.handle;
+    /// # disk.allot(&handle, 5)?;
+    /// for entry in disk.entries()? {
+    ///     println!("{} of {} lies in {:?}", entry.name(), entry.date(), entry.runs());
+    /// }
+    /// # assert_eq!(disk.entries()?[0].runs(), [Run { first: 1, granules: 2 }]);
+    /// # Ok::<(), Refusal>(())
+    /// ```
     pub fn entries(&self) -> Result<Vec<Entry>, Refusal> {
         self.check()?;
         Ok(Directory::new(self.image.as_ref(), self.geometry).entries())
@@ -541,7 +585,8 @@ impl<B: AsMut<[u8]>> Disk<B> {
         })
     }
 
-    /// Gives back the granules that the file's size does not need. A file with the flag F keeps them.
+    /// Gives back the granules that the file's size does not need. A file with the flag F keeps them. See
+    /// [`allot`](Disk::allot) for an example.
     pub fn trim(&mut self, handle: &Handle) -> Result<(), Refusal> {
         let (image, g, lent) = (self.image.as_mut(), self.geometry, handle.as_bytes());
         // SAFETY: the slices are live references, the image's is exclusive.

@@ -108,11 +108,7 @@ impl Entry {
     /// The date given on create.
     pub fn date(&self) -> Date {
         let (year, month) = (self.bytes[0x02] >> 4, self.bytes[0x02] & 0x0f);
-        Date::new(
-            Date::FIRST_YEAR + usize::from(year),
-            usize::from(month),
-            usize::from(self.bytes[0x01] & 0x1f),
-        )
+        Date::new(Date::FIRST_YEAR + usize::from(year), usize::from(month), usize::from(self.bytes[0x01] & 0x1f))
     }
 
     /// The record length given on create, 1 to 256.
@@ -195,16 +191,8 @@ impl<'a> Directory<'a> {
     /// Primary entries in use, by rising slot.
     pub(crate) fn entries(&self) -> Vec<Entry> {
         let primary = |bytes: &[u8; Entry::LEN]| bytes[0x00] & 0x90 == 0x10;
-        let found = self
-            .slots()
-            .filter_map(|slot| Some((slot, self.bytes(slot).filter(primary)?)));
-        found
-            .map(|(slot, bytes)| Entry {
-                slot,
-                bytes,
-                runs: self.runs(bytes),
-            })
-            .collect()
+        let found = self.slots().filter_map(|slot| Some((slot, self.bytes(slot).filter(primary)?)));
+        found.map(|(slot, bytes)| Entry { slot, bytes, runs: self.runs(bytes) }).collect()
     }
 
     /// The runs of an entry and of its extensions. No chain is longer than the number of slots.
@@ -231,11 +219,7 @@ mod tests {
     use super::*;
 
     fn entry(bytes: [u8; 32]) -> Entry {
-        Entry {
-            slot: 0x25,
-            bytes,
-            runs: vec![Run { first: 53, granules: 3 }, Run { first: 2, granules: 1 }],
-        }
+        Entry { slot: 0x25, bytes, runs: vec![Run { first: 53, granules: 3 }, Run { first: 2, granules: 1 }] }
     }
 
     #[test]

@@ -40,12 +40,7 @@ impl Geometry {
 
     /// A geometry of these numbers, in the order in which the library takes them.
     pub const fn new(blocks: usize, units: usize, start: usize, open_code: u16) -> Geometry {
-        Geometry {
-            blocks,
-            units,
-            start,
-            open_code,
-        }
+        Geometry { blocks, units, start, open_code }
     }
 
     /// Granules of such a disk, if blocks and units are in range.

@@ -60,10 +60,7 @@ fn fill(place: &mut [u8], part: &str, too_long: BadName) -> Result<(), BadName> 
         return Err(BadName::Character(c));
     }
     // What is allowed is ASCII, so bytes are characters from here on.
-    place
-        .get_mut(..part.len())
-        .ok_or(too_long)?
-        .copy_from_slice(part.as_bytes());
+    place.get_mut(..part.len()).ok_or(too_long)?.copy_from_slice(part.as_bytes());
     Ok(())
 }
 
@@ -154,13 +151,6 @@ mod tests {
         assert_eq!(format!("[{:8}]", "AB/C".parse::<Name>().unwrap()), "[AB/C    ]");
         // Bytes that are no name are shown as they can be.
         assert_eq!(Name::from_bytes(*b"           ").to_string(), "");
-        assert_eq!(
-            Name::from_bytes([0xff; 11])
-                .to_string()
-                .chars()
-                .filter(|&c| c == '\u{fffd}')
-                .count(),
-            11
-        );
+        assert_eq!(Name::from_bytes([0xff; 11]).to_string().chars().filter(|&c| c == '\u{fffd}').count(), 11);
     }
 }

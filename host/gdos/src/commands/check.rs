@@ -1,6 +1,6 @@
 //! `gdos check`.
 
-use super::{counted, disk_of, json_head, shown, Command, Output, JSON};
+use super::{counted, disk_of, failures_json, json_head, shown, Command, Output, JSON};
 use crate::args::Args;
 use crate::failure::Failure;
 use crate::json::Json;
@@ -16,7 +16,7 @@ Tests the directory, every file's chain and runs, and that no granule belongs to
 may be worked on; one that does not is refused with 1 (length or geometry) or 2 (not consistent). The status is
 that of the worst image.
 ",
-    groups: &[("Options", &[JSON]), ("Geometry", shape::OPTIONS)],
+    groups: &[("Options", &[JSON]), (shape::TITLE, shape::OPTIONS)],
     examples: &["gdos check disk.img", "gdos check --preset dd80ds week1.img week2.img"],
     run,
 };
@@ -33,13 +33,10 @@ fn run(args: &Args) -> Result<Output, Failure> {
                 output.text.extend(line.into_bytes());
                 images.push(json);
             }
-            Err(failure) => {
-                images.push(failure.json());
-                output.failures.push(failure);
-            }
+            Err(failure) => output.failures.push(failure),
         }
     }
-    output.json = Json::object([("images", Json::List(images))]);
+    output.json = Json::object([("images", Json::List(images)), ("failures", failures_json(&output.failures))]);
     Ok(output)
 }
 
@@ -56,10 +53,6 @@ fn check(args: &Args, image: &OsStr) -> Result<(String, Json), Failure> {
         counted(counts.free, "granule"),
     );
     let mut json = json_head(&path, geometry);
-    json.extend([
-        ("consistent", true.into()),
-        ("files", counts.files.into()),
-        ("free", counts.free.into()),
-    ]);
+    json.extend([("consistent", true.into()), ("files", counts.files.into()), ("free", counts.free.into())]);
     Ok((line, Json::Object(json)))
 }

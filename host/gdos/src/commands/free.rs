@@ -14,7 +14,7 @@ pub const COMMAND: Command = Command {
     about: "\
 Tells the free granules and the bytes that fit into them. A file takes whole granules of 1,280 bytes.
 ",
-    groups: &[("Options", &[JSON]), ("Geometry", shape::OPTIONS)],
+    groups: &[("Options", &[JSON]), (shape::TITLE, shape::OPTIONS)],
     examples: &["gdos free disk.img"],
     run,
 };
@@ -27,13 +27,9 @@ fn run(args: &Args) -> Result<Output, Failure> {
     let total = disk.image().len() / Geometry::GRANULE_BYTES;
     let bytes = free * Geometry::GRANULE_BYTES;
     let mut json = json_head(&path, disk.geometry());
-    json.extend([
-        ("free", free.into()),
-        ("free_bytes", bytes.into()),
-        ("granules", total.into()),
-    ]);
+    json.extend([("free", free.into()), ("free_bytes", bytes.into()), ("granules", total.into())]);
     Ok(Output {
-        text: format!("{} of {total} free, {bytes} bytes\n", counted(free, "granule")).into_bytes(),
+        text: format!("{free} of {} free, {bytes} bytes\n", counted(total, "granule")).into_bytes(),
         json: Json::Object(json),
         ..Output::default()
     })

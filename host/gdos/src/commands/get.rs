@@ -1,6 +1,8 @@
 //! `gdos get` and `gdos cat`.
 
-use super::{chosen, counted, disk_of, image_and_files, json_head, open, password, shown, Command, Output};
+use super::{
+    chosen, counted, disk_of, failures_json, image_and_files, json_head, open, password, shown, Command, Output,
+};
 use super::{CODE, FORCE, JSON, UNLOCK};
 use crate::args::{Args, Spec};
 use crate::failure::Failure;
@@ -18,12 +20,7 @@ const OUTPUT: Spec = Spec {
     value: Some("DIR"),
     help: "the folder to write to (the present one); - for standard output",
 };
-const ALL: Spec = Spec {
-    long: "all",
-    short: Some(b'a'),
-    value: None,
-    help: "patterns find system files too",
-};
+const ALL: Spec = Spec { long: "all", short: Some(b'a'), value: None, help: "patterns find system files too" };
 
 pub const COMMAND: Command = Command {
     name: "get",
@@ -35,21 +32,8 @@ of each. A file that is refused or cannot be written does not stop the others; t
 Files of the host are not overwritten unless --force is given, and never left half written.
 ",
     groups: &[
-        (
-            "Options",
-            &[
-                OUTPUT,
-                Spec {
-                    help: "overwrite files of the host",
-                    ..FORCE
-                },
-                ALL,
-                CODE,
-                UNLOCK,
-                JSON,
-            ],
-        ),
-        ("Geometry", shape::OPTIONS),
+        ("Options", &[OUTPUT, Spec { help: "overwrite files of the host", ..FORCE }, ALL, CODE, UNLOCK, JSON]),
+        (shape::TITLE, shape::OPTIONS),
     ],
     examples: &[
         "gdos get disk.img PULS01/DAT",
@@ -67,7 +51,7 @@ pub const CAT: Command = Command {
 Writes the bytes of each named file, one file after the other, and nothing else. A file that is refused is left out
 and told on standard error.
 ",
-    groups: &[("Options", &[CODE, UNLOCK]), ("Geometry", shape::OPTIONS)],
+    groups: &[("Options", &[CODE, UNLOCK]), (shape::TITLE, shape::OPTIONS)],
     examples: &["gdos cat disk.img PULS01/DAT | xxd | less"],
     run: |args| {
         let (image, words) = image_and_files(args)?;
@@ -79,9 +63,7 @@ fn run(args: &Args) -> Result<Output, Failure> {
     let (image, words) = image_and_files(args)?;
     let folder = match args.value("output") {
         Some(folder) if folder == "-" && args.has("json") => {
-            return Err(Failure::Wrong(
-                "-o - writes the files themselves, so --json has no place".to_string(),
-            ));
+            return Err(Failure::Wrong("-o - writes the files themselves, so --json has no place".to_string()));
         }
         Some(folder) if folder == "-" => return to_standard_output(args, image, words),
         Some(folder) => PathBuf::from(folder),
@@ -100,14 +82,11 @@ fn run(args: &Args) -> Result<Output, Failure> {
                 output.text.extend(line.into_bytes());
                 told.push(json);
             }
-            Err(failure) => {
-                told.push(failure.json());
-                output.failures.push(failure);
-            }
+            Err(failure) => output.failures.push(failure),
         }
     }
     let mut json = json_head(&path, disk.geometry());
-    json.push(("files", Json::List(told)));
+    json.extend([("files", Json::List(told)), ("failures", failures_json(&output.failures))]);
     output.json = Json::Object(json);
     Ok(output)
 }
@@ -123,12 +102,7 @@ fn get_one(
     let bytes = contents(disk, path, typed, password)?;
     let host = folder.join(host_name(&typed.name));
     image::write_new(&host, &bytes, force)?;
-    let line = format!(
-        "{} to {}, {}\n",
-        typed.text,
-        host.display(),
-        counted(bytes.len(), "byte")
-    );
+    let line = format!("{} to {}, {}\n", typed.text, host.display(), counted(bytes.len(), "byte"));
     let json = Json::object([
         ("name", typed.text.as_str().into()),
         ("host", host.to_string_lossy().into_owned().into()),

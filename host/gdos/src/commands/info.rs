@@ -1,7 +1,9 @@
 //! `gdos info`.
 
 use super::ls::{attributes, file_json};
-use super::{chosen, counted, disk_of, image_and_rest, json_head, refused, shown, Command, Output, JSON};
+use super::{
+    chosen, counted, disk_of, failures_json, image_and_rest, json_head, refused, shown, Command, Output, JSON,
+};
 use crate::args::Args;
 use crate::failure::Failure;
 use crate::json::Json;
@@ -16,7 +18,7 @@ pub const COMMAND: Command = Command {
 Without names: the disk's geometry, its directory, and how its granules are used. Reserved granules are taken and
 belong to no file. With names or patterns: each file's entry and the granules and sectors it lies in, in its order.
 ",
-    groups: &[("Options", &[JSON]), ("Geometry", shape::OPTIONS)],
+    groups: &[("Options", &[JSON]), (shape::TITLE, shape::OPTIONS)],
     examples: &["gdos info disk.img", "gdos info disk.img PULS01/DAT"],
     run,
 };
@@ -40,14 +42,11 @@ fn run(args: &Args) -> Result<Output, Failure> {
                     told.push(json_of(entry, disk.geometry()));
                 }
             }
-            Err(failure) => {
-                told.push(failure.json());
-                output.failures.push(failure);
-            }
+            Err(failure) => output.failures.push(failure),
         }
     }
     let mut json = json_head(&path, disk.geometry());
-    json.push(("files", Json::List(told)));
+    json.extend([("files", Json::List(told)), ("failures", failures_json(&output.failures))]);
     output.json = Json::Object(json);
     Ok(output)
 }
@@ -96,11 +95,7 @@ fn about_disk(disk: &Disk, path: &str) -> Result<Output, Failure> {
         ("files", counts.files.into()),
         ("system_files", system.into()),
     ]);
-    Ok(Output {
-        text: text.into_bytes(),
-        json: Json::Object(json),
-        ..Output::default()
-    })
+    Ok(Output { text: text.into_bytes(), json: Json::Object(json), ..Output::default() })
 }
 
 fn about_file(entry: &Entry, geometry: Geometry) -> String {

@@ -1,6 +1,8 @@
 //! `gdos ls`.
 
-use super::{chosen, counted, disk_of, image_and_rest, json_head, refused, shown, Command, Output, JSON};
+use super::{
+    chosen, counted, disk_of, failures_json, image_and_rest, json_head, refused, shown, Command, Output, JSON,
+};
 use crate::args::{Args, Spec};
 use crate::failure::Failure;
 use crate::json::Json;
@@ -15,12 +17,7 @@ const LISTING: Spec = Spec {
     value: None,
     help: "the system's listing and nothing else: FILES, name size granules, FREE",
 };
-const ALL: Spec = Spec {
-    long: "all",
-    short: Some(b'a'),
-    value: None,
-    help: "system files too",
-};
+const ALL: Spec = Spec { long: "all", short: Some(b'a'), value: None, help: "system files too" };
 
 pub const COMMAND: Command = Command {
     name: "ls",
@@ -36,7 +33,7 @@ The attributes are letters, or a dash where one does not apply, then the level o
   B  was worked on (written to)
   P  has a password: its main code is not the open code
 ",
-    groups: &[("Options", &[ALL, LISTING, JSON]), ("Geometry", shape::OPTIONS)],
+    groups: &[("Options", &[ALL, LISTING, JSON]), (shape::TITLE, shape::OPTIONS)],
     examples: &[
         "gdos ls disk.img",
         "gdos ls disk.img 'PULS*'",
@@ -49,30 +46,22 @@ The attributes are letters, or a dash where one does not apply, then the level o
 fn run(args: &Args) -> Result<Output, Failure> {
     let (image, words) = image_and_rest(args)?;
     if args.has("listing") && (args.has("json") || args.has("all") || !words.is_empty()) {
-        return Err(Failure::Wrong(
-            "--listing goes with neither names, --all nor --json".to_string(),
-        ));
+        return Err(Failure::Wrong("--listing goes with neither names, --all nor --json".to_string()));
     }
     let disk = disk_of(args, image)?;
     let path = shown(image);
     if args.has("listing") {
         let text = disk.listing().map_err(Failure::image(&path))?.into_bytes();
-        return Ok(Output {
-            text,
-            ..Output::default()
-        });
+        return Ok(Output { text, ..Output::default() });
     }
     let mut failures = Vec::new();
     let files = files(&disk, &path, words, args.has("all"), &mut failures)?;
     let free = disk.count().map_err(Failure::image(&path))?.free;
     let mut json = json_head(&path, disk.geometry());
     json.extend([
-        (
-            "files",
-            Json::list(files.iter().map(|file| file_json(file, disk.geometry()))),
-        ),
+        ("files", Json::list(files.iter().map(|file| file_json(file, disk.geometry())))),
         ("free", free.into()),
-        ("failures", Json::list(failures.iter().map(Failure::json))),
+        ("failures", failures_json(&failures)),
     ]);
     Ok(Output {
         text: table(&files, disk.geometry(), free).into_bytes(),
@@ -101,10 +90,7 @@ fn files(
             Err(failure) => failures.push(failure),
         }
     }
-    Ok(entries
-        .into_iter()
-        .filter(|entry| slots.contains(&entry.slot()))
-        .collect())
+    Ok(entries.into_iter().filter(|entry| slots.contains(&entry.slot())).collect())
 }
 
 fn slot(disk: &Disk, path: &str, typed: &Typed) -> Result<u8, Failure> {
@@ -143,10 +129,7 @@ pub(super) fn attributes(file: &Entry, geometry: Geometry) -> String {
         (file.was_worked_on(), 'B'),
         (file.main_code() != geometry.open_code, 'P'),
     ];
-    let letters: String = letters
-        .iter()
-        .map(|&(set, letter)| if set { letter } else { '-' })
-        .collect();
+    let letters: String = letters.iter().map(|&(set, letter)| if set { letter } else { '-' }).collect();
     format!("{letters} {}", file.level())
 }
 

@@ -75,30 +75,12 @@ pub struct Output {
     pub failures: Vec<Failure>,
 }
 
-pub const JSON: Spec = Spec {
-    long: "json",
-    short: None,
-    value: None,
-    help: "write one JSON value instead of text",
-};
-const FORCE: Spec = Spec {
-    long: "force",
-    short: Some(b'f'),
-    value: None,
-    help: "",
-};
-const CODE: Spec = Spec {
-    long: "code",
-    short: None,
-    value: Some("CODE"),
-    help: "the password code to open files by (the open code)",
-};
-const UNLOCK: Spec = Spec {
-    long: "unlock",
-    short: Some(b'u'),
-    value: None,
-    help: "open files without checking their passwords",
-};
+pub const JSON: Spec = Spec { long: "json", short: None, value: None, help: "write one JSON value instead of text" };
+const FORCE: Spec = Spec { long: "force", short: Some(b'f'), value: None, help: "" };
+const CODE: Spec =
+    Spec { long: "code", short: None, value: Some("CODE"), help: "the password code to open files by (the open code)" };
+const UNLOCK: Spec =
+    Spec { long: "unlock", short: Some(b'u'), value: None, help: "open files without checking their passwords" };
 
 /// The image's name as messages show it.
 fn shown(path: &OsStr) -> String {
@@ -107,9 +89,7 @@ fn shown(path: &OsStr) -> String {
 
 /// The command's first word, its image, and the others.
 fn image_and_rest(args: &Args) -> Result<(&OsString, &[OsString]), Failure> {
-    args.words
-        .split_first()
-        .ok_or_else(|| Failure::Wrong("which image? Its name is missing".to_string()))
+    args.words.split_first().ok_or_else(|| Failure::Wrong("which image? Its name is missing".to_string()))
 }
 
 /// The command's image and the files that it is to work on.
@@ -124,9 +104,7 @@ fn image_and_files(args: &Args) -> Result<(&OsString, &[OsString]), Failure> {
 fn only_image(args: &Args) -> Result<&OsString, Failure> {
     match image_and_rest(args)? {
         (image, []) => Ok(image),
-        (_, [surplus, ..]) => Err(Failure::Wrong(format!(
-            "what is {surplus:?} for? This command takes one image"
-        ))),
+        (_, [surplus, ..]) => Err(Failure::Wrong(format!("what is {surplus:?} for? This command takes one image"))),
     }
 }
 
@@ -170,20 +148,14 @@ fn change_each(
     let free = |disk: &Disk| disk.count().map(|counts| counts.free).map_err(Failure::image(&path));
     let mut output = Output::default();
     let mut told = Vec::new();
-    for typed in chosen(&disk, &path, words, false)?
-        .into_iter()
-        .collect::<Result<Vec<_>, _>>()?
-    {
+    for typed in chosen(&disk, &path, words, false)?.into_iter().collect::<Result<Vec<_>, _>>()? {
         let before = free(&disk)?;
         let handle = open(&disk, &path, &typed, password)?;
         call(&mut disk, &handle).map_err(refused(&path, &typed))?;
         let freed = free(&disk)? - before;
         let line = format!("{} {done}, {} freed\n", typed.name, counted(freed, "granule"));
         output.text.extend(line.into_bytes());
-        told.push(Json::object([
-            ("name", typed.name.to_string().into()),
-            ("freed", freed.into()),
-        ]));
+        told.push(Json::object([("name", typed.name.to_string().into()), ("freed", freed.into())]));
     }
     keep(disk, locked, image)?;
     let mut json = json_head(&path, geometry);
@@ -195,9 +167,7 @@ fn change_each(
 /// How the options say that files are to be opened.
 fn password(args: &Args, geometry: Geometry) -> Result<Password, Failure> {
     match (args.has("unlock"), args.code("code")?) {
-        (true, Some(_)) => Err(Failure::Wrong(
-            "--unlock checks no password, so --code has no use".to_string(),
-        )),
+        (true, Some(_)) => Err(Failure::Wrong("--unlock checks no password, so --code has no use".to_string())),
         (true, None) => Ok(Password::Unchecked),
         (false, code) => Ok(Password::Code(code.unwrap_or(geometry.open_code))),
     }
@@ -207,11 +177,7 @@ fn password(args: &Args, geometry: Geometry) -> Result<Password, Failure> {
 /// that fits none is refused like a name that is not there.
 fn chosen(disk: &Disk, image: &str, words: &[OsString], system: bool) -> Result<Vec<Result<Typed, Failure>>, Failure> {
     let entries = disk.entries().map_err(Failure::image(image))?;
-    let candidates: Vec<_> = entries
-        .iter()
-        .filter(|e| system || !e.is_system())
-        .map(|e| e.name())
-        .collect();
+    let candidates: Vec<_> = entries.iter().filter(|e| system || !e.is_system()).map(|e| e.name()).collect();
     let mut chosen: Vec<Result<Typed, Failure>> = Vec::new();
     for word in words {
         let word = word.to_string_lossy();
@@ -221,9 +187,7 @@ fn chosen(disk: &Disk, image: &str, words: &[OsString], system: bool) -> Result<
         }
         let fitting: Vec<_> = candidates.iter().filter(|name| names::matches(&word, name)).collect();
         if fitting.is_empty() {
-            chosen.push(Err(
-                Failure::file(image, &word)(Refusal::NotFound).because("no file fits this pattern")
-            ));
+            chosen.push(Err(Failure::file(image, &word)(Refusal::NotFound).because("no file fits this pattern")));
         }
         chosen.extend(fitting.into_iter().map(|&name| Ok(Typed::from(name))));
     }
@@ -258,6 +222,11 @@ fn open(disk: &Disk, image: &str, typed: &Typed, password: Password) -> Result<H
 /// A number and its noun: `1 granule`, `2 granules`.
 fn counted(number: usize, noun: &str) -> String {
     format!("{number} {noun}{}", if number == 1 { "" } else { "s" })
+}
+
+/// What went wrong, for `--json`.
+fn failures_json(failures: &[Failure]) -> Json {
+    Json::list(failures.iter().map(Failure::json))
 }
 
 /// The members that every `--json` answer on one image begins with.

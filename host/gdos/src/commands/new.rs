@@ -29,22 +29,12 @@ pub const COMMAND: Command = Command {
     about: "\
 Makes a consistent disk without files. State its geometry, by --preset or by --blocks, --units and --start. A
 directory of 10, 15, 20, 25 or 30 sectors has room for 32, 72, 112, 152 or 192 files; a badly scattered file takes
-more than one place. All bytes but the directory's are zero, and the disk has neither a system nor a label on it.
+more than one place. Outside the directory every byte is E5H, as formatting leaves it; there is neither a system nor
+a label on the disk.
 ",
     groups: &[
-        (
-            "Options",
-            &[
-                DIRECTORY,
-                RESERVE,
-                Spec {
-                    help: "replace an image that is there",
-                    ..FORCE
-                },
-                JSON,
-            ],
-        ),
-        ("Geometry", shape::OPTIONS),
+        ("Options", &[DIRECTORY, RESERVE, Spec { help: "replace an image that is there", ..FORCE }, JSON]),
+        (shape::TITLE, shape::OPTIONS),
     ],
     examples: &[
         "gdos new --preset dd80ds --directory 30 disk.img",
@@ -61,38 +51,21 @@ fn run(args: &Args) -> Result<Output, Failure> {
     })?;
     let sectors = args.number("directory")?.unwrap_or(10);
     if ![10, 15, 20, 25, 30].contains(&sectors) {
-        return Err(Failure::Wrong(format!(
-            "a directory has 10, 15, 20, 25 or 30 sectors, not {sectors}"
-        )));
+        return Err(Failure::Wrong(format!("a directory has 10, 15, 20, 25 or 30 sectors, not {sectors}")));
     }
     let reserved = reserved(args)?;
     if let (Some(granules), Some(off)) = (geometry.granules(), reserved.iter().max()) {
         if *off >= granules {
-            return Err(Failure::Wrong(format!(
-                "--reserve: the disk has granules 0 to {}, not {off}",
-                granules - 1
-            )));
+            return Err(Failure::Wrong(format!("--reserve: the disk has granules 0 to {}, not {off}", granules - 1)));
         }
     }
     let disk = Disk::blank(geometry, sectors, &reserved).map_err(Failure::image(&path))?;
     image::write_new(Path::new(image), disk.image(), args.has("force"))?;
     let free = disk.count().map_err(Failure::image(&path))?.free;
     let mut json = json_head(&path, geometry);
-    json.extend([
-        ("bytes", disk.image().len().into()),
-        ("directory_sectors", sectors.into()),
-        ("free", free.into()),
-    ]);
-    let text = format!(
-        "{path}: {} bytes, {} free\n",
-        disk.image().len(),
-        counted(free, "granule")
-    );
-    Ok(Output {
-        text: text.into_bytes(),
-        json: Json::Object(json),
-        ..Output::default()
-    })
+    json.extend([("bytes", disk.image().len().into()), ("directory_sectors", sectors.into()), ("free", free.into())]);
+    let text = format!("{path}: {} bytes, {} free\n", disk.image().len(), counted(free, "granule"));
+    Ok(Output { text: text.into_bytes(), json: Json::Object(json), ..Output::default() })
 }
 
 fn reserved(args: &Args) -> Result<Vec<usize>, Failure> {
@@ -101,9 +74,5 @@ fn reserved(args: &Args) -> Result<Vec<usize>, Failure> {
         return Ok(Vec::new());
     }
     let granules: Option<Vec<_>> = list.split(',').map(number).collect();
-    granules.ok_or_else(|| {
-        Failure::Wrong(format!(
-            "--reserve wants granule numbers, as 0,1,40, or none, not {list:?}"
-        ))
-    })
+    granules.ok_or_else(|| Failure::Wrong(format!("--reserve wants granule numbers, as 0,1,40, or none, not {list:?}")))
 }

@@ -17,7 +17,7 @@ Tries every geometry that fits the image's length, or those that agree with the 
 under which the disk is consistent. The open code cannot be found: no rule of a consistent disk speaks of it.
 Refused with 1 if no geometry has this length, with 2 if the disk is consistent under none.
 ",
-    groups: &[("Options", &[JSON]), ("Geometry", shape::OPTIONS)],
+    groups: &[("Options", &[JSON]), (shape::TITLE, shape::OPTIONS)],
     examples: &["gdos probe disk.img", "gdos probe --units 6 disk.img"],
     run,
 };
@@ -32,12 +32,7 @@ fn run(args: &Args) -> Result<Output, Failure> {
         return Err(wanted.none_fits(bytes.len(), &path));
     }
     let mut text = String::from("BLOCKS  UNITS  START  DIRECTORY  FILES  FREE  PRESET\n");
-    for Fit {
-        geometry,
-        counts,
-        directory_sectors,
-    } in &fits
-    {
+    for Fit { geometry, counts, directory_sectors } in &fits {
         text += &format!(
             "{:>6}  {:>5}  {:>5}  {:>9}  {:>5}  {:>4}  {}\n",
             geometry.blocks,
@@ -54,11 +49,7 @@ fn run(args: &Args) -> Result<Output, Failure> {
         ("tried", wanted.fitting(bytes.len()).len().into()),
         ("geometries", Json::list(fits.iter().map(fit_json))),
     ]);
-    Ok(Output {
-        text: text.into_bytes(),
-        json,
-        ..Output::default()
-    })
+    Ok(Output { text: text.into_bytes(), json, ..Output::default() })
 }
 
 fn fit_json(fit: &Fit) -> Json {

@@ -13,18 +13,10 @@ use genie_dos::{Date, Disk, Kind, NewFile, Password, Refusal};
 use std::ffi::{OsStr, OsString};
 use std::path::Path;
 
-const AS: Spec = Spec {
-    long: "as",
-    short: None,
-    value: Some("NAME"),
-    help: "the file's name on the disk (one file only)",
-};
-const DATE: Spec = Spec {
-    long: "date",
-    short: None,
-    value: Some("DATE"),
-    help: "the date of new files, as 1983-10-09 (today's)",
-};
+const AS: Spec =
+    Spec { long: "as", short: None, value: Some("NAME"), help: "the file's name on the disk (one file only)" };
+const DATE: Spec =
+    Spec { long: "date", short: None, value: Some("DATE"), help: "the date of new files, as 1983-10-09 (today's)" };
 const RECORD_LENGTH: Spec = Spec {
     long: "record-length",
     short: None,
@@ -58,25 +50,16 @@ says so. Both codes are the open code, that is no password, unless --code says o
             "Options",
             &[
                 AS,
-                Spec {
-                    help: "overwrite files that are on the disk",
-                    ..FORCE
-                },
+                Spec { help: "overwrite files that are on the disk", ..FORCE },
                 DATE,
                 RECORD_LENGTH,
-                Spec {
-                    help: "main code of new files, and the code to open old ones by (the open code)",
-                    ..CODE
-                },
+                Spec { help: "main code of new files, and the code to open old ones by (the open code)", ..CODE },
                 WORKER_CODE,
-                Spec {
-                    help: "overwrite old files without checking their passwords",
-                    ..UNLOCK
-                },
+                Spec { help: "overwrite old files without checking their passwords", ..UNLOCK },
                 JSON,
             ],
         ),
-        ("Geometry", shape::OPTIONS),
+        (shape::TITLE, shape::OPTIONS),
     ],
     examples: &[
         "gdos put disk.img eich01.dat eich02.dat",
@@ -96,7 +79,7 @@ struct Source {
 fn run(args: &Args) -> Result<Output, Failure> {
     let (image, words) = image_and_rest(args)?;
     let mut output = Output::default();
-    let wanted_date = date(args, &mut output.notes)?;
+    let (date, note) = date(args)?;
     let record_length = args.number("record-length")?.unwrap_or(256);
     let (main_code, worker_code) = (args.code("code")?, args.code("worker-code")?);
     let sources = sources(args, words)?;
@@ -105,7 +88,7 @@ fn run(args: &Args) -> Result<Output, Failure> {
     let (path, geometry) = (shown(image), disk.geometry());
     let main_code = main_code.unwrap_or(geometry.open_code);
     let new = NewFile {
-        date: wanted_date,
+        date,
         record_length,
         main_code,
         worker_code: worker_code.unwrap_or(main_code),
@@ -118,11 +101,10 @@ fn run(args: &Args) -> Result<Output, Failure> {
     };
     let mut put = Vec::new();
     for source in &sources {
-        put.push((
-            source,
-            put_one(&mut disk, &path, source, &new, password, args.has("force"))?,
-        ));
+        put.push((source, put_one(&mut disk, &path, source, &new, password, args.has("force"))?));
     }
+    // Old files keep their date.
+    output.notes.extend(note.filter(|_| put.iter().any(|(_, old)| !old)));
     let mut told = Vec::new();
     for (source, old) in put {
         let (line, json) = report(&disk, &path, source, old)?;
@@ -136,24 +118,17 @@ fn run(args: &Args) -> Result<Output, Failure> {
     Ok(output)
 }
 
-/// The date given, or today's as far as the disk can hold it.
-fn date(args: &Args, notes: &mut Vec<String>) -> Result<Date, Failure> {
+/// The date given; or today's as far as the disk can hold it, and a note if it cannot.
+fn date(args: &Args) -> Result<(Date, Option<String>), Failure> {
     if let Some(given) = args.value("date") {
-        let parsed = given.to_str().and_then(date::parse);
-        return parsed.ok_or_else(|| {
-            Failure::Wrong(format!(
-                "--date wants a date from 1980 on, as 1983-10-09, not {given:?}"
-            ))
-        });
+        let parsed = given.to_str().and_then(date::parse).map(|date| (date, None));
+        return parsed
+            .ok_or_else(|| Failure::Wrong(format!("--date wants a date from 1980 on, as 1983-10-09, not {given:?}")));
     }
     let today = date::today();
     let clamped = date::clamped(today);
-    if clamped != today {
-        notes.push(format!(
-            "the disk's dates go from 1980 to 1995: today, {today}, is written as {clamped}"
-        ));
-    }
-    Ok(clamped)
+    let note = format!("the disk's dates go from 1980 to 1995: today, {today}, is written as {clamped}");
+    Ok((clamped, (clamped != today).then_some(note)))
 }
 
 /// Reads all files of the host before the image is touched.
@@ -163,9 +138,7 @@ fn sources(args: &Args, words: &[OsString]) -> Result<Vec<Source>, Failure> {
         return Err(Failure::Wrong("which files of the host? Name some".to_string()));
     }
     if named.is_some() && words.len() > 1 {
-        return Err(Failure::Wrong(
-            "--as names one file, but several are to be put".to_string(),
-        ));
+        return Err(Failure::Wrong("--as names one file, but several are to be put".to_string()));
     }
     let mut sources: Vec<Source> = Vec::new();
     for word in words {
@@ -181,14 +154,8 @@ fn sources(args: &Args, words: &[OsString]) -> Result<Vec<Source>, Failure> {
             }
             None => Typed::for_host(Path::new(word)),
         };
-        if let Some(twin) = sources
-            .iter()
-            .find(|s| s.typed.wrong.is_none() && s.typed.name == typed.name)
-        {
-            return Err(Failure::Wrong(format!(
-                "{} and {host} would both become {}",
-                twin.host, typed.text
-            )));
+        if let Some(twin) = sources.iter().find(|s| s.typed.wrong.is_none() && s.typed.name == typed.name) {
+            return Err(Failure::Wrong(format!("{} and {host} would both become {}", twin.host, typed.text)));
         }
         let bytes = match standard_input {
             true => image::read_standard_input()?,
@@ -210,12 +177,15 @@ fn put_one(
 ) -> Result<bool, Failure> {
     let Source { typed, host, bytes } = source;
     let refused = |refusal| refused(path, typed)(refusal);
-    let created = disk.create(&typed.name, new).map_err(refused)?;
+    let created = disk.create(&typed.name, new).map_err(|refusal| match refusal {
+        Refusal::Range => refused(refusal).because(format!(
+            "dates go from 1980 to 1995, record lengths from 1 to 256; given are {} and {}",
+            new.date, new.record_length
+        )),
+        _ => refused(refusal),
+    })?;
     if created.old && !force {
-        return Err(Failure::Wrong(format!(
-            "{} is on {path} already; --force overwrites it",
-            typed.text
-        )));
+        return Err(Failure::Wrong(format!("{} is on {path} already; --force overwrites it", typed.text)));
     }
     write(disk, typed, bytes, password).map_err(refused)?;
     if bytes.is_empty() && disk.read_sector(&created.handle, 0).is_ok() {

@@ -12,7 +12,7 @@ pub const COMMAND: Command = Command {
 Removes each named file, and each that a pattern fits; their granules are free again. A line tells of each. All are
 removed or none: if one is refused (not there, wrong password, a system file), the image stays as it is.
 ",
-    groups: &[("Options", &[CODE, UNLOCK, JSON]), ("Geometry", shape::OPTIONS)],
+    groups: &[("Options", &[CODE, UNLOCK, JSON]), (shape::TITLE, shape::OPTIONS)],
     examples: &["gdos rm disk.img PULS01/DAT", "gdos rm disk.img 'PULS*/DAT' LEER"],
     run: |args| change_each(args, "removed", Disk::kill),
 };

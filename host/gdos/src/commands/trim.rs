@@ -13,7 +13,7 @@ Each named file, and each that a pattern fits, keeps the granules that its size 
 file with the flag F (keeps its space) stays as it is. A line tells of each. All are trimmed or none. If there is
 nothing to give back the image is not written at all.
 ",
-    groups: &[("Options", &[CODE, UNLOCK, JSON]), ("Geometry", shape::OPTIONS)],
+    groups: &[("Options", &[CODE, UNLOCK, JSON]), (shape::TITLE, shape::OPTIONS)],
     examples: &["gdos trim disk.img PULS01/DAT", "gdos trim disk.img '*'"],
     run: |args| change_each(args, "trimmed", Disk::trim),
 };

@@ -1,0 +1,466 @@
+//! The program as a whole, where a recorded session does not reach: JSON, times, permissions, pipes, several at once.
+
+mod common;
+
+use common::{Done, Folder, Json, GDOS};
+use std::fs::{self, File, Permissions};
+use std::io::{Read, Write};
+use std::os::unix::fs::{chown, symlink, MetadataExt, PermissionsExt};
+use std::os::unix::process::CommandExt;
+use std::process::{Command, Stdio};
+use std::time::{Duration, SystemTime};
+
+const DATE: [&str; 2] = ["--date", "1983-10-09"];
+const COMMANDS: [&str; 11] = ["check", "ls", "cat", "get", "put", "rm", "trim", "free", "info", "new", "probe"];
+
+/// A folder with the small disk of the examples, PULS01/DAT (257 bytes) and LEER on it.
+fn sample(name: &str) -> Folder {
+    let folder = Folder::new(name);
+    folder.write("puls01.dat", [0x55; 257]);
+    folder.write("leer", "");
+    folder.done(&["new", "d.img", "--preset", "sample"]);
+    folder.done(&["put", "d.img", "puls01.dat", "leer", DATE[0], DATE[1]]);
+    folder
+}
+
+fn is_root() -> bool {
+    // A file that this process makes belongs to it.
+    let folder = Folder::new("who");
+    fs::metadata(folder.root()).unwrap().uid() == 0
+}
+
+/// The program as a user who is not root. As root it is run as nobody, from a copy that anybody may read.
+fn unprivileged(folder: &Folder, words: &[&str]) -> Result<Done, String> {
+    if !is_root() {
+        return Ok(folder.gdos(words));
+    }
+    let home = Folder::new("program");
+    fs::copy(GDOS, home.path("gdos")).unwrap();
+    fs::set_permissions(home.root(), Permissions::from_mode(0o755)).unwrap();
+    let mut command = Command::new(home.path("gdos"));
+    command.args(words).current_dir(folder.root()).stdin(Stdio::null()).uid(65534).gid(65534);
+    command.output().map(Done::from).map_err(|e| format!("cannot run as another user: {e}"))
+}
+
+#[test]
+fn help_for_everything() {
+    let folder = Folder::new("help");
+    let overview = folder.done(&["--help"]);
+    assert_eq!(folder.done(&["help"]), overview);
+    assert_eq!(folder.done(&["-h"]), overview);
+    for command in COMMANDS {
+        assert!(overview.contains(&format!("\n  {command} ")), "{command}");
+        let help = folder.done(&[command, "--help"]);
+        assert_eq!(folder.done(&["help", command]), help);
+        assert_eq!(folder.done(&[command, "image", "-h"]), help);
+        for part in ["Usage: gdos ", "--blocks", "--open-code", "Presets", "Examples", "Exit status"] {
+            assert!(help.contains(part), "{command}: {part}");
+        }
+        // Every example is a command that exists, with options that exist.
+        for example in help.lines().filter_map(|line| line.strip_prefix("  gdos ")) {
+            let options = example.split(' ').filter(|word| word.starts_with("--"));
+            assert!(example.starts_with(command), "{example}");
+            for option in options {
+                assert!(help.contains(&format!("{option} ")), "{example}");
+            }
+        }
+        for line in help.lines() {
+            assert!(line.chars().count() <= 120, "too long: {line}");
+        }
+    }
+    let nothing = folder.gdos(&[]);
+    assert_eq!((nothing.status, nothing.out.len(), nothing.err), (2, 0, overview));
+    assert_eq!(folder.done(&["--version"]), format!("gdos {}\n", env!("CARGO_PKG_VERSION")));
+}
+
+#[test]
+fn json_of_every_command() {
+    let folder = sample("json");
+    let json = |words: &[&str]| {
+        let mut words = words.to_vec();
+        words.push("--json");
+        let done = folder.gdos(&words);
+        (done.status, done.json())
+    };
+    let (status, check) = json(&["check", "d.img"]);
+    assert_eq!((status, check.at("images.0.consistent"), check.at("failures").len()), (0, &Json::Bool(true), 0));
+    assert_eq!(check.at("images.0.image").text(), "d.img");
+    for (member, number) in [("blocks", 16), ("units", 2), ("start", 80), ("open_code", 0x4296)] {
+        assert_eq!(check.at(&format!("images.0.geometry.{member}")).number(), number);
+    }
+    assert_eq!(check.at("images.0.geometry.preset").text(), "sample");
+
+    let (status, ls) = json(&["ls", "d.img"]);
+    assert_eq!((status, ls.at("files").len(), ls.at("free").number()), (0, 2, 28));
+    let file = ls.at("files.0");
+    assert_eq!((file.at("name").text(), file.at("date").text()), ("PULS01/DAT", "1983-10-09"));
+    let members =
+        [("size", 257), ("granules", 1), ("record_length", 256), ("level", 0), ("main_code", 0x4296), ("slot", 128)];
+    for (member, number) in members {
+        assert_eq!(file.at(member).number(), number, "{member}");
+    }
+    for (member, set) in [("worked_on", true), ("system", false), ("password", false), ("invisible", false)] {
+        assert_eq!(file.at(member), &Json::Bool(set), "{member}");
+    }
+    assert_eq!(ls.at("files.1.worked_on"), &Json::Bool(false));
+
+    let (status, info) = json(&["info", "d.img"]);
+    assert_eq!(status, 0);
+    let members = [("bytes", 40_960), ("granules", 32), ("owned", 1), ("free", 28), ("reserved", 3), ("slots", 64)];
+    for (member, number) in members {
+        assert_eq!(info.at(member).number(), number, "{member}");
+    }
+    let (_, info) = json(&["info", "d.img", "PULS01/DAT"]);
+    assert_eq!(info.at("files.0.runs.0.first_sector").number(), 5);
+    assert_eq!(info.at("files.0.runs.0.last_sector").number(), 9);
+
+    let (status, free) = json(&["free", "d.img"]);
+    assert_eq!((status, free.at("free").number(), free.at("free_bytes").number()), (0, 28, 28 * 1280));
+    let (status, probe) = json(&["probe", "d.img"]);
+    assert_eq!((status, probe.at("geometries").len(), probe.at("tried").number()), (0, 1, 124));
+    assert_eq!(probe.at("geometries.0.geometry.start").number(), 80);
+
+    let (status, get) = json(&["get", "d.img", "PULS01/DAT", "NICHT/DA"]);
+    assert_eq!((status, get.at("files").len(), get.at("failures").len()), (1, 1, 1));
+    assert_eq!(get.at("files.0.host").text(), "PULS01.DAT");
+    assert_eq!(get.at("failures.0.refused.number").number(), 4);
+    assert_eq!(get.at("failures.0.refused.meaning").text(), "name not found");
+    assert_eq!(get.at("failures.0.refused.file").text(), "NICHT/DA");
+    assert_eq!(get.at("failures.0.refused.image").text(), "d.img");
+
+    let (status, put) = json(&["put", "d.img", "puls01.dat", "--force"]);
+    assert_eq!((status, put.at("files.0.overwritten"), put.at("files.0.size").number()), (0, &Json::Bool(true), 257));
+    let (status, trim) = json(&["trim", "d.img", "*"]);
+    assert_eq!((status, trim.at("files").len(), trim.at("files.0.freed").number()), (0, 2, 0));
+    let (status, rm) = json(&["rm", "d.img", "PULS01/DAT"]);
+    assert_eq!((status, rm.at("files.0.name").text(), rm.at("files.0.freed").number()), (0, "PULS01/DAT", 1));
+    let (status, new) = json(&["new", "n.img", "--preset", "dd80ds"]);
+    assert_eq!((status, new.at("bytes").number(), new.at("free").number()), (0, 737_280, 573));
+
+    // Refused, and wrong.
+    let (status, refused) = json(&["rm", "d.img", "NICHT/DA"]);
+    assert_eq!((status, refused.at("refused.number").number()), (1, 4));
+    let (status, refused) = json(&["ls", "d.img", "--blocks", "17", "--units", "2", "--start", "80"]);
+    assert_eq!((status, refused.at("refused.number").number(), refused.at("refused.file")), (1, 1, &Json::Null));
+    let (status, wrong) = json(&["ls", "missing.img"]);
+    assert_eq!((status, wrong.at("error").text().contains("missing.img")), (2, true));
+}
+
+#[test]
+fn json_escapes_names() {
+    let folder = Folder::new("escapes");
+    let odd = "a \"b\"\\ c\n\tü\x01.img";
+    folder.done(&["new", odd, "--preset", "sample"]);
+    folder.write("x", "1");
+    // Backslash and brackets are letters of the machine.
+    folder.done(&["put", odd, "x", "--as", "A\\[]", DATE[0], DATE[1]]);
+    let ls = folder.gdos(&["ls", odd, "--json"]).json();
+    assert_eq!(ls.at("image").text(), odd);
+    assert_eq!(ls.at("files.0.name").text(), "A\\[]");
+    folder.done(&["get", odd, "A\\*"]);
+    assert_eq!(folder.read("A\\[]"), b"1");
+}
+
+#[test]
+fn refused_and_idle_commands_leave_the_time() {
+    let folder = sample("times");
+    let long_ago = SystemTime::UNIX_EPOCH + Duration::from_secs(500_000_000);
+    File::open(folder.path("d.img")).unwrap().set_modified(long_ago).unwrap();
+    let before = folder.read("d.img");
+    folder.write("big", vec![1; 40_000]);
+    for (words, status) in [
+        (&["put", "d.img", "puls01.dat"][..], 2),
+        (&["put", "d.img", "big"], 1),
+        (&["put", "d.img", "leer", "big", "--force"], 1),
+        (&["put", "d.img", "leer", "--force"], 0),
+        (&["put", "d.img", "puls01.dat", "--force"], 0),
+        (&["put", "d.img", "big", "--as", "a_b"], 1),
+        (&["rm", "d.img", "LEER", "NICHT/DA"], 1),
+        (&["trim", "d.img", "*"], 0),
+        (&["trim", "d.img", "*", "--start", "85"], 1),
+        (&["new", "d.img", "--preset", "sample"], 2),
+        (&["ls", "d.img"], 0),
+        (&["get", "d.img", "*"], 0),
+        (&["check", "d.img"], 0),
+        (&["probe", "d.img"], 0),
+    ] {
+        assert_eq!(folder.gdos(words).status, status, "{words:?}");
+        assert_eq!(fs::metadata(folder.path("d.img")).unwrap().modified().unwrap(), long_ago, "{words:?}");
+        assert!(folder.read("d.img") == before, "{words:?}");
+    }
+    folder.done(&["rm", "d.img", "LEER"]);
+    assert_ne!(fs::metadata(folder.path("d.img")).unwrap().modified().unwrap(), long_ago);
+}
+
+#[test]
+fn a_write_protected_image_stays() {
+    let folder = sample("protected");
+    fs::set_permissions(folder.path("d.img"), Permissions::from_mode(0o444)).unwrap();
+    let before = folder.everything();
+    for words in [
+        &["put", "d.img", "leer", "--as", "A"][..],
+        &["rm", "d.img", "LEER"],
+        &["trim", "d.img", "*"],
+        &["new", "d.img", "--preset", "sample", "--force"],
+    ] {
+        let done = folder.gdos(words);
+        assert_eq!(done.status, 2, "{words:?}");
+        // Root is told the reason by this program, others by the system.
+        assert!(done.err.contains("write-protected") || done.err.contains("ermission"), "{}", done.err);
+    }
+    assert!(folder.everything() == before);
+    folder.done(&["ls", "d.img"]);
+}
+
+#[test]
+fn a_folder_that_cannot_be_written() {
+    let folder = sample("unwritable");
+    fs::set_permissions(folder.path("d.img"), Permissions::from_mode(0o666)).unwrap();
+    fs::create_dir(folder.path("out")).unwrap();
+    fs::set_permissions(folder.path("out"), Permissions::from_mode(0o555)).unwrap();
+    fs::set_permissions(folder.root(), Permissions::from_mode(0o555)).unwrap();
+    let before = folder.everything();
+    for words in [
+        &["rm", "d.img", "LEER"][..],
+        &["put", "d.img", "puls01.dat", "--as", "A"],
+        &["new", "n.img", "--preset", "sample"],
+        &["get", "d.img", "*", "-o", "out"],
+        &["get", "d.img", "*"],
+    ] {
+        match unprivileged(&folder, words) {
+            Ok(done) => {
+                assert_eq!(done.status, 2, "{words:?}: {}", done.err);
+                assert!(done.err.contains("ermission"), "{words:?}: {}", done.err);
+            }
+            // Where the user cannot be changed, root can still not make files inside a file: see the session `usage`.
+            Err(reason) => {
+                println!("skipped: {reason}");
+                break;
+            }
+        }
+    }
+    // Looking is allowed.
+    if let Ok(done) = unprivileged(&folder, &["ls", "d.img", "--listing"]) {
+        assert_eq!(done.text(), "FILES 2\nPULS01/DAT 257 1\nLEER 0 0\nFREE 28\n");
+    }
+    assert!(folder.everything() == before);
+    fs::set_permissions(folder.root(), Permissions::from_mode(0o755)).unwrap();
+}
+
+#[test]
+fn an_unreadable_image() {
+    let folder = sample("unreadable");
+    fs::set_permissions(folder.root(), Permissions::from_mode(0o755)).unwrap();
+    fs::set_permissions(folder.path("d.img"), Permissions::from_mode(0o000)).unwrap();
+    match unprivileged(&folder, &["ls", "d.img"]) {
+        Ok(done) => assert_eq!((done.status, done.err.contains("cannot read d.img")), (2, true), "{}", done.err),
+        Err(reason) => println!("skipped: {reason}"),
+    }
+}
+
+#[test]
+fn a_copy_that_cannot_be_written_whole() {
+    // The system allows 8 blocks of 512 bytes a file, so the copy of the image breaks off, as on a full host disk.
+    let folder = sample("limit");
+    let before = folder.everything();
+    for words in ["rm d.img LEER", "new n.img --preset sample", "new d.img --force --preset sample"] {
+        let script = format!("trap '' XFSZ; ulimit -f 8; exec '{GDOS}' {words}");
+        let output = Command::new("sh").args(["-c", &script]).current_dir(folder.root()).output().unwrap();
+        let done = Done::from(output);
+        assert_eq!(done.status, 2, "{words}: {}", done.err);
+        assert!(done.err.contains("too large") || done.err.contains("cannot"), "{}", done.err);
+        assert!(folder.everything() == before, "{words}");
+    }
+}
+
+#[test]
+fn permissions_owner_and_links_stay() {
+    let folder = sample("modes");
+    let image = folder.path("d.img");
+    fs::set_permissions(&image, Permissions::from_mode(0o640)).unwrap();
+    let owner = if is_root() { 65534 } else { fs::metadata(&image).unwrap().uid() };
+    if is_root() {
+        chown(&image, Some(owner), Some(owner)).unwrap();
+    }
+    symlink("d.img", folder.path("link.img")).unwrap();
+    let before = folder.read("d.img");
+    folder.done(&["rm", "link.img", "LEER"]);
+    assert!(folder.read("d.img") != before);
+    assert!(fs::symlink_metadata(folder.path("link.img")).unwrap().is_symlink());
+    let now = fs::metadata(&image).unwrap();
+    assert_eq!((now.mode() & 0o7777, now.uid()), (0o640, owner));
+
+    // The same for a file of the host that is overwritten.
+    folder.write("out.dat", "old");
+    fs::set_permissions(folder.path("out.dat"), Permissions::from_mode(0o600)).unwrap();
+    symlink("out.dat", folder.path("PULS01.DAT")).unwrap();
+    assert_eq!(folder.gdos(&["get", "d.img", "PULS01/DAT"]).status, 2);
+    assert_eq!(folder.read("out.dat"), b"old");
+    folder.done(&["get", "d.img", "PULS01/DAT", "--force"]);
+    assert_eq!(folder.read("out.dat"), [0x55; 257]);
+    assert!(fs::symlink_metadata(folder.path("PULS01.DAT")).unwrap().is_symlink());
+    assert_eq!(fs::metadata(folder.path("out.dat")).unwrap().mode() & 0o7777, 0o600);
+
+    // A link that leads nowhere is there all the same.
+    symlink("nowhere", folder.path("LEER")).unwrap();
+    folder.done(&["put", "d.img", "leer", DATE[0], DATE[1]]);
+    assert_eq!(folder.gdos(&["get", "d.img", "LEER"]).status, 2);
+    assert!(folder.left_over().is_empty());
+}
+
+#[test]
+fn a_reader_that_stops_is_no_fault() {
+    let folder = Folder::new("pipe");
+    folder.write("big", vec![7; 600_000]);
+    folder.done(&["new", "d.img", "--preset", "dd80ds"]);
+    folder.done(&["put", "d.img", "big", DATE[0], DATE[1]]);
+    for words in [&["cat", "d.img", "BIG"][..], &["get", "d.img", "BIG", "-o", "-"]] {
+        let mut child = folder.command(words).stdout(Stdio::piped()).stderr(Stdio::piped()).spawn().unwrap();
+        let mut out = child.stdout.take().unwrap();
+        let mut few = [0; 10];
+        out.read_exact(&mut few).unwrap();
+        drop(out);
+        let done = Done::from(child.wait_with_output().unwrap());
+        assert_eq!((done.status, done.err.as_str()), (0, ""), "{words:?}");
+    }
+    // Nobody reads at all.
+    let mut child = folder.command(&["--help"]).stdout(Stdio::piped()).stderr(Stdio::piped()).spawn().unwrap();
+    drop(child.stdout.take());
+    let done = Done::from(child.wait_with_output().unwrap());
+    assert_eq!((done.status, done.err.as_str()), (0, ""));
+}
+
+#[test]
+fn output_that_cannot_be_written() {
+    let Ok(full) = File::options().write(true).open("/dev/full") else {
+        println!("skipped: no /dev/full here");
+        return;
+    };
+    let folder = sample("full");
+    let output = folder.command(&["ls", "d.img"]).stdout(full).output().unwrap();
+    let done =
+        Done { status: output.status.code().unwrap(), out: Vec::new(), err: String::from_utf8(output.stderr).unwrap() };
+    assert_eq!(done.status, 2);
+    assert!(done.err.contains("cannot write to standard output"), "{}", done.err);
+}
+
+#[test]
+fn standard_input() {
+    let folder = sample("stdin");
+    let put = |words: &[&str], bytes: &[u8]| {
+        let mut child =
+            folder.command(words).stdin(Stdio::piped()).stdout(Stdio::piped()).stderr(Stdio::piped()).spawn().unwrap();
+        child.stdin.take().unwrap().write_all(bytes).unwrap();
+        Done::from(child.wait_with_output().unwrap())
+    };
+    let done = put(&["put", "d.img", "-", "--as", "eich01/dat", DATE[0], DATE[1]], &[9; 1281]);
+    assert_eq!(
+        (done.status, done.text()),
+        (0, "standard input to EICH01/DAT, 1281 bytes, 2 granules\n"),
+        "{}",
+        done.err
+    );
+    assert_eq!(folder.gdos(&["cat", "d.img", "EICH01/DAT"]).out, [9; 1281]);
+    // An image may come from a pipe where it is only looked at.
+    let image = folder.read("d.img");
+    let done = put(&["ls", "--listing", "/dev/stdin"], &image);
+    assert_eq!(done.text(), "FILES 3\nPULS01/DAT 257 1\nLEER 0 0\nEICH01/DAT 1281 2\nFREE 26\n", "{}", done.err);
+}
+
+#[test]
+fn today_is_clamped_and_said() {
+    let folder = sample("today");
+    folder.write("a", "1");
+    let done = folder.gdos(&["put", "d.img", "a"]);
+    assert_eq!(done.status, 0);
+    // Nobody's clock shows a year before 1996.
+    assert!(done.err.starts_with("gdos: note: the disk's dates go from 1980 to 1995: today, "), "{}", done.err);
+    let ls = folder.gdos(&["ls", "d.img", "A", "--json"]).json();
+    assert!(ls.at("files.0.date").text().starts_with("1995-"));
+    // An old file keeps its date, so there is nothing to note.
+    assert_eq!(folder.gdos(&["put", "d.img", "a", "--force"]).err, "");
+}
+
+#[test]
+fn every_byte_comes_back() {
+    // Sizes about the edges of sectors, granules and runs, on disks of different shapes; every file is read back.
+    let folder = Folder::new("sizes");
+    let sizes = [0, 1, 255, 256, 257, 1279, 1280, 1281, 2559, 2560, 2561, 40_959, 40_960, 40_961, 42_241];
+    for preset in ["sd80", "dd80", "dd80ds", "largest"] {
+        folder.done(&["new", "d.img", "--preset", preset, "--directory", "30", "--force"]);
+        let names: Vec<String> = sizes.iter().map(|size| format!("f{size}.bin")).collect();
+        for (size, name) in sizes.iter().zip(&names) {
+            folder.write(name, (0..*size).map(|i| (i % 253 + i / 256) as u8).collect::<Vec<_>>());
+        }
+        let mut words = vec!["put", "d.img", DATE[0], DATE[1]];
+        words.extend(names.iter().map(String::as_str));
+        folder.done(&words);
+        fs::create_dir_all(folder.path("out")).unwrap();
+        folder.done(&["get", "d.img", "*", "-o", "out", "--force"]);
+        for name in &names {
+            let (name, host) = (name.as_str(), format!("out/{}", name.to_uppercase()));
+            assert!(folder.read(name) == folder.read(&host), "{preset} {name}");
+        }
+        let listing = folder.done(&["ls", "--listing", "d.img"]);
+        let lines = sizes.iter().map(|size| format!("F{size}/BIN {size} {}\n", usize::div_ceil(*size, 1280)));
+        let free = listing.lines().last().unwrap();
+        assert_eq!(listing, format!("FILES {}\n{}{free}\n", sizes.len(), lines.collect::<String>()));
+    }
+}
+
+#[test]
+fn several_at_once_lose_nothing() {
+    let folder = sample("several");
+    let names: Vec<String> = (0..12).map(|i| format!("f{i}")).collect();
+    for name in &names {
+        folder.write(name, name);
+    }
+    let children: Vec<_> = names
+        .iter()
+        .map(|name| folder.command(&["put", "d.img", name, DATE[0], DATE[1]]).stdout(Stdio::null()).spawn().unwrap())
+        .collect();
+    for mut child in children {
+        assert!(child.wait().unwrap().success());
+    }
+    for name in &names {
+        assert_eq!(folder.gdos(&["cat", "d.img", name]).out, name.as_bytes());
+    }
+    assert!(folder.left_over().is_empty());
+}
+
+#[test]
+fn an_interrupted_change_is_whole_or_not_made() {
+    let folder = Folder::new("killed");
+    folder.done(&["new", "d.img", "--preset", "largest"]);
+    folder.write("a", vec![1; 300_000]);
+    folder.write("b", vec![2; 500_000]);
+    folder.done(&["put", "d.img", "a", "--as", "X", DATE[0], DATE[1]]);
+    let one = folder.read("d.img");
+    folder.done(&["put", "d.img", "b", "--as", "X", "--force"]);
+    let other = folder.read("d.img");
+    for i in 0..40u64 {
+        folder.write("d.img", &one);
+        let mut child =
+            folder.command(&["put", "d.img", "b", "--as", "X", "--force"]).stdout(Stdio::null()).spawn().unwrap();
+        std::thread::sleep(Duration::from_micros(i * 500));
+        child.kill().unwrap();
+        child.wait().unwrap();
+        let now = folder.read("d.img");
+        assert!(now == one || now == other, "half a change after {i}");
+    }
+}
+
+#[test]
+fn probing_is_quick() {
+    // The largest image, and one whose length has the most geometries, filled so that no check can stop early on the
+    // directory's length.
+    let folder = Folder::new("quick");
+    for (name, bytes) in [("large.img", 1_966_080), ("many.img", 168 * 8 * 1280)] {
+        for filler in [0, 0xff, 5] {
+            folder.write(name, vec![filler; bytes]);
+            let begun = SystemTime::now();
+            assert_eq!(folder.gdos(&["probe", name]).status, 1);
+            assert!(begun.elapsed().unwrap() < Duration::from_secs(5), "{name} of {filler}");
+        }
+    }
+}

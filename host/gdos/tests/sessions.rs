@@ -1,0 +1,188 @@
+//! Recorded sessions: each folder under `cases` has a `session.txt` and the files that it begins with.
+//!
+//! A line `$ WORDS` is a command; words may stand in single quotes. Behind it stands what it must write: standard output as
+//! it is, standard error with `! ` before each line, and the exit status in brackets if it is not 0. `#` begins a remark.
+//! Besides `gdos` (whose output `> FILE` puts into a file) there are
+//!   make FILE BYTES        a file of so many bytes, no two sectors alike
+//!   poke FILE AT BYTES     other bytes into a file; numbers are decimal or as 4CH
+//!   cmp FILE FILE          both must be the same
+//! After every command that fails all files must be as they were, their times too (`get` may have written some, but no
+//! image); none of the program's own are left.
+
+mod common;
+
+use common::{Done, Folder};
+use std::fs;
+use std::path::Path;
+
+#[test]
+fn first_steps() {
+    play("first-steps");
+}
+
+#[test]
+fn refusals() {
+    play("refusals");
+}
+
+#[test]
+fn full_disk() {
+    play("full-disk");
+}
+
+#[test]
+fn damaged_images() {
+    play("damaged");
+}
+
+#[test]
+fn patterns() {
+    play("patterns");
+}
+
+#[test]
+fn geometry() {
+    play("geometry");
+}
+
+#[test]
+fn passwords() {
+    play("passwords");
+}
+
+#[test]
+fn overwriting() {
+    play("overwriting");
+}
+
+#[test]
+fn usage() {
+    play("usage");
+}
+
+#[test]
+fn every_case_is_played() {
+    let here = include_str!("sessions.rs");
+    for case in fs::read_dir(cases()).unwrap() {
+        let name = case.unwrap().file_name().into_string().unwrap();
+        assert!(here.contains(&format!("play(\"{name}\")")), "{name} is not played");
+    }
+}
+
+fn cases() -> &'static Path {
+    Path::new(concat!(env!("CARGO_MANIFEST_DIR"), "/tests/cases"))
+}
+
+/// A command of a session and what it must do.
+struct Step {
+    line: usize,
+    words: Vec<String>,
+    out: String,
+    err: String,
+    status: i32,
+}
+
+fn play(case: &str) {
+    let from = cases().join(case);
+    let folder = Folder::new(case);
+    for file in fs::read_dir(&from).unwrap().map(|file| file.unwrap()) {
+        if file.file_name() != "session.txt" {
+            fs::copy(file.path(), folder.root().join(file.file_name())).unwrap();
+        }
+    }
+    let session = fs::read_to_string(from.join("session.txt")).unwrap();
+    let steps = steps(&session);
+    assert!(!steps.is_empty());
+    for step in steps {
+        let kept = |folder: &Folder| {
+            let mut all = folder.everything();
+            all.retain(|(path, ..)| step.words[1] != "get" || path.extension().is_some_and(|e| e == "img"));
+            all
+        };
+        let before = kept(&folder);
+        let done = run(&folder, &step.words);
+        let place = format!("{case}/session.txt:{}: {}", step.line, step.words.join(" "));
+        assert_eq!(
+            (String::from_utf8_lossy(&done.out), done.err.as_str(), done.status),
+            (step.out.as_str().into(), step.err.as_str(), step.status),
+            "{place}"
+        );
+        if step.status != 0 {
+            assert!(kept(&folder) == before, "{place} changed something");
+        }
+        assert!(folder.left_over().is_empty(), "{place} left {:?}", folder.left_over());
+    }
+}
+
+fn steps(session: &str) -> Vec<Step> {
+    let mut steps: Vec<Step> = Vec::new();
+    for (number, line) in session.lines().enumerate() {
+        if let Some(command) = line.strip_prefix("$ ") {
+            let (out, err) = (String::new(), String::new());
+            steps.push(Step { line: number + 1, words: words(command), out, err, status: 0 });
+        } else if !line.starts_with('#') {
+            let step = steps.last_mut().expect("a session begins with a command");
+            if let Some(err) = line.strip_prefix("! ") {
+                step.err += &format!("{err}\n");
+            } else if let Some(status) = line.strip_prefix('[').and_then(|rest| rest.strip_suffix(']')) {
+                step.status = status.parse().unwrap();
+            } else {
+                step.out += &format!("{line}\n");
+            }
+        }
+    }
+    steps
+}
+
+/// Words of a line: blanks part them, except in single quotes.
+fn words(line: &str) -> Vec<String> {
+    let mut words = Vec::new();
+    let mut word = None;
+    let mut quoted = false;
+    for c in line.chars() {
+        match c {
+            '\'' => {
+                quoted = !quoted;
+                word.get_or_insert_with(String::new);
+            }
+            ' ' if !quoted => words.extend(word.take()),
+            c => word.get_or_insert_with(String::new).push(c),
+        }
+    }
+    words.extend(word);
+    words
+}
+
+fn run(folder: &Folder, words: &[String]) -> Done {
+    let words: Vec<&str> = words.iter().map(String::as_str).collect();
+    let nothing = Done { status: 0, out: Vec::new(), err: String::new() };
+    match words.as_slice() {
+        ["gdos", words @ .., ">", file] => {
+            let done = folder.gdos(words);
+            folder.write(file, &done.out);
+            Done { out: Vec::new(), ..done }
+        }
+        ["gdos", words @ ..] => folder.gdos(words),
+        ["make", file, bytes] => {
+            folder.write(file, (0..number(bytes)).map(|i| (i % 251 + i / 256) as u8).collect::<Vec<_>>());
+            nothing
+        }
+        ["poke", file, at, bytes @ ..] => {
+            let bytes: Vec<u8> = bytes.iter().map(|byte| number(byte) as u8).collect();
+            folder.poke(file, number(at), &bytes);
+            nothing
+        }
+        ["cmp", one, other] => {
+            assert!(folder.read(one) == folder.read(other), "{one} and {other} differ");
+            nothing
+        }
+        other => panic!("no such command: {other:?}"),
+    }
+}
+
+fn number(word: &str) -> usize {
+    match word.strip_suffix('H') {
+        Some(digits) => usize::from_str_radix(digits, 16).unwrap(),
+        None => word.parse().unwrap(),
+    }
+}

@@ -1,0 +1,363 @@
+//! Every call through the wrapper: that arguments and answers reach their places, and each refusal by its number.
+
+use genie_dos::*;
+
+const GEOMETRY: Geometry = Geometry::new(9, 5, 60, 0x4296);
+const DATE: Date = Date::new(1983, 10, 9);
+
+fn name(typed: &str) -> Name {
+    typed.parse().unwrap()
+}
+
+/// A disk of 45 granules, directory of 15 sectors in granules 12 to 14, granule 0 reserved.
+fn blank() -> Disk {
+    Disk::blank(GEOMETRY, 15, &[0]).unwrap()
+}
+
+fn plain() -> NewFile {
+    NewFile::open(GEOMETRY, DATE)
+}
+
+/// A disk with a file of these bytes.
+fn with_file(typed: &str, bytes: &[u8]) -> Disk {
+    let mut disk = blank();
+    put(&mut disk, typed, bytes);
+    disk
+}
+
+fn put(disk: &mut Disk, typed: &str, bytes: &[u8]) {
+    disk.create(&name(typed), &plain()).unwrap();
+    for (i, byte) in bytes.iter().enumerate() {
+        let mut handle = disk.open(&name(typed), 1, Password::Unchecked).unwrap();
+        handle.set_position(i as u32);
+        disk.write_record(&mut handle, Kind::Sequential, &[*byte]).unwrap();
+    }
+}
+
+/// Where the entry of a slot lies in the image.
+fn entry_at(slot: u8) -> usize {
+    (GEOMETRY.start + usize::from(slot % 32) + 2) * 256 + 32 * usize::from(slot / 32)
+}
+
+/// Runs a call that must be refused, on a copy, and sees that it left the disk as it was.
+fn refused<T: std::fmt::Debug>(disk: &Disk, call: impl FnOnce(&mut Disk) -> Result<T, Refusal>) -> u8 {
+    let mut copy = disk.clone();
+    let refusal = call(&mut copy).expect_err("the call is refused");
+    assert!(copy.image() == disk.image(), "{refusal} changed the image");
+    refusal.number()
+}
+
+#[test]
+fn the_worked_listing() {
+    let mut disk = Disk::blank(Geometry::new(16, 2, 80, 0x4296), 10, &[0]).unwrap();
+    put(&mut disk, "PULS01/DAT", &[1; 257]);
+    disk.create(&name("LEER"), &plain()).unwrap();
+    assert_eq!(disk.listing().unwrap(), "FILES 2\nPULS01/DAT 257 1\nLEER 0 0\nFREE 28\n");
+}
+
+#[test]
+fn create_puts_each_number_in_its_place() {
+    let mut disk = blank();
+    let new = NewFile {
+        date: Date::new(1987, 11, 22),
+        record_length: 80,
+        main_code: 0x1234,
+        worker_code: 0x5678,
+        checking: true,
+    };
+    let Created { handle, old } = disk.create(&name("ABC/D"), &new).unwrap();
+    assert!(!old);
+    // The first permitted slot: row 0, s 8.
+    assert_eq!((handle.slot(), handle.level(), handle.record_length(), handle.position()), (8, 0, 80, 0));
+    assert_eq!(handle.name(), name("ABC/D"));
+    let at = entry_at(8);
+    let mut entry = *b"\x10\x16\x7b\x00\x50ABC     D  \x34\x12\x78\x56\x00\x00##########";
+    entry[0x16..].fill(0xff);
+    assert_eq!(disk.image()[at..at + 32], entry);
+
+    let entry = &disk.entries().unwrap()[0];
+    assert_eq!((entry.slot(), entry.name(), entry.date()), (8, name("ABC/D"), Date::new(1987, 11, 22)));
+    assert_eq!((entry.main_code(), entry.worker_code(), entry.record_length()), (0x1234, 0x5678, 80));
+
+    // An old file: opened by the main code if checking is on, and nothing changes.
+    assert_eq!(refused(&disk, |d| d.create(&name("ABC/D"), &plain())), 5);
+    let before = disk.image().to_vec();
+    for new in [NewFile { record_length: 7, ..new }, NewFile { checking: false, record_length: 7, ..plain() }] {
+        let Created { handle, old } = disk.create(&name("ABC/D"), &new).unwrap();
+        assert!(old);
+        assert_eq!((handle.slot(), handle.record_length()), (8, 7));
+    }
+    assert!(disk.image() == before);
+}
+
+#[test]
+fn look_up_tells_slot_and_count() {
+    // Names of one hash: start at 0, exclusive-or each byte in, rotate left.
+    let hash = |name: &Name| name.as_bytes().iter().fold(0u8, |h, byte| (h ^ byte).rotate_left(1));
+    let all: Vec<Name> = (0..2000).map(|i| name(&format!("F{i}"))).collect();
+    let alike: Vec<&Name> = all.iter().filter(|name| hash(name) == hash(&all[0])).take(4).collect();
+    let mut disk = blank();
+    for (i, name) in alike[..3].iter().enumerate() {
+        assert_eq!(disk.look_up(name), LookUp { slot: Err(Refusal::NotFound), compared: i });
+        disk.create(name, &plain()).unwrap();
+    }
+    let answers: Vec<_> = alike[..3].iter().map(|name| disk.look_up(name)).collect();
+    // Slots 8 to 12 of row 0: a directory of 15 sectors has s up to 12.
+    assert_eq!(answers, [(8, 1), (9, 2), (10, 3)].map(|(slot, compared)| LookUp { slot: Ok(slot), compared }));
+    assert_eq!(disk.look_up(alike[3]), LookUp { slot: Err(Refusal::NotFound), compared: 3 });
+    assert_eq!(disk.look_up(&Name::from_bytes([b' '; 11])), LookUp { slot: Err(Refusal::Name), compared: 0 });
+}
+
+#[test]
+fn open_follows_the_codes() {
+    let mut disk = blank();
+    let new = NewFile { main_code: 1, worker_code: 2, ..plain() };
+    let slot = disk.create(&name("A"), &new).unwrap().handle.slot();
+    let mut image = disk.into_image();
+    image[entry_at(slot)] |= 5;
+    let disk = Disk::new(image, GEOMETRY);
+    let level = |password| disk.open(&name("A"), 3, password).map(|handle| handle.level());
+    assert_eq!(level(Password::Unchecked), Ok(0));
+    assert_eq!(level(Password::Code(1)), Ok(0));
+    assert_eq!(level(Password::Code(2)), Ok(5));
+    assert_eq!(level(Password::Code(0)), Err(Refusal::Password));
+    assert_eq!(level(Password::Code(GEOMETRY.open_code)), Err(Refusal::Password));
+    assert_eq!(
+        Disk::new(disk.image(), Geometry { open_code: 1, ..GEOMETRY })
+            .open(&name("A"), 3, Password::Code(9))
+            .unwrap()
+            .level(),
+        0
+    );
+    assert_eq!(disk.open(&name("A"), 256, Password::Unchecked).unwrap().record_length(), 256);
+    assert_eq!(disk.open(&name("A"), 257, Password::Unchecked), Err(Refusal::Range));
+}
+
+#[test]
+fn records_and_sectors() {
+    let bytes: Vec<u8> = (0..1300u32).map(|i| (i * 7 + i / 256) as u8).collect();
+    let disk = with_file("A/B", &bytes);
+    let mut handle = disk.open(&name("A/B"), 100, Password::Unchecked).unwrap();
+    let mut buffer = [0xee; 120];
+    handle.set_position(1200);
+    disk.read_record(&mut handle, &mut buffer).unwrap();
+    assert_eq!(buffer[..100], bytes[1200..]);
+    assert_eq!(buffer[100..], [0xee; 20]);
+    assert_eq!(handle.position(), 1300);
+    assert_eq!(disk.read_record(&mut handle, &mut buffer), Err(Refusal::PastEnd));
+    assert_eq!(disk.read_record(&mut handle, &mut buffer[..99]), Err(Refusal::Range));
+    assert_eq!(handle.position(), 1300);
+
+    for k in 0..6 {
+        let sector = disk.read_sector(&handle, k).unwrap();
+        assert_eq!(sector, bytes.chunks(256).nth(k).unwrap());
+        // Granules 1 and 2: sectors 5 to 14 of the disk, in order.
+        assert_eq!(sector.as_ptr(), disk.image()[(5 + k) * 256..].as_ptr());
+    }
+    assert_eq!(disk.read_sector(&handle, 6), Err(Refusal::PastEnd));
+    assert_eq!(disk.read_sector(&handle, 7680), Err(Refusal::Range));
+    assert_eq!(disk.contents(&handle).unwrap(), bytes);
+}
+
+#[test]
+fn writes_of_both_kinds() {
+    let mut disk = with_file("A", b"0123456789");
+    let mut handle = disk.open(&name("A"), 3, Password::Unchecked).unwrap();
+    handle.set_position(2);
+    disk.write_record(&mut handle, Kind::Random, b"abcdef").unwrap();
+    assert_eq!(handle.position(), 5);
+    assert_eq!(disk.contents(&handle).unwrap(), b"01abc56789");
+    disk.write_record(&mut handle, Kind::Sequential, b"xyz").unwrap();
+    assert_eq!(disk.contents(&handle).unwrap(), b"01abcxyz");
+    handle.set_position(10);
+    disk.write_record(&mut handle, Kind::Random, b"end").unwrap();
+    assert_eq!(disk.contents(&handle).unwrap(), b"01abcxyz\0\0end");
+    assert!(disk.entries().unwrap()[0].was_worked_on());
+}
+
+#[test]
+fn the_largest_file_is_read_whole() {
+    // Only a system file can be of the largest size: one that owns every granule, the directory's too.
+    let geometry = Geometry::new(192, 8, 3840, 0);
+    let mut disk = Disk::blank(geometry, 30, &[]).unwrap();
+    let owner = name("ALL/SYS");
+    let mut entry = [0xff; 32];
+    entry[..5].copy_from_slice(&[0x50, 0, 0, 0, 0]);
+    entry[5..16].copy_from_slice(owner.as_bytes());
+    entry[16..22].copy_from_slice(&[0, 0, 0, 0, 0x00, 0x1e]);
+    // 48 runs of 32 granules: four blocks each, four runs an entry; the entries of row 0, slots 0 to 11.
+    let hash = owner.as_bytes().iter().fold(0u8, |h, byte| (h ^ byte).rotate_left(1));
+    let mut image = disk.into_image();
+    let directory = 3840 * 256;
+    image[directory..directory + 192].fill(0xff);
+    for slot in 0..12u8 {
+        if slot > 0 {
+            entry[..0x16].fill(0);
+            entry[..2].copy_from_slice(&[0x90, slot - 1]);
+        }
+        for run in 0..4 {
+            entry[0x16 + 2 * run..0x18 + 2 * run].copy_from_slice(&[16 * slot + 4 * run as u8, 0x1f]);
+        }
+        entry[0x1e..].copy_from_slice(if slot < 11 { &[0xfe, 0] } else { &[0xff, 0xff] });
+        entry[0x1f] = if slot < 11 { slot + 1 } else { 0xff };
+        let at = directory + (usize::from(slot) + 2) * 256;
+        image[at..at + 32].copy_from_slice(&entry);
+        image[directory + 256 + usize::from(slot)] = hash;
+    }
+    disk = Disk::new(image, geometry);
+    assert_eq!(disk.check(), Ok(()));
+    assert_eq!(disk.count(), Ok(Counts { files: 0, free: 0 }));
+    let handle = disk.open(&owner, 256, Password::Unchecked).unwrap();
+    assert!(disk.contents(&handle).unwrap() == disk.image());
+    let entry = &disk.entries().unwrap()[0];
+    assert_eq!((entry.size(), entry.granules(), entry.runs().len(), entry.is_system()), (1_966_080, 1536, 48, true));
+}
+
+#[test]
+fn entries_agree_with_the_listing() {
+    // Files that grow in turn are scattered: every granule is a run of its own, so there are extensions.
+    let mut disk = blank();
+    let names: Vec<Name> = (0..3).map(|i| name(&format!("FILE{i}/T"))).collect();
+    for name in &names {
+        disk.create(name, &plain()).unwrap();
+    }
+    for granule in 0..13 {
+        for name in &names {
+            let handle = disk.open(name, 256, Password::Unchecked).unwrap();
+            disk.allot(&handle, 5 * granule).unwrap();
+        }
+    }
+    let listed = disk.files().unwrap();
+    let entries = disk.entries().unwrap();
+    assert_eq!(listed.len(), 3);
+    for (listed, entry) in listed.iter().zip(&entries) {
+        assert_eq!((listed.name, listed.size, listed.granules), (entry.name(), entry.size(), entry.granules()));
+        assert!(entry.runs().len() > 8);
+        assert_eq!(disk.look_up(&entry.name()).slot, Ok(entry.slot()));
+    }
+    assert_eq!(disk.count().unwrap(), Counts { files: 3, free: 45 - 4 - 39 });
+    // No granule twice.
+    let mut owned: Vec<usize> =
+        entries.iter().flat_map(|e| e.runs().iter().flat_map(|run| run.first..run.first + run.granules)).collect();
+    owned.sort();
+    owned.dedup();
+    assert_eq!(owned.len(), 39);
+    assert_eq!(disk.directory_sectors(), Ok(15));
+
+    let handle = disk.open(&names[1], 256, Password::Unchecked).unwrap();
+    disk.trim(&handle).unwrap();
+    assert_eq!(disk.files().unwrap()[1].granules, 0);
+    assert_eq!(disk.count().unwrap().free, 2 + 13);
+    disk.kill(&handle).unwrap();
+    assert_eq!(disk.files().unwrap().len(), 2);
+}
+
+#[test]
+fn every_refusal_by_its_number() {
+    let disk = with_file("A", &[1; 1281]);
+    let handle = disk.open(&name("A"), 256, Password::Unchecked).unwrap();
+    let edited = |at: usize, bits: u8| {
+        let mut image = disk.image().to_vec();
+        image[at] ^= bits;
+        Disk::new(image, GEOMETRY)
+    };
+    let at = entry_at(handle.slot());
+
+    // 1 and 2, by every call.
+    for (bad, number) in [
+        (Disk::new(disk.image()[1..].to_vec(), GEOMETRY), 1),
+        (Disk::new(disk.image().to_vec(), Geometry { start: 61, ..GEOMETRY }), 1),
+        (Disk::new(disk.image().to_vec(), Geometry { blocks: usize::MAX, ..GEOMETRY }), 1),
+        (Disk::new(Vec::new(), GEOMETRY), 1),
+        (edited(at + 5, 0xff), 2),
+    ] {
+        let mut h = handle;
+        assert_eq!(refused(&bad, |d| d.check()), number);
+        assert_eq!(refused(&bad, |d| d.look_up(&name("A")).slot), number);
+        assert_eq!(refused(&bad, |d| d.open(&name("A"), 0, Password::Unchecked)), number);
+        assert_eq!(refused(&bad, |d| d.create(&name("A"), &plain())), number);
+        assert_eq!(refused(&bad, |d| d.read_record(&mut h, &mut [0; 256])), number);
+        assert_eq!(refused(&bad, |d| d.read_sector(&h, 0).map(<[u8]>::len)), number);
+        assert_eq!(refused(&bad, |d| d.write_record(&mut h, Kind::Random, &[0; 256])), number);
+        assert_eq!(refused(&bad, |d| d.allot(&h, 0)), number);
+        assert_eq!(refused(&bad, |d| d.trim(&h)), number);
+        assert_eq!(refused(&bad, |d| d.kill(&h)), number);
+        assert_eq!(refused(&bad, |d| d.list(0)), number);
+        assert_eq!(refused(&bad, |d| d.count()), number);
+        assert_eq!(refused(&bad, |d| d.files()), number);
+        assert_eq!(refused(&bad, |d| d.listing()), number);
+        assert_eq!(refused(&bad, |d| d.contents(&h)), number);
+        assert_eq!(refused(&bad, |d| d.entries()), number);
+        assert_eq!(refused(&bad, |d| d.directory_sectors()), number);
+        assert_eq!(h, handle);
+    }
+
+    // 12.
+    for date in [Date::new(1996, 1, 1), Date::new(1979, 1, 1), Date::new(1983, 16, 1), Date::new(1983, 1, 32)] {
+        assert_eq!(refused(&disk, |d| d.create(&name("B"), &NewFile { date, ..plain() })), 12);
+    }
+    let mut far = handle;
+    far.set_position(1_966_081);
+    assert_eq!(refused(&disk, |d| d.kill(&far)), 12);
+    assert_eq!(refused(&disk, |d| d.kill(&Handle::from_bytes([0; 19]))), 12);
+    assert_eq!(refused(&disk, |d| d.allot(&handle, 7680)), 12);
+    // 3, 7, 4.
+    assert_eq!(refused(&disk, |d| d.create(&Name::from_bytes(*b"a          "), &plain())), 3);
+    let mut stale = *handle.as_bytes();
+    stale[8] = b'B';
+    assert_eq!(refused(&disk, |d| d.trim(&Handle::from_bytes(stale))), 7);
+    assert_eq!(refused(&disk, |d| d.open(&name("B"), 1, Password::Unchecked)), 4);
+    // 5 stands in `open_follows_the_codes`. 6: a system file, and a level.
+    assert_eq!(refused(&edited(at, 0x40), |d| d.kill(&handle)), 6);
+    let mut low = *handle.as_bytes();
+    low[1] = 6;
+    assert_eq!(refused(&disk, |d| d.contents(&Handle::from_bytes(low))), 6);
+    // 10, 11, 9.
+    assert_eq!(refused(&disk, |d| d.read_sector(&handle, 6).map(<[u8]>::len)), 10);
+    assert_eq!(refused(&edited(at + 1, 0x40), |d| d.allot(&handle, 10)), 11);
+    assert_eq!(refused(&disk, |d| d.allot(&handle, 5 * 41)), 9);
+    disk.clone().allot(&handle, 5 * 41 - 1).unwrap();
+    // 8: a directory of 15 sectors has 72 permitted slots.
+    let mut full = disk.clone();
+    for i in 1..72 {
+        full.create(&name(&format!("F{i}")), &plain()).unwrap();
+    }
+    assert_eq!(refused(&full, |d| d.create(&name("F72"), &plain())), 8);
+}
+
+#[test]
+fn lent_and_owned_images() {
+    let mut owned = with_file("A", b"abc");
+    let mut bytes = owned.image().to_vec();
+    let mut lent = Disk::new(&mut bytes[..], GEOMETRY);
+    let handle = lent.open(&name("A"), 1, Password::Unchecked).unwrap();
+    lent.kill(&handle).unwrap();
+    assert_eq!(Disk::new(&bytes[..], GEOMETRY).count().unwrap().files, 0);
+    owned.kill(&handle).unwrap();
+    assert!(owned.into_image() == bytes);
+}
+
+#[test]
+fn blank_disks() {
+    for (sectors, slots) in [(10, 32), (15, 72), (20, 112), (25, 152), (30, 192)] {
+        let mut disk = Disk::blank(Geometry::new(192, 8, 0, 0), sectors, &[]).unwrap();
+        assert_eq!(disk.count().unwrap().free, 1536 - sectors / 5);
+        for i in 0..slots {
+            disk.create(&name(&format!("F{i}")), &plain()).unwrap();
+        }
+        assert_eq!(disk.create(&name("G"), &plain()), Err(Refusal::NoSlot));
+    }
+    let blank =
+        |geometry, sectors, reserved: &[usize]| Disk::blank(geometry, sectors, reserved).map(|_| ()).unwrap_err();
+    let small = Geometry::new(2, 1, 0, 0);
+    assert!(Disk::blank(small, 10, &[]).is_ok());
+    assert_eq!(blank(small, 15, &[]), Refusal::Inconsistent);
+    assert_eq!(blank(small, 12, &[]), Refusal::Inconsistent);
+    assert_eq!(blank(small, 5, &[]), Refusal::Inconsistent);
+    assert_eq!(blank(small, usize::MAX, &[]), Refusal::Inconsistent);
+    assert_eq!(blank(small, 10, &[2]), Refusal::Range);
+    assert_eq!(blank(Geometry { start: 5, ..small }, 10, &[]), Refusal::Geometry);
+    assert_eq!(blank(Geometry { start: usize::MAX, ..small }, 10, &[]), Refusal::Geometry);
+    assert_eq!(blank(Geometry { blocks: 0, ..small }, 10, &[]), Refusal::Geometry);
+    assert_eq!(blank(Geometry { units: 9, ..small }, 10, &[]), Refusal::Geometry);
+}
