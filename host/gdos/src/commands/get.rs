@@ -18,7 +18,7 @@ const OUTPUT: Spec = Spec {
     long: "output",
     short: Some(b'o'),
     value: Some("DIR"),
-    help: "the folder to write to (the present one); - for standard output",
+    help: "the folder to write to, made if need be (the present one); - for standard output",
 };
 const ALL: Spec = Spec { long: "all", short: Some(b'a'), value: None, help: "patterns find system files too" };
 
@@ -69,11 +69,11 @@ fn run(args: &Args) -> Result<Output, Failure> {
         Some(folder) => PathBuf::from(folder),
         None => PathBuf::new(),
     };
-    if !folder.as_os_str().is_empty() && !folder.is_dir() {
-        return Err(Failure::Wrong(format!("{} is not a folder", folder.display())));
-    }
     let disk = disk_of(args, image)?;
     let (path, password) = (shown(image), password(args, disk.geometry())?);
+    if !folder.as_os_str().is_empty() && !folder.is_dir() {
+        std::fs::create_dir(&folder).map_err(Failure::io("make the folder", &folder))?;
+    }
     let mut output = Output::default();
     let mut told = Vec::new();
     for choice in chosen(&disk, &path, words, args.has("all"))? {
