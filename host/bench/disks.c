@@ -134,7 +134,7 @@ static int full(struct bench_disk *d)
     return 1;
 }
 
-/* 40 files on a disk of 80 tracks of 36 sectors: six system files in kept slots, 34 others of up to 21 granules in one to six runs. */
+/* 40 files on 80 blocks of 7 units: six system files in kept slots, 34 others of up to 21 granules in one to seven runs. */
 static int typical(struct bench_disk *d)
 {
     static const char *const system[6] = { "BOOT    SYS", "DIR     SYS", "GDOS    SYS", "SYS1    SYS", "SYS2    SYS", "SYS3    SYS" };

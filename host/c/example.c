@@ -1,0 +1,129 @@
+/* A host in C: a full-size disk in memory, and one file's life on it, by the calls of genie.h.
+ * Prints what it does. Exit status 0 only if every step answers as genie.h says. */
+#include "genie.h"
+
+#include <stdio.h>
+#include <stdlib.h>
+#include <string.h>
+
+/* The largest disk: 192 blocks of 8 units, the directory of 10 sectors in its middle. */
+enum { BLOCKS = 192, UNITS = 8, START = 3840, DIRECTORY_SECTORS = 10, OPEN_CODE = 0x9642 };
+enum { IMAGE_BYTES = BLOCKS * UNITS * GENIE_GRANULE_BYTES };
+#define DISK image, (size_t)IMAGE_BYTES, BLOCKS, UNITS, START, OPEN_CODE
+
+static uint8_t *image;
+static int wrong;
+
+/* Says what was done and what came back, and remembers where that is not as it should be. */
+static void step(const char *what, unsigned answer, unsigned expected, int as_documented)
+{
+    const int good = answer == expected && as_documented;
+    printf("%-66s %2u%s\n", what, answer, good ? "" : "   NOT AS DOCUMENTED");
+    wrong += !good;
+}
+
+/* An empty consistent disk: all of the directory zero, its granules and the first one (for the loader) taken. */
+static void make_disk(void)
+{
+    uint8_t *const gat = image + START * GENIE_SECTOR_BYTES;
+    memset(image, 0xE5, IMAGE_BYTES); /* what a formatted sector holds */
+    memset(gat, 0, DIRECTORY_SECTORS * GENIE_SECTOR_BYTES);
+    gat[0] = 1;
+    for (size_t granule = START / 5; granule < (START + DIRECTORY_SECTORS) / 5; granule++) gat[granule / UNITS] |= (uint8_t)(1u << granule % UNITS);
+}
+
+static void set_position(uint8_t *handle, uint32_t position)
+{
+    for (unsigned i = 0; i < 4; i++) handle[4 + i] = (uint8_t)(position >> 8 * i);
+}
+
+static uint32_t position_of(const uint8_t *handle)
+{
+    uint32_t position = 0;
+    for (unsigned i = 0; i < 4; i++) position |= (uint32_t)handle[4 + i] << 8 * i;
+    return position;
+}
+
+int main(void)
+{
+    const uint8_t *const name = (const uint8_t *)"PULS01  DAT"; /* PULS01/DAT, 11 bytes */
+    const uint8_t zeros[GENIE_HANDLE_BYTES] = { 0 };
+    uint8_t handle[GENIE_HANDLE_BYTES], record[256], back[256], told[GENIE_NAME_BYTES];
+    size_t old, slot, compared, from, to, size, granules, more, files, left;
+
+    image = malloc(IMAGE_BYTES);
+    if (!image) {
+        fputs("no memory for the disk\n", stderr);
+        return 1;
+    }
+    make_disk();
+    step("check an empty disk of 1,966,080 bytes", genie_check(DISK), GENIE_DONE, 1);
+    step("check it with a wrong number of blocks", genie_check(image, IMAGE_BYTES, BLOCKS - 1, UNITS, START, OPEN_CODE), GENIE_GEOMETRY, 1);
+    uint8_t answer = genie_count(DISK, &files, &left);
+    step("count: no file, 1,533 granules free", answer, GENIE_DONE, files == 0 && left == BLOCKS * UNITS - 3);
+
+    memset(handle, 0xFF, sizeof handle);
+    answer = genie_open(DISK, name, GENIE_NAME_BYTES, 256, true, 0, handle, sizeof handle);
+    step("open PULS01/DAT before it is there: a handle of zeros", answer, GENIE_NOT_FOUND, !memcmp(handle, zeros, sizeof zeros));
+    answer = genie_create(DISK, name, GENIE_NAME_BYTES, 9, 10, 3, 256, OPEN_CODE, OPEN_CODE, true, &old, handle, sizeof handle);
+    step("create it, dated 9 October 1983, records of 256 bytes", answer, GENIE_DONE, old == 0 && handle[1] == 0 && position_of(handle) == 0);
+    answer = genie_look_up(DISK, name, GENIE_NAME_BYTES, &slot, &compared);
+    step("look it up: slot 80H, the first that is not kept; one compared", answer, GENIE_DONE, slot == 0x80 && slot == handle[0] && compared == 1);
+
+    unsigned written = 0;
+    for (unsigned i = 0; i < 20 && !written; i++) {
+        memset(record, (int)(i + 1), sizeof record);
+        written = genie_write_record(DISK, handle, sizeof handle, true, record, sizeof record);
+    }
+    step("write 20 records one after the other", written, GENIE_DONE, position_of(handle) == 20 * 256);
+    answer = genie_list(DISK, 0, told, sizeof told, &size, &granules, &more);
+    step("list: PULS01/DAT, 5,120 bytes, 4 granules", answer, GENIE_DONE, more == 1 && size == 5120 && granules == 4 && !memcmp(told, name, sizeof told));
+
+    set_position(handle, 1000000);
+    answer = genie_write_record(DISK, handle, sizeof handle, false, record, sizeof record);
+    step("write one at position 1,000,000", answer, GENIE_DONE, position_of(handle) == 1000256);
+    set_position(handle, 256 * 7);
+    answer = genie_read_record(DISK, handle, sizeof handle, back, sizeof back);
+    memset(record, 8, sizeof record);
+    step("read back the eighth record", answer, GENIE_DONE, !memcmp(back, record, sizeof back) && position_of(handle) == 256 * 8);
+    set_position(handle, 500000);
+    answer = genie_read_record(DISK, handle, sizeof handle, back, sizeof back);
+    memset(record, 0, sizeof record);
+    step("read in the gap: zeros", answer, GENIE_DONE, !memcmp(back, record, sizeof back));
+    set_position(handle, 1000001);
+    memcpy(record, back, sizeof record);
+    answer = genie_read_record(DISK, handle, sizeof handle, back, sizeof back);
+    step("read past the size: buffer and position stay", answer, GENIE_PAST_END, !memcmp(back, record, sizeof back) && position_of(handle) == 1000001);
+    answer = genie_read_sector(DISK, handle, sizeof handle, 3907, &from, &to);
+    step("read the last sector, 64 bytes of it, in place", answer, GENIE_DONE, to - from == 64 && image[from] == 20 && image[to - 1] == 20);
+    answer = genie_check(DISK);
+    step("check the disk", answer, GENIE_DONE, 1);
+
+    set_position(handle, 0);
+    answer = genie_write_record(DISK, handle, sizeof handle, true, record, sizeof record);
+    step("a sequential write at 0 shortens it to 256 bytes", answer, GENIE_DONE, 1);
+    answer = genie_trim(DISK, handle, sizeof handle);
+    step("trim it", answer, GENIE_DONE, 1);
+    answer = genie_allot(DISK, handle, sizeof handle, 99);
+    step("allot it space to sector 99", answer, GENIE_DONE, 1);
+    answer = genie_list(DISK, 0, told, sizeof told, &size, &granules, &more);
+    step("list: 256 bytes, 20 granules", answer, GENIE_DONE, more == 1 && size == 256 && granules == 20);
+    answer = genie_list(DISK, 1, told, sizeof told, &size, &granules, &more);
+    step("list on: no more", answer, GENIE_DONE, more == 0 && size == 0 && granules == 0);
+    answer = genie_allot(DISK, handle, sizeof handle, 7679);
+    step("allot it the whole disk: more than is free", answer, GENIE_DISK_FULL, 1);
+
+    answer = genie_kill(DISK, handle, sizeof handle);
+    step("kill it", answer, GENIE_DONE, 1);
+    answer = genie_kill(DISK, handle, sizeof handle);
+    step("kill it once more: the handle is stale", answer, GENIE_STALE, 1);
+    answer = genie_count(DISK, &files, &left);
+    step("count: no file, 1,533 granules free", answer, GENIE_DONE, files == 0 && left == BLOCKS * UNITS - 3);
+    image[START * GENIE_SECTOR_BYTES + GENIE_SECTOR_BYTES + 0x80] = 0xA2; /* slot 80H is not in use */
+    step("check after a byte of the HIT was damaged", genie_check(DISK), GENIE_INCONSISTENT, 1);
+
+    free(image);
+    if (wrong) printf("%d steps not as documented\n", wrong);
+    else printf("every step as documented\n");
+    return wrong ? 1 : 0;
+}
