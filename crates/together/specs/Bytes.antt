@@ -33,21 +33,15 @@ use Rattle.laws.specs.Places
 use Rattle.laws.specs.KillMeans
 use Rattle.laws.specs.Named
 use Rattle.laws.specs.Words.{words}
-use Rattle.together.specs.Inter.{Name, Move, one, two, Inter, Run, World, fresh, moves}
-use Rattle.together.specs.Chains
-use Rattle.together.specs.Chains.{Shares}
-use Rattle.together.specs.Lists.{Op, known, answer, accepts, Held, Good, handleAt}
-use Rattle.together.specs.Lists.Op.{looks, opens, creates, places, reads, readsSector, writes, allots, trims, kills}
+use Rattle.together.specs.Statement.{Name, Call, looksUp, opens, creates, moves, reads, readsSector, writes, allots, trims, kills, Side, known, answer, handleAt, Turn, one, two, Interleaving, none, left, right, World, start, next, after, Taken}
+use Rattle.together.specs.State.{Held, Good}
 use Rattle.together.specs.Effects
-use Rattle.together.specs.Together
+use Rattle.together.specs.Interleavings
+use Rattle.together.specs.Interleavings.{Fine, swap, swapped}
 use Rattle.together.specs.Quiet
 use Rattle.together.specs.Quiet.{Even, Laid, region, inEntry, inData, written}
 use Rattle.together.specs.Still
 use Rattle.together.specs.Still.{Still, Agreed}
-
--- accepted, and the file keeps its number of granules
-abbrev pub evenly : Geometry → Name → List ℕ → List Handle → Op → List ℕ → List Handle → Type 0
-evenly g n d hs c d′ hs′ = accepts g n d hs c d′ hs′ × Even g n d d′
 
 good-sound : (g : Geometry) (d : List ℕ) → Good g d → Sound g d
 unfolding Good
@@ -62,24 +56,20 @@ good-long g d e k l = good-fits g d k .size ∙ sym (good-fits g e l .size)
 
 -- One call on one disk -----------------------------------------------------------------------------------------------------
 
-still : (g : Geometry) (n : Name) (d : List ℕ) (hs : List Handle) (c : Op) → Held n hs → T (known hs c) → answer g n d hs c .number ≡ 0
-    → Even g n d (answer g n d hs c .disk) → Still g n d (answer g n d hs c .disk)
+still : (g : Geometry) (n : Name) (d : List ℕ) (s : Side) (c : Call) → Held n (s .handles) → T (known (s .handles) c) → answer g n d s c .number ≡ 0
+    → Even g n d (answer g n d s c .disk) → Still g n d (answer g n d s c .disk)
 unfolding answer known
-still g n d hs looks h t e q = Still.still-same g n d d refl
-still g n d hs (opens len checking code) h t e q = Still.still-same g n d d refl
-still g n d hs (creates f checking) h t e q = Still.still-same g n d _ (Quiet.create-quiet g d n f checking e q .image)
-still g n d hs (places i at) h t e q = Still.still-same g n d d refl
-still g n d hs (reads i b) h t e q = Still.still-same g n d d refl
-still g n d hs (readsSector i j) h t e q = Still.still-same g n d d refl
-still g n d hs (writes m i b) h t e q =
-    Still.write-still g d n m (handleAt hs i) b _ (Effects.held-at n hs i h t) (Quiet.write-quiet g d n m (handleAt hs i) b (Effects.held-at n hs i h t) e q)
-still g n d hs (allots i j) h t e q = Still.still-same g n d _ (Quiet.allot-still g d n (handleAt hs i) (Effects.held-at n hs i h t) j e q)
-still g n d hs (trims i) h t e q = Still.still-same g n d _ (Quiet.trim-still g d n (handleAt hs i) (Effects.held-at n hs i h t) e q)
-still g n d hs (kills i) h t e q = absurd (Quiet.kill-never g d n (handleAt hs i) (Effects.held-at n hs i h t) e q)
-
-step-still : (g : Geometry) (n : Name) (d : List ℕ) (hs : List Handle) (c : Op) (d′ : List ℕ) (hs′ : List Handle) → Held n hs → evenly g n d hs c d′ hs′ → Still g n d d′
-step-still g n d hs c d′ hs′ h s =
-    subst (λ (x : List ℕ). Still g n d x) (s .0 .2) (still g n d hs c h (s .0 .0) (s .0 .1) (subst (λ (x : List ℕ). Even g n d x) (sym (s .0 .2)) (s .1)))
+still g n d s looksUp h t e q = Still.still-same g n d d refl
+still g n d s (opens len checking code) h t e q = Still.still-same g n d d refl
+still g n d s (creates f checking) h t e q = Still.still-same g n d _ (Quiet.create-quiet g d n f checking e q .image)
+still g n d s (moves i at) h t e q = Still.still-same g n d d refl
+still g n d s (reads i b) h t e q = Still.still-same g n d d refl
+still g n d s (readsSector i j) h t e q = Still.still-same g n d d refl
+still g n d s (writes m i b) h t e q =
+    Still.write-still g d n m (handleAt (s .handles) i) b _ (Effects.held-at n (s .handles) i h t) (Quiet.write-quiet g d n m (handleAt (s .handles) i) b (Effects.held-at n (s .handles) i h t) e q)
+still g n d s (allots i j) h t e q = Still.still-same g n d _ (Quiet.allot-still g d n (handleAt (s .handles) i) (Effects.held-at n (s .handles) i h t) j e q)
+still g n d s (trims i) h t e q = Still.still-same g n d _ (Quiet.trim-still g d n (handleAt (s .handles) i) (Effects.held-at n (s .handles) i h t) e q)
+still g n d s (kills i) h t e q = absurd (Quiet.kill-never g d n (handleAt (s .handles) i) (Effects.held-at n (s .handles) i h t) e q)
 
 -- The same call on two disks that agree on its file's region ------------------------------------------------------------------
 
@@ -139,8 +129,9 @@ module _ (g : Geometry) (d₀ : List ℕ) (c₀ : Sound g d₀) (n : Name) where
     snoc : (h h′ : Handle) → h ≡ h′ → hs ++ (h ∷ []) ≡ hs ++ (h′ ∷ [])
     snoc h h′ q = ap (λ (x : Handle). hs ++ (x ∷ [])) q
 
-    Alike : Op → Type 0
-    Alike c = Agreed (region g d₀ n) (answer g n d hs c .disk) (answer g n e hs c .disk) × (answer g n d hs c .handles ≡ answer g n e hs c .handles)
+    -- what the lists were handed back plays no part
+    Alike : (o o′ : List (List ℕ)) → Call → Type 0
+    Alike o o′ c = Agreed (region g d₀ n) (answer g n d (record { handles = hs; heard = o }) c .disk) (answer g n e (record { handles = hs; heard = o′ }) c .disk) × (answer g n d (record { handles = hs; heard = o }) c .side .handles ≡ answer g n e (record { handles = hs; heard = o′ }) c .side .handles)
 
     agreed-eq : (x y : List ℕ) → x ≡ d → y ≡ e → Agreed (region g d₀ n) x y
     agreed-eq x y p q = rw (p, q) a
@@ -152,171 +143,185 @@ module _ (g : Geometry) (d₀ : List ℕ) (c₀ : Sound g d₀) (n : Name) where
         subst (λ (r : List ℕ). Agreed (region g d₀ n) r y) (sym (v .image)) (subst (λ (r : List ℕ). Agreed (region g d₀ n) (written g d p m (h .at) (h .len) (take (h .len) b)) r) (sym (w .image))
         (Still.agreed-write (region g d₀ n) g d e p m (h .at) (h .len) (take (h .len) b) (entry-region p (k .0) (k .1)) (ld .owns p (k .0) ∙ sym (le .owns p (k .0))) a))
 
-    alike : (c : Op) → T (known hs c) → answer g n d hs c .number ≡ 0 → answer g n e hs c .number ≡ 0
-        → Even g n d (answer g n d hs c .disk) → Even g n e (answer g n e hs c .disk) → Alike c
+    alike : (o o′ : List (List ℕ)) (c : Call) → T (known hs c) → answer g n d (record { handles = hs; heard = o }) c .number ≡ 0 → answer g n e (record { handles = hs; heard = o′ }) c .number ≡ 0
+        → Even g n d (answer g n d (record { handles = hs; heard = o }) c .disk) → Even g n e (answer g n e (record { handles = hs; heard = o′ }) c .disk) → Alike o o′ c
     unfolding answer known Alike
-    alike looks t x y q r = (a, refl)
-    alike (opens len checking code) t x y q r =
+    alike o o′ looksUp t x y q r = (a, refl)
+    alike o o′ (opens len checking code) t x y q r =
         let u = open-handle g d n len checking code x in let v = open-handle g e n len checking code y in
         (a, snoc _ _ (u .0 ∙ same-open len checking code (u .1) ∙ sym (v .0)))
-    alike (creates f checking) t x y q r =
+    alike o o′ (creates f checking) t x y q r =
         let u = Quiet.create-quiet g d n f checking x q in let v = Quiet.create-quiet g e n f checking y r in
         (agreed-eq _ _ (u .image) (v .image), snoc _ _ (u .handle ∙ same-open (f .len) checking (f .main) (u .old) ∙ sym (v .handle)))
-    alike (places i at) t x y q r = (a, refl)
-    alike (reads i b) t x y q r = (a, ap (set hs i) (read-handle g d (handleAt hs i) b x ∙ sym (read-handle g e (handleAt hs i) b y)))
-    alike (readsSector i j) t x y q r = (a, refl)
-    alike (writes m i b) t x y q r =
+    alike o o′ (moves i at) t x y q r = (a, refl)
+    alike o o′ (reads i b) t x y q r = (a, ap (set hs i) (read-handle g d (handleAt hs i) b x ∙ sym (read-handle g e (handleAt hs i) b y)))
+    alike o o′ (readsSector i j) t x y q r = (a, refl)
+    alike o o′ (writes m i b) t x y q r =
         let z = Effects.held-at n hs i held t in (
           write-alike m i b _ _ z (Quiet.write-quiet g d n m (handleAt hs i) b z x q) (Quiet.write-quiet g e n m (handleAt hs i) b z y r),
           ap (set hs i) (write-handle g d m (handleAt hs i) b x ∙ sym (write-handle g e m (handleAt hs i) b y)),
         )
-    alike (allots i j) t x y q r =
+    alike o o′ (allots i j) t x y q r =
         let z = Effects.held-at n hs i held t in
         (agreed-eq _ _ (Quiet.allot-still g d n (handleAt hs i) z j x q) (Quiet.allot-still g e n (handleAt hs i) z j y r), refl)
-    alike (trims i) t x y q r =
+    alike o o′ (trims i) t x y q r =
         let z = Effects.held-at n hs i held t in
         (agreed-eq _ _ (Quiet.trim-still g d n (handleAt hs i) z x q) (Quiet.trim-still g e n (handleAt hs i) z y r), refl)
-    alike (kills i) t x y q r = absurd (Quiet.kill-never g d n (handleAt hs i) (Effects.held-at n hs i held t) x q)
+    alike o o′ (kills i) t x y q r = absurd (Quiet.kill-never g d n (handleAt hs i) (Effects.held-at n hs i held t) x q)
+
+sides-alike : (g : Geometry) (d₀ : List ℕ) (c₀ : Sound g d₀) (n : Name) (d e : List ℕ) → Laid g d₀ d → Laid g d₀ e → Sound g d → Sound g e → Agreed (region g d₀ n) d e
+    → (s s′ : Side) → Held n (s .handles) → s .handles ≡ s′ .handles → (c : Call) → T (known (s .handles) c) → answer g n d s c .number ≡ 0 → answer g n e s′ c .number ≡ 0
+    → Even g n d (answer g n d s c .disk) → Even g n e (answer g n e s′ c .disk)
+    → Agreed (region g d₀ n) (answer g n d s c .disk) (answer g n e s′ c .disk) × (answer g n d s c .side .handles ≡ answer g n e s′ c .side .handles)
+sides-alike g d₀ c₀ n d e ld le cd ce a s s′ held q c t x y u v =
+    subst (λ (hs : List Handle). answer g n e (record { handles = hs; heard = s′ .heard }) c .number ≡ 0 → Even g n e (answer g n e (record { handles = hs; heard = s′ .heard }) c .disk)
+    → Agreed (region g d₀ n) (answer g n d s c .disk) (answer g n e (record { handles = hs; heard = s′ .heard }) c .disk) × (answer g n d s c .side .handles ≡ answer g n e (record { handles = hs; heard = s′ .heard }) c .side .handles))
+    q (λ y v. unfold Alike in alike g d₀ c₀ n d e ld le cd ce a (s .handles) held (s .heard) (s′ .heard) c t x y u v) y v
 
 -- Two lists ----------------------------------------------------------------------------------------------------------------
 
--- a disk, with what lies outside a region blanked
-abbrev pub seen : (ℕ → Bool) → List ℕ → ℕ → ℕ
-seen P d i = cond (P i) (byte d i) 0
+module _ (g : Geometry) (a b : Name) where
+  -- accepted, and the list's file keeps its number of granules
+  abbrev pub EvenTurn : World → Turn → Type 0
+  EvenTurn w (one c) = Taken g a b w (one c) × Even g a (w .disk) (next g a b w (one c) .disk)
+  EvenTurn w (two c) = Taken g a b w (two c) × Even g b (w .disk) (next g a b w (two c) .disk)
 
-pub seen-bytes : (P : ℕ → Bool) (x y : List ℕ) → seen P x ≡ seen P y → (i : ℕ) → T (P i) → byte x i ≡ byte y i
-seen-bytes P x y e i t =
-    let z : cond (P i) (byte x i) 0 ≡ cond (P i) (byte y i) 0 = ap (λ (v : ℕ → ℕ). v i) e in
-    rw (Members.T-true {b = P i} t) at z
+  abbrev pub Evenly : World → List Turn → Type 0
+  Evenly w [] = Unit {0}
+  Evenly w (z ∷ zs) = EvenTurn w z × Evenly (next g a b w z) zs
 
-pub bytes-seen : (P : ℕ → Bool) (x y : List ℕ) → ((i : ℕ) → T (P i) → byte x i ≡ byte y i) → seen P x ≡ seen P y
-bytes-seen P x y h = λ j i. point i (Members.decide (P i)) j
-  where
-    point : (i : ℕ) → Members.Test (P i) → cond (P i) (byte x i) 0 ≡ cond (P i) (byte y i) 0
-    point i (Members.Test.holds t) = ap (λ (v : ℕ). cond (P i) v 0) (h i t)
-    point i (Members.Test.fails t) = rw (Members.no-false {b = P i} t)
+pub swap-evenly : (g : Geometry) (a b : Name) (zs : List Turn) (w : World) → Evenly g a b w zs → Evenly g b a (swap w) (swapped zs)
+swap-evenly g a b [] w k = tt
+swap-evenly g a b (one c ∷ zs) w k = (k .0, swap-evenly g a b zs (next g a b w (one c)) (k .1))
+swap-evenly g a b (two c ∷ zs) w k = (k .0, swap-evenly g a b zs (next g a b w (two c)) (k .1))
 
-abbrev World′ : Type 0
-World′ = World (List ℕ) Handle
+-- the files lie where they lay on the disk d₀
+record Steady (g : Geometry) (a b : Name) (d₀ : List ℕ) (w : World) : Type 0 where
+  fine : Fine g a b w
+  laid : Laid g d₀ (w .disk)
 
-abbrev Part : Type 0
-Part = (ℕ → ℕ) × List Handle
+-- the first list has the same handles in both worlds, and its file the same bytes, where they lay on the disk d₀
+record Meets (g : Geometry) (a : Name) (d₀ : List ℕ) (w w′ : World) : Type 0 where
+  bytes : Agreed (region g d₀ a) (w .disk) (w′ .disk)
+  handles′ : w .first .handles ≡ w′ .first .handles
 
-part-eq : (v v′ : ℕ → ℕ) (hs hs′ : List Handle) → v ≡ v′ → hs ≡ hs′ → _≡_ {A = Part} (v, hs) (v′, hs′)
-part-eq v v′ hs hs′ p q = λ i. (p i, q i)
+swap-steady : (g : Geometry) (a b : Name) (d₀ : List ℕ) (w : World) → Steady g a b d₀ w → Steady g b a d₀ (swap w)
+swap-steady g a b d₀ w k = record { fine = Interleavings.swap-fine g a b w (k .fine); laid = k .laid }
 
-module _ (g : Geometry) (a b : Name) (ab : a ≢ b) (d₀ : List ℕ) (k₀ : Good g d₀) where
-  abbrev P : ℕ → Bool
-  P = region g d₀ a
+module _ (g : Geometry) (a b : Name) (d₀ : List ℕ) where
+  first-still : (w : World) (c : Call) → Steady g a b d₀ w → EvenTurn g a b w (one c) → Still g a (w .disk) (next g a b w (one c) .disk)
+  first-still w c k t = still g a (w .disk) (w .first) c (k .fine .first′) (t .0 .0) (t .0 .1) (t .1)
 
-  abbrev Q : ℕ → Bool
-  Q = region g d₀ b
+second-still : (g : Geometry) (a b : Name) (d₀ : List ℕ) (w : World) (c : Call) → Steady g a b d₀ w → EvenTurn g a b w (two c) → Still g b (w .disk) (next g a b w (two c) .disk)
+second-still g a b d₀ w c k t = first-still g b a d₀ (swap w) c (swap-steady g a b d₀ w k) t
 
-  abbrev acc : World′ → Move Op → World′ → Type 0
-  acc = moves (evenly g) a b
-
-  record Steady (w : World′) : Type 0 where
-    good : Good g (w .disk)
-    held₁ : Held a (w .mine)
-    held₂ : Held b (w .theirs)
-    laid : Laid g d₀ (w .disk)
-
-  c₀ : Sound g d₀
+module _ (g : Geometry) (a b : Name) (d₀ : List ℕ) (k₀ : Good g d₀) where
+  abbrev c₀ : Sound g d₀
   c₀ = good-sound g d₀ k₀
 
-  abbrev mine₁ : World′ → Part
-  mine₁ w = (seen P (w .disk), w .mine)
-
-  abbrev mine₂ : World′ → Part
-  mine₂ w = (seen Q (w .disk), w .theirs)
-
-  abbrev rest : World′ → ℕ → ℕ
-  rest w = seen (λ i. not (P i || Q i)) (w .disk)
-
-  -- what a step of a list leaves of bytes that are not its file's
-  spared : (n : Name) (d : List ℕ) (hs : List Handle) (c : Op) (d′ : List ℕ) (hs′ : List Handle) → Laid g d₀ d → Held n hs → evenly g n d hs c d′ hs′
-      → (i : ℕ) → (T (region g d₀ n i) → ⊥) → byte d′ i ≡ byte d i
-  spared n d hs c d′ hs′ l h s i o = step-still g n d hs c d′ hs′ h s .outside i (λ t. o (rw (Quiet.region-laid g d₀ c₀ d l n i) at t))
-
-  apart : (i : ℕ) → T (P i) → T (Q i) → ⊥
-  apart i t u = Quiet.regions-apart g d₀ c₀ (good-fits g d₀ k₀) a b ab i t u
-
-  steady : (w : World′) (m : Move Op) (w′ : World′) → Steady w → acc w m w′ → Steady w′
-  steady w (one c) w′ k s =
-      let x = Together.refines g .stays a (w .disk) (w .mine) c (w′ .disk) (w′ .mine) (k .good) (k .held₁) (s .0 .0) in
-      record {
-        good = x .0;
-        held₁ = x .1;
-        held₂ = rw (s .1) (k .held₂);
-        laid = Quiet.laid-trans g d₀ (w .disk) (w′ .disk) (k .laid) (step-still g a (w .disk) (w .mine) c (w′ .disk) (w′ .mine) (k .held₁) (s .0) .laid);
-      }
-  steady w (two c) w′ k s =
-      let x = Together.refines g .stays b (w .disk) (w .theirs) c (w′ .disk) (w′ .theirs) (k .good) (k .held₂) (s .0 .0) in
-      record {
-        good = x .0;
-        held₁ = rw (s .1) (k .held₁);
-        held₂ = x .1;
-        laid = Quiet.laid-trans g d₀ (w .disk) (w′ .disk) (k .laid) (step-still g b (w .disk) (w .theirs) c (w′ .disk) (w′ .theirs) (k .held₂) (s .0) .laid);
-      }
-
-  rest-step : (w : World′) (m : Move Op) (w′ : World′) → Steady w → acc w m w′ → rest w′ ≡ rest w
-  rest-step w (one c) w′ k s = bytes-seen (λ i. not (P i || Q i)) (w′ .disk) (w .disk) (λ i t.
-      spared a (w .disk) (w .mine) c (w′ .disk) (w′ .mine) (k .laid) (k .held₁) (s .0) i (λ u. T-not (P i || Q i) t (Members.or-l (P i) (Q i) u)))
-  rest-step w (two c) w′ k s = bytes-seen (λ i. not (P i || Q i)) (w′ .disk) (w .disk) (λ i t.
-      spared b (w .disk) (w .theirs) c (w′ .disk) (w′ .theirs) (k .laid) (k .held₂) (s .0) i (λ u. T-not (P i || Q i) t (Members.or-r (P i) (Q i) u)))
-
-  -- the same call of the list on n, in two worlds
-  hangs : (n : Name) (c : Op) (d e d′ e′ : List ℕ) (hs ks hs′ ks′ : List Handle) → Good g d → Good g e → Laid g d₀ d → Laid g d₀ e → Held n hs
-      → seen (region g d₀ n) d ≡ seen (region g d₀ n) e → hs ≡ ks → evenly g n d hs c d′ hs′ → evenly g n e ks c e′ ks′
-      → (seen (region g d₀ n) d′ ≡ seen (region g d₀ n) e′) × (hs′ ≡ ks′)
-  hangs n c d e d′ e′ hs ks hs′ ks′ kd ke ld le h v q s t =
-      let t′ : evenly g n e hs c e′ ks′ = subst (λ (l : List Handle). evenly g n e l c e′ ks′) (sym q) t in
-      let ag : Agreed (region g d₀ n) d e = record { long = good-long g d e kd ke; bytes = seen-bytes (region g d₀ n) d e v } in
-      let x = alike g d₀ c₀ n d e ld le (good-sound g d kd) (good-sound g e ke) ag hs h c (s .0 .0) (s .0 .1) (t′ .0 .1)
-      (subst (λ (r : List ℕ). Even g n d r) (sym (s .0 .2)) (s .1)) (subst (λ (r : List ℕ). Even g n e r) (sym (t′ .0 .2)) (t′ .1)) in
-      told x t′
-    where
-      told : Alike g d₀ c₀ n d e ld le (good-sound g d kd) (good-sound g e ke) (record { long = good-long g d e kd ke; bytes = seen-bytes (region g d₀ n) d e v }) hs h c → evenly g n e hs c e′ ks′
-          → (seen (region g d₀ n) d′ ≡ seen (region g d₀ n) e′) × (hs′ ≡ ks′)
-      told x t′ = unfold Alike in (
-        bytes-seen (region g d₀ n) d′ e′ (λ i u. ap (λ (r : List ℕ). byte r i) (sym (s .0 .2)) ∙ x .0 .bytes i u ∙ ap (λ (r : List ℕ). byte r i) (t′ .0 .2)),
-        sym (s .0 .3) ∙ x .1 ∙ t′ .0 .3,
-      )
-
-  shares : Shares acc Steady mine₁ mine₂ rest
-  shares = record {
-    stays = steady;
-    mine-kept = λ w c w′ k s. part-eq _ _ _ _ (bytes-seen P (w′ .disk) (w .disk) (λ i t.
-        spared b (w .disk) (w .theirs) c (w′ .disk) (w′ .theirs) (k .laid) (k .held₂) (s .0) i (λ u. apart i t u))) (s .1);
-    theirs-kept = λ w c w′ k s. part-eq _ _ _ _ (bytes-seen Q (w′ .disk) (w .disk) (λ i t.
-        spared a (w .disk) (w .mine) c (w′ .disk) (w′ .mine) (k .laid) (k .held₁) (s .0) i (λ u. apart i u t))) (s .1);
-    rest-kept = rest-step;
-    mine-hangs = λ c w w′ v v′ k l e s t. let x = hangs a c (w .disk) (v .disk) (w′ .disk) (v′ .disk) (w .mine) (v .mine) (w′ .mine) (v′ .mine) (k .good) (l .good) (k .laid) (l .laid) (k .held₁)
-        (ap (λ (y : Part). y .0) e) (ap (λ (y : Part). y .1) e) (s .0) (t .0) in part-eq _ _ _ _ (x .0) (x .1);
-    theirs-hangs = λ c w w′ v v′ k l e s t. let x = hangs b c (w .disk) (v .disk) (w′ .disk) (v′ .disk) (w .theirs) (v .theirs) (w′ .theirs) (v′ .theirs) (k .good) (l .good) (k .laid) (l .laid) (k .held₂)
-        (ap (λ (y : Part). y .0) e) (ap (λ (y : Part). y .1) e) (s .0) (t .0) in part-eq _ _ _ _ (x .0) (x .1);
+  steady : (w : World) (z : Turn) → Steady g a b d₀ w → EvenTurn g a b w z → Steady g a b d₀ (next g a b w z)
+  steady w (one c) k t = record {
+    fine = Interleavings.fine-next g a b w (one c) (k .fine) (t .0);
+    laid = Quiet.laid-trans g d₀ (w .disk) (next g a b w (one c) .disk) (k .laid) (first-still g a b d₀ w c k t .laid);
+  }
+  steady w (two c) k t = record {
+    fine = Interleavings.fine-next g a b w (two c) (k .fine) (t .0);
+    laid = Quiet.laid-trans g d₀ (w .disk) (next g a b w (two c) .disk) (k .laid) (second-still g a b d₀ w c k t .laid);
   }
 
-  end-steady : {w w′ : World′} {zs : List (Move Op)} → Steady w → Run acc w zs w′ → Steady w′
-  end-steady k Run.stop = k
-  end-steady k (Run.step {w = w} {w′ = w′} {m = m} s r) = end-steady (steady w m w′ k s) r
+  end-steady : (zs : List Turn) (w : World) → Steady g a b d₀ w → Evenly g a b w zs → Steady g a b d₀ (after g a b w zs)
+  end-steady [] w k t = k
+  end-steady (z ∷ zs) w k t = end-steady zs (next g a b w z) (steady w z k (t .0)) (t .1)
 
-  start : Steady (fresh d₀)
-  start = record { good = k₀; held₁ = unfold Held in tt; held₂ = unfold Held in tt; laid = Quiet.laid-same g d₀ }
+  -- a turn leaves the bytes that are not its file's
+  spared : (n : Name) (w : World) (d′ : List ℕ) → Steady g a b d₀ w → Still g n (w .disk) d′ → (i : ℕ) → (T (region g d₀ n i) → ⊥) → byte d′ i ≡ byte (w .disk) i
+  spared n w d′ k s i o = s .outside i (λ t. o (rw (Quiet.region-laid g d₀ c₀ (w .disk) (k .laid) n i) at t))
 
-  pub same-disks : {xs ys : List Op} {zs zs′ : List (Move Op)} {w w′ : World′} → Inter xs ys zs → Inter xs ys zs′ → Run acc (fresh d₀) zs w → Run acc (fresh d₀) zs′ w′ → w .disk ≡ w′ .disk
-  same-disks {w = w} {w′ = w′} i i′ r r′ =
-      ext-getD 0 (w .disk) (w′ .disk) (good-long g (w .disk) (w′ .disk) (end-steady start r .good) (end-steady start r′ .good)) (λ j h. point j (Members.decide (P j)) (Members.decide (Q j)))
-    where
-      point : (j : ℕ) → Members.Test (P j) → Members.Test (Q j) → byte (w .disk) j ≡ byte (w′ .disk) j
-      point j (Members.Test.holds t) u =
-          seen-bytes P (w .disk) (w′ .disk) (ap (λ (y : Part). y .0) (Chains.mine-agree acc Steady mine₁ mine₂ rest shares start i i′ r r′)) j t
-      point j (Members.Test.fails t) (Members.Test.holds u) =
-          seen-bytes Q (w .disk) (w′ .disk) (ap (λ (y : Part). y .0) (Chains.theirs-agree acc Steady mine₁ mine₂ rest shares start i i′ r r′)) j u
-      point j (Members.Test.fails t) (Members.Test.fails u) =
-          seen-bytes (λ i. not (P i || Q i)) (w .disk) (w′ .disk) (Chains.rest-same acc Steady mine₁ mine₂ rest shares start r ∙ sym (Chains.rest-same acc Steady mine₁ mine₂ rest shares start r′)) j
-          (not-T (P j || Q j) (λ v. neither j t u (Members.or-e (P j) (Q j) v)))
-        where
-          neither : (j : ℕ) → (T (P j) → ⊥) → (T (Q j) → ⊥) → T (P j) ⊎ T (Q j) → ⊥
-          neither j t u (inl x) = t x
-          neither j t u (inr x) = u x
+  -- the same turn of the first list, in two worlds
+  own-meets : (w w′ : World) (c : Call) → Steady g a b d₀ w → Steady g a b d₀ w′ → EvenTurn g a b w (one c) → EvenTurn g a b w′ (one c) → Meets g a d₀ w w′
+      → Meets g a d₀ (next g a b w (one c)) (next g a b w′ (one c))
+  own-meets w w′ c k k′ t t′ m =
+      let x = sides-alike g d₀ c₀ a (w .disk) (w′ .disk) (k .laid) (k′ .laid) (good-sound g (w .disk) (k .fine .good)) (good-sound g (w′ .disk) (k′ .fine .good)) (m .bytes)
+      (w .first) (w′ .first) (k .fine .first′) (m .handles′) c (t .0 .0) (t .0 .1) (t′ .0 .1) (t .1) (t′ .1) in
+      record { bytes = x .0; handles′ = x .1 }
+
+  -- a turn of the second list leaves the first list's part
+  other-meets : a ≢ b → (w : World) (c : Call) → Steady g a b d₀ w → EvenTurn g a b w (two c) → Meets g a d₀ (next g a b w (two c)) w
+  other-meets ab w c k t = record {
+    bytes = record {
+      long = good-long g (next g a b w (two c) .disk) (w .disk) (steady w (two c) k t .fine .good) (k .fine .good);
+      bytes = λ i u. spared b w (next g a b w (two c) .disk) k (second-still g a b d₀ w c k t) i (λ v. Quiet.regions-apart g d₀ c₀ (good-fits g d₀ k₀) a b ab i u v);
+    };
+    handles′ = refl;
+  }
+
+  meets-trans : (w w′ w″ : World) → Meets g a d₀ w w′ → Meets g a d₀ w′ w″ → Meets g a d₀ w w″
+  meets-trans w w′ w″ m n = record {
+    bytes = record { long = m .bytes .long ∙ n .bytes .long; bytes = λ i t. m .bytes .bytes i t ∙ n .bytes .bytes i t };
+    handles′ = m .handles′ ∙ n .handles′;
+  }
+
+  meets-sym : (w w′ : World) → Meets g a d₀ w w′ → Meets g a d₀ w′ w
+  meets-sym w w′ m = record { bytes = record { long = sym (m .bytes .long); bytes = λ i t. sym (m .bytes .bytes i t) }; handles′ = sym (m .handles′) }
+
+  -- the first list has no further turn
+  no-turn : a ≢ b → {ys : List Call} {zs : List Turn} → Interleaving [] ys zs → (w v : World) → Steady g a b d₀ v → Evenly g a b v zs → Meets g a d₀ w v → Meets g a d₀ w (after g a b v zs)
+  no-turn ab none w v k t m = m
+  no-turn ab (right {y = c} i) w v k t m =
+      let u = next g a b v (two c) in no-turn ab i w u (steady v (two c) k (t .0)) (t .1) (meets-trans w v u m (meets-sym u v (other-meets ab v c k (t .0))))
+
+  -- the turns up to the first list's next one, and then the rest
+  next-turn : a ≢ b → {x : Call} {xs ys : List Call} {zs : List Turn} → Interleaving (x ∷ xs) ys zs → (w v end : World) → Steady g a b d₀ v → Evenly g a b v zs → Meets g a d₀ w v
+      → ((ys′ : List Call) (zs′ : List Turn) → Interleaving xs ys′ zs′ → (u : World) → Steady g a b d₀ u → EvenTurn g a b u (one x) → Evenly g a b (next g a b u (one x)) zs′ → Meets g a d₀ w u
+      → Meets g a d₀ end (after g a b (next g a b u (one x)) zs′))
+      → Meets g a d₀ end (after g a b v zs)
+  next-turn ab (left i) w v end k t m f = f _ _ i v k (t .0) (t .1) m
+  next-turn ab (right {y = c} i) w v end k t m f =
+      let u = next g a b v (two c) in next-turn ab i w u end (steady v (two c) k (t .0)) (t .1) (meets-trans w v u m (meets-sym u v (other-meets ab v c k (t .0)))) f
+
+  -- so the first list's part is the same at the end of two interleavings
+  end-meets : a ≢ b → {xs ys ys′ : List Call} {zs zs′ : List Turn} → Interleaving xs ys zs → Interleaving xs ys′ zs′ → (w v : World) → Steady g a b d₀ w → Steady g a b d₀ v
+      → Evenly g a b w zs → Evenly g a b v zs′ → Meets g a d₀ w v → Meets g a d₀ (after g a b w zs) (after g a b v zs′)
+  end-meets ab none j w v k l t s m = no-turn ab j w v l s m
+  end-meets ab (left {x = c} {zs = zs} i) j w v k l t s m =
+      next-turn ab j w v (after g a b (next g a b w (one c)) zs) l s m (λ ys′ zs′ j′ u h e s′ n.
+      end-meets ab i j′ (next g a b w (one c)) (next g a b u (one c)) (steady w (one c) k (t .0)) (steady u (one c) h e) (t .1) s′ (own-meets w u c k h (t .0) e n))
+  end-meets ab (right {y = c} i) j w v k l t s m =
+      let u = next g a b w (two c) in end-meets ab i j u v (steady w (two c) k (t .0)) l (t .1) s (meets-trans u w v (other-meets ab w c k (t .0)) m)
+
+  -- and what is neither list's stays as it was
+  rest-kept : (i : ℕ) → (T (region g d₀ a i) → ⊥) → (T (region g d₀ b i) → ⊥) → (zs : List Turn) (w : World) → Steady g a b d₀ w → Evenly g a b w zs
+      → byte (after g a b w zs .disk) i ≡ byte (w .disk) i
+  rest-kept i p q [] w k t = refl
+  rest-kept i p q (one c ∷ zs) w k t =
+      rest-kept i p q zs (next g a b w (one c)) (steady w (one c) k (t .0)) (t .1) ∙ spared a w (next g a b w (one c) .disk) k (first-still g a b d₀ w c k (t .0)) i p
+  rest-kept i p q (two c ∷ zs) w k t =
+      rest-kept i p q zs (next g a b w (two c)) (steady w (two c) k (t .0)) (t .1) ∙ spared b w (next g a b w (two c) .disk) k (second-still g a b d₀ w c k (t .0)) i q
+
+  start-steady : Steady g a b d₀ (start d₀)
+  start-steady = record { fine = Interleavings.start-fine g a b d₀ k₀; laid = Quiet.laid-same g d₀ }
+
+  start-meets : Meets g a d₀ (start d₀) (start d₀)
+  start-meets = record { bytes = record { long = refl; bytes = λ i t. refl }; handles′ = refl }
+
+pub same-disks : (g : Geometry) (a b : Name) → a ≢ b → (d : List ℕ) → Good g d → {xs ys : List Call} {zs zs′ : List Turn} → Interleaving xs ys zs → Interleaving xs ys zs′
+    → Evenly g a b (start d) zs → Evenly g a b (start d) zs′ → after g a b (start d) zs .disk ≡ after g a b (start d) zs′ .disk
+same-disks g a b ab d k {zs = zs} {zs′ = zs′} i i′ t t′ =
+    let w = after g a b (start d) zs in let w′ = after g a b (start d) zs′ in
+    let s = start-steady g a b d k in
+    let long = good-long g (w .disk) (w′ .disk) (end-steady g a b d k zs (start d) s t .fine .good) (end-steady g a b d k zs′ (start d) s t′ .fine .good) in
+    let mine = end-meets g a b d k ab i i′ (start d) (start d) s s t t′ (start-meets g a b d k) .bytes in
+    let s′ = start-steady g b a d k in
+    let theirs : Agreed (region g d b) (w .disk) (w′ .disk) =
+    subst (λ (v : World). Agreed (region g d b) (v .disk) (w′ .disk)) (Interleavings.swap-after g a b zs (start d))
+    (subst (λ (v : World). Agreed (region g d b) (after g b a (start d) (swapped zs) .disk) (v .disk)) (Interleavings.swap-after g a b zs′ (start d))
+    (end-meets g b a d k (λ q. ab (sym q)) (Interleavings.swap-lists i) (Interleavings.swap-lists i′) (start d) (start d) s′ s′ (swap-evenly g a b zs (start d) t) (swap-evenly g a b zs′ (start d) t′)
+    (start-meets g b a d k) .bytes)) in
+    ext-getD 0 (w .disk) (w′ .disk) long (λ j h. point mine theirs j (Members.decide (region g d a j)) (Members.decide (region g d b j)))
+  where
+    point : Agreed (region g d a) (after g a b (start d) zs .disk) (after g a b (start d) zs′ .disk) → Agreed (region g d b) (after g a b (start d) zs .disk) (after g a b (start d) zs′ .disk)
+        → (j : ℕ) → Members.Test (region g d a j) → Members.Test (region g d b j) → byte (after g a b (start d) zs .disk) j ≡ byte (after g a b (start d) zs′ .disk) j
+    point mine theirs j (Members.Test.holds p) q = mine .bytes j p
+    point mine theirs j (Members.Test.fails p) (Members.Test.holds q) = theirs .bytes j q
+    point mine theirs j (Members.Test.fails p) (Members.Test.fails q) =
+        rest-kept g a b d k j p q zs (start d) (start-steady g a b d k) t ∙ sym (rest-kept g a b d k j p q zs′ (start d) (start-steady g a b d k) t′)

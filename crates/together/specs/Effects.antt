@@ -37,9 +37,8 @@ use Rattle.promises.specs.Grow
 use Rattle.promises.specs.Trim
 use Rattle.promises.specs.WriteMeans
 use Rattle.laws.specs.Words.{words}
-use Rattle.together.specs.Inter.{Name, Own, own}
-use Rattle.together.specs.Lists.{Op, known, answer, Grip, grip, State, abs, changed, born, levelOf, eff, Held, Good, handleAt, atPlace}
-use Rattle.together.specs.Lists.Op.{looks, opens, creates, places, reads, readsSector, writes, allots, trims, kills}
+use Rattle.together.specs.Statement.{Name, Call, looksUp, opens, creates, moves, reads, readsSector, writes, allots, trims, kills, Side, known, answer, handleAt, Grip, grip}
+use Rattle.together.specs.State.{State, stateOf, stands, changed, born, levelOf, effect, Held, Good, atPlace}
 
 -- Lists of handles -------------------------------------------------------------------------------------------------------
 
@@ -83,24 +82,24 @@ module _ (g : Geometry) (d : List ℕ) (n : Name) (h : Handle) (w : Holds g d h)
   called : nameOf g d (h .slot) ≡ n
   called = w .name′ ∙ e
 
-  abs-own : abs g d n ≡ found (fileAt g d (h .slot))
-  unfolding abs
-  abs-own = ap hush (Named.plain-is g d (w .sound) (h .slot) n (w .file) called) ∙ user-whole g d (h .slot) (w .user)
+  stands-own : stands g d n ≡ found (fileAt g d (h .slot))
+  unfolding stands
+  stands-own = ap hush (Named.plain-is g d (w .sound) (h .slot) n (w .file) called) ∙ user-whole g d (h .slot) (w .user)
 
-  abs-changed : (d′ : List ℕ) (u : File → File) → plain g d′ (nameOf g d (h .slot)) ≡ found (u (fileAt g d (h .slot))) → abs g d′ n ≡ changed u (abs g d n)
+  stands-changed : (d′ : List ℕ) (u : File → File) → plain g d′ (nameOf g d (h .slot)) ≡ found (u (fileAt g d (h .slot))) → stands g d′ n ≡ changed u (stands g d n)
   unfolding changed
-  abs-changed d′ u o = go ∙ sym (ap (changed u) abs-own)
+  stands-changed d′ u o = go ∙ sym (ap (changed u) stands-own)
     where
-      go : abs g d′ n ≡ hush (found (u (fileAt g d (h .slot))))
-      go = unfold abs in (ap (λ (m : Name). hush (plain g d′ m)) (sym called) ∙ ap hush o)
+      go : stands g d′ n ≡ hush (found (u (fileAt g d (h .slot))))
+      go = unfold stands in (ap (λ (m : Name). hush (plain g d′ m)) (sym called) ∙ ap hush o)
 
-  abs-gone : (d′ : List ℕ) → plain g d′ (nameOf g d (h .slot)) ≡ nothing → abs g d′ n ≡ nothing
-  unfolding abs hush
-  abs-gone d′ o = ap (λ (m : Name). hush (plain g d′ m)) (sym called) ∙ ap hush o
+  stands-gone : (d′ : List ℕ) → plain g d′ (nameOf g d (h .slot)) ≡ nothing → stands g d′ n ≡ nothing
+  unfolding stands hush
+  stands-gone d′ o = ap (λ (m : Name). hush (plain g d′ m)) (sym called) ∙ ap hush o
 
-  abs-others : (d′ : List ℕ) → ((m : Name) → m ≢ nameOf g d (h .slot) → hush (plain g d′ m) ≡ hush (plain g d m)) → (m : Name) → m ≢ n → abs g d′ m ≡ abs g d m
-  unfolding abs
-  abs-others d′ o m q = o m (λ z. q (z ∙ called))
+  stands-others : (d′ : List ℕ) → ((m : Name) → m ≢ nameOf g d (h .slot) → hush (plain g d′ m) ≡ hush (plain g d m)) → (m : Name) → m ≢ n → stands g d′ m ≡ stands g d m
+  unfolding stands
+  stands-others d′ o m q = o m (λ z. q (z ∙ called))
 
 good-after : (g : Geometry) (d d′ : List ℕ) → Good g d → length d′ ≡ length d → consistent g d′ ≡ true → Good g d′
 unfolding Good fitsGeometry
@@ -108,8 +107,8 @@ good-after g d d′ k l c = (rw l (k .0), c)
 
 -- the level that open gives
 open-level : (g : Geometry) (d : List ℕ) (n : Name) (checking : Bool) (code : ℕ) → (T (missing g d n) → ⊥)
-    → cond (full g d (firstOr 0 (named g d n)) checking code) 0 (accessLevel g d (firstOr 0 (named g d n))) ≡ levelOf g checking code (abs g d n)
-unfolding abs plain firstOr foundIn hush levelOf fileAt full
+    → cond (full g d (firstOr 0 (named g d n)) checking code) 0 (accessLevel g d (firstOr 0 (named g d n))) ≡ levelOf g checking code (stands g d n)
+unfolding stands plain firstOr foundIn hush levelOf fileAt full
 open-level g d n checking code h = go (named g d n) h
   where
     go : (xs : List ℕ) → (T (eqb (length xs) 0) → ⊥) → cond (full g d (firstOr 0 xs) checking code) 0 (accessLevel g d (firstOr 0 xs)) ≡ levelOf g checking code (hush (foundIn g d xs))
@@ -117,9 +116,9 @@ open-level g d n checking code h = go (named g d n) h
     go (x ∷ xs) h = refl
 
 -- a name that is not found has no file, and one that is found has one
-abs-missing : (g : Geometry) (d : List ℕ) (n : Name) → T (missing g d n) → abs g d n ≡ nothing
-unfolding abs plain foundIn hush
-abs-missing g d n t = go (named g d n) t
+stands-missing : (g : Geometry) (d : List ℕ) (n : Name) → T (missing g d n) → stands g d n ≡ nothing
+unfolding stands plain foundIn hush
+stands-missing g d n t = go (named g d n) t
   where
     go : (xs : List ℕ) → T (eqb (length xs) 0) → hush (foundIn g d xs) ≡ nothing
     go [] t = refl
@@ -129,9 +128,9 @@ new-level : (g : Geometry) (checking : Bool) (code : ℕ) (x : Found) → x ≡ 
 unfolding levelOf
 new-level g checking code x e = sym (ap (levelOf g checking code) e)
 
-abs-old : (g : Geometry) (d : List ℕ) (n : Name) (f : NewFile) → (T (missing g d n) → ⊥) → abs g d n ≡ born f (abs g d n)
-unfolding abs plain foundIn hush born
-abs-old g d n f t = go (named g d n) t
+stands-old : (g : Geometry) (d : List ℕ) (n : Name) (f : NewFile) → (T (missing g d n) → ⊥) → stands g d n ≡ born f (stands g d n)
+unfolding stands plain foundIn hush born
+stands-old g d n f t = go (named g d n) t
   where
     go : (xs : List ℕ) → (T (eqb (length xs) 0) → ⊥) → hush (foundIn g d xs) ≡ born f (hush (foundIn g d xs))
     go [] t = absurd (t tt)
@@ -139,30 +138,30 @@ abs-old g d n f t = go (named g d n) t
 
 -- Each call --------------------------------------------------------------------------------------------------------------
 
-pub record Effect (g : Geometry) (n : Name) (d : List ℕ) (hs : List Handle) (c : Op) (d′ : List ℕ) (hs′ : List Handle) : Type 0 where
+pub record Effect (g : Geometry) (n : Name) (d : List ℕ) (hs : List Handle) (c : Call) (d′ : List ℕ) (hs′ : List Handle) : Type 0 where
   pub good : Good g d′
   pub held : Held n hs′
-  pub file : abs g d′ n ≡ eff g c (own grip (abs g) n d hs) .file
-  pub grips : map grip hs′ ≡ eff g c (own grip (abs g) n d hs) .grips
-  pub spares : (m : Name) → m ≢ n → abs g d′ m ≡ abs g d m
+  pub file : stands g d′ n ≡ effect g n c (stateOf g n d hs) .file
+  pub grips : map grip hs′ ≡ effect g n c (stateOf g n d hs) .grips
+  pub spares : (m : Name) → m ≢ n → stands g d′ m ≡ stands g d m
 
 module _ (g : Geometry) (n : Name) (d : List ℕ) (hs : List Handle) (k : Good g d) (held : Held n hs) where
   abbrev before : State
-  before = own grip (abs g) n d hs
+  before = stateOf g n d hs
 
   grip-at : (i : ℕ) → getD (map grip hs) i (grip noHandle) ≡ grip (handleAt hs i)
   grip-at i = List·getD-map grip hs i noHandle
 
-  abs-same : (m : Name) → m ≢ n → abs g d m ≡ abs g d m
-  abs-same m q = refl
+  stands-same : (m : Name) → m ≢ n → stands g d m ≡ stands g d m
+  stands-same m q = refl
 
-  look-effect : lookUp g d n .number ≡ 0 → Effect g n d hs looks d hs
-  unfolding eff
-  look-effect e = record { good = k; held = held; file = refl; grips = refl; spares = abs-same }
+  look-effect : lookUp g d n .number ≡ 0 → Effect g n d hs looksUp d hs
+  unfolding effect
+  look-effect e = record { good = k; held = held; file = refl; grips = refl; spares = stands-same }
 
   open-effect : (len : ℕ) (checking : Bool) (code : ℕ) → open′ g d n len checking code .number ≡ 0
       → Effect g n d hs (opens len checking code) d (hs ++ (open′ g d n len checking code .handle ∷ []))
-  unfolding eff open′
+  unfolding effect open′
   open-effect len checking code e =
       let p₁ = KillMeans.passed 1 _ _ (omega arith) e in
       let p₂ = KillMeans.passed 2 _ _ (omega arith) (p₁ .1) in
@@ -173,18 +172,18 @@ module _ (g : Geometry) (n : Name) (d : List ℕ) (hs : List Handle) (k : Good g
         good = k;
         held = held-snoc n hs (openedAt g d (firstOr 0 (named g d n)) n len checking code) held refl;
         file = refl;
-        grips = map-snoc hs _ ∙ ap (λ (l : ℕ). map grip hs ++ (record { at = 0; len = len; level = l } ∷ [])) (open-level g d n checking code (p₅ .0));
-        spares = abs-same;
+        grips = map-snoc hs _ ∙ ap (λ (l : ℕ). map grip hs ++ (record { name = n; at = 0; len = len; level = l } ∷ [])) (open-level g d n checking code (p₅ .0));
+        spares = stands-same;
       })
 
-  place-effect : (i at : ℕ) → T (ltb i (length hs)) → Effect g n d hs (places i at) d (set hs i (movedTo (handleAt hs i) at))
-  unfolding eff
+  place-effect : (i at : ℕ) → T (ltb i (length hs)) → Effect g n d hs (moves i at) d (set hs i (movedTo (handleAt hs i) at))
+  unfolding effect
   place-effect i at t = record {
     good = k;
     held = held-set n hs i _ held (held-at n hs i held t);
     file = refl;
     grips = map-set hs i _ ∙ ap (λ (x : Grip). set (map grip hs) i (atPlace x at)) (sym (grip-at i));
-    spares = abs-same;
+    spares = stands-same;
   }
 
   moved : (i : ℕ) → map grip (set hs i (movedTo (handleAt hs i) (handleAt hs i .at + handleAt hs i .len)))
@@ -193,22 +192,22 @@ module _ (g : Geometry) (n : Name) (d : List ℕ) (hs : List Handle) (k : Good g
 
   read-effect : (i : ℕ) (b : List ℕ) → T (ltb i (length hs)) → readRecord g d (handleAt hs i) b .0 .number ≡ 0
       → Effect g n d hs (reads i b) d (set hs i (readRecord g d (handleAt hs i) b .0 .handle))
-  unfolding eff readRecord
+  unfolding effect readRecord
   read-effect i b t e = rw e (record {
     good = k;
     held = held-set n hs i _ held (held-at n hs i held t);
     file = refl;
     grips = moved i;
-    spares = abs-same;
+    spares = stands-same;
   })
 
   sector-effect : (i j : ℕ) → Effect g n d hs (readsSector i j) d hs
-  unfolding eff
-  sector-effect i j = record { good = k; held = held; file = refl; grips = refl; spares = abs-same }
+  unfolding effect
+  sector-effect i j = record { good = k; held = held; file = refl; grips = refl; spares = stands-same }
 
   write-effect : (m : Mode) (i : ℕ) (b : List ℕ) → T (ltb i (length hs)) → writeRecord g d m (handleAt hs i) b .0 .number ≡ 0
       → Effect g n d hs (writes m i b) (writeRecord g d m (handleAt hs i) b .1) (set hs i (writeRecord g d m (handleAt hs i) b .0 .handle))
-  unfolding eff
+  unfolding effect
   write-effect m i b t e =
       let h = handleAt hs i in
       let q = held-at n hs i held t in
@@ -217,10 +216,10 @@ module _ (g : Geometry) (n : Name) (d : List ℕ) (hs : List Handle) (k : Good g
       record {
         good = good-after g d d′ k (w .1 .long) (w .1 .consistent′);
         held = held-set n hs i _ held (name-kept q);
-        file = abs-changed g d n h (w .0) q d′ (writtenTo m (h .at) (take (h .len) b)) (w .1 .own)
-            ∙ ap (λ (x : Grip). changed (writtenTo m (x .at) (take (x .len) b)) (abs g d n)) (sym (grip-at i));
+        file = stands-changed g d n h (w .0) q d′ (writtenTo m (h .at) (take (h .len) b)) (w .1 .own)
+            ∙ ap (λ (x : Grip). changed (writtenTo m (x .at) (take (x .len) b)) (stands g d n)) (sym (grip-at i));
         grips = handle-moved;
-        spares = abs-others g d n h (w .0) q d′ (w .1 .others);
+        spares = stands-others g d n h (w .0) q d′ (w .1 .others);
       }
     where
       name-kept : handleAt hs i .name ≡ n → writeRecord g d m (handleAt hs i) b .0 .handle .name ≡ n
@@ -232,7 +231,7 @@ module _ (g : Geometry) (n : Name) (d : List ℕ) (hs : List Handle) (k : Good g
 
   allot-effect : (i j : ℕ) → T (ltb i (length hs)) → allot g d (handleAt hs i) j .0 .number ≡ 0
       → Effect g n d hs (allots i j) (allot g d (handleAt hs i) j .1) hs
-  unfolding eff
+  unfolding effect
   allot-effect i j t e =
       let h = handleAt hs i in
       let q = held-at n hs i held t in
@@ -242,14 +241,14 @@ module _ (g : Geometry) (n : Name) (d : List ℕ) (hs : List Handle) (k : Good g
       record {
         good = good-after g d d′ k (x .long) (x .consistent′);
         held = held;
-        file = abs-changed g d n h w q d′ (allottedTo j) (x .own);
+        file = stands-changed g d n h w q d′ (allottedTo j) (x .own);
         grips = refl;
-        spares = abs-others g d n h w q d′ (x .others);
+        spares = stands-others g d n h w q d′ (x .others);
       }
 
   trim-effect : (i : ℕ) → T (ltb i (length hs)) → trim g d (handleAt hs i) .0 .number ≡ 0
       → Effect g n d hs (trims i) (trim g d (handleAt hs i) .1) hs
-  unfolding eff
+  unfolding effect
   trim-effect i t e =
       let h = handleAt hs i in
       let q = held-at n hs i held t in
@@ -259,14 +258,14 @@ module _ (g : Geometry) (n : Name) (d : List ℕ) (hs : List Handle) (k : Good g
       record {
         good = good-after g d d′ k (x .long) (x .consistent′);
         held = held;
-        file = abs-changed g d n h w q d′ trimmed (x .own);
+        file = stands-changed g d n h w q d′ trimmed (x .own);
         grips = refl;
-        spares = abs-others g d n h w q d′ (x .others);
+        spares = stands-others g d n h w q d′ (x .others);
       }
 
   kill-effect : (i : ℕ) → T (ltb i (length hs)) → kill g d (handleAt hs i) .0 .number ≡ 0
       → Effect g n d hs (kills i) (kill g d (handleAt hs i) .1) hs
-  unfolding eff
+  unfolding effect
   kill-effect i t e =
       let h = handleAt hs i in
       let q = held-at n hs i held t in
@@ -276,20 +275,20 @@ module _ (g : Geometry) (n : Name) (d : List ℕ) (hs : List Handle) (k : Good g
       record {
         good = good-after g d d′ k (x .long) (x .consistent′);
         held = held;
-        file = abs-gone g d n h w q d′ (x .gone);
+        file = stands-gone g d n h w q d′ (x .gone);
         grips = refl;
-        spares = abs-others g d n h w q d′ (x .others);
+        spares = stands-others g d n h w q d′ (x .others);
       }
 
   create-old : (f : NewFile) (checking : Bool) → create g d n f checking .0 .number ≡ 0 → (T (missing g d n) → ⊥)
       → Effect g n d hs (creates f checking) (create g d n f checking .1) (hs ++ (create g d n f checking .0 .handle ∷ []))
-  unfolding create eff
+  unfolding create effect
   create-old f checking e t = rw (e, Members.no-false {b = missing g d n} t) (record {
     good = k;
     held = held-snoc n hs (openedAt g d (firstOr 0 (named g d n)) n (f .len) checking (f .main)) held refl;
-    file = abs-old g d n f t;
-    grips = map-snoc hs _ ∙ ap (λ (l : ℕ). map grip hs ++ (record { at = 0; len = f .len; level = l } ∷ [])) (open-level g d n checking (f .main) t);
-    spares = abs-same;
+    file = stands-old g d n f t;
+    grips = map-snoc hs _ ∙ ap (λ (l : ℕ). map grip hs ++ (record { name = n; at = 0; len = f .len; level = l } ∷ [])) (open-level g d n checking (f .main) t);
+    spares = stands-same;
   })
 
   new-handle : (f : NewFile) (checking : Bool) → create g d n f checking .0 .number ≡ 0 → T (missing g d n)
@@ -297,16 +296,16 @@ module _ (g : Geometry) (n : Name) (d : List ℕ) (hs : List Handle) (k : Good g
   unfolding create
   new-handle f checking e t = rw (e, Members.T-true {b = missing g d n} t) (refl, refl)
 
-  new-file : (f : NewFile) (d′ : List ℕ) → T (missing g d n) → plain g d′ n ≡ found (bornAs f) → abs g d′ n ≡ born f (abs g d n)
+  new-file : (f : NewFile) (d′ : List ℕ) → T (missing g d n) → plain g d′ n ≡ found (bornAs f) → stands g d′ n ≡ born f (stands g d n)
   unfolding born
-  new-file f d′ t e = told ∙ sym (ap (born f) (abs-missing g d n t))
+  new-file f d′ t e = told ∙ sym (ap (born f) (stands-missing g d n t))
     where
-      told : abs g d′ n ≡ hush (found (bornAs f))
-      told = unfold abs in ap hush e
+      told : stands g d′ n ≡ hush (found (bornAs f))
+      told = unfold stands in ap hush e
 
   create-new : (f : NewFile) (checking : Bool) → create g d n f checking .0 .number ≡ 0 → T (missing g d n)
       → Effect g n d hs (creates f checking) (create g d n f checking .1) (hs ++ (create g d n f checking .0 .handle ∷ []))
-  unfolding eff abs
+  unfolding effect stands
   create-new f checking e t =
       let h = new-handle f checking e t in
       let x = Create.create-means g d n f checking e (h .0) in
@@ -316,7 +315,7 @@ module _ (g : Geometry) (n : Name) (d : List ℕ) (hs : List Handle) (k : Good g
         held = held-snoc n hs _ held (ap (λ (y : Handle). y .name) (h .1));
         file = new-file f d′ t (x .born);
         grips = map-snoc hs _ ∙ ap (λ (y : Handle). map grip hs ++ (grip y ∷ [])) (h .1)
-            ∙ ap (λ (l : ℕ). map grip hs ++ (record { at = 0; len = f .len; level = l } ∷ [])) (new-level g checking (f .main) (abs g d n) (abs-missing g d n t));
+            ∙ ap (λ (l : ℕ). map grip hs ++ (record { name = n; at = 0; len = f .len; level = l } ∷ [])) (new-level g checking (f .main) (stands g d n) (stands-missing g d n t));
         spares = x .others;
       }
 
@@ -329,16 +328,16 @@ module _ (g : Geometry) (n : Name) (d : List ℕ) (hs : List Handle) (k : Good g
       go (Members.Test.holds t) = create-new f checking e t
 
 -- the call as one of the list
-pub effect : (g : Geometry) (n : Name) (d : List ℕ) (hs : List Handle) (c : Op) → Good g d → Held n hs → T (known hs c) → answer g n d hs c .number ≡ 0
-    → Effect g n d hs c (answer g n d hs c .disk) (answer g n d hs c .handles)
+pub has-effect : (g : Geometry) (n : Name) (d : List ℕ) (s : Side) (c : Call) → Good g d → Held n (s .handles) → T (known (s .handles) c) → answer g n d s c .number ≡ 0
+    → Effect g n d (s .handles) c (answer g n d s c .disk) (answer g n d s c .side .handles)
 unfolding answer known
-effect g n d hs looks k h t e = look-effect g n d hs k h e
-effect g n d hs (opens len checking code) k h t e = open-effect g n d hs k h len checking code e
-effect g n d hs (creates f checking) k h t e = create-effect g n d hs k h f checking e
-effect g n d hs (places i at) k h t e = place-effect g n d hs k h i at t
-effect g n d hs (reads i b) k h t e = read-effect g n d hs k h i b t e
-effect g n d hs (readsSector i j) k h t e = sector-effect g n d hs k h i j
-effect g n d hs (writes m i b) k h t e = write-effect g n d hs k h m i b t e
-effect g n d hs (allots i j) k h t e = allot-effect g n d hs k h i j t e
-effect g n d hs (trims i) k h t e = trim-effect g n d hs k h i t e
-effect g n d hs (kills i) k h t e = kill-effect g n d hs k h i t e
+has-effect g n d s looksUp k h t e = look-effect g n d (s .handles) k h e
+has-effect g n d s (opens len checking code) k h t e = open-effect g n d (s .handles) k h len checking code e
+has-effect g n d s (creates f checking) k h t e = create-effect g n d (s .handles) k h f checking e
+has-effect g n d s (moves i at) k h t e = place-effect g n d (s .handles) k h i at t
+has-effect g n d s (reads i b) k h t e = read-effect g n d (s .handles) k h i b t e
+has-effect g n d s (readsSector i j) k h t e = sector-effect g n d (s .handles) k h i j
+has-effect g n d s (writes m i b) k h t e = write-effect g n d (s .handles) k h m i b t e
+has-effect g n d s (allots i j) k h t e = allot-effect g n d (s .handles) k h i j t e
+has-effect g n d s (trims i) k h t e = trim-effect g n d (s .handles) k h i t e
+has-effect g n d s (kills i) k h t e = kill-effect g n d (s .handles) k h i t e

@@ -1,8 +1,8 @@
-pub mod Inter
-pub mod Lists
+pub mod Statement
+pub mod State
 pub mod Effects
-pub mod Together
-pub mod Chains
+pub mod Interleavings
+pub mod SameFiles
 pub mod Quiet
 pub mod Still
 pub mod Bytes

@@ -48,19 +48,14 @@ use Rattle.promises.specs.WriteMeans
 use Rattle.promises.specs.Write
 use Rattle.laws.specs.Places
 use Rattle.laws.specs.Words.{words}
-use Rattle.together.specs.Inter.{Name}
+use Rattle.together.specs.Statement.{Name, Quiet}
 
 -- the entries and the granules of the file of that name, none if there is none
-unfoldable pub entriesOf : Geometry → List ℕ → Name → List ℕ
+abbrev entriesOf : Geometry → List ℕ → Name → List ℕ
 entriesOf g d n = each (chain g d) (named g d n)
 
-unfoldable pub granulesOf : Geometry → List ℕ → Name → List ℕ
+abbrev granulesOf : Geometry → List ℕ → Name → List ℕ
 granulesOf g d n = each (owned g d) (named g d n)
-
--- no granule and no entry was taken or given back
-pub record Quiet (g : Geometry) (n : Name) (d d′ : List ℕ) : Type 0 where
-  pub entries : entriesOf g d′ n ≡ entriesOf g d n
-  pub granules : granulesOf g d′ n ≡ granulesOf g d n
 
 present : Found → ℕ
 present nothing = 0
@@ -75,7 +70,7 @@ found-inj a b e = cc
 
 -- the number of granules, as the plain file tells it
 plain-granules : (g : Geometry) (d : List ℕ) (n : Name) (f : File) → plain g d n ≡ found f → f .granules ≡ length (granulesOf g d n)
-unfolding plain foundIn granulesOf fileAt words
+unfolding plain foundIn fileAt words
 plain-granules g d n f e = go (keep (carries g d n) (candidates g d n)) e
   where
     go : (ys : List ℕ) → foundIn g d (take 1 ys) ≡ found f → f .granules ≡ length (each (owned g d) (take 1 ys))
@@ -83,7 +78,7 @@ plain-granules g d n f e = go (keep (carries g d n) (candidates g d n)) e
     go (y ∷ ys) e = ap (λ (x : File). x .granules) (sym (found-inj (fileAt g d y) f e)) ∙ ap length (sym (append-nil (owned g d y)))
 
 nothing-entries : (g : Geometry) (d : List ℕ) (n : Name) → plain g d n ≡ nothing → entriesOf g d n ≡ []
-unfolding plain foundIn entriesOf words
+unfolding plain foundIn words
 nothing-entries g d n e = go (keep (carries g d n) (candidates g d n)) e
   where
     go : (ys : List ℕ) → foundIn g d (take 1 ys) ≡ nothing → each (chain g d) (take 1 ys) ≡ []
@@ -91,7 +86,6 @@ nothing-entries g d n e = go (keep (carries g d n) (candidates g d n)) e
     go (y ∷ ys) e = not-both (fileAt g d y) (sym e)
 
 found-entries : (g : Geometry) (d : List ℕ) (n : Name) (f : File) → Sound g d → plain g d n ≡ found f → entriesOf g d n ≢ []
-unfolding entriesOf
 found-entries g d n f c e z = go (Named.look g d c n)
   where
     go : ((p : ℕ) × Facts.File g d p × (nameOf g d p ≡ n)) ⊎ ((p : ℕ) → Facts.File g d p → nameOf g d p ≢ n) → ⊥

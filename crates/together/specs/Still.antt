@@ -35,7 +35,7 @@ use Rattle.promises.specs.Write
 use Rattle.promises.specs.Over
 use Rattle.laws.specs.Store.{store-length}
 use Rattle.laws.specs.Words.{words}
-use Rattle.together.specs.Inter.{Name}
+use Rattle.together.specs.Statement.{Name}
 use Rattle.together.specs.Quiet
 use Rattle.together.specs.Quiet.{Laid, QuietWrite, written, region, inEntry, inData}
 

@@ -1,0 +1,236 @@
+-- Demand 3, as it is stated: two lists of calls, each on its own file, and one consistent disk. Any two interleavings of the lists in
+-- which every call is accepted agree in what `Agree` says, at the end of this page. The proof is in Demand3.antt.
+--
+-- Everything here is about the calls of `meaning`, which answer as the program does: each function's contract says so.
+use Prim.Native.Nat.{ℕ, _-_}
+use mathlib.Core.Path.{_≡_}
+use mathlib.Core.Logic.{_≢_}
+use mathlib.Core.Bool.{Bool, true, not, cond}
+use mathlib.Core.List.{List, [], _∷_, _++_, map}
+use lib.Dec.{T, ltb}
+use lib.ListN.{length, getD, set, take, drop}
+use Rattle.meaning.specs.Lists.{each}
+use Rattle.meaning.specs.Bits.{bit}
+use Rattle.meaning.specs.Layout.{fitsGeometry}
+use Rattle.meaning.specs.Entries.{system}
+use Rattle.meaning.specs.Chain.{chain, owned}
+use Rattle.meaning.specs.Consistent.{consistent}
+use Rattle.meaning.specs.Refusals.{movedTo, noHandle}
+use Rattle.meaning.specs.LookUp.{lookUp, named}
+use Rattle.meaning.specs.Open.{open′}
+use Rattle.meaning.specs.Create.{create}
+use Rattle.meaning.specs.Read.{readRecord, readSector}
+use Rattle.meaning.specs.Write.{writeRecord}
+use Rattle.meaning.specs.Allot.{allot}
+use Rattle.meaning.specs.Trim.{trim}
+use Rattle.meaning.specs.Kill.{kill}
+use Rattle.meaning.specs.Plain.{File, Found, found, nothing, plain}
+use Rattle.meaning.specs.declared.Geometry.{Geometry}
+use Rattle.meaning.specs.declared.Handle.{Handle}
+use Rattle.meaning.specs.declared.NewFile.{NewFile}
+use Rattle.meaning.specs.declared.Mode.{Mode}
+
+abbrev pub Name : Type 0
+Name = List ℕ
+
+-- 1. A list of calls on one file ----------------------------------------------------------------------------------------------
+
+-- In a list of calls on one file each call uses a handle that the same list opened or created earlier: the first number of a call by a
+-- handle is that handle's place among them, from 0. Its positions and the bytes it writes are the list's own, fixed beforehand. The name
+-- is the list's, and no call repeats it; the geometry is the same for all.
+pub data Call : Type 0 where
+  looksUp : Call
+  -- record length, whether codes are checked, the code
+  opens : ℕ → Bool → ℕ → Call
+  creates : NewFile → Bool → Call
+  -- Between calls the caller may set the position; where it does not, the handle stays where its last call put it.
+  moves : ℕ → ℕ → Call
+  -- into a buffer that holds these bytes
+  reads : ℕ → List ℕ → Call
+  readsSector : ℕ → ℕ → Call
+  -- from the start of these bytes
+  writes : Mode → ℕ → List ℕ → Call
+  allots : ℕ → ℕ → Call
+  trims : ℕ → Call
+  kills : ℕ → Call
+
+-- what a list has by now: its handles in the order in which it opened or created them, and what its reads handed back, in their order
+pub record Side : Type 0 where
+  pub handles : List Handle
+  pub heard : List (List ℕ)
+
+abbrev pub handleAt : List Handle → ℕ → Handle
+handleAt hs i = getD hs i noHandle
+
+abbrev pub withNew : Side → Handle → Side
+withNew s h = record { handles = s .handles ++ (h ∷ []); heard = s .heard }
+
+abbrev pub withMoved : Side → ℕ → Handle → Side
+withMoved s i h = record { handles = set (s .handles) i h; heard = s .heard }
+
+abbrev pub hearing : Side → List ℕ → Side
+hearing s bytes = record { handles = s .handles; heard = s .heard ++ (bytes ∷ []) }
+
+-- what is kept of bytes handed back: of a system file none, for the directory may itself be a file
+abbrev pub told : Geometry → List ℕ → Handle → List ℕ → List ℕ
+told g d h bytes = cond (system g d (h .slot)) [] bytes
+
+-- the list has the handle that the call names
+unfoldable pub known : List Handle → Call → Bool
+known hs looksUp = true
+known hs (opens len checking code) = true
+known hs (creates f checking) = true
+known hs (moves i at) = ltb i (length hs)
+known hs (reads i buffer) = ltb i (length hs)
+known hs (readsSector i k) = ltb i (length hs)
+known hs (writes m i bytes) = ltb i (length hs)
+known hs (allots i k) = ltb i (length hs)
+known hs (trims i) = ltb i (length hs)
+known hs (kills i) = ltb i (length hs)
+
+-- the number that a call answers, and the disk and the list's side that it leaves
+pub record Answered : Type 0 where
+  pub number : ℕ
+  pub disk : List ℕ
+  pub side : Side
+
+unfoldable pub answer : Geometry → Name → List ℕ → Side → Call → Answered
+answer g n d s looksUp = record { number = lookUp g d n .number; disk = d; side = s }
+answer g n d s (opens len checking code) =
+    let r = open′ g d n len checking code in record { number = r .number; disk = d; side = withNew s (r .handle) }
+answer g n d s (creates f checking) =
+    let r = create g d n f checking in record { number = r .0 .number; disk = r .1; side = withNew s (r .0 .handle) }
+answer g n d s (moves i at) = record { number = 0; disk = d; side = withMoved s i (movedTo (handleAt (s .handles) i) at) }
+answer g n d s (reads i buffer) =
+    let h = handleAt (s .handles) i in let r = readRecord g d h buffer in
+    record { number = r .0 .number; disk = d; side = hearing (withMoved s i (r .0 .handle)) (told g d h (r .1)) }
+answer g n d s (readsSector i k) =
+    let h = handleAt (s .handles) i in let r = readSector g d h k in
+    record { number = r .number; disk = d; side = hearing s (told g d h (take (r .to - r .from) (drop (r .from) d))) }
+answer g n d s (writes m i bytes) =
+    let r = writeRecord g d m (handleAt (s .handles) i) bytes in record { number = r .0 .number; disk = r .1; side = withMoved s i (r .0 .handle) }
+answer g n d s (allots i k) = let r = allot g d (handleAt (s .handles) i) k in record { number = r .0 .number; disk = r .1; side = s }
+answer g n d s (trims i) = let r = trim g d (handleAt (s .handles) i) in record { number = r .0 .number; disk = r .1; side = s }
+answer g n d s (kills i) = let r = kill g d (handleAt (s .handles) i) in record { number = r .0 .number; disk = r .1; side = s }
+
+-- 2. Two lists, interleaved ---------------------------------------------------------------------------------------------------
+
+-- a call of the first list, or of the second
+pub data Turn : Type 0 where
+  one : Call → Turn
+  two : Call → Turn
+
+-- the two lists, each in its own order, laid into one
+pub data Interleaving : List Call → List Call → List Turn → Type 0 where
+  none : Interleaving [] [] []
+  left : {x : Call} {xs ys : List Call} {zs : List Turn} → Interleaving xs ys zs → Interleaving (x ∷ xs) ys (one x ∷ zs)
+  right : {y : Call} {xs ys : List Call} {zs : List Turn} → Interleaving xs ys zs → Interleaving xs (y ∷ ys) (two y ∷ zs)
+
+-- the disk, and what each list has
+pub record World : Type 0 where
+  pub disk : List ℕ
+  pub first : Side
+  pub second : Side
+
+-- no handle is open yet
+abbrev pub start : List ℕ → World
+start d = record { disk = d; first = record { handles = []; heard = [] }; second = record { handles = []; heard = [] } }
+
+-- no granule and no entry of the file of that name was taken or given back; a call takes and gives back none of another file's
+pub record Quiet (g : Geometry) (n : Name) (d d′ : List ℕ) : Type 0 where
+  pub entries : each (chain g d′) (named g d′ n) ≡ each (chain g d) (named g d n)
+  pub granules : each (owned g d′) (named g d′ n) ≡ each (owned g d) (named g d n)
+
+-- the first list is on the file a, the second on b
+module _ (g : Geometry) (a b : Name) where
+  abbrev pub answered : World → Turn → Answered
+  answered w (one c) = answer g a (w .disk) (w .first) c
+  answered w (two c) = answer g b (w .disk) (w .second) c
+
+  -- what a turn leaves
+  abbrev pub next : World → Turn → World
+  next w (one c) = let r = answered w (one c) in record { disk = r .disk; first = r .side; second = w .second }
+  next w (two c) = let r = answered w (two c) in record { disk = r .disk; first = w .first; second = r .side }
+
+  abbrev pub after : World → List Turn → World
+  after w [] = w
+  after w (t ∷ ts) = after (next w t) ts
+
+  -- the call names a handle that its list has, and is accepted
+  abbrev pub Taken : World → Turn → Type 0
+  Taken w (one c) = T (known (w .first .handles) c) × (answered w (one c) .number ≡ 0)
+  Taken w (two c) = T (known (w .second .handles) c) × (answered w (two c) .number ≡ 0)
+
+  -- every call is accepted
+  abbrev pub Accepted : World → List Turn → Type 0
+  Accepted w [] = Unit {0}
+  Accepted w (t ∷ ts) = Taken w t × Accepted (next w t) ts
+
+  -- no call takes or gives back a granule or an entry
+  abbrev pub AllQuiet : World → List Turn → Type 0
+  AllQuiet w [] = Unit {0}
+  AllQuiet w (one c ∷ ts) = Quiet g a (w .disk) (next w (one c) .disk) × AllQuiet (next w (one c)) ts
+  AllQuiet w (two c ∷ ts) = Quiet g b (w .disk) (next w (two c) .disk) × AllQuiet (next w (two c)) ts
+
+-- 3. The same named files -----------------------------------------------------------------------------------------------------
+
+abbrev pub systemFile : File → Bool
+systemFile f = bit 6 (getD (f .attributes) 0 0)
+
+-- the same attributes, sizes and granule counts and, system files apart, the same bytes
+pub record Alike (f f′ : File) : Type 0 where
+  pub attributes : f .attributes ≡ f′ .attributes
+  pub size : length (f .bytes) ≡ length (f′ .bytes)
+  pub granules : f .granules ≡ f′ .granules
+  pub bytes : T (not (systemFile f)) → f .bytes ≡ f′ .bytes
+
+-- under a name stands no file on either disk, or one on both and they are alike
+pub data Same : Found → Found → Type 0 where
+  neither : Same nothing nothing
+  both : {f f′ : File} → Alike f f′ → Same (found f) (found f′)
+
+-- both disks hold the same named files
+abbrev pub SameFiles : Geometry → List ℕ → List ℕ → Type 0
+SameFiles g d d′ = (n : Name) → Same (plain g d n) (plain g d′ n)
+
+-- the file under that name, if it is no system file, is as it was
+abbrev pub AsItWas : Geometry → Name → List ℕ → List ℕ → Type 0
+AsItWas g n d d′ = (f : File) → plain g d n ≡ found f → T (not (systemFile f)) → plain g d′ n ≡ found f
+
+-- 4. What is promised ---------------------------------------------------------------------------------------------------------
+
+-- a handle, its slot apart
+pub record Grip : Type 0 where
+  pub name : Name
+  pub at : ℕ
+  pub len : ℕ
+  pub level : ℕ
+
+abbrev pub grip : Handle → Grip
+grip h = record { name = h .name; at = h .at; len = h .len; level = h .level }
+
+-- of the worlds w and w′ at the end of two interleavings, the first of them zs, from the disk d
+pub record Agree (g : Geometry) (a b : Name) (d : List ℕ) (zs : List Turn) (w w′ : World) : Type 0 where
+  -- Both disks hold the same named files with the same attributes, sizes and granule counts and, system files apart, the same bytes.
+  pub files : SameFiles g (w .disk) (w′ .disk)
+  -- Every third file that is no system file is as it was; of a third system file all but its bytes, and no third name comes or goes.
+  pub third : (n : Name) → n ≢ a → n ≢ b → AsItWas g n d (w .disk) × Same (plain g d n) (plain g (w .disk) n)
+  -- If no call takes or gives back a granule or an entry, in one of the two interleavings, the images are equal byte for byte.
+  pub image : AllQuiet g a b (start d) zs → w .disk ≡ w′ .disk
+  -- Both disks are consistent.
+  pub consistent′ : (consistent g (w .disk) ≡ true) × (consistent g (w′ .disk) ≡ true)
+  -- Each list ends with the same handles, slots apart, and has been handed back the same bytes.
+  pub handles : (map grip (w .first .handles) ≡ map grip (w′ .first .handles)) × (map grip (w .second .handles) ≡ map grip (w′ .second .handles))
+
+-- Two lists of calls on two files whose names differ, one consistent disk, and any two interleavings in which every call is accepted.
+--
+-- That neither file is a system file is no premise: it is not needed. The calls that write refuse a system file, so in an accepted list
+-- on one there is none of them, and `Same` and `told` leave a system file's bytes out by themselves.
+-- Deliberately not promised, since 01 does not give it: slots, look up's count, the place of a sector, the order of the listing; that an
+-- order of the calls is accepted because another one is; that the handle of a killed file stays dead.
+abbrev pub Demand3 : Type 0
+Demand3 =
+    (g : Geometry) (a b : Name) → a ≢ b → (d : List ℕ) → fitsGeometry g d ≡ true → consistent g d ≡ true
+    → (xs ys : List Call) (zs zs′ : List Turn) → Interleaving xs ys zs → Interleaving xs ys zs′
+    → Accepted g a b (start d) zs → Accepted g a b (start d) zs′
+    → Agree g a b d zs (after g a b (start d) zs) (after g a b (start d) zs′)
