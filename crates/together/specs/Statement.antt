@@ -219,7 +219,7 @@ pub record Agree (g : Geometry) (a b : Name) (d : List ℕ) (zs : List Turn) (w 
   pub image : AllQuiet g a b (start d) zs → w .disk ≡ w′ .disk
   -- Both disks are consistent.
   pub consistent′ : (consistent g (w .disk) ≡ true) × (consistent g (w′ .disk) ≡ true)
-  -- Each list ends with the same handles, slots apart, and has been handed back the same bytes.
+  -- Each list ends with the same handles, slots apart.
   pub handles : (map grip (w .first .handles) ≡ map grip (w′ .first .handles)) × (map grip (w .second .handles) ≡ map grip (w′ .second .handles))
 
 -- Two lists of calls on two files whose names differ, one consistent disk, and any two interleavings in which every call is accepted.
