@@ -120,34 +120,40 @@ impl Outcome {
 const EDGE: usize = 64;
 const EDGE_BYTE: u8 = 0xA7;
 
-/// Bytes to lend, with an edge before and behind that nobody may write on.
+/// Bytes to lend, with an edge before and behind that nobody may write on. They begin at any address,
+/// odd ones included.
 #[derive(Clone)]
 pub struct Lent {
     all: Vec<u8>,
+    lent: std::ops::Range<usize>,
 }
 
 impl Lent {
     pub fn new(content: &[u8]) -> Lent {
-        let mut all = vec![EDGE_BYTE; content.len() + 2 * EDGE];
-        all[EDGE..EDGE + content.len()].copy_from_slice(content);
-        Lent { all }
+        let first = EDGE
+            + content
+                .iter()
+                .take(16)
+                .fold(0, |sum, &byte| sum ^ byte as usize)
+                % 8;
+        let lent = first..first + content.len();
+        let mut all = vec![EDGE_BYTE; lent.end + EDGE];
+        all[lent.clone()].copy_from_slice(content);
+        Lent { all, lent }
     }
 
     pub fn bytes(&self) -> &[u8] {
-        std::hint::black_box(&self.all[EDGE..self.all.len() - EDGE])
+        std::hint::black_box(&self.all[self.lent.clone()])
     }
 
     pub fn lend(&mut self) -> &mut [u8] {
-        let end = self.all.len() - EDGE;
-        &mut self.all[EDGE..end]
+        &mut self.all[self.lent.clone()]
     }
 
     pub fn edges_whole(&self) -> bool {
         let all = std::hint::black_box(&self.all);
-        all[..EDGE]
-            .iter()
-            .chain(&all[all.len() - EDGE..])
-            .all(|&byte| byte == EDGE_BYTE)
+        let edges = all[..self.lent.start].iter().chain(&all[self.lent.end..]);
+        edges.copied().all(|byte| byte == EDGE_BYTE)
     }
 }
 

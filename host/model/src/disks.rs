@@ -35,6 +35,8 @@ struct Plan {
     comb: bool,
     /// How many permitted slots stay free, if that is planned.
     slots_left: Option<usize>,
+    /// The most runs that a file gets.
+    runs: usize,
     /// Chance in a hundred that a place 01 does not test holds odd bytes.
     odd: usize,
 }
@@ -91,6 +93,7 @@ fn plan(random: &mut Random) -> Plan {
         } else {
             None
         },
+        runs: if random.percent(4) { 900 } else { 60 },
         odd: *random.pick(&[0, 30, 100]),
     }
 }
@@ -360,7 +363,7 @@ impl Builder<'_> {
                 0 => 0,
                 1..=6 => self.random.within(1, PAIRS),
                 7 | 8 => self.random.within(5, 12),
-                _ => self.random.within(13, 60),
+                _ => self.random.within(13, self.plan.runs),
             };
             let mut runs: Vec<(usize, usize)> = Vec::new();
             for _ in 0..wanted {

@@ -1,23 +1,26 @@
 //! Holds the library against the model on random disks and random calls, and runs demand 3's
 //! interleavings on it. Ends with status 0 only if nothing differed and every refusal of every call
-//! occurred. The same seed and number of calls give the same run.
+//! occurred. The same seed and number of calls give the same run; a disk's seed gives that disk's part.
 
 use genie_model::binding::linked;
-use genie_model::compare::{run, Bounds, Seen};
+use genie_model::compare::{disk_run, run, Bounds, Seen};
 use genie_model::interleave::{demand_three, Tally};
 use genie_model::random::Random;
 use std::process::ExitCode;
 use std::time::Instant;
 
-const USAGE: &str = "usage: differential [--seed N] [--seconds S] [--calls N]
+const USAGE: &str = "usage: differential [--seed N] [--seconds S] [--calls N] [--disk N]
   --seed N      the run's seed (1)
   --seconds S   at most so many seconds (45)
-  --calls N     at most so many random calls (no limit)";
+  --calls N     at most so many random calls (no limit)
+  --disk N      only the disk with this seed, as a difference told it";
 
 /// Of the seconds, the part that goes to interleavings.
 const INTERLEAVING_PART: f64 = 0.2;
 
-fn bounds() -> Result<Bounds, String> {
+/// The bounds, and the one disk to run if there is one.
+fn asked() -> Result<(Bounds, Option<u64>), String> {
+    let mut disk = None;
     let mut bounds = Bounds {
         seed: 1,
         seconds: 45.0,
@@ -31,15 +34,19 @@ fn bounds() -> Result<Bounds, String> {
             "--seed" => bounds.seed = value.parse().map_err(|_| no_number)?,
             "--calls" => bounds.calls = value.parse().map_err(|_| no_number)?,
             "--seconds" => bounds.seconds = value.parse().map_err(|_| no_number)?,
+            "--disk" => disk = Some(value.parse().map_err(|_| no_number)?),
             _ => return Err(USAGE.into()),
         }
     }
-    Ok(bounds)
+    Ok((bounds, disk))
 }
 
-fn compare(bounds: &Bounds) -> Result<(), String> {
+fn compare(bounds: &Bounds, disk: Option<u64>) -> Result<(), String> {
     let library = linked()
         .ok_or("built without libgenie.a: name its directory in GENIE_LIB_DIR and build again")?;
+    if let Some(seed) = disk {
+        return disk_run(&*library, seed, &mut Seen::default());
+    }
     println!("seed {}, at most {} seconds", bounds.seed, bounds.seconds);
 
     let mut seen = Seen::default();
@@ -72,7 +79,7 @@ fn compare(bounds: &Bounds) -> Result<(), String> {
 }
 
 fn main() -> ExitCode {
-    match bounds().and_then(|bounds| compare(&bounds)) {
+    match asked().and_then(|(bounds, disk)| compare(&bounds, disk)) {
         Ok(()) => {
             println!("no difference");
             ExitCode::SUCCESS
