@@ -19,9 +19,6 @@ fn main() {
         println!("cargo:rustc-link-lib=static:-bundle=genie");
         println!("cargo:rustc-cfg=genie_linked");
     } else {
-        println!(
-            "cargo:warning=no libgenie.a in {}: nothing to compare with",
-            dir.display()
-        );
+        println!("cargo:warning=no libgenie.a in {}: nothing to compare with", dir.display());
     }
 }

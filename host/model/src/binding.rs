@@ -12,9 +12,7 @@ pub fn linked() -> Option<Box<dyn Library>> {
 
 /// The linked library, for tests that are nothing without it.
 pub fn linked_or_fail() -> Box<dyn Library> {
-    linked().expect(
-        "built without libgenie.a: build the library first, or name its directory in GENIE_LIB_DIR",
-    )
+    linked().expect("built without libgenie.a: build the library first, or name its directory in GENIE_LIB_DIR")
 }
 
 #[cfg(genie_linked)]
@@ -183,16 +181,7 @@ mod bound {
             "library"
         }
         fn check(&self, image: &[u8], g: &Geometry) -> Number {
-            unsafe {
-                genie_check(
-                    image.as_ptr(),
-                    image.len(),
-                    g.blocks,
-                    g.units,
-                    g.start,
-                    g.open_code,
-                )
-            }
+            unsafe { genie_check(image.as_ptr(), image.len(), g.blocks, g.units, g.start, g.open_code) }
         }
         fn look_up(
             &self,
@@ -277,13 +266,7 @@ mod bound {
                 )
             }
         }
-        fn read_record(
-            &self,
-            image: &[u8],
-            g: &Geometry,
-            handle: &mut [u8],
-            buffer: &mut [u8],
-        ) -> Number {
+        fn read_record(&self, image: &[u8], g: &Geometry, handle: &mut [u8], buffer: &mut [u8]) -> Number {
             unsafe {
                 genie_read_record(
                     image.as_ptr(),
@@ -420,16 +403,7 @@ mod bound {
         }
         fn count(&self, image: &[u8], g: &Geometry, files: &mut usize, free: &mut usize) -> Number {
             unsafe {
-                genie_count(
-                    image.as_ptr(),
-                    image.len(),
-                    g.blocks,
-                    g.units,
-                    g.start,
-                    g.open_code,
-                    files,
-                    free,
-                )
+                genie_count(image.as_ptr(), image.len(), g.blocks, g.units, g.start, g.open_code, files, free)
             }
         }
     }

@@ -8,48 +8,16 @@ use crate::library::Library;
 #[derive(Clone, Debug)]
 pub enum Call {
     Check,
-    LookUp {
-        name: Vec<u8>,
-    },
-    Open {
-        name: Vec<u8>,
-        length: usize,
-        checking: bool,
-        code: u16,
-        handle: Vec<u8>,
-    },
-    Create {
-        name: Vec<u8>,
-        birth: Birth,
-        handle: Vec<u8>,
-    },
-    ReadRecord {
-        handle: Vec<u8>,
-        buffer: Vec<u8>,
-    },
-    ReadSector {
-        handle: Vec<u8>,
-        k: usize,
-    },
-    WriteRecord {
-        handle: Vec<u8>,
-        sequential: bool,
-        buffer: Vec<u8>,
-    },
-    Allot {
-        handle: Vec<u8>,
-        k: usize,
-    },
-    Trim {
-        handle: Vec<u8>,
-    },
-    Kill {
-        handle: Vec<u8>,
-    },
-    List {
-        which: usize,
-        name: Vec<u8>,
-    },
+    LookUp { name: Vec<u8> },
+    Open { name: Vec<u8>, length: usize, checking: bool, code: u16, handle: Vec<u8> },
+    Create { name: Vec<u8>, birth: Birth, handle: Vec<u8> },
+    ReadRecord { handle: Vec<u8>, buffer: Vec<u8> },
+    ReadSector { handle: Vec<u8>, k: usize },
+    WriteRecord { handle: Vec<u8>, sequential: bool, buffer: Vec<u8> },
+    Allot { handle: Vec<u8>, k: usize },
+    Trim { handle: Vec<u8> },
+    Kill { handle: Vec<u8> },
+    List { which: usize, name: Vec<u8> },
     Count,
 }
 
@@ -62,12 +30,8 @@ impl Call {
             Call::Create { .. } => "create",
             Call::ReadRecord { .. } => "read record",
             Call::ReadSector { .. } => "read sector",
-            Call::WriteRecord {
-                sequential: true, ..
-            } => "write sequential",
-            Call::WriteRecord {
-                sequential: false, ..
-            } => "write random",
+            Call::WriteRecord { sequential: true, .. } => "write sequential",
+            Call::WriteRecord { sequential: false, .. } => "write random",
             Call::Allot { .. } => "allot",
             Call::Trim { .. } => "trim",
             Call::Kill { .. } => "kill",
@@ -109,11 +73,7 @@ pub struct Outcome {
 
 impl Outcome {
     pub fn numbered(&self, title: &str) -> usize {
-        self.numbers
-            .iter()
-            .find(|(name, _)| *name == title)
-            .expect("an outgoing number of this call")
-            .1
+        self.numbers.iter().find(|(name, _)| *name == title).expect("an outgoing number of this call").1
     }
 }
 
@@ -130,12 +90,7 @@ pub struct Lent {
 
 impl Lent {
     pub fn new(content: &[u8]) -> Lent {
-        let first = EDGE
-            + content
-                .iter()
-                .take(16)
-                .fold(0, |sum, &byte| sum ^ byte as usize)
-                % 8;
+        let first = EDGE + content.iter().take(16).fold(0, |sum, &byte| sum ^ byte as usize) % 8;
         let lent = first..first + content.len();
         let mut all = vec![EDGE_BYTE; lent.end + EDGE];
         all[lent.clone()].copy_from_slice(content);
@@ -163,21 +118,16 @@ const UNSET: usize = 0x5EED_0B57_AC1E_D00D;
 pub fn perform(library: &dyn Library, image: &mut [u8], g: &Geometry, call: &Call) -> Outcome {
     let nothing = Vec::new();
     let (handle, buffer, name) = match call {
-        Call::Open { handle, name, .. } | Call::Create { handle, name, .. } => {
-            (handle, &nothing, name)
-        }
+        Call::Open { handle, name, .. } | Call::Create { handle, name, .. } => (handle, &nothing, name),
         Call::LookUp { name } | Call::List { name, .. } => (&nothing, &nothing, name),
         Call::ReadRecord { handle, buffer } | Call::WriteRecord { handle, buffer, .. } => {
             (handle, buffer, &nothing)
         }
-        Call::ReadSector { handle, .. } | Call::Allot { handle, .. } => {
-            (handle, &nothing, &nothing)
-        }
+        Call::ReadSector { handle, .. } | Call::Allot { handle, .. } => (handle, &nothing, &nothing),
         Call::Trim { handle } | Call::Kill { handle } => (handle, &nothing, &nothing),
         Call::Check | Call::Count => (&nothing, &nothing, &nothing),
     };
-    let (mut handle, mut buffer, mut name) =
-        (Lent::new(handle), Lent::new(buffer), Lent::new(name));
+    let (mut handle, mut buffer, mut name) = (Lent::new(handle), Lent::new(buffer), Lent::new(name));
     let (mut one, mut two, mut three) = (UNSET, UNSET, UNSET);
     let mut numbers = Vec::new();
     let number = match call {
@@ -187,20 +137,9 @@ pub fn perform(library: &dyn Library, image: &mut [u8], g: &Geometry, call: &Cal
             numbers = vec![("slot", one), ("compared", two)];
             number
         }
-        Call::Open {
-            length,
-            checking,
-            code,
-            ..
-        } => library.open(
-            image,
-            g,
-            name.lend(),
-            *length,
-            *checking,
-            *code,
-            handle.lend(),
-        ),
+        Call::Open { length, checking, code, .. } => {
+            library.open(image, g, name.lend(), *length, *checking, *code, handle.lend())
+        }
         Call::Create { birth, .. } => {
             let number = library.create(image, g, name.lend(), birth, &mut one, handle.lend());
             numbers = vec![("old", one)];
@@ -219,15 +158,7 @@ pub fn perform(library: &dyn Library, image: &mut [u8], g: &Geometry, call: &Cal
         Call::Trim { .. } => library.trim(image, g, handle.lend()),
         Call::Kill { .. } => library.kill(image, g, handle.lend()),
         Call::List { which, .. } => {
-            let number = library.list(
-                image,
-                g,
-                *which,
-                name.lend(),
-                &mut one,
-                &mut two,
-                &mut three,
-            );
+            let number = library.list(image, g, *which, name.lend(), &mut one, &mut two, &mut three);
             numbers = vec![("size", one), ("granules", two), ("more", three)];
             number
         }

@@ -29,18 +29,7 @@ fn directory_within(image: &[u8], g: &Geometry) -> Option<usize> {
 /// A number of any kind, huge ones included.
 pub fn wild(random: &mut Random) -> usize {
     match random.within(0, 3) {
-        0 => *random.pick(&[
-            0,
-            1,
-            255,
-            256,
-            257,
-            65_535,
-            65_536,
-            1 << 31,
-            1 << 32,
-            (1 << 32) + 1,
-        ]),
+        0 => *random.pick(&[0, 1, 255, 256, 257, 65_535, 65_536, 1 << 31, 1 << 32, (1 << 32) + 1]),
         1 => usize::MAX - random.within(0, 2),
         2 => (1 << 63) + random.within(0, 2) - 1,
         _ => (random.draw() as usize) >> random.within(0, 63),
@@ -62,15 +51,7 @@ pub fn odd_geometry(random: &mut Random, g: &Geometry, image_len: usize) -> (Geo
         4 => odd.blocks = 0,
         5 => odd.start = random.within(0, g.sectors() / GRANULE_SECTORS + 1) * GRANULE_SECTORS,
         6 => odd.start = g.start + random.within(1, 4),
-        7 => {
-            length = *random.pick(&[
-                0,
-                1,
-                GRANULE_BYTES,
-                image_len - 1,
-                image_len - GRANULE_BYTES,
-            ])
-        }
+        7 => length = *random.pick(&[0, 1, GRANULE_BYTES, image_len - 1, image_len - GRANULE_BYTES]),
         8 => odd.start = g.sectors() - *random.pick(&[0, 5, 10]),
         _ => {
             // Sums and products that wrap around to the right length.
@@ -85,25 +66,17 @@ pub fn odd_geometry(random: &mut Random, g: &Geometry, image_len: usize) -> (Geo
 
 impl Caller {
     pub fn new(disk: &Disk, sober: bool) -> Caller {
-        Caller {
-            handles: Vec::new(),
-            codes: disk.codes.clone(),
-            sober,
-        }
+        Caller { handles: Vec::new(), codes: disk.codes.clone(), sober }
     }
 
     /// Keeps the handles that a call gave.
     pub fn learn(&mut self, call: &Call, outcome: &Outcome) {
         let gives = matches!(
             call,
-            Call::Open { .. }
-                | Call::Create { .. }
-                | Call::ReadRecord { .. }
-                | Call::WriteRecord { .. }
+            Call::Open { .. } | Call::Create { .. } | Call::ReadRecord { .. } | Call::WriteRecord { .. }
         );
         if gives && outcome.number == ACCEPTED {
-            self.handles
-                .push(Handle::read(&outcome.handle).expect("19 bytes"));
+            self.handles.push(Handle::read(&outcome.handle).expect("19 bytes"));
             if self.handles.len() > MOST_HANDLES {
                 self.handles.remove(0);
             }
@@ -150,10 +123,7 @@ impl Caller {
         let mut bytes = random_name(random);
         match random.within(0, 2) {
             0 => bytes[0] = BLANK,
-            1 => {
-                bytes[random.within(0, 10)] =
-                    *random.pick(&[0, 0x2F, 0x3A, 0x40, 0x5E, 0x61, 0x7D, 0xC1, 0xFF])
-            }
+            1 => bytes[random.within(0, 10)] = *random.pick(&[0, 0x2F, 0x3A, 0x40, 0x5E, 0x61, 0x7D, 0xC1, 0xFF]),
             _ => (bytes[1], bytes[2]) = (BLANK, b'A'),
         }
         bytes.to_vec()
@@ -191,16 +161,9 @@ impl Caller {
         (0..length).map(|_| random.byte()).collect()
     }
 
-    fn position(
-        random: &mut Random,
-        size: usize,
-        granules: usize,
-        free: usize,
-        length: usize,
-    ) -> u32 {
-        let around = |random: &mut Random, at: usize| {
-            (at + random.within(0, 3)).saturating_sub(random.within(0, 2))
-        };
+    fn position(random: &mut Random, size: usize, granules: usize, free: usize, length: usize) -> u32 {
+        let around =
+            |random: &mut Random, at: usize| (at + random.within(0, 3)).saturating_sub(random.within(0, 2));
         let position = match random.within(0, 29) {
             0..=5 => random.within(0, size),
             6 | 7 => size,
@@ -208,19 +171,11 @@ impl Caller {
             11 | 12 => around(random, size),
             13..=15 => around(random, (granules * GRANULE_BYTES).saturating_sub(length)),
             16..=18 => random.within(0, (granules + 2) * GRANULE_BYTES),
-            19 => around(
-                random,
-                ((granules + free) * GRANULE_BYTES).saturating_sub(length),
-            ),
+            19 => around(random, ((granules + free) * GRANULE_BYTES).saturating_sub(length)),
             20 => random.within(0, (granules + free + 1) * GRANULE_BYTES),
             21 => around(random, HIGHEST_POSITION - 256),
             22 => around(random, HIGHEST_POSITION.saturating_sub(length)),
-            23 => *random.pick(&[
-                HIGHEST_POSITION,
-                HIGHEST_POSITION + 1,
-                u32::MAX as usize,
-                1 << 31,
-            ]),
+            23 => *random.pick(&[HIGHEST_POSITION, HIGHEST_POSITION + 1, u32::MAX as usize, 1 << 31]),
             24 => random.draw() as usize,
             _ => 0,
         };
@@ -239,13 +194,7 @@ impl Caller {
                 position: 0,
                 name: entry(image, g, slot).name(),
             },
-            None => Handle {
-                slot: random.byte(),
-                level: 0,
-                length: 1,
-                position: 0,
-                name: random_name(random),
-            },
+            None => Handle { slot: random.byte(), level: 0, length: 1, position: 0, name: random_name(random) },
         };
         if random.percent(if self.sober { 3 } else { 25 }) {
             handle.level = *random.pick(&[1, 2, 4, 5, 6, 7, 8, 255]);
@@ -264,23 +213,11 @@ impl Caller {
                     handle.name = entry(image, g, handle.slot).name();
                 }
             }
-            7 => {
-                handle = Handle {
-                    slot: 0,
-                    level: 0,
-                    length: 0,
-                    position: 0,
-                    name: [0; 11],
-                }
-            }
+            7 => handle = Handle { slot: 0, level: 0, length: 0, position: 0, name: [0; 11] },
             _ => {}
         }
         let (size, granules) = Self::extent(image, g, &handle);
-        let free = if kind == "read" {
-            0
-        } else {
-            free_granules(image, g).count()
-        };
+        let free = if kind == "read" { 0 } else { free_granules(image, g).count() };
         let length = handle.length as usize;
         handle.position = match self.sober {
             true if kind == "read" => random.within(0, size.saturating_sub(length)) as u32,
@@ -312,23 +249,14 @@ impl Caller {
         (0..room).map(|_| random.byte()).collect()
     }
 
-    fn sector(
-        random: &mut Random,
-        image: &[u8],
-        g: &Geometry,
-        handle: &Handle,
-        growth: bool,
-    ) -> usize {
+    fn sector(random: &mut Random, image: &[u8], g: &Geometry, handle: &Handle, growth: bool) -> usize {
         let (size, granules) = Self::extent(image, g, handle);
         let (n, owned) = (size.div_ceil(256), granules * GRANULE_SECTORS);
         let around = |random: &mut Random, at: usize| (at + random.within(0, 2)).saturating_sub(1);
         match random.within(0, 19) {
             0 => *random.pick(&[HIGHEST_SECTOR, HIGHEST_SECTOR + 1]),
             1 => wild(random),
-            2 if growth => around(
-                random,
-                owned + free_granules(image, g).count() * GRANULE_SECTORS,
-            ),
+            2 if growth => around(random, owned + free_granules(image, g).count() * GRANULE_SECTORS),
             3 if growth => random.within(0, g.sectors()),
             4..=8 if growth => {
                 let further = random.within(0, 4);
@@ -344,9 +272,7 @@ impl Caller {
     pub fn make(&self, random: &mut Random, image: &[u8], g: &Geometry) -> Call {
         match random.within(0, 99) {
             0..=2 => Call::Check,
-            3..=9 => Call::LookUp {
-                name: self.name(random, image, g),
-            },
+            3..=9 => Call::LookUp { name: self.name(random, image, g) },
             10..=19 => Call::Open {
                 name: self.name(random, image, g),
                 length: self.length(random),
@@ -362,18 +288,12 @@ impl Caller {
             30..=40 => {
                 let handle = self.handle(random, image, g, "read");
                 let buffer = Self::buffer(random, &handle);
-                Call::ReadRecord {
-                    handle: self.lent_handle(random, &handle),
-                    buffer,
-                }
+                Call::ReadRecord { handle: self.lent_handle(random, &handle), buffer }
             }
             41..=49 => {
                 let handle = self.handle(random, image, g, "read");
                 let k = Self::sector(random, image, g, &handle, false);
-                Call::ReadSector {
-                    handle: self.lent_handle(random, &handle),
-                    k,
-                }
+                Call::ReadSector { handle: self.lent_handle(random, &handle), k }
             }
             50..=69 => {
                 let handle = self.handle(random, image, g, "write");
@@ -387,38 +307,24 @@ impl Caller {
             70..=78 => {
                 let handle = self.handle(random, image, g, "allot");
                 let k = Self::sector(random, image, g, &handle, true);
-                Call::Allot {
-                    handle: self.lent_handle(random, &handle),
-                    k,
-                }
+                Call::Allot { handle: self.lent_handle(random, &handle), k }
             }
             79..=86 => {
                 let handle = self.handle(random, image, g, "trim");
-                Call::Trim {
-                    handle: self.lent_handle(random, &handle),
-                }
+                Call::Trim { handle: self.lent_handle(random, &handle) }
             }
             87..=91 => {
                 let handle = self.handle(random, image, g, "kill");
-                Call::Kill {
-                    handle: self.lent_handle(random, &handle),
-                }
+                Call::Kill { handle: self.lent_handle(random, &handle) }
             }
             92..=96 => {
-                let which = if random.percent(20) {
-                    wild(random)
-                } else {
-                    random.within(0, 30)
-                };
+                let which = if random.percent(20) { wild(random) } else { random.within(0, 30) };
                 let room = match random.within(0, 9) {
                     0 => random.within(0, FULL_NAME_BYTES - 1),
                     1 => random.within(FULL_NAME_BYTES, 20),
                     _ => FULL_NAME_BYTES,
                 };
-                Call::List {
-                    which,
-                    name: (0..room).map(|_| random.byte()).collect(),
-                }
+                Call::List { which, name: (0..room).map(|_| random.byte()).collect() }
             }
             _ => Call::Count,
         }
@@ -445,10 +351,7 @@ impl Caller {
     /// A name for tests that want a new file.
     pub fn new_name(random: &mut Random, image: &[u8], g: &Geometry) -> Name {
         let d = directory_sectors(image, g).expect("a consistent disk");
-        let there: Vec<Name> = files(image, g, d)
-            .iter()
-            .map(|&slot| entry(image, g, slot).name())
-            .collect();
+        let there: Vec<Name> = files(image, g, d).iter().map(|&slot| entry(image, g, slot).name()).collect();
         loop {
             let name = random_name(random);
             if !there.contains(&name) {

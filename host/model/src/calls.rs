@@ -3,12 +3,9 @@
 
 use crate::consistency::consistent;
 use crate::directory::{
-    chain, directory_sectors, entry, files, hit, hit_place, owned, put_entry, set_taken, slots,
-    Entry, ENTRY_BYTES,
+    chain, directory_sectors, entry, files, hit, hit_place, owned, put_entry, set_taken, slots, Entry, ENTRY_BYTES,
 };
-use crate::geometry::{
-    Geometry, GRANULE_BYTES, GRANULE_SECTORS, HIGHEST_POSITION, HIGHEST_SECTOR, SECTOR_BYTES,
-};
+use crate::geometry::{Geometry, GRANULE_BYTES, GRANULE_SECTORS, HIGHEST_POSITION, HIGHEST_SECTOR, SECTOR_BYTES};
 use crate::handle::{good_length, Handle, HANDLE_BYTES};
 use crate::names::{hash, well_formed, Name, FULL_NAME_BYTES};
 use crate::space::{drop_one, first_permitted_slot, free_granules, grow, Short};
@@ -66,9 +63,7 @@ fn number(answer: Result<(), Number>) -> Number {
 }
 
 fn size_of(image: &[u8], g: &Geometry, file: u8) -> usize {
-    entry(image, g, file)
-        .size()
-        .expect("a size on a consistent disk")
+    entry(image, g, file).size().expect("a size on a consistent disk")
 }
 
 /// Place in the image of byte `i` of a file that owns these granules.
@@ -98,13 +93,7 @@ fn find(image: &[u8], g: &Geometry, d: usize, name: &Name) -> (Option<u8>, usize
     (None, compared)
 }
 
-pub fn look_up(
-    image: &[u8],
-    g: &Geometry,
-    name: &[u8],
-    slot: &mut usize,
-    compared: &mut usize,
-) -> Number {
+pub fn look_up(image: &[u8], g: &Geometry, name: &[u8], slot: &mut usize, compared: &mut usize) -> Number {
     // "look up returns its count as well under 4, and 0 under 1, 2 and 3"
     (*slot, *compared) = (0, 0);
     let d = match tested(image, g) {
@@ -174,13 +163,7 @@ pub fn open(
         let name: Name = name.try_into().expect("11 bytes");
         let slot = find(image, g, d, &name).0.ok_or(NOT_FOUND)?;
         let level = granted_level(&entry(image, g, slot), g, checking, code)?;
-        Ok(Handle {
-            slot,
-            level,
-            length: length as u16,
-            position: 0,
-            name,
-        })
+        Ok(Handle { slot, level, length: length as u16, position: 0, name })
     })();
     hand_back(handle, answer)
 }
@@ -225,8 +208,7 @@ pub fn create(
     *old = 0;
     let answer = (|| {
         let d = tested(image, g)?;
-        let date_good =
-            birth.day <= HIGHEST_DAY && birth.month <= HIGHEST_MONTH && birth.year <= HIGHEST_YEAR;
+        let date_good = birth.day <= HIGHEST_DAY && birth.month <= HIGHEST_MONTH && birth.year <= HIGHEST_YEAR;
         if !good_length(birth.length) || !date_good || handle.len() < HANDLE_BYTES {
             return Err(RANGE);
         }
@@ -234,13 +216,7 @@ pub fn create(
             return Err(NAME);
         }
         let name: Name = name.try_into().expect("11 bytes");
-        let new = |slot, level| Handle {
-            slot,
-            level,
-            length: birth.length as u16,
-            position: 0,
-            name,
-        };
+        let new = |slot, level| Handle { slot, level, length: birth.length as u16, position: 0, name };
         if let Some(slot) = find(image, g, d, &name).0 {
             let level = granted_level(&entry(image, g, slot), g, birth.checking, birth.main_code)?;
             *old = 1;
@@ -328,13 +304,7 @@ fn changeable(image: &[u8], g: &Geometry, h: &Handle, highest: u8) -> Result<(),
 }
 
 /// Rows 11, 9 and 8, and the growth: until at least `needed` granules are owned.
-fn grow_to(
-    image: &mut [u8],
-    g: &Geometry,
-    d: usize,
-    file: u8,
-    needed: usize,
-) -> Result<(), Number> {
+fn grow_to(image: &mut [u8], g: &Geometry, d: usize, file: u8, needed: usize) -> Result<(), Number> {
     let further = needed.saturating_sub(owned(image, g, d, file).len());
     if further > 0 && entry(image, g, file).no_growth() {
         return Err(NO_GROWTH);
@@ -352,13 +322,7 @@ fn grow_to(
 /// "Write record, from the buffer's start: ... Bytes between the old size and the position become zero.
 /// Sequential: size becomes position + length, even if smaller. Random: the larger of both. B is set,
 /// the position advances." "A write takes exactly what the file lacks of ⌈new size/1280⌉ granules."
-pub fn write_record(
-    image: &mut [u8],
-    g: &Geometry,
-    handle: &mut [u8],
-    sequential: bool,
-    buffer: &[u8],
-) -> Number {
+pub fn write_record(image: &mut [u8], g: &Geometry, handle: &mut [u8], sequential: bool, buffer: &[u8]) -> Number {
     number((|| {
         let (d, h) = by_handle(image, g, handle, |h| {
             h.position() + h.length() <= HIGHEST_POSITION && buffer.len() >= h.length()
@@ -433,10 +397,7 @@ pub fn kill(image: &mut [u8], g: &Geometry, handle: &[u8]) -> Number {
 
 /// "System files aren't listed or counted, invisible ones are"; "order by slot".
 fn listed(image: &[u8], g: &Geometry, d: usize) -> Vec<u8> {
-    files(image, g, d)
-        .into_iter()
-        .filter(|&file| !entry(image, g, file).is_system())
-        .collect()
+    files(image, g, d).into_iter().filter(|&file| !entry(image, g, file).is_system()).collect()
 }
 
 /// "The library tells one file a call, by number from 0, then "no more"." `more` is 1 where a file was

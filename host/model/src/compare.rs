@@ -98,10 +98,7 @@ impl Seen {
             text += "\n";
         }
         for event in EVENTS {
-            text += &format!(
-                "  {event}: {}\n",
-                self.events.get(event).copied().unwrap_or(0)
-            );
+            text += &format!("  {event}: {}\n", self.events.get(event).copied().unwrap_or(0));
         }
         text
     }
@@ -139,15 +136,9 @@ pub fn what_is(image: &[u8], g: &Geometry, place: usize) -> String {
     let mut text = format!("byte {} of granule {granule}", place % GRANULE_BYTES);
     if consistent(image, g) {
         for slot in crate::directory::files(image, g, d) {
-            if let Some(at) = owned(image, g, d, slot)
-                .iter()
-                .position(|&own| own == granule)
-            {
+            if let Some(at) = owned(image, g, d, slot).iter().position(|&own| own == granule) {
                 let name = written(&entry(image, g, slot).name());
-                text += &format!(
-                    ", byte {} of {name}",
-                    at * GRANULE_BYTES + place % GRANULE_BYTES
-                );
+                text += &format!(", byte {} of {name}", at * GRANULE_BYTES + place % GRANULE_BYTES);
             }
         }
     }
@@ -161,16 +152,11 @@ fn first_difference(mine: &[u8], theirs: &[u8]) -> Option<usize> {
     if mine == theirs {
         return None;
     }
-    Some(
-        mine.iter()
-            .zip(theirs)
-            .position(|(a, b)| a != b)
-            .unwrap_or(mine.len().min(theirs.len())),
-    )
+    Some(mine.iter().zip(theirs).position(|(a, b)| a != b).unwrap_or(mine.len().min(theirs.len())))
 }
 
 /// A disk with calls on it, on both sides.
-pub struct Session<'a> {
+pub struct SideBySide<'a> {
     library: &'a dyn Library,
     g: Geometry,
     mine: Lent,
@@ -178,9 +164,9 @@ pub struct Session<'a> {
     caller: Caller,
 }
 
-impl<'a> Session<'a> {
-    pub fn new(library: &'a dyn Library, disk: &Disk, sober: bool) -> Session<'a> {
-        Session {
+impl<'a> SideBySide<'a> {
+    pub fn new(library: &'a dyn Library, disk: &Disk, sober: bool) -> SideBySide<'a> {
+        SideBySide {
             library,
             g: disk.g,
             mine: Lent::new(&disk.image),
@@ -200,32 +186,22 @@ impl<'a> Session<'a> {
     }
 
     /// Performs a call on both sides, under the disk's geometry or another; the text says what differs.
-    pub fn both(
-        &mut self,
-        g: &Geometry,
-        length: usize,
-        call: &Call,
-        seen: &mut Seen,
-    ) -> Result<Outcome, String> {
+    pub fn both(&mut self, g: &Geometry, length: usize, call: &Call, seen: &mut Seen) -> Result<Outcome, String> {
         let before = Before::of(self.mine.bytes(), &self.g, call);
         let mine = perform(&Model, &mut self.mine.lend()[..length], g, call);
         let theirs = perform(self.library, &mut self.theirs.lend()[..length], g, call);
         seen.calls += 1;
         *seen.numbers.entry((call.title(), mine.number)).or_default() += 1;
-        if mine.number == ACCEPTED {
+        if mine.number == ACCEPTED && *g == self.g {
             before.note(self.mine.bytes(), &self.g, call, &mine, seen);
         }
         seen.event(
             "level refused on a system file",
-            mine.number == LEVEL
-                && before.is_some_and(|b| b.entry.is_system() && b.handle.level <= 1),
+            mine.number == LEVEL && before.is_some_and(|b| b.entry.is_system() && b.handle.level <= 1),
         );
         let mut wrong = Vec::new();
         if mine.number != theirs.number {
-            wrong.push(format!(
-                "number: model {}, library {}",
-                mine.number, theirs.number
-            ));
+            wrong.push(format!("number: model {}, library {}", mine.number, theirs.number));
         }
         for ((title, a), (_, b)) in mine.numbers.iter().zip(&theirs.numbers) {
             if a != b {
@@ -238,10 +214,7 @@ impl<'a> Session<'a> {
             ("name", &mine.name, &theirs.name),
         ] {
             if let Some(at) = first_difference(a, b) {
-                wrong.push(format!(
-                    "{title} byte {at}: model {:02X}H, library {:02X}H",
-                    a[at], b[at]
-                ));
+                wrong.push(format!("{title} byte {at}: model {:02X}H, library {:02X}H", a[at], b[at]));
             }
         }
         if !theirs.within || !self.theirs.edges_whole() {
@@ -250,17 +223,12 @@ impl<'a> Session<'a> {
         if let Some(at) = first_difference(self.mine.bytes(), self.theirs.bytes()) {
             let (a, b) = (self.mine.bytes()[at], self.theirs.bytes()[at]);
             let what = what_is(self.mine.bytes(), &self.g, at);
-            wrong.push(format!(
-                "image byte {at} ({what}): model {a:02X}H, library {b:02X}H"
-            ));
+            wrong.push(format!("image byte {at} ({what}): model {a:02X}H, library {b:02X}H"));
         }
         if wrong.is_empty() {
             Ok(mine)
         } else {
-            Err(format!(
-                "{}\n  {call:02X?}\n  on {g:?}, image length {length}",
-                wrong.join("\n  ")
-            ))
+            Err(format!("{}\n  {call:02X?}\n  on {g:?}, image length {length}", wrong.join("\n  ")))
         }
     }
 
@@ -300,10 +268,7 @@ impl Before {
             handle,
             entry: this,
             chain: walked.len(),
-            runs: walked
-                .iter()
-                .map(|&slot| entry(image, g, slot).pairs().len())
-                .sum(),
+            runs: walked.iter().map(|&slot| entry(image, g, slot).pairs().len()).sum(),
             granules: owned(image, g, d, handle.slot).len(),
             size: this.size()?,
         })
@@ -328,27 +293,21 @@ impl Before {
     /// Notes what an accepted call did.
     fn note(&self, image: &[u8], g: &Geometry, call: &Call, outcome: &Outcome, seen: &mut Seen) {
         match call {
-            Call::LookUp { .. } => {
-                seen.event("look up compared several", outcome.numbered("compared") > 1)
-            }
+            Call::LookUp { .. } => seen.event("look up compared several", outcome.numbered("compared") > 1),
             Call::Open { .. } => seen.event("open grants the stored level", outcome.handle[1] > 0),
             Call::Create { .. } => {
                 let old = outcome.numbered("old") == 1;
                 seen.event("create finds an old file", old);
                 let slot = outcome.handle[0];
-                seen.event(
-                    "create opens a system file",
-                    old && entry(image, g, slot).is_system(),
-                );
+                seen.event("create opens a system file", old && entry(image, g, slot).is_system());
             }
             Call::List { .. } => {
                 seen.event("list tells a file", outcome.numbered("more") == 1);
                 seen.event("list tells no more", outcome.numbered("more") == 0);
             }
-            Call::ReadSector { .. } => seen.event(
-                "sector part under 256 bytes",
-                outcome.numbered("to") - outcome.numbered("from") < 256,
-            ),
+            Call::ReadSector { .. } => {
+                seen.event("sector part under 256 bytes", outcome.numbered("to") - outcome.numbered("from") < 256)
+            }
             _ => {}
         }
         let Some(was) = &self.0 else { return };
@@ -366,10 +325,7 @@ impl Before {
                 seen.event("write shrinks the file", *sequential && end < was.size);
                 seen.event("write within the file", !*sequential && end <= was.size);
                 seen.event("write crosses granules", crosses);
-                seen.event(
-                    "size grows within the granules under E",
-                    was.entry.no_growth() && end > was.size,
-                );
+                seen.event("size grows within the granules under E", was.entry.no_growth() && end > was.size);
             }
             _ => {}
         }
@@ -381,25 +337,16 @@ impl Before {
             return;
         };
         if is.granules > was.granules {
-            seen.event(
-                "growth lengthens a run",
-                is.granules - was.granules > is.runs - was.runs,
-            );
+            seen.event("growth lengthens a run", is.granules - was.granules > is.runs - was.runs);
             seen.event("growth adds runs", is.runs > was.runs);
             seen.event("growth adds an extension", is.chain == was.chain + 1);
             seen.event("growth adds several extensions", is.chain > was.chain + 1);
-            seen.event(
-                "growth fills the disk",
-                crate::space::free_granules(image, g).next().is_none(),
-            );
+            seen.event("growth fills the disk", crate::space::free_granules(image, g).next().is_none());
         }
         if let Call::Trim { .. } = call {
             let given_back = is.granules < was.granules;
             let emptied = was.chain - is.chain;
-            seen.event(
-                "trim cuts a run",
-                given_back && was.granules - is.granules > was.runs - is.runs,
-            );
+            seen.event("trim cuts a run", given_back && was.granules - is.granules > was.runs - is.runs);
             seen.event("trim empties pairs", is.runs < was.runs);
             seen.event("trim empties an extension", emptied == 1);
             seen.event("trim empties several extensions", emptied > 1);
@@ -442,28 +389,23 @@ pub fn disk_run(library: &dyn Library, seed: u64, seen: &mut Seen) -> Result<(),
     }
     seen.disks += 1;
     let sober = random.percent(50);
-    let mut session = Session::new(library, &disk, sober);
+    let mut sides = SideBySide::new(library, &disk, sober);
     for number in 0..CALLS_A_DISK {
-        let outcome = session
-            .step(&mut random, seen)
-            .map_err(|text| format!("call {number}: {text}"))?;
+        let outcome = sides.step(&mut random, seen).map_err(|text| format!("call {number}: {text}"))?;
         seen.event(
             "look up compared several and found none",
             outcome.number == 4
-                && outcome
-                    .numbers
-                    .first()
-                    .is_some_and(|(title, _)| *title == "slot")
+                && outcome.numbers.first().is_some_and(|(title, _)| *title == "slot")
                 && outcome.numbered("compared") > 1,
         );
     }
 
-    // Damaged copies: the check, and one call each.
-    let whole = Disk {
-        g: disk.g,
-        image: session.image().to_vec(),
-        codes: disk.codes.clone(),
-    };
+    // Damaged copies: the check, and one call each. A call accepted under an odd geometry may have
+    // spoilt the disk for its own; then the disk as it was is damaged.
+    let mut whole = disk.clone();
+    if consistent(sides.image(), &disk.g) {
+        whole.image = sides.image().to_vec();
+    }
     let length = whole.image.len();
     for _ in 0..6 {
         let mut copy = whole.clone();
@@ -478,18 +420,11 @@ pub fn disk_run(library: &dyn Library, seed: u64, seen: &mut Seen) -> Result<(),
             random_flips(&mut copy, &mut random, times);
             "flips"
         };
-        session.set_image(&copy.image);
-        let outcome = session
-            .both(&disk.g, length, &Call::Check, seen)
-            .map_err(|text| format!("{title}: {text}"))?;
-        seen.event(
-            "still consistent after flips",
-            title == "flips" && outcome.number == ACCEPTED,
-        );
+        sides.set_image(&copy.image);
+        let outcome = sides.both(&disk.g, length, &Call::Check, seen).map_err(|text| format!("{title}: {text}"))?;
+        seen.event("still consistent after flips", title == "flips" && outcome.number == ACCEPTED);
         for _ in 0..if outcome.number == ACCEPTED { 6 } else { 1 } {
-            session
-                .step(&mut random, seen)
-                .map_err(|text| format!("{title}: {text}"))?;
+            sides.step(&mut random, seen).map_err(|text| format!("{title}: {text}"))?;
         }
     }
 
@@ -503,17 +438,13 @@ pub fn disk_run(library: &dyn Library, seed: u64, seen: &mut Seen) -> Result<(),
             image[hit_place(&disk.g, slot)] = random.byte();
         }
     }
-    session.set_image(&image);
-    session
-        .both(&disk.g, length, &Call::Check, seen)
-        .map_err(|text| format!("random directory: {text}"))?;
+    sides.set_image(&image);
+    sides.both(&disk.g, length, &Call::Check, seen).map_err(|text| format!("random directory: {text}"))?;
 
     // Geometries for the same bytes.
     for _ in 0..4 {
         let (g, length) = odd_geometry(&mut random, &disk.g, length);
-        session
-            .both(&g, length, &Call::Check, seen)
-            .map_err(|text| format!("odd geometry: {text}"))?;
+        sides.both(&g, length, &Call::Check, seen).map_err(|text| format!("odd geometry: {text}"))?;
     }
     Ok(())
 }

@@ -110,10 +110,7 @@ pub fn faults(image: &[u8], g: &Geometry) -> Vec<Clause> {
     // Every slot by itself.
     for slot in slots(d) {
         let this = entry(image, g, slot);
-        hold(
-            Clause::HitAgainstEntry,
-            (hit(image, g, slot) != 0) == this.in_use(),
-        );
+        hold(Clause::HitAgainstEntry, (hit(image, g, slot) != 0) == this.in_use());
         if !this.in_use() {
             continue;
         }
@@ -126,10 +123,7 @@ pub fn faults(image: &[u8], g: &Geometry) -> Vec<Clause> {
             hold(Clause::FileHash, hit(image, g, slot) == hash(&this.name()));
             hold(Clause::SizeForm, this.size().is_some());
         }
-        hold(
-            Clause::Marker,
-            [MARKER_LAST, MARKER_LINK].contains(&this.marker()),
-        );
+        hold(Clause::Marker, [MARKER_LAST, MARKER_LINK].contains(&this.marker()));
         if this.marker() == MARKER_LINK {
             let link = this.link();
             let leads = has_slot(d, link) && {
@@ -140,17 +134,11 @@ pub fn faults(image: &[u8], g: &Geometry) -> Vec<Clause> {
             // An entry with an extension behind it is not the last of its chain.
             hold(Clause::FourRuns, (0..PAIRS).all(|i| this.pair(i).is_some()));
             if leads {
-                hold(
-                    Clause::PointsBack,
-                    entry(image, g, link).slot_before() == slot,
-                );
+                hold(Clause::PointsBack, entry(image, g, link).slot_before() == slot);
             }
         }
         for i in 1..PAIRS {
-            hold(
-                Clause::PairOrder,
-                this.pair(i).is_none() || this.pair(i - 1).is_some(),
-            );
+            hold(Clause::PairOrder, this.pair(i).is_none() || this.pair(i - 1).is_some());
         }
     }
 
@@ -158,10 +146,7 @@ pub fn faults(image: &[u8], g: &Geometry) -> Vec<Clause> {
     let all_files = files(image, g, d);
     for (i, &first) in all_files.iter().enumerate() {
         for &second in &all_files[i + 1..] {
-            hold(
-                Clause::NamesDiffer,
-                entry(image, g, first).name() != entry(image, g, second).name(),
-            );
+            hold(Clause::NamesDiffer, entry(image, g, first).name() != entry(image, g, second).name());
         }
     }
 
@@ -170,10 +155,7 @@ pub fn faults(image: &[u8], g: &Geometry) -> Vec<Clause> {
     for &file in &all_files {
         for &slot in &chain(image, g, d, file)[1..] {
             meetings[slot as usize] += 1;
-            hold(
-                Clause::ExtensionHash,
-                hit(image, g, slot) == hash(&entry(image, g, file).name()),
-            );
+            hold(Clause::ExtensionHash, hit(image, g, slot) == hash(&entry(image, g, file).name()));
         }
     }
     for slot in slots(d) {
@@ -212,9 +194,7 @@ pub fn faults(image: &[u8], g: &Geometry) -> Vec<Clause> {
             hold(Clause::SizeFits, size <= granules.len() * GRANULE_BYTES);
         }
         if !entry(image, g, file).is_system() {
-            let of_directory = granules
-                .iter()
-                .any(|granule| directory_granules(g, d).contains(granule));
+            let of_directory = granules.iter().any(|granule| directory_granules(g, d).contains(granule));
             hold(Clause::DirectoryOwner, !of_directory);
         }
     }

@@ -2,9 +2,8 @@
 
 use crate::consistency::Clause;
 use crate::directory::{
-    chain, directory_granules, directory_sectors, entry, files, hit, hit_place, owned, put_entry,
-    set_taken, slots, taken, Entry, Pair, ENTRY_BYTES, EXTENSION_FLAGS, LENGTH_PLACE, MARKER_LAST,
-    MARKER_LINK, PAIRS,
+    chain, directory_granules, directory_sectors, entry, files, hit, hit_place, owned, put_entry, set_taken, slots,
+    taken, Entry, Pair, ENTRY_BYTES, EXTENSION_FLAGS, LENGTH_PLACE, MARKER_LAST, MARKER_LINK, PAIRS,
 };
 use crate::disks::Disk;
 use crate::geometry::{Geometry, GRANULE_BYTES};
@@ -26,12 +25,7 @@ impl Damage {
     /// False if the disk has nothing to damage so; it is then as it was.
     pub fn apply(&self, disk: &mut Disk, random: &mut Random) -> bool {
         let d = directory_sectors(&disk.image, &disk.g).expect("a consistent disk");
-        let mut victim = Victim {
-            image: disk.image.clone(),
-            g: disk.g,
-            d,
-            random,
-        };
+        let mut victim = Victim { image: disk.image.clone(), g: disk.g, d, random };
         let done = (self.way)(&mut victim).is_some();
         if done {
             disk.image = victim.image;
@@ -177,18 +171,13 @@ impl Victim<'_> {
     }
 
     fn bad_name(&mut self, name: Name) -> Name {
-        const BAD: &[u8] = &[
-            0x00, 0x1F, 0x21, 0x2F, 0x3A, 0x40, 0x5E, 0x5F, 0x61, 0x7D, 0x80, 0xB0, 0xC1, 0xFF,
-        ];
+        const BAD: &[u8] = &[0x00, 0x1F, 0x21, 0x2F, 0x3A, 0x40, 0x5E, 0x5F, 0x61, 0x7D, 0x80, 0xB0, 0xC1, 0xFF];
         let mut bytes = name;
         match self.random.within(0, 3) {
             0 => bytes[0] = BLANK,
             1 => {
                 // A blank with something behind it, in the name or in the type.
-                let (at, behind) =
-                    *self
-                        .random
-                        .pick(&[(1, 2), (1, 7), (6, 7), (8, 9), (8, 10), (9, 10)]);
+                let (at, behind) = *self.random.pick(&[(1, 2), (1, 7), (6, 7), (8, 9), (8, 10), (9, 10)]);
                 bytes[at] = BLANK;
                 bytes[behind] = b'A';
             }
@@ -221,10 +210,8 @@ pub const DAMAGES: &[Damage] = &[
         breaks: Clause::DirectoryFits,
         way: |v| {
             let room = v.g.sectors() - v.g.start;
-            let too_many: Vec<u8> = [5u8, 10, 15, 20]
-                .into_iter()
-                .filter(|&above| 10 + above as usize > room)
-                .collect();
+            let too_many: Vec<u8> =
+                [5u8, 10, 15, 20].into_iter().filter(|&above| 10 + above as usize > room).collect();
             if too_many.is_empty() {
                 return None;
             }
@@ -322,11 +309,7 @@ pub const DAMAGES: &[Damage] = &[
         breaks: Clause::OneChain,
         way: |v| {
             let slot = v.free_slot()?;
-            let before = if v.random.percent(30) {
-                slot
-            } else {
-                v.slot(|_, _| true)?
-            };
+            let before = if v.random.percent(30) { slot } else { v.slot(|_, _| true)? };
             let code = v.other(0);
             v.new_extension(slot, before, 1, code)
         },
@@ -366,9 +349,8 @@ pub const DAMAGES: &[Damage] = &[
         title: "chain that runs into itself",
         breaks: Clause::OneChain,
         way: |v| {
-            let last = v.slot_in_use(|e| {
-                e.is_extension() && e.marker() == MARKER_LAST && e.pairs().len() == PAIRS
-            })?;
+            let last =
+                v.slot_in_use(|e| e.is_extension() && e.marker() == MARKER_LAST && e.pairs().len() == PAIRS)?;
             let walked = chain(&v.image, &v.g, v.d, v.file_of(last));
             let to = *v.random.pick(&walked[1..]);
             v.change(last, |e, _| e.set_link(MARKER_LINK, to))
@@ -391,11 +373,7 @@ pub const DAMAGES: &[Damage] = &[
         way: |v| {
             let slot = v.extension()?;
             let before = v.entry(slot).slot_before();
-            let to = if before != 0 && v.random.percent(20) {
-                0
-            } else {
-                v.other(before)
-            };
+            let to = if before != 0 && v.random.percent(20) { 0 } else { v.other(before) };
             v.change(slot, |e, _| e.0[0x01] = to)
         },
     },
@@ -544,20 +522,10 @@ pub const DAMAGES: &[Damage] = &[
             let first = v.entry(slot).pairs()[i].run(&v.g).start;
             // All that the run now covers is taken and in no other run, if the disk can have it so.
             let least = most - first;
-            let further = if v.random.percent(60) {
-                least
-            } else {
-                v.random.within(least, 31)
-            };
+            let further = if v.random.percent(60) { least } else { v.random.within(least, 31) };
             v.change(slot, |e, _| {
                 let pair = e.pairs()[i];
-                e.set_pair(
-                    i,
-                    Pair {
-                        further: further as u8,
-                        ..pair
-                    },
-                );
+                e.set_pair(i, Pair { further: further as u8, ..pair });
             })
         },
     },
@@ -566,19 +534,11 @@ pub const DAMAGES: &[Damage] = &[
         breaks: Clause::FirstUnit,
         way: |v| {
             let units = v.g.units;
-            let (slot, i) =
-                v.pair(|_, _, pair| pair.block > 0 && (pair.unit as usize) + units < 8)?;
+            let (slot, i) = v.pair(|_, _, pair| pair.block > 0 && (pair.unit as usize) + units < 8)?;
             // The same granules, told from the block before.
             v.change(slot, |e, _| {
                 let pair = e.pairs()[i];
-                e.set_pair(
-                    i,
-                    Pair {
-                        block: pair.block - 1,
-                        unit: pair.unit + units as u8,
-                        further: pair.further,
-                    },
-                );
+                e.set_pair(i, Pair { block: pair.block - 1, unit: pair.unit + units as u8, further: pair.further });
             })
         },
     },
@@ -637,11 +597,7 @@ pub const DAMAGES: &[Damage] = &[
         way: |v| {
             let file = v.file()?;
             let fits = owned(&v.image, &v.g, v.d, file).len() * GRANULE_BYTES;
-            let size = if v.random.percent(60) {
-                fits + 1
-            } else {
-                v.random.within(fits + 1, 65535 * 256)
-            };
+            let size = if v.random.percent(60) { fits + 1 } else { v.random.within(fits + 1, 65535 * 256) };
             v.set_size(file, size);
             Some(())
         },
@@ -674,8 +630,7 @@ pub const DAMAGES: &[Damage] = &[
         breaks: Clause::DirectoryOwner,
         way: |v| {
             let reserved = reserved_granules(&v.image, &v.g, v.d);
-            let granule =
-                directory_granules(&v.g, v.d).find(|granule| reserved.contains(granule))?;
+            let granule = directory_granules(&v.g, v.d).find(|granule| reserved.contains(granule))?;
             let (slot, i) = v.pair(|v, slot, _| !v.entry(v.file_of(slot)).is_system())?;
             let file = v.file_of(slot);
             v.shrink(file);
@@ -691,15 +646,12 @@ pub fn random_flips(disk: &mut Disk, random: &mut Random, times: usize) {
     let g = disk.g;
     let d = directory_sectors(&disk.image, &g).expect("a consistent disk");
     for _ in 0..times {
-        let used: Vec<u8> = slots(d)
-            .filter(|&slot| entry(&disk.image, &g, slot).in_use())
-            .collect();
+        let used: Vec<u8> = slots(d).filter(|&slot| entry(&disk.image, &g, slot).in_use()).collect();
         let place = match random.within(0, 3) {
             0 => g.start * 256 + random.within(0, d * 256 - 1),
             1 => hit_place(&g, random.byte()),
             _ if !used.is_empty() => {
-                crate::directory::entry_place(&g, *random.pick(&used))
-                    + random.within(0, ENTRY_BYTES - 1)
+                crate::directory::entry_place(&g, *random.pick(&used)) + random.within(0, ENTRY_BYTES - 1)
             }
             _ => g.start * 256 + random.within(0, g.blocks.min(255)),
         };

@@ -24,10 +24,7 @@ pub fn directory_place(g: &Geometry) -> usize {
 
 /// "Sector 0, GAT: byte b, bit u stands for unit u of block b." Place of the byte, and the bit.
 pub fn gat_place(g: &Geometry, granule: usize) -> (usize, u8) {
-    (
-        directory_place(g) + granule / g.units,
-        1 << (granule % g.units),
-    )
+    (directory_place(g) + granule / g.units, 1 << (granule % g.units))
 }
 
 /// "A set bit means taken."
@@ -95,11 +92,7 @@ pub fn entry_place(g: &Geometry, slot: u8) -> usize {
 
 pub fn entry(image: &[u8], g: &Geometry, slot: u8) -> Entry {
     let place = entry_place(g, slot);
-    Entry(
-        image[place..place + ENTRY_BYTES]
-            .try_into()
-            .expect("32 bytes"),
-    )
+    Entry(image[place..place + ENTRY_BYTES].try_into().expect("32 bytes"))
 }
 
 pub fn put_entry(image: &mut [u8], g: &Geometry, slot: u8, entry: &Entry) {
@@ -124,11 +117,7 @@ impl Pair {
 
     /// The pair of a run of one granule.
     pub fn of_granule(g: &Geometry, granule: usize) -> Pair {
-        Pair {
-            block: (granule / g.units) as u8,
-            unit: (granule % g.units) as u8,
-            further: 0,
-        }
+        Pair { block: (granule / g.units) as u8, unit: (granule % g.units) as u8, further: 0 }
     }
 }
 
@@ -223,11 +212,7 @@ impl Entry {
     /// "16 to 1D four pairs"; None where the block is FFH.
     pub fn pair(&self, i: usize) -> Option<Pair> {
         let (block, second) = (self.0[0x16 + 2 * i], self.0[0x17 + 2 * i]);
-        (block != NO_BLOCK).then_some(Pair {
-            block,
-            unit: second >> 5,
-            further: second & 0x1F,
-        })
+        (block != NO_BLOCK).then_some(Pair { block, unit: second >> 5, further: second & 0x1F })
     }
 
     pub fn set_pair(&mut self, i: usize, pair: Pair) {
@@ -293,7 +278,5 @@ pub fn owned(image: &[u8], g: &Geometry, d: usize, first: u8) -> Vec<usize> {
 
 /// The slots of all files, by rising slot number: in use and primary.
 pub fn files(image: &[u8], g: &Geometry, d: usize) -> Vec<u8> {
-    slots(d)
-        .filter(|&slot| entry(image, g, slot).is_primary_in_use())
-        .collect()
+    slots(d).filter(|&slot| entry(image, g, slot).is_primary_in_use()).collect()
 }

@@ -3,12 +3,10 @@
 //! kept slots, all flags, levels and codes, and odd bytes wherever 01 tests none.
 
 use crate::directory::{
-    directory_granules, hit_place, put_entry, set_taken, slots, Entry, Pair, ENTRY_BYTES,
-    EXTENSION_FLAGS, LENGTH_PLACE, MARKER_LAST, MARKER_LINK, PAIRS,
+    directory_granules, hit_place, put_entry, set_taken, slots, Entry, Pair, ENTRY_BYTES, EXTENSION_FLAGS,
+    LENGTH_PLACE, MARKER_LAST, MARKER_LINK, PAIRS,
 };
-use crate::geometry::{
-    Geometry, GRANULE_BYTES, GRANULE_SECTORS, MOST_BLOCKS, MOST_UNITS, SECTOR_BYTES,
-};
+use crate::geometry::{Geometry, GRANULE_BYTES, GRANULE_SECTORS, MOST_BLOCKS, MOST_UNITS, SECTOR_BYTES};
 use crate::names::{hash, Name, BLANK, FULL_NAME_BYTES, NAME_BYTES};
 use crate::random::Random;
 use crate::space::{permitted, LONGEST_RUN};
@@ -55,30 +53,17 @@ fn plan(random: &mut Random) -> Plan {
         }
     };
     let most = (blocks * units).min(6);
-    let d_granules = if random.percent(40) {
-        most
-    } else {
-        random.within(2, most)
-    };
+    let d_granules = if random.percent(40) { most } else { random.within(2, most) };
     let last_start = blocks * units - d_granules;
     let start = match random.within(0, 4) {
         0 => 0,
         1 => last_start,
         _ => random.within(0, last_start),
     };
-    let open_code = if random.percent(30) {
-        0xFFFF
-    } else {
-        random.draw() as u16
-    };
+    let open_code = if random.percent(30) { 0xFFFF } else { random.draw() as u16 };
     let d = d_granules * GRANULE_SECTORS;
     Plan {
-        g: Geometry {
-            blocks,
-            units,
-            start: start * GRANULE_SECTORS,
-            open_code,
-        },
+        g: Geometry { blocks, units, start: start * GRANULE_SECTORS, open_code },
         d,
         files: match random.within(0, 5) {
             0 => random.within(0, 3),
@@ -88,11 +73,7 @@ fn plan(random: &mut Random) -> Plan {
         filling: *random.pick(&[0, 30, 60, 80, 95, 100]),
         reserved: *random.pick(&[0, 0, 5, 30]),
         comb: random.percent(35),
-        slots_left: if random.percent(35) {
-            Some(random.within(0, 4))
-        } else {
-            None
-        },
+        slots_left: if random.percent(35) { Some(random.within(0, 4)) } else { None },
         runs: if random.percent(4) { 900 } else { 60 },
         odd: *random.pick(&[0, 30, 100]),
     }
@@ -102,17 +83,9 @@ pub fn random_part(random: &mut Random, most: usize, least: usize, part: &mut [u
     const ALLOWED: &[u8] = b"0123456789ABCDEFGHIJKLMNOPQRSTUVWXYZ[\\]";
     const FEW: &[u8] = b"0A]";
     let letters = if random.percent(30) { FEW } else { ALLOWED };
-    let filled = if random.percent(25) {
-        most
-    } else {
-        random.within(least, most)
-    };
+    let filled = if random.percent(25) { most } else { random.within(least, most) };
     for (i, byte) in part.iter_mut().enumerate() {
-        *byte = if i < filled {
-            *random.pick(letters)
-        } else {
-            BLANK
-        };
+        *byte = if i < filled { *random.pick(letters) } else { BLANK };
     }
 }
 
@@ -120,12 +93,7 @@ pub fn random_part(random: &mut Random, most: usize, least: usize, part: &mut [u
 pub fn random_name(random: &mut Random) -> Name {
     let mut bytes = [BLANK; FULL_NAME_BYTES];
     random_part(random, NAME_BYTES, 1, &mut bytes[..NAME_BYTES]);
-    random_part(
-        random,
-        FULL_NAME_BYTES - NAME_BYTES,
-        0,
-        &mut bytes[NAME_BYTES..],
-    );
+    random_part(random, FULL_NAME_BYTES - NAME_BYTES, 0, &mut bytes[NAME_BYTES..]);
     bytes
 }
 
@@ -175,15 +143,8 @@ impl Builder<'_> {
 
     fn take_slot(&mut self, kept: bool) -> Option<u8> {
         let wanted = |slot: &u8| permitted(*slot) != kept;
-        let at = self
-            .free_slots
-            .iter()
-            .position(wanted)
-            .or(if self.free_slots.is_empty() {
-                None
-            } else {
-                Some(0)
-            })?;
+        let at =
+            self.free_slots.iter().position(wanted).or(if self.free_slots.is_empty() { None } else { Some(0) })?;
         Some(self.free_slots.remove(at))
     }
 
@@ -210,9 +171,7 @@ impl Builder<'_> {
             Some(next) if next < granules && self.free[next] && self.random.percent(20) => next,
             _ => {
                 let from = self.random.within(0, granules - 1);
-                (from..granules)
-                    .chain(0..from)
-                    .find(|&granule| self.free[granule])?
+                (from..granules).chain(0..from).find(|&granule| self.free[granule])?
             }
         };
         let wanted = match self.random.within(0, 9) {
@@ -221,19 +180,14 @@ impl Builder<'_> {
             2..=4 => self.random.within(1, 4),
             _ => 1,
         };
-        let length = (first..granules.min(first + wanted))
-            .take_while(|&granule| self.free[granule])
-            .count();
+        let length = (first..granules.min(first + wanted)).take_while(|&granule| self.free[granule]).count();
         self.free[first..first + length].fill(false);
         Some((first, length))
     }
 
     /// The pair of a run.
     fn pair(&self, (first, length): (usize, usize)) -> Pair {
-        Pair {
-            further: (length - 1) as u8,
-            ..Pair::of_granule(&self.g(), first)
-        }
+        Pair { further: (length - 1) as u8, ..Pair::of_granule(&self.g(), first) }
     }
 
     /// Writes the entries of a file with these runs.
@@ -293,11 +247,7 @@ impl Builder<'_> {
             match slots.get(i + 1) {
                 Some(&next) => bytes.set_link(MARKER_LINK, next),
                 None => {
-                    let link = if self.random.percent(self.plan.odd) {
-                        self.random.byte()
-                    } else {
-                        0xFF
-                    };
+                    let link = if self.random.percent(self.plan.odd) { self.random.byte() } else { 0xFF };
                     bytes.set_link(MARKER_LAST, link);
                 }
             }
@@ -325,18 +275,14 @@ impl Builder<'_> {
                             Some(at) => {
                                 directory.remove(at);
                             }
-                            None if next < self.free.len() && self.free[next] => {
-                                self.free[next] = false
-                            }
+                            None if next < self.free.len() && self.free[next] => self.free[next] = false,
                             None => break,
                         }
                         length += 1;
                     }
                     runs.push((first, length));
                 } else {
-                    let after = runs
-                        .last()
-                        .map(|&(first, length): &(usize, usize)| first + length);
+                    let after = runs.last().map(|&(first, length): &(usize, usize)| first + length);
                     runs.extend(self.place_run(after));
                 }
             }
@@ -386,18 +332,8 @@ impl Builder<'_> {
             }
         }
         if let Some(left) = self.plan.slots_left {
-            while self
-                .free_slots
-                .iter()
-                .filter(|&&slot| permitted(slot))
-                .count()
-                > left
-            {
-                let at = self
-                    .free_slots
-                    .iter()
-                    .position(|&slot| permitted(slot))
-                    .expect("counted");
+            while self.free_slots.iter().filter(|&&slot| permitted(slot)).count() > left {
+                let at = self.free_slots.iter().position(|&slot| permitted(slot)).expect("counted");
                 self.free_slots.swap(0, at);
                 let only = vec![self.free_slots.remove(0)];
                 let others = std::mem::replace(&mut self.free_slots, only);
@@ -431,29 +367,11 @@ pub fn random_disk(random: &mut Random) -> Disk {
         free.push(!reserved);
         set_taken(&mut image, &g, granule, reserved);
     }
-    let codes = vec![
-        g.open_code,
-        0,
-        0xFFFF,
-        random.draw() as u16,
-        random.draw() as u16,
-    ];
-    let mut builder = Builder {
-        random,
-        plan,
-        image,
-        free,
-        free_slots,
-        names: Vec::new(),
-        codes,
-    };
+    let codes = vec![g.open_code, 0, 0xFFFF, random.draw() as u16, random.draw() as u16];
+    let mut builder = Builder { random, plan, image, free, free_slots, names: Vec::new(), codes };
     builder.place_system_files();
     builder.place_files();
-    Disk {
-        g,
-        image: builder.image,
-        codes: builder.codes,
-    }
+    Disk { g, image: builder.image, codes: builder.codes }
 }
 
 /// An empty disk: zeros, but for the directory's length and its reserved granules.
@@ -463,9 +381,5 @@ pub fn empty_disk(g: Geometry, d: usize, reserved: &[usize]) -> Disk {
     for granule in directory_granules(&g, d).chain(reserved.iter().copied()) {
         set_taken(&mut image, &g, granule, true);
     }
-    Disk {
-        g,
-        image,
-        codes: vec![g.open_code],
-    }
+    Disk { g, image, codes: vec![g.open_code] }
 }

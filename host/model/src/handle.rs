@@ -48,9 +48,7 @@ impl Handle {
 
     /// The three ranges of the sentence above.
     pub fn in_range(&self) -> bool {
-        self.position() <= HIGHEST_POSITION
-            && good_length(self.length())
-            && self.level <= HIGHEST_LEVEL
+        self.position() <= HIGHEST_POSITION && good_length(self.length()) && self.level <= HIGHEST_LEVEL
     }
 
     /// "A handle is stale unless its slot is one the directory has, in use, primary and carries its
@@ -73,10 +71,7 @@ impl Handle {
 
     /// "the position advances", by the record length.
     pub fn advanced(&self) -> Handle {
-        Handle {
-            position: self.position + self.length as u32,
-            ..*self
-        }
+        Handle { position: self.position + self.length as u32, ..*self }
     }
 }
 

@@ -75,21 +75,10 @@ impl Progress {
         handle
     }
 
-    fn step(
-        &mut self,
-        library: &dyn Library,
-        image: &mut [u8],
-        g: &Geometry,
-        name: &Name,
-        step: &Step,
-    ) -> Number {
+    fn step(&mut self, library: &dyn Library, image: &mut [u8], g: &Geometry, name: &Name, step: &Step) -> Number {
         let mut told = Vec::new();
         let number = match step {
-            Step::Open {
-                length,
-                checking,
-                code,
-            } => {
+            Step::Open { length, checking, code } => {
                 let mut handle = [0; HANDLE_BYTES];
                 let number = library.open(image, g, name, *length, *checking, *code, &mut handle);
                 told.push(handle[1]);
@@ -111,17 +100,13 @@ impl Progress {
             }
             Step::ReadSector { by, k } => {
                 let (mut from, mut to) = (0, 0);
-                let number =
-                    library.read_sector(image, g, self.handle(*by, None), *k, &mut from, &mut to);
+                let number = library.read_sector(image, g, self.handle(*by, None), *k, &mut from, &mut to);
                 told.extend(&image[from..to]);
                 number
             }
-            Step::Write {
-                by,
-                at,
-                sequential,
-                bytes,
-            } => library.write_record(image, g, self.handle(*by, *at), *sequential, bytes),
+            Step::Write { by, at, sequential, bytes } => {
+                library.write_record(image, g, self.handle(*by, *at), *sequential, bytes)
+            }
             Step::Allot { by, k } => library.allot(image, g, self.handle(*by, None), *k),
             Step::Trim { by } => library.trim(image, g, self.handle(*by, None)),
             Step::Kill { by } => library.kill(image, g, self.handle(*by, None)),
@@ -145,12 +130,7 @@ pub struct Outcome {
 }
 
 /// Performs two lists in an order: false takes the next call of the first list, true of the second.
-pub fn interleaved(
-    library: &dyn Library,
-    disk: &Disk,
-    lists: [&List; 2],
-    order: &[bool],
-) -> Outcome {
+pub fn interleaved(library: &dyn Library, disk: &Disk, lists: [&List; 2], order: &[bool]) -> Outcome {
     let g = disk.g;
     let mut image = disk.image.clone();
     let mut progress = [Progress::default(), Progress::default()];
@@ -170,14 +150,7 @@ pub fn interleaved(
     let accepted = numbers.iter().all(|&number| number == ACCEPTED);
     let [first, second] = progress;
     let files = accepted.then(|| files_of(&image, &g));
-    Outcome {
-        accepted,
-        quiet,
-        image,
-        files,
-        told: [first.told, second.told],
-        numbers,
-    }
+    Outcome { accepted, quiet, image, files, told: [first.told, second.told], numbers }
 }
 
 /// An order of the two lists.
@@ -190,19 +163,10 @@ pub fn random_order(random: &mut Random, lists: [&List; 2]) -> Vec<bool> {
 
 /// A list on one file that is accepted if it runs alone: most orders then accept it too. `quiet` leaves
 /// out what takes or gives back.
-pub fn random_list(
-    random: &mut Random,
-    disk: &Disk,
-    name: Name,
-    steps: usize,
-    quiet: bool,
-) -> List {
+pub fn random_list(random: &mut Random, disk: &Disk, name: Name, steps: usize, quiet: bool) -> List {
     let g = disk.g;
     let mut image = disk.image.clone();
-    let mut list = List {
-        name,
-        steps: Vec::new(),
-    };
+    let mut list = List { name, steps: Vec::new() };
     let mut progress = Progress::default();
     let maps = g.start * SECTOR_BYTES..(g.start + 2) * SECTOR_BYTES;
     for _ in 0..40 * steps {
@@ -220,24 +184,14 @@ pub fn random_list(
     list
 }
 
-fn random_step(
-    random: &mut Random,
-    image: &[u8],
-    g: &Geometry,
-    disk: &Disk,
-    progress: &Progress,
-) -> Step {
+fn random_step(random: &mut Random, image: &[u8], g: &Geometry, disk: &Disk, progress: &Progress) -> Step {
     let handles = progress.handles.len();
     if handles == 0 || random.percent(12) {
         return match random.within(0, 5) {
             0 => Step::LookUp,
             1 | 2 => {
                 let length = random.within(1, 256);
-                Step::Open {
-                    length,
-                    checking: random.percent(50),
-                    code: *random.pick(&disk.codes),
-                }
+                Step::Open { length, checking: random.percent(50), code: *random.pick(&disk.codes) }
             }
             _ => Step::Create {
                 birth: Birth {
@@ -255,34 +209,21 @@ fn random_step(
     let by = random.within(0, handles - 1);
     let handle = Handle::read(&progress.handles[by]).expect("19 bytes");
     let d = directory_sectors(image, g).expect("a consistent disk");
-    let size = if handle.is_stale(image, g, d) {
-        0
-    } else {
-        entry(image, g, handle.slot).size().unwrap_or(0)
-    };
+    let size = if handle.is_stale(image, g, d) { 0 } else { entry(image, g, handle.slot).size().unwrap_or(0) };
     let at = |random: &mut Random, most: usize| match random.percent(70) {
         true => Some(random.within(0, most) as u32),
         false => None,
     };
     match random.within(0, 9) {
-        0 | 1 => Step::Read {
-            by,
-            at: at(random, size),
-        },
-        2 => Step::ReadSector {
-            by,
-            k: random.within(0, size / SECTOR_BYTES),
-        },
+        0 | 1 => Step::Read { by, at: at(random, size) },
+        2 => Step::ReadSector { by, k: random.within(0, size / SECTOR_BYTES) },
         3..=6 => Step::Write {
             by,
             at: at(random, size + 2 * GRANULE_BYTES),
             sequential: random.percent(50),
             bytes: (0..handle.length()).map(|_| random.byte()).collect(),
         },
-        7 => Step::Allot {
-            by,
-            k: size / SECTOR_BYTES + random.within(0, 30),
-        },
+        7 => Step::Allot { by, k: size / SECTOR_BYTES + random.within(0, 30) },
         8 => Step::Trim { by },
         _ => match random.percent(40) {
             true => Step::Kill { by },
@@ -343,16 +284,8 @@ pub fn demand_three(library: &dyn Library, seed: u64, tally: &mut Tally) -> Resu
     tally.pairs += 1;
 
     let mut orders = vec![
-        [
-            vec![false; first.steps.len()],
-            vec![true; second.steps.len()],
-        ]
-        .concat(),
-        [
-            vec![true; second.steps.len()],
-            vec![false; first.steps.len()],
-        ]
-        .concat(),
+        [vec![false; first.steps.len()], vec![true; second.steps.len()]].concat(),
+        [vec![true; second.steps.len()], vec![false; first.steps.len()]].concat(),
     ];
     for _ in 0..ORDERS {
         orders.push(random_order(&mut random, lists));
@@ -371,7 +304,10 @@ pub fn demand_three(library: &dyn Library, seed: u64, tally: &mut Tally) -> Resu
             continue;
         };
         let wrong = |what: &str| {
-            Err(format!("seed {seed}: {what} in the order {order:?} of\n  {first:02X?}\nand\n  {second:02X?}\non {:?}", disk.g))
+            Err(format!(
+                "seed {seed}: {what} in the order {order:?} of\n  {first:02X?}\nand\n  {second:02X?}\non {:?}",
+                disk.g
+            ))
         };
         if outcome.files != before.files {
             return wrong("other files");

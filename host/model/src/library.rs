@@ -8,14 +8,7 @@ use crate::geometry::Geometry;
 pub trait Library {
     fn title(&self) -> &'static str;
     fn check(&self, image: &[u8], g: &Geometry) -> Number;
-    fn look_up(
-        &self,
-        image: &[u8],
-        g: &Geometry,
-        name: &[u8],
-        slot: &mut usize,
-        compared: &mut usize,
-    ) -> Number;
+    fn look_up(&self, image: &[u8], g: &Geometry, name: &[u8], slot: &mut usize, compared: &mut usize) -> Number;
     fn open(
         &self,
         image: &[u8],
@@ -35,13 +28,7 @@ pub trait Library {
         old: &mut usize,
         handle: &mut [u8],
     ) -> Number;
-    fn read_record(
-        &self,
-        image: &[u8],
-        g: &Geometry,
-        handle: &mut [u8],
-        buffer: &mut [u8],
-    ) -> Number;
+    fn read_record(&self, image: &[u8], g: &Geometry, handle: &mut [u8], buffer: &mut [u8]) -> Number;
     fn read_sector(
         &self,
         image: &[u8],
@@ -85,14 +72,7 @@ impl Library for Model {
     fn check(&self, image: &[u8], g: &Geometry) -> Number {
         calls::check(image, g)
     }
-    fn look_up(
-        &self,
-        image: &[u8],
-        g: &Geometry,
-        name: &[u8],
-        slot: &mut usize,
-        compared: &mut usize,
-    ) -> Number {
+    fn look_up(&self, image: &[u8], g: &Geometry, name: &[u8], slot: &mut usize, compared: &mut usize) -> Number {
         calls::look_up(image, g, name, slot, compared)
     }
     fn open(
@@ -118,13 +98,7 @@ impl Library for Model {
     ) -> Number {
         calls::create(image, g, name, birth, old, handle)
     }
-    fn read_record(
-        &self,
-        image: &[u8],
-        g: &Geometry,
-        handle: &mut [u8],
-        buffer: &mut [u8],
-    ) -> Number {
+    fn read_record(&self, image: &[u8], g: &Geometry, handle: &mut [u8], buffer: &mut [u8]) -> Number {
         calls::read_record(image, g, handle, buffer)
     }
     fn read_sector(

@@ -16,8 +16,7 @@ pub fn allowed(byte: u8) -> bool {
 /// Allowed bytes, "padded right with 20H".
 fn padded(part: &[u8]) -> bool {
     let filled = part.iter().take_while(|&&byte| byte != BLANK).count();
-    part[..filled].iter().all(|&byte| allowed(byte))
-        && part[filled..].iter().all(|&byte| byte == BLANK)
+    part[..filled].iter().all(|&byte| allowed(byte)) && part[filled..].iter().all(|&byte| byte == BLANK)
 }
 
 /// "Names, given as 11 bytes: 1 to 8, type 0 to 3, each padded right with 20H".
@@ -45,10 +44,7 @@ pub fn hash(name: &Name) -> u8 {
 /// A name as the listing writes it: "name, a slash and the type if there is one".
 pub fn written(name: &Name) -> String {
     let text = |part: &[u8]| -> String {
-        part.iter()
-            .take_while(|&&byte| byte != BLANK)
-            .map(|&byte| byte as char)
-            .collect()
+        part.iter().take_while(|&&byte| byte != BLANK).map(|&byte| byte as char).collect()
     };
     let (first, kind) = (text(&name[..NAME_BYTES]), text(&name[NAME_BYTES..]));
     if kind.is_empty() {
@@ -61,10 +57,7 @@ pub fn written(name: &Name) -> String {
 /// The 11 bytes of a name written like `PULS01/DAT`; for tests.
 pub fn name(text: &str) -> Name {
     let (first, kind) = text.split_once('/').unwrap_or((text, ""));
-    assert!(
-        first.len() <= NAME_BYTES && kind.len() <= TYPE_BYTES,
-        "{text} is too long"
-    );
+    assert!(first.len() <= NAME_BYTES && kind.len() <= TYPE_BYTES, "{text} is too long");
     let mut bytes = [BLANK; FULL_NAME_BYTES];
     bytes[..first.len()].copy_from_slice(first.as_bytes());
     bytes[NAME_BYTES..NAME_BYTES + kind.len()].copy_from_slice(kind.as_bytes());

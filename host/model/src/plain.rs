@@ -32,33 +32,20 @@ pub fn files_of(image: &[u8], g: &Geometry) -> Files {
     for slot in files(image, g, d) {
         let e = entry(image, g, slot);
         let granules = owned(image, g, d, slot);
-        let mut bytes: Vec<u8> = granules
-            .iter()
-            .flat_map(|&at| &image[at * GRANULE_BYTES..(at + 1) * GRANULE_BYTES])
-            .copied()
-            .collect();
+        let mut bytes: Vec<u8> =
+            granules.iter().flat_map(|&at| &image[at * GRANULE_BYTES..(at + 1) * GRANULE_BYTES]).copied().collect();
         bytes.truncate(e.size().expect("a consistent disk"));
-        if granules
-            .iter()
-            .any(|granule| directory_granules(g, d).contains(granule))
-        {
+        if granules.iter().any(|granule| directory_granules(g, d).contains(granule)) {
             bytes.fill(0);
         }
-        let file = File {
-            attributes: ATTRIBUTE_PLACES.map(|place| e.0[place]),
-            bytes,
-            granules: granules.len(),
-        };
+        let file = File { attributes: ATTRIBUTE_PLACES.map(|place| e.0[place]), bytes, granules: granules.len() };
         all.insert(e.name(), file);
     }
     all
 }
 
 fn born(birth: &Birth) -> File {
-    let (main, worker) = (
-        birth.main_code.to_le_bytes(),
-        birth.worker_code.to_le_bytes(),
-    );
+    let (main, worker) = (birth.main_code.to_le_bytes(), birth.worker_code.to_le_bytes());
     let attributes = [
         0x10,
         birth.day as u8,
@@ -69,11 +56,7 @@ fn born(birth: &Birth) -> File {
         worker[0],
         worker[1],
     ];
-    File {
-        attributes,
-        bytes: Vec::new(),
-        granules: 0,
-    }
+    File { attributes, bytes: Vec::new(), granules: 0 }
 }
 
 /// What an accepted call does to the list. The handle, where there is one, is a good one.
@@ -84,19 +67,11 @@ pub fn effect(all: &mut Files, call: &Call) {
             let name: Name = name[..].try_into().expect("an accepted call");
             all.entry(name).or_insert_with(|| born(birth));
         }
-        Call::WriteRecord {
-            handle,
-            sequential,
-            buffer,
-        } => {
+        Call::WriteRecord { handle, sequential, buffer } => {
             let h = handled(handle);
             let file = all.get_mut(&h.name).expect("no stale handle");
             let (position, end) = (h.position(), h.position() + h.length());
-            let size = if *sequential {
-                end
-            } else {
-                end.max(file.bytes.len())
-            };
+            let size = if *sequential { end } else { end.max(file.bytes.len()) };
             // Zeros from the old size to the position, then the record.
             file.bytes.resize(size, 0);
             file.bytes[position..end].copy_from_slice(&buffer[..h.length()]);

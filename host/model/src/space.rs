@@ -1,8 +1,8 @@
 //! Free granules and slots; granules taken and given back, one at a time.
 
 use crate::directory::{
-    chain, entry, hit, hit_place, owned, put_entry, row, s, set_taken, slots, taken, Entry, Pair,
-    ENTRY_BYTES, EXTENSION_FLAGS, MARKER_LAST, MARKER_LINK, PAIRS,
+    chain, entry, hit, hit_place, owned, put_entry, row, s, set_taken, slots, taken, Entry, Pair, ENTRY_BYTES,
+    EXTENSION_FLAGS, MARKER_LAST, MARKER_LINK, PAIRS,
 };
 use crate::geometry::Geometry;
 use crate::names::hash;
@@ -33,9 +33,7 @@ pub fn reserved_granules(image: &[u8], g: &Geometry, d: usize) -> Vec<usize> {
             in_run[granule] = true;
         }
     }
-    (0..g.granules())
-        .filter(|&granule| taken(image, g, granule) && !in_run[granule])
-        .collect()
+    (0..g.granules()).filter(|&granule| taken(image, g, granule) && !in_run[granule]).collect()
 }
 
 /// Why a granule could not be taken.
@@ -49,22 +47,14 @@ pub enum Short {
 /// run has fewer than 32; else the lowest free one, as a new run. A run beyond the fourth starts an
 /// extension in the first permitted slot."
 pub fn take_one(image: &mut [u8], g: &Geometry, d: usize, file: u8) -> Result<(), Short> {
-    let last_slot = *chain(image, g, d, file)
-        .last()
-        .expect("the file's own slot");
+    let last_slot = *chain(image, g, d, file).last().expect("the file's own slot");
     let mut last = entry(image, g, last_slot);
     let pairs = last.pairs();
 
     if let Some(&pair) = pairs.last() {
         let after = pair.run(g).end;
         if pair.run(g).len() < LONGEST_RUN && after < g.granules() && !taken(image, g, after) {
-            last.set_pair(
-                pairs.len() - 1,
-                Pair {
-                    further: pair.further + 1,
-                    ..pair
-                },
-            );
+            last.set_pair(pairs.len() - 1, Pair { further: pair.further + 1, ..pair });
             put_entry(image, g, last_slot, &last);
             set_taken(image, g, after, true);
             return Ok(());
@@ -106,18 +96,10 @@ pub fn drop_one(image: &mut [u8], g: &Geometry, d: usize, file: u8) {
     let last_slot = walked[walked.len() - 1];
     let mut last = entry(image, g, last_slot);
     let pairs = last.pairs();
-    let pair = *pairs
-        .last()
-        .expect("a file that owns a granule ends in a run");
+    let pair = *pairs.last().expect("a file that owns a granule ends in a run");
     set_taken(image, g, pair.run(g).end - 1, false);
     if pair.further > 0 {
-        last.set_pair(
-            pairs.len() - 1,
-            Pair {
-                further: pair.further - 1,
-                ..pair
-            },
-        );
+        last.set_pair(pairs.len() - 1, Pair { further: pair.further - 1, ..pair });
     } else {
         last.empty_pair(pairs.len() - 1);
         if pairs.len() == 1 && last.is_extension() {
@@ -134,13 +116,7 @@ pub fn drop_one(image: &mut [u8], g: &Geometry, d: usize, file: u8) {
 }
 
 /// A growth by so many granules: "Growth is whole or refused." None changed if it is refused.
-pub fn grow(
-    image: &mut [u8],
-    g: &Geometry,
-    d: usize,
-    file: u8,
-    further: usize,
-) -> Result<(), Short> {
+pub fn grow(image: &mut [u8], g: &Geometry, d: usize, file: u8, further: usize) -> Result<(), Short> {
     if further == 0 {
         return Ok(());
     }

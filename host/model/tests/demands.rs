@@ -50,34 +50,20 @@ fn calls_do_what_a_plain_list_of_files_would() {
                 let gives_handle = matches!(call, Call::Open { .. } | Call::Create { .. });
                 if gives_handle && lent_handle.len() >= HANDLE_BYTES {
                     assert_eq!(outcome.handle[..HANDLE_BYTES], [0; HANDLE_BYTES], "{at}");
-                    assert_eq!(
-                        outcome.handle[HANDLE_BYTES..],
-                        lent_handle[HANDLE_BYTES..],
-                        "{at}"
-                    );
+                    assert_eq!(outcome.handle[HANDLE_BYTES..], lent_handle[HANDLE_BYTES..], "{at}");
                 } else {
                     assert_eq!(outcome.handle, lent_handle, "{at}");
                 }
                 for (title, told) in &outcome.numbers {
-                    assert!(
-                        *told == 0 || *title == "compared" && outcome.number == 4,
-                        "{at}"
-                    );
+                    assert!(*told == 0 || *title == "compared" && outcome.number == 4, "{at}");
                 }
                 continue;
             }
 
             assert!(consistent(&image, &g), "{at}");
             assert_eq!(reserved_granules(&image, &g, d), reserved, "{at}");
-            let all_owned: usize = files(&image, &g, d)
-                .iter()
-                .map(|&file| owned(&image, &g, d, file).len())
-                .sum();
-            assert_eq!(
-                free_granules(&image, &g).count() + reserved.len() + all_owned,
-                g.granules(),
-                "{at}"
-            );
+            let all_owned: usize = files(&image, &g, d).iter().map(|&file| owned(&image, &g, d, file).len()).sum();
+            assert_eq!(free_granules(&image, &g).count() + reserved.len() + all_owned, g.granules(), "{at}");
 
             // Reads answer the plain file's bytes.
             let handled = || Handle::read(&lent_handle).expect("accepted");
@@ -86,26 +72,11 @@ fn calls_do_what_a_plain_list_of_files_would() {
                     let h = handled();
                     let file = &plain[&h.name];
                     if !owns_directory(&before, &g, d, h.slot) {
-                        assert_eq!(
-                            outcome.buffer[..h.length()],
-                            file.bytes[h.position()..][..h.length()],
-                            "{at}"
-                        );
+                        assert_eq!(outcome.buffer[..h.length()], file.bytes[h.position()..][..h.length()], "{at}");
                     }
-                    assert_eq!(
-                        outcome.buffer[h.length()..],
-                        lent_buffer[h.length()..],
-                        "{at}"
-                    );
+                    assert_eq!(outcome.buffer[h.length()..], lent_buffer[h.length()..], "{at}");
                     let after = Handle::read(&outcome.handle).expect("19 bytes");
-                    assert_eq!(
-                        after,
-                        Handle {
-                            position: h.position + h.length as u32,
-                            ..h
-                        },
-                        "{at}"
-                    );
+                    assert_eq!(after, Handle { position: h.position + h.length as u32, ..h }, "{at}");
                 }
                 Call::ReadSector { k, .. } => {
                     let h = handled();
@@ -122,36 +93,19 @@ fn calls_do_what_a_plain_list_of_files_would() {
                     let slot = outcome.numbered("slot") as u8;
                     let up_to_hit = slots(d)
                         .filter(|&other| other <= slot)
-                        .filter(|&other| {
-                            genie_model::directory::hit(&before, &g, other) == hash(&name)
-                        })
+                        .filter(|&other| genie_model::directory::hit(&before, &g, other) == hash(&name))
                         .count();
                     assert_eq!(outcome.numbered("compared"), up_to_hit, "{at}");
-                    assert_eq!(
-                        genie_model::directory::entry(&before, &g, slot).name(),
-                        name,
-                        "{at}"
-                    );
+                    assert_eq!(genie_model::directory::entry(&before, &g, slot).name(), name, "{at}");
                 }
                 Call::WriteRecord { .. } => {
                     let h = handled();
                     let after = Handle::read(&outcome.handle).expect("19 bytes");
-                    assert_eq!(
-                        after,
-                        Handle {
-                            position: h.position + h.length as u32,
-                            ..h
-                        },
-                        "{at}"
-                    );
+                    assert_eq!(after, Handle { position: h.position + h.length as u32, ..h }, "{at}");
                     // What was written is what is read back.
                     let mut buffer = vec![0; h.length()];
                     let again = &mut h.bytes();
-                    assert_eq!(
-                        genie_model::calls::read_record(&image, &g, again, &mut buffer),
-                        ACCEPTED,
-                        "{at}"
-                    );
+                    assert_eq!(genie_model::calls::read_record(&image, &g, again, &mut buffer), ACCEPTED, "{at}");
                     assert_eq!(buffer, lent_buffer[..h.length()], "{at}");
                 }
                 _ => {}
@@ -163,11 +117,7 @@ fn calls_do_what_a_plain_list_of_files_would() {
             let after = files_of(&image, &g);
             assert!(after == plain, "other files than a plain list: {at}");
             if let Call::Create { .. } = call {
-                assert_eq!(
-                    outcome.numbered("old") == 1,
-                    plain.len() == files_before,
-                    "{at}"
-                );
+                assert_eq!(outcome.numbered("old") == 1, plain.len() == files_before, "{at}");
             }
         }
     }
@@ -175,9 +125,7 @@ fn calls_do_what_a_plain_list_of_files_would() {
 
 fn owns_directory(image: &[u8], g: &genie_model::geometry::Geometry, d: usize, file: u8) -> bool {
     let directory = genie_model::directory::directory_granules(g, d);
-    owned(image, g, d, file)
-        .iter()
-        .any(|granule| directory.contains(granule))
+    owned(image, g, d, file).iter().any(|granule| directory.contains(granule))
 }
 
 /// What a call lends: handle, buffer, name.
@@ -186,12 +134,8 @@ fn lent(call: &Call) -> (Vec<u8>, Vec<u8>, Vec<u8>) {
     match call.clone() {
         Call::Check | Call::Count => (none(), none(), none()),
         Call::LookUp { name } | Call::List { name, .. } => (none(), none(), name),
-        Call::Open { name, handle, .. } | Call::Create { name, handle, .. } => {
-            (handle, none(), name)
-        }
-        Call::ReadRecord { handle, buffer } | Call::WriteRecord { handle, buffer, .. } => {
-            (handle, buffer, none())
-        }
+        Call::Open { name, handle, .. } | Call::Create { name, handle, .. } => (handle, none(), name),
+        Call::ReadRecord { handle, buffer } | Call::WriteRecord { handle, buffer, .. } => (handle, buffer, none()),
         Call::ReadSector { handle, .. }
         | Call::Allot { handle, .. }
         | Call::Trim { handle }
@@ -205,8 +149,5 @@ fn interleavings_agree_on_the_model() {
     for _ in 0..250 {
         demand_three(&Model, seeds.draw(), &mut tally).unwrap_or_else(|text| panic!("{text}"));
     }
-    assert!(
-        tally.accepted > 500 && tally.quiet > 100 && tally.other_image > 50,
-        "{tally:?}"
-    );
+    assert!(tally.accepted > 500 && tally.quiet > 100 && tally.other_image > 50, "{tally:?}");
 }

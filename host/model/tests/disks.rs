@@ -14,12 +14,7 @@ fn random_disks_are_consistent_and_of_all_kinds() {
     let mut seen: BTreeMap<&str, usize> = BTreeMap::new();
     for number in 0..1500 {
         let disk = random_disk(&mut random);
-        assert_eq!(
-            faults(&disk.image, &disk.g),
-            [],
-            "disk {number} of seed 1: {:?}",
-            disk.g
-        );
+        assert_eq!(faults(&disk.image, &disk.g), [], "disk {number} of seed 1: {:?}", disk.g);
         let d = directory_sectors(&disk.image, &disk.g).expect("consistent");
         lengths.insert(d);
         units.insert(disk.g.units);
@@ -43,14 +38,8 @@ fn random_disks_are_consistent_and_of_all_kinds() {
             }
         }
     }
-    assert_eq!(
-        lengths.into_iter().collect::<Vec<_>>(),
-        [10, 15, 20, 25, 30]
-    );
-    assert_eq!(
-        units.into_iter().collect::<Vec<_>>(),
-        [1, 2, 3, 4, 5, 6, 7, 8]
-    );
+    assert_eq!(lengths.into_iter().collect::<Vec<_>>(), [10, 15, 20, 25, 30]);
+    assert_eq!(units.into_iter().collect::<Vec<_>>(), [1, 2, 3, 4, 5, 6, 7, 8]);
     assert!(blocks.contains(&1) && blocks.contains(&192) && blocks.len() > 100);
     for (what, times) in seen {
         assert!(times >= 20, "{what}: only {times} times");
@@ -71,27 +60,16 @@ fn every_damage_breaks_its_clause_and_every_clause_is_once_broken_alone() {
             }
             *done.entry(damage.title).or_default() += 1;
             let found = faults(&disk.image, &disk.g);
-            assert!(
-                found.contains(&damage.breaks),
-                "{} on disk {number} of seed 2: found {found:?}",
-                damage.title
-            );
+            assert!(found.contains(&damage.breaks), "{} on disk {number} of seed 2: found {found:?}", damage.title);
             if found.len() == 1 {
                 *alone.entry(damage.breaks).or_default() += 1;
             }
         }
     }
     for damage in DAMAGES {
-        assert!(
-            done.get(damage.title).copied().unwrap_or(0) >= 5,
-            "too seldom possible: {}",
-            damage.title
-        );
+        assert!(done.get(damage.title).copied().unwrap_or(0) >= 5, "too seldom possible: {}", damage.title);
     }
     for clause in CLAUSES {
-        assert!(
-            alone.get(&clause).copied().unwrap_or(0) >= 3,
-            "never broken alone: {clause:?}"
-        );
+        assert!(alone.get(&clause).copied().unwrap_or(0) >= 3, "never broken alone: {clause:?}");
     }
 }

@@ -36,11 +36,7 @@ fn place(disk: &mut Disk, slot: u8, flags: u8, day: u8, granule: Option<usize>, 
     let mut e = Entry([0; 32]);
     (e.0[0x00], e.0[0x01]) = (0x10 | flags, day);
     e.0[0x05..0x10].copy_from_slice(&name(title(slot)));
-    let (main, worker) = if slot == LOCKED {
-        (MAIN, WORKER)
-    } else {
-        (OPEN, WORKER)
-    };
+    let (main, worker) = if slot == LOCKED { (MAIN, WORKER) } else { (OPEN, WORKER) };
     e.0[0x10..0x12].copy_from_slice(&main.to_le_bytes());
     e.0[0x12..0x14].copy_from_slice(&worker.to_le_bytes());
     e.0[0x16..].fill(0xFF);
@@ -55,16 +51,7 @@ fn place(disk: &mut Disk, slot: u8, flags: u8, day: u8, granule: Option<usize>, 
 
 /// 16 blocks of 2 units; 26 granules free.
 fn disk() -> Disk {
-    let mut disk = empty_disk(
-        Geometry {
-            blocks: 16,
-            units: 2,
-            start: 80,
-            open_code: OPEN,
-        },
-        10,
-        &[0],
-    );
+    let mut disk = empty_disk(Geometry { blocks: 16, units: 2, start: 80, open_code: OPEN }, 10, &[0]);
     place(&mut disk, DATA, 0, 0, Some(5), 300);
     place(&mut disk, EMPTY, 0, 0, None, 0);
     place(&mut disk, FIXED, 0, 0x40, Some(7), 300);
@@ -74,121 +61,57 @@ fn disk() -> Disk {
 }
 
 fn handle(slot: u8) -> Handle {
-    Handle {
-        slot,
-        level: 0,
-        length: 4,
-        position: 0,
-        name: name(title(slot)),
-    }
+    Handle { slot, level: 0, length: 4, position: 0, name: name(title(slot)) }
 }
 
 fn birth() -> Birth {
-    Birth {
-        day: 31,
-        month: 15,
-        year: 15,
-        length: 256,
-        main_code: OPEN,
-        worker_code: 0,
-        checking: true,
-    }
+    Birth { day: 31, month: 15, year: 15, length: 256, main_code: OPEN, worker_code: 0, checking: true }
 }
 
 fn look_up(text: &str) -> Call {
-    Call::LookUp {
-        name: name(text).to_vec(),
-    }
+    Call::LookUp { name: name(text).to_vec() }
 }
 fn open(text: &str, checking: bool, code: u16) -> Call {
-    Call::Open {
-        name: name(text).to_vec(),
-        length: 4,
-        checking,
-        code,
-        handle: vec![0xEE; 22],
-    }
+    Call::Open { name: name(text).to_vec(), length: 4, checking, code, handle: vec![0xEE; 22] }
 }
 fn create(text: &str) -> Call {
-    Call::Create {
-        name: name(text).to_vec(),
-        birth: birth(),
-        handle: vec![0xEE; 22],
-    }
+    Call::Create { name: name(text).to_vec(), birth: birth(), handle: vec![0xEE; 22] }
 }
 fn create_with(text: &str, change: impl FnOnce(&mut Birth)) -> Call {
     let mut birth = birth();
     change(&mut birth);
-    Call::Create {
-        name: name(text).to_vec(),
-        birth,
-        handle: vec![0xEE; 22],
-    }
+    Call::Create { name: name(text).to_vec(), birth, handle: vec![0xEE; 22] }
 }
 fn read(h: Handle) -> Call {
-    Call::ReadRecord {
-        handle: h.bytes().to_vec(),
-        buffer: vec![0xEE; 256],
-    }
+    Call::ReadRecord { handle: h.bytes().to_vec(), buffer: vec![0xEE; 256] }
 }
 fn sector(h: Handle, k: usize) -> Call {
-    Call::ReadSector {
-        handle: h.bytes().to_vec(),
-        k,
-    }
+    Call::ReadSector { handle: h.bytes().to_vec(), k }
 }
 fn write(h: Handle, sequential: bool) -> Call {
-    Call::WriteRecord {
-        handle: h.bytes().to_vec(),
-        sequential,
-        buffer: vec![0xEE; 256],
-    }
+    Call::WriteRecord { handle: h.bytes().to_vec(), sequential, buffer: vec![0xEE; 256] }
 }
 fn allot(h: Handle, k: usize) -> Call {
-    Call::Allot {
-        handle: h.bytes().to_vec(),
-        k,
-    }
+    Call::Allot { handle: h.bytes().to_vec(), k }
 }
 fn trim(h: Handle) -> Call {
-    Call::Trim {
-        handle: h.bytes().to_vec(),
-    }
+    Call::Trim { handle: h.bytes().to_vec() }
 }
 fn kill(h: Handle) -> Call {
-    Call::Kill {
-        handle: h.bytes().to_vec(),
-    }
+    Call::Kill { handle: h.bytes().to_vec() }
 }
 fn list() -> Call {
-    Call::List {
-        which: 0,
-        name: vec![0xEE; 11],
-    }
+    Call::List { which: 0, name: vec![0xEE; 11] }
 }
 
 /// All six calls by a handle; sector numbers in range.
 fn by_handle(h: Handle) -> Vec<Call> {
-    vec![
-        read(h),
-        sector(h, 0),
-        write(h, true),
-        write(h, false),
-        allot(h, 0),
-        trim(h),
-        kill(h),
-    ]
+    vec![read(h), sector(h, 0), write(h, true), write(h, false), allot(h, 0), trim(h), kill(h)]
 }
 
 fn all_calls() -> Vec<Call> {
-    let mut all = vec![
-        Call::Check,
-        look_up("DATA/DAT"),
-        open("DATA/DAT", true, OPEN),
-        create("NEW"),
-        list(),
-        Call::Count,
-    ];
+    let mut all =
+        vec![Call::Check, look_up("DATA/DAT"), open("DATA/DAT", true, OPEN), create("NEW"), list(), Call::Count];
     all.extend(by_handle(handle(DATA)));
     all
 }
@@ -206,10 +129,7 @@ fn gives_under(disk: &Disk, g: &Geometry, call: &Call, wanted: u8) -> Outcome {
             assert!(image == disk.image, "changed by {at}");
             let count_stands = wanted == 4 && matches!(call, Call::LookUp { .. });
             for (title, told) in &outcome.numbers {
-                assert!(
-                    *told == 0 || count_stands && *title == "compared",
-                    "{title} = {told} of {at}"
-                );
+                assert!(*told == 0 || count_stands && *title == "compared", "{title} = {told} of {at}");
             }
             match call {
                 Call::Open { handle, .. } | Call::Create { handle, .. } => {
@@ -253,30 +173,11 @@ fn row_1_geometry() {
     for units in [0, 1, 3, 9, usize::MAX, 2 + (1 << 60)] {
         wrong.push(Geometry { units, ..good });
     }
-    for start in [
-        81,
-        84,
-        155,
-        160,
-        165,
-        usize::MAX,
-        usize::MAX - 5,
-        usize::MAX - 14,
-        1 << 63,
-    ] {
+    for start in [81, 84, 155, 160, 165, usize::MAX, usize::MAX - 5, usize::MAX - 14, 1 << 63] {
         wrong.push(Geometry { start, ..good });
     }
-    wrong.push(Geometry {
-        blocks: 4,
-        units: 9,
-        ..good
-    });
-    wrong.push(Geometry {
-        blocks: usize::MAX,
-        units: usize::MAX,
-        start: usize::MAX,
-        open_code: 0,
-    });
+    wrong.push(Geometry { blocks: 4, units: 9, ..good });
+    wrong.push(Geometry { blocks: usize::MAX, units: usize::MAX, start: usize::MAX, open_code: 0 });
     for g in wrong {
         for call in all_calls() {
             gives_under(&disk, &g, &call, 1);
@@ -284,10 +185,7 @@ fn row_1_geometry() {
     }
     // Another image length.
     for length in [0, 1, 1280, disk.image.len() - 1, disk.image.len() - 1280] {
-        let short = Disk {
-            image: disk.image[..length].to_vec(),
-            ..disk.clone()
-        };
+        let short = Disk { image: disk.image[..length].to_vec(), ..disk.clone() };
         gives(&short, &Call::Check, 1);
     }
     let mut long = disk.clone();
@@ -306,16 +204,7 @@ fn row_2_consistency() {
         gives(&broken, &call, 2);
     }
     // A directory length that passes the end is inconsistent, no matter of geometry.
-    let mut last = empty_disk(
-        Geometry {
-            blocks: 16,
-            units: 2,
-            start: 150,
-            open_code: OPEN,
-        },
-        10,
-        &[],
-    );
+    let mut last = empty_disk(Geometry { blocks: 16, units: 2, start: 150, open_code: OPEN }, 10, &[]);
     gives(&last, &Call::Check, 0);
     let place = hit_place(&last.g, 0x1F);
     last.image[place] = 5;
@@ -329,38 +218,16 @@ fn row_12_numbers_of_a_handle() {
     let disk = disk();
     let good = handle(DATA);
     let wrong = [
-        Handle {
-            position: HIGHEST_POSITION as u32 + 1,
-            ..good
-        },
-        Handle {
-            position: u32::MAX,
-            ..good
-        },
+        Handle { position: HIGHEST_POSITION as u32 + 1, ..good },
+        Handle { position: u32::MAX, ..good },
         Handle { length: 0, ..good },
-        Handle {
-            length: 257,
-            ..good
-        },
-        Handle {
-            length: u16::MAX,
-            ..good
-        },
+        Handle { length: 257, ..good },
+        Handle { length: u16::MAX, ..good },
         Handle { level: 8, ..good },
         Handle { level: 255, ..good },
         // The handle of zeros, and a handle that is stale besides: row 12 comes first.
-        Handle {
-            slot: 0,
-            level: 0,
-            length: 0,
-            position: 0,
-            name: [0; 11],
-        },
-        Handle {
-            slot: 0xFF,
-            level: 8,
-            ..good
-        },
+        Handle { slot: 0, level: 0, length: 0, position: 0, name: [0; 11] },
+        Handle { slot: 0xFF, level: 8, ..good },
     ];
     for h in wrong {
         for call in by_handle(h) {
@@ -369,61 +236,18 @@ fn row_12_numbers_of_a_handle() {
     }
     for length in 0..HANDLE_BYTES {
         let cut = || good.bytes()[..length].to_vec();
-        gives(
-            &disk,
-            &Call::ReadRecord {
-                handle: cut(),
-                buffer: vec![0; 256],
-            },
-            12,
-        );
-        gives(
-            &disk,
-            &Call::ReadSector {
-                handle: cut(),
-                k: 0,
-            },
-            12,
-        );
-        gives(
-            &disk,
-            &Call::WriteRecord {
-                handle: cut(),
-                sequential: true,
-                buffer: vec![0; 256],
-            },
-            12,
-        );
-        gives(
-            &disk,
-            &Call::Allot {
-                handle: cut(),
-                k: 0,
-            },
-            12,
-        );
+        gives(&disk, &Call::ReadRecord { handle: cut(), buffer: vec![0; 256] }, 12);
+        gives(&disk, &Call::ReadSector { handle: cut(), k: 0 }, 12);
+        gives(&disk, &Call::WriteRecord { handle: cut(), sequential: true, buffer: vec![0; 256] }, 12);
+        gives(&disk, &Call::Allot { handle: cut(), k: 0 }, 12);
         gives(&disk, &Call::Trim { handle: cut() }, 12);
         gives(&disk, &Call::Kill { handle: cut() }, 12);
         gives(
             &disk,
-            &Call::Open {
-                name: name("DATA/DAT").to_vec(),
-                length: 1,
-                checking: false,
-                code: 0,
-                handle: cut(),
-            },
+            &Call::Open { name: name("DATA/DAT").to_vec(), length: 1, checking: false, code: 0, handle: cut() },
             12,
         );
-        gives(
-            &disk,
-            &Call::Create {
-                name: name("NEW").to_vec(),
-                birth: birth(),
-                handle: cut(),
-            },
-            12,
-        );
+        gives(&disk, &Call::Create { name: name("NEW").to_vec(), birth: birth(), handle: cut() }, 12);
     }
 }
 
@@ -440,30 +264,14 @@ fn row_12_numbers_of_a_call() {
             handle: vec![0xEE; 19],
         };
         gives(&disk, &asked, 12);
-        gives(
-            &disk,
-            &create_with("NEW", |birth| birth.length = length),
-            12,
-        );
+        gives(&disk, &create_with("NEW", |birth| birth.length = length), 12);
         // Also if the file exists, or the name is malformed.
-        gives(
-            &disk,
-            &create_with("DATA/DAT", |birth| birth.length = length),
-            12,
-        );
-        gives(
-            &disk,
-            &create_with("new", |birth| birth.length = length),
-            12,
-        );
+        gives(&disk, &create_with("DATA/DAT", |birth| birth.length = length), 12);
+        gives(&disk, &create_with("new", |birth| birth.length = length), 12);
     }
     for wrong in [32, 256, 256 + 9, usize::MAX] {
         gives(&disk, &create_with("NEW", |birth| birth.day = wrong), 12);
-        gives(
-            &disk,
-            &create_with("DATA/DAT", |birth| birth.day = wrong),
-            12,
-        );
+        gives(&disk, &create_with("DATA/DAT", |birth| birth.day = wrong), 12);
     }
     for wrong in [16, 256, 256 + 9, usize::MAX] {
         gives(&disk, &create_with("NEW", |birth| birth.month = wrong), 12);
@@ -477,110 +285,21 @@ fn row_12_numbers_of_a_call() {
     gives(&disk, &allot(good, HIGHEST_SECTOR), 9);
     // Position + length over 1,966,080 in a write; in a read it is past the size.
     for sequential in [true, false] {
-        gives(
-            &disk,
-            &write(
-                Handle {
-                    position: HIGHEST_POSITION as u32,
-                    ..good
-                },
-                sequential,
-            ),
-            12,
-        );
-        gives(
-            &disk,
-            &write(
-                Handle {
-                    position: HIGHEST_POSITION as u32 - 3,
-                    ..good
-                },
-                sequential,
-            ),
-            12,
-        );
-        gives(
-            &disk,
-            &write(
-                Handle {
-                    position: HIGHEST_POSITION as u32 - 4,
-                    ..good
-                },
-                sequential,
-            ),
-            9,
-        );
-        gives(
-            &disk,
-            &Call::WriteRecord {
-                handle: good.bytes().to_vec(),
-                sequential,
-                buffer: vec![1; 3],
-            },
-            12,
-        );
-        gives(
-            &disk,
-            &Call::WriteRecord {
-                handle: good.bytes().to_vec(),
-                sequential,
-                buffer: vec![],
-            },
-            12,
-        );
-        gives(
-            &disk,
-            &Call::WriteRecord {
-                handle: good.bytes().to_vec(),
-                sequential,
-                buffer: vec![1; 4],
-            },
-            0,
-        );
+        gives(&disk, &write(Handle { position: HIGHEST_POSITION as u32, ..good }, sequential), 12);
+        gives(&disk, &write(Handle { position: HIGHEST_POSITION as u32 - 3, ..good }, sequential), 12);
+        gives(&disk, &write(Handle { position: HIGHEST_POSITION as u32 - 4, ..good }, sequential), 9);
+        gives(&disk, &Call::WriteRecord { handle: good.bytes().to_vec(), sequential, buffer: vec![1; 3] }, 12);
+        gives(&disk, &Call::WriteRecord { handle: good.bytes().to_vec(), sequential, buffer: vec![] }, 12);
+        gives(&disk, &Call::WriteRecord { handle: good.bytes().to_vec(), sequential, buffer: vec![1; 4] }, 0);
     }
-    gives(
-        &disk,
-        &read(Handle {
-            position: HIGHEST_POSITION as u32,
-            ..good
-        }),
-        10,
-    );
+    gives(&disk, &read(Handle { position: HIGHEST_POSITION as u32, ..good }), 10);
     for room in [0, 3] {
-        gives(
-            &disk,
-            &Call::ReadRecord {
-                handle: good.bytes().to_vec(),
-                buffer: vec![0xEE; room],
-            },
-            12,
-        );
+        gives(&disk, &Call::ReadRecord { handle: good.bytes().to_vec(), buffer: vec![0xEE; room] }, 12);
     }
-    gives(
-        &disk,
-        &Call::ReadRecord {
-            handle: good.bytes().to_vec(),
-            buffer: vec![0xEE; 4],
-        },
-        0,
-    );
+    gives(&disk, &Call::ReadRecord { handle: good.bytes().to_vec(), buffer: vec![0xEE; 4] }, 0);
     for room in 0..11 {
-        gives(
-            &disk,
-            &Call::List {
-                which: 0,
-                name: vec![0xEE; room],
-            },
-            12,
-        );
-        gives(
-            &disk,
-            &Call::List {
-                which: usize::MAX,
-                name: vec![0xEE; room],
-            },
-            12,
-        );
+        gives(&disk, &Call::List { which: 0, name: vec![0xEE; room] }, 12);
+        gives(&disk, &Call::List { which: usize::MAX, name: vec![0xEE; room] }, 12);
     }
 }
 
@@ -601,9 +320,7 @@ fn row_3_names() {
         b"DATA      T".to_vec(),
         b"DATA   XDAT".to_vec(),
     ];
-    for bad in [
-        0x00, 0x1F, 0x21, 0x2F, 0x3A, 0x40, 0x5E, 0x60, 0x61, 0x7D, 0x80, 0xA0, 0xC1, 0xFF,
-    ] {
+    for bad in [0x00, 0x1F, 0x21, 0x2F, 0x3A, 0x40, 0x5E, 0x60, 0x61, 0x7D, 0x80, 0xA0, 0xC1, 0xFF] {
         for at in [0, 3, 8, 10] {
             let mut bytes = name("DATA/DAT");
             bytes[at] = bad;
@@ -611,30 +328,10 @@ fn row_3_names() {
         }
     }
     for bytes in wrong {
-        gives(
-            &disk,
-            &Call::LookUp {
-                name: bytes.clone(),
-            },
-            3,
-        );
-        let asked = Call::Open {
-            name: bytes.clone(),
-            length: 4,
-            checking: false,
-            code: 0,
-            handle: vec![0xEE; 19],
-        };
+        gives(&disk, &Call::LookUp { name: bytes.clone() }, 3);
+        let asked = Call::Open { name: bytes.clone(), length: 4, checking: false, code: 0, handle: vec![0xEE; 19] };
         gives(&disk, &asked, 3);
-        gives(
-            &disk,
-            &Call::Create {
-                name: bytes,
-                birth: birth(),
-                handle: vec![0xEE; 19],
-            },
-            3,
-        );
+        gives(&disk, &Call::Create { name: bytes, birth: birth(), handle: vec![0xEE; 19] }, 3);
     }
     // The edges of what is allowed.
     for text in ["0", "9", "A", "]", "[\\]", "A2345678/123", "A/B", "Z"] {
@@ -654,26 +351,16 @@ fn row_7_stale_handles() {
         }
     }
     for text in ["DATA", "DATA/DAU", "EMPTY", "EATA/DAT"] {
-        for call in by_handle(Handle {
-            name: name(text),
-            ..good
-        }) {
+        for call in by_handle(Handle { name: name(text), ..good }) {
             gives(&disk, &call, 7);
         }
     }
     // A malformed name in a handle is stale, not 3.
-    for call in by_handle(Handle {
-        name: [0xFF; 11],
-        ..good
-    }) {
+    for call in by_handle(Handle { name: [0xFF; 11], ..good }) {
         gives(&disk, &call, 7);
     }
     // Level 7 besides: row 7 comes first.
-    for call in by_handle(Handle {
-        slot: EMPTY,
-        level: 7,
-        ..good
-    }) {
+    for call in by_handle(Handle { slot: EMPTY, level: 7, ..good }) {
         gives(&disk, &call, 7);
     }
     // An extension never answers to a handle, even if its bytes 05 to 0F are the name.
@@ -707,10 +394,7 @@ fn row_4_not_found() {
         gives(&disk, &open(text, true, OPEN), 4);
     }
     let outcome = gives(&disk, &look_up("DIR/SYS"), 0);
-    assert_eq!(
-        (outcome.numbered("slot"), outcome.numbered("compared")),
-        (0, 1)
-    );
+    assert_eq!((outcome.numbered("slot"), outcome.numbered("compared")), (0, 1));
 }
 
 #[test]
@@ -726,28 +410,11 @@ fn row_5_password() {
     assert_eq!(level(&open("DATA/DAT", true, 0)), 0);
     assert_eq!(level(&open("DATA/DAT", true, WORKER)), 0);
     // Create on an existing file goes by the given main code; the worker code plays no part.
-    gives(
-        &disk,
-        &create_with("LOCKED", |birth| birth.main_code = OPEN),
-        5,
-    );
-    gives(
-        &disk,
-        &create_with("LOCKED", |birth| birth.worker_code = MAIN),
-        5,
-    );
-    assert_eq!(
-        level(&create_with("LOCKED", |birth| birth.main_code = MAIN)),
-        0
-    );
-    assert_eq!(
-        level(&create_with("LOCKED", |birth| birth.main_code = WORKER)),
-        6
-    );
-    assert_eq!(
-        level(&create_with("LOCKED", |birth| birth.checking = false)),
-        0
-    );
+    gives(&disk, &create_with("LOCKED", |birth| birth.main_code = OPEN), 5);
+    gives(&disk, &create_with("LOCKED", |birth| birth.worker_code = MAIN), 5);
+    assert_eq!(level(&create_with("LOCKED", |birth| birth.main_code = MAIN)), 0);
+    assert_eq!(level(&create_with("LOCKED", |birth| birth.main_code = WORKER)), 6);
+    assert_eq!(level(&create_with("LOCKED", |birth| birth.checking = false)), 0);
     assert_eq!(gives(&disk, &create("DIR/SYS"), 0).numbered("old"), 1);
     // Main and worker code equal, and given: level 0.
     let mut both = disk.clone();
@@ -760,10 +427,7 @@ fn row_5_password() {
 fn row_6_levels_and_system_files() {
     let disk = disk();
     for level in 0..=7 {
-        let h = Handle {
-            level,
-            ..handle(DATA)
-        };
+        let h = Handle { level, ..handle(DATA) };
         let over = |highest: u8| if level > highest { 6 } else { 0 };
         gives(&disk, &read(h), over(5));
         gives(&disk, &sector(h, 0), over(5));
@@ -776,57 +440,19 @@ fn row_6_levels_and_system_files() {
     let system = handle(SYSTEM);
     gives(&disk, &read(system), 0);
     gives(&disk, &sector(system, 1), 0);
-    for call in [
-        write(system, true),
-        write(system, false),
-        allot(system, 0),
-        trim(system),
-        kill(system),
-    ] {
+    for call in [write(system, true), write(system, false), allot(system, 0), trim(system), kill(system)] {
         gives(&disk, &call, 6);
     }
     // Row 6 comes before rows 10 and 9.
-    gives(
-        &disk,
-        &read(Handle {
-            level: 6,
-            position: 9_999,
-            ..handle(DATA)
-        }),
-        6,
-    );
-    gives(
-        &disk,
-        &allot(
-            Handle {
-                level: 5,
-                ..handle(FIXED)
-            },
-            HIGHEST_SECTOR,
-        ),
-        6,
-    );
+    gives(&disk, &read(Handle { level: 6, position: 9_999, ..handle(DATA) }), 6);
+    gives(&disk, &allot(Handle { level: 5, ..handle(FIXED) }, HIGHEST_SECTOR), 6);
 }
 
 #[test]
 fn row_10_past_the_size() {
     let disk = disk();
-    gives(
-        &disk,
-        &read(Handle {
-            position: 296,
-            ..handle(DATA)
-        }),
-        0,
-    );
-    gives(
-        &disk,
-        &read(Handle {
-            position: 297,
-            ..handle(DATA)
-        }),
-        10,
-    );
+    gives(&disk, &read(Handle { position: 296, ..handle(DATA) }), 0);
+    gives(&disk, &read(Handle { position: 297, ..handle(DATA) }), 10);
     gives(&disk, &read(handle(EMPTY)), 10);
     let last = gives(&disk, &sector(handle(DATA), 1), 0);
     assert_eq!(last.numbered("to") - last.numbered("from"), 44);
@@ -839,40 +465,10 @@ fn row_11_no_growth() {
     let disk = disk();
     let fixed = handle(FIXED);
     for sequential in [true, false] {
-        gives(
-            &disk,
-            &write(
-                Handle {
-                    position: 1276,
-                    ..fixed
-                },
-                sequential,
-            ),
-            0,
-        );
-        gives(
-            &disk,
-            &write(
-                Handle {
-                    position: 1277,
-                    ..fixed
-                },
-                sequential,
-            ),
-            11,
-        );
+        gives(&disk, &write(Handle { position: 1276, ..fixed }, sequential), 0);
+        gives(&disk, &write(Handle { position: 1277, ..fixed }, sequential), 11);
         // Also if there is no space: row 11 comes before row 9.
-        gives(
-            &disk,
-            &write(
-                Handle {
-                    position: 1_000_000,
-                    ..fixed
-                },
-                sequential,
-            ),
-            11,
-        );
+        gives(&disk, &write(Handle { position: 1_000_000, ..fixed }, sequential), 11);
     }
     gives(&disk, &allot(fixed, 4), 0);
     gives(&disk, &allot(fixed, 5), 11);
@@ -889,48 +485,17 @@ fn row_9_granules() {
     gives(&disk, &allot(handle(DATA), 5 * free + 5), 9);
     for sequential in [true, false] {
         let most = 1280 * free as u32;
-        gives(
-            &disk,
-            &write(
-                Handle {
-                    position: most - 4,
-                    ..handle(EMPTY)
-                },
-                sequential,
-            ),
-            0,
-        );
-        gives(
-            &disk,
-            &write(
-                Handle {
-                    position: most - 3,
-                    ..handle(EMPTY)
-                },
-                sequential,
-            ),
-            9,
-        );
+        gives(&disk, &write(Handle { position: most - 4, ..handle(EMPTY) }, sequential), 0);
+        gives(&disk, &write(Handle { position: most - 3, ..handle(EMPTY) }, sequential), 9);
     }
 }
 
 /// Every second granule free, so many permitted slots free.
 fn scattered(slots_free: usize) -> Disk {
     let reserved: Vec<usize> = (0..60).filter(|granule| granule % 2 == 0).collect();
-    let mut disk = empty_disk(
-        Geometry {
-            blocks: 30,
-            units: 2,
-            start: 80,
-            open_code: OPEN,
-        },
-        10,
-        &reserved,
-    );
+    let mut disk = empty_disk(Geometry { blocks: 30, units: 2, start: 80, open_code: OPEN }, 10, &reserved);
     place(&mut disk, DATA, 0, 0, None, 0);
-    let others: Vec<u8> = slots(10)
-        .filter(|&slot| permitted(slot) && slot != DATA)
-        .collect();
+    let others: Vec<u8> = slots(10).filter(|&slot| permitted(slot) && slot != DATA).collect();
     for (i, &slot) in others[slots_free..].iter().enumerate() {
         let text = format!("F{i}");
         let mut e = Entry([0; 32]);
@@ -957,28 +522,8 @@ fn row_8_slots() {
         gives(&disk, &allot(handle(DATA), 5 * most), 8);
         for sequential in [true, false] {
             let end = 1280 * most as u32;
-            gives(
-                &disk,
-                &write(
-                    Handle {
-                        position: end - 4,
-                        ..handle(DATA)
-                    },
-                    sequential,
-                ),
-                0,
-            );
-            gives(
-                &disk,
-                &write(
-                    Handle {
-                        position: end - 3,
-                        ..handle(DATA)
-                    },
-                    sequential,
-                ),
-                8,
-            );
+            gives(&disk, &write(Handle { position: end - 4, ..handle(DATA) }, sequential), 0);
+            gives(&disk, &write(Handle { position: end - 3, ..handle(DATA) }, sequential), 8);
         }
         // More granules than are free: row 9 comes first.
         gives(&disk, &allot(handle(DATA), 5 * 60), 9);

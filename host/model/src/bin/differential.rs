@@ -21,11 +21,7 @@ const INTERLEAVING_PART: f64 = 0.2;
 /// The bounds, and the one disk to run if there is one.
 fn asked() -> Result<(Bounds, Option<u64>), String> {
     let mut disk = None;
-    let mut bounds = Bounds {
-        seed: 1,
-        seconds: 45.0,
-        calls: usize::MAX,
-    };
+    let mut bounds = Bounds { seed: 1, seconds: 45.0, calls: usize::MAX };
     let mut given = std::env::args().skip(1);
     while let Some(option) = given.next() {
         let value = given.next().ok_or(USAGE)?;
@@ -42,27 +38,21 @@ fn asked() -> Result<(Bounds, Option<u64>), String> {
 }
 
 fn compare(bounds: &Bounds, disk: Option<u64>) -> Result<(), String> {
-    let library = linked()
-        .ok_or("built without libgenie.a: name its directory in GENIE_LIB_DIR and build again")?;
+    let library =
+        linked().ok_or("built without libgenie.a: name its directory in GENIE_LIB_DIR and build again")?;
     if let Some(seed) = disk {
         return disk_run(&*library, seed, &mut Seen::default());
     }
     println!("seed {}, at most {} seconds", bounds.seed, bounds.seconds);
 
     let mut seen = Seen::default();
-    let calls = Bounds {
-        seconds: bounds.seconds * (1.0 - INTERLEAVING_PART),
-        ..*bounds
-    };
+    let calls = Bounds { seconds: bounds.seconds * (1.0 - INTERLEAVING_PART), ..*bounds };
     let verdict = run(&*library, &calls, &mut seen);
     print!("{}", seen.table());
     verdict?;
 
-    let (started, mut tally, mut seeds) =
-        (Instant::now(), Tally::default(), Random::new(bounds.seed));
-    while tally.accepted < bounds.calls
-        && started.elapsed().as_secs_f64() < bounds.seconds * INTERLEAVING_PART
-    {
+    let (started, mut tally, mut seeds) = (Instant::now(), Tally::default(), Random::new(bounds.seed));
+    while tally.accepted < bounds.calls && started.elapsed().as_secs_f64() < bounds.seconds * INTERLEAVING_PART {
         demand_three(&*library, seeds.draw(), &mut tally)?;
     }
     println!("interleavings: {tally:?}");
@@ -71,10 +61,7 @@ fn compare(bounds: &Bounds, disk: Option<u64>) -> Result<(), String> {
     if missing.is_empty() {
         Ok(())
     } else {
-        Err(format!(
-            "the run was too short or the library answers too little:\n  {}",
-            missing.join("\n  ")
-        ))
+        Err(format!("the run was too short or the library answers too little:\n  {}", missing.join("\n  ")))
     }
 }
 
