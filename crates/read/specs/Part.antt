@@ -1,0 +1,32 @@
+-- Parts of a file and of an image.
+use mathlib.Core.Path.{_≡_}
+use mathlib.Core.Bool.{Bool, true}
+use mathlib.Core.List.{List}
+use Prim.Native.Nat.{ℕ, _+_, _-_, _*_, _%_, _<_, _≤_}
+use lib.ListN.{length, take, drop}
+use Rattle.meaning.specs.Chain.{owned}
+use Rattle.meaning.specs.declared.Geometry.{Geometry}
+use Rattle.meaning.specs.declared.Part.{Part}
+use Rattle.seek.specs.Seek.{Sound, Used}
+
+pub record File (g : Geometry) (d : List ℕ) (s : ℕ) : Type 0 where
+  pub sound : Sound g d
+  pub used : Used g d s
+
+-- bytes i to i + n are owned
+pub record Owned (g : Geometry) (d : List ℕ) (s i n : ℕ) : Type 0 where
+  pub some : 1 ≤ n
+  pub owned : i + n ≤ 1280 * length (owned g d s)
+  pub high : i + n ≤ 16777215
+
+pub record InSector (i n : ℕ) : Type 0 where
+  pub inside : i % 256 + n ≤ 256
+
+-- what a part of an image is: the number beside it, and its bytes
+unfoldable pub partOf : List ℕ → Part → ℕ × List ℕ
+partOf d p = (p .number, take (p .to - p .from) (drop (p .from) d))
+
+-- the part lies inside an image of that length
+pub record Lies (p : Part) (n : ℕ) : Type 0 where
+  pub forward : p .from ≤ p .to
+  pub inside : p .to ≤ n

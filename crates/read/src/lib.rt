@@ -1,0 +1,183 @@
+// Read record, and read sector.
+use meaning::Answer;
+use meaning::Geometry;
+use meaning::Handle;
+use meaning::Part;
+ghost use mathlib.Core.Path.{_≡_};
+ghost use mathlib.Core.List.{[], _∷_, _++_};
+ghost use Prim.Native.Nat.{_+_, _-_, _*_, _<_, _≤_};
+ghost use lib.ListN.{length, take, drop};
+ghost use lib.Seq.{sets};
+ghost use denote.Ref.{ptr};
+ghost use lib.Dec.{leb, ltb};
+ghost use Rattle.meaning.specs.Lists.{all};
+ghost use Rattle.meaning.specs.Layout.{sectorNumbers};
+ghost use Rattle.meaning.specs.Read.{fetch, readRefusals, readRecord, sectorRefusals, sectorBytes, readSector};
+ghost use Rattle.meaning.specs.Entries.{sectorCount};
+ghost use Rattle.layout.specs.Room.{Room, Slot};
+ghost use Rattle.meaning.specs.Refusals.{first, check, inRange};
+ghost use Rattle.read.specs.Part.{File, Owned, InSector, partOf, Lies};
+
+// n bytes of the file from byte i on, all in one sector, go to the buffer at `to`: one walk along the chain, one copy.
+pub fn read_part(
+    image: &[u8],
+    g: Geometry,
+    s: usize,
+    i: usize,
+    n: usize,
+    buffer: &mut [u8],
+    to: usize,
+)
+    requires { ⌜ File g (now image) s × Owned g (now image) s i n × InSector i n × (to + n ≤ length (now buffer)) ⌝ }
+    ensures { λ _. ⌜ now (buffer .exit) ≡ sets (now (buffer .entry)) to (fetch g (now (image .entry)) s i n) ⌝ }
+{
+    let p = seek::place(image, g, s, i);
+    copy::put_part(buffer, to, image, p, n);
+}
+
+// n bytes, at most 256, of the file from byte i on go to the buffer's start: sector by sector, so two at the most.
+pub fn read_bytes(image: &[u8], g: Geometry, s: usize, i: usize, n: usize, buffer: &mut [u8])
+    requires { ⌜ File g (now image) s × Owned g (now image) s i n × (n ≤ 256) × (n ≤ length (now buffer)) ⌝ }
+    ensures { λ _. ⌜ now (buffer .exit) ≡ fetch g (now (image .entry)) s i n ++ drop n (now (buffer .entry)) ⌝ }
+{
+    let first = 256 - i % 256;
+    if n <= first {
+        read_part(image, g, s, i, n, buffer, 0);
+        return;
+    }
+    read_part(image, g, s, i, first, buffer, 0);
+    read_part(image, g, s, i + first, n - first, buffer, first);
+}
+
+// Test 12 of a read: the handle's numbers are in range, and the record fits a buffer of length `room`.
+pub fn record_ranged(h: Handle, room: usize) -> bool
+    ensures { λ r. ⌜ r ≡ all (inRange h ∷ leb (h .len) room ∷ []) ⌝ }
+{
+    if !handle::in_range(h) {
+        return false;
+    }
+    h.len <= room
+}
+
+// The refusal number of a read, 0 where there is none.
+pub fn record_number(image: &[u8], g: Geometry, h: Handle, room: usize, checked: u8) -> u8
+    requires { ⌜ checked ≡ check g (now image) ⌝ }
+    ensures { λ r. ⌜ r ≡ first (readRefusals g (now (image .entry)) h room) ⌝ }
+{
+    let ranged = record_ranged(h, room);
+    let number = handle::reading_number(image, g, h, ranged, checked);
+    if number != 0 {
+        return number;
+    }
+    if layout::size_of(image, g, h.slot) < h.at + h.len {
+        return 10;
+    }
+    0
+}
+
+// Read record, of a disk whose check answered `checked`.
+pub fn record_checked(
+    image: &[u8],
+    g: Geometry,
+    h: Handle,
+    buffer: &mut [u8],
+    checked: u8,
+) -> Answer
+    requires { ⌜ checked ≡ check g (now image) ⌝ }
+    ensures { λ r. ⌜ (r, now (buffer .exit)) ≡ readRecord g (now (image .entry)) h (now (buffer .entry)) ⌝ }
+{
+    let number = record_number(image, g, h, buffer.len(), checked);
+    if number != 0 {
+        return Answer { number, handle: h };
+    }
+    read_bytes(image, g, h.slot, h.at, h.len, buffer);
+    let mut moved = h;
+    moved.at = h.at + h.len;
+    Answer {
+        number: 0,
+        handle: moved,
+    }
+}
+
+// Test 12 of a call that names a sector.
+pub fn sector_ranged(h: Handle, k: usize) -> bool
+    ensures { λ r. ⌜ r ≡ all (inRange h ∷ ltb k sectorNumbers ∷ []) ⌝ }
+{
+    if !handle::in_range(h) {
+        return false;
+    }
+    k < layout::SECTOR_NUMBERS
+}
+
+pub fn sector_number(image: &[u8], g: Geometry, h: Handle, k: usize, checked: u8) -> u8
+    requires { ⌜ checked ≡ check g (now image) ⌝ }
+    ensures { λ r. ⌜ r ≡ first (sectorRefusals g (now (image .entry)) h k) ⌝ }
+{
+    let ranged = sector_ranged(h, k);
+    let number = handle::reading_number(image, g, h, ranged, checked);
+    if number != 0 {
+        return number;
+    }
+    if layout::word(image, g, h.slot, 0x14) <= k {
+        return 10;
+    }
+    0
+}
+
+// How many bytes of sector k are the file's.
+pub fn sector_bytes(image: &[u8], g: Geometry, s: usize, k: usize) -> usize
+    requires { ⌜ Room g (now image) × Slot g (now image) s × (k < sectorCount g (now image) s) × (k < 65536) ⌝ }
+    ensures { λ r. ⌜ (r ≡ sectorBytes g (now (image .entry)) s k) × (r ≤ 256) ⌝ }
+{
+    if k + 1 != layout::word(image, g, s, 0x14) {
+        return 256;
+    }
+    let e = layout::field(image, g, s, 3);
+    if e == 0 {
+        return 256;
+    }
+    e
+}
+
+// Where the file's bytes in sector k lie, of a disk whose check answered `checked`.
+pub fn sector_checked(image: &[u8], g: Geometry, h: Handle, k: usize, checked: u8) -> Part
+    requires { ⌜ checked ≡ check g (now image) ⌝ }
+    ensures is { λ r. ⌜ r ≡ readSector g (now (image .entry)) h k ⌝ }
+    ensures lies { λ r. ⌜ Lies r (length (now (image .entry))) ⌝ }
+{
+    let number = sector_number(image, g, h, k, checked);
+    if number != 0 {
+        return Part {
+            number,
+            from: 0,
+            to: 0,
+        };
+    }
+    let from = seek::place(image, g, h.slot, 256 * k);
+    let n = sector_bytes(image, g, h.slot, k);
+    Part {
+        number: 0,
+        from,
+        to: from + n,
+    }
+}
+
+// Read sector: the file's bytes in sector k, handed back as a part of the lent image.
+pub fn part_checked<'a>(
+    image: &'a [u8],
+    g: Geometry,
+    h: Handle,
+    k: usize,
+    checked: u8,
+    number: &mut u8,
+) -> &'a [u8]
+    requires { ⌜ checked ≡ check g (now image) ⌝ }
+    ensures what { λ r. ⌜ (now (number .exit), now r) ≡ partOf (now (image .entry)) (readSector g (now (image .entry)) h k) ⌝ }
+    ensures place_at { λ r. ⌜ ptr r ≡ (ptr (image .entry) .0, ptr (image .entry) .1 + readSector g (now (image .entry)) h k .from) ⌝ }
+{
+    let p = sector_checked(image, g, h, k, checked);
+    *number = p.number;
+    let from = p.from;
+    let to = p.to;
+    &image[from..to]
+}
