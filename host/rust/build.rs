@@ -23,7 +23,7 @@ fn main() {
     match processor(&archive) {
         Some(processor) if processor != target => {
             println!("cargo::error={} is for {processor}, but this build is for {target}", library.display());
-            println!("cargo::error=the proved library links into x86_64 programs only");
+            println!("cargo::error=the proved library links into x86_64 programs only; host/rust/bridge/README.md says what to do");
         }
         _ => {
             println!("cargo::rustc-link-search=native={}", dir.display());

@@ -264,7 +264,7 @@ fn a_copy_that_cannot_be_written_whole() {
     let folder = sample("limit");
     let before = folder.everything();
     for words in ["rm d.img LEER", "new n.img --preset sample", "new d.img --force --preset sample"] {
-        let script = format!("trap '' XFSZ; ulimit -f 8; exec '{GDOS}' {words}");
+        let script = format!("trap '' XFSZ; ulimit -S -f 8; exec '{GDOS}' {words}");
         let output = Command::new("sh").args(["-c", &script]).current_dir(folder.root()).output().unwrap();
         let done = Done::from(output);
         assert_eq!(done.status, 2, "{words}: {}", done.err);

@@ -1,0 +1,28 @@
+/* What client and server share: a page of numbers, then the parts that a call lends. */
+#ifndef WIRE_H
+#define WIRE_H
+
+#include <stddef.h>
+#include <stdint.h>
+
+enum call {
+    CHECK, LOOK_UP, OPEN, CREATE, READ_RECORD, READ_SECTOR, WRITE_RECORD, ALLOT, TRIM, KILL, LIST, COUNT
+};
+
+/* The client keeps these to itself: of a longer part no call looks at more than its beginning and its length, and every image of
+ * IMAGE_MOST bytes is too long for any geometry. */
+enum { NAME_MOST = 4096, HANDLE_MOST = 4096, BUFFER_MOST = 65536, IMAGE_MOST = 4194304 };
+
+struct wire {
+    uint64_t call, answer;
+    uint64_t image_len, blocks, units, start, open_code;
+    uint64_t name_len, handle_len, buffer_len;
+    uint64_t in[7];  /* the call's own numbers, in the order of its arguments */
+    uint64_t out[3]; /* its outgoing numbers, likewise */
+    uint8_t name[NAME_MOST], handle[HANDLE_MOST], buffer[BUFFER_MOST], image[IMAGE_MOST];
+};
+
+/* The server's open files. */
+enum { SHARED_FD = 3, SOCKET_FD = 4, PROGRAM_FD = 5 };
+
+#endif
