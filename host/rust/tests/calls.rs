@@ -361,3 +361,48 @@ fn blank_disks() {
     assert_eq!(blank(Geometry { blocks: 0, ..small }, 10, &[]), Refusal::Geometry);
     assert_eq!(blank(Geometry { units: 9, ..small }, 10, &[]), Refusal::Geometry);
 }
+
+#[test]
+fn damaged_disks_are_refused_or_agree() {
+    // Bytes of the directory are changed at random. Where the disk is still consistent, what this crate reads by itself
+    // is what the library lists.
+    let mut disk = blank();
+    for typed in ["A/X", "B", "C/DAT"] {
+        disk.create(&name(typed), &plain()).unwrap();
+    }
+    for granule in 0..9 {
+        for typed in ["A/X", "B", "C/DAT"] {
+            let handle = disk.open(&name(typed), 256, Password::Unchecked).unwrap();
+            disk.allot(&handle, 5 * granule).unwrap();
+        }
+    }
+    let directory = GEOMETRY.start * 256..(GEOMETRY.start + 15) * 256;
+    let mut state = 1u64;
+    let mut random = |below: usize| {
+        state = state.wrapping_mul(6364136223846793005).wrapping_add(1442695040888963407);
+        (state >> 33) as usize % below
+    };
+    let (mut consistent, mut refused) = (0, 0);
+    for _ in 0..5000 {
+        let mut image = disk.image().to_vec();
+        for _ in 0..=random(2) {
+            image[directory.start + random(directory.len())] = random(256) as u8;
+        }
+        let damaged = Disk::new(image, GEOMETRY);
+        match damaged.files() {
+            Ok(listed) => {
+                consistent += 1;
+                let entries = damaged.entries().unwrap();
+                let ours = entries.iter().filter(|entry| !entry.is_system());
+                let ours: Vec<_> = ours.map(|entry| (entry.name(), entry.size(), entry.granules())).collect();
+                let theirs: Vec<_> = listed.iter().map(|file| (file.name, file.size, file.granules)).collect();
+                assert_eq!(ours, theirs);
+            }
+            Err(refusal) => {
+                refused += 1;
+                assert_eq!((refusal, damaged.entries().unwrap_err()), (Refusal::Inconsistent, Refusal::Inconsistent));
+            }
+        }
+    }
+    assert!(consistent > 100 && refused > 100, "{consistent} consistent, {refused} refused");
+}
