@@ -1,10 +1,9 @@
 -- Small whole disks, written out byte by byte, on which the table and the facts compute.
-use Prim.Native.Nat.{ℕ, _+_, _-_, _*_}
-use mathlib.Core.List.{List, [], _∷_, _++_, map}
-use mathlib.Core.Bool.{Bool, true, cond}
-use lib.Dec.{ltb}
+use Prim.Native.Nat.{ℕ, _+_, _-_}
+use mathlib.Core.List.{List, [], _∷_, _++_}
+use mathlib.Core.Bool.{Bool, true}
 use lib.ListN.{length, replicate, set}
-use Rattle.meaning.specs.Lists.{count, each, all, any, firstOr, lastOr}
+use Rattle.meaning.specs.Lists.{all, any, firstOr, lastOr}
 use Rattle.meaning.specs.Bits.{digit, putDigit}
 use Rattle.meaning.specs.Layout.{granules, fitsGeometry, taken, takeGranule, freeGranule, hit, directorySectors, isSlot, slots, field, setField}
 use Rattle.meaning.specs.Names.{wellFormed, hash}
@@ -49,17 +48,9 @@ written d at (b ∷ bs) = written (set d at b) (at + 1) bs
 abbrev pub puls : List ℕ
 puls = 0x50 ∷ 0x55 ∷ 0x4c ∷ 0x53 ∷ 0x30 ∷ 0x31 ∷ 0x20 ∷ 0x20 ∷ 0x44 ∷ 0x41 ∷ 0x54 ∷ []
 
--- PULS13/DAT: another name with that hash
-abbrev pub puls13 : List ℕ
-puls13 = 0x50 ∷ 0x55 ∷ 0x4c ∷ 0x53 ∷ 0x31 ∷ 0x33 ∷ 0x20 ∷ 0x20 ∷ 0x44 ∷ 0x41 ∷ 0x54 ∷ []
-
 -- LEER: its hash is 70H
 abbrev pub leer : List ℕ
 leer = 0x4c ∷ 0x45 ∷ 0x45 ∷ 0x52 ∷ 0x20 ∷ 0x20 ∷ 0x20 ∷ 0x20 ∷ 0x20 ∷ 0x20 ∷ 0x20 ∷ []
-
--- NEU: its hash is 32H
-abbrev pub neu : List ℕ
-neu = 0x4e ∷ 0x45 ∷ 0x55 ∷ 0x20 ∷ 0x20 ∷ 0x20 ∷ 0x20 ∷ 0x20 ∷ 0x20 ∷ 0x20 ∷ 0x20 ∷ []
 
 -- A disk of two files ---------------------------------------------------------------------------------------------------------
 
@@ -154,33 +145,6 @@ filled =
     ∷ (e81, 0x90 ∷ 0x80 ∷ [])
     ∷ (e81 + 0x16, 0x03 ∷ 0x20 ∷ replicate 8 0xff)
     ∷ []) 15360
-
--- A crowded disk --------------------------------------------------------------------------------------------------------------
-
--- a name of one letter, another one for each number below 32
-abbrev letterOf : ℕ → ℕ
-letterOf i = cond (ltb i 10) (0x30 + i) (0x37 + i)
-
-abbrev nameAt : ℕ → List ℕ
-nameAt i = letterOf i ∷ replicate 10 0x20
-
--- an entry of that name, with these last ten bytes
-abbrev entryOf : ℕ → List ℕ → List ℕ
-entryOf i end = 0x10 ∷ 0x00 ∷ 0x00 ∷ 0x00 ∷ 0x00 ∷ (nameAt i ++ (replicate 6 0 ++ end))
-
--- a file in every permitted slot, number 8 × (row − 4) + s; the one in slot 80H owns granules 2, 4, 6 and 8, the others nothing;
--- granule 10 is free
-abbrev pub crowded : List ℕ
-crowded =
-    laid 0 (
-    (0, 0x07 ∷ 0x07 ∷ 0x07 ∷ 0x05 ∷ [])
-    ∷ (hits + 0x80, map (λ s. hash (nameAt s)) (count 0 8))
-    ∷ (hits + 0xa0, map (λ s. hash (nameAt (8 + s))) (count 0 8))
-    ∷ (hits + 0xc0, map (λ s. hash (nameAt (16 + s))) (count 0 8))
-    ∷ (hits + 0xe0, map (λ s. hash (nameAt (24 + s))) (count 0 8))
-    ∷ (e80, entryOf 0 (0x00 ∷ 0x40 ∷ 0x01 ∷ 0x20 ∷ 0x02 ∷ 0x00 ∷ 0x02 ∷ 0x40 ∷ 0xff ∷ 0xff ∷ []))
-    ∷ (e80 + 0x20, each (λ r. entryOf (8 * r) (replicate 10 0xff)) (count 1 3))
-    ∷ map (λ s. (512 + 256 * s + 128, each (λ r. entryOf (8 * r + s) (replicate 10 0xff)) (count 0 4))) (count 1 7)) 15360
 
 -- A disk of one pair ----------------------------------------------------------------------------------------------------------
 

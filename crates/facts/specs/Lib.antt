@@ -1,0 +1,8 @@
+pub mod Disks
+pub mod Faults
+pub mod Checks
+pub mod Finding
+pub mod Reading
+pub mod Writing
+pub mod Granules
+pub mod Told
