@@ -1,0 +1,425 @@
+-- What the library promises of a disk (demand 2), each promise as a type with a name. Nothing is proved here: `Kept` has a theorem for
+-- each of them. They speak of the definitions of `meaning` alone; a function is proved to answer what those say.
+--
+-- `EveryCall` is the whole of it for one call: what an accepted call answers and does, what a refused one leaves, which number is given
+-- exactly when, and what no call changes. `EveryState` says it of each state that a list of calls reaches.
+use Prim.Native.Nat.{ℕ, _+_, _-_, _*_, _/_, _%_, _≤_, _<_}
+use mathlib.Core.Path.{_≡_}
+use mathlib.Core.Logic.{_≢_, _↔_, _⊎_}
+use mathlib.Core.Bool.{Bool, true, false, not, cond, _&&_}
+use mathlib.Core.List.{List, [], _∷_, _++_}
+use lib.Dec.{T, leb, eqb}
+use lib.ListN.{length, getD, take, drop}
+use lib.Seq.{slice}
+use Rattle.meaning.specs.Lists.{keep, each, has}
+use Rattle.meaning.specs.Bits.{bit}
+use Rattle.meaning.specs.Layout.{fitsGeometry, granules, granuleBytes, granuleSectors, sectors, highest, sectorNumbers, mostBlocks, mostUnits, slots, isSlot, hit, byte, granulesFor, directoryGranules}
+use Rattle.meaning.specs.Names.{hash, wellFormed}
+use Rattle.meaning.specs.Entries.{inUse, extension, nameOf, sectorCount}
+use Rattle.meaning.specs.Chain.{owned, files}
+use Rattle.meaning.specs.Consistent.{consistent}
+use Rattle.meaning.specs.Free.{freeGranules, freeSlots}
+use Rattle.meaning.specs.Growth.{Grown, noSlot, grow}
+use Rattle.meaning.specs.Refusals.{check, movedTo, noHandle}
+use Rattle.meaning.specs.LookUp.{lookUp, named}
+use Rattle.meaning.specs.Open.{open′}
+use Rattle.meaning.specs.Create.{create}
+use Rattle.meaning.specs.Read.{readRecord, readSector}
+use Rattle.meaning.specs.Write.{writeRecord, sizeAfter}
+use Rattle.meaning.specs.Allot.{allot, granulesTo}
+use Rattle.meaning.specs.Trim.{trim}
+use Rattle.meaning.specs.Kill.{kill}
+use Rattle.meaning.specs.Listing
+use Rattle.meaning.specs.Listing.{listed, noFile}
+use Rattle.meaning.specs.Plain.{File, Found, found, nothing, fileAt, plain, with′, hush, bornAs, writtenTo, allottedTo, trimmed, AreBytes, reserved}
+use Rattle.meaning.specs.declared.Geometry.{Geometry}
+use Rattle.meaning.specs.declared.Handle.{Handle}
+use Rattle.meaning.specs.declared.NewFile.{NewFile}
+use Rattle.meaning.specs.declared.Mode.{Mode}
+use Rattle.laws.specs.Others.{beyond}
+
+-- Calls -----------------------------------------------------------------------------------------------------------------------------
+
+-- a call with all that the caller brings: any handle, any buffer, any numbers
+pub data Call : Type 0 where
+  checks : Call
+  looksUp : (name : List ℕ) → Call
+  opens : (name : List ℕ) (len : ℕ) (checking : Bool) (code : ℕ) → Call
+  creates : (name : List ℕ) (f : NewFile) (checking : Bool) → Call
+  reads : (h : Handle) (buffer : List ℕ) → Call
+  readsSector : (h : Handle) (k : ℕ) → Call
+  writes : (m : Mode) (h : Handle) (buffer : List ℕ) → Call
+  allots : (h : Handle) (k : ℕ) → Call
+  trims : (h : Handle) → Call
+  kills : (h : Handle) → Call
+  lists : (i : ℕ) → Call
+  counts : Call
+
+-- the number that it answers, 0 where it is accepted
+unfoldable pub number : Geometry → List ℕ → Call → ℕ
+number g d checks = check g d
+number g d (looksUp n) = lookUp g d n .number
+number g d (opens n len checking code) = open′ g d n len checking code .number
+number g d (creates n f checking) = create g d n f checking .0 .number
+number g d (reads h b) = readRecord g d h b .0 .number
+number g d (readsSector h k) = readSector g d h k .number
+number g d (writes m h b) = writeRecord g d m h b .0 .number
+number g d (allots h k) = allot g d h k .0 .number
+number g d (trims h) = trim g d h .0 .number
+number g d (kills h) = kill g d h .0 .number
+number g d (lists i) = Listing.list g d i .number
+number g d counts = Listing.counts g d .number
+
+-- the image that it leaves
+unfoldable pub leaves : Geometry → List ℕ → Call → List ℕ
+leaves g d checks = d
+leaves g d (looksUp n) = d
+leaves g d (opens n len checking code) = d
+leaves g d (creates n f checking) = create g d n f checking .1
+leaves g d (reads h b) = d
+leaves g d (readsSector h k) = d
+leaves g d (writes m h b) = writeRecord g d m h b .1
+leaves g d (allots h k) = allot g d h k .1
+leaves g d (trims h) = trim g d h .1
+leaves g d (kills h) = kill g d h .1
+leaves g d (lists i) = d
+leaves g d counts = d
+
+-- what a caller's types see to: a record to be written is of bytes, the codes of a new file have 16 bits
+abbrev pub Brings : Call → Type 0
+Brings checks = Unit {0}
+Brings (looksUp n) = Unit {0}
+Brings (opens n len checking code) = Unit {0}
+Brings (creates n f checking) = (f .main < 65536) × (f .worker < 65536)
+Brings (reads h b) = Unit {0}
+Brings (readsSector h k) = Unit {0}
+Brings (writes m h b) = AreBytes b
+Brings (allots h k) = Unit {0}
+Brings (trims h) = Unit {0}
+Brings (kills h) = Unit {0}
+Brings (lists i) = Unit {0}
+Brings counts = Unit {0}
+
+-- 1. What no call changes -------------------------------------------------------------------------------------------------------------
+
+-- a disk that calls are served on: neither 1 nor 2 applies, and its members are bytes
+pub record Good (g : Geometry) (d : List ℕ) : Type 0 where
+  pub fits : fitsGeometry g d ≡ true
+  pub sound : consistent g d ≡ true
+  pub bytes : AreBytes d
+
+-- Accepted or refused, a call leaves a good disk of the same length. No call changes which granules are reserved. Every granule is free,
+-- reserved or owned.
+pub record Stays (g : Geometry) (d d′ : List ℕ) : Type 0 where
+  pub long : length d′ ≡ length d
+  pub good : Good g d′
+  pub reserved′ : reserved g d′ ≡ reserved g d
+  pub tally : length (freeGranules g d′) + length (reserved g d′) + length (each (owned g d′) (files g d′)) ≡ granules g
+
+-- 2. What an accepted call does to the plain list of named files ------------------------------------------------------------------------
+
+abbrev pub granulesIn : Found → ℕ
+granulesIn nothing = 0
+granulesIn (found f) = f .granules
+
+-- the granules of the file called n
+abbrev pub ownGranules : Geometry → List ℕ → List ℕ → List ℕ
+ownGranules g d n = each (owned g d) (named g d n)
+
+-- place i of the image lies in one of these granules
+abbrev pub within : List ℕ → ℕ → Bool
+within ns i = has ns (i / granuleBytes)
+
+-- The file called n was `was` and is `is`. Every other file is as it was: attributes, size, granule count and, system files apart, bytes
+-- (`list`); and of a system file too, every byte that lies in no granule of the directory (`others`). Outside the directory and the
+-- file's own granules no byte of the image changes, be it free or reserved (`untouched`). FREE falls by what was taken.
+pub record Becomes (g : Geometry) (d d′ n : List ℕ) (was is : Found) : Type 0 where
+  pub before : plain g d n ≡ was
+  pub after : plain g d′ n ≡ is
+  pub list : (m : List ℕ) → hush (plain g d′ m) ≡ hush (with′ (plain g d) n is m)
+  pub others : (m : List ℕ) → m ≢ n → beyond g d′ m ≡ beyond g d m
+  pub untouched : (i : ℕ) → (T (within (directoryGranules g d) i) → ⊥) → (T (within (ownGranules g d′ n) i) → ⊥) → byte d′ i ≡ byte d i
+  pub free : length (freeGranules g d) + granulesIn was ≡ length (freeGranules g d′) + granulesIn is
+
+-- a handle that is not stale: its slot is one the directory has, in use, primary, and carries its name
+pub record Live (g : Geometry) (d : List ℕ) (h : Handle) : Type 0 where
+  pub slot : T (isSlot g d (h .slot))
+  pub used : T (inUse g d (h .slot))
+  pub first : T (not (extension g d (h .slot)))
+  pub name′ : nameOf g d (h .slot) ≡ h .name
+
+-- An accepted call by a handle has a file of the handle's name, the one at its slot; `u` is what the call makes of it.
+pub record Changes (g : Geometry) (d d′ : List ℕ) (h h′ : Handle) (u : File → Found) (moved : Handle) : Type 0 where
+  pub file : File
+  pub mine : fileAt g d (h .slot) ≡ file
+  pub becomes : Becomes g d d′ (h .name) (found file) (u file)
+  pub handle′ : h′ ≡ moved
+
+-- 3. What an accepted call answers ------------------------------------------------------------------------------------------------------
+
+-- what the attributes of a plain file say (bytes 00, 01, 02, 04 and 10 to 13 of its entry)
+abbrev pub isSystem : File → Bool
+isSystem f = bit 6 (getD (f .attributes) 0 0)
+
+abbrev pub storedLevel : File → ℕ
+storedLevel f = getD (f .attributes) 0 0 % 8
+
+abbrev pub mayNotGrow : File → Bool
+mayNotGrow f = bit 6 (getD (f .attributes) 1 0)
+
+abbrev pub mainCode : File → ℕ
+mainCode f = getD (f .attributes) 4 0 + 256 * getD (f .attributes) 5 0
+
+abbrev pub workerCode : File → ℕ
+workerCode f = getD (f .attributes) 6 0 + 256 * getD (f .attributes) 7 0
+
+-- the slots up to s whose HIT byte is the name's hash
+abbrev pub matching : Geometry → List ℕ → List ℕ → ℕ → ℕ
+matching g d n s = length (keep (λ x. eqb (hit g d x) (hash n) && leb x s) (slots g d))
+
+-- Look up: the slot of the file of that name, and how many HIT bytes up to it are the hash
+pub record LooksUp (g : Geometry) (d n : List ℕ) : Type 0 where
+  pub file : plain g d n ≡ found (fileAt g d (lookUp g d n .slot))
+  pub name′ : nameOf g d (lookUp g d n .slot) ≡ n
+  pub compared : lookUp g d n .compared ≡ matching g d n (lookUp g d n .slot)
+
+-- level 0 if checking is off, the main code is the "no password" code, or the given code equals the main code
+abbrev pub Full : Geometry → File → Bool → ℕ → Type 0
+Full g f checking code = (checking ≡ false) ⊎ ((mainCode f ≡ g .anyone) ⊎ (code ≡ mainCode f))
+
+-- Open: a live handle at position 0, the record length as given; the level as the plain file's codes say
+pub record Opened (g : Geometry) (d n : List ℕ) (len : ℕ) (checking : Bool) (code : ℕ) (h : Handle) : Type 0 where
+  pub file : File
+  pub called : plain g d n ≡ found file
+  pub live : Live g d h
+  pub name″ : h .name ≡ n
+  pub start : h .at ≡ 0
+  pub length′ : h .len ≡ len
+  pub full : Full g file checking code → h .level ≡ 0
+  pub worker : (Full g file checking code → ⊥) → (code ≡ workerCode file) × (h .level ≡ storedLevel file)
+
+-- Create: an existing file is opened and reported as old; otherwise the file is born, and its handle has level 0
+pub record Creates (g : Geometry) (d n : List ℕ) (f : NewFile) (checking : Bool) : Type 0 where
+  pub old : create g d n f checking .0 .old ≡ true
+      → Opened g d n (f .len) checking (f .main) (create g d n f checking .0 .handle) × (create g d n f checking .1 ≡ d)
+  pub new : create g d n f checking .0 .old ≡ false
+      → Becomes g d (create g d n f checking .1) n nothing (found (bornAs f)) × Live g (create g d n f checking .1) (create g d n f checking .0 .handle)
+  pub handle′ : create g d n f checking .0 .old ≡ false
+      → create g d n f checking .0 .handle ≡ record { slot = create g d n f checking .0 .handle .slot; name = n; at = 0; len = f .len; level = 0 }
+
+-- Read record: the plain file's bytes at the position, to the start of the buffer; the rest of it is untouched, the position advances
+pub record Reads (g : Geometry) (d : List ℕ) (h : Handle) (b : List ℕ) : Type 0 where
+  pub file : File
+  pub called : plain g d (h .name) ≡ found file
+  pub inside : h .at + h .len ≤ length (file .bytes)
+  pub buffer : readRecord g d h b .1 ≡ take (h .len) (drop (h .at) (file .bytes)) ++ drop (h .len) b
+  pub handle′ : readRecord g d h b .0 .handle ≡ movedTo h (h .at + h .len)
+
+-- Read sector k: the image's bytes from one place up to another, 1 to 256 of them, are the plain file's bytes 256k and on
+pub record ReadsSector (g : Geometry) (d : List ℕ) (h : Handle) (k : ℕ) : Type 0 where
+  pub file : File
+  pub called : plain g d (h .name) ≡ found file
+  pub some : readSector g d h k .from < readSector g d h k .to
+  pub most : readSector g d h k .to ≤ readSector g d h k .from + 256
+  pub inside : readSector g d h k .to ≤ length d
+  pub part : slice (readSector g d h k .from) (readSector g d h k .to) d ≡ take 256 (drop (256 * k) (file .bytes))
+
+-- the i-th of the files that are listed, by rising slot
+abbrev pub ith : Geometry → List ℕ → ℕ → ℕ
+ith g d i = getD (listed g d) i 0
+
+-- Listing: number i tells the i-th file by rising slot, name, size and granules owned, and "no more" from FILES on
+pub record Lists (g : Geometry) (d : List ℕ) (i : ℕ) : Type 0 where
+  pub tells : i < length (listed g d) → Listing.list g d i
+      ≡ record { number = 0; more = true; name = nameOf g d (ith g d i); size = length (fileAt g d (ith g d i) .bytes); granules = fileAt g d (ith g d i) .granules }
+  pub file : i < length (listed g d) → plain g d (nameOf g d (ith g d i)) ≡ found (fileAt g d (ith g d i))
+  pub shown : i < length (listed g d) → T (not (isSystem (fileAt g d (ith g d i))))
+  pub rising : (j : ℕ) → j < i → i < length (listed g d) → ith g d j < ith g d i
+  pub ends : length (listed g d) ≤ i → Listing.list g d i ≡ noFile 0
+
+-- Counts: FILES is how many numbers the listing tells, FREE the number of clear GAT bits in range. Each file that is no system file is
+-- told, under one number only.
+pub record Counted (g : Geometry) (d : List ℕ) : Type 0 where
+  pub files′ : Listing.counts g d .files ≡ length (listed g d)
+  pub free : Listing.counts g d .free ≡ length (freeGranules g d)
+  pub told : (n : List ℕ) (f : File) → plain g d n ≡ found f → T (not (isSystem f))
+      → (i : ℕ) × (i < length (listed g d)) × (nameOf g d (ith g d i) ≡ n) × ((j : ℕ) → j < length (listed g d) → nameOf g d (ith g d j) ≡ n → j ≡ i)
+
+-- What each accepted call answers and does
+abbrev pub Serves : Geometry → List ℕ → Call → Type 0
+Serves g d checks = (fitsGeometry g d ≡ true) × (consistent g d ≡ true)
+Serves g d (looksUp n) = LooksUp g d n
+Serves g d (opens n len checking code) = Opened g d n len checking code (open′ g d n len checking code .handle)
+Serves g d (creates n f checking) = Creates g d n f checking
+Serves g d (reads h b) = Reads g d h b
+Serves g d (readsSector h k) = ReadsSector g d h k
+Serves g d (writes m h b) =
+    Changes g d (writeRecord g d m h b .1) h (writeRecord g d m h b .0 .handle) (λ f. found (writtenTo m (h .at) (take (h .len) b) f)) (movedTo h (h .at + h .len))
+Serves g d (allots h k) = Changes g d (allot g d h k .1) h (allot g d h k .0 .handle) (λ f. found (allottedTo k f)) h
+Serves g d (trims h) = Changes g d (trim g d h .1) h (trim g d h .0 .handle) (λ f. found (trimmed f)) h
+Serves g d (kills h) = Changes g d (kill g d h .1) h (kill g d h .0 .handle) (λ f. nothing) h
+Serves g d (lists i) = Lists g d i
+Serves g d counts = Counted g d
+
+-- 4. What a refused call leaves: nothing is written ---------------------------------------------------------------------------------------
+
+-- look up returns its count as well under 4, and 0 under 1, 2 and 3
+pub record NotFound (g : Geometry) (d n : List ℕ) : Type 0 where
+  pub slot : lookUp g d n .slot ≡ 0
+  pub all′ : lookUp g d n .number ≡ 4 → lookUp g d n .compared ≡ length (keep (λ x. eqb (hit g d x) (hash n)) (slots g d))
+  pub none : lookUp g d n .number ≢ 4 → lookUp g d n .compared ≡ 0
+
+-- beside the image, which is as it stood: handle and buffer as they stood, a refused open or create a handle of zeros, a refused sector
+-- read an empty part
+abbrev pub Refuses : Geometry → List ℕ → Call → Type 0
+Refuses g d checks = Unit {0}
+Refuses g d (looksUp n) = NotFound g d n
+Refuses g d (opens n len checking code) = open′ g d n len checking code .handle ≡ noHandle
+Refuses g d (creates n f checking) = (create g d n f checking .0 .handle ≡ noHandle) × (create g d n f checking .0 .old ≡ false)
+Refuses g d (reads h b) = (readRecord g d h b .0 .handle ≡ h) × (readRecord g d h b .1 ≡ b)
+Refuses g d (readsSector h k) = (readSector g d h k .from ≡ 0) × (readSector g d h k .to ≡ 0)
+Refuses g d (writes m h b) = writeRecord g d m h b .0 .handle ≡ h
+Refuses g d (allots h k) = allot g d h k .0 .handle ≡ h
+Refuses g d (trims h) = trim g d h .0 .handle ≡ h
+Refuses g d (kills h) = kill g d h .0 .handle ≡ h
+Refuses g d (lists i) = Listing.list g d i ≡ noFile (Listing.list g d i .number)
+Refuses g d counts = (Listing.counts g d .files ≡ 0) × (Listing.counts g d .free ≡ 0)
+
+-- 5. Refusal numbers, in order of test ------------------------------------------------------------------------------------------------------
+
+-- a number of the table, and the case in which it is given
+abbrev pub Table : Type 1
+Table = List (ℕ × Type 0)
+
+-- row by row: the answer is the row's number exactly if its case holds and no earlier one does; it is 0 exactly if no case holds
+abbrev pub Rows : ℕ → Type 0 → Table → Type 0
+Rows answer earlier [] = (answer ≡ 0) ↔ earlier
+Rows answer earlier (r ∷ rs) = ((answer ≡ r .0) ↔ (earlier × r .1)) × Rows answer (earlier × (r .1 → ⊥)) rs
+
+abbrev pub Exactly : ℕ → Table → Type 0
+Exactly answer rs = Rows answer (Unit {0}) rs
+
+-- blocks 1 to 192, units per block 1 to 8, directory start a multiple of 5; the image length is blocks × units × 1,280 bytes exactly, and
+-- at least 10 sectors lie from the directory start to the end
+pub record Fits (g : Geometry) (d : List ℕ) : Type 0 where
+  pub blocks-lo : 1 ≤ g .blocks
+  pub blocks-hi : g .blocks ≤ mostBlocks
+  pub units-lo : 1 ≤ g .units
+  pub units-hi : g .units ≤ mostUnits
+  pub start-at : g .start % granuleSectors ≡ 0
+  pub long : length d ≡ granules g * granuleBytes
+  pub ten : g .start + 10 ≤ sectors g
+
+-- position 0 to 1,966,080, record length 1 to 256, level 0 to 7
+pub record InRange (h : Handle) : Type 0 where
+  pub at : h .at ≤ highest
+  pub some : 1 ≤ h .len
+  pub most : h .len ≤ 256
+  pub level : h .level ≤ 7
+
+-- day 0 to 31, month and year offset 0 to 15, record length 1 to 256
+pub record NewInRange (f : NewFile) : Type 0 where
+  pub day : f .day ≤ 31
+  pub month : f .month ≤ 15
+  pub year : f .year ≤ 15
+  pub some : 1 ≤ f .len
+  pub most : f .len ≤ 256
+
+module _ (g : Geometry) (d : List ℕ) where
+  -- 1 geometry or image length not as above, 2 disk not consistent: every call
+  abbrev pub diskCases : Table → Table
+  diskCases rest = (1, (Fits g d → ⊥)) ∷ (2, consistent g d ≡ false) ∷ rest
+
+  -- 12 out of range, 7 handle stale: every call with a handle; `ranged` is what it tests of range
+  abbrev pub handleCases : Handle → Type 0 → Table → Table
+  handleCases h ranged rest = diskCases ((12, (ranged → ⊥)) ∷ (7, (Live g d h → ⊥)) ∷ rest)
+
+  -- the file that the handle means
+  abbrev pub fileOf : Handle → File
+  fileOf h = fileAt g d (h .slot)
+
+  -- how many granules it lacks of those wanted
+  abbrev pub lacks : Handle → ℕ → ℕ
+  lacks h wanted = wanted - fileOf h .granules
+
+  -- 6 level over the most allowed, or a system file: write, allot, trim, kill
+  abbrev pub barred : ℕ → Handle → ℕ × Type 0
+  barred most h = (6, (most < h .level) ⊎ T (isSystem (fileOf h)))
+
+  -- 11 E set and more granules needed than owned; 9 more further granules needed than are free; 8 a run beyond the fourth finds no
+  -- permitted slot for its extension
+  abbrev pub growthCases : Handle → ℕ → Table
+  growthCases h more =
+      (11, T (mayNotGrow (fileOf h)) × (0 < more)) ∷ (9, length (freeGranules g d) < more) ∷ (8, grow g (h .slot) more d ≡ noSlot) ∷ []
+
+  -- 4 name not found
+  abbrev pub NoFile : List ℕ → Type 0
+  NoFile n = plain g d n ≡ nothing
+
+  -- 5 wrong password code: a file of that name, and the code gives neither the full level nor the stored one
+  abbrev pub WrongCode : List ℕ → Bool → ℕ → Type 0
+  WrongCode n checking code = (f : File) × (plain g d n ≡ found f) × (Full g f checking code → ⊥) × (code ≢ workerCode f)
+
+  abbrev pub table : Call → Table
+  table checks = diskCases []
+  table (looksUp n) = diskCases ((3, wellFormed n ≡ false) ∷ (4, NoFile n) ∷ [])
+  table (opens n len checking code) =
+      diskCases ((12, ((1 ≤ len) × (len ≤ 256) → ⊥)) ∷ (3, wellFormed n ≡ false) ∷ (4, NoFile n) ∷ (5, WrongCode n checking code) ∷ [])
+  table (creates n f checking) =
+      diskCases ((12, (NewInRange f → ⊥)) ∷ (3, wellFormed n ≡ false) ∷ (5, WrongCode n checking (f .main)) ∷ (8, NoFile n × (freeSlots g d ≡ [])) ∷ [])
+  table (reads h b) =
+      handleCases h (InRange h × (h .len ≤ length b)) ((6, 5 < h .level) ∷ (10, length (fileOf h .bytes) < h .at + h .len) ∷ [])
+  table (readsSector h k) =
+      handleCases h (InRange h × (k < sectorNumbers)) ((6, 5 < h .level) ∷ (10, sectorCount g d (h .slot) ≤ k) ∷ [])
+  table (writes m h b) =
+      handleCases h (InRange h × (h .at + h .len ≤ highest) × (h .len ≤ length b))
+      (barred 4 h ∷ growthCases h (lacks h (granulesFor (sizeAfter m (length (fileOf h .bytes)) (h .at + h .len)))))
+  table (allots h k) = handleCases h (InRange h × (k < sectorNumbers)) (barred 4 h ∷ growthCases h (lacks h (granulesTo k)))
+  table (trims h) = handleCases h (InRange h) (barred 4 h ∷ [])
+  table (kills h) = handleCases h (InRange h) (barred 1 h ∷ [])
+  table (lists i) = diskCases []
+  table counts = diskCases []
+
+-- 6. One call, and every state reached ----------------------------------------------------------------------------------------------------
+
+pub record Promise (g : Geometry) (d : List ℕ) (c : Call) : Type 0 where
+  pub stays : Good g d → Brings c → Stays g d (leaves g d c)
+  pub serves : number g d c ≡ 0 → Serves g d c
+  pub refuses : number g d c ≢ 0 → (leaves g d c ≡ d) × Refuses g d c
+  pub numbers : Exactly (number g d c) (table g d c)
+
+-- whatever the disk, whatever the call
+abbrev pub EveryCall : Type 0
+EveryCall = (g : Geometry) (d : List ℕ) (c : Call) → Promise g d c
+
+-- the disk after a list of calls
+unfoldable pub after′ : Geometry → List ℕ → List Call → List ℕ
+after′ g d [] = d
+after′ g d (c ∷ cs) = after′ g (leaves g d c) cs
+
+abbrev pub AllBring : List Call → Type 0
+AllBring [] = Unit {0}
+AllBring (c ∷ cs) = Brings c × AllBring cs
+
+-- each call of a list is promised on the disk that the calls before it left, and leaves what is promised of the first disk
+abbrev pub Along : Geometry → List ℕ → List ℕ → List Call → Type 0
+Along g d₀ d [] = Stays g d₀ d
+Along g d₀ d (c ∷ cs) = Stays g d₀ d × Promise g d c × Along g d₀ (leaves g d c) cs
+
+abbrev pub EveryState : Type 0
+EveryState = (g : Geometry) (d : List ℕ) → Good g d → (cs : List Call) → AllBring cs → Along g d d cs
+
+-- 7. Read back ------------------------------------------------------------------------------------------------------------------------------
+
+-- After an accepted write a read of that length at that position, by the same handle, is accepted and answers the record, whatever the
+-- buffer; and every byte of the file outside the record and the gap is as it was, the gap zero.
+pub record ReadsBack (g : Geometry) (d : List ℕ) (m : Mode) (h : Handle) (b : List ℕ) : Type 0 where
+  pub accepted′ : (b′ : List ℕ) → h .len ≤ length b′ → readRecord g (writeRecord g d m h b .1) h b′ .0 .number ≡ 0
+  pub record′ : (b′ : List ℕ) → h .len ≤ length b′ → readRecord g (writeRecord g d m h b .1) h b′ .1 ≡ take (h .len) b ++ drop (h .len) b′
+  pub kept : (j : ℕ) → j < length (fileAt g d (h .slot) .bytes) → j < length (fileAt g (writeRecord g d m h b .1) (h .slot) .bytes) → (j < h .at) ⊎ (h .at + h .len ≤ j)
+      → getD (fileAt g (writeRecord g d m h b .1) (h .slot) .bytes) j 0 ≡ getD (fileAt g d (h .slot) .bytes) j 0
+  pub gap : (j : ℕ) → length (fileAt g d (h .slot) .bytes) ≤ j → j < h .at → getD (fileAt g (writeRecord g d m h b .1) (h .slot) .bytes) j 0 ≡ 0
+  pub size : length (fileAt g (writeRecord g d m h b .1) (h .slot) .bytes) ≡ sizeAfter m (length (fileAt g d (h .slot) .bytes)) (h .at + h .len)
+
+abbrev pub EveryWrite : Type 0
+EveryWrite = (g : Geometry) (d : List ℕ) (m : Mode) (h : Handle) (b : List ℕ) → writeRecord g d m h b .0 .number ≡ 0 → ReadsBack g d m h b
