@@ -20,7 +20,7 @@ use Rattle.meaning.specs.Consistent.{consistent}
 use Rattle.meaning.specs.Free.{freeSlots, freeGranules, permitted, freeSlot}
 use Rattle.meaning.specs.Lists.{firstOr}
 use Rattle.meaning.specs.Read
-use Rattle.meaning.specs.Create.{create, newEntry}
+use Rattle.meaning.specs.Create.{create, newEntry, newSlot}
 use Rattle.meaning.specs.LookUp.{named, missing}
 use Rattle.meaning.specs.Refusals.{first}
 use Rattle.meaning.specs.Plain.{Found, found, nothing, fileAt, plain, hush, reserved, bornAs}
@@ -307,6 +307,7 @@ pub record CreateMeans (g : Geometry) (d d′ n : List ℕ) (f : NewFile) : Type
   pub born : plain g d′ n ≡ found (bornAs f)
   pub others : (m : List ℕ) → m ≢ n → hush (plain g d′ m) ≡ hush (plain g d m)
   pub beyond′ : (m : List ℕ) → m ≢ n → Others.beyond g d′ m ≡ Others.beyond g d m
+  pub still : (i : ℕ) → (In (i / granuleBytes) (directoryGranules g d) → ⊥) → byte d′ i ≡ byte d i
   pub was : plain g d n ≡ nothing
   pub same′ : (q : ℕ) → Facts.File g d q → T (not (system g d q)) → fileAt g d′ q ≡ fileAt g d q
 
@@ -334,6 +335,7 @@ create-made g d c k x t z n w f free =
       born = Named.plain-is g d′ (Change.changed g d d′ c x h) x n v m ∙ ap {B = Found} found (made-born g d c k x t z n w f free);
       others = λ b e. Others.others-plain g d d′ c x h s b (λ q. absurd (no′ q)) (λ q a. e (sym a ∙ m));
       beyond′ = λ b e. Others.beyond-plain g d d′ c x h s b (λ q. absurd (no′ q)) (λ q a. e (sym a ∙ m));
+      still = made-same g d c k x t z n w f free;
       was = Named.plain-none g d n free;
       same′ = λ q a u. Others.others g d d′ c x h s q a (λ e. no′ (rw e at a)) u;
     }
@@ -357,10 +359,15 @@ new-of true true t e = tt
 new-of true false t e = Members.false-no e tt
 new-of false b t e = absurd t
 
-pub create-means : (g : Geometry) (d n : List ℕ) (f : NewFile) (checking : Bool) → create g d n f checking .0 .number ≡ 0 → create g d n f checking .0 .old ≡ false
-    → CreateMeans g d (create g d n f checking .1) n f
+-- the new file's slot and name
+pub record Placed (g : Geometry) (d′ n : List ℕ) (x : ℕ) : Type 0 where
+  pub file : File g d′ x
+  pub name′ : nameOf g d′ x ≡ n
+
+create-both : (g : Geometry) (d n : List ℕ) (f : NewFile) (checking : Bool) → create g d n f checking .0 .number ≡ 0 → create g d n f checking .0 .old ≡ false
+    → CreateMeans g d (create g d n f checking .1) n f × Placed g (create g d n f checking .1) n (newSlot g d)
 unfolding create made withEntry
-create-means g d n f checking e o =
+create-both g d n f checking e o =
     let p₁ = KillMeans.passed 1 _ _ (omega arith) e in
     let p₂ = KillMeans.passed 2 _ _ (omega arith) (p₁ .1) in
     let p₃ = KillMeans.passed 12 _ _ (omega arith) (p₂ .1) in
@@ -371,5 +378,16 @@ create-means g d n f checking e o =
     let k = Places.fits g d (KillMeans.yes-T (fitsGeometry g d) (p₁ .0)) in
     let new : T (missing g d n) = new-of true (missing g d n) tt (rw e at o) in
     let i = first-in (freeSlots g d) (λ t. p₆ .0 (Members.all-two (missing g d n) (eqb (length (freeSlots g d)) 0) new t)) in
-    let y = slots-free g d (firstOr 0 (freeSlots g d)) i in
-    rw (e, Members.T-true {b = missing g d n} new) (create-made g d c k (firstOr 0 (freeSlots g d)) (y .0) (y .1) n (KillMeans.yes-T (wellFormed n) (p₄ .0)) f (none-missing g d c n new))
+    let x = firstOr 0 (freeSlots g d) in
+    let y = slots-free g d x i in
+    let w = KillMeans.yes-T (wellFormed n) (p₄ .0) in
+    let free = none-missing g d c n new in
+    rw (e, Members.T-true {b = missing g d n} new) (create-made g d c k x (y .0) (y .1) n w f free, record { file = made-file g d c k x (y .0) (y .1) n w f free; name′ = made-name g d c k x (y .0) (y .1) n w f free })
+
+pub create-means : (g : Geometry) (d n : List ℕ) (f : NewFile) (checking : Bool) → create g d n f checking .0 .number ≡ 0 → create g d n f checking .0 .old ≡ false
+    → CreateMeans g d (create g d n f checking .1) n f
+create-means g d n f checking e o = create-both g d n f checking e o .0
+
+pub create-placed : (g : Geometry) (d n : List ℕ) (f : NewFile) (checking : Bool) → create g d n f checking .0 .number ≡ 0 → create g d n f checking .0 .old ≡ false
+    → Placed g (create g d n f checking .1) n (newSlot g d)
+create-placed g d n f checking e o = create-both g d n f checking e o .1

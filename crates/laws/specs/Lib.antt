@@ -26,5 +26,6 @@ pub mod DropLast
 pub mod Steps
 pub mod Bytes
 pub mod Tally
+pub mod Rising
 pub mod Rewrite
 pub mod Store

@@ -32,7 +32,7 @@ empty [] f = refl
 empty (x ∷ xs) f = absurd (f x Members.In.here)
 
 module _ (g : Geometry) (d : List ℕ) where
-  named-in : (n : List ℕ) (x : ℕ) → In x (keep (carries g d n) (candidates g d n)) → File g d x × (nameOf g d x ≡ n)
+  pub named-in : (n : List ℕ) (x : ℕ) → In x (keep (carries g d n) (candidates g d n)) → File g d x × (nameOf g d x ≡ n)
   unfolding words
   named-in n x i =
       let a = Members.keep-in (carries g d n) x (candidates g d n) i in
@@ -44,7 +44,7 @@ module _ (g : Geometry) (d : List ℕ) where
   none-named n f = rw (empty (keep (carries g d n) (candidates g d n)) (λ x i. let k = named-in n x i in f x (k .0) (k .1)))
 
   module _ (c : Sound g d) where
-    in-named : (p : ℕ) → File g d p → In p (keep (carries g d (nameOf g d p)) (candidates g d (nameOf g d p)))
+    pub in-named : (p : ℕ) → File g d p → In p (keep (carries g d (nameOf g d p)) (candidates g d (nameOf g d p)))
     unfolding words
     in-named p f =
         Members.in-keep (carries g d (nameOf g d p))

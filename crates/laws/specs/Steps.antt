@@ -31,7 +31,7 @@ pub record Ready (g : Geometry) (d : List ℕ) (p : ℕ) : Type 0 where
   pub first : primary g d p ≡ true
   pub user : system g d p ≡ false
 
-fits-long : (g : Geometry) (d d′ : List ℕ) → length d′ ≡ length d → fitsGeometry g d′ ≡ fitsGeometry g d
+pub fits-long : (g : Geometry) (d d′ : List ℕ) → length d′ ≡ length d → fitsGeometry g d′ ≡ fitsGeometry g d
 unfolding fitsGeometry
 fits-long g d d′ e = rw e
 

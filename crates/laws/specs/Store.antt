@@ -65,7 +65,7 @@ store-at F (x ∷ bs) d i k a b inj l = go (ℕ-discrete k i) (λ q. store-at F 
         let z : k - i ≡ suc (k - (i + 1)) = omega arith in
         rw z (ih (omega arith))
 
-getD-inj : {xs : List ℕ} → Distinct xs → (a b : ℕ) → a < length xs → b < length xs → getD xs a 0 ≡ getD xs b 0 → a ≡ b
+pub getD-inj : {xs : List ℕ} → Distinct xs → (a b : ℕ) → a < length xs → b < length xs → getD xs a 0 ≡ getD xs b 0 → a ≡ b
 getD-inj Members.Distinct.done a b h l e = absurd (omega arith)
 getD-inj (Members.Distinct.fresh n r) zero zero h l e = refl
 getD-inj (Members.Distinct.fresh {xs = xs} n r) zero (suc b) h l e = absurd (n (rw e (Others.getD-in xs b (omega arith))))

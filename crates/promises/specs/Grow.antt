@@ -182,6 +182,7 @@ pub record AllotMeans (g : Geometry) (d d′ : List ℕ) (p k : ℕ) : Type 0 wh
   pub own : plain g d′ (nameOf g d p) ≡ found (allottedTo k (fileAt g d p))
   pub others : (n : List ℕ) → n ≢ nameOf g d p → hush (plain g d′ n) ≡ hush (plain g d n)
   pub beyond′ : (n : List ℕ) → n ≢ nameOf g d p → Others.beyond g d′ n ≡ Others.beyond g d n
+  pub still : (i : ℕ) → (In (i / granuleBytes) (directoryGranules g d) → ⊥) → byte d′ i ≡ byte d i
   pub small : Small d → Small d′
   pub free : length (freeGranules g d) ≡ length (freeGranules g d′) + lacking g d p (k / granuleSectors + 1)
 
@@ -210,6 +211,7 @@ allot-means g d h k e =
       own = Named.plain-is g d′ (x .sound) p (nameOf g d p) (x .file) (x .name) ∙ ap {B = Found} found (allotted g d d′ p k x);
       others = x .others;
       beyond′ = x .beyond′;
+      still = x .same;
       small = x .small;
       free = x .free;
     })

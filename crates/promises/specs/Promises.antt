@@ -384,7 +384,7 @@ module _ (g : Geometry) (d : List ℕ) where
 
 pub record Promise (g : Geometry) (d : List ℕ) (c : Call) : Type 0 where
   pub stays : Good g d → Brings c → Stays g d (leaves g d c)
-  pub serves : number g d c ≡ 0 → Serves g d c
+  pub serves : AreBytes d → number g d c ≡ 0 → Serves g d c
   pub refuses : number g d c ≢ 0 → (leaves g d c ≡ d) × Refuses g d c
   pub numbers : Exactly (number g d c) (table g d c)
 
@@ -392,11 +392,7 @@ pub record Promise (g : Geometry) (d : List ℕ) (c : Call) : Type 0 where
 abbrev pub EveryCall : Type 0
 EveryCall = (g : Geometry) (d : List ℕ) (c : Call) → Promise g d c
 
--- the disk after a list of calls
-unfoldable pub after′ : Geometry → List ℕ → List Call → List ℕ
-after′ g d [] = d
-after′ g d (c ∷ cs) = after′ g (leaves g d c) cs
-
+-- what each call of a list brings
 abbrev pub AllBring : List Call → Type 0
 AllBring [] = Unit {0}
 AllBring (c ∷ cs) = Brings c × AllBring cs

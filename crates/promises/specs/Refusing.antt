@@ -85,11 +85,12 @@ rows [] [] e E i w n a y z = (λ q. i .0 (go (Members.decide e) q), λ x. y (i .
 rows [] (r ∷ rs) e E i w n a y z = absurd w
 rows (c ∷ cs) [] e E i w n a y z = absurd w
 rows (c ∷ cs) (r ∷ rs) e E i w n a y z =
-    let k = rest-apart (c .0) (numbersOf cs) n in
-    ((λ q. there (Members.decide e) (Members.decide (c .1)) (q ∙ sym (w .0)) k, λ x. y (i .1 (x .0)) ∙ hit (w .1 (x .0) .1 (x .1)) ∙ w .0),
+    let k = rest-apart (c .0) (numbersOf cs) n in (
+      (λ q. there (Members.decide e) (Members.decide (c .1)) (q ∙ sym (w .0)) k, λ x. y (i .1 (x .0)) ∙ hit (w .1 (x .0) .1 (x .1)) ∙ w .0),
       rows cs rs (e && not (c .1)) (E × (r .1 → ⊥)) (fore, back) (w .2) (k .0) a
-      (λ t. y (Members.and-l e (not (c .1)) t) ∙ miss (Members.and-r e (not (c .1)) t))
-      (λ t. none t (Members.decide e) (Members.decide (c .1)) k))
+          (λ t. y (Members.and-l e (not (c .1)) t) ∙ miss (Members.and-r e (not (c .1)) t))
+          (λ t. none t (Members.decide e) (Members.decide (c .1)) k),
+    )
   where
     hit : T (c .1) → cond (c .1) (c .0) (first cs) ≡ c .0
     hit t = rw (Members.T-true {b = c .1} t)
@@ -178,7 +179,7 @@ fits-iff g d = (fore, back)
         let i : T (leb (g .start + 10) (sectors g)) = le→leb _ _ (k .ten) in
         search Members.and-i depth 9
 
-range-iff : (h : Handle) → T (inRange h) ↔ InRange h
+pub range-iff : (h : Handle) → T (inRange h) ↔ InRange h
 unfolding words
 range-iff h = (fore, back)
   where
@@ -198,7 +199,7 @@ range-iff h = (fore, back)
         let e : T (leb (h .level) 7) = le→leb _ _ (r .level) in
         search Members.and-i depth 6
 
-new-iff : (f : NewFile) → T (newInRange f) ↔ NewInRange f
+pub new-iff : (f : NewFile) → T (newInRange f) ↔ NewInRange f
 unfolding words
 new-iff f = (fore, back)
   where
@@ -247,7 +248,7 @@ found-not : (f : File) → found f ≡ nothing → ⊥
 found-not f e = let z : _≡_ {A = ℕ} 0 1 = cc in omega arith
 
 -- 4: no file of that name
-missing-iff : (g : Geometry) (d n : List ℕ) → T (missing g d n) ↔ (plain g d n ≡ nothing)
+pub missing-iff : (g : Geometry) (d n : List ℕ) → T (missing g d n) ↔ (plain g d n ≡ nothing)
 unfolding plain foundIn
 missing-iff g d n = go (named g d n)
   where
@@ -256,7 +257,7 @@ missing-iff g d n = go (named g d n)
     go (x ∷ xs) = (λ t. absurd (omega (arith, eqb→eq (length (x ∷ xs)) 0 t)), λ e. absurd (found-not (fileAt g d x) e))
 
 -- level 0, by the codes of the plain file
-full-iff : (g : Geometry) (d : List ℕ) (s : ℕ) (checking : Bool) (code : ℕ) → T (full g d s checking code) ↔ Full g (fileAt g d s) checking code
+pub full-iff : (g : Geometry) (d : List ℕ) (s : ℕ) (checking : Bool) (code : ℕ) → T (full g d s checking code) ↔ Full g (fileAt g d s) checking code
 unfolding fileAt words
 full-iff g d s checking code = (λ t. fore (Members.or-e (not checking) _ t), back)
   where
@@ -280,14 +281,21 @@ full-iff g d s checking code = (λ t. fore (Members.or-e (not checking) _ t), ba
     back (inr (inl e)) = Members.or-r (not checking) _ (Members.or-l (eqb (mainCode g d s) (g .anyone)) _ (Members.eq-T e))
     back (inr (inr e)) = Members.or-r (not checking) _ (Members.or-r (eqb (mainCode g d s) (g .anyone)) _ (Members.or-l (eqb code (mainCode g d s)) false (Members.eq-T e)))
 
+-- the code gives one of the two levels
+pub admitted-iff : (g : Geometry) (d : List ℕ) (s : ℕ) (checking : Bool) (code : ℕ)
+    → T (admits g d s checking code) ↔ (Full g (fileAt g d s) checking code ⊎ (code ≡ Promises.workerCode (fileAt g d s)))
+unfolding admits fileAt
+admitted-iff g d s checking code =
+    either-iff (full g d s checking code) (eqb code (workerCode g d s)) (full-iff g d s checking code) (eq-iff code (workerCode g d s))
+
 -- 5: the code gives neither level
-admits-iff : (g : Geometry) (d : List ℕ) (s : ℕ) (checking : Bool) (code : ℕ)
+pub admits-iff : (g : Geometry) (d : List ℕ) (s : ℕ) (checking : Bool) (code : ℕ)
     → T (not (admits g d s checking code)) ↔ ((Full g (fileAt g d s) checking code → ⊥) × (code ≢ Promises.workerCode (fileAt g d s)))
 unfolding admits fileAt
 admits-iff g d s checking code = (fore, back)
   where
     i : T (admits g d s checking code) ↔ (Full g (fileAt g d s) checking code ⊎ (code ≡ workerCode g d s))
-    i = either-iff (full g d s checking code) (eqb code (workerCode g d s)) (full-iff g d s checking code) (eq-iff code (workerCode g d s))
+    i = admitted-iff g d s checking code
 
     fore : T (not (admits g d s checking code)) → (Full g (fileAt g d s) checking code → ⊥) × (code ≢ workerCode g d s)
     fore t = (λ x. T-not (admits g d s checking code) t (i .1 (inl x)), λ x. T-not (admits g d s checking code) t (i .1 (inr x)))
@@ -308,10 +316,11 @@ wrong-iff g d n checking code = go (named g d n)
     go : (xs : List ℕ) → (T (eqb (length xs) 0) → ⊥) → T (not (admits g d (firstOr 0 xs) checking code))
         ↔ ((f : File) × (foundIn g d xs ≡ found f) × (Full g f checking code → ⊥) × (code ≢ Promises.workerCode f))
     go [] k = absurd (k tt)
-    go (x ∷ xs) k =
-        (λ t. let y = admits-iff g d x checking code .0 t in (fileAt g d x, refl, y .0, y .1),
-          λ y. let e : fileAt g d x ≡ y .0 = same-file (fileAt g d x) (y .0) (y .1) in
-          admits-iff g d x checking code .1 (rw e (y .2), rw e (y .3)))
+    go (x ∷ xs) k = (
+      λ t. let y = admits-iff g d x checking code .0 t in (fileAt g d x, refl, y .0, y .1),
+      λ y. let e : fileAt g d x ≡ y .0 = same-file (fileAt g d x) (y .0) (y .1) in
+          admits-iff g d x checking code .1 (rw e (y .2), rw e (y .3)),
+    )
       where
         same-file : (a b : File) → found a ≡ found b → a ≡ b
         same-file a b e = cc
@@ -319,10 +328,11 @@ wrong-iff g d n checking code = go (named g d n)
 wrong-created : (g : Geometry) (d n : List ℕ) (checking : Bool) (code : ℕ)
     → T (all (not (missing g d n) ∷ not (admits g d (slotOf g d n) checking code) ∷ [])) ↔ Promises.WrongCode g d n checking code
 unfolding words
-wrong-created g d n checking code =
-    (λ t. wrong-iff g d n checking code (T-not (missing g d n) (Members.and-l (not (missing g d n)) _ t)) .0 (Members.all-second (not (missing g d n)) (not (admits g d (slotOf g d n) checking code)) t),
-      λ x. let k : T (missing g d n) → ⊥ = λ t. found-not (x .0) (sym (x .1) ∙ missing-iff g d n .0 t) in
-      Members.all-two (not (missing g d n)) (not (admits g d (slotOf g d n) checking code)) (not-T (missing g d n) k) (wrong-iff g d n checking code k .1 x))
+wrong-created g d n checking code = (
+  λ t. wrong-iff g d n checking code (T-not (missing g d n) (Members.and-l (not (missing g d n)) _ t)) .0 (Members.all-second (not (missing g d n)) (not (admits g d (slotOf g d n) checking code)) t),
+  λ x. let k : T (missing g d n) → ⊥ = λ t. found-not (x .0) (sym (x .1) ∙ missing-iff g d n .0 t) in
+      Members.all-two (not (missing g d n)) (not (admits g d (slotOf g d n) checking code)) (not-T (missing g d n) k) (wrong-iff g d n checking code k .1 x),
+)
 
 none-iff : (xs : List ℕ) → T (eqb (length xs) 0) ↔ (xs ≡ [])
 none-iff [] = (λ t. refl, λ e. tt)
@@ -351,9 +361,11 @@ module _ (g : Geometry) (d : List ℕ) where
 
   growth-reading : (h : Handle) (k : ℕ) (E : Type 0) → Reading (cannotGrow g d (h .slot) k) (Promises.growthCases g d h k) E
   unfolding fileAt
-  growth-reading h k E =
-      (refl, λ x. both-iff (noGrowth g d (h .slot)) (ltb 0 k) (λ t. t, λ t. t) (lt-iff 0 k),
-        (refl, λ x. lt-iff (length (freeGranules g d)) k, (refl, λ x. stuck-iff (grow g (h .slot) k d), tt)))
+  growth-reading h k E = (
+    refl,
+    λ x. both-iff (noGrowth g d (h .slot)) (ltb 0 k) (λ t. t, λ t. t) (lt-iff 0 k),
+    (refl, λ x. lt-iff (length (freeGranules g d)) k, (refl, λ x. stuck-iff (grow g (h .slot) k d), tt)),
+  )
 
   growth-needed : (h : Handle) (k k′ : ℕ) → k ≡ k′ → (E : Type 0) → Reading (cannotGrow g d (h .slot) k) (Promises.growthCases g d h k′) E
   growth-needed h k k′ e E = subst (λ (n : ℕ). Reading (cannotGrow g d (h .slot) k) (Promises.growthCases g d h n) E) e (growth-reading h k E)
@@ -369,39 +381,118 @@ module _ (g : Geometry) (d : List ℕ) where
 
   open-numbers : (n : List ℕ) (len : ℕ) (checking : Bool) (code : ℕ) → Exactly (open′ g d n len checking code .number) (table g d (Call.opens n len checking code))
   unfolding open′
-  open-numbers n len checking code = exactly (openRefusals g d n len checking code) (table g d (Call.opens n len checking code))
-      (refl, λ x. no-fit, (refl, λ x. unsound, (refl, λ x. not-iff (goodLength len) (length-iff len), (refl, λ x. false-iff (wellFormed n), (refl, λ x. missing-iff g d n,
-      (refl, λ x. wrong-iff g d n checking code (λ t. x .1 (missing-iff g d n .0 t)), tt)))))) tt
+  open-numbers n len checking code = exactly (openRefusals g d n len checking code) (table g d (Call.opens n len checking code)) (
+    refl,
+    λ x. no-fit,
+    (
+      refl,
+      λ x. unsound,
+      (
+        refl,
+        λ x. not-iff (goodLength len) (length-iff len),
+        (
+          refl,
+          λ x. false-iff (wellFormed n),
+          (
+            refl,
+            λ x. missing-iff g d n,
+            (refl, λ x. wrong-iff g d n checking code (λ t. x .1 (missing-iff g d n .0 t)), tt),
+          ),
+        ),
+      ),
+    ),
+  ) tt
 
   create-numbers : (n : List ℕ) (f : NewFile) (checking : Bool) → Exactly (create g d n f checking .0 .number) (table g d (Call.creates n f checking))
   unfolding create
-  create-numbers n f checking = exactly (createRefusals g d n f checking) (table g d (Call.creates n f checking))
-      (refl, λ x. no-fit, (refl, λ x. unsound, (refl, λ x. not-iff (newInRange f) (new-iff f), (refl, λ x. false-iff (wellFormed n), (refl, λ x. wrong-created g d n checking (f .main),
-      (refl, λ x. both-iff (missing g d n) (eqb (length (freeSlots g d)) 0) (missing-iff g d n) (none-iff (freeSlots g d)), tt)))))) tt
+  create-numbers n f checking = exactly (createRefusals g d n f checking) (table g d (Call.creates n f checking)) (
+    refl,
+    λ x. no-fit,
+    (
+      refl,
+      λ x. unsound,
+      (
+        refl,
+        λ x. not-iff (newInRange f) (new-iff f),
+        (
+          refl,
+          λ x. false-iff (wellFormed n),
+          (
+            refl,
+            λ x. wrong-created g d n checking (f .main),
+            (refl, λ x. both-iff (missing g d n) (eqb (length (freeSlots g d)) 0) (missing-iff g d n) (none-iff (freeSlots g d)), tt),
+          ),
+        ),
+      ),
+    ),
+  ) tt
 
   read-numbers : (h : Handle) (b : List ℕ) → Exactly (readRecord g d h b .0 .number) (table g d (Call.reads h b))
   unfolding readRecord
-  read-numbers h b = exactly (readRefusals g d h (length b)) (table g d (Call.reads h b))
-      (refl, λ x. no-fit, (refl, λ x. unsound, (refl, λ x. not-iff (all (inRange h ∷ leb (h .len) (length b) ∷ [])) (both-iff (inRange h) (leb (h .len) (length b)) (range-iff h) (le-iff (h .len) (length b))), (refl, λ x. stale h, 
-      (refl, λ x. lt-iff 5 (h .level), (refl, λ x. subst (λ (s : ℕ). T (ltb (sizeOf g d (h .slot)) (h .at + h .len)) ↔ (s < h .at + h .len)) (sym (Others.file-length g d (h .slot))) (lt-iff (sizeOf g d (h .slot)) (h .at + h .len)), tt)))))) tt
+  read-numbers h b = exactly (readRefusals g d h (length b)) (table g d (Call.reads h b)) (
+    refl,
+    λ x. no-fit,
+    (
+      refl,
+      λ x. unsound,
+      (
+        refl,
+        λ x. not-iff (all (inRange h ∷ leb (h .len) (length b) ∷ [])) (both-iff (inRange h) (leb (h .len) (length b)) (range-iff h) (le-iff (h .len) (length b))),
+        (
+          refl,
+          λ x. stale h,
+          (refl, λ x. lt-iff 5 (h .level), (refl, λ x. subst (λ (s : ℕ). T (ltb (sizeOf g d (h .slot)) (h .at + h .len)) ↔ (s < h .at + h .len)) (sym (Others.file-length g d (h .slot))) (lt-iff (sizeOf g d (h .slot)) (h .at + h .len)), tt)),
+        ),
+      ),
+    ),
+  ) tt
 
   sector-numbers : (h : Handle) (k : ℕ) → Exactly (readSector g d h k .number) (table g d (Call.readsSector h k))
   unfolding readSector
-  sector-numbers h k = exactly (sectorRefusals g d h k) (table g d (Call.readsSector h k))
-      (refl, λ x. no-fit, (refl, λ x. unsound, (refl, λ x. not-iff (all (inRange h ∷ ltb k sectorNumbers ∷ [])) (both-iff (inRange h) (ltb k sectorNumbers) (range-iff h) (lt-iff k sectorNumbers)), (refl, λ x. stale h, 
-      (refl, λ x. lt-iff 5 (h .level), (refl, λ x. le-iff (sectorCount g d (h .slot)) k, tt)))))) tt
+  sector-numbers h k = exactly (sectorRefusals g d h k) (table g d (Call.readsSector h k)) (
+    refl,
+    λ x. no-fit,
+    (
+      refl,
+      λ x. unsound,
+      (
+        refl,
+        λ x. not-iff (all (inRange h ∷ ltb k sectorNumbers ∷ [])) (both-iff (inRange h) (ltb k sectorNumbers) (range-iff h) (lt-iff k sectorNumbers)),
+        (
+          refl,
+          λ x. stale h,
+          (refl, λ x. lt-iff 5 (h .level), (refl, λ x. le-iff (sectorCount g d (h .slot)) k, tt)),
+        ),
+      ),
+    ),
+  ) tt
 
   three-iff : (a b c : Bool) {A B C : Type 0} → (T a ↔ A) → (T b ↔ B) → (T c ↔ C) → (T (all (a ∷ b ∷ c ∷ [])) ↔ (A × B × C))
   unfolding all
-  three-iff a b c i j k =
-      (λ t. (i .0 (Members.and-l a (b && (c && true)) t), j .0 (Members.and-l b (c && true) (Members.and-r a (b && (c && true)) t)), k .0 (Members.all-second b c (Members.and-r a (b && (c && true)) t))),
-        λ x. Members.and-i a (b && (c && true)) (i .1 (x .0)) (Members.all-two b c (j .1 (x .1)) (k .1 (x .2))))
+  three-iff a b c i j k = (
+    λ t. (i .0 (Members.and-l a (b && (c && true)) t), j .0 (Members.and-l b (c && true) (Members.and-r a (b && (c && true)) t)), k .0 (Members.all-second b c (Members.and-r a (b && (c && true)) t))),
+    λ x. Members.and-i a (b && (c && true)) (i .1 (x .0)) (Members.all-two b c (j .1 (x .1)) (k .1 (x .2))),
+  )
 
   write-numbers : (m : Mode) (h : Handle) (b : List ℕ) → Exactly (writeRecord g d m h b .0 .number) (table g d (Call.writes m h b))
   unfolding writeRecord
-  write-numbers m h b = exactly (writeRefusals g d m h (length b)) (table g d (Call.writes m h b))
-      (refl, λ x. no-fit, (refl, λ x. unsound, (refl, λ x. not-iff (all (inRange h ∷ leb (h .at + h .len) highest ∷ leb (h .len) (length b) ∷ [])) (three-iff (inRange h) (leb (h .at + h .len) highest) (leb (h .len) (length b)) (range-iff h) (le-iff (h .at + h .len) highest) (le-iff (h .len) (length b))), (refl, λ x. stale h, 
-      (refl, λ x. barred-iff 4 h, growth-needed h (toWrite g d m h) _ needed _))))) tt
+  write-numbers m h b = exactly (writeRefusals g d m h (length b)) (table g d (Call.writes m h b)) (
+    refl,
+    λ x. no-fit,
+    (
+      refl,
+      λ x. unsound,
+      (
+        refl,
+        λ x. not-iff (all (inRange h ∷ leb (h .at + h .len) highest ∷ leb (h .len) (length b) ∷ [])) (three-iff (inRange h) (leb (h .at + h .len) highest) (leb (h .len) (length b)) (range-iff h) (le-iff (h .at + h .len) highest) (le-iff (h .len) (length b))),
+        (
+          refl,
+          λ x. stale h,
+          (refl, λ x. barred-iff 4 h, growth-needed h (toWrite g d m h) _ needed _),
+        ),
+      ),
+    ),
+  ) tt
     where
       needed : toWrite g d m h ≡ Promises.lacks g d h (granulesFor (sizeAfter m (length (fileAt g d (h .slot) .bytes)) (h .at + h .len)))
       needed = unfold fileAt in ap (λ (s : ℕ). lacking g d (h .slot) (granulesFor (sizeAfter m s (h .at + h .len)))) (sym (Others.file-length g d (h .slot)))
@@ -413,12 +504,12 @@ module _ (g : Geometry) (d : List ℕ) where
 
   trim-numbers : (h : Handle) → Exactly (trim g d h .0 .number) (table g d (Call.trims h))
   unfolding trim
-  trim-numbers h = exactly (trimRefusals g d h) (table g d (Call.trims h)) 
+  trim-numbers h = exactly (trimRefusals g d h) (table g d (Call.trims h))
       (refl, λ x. no-fit, (refl, λ x. unsound, (refl, λ x. not-iff (inRange h) (range-iff h), (refl, λ x. stale h, (refl, λ x. barred-iff 4 h, tt))))) tt
 
   kill-numbers : (h : Handle) → Exactly (kill g d h .0 .number) (table g d (Call.kills h))
   unfolding kill
-  kill-numbers h = exactly (killRefusals g d h) (table g d (Call.kills h)) 
+  kill-numbers h = exactly (killRefusals g d h) (table g d (Call.kills h))
       (refl, λ x. no-fit, (refl, λ x. unsound, (refl, λ x. not-iff (inRange h) (range-iff h), (refl, λ x. stale h, (refl, λ x. barred-iff 1 h, tt))))) tt
 
   -- the listing answers check's number

@@ -66,6 +66,8 @@ pub record Shrank (g : Geometry) (d d′ : List ℕ) (p k : ℕ) : Type 0 where
   pub bytes : fileAt g d′ p .bytes ≡ fileAt g d p .bytes
   pub others : (n : List ℕ) → n ≢ nameOf g d p → hush (plain g d′ n) ≡ hush (plain g d n)
   pub beyond′ : (n : List ℕ) → n ≢ nameOf g d p → Others.beyond g d′ n ≡ Others.beyond g d n
+  pub above : aboveTen g d′ ≡ aboveTen g d
+  pub still : (i : ℕ) → (In (i / granuleBytes) (directoryGranules g d) → ⊥) → byte d′ i ≡ byte d i
   pub small : Small d → Small d′
 
 module _ (g : Geometry) where
@@ -87,6 +89,8 @@ module _ (g : Geometry) where
     bytes = refl;
     others = λ n q. refl;
     beyond′ = λ n q. refl;
+    above = refl;
+    still = λ i o. refl;
     small = λ b. b;
   }
 
@@ -114,10 +118,13 @@ module _ (g : Geometry) where
         bytes = sym (ap (λ (x : Rattle.meaning.specs.Plain.File). x .bytes) file′);
         others = λ b q. Others.others-plain g d d₁ c p h s b (λ z a. q (sym a)) (λ z a. q (sym a ∙ n));
         beyond′ = λ b q. Others.beyond-plain g d d₁ c p h s b (λ z a. q (sym a)) (λ z a. q (sym a ∙ n));
+        above = h .above;
+        still = l .same;
         small = b;
       }
 
   shrank-trans : (a b e : List ℕ) (p j k : ℕ) → Shrank g a b p j → Shrank g b e p k → Shrank g a e p (j + k)
+  unfolding words
   shrank-trans a b e p j k x y = record {
     sound = y .sound;
     fits = y .fits;
@@ -135,6 +142,8 @@ module _ (g : Geometry) where
     bytes = y .bytes ∙ x .bytes;
     others = λ n q. y .others n (λ z. q (z ∙ x .name)) ∙ x .others n q;
     beyond′ = λ n q. y .beyond′ n (λ z. q (z ∙ x .name)) ∙ x .beyond′ n q;
+    above = y .above ∙ x .above;
+    still = λ i o. y .still i (λ z. o (subst (λ (v : ℕ). In (i / granuleBytes) (count (g .start / granuleSectors) ((10 + v) / granuleSectors))) (x .above) z)) ∙ x .still i o;
     small = λ b. y .small (x .small b);
   }
 
@@ -155,6 +164,8 @@ pub record TrimMeans (g : Geometry) (d d′ : List ℕ) (p : ℕ) : Type 0 where
   pub own : plain g d′ (nameOf g d p) ≡ found (trimmed (fileAt g d p))
   pub others : (n : List ℕ) → n ≢ nameOf g d p → hush (plain g d′ n) ≡ hush (plain g d n)
   pub beyond′ : (n : List ℕ) → n ≢ nameOf g d p → Others.beyond g d′ n ≡ Others.beyond g d n
+  pub still : (i : ℕ) → (In (i / granuleBytes) (directoryGranules g d) → ⊥) → byte d′ i ≡ byte d i
+  pub told : fileAt g d′ p ≡ trimmed (fileAt g d p)
   pub free : length (freeGranules g d) + length (owned g d p) ≡ length (freeGranules g d′) + length (owned g d′ p)
   pub small : Small d → Small d′
 
@@ -194,6 +205,8 @@ trim-means g d h e =
       own = Named.plain-is g d (w .sound) (h .slot) (nameOf g d (h .slot)) (w .file) refl ∙ ap {B = Found} found (trim-kept g d (h .slot) t);
       others = λ n q. refl;
       beyond′ = λ n q. refl;
+      still = λ i o. refl;
+      told = trim-kept g d (h .slot) t;
       free = refl;
       small = λ b. b;
     })
@@ -209,6 +222,8 @@ trim-means g d h e =
           own = Named.plain-is g d′ (x .sound) (h .slot) (nameOf g d (h .slot)) (x .file) (x .name) ∙ ap {B = Found} found (trim-done g d d′ (h .slot) t (omega (arith, fit)) x);
           others = x .others;
           beyond′ = x .beyond′;
+          still = x .still;
+          told = trim-done g d d′ (h .slot) t (omega (arith, fit)) x;
           free = omega (arith, x .free, x .many, ap length (x .owned′) ∙ length-append (owned g d′ (h .slot)) (x .old));
           small = x .small;
         })

@@ -131,6 +131,7 @@ pub record Wrote (g : Geometry) (d d′ : List ℕ) (p : ℕ) (w : Plain.File) :
   pub own : plain g d′ (nameOf g d p) ≡ found w
   pub others : (n : List ℕ) → n ≢ nameOf g d p → hush (plain g d′ n) ≡ hush (plain g d n)
   pub beyond′ : (n : List ℕ) → n ≢ nameOf g d p → Others.beyond g d′ n ≡ Others.beyond g d n
+  pub still : (i : ℕ) → (In (i / granuleBytes) (directoryGranules g d) → ⊥) → (In (i / granuleBytes) (owned g d′ p) → ⊥) → byte d′ i ≡ byte d i
   pub free : length (freeGranules g d) + length (owned g d p) ≡ length (freeGranules g d′) + length (owned g d′ p)
   pub file′ : File g d′ p
   pub name′ : nameOf g d′ p ≡ nameOf g d p
@@ -192,6 +193,7 @@ module _ (g : Geometry) (d d₁ : List ℕ) (p : ℕ) (m : Mode) (at : ℕ) (r :
         reserved′ = Others.reserved-stays g d₁ d₄ (x .sound) p h ∙ x .reserved′;
         own = Named.plain-is g d₄ s p (nameOf g d p) (Rewrite.rw-file g d₁ d₄ (x .sound) p (x .file) w) n ∙ ap {B = Found} found written-file;
         beyond′ = λ b q. Others.beyond-plain g d₁ d₄ (x .sound) p h (Rewrite.rw-same g d₁ d₄ (x .sound) p (x .file) w) b (λ z a. q (sym a ∙ x .name)) (λ z a. q (sym a ∙ n)) ∙ x .beyond′ b q;
+        still = λ i o q. w .same i (λ z. o (subst (λ (v : ℕ). In (i / granuleBytes) (count (g .start / granuleSectors) ((10 + v) / granuleSectors))) (x .above) z)) (λ z. q (rw (Rewrite.rw-owned g d₁ d₄ (x .sound) p (x .file) w) z)) ∙ x .same i o;
         free = free₄;
         file′ = Rewrite.rw-file g d₁ d₄ (x .sound) p (x .file) w;
         name′ = n;

@@ -1,0 +1,142 @@
+-- An accepted call that changes a file: the plain list of named files afterwards is the one before with that file changed
+use mathlib.Core.Path.{_≡_, refl, ap, ap₂, sym, _∙_, subst}
+use mathlib.Core.Logic.{_≢_, _⊎_, inl, inr}
+use mathlib.Core.Bool.{Bool, true, false, not, cond, _&&_}
+use mathlib.Core.List.{List, [], _∷_, _++_, append-nil}
+use Prim.Native.Nat.{ℕ, _+_, _-_, _*_, _/_, _%_, _≤_, _<_, max}
+use native.Mathlib.Omega.{arith}
+use lib.ListN.{length, take}
+use lib.Dec.{T}
+use Rattle.meaning.specs.Lists.{same, each, has}
+use Rattle.meaning.specs.Layout.{byte, granuleBytes, granuleSectors, directoryGranules}
+use Rattle.meaning.specs.Entries.{nameOf}
+use Rattle.meaning.specs.Chain.{owned}
+use Rattle.meaning.specs.Free.{freeGranules}
+use Rattle.meaning.specs.LookUp.{named}
+use Rattle.meaning.specs.Refusals.{movedTo, lacking, first}
+use Rattle.meaning.specs.Create.{create}
+use Rattle.meaning.specs.Write.{writeRecord}
+use Rattle.meaning.specs.Allot.{allot, granulesTo}
+use Rattle.meaning.specs.Trim.{trim}
+use Rattle.meaning.specs.Kill.{kill}
+use Rattle.meaning.specs.Plain.{File, Found, found, nothing, fileAt, plain, with′, hush, bornAs, writtenTo, allottedTo, trimmed}
+use Rattle.meaning.specs.declared.Geometry.{Geometry}
+use Rattle.meaning.specs.declared.Handle.{Handle}
+use Rattle.meaning.specs.declared.NewFile.{NewFile}
+use Rattle.meaning.specs.declared.Mode.{Mode}
+use Rattle.laws.specs.Members
+use Rattle.laws.specs.Members.{In}
+use Rattle.laws.specs.Facts
+use Rattle.laws.specs.Named
+use Rattle.laws.specs.Others
+use Rattle.laws.specs.KillMeans
+use Rattle.laws.specs.KillMeans.{Holds}
+use Rattle.laws.specs.Create
+use Rattle.promises.specs.Promises
+use Rattle.promises.specs.Promises.{Becomes, Changes, Serves, Call}
+use Rattle.promises.specs.Grow
+use Rattle.promises.specs.Trim
+use Rattle.promises.specs.WriteMeans
+
+module _ (g : Geometry) (d d′ n : List ℕ) (is : Found) where
+  -- from "this name, and any other" to one equation over all names
+  one-list : plain g d′ n ≡ is → ((m : List ℕ) → m ≢ n → hush (plain g d′ m) ≡ hush (plain g d m)) → (m : List ℕ) → hush (plain g d′ m) ≡ hush (with′ (plain g d) n is m)
+  unfolding with′
+  one-list o f m = go (Members.decide (same m n))
+    where
+      go : Members.Test (same m n) → hush (plain g d′ m) ≡ hush (cond (same m n) is (plain g d m))
+      go (Members.Test.holds t) = rw (Members.T-true {b = same m n} t) (ap hush (ap (plain g d′) (Members.same-eq m n t) ∙ o))
+      go (Members.Test.fails t) = rw (Members.no-false {b = same m n} t) (f m (λ e. t (subst (λ (l : List ℕ). T (same m l)) e (Members.same-refl m))))
+
+outside-of : (ns : List ℕ) (i : ℕ) → (T (Promises.within ns i) → ⊥) → In (i / granuleBytes) ns → ⊥
+outside-of ns i f k = f (Members.in-has k)
+
+-- a call by a handle: what is said of the file at its slot is said of the file of its name
+module _ (g : Geometry) (d d′ : List ℕ) (h : Handle) (w : Holds g d h) (is : Found) where
+  by-handle : plain g d′ (nameOf g d (h .slot)) ≡ is
+      → ((m : List ℕ) → m ≢ nameOf g d (h .slot) → hush (plain g d′ m) ≡ hush (plain g d m))
+      → ((m : List ℕ) → m ≢ nameOf g d (h .slot) → Others.beyond g d′ m ≡ Others.beyond g d m)
+      → ((i : ℕ) → (In (i / granuleBytes) (directoryGranules g d) → ⊥) → (In (i / granuleBytes) (Promises.ownGranules g d′ (nameOf g d (h .slot))) → ⊥) → byte d′ i ≡ byte d i)
+      → length (freeGranules g d) + length (owned g d (h .slot)) ≡ length (freeGranules g d′) + Promises.granulesIn is
+      → Becomes g d d′ (h .name) (found (fileAt g d (h .slot))) is
+  unfolding fileAt
+  by-handle own others beyond′ still free = subst (λ (n : List ℕ). Becomes g d d′ n (found (fileAt g d (h .slot))) is) (w .name′) (record {
+    before = Named.plain-is g d (w .sound) (h .slot) (nameOf g d (h .slot)) (w .file) refl;
+    after = own;
+    list = one-list g d d′ (nameOf g d (h .slot)) is own others;
+    others = beyond′;
+    untouched = λ i a b. still i (outside-of (directoryGranules g d) i a) (outside-of (Promises.ownGranules g d′ (nameOf g d (h .slot))) i b);
+    free = free;
+  })
+
+owns : (g : Geometry) (d : List ℕ) (p : ℕ) → length (owned g d p) ≡ fileAt g d p .granules
+unfolding fileAt
+owns g d p = refl
+
+pub kill-serves : (g : Geometry) (d : List ℕ) (h : Handle) → kill g d h .0 .number ≡ 0 → Serves g d (Call.kills h)
+unfolding kill
+kill-serves g d h e =
+    let w = KillMeans.holds g d h _ 1 [] e .0 in let x = KillMeans.kill-means g d h e in
+    record {
+      file = fileAt g d (h .slot);
+      mine = refl;
+      becomes = by-handle g d (kill g d h .1) h w nothing (x .gone) (x .others) (x .beyond′) (λ i a b. x .still i a) (omega (arith, x .free));
+      handle′ = refl;
+    }
+
+pub allot-serves : (g : Geometry) (d : List ℕ) (h : Handle) (k : ℕ) → allot g d h k .0 .number ≡ 0 → Serves g d (Call.allots h k)
+unfolding allot allottedTo fileAt
+allot-serves g d h k e =
+    let w = KillMeans.holds g d h _ 4 _ e .0 in let x = Grow.allot-means g d h k e in
+    record {
+      file = fileAt g d (h .slot);
+      mine = refl;
+      becomes = by-handle g d (allot g d h k .1) h w (found (allottedTo k (fileAt g d (h .slot)))) (x .own) (x .others) (x .beyond′) (λ i a b. x .still i a) (omega (arith, x .free));
+      handle′ = refl;
+    }
+
+pub trim-serves : (g : Geometry) (d : List ℕ) (h : Handle) → trim g d h .0 .number ≡ 0 → Serves g d (Call.trims h)
+unfolding trim
+trim-serves g d h e =
+    let w = KillMeans.holds g d h _ 4 [] e .0 in let x = Trim.trim-means g d h e in
+    let many : length (owned g (trim g d h .1) (h .slot)) ≡ trimmed (fileAt g d (h .slot)) .granules = owns g (trim g d h .1) (h .slot) ∙ ap (λ (f : File). f .granules) (x .told) in
+    record {
+      file = fileAt g d (h .slot);
+      mine = refl;
+      becomes = by-handle g d (trim g d h .1) h w (found (trimmed (fileAt g d (h .slot)))) (x .own) (x .others) (x .beyond′) (λ i a b. x .still i a)
+          (x .free ∙ ap (λ (n : ℕ). length (freeGranules g (trim g d h .1)) + n) many);
+      handle′ = refl;
+    }
+
+pub write-serves : (g : Geometry) (d : List ℕ) (m : Mode) (h : Handle) (b : List ℕ) → writeRecord g d m h b .0 .number ≡ 0 → Serves g d (Call.writes m h b)
+write-serves g d m h b e =
+    let w = WriteMeans.write-wrote g d m h b e .0 in let x = WriteMeans.write-wrote g d m h b e .1 in
+    let d′ = writeRecord g d m h b .1 in let p = h .slot in
+    let many : length (owned g d′ p) ≡ writtenTo m (h .at) (take (h .len) b) (fileAt g d p) .granules = owns g d′ p ∙ ap (λ (f : File). f .granules) (x .told) in
+    let at : named g d′ (nameOf g d p) ≡ p ∷ [] = Named.named-at g d′ (Facts.sound g d′ (x .consistent′)) p (nameOf g d p) (x .file′) (x .name′) in
+    record {
+      file = fileAt g d p;
+      mine = refl;
+      becomes = by-handle g d d′ h w (found (writtenTo m (h .at) (take (h .len) b) (fileAt g d p))) (x .own) (x .others) (x .beyond′)
+          (λ i u v. x .still i u (λ j. v (rw at (Members.in-append-l [] j))))
+          (x .free ∙ ap (λ (n : ℕ). length (freeGranules g d′) + n) many);
+      handle′ = moved e;
+    }
+  where
+    moved : writeRecord g d m h b .0 .number ≡ 0 → writeRecord g d m h b .0 .handle ≡ movedTo h (h .at + h .len)
+    moved e = unfold writeRecord in rw e
+
+-- a file born
+pub create-becomes : (g : Geometry) (d n : List ℕ) (f : NewFile) (checking : Bool) → create g d n f checking .0 .number ≡ 0 → create g d n f checking .0 .old ≡ false
+    → Becomes g d (create g d n f checking .1) n nothing (found (bornAs f))
+unfolding bornAs
+create-becomes g d n f checking e o =
+    let x = Create.create-means g d n f checking e o in
+    record {
+      before = x .was;
+      after = x .born;
+      list = one-list g d (create g d n f checking .1) n (found (bornAs f)) (x .born) (x .others);
+      others = x .beyond′;
+      untouched = λ i a b. x .still i (outside-of (directoryGranules g d) i a);
+      free = ap (λ (l : List ℕ). length l + 0) (sym (x .free′));
+    }

@@ -1,0 +1,98 @@
+-- The promises are kept: a theorem for each type of `Promises`
+use mathlib.Core.Path.{_≡_, refl, ap, sym, _∙_, subst}
+use mathlib.Core.Logic.{_≢_}
+use mathlib.Core.Bool.{Bool, true}
+use mathlib.Core.List.{List, [], _∷_}
+use Prim.Native.Nat.{ℕ}
+use native.Mathlib.Omega.{arith}
+use lib.Dec.{T}
+use Rattle.meaning.specs.Layout.{fitsGeometry}
+use Rattle.meaning.specs.Consistent.{consistent}
+use Rattle.meaning.specs.Refusals.{check}
+use Rattle.meaning.specs.Listing
+use Rattle.meaning.specs.Plain.{AreBytes}
+use Rattle.meaning.specs.declared.Geometry.{Geometry}
+use Rattle.laws.specs.Members
+use Rattle.laws.specs.Facts
+use Rattle.promises.specs.Promises
+use Rattle.promises.specs.Promises.{Call, number, leaves, Brings, AllBring, Good, Stays, Serves, Refuses, Promise, EveryCall, Along, EveryState, EveryWrite}
+use Rattle.promises.specs.Refusing
+use Rattle.promises.specs.Passing
+use Rattle.promises.specs.Staying
+use Rattle.promises.specs.Changing
+use Rattle.promises.specs.Finding
+use Rattle.promises.specs.Sector
+use Rattle.promises.specs.Telling
+use Rattle.promises.specs.ReadBack
+
+module _ (g : Geometry) (d : List ℕ) where
+  checked : check g d ≡ 0 → Passing.Served g d
+  unfolding check
+  checked e = Passing.disk-passed g d [] e .0
+
+  check-serves : check g d ≡ 0 → Serves g d Call.checks
+  check-serves e = let w = checked e in (Members.T-true (w .fits), Facts.back g d (w .sound))
+
+  list-serves : (i : ℕ) → Listing.list g d i .number ≡ 0 → Serves g d (Call.lists i)
+  list-serves i e = Telling.list-serves g d i e (checked (sym (Refusing.list-number g d i) ∙ e) .sound)
+
+  counts-serves : Listing.counts g d .number ≡ 0 → Serves g d Call.counts
+  counts-serves e = Telling.counts-serves g d e (checked (counted e) .sound)
+    where
+      counted : Listing.counts g d .number ≡ 0 → check g d ≡ 0
+      counted e = unfold Listing.counts in e
+
+  pub serves : (c : Call) → AreBytes d → number g d c ≡ 0 → Serves g d c
+  unfolding number
+  serves Call.checks b e = check-serves e
+  serves (Call.looksUp n) b e = Finding.look-serves g d n e
+  serves (Call.opens n len checking code) b e = Finding.open-serves g d n len checking code e
+  serves (Call.creates n f checking) b e = Finding.create-serves g d n f checking e
+  serves (Call.reads h x) b e = Sector.read-serves g d h x e
+  serves (Call.readsSector h k) b e = Sector.sector-serves g d b h k e
+  serves (Call.writes m h x) b e = Changing.write-serves g d m h x e
+  serves (Call.allots h k) b e = Changing.allot-serves g d h k e
+  serves (Call.trims h) b e = Changing.trim-serves g d h e
+  serves (Call.kills h) b e = Changing.kill-serves g d h e
+  serves (Call.lists i) b e = list-serves i e
+  serves Call.counts b e = counts-serves e
+
+  pub refuses : (c : Call) → number g d c ≢ 0 → Refuses g d c
+  unfolding number
+  refuses Call.checks k = tt
+  refuses (Call.looksUp n) k = Finding.look-refuses g d n k
+  refuses (Call.opens n len checking code) k = Passing.open-refuses g d n len checking code k
+  refuses (Call.creates n f checking) k = Passing.create-refuses g d n f checking k
+  refuses (Call.reads h x) k = Passing.read-refuses g d h x k
+  refuses (Call.readsSector h i) k = Passing.sector-refuses g d h i k
+  refuses (Call.writes m h x) k = Passing.write-refuses g d m h x k
+  refuses (Call.allots h i) k = Passing.allot-refuses g d h i
+  refuses (Call.trims h) k = Passing.trim-refuses g d h
+  refuses (Call.kills h) k = Passing.kill-refuses g d h
+  refuses (Call.lists i) k = Passing.list-refuses g d i k
+  refuses Call.counts k = Passing.counts-refuses g d k
+
+-- whatever the disk, whatever the call
+pub every-call : EveryCall
+every-call g d c = record {
+  stays = λ k b. Staying.stays g d k c b;
+  serves = serves g d c;
+  refuses = λ k. (Passing.as-stood g d c k, refuses g d c k);
+  numbers = Refusing.numbers g d c;
+}
+
+stays-after : (g : Geometry) (a b c : List ℕ) → Stays g a b → Stays g b c → Stays g a c
+stays-after g a b c x y = record { long = y .long ∙ x .long; good = y .good; reserved′ = y .reserved′ ∙ x .reserved′; tally = y .tally }
+
+along : (g : Geometry) (d₀ d : List ℕ) → Stays g d₀ d → (cs : List Call) → AllBring cs → Along g d₀ d cs
+along g d₀ d s [] b = s
+along g d₀ d s (c ∷ cs) b =
+    (s, every-call g d c, along g d₀ (leaves g d c) (stays-after g d₀ d (leaves g d c) s (Staying.stays g d (s .good) c (b .0))) cs (b .1))
+
+-- from each state reached
+pub every-state : EveryState
+every-state g d k cs b = along g d d (Staying.stays-same g d k) cs b
+
+-- write, then read
+pub every-write : EveryWrite
+every-write g d m h b e = ReadBack.reads-back g d m h b e

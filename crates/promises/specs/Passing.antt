@@ -1,0 +1,144 @@
+-- What a call has passed that was accepted, and what one leaves that was refused
+use mathlib.Core.Path.{_≡_, refl, ap, sym, _∙_, subst}
+use mathlib.Core.Logic.{_≢_, _⊎_, inl, inr}
+use mathlib.Core.Bool.{Bool, true, false, not, cond, _&&_}
+use mathlib.Core.List.{List, [], _∷_, _++_}
+use Prim.Native.Nat.{ℕ, _+_, _≤_, _<_}
+use native.Mathlib.Omega.{arith}
+use lib.ListN.{length}
+use lib.Dec.{T, eqb, T-not, not-T, eqb→eq}
+use Rattle.meaning.specs.Lists.{has}
+use Rattle.meaning.specs.Layout.{fitsGeometry}
+use Rattle.meaning.specs.Entries.{inUse, extension, nameOf}
+use Rattle.meaning.specs.Consistent.{consistent}
+use Rattle.meaning.specs.Refusals.{first, handleRefusals, fresh, check, noHandle, badGeometry, notConsistent}
+use Rattle.meaning.specs.LookUp.{lookUp, missing}
+use Rattle.meaning.specs.Open.{open′}
+use Rattle.meaning.specs.Create.{create}
+use Rattle.meaning.specs.Read.{readRecord, readSector}
+use Rattle.meaning.specs.Write.{writeRecord}
+use Rattle.meaning.specs.Allot.{allot}
+use Rattle.meaning.specs.Trim.{trim}
+use Rattle.meaning.specs.Kill.{kill}
+use Rattle.meaning.specs.Listing
+use Rattle.meaning.specs.declared.Geometry.{Geometry}
+use Rattle.meaning.specs.declared.Handle.{Handle}
+use Rattle.meaning.specs.declared.NewFile.{NewFile}
+use Rattle.meaning.specs.declared.Mode.{Mode}
+use Rattle.laws.specs.Members
+use Rattle.laws.specs.Facts
+use Rattle.laws.specs.Places
+use Rattle.laws.specs.KillMeans
+use Rattle.laws.specs.KillMeans.{passed, yes-T}
+use Rattle.promises.specs.Promises
+use Rattle.promises.specs.Promises.{Call, number, leaves, Live}
+use Rattle.promises.specs.Refusing
+
+-- Accepted --------------------------------------------------------------------------------------------------------------------------
+
+-- refusals 1 and 2 passed
+pub record Served (g : Geometry) (d : List ℕ) : Type 0 where
+  pub fits : T (fitsGeometry g d)
+  pub sound : Facts.Sound g d
+
+pub disk-passed : (g : Geometry) (d : List ℕ) (cs : List (ℕ × Bool)) → first (badGeometry g d ∷ notConsistent g d ∷ cs) ≡ 0 → Served g d × (first cs ≡ 0)
+disk-passed g d cs e =
+    let p₁ = passed 1 _ _ (omega arith) e in
+    let p₂ = passed 2 _ _ (omega arith) (p₁ .1) in
+    (record { fits = yes-T (fitsGeometry g d) (p₁ .0); sound = Facts.sound g d (Members.T-true (yes-T (consistent g d) (p₂ .0))) }, p₂ .1)
+
+-- and 12 and 7: the handle is live
+pub record Has (g : Geometry) (d : List ℕ) (h : Handle) : Type 0 where
+  pub fits : T (fitsGeometry g d)
+  pub sound : Facts.Sound g d
+  pub live : Live g d h
+
+module _ (g : Geometry) (d : List ℕ) (h : Handle) where
+  pub handle-passed : (b : Bool) (cs : List (ℕ × Bool)) → first (handleRefusals g d h b cs) ≡ 0 → Has g d h × T b × (first cs ≡ 0)
+  handle-passed b cs e =
+      let w = disk-passed g d _ e in
+      let p₃ = passed 12 _ _ (omega arith) (w .1) in
+      let p₄ = passed 7 _ _ (omega arith) (p₃ .1) in
+      (record { fits = w .0 .fits; sound = w .0 .sound; live = Refusing.live-iff g d h .0 (yes-T (fresh g d h) (p₄ .0)) }, yes-T b (p₃ .0), p₄ .1)
+
+  pub live-file : Live g d h → Facts.File g d (h .slot)
+  live-file l = record { slot = l .slot; primary′ = Members.and-i (inUse g d (h .slot)) (not (extension g d (h .slot))) (l .used) (l .first) }
+
+-- Refused ---------------------------------------------------------------------------------------------------------------------------
+
+pub other-case : {A : Type 0} (n : ℕ) (x y : A) → n ≢ 0 → cond (eqb n 0) x y ≡ y
+other-case n x y k = rw (Members.no-false {b = eqb n 0} (λ t. k (eqb→eq n 0 t)))
+
+pub other-both : {A : Type 0} (n : ℕ) (b : Bool) (x y : A) → n ≢ 0 → cond (eqb n 0 && b) x y ≡ y
+other-both n b x y k = rw (Members.no-false {b = eqb n 0} (λ t. k (eqb→eq n 0 t)))
+
+module _ (g : Geometry) (d : List ℕ) where
+  -- the image is as it stood
+  pub as-stood : (c : Call) → number g d c ≢ 0 → leaves g d c ≡ d
+  unfolding number leaves create writeRecord allot trim kill
+  as-stood Call.checks k = refl
+  as-stood (Call.looksUp n) k = refl
+  as-stood (Call.opens n len checking code) k = refl
+  as-stood (Call.creates n f checking) k = other-both (create g d n f checking .0 .number) (missing g d n) _ d k
+  as-stood (Call.reads h b) k = refl
+  as-stood (Call.readsSector h i) k = refl
+  as-stood (Call.writes m h b) k = other-case (writeRecord g d m h b .0 .number) _ d k
+  as-stood (Call.allots h i) k = other-case (allot g d h i .0 .number) _ d k
+  as-stood (Call.trims h) k = other-both (trim g d h .0 .number) _ _ d k
+  as-stood (Call.kills h) k = other-case (kill g d h .0 .number) _ d k
+  as-stood (Call.lists i) k = refl
+  as-stood Call.counts k = refl
+
+  -- and so it is where create found an old file
+  pub old-stands : (n : List ℕ) (f : NewFile) (checking : Bool) → create g d n f checking .0 .old ≡ true → create g d n f checking .1 ≡ d
+  unfolding create
+  old-stands n f checking o = go (eqb (create g d n f checking .0 .number) 0) (missing g d n) _ o
+    where
+      go : (a b : Bool) (x : List ℕ) → (a && not b) ≡ true → cond (a && b) x d ≡ d
+      go true true x o = absurd (Members.true-T o)
+      go true false x o = refl
+      go false b x o = absurd (Members.true-T o)
+
+  pub open-refuses : (n : List ℕ) (len : ℕ) (checking : Bool) (code : ℕ) → open′ g d n len checking code .number ≢ 0 → open′ g d n len checking code .handle ≡ noHandle
+  unfolding open′
+  open-refuses n len checking code k = other-case (open′ g d n len checking code .number) _ noHandle k
+
+  pub create-refuses : (n : List ℕ) (f : NewFile) (checking : Bool) → create g d n f checking .0 .number ≢ 0
+      → (create g d n f checking .0 .handle ≡ noHandle) × (create g d n f checking .0 .old ≡ false)
+  unfolding create
+  create-refuses n f checking k =
+      (other-case (create g d n f checking .0 .number) _ noHandle k, ap (λ (b : Bool). b && not (missing g d n)) (Members.no-false {b = eqb (create g d n f checking .0 .number) 0} (λ t. k (eqb→eq _ 0 t))))
+
+  pub read-refuses : (h : Handle) (b : List ℕ) → readRecord g d h b .0 .number ≢ 0 → (readRecord g d h b .0 .handle ≡ h) × (readRecord g d h b .1 ≡ b)
+  unfolding readRecord
+  read-refuses h b k = (other-case (readRecord g d h b .0 .number) _ h k, other-case (readRecord g d h b .0 .number) _ b k)
+
+  pub sector-refuses : (h : Handle) (i : ℕ) → readSector g d h i .number ≢ 0 → (readSector g d h i .from ≡ 0) × (readSector g d h i .to ≡ 0)
+  unfolding readSector
+  sector-refuses h i k = (other-case (readSector g d h i .number) _ 0 k, other-case (readSector g d h i .number) _ 0 k)
+
+  pub write-refuses : (m : Mode) (h : Handle) (b : List ℕ) → writeRecord g d m h b .0 .number ≢ 0 → writeRecord g d m h b .0 .handle ≡ h
+  unfolding writeRecord
+  write-refuses m h b k = other-case (writeRecord g d m h b .0 .number) _ h k
+
+  pub allot-refuses : (h : Handle) (i : ℕ) → allot g d h i .0 .handle ≡ h
+  unfolding allot
+  allot-refuses h i = refl
+
+  pub trim-refuses : (h : Handle) → trim g d h .0 .handle ≡ h
+  unfolding trim
+  trim-refuses h = refl
+
+  pub kill-refuses : (h : Handle) → kill g d h .0 .handle ≡ h
+  unfolding kill
+  kill-refuses h = refl
+
+  pub list-refuses : (i : ℕ) → Listing.list g d i .number ≢ 0 → Listing.list g d i ≡ Listing.noFile (Listing.list g d i .number)
+  unfolding Listing.list
+  list-refuses i k =
+      let n : check g d ≢ 0 = λ e. k (Refusing.list-number g d i ∙ e) in
+      other-case (check g d) _ (Listing.noFile (check g d)) n ∙ ap Listing.noFile (sym (Refusing.list-number g d i))
+
+  pub counts-refuses : Listing.counts g d .number ≢ 0 → (Listing.counts g d .files ≡ 0) × (Listing.counts g d .free ≡ 0)
+  unfolding Listing.counts
+  counts-refuses k = (other-case (check g d) _ 0 k, other-case (check g d) _ 0 k)
