@@ -745,17 +745,17 @@ uint8_t FAST(list)(IMAGE, GEO, size_t number, uint8_t *name, size_t name_len, si
     const uint8_t refusal = EXAMINE(&d);
     if (refusal) return refusal;
     if (name_len < NAME) return GENIE_RANGE;
-    for (size_t row = 0; row < 8; row++)
-        for (size_t s = 0; s < d.columns; s++) {
-            const size_t slot = 32 * row + s;
-            const uint8_t *const e = entry_of(image, &d, slot);
+    for (size_t row = 0; row < 8; row++) {
+        const uint8_t *e = entry_of(image, &d, 32 * row);
+        for (size_t s = 0; s < d.columns; s++, e += SECTOR) {
             if ((e[E_FLAGS] & (EXTENSION | SYSTEM | IN_USE)) != IN_USE || number--) continue;
             memcpy(name, e + E_NAME, NAME);
             *size = size_of(e);
-            *granules = measure(image, &d, slot).owned;
+            *granules = measure(image, &d, 32 * row + s).owned;
             *more = 1;
             return GENIE_DONE;
         }
+    }
     return GENIE_DONE;
 }
 
@@ -767,8 +767,8 @@ uint8_t FAST(count)(IMAGE, GEO, size_t *files, size_t *free)
     const uint8_t refusal = EXAMINE(&d);
     if (refusal) return refusal;
     size_t told = 0, left = d.granules;
-    for (size_t s = 0; s < d.columns; s++)
-        for (size_t row = 0; row < 8; row++) told += (entry_of(image, &d, 32 * row + s)[E_FLAGS] & (EXTENSION | SYSTEM | IN_USE)) == IN_USE;
+    const uint8_t *e = entry_of(image, &d, 0);
+    for (size_t i = 0; i < 8 * d.columns; i++, e += 32) told += (e[E_FLAGS] & (EXTENSION | SYSTEM | IN_USE)) == IN_USE;
     for (size_t w = 0; w <= d.granules / 64; w++) left -= (size_t)__builtin_popcountll(d.taken[w]);
     *files = told;
     *free = left;
