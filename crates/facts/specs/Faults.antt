@@ -20,13 +20,13 @@ unfolding opened
 consistent-sample = refl
 
 -- "The 1FH byte is allowed" ..
-length-not-allowed : Bad ((hits + 0x1f, 1) ∷ [])
+length-not-allowed : Bad ((hits + 0x1f, 1) ∷ (hits + 0x28, 0) ∷ [])
 unfolding opened
 length-not-allowed = refl
 
 -- .. "and the directory fits the image": 4 granules hold a directory of 20 sectors, and none of 25.
 abbrev whole : ℕ → List ℕ
-whole above = laid 0 ((0, 0x0f ∷ []) ∷ (hits + 0x1f, above ∷ []) ∷ []) 5120
+whole above = laid 0 ((0, 0x0f ∷ 0x01 ∷ []) ∷ (hits + 0x1f, above ∷ []) ∷ []) 5120
 
 abbrev four : Geometry
 four = record { blocks = 1; units = 4; start = 0; anyone = 0 }
@@ -107,11 +107,6 @@ leads-to-no-slot : Bad ((hits + 0x81, 0x00) ∷ (e81, 0x80) ∷ (eA3 + 0x1f, 0x2
     ∷ (2614, 0x03) ∷ (2615, 0x20) ∷ (2616, 0xff) ∷ (2618, 0xff) ∷ (2620, 0xff) ∷ (2622, 0xff) ∷ [])
 unfolding opened
 leads-to-no-slot = refl
-
--- to a killed one
-leads-to-killed : Bad ((hits + 0x81, 0x00) ∷ (e81, 0x80) ∷ [])
-unfolding opened
-leads-to-killed = refl
 
 -- "Each entry before the last of a chain has four runs"
 three-runs : Bad ((eA3 + 0x1c, 0xff) ∷ [])

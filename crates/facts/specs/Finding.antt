@@ -65,10 +65,6 @@ open-by-wrong-code : open′ three sample puls 256 true 0x3412 ≡ answered 5 no
 unfolding opened
 open-by-wrong-code = refl
 
-open-misses : open′ three sample puls13 256 true 0x1234 ≡ answered 4 noHandle
-unfolding opened
-open-misses = refl
-
 -- 12 comes before 3
 open-with-long-records : open′ three sample [] 257 true 0x1234 ≡ answered 12 noHandle
 unfolding opened

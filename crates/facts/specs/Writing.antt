@@ -45,14 +45,10 @@ write-to-system-file : writeRecord three flagged Random (held 0x80 leer 0 1 0) (
 unfolding opened
 write-to-system-file = refl
 
--- 11: E set and more granules needed than owned; the last byte of the granule owned may be written
+-- 11: E set and more granules needed than owned
 write-fixed : writeRecord three fixed Random (held 0x80 leer 1280 1 0) (0x7f ∷ []) ≡ (answered 11 (held 0x80 leer 1280 1 0), fixed)
 unfolding opened
 write-fixed = refl
-
-write-within-fixed : writeRecord three fixed Random (held 0x80 leer 1279 1 0) (0x7f ∷ []) .0 ≡ answered 0 (held 0x80 leer 1280 1 0)
-unfolding opened
-write-within-fixed = refl
 
 -- "position + length over 1,966,080 in a write"; up to there the disk is too small
 write-highest : writeRecord three sample Random (held 0x80 leer 1966079 1 0) (0x7f ∷ []) ≡ (answered 9 (held 0x80 leer 1966079 1 0), sample)
