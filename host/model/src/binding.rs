@@ -1,17 +1,39 @@
-//! The exported functions of `libgenie.a`, and the one place where they are called.
+//! The exported functions of `libgenie.a`, and the one place where they are called. Where the archive is
+//! for another processor they are called in a process of its own (`served.rs`).
 
 use crate::library::Library;
+use std::rc::Rc;
 
-/// The linked library; None if the crate was built without one (see build.rs).
-pub fn linked() -> Option<Box<dyn Library>> {
-    #[cfg(genie_linked)]
-    return Some(Box::new(bound::Linked));
-    #[cfg(not(genie_linked))]
+thread_local! {
+    static LIBRARY: Option<Rc<dyn Library>> = bind();
+}
+
+#[cfg(genie_linked)]
+fn bind() -> Option<Rc<dyn Library>> {
+    Some(Rc::new(bound::Linked))
+}
+
+#[cfg(genie_served)]
+fn bind() -> Option<Rc<dyn Library>> {
+    let (runner, program) = (env!("GENIE_RUNNER"), env!("GENIE_SERVED"));
+    match crate::served::Served::start(runner, program) {
+        Ok(served) => Some(Rc::new(served)),
+        Err(why) => panic!("{runner} {program}: {why}"),
+    }
+}
+
+#[cfg(not(any(genie_linked, genie_served)))]
+fn bind() -> Option<Rc<dyn Library>> {
     None
 }
 
-/// The linked library, for tests that are nothing without it.
-pub fn linked_or_fail() -> Box<dyn Library> {
+/// The library, the same for all of a thread; None if the crate was built without one (see build.rs).
+pub fn linked() -> Option<Rc<dyn Library>> {
+    LIBRARY.with(Clone::clone)
+}
+
+/// The library, for tests that are nothing without it.
+pub fn linked_or_fail() -> Rc<dyn Library> {
     linked().expect("built without libgenie.a: build the library first, or name its directory in GENIE_LIB_DIR")
 }
 

@@ -177,6 +177,7 @@ impl Caller {
             22 => around(random, HIGHEST_POSITION.saturating_sub(length)),
             23 => *random.pick(&[HIGHEST_POSITION, HIGHEST_POSITION + 1, u32::MAX as usize, 1 << 31]),
             24 => random.draw() as usize,
+            25..=27 => (granules + random.within(2, 12)) * GRANULE_BYTES,
             _ => 0,
         };
         position as u32

@@ -218,7 +218,7 @@ impl<'a> SideBySide<'a> {
             }
         }
         if !theirs.within || !self.theirs.edges_whole() {
-            wrong.push("the library wrote beside what it was lent".into());
+            wrong.push("the library wrote beside what it was lent to write on".into());
         }
         if let Some(at) = first_difference(self.mine.bytes(), self.theirs.bytes()) {
             let (a, b) = (self.mine.bytes()[at], self.theirs.bytes()[at]);

@@ -73,7 +73,7 @@ fn plan(random: &mut Random) -> Plan {
         filling: *random.pick(&[0, 30, 60, 80, 95, 100]),
         reserved: *random.pick(&[0, 0, 5, 30]),
         comb: random.percent(35),
-        slots_left: if random.percent(35) { Some(random.within(0, 4)) } else { None },
+        slots_left: if random.percent(45) { Some(random.within(0, 4)) } else { None },
         runs: if random.percent(4) { 900 } else { 60 },
         odd: *random.pick(&[0, 30, 100]),
     }

@@ -16,6 +16,7 @@ pub mod space;
 // The library under test.
 pub mod binding;
 pub mod library;
+pub mod served;
 
 // Disks and calls made up at random, and the comparison.
 pub mod call;

@@ -3,10 +3,16 @@
 
 use crate::calls::{self, Birth, Number};
 use crate::geometry::Geometry;
+use std::rc::Rc;
 
 #[allow(clippy::too_many_arguments)]
 pub trait Library {
     fn title(&self) -> &'static str;
+    /// False once a call wrote on something it was not lent to write on, where only the library's own
+    /// side can see that.
+    fn kept_within(&self) -> bool {
+        true
+    }
     fn check(&self, image: &[u8], g: &Geometry) -> Number;
     fn look_up(&self, image: &[u8], g: &Geometry, name: &[u8], slot: &mut usize, compared: &mut usize) -> Number;
     fn open(
@@ -149,10 +155,8 @@ impl Library for Model {
 }
 
 /// The model, and the linked library if there is one: hand-written cases run on each.
-pub fn libraries() -> Vec<Box<dyn Library>> {
-    let mut all: Vec<Box<dyn Library>> = vec![Box::new(Model)];
-    if let Some(linked) = crate::binding::linked() {
-        all.push(linked);
-    }
+pub fn libraries() -> Vec<Rc<dyn Library>> {
+    let mut all: Vec<Rc<dyn Library>> = vec![Rc::new(Model)];
+    all.extend(crate::binding::linked());
     all
 }

@@ -12,7 +12,7 @@ use genie_model::random::Random;
 const SEED: u64 = 2026;
 /// Enough for every refusal and event to occur. The seconds are for a machine that hangs only: the number
 /// of calls ends the run, so that it is the same everywhere.
-const BOUNDS: Bounds = Bounds { seed: SEED, seconds: 600.0, calls: 40_000 };
+const BOUNDS: Bounds = Bounds { seed: SEED, seconds: 600.0, calls: 25_000 };
 
 /// The random calls are worth something: they reach every refusal of every call and every event.
 #[test]
@@ -36,10 +36,10 @@ fn interleavings_agree_on_the_library() {
     let library = linked_or_fail();
     let (mut seeds, mut tally) = (Random::new(SEED), Tally::default());
     println!("seed {SEED}");
-    for _ in 0..300 {
+    for _ in 0..200 {
         demand_three(&*library, seeds.draw(), &mut tally).unwrap_or_else(|text| panic!("{text}"));
     }
-    assert!(tally.accepted > 600 && tally.quiet > 120 && tally.other_image > 60, "{tally:?}");
+    assert!(tally.accepted > 400 && tally.quiet > 80 && tally.other_image > 40, "{tally:?}");
 }
 
 /// A small disk with a system file, a file with at least two extensions, and an empty one.
@@ -64,7 +64,7 @@ fn every_byte_of_a_directory_changed() {
     let mut random = Random::new(SEED);
     println!("seed {SEED}");
     let (mut kept, mut broken) = (0, 0);
-    for _ in 0..4 {
+    for _ in 0..2 {
         let disk = rich_disk(&mut random);
         let from = disk.g.start * SECTOR_BYTES;
         let mut image = disk.image.clone();
@@ -86,5 +86,5 @@ fn every_byte_of_a_directory_changed() {
             image[place] = was;
         }
     }
-    assert!(kept > 10_000 && broken > 10_000, "{kept} still consistent, {broken} not");
+    assert!(kept > 5_000 && broken > 5_000, "{kept} still consistent, {broken} not");
 }

@@ -11,7 +11,7 @@ use std::time::Instant;
 
 const USAGE: &str = "usage: differential [--seed N] [--seconds S] [--calls N] [--disk N]
   --seed N      the run's seed (1)
-  --seconds S   at most so many seconds (45)
+  --seconds S   at most so many seconds (40)
   --calls N     at most so many random calls (no limit)
   --disk N      only the disk with this seed, as a difference told it";
 
@@ -21,7 +21,7 @@ const INTERLEAVING_PART: f64 = 0.2;
 /// The bounds, and the one disk to run if there is one.
 fn asked() -> Result<(Bounds, Option<u64>), String> {
     let mut disk = None;
-    let mut bounds = Bounds { seed: 1, seconds: 45.0, calls: usize::MAX };
+    let mut bounds = Bounds { seed: 1, seconds: 40.0, calls: usize::MAX };
     let mut given = std::env::args().skip(1);
     while let Some(option) = given.next() {
         let value = given.next().ok_or(USAGE)?;
