@@ -79,11 +79,12 @@ fn plan(random: &mut Random) -> Plan {
     }
 }
 
-pub fn random_part(random: &mut Random, most: usize, least: usize, part: &mut [u8]) {
+/// Fills a name or a type with at least so many letters.
+fn random_part(random: &mut Random, least: usize, part: &mut [u8]) {
     const ALLOWED: &[u8] = b"0123456789ABCDEFGHIJKLMNOPQRSTUVWXYZ[\\]";
     const FEW: &[u8] = b"0A]";
     let letters = if random.percent(30) { FEW } else { ALLOWED };
-    let filled = if random.percent(25) { most } else { random.within(least, most) };
+    let filled = if random.percent(25) { part.len() } else { random.within(least, part.len()) };
     for (i, byte) in part.iter_mut().enumerate() {
         *byte = if i < filled { *random.pick(letters) } else { BLANK };
     }
@@ -92,8 +93,8 @@ pub fn random_part(random: &mut Random, most: usize, least: usize, part: &mut [u
 /// A well-formed name.
 pub fn random_name(random: &mut Random) -> Name {
     let mut bytes = [BLANK; FULL_NAME_BYTES];
-    random_part(random, NAME_BYTES, 1, &mut bytes[..NAME_BYTES]);
-    random_part(random, FULL_NAME_BYTES - NAME_BYTES, 0, &mut bytes[NAME_BYTES..]);
+    random_part(random, 1, &mut bytes[..NAME_BYTES]);
+    random_part(random, 0, &mut bytes[NAME_BYTES..]);
     bytes
 }
 

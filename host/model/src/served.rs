@@ -19,7 +19,7 @@ const MOST_ARGUMENTS: usize = 7;
 /// Around each part lies an edge that nobody may write on.
 const EDGE: [u8; 64] = [0xA7; 64];
 /// The number of a call under which the process ended; no call answers it.
-const ENDED: Number = 255;
+pub const ENDED: Number = 255;
 
 #[derive(Clone, Copy)]
 #[repr(u64)]
