@@ -1,11 +1,10 @@
 -- A consistent disk (01), and the same disk with one fault for each sentence, judged inconsistent. Wherever 01 allows it a fault breaks its
 -- own sentence and no other, so that a definition without that sentence would let it pass.
-use Prim.Native.Nat.{ℕ, _+_, _*_}
+use Prim.Native.Nat.{ℕ, _+_}
 use mathlib.Core.Path.{_≡_, refl}
-use mathlib.Core.List.{List, [], _∷_, _++_}
-use lib.ListN.{replicate}
+use mathlib.Core.List.{List, [], _∷_}
 use Rattle.meaning.specs.Refusals.{check}
-use Rattle.meaning.specs.Samples.{laid, changed, puls, three, sample, hits, e80, e81, eA3, opened}
+use Rattle.meaning.specs.Samples.{laid, changed, three, sample, hits, e80, e81, eA3, opened}
 use Rattle.meaning.specs.declared.Geometry.{Geometry}
 
 -- the sample disk with these bytes in these places is consistent; is not
