@@ -38,6 +38,10 @@ counts-of-flagged : counts three flagged ≡ record { number = 0; files = 1; fre
 unfolding opened
 counts-of-flagged = refl
 
+counts-refused : counts three broken ≡ record { number = 2; files = 0; free = 0 }
+unfolding opened
+counts-refused = refl
+
 -- the listing, whole: 16 blocks of 2 units, directory of 10 sectors at sector 80, granules 0, 16, 17 reserved, PULS01/DAT (257 bytes) and LEER
 -- in the first two permitted slots
 abbrev worked : List ℕ
