@@ -251,11 +251,11 @@ pub used-hit : (g : Geometry) (d : List ℕ) → Sound g d → (x : ℕ) → T (
 unfolding words
 used-hit g d c x t u z = T-not (eqb (hit g d x) 0) (beq-says (not (eqb (hit g d x) 0)) (inUse g d x) (c .hits x t) u) (Members.eq-T z)
 
-hit-yes : (g : Geometry) (d : List ℕ) (s : ℕ) → hit g d s ≢ 0 → T (inUse g d s) → T (hitHolds g d s)
+pub hit-yes : (g : Geometry) (d : List ℕ) (s : ℕ) → hit g d s ≢ 0 → T (inUse g d s) → T (hitHolds g d s)
 unfolding words
 hit-yes g d s h u = rw (Members.T-true {b = inUse g d s} u, Members.no-false {b = eqb (hit g d s) 0} (λ t. h (eqb→eq _ _ t))) tt
 
-hit-no : (g : Geometry) (d : List ℕ) (s : ℕ) → hit g d s ≡ 0 → (T (inUse g d s) → ⊥) → T (hitHolds g d s)
+pub hit-no : (g : Geometry) (d : List ℕ) (s : ℕ) → hit g d s ≡ 0 → (T (inUse g d s) → ⊥) → T (hitHolds g d s)
 unfolding words
 hit-no g d s h u = rw (Members.no-false {b = inUse g d s} u, h) tt
 

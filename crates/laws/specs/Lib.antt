@@ -17,6 +17,7 @@ pub mod Tail
 pub mod Take
 pub mod Extend
 pub mod TakeNew
+pub mod FreeSlots
 pub mod TakeOne
 pub mod Shorter
 pub mod Shrink
@@ -27,5 +28,6 @@ pub mod Steps
 pub mod Bytes
 pub mod Tally
 pub mod Rising
+pub mod Clauses
 pub mod Rewrite
 pub mod Store

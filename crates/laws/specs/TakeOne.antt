@@ -33,6 +33,7 @@ use Rattle.laws.specs.Tail
 use Rattle.laws.specs.Take
 use Rattle.laws.specs.Extend
 use Rattle.laws.specs.TakeNew
+use Rattle.laws.specs.FreeSlots
 use Rattle.laws.specs.Words.{words}
 
 -- a granule taken: which, and what it means
@@ -42,6 +43,8 @@ pub record Took (g : Geometry) (d d′ : List ℕ) (p : ℕ) : Type 0 where
   pub longer : Longer.Longer g d d′ p which
   pub long : length d′ ≡ length d
   pub file : File g d′ p
+  -- an extension takes one permitted slot, and nothing else does
+  pub slots : length (freeSlots g d) + length (chain g d p) ≡ length (freeSlots g d′) + length (chain g d′ p)
 
 free-in : (g : Geometry) (d : List ℕ) → 1 ≤ length (freeGranules g d) → In (firstOr 0 (freeGranules g d)) (freeGranules g d)
 free-in g d h = Create.first-in (freeGranules g d) (λ t. omega (arith, eqb→eq (length (freeGranules g d)) 0 t))
@@ -67,11 +70,18 @@ module _ (g : Geometry) (d : List ℕ) (c : Sound g d) (k : Places.Fits g d) (p 
   is-free = first-free g d room
 
   by-tail : (d′ : List ℕ) (m : ℕ) → Tail.Grows g d d′ p m → length d′ ≡ length d → Took g d d′ p
-  by-tail d′ m w l = record { which = m; change = Tail.grows-change g d d′ c p f m w u; longer = Tail.grows-longer g d d′ c p f m w; long = l; file = Tail.grows-file g d d′ c p f m w }
+  by-tail d′ m w l = record { which = m; change = Tail.grows-change g d d′ c p f m w u; longer = Tail.grows-longer g d d′ c p f m w; long = l; file = Tail.grows-file g d d′ c p f m w; slots = ap₂ (λ (a b : List ℕ). length a + length b) (sym (FreeSlots.slots-same g d d′ (w .above) (w .hits))) (sym (Tail.grows-chain g d d′ c p f m w)) }
 
-  by-extension : (x : ℕ) → T (isSlot g d x) → hit g d x ≡ 0 → runs g d e ≡ 4 → Took g d (withPair g p (withExtension g p d e x) x 0 n) p
+  one-slot : (d′ : List ℕ) (x : ℕ) → In x (freeSlots g d) → Extend.Extends g d d′ p x n → length (freeSlots g d) + length (chain g d p) ≡ length (freeSlots g d′) + length (chain g d′ p)
+  one-slot d′ x i w = omega (
+    arith,
+    FreeSlots.slots-less g d d′ (w .above) x i (λ q. Change.used-hit g d c p (f .slot) (Facts.file-in-use g d p f) (sym (w .hit-new) ∙ q)) (w .hits),
+    ap length (Extend.extends-chain g d d′ c p f x n w) ∙ length-append (chain g d p) (x ∷ []),
+  )
+
+  by-extension : (x : ℕ) → In x (freeSlots g d) → T (isSlot g d x) → hit g d x ≡ 0 → runs g d e ≡ 4 → Took g d (withPair g p (withExtension g p d e x) x 0 n) p
   unfolding words
-  by-extension x t z full =
+  by-extension x i t z full =
       let d′ = withPair g p (withExtension g p d e x) x 0 n in
       let w = TakeNew.new-extends g d c k p f x t z n full (is-free .0) (is-free .1) in
       record {
@@ -80,15 +90,16 @@ module _ (g : Geometry) (d : List ℕ) (c : Sound g d) (k : Places.Fits g d) (p 
         longer = Extend.extends-longer g d d′ c p f x n w;
         long = simp length-set;
         file = Extend.extends-file g d d′ c p f x n w;
+        slots = one-slot d′ x i w;
       }
 
-  extended-took : (d′ : List ℕ) (xs : List ℕ) → ((x : ℕ) → In x xs → T (isSlot g d x) × (hit g d x ≡ 0)) → runs g d e ≡ 4 → extended g p xs d e n ≡ grown d′ → Took g d d′ p
+  extended-took : (d′ : List ℕ) (xs : List ℕ) → ((x : ℕ) → In x xs → In x (freeSlots g d)) → runs g d e ≡ 4 → extended g p xs d e n ≡ grown d′ → Took g d d′ p
   unfolding extended
   extended-took d′ [] a full q = absurd (let z : _≡_ {A = ℕ} 0 1 = cc in omega arith)
   extended-took d′ (x ∷ xs) a full q =
       let r : withPair g p (withExtension g p d e x) x 0 n ≡ d′ = cc in
-      let s = a x Members.In.here in
-      subst (λ (l : List ℕ). Took g d l p) r (by-extension x (s .0) (s .1) full)
+      let i = a x Members.In.here in let s = Create.slots-free g d x i in
+      subst (λ (l : List ℕ). Took g d l p) r (by-extension x i (s .0) (s .1) full)
 
   pub take-one : (d′ : List ℕ) → takeOne g p d ≡ grown d′ → Took g d d′ p
   unfolding takeOne words
@@ -105,4 +116,4 @@ module _ (g : Geometry) (d : List ℕ) (c : Sound g d) (k : Places.Fits g d) (p 
           subst (λ (l : List ℕ). Took g d l p) s (by-tail (withPair g p d e (runs g d e) n) n (Take.paired-grows g d c k p f n (ltb→lt (runs g d e) 4 t) (is-free .0) (is-free .1)) (simp length-set))
       go (Members.Test.fails a) (Members.Test.fails b) =
           let r : extended g p (freeSlots g d) d e n ≡ grown d′ = rw (Members.no-false {b = lengthens g p d} a, Members.no-false {b = ltb (runs g d e) 4} b) at q in
-          extended-took d′ (freeSlots g d) (Create.slots-free g d) (omega (arith, nltb→le (runs g d e) 4 (not-T (ltb (runs g d e) 4) b), Entry.runs-le g d e)) r
+          extended-took d′ (freeSlots g d) (λ x i. i) (omega (arith, nltb→le (runs g d e) 4 (not-T (ltb (runs g d e) 4) b), Entry.runs-le g d e)) r

@@ -223,7 +223,7 @@ pub create-serves : (g : Geometry) (d n : List ℕ) (f : NewFile) (checking : Bo
 create-serves g d n f checking e = record {
   old = λ o. (old o, Passing.old-stands g d n f checking o);
   new = λ o. (Changing.create-becomes g d n f checking e o, live o);
-  handle′ = λ o. made g d n f checking e o ∙ sym (ap (λ (h : Handle). record { slot = h .slot; name = n; at = 0; len = f .len; level = 0 }) (made g d n f checking e o));
+  handle′ = λ o. made g d n f checking e o;
 }
   where
     old : create g d n f checking .0 .old ≡ true → Opened g d n (f .len) checking (f .main) (create g d n f checking .0 .handle)

@@ -70,6 +70,7 @@ pub record Grew (g : Geometry) (d d′ : List ℕ) (p k : ℕ) : Type 0 where
   pub others : (n : List ℕ) → n ≢ nameOf g d p → hush (plain g d′ n) ≡ hush (plain g d n)
   pub beyond′ : (n : List ℕ) → n ≢ nameOf g d p → Others.beyond g d′ n ≡ Others.beyond g d n
   pub small : Small d → Small d′
+  pub slots : length (freeSlots g d) + length (chain g d p) ≡ length (freeSlots g d′) + length (chain g d′ p)
   pub same : (i : ℕ) → (In (i / granuleBytes) (directoryGranules g d) → ⊥) → byte d′ i ≡ byte d i
 
 module _ (g : Geometry) where
@@ -93,6 +94,7 @@ module _ (g : Geometry) where
     others = λ n q. refl;
     beyond′ = λ n q. refl;
     small = λ b. b;
+    slots = refl;
     same = λ i o. refl;
   }
 
@@ -122,6 +124,7 @@ module _ (g : Geometry) where
         others = λ b q. Others.others-plain g d d₁ c p h s b (λ z a. q (sym a)) (λ z a. q (sym a ∙ n));
         beyond′ = λ b q. Others.beyond-plain g d d₁ c p h s b (λ z a. q (sym a)) (λ z a. q (sym a ∙ n));
         small = b;
+        slots = w .slots;
         same = l .same;
       }
 
@@ -146,6 +149,7 @@ module _ (g : Geometry) where
     others = λ n q. y .others n (λ z. q (z ∙ x .name)) ∙ x .others n q;
     beyond′ = λ n q. y .beyond′ n (λ z. q (z ∙ x .name)) ∙ x .beyond′ n q;
     small = λ b. y .small (x .small b);
+    slots = x .slots ∙ y .slots;
     same = λ i o. y .same i (λ z. o (subst (λ (v : ℕ). In (i / granuleBytes) (count (g .start / granuleSectors) ((10 + v) / granuleSectors))) (x .above) z)) ∙ x .same i o;
   }
 

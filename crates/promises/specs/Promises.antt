@@ -11,15 +11,15 @@ use mathlib.Core.List.{List, [], _∷_, _++_}
 use lib.Dec.{T, leb, eqb}
 use lib.ListN.{length, getD, take, drop}
 use lib.Seq.{slice}
-use Rattle.meaning.specs.Lists.{keep, each, has}
+use Rattle.meaning.specs.Lists.{keep, each, has, firstOr}
 use Rattle.meaning.specs.Bits.{bit}
 use Rattle.meaning.specs.Layout.{fitsGeometry, granules, granuleBytes, granuleSectors, sectors, highest, sectorNumbers, mostBlocks, mostUnits, slots, isSlot, hit, byte, granulesFor, directoryGranules}
 use Rattle.meaning.specs.Names.{hash, wellFormed}
-use Rattle.meaning.specs.Entries.{inUse, extension, nameOf, sectorCount}
-use Rattle.meaning.specs.Chain.{owned, files}
+use Rattle.meaning.specs.Entries.{inUse, extension, nameOf, sectorCount, runs}
+use Rattle.meaning.specs.Chain.{chain, owned, files}
 use Rattle.meaning.specs.Consistent.{consistent}
 use Rattle.meaning.specs.Free.{freeGranules, freeSlots}
-use Rattle.meaning.specs.Growth.{Grown, noSlot, grow}
+use Rattle.meaning.specs.Growth.{Grown, grown, grow, tail, lengthens}
 use Rattle.meaning.specs.Refusals.{check, movedTo, noHandle}
 use Rattle.meaning.specs.LookUp.{lookUp, named}
 use Rattle.meaning.specs.Open.{open′}
@@ -198,14 +198,14 @@ pub record Opened (g : Geometry) (d n : List ℕ) (len : ℕ) (checking : Bool) 
   pub full : Full g file checking code → h .level ≡ 0
   pub worker : (Full g file checking code → ⊥) → (code ≡ workerCode file) × (h .level ≡ storedLevel file)
 
--- Create: an existing file is opened and reported as old; otherwise the file is born, and its handle has level 0
+-- Create: an existing file is opened and reported as old; otherwise the file is born, in the first permitted slot, and its handle has level 0
 pub record Creates (g : Geometry) (d n : List ℕ) (f : NewFile) (checking : Bool) : Type 0 where
   pub old : create g d n f checking .0 .old ≡ true
       → Opened g d n (f .len) checking (f .main) (create g d n f checking .0 .handle) × (create g d n f checking .1 ≡ d)
   pub new : create g d n f checking .0 .old ≡ false
       → Becomes g d (create g d n f checking .1) n nothing (found (bornAs f)) × Live g (create g d n f checking .1) (create g d n f checking .0 .handle)
   pub handle′ : create g d n f checking .0 .old ≡ false
-      → create g d n f checking .0 .handle ≡ record { slot = create g d n f checking .0 .handle .slot; name = n; at = 0; len = f .len; level = 0 }
+      → create g d n f checking .0 .handle ≡ record { slot = firstOr 0 (freeSlots g d); name = n; at = 0; len = f .len; level = 0 }
 
 -- Read record: the plain file's bytes at the position, to the start of the buffer; the rest of it is untouched, the position advances
 pub record Reads (g : Geometry) (d : List ℕ) (h : Handle) (b : List ℕ) : Type 0 where
@@ -325,6 +325,18 @@ pub record NewInRange (f : NewFile) : Type 0 where
   pub some : 1 ≤ f .len
   pub most : f .len ≤ 256
 
+-- Fewer permitted slots are free than the rule needs: taking the granules one at a time, the file at slot p has put an extension into each
+-- slot that was free, and then comes to a granule that is a run beyond the fourth of its last entry.
+pub record Stuck (g : Geometry) (d : List ℕ) (p more : ℕ) : Type 0 where
+  pub took : ℕ
+  pub fewer : took < more
+  pub disk : List ℕ
+  pub so-far : grow g p took d ≡ grown disk
+  pub all-used : length (chain g disk p) ≡ length (chain g d p) + length (freeSlots g d)
+  pub none-left : freeSlots g disk ≡ []
+  pub no-longer : lengthens g p disk ≡ false
+  pub four : 4 ≤ runs g disk (tail g p disk)
+
 module _ (g : Geometry) (d : List ℕ) where
   -- 1 geometry or image length not as above, 2 disk not consistent: every call
   abbrev pub diskCases : Table → Table
@@ -346,11 +358,11 @@ module _ (g : Geometry) (d : List ℕ) where
   abbrev pub barred : ℕ → Handle → ℕ × Type 0
   barred most h = (6, (most < h .level) ⊎ T (isSystem (fileOf h)))
 
-  -- 11 E set and more granules needed than owned; 9 more further granules needed than are free; 8 a run beyond the fourth finds no
-  -- permitted slot for its extension
+  -- 11 E set and more granules needed than owned; 9 more further granules needed than are free; 8 fewer permitted slots free than the
+  -- rule needs
   abbrev pub growthCases : Handle → ℕ → Table
   growthCases h more =
-      (11, T (mayNotGrow (fileOf h)) × (0 < more)) ∷ (9, length (freeGranules g d) < more) ∷ (8, grow g (h .slot) more d ≡ noSlot) ∷ []
+      (11, T (mayNotGrow (fileOf h)) × (0 < more)) ∷ (9, length (freeGranules g d) < more) ∷ (8, Stuck g d (h .slot) more) ∷ []
 
   -- 4 name not found
   abbrev pub NoFile : List ℕ → Type 0

@@ -6,7 +6,7 @@ use mathlib.Core.List.{List, [], _∷_, _++_, map}
 use Prim.Native.Nat.{ℕ, zero, suc, _+_, _-_, _*_, _/_, _%_, _≤_, _<_}
 use native.Mathlib.Omega.{arith}
 use lib.ListN.{length, getD}
-use lib.Dec.{T, eqb, leb, ltb, T-not, not-T, eqb→eq, leb→le, le→leb, ltb→lt, lt→ltb}
+use lib.Dec.{T, eqb, leb, ltb, T-not, not-T, eqb→eq, leb→le, le→leb, ltb→lt, lt→ltb, nltb→le}
 use Rattle.meaning.specs.Lists.{all, any, distinct, same, firstOr}
 use Rattle.meaning.specs.Layout.{fitsGeometry, granules, granuleBytes, granuleSectors, sectors, highest, mostBlocks, mostUnits, isSlot, granulesFor, sectorNumbers}
 use Rattle.meaning.specs.Names.{wellFormed}
@@ -31,8 +31,12 @@ use Rattle.meaning.specs.declared.NewFile.{NewFile}
 use Rattle.meaning.specs.declared.Mode.{Mode}
 use Rattle.laws.specs.Members
 use Rattle.laws.specs.Members.{In, Distinct}
+use Rattle.laws.specs.Facts
+use Rattle.laws.specs.Places
+use Rattle.laws.specs.KillMeans
 use Rattle.laws.specs.Others
 use Rattle.laws.specs.Words.{words}
+use Rattle.promises.specs.Sticking
 use Rattle.promises.specs.Promises
 use Rattle.promises.specs.Promises.{Table, Rows, Exactly, Call, number, table, Fits, InRange, NewInRange, Live, Full}
 
@@ -338,10 +342,10 @@ none-iff : (xs : List ℕ) → T (eqb (length xs) 0) ↔ (xs ≡ [])
 none-iff [] = (λ t. refl, λ e. tt)
 none-iff (x ∷ xs) = (λ t. absurd (omega (arith, eqb→eq (length (x ∷ xs)) 0 t)), λ e. absurd (let z : _≡_ {A = ℕ} 0 1 = cc in omega arith))
 
-stuck-iff : (t : Grown) → T (fails t) ↔ (t ≡ noSlot)
+fails-iff : (t : Grown) → T (fails t) ↔ (t ≡ noSlot)
 unfolding fails
-stuck-iff (grown d) = (λ t. absurd t, λ e. absurd (let z : _≡_ {A = ℕ} 0 1 = cc in omega arith))
-stuck-iff noSlot = (λ t. refl, λ e. tt)
+fails-iff (grown d) = (λ t. absurd t, λ e. absurd (let z : _≡_ {A = ℕ} 0 1 = cc in omega arith))
+fails-iff noSlot = (λ t. refl, λ e. tt)
 
 -- The calls -------------------------------------------------------------------------------------------------------------------------
 
@@ -359,16 +363,44 @@ module _ (g : Geometry) (d : List ℕ) where
   unfolding fileAt
   barred-iff most h = either-iff (ltb most (h .level)) (system g d (h .slot)) (lt-iff most (h .level)) (λ t. t, λ t. t)
 
-  growth-reading : (h : Handle) (k : ℕ) (E : Type 0) → Reading (cannotGrow g d (h .slot) k) (Promises.growthCases g d h k) E
+  -- what a call that writes has passed before the tests of its growth
+  record Writes (h : Handle) : Type 0 where
+    fits : Places.Fits g d
+    sound : Facts.Sound g d
+    file : Facts.File g d (h .slot)
+    user : T (not (system g d (h .slot)))
+
+  holds : (b : Bool) {C : Type 0} → (T b ↔ C) → ((C → ⊥) → ⊥) → T b
+  holds b i n = KillMeans.yes-T b (λ t. n (λ x. T-not b t (i .1 x)))
+
+  writes : (h : Handle) → ((Fits g d → ⊥) → ⊥) → (consistent g d ≡ false → ⊥) → ((Live g d h → ⊥) → ⊥)
+      → ((4 < h .level) ⊎ T (Promises.isSystem (fileAt g d (h .slot))) → ⊥) → Writes h
   unfolding fileAt
-  growth-reading h k E = (
+  writes h a b l u =
+      let v = live-iff g d h .0 (holds (fresh g d h) (live-iff g d h) l) in
+      record {
+        fits = Places.fits g d (holds (fitsGeometry g d) (fits-iff g d) a);
+        sound = Facts.sound g d (Members.T-true (KillMeans.yes-T (consistent g d) (λ t. b (false-iff (consistent g d) .0 t))));
+        file = record { slot = v .slot; primary′ = Members.and-i (inUse g d (h .slot)) (not (extension g d (h .slot))) (v .used) (v .first) };
+        user = not-T (system g d (h .slot)) (λ t. u (inr t));
+      }
+
+  stuck : (h : Handle) (k : ℕ) → Writes h → (length (freeGranules g d) < k → ⊥) → T (fails (grow g (h .slot) k d)) ↔ Promises.Stuck g d (h .slot) k
+  stuck h k w n =
+      let i = Sticking.stuck-iff g d (h .slot) k (w .sound) (w .fits) (w .file) (w .user) (nltb→le (length (freeGranules g d)) k (not-T (ltb (length (freeGranules g d)) k) (λ t. n (ltb→lt (length (freeGranules g d)) k t)))) in
+      let j = fails-iff (grow g (h .slot) k d) in
+      (λ t. i .0 (j .0 t), λ s. j .1 (i .1 s))
+
+  growth-reading : (h : Handle) (k : ℕ) (E : Type 0) → (E → Writes h) → Reading (cannotGrow g d (h .slot) k) (Promises.growthCases g d h k) E
+  unfolding fileAt
+  growth-reading h k E w = (
     refl,
     λ x. both-iff (noGrowth g d (h .slot)) (ltb 0 k) (λ t. t, λ t. t) (lt-iff 0 k),
-    (refl, λ x. lt-iff (length (freeGranules g d)) k, (refl, λ x. stuck-iff (grow g (h .slot) k d), tt)),
+    (refl, λ x. lt-iff (length (freeGranules g d)) k, (refl, λ x. stuck h k (w (x .0 .0)) (x .1), tt)),
   )
 
-  growth-needed : (h : Handle) (k k′ : ℕ) → k ≡ k′ → (E : Type 0) → Reading (cannotGrow g d (h .slot) k) (Promises.growthCases g d h k′) E
-  growth-needed h k k′ e E = subst (λ (n : ℕ). Reading (cannotGrow g d (h .slot) k) (Promises.growthCases g d h n) E) e (growth-reading h k E)
+  growth-needed : (h : Handle) (k k′ : ℕ) → k ≡ k′ → (E : Type 0) → (E → Writes h) → Reading (cannotGrow g d (h .slot) k) (Promises.growthCases g d h k′) E
+  growth-needed h k k′ e E w = subst (λ (n : ℕ). Reading (cannotGrow g d (h .slot) k) (Promises.growthCases g d h n) E) e (growth-reading h k E w)
 
   check-numbers : Exactly (check g d) (Promises.diskCases g d [])
   unfolding check
@@ -488,7 +520,7 @@ module _ (g : Geometry) (d : List ℕ) where
         (
           refl,
           λ x. stale h,
-          (refl, λ x. barred-iff 4 h, growth-needed h (toWrite g d m h) _ needed _),
+          (refl, λ x. barred-iff 4 h, growth-needed h (toWrite g d m h) _ needed _ (λ x. writes h (x .0 .0 .0 .0 .1) (x .0 .0 .0 .1) (x .0 .1) (x .1))),
         ),
       ),
     ),
@@ -500,7 +532,7 @@ module _ (g : Geometry) (d : List ℕ) where
   allot-numbers : (h : Handle) (k : ℕ) → Exactly (allot g d h k .0 .number) (table g d (Call.allots h k))
   unfolding allot fileAt
   allot-numbers h k = exactly (allotRefusals g d h k) (table g d (Call.allots h k))
-      (refl, λ x. no-fit, (refl, λ x. unsound, (refl, λ x. not-iff (all (inRange h ∷ ltb k sectorNumbers ∷ [])) (both-iff (inRange h) (ltb k sectorNumbers) (range-iff h) (lt-iff k sectorNumbers)), (refl, λ x. stale h, (refl, λ x. barred-iff 4 h, growth-reading h (toAllot g d h k) _))))) tt
+      (refl, λ x. no-fit, (refl, λ x. unsound, (refl, λ x. not-iff (all (inRange h ∷ ltb k sectorNumbers ∷ [])) (both-iff (inRange h) (ltb k sectorNumbers) (range-iff h) (lt-iff k sectorNumbers)), (refl, λ x. stale h, (refl, λ x. barred-iff 4 h, growth-reading h (toAllot g d h k) _ (λ x. writes h (x .0 .0 .0 .0 .1) (x .0 .0 .0 .1) (x .0 .1) (x .1))))))) tt
 
   trim-numbers : (h : Handle) → Exactly (trim g d h .0 .number) (table g d (Call.trims h))
   unfolding trim
