@@ -1,30 +1,23 @@
 -- Demand 3, its last sentence: if no call takes or gives back a granule or an entry, the two images are equal byte for byte
-use mathlib.Core.Path.{_≡_, refl, ap, ap₂, sym, _∙_, subst}
+use mathlib.Core.Path.{_≡_, refl, ap, sym, _∙_, subst}
 use mathlib.Core.Logic.{_≢_, _⊎_, inl, inr}
-use mathlib.Core.Bool.{Bool, true, false, not, cond, _&&_, _||_}
-use mathlib.Core.List.{List, [], _∷_, _++_, map, head-eq-of-cons-eq}
-use Prim.Native.Nat.{ℕ, zero, suc, _+_, _*_, _≤_, _<_}
+use mathlib.Core.Bool.{Bool}
+use mathlib.Core.List.{List, [], _∷_, _++_, head-eq-of-cons-eq}
+use Prim.Native.Nat.{ℕ, _+_, _<_}
 use native.Mathlib.Omega.{arith}
-use lib.ListN.{length, getD, set, take}
+use lib.ListN.{length, set, take}
 use lib.Seq.{ext-getD}
-use lib.Dec.{T, eqb, eqb→eq, leb, ltb, not-T, T-not, lt→ltb, le→leb}
-use Rattle.meaning.specs.Layout.{fitsGeometry, byte, entryAt, granules, granuleBytes}
+use lib.Dec.{T, eqb, leb, ltb, lt→ltb, le→leb}
+use Rattle.meaning.specs.Layout.{byte, entryAt}
 use Rattle.meaning.specs.Entries.{nameOf}
-use Rattle.meaning.specs.Chain.{owned}
-use Rattle.meaning.specs.Consistent.{consistent}
 use Rattle.meaning.specs.Lists.{firstOr}
 use Rattle.meaning.specs.Refusals.{first, movedTo}
 use Rattle.meaning.specs.Open.{open′, openedAt}
-use Rattle.meaning.specs.Create.{create}
 use Rattle.meaning.specs.Read.{readRecord}
 use Rattle.meaning.specs.Write.{writeRecord}
-use Rattle.meaning.specs.Allot.{allot}
-use Rattle.meaning.specs.Trim.{trim}
-use Rattle.meaning.specs.Kill.{kill}
 use Rattle.meaning.specs.LookUp.{named, missing}
 use Rattle.meaning.specs.declared.Geometry.{Geometry}
 use Rattle.meaning.specs.declared.Handle.{Handle}
-use Rattle.meaning.specs.declared.NewFile.{NewFile}
 use Rattle.meaning.specs.declared.Mode.{Mode}
 use Rattle.laws.specs.Members
 use Rattle.laws.specs.Facts
@@ -32,7 +25,6 @@ use Rattle.laws.specs.Facts.{Sound}
 use Rattle.laws.specs.Places
 use Rattle.laws.specs.KillMeans
 use Rattle.laws.specs.Named
-use Rattle.laws.specs.Words.{words}
 use Rattle.together.specs.Statement.{Name, Call, looksUp, opens, creates, moves, reads, readsSector, writes, allots, trims, kills, Side, known, answer, handleAt, Turn, one, two, Interleaving, none, left, right, World, start, next, after, Taken}
 use Rattle.together.specs.State.{Held, Good}
 use Rattle.together.specs.Effects

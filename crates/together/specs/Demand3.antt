@@ -1,22 +1,22 @@
 -- Demand 3, proved; it is stated in Statement.antt
 use mathlib.Core.Path.{_≡_, refl, ap, sym, _∙_, subst}
 use mathlib.Core.Logic.{_≢_}
-use mathlib.Core.Bool.{true}
 use mathlib.Core.List.{List, [], _∷_, List-discrete}
 use Prim.Native.Nat.{ℕ}
 use native.Mathlib.Decide.{ℕ-discrete}
-use Rattle.meaning.specs.Plain.{Found, found, nothing, plain, hush}
+use Rattle.meaning.specs.Plain.{Found, found, nothing, plain, hush, AreBytes}
 use Rattle.meaning.specs.declared.Geometry.{Geometry}
 use Rattle.laws.specs.Facts
-use Rattle.together.specs.Statement.{Name, Call, Turn, one, two, Interleaving, none, left, right, World, start, next, after, Taken, Accepted, Quiet, AllQuiet, Same, Grip, Agree, Demand3}
-use Rattle.together.specs.State.{State, stands, effect, effects, Good}
+use Rattle.together.specs.Statement.{Name, Call, Turn, one, two, Interleaving, none, left, right, AllBring, World, start, next, after, Taken, Accepted, Quiet, AllQuiet, Same, Demand3}
+use Rattle.together.specs.State.{State, stands, effect, Good}
 use Rattle.together.specs.Interleavings
-use Rattle.together.specs.Interleavings.{Fine, swap, swapped, stateIn}
+use Rattle.together.specs.Interleavings.{Fine, swap, stateIn}
+use Rattle.together.specs.Heard
 use Rattle.together.specs.SameFiles.{hushed-same, same-whole}
 use Rattle.together.specs.Quiet
 use Rattle.together.specs.Quiet.{Even, tally}
 use Rattle.together.specs.Bytes
-use Rattle.together.specs.Bytes.{EvenTurn, Evenly}
+use Rattle.together.specs.Bytes.{Evenly}
 
 -- Whether a call takes or gives back something hangs on its own list alone ---------------------------------------------------
 
@@ -121,6 +121,19 @@ second-same g a b ab d k {zs = zs} {zs′ = zs′} i i′ t t′ =
     ∙ first-same g b a (λ q. ab (sym q)) d k (Interleavings.swap-lists i) (Interleavings.swap-lists i′) (Interleavings.swap-accepted g a b zs (start d) t) (Interleavings.swap-accepted g a b zs′ (start d) t′)
     ∙ ap (stateIn g b) (Interleavings.swap-after g a b zs′ (start d))
 
+first-heard : (g : Geometry) (a b : Name) → a ≢ b → (d : List ℕ) → Good g d → {xs ys : List Call} {zs zs′ : List Turn} → Interleaving xs ys zs → Interleaving xs ys zs′
+    → Accepted g a b (start d) zs → Accepted g a b (start d) zs′ → AreBytes d → AllBring xs → AllBring ys → after g a b (start d) zs .first .heard ≡ after g a b (start d) zs′ .first .heard
+first-heard g a b ab d k i i′ t t′ u p q =
+    let f = Interleavings.start-fine g a b d k in
+    Heard.end-heard g a b ab i (start d) f t u p q ∙ sym (Heard.end-heard g a b ab i′ (start d) f t′ u p q)
+
+second-heard : (g : Geometry) (a b : Name) → a ≢ b → (d : List ℕ) → Good g d → {xs ys : List Call} {zs zs′ : List Turn} → Interleaving xs ys zs → Interleaving xs ys zs′
+    → Accepted g a b (start d) zs → Accepted g a b (start d) zs′ → AreBytes d → AllBring xs → AllBring ys → after g a b (start d) zs .second .heard ≡ after g a b (start d) zs′ .second .heard
+second-heard g a b ab d k {zs = zs} {zs′ = zs′} i i′ t t′ u p q =
+    ap (λ (w : World). w .first .heard) (sym (Interleavings.swap-after g a b zs (start d)))
+    ∙ first-heard g b a (λ e. ab (sym e)) d k (Interleavings.swap-lists i) (Interleavings.swap-lists i′) (Interleavings.swap-accepted g a b zs (start d) t) (Interleavings.swap-accepted g a b zs′ (start d) t′) u q p
+    ∙ ap (λ (w : World). w .first .heard) (Interleavings.swap-after g a b zs′ (start d))
+
 pub demand3 : Demand3
 unfolding Good stands
 demand3 g a b ab d fit con xs ys zs zs′ i i′ t t′ =
@@ -135,6 +148,7 @@ demand3 g a b ab d fit con xs ys zs zs′ i i′ t t′ =
       third = λ n na nb. (same-whole _ _ (third′ n na nb), third′ n na nb);
       image = image-same g a b ab d k i i′ t t′;
       consistent′ = (Interleavings.end-fine g a b zs (start d) (fine g a b ab d k i i′ t t′) t .good .1, Interleavings.end-fine g a b zs′ (start d) (fine g a b ab d k i i′ t t′) t′ .good .1);
+      heard = λ u p q. (first-heard g a b ab d k i i′ t t′ u p q, second-heard g a b ab d k i i′ t t′ u p q);
       handles = (ap (λ (o : State). o .grips) first′, ap (λ (o : State). o .grips) second′);
     }
   where

@@ -1,24 +1,22 @@
 -- What each accepted call of a list does, from demand 2 of the calls
-use mathlib.Core.Path.{_≡_, refl, ap, ap₂, sym, _∙_, subst}
-use mathlib.Core.Logic.{_≢_, _⊎_, inl, inr}
-use mathlib.Core.Bool.{Bool, true, false, not, cond, _&&_, _||_}
+use mathlib.Core.Path.{_≡_, refl, ap, sym, _∙_}
+use mathlib.Core.Logic.{_≢_}
+use mathlib.Core.Bool.{Bool, true, false, not, cond}
 use mathlib.Core.List.{List, [], _∷_, _++_, map}
-use Prim.Native.Nat.{ℕ, zero, suc, _+_, _*_, _%_, _≤_, _<_}
+use Prim.Native.Nat.{ℕ, zero, suc, _+_, _<_}
 use native.Mathlib.Omega.{arith}
 use lib.ListN.{length, getD, set, take, List·getD-map}
-use lib.Dec.{T, eqb, eqb→eq, ltb, not-T, T-not, ltb→lt}
-use Rattle.meaning.specs.Lists.{count}
+use lib.Dec.{T, eqb, eqb→eq, ltb, T-not, ltb→lt}
 use Rattle.meaning.specs.Layout.{fitsGeometry}
-use Rattle.meaning.specs.Bits.{bit}
 use Rattle.meaning.specs.Entries.{system, nameOf, accessLevel}
 use Rattle.meaning.specs.Consistent.{consistent}
 use Rattle.meaning.specs.Lists.{firstOr}
 use Rattle.meaning.specs.Free.{freeSlots}
-use Rattle.meaning.specs.Refusals.{first, movedTo, noHandle, cannotGrow, lacking}
+use Rattle.meaning.specs.Refusals.{movedTo, noHandle}
 use Rattle.meaning.specs.LookUp.{lookUp, named, missing}
 use Rattle.meaning.specs.Open.{open′, full, openedAt}
 use Rattle.meaning.specs.Create.{create}
-use Rattle.meaning.specs.Read.{readRecord, readSector}
+use Rattle.meaning.specs.Read.{readRecord}
 use Rattle.meaning.specs.Write.{writeRecord}
 use Rattle.meaning.specs.Allot.{allot}
 use Rattle.meaning.specs.Trim.{trim}
@@ -36,7 +34,6 @@ use Rattle.laws.specs.Create
 use Rattle.promises.specs.Grow
 use Rattle.promises.specs.Trim
 use Rattle.promises.specs.WriteMeans
-use Rattle.laws.specs.Words.{words}
 use Rattle.together.specs.Statement.{Name, Call, looksUp, opens, creates, moves, reads, readsSector, writes, allots, trims, kills, Side, known, answer, handleAt, Grip, grip}
 use Rattle.together.specs.State.{State, stateOf, stands, changed, born, levelOf, effect, Held, Good, atPlace}
 

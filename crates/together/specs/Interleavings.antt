@@ -1,10 +1,10 @@
 -- Two lists, interleaved: where a list's file and handles stand at the end hangs on that list alone
-use mathlib.Core.Path.{_≡_, refl, ap, sym, _∙_}
+use mathlib.Core.Path.{_≡_, refl, ap, _∙_}
 use mathlib.Core.Logic.{_≢_}
 use mathlib.Core.List.{List, [], _∷_}
 use Prim.Native.Nat.{ℕ}
 use Rattle.meaning.specs.declared.Geometry.{Geometry}
-use Rattle.together.specs.Statement.{Name, Call, Side, answer, Turn, one, two, Interleaving, none, left, right, World, start, next, after, Taken, Accepted, AllQuiet}
+use Rattle.together.specs.Statement.{Name, Call, Turn, one, two, Interleaving, none, left, right, World, start, next, after, Taken, Accepted}
 use Rattle.together.specs.State.{State, stateOf, stands, effect, effects, Held, Good}
 use Rattle.together.specs.Effects
 use Rattle.together.specs.Effects.{Effect}

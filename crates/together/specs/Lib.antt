@@ -2,6 +2,7 @@ pub mod Statement
 pub mod State
 pub mod Effects
 pub mod Interleavings
+pub mod Heard
 pub mod SameFiles
 pub mod Quiet
 pub mod Still

@@ -1,24 +1,20 @@
 -- Calls that neither take nor give back a granule or an entry: what they leave
-use mathlib.Core.Path.{_≡_, refl, ap, ap₂, sym, _∙_, subst}
+use mathlib.Core.Path.{_≡_, refl, ap, sym, _∙_, subst}
 use mathlib.Core.Logic.{_≢_, _⊎_, inl, inr}
 use mathlib.Core.Bool.{Bool, true, false, not, cond, _&&_, _||_}
-use mathlib.Core.List.{List, [], _∷_, _++_, map, append-nil}
-use Prim.Native.Nat.{ℕ, zero, suc, _+_, _-_, _*_, _/_, _%_, _≤_, _<_, max}
+use mathlib.Core.List.{List, [], _∷_, append-nil}
+use Prim.Native.Nat.{ℕ, suc, _+_, _-_, _*_, _/_, _≤_, max}
 use native.Mathlib.Omega.{arith}
-use native.Mathlib.Decide.{ℕ-discrete, decLt}
-use lib.ListN.{length, getD, set, take, replicate, length-take}
-use lib.Dec.{T, eqb, eqb→eq, ltb, leb, not-T, T-not, ltb→lt, leb→le}
-use Rattle.meaning.specs.Lists.{count, keep, each, has, times, all}
-use Rattle.meaning.specs.Layout.{fitsGeometry, byte, isSlot, entryAt, granuleBytes, granuleSectors, directoryGranules, aboveTen}
-use Rattle.meaning.specs.Bits.{bit}
-use Rattle.meaning.specs.Entries.{system, nameOf, sizeOf, keepsSpace}
+use lib.ListN.{length, take, replicate, length-take}
+use lib.Dec.{T, eqb, eqb→eq, ltb, leb, T-not, ltb→lt, leb→le}
+use Rattle.meaning.specs.Lists.{keep, each, has, times, all}
+use Rattle.meaning.specs.Layout.{entryAt, granuleBytes, granuleSectors, directoryGranules, aboveTen}
+use Rattle.meaning.specs.Entries.{nameOf, sizeOf, keepsSpace}
 use Rattle.meaning.specs.Chain.{chain, owned, place}
-use Rattle.meaning.specs.Consistent.{consistent}
 use Rattle.meaning.specs.Lists.{firstOr}
-use Rattle.meaning.specs.Free.{freeSlots}
 use Rattle.meaning.specs.Growth.{grow, diskOr}
 use Rattle.meaning.specs.Drop.{dropOne}
-use Rattle.meaning.specs.Refusals.{first, lacking, larger, inRange}
+use Rattle.meaning.specs.Refusals.{lacking, larger, inRange}
 use Rattle.meaning.specs.Create.{create}
 use Rattle.meaning.specs.Write.{writeRecord, sizeAfter, withSize, store}
 use Rattle.meaning.specs.Allot.{allot}

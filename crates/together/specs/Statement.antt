@@ -2,17 +2,17 @@
 -- which every call is accepted agree in what `Agree` says, at the end of this page. The proof is in Demand3.antt.
 --
 -- Everything here is about the calls of `meaning`, which answer as the program does: each function's contract says so.
-use Prim.Native.Nat.{ℕ, _-_}
+use Prim.Native.Nat.{ℕ, _<_}
 use mathlib.Core.Path.{_≡_}
 use mathlib.Core.Logic.{_≢_}
 use mathlib.Core.Bool.{Bool, true, not, cond}
 use mathlib.Core.List.{List, [], _∷_, _++_, map}
 use lib.Dec.{T, ltb}
-use lib.ListN.{length, getD, set, take, drop}
+use lib.ListN.{length, getD, set}
+use lib.Seq.{slice}
 use Rattle.meaning.specs.Lists.{each}
 use Rattle.meaning.specs.Bits.{bit}
 use Rattle.meaning.specs.Layout.{fitsGeometry}
-use Rattle.meaning.specs.Entries.{system}
 use Rattle.meaning.specs.Chain.{chain, owned}
 use Rattle.meaning.specs.Consistent.{consistent}
 use Rattle.meaning.specs.Refusals.{movedTo, noHandle}
@@ -24,7 +24,7 @@ use Rattle.meaning.specs.Write.{writeRecord}
 use Rattle.meaning.specs.Allot.{allot}
 use Rattle.meaning.specs.Trim.{trim}
 use Rattle.meaning.specs.Kill.{kill}
-use Rattle.meaning.specs.Plain.{File, Found, found, nothing, plain}
+use Rattle.meaning.specs.Plain.{File, Found, found, nothing, plain, AreBytes}
 use Rattle.meaning.specs.declared.Geometry.{Geometry}
 use Rattle.meaning.specs.declared.Handle.{Handle}
 use Rattle.meaning.specs.declared.NewFile.{NewFile}
@@ -54,6 +54,14 @@ pub data Call : Type 0 where
   trims : ℕ → Call
   kills : ℕ → Call
 
+abbrev pub systemFile : File → Bool
+systemFile f = bit 6 (getD (f .attributes) 0 0)
+
+-- what is kept of bytes handed back from a file: of a system file none, for the directory may itself be a file
+unfoldable pub kept : Found → List ℕ → List ℕ
+kept nothing bytes = []
+kept (found f) bytes = cond (systemFile f) [] bytes
+
 -- what a list has by now: its handles in the order in which it opened or created them, and what its reads handed back, in their order
 pub record Side : Type 0 where
   pub handles : List Handle
@@ -71,9 +79,22 @@ withMoved s i h = record { handles = set (s .handles) i h; heard = s .heard }
 abbrev pub hearing : Side → List ℕ → Side
 hearing s bytes = record { handles = s .handles; heard = s .heard ++ (bytes ∷ []) }
 
--- what is kept of bytes handed back: of a system file none, for the directory may itself be a file
-abbrev pub told : Geometry → List ℕ → Handle → List ℕ → List ℕ
-told g d h bytes = cond (system g d (h .slot)) [] bytes
+-- what a caller's types see to: a record to be written is of bytes, the codes of a new file have 16 bits
+abbrev pub Brings : Call → Type 0
+Brings looksUp = Unit {0}
+Brings (opens len checking code) = Unit {0}
+Brings (creates f checking) = (f .main < 65536) × (f .worker < 65536)
+Brings (moves i at) = Unit {0}
+Brings (reads i buffer) = Unit {0}
+Brings (readsSector i k) = Unit {0}
+Brings (writes m i bytes) = AreBytes bytes
+Brings (allots i k) = Unit {0}
+Brings (trims i) = Unit {0}
+Brings (kills i) = Unit {0}
+
+abbrev pub AllBring : List Call → Type 0
+AllBring [] = Unit {0}
+AllBring (c ∷ cs) = Brings c × AllBring cs
 
 -- the list has the handle that the call names
 unfoldable pub known : List Handle → Call → Bool
@@ -103,10 +124,10 @@ answer g n d s (creates f checking) =
 answer g n d s (moves i at) = record { number = 0; disk = d; side = withMoved s i (movedTo (handleAt (s .handles) i) at) }
 answer g n d s (reads i buffer) =
     let h = handleAt (s .handles) i in let r = readRecord g d h buffer in
-    record { number = r .0 .number; disk = d; side = hearing (withMoved s i (r .0 .handle)) (told g d h (r .1)) }
+    record { number = r .0 .number; disk = d; side = hearing (withMoved s i (r .0 .handle)) (kept (plain g d n) (r .1)) }
 answer g n d s (readsSector i k) =
     let h = handleAt (s .handles) i in let r = readSector g d h k in
-    record { number = r .number; disk = d; side = hearing s (told g d h (take (r .to - r .from) (drop (r .from) d))) }
+    record { number = r .number; disk = d; side = hearing s (kept (plain g d n) (slice (r .from) (r .to) d)) }
 answer g n d s (writes m i bytes) =
     let r = writeRecord g d m (handleAt (s .handles) i) bytes in record { number = r .0 .number; disk = r .1; side = withMoved s i (r .0 .handle) }
 answer g n d s (allots i k) = let r = allot g d (handleAt (s .handles) i) k in record { number = r .0 .number; disk = r .1; side = s }
@@ -174,9 +195,6 @@ module _ (g : Geometry) (a b : Name) where
 
 -- 3. The same named files -----------------------------------------------------------------------------------------------------
 
-abbrev pub systemFile : File → Bool
-systemFile f = bit 6 (getD (f .attributes) 0 0)
-
 -- the same attributes, sizes and granule counts and, system files apart, the same bytes
 pub record Alike (f f′ : File) : Type 0 where
   pub attributes : f .attributes ≡ f′ .attributes
@@ -209,8 +227,8 @@ pub record Grip : Type 0 where
 abbrev pub grip : Handle → Grip
 grip h = record { name = h .name; at = h .at; len = h .len; level = h .level }
 
--- of the worlds w and w′ at the end of two interleavings, the first of them zs, from the disk d
-pub record Agree (g : Geometry) (a b : Name) (d : List ℕ) (zs : List Turn) (w w′ : World) : Type 0 where
+-- of the worlds w and w′ at the end of two interleavings of xs and ys, the first of them zs, from the disk d
+pub record Agree (g : Geometry) (a b : Name) (d : List ℕ) (xs ys : List Call) (zs : List Turn) (w w′ : World) : Type 0 where
   -- Both disks hold the same named files with the same attributes, sizes and granule counts and, system files apart, the same bytes.
   pub files : SameFiles g (w .disk) (w′ .disk)
   -- Every third file that is no system file is as it was; of a third system file all but its bytes, and no third name comes or goes.
@@ -221,11 +239,13 @@ pub record Agree (g : Geometry) (a b : Name) (d : List ℕ) (zs : List Turn) (w 
   pub consistent′ : (consistent g (w .disk) ≡ true) × (consistent g (w′ .disk) ≡ true)
   -- Each list ends with the same handles, slots apart.
   pub handles : (map grip (w .first .handles) ≡ map grip (w′ .first .handles)) × (map grip (w .second .handles) ≡ map grip (w′ .second .handles))
+  -- Each list was handed back the same bytes by its reads, if it is about bytes, as every image is.
+  pub heard : AreBytes d → AllBring xs → AllBring ys → (w .first .heard ≡ w′ .first .heard) × (w .second .heard ≡ w′ .second .heard)
 
 -- Two lists of calls on two files whose names differ, one consistent disk, and any two interleavings in which every call is accepted.
 --
 -- That neither file is a system file is no premise: it is not needed. The calls that write refuse a system file, so in an accepted list
--- on one there is none of them, and `Same` and `told` leave a system file's bytes out by themselves.
+-- on one there is none of them, and `Same` and `kept` leave a system file's bytes out by themselves.
 -- Deliberately not promised, since 01 does not give it: slots, look up's count, the place of a sector, the order of the listing; that an
 -- order of the calls is accepted because another one is; that the handle of a killed file stays dead.
 abbrev pub Demand3 : Type 0
@@ -233,4 +253,4 @@ Demand3 =
     (g : Geometry) (a b : Name) → a ≢ b → (d : List ℕ) → fitsGeometry g d ≡ true → consistent g d ≡ true
     → (xs ys : List Call) (zs zs′ : List Turn) → Interleaving xs ys zs → Interleaving xs ys zs′
     → Accepted g a b (start d) zs → Accepted g a b (start d) zs′
-    → Agree g a b d zs (after g a b (start d) zs) (after g a b (start d) zs′)
+    → Agree g a b d xs ys zs (after g a b (start d) zs) (after g a b (start d) zs′)

@@ -1,22 +1,22 @@
 -- What a call that takes and gives back nothing leaves: every file where it was, and every byte outside its own file's region
-use mathlib.Core.Path.{_≡_, refl, ap, ap₂, sym, _∙_, subst}
+use mathlib.Core.Path.{_≡_, refl, ap, sym, _∙_, subst}
 use mathlib.Core.Logic.{_≢_, _⊎_, inl, inr}
-use mathlib.Core.Bool.{Bool, true, false, not, cond, _&&_, _||_}
-use mathlib.Core.List.{List, [], _∷_, _++_, map}
-use Prim.Native.Nat.{ℕ, zero, suc, _+_, _-_, _*_, _/_, _%_, _≤_, _<_}
+use mathlib.Core.Bool.{Bool, not, _||_}
+use mathlib.Core.List.{List, [], _∷_}
+use Prim.Native.Nat.{ℕ, _+_, _-_, _*_, _/_, _%_, _≤_, _<_}
 use native.Mathlib.Omega.{arith}
 use native.Mathlib.Decide.{ℕ-discrete, decLt}
 use lib.ListN.{length, getD, set, take, replicate, length-set}
 use lib.Seq.{getD-set-same, getD-set-other, set-out}
-use lib.Dec.{T, ltb, leb, not-T, T-not, ltb→lt, leb→le, lt→ltb, le→leb}
-use Rattle.meaning.specs.Lists.{count, has}
+use lib.Dec.{T, ltb, leb, not-T, lt→ltb, le→leb}
+use Rattle.meaning.specs.Lists.{has}
 use Rattle.meaning.specs.Bits
-use Rattle.meaning.specs.Layout.{byte, field, setField, entryAt, granuleBytes, directoryGranules, aboveTen}
-use Rattle.meaning.specs.Entries.{system, nameOf, sizeOf, mainCode, accessLevel}
+use Rattle.meaning.specs.Layout.{byte, field, entryAt, granuleBytes, directoryGranules}
+use Rattle.meaning.specs.Entries.{system, nameOf, sizeOf}
 use Rattle.meaning.specs.Chain.{owned, place}
 use Rattle.meaning.specs.LookUp.{named}
 use Rattle.meaning.specs.Write.{sizeAfter, withSize, store}
-use Rattle.meaning.specs.Open.{full, openedAt}
+use Rattle.meaning.specs.Open.{openedAt}
 use Rattle.meaning.specs.Layout.{roundUp}
 use Rattle.meaning.specs.declared.Geometry.{Geometry}
 use Rattle.meaning.specs.declared.Handle.{Handle}
@@ -26,14 +26,10 @@ use Rattle.laws.specs.Members.{In}
 use Rattle.laws.specs.Facts
 use Rattle.laws.specs.Facts.{Sound}
 use Rattle.laws.specs.Change
-use Rattle.laws.specs.Places
-use Rattle.laws.specs.KillMeans
-use Rattle.laws.specs.KillMeans.{Holds}
 use Rattle.laws.specs.Named
 use Rattle.laws.specs.Rewrite
 use Rattle.promises.specs.Write
 use Rattle.promises.specs.Over
-use Rattle.laws.specs.Store.{store-length}
 use Rattle.laws.specs.Words.{words}
 use Rattle.together.specs.Statement.{Name}
 use Rattle.together.specs.Quiet

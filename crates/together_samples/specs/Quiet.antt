@@ -1,7 +1,7 @@
 -- The last sentence of demand 3 is about something: two lists that take and give back nothing, and leave the same image in two orders
 use Prim.Native.Nat.{ℕ}
 use mathlib.Core.Path.{_≡_, refl, ap, sym, _∙_}
-use mathlib.Core.Bool.{true, false}
+use mathlib.Core.Bool.{true}
 use mathlib.Core.List.{List, [], _∷_}
 use Rattle.meaning.specs.Lists.{each}
 use Rattle.meaning.specs.Layout.{fitsGeometry}
@@ -11,7 +11,7 @@ use Rattle.meaning.specs.LookUp.{named}
 use Rattle.meaning.specs.Samples.{opened, puls, leer, laid}
 use lib.ListN.{replicate}
 use Rattle.meaning.specs.declared.Mode.the-variants.{Sequential, Random}
-use Rattle.together.specs.Statement.{Name, Call, opens, moves, writes, known, answer, Turn, one, two, Interleaving, none, left, right, start, after, Accepted, Quiet, AllQuiet}
+use Rattle.together.specs.Statement.{Name, Call, opens, moves, writes, known, answer, Turn, one, two, none, left, right, start, after, Accepted, Quiet, AllQuiet}
 use Rattle.together.specs.Demand3.{demand3}
 use Rattle.together_samples.specs.Slots.{differ, tiny}
 

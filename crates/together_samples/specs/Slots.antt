@@ -2,9 +2,9 @@
 use Prim.Native.Nat.{ℕ}
 use mathlib.Core.Path.{_≡_, refl, ap}
 use mathlib.Core.Logic.{_≢_}
-use mathlib.Core.Bool.{true, false}
+use mathlib.Core.Bool.{true}
 use mathlib.Core.List.{List, [], _∷_}
-use lib.ListN.{length, getD, replicate}
+use lib.ListN.{getD, replicate}
 use native.Mathlib.Omega.{arith}
 use Rattle.meaning.specs.Layout.{fitsGeometry}
 use Rattle.meaning.specs.Consistent.{consistent}
@@ -12,7 +12,7 @@ use Rattle.meaning.specs.Samples.{opened, puls, leer}
 use Rattle.meaning.specs.declared.Geometry.{Geometry}
 use Rattle.meaning.specs.declared.NewFile.{NewFile}
 use Rattle.meaning.specs.declared.Mode.the-variants.{Sequential}
-use Rattle.together.specs.Statement.{Call, creates, moves, writes, known, answer, handleAt, Turn, one, two, Interleaving, none, left, right, World, start, after, Accepted, Agree}
+use Rattle.together.specs.Statement.{Call, creates, moves, writes, known, answer, handleAt, Turn, one, two, none, left, right, World, start, after, Accepted, Agree}
 use Rattle.together.specs.Demand3.{demand3}
 
 -- 2 blocks of 2 units, the directory at the front in granules 0 and 1, no file
@@ -63,7 +63,7 @@ w = after tiny puls leer (start blank) mineFirst
 abbrev w′ : World
 w′ = after tiny puls leer (start blank) theirsFirst
 
-pub agree : Agree tiny puls leer blank mineFirst w w′
+pub agree : Agree tiny puls leer blank mine theirs mineFirst w w′
 agree = demand3 tiny puls leer differ blank fits sound mine theirs mineFirst theirsFirst (left (left (left (right none)))) (right (left (left (left none)))) accepted accepted′
 
 -- the slots in the handles are others

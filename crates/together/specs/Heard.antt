@@ -1,0 +1,132 @@
+-- What a list's reads hand back hangs on that list alone
+use Prim.Native.Nat.{ℕ, _+_, _*_}
+use mathlib.Core.Path.{_≡_, refl, ap, ap₂, sym, _∙_}
+use mathlib.Core.Logic.{_≢_}
+use mathlib.Core.Bool.{Bool, true, false, cond}
+use mathlib.Core.List.{List, [], _∷_, _++_, map, append-nil, append-assoc}
+use lib.Dec.{T, ltb}
+use lib.ListN.{length, getD, take, drop, replicate, List·getD-map}
+use lib.Seq.{slice}
+use Rattle.meaning.specs.Refusals.{noHandle}
+use Rattle.meaning.specs.Read.{readRecord, readSector}
+use Rattle.meaning.specs.Plain.{File, Found, found, nothing, plain, hush, AreBytes}
+use Rattle.meaning.specs.declared.Geometry.{Geometry}
+use Rattle.meaning.specs.declared.Handle.{Handle}
+use Rattle.promises.specs.Promises
+use Rattle.promises.specs.Promises.{leaves}
+use Rattle.promises.specs.Sector
+use Rattle.promises.specs.Staying
+use Rattle.together.specs.Statement.{Name, Call, looksUp, opens, creates, moves, reads, readsSector, writes, allots, trims, kills, Side, Brings, AllBring, known, answer, kept, systemFile, handleAt, Grip, grip, Turn, one, two, Interleaving, none, left, right, World, next, after, Accepted}
+use Rattle.together.specs.State.{State, stateOf, gripAt, stands, effect, Held, Good}
+use Rattle.together.specs.Effects
+use Rattle.together.specs.Interleavings
+use Rattle.together.specs.Interleavings.{Fine, stateIn}
+
+-- a part of the file's bytes, as it is kept
+unfoldable partOf : (List ℕ → List ℕ) → Found → List ℕ
+partOf part nothing = []
+partOf part (found f) = cond (systemFile f) [] (part (f .bytes))
+
+-- a system file's bytes do not count
+part-kept : (part : List ℕ → List ℕ) (f : File) (bytes : List ℕ) → bytes ≡ part (f .bytes) → kept (found f) bytes ≡ partOf part (hush (found f))
+unfolding kept partOf hush
+part-kept part f bytes e = go (systemFile f)
+  where
+    go : (b : Bool) → cond b [] bytes ≡ cond b [] (part (cond b (replicate (length (f .bytes)) 0) (f .bytes)))
+    go true = refl
+    go false = e
+
+-- the buffer after a record is read; the bytes of a sector
+abbrev recordOf : Grip → List ℕ → List ℕ → List ℕ
+recordOf k buffer bytes = take (k .len) (drop (k .at) bytes) ++ drop (k .len) buffer
+
+abbrev sectorOf : ℕ → List ℕ → List ℕ
+sectorOf k bytes = take 256 (drop (256 * k) bytes)
+
+-- what a call hands back
+pub hears : Call → State → List (List ℕ)
+hears looksUp o = []
+hears (opens len checking code) o = []
+hears (creates f checking) o = []
+hears (moves i at) o = []
+hears (reads i buffer) o = partOf (recordOf (gripAt o i) buffer) (o .file) ∷ []
+hears (readsSector i k) o = partOf (sectorOf k) (o .file) ∷ []
+hears (writes m i bytes) o = []
+hears (allots i k) o = []
+hears (trims i) o = []
+hears (kills i) o = []
+
+-- what the calls of a list hand back, one after another
+abbrev pub hearsAll : Geometry → Name → List Call → State → List (List ℕ)
+hearsAll g n [] o = []
+hearsAll g n (c ∷ cs) o = hears c o ++ hearsAll g n cs (effect g n c o)
+
+module _ (g : Geometry) (n : Name) (d : List ℕ) (s : Side) (held : Held n (s .handles)) where
+  abbrev hs : List Handle
+  hs = s .handles
+
+  read-kept : (i : ℕ) (b : List ℕ) → T (ltb i (length hs)) → readRecord g d (handleAt hs i) b .0 .number ≡ 0
+      → kept (plain g d n) (readRecord g d (handleAt hs i) b .1) ≡ partOf (recordOf (getD (map grip hs) i (grip noHandle)) b) (stands g d n)
+  unfolding stands
+  read-kept i b t e =
+      let r = Sector.read-serves g d (handleAt hs i) b e in
+      let c : plain g d n ≡ found (r .file) = ap (plain g d) (sym (Effects.held-at n hs i held t)) ∙ r .called in
+      ap (λ (x : Found). kept x (readRecord g d (handleAt hs i) b .1)) c
+      ∙ part-kept (recordOf (grip (handleAt hs i)) b) (r .file) (readRecord g d (handleAt hs i) b .1) (r .buffer)
+      ∙ ap₂ (λ (k : Grip) (x : Found). partOf (recordOf k b) (hush x)) (sym (List·getD-map grip hs i noHandle)) (sym c)
+
+  sector-kept : AreBytes d → (i k : ℕ) → T (ltb i (length hs)) → readSector g d (handleAt hs i) k .number ≡ 0
+      → kept (plain g d n) (slice (readSector g d (handleAt hs i) k .from) (readSector g d (handleAt hs i) k .to) d) ≡ partOf (sectorOf k) (stands g d n)
+  unfolding stands
+  sector-kept u i k t e =
+      let r = Sector.sector-serves g d u (handleAt hs i) k e in
+      let c : plain g d n ≡ found (r .file) = ap (plain g d) (sym (Effects.held-at n hs i held t)) ∙ r .called in
+      ap (λ (x : Found). kept x (slice (readSector g d (handleAt hs i) k .from) (readSector g d (handleAt hs i) k .to) d)) c
+      ∙ part-kept (sectorOf k) (r .file) (slice (readSector g d (handleAt hs i) k .from) (readSector g d (handleAt hs i) k .to) d) (r .part)
+      ∙ ap (λ (x : Found). partOf (sectorOf k) (hush x)) (sym c)
+
+call-heard : (g : Geometry) (n : Name) (d : List ℕ) (s : Side) (c : Call) → Held n (s .handles) → AreBytes d → T (known (s .handles) c) → answer g n d s c .number ≡ 0
+    → answer g n d s c .side .heard ≡ s .heard ++ hears c (stateOf g n d (s .handles))
+unfolding answer known hears
+call-heard g n d s looksUp h u t e = sym (append-nil (s .heard))
+call-heard g n d s (opens len checking code) h u t e = sym (append-nil (s .heard))
+call-heard g n d s (creates f checking) h u t e = sym (append-nil (s .heard))
+call-heard g n d s (moves i at) h u t e = sym (append-nil (s .heard))
+call-heard g n d s (reads i b) h u t e = ap (λ (x : List ℕ). s .heard ++ (x ∷ [])) (read-kept g n d s h i b t e)
+call-heard g n d s (readsSector i k) h u t e = ap (λ (x : List ℕ). s .heard ++ (x ∷ [])) (sector-kept g n d s h u i k t e)
+call-heard g n d s (writes m i b) h u t e = sym (append-nil (s .heard))
+call-heard g n d s (allots i k) h u t e = sym (append-nil (s .heard))
+call-heard g n d s (trims i) h u t e = sym (append-nil (s .heard))
+call-heard g n d s (kills i) h u t e = sym (append-nil (s .heard))
+
+-- bytes stay bytes
+bytes-stay : (g : Geometry) (d : List ℕ) → Good g d → AreBytes d → (c : Promises.Call) → Promises.Brings c → AreBytes (leaves g d c)
+unfolding Good
+bytes-stay g d k u c b = Staying.stays g d (record { fits = k .0; sound = k .1; bytes = u }) c b .good .bytes
+
+call-bytes : (g : Geometry) (n : Name) (d : List ℕ) (s : Side) (c : Call) → Good g d → AreBytes d → Brings c → AreBytes (answer g n d s c .disk)
+unfolding answer leaves
+call-bytes g n d s looksUp k u b = u
+call-bytes g n d s (opens len checking code) k u b = u
+call-bytes g n d s (creates f checking) k u b = bytes-stay g d k u (Promises.Call.creates n f checking) b
+call-bytes g n d s (moves i at) k u b = u
+call-bytes g n d s (reads i x) k u b = u
+call-bytes g n d s (readsSector i j) k u b = u
+call-bytes g n d s (writes m i x) k u b = bytes-stay g d k u (Promises.Call.writes m (handleAt (s .handles) i) x) b
+call-bytes g n d s (allots i j) k u b = bytes-stay g d k u (Promises.Call.allots (handleAt (s .handles) i) j) tt
+call-bytes g n d s (trims i) k u b = bytes-stay g d k u (Promises.Call.trims (handleAt (s .handles) i)) tt
+call-bytes g n d s (kills i) k u b = bytes-stay g d k u (Promises.Call.kills (handleAt (s .handles) i)) tt
+
+-- by its own list alone
+pub end-heard : (g : Geometry) (a b : Name) → a ≢ b → {xs ys : List Call} {zs : List Turn} → Interleaving xs ys zs → (w : World) → Fine g a b w → Accepted g a b w zs
+    → AreBytes (w .disk) → AllBring xs → AllBring ys → after g a b w zs .first .heard ≡ w .first .heard ++ hearsAll g a xs (stateIn g a w)
+end-heard g a b ab none w k t u p q = sym (append-nil (w .first .heard))
+end-heard g a b ab (left {x = c} {xs = xs} i) w k t u p q =
+    let v = next g a b w (one c) in
+    end-heard g a b ab i v (Interleavings.fine-next g a b w (one c) k (t .0)) (t .1) (call-bytes g a (w .disk) (w .first) c (k .good) u (p .0)) (p .1) q
+    ∙ ap₂ (λ (x : List (List ℕ)) (o : State). x ++ hearsAll g a xs o) (call-heard g a (w .disk) (w .first) c (k .first′) u (t .0 .0) (t .0 .1)) (Interleavings.own-turn g a b w c k (t .0))
+    ∙ append-assoc (w .first .heard) (hears c (stateIn g a w)) (hearsAll g a xs (effect g a c (stateIn g a w)))
+end-heard g a b ab (right {y = c} {xs = xs} i) w k t u p q =
+    let v = next g a b w (two c) in
+    end-heard g a b ab i v (Interleavings.fine-next g a b w (two c) k (t .0)) (t .1) (call-bytes g b (w .disk) (w .second) c (k .good) u (q .0)) p (q .1)
+    ∙ ap (λ (o : State). w .first .heard ++ hearsAll g a xs o) (Interleavings.other-turn g a b ab w c k (t .0))
