@@ -19,10 +19,10 @@ use Rattle.together.specs.Demand3.{demand3}
 abbrev pub tiny : Geometry
 tiny = record { blocks = 2; units = 2; start = 0; anyone = 0 }
 
-abbrev blank : List ℕ
+abbrev pub blank : List ℕ
 blank = 3 ∷ replicate 5119 0
 
-abbrev new : NewFile
+abbrev pub new : NewFile
 new = record { day = 9; month = 10; year = 3; len = 2; main = 0; worker = 0 }
 
 -- a new PULS01/DAT, and two bytes behind a gap; a new LEER
