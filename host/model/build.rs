@@ -1,10 +1,12 @@
-//! Finds `libgenie.a`: in the directory that GENIE_LIB_DIR names, else in `target/staticlib` of the
-//! repository. It is linked; or, where it is for another processor than this build, a small program is
-//! linked with it, to be run under the emulator (`src/served.rs`). Without an archive the model and its
+//! Finds `libgenie.a` and links it: in the directory that GENIE_LIB_DIR names, else in
+//! `target/staticlib` of the repository. Where it is for another processor than this build, the bridge
+//! in `host/rust/bridge` is built around it and takes its place. Without an archive the model and its
 //! own tests still build; whatever compares with the library then fails and says why.
 
 use std::path::{Path, PathBuf};
 use std::process::Command;
+
+const BRIDGE: &str = "../rust/bridge";
 
 /// The processor for which an archive's first object is, as cargo names it.
 fn processor(archive: &[u8]) -> Option<&'static str> {
@@ -16,18 +18,14 @@ fn processor(archive: &[u8]) -> Option<&'static str> {
     }
 }
 
-/// Builds the program that serves the library; the text says what went wrong.
-fn build_served(crate_dir: &Path, archive: &Path, program: &Path) -> Result<(), String> {
-    let compiler = crate_dir.join("../c/x86-cc");
-    let done = Command::new(&compiler)
-        .args(["-std=gnu11", "-O2", "-Wall", "-Wextra", "-I"])
-        .arg(crate_dir.join("../include"))
-        .arg("-o")
-        .arg(program)
-        .arg(crate_dir.join("served/served.c"))
-        .arg(archive)
+/// Builds the bridge around an archive of another processor; the text says what went wrong.
+fn bridge(around: &Path, to: &Path) -> Result<(), String> {
+    let done = Command::new("make")
+        .args(["-s", "-C", BRIDGE])
+        .arg(format!("DIR={}", to.display()))
+        .arg(format!("LIBRARY={}", around.display()))
         .output()
-        .map_err(|why| format!("{}: {why}", compiler.display()))?;
+        .map_err(|why| format!("make: {why}"))?;
     if done.status.success() {
         Ok(())
     } else {
@@ -37,38 +35,27 @@ fn build_served(crate_dir: &Path, archive: &Path, program: &Path) -> Result<(), 
 
 fn main() {
     println!("cargo:rustc-check-cfg=cfg(genie_linked)");
-    println!("cargo:rustc-check-cfg=cfg(genie_served)");
     println!("cargo:rerun-if-env-changed=GENIE_LIB_DIR");
-    for file in ["build.rs", "served/served.c", "../include/genie.h", "../c/x86-cc", "../c/x86-run"] {
-        println!("cargo:rerun-if-changed={file}");
-    }
+    println!("cargo:rerun-if-changed=build.rs");
+    println!("cargo:rerun-if-changed={BRIDGE}");
     let told = |name: &str| std::env::var(name).expect("set by cargo");
-    let crate_dir = PathBuf::from(told("CARGO_MANIFEST_DIR"));
     // A relative GENIE_LIB_DIR counts from the crate's folder, as the default does.
-    let dir = crate_dir.join(std::env::var_os("GENIE_LIB_DIR").unwrap_or("../../target/staticlib".into()));
+    let mut dir = PathBuf::from(told("CARGO_MANIFEST_DIR"))
+        .join(std::env::var_os("GENIE_LIB_DIR").unwrap_or("../../target/staticlib".into()));
     let archive = dir.join("libgenie.a");
     println!("cargo:rerun-if-changed={}", archive.display());
     let Ok(content) = std::fs::read(&archive) else {
         println!("cargo:warning=no libgenie.a in {}: nothing to compare with", dir.display());
         return;
     };
-    match processor(&content) {
-        Some(for_one) if for_one == told("CARGO_CFG_TARGET_ARCH") => {
-            println!("cargo:rustc-link-search=native={}", dir.display());
-            println!("cargo:rustc-link-lib=static:-bundle=genie");
-            println!("cargo:rustc-cfg=genie_linked");
+    if processor(&content) != Some(told("CARGO_CFG_TARGET_ARCH").as_str()) {
+        dir = PathBuf::from(told("OUT_DIR")).join("bridge");
+        if let Err(why) = bridge(&archive, &dir) {
+            println!("cargo:warning=no bridge to {}, nothing to compare with: {why}", archive.display());
+            return;
         }
-        Some("x86_64") => {
-            let program = PathBuf::from(told("OUT_DIR")).join("served");
-            match build_served(&crate_dir, &archive, &program) {
-                Ok(()) => {
-                    println!("cargo:rustc-env=GENIE_SERVED={}", program.display());
-                    println!("cargo:rustc-env=GENIE_RUNNER={}", crate_dir.join("../c/x86-run").display());
-                    println!("cargo:rustc-cfg=genie_served");
-                }
-                Err(why) => println!("cargo:warning=nothing to compare with: {why}"),
-            }
-        }
-        _ => println!("cargo:warning={} is for another processor: nothing to compare with", archive.display()),
     }
+    println!("cargo:rustc-link-search=native={}", dir.display());
+    println!("cargo:rustc-link-lib=static:-bundle=genie");
+    println!("cargo:rustc-cfg=genie_linked");
 }

@@ -1,35 +1,14 @@
-//! The exported functions of `libgenie.a`, and the one place where they are called. Where the archive is
-//! for another processor they are called in a process of its own (`served.rs`).
+//! The exported functions of `libgenie.a`, and the one place where they are called.
 
 use crate::library::Library;
 use std::rc::Rc;
 
-thread_local! {
-    static LIBRARY: Option<Rc<dyn Library>> = bind();
-}
-
-#[cfg(genie_linked)]
-fn bind() -> Option<Rc<dyn Library>> {
-    Some(Rc::new(bound::Linked))
-}
-
-#[cfg(genie_served)]
-fn bind() -> Option<Rc<dyn Library>> {
-    let (runner, program) = (env!("GENIE_RUNNER"), env!("GENIE_SERVED"));
-    match crate::served::Served::start(runner, program) {
-        Ok(served) => Some(Rc::new(served)),
-        Err(why) => panic!("{runner} {program}: {why}"),
-    }
-}
-
-#[cfg(not(any(genie_linked, genie_served)))]
-fn bind() -> Option<Rc<dyn Library>> {
-    None
-}
-
-/// The library, the same for all of a thread; None if the crate was built without one (see build.rs).
+/// The library; None if the crate was built without one (see build.rs).
 pub fn linked() -> Option<Rc<dyn Library>> {
-    LIBRARY.with(Clone::clone)
+    #[cfg(genie_linked)]
+    return Some(Rc::new(bound::Linked));
+    #[cfg(not(genie_linked))]
+    None
 }
 
 /// The library, for tests that are nothing without it.

@@ -171,7 +171,7 @@ pub fn perform(library: &dyn Library, image: &mut [u8], g: &Geometry, call: &Cal
     Outcome {
         number,
         numbers,
-        within: handle.edges_whole() && buffer.edges_whole() && name.edges_whole() && library.kept_within(),
+        within: handle.edges_whole() && buffer.edges_whole() && name.edges_whole(),
         handle: handle.bytes().to_vec(),
         buffer: buffer.bytes().to_vec(),
         name: name.bytes().to_vec(),

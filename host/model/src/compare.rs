@@ -15,7 +15,6 @@ use crate::handle::Handle;
 use crate::library::{Library, Model};
 use crate::names::written;
 use crate::random::Random;
-use crate::served::ENDED;
 use std::collections::BTreeMap;
 
 /// How often each call gave each number, and how often other things worth meeting were met.
@@ -202,8 +201,7 @@ impl<'a> SideBySide<'a> {
         );
         let mut wrong = Vec::new();
         if mine.number != theirs.number {
-            let ended = if theirs.number == ENDED { " (its process ended)" } else { "" };
-            wrong.push(format!("number: model {}, library {}{ended}", mine.number, theirs.number));
+            wrong.push(format!("number: model {}, library {}", mine.number, theirs.number));
         }
         for ((title, a), (_, b)) in mine.numbers.iter().zip(&theirs.numbers) {
             if a != b {

@@ -16,7 +16,6 @@ pub mod space;
 // The library under test.
 pub mod binding;
 pub mod library;
-pub mod served;
 
 // Disks and calls made up at random, and the comparison.
 pub mod call;

@@ -8,11 +8,6 @@ use std::rc::Rc;
 #[allow(clippy::too_many_arguments)]
 pub trait Library {
     fn title(&self) -> &'static str;
-    /// False once a call wrote on something it was not lent to write on, where only the library's own
-    /// side can see that.
-    fn kept_within(&self) -> bool {
-        true
-    }
     fn check(&self, image: &[u8], g: &Geometry) -> Number;
     fn look_up(&self, image: &[u8], g: &Geometry, name: &[u8], slot: &mut usize, compared: &mut usize) -> Number;
     fn open(
