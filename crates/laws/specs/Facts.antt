@@ -72,7 +72,7 @@ module _ (g : Geometry) (d : List ℕ) where
   unlike : ℕ → ℕ → Bool
   unlike p q = not (same (nameOf g d p) (nameOf g d q))
 
-  differ-says : {p q : ℕ} {ps : List ℕ} → T (namesDiffer g d ps) → Members.In p ps → Members.In q ps → nameOf g d p ≡ nameOf g d q → p ≡ q
+  pub differ-says : {p q : ℕ} {ps : List ℕ} → T (namesDiffer g d ps) → Members.In p ps → Members.In q ps → nameOf g d p ≡ nameOf g d q → p ≡ q
   unfolding namesDiffer unlike
   differ-says t Members.In.here Members.In.here e = refl
   differ-says {p} {q} t (Members.In.here {xs = xs}) (Members.In.there j) e =
@@ -81,7 +81,7 @@ module _ (g : Geometry) (d : List ℕ) where
       absurd (T-not (same (nameOf g d q) (nameOf g d p)) (Members.every-all (unlike q) (Members.and-l (every (unlike q) xs) _ t) i) (subst (λ (l : List ℕ). T (same (nameOf g d q) l)) (sym e) (Members.same-refl (nameOf g d q))))
   differ-says t (Members.In.there {y = y} {xs = xs} i) (Members.In.there j) e = differ-says (Members.and-r (every (unlike y) xs) _ t) i j e
 
-  says-differ : {ps : List ℕ} → Members.Distinct ps → ((p q : ℕ) → Members.In p ps → Members.In q ps → nameOf g d p ≡ nameOf g d q → p ≡ q) → T (namesDiffer g d ps)
+  pub says-differ : {ps : List ℕ} → Members.Distinct ps → ((p q : ℕ) → Members.In p ps → Members.In q ps → nameOf g d p ≡ nameOf g d q → p ≡ q) → T (namesDiffer g d ps)
   unfolding namesDiffer unlike
   says-differ Members.Distinct.done f = tt
   says-differ (Members.Distinct.fresh {x = p} {xs = ps} h r) f =

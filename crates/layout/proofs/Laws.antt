@@ -52,6 +52,10 @@ part-at d a i (suc n) h =
     let e : suc (a + i) ≡ a + (i + 1) = omega arith in
     simp (drop-cons d (a + i) 0 (omega arith), e, part-at d a (i + 1) n (omega arith))
 
+pub name-part : (g : Geometry) (d : List ℕ) (s : ℕ) → entryAt g s + 16 ≤ length d → nameOf g d s ≡ take 11 (drop (entryAt g s + 5) d)
+unfolding nameOf field
+name-part g d s h = part-at d (entryAt g s) 5 11 (omega arith)
+
 pub name-at : (g : Geometry) (d n : List ℕ) (s : ℕ) → entryAt g s + 16 ≤ length d → same (nameOf g d s) n ≡ same (take 11 (drop (entryAt g s + 5) d)) n
 unfolding nameOf field
 name-at g d n s h = ap (λ (l : List ℕ). same l n) (part-at d (entryAt g s) 5 11 (omega arith))
