@@ -40,6 +40,7 @@ use Rattle.laws.specs.Change.{entriesOf, granulesOf}
 use Rattle.laws.specs.Named
 use Rattle.laws.specs.Others
 use Rattle.laws.specs.KillMeans
+use Rattle.laws.specs.Touch
 use Rattle.laws.specs.Words.{words}
 
 -- an entry of 32 bytes and its HIT byte written whole
@@ -188,6 +189,11 @@ module _ (g : Geometry) (d : List ℕ) (c : Sound g d) (k : Places.Fits g d) (x 
       go zero h = absurd (omega arith)
       go (suc m) h = rw (ffs 0x1e (omega arith) (omega arith))
 
+  made-touch : Touch.Touch g (chain g made x) [] d made
+  unfolding made withEntry
+  made-touch = subst (λ (xs : List ℕ). Touch.Touch g xs [] d made) (sym made-chain)
+      (Touch.Touch.hits x (hash n) Members.In.here (Touch.touch-whole g (x ∷ []) [] d x (newEntry n f) Members.In.here (omega (arith, new-length g d n f ln)) Touch.Touch.none))
+
   made-runs : runs g made x ≡ 0
   unfolding runs runsFrom
   made-runs = rw (ffs 0x16 (omega arith) (omega arith))
@@ -307,7 +313,6 @@ pub record CreateMeans (g : Geometry) (d d′ n : List ℕ) (f : NewFile) : Type
   pub born : plain g d′ n ≡ found (bornAs f)
   pub others : (m : List ℕ) → m ≢ n → hush (plain g d′ m) ≡ hush (plain g d m)
   pub beyond′ : (m : List ℕ) → m ≢ n → Others.beyond g d′ m ≡ Others.beyond g d m
-  pub still : (i : ℕ) → (In (i / granuleBytes) (directoryGranules g d) → ⊥) → byte d′ i ≡ byte d i
   pub was : plain g d n ≡ nothing
   pub same′ : (q : ℕ) → Facts.File g d q → T (not (system g d q)) → fileAt g d′ q ≡ fileAt g d q
 
@@ -335,7 +340,6 @@ create-made g d c k x t z n w f free =
       born = Named.plain-is g d′ (Change.changed g d d′ c x h) x n v m ∙ ap {B = Found} found (made-born g d c k x t z n w f free);
       others = λ b e. Others.others-plain g d d′ c x h s b (λ q. absurd (no′ q)) (λ q a. e (sym a ∙ m));
       beyond′ = λ b e. Others.beyond-plain g d d′ c x h s b (λ q. absurd (no′ q)) (λ q a. e (sym a ∙ m));
-      still = made-same g d c k x t z n w f free;
       was = Named.plain-none g d n free;
       same′ = λ q a u. Others.others g d d′ c x h s q a (λ e. no′ (rw e at a)) u;
     }
@@ -360,12 +364,13 @@ new-of true false t e = Members.false-no e tt
 new-of false b t e = absurd t
 
 -- the new file's slot and name
-pub record Placed (g : Geometry) (d′ n : List ℕ) (x : ℕ) : Type 0 where
+pub record Placed (g : Geometry) (d d′ n : List ℕ) (x : ℕ) : Type 0 where
   pub file : File g d′ x
   pub name′ : nameOf g d′ x ≡ n
+  pub touch : Touch.Touch g (chain g d′ x) [] d d′
 
 create-both : (g : Geometry) (d n : List ℕ) (f : NewFile) (checking : Bool) → create g d n f checking .0 .number ≡ 0 → create g d n f checking .0 .old ≡ false
-    → CreateMeans g d (create g d n f checking .1) n f × Placed g (create g d n f checking .1) n (newSlot g d)
+    → CreateMeans g d (create g d n f checking .1) n f × Placed g d (create g d n f checking .1) n (newSlot g d)
 unfolding create made withEntry
 create-both g d n f checking e o =
     let p₁ = KillMeans.passed 1 _ _ (omega arith) e in
@@ -382,12 +387,17 @@ create-both g d n f checking e o =
     let y = slots-free g d x i in
     let w = KillMeans.yes-T (wellFormed n) (p₄ .0) in
     let free = none-missing g d c n new in
-    rw (e, Members.T-true {b = missing g d n} new) (create-made g d c k x (y .0) (y .1) n w f free, record { file = made-file g d c k x (y .0) (y .1) n w f free; name′ = made-name g d c k x (y .0) (y .1) n w f free })
+    rw (e, Members.T-true {b = missing g d n} new) (create-made g d c k x (y .0) (y .1) n w f free, record { file = made-file g d c k x (y .0) (y .1) n w f free; name′ = made-name g d c k x (y .0) (y .1) n w f free; touch = made-touch g d c k x (y .0) (y .1) n w f free })
 
 pub create-means : (g : Geometry) (d n : List ℕ) (f : NewFile) (checking : Bool) → create g d n f checking .0 .number ≡ 0 → create g d n f checking .0 .old ≡ false
     → CreateMeans g d (create g d n f checking .1) n f
 create-means g d n f checking e o = create-both g d n f checking e o .0
 
 pub create-placed : (g : Geometry) (d n : List ℕ) (f : NewFile) (checking : Bool) → create g d n f checking .0 .number ≡ 0 → create g d n f checking .0 .old ≡ false
-    → Placed g (create g d n f checking .1) n (newSlot g d)
+    → Placed g d (create g d n f checking .1) n (newSlot g d)
 create-placed g d n f checking e o = create-both g d n f checking e o .1
+
+-- refusal 1 was passed
+pub create-fits : (g : Geometry) (d n : List ℕ) (f : NewFile) (checking : Bool) → create g d n f checking .0 .number ≡ 0 → Places.Fits g d
+unfolding create
+create-fits g d n f checking e = let p₁ = KillMeans.passed 1 _ _ (omega arith) e in Places.fits g d (KillMeans.yes-T (fitsGeometry g d) (p₁ .0))

@@ -31,6 +31,7 @@ use Rattle.laws.specs.Shorter
 use Rattle.laws.specs.Shrink
 use Rattle.laws.specs.Drop
 use Rattle.laws.specs.Unhook
+use Rattle.laws.specs.Touch
 use Rattle.laws.specs.Words.{words}
 
 -- Case 3: an emptied extension
@@ -197,6 +198,9 @@ pub record Dropped (g : Geometry) (d d′ : List ℕ) (p : ℕ) : Type 0 where
   pub shorter : Shorter.Shorter g d d′ p which
   pub long : length d′ ≡ length d
   pub file : File g d′ p
+  -- only the file's entries and one bit are stored to, and no entry is new
+  pub touch : Touch.Touch g (chain g d p) [] d d′
+  pub entries : (x : ℕ) → In x (chain g d′ p) → In x (chain g d p)
 
 module _ (g : Geometry) (d : List ℕ) (c : Sound g d) (k : Places.Fits g d) (p : ℕ) (f : File g d p) (u : T (not (system g d p)))
     (size : sizeOf g d p + granuleBytes ≤ granuleBytes * length (owned g d p)) where
@@ -209,8 +213,40 @@ module _ (g : Geometry) (d : List ℕ) (c : Sound g d) (k : Places.Fits g d) (p 
   some-run : 1 ≤ runs g d t
   some-run = Drop.tail-run g d c p f (omega (arith, size))
 
-  by-shrink : (d′ : List ℕ) (n : ℕ) → Shrink.Shrinks g d d′ p n → length d′ ≡ length d → Dropped g d d′ p
-  by-shrink d′ n w l = record { which = n; change = Shrink.shrinks-change g d d′ c p f n w u; shorter = Shrink.shrinks-shorter g d d′ c p f n w; long = l; file = Shrink.shrinks-file g d d′ c p f n w }
+  by-shrink : (d′ : List ℕ) (n : ℕ) → Shrink.Shrinks g d d′ p n → length d′ ≡ length d → Touch.Touch g (chain g d p) [] d d′ → Dropped g d d′ p
+  by-shrink d′ n w l o = record {
+    which = n;
+    change = Shrink.shrinks-change g d d′ c p f n w u;
+    shorter = Shrink.shrinks-shorter g d d′ c p f n w;
+    long = l;
+    file = Shrink.shrinks-file g d d′ c p f n w;
+    touch = o;
+    entries = λ x i. subst (In x) (Shrink.shrinks-chain g d d′ c p f n w) i;
+  }
+
+  tail-here : In t (chain g d p)
+  tail-here = Change.tail-in g d c p f
+
+  last-lt : runStart g d t r + runLength g d t r - 1 < granules g
+  last-lt =
+      let m = Change.members g d c p t f tail-here in
+      omega (arith, Change.entry-at g d c t (m .slot) (m .used) .run r (omega (arith, some-run)) .inside)
+
+  shorter-touch : Touch.Touch g (chain g d p) [] d (freeGranule g (setField g d t (0x17 + 2 * r) (field g d t (0x17 + 2 * r) - 1)) (runStart g d t r + runLength g d t r - 1))
+  shorter-touch = Touch.touch-free g (chain g d p) [] d _ last-lt (Touch.touch-field g (chain g d p) [] d t (0x17 + 2 * r) _ tail-here (omega (arith, Entry.runs-le g d t)) Touch.Touch.none)
+
+  emptied-touch : Touch.Touch g (chain g d p) [] d (setField g (setField g d t (0x16 + 2 * r) 0xff) t (0x17 + 2 * r) 0xff)
+  emptied-touch =
+      Touch.touch-field g (chain g d p) [] d t (0x17 + 2 * r) 0xff tail-here (omega (arith, Entry.runs-le g d t))
+      (Touch.touch-field g (chain g d p) [] d t (0x16 + 2 * r) 0xff tail-here (omega (arith, Entry.runs-le g d t)) Touch.Touch.none)
+
+  unhook-touch : runs g d t ≡ 1 → In (field g d t 1) (chain g d p)
+      → Touch.Touch g (chain g d p) [] d (freeGranule g (unhooked g p (setField g (setField g d t 0x16 0xff) t 0x17 0xff) t (field g d t 1)) (runStart g d t 0 + runLength g d t 0 - 1))
+  unhook-touch one i =
+      let m = Change.members g d c p t f tail-here in
+      let l : runStart g d t 0 + runLength g d t 0 - 1 < granules g = omega (arith, Change.entry-at g d c t (m .slot) (m .used) .run 0 (omega (arith, one)) .inside) in
+      Touch.touch-free g (chain g d p) [] d _ l (Touch.touch-unhook g (chain g d p) [] d p t (field g d t 1) tail-here i
+      (Touch.touch-field g (chain g d p) [] d t 0x17 0xff tail-here (omega arith) (Touch.touch-field g (chain g d p) [] d t 0x16 0xff tail-here (omega arith) Touch.Touch.none)))
 
   by-unhook : T (extension g d t) → runs g d t ≡ 1 → runLength g d t 0 ≡ 1
       → Dropped g d (freeGranule g (unhooked g p (setField g (setField g d t 0x16 0xff) t 0x17 0xff) t (field g d t 1)) (runStart g d t 0 + runLength g d t 0 - 1)) p
@@ -222,7 +258,7 @@ module _ (g : Geometry) (d : List ℕ) (c : Sound g d) (k : Places.Fits g d) (p 
       let later : t ≢ p = λ q. T-not (extension g d p) (Facts.file-first g d p f) (rw q at x) in
       let v = before-tail g d c p f later in
       let w = emptied-unhooks g d c k p f size later one single b refl (Change.members g d c p b f (v .0) .slot) (v .1) in
-      record { which = n; change = Unhook.cut-change g d d′ c p f b n w u; shorter = Unhook.cut-shorter g d d′ c p f b n w; long = simp length-set; file = Unhook.cut-file g d d′ c p f b n w }
+      record { which = n; change = Unhook.cut-change g d d′ c p f b n w u; shorter = Unhook.cut-shorter g d d′ c p f b n w; long = simp length-set; file = Unhook.cut-file g d d′ c p f b n w; touch = unhook-touch one (v .0); entries = λ y j. subst (In y) (sym (Unhook.cut-chain g d d′ c p f b n w)) (Members.in-append-l (t ∷ []) j) }
 
   pub drop-one : Dropped g d (dropOne g p d) p
   unfolding dropOne words
@@ -234,12 +270,12 @@ module _ (g : Geometry) (d : List ℕ) (c : Sound g d) (k : Places.Fits g d) (p 
       go : Members.Test (ltb 1 (runLength g d t r)) → Members.Test (extension g d t && eqb r 0) → Dropped g d (dropOne g p d) p
       go (Members.Test.holds a) b =
           rw (Members.T-true {b = ltb 1 (runLength g d t r)} a)
-          (by-shrink _ (runStart g d t r + runLength g d t r - 1) (Drop.shorter-shrinks g d c k p f some-run size (ltb→lt 1 (runLength g d t r) a)) (simp length-set))
+          (by-shrink _ (runStart g d t r + runLength g d t r - 1) (Drop.shorter-shrinks g d c k p f some-run size (ltb→lt 1 (runLength g d t r) a)) (simp length-set) shorter-touch)
       go (Members.Test.fails a) (Members.Test.fails b) =
           let single : runLength g d t r ≡ 1 = omega (arith, nltb→le 1 (runLength g d t r) (not-T (ltb 1 (runLength g d t r)) a)) in
           let kept : t ≢ p → 1 ≤ r = λ n. over r (λ z. b (Members.and-i (extension g d t) (eqb r 0) (extends n) (Members.eq-T z))) in
           rw (Members.no-false {b = ltb 1 (runLength g d t r)} a, Members.no-false {b = extension g d t && eqb r 0} b)
-          (by-shrink _ (runStart g d t r + runLength g d t r - 1) (Drop.emptied-shrinks g d c k p f some-run size single kept) (simp length-set))
+          (by-shrink _ (runStart g d t r + runLength g d t r - 1) (Drop.emptied-shrinks g d c k p f some-run size single kept) (simp length-set) (Touch.touch-free g (chain g d p) [] d _ last-lt emptied-touch))
         where
           over : (y : ℕ) → y ≢ 0 → 1 ≤ y
           over y n = omega arith

@@ -8,9 +8,9 @@ use native.Mathlib.Omega.{arith}
 use lib.ListN.{length}
 use lib.Dec.{T, eqb, leb, ltb, T-not, not-T, eqb→eq}
 use Rattle.meaning.specs.Lists.{count, keep, same, all}
-use Rattle.meaning.specs.Layout.{fitsGeometry, isSlot, byte, taken, granules, granuleBytes, directoryGranules}
+use Rattle.meaning.specs.Layout.{fitsGeometry, isSlot, taken, granules}
 use Rattle.meaning.specs.Entries.{system, primary, nameOf}
-use Rattle.meaning.specs.Chain.{owned}
+use Rattle.meaning.specs.Chain.{chain, owned}
 use Rattle.meaning.specs.Consistent.{consistent}
 use Rattle.meaning.specs.Free.{freeGranules}
 use Rattle.meaning.specs.Kill.{kill}
@@ -27,6 +27,7 @@ use Rattle.laws.specs.Places
 use Rattle.laws.specs.Change
 use Rattle.laws.specs.Others
 use Rattle.laws.specs.Kill
+use Rattle.laws.specs.Touch
 use Rattle.laws.specs.Words.{words}
 
 -- a refusal that was not given does not apply
@@ -77,7 +78,7 @@ pub record KillMeans (g : Geometry) (d d′ : List ℕ) (p : ℕ) : Type 0 where
   pub gone : plain g d′ (nameOf g d p) ≡ nothing
   pub others : (n : List ℕ) → n ≢ nameOf g d p → hush (plain g d′ n) ≡ hush (plain g d n)
   pub beyond′ : (n : List ℕ) → n ≢ nameOf g d p → Others.beyond g d′ n ≡ Others.beyond g d n
-  pub still : (i : ℕ) → (In (i / granuleBytes) (directoryGranules g d) → ⊥) → byte d′ i ≡ byte d i
+  pub touch : Touch.Touch g (chain g d p) [] d d′
   pub same′ : (q : ℕ) → Facts.File g d q → q ≢ p → T (not (system g d q)) → fileAt g d′ q ≡ fileAt g d q
 
 kill-free : (g : Geometry) (d : List ℕ) (c : Facts.Sound g d) (k : Places.Fits g d) (p : ℕ) (f : Facts.File g d p)
@@ -105,7 +106,7 @@ kill-means g d h e =
       free = kill-free g d (w .sound) (w .fits) p (w .file);
       gone = Others.gone-plain g d (killed g d p) (w .sound) p x (w .file) n;
       others = λ m k. Others.others-plain g d (killed g d p) (w .sound) p x s m (λ f q. k (sym q)) (λ f. absurd (n f));
-      still = Kill.kill-same g d (w .sound) (w .fits) p (w .file);
+      touch = Touch.touch-killed g d (w .sound) p (w .file);
       beyond′ = λ m k. Others.beyond-plain g d (killed g d p) (w .sound) p x s m (λ f q. k (sym q)) (λ f. absurd (n f));
       same′ = Others.others g d (killed g d p) (w .sound) p x s;
     })

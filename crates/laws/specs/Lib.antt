@@ -18,6 +18,7 @@ pub mod Take
 pub mod Extend
 pub mod TakeNew
 pub mod FreeSlots
+pub mod Touch
 pub mod TakeOne
 pub mod Shorter
 pub mod Shrink

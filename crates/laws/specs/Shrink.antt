@@ -65,7 +65,7 @@ module _ (g : Geometry) (d d′ : List ℕ) (c : Sound g d) (p : ℕ) (f : Facts
   low : (k : ℕ) → k < 0x16 → field g d′ p k ≡ field g d p k
   low k b = steady p (f .slot) k (omega arith) (inl b)
 
-  shrinks-chain : chain g d′ p ≡ chain g d p
+  pub shrinks-chain : chain g d′ p ≡ chain g d p
   shrinks-chain = Frame.chain-links g d d′ (h .above) p (λ x i.
       (steady x (slot-of x i) 0x1e (omega arith) (inr (omega arith)), steady x (slot-of x i) 0x1f (omega arith) (inr (omega arith))))
 

@@ -34,6 +34,7 @@ use Rattle.laws.specs.Take
 use Rattle.laws.specs.Extend
 use Rattle.laws.specs.TakeNew
 use Rattle.laws.specs.FreeSlots
+use Rattle.laws.specs.Touch
 use Rattle.laws.specs.Words.{words}
 
 -- a granule taken: which, and what it means
@@ -43,6 +44,9 @@ pub record Took (g : Geometry) (d d′ : List ℕ) (p : ℕ) : Type 0 where
   pub longer : Longer.Longer g d d′ p which
   pub long : length d′ ≡ length d
   pub file : File g d′ p
+  -- only the file's entries and one bit are stored to, and no entry is lost
+  pub touch : Touch.Touch g (chain g d′ p) [] d d′
+  pub entries : (x : ℕ) → In x (chain g d p) → In x (chain g d′ p)
   -- an extension takes one permitted slot, and nothing else does
   pub slots : length (freeSlots g d) + length (chain g d p) ≡ length (freeSlots g d′) + length (chain g d′ p)
 
@@ -69,8 +73,36 @@ module _ (g : Geometry) (d : List ℕ) (c : Sound g d) (k : Places.Fits g d) (p 
   is-free : (n < granules g) × (T (taken g d n) → ⊥)
   is-free = first-free g d room
 
-  by-tail : (d′ : List ℕ) (m : ℕ) → Tail.Grows g d d′ p m → length d′ ≡ length d → Took g d d′ p
-  by-tail d′ m w l = record { which = m; change = Tail.grows-change g d d′ c p f m w u; longer = Tail.grows-longer g d d′ c p f m w; long = l; file = Tail.grows-file g d d′ c p f m w; slots = ap₂ (λ (a b : List ℕ). length a + length b) (sym (FreeSlots.slots-same g d d′ (w .above) (w .hits))) (sym (Tail.grows-chain g d d′ c p f m w)) }
+  by-tail : (d′ : List ℕ) (m : ℕ) → Tail.Grows g d d′ p m → length d′ ≡ length d → Touch.Touch g (chain g d p) [] d d′ → Took g d d′ p
+  by-tail d′ m w l t = record {
+    which = m;
+    change = Tail.grows-change g d d′ c p f m w u;
+    longer = Tail.grows-longer g d d′ c p f m w;
+    long = l;
+    file = Tail.grows-file g d d′ c p f m w;
+    touch = subst (λ (xs : List ℕ). Touch.Touch g xs [] d d′) (sym (Tail.grows-chain g d d′ c p f m w)) t;
+    entries = λ x i. subst (In x) (sym (Tail.grows-chain g d d′ c p f m w)) i;
+    slots = ap₂ (λ (a b : List ℕ). length a + length b) (sym (FreeSlots.slots-same g d d′ (w .above) (w .hits))) (sym (Tail.grows-chain g d d′ c p f m w));
+  }
+
+  tail-here : In e (chain g d p)
+  tail-here = Change.tail-in g d c p f
+
+  longer-touch : T (lengthens g p d) → Touch.Touch g (chain g d p) [] d (lengthened g p d)
+  longer-touch t =
+      let w = Take.lengthened-grows g d c k p f t in
+      Touch.touch-take g (chain g d p) [] d (after g p d) (w .inside)
+      (Touch.touch-field g (chain g d p) [] d e (0x17 + 2 * (runs g d e - 1)) _ tail-here (omega (arith, Entry.runs-le g d e)) Touch.Touch.none)
+
+  pair-touch : runs g d e < 4 → Touch.Touch g (chain g d p) [] d (withPair g p d e (runs g d e) n)
+  pair-touch h = Touch.touch-pair g (chain g d p) [] d p e (runs g d e) n tail-here h (is-free .0) Touch.Touch.none
+
+  -- the new entry at the end of the chain
+  new-touch : (x : ℕ) → Touch.Touch g (chain g d p ++ (x ∷ [])) [] d (withPair g p (withExtension g p d e x) x 0 n)
+  new-touch x =
+      let i = Members.in-append-r (chain g d p) {ys = x ∷ []} Members.In.here in
+      Touch.touch-pair g (chain g d p ++ (x ∷ [])) [] d p x 0 n i (omega arith) (is-free .0)
+      (Touch.touch-hook g (chain g d p ++ (x ∷ [])) [] d p e x (Members.in-append-l (x ∷ []) tail-here) i Touch.Touch.none)
 
   one-slot : (d′ : List ℕ) (x : ℕ) → In x (freeSlots g d) → Extend.Extends g d d′ p x n → length (freeSlots g d) + length (chain g d p) ≡ length (freeSlots g d′) + length (chain g d′ p)
   one-slot d′ x i w = omega (
@@ -90,6 +122,8 @@ module _ (g : Geometry) (d : List ℕ) (c : Sound g d) (k : Places.Fits g d) (p 
         longer = Extend.extends-longer g d d′ c p f x n w;
         long = simp length-set;
         file = Extend.extends-file g d d′ c p f x n w;
+        touch = subst (λ (xs : List ℕ). Touch.Touch g xs [] d d′) (sym (Extend.extends-chain g d d′ c p f x n w)) (new-touch x);
+        entries = λ y j. subst (In y) (sym (Extend.extends-chain g d d′ c p f x n w)) (Members.in-append-l (x ∷ []) j);
         slots = one-slot d′ x i w;
       }
 
@@ -109,11 +143,11 @@ module _ (g : Geometry) (d : List ℕ) (c : Sound g d) (k : Places.Fits g d) (p 
       go (Members.Test.holds t) b =
           let r : grown (lengthened g p d) ≡ grown d′ = rw (Members.T-true {b = lengthens g p d} t) at q in
           let s : lengthened g p d ≡ d′ = cc in
-          subst (λ (l : List ℕ). Took g d l p) s (by-tail (lengthened g p d) (after g p d) (Take.lengthened-grows g d c k p f t) (simp length-set))
+          subst (λ (l : List ℕ). Took g d l p) s (by-tail (lengthened g p d) (after g p d) (Take.lengthened-grows g d c k p f t) (simp length-set) (longer-touch t))
       go (Members.Test.fails a) (Members.Test.holds t) =
           let r : grown (withPair g p d e (runs g d e) n) ≡ grown d′ = rw (Members.no-false {b = lengthens g p d} a, Members.T-true {b = ltb (runs g d e) 4} t) at q in
           let s : withPair g p d e (runs g d e) n ≡ d′ = cc in
-          subst (λ (l : List ℕ). Took g d l p) s (by-tail (withPair g p d e (runs g d e) n) n (Take.paired-grows g d c k p f n (ltb→lt (runs g d e) 4 t) (is-free .0) (is-free .1)) (simp length-set))
+          subst (λ (l : List ℕ). Took g d l p) s (by-tail (withPair g p d e (runs g d e) n) n (Take.paired-grows g d c k p f n (ltb→lt (runs g d e) 4 t) (is-free .0) (is-free .1)) (simp length-set) (pair-touch (ltb→lt (runs g d e) 4 t)))
       go (Members.Test.fails a) (Members.Test.fails b) =
           let r : extended g p (freeSlots g d) d e n ≡ grown d′ = rw (Members.no-false {b = lengthens g p d} a, Members.no-false {b = ltb (runs g d e) 4} b) at q in
           extended-took d′ (freeSlots g d) (λ x i. i) (omega (arith, nltb→le (runs g d e) 4 (not-T (ltb (runs g d e) 4) b), Entry.runs-le g d e)) r

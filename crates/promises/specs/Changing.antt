@@ -10,11 +10,12 @@ use lib.Dec.{T}
 use Rattle.meaning.specs.Lists.{same, each, has}
 use Rattle.meaning.specs.Layout.{byte, granuleBytes, granuleSectors, directoryGranules}
 use Rattle.meaning.specs.Entries.{nameOf}
-use Rattle.meaning.specs.Chain.{owned}
+use Rattle.meaning.specs.Bits.{digit}
+use Rattle.meaning.specs.Chain.{chain, owned}
 use Rattle.meaning.specs.Free.{freeGranules}
 use Rattle.meaning.specs.LookUp.{named}
 use Rattle.meaning.specs.Refusals.{movedTo, lacking, first}
-use Rattle.meaning.specs.Create.{create}
+use Rattle.meaning.specs.Create.{create, newSlot}
 use Rattle.meaning.specs.Write.{writeRecord}
 use Rattle.meaning.specs.Allot.{allot, granulesTo}
 use Rattle.meaning.specs.Trim.{trim}
@@ -27,7 +28,11 @@ use Rattle.meaning.specs.declared.Mode.{Mode}
 use Rattle.laws.specs.Members
 use Rattle.laws.specs.Members.{In}
 use Rattle.laws.specs.Facts
+use Rattle.laws.specs.Places
 use Rattle.laws.specs.Named
+use Rattle.laws.specs.Touch
+use Rattle.laws.specs.Touch.{Touch, Aside}
+use Rattle.laws.specs.Words.{words}
 use Rattle.laws.specs.Others
 use Rattle.laws.specs.KillMeans
 use Rattle.laws.specs.KillMeans.{Holds}
@@ -36,6 +41,7 @@ use Rattle.promises.specs.Promises
 use Rattle.promises.specs.Promises.{Becomes, Changes, Serves, Call}
 use Rattle.promises.specs.Grow
 use Rattle.promises.specs.Trim
+use Rattle.promises.specs.Write
 use Rattle.promises.specs.WriteMeans
 
 module _ (g : Geometry) (d d′ n : List ℕ) (is : Found) where
@@ -48,26 +54,56 @@ module _ (g : Geometry) (d d′ n : List ℕ) (is : Found) where
       go (Members.Test.holds t) = rw (Members.T-true {b = same m n} t) (ap hush (ap (plain g d′) (Members.same-eq m n t) ∙ o))
       go (Members.Test.fails t) = rw (Members.no-false {b = same m n} t) (f m (λ e. t (subst (λ (l : List ℕ). T (same m l)) e (Members.same-refl m))))
 
-outside-of : (ns : List ℕ) (i : ℕ) → (T (Promises.within ns i) → ⊥) → In (i / granuleBytes) ns → ⊥
-outside-of ns i f k = f (Members.in-has k)
+-- stores to the file's own entries and granules, and to the GAT
+module _ (g : Geometry) (d d′ n : List ℕ) where
+  abbrev mine : List ℕ
+  mine = Promises.ownEntries g d n ++ Promises.ownEntries g d′ n
+
+  record Left : Type 0 where
+    untouched : (i : ℕ) → Aside g (Promises.ownEntries g d n ++ Promises.ownEntries g d′ n) (Promises.ownGranules g d′ n) i → byte d′ i ≡ byte d i
+    spare : (b u : ℕ) → b < g .blocks → g .units ≤ u → digit (byte d′ (256 * g .start + b)) u ≡ digit (byte d (256 * g .start + b)) u
+
+  left : Places.Fits g d → (xs ns : List ℕ) → Touch g xs ns d d′ → ((x : ℕ) → In x xs → In x (Promises.ownEntries g d n ++ Promises.ownEntries g d′ n))
+      → ((m : ℕ) → In m ns → In m (Promises.ownGranules g d′ n)) → ((b : ℕ) → b < g .blocks → In ((256 * g .start + b) / granuleBytes) ns → ⊥) → Left
+  left k xs ns t a b o = record {
+    untouched = Touch.touch-aside g d k (Touch.touch-more mine (Promises.ownGranules g d′ n) a b t);
+    spare = λ e u h l. Touch.touch-spare g d k t e u h l (o e h);
+  }
+
+  entries-before : (p x : ℕ) → named g d n ≡ p ∷ [] → In x (chain g d p) → In x (Promises.ownEntries g d n ++ Promises.ownEntries g d′ n)
+  entries-before p x e i = let j : In x (Promises.ownEntries g d n) = rw e (Members.in-append-l [] i) in Members.in-append-l (Promises.ownEntries g d′ n) j
+
+  entries-after : (p x : ℕ) → named g d′ n ≡ p ∷ [] → In x (chain g d′ p) → In x (Promises.ownEntries g d n ++ Promises.ownEntries g d′ n)
+  entries-after p x e i = Members.in-append-r (Promises.ownEntries g d n) (rw e (Members.in-append-l [] i))
+
+  -- no byte of data
+  left-before : Places.Fits g d → (p : ℕ) → named g d n ≡ p ∷ [] → Touch g (chain g d p) [] d d′ → Left
+  left-before k p e t = left k (chain g d p) [] t (λ x i. entries-before p x e i) (λ m i. Members.none-in i) (λ b h i. Members.none-in i)
+
+  left-after : Places.Fits g d → (p : ℕ) → named g d′ n ≡ p ∷ [] → Touch g (chain g d′ p) [] d d′ → Left
+  left-after k p e t = left k (chain g d′ p) [] t (λ x i. entries-after p x e i) (λ m i. Members.none-in i) (λ b h i. Members.none-in i)
 
 -- a call by a handle: what is said of the file at its slot is said of the file of its name
 module _ (g : Geometry) (d d′ : List ℕ) (h : Handle) (w : Holds g d h) (is : Found) where
   by-handle : plain g d′ (nameOf g d (h .slot)) ≡ is
       → ((m : List ℕ) → m ≢ nameOf g d (h .slot) → hush (plain g d′ m) ≡ hush (plain g d m))
       → ((m : List ℕ) → m ≢ nameOf g d (h .slot) → Others.beyond g d′ m ≡ Others.beyond g d m)
-      → ((i : ℕ) → (In (i / granuleBytes) (directoryGranules g d) → ⊥) → (In (i / granuleBytes) (Promises.ownGranules g d′ (nameOf g d (h .slot))) → ⊥) → byte d′ i ≡ byte d i)
+      → Left g d d′ (nameOf g d (h .slot))
       → length (freeGranules g d) + length (owned g d (h .slot)) ≡ length (freeGranules g d′) + Promises.granulesIn is
       → Becomes g d d′ (h .name) (found (fileAt g d (h .slot))) is
   unfolding fileAt
-  by-handle own others beyond′ still free = subst (λ (n : List ℕ). Becomes g d d′ n (found (fileAt g d (h .slot))) is) (w .name′) (record {
+  by-handle own others beyond′ l free = subst (λ (n : List ℕ). Becomes g d d′ n (found (fileAt g d (h .slot))) is) (w .name′) (record {
     before = Named.plain-is g d (w .sound) (h .slot) (nameOf g d (h .slot)) (w .file) refl;
     after = own;
     list = one-list g d d′ (nameOf g d (h .slot)) is own others;
     others = beyond′;
-    untouched = λ i a b. still i (outside-of (directoryGranules g d) i a) (outside-of (Promises.ownGranules g d′ (nameOf g d (h .slot))) i b);
+    untouched = l .untouched;
+    spare = l .spare;
     free = free;
   })
+
+  named-here : named g d (nameOf g d (h .slot)) ≡ h .slot ∷ []
+  named-here = Named.named-is g d (w .sound) (h .slot) (w .file)
 
 owns : (g : Geometry) (d : List ℕ) (p : ℕ) → length (owned g d p) ≡ fileAt g d p .granules
 unfolding fileAt
@@ -80,7 +116,7 @@ kill-serves g d h e =
     record {
       file = fileAt g d (h .slot);
       mine = refl;
-      becomes = by-handle g d (kill g d h .1) h w nothing (x .gone) (x .others) (x .beyond′) (λ i a b. x .still i a) (omega (arith, x .free));
+      becomes = by-handle g d (kill g d h .1) h w nothing (x .gone) (x .others) (x .beyond′) (left-before g d (kill g d h .1) (nameOf g d (h .slot)) (w .fits) (h .slot) (named-here g d (kill g d h .1) h w nothing) (x .touch)) (omega (arith, x .free));
       handle′ = refl;
     }
 
@@ -91,7 +127,8 @@ allot-serves g d h k e =
     record {
       file = fileAt g d (h .slot);
       mine = refl;
-      becomes = by-handle g d (allot g d h k .1) h w (found (allottedTo k (fileAt g d (h .slot)))) (x .own) (x .others) (x .beyond′) (λ i a b. x .still i a) (omega (arith, x .free));
+      becomes = by-handle g d (allot g d h k .1) h w (found (allottedTo k (fileAt g d (h .slot)))) (x .own) (x .others) (x .beyond′)
+          (left-after g d (allot g d h k .1) (nameOf g d (h .slot)) (w .fits) (h .slot) (Named.named-at g (allot g d h k .1) (Facts.sound g (allot g d h k .1) (x .consistent′)) (h .slot) (nameOf g d (h .slot)) (x .file′) (x .name′)) (x .touch)) (omega (arith, x .free));
       handle′ = refl;
     }
 
@@ -103,22 +140,30 @@ trim-serves g d h e =
     record {
       file = fileAt g d (h .slot);
       mine = refl;
-      becomes = by-handle g d (trim g d h .1) h w (found (trimmed (fileAt g d (h .slot)))) (x .own) (x .others) (x .beyond′) (λ i a b. x .still i a)
+      becomes = by-handle g d (trim g d h .1) h w (found (trimmed (fileAt g d (h .slot)))) (x .own) (x .others) (x .beyond′)
+          (left-before g d (trim g d h .1) (nameOf g d (h .slot)) (w .fits) (h .slot) (named-here g d (trim g d h .1) h w nothing) (x .touch))
           (x .free ∙ ap (λ (n : ℕ). length (freeGranules g (trim g d h .1)) + n) many);
       handle′ = refl;
     }
+
+-- a GAT byte of a block lies in the directory
+gat-in : (g : Geometry) (d : List ℕ) → Facts.Sound g d → Places.Fits g d → (b : ℕ) → b < g .blocks → In ((256 * g .start + b) / granuleBytes) (directoryGranules g d)
+unfolding words
+gat-in g d c k b h = Write.in-directory g d (256 * g .start + b) (k .start-at) (Places.dir g d (c .dir)) (omega arith) (omega (arith, k .blocks-hi))
 
 pub write-serves : (g : Geometry) (d : List ℕ) (m : Mode) (h : Handle) (b : List ℕ) → writeRecord g d m h b .0 .number ≡ 0 → Serves g d (Call.writes m h b)
 write-serves g d m h b e =
     let w = WriteMeans.write-wrote g d m h b e .0 in let x = WriteMeans.write-wrote g d m h b e .1 in
     let d′ = writeRecord g d m h b .1 in let p = h .slot in
     let many : length (owned g d′ p) ≡ writtenTo m (h .at) (take (h .len) b) (fileAt g d p) .granules = owns g d′ p ∙ ap (λ (f : File). f .granules) (x .told) in
-    let at : named g d′ (nameOf g d p) ≡ p ∷ [] = Named.named-at g d′ (Facts.sound g d′ (x .consistent′)) p (nameOf g d p) (x .file′) (x .name′) in
+    let c′ = Facts.sound g d′ (x .consistent′) in
+    let at : named g d′ (nameOf g d p) ≡ p ∷ [] = Named.named-at g d′ c′ p (nameOf g d p) (x .file′) (x .name′) in
     record {
       file = fileAt g d p;
       mine = refl;
       becomes = by-handle g d d′ h w (found (writtenTo m (h .at) (take (h .len) b) (fileAt g d p))) (x .own) (x .others) (x .beyond′)
-          (λ i u v. x .still i u (λ j. v (rw at (Members.in-append-l [] j))))
+          (left g d d′ (nameOf g d p) (w .fits) (chain g d′ p) (owned g d′ p) (x .touch) (λ y i. entries-after g d d′ (nameOf g d p) p y at i) (λ n i. rw at (Members.in-append-l [] i))
+          (λ b l i. x .apart ((256 * g .start + b) / granuleBytes) i (gat-in g d′ c′ (WriteMeans.fits-after g d d′ (w .fits) (x .long)) b l)))
           (x .free ∙ ap (λ (n : ℕ). length (freeGranules g d′) + n) many);
       handle′ = moved e;
     }
@@ -131,12 +176,15 @@ pub create-becomes : (g : Geometry) (d n : List ℕ) (f : NewFile) (checking : B
     → Becomes g d (create g d n f checking .1) n nothing (found (bornAs f))
 unfolding bornAs
 create-becomes g d n f checking e o =
-    let x = Create.create-means g d n f checking e o in
+    let x = Create.create-means g d n f checking e o in let z = Create.create-placed g d n f checking e o in
+    let d′ = create g d n f checking .1 in
+    let l = left-after g d d′ n (Create.create-fits g d n f checking e) (newSlot g d) (Named.named-at g d′ (Facts.sound g d′ (x .consistent′)) (newSlot g d) n (z .file) (z .name′)) (z .touch) in
     record {
       before = x .was;
       after = x .born;
       list = one-list g d (create g d n f checking .1) n (found (bornAs f)) (x .born) (x .others);
       others = x .beyond′;
-      untouched = λ i a b. x .still i (outside-of (directoryGranules g d) i a);
+      untouched = l .untouched;
+      spare = l .spare;
       free = ap (λ (l : List ℕ). length l + 0) (sym (x .free′));
     }

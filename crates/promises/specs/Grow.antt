@@ -36,6 +36,8 @@ use Rattle.laws.specs.TakeNew
 use Rattle.laws.specs.TakeOne
 use Rattle.laws.specs.Bytes
 use Rattle.laws.specs.Bytes.{Small}
+use Rattle.laws.specs.Touch
+use Rattle.laws.specs.Touch.{Touch}
 use Rattle.laws.specs.TakeOne.{Took}
 use Rattle.laws.specs.Named
 use Rattle.laws.specs.KillMeans
@@ -70,6 +72,8 @@ pub record Grew (g : Geometry) (d d′ : List ℕ) (p k : ℕ) : Type 0 where
   pub others : (n : List ℕ) → n ≢ nameOf g d p → hush (plain g d′ n) ≡ hush (plain g d n)
   pub beyond′ : (n : List ℕ) → n ≢ nameOf g d p → Others.beyond g d′ n ≡ Others.beyond g d n
   pub small : Small d → Small d′
+  pub touch : Touch g (chain g d′ p) [] d d′
+  pub entries : (x : ℕ) → In x (chain g d p) → In x (chain g d′ p)
   pub slots : length (freeSlots g d) + length (chain g d p) ≡ length (freeSlots g d′) + length (chain g d′ p)
   pub same : (i : ℕ) → (In (i / granuleBytes) (directoryGranules g d) → ⊥) → byte d′ i ≡ byte d i
 
@@ -94,6 +98,8 @@ module _ (g : Geometry) where
     others = λ n q. refl;
     beyond′ = λ n q. refl;
     small = λ b. b;
+    touch = Touch.Touch.none;
+    entries = λ x i. i;
     slots = refl;
     same = λ i o. refl;
   }
@@ -124,6 +130,8 @@ module _ (g : Geometry) where
         others = λ b q. Others.others-plain g d d₁ c p h s b (λ z a. q (sym a)) (λ z a. q (sym a ∙ n));
         beyond′ = λ b q. Others.beyond-plain g d d₁ c p h s b (λ z a. q (sym a)) (λ z a. q (sym a ∙ n));
         small = b;
+        touch = w .touch;
+        entries = w .entries;
         slots = w .slots;
         same = l .same;
       }
@@ -149,6 +157,8 @@ module _ (g : Geometry) where
     others = λ n q. y .others n (λ z. q (z ∙ x .name)) ∙ x .others n q;
     beyond′ = λ n q. y .beyond′ n (λ z. q (z ∙ x .name)) ∙ x .beyond′ n q;
     small = λ b. y .small (x .small b);
+    touch = Touch.touch-then (Touch.touch-more (chain g e p) [] (y .entries) (λ n i. i) (x .touch)) (y .touch);
+    entries = λ z i. y .entries z (x .entries z i);
     slots = x .slots ∙ y .slots;
     same = λ i o. y .same i (λ z. o (subst (λ (v : ℕ). In (i / granuleBytes) (count (g .start / granuleSectors) ((10 + v) / granuleSectors))) (x .above) z)) ∙ x .same i o;
   }
@@ -186,7 +196,9 @@ pub record AllotMeans (g : Geometry) (d d′ : List ℕ) (p k : ℕ) : Type 0 wh
   pub own : plain g d′ (nameOf g d p) ≡ found (allottedTo k (fileAt g d p))
   pub others : (n : List ℕ) → n ≢ nameOf g d p → hush (plain g d′ n) ≡ hush (plain g d n)
   pub beyond′ : (n : List ℕ) → n ≢ nameOf g d p → Others.beyond g d′ n ≡ Others.beyond g d n
-  pub still : (i : ℕ) → (In (i / granuleBytes) (directoryGranules g d) → ⊥) → byte d′ i ≡ byte d i
+  pub touch : Touch g (chain g d′ p) [] d d′
+  pub file′ : File g d′ p
+  pub name′ : nameOf g d′ p ≡ nameOf g d p
   pub small : Small d → Small d′
   pub free : length (freeGranules g d) ≡ length (freeGranules g d′) + lacking g d p (k / granuleSectors + 1)
 
@@ -215,7 +227,9 @@ allot-means g d h k e =
       own = Named.plain-is g d′ (x .sound) p (nameOf g d p) (x .file) (x .name) ∙ ap {B = Found} found (allotted g d d′ p k x);
       others = x .others;
       beyond′ = x .beyond′;
-      still = x .same;
+      touch = x .touch;
+      file′ = x .file;
+      name′ = x .name;
       small = x .small;
       free = x .free;
     })

@@ -3,7 +3,7 @@
 --
 -- `EveryCall` is the whole of it for one call: what an accepted call answers and does, what a refused one leaves, which number is given
 -- exactly when, and what no call changes. `EveryState` says it of each state that a list of calls reaches.
-use Prim.Native.Nat.{ℕ, _+_, _-_, _*_, _/_, _%_, _≤_, _<_}
+use Prim.Native.Nat.{ℕ, _+_, _-_, _*_, _%_, _≤_, _<_}
 use mathlib.Core.Path.{_≡_}
 use mathlib.Core.Logic.{_≢_, _↔_, _⊎_}
 use mathlib.Core.Bool.{Bool, true, false, not, cond, _&&_}
@@ -11,9 +11,9 @@ use mathlib.Core.List.{List, [], _∷_, _++_}
 use lib.Dec.{T, leb, eqb}
 use lib.ListN.{length, getD, take, drop}
 use lib.Seq.{slice}
-use Rattle.meaning.specs.Lists.{keep, each, has, firstOr}
-use Rattle.meaning.specs.Bits.{bit}
-use Rattle.meaning.specs.Layout.{fitsGeometry, granules, granuleBytes, granuleSectors, sectors, highest, sectorNumbers, mostBlocks, mostUnits, slots, isSlot, hit, byte, granulesFor, directoryGranules}
+use Rattle.meaning.specs.Lists.{keep, each, firstOr}
+use Rattle.meaning.specs.Bits.{bit, digit}
+use Rattle.meaning.specs.Layout.{fitsGeometry, granules, granuleBytes, granuleSectors, sectors, highest, sectorNumbers, mostBlocks, mostUnits, slots, isSlot, hit, byte, granulesFor}
 use Rattle.meaning.specs.Names.{hash, wellFormed}
 use Rattle.meaning.specs.Entries.{inUse, extension, nameOf, sectorCount, runs}
 use Rattle.meaning.specs.Chain.{chain, owned, files}
@@ -37,6 +37,7 @@ use Rattle.meaning.specs.declared.Handle.{Handle}
 use Rattle.meaning.specs.declared.NewFile.{NewFile}
 use Rattle.meaning.specs.declared.Mode.{Mode}
 use Rattle.laws.specs.Others.{beyond}
+use Rattle.laws.specs.Touch.{Aside}
 
 -- Calls -----------------------------------------------------------------------------------------------------------------------------
 
@@ -122,23 +123,24 @@ abbrev pub granulesIn : Found → ℕ
 granulesIn nothing = 0
 granulesIn (found f) = f .granules
 
--- the granules of the file called n
+-- the entries of the file called n, and its granules
+abbrev pub ownEntries : Geometry → List ℕ → List ℕ → List ℕ
+ownEntries g d n = each (chain g d) (named g d n)
+
 abbrev pub ownGranules : Geometry → List ℕ → List ℕ → List ℕ
 ownGranules g d n = each (owned g d) (named g d n)
 
--- place i of the image lies in one of these granules
-abbrev pub within : List ℕ → ℕ → Bool
-within ns i = has ns (i / granuleBytes)
-
 -- The file called n was `was` and is `is`. Every other file is as it was: attributes, size, granule count and, system files apart, bytes
--- (`list`); and of a system file too, every byte that lies in no granule of the directory (`others`). Outside the directory and the
--- file's own granules no byte of the image changes, be it free or reserved (`untouched`). FREE falls by what was taken.
+-- (`list`); and of a system file too, every byte that lies in no granule of the directory (`others`). Only the file's own sectors, entries
+-- and the GAT and HIT change: every other byte of the image is as it was, be it free, reserved or of no slot (`untouched`), and so are the
+-- bits of the GAT past the last unit (`spare`). FREE falls by what was taken.
 pub record Becomes (g : Geometry) (d d′ n : List ℕ) (was is : Found) : Type 0 where
   pub before : plain g d n ≡ was
   pub after : plain g d′ n ≡ is
   pub list : (m : List ℕ) → hush (plain g d′ m) ≡ hush (with′ (plain g d) n is m)
   pub others : (m : List ℕ) → m ≢ n → beyond g d′ m ≡ beyond g d m
-  pub untouched : (i : ℕ) → (T (within (directoryGranules g d) i) → ⊥) → (T (within (ownGranules g d′ n) i) → ⊥) → byte d′ i ≡ byte d i
+  pub untouched : (i : ℕ) → Aside g (ownEntries g d n ++ ownEntries g d′ n) (ownGranules g d′ n) i → byte d′ i ≡ byte d i
+  pub spare : (b u : ℕ) → b < g .blocks → g .units ≤ u → digit (byte d′ (256 * g .start + b)) u ≡ digit (byte d (256 * g .start + b)) u
   pub free : length (freeGranules g d) + granulesIn was ≡ length (freeGranules g d′) + granulesIn is
 
 -- a handle that is not stale: its slot is one the directory has, in use, primary, and carries its name

@@ -27,6 +27,8 @@ use Rattle.laws.specs.Others
 use Rattle.laws.specs.Named
 use Rattle.laws.specs.Bytes
 use Rattle.laws.specs.Bytes.{Small}
+use Rattle.laws.specs.Touch
+use Rattle.laws.specs.Touch.{Touch}
 use Rattle.laws.specs.KillMeans
 use Rattle.meaning.specs.Layout.{byte, field, directoryGranules, granuleBytes, granuleSectors, aboveTen}
 use Rattle.meaning.specs.declared.Handle.{Handle}
@@ -66,8 +68,8 @@ pub record Shrank (g : Geometry) (d d′ : List ℕ) (p k : ℕ) : Type 0 where
   pub bytes : fileAt g d′ p .bytes ≡ fileAt g d p .bytes
   pub others : (n : List ℕ) → n ≢ nameOf g d p → hush (plain g d′ n) ≡ hush (plain g d n)
   pub beyond′ : (n : List ℕ) → n ≢ nameOf g d p → Others.beyond g d′ n ≡ Others.beyond g d n
-  pub above : aboveTen g d′ ≡ aboveTen g d
-  pub still : (i : ℕ) → (In (i / granuleBytes) (directoryGranules g d) → ⊥) → byte d′ i ≡ byte d i
+  pub touch : Touch g (chain g d p) [] d d′
+  pub entries : (x : ℕ) → In x (chain g d′ p) → In x (chain g d p)
   pub small : Small d → Small d′
 
 module _ (g : Geometry) where
@@ -89,8 +91,8 @@ module _ (g : Geometry) where
     bytes = refl;
     others = λ n q. refl;
     beyond′ = λ n q. refl;
-    above = refl;
-    still = λ i o. refl;
+    touch = Touch.Touch.none;
+    entries = λ x i. i;
     small = λ b. b;
   }
 
@@ -118,13 +120,12 @@ module _ (g : Geometry) where
         bytes = sym (ap (λ (x : Rattle.meaning.specs.Plain.File). x .bytes) file′);
         others = λ b q. Others.others-plain g d d₁ c p h s b (λ z a. q (sym a)) (λ z a. q (sym a ∙ n));
         beyond′ = λ b q. Others.beyond-plain g d d₁ c p h s b (λ z a. q (sym a)) (λ z a. q (sym a ∙ n));
-        above = h .above;
-        still = l .same;
+        touch = w .touch;
+        entries = w .entries;
         small = b;
       }
 
   shrank-trans : (a b e : List ℕ) (p j k : ℕ) → Shrank g a b p j → Shrank g b e p k → Shrank g a e p (j + k)
-  unfolding words
   shrank-trans a b e p j k x y = record {
     sound = y .sound;
     fits = y .fits;
@@ -142,8 +143,8 @@ module _ (g : Geometry) where
     bytes = y .bytes ∙ x .bytes;
     others = λ n q. y .others n (λ z. q (z ∙ x .name)) ∙ x .others n q;
     beyond′ = λ n q. y .beyond′ n (λ z. q (z ∙ x .name)) ∙ x .beyond′ n q;
-    above = y .above ∙ x .above;
-    still = λ i o. y .still i (λ z. o (subst (λ (v : ℕ). In (i / granuleBytes) (count (g .start / granuleSectors) ((10 + v) / granuleSectors))) (x .above) z)) ∙ x .still i o;
+    touch = Touch.touch-then (x .touch) (Touch.touch-more (chain g a p) [] (x .entries) (λ n i. i) (y .touch));
+    entries = λ z i. x .entries z (y .entries z i);
     small = λ b. y .small (x .small b);
   }
 
@@ -164,7 +165,7 @@ pub record TrimMeans (g : Geometry) (d d′ : List ℕ) (p : ℕ) : Type 0 where
   pub own : plain g d′ (nameOf g d p) ≡ found (trimmed (fileAt g d p))
   pub others : (n : List ℕ) → n ≢ nameOf g d p → hush (plain g d′ n) ≡ hush (plain g d n)
   pub beyond′ : (n : List ℕ) → n ≢ nameOf g d p → Others.beyond g d′ n ≡ Others.beyond g d n
-  pub still : (i : ℕ) → (In (i / granuleBytes) (directoryGranules g d) → ⊥) → byte d′ i ≡ byte d i
+  pub touch : Touch g (chain g d p) [] d d′
   pub told : fileAt g d′ p ≡ trimmed (fileAt g d p)
   pub free : length (freeGranules g d) + length (owned g d p) ≡ length (freeGranules g d′) + length (owned g d′ p)
   pub small : Small d → Small d′
@@ -205,7 +206,7 @@ trim-means g d h e =
       own = Named.plain-is g d (w .sound) (h .slot) (nameOf g d (h .slot)) (w .file) refl ∙ ap {B = Found} found (trim-kept g d (h .slot) t);
       others = λ n q. refl;
       beyond′ = λ n q. refl;
-      still = λ i o. refl;
+      touch = Touch.Touch.none;
       told = trim-kept g d (h .slot) t;
       free = refl;
       small = λ b. b;
@@ -222,7 +223,7 @@ trim-means g d h e =
           own = Named.plain-is g d′ (x .sound) (h .slot) (nameOf g d (h .slot)) (x .file) (x .name) ∙ ap {B = Found} found (trim-done g d d′ (h .slot) t (omega (arith, fit)) x);
           others = x .others;
           beyond′ = x .beyond′;
-          still = x .still;
+          touch = x .touch;
           told = trim-done g d d′ (h .slot) t (omega (arith, fit)) x;
           free = omega (arith, x .free, x .many, ap length (x .owned′) ∙ length-append (owned g d′ (h .slot)) (x .old));
           small = x .small;

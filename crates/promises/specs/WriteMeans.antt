@@ -26,6 +26,8 @@ use Rattle.laws.specs.Change
 use Rattle.laws.specs.Others
 use Rattle.laws.specs.Named
 use Rattle.laws.specs.KillMeans
+use Rattle.laws.specs.Touch
+use Rattle.laws.specs.Touch.{Touch}
 use Rattle.meaning.specs.Layout.{byte, field, directoryGranules, granuleBytes, granuleSectors, aboveTen}
 use Rattle.meaning.specs.declared.Handle.{Handle}
 use mathlib.Core.List.{append-nil}
@@ -34,7 +36,7 @@ use Prim.Native.Nat.{max}
 use mathlib.Core.List.{map}
 use Rattle.laws.specs.Store.{store-length}
 use lib.ListN.{length-set}
-use lib.ListN.{length, getD, set, take, drop, replicate, length-append, length-take, length-map}
+use lib.ListN.{length, getD, set, take, drop, replicate, length-append, length-take, length-map, length-replicate}
 use Rattle.meaning.specs.Lists.{same}
 use Rattle.meaning.specs.Entries.{sizeOf, primary}
 use Rattle.meaning.specs.Chain.{place}
@@ -131,7 +133,8 @@ pub record Wrote (g : Geometry) (d d′ : List ℕ) (p : ℕ) (w : Plain.File) :
   pub own : plain g d′ (nameOf g d p) ≡ found w
   pub others : (n : List ℕ) → n ≢ nameOf g d p → hush (plain g d′ n) ≡ hush (plain g d n)
   pub beyond′ : (n : List ℕ) → n ≢ nameOf g d p → Others.beyond g d′ n ≡ Others.beyond g d n
-  pub still : (i : ℕ) → (In (i / granuleBytes) (directoryGranules g d) → ⊥) → (In (i / granuleBytes) (owned g d′ p) → ⊥) → byte d′ i ≡ byte d i
+  pub touch : Touch g (chain g d′ p) (owned g d′ p) d d′
+  pub apart : (n : ℕ) → In n (owned g d′ p) → In n (directoryGranules g d′) → ⊥
   pub free : length (freeGranules g d) + length (owned g d p) ≡ length (freeGranules g d′) + length (owned g d′ p)
   pub file′ : File g d′ p
   pub name′ : nameOf g d′ p ≡ nameOf g d p
@@ -179,6 +182,27 @@ module _ (g : Geometry) (d d₁ : List ℕ) (p : ℕ) (m : Mode) (at : ℕ) (r :
       let w = rewrites g d₁ (x .sound) (x .fits) p (x .file) (x .user) m at r fit₁ in
       rw (Rewrite.rw-free g d₁ d₄ (x .sound) p (x .file) w, Rewrite.rw-owned g d₁ d₄ (x .sound) p (x .file) w) (omega (arith, x .free, own₁))
 
+  -- the stores: growth, then bytes of the granules owned, then the file's entry
+  touch₄ : Touch g (chain g (img (sizeOf g d₁ p)) p) (owned g (img (sizeOf g d₁ p)) p) d (img (sizeOf g d₁ p))
+  touch₄ =
+      let d₄ = img (sizeOf g d₁ p) in let old = sizeOf g d₁ p in
+      let w = rewrites g d₁ (x .sound) (x .fits) p (x .file) (x .user) m at r fit₁ in
+      let xs = chain g d₁ p in let ns = owned g d₁ p in
+      let end₁ = end g d₁ (x .sound) (x .fits) p (x .file) (x .user) m at r fit₁ in
+      let grown′ : Touch g xs ns d d₁ = Touch.touch-more xs ns (λ y i. i) (λ n i. Members.none-in i) (x .touch) in
+      let zeros : length {A = ℕ} (replicate (at - old) 0) ≡ at - old = length-replicate (at - old) 0 in
+      let stored = Touch.touch-store g xs ns d (place g d₁ p) r at (λ j a b. Others.place-in g d₁ p j (omega arith))
+      (Touch.touch-store g xs ns d (place g d₁ p) (replicate (at - old) 0) old (λ j a b. Others.place-in g d₁ p j (omega arith)) grown′) in
+      subst (λ (l : List ℕ). Touch g l (owned g d₄ p) d d₄) (sym (Rewrite.rw-chain g d₁ d₄ (x .sound) p (x .file) w))
+      (subst (λ (l : List ℕ). Touch g xs l d d₄) (sym (Rewrite.rw-owned g d₁ d₄ (x .sound) p (x .file) w))
+      (Touch.touch-size g xs ns d d₁ p (sizeAfter m old (at + length r)) (Change.chain-head g d₁ (x .sound) p (x .file .slot)) stored))
+
+  user₄ : Sound g (img (sizeOf g d₁ p)) → T (not (system g (img (sizeOf g d₁ p)) p))
+  user₄ s =
+      let d₄ = img (sizeOf g d₁ p) in
+      let e : field g d₄ p 0 ≡ field g d₁ p 0 = kept g d₁ (x .sound) (x .fits) p (x .file) (x .user) m at r fit₁ 0 (omega arith) (record { flags = omega arith; ends = omega arith; low = omega arith; high = omega arith }) in
+      rw e (x .user)
+
   pub wrote : Wrote g d (img (sizeOf g d₁ p)) p (writtenTo m at r (fileAt g d p))
   unfolding words
   wrote =
@@ -193,13 +217,18 @@ module _ (g : Geometry) (d d₁ : List ℕ) (p : ℕ) (m : Mode) (at : ℕ) (r :
         reserved′ = Others.reserved-stays g d₁ d₄ (x .sound) p h ∙ x .reserved′;
         own = Named.plain-is g d₄ s p (nameOf g d p) (Rewrite.rw-file g d₁ d₄ (x .sound) p (x .file) w) n ∙ ap {B = Found} found written-file;
         beyond′ = λ b q. Others.beyond-plain g d₁ d₄ (x .sound) p h (Rewrite.rw-same g d₁ d₄ (x .sound) p (x .file) w) b (λ z a. q (sym a ∙ x .name)) (λ z a. q (sym a ∙ n)) ∙ x .beyond′ b q;
-        still = λ i o q. w .same i (λ z. o (subst (λ (v : ℕ). In (i / granuleBytes) (count (g .start / granuleSectors) ((10 + v) / granuleSectors))) (x .above) z)) (λ z. q (rw (Rewrite.rw-owned g d₁ d₄ (x .sound) p (x .file) w) z)) ∙ x .same i o;
+        touch = touch₄;
+        apart = λ n i. Change.filed-at g d₄ s p (Rewrite.rw-file g d₁ d₄ (x .sound) p (x .file) w) .off (user₄ s) n i;
         free = free₄;
         file′ = Rewrite.rw-file g d₁ d₄ (x .sound) p (x .file) w;
         name′ = n;
         told = written-file;
         others = λ b q. Others.others-plain g d₁ d₄ (x .sound) p h (Rewrite.rw-same g d₁ d₄ (x .sound) p (x .file) w) b (λ z a. q (sym a ∙ x .name)) (λ z a. q (sym a ∙ n)) ∙ x .others b q;
       }
+
+-- the geometry fits an image of the same length
+pub fits-after : (g : Geometry) (d d′ : List ℕ) → Places.Fits g d → length d′ ≡ length d → Places.Fits g d′
+fits-after g d d′ k l = record { blocks-lo = k .blocks-lo; blocks-hi = k .blocks-hi; units-lo = k .units-lo; units-hi = k .units-hi; start-at = k .start-at; size = l ∙ k .size }
 
 pub write-wrote : (g : Geometry) (d : List ℕ) (m : Mode) (h : Handle) (b : List ℕ) → writeRecord g d m h b .0 .number ≡ 0
     → KillMeans.Holds g d h × Wrote g d (writeRecord g d m h b .1) (h .slot) (writtenTo m (h .at) (take (h .len) b) (fileAt g d (h .slot)))
