@@ -8,3 +8,4 @@ pub mod Quiet
 pub mod Still
 pub mod Bytes
 pub mod Demand3
+pub mod Asked

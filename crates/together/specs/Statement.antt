@@ -1,7 +1,8 @@
 -- Demand 3, as it is stated: two lists of calls, each on its own file, and one consistent disk. Any two interleavings of the lists in
 -- which every call is accepted agree in what `Agree` says, at the end of this page. The proof is in Demand3.antt.
 --
--- Everything here is about the calls of `meaning`, which answer as the program does: each function's contract says so.
+-- `answer` is all that this page knows of the calls, and it only names those of `meaning`, which answer as the program does: each
+-- function's contract says so. The files are those that demand 2 speaks of, `plain`.
 use Prim.Native.Nat.{ℕ, _<_}
 use mathlib.Core.Path.{_≡_}
 use mathlib.Core.Logic.{_≢_}
@@ -54,47 +55,26 @@ pub data Call : Type 0 where
   trims : ℕ → Call
   kills : ℕ → Call
 
-abbrev pub systemFile : File → Bool
-systemFile f = bit 6 (getD (f .attributes) 0 0)
-
--- what is kept of bytes handed back from a file: of a system file none, for the directory may itself be a file
-unfoldable pub kept : Found → List ℕ → List ℕ
-kept nothing bytes = []
-kept (found f) bytes = cond (systemFile f) [] bytes
-
 -- what a list has by now: its handles in the order in which it opened or created them, and what its reads handed back, in their order
 pub record Side : Type 0 where
   pub handles : List Handle
   pub heard : List (List ℕ)
 
+-- the handle at that place; where the list has none, which `known` forbids, the handle of zeros
 abbrev pub handleAt : List Handle → ℕ → Handle
 handleAt hs i = getD hs i noHandle
 
+-- a handle more
 abbrev pub withNew : Side → Handle → Side
 withNew s h = record { handles = s .handles ++ (h ∷ []); heard = s .heard }
 
+-- the i-th handle as a call leaves it
 abbrev pub withMoved : Side → ℕ → Handle → Side
 withMoved s i h = record { handles = set (s .handles) i h; heard = s .heard }
 
+-- some bytes more
 abbrev pub hearing : Side → List ℕ → Side
 hearing s bytes = record { handles = s .handles; heard = s .heard ++ (bytes ∷ []) }
-
--- what a caller's types see to: a record to be written is of bytes, the codes of a new file have 16 bits
-abbrev pub Brings : Call → Type 0
-Brings looksUp = Unit {0}
-Brings (opens len checking code) = Unit {0}
-Brings (creates f checking) = (f .main < 65536) × (f .worker < 65536)
-Brings (moves i at) = Unit {0}
-Brings (reads i buffer) = Unit {0}
-Brings (readsSector i k) = Unit {0}
-Brings (writes m i bytes) = AreBytes bytes
-Brings (allots i k) = Unit {0}
-Brings (trims i) = Unit {0}
-Brings (kills i) = Unit {0}
-
-abbrev pub AllBring : List Call → Type 0
-AllBring [] = Unit {0}
-AllBring (c ∷ cs) = Brings c × AllBring cs
 
 -- the list has the handle that the call names
 unfoldable pub known : List Handle → Call → Bool
@@ -108,6 +88,15 @@ known hs (writes m i bytes) = ltb i (length hs)
 known hs (allots i k) = ltb i (length hs)
 known hs (trims i) = ltb i (length hs)
 known hs (kills i) = ltb i (length hs)
+
+-- bit 6 of attribute byte 00
+abbrev pub systemFile : File → Bool
+systemFile f = bit 6 (getD (f .attributes) 0 0)
+
+-- what is kept of bytes handed back from a file: of a system file none, for the directory may itself be a file
+unfoldable pub kept : Found → List ℕ → List ℕ
+kept nothing bytes = []
+kept (found f) bytes = cond (systemFile f) [] bytes
 
 -- the number that a call answers, and the disk and the list's side that it leaves
 pub record Answered : Type 0 where
@@ -226,6 +215,23 @@ pub record Grip : Type 0 where
 
 abbrev pub grip : Handle → Grip
 grip h = record { name = h .name; at = h .at; len = h .len; level = h .level }
+
+-- what a caller's types see to: a record to be written is of bytes, the codes of a new file have 16 bits
+abbrev pub Brings : Call → Type 0
+Brings looksUp = Unit {0}
+Brings (opens len checking code) = Unit {0}
+Brings (creates f checking) = (f .main < 65536) × (f .worker < 65536)
+Brings (moves i at) = Unit {0}
+Brings (reads i buffer) = Unit {0}
+Brings (readsSector i k) = Unit {0}
+Brings (writes m i bytes) = AreBytes bytes
+Brings (allots i k) = Unit {0}
+Brings (trims i) = Unit {0}
+Brings (kills i) = Unit {0}
+
+abbrev pub AllBring : List Call → Type 0
+AllBring [] = Unit {0}
+AllBring (c ∷ cs) = Brings c × AllBring cs
 
 -- of the worlds w and w′ at the end of two interleavings of xs and ys, the first of them zs, from the disk d
 pub record Agree (g : Geometry) (a b : Name) (d : List ℕ) (xs ys : List Call) (zs : List Turn) (w w′ : World) : Type 0 where
