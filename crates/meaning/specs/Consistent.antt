@@ -89,15 +89,25 @@ module _ (g : Geometry) (d : List ℕ) where
   unfoldable pub met : List ℕ
   met = each (Chain.chain g d) (Chain.files g d)
 
+  -- Each in-use extension belongs to exactly one file's chain: no chain meets an entry twice, and every entry in use is met.
+  abbrev pub metOnce : Bool
+  metOnce = distinct met
+
+  abbrev pub allMet : Bool
+  allMet = every (has met) (keep (Entries.inUse g d) (Layout.slots g d))
+
+  -- No granule is in two runs.
+  abbrev pub granulesOnce : Bool
+  granulesOnce = distinct (each (Chain.owned g d) (Chain.files g d))
+
+  -- Directory granules are set in the GAT.
+  abbrev pub directoryTaken : Bool
+  directoryTaken = every (Layout.taken g d) (Layout.directoryGranules g d)
+
   unfoldable pub consistent : Bool
   consistent =
       all (lengthHolds
       ∷ every slotHolds (Layout.slots g d)
       ∷ every fileHolds (Chain.files g d)
       ∷ namesDiffer (Chain.files g d)
-      -- each in-use extension belongs to exactly one file's chain
-      ∷ distinct met ∷ every (has met) (keep (Entries.inUse g d) (Layout.slots g d))
-      -- no granule is in two runs
-      ∷ distinct (each (Chain.owned g d) (Chain.files g d))
-      -- directory granules are set in the GAT
-      ∷ every (Layout.taken g d) (Layout.directoryGranules g d) ∷ [])
+      ∷ metOnce ∷ allMet ∷ granulesOnce ∷ directoryTaken ∷ [])
