@@ -1,4 +1,4 @@
--- The search, slot by slot: what is left of the candidates from slot s on.
+-- The search, slot by slot, and the refusals of look up.
 use mathlib.Core.Path.{_≡_, refl, sym, ap, _∙_}
 use mathlib.Core.List.{List, [], _∷_, _++_}
 use mathlib.Core.Bool.{Bool, true, false, not, cond, _&&_}
@@ -10,44 +10,35 @@ use lib.ListN.{length, getD, take, drop}
 use lib.Seq.{drop-cons}
 use lib.Dec.{eqb}
 use lib.Bits.{bitXor}
-use borrow.Author.Tests.{not-true, not-false, eqb-true}
-use Rattle.meaning.specs.Lists.{count, keep, through, has}
-use Rattle.meaning.specs.Layout.{hit, isSlot, slots}
-use Rattle.meaning.specs.Names.{hash, mix, wellFormed}
+use borrow.Author.Tests.{not-true, not-false, ne-eqb}
+use Rattle.meaning.specs.Lists.{keep, through, has, firstOr}
+use Rattle.meaning.specs.Layout.{hit, slots, directorySectors}
+use Rattle.meaning.specs.Names.{hash, mix}
 use Rattle.meaning.specs.LookUp.{candidates, carries, comparedIn, named, lookUp, lookUpRefusals}
-use Rattle.meaning.specs.Refusals.{first, accepted}
-use Rattle.meaning.specs.Lists.{firstOr}
+use Rattle.meaning.specs.Refusals.{first, accepted, check, badGeometry, notConsistent}
 use Rattle.meaning.specs.declared.LookedUp.{LookedUp}
 use Rattle.meaning.specs.declared.Geometry.{Geometry}
-use Rattle.layout.proofs.Lists.{keep-yes, keep-no, all-at}
+use Rattle.layout.proofs.Lists.{keep-yes, keep-no, first-hit, first-skip, first-none}
+use Rattle.handle.proofs.Laws.{check-stop}
 use Rattle.find.specs.Found.{Finds}
 use Rattle.find.specs.declared.Found.{Found}
+use Rattle.find.proofs.Pass.{slotsFrom, slots-start, slots-here, slots-past, slots-end}
 
 pub through-more : (n : List ℕ) (h i : ℕ) → i < length n → through mix h (drop i n) ≡ through mix (mix h (getD n i 0)) (drop (i + 1) n)
 through-more n h i l = simp (drop-cons n i 0 l, add-one)
 
 module _ (g : Geometry) (d n : List ℕ) where
-  pub hashed : ℕ → Bool
-  hashed s = eqb (hit g d s) (hash n)
+  -- those of a list of slots whose HIT byte is the hash
+  unfoldable pub hashed : List ℕ → List ℕ
+  hashed ss = keep (λ s. eqb (hit g d s) (hash n)) ss
 
-  unfoldable pub from : ℕ → ℕ → List ℕ
-  from m s = keep (λ s. eqb (hit g d s) (hash n)) (keep (isSlot g d) (count s m))
+  hashed-no : (s : ℕ) → eqb (hit g d s) (hash n) ≡ false → (ss : List ℕ) → hashed (s ∷ ss) ≡ hashed ss
+  unfolding hashed
+  hashed-no s h ss = keep-no (λ s. eqb (hit g d s) (hash n)) {x = s} h ss
 
-  pub from-shut : (s : ℕ) → isSlot g d s ≡ false → (m : ℕ) → from (suc m) s ≡ from m (s + 1)
-  unfolding from
-  from-shut s h m = ap (keep (λ s. eqb (hit g d s) (hash n))) (keep-no (isSlot g d) h (count (s + 1) m))
-
-  pub from-other : (s : ℕ) → isSlot g d s ≡ true → eqb (hit g d s) (hash n) ≡ false → (m : ℕ) → from (suc m) s ≡ from m (s + 1)
-  unfolding from
-  from-other s h k m =
-      ap (keep (λ s. eqb (hit g d s) (hash n))) (keep-yes (isSlot g d) h (count (s + 1) m))
-      ∙ keep-no (λ s. eqb (hit g d s) (hash n)) k (keep (isSlot g d) (count (s + 1) m))
-
-  pub from-one : (s : ℕ) → isSlot g d s ≡ true → eqb (hit g d s) (hash n) ≡ true → (m : ℕ) → from (suc m) s ≡ s ∷ from m (s + 1)
-  unfolding from
-  from-one s h k m =
-      ap (keep (λ s. eqb (hit g d s) (hash n))) (keep-yes (isSlot g d) h (count (s + 1) m))
-      ∙ keep-yes (λ s. eqb (hit g d s) (hash n)) k (keep (isSlot g d) (count (s + 1) m))
+  hashed-yes : (s : ℕ) → eqb (hit g d s) (hash n) ≡ true → (ss : List ℕ) → hashed (s ∷ ss) ≡ s ∷ hashed ss
+  unfolding hashed
+  hashed-yes s h ss = keep-yes (λ s. eqb (hit g d s) (hash n)) {x = s} h ss
 
   compared-no : (s : ℕ) → carries g d n s ≡ false → (ss : List ℕ) → comparedIn g d n (s ∷ ss) ≡ suc (comparedIn g d n ss)
   unfolding comparedIn
@@ -57,63 +48,77 @@ module _ (g : Geometry) (d n : List ℕ) where
   unfolding comparedIn
   compared-yes s h ss = ap (λ (b : Bool). cond b 1 (suc (comparedIn g d n ss))) h
 
-  -- m slots are left, from slot s on, after c comparisons
-  pub record Finding (m s c : ℕ) : Type 0 where
-    pub slot : named g d n ≡ take 1 (keep (carries g d n) (from m s))
-    pub compared : comparedIn g d n (candidates g d n) ≡ c + comparedIn g d n (from m s)
+  -- the slots from s on are left, after c comparisons
+  pub record Finding (s c : ℕ) : Type 0 where
+    pub slot : named g d n ≡ take 1 (keep (carries g d n) (hashed (slotsFrom g d s)))
+    pub compared : comparedIn g d n (candidates g d n) ≡ c + comparedIn g d n (hashed (slotsFrom g d s))
 
-  pub finding-start : Finding 256 0 0
-  unfolding named candidates slots from
-  finding-start = record { slot = refl; compared = sym (zero-add _) }
+  start-hashed : candidates g d n ≡ hashed (slotsFrom g d 0)
+  unfolding candidates hashed
+  start-hashed = ap (keep (λ s. eqb (hit g d s) (hash n))) (slots-start g d)
 
-  pub finding-shut : {m m′ s c : ℕ} → Finding m s c → m ≡ suc m′ → isSlot g d s ≡ false → Finding m′ (s + 1) c
-  finding-shut {m} {m′} {s} {c} f e h =
-      let q : from m s ≡ from m′ (s + 1) = rw e (from-shut s h m′) in
-      record { slot = rw q at (f .slot); compared = rw q at (f .compared) }
-
-  pub finding-other : {m m′ s c : ℕ} → Finding m s c → m ≡ suc m′ → isSlot g d s ≡ true → eqb (hit g d s) (hash n) ≡ false → Finding m′ (s + 1) c
-  finding-other {m} {m′} {s} {c} f e h k =
-      let q : from m s ≡ from m′ (s + 1) = rw e (from-other s h k m′) in
-      record { slot = rw q at (f .slot); compared = rw q at (f .compared) }
-
-  pub finding-miss : {m m′ s c : ℕ} → Finding m s c → m ≡ suc m′ → isSlot g d s ≡ true → eqb (hit g d s) (hash n) ≡ true → carries g d n s ≡ false → Finding m′ (s + 1) (c + 1)
-  finding-miss {m} {m′} {s} {c} f e h k w =
-      let q : from m s ≡ s ∷ from m′ (s + 1) = rw e (from-one s h k m′) in
+  pub finding-start : Finding 0 0
+  unfolding named
+  finding-start =
       record {
-        slot = (rw q at (f .slot)) ∙ ap (take 1) (keep-no (carries g d n) w (from m′ (s + 1)));
-        compared =
-            (rw q at (f .compared)) ∙ ap (λ (x : ℕ). c + x) (compared-no s w (from m′ (s + 1)))
-            ∙ (let z : c + suc (comparedIn g d n (from m′ (s + 1))) ≡ c + 1 + comparedIn g d n (from m′ (s + 1)) = omega arith in z);
+        slot = ap (λ (l : List ℕ). take 1 (keep (carries g d n) l)) start-hashed;
+        compared = ap (comparedIn g d n) start-hashed ∙ sym (zero-add _);
       }
 
-  pub finding-hit : {m m′ s c : ℕ} → Finding m s c → m ≡ suc m′ → isSlot g d s ≡ true → eqb (hit g d s) (hash n) ≡ true → carries g d n s ≡ true
-      → Finds g d n (record { is = true; slot = s; compared = c + 1 })
-  finding-hit {m} {m′} {s} {c} f e h k w =
-      let q : from m s ≡ s ∷ from m′ (s + 1) = rw e (from-one s h k m′) in
+  finding-same : {s t c : ℕ} → hashed (slotsFrom g d s) ≡ hashed (slotsFrom g d t) → Finding s c → Finding t c
+  finding-same q f = record { slot = rw q at (f .slot); compared = rw q at (f .compared) }
+
+  module _ {s columns : ℕ} (l : s < 256) (e : columns ≡ directorySectors g d - 2) where
+    -- the row has no slot at s or after
+    pub finding-past : {c : ℕ} → columns ≤ s % 32 → Finding s c → Finding (32 * (s / 32 + 1)) c
+    finding-past h f = finding-same (ap hashed (slots-past g d l e h)) f
+
+    -- it has one there, whose HIT byte is another
+    pub finding-other : {c : ℕ} → s % 32 < columns → eqb (hit g d s) (hash n) ≡ false → Finding s c → Finding (s + 1) c
+    finding-other h k f = finding-same (ap hashed (slots-here g d l e h) ∙ hashed-no s k (slotsFrom g d (s + 1))) f
+
+    one : s % 32 < columns → eqb (hit g d s) (hash n) ≡ true → hashed (slotsFrom g d s) ≡ s ∷ hashed (slotsFrom g d (s + 1))
+    one h k = ap hashed (slots-here g d l e h) ∙ hashed-yes s k (slotsFrom g d (s + 1))
+
+    -- the hash is there and the name is not
+    pub finding-miss : {c : ℕ} → s % 32 < columns → eqb (hit g d s) (hash n) ≡ true → carries g d n s ≡ false → Finding s c → Finding (s + 1) (c + 1)
+    finding-miss {c} h k w f =
+        let rest = hashed (slotsFrom g d (s + 1)) in
+        record {
+          slot = (rw (one h k) at (f .slot)) ∙ ap (take 1) (keep-no (carries g d n) w rest);
+          compared =
+              (rw (one h k) at (f .compared)) ∙ ap (λ (x : ℕ). c + x) (compared-no s w rest)
+              ∙ (let z : c + suc (comparedIn g d n rest) ≡ c + 1 + comparedIn g d n rest = omega arith in z);
+        }
+
+    -- both are there
+    pub finding-hit : {c : ℕ} → s % 32 < columns → eqb (hit g d s) (hash n) ≡ true → carries g d n s ≡ true → Finding s c
+        → Finds g d n (record { is = true; slot = s; compared = c + 1 })
+    finding-hit {c} h k w f =
+        let rest = hashed (slotsFrom g d (s + 1)) in
+        record {
+          slot = (rw (one h k) at (f .slot)) ∙ ap (take 1) (keep-yes (carries g d n) w rest);
+          compared = sym ((rw (one h k) at (f .compared)) ∙ ap (λ (x : ℕ). c + x) (compared-yes s w rest));
+        }
+
+  pub finding-end : {s c : ℕ} → 256 ≤ s → Finding s c → Finds g d n (record { is = false; slot = 0; compared = c })
+  unfolding hashed comparedIn
+  finding-end {s} {c} h f =
       record {
-        slot = (rw q at (f .slot)) ∙ ap (take 1) (keep-yes (carries g d n) w (from m′ (s + 1)));
-        compared = sym ((rw q at (f .compared)) ∙ ap (λ (x : ℕ). c + x) (compared-yes s w (from m′ (s + 1))));
+        slot = f .slot ∙ ap (λ (l : List ℕ). take 1 (keep (carries g d n) (hashed l))) (slots-end g d h);
+        compared = sym (f .compared ∙ ap (λ (l : List ℕ). c + comparedIn g d n (hashed l)) (slots-end g d h) ∙ (let z : c + 0 ≡ c = omega arith in z));
       }
 
-  pub finding-end : {m s c : ℕ} → Finding m s c → m ≡ 0 → Finds g d n (record { is = false; slot = 0; compared = c })
-  unfolding from comparedIn
-  finding-end {m} {s} {c} f e =
-      record {
-        slot = f .slot ∙ ap (λ (m : ℕ). take 1 (keep (carries g d n) (from m s))) e;
-        compared = sym (f .compared ∙ ap (λ (m : ℕ). c + comparedIn g d n (from m s)) e ∙ (let z : c + 0 ≡ c = omega arith in z));
-      }
+  pub finding-count : {s c c′ : ℕ} → c′ ≡ c → Finding s c → Finding s c′
+  finding-count e f = rw e f
 
-  pub finding-same : {m s c c′ : ℕ} → Finding m s c → c′ ≡ c → Finding m s c′
-  finding-same {m} {s} {c} {c′} f e = rw e f
-
--- the refusals of look up, one after the other
-module _ (g : Geometry) (d n : List ℕ) where
-  pub told : {no slot compared : ℕ} → first (lookUpRefusals g d n) ≡ no
+  -- the refusals of look up, one after the other
+  pub told : {no slot compared : ℕ} → no ≡ first (lookUpRefusals g d n)
       → cond (accepted no) (firstOr 0 (named g d n)) 0 ≡ slot
       → cond (has (0 ∷ 4 ∷ []) no) (comparedIn g d n (candidates g d n)) 0 ≡ compared
       → _≡_ {A = LookedUp} (record { number = no; slot = slot; compared = compared }) (lookUp g d n)
   unfolding lookUp
-  told e f h = rw (e, f, h)
+  told e f h = rw (← e, f, h)
 
   pub finds-none : {r : Found} → Finds g d n r → not (r .is) ≡ true → named g d n ≡ []
   finds-none {r} f h = f .slot ∙ ap (λ (b : Bool). cond b (r .slot ∷ []) []) (not-true (r .is) h)
@@ -121,6 +126,21 @@ module _ (g : Geometry) (d n : List ℕ) where
   pub finds-one : {r : Found} → Finds g d n r → not (r .is) ≡ false → named g d n ≡ r .slot ∷ []
   finds-one {r} f h = f .slot ∙ ap (λ (b : Bool). cond b (r .slot ∷ []) []) (not-false (r .is) h)
 
-  pub well-length : wellFormed n ≡ true → length n ≡ 11
-  unfolding wellFormed
-  well-length h = eqb-true _ _ (all-at _ h 0)
+module _ (g : Geometry) (d : List ℕ) where
+  -- the check answers 0, 1 or 2
+  check-low : check g d ≤ 2
+  unfolding check first
+  check-low = by (badGeometry g d .1) (notConsistent g d .1)
+    where
+      by : (a b : Bool) → first ((1, a) ∷ (2, b) ∷ []) ≤ 2
+      by true b = omega arith
+      by false true = omega arith
+      by false false = omega arith
+
+  -- refused under 1 or 2: no slot, no count
+  pub told-stop : (n : List ℕ) {no : ℕ} → no ≡ check g d → (no ≡ 0 → ⊥)
+      → _≡_ {A = LookedUp} (record { number = no; slot = 0; compared = 0 }) (lookUp g d n)
+  told-stop n {no} e z =
+      let l = check-low in
+      told g d n (check-stop g d _ e z) (ap (λ (b : Bool). cond b (firstOr 0 (named g d n)) 0) (ne-eqb no 0 z))
+      (simp (ne-eqb no 0 z, ne-eqb no 4 (λ q. omega arith)))
