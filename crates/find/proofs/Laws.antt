@@ -5,15 +5,12 @@ use mathlib.Core.Bool.{Bool, true, false, not, cond, _&&_}
 use Prim.Native.Nat.{ℕ, zero, suc, _+_, _-_, _*_, _/_, _%_, _≤_, _<_}
 use native.Mathlib.Omega.{arith}
 use native.Mathlib.Nat.{zero-add}
-use native.Mathlib.Numerals.{add-one}
-use lib.ListN.{length, getD, take, drop}
-use lib.Seq.{drop-cons}
+use lib.ListN.{length, take}
 use lib.Dec.{eqb}
-use lib.Bits.{bitXor}
 use borrow.Author.Tests.{not-true, not-false, ne-eqb}
-use Rattle.meaning.specs.Lists.{keep, through, has, firstOr}
+use Rattle.meaning.specs.Lists.{keep, has, firstOr}
 use Rattle.meaning.specs.Layout.{hit, slots, directorySectors}
-use Rattle.meaning.specs.Names.{hash, mix}
+use Rattle.meaning.specs.Names.{hash}
 use Rattle.meaning.specs.LookUp.{candidates, carries, comparedIn, named, lookUp, lookUpRefusals}
 use Rattle.meaning.specs.Refusals.{first, accepted, check, badGeometry, notConsistent}
 use Rattle.meaning.specs.declared.LookedUp.{LookedUp}
@@ -23,9 +20,6 @@ use Rattle.handle.proofs.Laws.{check-stop}
 use Rattle.find.specs.Found.{Finds}
 use Rattle.find.specs.declared.Found.{Found}
 use Rattle.find.proofs.Pass.{slotsFrom, slots-start, slots-here, slots-past, slots-end}
-
-pub through-more : (n : List ℕ) (h i : ℕ) → i < length n → through mix h (drop i n) ≡ through mix (mix h (getD n i 0)) (drop (i + 1) n)
-through-more n h i l = simp (drop-cons n i 0 l, add-one)
 
 module _ (g : Geometry) (d n : List ℕ) where
   -- those of a list of slots whose HIT byte is the hash

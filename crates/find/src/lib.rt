@@ -9,29 +9,16 @@ ghost use Prim.Native.Nat.{_+_, _-_, _*_, _<_, _≤_};
 ghost use lib.Dec.{eqb};
 ghost use lib.ListN.{length, take, drop};
 ghost use Rattle.meaning.specs.Lists.{every};
-ghost use Rattle.meaning.specs.Names.{hash, letter, padded, wellFormed};
+ghost use Rattle.meaning.specs.Names.{letter, padded, wellFormed};
 ghost use Rattle.meaning.specs.Refusals.{check};
 ghost use Rattle.meaning.specs.LookUp.{carries, lookUp};
-ghost use Rattle.layout.specs.Room.{Room, Slot, Below};
+ghost use Rattle.layout.specs.Room.{Room, Slot};
 ghost use Rattle.find.specs.Found.{Finds};
 
 pub struct Found {
     pub is: bool,
     pub slot: usize,
     pub compared: usize,
-}
-
-pub fn hash(name: &[u8]) -> usize
-    ensures { λ r. ⌜ Below 256 (hash (now (name .entry))) r ⌝ }
-{
-    let mut h: u8 = 0;
-    let mut i = 0;
-    while i < name.len() {
-        let x = h ^ name[i];
-        h = x % 128 * 2 + x / 128;
-        i += 1;
-    }
-    if h == 0 { 1 } else { layout::wide(h) }
 }
 
 // Allowed bytes 30H to 39H and 41H to 5DH.
@@ -117,7 +104,7 @@ pub fn find(image: &[u8], g: Geometry, name: &[u8]) -> Found
     requires { ⌜ Room g (now image) × (length (now name) ≡ 11) ⌝ }
     ensures { λ r. ⌜ Finds g (now (image .entry)) (now (name .entry)) r ⌝ }
 {
-    let h = hash(name);
+    let h = names::hash(name);
     let columns = layout::directory_sectors(image, g) - 2;
     let mut s = 0;
     let mut compared = 0;
