@@ -1,0 +1,82 @@
+-- The four programs of 01's last section do not meet the statements: a disk and calls that show it, for each.
+use mathlib.Core.Path.{_≡_, refl, ap, sym, _∙_}
+use mathlib.Core.List.{List, [], _∷_}
+use Prim.Native.Nat.{ℕ, _+_}
+use native.Mathlib.Omega.{arith}
+use lib.ListN.{getD}
+use Rattle.meaning.specs.Layout.{byte}
+use Rattle.meaning.specs.Samples.{opened, three, sample, puls, held, hits}
+use Rattle.promises.specs.Promises.{Call, number, leaves}
+use Rattle.promises.specs.Promises.Call.{checks, reads, kills}
+use Rattle.strength.specs.Programs.{Said, Program, Meets, says, right, bufferOf, RefusesAll, AlwaysAlike, ChangesNothing, FirstOnly}
+
+-- what a program that meets the statements says of one call, and of two
+one : (p : Program) → Meets p → (c : Call) → p three sample (c ∷ []) ≡ says three sample c ∷ []
+unfolding right
+one p m c = m three sample (c ∷ [])
+
+-- Refuses every call: `numbers` of the promises says when each number is given, and on this disk the check gives none.
+served : says three sample checks .number′ ≡ 0
+unfolding opened says number
+served = refl
+
+pub refuses-all : (p : Program) → Meets p → RefusesAll p → ⊥
+refuses-all p m r = r three sample checks (says three sample checks) (one p m checks) served
+
+-- Answers always alike: `Reads` says which bytes. Two bytes of one file differ.
+abbrev byteAt : ℕ → Call
+byteAt i = reads (held 0xa3 puls i 1 0) (0 ∷ [])
+
+first-byte : says three sample (byteAt 255) .buffer ≡ 0x43 ∷ []
+unfolding opened says bufferOf
+first-byte = refl
+
+second-byte : says three sample (byteAt 256) .buffer ≡ 0x44 ∷ []
+unfolding opened says bufferOf
+second-byte = refl
+
+pub always-alike : (p : Program) → Meets p → AlwaysAlike p → ⊥
+always-alike p m r =
+    let e = r three sample (byteAt 255) (byteAt 256) (says three sample (byteAt 255)) (says three sample (byteAt 256)) (one p m (byteAt 255)) (one p m (byteAt 256)) in
+    let z : _≡_ {A = ℕ} 0x43 0x44 = ap (λ (b : List ℕ). getD b 0 0) (sym first-byte ∙ e ∙ second-byte) in
+    omega arith
+
+-- Changes nothing: it satisfies the interleaving rule, but `Changes` says what a kill leaves: a HIT byte 0.
+abbrev killing : Call
+killing = kills (held 0xa3 puls 0 256 1)
+
+gone : byte (says three sample killing .image) (hits + 0xa3) ≡ 0
+unfolding opened says leaves
+gone = refl
+
+there : byte sample (hits + 0xa3) ≡ 0xc1
+there = refl
+
+pub changes-nothing : (p : Program) → Meets p → ChangesNothing p → ⊥
+changes-nothing p m r =
+    let e = r three sample killing (says three sample killing) (one p m killing) in
+    let z : _≡_ {A = ℕ} 0 0xc1 = sym gone ∙ ap (λ (d : List ℕ). byte d (hits + 0xa3)) e ∙ there in
+    omega arith
+
+-- Serves the first call and fakes the others: the promises hold from each state reached. After a kill the handle is stale.
+stale : says three (leaves three sample killing) killing .number′ ≡ 7
+unfolding opened says number leaves
+stale = refl
+
+secondNumber : List Said → ℕ
+secondNumber [] = 0
+secondNumber (x ∷ []) = 0
+secondNumber (x ∷ y ∷ ys) = y .number′
+
+right-second : secondNumber (right three sample (killing ∷ killing ∷ [])) ≡ says three (leaves three sample killing) killing .number′
+unfolding right secondNumber
+right-second = refl
+
+faked-second : (p : Program) → FirstOnly p → secondNumber (p three sample (killing ∷ killing ∷ [])) ≡ 0
+unfolding secondNumber
+faked-second p r = ap secondNumber (r three sample killing (killing ∷ []))
+
+pub first-only : (p : Program) → Meets p → FirstOnly p → ⊥
+first-only p m r =
+    let z : _≡_ {A = ℕ} 7 0 = sym stale ∙ sym right-second ∙ sym (ap secondNumber (m three sample (killing ∷ killing ∷ []))) ∙ faked-second p r in
+    omega arith
