@@ -93,6 +93,7 @@ module _ (g : Geometry) (d n : List ℕ) where
         record {
           slot = (rw (one h k) at (f .slot)) ∙ ap (take 1) (keep-yes (carries g d n) w rest);
           compared = sym ((rw (one h k) at (f .compared)) ∙ ap (λ (x : ℕ). c + x) (compared-yes s w rest));
+          held = λ q. record { low = l; held = omega arith };
         }
 
   pub finding-end : {s c : ℕ} → 256 ≤ s → Finding s c → Finds g d n (record { is = false; slot = 0; compared = c })
@@ -101,6 +102,7 @@ module _ (g : Geometry) (d n : List ℕ) where
       record {
         slot = f .slot ∙ ap (λ (l : List ℕ). take 1 (keep (carries g d n) (hashed l))) (slots-end g d h);
         compared = sym (f .compared ∙ ap (λ (l : List ℕ). c + comparedIn g d n (hashed l)) (slots-end g d h) ∙ (let z : c + 0 ≡ c = omega arith in z));
+        held = λ q. absurd (let z : _≡_ {A = ℕ} 0 1 = cc in let y : ⊥ = omega arith in y);
       }
 
   pub finding-count : {s c c′ : ℕ} → c′ ≡ c → Finding s c → Finding s c′

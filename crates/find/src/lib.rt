@@ -4,14 +4,15 @@ use meaning::Geometry;
 use meaning::Handle;
 use meaning::LookedUp;
 ghost use mathlib.Core.Path.{_≡_};
-ghost use mathlib.Core.Bool.{true};
+ghost use mathlib.Core.Bool.{Bool};
 ghost use Prim.Native.Nat.{_+_, _-_, _*_, _<_, _≤_};
 ghost use lib.Dec.{eqb};
 ghost use lib.ListN.{length, take, drop};
 ghost use Rattle.meaning.specs.Lists.{every};
 ghost use Rattle.meaning.specs.Names.{letter, padded, wellFormed};
-ghost use Rattle.meaning.specs.Refusals.{check};
+ghost use Rattle.meaning.specs.Refusals.{check, goodLength, noHandle};
 ghost use Rattle.meaning.specs.LookUp.{carries, lookUp};
+ghost use Rattle.meaning.specs.Open.{full, admits, openedAt, open′};
 ghost use Rattle.layout.specs.Room.{Room, Slot};
 ghost use Rattle.find.specs.Found.{Finds};
 
@@ -163,5 +164,149 @@ pub fn look_up_checked(image: &[u8], g: Geometry, name: &[u8], checked: u8) -> L
         number: 0,
         slot: f.slot,
         compared: f.compared,
+    }
+}
+
+// The eleven bytes at `at`.
+pub fn name_at(bytes: &[u8], at: usize) -> [u8; 11]
+    requires { ⌜ at + 11 ≤ length (now bytes) ⌝ }
+    ensures { λ r. ⌜ r ≡ take 11 (drop at (now (bytes .entry))) ⌝ }
+{
+    let mut name = [0u8; 11];
+    copy::copy_into(&mut name, bytes, at);
+    name
+}
+
+// A name of eleven bytes as a handle holds it.
+pub fn name_array(name: &[u8]) -> [u8; 11]
+    requires { ⌜ length (now name) ≡ 11 ⌝ }
+    ensures { λ r. ⌜ r ≡ now (name .entry) ⌝ }
+{
+    name_at(name, 0)
+}
+
+// Record length 1 to 256.
+pub fn good_length(len: usize) -> bool
+    ensures { λ r. ⌜ r ≡ goodLength len ⌝ }
+{
+    if len < 1 {
+        return false;
+    }
+    len <= 256
+}
+
+// Whether a code opens the file at slot s at level 0: checking is off, the main code is the "no password" code, or the code is the main
+// code.
+pub fn full(image: &[u8], g: Geometry, s: usize, checking: bool, code: u16) -> bool
+    requires { ⌜ Room g (now image) × Slot g (now image) s ⌝ }
+    ensures { λ r. ⌜ r ≡ full g (now (image .entry)) s checking code ⌝ }
+{
+    if !checking {
+        return true;
+    }
+    let main = layout::word(image, g, s, 0x10);
+    if main == g.anyone as usize {
+        return true;
+    }
+    code as usize == main
+}
+
+// Whether a code opens the file at all: at level 0, or because it is the worker code.
+pub fn admits(image: &[u8], g: Geometry, s: usize, checking: bool, code: u16) -> bool
+    requires { ⌜ Room g (now image) × Slot g (now image) s ⌝ }
+    ensures { λ r. ⌜ r ≡ admits g (now (image .entry)) s checking code ⌝ }
+{
+    if full(image, g, s, checking, code) {
+        return true;
+    }
+    code as usize == layout::word(image, g, s, 0x12)
+}
+
+// The handle of a file just opened: the stored level where only the worker code fits.
+pub fn opened_at(
+    image: &[u8],
+    g: Geometry,
+    s: usize,
+    name: &[u8],
+    len: usize,
+    checking: bool,
+    code: u16,
+) -> Handle
+    requires { ⌜ Room g (now image) × Slot g (now image) s × (length (now name) ≡ 11) ⌝ }
+    ensures { λ r. ⌜ r ≡ openedAt g (now (image .entry)) s (now (name .entry)) len checking code ⌝ }
+{
+    let mut level = 0;
+    if !full(image, g, s, checking, code) {
+        level = layout::field(image, g, s, 0) % 8;
+    }
+    Handle {
+        slot: s,
+        name: name_array(name),
+        at: 0,
+        len,
+        level,
+    }
+}
+
+// The handle of zeros that a refused open or create hands back.
+pub fn no_handle() -> Handle
+    ensures { λ r. ⌜ r ≡ noHandle ⌝ }
+{
+    Handle {
+        slot: 0,
+        name: [0u8; 11],
+        at: 0,
+        len: 0,
+        level: 0,
+    }
+}
+
+// Open, of a disk whose check answered `checked`.
+pub fn open_checked(
+    image: &[u8],
+    g: Geometry,
+    name: &[u8],
+    len: usize,
+    checking: bool,
+    code: u16,
+    checked: u8,
+) -> Answer
+    requires { ⌜ checked ≡ check g (now image) ⌝ }
+    ensures { λ r. ⌜ r ≡ open′ g (now (image .entry)) (now (name .entry)) len checking code ⌝ }
+{
+    if checked != 0 {
+        return Answer {
+            number: checked,
+            handle: no_handle(),
+        };
+    }
+    if !good_length(len) {
+        return Answer {
+            number: 12,
+            handle: no_handle(),
+        };
+    }
+    if !well_formed(name) {
+        return Answer {
+            number: 3,
+            handle: no_handle(),
+        };
+    }
+    let f = find(image, g, name);
+    if !f.is {
+        return Answer {
+            number: 4,
+            handle: no_handle(),
+        };
+    }
+    if !admits(image, g, f.slot, checking, code) {
+        return Answer {
+            number: 5,
+            handle: no_handle(),
+        };
+    }
+    Answer {
+        number: 0,
+        handle: opened_at(image, g, f.slot, name, len, checking, code),
     }
 }

@@ -1,0 +1,52 @@
+-- The password rule, and open's answers.
+use mathlib.Core.Path.{_≡_, refl, sym, ap, _∙_}
+use mathlib.Core.List.{List, [], _∷_}
+use mathlib.Core.Bool.{Bool, true, false, not, cond, _||_, or-false}
+use Prim.Native.Nat.{ℕ}
+use lib.Dec.{eqb}
+use borrow.Author.Tests.{ne-eqb}
+use Rattle.meaning.specs.Lists.{any, firstOr}
+use Rattle.meaning.specs.Entries.{accessLevel}
+use Rattle.meaning.specs.Refusals.{first, noHandle}
+use Rattle.meaning.specs.LookUp.{named, slotOf}
+use Rattle.meaning.specs.Open.{full, admits, openedAt, openRefusals, open′}
+use Rattle.meaning.specs.declared.Geometry.{Geometry}
+use Rattle.meaning.specs.declared.Handle.{Handle}
+use Rattle.meaning.specs.declared.Answer.{Answer}
+
+pub any-hit : {b : Bool} → b ≡ true → (bs : List Bool) → any (b ∷ bs) ≡ true
+unfolding any
+any-hit h bs = ap (λ (b : Bool). b || any bs) h
+
+pub any-one : (b : Bool) → any (b ∷ []) ≡ b
+unfolding any
+any-one b = or-false b
+
+module _ (g : Geometry) (d n : List ℕ) (len : ℕ) (checking : Bool) (code : ℕ) where
+  pub level-full : (s : ℕ) {level : ℕ} → level ≡ 0 → full g d s checking code ≡ true → level ≡ cond (full g d s checking code) 0 (accessLevel g d s)
+  level-full s e h = e ∙ sym (ap (λ (b : Bool). cond b 0 (accessLevel g d s)) h)
+
+  pub level-stored : (s : ℕ) {level : ℕ} → level ≡ accessLevel g d s → full g d s checking code ≡ false → level ≡ cond (full g d s checking code) 0 (accessLevel g d s)
+  level-stored s e h = e ∙ sym (ap (λ (b : Bool). cond b 0 (accessLevel g d s)) h)
+
+  pub opened : {s level : ℕ} {m : List ℕ} → m ≡ n → level ≡ cond (full g d s checking code) 0 (accessLevel g d s)
+      → _≡_ {A = Handle} (record { slot = s; name = m; at = 0; len = len; level = level }) (openedAt g d s n len checking code)
+  opened e f = rw (e, f)
+
+  pub slot-found : {s : ℕ} → named g d n ≡ s ∷ [] → slotOf g d n ≡ s
+  unfolding firstOr
+  slot-found e = ap (firstOr 0) e
+
+  -- test 5, at the slot that was found
+  pub admitted : {s : ℕ} {b : Bool} → named g d n ≡ s ∷ [] → admits g d s checking code ≡ b → not (admits g d (slotOf g d n) checking code) ≡ not b
+  admitted e h = ap (λ (t : ℕ). not (admits g d t checking code)) (slot-found e) ∙ ap not h
+
+  pub open-refused : {no : ℕ} {h : Handle} → h ≡ noHandle → no ≡ first (openRefusals g d n len checking code) → (no ≡ 0 → ⊥)
+      → _≡_ {A = Answer} (record { number = no; handle = h }) (open′ g d n len checking code)
+  unfolding open′
+  open-refused {no} f e z = rw (← e, ne-eqb no 0 z, f)
+
+  pub open-accepted : {s : ℕ} {h : Handle} → h ≡ openedAt g d s n len checking code → 0 ≡ first (openRefusals g d n len checking code) → named g d n ≡ s ∷ []
+      → _≡_ {A = Answer} (record { number = 0; handle = h }) (open′ g d n len checking code)
+  unfolding open′
+  open-accepted f e q = rw (← e, slot-found q, f)

@@ -1,0 +1,34 @@
+use Rattle.find.proofs.Open.{any-hit, any-one}
+use Rattle.layout.proofs.Lists.{any-skip}
+use Rattle.meaning.specs.Open.{admits}
+use lib.Dec.{eqb}
+use Prim.Native.Nat.{ℕ}
+use mathlib.Core.Path.{sym, ap, _∙_}
+use borrow.Author.Needs.{needs}
+use Rattle.find.proofs.admits.Statement.{statement}
+use Rattle.find.proofs.admits.Tie as tie
+use Rattle.find.proofs.admits.Reads as reads
+use Rattle.find.proofs.admits.Lts as lts
+use Rattle.find.proofs.full.Reads as full-reads
+use Rattle.layout.proofs.word.Reads as word-reads
+
+-- src/lib.rt:219:8
+full-requires : tie.Need-full-requires
+full-requires c κs = search needs
+
+-- src/lib.rt:220:9
+returns : tie.Need-returns
+unfolding admits
+returns c = sym (any-hit (sym (c .before .full .ensures) ∙ (c .if1 .taken)) _)
+
+-- src/lib.rt:222:22
+word-requires : tie.Need-word-requires
+word-requires c κs = search needs
+
+-- src/lib.rt:215:1
+returns-2 : tie.Need-returns-2
+unfolding admits
+returns-2 c = sym (any-skip (sym (c .before .before .full .ensures) ∙ (c .before .if1 .left)) _ ∙ any-one _ ∙ ap (eqb (c .before .before .before .before .args .code)) (sym (c .word .ensures .is)))
+
+pub admits-spec : {M : Type 1} → statement M
+admits-spec = tie.close (tie.spec full-requires returns word-requires returns-2)
