@@ -313,6 +313,7 @@ pub record CreateMeans (g : Geometry) (d d′ n : List ℕ) (f : NewFile) : Type
   pub born : plain g d′ n ≡ found (bornAs f)
   pub others : (m : List ℕ) → m ≢ n → hush (plain g d′ m) ≡ hush (plain g d m)
   pub beyond′ : (m : List ℕ) → m ≢ n → Others.beyond g d′ m ≡ Others.beyond g d m
+  pub names′ : (m : List ℕ) → m ≢ n → named g d′ m ≡ named g d m
   pub was : plain g d n ≡ nothing
   pub same′ : (q : ℕ) → Facts.File g d q → T (not (system g d q)) → fileAt g d′ q ≡ fileAt g d q
 
@@ -340,6 +341,7 @@ create-made g d c k x t z n w f free =
       born = Named.plain-is g d′ (Change.changed g d d′ c x h) x n v m ∙ ap {B = Found} found (made-born g d c k x t z n w f free);
       others = λ b e. Others.others-plain g d d′ c x h s b (λ q. absurd (no′ q)) (λ q a. e (sym a ∙ m));
       beyond′ = λ b e. Others.beyond-plain g d d′ c x h s b (λ q. absurd (no′ q)) (λ q a. e (sym a ∙ m));
+      names′ = λ b e. Others.names-stay g d d′ c x h b (λ q. absurd (no′ q)) (λ q a. e (sym a ∙ m));
       was = Named.plain-none g d n free;
       same′ = λ q a u. Others.others g d d′ c x h s q a (λ e. no′ (rw e at a)) u;
     }

@@ -17,6 +17,7 @@ use Rattle.meaning.specs.Kill.{kill}
 use Rattle.meaning.specs.Refusals.{first, badGeometry, notConsistent, inRange, fresh, staleHandle, protected}
 use Rattle.meaning.specs.Kill.{killed}
 use Rattle.meaning.specs.Plain.{Found, found, nothing, File, fileAt, plain, hush, with′, reserved}
+use Rattle.meaning.specs.LookUp.{named}
 use Rattle.meaning.specs.declared.Geometry.{Geometry}
 use Rattle.meaning.specs.declared.Handle.{Handle}
 use Rattle.laws.specs.Members
@@ -78,6 +79,7 @@ pub record KillMeans (g : Geometry) (d d′ : List ℕ) (p : ℕ) : Type 0 where
   pub gone : plain g d′ (nameOf g d p) ≡ nothing
   pub others : (n : List ℕ) → n ≢ nameOf g d p → hush (plain g d′ n) ≡ hush (plain g d n)
   pub beyond′ : (n : List ℕ) → n ≢ nameOf g d p → Others.beyond g d′ n ≡ Others.beyond g d n
+  pub names′ : (n : List ℕ) → n ≢ nameOf g d p → named g d′ n ≡ named g d n
   pub touch : Touch.Touch g (chain g d p) [] d d′
   pub same′ : (q : ℕ) → Facts.File g d q → q ≢ p → T (not (system g d q)) → fileAt g d′ q ≡ fileAt g d q
 
@@ -108,5 +110,6 @@ kill-means g d h e =
       others = λ m k. Others.others-plain g d (killed g d p) (w .sound) p x s m (λ f q. k (sym q)) (λ f. absurd (n f));
       touch = Touch.touch-killed g d (w .sound) p (w .file);
       beyond′ = λ m k. Others.beyond-plain g d (killed g d p) (w .sound) p x s m (λ f q. k (sym q)) (λ f. absurd (n f));
+      names′ = λ m k. Others.names-stay g d (killed g d p) (w .sound) p x m (λ f q. k (sym q)) (λ f. absurd (n f));
       same′ = Others.others g d (killed g d p) (w .sound) p x s;
     })

@@ -112,6 +112,14 @@ module _ (g : Geometry) (d d′ : List ℕ) (c : Sound g d) (p : ℕ) (h : Chang
           other q f e (yes k) = b (rw k at f) (rw k at e)
           other q f e (no k) = let v = Change.file-was g d d′ c p h q f k in w q v (sym (Change.name-stays g d d′ c p h q v k) ∙ e)
 
+  -- every other name stands at the same slot, or at none, as before
+  pub names-stay : (n : List ℕ) → (File g d p → nameOf g d p ≢ n) → (File g d′ p → nameOf g d′ p ≢ n) → named g d′ n ≡ named g d n
+  names-stay n a b = go (others-at n a b)
+    where
+      go : Elsewhere g d d′ p n → named g d′ n ≡ named g d n
+      go (Elsewhere.bears q f e x y) = y ∙ sym x
+      go (Elsewhere.lacks x y) = y ∙ sym x
+
   size-stays : (q : ℕ) → File g d q → q ≢ p → sizeOf g d′ q ≡ sizeOf g d q
   unfolding words
   size-stays q f n = let a = Change.spared-first g d d′ c p h q f n in rw (a 3 (omega arith), a 0x14 (omega arith), a 0x15 (omega arith))

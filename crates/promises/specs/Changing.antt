@@ -38,7 +38,7 @@ use Rattle.laws.specs.KillMeans
 use Rattle.laws.specs.KillMeans.{Holds}
 use Rattle.laws.specs.Create
 use Rattle.promises.specs.Promises
-use Rattle.promises.specs.Promises.{Becomes, Changes, Serves, Call}
+use Rattle.promises.specs.Promises.{Becomes, Changes, Live, Serves, Call}
 use Rattle.promises.specs.Grow
 use Rattle.promises.specs.Trim
 use Rattle.promises.specs.Write
@@ -88,15 +88,17 @@ module _ (g : Geometry) (d d′ : List ℕ) (h : Handle) (w : Holds g d h) (is :
   by-handle : plain g d′ (nameOf g d (h .slot)) ≡ is
       → ((m : List ℕ) → m ≢ nameOf g d (h .slot) → hush (plain g d′ m) ≡ hush (plain g d m))
       → ((m : List ℕ) → m ≢ nameOf g d (h .slot) → Others.beyond g d′ m ≡ Others.beyond g d m)
+      → ((m : List ℕ) → m ≢ nameOf g d (h .slot) → named g d′ m ≡ named g d m)
       → Left g d d′ (nameOf g d (h .slot))
       → length (freeGranules g d) + length (owned g d (h .slot)) ≡ length (freeGranules g d′) + Promises.granulesIn is
       → Becomes g d d′ (h .name) (found (fileAt g d (h .slot))) is
   unfolding fileAt
-  by-handle own others beyond′ l free = subst (λ (n : List ℕ). Becomes g d d′ n (found (fileAt g d (h .slot))) is) (w .name′) (record {
+  by-handle own others beyond′ names l free = subst (λ (n : List ℕ). Becomes g d d′ n (found (fileAt g d (h .slot))) is) (w .name′) (record {
     before = Named.plain-is g d (w .sound) (h .slot) (nameOf g d (h .slot)) (w .file) refl;
     after = own;
     list = one-list g d d′ (nameOf g d (h .slot)) is own others;
     others = beyond′;
+    slots′ = names;
     untouched = l .untouched;
     spare = l .spare;
     free = free;
@@ -104,6 +106,16 @@ module _ (g : Geometry) (d d′ : List ℕ) (h : Handle) (w : Holds g d h) (is :
 
   named-here : named g d (nameOf g d (h .slot)) ≡ h .slot ∷ []
   named-here = Named.named-is g d (w .sound) (h .slot) (w .file)
+
+-- the handle of a file that is still there
+alive : (g : Geometry) (d d′ : List ℕ) (h h′ : Handle) → Holds g d h → Facts.File g d′ (h .slot) → nameOf g d′ (h .slot) ≡ nameOf g d (h .slot) → h′ .slot ≡ h .slot → h′ .name ≡ h .name
+    → Live g d′ h′
+alive g d d′ h h′ w f n s m = record {
+  slot = rw s (f .slot);
+  used = rw s (Facts.file-in-use g d′ (h .slot) f);
+  first = rw s (Facts.file-first g d′ (h .slot) f);
+  name′ = ap (nameOf g d′) s ∙ n ∙ w .name′ ∙ sym m;
+}
 
 owns : (g : Geometry) (d : List ℕ) (p : ℕ) → length (owned g d p) ≡ fileAt g d p .granules
 unfolding fileAt
@@ -116,8 +128,9 @@ kill-serves g d h e =
     record {
       file = fileAt g d (h .slot);
       mine = refl;
-      becomes = by-handle g d (kill g d h .1) h w nothing (x .gone) (x .others) (x .beyond′) (left-before g d (kill g d h .1) (nameOf g d (h .slot)) (w .fits) (h .slot) (named-here g d (kill g d h .1) h w nothing) (x .touch)) (omega (arith, x .free));
+      becomes = by-handle g d (kill g d h .1) h w nothing (x .gone) (x .others) (x .beyond′) (x .names′) (left-before g d (kill g d h .1) (nameOf g d (h .slot)) (w .fits) (h .slot) (named-here g d (kill g d h .1) h w nothing) (x .touch)) (omega (arith, x .free));
       handle′ = refl;
+      live = λ f q. absurd (let z : _≡_ {A = ℕ} 0 1 = cc in omega arith);
     }
 
 pub allot-serves : (g : Geometry) (d : List ℕ) (h : Handle) (k : ℕ) → allot g d h k .0 .number ≡ 0 → Serves g d (Call.allots h k)
@@ -127,9 +140,10 @@ allot-serves g d h k e =
     record {
       file = fileAt g d (h .slot);
       mine = refl;
-      becomes = by-handle g d (allot g d h k .1) h w (found (allottedTo k (fileAt g d (h .slot)))) (x .own) (x .others) (x .beyond′)
+      becomes = by-handle g d (allot g d h k .1) h w (found (allottedTo k (fileAt g d (h .slot)))) (x .own) (x .others) (x .beyond′) (x .names′)
           (left-after g d (allot g d h k .1) (nameOf g d (h .slot)) (w .fits) (h .slot) (Named.named-at g (allot g d h k .1) (Facts.sound g (allot g d h k .1) (x .consistent′)) (h .slot) (nameOf g d (h .slot)) (x .file′) (x .name′)) (x .touch)) (omega (arith, x .free));
       handle′ = refl;
+      live = λ f q. alive g d (allot g d h k .1) h h w (x .file′) (x .name′) refl refl;
     }
 
 pub trim-serves : (g : Geometry) (d : List ℕ) (h : Handle) → trim g d h .0 .number ≡ 0 → Serves g d (Call.trims h)
@@ -140,10 +154,11 @@ trim-serves g d h e =
     record {
       file = fileAt g d (h .slot);
       mine = refl;
-      becomes = by-handle g d (trim g d h .1) h w (found (trimmed (fileAt g d (h .slot)))) (x .own) (x .others) (x .beyond′)
+      becomes = by-handle g d (trim g d h .1) h w (found (trimmed (fileAt g d (h .slot)))) (x .own) (x .others) (x .beyond′) (x .names′)
           (left-before g d (trim g d h .1) (nameOf g d (h .slot)) (w .fits) (h .slot) (named-here g d (trim g d h .1) h w nothing) (x .touch))
           (x .free ∙ ap (λ (n : ℕ). length (freeGranules g (trim g d h .1)) + n) many);
       handle′ = refl;
+      live = λ f q. alive g d (trim g d h .1) h h w (x .file′) (x .name′) refl refl;
     }
 
 -- a GAT byte of a block lies in the directory
@@ -161,11 +176,12 @@ write-serves g d m h b e =
     record {
       file = fileAt g d p;
       mine = refl;
-      becomes = by-handle g d d′ h w (found (writtenTo m (h .at) (take (h .len) b) (fileAt g d p))) (x .own) (x .others) (x .beyond′)
+      becomes = by-handle g d d′ h w (found (writtenTo m (h .at) (take (h .len) b) (fileAt g d p))) (x .own) (x .others) (x .beyond′) (x .names′)
           (left g d d′ (nameOf g d p) (w .fits) (chain g d′ p) (owned g d′ p) (x .touch) (λ y i. entries-after g d d′ (nameOf g d p) p y at i) (λ n i. rw at (Members.in-append-l [] i))
           (λ b l i. x .apart ((256 * g .start + b) / granuleBytes) i (gat-in g d′ c′ (WriteMeans.fits-after g d d′ (w .fits) (x .long)) b l)))
           (x .free ∙ ap (λ (n : ℕ). length (freeGranules g d′) + n) many);
       handle′ = moved e;
+      live = λ f q. alive g d d′ h (writeRecord g d m h b .0 .handle) w (x .file′) (x .name′) (ap (λ (k : Handle). k .slot) (moved e)) (ap (λ (k : Handle). k .name) (moved e));
     }
   where
     moved : writeRecord g d m h b .0 .number ≡ 0 → writeRecord g d m h b .0 .handle ≡ movedTo h (h .at + h .len)
@@ -184,6 +200,7 @@ create-becomes g d n f checking e o =
       after = x .born;
       list = one-list g d (create g d n f checking .1) n (found (bornAs f)) (x .born) (x .others);
       others = x .beyond′;
+      slots′ = x .names′;
       untouched = l .untouched;
       spare = l .spare;
       free = ap (λ (l : List ℕ). length l + 0) (sym (x .free′));

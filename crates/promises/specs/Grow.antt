@@ -18,6 +18,7 @@ use Rattle.meaning.specs.Growth.{tail, after, lengthens, lengthened, withPair, 
 use Rattle.meaning.specs.Free.{freeGranules, freeSlots}
 use Rattle.meaning.specs.Lists.{firstOr}
 use Rattle.meaning.specs.Plain.{fileAt, plain, hush, reserved}
+use Rattle.meaning.specs.LookUp.{named}
 use Rattle.meaning.specs.declared.Geometry.{Geometry}
 use Rattle.laws.specs.Members
 use Rattle.laws.specs.Members.{In}
@@ -71,6 +72,7 @@ pub record Grew (g : Geometry) (d d′ : List ℕ) (p k : ℕ) : Type 0 where
   pub bytes : fileAt g d′ p .bytes ≡ fileAt g d p .bytes
   pub others : (n : List ℕ) → n ≢ nameOf g d p → hush (plain g d′ n) ≡ hush (plain g d n)
   pub beyond′ : (n : List ℕ) → n ≢ nameOf g d p → Others.beyond g d′ n ≡ Others.beyond g d n
+  pub names′ : (n : List ℕ) → n ≢ nameOf g d p → named g d′ n ≡ named g d n
   pub small : Small d → Small d′
   pub touch : Touch g (chain g d′ p) [] d d′
   pub entries : (x : ℕ) → In x (chain g d p) → In x (chain g d′ p)
@@ -97,6 +99,7 @@ module _ (g : Geometry) where
     bytes = refl;
     others = λ n q. refl;
     beyond′ = λ n q. refl;
+    names′ = λ n q. refl;
     small = λ b. b;
     touch = Touch.Touch.none;
     entries = λ x i. i;
@@ -129,6 +132,7 @@ module _ (g : Geometry) where
         bytes = ap (λ (x : Rattle.meaning.specs.Plain.File). x .bytes) file′;
         others = λ b q. Others.others-plain g d d₁ c p h s b (λ z a. q (sym a)) (λ z a. q (sym a ∙ n));
         beyond′ = λ b q. Others.beyond-plain g d d₁ c p h s b (λ z a. q (sym a)) (λ z a. q (sym a ∙ n));
+        names′ = λ b q. Others.names-stay g d d₁ c p h b (λ z a. q (sym a)) (λ z a. q (sym a ∙ n));
         small = b;
         touch = w .touch;
         entries = w .entries;
@@ -156,6 +160,7 @@ module _ (g : Geometry) where
     bytes = y .bytes ∙ x .bytes;
     others = λ n q. y .others n (λ z. q (z ∙ x .name)) ∙ x .others n q;
     beyond′ = λ n q. y .beyond′ n (λ z. q (z ∙ x .name)) ∙ x .beyond′ n q;
+    names′ = λ n q. y .names′ n (λ z. q (z ∙ x .name)) ∙ x .names′ n q;
     small = λ b. y .small (x .small b);
     touch = Touch.touch-then (Touch.touch-more (chain g e p) [] (y .entries) (λ n i. i) (x .touch)) (y .touch);
     entries = λ z i. y .entries z (x .entries z i);
@@ -196,6 +201,7 @@ pub record AllotMeans (g : Geometry) (d d′ : List ℕ) (p k : ℕ) : Type 0 wh
   pub own : plain g d′ (nameOf g d p) ≡ found (allottedTo k (fileAt g d p))
   pub others : (n : List ℕ) → n ≢ nameOf g d p → hush (plain g d′ n) ≡ hush (plain g d n)
   pub beyond′ : (n : List ℕ) → n ≢ nameOf g d p → Others.beyond g d′ n ≡ Others.beyond g d n
+  pub names′ : (n : List ℕ) → n ≢ nameOf g d p → named g d′ n ≡ named g d n
   pub touch : Touch g (chain g d′ p) [] d d′
   pub file′ : File g d′ p
   pub name′ : nameOf g d′ p ≡ nameOf g d p
@@ -227,6 +233,7 @@ allot-means g d h k e =
       own = Named.plain-is g d′ (x .sound) p (nameOf g d p) (x .file) (x .name) ∙ ap {B = Found} found (allotted g d d′ p k x);
       others = x .others;
       beyond′ = x .beyond′;
+      names′ = x .names′;
       touch = x .touch;
       file′ = x .file;
       name′ = x .name;

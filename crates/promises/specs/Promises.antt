@@ -131,7 +131,8 @@ abbrev pub ownGranules : Geometry → List ℕ → List ℕ → List ℕ
 ownGranules g d n = each (owned g d) (named g d n)
 
 -- The file called n was `was` and is `is`. Every other file is as it was: attributes, size, granule count and, system files apart, bytes
--- (`list`); and of a system file too, every byte that lies in no granule of the directory (`others`). Only the file's own sectors, entries
+-- (`list`); and of a system file too, every byte that lies in no granule of the directory (`others`). It keeps its slot, so its handles
+-- stay as they are, live or stale (`slots′`). Only the file's own sectors, entries
 -- and the GAT and HIT change: every other byte of the image is as it was, be it free, reserved or of no slot (`untouched`), and so are the
 -- bits of the GAT past the last unit (`spare`). FREE falls by what was taken.
 pub record Becomes (g : Geometry) (d d′ n : List ℕ) (was is : Found) : Type 0 where
@@ -139,6 +140,7 @@ pub record Becomes (g : Geometry) (d d′ n : List ℕ) (was is : Found) : Type 
   pub after : plain g d′ n ≡ is
   pub list : (m : List ℕ) → hush (plain g d′ m) ≡ hush (with′ (plain g d) n is m)
   pub others : (m : List ℕ) → m ≢ n → beyond g d′ m ≡ beyond g d m
+  pub slots′ : (m : List ℕ) → m ≢ n → named g d′ m ≡ named g d m
   pub untouched : (i : ℕ) → Aside g (ownEntries g d n ++ ownEntries g d′ n) (ownGranules g d′ n) i → byte d′ i ≡ byte d i
   pub spare : (b u : ℕ) → b < g .blocks → g .units ≤ u → digit (byte d′ (256 * g .start + b)) u ≡ digit (byte d (256 * g .start + b)) u
   pub free : length (freeGranules g d) + granulesIn was ≡ length (freeGranules g d′) + granulesIn is
@@ -150,12 +152,14 @@ pub record Live (g : Geometry) (d : List ℕ) (h : Handle) : Type 0 where
   pub first : T (not (extension g d (h .slot)))
   pub name′ : nameOf g d (h .slot) ≡ h .name
 
--- An accepted call by a handle has a file of the handle's name, the one at its slot; `u` is what the call makes of it.
+-- An accepted call by a handle has a file of the handle's name, the one at its slot; `u` is what the call makes of it. The handle stays
+-- live, unless the file is gone.
 pub record Changes (g : Geometry) (d d′ : List ℕ) (h h′ : Handle) (u : File → Found) (moved : Handle) : Type 0 where
   pub file : File
   pub mine : fileAt g d (h .slot) ≡ file
   pub becomes : Becomes g d d′ (h .name) (found file) (u file)
   pub handle′ : h′ ≡ moved
+  pub live : (f : File) → u file ≡ found f → Live g d′ h′
 
 -- 3. What an accepted call answers ------------------------------------------------------------------------------------------------------
 

@@ -18,7 +18,7 @@ use Rattle.meaning.specs.declared.Geometry.{Geometry}
 use Rattle.meaning.specs.declared.Handle.{Handle}
 use Rattle.laws.specs.KillMeans
 use Rattle.promises.specs.Over
-use Rattle.promises.specs.Trim.{length-count}
+use Rattle.laws.specs.Others.{length-count}
 use Rattle.laws.specs.Words.{words}
 
 part-of : (G : ℕ → ℕ) (i n s : ℕ) → i + n ≤ s → map G (count i n) ≡ take n (drop i (map G (count 0 s)))

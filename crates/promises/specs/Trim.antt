@@ -15,6 +15,7 @@ use Rattle.meaning.specs.Entries.{system, runs, nameOf}
 use Rattle.meaning.specs.Chain.{chain, owned}
 use Rattle.meaning.specs.Consistent.{consistent}
 use Rattle.meaning.specs.Plain.{fileAt, plain, hush, reserved}
+use Rattle.meaning.specs.LookUp.{named}
 use Rattle.meaning.specs.declared.Geometry.{Geometry}
 use Rattle.laws.specs.Members
 use Rattle.laws.specs.Members.{In}
@@ -68,6 +69,7 @@ pub record Shrank (g : Geometry) (d d′ : List ℕ) (p k : ℕ) : Type 0 where
   pub bytes : fileAt g d′ p .bytes ≡ fileAt g d p .bytes
   pub others : (n : List ℕ) → n ≢ nameOf g d p → hush (plain g d′ n) ≡ hush (plain g d n)
   pub beyond′ : (n : List ℕ) → n ≢ nameOf g d p → Others.beyond g d′ n ≡ Others.beyond g d n
+  pub names′ : (n : List ℕ) → n ≢ nameOf g d p → named g d′ n ≡ named g d n
   pub touch : Touch g (chain g d p) [] d d′
   pub entries : (x : ℕ) → In x (chain g d′ p) → In x (chain g d p)
   pub small : Small d → Small d′
@@ -91,6 +93,7 @@ module _ (g : Geometry) where
     bytes = refl;
     others = λ n q. refl;
     beyond′ = λ n q. refl;
+    names′ = λ n q. refl;
     touch = Touch.Touch.none;
     entries = λ x i. i;
     small = λ b. b;
@@ -120,6 +123,7 @@ module _ (g : Geometry) where
         bytes = sym (ap (λ (x : Rattle.meaning.specs.Plain.File). x .bytes) file′);
         others = λ b q. Others.others-plain g d d₁ c p h s b (λ z a. q (sym a)) (λ z a. q (sym a ∙ n));
         beyond′ = λ b q. Others.beyond-plain g d d₁ c p h s b (λ z a. q (sym a)) (λ z a. q (sym a ∙ n));
+        names′ = λ b q. Others.names-stay g d d₁ c p h b (λ z a. q (sym a)) (λ z a. q (sym a ∙ n));
         touch = w .touch;
         entries = w .entries;
         small = b;
@@ -143,6 +147,7 @@ module _ (g : Geometry) where
     bytes = y .bytes ∙ x .bytes;
     others = λ n q. y .others n (λ z. q (z ∙ x .name)) ∙ x .others n q;
     beyond′ = λ n q. y .beyond′ n (λ z. q (z ∙ x .name)) ∙ x .beyond′ n q;
+    names′ = λ n q. y .names′ n (λ z. q (z ∙ x .name)) ∙ x .names′ n q;
     touch = Touch.touch-then (x .touch) (Touch.touch-more (chain g a p) [] (x .entries) (λ n i. i) (y .touch));
     entries = λ z i. x .entries z (y .entries z i);
     small = λ b. y .small (x .small b);
@@ -165,18 +170,13 @@ pub record TrimMeans (g : Geometry) (d d′ : List ℕ) (p : ℕ) : Type 0 where
   pub own : plain g d′ (nameOf g d p) ≡ found (trimmed (fileAt g d p))
   pub others : (n : List ℕ) → n ≢ nameOf g d p → hush (plain g d′ n) ≡ hush (plain g d n)
   pub beyond′ : (n : List ℕ) → n ≢ nameOf g d p → Others.beyond g d′ n ≡ Others.beyond g d n
+  pub names′ : (n : List ℕ) → n ≢ nameOf g d p → named g d′ n ≡ named g d n
   pub touch : Touch g (chain g d p) [] d d′
+  pub file′ : File g d′ p
+  pub name′ : nameOf g d′ p ≡ nameOf g d p
   pub told : fileAt g d′ p ≡ trimmed (fileAt g d p)
   pub free : length (freeGranules g d) + length (owned g d p) ≡ length (freeGranules g d′) + length (owned g d′ p)
   pub small : Small d → Small d′
-
-pub length-count : (i n : ℕ) → length (count i n) ≡ n
-length-count i zero = refl
-length-count i (suc n) = ap suc (length-count (i + 1) n)
-
-pub bytes-length : (g : Geometry) (d : List ℕ) (p : ℕ) → length (fileAt g d p .bytes) ≡ sizeOf g d p
-unfolding fileAt words
-bytes-length g d p = length-map (count 0 (sizeOf g d p)) _ ∙ length-count 0 (sizeOf g d p)
 
 trim-kept : (g : Geometry) (d : List ℕ) (p : ℕ) → T (keepsSpace g d p) → fileAt g d p ≡ trimmed (fileAt g d p)
 unfolding trimmed fileAt
@@ -188,7 +188,7 @@ unfolding trimmed fileAt
 trim-done g d d′ p t h x = λ i. record { attributes = x .attributes i; granules = many i; bytes = x .bytes i }
   where
     many : length (owned g d′ p) ≡ cond (keepsSpace g d p) (length (owned g d p)) (granulesFor (length (fileAt g d p .bytes)))
-    many = rw (Members.no-false {b = keepsSpace g d p} t, bytes-length g d p) (omega (arith, h, x .many, ap length (x .owned′) ∙ length-append (owned g d′ p) (x .old)))
+    many = rw (Members.no-false {b = keepsSpace g d p} t, Others.file-length g d p) (omega (arith, h, x .many, ap length (x .owned′) ∙ length-append (owned g d′ p) (x .old)))
 
 pub trim-means : (g : Geometry) (d : List ℕ) (h : Handle) → trim g d h .0 .number ≡ 0 → TrimMeans g d (trim g d h .1) (h .slot)
 unfolding trim
@@ -206,7 +206,10 @@ trim-means g d h e =
       own = Named.plain-is g d (w .sound) (h .slot) (nameOf g d (h .slot)) (w .file) refl ∙ ap {B = Found} found (trim-kept g d (h .slot) t);
       others = λ n q. refl;
       beyond′ = λ n q. refl;
+      names′ = λ n q. refl;
       touch = Touch.Touch.none;
+      file′ = w .file;
+      name′ = refl;
       told = trim-kept g d (h .slot) t;
       free = refl;
       small = λ b. b;
@@ -223,7 +226,10 @@ trim-means g d h e =
           own = Named.plain-is g d′ (x .sound) (h .slot) (nameOf g d (h .slot)) (x .file) (x .name) ∙ ap {B = Found} found (trim-done g d d′ (h .slot) t (omega (arith, fit)) x);
           others = x .others;
           beyond′ = x .beyond′;
+          names′ = x .names′;
           touch = x .touch;
+          file′ = x .file;
+          name′ = x .name;
           told = trim-done g d d′ (h .slot) t (omega (arith, fit)) x;
           free = omega (arith, x .free, x .many, ap length (x .owned′) ∙ length-append (owned g d′ (h .slot)) (x .old));
           small = x .small;

@@ -15,6 +15,7 @@ use Rattle.meaning.specs.Layout.{isSlot, taken, granules, hit}
 use Rattle.meaning.specs.Entries.{system, runs, nameOf}
 use Rattle.meaning.specs.Chain.{chain, owned}
 use Rattle.meaning.specs.Consistent.{consistent}
+use Rattle.meaning.specs.LookUp.{named}
 use Rattle.meaning.specs.declared.Geometry.{Geometry}
 use Rattle.laws.specs.Members
 use Rattle.laws.specs.Members.{In}
@@ -53,7 +54,7 @@ use Rattle.promises.specs.Grow.{Grew}
 use Rattle.laws.specs.Rewrite
 use Rattle.promises.specs.Write
 use Rattle.promises.specs.Over
-use Rattle.promises.specs.Trim.{bytes-length, length-count}
+use Rattle.laws.specs.Others.{length-count, file-length}
 use Rattle.laws.specs.Words.{words}
 
 -- the data part, on a disk that is large enough
@@ -82,7 +83,7 @@ module _ (g : Geometry) (d : List ℕ) (c : Sound g d) (k : Places.Fits g d) (p 
   O = fileAt g d p .bytes
 
   len-O : length O ≡ sizeOf g d p
-  len-O = bytes-length g d p
+  len-O = file-length g d p
 
   O-at : (j : ℕ) → j < sizeOf g d p → getD O j 0 ≡ Layout.byte d (place g d p j)
   unfolding fileAt words
@@ -133,6 +134,7 @@ pub record Wrote (g : Geometry) (d d′ : List ℕ) (p : ℕ) (w : Plain.File) :
   pub own : plain g d′ (nameOf g d p) ≡ found w
   pub others : (n : List ℕ) → n ≢ nameOf g d p → hush (plain g d′ n) ≡ hush (plain g d n)
   pub beyond′ : (n : List ℕ) → n ≢ nameOf g d p → Others.beyond g d′ n ≡ Others.beyond g d n
+  pub names′ : (n : List ℕ) → n ≢ nameOf g d p → named g d′ n ≡ named g d n
   pub touch : Touch g (chain g d′ p) (owned g d′ p) d d′
   pub apart : (n : ℕ) → In n (owned g d′ p) → In n (directoryGranules g d′) → ⊥
   pub free : length (freeGranules g d) + length (owned g d p) ≡ length (freeGranules g d′) + length (owned g d′ p)
@@ -168,7 +170,7 @@ module _ (g : Geometry) (d d₁ : List ℕ) (p : ℕ) (m : Mode) (at : ℕ) (r :
   }
     where
       long : length (overwritten m (fileAt g d p .bytes) at r) ≡ size₀
-      long = Over.overwritten-length m (fileAt g d p .bytes) at r ∙ ap (λ (y : ℕ). sizeAfter m y (at + length r)) (bytes-length g d p)
+      long = Over.overwritten-length m (fileAt g d p .bytes) at r ∙ ap (λ (y : ℕ). sizeAfter m y (at + length r)) (file-length g d p)
 
       many : fileAt g (img (sizeOf g d₁ p)) p .granules ≡ max (fileAt g d p .granules) (granulesFor (length (overwritten m (fileAt g d p .bytes) at r)))
       many = own-granules g d₁ (x .sound) (x .fits) p (x .file) (x .user) m at r fit₁ ∙ rw long (own₁ ∙ maxed)
@@ -217,6 +219,7 @@ module _ (g : Geometry) (d d₁ : List ℕ) (p : ℕ) (m : Mode) (at : ℕ) (r :
         reserved′ = Others.reserved-stays g d₁ d₄ (x .sound) p h ∙ x .reserved′;
         own = Named.plain-is g d₄ s p (nameOf g d p) (Rewrite.rw-file g d₁ d₄ (x .sound) p (x .file) w) n ∙ ap {B = Found} found written-file;
         beyond′ = λ b q. Others.beyond-plain g d₁ d₄ (x .sound) p h (Rewrite.rw-same g d₁ d₄ (x .sound) p (x .file) w) b (λ z a. q (sym a ∙ x .name)) (λ z a. q (sym a ∙ n)) ∙ x .beyond′ b q;
+        names′ = λ b q. Others.names-stay g d₁ d₄ (x .sound) p h b (λ z a. q (sym a ∙ x .name)) (λ z a. q (sym a ∙ n)) ∙ x .names′ b q;
         touch = touch₄;
         apart = λ n i. Change.filed-at g d₄ s p (Rewrite.rw-file g d₁ d₄ (x .sound) p (x .file) w) .off (user₄ s) n i;
         free = free₄;

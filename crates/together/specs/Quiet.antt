@@ -36,6 +36,7 @@ use Rattle.laws.specs.Change
 use Rattle.laws.specs.KillMeans
 use Rattle.laws.specs.KillMeans.{Holds}
 use Rattle.laws.specs.Named
+use Rattle.laws.specs.Others
 use Rattle.laws.specs.Create
 use Rattle.promises.specs.Grow
 use Rattle.promises.specs.Trim
@@ -155,7 +156,7 @@ module _ (g : Geometry) (d : List ℕ) (n : Name) (h : Handle) (e : h .name ≡ 
       image m (Members.Test.holds v) = unfold trim in rw (t, Members.T-true {b = keepsSpace g d (h .slot)} v)
       image m (Members.Test.fails v) =
           let k : granulesFor (length (fileAt g d (h .slot) .bytes)) ≡ length (owned g d (h .slot)) = rw (Members.no-false {b = keepsSpace g d (h .slot)} v) at m in
-          let l = Trim.bytes-length g d (h .slot) in
+          let l = Others.file-length g d (h .slot) in
           let z : length (owned g d (h .slot)) - granulesFor (sizeOf g d (h .slot)) ≡ 0 = omega arith in
           nothing-dropped v z
         where
@@ -198,7 +199,7 @@ write-quiet g d n m h b e t q =
         → max (length (owned g d (h .slot))) (granulesFor (sizeAfter m (sizeOf g d (h .slot)) (h .at + length (take (h .len) b)))) ≡ length (owned g d (h .slot))
     many k =
         let o : length (overwritten m (fileAt g d (h .slot) .bytes) (h .at) (take (h .len) b)) ≡ sizeAfter m (sizeOf g d (h .slot)) (h .at + length (take (h .len) b)) =
-        Over.overwritten-length m (fileAt g d (h .slot) .bytes) (h .at) (take (h .len) b) ∙ ap (λ (y : ℕ). sizeAfter m y (h .at + length (take (h .len) b))) (Trim.bytes-length g d (h .slot)) in
+        Over.overwritten-length m (fileAt g d (h .slot) .bytes) (h .at) (take (h .len) b) ∙ ap (λ (y : ℕ). sizeAfter m y (h .at + length (take (h .len) b))) (Others.file-length g d (h .slot)) in
         ap (λ (y : ℕ). max (length (owned g d (h .slot))) (granulesFor y)) (sym o) ∙ told k
       where
         told : writtenTo m (h .at) (take (h .len) b) (fileAt g d (h .slot)) .granules ≡ length (owned g d (h .slot))
