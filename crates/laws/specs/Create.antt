@@ -1,4 +1,4 @@
--- Create of a new file: what is left is consistent, every other file is as it was, and the file is born
+-- A new entry written into a free slot: what is left is a change of one file, born there
 use mathlib.Core.Path.{_≡_, refl, ap, ap₂, sym, _∙_, subst}
 use mathlib.Core.Logic.{_≢_, _⊎_, inl, inr}
 use mathlib.Core.Bool.{Bool, true, false, not, cond, _&&_, _||_, Bool·beq}
@@ -39,7 +39,6 @@ use Rattle.laws.specs.Change
 use Rattle.laws.specs.Change.{entriesOf, granulesOf}
 use Rattle.laws.specs.Named
 use Rattle.laws.specs.Others
-use Rattle.laws.specs.KillMeans
 use Rattle.laws.specs.Touch
 use Rattle.laws.specs.Words.{words}
 
@@ -127,7 +126,7 @@ module _ (g : Geometry) (d : List ℕ) (c : Sound g d) (k : Places.Fits g d) (x 
   s : Places.Slot g d x
   s = Places.slot g d x t
 
-  pub made : List ℕ
+  unfoldable pub made : List ℕ
   made = withEntry g d x (newEntry n f) (hash n)
 
   room : entryAt g x + 32 ≤ length d
@@ -155,7 +154,7 @@ module _ (g : Geometry) (d : List ℕ) (c : Sound g d) (k : Places.Fits g d) (x 
   unfolding made words
   made-above = let a = Places.dir g d (c .dir) in let b = s .sector in with-byte g d x (newEntry n f) (hash n) (new-length g d n f ln) s (hitAt g 31) (inl (omega arith)) (omega arith)
 
-  made-file : File g made x
+  pub made-file : File g made x
   made-file = record { slot = rw (Frame.slot-eq g d made made-above x) t; primary′ = Members.and-i (inUse g made x) _ made-used made-first }
 
   made-taken : (m : ℕ) → m < granules g → taken g made m ≡ taken g d m
@@ -164,7 +163,7 @@ module _ (g : Geometry) (d : List ℕ) (c : Sound g d) (k : Places.Fits g d) (x 
       let b = Places.block-lt g d m k h in let e = k .blocks-hi in
       ap (λ (y : ℕ). bit (m % g .units) y) (with-byte g d x (newEntry n f) (hash n) (new-length g d n f ln) s (gatAt g m) (inl (omega arith)) (omega arith))
 
-  made-same : (i : ℕ) → (In (i / granuleBytes) (directoryGranules g d) → ⊥) → byte made i ≡ byte d i
+  pub made-same : (i : ℕ) → (In (i / granuleBytes) (directoryGranules g d) → ⊥) → byte made i ≡ byte d i
   unfolding made
   made-same i o = go (Places.outside g d i (k .start-at) (Places.dir g d (c .dir)) o)
     where
@@ -172,7 +171,7 @@ module _ (g : Geometry) (d : List ℕ) (c : Sound g d) (k : Places.Fits g d) (x 
       go (inl h) = with-byte g d x (newEntry n f) (hash n) (new-length g d n f ln) s i (inl (omega arith)) (omega arith)
       go (inr h) = let b = s .sector in let q = s .low in with-byte g d x (newEntry n f) (hash n) (new-length g d n f ln) s i (inr (omega arith)) (omega arith)
 
-  no-file : File g d x → ⊥
+  pub no-file : File g d x → ⊥
   no-file h = Change.used-hit g d c x t (Facts.file-in-use g d x h) z
 
   no-entry : {A : Type 0} (y : ℕ) → In y (entriesOf g d x) → A
@@ -189,7 +188,7 @@ module _ (g : Geometry) (d : List ℕ) (c : Sound g d) (k : Places.Fits g d) (x 
       go zero h = absurd (omega arith)
       go (suc m) h = rw (ffs 0x1e (omega arith) (omega arith))
 
-  made-touch : Touch.Touch g (chain g made x) [] d made
+  pub made-touch : Touch.Touch g (chain g made x) [] d made
   unfolding made withEntry
   made-touch = subst (λ (xs : List ℕ). Touch.Touch g xs [] d made) (sym made-chain)
       (Touch.Touch.hits x (hash n) Members.In.here (Touch.touch-whole g (x ∷ []) [] d x (newEntry n f) Members.In.here (omega (arith, new-length g d n f ln)) Touch.Touch.none))
@@ -206,7 +205,7 @@ module _ (g : Geometry) (d : List ℕ) (c : Sound g d) (k : Places.Fits g d) (x 
   unfolding owned
   made-owned = rw (made-chain, made-granules)
 
-  made-name : nameOf g made x ≡ n
+  pub made-name : nameOf g made x ≡ n
   unfolding nameOf
   made-name = ap (λ (m : ℕ). map (field g made x) (count 5 m)) (sym ln) ∙ map-read n (field g made x) 5 (λ j h. fields (5 + j) (omega (arith, ln)) ∙ new-name g d n f ln j h)
 
@@ -259,7 +258,7 @@ module _ (g : Geometry) (d : List ℕ) (c : Sound g d) (k : Places.Fits g d) (x 
   other : (y : ℕ) → (In y (entriesOf g made x) → ⊥) → y ≢ x
   other y h e = h (rw (Change.entriesOf-is g made x made-file, made-chain) (Members.head-in [] e))
 
-  made-change : Change.Change g d made x
+  pub made-change : Change.Change g d made x
   unfolding made
   made-change = record {
     above = made-above;
@@ -276,7 +275,7 @@ module _ (g : Geometry) (d : List ℕ) (c : Sound g d) (k : Places.Fits g d) (x 
     own = λ h. made-own;
   }
 
-  made-born : fileAt g made x ≡ bornAs f
+  pub made-born : fileAt g made x ≡ bornAs f
   unfolding fileAt bornAs rest words
   made-born = λ i. record {
     attributes = born i;
@@ -301,50 +300,15 @@ module _ (g : Geometry) (d : List ℕ) (c : Sound g d) (k : Places.Fits g d) (x 
         new-rest g d n f ln 3,
       )
 
-  free-stays : freeGranules g made ≡ freeGranules g d
+  pub free-stays : freeGranules g made ≡ freeGranules g d
   unfolding freeGranules
   free-stays = Members.keep-eq _ _ (count 0 (granules g)) (λ m i. ap not (made-taken m (omega (arith, Members.count-in m 0 (granules g) i))))
 
-pub record CreateMeans (g : Geometry) (d d′ n : List ℕ) (f : NewFile) : Type 0 where
-  pub long : length d′ ≡ length d
-  pub consistent′ : consistent g d′ ≡ true
-  pub reserved′ : reserved g d′ ≡ reserved g d
-  pub free′ : freeGranules g d′ ≡ freeGranules g d
-  pub born : plain g d′ n ≡ found (bornAs f)
-  pub others : (m : List ℕ) → m ≢ n → hush (plain g d′ m) ≡ hush (plain g d m)
-  pub beyond′ : (m : List ℕ) → m ≢ n → Others.beyond g d′ m ≡ Others.beyond g d m
-  pub names′ : (m : List ℕ) → m ≢ n → named g d′ m ≡ named g d m
-  pub was : plain g d n ≡ nothing
-  pub same′ : (q : ℕ) → Facts.File g d q → T (not (system g d q)) → fileAt g d′ q ≡ fileAt g d q
-
-made-length : (g : Geometry) (d : List ℕ) (c : Sound g d) (k : Places.Fits g d) (x : ℕ) (t : T (isSlot g d x)) (z : hit g d x ≡ 0)
+pub made-length : (g : Geometry) (d : List ℕ) (c : Sound g d) (k : Places.Fits g d) (x : ℕ) (t : T (isSlot g d x)) (z : hit g d x ≡ 0)
     (n : List ℕ) (w : T (wellFormed n)) (f : NewFile) (free : (q : ℕ) → File g d q → nameOf g d q ≢ n)
     → length (made g d c k x t z n w f free) ≡ length d
 unfolding made withEntry
 made-length g d c k x t z n w f free = simp (length-set, length-sets)
-
-create-made : (g : Geometry) (d : List ℕ) (c : Sound g d) (k : Places.Fits g d) (x : ℕ) (t : T (isSlot g d x)) (z : hit g d x ≡ 0)
-    (n : List ℕ) (w : T (wellFormed n)) (f : NewFile) (free : (q : ℕ) → File g d q → nameOf g d q ≢ n)
-    → CreateMeans g d (made g d c k x t z n w f free) n f
-create-made g d c k x t z n w f free =
-    let d′ = made g d c k x t z n w f free in
-    let h = made-change g d c k x t z n w f free in
-    let s : Others.Same g d d′ x = λ i a b e. made-same g d c k x t z n w f free i a in
-    let v = made-file g d c k x t z n w f free in
-    let m = made-name g d c k x t z n w f free in
-    let no′ = no-file g d c k x t z n w f free in
-    record {
-      long = made-length g d c k x t z n w f free;
-      consistent′ = Facts.back g d′ (Change.changed g d d′ c x h);
-      reserved′ = Others.reserved-stays g d d′ c x h;
-      free′ = free-stays g d c k x t z n w f free;
-      born = Named.plain-is g d′ (Change.changed g d d′ c x h) x n v m ∙ ap {B = Found} found (made-born g d c k x t z n w f free);
-      others = λ b e. Others.others-plain g d d′ c x h s b (λ q. absurd (no′ q)) (λ q a. e (sym a ∙ m));
-      beyond′ = λ b e. Others.beyond-plain g d d′ c x h s b (λ q. absurd (no′ q)) (λ q a. e (sym a ∙ m));
-      names′ = λ b e. Others.names-stay g d d′ c x h b (λ q. absurd (no′ q)) (λ q a. e (sym a ∙ m));
-      was = Named.plain-none g d n free;
-      same′ = λ q a u. Others.others g d d′ c x h s q a (λ e. no′ (rw e at a)) u;
-    }
 
 pub first-in : (xs : List ℕ) → (T (eqb (length xs) 0) → ⊥) → In (firstOr 0 xs) xs
 unfolding firstOr
@@ -356,50 +320,3 @@ unfolding freeSlots words
 slots-free g d x i =
     let a = Members.keep-in (freeSlot g d) x (count 0 256) i .1 in
     (Members.and-l (isSlot g d x) _ (Members.and-l (permitted g d x) _ a), eqb→eq _ _ (Members.all-second (permitted g d x) (eqb (hit g d x) 0) a))
-
-none-missing : (g : Geometry) (d : List ℕ) → Sound g d → (n : List ℕ) → T (missing g d n) → (q : ℕ) → File g d q → nameOf g d q ≢ n
-none-missing g d c n t q f e = subst (λ (l : List ℕ). T (eqb (length l) 0)) (ap (named g d) (sym e) ∙ Named.named-is g d c q f) t
-
-new-of : (a b : Bool) → T a → (a && not b) ≡ false → T b
-new-of true true t e = tt
-new-of true false t e = Members.false-no e tt
-new-of false b t e = absurd t
-
--- the new file's slot and name
-pub record Placed (g : Geometry) (d d′ n : List ℕ) (x : ℕ) : Type 0 where
-  pub file : File g d′ x
-  pub name′ : nameOf g d′ x ≡ n
-  pub touch : Touch.Touch g (chain g d′ x) [] d d′
-
-create-both : (g : Geometry) (d n : List ℕ) (f : NewFile) (checking : Bool) → create g d n f checking .0 .number ≡ 0 → create g d n f checking .0 .old ≡ false
-    → CreateMeans g d (create g d n f checking .1) n f × Placed g d (create g d n f checking .1) n (newSlot g d)
-unfolding create made withEntry
-create-both g d n f checking e o =
-    let p₁ = KillMeans.passed 1 _ _ (omega arith) e in
-    let p₂ = KillMeans.passed 2 _ _ (omega arith) (p₁ .1) in
-    let p₃ = KillMeans.passed 12 _ _ (omega arith) (p₂ .1) in
-    let p₄ = KillMeans.passed 3 _ _ (omega arith) (p₃ .1) in
-    let p₅ = KillMeans.passed 5 _ _ (omega arith) (p₄ .1) in
-    let p₆ = KillMeans.passed 8 _ _ (omega arith) (p₅ .1) in
-    let c = Facts.sound g d (Members.T-true (KillMeans.yes-T (consistent g d) (p₂ .0))) in
-    let k = Places.fits g d (KillMeans.yes-T (fitsGeometry g d) (p₁ .0)) in
-    let new : T (missing g d n) = new-of true (missing g d n) tt (rw e at o) in
-    let i = first-in (freeSlots g d) (λ t. p₆ .0 (Members.all-two (missing g d n) (eqb (length (freeSlots g d)) 0) new t)) in
-    let x = firstOr 0 (freeSlots g d) in
-    let y = slots-free g d x i in
-    let w = KillMeans.yes-T (wellFormed n) (p₄ .0) in
-    let free = none-missing g d c n new in
-    rw (e, Members.T-true {b = missing g d n} new) (create-made g d c k x (y .0) (y .1) n w f free, record { file = made-file g d c k x (y .0) (y .1) n w f free; name′ = made-name g d c k x (y .0) (y .1) n w f free; touch = made-touch g d c k x (y .0) (y .1) n w f free })
-
-pub create-means : (g : Geometry) (d n : List ℕ) (f : NewFile) (checking : Bool) → create g d n f checking .0 .number ≡ 0 → create g d n f checking .0 .old ≡ false
-    → CreateMeans g d (create g d n f checking .1) n f
-create-means g d n f checking e o = create-both g d n f checking e o .0
-
-pub create-placed : (g : Geometry) (d n : List ℕ) (f : NewFile) (checking : Bool) → create g d n f checking .0 .number ≡ 0 → create g d n f checking .0 .old ≡ false
-    → Placed g d (create g d n f checking .1) n (newSlot g d)
-create-placed g d n f checking e o = create-both g d n f checking e o .1
-
--- refusal 1 was passed
-pub create-fits : (g : Geometry) (d n : List ℕ) (f : NewFile) (checking : Bool) → create g d n f checking .0 .number ≡ 0 → Places.Fits g d
-unfolding create
-create-fits g d n f checking e = let p₁ = KillMeans.passed 1 _ _ (omega arith) e in Places.fits g d (KillMeans.yes-T (fitsGeometry g d) (p₁ .0))

@@ -10,7 +10,7 @@ pub mod Change
 pub mod Named
 pub mod Others
 pub mod Kill
-pub mod KillMeans
+pub mod Passed
 pub mod Create
 pub mod Longer
 pub mod Tail

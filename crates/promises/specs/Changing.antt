@@ -34,9 +34,10 @@ use Rattle.laws.specs.Touch
 use Rattle.laws.specs.Touch.{Touch, Aside}
 use Rattle.laws.specs.Words.{words}
 use Rattle.laws.specs.Others
-use Rattle.laws.specs.KillMeans
-use Rattle.laws.specs.KillMeans.{Holds}
-use Rattle.laws.specs.Create
+use Rattle.laws.specs.Passed
+use Rattle.promises.specs.KillMeans
+use Rattle.laws.specs.Passed.{Holds}
+use Rattle.promises.specs.CreateMeans
 use Rattle.promises.specs.Promises
 use Rattle.promises.specs.Promises.{Becomes, Changes, Live, Serves, Call}
 use Rattle.promises.specs.Grow
@@ -124,7 +125,7 @@ owns g d p = refl
 pub kill-serves : (g : Geometry) (d : List ℕ) (h : Handle) → kill g d h .0 .number ≡ 0 → Serves g d (Call.kills h)
 unfolding kill
 kill-serves g d h e =
-    let w = KillMeans.holds g d h _ 1 [] e .0 in let x = KillMeans.kill-means g d h e in
+    let w = Passed.holds g d h _ 1 [] e .0 in let x = KillMeans.kill-means g d h e in
     record {
       file = fileAt g d (h .slot);
       mine = refl;
@@ -136,7 +137,7 @@ kill-serves g d h e =
 pub allot-serves : (g : Geometry) (d : List ℕ) (h : Handle) (k : ℕ) → allot g d h k .0 .number ≡ 0 → Serves g d (Call.allots h k)
 unfolding allot allottedTo fileAt
 allot-serves g d h k e =
-    let w = KillMeans.holds g d h _ 4 _ e .0 in let x = Grow.allot-means g d h k e in
+    let w = Passed.holds g d h _ 4 _ e .0 in let x = Grow.allot-means g d h k e in
     record {
       file = fileAt g d (h .slot);
       mine = refl;
@@ -149,7 +150,7 @@ allot-serves g d h k e =
 pub trim-serves : (g : Geometry) (d : List ℕ) (h : Handle) → trim g d h .0 .number ≡ 0 → Serves g d (Call.trims h)
 unfolding trim
 trim-serves g d h e =
-    let w = KillMeans.holds g d h _ 4 [] e .0 in let x = Trim.trim-means g d h e in
+    let w = Passed.holds g d h _ 4 [] e .0 in let x = Trim.trim-means g d h e in
     let many : length (owned g (trim g d h .1) (h .slot)) ≡ trimmed (fileAt g d (h .slot)) .granules = owns g (trim g d h .1) (h .slot) ∙ ap (λ (f : File). f .granules) (x .told) in
     record {
       file = fileAt g d (h .slot);
@@ -192,9 +193,9 @@ pub create-becomes : (g : Geometry) (d n : List ℕ) (f : NewFile) (checking : B
     → Becomes g d (create g d n f checking .1) n nothing (found (bornAs f))
 unfolding bornAs
 create-becomes g d n f checking e o =
-    let x = Create.create-means g d n f checking e o in let z = Create.create-placed g d n f checking e o in
+    let x = CreateMeans.create-means g d n f checking e o in let z = CreateMeans.create-placed g d n f checking e o in
     let d′ = create g d n f checking .1 in
-    let l = left-after g d d′ n (Create.create-fits g d n f checking e) (newSlot g d) (Named.named-at g d′ (Facts.sound g d′ (x .consistent′)) (newSlot g d) n (z .file) (z .name′)) (z .touch) in
+    let l = left-after g d d′ n (CreateMeans.create-fits g d n f checking e) (newSlot g d) (Named.named-at g d′ (Facts.sound g d′ (x .consistent′)) (newSlot g d) n (z .file) (z .name′)) (z .touch) in
     record {
       before = x .was;
       after = x .born;

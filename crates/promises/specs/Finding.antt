@@ -26,8 +26,8 @@ use Rattle.laws.specs.Facts.{Sound}
 use Rattle.laws.specs.Named
 use Rattle.laws.specs.Rising
 use Rattle.laws.specs.Rising.{Rising}
-use Rattle.laws.specs.KillMeans.{passed, yes-T}
-use Rattle.laws.specs.Create
+use Rattle.laws.specs.Passed.{passed, yes-T}
+use Rattle.promises.specs.CreateMeans
 use Rattle.promises.specs.Promises
 use Rattle.promises.specs.Promises.{LooksUp, Opened, Creates, NotFound, Live, Full, matching}
 use Rattle.promises.specs.Refusing
@@ -238,6 +238,6 @@ create-serves g d n f checking e = record {
 
     live : create g d n f checking .0 .old ≡ false → Live g (create g d n f checking .1) (create g d n f checking .0 .handle)
     live o =
-        let z = Create.create-placed g d n f checking e o in
+        let z = CreateMeans.create-placed g d n f checking e o in
         subst (Live g (create g d n f checking .1)) (sym (made g d n f checking e o))
         (record { slot = z .file .slot; used = Facts.file-in-use g (create g d n f checking .1) (newSlot g d) (z .file); first = Facts.file-first g (create g d n f checking .1) (newSlot g d) (z .file); name′ = z .name′ })

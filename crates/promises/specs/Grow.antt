@@ -28,7 +28,6 @@ use Rattle.laws.specs.Entry
 use Rattle.laws.specs.Places
 use Rattle.laws.specs.Change
 use Rattle.laws.specs.Others
-use Rattle.laws.specs.Create
 use Rattle.laws.specs.Longer
 use Rattle.laws.specs.Tail
 use Rattle.laws.specs.Take
@@ -41,7 +40,7 @@ use Rattle.laws.specs.Touch
 use Rattle.laws.specs.Touch.{Touch}
 use Rattle.laws.specs.TakeOne.{Took}
 use Rattle.laws.specs.Named
-use Rattle.laws.specs.KillMeans
+use Rattle.laws.specs.Passed
 use Rattle.meaning.specs.Layout.{byte, field, directoryGranules, granuleBytes, granuleSectors, aboveTen}
 use Rattle.meaning.specs.Growth.{fails, diskOr}
 use Rattle.meaning.specs.Allot.{allot}
@@ -186,11 +185,11 @@ not-fails z (grown d) f = refl
 not-fails z noSlot f = absurd (f tt)
 
 -- what a growth that passed its refusals leaves
-pub larger-grew : (g : Geometry) (d : List ℕ) (h : Handle) (k : ℕ) → KillMeans.Holds g d h → first (cannotGrow g d (h .slot) k) ≡ 0 → Grew g d (larger g d (h .slot) k) (h .slot) k
+pub larger-grew : (g : Geometry) (d : List ℕ) (h : Handle) (k : ℕ) → Passed.Holds g d h → first (cannotGrow g d (h .slot) k) ≡ 0 → Grew g d (larger g d (h .slot) k) (h .slot) k
 larger-grew g d h k w e =
-    let p₁ = KillMeans.passed 11 _ _ (omega arith) e in
-    let p₂ = KillMeans.passed 9 _ _ (omega arith) (p₁ .1) in
-    let p₃ = KillMeans.passed 8 _ _ (omega arith) (p₂ .1) in
+    let p₁ = Passed.passed 11 _ _ (omega arith) e in
+    let p₂ = Passed.passed 9 _ _ (omega arith) (p₁ .1) in
+    let p₃ = Passed.passed 8 _ _ (omega arith) (p₂ .1) in
     grow-grew g k d (larger g d (h .slot) k) (h .slot) (w .sound) (w .fits) (w .file) (w .user)
     (nltb→le (length (freeGranules g d)) k (not-T (ltb (length (freeGranules g d)) k) (p₂ .0))) (not-fails d (grow g (h .slot) k d) (p₃ .0))
 
@@ -223,7 +222,7 @@ pub allot-means : (g : Geometry) (d : List ℕ) (h : Handle) (k : ℕ) → allot
 unfolding allot
 allot-means g d h k e =
     let p = h .slot in
-    let w = KillMeans.holds g d h _ 4 (cannotGrow g d p (lacking g d p (k / granuleSectors + 1))) e in
+    let w = Passed.holds g d h _ 4 (cannotGrow g d p (lacking g d p (k / granuleSectors + 1))) e in
     let x = larger-grew g d h (lacking g d p (k / granuleSectors + 1)) (w .0) (w .1) in
     let d′ = larger g d p (lacking g d p (k / granuleSectors + 1)) in
     rw e (record {

@@ -28,8 +28,7 @@ use Rattle.meaning.specs.declared.Mode.{Mode}
 use Rattle.laws.specs.Members
 use Rattle.laws.specs.Facts
 use Rattle.laws.specs.Places
-use Rattle.laws.specs.KillMeans
-use Rattle.laws.specs.KillMeans.{passed, yes-T}
+use Rattle.laws.specs.Passed.{passed, yes-T}
 use Rattle.promises.specs.Promises
 use Rattle.promises.specs.Promises.{Call, number, leaves, Live}
 use Rattle.promises.specs.Refusing

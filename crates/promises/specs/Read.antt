@@ -16,7 +16,7 @@ use Rattle.meaning.specs.Refusals.{first}
 use Rattle.meaning.specs.Plain.{fileAt}
 use Rattle.meaning.specs.declared.Geometry.{Geometry}
 use Rattle.meaning.specs.declared.Handle.{Handle}
-use Rattle.laws.specs.KillMeans
+use Rattle.laws.specs.Passed
 use Rattle.promises.specs.Over
 use Rattle.laws.specs.Others.{length-count}
 use Rattle.laws.specs.Words.{words}
@@ -37,11 +37,11 @@ pub read-means : (g : Geometry) (d : List ℕ) (h : Handle) (b : List ℕ) → r
     → readRecord g d h b .1 ≡ take (h .len) (drop (h .at) (fileAt g d (h .slot) .bytes)) ++ drop (h .len) b
 unfolding readRecord fileAt words
 read-means g d h b e =
-    let p₁ = KillMeans.passed 1 _ _ (omega arith) e in
-    let p₂ = KillMeans.passed 2 _ _ (omega arith) (p₁ .1) in
-    let p₃ = KillMeans.passed 12 _ _ (omega arith) (p₂ .1) in
-    let p₄ = KillMeans.passed 7 _ _ (omega arith) (p₃ .1) in
-    let p₅ = KillMeans.passed 6 _ _ (omega arith) (p₄ .1) in
-    let p₆ = KillMeans.passed 10 _ _ (omega arith) (p₅ .1) in
+    let p₁ = Passed.passed 1 _ _ (omega arith) e in
+    let p₂ = Passed.passed 2 _ _ (omega arith) (p₁ .1) in
+    let p₃ = Passed.passed 12 _ _ (omega arith) (p₂ .1) in
+    let p₄ = Passed.passed 7 _ _ (omega arith) (p₃ .1) in
+    let p₅ = Passed.passed 6 _ _ (omega arith) (p₄ .1) in
+    let p₆ = Passed.passed 10 _ _ (omega arith) (p₅ .1) in
     let in′ = nltb→le (sizeOf g d (h .slot)) (h .at + h .len) (not-T (ltb (sizeOf g d (h .slot)) (h .at + h .len)) (p₆ .0)) in
     rw e (ap (λ (l : List ℕ). l ++ drop (h .len) b) (part-of (λ j. byte d (place g d (h .slot) j)) (h .at) (h .len) (sizeOf g d (h .slot)) in′))

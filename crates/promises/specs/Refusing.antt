@@ -33,7 +33,7 @@ use Rattle.laws.specs.Members
 use Rattle.laws.specs.Members.{In, Distinct}
 use Rattle.laws.specs.Facts
 use Rattle.laws.specs.Places
-use Rattle.laws.specs.KillMeans
+use Rattle.laws.specs.Passed
 use Rattle.laws.specs.Others
 use Rattle.laws.specs.Words.{words}
 use Rattle.promises.specs.Sticking
@@ -371,7 +371,7 @@ module _ (g : Geometry) (d : List ℕ) where
     user : T (not (system g d (h .slot)))
 
   holds : (b : Bool) {C : Type 0} → (T b ↔ C) → ((C → ⊥) → ⊥) → T b
-  holds b i n = KillMeans.yes-T b (λ t. n (λ x. T-not b t (i .1 x)))
+  holds b i n = Passed.yes-T b (λ t. n (λ x. T-not b t (i .1 x)))
 
   writes : (h : Handle) → ((Fits g d → ⊥) → ⊥) → (consistent g d ≡ false → ⊥) → ((Live g d h → ⊥) → ⊥)
       → ((4 < h .level) ⊎ T (Promises.isSystem (fileAt g d (h .slot))) → ⊥) → Writes h
@@ -380,7 +380,7 @@ module _ (g : Geometry) (d : List ℕ) where
       let v = live-iff g d h .0 (holds (fresh g d h) (live-iff g d h) l) in
       record {
         fits = Places.fits g d (holds (fitsGeometry g d) (fits-iff g d) a);
-        sound = Facts.sound g d (Members.T-true (KillMeans.yes-T (consistent g d) (λ t. b (false-iff (consistent g d) .0 t))));
+        sound = Facts.sound g d (Members.T-true (Passed.yes-T (consistent g d) (λ t. b (false-iff (consistent g d) .0 t))));
         file = record { slot = v .slot; primary′ = Members.and-i (inUse g d (h .slot)) (not (extension g d (h .slot))) (v .used) (v .first) };
         user = not-T (system g d (h .slot)) (λ t. u (inr t));
       }

@@ -26,7 +26,7 @@ use Rattle.laws.specs.Named
 use Rattle.laws.specs.Others
 use Rattle.laws.specs.Store
 use Rattle.laws.specs.Bytes
-use Rattle.laws.specs.KillMeans.{passed, yes-T}
+use Rattle.laws.specs.Passed.{passed, yes-T}
 use Rattle.laws.specs.Words.{words}
 use Rattle.promises.specs.Promises
 use Rattle.promises.specs.Promises.{Reads, ReadsSector}

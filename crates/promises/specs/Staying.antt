@@ -34,9 +34,10 @@ use Rattle.laws.specs.Bytes
 use Rattle.laws.specs.Bytes.{Small}
 use Rattle.laws.specs.Tally
 use Rattle.laws.specs.Steps
-use Rattle.laws.specs.KillMeans
-use Rattle.laws.specs.KillMeans.{passed, yes-T}
-use Rattle.laws.specs.Create
+use Rattle.laws.specs.Passed
+use Rattle.promises.specs.KillMeans
+use Rattle.laws.specs.Passed.{passed, yes-T}
+use Rattle.promises.specs.CreateMeans
 use Rattle.laws.specs.Words.{words}
 use Rattle.promises.specs.Promises
 use Rattle.promises.specs.Promises.{Good, Stays, Call, number, leaves, Brings}
@@ -81,7 +82,7 @@ module _ (g : Geometry) (d : List ℕ) (k : Good g d) where
   unfolding writeRecord words
   write-small m h b ab e =
       let p = h .slot in let more = toWrite g d m h in
-      let w = KillMeans.holds g d h _ 4 (cannotGrow g d p more) e in
+      let w = Passed.holds g d h _ 4 (cannotGrow g d p more) e in
       let x = Grow.larger-grew g d h more (w .0) (w .1) in
       let p₁ = passed 1 _ _ (omega arith) e in
       let p₂ = passed 2 _ _ (omega arith) (p₁ .1) in
@@ -122,7 +123,7 @@ module _ (g : Geometry) (d : List ℕ) (k : Good g d) where
     where
       go : (o : Bool) → create g d n f checking .0 .old ≡ o → Stays g d (create g d n f checking .1)
       go true o = subst (Stays g d) (sym (Passing.old-stands g d n f checking o)) stays-same
-      go false o = let x = Create.create-means g d n f checking e o in
+      go false o = let x = CreateMeans.create-means g d n f checking e o in
           stays-by (create g d n f checking .1) (x .long) (x .consistent′) (x .reserved′) (create-small n f checking a b e)
 
   -- refused: nothing changes

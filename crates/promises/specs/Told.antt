@@ -18,8 +18,8 @@ use Rattle.meaning.specs.declared.NewFile.{NewFile}
 use Rattle.meaning.specs.declared.Mode.{Mode}
 use Rattle.meaning.specs.declared.Answer.{Answer}
 use Rattle.meaning.specs.declared.Created.{Created}
-use Rattle.laws.specs.KillMeans
-use Rattle.laws.specs.Create
+use Rattle.promises.specs.KillMeans
+use Rattle.promises.specs.CreateMeans
 use Rattle.promises.specs.Grow
 use Rattle.promises.specs.Trim
 use Rattle.promises.specs.Read
@@ -53,7 +53,7 @@ module _ (g : Geometry) (d : List ℕ) (h : Handle) (r : Answer) (d′ : List �
       (Read.read-means g d h b)
 
 pub create-told : (g : Geometry) (d n : List ℕ) (f : NewFile) (checking : Bool) (r : Created) (d′ : List ℕ)
-    → (r, d′) ≡ create g d n f checking → r .number ≡ 0 → r .old ≡ false → Create.CreateMeans g d d′ n f
+    → (r, d′) ≡ create g d n f checking → r .number ≡ 0 → r .old ≡ false → CreateMeans.CreateMeans g d d′ n f
 create-told g d n f checking r d′ e z o =
-    subst (λ (x : List ℕ). Create.CreateMeans g d x n f) (sym (ap (λ (y : Created × List ℕ). y .1) e))
-    (Create.create-means g d n f checking (sym (ap (λ (y : Created × List ℕ). y .0 .number) e) ∙ z) (sym (ap (λ (y : Created × List ℕ). y .0 .old) e) ∙ o))
+    subst (λ (x : List ℕ). CreateMeans.CreateMeans g d x n f) (sym (ap (λ (y : Created × List ℕ). y .1) e))
+    (CreateMeans.create-means g d n f checking (sym (ap (λ (y : Created × List ℕ). y .0 .number) e) ∙ z) (sym (ap (λ (y : Created × List ℕ). y .0 .old) e) ∙ o))

@@ -30,7 +30,7 @@ use Rattle.laws.specs.Bytes
 use Rattle.laws.specs.Bytes.{Small}
 use Rattle.laws.specs.Touch
 use Rattle.laws.specs.Touch.{Touch}
-use Rattle.laws.specs.KillMeans
+use Rattle.laws.specs.Passed
 use Rattle.meaning.specs.Layout.{byte, field, directoryGranules, granuleBytes, granuleSectors, aboveTen}
 use Rattle.meaning.specs.declared.Handle.{Handle}
 use mathlib.Core.List.{append-nil}
@@ -194,10 +194,10 @@ pub trim-means : (g : Geometry) (d : List ℕ) (h : Handle) → trim g d h .0 .n
 unfolding trim
 trim-means g d h e =
     let p = h .slot in
-    let w = KillMeans.holds g d h _ 4 [] e .0 in
+    let w = Passed.holds g d h _ 4 [] e .0 in
     rw e (go p w (Members.decide (keepsSpace g d p)))
   where
-    go : (p : ℕ) → KillMeans.Holds g d h → Members.Test (keepsSpace g d (h .slot))
+    go : (p : ℕ) → Passed.Holds g d h → Members.Test (keepsSpace g d (h .slot))
         → TrimMeans g d (cond (not (keepsSpace g d (h .slot))) (times (length (owned g d (h .slot)) - granulesFor (sizeOf g d (h .slot))) (dropOne g (h .slot)) d) d) (h .slot)
     go p w (Members.Test.holds t) = rw (Members.T-true {b = keepsSpace g d (h .slot)} t) (record {
       long = refl;

@@ -26,7 +26,7 @@ use Rattle.laws.specs.Places
 use Rattle.laws.specs.Change
 use Rattle.laws.specs.Others
 use Rattle.laws.specs.Named
-use Rattle.laws.specs.KillMeans
+use Rattle.laws.specs.Passed
 use Rattle.laws.specs.Touch
 use Rattle.laws.specs.Touch.{Touch}
 use Rattle.meaning.specs.Layout.{byte, field, directoryGranules, granuleBytes, granuleSectors, aboveTen}
@@ -234,18 +234,18 @@ pub fits-after : (g : Geometry) (d d′ : List ℕ) → Places.Fits g d → leng
 fits-after g d d′ k l = record { blocks-lo = k .blocks-lo; blocks-hi = k .blocks-hi; units-lo = k .units-lo; units-hi = k .units-hi; start-at = k .start-at; size = l ∙ k .size }
 
 pub write-wrote : (g : Geometry) (d : List ℕ) (m : Mode) (h : Handle) (b : List ℕ) → writeRecord g d m h b .0 .number ≡ 0
-    → KillMeans.Holds g d h × Wrote g d (writeRecord g d m h b .1) (h .slot) (writtenTo m (h .at) (take (h .len) b) (fileAt g d (h .slot)))
+    → Passed.Holds g d h × Wrote g d (writeRecord g d m h b .1) (h .slot) (writtenTo m (h .at) (take (h .len) b) (fileAt g d (h .slot)))
 unfolding writeRecord words
 write-wrote g d m h b e =
     let p = h .slot in
     let r = take (h .len) b in
     let more = lacking g d p (granulesFor (sizeAfter m (sizeOf g d p) (h .at + h .len))) in
-    let w = KillMeans.holds g d h _ 4 (cannotGrow g d p more) e in
-    let p₁ = KillMeans.passed 1 _ _ (omega arith) e in
-    let p₂ = KillMeans.passed 2 _ _ (omega arith) (p₁ .1) in
-    let p₃ = KillMeans.passed 12 _ _ (omega arith) (p₂ .1) in
+    let w = Passed.holds g d h _ 4 (cannotGrow g d p more) e in
+    let p₁ = Passed.passed 1 _ _ (omega arith) e in
+    let p₂ = Passed.passed 2 _ _ (omega arith) (p₁ .1) in
+    let p₃ = Passed.passed 12 _ _ (omega arith) (p₂ .1) in
     let fit : Bool = all (leb (h .at + h .len) highest ∷ leb (h .len) (length b) ∷ []) in
-    let range : T (inRange h && fit) = KillMeans.yes-T (inRange h && fit) (p₃ .0) in
+    let range : T (inRange h && fit) = Passed.yes-T (inRange h && fit) (p₃ .0) in
     let short = leb→le (h .len) (length b) (Members.all-second (leb (h .at + h .len) highest) (leb (h .len) (length b)) (Members.and-r (inRange h) fit range)) in
     let lr : length r ≡ h .len = length-take (h .len) b ∙ omega arith in
     let d₁ = larger g d p more in
@@ -278,7 +278,7 @@ write-means g d m h b ad ab e f q =
     let i : f ≡ fileAt g d (h .slot) = sym (found-inj _ _ (sym (Named.plain-is g d (k .sound) (h .slot) (h .name) (k .file) (k .name′)) ∙ q)) in
     (x .consistent′, x .reserved′, λ n. rw i (go k x n (Members.decide (same n (h .name)))))
   where
-    go : KillMeans.Holds g d h → Wrote g d (writeRecord g d m h b .1) (h .slot) (writtenTo m (h .at) (take (h .len) b) (fileAt g d (h .slot))) → (n : List ℕ) → Members.Test (same n (h .name))
+    go : Passed.Holds g d h → Wrote g d (writeRecord g d m h b .1) (h .slot) (writtenTo m (h .at) (take (h .len) b) (fileAt g d (h .slot))) → (n : List ℕ) → Members.Test (same n (h .name))
         → hush (plain g (writeRecord g d m h b .1) n) ≡ hush (with′ (plain g d) (h .name) (found (writtenTo m (h .at) (take (h .len) b) (fileAt g d (h .slot)))) n)
     go k x n (Members.Test.holds t) =
         let z : n ≡ nameOf g d (h .slot) = Members.same-eq n (h .name) t ∙ sym (k .name′) in

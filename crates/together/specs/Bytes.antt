@@ -23,7 +23,7 @@ use Rattle.laws.specs.Members
 use Rattle.laws.specs.Facts
 use Rattle.laws.specs.Facts.{Sound}
 use Rattle.laws.specs.Places
-use Rattle.laws.specs.KillMeans
+use Rattle.laws.specs.Passed
 use Rattle.laws.specs.Named
 use Rattle.together.specs.Statement.{Name, Call, looksUp, opens, creates, moves, reads, readsSector, writes, allots, trims, kills, Side, known, answer, handleAt, Turn, one, two, Interleaving, none, left, right, World, start, next, after, Taken}
 use Rattle.together.specs.State.{Held, Good}
@@ -69,11 +69,11 @@ open-handle : (g : Geometry) (d : List ℕ) (n : Name) (len : ℕ) (checking : B
     → (open′ g d n len checking code .handle ≡ openedAt g d (firstOr 0 (named g d n)) n len checking code) × (T (missing g d n) → ⊥)
 unfolding open′
 open-handle g d n len checking code e =
-    let p₁ = KillMeans.passed 1 _ _ (omega arith) e in
-    let p₂ = KillMeans.passed 2 _ _ (omega arith) (p₁ .1) in
-    let p₃ = KillMeans.passed 12 _ _ (omega arith) (p₂ .1) in
-    let p₄ = KillMeans.passed 3 _ _ (omega arith) (p₃ .1) in
-    let p₅ = KillMeans.passed 4 _ _ (omega arith) (p₄ .1) in
+    let p₁ = Passed.passed 1 _ _ (omega arith) e in
+    let p₂ = Passed.passed 2 _ _ (omega arith) (p₁ .1) in
+    let p₃ = Passed.passed 12 _ _ (omega arith) (p₂ .1) in
+    let p₄ = Passed.passed 3 _ _ (omega arith) (p₃ .1) in
+    let p₅ = Passed.passed 4 _ _ (omega arith) (p₄ .1) in
     (rw e refl, p₅ .0)
 
 read-handle : (g : Geometry) (d : List ℕ) (h : Handle) (b : List ℕ) → readRecord g d h b .0 .number ≡ 0 → readRecord g d h b .0 .handle ≡ movedTo h (h .at + h .len)

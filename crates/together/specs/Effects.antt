@@ -27,10 +27,11 @@ use Rattle.meaning.specs.declared.Handle.{Handle}
 use Rattle.meaning.specs.declared.NewFile.{NewFile}
 use Rattle.meaning.specs.declared.Mode.{Mode}
 use Rattle.laws.specs.Members
-use Rattle.laws.specs.KillMeans
-use Rattle.laws.specs.KillMeans.{Holds}
+use Rattle.laws.specs.Passed
+use Rattle.promises.specs.KillMeans
+use Rattle.laws.specs.Passed.{Holds}
 use Rattle.laws.specs.Named
-use Rattle.laws.specs.Create
+use Rattle.promises.specs.CreateMeans
 use Rattle.promises.specs.Grow
 use Rattle.promises.specs.Trim
 use Rattle.promises.specs.WriteMeans
@@ -160,11 +161,11 @@ module _ (g : Geometry) (n : Name) (d : List ℕ) (hs : List Handle) (k : Good g
       → Effect g n d hs (opens len checking code) d (hs ++ (open′ g d n len checking code .handle ∷ []))
   unfolding effect open′
   open-effect len checking code e =
-      let p₁ = KillMeans.passed 1 _ _ (omega arith) e in
-      let p₂ = KillMeans.passed 2 _ _ (omega arith) (p₁ .1) in
-      let p₃ = KillMeans.passed 12 _ _ (omega arith) (p₂ .1) in
-      let p₄ = KillMeans.passed 3 _ _ (omega arith) (p₃ .1) in
-      let p₅ = KillMeans.passed 4 _ _ (omega arith) (p₄ .1) in
+      let p₁ = Passed.passed 1 _ _ (omega arith) e in
+      let p₂ = Passed.passed 2 _ _ (omega arith) (p₁ .1) in
+      let p₃ = Passed.passed 12 _ _ (omega arith) (p₂ .1) in
+      let p₄ = Passed.passed 3 _ _ (omega arith) (p₃ .1) in
+      let p₅ = Passed.passed 4 _ _ (omega arith) (p₄ .1) in
       rw e (record {
         good = k;
         held = held-snoc n hs (openedAt g d (firstOr 0 (named g d n)) n len checking code) held refl;
@@ -234,7 +235,7 @@ module _ (g : Geometry) (n : Name) (d : List ℕ) (hs : List Handle) (k : Good g
       let q = held-at n hs i held t in
       let x = Grow.allot-means g d h j e in
       let d′ = allot g d h j .1 in
-      let w : Holds g d h = unfold allot in (KillMeans.holds g d h _ 4 _ e .0) in
+      let w : Holds g d h = unfold allot in (Passed.holds g d h _ 4 _ e .0) in
       record {
         good = good-after g d d′ k (x .long) (x .consistent′);
         held = held;
@@ -251,7 +252,7 @@ module _ (g : Geometry) (n : Name) (d : List ℕ) (hs : List Handle) (k : Good g
       let q = held-at n hs i held t in
       let x = Trim.trim-means g d h e in
       let d′ = trim g d h .1 in
-      let w : Holds g d h = unfold trim in (KillMeans.holds g d h _ 4 [] e .0) in
+      let w : Holds g d h = unfold trim in (Passed.holds g d h _ 4 [] e .0) in
       record {
         good = good-after g d d′ k (x .long) (x .consistent′);
         held = held;
@@ -268,7 +269,7 @@ module _ (g : Geometry) (n : Name) (d : List ℕ) (hs : List Handle) (k : Good g
       let q = held-at n hs i held t in
       let x = KillMeans.kill-means g d h e in
       let d′ = kill g d h .1 in
-      let w : Holds g d h = unfold kill in (KillMeans.holds g d h _ 1 [] e .0) in
+      let w : Holds g d h = unfold kill in (Passed.holds g d h _ 1 [] e .0) in
       record {
         good = good-after g d d′ k (x .long) (x .consistent′);
         held = held;
@@ -305,7 +306,7 @@ module _ (g : Geometry) (n : Name) (d : List ℕ) (hs : List Handle) (k : Good g
   unfolding effect stands
   create-new f checking e t =
       let h = new-handle f checking e t in
-      let x = Create.create-means g d n f checking e (h .0) in
+      let x = CreateMeans.create-means g d n f checking e (h .0) in
       let d′ = create g d n f checking .1 in
       record {
         good = good-after g d d′ k (x .long) (x .consistent′);

@@ -33,11 +33,12 @@ use Rattle.laws.specs.Members.{In}
 use Rattle.laws.specs.Facts
 use Rattle.laws.specs.Facts.{Sound}
 use Rattle.laws.specs.Change
-use Rattle.laws.specs.KillMeans
-use Rattle.laws.specs.KillMeans.{Holds}
+use Rattle.laws.specs.Passed
+use Rattle.promises.specs.KillMeans
+use Rattle.laws.specs.Passed.{Holds}
 use Rattle.laws.specs.Named
 use Rattle.laws.specs.Others
-use Rattle.laws.specs.Create
+use Rattle.promises.specs.CreateMeans
 use Rattle.promises.specs.Grow
 use Rattle.promises.specs.Trim
 use Rattle.promises.specs.Over
@@ -125,13 +126,13 @@ module _ (g : Geometry) (d : List ℕ) (n : Name) (h : Handle) (e : h .name ≡ 
   unfolding tally
   kill-never t q =
       let x = KillMeans.kill-means g d h t in
-      let w : Holds g d h = unfold kill in (KillMeans.holds g d h _ 1 [] t .0) in
+      let w : Holds g d h = unfold kill in (Passed.holds g d h _ 1 [] t .0) in
       let z : 0 ≡ suc (fileAt g d (h .slot) .granules) = sym (ap tally (ap (plain g (kill g d h .1)) (sym (w .name′ ∙ e)) ∙ x .gone)) ∙ q ∙ ap tally (here w) in omega arith
 
   pub allot-still : (k : ℕ) → allot g d h k .0 .number ≡ 0 → Even g n d (allot g d h k .1) → allot g d h k .1 ≡ d
   allot-still k t q =
       let x = Grow.allot-means g d h k t in
-      let w : Holds g d h = unfold allot in (KillMeans.holds g d h _ 4 _ t .0) in
+      let w : Holds g d h = unfold allot in (Passed.holds g d h _ 4 _ t .0) in
       let m : max (length (owned g d (h .slot))) (k / granuleSectors + 1) ≡ length (owned g d (h .slot)) = many (same-granules (allot g d h k .1) (allottedTo k (fileAt g d (h .slot))) w q (x .own)) in
       image (omega arith)
     where
@@ -144,7 +145,7 @@ module _ (g : Geometry) (d : List ℕ) (n : Name) (h : Handle) (e : h .name ≡ 
   pub trim-still : trim g d h .0 .number ≡ 0 → Even g n d (trim g d h .1) → trim g d h .1 ≡ d
   trim-still t q =
       let x = Trim.trim-means g d h t in
-      let w : Holds g d h = unfold trim in (KillMeans.holds g d h _ 4 [] t .0) in
+      let w : Holds g d h = unfold trim in (Passed.holds g d h _ 4 [] t .0) in
       image (many (same-granules (trim g d h .1) (trimmed (fileAt g d (h .slot))) w q (x .own))) (Members.decide (keepsSpace g d (h .slot)))
     where
       many : trimmed (fileAt g d (h .slot)) .granules ≡ length (owned g d (h .slot))
@@ -188,10 +189,10 @@ write-quiet g d n m h b e t q =
   where
     length-b : writeRecord g d m h b .0 .number ≡ 0 → length (take (h .len) b) ≡ h .len
     length-b t = unfold writeRecord all in (
-        let p₁ = KillMeans.passed 1 _ _ (omega arith) t in
-        let p₂ = KillMeans.passed 2 _ _ (omega arith) (p₁ .1) in
-        let p₃ = KillMeans.passed 12 _ _ (omega arith) (p₂ .1) in
-        let range : T (all (inRange h ∷ leb (h .at + h .len) highest ∷ leb (h .len) (length b) ∷ [])) = KillMeans.yes-T (all (inRange h ∷ leb (h .at + h .len) highest ∷ leb (h .len) (length b) ∷ [])) (p₃ .0) in
+        let p₁ = Passed.passed 1 _ _ (omega arith) t in
+        let p₂ = Passed.passed 2 _ _ (omega arith) (p₁ .1) in
+        let p₃ = Passed.passed 12 _ _ (omega arith) (p₂ .1) in
+        let range : T (all (inRange h ∷ leb (h .at + h .len) highest ∷ leb (h .len) (length b) ∷ [])) = Passed.yes-T (all (inRange h ∷ leb (h .at + h .len) highest ∷ leb (h .len) (length b) ∷ [])) (p₃ .0) in
         let short = leb→le (h .len) (length b) (Members.and-l (leb (h .len) (length b)) true (Members.and-r (leb (h .at + h .len) highest) _ (Members.and-r (inRange h) _ range))) in
         length-take (h .len) b ∙ omega arith)
 
@@ -238,7 +239,7 @@ create-quiet g d n f checking e q = go (Members.decide (missing g d n))
       old = t;
     }
     go (Members.Test.holds t) =
-        let x = Create.create-means g d n f checking e (told-old t) in
+        let x = CreateMeans.create-means g d n f checking e (told-old t) in
         absurd (not-born (x .born) (none t))
       where
         not-born : plain g (create g d n f checking .1) n ≡ found (bornAs f) → plain g d n ≡ nothing → ⊥
