@@ -4,10 +4,12 @@ use mathlib.Core.Bool.{Bool, true, false, not, cond, _&&_}
 use mathlib.Core.List.{List, [], _∷_, _++_}
 use Prim.Native.Nat.{ℕ, zero, suc, _+_, _≤_, _<_}
 use native.Mathlib.Omega.{arith}
+use native.Mathlib.Nat.{mul-le-mul}
 use lib.ListN.{length}
 use lib.Dec.{T}
 use Rattle.meaning.specs.Lists.{count, keep, each, has}
-use Rattle.meaning.specs.Layout.{taken, granules}
+use Rattle.meaning.specs.Layout.{taken, granules, highest}
+use Rattle.meaning.specs.Entries.{sizeOf}
 use Rattle.meaning.specs.Chain.{owned, files}
 use Rattle.meaning.specs.Free.{freeGranules}
 use Rattle.meaning.specs.Plain.{reserved}
@@ -16,7 +18,8 @@ use Rattle.laws.specs.Members
 use Rattle.laws.specs.Members.{In, Distinct}
 use Rattle.laws.specs.Counting
 use Rattle.laws.specs.Facts
-use Rattle.laws.specs.Facts.{Sound}
+use Rattle.laws.specs.Facts.{Sound, File}
+use Rattle.laws.specs.Places
 use Rattle.laws.specs.Change
 use Rattle.laws.specs.Others
 
@@ -66,3 +69,19 @@ module _ (g : Geometry) (d : List ℕ) (c : Sound g d) where
       let b = three (taken g d) (has inRuns) all′ (λ n i t. runs-in n (Members.has-in n inRuns t) .0) in
       let e = Others.length-count 0 (granules g) in
       omega arith
+
+-- a file owns no more granules than the disk has, so its size is within the largest disk's
+pub owned-le : (g : Geometry) (d : List ℕ) → Sound g d → (p : ℕ) → File g d p → length (owned g d p) ≤ granules g
+owned-le g d c p f =
+    omega (
+      arith,
+      Counting.pigeonhole {xs = count 0 (granules g)} (owned g d p) (Members.count-distinct 0 (granules g)) (c .single p f)
+          (λ n i. Members.in-count n 0 (granules g) (omega arith) (omega (arith, Change.owned-lt g d c p n f i))),
+      Others.length-count 0 (granules g),
+    )
+
+pub size-le : (g : Geometry) (d : List ℕ) → Sound g d → Places.Fits g d → (p : ℕ) → File g d p → sizeOf g d p ≤ highest
+unfolding granules
+size-le g d c k p f =
+    let a = mul-le-mul (k .blocks-hi) (k .units-hi) in
+    omega (arith, owned-le g d c p f, Change.filed-at g d c p f .fits)

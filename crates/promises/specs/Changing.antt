@@ -6,18 +6,18 @@ use mathlib.Core.List.{List, [], _∷_, _++_, append-nil}
 use Prim.Native.Nat.{ℕ, _+_, _-_, _*_, _/_, _%_, _≤_, _<_, max}
 use native.Mathlib.Omega.{arith}
 use lib.ListN.{length, take}
-use lib.Dec.{T}
-use Rattle.meaning.specs.Lists.{same, each, has}
-use Rattle.meaning.specs.Layout.{byte, granuleBytes, granuleSectors, directoryGranules}
+use lib.Dec.{T, leb, ltb, leb→le}
+use Rattle.meaning.specs.Lists.{same, all}
+use Rattle.meaning.specs.Layout.{byte, granuleBytes, directoryGranules, highest, sectorNumbers}
 use Rattle.meaning.specs.Entries.{nameOf}
 use Rattle.meaning.specs.Bits.{digit}
 use Rattle.meaning.specs.Chain.{chain, owned}
 use Rattle.meaning.specs.Free.{freeGranules}
 use Rattle.meaning.specs.LookUp.{named}
-use Rattle.meaning.specs.Refusals.{movedTo, lacking, first}
+use Rattle.meaning.specs.Refusals.{movedTo, inRange, protected, cannotGrow, first}
 use Rattle.meaning.specs.Create.{create, newSlot}
-use Rattle.meaning.specs.Write.{writeRecord}
-use Rattle.meaning.specs.Allot.{allot, granulesTo}
+use Rattle.meaning.specs.Write.{writeRecord, toWrite}
+use Rattle.meaning.specs.Allot.{allot, toAllot}
 use Rattle.meaning.specs.Trim.{trim}
 use Rattle.meaning.specs.Kill.{kill}
 use Rattle.meaning.specs.Plain.{File, Found, found, nothing, fileAt, plain, with′, hush, bornAs, writtenTo, allottedTo, trimmed}
@@ -39,7 +39,9 @@ use Rattle.promises.specs.KillMeans
 use Rattle.laws.specs.Passed.{Holds}
 use Rattle.promises.specs.CreateMeans
 use Rattle.promises.specs.Promises
-use Rattle.promises.specs.Promises.{Becomes, Changes, Live, Serves, Call}
+use Rattle.promises.specs.Promises.{Becomes, Changes, Live, InRange, Serves, Call}
+use Rattle.promises.specs.Refusing
+use Rattle.promises.specs.Passing
 use Rattle.promises.specs.Grow
 use Rattle.promises.specs.Trim
 use Rattle.promises.specs.Write
@@ -132,6 +134,7 @@ kill-serves g d h e =
       becomes = by-handle g d (kill g d h .1) h w nothing (x .gone) (x .others) (x .beyond′) (x .names′) (left-before g d (kill g d h .1) (nameOf g d (h .slot)) (w .fits) (h .slot) (named-here g d (kill g d h .1) h w nothing) (x .touch)) (omega (arith, x .free));
       handle′ = refl;
       live = λ f q. absurd (let z : _≡_ {A = ℕ} 0 1 = cc in omega arith);
+      ranged = Refusing.range-iff h .0 (Passing.handle-passed g d h (inRange h) (protected g d 1 h ∷ []) e .1);
     }
 
 pub allot-serves : (g : Geometry) (d : List ℕ) (h : Handle) (k : ℕ) → allot g d h k .0 .number ≡ 0 → Serves g d (Call.allots h k)
@@ -145,6 +148,8 @@ allot-serves g d h k e =
           (left-after g d (allot g d h k .1) (nameOf g d (h .slot)) (w .fits) (h .slot) (Named.named-at g (allot g d h k .1) (Facts.sound g (allot g d h k .1) (x .consistent′)) (h .slot) (nameOf g d (h .slot)) (x .file′) (x .name′)) (x .touch)) (omega (arith, x .free));
       handle′ = refl;
       live = λ f q. alive g d (allot g d h k .1) h h w (x .file′) (x .name′) refl refl;
+      ranged = Refusing.range-iff h .0 (Passing.first-of (inRange h) (ltb k sectorNumbers)
+          (Passing.handle-passed g d h (all (inRange h ∷ ltb k sectorNumbers ∷ [])) (protected g d 4 h ∷ cannotGrow g d (h .slot) (toAllot g d h k)) e .1));
     }
 
 pub trim-serves : (g : Geometry) (d : List ℕ) (h : Handle) → trim g d h .0 .number ≡ 0 → Serves g d (Call.trims h)
@@ -160,12 +165,21 @@ trim-serves g d h e =
           (x .free ∙ ap (λ (n : ℕ). length (freeGranules g (trim g d h .1)) + n) many);
       handle′ = refl;
       live = λ f q. alive g d (trim g d h .1) h h w (x .file′) (x .name′) refl refl;
+      ranged = Refusing.range-iff h .0 (Passing.handle-passed g d h (inRange h) (protected g d 4 h ∷ []) e .1);
     }
 
 -- a GAT byte of a block lies in the directory
 gat-in : (g : Geometry) (d : List ℕ) → Facts.Sound g d → Places.Fits g d → (b : ℕ) → b < g .blocks → In ((256 * g .start + b) / granuleBytes) (directoryGranules g d)
 unfolding words
 gat-in g d c k b h = Write.in-directory g d (256 * g .start + b) (k .start-at) (Places.dir g d (c .dir)) (omega arith) (omega (arith, k .blocks-hi))
+
+write-range : (g : Geometry) (d : List ℕ) (m : Mode) (h : Handle) (b : List ℕ) → writeRecord g d m h b .0 .number ≡ 0 → InRange (movedTo h (h .at + h .len))
+unfolding writeRecord all
+write-range g d m h b e =
+    let far = leb (h .at + h .len) highest in let room = leb (h .len) (length b) in
+    let t = Passing.handle-passed g d h (all (inRange h ∷ far ∷ room ∷ [])) (protected g d 4 h ∷ cannotGrow g d (h .slot) (toWrite g d m h)) e .1 in
+    let u = Members.and-r (inRange h) (far && (room && true)) t in
+    Passing.further h (h .at + h .len) (Refusing.range-iff h .0 (Members.and-l (inRange h) (far && (room && true)) t)) (leb→le (h .at + h .len) highest (Members.and-l far (room && true) u))
 
 pub write-serves : (g : Geometry) (d : List ℕ) (m : Mode) (h : Handle) (b : List ℕ) → writeRecord g d m h b .0 .number ≡ 0 → Serves g d (Call.writes m h b)
 write-serves g d m h b e =
@@ -183,6 +197,7 @@ write-serves g d m h b e =
           (x .free ∙ ap (λ (n : ℕ). length (freeGranules g d′) + n) many);
       handle′ = moved e;
       live = λ f q. alive g d d′ h (writeRecord g d m h b .0 .handle) w (x .file′) (x .name′) (ap (λ (k : Handle). k .slot) (moved e)) (ap (λ (k : Handle). k .name) (moved e));
+      ranged = subst InRange (sym (moved e)) (write-range g d m h b e);
     }
   where
     moved : writeRecord g d m h b .0 .number ≡ 0 → writeRecord g d m h b .0 .handle ≡ movedTo h (h .at + h .len)

@@ -11,7 +11,7 @@ use Rattle.meaning.specs.Lists.{count, keep, all, has, firstOr}
 use Rattle.meaning.specs.Layout.{slots, isSlot, hit}
 use Rattle.meaning.specs.Names.{hash}
 use Rattle.meaning.specs.Entries.{inUse, extension, nameOf, accessLevel}
-use Rattle.meaning.specs.Refusals.{first, noHandle}
+use Rattle.meaning.specs.Refusals.{first, goodLength, newInRange}
 use Rattle.meaning.specs.LookUp.{candidates, carries, comparedIn, named, missing, slotOf, lookUp}
 use Rattle.meaning.specs.Open.{full, admits, openedAt, open′}
 use Rattle.meaning.specs.Create.{create, newSlot}
@@ -29,7 +29,7 @@ use Rattle.laws.specs.Rising.{Rising}
 use Rattle.laws.specs.Passed.{passed, yes-T}
 use Rattle.promises.specs.CreateMeans
 use Rattle.promises.specs.Promises
-use Rattle.promises.specs.Promises.{LooksUp, Opened, Creates, NotFound, Live, Full, matching}
+use Rattle.promises.specs.Promises.{LooksUp, Opened, Creates, NotFound, Live, InRange, NewInRange, Full, matching}
 use Rattle.promises.specs.Refusing
 use Rattle.promises.specs.Passing
 use Rattle.promises.specs.Changing
@@ -174,16 +174,17 @@ look-refuses g d n k = record {
 
 -- Open --------------------------------------------------------------------------------------------------------------------------------
 
-opened : (g : Geometry) (d : List ℕ) → Sound g d → (n : List ℕ) (len : ℕ) (checking : Bool) (code : ℕ) → (T (missing g d n) → ⊥)
+opened : (g : Geometry) (d : List ℕ) → Sound g d → (n : List ℕ) (len : ℕ) (checking : Bool) (code : ℕ) → (1 ≤ len) × (len ≤ 256) → (T (missing g d n) → ⊥)
     → T (admits g d (slotOf g d n) checking code) → Opened g d n len checking code (openedAt g d (slotOf g d n) n len checking code)
 unfolding fileAt
-opened g d c n len checking code k t =
+opened g d c n len checking code r k t =
     let v = whose g d c n k in let p = v .0 in let z = v .1 in
     subst (λ (s : ℕ). T (admits g d s checking code) → Opened g d n len checking code (openedAt g d s n len checking code)) (sym (slot-is g d c n p z))
     (λ a. record {
       file = fileAt g d p;
       called = Named.plain-is g d c p n (z .file) (z .name′);
       live = record { slot = z .file .slot; used = Facts.file-in-use g d p (z .file); first = Facts.file-first g d p (z .file); name′ = z .name′ };
+      ranged = record { at = omega arith; some = r .0; most = r .1; level = level p (full g d p checking code) };
       name″ = refl;
       start = refl;
       length′ = refl;
@@ -191,6 +192,10 @@ opened g d c n len checking code k t =
       worker = λ x. (only x (Refusing.admitted-iff g d p checking code .0 a), rw (Members.no-false {b = full g d p checking code} (λ y. x (Refusing.full-iff g d p checking code .0 y))));
     }) t
   where
+    level : (p : ℕ) (b : Bool) → cond b 0 (accessLevel g d p) ≤ 7
+    level p true = omega arith
+    level p false = omega arith
+
     only : {A B : Type 0} → (A → ⊥) → A ⊎ B → B
     only x (inl a) = absurd (x a)
     only x (inr b) = b
@@ -202,7 +207,7 @@ open-serves g d n len checking code e =
     let w = Passing.disk-passed g d _ e in
     let p₃ = passed 12 _ _ (omega arith) (w .1) in let p₄ = passed 3 _ _ (omega arith) (p₃ .1) in
     let p₅ = passed 4 _ _ (omega arith) (p₄ .1) in let p₆ = passed 5 _ _ (omega arith) (p₅ .1) in
-    rw e (opened g d (w .0 .sound) n len checking code (p₅ .0) (yes-T (admits g d (slotOf g d n) checking code) (p₆ .0)))
+    rw e (opened g d (w .0 .sound) n len checking code (Refusing.length-iff len .0 (yes-T (goodLength len) (p₃ .0))) (p₅ .0) (yes-T (admits g d (slotOf g d n) checking code) (p₆ .0)))
 
 -- Create ------------------------------------------------------------------------------------------------------------------------------
 
@@ -214,6 +219,12 @@ fresh-of : (b : Bool) → not b ≡ false → T b
 fresh-of true q = tt
 fresh-of false q = Members.false-no q tt
 
+in-range : (g : Geometry) (d n : List ℕ) (f : NewFile) (checking : Bool) → create g d n f checking .0 .number ≡ 0 → NewInRange f
+unfolding create
+in-range g d n f checking e =
+    let w = Passing.disk-passed g d _ e in let p₃ = passed 12 _ _ (omega arith) (w .1) in
+    Refusing.new-iff f .0 (yes-T (newInRange f) (p₃ .0))
+
 made : (g : Geometry) (d n : List ℕ) (f : NewFile) (checking : Bool) → create g d n f checking .0 .number ≡ 0 → create g d n f checking .0 .old ≡ false
     → create g d n f checking .0 .handle ≡ record { slot = newSlot g d; name = n; at = 0; len = f .len; level = 0 }
 unfolding create
@@ -222,10 +233,13 @@ made g d n f checking e o = rw (e, Members.T-true {b = missing g d n} (fresh-of 
 pub create-serves : (g : Geometry) (d n : List ℕ) (f : NewFile) (checking : Bool) → create g d n f checking .0 .number ≡ 0 → Creates g d n f checking
 create-serves g d n f checking e = record {
   old = λ o. (old o, Passing.old-stands g d n f checking o);
-  new = λ o. (Changing.create-becomes g d n f checking e o, live o);
+  new = λ o. (Changing.create-becomes g d n f checking e o, live o, subst InRange (sym (made g d n f checking e o)) (record { at = omega arith; some = range .some; most = range .most; level = omega arith }));
   handle′ = λ o. made g d n f checking e o;
 }
   where
+    range : NewInRange f
+    range = in-range g d n f checking e
+
     old : create g d n f checking .0 .old ≡ true → Opened g d n (f .len) checking (f .main) (create g d n f checking .0 .handle)
     old o = unfold create in
         let w = Passing.disk-passed g d _ e in
@@ -234,7 +248,7 @@ create-serves g d n f checking e = record {
         let found′ : T (missing g d n) → ⊥ = old-says (missing g d n) (rw e at o) in
         let admitted : T (admits g d (slotOf g d n) checking (f .main)) = yes-T (admits g d (slotOf g d n) checking (f .main)) (λ t.
         p₅ .0 (Members.all-two (not (missing g d n)) (not (admits g d (slotOf g d n) checking (f .main))) (not-T (missing g d n) found′) t)) in
-        rw (e, Members.no-false {b = missing g d n} found′) (opened g d (w .0 .sound) n (f .len) checking (f .main) found′ admitted)
+        rw (e, Members.no-false {b = missing g d n} found′) (opened g d (w .0 .sound) n (f .len) checking (f .main) (range .some, range .most) found′ admitted)
 
     live : create g d n f checking .0 .old ≡ false → Live g (create g d n f checking .1) (create g d n f checking .0 .handle)
     live o =

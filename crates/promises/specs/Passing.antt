@@ -7,11 +7,11 @@ use Prim.Native.Nat.{ℕ, _+_, _≤_, _<_}
 use native.Mathlib.Omega.{arith}
 use lib.ListN.{length}
 use lib.Dec.{T, eqb, T-not, not-T, eqb→eq}
-use Rattle.meaning.specs.Lists.{has}
-use Rattle.meaning.specs.Layout.{fitsGeometry}
+use Rattle.meaning.specs.Lists.{all}
+use Rattle.meaning.specs.Layout.{fitsGeometry, highest}
 use Rattle.meaning.specs.Entries.{inUse, extension, nameOf}
 use Rattle.meaning.specs.Consistent.{consistent}
-use Rattle.meaning.specs.Refusals.{first, handleRefusals, fresh, check, noHandle, badGeometry, notConsistent}
+use Rattle.meaning.specs.Refusals.{movedTo, first, handleRefusals, fresh, check, noHandle, badGeometry, notConsistent}
 use Rattle.meaning.specs.LookUp.{lookUp, missing}
 use Rattle.meaning.specs.Open.{open′}
 use Rattle.meaning.specs.Create.{create}
@@ -30,7 +30,7 @@ use Rattle.laws.specs.Facts
 use Rattle.laws.specs.Places
 use Rattle.laws.specs.Passed.{passed, yes-T}
 use Rattle.promises.specs.Promises
-use Rattle.promises.specs.Promises.{Call, number, leaves, Live}
+use Rattle.promises.specs.Promises.{Call, number, leaves, Live, InRange}
 use Rattle.promises.specs.Refusing
 
 -- Accepted --------------------------------------------------------------------------------------------------------------------------
@@ -62,6 +62,15 @@ module _ (g : Geometry) (d : List ℕ) (h : Handle) where
 
   pub live-file : Live g d h → Facts.File g d (h .slot)
   live-file l = record { slot = l .slot; primary′ = Members.and-i (inUse g d (h .slot)) (not (extension g d (h .slot))) (l .used) (l .first) }
+
+-- the first of two tests
+pub first-of : (a b : Bool) → T (all (a ∷ b ∷ [])) → T a
+unfolding all
+first-of a b t = Members.and-l a (b && true) t
+
+-- a handle in range, moved within the range
+pub further : (h : Handle) (at : ℕ) → InRange h → at ≤ highest → InRange (movedTo h at)
+further h at r l = record { at = l; some = r .some; most = r .most; level = r .level }
 
 -- Refused ---------------------------------------------------------------------------------------------------------------------------
 

@@ -152,14 +152,22 @@ pub record Live (g : Geometry) (d : List ℕ) (h : Handle) : Type 0 where
   pub first : T (not (extension g d (h .slot)))
   pub name′ : nameOf g d (h .slot) ≡ h .name
 
--- An accepted call by a handle has a file of the handle's name, the one at its slot; `u` is what the call makes of it. The handle stays
--- live, unless the file is gone.
+-- position 0 to 1,966,080, record length 1 to 256, level 0 to 7
+pub record InRange (h : Handle) : Type 0 where
+  pub at : h .at ≤ highest
+  pub some : 1 ≤ h .len
+  pub most : h .len ≤ 256
+  pub level : h .level ≤ 7
+
+-- An accepted call by a handle has a file of the handle's name, the one at its slot; `u` is what the call makes of it. The handle
+-- stays in range, and live unless the file is gone.
 pub record Changes (g : Geometry) (d d′ : List ℕ) (h h′ : Handle) (u : File → Found) (moved : Handle) : Type 0 where
   pub file : File
   pub mine : fileAt g d (h .slot) ≡ file
   pub becomes : Becomes g d d′ (h .name) (found file) (u file)
   pub handle′ : h′ ≡ moved
   pub live : (f : File) → u file ≡ found f → Live g d′ h′
+  pub ranged : InRange h′
 
 -- 3. What an accepted call answers ------------------------------------------------------------------------------------------------------
 
@@ -193,11 +201,12 @@ pub record LooksUp (g : Geometry) (d n : List ℕ) : Type 0 where
 abbrev pub Full : Geometry → File → Bool → ℕ → Type 0
 Full g f checking code = (checking ≡ false) ⊎ ((mainCode f ≡ g .anyone) ⊎ (code ≡ mainCode f))
 
--- Open: a live handle at position 0, the record length as given; the level as the plain file's codes say
+-- Open: a live handle, in range, at position 0, the record length as given; the level as the plain file's codes say
 pub record Opened (g : Geometry) (d n : List ℕ) (len : ℕ) (checking : Bool) (code : ℕ) (h : Handle) : Type 0 where
   pub file : File
   pub called : plain g d n ≡ found file
   pub live : Live g d h
+  pub ranged : InRange h
   pub name″ : h .name ≡ n
   pub start : h .at ≡ 0
   pub length′ : h .len ≡ len
@@ -209,7 +218,8 @@ pub record Creates (g : Geometry) (d n : List ℕ) (f : NewFile) (checking : Boo
   pub old : create g d n f checking .0 .old ≡ true
       → Opened g d n (f .len) checking (f .main) (create g d n f checking .0 .handle) × (create g d n f checking .1 ≡ d)
   pub new : create g d n f checking .0 .old ≡ false
-      → Becomes g d (create g d n f checking .1) n nothing (found (bornAs f)) × Live g (create g d n f checking .1) (create g d n f checking .0 .handle)
+      → Becomes g d (create g d n f checking .1) n nothing (found (bornAs f))
+      × Live g (create g d n f checking .1) (create g d n f checking .0 .handle) × InRange (create g d n f checking .0 .handle)
   pub handle′ : create g d n f checking .0 .old ≡ false
       → create g d n f checking .0 .handle ≡ record { slot = firstOr 0 (freeSlots g d); name = n; at = 0; len = f .len; level = 0 }
 
@@ -220,6 +230,7 @@ pub record Reads (g : Geometry) (d : List ℕ) (h : Handle) (b : List ℕ) : Typ
   pub inside : h .at + h .len ≤ length (file .bytes)
   pub buffer : readRecord g d h b .1 ≡ take (h .len) (drop (h .at) (file .bytes)) ++ drop (h .len) b
   pub handle′ : readRecord g d h b .0 .handle ≡ movedTo h (h .at + h .len)
+  pub ranged : InRange (readRecord g d h b .0 .handle)
 
 -- Read sector k: the image's bytes from one place up to another, 1 to 256 of them, are the plain file's bytes 256k and on
 pub record ReadsSector (g : Geometry) (d : List ℕ) (h : Handle) (k : ℕ) : Type 0 where
@@ -315,13 +326,6 @@ pub record Fits (g : Geometry) (d : List ℕ) : Type 0 where
   pub start-at : g .start % granuleSectors ≡ 0
   pub long : length d ≡ granules g * granuleBytes
   pub ten : g .start + 10 ≤ sectors g
-
--- position 0 to 1,966,080, record length 1 to 256, level 0 to 7
-pub record InRange (h : Handle) : Type 0 where
-  pub at : h .at ≤ highest
-  pub some : 1 ≤ h .len
-  pub most : h .len ≤ 256
-  pub level : h .level ≤ 7
 
 -- day 0 to 31, month and year offset 0 to 15, record length 1 to 256
 pub record NewInRange (f : NewFile) : Type 0 where

@@ -225,7 +225,7 @@ new-iff f = (fore, back)
         let h : T (leb (f .len) 256) = le→leb _ _ (r .most) in
         search Members.and-i depth 7
 
-length-iff : (len : ℕ) → T (goodLength len) ↔ ((1 ≤ len) × (len ≤ 256))
+pub length-iff : (len : ℕ) → T (goodLength len) ↔ ((1 ≤ len) × (len ≤ 256))
 unfolding goodLength
 length-iff len = both-iff (leb 1 len) (leb len 256) (le-iff 1 len) (le-iff len 256)
 

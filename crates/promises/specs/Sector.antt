@@ -26,10 +26,12 @@ use Rattle.laws.specs.Named
 use Rattle.laws.specs.Others
 use Rattle.laws.specs.Store
 use Rattle.laws.specs.Bytes
+use Rattle.laws.specs.Tally
 use Rattle.laws.specs.Passed.{passed, yes-T}
 use Rattle.laws.specs.Words.{words}
 use Rattle.promises.specs.Promises
-use Rattle.promises.specs.Promises.{Reads, ReadsSector}
+use Rattle.promises.specs.Promises.{Reads, ReadsSector, InRange}
+use Rattle.promises.specs.Refusing
 use Rattle.promises.specs.Passing
 use Rattle.promises.specs.Passing.{Has}
 use Rattle.promises.specs.Over
@@ -44,12 +46,12 @@ byte-at g d p j h = Over.map-count (λ j. byte d (place g d p j)) 0 (sizeOf g d 
 called : (g : Geometry) (d : List ℕ) (h : Handle) → Has g d h → Rattle.meaning.specs.Plain.plain g d (h .name) ≡ Rattle.meaning.specs.Plain.found (fileAt g d (h .slot))
 called g d h w = Named.plain-is g d (w .sound) (h .slot) (h .name) (Passing.live-file g d h (w .live)) (w .live .name′)
 
-read-has : (g : Geometry) (d : List ℕ) (h : Handle) (b : List ℕ) → readRecord g d h b .0 .number ≡ 0 → Has g d h × (h .at + h .len ≤ sizeOf g d (h .slot))
+read-has : (g : Geometry) (d : List ℕ) (h : Handle) (b : List ℕ) → readRecord g d h b .0 .number ≡ 0 → Has g d h × (h .at + h .len ≤ sizeOf g d (h .slot)) × InRange h
 unfolding readRecord
 read-has g d h b e =
     let w = Passing.handle-passed g d h (all (inRange h ∷ leb (h .len) (length b) ∷ [])) (notForReading g d h ∷ (10, ltb (sizeOf g d (h .slot)) (h .at + h .len)) ∷ []) e in
     let p₅ = passed 6 _ _ (omega arith) (w .2) in let p₆ = passed 10 _ _ (omega arith) (p₅ .1) in
-    (w .0, nltb→le (sizeOf g d (h .slot)) (h .at + h .len) (not-T (ltb (sizeOf g d (h .slot)) (h .at + h .len)) (p₆ .0)))
+    (w .0, nltb→le (sizeOf g d (h .slot)) (h .at + h .len) (not-T (ltb (sizeOf g d (h .slot)) (h .at + h .len)) (p₆ .0)), Refusing.range-iff h .0 (Passing.first-of (inRange h) (leb (h .len) (length b)) (w .1)))
 
 pub read-serves : (g : Geometry) (d : List ℕ) (h : Handle) (b : List ℕ) → readRecord g d h b .0 .number ≡ 0 → Reads g d h b
 read-serves g d h b e =
@@ -60,6 +62,9 @@ read-serves g d h b e =
       inside = rw (Others.file-length g d (h .slot)) (w .1);
       buffer = Read.read-means g d h b e;
       handle′ = moved e;
+      ranged =
+          let top = Tally.size-le g d (w .0 .sound) (Places.fits g d (w .0 .fits)) (h .slot) (Passing.live-file g d h (w .0 .live)) in
+          subst InRange (sym (moved e)) (Passing.further h (h .at + h .len) (w .2) (omega (arith, w .1)));
     }
   where
     moved : readRecord g d h b .0 .number ≡ 0 → readRecord g d h b .0 .handle ≡ movedTo h (h .at + h .len)
