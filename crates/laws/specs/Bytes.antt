@@ -1,23 +1,23 @@
 -- The bytes of an image stay below 256: through one store, through a step of a growth or of a trim, and through each call's stores
-use mathlib.Core.Path.{_≡_, refl, ap, sym, _∙_, subst}
-use mathlib.Core.Logic.{_≢_, _⊎_, inl, inr}
-use mathlib.Core.Bool.{Bool, true, false, not, cond, _&&_, _||_}
+use mathlib.Core.Path.{_≡_, subst}
+use mathlib.Core.Logic.{_⊎_, inl, inr}
+use mathlib.Core.Bool.{Bool, true, false, cond, _&&_}
 use mathlib.Core.List.{List, [], _∷_, _++_}
-use Prim.Native.Nat.{ℕ, zero, suc, _+_, _-_, _*_, _/_, _%_, _^_, _≤_, _<_, max}
+use Prim.Native.Nat.{ℕ, zero, suc, _+_, _-_, _*_, _/_, _%_, _≤_, _<_}
 use native.Mathlib.Omega.{arith}
 use native.Mathlib.Nat.{mod-lt}
 use native.Mathlib.Decide.{ℕ-discrete, decLt}
-use lib.ListN.{length, getD, set, replicate, take, drop, take-append-drop}
+use lib.ListN.{length, set, replicate, take, drop, take-append-drop}
 use lib.Seq.{getD-set-same, getD-set-other, set-out, sets}
-use lib.Bits.{bitXor, xor-lt}
+use lib.Bits.{xor-lt}
 use lib.Dec.{T, eqb, leb, ltb, ltb→lt, lt→ltb, leb→le, eqb→eq}
-use Rattle.meaning.specs.Lists.{count, every, all, through, times, firstOr}
+use Rattle.meaning.specs.Lists.{count, every, through, firstOr}
 use Rattle.meaning.specs.Layout.{byte, field, setField, takeGranule, freeGranule, gatAt, hitAt, entryAt, granules, hit}
-use Rattle.meaning.specs.Bits.{putDigit, withBit, withoutBit}
+use Rattle.meaning.specs.Bits.{putDigit}
 use Rattle.meaning.specs.Names.{letter, padded, wellFormed, hash, mix}
 use Rattle.meaning.specs.Entries.{sizeOf, runs, runStart, runLength, extension, sectorsFor}
 use Rattle.meaning.specs.Chain.{chain, owned}
-use Rattle.meaning.specs.Growth.{tail, after, lengthens, lengthened, withPair, newExtension, withExtension, extended, takeOne, Grown, grown, noSlot, grow, andThen}
+use Rattle.meaning.specs.Growth.{tail, after, lengthens, lengthened, withPair, newExtension, withExtension, extended, takeOne, grown}
 use Rattle.meaning.specs.Free.{freeGranules, freeSlot, freeSlots}
 use Rattle.meaning.specs.Drop.{unhooked, dropOne}
 use Rattle.meaning.specs.Kill.{killEntry, killed}

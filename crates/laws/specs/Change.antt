@@ -1,22 +1,20 @@
 -- The one theorem behind every call that writes: a disk on which only one file's own entries, HIT bytes and granules changed
 -- is consistent if the file itself is sound afterwards; and every other file is as it was
-use mathlib.Core.Path.{_≡_, refl, ap, ap₂, sym, _∙_, subst}
+use mathlib.Core.Path.{_≡_, refl, ap, sym, _∙_, subst}
 use mathlib.Core.Logic.{_≢_, _⊎_, inl, inr}
-use mathlib.Core.Bool.{Bool, true, false, not, cond, _&&_, _||_, Bool·beq}
-use mathlib.Core.List.{List, [], _∷_, _++_}
-use Prim.Native.Nat.{ℕ, zero, suc, _+_, _*_, _%_, _≤_, _<_}
+use mathlib.Core.Bool.{Bool, true, false, not, cond, _&&_, Bool·beq}
+use mathlib.Core.List.{List, []}
+use Prim.Native.Nat.{ℕ, zero, suc, _≤_, _<_}
 use native.Mathlib.Omega.{arith}
 use native.Mathlib.Decide.{ℕ-discrete}
 use lib.ListN.{length}
-use lib.Dec.{T, eqb, leb, ltb, T-not, not-T, eqb→eq}
-use Rattle.meaning.specs.Lists.{count, every, some, keep, each, has}
-use Rattle.meaning.specs.Layout.{isSlot, slots, taken, field, granules, hit, directoryGranules, granuleBytes, aboveTen, directorySectors, sectors}
+use lib.Dec.{T, eqb, T-not, eqb→eq}
+use Rattle.meaning.specs.Layout.{isSlot, slots, taken, field, granules, hit, directoryGranules, aboveTen}
 use Rattle.meaning.specs.Bits.{bit, digit}
-use Rattle.meaning.specs.Entries.{inUse, extension, system, primary, marker, link, runs, entryGranules, nameOf}
-use Rattle.meaning.specs.Chain.{chain, chainFrom, owned, files}
+use Rattle.meaning.specs.Entries.{inUse, extension, primary, marker, link, entryGranules, nameOf}
+use Rattle.meaning.specs.Chain.{chain, chainFrom, owned}
 use Rattle.meaning.specs.Consistent.{hitHolds, entryHolds, fileHolds}
 use Rattle.meaning.specs.Growth.{tail}
-use Rattle.meaning.specs.Lists.{lastOr}
 use Rattle.meaning.specs.declared.Geometry.{Geometry}
 use Rattle.laws.specs.Members
 use Rattle.laws.specs.Members.{In, Distinct}

@@ -1,5 +1,5 @@
 -- A consistent disk clause by clause, in the order and the words of document 01. The test `consistent` says this, no more and no less.
-use mathlib.Core.Path.{_≡_, refl, ap, sym, _∙_, subst}
+use mathlib.Core.Path.{_≡_, subst}
 use mathlib.Core.Logic.{_≢_, _↔_, _⊎_, inl, inr}
 use mathlib.Core.Bool.{Bool, true, false, not, Bool·beq}
 use mathlib.Core.List.{List, [], _∷_}
@@ -23,7 +23,6 @@ use Rattle.laws.specs.Facts.{File, Sound}
 use Rattle.laws.specs.Entry
 use Rattle.laws.specs.Entry.{Follows, Linked, Run}
 use Rattle.laws.specs.Change
-use Rattle.laws.specs.Words.{words}
 
 -- s is a slot of the directory whose entry is in use
 pub record Used (g : Geometry) (d : List ℕ) (s : ℕ) : Type 0 where

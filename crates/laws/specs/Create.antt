@@ -1,34 +1,29 @@
 -- A new entry written into a free slot: what is left is a change of one file, born there
 use mathlib.Core.Path.{_≡_, refl, ap, ap₂, sym, _∙_, subst}
 use mathlib.Core.Logic.{_≢_, _⊎_, inl, inr}
-use mathlib.Core.Bool.{Bool, true, false, not, cond, _&&_, _||_, Bool·beq}
+use mathlib.Core.Bool.{not, cond}
 use mathlib.Core.List.{List, [], _∷_, _++_, map}
 use Prim.Native.Nat.{ℕ, zero, suc, _+_, _-_, _*_, _/_, _%_, _≤_, _<_}
 use native.Mathlib.Omega.{arith}
-use native.Mathlib.Nat.{add-zero, add-suc, suc-add}
+use native.Mathlib.Nat.{add-zero}
 use native.Mathlib.Decide.{ℕ-discrete, decLt}
 use lib.ListN.{length, getD, set, replicate, length-set, length-append, List·getD-append}
 use lib.Seq.{getD-set-same, getD-set-other, sets, length-sets, getD-append-add}
-use lib.Dec.{T, eqb, leb, ltb, T-not, not-T, eqb→eq}
-use Rattle.meaning.specs.Lists.{count, keep, each, has, through, every}
-use Rattle.meaning.specs.Layout.{fitsGeometry, byte, isSlot, slots, taken, field, gatAt, hitAt, entryAt, granules, hit, directoryGranules, granuleBytes, aboveTen, directorySectors}
+use lib.Dec.{T, eqb, eqb→eq}
+use Rattle.meaning.specs.Lists.{count, through, firstOr}
+use Rattle.meaning.specs.Layout.{byte, isSlot, slots, taken, field, gatAt, hitAt, entryAt, granules, hit, directoryGranules, granuleBytes, aboveTen, directorySectors}
 use Rattle.meaning.specs.Bits.{bit, digit}
 use Rattle.meaning.specs.Names.{hash, wellFormed}
-use Rattle.meaning.specs.Entries.{inUse, extension, system, primary, nameOf, runs, runsFrom, entryGranules, sizeOf}
+use Rattle.meaning.specs.Entries.{inUse, extension, nameOf, runs, runsFrom, entryGranules, sizeOf}
 use Rattle.meaning.specs.Chain.{chain, chainFrom, owned}
-use Rattle.meaning.specs.Consistent.{consistent}
 use Rattle.meaning.specs.Free.{freeSlots, freeGranules, permitted, freeSlot}
-use Rattle.meaning.specs.Lists.{firstOr}
 use Rattle.meaning.specs.Read
-use Rattle.meaning.specs.Create.{create, newEntry, newSlot}
-use Rattle.meaning.specs.LookUp.{named, missing}
-use Rattle.meaning.specs.Refusals.{first}
-use Rattle.meaning.specs.Plain.{Found, found, nothing, fileAt, plain, hush, reserved, bornAs}
+use Rattle.meaning.specs.Create.{newEntry}
+use Rattle.meaning.specs.Plain.{fileAt, bornAs}
 use Rattle.meaning.specs.declared.Geometry.{Geometry}
 use Rattle.meaning.specs.declared.NewFile.{NewFile}
 use Rattle.laws.specs.Members
 use Rattle.laws.specs.Members.{In, Distinct}
-use Rattle.laws.specs.Bits
 use Rattle.laws.specs.Facts
 use Rattle.laws.specs.Facts.{File, Sound}
 use Rattle.laws.specs.Entry
@@ -37,8 +32,6 @@ use Rattle.laws.specs.Frame.{Agree}
 use Rattle.laws.specs.Places
 use Rattle.laws.specs.Change
 use Rattle.laws.specs.Change.{entriesOf, granulesOf}
-use Rattle.laws.specs.Named
-use Rattle.laws.specs.Others
 use Rattle.laws.specs.Touch
 use Rattle.laws.specs.Words.{words}
 

@@ -1,38 +1,32 @@
 -- One granule less in the last entry: the last run shorter by one, or gone
-use mathlib.Core.Path.{_≡_, refl, ap, ap₂, sym, _∙_, subst}
+use mathlib.Core.Path.{_≡_, ap, ap₂, sym, _∙_, subst}
 use mathlib.Core.Logic.{_≢_, _⊎_, inl, inr}
-use mathlib.Core.Bool.{Bool, true, false, not, cond, _&&_, _||_}
-use mathlib.Core.List.{List, [], _∷_, _++_, map, append-assoc}
+use mathlib.Core.Bool.{cond}
+use mathlib.Core.List.{List, [], _∷_, _++_, append-assoc}
 use Prim.Native.Nat.{ℕ, zero, suc, _+_, _-_, _*_, _/_, _%_, _≤_, _<_}
 use native.Mathlib.Omega.{arith}
-use native.Mathlib.Nat.{div-add-mod', mod-lt}
-use native.Mathlib.Numerals.{add-one}
-use native.Mathlib.Decide.{ℕ-discrete, decLt}
-use lib.ListN.{length, getD, set, length-set}
+use native.Mathlib.Decide.{ℕ-discrete}
+use lib.ListN.{length, getD, length-set}
 use lib.Seq.{getD-set-same, getD-set-other}
-use lib.Dec.{T, eqb, leb, ltb, T-not, not-T, eqb→eq, ltb→lt, leb→le}
-use Rattle.meaning.specs.Lists.{count, keep, each, has}
-use Rattle.meaning.specs.Layout.{byte, isSlot, taken, freeGranule, field, setField, gatAt, hitAt, entryAt, granules, hit, directoryGranules, directorySectors, granuleBytes, aboveTen}
-use Rattle.meaning.specs.Bits.{bit, digit}
+use lib.Dec.{eqb}
+use Rattle.meaning.specs.Lists.{count, each}
+use Rattle.meaning.specs.Layout.{byte, freeGranule, field, setField, entryAt, granules, granuleBytes, slots}
 use Rattle.meaning.specs.Chain
-use Rattle.meaning.specs.Entries.{extension, sizeOf, block, firstUnit, runStart, runLength, runGranules, runs, entryGranules}
+use Rattle.meaning.specs.Entries.{sizeOf, block, runStart, runLength, runGranules, runs, entryGranules}
 use Rattle.meaning.specs.Chain.{chain, owned}
 use Rattle.meaning.specs.Growth.{tail}
+use Rattle.meaning.specs.Entries
 use Rattle.meaning.specs.declared.Geometry.{Geometry}
 use Rattle.laws.specs.Members
-use Rattle.laws.specs.Members.{In, Distinct}
-use Rattle.laws.specs.Facts
+use Rattle.laws.specs.Members.{In}
 use Rattle.laws.specs.Facts.{Sound, File}
 use Rattle.laws.specs.Entry
 use Rattle.laws.specs.Frame
-use Rattle.laws.specs.Frame.{Agree}
 use Rattle.laws.specs.Places
 use Rattle.laws.specs.Change
 use Rattle.laws.specs.Shrink
 use Rattle.laws.specs.Take
 use Rattle.laws.specs.Others
-use Rattle.meaning.specs.Entries
-use Rattle.meaning.specs.Layout.{slots}
 use Rattle.laws.specs.Words.{words}
 
 -- a file that owns something has a run in its last entry

@@ -1,29 +1,25 @@
 -- One granule less: all three cases, and trim
-use mathlib.Core.Path.{_≡_, refl, ap, ap₂, sym, _∙_, subst}
+use mathlib.Core.Path.{_≡_, refl, ap, sym, _∙_, subst}
 use mathlib.Core.Logic.{_≢_, _⊎_, inl, inr}
-use mathlib.Core.Bool.{Bool, true, false, not, cond, _&&_, _||_}
-use mathlib.Core.List.{List, [], _∷_, _++_, append-assoc}
-use Prim.Native.Nat.{ℕ, zero, suc, _+_, _-_, _*_, _/_, _%_, _≤_, _<_}
+use mathlib.Core.Bool.{not, _&&_}
+use mathlib.Core.List.{List, [], _∷_}
+use Prim.Native.Nat.{ℕ, _+_, _-_, _*_, _/_, _%_, _≤_, _<_}
 use native.Mathlib.Omega.{arith}
-use native.Mathlib.Decide.{ℕ-discrete, decLt}
-use lib.ListN.{length, getD, set, length-set, length-append}
+use lib.ListN.{length, set, length-set}
 use lib.Seq.{getD-set-same, getD-set-other}
-use lib.Dec.{T, eqb, leb, ltb, T-not, not-T, eqb→eq, ltb→lt, nltb→le}
-use Rattle.meaning.specs.Lists.{count, each}
-use Rattle.meaning.specs.Layout.{byte, isSlot, taken, freeGranule, field, setField, gatAt, hitAt, entryAt, granules, hit, directoryGranules, directorySectors, granuleBytes, aboveTen}
-use Rattle.meaning.specs.Bits.{bit, digit, putDigit}
-use Rattle.meaning.specs.Entries.{inUse, extension, system, marker, link, runs, runStart, runLength, runGranules, entryGranules, sizeOf, nameOf}
+use lib.Dec.{T, eqb, ltb, T-not, not-T, eqb→eq, ltb→lt, nltb→le}
+use Rattle.meaning.specs.Layout.{byte, isSlot, freeGranule, field, setField, gatAt, hitAt, entryAt, granules, hit, directoryGranules, directorySectors, granuleBytes}
+use Rattle.meaning.specs.Bits.{bit, digit}
+use Rattle.meaning.specs.Entries.{inUse, extension, system, marker, link, runs, runStart, runLength, entryGranules, sizeOf}
 use Rattle.meaning.specs.Chain.{chain, owned}
 use Rattle.meaning.specs.Growth.{tail}
 use Rattle.meaning.specs.Drop.{unhooked, dropOne}
-use Rattle.meaning.specs.Free.{freeGranules}
 use Rattle.meaning.specs.declared.Geometry.{Geometry}
 use Rattle.laws.specs.Members
 use Rattle.laws.specs.Members.{In}
 use Rattle.laws.specs.Facts
 use Rattle.laws.specs.Facts.{Sound, File}
 use Rattle.laws.specs.Entry
-use Rattle.laws.specs.Frame.{Agree}
 use Rattle.laws.specs.Places
 use Rattle.laws.specs.Change
 use Rattle.laws.specs.Take

@@ -1,20 +1,20 @@
 -- What the tests of one entry and of one file say, opened
-use mathlib.Core.Path.{_≡_, refl, ap, sym, _∙_, subst}
+use mathlib.Core.Path.{_≡_, refl, sym}
 use mathlib.Core.Logic.{_≢_, _⊎_, inl, inr}
-use mathlib.Core.Bool.{Bool, true, false, not, cond, _&&_, _||_}
-use mathlib.Core.List.{List, [], _∷_, _++_}
+use mathlib.Core.Bool.{Bool, true, false, not, cond, _||_}
+use mathlib.Core.List.{List, [], _∷_}
 use Prim.Native.Nat.{ℕ, zero, suc, _+_, _*_, _≤_, _<_}
 use native.Mathlib.Omega.{arith}
 use native.Mathlib.Decide.{ℕ-discrete}
 use lib.ListN.{length}
-use lib.Dec.{T, eqb, leb, eqb→eq, eqb-refl, T-not, not-T, ltb, ltb→lt, lt→ltb, leb→le, le→leb, nltb→le}
-use Rattle.meaning.specs.Lists.{count, every, some, keep, each, has, all, any}
+use lib.Dec.{T, eqb, leb, eqb→eq, T-not, not-T, ltb, ltb→lt, lt→ltb, leb→le, le→leb, nltb→le}
+use Rattle.meaning.specs.Lists.{count, every, has, all}
 use Rattle.meaning.specs.Layout.{isSlot, taken, field, granules, hit, directoryGranules, granuleBytes}
 use Rattle.meaning.specs.Bits.{bit}
 use Rattle.meaning.specs.Names.{hash, wellFormed}
-use Rattle.meaning.specs.Entries.{inUse, system, block, marker, link, runs, runsFrom, firstUnit, runStart, runLength, entryGranules, nameOf, sizeOf, sectorCount, endByte}
+use Rattle.meaning.specs.Entries.{system, block, marker, link, runs, runsFrom, firstUnit, runStart, runLength, entryGranules, nameOf, sizeOf, sectorCount, endByte}
 use Rattle.meaning.specs.Chain.{chain, chainFrom, owned}
-use Rattle.meaning.specs.Consistent.{pairsHold, follows, linkHolds, runsHold, gatHolds, entryHolds, nameHolds, hashHolds, sizeHolds, offDirectory, fileHolds}
+use Rattle.meaning.specs.Consistent.{pairsHold, follows, linkHolds, runsHold, gatHolds, entryHolds, hashHolds, offDirectory, fileHolds}
 use Rattle.meaning.specs.declared.Geometry.{Geometry}
 use Rattle.laws.specs.Members
 use Rattle.laws.specs.Words.{words}

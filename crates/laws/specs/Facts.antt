@@ -1,14 +1,12 @@
 -- What a consistent disk is, as statements about every slot and every file, and back to the test
-use mathlib.Core.Path.{_≡_, refl, ap, sym, _∙_, subst}
-use mathlib.Core.Logic.{_≢_, _⊎_, inl, inr}
-use mathlib.Core.Bool.{Bool, true, false, not, cond, _&&_, _||_}
-use mathlib.Core.List.{List, [], _∷_, _++_}
-use Prim.Native.Nat.{ℕ, zero, suc, _+_, _≤_, _<_}
+use mathlib.Core.Path.{_≡_, refl, sym, subst}
+use mathlib.Core.Bool.{Bool, true, not}
+use mathlib.Core.List.{List, [], _∷_}
+use Prim.Native.Nat.{ℕ, _<_}
 use native.Mathlib.Omega.{arith}
-use lib.ListN.{length}
-use lib.Dec.{T, eqb, eqb→eq, eqb-refl, T-not, not-T, ltb, ltb→lt}
-use Rattle.meaning.specs.Lists.{count, every, some, keep, each, has, distinct, same, any}
-use Rattle.meaning.specs.Layout.{isSlot, slots, directoryGranules, taken, directorySectors}
+use lib.Dec.{T, T-not, not-T, ltb, ltb→lt}
+use Rattle.meaning.specs.Lists.{count, every, keep, each, has, distinct, same, any}
+use Rattle.meaning.specs.Layout.{isSlot, slots, directoryGranules, taken}
 use Rattle.meaning.specs.Entries.{inUse, primary, extension, nameOf}
 use Rattle.meaning.specs.Chain.{chain, owned, files}
 use Rattle.meaning.specs.Consistent.{lengthHolds, hitHolds, entryHolds, slotHolds, fileHolds, namesDiffer, met, consistent}

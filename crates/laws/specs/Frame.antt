@@ -1,19 +1,16 @@
 -- What is read of an entry, and of a file, hangs only on the bytes of its entries
-use mathlib.Core.Path.{_≡_, refl, ap, ap₂, sym, _∙_, subst}
-use mathlib.Core.Logic.{_≢_, _⊎_, inl, inr}
-use mathlib.Core.Bool.{Bool, true, false, not, cond, _&&_, _||_}
-use mathlib.Core.List.{List, [], _∷_, _++_}
+use mathlib.Core.Path.{_≡_, refl, ap, _∙_}
+use mathlib.Core.Logic.{_⊎_, inl, inr}
+use mathlib.Core.Bool.{Bool, true, false, cond}
+use mathlib.Core.List.{List, [], _∷_}
 use Prim.Native.Nat.{ℕ, zero, suc, _+_, _*_, _%_, _≤_, _<_}
 use native.Mathlib.Omega.{arith}
 use lib.ListN.{length}
-use lib.Dec.{T, eqb, leb, ltb}
-use Rattle.meaning.specs.Lists.{count, every, some, keep, each, has, all}
-use Rattle.meaning.specs.Layout.{isSlot, slots, taken, field, granules, hit, directoryGranules, granuleBytes, aboveTen}
-use Rattle.meaning.specs.Bits.{bit}
-use Rattle.meaning.specs.Names.{hash, wellFormed}
-use Rattle.meaning.specs.Entries.{inUse, system, primary, block, marker, link, runs, runsFrom, firstUnit, runStart, runLength, runGranules, entryGranules, nameOf, sizeOf, sectorCount, endByte}
+use lib.Dec.{eqb, ltb}
+use Rattle.meaning.specs.Lists.{count, all}
+use Rattle.meaning.specs.Layout.{isSlot, slots, taken, field, hit, directoryGranules, aboveTen}
+use Rattle.meaning.specs.Entries.{block, marker, link, runs, runsFrom, runGranules, entryGranules, nameOf}
 use Rattle.meaning.specs.Chain.{chain, chainFrom, owned}
-use Rattle.meaning.specs.Consistent.{hashHolds, fileHolds}
 use Rattle.meaning.specs.declared.Geometry.{Geometry}
 use Rattle.laws.specs.Members
 use Rattle.laws.specs.Facts.{File}

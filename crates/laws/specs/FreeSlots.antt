@@ -1,13 +1,12 @@
 -- The free permitted slots hang on the directory's length and the HIT bytes alone
-use mathlib.Core.Path.{_≡_, refl, ap, sym, _∙_}
-use mathlib.Core.Logic.{_≢_, _⊎_, inl, inr}
-use mathlib.Core.Bool.{Bool, true, false, not, cond, _&&_}
-use mathlib.Core.List.{List, [], _∷_}
-use Prim.Native.Nat.{ℕ, suc, _+_, _<_}
-use native.Mathlib.Omega.{arith}
+use mathlib.Core.Path.{_≡_, sym}
+use mathlib.Core.Logic.{_≢_}
+use mathlib.Core.Bool.{false}
+use mathlib.Core.List.{List}
+use Prim.Native.Nat.{ℕ, suc}
 use lib.ListN.{length}
 use lib.Dec.{T, eqb, eqb→eq}
-use Rattle.meaning.specs.Lists.{count, keep, all}
+use Rattle.meaning.specs.Lists.{count, all}
 use Rattle.meaning.specs.Layout.{isSlot, hit, aboveTen}
 use Rattle.meaning.specs.Free.{permitted, freeSlot, freeSlots}
 use Rattle.meaning.specs.declared.Geometry.{Geometry}

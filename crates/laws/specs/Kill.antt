@@ -1,34 +1,29 @@
 -- Kill: what is left is consistent, every other file is as it was, and the name is gone
-use mathlib.Core.Path.{_≡_, refl, ap, ap₂, sym, _∙_, subst}
+use mathlib.Core.Path.{_≡_, refl, _∙_}
 use mathlib.Core.Logic.{_≢_, _⊎_, inl, inr}
-use mathlib.Core.Bool.{Bool, true, false, not, cond, _&&_, _||_}
-use mathlib.Core.List.{List, [], _∷_, _++_}
-use Prim.Native.Nat.{ℕ, zero, suc, _+_, _*_, _/_, _%_, _≤_, _<_}
+use mathlib.Core.Bool.{not}
+use mathlib.Core.List.{List}
+use Prim.Native.Nat.{ℕ, _+_, _*_, _/_, _≤_, _<_}
 use native.Mathlib.Omega.{arith}
-use native.Mathlib.Nat.{add-zero}
 use native.Mathlib.Decide.{ℕ-discrete}
-use lib.ListN.{length, getD, set, length-set}
+use lib.ListN.{length, set, length-set}
 use lib.Seq.{getD-set-same, getD-set-other}
-use lib.Dec.{T, eqb, leb, ltb, T-not, not-T, eqb→eq}
-use Rattle.meaning.specs.Lists.{count, keep, each, has, through}
+use lib.Dec.{T}
+use Rattle.meaning.specs.Lists.{through}
 use Rattle.meaning.specs.Layout.{byte, isSlot, taken, freeGranule, field, gatAt, hitAt, entryAt, granules, hit, directoryGranules, granuleBytes, aboveTen, directorySectors}
-use Rattle.meaning.specs.Bits.{bit, digit, putDigit}
-use Rattle.meaning.specs.Entries.{inUse, system, nameOf}
+use Rattle.meaning.specs.Bits.{putDigit}
+use Rattle.meaning.specs.Entries.{inUse, system}
 use Rattle.meaning.specs.Chain.{chain, owned}
 use Rattle.meaning.specs.Kill.{killEntry, killed}
 use Rattle.meaning.specs.declared.Geometry.{Geometry}
-use Rattle.laws.specs.Members
-use Rattle.laws.specs.Members.{In, Distinct}
+use Rattle.laws.specs.Members.{In}
 use Rattle.laws.specs.Bits
 use Rattle.laws.specs.Facts
 use Rattle.laws.specs.Facts.{File, Sound}
-use Rattle.laws.specs.Entry
-use Rattle.laws.specs.Frame
 use Rattle.laws.specs.Frame.{Agree}
 use Rattle.laws.specs.Places
 use Rattle.laws.specs.Change
 use Rattle.laws.specs.Change.{entriesOf, granulesOf}
-use Rattle.laws.specs.Others
 use Rattle.laws.specs.Words.{words}
 
 -- one entry let go

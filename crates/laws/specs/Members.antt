@@ -3,14 +3,12 @@ use mathlib.Core.Path.{_≡_, refl, ap, sym, _∙_, subst}
 use mathlib.Core.Logic.{_≢_, _⊎_, inl, inr}
 use mathlib.Core.Bool.{Bool, true, false, not, cond, _&&_, _||_}
 use mathlib.Core.List.{List, [], _∷_, _++_, map, append-assoc, append-nil}
-use native.Mathlib.Nat.{add-zero}
 use Prim.Native.Nat.{ℕ, zero, suc, _+_, _≤_, _<_}
+use native.Mathlib.Nat.{add-zero}
 use native.Mathlib.Omega.{arith}
 use native.Mathlib.Decide.{ℕ-discrete}
-use lib.ListN.{length, length-append}
 use lib.Dec.{T, eqb, eqb→eq, eqb-refl, T-not, not-T}
-use Rattle.meaning.specs.Lists.{count, every, some, keep, each, through, has, distinct, same, all, any}
-use Rattle.meaning.specs.Lists.{lastOr}
+use Rattle.meaning.specs.Lists.{count, every, keep, each, has, distinct, same, all, any, lastOr}
 
 -- Tests ------------------------------------------------------------------------------------------------------------------
 

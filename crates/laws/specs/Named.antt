@@ -1,25 +1,21 @@
 -- The plain list of named files of a sound disk
-use mathlib.Core.Path.{_≡_, refl, ap, ap₂, sym, _∙_, subst}
+use mathlib.Core.Path.{_≡_, refl, subst}
 use mathlib.Core.Logic.{_≢_, _⊎_, inl, inr}
-use mathlib.Core.Bool.{Bool, true, false, not, cond, _&&_, _||_}
-use mathlib.Core.List.{List, [], _∷_, _++_}
-use Prim.Native.Nat.{ℕ, zero, suc, _+_, _*_, _%_, _≤_, _<_}
-use native.Mathlib.Omega.{arith}
-use lib.ListN.{length, take}
-use lib.Dec.{T, eqb, eqb→eq}
-use Rattle.meaning.specs.Lists.{count, every, some, keep, each, has, same}
-use Rattle.meaning.specs.Layout.{isSlot, slots, hit}
+use mathlib.Core.List.{List, [], _∷_}
+use Prim.Native.Nat.{ℕ}
+use lib.ListN.{take}
+use lib.Dec.{eqb}
+use Rattle.meaning.specs.Lists.{keep, same}
+use Rattle.meaning.specs.Layout.{slots, hit}
 use Rattle.meaning.specs.Names.{hash}
 use Rattle.meaning.specs.Entries.{primary, nameOf}
-use Rattle.meaning.specs.Chain.{chain}
-use Rattle.meaning.specs.LookUp.{candidates, carries, named, missing}
-use Rattle.meaning.specs.Plain.{Found, found, nothing, fileAt, foundIn, plain}
+use Rattle.meaning.specs.LookUp.{candidates, carries, named}
+use Rattle.meaning.specs.Plain.{found, nothing, fileAt, foundIn, plain}
 use Rattle.meaning.specs.declared.Geometry.{Geometry}
 use Rattle.laws.specs.Members
 use Rattle.laws.specs.Members.{In}
 use Rattle.laws.specs.Facts
 use Rattle.laws.specs.Facts.{File, Sound}
-use Rattle.laws.specs.Entry
 use Rattle.laws.specs.Change
 use Rattle.laws.specs.Words.{words}
 

@@ -1,19 +1,17 @@
 -- What a change of one file leaves of all others: their bytes, and the reserved granules
-use mathlib.Core.Path.{_≡_, refl, ap, ap₂, sym, _∙_, subst}
+use mathlib.Core.Path.{_≡_, refl, ap, sym, _∙_}
 use mathlib.Core.Logic.{_≢_, _⊎_, inl, inr}
-use mathlib.Core.Bool.{Bool, true, false, not, cond, _&&_, _||_}
-use mathlib.Core.List.{List, [], _∷_, _++_, map}
-use Prim.Native.Nat.{ℕ, zero, suc, _+_, _*_, _/_, _%_, _≤_, _<_}
+use mathlib.Core.Bool.{not, cond, _&&_}
+use mathlib.Core.List.{List, [], _∷_, map}
+use Prim.Native.Nat.{ℕ, zero, suc, _+_, _*_, _/_, _%_, _<_}
 use native.Mathlib.Omega.{arith}
 use native.Mathlib.Decide.{ℕ-discrete}
 use lib.ListN.{length, getD, replicate, length-map}
-use lib.Dec.{T, eqb, leb, ltb, T-not, not-T, eqb→eq, ltb→lt}
-use Rattle.meaning.specs.Lists.{count, every, some, keep, each, has}
-use Rattle.meaning.specs.Layout.{isSlot, byte, taken, field, granules, directoryGranules, granuleBytes}
-use Rattle.meaning.specs.Bits.{bit}
+use lib.Dec.{T, ltb, T-not, not-T, ltb→lt}
+use Rattle.meaning.specs.Lists.{count, each, has}
+use Rattle.meaning.specs.Layout.{byte, taken, field, granules, directoryGranules, granuleBytes}
 use Rattle.meaning.specs.Entries.{system, nameOf, sizeOf}
 use Rattle.meaning.specs.Chain.{owned, files, place}
-use Rattle.meaning.specs.Read.{fetch}
 use Rattle.meaning.specs.LookUp.{named}
 use Rattle.meaning.specs.Plain
 use Rattle.meaning.specs.Plain.{Found, found, nothing, fileAt, foundIn, plain, hush, reserved}
@@ -22,10 +20,9 @@ use Rattle.laws.specs.Members
 use Rattle.laws.specs.Members.{In}
 use Rattle.laws.specs.Facts
 use Rattle.laws.specs.Facts.{File, Sound}
-use Rattle.laws.specs.Entry
 use Rattle.laws.specs.Frame
 use Rattle.laws.specs.Change
-use Rattle.laws.specs.Change.{entriesOf, granulesOf}
+use Rattle.laws.specs.Change.{granulesOf}
 use Rattle.laws.specs.Named
 use Rattle.laws.specs.Words.{words}
 

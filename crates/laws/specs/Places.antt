@@ -1,24 +1,22 @@
 -- Where things lie, as inequalities, and what a store leaves
-use mathlib.Core.Path.{_≡_, refl, ap, ap₂, sym, _∙_, subst}
+use mathlib.Core.Path.{_≡_, refl, ap, sym, _∙_}
 use mathlib.Core.Logic.{_≢_, _⊎_, inl, inr}
-use mathlib.Core.Bool.{Bool, true, false, not, cond, _&&_, _||_}
-use mathlib.Core.List.{List, [], _∷_, _++_}
+use mathlib.Core.List.{List, [], _∷_}
 use Prim.Native.Nat.{ℕ, zero, suc, _+_, _*_, _/_, _%_, _≤_, _<_}
 use native.Mathlib.Omega.{arith}
-use native.Mathlib.Nat.{div-add-mod', div-lt-iff-lt-mul}
+use native.Mathlib.Nat.{div-add-mod', div-lt-iff-lt-mul, add-zero, add-suc, suc-add}
 use native.Mathlib.Decide.{ℕ-discrete, decLt}
-use lib.ListN.{length, getD, set, length-set}
-use lib.Seq.{getD-set-same, getD-set-other, set-out, sets, length-sets}
-use native.Mathlib.Nat.{add-zero, add-suc, suc-add}
-use lib.Dec.{T, eqb, leb, ltb, T-not, not-T, eqb→eq, ltb→lt, leb→le}
-use Rattle.meaning.specs.Lists.{count, every, some, keep, each, has, through}
-use Rattle.meaning.specs.Layout.{fitsGeometry, byte, isSlot, slots, taken, field, gatAt, hitAt, entryAt, granules, hit, directoryGranules, granuleBytes, granuleSectors, aboveTen, directorySectors, sectors}
-use Rattle.meaning.specs.Bits.{bit, digit, putDigit}
+use lib.ListN.{length, set, length-set}
+use lib.Seq.{getD-set-same, getD-set-other, set-out, sets}
+use lib.Dec.{T, eqb, leb, ltb, eqb→eq, ltb→lt, leb→le}
+use Rattle.meaning.specs.Lists.{count, has, through}
+use Rattle.meaning.specs.Layout.{fitsGeometry, byte, isSlot, taken, gatAt, granules, directoryGranules, granuleBytes, granuleSectors, aboveTen, directorySectors, sectors}
+use Rattle.meaning.specs.Bits.{digit, putDigit}
 use Rattle.meaning.specs.Entries.{runs, runStart, runLength, runGranules, entryGranules}
 use Rattle.meaning.specs.Consistent.{lengthHolds}
 use Rattle.meaning.specs.declared.Geometry.{Geometry}
 use Rattle.laws.specs.Members
-use Rattle.laws.specs.Members.{In, Distinct}
+use Rattle.laws.specs.Members.{In}
 use Rattle.laws.specs.Bits
 use Rattle.laws.specs.Entry
 use Rattle.laws.specs.Words.{words}

@@ -1,36 +1,29 @@
 -- A file whose bytes, size and B flag changed, and nothing else
-use mathlib.Core.Path.{_≡_, refl, ap, ap₂, sym, _∙_, subst}
+use mathlib.Core.Path.{_≡_, ap, _∙_}
 use mathlib.Core.Logic.{_≢_, _⊎_, inl, inr}
-use mathlib.Core.Bool.{Bool, true, false, not, cond, _&&_, _||_}
-use mathlib.Core.List.{List, [], _∷_, _++_, map, append-assoc}
-use Prim.Native.Nat.{ℕ, zero, suc, _+_, _-_, _*_, _/_, _%_, _≤_, _<_}
+use mathlib.Core.Bool.{not}
+use mathlib.Core.List.{List}
+use Prim.Native.Nat.{ℕ, _+_, _*_, _/_, _≤_, _<_}
 use native.Mathlib.Omega.{arith}
-use native.Mathlib.Decide.{ℕ-discrete, decLt}
-use native.Mathlib.Numerals.{add-one}
-use lib.ListN.{length, getD, length-append, List·getD-append}
-use lib.Dec.{T, eqb, leb, ltb, T-not, not-T, eqb→eq}
-use Rattle.meaning.specs.Lists.{count, keep, each, has}
+use native.Mathlib.Decide.{ℕ-discrete}
+use lib.ListN.{length}
+use lib.Dec.{T, T-not}
+use Rattle.meaning.specs.Lists.{count, each}
 use Rattle.meaning.specs.Layout.{byte, isSlot, taken, field, granules, hit, directoryGranules, granuleBytes, aboveTen}
-use Rattle.meaning.specs.Bits.{bit, digit}
-use Rattle.meaning.specs.Entries.{inUse, extension, system, primary, marker, link, block, nameOf, runs, entryGranules, sizeOf}
-use Rattle.meaning.specs.Chain.{chain, owned, place}
-use Rattle.meaning.specs.Growth.{tail}
+use Rattle.meaning.specs.Entries.{extension, system, marker, link, nameOf, runs, entryGranules, sizeOf, sectorCount, endByte}
+use Rattle.meaning.specs.Chain.{chain, owned}
 use Rattle.meaning.specs.Free.{freeGranules}
-use Rattle.meaning.specs.Read.{fetch}
-use Rattle.meaning.specs.Plain.{File, fileAt}
+use Rattle.meaning.specs.Plain.{File}
 use Rattle.meaning.specs.declared.Geometry.{Geometry}
 use Rattle.laws.specs.Members
-use Rattle.laws.specs.Members.{In, Distinct}
-use Rattle.laws.specs.Counting
+use Rattle.laws.specs.Members.{In}
 use Rattle.laws.specs.Facts
 use Rattle.laws.specs.Facts.{Sound}
 use Rattle.laws.specs.Entry
 use Rattle.laws.specs.Frame
 use Rattle.laws.specs.Frame.{Agree}
-use Rattle.laws.specs.Places
 use Rattle.laws.specs.Change
 use Rattle.laws.specs.Change.{entriesOf, granulesOf}
-use Rattle.meaning.specs.Entries.{sectorCount, endByte}
 use Rattle.laws.specs.Others
 
 -- the bytes of an entry that a write does not touch

@@ -1,9 +1,8 @@
 -- Lists of rising numbers, and what is kept of a list. Nothing here knows of a disk.
-use mathlib.Core.Path.{_≡_, refl, ap, sym, _∙_, subst}
-use mathlib.Core.Logic.{_≢_, _⊎_, inl, inr}
-use mathlib.Core.Bool.{Bool, true, false, not, cond, _&&_}
-use mathlib.Core.List.{List, [], _∷_, _++_}
-use Prim.Native.Nat.{ℕ, zero, suc, _+_, _≤_, _<_}
+use mathlib.Core.Path.{_≡_, refl}
+use mathlib.Core.Bool.{Bool, true, false, cond, _&&_}
+use mathlib.Core.List.{List, [], _∷_}
+use Prim.Native.Nat.{ℕ, zero, suc, _+_, _<_}
 use native.Mathlib.Omega.{arith}
 use lib.ListN.{length, getD}
 use Rattle.meaning.specs.Lists.{count, keep}
@@ -17,7 +16,7 @@ pub data Rising : List ℕ → Type 0 where
 
 pub count-rising : (i n : ℕ) → Rising (count i n)
 count-rising i zero = done
-count-rising i (suc n) = next {x = i} (λ y m. omega (arith, Members.count-in y (i + 1) n m)) (count-rising (i + 1) n)
+count-rising i (suc n) = next {x = i} (λ (y : ℕ) (m : In y (count (i + 1) n)). omega (arith, Members.count-in y (i + 1) n m)) (count-rising (i + 1) n)
 
 pub keep-rising : (p : ℕ → Bool) {xs : List ℕ} → Rising xs → Rising (keep p xs)
 keep-rising p done = done

@@ -1,28 +1,23 @@
 -- One granule taken in the last entry: the last run longer by one, or a new run
-use mathlib.Core.Path.{_≡_, refl, ap, ap₂, sym, _∙_, subst}
+use mathlib.Core.Path.{_≡_, ap, ap₂, sym, _∙_}
 use mathlib.Core.Logic.{_≢_, _⊎_, inl, inr}
-use mathlib.Core.Bool.{Bool, true, false, not, cond, _&&_, _||_}
-use mathlib.Core.List.{List, [], _∷_, _++_, map, append-assoc}
-use Prim.Native.Nat.{ℕ, zero, suc, _+_, _-_, _*_, _/_, _%_, _≤_, _<_}
+use mathlib.Core.Bool.{not}
+use mathlib.Core.List.{List, [], _∷_, _++_, append-assoc}
+use Prim.Native.Nat.{ℕ, suc, _+_, _-_, _*_, _/_, _%_, _≤_, _<_}
 use native.Mathlib.Omega.{arith}
 use native.Mathlib.Nat.{div-add-mod', mod-lt}
-use native.Mathlib.Numerals.{add-one}
-use native.Mathlib.Decide.{ℕ-discrete, decLt}
-use lib.ListN.{length, getD, set, length-set}
+use native.Mathlib.Decide.{ℕ-discrete}
+use lib.ListN.{length, length-set}
 use lib.Seq.{getD-set-same, getD-set-other}
-use lib.Dec.{T, eqb, leb, ltb, T-not, not-T, eqb→eq, ltb→lt, leb→le}
-use Rattle.meaning.specs.Lists.{count, keep, each, has}
+use lib.Dec.{T, leb, ltb, T-not, ltb→lt, leb→le}
+use Rattle.meaning.specs.Lists.{count, each}
 use Rattle.meaning.specs.Layout.{byte, isSlot, taken, takeGranule, field, setField, gatAt, hitAt, entryAt, granules, hit, directoryGranules, directorySectors, granuleBytes, aboveTen}
 use Rattle.meaning.specs.Bits.{bit, digit}
-use Rattle.meaning.specs.Entries.{block, firstUnit, runStart, runLength, runGranules, runs, entryGranules}
-use Rattle.meaning.specs.Chain.{chain, owned}
-use Rattle.meaning.specs.Growth.{tail, after, lengthens, lengthened, withPair, takeOne, Grown, grown, noSlot, extended}
-use Rattle.meaning.specs.Free.{freeGranules}
-use Rattle.meaning.specs.Lists.{firstOr}
+use Rattle.meaning.specs.Entries.{block, runStart, runLength, runGranules, runs, entryGranules}
+use Rattle.meaning.specs.Growth.{tail, after, lengthens, lengthened, withPair}
 use Rattle.meaning.specs.declared.Geometry.{Geometry}
 use Rattle.laws.specs.Members
-use Rattle.laws.specs.Members.{In, Distinct}
-use Rattle.laws.specs.Facts
+use Rattle.laws.specs.Members.{In}
 use Rattle.laws.specs.Facts.{Sound, File}
 use Rattle.laws.specs.Entry
 use Rattle.laws.specs.Frame

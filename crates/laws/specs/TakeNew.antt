@@ -1,26 +1,22 @@
 -- Case 3 of one granule taken: a new extension
-use mathlib.Core.Path.{_≡_, refl, ap, ap₂, sym, _∙_, subst}
+use mathlib.Core.Path.{_≡_, refl, ap, _∙_}
 use mathlib.Core.Logic.{_≢_, _⊎_, inl, inr}
-use mathlib.Core.Bool.{Bool, true, false, not, cond, _&&_, _||_}
-use mathlib.Core.List.{List, [], _∷_, _++_}
-use Prim.Native.Nat.{ℕ, zero, suc, _+_, _-_, _*_, _/_, _%_, _≤_, _<_}
+use mathlib.Core.List.{List}
+use Prim.Native.Nat.{ℕ, _+_, _*_, _/_, _%_, _≤_, _<_}
 use native.Mathlib.Omega.{arith}
-use native.Mathlib.Decide.{ℕ-discrete, decLt}
-use lib.ListN.{length, getD, set, length-set, replicate}
-use lib.Seq.{getD-set-same, getD-set-other, sets, length-sets}
-use lib.Dec.{T, eqb, leb, ltb, T-not, not-T, eqb→eq}
-use Rattle.meaning.specs.Lists.{count, every}
-use Rattle.meaning.specs.Layout.{byte, isSlot, taken, takeGranule, field, setField, gatAt, hitAt, entryAt, granules, hit, directoryGranules, directorySectors, granuleBytes, aboveTen}
-use Rattle.meaning.specs.Bits.{bit, digit, putDigit}
+use native.Mathlib.Decide.{decLt}
+use lib.ListN.{length, getD, length-set}
+use lib.Seq.{getD-set-same, getD-set-other, length-sets}
+use lib.Dec.{T, eqb, eqb→eq}
+use Rattle.meaning.specs.Lists.{count}
+use Rattle.meaning.specs.Layout.{byte, isSlot, taken, field, setField, gatAt, hitAt, entryAt, granules, hit, directoryGranules, directorySectors, granuleBytes, aboveTen}
+use Rattle.meaning.specs.Bits.{bit}
 use Rattle.meaning.specs.Entries.{marker, link, runs}
-use Rattle.meaning.specs.Chain.{chain, owned}
 use Rattle.meaning.specs.Growth.{tail, withPair, withExtension, newExtension}
 use Rattle.meaning.specs.declared.Geometry.{Geometry}
 use Rattle.laws.specs.Members
 use Rattle.laws.specs.Members.{In}
-use Rattle.laws.specs.Facts
 use Rattle.laws.specs.Facts.{Sound, File}
-use Rattle.laws.specs.Frame.{Agree}
 use Rattle.laws.specs.Places
 use Rattle.laws.specs.Change
 use Rattle.laws.specs.Create

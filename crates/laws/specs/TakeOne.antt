@@ -1,23 +1,17 @@
 -- One granule more, and k granules more
-use mathlib.Core.Path.{_≡_, refl, ap, ap₂, sym, _∙_, subst}
-use mathlib.Core.Logic.{_≢_, _⊎_, inl, inr}
-use mathlib.Core.Bool.{Bool, true, false, not, cond, _&&_, _||_}
-use mathlib.Core.List.{List, [], _∷_, _++_, append-assoc}
-use Prim.Native.Nat.{ℕ, zero, suc, _+_, _-_, _*_, _/_, _%_, _≤_, _<_}
+use mathlib.Core.Path.{_≡_, ap, ap₂, sym, _∙_, subst}
+use mathlib.Core.Bool.{not}
+use mathlib.Core.List.{List, [], _∷_, _++_}
+use Prim.Native.Nat.{ℕ, _+_, _-_, _*_, _≤_, _<_}
 use native.Mathlib.Omega.{arith}
-use native.Mathlib.Decide.{ℕ-discrete, decLt}
-use lib.ListN.{length, getD, set, length-set, length-append}
-use lib.Seq.{length-sets}
-use lib.Dec.{T, eqb, leb, ltb, T-not, not-T, eqb→eq, ltb→lt, nltb→le}
-use Rattle.meaning.specs.Lists.{count, every, keep}
+use lib.ListN.{length, length-set, length-append}
+use lib.Dec.{T, ltb, T-not, not-T, eqb→eq, ltb→lt, nltb→le}
+use Rattle.meaning.specs.Lists.{count, firstOr}
 use Rattle.meaning.specs.Layout.{isSlot, taken, granules, hit}
-use Rattle.meaning.specs.Entries.{system, runs, nameOf}
-use Rattle.meaning.specs.Chain.{chain, owned}
-use Rattle.meaning.specs.Consistent.{consistent}
-use Rattle.meaning.specs.Growth.{tail, after, lengthens, lengthened, withPair, withExtension, takeOne, Grown, grown, noSlot, extended, grow, andThen}
+use Rattle.meaning.specs.Entries.{system, runs}
+use Rattle.meaning.specs.Chain.{chain}
+use Rattle.meaning.specs.Growth.{tail, after, lengthens, lengthened, withPair, withExtension, takeOne, grown, extended}
 use Rattle.meaning.specs.Free.{freeGranules, freeSlots}
-use Rattle.meaning.specs.Lists.{firstOr}
-use Rattle.meaning.specs.Plain.{fileAt, plain, hush, reserved}
 use Rattle.meaning.specs.declared.Geometry.{Geometry}
 use Rattle.laws.specs.Members
 use Rattle.laws.specs.Members.{In}
@@ -26,7 +20,6 @@ use Rattle.laws.specs.Facts.{Sound, File}
 use Rattle.laws.specs.Entry
 use Rattle.laws.specs.Places
 use Rattle.laws.specs.Change
-use Rattle.laws.specs.Others
 use Rattle.laws.specs.Create
 use Rattle.laws.specs.Longer
 use Rattle.laws.specs.Tail

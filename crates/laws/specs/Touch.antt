@@ -1,29 +1,25 @@
 -- Which places of an image a call stores to: bits of the GAT, HIT bytes and entry bytes of some slots, bytes of some granules. All else
 -- is as it was.
-use mathlib.Core.Path.{_≡_, refl, ap, sym, _∙_, subst}
+use mathlib.Core.Path.{_≡_, refl, ap, _∙_, subst}
 use mathlib.Core.Logic.{_≢_, _⊎_, inl, inr}
-use mathlib.Core.Bool.{Bool, true, false, not, cond, _&&_}
-use mathlib.Core.List.{List, [], _∷_, _++_}
-use Prim.Native.Nat.{ℕ, zero, suc, _+_, _-_, _*_, _/_, _%_, _≤_, _<_}
+use mathlib.Core.List.{List, [], _∷_}
+use Prim.Native.Nat.{ℕ, suc, _+_, _*_, _/_, _%_, _≤_, _<_}
 use native.Mathlib.Omega.{arith}
-use native.Mathlib.Nat.{add-zero, add-suc, mod-lt}
+use native.Mathlib.Nat.{add-zero, mod-lt}
 use native.Mathlib.Decide.{ℕ-discrete, decLt}
-use lib.ListN.{length, getD, set, replicate}
+use lib.ListN.{length, set}
 use lib.Seq.{getD-set-same, getD-set-other, set-out, sets}
-use lib.Dec.{T}
 use Rattle.meaning.specs.Lists.{through}
 use Rattle.meaning.specs.Layout.{byte, setField, takeGranule, freeGranule, gatAt, hitAt, entryAt, granules, granuleBytes}
-use Rattle.meaning.specs.Bits.{digit, putDigit, withBit}
+use Rattle.meaning.specs.Bits.{digit, putDigit}
 use Rattle.meaning.specs.Chain.{chain, owned}
 use Rattle.meaning.specs.Growth.{withPair, newExtension, withExtension}
 use Rattle.meaning.specs.Drop.{unhooked}
 use Rattle.meaning.specs.Kill.{killEntry, killed}
 use Rattle.meaning.specs.Write.{store, withSize}
 use Rattle.meaning.specs.declared.Geometry.{Geometry}
-use Rattle.laws.specs.Members
 use Rattle.laws.specs.Members.{In}
 use Rattle.laws.specs.Bits
-use Rattle.laws.specs.Facts
 use Rattle.laws.specs.Facts.{Sound, File}
 use Rattle.laws.specs.Places
 use Rattle.laws.specs.Change

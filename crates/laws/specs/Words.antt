@@ -1,7 +1,7 @@
 -- The words of `meaning` that the theorems look through, opened by one name: `unfolding words` opens them all.
 use mathlib.Core.Bool.{Bool, true}
 use Rattle.meaning.specs.Lists.{all, any}
-use Rattle.meaning.specs.Layout.{granules, fitsGeometry, taken, takeGranule, freeGranule, hit, directorySectors, isSlot, field, setField}
+use Rattle.meaning.specs.Layout.{granules, taken, takeGranule, freeGranule, hit, directorySectors, isSlot, field, setField}
 use Rattle.meaning.specs.Entries.{sizeOf}
 use Rattle.meaning.specs.Consistent.{lengthHolds, hitHolds, hashHolds, nameHolds, pairsHold, follows, linkHolds, runsHold, gatHolds, sizeHolds, offDirectory, slotHolds, fileHolds}
 use Rattle.meaning.specs.Kill.{killEntry}

@@ -1,9 +1,9 @@
 -- An accepted call that changes a file: the plain list of named files afterwards is the one before with that file changed
-use mathlib.Core.Path.{_≡_, refl, ap, ap₂, sym, _∙_, subst}
-use mathlib.Core.Logic.{_≢_, _⊎_, inl, inr}
-use mathlib.Core.Bool.{Bool, true, false, not, cond, _&&_}
-use mathlib.Core.List.{List, [], _∷_, _++_, append-nil}
-use Prim.Native.Nat.{ℕ, _+_, _-_, _*_, _/_, _%_, _≤_, _<_, max}
+use mathlib.Core.Path.{_≡_, refl, ap, sym, _∙_, subst}
+use mathlib.Core.Logic.{_≢_}
+use mathlib.Core.Bool.{Bool, true, false, cond, _&&_}
+use mathlib.Core.List.{List, [], _∷_, _++_}
+use Prim.Native.Nat.{ℕ, _+_, _*_, _/_, _≤_, _<_}
 use native.Mathlib.Omega.{arith}
 use lib.ListN.{length, take}
 use lib.Dec.{T, leb, ltb, leb→le}
@@ -35,11 +35,11 @@ use Rattle.laws.specs.Touch.{Touch, Aside}
 use Rattle.laws.specs.Words.{words}
 use Rattle.laws.specs.Others
 use Rattle.laws.specs.Passed
-use Rattle.promises.specs.KillMeans
 use Rattle.laws.specs.Passed.{Holds}
+use Rattle.promises.specs.KillMeans
 use Rattle.promises.specs.CreateMeans
 use Rattle.promises.specs.Promises
-use Rattle.promises.specs.Promises.{Becomes, Changes, Live, InRange, Serves, Call}
+use Rattle.promises.specs.Promises.{Becomes, Live, InRange, Serves, Call}
 use Rattle.promises.specs.Refusing
 use Rattle.promises.specs.Passing
 use Rattle.promises.specs.Grow

@@ -1,23 +1,22 @@
 -- The file of a name: look up, open, and create
 use mathlib.Core.Path.{_≡_, refl, ap, sym, _∙_, subst}
 use mathlib.Core.Logic.{_≢_, _⊎_, inl, inr}
-use mathlib.Core.Bool.{Bool, true, false, not, cond, _&&_}
-use mathlib.Core.List.{List, [], _∷_, _++_}
-use Prim.Native.Nat.{ℕ, zero, suc, _+_, _≤_, _<_}
+use mathlib.Core.Bool.{Bool, true, false, not, cond}
+use mathlib.Core.List.{List, [], _∷_}
+use Prim.Native.Nat.{ℕ, suc, _≤_}
 use native.Mathlib.Omega.{arith}
 use lib.ListN.{length, take}
-use lib.Dec.{T, eqb, leb, T-not, not-T, eqb→eq, leb→le, le→leb}
+use lib.Dec.{T, eqb, leb, not-T, eqb→eq, leb→le, le→leb}
 use Rattle.meaning.specs.Lists.{count, keep, all, has, firstOr}
 use Rattle.meaning.specs.Layout.{slots, isSlot, hit}
 use Rattle.meaning.specs.Names.{hash}
-use Rattle.meaning.specs.Entries.{inUse, extension, nameOf, accessLevel}
+use Rattle.meaning.specs.Entries.{nameOf, accessLevel}
 use Rattle.meaning.specs.Refusals.{first, goodLength, newInRange}
 use Rattle.meaning.specs.LookUp.{candidates, carries, comparedIn, named, missing, slotOf, lookUp}
 use Rattle.meaning.specs.Open.{full, admits, openedAt, open′}
 use Rattle.meaning.specs.Create.{create, newSlot}
-use Rattle.meaning.specs.Plain.{File, Found, found, nothing, fileAt, plain}
+use Rattle.meaning.specs.Plain.{File, found, fileAt}
 use Rattle.meaning.specs.declared.Geometry.{Geometry}
-use Rattle.meaning.specs.declared.Handle.{Handle}
 use Rattle.meaning.specs.declared.NewFile.{NewFile}
 use Rattle.laws.specs.Members
 use Rattle.laws.specs.Members.{In}
@@ -29,7 +28,7 @@ use Rattle.laws.specs.Rising.{Rising}
 use Rattle.laws.specs.Passed.{passed, yes-T}
 use Rattle.promises.specs.CreateMeans
 use Rattle.promises.specs.Promises
-use Rattle.promises.specs.Promises.{LooksUp, Opened, Creates, NotFound, Live, InRange, NewInRange, Full, matching}
+use Rattle.promises.specs.Promises.{LooksUp, Opened, Creates, NotFound, Live, InRange, NewInRange, matching}
 use Rattle.promises.specs.Refusing
 use Rattle.promises.specs.Passing
 use Rattle.promises.specs.Changing

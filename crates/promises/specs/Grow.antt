@@ -1,38 +1,33 @@
 -- k granules more, and the call that asks for them
 use mathlib.Core.Path.{_≡_, refl, ap, ap₂, sym, _∙_, subst}
-use mathlib.Core.Logic.{_≢_, _⊎_, inl, inr}
-use mathlib.Core.Bool.{Bool, true, false, not, cond, _&&_, _||_}
-use mathlib.Core.List.{List, [], _∷_, _++_, append-assoc}
-use Prim.Native.Nat.{ℕ, zero, suc, _+_, _-_, _*_, _/_, _%_, _≤_, _<_}
+use mathlib.Core.Logic.{_≢_}
+use mathlib.Core.Bool.{true, not}
+use mathlib.Core.List.{List, [], _∷_, _++_, append-assoc, append-nil}
+use Prim.Native.Nat.{ℕ, zero, suc, _+_, _/_, _≤_, _<_, max}
 use native.Mathlib.Omega.{arith}
-use native.Mathlib.Decide.{ℕ-discrete, decLt}
-use lib.ListN.{length, getD, set, length-set, length-append}
-use lib.Seq.{length-sets}
-use lib.Dec.{T, eqb, leb, ltb, T-not, not-T, eqb→eq, ltb→lt, nltb→le}
-use Rattle.meaning.specs.Lists.{count, every, keep}
-use Rattle.meaning.specs.Layout.{isSlot, taken, granules, hit}
-use Rattle.meaning.specs.Entries.{system, runs, nameOf}
+use lib.ListN.{length, length-append}
+use lib.Dec.{T, ltb, not-T, nltb→le}
+use Rattle.meaning.specs.Lists.{count}
+use Rattle.meaning.specs.Layout.{granules, byte, field, directoryGranules, granuleBytes, granuleSectors, aboveTen}
+use Rattle.meaning.specs.Entries.{system, nameOf}
 use Rattle.meaning.specs.Chain.{chain, owned}
 use Rattle.meaning.specs.Consistent.{consistent}
-use Rattle.meaning.specs.Growth.{tail, after, lengthens, lengthened, withPair, withExtension, takeOne, Grown, grown, noSlot, extended, grow, andThen}
+use Rattle.meaning.specs.Growth.{takeOne, Grown, grown, noSlot, grow, andThen, fails, diskOr}
 use Rattle.meaning.specs.Free.{freeGranules, freeSlots}
-use Rattle.meaning.specs.Lists.{firstOr}
-use Rattle.meaning.specs.Plain.{fileAt, plain, hush, reserved}
+use Rattle.meaning.specs.Plain.{fileAt, plain, hush, reserved, Found, found, allottedTo}
 use Rattle.meaning.specs.LookUp.{named}
+use Rattle.meaning.specs.Allot.{allot}
+use Rattle.meaning.specs.Refusals.{first, cannotGrow, larger, lacking}
 use Rattle.meaning.specs.declared.Geometry.{Geometry}
+use Rattle.meaning.specs.declared.Handle.{Handle}
 use Rattle.laws.specs.Members
 use Rattle.laws.specs.Members.{In}
 use Rattle.laws.specs.Facts
 use Rattle.laws.specs.Facts.{Sound, File}
-use Rattle.laws.specs.Entry
 use Rattle.laws.specs.Places
 use Rattle.laws.specs.Change
 use Rattle.laws.specs.Others
 use Rattle.laws.specs.Longer
-use Rattle.laws.specs.Tail
-use Rattle.laws.specs.Take
-use Rattle.laws.specs.Extend
-use Rattle.laws.specs.TakeNew
 use Rattle.laws.specs.TakeOne
 use Rattle.laws.specs.Bytes
 use Rattle.laws.specs.Bytes.{Small}
@@ -41,15 +36,6 @@ use Rattle.laws.specs.Touch.{Touch}
 use Rattle.laws.specs.TakeOne.{Took}
 use Rattle.laws.specs.Named
 use Rattle.laws.specs.Passed
-use Rattle.meaning.specs.Layout.{byte, field, directoryGranules, granuleBytes, granuleSectors, aboveTen}
-use Rattle.meaning.specs.Growth.{fails, diskOr}
-use Rattle.meaning.specs.Allot.{allot}
-use Rattle.meaning.specs.Refusals.{first, cannotGrow, larger, lacking}
-use Rattle.meaning.specs.Plain.{Found, found, nothing, allottedTo}
-use Rattle.meaning.specs.declared.Handle.{Handle}
-use mathlib.Core.List.{append-nil}
-use native.Mathlib.Nat.{add-zero, add-suc, suc-add}
-use Prim.Native.Nat.{max}
 use Rattle.laws.specs.Words.{words}
 
 -- the file at p has k granules more, and all else is as it was

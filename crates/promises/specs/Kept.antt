@@ -1,21 +1,15 @@
 -- The promises are kept: a theorem for each type of `Promises`
-use mathlib.Core.Path.{_≡_, refl, ap, sym, _∙_, subst}
+use mathlib.Core.Path.{_≡_, sym, _∙_}
 use mathlib.Core.Logic.{_≢_}
-use mathlib.Core.Bool.{Bool, true}
 use mathlib.Core.List.{List, [], _∷_}
 use Prim.Native.Nat.{ℕ}
-use native.Mathlib.Omega.{arith}
-use lib.Dec.{T}
-use Rattle.meaning.specs.Layout.{fitsGeometry}
-use Rattle.meaning.specs.Consistent.{consistent}
 use Rattle.meaning.specs.Refusals.{check}
 use Rattle.meaning.specs.Listing
 use Rattle.meaning.specs.Plain.{AreBytes}
 use Rattle.meaning.specs.declared.Geometry.{Geometry}
 use Rattle.laws.specs.Members
 use Rattle.laws.specs.Facts
-use Rattle.promises.specs.Promises
-use Rattle.promises.specs.Promises.{Call, number, leaves, Brings, AllBring, Good, Stays, Serves, Refuses, Promise, EveryCall, Along, EveryState, EveryWrite}
+use Rattle.promises.specs.Promises.{Call, number, leaves, AllBring, Stays, Serves, Refuses, EveryCall, Along, EveryState, EveryWrite}
 use Rattle.promises.specs.Refusing
 use Rattle.promises.specs.Passing
 use Rattle.promises.specs.Staying

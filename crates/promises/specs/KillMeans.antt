@@ -7,7 +7,6 @@ use Prim.Native.Nat.{ℕ, _+_}
 use native.Mathlib.Omega.{arith}
 use lib.ListN.{length}
 use lib.Dec.{T}
-use Rattle.meaning.specs.Lists.{count, keep}
 use Rattle.meaning.specs.Layout.{taken, granules}
 use Rattle.meaning.specs.Entries.{system, nameOf}
 use Rattle.meaning.specs.Chain.{chain, owned}

@@ -1,18 +1,17 @@
 -- What a call has passed that was accepted, and what one leaves that was refused
-use mathlib.Core.Path.{_≡_, refl, ap, sym, _∙_, subst}
-use mathlib.Core.Logic.{_≢_, _⊎_, inl, inr}
+use mathlib.Core.Path.{_≡_, refl, ap, sym, _∙_}
+use mathlib.Core.Logic.{_≢_}
 use mathlib.Core.Bool.{Bool, true, false, not, cond, _&&_}
-use mathlib.Core.List.{List, [], _∷_, _++_}
-use Prim.Native.Nat.{ℕ, _+_, _≤_, _<_}
+use mathlib.Core.List.{List, [], _∷_}
+use Prim.Native.Nat.{ℕ, _≤_}
 use native.Mathlib.Omega.{arith}
-use lib.ListN.{length}
-use lib.Dec.{T, eqb, T-not, not-T, eqb→eq}
+use lib.Dec.{T, eqb, eqb→eq}
 use Rattle.meaning.specs.Lists.{all}
 use Rattle.meaning.specs.Layout.{fitsGeometry, highest}
-use Rattle.meaning.specs.Entries.{inUse, extension, nameOf}
+use Rattle.meaning.specs.Entries.{inUse, extension}
 use Rattle.meaning.specs.Consistent.{consistent}
 use Rattle.meaning.specs.Refusals.{movedTo, first, handleRefusals, fresh, check, noHandle, badGeometry, notConsistent}
-use Rattle.meaning.specs.LookUp.{lookUp, missing}
+use Rattle.meaning.specs.LookUp.{missing}
 use Rattle.meaning.specs.Open.{open′}
 use Rattle.meaning.specs.Create.{create}
 use Rattle.meaning.specs.Read.{readRecord, readSector}
@@ -27,9 +26,7 @@ use Rattle.meaning.specs.declared.NewFile.{NewFile}
 use Rattle.meaning.specs.declared.Mode.{Mode}
 use Rattle.laws.specs.Members
 use Rattle.laws.specs.Facts
-use Rattle.laws.specs.Places
 use Rattle.laws.specs.Passed.{passed, yes-T}
-use Rattle.promises.specs.Promises
 use Rattle.promises.specs.Promises.{Call, number, leaves, Live, InRange}
 use Rattle.promises.specs.Refusing
 

@@ -3,11 +3,11 @@
 --
 -- `EveryCall` is the whole of it for one call: what an accepted call answers and does, what a refused one leaves, which number is given
 -- exactly when, and what no call changes. `EveryState` says it of each state that a list of calls reaches.
-use Prim.Native.Nat.{ℕ, _+_, _-_, _*_, _%_, _≤_, _<_}
 use mathlib.Core.Path.{_≡_}
 use mathlib.Core.Logic.{_≢_, _↔_, _⊎_}
-use mathlib.Core.Bool.{Bool, true, false, not, cond, _&&_}
+use mathlib.Core.Bool.{Bool, true, false, not, _&&_}
 use mathlib.Core.List.{List, [], _∷_, _++_}
+use Prim.Native.Nat.{ℕ, _+_, _-_, _*_, _%_, _≤_, _<_}
 use lib.Dec.{T, leb, eqb}
 use lib.ListN.{length, getD, take, drop}
 use lib.Seq.{slice}
@@ -19,7 +19,7 @@ use Rattle.meaning.specs.Entries.{inUse, extension, nameOf, sectorCount, runs}
 use Rattle.meaning.specs.Chain.{chain, owned, files}
 use Rattle.meaning.specs.Consistent.{consistent}
 use Rattle.meaning.specs.Free.{freeGranules, freeSlots}
-use Rattle.meaning.specs.Growth.{Grown, grown, grow, tail, lengthens}
+use Rattle.meaning.specs.Growth.{grown, grow, tail, lengthens}
 use Rattle.meaning.specs.Refusals.{check, movedTo, noHandle}
 use Rattle.meaning.specs.LookUp.{lookUp, named}
 use Rattle.meaning.specs.Open.{open′}

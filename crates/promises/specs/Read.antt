@@ -1,25 +1,23 @@
 -- A record read is the plain file's bytes
-use mathlib.Core.Path.{_≡_, refl, ap, ap₂, sym, _∙_, subst}
-use mathlib.Core.Bool.{Bool, true, false, not, cond, _&&_, _||_}
-use mathlib.Core.List.{List, [], _∷_, _++_, map}
-use Prim.Native.Nat.{ℕ, zero, suc, _+_, _-_, _≤_, _<_, min}
+use mathlib.Core.Path.{_≡_, ap, sym, _∙_}
+use mathlib.Core.List.{List, _++_, map}
+use Prim.Native.Nat.{ℕ, _+_, _-_, _≤_, _<_, min}
 use native.Mathlib.Omega.{arith}
 use lib.ListN.{length, getD, take, drop, length-take, length-drop, length-map}
 use lib.Seq.{getD-take, getD-drop, ext-getD}
-use lib.Dec.{T, ltb, not-T, nltb→le}
+use lib.Dec.{ltb, not-T, nltb→le}
 use Rattle.meaning.specs.Lists.{count}
 use Rattle.meaning.specs.Layout.{byte}
 use Rattle.meaning.specs.Chain.{place}
 use Rattle.meaning.specs.Entries.{sizeOf}
-use Rattle.meaning.specs.Read.{fetch, readRecord}
-use Rattle.meaning.specs.Refusals.{first}
+use Rattle.meaning.specs.Read.{readRecord}
 use Rattle.meaning.specs.Plain.{fileAt}
 use Rattle.meaning.specs.declared.Geometry.{Geometry}
 use Rattle.meaning.specs.declared.Handle.{Handle}
 use Rattle.laws.specs.Passed
-use Rattle.promises.specs.Over
 use Rattle.laws.specs.Others.{length-count}
 use Rattle.laws.specs.Words.{words}
+use Rattle.promises.specs.Over
 
 part-of : (G : ℕ → ℕ) (i n s : ℕ) → i + n ≤ s → map G (count i n) ≡ take n (drop i (map G (count 0 s)))
 part-of G i n s h = ext-getD 0 (map G (count i n)) (take n (drop i (map G (count 0 s)))) (left ∙ sym right) (λ j b. point j (omega (arith, left)))

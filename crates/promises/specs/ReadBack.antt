@@ -1,17 +1,12 @@
 -- Write, then read: the record comes back, and what lies outside the record and the gap is as it was
-use mathlib.Core.Path.{_≡_, refl, ap, ap₂, sym, _∙_, subst}
-use mathlib.Core.Logic.{_≢_, _⊎_, inl, inr}
-use mathlib.Core.Bool.{Bool, true, false, not, cond, _&&_}
-use mathlib.Core.List.{List, [], _∷_, _++_}
-use Prim.Native.Nat.{ℕ, zero, suc, _+_, _-_, _≤_, _<_, min}
+use mathlib.Core.Path.{_≡_, ap, sym, _∙_, subst}
+use mathlib.Core.Logic.{_⊎_, inl, inr}
+use mathlib.Core.List.{List, _++_}
+use Prim.Native.Nat.{ℕ, _+_, _-_, _≤_, _<_, min}
 use native.Mathlib.Omega.{arith}
 use native.Mathlib.Decide.{decLe}
 use lib.ListN.{length, getD, take, drop, length-take, length-drop}
 use lib.Seq.{getD-take, getD-drop, ext-getD}
-use lib.Dec.{T}
-use Rattle.meaning.specs.Layout.{highest}
-use Rattle.meaning.specs.Entries.{nameOf}
-use Rattle.meaning.specs.Consistent.{consistent}
 use Rattle.meaning.specs.Read.{readRecord}
 use Rattle.meaning.specs.Write.{writeRecord, sizeAfter}
 use Rattle.meaning.specs.Plain
@@ -21,8 +16,7 @@ use Rattle.meaning.specs.declared.Handle.{Handle}
 use Rattle.meaning.specs.declared.Mode.{Mode}
 use Rattle.laws.specs.Members
 use Rattle.laws.specs.Facts
-use Rattle.promises.specs.Promises
-use Rattle.promises.specs.Promises.{ReadsBack, Call, number, Fits, InRange, Live}
+use Rattle.promises.specs.Promises.{ReadsBack, Call, number, Fits, Live}
 use Rattle.promises.specs.Refusing
 use Rattle.promises.specs.Over
 use Rattle.promises.specs.Read

@@ -1,11 +1,11 @@
 -- Refusal numbers: a law over any list of them, and each call's list read as 01's table
-use mathlib.Core.Path.{_≡_, refl, ap, ap₂, sym, _∙_, subst}
+use mathlib.Core.Path.{_≡_, refl, ap, sym, _∙_, subst}
 use mathlib.Core.Logic.{_≢_, _↔_, _⊎_, inl, inr}
 use mathlib.Core.Bool.{Bool, true, false, not, cond, _&&_, _||_}
-use mathlib.Core.List.{List, [], _∷_, _++_, map}
-use Prim.Native.Nat.{ℕ, zero, suc, _+_, _-_, _*_, _/_, _%_, _≤_, _<_}
+use mathlib.Core.List.{List, [], _∷_}
+use Prim.Native.Nat.{ℕ, _+_, _*_, _%_, _≤_, _<_}
 use native.Mathlib.Omega.{arith}
-use lib.ListN.{length, getD}
+use lib.ListN.{length}
 use lib.Dec.{T, eqb, leb, ltb, T-not, not-T, eqb→eq, leb→le, le→leb, ltb→lt, lt→ltb, nltb→le}
 use Rattle.meaning.specs.Lists.{all, any, distinct, same, firstOr}
 use Rattle.meaning.specs.Layout.{fitsGeometry, granules, granuleBytes, granuleSectors, sectors, highest, mostBlocks, mostUnits, isSlot, granulesFor, sectorNumbers}
@@ -14,17 +14,17 @@ use Rattle.meaning.specs.Entries.{inUse, extension, primary, nameOf, sizeOf, sy
 use Rattle.meaning.specs.Consistent.{consistent}
 use Rattle.meaning.specs.Free.{freeGranules, freeSlots}
 use Rattle.meaning.specs.Growth.{Grown, grown, noSlot, fails, grow}
-use Rattle.meaning.specs.Refusals.{first, badGeometry, notConsistent, inRange, goodLength, newInRange, fresh, staleHandle, cannotGrow, lacking, check, handleRefusals}
+use Rattle.meaning.specs.Refusals.{first, inRange, goodLength, newInRange, fresh, cannotGrow, lacking, check}
 use Rattle.meaning.specs.LookUp.{named, missing, slotOf, lookUp, lookUpRefusals}
 use Rattle.meaning.specs.Open.{full, admits, open′, openRefusals}
 use Rattle.meaning.specs.Create.{create, createRefusals}
 use Rattle.meaning.specs.Read.{readRecord, readSector, readRefusals, sectorRefusals}
 use Rattle.meaning.specs.Write.{writeRecord, writeRefusals, sizeAfter, toWrite}
-use Rattle.meaning.specs.Allot.{allot, allotRefusals, granulesTo, toAllot}
+use Rattle.meaning.specs.Allot.{allot, allotRefusals, toAllot}
 use Rattle.meaning.specs.Trim.{trim, trimRefusals}
 use Rattle.meaning.specs.Kill.{kill, killRefusals}
 use Rattle.meaning.specs.Listing
-use Rattle.meaning.specs.Plain.{File, Found, found, nothing, fileAt, foundIn, plain}
+use Rattle.meaning.specs.Plain.{File, found, nothing, fileAt, foundIn, plain}
 use Rattle.meaning.specs.declared.Geometry.{Geometry}
 use Rattle.meaning.specs.declared.Handle.{Handle}
 use Rattle.meaning.specs.declared.NewFile.{NewFile}

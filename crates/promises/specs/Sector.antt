@@ -1,24 +1,23 @@
 -- Reads: a record and a sector are the plain file's bytes
-use mathlib.Core.Path.{_≡_, refl, ap, ap₂, sym, _∙_, subst}
-use mathlib.Core.Logic.{_≢_, _⊎_, inl, inr}
-use mathlib.Core.Bool.{Bool, true, false, not, cond, _&&_, _||_}
-use mathlib.Core.List.{List, [], _∷_, _++_, map}
-use Prim.Native.Nat.{ℕ, zero, suc, _+_, _-_, _*_, _/_, _%_, _≤_, _<_, min}
+use mathlib.Core.Path.{_≡_, ap, ap₂, sym, _∙_, subst}
+use mathlib.Core.Logic.{_≢_}
+use mathlib.Core.Bool.{Bool, cond}
+use mathlib.Core.List.{List, [], _∷_}
+use Prim.Native.Nat.{ℕ, suc, _+_, _-_, _*_, _/_, _%_, _≤_, _<_, min}
 use native.Mathlib.Omega.{arith}
 use lib.ListN.{length, getD, take, drop, length-take, length-drop}
 use lib.Seq.{getD-take, getD-drop, ext-getD, slice, length-slice}
-use lib.Dec.{T, eqb, leb, ltb, not-T, nltb→le, nleb→lt, eqb→eq}
-use Rattle.meaning.specs.Layout.{byte, field, entryAt, granuleBytes, sectorNumbers}
+use lib.Dec.{eqb, leb, ltb, not-T, nltb→le, nleb→lt, eqb→eq}
+use Rattle.meaning.specs.Layout.{byte, entryAt, sectorNumbers}
 use Rattle.meaning.specs.Entries.{sizeOf, sectorCount, endByte}
-use Rattle.meaning.specs.Chain.{owned, place}
+use Rattle.meaning.specs.Chain.{place}
 use Rattle.meaning.specs.Lists.{all}
-use Rattle.meaning.specs.Refusals.{first, movedTo, inRange, notForReading}
-use Rattle.meaning.specs.Read.{fetch, readRecord, readSector, sectorBytes}
+use Rattle.meaning.specs.Refusals.{movedTo, inRange, notForReading}
+use Rattle.meaning.specs.Read.{readRecord, readSector, sectorBytes}
 use Rattle.meaning.specs.Plain.{AreBytes, fileAt}
 use Rattle.meaning.specs.declared.Geometry.{Geometry}
 use Rattle.meaning.specs.declared.Handle.{Handle}
 use Rattle.laws.specs.Members
-use Rattle.laws.specs.Facts
 use Rattle.laws.specs.Facts.{Sound, File}
 use Rattle.laws.specs.Places
 use Rattle.laws.specs.Change
@@ -27,9 +26,8 @@ use Rattle.laws.specs.Others
 use Rattle.laws.specs.Store
 use Rattle.laws.specs.Bytes
 use Rattle.laws.specs.Tally
-use Rattle.laws.specs.Passed.{passed, yes-T}
+use Rattle.laws.specs.Passed.{passed}
 use Rattle.laws.specs.Words.{words}
-use Rattle.promises.specs.Promises
 use Rattle.promises.specs.Promises.{Reads, ReadsSector, InRange}
 use Rattle.promises.specs.Refusing
 use Rattle.promises.specs.Passing

@@ -1,24 +1,22 @@
 -- What no call changes: the length of the image, that it is a good disk, which granules are reserved; and every granule is accounted for
-use mathlib.Core.Path.{_≡_, refl, ap, sym, _∙_, subst}
-use mathlib.Core.Logic.{_≢_, _⊎_, inl, inr}
-use mathlib.Core.Bool.{Bool, true, false, not, cond, _&&_}
-use mathlib.Core.List.{List, [], _∷_, _++_}
-use Prim.Native.Nat.{ℕ, _+_, _-_, _*_, _/_, _%_, _≤_, _<_, max}
+use mathlib.Core.Path.{_≡_, refl, sym, _∙_, subst}
+use mathlib.Core.Bool.{Bool, true, false, cond, _&&_}
+use mathlib.Core.List.{List, [], _∷_}
+use Prim.Native.Nat.{ℕ, _+_, _-_, _<_}
 use native.Mathlib.Omega.{arith}
 use native.Mathlib.Decide.{ℕ-discrete}
 use lib.ListN.{length, take, replicate}
 use lib.Dec.{T, leb, leb→le}
-use Rattle.meaning.specs.Lists.{all, firstOr}
-use Rattle.meaning.specs.Layout.{fitsGeometry, highest, granulesFor}
+use Rattle.meaning.specs.Lists.{all}
+use Rattle.meaning.specs.Layout.{highest}
 use Rattle.meaning.specs.Names.{wellFormed}
 use Rattle.meaning.specs.Entries.{sizeOf, sectorsFor}
 use Rattle.meaning.specs.Chain.{place}
 use Rattle.meaning.specs.Consistent.{consistent}
-use Rattle.meaning.specs.Free.{freeSlots}
-use Rattle.meaning.specs.Refusals.{first, inRange, newInRange, cannotGrow, larger, lacking}
+use Rattle.meaning.specs.Refusals.{inRange, newInRange, cannotGrow, larger}
 use Rattle.meaning.specs.LookUp.{missing}
 use Rattle.meaning.specs.Create.{create, withEntry, newSlot}
-use Rattle.meaning.specs.Write.{writeRecord, store, sizeAfter, toWrite}
+use Rattle.meaning.specs.Write.{writeRecord, sizeAfter, toWrite}
 use Rattle.meaning.specs.Allot.{allot}
 use Rattle.meaning.specs.Trim.{trim}
 use Rattle.meaning.specs.Kill.{kill}
@@ -35,11 +33,10 @@ use Rattle.laws.specs.Bytes.{Small}
 use Rattle.laws.specs.Tally
 use Rattle.laws.specs.Steps
 use Rattle.laws.specs.Passed
-use Rattle.promises.specs.KillMeans
 use Rattle.laws.specs.Passed.{passed, yes-T}
-use Rattle.promises.specs.CreateMeans
 use Rattle.laws.specs.Words.{words}
-use Rattle.promises.specs.Promises
+use Rattle.promises.specs.KillMeans
+use Rattle.promises.specs.CreateMeans
 use Rattle.promises.specs.Promises.{Good, Stays, Call, number, leaves, Brings}
 use Rattle.promises.specs.Refusing
 use Rattle.promises.specs.Passing

@@ -1,15 +1,14 @@
 -- Refusal 8 of a growth: exactly when fewer permitted slots are free than the rule needs
-use mathlib.Core.Path.{_≡_, refl, ap, sym, _∙_, subst}
-use mathlib.Core.Logic.{_≢_, _↔_, _⊎_, inl, inr}
-use mathlib.Core.Bool.{Bool, true, false, not, cond}
+use mathlib.Core.Path.{_≡_, refl, ap, sym, subst}
+use mathlib.Core.Logic.{_↔_}
+use mathlib.Core.Bool.{false, not}
 use mathlib.Core.List.{List, [], _∷_}
-use Prim.Native.Nat.{ℕ, zero, suc, _+_, _≤_, _<_}
+use Prim.Native.Nat.{ℕ, zero, suc, _≤_, _<_}
 use native.Mathlib.Omega.{arith}
 use lib.ListN.{length}
-use lib.Dec.{T, ltb, ltb→lt, lt→ltb, nltb→le, not-T}
+use lib.Dec.{T, ltb, ltb→lt, nltb→le, not-T}
 use Rattle.meaning.specs.Lists.{firstOr}
 use Rattle.meaning.specs.Entries.{runs, system}
-use Rattle.meaning.specs.Chain.{chain}
 use Rattle.meaning.specs.Free.{freeGranules, freeSlots}
 use Rattle.meaning.specs.Growth.{Grown, grown, noSlot, andThen, tail, lengthens, lengthened, withPair, extended, takeOne, grow}
 use Rattle.meaning.specs.declared.Geometry.{Geometry}

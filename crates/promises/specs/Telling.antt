@@ -1,25 +1,22 @@
 -- The listing: each file that is no system file, once, by rising slot; and the counts
-use mathlib.Core.Path.{_≡_, refl, ap, ap₂, sym, _∙_, subst}
+use mathlib.Core.Path.{_≡_, refl, ap, sym, _∙_, subst}
 use mathlib.Core.Logic.{_≢_, _⊎_, inl, inr}
-use mathlib.Core.Bool.{Bool, true, false, not, cond, _&&_, _||_}
-use mathlib.Core.List.{List, [], _∷_, _++_}
-use Prim.Native.Nat.{ℕ, zero, suc, _+_, _≤_, _<_}
+use mathlib.Core.Bool.{true, not}
+use mathlib.Core.List.{List, [], _∷_}
+use Prim.Native.Nat.{ℕ, suc, _<_}
 use native.Mathlib.Omega.{arith}
-use lib.ListN.{length, getD, drop, drop-of-length-le}
+use lib.ListN.{length, drop, drop-of-length-le}
 use lib.Seq.{drop-cons}
-use lib.Dec.{T, eqb, T-not, not-T}
-use Rattle.meaning.specs.Lists.{count, keep}
+use lib.Dec.{T}
 use Rattle.meaning.specs.Layout.{isSlot, slots}
-use Rattle.meaning.specs.Entries.{primary, system, nameOf, sizeOf}
+use Rattle.meaning.specs.Entries.{primary, system, nameOf}
 use Rattle.meaning.specs.Chain.{owned, files}
-use Rattle.meaning.specs.Free.{freeGranules}
 use Rattle.meaning.specs.Refusals.{check}
 use Rattle.meaning.specs.Listing
 use Rattle.meaning.specs.Listing.{shown, listed, tellFirst, noFile}
 use Rattle.meaning.specs.Plain
-use Rattle.meaning.specs.Plain.{Found, found, nothing, fileAt, plain}
+use Rattle.meaning.specs.Plain.{found, nothing, fileAt, plain}
 use Rattle.meaning.specs.declared.Geometry.{Geometry}
-use Rattle.meaning.specs.declared.Listed.{Listed}
 use Rattle.laws.specs.Members
 use Rattle.laws.specs.Members.{In, Distinct}
 use Rattle.laws.specs.Facts
@@ -29,10 +26,8 @@ use Rattle.laws.specs.Others
 use Rattle.laws.specs.Store
 use Rattle.laws.specs.Rising
 use Rattle.laws.specs.Rising.{Rising}
-use Rattle.promises.specs.Promises
 use Rattle.promises.specs.Promises.{Lists, Counted, ith, isSystem}
 use Rattle.promises.specs.Refusing
-use Rattle.promises.specs.Passing
 
 module _ (g : Geometry) (d : List ℕ) where
   listed-rising : Rising (listed g d)

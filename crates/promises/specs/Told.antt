@@ -1,7 +1,7 @@
 -- The theorems at what a function that is proved tells: its contract says `(r, now (image .exit)) ≡ kill g (now (image .entry)) h`,
 -- so these take an answer r and the memory d′ that it leaves, equal to what the meaning says.
 use mathlib.Core.Path.{_≡_, sym, ap, subst, _∙_}
-use mathlib.Core.Bool.{Bool, true, false}
+use mathlib.Core.Bool.{Bool, false}
 use mathlib.Core.List.{List, _++_}
 use Prim.Native.Nat.{ℕ}
 use lib.ListN.{take, drop}

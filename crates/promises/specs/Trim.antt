@@ -1,27 +1,28 @@
 -- Trim: the last granules given back, one at a time
 use mathlib.Core.Path.{_≡_, refl, ap, ap₂, sym, _∙_, subst}
-use mathlib.Core.Logic.{_≢_, _⊎_, inl, inr}
-use mathlib.Core.Bool.{Bool, true, false, not, cond, _&&_, _||_}
-use mathlib.Core.List.{List, [], _∷_, _++_, append-assoc}
-use Prim.Native.Nat.{ℕ, zero, suc, _+_, _-_, _*_, _/_, _%_, _≤_, _<_}
+use mathlib.Core.Logic.{_≢_}
+use mathlib.Core.Bool.{true, not, cond}
+use mathlib.Core.List.{List, [], _∷_, _++_, append-assoc, append-nil}
+use Prim.Native.Nat.{ℕ, zero, suc, _+_, _-_, _*_, _≤_}
 use native.Mathlib.Omega.{arith}
-use native.Mathlib.Decide.{ℕ-discrete, decLt}
-use lib.ListN.{length, getD, set, length-set, length-append}
-use lib.Seq.{length-sets}
-use lib.Dec.{T, eqb, leb, ltb, T-not, not-T, eqb→eq, ltb→lt, nltb→le}
-use Rattle.meaning.specs.Lists.{count, every, keep}
-use Rattle.meaning.specs.Layout.{isSlot, taken, granules, hit}
-use Rattle.meaning.specs.Entries.{system, runs, nameOf}
+use lib.ListN.{length, length-append}
+use lib.Dec.{T}
+use Rattle.meaning.specs.Lists.{count, times}
+use Rattle.meaning.specs.Layout.{granules, field, granuleBytes, granulesFor}
+use Rattle.meaning.specs.Entries.{system, nameOf, sizeOf, keepsSpace}
 use Rattle.meaning.specs.Chain.{chain, owned}
 use Rattle.meaning.specs.Consistent.{consistent}
-use Rattle.meaning.specs.Plain.{fileAt, plain, hush, reserved}
+use Rattle.meaning.specs.Plain.{fileAt, plain, hush, reserved, Found, found, trimmed}
 use Rattle.meaning.specs.LookUp.{named}
+use Rattle.meaning.specs.Drop.{dropOne}
+use Rattle.meaning.specs.Free.{freeGranules}
+use Rattle.meaning.specs.Trim.{trim}
 use Rattle.meaning.specs.declared.Geometry.{Geometry}
+use Rattle.meaning.specs.declared.Handle.{Handle}
 use Rattle.laws.specs.Members
 use Rattle.laws.specs.Members.{In}
 use Rattle.laws.specs.Facts
 use Rattle.laws.specs.Facts.{Sound, File}
-use Rattle.laws.specs.Entry
 use Rattle.laws.specs.Places
 use Rattle.laws.specs.Change
 use Rattle.laws.specs.Others
@@ -31,25 +32,9 @@ use Rattle.laws.specs.Bytes.{Small}
 use Rattle.laws.specs.Touch
 use Rattle.laws.specs.Touch.{Touch}
 use Rattle.laws.specs.Passed
-use Rattle.meaning.specs.Layout.{byte, field, directoryGranules, granuleBytes, granuleSectors, aboveTen}
-use Rattle.meaning.specs.declared.Handle.{Handle}
-use mathlib.Core.List.{append-nil}
-use native.Mathlib.Nat.{add-zero, add-suc, suc-add}
-use Prim.Native.Nat.{max}
-use Rattle.meaning.specs.Lists.{times}
-use Rattle.meaning.specs.Entries.{sizeOf, keepsSpace}
-use Rattle.meaning.specs.Bits.{bit}
-use Rattle.meaning.specs.Drop.{dropOne}
-use Rattle.meaning.specs.Free.{freeGranules}
-use Rattle.meaning.specs.Trim.{trim}
-use Rattle.meaning.specs.Layout.{granulesFor}
-use Rattle.meaning.specs.Refusals.{first}
-use Rattle.meaning.specs.Plain.{Found, found, trimmed}
 use Rattle.laws.specs.Shorter
 use Rattle.laws.specs.DropLast
 use Rattle.laws.specs.DropLast.{Dropped}
-use lib.ListN.{length-map}
-use Rattle.laws.specs.Words.{words}
 
 -- the file at p has lost its last k granules, and all else is as it was
 pub record Shrank (g : Geometry) (d d′ : List ℕ) (p k : ℕ) : Type 0 where

@@ -1,41 +1,25 @@
 -- The data part of a write: bytes stored in the granules owned, then size and B
-use mathlib.Core.Path.{_≡_, refl, ap, ap₂, sym, _∙_, subst}
+use mathlib.Core.Path.{_≡_, ap, _∙_}
 use mathlib.Core.Logic.{_≢_, _⊎_, inl, inr}
-use mathlib.Core.Bool.{Bool, true, false, not, cond, _&&_, _||_}
-use mathlib.Core.List.{List, [], _∷_, _++_, map, append-assoc}
-use Prim.Native.Nat.{ℕ, zero, suc, _+_, _-_, _*_, _/_, _%_, _≤_, _<_}
+use mathlib.Core.Bool.{not, cond}
+use mathlib.Core.List.{List}
+use Prim.Native.Nat.{ℕ, _+_, _-_, _*_, _/_, _%_, _≤_, _<_}
 use native.Mathlib.Omega.{arith}
-use native.Mathlib.Nat.{div-add-mod', mod-lt}
-use native.Mathlib.Numerals.{add-one}
-use native.Mathlib.Decide.{ℕ-discrete, decLt}
-use lib.ListN.{length, getD, set, length-set}
+use lib.ListN.{length, getD, length-set, replicate, length-replicate, getD-replicate}
 use lib.Seq.{getD-set-same, getD-set-other}
-use lib.Dec.{T, eqb, leb, ltb, T-not, not-T, eqb→eq, ltb→lt, leb→le}
-use Rattle.meaning.specs.Lists.{count, keep, each, has}
-use Rattle.meaning.specs.Layout.{byte, isSlot, taken, freeGranule, field, setField, gatAt, hitAt, entryAt, granules, hit, directoryGranules, directorySectors, granuleBytes, aboveTen}
-use Rattle.meaning.specs.Bits.{bit, digit}
-use Rattle.meaning.specs.Entries.{extension, sizeOf, block, firstUnit, runStart, runLength, runGranules, runs, entryGranules}
-use Rattle.meaning.specs.Chain.{chain, owned}
-use Rattle.meaning.specs.Growth.{tail}
+use lib.Dec.{T, eqb, eqb→eq}
+use Rattle.meaning.specs.Layout.{byte, field, setField, gatAt, hitAt, entryAt, directoryGranules, directorySectors, granuleBytes, roundUp}
+use Rattle.meaning.specs.Bits.{bit}
+use Rattle.meaning.specs.Entries.{sizeOf, system, sectorCount, endByte}
+use Rattle.meaning.specs.Chain.{owned, place}
+use Rattle.meaning.specs.Write.{store, withSize}
 use Rattle.meaning.specs.declared.Geometry.{Geometry}
 use Rattle.laws.specs.Members
-use Rattle.laws.specs.Members.{In, Distinct}
-use Rattle.laws.specs.Facts
+use Rattle.laws.specs.Members.{In}
 use Rattle.laws.specs.Facts.{Sound, File}
-use Rattle.laws.specs.Entry
-use Rattle.laws.specs.Frame
-use Rattle.laws.specs.Frame.{Agree}
 use Rattle.laws.specs.Places
 use Rattle.laws.specs.Change
-use Rattle.laws.specs.Take
 use Rattle.laws.specs.Others
-use Rattle.meaning.specs.Entries
-use Rattle.meaning.specs.Layout.{slots}
-use Rattle.meaning.specs.Chain.{place}
-use lib.ListN.{replicate, length-replicate, getD-replicate}
-use Rattle.meaning.specs.Entries.{system, sectorCount, endByte}
-use Rattle.meaning.specs.Write.{store, withSize}
-use Rattle.meaning.specs.Layout.{roundUp}
 use Rattle.laws.specs.Rewrite
 use Rattle.laws.specs.Store.{store-length, store-other, store-at, place-inj, place-lt}
 use Rattle.laws.specs.Words.{words}

@@ -1,27 +1,33 @@
 -- Demand 2 of a write: the statement that meaning makes of it
-use mathlib.Core.Path.{_≡_, refl, ap, ap₂, sym, _∙_, subst}
-use mathlib.Core.Logic.{_≢_, _⊎_, inl, inr}
-use mathlib.Core.Bool.{Bool, true, false, not, cond, _&&_, _||_}
-use mathlib.Core.List.{List, [], _∷_, _++_, append-assoc}
-use Prim.Native.Nat.{ℕ, zero, suc, _+_, _-_, _*_, _/_, _%_, _≤_, _<_}
+use mathlib.Core.Path.{_≡_, ap, ap₂, sym, _∙_, subst}
+use mathlib.Core.Logic.{_≢_}
+use mathlib.Core.Bool.{Bool, true, not, _&&_}
+use mathlib.Core.List.{List, [], _∷_, map}
+use Prim.Native.Nat.{ℕ, _+_, _-_, _*_, _≤_, _<_, max}
 use native.Mathlib.Omega.{arith}
-use native.Mathlib.Decide.{ℕ-discrete, decLt}
-use lib.Seq.{length-sets}
-use lib.Dec.{T, eqb, leb, ltb, T-not, not-T, eqb→eq, ltb→lt, nltb→le, leb→le}
-use Rattle.meaning.specs.Lists.{count, every, keep, all}
+use lib.Dec.{T, leb, leb→le}
+use lib.ListN.{length-set, length, getD, set, take, replicate, length-append, length-take, length-map, length-replicate}
+use Rattle.meaning.specs.Lists.{count, all, same}
 use Rattle.meaning.specs.Layout
 use Rattle.meaning.specs.Bits
-use Rattle.meaning.specs.Layout.{isSlot, taken, granules, hit}
-use Rattle.meaning.specs.Entries.{system, runs, nameOf}
-use Rattle.meaning.specs.Chain.{chain, owned}
+use Rattle.meaning.specs.Layout.{granules, byte, field, directoryGranules, granuleBytes, granulesFor, highest}
+use Rattle.meaning.specs.Entries.{system, nameOf, sizeOf}
+use Rattle.meaning.specs.Chain.{chain, owned, place}
 use Rattle.meaning.specs.Consistent.{consistent}
 use Rattle.meaning.specs.LookUp.{named}
+use Rattle.meaning.specs.Read
+use Rattle.meaning.specs.Write.{writeRecord, sizeAfter, store, withSize}
+use Rattle.meaning.specs.Refusals.{larger, lacking, cannotGrow, inRange}
+use Rattle.meaning.specs.Plain
+use Rattle.meaning.specs.Free.{freeGranules}
+use Rattle.meaning.specs.Plain.{AreBytes, Found, found, fileAt, plain, hush, with′, reserved, writtenTo, overwritten}
 use Rattle.meaning.specs.declared.Geometry.{Geometry}
+use Rattle.meaning.specs.declared.Handle.{Handle}
+use Rattle.meaning.specs.declared.Mode.{Mode}
 use Rattle.laws.specs.Members
 use Rattle.laws.specs.Members.{In}
 use Rattle.laws.specs.Facts
 use Rattle.laws.specs.Facts.{Sound, File}
-use Rattle.laws.specs.Entry
 use Rattle.laws.specs.Places
 use Rattle.laws.specs.Change
 use Rattle.laws.specs.Others
@@ -29,33 +35,14 @@ use Rattle.laws.specs.Named
 use Rattle.laws.specs.Passed
 use Rattle.laws.specs.Touch
 use Rattle.laws.specs.Touch.{Touch}
-use Rattle.meaning.specs.Layout.{byte, field, directoryGranules, granuleBytes, granuleSectors, aboveTen}
-use Rattle.meaning.specs.declared.Handle.{Handle}
-use mathlib.Core.List.{append-nil}
-use native.Mathlib.Nat.{add-zero, add-suc, suc-add}
-use Prim.Native.Nat.{max}
-use mathlib.Core.List.{map}
 use Rattle.laws.specs.Store.{store-length}
-use lib.ListN.{length-set}
-use lib.ListN.{length, getD, set, take, drop, replicate, length-append, length-take, length-map, length-replicate}
-use Rattle.meaning.specs.Lists.{same}
-use Rattle.meaning.specs.Entries.{sizeOf, primary}
-use Rattle.meaning.specs.Chain.{place}
-use Rattle.meaning.specs.Read
-use Rattle.meaning.specs.Write.{writeRecord, sizeAfter, store, withSize}
-use Rattle.meaning.specs.Refusals.{larger, lacking, cannotGrow, first, inRange}
-use Rattle.meaning.specs.Layout.{granulesFor, highest}
-use Rattle.meaning.specs.Plain
-use Rattle.meaning.specs.Free.{freeGranules}
-use Rattle.meaning.specs.Plain.{AreBytes, Found, found, nothing, fileAt, plain, hush, with′, reserved, writtenTo, overwritten}
-use Rattle.meaning.specs.declared.Mode.{Mode}
-use Rattle.promises.specs.Grow
-use Rattle.promises.specs.Grow.{Grew}
 use Rattle.laws.specs.Rewrite
-use Rattle.promises.specs.Write
-use Rattle.promises.specs.Over
 use Rattle.laws.specs.Others.{length-count, file-length}
 use Rattle.laws.specs.Words.{words}
+use Rattle.promises.specs.Grow
+use Rattle.promises.specs.Grow.{Grew}
+use Rattle.promises.specs.Write
+use Rattle.promises.specs.Over
 
 -- the data part, on a disk that is large enough
 module _ (g : Geometry) (d : List ℕ) (c : Sound g d) (k : Places.Fits g d) (p : ℕ) (f : File g d p) (u : T (not (system g d p)))

@@ -1,10 +1,10 @@
 -- No promise is empty: for each call a disk and a call that is accepted on it, and for what is promised of good disks a good disk.
 -- (The crate `facts` has the answers themselves, byte for byte.)
+use mathlib.Core.Path.{_≡_, refl}
+use mathlib.Core.Bool.{true}
+use mathlib.Core.List.{List, [], _∷_}
 use Prim.Native.Nat.{ℕ, _<_}
 use native.Mathlib.Omega.{arith}
-use mathlib.Core.Path.{_≡_, refl}
-use mathlib.Core.Bool.{Bool, true, false}
-use mathlib.Core.List.{List, [], _∷_}
 use lib.ListN.{replicate}
 use Rattle.meaning.specs.Layout.{fitsGeometry}
 use Rattle.meaning.specs.Consistent.{consistent}
@@ -12,7 +12,7 @@ use Rattle.meaning.specs.Plain.{AreBytes}
 use Rattle.meaning.specs.Samples.{opened, three, sample, puls, leer, held}
 use Rattle.meaning.specs.declared.NewFile.{NewFile}
 use Rattle.meaning.specs.declared.Mode.the-variants.{Sequential, Random}
-use Rattle.promises.specs.Promises.{Call, number, leaves, Good, Along}
+use Rattle.promises.specs.Promises.{Call, number, Good, Along}
 use Rattle.promises.specs.Promises.Call.{checks, looksUp, opens, creates, reads, readsSector, writes, allots, trims, kills, lists, counts}
 use Rattle.promises.specs.Kept
 

@@ -1,12 +1,11 @@
 -- No row of the table is empty: for each number a disk and a call that it is given to. (For 8, which wants a crowded disk, the crate
 -- `facts` has them: Granules.allot-without-slot, Finding.create-without-slot.)
-use Prim.Native.Nat.{ℕ}
 use mathlib.Core.Path.{_≡_, refl}
-use mathlib.Core.Bool.{Bool, true, false}
-use mathlib.Core.List.{List, [], _∷_}
+use mathlib.Core.Bool.{true}
+use mathlib.Core.List.{[], _∷_}
 use lib.ListN.{replicate, set}
 use Rattle.meaning.specs.Samples.{opened, three, sample, puls, leer, held}
-use Rattle.promises.specs.Promises.{Call, number}
+use Rattle.promises.specs.Promises.{number}
 use Rattle.promises.specs.Promises.Call.{checks, looksUp, opens, reads, allots, kills}
 
 -- no image at all
