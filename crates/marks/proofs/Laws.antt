@@ -1,0 +1,157 @@
+-- Marking, place by place, and the GAT's bits.
+use mathlib.Core.Path.{_≡_, refl, sym, ap, _∙_}
+use mathlib.Core.List.{List, [], _∷_, _++_}
+use mathlib.Core.Bool.{Bool, true, false, _&&_}
+use mathlib.Core.Logic.{⊎-elim}
+use Prim.Native.Nat.{ℕ, zero, suc, _+_, _-_, _*_, _/_, _%_, _≤_, _<_}
+use native.Mathlib.Omega.{arith}
+use native.Mathlib.Nat.{mul-add-div-right, mul-add-mod-self-right, div-eq-of-lt, mod-eq-of-lt, mul-le-mul, add-mul, one-mul, add-zero}
+use lib.Dec.{leb, eqb}
+use lib.ListN.{length, getD, set, length-set}
+use lib.Seq.{getD-set-same, getD-set-other}
+use borrow.Author.Tests.{le-leb, lt-leb, eqb-true, eqb-false}
+use Rattle.meaning.specs.Lists.{count}
+use Rattle.meaning.specs.Bits.{digit, bit}
+use Rattle.meaning.specs.Layout.{granules, taken, byte, gatAt}
+use Rattle.meaning.specs.declared.Geometry.{Geometry}
+use Rattle.layout.proofs.Laws.{left-more, left-none}
+use Rattle.layout.proofs.Lists.{le-or-lt}
+use Rattle.marks.specs.Marks.{marked, allows, Marks, Bits, TakenMap}
+
+-- A loop that marks: what is left from here on is the whole
+pub record Marking (m₀ : List ℕ) (least v : ℕ) (whole m rest : List ℕ) : Type 0 where
+  pub map : marked m v rest ≡ marked m₀ v whole
+  pub answer : allows m least v rest ≡ allows m₀ least v whole
+
+pub count-more : {i n : ℕ} → i < n → count i (n - i) ≡ i ∷ count (i + 1) (n - (i + 1))
+count-more {i} {n} h = ap (count i) (left-more h)
+
+pub count-none : {i n : ℕ} → n ≤ i → count i (n - i) ≡ []
+count-none {i} {n} h = ap (count i) (left-none h)
+
+pub marking-start : (m : List ℕ) (least v a n : ℕ) → Marking m least v (count a n) m (count a (a + n - a))
+marking-start m least v a n =
+    let e : a + n - a ≡ n = omega arith in
+    record { map = ap (λ (k : ℕ). marked m v (count a k)) e; answer = ap (λ (k : ℕ). allows m least v (count a k)) e }
+
+pub marking-step : {m₀ m whole : List ℕ} {least v i n : ℕ} → Marking m₀ least v whole m (count i (n - i)) → i < n → least ≤ getD m i 0
+    → Marking m₀ least v whole (set m i v) (count (i + 1) (n - (i + 1)))
+unfolding marked allows
+marking-step {m = m} {least = least} {v = v} {i = i} {n = n} k h l =
+    record {
+      map = sym (ap (marked m v) (count-more h)) ∙ k .map;
+      answer =
+          ap (λ (b : Bool). b && allows (set m i v) least v (count (i + 1) (n - (i + 1)))) (sym (le-leb least (getD m i 0) l))
+          ∙ sym (ap (allows m least v) (count-more h)) ∙ k .answer;
+    }
+
+pub marking-stop : {m₀ m m′ whole : List ℕ} {least v i n : ℕ} → Marking m₀ least v whole m (count i (n - i)) → i < n → getD m i 0 < least
+    → Marks m₀ least v whole m′ false
+unfolding marked allows
+marking-stop {m = m} {least = least} {v = v} {i = i} {n = n} k h l =
+    record {
+      answer =
+          ap (λ (b : Bool). b && allows (set m i v) least v (count (i + 1) (n - (i + 1)))) (sym (lt-leb least (getD m i 0) l))
+          ∙ sym (ap (allows m least v) (count-more h)) ∙ k .answer;
+      map = λ e. absurd (let z : _≡_ {A = ℕ} 0 1 = cc in let q : ⊥ = omega arith in q);
+    }
+
+pub marking-end : {m₀ m whole : List ℕ} {least v i n : ℕ} → Marking m₀ least v whole m (count i (n - i)) → n ≤ i → Marks m₀ least v whole m true
+unfolding marked allows
+marking-end {m = m} {least = least} {v = v} k h =
+    record { answer = sym (ap (allows m least v) (count-none h)) ∙ k .answer; map = λ e. sym (ap (marked m v) (count-none h)) ∙ k .map }
+
+-- The bits of one GAT byte: u of them are in the map, the others in what is left of the byte
+pub record Filling (m₀ : List ℕ) (n gat : ℕ) (m : List ℕ) (rest u : ℕ) : Type 0 where
+  pub long : length m ≡ 1536
+  pub tail : (j : ℕ) → digit rest j ≡ digit gat (u + j)
+  pub inside : (k : ℕ) → k < u → getD m (n + k) 0 ≡ digit gat k * 2
+  pub before : (k : ℕ) → k < n → getD m k 0 ≡ getD m₀ k 0
+
+pub filling-start : (m : List ℕ) (n gat : ℕ) → length m ≡ 1536 → Filling m n gat m gat 0
+filling-start m n gat h =
+    record {
+      long = h;
+      tail = λ j. let e : j ≡ 0 + j = omega arith in ap (digit gat) e;
+      inside = λ k l. absurd (let z : ⊥ = omega arith in z);
+      before = λ k l. refl;
+    }
+
+pub filling-step : {m₀ m : List ℕ} {n gat rest u : ℕ} → Filling m₀ n gat m rest u → n + u < 1536 → Filling m₀ n gat (set m (n + u) (rest % 2 * 2)) (rest / 2) (u + 1)
+unfolding digit
+filling-step {m₀} {m} {n} {gat} {rest} {u} f h =
+    record {
+      long = length-set m (n + u) (rest % 2 * 2) ∙ f .long;
+      tail = λ j. let e : u + suc j ≡ u + 1 + j = omega arith in f .tail (suc j) ∙ ap (digit gat) e;
+      inside = λ k l. ⊎-elim (λ w. let e : k ≡ u = omega arith in here k e) (λ w. getD-set-other m (n + u) (n + k) (rest % 2 * 2) 0 (λ q. omega arith) ∙ f .inside k w) (le-or-lt u k);
+      before = λ k l. getD-set-other m (n + u) k (rest % 2 * 2) 0 (λ q. omega arith) ∙ f .before k l;
+    }
+  where
+    here : (k : ℕ) → k ≡ u → getD (set m (n + u) (rest % 2 * 2)) (n + k) 0 ≡ digit gat k * 2
+    here k e =
+        let z : u + 0 ≡ u = omega arith in
+        ap (λ (i : ℕ). getD (set m (n + u) (rest % 2 * 2)) (n + i) 0) e ∙ getD-set-same m (n + u) (rest % 2 * 2) 0 (let q = f .long in omega arith)
+        ∙ ap (λ (x : ℕ). x * 2) (f .tail 0 ∙ ap (digit gat) (z ∙ sym e))
+
+pub filling-end : {m₀ m : List ℕ} {n gat rest u units : ℕ} → Filling m₀ n gat m rest u → units ≤ u → length m₀ ≡ 1536 → Bits m₀ n units gat m
+filling-end f h l = record { inside = λ k w. f .inside k (omega arith); before = f .before; long = f .long ∙ sym l }
+
+-- The blocks of the GAT: n granules are in the map
+pub record Reading (g : Geometry) (d m : List ℕ) (n b : ℕ) : Type 0 where
+  pub long : length m ≡ 1536
+  pub blocks-in : b ≤ g .blocks
+  pub place : n ≡ b * g .units
+  pub bits : (k : ℕ) → k < n → getD m k 0 ≡ digit (byte d (gatAt g k)) (k % g .units) * 2
+
+pub reading-start : (g : Geometry) (d m : List ℕ) → length m ≡ 1536 → Reading g d m 0 0
+reading-start g d m h = record { long = h; blocks-in = omega arith; place = omega arith; bits = λ k l. absurd (let z : ⊥ = omega arith in z) }
+
+pub reading-room : {g : Geometry} {d m : List ℕ} {n b : ℕ} → Reading g d m n b → b < g .blocks → n + g .units ≤ granules g
+unfolding granules
+reading-room {g} {d} {m} {n} {b} r h =
+    let e : (b + 1) * g .units ≡ b * g .units + 1 * g .units = add-mul b 1 (g .units) in
+    let o : 1 * g .units ≡ g .units = one-mul (g .units) in
+    let l : (b + 1) * g .units ≤ g .blocks * g .units = mul-le-mul {n₁ = b + 1} {m₁ = g .units} {n₂ = g .blocks} {m₂ = g .units} (omega arith) (omega arith) in
+    let p = r .place in omega arith
+
+pub reading-step : {g : Geometry} {d m m′ : List ℕ} {n b : ℕ} → Reading g d m n b → b < g .blocks → 1 ≤ g .units → Bits m n (g .units) (byte d (256 * g .start + b)) m′
+    → Reading g d m′ (n + g .units) (b + 1)
+reading-step {g} {d} {m} {m′} {n} {b} r h p w =
+    let e : (b + 1) * g .units ≡ b * g .units + 1 * g .units = add-mul b 1 (g .units) in
+    let o : 1 * g .units ≡ g .units = one-mul (g .units) in
+    let q = r .place in
+    record {
+      long = w .long ∙ r .long;
+      blocks-in = omega arith;
+      place = omega arith;
+      bits = λ k l. ⊎-elim (λ x. let y : k ≡ n + (k - n) = omega arith in new k (k - n) y (omega arith)) (λ x. w .before k x ∙ r .bits k x) (le-or-lt n k);
+    }
+  where
+    at : (u : ℕ) → u < g .units → (n + u) / g .units ≡ b
+    at u l = ap (λ (i : ℕ). (i + u) / g .units) (r .place) ∙ mul-add-div-right p b u ∙ ap (λ (i : ℕ). b + i) (div-eq-of-lt l) ∙ add-zero b
+
+    unit : (u : ℕ) → u < g .units → (n + u) % g .units ≡ u
+    unit u l = ap (λ (i : ℕ). (i + u) % g .units) (r .place) ∙ mul-add-mod-self-right b (g .units) u ∙ mod-eq-of-lt l
+
+    new : (k u : ℕ) → k ≡ n + u → u < g .units → getD m′ k 0 ≡ digit (byte d (gatAt g k)) (k % g .units) * 2
+    new k u y l =
+        ap (λ (i : ℕ). getD m′ i 0) y ∙ w .inside u l
+        ∙ ap (λ (i : ℕ). digit (byte d (256 * g .start + i)) u * 2) (sym (at u l) ∙ ap (λ (i : ℕ). i / g .units) (sym y))
+        ∙ ap (λ (i : ℕ). digit (byte d (gatAt g k)) i * 2) (sym (unit u l) ∙ ap (λ (i : ℕ). i % g .units) (sym y))
+
+digit-low : (x u : ℕ) → digit x u < 2
+unfolding digit
+digit-low x zero = omega arith
+digit-low x (suc u) = digit-low (x / 2) u
+
+pub reading-end : {g : Geometry} {d m : List ℕ} {n b : ℕ} → Reading g d m n b → g .blocks ≤ b → TakenMap g d m
+unfolding taken granules
+reading-end {g} {d} {m} {n} {b} r h =
+    let e : b ≡ g .blocks = let q = r .blocks-in in omega arith in
+    let w : n ≡ g .blocks * g .units = r .place ∙ ap (λ (i : ℕ). i * g .units) e in
+    record {
+      high = λ k l t. r .bits k (omega arith) ∙ ap (λ (x : ℕ). x * 2) (eqb-true _ 1 t);
+      low = λ k l t.
+          let z : digit (byte d (gatAt g k)) (k % g .units) ≡ 0 = (let q = eqb-false (digit (byte d (gatAt g k)) (k % g .units)) 1 t in let v = digit-low (byte d (gatAt g k)) (k % g .units) in omega arith) in
+          r .bits k (omega arith) ∙ ap (λ (x : ℕ). x * 2) z;
+    }
