@@ -1,7 +1,7 @@
 -- Marking, place by place, and the GAT's bits.
 use mathlib.Core.Path.{_≡_, refl, sym, ap, _∙_}
 use mathlib.Core.List.{List, [], _∷_, _++_}
-use mathlib.Core.Bool.{Bool, true, false, _&&_}
+use mathlib.Core.Bool.{Bool, true, false, _&&_, and-assoc}
 use mathlib.Core.Logic.{⊎-elim}
 use Prim.Native.Nat.{ℕ, zero, suc, _+_, _-_, _*_, _/_, _%_, _≤_, _<_}
 use native.Mathlib.Omega.{arith}
@@ -17,6 +17,19 @@ use Rattle.meaning.specs.declared.Geometry.{Geometry}
 use Rattle.layout.proofs.Laws.{left-more, left-none}
 use Rattle.layout.proofs.Lists.{le-or-lt}
 use Rattle.marks.specs.Marks.{marked, allows, Marks, Bits, TakenMap}
+
+-- One list of places after another
+pub marked-append : (m : List ℕ) (v : ℕ) (xs ys : List ℕ) → marked m v (xs ++ ys) ≡ marked (marked m v xs) v ys
+unfolding marked
+marked-append m v [] ys = refl
+marked-append m v (x ∷ xs) ys = marked-append (set m x v) v xs ys
+
+pub allows-append : (m : List ℕ) (least v : ℕ) (xs ys : List ℕ) → allows m least v (xs ++ ys) ≡ (allows m least v xs && allows (marked m v xs) least v ys)
+unfolding marked allows
+allows-append m least v [] ys = refl
+allows-append m least v (x ∷ xs) ys =
+    ap (λ (b : Bool). leb least (getD m x 0) && b) (allows-append (set m x v) least v xs ys)
+    ∙ sym (and-assoc (leb least (getD m x 0)) (allows (set m x v) least v xs) (allows (marked (set m x v) v xs) least v ys))
 
 -- A loop that marks: what is left from here on is the whole
 pub record Marking (m₀ : List ℕ) (least v : ℕ) (whole m rest : List ℕ) : Type 0 where

@@ -1,0 +1,84 @@
+-- Tests over a range of places, and what a failed test says of a list of them.
+use mathlib.Core.Path.{_≡_, refl, sym, ap, _∙_}
+use mathlib.Core.List.{List, [], _∷_, _++_}
+use mathlib.Core.Bool.{Bool, true, false, not, cond, _&&_, _||_, and-assoc, true≢false}
+use Prim.Native.Nat.{ℕ, zero, suc, _+_, _-_, _*_, _≤_, _<_}
+use native.Mathlib.Omega.{arith}
+use native.Mathlib.Numerals.{add-one}
+use native.Mathlib.Nat.{zero-add, add-zero}
+use lib.ListN.{getD}
+use lib.Dec.{eqb}
+use borrow.Author.Tests.{eq-eqb, ne-eqb}
+use Rattle.meaning.specs.Lists.{count, every, each, all}
+use Rattle.layout.proofs.Laws.{left-more, left-none}
+use Rattle.layout.proofs.Lists.{all-at}
+use Rattle.marks.proofs.Laws.{count-more, count-none}
+use Rattle.laws.specs.Members
+
+pub not-both : {A : Type 0} {b : Bool} → b ≡ true → b ≡ false → A
+not-both t f = absurd (true≢false (sym t ∙ f))
+
+-- what a test of a number that was read says of what it was read from
+pub on : {r b k : ℕ} → r ≡ b → r ≡ k → eqb b k ≡ true
+on {r} {b} {k} e t = eq-eqb b k (sym e ∙ t)
+
+pub off : {r b k : ℕ} → r ≡ b → (r ≡ k → ⊥) → eqb b k ≡ false
+off {r} {b} {k} e t = ne-eqb b k (λ q. t (e ∙ q))
+
+pub all-out : (bs : List Bool) (k : ℕ) → getD bs k true ≡ false → all bs ≡ false
+all-out bs k h = by (all bs) refl
+  where
+    by : (t : Bool) → all bs ≡ t → all bs ≡ false
+    by true e = not-both (all-at bs e k) h
+    by false e = e
+
+pub all-four : {a a′ b b′ c c′ e e′ : Bool} → a ≡ a′ → b ≡ b′ → c ≡ c′ → e ≡ e′ → all (a ∷ b ∷ c ∷ e ∷ []) ≡ all (a′ ∷ b′ ∷ c′ ∷ e′ ∷ [])
+all-four p q r s = rw (p, q, r, s)
+
+pub every-no : (p : ℕ → Bool) {i n : ℕ} → i < n → p i ≡ false → every p (count i (n - i)) ≡ false
+every-no p {i} {n} h f = ap (every p) (count-more h) ∙ ap (λ (b : Bool). b && every p (count (i + 1) (n - (i + 1)))) f
+
+pub every-yes : (p : ℕ → Bool) {i n : ℕ} → i < n → p i ≡ true → every p (count i (n - i)) ≡ every p (count (i + 1) (n - (i + 1)))
+every-yes p {i} {n} h t = ap (every p) (count-more h) ∙ ap (λ (b : Bool). b && every p (count (i + 1) (n - (i + 1)))) t
+
+pub every-none : (p : ℕ → Bool) {i n : ℕ} → n ≤ i → every p (count i (n - i)) ≡ true
+every-none p h = ap (every p) (count-none h)
+
+pub every-append : (p : ℕ → Bool) (xs ys : List ℕ) → every p (xs ++ ys) ≡ (every p xs && every p ys)
+every-append p [] ys = refl
+every-append p (x ∷ xs) ys = ap (λ (b : Bool). p x && b) (every-append p xs ys) ∙ sym (and-assoc (p x) (every p xs) (every p ys))
+
+pub every-alike : (p q : ℕ → Bool) (i n : ℕ) → ((j : ℕ) → i ≤ j → j < i + n → p j ≡ q j) → every p (count i n) ≡ every q (count i n)
+every-alike p q i zero h = refl
+every-alike p q i (suc n) h =
+    ap (λ (b : Bool). b && every p (count (i + 1) n)) (h i (omega arith) (omega arith))
+    ∙ ap (λ (b : Bool). q i && b) (every-alike p q (i + 1) n (λ j a b. h j (omega arith) (omega arith)))
+
+pub every-true : (p : ℕ → Bool) (i n : ℕ) → ((j : ℕ) → i ≤ j → j < i + n → p j ≡ true) → every p (count i n) ≡ true
+every-true p i zero h = refl
+every-true p i (suc n) h =
+    ap (λ (b : Bool). b && every p (count (i + 1) n)) (h i (omega arith) (omega arith))
+    ∙ every-true p (i + 1) n (λ j a b. h j (omega arith) (omega arith))
+
+pub count-split : (i m n : ℕ) → count i (m + n) ≡ count i m ++ count (i + m) n
+count-split i zero n = let e : i ≡ i + 0 = omega arith in ap (count i) (zero-add n) ∙ ap (λ (j : ℕ). count j n) e
+count-split i (suc m) n =
+    let e : suc m + n ≡ suc (m + n) = omega arith in
+    let f : i + 1 + m ≡ i + suc m = omega arith in
+    ap (count i) e ∙ ap (λ (l : List ℕ). i ∷ l) (count-split (i + 1) m n ∙ ap (λ (j : ℕ). count (i + 1) m ++ count j n) f)
+
+-- from 0 on, cut at k
+pub count-cut : {k n : ℕ} → k ≤ n → count 0 n ≡ count 0 k ++ count k (n - k)
+count-cut {k} {n} h =
+    let e : n ≡ k + (n - k) = omega arith in
+    ap (count 0) e ∙ count-split 0 k (n - k) ∙ ap (λ (j : ℕ). count 0 k ++ count j (n - k)) (zero-add k)
+
+pub each-snoc : (f : ℕ → List ℕ) (k : ℕ) → each f (count 0 (k + 1)) ≡ each f (count 0 k) ++ f k
+each-snoc f k =
+    ap (each f) (ap (count 0) (add-one k) ∙ Members.count-snoc 0 k ∙ ap (λ (j : ℕ). count 0 k ++ (j ∷ [])) (zero-add k))
+    ∙ Members.each-append f (count 0 k) (k ∷ []) ∙ ap (λ (l : List ℕ). each f (count 0 k) ++ l) (Members.each-one f k)
+
+pub every-snoc : (p : ℕ → Bool) (k : ℕ) → every p (count 0 k) ≡ true → p k ≡ true → every p (count 0 (k + 1)) ≡ true
+every-snoc p k a b =
+    ap (every p) (ap (count 0) (add-one k) ∙ Members.count-snoc 0 k ∙ ap (λ (j : ℕ). count 0 k ++ (j ∷ [])) (zero-add k))
+    ∙ every-append p (count 0 k) (k ∷ []) ∙ rw (a, b)

@@ -1,0 +1,90 @@
+use native.Mathlib.Omega.{arith}
+use borrow.Author.Needs.{needs}
+use Rattle.walk.proofs.Laws.{Entering, entering-start, entering-step, entering-bad, entering-stop, entering-end}
+use Prim.Native.Nat.{_-_}
+use mathlib.Core.Path.{_≡_, refl, sym, _∙_}
+use Rattle.walk.proofs.take_runs.Statement.{statement}
+use Rattle.walk.proofs.take_runs.Tie as tie
+use Rattle.walk.proofs.take_runs.Reads as reads
+use Rattle.walk.proofs.take_runs.Lts as lts
+use Rattle.walk.proofs.field_at.Reads as field-at-reads
+use Rattle.walk.proofs.no_runs.Reads as no-runs-reads
+use Rattle.walk.proofs.take_run.Reads as take-run-reads
+
+abbrev Inv-loop : tie.InvT-loop
+Inv-loop image g s at map₀ least k₀ n₀ map k n = Entering g image s least map₀ map k n
+
+abbrev μ-loop : tie.MeasureT-loop
+μ-loop image g s at map₀ least k₀ n₀ map k n = 4 - k
+
+-- src/lib.rt:93:5
+loop-holds : tie.Need-loop-holds Inv-loop μ-loop
+loop-holds c = entering-start _ _ _ _ _
+
+-- src/lib.rt:94:45
+mul-field-at : tie.Need-mul-field-at Inv-loop μ-loop
+mul-field-at c = search needs
+
+-- src/lib.rt:94:38
+add-field-at : tie.Need-add-field-at Inv-loop μ-loop
+add-field-at c = search needs
+
+-- src/lib.rt:94:12
+field-at-requires : tie.Need-field-at-requires Inv-loop μ-loop
+field-at-requires c κs = search needs
+
+-- src/lib.rt:96:21
+no-runs-requires : tie.Need-no-runs-requires Inv-loop μ-loop
+no-runs-requires c κs = search needs
+
+-- src/lib.rt:95:13
+returns : tie.Need-returns Inv-loop μ-loop
+returns c = entering-stop _ _ _ (c .before .before .before .before .loop .inv) (c .before .before .before .loop-test .taken) (c .before .before .field-at .ensures .is) (c .before .if1 .taken) (c .no-runs .ensures)
+
+-- src/lib.rt:101:13
+take-run-requires : tie.Need-take-run-requires Inv-loop μ-loop
+take-run-requires c κs = search needs
+
+-- src/lib.rt:103:13
+returns-2 : tie.Need-returns-2 Inv-loop μ-loop
+returns-2 c = entering-bad _ _ _ (c .before .before .before .before .before .before .loop .inv) (c .before .before .before .before .before .loop-test .taken) (c .before .before .before .before .field-at .ensures .is) (c .before .before .before .if1 .left) (rw (c .if2 .taken) at (c .before .take-run .ensures))
+
+-- src/lib.rt:109:9
+add-n : tie.Need-add-n Inv-loop μ-loop
+add-n c = omega arith
+
+-- src/lib.rt:110:9
+add-k : tie.Need-add-k Inv-loop μ-loop
+add-k c = search needs
+
+-- src/lib.rt:93:5
+loop-less : tie.Need-loop-less Inv-loop μ-loop
+loop-less c = omega arith
+
+-- src/lib.rt:93:5
+loop-again : tie.Need-loop-again Inv-loop μ-loop
+loop-again c = entering-step _ _ _ (c .before .before .before .before .before .before .loop .inv) (c .before .before .before .before .before .loop-test .taken) (c .before .before .before .before .field-at .ensures .is) (c .before .before .before .if1 .left) (c .before .take-run .ensures) (c .if2 .left)
+
+-- src/lib.rt:80:1
+returns-3 : tie.Need-returns-3 Inv-loop μ-loop
+returns-3 c = entering-end _ _ _ (c .before .loop .inv) (c .loop-test .left)
+
+pub take-runs-spec : {M : Type 1} → statement M
+take-runs-spec =
+    tie.close
+    (tie.spec
+    Inv-loop
+    μ-loop
+    loop-holds
+    mul-field-at
+    add-field-at
+    field-at-requires
+    no-runs-requires
+    returns
+    take-run-requires
+    returns-2
+    add-n
+    add-k
+    loop-less
+    loop-again
+    returns-3)

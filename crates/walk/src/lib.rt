@@ -1,0 +1,224 @@
+// The walk along a file's chain: it tests every entry that it meets, and takes the entry's granules off the map.
+use meaning::Geometry;
+ghost use mathlib.Core.Path.{_≡_};
+ghost use Prim.Native.Nat.{_+_, _-_, _*_, _<_, _≤_};
+ghost use mathlib.Core.Bool.{true};
+ghost use Rattle.meaning.specs.Lists.{count, every};
+ghost use Rattle.meaning.specs.Layout.{field, entryAt};
+ghost use Rattle.meaning.specs.Entries.{link};
+ghost use Rattle.meaning.specs.Chain.{chainFrom};
+ghost use Rattle.layout.specs.Room.{Room, Slot, Read};
+ghost use Rattle.walk.specs.Walk.{Place, runsOf, TakesRun, Entered, Walked, unused, goesOn, markerHolds, chainHolds, onward};
+
+// Where the entry of a slot is.
+pub fn entry_at(image: &[u8], g: Geometry, s: usize) -> usize
+    requires { ⌜ Room g (now image) × Slot g (now image) s ⌝ }
+    ensures { λ r. ⌜ Place g (now (image .entry)) s r ⌝ }
+{
+    256 * (g.start + 2 + s % 32) + 32 * (s / 32)
+}
+
+// Byte k of the entry of slot s, which is at `at`.
+pub fn field_at(image: &[u8], g: Geometry, s: usize, at: usize, k: usize) -> usize
+    requires { ⌜ Room g (now image) × Place g (now image) s at × (k < 32) ⌝ }
+    ensures { λ r. ⌜ Read (field g (now (image .entry)) s k) r ⌝ }
+{
+    layout::wide(image[at + k])
+}
+
+// Takes run k of an entry off the map. Its length; 0 if it is not on the disk, or a granule of it is not open to the file.
+fn take_run(
+    image: &[u8],
+    g: Geometry,
+    s: usize,
+    at: usize,
+    k: usize,
+    map: &mut [u8; 1536],
+    least: u8,
+) -> usize
+    requires { ⌜ Room g (now image) × Place g (now image) s at × (k < 4) ⌝ }
+    ensures { λ r. ⌜ TakesRun g (now (image .entry)) s k least (now (map .entry)) (now (map .exit)) r ⌝ }
+{
+    let second = field_at(image, g, s, at, 0x17 + 2 * k);
+    if g.units <= second / 32 {
+        return 0;
+    }
+    let a = field_at(image, g, s, at, 0x16 + 2 * k) * g.units + second / 32;
+    let n = 1 + second % 32;
+    if layout::granules(g) < a + n {
+        return 0;
+    }
+    if !marks::mark_run(map, a, n, least, 0) {
+        return 0;
+    }
+    n
+}
+
+// Whether no pair of an entry from k on is a run.
+fn no_runs(image: &[u8], g: Geometry, s: usize, at: usize, k: usize) -> bool
+    requires { ⌜ Room g (now image) × Place g (now image) s at ⌝ }
+    ensures { λ r. ⌜ r ≡ every (unused g (now (image .entry)) s) (count k (4 - k)) ⌝ }
+{
+    let mut j = k;
+    while j < 4 {
+        if field_at(image, g, s, at, 0x16 + 2 * j) != 0xff {
+            return false;
+        }
+        j += 1;
+    }
+    true
+}
+
+// What an entry's pairs gave: how many runs, and how many granules; or that they are not as they must be.
+pub struct Pairs {
+    pub ok: bool,
+    pub runs: usize,
+    pub granules: usize,
+}
+
+// Takes the granules of an entry off the map.
+pub fn take_runs(
+    image: &[u8],
+    g: Geometry,
+    s: usize,
+    at: usize,
+    map: &mut [u8; 1536],
+    least: u8,
+) -> Pairs
+    requires { ⌜ Room g (now image) × Place g (now image) s at ⌝ }
+    ensures { λ r. ⌜ Entered g (now (image .entry)) s least (now (map .entry)) (now (map .exit)) r ⌝ }
+{
+    let mut k = 0;
+    let mut n = 0;
+    while k < 4 {
+        if field_at(image, g, s, at, 0x16 + 2 * k) == 0xff {
+            return Pairs {
+                ok: no_runs(image, g, s, at, k),
+                runs: k,
+                granules: n,
+            };
+        }
+        let len = take_run(image, g, s, at, k, map, least);
+        if len == 0 {
+            return Pairs {
+                ok: false,
+                runs: 0,
+                granules: 0,
+            };
+        }
+        n += len;
+        k += 1;
+    }
+    Pairs {
+        ok: true,
+        runs: 4,
+        granules: n,
+    }
+}
+
+// Whether an entry with so many runs leads on, to an extension of the same file: h is the file's HIT byte.
+fn goes_on(image: &[u8], g: Geometry, s: usize, at: usize, runs: usize, h: usize) -> bool
+    requires { ⌜ Room g (now image) × Place g (now image) s at × (runs ≡ runsOf g (now image) s) ⌝ }
+    ensures { λ r. ⌜ r ≡ goesOn g (now (image .entry)) h s ⌝ }
+{
+    if field_at(image, g, s, at, 0x1e) != 0xfe {
+        return false;
+    }
+    if runs != 4 {
+        return false;
+    }
+    let t = field_at(image, g, s, at, 0x1f);
+    if !layout::is_slot(image, g, t) {
+        return false;
+    }
+    let to = entry_at(image, g, t);
+    if field_at(image, g, t, to, 0) != 0x90 {
+        return false;
+    }
+    if field_at(image, g, t, to, 1) != s {
+        return false;
+    }
+    if field_at(image, g, t, to, 0x16) == 0xff {
+        return false;
+    }
+    layout::hit(image, g, t) == h
+}
+
+// The entry of slot s, of a file with HIT byte h, and what its marker leads to: at most `left` entries. `met` has 1 for each slot not
+// met so far, and `owned` granules were met before. The sector count must fit the granules of the whole chain.
+pub fn entry_walk(
+    image: &[u8],
+    g: Geometry,
+    s: usize,
+    at: usize,
+    left: usize,
+    h: usize,
+    least: u8,
+    sectors: usize,
+    owned: usize,
+    map: &mut [u8; 1536],
+    met: &mut [u8; 256],
+) -> bool
+    requires { ⌜ Room g (now image) × Place g (now image) s at × (owned + 128 * left ≤ 65536) ⌝ }
+    ensures { λ r. ⌜ Walked g (now (image .entry)) least sectors owned (chainHolds g (now (image .entry)) h left s)
+        (chainFrom g (now (image .entry)) left s) (now (map .entry)) (now (map .exit)) (now (met .entry)) (now (met .exit)) r ⌝ }
+{
+    if left == 0 {
+        return false;
+    }
+    if met[s] < 1 {
+        return false;
+    }
+    met[s] = 0;
+    let p = take_runs(image, g, s, at, map, least);
+    if !p.ok {
+        return false;
+    }
+    marker_walk(
+        image,
+        g,
+        s,
+        at,
+        p.runs,
+        left - 1,
+        h,
+        least,
+        sectors,
+        owned + p.granules,
+        map,
+        met,
+    )
+}
+
+// The marker of slot s, and what it leads to.
+fn marker_walk(
+    image: &[u8],
+    g: Geometry,
+    s: usize,
+    at: usize,
+    runs: usize,
+    left: usize,
+    h: usize,
+    least: u8,
+    sectors: usize,
+    owned: usize,
+    map: &mut [u8; 1536],
+    met: &mut [u8; 256],
+) -> bool
+    requires { ⌜ Room g (now image) × Place g (now image) s at × (runs ≡ runsOf g (now image) s)
+        × (owned + 128 * left ≤ 65536) ⌝ }
+    ensures { λ r. ⌜ Walked g (now (image .entry)) least sectors owned
+        (markerHolds g (now (image .entry)) h s (chainHolds g (now (image .entry)) h left (link g (now (image .entry)) s)))
+        (onward g (now (image .entry)) s (chainFrom g (now (image .entry)) left (link g (now (image .entry)) s)))
+        (now (map .entry)) (now (map .exit)) (now (met .entry)) (now (met .exit)) r ⌝ }
+{
+    if field_at(image, g, s, at, 0x1e) == 0xff {
+        return sectors <= 5 * owned;
+    }
+    if !goes_on(image, g, s, at, runs, h) {
+        return false;
+    }
+    let t = field_at(image, g, s, at, 0x1f);
+    let to = entry_at(image, g, t);
+    entry_walk(image, g, t, to, left, h, least, sectors, owned, map, met)
+}
