@@ -65,7 +65,7 @@ all-rest : (a : Bool) {b c : Bool} → b ≡ true → c ≡ true → (a && true)
 unfolding all
 all-rest a h l = rw (h, l)
 
-any-one : (b : Bool) → any (b ∷ []) ≡ b
+pub any-one : (b : Bool) → any (b ∷ []) ≡ b
 unfolding any
 any-one true = refl
 any-one false = refl
@@ -77,7 +77,7 @@ module _ (g : Geometry) (d : List ℕ) (s : ℕ) where
   abbrev pub firstRuns : ℕ → List ℕ
   firstRuns k = each (runGranules g d s) (count 0 k)
 
-  from-above : (m k : ℕ) → k ≤ runsFrom g d s m k
+  pub from-above : (m k : ℕ) → k ≤ runsFrom g d s m k
   unfolding runsFrom
   from-above zero k = omega arith
   from-above (suc m) k = by (from-above m (k + 1)) (eqb (block g d s k) 0xff)

@@ -1,0 +1,229 @@
+-- The check by maps answers what "A consistent disk" says.
+use mathlib.Core.Path.{_≡_, refl, sym, ap, _∙_, subst}
+use mathlib.Core.Logic.{_≢_, _⊎_, inl, inr}
+use mathlib.Core.List.{List, [], _∷_, _++_}
+use mathlib.Core.Bool.{Bool, true, false, not, cond, _&&_, _||_, Bool·beq}
+use Prim.Native.Nat.{ℕ, zero, suc, _+_, _-_, _*_, _/_, _%_, _≤_, _<_}
+use native.Mathlib.Omega.{arith}
+use lib.Dec.{T, eqb, leb, ltb, eqb→eq, T-not, not-T}
+use lib.ListN.{length, getD, replicate, length-replicate, getD-replicate}
+use borrow.Author.Tests.{eq-eqb, ne-eqb, eqb-true, eqb-false, le-leb, leb-true, not-true, not-false}
+use Rattle.meaning.specs.Lists.{count, every, each, keep, has, distinct, lastOr, all, any}
+use Rattle.meaning.specs.Bits.{bit}
+use Rattle.meaning.specs.Layout.{granules, taken, field, hit, slots, isSlot, directorySectors, directoryGranules, byte}
+use Rattle.meaning.specs.Names.{hash, wellFormed}
+use Rattle.meaning.specs.Entries.{inUse, extension, primary, system, block, marker, link, runs, runsFrom, runStart, runLength, runGranules, entryGranules, nameOf, sectorCount, endByte, sizeOf}
+use Rattle.meaning.specs.Chain.{chainFrom, chain, owned, files}
+use Rattle.meaning.specs.Consistent.{lengthHolds, hitHolds, pairsHold, follows, linkHolds, runsHold, gatHolds, entryHolds, slotHolds, fileHolds, namesDiffer, met, consistent}
+use Rattle.meaning.specs.declared.Geometry.{Geometry}
+use Rattle.layout.specs.Room.{Room}
+use Rattle.layout.proofs.Lists.{all-at, all-yes, all-no, all-one, all-none, any-last, not-yes, not-no, le-or-lt}
+use Rattle.marks.specs.Marks.{marked, allows, TakenMap}
+use Rattle.walk.specs.Walk.{goesOn, markerHolds, chainHolds, runHolds}
+use Rattle.walk.proofs.Lists.{not-both, all-out}
+use Rattle.walk.proofs.Laws.{from-above}
+use Rattle.laws.specs.Members
+use Rattle.laws.specs.Members.{In, Distinct}
+use Rattle.laws.specs.Facts
+use Rattle.laws.specs.Facts.{File, Sound}
+use Rattle.laws.specs.Entry
+use Rattle.laws.specs.Change
+use Rattle.consistency.specs.Slots.{least, leastOf, countHolds, nameFits, fileFits, slotFits, chainOf, ownedOf, opens, one, slotsFit, metAt}
+use Rattle.consistency.proofs.Maps
+
+-- The map ---------------------------------------------------------------------------------------------------------------------
+
+-- what the map says before the first run is taken off it
+pub record Base (g : Geometry) (d m : List ℕ) : Type 0 where
+  pub taken-in : (n : ℕ) → n < granules g → 1 ≤ getD m n 0 → T (taken g d n)
+  pub off-in : (n : ℕ) → 2 ≤ getD m n 0 → In n (directoryGranules g d) → ⊥
+  pub open-one : (n : ℕ) → n < granules g → T (taken g d n) → 1 ≤ getD m n 0
+  pub open-two : (n : ℕ) → n < granules g → T (taken g d n) → (In n (directoryGranules g d) → ⊥) → 2 ≤ getD m n 0
+
+module _ (g : Geometry) (d m : List ℕ) (room : Room g d) (w : TakenMap g d m) where
+  directory-lt : (n : ℕ) → In n (directoryGranules g d) → n < granules g
+  directory-lt n i = let k = Members.count-in n (g .start / 5) (directorySectors g d / 5) i in let e = room .directory in omega arith
+
+  high-taken : (n : ℕ) → n < granules g → 1 ≤ getD m n 0 → T (taken g d n)
+  high-taken n l h = go (taken g d n) refl
+    where
+      go : (b : Bool) → taken g d n ≡ b → T (taken g d n)
+      go true e = Members.true-T e
+      go false e = absurd (let z = w .low n l e in let q : ⊥ = omega arith in q)
+
+  taken-high : (n : ℕ) → n < granules g → T (taken g d n) → _≡_ {A = ℕ} (getD m n 0) 2
+  taken-high n l t = w .high n l (Members.T-true {b = taken g d n} t)
+
+  directory-open : allows m 2 1 (directoryGranules g d) ≡ true → (n : ℕ) → In n (directoryGranules g d) → 2 ≤ getD m n 0
+  directory-open e = Maps.allows-says 2 1 (directoryGranules g d) m (omega arith) e .high
+
+  pub directory-taken : allows m 2 1 (directoryGranules g d) ≡ true → every (taken g d) (directoryGranules g d) ≡ true
+  directory-taken e =
+      Members.T-true (Members.all-every (taken g d) (directoryGranules g d) (λ n i. high-taken n (directory-lt n i) (let h = directory-open e n i in omega arith)))
+
+  pub taken-directory : every (taken g d) (directoryGranules g d) ≡ true → allows m 2 1 (directoryGranules g d) ≡ true
+  taken-directory e =
+      Maps.says-allows 2 1 (directoryGranules g d) m (record {
+        high = λ n i. let z = taken-high n (directory-lt n i) (Members.every-all (taken g d) (Members.true-T e) i) in omega arith;
+        once = Members.count-distinct (g .start / 5) (directorySectors g d / 5);
+      })
+
+  pub base : allows m 2 1 (directoryGranules g d) ≡ true → Base g d (marked m 1 (directoryGranules g d))
+  base e =
+      record {
+        taken-in = λ n l h. taken′ n l h (Members.in? n (directoryGranules g d));
+        off-in = λ n h i. let z = inside n i in omega arith;
+        open-one = λ n l t. open′ n l t (Members.in? n (directoryGranules g d));
+        open-two = λ n l t f. let a = outside n f in let b = taken-high n l t in omega arith;
+      }
+    where
+      inside : (n : ℕ) → In n (directoryGranules g d) → _≡_ {A = ℕ} (getD (marked m 1 (directoryGranules g d)) n 0) 1
+      inside n i = Maps.marked-in 1 n (directoryGranules g d) m i (Maps.in-range m n (let h = directory-open e n i in omega arith))
+
+      outside : (n : ℕ) → (In n (directoryGranules g d) → ⊥) → getD (marked m 1 (directoryGranules g d)) n 0 ≡ getD m n 0
+      outside n f = Maps.marked-out 1 n (directoryGranules g d) m f
+
+      taken′ : (n : ℕ) → n < granules g → 1 ≤ getD (marked m 1 (directoryGranules g d)) n 0 → In n (directoryGranules g d) ⊎ (In n (directoryGranules g d) → ⊥) → T (taken g d n)
+      taken′ n l h (inl i) = high-taken n l (let k = directory-open e n i in omega arith)
+      taken′ n l h (inr f) = high-taken n l (let k = outside n f in omega arith)
+
+      open′ : (n : ℕ) → n < granules g → T (taken g d n) → In n (directoryGranules g d) ⊎ (In n (directoryGranules g d) → ⊥) → 1 ≤ getD (marked m 1 (directoryGranules g d)) n 0
+      open′ n l t (inl i) = let k = inside n i in omega arith
+      open′ n l t (inr f) = let a = outside n f in let b = taken-high n l t in omega arith
+
+-- The chain -------------------------------------------------------------------------------------------------------------------
+
+module _ (g : Geometry) (d : List ℕ) where
+  -- what the walk tested of an entry x in the chain from s on
+  pub record Held (h s x : ℕ) : Type 0 where
+    pub pairs : pairsHold g d x ≡ true
+    pub runs-hold : runsHold g d x ≡ true
+    pub linked : linkHolds g d x ≡ true
+    pub hits : (x ≡ s) ⊎ (hit g d x ≡ h)
+
+  some-run : (t : ℕ) → eqb (block g d t 0) 0xff ≡ false → 1 ≤ runs g d t
+  unfolding runs runsFrom
+  some-run t e = rw e (from-above g d t 3 1)
+
+  goes-follows : (h s : ℕ) → goesOn g d h s ≡ true → follows g d s (link g d s) ≡ true
+  unfolding goesOn follows
+  goes-follows h s e =
+      all-yes (all-at _ e 2) _ ∙ all-yes (all-at _ e 3) _ ∙ all-yes (all-at _ e 4) _
+      ∙ all-yes (le-leb _ _ (some-run (link g d s) (not-true (eqb (block g d (link g d s) 0) 0xff) (all-at _ e 5)))) _ ∙ all-none
+
+  goes-first : (h s : ℕ) → goesOn g d h s ≡ true → eqb (marker g d s) 0xfe ≡ true
+  unfolding goesOn
+  goes-first h s e = all-at _ e 0
+
+  goes-second : (h s : ℕ) → goesOn g d h s ≡ true → eqb (runs g d s) 4 ≡ true
+  unfolding goesOn
+  goes-second h s e = all-at _ e 1
+
+  goes-hit : (h s : ℕ) → goesOn g d h s ≡ true → eqb (hit g d (link g d s)) h ≡ true
+  unfolding goesOn
+  goes-hit h s e = all-at _ e 6
+
+  goes-links : (h s : ℕ) → goesOn g d h s ≡ true → all (eqb (marker g d s) 0xfe ∷ follows g d s (link g d s) ∷ eqb (runs g d s) 4 ∷ []) ≡ true
+  goes-links h s e = all-yes (goes-first h s e) _ ∙ all-yes (goes-follows h s e) _ ∙ all-yes (goes-second h s e) _ ∙ all-none
+
+  open-marker : (h s : ℕ) (rest : Bool) → markerHolds g d h s rest ≡ true → T (eqb (marker g d s) 0xff) ⊎ T (all (goesOn g d h s ∷ rest ∷ []))
+  unfolding markerHolds
+  open-marker h s rest e = Members.any-e (eqb (marker g d s) 0xff) (all (goesOn g d h s ∷ rest ∷ [])) (Members.true-T e)
+
+  marker-links : (h s : ℕ) (rest : Bool) → markerHolds g d h s rest ≡ true → linkHolds g d s ≡ true
+  unfolding linkHolds
+  marker-links h s rest e = Members.T-true (go (open-marker h s rest e))
+    where
+      go : T (eqb (marker g d s) 0xff) ⊎ T (all (goesOn g d h s ∷ rest ∷ []))
+          → T (any (eqb (marker g d s) 0xff ∷ all (eqb (marker g d s) 0xfe ∷ follows g d s (link g d s) ∷ eqb (runs g d s) 4 ∷ []) ∷ []))
+      go (inl t) = Members.any-l (eqb (marker g d s) 0xff) (all (eqb (marker g d s) 0xfe ∷ follows g d s (link g d s) ∷ eqb (runs g d s) 4 ∷ [])) t
+      go (inr t) =
+          Members.any-r (eqb (marker g d s) 0xff) (all (eqb (marker g d s) 0xfe ∷ follows g d s (link g d s) ∷ eqb (runs g d s) 4 ∷ []))
+          (Members.true-T (goes-links h s (all-at _ (Members.T-true t) 0)))
+
+  pub chain-says : (h left s x : ℕ) → chainHolds g d h left s ≡ true → In x (chainFrom g d left s) → Held h s x
+  unfolding chainHolds chainFrom
+  chain-says h zero s x e i = Members.none-in i
+  chain-says h (suc left) s x e i = go (Members.in-cons i) (chain-says h left (link g d s) x)
+    where
+      rest : List ℕ
+      rest = chainFrom g d left (link g d s)
+
+      marks : markerHolds g d h s (chainHolds g d h left (link g d s)) ≡ true
+      marks = all-at _ e 2
+
+      here : x ≡ s → Held h s x
+      here q =
+          record {
+            pairs = ap (pairsHold g d) q ∙ all-at _ e 0;
+            runs-hold = ap (runsHold g d) q ∙ all-at _ e 1;
+            linked = ap (linkHolds g d) q ∙ marker-links h s (chainHolds g d h left (link g d s)) marks;
+            hits = inl q;
+          }
+
+      further : goesOn g d h s ≡ true → Held h (link g d s) x → Held h s x
+      further q k = record { pairs = k .pairs; runs-hold = k .runs-hold; linked = k .linked; hits = inr (at (k .hits)) }
+        where
+          at : (x ≡ link g d s) ⊎ (hit g d x ≡ h) → hit g d x ≡ h
+          at (inl z) = ap (hit g d) z ∙ eqb-true _ _ (goes-hit h s q)
+          at (inr z) = z
+
+      deeper : marker g d s ≡ 0xfe → T (eqb (marker g d s) 0xff) ⊎ T (all (goesOn g d h s ∷ chainHolds g d h left (link g d s) ∷ [])) → In x rest
+          → (chainHolds g d h left (link g d s) ≡ true → In x rest → Held h (link g d s) x) → Held h s x
+      deeper q (inl t) j r = absurd (let z = eqb→eq (marker g d s) 0xff t in let b : ⊥ = omega arith in b)
+      deeper q (inr t) j r = let a = Members.T-true t in further (all-at _ a 0) (r (all-at _ a 1) j)
+
+      into : (b : Bool) → eqb (marker g d s) 0xfe ≡ b → In x (cond b rest []) → (chainHolds g d h left (link g d s) ≡ true → In x rest → Held h (link g d s) x) → Held h s x
+      into true q j r = deeper (eqb-true _ _ q) (open-marker h s (chainHolds g d h left (link g d s)) marks) j r
+      into false q j r = Members.none-in j
+
+      go : (x ≡ s) ⊎ In x (cond (eqb (marker g d s) 0xfe) rest []) → (chainHolds g d h left (link g d s) ≡ true → In x rest → Held h (link g d s) x) → Held h s x
+      go (inl q) r = here q
+      go (inr j) r = into (eqb (marker g d s) 0xfe) refl j r
+
+  -- the other way: every entry is sound and has the file's HIT byte, and the last has no next
+  pub record Good (h x : ℕ) : Type 0 where
+    pub entry : Entry.Entry g d x
+    pub hits : hit g d x ≡ h
+
+  holds-part : (x k : ℕ) → Entry.Entry g d x → getD (pairsHold g d x ∷ linkHolds g d x ∷ runsHold g d x ∷ gatHolds g d x ∷ []) k true ≡ true
+  holds-part x k e = all-at _ (Members.T-true {b = entryHolds g d x} (Entry.says-entry g d x e)) k
+
+  goes : (h s : ℕ) → Entry.Linked g d s → hit g d (link g d s) ≡ h → goesOn g d h s ≡ true
+  unfolding goesOn
+  goes h s l e =
+      all-yes (eq-eqb _ _ (l .marked)) _ ∙ all-yes (eq-eqb _ _ (l .full)) _ ∙ all-yes (Members.T-true (l .next .slot)) _
+      ∙ all-yes (eq-eqb _ _ (l .next .flags)) _ ∙ all-yes (eq-eqb _ _ (l .next .before)) _
+      ∙ all-yes (not-no (ne-eqb _ _ (Entry.runs-has g d (link g d s) 0 (l .next .some′)))) _ ∙ all-yes (eq-eqb _ _ e) _ ∙ all-none
+
+  marker-ends : (h s : ℕ) (rest : Bool) → marker g d s ≡ 0xff → markerHolds g d h s rest ≡ true
+  unfolding markerHolds
+  marker-ends h s rest m = Members.T-true (Members.any-l (eqb (marker g d s) 0xff) (all (goesOn g d h s ∷ rest ∷ [])) (Members.eq-T m))
+
+  marker-goes : (h s : ℕ) (rest : Bool) → goesOn g d h s ≡ true → rest ≡ true → markerHolds g d h s rest ≡ true
+  unfolding markerHolds
+  marker-goes h s rest a b =
+      Members.T-true (Members.any-r (eqb (marker g d s) 0xff) (all (goesOn g d h s ∷ rest ∷ [])) (Members.true-T (all-yes a _ ∙ all-yes b _ ∙ all-none)))
+
+  pub says-chain : (h left s : ℕ) → 1 ≤ left → ((x : ℕ) → In x (chainFrom g d left s) → Good h x) → marker g d (lastOr s (chainFrom g d left s)) ≡ 0xff
+      → chainHolds g d h left s ≡ true
+  unfolding chainHolds chainFrom lastOr
+  says-chain h zero s l f m = absurd (let z : ⊥ = omega arith in z)
+  says-chain h (suc left) s l f m =
+      let e = f s In.here .entry in
+      all-yes (holds-part s 0 e) _ ∙ all-yes (holds-part s 2 e) _ ∙ all-yes (on left (e .linked) f m (says-chain h left (link g d s))) _ ∙ all-none
+    where
+      Rest : ℕ → Type 0
+      Rest left = 1 ≤ left → ((x : ℕ) → In x (chainFrom g d left (link g d s)) → Good h x) → marker g d (lastOr (link g d s) (chainFrom g d left (link g d s))) ≡ 0xff
+          → chainHolds g d h left (link g d s) ≡ true
+
+      -- the chain goes on at the link
+      next : (left : ℕ) → Entry.Linked g d s → ((x : ℕ) → In x (s ∷ chainFrom g d left (link g d s)) → Good h x) → marker g d (lastOr s (chainFrom g d left (link g d s))) ≡ 0xff → Rest left
+          → markerHolds g d h s (chainHolds g d h left (link g d s)) ≡ true
+      next zero k f m r = absurd (let q = k .marked in let z : ⊥ = omega arith in z)
+      next (suc left) k f m r = marker-goes h s _ (goes h s k (f (link g d s) (In.there In.here) .hits)) (r (omega arith) (λ x i. f x (In.there i)) m)
+
+      on : (left : ℕ) → (marker g d s ≡ 0xff) ⊎ Entry.Linked g d s → ((x : ℕ) → In x (s ∷ cond (eqb (marker g d s) 0xfe) (chainFrom g d left (link g d s)) []) → Good h x)
+          → marker g d (lastOr s (cond (eqb (marker g d s) 0xfe) (chainFrom g d left (link g d s)) [])) ≡ 0xff → Rest left → markerHolds g d h s (chainHolds g d h left (link g d s)) ≡ true
+      on left (inl q) f m r = marker-ends h s _ q
+      on left (inr k) f m r = next left k (rw (eq-eqb _ _ (k .marked)) at f) (rw (eq-eqb _ _ (k .marked)) at m) r

@@ -1,0 +1,351 @@
+-- The check, slot by slot.
+use mathlib.Core.Path.{_≡_, refl, sym, ap, _∙_}
+use mathlib.Core.List.{List, [], _∷_, _++_}
+use mathlib.Core.Bool.{Bool, true, false, not, cond, _&&_, _||_, and-true, Bool·beq}
+use Prim.Native.Nat.{ℕ, zero, suc, _+_, _-_, _*_, _/_, _%_, _^_, _≤_, _<_}
+use native.Mathlib.Omega.{arith}
+use native.Mathlib.Nat.{zero-add, mul-le-mul}
+use lib.Dec.{eqb, leb, ltb}
+use lib.ListN.{length, getD}
+use borrow.Author.Tests.{eq-eqb, ne-eqb, le-leb, leb-true, eqb-true, not-false}
+use Rattle.meaning.specs.Lists.{count, every, each, keep, has, same, all, any}
+use Rattle.meaning.specs.Bits.{bit, digit}
+use Rattle.meaning.specs.Layout.{granules, fitsGeometry, field, hit, slots, isSlot, directorySectors, aboveTen}
+use Rattle.meaning.specs.Entries.{inUse, extension, primary, sectorCount, endByte, entryGranules}
+use Rattle.meaning.specs.Chain.{chain, chainFrom, owned}
+use Rattle.meaning.specs.Consistent.{hitHolds, lengthHolds}
+use Rattle.meaning.specs.declared.Geometry.{Geometry}
+use Rattle.layout.specs.Room.{Room, Slot}
+use Rattle.layout.proofs.Laws.{digit-at, below}
+use Rattle.layout.proofs.Lists.{all-at, all-yes, all-no, all-one, all-none, any-skip, is-no, is-yes, not-yes, not-no}
+use Rattle.layout.proofs.Sound.{low-twenty, fits-directory}
+use Rattle.seek.proofs.Laws.{slots-length}
+use Rattle.seek.proofs.Below.{allBelow, all-below}
+use Rattle.marks.specs.Marks.{marked, allows}
+use Rattle.marks.proofs.Laws.{marked-append, count-more, count-none}
+use Rattle.walk.specs.Walk.{Walked, chainHolds, granulesOf}
+use Rattle.walk.proofs.Lists.{not-both, on, off, all-out, every-append}
+use Rattle.walk.proofs.Laws.{any-one}
+use Rattle.laws.specs.Members
+use Rattle.consistency.specs.Slots.{Fits, least, leastOf, countHolds, nameFits, fileFits, slotFits, chainOf, ownedOf, opens, one, slotsFit, FileSeen, Seen, rowSlots}
+
+-- Bits --------------------------------------------------------------------------------------------------------------------
+
+pub bit-on : (u x : ℕ) → x / 2 ^ u % 2 ≡ 1 → bit u x ≡ true
+bit-on u x h = eq-eqb _ _ (digit-at u x ∙ h)
+
+pub bit-off : (u x : ℕ) → (x / 2 ^ u % 2 ≡ 1 → ⊥) → bit u x ≡ false
+bit-off u x h = ne-eqb _ _ (λ q. h (sym (digit-at u x) ∙ q))
+
+-- Geometry and the directory's length ---------------------------------------------------------------------------------------
+
+pub fits : (g : Geometry) (d : List ℕ) → fitsGeometry g d ≡ true → Fits g d
+unfolding fitsGeometry granules
+fits g d f =
+    let a = leb-true (g .blocks) 192 (all-at _ f 1) in
+    let b = leb-true (g .units) 8 (all-at _ f 3) in
+    record {
+      blocks-low = leb-true _ _ (all-at _ f 0);
+      blocks-high = a;
+      units-low = leb-true _ _ (all-at _ f 2);
+      units-high = b;
+      five = eqb-true _ _ (all-at _ f 4);
+      most = below (g .blocks) (g .units) 192 8 a b;
+      whole = eqb-true _ _ (all-at _ f 5);
+      ten = leb-true _ _ (all-at _ f 6);
+    }
+
+pub room-of : (g : Geometry) (d : List ℕ) → Fits g d → lengthHolds g d ≡ true → Room g d
+room-of g d f h =
+    let e = fits-directory g d h in
+    record {
+      blocks-low = f .blocks-low;
+      blocks-high = f .blocks-high;
+      units-low = f .units-low;
+      units-high = f .units-high;
+      most = f .most;
+      whole = f .whole;
+      ten = e .0;
+      thirty = e .1;
+      directory = e .2;
+    }
+
+abbrev fives : List ℕ
+fives = 0 ∷ 5 ∷ 10 ∷ 15 ∷ 20 ∷ []
+
+alike : Bool → Bool → Bool
+alike a b = cond a b (not b)
+
+alike-eq : (a b : Bool) → alike a b ≡ true → a ≡ b
+unfolding alike
+alike-eq true b e = sym e
+alike-eq false true e = e
+alike-eq false false e = refl
+
+five-all : allBelow 21 (λ x. alike (has fives x) (eqb (x % 5) 0)) ≡ true
+unfolding alike
+five-all = refl
+
+five-at : (x : ℕ) → x ≤ 20 → has fives x ≡ eqb (x % 5) 0
+five-at x h = alike-eq _ _ (all-below 21 (λ x. alike (has fives x) (eqb (x % 5) 0)) five-all x (omega arith))
+
+module _ (g : Geometry) (d : List ℕ) where
+  pub length-far : {x : ℕ} → x ≡ aboveTen g d → 20 < x → false ≡ lengthHolds g d
+  unfolding lengthHolds
+  length-far {x} e h = sym (all-no (by (has fives (aboveTen g d)) refl) _)
+    where
+      by : (b : Bool) → has fives (aboveTen g d) ≡ b → has fives (aboveTen g d) ≡ false
+      by true q = absurd (let l = low-twenty (aboveTen g d) q in let z : ⊥ = omega arith in z)
+      by false q = q
+
+  pub length-odd : {x : ℕ} → x ≡ aboveTen g d → x ≤ 20 → (x % 5 ≡ 0 → ⊥) → false ≡ lengthHolds g d
+  unfolding lengthHolds
+  length-odd {x} e h n = sym (all-no (ap (has fives) (sym e) ∙ five-at x h ∙ ne-eqb _ _ n) _)
+
+  pub length-rest : {x w : ℕ} → x ≡ aboveTen g d → x ≤ 20 → x % 5 ≡ 0 → w ≡ granules g → leb (g .start + (10 + x)) (w * 5) ≡ lengthHolds g d
+  unfolding lengthHolds directorySectors
+  length-rest {x} {w} e h n q =
+      ap (λ (k : ℕ). leb (g .start + (10 + k)) (w * 5)) e ∙ ap (λ (k : ℕ). leb (g .start + (10 + aboveTen g d)) (k * 5)) q
+      ∙ sym (all-yes (ap (has fives) (sym e) ∙ five-at x h ∙ eq-eqb _ _ n) _ ∙ all-one _)
+
+-- One file ------------------------------------------------------------------------------------------------------------------
+
+shuffle : (c a b l : Bool) → all (c ∷ a ∷ b ∷ l ∷ []) ≡ all (all (c ∷ l ∷ []) ∷ a ∷ b ∷ [])
+unfolding all
+shuffle false a b l = refl
+shuffle true false b true = refl
+shuffle true false b false = refl
+shuffle true true false true = refl
+shuffle true true false false = refl
+shuffle true true true true = refl
+shuffle true true true false = refl
+
+all-three : {a a′ b b′ c c′ : Bool} → a ≡ a′ → b ≡ b′ → c ≡ c′ → all (a ∷ b ∷ c ∷ []) ≡ all (a′ ∷ b′ ∷ c′ ∷ [])
+all-three p q r = rw (p, q, r)
+
+module _ (g : Geometry) (d : List ℕ) (s : ℕ) where
+  file-no : {m m′ met met′ : List ℕ} → fileFits g d s ≡ false → FileSeen g d s m m′ met met′ false
+  file-no h = record { answer = sym (all-no h _); map = λ q. not-both q refl; meets = λ q. not-both q refl }
+
+  pub file-bit : {m m′ met met′ : List ℕ} {f : ℕ} → f ≡ field g d s 0 → f / 2 ^ 5 % 2 ≡ 1 → FileSeen g d s m m′ met met′ false
+  unfolding fileFits
+  file-bit {f = f} e h = file-no (all-no (not-yes (ap (bit 5) (sym e) ∙ bit-on 5 f h)) _)
+
+  pub file-name : {m m′ met met′ : List ℕ} {h : ℕ} → h ≡ hit g d s → nameFits g d h s ≡ false → FileSeen g d s m m′ met met′ false
+  unfolding fileFits
+  file-name e n = file-no (all-out _ 1 (ap (λ (k : ℕ). nameFits g d k s) (sym e) ∙ n))
+
+  pub file-count : {m m′ met met′ : List ℕ} {n : ℕ} → n ≡ sectorCount g d s → countHolds n (endByte g d s) ≡ false → FileSeen g d s m m′ met met′ false
+  unfolding fileFits
+  file-count e n = file-no (all-out _ 2 (ap (λ (k : ℕ). countHolds k (endByte g d s)) (sym e) ∙ n))
+
+  pub two : {x y : ℕ} → x ≡ field g d s 0x14 → y ≡ field g d s 0x15 → x + 256 * y ≡ sectorCount g d s
+  two {x} {y} e f = ap (λ (k : ℕ). k + 256 * y) e ∙ ap (λ (k : ℕ). field g d s 0x14 + 256 * k) f
+
+  pub file-walk : {m m′ met met′ : List ℕ} {f h n low left k : ℕ} {r : Bool} → Room g d → f ≡ field g d s 0 → (f / 2 ^ 5 % 2 ≡ 1 → ⊥) → h ≡ hit g d s → nameFits g d h s ≡ true
+      → n ≡ sectorCount g d s → countHolds n (endByte g d s) ≡ true → k ≡ directorySectors g d → left ≡ 8 * (k - 2) → low ≡ least f
+      → Walked g d low n 0 (chainHolds g d h left s) (chainFrom g d left s) m m′ met met′ r → FileSeen g d s m m′ met met′ r
+  unfolding fileFits chain owned
+  file-walk {m} {m′} {met} {met′} {f} {h} {n} {low} {left} {k} {r} room e b i a c q ds l o w =
+      let len : left ≡ length (slots g d) = l ∙ ap (λ (j : ℕ). 8 * (j - 2)) ds ∙ sym (slots-length g d (room .ten) (room .thirty)) in
+      let low-is : low ≡ leastOf g d s = o ∙ ap least e in
+      let w′ : Walked g d (leastOf g d s) (sectorCount g d s) 0 (chainHolds g d (hit g d s) (length (slots g d)) s) (chain g d s) m m′ met met′ r = rw (low-is, c, i, len) at w in
+      let fit : fileFits g d s ≡ all (chainHolds g d (hit g d s) (length (slots g d)) s ∷ leb (sectorCount g d s) (5 * length (owned g d s)) ∷ [])
+      = all-yes (not-no (ap (bit 5) (sym e) ∙ bit-off 5 f b)) _ ∙ all-yes (ap (λ (j : ℕ). nameFits g d j s) (sym i) ∙ a) _
+      ∙ all-yes (ap (λ (j : ℕ). countHolds j (endByte g d s)) (sym c) ∙ q) _ in
+      record {
+        answer =
+            w′ .answer ∙ ap (λ (j : ℕ). all (chainHolds g d (hit g d s) (length (slots g d)) s ∷ allows m (leastOf g d s) 0 (owned g d s) ∷ allows met 1 0 (chain g d s) ∷ leb (sectorCount g d s) (5 * j) ∷ [])) (zero-add (length (owned g d s)))
+            ∙ shuffle (chainHolds g d (hit g d s) (length (slots g d)) s) (allows m (leastOf g d s) 0 (owned g d s)) (allows met 1 0 (chain g d s)) (leb (sectorCount g d s) (5 * length (owned g d s)))
+            ∙ all-three (sym fit) refl refl;
+        map = w′ .map;
+        meets = w′ .meets;
+      }
+
+  -- One slot ------------------------------------------------------------------------------------------------------------------
+
+  seen-no : {m m′ met met′ : List ℕ} → slotFits g d s ≡ false → Seen g d (s ∷ []) m m′ met met′ false
+  unfolding slotsFit
+  seen-no h =
+      record { answer = sym (all-no (ap (λ (b : Bool). b && true) h) _); map = λ q. not-both q refl; meets = λ q. not-both q refl }
+
+  -- no file starts here
+  seen-plain : {m met : List ℕ} {r : Bool} → primary g d s ≡ false → r ≡ hitHolds g d s → Seen g d (s ∷ []) m m met met r
+  unfolding slotsFit slotFits opens ownedOf chainOf allows marked all any
+  seen-plain h e = record { answer = rw (h, e, and-true, and-true, and-true); map = λ q. rw h; meets = λ q. rw h }
+
+  hit-is : {h : ℕ} {a b : Bool} → h ≡ hit g d s → eqb h 0 ≡ a → inUse g d s ≡ b → hitHolds g d s ≡ Bool·beq (not a) b
+  unfolding hitHolds
+  hit-is {h} {a} {b} e p q = ap (λ (k : ℕ). Bool·beq (not (eqb k 0)) (inUse g d s)) (sym e) ∙ rw (p, q)
+
+  -- a HIT byte of 0
+  pub seen-free : {m met : List ℕ} {h f : ℕ} → h ≡ hit g d s → h ≡ 0 → f ≡ field g d s 0 → Seen g d (s ∷ []) m m met met (not (eqb (f / 2 ^ 4 % 2) 1))
+  unfolding slotFits
+  seen-free {m} {met} {h} {f} e z q = rw (ap (λ (k : ℕ). eqb k 1) (sym (digit-at 4 f)) ∙ ap (bit 4) q) (by (inUse g d s) refl)
+    where
+      by : (b : Bool) → inUse g d s ≡ b → Seen g d (s ∷ []) m m met met (not (inUse g d s))
+      by true u = rw u (seen-no (all-no (hit-is e (eq-eqb _ _ z) u) _))
+      by false u = rw u (seen-plain (ap (λ (b : Bool). b && not (extension g d s)) u) (sym (hit-is e (eq-eqb _ _ z) u)))
+
+  pub seen-unused : {m m′ met met′ : List ℕ} {h f : ℕ} → h ≡ hit g d s → (h ≡ 0 → ⊥) → f ≡ field g d s 0 → (f / 2 ^ 4 % 2 ≡ 1 → ⊥) → Seen g d (s ∷ []) m m′ met met′ false
+  unfolding slotFits
+  seen-unused {f = f} e z q n = seen-no (all-no (hit-is e (ne-eqb _ _ z) (ap (bit 4) (sym q) ∙ bit-off 4 f n)) _)
+
+  pub seen-extension : {m met : List ℕ} {h f : ℕ} → h ≡ hit g d s → (h ≡ 0 → ⊥) → f ≡ field g d s 0 → f / 2 ^ 4 % 2 ≡ 1 → f / 2 ^ 7 % 2 ≡ 1 → Seen g d (s ∷ []) m m met met true
+  seen-extension {f = f} e z q n x =
+      let u : inUse g d s ≡ true = ap (bit 4) (sym q) ∙ bit-on 4 f n in
+      let v : extension g d s ≡ true = ap (bit 7) (sym q) ∙ bit-on 7 f x in
+      seen-plain (rw (u, v)) (sym (hit-is e (ne-eqb _ _ z) u))
+
+  pub seen-file : {m m′ met met′ : List ℕ} {h f : ℕ} {r : Bool} → h ≡ hit g d s → (h ≡ 0 → ⊥) → f ≡ field g d s 0 → f / 2 ^ 4 % 2 ≡ 1 → (f / 2 ^ 7 % 2 ≡ 1 → ⊥)
+      → FileSeen g d s m m′ met met′ r → Seen g d (s ∷ []) m m′ met met′ r
+  unfolding slotsFit slotFits opens ownedOf chainOf
+  seen-file {m} {m′} {met} {met′} {h} {f} {r} e z q n x w =
+      let u : inUse g d s ≡ true = ap (bit 4) (sym q) ∙ bit-on 4 f n in
+      let v : extension g d s ≡ false = ap (bit 7) (sym q) ∙ bit-off 7 f x in
+      let p : primary g d s ≡ true = rw (u, v) in
+      let k : slotFits g d s ≡ fileFits g d s = all-yes (hit-is e (ne-eqb _ _ z) u) _ ∙ all-one _ ∙ any-skip (not-yes p) _ ∙ any-one (fileFits g d s) in
+      let own : ownedOf g d s ≡ owned g d s = rw p in
+      let cha : chainOf g d s ≡ chain g d s = rw p in
+      record {
+        answer =
+            w .answer
+            ∙ all-three (sym k ∙ sym (and-true (slotFits g d s))) (ap (allows m (leastOf g d s) 0) (sym own) ∙ sym (and-true (allows m (leastOf g d s) 0 (ownedOf g d s))))
+            (ap (allows met 1 0) (sym cha) ∙ sym (and-true (allows met 1 0 (chainOf g d s))));
+        map = λ t. w .map t ∙ ap (marked m 0) (sym own ∙ sym (Members.each-one (ownedOf g d) s));
+        meets = λ t. w .meets t ∙ ap (marked met 0) (sym cha ∙ sym (Members.each-one (chainOf g d) s));
+      }
+
+-- Slot after slot -------------------------------------------------------------------------------------------------------------
+
+pub opens-append : (low : ℕ → ℕ) (f : ℕ → List ℕ) (xs ys m : List ℕ) → opens m low f (xs ++ ys) ≡ (opens m low f xs && opens (marked m 0 (each f xs)) low f ys)
+unfolding opens marked
+opens-append low f [] ys m = refl
+opens-append low f (x ∷ xs) ys m =
+    ap (λ (b : Bool). allows m (low x) 0 (f x) && b) (opens-append low f xs ys (marked m 0 (f x)) ∙ ap (λ (l : List ℕ). opens (marked m 0 (f x)) low f xs && opens l low f ys) (sym (marked-append m 0 (f x) (each f xs))))
+    ∙ assoc (allows m (low x) 0 (f x)) (opens (marked m 0 (f x)) low f xs) (opens (marked m 0 (f x ++ each f xs)) low f ys)
+  where
+    assoc : (a b c : Bool) → (a && (b && c)) ≡ ((a && b) && c)
+    assoc true b c = refl
+    assoc false b c = refl
+
+regroup : (a b a′ b′ a″ b″ : Bool) → all ((a && b) ∷ (a′ && b′) ∷ (a″ && b″) ∷ []) ≡ (all (a ∷ a′ ∷ a″ ∷ []) && all (b ∷ b′ ∷ b″ ∷ []))
+unfolding all
+regroup false b a′ b′ a″ b″ = refl
+regroup true true false b′ a″ b″ = refl
+regroup true false false b′ a″ b″ = refl
+regroup true false true b′ true b″ = refl
+regroup true false true b′ false b″ = refl
+regroup true true true true false b″ = refl
+regroup true true true false false b″ = refl
+regroup true true true b′ true b″ = refl
+
+module _ (g : Geometry) (d : List ℕ) where
+  fit-append : (xs ys m met : List ℕ)
+      → slotsFit g d m met (xs ++ ys) ≡ (slotsFit g d m met xs && slotsFit g d (marked m 0 (each (ownedOf g d) xs)) (marked met 0 (each (chainOf g d) xs)) ys)
+  unfolding slotsFit
+  fit-append xs ys m met =
+      all-three (every-append (slotFits g d) xs ys) (opens-append (leastOf g d) (ownedOf g d) xs ys m) (opens-append one (chainOf g d) xs ys met)
+      ∙ regroup (every (slotFits g d) xs) (every (slotFits g d) ys) (opens m (leastOf g d) (ownedOf g d) xs) (opens (marked m 0 (each (ownedOf g d) xs)) (leastOf g d) (ownedOf g d) ys)
+      (opens met one (chainOf g d) xs) (opens (marked met 0 (each (chainOf g d) xs)) one (chainOf g d) ys)
+
+  -- what is left from here on is the whole
+  pub record Seeing (m₀ met₀ whole m met rest : List ℕ) : Type 0 where
+    pub answer : slotsFit g d m met rest ≡ slotsFit g d m₀ met₀ whole
+    pub map : marked m 0 (each (ownedOf g d) rest) ≡ marked m₀ 0 (each (ownedOf g d) whole)
+    pub meets : marked met 0 (each (chainOf g d) rest) ≡ marked met₀ 0 (each (chainOf g d) whole)
+
+  pub seeing-start : (m met : List ℕ) {xs whole : List ℕ} → xs ≡ whole → Seeing m met whole m met xs
+  seeing-start m met e =
+      record {
+        answer = ap (slotsFit g d m met) e;
+        map = ap (λ (l : List ℕ). marked m 0 (each (ownedOf g d) l)) e;
+        meets = ap (λ (l : List ℕ). marked met 0 (each (chainOf g d) l)) e;
+      }
+
+  -- the places that come next are some of the whole, and the others
+  pub seeing-as : {m₀ met₀ whole m met xs ys : List ℕ} → Seeing m₀ met₀ whole m met xs → xs ≡ ys → Seeing m₀ met₀ whole m met ys
+  seeing-as i e = rw e at i
+
+  pub seeing-step : {m₀ met₀ whole m m′ met met′ : List ℕ} {r : Bool} (xs rest : List ℕ) → Seeing m₀ met₀ whole m met (xs ++ rest) → Seen g d xs m m′ met met′ r → r ≡ true
+      → Seeing m₀ met₀ whole m′ met′ rest
+  seeing-step {m₀} {met₀} {whole} {m} {m′} {met} {met′} {r} xs rest i w t =
+      record {
+        answer =
+            ap (λ (l : List ℕ). slotsFit g d l met′ rest) (w .map t) ∙ ap (λ (l : List ℕ). slotsFit g d (marked m 0 (each (ownedOf g d) xs)) l rest) (w .meets t)
+            ∙ ap (λ (b : Bool). b && slotsFit g d (marked m 0 (each (ownedOf g d) xs)) (marked met 0 (each (chainOf g d) xs)) rest) (sym t ∙ w .answer)
+            ∙ sym (fit-append xs rest m met) ∙ i .answer;
+        map =
+            ap (λ (l : List ℕ). marked l 0 (each (ownedOf g d) rest)) (w .map t) ∙ sym (marked-append m 0 (each (ownedOf g d) xs) (each (ownedOf g d) rest))
+            ∙ ap (marked m 0) (sym (Members.each-append (ownedOf g d) xs rest)) ∙ i .map;
+        meets =
+            ap (λ (l : List ℕ). marked l 0 (each (chainOf g d) rest)) (w .meets t) ∙ sym (marked-append met 0 (each (chainOf g d) xs) (each (chainOf g d) rest))
+            ∙ ap (marked met 0) (sym (Members.each-append (chainOf g d) xs rest)) ∙ i .meets;
+      }
+
+  pub seeing-stop : {m₀ met₀ whole m m′ met met′ m″ met″ : List ℕ} {r : Bool} (xs rest : List ℕ) → Seeing m₀ met₀ whole m met (xs ++ rest) → Seen g d xs m m′ met met′ r → r ≡ false
+      → Seen g d whole m₀ m″ met₀ met″ false
+  seeing-stop {m₀} {met₀} {whole} {m} {m′} {met} xs rest i w t =
+      record {
+        answer =
+            ap (λ (b : Bool). b && slotsFit g d (marked m 0 (each (ownedOf g d) xs)) (marked met 0 (each (chainOf g d) xs)) rest) (sym t ∙ w .answer)
+            ∙ sym (fit-append xs rest m met) ∙ i .answer;
+        map = λ q. not-both q refl;
+        meets = λ q. not-both q refl;
+      }
+
+  pub seeing-end : {m₀ met₀ whole m met : List ℕ} → Seeing m₀ met₀ whole m met [] → Seen g d whole m₀ m met₀ met true
+  unfolding slotsFit opens marked all
+  seeing-end i = record { answer = i .answer; map = λ q. i .map; meets = λ q. i .meets }
+
+  -- Rows
+  abbrev pub rowsFrom : ℕ → List ℕ
+  rowsFrom row = each (rowSlots g d) (count row (8 - row))
+
+  pub rows-more : {row : ℕ} → row < 8 → rowsFrom row ≡ rowSlots g d row ++ rowsFrom (row + 1)
+  rows-more h = ap (each (rowSlots g d)) (count-more h)
+
+  pub rows-no : (p : ℕ → Bool) {row : ℕ} → row < 8 → every p (rowSlots g d row) ≡ false → every p (rowsFrom row) ≡ false
+  rows-no p {row} h e = ap (every p) (rows-more h) ∙ every-append p (rowSlots g d row) (rowsFrom (row + 1)) ∙ ap (λ (b : Bool). b && every p (rowsFrom (row + 1))) e
+
+  pub rows-yes : (p : ℕ → Bool) {row : ℕ} → row < 8 → every p (rowSlots g d row) ≡ true → every p (rowsFrom row) ≡ every p (rowsFrom (row + 1))
+  rows-yes p {row} h e = ap (every p) (rows-more h) ∙ every-append p (rowSlots g d row) (rowsFrom (row + 1)) ∙ ap (λ (b : Bool). b && every p (rowsFrom (row + 1))) e
+
+  -- one row, as the code counts its slots
+  pub row-count : (row : ℕ) {k : ℕ} → k ≡ directorySectors g d → count (32 * row) (32 * row + (k - 2) - 32 * row) ≡ rowSlots g d row
+  unfolding rowSlots
+  row-count row {k} e =
+      let f : 32 * row + (k - 2) - 32 * row ≡ k - 2 = omega arith in
+      ap (count (32 * row)) (f ∙ ap (λ (j : ℕ). j - 2) e)
+
+  pub met-yes : (met : List ℕ) (s : ℕ) → getD met s 0 ≡ 0 → true ≡ any (eqb (getD met s 0) 0 ∷ eqb (hit g d s) 0 ∷ [])
+  met-yes met s e = sym (Members.T-true (Members.any-l (eqb (getD met s 0) 0) (eqb (hit g d s) 0) (Members.eq-T e)))
+
+  pub rows-none : {row : ℕ} → 8 ≤ row → rowsFrom row ≡ []
+  rows-none h = ap (each (rowSlots g d)) (count-none h)
+
+slotsFor : ℕ → List ℕ
+slotsFor n = keep (λ s. all (ltb s 256 ∷ ltb (s % 32 + 2) n ∷ [])) (count 0 256)
+
+rowsFor : ℕ → List ℕ
+rowsFor n = each (λ row. count (32 * row) (n - 2)) (count 0 8)
+
+rows-all : allBelow 21 (λ k. same (rowsFor (10 + k)) (slotsFor (10 + k))) ≡ true
+unfolding all slotsFor rowsFor
+rows-all = refl
+
+rows-for : (k : ℕ) → k < 21 → rowsFor (10 + k) ≡ slotsFor (10 + k)
+rows-for k h = Members.same-eq _ _ (Members.true-T (all-below 21 (λ k. same (rowsFor (10 + k)) (slotsFor (10 + k))) rows-all k h))
+
+row-list : (g : Geometry) (d : List ℕ) → rowsFrom g d 0 ≡ rowsFor (directorySectors g d)
+unfolding rowSlots rowsFor
+row-list g d = refl
+
+slot-list : (g : Geometry) (d : List ℕ) → slotsFor (directorySectors g d) ≡ slots g d
+unfolding slots isSlot slotsFor
+slot-list g d = refl
+
+pub rows-are : (g : Geometry) (d : List ℕ) → Room g d → rowsFrom g d 0 ≡ slots g d
+rows-are g d r =
+    let e : 10 + (directorySectors g d - 10) ≡ directorySectors g d = let t = r .ten in omega arith in
+    row-list g d ∙ ap rowsFor (sym e) ∙ rows-for (directorySectors g d - 10) (let t = r .thirty in omega arith) ∙ ap slotsFor e ∙ slot-list g d

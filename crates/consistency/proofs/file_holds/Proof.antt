@@ -1,0 +1,97 @@
+use native.Mathlib.Omega.{arith}
+use Rattle.consistency.proofs.Laws.{file-bit, file-name, file-count, file-walk, two}
+use Rattle.layout.proofs.Lists.{is-no, is-yes}
+use Prim.Native.Nat.{ℕ, _+_, _*_}
+use mathlib.Core.Path.{_≡_, refl, sym, ap, _∙_}
+use borrow.Author.Needs.{needs}
+use Rattle.consistency.proofs.file_holds.Statement.{statement}
+use Rattle.consistency.proofs.file_holds.Tie as tie
+use Rattle.consistency.proofs.file_holds.Reads as reads
+use Rattle.consistency.proofs.file_holds.Lts as lts
+use Rattle.consistency.proofs.count_holds.Reads as count-holds-reads
+use Rattle.consistency.proofs.least_of.Reads as least-of-reads
+use Rattle.consistency.proofs.name_holds.Reads as name-holds-reads
+use Rattle.layout.proofs.directory_sectors.Reads as directory-sectors-reads
+use Rattle.walk.proofs.entry_walk.Reads as entry-walk-reads
+use Rattle.walk.proofs.field_at.Reads as field-at-reads
+
+-- src/lib.rt:75:9
+returns : tie.Need-returns
+returns c = file-bit _ _ _ (c .before .before .pre .2) (c .if1 .taken)
+
+-- src/lib.rt:77:9
+name-holds-requires : tie.Need-name-holds-requires
+name-holds-requires c κs = search needs
+
+-- src/lib.rt:78:9
+returns-2 : tie.Need-returns-2
+returns-2 c = file-name _ _ _ (c .before .before .before .before .pre .3) (is-no (c .before .name-holds .ensures) (c .if2 .taken))
+
+-- src/lib.rt:80:13
+field-at-requires : tie.Need-field-at-requires
+field-at-requires c κs = search needs
+
+-- src/lib.rt:80:59
+field-at-requires-2 : tie.Need-field-at-requires-2
+field-at-requires-2 c κs = search needs
+
+-- src/lib.rt:80:53
+mul-n : tie.Need-mul-n
+mul-n c = search needs
+
+-- src/lib.rt:80:13
+add-n : tie.Need-add-n
+add-n c = search needs
+
+-- src/lib.rt:81:9
+count-holds-requires : tie.Need-count-holds-requires
+count-holds-requires c κs = search needs
+
+-- src/lib.rt:82:9
+returns-3 : tie.Need-returns-3
+returns-3 c = file-count _ _ _ (two _ _ _ (c .before .before .before .field-at .ensures .is) (c .before .before .field-at2 .ensures .is)) (is-no (c .before .count-holds .ensures) (c .if3 .taken))
+
+-- src/lib.rt:84:21
+directory-sectors-requires : tie.Need-directory-sectors-requires
+directory-sectors-requires c κs = search needs
+
+-- src/lib.rt:84:21
+sub-left : tie.Need-sub-left
+sub-left c = search needs
+
+-- src/lib.rt:84:16
+mul-left : tie.Need-mul-left
+mul-left c = search needs
+
+-- src/lib.rt:85:48
+least-of-requires : tie.Need-least-of-requires
+least-of-requires c κs = search needs
+
+-- src/lib.rt:85:5
+entry-walk-requires : tie.Need-entry-walk-requires
+entry-walk-requires c κs = search needs
+
+-- src/lib.rt:61:1
+returns-4 : tie.Need-returns-4
+returns-4 c = file-walk _ _ _ (c .before .before .before .before .before .before .before .before .before .before .before .before .before .pre .0) (c .before .before .before .before .before .before .before .before .before .before .before .before .before .pre .2) (c .before .before .before .before .before .before .before .before .before .before .before .if1 .left) (c .before .before .before .before .before .before .before .before .before .before .before .before .before .pre .3) (is-yes (c .before .before .before .before .before .before .before .before .before .before .name-holds .ensures) (c .before .before .before .before .before .before .before .before .before .if2 .left)) (two _ _ _ (c .before .before .before .before .before .before .before .before .field-at .ensures .is) (c .before .before .before .before .before .before .before .field-at2 .ensures .is))
+    (is-yes (c .before .before .before .before .before .before .count-holds .ensures) (c .before .before .before .before .before .if3 .left)) (c .before .before .before .before .directory-sectors .ensures) refl (c .before .before .before .least-of .ensures) (c .entry-walk .ensures)
+
+pub file-holds-spec : {M : Type 1} → statement M
+file-holds-spec =
+    tie.close
+    (tie.spec
+    returns
+    name-holds-requires
+    returns-2
+    field-at-requires
+    field-at-requires-2
+    mul-n
+    add-n
+    count-holds-requires
+    returns-3
+    directory-sectors-requires
+    sub-left
+    mul-left
+    least-of-requires
+    entry-walk-requires
+    returns-4)
