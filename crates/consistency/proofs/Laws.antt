@@ -6,24 +6,25 @@ use Prim.Native.Nat.{ℕ, zero, suc, _+_, _-_, _*_, _/_, _%_, _^_, _≤_, _<_}
 use native.Mathlib.Omega.{arith}
 use native.Mathlib.Nat.{zero-add, mul-le-mul}
 use lib.Dec.{eqb, leb, ltb}
-use lib.ListN.{length, getD}
+use lib.ListN.{length, getD, take, drop}
 use borrow.Author.Tests.{eq-eqb, ne-eqb, le-leb, leb-true, eqb-true, not-false}
 use Rattle.meaning.specs.Lists.{count, every, each, keep, has, same, all, any}
 use Rattle.meaning.specs.Bits.{bit, digit}
 use Rattle.meaning.specs.Layout.{granules, fitsGeometry, field, hit, slots, isSlot, directorySectors, aboveTen}
-use Rattle.meaning.specs.Entries.{inUse, extension, primary, sectorCount, endByte, entryGranules}
+use Rattle.meaning.specs.Entries.{inUse, extension, primary, nameOf, sectorCount, endByte, entryGranules}
 use Rattle.meaning.specs.Chain.{chain, chainFrom, owned}
 use Rattle.meaning.specs.Consistent.{hitHolds, lengthHolds}
 use Rattle.meaning.specs.declared.Geometry.{Geometry}
 use Rattle.layout.specs.Room.{Room, Slot}
-use Rattle.layout.proofs.Laws.{digit-at, below}
+use Rattle.layout.proofs.Laws.{digit-at, below, name-part}
 use Rattle.layout.proofs.Lists.{all-at, all-yes, all-no, all-one, all-none, any-skip, is-no, is-yes, not-yes, not-no}
 use Rattle.layout.proofs.Sound.{low-twenty, fits-directory}
 use Rattle.seek.proofs.Laws.{slots-length}
 use Rattle.seek.proofs.Below.{allBelow, all-below}
 use Rattle.marks.specs.Marks.{marked, allows}
 use Rattle.marks.proofs.Laws.{marked-append, count-more, count-none}
-use Rattle.walk.specs.Walk.{Walked, chainHolds, granulesOf}
+use Rattle.walk.specs.Walk.{Place, Walked, chainHolds, granulesOf}
+use Rattle.meaning.specs.Names.{hash, wellFormed}
 use Rattle.walk.proofs.Lists.{not-both, on, off, all-out, every-append}
 use Rattle.walk.proofs.Laws.{any-one}
 use Rattle.laws.specs.Members
@@ -349,3 +350,23 @@ pub rows-are : (g : Geometry) (d : List ℕ) → Room g d → rowsFrom g d 0 ≡
 rows-are g d r =
     let e : 10 + (directorySectors g d - 10) ≡ directorySectors g d = let t = r .ten in omega arith in
     row-list g d ∙ ap rowsFor (sym e) ∙ rows-for (directorySectors g d - 10) (let t = r .thirty in omega arith) ∙ ap slotsFor e ∙ slot-list g d
+
+-- The name of an entry, as a part of the image: n is 11
+name-is : (g : Geometry) (d : List ℕ) {s at n : ℕ} → Room g d → Place g d s at → n ≡ 11 → take n (drop (at + 5) d) ≡ nameOf g d s
+name-is g d {s} {at} {n} r p e =
+    let l = p .slot .low in
+    let h = p .slot .held in
+    let w = r .whole in
+    let t = r .directory in
+    ap (λ (k : ℕ). take k (drop (at + 5) d)) e ∙ ap (λ (k : ℕ). take 11 (drop (k + 5) d)) (p .is) ∙ sym (name-part g d s (omega arith))
+
+pub name-no : (g : Geometry) (d : List ℕ) (h : ℕ) {s at n : ℕ} {f : Bool} → Room g d → Place g d s at → n ≡ 11 → f ≡ wellFormed (take n (drop (at + 5) d)) → not f ≡ true
+    → false ≡ nameFits g d h s
+unfolding nameFits
+name-no g d h r p e w t = sym (all-no (ap wellFormed (sym (name-is g d r p e)) ∙ is-no w t) _)
+
+pub name-yes : (g : Geometry) (d : List ℕ) (h : ℕ) {s at n x : ℕ} {f : Bool} → Room g d → Place g d s at → n ≡ 11 → f ≡ wellFormed (take n (drop (at + 5) d)) → not f ≡ false
+    → x ≡ hash (take n (drop (at + 5) d)) → eqb h x ≡ nameFits g d h s
+unfolding nameFits
+name-yes g d h r p e w t q =
+    ap (eqb h) (q ∙ ap hash (name-is g d r p e)) ∙ sym (all-yes (ap wellFormed (sym (name-is g d r p e)) ∙ is-yes w t) _ ∙ all-one _)

@@ -28,7 +28,7 @@ fn length_holds(image: &[u8], g: Geometry) -> bool
     if above % 5 != 0 {
         return false;
     }
-    g.start + (10 + above) <= layout::granules(g) * 5
+    g.start + (10 + above) <= layout::granules(g) * layout::GRANULE_SECTORS
 }
 
 // Whether the name of the entry is well formed and its hash is h.
@@ -36,7 +36,12 @@ fn name_holds(image: &[u8], g: Geometry, s: usize, at: usize, h: usize) -> bool
     requires { ⌜ Room g (now image) × Place g (now image) s at ⌝ }
     ensures { λ r. ⌜ r ≡ nameFits g (now (image .entry)) h s ⌝ }
 {
-    true
+    let a = at + 5;
+    let e = a + 11;
+    if !find::well_formed(&image[a..e]) {
+        return false;
+    }
+    h == names::hash(&image[a..e])
 }
 
 // n = 0 only with e = 0.
@@ -194,14 +199,6 @@ fn all_met(image: &[u8], g: Geometry, met: &[u8; 256]) -> bool
     true
 }
 
-// Whether no two files have the same name.
-fn names_differ(image: &[u8], g: Geometry) -> bool
-    requires { ⌜ Room g (now image) ⌝ }
-    ensures { λ r. ⌜ r ≡ namesDiffer g (now (image .entry)) (files g (now (image .entry))) ⌝ }
-{
-    true
-}
-
 // Whether the disk is consistent. The geometry and the image's length fit.
 pub fn consistent(image: &[u8], g: Geometry) -> bool
     requires { ⌜ Fits g (now image) ⌝ }
@@ -214,8 +211,8 @@ pub fn consistent(image: &[u8], g: Geometry) -> bool
     marks::taken_map(image, g, &mut map);
     if !marks::mark_run(
         &mut map,
-        g.start / 5,
-        layout::directory_sectors(image, g) / 5,
+        g.start / layout::GRANULE_SECTORS,
+        layout::directory_sectors(image, g) / layout::GRANULE_SECTORS,
         2,
         1,
     ) {
@@ -228,7 +225,7 @@ pub fn consistent(image: &[u8], g: Geometry) -> bool
     if !all_met(image, g, &met) {
         return false;
     }
-    names_differ(image, g)
+    names::names_differ(image, g)
 }
 
 // The check of a whole disk: 0, 1 where the geometry or the image's length does not fit, 2 where the disk is not consistent.

@@ -33,9 +33,11 @@ module _ (g : Geometry) (d : List ℕ) (s k least : ℕ) where
   pub takes-unit : {m m′ : List ℕ} {x : ℕ} → x ≡ second g d s k → g .units ≤ x / 32 → TakesRun g d s k least m m′ 0
   takes-unit e h = taken-not (all-no (all-no (le-ltb _ _ (rw e at h)) _) _)
 
-  pub takes-disk : {m m′ : List ℕ} {x y w : ℕ} → x ≡ second g d s k → y ≡ block g d s k → w ≡ granules g → w < y * g .units + x / 32 + (1 + x % 32)
+  pub takes-disk : {m m′ : List ℕ} {x y w : ℕ} → x ≡ second g d s k → y ≡ block g d s k → w ≡ granules g → w ≤ y * g .units + x / 32 + x % 32
       → TakesRun g d s k least m m′ 0
-  takes-disk e f q h = taken-not (all-no (all-out _ 1 (lt-leb _ _ (rw (e, f, q) at h))) _)
+  takes-disk {m} {m′} {x} {y} {w} e f q h =
+      let l : w < y * g .units + x / 32 + (1 + x % 32) = omega arith in
+      taken-not (all-no (all-out _ 1 (lt-leb _ _ (rw (e, f, q) at l))) _)
 
   pub takes-map : {m m′ : List ℕ} {x y : ℕ} {r : Bool} → x ≡ second g d s k → y ≡ block g d s k
       → Marks m least 0 (count (y * g .units + x / 32) (1 + x % 32)) m′ r → not r ≡ true → TakesRun g d s k least m m′ 0
@@ -44,9 +46,10 @@ module _ (g : Geometry) (d : List ℕ) (s k least : ℕ) where
       taken-not (all-out _ 1 (is-no (w′ .answer) h))
 
   pub takes-run : {m m′ : List ℕ} {x y w : ℕ} {r : Bool} → x ≡ second g d s k → y ≡ block g d s k → w ≡ granules g → x / 32 < g .units
-      → y * g .units + x / 32 + (1 + x % 32) ≤ w → Marks m least 0 (count (y * g .units + x / 32) (1 + x % 32)) m′ r → not r ≡ false
+      → y * g .units + x / 32 + x % 32 < w → Marks m least 0 (count (y * g .units + x / 32) (1 + x % 32)) m′ r → not r ≡ false
       → TakesRun g d s k least m m′ (1 + x % 32)
   takes-run {m} {m′} {x} {y} {w} {r} e f q u l k′ h =
+      let l′ : y * g .units + x / 32 + (1 + x % 32) ≤ w = omega arith in
       let w′ : Marks m least 0 (runGranules g d s k) m′ r = rw (e, f) at k′ in
       record {
         small = omega arith;
@@ -55,7 +58,7 @@ module _ (g : Geometry) (d : List ℕ) (s k least : ℕ) where
             λ z.
             record {
               length-is = ap (λ (v : ℕ). 1 + v % 32) e;
-              holds = all-yes (lt-ltb _ _ (rw e at u)) _ ∙ all-yes (le-leb _ _ (rw (e, f, q) at l)) _ ∙ all-none;
+              holds = all-yes (lt-ltb _ _ (rw e at u)) _ ∙ all-yes (le-leb _ _ (rw (e, f, q) at l′)) _ ∙ all-none;
               allowed = is-yes (w′ .answer) h;
               map = w′ .map (not-false r h);
             };

@@ -44,10 +44,10 @@ fn take_run(
         return 0;
     }
     let a = field_at(image, g, s, at, 0x16 + 2 * k) * g.units + second / 32;
-    let n = 1 + second % 32;
-    if layout::granules(g) < a + n {
+    if layout::granules(g) <= a + second % 32 {
         return 0;
     }
+    let n = 1 + second % 32;
     if !marks::mark_run(map, a, n, least, 0) {
         return 0;
     }
@@ -213,7 +213,7 @@ fn marker_walk(
         (now (map .entry)) (now (map .exit)) (now (met .entry)) (now (met .exit)) r ⌝ }
 {
     if field_at(image, g, s, at, 0x1e) == 0xff {
-        return sectors <= 5 * owned;
+        return sectors <= layout::GRANULE_SECTORS * owned;
     }
     if !goes_on(image, g, s, at, runs, h) {
         return false;

@@ -1,3 +1,4 @@
+use Rattle.consistency.proofs.Whole.{way-hashed}
 use Rattle.consistency.proofs.Whole.{no-length, no-directory, directory-as, way-slots, way-met, way-names}
 use Rattle.consistency.proofs.Laws.{room-of}
 use Rattle.layout.proofs.Lists.{is-no, is-yes}
@@ -14,7 +15,7 @@ use Rattle.consistency.proofs.consistent.Reads as reads
 use Rattle.consistency.proofs.consistent.Lts as lts
 use Rattle.consistency.proofs.all_met.Reads as all-met-reads
 use Rattle.consistency.proofs.length_holds.Reads as length-holds-reads
-use Rattle.consistency.proofs.names_differ.Reads as names-differ-reads
+use Rattle.names.proofs.names_differ.Reads as names-differ-reads
 use Rattle.consistency.proofs.slots_hold.Reads as slots-hold-reads
 use Rattle.layout.proofs.directory_sectors.Reads as directory-sectors-reads
 use Rattle.marks.proofs.mark_run.Reads as mark-run-reads
@@ -64,7 +65,13 @@ returns-4 c = way-met _ _ (room-of _ _ (c .before .before .before .before .befor
 
 -- src/lib.rt:221:5
 names-differ-requires : tie.Need-names-differ-requires
-names-differ-requires c κs = room-of _ _ (c .before .before .before .before .before .before .before .before .before .before .before .before .before .before .before .before .before .pre) (is-yes (c .before .before .before .before .before .before .before .before .before .before .before .before .before .before .before .length-holds .ensures) (c .before .before .before .before .before .before .before .before .before .before .before .before .before .before .if1 .left))
+names-differ-requires c κs = (
+  room-of _ _ (c .before .before .before .before .before .before .before .before .before .before .before .before .before .before .before .before .before .pre) (is-yes (c .before .before .before .before .before .before .before .before .before .before .before .before .before .before .before .length-holds .ensures) (c .before .before .before .before .before .before .before .before .before .before .before .before .before .before .if1 .left)),
+  record {
+    hashed = way-hashed _ _ (room-of _ _ (c .before .before .before .before .before .before .before .before .before .before .before .before .before .before .before .before .before .pre) (is-yes (c .before .before .before .before .before .before .before .before .before .before .before .before .before .before .before .length-holds .ensures) (c .before .before .before .before .before .before .before .before .before .before .before .before .before .before .if1 .left))) (c .before .before .before .before .before .before .before .before .before .before .before .before .taken-map .ensures) (directory-as _ _ (c .before .before .before .before .before .before .before .before .before .directory-sectors .ensures) (c .before .before .before .before .before .before .before .before .mark-run .ensures)) (not-false _ (c .before .before .before .before .before .before .before .if2 .left))
+        (c .before .before .before .before .slots-hold .ensures) (not-false _ (c .before .before .before .if3 .left)) (c .before .all-met .ensures) (not-false _ (c .if4 .left)) (is-yes (c .before .before .before .before .before .before .before .before .before .before .before .before .before .before .before .length-holds .ensures) (c .before .before .before .before .before .before .before .before .before .before .before .before .before .before .if1 .left)) (λ i. c .before .before .before .before .before .before .before .before .before .before .before .before .before .before .before .before .shared-slice-known .given i .fits);
+  },
+)
 
 -- src/lib.rt:196:1
 returns-5 : tie.Need-returns-5

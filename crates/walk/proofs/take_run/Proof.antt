@@ -46,10 +46,6 @@ mul-a c = omega (arith, below (c .before .field-at2 .result) (c .before .before 
 add-a : tie.Need-add-a
 add-a c = omega (arith, below (c .before .field-at2 .result) (c .before .before .before .before .before .before .args .g .units) 255 8 (omega arith) (omega arith))
 
--- src/lib.rt:47:13
-add-n : tie.Need-add-n
-add-n c = search needs
-
 -- src/lib.rt:48:8
 granules-requires : tie.Need-granules-requires
 granules-requires c κs = search needs
@@ -61,6 +57,10 @@ add-if2 c = omega (arith, below (c .before .before .field-at2 .result) (c .befor
 -- src/lib.rt:49:9
 returns-2 : tie.Need-returns-2
 returns-2 c = takes-disk _ _ _ _ _ (c .before .before .before .before .before .before .field-at .ensures .is) (c .before .before .before .field-at2 .ensures .is) (c .before .granules .ensures .0) (c .if2 .taken)
+
+-- src/lib.rt:47:13
+add-n : tie.Need-add-n
+add-n c = search needs
 
 -- src/lib.rt:51:9
 mark-run-requires : tie.Need-mark-run-requires
@@ -87,10 +87,10 @@ take-run-spec =
     field-at-requires-2
     mul-a
     add-a
-    add-n
     granules-requires
     add-if2
     returns-2
+    add-n
     mark-run-requires
     returns-3
     returns-4)
