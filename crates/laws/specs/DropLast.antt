@@ -8,7 +8,7 @@ use native.Mathlib.Omega.{arith}
 use lib.ListN.{length, set, length-set}
 use lib.Seq.{getD-set-same, getD-set-other}
 use lib.Dec.{T, eqb, ltb, T-not, not-T, eqb→eq, ltb→lt, nltb→le}
-use Rattle.meaning.specs.Layout.{byte, isSlot, freeGranule, field, setField, gatAt, hitAt, entryAt, granules, hit, directoryGranules, directorySectors, granuleBytes}
+use Rattle.meaning.specs.Layout.{byte, isSlot, freeGranule, field, setField, gatAt, hitAt, entryAt, granules, hit, directoryGranules, directorySectors, granuleBytes, mostBlocks}
 use Rattle.meaning.specs.Bits.{bit, digit}
 use Rattle.meaning.specs.Entries.{inUse, extension, system, marker, link, runs, runStart, runLength, entryGranules, sizeOf}
 use Rattle.meaning.specs.Chain.{chain, owned}
@@ -73,7 +73,7 @@ module _ (g : Geometry) (d : List ℕ) (c : Sound g d) (k : Places.Fits g d) (p 
   m-lt : m < granules g
   m-lt = omega (arith, entry .run 0 (omega (arith, one)) .inside)
 
-  block-m : m / g .units < 192
+  block-m : m / g .units < mostBlocks
   block-m = omega (arith, Places.block-lt g d m k m-lt, k .blocks-hi)
 
   room : entryAt g e + 32 ≤ length d

@@ -10,7 +10,7 @@ use native.Mathlib.Nat.{mod-lt}
 use lib.ListN.{length, length-append}
 use lib.Dec.{T, eqb}
 use Rattle.meaning.specs.Lists.{count, each}
-use Rattle.meaning.specs.Layout.{byte, isSlot, slots, taken, field, granules, hit, directoryGranules, granuleBytes, aboveTen}
+use Rattle.meaning.specs.Layout.{byte, isSlot, slots, taken, field, granules, hit, directoryGranules, granuleBytes, aboveTen, mostBlocks}
 use Rattle.meaning.specs.Entries.{inUse, extension, system, marker, link, block, nameOf, runs, runStart, runLength, entryGranules}
 use Rattle.meaning.specs.Chain.{chain, owned, chainFrom}
 use Rattle.meaning.specs.Growth.{tail}
@@ -47,7 +47,7 @@ pub record Extends (g : Geometry) (d d′ : List ℕ) (p x m : ℕ) : Type 0 whe
   pub second : field g d′ x 0x17 ≡ m % g .units * 32
   pub ffs : (k : ℕ) → 0x18 ≤ k → k < 32 → field g d′ x k ≡ 0xff
   pub units : 0 < g .units
-  pub small : m / g .units < 192
+  pub small : m / g .units < mostBlocks
   pub inside : m < granules g
   pub free : T (taken g d m) → ⊥
   pub set′ : T (taken g d′ m)

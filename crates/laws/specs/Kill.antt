@@ -10,7 +10,7 @@ use lib.ListN.{length, set, length-set}
 use lib.Seq.{getD-set-same, getD-set-other}
 use lib.Dec.{T}
 use Rattle.meaning.specs.Lists.{through}
-use Rattle.meaning.specs.Layout.{byte, isSlot, taken, freeGranule, field, gatAt, hitAt, entryAt, granules, hit, directoryGranules, granuleBytes, aboveTen, directorySectors}
+use Rattle.meaning.specs.Layout.{byte, isSlot, taken, freeGranule, field, gatAt, hitAt, entryAt, granules, hit, directoryGranules, granuleBytes, aboveTen, directorySectors, mostBlocks}
 use Rattle.meaning.specs.Bits.{putDigit}
 use Rattle.meaning.specs.Entries.{inUse, system}
 use Rattle.meaning.specs.Chain.{chain, owned}
@@ -58,7 +58,7 @@ module _ (g : Geometry) (d : List ℕ) (c : Sound g d) (k : Places.Fits g d) (p 
       ∙ Places.through-keeps (λ l. byte l i) (freeGranule g) (owned g d p) d (λ l n j. getD-set-other l (gatAt g n) i _ 0 (a n j))
 
   -- the places that kill writes to
-  owned-block : (n : ℕ) → In n (owned g d p) → n / g .units < 192
+  owned-block : (n : ℕ) → In n (owned g d p) → n / g .units < mostBlocks
   owned-block n i = omega (arith, Places.block-lt g d n k (Change.owned-lt g d c p n f i), k .blocks-hi)
 
   chain-slot : (x : ℕ) → In x (chain g d p) → Places.Slot g d x

@@ -35,8 +35,8 @@ getD-in (x ∷ xs) (suc i) h = Members.In.there (getD-in xs i (omega arith))
 pub place-in : (g : Geometry) (d : List ℕ) (p i : ℕ) → i < granuleBytes * length (owned g d p) → In (place g d p i / granuleBytes) (owned g d p)
 unfolding place
 place-in g d p i h =
-    let e : (1280 * getD (owned g d p) (i / 1280) 0 + i % 1280) / 1280 ≡ getD (owned g d p) (i / 1280) 0 = omega arith in
-    rw e (getD-in (owned g d p) (i / 1280) (omega arith))
+    let e : (granuleBytes * getD (owned g d p) (i / granuleBytes) 0 + i % granuleBytes) / granuleBytes ≡ getD (owned g d p) (i / granuleBytes) 0 = omega arith in
+    rw e (getD-in (owned g d p) (i / granuleBytes) (omega arith))
 
 -- outside the directory and the file's granules, before and after, nothing changed
 abbrev pub Same : Geometry → List ℕ → List ℕ → ℕ → Type 0

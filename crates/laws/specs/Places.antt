@@ -10,7 +10,7 @@ use lib.ListN.{length, set, length-set}
 use lib.Seq.{getD-set-same, getD-set-other, set-out, sets}
 use lib.Dec.{T, eqb, leb, ltb, eqb→eq, ltb→lt, leb→le}
 use Rattle.meaning.specs.Lists.{count, has, through}
-use Rattle.meaning.specs.Layout.{fitsGeometry, byte, isSlot, taken, gatAt, granules, directoryGranules, granuleBytes, granuleSectors, aboveTen, directorySectors, sectors}
+use Rattle.meaning.specs.Layout.{fitsGeometry, byte, isSlot, taken, gatAt, granules, directoryGranules, granuleBytes, granuleSectors, aboveTen, directorySectors, sectors, mostBlocks, mostUnits}
 use Rattle.meaning.specs.Bits.{digit, putDigit}
 use Rattle.meaning.specs.Entries.{runs, runStart, runLength, runGranules, entryGranules}
 use Rattle.meaning.specs.Consistent.{lengthHolds}
@@ -23,10 +23,10 @@ use Rattle.laws.specs.Words.{words}
 
 pub record Fits (g : Geometry) (d : List ℕ) : Type 0 where
   pub blocks-lo : 1 ≤ g .blocks
-  pub blocks-hi : g .blocks ≤ 192
+  pub blocks-hi : g .blocks ≤ mostBlocks
   pub units-lo : 1 ≤ g .units
-  pub units-hi : g .units ≤ 8
-  pub start-at : g .start % 5 ≡ 0
+  pub units-hi : g .units ≤ mostUnits
+  pub start-at : g .start % granuleSectors ≡ 0
   pub size : length d ≡ granules g * granuleBytes
 
 pub record Dir (g : Geometry) (d : List ℕ) : Type 0 where
@@ -40,9 +40,9 @@ pub fits : (g : Geometry) (d : List ℕ) → T (fitsGeometry g d) → Fits g d
 unfolding fitsGeometry words
 fits g d t =
     let a : T (leb 1 (g .blocks)) = search parts depth 9 in
-    let b : T (leb (g .blocks) 192) = search parts depth 9 in
+    let b : T (leb (g .blocks) mostBlocks) = search parts depth 9 in
     let c : T (leb 1 (g .units)) = search parts depth 9 in
-    let e : T (leb (g .units) 8) = search parts depth 9 in
+    let e : T (leb (g .units) mostUnits) = search parts depth 9 in
     let f : T (eqb (g .start % granuleSectors) 0) = search parts depth 9 in
     let h : T (eqb (length d) (granules g * granuleBytes)) = search parts depth 9 in
     record { blocks-lo = leb→le _ _ a; blocks-hi = leb→le _ _ b; units-lo = leb→le _ _ c; units-hi = leb→le _ _ e; start-at = eqb→eq _ _ f; size = eqb→eq _ _ h }
@@ -80,7 +80,7 @@ directory-lt g d n f i =
     omega arith
 
 -- a place in no granule of the directory is in no sector of it
-pub outside : (g : Geometry) (d : List ℕ) (i : ℕ) → g .start % 5 ≡ 0 → Dir g d → (In (i / granuleBytes) (directoryGranules g d) → ⊥)
+pub outside : (g : Geometry) (d : List ℕ) (i : ℕ) → g .start % granuleSectors ≡ 0 → Dir g d → (In (i / granuleBytes) (directoryGranules g d) → ⊥)
     → (i < 256 * g .start) ⊎ (256 * (g .start + directorySectors g d) ≤ i)
 unfolding words
 outside g d i e f n = go (decLt i (256 * g .start)) (decLt i (256 * (g .start + directorySectors g d)))

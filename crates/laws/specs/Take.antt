@@ -11,7 +11,7 @@ use lib.ListN.{length, length-set}
 use lib.Seq.{getD-set-same, getD-set-other}
 use lib.Dec.{T, leb, ltb, T-not, ltb→lt, leb→le}
 use Rattle.meaning.specs.Lists.{count, each}
-use Rattle.meaning.specs.Layout.{byte, isSlot, taken, takeGranule, field, setField, gatAt, hitAt, entryAt, granules, hit, directoryGranules, directorySectors, granuleBytes, aboveTen}
+use Rattle.meaning.specs.Layout.{byte, isSlot, taken, takeGranule, field, setField, gatAt, hitAt, entryAt, granules, hit, directoryGranules, directorySectors, granuleBytes, aboveTen, mostBlocks}
 use Rattle.meaning.specs.Bits.{bit, digit}
 use Rattle.meaning.specs.Entries.{block, runStart, runLength, runGranules, runs, entryGranules}
 use Rattle.meaning.specs.Growth.{tail, after, lengthens, lengthened, withPair}
@@ -40,7 +40,7 @@ module _ (v : ℕ) (bv : v < 2) (g : Geometry) (d : List ℕ) (c : Sound g d) (k
   pub put-byte : (i : ℕ) → i ≢ gatAt g m → i ≢ entryAt g e + (0x16 + 2 * j) → i ≢ entryAt g e + (0x17 + 2 * j) → byte (Places.marked g v d₁ m) i ≡ byte d i
   put-byte i n a b = getD-set-other d₁ (gatAt g m) i _ 0 n ∙ out i a b
 
-  block-m : m / g .units < 192
+  block-m : m / g .units < mostBlocks
   block-m = omega (arith, Places.block-lt g d m k lm, k .blocks-hi)
 
   pub put-field : (x l : ℕ) → field g (Places.marked g v d₁ m) x l ≡ field g d₁ x l

@@ -9,7 +9,7 @@ use lib.ListN.{length, getD, length-set}
 use lib.Seq.{getD-set-same, getD-set-other, length-sets}
 use lib.Dec.{T, eqb, eqb→eq}
 use Rattle.meaning.specs.Lists.{count}
-use Rattle.meaning.specs.Layout.{byte, isSlot, taken, field, setField, gatAt, hitAt, entryAt, granules, hit, directoryGranules, directorySectors, granuleBytes, aboveTen}
+use Rattle.meaning.specs.Layout.{byte, isSlot, taken, field, setField, gatAt, hitAt, entryAt, granules, hit, directoryGranules, directorySectors, granuleBytes, aboveTen, mostBlocks}
 use Rattle.meaning.specs.Bits.{bit}
 use Rattle.meaning.specs.Entries.{marker, link, runs}
 use Rattle.meaning.specs.Growth.{tail, withPair, withExtension, newExtension}
@@ -59,7 +59,7 @@ module _ (g : Geometry) (d : List ℕ) (c : Sound g d) (k : Places.Fits g d) (p 
   e≢x : e ≢ x
   e≢x q = Change.used-hit g d c e (member .slot) (member .used) (rw q z)
 
-  block-n : n / g .units < 192
+  block-n : n / g .units < mostBlocks
   block-n = omega (arith, Places.block-lt g d n k inn, k .blocks-hi)
 
   L-byte : (i : ℕ) → i ≢ entryAt g e + 0x1e → i ≢ entryAt g e + 0x1f → byte L i ≡ byte d i

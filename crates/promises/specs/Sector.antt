@@ -8,7 +8,7 @@ use native.Mathlib.Omega.{arith}
 use lib.ListN.{length, getD, take, drop, length-take, length-drop}
 use lib.Seq.{getD-take, getD-drop, ext-getD, slice, length-slice}
 use lib.Dec.{eqb, leb, ltb, not-T, nltb→le, nleb→lt, eqb→eq}
-use Rattle.meaning.specs.Layout.{byte, entryAt, sectorNumbers}
+use Rattle.meaning.specs.Layout.{byte, entryAt, sectorNumbers, granuleBytes}
 use Rattle.meaning.specs.Entries.{sizeOf, sectorCount, endByte}
 use Rattle.meaning.specs.Chain.{place}
 use Rattle.meaning.specs.Lists.{all}
@@ -72,8 +72,8 @@ read-serves g d h b e =
 sector-places : (g : Geometry) (d : List ℕ) (p k j : ℕ) → j < 256 → place g d p (256 * k + j) ≡ place g d p (256 * k) + j
 unfolding place
 sector-places g d p k j h =
-    let a : (256 * k + j) / 1280 ≡ 256 * k / 1280 = omega arith in
-    let b : (256 * k + j) % 1280 ≡ 256 * k % 1280 + j = omega arith in
+    let a : (256 * k + j) / granuleBytes ≡ 256 * k / granuleBytes = omega arith in
+    let b : (256 * k + j) % granuleBytes ≡ 256 * k % granuleBytes + j = omega arith in
     rw (a, b) (omega arith)
 
 -- how many bytes of sector k are the file's

@@ -8,7 +8,7 @@ use native.Mathlib.Omega.{arith}
 use lib.ListN.{length, getD, length-set, replicate, length-replicate, getD-replicate}
 use lib.Seq.{getD-set-same, getD-set-other}
 use lib.Dec.{T, eqb, eqb→eq}
-use Rattle.meaning.specs.Layout.{byte, field, setField, gatAt, hitAt, entryAt, directoryGranules, directorySectors, granuleBytes, roundUp}
+use Rattle.meaning.specs.Layout.{byte, field, setField, gatAt, hitAt, entryAt, directoryGranules, directorySectors, granuleBytes, roundUp, granuleSectors}
 use Rattle.meaning.specs.Bits.{bit}
 use Rattle.meaning.specs.Entries.{sizeOf, system, sectorCount, endByte}
 use Rattle.meaning.specs.Chain.{owned, place}
@@ -25,9 +25,9 @@ use Rattle.laws.specs.Store.{store-length, store-other, store-at, place-inj, pl
 use Rattle.laws.specs.Words.{words}
 
 -- a place of the directory is in one of its granules
-pub in-directory : (g : Geometry) (d : List ℕ) (i : ℕ) → g .start % 5 ≡ 0 → Places.Dir g d → 256 * g .start ≤ i → i < 256 * (g .start + directorySectors g d) → In (i / granuleBytes) (directoryGranules g d)
+pub in-directory : (g : Geometry) (d : List ℕ) (i : ℕ) → g .start % granuleSectors ≡ 0 → Places.Dir g d → 256 * g .start ≤ i → i < 256 * (g .start + directorySectors g d) → In (i / granuleBytes) (directoryGranules g d)
 unfolding words
-in-directory g d i e f a b = Members.in-count (i / granuleBytes) (g .start / 5) (directorySectors g d / 5) (omega (arith, f .fives)) (omega (arith, f .fives))
+in-directory g d i e f a b = Members.in-count (i / granuleBytes) (g .start / granuleSectors) (directorySectors g d / granuleSectors) (omega (arith, f .fives)) (omega (arith, f .fives))
 
 size-says : (size : ℕ) → (size + 255) / 256 % 256 + 256 * ((size + 255) / 256 / 256) ≡ (size + 255) / 256
 size-says size = omega arith
