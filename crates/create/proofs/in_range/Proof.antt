@@ -1,0 +1,37 @@
+use Rattle.layout.proofs.Lists.{all-yes, all-no, all-one}
+use Rattle.meaning.specs.Refusals.{newInRange}
+use borrow.Author.Tests.{le-leb, lt-leb}
+use mathlib.Core.Path.{sym, _∙_}
+use native.Mathlib.Omega.{arith}
+use Rattle.create.proofs.in_range.Statement.{statement}
+use Rattle.create.proofs.in_range.Tie as tie
+use Rattle.create.proofs.in_range.Reads as reads
+use Rattle.create.proofs.in_range.Lts as lts
+
+-- src/lib.rt:19:9
+returns : tie.Need-returns
+unfolding newInRange
+returns c = sym (all-no (lt-leb _ _ (c .if1 .taken)) _)
+
+-- src/lib.rt:22:9
+returns-2 : tie.Need-returns-2
+unfolding newInRange
+returns-2 c = sym (all-yes (le-leb _ _ (c .before .before .if1 .left)) _ ∙ all-no (lt-leb _ _ (c .if2 .taken)) _)
+
+-- src/lib.rt:25:9
+returns-3 : tie.Need-returns-3
+unfolding newInRange
+returns-3 c = sym (all-yes (le-leb _ _ (c .before .before .before .before .if1 .left)) _ ∙ all-yes (le-leb _ _ (c .before .before .if2 .left)) _ ∙ all-no (lt-leb _ _ (c .if3 .taken)) _)
+
+-- src/lib.rt:28:9
+returns-4 : tie.Need-returns-4
+unfolding newInRange
+returns-4 c = sym (all-yes (le-leb _ _ (c .before .before .before .before .before .before .if1 .left)) _ ∙ all-yes (le-leb _ _ (c .before .before .before .before .if2 .left)) _ ∙ all-yes (le-leb _ _ (c .before .before .if3 .left)) _ ∙ all-no (lt-leb _ _ (c .if4 .taken)) _)
+
+-- src/lib.rt:15:1
+returns-5 : tie.Need-returns-5
+unfolding newInRange
+returns-5 c = sym (all-yes (le-leb _ _ (c .before .before .before .before .before .before .before .if1 .left)) _ ∙ all-yes (le-leb _ _ (c .before .before .before .before .before .if2 .left)) _ ∙ all-yes (le-leb _ _ (c .before .before .before .if3 .left)) _ ∙ all-yes (le-leb _ _ (c .before .if4 .left)) _ ∙ all-one _)
+
+pub in-range-spec : {M : Type 1} → statement M
+in-range-spec = tie.close (tie.spec returns returns-2 returns-3 returns-4 returns-5)

@@ -1,0 +1,124 @@
+// Create.
+use meaning::Created;
+use meaning::Geometry;
+use meaning::Handle;
+use meaning::NewFile;
+ghost use mathlib.Core.Path.{_≡_};
+ghost use mathlib.Core.Bool.{false, true};
+ghost use Prim.Native.Nat.{_+_, _*_, _<_, _≤_};
+ghost use lib.ListN.{length};
+ghost use Rattle.meaning.specs.Layout.{entryAt};
+ghost use Rattle.meaning.specs.Refusals.{check, newInRange, noHandle};
+ghost use Rattle.meaning.specs.Create.{create, withEntry};
+
+// Date and record length are in range.
+fn in_range(f: NewFile) -> bool
+    ensures { λ r. ⌜ r ≡ newInRange f ⌝ }
+{
+    if 31 < f.day {
+        return false;
+    }
+    if 15 < f.month {
+        return false;
+    }
+    if 15 < f.year {
+        return false;
+    }
+    if f.len < 1 {
+        return false;
+    }
+    f.len <= 256
+}
+
+// A new file of that name in slot x: all 32 bytes of its entry, and its HIT byte.
+fn put_entry(image: &mut [u8], g: Geometry, x: usize, name: &[u8], f: NewFile)
+    requires { ⌜ (entryAt g x + 32 ≤ length (now image)) × (x < 256) × (length (now name) ≡ 11) × (newInRange f ≡ true) ⌝ }
+    ensures { λ _. ⌜ now (image .exit) ≡ withEntry g (now (image .entry)) x (now (name .entry)) f ⌝ }
+{
+    let at = 256 * (g.start + 2 + x % 32) + 32 * (x / 32);
+    let date = f.year * 16 + f.month;
+    let start: [u8; 5] = [0x10, f.day as u8, date as u8, 0, (f.len % 256) as u8];
+    copy::put_part(image, at, &start, 0, 5);
+    copy::put_part(image, at + 5, name, 0, 11);
+    let rest: [u8; 16] = [
+        (f.main % 256) as u8,
+        (f.main / 256) as u8,
+        (f.worker % 256) as u8,
+        (f.worker / 256) as u8,
+        0,
+        0,
+        0xff,
+        0xff,
+        0xff,
+        0xff,
+        0xff,
+        0xff,
+        0xff,
+        0xff,
+        0xff,
+        0xff,
+    ];
+    copy::put_part(image, at + 16, &rest, 0, 16);
+    image[256 * (g.start + 1) + x] = names::hash(name) as u8;
+}
+
+// A refused create hands back a handle of zeros.
+fn refused(number: u8) -> Created
+    ensures { λ r. ⌜ r ≡ record { number = number; old = false; handle = noHandle } ⌝ }
+{
+    Created {
+        number,
+        old: false,
+        handle: find::no_handle(),
+    }
+}
+
+// Create on a disk whose check answered `checked`.
+pub fn create_checked(
+    image: &mut [u8],
+    g: Geometry,
+    name: &[u8],
+    f: NewFile,
+    checking: bool,
+    checked: u8,
+) -> Created
+    requires { ⌜ checked ≡ check g (now image) ⌝ }
+    ensures { λ r. ⌜ (r, now (image .exit)) ≡ create g (now (image .entry)) (now (name .entry)) f checking ⌝ }
+{
+    if checked != 0 {
+        return refused(checked);
+    }
+    if !in_range(f) {
+        return refused(12);
+    }
+    if !find::well_formed(name) {
+        return refused(3);
+    }
+    let found = find::find(image, g, name);
+    if found.is {
+        if !find::admits(image, g, found.slot, checking, f.main) {
+            return refused(5);
+        }
+        return Created {
+            number: 0,
+            old: true,
+            handle: find::opened_at(image, g, found.slot, name, f.len, checking, f.main),
+        };
+    }
+    let x = space::first_free_slot(image, g);
+    if x == 256 {
+        return refused(8);
+    }
+    put_entry(image, g, x, name, f);
+    Created {
+        number: 0,
+        old: false,
+        handle: Handle {
+            slot: x,
+            name: find::name_array(name),
+            at: 0,
+            len: f.len,
+            level: 0,
+        },
+    }
+}
