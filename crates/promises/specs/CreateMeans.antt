@@ -10,13 +10,13 @@ use lib.Dec.{T, eqb}
 use Rattle.meaning.specs.Lists.{firstOr}
 use Rattle.meaning.specs.Layout.{fitsGeometry, isSlot, hit}
 use Rattle.meaning.specs.Names.{wellFormed}
-use Rattle.meaning.specs.Entries.{system, nameOf}
+use Rattle.meaning.specs.Entries.{nameOf}
 use Rattle.meaning.specs.Chain.{chain}
 use Rattle.meaning.specs.Consistent.{consistent}
 use Rattle.meaning.specs.Free.{freeSlots, freeGranules}
 use Rattle.meaning.specs.Create.{create, newSlot}
 use Rattle.meaning.specs.LookUp.{named, missing}
-use Rattle.meaning.specs.Plain.{Found, found, nothing, fileAt, plain, hush, reserved, bornAs}
+use Rattle.meaning.specs.Plain.{Found, found, nothing, plain, hush, reserved, bornAs}
 use Rattle.meaning.specs.declared.Geometry.{Geometry}
 use Rattle.meaning.specs.declared.NewFile.{NewFile}
 use Rattle.laws.specs.Members
@@ -40,7 +40,6 @@ pub record CreateMeans (g : Geometry) (d d′ n : List ℕ) (f : NewFile) : Type
   pub beyond′ : (m : List ℕ) → m ≢ n → Others.beyond g d′ m ≡ Others.beyond g d m
   pub names′ : (m : List ℕ) → m ≢ n → named g d′ m ≡ named g d m
   pub was : plain g d n ≡ nothing
-  pub same′ : (q : ℕ) → Facts.File g d q → T (not (system g d q)) → fileAt g d′ q ≡ fileAt g d q
 
 create-made : (g : Geometry) (d : List ℕ) (c : Sound g d) (k : Places.Fits g d) (x : ℕ) (t : T (isSlot g d x)) (z : hit g d x ≡ 0)
     (n : List ℕ) (w : T (wellFormed n)) (f : NewFile) (free : (q : ℕ) → File g d q → nameOf g d q ≢ n)
@@ -62,7 +61,6 @@ create-made g d c k x t z n w f free =
       beyond′ = λ b e. Others.beyond-plain g d d′ c x h s b (λ q. absurd (no′ q)) (λ q a. e (sym a ∙ m));
       names′ = λ b e. Others.names-stay g d d′ c x h b (λ q. absurd (no′ q)) (λ q a. e (sym a ∙ m));
       was = Named.plain-none g d n free;
-      same′ = λ q a u. Others.others g d d′ c x h s q a (λ e. no′ (rw e at a)) u;
     }
 
 none-missing : (g : Geometry) (d : List ℕ) → Sound g d → (n : List ℕ) → T (missing g d n) → (q : ℕ) → File g d q → nameOf g d q ≢ n

@@ -6,15 +6,14 @@ use mathlib.Core.List.{List, []}
 use Prim.Native.Nat.{ℕ, _+_}
 use native.Mathlib.Omega.{arith}
 use lib.ListN.{length}
-use lib.Dec.{T}
 use Rattle.meaning.specs.Layout.{taken, granules}
-use Rattle.meaning.specs.Entries.{system, nameOf}
+use Rattle.meaning.specs.Entries.{nameOf}
 use Rattle.meaning.specs.Chain.{chain, owned}
 use Rattle.meaning.specs.Consistent.{consistent}
 use Rattle.meaning.specs.Free.{freeGranules}
 use Rattle.meaning.specs.LookUp.{named}
 use Rattle.meaning.specs.Kill.{kill, killed}
-use Rattle.meaning.specs.Plain.{nothing, fileAt, plain, hush, reserved}
+use Rattle.meaning.specs.Plain.{nothing, plain, hush, reserved}
 use Rattle.meaning.specs.declared.Geometry.{Geometry}
 use Rattle.meaning.specs.declared.Handle.{Handle}
 use Rattle.laws.specs.Members
@@ -37,7 +36,6 @@ pub record KillMeans (g : Geometry) (d d′ : List ℕ) (p : ℕ) : Type 0 where
   pub beyond′ : (n : List ℕ) → n ≢ nameOf g d p → Others.beyond g d′ n ≡ Others.beyond g d n
   pub names′ : (n : List ℕ) → n ≢ nameOf g d p → named g d′ n ≡ named g d n
   pub touch : Touch.Touch g (chain g d p) [] d d′
-  pub same′ : (q : ℕ) → Facts.File g d q → q ≢ p → T (not (system g d q)) → fileAt g d′ q ≡ fileAt g d q
 
 kill-free : (g : Geometry) (d : List ℕ) (c : Facts.Sound g d) (k : Places.Fits g d) (p : ℕ) (f : Facts.File g d p)
     → length (freeGranules g (killed g d p)) ≡ length (freeGranules g d) + length (owned g d p)
@@ -67,5 +65,4 @@ kill-means g d h e =
       touch = Touch.touch-killed g d (w .sound) p (w .file);
       beyond′ = λ m k. Others.beyond-plain g d (killed g d p) (w .sound) p x s m (λ f q. k (sym q)) (λ f. absurd (n f));
       names′ = λ m k. Others.names-stay g d (killed g d p) (w .sound) p x m (λ f q. k (sym q)) (λ f. absurd (n f));
-      same′ = Others.others g d (killed g d p) (w .sound) p x s;
     })

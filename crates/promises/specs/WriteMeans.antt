@@ -1,4 +1,4 @@
--- Demand 2 of a write: the statement that meaning makes of it
+-- Write, both modes, as the call answers it: growth, then the data, then the size and B
 use mathlib.Core.Path.{_≡_, ap, ap₂, sym, _∙_, subst}
 use mathlib.Core.Logic.{_≢_}
 use mathlib.Core.Bool.{Bool, true, not, _&&_}
@@ -7,7 +7,7 @@ use Prim.Native.Nat.{ℕ, _+_, _-_, _*_, _≤_, _<_, max}
 use native.Mathlib.Omega.{arith}
 use lib.Dec.{T, leb, leb→le}
 use lib.ListN.{length-set, length, getD, set, take, replicate, length-append, length-take, length-map, length-replicate}
-use Rattle.meaning.specs.Lists.{count, all, same}
+use Rattle.meaning.specs.Lists.{count, all}
 use Rattle.meaning.specs.Layout
 use Rattle.meaning.specs.Bits
 use Rattle.meaning.specs.Layout.{granules, byte, field, directoryGranules, granuleBytes, granulesFor, highest}
@@ -20,7 +20,7 @@ use Rattle.meaning.specs.Write.{writeRecord, sizeAfter, store, withSize}
 use Rattle.meaning.specs.Refusals.{larger, lacking, cannotGrow, inRange}
 use Rattle.meaning.specs.Plain
 use Rattle.meaning.specs.Free.{freeGranules}
-use Rattle.meaning.specs.Plain.{AreBytes, Found, found, fileAt, plain, hush, with′, reserved, writtenTo, overwritten}
+use Rattle.meaning.specs.Plain.{Found, found, fileAt, plain, hush, reserved, writtenTo, overwritten}
 use Rattle.meaning.specs.declared.Geometry.{Geometry}
 use Rattle.meaning.specs.declared.Handle.{Handle}
 use Rattle.meaning.specs.declared.Mode.{Mode}
@@ -242,39 +242,3 @@ write-wrote g d m h b e =
     let image : ℕ → ℕ → List ℕ = λ o l. withSize g d (store (place g d₁ p) (store (place g d₁ p) d₁ o (replicate (h .at - o) 0)) (h .at) r) p (sizeAfter m o (h .at + l)) in
     let same′ : image (sizeOf g d₁ p) (length r) ≡ image (sizeOf g d p) (h .len) = ap₂ image (size₁ g d d₁ p m (h .at) r y) lr in
     (w .0, rw e (subst (λ (i : List ℕ). Wrote g d i p (writtenTo m (h .at) r (fileAt g d p))) same′ (wrote g d d₁ p m (h .at) r y)))
-
-found-inj : (a b : Plain.File) → found a ≡ found b → a ≡ b
-found-inj a b e = cc
-
--- Demand 2 of a write, as one statement
-pub WriteMeans : Type 0
-WriteMeans =
-    (g : Geometry) (d : List ℕ) (m : Mode) (h : Handle) (b : List ℕ) → AreBytes d → AreBytes b
-    → writeRecord g d m h b .0 .number ≡ 0
-    → (f : Plain.File) → plain g d (h .name) ≡ found f
-    → let d′ = writeRecord g d m h b .1 in
-    (consistent g d′ ≡ true)
-    × (reserved g d′ ≡ reserved g d)
-    × ((n : List ℕ) → hush (plain g d′ n) ≡ hush (with′ (plain g d) (h .name) (found (writtenTo m (h .at) (take (h .len) b) f)) n))
-
-pub write-means : WriteMeans
-unfolding WriteMeans
-write-means g d m h b ad ab e f q =
-    let w = write-wrote g d m h b e in
-    let k = w .0 in let x = w .1 in
-    let i : f ≡ fileAt g d (h .slot) = sym (found-inj _ _ (sym (Named.plain-is g d (k .sound) (h .slot) (h .name) (k .file) (k .name′)) ∙ q)) in
-    (x .consistent′, x .reserved′, λ n. rw i (go k x n (Members.decide (same n (h .name)))))
-  where
-    go : Passed.Holds g d h → Wrote g d (writeRecord g d m h b .1) (h .slot) (writtenTo m (h .at) (take (h .len) b) (fileAt g d (h .slot))) → (n : List ℕ) → Members.Test (same n (h .name))
-        → hush (plain g (writeRecord g d m h b .1) n) ≡ hush (with′ (plain g d) (h .name) (found (writtenTo m (h .at) (take (h .len) b) (fileAt g d (h .slot)))) n)
-    go k x n (Members.Test.holds t) =
-        let z : n ≡ nameOf g d (h .slot) = Members.same-eq n (h .name) t ∙ sym (k .name′) in
-        ap hush (ap (plain g (writeRecord g d m h b .1)) z ∙ x .own) ∙ ap hush (sym (with-own t))
-      where
-        with-own : T (same n (h .name)) → with′ (plain g d) (h .name) (found (writtenTo m (h .at) (take (h .len) b) (fileAt g d (h .slot)))) n ≡ found (writtenTo m (h .at) (take (h .len) b) (fileAt g d (h .slot)))
-        with-own t = unfold with′ in rw (Members.T-true {b = same n (h .name)} t)
-    go k x n (Members.Test.fails t) =
-        x .others n (λ z. t (subst (λ (l : List ℕ). T (same n l)) (z ∙ k .name′) (Members.same-refl n))) ∙ ap hush (sym with-other)
-      where
-        with-other : with′ (plain g d) (h .name) (found (writtenTo m (h .at) (take (h .len) b) (fileAt g d (h .slot)))) n ≡ plain g d n
-        with-other = unfold with′ in rw (Members.no-false {b = same n (h .name)} t)
