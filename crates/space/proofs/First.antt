@@ -37,20 +37,23 @@ keep-none p zero i none = refl
 keep-none p (suc n) i none = keep-no p {x = i} (none i (omega arith)) (count (i + 1) n) ∙ keep-none p n (i + 1) (λ k h. none k (omega arith))
 
 module _ (g : Geometry) (d : List ℕ) where
-  -- permitted, and not kept
-  pub slot-free : (row s : ℕ) → row < 8 → s + 2 < directorySectors g d → directorySectors g d ≤ 30 → (row < 4 → 8 ≤ s) → hit g d (32 * row + s) ≡ 0 → freeSlot g d (32 * row + s) ≡ true
+  -- the tests of a slot
+  pub slot-open : (s : ℕ) → s < 256 → s % 32 + 2 < directorySectors g d → (4 ≤ s / 32) ⊎ (8 ≤ s % 32) → hit g d s ≡ 0 → freeSlot g d s ≡ true
   unfolding freeSlot permitted
-  slot-free row s h l m k z =
-      let a : (32 * row + s) % 32 ≡ s = omega arith in
-      let b : (32 * row + s) / 32 ≡ row = omega arith in
-      all-yes (all-yes (slot-yes g d (32 * row + s) (omega arith) (omega arith)) _ ∙ all-yes (ap not (open′ a b)) _ ∙ all-none) _ ∙ all-yes (eq-eqb _ _ z) _ ∙ all-none
+  slot-open s h l o z = all-yes (all-yes (slot-yes g d s h l) _ ∙ all-yes (ap not (kept o)) _ ∙ all-none) _ ∙ all-yes (eq-eqb _ _ z) _ ∙ all-none
     where
-      open′ : (32 * row + s) % 32 ≡ s → (32 * row + s) / 32 ≡ row → all (ltb ((32 * row + s) / 32) 4 ∷ ltb ((32 * row + s) % 32) 8 ∷ []) ≡ false
-      open′ a b =
-          ⊎-elim
-          (λ (q : 4 ≤ row). all-no (le-ltb ((32 * row + s) / 32) 4 (omega arith)) (ltb ((32 * row + s) % 32) 8 ∷ []))
-          (λ (q : row < 4). all-yes (lt-ltb ((32 * row + s) / 32) 4 (omega arith)) (ltb ((32 * row + s) % 32) 8 ∷ []) ∙ all-no (le-ltb ((32 * row + s) % 32) 8 (let w = k q in omega arith)) [])
-          (le-or-lt 4 row)
+      either : (b : Bool) → 8 ≤ s % 32 → all (b ∷ ltb (s % 32) 8 ∷ []) ≡ false
+      either true q = all-yes refl _ ∙ all-no (le-ltb _ _ q) _
+      either false q = all-no refl _
+
+      kept : (4 ≤ s / 32) ⊎ (8 ≤ s % 32) → all (ltb (s / 32) 4 ∷ ltb (s % 32) 8 ∷ []) ≡ false
+      kept (inl q) = all-no (le-ltb _ _ q) _
+      kept (inr q) = either (ltb (s / 32) 4) q
+
+  pub slot-free : (row s : ℕ) → row < 8 → s + 2 < directorySectors g d → directorySectors g d ≤ 30 → (row < 4 → 8 ≤ s) → hit g d (32 * row + s) ≡ 0 → freeSlot g d (32 * row + s) ≡ true
+  slot-free row s h l m k z =
+      slot-open (32 * row + s) (omega arith) (omega arith)
+      (⊎-elim (λ (q : 4 ≤ row). inl (omega arith)) (λ (q : row < 4). let w = k q in inr (omega arith)) (le-or-lt 4 row)) z
 
   pub slot-used : (s : ℕ) → (hit g d s ≡ 0 → ⊥) → freeSlot g d s ≡ false
   unfolding freeSlot
@@ -60,13 +63,13 @@ module _ (g : Geometry) (d : List ℕ) where
       by true = all-yes refl _ ∙ all-no (ne-eqb _ _ n) _
       by false = all-no refl _
 
-  slot-past : (s : ℕ) → s < 256 → directorySectors g d ≤ s % 32 + 2 → freeSlot g d s ≡ false
+  pub slot-past : (s : ℕ) → s < 256 → directorySectors g d ≤ s % 32 + 2 → freeSlot g d s ≡ false
   unfolding freeSlot permitted
   slot-past s h l = all-no (all-no (slot-no g d s h l) _) _
 
-  slot-kept : (s : ℕ) → s < 256 → s / 32 < 4 → s % 32 < 8 → freeSlot g d s ≡ false
+  pub slot-kept : (s : ℕ) → s / 32 < 4 → s % 32 < 8 → freeSlot g d s ≡ false
   unfolding freeSlot permitted
-  slot-kept s h a b = by (isSlot g d s)
+  slot-kept s a b = by (isSlot g d s)
     where
       shut : all (ltb (s / 32) 4 ∷ ltb (s % 32) 8 ∷ []) ≡ true
       shut = all-yes (lt-ltb _ _ a) _ ∙ all-yes (lt-ltb _ _ b) _ ∙ all-none
@@ -81,7 +84,7 @@ module _ (g : Geometry) (d : List ℕ) where
       ⊎-elim
       (λ (q : 32 * row ≤ k). ⊎-elim
       (λ (w : 4 ≤ row). absurd (let e = a w in let z : ⊥ = omega arith in z))
-      (λ (w : row < 4). let e = b w in slot-kept k (omega arith) (omega arith) (omega arith)) (le-or-lt 4 row))
+      (λ (w : row < 4). let e = b w in slot-kept k (omega arith) (omega arith)) (le-or-lt 4 row))
       (λ (q : k < 32 * row). none k q) (le-or-lt (32 * row) k)
 
   pub none-row : {row s n m : ℕ} → row < 8 → n ≡ directorySectors g d - 2 → n ≤ s → m ≡ 32 * (row + 1) → NoneBelow (freeSlot g d) (32 * row + s) → NoneBelow (freeSlot g d) m

@@ -1,0 +1,33 @@
+-- What an allot answers and leaves, refused before the growth and by it, and accepted.
+use mathlib.Core.Path.{_≡_, refl, sym, ap, _∙_}
+use mathlib.Core.List.{List, [], _∷_}
+use mathlib.Core.Bool.{Bool, cond}
+use Prim.Native.Nat.{ℕ}
+use lib.Dec.{ltb}
+use borrow.Author.Tests.{ne-eqb}
+use Rattle.meaning.specs.Lists.{all}
+use Rattle.meaning.specs.Layout.{sectorNumbers}
+use Rattle.meaning.specs.Refusals.{first, accepted, inRange, handleRefusals, protected, cannotGrow, larger}
+use Rattle.meaning.specs.Allot.{allotRefusals, toAllot, allot}
+use Rattle.meaning.specs.declared.Geometry.{Geometry}
+use Rattle.meaning.specs.declared.Handle.{Handle}
+use Rattle.meaning.specs.declared.Answer.{Answer}
+use Rattle.handle.proofs.Laws.{handle-stop, handle-then}
+
+module _ (g : Geometry) (d : List ℕ) (h : Handle) (k : ℕ) {ranged : Bool} (r : ranged ≡ all (inRange h ∷ ltb k sectorNumbers ∷ [])) where
+  pub refused : {n : ℕ} → n ≡ first (handleRefusals g d h ranged (protected g d 4 h ∷ [])) → (n ≡ 0 → ⊥) → _≡_ {A = Answer × List ℕ} (record { number = n; handle = h }, d) (allot g d h k)
+  unfolding allot
+  refused {n} e z =
+      let q : n ≡ first (allotRefusals g d h k)
+      = handle-stop g d h ranged (protected g d 4 h ∷ []) (cannotGrow g d (h .slot) (toAllot g d h k)) e z
+      ∙ ap (λ (t : Bool). first (handleRefusals g d h t (protected g d 4 h ∷ cannotGrow g d (h .slot) (toAllot g d h k)))) r in
+      rw (← q, ne-eqb n 0 z)
+
+  pub grew : {n m : ℕ} {d′ : List ℕ} → n ≡ first (handleRefusals g d h ranged (protected g d 4 h ∷ [])) → n ≡ 0 → m ≡ first (cannotGrow g d (h .slot) (toAllot g d h k))
+      → d′ ≡ cond (accepted m) (larger g d (h .slot) (toAllot g d h k)) d → _≡_ {A = Answer × List ℕ} (record { number = m; handle = h }, d′) (allot g d h k)
+  unfolding allot
+  grew {n} {m} {d′} e z f w =
+      let q : m ≡ first (allotRefusals g d h k)
+      = f ∙ sym (handle-then g d h ranged (protected g d 4 h ∷ []) (cannotGrow g d (h .slot) (toAllot g d h k)) refl e z)
+      ∙ ap (λ (t : Bool). first (handleRefusals g d h t (protected g d 4 h ∷ cannotGrow g d (h .slot) (toAllot g d h k)))) r in
+      rw (← q, w)

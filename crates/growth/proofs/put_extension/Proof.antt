@@ -1,0 +1,156 @@
+use Rattle.growth.proofs.Put.{extension-put, extension-long}
+use Rattle.meaning.specs.Layout.{setField, field, hit}
+use lib.Seq.{length-sets}
+use lib.ListN.{length-set}
+use native.Mathlib.Omega.{arith}
+use borrow.Author.Needs.{needs}
+use Rattle.growth.proofs.put_extension.Statement.{statement}
+use Rattle.growth.proofs.put_extension.Tie as tie
+use Rattle.growth.proofs.put_extension.Reads as reads
+use Rattle.growth.proofs.put_extension.Lts as lts
+use Rattle.copy.proofs.put_part.Reads as put-part-reads
+
+-- src/lib.rt:154:29
+add-hash : tie.Need-add-hash
+add-hash c = search needs
+
+-- src/lib.rt:154:22
+mul-hash : tie.Need-mul-hash
+mul-hash c = search needs
+
+-- src/lib.rt:154:22
+add-hash-2 : tie.Need-add-hash-2
+add-hash-2 c = search needs
+
+-- src/lib.rt:154:16
+slice-read-hash : tie.Need-slice-read-hash
+slice-read-hash c = search needs
+
+-- src/lib.rt:155:25
+add-before : tie.Need-add-before
+add-before c = search needs
+
+-- src/lib.rt:155:25
+add-before-2 : tie.Need-add-before-2
+add-before-2 c = search needs
+
+-- src/lib.rt:155:18
+mul-before : tie.Need-mul-before
+mul-before c = search needs
+
+-- src/lib.rt:155:49
+mul-before-2 : tie.Need-mul-before-2
+mul-before-2 c = search needs
+
+-- src/lib.rt:155:18
+add-before-3 : tie.Need-add-before-3
+add-before-3 c = search needs
+
+-- src/lib.rt:156:11
+add-image : tie.Need-add-image
+add-image c = search needs
+
+-- src/lib.rt:156:5
+slice-write-image : tie.Need-slice-write-image
+slice-write-image c = search needs
+
+-- src/lib.rt:157:28
+cast-image : tie.Need-cast-image
+cast-image c = search needs
+
+-- src/lib.rt:157:11
+add-image-2 : tie.Need-add-image-2
+add-image-2 c = search needs
+
+-- src/lib.rt:157:5
+slice-write-image-2 : tie.Need-slice-write-image-2
+slice-write-image-2 c = let b = c .before .before .before .before .pre .0 in simp length-set (omega arith)
+
+-- src/lib.rt:159:15
+cast-t13 : tie.Need-cast-t13
+cast-t13 c = search needs
+
+-- src/lib.rt:162:34
+add-put-part : tie.Need-add-put-part
+add-put-part c = search needs
+
+-- src/lib.rt:162:34
+add-put-part-2 : tie.Need-add-put-part-2
+add-put-part-2 c = search needs
+
+-- src/lib.rt:162:27
+mul-put-part : tie.Need-mul-put-part
+mul-put-part c = search needs
+
+-- src/lib.rt:162:58
+mul-put-part-2 : tie.Need-mul-put-part-2
+mul-put-part-2 c = search needs
+
+-- src/lib.rt:162:27
+add-put-part-3 : tie.Need-add-put-part-3
+add-put-part-3 c = search needs
+
+-- src/lib.rt:162:73
+slice-aggregate-put-part : tie.Need-slice-aggregate-put-part
+slice-aggregate-put-part c = search needs
+
+-- src/lib.rt:162:5
+put-part-requires : tie.Need-put-part-requires
+put-part-requires c κs = search needs
+
+-- src/lib.rt:163:18
+add-image-3 : tie.Need-add-image-3
+add-image-3 c = search needs
+
+-- src/lib.rt:163:11
+mul-image : tie.Need-mul-image
+mul-image c = search needs
+
+-- src/lib.rt:163:11
+add-image-4 : tie.Need-add-image-4
+add-image-4 c = search needs
+
+-- src/lib.rt:163:5
+slice-write-image-3 : tie.Need-slice-write-image-3
+slice-write-image-3 c = let b = c .before .before .before .before .before .before .before .before .before .before .before .pre .0 in let e = c .before .before .before .put-part .ensures in rw e (simp (length-sets, length-set) (omega arith))
+
+-- src/lib.rt:150:1
+same-length : tie.Need-same-length
+same-length c = extension-long (c .before .before .before .before .before .before .before .before .before .before .before .args .g) (c .before .before .before .before .before .before .before .before .before .before .before .args .p) (c .before .before .before .before .before .before .before .before .before .before .before .args .image .now) (c .before .before .before .before .before .before .before .before .before .before .before .args .e) (c .before .before .before .before .before .before .before .before .before .before .before .args .x) (c .before .before .before .put-part .ensures)
+
+-- src/lib.rt:150:1
+returns : tie.Need-returns
+returns c = extension-put (c .before .before .before .before .before .before .before .before .before .before .before .args .g) (c .before .before .before .before .before .before .before .before .before .before .before .args .p) (c .before .before .before .before .before .before .before .before .before .before .before .args .image .now) (c .before .before .before .before .before .before .before .before .before .before .before .args .e) (c .before .before .before .before .before .before .before .before .before .before .before .args .x) (c .before .before .before .put-part .ensures)
+
+pub put-extension-spec : {M : Type 1} → statement M
+put-extension-spec =
+    tie.close
+    (tie.spec
+    add-hash
+    mul-hash
+    add-hash-2
+    slice-read-hash
+    add-before
+    add-before-2
+    mul-before
+    mul-before-2
+    add-before-3
+    add-image
+    slice-write-image
+    cast-image
+    add-image-2
+    slice-write-image-2
+    cast-t13
+    add-put-part
+    add-put-part-2
+    mul-put-part
+    mul-put-part-2
+    add-put-part-3
+    slice-aggregate-put-part
+    put-part-requires
+    add-image-3
+    mul-image
+    add-image-4
+    slice-write-image-3
+    same-length
+    returns)
