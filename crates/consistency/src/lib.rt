@@ -70,7 +70,7 @@ fn file_holds(
     at: usize,
     flags: usize,
     h: usize,
-    map: &mut [u8; 1536],
+    map: &mut [u8; 1544],
     met: &mut [u8; 256],
 ) -> bool
     requires { ⌜ Room g (now image) × Place g (now image) s at × (flags ≡ field g (now image) s 0) × (h ≡ hit g (now image) s) ⌝ }
@@ -96,7 +96,7 @@ fn slot_holds(
     g: Geometry,
     s: usize,
     at: usize,
-    map: &mut [u8; 1536],
+    map: &mut [u8; 1544],
     met: &mut [u8; 256],
 ) -> bool
     requires { ⌜ Room g (now image) × Place g (now image) s at ⌝ }
@@ -121,7 +121,7 @@ fn row_holds(
     image: &[u8],
     g: Geometry,
     row: usize,
-    map: &mut [u8; 1536],
+    map: &mut [u8; 1544],
     met: &mut [u8; 256],
 ) -> bool
     requires { ⌜ Room g (now image) × (row < 8) ⌝ }
@@ -142,7 +142,7 @@ fn row_holds(
 }
 
 // All slots.
-fn slots_hold(image: &[u8], g: Geometry, map: &mut [u8; 1536], met: &mut [u8; 256]) -> bool
+fn slots_hold(image: &[u8], g: Geometry, map: &mut [u8; 1544], met: &mut [u8; 256]) -> bool
     requires { ⌜ Room g (now image) ⌝ }
     ensures { λ r. ⌜ Seen g (now (image .entry)) (slots g (now (image .entry))) (now (map .entry)) (now (map .exit)) (now (met .entry)) (now (met .exit)) r ⌝ }
 {
@@ -207,7 +207,7 @@ pub fn consistent(image: &[u8], g: Geometry) -> bool
     if !length_holds(image, g) {
         return false;
     }
-    let mut map = [0u8; 1536];
+    let mut map = [0u8; 1544];
     marks::taken_map(image, g, &mut map);
     if !marks::mark_run(
         &mut map,

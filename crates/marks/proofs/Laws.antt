@@ -76,12 +76,12 @@ marking-end {m = m} {least = least} {v = v} k h =
 
 -- The bits of one GAT byte: u of them are in the map, the others in what is left of the byte
 pub record Filling (m₀ : List ℕ) (n gat : ℕ) (m : List ℕ) (rest u : ℕ) : Type 0 where
-  pub long : length m ≡ 1536
+  pub long : length m ≡ 1544
   pub tail : (j : ℕ) → digit rest j ≡ digit gat (u + j)
   pub inside : (k : ℕ) → k < u → getD m (n + k) 0 ≡ digit gat k * 2
   pub before : (k : ℕ) → k < n → getD m k 0 ≡ getD m₀ k 0
 
-pub filling-start : (m : List ℕ) (n gat : ℕ) → length m ≡ 1536 → Filling m n gat m gat 0
+pub filling-start : (m : List ℕ) (n gat : ℕ) → length m ≡ 1544 → Filling m n gat m gat 0
 filling-start m n gat h =
     record {
       long = h;
@@ -90,7 +90,7 @@ filling-start m n gat h =
       before = λ k l. refl;
     }
 
-pub filling-step : {m₀ m : List ℕ} {n gat rest u : ℕ} → Filling m₀ n gat m rest u → n + u < 1536 → Filling m₀ n gat (set m (n + u) (rest % 2 * 2)) (rest / 2) (u + 1)
+pub filling-step : {m₀ m : List ℕ} {n gat rest u : ℕ} → Filling m₀ n gat m rest u → n + u < 1544 → Filling m₀ n gat (set m (n + u) (rest % 2 * 2)) (rest / 2) (u + 1)
 unfolding digit
 filling-step {m₀} {m} {n} {gat} {rest} {u} f h =
     record {
@@ -106,17 +106,17 @@ filling-step {m₀} {m} {n} {gat} {rest} {u} f h =
         ap (λ (i : ℕ). getD (set m (n + u) (rest % 2 * 2)) (n + i) 0) e ∙ getD-set-same m (n + u) (rest % 2 * 2) 0 (let q = f .long in omega arith)
         ∙ ap (λ (x : ℕ). x * 2) (f .tail 0 ∙ ap (digit gat) (z ∙ sym e))
 
-pub filling-end : {m₀ m : List ℕ} {n gat rest u units : ℕ} → Filling m₀ n gat m rest u → units ≤ u → length m₀ ≡ 1536 → Bits m₀ n units gat m
+pub filling-end : {m₀ m : List ℕ} {n gat rest u units : ℕ} → Filling m₀ n gat m rest u → units ≤ u → length m₀ ≡ 1544 → Bits m₀ n units gat m
 filling-end f h l = record { inside = λ k w. f .inside k (omega arith); before = f .before; long = f .long ∙ sym l }
 
 -- The blocks of the GAT: n granules are in the map
 pub record Reading (g : Geometry) (d m : List ℕ) (n b : ℕ) : Type 0 where
-  pub long : length m ≡ 1536
+  pub long : length m ≡ 1544
   pub blocks-in : b ≤ g .blocks
   pub place : n ≡ b * g .units
   pub bits : (k : ℕ) → k < n → getD m k 0 ≡ digit (byte d (gatAt g k)) (k % g .units) * 2
 
-pub reading-start : (g : Geometry) (d m : List ℕ) → length m ≡ 1536 → Reading g d m 0 0
+pub reading-start : (g : Geometry) (d m : List ℕ) → length m ≡ 1544 → Reading g d m 0 0
 reading-start g d m h = record { long = h; blocks-in = omega arith; place = omega arith; bits = λ k l. absurd (let z : ⊥ = omega arith in z) }
 
 pub reading-room : {g : Geometry} {d m : List ℕ} {n b : ℕ} → Reading g d m n b → b < g .blocks → n + g .units ≤ granules g
@@ -127,9 +127,9 @@ reading-room {g} {d} {m} {n} {b} r h =
     let l : (b + 1) * g .units ≤ g .blocks * g .units = mul-le-mul {n₁ = b + 1} {m₁ = g .units} {n₂ = g .blocks} {m₂ = g .units} (omega arith) (omega arith) in
     let p = r .place in omega arith
 
-pub reading-step : {g : Geometry} {d m m′ : List ℕ} {n b : ℕ} → Reading g d m n b → b < g .blocks → 1 ≤ g .units → Bits m n (g .units) (byte d (256 * g .start + b)) m′
+pub reading-step : {g : Geometry} {d m m′ : List ℕ} {n b : ℕ} → Reading g d m n b → b < g .blocks → 1 ≤ g .units → g .units ≤ 8 → Bits m n 8 (byte d (256 * g .start + b)) m′
     → Reading g d m′ (n + g .units) (b + 1)
-reading-step {g} {d} {m} {m′} {n} {b} r h p w =
+reading-step {g} {d} {m} {m′} {n} {b} r h p eight w =
     let e : (b + 1) * g .units ≡ b * g .units + 1 * g .units = add-mul b 1 (g .units) in
     let o : 1 * g .units ≡ g .units = one-mul (g .units) in
     let q = r .place in
@@ -148,7 +148,7 @@ reading-step {g} {d} {m} {m′} {n} {b} r h p w =
 
     new : (k u : ℕ) → k ≡ n + u → u < g .units → getD m′ k 0 ≡ digit (byte d (gatAt g k)) (k % g .units) * 2
     new k u y l =
-        ap (λ (i : ℕ). getD m′ i 0) y ∙ w .inside u l
+        ap (λ (i : ℕ). getD m′ i 0) y ∙ w .inside u (omega arith)
         ∙ ap (λ (i : ℕ). digit (byte d (256 * g .start + i)) u * 2) (sym (at u l) ∙ ap (λ (i : ℕ). i / g .units) (sym y))
         ∙ ap (λ (i : ℕ). digit (byte d (gatAt g k)) i * 2) (sym (unit u l) ∙ ap (λ (i : ℕ). i % g .units) (sym y))
 

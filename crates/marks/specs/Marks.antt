@@ -25,8 +25,8 @@ pub record Marks (m : List ℕ) (least v : ℕ) (ns m′ : List ℕ) (r : Bool) 
   pub map : r ≡ true → m′ ≡ marked m v ns
 
 -- the bits of a GAT byte stand in the map from n on, as 0 and 2; before n it is as it was
-pub record Bits (m : List ℕ) (n units gat : ℕ) (m′ : List ℕ) : Type 0 where
-  pub inside : (u : ℕ) → u < units → getD m′ (n + u) 0 ≡ digit gat u * 2
+pub record Bits (m : List ℕ) (n bits gat : ℕ) (m′ : List ℕ) : Type 0 where
+  pub inside : (u : ℕ) → u < bits → getD m′ (n + u) 0 ≡ digit gat u * 2
   pub before : (k : ℕ) → k < n → getD m′ k 0 ≡ getD m k 0
   pub long : length m′ ≡ length m
 

@@ -1,5 +1,5 @@
 // A map with one number a granule: 2 where its GAT bit is set, 1 where it lies in the directory besides, 0 where the bit is clear
-// or a run holds the granule already. So "its GAT bit is set", "it is in no two runs" and "it is off the directory" are one test.
+// or a run holds the granule already; 8 places more than granules, since a block's byte is read whole. So "its GAT bit is set", "it is in no two runs" and "it is off the directory" are one test.
 use meaning::Geometry;
 ghost use mathlib.Core.Path.{_≡_};
 ghost use Prim.Native.Nat.{_+_, _*_, _<_, _≤_};
@@ -9,7 +9,7 @@ ghost use Rattle.layout.specs.Room.{Room};
 ghost use Rattle.marks.specs.Marks.{Marks, Bits, TakenMap};
 
 // Sets n granules from a on to v; whether each stood at `least` or above.
-pub fn mark_run(map: &mut [u8; 1536], a: usize, n: usize, least: u8, v: u8) -> bool
+pub fn mark_run(map: &mut [u8; 1544], a: usize, n: usize, least: u8, v: u8) -> bool
     requires { ⌜ a + n ≤ 1536 ⌝ }
     ensures { λ r. ⌜ Marks (now (map .entry)) least v (count a n) (now (map .exit)) r ⌝ }
 {
@@ -25,14 +25,14 @@ pub fn mark_run(map: &mut [u8; 1536], a: usize, n: usize, least: u8, v: u8) -> b
     true
 }
 
-// The GAT byte of one block, its units one after the other from n on.
-fn block_units(map: &mut [u8; 1536], n: usize, units: usize, gat: u8)
-    requires { ⌜ (n + units ≤ 1536) × (length (now map) ≡ 1536) ⌝ }
-    ensures { λ _. ⌜ Bits (now (map .entry)) n units gat (now (map .exit)) ⌝ }
+// The GAT byte of one block, its bits one after the other from n on. Those past the last unit are written over by the next block.
+fn block_bits(map: &mut [u8; 1544], n: usize, gat: u8)
+    requires { ⌜ (n + 8 ≤ 1544) × (length (now map) ≡ 1544) ⌝ }
+    ensures { λ _. ⌜ Bits (now (map .entry)) n 8 gat (now (map .exit)) ⌝ }
 {
     let mut rest = gat;
     let mut u = 0;
-    while u < units {
+    while u < 8 {
         map[n + u] = rest % 2 * 2;
         rest /= 2;
         u += 1;
@@ -40,8 +40,8 @@ fn block_units(map: &mut [u8; 1536], n: usize, units: usize, gat: u8)
 }
 
 // The GAT, one number a granule.
-pub fn taken_map(image: &[u8], g: Geometry, map: &mut [u8; 1536])
-    requires { ⌜ Room g (now image) × (length (now map) ≡ 1536) ⌝ }
+pub fn taken_map(image: &[u8], g: Geometry, map: &mut [u8; 1544])
+    requires { ⌜ Room g (now image) × (length (now map) ≡ 1544) ⌝ }
     ensures { λ _. ⌜ TakenMap g (now (image .entry)) (now (map .exit)) ⌝ }
 {
     let units = g.units;
@@ -49,7 +49,7 @@ pub fn taken_map(image: &[u8], g: Geometry, map: &mut [u8; 1536])
     let mut n = 0;
     let mut b = 0;
     while b < g.blocks {
-        block_units(map, n, units, image[gat + b]);
+        block_bits(map, n, image[gat + b]);
         n += units;
         b += 1;
     }

@@ -33,7 +33,7 @@ fn take_run(
     s: usize,
     at: usize,
     k: usize,
-    map: &mut [u8; 1536],
+    map: &mut [u8; 1544],
     least: u8,
 ) -> usize
     requires { ⌜ Room g (now image) × Place g (now image) s at × (k < 4) ⌝ }
@@ -82,7 +82,7 @@ pub fn take_runs(
     g: Geometry,
     s: usize,
     at: usize,
-    map: &mut [u8; 1536],
+    map: &mut [u8; 1544],
     least: u8,
 ) -> Pairs
     requires { ⌜ Room g (now image) × Place g (now image) s at ⌝ }
@@ -156,7 +156,7 @@ pub fn entry_walk(
     least: u8,
     sectors: usize,
     owned: usize,
-    map: &mut [u8; 1536],
+    map: &mut [u8; 1544],
     met: &mut [u8; 256],
 ) -> bool
     requires { ⌜ Room g (now image) × Place g (now image) s at × (owned + 128 * left ≤ 65536) ⌝ }
@@ -202,7 +202,7 @@ fn marker_walk(
     least: u8,
     sectors: usize,
     owned: usize,
-    map: &mut [u8; 1536],
+    map: &mut [u8; 1544],
     met: &mut [u8; 256],
 ) -> bool
     requires { ⌜ Room g (now image) × Place g (now image) s at × (runs ≡ runsOf g (now image) s)

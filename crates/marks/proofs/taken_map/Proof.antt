@@ -6,7 +6,7 @@ use Rattle.marks.proofs.taken_map.Statement.{statement}
 use Rattle.marks.proofs.taken_map.Tie as tie
 use Rattle.marks.proofs.taken_map.Reads as reads
 use Rattle.marks.proofs.taken_map.Lts as lts
-use Rattle.marks.proofs.block_units.Reads as block-units-reads
+use Rattle.marks.proofs.block_bits.Reads as block-bits-reads
 
 abbrev Inv-loop : tie.InvT-loop
 Inv-loop image g map₀ units gat n₀ b₀ map n b = Reading g image map n b
@@ -23,16 +23,16 @@ loop-holds : tie.Need-loop-holds Inv-loop μ-loop
 loop-holds c = reading-start _ _ _ (c .before .before .pre .1)
 
 -- src/lib.rt:52:42
-add-block-units : tie.Need-add-block-units Inv-loop μ-loop
-add-block-units c = search needs
+add-block-bits : tie.Need-add-block-bits Inv-loop μ-loop
+add-block-bits c = search needs
 
 -- src/lib.rt:52:36
-shared-slice-read-block-units : tie.Need-shared-slice-read-block-units Inv-loop μ-loop
-shared-slice-read-block-units c = search needs
+shared-slice-read-block-bits : tie.Need-shared-slice-read-block-bits Inv-loop μ-loop
+shared-slice-read-block-bits c = search needs
 
 -- src/lib.rt:52:9
-block-units-requires : tie.Need-block-units-requires Inv-loop μ-loop
-block-units-requires c κs = (omega (arith, reading-room (c .before .before .before .before .loop .inv) (c .before .before .if1 .taken)), c .before .before .before .before .loop .inv .long)
+block-bits-requires : tie.Need-block-bits-requires Inv-loop μ-loop
+block-bits-requires c κs = (omega (arith, reading-room (c .before .before .before .before .loop .inv) (c .before .before .if1 .taken)), c .before .before .before .before .loop .inv .long)
 
 -- src/lib.rt:53:9
 add-n : tie.Need-add-n Inv-loop μ-loop
@@ -48,7 +48,7 @@ loop-less c = omega arith
 
 -- src/lib.rt:51:5
 loop-again : tie.Need-loop-again Inv-loop μ-loop
-loop-again c = reading-step (c .before .before .before .before .before .loop .inv) (c .before .before .before .if1 .taken) (omega arith) (c .block-units .ensures)
+loop-again c = reading-step (c .before .before .before .before .before .loop .inv) (c .before .before .before .if1 .taken) (omega arith) (omega arith) (c .block-bits .ensures)
 
 -- src/lib.rt:43:1
 returns : tie.Need-returns Inv-loop μ-loop
@@ -62,9 +62,9 @@ taken-map-spec =
     μ-loop
     mul-gat
     loop-holds
-    add-block-units
-    shared-slice-read-block-units
-    block-units-requires
+    add-block-bits
+    shared-slice-read-block-bits
+    block-bits-requires
     add-n
     add-b
     loop-less

@@ -2,16 +2,16 @@ use Rattle.marks.proofs.Laws.{Filling, filling-start, filling-step, fil
 use Prim.Native.Nat.{_-_}
 use native.Mathlib.Omega.{arith}
 use borrow.Author.Needs.{needs}
-use Rattle.marks.proofs.block_units.Statement.{statement}
-use Rattle.marks.proofs.block_units.Tie as tie
-use Rattle.marks.proofs.block_units.Reads as reads
-use Rattle.marks.proofs.block_units.Lts as lts
+use Rattle.marks.proofs.block_bits.Statement.{statement}
+use Rattle.marks.proofs.block_bits.Tie as tie
+use Rattle.marks.proofs.block_bits.Reads as reads
+use Rattle.marks.proofs.block_bits.Lts as lts
 
 abbrev Inv-loop : tie.InvT-loop
-Inv-loop map₀ n units gat rest₀ u₀ map rest u = Filling map₀ n gat map rest u
+Inv-loop map₀ n gat rest₀ u₀ map rest u = Filling map₀ n gat map rest u
 
 abbrev μ-loop : tie.MeasureT-loop
-μ-loop map₀ n units gat rest₀ u₀ map rest u = units - u
+μ-loop map₀ n gat rest₀ u₀ map rest u = 8 - u
 
 -- src/lib.rt:34:5
 loop-holds : tie.Need-loop-holds Inv-loop μ-loop
@@ -45,8 +45,8 @@ loop-again c = filling-step (c .before .loop .inv) (omega arith)
 returns : tie.Need-returns Inv-loop μ-loop
 returns c = filling-end (c .before .loop .inv) (c .loop-test .left) (c .before .before .pre .1)
 
-pub block-units-spec : {M : Type 1} → statement M
-block-units-spec =
+pub block-bits-spec : {M : Type 1} → statement M
+block-bits-spec =
     tie.close
     (tie.spec
     Inv-loop
