@@ -1,0 +1,141 @@
+use Rattle.meaning.specs.Entries.{extension}
+use Rattle.trim.proofs.Laws.{last-reads, last-run, last-granule, last-before, entry-fits, bit-fits, by-shorter, by-emptied, by-unhooked, not-first, is-first, extension-yes, extension-no}
+use Rattle.layout.specs.Room.{Room, Slot}
+use lib.ListN.{length}
+use Prim.Native.Nat.{ℕ, _+_, _-_, _*_, _≤_, _<_}
+use mathlib.Core.Logic.{⊎-elim}
+use mathlib.Core.Bool.{Bool, true, false, _&&_}
+use mathlib.Core.Path.{_≡_, refl, sym, ap, _∙_}
+use native.Mathlib.Omega.{arith}
+use borrow.Author.Needs.{needs}
+use Rattle.trim.proofs.drop_one.Statement.{statement}
+use Rattle.trim.proofs.drop_one.Tie as tie
+use Rattle.trim.proofs.drop_one.Reads as reads
+use Rattle.trim.proofs.drop_one.Lts as lts
+use Rattle.layout.proofs.field.Reads as field-reads
+use Rattle.layout.proofs.run_length.Reads as run-length-reads
+use Rattle.layout.proofs.run_start.Reads as run-start-reads
+use Rattle.layout.proofs.runs.Reads as runs-reads
+use Rattle.trim.proofs.clear_bit.Reads as clear-bit-reads
+use Rattle.trim.proofs.empty_pair.Reads as empty-pair-reads
+use Rattle.trim.proofs.shorten.Reads as shorten-reads
+use Rattle.trim.proofs.unhook.Reads as unhook-reads
+
+-- src/lib.rt:67:13
+runs-requires : tie.Need-runs-requires
+runs-requires c κs = let a = c .before .before .args in last-reads (a .g) (a .image .now) (a .p) (a .e) (c .before .before .pre)
+
+-- src/lib.rt:67:13
+sub-k : tie.Need-sub-k
+sub-k c = let a = c .before .before .before .args in omega (arith, last-run (a .g) (a .image .now) (a .p) (a .e) (c .before .before .before .pre) .0)
+
+-- src/lib.rt:68:9
+run-length-requires : tie.Need-run-length-requires
+run-length-requires c κs = let a = c .before .before .before .before .args in let l = last-reads (a .g) (a .image .now) (a .p) (a .e) (c .before .before .before .before .pre) in let w = last-run (a .g) (a .image .now) (a .p) (a .e) (c .before .before .before .before .pre) in (l .0, l .1, omega arith)
+
+-- src/lib.rt:69:13
+run-start-requires : tie.Need-run-start-requires
+run-start-requires c κs = let a = c .before .before .before .before .before .before .args in let l = last-reads (a .g) (a .image .now) (a .p) (a .e) (c .before .before .before .before .before .before .pre) in let w = last-run (a .g) (a .image .now) (a .p) (a .e) (c .before .before .before .before .before .before .pre) in (l .0, l .1, omega arith)
+
+-- src/lib.rt:69:13
+add-n : tie.Need-add-n
+add-n c = search needs
+
+-- src/lib.rt:69:13
+sub-n : tie.Need-sub-n
+sub-n c = search needs
+
+-- src/lib.rt:71:9
+shorten-requires : tie.Need-shorten-requires
+shorten-requires c κs = let a = c .before .before .before .before .before .before .before .before .before .args in let l = last-reads (a .g) (a .image .now) (a .p) (a .e) (c .before .before .before .before .before .before .before .before .before .pre) in let w = last-run (a .g) (a .image .now) (a .p) (a .e) (c .before .before .before .before .before .before .before .before .before .pre) in
+    (entry-fits (a .g) (a .image .now) (a .e) (l .0) (l .1), omega arith, omega (arith, c .before .before .before .before .run-length .ensures .is, c .before .if1 .taken))
+
+-- src/lib.rt:72:9
+clear-bit-requires : tie.Need-clear-bit-requires
+clear-bit-requires c κs = let a = c .before .before .before .before .before .before .before .before .before .before .before .before .before .args in let l = last-reads (a .g) (a .image .now) (a .p) (a .e) (c .before .before .before .before .before .before .before .before .before .before .before .before .before .pre) in
+    bit-fits (a .g) (a .image .now) (c .before .before .before .shorten .last .0) _ (l .0) (last-granule (a .g) (a .image .now) (a .p) (a .e) (c .before .before .before .before .before .before .before .before .before .before .before .before .before .pre) (c .before .before .before .before .before .before .before .before .before .before .runs .ensures .is) (c .before .before .before .before .before .before .before .before .run-length .ensures .is) (c .before .before .before .before .before .before .run-start .ensures .is)) (search needs)
+
+-- src/lib.rt:73:9
+same-length : tie.Need-same-length
+same-length c = search needs
+
+-- src/lib.rt:73:9
+returns : tie.Need-returns
+returns c = by-shorter _ _ _ _ (c .before .before .before .before .before .before .before .before .before .before .before .before .before .before .before .before .pre) (c .before .before .before .before .before .before .before .before .before .before .before .before .before .runs .ensures .is) (c .before .before .before .before .before .before .before .before .before .before .before .run-length .ensures .is) (c .before .before .before .before .before .before .before .before .before .run-start .ensures .is) (c .before .before .before .before .before .before .before .before .if1 .taken) (c .before .before .before .before .before .before .shorten .ensures) (c .before .before .clear-bit .ensures)
+
+-- src/lib.rt:75:9
+field-requires : tie.Need-field-requires
+field-requires c κs = let a = c .before .before .before .before .before .before .before .before .before .args in let l = last-reads (a .g) (a .image .now) (a .p) (a .e) (c .before .before .before .before .before .before .before .before .before .pre) in (l .0, l .1, omega arith)
+
+-- src/lib.rt:76:9
+field-requires-2 : tie.Need-field-requires-2
+field-requires-2 c κs = let a = c .before .before .before .before .before .before .before .before .before .before .before .args in let l = last-reads (a .g) (a .image .now) (a .p) (a .e) (c .before .before .before .before .before .before .before .before .before .before .before .pre) in (l .0, l .1, omega arith)
+
+-- src/lib.rt:77:5
+empty-pair-requires : tie.Need-empty-pair-requires
+empty-pair-requires c κs = let a = c .before .before .before .before .before .before .before .before .before .before .before .before .before .args in let l = last-reads (a .g) (a .image .now) (a .p) (a .e) (c .before .before .before .before .before .before .before .before .before .before .before .before .before .pre) in let w = last-run (a .g) (a .image .now) (a .p) (a .e) (c .before .before .before .before .before .before .before .before .before .before .before .before .before .pre) in
+    (entry-fits (a .g) (a .image .now) (a .e) (l .0) (l .1), omega arith)
+
+-- src/lib.rt:80:13
+unhook-requires : tie.Need-unhook-requires
+unhook-requires c κs = let a = c .before .before .before .before .before .before .before .before .before .before .before .before .before .before .before .before .before .before .before .args in let l = last-reads (a .g) (a .image .now) (a .p) (a .e) (c .before .before .before .before .before .before .before .before .before .before .before .before .before .before .before .before .before .before .before .pre) in
+    let z : length (c .before .before .before .before .before .empty-pair .last .0) ≡ length (a .image .now) = search needs in
+    let x = entry-fits (a .g) (a .image .now) (a .e) (l .0) (l .1) in
+    let b = last-before (a .g) (a .image .now) (a .p) (a .e) (c .before .before .before .before .before .before .before .before .before .before .before .before .before .before .before .before .before .before .before .pre) (extension-yes (a .g) (a .image .now) (a .e) (c .before .before .before .before .before .before .before .before .before .field .ensures .is) (c .before .before .if2 .taken)) in
+    let y = entry-fits (a .g) (a .image .now) (c .before .before .before .before .before .before .before .field2 .result) (l .0) (rw (c .before .before .before .before .before .before .before .field2 .ensures .is) b) in
+    let s = l .1 .low in
+    (omega arith, omega arith, omega arith)
+
+-- src/lib.rt:81:13
+clear-bit-requires-2 : tie.Need-clear-bit-requires-2
+clear-bit-requires-2 c κs = let a = c .before .before .before .before .before .before .before .before .before .before .before .before .before .before .before .before .before .before .before .before .before .before .before .args in let l = last-reads (a .g) (a .image .now) (a .p) (a .e) (c .before .before .before .before .before .before .before .before .before .before .before .before .before .before .before .before .before .before .before .before .before .before .before .pre) in
+    bit-fits (a .g) (a .image .now) (c .before .before .before .unhook .last .0) _ (l .0) (last-granule (a .g) (a .image .now) (a .p) (a .e) (c .before .before .before .before .before .before .before .before .before .before .before .before .before .before .before .before .before .before .before .before .before .before .before .pre) (c .before .before .before .before .before .before .before .before .before .before .before .before .before .before .before .before .before .before .before .before .runs .ensures .is) (c .before .before .before .before .before .before .before .before .before .before .before .before .before .before .before .before .before .before .run-length .ensures .is) (c .before .before .before .before .before .before .before .before .before .before .before .before .before .before .before .before .run-start .ensures .is)) (search needs)
+
+-- src/lib.rt:82:13
+same-length-2 : tie.Need-same-length-2
+same-length-2 c = search needs
+
+-- src/lib.rt:82:13
+returns-2 : tie.Need-returns-2
+returns-2 c = let a = c .before .before .before .before .before .before .before .before .before .before .before .before .before .before .before .before .before .before .before .before .before .before .before .before .before .before .args in by-unhooked (a .g) (a .image .now) (a .p) (a .e) (c .before .before .before .before .before .before .before .before .before .before .before .before .before .before .before .before .before .before .before .before .before .before .before .before .before .before .pre) (c .before .before .before .before .before .before .before .before .before .before .before .before .before .before .before .before .before .before .before .before .before .before .before .runs .ensures .is) (c .before .before .before .before .before .before .before .before .before .before .before .before .before .before .before .before .before .before .before .before .before .run-length .ensures .is) (c .before .before .before .before .before .before .before .before .before .before .before .before .before .before .before .before .before .before .before .run-start .ensures .is) (c .before .before .before .before .before .before .before .before .before .before .before .before .before .before .before .before .before .before .if1 .left)
+    (extension-yes (a .g) (a .image .now) (a .e) (c .before .before .before .before .before .before .before .before .before .before .before .before .before .before .before .before .field .ensures .is) (c .before .before .before .before .before .before .before .before .before .if2 .taken)) (c .before .before .before .before .before .before .before .before .if3 .taken) (c .before .before .before .before .before .before .before .before .before .before .before .before .before .before .field2 .ensures .is) (c .before .before .before .before .before .before .before .before .before .before .before .before .empty-pair .ensures) (c .before .before .before .before .before .before .unhook .ensures) (c .before .before .clear-bit2 .ensures)
+
+-- src/lib.rt:85:5
+clear-bit-requires-3 : tie.Need-clear-bit-requires-3
+clear-bit-requires-3 c κs = let a = c .before .before .before .before .before .before .before .before .before .before .before .before .before .before .before .before .before .before .args in let l = last-reads (a .g) (a .image .now) (a .p) (a .e) (c .before .before .before .before .before .before .before .before .before .before .before .before .before .before .before .before .before .before .pre) in
+    bit-fits (a .g) (a .image .now) (c .before .before .before .before .empty-pair .last .0) _ (l .0) (last-granule (a .g) (a .image .now) (a .p) (a .e) (c .before .before .before .before .before .before .before .before .before .before .before .before .before .before .before .before .before .before .pre) (c .before .before .before .before .before .before .before .before .before .before .before .before .before .before .before .runs .ensures .is) (c .before .before .before .before .before .before .before .before .before .before .before .before .before .run-length .ensures .is) (c .before .before .before .before .before .before .before .before .before .before .before .run-start .ensures .is)) (search needs)
+
+-- src/lib.rt:63:1
+same-length-3 : tie.Need-same-length-3
+same-length-3 c = search needs
+
+-- src/lib.rt:63:1
+returns-3 : tie.Need-returns-3
+returns-3 c = let a = c .before .before .before .before .before .before .before .before .before .before .before .before .before .before .before .before .before .before .before .before .before .args in by-emptied (a .g) (a .image .now) (a .p) (a .e) (c .before .before .before .before .before .before .before .before .before .before .before .before .before .before .before .before .before .before .before .before .before .pre) (c .before .before .before .before .before .before .before .before .before .before .before .before .before .before .before .before .before .before .runs .ensures .is) (c .before .before .before .before .before .before .before .before .before .before .before .before .before .before .before .before .run-length .ensures .is) (c .before .before .before .before .before .before .before .before .before .before .before .before .before .before .run-start .ensures .is) (c .before .before .before .before .before .before .before .before .before .before .before .before .before .if1 .left)
+    (⊎-elim (λ q. not-first (extension (a .g) (a .image .now) (a .e)) (c .before .before .before .before .before .before .before .before .before .before .before .before .before .before .before .before .before .before .runs .result - 1) (q .1 .left)) (λ q. is-first (extension-no (a .g) (a .image .now) (a .e) (c .before .before .before .before .before .before .before .before .before .before .before .field .ensures .is) (q .left)) (c .before .before .before .before .before .before .before .before .before .before .before .before .before .before .before .before .before .before .runs .result - 1)) (c .before .before .before .before .if2 .came))
+    (c .before .before .before .before .before .before .before .empty-pair .ensures) (c .before .before .clear-bit3 .ensures)
+
+pub drop-one-spec : {M : Type 1} → statement M
+drop-one-spec =
+    tie.close
+    (tie.spec
+    runs-requires
+    sub-k
+    run-length-requires
+    run-start-requires
+    add-n
+    sub-n
+    shorten-requires
+    clear-bit-requires
+    same-length
+    returns
+    field-requires
+    field-requires-2
+    empty-pair-requires
+    unhook-requires
+    clear-bit-requires-2
+    same-length-2
+    returns-2
+    clear-bit-requires-3
+    same-length-3
+    returns-3)

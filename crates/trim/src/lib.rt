@@ -1,0 +1,127 @@
+// Trim: the granules that a file has no need of are dropped, the last ones first.
+use meaning::Answer;
+use meaning::Geometry;
+use meaning::Handle;
+ghost use mathlib.Core.Path.{_≡_};
+ghost use Prim.Native.Nat.{_+_, _-_, _*_, _/_, _<_, _≤_};
+ghost use lib.ListN.{length};
+ghost use Rattle.meaning.specs.Lists.{times};
+ghost use Rattle.meaning.specs.Layout.{field, setField, freeGranule, entryAt, granuleBytes};
+ghost use Rattle.meaning.specs.Entries.{sizeOf};
+ghost use Rattle.meaning.specs.Chain.{owned};
+ghost use Rattle.meaning.specs.Growth.{tail};
+ghost use Rattle.meaning.specs.Drop.{unhooked, dropOne};
+ghost use Rattle.meaning.specs.Refusals.{check};
+ghost use Rattle.meaning.specs.Trim.{trim};
+ghost use Rattle.laws.specs.Steps.{Ready};
+ghost use Rattle.trim.specs.Last.{Last, Bit};
+
+// Clears the GAT bit of granule n.
+fn clear_bit(image: &mut [u8], g: Geometry, n: usize)
+    requires { ⌜ Bit g (length (now image)) n ⌝ }
+    ensures { λ _. ⌜ now (image .exit) ≡ freeGranule g (now (image .entry)) n ⌝ }
+{
+    let at = 256 * g.start + n / g.units;
+    image[at] = space::without_bit(image[at], n % g.units);
+}
+
+// Pair k of the entry at slot e, shorter by one.
+fn shorten(image: &mut [u8], g: Geometry, e: usize, k: usize)
+    requires { ⌜ (entryAt g e + 32 ≤ length (now image)) × (k < 4) × (1 ≤ field g (now image) e (0x17 + 2 * k)) ⌝ }
+    ensures { λ _. ⌜ now (image .exit) ≡ setField g (now (image .entry)) e (0x17 + 2 * k) (field g (now (image .entry)) e (0x17 + 2 * k) - 1) ⌝ }
+{
+    let at = 256 * (g.start + 2 + e % 32) + 32 * (e / 32) + (0x17 + 2 * k);
+    image[at] = image[at] - 1;
+}
+
+// Pair k of the entry at slot e, emptied.
+fn empty_pair(image: &mut [u8], g: Geometry, e: usize, k: usize)
+    requires { ⌜ (entryAt g e + 32 ≤ length (now image)) × (k < 4) ⌝ }
+    ensures { λ _. ⌜ now (image .exit) ≡ setField g (setField g (now (image .entry)) e (0x16 + 2 * k) 0xff) e (0x17 + 2 * k) 0xff ⌝ }
+{
+    let at = 256 * (g.start + 2 + e % 32) + 32 * (e / 32);
+    image[at + (0x16 + 2 * k)] = 0xff;
+    image[at + (0x17 + 2 * k)] = 0xff;
+}
+
+// An emptied extension at slot e, and the entry before it.
+fn unhook(image: &mut [u8], g: Geometry, p: usize, e: usize, before: usize)
+    requires { ⌜ (entryAt g e + 32 ≤ length (now image)) × (entryAt g before + 32 ≤ length (now image)) × (e < 256) ⌝ }
+    ensures { λ _. ⌜ now (image .exit) ≡ unhooked g p (now (image .entry)) e before ⌝ }
+{
+    let at = 256 * (g.start + 2 + e % 32) + 32 * (e / 32);
+    image[at] = 0x80;
+    image[256 * (g.start + 1) + e] = 0;
+    image[at + 0x1e] = 0xff;
+    image[at + 0x1f] = 0xff;
+    let ends = 256 * (g.start + 2 + before % 32) + 32 * (before / 32);
+    image[ends + 0x1e] = 0xff;
+    image[ends + 0x1f] = 0xff;
+}
+
+// The file at slot p, whose last entry is at slot e, loses its last granule. Answers where its last entry is then.
+fn drop_one(image: &mut [u8], g: Geometry, p: usize, e: usize) -> usize
+    requires { ⌜ Last g (now image) p e 1 ⌝ }
+    ensures { λ r. ⌜ (now (image .exit) ≡ dropOne g p (now (image .entry))) × (r ≡ tail g p (dropOne g p (now (image .entry)))) ⌝ }
+{
+    let k = layout::runs(image, g, e) - 1;
+    let len = layout::run_length(image, g, e, k);
+    let n = layout::run_start(image, g, e, k) + len - 1;
+    if 1 < len {
+        shorten(image, g, e, k);
+        clear_bit(image, g, n);
+        return e;
+    }
+    let flags = layout::field(image, g, e, 0);
+    let before = layout::field(image, g, e, 1);
+    empty_pair(image, g, e, k);
+    if (flags >> 7) % 2 == 1 {
+        if k == 0 {
+            unhook(image, g, p, e, before);
+            clear_bit(image, g, n);
+            return before;
+        }
+    }
+    clear_bit(image, g, n);
+    e
+}
+
+// The file at slot p, whose last entry is at slot e, loses its last n granules.
+fn drop_last(image: &mut [u8], g: Geometry, p: usize, e: usize, n: usize)
+    requires { ⌜ Last g (now image) p e n ⌝ }
+    ensures { λ _. ⌜ now (image .exit) ≡ times n (dropOne g p) (now (image .entry)) ⌝ }
+{
+    let mut at = e;
+    let mut left = n;
+    while 0 < left {
+        at = drop_one(image, g, p, at);
+        left -= 1;
+    }
+}
+
+// Trim of a disk whose check answered `checked`.
+pub fn trim_checked(image: &mut [u8], g: Geometry, h: Handle, checked: u8) -> Answer
+    requires { ⌜ checked ≡ check g (now image) ⌝ }
+    ensures { λ r. ⌜ (r, now (image .exit)) ≡ trim g (now (image .entry)) h ⌝ }
+{
+    let ranged = handle::in_range(h);
+    let number = handle::changing_number(image, g, h, ranged, 4, checked);
+    if number != 0 {
+        return Answer { number, handle: h };
+    }
+    let keeps = layout::field(image, g, h.slot, 1);
+    if (keeps >> 7) % 2 == 1 {
+        return Answer {
+            number: 0,
+            handle: h,
+        };
+    }
+    let size = layout::size_of(image, g, h.slot);
+    let needed = (size + (layout::GRANULE_BYTES - 1)) / layout::GRANULE_BYTES;
+    let extent = growth::measure(image, g, h.slot);
+    drop_last(image, g, h.slot, extent.last, extent.owned - needed);
+    Answer {
+        number: 0,
+        handle: h,
+    }
+}
