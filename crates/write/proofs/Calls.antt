@@ -1,0 +1,159 @@
+-- What a write answers and leaves: refused by its handle, refused by the growth, accepted.
+use mathlib.Core.Path.{_≡_, refl, sym, ap, _∙_, subst}
+use mathlib.Core.Logic.{_⊎_, inl, inr, ⊎-elim}
+use mathlib.Core.List.{List, [], _∷_}
+use mathlib.Core.Bool.{Bool, true, false, cond}
+use Prim.Native.Nat.{ℕ, _+_, _-_, _*_, _/_, _≤_, _<_, max}
+use native.Mathlib.Omega.{arith}
+use lib.ListN.{length, replicate, take, set, length-set}
+use lib.Dec.{leb}
+use borrow.Author.Tests.{ne-eqb, leb-true}
+use Rattle.meaning.specs.Lists.{all}
+use Rattle.meaning.specs.Layout.{highest, granulesFor, granules, entryAt}
+use Rattle.meaning.specs.Entries.{sizeOf}
+use Rattle.meaning.specs.Chain.{owned, place}
+use Rattle.meaning.specs.Refusals.{first, accepted, inRange, movedTo, handleRefusals, protected, cannotGrow, larger, lacking}
+use Rattle.meaning.specs.Write.{store, sizeAfter, withSize, toWrite, writeRefusals, writeRecord}
+use Rattle.meaning.specs.declared.Geometry.{Geometry}
+use Rattle.meaning.specs.declared.Handle.{Handle}
+use Rattle.meaning.specs.declared.Answer.{Answer}
+use Rattle.meaning.specs.declared.Mode.{Mode}
+use Rattle.meaning.specs.declared.Mode.the-variants.{Sequential, Random}
+use Rattle.laws.specs.Steps.{Ready}
+use Rattle.layout.specs.Room.{Room, Slot}
+use Rattle.layout.proofs.Lists.{all-at}
+use Rattle.layout.proofs.Sound.{slot-of}
+use Rattle.handle.proofs.Laws.{handle-stop, handle-then, passed, ranges}
+use Rattle.joint.proofs.Ready.{walks}
+use Rattle.read.specs.Part.{File, Owned}
+use Rattle.growth.proofs.Grown.{More, larger-ready, owned-most}
+use Rattle.write.specs.Apart.{Apart}
+use Rattle.write.proofs.Apart.{is-apart}
+
+-- a write reaches at least its own end
+pub after-end : (m : Mode) (old end : ℕ) → end ≤ sizeAfter m old end
+unfolding sizeAfter
+after-end Sequential old end = omega arith
+after-end Random old end = omega arith
+
+pub after-sequential : (old end : ℕ) → sizeAfter Sequential old end ≡ end
+unfolding sizeAfter
+after-sequential old end = refl
+
+pub after-random : (old end : ℕ) → sizeAfter Random old end ≡ max old end
+unfolding sizeAfter
+after-random old end = refl
+
+pub sizes-low : (m : Mode) (old end : ℕ) → sizeAfter m old end ≤ old + end
+unfolding sizeAfter
+sizes-low Sequential old end = omega arith
+sizes-low Random old end = omega arith
+
+-- stores keep the length
+store-long : (f : ℕ → ℕ) (d : List ℕ) (i : ℕ) (bs : List ℕ) → length (store f d i bs) ≡ length d
+unfolding store
+store-long f d i [] = refl
+store-long f d i (b ∷ bs) = store-long f (set d (f i) b) (i + 1) bs ∙ length-set d (f i) b
+
+pub stored-long : (f : ℕ → ℕ) (d : List ℕ) (i : ℕ) (xs : List ℕ) (j : ℕ) (ys : List ℕ) {d′ : List ℕ} → d′ ≡ store f (store f d i xs) j ys → length d′ ≡ length d
+stored-long f d i xs j ys e = ap (λ (l : List ℕ). length l) e ∙ store-long f (store f d i xs) j ys ∙ store-long f d i xs
+
+-- position and length of a handle in range
+pub in-reach : (h : Handle) → inRange h ≡ true → (h .at ≤ highest) × (h .len ≤ 256)
+unfolding inRange
+in-reach h r = (leb-true _ _ (all-at _ r 0), leb-true _ _ (all-at _ r 2))
+
+module _ (g : Geometry) (d : List ℕ) (m : Mode) (h : Handle) (b : List ℕ) {ranged : Bool}
+    (r : ranged ≡ all (inRange h ∷ leb (h .at + h .len) highest ∷ leb (h .len) (length b) ∷ [])) where
+  by-handle : {n : ℕ} → n ≡ first (handleRefusals g d h ranged (protected g d 4 h ∷ [])) → (n ≡ 0 → ⊥) → n ≡ first (writeRefusals g d m h (length b))
+  by-handle e z =
+      handle-stop g d h ranged (protected g d 4 h ∷ []) (cannotGrow g d (h .slot) (toWrite g d m h)) e z
+      ∙ ap (λ (t : Bool). first (handleRefusals g d h t (protected g d 4 h ∷ cannotGrow g d (h .slot) (toWrite g d m h)))) r
+
+  by-growth : {n k : ℕ} → n ≡ first (handleRefusals g d h ranged (protected g d 4 h ∷ [])) → n ≡ 0 → k ≡ first (cannotGrow g d (h .slot) (toWrite g d m h)) → k ≡ first (writeRefusals g d m h (length b))
+  by-growth e z f =
+      f ∙ sym (handle-then g d h ranged (protected g d 4 h ∷ []) (cannotGrow g d (h .slot) (toWrite g d m h)) refl e z)
+      ∙ ap (λ (t : Bool). first (handleRefusals g d h t (protected g d 4 h ∷ cannotGrow g d (h .slot) (toWrite g d m h)))) r
+
+  pub refused : {n : ℕ} → n ≡ first (handleRefusals g d h ranged (protected g d 4 h ∷ [])) → (n ≡ 0 → ⊥) → _≡_ {A = Answer × List ℕ} (record { number = n; handle = h }, d) (writeRecord g d m h b)
+  unfolding writeRecord
+  refused {n} e z = rw (← by-handle e z, ne-eqb n 0 z)
+
+  pub not-grown : {n k : ℕ} {d′ : List ℕ} → n ≡ first (handleRefusals g d h ranged (protected g d 4 h ∷ [])) → n ≡ 0 → k ≡ first (cannotGrow g d (h .slot) (toWrite g d m h))
+      → (k ≡ 0 → ⊥) → d′ ≡ cond (accepted k) (larger g d (h .slot) (toWrite g d m h)) d → _≡_ {A = Answer × List ℕ} (record { number = k; handle = h }, d′) (writeRecord g d m h b)
+  unfolding writeRecord
+  not-grown {n} {k} e z f y q = rw (← by-growth e z f, q, ne-eqb k 0 y)
+
+  pub written : {n k old size : ℕ} {d₁ d₃ d₄ : List ℕ} → old ≡ sizeOf g d (h .slot) → n ≡ first (handleRefusals g d h ranged (protected g d 4 h ∷ [])) → n ≡ 0 → k ≡ first (cannotGrow g d (h .slot) (toWrite g d m h)) → k ≡ 0
+      → d₁ ≡ cond (accepted k) (larger g d (h .slot) (toWrite g d m h)) d → size ≡ sizeAfter m (sizeOf g d (h .slot)) (h .at + h .len)
+      → d₃ ≡ store (place g d₁ (h .slot)) (store (place g d₁ (h .slot)) d₁ old (replicate (h .at - old) 0)) (h .at) (take (h .len) b)
+      → d₄ ≡ withSize g d d₃ (h .slot) size
+      → _≡_ {A = Answer × List ℕ} (record { number = 0; handle = movedTo h (h .at + h .len) }, d₄) (writeRecord g d m h b)
+  unfolding writeRecord
+  written {n} {k} {old} {size} {d₁} {d₃} {d₄} o e z f y q s w v =
+      let x : d₁ ≡ larger g d (h .slot) (toWrite g d m h) = q ∙ ap (λ (j : ℕ). cond (accepted j) (larger g d (h .slot) (toWrite g d m h)) d) y in
+      let u : 0 ≡ first (writeRefusals g d m h (length b)) = sym y ∙ by-growth e z f in
+      rw (← u, v, w, o, s, x)
+
+  -- the size, the growth's number and image in the words of the call
+  pub size-is : {old size : ℕ} → old ≡ sizeOf g d (h .slot) → size ≡ sizeAfter m old (h .at + h .len) → size ≡ sizeAfter m (sizeOf g d (h .slot)) (h .at + h .len)
+  size-is o s = s ∙ ap (λ (k : ℕ). sizeAfter m k (h .at + h .len)) o
+
+  pub number-is : {n size : ℕ} → size ≡ sizeAfter m (sizeOf g d (h .slot)) (h .at + h .len) → n ≡ first (cannotGrow g d (h .slot) (lacking g d (h .slot) (granulesFor size)))
+      → n ≡ first (cannotGrow g d (h .slot) (toWrite g d m h))
+  number-is s e = e ∙ ap (λ (k : ℕ). first (cannotGrow g d (h .slot) (lacking g d (h .slot) (granulesFor k)))) s
+
+  pub image-is : (n : ℕ) {size : ℕ} {d′ : List ℕ} → size ≡ sizeAfter m (sizeOf g d (h .slot)) (h .at + h .len) → d′ ≡ cond (accepted n) (larger g d (h .slot) (lacking g d (h .slot) (granulesFor size))) d
+      → d′ ≡ cond (accepted n) (larger g d (h .slot) (toWrite g d m h)) d
+  image-is n s e = e ∙ ap (λ (k : ℕ). cond (accepted n) (larger g d (h .slot) (lacking g d (h .slot) (granulesFor k))) d) s
+
+  -- the numbers of a write whose handle passed
+  pub record Fit : Type 0 where
+    pub ends : h .at + h .len ≤ highest
+    pub some : 1 ≤ h .len
+    pub short : h .len ≤ 256
+    pub room : h .len ≤ length b
+
+  pub fit : {n : ℕ} → n ≡ first (handleRefusals g d h ranged (protected g d 4 h ∷ [])) → n ≡ 0 → Fit
+  fit e z =
+      let w = sym r ∙ passed g d h ranged (protected g d 4 h ∷ []) refl e z .ranged′ in
+      let q = ranges g d h (all-at _ w 0) in
+      record { ends = leb-true _ _ (all-at _ w 1); some = q .1; short = q .2; room = leb-true _ _ (all-at _ w 2) }
+
+  -- what the stores of an accepted write ask for
+  pub record Stores (d₁ : List ℕ) (size : ℕ) : Type 0 where
+    pub file : File g d₁ (h .slot)
+    pub apart : Apart g d₁ (h .slot)
+    pub owns : Owned g d₁ (h .slot) (h .at) (h .len)
+    pub old : sizeOf g d (h .slot) ≤ 1280 * length (owned g d₁ (h .slot))
+    pub high : size ≤ highest
+    pub entry : entryAt g (h .slot) + 32 ≤ length d₁
+
+  pub sized : (f : ℕ → ℕ) (i : ℕ) (xs : List ℕ) (j : ℕ) (ys : List ℕ) {d₁ d₃ : List ℕ} {size : ℕ} → Stores d₁ size → d₃ ≡ store f (store f d₁ i xs) j ys
+      → (entryAt g (h .slot) + 32 ≤ length d₃) × (size ≤ highest)
+  sized f i xs j ys {d₁} w e = let q = w .entry in let l = stored-long f d₁ i xs j ys e in (omega arith, w .high)
+
+  pub old-fits : {old size : ℕ} {d₁ : List ℕ} → old ≡ sizeOf g d (h .slot) → Stores d₁ size → old ≤ 1280 * length (owned g d₁ (h .slot))
+  old-fits e w = let q = w .old in omega arith
+
+  pub stores : {k size : ℕ} {d₁ : List ℕ} → Ready g d (h .slot) → Fit → k ≡ first (cannotGrow g d (h .slot) (toWrite g d m h)) → k ≡ 0
+      → d₁ ≡ cond (accepted k) (larger g d (h .slot) (toWrite g d m h)) d → size ≡ sizeAfter m (sizeOf g d (h .slot)) (h .at + h .len) → Stores d₁ size
+  stores {k} {size} {d₁} y f e z q s =
+      let p = h .slot in
+      let w = larger-ready g p (toWrite g d m h) y e z q in
+      let a = walks g d₁ p (w .ready) in
+      let sl = slot-of g d₁ p (w .ready .slot) in
+      let t = owned-most g p (w .ready) in
+      let n = w .many in
+      let b₀ = walks g d p y .0 .size p (slot-of g d p (y .slot)) (y .first) in
+      let c = after-end m (sizeOf g d p) (h .at + h .len) in
+      let o = f .some in let u = f .ends in
+      let rm = a .0 .room in let rd = rm .directory in let rl = rm .whole in let rmost = rm .most in let l₀ = sl .low in let l₁ = sl .held in
+      record {
+        file = record { sound = a .0; used = a .1 };
+        apart = is-apart g d₁ (w .ready .fits) (w .ready .sound) p sl (w .ready .first) (w .ready .user);
+        owns = record { some = o; owned = omega arith; high = omega arith };
+        old = omega arith;
+        high = omega arith;
+        entry = omega arith;
+      }

@@ -1,0 +1,120 @@
+use Rattle.write.proofs.Calls.{refused, not-grown, written, fit, stores, sized, old-fits, size-is, number-is, image-is, sizes-low}
+use Rattle.growth.proofs.Handed.{ready}
+use Rattle.handle.proofs.Laws.{passed, checked-room}
+use Rattle.meaning.specs.Write.{sizeAfter, withSize}
+use Rattle.meaning.specs.Entries.{sizeOf}
+use Rattle.meaning.specs.Layout.{granulesFor}
+use Rattle.meaning.specs.Refusals.{first, cannotGrow, accepted, larger, protected, lacking}
+use lib.ListN.{length}
+use Prim.Native.Nat.{ℕ, _+_, _-_, _*_, _/_, _≤_, _<_}
+use mathlib.Core.Bool.{cond}
+use mathlib.Core.List.{List, [], _∷_}
+use mathlib.Core.Path.{_≡_, refl, ap, sym, _∙_, subst}
+use native.Mathlib.Omega.{arith}
+use borrow.Author.Needs.{needs}
+use Rattle.write.proofs.write_checked.Statement.{statement}
+use Rattle.write.proofs.write_checked.Tie as tie
+use Rattle.write.proofs.write_checked.Reads as reads
+use Rattle.write.proofs.write_checked.Lts as lts
+use Rattle.growth.proofs.grow.Reads as grow-reads
+use Rattle.handle.proofs.changing_number.Reads as changing-number-reads
+use Rattle.layout.proofs.size_of.Reads as size-of-reads
+use Rattle.write.proofs.put_record.Reads as put-record-reads
+use Rattle.write.proofs.put_size.Reads as put-size-reads
+use Rattle.write.proofs.size_after.Reads as size-after-reads
+use Rattle.write.proofs.write_ranged.Reads as write-ranged-reads
+
+-- src/lib.rt:128:9
+write-ranged-requires : tie.Need-write-ranged-requires
+write-ranged-requires c κs = search needs
+
+-- src/lib.rt:129:9
+changing-number-requires : tie.Need-changing-number-requires
+changing-number-requires c κs = search needs
+
+-- src/lib.rt:131:9
+same-length : tie.Need-same-length
+same-length c = search needs
+
+-- src/lib.rt:131:9
+returns : tie.Need-returns
+returns c = refused (c .before .before .before .before .before .before .args .g) (c .before .before .before .before .before .before .args .image .now) (c .before .before .before .before .before .before .args .mode) (c .before .before .before .before .before .before .args .h) (c .before .before .before .before .before .before .args .buffer .now) (c .before .before .before .write-ranged .ensures) (c .before .changing-number .ensures) (c .if1 .taken)
+
+-- src/lib.rt:136:9
+size-of-requires : tie.Need-size-of-requires
+size-of-requires c κs = let w = passed (c .before .before .before .before .before .before .before .args .g) (c .before .before .before .before .before .before .before .args .image .now) (c .before .before .before .before .before .before .before .args .h) (c .before .before .before .before .write-ranged .result) (protected (c .before .before .before .before .before .before .before .args .g) (c .before .before .before .before .before .before .before .args .image .now) 4 (c .before .before .before .before .before .before .before .args .h) ∷ []) refl (c .before .before .changing-number .ensures) (c .before .if1 .left) in (checked-room _ _ (w .disk), w .slot)
+
+-- src/lib.rt:137:15
+add-end : tie.Need-add-end
+add-end c = let f = fit (c .before .before .before .before .before .before .before .before .before .args .g) (c .before .before .before .before .before .before .before .before .before .args .image .now) (c .before .before .before .before .before .before .before .before .before .args .mode) (c .before .before .before .before .before .before .before .before .before .args .h) (c .before .before .before .before .before .before .before .before .before .args .buffer .now) (c .before .before .before .before .before .before .write-ranged .ensures) (c .before .before .before .before .changing-number .ensures) (c .before .before .before .if1 .left) in let a = f .ends in omega arith
+
+-- src/lib.rt:138:9
+size-after-requires : tie.Need-size-after-requires
+size-after-requires c κs = search needs
+
+-- src/lib.rt:143:18
+sub-grow : tie.Need-sub-grow
+sub-grow c = search needs
+
+-- src/lib.rt:143:10
+add-grow : tie.Need-add-grow
+add-grow c = let f = fit (c .before .before .before .before .before .before .before .before .before .before .before .args .g) (c .before .before .before .before .before .before .before .before .before .before .before .args .image .now) (c .before .before .before .before .before .before .before .before .before .before .before .args .mode) (c .before .before .before .before .before .before .before .before .before .before .before .args .h) (c .before .before .before .before .before .before .before .before .before .before .before .args .buffer .now) (c .before .before .before .before .before .before .before .before .write-ranged .ensures) (c .before .before .before .before .before .before .changing-number .ensures) (c .before .before .before .before .before .if1 .left) in let a = f .ends in let b = c .before .before .before .size-of .ensures .small in let z = sizes-low (c .before .before .before .before .before .before .before .before .before .before .before .args .mode) (c .before .before .before .size-of .result) (c .before .before .before .before .before .before .before .before .before .before .before .args .h .at + c .before .before .before .before .before .before .before .before .before .before .before .args .h .len) in let s = c .before .size-after .ensures in omega arith
+
+-- src/lib.rt:139:9
+grow-requires : tie.Need-grow-requires
+grow-requires c κs = ready (c .before .before .before .before .before .before .before .before .before .before .before .args .g) (c .before .before .before .before .before .before .before .before .before .before .before .args .image .now) (c .before .before .before .before .before .before .before .before .before .before .before .args .h) (c .before .before .before .before .before .before .before .before .write-ranged .result) 4 (c .before .before .before .before .before .before .changing-number .ensures) (c .before .before .before .before .before .if1 .left)
+
+-- src/lib.rt:146:9
+same-length-2 : tie.Need-same-length-2
+same-length-2 c = search needs
+
+-- src/lib.rt:146:9
+returns-2 : tie.Need-returns-2
+returns-2 c = let s = size-is (c .before .before .before .before .before .before .before .before .before .before .before .before .before .before .before .args .g) (c .before .before .before .before .before .before .before .before .before .before .before .before .before .before .before .args .image .now) (c .before .before .before .before .before .before .before .before .before .before .before .before .before .before .before .args .mode) (c .before .before .before .before .before .before .before .before .before .before .before .before .before .before .before .args .h) (c .before .before .before .before .before .before .before .before .before .before .before .before .before .before .before .args .buffer .now) (c .before .before .before .before .before .before .before .before .before .before .before .before .write-ranged .ensures) (c .before .before .before .before .before .before .before .size-of .ensures .is) (c .before .before .before .before .before .size-after .ensures) in
+    not-grown (c .before .before .before .before .before .before .before .before .before .before .before .before .before .before .before .args .g) (c .before .before .before .before .before .before .before .before .before .before .before .before .before .before .before .args .image .now) (c .before .before .before .before .before .before .before .before .before .before .before .before .before .before .before .args .mode) (c .before .before .before .before .before .before .before .before .before .before .before .before .before .before .before .args .h) (c .before .before .before .before .before .before .before .before .before .before .before .before .before .before .before .args .buffer .now) (c .before .before .before .before .before .before .before .before .before .before .before .before .write-ranged .ensures) (c .before .before .before .before .before .before .before .before .before .before .changing-number .ensures) (c .before .before .before .before .before .before .before .before .before .if1 .left) (number-is (c .before .before .before .before .before .before .before .before .before .before .before .before .before .before .before .args .g) (c .before .before .before .before .before .before .before .before .before .before .before .before .before .before .before .args .image .now) (c .before .before .before .before .before .before .before .before .before .before .before .before .before .before .before .args .mode) (c .before .before .before .before .before .before .before .before .before .before .before .before .before .before .before .args .h) (c .before .before .before .before .before .before .before .before .before .before .before .before .before .before .before .args .buffer .now) (c .before .before .before .before .before .before .before .before .before .before .before .before .write-ranged .ensures) s (c .before .before .before .grow .ensures .0)) (c .if2 .taken) (image-is (c .before .before .before .before .before .before .before .before .before .before .before .before .before .before .before .args .g) (c .before .before .before .before .before .before .before .before .before .before .before .before .before .before .before .args .image .now) (c .before .before .before .before .before .before .before .before .before .before .before .before .before .before .before .args .mode) (c .before .before .before .before .before .before .before .before .before .before .before .before .before .before .before .args .h) (c .before .before .before .before .before .before .before .before .before .before .before .before .before .before .before .args .buffer .now) (c .before .before .before .before .before .before .before .before .before .before .before .before .write-ranged .ensures) (c .before .before .before .grow .result) s (c .before .before .before .grow .ensures .1))
+
+-- src/lib.rt:148:5
+put-record-requires : tie.Need-put-record-requires
+put-record-requires c κs = let s = size-is (c .before .before .before .before .before .before .before .before .before .before .before .before .before .before .before .before .args .g) (c .before .before .before .before .before .before .before .before .before .before .before .before .before .before .before .before .args .image .now) (c .before .before .before .before .before .before .before .before .before .before .before .before .before .before .before .before .args .mode) (c .before .before .before .before .before .before .before .before .before .before .before .before .before .before .before .before .args .h) (c .before .before .before .before .before .before .before .before .before .before .before .before .before .before .before .before .args .buffer .now) (c .before .before .before .before .before .before .before .before .before .before .before .before .before .write-ranged .ensures) (c .before .before .before .before .before .before .before .before .size-of .ensures .is) (c .before .before .before .before .before .before .size-after .ensures) in
+    let y = ready (c .before .before .before .before .before .before .before .before .before .before .before .before .before .before .before .before .args .g) (c .before .before .before .before .before .before .before .before .before .before .before .before .before .before .before .before .args .image .now) (c .before .before .before .before .before .before .before .before .before .before .before .before .before .before .before .before .args .h) (c .before .before .before .before .before .before .before .before .before .before .before .before .before .write-ranged .result) 4 (c .before .before .before .before .before .before .before .before .before .before .before .changing-number .ensures) (c .before .before .before .before .before .before .before .before .before .before .if1 .left) in
+    let f = fit (c .before .before .before .before .before .before .before .before .before .before .before .before .before .before .before .before .args .g) (c .before .before .before .before .before .before .before .before .before .before .before .before .before .before .before .before .args .image .now) (c .before .before .before .before .before .before .before .before .before .before .before .before .before .before .before .before .args .mode) (c .before .before .before .before .before .before .before .before .before .before .before .before .before .before .before .before .args .h) (c .before .before .before .before .before .before .before .before .before .before .before .before .before .before .before .before .args .buffer .now) (c .before .before .before .before .before .before .before .before .before .before .before .before .before .write-ranged .ensures) (c .before .before .before .before .before .before .before .before .before .before .before .changing-number .ensures) (c .before .before .before .before .before .before .before .before .before .before .if1 .left) in
+    let w = stores (c .before .before .before .before .before .before .before .before .before .before .before .before .before .before .before .before .args .g) (c .before .before .before .before .before .before .before .before .before .before .before .before .before .before .before .before .args .image .now) (c .before .before .before .before .before .before .before .before .before .before .before .before .before .before .before .before .args .mode) (c .before .before .before .before .before .before .before .before .before .before .before .before .before .before .before .before .args .h) (c .before .before .before .before .before .before .before .before .before .before .before .before .before .before .before .before .args .buffer .now) (c .before .before .before .before .before .before .before .before .before .before .before .before .before .write-ranged .ensures) y f (number-is (c .before .before .before .before .before .before .before .before .before .before .before .before .before .before .before .before .args .g) (c .before .before .before .before .before .before .before .before .before .before .before .before .before .before .before .before .args .image .now) (c .before .before .before .before .before .before .before .before .before .before .before .before .before .before .before .before .args .mode) (c .before .before .before .before .before .before .before .before .before .before .before .before .before .before .before .before .args .h) (c .before .before .before .before .before .before .before .before .before .before .before .before .before .before .before .before .args .buffer .now) (c .before .before .before .before .before .before .before .before .before .before .before .before .before .write-ranged .ensures) s (c .before .before .before .before .grow .ensures .0)) (c .before .if2 .left) (image-is (c .before .before .before .before .before .before .before .before .before .before .before .before .before .before .before .before .args .g) (c .before .before .before .before .before .before .before .before .before .before .before .before .before .before .before .before .args .image .now) (c .before .before .before .before .before .before .before .before .before .before .before .before .before .before .before .before .args .mode) (c .before .before .before .before .before .before .before .before .before .before .before .before .before .before .before .before .args .h) (c .before .before .before .before .before .before .before .before .before .before .before .before .before .before .before .before .args .buffer .now) (c .before .before .before .before .before .before .before .before .before .before .before .before .before .write-ranged .ensures) (c .before .before .before .before .grow .result) s (c .before .before .before .before .grow .ensures .1)) s in
+    (w .file, w .apart, w .owns, old-fits (c .before .before .before .before .before .before .before .before .before .before .before .before .before .before .before .before .args .g) (c .before .before .before .before .before .before .before .before .before .before .before .before .before .before .before .before .args .image .now) (c .before .before .before .before .before .before .before .before .before .before .before .before .before .before .before .before .args .mode) (c .before .before .before .before .before .before .before .before .before .before .before .before .before .before .before .before .args .h) (c .before .before .before .before .before .before .before .before .before .before .before .before .before .before .before .before .args .buffer .now) (c .before .before .before .before .before .before .before .before .before .before .before .before .before .write-ranged .ensures) (c .before .before .before .before .before .before .before .before .size-of .ensures .is) w, c .before .before .before .before .before .before .before .before .size-of .ensures .small, f .short, f .room)
+
+-- src/lib.rt:149:5
+put-size-requires : tie.Need-put-size-requires
+put-size-requires c κs = let s = size-is (c .before .before .before .before .before .before .before .before .before .before .before .before .before .before .before .before .before .before .before .before .args .g) (c .before .before .before .before .before .before .before .before .before .before .before .before .before .before .before .before .before .before .before .before .args .image .now) (c .before .before .before .before .before .before .before .before .before .before .before .before .before .before .before .before .before .before .before .before .args .mode) (c .before .before .before .before .before .before .before .before .before .before .before .before .before .before .before .before .before .before .before .before .args .h) (c .before .before .before .before .before .before .before .before .before .before .before .before .before .before .before .before .before .before .before .before .args .buffer .now) (c .before .before .before .before .before .before .before .before .before .before .before .before .before .before .before .before .before .write-ranged .ensures) (c .before .before .before .before .before .before .before .before .before .before .before .before .size-of .ensures .is) (c .before .before .before .before .before .before .before .before .before .before .size-after .ensures) in
+    let y = ready (c .before .before .before .before .before .before .before .before .before .before .before .before .before .before .before .before .before .before .before .before .args .g) (c .before .before .before .before .before .before .before .before .before .before .before .before .before .before .before .before .before .before .before .before .args .image .now) (c .before .before .before .before .before .before .before .before .before .before .before .before .before .before .before .before .before .before .before .before .args .h) (c .before .before .before .before .before .before .before .before .before .before .before .before .before .before .before .before .before .write-ranged .result) 4 (c .before .before .before .before .before .before .before .before .before .before .before .before .before .before .before .changing-number .ensures) (c .before .before .before .before .before .before .before .before .before .before .before .before .before .before .if1 .left) in
+    let f = fit (c .before .before .before .before .before .before .before .before .before .before .before .before .before .before .before .before .before .before .before .before .args .g) (c .before .before .before .before .before .before .before .before .before .before .before .before .before .before .before .before .before .before .before .before .args .image .now) (c .before .before .before .before .before .before .before .before .before .before .before .before .before .before .before .before .before .before .before .before .args .mode) (c .before .before .before .before .before .before .before .before .before .before .before .before .before .before .before .before .before .before .before .before .args .h) (c .before .before .before .before .before .before .before .before .before .before .before .before .before .before .before .before .before .before .before .before .args .buffer .now) (c .before .before .before .before .before .before .before .before .before .before .before .before .before .before .before .before .before .write-ranged .ensures) (c .before .before .before .before .before .before .before .before .before .before .before .before .before .before .before .changing-number .ensures) (c .before .before .before .before .before .before .before .before .before .before .before .before .before .before .if1 .left) in
+    let w = stores (c .before .before .before .before .before .before .before .before .before .before .before .before .before .before .before .before .before .before .before .before .args .g) (c .before .before .before .before .before .before .before .before .before .before .before .before .before .before .before .before .before .before .before .before .args .image .now) (c .before .before .before .before .before .before .before .before .before .before .before .before .before .before .before .before .before .before .before .before .args .mode) (c .before .before .before .before .before .before .before .before .before .before .before .before .before .before .before .before .before .before .before .before .args .h) (c .before .before .before .before .before .before .before .before .before .before .before .before .before .before .before .before .before .before .before .before .args .buffer .now) (c .before .before .before .before .before .before .before .before .before .before .before .before .before .before .before .before .before .write-ranged .ensures) y f (number-is (c .before .before .before .before .before .before .before .before .before .before .before .before .before .before .before .before .before .before .before .before .args .g) (c .before .before .before .before .before .before .before .before .before .before .before .before .before .before .before .before .before .before .before .before .args .image .now) (c .before .before .before .before .before .before .before .before .before .before .before .before .before .before .before .before .before .before .before .before .args .mode) (c .before .before .before .before .before .before .before .before .before .before .before .before .before .before .before .before .before .before .before .before .args .h) (c .before .before .before .before .before .before .before .before .before .before .before .before .before .before .before .before .before .before .before .before .args .buffer .now) (c .before .before .before .before .before .before .before .before .before .before .before .before .before .before .before .before .before .write-ranged .ensures) s (c .before .before .before .before .before .before .before .before .grow .ensures .0)) (c .before .before .before .before .before .if2 .left) (image-is (c .before .before .before .before .before .before .before .before .before .before .before .before .before .before .before .before .before .before .before .before .args .g) (c .before .before .before .before .before .before .before .before .before .before .before .before .before .before .before .before .before .before .before .before .args .image .now) (c .before .before .before .before .before .before .before .before .before .before .before .before .before .before .before .before .before .before .before .before .args .mode) (c .before .before .before .before .before .before .before .before .before .before .before .before .before .before .before .before .before .before .before .before .args .h) (c .before .before .before .before .before .before .before .before .before .before .before .before .before .before .before .before .before .before .before .before .args .buffer .now) (c .before .before .before .before .before .before .before .before .before .before .before .before .before .before .before .before .before .write-ranged .ensures) (c .before .before .before .before .before .before .before .before .grow .result) s (c .before .before .before .before .before .before .before .before .grow .ensures .1)) s in
+    sized (c .before .before .before .before .before .before .before .before .before .before .before .before .before .before .before .before .before .before .before .before .args .g) (c .before .before .before .before .before .before .before .before .before .before .before .before .before .before .before .before .before .before .before .before .args .image .now) (c .before .before .before .before .before .before .before .before .before .before .before .before .before .before .before .before .before .before .before .before .args .mode) (c .before .before .before .before .before .before .before .before .before .before .before .before .before .before .before .before .before .before .before .before .args .h) (c .before .before .before .before .before .before .before .before .before .before .before .before .before .before .before .before .before .before .before .before .args .buffer .now) (c .before .before .before .before .before .before .before .before .before .before .before .before .before .before .before .before .before .write-ranged .ensures) _ _ _ _ _ w (c .before .before .before .put-record .ensures)
+
+-- src/lib.rt:117:1
+same-length-3 : tie.Need-same-length-3
+same-length-3 c = search needs
+
+-- src/lib.rt:117:1
+returns-3 : tie.Need-returns-3
+returns-3 c = let s = size-is (c .before .before .before .before .before .before .before .before .before .before .before .before .before .before .before .before .before .before .before .before .before .before .before .args .g) (c .before .before .before .before .before .before .before .before .before .before .before .before .before .before .before .before .before .before .before .before .before .before .before .args .image .now) (c .before .before .before .before .before .before .before .before .before .before .before .before .before .before .before .before .before .before .before .before .before .before .before .args .mode) (c .before .before .before .before .before .before .before .before .before .before .before .before .before .before .before .before .before .before .before .before .before .before .before .args .h) (c .before .before .before .before .before .before .before .before .before .before .before .before .before .before .before .before .before .before .before .before .before .before .before .args .buffer .now) (c .before .before .before .before .before .before .before .before .before .before .before .before .before .before .before .before .before .before .before .before .write-ranged .ensures) (c .before .before .before .before .before .before .before .before .before .before .before .before .before .before .before .size-of .ensures .is) (c .before .before .before .before .before .before .before .before .before .before .before .before .before .size-after .ensures) in
+    written (c .before .before .before .before .before .before .before .before .before .before .before .before .before .before .before .before .before .before .before .before .before .before .before .args .g) (c .before .before .before .before .before .before .before .before .before .before .before .before .before .before .before .before .before .before .before .before .before .before .before .args .image .now) (c .before .before .before .before .before .before .before .before .before .before .before .before .before .before .before .before .before .before .before .before .before .before .before .args .mode) (c .before .before .before .before .before .before .before .before .before .before .before .before .before .before .before .before .before .before .before .before .before .before .before .args .h) (c .before .before .before .before .before .before .before .before .before .before .before .before .before .before .before .before .before .before .before .before .before .before .before .args .buffer .now) (c .before .before .before .before .before .before .before .before .before .before .before .before .before .before .before .before .before .before .before .before .write-ranged .ensures) (c .before .before .before .before .before .before .before .before .before .before .before .before .before .before .before .size-of .ensures .is) (c .before .before .before .before .before .before .before .before .before .before .before .before .before .before .before .before .before .before .changing-number .ensures) (c .before .before .before .before .before .before .before .before .before .before .before .before .before .before .before .before .before .if1 .left) (number-is (c .before .before .before .before .before .before .before .before .before .before .before .before .before .before .before .before .before .before .before .before .before .before .before .args .g) (c .before .before .before .before .before .before .before .before .before .before .before .before .before .before .before .before .before .before .before .before .before .before .before .args .image .now) (c .before .before .before .before .before .before .before .before .before .before .before .before .before .before .before .before .before .before .before .before .before .before .before .args .mode) (c .before .before .before .before .before .before .before .before .before .before .before .before .before .before .before .before .before .before .before .before .before .before .before .args .h) (c .before .before .before .before .before .before .before .before .before .before .before .before .before .before .before .before .before .before .before .before .before .before .before .args .buffer .now) (c .before .before .before .before .before .before .before .before .before .before .before .before .before .before .before .before .before .before .before .before .write-ranged .ensures) s (c .before .before .before .before .before .before .before .before .before .before .before .grow .ensures .0)) (c .before .before .before .before .before .before .before .before .if2 .left) (image-is (c .before .before .before .before .before .before .before .before .before .before .before .before .before .before .before .before .before .before .before .before .before .before .before .args .g) (c .before .before .before .before .before .before .before .before .before .before .before .before .before .before .before .before .before .before .before .before .before .before .before .args .image .now) (c .before .before .before .before .before .before .before .before .before .before .before .before .before .before .before .before .before .before .before .before .before .before .before .args .mode) (c .before .before .before .before .before .before .before .before .before .before .before .before .before .before .before .before .before .before .before .before .before .before .before .args .h) (c .before .before .before .before .before .before .before .before .before .before .before .before .before .before .before .before .before .before .before .before .before .before .before .args .buffer .now) (c .before .before .before .before .before .before .before .before .before .before .before .before .before .before .before .before .before .before .before .before .write-ranged .ensures) (c .before .before .before .before .before .before .before .before .before .before .before .grow .result) s (c .before .before .before .before .before .before .before .before .before .before .before .grow .ensures .1)) s (c .before .before .before .before .before .before .put-record .ensures) (c .before .before .put-size .ensures)
+
+pub write-checked-spec : {M : Type 1} → statement M
+write-checked-spec =
+    tie.close
+    (tie.spec
+    write-ranged-requires
+    changing-number-requires
+    same-length
+    returns
+    size-of-requires
+    add-end
+    size-after-requires
+    sub-grow
+    add-grow
+    grow-requires
+    same-length-2
+    returns-2
+    put-record-requires
+    put-size-requires
+    same-length-3
+    returns-3)

@@ -1,0 +1,154 @@
+// Write record, sequential and random.
+use meaning::Answer;
+use meaning::Geometry;
+use meaning::Handle;
+use meaning::Mode;
+ghost use mathlib.Core.Path.{_≡_};
+ghost use mathlib.Core.List.{[], _∷_};
+ghost use Prim.Native.Nat.{_+_, _-_, _*_, _<_, _≤_};
+ghost use lib.ListN.{length, take, replicate};
+ghost use lib.Dec.{leb};
+ghost use Rattle.meaning.specs.Lists.{all};
+ghost use Rattle.meaning.specs.Layout.{highest, entryAt};
+ghost use Rattle.meaning.specs.Chain.{owned, place};
+ghost use Rattle.meaning.specs.Refusals.{check, inRange};
+ghost use Rattle.meaning.specs.Write.{store, sizeAfter, withSize, writeRecord};
+ghost use Rattle.read.specs.Part.{File, Owned, InSector};
+ghost use Rattle.write.specs.Apart.{Apart};
+
+// The first n bytes of src, at most 256, go to the file from byte i on: sector by sector, so two parts at the most. Both places
+// are found before anything is written.
+pub fn write_bytes(image: &mut [u8], g: Geometry, s: usize, i: usize, src: &[u8], n: usize)
+    requires { ⌜ File g (now image) s × Owned g (now image) s i n × (n ≤ 256) × (n ≤ length (now src)) ⌝ }
+    ensures { λ _. ⌜ now (image .exit) ≡ store (place g (now (image .entry)) s) (now (image .entry)) i (take n (now (src .entry))) ⌝ }
+{
+    let first = 256 - i % 256;
+    let p = seek::place(image, g, s, i);
+    if n <= first {
+        copy::put_part(image, p, src, 0, n);
+        return;
+    }
+    let q = seek::place(image, g, s, i + first);
+    copy::put_part(image, p, src, 0, first);
+    copy::put_part(image, q, src, first, n - first);
+}
+
+// n zeros go to the file from byte i on: one walk along the chain and one part a sector.
+pub fn clear_bytes(image: &mut [u8], g: Geometry, s: usize, i: usize, n: usize)
+    requires { ⌜ File g (now image) s × Apart g (now image) s × (i + n ≤ 1280 * length (owned g (now image) s)) × (i + n ≤ 16777215) ⌝ }
+    ensures { λ _. ⌜ now (image .exit) ≡ store (place g (now (image .entry)) s) (now (image .entry)) i (replicate n 0) ⌝ }
+{
+    let mut at = i;
+    let mut left = n;
+    while 0 < left {
+        let m = part_of(at, left);
+        let p = seek::place(image, g, s, at);
+        copy::clear_part(image, p, m);
+        at += m;
+        left -= m;
+    }
+}
+
+// How many of n bytes from byte i on lie in its sector.
+fn part_of(i: usize, n: usize) -> usize
+    requires { ⌜ 1 ≤ n ⌝ }
+    ensures { λ r. ⌜ InSector i r × (1 ≤ r) × (r ≤ n) ⌝ }
+{
+    let room = 256 - i % 256;
+    if n < room { n } else { room }
+}
+
+// Test 12 of a write; `room` is the buffer's length.
+fn write_ranged(h: Handle, room: usize) -> bool
+    ensures { λ r. ⌜ r ≡ all (inRange h ∷ leb (h .at + h .len) highest ∷ leb (h .len) room ∷ []) ⌝ }
+{
+    if !handle::in_range(h) {
+        return false;
+    }
+    if layout::HIGHEST < h.at + h.len {
+        return false;
+    }
+    h.len <= room
+}
+
+fn size_after(mode: Mode, old: usize, end: usize) -> usize
+    ensures { λ r. ⌜ r ≡ sizeAfter mode old end ⌝ }
+{
+    match mode {
+        Mode::Sequential => end,
+        Mode::Random => { if old < end { end } else { old } }
+    }
+}
+
+// How many bytes lie between the old size and the position.
+fn gap(old: usize, at: usize) -> usize
+    ensures { λ r. ⌜ r ≡ at - old ⌝ }
+{
+    if old < at { at - old } else { 0 }
+}
+
+// Zeros from the old size to the position, then the record: the first n bytes of src.
+fn put_record(image: &mut [u8], g: Geometry, s: usize, old: usize, at: usize, src: &[u8], n: usize)
+    requires { ⌜ File g (now image) s × Apart g (now image) s × Owned g (now image) s at n × (old ≤ 1280 * length (owned g (now image) s)) × (old < 16777216) × (n ≤ 256) × (n ≤ length (now src)) ⌝ }
+    ensures { λ _. ⌜ now (image .exit) ≡ store (place g (now (image .entry)) s) (store (place g (now (image .entry)) s) (now (image .entry)) old (replicate (at - old) 0)) at (take n (now (src .entry))) ⌝ }
+{
+    let zeros = gap(old, at);
+    clear_bytes(image, g, s, old, zeros);
+    write_bytes(image, g, s, at, src, n);
+}
+
+// The directory's end of file: end byte and sector count. B is set.
+fn put_size(image: &mut [u8], g: Geometry, s: usize, size: usize)
+    requires { ⌜ (entryAt g s + 32 ≤ length (now image)) × (size ≤ highest) ⌝ }
+    ensures { λ _. ⌜ now (image .exit) ≡ withSize g (now (image .entry)) (now (image .entry)) s size ⌝ }
+{
+    let at = 256 * (g.start + 2 + s % 32) + 32 * (s / 32);
+    let n = (size + 255) / 256;
+    let worked = space::with_bit(image[at + 1], 5);
+    image[at + 3] = (size % 256) as u8;
+    image[at + 0x14] = (n % 256) as u8;
+    image[at + 0x15] = (n / 256) as u8;
+    image[at + 1] = worked;
+}
+
+// Write record, from the buffer's start, on a disk whose check answered `checked`.
+pub fn write_checked(
+    image: &mut [u8],
+    g: Geometry,
+    mode: Mode,
+    h: Handle,
+    buffer: &[u8],
+    checked: u8,
+) -> Answer
+    requires { ⌜ checked ≡ check g (now image) ⌝ }
+    ensures { λ r. ⌜ (r, now (image .exit)) ≡ writeRecord g (now (image .entry)) mode h (now (buffer .entry)) ⌝ }
+{
+    let ranged = write_ranged(h, buffer.len());
+    let refused = handle::changing_number(image, g, h, ranged, 4, checked);
+    if refused != 0 {
+        return Answer {
+            number: refused,
+            handle: h,
+        };
+    }
+    let old = layout::size_of(image, g, h.slot);
+    let end = h.at + h.len;
+    let size = size_after(mode, old, end);
+    let number = growth::grow(
+        image,
+        g,
+        h.slot,
+        (size + (layout::GRANULE_BYTES - 1)) / layout::GRANULE_BYTES,
+    );
+    if number != 0 {
+        return Answer { number, handle: h };
+    }
+    put_record(image, g, h.slot, old, h.at, buffer, h.len);
+    put_size(image, g, h.slot, size);
+    let mut moved = h;
+    moved.at = end;
+    Answer {
+        number: 0,
+        handle: moved,
+    }
+}
