@@ -1,19 +1,19 @@
 -- What a create writes, answers and leaves.
 use mathlib.Core.Path.{_≡_, refl, sym, ap, _∙_}
 use mathlib.Core.List.{List, [], _∷_, _++_}
-use mathlib.Core.Bool.{Bool, true, false, not, cond, _&&_}
-use Prim.Native.Nat.{ℕ, zero, suc, _+_, _-_, _*_, _/_, _%_, _≤_, _<_}
+use mathlib.Core.Bool.{Bool, true, false, not}
+use Prim.Native.Nat.{ℕ, suc, _+_, _/_, _%_, _≤_, _<_}
 use native.Mathlib.Omega.{arith}
 use lib.ListN.{length, set, take, drop, replicate}
 use lib.Seq.{sets, take-all}
-use lib.Dec.{eqb, leb}
-use borrow.Author.Tests.{ne-eqb, eq-eqb, leb-true}
-use Rattle.meaning.specs.Lists.{count, keep, all, firstOr}
-use Rattle.meaning.specs.Layout.{isSlot, entryAt, hitAt}
+use lib.Dec.{eqb}
+use borrow.Author.Tests.{ne-eqb, leb-true}
+use Rattle.meaning.specs.Lists.{count, all, firstOr}
+use Rattle.meaning.specs.Layout.{entryAt, hitAt}
 use Rattle.meaning.specs.Names.{hash, wellFormed}
 use Rattle.meaning.specs.Entries.{dateByte}
 use Rattle.meaning.specs.Free.{freeSlots, freeSlot, permitted}
-use Rattle.meaning.specs.Refusals.{first, check, newInRange, noHandle, badName}
+use Rattle.meaning.specs.Refusals.{first, check, newInRange, noHandle}
 use Rattle.meaning.specs.LookUp.{named, missing, slotOf}
 use Rattle.meaning.specs.Open.{admits, openedAt}
 use Rattle.meaning.specs.Create.{newEntry, newSlot, withEntry, createRefusals, create}
@@ -24,7 +24,7 @@ use Rattle.meaning.specs.declared.Created.{Created}
 use Rattle.laws.specs.Members
 use Rattle.laws.specs.Members.{In}
 use Rattle.layout.specs.Room.{Room, Slot}
-use Rattle.layout.proofs.Lists.{all-at, all-yes, all-no, all-none, first-hit, first-skip, first-none, not-yes, not-no, is-yes, is-no}
+use Rattle.layout.proofs.Lists.{all-at, all-yes, all-no, all-none, first-hit, first-skip, first-none, not-yes, not-no}
 use Rattle.layout.proofs.Sound.{slot-of}
 use Rattle.handle.proofs.Laws.{check-stop, check-then}
 use Rattle.copy.proofs.Laws.{sets-append}
