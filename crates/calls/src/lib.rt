@@ -1,0 +1,126 @@
+// The calls of the library, one function a call. Each checks the whole disk first, whatever it is given, so none asks anything of its
+// caller.
+use meaning::Answer;
+use meaning::Created;
+use meaning::Geometry;
+use meaning::Handle;
+use meaning::LookedUp;
+use meaning::Mode;
+use meaning::NewFile;
+use meaning::Part;
+ghost use mathlib.Core.Path.{_≡_};
+ghost use Prim.Native.Nat.{_+_};
+ghost use lib.ListN.{length};
+ghost use denote.Ref.{ptr};
+ghost use Rattle.meaning.specs.Refusals.{check};
+ghost use Rattle.meaning.specs.LookUp.{lookUp};
+ghost use Rattle.meaning.specs.Open.{open′};
+ghost use Rattle.meaning.specs.Create.{create};
+ghost use Rattle.meaning.specs.Read.{readRecord, readSector};
+ghost use Rattle.meaning.specs.Write.{writeRecord};
+ghost use Rattle.meaning.specs.Allot.{allot};
+ghost use Rattle.meaning.specs.Trim.{trim};
+ghost use Rattle.meaning.specs.Kill.{kill};
+ghost use Rattle.read.specs.Part.{partOf, Lies};
+
+// Check: 0, or refusal 1 or 2.
+pub fn check(image: &[u8], g: Geometry) -> u8
+    ensures { λ r. ⌜ r ≡ check g (now (image .entry)) ⌝ }
+{
+    consistency::check(image, g)
+}
+
+// Look up: the slot of the file of that name, and how many entries were compared.
+pub fn look_up(image: &[u8], g: Geometry, name: &[u8]) -> LookedUp
+    ensures { λ r. ⌜ r ≡ lookUp g (now (image .entry)) (now (name .entry)) ⌝ }
+{
+    let checked = consistency::check(image, g);
+    find::look_up_checked(image, g, name, checked)
+}
+
+// Open: a handle of the file of that name.
+pub fn open_file(
+    image: &[u8],
+    g: Geometry,
+    name: &[u8],
+    len: usize,
+    checking: bool,
+    code: u16,
+) -> Answer
+    ensures { λ r. ⌜ r ≡ open′ g (now (image .entry)) (now (name .entry)) len checking code ⌝ }
+{
+    let checked = consistency::check(image, g);
+    find::open_checked(image, g, name, len, checking, code, checked)
+}
+
+// Create: an existing file is opened, else an empty one is made.
+pub fn create(image: &mut [u8], g: Geometry, name: &[u8], f: NewFile, checking: bool) -> Created
+    ensures { λ r. ⌜ (r, now (image .exit)) ≡ create g (now (image .entry)) (now (name .entry)) f checking ⌝ }
+{
+    let checked = consistency::check(image, g);
+    create::create_checked(image, g, name, f, checking, checked)
+}
+
+// Read record: the record at the handle's position goes to the start of the buffer.
+pub fn read_record(image: &[u8], g: Geometry, h: Handle, buffer: &mut [u8]) -> Answer
+    ensures { λ r. ⌜ (r, now (buffer .exit)) ≡ readRecord g (now (image .entry)) h (now (buffer .entry)) ⌝ }
+{
+    let checked = consistency::check(image, g);
+    read::record_checked(image, g, h, buffer, checked)
+}
+
+// Where the bytes of the file's sector k lie.
+pub fn sector_part(image: &[u8], g: Geometry, h: Handle, k: usize) -> Part
+    ensures is { λ r. ⌜ r ≡ readSector g (now (image .entry)) h k ⌝ }
+    ensures lies { λ r. ⌜ Lies r (length (now (image .entry))) ⌝ }
+{
+    let checked = consistency::check(image, g);
+    read::sector_checked(image, g, h, k, checked)
+}
+
+// Read sector: the file's bytes in sector k, handed back as a part of the lent image; the refusal number goes out beside it.
+pub fn read_sector<'a>(
+    image: &'a [u8],
+    g: Geometry,
+    h: Handle,
+    k: usize,
+    number: &mut u8,
+) -> &'a [u8]
+    ensures what { λ r. ⌜ (now (number .exit), now r) ≡ partOf (now (image .entry)) (readSector g (now (image .entry)) h k) ⌝ }
+    ensures place_at { λ r. ⌜ ptr r ≡ (ptr (image .entry) .0, ptr (image .entry) .1 + readSector g (now (image .entry)) h k .from) ⌝ }
+{
+    let checked = consistency::check(image, g);
+    read::part_checked(image, g, h, k, checked, number)
+}
+
+// Write record: the record at the buffer's start goes to the file at the handle's position.
+pub fn write_record(image: &mut [u8], g: Geometry, mode: Mode, h: Handle, buffer: &[u8]) -> Answer
+    ensures { λ r. ⌜ (r, now (image .exit)) ≡ writeRecord g (now (image .entry)) mode h (now (buffer .entry)) ⌝ }
+{
+    let checked = consistency::check(image, g);
+    write::write_checked(image, g, mode, h, buffer, checked)
+}
+
+// Allot: the file takes granules until it owns those of its sectors 0 to k.
+pub fn allot(image: &mut [u8], g: Geometry, h: Handle, k: usize) -> Answer
+    ensures { λ r. ⌜ (r, now (image .exit)) ≡ allot g (now (image .entry)) h k ⌝ }
+{
+    let checked = consistency::check(image, g);
+    allot::allot_checked(image, g, h, k, checked)
+}
+
+// Trim: the file gives back the granules that its size does not need.
+pub fn trim(image: &mut [u8], g: Geometry, h: Handle) -> Answer
+    ensures { λ r. ⌜ (r, now (image .exit)) ≡ trim g (now (image .entry)) h ⌝ }
+{
+    let checked = consistency::check(image, g);
+    trim::trim_checked(image, g, h, checked)
+}
+
+// Kill: the file's entries, HIT bytes and granules are free.
+pub fn kill(image: &mut [u8], g: Geometry, h: Handle) -> Answer
+    ensures { λ r. ⌜ (r, now (image .exit)) ≡ kill g (now (image .entry)) h ⌝ }
+{
+    let checked = consistency::check(image, g);
+    kill::kill_checked(image, g, h, checked)
+}
