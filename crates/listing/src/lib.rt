@@ -1,0 +1,163 @@
+// The listing: one file a call, and the counts FILES and FREE. `checked` is the answer of the check of the whole disk.
+use meaning::Counts;
+use meaning::Geometry;
+use meaning::Listed;
+ghost use mathlib.Core.Path.{_≡_};
+ghost use mathlib.Core.List.{[], _∷_};
+ghost use Prim.Native.Nat.{_+_, _*_, _<_, _≤_};
+ghost use lib.ListN.{length, drop};
+ghost use Rattle.meaning.specs.Lists.{all};
+ghost use Rattle.meaning.specs.Entries.{primary};
+ghost use Rattle.meaning.specs.Free.{freeGranules};
+ghost use Rattle.meaning.specs.Listing.{noFile, shown, listed, tellFirst, list, counts};
+ghost use Rattle.meaning.specs.Refusals.{check};
+ghost use Rattle.layout.specs.Room.{Room, Slot};
+ghost use Rattle.seek.specs.Seek.{Sound, Used};
+ghost use Rattle.listing.specs.Clear.{clearBits};
+
+// Whether a file that is listed starts at slot s: a primary entry in use, without the system flag. One byte is read.
+fn tells(image: &[u8], g: Geometry, s: usize) -> bool
+    requires { ⌜ Room g (now image) × Slot g (now image) s ⌝ }
+    ensures { λ r. ⌜ r ≡ all (primary g (now (image .entry)) s ∷ shown g (now (image .entry)) s ∷ []) ⌝ }
+{
+    let f = layout::field(image, g, s, 0);
+    if (f >> 4) % 2 != 1 {
+        return false;
+    }
+    if (f >> 7) % 2 == 1 {
+        return false;
+    }
+    (f >> 6) % 2 != 1
+}
+
+// Nothing told of a file: a refusal, or "no more".
+fn no_file(number: u8) -> Listed
+    ensures { λ r. ⌜ r ≡ noFile number ⌝ }
+{
+    Listed {
+        number,
+        more: false,
+        name: [0u8; 11],
+        size: 0,
+        granules: 0,
+    }
+}
+
+// The file at slot s: name, size, granules owned.
+fn tell(image: &[u8], g: Geometry, s: usize) -> Listed
+    requires { ⌜ Sound g (now image) × Used g (now image) s ⌝ }
+    ensures { λ r. ⌜ r ≡ tellFirst g (now (image .entry)) (s ∷ []) ⌝ }
+{
+    Listed {
+        number: 0,
+        more: true,
+        name: find::name_at(image, 256 * (g.start + 2 + s % 32) + 32 * (s / 32) + 5),
+        size: layout::size_of(image, g, s),
+        granules: growth::measure(image, g, s).owned,
+    }
+}
+
+// The listed file of that number, by rising slot number; or "no more".
+fn told(image: &[u8], g: Geometry, number: usize) -> Listed
+    requires { ⌜ Sound g (now image) ⌝ }
+    ensures { λ r. ⌜ r ≡ tellFirst g (now (image .entry)) (drop number (listed g (now (image .entry)))) ⌝ }
+{
+    let columns = layout::directory_sectors(image, g) - 2;
+    let mut left = number;
+    let mut s = 0;
+    while s < 256 {
+        if columns <= s % 32 {
+            s = 32 * (s / 32 + 1);
+            continue;
+        }
+        if tells(image, g, s) {
+            if left == 0 {
+                return tell(image, g, s);
+            }
+            left -= 1;
+        }
+        s += 1;
+    }
+    no_file(0)
+}
+
+// List, of a disk whose check answered `checked`.
+pub fn list_checked(image: &[u8], g: Geometry, number: usize, checked: u8) -> Listed
+    requires { ⌜ checked ≡ check g (now image) ⌝ }
+    ensures { λ r. ⌜ r ≡ list g (now (image .entry)) number ⌝ }
+{
+    if checked != 0 {
+        return no_file(checked);
+    }
+    told(image, g, number)
+}
+
+// FILES: how many files are listed.
+fn files_count(image: &[u8], g: Geometry) -> usize
+    requires { ⌜ Room g (now image) ⌝ }
+    ensures { λ r. ⌜ r ≡ length (listed g (now (image .entry))) ⌝ }
+{
+    let columns = layout::directory_sectors(image, g) - 2;
+    let mut n = 0;
+    let mut s = 0;
+    while s < 256 {
+        if columns <= s % 32 {
+            s = 32 * (s / 32 + 1);
+            continue;
+        }
+        if tells(image, g, s) {
+            n += 1;
+        }
+        s += 1;
+    }
+    n
+}
+
+// How many of the lowest bits of a GAT byte are clear.
+fn clear_bits(byte: usize, bits: usize) -> usize
+    requires { ⌜ bits ≤ 8 ⌝ }
+    ensures { λ r. ⌜ (r ≡ clearBits bits byte) × (r ≤ 8) ⌝ }
+{
+    let mut x = byte;
+    let mut left = bits;
+    let mut n = 0;
+    while 0 < left {
+        n = n + (1 - x % 2);
+        x = x / 2;
+        left -= 1;
+    }
+    n
+}
+
+// FREE: how many granules are free, by one pass over the GAT.
+fn free_count(image: &[u8], g: Geometry) -> usize
+    requires { ⌜ Room g (now image) ⌝ }
+    ensures { λ r. ⌜ r ≡ length (freeGranules g (now (image .entry))) ⌝ }
+{
+    let mut n = 0;
+    let mut b = 0;
+    while b < g.blocks {
+        n = n + clear_bits(layout::wide(image[256 * g.start + b]), g.units);
+        b += 1;
+    }
+    n
+}
+
+// The counts FILES and FREE, of a disk whose check answered `checked`.
+pub fn counts_checked(image: &[u8], g: Geometry, checked: u8) -> Counts
+    requires { ⌜ checked ≡ check g (now image) ⌝ }
+    ensures { λ r. ⌜ r ≡ counts g (now (image .entry)) ⌝ }
+{
+    if checked != 0 {
+        return Counts {
+            number: checked,
+            files: 0,
+            free: 0,
+        };
+    }
+    Counts {
+        number: 0,
+        files: files_count(image, g),
+        free: free_count(image, g),
+    }
+}
