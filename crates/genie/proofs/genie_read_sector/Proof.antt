@@ -1,0 +1,44 @@
+use Rattle.genie.proofs.Laws.{number}
+use Rattle.genie.specs.Exports.{lies}
+use Rattle.meaning.specs.declared.Handle.{Handle}
+use Rattle.meaning.specs.Read.{readSector}
+use Rattle.genie.specs.Exports.{geometry}
+use Rattle.genie.specs.Codec.{handleOf}
+use borrow.Author.Tests.{lt-ltb, le-ltb}
+use mathlib.Core.Path.{_≡_, refl, sym, ap, _∙_}
+use mathlib.Core.List.{List, [], _∷_}
+use Prim.Native.Nat.{ℕ, _+_, _*_, _≤_}
+use native.Mathlib.Omega.{arith}
+use borrow.Author.Needs.{needs}
+use Rattle.genie.proofs.genie_read_sector.Statement.{statement}
+use Rattle.genie.proofs.genie_read_sector.Tie as tie
+use Rattle.genie.proofs.genie_read_sector.Reads as reads
+use Rattle.genie.proofs.genie_read_sector.Lts as lts
+use Rattle.calls.proofs.sector_part.Reads as sector-part-reads
+use Rattle.genie.proofs.handle_of.Reads as handle-of-reads
+use Rattle.genie.proofs.short_number.Reads as short-number-reads
+
+-- src/lib.rt:176:9
+short-number-requires : tie.Need-short-number-requires
+short-number-requires c κs = search needs
+
+-- src/lib.rt:176:9
+returns : tie.Need-returns
+returns c = rw (lt-ltb _ _ (c .before .if1 .taken)) (number (ℕ × ℕ × ℕ) (λ n. (n, 0, 0)) (c .short-number .ensures))
+
+-- src/lib.rt:178:9
+handle-of-requires : tie.Need-handle-of-requires
+handle-of-requires c κs = search needs
+
+-- src/lib.rt:179:9
+sector-part-requires : tie.Need-sector-part-requires
+sector-part-requires c κs = search needs
+
+-- src/lib.rt:168:1
+returns-2 : tie.Need-returns-2
+returns-2 c = rw (le-ltb _ _ (c .before .before .if1 .left)) (ap lies (c .sector-part .ensures .0 ∙ ap (λ (h : Handle). readSector (geometry (c .before .before .before .before .before .args .blocks) (c .before .before .before .before .before .args .units) (c .before .before .before .before .before .args .start) (c .before .before .before .before .before .args .open-code)) (c .before .before .before .before .before .args .image .now) h (c .before .before .before .before .before .args .k)) (c .before .handle-of .ensures)))
+
+pub genie-read-sector-spec : {M : Type 1} → statement M
+genie-read-sector-spec =
+    tie.close
+    (tie.spec short-number-requires returns handle-of-requires sector-part-requires returns-2)

@@ -1,0 +1,385 @@
+// The exported functions, for hosts in C and Rust: numbers and byte slices only (host/include/genie.h). Each tests what it is lent.
+use meaning::Geometry;
+use meaning::Handle;
+use meaning::Mode;
+use meaning::NewFile;
+ghost use mathlib.Core.Path.{_≡_};
+ghost use Prim.Native.Nat.{_+_, _≤_};
+ghost use lib.ListN.{length};
+ghost use lib.Seq.{sets};
+ghost use Rattle.meaning.specs.Refusals.{check};
+ghost use Rattle.layout.specs.Room.{Below};
+ghost use Rattle.genie.specs.Codec.{two, handleOf, stored};
+ghost use Rattle.genie.specs.Exports.{geometry, newFile, modeOf, told, tooShort, exportedLookUp, exportedOpen, exportedCreate, exportedReadRecord, exportedReadSector, exportedWriteRecord, exportedAllot, exportedTrim, exportedKill};
+
+const HANDLE_BYTES: usize = 19;
+
+const NAME_BYTES: usize = 11;
+
+// Two bytes as a number, low byte first.
+fn two(b: &[u8], i: usize) -> usize
+    requires { ⌜ (i ≤ 17) × (19 ≤ length (now b)) ⌝ }
+    ensures { λ r. ⌜ Below 65536 (two (now (b .entry)) i) r ⌝ }
+{
+    layout::wide(b[i]) + 256 * layout::wide(b[i + 1])
+}
+
+// The handle that the first 19 bytes hold.
+fn handle_of(b: &[u8]) -> Handle
+    requires { ⌜ 19 ≤ length (now b) ⌝ }
+    ensures { λ r. ⌜ r ≡ handleOf (now (b .entry)) ⌝ }
+{
+    let mut name = [0u8; 11];
+    copy::put_part(&mut name, 0, b, 8, NAME_BYTES);
+    Handle {
+        slot: layout::wide(b[0]),
+        name,
+        at: two(b, 4) + 65536 * two(b, 6),
+        len: two(b, 2),
+        level: layout::wide(b[1]),
+    }
+}
+
+// A name goes to the 11 bytes from `at` on.
+fn put_name(b: &mut [u8], at: usize, name: [u8; 11])
+    requires { ⌜ at + 11 ≤ length (now b) ⌝ }
+    ensures { λ _. ⌜ now (b .exit) ≡ sets (now (b .entry)) at name ⌝ }
+{
+    copy::put_part(b, at, &name, 0, NAME_BYTES);
+}
+
+// The handle goes to the first 19 bytes.
+fn put_handle(b: &mut [u8], h: Handle)
+    requires { ⌜ 19 ≤ length (now b) ⌝ }
+    ensures { λ _. ⌜ now (b .exit) ≡ stored (now (b .entry)) h ⌝ }
+{
+    let numbers = [
+        (h.slot % 256) as u8,
+        (h.level % 256) as u8,
+        (h.len % 256) as u8,
+        (h.len / 256 % 256) as u8,
+        (h.at % 256) as u8,
+        (h.at / 256 % 256) as u8,
+        (h.at / 256 / 256 % 256) as u8,
+        (h.at / 256 / 256 / 256 % 256) as u8,
+    ];
+    copy::put_part(b, 0, &numbers, 0, 8);
+    let name = h.name;
+    put_name(b, 8, name);
+}
+
+// 12 for what is lent too short, after 1 and 2.
+fn short_number(image: &[u8], g: Geometry) -> u8
+    ensures { λ r. ⌜ r ≡ tooShort g (now (image .entry)) ⌝ }
+{
+    let number = calls::check(image, g);
+    if number != 0 {
+        return number;
+    }
+    12
+}
+
+fn mode_of(sequential: bool) -> Mode
+    ensures { λ r. ⌜ r ≡ modeOf sequential ⌝ }
+{
+    if sequential {
+        return Mode::Sequential;
+    }
+    Mode::Random
+}
+
+fn told(b: bool) -> usize
+    ensures { λ r. ⌜ r ≡ told b ⌝ }
+{
+    if b {
+        return 1;
+    }
+    0
+}
+
+#[no_mangle]
+pub extern "C" fn genie_check(
+    image: &[u8],
+    blocks: usize,
+    units: usize,
+    start: usize,
+    open_code: u16,
+) -> u8
+    ensures { λ r. ⌜ r ≡ check (geometry blocks units start open_code) (now (image .entry)) ⌝ }
+{
+    let g = Geometry {
+        blocks,
+        units,
+        start,
+        anyone: open_code,
+    };
+    calls::check(image, g)
+}
+
+#[no_mangle]
+pub extern "C" fn genie_look_up(
+    image: &[u8],
+    blocks: usize,
+    units: usize,
+    start: usize,
+    open_code: u16,
+    name: &[u8],
+    slot: &mut usize,
+    compared: &mut usize,
+) -> u8
+    ensures { λ r. ⌜ (r, now (slot .exit), now (compared .exit)) ≡ exportedLookUp (geometry blocks units start open_code) (now (image .entry)) (now (name .entry)) ⌝ }
+{
+    let g = Geometry {
+        blocks,
+        units,
+        start,
+        anyone: open_code,
+    };
+    let l = calls::look_up(image, g, name);
+    *slot = l.slot;
+    *compared = l.compared;
+    l.number
+}
+
+#[no_mangle]
+pub extern "C" fn genie_open(
+    image: &[u8],
+    blocks: usize,
+    units: usize,
+    start: usize,
+    open_code: u16,
+    name: &[u8],
+    length: usize,
+    checking: bool,
+    code: u16,
+    handle: &mut [u8],
+) -> u8
+    ensures { λ r. ⌜ (r, now (handle .exit)) ≡ exportedOpen (geometry blocks units start open_code) (now (image .entry)) (now (name .entry)) length checking code (now (handle .entry)) ⌝ }
+{
+    let g = Geometry {
+        blocks,
+        units,
+        start,
+        anyone: open_code,
+    };
+    if handle.len() < HANDLE_BYTES {
+        return short_number(image, g);
+    }
+    let a = calls::open_file(image, g, name, length, checking, code);
+    put_handle(handle, a.handle);
+    a.number
+}
+
+#[no_mangle]
+pub extern "C" fn genie_create(
+    image: &mut [u8],
+    blocks: usize,
+    units: usize,
+    start: usize,
+    open_code: u16,
+    name: &[u8],
+    day: usize,
+    month: usize,
+    year: usize,
+    length: usize,
+    main: u16,
+    worker: u16,
+    checking: bool,
+    old: &mut usize,
+    handle: &mut [u8],
+) -> u8
+    ensures { λ r. ⌜ (r, now (old .exit), now (handle .exit), now (image .exit)) ≡ exportedCreate (geometry blocks units start open_code) (now (image .entry)) (now (name .entry)) (newFile day month year length main worker) checking (now (handle .entry)) ⌝ }
+{
+    let g = Geometry {
+        blocks,
+        units,
+        start,
+        anyone: open_code,
+    };
+    if handle.len() < HANDLE_BYTES {
+        *old = 0;
+        return short_number(image, g);
+    }
+    let f = NewFile {
+        day,
+        month,
+        year,
+        len: length,
+        main,
+        worker,
+    };
+    let c = calls::create(image, g, name, f, checking);
+    *old = told(c.old);
+    put_handle(handle, c.handle);
+    c.number
+}
+
+#[no_mangle]
+pub extern "C" fn genie_read_record(
+    image: &[u8],
+    blocks: usize,
+    units: usize,
+    start: usize,
+    open_code: u16,
+    handle: &mut [u8],
+    buffer: &mut [u8],
+) -> u8
+    ensures { λ r. ⌜ (r, now (handle .exit), now (buffer .exit)) ≡ exportedReadRecord (geometry blocks units start open_code) (now (image .entry)) (now (handle .entry)) (now (buffer .entry)) ⌝ }
+{
+    let g = Geometry {
+        blocks,
+        units,
+        start,
+        anyone: open_code,
+    };
+    if handle.len() < HANDLE_BYTES {
+        return short_number(image, g);
+    }
+    let h = handle_of(handle);
+    let a = calls::read_record(image, g, h, buffer);
+    if a.number != 0 {
+        return a.number;
+    }
+    put_handle(handle, a.handle);
+    0
+}
+
+#[no_mangle]
+pub extern "C" fn genie_read_sector(
+    image: &[u8],
+    blocks: usize,
+    units: usize,
+    start: usize,
+    open_code: u16,
+    handle: &[u8],
+    k: usize,
+    from: &mut usize,
+    to: &mut usize,
+) -> u8
+    ensures { λ r. ⌜ (r, now (from .exit), now (to .exit)) ≡ exportedReadSector (geometry blocks units start open_code) (now (image .entry)) (now (handle .entry)) k ⌝ }
+{
+    let g = Geometry {
+        blocks,
+        units,
+        start,
+        anyone: open_code,
+    };
+    if handle.len() < HANDLE_BYTES {
+        *from = 0;
+        *to = 0;
+        return short_number(image, g);
+    }
+    let h = handle_of(handle);
+    let p = calls::sector_part(image, g, h, k);
+    *from = p.from;
+    *to = p.to;
+    p.number
+}
+
+#[no_mangle]
+pub extern "C" fn genie_write_record(
+    image: &mut [u8],
+    blocks: usize,
+    units: usize,
+    start: usize,
+    open_code: u16,
+    handle: &mut [u8],
+    sequential: bool,
+    buffer: &[u8],
+) -> u8
+    ensures { λ r. ⌜ (r, now (handle .exit), now (image .exit)) ≡ exportedWriteRecord (geometry blocks units start open_code) (now (image .entry)) (now (handle .entry)) sequential (now (buffer .entry)) ⌝ }
+{
+    let g = Geometry {
+        blocks,
+        units,
+        start,
+        anyone: open_code,
+    };
+    if handle.len() < HANDLE_BYTES {
+        return short_number(image, g);
+    }
+    let h = handle_of(handle);
+    let m = mode_of(sequential);
+    let a = calls::write_record(image, g, m, h, buffer);
+    if a.number != 0 {
+        return a.number;
+    }
+    put_handle(handle, a.handle);
+    0
+}
+
+#[no_mangle]
+pub extern "C" fn genie_allot(
+    image: &mut [u8],
+    blocks: usize,
+    units: usize,
+    start: usize,
+    open_code: u16,
+    handle: &[u8],
+    k: usize,
+) -> u8
+    ensures { λ r. ⌜ (r, now (image .exit)) ≡ exportedAllot (geometry blocks units start open_code) (now (image .entry)) (now (handle .entry)) k ⌝ }
+{
+    let g = Geometry {
+        blocks,
+        units,
+        start,
+        anyone: open_code,
+    };
+    if handle.len() < HANDLE_BYTES {
+        return short_number(image, g);
+    }
+    let h = handle_of(handle);
+    let a = calls::allot(image, g, h, k);
+    a.number
+}
+
+#[no_mangle]
+pub extern "C" fn genie_trim(
+    image: &mut [u8],
+    blocks: usize,
+    units: usize,
+    start: usize,
+    open_code: u16,
+    handle: &[u8],
+) -> u8
+    ensures { λ r. ⌜ (r, now (image .exit)) ≡ exportedTrim (geometry blocks units start open_code) (now (image .entry)) (now (handle .entry)) ⌝ }
+{
+    let g = Geometry {
+        blocks,
+        units,
+        start,
+        anyone: open_code,
+    };
+    if handle.len() < HANDLE_BYTES {
+        return short_number(image, g);
+    }
+    let h = handle_of(handle);
+    let a = calls::trim(image, g, h);
+    a.number
+}
+
+#[no_mangle]
+pub extern "C" fn genie_kill(
+    image: &mut [u8],
+    blocks: usize,
+    units: usize,
+    start: usize,
+    open_code: u16,
+    handle: &[u8],
+) -> u8
+    ensures { λ r. ⌜ (r, now (image .exit)) ≡ exportedKill (geometry blocks units start open_code) (now (image .entry)) (now (handle .entry)) ⌝ }
+{
+    let g = Geometry {
+        blocks,
+        units,
+        start,
+        anyone: open_code,
+    };
+    if handle.len() < HANDLE_BYTES {
+        return short_number(image, g);
+    }
+    let h = handle_of(handle);
+    let a = calls::kill(image, g, h);
+    a.number
+}
