@@ -1,9 +1,11 @@
 // The calls of the library, one function a call. Each checks the whole disk first, whatever it is given, so none asks anything of its
 // caller.
 use meaning::Answer;
+use meaning::Counts;
 use meaning::Created;
 use meaning::Geometry;
 use meaning::Handle;
+use meaning::Listed;
 use meaning::LookedUp;
 use meaning::Mode;
 use meaning::NewFile;
@@ -21,6 +23,7 @@ ghost use Rattle.meaning.specs.Write.{writeRecord};
 ghost use Rattle.meaning.specs.Allot.{allot};
 ghost use Rattle.meaning.specs.Trim.{trim};
 ghost use Rattle.meaning.specs.Kill.{kill};
+ghost use Rattle.meaning.specs.Listing.{list, counts};
 ghost use Rattle.read.specs.Part.{partOf, Lies};
 
 // Check: 0, or refusal 1 or 2.
@@ -123,4 +126,20 @@ pub fn kill(image: &mut [u8], g: Geometry, h: Handle) -> Answer
 {
     let checked = consistency::check(image, g);
     kill::kill_checked(image, g, h, checked)
+}
+
+// The listing: one file, by number from 0, then "no more".
+pub fn list(image: &[u8], g: Geometry, number: usize) -> Listed
+    ensures { λ r. ⌜ r ≡ list g (now (image .entry)) number ⌝ }
+{
+    let checked = consistency::check(image, g);
+    listing::list_checked(image, g, number, checked)
+}
+
+// FILES and FREE.
+pub fn counts(image: &[u8], g: Geometry) -> Counts
+    ensures { λ r. ⌜ r ≡ counts g (now (image .entry)) ⌝ }
+{
+    let checked = consistency::check(image, g);
+    listing::counts_checked(image, g, checked)
 }

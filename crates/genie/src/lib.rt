@@ -10,7 +10,7 @@ ghost use lib.Seq.{sets};
 ghost use Rattle.meaning.specs.Refusals.{check};
 ghost use Rattle.layout.specs.Room.{Below};
 ghost use Rattle.genie.specs.Codec.{two, handleOf, stored};
-ghost use Rattle.genie.specs.Exports.{geometry, newFile, modeOf, told, tooShort, exportedLookUp, exportedOpen, exportedCreate, exportedReadRecord, exportedReadSector, exportedWriteRecord, exportedAllot, exportedTrim, exportedKill};
+ghost use Rattle.genie.specs.Exports.{geometry, newFile, modeOf, told, tooShort, exportedLookUp, exportedOpen, exportedCreate, exportedReadRecord, exportedReadSector, exportedWriteRecord, exportedAllot, exportedTrim, exportedKill, exportedList, exportedCount};
 
 const HANDLE_BYTES: usize = 19;
 
@@ -382,4 +382,68 @@ pub extern "C" fn genie_kill(
     let h = handle_of(handle);
     let a = calls::kill(image, g, h);
     a.number
+}
+
+#[no_mangle]
+pub extern "C" fn genie_list(
+    image: &[u8],
+    blocks: usize,
+    units: usize,
+    start: usize,
+    open_code: u16,
+    number: usize,
+    name: &mut [u8],
+    size: &mut usize,
+    granules: &mut usize,
+    more: &mut usize,
+) -> u8
+    ensures { λ r. ⌜ (r, now (size .exit), now (granules .exit), now (more .exit), now (name .exit)) ≡ exportedList (geometry blocks units start open_code) (now (image .entry)) number (now (name .entry)) ⌝ }
+{
+    let g = Geometry {
+        blocks,
+        units,
+        start,
+        anyone: open_code,
+    };
+    if name.len() < NAME_BYTES {
+        *size = 0;
+        *granules = 0;
+        *more = 0;
+        return short_number(image, g);
+    }
+    let l = calls::list(image, g, number);
+    *size = l.size;
+    *granules = l.granules;
+    if !l.more {
+        *more = 0;
+        return l.number;
+    }
+    *more = 1;
+    let file = l.name;
+    put_name(name, 0, file);
+    l.number
+}
+
+#[no_mangle]
+pub extern "C" fn genie_count(
+    image: &[u8],
+    blocks: usize,
+    units: usize,
+    start: usize,
+    open_code: u16,
+    files: &mut usize,
+    free: &mut usize,
+) -> u8
+    ensures { λ r. ⌜ (r, now (files .exit), now (free .exit)) ≡ exportedCount (geometry blocks units start open_code) (now (image .entry)) ⌝ }
+{
+    let g = Geometry {
+        blocks,
+        units,
+        start,
+        anyone: open_code,
+    };
+    let c = calls::counts(image, g);
+    *files = c.files;
+    *free = c.free;
+    c.number
 }
