@@ -1,0 +1,616 @@
+// Every call on prepared disks, with every refusal number that it can give. A line tells the call and its number; a number that is not
+// the one that 01's table gives is marked.
+use meaning::Geometry;
+use meaning::Handle;
+use meaning::Mode;
+use meaning::NewFile;
+
+// 12 blocks of 2 units, directory of 10 sectors at sector 0.
+fn disk() -> Geometry {
+    Geometry {
+        blocks: 12,
+        units: 2,
+        start: 0,
+        anyone: 0,
+    }
+}
+
+// Not the geometry of a disk of 30,720 bytes.
+fn other() -> Geometry {
+    Geometry {
+        blocks: 13,
+        units: 2,
+        start: 0,
+        anyone: 0,
+    }
+}
+
+// Granules 0 and 1 hold the directory, every other odd one is reserved, so that each granule taken starts a run; 11 are free.
+fn reserve(image: &mut [u8; 30720]) {
+    copy::put_part(
+        image,
+        0,
+        b"\x03\x02\x02\x02\x02\x02\x02\x02\x02\x02\x02\x02",
+        0,
+        12,
+    );
+}
+
+// A HIT byte without an entry, and without it again.
+fn damage(image: &mut [u8; 30720]) {
+    image[261] = 7;
+}
+
+fn repair(image: &mut [u8; 30720]) {
+    image[261] = 0;
+}
+
+fn told(words: &[u8], number: u8, should: u8) {
+    io::write_all(1, words);
+    io::write_all(1, b": ");
+    io::print_decimal(1, number as u64);
+    if number != should {
+        io::write_all(1, b" WRONG");
+    }
+    io::write_all(1, b"\n");
+}
+
+// Records of 16 bytes, a main and a worker code.
+fn new_file(len: usize, main: u16) -> NewFile {
+    NewFile {
+        day: 9,
+        month: 10,
+        year: 3,
+        len,
+        main,
+        worker: 0x2222,
+    }
+}
+
+// A handle changed in one of its numbers.
+fn placed(h: Handle, at: usize) -> Handle {
+    let mut x = h;
+    x.at = at;
+    x
+}
+
+fn levelled(h: Handle, level: usize) -> Handle {
+    let mut x = h;
+    x.level = level;
+    x
+}
+
+fn elsewhere(h: Handle) -> Handle {
+    let mut x = h;
+    x.slot = 0x81;
+    x
+}
+
+fn without_length(h: Handle) -> Handle {
+    let mut x = h;
+    x.len = 0;
+    x
+}
+
+// Create -----------------------------------------------------------------------------------------------------------------
+
+fn created(
+    image: &mut [u8; 30720],
+    g: Geometry,
+    name: &[u8],
+    f: NewFile,
+    words: &[u8],
+    should: u8,
+) {
+    let c = calls::create(image, g, name, f, true);
+    told(words, c.number, should);
+}
+
+fn creates(image: &mut [u8; 30720]) {
+    let f = new_file(16, 0x1111);
+    created(
+        image,
+        other(),
+        b"PULS01  DAT",
+        f,
+        b"create, image length not as stated",
+        1,
+    );
+    damage(image);
+    created(
+        image,
+        disk(),
+        b"PULS01  DAT",
+        f,
+        b"create, disk not consistent",
+        2,
+    );
+    repair(image);
+    created(
+        image,
+        disk(),
+        b"PULS01  DAT",
+        new_file(257, 0),
+        b"create, length 257",
+        12,
+    );
+    created(
+        image,
+        disk(),
+        b"PULS 01 DAT",
+        f,
+        b"create, a blank inside the name",
+        3,
+    );
+}
+
+fn creates_old(image: &mut [u8; 30720]) {
+    created(
+        image,
+        disk(),
+        b"PULS01  DAT",
+        new_file(16, 0x1112),
+        b"create, old file, wrong code",
+        5,
+    );
+    created(
+        image,
+        disk(),
+        b"PULS01  DAT",
+        new_file(16, 0x1111),
+        b"create, old file",
+        0,
+    );
+}
+
+fn first_file(image: &mut [u8; 30720]) -> Handle {
+    let c = calls::create(image, disk(), b"PULS01  DAT", new_file(16, 0x1111), true);
+    told(b"create", c.number, 0);
+    c.handle
+}
+
+// Look up and open -------------------------------------------------------------------------------------------------------
+
+fn looked_up(image: &[u8; 30720], g: Geometry, name: &[u8], words: &[u8], should: u8) {
+    let l = calls::look_up(image, g, name);
+    told(words, l.number, should);
+}
+
+fn looks_up(image: &mut [u8; 30720]) {
+    looked_up(
+        image,
+        other(),
+        b"PULS01  DAT",
+        b"look up, image length not as stated",
+        1,
+    );
+    damage(image);
+    looked_up(
+        image,
+        disk(),
+        b"PULS01  DAT",
+        b"look up, disk not consistent",
+        2,
+    );
+    repair(image);
+    looked_up(
+        image,
+        disk(),
+        b"PULS01 DAT",
+        b"look up, a name of 10 bytes",
+        3,
+    );
+    looked_up(image, disk(), b"LEER       ", b"look up, no such name", 4);
+    looked_up(image, disk(), b"PULS01  DAT", b"look up", 0);
+}
+
+fn opened(
+    image: &[u8; 30720],
+    g: Geometry,
+    name: &[u8],
+    len: usize,
+    code: u16,
+    words: &[u8],
+    should: u8,
+) {
+    let a = calls::open_file(image, g, name, len, true, code);
+    told(words, a.number, should);
+}
+
+fn opens(image: &mut [u8; 30720]) {
+    opened(
+        image,
+        other(),
+        b"PULS01  DAT",
+        16,
+        0x1111,
+        b"open, image length not as stated",
+        1,
+    );
+    damage(image);
+    opened(
+        image,
+        disk(),
+        b"PULS01  DAT",
+        16,
+        0x1111,
+        b"open, disk not consistent",
+        2,
+    );
+    repair(image);
+    opened(
+        image,
+        disk(),
+        b"PULS01  DAT",
+        0,
+        0x1111,
+        b"open, length 0",
+        12,
+    );
+    opened(
+        image,
+        disk(),
+        b"puls01  DAT",
+        16,
+        0x1111,
+        b"open, small letters",
+        3,
+    );
+}
+
+fn opens_more(image: &[u8; 30720]) {
+    opened(
+        image,
+        disk(),
+        b"LEER       ",
+        16,
+        0x1111,
+        b"open, no such name",
+        4,
+    );
+    opened(
+        image,
+        disk(),
+        b"PULS01  DAT",
+        16,
+        0x1112,
+        b"open, wrong code",
+        5,
+    );
+    opened(
+        image,
+        disk(),
+        b"PULS01  DAT",
+        16,
+        0x1111,
+        b"open, main code",
+        0,
+    );
+    opened(
+        image,
+        disk(),
+        b"PULS01  DAT",
+        16,
+        0x2222,
+        b"open, worker code",
+        0,
+    );
+}
+
+// Write and allot --------------------------------------------------------------------------------------------------------
+
+fn written(image: &mut [u8; 30720], g: Geometry, h: Handle, words: &[u8], should: u8) {
+    let record = [0x55u8; 16];
+    let a = calls::write_record(image, g, Mode::Random, h, &record);
+    told(words, a.number, should);
+}
+
+fn writes(image: &mut [u8; 30720], h: Handle) {
+    written(image, other(), h, b"write, image length not as stated", 1);
+    damage(image);
+    written(image, disk(), h, b"write, disk not consistent", 2);
+    repair(image);
+    written(
+        image,
+        disk(),
+        placed(h, 1966065),
+        b"write, past the highest position",
+        12,
+    );
+    written(image, disk(), elsewhere(h), b"write, handle stale", 7);
+}
+
+// No growth (E) set in the entry, and clear again.
+fn no_growth(image: &mut [u8; 30720]) {
+    image[641] = 0x49;
+}
+
+fn growth(image: &mut [u8; 30720]) {
+    image[641] = 0x09;
+}
+
+fn writes_more(image: &mut [u8; 30720], h: Handle) {
+    written(image, disk(), levelled(h, 5), b"write, level 5", 6);
+    no_growth(image);
+    written(image, disk(), h, b"write, E set", 11);
+    growth(image);
+    written(
+        image,
+        disk(),
+        placed(h, 14080),
+        b"write, a twelfth granule of 11",
+        9,
+    );
+    written(image, disk(), h, b"write", 0);
+}
+
+fn allotted(image: &mut [u8; 30720], g: Geometry, h: Handle, k: usize, words: &[u8], should: u8) {
+    let a = calls::allot(image, g, h, k);
+    told(words, a.number, should);
+}
+
+fn allots(image: &mut [u8; 30720], h: Handle) {
+    allotted(
+        image,
+        other(),
+        h,
+        0,
+        b"allot, image length not as stated",
+        1,
+    );
+    damage(image);
+    allotted(image, disk(), h, 0, b"allot, disk not consistent", 2);
+    repair(image);
+    allotted(image, disk(), h, 7680, b"allot, sector 7,680", 12);
+    allotted(image, disk(), elsewhere(h), 0, b"allot, handle stale", 7);
+}
+
+fn allots_more(image: &mut [u8; 30720], h: Handle) {
+    allotted(image, disk(), levelled(h, 5), 0, b"allot, level 5", 6);
+    no_growth(image);
+    allotted(image, disk(), h, 5, b"allot, E set", 11);
+    growth(image);
+    allotted(image, disk(), h, 7679, b"allot, sector 7,679", 9);
+    allotted(image, disk(), h, 19, b"allot, four granules", 0);
+}
+
+// Read record and read sector --------------------------------------------------------------------------------------------
+
+fn read_at(image: &[u8; 30720], g: Geometry, h: Handle, words: &[u8], should: u8) {
+    let mut buffer = [0u8; 16];
+    let a = calls::read_record(image, g, h, &mut buffer);
+    told(words, a.number, should);
+}
+
+fn reads(image: &mut [u8; 30720], h: Handle) {
+    read_at(
+        image,
+        other(),
+        h,
+        b"read record, image length not as stated",
+        1,
+    );
+    damage(image);
+    read_at(image, disk(), h, b"read record, disk not consistent", 2);
+    repair(image);
+    read_at(
+        image,
+        disk(),
+        without_length(h),
+        b"read record, length 0",
+        12,
+    );
+    read_at(image, disk(), elsewhere(h), b"read record, handle stale", 7);
+}
+
+fn reads_more(image: &[u8; 30720], h: Handle) {
+    read_at(image, disk(), levelled(h, 6), b"read record, level 6", 6);
+    read_at(
+        image,
+        disk(),
+        placed(h, 1),
+        b"read record, past the size",
+        10,
+    );
+    read_at(image, disk(), levelled(h, 5), b"read record, level 5", 0);
+}
+
+fn sector(image: &[u8; 30720], g: Geometry, h: Handle, k: usize, words: &[u8], should: u8) {
+    let p = calls::sector_part(image, g, h, k);
+    told(words, p.number, should);
+}
+
+fn sectors(image: &mut [u8; 30720], h: Handle) {
+    sector(
+        image,
+        other(),
+        h,
+        0,
+        b"read sector, image length not as stated",
+        1,
+    );
+    damage(image);
+    sector(image, disk(), h, 0, b"read sector, disk not consistent", 2);
+    repair(image);
+    sector(image, disk(), h, 7680, b"read sector 7,680", 12);
+    sector(
+        image,
+        disk(),
+        elsewhere(h),
+        0,
+        b"read sector, handle stale",
+        7,
+    );
+}
+
+fn sectors_more(image: &[u8; 30720], h: Handle) {
+    sector(image, disk(), levelled(h, 6), 0, b"read sector, level 6", 6);
+    sector(image, disk(), h, 1, b"read sector 1 of 1", 10);
+    sector(image, disk(), h, 0, b"read sector 0", 0);
+}
+
+// No slot left -----------------------------------------------------------------------------------------------------------
+
+// A file whose name is one letter or digit.
+fn one_letter(image: &mut [u8; 30720], letter: u8) -> u8 {
+    let mut name = [0x20u8; 11];
+    name[0] = letter;
+    let c = calls::create(image, disk(), &name, new_file(16, 0), true);
+    c.number
+}
+
+// A file for each letter that a name may have.
+fn letters(image: &mut [u8; 30720]) {
+    let mut letter: u8 = 0x41;
+    while letter < 0x5e {
+        one_letter(image, letter);
+        letter += 1;
+    }
+}
+
+// With PULS01/DAT there are 32 files then: as many as the permitted slots.
+fn fill_slots(image: &mut [u8; 30720]) {
+    letters(image);
+    one_letter(image, 0x30);
+    let last = one_letter(image, 0x31);
+    told(b"create, the last permitted slot", last, 0);
+}
+
+fn without_slots(image: &mut [u8; 30720], h: Handle) {
+    let more = one_letter(image, 0x32);
+    told(b"create, no slot left", more, 8);
+    allotted(image, disk(), h, 20, b"allot, a fifth run and no slot", 8);
+    written(
+        image,
+        disk(),
+        placed(h, 5120),
+        b"write, a fifth run and no slot",
+        8,
+    );
+}
+
+// Trim and kill ----------------------------------------------------------------------------------------------------------
+
+fn trimmed(image: &mut [u8; 30720], g: Geometry, h: Handle, words: &[u8], should: u8) {
+    let a = calls::trim(image, g, h);
+    told(words, a.number, should);
+}
+
+fn trims(image: &mut [u8; 30720], h: Handle) {
+    trimmed(image, other(), h, b"trim, image length not as stated", 1);
+    damage(image);
+    trimmed(image, disk(), h, b"trim, disk not consistent", 2);
+    repair(image);
+    trimmed(
+        image,
+        disk(),
+        placed(h, 1966081),
+        b"trim, position out of range",
+        12,
+    );
+    trimmed(image, disk(), elsewhere(h), b"trim, handle stale", 7);
+}
+
+// The system flag set in the entry, and clear again.
+fn system(image: &mut [u8; 30720]) {
+    image[640] = 0x50;
+}
+
+fn plain(image: &mut [u8; 30720]) {
+    image[640] = 0x10;
+}
+
+fn trims_more(image: &mut [u8; 30720], h: Handle) {
+    system(image);
+    trimmed(image, disk(), h, b"trim, system file", 6);
+    plain(image);
+    trimmed(image, disk(), h, b"trim", 0);
+}
+
+fn killed(image: &mut [u8; 30720], g: Geometry, h: Handle, words: &[u8], should: u8) {
+    let a = calls::kill(image, g, h);
+    told(words, a.number, should);
+}
+
+fn kills(image: &mut [u8; 30720], h: Handle) {
+    killed(image, other(), h, b"kill, image length not as stated", 1);
+    damage(image);
+    killed(image, disk(), h, b"kill, disk not consistent", 2);
+    repair(image);
+    killed(image, disk(), levelled(h, 8), b"kill, level 8", 12);
+    killed(image, disk(), elsewhere(h), b"kill, handle stale", 7);
+}
+
+fn kills_more(image: &mut [u8; 30720], h: Handle) {
+    killed(image, disk(), levelled(h, 2), b"kill, level 2", 6);
+    killed(image, disk(), levelled(h, 1), b"kill, level 1", 0);
+    killed(image, disk(), h, b"kill, handle stale since", 7);
+}
+
+// List and counts --------------------------------------------------------------------------------------------------------
+
+fn listed(image: &[u8; 30720], g: Geometry, words: &[u8], should: u8) {
+    let f = calls::list(image, g, 0);
+    told(words, f.number, should);
+}
+
+fn counted(image: &[u8; 30720], g: Geometry, words: &[u8], should: u8) {
+    let c = calls::counts(image, g);
+    told(words, c.number, should);
+}
+
+fn lists(image: &mut [u8; 30720]) {
+    listed(image, other(), b"list, image length not as stated", 1);
+    damage(image);
+    listed(image, disk(), b"list, disk not consistent", 2);
+    repair(image);
+    listed(image, disk(), b"list", 0);
+}
+
+fn counts(image: &mut [u8; 30720]) {
+    counted(image, other(), b"counts, image length not as stated", 1);
+    damage(image);
+    counted(image, disk(), b"counts, disk not consistent", 2);
+    repair(image);
+    counted(image, disk(), b"counts", 0);
+}
+
+fn space_and_names(image: &mut [u8; 30720]) -> Handle {
+    creates(image);
+    let h = first_file(image);
+    creates_old(image);
+    looks_up(image);
+    opens(image);
+    opens_more(image);
+    h
+}
+
+fn bytes(image: &mut [u8; 30720], h: Handle) {
+    writes(image, h);
+    writes_more(image, h);
+    reads(image, h);
+    reads_more(image, h);
+    sectors(image, h);
+    sectors_more(image, h);
+}
+
+fn granules(image: &mut [u8; 30720], h: Handle) {
+    allots(image, h);
+    allots_more(image, h);
+    fill_slots(image);
+    without_slots(image, h);
+    trims(image, h);
+    trims_more(image, h);
+}
+
+fn main() {
+    let mut image = [0u8; 30720];
+    reserve(&mut image);
+    let h = space_and_names(&mut image);
+    bytes(&mut image, h);
+    granules(&mut image, h);
+    lists(&mut image);
+    counts(&mut image);
+    kills(&mut image, h);
+    kills_more(&mut image, h);
+}
