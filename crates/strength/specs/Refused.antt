@@ -5,10 +5,13 @@ use Prim.Native.Nat.{ℕ, _+_}
 use native.Mathlib.Omega.{arith}
 use lib.ListN.{getD}
 use Rattle.meaning.specs.Layout.{byte}
+use Rattle.meaning.specs.LookUp.{lookUp}
 use Rattle.meaning.specs.Samples.{opened, three, sample, puls, held, hits}
 use Rattle.promises.specs.Promises.{Call, number, leaves}
-use Rattle.promises.specs.Promises.Call.{checks, reads, kills}
-use Rattle.strength.specs.Programs.{Said, Program, Meets, says, right, bufferOf, RefusesAll, AlwaysAlike, ChangesNothing, FirstOnly}
+use Rattle.meaning.specs.declared.Geometry.{Geometry}
+use Rattle.meaning.specs.declared.Handle.{Handle}
+use Rattle.promises.specs.Promises.Call.{checks, looksUp, reads, kills}
+use Rattle.strength.specs.Programs.{Answers, checked, looked, answered, created, part, told, counted, Said, Program, Meets, says, right, answerOf, bufferOf, RefusesAll, AlwaysAlike, ChangesNothing, Faked, FirstOnly}
 
 -- what a program that meets the statements says of one call, and of two
 one : (p : Program) → Meets p → (c : Call) → p three sample (c ∷ []) ≡ says three sample c ∷ []
@@ -24,8 +27,11 @@ pub refuses-all : (p : Program) → Meets p → RefusesAll p → ⊥
 refuses-all p m r = r three sample checks (says three sample checks) (one p m checks) served
 
 -- Answers always alike: `Reads` says which bytes. Two bytes of one file differ.
+abbrev from : ℕ → Handle
+from i = held 0xa3 puls i 1 0
+
 abbrev byteAt : ℕ → Call
-byteAt i = reads (held 0xa3 puls i 1 0) (0 ∷ [])
+byteAt i = reads (from i) (0 ∷ [])
 
 first-byte : says three sample (byteAt 255) .buffer ≡ 0x43 ∷ []
 unfolding opened says bufferOf
@@ -37,7 +43,7 @@ second-byte = refl
 
 pub always-alike : (p : Program) → Meets p → AlwaysAlike p → ⊥
 always-alike p m r =
-    let e = r three sample (byteAt 255) (byteAt 256) (says three sample (byteAt 255)) (says three sample (byteAt 256)) (one p m (byteAt 255)) (one p m (byteAt 256)) in
+    let e = r three sample (from 255) (from 256) (0 ∷ []) (says three sample (byteAt 255)) (says three sample (byteAt 256)) refl (one p m (byteAt 255)) (one p m (byteAt 256)) in
     let z : _≡_ {A = ℕ} 0x43 0x44 = ap (λ (b : List ℕ). getD b 0 0) (sym first-byte ∙ e ∙ second-byte) in
     omega arith
 
@@ -72,11 +78,33 @@ right-second : secondNumber (right three sample (killing ∷ killing ∷ [])) �
 unfolding right secondNumber
 right-second = refl
 
-faked-second : (p : Program) → FirstOnly p → secondNumber (p three sample (killing ∷ killing ∷ [])) ≡ 0
+faked-second : (x : Said) (d : List ℕ) (xs : List Said) → Faked d xs → secondNumber (x ∷ xs) ≡ 0
 unfolding secondNumber
-faked-second p r = ap secondNumber (r three sample killing (killing ∷ []))
+faked-second x d [] k = refl
+faked-second x d (y ∷ ys) k = k .0
 
 pub first-only : (p : Program) → Meets p → FirstOnly p → ⊥
 first-only p m r =
-    let z : _≡_ {A = ℕ} 7 0 = sym stale ∙ sym right-second ∙ sym (ap secondNumber (m three sample (killing ∷ killing ∷ []))) ∙ faked-second p r in
+    let w = r three sample killing (killing ∷ []) in
+    let z : _≡_ {A = ℕ} 7 0 =
+    sym stale ∙ sym right-second ∙ sym (ap secondNumber (m three sample (killing ∷ killing ∷ []))) ∙ ap secondNumber (w .1)
+    ∙ faked-second (says three sample killing) (leaves three sample killing) (w .0) (w .2) in
     omega arith
+
+-- An invented comparison count falls to the look-up rule.
+unfoldable pub comparedIn : Answers → ℕ
+comparedIn (checked n) = 0
+comparedIn (looked r) = r .compared
+comparedIn (answered r) = 0
+comparedIn (created r) = 0
+comparedIn (part r) = 0
+comparedIn (told r) = 0
+comparedIn (counted r) = 0
+
+unfoldable pub firstCount : List Said → ℕ
+firstCount [] = 0
+firstCount (x ∷ xs) = comparedIn (x .answer)
+
+pub count-fixed : (p : Program) → Meets p → (g : Geometry) (d n : List ℕ) → firstCount (p g d (looksUp n ∷ [])) ≡ lookUp g d n .compared
+unfolding right says answerOf firstCount comparedIn
+count-fixed p m g d n = ap firstCount (m g d (looksUp n ∷ []))
