@@ -60,7 +60,7 @@ roundUp size k = (size + (k - 1)) / k
 abbrev pub granulesFor : ℕ → ℕ
 granulesFor size = roundUp size granuleBytes
 
--- byte i of an image; 0 past its end, where no call looks
+-- byte i of an image; 0 past its end: no answer hangs on that
 abbrev pub byte : List ℕ → ℕ → ℕ
 byte d i = getD d i 0
 

@@ -43,7 +43,7 @@ pub struct LookedUp {
     pub compared: usize,
 }
 
-// What every call with a handle answers, and open: the handle as the call leaves it.
+// What open answers, and every call with a handle but read sector: the handle as the call leaves it.
 pub struct Answer {
     pub number: u8,
     pub handle: Handle,
