@@ -1,5 +1,4 @@
 pub mod Disks
-pub mod Faults
 pub mod Checks
 pub mod Finding
 pub mod Reading
