@@ -27,7 +27,7 @@ use Rattle.handle.proofs.Laws.{passed, walks, ranges, handle-stop, handle-then}
 use Rattle.seek.specs.Seek.{Sound, Used}
 use Rattle.seek.proofs.Sound.{owned-low}
 use Rattle.copy.proofs.Laws.{sets-append}
-use Rattle.read.specs.Part.{File, Owned, InSector, partOf}
+use Rattle.read.specs.Part.{File, Owned, InGranule, partOf}
 use borrow.Rule.Slice.Shared.{byByte}
 
 -- bytes whose places follow one another
@@ -63,14 +63,14 @@ module _ (g : Geometry) (d : List ℕ) where
       let f : (i + t) % 1280 ≡ i % 1280 + t = omega arith in
       ap (λ (k : ℕ). 1280 * getD (owned g d s) k 0 + (i + t) % 1280) e ∙ (let z : 1280 * getD (owned g d s) (i / 1280) 0 + (i + t) % 1280 ≡ 1280 * getD (owned g d s) (i / 1280) 0 + i % 1280 + t = omega arith in z)
 
-  pub place-fits : (s i n : ℕ) → File g d s → Owned g d s i n → InSector i n → place g d s i + n ≤ length d
+  pub place-fits : (s i n : ℕ) → File g d s → Owned g d s i n → InGranule i n → place g d s i + n ≤ length d
   unfolding place
   place-fits s i n f o x =
       let a = o .owned in let b = o .some in let y = x .inside in let w = f .sound .room .whole in
       let l = owned-low g d (f .sound) s (f .used) (i / 1280) (omega arith) in
       omega arith
 
-  pub fetch-part : (s i n : ℕ) → File g d s → Owned g d s i n → InSector i n → fetch g d s i n ≡ take n (drop (place g d s i) d)
+  pub fetch-part : (s i n : ℕ) → File g d s → Owned g d s i n → InGranule i n → fetch g d s i n ≡ take n (drop (place g d s i) d)
   unfolding fetch
   fetch-part s i n f o x =
       let y = x .inside in

@@ -19,8 +19,9 @@ pub record Owned (g : Geometry) (d : List ℕ) (s i n : ℕ) : Type 0 where
   pub owned : i + n ≤ 1280 * length (owned g d s)
   pub high : i + n ≤ 16777215
 
-pub record InSector (i n : ℕ) : Type 0 where
-  pub inside : i % 256 + n ≤ 256
+-- they lie in one granule, so they stand beside one another
+pub record InGranule (i n : ℕ) : Type 0 where
+  pub inside : i % 1280 + n ≤ 1280
 
 -- what a part of an image is: the number beside it, and its bytes
 unfoldable pub partOf : List ℕ → Part → ℕ × List ℕ

@@ -63,6 +63,10 @@ pub in-reach : (h : Handle) → inRange h ≡ true → (h .at ≤ highest) × (h
 unfolding inRange
 in-reach h r = (leb-true _ _ (all-at _ r 0), leb-true _ _ (all-at _ r 2))
 
+-- a file's size lies in what it owns
+pub old-owned : (g : Geometry) (d : List ℕ) (p : ℕ) {old : ℕ} → Ready g d p → old ≡ sizeOf g d p → old ≤ 1280 * length (owned g d p)
+old-owned g d p y e = let b = walks g d p y .0 .size p (slot-of g d p (y .slot)) (y .first) in omega arith
+
 module _ (g : Geometry) (d : List ℕ) (m : Mode) (h : Handle) (b : List ℕ) {ranged : Bool}
     (r : ranged ≡ all (inRange h ∷ leb (h .at + h .len) highest ∷ leb (h .len) (length b) ∷ [])) where
   by-handle : {n : ℕ} → n ≡ first (handleRefusals g d h ranged (protected g d 4 h ∷ [])) → (n ≡ 0 → ⊥) → n ≡ first (writeRefusals g d m h (length b))
