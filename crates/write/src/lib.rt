@@ -99,14 +99,6 @@ fn put_record(image: &mut [u8], g: Geometry, s: usize, old: usize, at: usize, sr
     write_bytes(image, g, s, at, src, n);
 }
 
-// How many granules that many bytes need.
-fn granules_for(n: usize) -> usize
-    requires { ⌜ n ≤ 33554432 ⌝ }
-    ensures { λ r. ⌜ r ≡ granulesFor n ⌝ }
-{
-    (n + (layout::GRANULE_BYTES - 1)) / layout::GRANULE_BYTES
-}
-
 // The file at slot p, `old` bytes long, gets the granules of a size, or the number of the refusal. Where the old size needs as many,
 // nothing is lacking, and the chain is not walked.
 fn grow_to(image: &mut [u8], g: Geometry, p: usize, old: usize, size: usize) -> u8
@@ -114,8 +106,8 @@ fn grow_to(image: &mut [u8], g: Geometry, p: usize, old: usize, size: usize) -> 
     ensures { λ r. ⌜ (r ≡ first (cannotGrow g (now (image .entry)) p (lacking g (now (image .entry)) p (granulesFor size))))
         × (now (image .exit) ≡ cond (accepted r) (larger g (now (image .entry)) p (lacking g (now (image .entry)) p (granulesFor size))) (now (image .entry))) ⌝ }
 {
-    let wanted = granules_for(size);
-    if wanted <= granules_for(old) {
+    let wanted = growth::granules_for(size);
+    if wanted <= growth::granules_for(old) {
         return 0;
     }
     growth::grow(image, g, p, wanted)

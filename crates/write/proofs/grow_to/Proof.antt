@@ -9,7 +9,7 @@ use Rattle.write.proofs.grow_to.Tie as tie
 use Rattle.write.proofs.grow_to.Reads as reads
 use Rattle.write.proofs.grow_to.Lts as lts
 use Rattle.growth.proofs.grow.Reads as grow-reads
-use Rattle.write.proofs.granules_for.Reads as granules-for-reads
+use Rattle.growth.proofs.granules_for.Reads as granules-for-reads
 
 -- src/lib.rt:117:9
 granules-for-requires : tie.Need-granules-for-requires
