@@ -24,7 +24,10 @@ fn in_range(f: NewFile) -> bool
     if 15 < f.year {
         return false;
     }
-    handle::good_length(f.len)
+    if f.len < 1 {
+        return false;
+    }
+    f.len <= 256
 }
 
 // A new file of that name in slot x: all 32 bytes of its entry, and its HIT byte.

@@ -1,4 +1,3 @@
-pub mod AtTail
 pub mod Words
 pub mod Members
 pub mod Counting

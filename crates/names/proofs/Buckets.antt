@@ -23,7 +23,7 @@ use Rattle.laws.specs.Members.{In}
 use Rattle.laws.specs.Facts
 use Rattle.layout.specs.Room.{Room, Slot}
 use Rattle.layout.proofs.Lists.{all-yes, all-no, all-one, all-at, all-none}
-use Rattle.layout.proofs.Sound.{slot-of, slot-yes, slot-no, entry-fits}
+use Rattle.layout.proofs.Sound.{slot-of, slot-yes, slot-no}
 use Rattle.layout.proofs.Laws.{name-part}
 use Rattle.names.specs.Buckets.{Hashed, unlike, inBucket, bucket, Linked, Buckets, Joined, Differing, Visited}
 
@@ -230,11 +230,14 @@ module _ (g : Geometry) (d : List ℕ) where
       }
 
   -- what comparing the names' bytes says
+  place-low : (s : ℕ) → Room g d → Slot g d s → entryAt g s + 32 ≤ length d
+  place-low s r h = let a = h .low in let b = h .held in let c = r .directory in let e = r .whole in omega arith
+
   pub compared : (s q n : ℕ) {r : Bool} → Room g d → Slot g d s → Slot g d q → n ≡ 11
       → r ≡ same (take 11 (drop (entryAt g q + 5) d)) (take n (drop (entryAt g s + 5) d)) → unlike g d s q ≡ not r
   unfolding unlike
   compared s q n k h l z e =
-      let a = entry-fits g d s k h in let b = entry-fits g d q k l in
+      let a = place-low s k h in let b = place-low q k l in
       rw (name-part g d s (omega arith), name-part g d q (omega arith))
       (ap not (sym (e ∙ ap (λ (m : ℕ). same (take 11 (drop (entryAt g q + 5) d)) (take m (drop (entryAt g s + 5) d))) z)))
 

@@ -1,4 +1,5 @@
-use Rattle.layout.proofs.Lists.{any-skip, any-hit, any-one}
+use Rattle.find.proofs.Open.{any-hit, any-one}
+use Rattle.layout.proofs.Lists.{any-skip}
 use Rattle.meaning.specs.Open.{admits}
 use lib.Dec.{eqb}
 use Prim.Native.Nat.{ℕ}
