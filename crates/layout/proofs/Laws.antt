@@ -5,7 +5,6 @@ use mathlib.Core.Bool.{Bool, true, false, cond, _&&_, and-true}
 use Prim.Native.Nat.{ℕ, zero, suc, _+_, _-_, _*_, _/_, _%_, _^_, _≤_, _<_}
 use native.Mathlib.Omega.{arith}
 use native.Mathlib.Nat.{mul-le-mul, div-lt-iff-lt-mul, mod-lt, div-one, div-div-eq-div-mul, pow-succ'}
-use native.Mathlib.Numerals.{add-one}
 use lib.ListN.{length, getD, take, drop}
 use lib.Seq.{drop-cons, drop-length}
 use lib.Dec.{eqb, leb}
@@ -59,13 +58,6 @@ name-part g d s h = part-at d (entryAt g s) 5 11 (omega arith)
 pub name-at : (g : Geometry) (d n : List ℕ) (s : ℕ) → entryAt g s + 16 ≤ length d → same (nameOf g d s) n ≡ same (take 11 (drop (entryAt g s + 5) d)) n
 unfolding nameOf field
 name-at g d n s h = ap (λ (l : List ℕ). same l n) (part-at d (entryAt g s) 5 11 (omega arith))
-
--- two names from byte i on
-pub same-more : (s t : List ℕ) (at m i : ℕ) → at + i < length s → i < length t
-    → same (take (suc m) (drop (at + i) s)) (drop i t) ≡ (eqb (getD s (at + i) 0) (getD t i 0) && same (take m (drop (at + (i + 1)) s)) (drop (i + 1) t))
-same-more s t at m i h k =
-    let e : suc (at + i) ≡ at + (i + 1) = omega arith in
-    simp (drop-cons s (at + i) 0 h, drop-cons t i 0 k, e, add-one)
 
 -- the geometry's first six tests passed
 pub fits-rest : (g : Geometry) (d : List ℕ) → 1 ≤ g .blocks → g .blocks ≤ 192 → 1 ≤ g .units → g .units ≤ 8 → g .start % 5 ≡ 0 → length d ≡ granules g * 1280
