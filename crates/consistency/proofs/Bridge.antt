@@ -51,7 +51,7 @@ module _ (g : Geometry) (d m : List ℕ) (room : Room g d) (w : TakenMap g d m) 
       go true e = Members.true-T e
       go false e = absurd (let z = w .low n l e in let q : ⊥ = omega arith in q)
 
-  taken-high : (n : ℕ) → n < granules g → T (taken g d n) → _≡_ {A = ℕ} (getD m n 0) 2
+  taken-high : (n : ℕ) → n < granules g → T (taken g d n) → _≡_ {A = ℕ} (getD m n 0) 3
   taken-high n l t = w .high n l (Members.T-true {b = taken g d n} t)
 
   directory-open : allows m 2 1 (directoryGranules g d) ≡ true → (n : ℕ) → In n (directoryGranules g d) → 2 ≤ getD m n 0

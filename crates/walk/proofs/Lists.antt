@@ -1,14 +1,14 @@
 -- Tests over a range of places, and what a failed test says of a list of them.
 use mathlib.Core.Path.{_≡_, refl, sym, ap, _∙_}
 use mathlib.Core.List.{List, [], _∷_, _++_}
-use mathlib.Core.Bool.{Bool, true, false, not, cond, _&&_, _||_, and-assoc, true≢false}
+use mathlib.Core.Bool.{Bool, true, false, not, cond, _&&_, _||_, and-assoc, and-true, true≢false}
 use Prim.Native.Nat.{ℕ, zero, suc, _+_, _-_, _*_, _≤_, _<_}
 use native.Mathlib.Omega.{arith}
 use native.Mathlib.Numerals.{add-one}
 use native.Mathlib.Nat.{zero-add, add-zero}
 use lib.ListN.{getD}
-use lib.Dec.{eqb}
-use borrow.Author.Tests.{eq-eqb, ne-eqb}
+use lib.Dec.{eqb, ltb}
+use borrow.Author.Tests.{eq-eqb, ne-eqb, lt-ltb}
 use Rattle.meaning.specs.Lists.{count, every, each, all}
 use Rattle.layout.proofs.Laws.{left-more, left-none}
 use Rattle.layout.proofs.Lists.{all-at}
@@ -43,6 +43,20 @@ every-yes p {i} {n} h t = ap (every p) (count-more h) ∙ ap (λ (b : Bool). b &
 
 pub every-none : (p : ℕ → Bool) {i n : ℕ} → n ≤ i → every p (count i (n - i)) ≡ true
 every-none p h = ap (every p) (count-none h)
+
+-- the four places from k on, each looked at
+pub every-four : (p : ℕ → Bool) (k : ℕ) → every p (count k (4 - k)) ≡ ((ltb 0 k || p 0) && ((ltb 1 k || p 1) && ((ltb 2 k || p 2) && (ltb 3 k || p 3))))
+every-four p zero = simp and-true
+every-four p (suc zero) = simp and-true
+every-four p (suc (suc zero)) = simp and-true
+every-four p (suc (suc (suc zero))) = simp and-true
+every-four p (suc (suc (suc (suc k)))) =
+    let n : ℕ = suc (suc (suc (suc k))) in
+    every-none p {i = n} {n = 4} (omega arith) ∙ simp (lt-ltb 0 n (omega arith), lt-ltb 1 n (omega arith), lt-ltb 2 n (omega arith), lt-ltb 3 n (omega arith))
+
+pub four-looked : (p : ℕ → Bool) (k : ℕ) {a b c e : Bool} → a ≡ (ltb 0 k || p 0) → b ≡ (ltb 1 k || p 1) → c ≡ (ltb 2 k || p 2) → e ≡ (ltb 3 k || p 3)
+    → every p (count k (4 - k)) ≡ (a && (b && (c && e)))
+four-looked p k q r s t = every-four p k ∙ rw (q, r, s, t) refl
 
 pub every-append : (p : ℕ → Bool) (xs ys : List ℕ) → every p (xs ++ ys) ≡ (every p xs && every p ys)
 every-append p [] ys = refl
