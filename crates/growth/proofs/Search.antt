@@ -11,7 +11,7 @@ use native.Mathlib.Numerals.{add-one}
 use lib.ListN.{length, getD, length-append}
 use lib.Dec.{eqb, ltb, leb}
 use borrow.Author.Tests.{eq-eqb, ne-eqb, eqb-true, leb-true, leb-false}
-use Rattle.meaning.specs.Lists.{count, each, every, lastOr, all}
+use Rattle.meaning.specs.Lists.{count, each, every, lastOr, all, length-count}
 use Rattle.meaning.specs.Layout.{granules, taken, field, slots, directorySectors, isSlot, hit}
 use Rattle.meaning.specs.Entries.{block, second, runs, runsFrom, runLength, runGranules, entryGranules, marker, link}
 use Rattle.meaning.specs.Chain.{chainFrom, chain, owned}
@@ -21,7 +21,7 @@ use Rattle.meaning.specs.declared.Geometry.{Geometry}
 use Rattle.laws.specs.Members
 use Rattle.layout.specs.Room.{Room, Slot, Below}
 use Rattle.layout.proofs.Laws.{left-more, left-none, runs-more, runs-none}
-use Rattle.layout.proofs.Lists.{length-count, le-or-lt, all-at, every-count}
+use Rattle.layout.proofs.Lists.{le-or-lt, all-at, every-count}
 use Rattle.seek.specs.Seek.{Sound, Used, onward}
 use Rattle.seek.proofs.Laws.{chain-more, chain-none, slots-length}
 use Rattle.growth.specs.Search.{Reaches, Clear, NextFree, NextSlot}

@@ -10,7 +10,7 @@ use lib.Seq.{drop-cons, drop-length}
 use lib.Dec.{eqb, leb}
 use borrow.Author.Tests.{le-leb, eq-eqb}
 use Rattle.meaning.specs.Lists.{same, all, count}
-use Rattle.meaning.specs.Layout.{granules, fitsGeometry, field, entryAt}
+use Rattle.meaning.specs.Layout.{granules, fitsGeometry, field, entryAt, granuleBytes, granuleSectors, sectors, mostBlocks, mostUnits}
 use Rattle.meaning.specs.Bits.{digit}
 use Rattle.meaning.specs.Entries.{runsFrom, block, nameOf}
 use Rattle.meaning.specs.declared.Geometry.{Geometry}
@@ -60,7 +60,7 @@ unfolding nameOf field
 name-at g d n s h = ap (λ (l : List ℕ). same l n) (part-at d (entryAt g s) 5 11 (omega arith))
 
 -- the geometry's first six tests passed
-pub fits-rest : (g : Geometry) (d : List ℕ) → 1 ≤ g .blocks → g .blocks ≤ 192 → 1 ≤ g .units → g .units ≤ 8 → g .start % 5 ≡ 0 → length d ≡ granules g * 1280
-    → fitsGeometry g d ≡ leb (g .start + 10) (granules g * 5)
+pub fits-rest : (g : Geometry) (d : List ℕ) → 1 ≤ g .blocks → g .blocks ≤ mostBlocks → 1 ≤ g .units → g .units ≤ mostUnits → g .start % granuleSectors ≡ 0 → length d ≡ granules g * granuleBytes
+    → fitsGeometry g d ≡ leb (g .start + 10) (sectors g)
 unfolding fitsGeometry all
 fits-rest g d a b c e f h = simp (le-leb _ _ a, le-leb _ _ b, le-leb _ _ c, le-leb _ _ e, eq-eqb _ _ f, eq-eqb _ _ h, and-true)

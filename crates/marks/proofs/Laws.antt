@@ -12,7 +12,7 @@ use lib.ListN.{length, getD, set, length-set}
 use lib.Seq.{getD-set-same, getD-set-other}
 use borrow.Author.Tests.{le-leb, lt-leb, eqb-true, eqb-false}
 use Rattle.meaning.specs.Lists.{count}
-use Rattle.meaning.specs.Bits.{digit, bit}
+use Rattle.meaning.specs.Bits.{digit, bit, digit-lt}
 use Rattle.meaning.specs.Layout.{granules, taken, byte, gatAt}
 use Rattle.meaning.specs.declared.Geometry.{Geometry}
 use Rattle.layout.proofs.Laws.{left-more, left-none}
@@ -152,11 +152,6 @@ reading-step {g} {d} {m} {m′} {n} {b} r h p eight w =
         ∙ ap (λ (i : ℕ). digit (byte d (256 * g .start + i)) u * 3) (sym (at u l) ∙ ap (λ (i : ℕ). i / g .units) (sym y))
         ∙ ap (λ (i : ℕ). digit (byte d (gatAt g k)) i * 3) (sym (unit u l) ∙ ap (λ (i : ℕ). i % g .units) (sym y))
 
-digit-low : (x u : ℕ) → digit x u < 2
-unfolding digit
-digit-low x zero = omega arith
-digit-low x (suc u) = digit-low (x / 2) u
-
 pub reading-end : {g : Geometry} {d m : List ℕ} {n b : ℕ} → Reading g d m n b → g .blocks ≤ b → TakenMap g d m
 unfolding taken granules
 reading-end {g} {d} {m} {n} {b} r h =
@@ -165,6 +160,6 @@ reading-end {g} {d} {m} {n} {b} r h =
     record {
       high = λ k l t. r .bits k (omega arith) ∙ ap (λ (x : ℕ). x * 3) (eqb-true _ 1 t);
       low = λ k l t.
-          let z : digit (byte d (gatAt g k)) (k % g .units) ≡ 0 = (let q = eqb-false (digit (byte d (gatAt g k)) (k % g .units)) 1 t in let v = digit-low (byte d (gatAt g k)) (k % g .units) in omega arith) in
+          let z : digit (byte d (gatAt g k)) (k % g .units) ≡ 0 = (let q = eqb-false (digit (byte d (gatAt g k)) (k % g .units)) 1 t in let v = digit-lt (byte d (gatAt g k)) (k % g .units) in omega arith) in
           r .bits k (omega arith) ∙ ap (λ (x : ℕ). x * 3) z;
     }

@@ -4,13 +4,14 @@ use meaning::Geometry;
 ghost use mathlib.Core.Path.{_≡_};
 ghost use Prim.Native.Nat.{_+_, _*_, _<_, _≤_};
 ghost use lib.ListN.{length};
+ghost use Rattle.meaning.specs.Layout.{mostGranules};
 ghost use Rattle.meaning.specs.Lists.{count};
 ghost use Rattle.layout.specs.Room.{Room};
 ghost use Rattle.marks.specs.Marks.{Marks, Spread, Bits, TakenMap};
 
 // Sets n granules from a on to v; whether each stood at `least` or above.
 pub fn mark_run(map: &mut [u8; 1544], a: usize, n: usize, least: u8, v: u8) -> bool
-    requires { ⌜ a + n ≤ 1536 ⌝ }
+    requires { ⌜ a + n ≤ mostGranules ⌝ }
     ensures { λ r. ⌜ Marks (now (map .entry)) least v (count a n) (now (map .exit)) r ⌝ }
 {
     let end = a + n;

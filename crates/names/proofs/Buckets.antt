@@ -24,7 +24,7 @@ use Rattle.laws.specs.Members.{In}
 use Rattle.laws.specs.Facts
 use Rattle.layout.specs.Room.{Room, Slot}
 use Rattle.layout.proofs.Lists.{all-yes, all-no, all-one, all-at, all-none}
-use Rattle.layout.proofs.Sound.{slot-of, slot-yes, slot-no}
+use Rattle.layout.proofs.Sound.{slot-of, slot-yes, slot-no, entry-fits}
 use Rattle.layout.proofs.Laws.{name-part}
 use Rattle.names.specs.Buckets.{Hashed, unlike, inBucket, bucket, Linked, Buckets, Joined, Differing, Visited}
 
@@ -236,14 +236,11 @@ module _ (g : Geometry) (d : List ℕ) where
   flags-at s e q = q ∙ ap (λ (k : ℕ). getD d k 0) (e ∙ sym (add-zero (entryAt g s)))
 
   -- what comparing the names' bytes says
-  place-low : (s : ℕ) → Room g d → Slot g d s → entryAt g s + 32 ≤ length d
-  place-low s r h = let a = h .low in let b = h .held in let c = r .directory in let e = r .whole in omega arith
-
   pub compared : (s q n at : ℕ) {r : Bool} → Room g d → Slot g d s → Slot g d q → n ≡ 11 → at ≡ entryAt g s
       → r ≡ same (take 11 (drop (entryAt g q + 5) d)) (take n (drop (at + 5) d)) → unlike g d s q ≡ not r
   unfolding unlike
   compared s q n at k h l z y e =
-      let a = place-low s k h in let b = place-low q k l in
+      let a = entry-fits g d s k h in let b = entry-fits g d q k l in
       rw (name-part g d s (omega arith), name-part g d q (omega arith))
       (ap not (sym (e ∙ ap (λ (m : ℕ). same (take 11 (drop (entryAt g q + 5) d)) (take m (drop (at + 5) d))) z
       ∙ ap (λ (m : ℕ). same (take 11 (drop (entryAt g q + 5) d)) (take 11 (drop (m + 5) d))) y)))

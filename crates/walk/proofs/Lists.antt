@@ -11,7 +11,7 @@ use lib.Dec.{eqb, ltb}
 use borrow.Author.Tests.{eq-eqb, ne-eqb, lt-ltb}
 use Rattle.meaning.specs.Lists.{count, every, each, all}
 use Rattle.layout.proofs.Laws.{left-more, left-none}
-use Rattle.layout.proofs.Lists.{all-at}
+use Rattle.layout.proofs.Lists.{all-at, count-append}
 use Rattle.marks.proofs.Laws.{count-more, count-none}
 use Rattle.laws.specs.Members
 
@@ -74,18 +74,11 @@ every-true p i (suc n) h =
     ap (λ (b : Bool). b && every p (count (i + 1) n)) (h i (omega arith) (omega arith))
     ∙ every-true p (i + 1) n (λ j a b. h j (omega arith) (omega arith))
 
-pub count-split : (i m n : ℕ) → count i (m + n) ≡ count i m ++ count (i + m) n
-count-split i zero n = let e : i ≡ i + 0 = omega arith in ap (count i) (zero-add n) ∙ ap (λ (j : ℕ). count j n) e
-count-split i (suc m) n =
-    let e : suc m + n ≡ suc (m + n) = omega arith in
-    let f : i + 1 + m ≡ i + suc m = omega arith in
-    ap (count i) e ∙ ap (λ (l : List ℕ). i ∷ l) (count-split (i + 1) m n ∙ ap (λ (j : ℕ). count (i + 1) m ++ count j n) f)
-
 -- from 0 on, cut at k
 pub count-cut : {k n : ℕ} → k ≤ n → count 0 n ≡ count 0 k ++ count k (n - k)
 count-cut {k} {n} h =
     let e : n ≡ k + (n - k) = omega arith in
-    ap (count 0) e ∙ count-split 0 k (n - k) ∙ ap (λ (j : ℕ). count 0 k ++ count j (n - k)) (zero-add k)
+    ap (count 0) e ∙ count-append 0 k (n - k) ∙ ap (λ (j : ℕ). count 0 k ++ count j (n - k)) (zero-add k)
 
 pub each-snoc : (f : ℕ → List ℕ) (k : ℕ) → each f (count 0 (k + 1)) ≡ each f (count 0 k) ++ f k
 each-snoc f k =

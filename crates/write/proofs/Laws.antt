@@ -11,7 +11,7 @@ use Rattle.meaning.specs.Chain.{place}
 use Rattle.meaning.specs.Write.{store}
 use Rattle.meaning.specs.declared.Geometry.{Geometry}
 use mathlib.Core.Logic.{⊎-elim, _⊎_, inl, inr}
-use Rattle.meaning.specs.Layout.{directorySectors}
+use Rattle.meaning.specs.Layout.{directorySectors, granuleBytes}
 use Rattle.meaning.specs.Chain.{owned}
 use Rattle.layout.specs.Room.{Room}
 use Rattle.seek.specs.Seek.{Sound, Used}
@@ -91,7 +91,7 @@ module _ (g : Geometry) (d : List ℕ) where
   unfolding place
   apart-at s i m a o x =
       let y = x .inside in let z = o .owned in let w = o .some in
-      ⊎-elim (λ h. inl (omega arith)) (λ h. inr (omega arith)) (a .apart (i / 1280) (omega arith))
+      ⊎-elim (λ h. inl (omega arith)) (λ h. inr (omega arith)) (a .apart (i / granuleBytes) (omega arith))
 
   pub zeroing-step : {s i n at left m p : ℕ} {d′ d″ : List ℕ} → File g d s → Apart g d s → Zeroing s i n d′ at left → Owned g d s at m → InGranule at m → m ≤ left
       → p ≡ place g d s at → d″ ≡ sets d′ p (replicate m 0) → Zeroing s i n d″ (at + m) (left - m)
@@ -131,7 +131,7 @@ store-place f f′ d i (b ∷ bs) e = ap (λ (k : ℕ). store f (set d k b) (i +
 
 module _ (g : Geometry) (d : List ℕ) (s : ℕ) (f : File g d s) (a : Apart g d s) where
   -- bytes of the file stored: HIT and entries are as they were
-  store-same : (bs : List ℕ) (i : ℕ) (d′ : List ℕ) → i + length bs ≤ 1280 * length (owned g d s) → i + length bs ≤ 16777215 → Same g d d′ → Same g d (store (place g d s) d′ i bs)
+  store-same : (bs : List ℕ) (i : ℕ) (d′ : List ℕ) → i + length bs ≤ granuleBytes * length (owned g d s) → i + length bs ≤ 16777215 → Same g d d′ → Same g d (store (place g d s) d′ i bs)
   unfolding store
   store-same [] i d′ h l e = e
   store-same (b ∷ bs) i d′ h l e =
@@ -144,9 +144,9 @@ module _ (g : Geometry) (d : List ℕ) (s : ℕ) (f : File g d s) (a : Apart g d
       (apart-at g d s i 1 a (record { some = omega arith; owned = omega arith; high = omega arith }) (record { inside = omega arith }))))
 
   -- the zeros, then the record
-  module _ {old at n zeros : ℕ} {d′ : List ℕ} (o : Owned g d s at n) (h : old ≤ 1280 * length (owned g d s)) (l : old < 16777216) (z : zeros ≡ at - old)
+  module _ {old at n zeros : ℕ} {d′ : List ℕ} (o : Owned g d s at n) (h : old ≤ granuleBytes * length (owned g d s)) (l : old < 16777216) (z : zeros ≡ at - old)
       (e : d′ ≡ store (place g d s) d old (replicate zeros 0)) where
-    pub gap-owned : old + zeros ≤ 1280 * length (owned g d s)
+    pub gap-owned : old + zeros ≤ granuleBytes * length (owned g d s)
     gap-owned = let u = o .owned in omega arith
 
     pub gap-high : old + zeros ≤ 16777215

@@ -10,7 +10,7 @@ ghost use Prim.Native.Nat.{_+_, _-_, _*_, _<_, _≤_};
 ghost use lib.ListN.{length, take, replicate};
 ghost use lib.Dec.{leb};
 ghost use Rattle.meaning.specs.Lists.{all};
-ghost use Rattle.meaning.specs.Layout.{highest, entryAt, granulesFor};
+ghost use Rattle.meaning.specs.Layout.{highest, entryAt, granuleBytes, granulesFor};
 ghost use Rattle.meaning.specs.Chain.{owned, place};
 ghost use Rattle.meaning.specs.Refusals.{check, inRange, first, accepted, cannotGrow, larger, lacking};
 ghost use Rattle.meaning.specs.Write.{store, sizeAfter, withSize, writeRecord};
@@ -37,7 +37,7 @@ pub fn write_bytes(image: &mut [u8], g: Geometry, s: usize, i: usize, src: &[u8]
 
 // n zeros go to the file from byte i on: one walk along the chain and one part a granule.
 pub fn clear_bytes(image: &mut [u8], g: Geometry, s: usize, i: usize, n: usize)
-    requires { ⌜ File g (now image) s × Apart g (now image) s × (i + n ≤ 1280 * length (owned g (now image) s)) × (i + n ≤ 16777215) ⌝ }
+    requires { ⌜ File g (now image) s × Apart g (now image) s × (i + n ≤ granuleBytes * length (owned g (now image) s)) × (i + n ≤ 16777215) ⌝ }
     ensures { λ _. ⌜ now (image .exit) ≡ store (place g (now (image .entry)) s) (now (image .entry)) i (replicate n 0) ⌝ }
 {
     let mut at = i;
@@ -91,7 +91,7 @@ fn gap(old: usize, at: usize) -> usize
 
 // Zeros from the old size to the position, then the record: the first n bytes of src.
 fn put_record(image: &mut [u8], g: Geometry, s: usize, old: usize, at: usize, src: &[u8], n: usize)
-    requires { ⌜ File g (now image) s × Apart g (now image) s × Owned g (now image) s at n × (old ≤ 1280 * length (owned g (now image) s)) × (old < 16777216) × (n ≤ 256) × (n ≤ length (now src)) ⌝ }
+    requires { ⌜ File g (now image) s × Apart g (now image) s × Owned g (now image) s at n × (old ≤ granuleBytes * length (owned g (now image) s)) × (old < 16777216) × (n ≤ 256) × (n ≤ length (now src)) ⌝ }
     ensures { λ _. ⌜ now (image .exit) ≡ store (place g (now (image .entry)) s) (store (place g (now (image .entry)) s) (now (image .entry)) old (replicate (at - old) 0)) at (take n (now (src .entry))) ⌝ }
 {
     let zeros = gap(old, at);
@@ -102,7 +102,7 @@ fn put_record(image: &mut [u8], g: Geometry, s: usize, old: usize, at: usize, sr
 // The file at slot p, `old` bytes long, gets the granules of a size, or the number of the refusal. Where the old size needs as many,
 // nothing is lacking, and the chain is not walked.
 fn grow_to(image: &mut [u8], g: Geometry, p: usize, old: usize, size: usize) -> u8
-    requires { ⌜ Ready g (now image) p × (old ≤ 1280 * length (owned g (now image) p)) × (old < 16777216) × (size ≤ 33554432) ⌝ }
+    requires { ⌜ Ready g (now image) p × (old ≤ granuleBytes * length (owned g (now image) p)) × (old < 16777216) × (size ≤ 33554432) ⌝ }
     ensures { λ r. ⌜ (r ≡ first (cannotGrow g (now (image .entry)) p (lacking g (now (image .entry)) p (granulesFor size))))
         × (now (image .exit) ≡ cond (accepted r) (larger g (now (image .entry)) p (lacking g (now (image .entry)) p (granulesFor size))) (now (image .entry))) ⌝ }
 {
