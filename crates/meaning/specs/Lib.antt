@@ -18,6 +18,7 @@ pub mod Allot
 pub mod Trim
 pub mod Kill
 pub mod Listing
+pub mod FreeSpace
 pub mod Plain
 pub mod Samples
 pub mod Table

@@ -78,3 +78,10 @@ pub struct Counts {
     pub files: usize,
     pub free: usize,
 }
+
+// What free space answers: how many granules are free, and how long the longest free stretch is.
+pub struct Space {
+    pub number: u8,
+    pub free: usize,
+    pub longest: usize,
+}
