@@ -15,6 +15,7 @@ use Rattle.meaning.specs.Free.{freeGranules}
 use Rattle.meaning.specs.FreeSpace.{stretch, longestIn, longest, freeSpace}
 use Rattle.meaning.specs.declared.Geometry.{Geometry}
 use Rattle.meaning.specs.declared.Space.{Space}
+use Rattle.laws.specs.Stretches.{stretch-taken, stretch-free, stretch-le}
 use Rattle.layout.specs.Room.{Room}
 use Rattle.layout.proofs.Laws.{digit-at, left-none}
 use Rattle.layout.proofs.Lists.{keep-yes, keep-no, all-at, first-hit, first-skip, first-none, not-yes, not-no}
@@ -98,19 +99,6 @@ module _ (g : Geometry) (d : List ℕ) where
   unfolding freeIn
   free-free i n e = ap length (keep-yes (λ k. not (taken g d k)) {x = i} (ap not e) (count (i + 1) n))
 
-  stretch-taken : (i : ℕ) (ns : List ℕ) → taken g d i ≡ true → stretch g d (i ∷ ns) ≡ 0
-  unfolding stretch
-  stretch-taken i ns e = rw e refl
-
-  stretch-free : (i : ℕ) (ns : List ℕ) → taken g d i ≡ false → stretch g d (i ∷ ns) ≡ suc (stretch g d ns)
-  unfolding stretch
-  stretch-free i ns e = rw e refl
-
-  stretch-le : (ns : List ℕ) → stretch g d ns ≤ longestIn g d ns
-  unfolding stretch longestIn
-  stretch-le [] = omega arith
-  stretch-le (n ∷ ns) = omega arith
-
   -- What the pass tells ------------------------------------------------------------------------------------------------------
 
   ends-free : (n i : ℕ) (p : Seen) → ended (over i n p) .free ≡ p .free + p .here + freeIn i n
@@ -138,12 +126,12 @@ module _ (g : Geometry) (d : List ℕ) where
           ≡ max (p .longest) (max (p .here + stretch g d (i ∷ rest)) (max (stretch g d (i ∷ rest)) (longestIn g d rest)))
       go true e h =
           ap (λ (t : Bool). ended (over (i + 1) n (met t p)) .longest) e ∙ h (ended p)
-          ∙ max-taken (p .longest) (p .here) (stretch g d rest) (longestIn g d rest) (stretch-le rest)
-          ∙ ap (λ (k : ℕ). max (p .longest) (max (p .here + k) (max k (longestIn g d rest)))) (sym (stretch-taken i rest e))
+          ∙ max-taken (p .longest) (p .here) (stretch g d rest) (longestIn g d rest) (stretch-le g d rest)
+          ∙ ap (λ (k : ℕ). max (p .longest) (max (p .here + k) (max k (longestIn g d rest)))) (sym (stretch-taken g d i rest e))
       go false e h =
           ap (λ (t : Bool). ended (over (i + 1) n (met t p)) .longest) e ∙ h (record { free = p .free; here = p .here + 1; longest = p .longest })
           ∙ max-free (p .longest) (p .here) (stretch g d rest) (longestIn g d rest)
-          ∙ ap (λ (k : ℕ). max (p .longest) (max (p .here + k) (max k (longestIn g d rest)))) (sym (stretch-free i rest e))
+          ∙ ap (λ (k : ℕ). max (p .longest) (max (p .here + k) (max k (longestIn g d rest)))) (sym (stretch-free g d i rest e))
 
   -- Block by block ----------------------------------------------------------------------------------------------------------
 
@@ -213,7 +201,7 @@ module _ (g : Geometry) (d : List ℕ) where
   going-end {b} {p} {r} s h e =
       let q : over 0 (granules g) start ≡ p = s .rest ∙ ap (λ (j : ℕ). over (b * g .units) (j * g .units) p) (left-none h) ∙ ap (λ (j : ℕ). over (b * g .units) j p) (zero-mul (g .units)) in
       let k : r ≡ ended (over 0 (granules g) start) = e ∙ ap ended (sym q) in
-      let z = stretch-le (count 0 (granules g)) in
+      let z = stretch-le g d (count 0 (granules g)) in
       record {
         free = ap (λ (x : Seen). x .free) k ∙ ends-free (granules g) 0 start ∙ zero-add _;
         longest′ = ap (λ (x : Seen). x .longest) k ∙ ends-longest (granules g) 0 start ∙ omega arith;

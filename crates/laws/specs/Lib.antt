@@ -29,6 +29,7 @@ pub mod DropLast
 pub mod Steps
 pub mod Bytes
 pub mod Tally
+pub mod Stretches
 pub mod Rising
 pub mod Clauses
 pub mod Rewrite

@@ -9,7 +9,7 @@ use Rattle.meaning.specs.Plain.{AreBytes}
 use Rattle.meaning.specs.declared.Geometry.{Geometry}
 use Rattle.laws.specs.Members
 use Rattle.laws.specs.Facts
-use Rattle.promises.specs.Promises.{Call, number, leaves, AllBring, Stays, Serves, Refuses, EveryCall, Along, EveryState, EveryWrite}
+use Rattle.promises.specs.Promises.{Call, number, leaves, AllBring, Stays, Serves, Refuses, EveryCall, Along, EveryState, GatAlone, EveryWrite}
 use Rattle.promises.specs.Refusing
 use Rattle.promises.specs.Passing
 use Rattle.promises.specs.Staying
@@ -17,6 +17,7 @@ use Rattle.promises.specs.Changing
 use Rattle.promises.specs.Finding
 use Rattle.promises.specs.Sector
 use Rattle.promises.specs.Telling
+use Rattle.promises.specs.Measuring
 use Rattle.promises.specs.ReadBack
 
 module _ (g : Geometry) (d : List ℕ) where
@@ -50,6 +51,7 @@ module _ (g : Geometry) (d : List ℕ) where
   serves (Call.kills h) b e = Changing.kill-serves g d h e
   serves (Call.lists i) b e = list-serves i e
   serves Call.counts b e = counts-serves e
+  serves Call.measures b e = Measuring.measure-serves g d e
 
   pub refuses : (c : Call) → number g d c ≢ 0 → Refuses g d c
   unfolding number
@@ -65,6 +67,7 @@ module _ (g : Geometry) (d : List ℕ) where
   refuses (Call.kills h) k = Passing.kill-refuses g d h
   refuses (Call.lists i) k = Passing.list-refuses g d i k
   refuses Call.counts k = Passing.counts-refuses g d k
+  refuses Call.measures k = Measuring.measure-refuses g d k
 
 -- whatever the disk, whatever the call
 pub every-call : EveryCall
@@ -86,6 +89,10 @@ along g d₀ d s (c ∷ cs) b =
 -- from each state reached
 pub every-state : EveryState
 every-state g d k cs b = along g d d (Staying.stays-same g d k) cs b
+
+-- free space hangs on the GAT's bits in range and on nothing else
+pub gat-alone : GatAlone
+gat-alone g d d′ e same = Measuring.alone g d d′ e same
 
 -- write, then read
 pub every-write : EveryWrite

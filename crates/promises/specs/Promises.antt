@@ -13,7 +13,7 @@ use lib.ListN.{length, getD, take, drop}
 use lib.Seq.{slice}
 use Rattle.meaning.specs.Lists.{keep, each, firstOr}
 use Rattle.meaning.specs.Bits.{bit, digit}
-use Rattle.meaning.specs.Layout.{fitsGeometry, granules, granuleBytes, granuleSectors, sectors, highest, sectorNumbers, mostBlocks, mostUnits, slots, isSlot, hit, byte, granulesFor}
+use Rattle.meaning.specs.Layout.{fitsGeometry, granules, granuleBytes, granuleSectors, sectors, highest, sectorNumbers, mostBlocks, mostUnits, slots, isSlot, hit, byte, taken, granulesFor}
 use Rattle.meaning.specs.Names.{hash, wellFormed}
 use Rattle.meaning.specs.Entries.{inUse, extension, nameOf, sectorCount, runs}
 use Rattle.meaning.specs.Chain.{chain, owned, files}
@@ -31,6 +31,7 @@ use Rattle.meaning.specs.Trim.{trim}
 use Rattle.meaning.specs.Kill.{kill}
 use Rattle.meaning.specs.Listing
 use Rattle.meaning.specs.Listing.{listed, noFile}
+use Rattle.meaning.specs.FreeSpace.{freeSpace}
 use Rattle.meaning.specs.Plain.{File, Found, found, nothing, fileAt, plain, with′, isSystem, hush, beyond, Aside, bornAs, writtenTo, allottedTo, trimmed, AreBytes, CodesFit, reserved}
 use Rattle.meaning.specs.declared.Geometry.{Geometry}
 use Rattle.meaning.specs.declared.Handle.{Handle}
@@ -53,6 +54,7 @@ pub data Call : Type 0 where
   kills : (h : Handle) → Call
   lists : (i : ℕ) → Call
   counts : Call
+  measures : Call
 
 -- the number that it answers, 0 where it is accepted
 unfoldable pub number : Geometry → List ℕ → Call → ℕ
@@ -68,6 +70,7 @@ number g d (trims h) = trim g d h .0 .number
 number g d (kills h) = kill g d h .0 .number
 number g d (lists i) = Listing.list g d i .number
 number g d counts = Listing.counts g d .number
+number g d measures = freeSpace g d .number
 
 -- the image that it leaves
 unfoldable pub leaves : Geometry → List ℕ → Call → List ℕ
@@ -83,6 +86,7 @@ leaves g d (trims h) = trim g d h .1
 leaves g d (kills h) = kill g d h .1
 leaves g d (lists i) = d
 leaves g d counts = d
+leaves g d measures = d
 
 -- what a caller's types see to: a record to be written is of bytes, the codes of a new file have 16 bits
 abbrev pub Brings : Call → Type 0
@@ -98,6 +102,7 @@ Brings (trims h) = Unit {0}
 Brings (kills h) = Unit {0}
 Brings (lists i) = Unit {0}
 Brings counts = Unit {0}
+Brings measures = Unit {0}
 
 -- 1. What no call changes -------------------------------------------------------------------------------------------------------------
 
@@ -260,6 +265,21 @@ pub record Counted (g : Geometry) (d : List ℕ) : Type 0 where
   pub told : (n : List ℕ) (f : File) → plain g d n ≡ found f → T (not (isSystem f))
       → (i : ℕ) × (i < length (listed g d)) × (nameOf g d (ith g d i) ≡ n) × ((j : ℕ) → j < length (listed g d) → nameOf g d (ith g d j) ≡ n → j ≡ i)
 
+-- n granules from a on are on the disk and free, one after the other
+pub record Stretch (g : Geometry) (d : List ℕ) (a n : ℕ) : Type 0 where
+  pub inside : a + n ≤ granules g
+  pub clear : (k : ℕ) → a ≤ k → k < a + n → taken g d k ≡ false
+
+-- Free space (02 §5): the number of clear GAT bits in range, and the length of the longest free stretch, on any image of the right length. On
+-- a consistent disk the number is that of the disk's granules less those reserved and those owned (`tally`), and the listing's FREE (`listing`).
+pub record Measured (g : Geometry) (d : List ℕ) : Type 0 where
+  pub clear : freeSpace g d .free ≡ length (freeGranules g d)
+  pub tally : consistent g d ≡ true → freeSpace g d .free + length (reserved g d) + length (each (owned g d) (files g d)) ≡ granules g
+  pub listing : consistent g d ≡ true → Listing.counts g d .free ≡ freeSpace g d .free
+  pub first : ℕ
+  pub stretch : Stretch g d first (freeSpace g d .longest)
+  pub none-longer : (a n : ℕ) → Stretch g d a n → n ≤ freeSpace g d .longest
+
 -- What each accepted call answers and does
 abbrev pub Serves : Geometry → List ℕ → Call → Type 0
 Serves g d checks = (fitsGeometry g d ≡ true) × (consistent g d ≡ true)
@@ -275,6 +295,7 @@ Serves g d (trims h) = Changes g d (trim g d h .1) h (trim g d h .0 .handle) (λ
 Serves g d (kills h) = Changes g d (kill g d h .1) h (kill g d h .0 .handle) (λ f. nothing) h
 Serves g d (lists i) = Lists g d i
 Serves g d counts = Counted g d
+Serves g d measures = Measured g d
 
 -- 4. What a refused call leaves: nothing is written ---------------------------------------------------------------------------------------
 
@@ -299,6 +320,7 @@ Refuses g d (trims h) = trim g d h .0 .handle ≡ h
 Refuses g d (kills h) = kill g d h .0 .handle ≡ h
 Refuses g d (lists i) = Listing.list g d i ≡ noFile (Listing.list g d i .number)
 Refuses g d counts = (Listing.counts g d .files ≡ 0) × (Listing.counts g d .free ≡ 0)
+Refuses g d measures = (freeSpace g d .free ≡ 0) × (freeSpace g d .longest ≡ 0)
 
 -- 5. Refusal numbers, in order of test ------------------------------------------------------------------------------------------------------
 
@@ -345,7 +367,7 @@ pub record Stuck (g : Geometry) (d : List ℕ) (p more : ℕ) : Type 0 where
   pub four : 4 ≤ runs g disk (tail g p disk)
 
 module _ (g : Geometry) (d : List ℕ) where
-  -- 1 geometry or image length not as above, 2 disk not consistent: every call
+  -- 1 geometry or image length not as above, 2 disk not consistent: every call but free space, which gives 1 only
   abbrev pub diskCases : Table → Table
   diskCases rest = (1, (Fits g d → ⊥)) ∷ (2, consistent g d ≡ false) ∷ rest
 
@@ -398,6 +420,7 @@ module _ (g : Geometry) (d : List ℕ) where
   table (kills h) = handleCases h (InRange h) (barred 1 h ∷ [])
   table (lists i) = diskCases []
   table counts = diskCases []
+  table measures = (1, (Fits g d → ⊥)) ∷ []
 
 -- 6. One call, and every state reached ----------------------------------------------------------------------------------------------------
 
@@ -424,7 +447,13 @@ Along g d₀ d (c ∷ cs) = Stays g d₀ d × Promise g d c × Along g d₀ (lea
 abbrev pub EveryState : Type 0
 EveryState = (g : Geometry) (d : List ℕ) → Good g d → (cs : List Call) → AllBring cs → Along g d d cs
 
--- 7. Read back ------------------------------------------------------------------------------------------------------------------------------
+-- 7. Free space from the GAT alone -----------------------------------------------------------------------------------------------------------
+
+-- Two images of one length whose granules are taken alike get the same answer, whatever else they hold, directory and spare GAT bits included.
+abbrev pub GatAlone : Type 0
+GatAlone = (g : Geometry) (d d′ : List ℕ) → length d′ ≡ length d → ((n : ℕ) → n < granules g → taken g d′ n ≡ taken g d n) → freeSpace g d′ ≡ freeSpace g d
+
+-- 8. Read back ------------------------------------------------------------------------------------------------------------------------------
 
 -- After an accepted write a read of that length at that position, by the same handle, is accepted and answers the record, whatever the
 -- buffer; and every byte of the file outside the record and the gap is as it was, the gap zero.

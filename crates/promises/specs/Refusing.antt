@@ -24,6 +24,7 @@ use Rattle.meaning.specs.Allot.{allot, allotRefusals, toAllot}
 use Rattle.meaning.specs.Trim.{trim, trimRefusals}
 use Rattle.meaning.specs.Kill.{kill, killRefusals}
 use Rattle.meaning.specs.Listing
+use Rattle.meaning.specs.FreeSpace.{spaceRefusals, freeSpace}
 use Rattle.meaning.specs.Plain.{File, found, nothing, fileAt, foundIn, plain, isSystem}
 use Rattle.meaning.specs.declared.Geometry.{Geometry}
 use Rattle.meaning.specs.declared.Handle.{Handle}
@@ -551,6 +552,10 @@ module _ (g : Geometry) (d : List ℕ) where
       go n (Members.Test.holds t) = rw (Members.T-true {b = eqb n 0} t) (first-number (lib.ListN.drop i (Listing.listed g d)) ∙ sym (eqb→eq n 0 t))
       go n (Members.Test.fails t) = rw (Members.no-false {b = eqb n 0} t)
 
+  measure-numbers : Exactly (freeSpace g d .number) (table g d Call.measures)
+  unfolding freeSpace
+  measure-numbers = exactly (spaceRefusals g d) (table g d Call.measures) (refl, λ x. no-fit, tt) tt
+
   pub numbers : (c : Call) → Exactly (number g d c) (table g d c)
   unfolding number Listing.counts
   numbers Call.checks = check-numbers
@@ -565,3 +570,4 @@ module _ (g : Geometry) (d : List ℕ) where
   numbers (Call.kills h) = kill-numbers h
   numbers (Call.lists i) = subst (λ (n : ℕ). Exactly n (Promises.diskCases g d [])) (sym (list-number i)) check-numbers
   numbers Call.counts = check-numbers
+  numbers Call.measures = measure-numbers
