@@ -49,7 +49,7 @@ int main(void)
     const uint8_t *const name = (const uint8_t *)"PULS01  DAT"; /* PULS01/DAT, 11 bytes */
     const uint8_t zeros[GENIE_HANDLE_BYTES] = { 0 };
     uint8_t handle[GENIE_HANDLE_BYTES], record[256], back[256], told[GENIE_NAME_BYTES];
-    size_t old, slot, compared, from, to, size, granules, more, files, left;
+    size_t old, slot, compared, from, to, size, granules, more, files, left, longest;
 
     image = malloc(IMAGE_BYTES);
     if (!image) {
@@ -61,6 +61,9 @@ int main(void)
     step("check it with a wrong number of blocks", genie_check(image, IMAGE_BYTES, BLOCKS - 1, UNITS, START, OPEN_CODE), GENIE_GEOMETRY, 1);
     uint8_t answer = genie_count(DISK, &files, &left);
     step("count: no file, 1,533 granules free", answer, GENIE_DONE, files == 0 && left == BLOCKS * UNITS - 3);
+    answer = genie_free(DISK, &left, &longest);
+    step("free space: the same, most of it in one stretch", answer, GENIE_DONE,
+         left == BLOCKS * UNITS - 3 && longest == BLOCKS * UNITS - START / 5 - DIRECTORY_SECTORS / 5);
 
     memset(handle, 0xFF, sizeof handle);
     answer = genie_open(DISK, name, GENIE_NAME_BYTES, 256, true, 0, handle, sizeof handle);
@@ -121,6 +124,8 @@ int main(void)
     step("count: no file, 1,533 granules free", answer, GENIE_DONE, files == 0 && left == BLOCKS * UNITS - 3);
     image[START * GENIE_SECTOR_BYTES + GENIE_SECTOR_BYTES + 0x80] = 0xA2; /* slot 80H is not in use */
     step("check after a byte of the HIT was damaged", genie_check(DISK), GENIE_INCONSISTENT, 1);
+    answer = genie_free(DISK, &left, &longest);
+    step("free space is told all the same", answer, GENIE_DONE, left == BLOCKS * UNITS - 3 && longest > 0);
 
     free(image);
     if (wrong) printf("%d steps not as documented\n", wrong);

@@ -44,7 +44,7 @@ extern "C" {
 enum genie_refusal {
     GENIE_DONE = 0,         /* accepted */
     GENIE_GEOMETRY = 1,     /* blocks, units, start or the image's length is not as said above */
-    GENIE_INCONSISTENT = 2, /* the disk is not consistent (directory, names, chains, runs, GAT or HIT contradict each other) */
+    GENIE_INCONSISTENT = 2, /* the disk is not consistent (directory, names, chains, runs, GAT or HIT contradict each other); never by genie_free */
     GENIE_RANGE = 12,       /* a position, record length, level, date or sector (0 to 7,679) is out of range; position + length passes 1,966,080 in
                                a write; the buffer is shorter than the record length; the handle is under 19 bytes; the listing's name buffer is
                                under 11 bytes. A handle's three numbers are tested in every call that takes one, used or not. */
@@ -68,7 +68,7 @@ enum genie_refusal {
 #define GENIE_GRANULE_BYTES 1280
 #define GENIE_HIGHEST_POSITION 1966080
 
-/* Check: whether the image is a consistent disk. Refusals 1, 2. (Every other call makes this check first.) */
+/* Check: whether the image is a consistent disk. Refusals 1, 2. (Every other call makes this check first, genie_free excepted.) */
 uint8_t genie_check(const uint8_t *image, size_t image_len, size_t blocks, size_t units, size_t start, uint16_t open_code);
 
 /* Look up: the slot of the file's first entry in *slot; in *compared how many entries were compared, those whose HIT byte is the name's hash, by
@@ -130,6 +130,12 @@ uint8_t genie_list(const uint8_t *image, size_t image_len, size_t blocks, size_t
 /* Count: in *files the files that the listing tells, in *free the granules that are free. Refusals 1, 2. */
 uint8_t genie_count(const uint8_t *image, size_t image_len, size_t blocks, size_t units, size_t start, uint16_t open_code,
                     size_t *files, size_t *free);
+
+/* Free space: in *free the granules that are free, in *longest how many lie in the longest free stretch, a row of free granules with consecutive
+ * numbers, across blocks. Only the GAT sector is looked at, so a disk that is not consistent is answered too: *free then only counts the clear GAT
+ * bits of the disk's granules. On a consistent disk it is the number that genie_count gives. Refusal 1. */
+uint8_t genie_free(const uint8_t *image, size_t image_len, size_t blocks, size_t units, size_t start, uint16_t open_code,
+                   size_t *free, size_t *longest);
 
 #ifdef __cplusplus
 }

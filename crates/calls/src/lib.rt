@@ -1,5 +1,5 @@
 // The calls of the library, one function a call. Each checks the whole disk first, whatever it is given, so none asks anything of its
-// caller.
+// caller. (Free space is told of any disk whose geometry fits, and tests that alone.)
 use meaning::Answer;
 use meaning::Counts;
 use meaning::Created;
@@ -10,6 +10,7 @@ use meaning::LookedUp;
 use meaning::Mode;
 use meaning::NewFile;
 use meaning::Part;
+use meaning::Space;
 ghost use mathlib.Core.Path.{_≡_};
 ghost use Prim.Native.Nat.{_+_};
 ghost use lib.ListN.{length};
@@ -24,6 +25,7 @@ ghost use Rattle.meaning.specs.Allot.{allot};
 ghost use Rattle.meaning.specs.Trim.{trim};
 ghost use Rattle.meaning.specs.Kill.{kill};
 ghost use Rattle.meaning.specs.Listing.{list, counts};
+ghost use Rattle.meaning.specs.FreeSpace.{freeSpace};
 ghost use Rattle.read.specs.Part.{partOf, Lies};
 
 // Check: 0, or refusal 1 or 2.
@@ -142,4 +144,11 @@ pub fn counts(image: &[u8], g: Geometry) -> Counts
 {
     let checked = consistency::check(image, g);
     listing::counts_checked(image, g, checked)
+}
+
+// Free space: the number of free granules and the longest free stretch, from the GAT alone.
+pub fn free_space(image: &[u8], g: Geometry) -> Space
+    ensures { λ r. ⌜ r ≡ freeSpace g (now (image .entry)) ⌝ }
+{
+    gat::free_space(image, g)
 }

@@ -15,6 +15,7 @@ use Rattle.meaning.specs.Allot.{allot}
 use Rattle.meaning.specs.Trim.{trim}
 use Rattle.meaning.specs.Kill.{kill}
 use Rattle.meaning.specs.Listing.{list, counts}
+use Rattle.meaning.specs.FreeSpace.{freeSpace}
 use Rattle.meaning.specs.declared.Geometry.{Geometry}
 use Rattle.meaning.specs.declared.NewFile.{NewFile}
 use Rattle.meaning.specs.declared.Answer.{Answer}
@@ -23,6 +24,7 @@ use Rattle.meaning.specs.declared.LookedUp.{LookedUp}
 use Rattle.meaning.specs.declared.Part.{Part}
 use Rattle.meaning.specs.declared.Listed.{Listed}
 use Rattle.meaning.specs.declared.Counts.{Counts}
+use Rattle.meaning.specs.declared.Space.{Space}
 use Rattle.meaning.specs.declared.Mode.{Mode}
 use Rattle.meaning.specs.declared.Mode.the-variants.{Sequential, Random}
 use Rattle.genie.specs.Codec.{handleBytes, handleOf, stored}
@@ -80,6 +82,9 @@ tells b l = (l .number, l .size, l .granules, told (l .more), cond (l .more) (se
 abbrev pub numbers : Counts → ℕ × ℕ × ℕ
 numbers c = (c .number, c .files, c .free)
 
+abbrev pub spaces : Space → ℕ × ℕ × ℕ
+spaces s = (s .number, s .free, s .longest)
+
 module _ (g : Geometry) (d : List ℕ) where
   -- slot, compared. "look up's count apart": under 4 it is told, and 0 under 1, 2 and 3.
   abbrev pub exportedLookUp : List ℕ → ℕ × ℕ × ℕ
@@ -123,3 +128,7 @@ module _ (g : Geometry) (d : List ℕ) where
   -- files, free
   abbrev pub exportedCount : ℕ × ℕ × ℕ
   exportedCount = numbers (counts g d)
+
+  -- free, longest
+  abbrev pub exportedFree : ℕ × ℕ × ℕ
+  exportedFree = spaces (freeSpace g d)

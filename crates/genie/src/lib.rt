@@ -10,7 +10,7 @@ ghost use lib.Seq.{sets};
 ghost use Rattle.meaning.specs.Refusals.{check};
 ghost use Rattle.layout.specs.Room.{Below};
 ghost use Rattle.genie.specs.Codec.{two, handleOf, stored};
-ghost use Rattle.genie.specs.Exports.{geometry, newFile, modeOf, told, tooShort, exportedLookUp, exportedOpen, exportedCreate, exportedReadRecord, exportedReadSector, exportedWriteRecord, exportedAllot, exportedTrim, exportedKill, exportedList, exportedCount};
+ghost use Rattle.genie.specs.Exports.{geometry, newFile, modeOf, told, tooShort, exportedLookUp, exportedOpen, exportedCreate, exportedReadRecord, exportedReadSector, exportedWriteRecord, exportedAllot, exportedTrim, exportedKill, exportedList, exportedCount, exportedFree};
 
 const HANDLE_BYTES: usize = 19;
 
@@ -446,4 +446,28 @@ pub extern "C" fn genie_count(
     *files = c.files;
     *free = c.free;
     c.number
+}
+
+#[no_mangle]
+pub extern "C" fn genie_free(
+    image: &[u8],
+    blocks: usize,
+    units: usize,
+    start: usize,
+    open_code: u16,
+    free: &mut usize,
+    longest: &mut usize,
+) -> u8
+    ensures { λ r. ⌜ (r, now (free .exit), now (longest .exit)) ≡ exportedFree (geometry blocks units start open_code) (now (image .entry)) ⌝ }
+{
+    let g = Geometry {
+        blocks,
+        units,
+        start,
+        anyone: open_code,
+    };
+    let s = calls::free_space(image, g);
+    *free = s.free;
+    *longest = s.longest;
+    s.number
 }

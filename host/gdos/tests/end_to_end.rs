@@ -116,6 +116,8 @@ fn json_of_every_command() {
 
     let (status, free) = json(&["free", "d.img"]);
     assert_eq!((status, free.at("free").number(), free.at("free_bytes").number()), (0, 28, 28 * 1280));
+    assert_eq!((free.at("longest").number(), free.at("longest_bytes").number()), (14, 14 * 1280));
+    assert_eq!(free.at("granules").number(), 32);
     let (status, probe) = json(&["probe", "d.img"]);
     assert_eq!((status, probe.at("geometries").len(), probe.at("tried").number()), (0, 1, 124));
     assert_eq!(probe.at("geometries.0.geometry.start").number(), 80);

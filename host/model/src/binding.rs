@@ -262,5 +262,10 @@ mod bound {
                 genie_count(image.as_ptr(), image.len(), g.blocks, g.units, g.start, g.open_code, files, free)
             }
         }
+        fn free(&self, image: &[u8], g: &Geometry, free: &mut usize, longest: &mut usize) -> Number {
+            unsafe {
+                genie_free(image.as_ptr(), image.len(), g.blocks, g.units, g.start, g.open_code, free, longest)
+            }
+        }
     }
 }

@@ -19,6 +19,7 @@ pub enum Call {
     Kill { handle: Vec<u8> },
     List { which: usize, name: Vec<u8> },
     Count,
+    Free,
 }
 
 impl Call {
@@ -37,12 +38,13 @@ impl Call {
             Call::Kill { .. } => "kill",
             Call::List { .. } => "list",
             Call::Count => "count",
+            Call::Free => "free",
         }
     }
 }
 
 /// The numbers that each call can give, 0 included.
-pub const POSSIBLE: [(&str, &[Number]); 13] = [
+pub const POSSIBLE: [(&str, &[Number]); 14] = [
     ("check", &[0, 1, 2]),
     ("look up", &[0, 1, 2, 3, 4]),
     ("open", &[0, 1, 2, 12, 3, 4, 5]),
@@ -56,6 +58,7 @@ pub const POSSIBLE: [(&str, &[Number]); 13] = [
     ("kill", &[0, 1, 2, 12, 7, 6]),
     ("list", &[0, 1, 2, 12]),
     ("count", &[0, 1, 2]),
+    ("free", &[0, 1]),
 ];
 
 /// All that a call answers and leaves, the image apart.
@@ -125,7 +128,7 @@ pub fn perform(library: &dyn Library, image: &mut [u8], g: &Geometry, call: &Cal
         }
         Call::ReadSector { handle, .. } | Call::Allot { handle, .. } => (handle, &nothing, &nothing),
         Call::Trim { handle } | Call::Kill { handle } => (handle, &nothing, &nothing),
-        Call::Check | Call::Count => (&nothing, &nothing, &nothing),
+        Call::Check | Call::Count | Call::Free => (&nothing, &nothing, &nothing),
     };
     let (mut handle, mut buffer, mut name) = (Lent::new(handle), Lent::new(buffer), Lent::new(name));
     let (mut one, mut two, mut three) = (UNSET, UNSET, UNSET);
@@ -165,6 +168,11 @@ pub fn perform(library: &dyn Library, image: &mut [u8], g: &Geometry, call: &Cal
         Call::Count => {
             let number = library.count(image, g, &mut one, &mut two);
             numbers = vec![("files", one), ("free", two)];
+            number
+        }
+        Call::Free => {
+            let number = library.free(image, g, &mut one, &mut two);
+            numbers = vec![("free", one), ("longest", two)];
             number
         }
     };

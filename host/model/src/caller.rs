@@ -327,7 +327,8 @@ impl Caller {
                 };
                 Call::List { which, name: (0..room).map(|_| random.byte()).collect() }
             }
-            _ => Call::Count,
+            97 | 98 => Call::Count,
+            _ => Call::Free,
         }
     }
 

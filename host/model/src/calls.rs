@@ -8,7 +8,7 @@ use crate::directory::{
 use crate::geometry::{Geometry, GRANULE_BYTES, GRANULE_SECTORS, HIGHEST_POSITION, HIGHEST_SECTOR, SECTOR_BYTES};
 use crate::handle::{good_length, Handle, HANDLE_BYTES};
 use crate::names::{hash, well_formed, Name, FULL_NAME_BYTES};
-use crate::space::{drop_one, first_permitted_slot, free_granules, grow, Short};
+use crate::space::{drop_one, first_permitted_slot, free_granules, grow, longest_stretch, Short};
 
 /// A refusal's number; 0 is no refusal.
 pub type Number = u8;
@@ -436,4 +436,15 @@ pub fn count(image: &[u8], g: &Geometry, files: &mut usize, free: &mut usize) ->
         *free = free_granules(image, g).count();
         Ok(())
     })())
+}
+
+/// 02 §5: "Give the number, and the longest free stretch, from the GAT sector alone. ... Refusals: 1 only."
+pub fn free(image: &[u8], g: &Geometry, free: &mut usize, longest: &mut usize) -> Number {
+    (*free, *longest) = (0, 0);
+    if !g.fits(image.len()) {
+        return GEOMETRY;
+    }
+    *free = free_granules(image, g).count();
+    *longest = longest_stretch(image, g);
+    ACCEPTED
 }

@@ -15,6 +15,7 @@ use crate::handle::Handle;
 use crate::library::{Library, Model};
 use crate::names::written;
 use crate::random::Random;
+use crate::space::free_stretches;
 use std::collections::BTreeMap;
 
 /// How often each call gave each number, and how often other things worth meeting were met.
@@ -55,6 +56,10 @@ pub const EVENTS: &[&str] = &[
     "kill of a file with extensions",
     "list tells a file",
     "list tells no more",
+    "free space of a disk that is not consistent",
+    "longest stretch over blocks",
+    "longest stretch to the end",
+    "bits past the last unit clear",
     "level refused on a system file",
     "a long buffer's rest is untouched",
     "still consistent after flips",
@@ -305,6 +310,17 @@ impl Before {
                 seen.event("list tells a file", outcome.numbered("more") == 1);
                 seen.event("list tells no more", outcome.numbered("more") == 0);
             }
+            Call::Free => {
+                let longest = outcome.numbered("longest");
+                let first = free_stretches(image, g).into_iter().find(|stretch| stretch.len() == longest);
+                let first = first.expect("the longest is one of them");
+                seen.event("free space of a disk that is not consistent", !consistent(image, g));
+                seen.event("longest stretch over blocks", longest > 0 && first.start / g.units < (first.end - 1) / g.units);
+                seen.event("longest stretch to the end", longest > 0 && first.end == g.granules());
+                let spare = |block: usize| image[g.start * SECTOR_BYTES + block] as usize >> g.units;
+                let clear = (0..g.blocks).any(|block| spare(block) != 0xFF >> g.units);
+                seen.event("bits past the last unit clear", g.units < 8 && clear);
+            }
             Call::ReadSector { .. } => {
                 seen.event("sector part under 256 bytes", outcome.numbered("to") - outcome.numbered("from") < 256)
             }
@@ -423,6 +439,7 @@ pub fn disk_run(library: &dyn Library, seed: u64, seen: &mut Seen) -> Result<(),
         sides.set_image(&copy.image);
         let outcome = sides.both(&disk.g, length, &Call::Check, seen).map_err(|text| format!("{title}: {text}"))?;
         seen.event("still consistent after flips", title == "flips" && outcome.number == ACCEPTED);
+        sides.both(&disk.g, length, &Call::Free, seen).map_err(|text| format!("{title}: {text}"))?;
         for _ in 0..if outcome.number == ACCEPTED { 6 } else { 1 } {
             sides.step(&mut random, seen).map_err(|text| format!("{title}: {text}"))?;
         }
@@ -441,10 +458,23 @@ pub fn disk_run(library: &dyn Library, seed: u64, seen: &mut Seen) -> Result<(),
     sides.set_image(&image);
     sides.both(&disk.g, length, &Call::Check, seen).map_err(|text| format!("random directory: {text}"))?;
 
+    // Nonsense for a GAT: free space is told all the same.
+    let gat = from..from + SECTOR_BYTES;
+    random.fill(&mut image[gat.clone()]);
+    if random.percent(50) {
+        // Long stretches: most bits clear, or whole blocks.
+        for place in gat {
+            image[place] = if random.percent(80) { 0 } else { *random.pick(&[0xFF, 0x01, 0x80, image[place]]) };
+        }
+    }
+    sides.set_image(&image);
+    sides.both(&disk.g, length, &Call::Free, seen).map_err(|text| format!("random GAT: {text}"))?;
+
     // Geometries for the same bytes.
     for _ in 0..4 {
         let (g, length) = odd_geometry(&mut random, &disk.g, length);
         sides.both(&g, length, &Call::Check, seen).map_err(|text| format!("odd geometry: {text}"))?;
+        sides.both(&g, length, &Call::Free, seen).map_err(|text| format!("odd geometry: {text}"))?;
     }
     Ok(())
 }

@@ -61,6 +61,7 @@ pub trait Library {
         more: &mut usize,
     ) -> Number;
     fn count(&self, image: &[u8], g: &Geometry, files: &mut usize, free: &mut usize) -> Number;
+    fn free(&self, image: &[u8], g: &Geometry, free: &mut usize, longest: &mut usize) -> Number;
 }
 
 /// The model itself.
@@ -146,6 +147,9 @@ impl Library for Model {
     }
     fn count(&self, image: &[u8], g: &Geometry, files: &mut usize, free: &mut usize) -> Number {
         calls::count(image, g, files, free)
+    }
+    fn free(&self, image: &[u8], g: &Geometry, free: &mut usize, longest: &mut usize) -> Number {
+        calls::free(image, g, free, longest)
     }
 }
 

@@ -108,6 +108,8 @@ fn calls_do_what_a_plain_list_of_files_would() {
                     assert_eq!(genie_model::calls::read_record(&image, &g, again, &mut buffer), ACCEPTED, "{at}");
                     assert_eq!(buffer, lent_buffer[..h.length()], "{at}");
                 }
+                // "On a consistent disk the number equals the disk's granules less those reserved and those owned."
+                Call::Free => assert_eq!(outcome.numbered("free"), g.granules() - reserved.len() - all_owned, "{at}"),
                 _ => {}
             }
 
@@ -132,7 +134,7 @@ fn owns_directory(image: &[u8], g: &genie_model::geometry::Geometry, d: usize, f
 fn lent(call: &Call) -> (Vec<u8>, Vec<u8>, Vec<u8>) {
     let none = Vec::new;
     match call.clone() {
-        Call::Check | Call::Count => (none(), none(), none()),
+        Call::Check | Call::Count | Call::Free => (none(), none(), none()),
         Call::LookUp { name } | Call::List { name, .. } => (none(), none(), name),
         Call::Open { name, handle, .. } | Call::Create { name, handle, .. } => (handle, none(), name),
         Call::ReadRecord { handle, buffer } | Call::WriteRecord { handle, buffer, .. } => (handle, buffer, none()),

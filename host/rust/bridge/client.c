@@ -292,3 +292,12 @@ uint8_t genie_count(const IMAGE, size_t *files, size_t *free)
     *free = w->out[1];
     return end();
 }
+
+uint8_t genie_free(const IMAGE, size_t *free, size_t *longest)
+{
+    BEGIN(FREE);
+    go();
+    *free = w->out[0];
+    *longest = w->out[1];
+    return end();
+}

@@ -99,8 +99,10 @@ static uint8_t serve(struct wire *w, size_t out[3])
         return genie_kill(IMAGE, HANDLE);
     case LIST:
         return genie_list(IMAGE, in[0], NAME, &out[0], &out[1], &out[2]);
-    default:
+    case COUNT:
         return genie_count(IMAGE, &out[0], &out[1]);
+    default:
+        return genie_free(IMAGE, &out[0], &out[1]);
     }
 }
 

@@ -5,7 +5,8 @@ use crate::{sys, Date, Entry, Geometry, Handle, Name, Refusal};
 ///
 /// The image can be owned (`Disk<Vec<u8>>`) or lent (`Disk<&[u8]>` to look only, `Disk<&mut [u8]>`). Any bytes will
 /// do: each call tests the geometry, the image's length and the whole directory before it does anything, so that a
-/// damaged disk is refused with [`Refusal::Inconsistent`] and stays as it is.
+/// damaged disk is refused with [`Refusal::Inconsistent`] and stays as it is. ([`Disk::free_space`] tests the first two
+/// only.)
 ///
 /// ```
 /// use genie_dos::{Date, Disk, Geometry, Kind, Name, NewFile, Password};
@@ -114,6 +115,15 @@ pub struct Counts {
     pub files: usize,
     /// Free granules.
     pub free: usize,
+}
+
+/// The answer of [`Disk::free_space`], in granules.
+#[derive(Clone, Copy, Debug, PartialEq, Eq)]
+pub struct FreeSpace {
+    /// Free granules.
+    pub free: usize,
+    /// Those of the longest free stretch: free granules with consecutive numbers.
+    pub longest: usize,
 }
 
 /// A refusal number as a result.
@@ -405,6 +415,36 @@ impl<B: AsRef<[u8]>> Disk<B> {
             )
         })?;
         Ok(Counts { files, free })
+    }
+
+    /// How many granules are free, and how many of them lie in a row at the most. Only the GAT sector is looked at: a
+    /// disk that is not consistent is answered too (the clear bits are counted), and the one refusal is
+    /// [`Refusal::Geometry`].
+    ///
+    /// ```
+    /// # use genie_dos::*;
+    /// // 32 granules, of which 0 and the directory's 16 and 17 are reserved.
+    /// let mut disk = Disk::blank(Geometry::new(16, 2, 80, 0x4296), 10, &[0])?;
+    /// assert_eq!(disk.free_space()?, FreeSpace { free: 29, longest: 15 });
+    /// # Ok::<(), Refusal>(())
+    /// ```
+    pub fn free_space(&self) -> Result<FreeSpace, Refusal> {
+        let (image, g) = (self.image.as_ref(), self.geometry);
+        let (mut free, mut longest) = (0, 0);
+        // SAFETY: the image is a live reference; the outgoing numbers are locals.
+        accepted(unsafe {
+            sys::genie_free(
+                image.as_ptr(),
+                image.len(),
+                g.blocks,
+                g.units,
+                g.start,
+                g.open_code,
+                &mut free,
+                &mut longest,
+            )
+        })?;
+        Ok(FreeSpace { free, longest })
     }
 
     /// All files of the listing.

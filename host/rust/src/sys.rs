@@ -165,4 +165,15 @@ extern "C" {
         files: *mut usize,
         free: *mut usize,
     ) -> u8;
+
+    pub fn genie_free(
+        image: *const u8,
+        image_len: usize,
+        blocks: usize,
+        units: usize,
+        start: usize,
+        open_code: u16,
+        free: *mut usize,
+        longest: *mut usize,
+    ) -> u8;
 }

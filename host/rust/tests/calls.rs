@@ -248,6 +248,8 @@ fn entries_agree_with_the_listing() {
     disk.trim(&handle).unwrap();
     assert_eq!(disk.files().unwrap()[1].granules, 0);
     assert_eq!(disk.count().unwrap().free, 2 + 13);
+    // The three files took turns, so what one gave back lies scattered; the last two granules were never taken.
+    assert_eq!(disk.free_space(), Ok(FreeSpace { free: 2 + 13, longest: 2 }));
     disk.kill(&handle).unwrap();
     assert_eq!(disk.files().unwrap().len(), 2);
 }
@@ -289,6 +291,11 @@ fn every_refusal_by_its_number() {
         assert_eq!(refused(&bad, |d| d.contents(&h)), number);
         assert_eq!(refused(&bad, |d| d.entries()), number);
         assert_eq!(refused(&bad, |d| d.directory_sectors()), number);
+        // Free space looks at the GAT alone.
+        match number {
+            1 => assert_eq!(refused(&bad, |d| d.free_space()), 1),
+            _ => assert_eq!(bad.free_space(), disk.free_space()),
+        }
         assert_eq!(h, handle);
     }
 

@@ -110,12 +110,17 @@ fn only_image(args: &Args) -> Result<&OsString, Failure> {
 
 /// The disk of an image that is only looked at.
 fn disk_of(args: &Args, image: &OsStr) -> Result<Disk, Failure> {
+    let disk = unchecked_disk_of(args, image)?;
+    disk.check().map_err(Failure::image(&shown(image)))?;
+    Ok(disk)
+}
+
+/// The same where its geometry is stated and the disk need not be consistent.
+fn unchecked_disk_of(args: &Args, image: &OsStr) -> Result<Disk, Failure> {
     let wanted = Wanted::from_args(args)?;
     let bytes = image::read(Path::new(image))?;
     let geometry = wanted.find(&bytes, &shown(image))?;
-    let disk = Disk::new(bytes, geometry);
-    disk.check().map_err(Failure::image(&shown(image)))?;
-    Ok(disk)
+    Ok(Disk::new(bytes, geometry))
 }
 
 /// The disk of an image that is to be changed, as a copy in memory, and the lock on its file.
