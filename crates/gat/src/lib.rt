@@ -70,17 +70,17 @@ pub fn pass(image: &[u8], g: Geometry) -> Seen
     requires { ⌜ Gat g (now image) ⌝ }
     ensures { λ r. ⌜ Tells g (now (image .entry)) r ⌝ }
 {
-    let mut p = Seen {
+    let mut seen = Seen {
         free: 0,
         here: 0,
         longest: 0,
     };
     let mut b = 0;
     while b < g.blocks {
-        p = block(layout::wide(image[256 * g.start + b]), g.units, p);
+        seen = block(layout::wide(image[256 * g.start + b]), g.units, seen);
         b += 1;
     }
-    ended(p)
+    ended(seen)
 }
 
 // Free space: the number of free granules and the longest free stretch, on any image whose length fits.
@@ -94,10 +94,10 @@ pub fn free_space(image: &[u8], g: Geometry) -> Space
             longest: 0,
         };
     }
-    let p = pass(image, g);
+    let seen = pass(image, g);
     Space {
         number: 0,
-        free: p.free,
-        longest: p.longest,
+        free: seen.free,
+        longest: seen.longest,
     }
 }

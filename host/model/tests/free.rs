@@ -3,10 +3,11 @@
 use genie_model::geometry::{Geometry, SECTOR_BYTES};
 use genie_model::library::libraries;
 
-/// An image of zeros but for these bytes of the GAT: no consistent disk.
+/// An image of zeros but for these bytes of the GAT, and a HIT byte of an entry that is not in use: no consistent disk.
 fn with_gat(g: &Geometry, gat: &[u8]) -> Vec<u8> {
     let mut image = vec![0; g.blocks * g.units * 1280];
     image[g.start * SECTOR_BYTES..][..gat.len()].copy_from_slice(gat);
+    image[(g.start + 1) * SECTOR_BYTES] = 1;
     image
 }
 

@@ -11,10 +11,10 @@ use Rattle.gat.proofs.ended.Reads as ended-reads
 use Rattle.layout.proofs.wide.Reads as wide-reads
 
 abbrev Inv-loop : tie.InvT-loop
-Inv-loop image g p₀ b₀ p b = (b ≤ g .blocks) × (p .free + p .here ≤ 8 * b) × Going g image b p
+Inv-loop image g seen₀ b₀ seen b = (b ≤ g .blocks) × (seen .free + seen .here ≤ 8 * b) × Going g image b seen
 
 abbrev μ-loop : tie.MeasureT-loop
-μ-loop image g p₀ b₀ p b = g .blocks - b
+μ-loop image g seen₀ b₀ seen b = g .blocks - b
 
 -- src/lib.rt:79:5
 loop-holds : tie.Need-loop-holds Inv-loop μ-loop
