@@ -224,6 +224,14 @@ fn counts(image: &[u8], g: Geometry, words: &[u8]) {
     ended();
 }
 
+fn free_space(image: &[u8], g: Geometry, words: &[u8]) {
+    let r = calls::free_space(image, g);
+    said(words, r.number);
+    told(b"free", r.free);
+    told(b"longest", r.longest);
+    ended();
+}
+
 // The handle at another position.
 fn placed(h: Handle, at: usize) -> Handle {
     let mut moved = h;
@@ -252,7 +260,7 @@ fn without_length(h: Handle) -> Handle {
     moved
 }
 
-// Every call, asked alike: on the good disk each is accepted, else each is refused.
+// Every call, asked alike: on the good disk each is accepted, else each is refused; but free space looks at the GAT alone.
 fn every_call(image: &[u8], g: Geometry, words: &[u8], h: Handle) {
     io::write_all(1, words);
     ended();
@@ -262,6 +270,7 @@ fn every_call(image: &[u8], g: Geometry, words: &[u8], h: Handle) {
     read_sector(image, g, b"read sector", h, 25);
     list(image, g, b"list", 0);
     counts(image, g, b"counts");
+    free_space(image, g, b"free space");
 }
 
 fn look_ups(image: &[u8]) {
