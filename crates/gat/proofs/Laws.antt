@@ -4,21 +4,20 @@ use mathlib.Core.List.{List, [], _∷_}
 use mathlib.Core.Bool.{Bool, true, false, not, cond}
 use Prim.Native.Nat.{ℕ, zero, suc, _+_, _-_, _*_, _/_, _%_, _^_, _≤_, _<_, max}
 use native.Mathlib.Omega.{arith}
-use native.Mathlib.Nat.{zero-add, add-zero, sub-zero, add-mul, one-mul, zero-mul, mul-add-div-right, mul-add-mod-self-right, div-eq-of-lt, mod-eq-of-lt, div-one, div-div-eq-div-mul, pow-succ', mul-comm}
+use native.Mathlib.Nat.{zero-add, add-zero, sub-zero, add-mul, one-mul, zero-mul, div-one, div-div-eq-div-mul, pow-succ', mul-comm}
 use lib.ListN.{length}
 use lib.Dec.{eqb}
 use borrow.Author.Tests.{leb-true, eqb-true}
 use Rattle.meaning.specs.Lists.{count, keep}
 use Rattle.meaning.specs.Layout.{byte, granules, taken, fitsGeometry}
-use Rattle.meaning.specs.Bits.{digit}
 use Rattle.meaning.specs.Free.{freeGranules}
 use Rattle.meaning.specs.FreeSpace.{stretch, longestIn, longest, freeSpace}
 use Rattle.meaning.specs.declared.Geometry.{Geometry}
 use Rattle.meaning.specs.declared.Space.{Space}
 use Rattle.laws.specs.Stretches.{stretch-taken, stretch-free, stretch-le}
-use Rattle.layout.specs.Room.{Room}
-use Rattle.layout.proofs.Laws.{digit-at, left-none}
+use Rattle.layout.proofs.Laws.{left-none}
 use Rattle.layout.proofs.Lists.{keep-yes, keep-no, all-at, first-hit, first-skip, first-none, not-yes, not-no}
+use Rattle.space.proofs.Clear.{gatByte, taken-at}
 use Rattle.gat.specs.Pass.{Gat, Small, Tells, ended, met, bits}
 use Rattle.gat.specs.declared.Seen.{Seen}
 
@@ -135,35 +134,23 @@ module _ (g : Geometry) (d : List ℕ) where
 
   -- Block by block ----------------------------------------------------------------------------------------------------------
 
-  -- the GAT byte of a block, and its bits
-  gatByte : ℕ → ℕ
-  gatByte b = byte d (256 * g .start + b)
-
   module _ (some : 1 ≤ g .units) where
-    taken-at : (b u : ℕ) → u < g .units → taken g d (b * g .units + u) ≡ eqb (gatByte b / 2 ^ u % 2) 1
-    unfolding taken gatByte
-    taken-at b u h =
-        let q : (b * g .units + u) / g .units ≡ b = mul-add-div-right {m = g .units} some b u ∙ ap (λ (k : ℕ). b + k) (div-eq-of-lt h) ∙ add-zero b in
-        let r : (b * g .units + u) % g .units ≡ u = mul-add-mod-self-right b (g .units) u ∙ mod-eq-of-lt h in
-        ap (λ (k : ℕ). eqb (digit (byte d (256 * g .start + (b * g .units + u) / g .units)) k) 1) r
-        ∙ ap (λ (k : ℕ). eqb (digit (byte d (256 * g .start + k)) u) 1) q ∙ ap (λ (k : ℕ). eqb k 1) (digit-at u (byte d (256 * g .start + b)))
-
-    over-bits : (b u m : ℕ) (p : Seen) → u + m ≤ g .units → over (b * g .units + u) m p ≡ bits m (gatByte b / 2 ^ u) p
+    over-bits : (b u m : ℕ) (p : Seen) → u + m ≤ g .units → over (b * g .units + u) m p ≡ bits m (gatByte g d b / 2 ^ u) p
     unfolding over bits
     over-bits b u zero p h = refl
     over-bits b u (suc m) p h =
-        let x = gatByte b in
+        let x = gatByte g d b in
         let f : b * g .units + u + 1 ≡ b * g .units + (u + 1) = omega arith in
         let s : u + 1 ≡ suc u = omega arith in
         let half : x / 2 ^ (u + 1) ≡ x / 2 ^ u / 2 = ap (λ (k : ℕ). x / 2 ^ k) s ∙ ap (λ (k : ℕ). x / k) (pow-succ' 2 u ∙ mul-comm 2 (2 ^ u)) ∙ sym (div-div-eq-div-mul x (2 ^ u) 2) in
         let q = met (eqb (x / 2 ^ u % 2) 1) p in
-        ap (λ (t : Bool). over (b * g .units + u + 1) m (met t p)) (taken-at b u (omega arith))
+        ap (λ (t : Bool). over (b * g .units + u + 1) m (met t p)) (taken-at g d some b u (omega arith))
         ∙ ap (λ (k : ℕ). over k m q) f ∙ over-bits b (u + 1) m q (omega arith) ∙ ap (λ (k : ℕ). bits m k q) half
 
-    over-block : (b : ℕ) (p : Seen) → over (b * g .units) (g .units) p ≡ bits (g .units) (gatByte b) p
+    over-block : (b : ℕ) (p : Seen) → over (b * g .units) (g .units) p ≡ bits (g .units) (gatByte g d b) p
     over-block b p =
         ap (λ (k : ℕ). over k (g .units) p) (sym (add-zero (b * g .units))) ∙ over-bits b 0 (g .units) p (omega arith)
-        ∙ ap (λ (k : ℕ). bits (g .units) k p) (div-one (gatByte b))
+        ∙ ap (λ (k : ℕ). bits (g .units) k p) (div-one (gatByte g d b))
 
   abbrev start : Seen
   start = record { free = 0; here = 0; longest = 0 }
@@ -216,10 +203,6 @@ gat-fits g d f =
     let b = eqb-true (length d) (granules g * 1280) (all-at _ f 5) in
     let c = leb-true (g .start + 10) (granules g * 5) (all-at _ f 6) in
     record { blocks-high = a; units-low = leb-true _ _ (all-at _ f 2); units-high = leb-true _ _ (all-at _ f 3); inside = omega arith }
-
-pub gat-room : (g : Geometry) (d : List ℕ) → Room g d → Gat g d
-gat-room g d r =
-    record { blocks-high = r .blocks-high; units-low = r .units-low; units-high = r .units-high; inside = omega (arith, r .blocks-high, r .whole, r .ten, r .directory) }
 
 -- Refused and accepted ----------------------------------------------------------------------------------------------------
 

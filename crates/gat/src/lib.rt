@@ -66,7 +66,7 @@ fn block(byte: usize, units: usize, p: Seen) -> Seen
 }
 
 // The whole pass. The last stretch ends with the last block.
-pub fn pass(image: &[u8], g: Geometry) -> Seen
+fn pass(image: &[u8], g: Geometry) -> Seen
     requires { ⌜ Gat g (now image) ⌝ }
     ensures { λ r. ⌜ Tells g (now (image .entry)) r ⌝ }
 {

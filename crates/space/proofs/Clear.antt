@@ -103,11 +103,11 @@ module _ (g : Geometry) (d : List ℕ) where
       ∙ ap (λ (k : ℕ). k + freeIn (i + 1 + m) n) (sym (free-one i m)) ∙ ap (λ (k : ℕ). freeIn i (suc m) + freeIn k n) f
 
   -- the GAT byte of a block, and its bits
-  gatByte : ℕ → ℕ
+  unfoldable pub gatByte : ℕ → ℕ
   gatByte b = byte d (256 * g .start + b)
 
   module _ (some : 0 < g .units) where
-    taken-at : (b u : ℕ) → u < g .units → taken g d (b * g .units + u) ≡ eqb (gatByte b / 2 ^ u % 2) 1
+    pub taken-at : (b u : ℕ) → u < g .units → taken g d (b * g .units + u) ≡ eqb (gatByte b / 2 ^ u % 2) 1
     unfolding taken gatByte
     taken-at b u h =
         let q : (b * g .units + u) / g .units ≡ b = mul-add-div-right {m = g .units} some b u ∙ ap (λ (k : ℕ). b + k) (div-eq-of-lt h) ∙ add-zero b in
