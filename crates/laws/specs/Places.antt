@@ -66,13 +66,17 @@ pub slot : (g : Geometry) (d : List ℕ) (s : ℕ) → T (isSlot g d s) → Slot
 unfolding words
 slot g d s t = record { low = ltb→lt _ _ (Members.and-l (ltb s 256) _ t); sector = ltb→lt _ _ (Members.all-second (ltb s 256) (ltb (s % 32 + 2) (directorySectors g d)) t) }
 
-pub entry-granule-lt : (g : Geometry) (d : List ℕ) (s n : ℕ) → Entry.Entry g d s → In n (entryGranules g d s) → n < granules g
+-- where an entry's runs lie on the disk, its granules do
+pub runs-granule-lt : (g : Geometry) (d : List ℕ) (s n : ℕ) → ((k : ℕ) → k < runs g d s → Entry.Run g d s k) → In n (entryGranules g d s) → n < granules g
 unfolding entryGranules
-entry-granule-lt g d s n e i =
+runs-granule-lt g d s n f i =
     let k = Members.each-in (runGranules g d s) n (count 0 (runs g d s)) i in
     let r = Members.count-in (k .0) 0 (runs g d s) (k .1) in
     let m = Members.count-in n (runStart g d s (k .0)) (runLength g d s (k .0)) (k .2) in
-    omega (arith, m, e .run (k .0) (omega arith) .inside)
+    omega (arith, m, f (k .0) (omega arith) .inside)
+
+pub entry-granule-lt : (g : Geometry) (d : List ℕ) (s n : ℕ) → Entry.Entry g d s → In n (entryGranules g d s) → n < granules g
+entry-granule-lt g d s n e i = runs-granule-lt g d s n (e .run) i
 
 pub directory-lt : (g : Geometry) (d : List ℕ) (n : ℕ) → Dir g d → In n (directoryGranules g d) → n < granules g
 directory-lt g d n f i =
