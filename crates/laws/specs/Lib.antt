@@ -9,6 +9,7 @@ pub mod Places
 pub mod Change
 pub mod Named
 pub mod Others
+pub mod Marking
 pub mod Kill
 pub mod Passed
 pub mod Create

@@ -79,17 +79,8 @@ module _ (g : Geometry) (d₀ : List ℕ) (k : Places.Fits g d₀) where
   pub touch-spare : {xs ns d e : List ℕ} → Touch g xs ns d e → (b u : ℕ) → b < g .blocks → g .units ≤ u → (In ((256 * g .start + b) / granuleBytes) ns → ⊥)
       → digit (byte e (256 * g .start + b)) u ≡ digit (byte d (256 * g .start + b)) u
   touch-spare Touch.none b u h l o = refl
-  touch-spare (Touch.gat n v {e = e} m w t) b u h l o = go (ℕ-discrete (256 * g .start + b) (gatAt g n)) (decLt (gatAt g n) (length e)) ∙ touch-spare t b u h l o
-    where
-      other : u ≢ n % g .units
-      other = let q = mod-lt n (k .units-lo) in omega arith
-
-      go : Dec (256 * g .start + b ≡ gatAt g n) → Dec (gatAt g n < length e) → digit (byte (Places.marked g v e n) (256 * g .start + b)) u ≡ digit (byte e (256 * g .start + b)) u
-      go (yes q) (yes r) =
-          rw (q, getD-set-same e (gatAt g n) (putDigit (byte e (gatAt g n)) (n % g .units) v) 0 r)
-          (Bits.digit-other (byte e (gatAt g n)) (n % g .units) u v w other)
-      go (yes q) (no r) = rw (set-out e (gatAt g n) (putDigit (byte e (gatAt g n)) (n % g .units) v) (omega arith))
-      go (no q) r = rw (getD-set-other e (gatAt g n) (256 * g .start + b) (putDigit (byte e (gatAt g n)) (n % g .units) v) 0 q)
+  touch-spare (Touch.gat n v {e = e} m w t) b u h l o =
+      Places.marked-digit g v w e n (256 * g .start + b) u (λ q. let r = mod-lt n (k .units-lo) in omega arith) ∙ touch-spare t b u h l o
   touch-spare (Touch.hits x v {e = e} j t) b u h l o = ap (λ (z : ℕ). digit z u) (getD-set-other e (hitAt g x) (256 * g .start + b) v 0 (omega (arith, k .blocks-hi))) ∙ touch-spare t b u h l o
   touch-spare (Touch.entry x j v {e = e} m w t) b u h l o = ap (λ (z : ℕ). digit z u) (getD-set-other e (entryAt g x + j) (256 * g .start + b) v 0 (omega (arith, k .blocks-hi))) ∙ touch-spare t b u h l o
   touch-spare (Touch.bytes j v {e = e} m t) b u h l o =
