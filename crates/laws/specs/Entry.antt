@@ -1,5 +1,5 @@
 -- What the tests of one entry and of one file say, opened
-use mathlib.Core.Path.{_≡_, refl, sym}
+use mathlib.Core.Path.{_≡_, refl, ap, sym, _∙_, subst}
 use mathlib.Core.Logic.{_≢_, _⊎_, inl, inr}
 use mathlib.Core.Bool.{Bool, true, false, not, cond, _||_}
 use mathlib.Core.List.{List, [], _∷_}
@@ -258,3 +258,76 @@ module _ (g : Geometry) (d : List ℕ) where
   pub chain-pred : (p y : ℕ) → Members.In y (chain g d p) → Pred p y (chain g d p)
   unfolding chain
   chain-pred p y i = chainFrom-pred _ p y i
+
+  -- The next of an entry is in the chain too, unless the walk ended by its bound.
+  pub chainFrom-next : (n p x : ℕ) → Members.In x (chainFrom g d n p) → marker g d x ≡ 0xfe → Members.In (link g d x) (chainFrom g d n p) ⊎ (length (chainFrom g d n p) ≡ n)
+  unfolding chainFrom
+  chainFrom-next zero p x i m = inr refl
+  chainFrom-next (suc n) p x i m = go (Members.in-cons i) (chainFrom-next n (link g d p) x)
+    where
+      rest : List ℕ
+      rest = chainFrom g d n (link g d p)
+
+      head : (n : ℕ) → Members.In (link g d p) (p ∷ chainFrom g d n (link g d p)) ⊎ (length (p ∷ chainFrom g d n (link g d p)) ≡ suc n)
+      head zero = inr refl
+      head (suc n) = inl (Members.In.there Members.In.here)
+
+      deeper : Members.In (link g d x) rest ⊎ (length rest ≡ n) → Members.In (link g d x) (p ∷ rest) ⊎ (length (p ∷ rest) ≡ suc n)
+      deeper (inl j) = inl (Members.In.there j)
+      deeper (inr e) = inr (ap suc e)
+
+      into : (b : Bool) → Members.In x (cond b rest []) → (Members.In x rest → marker g d x ≡ 0xfe → Members.In (link g d x) rest ⊎ (length rest ≡ n))
+          → Members.In (link g d x) (p ∷ cond b rest []) ⊎ (length (p ∷ cond b rest []) ≡ suc n)
+      into true j r = deeper (r j m)
+      into false j r = Members.none-in j
+
+      go : (x ≡ p) ⊎ Members.In x (cond (eqb (marker g d p) 0xfe) rest []) → (Members.In x rest → marker g d x ≡ 0xfe → Members.In (link g d x) rest ⊎ (length rest ≡ n))
+          → Members.In (link g d x) (p ∷ cond (eqb (marker g d p) 0xfe) rest []) ⊎ (length (p ∷ cond (eqb (marker g d p) 0xfe) rest []) ≡ suc n)
+      go (inl e) r = rw (e, Members.T-true {b = eqb (marker g d p) 0xfe} (Members.eq-T (sym (ap (marker g d) e) ∙ m))) (head n)
+      go (inr j) r = into (eqb (marker g d p) 0xfe) j r
+
+  -- A chain whose links hold, and whose first entry no link leads to, meets no entry twice: its extensions point back.
+  once-from : (byte00 n s : ℕ) → ((x : ℕ) → Members.In x (chainFrom g d n s) → (marker g d x ≡ 0xff) ⊎ LinkedBy g d byte00 x)
+      → ((x : ℕ) → Members.In x (chainFrom g d n s) → marker g d x ≡ 0xfe → link g d x ≢ s) → Members.Distinct (chainFrom g d n s)
+  unfolding chainFrom
+  once-from byte00 zero s h f = Members.Distinct.done
+  once-from byte00 (suc n) s h f = go (Members.decide (eqb (marker g d s) 0xfe)) (once-from byte00 n (link g d s))
+    where
+      rest : List ℕ
+      rest = chainFrom g d n (link g d s)
+
+      back : (x : ℕ) → marker g d x ≡ 0xfe → (marker g d x ≡ 0xff) ⊎ LinkedBy g d byte00 x → field g d (link g d x) 1 ≡ x
+      back x m (inl e) = absurd (omega arith)
+      back x m (inr l) = l .next .before
+
+      go : Members.Test (eqb (marker g d s) 0xfe)
+          → (((x : ℕ) → Members.In x rest → (marker g d x ≡ 0xff) ⊎ LinkedBy g d byte00 x) → ((x : ℕ) → Members.In x rest → marker g d x ≡ 0xfe → link g d x ≢ link g d s) → Members.Distinct rest)
+          → Members.Distinct (s ∷ cond (eqb (marker g d s) 0xfe) rest [])
+      go (Members.Test.fails t) r = rw (Members.no-false {b = eqb (marker g d s) 0xfe} t) (Members.Distinct.fresh (λ i. Members.none-in i) Members.Distinct.done)
+      go (Members.Test.holds t) r =
+          rw e (Members.Distinct.fresh not-in (r (λ x i. h x (later x i)) (λ x i m q.
+          not-in (subst (λ (y : ℕ). Members.In y rest) (sym (back x m (h x (later x i))) ∙ ap (λ (y : ℕ). field g d y 1) q ∙ back s marked (h s Members.In.here)) i))))
+        where
+          e : eqb (marker g d s) 0xfe ≡ true
+          e = Members.T-true t
+
+          marked : marker g d s ≡ 0xfe
+          marked = eqb→eq _ _ t
+
+          later : (x : ℕ) → Members.In x rest → Members.In x (s ∷ cond (eqb (marker g d s) 0xfe) rest [])
+          later x i = rw e (Members.In.there i)
+
+          not-in : Members.In s rest → ⊥
+          not-in i = twice (chainFrom-pred n (link g d s) s i)
+            where
+              twice : Pred (link g d s) s rest → ⊥
+              twice (first q) = f s Members.In.here marked (sym q)
+              twice (after x j m l) = f x (later x (Members.front-in s i j)) m l
+
+  pub links-once : (byte00 p : ℕ) → ((x : ℕ) → Members.In x (chain g d p) → (marker g d x ≡ 0xff) ⊎ LinkedBy g d byte00 x) → field g d p 0 ≢ byte00 → Members.Distinct (chain g d p)
+  unfolding chain
+  links-once byte00 p h n = once-from byte00 _ p h (λ x i m e. at x e m (h x i))
+    where
+      at : (x : ℕ) → link g d x ≡ p → marker g d x ≡ 0xfe → (marker g d x ≡ 0xff) ⊎ LinkedBy g d byte00 x → ⊥
+      at x e m (inl q) = absurd (omega arith)
+      at x e m (inr l) = n (ap (λ (y : ℕ). field g d y 0) (sym e) ∙ l .next .flags)

@@ -49,9 +49,12 @@ module _ (g : Geometry) (d d′ : List ℕ) where
   pub entryGranules-eq : (s : ℕ) → Agree g d d′ s → entryGranules g d′ s ≡ entryGranules g d s
   entryGranules-eq s a = entryGranules-pairs s (λ j b h. a j (omega arith))
 
-  pub nameOf-eq : (s : ℕ) → Agree g d d′ s → nameOf g d′ s ≡ nameOf g d s
+  pub nameOf-bytes : (s : ℕ) → ((k : ℕ) → 5 ≤ k → k < 16 → field g d′ s k ≡ field g d s k) → nameOf g d′ s ≡ nameOf g d s
   unfolding nameOf
-  nameOf-eq s a = Members.map-eq (field g d′ s) (field g d s) (count 5 11) (λ k i. a k (omega (arith, Members.count-in k 5 11 i)))
+  nameOf-bytes s a = Members.map-eq (field g d′ s) (field g d s) (count 5 11) (λ k i. let r = Members.count-in k 5 11 i in a k (r .0) (omega (arith, r)))
+
+  pub nameOf-eq : (s : ℕ) → Agree g d d′ s → nameOf g d′ s ≡ nameOf g d s
+  nameOf-eq s a = nameOf-bytes s (λ k b h. a k (omega arith))
 
   cond-eq : (b : Bool) (xs ys : List ℕ) → (((x : ℕ) → Members.In x xs → Members.In x (cond b xs [])) → ys ≡ xs) → cond b ys [] ≡ cond b xs []
   cond-eq true xs ys f = f (λ x i. i)

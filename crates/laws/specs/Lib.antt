@@ -13,6 +13,7 @@ pub mod Marking
 pub mod Kill
 pub mod Passed
 pub mod Create
+pub mod BringBack
 pub mod Longer
 pub mod Tail
 pub mod Take

@@ -15,7 +15,7 @@ use Rattle.meaning.specs.Bits.{digit, putDigit}
 use Rattle.meaning.specs.Chain.{chain, owned}
 use Rattle.meaning.specs.Growth.{withPair, newExtension, withExtension}
 use Rattle.meaning.specs.Drop.{unhooked}
-use Rattle.meaning.specs.Kill.{killEntry, killed}
+use Rattle.meaning.specs.Kill.{killed}
 use Rattle.meaning.specs.Write.{store, withSize}
 use Rattle.meaning.specs.declared.Geometry.{Geometry}
 use Rattle.laws.specs.Members.{In}
@@ -23,6 +23,7 @@ use Rattle.laws.specs.Bits
 use Rattle.laws.specs.Facts.{Sound, File}
 use Rattle.laws.specs.Places
 use Rattle.laws.specs.Change
+use Rattle.laws.specs.Marking
 use Rattle.laws.specs.Words.{words}
 
 -- from d by stores to the GAT bits of granules of the disk, to HIT bytes and entries of the slots xs, to bytes of the granules ns
@@ -132,11 +133,14 @@ module _ (g : Geometry) (xs ns d : List ℕ) where
       touch-field b 0x1f 0xff j (omega arith) (touch-field b 0x1e 0xff j (omega arith) (touch-field x 0x1f 0xff i (omega arith) (touch-field x 0x1e 0xff i (omega arith)
       (Touch.hits x 0 i (touch-field x 0 0x80 i (omega arith) t)))))
 
-  touch-killEntry : (e : List ℕ) (x : ℕ) → In x xs → Touch g xs ns d e → Touch g xs ns d (killEntry g e x)
-  unfolding killEntry
-  touch-killEntry e x i t = Touch.hits x 0 i (touch-field x 0 _ i (omega arith) t)
+-- bits 4, HIT bytes and GAT bits put, as kill and bring back do
+pub touch-marking : (g : Geometry) (v h : ℕ) (d ns xs : List ℕ) → v < 2 → ((n : ℕ) → In n ns → n < granules g) → Touch g xs [] d (Marking.marking g v h d ns xs)
+unfolding Marking.marking
+touch-marking g v h d ns xs b f =
+    Places.through-stays (Touch g xs [] d) (Marking.putEntry g v h) xs (through (Places.marked g v) d ns)
+    (λ e x i t. Touch.hits x h i (Touch.entry x 0 (putDigit (byte e (entryAt g x + 0)) 4 v) i (omega arith) t))
+    (Places.through-stays (Touch g xs [] d) (Places.marked g v) ns d (λ e n i t. Touch.gat n v (f n i) b t) Touch.none)
 
 pub touch-killed : (g : Geometry) (d : List ℕ) → Sound g d → (p : ℕ) → File g d p → Touch g (chain g d p) [] d (killed g d p)
-touch-killed g d c p f =
-    Places.through-stays (Touch g (chain g d p) [] d) (killEntry g) (chain g d p) (through (freeGranule g) d (owned g d p)) (λ e x i t. touch-killEntry g (chain g d p) [] d e x i t)
-    (Places.through-stays (Touch g (chain g d p) [] d) (freeGranule g) (owned g d p) d (λ e n i t. touch-free g (chain g d p) [] d n (Change.owned-lt g d c p n f i) t) Touch.none)
+unfolding Marking.marking words
+touch-killed g d c p f = touch-marking g 0 0 d (owned g d p) (chain g d p) (omega arith) (λ n i. Change.owned-lt g d c p n f i)
