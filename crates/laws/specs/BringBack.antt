@@ -16,7 +16,8 @@ use Rattle.meaning.specs.Entries.{inUse, extension, system, block, marker, link
 use Rattle.meaning.specs.Chain.{chain, chainFrom, owned, place}
 use Rattle.meaning.specs.Consistent.{pairsHold, linkHoldsBy, runsHold}
 use Rattle.meaning.specs.BringBack.{killedEntryHolds, whole, broughtBack}
-use Rattle.meaning.specs.Plain.{fileAt}
+use Rattle.meaning.specs.Read.{fetch}
+use Rattle.meaning.specs.Plain.{fileAt, backAs}
 use Rattle.meaning.specs.declared.Geometry.{Geometry}
 use Rattle.laws.specs.Members
 use Rattle.laws.specs.Members.{In, Distinct}
@@ -112,3 +113,253 @@ module _ (g : Geometry) (d : List ℕ) where
   whole-once p a es =
       Members.says-distinct (Entry.links-once g d 0x80 p (λ x i. killed-says x (Members.every-all (killedEntryHolds g d) es i) .linked)
       (λ e. T-not (extension g d p) a (rw e tt)))
+
+-- what a bring back that is accepted has passed
+pub record Back (g : Geometry) (d : List ℕ) (p : ℕ) : Type 0 where
+  pub slot : T (isSlot g d p)
+  pub dead : T (inUse g d p) → ⊥
+  pub user : T (not (system g d p))
+  pub whole′ : Whole g d p
+  pub new : (q : ℕ) → File g d q → nameOf g d q ≢ nameOf g d p
+  pub free : (n : ℕ) → In n (owned g d p) → T (taken g d n) → ⊥
+
+-- an entry of its chain
+record Part (g : Geometry) (d : List ℕ) (p x : ℕ) : Type 0 where
+  slot : T (isSlot g d x)
+  kind : (x ≡ p) ⊎ (field g d x 0 ≡ 0x80)
+
+not-used : (x : ℕ) → x ≡ 0x80 → T (bit 4 x) → ⊥
+unfolding digit
+not-used x e = rw e (λ t. t)
+
+now-used : (x : ℕ) → x ≡ 0x80 → putDigit x 4 1 ≡ 0x90
+unfolding putDigit
+now-used x e = rw e
+
+-- bring back sets: its stores are a marking with 1
+pub back-is : (g : Geometry) (d : List ℕ) (p : ℕ) → broughtBack g d p ≡ Marking.marking g 1 (hash (nameOf g d p)) d (owned g d p) (chain g d p)
+unfolding Marking.marking words
+back-is g d p = refl
+
+module _ (g : Geometry) (d : List ℕ) (c : Sound g d) (k : Places.Fits g d) (p : ℕ) (w : Back g d p) where
+  no-file : File g d p → ⊥
+  no-file f = w .dead (Facts.file-in-use g d p f)
+
+  part : (x : ℕ) → In x (chain g d p) → Part g d p x
+  part x i = go (Entry.chain-pred g d p x i)
+    where
+      at : (z : ℕ) → marker g d z ≡ 0xfe → link g d z ≡ x → (marker g d z ≡ 0xff) ⊎ Entry.LinkedBy g d 0x80 z → Part g d p x
+      at z m l (inl e) = absurd (omega arith)
+      at z m l (inr q) = record { slot = rw l at (q .next .slot); kind = inr (rw l at (q .next .flags)) }
+
+      go : Entry.Pred g d p x (chain g d p) → Part g d p x
+      go (Entry.Pred.first e) = record { slot = rw e (w .slot); kind = inl e }
+      go (Entry.Pred.after z j m l) = at z m l (w .whole′ .entries z (Members.front-in p i j) .linked)
+
+  unused : (x : ℕ) → In x (chain g d p) → T (inUse g d x) → ⊥
+  unused x i = go (part x i .kind)
+    where
+      go : (x ≡ p) ⊎ (field g d x 0 ≡ 0x80) → T (inUse g d x) → ⊥
+      go (inl e) = rw e (w .dead)
+      go (inr e) = not-used (field g d x 0) e
+
+  -- the chain ends by its marker, not by its bound: if it has every slot of the directory, it has the next one too
+  next-in : (x : ℕ) → In x (chain g d p) → Entry.LinkedBy g d 0x80 x → In (link g d x) (chain g d p)
+  next-in x i l = go (walk x i (l .marked)) (Members.in? (link g d x) (chain g d p))
+    where
+      walk : (x : ℕ) → In x (chain g d p) → marker g d x ≡ 0xfe → In (link g d x) (chain g d p) ⊎ (length (chain g d p) ≡ length (slots g d))
+      walk x i m = unfold chain in Entry.chainFrom-next g d (length (slots g d)) p x i m
+
+      go : In (link g d x) (chain g d p) ⊎ (length (chain g d p) ≡ length (slots g d)) → In (link g d x) (chain g d p) ⊎ (In (link g d x) (chain g d p) → ⊥) → In (link g d x) (chain g d p)
+      go (inl j) q = j
+      go (inr e) (inl j) = j
+      go (inr e) (inr n) =
+          absurd (omega (arith, Counting.pigeonhole {xs = slots g d} (link g d x ∷ chain g d p) (Facts.slots-distinct g d) (Members.Distinct.fresh n (w .whole′ .once)) (λ y j. inside y (Members.in-cons j))))
+        where
+          inside : (y : ℕ) → (y ≡ link g d x) ⊎ In y (chain g d p) → In y (slots g d)
+          inside y (inl q) = rw q (Facts.in-slots g d (link g d x) (l .next .slot))
+          inside y (inr j) = Facts.in-slots g d y (part y j .slot)
+
+  own-lt : (n : ℕ) → In n (owned g d p) → n < granules g
+  unfolding owned
+  own-lt n i = let x = Members.each-in (entryGranules g d) n (chain g d p) i in Places.runs-granule-lt g d (x .0) n (w .whole′ .entries (x .0) (x .1) .run) (x .2)
+
+  pub back-marks : Marking.Marks g d 1 (owned g d p) (chain g d p)
+  back-marks = record { dir = Places.dir g d (c .dir); fits = k; digit′ = omega arith; granules′ = own-lt; slots′ = λ x i. part x i .slot }
+
+  -- the disk afterwards
+  abbrev d′ : List ℕ
+  d′ = Marking.marking g 1 (hash (nameOf g d p)) d (owned g d p) (chain g d p)
+
+  above′ : aboveTen g d′ ≡ aboveTen g d
+  above′ = Marking.mark-above g d 1 (hash (nameOf g d p)) (owned g d p) (chain g d p) back-marks
+
+  byte-stays : (x j : ℕ) → T (isSlot g d x) → 1 ≤ j → j < 32 → field g d′ x j ≡ field g d x j
+  byte-stays = Marking.mark-field g d 1 (hash (nameOf g d p)) (owned g d p) (chain g d p) back-marks
+
+  flags′ : (x : ℕ) → In x (chain g d p) → field g d′ x 0 ≡ putDigit (field g d x 0) 4 1
+  flags′ = Marking.mark-flags g d 1 (hash (nameOf g d p)) (owned g d p) (chain g d p) back-marks
+
+  hit′ : (x : ℕ) → In x (chain g d p) → hit g d′ x ≡ hash (nameOf g d p)
+  hit′ = Marking.mark-hit g d 1 (hash (nameOf g d p)) (owned g d p) (chain g d p) back-marks
+
+  taken′ : (n : ℕ) → In n (owned g d p) → T (taken g d′ n)
+  unfolding words
+  taken′ n i = Members.eq-T (Marking.mark-granule g d 1 (hash (nameOf g d p)) (owned g d p) (chain g d p) back-marks n i)
+
+  tail′ : (x : ℕ) → In x (chain g d p) → Frame.Tail g d d′ x
+  tail′ x i j a b = byte-stays x j (part x i .slot) (omega arith) b
+
+  slot′ : (x : ℕ) → In x (chain g d p) → T (isSlot g d′ x)
+  slot′ x i = rw (Frame.slot-eq g d d′ above′ x) (part x i .slot)
+
+  head : In p (chain g d p)
+  head = Change.chain-head g d c p (w .slot)
+
+  pub back-chain : chain g d′ p ≡ chain g d p
+  back-chain = Frame.chain-links g d d′ above′ p (λ x i. (tail′ x i 0x1e (omega arith) (omega arith), tail′ x i 0x1f (omega arith) (omega arith)))
+
+  pub back-owned : owned g d′ p ≡ owned g d p
+  unfolding owned
+  back-owned = ap (each (entryGranules g d′)) back-chain ∙ Members.each-eq (entryGranules g d′) (entryGranules g d) (chain g d p) (λ x i. Frame.granules-tail g d d′ x (tail′ x i))
+
+  pub back-name : nameOf g d′ p ≡ nameOf g d p
+  back-name = Frame.nameOf-bytes g d d′ p (λ j a b. byte-stays p j (w .slot) (omega arith) (omega arith))
+
+  back-size : sizeOf g d′ p ≡ sizeOf g d p
+  unfolding words
+  back-size = rw (byte-stays p 3 (w .slot) (omega arith) (omega arith), byte-stays p 0x14 (w .slot) (omega arith) (omega arith), byte-stays p 0x15 (w .slot) (omega arith) (omega arith))
+
+  -- another bit of a flag byte
+  flag-other : (x u : ℕ) → In x (chain g d p) → u ≢ 4 → bit u (field g d′ x 0) ≡ bit u (field g d x 0)
+  flag-other x u i n = ap (λ (b : ℕ). eqb b 1) (ap (λ (b : ℕ). digit b u) (flags′ x i) ∙ Bits.digit-other (field g d x 0) 4 u 1 (omega arith) n)
+
+  used′ : (x : ℕ) → In x (chain g d p) → T (inUse g d′ x)
+  used′ x i = Members.eq-T (ap (λ (b : ℕ). digit b 4) (flags′ x i) ∙ Bits.digit-same (field g d x 0) 4 1 (omega arith))
+
+  pub back-file : File g d′ p
+  back-file = record { slot = slot′ p head; primary′ = Members.and-i (inUse g d′ p) (not (extension g d′ p)) (used′ p head) (rw (flag-other p 7 head (omega arith)) (w .whole′ .first)) }
+
+  later′ : (x : ℕ) → In x (chain g d p) → x ≢ p → field g d′ x 0 ≡ 0x90
+  later′ x i n = go (part x i .kind)
+    where
+      go : (x ≡ p) ⊎ (field g d x 0 ≡ 0x80) → field g d′ x 0 ≡ 0x90
+      go (inl e) = absurd (n e)
+      go (inr e) = flags′ x i ∙ now-used (field g d x 0) e
+
+  next′ : (x : ℕ) → In x (chain g d p) → Entry.LinkedBy g d 0x80 x → Entry.FollowsBy g d′ 0x90 x (link g d x)
+  next′ x i l =
+      let y = link g d x in let j = next-in x i l in
+      record {
+        slot = slot′ y j;
+        flags = flags′ y j ∙ now-used (field g d y 0) (l .next .flags);
+        before = byte-stays y 1 (l .next .slot) (omega arith) (omega arith) ∙ l .next .before;
+        some′ = rw (Frame.runs-tail g d d′ y (tail′ y j)) (l .next .some′);
+      }
+
+  entry′ : (x : ℕ) → In x (chain g d p) → Entry.Entry g d′ x
+  entry′ x i = let e = w .whole′ .entries x i in let a = tail′ x i in record {
+    pairs = Frame.pairs-next g d d′ x a (e .pairs);
+    linked = Frame.linked-next g d d′ 0x80 0x90 x a (next′ x i) (e .linked);
+    run = Frame.run-next g d d′ x a (e .run);
+    gat = λ n j. taken′ n (Change.granule-owned g d c p x n i (rw (Frame.granules-tail g d d′ x a) at j));
+  }
+
+  filed′ : Entry.Filed g d′ p
+  filed′ = record {
+    name = rw back-name (w .whole′ .name);
+    zero′ = rw (flag-other p 5 head (omega arith)) (w .whole′ .zero′);
+    hashes = λ s i. rw back-name (hit′ s (rw back-chain at i));
+    count′ = rw (byte-stays p 3 (w .slot) (omega arith) (omega arith), byte-stays p 0x14 (w .slot) (omega arith) (omega arith), byte-stays p 0x15 (w .slot) (omega arith) (omega arith)) (w .whole′ .count′);
+    fits = rw (back-size, back-owned) (w .whole′ .fits);
+    off = λ u n i j. w .free n (rw back-owned at i) (c .directory n (rw (Frame.directory-eq g d d′ above′) at j));
+  }
+
+  own′ : Change.Own g d d′ p
+  own′ = record {
+    slots′ = λ x i. slot′ x (rw back-chain at i);
+    used = λ x i. used′ x (rw back-chain at i);
+    later = λ x i n. Change.flags-extension (field g d′ x 0) (later′ x (rw back-chain at i) n);
+    entry = λ x i. entry′ x (rw back-chain at i);
+    filed = filed′;
+    once = rw back-chain (w .whole′ .once);
+    single = rw back-owned (w .whole′ .single);
+    name = λ q f n. rw back-name (w .new q f);
+  }
+
+  in-chain : (x : ℕ) → In x (entriesOf g d′ p) → In x (chain g d p)
+  in-chain x i = rw back-chain at (Change.entries-in g d′ p x i .1)
+
+  in-owned : (n : ℕ) → In n (granulesOf g d′ p) → In n (owned g d p)
+  in-owned n i = rw back-owned at (Change.granules-in g d′ p n i .1)
+
+  no-entry : {A : Type 0} (x : ℕ) → In x (entriesOf g d p) → A
+  no-entry x i = absurd (no-file (Change.entries-in g d p x i .0))
+
+  no-granule : {A : Type 0} (n : ℕ) → In n (granulesOf g d p) → A
+  no-granule n i = absurd (no-file (Change.granules-in g d p n i .0))
+
+  outside′ : (x : ℕ) → (In x (entriesOf g d′ p) → ⊥) → In x (chain g d p) → ⊥
+  outside′ x n i = n (rw (Change.entriesOf-is g d′ p back-file, back-chain) i)
+
+  pub back-change : Change.Change g d d′ p
+  back-change = record {
+    above = above′;
+    agrees = λ x t a b. Marking.mark-agrees g d 1 (hash (nameOf g d p)) (owned g d p) (chain g d p) back-marks x t (outside′ x b);
+    hits = λ x t a b. Marking.mark-hits g d 1 (hash (nameOf g d p)) (owned g d p) (chain g d p) back-marks x t (outside′ x b);
+    gone = λ x i. no-entry x i;
+    unhit = λ x i. no-entry x i;
+    born = λ x i a. unused x (in-chain x i);
+    nonzero = λ x i. rw (hit′ x (in-chain x i)) (Create.hash-nonzero (nameOf g d p));
+    keeps = λ n h a b. Marking.mark-keeps g d 1 (hash (nameOf g d p)) (owned g d p) (chain g d p) back-marks n h (λ i. b (rw (Change.granulesOf-is g d′ p back-file, back-owned) i));
+    freed = λ n i. no-granule n i;
+    fresh = λ n i a. w .free n (in-owned n i);
+    off = λ n i. no-granule n i;
+    own = λ h. own′;
+  }
+
+  pub back-length : length d′ ≡ length d
+  back-length = Marking.mark-length g d 1 (hash (nameOf g d p)) (owned g d p) (chain g d p) back-marks
+
+  pub back-same : (i : ℕ) → (In (i / granuleBytes) (directoryGranules g d) → ⊥) → byte d′ i ≡ byte d i
+  back-same = Marking.mark-same g d 1 (hash (nameOf g d p)) (owned g d p) (chain g d p) back-marks
+
+  pub back-taken : (n : ℕ) → In n (owned g d p) → T (taken g d′ n)
+  back-taken = taken′
+
+  pub back-keeps : (n : ℕ) → n < granules g → (In n (owned g d p) → ⊥) → taken g d′ n ≡ taken g d n
+  back-keeps = Marking.mark-keeps g d 1 (hash (nameOf g d p)) (owned g d p) (chain g d p) back-marks
+
+  -- byte 00 as it stands, but in use; every other byte of its entries as it stands
+  pub back-flags : (x : ℕ) → In x (chain g d p) → field g d′ x 0 ≡ withBit 4 (field g d x 0)
+  back-flags = flags′
+
+  pub back-byte : (x j : ℕ) → In x (chain g d p) → 1 ≤ j → j < 32 → field g d′ x j ≡ field g d x j
+  back-byte x j i a b = byte-stays x j (part x i .slot) a b
+
+  -- its bytes are what its granules hold
+  back-bytes : fetch g d′ p 0 (sizeOf g d′ p) ≡ fetch g d p 0 (sizeOf g d p)
+  unfolding place words
+  back-bytes =
+      rw (back-size, back-owned)
+      (Members.map-eq _ _ (count 0 (sizeOf g d p)) (λ i j. let o = Others.place-in g d p i (omega (arith, w .whole′ .fits, Members.count-in i 0 (sizeOf g d p) j)) in
+      back-same (place g d p i) (λ q. w .free _ o (c .directory _ q))))
+
+  pub back-told : fileAt g d′ p ≡ backAs g d p
+  unfolding fileAt backAs
+  back-told = λ i. record { attributes = attributes i; granules = ap length back-owned i; bytes = back-bytes i }
+    where
+      other : (j : ℕ) → 1 ≤ j → j < 32 → field g d′ p j ≡ field g d p j
+      other j a b = back-byte p j head a b
+
+      attributes : map (field g d′ p) (0 ∷ 1 ∷ 2 ∷ 4 ∷ count 0x10 4) ≡ withBit 4 (field g d p 0) ∷ map (field g d p) (1 ∷ 2 ∷ 4 ∷ count 0x10 4)
+      attributes = rw (
+        back-flags p head,
+        other 1 (omega arith) (omega arith),
+        other 2 (omega arith) (omega arith),
+        other 4 (omega arith) (omega arith),
+        other 0x10 (omega arith) (omega arith),
+        other 0x11 (omega arith) (omega arith),
+        other 0x12 (omega arith) (omega arith),
+        other 0x13 (omega arith) (omega arith),
+      )

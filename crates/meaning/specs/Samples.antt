@@ -24,7 +24,7 @@ use Rattle.meaning.specs.Trim.{trim}
 use Rattle.meaning.specs.Kill.{killEntry, kill}
 use Rattle.meaning.specs.BringBack.{whole, backEntry, bringBack}
 use Rattle.meaning.specs.Listing.{shown, listed, tellFirst, list, counts, digits, slashed, line, listing}
-use Rattle.meaning.specs.Plain.{fileAt, foundIn, plain, bornAs, overwritten, writtenTo, allottedTo, trimmed, with′, hush, reserved}
+use Rattle.meaning.specs.Plain.{fileAt, foundIn, plain, bornAs, overwritten, writtenTo, allottedTo, trimmed, backAs, with′, hush, reserved}
 use Rattle.meaning.specs.declared.Geometry.{Geometry}
 use Rattle.meaning.specs.declared.Handle.{Handle}
 
@@ -165,5 +165,5 @@ onePair =
 
 -- Every definition that is shut, opened by one name: `unfolding opened` computes through all of them.
 unfoldable pub opened : Bool
-unfolding all any firstOr lastOr digit putDigit granules fitsGeometry taken takeGranule freeGranule hit directorySectors isSlot slots field setField wellFormed hash nameOf sizeOf runsFrom runs entryGranules chainFrom chain owned files place lengthHolds hitHolds hashHolds nameHolds pairsHold followsBy linkHoldsBy follows linkHolds runsHold gatHolds sizeHolds offDirectory slotHolds fileHolds namesDiffer met consistent freeGranules permitted freeSlot freeSlots andThen fails diskOr lengthens extended takeOne grow unhooked dropOne first goodLength inRange newInRange check fresh candidates carries comparedIn named lookUp full admits open′ create fetch readRecord readSector store sizeAfter writeRecord allot trim killEntry kill whole backEntry bringBack shown listed tellFirst list counts digits slashed line listing fileAt foundIn plain bornAs overwritten writtenTo allottedTo trimmed with′ hush reserved
+unfolding all any firstOr lastOr digit putDigit granules fitsGeometry taken takeGranule freeGranule hit directorySectors isSlot slots field setField wellFormed hash nameOf sizeOf runsFrom runs entryGranules chainFrom chain owned files place lengthHolds hitHolds hashHolds nameHolds pairsHold followsBy linkHoldsBy follows linkHolds runsHold gatHolds sizeHolds offDirectory slotHolds fileHolds namesDiffer met consistent freeGranules permitted freeSlot freeSlots andThen fails diskOr lengthens extended takeOne grow unhooked dropOne first goodLength inRange newInRange check fresh candidates carries comparedIn named lookUp full admits open′ create fetch readRecord readSector store sizeAfter writeRecord allot trim killEntry kill whole backEntry bringBack shown listed tellFirst list counts digits slashed line listing fileAt foundIn plain bornAs overwritten writtenTo allottedTo trimmed backAs with′ hush reserved
 opened = true
