@@ -132,9 +132,9 @@ not-used : (x : ℕ) → x ≡ 0x80 → T (bit 4 x) → ⊥
 unfolding digit
 not-used x e = rw e (λ t. t)
 
-now-used : (x : ℕ) → x ≡ 0x80 → putDigit x 4 1 ≡ 0x90
+now-used : putDigit 0x80 4 1 ≡ 0x90
 unfolding putDigit
-now-used x e = rw e
+now-used = refl
 
 -- bring back sets: its stores are a marking with 1
 pub back-is : (g : Geometry) (d : List ℕ) (p : ℕ) → broughtBack g d p ≡ Marking.marking g 1 (hash (nameOf g d p)) d (owned g d p) (chain g d p)
@@ -163,22 +163,8 @@ module _ (g : Geometry) (d : List ℕ) (c : Sound g d) (k : Places.Fits g d) (p 
       go (inl e) = rw e (w .dead)
       go (inr e) = not-used (field g d x 0) e
 
-  -- the chain ends by its marker, not by its bound: if it has every slot of the directory, it has the next one too
   next-in : (x : ℕ) → In x (chain g d p) → Entry.LinkedBy g d 0x80 x → In (link g d x) (chain g d p)
-  next-in x i l = go (walk x i (l .marked)) (Members.in? (link g d x) (chain g d p))
-    where
-      walk : (x : ℕ) → In x (chain g d p) → marker g d x ≡ 0xfe → In (link g d x) (chain g d p) ⊎ (length (chain g d p) ≡ length (slots g d))
-      walk x i m = unfold chain in Entry.chainFrom-next g d (length (slots g d)) p x i m
-
-      go : In (link g d x) (chain g d p) ⊎ (length (chain g d p) ≡ length (slots g d)) → In (link g d x) (chain g d p) ⊎ (In (link g d x) (chain g d p) → ⊥) → In (link g d x) (chain g d p)
-      go (inl j) q = j
-      go (inr e) (inl j) = j
-      go (inr e) (inr n) =
-          absurd (omega (arith, Counting.pigeonhole {xs = slots g d} (link g d x ∷ chain g d p) (Facts.slots-distinct g d) (Members.Distinct.fresh n (w .whole′ .once)) (λ y j. inside y (Members.in-cons j))))
-        where
-          inside : (y : ℕ) → (y ≡ link g d x) ⊎ In y (chain g d p) → In y (slots g d)
-          inside y (inl q) = rw q (Facts.in-slots g d (link g d x) (l .next .slot))
-          inside y (inr j) = Facts.in-slots g d y (part y j .slot)
+  next-in x i l = Change.chain-next g d p x (λ y j. part y j .slot) (w .whole′ .once) i (l .marked) (l .next .slot)
 
   own-lt : (n : ℕ) → In n (owned g d p) → n < granules g
   unfolding owned
@@ -194,12 +180,6 @@ module _ (g : Geometry) (d : List ℕ) (c : Sound g d) (k : Places.Fits g d) (p 
   above′ : aboveTen g d′ ≡ aboveTen g d
   above′ = Marking.mark-above g d 1 (hash (nameOf g d p)) (owned g d p) (chain g d p) back-marks
 
-  byte-stays : (x j : ℕ) → T (isSlot g d x) → 1 ≤ j → j < 32 → field g d′ x j ≡ field g d x j
-  byte-stays = Marking.mark-field g d 1 (hash (nameOf g d p)) (owned g d p) (chain g d p) back-marks
-
-  flags′ : (x : ℕ) → In x (chain g d p) → field g d′ x 0 ≡ putDigit (field g d x 0) 4 1
-  flags′ = Marking.mark-flags g d 1 (hash (nameOf g d p)) (owned g d p) (chain g d p) back-marks
-
   hit′ : (x : ℕ) → In x (chain g d p) → hit g d′ x ≡ hash (nameOf g d p)
   hit′ = Marking.mark-hit g d 1 (hash (nameOf g d p)) (owned g d p) (chain g d p) back-marks
 
@@ -207,55 +187,52 @@ module _ (g : Geometry) (d : List ℕ) (c : Sound g d) (k : Places.Fits g d) (p 
   unfolding words
   taken′ n i = Members.eq-T (Marking.mark-granule g d 1 (hash (nameOf g d p)) (owned g d p) (chain g d p) back-marks n i)
 
-  tail′ : (x : ℕ) → In x (chain g d p) → Frame.Tail g d d′ x
-  tail′ x i j a b = byte-stays x j (part x i .slot) (omega arith) b
-
-  slot′ : (x : ℕ) → In x (chain g d p) → T (isSlot g d′ x)
-  slot′ x i = rw (Frame.slot-eq g d d′ above′ x) (part x i .slot)
-
   head : In p (chain g d p)
   head = Change.chain-head g d c p (w .slot)
 
+  tail′ : (x : ℕ) → In x (chain g d p) → Frame.Tail g d d′ x
+  tail′ = Marking.file-tail g d 1 (hash (nameOf g d p)) p (w .slot) back-marks
+
+  slot′ : (x : ℕ) → In x (chain g d p) → T (isSlot g d′ x)
+  slot′ = Marking.file-slot g d 1 (hash (nameOf g d p)) p (w .slot) back-marks
+
+  -- byte 00 as it stands, but in use; every other byte of its entries as it stands
+  pub back-flags : (x : ℕ) → In x (chain g d p) → field g d′ x 0 ≡ withBit 4 (field g d x 0)
+  back-flags = Marking.file-flags g d 1 (hash (nameOf g d p)) p (w .slot) back-marks
+
+  pub back-byte : (x j : ℕ) → In x (chain g d p) → 1 ≤ j → j < 32 → field g d′ x j ≡ field g d x j
+  back-byte = Marking.file-byte g d 1 (hash (nameOf g d p)) p (w .slot) back-marks
+
   pub back-chain : chain g d′ p ≡ chain g d p
-  back-chain = Frame.chain-links g d d′ above′ p (λ x i. (tail′ x i 0x1e (omega arith) (omega arith), tail′ x i 0x1f (omega arith) (omega arith)))
+  back-chain = Marking.file-chain g d 1 (hash (nameOf g d p)) p (w .slot) back-marks
 
   pub back-owned : owned g d′ p ≡ owned g d p
-  unfolding owned
-  back-owned = ap (each (entryGranules g d′)) back-chain ∙ Members.each-eq (entryGranules g d′) (entryGranules g d) (chain g d p) (λ x i. Frame.granules-tail g d d′ x (tail′ x i))
+  back-owned = Marking.file-owned g d 1 (hash (nameOf g d p)) p (w .slot) back-marks
 
   pub back-name : nameOf g d′ p ≡ nameOf g d p
-  back-name = Frame.nameOf-bytes g d d′ p (λ j a b. byte-stays p j (w .slot) (omega arith) (omega arith))
+  back-name = Marking.file-name g d 1 (hash (nameOf g d p)) p (w .slot) back-marks
 
   back-size : sizeOf g d′ p ≡ sizeOf g d p
-  unfolding words
-  back-size = rw (byte-stays p 3 (w .slot) (omega arith) (omega arith), byte-stays p 0x14 (w .slot) (omega arith) (omega arith), byte-stays p 0x15 (w .slot) (omega arith) (omega arith))
+  back-size = Marking.file-size g d 1 (hash (nameOf g d p)) p (w .slot) back-marks
 
-  -- another bit of a flag byte
-  flag-other : (x u : ℕ) → In x (chain g d p) → u ≢ 4 → bit u (field g d′ x 0) ≡ bit u (field g d x 0)
-  flag-other x u i n = ap (λ (b : ℕ). eqb b 1) (ap (λ (b : ℕ). digit b u) (flags′ x i) ∙ Bits.digit-other (field g d x 0) 4 u 1 (omega arith) n)
+  flag-other : (u : ℕ) → u ≢ 4 → bit u (field g d′ p 0) ≡ bit u (field g d p 0)
+  flag-other u n = Marking.file-flag g d 1 (hash (nameOf g d p)) p (w .slot) back-marks p u head n
 
   used′ : (x : ℕ) → In x (chain g d p) → T (inUse g d′ x)
-  used′ x i = Members.eq-T (ap (λ (b : ℕ). digit b 4) (flags′ x i) ∙ Bits.digit-same (field g d x 0) 4 1 (omega arith))
+  used′ x i = Members.eq-T (ap (λ (b : ℕ). digit b 4) (back-flags x i) ∙ Bits.digit-same (field g d x 0) 4 1 (omega arith))
 
   pub back-file : File g d′ p
-  back-file = record { slot = slot′ p head; primary′ = Members.and-i (inUse g d′ p) (not (extension g d′ p)) (used′ p head) (rw (flag-other p 7 head (omega arith)) (w .whole′ .first)) }
+  back-file = record { slot = slot′ p head; primary′ = Members.and-i (inUse g d′ p) (not (extension g d′ p)) (used′ p head) (rw (flag-other 7 (omega arith)) (w .whole′ .first)) }
 
   later′ : (x : ℕ) → In x (chain g d p) → x ≢ p → field g d′ x 0 ≡ 0x90
   later′ x i n = go (part x i .kind)
     where
       go : (x ≡ p) ⊎ (field g d x 0 ≡ 0x80) → field g d′ x 0 ≡ 0x90
       go (inl e) = absurd (n e)
-      go (inr e) = flags′ x i ∙ now-used (field g d x 0) e
+      go (inr e) = back-flags x i ∙ ap (withBit 4) e ∙ now-used
 
   next′ : (x : ℕ) → In x (chain g d p) → Entry.LinkedBy g d 0x80 x → Entry.FollowsBy g d′ 0x90 x (link g d x)
-  next′ x i l =
-      let y = link g d x in let j = next-in x i l in
-      record {
-        slot = slot′ y j;
-        flags = flags′ y j ∙ now-used (field g d y 0) (l .next .flags);
-        before = byte-stays y 1 (l .next .slot) (omega arith) (omega arith) ∙ l .next .before;
-        some′ = rw (Frame.runs-tail g d d′ y (tail′ y j)) (l .next .some′);
-      }
+  next′ x i l = rw now-used at (Marking.file-next g d 1 (hash (nameOf g d p)) p (w .slot) back-marks 0x80 x i (next-in x i l) l)
 
   entry′ : (x : ℕ) → In x (chain g d p) → Entry.Entry g d′ x
   entry′ x i = let e = w .whole′ .entries x i in let a = tail′ x i in record {
@@ -268,9 +245,9 @@ module _ (g : Geometry) (d : List ℕ) (c : Sound g d) (k : Places.Fits g d) (p 
   filed′ : Entry.Filed g d′ p
   filed′ = record {
     name = rw back-name (w .whole′ .name);
-    zero′ = rw (flag-other p 5 head (omega arith)) (w .whole′ .zero′);
+    zero′ = rw (flag-other 5 (omega arith)) (w .whole′ .zero′);
     hashes = λ s i. rw back-name (hit′ s (rw back-chain at i));
-    count′ = rw (byte-stays p 3 (w .slot) (omega arith) (omega arith), byte-stays p 0x14 (w .slot) (omega arith) (omega arith), byte-stays p 0x15 (w .slot) (omega arith) (omega arith)) (w .whole′ .count′);
+    count′ = rw (Marking.file-end g d 1 (hash (nameOf g d p)) p (w .slot) back-marks, Marking.file-low g d 1 (hash (nameOf g d p)) p (w .slot) back-marks, Marking.file-high g d 1 (hash (nameOf g d p)) p (w .slot) back-marks) (w .whole′ .count′);
     fits = rw (back-size, back-owned) (w .whole′ .fits);
     off = λ u n i j. w .free n (rw back-owned at i) (c .directory n (rw (Frame.directory-eq g d d′ above′) at j));
   }
@@ -329,13 +306,6 @@ module _ (g : Geometry) (d : List ℕ) (c : Sound g d) (k : Places.Fits g d) (p 
 
   pub back-keeps : (n : ℕ) → n < granules g → (In n (owned g d p) → ⊥) → taken g d′ n ≡ taken g d n
   back-keeps = Marking.mark-keeps g d 1 (hash (nameOf g d p)) (owned g d p) (chain g d p) back-marks
-
-  -- byte 00 as it stands, but in use; every other byte of its entries as it stands
-  pub back-flags : (x : ℕ) → In x (chain g d p) → field g d′ x 0 ≡ withBit 4 (field g d x 0)
-  back-flags = flags′
-
-  pub back-byte : (x j : ℕ) → In x (chain g d p) → 1 ≤ j → j < 32 → field g d′ x j ≡ field g d x j
-  back-byte x j i a b = byte-stays x j (part x i .slot) a b
 
   -- its bytes are what its granules hold
   back-bytes : fetch g d′ p 0 (sizeOf g d′ p) ≡ fetch g d p 0 (sizeOf g d p)

@@ -10,13 +10,16 @@ use native.Mathlib.Decide.{ℕ-discrete, decLt}
 use lib.ListN.{length, set, length-set}
 use lib.Seq.{getD-set-same, getD-set-other, set-out, ext-getD}
 use lib.Dec.{T, eqb, eqb→eq}
-use Rattle.meaning.specs.Lists.{through}
+use Rattle.meaning.specs.Lists.{through, each}
 use Rattle.meaning.specs.Layout.{byte, isSlot, taken, field, gatAt, hitAt, entryAt, granules, hit, directoryGranules, granuleBytes, aboveTen, directorySectors, mostBlocks}
-use Rattle.meaning.specs.Bits.{digit, putDigit}
+use Rattle.meaning.specs.Bits.{bit, digit, putDigit}
+use Rattle.meaning.specs.Entries.{link, entryGranules, nameOf, sizeOf}
+use Rattle.meaning.specs.Chain.{chain, owned}
 use Rattle.meaning.specs.declared.Geometry.{Geometry}
 use Rattle.laws.specs.Members
 use Rattle.laws.specs.Members.{In}
 use Rattle.laws.specs.Bits
+use Rattle.laws.specs.Entry
 use Rattle.laws.specs.Frame
 use Rattle.laws.specs.Frame.{Agree}
 use Rattle.laws.specs.Places
@@ -303,3 +306,66 @@ module _ (g : Geometry) (d : List ℕ) (h : ℕ) (ns xs : List ℕ) (m : Marks g
       go i (inl w) r = rw (eqb→eq i (entryAt g (w .0) + 0) (w .2)) (flags-again (w .0) (w .1))
       go i (inr w) (inl r) = rw (eqb→eq i (hitAt g (r .0)) (r .2)) (hit-again (r .0) (r .1))
       go i (inr w) (inr r) = Bits.digits-same _ _ (λ u. digit-again i u (λ x j e. w x j (Members.eq-T e)) (λ x j e. r x j (Members.eq-T e)))
+
+-- A file's own entries and granules: what else is read of it stays ---------------------------------------------------------------------
+
+module _ (g : Geometry) (d : List ℕ) (v h p : ℕ) (t : T (isSlot g d p)) (m : Marks g d v (owned g d p) (chain g d p)) where
+  abbrev after : List ℕ
+  after = marking g v h d (owned g d p) (chain g d p)
+
+  above : aboveTen g after ≡ aboveTen g d
+  above = mark-above g d v h (owned g d p) (chain g d p) m
+
+  byte-stays : (x j : ℕ) → T (isSlot g d x) → 1 ≤ j → j < 32 → field g after x j ≡ field g d x j
+  byte-stays = mark-field g d v h (owned g d p) (chain g d p) m
+
+  pub file-slot : (x : ℕ) → In x (chain g d p) → T (isSlot g after x)
+  file-slot x i = rw (Frame.slot-eq g d after above x) (m .slots′ x i)
+
+  pub file-byte : (x j : ℕ) → In x (chain g d p) → 1 ≤ j → j < 32 → field g after x j ≡ field g d x j
+  file-byte x j i a b = byte-stays x j (m .slots′ x i) a b
+
+  pub file-tail : (x : ℕ) → In x (chain g d p) → Frame.Tail g d after x
+  file-tail x i j a b = file-byte x j i (omega arith) b
+
+  pub file-chain : chain g after p ≡ chain g d p
+  file-chain = Frame.chain-links g d after above p (λ x i. (file-tail x i 0x1e (omega arith) (omega arith), file-tail x i 0x1f (omega arith) (omega arith)))
+
+  pub file-owned : owned g after p ≡ owned g d p
+  unfolding owned
+  file-owned = ap (each (entryGranules g after)) file-chain ∙ Members.each-eq (entryGranules g after) (entryGranules g d) (chain g d p) (λ x i. Frame.granules-tail g d after x (file-tail x i))
+
+  pub file-name : nameOf g after p ≡ nameOf g d p
+  file-name = Frame.nameOf-bytes g d after p (λ j a b. byte-stays p j t (omega arith) (omega arith))
+
+  -- the three bytes of the size
+  pub file-low : field g after p 0x14 ≡ field g d p 0x14
+  file-low = byte-stays p 0x14 t (omega arith) (omega arith)
+
+  pub file-high : field g after p 0x15 ≡ field g d p 0x15
+  file-high = byte-stays p 0x15 t (omega arith) (omega arith)
+
+  pub file-end : field g after p 3 ≡ field g d p 3
+  file-end = byte-stays p 3 t (omega arith) (omega arith)
+
+  pub file-size : sizeOf g after p ≡ sizeOf g d p
+  unfolding words
+  file-size = rw (file-end, file-low, file-high)
+
+  pub file-flags : (x : ℕ) → In x (chain g d p) → field g after x 0 ≡ putDigit (field g d x 0) 4 v
+  file-flags = mark-flags g d v h (owned g d p) (chain g d p) m
+
+  -- another bit of byte 00
+  pub file-flag : (x u : ℕ) → In x (chain g d p) → u ≢ 4 → bit u (field g after x 0) ≡ bit u (field g d x 0)
+  file-flag x u i n = ap (λ (b : ℕ). eqb b 1) (ap (λ (b : ℕ). digit b u) (file-flags x i) ∙ Bits.digit-other (field g d x 0) 4 u v (m .digit′) n)
+
+  -- an entry that leads to an extension of its chain still does, whatever bit 4 makes of that one's byte 00
+  pub file-next : (byte00 x : ℕ) → In x (chain g d p) → In (link g d x) (chain g d p) → Entry.LinkedBy g d byte00 x → Entry.FollowsBy g after (putDigit byte00 4 v) x (link g d x)
+  file-next byte00 x i j l =
+      let y = link g d x in
+      record {
+        slot = file-slot y j;
+        flags = file-flags y j ∙ ap (λ (b : ℕ). putDigit b 4 v) (l .next .flags);
+        before = file-byte y 1 j (omega arith) (omega arith) ∙ l .next .before;
+        some′ = rw (Frame.runs-tail g d after y (file-tail y j)) (l .next .some′);
+      }
