@@ -61,7 +61,7 @@ module _ (g : Geometry) (d : List ℕ) (c : Sound g d) (k : Places.Fits g d) (p 
   unfolding Marking.marking words
   kill-unhit = Marking.mark-hit g d 0 0 (owned g d p) (chain g d p) kill-marks
 
-  kill-gone : (x : ℕ) → In x (chain g d p) → T (inUse g (killed g d p) x) → ⊥
+  pub kill-gone : (x : ℕ) → In x (chain g d p) → T (inUse g (killed g d p) x) → ⊥
   unfolding Marking.marking words
   kill-gone x i = rw (Marking.mark-flags g d 0 0 (owned g d p) (chain g d p) kill-marks x i, Bits.digit-same (field g d x 0) 4 0 (omega arith)) (λ t. t)
 

@@ -14,6 +14,7 @@ pub mod Kill
 pub mod Passed
 pub mod Create
 pub mod BringBack
+pub mod Undo
 pub mod Longer
 pub mod Tail
 pub mod Take
