@@ -1,5 +1,5 @@
 -- One bit of a byte: what is read after one is put
-use mathlib.Core.Path.{_≡_, refl, ap}
+use mathlib.Core.Path.{_≡_, refl, ap, sym, _∙_}
 use mathlib.Core.Logic.{_≢_}
 use Prim.Native.Nat.{ℕ, zero, suc, _+_, _*_, _/_, _%_, _^_, _≤_, _<_}
 use native.Mathlib.Omega.{arith}
@@ -43,6 +43,10 @@ pub put-same : (x u : ℕ) → putDigit x u (digit x u) ≡ x
 unfolding digit putDigit
 put-same x zero = omega arith
 put-same x (suc u) = rw (put-same (x / 2) u) (omega arith)
+
+-- a set bit cleared and set again
+pub put-back : (x u : ℕ) → digit x u ≡ 1 → putDigit (putDigit x u 0) u 1 ≡ x
+put-back x u e = put-twice x u 0 1 (omega arith) ∙ ap (putDigit x u) (sym e) ∙ put-same x u
 
 -- numbers of the same digits are equal
 digits-below : (n x y : ℕ) → x ≤ n → y ≤ n → ((u : ℕ) → digit x u ≡ digit y u) → x ≡ y

@@ -180,8 +180,8 @@ module _ (g : Geometry) (d : List ℕ) (c : Sound g d) (k : Places.Fits g d) (p 
   above′ : aboveTen g d′ ≡ aboveTen g d
   above′ = Marking.mark-above g d 1 (hash (nameOf g d p)) (owned g d p) (chain g d p) back-marks
 
-  hit′ : (x : ℕ) → In x (chain g d p) → hit g d′ x ≡ hash (nameOf g d p)
-  hit′ = Marking.mark-hit g d 1 (hash (nameOf g d p)) (owned g d p) (chain g d p) back-marks
+  pub back-hit : (x : ℕ) → In x (chain g d p) → hit g d′ x ≡ hash (nameOf g d p)
+  back-hit = Marking.mark-hit g d 1 (hash (nameOf g d p)) (owned g d p) (chain g d p) back-marks
 
   taken′ : (n : ℕ) → In n (owned g d p) → T (taken g d′ n)
   unfolding words
@@ -246,7 +246,7 @@ module _ (g : Geometry) (d : List ℕ) (c : Sound g d) (k : Places.Fits g d) (p 
   filed′ = record {
     name = rw back-name (w .whole′ .name);
     zero′ = rw (flag-other 5 (omega arith)) (w .whole′ .zero′);
-    hashes = λ s i. rw back-name (hit′ s (rw back-chain at i));
+    hashes = λ s i. rw back-name (back-hit s (rw back-chain at i));
     count′ = rw (Marking.file-end g d 1 (hash (nameOf g d p)) p (w .slot) back-marks, Marking.file-low g d 1 (hash (nameOf g d p)) p (w .slot) back-marks, Marking.file-high g d 1 (hash (nameOf g d p)) p (w .slot) back-marks) (w .whole′ .count′);
     fits = rw (back-size, back-owned) (w .whole′ .fits);
     off = λ u n i j. w .free n (rw back-owned at i) (c .directory n (rw (Frame.directory-eq g d d′ above′) at j));
@@ -287,7 +287,7 @@ module _ (g : Geometry) (d : List ℕ) (c : Sound g d) (k : Places.Fits g d) (p 
     gone = λ x i. no-entry x i;
     unhit = λ x i. no-entry x i;
     born = λ x i a. unused x (in-chain x i);
-    nonzero = λ x i. rw (hit′ x (in-chain x i)) (Create.hash-nonzero (nameOf g d p));
+    nonzero = λ x i. rw (back-hit x (in-chain x i)) (Create.hash-nonzero (nameOf g d p));
     keeps = λ n h a b. Marking.mark-keeps g d 1 (hash (nameOf g d p)) (owned g d p) (chain g d p) back-marks n h (λ i. b (rw (Change.granulesOf-is g d′ p back-file, back-owned) i));
     freed = λ n i. no-granule n i;
     fresh = λ n i a. w .free n (in-owned n i);

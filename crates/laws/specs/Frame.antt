@@ -60,7 +60,7 @@ module _ (g : Geometry) (d d′ : List ℕ) where
   cond-eq true xs ys f = f (λ x i. i)
   cond-eq false xs ys f = refl
 
-  chainFrom-eq : (n s : ℕ) → ((x : ℕ) → Members.In x (chainFrom g d n s) → (marker g d′ x ≡ marker g d x) × (link g d′ x ≡ link g d x)) → chainFrom g d′ n s ≡ chainFrom g d n s
+  pub chainFrom-eq : (n s : ℕ) → ((x : ℕ) → Members.In x (chainFrom g d n s) → (marker g d′ x ≡ marker g d x) × (link g d′ x ≡ link g d x)) → chainFrom g d′ n s ≡ chainFrom g d n s
   unfolding chainFrom
   chainFrom-eq zero s a = refl
   chainFrom-eq (suc n) s a =

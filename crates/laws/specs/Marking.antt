@@ -266,9 +266,7 @@ module _ (g : Geometry) (d : List ℕ) (h : ℕ) (ns xs : List ℕ) (m : Marks g
   flags-again x i =
       mark-flags g cleared 1 h ns xs cleared-marks x i
       ∙ ap (λ (b : ℕ). putDigit b 4 1) (mark-flags g d 0 0 ns xs m x i)
-      ∙ Bits.put-twice (field g d x 0) 4 0 1 (omega arith)
-      ∙ ap (putDigit (field g d x 0) 4) (sym (us x i))
-      ∙ Bits.put-same (field g d x 0) 4
+      ∙ Bits.put-back (field g d x 0) 4 (us x i)
 
   hit-again : (x : ℕ) → In x xs → hit g again x ≡ hit g d x
   unfolding again
