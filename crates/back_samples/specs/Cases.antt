@@ -37,6 +37,11 @@ written-since : bringBack three (changed gone ((3840, 0x77) ∷ (eA3 + 2, 0x11) 
 unfolding opened
 written-since = refl
 
+-- none of its slots written since: LEER has changed, in its entry and in its granule
+others-since : bringBack three (changed gone ((10240, 0x77) ∷ (e80 + 2, 0x11) ∷ [])) 0xa3 ≡ (back 2 7, changed sample ((10240, 0x77) ∷ (e80 + 2, 0x11) ∷ []))
+unfolding opened
+others-since = refl
+
 -- 12: a slot the directory lacks
 no-slot : bringBack three gone 0x88 ≡ (refused 12, gone)
 unfolding opened

@@ -1,19 +1,19 @@
 -- Bring back: what the test of a killed file says; where it is brought back the disk is consistent, every other file is as it was, and the
 -- file is there with the attributes, the size and the bytes that its entry and its granules hold
-use mathlib.Core.Path.{_≡_, refl, ap, sym, _∙_}
+use mathlib.Core.Path.{_≡_, refl, ap, _∙_}
 use mathlib.Core.Logic.{_≢_, _⊎_, inl, inr}
-use mathlib.Core.Bool.{Bool, true, false, not, cond, _||_}
-use mathlib.Core.List.{List, [], _∷_, map}
-use Prim.Native.Nat.{ℕ, zero, suc, _+_, _*_, _/_, _≤_, _<_}
+use mathlib.Core.Bool.{not, _||_}
+use mathlib.Core.List.{List, _∷_, map}
+use Prim.Native.Nat.{ℕ, _*_, _/_, _≤_, _<_}
 use native.Mathlib.Omega.{arith}
 use lib.ListN.{length}
-use lib.Dec.{T, eqb, leb, eqb→eq, leb→le, le→leb, T-not, not-T}
+use lib.Dec.{T, eqb, leb, eqb→eq, leb→le, le→leb, T-not}
 use Rattle.meaning.specs.Lists.{count, each, every, distinct}
-use Rattle.meaning.specs.Layout.{byte, isSlot, slots, taken, field, granules, hit, directoryGranules, granuleBytes, aboveTen}
+use Rattle.meaning.specs.Layout.{byte, isSlot, taken, field, granules, hit, directoryGranules, granuleBytes, aboveTen}
 use Rattle.meaning.specs.Bits.{bit, digit, putDigit, withBit}
 use Rattle.meaning.specs.Names.{hash, wellFormed}
 use Rattle.meaning.specs.Entries.{inUse, extension, system, block, marker, link, runs, entryGranules, nameOf, sizeOf, sectorCount, endByte}
-use Rattle.meaning.specs.Chain.{chain, chainFrom, owned, place}
+use Rattle.meaning.specs.Chain.{chain, owned, place}
 use Rattle.meaning.specs.Consistent.{pairsHold, linkHoldsBy, runsHold}
 use Rattle.meaning.specs.BringBack.{killedEntryHolds, whole, broughtBack}
 use Rattle.meaning.specs.Read.{fetch}
@@ -21,13 +21,11 @@ use Rattle.meaning.specs.Plain.{fileAt, backAs}
 use Rattle.meaning.specs.declared.Geometry.{Geometry}
 use Rattle.laws.specs.Members
 use Rattle.laws.specs.Members.{In, Distinct}
-use Rattle.laws.specs.Counting
 use Rattle.laws.specs.Bits
 use Rattle.laws.specs.Facts
 use Rattle.laws.specs.Facts.{File, Sound}
 use Rattle.laws.specs.Entry
 use Rattle.laws.specs.Frame
-use Rattle.laws.specs.Frame.{Agree}
 use Rattle.laws.specs.Places
 use Rattle.laws.specs.Change
 use Rattle.laws.specs.Change.{entriesOf, granulesOf}

@@ -3,12 +3,11 @@
 use mathlib.Core.Path.{_≡_, refl, ap, _∙_, subst}
 use mathlib.Core.Logic.{_≢_, _⊎_, inl, inr}
 use mathlib.Core.List.{List, [], _∷_}
-use Prim.Native.Nat.{ℕ, suc, _+_, _*_, _/_, _%_, _≤_, _<_}
+use Prim.Native.Nat.{ℕ, suc, _+_, _*_, _/_, _≤_, _<_}
 use native.Mathlib.Omega.{arith}
 use native.Mathlib.Nat.{add-zero, mod-lt}
-use native.Mathlib.Decide.{ℕ-discrete, decLt}
 use lib.ListN.{length, set}
-use lib.Seq.{getD-set-same, getD-set-other, set-out, sets}
+use lib.Seq.{getD-set-other, sets}
 use Rattle.meaning.specs.Lists.{through}
 use Rattle.meaning.specs.Layout.{byte, setField, takeGranule, freeGranule, gatAt, hitAt, entryAt, granules, granuleBytes}
 use Rattle.meaning.specs.Bits.{digit, putDigit}
@@ -19,7 +18,6 @@ use Rattle.meaning.specs.Kill.{killed}
 use Rattle.meaning.specs.Write.{store, withSize}
 use Rattle.meaning.specs.declared.Geometry.{Geometry}
 use Rattle.laws.specs.Members.{In}
-use Rattle.laws.specs.Bits
 use Rattle.laws.specs.Facts.{Sound, File}
 use Rattle.laws.specs.Places
 use Rattle.laws.specs.Change

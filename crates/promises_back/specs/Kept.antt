@@ -1,5 +1,5 @@
 -- The promises are kept: a theorem for each type of `Statement`
-use mathlib.Core.Path.{_≡_, refl, ap, sym, _∙_, subst}
+use mathlib.Core.Path.{_≡_, ap, sym, _∙_, subst}
 use mathlib.Core.Logic.{_≢_}
 use mathlib.Core.Bool.{not}
 use mathlib.Core.List.{List, [], _∷_}
@@ -11,9 +11,8 @@ use Rattle.meaning.specs.Layout.{fitsGeometry}
 use Rattle.meaning.specs.Entries.{system}
 use Rattle.meaning.specs.Chain.{chain, owned}
 use Rattle.meaning.specs.Kill.{kill, killed}
-use Rattle.meaning.specs.BringBack.{bringBack, broughtBack}
+use Rattle.meaning.specs.BringBack.{bringBack}
 use Rattle.meaning.specs.declared.Geometry.{Geometry}
-use Rattle.meaning.specs.declared.Handle.{Handle}
 use Rattle.laws.specs.Members
 use Rattle.laws.specs.Members.{In}
 use Rattle.laws.specs.Facts
@@ -25,12 +24,11 @@ use Rattle.laws.specs.Steps
 use Rattle.laws.specs.Frame.{Agree}
 use Rattle.laws.specs.Passed
 use Rattle.laws.specs.Undo
-use Rattle.laws.specs.Undo.{AsBefore}
 use Rattle.promises.specs.Promises.{Good, Stays}
 use Rattle.promises.specs.Passing
 use Rattle.promises.specs.Staying
 use Rattle.promises.specs.Kept
-use Rattle.promises_back.specs.Statement.{EveryBack, Step, leavesBy, StepPromise, AllBring, Along, EveryState, KillUndone, EntriesBack}
+use Rattle.promises_back.specs.Statement.{EveryBack, Step, leavesBy, AllBring, Along, EveryState, KillUndone, EntriesBack}
 use Rattle.promises_back.specs.Numbers
 use Rattle.promises_back.specs.Serving
 use Rattle.promises_back.specs.Passing as Back

@@ -1,8 +1,8 @@
 -- Bring back's refusals, each number exactly in its case
 use mathlib.Core.Path.{_≡_, refl, sym, _∙_}
 use mathlib.Core.Logic.{_↔_}
-use mathlib.Core.Bool.{Bool, not}
-use mathlib.Core.List.{List, [], _∷_}
+use mathlib.Core.Bool.{not}
+use mathlib.Core.List.{List}
 use Prim.Native.Nat.{ℕ}
 use lib.Dec.{T, T-not, not-T}
 use Rattle.meaning.specs.Lists.{some}
@@ -10,7 +10,7 @@ use Rattle.meaning.specs.Layout.{isSlot, taken}
 use Rattle.meaning.specs.Entries.{nameOf}
 use Rattle.meaning.specs.Chain.{owned}
 use Rattle.meaning.specs.LookUp.{missing}
-use Rattle.meaning.specs.BringBack.{bringBack, bringBackRefusals, whole, nameInUse}
+use Rattle.meaning.specs.BringBack.{bringBack, bringBackRefusals, whole}
 use Rattle.meaning.specs.Plain.{File, Found, found, nothing, plain}
 use Rattle.meaning.specs.declared.Geometry.{Geometry}
 use Rattle.laws.specs.Members.{In}

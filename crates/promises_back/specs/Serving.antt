@@ -1,5 +1,5 @@
 -- An accepted bring back: the plain list of named files gains that file, and every other is as it was
-use mathlib.Core.Path.{_≡_, refl, ap, sym, _∙_, subst}
+use mathlib.Core.Path.{_≡_, ap, sym, _∙_, subst}
 use mathlib.Core.Logic.{_≢_}
 use mathlib.Core.Bool.{true, not}
 use mathlib.Core.List.{List, [], _∷_}
@@ -12,14 +12,12 @@ use Rattle.meaning.specs.Layout.{taken, granules}
 use Rattle.meaning.specs.Names.{hash}
 use Rattle.meaning.specs.Entries.{nameOf}
 use Rattle.meaning.specs.Chain.{chain, owned}
-use Rattle.meaning.specs.Consistent.{consistent}
 use Rattle.meaning.specs.Free.{freeGranules}
 use Rattle.meaning.specs.LookUp.{named}
-use Rattle.meaning.specs.BringBack.{bringBack, broughtBack}
-use Rattle.meaning.specs.Plain.{Found, found, nothing, plain, hush, backAs, reserved}
+use Rattle.meaning.specs.BringBack.{bringBack}
+use Rattle.meaning.specs.Plain.{Found, found, nothing, plain, backAs, reserved}
 use Rattle.meaning.specs.declared.Geometry.{Geometry}
 use Rattle.laws.specs.Members
-use Rattle.laws.specs.Members.{In}
 use Rattle.laws.specs.Counting
 use Rattle.laws.specs.Facts
 use Rattle.laws.specs.Facts.{File, Sound}
@@ -29,7 +27,6 @@ use Rattle.laws.specs.Named
 use Rattle.laws.specs.Others
 use Rattle.laws.specs.Touch
 use Rattle.laws.specs.Bytes
-use Rattle.laws.specs.Bytes.{Small}
 use Rattle.laws.specs.Marking
 use Rattle.laws.specs.BringBack
 use Rattle.laws.specs.BringBack.{Back}

@@ -16,7 +16,7 @@ use Rattle.meaning.specs.Chain.{chain, owned}
 use Rattle.meaning.specs.LookUp.{named}
 use Rattle.meaning.specs.Kill.{kill}
 use Rattle.meaning.specs.BringBack.{bringBack}
-use Rattle.meaning.specs.Plain.{File, found, nothing, plain, backAs, AreBytes}
+use Rattle.meaning.specs.Plain.{File, found, nothing, plain, backAs}
 use Rattle.meaning.specs.declared.Geometry.{Geometry}
 use Rattle.meaning.specs.declared.Handle.{Handle}
 use Rattle.laws.specs.Members.{In}
