@@ -78,3 +78,10 @@ pub struct Counts {
     pub files: usize,
     pub free: usize,
 }
+
+// What bring back answers (02, §11): how many slots and granules the file has.
+pub struct BroughtBack {
+    pub number: u8,
+    pub slots: usize,
+    pub granules: usize,
+}
