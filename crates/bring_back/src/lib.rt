@@ -144,12 +144,12 @@ fn run_taken(image: &[u8], g: Geometry, a: usize, n: usize) -> bool
     requires { ⌜ Room g (now image) × (a + n ≤ granules g) ⌝ }
     ensures { λ r. ⌜ r ≡ some (taken g (now (image .entry))) (count a n) ⌝ }
 {
-    let mut k = 0;
-    while k < n {
-        if layout::taken(image, g, a + k) {
+    let mut looked = 0;
+    while looked < n {
+        if layout::taken(image, g, a + looked) {
             return true;
         }
-        k += 1;
+        looked += 1;
     }
     false
 }
@@ -233,7 +233,8 @@ fn back_entry(image: &mut [u8], g: Geometry, s: usize, h: usize)
 {
     let at = 256 * (g.start + 2 + s % 32) + 32 * (s / 32);
     image[at] = space::with_bit(image[at], 4);
-    image[256 * (g.start + 1) + s] = h as u8;
+    let hit = h as u8;
+    image[256 * (g.start + 1) + s] = hit;
 }
 
 // Brings the first n of these entries back.
@@ -241,10 +242,10 @@ fn back_all(image: &mut [u8], g: Geometry, entries: &[usize; 256], n: usize, h: 
     requires { ⌜ Room g (now image) × Listed g (now image) (now entries) n × (h < 256) ⌝ }
     ensures { λ _. ⌜ now (image .exit) ≡ through (backEntry g h) (now (image .entry)) (firstOf (now (entries .entry)) n) ⌝ }
 {
-    let mut j = 0;
-    while j < n {
-        back_entry(image, g, entries[j], h);
-        j += 1;
+    let mut back = 0;
+    while back < n {
+        back_entry(image, g, entries[back], h);
+        back += 1;
     }
 }
 

@@ -19,7 +19,8 @@ pub enum Refusal {
     Geometry,
     /// 2: the disk is not consistent.
     Inconsistent,
-    /// 12: a position, length, level, date or sector out of range, or a buffer shorter than the record.
+    /// 12: a position, length, level, date or sector out of range, a buffer shorter than the record, or a slot that the
+    /// directory has not.
     Range,
     /// 3: the name is not well formed (calls by name).
     Name,
@@ -118,7 +119,7 @@ impl Refusal {
             Refusal::NoSpace => "too few granules free",
             Refusal::PastEnd => "read past the end of the file",
             Refusal::NoGrowth => "file may not grow: its flag E is set",
-            Refusal::Range => "position, length, level, date, sector or slot out of range",
+            Refusal::Range => "position, length, level, date or sector out of range",
             Refusal::SlotInUse => "slot in use",
             Refusal::NothingWhole => "nothing whole to bring back",
             Refusal::NameInUse => "name in use",

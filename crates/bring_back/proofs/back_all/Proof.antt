@@ -32,8 +32,8 @@ back-entry-requires : tie.Need-back-entry-requires Inv-loop μ-loop
 back-entry-requires c κs = (kept-room _ (c .before .before .before .before .before .pre .0) (c .before .before .before .loop .inv .kept), kept-slot _ (c .before .before .before .loop .inv .kept) (c .before .before .before .before .before .pre .1 .entry _ (c .before .before .loop-test .taken) .slot), c .before .before .before .before .before .pre .2)
 
 -- src/lib.rt:253:9
-add-j : tie.Need-add-j Inv-loop μ-loop
-add-j c = let q = c .before .before .before .before .before .before .before .before .pre .1 .few in omega arith
+add-back : tie.Need-add-back Inv-loop μ-loop
+add-back c = let q = c .before .before .before .before .before .before .before .before .pre .1 .few in omega arith
 
 -- src/lib.rt:251:5
 loop-less : tie.Need-loop-less Inv-loop μ-loop
@@ -61,7 +61,7 @@ back-all-spec =
     mul-back-entry
     element-copy-out-back-entry
     back-entry-requires
-    add-j
+    add-back
     loop-less
     loop-again
     same-length

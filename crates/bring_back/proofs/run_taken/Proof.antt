@@ -31,11 +31,11 @@ taken-requires c κs = (c .before .before .before .pre .0, omega arith)
 
 -- src/lib.rt:156:13
 returns : tie.Need-returns Inv-loop μ-loop
-returns c = quiet-hit (run-steps _) (c .before .before .before .loop .inv) (c .before .before .loop-test .taken) (some-one (taken (c .before .before .before .before .before .args .g) (c .before .before .before .before .before .args .image .now)) (c .before .before .before .before .before .args .a + c .before .before .before .loop .k) ∙ sym (c .before .taken .ensures) ∙ c .if1 .taken)
+returns c = quiet-hit (run-steps _) (c .before .before .before .loop .inv) (c .before .before .loop-test .taken) (some-one (taken (c .before .before .before .before .before .args .g) (c .before .before .before .before .before .args .image .now)) (c .before .before .before .before .before .args .a + c .before .before .before .loop .looked) ∙ sym (c .before .taken .ensures) ∙ c .if1 .taken)
 
 -- src/lib.rt:158:9
-add-k : tie.Need-add-k Inv-loop μ-loop
-add-k c = omega arith
+add-looked : tie.Need-add-looked Inv-loop μ-loop
+add-looked c = omega arith
 
 -- src/lib.rt:154:5
 loop-less : tie.Need-loop-less Inv-loop μ-loop
@@ -43,7 +43,7 @@ loop-less c = omega arith
 
 -- src/lib.rt:154:5
 loop-again : tie.Need-loop-again Inv-loop μ-loop
-loop-again c = quiet-more (run-steps _) (c .before .before .before .loop .inv) (c .before .before .loop-test .taken) (some-one (taken (c .before .before .before .before .before .args .g) (c .before .before .before .before .before .args .image .now)) (c .before .before .before .before .before .args .a + c .before .before .before .loop .k) ∙ sym (c .before .taken .ensures) ∙ c .if1 .left)
+loop-again c = quiet-more (run-steps _) (c .before .before .before .loop .inv) (c .before .before .loop-test .taken) (some-one (taken (c .before .before .before .before .before .args .g) (c .before .before .before .before .before .args .image .now)) (c .before .before .before .before .before .args .a + c .before .before .before .loop .looked) ∙ sym (c .before .taken .ensures) ∙ c .if1 .left)
 
 -- src/lib.rt:149:1
 returns-2 : tie.Need-returns-2 Inv-loop μ-loop
@@ -59,7 +59,7 @@ run-taken-spec =
     add-taken
     taken-requires
     returns
-    add-k
+    add-looked
     loop-less
     loop-again
     returns-2)

@@ -128,7 +128,13 @@ fn bring_back(
         || format!("slot {}", slot_text(slot)),
         |entry| format!("{} (slot {})", name_text(entry), slot_text(slot)),
     );
-    let back = disk.bring_back(slot).map_err(Failure::file(&path, &title))?;
+    let back = disk.bring_back(slot).map_err(|refusal| {
+        let failure = Failure::file(&path, &title)(refusal);
+        match refusal {
+            Refusal::Range => failure.because("the directory has no such slot"),
+            _ => failure,
+        }
+    })?;
     // Only a dead primary entry is brought back, and that is one of these.
     let (name, size) = entry.as_ref().map_or_else(Default::default, |entry| (name_text(entry), entry.size()));
     keep(disk, locked, image)?;
