@@ -147,6 +147,17 @@ mod bound {
             handle: *const u8,
             handle_len: usize,
         ) -> u8;
+        fn genie_bring_back(
+            image: *mut u8,
+            image_len: usize,
+            blocks: usize,
+            units: usize,
+            start: usize,
+            open_code: u16,
+            slot: usize,
+            slots: *mut usize,
+            granules: *mut usize,
+        ) -> u8;
         fn genie_list(
             image: *const u8,
             image_len: usize,
@@ -372,6 +383,28 @@ mod bound {
                     g.open_code,
                     handle.as_ptr(),
                     handle.len(),
+                )
+            }
+        }
+        fn bring_back(
+            &self,
+            image: &mut [u8],
+            g: &Geometry,
+            slot: usize,
+            slots: &mut usize,
+            granules: &mut usize,
+        ) -> Number {
+            unsafe {
+                genie_bring_back(
+                    image.as_mut_ptr(),
+                    image.len(),
+                    g.blocks,
+                    g.units,
+                    g.start,
+                    g.open_code,
+                    slot,
+                    slots,
+                    granules,
                 )
             }
         }

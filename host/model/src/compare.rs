@@ -53,6 +53,9 @@ pub const EVENTS: &[&str] = &[
     "trim gives back all",
     "trim under F",
     "kill of a file with extensions",
+    "bring back of a file without granules",
+    "bring back of a file with an extension",
+    "bring back of a file with many extensions",
     "list tells a file",
     "list tells no more",
     "level refused on a system file",
@@ -304,6 +307,12 @@ impl Before {
             Call::List { .. } => {
                 seen.event("list tells a file", outcome.numbered("more") == 1);
                 seen.event("list tells no more", outcome.numbered("more") == 0);
+            }
+            Call::BringBack { .. } => {
+                let slots = outcome.numbered("slots");
+                seen.event("bring back of a file without granules", outcome.numbered("granules") == 0);
+                seen.event("bring back of a file with an extension", slots == 2);
+                seen.event("bring back of a file with many extensions", slots > 4);
             }
             Call::ReadSector { .. } => {
                 seen.event("sector part under 256 bytes", outcome.numbered("to") - outcome.numbered("from") < 256)
