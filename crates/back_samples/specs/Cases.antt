@@ -2,7 +2,8 @@
 -- entries comes back byte for byte, and each number is given in its own case.
 use Prim.Native.Nat.{ℕ, _+_}
 use mathlib.Core.Path.{_≡_, refl}
-use mathlib.Core.List.{List, [], _∷_}
+use mathlib.Core.List.{List, [], _∷_, _++_}
+use lib.ListN.{replicate}
 use Rattle.meaning.specs.Kill.{kill}
 use Rattle.meaning.specs.BringBack.{bringBack}
 use Rattle.meaning.specs.Samples.{changed, written, held, puls, leer, three, sample, gaps, hits, e80, e81, e82, eA3, opened}
@@ -11,6 +12,12 @@ use Rattle.meaning.specs.declared.BroughtBack.{BroughtBack}
 -- the sample disk after the kill of PULS01/DAT, an entry and an extension, granules 3, 4, 2, 5, 6, 11 and 10
 abbrev pub gone : List ℕ
 gone = changed sample ((0, 0x03) ∷ (1, 0x00) ∷ (2, 0xa4) ∷ (3, 0x00) ∷ (hits + 0x81, 0x00) ∷ (hits + 0xa3, 0x00) ∷ (e81, 0x80) ∷ (eA3, 0x0d) ∷ [])
+
+-- the same after NEU, whose hash is 32H, has been created in slot 81H, where the extension was
+abbrev pub again : List ℕ
+again =
+    written (changed gone ((hits + 0x81, 0x32) ∷ [])) e81
+    (0x10 ∷ 0x09 ∷ 0x3a ∷ 0x00 ∷ 0x00 ∷ 0x4e ∷ 0x45 ∷ 0x55 ∷ replicate 8 0x20 ++ (replicate 6 0x00 ++ replicate 10 0xff))
 
 abbrev pub refused : ℕ → BroughtBack
 refused number = record { number = number; slots = 0; granules = 0 }
@@ -62,8 +69,13 @@ extension-slot : bringBack three gone 0x81 ≡ (refused 18, gone)
 unfolding opened
 extension-slot = refl
 
--- 18: the extension's slot has been taken again: the link leads to an entry in use
-link-taken : bringBack three (changed sample ((hits + 0xa3, 0xc1) ∷ [])) 0x82 ≡ (refused 18, sample)
+-- 18: bit 5 set
+bit-five : bringBack three sample 0x82 ≡ (refused 18, sample)
+unfolding opened
+bit-five = refl
+
+-- 18: the extension's slot has been taken again, by NEU: the link leads to an entry in use
+link-taken : bringBack three again 0xa3 ≡ (refused 18, again)
 unfolding opened
 link-taken = refl
 
