@@ -127,9 +127,9 @@ uint8_t genie_trim(uint8_t *image, size_t image_len, size_t blocks, size_t units
 uint8_t genie_kill(uint8_t *image, size_t image_len, size_t blocks, size_t units, size_t start, uint16_t open_code,
                    const uint8_t *handle, size_t handle_len);
 
-/* Bring back: the killed file whose first entry was in that slot, if nothing of it was written since: neither its entries nor, for its granules, the
- * GAT. Its slots and granules are in use again, how many goes to *slots and *granules; its bytes are what those granules hold now. (Kill first and
- * bring back at once: the image is the one before.) Refusals 1, 2, 12, 17, 6, 18, 19, 20. */
+/* Bring back: the killed file whose first entry is in that slot. It can be done as long as its entries are whole, no file has its name and its
+ * granules are free. They are in use again then, as many as *slots and *granules say; nothing else changes, so the file has the entries that it had
+ * before the kill, and its bytes are what the granules hold now. Refusals 1, 2, 12, 17, 6, 18, 19, 20. */
 uint8_t genie_bring_back(uint8_t *image, size_t image_len, size_t blocks, size_t units, size_t start, uint16_t open_code,
                          size_t slot, size_t *slots, size_t *granules);
 
