@@ -13,7 +13,6 @@ use Rattle.meaning.specs.Chain.{chain, owned}
 use Rattle.meaning.specs.Kill.{kill, killed}
 use Rattle.meaning.specs.BringBack.{bringBack}
 use Rattle.meaning.specs.declared.Geometry.{Geometry}
-use Rattle.meaning.specs.declared.BroughtBack.{BroughtBack}
 use Rattle.laws.specs.Members
 use Rattle.laws.specs.Members.{In}
 use Rattle.laws.specs.Facts
@@ -29,7 +28,7 @@ use Rattle.promises.specs.Promises.{Good, Stays}
 use Rattle.promises.specs.Passing
 use Rattle.promises.specs.Staying
 use Rattle.promises.specs.Kept
-use Rattle.promises_back.specs.Statement.{BringsBack, EveryBack, Step, leavesBy, AllBring, Along, EveryState, KillUndone, EntriesBack}
+use Rattle.promises_back.specs.Statement.{EveryBack, Step, leavesBy, AllBring, Along, EveryState, KillUndone, EntriesBack}
 use Rattle.promises_back.specs.Numbers
 use Rattle.promises_back.specs.Serving
 use Rattle.promises_back.specs.Passing as Back
@@ -48,11 +47,6 @@ module _ (g : Geometry) (d : List ℕ) (s : ℕ) where
 
 pub every-back : EveryBack
 every-back g d s = record { stays = stays g d s; serves = Serving.back-serves g d s; refuses = refuses g d s; numbers = Numbers.back-numbers g d s }
-
--- the same at the form of a function's contract: an answer r and the image d′ that it leaves, equal to what the meaning says
-pub back-told : (g : Geometry) (d : List ℕ) (s : ℕ) (r : BroughtBack) (d′ : List ℕ) → (r, d′) ≡ bringBack g d s → r .number ≡ 0 → BringsBack g d d′ s (r .slots) (r .granules)
-back-told g d s r d′ e z =
-    subst (λ (x : BroughtBack × List ℕ). x .0 .number ≡ 0 → BringsBack g d (x .1) s (x .0 .slots) (x .0 .granules)) (sym e) (Serving.back-serves g d s) z
 
 along : (g : Geometry) (d₀ d : List ℕ) → Stays g d₀ d → (cs : List Step) → AllBring cs → Along g d₀ d cs
 unfolding leavesBy
