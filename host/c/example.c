@@ -49,7 +49,7 @@ int main(void)
     const uint8_t *const name = (const uint8_t *)"PULS01  DAT"; /* PULS01/DAT, 11 bytes */
     const uint8_t zeros[GENIE_HANDLE_BYTES] = { 0 };
     uint8_t handle[GENIE_HANDLE_BYTES], record[256], back[256], told[GENIE_NAME_BYTES];
-    size_t old, slot, compared, from, to, size, granules, more, files, left, longest;
+    size_t old, slot, compared, from, to, size, slots, granules, more, files, left, longest;
 
     image = malloc(IMAGE_BYTES);
     if (!image) {
@@ -119,6 +119,12 @@ int main(void)
     step("kill it", answer, GENIE_DONE, 1);
     answer = genie_kill(DISK, handle, sizeof handle);
     step("kill it once more: the handle is stale", answer, GENIE_STALE, 1);
+    answer = genie_bring_back(DISK, handle[0], &slots, &granules);
+    step("bring it back: 1 slot, 20 granules", answer, GENIE_DONE, slots == 1 && granules == 20);
+    answer = genie_bring_back(DISK, handle[0], &slots, &granules);
+    step("bring it back once more: its slot is in use", answer, GENIE_SLOT_IN_USE, slots == 0 && granules == 0);
+    answer = genie_kill(DISK, handle, sizeof handle);
+    step("kill it again: its handle is good once more", answer, GENIE_DONE, 1);
     answer = genie_count(DISK, &files, &left);
     step("count: no file, 1,533 granules free", answer, GENIE_DONE, files == 0 && left == BLOCKS * UNITS - 3);
     image[START * GENIE_SECTOR_BYTES + GENIE_SECTOR_BYTES + 0x80] = 0xA2; /* slot 80H is not in use */

@@ -47,12 +47,18 @@ enum genie_refusal {
     GENIE_INCONSISTENT = 2, /* the disk is not consistent (directory, names, chains, runs, GAT or HIT contradict each other); never by genie_free */
     GENIE_RANGE = 12,       /* a position, record length, level, date or sector (0 to 7,679) is out of range; position + length passes 1,966,080 in
                                a write; the buffer is shorter than the record length; the handle is under 19 bytes; the listing's name buffer is
-                               under 11 bytes. A handle's three numbers are tested in every call that takes one, used or not. */
+                               under 11 bytes; bring back is given a slot that the directory has not. A handle's three numbers are tested in every
+                               call that takes one, used or not. */
     GENIE_NAME = 3,         /* the name is not well formed, or not 11 bytes long (calls by name) */
     GENIE_STALE = 7,        /* the handle's slot is none that the directory has, or is not in use, or an extension, or has another name */
     GENIE_NOT_FOUND = 4,    /* no file has that name (look up, open) */
     GENIE_PASSWORD = 5,     /* wrong password code (open; create of a file that exists) */
-    GENIE_LEVEL = 6,        /* level over 5 for reading, over 4 for write, allot and trim, over 1 for kill; or a system file in the last four */
+    GENIE_SLOT_IN_USE = 17, /* the slot is in use (bring back) */
+    GENIE_LEVEL = 6,        /* level over 5 for reading, over 4 for write, allot and trim, over 1 for kill; or a system file in the last four and in
+                               bring back */
+    GENIE_NOTHING_WHOLE = 18, /* the slot holds no killed file that is still whole, or an extension (bring back) */
+    GENIE_NAME_IN_USE = 19, /* another file has the killed file's name (bring back) */
+    GENIE_GRANULE_TAKEN = 20, /* a granule of the killed file is taken again (bring back) */
     GENIE_PAST_END = 10,    /* a read passes the file's size; the sector read is not one of the file's */
     GENIE_NO_GROWTH = 11,   /* the file may not grow (flag E) and more granules are needed than it owns */
     GENIE_DISK_FULL = 9,    /* more further granules are needed than are free */
@@ -120,6 +126,12 @@ uint8_t genie_trim(uint8_t *image, size_t image_len, size_t blocks, size_t units
 /* Kill: the file is gone, its granules and slots are free. The handle stays as it is, and is stale. Refusals 1, 2, 12, 7, 6. */
 uint8_t genie_kill(uint8_t *image, size_t image_len, size_t blocks, size_t units, size_t start, uint16_t open_code,
                    const uint8_t *handle, size_t handle_len);
+
+/* Bring back: the killed file whose first entry is in that slot. It can be done as long as its entries are whole, no file has its name and its
+ * granules are free. They are in use again then, as many as *slots and *granules say; nothing else changes, so the file has the entries that it had
+ * before the kill, and its bytes are what the granules hold now. Refusals 1, 2, 12, 17, 6, 18, 19, 20. */
+uint8_t genie_bring_back(uint8_t *image, size_t image_len, size_t blocks, size_t units, size_t start, uint16_t open_code,
+                         size_t slot, size_t *slots, size_t *granules);
 
 /* List: the file with that number, counted from 0 by rising slot, system files left out. Its name goes to the first 11 bytes of name (a buffer of at
  * least 11 bytes), its size in bytes and the granules it owns to *size and *granules; *more is 1. Past the last file the call is accepted too: *more,

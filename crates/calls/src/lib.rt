@@ -1,6 +1,7 @@
 // The calls of the library, one function a call. Each checks the whole disk first, whatever it is given, so none asks anything of its
 // caller. (Free space is told of any disk whose geometry fits, and tests that alone.)
 use meaning::Answer;
+use meaning::BroughtBack;
 use meaning::Counts;
 use meaning::Created;
 use meaning::Geometry;
@@ -24,6 +25,7 @@ ghost use Rattle.meaning.specs.Write.{writeRecord};
 ghost use Rattle.meaning.specs.Allot.{allot};
 ghost use Rattle.meaning.specs.Trim.{trim};
 ghost use Rattle.meaning.specs.Kill.{kill};
+ghost use Rattle.meaning.specs.BringBack.{bringBack};
 ghost use Rattle.meaning.specs.Listing.{list, counts};
 ghost use Rattle.meaning.specs.FreeSpace.{freeSpace};
 ghost use Rattle.read.specs.Part.{partOf, Lies};
@@ -128,6 +130,14 @@ pub fn kill(image: &mut [u8], g: Geometry, h: Handle) -> Answer
 {
     let checked = consistency::check(image, g);
     kill::kill_checked(image, g, h, checked)
+}
+
+// Bring back: the killed file at a slot is there again, if it is whole and nothing of it was taken.
+pub fn bring_back(image: &mut [u8], g: Geometry, s: usize) -> BroughtBack
+    ensures { λ r. ⌜ (r, now (image .exit)) ≡ bringBack g (now (image .entry)) s ⌝ }
+{
+    let checked = consistency::check(image, g);
+    bring_back::bring_back_checked(image, g, s, checked)
 }
 
 // The listing: one file, by number from 0, then "no more".

@@ -338,6 +338,53 @@ fn kills_more(image: &mut [u8; 30720], h: Handle) {
     killed(image, disk(), h, b"kill, handle stale since", 7);
 }
 
+// Bring back -------------------------------------------------------------------------------------------------------------
+
+fn brought(image: &mut [u8; 30720], g: Geometry, s: usize, words: &[u8], should: u8) {
+    let b = calls::bring_back(image, g, s);
+    told(words, b.number, should);
+}
+
+// PULS01/DAT was killed in slot 80H, whose entry is at byte 640; the files of one letter are there.
+fn brings(image: &mut [u8; 30720]) {
+    brought(
+        image,
+        other(),
+        0x80,
+        b"bring back, image length not as stated",
+        1,
+    );
+    damage(image);
+    brought(image, disk(), 0x80, b"bring back, disk not consistent", 2);
+    repair(image);
+    brought(image, disk(), 0x1f, b"bring back, no slot", 12);
+    brought(image, disk(), 0x81, b"bring back, slot in use", 17);
+    image[640] = 0x40;
+    brought(image, disk(), 0x80, b"bring back, system file", 6);
+    image[640] = 0x20;
+    brought(image, disk(), 0x80, b"bring back, bit 5", 18);
+    image[640] = 0;
+    brought(image, disk(), 0, b"bring back, nothing there", 18);
+}
+
+// Its name in use, then all granules taken, then neither.
+fn brings_more(image: &mut [u8; 30720]) {
+    copy::put_part(image, 645, b"A          ", 0, 11);
+    brought(image, disk(), 0x80, b"bring back, name in use", 19);
+    copy::put_part(image, 645, b"PULS01  DAT", 0, 11);
+    copy::put_part(
+        image,
+        0,
+        b"\x03\x03\x03\x03\x03\x03\x03\x03\x03\x03\x03\x03",
+        0,
+        12,
+    );
+    brought(image, disk(), 0x80, b"bring back, granules taken", 20);
+    reserve(image);
+    brought(image, disk(), 0x80, b"bring back", 0);
+    brought(image, disk(), 0x80, b"bring back, slot in use again", 17);
+}
+
 fn bytes(image: &mut [u8; 30720], h: Handle) {
     writes(image, h);
     writes_more(image, h);
@@ -362,4 +409,6 @@ fn main() {
     granules(&mut image, h);
     kills(&mut image, h);
     kills_more(&mut image, h);
+    brings(&mut image);
+    brings_more(&mut image);
 }

@@ -14,7 +14,7 @@ use Rattle.meaning.specs.Layout.{granules, taken, field, hit, slots, isSlot, di
 use Rattle.meaning.specs.Names.{hash, wellFormed}
 use Rattle.meaning.specs.Entries.{inUse, extension, primary, system, block, marker, link, runs, runsFrom, runStart, runLength, runGranules, entryGranules, nameOf, sectorCount, endByte, sizeOf}
 use Rattle.meaning.specs.Chain.{chainFrom, chain, owned, files}
-use Rattle.meaning.specs.Consistent.{lengthHolds, hitHolds, pairsHold, follows, linkHolds, runsHold, gatHolds, entryHolds, slotHolds, fileHolds, namesDiffer, met, consistent}
+use Rattle.meaning.specs.Consistent.{lengthHolds, hitHolds, pairsHold, followsBy, follows, linkHolds, runsHold, gatHolds, entryHolds, slotHolds, fileHolds, namesDiffer, met, consistent}
 use Rattle.meaning.specs.declared.Geometry.{Geometry}
 use Rattle.layout.specs.Room.{Room}
 use Rattle.layout.proofs.Lists.{all-at, all-yes, all-no, all-one, all-none, any-last, not-yes, not-no, le-or-lt}
@@ -131,7 +131,7 @@ module _ (g : Geometry) (d : List ℕ) where
   open-marker h s rest e = Members.any-e (eqb (marker g d s) 0xff) (all (goesOn g d h s ∷ rest ∷ [])) (Members.true-T e)
 
   marker-links : (h s : ℕ) (rest : Bool) → markerHolds g d h s rest ≡ true → linkHolds g d s ≡ true
-  unfolding linkHolds
+  unfolding linkHolds follows followsBy
   marker-links h s rest e = Members.T-true (go (open-marker h s rest e))
     where
       go : T (eqb (marker g d s) 0xff) ⊎ T (all (goesOn g d h s ∷ rest ∷ []))

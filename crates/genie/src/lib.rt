@@ -10,7 +10,7 @@ ghost use lib.Seq.{sets};
 ghost use Rattle.meaning.specs.Refusals.{check};
 ghost use Rattle.layout.specs.Room.{Below};
 ghost use Rattle.genie.specs.Codec.{two, handleOf, stored};
-ghost use Rattle.genie.specs.Exports.{geometry, newFile, modeOf, told, tooShort, exportedLookUp, exportedOpen, exportedCreate, exportedReadRecord, exportedReadSector, exportedWriteRecord, exportedAllot, exportedTrim, exportedKill, exportedList, exportedCount, exportedFree};
+ghost use Rattle.genie.specs.Exports.{geometry, newFile, modeOf, told, tooShort, exportedLookUp, exportedOpen, exportedCreate, exportedReadRecord, exportedReadSector, exportedWriteRecord, exportedAllot, exportedTrim, exportedKill, exportedBringBack, exportedList, exportedCount, exportedFree};
 
 const HANDLE_BYTES: usize = 19;
 
@@ -382,6 +382,31 @@ pub extern "C" fn genie_kill(
     let h = handle_of(handle);
     let a = calls::kill(image, g, h);
     a.number
+}
+
+#[no_mangle]
+pub extern "C" fn genie_bring_back(
+    image: &mut [u8],
+    blocks: usize,
+    units: usize,
+    start: usize,
+    open_code: u16,
+    slot: usize,
+    slots: &mut usize,
+    granules: &mut usize,
+) -> u8
+    ensures { λ r. ⌜ (r, now (slots .exit), now (granules .exit), now (image .exit)) ≡ exportedBringBack (geometry blocks units start open_code) (now (image .entry)) slot ⌝ }
+{
+    let g = Geometry {
+        blocks,
+        units,
+        start,
+        anyone: open_code,
+    };
+    let b = calls::bring_back(image, g, slot);
+    *slots = b.slots;
+    *granules = b.granules;
+    b.number
 }
 
 #[no_mangle]

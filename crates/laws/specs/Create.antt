@@ -71,7 +71,7 @@ map-read [] F i h = refl
 map-read (x ∷ n) F i h =
     ap₂ (λ (a : ℕ) (l : List ℕ). a ∷ l) (rw add-zero at (h 0 (omega arith))) (map-read n F (i + 1) (λ j b. let e : i + 1 + j ≡ i + suc j = omega arith in rw e (h (suc j) (omega arith))))
 
-hash-nonzero : (n : List ℕ) → hash n ≢ 0
+pub hash-nonzero : (n : List ℕ) → hash n ≢ 0
 unfolding hash
 hash-nonzero n = go (through _ 0 n) (ℕ-discrete (through _ 0 n) 0)
   where

@@ -10,9 +10,12 @@ pub mod Places
 pub mod Change
 pub mod Named
 pub mod Others
+pub mod Marking
 pub mod Kill
 pub mod Passed
 pub mod Create
+pub mod BringBack
+pub mod Undo
 pub mod Longer
 pub mod Tail
 pub mod Take

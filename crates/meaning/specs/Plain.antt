@@ -91,6 +91,15 @@ trimmed f =
       bytes = f .bytes;
     }
 
+-- a killed file brought back: what the entry at slot p and its granules hold, with bit 4 set
+unfoldable pub backAs : Geometry → List ℕ → ℕ → File
+backAs g d p =
+    record {
+      attributes = Bits.withBit 4 (Layout.field g d p 0) ∷ map (Layout.field g d p) (1 ∷ 2 ∷ 4 ∷ count 0x10 4);
+      granules = length (Chain.owned g d p);
+      bytes = Read.fetch g d p 0 (Entries.sizeOf g d p);
+    }
+
 -- a list of files with another file, or none, under one name
 unfoldable pub with′ : Plain → List ℕ → Found → Plain
 with′ fs n x m = cond (same m n) x (fs m)

@@ -85,3 +85,10 @@ pub struct Space {
     pub free: usize,
     pub longest: usize,
 }
+
+// What bring back answers (02, §11): how many slots and granules the file has.
+pub struct BroughtBack {
+    pub number: u8,
+    pub slots: usize,
+    pub granules: usize,
+}

@@ -63,7 +63,7 @@ create-made g d c k x t z n w f free =
       was = Named.plain-none g d n free;
     }
 
-none-missing : (g : Geometry) (d : List ℕ) → Sound g d → (n : List ℕ) → T (missing g d n) → (q : ℕ) → File g d q → nameOf g d q ≢ n
+pub none-missing : (g : Geometry) (d : List ℕ) → Sound g d → (n : List ℕ) → T (missing g d n) → (q : ℕ) → File g d q → nameOf g d q ≢ n
 none-missing g d c n t q f e = subst (λ (l : List ℕ). T (eqb (length l) 0)) (ap (named g d) (sym e) ∙ Named.named-is g d c q f) t
 
 new-of : (a b : Bool) → T a → (a && not b) ≡ false → T b

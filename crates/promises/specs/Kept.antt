@@ -78,7 +78,7 @@ every-call g d c = record {
   numbers = Refusing.numbers g d c;
 }
 
-stays-after : (g : Geometry) (a b c : List ℕ) → Stays g a b → Stays g b c → Stays g a c
+pub stays-after : (g : Geometry) (a b c : List ℕ) → Stays g a b → Stays g b c → Stays g a c
 stays-after g a b c x y = record { long = y .long ∙ x .long; good = y .good; reserved′ = y .reserved′ ∙ x .reserved′; tally = y .tally }
 
 along : (g : Geometry) (d₀ d : List ℕ) → Stays g d₀ d → (cs : List Call) → AllBring cs → Along g d₀ d cs

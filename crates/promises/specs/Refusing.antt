@@ -127,7 +127,7 @@ exactly cs rs w n = rows cs rs true (Unit {0}) (λ t. tt, λ t. tt) w (Members.d
 
 -- The cases -------------------------------------------------------------------------------------------------------------------------
 
-not-iff : (b : Bool) {C : Type 0} → (T b ↔ C) → (T (not b) ↔ (C → ⊥))
+pub not-iff : (b : Bool) {C : Type 0} → (T b ↔ C) → (T (not b) ↔ (C → ⊥))
 not-iff b i = (λ t c. T-not b t (i .1 c), λ n. not-T b (λ t. n (i .0 t)))
 
 false-iff : (b : Bool) → T (not b) ↔ (b ≡ false)
@@ -246,7 +246,7 @@ live-iff g d h = (fore, back)
         let e : T (same (nameOf g d (h .slot)) (h .name)) = subst (λ (l : List ℕ). T (same (nameOf g d (h .slot)) l)) (r .name′) (Members.same-refl (nameOf g d (h .slot))) in
         search Members.and-i depth 6
 
-found-not : (f : File) → found f ≡ nothing → ⊥
+pub found-not : (f : File) → found f ≡ nothing → ⊥
 found-not f e = let z : _≡_ {A = ℕ} 0 1 = cc in omega arith
 
 -- 4: no file of that name
@@ -345,10 +345,10 @@ fails-iff noSlot = (λ t. refl, λ e. tt)
 -- The calls -------------------------------------------------------------------------------------------------------------------------
 
 module _ (g : Geometry) (d : List ℕ) where
-  no-fit : T (not (fitsGeometry g d)) ↔ (Fits g d → ⊥)
+  pub no-fit : T (not (fitsGeometry g d)) ↔ (Fits g d → ⊥)
   no-fit = not-iff (fitsGeometry g d) (fits-iff g d)
 
-  unsound : T (not (consistent g d)) ↔ (consistent g d ≡ false)
+  pub unsound : T (not (consistent g d)) ↔ (consistent g d ≡ false)
   unsound = false-iff (consistent g d)
 
   stale : (h : Handle) → T (not (fresh g d h)) ↔ (Live g d h → ⊥)

@@ -13,7 +13,7 @@ use Rattle.meaning.specs.Layout.{isSlot, slots, fitsGeometry, granules, field, 
 use Rattle.meaning.specs.Bits.{bit, digit}
 use Rattle.meaning.specs.Entries.{inUse, primary, marker, link, runs, runStart, runLength, runGranules, entryGranules, sizeOf}
 use Rattle.meaning.specs.Chain.{chainFrom, chain, owned, files}
-use Rattle.meaning.specs.Consistent.{consistent, slotHolds, fileHolds, linkHolds, runsHold, sizeHolds, follows}
+use Rattle.meaning.specs.Consistent.{consistent, slotHolds, fileHolds, linkHolds, runsHold, sizeHolds, followsBy, follows}
 use Rattle.meaning.specs.declared.Geometry.{Geometry}
 use Rattle.layout.specs.Room.{Room, Slot}
 use Rattle.layout.proofs.Lists.{all-at, any-last, every-keep, every-count, not-yes, getD-count, le-or-lt}
@@ -42,7 +42,7 @@ module _ (g : Geometry) (d : List ℕ) where
   runs-hold s h u = all-at _ (any-last _ _ (all-at _ h 1) (not-yes u)) 2
 
   linked : (s : ℕ) → linkHolds g d s ≡ true → marker g d s ≡ 0xfe → follows g d s (link g d s) ≡ true
-  unfolding linkHolds
+  unfolding linkHolds follows followsBy
   linked s h m = all-at _ (any-last _ _ h (ne-eqb (marker g d s) 0xff (λ q. let z : _≡_ {A = ℕ} 0xfe 0xff = sym m ∙ q in omega arith))) 1
 
   followed : (s x : ℕ) → follows g d s x ≡ true → Used g d x

@@ -37,7 +37,8 @@ Name = List ℕ
 
 -- In a list of calls on one file each call uses a handle that the same list opened or created earlier: the first number of a call by a
 -- handle is that handle's place among them, from 0. Its positions and the bytes it writes are the list's own, fixed beforehand. The name
--- is the list's, and no call repeats it; the geometry is the same for all.
+-- is the list's, and no call repeats it; the geometry is the same for all. Bring back (02, §11) is not among them: "Demand 3's interleavings
+-- leave this call out." What it finds hangs on what the other list has written since the kill.
 pub data Call : Type 0 where
   looksUp : Call
   -- record length, whether codes are checked, the code

@@ -39,7 +39,7 @@ Exit status
 pub fn overview() -> String {
     let mut text = format!("{ABOUT}\nCommands\n");
     for command in COMMANDS {
-        text += &format!("  {:<7}{}\n", command.name, command.summary);
+        text += &format!("  {:<10}{}\n", command.name, command.summary);
     }
     text + "\n" + NAMES + "\n" + GEOMETRY + "\n" + &presets() + "\n" + STATUS
 }

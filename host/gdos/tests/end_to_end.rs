@@ -11,7 +11,8 @@ use std::process::{Command, Stdio};
 use std::time::{Duration, SystemTime};
 
 const DATE: [&str; 2] = ["--date", "1983-10-09"];
-const COMMANDS: [&str; 11] = ["check", "ls", "cat", "get", "put", "rm", "trim", "free", "info", "new", "probe"];
+const COMMANDS: [&str; 12] =
+    ["check", "ls", "cat", "get", "put", "rm", "undelete", "trim", "free", "info", "new", "probe"];
 
 /// A folder with the small disk of the examples, PULS01/DAT (257 bytes) and LEER on it.
 fn sample(name: &str) -> Folder {
@@ -136,6 +137,21 @@ fn json_of_every_command() {
     assert_eq!((status, trim.at("files").len(), trim.at("files.0.freed").number()), (0, 2, 0));
     let (status, rm) = json(&["rm", "d.img", "PULS01/DAT"]);
     assert_eq!((status, rm.at("files.0.name").text(), rm.at("files.0.freed").number()), (0, "PULS01/DAT", 1));
+    let (status, removed) = json(&["undelete", "d.img"]);
+    assert_eq!((status, removed.at("removed").len()), (0, 1));
+    let members = [("slot", 0x80), ("size", 257), ("slots", 1), ("granules", 1)];
+    for (member, number) in members {
+        assert_eq!(removed.at("removed.0").at(member).number(), number, "{member}");
+    }
+    assert_eq!(removed.at("removed.0.name").text(), "PULS01/DAT");
+    assert_eq!(removed.at("removed.0.refused"), &Json::Null);
+    let (status, back) = json(&["undelete", "d.img", "puls01/dat"]);
+    assert_eq!((status, back.at("file.name").text(), back.at("file.size").number()), (0, "PULS01/DAT", 257));
+    for (member, number) in members {
+        assert_eq!(back.at("file").at(member).number(), number, "{member}");
+    }
+    let (status, refused) = json(&["undelete", "d.img", "--slot", "80H"]);
+    assert_eq!((status, refused.at("refused.number").number()), (1, 17));
     let (status, new) = json(&["new", "n.img", "--preset", "dd80ds"]);
     assert_eq!((status, new.at("bytes").number(), new.at("free").number()), (0, 737_280, 573));
 

@@ -26,6 +26,11 @@ fn refusals() {
 }
 
 #[test]
+fn undelete() {
+    play("undelete");
+}
+
+#[test]
 fn full_disk() {
     play("full-disk");
 }

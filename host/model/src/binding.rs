@@ -230,6 +230,28 @@ mod bound {
                 )
             }
         }
+        fn bring_back(
+            &self,
+            image: &mut [u8],
+            g: &Geometry,
+            slot: usize,
+            slots: &mut usize,
+            granules: &mut usize,
+        ) -> Number {
+            unsafe {
+                genie_bring_back(
+                    image.as_mut_ptr(),
+                    image.len(),
+                    g.blocks,
+                    g.units,
+                    g.start,
+                    g.open_code,
+                    slot,
+                    slots,
+                    granules,
+                )
+            }
+        }
         fn list(
             &self,
             image: &[u8],

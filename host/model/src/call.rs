@@ -17,6 +17,7 @@ pub enum Call {
     Allot { handle: Vec<u8>, k: usize },
     Trim { handle: Vec<u8> },
     Kill { handle: Vec<u8> },
+    BringBack { slot: usize },
     List { which: usize, name: Vec<u8> },
     Count,
     Free,
@@ -36,6 +37,7 @@ impl Call {
             Call::Allot { .. } => "allot",
             Call::Trim { .. } => "trim",
             Call::Kill { .. } => "kill",
+            Call::BringBack { .. } => "bring back",
             Call::List { .. } => "list",
             Call::Count => "count",
             Call::Free => "free",
@@ -56,6 +58,7 @@ pub const POSSIBLE: [(&str, &[Number]); 14] = [
     ("allot", &[0, 1, 2, 12, 7, 6, 11, 9, 8]),
     ("trim", &[0, 1, 2, 12, 7, 6]),
     ("kill", &[0, 1, 2, 12, 7, 6]),
+    ("bring back", &[0, 1, 2, 12, 17, 6, 18, 19, 20]),
     ("list", &[0, 1, 2, 12]),
     ("count", &[0, 1, 2]),
     ("free", &[0, 1]),
@@ -128,7 +131,7 @@ pub fn perform(library: &dyn Library, image: &mut [u8], g: &Geometry, call: &Cal
         }
         Call::ReadSector { handle, .. } | Call::Allot { handle, .. } => (handle, &nothing, &nothing),
         Call::Trim { handle } | Call::Kill { handle } => (handle, &nothing, &nothing),
-        Call::Check | Call::Count | Call::Free => (&nothing, &nothing, &nothing),
+        Call::Check | Call::BringBack { .. } | Call::Count | Call::Free => (&nothing, &nothing, &nothing),
     };
     let (mut handle, mut buffer, mut name) = (Lent::new(handle), Lent::new(buffer), Lent::new(name));
     let (mut one, mut two, mut three) = (UNSET, UNSET, UNSET);
@@ -160,6 +163,11 @@ pub fn perform(library: &dyn Library, image: &mut [u8], g: &Geometry, call: &Cal
         Call::Allot { k, .. } => library.allot(image, g, handle.lend(), *k),
         Call::Trim { .. } => library.trim(image, g, handle.lend()),
         Call::Kill { .. } => library.kill(image, g, handle.lend()),
+        Call::BringBack { slot } => {
+            let number = library.bring_back(image, g, *slot, &mut one, &mut two);
+            numbers = vec![("slots", one), ("granules", two)];
+            number
+        }
         Call::List { which, .. } => {
             let number = library.list(image, g, *which, name.lend(), &mut one, &mut two, &mut three);
             numbers = vec![("size", one), ("granules", two), ("more", three)];

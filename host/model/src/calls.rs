@@ -48,7 +48,7 @@ const WRITING_LEVEL: u8 = 4;
 const KILLING_LEVEL: u8 = 1;
 
 /// Rows 1 and 2 of the table, which come first in every call. Gives the number of directory sectors.
-fn tested(image: &[u8], g: &Geometry) -> Result<usize, Number> {
+pub(crate) fn tested(image: &[u8], g: &Geometry) -> Result<usize, Number> {
     if !g.fits(image.len()) {
         return Err(GEOMETRY);
     }
@@ -58,7 +58,7 @@ fn tested(image: &[u8], g: &Geometry) -> Result<usize, Number> {
     Ok(directory_sectors(image, g).expect("allowed on a consistent disk"))
 }
 
-fn number(answer: Result<(), Number>) -> Number {
+pub(crate) fn number(answer: Result<(), Number>) -> Number {
     answer.err().unwrap_or(ACCEPTED)
 }
 

@@ -54,6 +54,9 @@ pub const EVENTS: &[&str] = &[
     "trim gives back all",
     "trim under F",
     "kill of a file with extensions",
+    "bring back of a file without granules",
+    "bring back of a file with an extension",
+    "bring back of a file with many extensions",
     "list tells a file",
     "list tells no more",
     "free space of a disk that is not consistent",
@@ -320,6 +323,12 @@ impl Before {
                 let spare = |block: usize| image[g.start * SECTOR_BYTES + block] as usize >> g.units;
                 let clear = (0..g.blocks).any(|block| spare(block) != 0xFF >> g.units);
                 seen.event("bits past the last unit clear", g.units < 8 && clear);
+            }
+            Call::BringBack { .. } => {
+                let slots = outcome.numbered("slots");
+                seen.event("bring back of a file without granules", outcome.numbered("granules") == 0);
+                seen.event("bring back of a file with an extension", slots == 2);
+                seen.event("bring back of a file with many extensions", slots > 4);
             }
             Call::ReadSector { .. } => {
                 seen.event("sector part under 256 bytes", outcome.numbered("to") - outcome.numbered("from") < 256)

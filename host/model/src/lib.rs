@@ -4,7 +4,8 @@
 //! second opinion on what the document says, so it shares no line with the library or its proofs.
 //! Beside it stand random disks, ways to damage them, random calls, and the binding of the library.
 
-// The model: document 01.
+// The model: document 01, and the requests of document 02 that have landed.
+pub mod bring_back;
 pub mod calls;
 pub mod consistency;
 pub mod directory;

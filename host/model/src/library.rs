@@ -1,6 +1,7 @@
 //! The exported interface as a trait, so that the same tests run on the model and on the library.
 //! Whoever implements it sets every outgoing number, also under a refusal.
 
+use crate::bring_back;
 use crate::calls::{self, Birth, Number};
 use crate::geometry::Geometry;
 use std::rc::Rc;
@@ -50,6 +51,14 @@ pub trait Library {
     fn allot(&self, image: &mut [u8], g: &Geometry, handle: &[u8], k: usize) -> Number;
     fn trim(&self, image: &mut [u8], g: &Geometry, handle: &[u8]) -> Number;
     fn kill(&self, image: &mut [u8], g: &Geometry, handle: &[u8]) -> Number;
+    fn bring_back(
+        &self,
+        image: &mut [u8],
+        g: &Geometry,
+        slot: usize,
+        slots: &mut usize,
+        granules: &mut usize,
+    ) -> Number;
     fn list(
         &self,
         image: &[u8],
@@ -132,6 +141,16 @@ impl Library for Model {
     }
     fn kill(&self, image: &mut [u8], g: &Geometry, handle: &[u8]) -> Number {
         calls::kill(image, g, handle)
+    }
+    fn bring_back(
+        &self,
+        image: &mut [u8],
+        g: &Geometry,
+        slot: usize,
+        slots: &mut usize,
+        granules: &mut usize,
+    ) -> Number {
+        bring_back::bring_back(image, g, slot, slots, granules)
     }
     fn list(
         &self,

@@ -271,6 +271,17 @@ uint8_t genie_kill(IMAGE, const uint8_t *handle, size_t handle_len)
     return end();
 }
 
+uint8_t genie_bring_back(IMAGE, size_t slot, size_t *slots, size_t *granules)
+{
+    BEGIN(BRING_BACK);
+    w->in[0] = slot;
+    go();
+    *slots = w->out[0];
+    *granules = w->out[1];
+    BACK(image);
+    return end();
+}
+
 uint8_t genie_list(const IMAGE, size_t number, uint8_t *name, size_t name_len, size_t *size, size_t *granules, size_t *more)
 {
     BEGIN(LIST);

@@ -97,6 +97,8 @@ static uint8_t serve(struct wire *w, size_t out[3])
         return genie_trim(IMAGE, HANDLE);
     case KILL:
         return genie_kill(IMAGE, HANDLE);
+    case BRING_BACK:
+        return genie_bring_back(IMAGE, in[0], &out[0], &out[1]);
     case LIST:
         return genie_list(IMAGE, in[0], NAME, &out[0], &out[1], &out[2]);
     case COUNT:

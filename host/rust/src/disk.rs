@@ -126,6 +126,15 @@ pub struct FreeSpace {
     pub longest: usize,
 }
 
+/// The answer of [`Disk::bring_back`].
+#[derive(Clone, Copy, Debug, PartialEq, Eq)]
+pub struct BroughtBack {
+    /// Directory slots that are in use again.
+    pub slots: usize,
+    /// Granules that are taken again.
+    pub granules: usize,
+}
+
 /// A refusal number as a result.
 fn accepted(number: u8) -> Result<(), Refusal> {
     Refusal::from_number(number).map_or(Ok(()), Err)
@@ -502,6 +511,14 @@ impl<B: AsRef<[u8]>> Disk<B> {
         Ok(Directory::new(self.image.as_ref(), self.geometry).entries())
     }
 
+    /// The primary entries that are not in use and not blank, by rising slot: what killed files left, and whatever
+    /// else stands there. Their names and runs are as the bytes say; whether a file can be made of one again,
+    /// [`bring_back`](Disk::bring_back) tells. The disk is checked first.
+    pub fn dead_entries(&self) -> Result<Vec<Entry>, Refusal> {
+        self.check()?;
+        Ok(Directory::new(self.image.as_ref(), self.geometry).dead_entries())
+    }
+
     /// Sectors of the directory: 10, 15, 20, 25 or 30. The disk is checked first.
     pub fn directory_sectors(&self) -> Result<usize, Refusal> {
         self.check()?;
@@ -670,5 +687,41 @@ impl<B: AsMut<[u8]>> Disk<B> {
                 lent.len(),
             )
         })
+    }
+
+    /// Brings back the killed file whose primary entry is in a slot, if nothing of it was overwritten: its entries are
+    /// whole, its name is not in use and its granules are free. Its bytes are what those granules hold now.
+    ///
+    /// ```
+    /// # use genie_dos::*;
+    /// # let mut disk = Disk::blank(Geometry::new(16, 2, 80, 0x4296), 10, &[0])?;
+    /// # let name = "PULS01/DAT".parse().unwrap();
+    /// # let mut handle = disk.create(&name, &NewFile::open(disk.geometry(), Date::new(1983, 10, 9)))?.handle;
+    /// # disk.write_record(&mut handle, Kind::Sequential, &[7; 256])?;
+    /// let before = disk.image().to_vec();
+    /// disk.kill(&handle)?;
+    /// assert_eq!(disk.bring_back(handle.slot().into())?, BroughtBack { slots: 1, granules: 1 });
+    /// assert_eq!(disk.image(), before);
+    /// assert_eq!(disk.bring_back(handle.slot().into()), Err(Refusal::SlotInUse));
+    /// # Ok::<(), Refusal>(())
+    /// ```
+    pub fn bring_back(&mut self, slot: usize) -> Result<BroughtBack, Refusal> {
+        let (image, g) = (self.image.as_mut(), self.geometry);
+        let (mut slots, mut granules) = (0, 0);
+        // SAFETY: the slice is a live, exclusive reference; the outgoing numbers are locals.
+        accepted(unsafe {
+            sys::genie_bring_back(
+                image.as_mut_ptr(),
+                image.len(),
+                g.blocks,
+                g.units,
+                g.start,
+                g.open_code,
+                slot,
+                &mut slots,
+                &mut granules,
+            )
+        })?;
+        Ok(BroughtBack { slots, granules })
     }
 }

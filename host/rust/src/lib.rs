@@ -36,7 +36,7 @@ mod name;
 mod refusal;
 mod sys;
 
-pub use disk::{Counts, Created, Disk, FreeSpace, Kind, Listed, LookUp, NewFile, Password};
+pub use disk::{BroughtBack, Counts, Created, Disk, FreeSpace, Kind, Listed, LookUp, NewFile, Password};
 pub use entry::{Date, Entry, Run};
 pub use geometry::Geometry;
 pub use handle::Handle;

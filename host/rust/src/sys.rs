@@ -140,6 +140,18 @@ extern "C" {
         handle_len: usize,
     ) -> u8;
 
+    pub fn genie_bring_back(
+        image: *mut u8,
+        image_len: usize,
+        blocks: usize,
+        units: usize,
+        start: usize,
+        open_code: u16,
+        slot: usize,
+        slots: *mut usize,
+        granules: *mut usize,
+    ) -> u8;
+
     pub fn genie_list(
         image: *const u8,
         image_len: usize,

@@ -284,12 +284,14 @@ fn every_refusal_by_its_number() {
         assert_eq!(refused(&bad, |d| d.allot(&h, 0)), number);
         assert_eq!(refused(&bad, |d| d.trim(&h)), number);
         assert_eq!(refused(&bad, |d| d.kill(&h)), number);
+        assert_eq!(refused(&bad, |d| d.bring_back(usize::MAX)), number);
         assert_eq!(refused(&bad, |d| d.list(0)), number);
         assert_eq!(refused(&bad, |d| d.count()), number);
         assert_eq!(refused(&bad, |d| d.files()), number);
         assert_eq!(refused(&bad, |d| d.listing()), number);
         assert_eq!(refused(&bad, |d| d.contents(&h)), number);
         assert_eq!(refused(&bad, |d| d.entries()), number);
+        assert_eq!(refused(&bad, |d| d.dead_entries().map(|all| all.len())), number);
         assert_eq!(refused(&bad, |d| d.directory_sectors()), number);
         // Free space looks at the GAT alone.
         match number {
@@ -330,6 +332,49 @@ fn every_refusal_by_its_number() {
         full.create(&name(&format!("F{i}")), &plain()).unwrap();
     }
     assert_eq!(refused(&full, |d| d.create(&name("F72"), &plain())), 8);
+}
+
+#[test]
+fn a_killed_file_comes_back() {
+    let disk = with_file("A", &[1; 1281]);
+    let handle = disk.open(&name("A"), 256, Password::Unchecked).unwrap();
+    let slot = usize::from(handle.slot());
+    let mut dead = disk.clone();
+    dead.kill(&handle).unwrap();
+    // What is left of it, and no more than that: the other entries are blank.
+    let left = dead.dead_entries().unwrap();
+    assert_eq!(left.len(), 1);
+    assert_eq!((left[0].slot(), left[0].name(), left[0].size(), left[0].granules()), (handle.slot(), name("A"), 1281, 2));
+    assert!(disk.dead_entries().unwrap().is_empty());
+
+    // 12, 17, 6, 18, 19, 20.
+    assert_eq!(refused(&dead, |d| d.bring_back(0x1f)), 12);
+    assert_eq!(refused(&dead, |d| d.bring_back(slot + 256)), 12);
+    assert_eq!(refused(&disk, |d| d.bring_back(slot)), 17);
+    let edited = |at: usize, byte: u8| {
+        let mut image = dead.image().to_vec();
+        image[entry_at(handle.slot()) + at] = byte;
+        Disk::new(image, GEOMETRY)
+    };
+    assert_eq!(refused(&edited(0x00, 0x40), |d| d.bring_back(slot)), 6);
+    assert_eq!(refused(&edited(0x1e, 0x00), |d| d.bring_back(slot)), 18);
+    assert_eq!(refused(&dead, |d| d.bring_back(0)), 18);
+    let mut both = disk.clone();
+    let mut second = both.create(&name("B"), &plain()).unwrap().handle;
+    both.write_record(&mut second, Kind::Sequential, &[2; 256]).unwrap();
+    both.kill(&second).unwrap();
+    let mut larger = both.clone();
+    larger.allot(&handle, 10).unwrap();
+    assert_eq!(refused(&larger, |d| d.bring_back(second.slot().into())), 20);
+    both.kill(&handle).unwrap();
+    assert_eq!(both.create(&name("B"), &plain()).unwrap().handle.slot(), handle.slot());
+    assert_eq!(refused(&both, |d| d.bring_back(second.slot().into())), 19);
+
+    // Brought back, it is the disk before; its handle is good again.
+    let back = dead.bring_back(slot).unwrap();
+    assert_eq!((back.slots, back.granules), (1, 2));
+    assert!(dead.image() == disk.image());
+    assert_eq!(dead.contents(&handle).unwrap(), [1; 1281]);
 }
 
 #[test]

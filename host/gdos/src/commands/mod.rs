@@ -10,6 +10,7 @@ mod probe;
 mod put;
 mod rm;
 mod trim;
+mod undelete;
 
 use crate::args::{Args, Spec};
 use crate::failure::Failure;
@@ -50,6 +51,7 @@ pub const COMMANDS: &[Command] = &[
     get::COMMAND,
     put::COMMAND,
     rm::COMMAND,
+    undelete::COMMAND,
     trim::COMMAND,
     free::COMMAND,
     info::COMMAND,
