@@ -10,7 +10,7 @@ ghost use lib.Dec.{eqb};
 ghost use lib.ListN.{length, take, drop};
 ghost use Rattle.meaning.specs.Lists.{every};
 ghost use Rattle.meaning.specs.Names.{letter, padded, wellFormed};
-ghost use Rattle.meaning.specs.Refusals.{check, goodLength, noHandle};
+ghost use Rattle.meaning.specs.Refusals.{check, noHandle};
 ghost use Rattle.meaning.specs.LookUp.{carries, lookUp};
 ghost use Rattle.meaning.specs.Open.{full, admits, openedAt, open′};
 ghost use Rattle.layout.specs.Room.{Room, Slot};
@@ -185,16 +185,6 @@ pub fn name_array(name: &[u8]) -> [u8; 11]
     name_at(name, 0)
 }
 
-// Record length 1 to 256.
-pub fn good_length(len: usize) -> bool
-    ensures { λ r. ⌜ r ≡ goodLength len ⌝ }
-{
-    if len < 1 {
-        return false;
-    }
-    len <= 256
-}
-
 // Whether a code opens the file at slot s at level 0: checking is off, the main code is the "no password" code, or the code is the main
 // code.
 pub fn full(image: &[u8], g: Geometry, s: usize, checking: bool, code: u16) -> bool
@@ -280,7 +270,7 @@ pub fn open_checked(
             handle: no_handle(),
         };
     }
-    if !good_length(len) {
+    if !handle::good_length(len) {
         return Answer {
             number: 12,
             handle: no_handle(),

@@ -3,15 +3,10 @@ use mathlib.Core.Path.{_≡_, refl, ap}
 use mathlib.Core.Logic.{_≢_}
 use Prim.Native.Nat.{ℕ, zero, suc, _+_, _*_, _/_, _%_, _^_, _<_}
 use native.Mathlib.Omega.{arith}
-use Rattle.meaning.specs.Bits.{digit, putDigit}
+use Rattle.meaning.specs.Bits.{digit, putDigit, digit-lt}
 
 half : (y x : ℕ) → (y * 2 + x % 2) / 2 ≡ y
 half y x = omega arith
-
-pub digit-lt : (x u : ℕ) → digit x u < 2
-unfolding digit
-digit-lt x zero = omega arith
-digit-lt x (suc u) = digit-lt (x / 2) u
 
 pub digit-same : (x u v : ℕ) → v < 2 → digit (putDigit x u v) u ≡ v
 unfolding digit putDigit

@@ -44,10 +44,6 @@ module _ (g : Geometry) (d : List ℕ) (x : ℕ) (es : List ℕ) (v : ℕ) (len 
   unfolding withEntry
   with-byte i o n = getD-set-other (sets d (entryAt g x) es) (hitAt g x) i v 0 n ∙ Places.sets-outside es d (entryAt g x) i (rw len o)
 
-  pub with-length : length (withEntry g d x es v) ≡ length d
-  unfolding withEntry
-  with-length = simp (length-set, length-sets)
-
   pub with-field : (k : ℕ) → k < 32 → entryAt g x + 32 ≤ length d → field g (withEntry g d x es v) x k ≡ byte es k
   unfolding withEntry words
   with-field k b l =

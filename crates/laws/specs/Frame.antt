@@ -21,9 +21,6 @@ use Rattle.laws.specs.Words.{words}
 abbrev pub Agree : Geometry → List ℕ → List ℕ → ℕ → Type 0
 Agree g d d′ s = (k : ℕ) → k < 32 → field g d′ s k ≡ field g d s k
 
-pub agree-trans : (g : Geometry) (a b c : List ℕ) (s : ℕ) → Agree g a b s → Agree g b c s → Agree g a c s
-agree-trans g a b c s p q k h = q k h ∙ p k h
-
 module _ (g : Geometry) (d d′ : List ℕ) where
   runsFrom-eq : (s k n : ℕ) → ((j : ℕ) → j < 4 → block g d′ s j ≡ block g d s j) → k + n ≤ 4 → runsFrom g d′ s n k ≡ runsFrom g d s n k
   unfolding runsFrom

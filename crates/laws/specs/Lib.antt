@@ -1,3 +1,4 @@
+pub mod AtTail
 pub mod Words
 pub mod Members
 pub mod Counting

@@ -17,7 +17,9 @@ use Rattle.meaning.specs.Growth.{withPair, newExtension, withExtension}
 use Rattle.meaning.specs.Drop.{unhooked}
 use Rattle.meaning.specs.Kill.{killEntry, killed}
 use Rattle.meaning.specs.Write.{store, withSize}
+use Rattle.meaning.specs.Plain.{Aside}
 use Rattle.meaning.specs.declared.Geometry.{Geometry}
+use Rattle.laws.specs.Members
 use Rattle.laws.specs.Members.{In}
 use Rattle.laws.specs.Bits
 use Rattle.laws.specs.Facts.{Sound, File}
@@ -32,13 +34,6 @@ pub data Touch (g : Geometry) (xs ns d : List ℕ) : List ℕ → Type 0 where
   hits : (x v : ℕ) {e : List ℕ} → In x xs → Touch g xs ns d e → Touch g xs ns d (set e (hitAt g x) v)
   entry : (x k v : ℕ) {e : List ℕ} → In x xs → k < 32 → Touch g xs ns d e → Touch g xs ns d (set e (entryAt g x + k) v)
   bytes : (i v : ℕ) {e : List ℕ} → In (i / granuleBytes) ns → Touch g xs ns d e → Touch g xs ns d (set e i v)
-
--- a place that is in none of these: no GAT byte of a block, no HIT byte and no entry of the slots xs, in none of the granules ns
-pub record Aside (g : Geometry) (xs ns : List ℕ) (i : ℕ) : Type 0 where
-  pub gat : (i < 256 * g .start) ⊎ (256 * g .start + g .blocks ≤ i)
-  pub hits : (x : ℕ) → In x xs → i ≢ hitAt g x
-  pub entries : (x : ℕ) → In x xs → (i < entryAt g x) ⊎ (entryAt g x + 32 ≤ i)
-  pub bytes : In (i / granuleBytes) ns → ⊥
 
 pub touch-more : {g : Geometry} {xs ns d e : List ℕ} (xs′ ns′ : List ℕ) → ((x : ℕ) → In x xs → In x xs′) → ((n : ℕ) → In n ns → In n ns′) → Touch g xs ns d e → Touch g xs′ ns′ d e
 touch-more xs′ ns′ a b Touch.none = Touch.none
@@ -67,13 +62,13 @@ module _ (g : Geometry) (d₀ : List ℕ) (k : Places.Fits g d₀) where
       away : (i < 256 * g .start) ⊎ (256 * g .start + g .blocks ≤ i) → i ≢ gatAt g n
       away (inl q) = omega arith
       away (inr q) = omega (arith, in-gat n h)
-  touch-aside (Touch.hits x v {e = e} j t) i a = getD-set-other e (hitAt g x) i v 0 (a .hits x j) ∙ touch-aside t i a
-  touch-aside (Touch.entry x j v {e = e} m l t) i a = getD-set-other e (entryAt g x + j) i v 0 (away (a .entries x m)) ∙ touch-aside t i a
+  touch-aside (Touch.hits x v {e = e} j t) i a = getD-set-other e (hitAt g x) i v 0 (a .hits x (Members.in-has j)) ∙ touch-aside t i a
+  touch-aside (Touch.entry x j v {e = e} m l t) i a = getD-set-other e (entryAt g x + j) i v 0 (away (a .entries x (Members.in-has m))) ∙ touch-aside t i a
     where
       away : (i < entryAt g x) ⊎ (entryAt g x + 32 ≤ i) → i ≢ entryAt g x + j
       away (inl q) = omega arith
       away (inr q) = omega arith
-  touch-aside (Touch.bytes j v {e = e} m t) i a = getD-set-other e j i v 0 (λ q. a .bytes (rw q m)) ∙ touch-aside t i a
+  touch-aside {ns = ns} (Touch.bytes j v {e = e} m t) i a = getD-set-other e j i v 0 (λ q. a .bytes (Members.in-has {xs = ns} (rw q m))) ∙ touch-aside t i a
 
   -- the bits of a GAT byte past the last unit
   pub touch-spare : {xs ns d e : List ℕ} → Touch g xs ns d e → (b u : ℕ) → b < g .blocks → g .units ≤ u → (In ((256 * g .start + b) / granuleBytes) ns → ⊥)

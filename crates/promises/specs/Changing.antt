@@ -20,7 +20,7 @@ use Rattle.meaning.specs.Write.{writeRecord, toWrite}
 use Rattle.meaning.specs.Allot.{allot, toAllot}
 use Rattle.meaning.specs.Trim.{trim}
 use Rattle.meaning.specs.Kill.{kill}
-use Rattle.meaning.specs.Plain.{File, Found, found, nothing, fileAt, plain, with′, hush, bornAs, writtenTo, allottedTo, trimmed}
+use Rattle.meaning.specs.Plain.{File, Found, found, nothing, fileAt, plain, with′, hush, bornAs, writtenTo, allottedTo, trimmed, beyond, Aside}
 use Rattle.meaning.specs.declared.Geometry.{Geometry}
 use Rattle.meaning.specs.declared.Handle.{Handle}
 use Rattle.meaning.specs.declared.NewFile.{NewFile}
@@ -31,7 +31,7 @@ use Rattle.laws.specs.Facts
 use Rattle.laws.specs.Places
 use Rattle.laws.specs.Named
 use Rattle.laws.specs.Touch
-use Rattle.laws.specs.Touch.{Touch, Aside}
+use Rattle.laws.specs.Touch.{Touch}
 use Rattle.laws.specs.Words.{words}
 use Rattle.laws.specs.Others
 use Rattle.laws.specs.Passed
@@ -90,7 +90,7 @@ module _ (g : Geometry) (d d′ n : List ℕ) where
 module _ (g : Geometry) (d d′ : List ℕ) (h : Handle) (w : Holds g d h) (is : Found) where
   by-handle : plain g d′ (nameOf g d (h .slot)) ≡ is
       → ((m : List ℕ) → m ≢ nameOf g d (h .slot) → hush (plain g d′ m) ≡ hush (plain g d m))
-      → ((m : List ℕ) → m ≢ nameOf g d (h .slot) → Others.beyond g d′ m ≡ Others.beyond g d m)
+      → ((m : List ℕ) → m ≢ nameOf g d (h .slot) → beyond g d′ m ≡ beyond g d m)
       → ((m : List ℕ) → m ≢ nameOf g d (h .slot) → named g d′ m ≡ named g d m)
       → Left g d d′ (nameOf g d (h .slot))
       → length (freeGranules g d) + length (owned g d (h .slot)) ≡ length (freeGranules g d′) + Promises.granulesIn is

@@ -67,7 +67,7 @@ first-of a b t = Members.and-l a (b && true) t
 
 -- a handle in range, moved within the range
 pub further : (h : Handle) (at : ℕ) → InRange h → at ≤ highest → InRange (movedTo h at)
-further h at r l = record { at = l; some = r .some; most = r .most; level = r .level }
+further h at r l = record { at = l; length′ = r .length′; level = r .level }
 
 -- Refused ---------------------------------------------------------------------------------------------------------------------------
 

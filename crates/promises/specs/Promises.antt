@@ -31,13 +31,11 @@ use Rattle.meaning.specs.Trim.{trim}
 use Rattle.meaning.specs.Kill.{kill}
 use Rattle.meaning.specs.Listing
 use Rattle.meaning.specs.Listing.{listed, noFile}
-use Rattle.meaning.specs.Plain.{File, Found, found, nothing, fileAt, plain, with′, hush, bornAs, writtenTo, allottedTo, trimmed, AreBytes, reserved}
+use Rattle.meaning.specs.Plain.{File, Found, found, nothing, fileAt, plain, with′, isSystem, hush, beyond, Aside, bornAs, writtenTo, allottedTo, trimmed, AreBytes, CodesFit, reserved}
 use Rattle.meaning.specs.declared.Geometry.{Geometry}
 use Rattle.meaning.specs.declared.Handle.{Handle}
 use Rattle.meaning.specs.declared.NewFile.{NewFile}
 use Rattle.meaning.specs.declared.Mode.{Mode}
-use Rattle.laws.specs.Others.{beyond}
-use Rattle.laws.specs.Touch.{Aside}
 
 -- Calls -----------------------------------------------------------------------------------------------------------------------------
 
@@ -91,7 +89,7 @@ abbrev pub Brings : Call → Type 0
 Brings checks = Unit {0}
 Brings (looksUp n) = Unit {0}
 Brings (opens n len checking code) = Unit {0}
-Brings (creates n f checking) = (f .main < 65536) × (f .worker < 65536)
+Brings (creates n f checking) = CodesFit f
 Brings (reads h b) = Unit {0}
 Brings (readsSector h k) = Unit {0}
 Brings (writes m h b) = AreBytes b
@@ -152,11 +150,14 @@ pub record Live (g : Geometry) (d : List ℕ) (h : Handle) : Type 0 where
   pub first : T (not (extension g d (h .slot)))
   pub name′ : nameOf g d (h .slot) ≡ h .name
 
--- position 0 to 1,966,080, record length 1 to 256, level 0 to 7
+-- record length 1 to 256
+abbrev pub LengthInRange : ℕ → Type 0
+LengthInRange len = (1 ≤ len) × (len ≤ 256)
+
+-- position 0 to 1,966,080, level 0 to 7
 pub record InRange (h : Handle) : Type 0 where
   pub at : h .at ≤ highest
-  pub some : 1 ≤ h .len
-  pub most : h .len ≤ 256
+  pub length′ : LengthInRange (h .len)
   pub level : h .level ≤ 7
 
 -- An accepted call by a handle has a file of the handle's name, the one at its slot; `u` is what the call makes of it. The handle
@@ -172,9 +173,6 @@ pub record Changes (g : Geometry) (d d′ : List ℕ) (h h′ : Handle) (u : Fil
 -- 3. What an accepted call answers ------------------------------------------------------------------------------------------------------
 
 -- what the attributes of a plain file say (bytes 00, 01, 02, 04 and 10 to 13 of its entry)
-abbrev pub isSystem : File → Bool
-isSystem f = bit 6 (getD (f .attributes) 0 0)
-
 abbrev pub storedLevel : File → ℕ
 storedLevel f = getD (f .attributes) 0 0 % 8
 
@@ -327,13 +325,12 @@ pub record Fits (g : Geometry) (d : List ℕ) : Type 0 where
   pub long : length d ≡ granules g * granuleBytes
   pub ten : g .start + 10 ≤ sectors g
 
--- day 0 to 31, month and year offset 0 to 15, record length 1 to 256
+-- day 0 to 31, month and year offset 0 to 15
 pub record NewInRange (f : NewFile) : Type 0 where
   pub day : f .day ≤ 31
   pub month : f .month ≤ 15
   pub year : f .year ≤ 15
-  pub some : 1 ≤ f .len
-  pub most : f .len ≤ 256
+  pub length′ : LengthInRange (f .len)
 
 -- Fewer permitted slots are free than the rule needs: taking the granules one at a time, the file at slot p has put an extension into each
 -- slot that was free, and then comes to a granule that is a run beyond the fourth of its last entry.
@@ -386,7 +383,7 @@ module _ (g : Geometry) (d : List ℕ) where
   table checks = diskCases []
   table (looksUp n) = diskCases ((3, wellFormed n ≡ false) ∷ (4, NoFile n) ∷ [])
   table (opens n len checking code) =
-      diskCases ((12, ((1 ≤ len) × (len ≤ 256) → ⊥)) ∷ (3, wellFormed n ≡ false) ∷ (4, NoFile n) ∷ (5, WrongCode n checking code) ∷ [])
+      diskCases ((12, (LengthInRange len → ⊥)) ∷ (3, wellFormed n ≡ false) ∷ (4, NoFile n) ∷ (5, WrongCode n checking code) ∷ [])
   table (creates n f checking) =
       diskCases ((12, (NewInRange f → ⊥)) ∷ (3, wellFormed n ≡ false) ∷ (5, WrongCode n checking (f .main)) ∷ (8, NoFile n × (freeSlots g d ≡ [])) ∷ [])
   table (reads h b) =

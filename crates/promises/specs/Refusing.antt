@@ -24,7 +24,7 @@ use Rattle.meaning.specs.Allot.{allot, allotRefusals, toAllot}
 use Rattle.meaning.specs.Trim.{trim, trimRefusals}
 use Rattle.meaning.specs.Kill.{kill, killRefusals}
 use Rattle.meaning.specs.Listing
-use Rattle.meaning.specs.Plain.{File, found, nothing, fileAt, foundIn, plain}
+use Rattle.meaning.specs.Plain.{File, found, nothing, fileAt, foundIn, plain, isSystem}
 use Rattle.meaning.specs.declared.Geometry.{Geometry}
 use Rattle.meaning.specs.declared.Handle.{Handle}
 use Rattle.meaning.specs.declared.NewFile.{NewFile}
@@ -36,9 +36,10 @@ use Rattle.laws.specs.Places
 use Rattle.laws.specs.Passed
 use Rattle.laws.specs.Others
 use Rattle.laws.specs.Words.{words}
+use Rattle.laws.specs.Named
 use Rattle.promises.specs.Sticking
 use Rattle.promises.specs.Promises
-use Rattle.promises.specs.Promises.{Table, Rows, Exactly, Call, number, table, Fits, InRange, NewInRange, Live, Full}
+use Rattle.promises.specs.Promises.{Table, Rows, Exactly, Call, number, table, Fits, InRange, NewInRange, Live, Full, LengthInRange}
 
 -- Any list of refusals ------------------------------------------------------------------------------------------------------------
 
@@ -183,6 +184,10 @@ fits-iff g d = (fore, back)
         let i : T (leb (g .start + 10) (sectors g)) = le→leb _ _ (k .ten) in
         search Members.and-i depth 9
 
+pub length-iff : (len : ℕ) → T (goodLength len) ↔ LengthInRange len
+unfolding goodLength
+length-iff len = both-iff (leb 1 len) (leb len 256) (le-iff 1 len) (le-iff len 256)
+
 pub range-iff : (h : Handle) → T (inRange h) ↔ InRange h
 unfolding words
 range-iff h = (fore, back)
@@ -190,16 +195,14 @@ range-iff h = (fore, back)
     fore : T (inRange h) → InRange h
     fore t =
         let a : T (leb (h .at) highest) = search parts depth 6 in
-        let b : T (leb 1 (h .len)) = search parts depth 6 in
-        let c : T (leb (h .len) 256) = search parts depth 6 in
+        let b : T (goodLength (h .len)) = search parts depth 6 in
         let e : T (leb (h .level) 7) = search parts depth 6 in
-        record { at = leb→le _ _ a; some = leb→le _ _ b; most = leb→le _ _ c; level = leb→le _ _ e }
+        record { at = leb→le _ _ a; length′ = length-iff (h .len) .0 b; level = leb→le _ _ e }
 
     back : InRange h → T (inRange h)
     back r =
         let a : T (leb (h .at) highest) = le→leb _ _ (r .at) in
-        let b : T (leb 1 (h .len)) = le→leb _ _ (r .some) in
-        let c : T (leb (h .len) 256) = le→leb _ _ (r .most) in
+        let b : T (goodLength (h .len)) = length-iff (h .len) .1 (r .length′) in
         let e : T (leb (h .level) 7) = le→leb _ _ (r .level) in
         search Members.and-i depth 6
 
@@ -212,22 +215,16 @@ new-iff f = (fore, back)
         let a : T (leb (f .day) 31) = search parts depth 7 in
         let b : T (leb (f .month) 15) = search parts depth 7 in
         let c : T (leb (f .year) 15) = search parts depth 7 in
-        let e : T (leb 1 (f .len)) = search parts depth 7 in
-        let h : T (leb (f .len) 256) = search parts depth 7 in
-        record { day = leb→le _ _ a; month = leb→le _ _ b; year = leb→le _ _ c; some = leb→le _ _ e; most = leb→le _ _ h }
+        let e : T (goodLength (f .len)) = search parts depth 7 in
+        record { day = leb→le _ _ a; month = leb→le _ _ b; year = leb→le _ _ c; length′ = length-iff (f .len) .0 e }
 
     back : NewInRange f → T (newInRange f)
     back r =
         let a : T (leb (f .day) 31) = le→leb _ _ (r .day) in
         let b : T (leb (f .month) 15) = le→leb _ _ (r .month) in
         let c : T (leb (f .year) 15) = le→leb _ _ (r .year) in
-        let e : T (leb 1 (f .len)) = le→leb _ _ (r .some) in
-        let h : T (leb (f .len) 256) = le→leb _ _ (r .most) in
+        let e : T (goodLength (f .len)) = length-iff (f .len) .1 (r .length′) in
         search Members.and-i depth 7
-
-pub length-iff : (len : ℕ) → T (goodLength len) ↔ ((1 ≤ len) × (len ≤ 256))
-unfolding goodLength
-length-iff len = both-iff (leb 1 len) (leb len 256) (le-iff 1 len) (le-iff len 256)
 
 pub live-iff : (g : Geometry) (d : List ℕ) (h : Handle) → T (fresh g d h) ↔ Live g d h
 unfolding words
@@ -322,12 +319,9 @@ wrong-iff g d n checking code = go (named g d n)
     go [] k = absurd (k tt)
     go (x ∷ xs) k = (
       λ t. let y = admits-iff g d x checking code .0 t in (fileAt g d x, refl, y .0, y .1),
-      λ y. let e : fileAt g d x ≡ y .0 = same-file (fileAt g d x) (y .0) (y .1) in
+      λ y. let e : fileAt g d x ≡ y .0 = Named.found-inj (fileAt g d x) (y .0) (y .1) in
           admits-iff g d x checking code .1 (rw e (y .2), rw e (y .3)),
     )
-      where
-        same-file : (a b : File) → found a ≡ found b → a ≡ b
-        same-file a b e = cc
 
 wrong-created : (g : Geometry) (d n : List ℕ) (checking : Bool) (code : ℕ)
     → T (all (not (missing g d n) ∷ not (admits g d (slotOf g d n) checking code) ∷ [])) ↔ Promises.WrongCode g d n checking code
@@ -359,7 +353,7 @@ module _ (g : Geometry) (d : List ℕ) where
   stale : (h : Handle) → T (not (fresh g d h)) ↔ (Live g d h → ⊥)
   stale h = not-iff (fresh g d h) (live-iff g d h)
 
-  barred-iff : (most : ℕ) (h : Handle) → T (any (ltb most (h .level) ∷ system g d (h .slot) ∷ [])) ↔ ((most < h .level) ⊎ T (Promises.isSystem (fileAt g d (h .slot))))
+  barred-iff : (most : ℕ) (h : Handle) → T (any (ltb most (h .level) ∷ system g d (h .slot) ∷ [])) ↔ ((most < h .level) ⊎ T (isSystem (fileAt g d (h .slot))))
   unfolding fileAt
   barred-iff most h = either-iff (ltb most (h .level)) (system g d (h .slot)) (lt-iff most (h .level)) (λ t. t, λ t. t)
 
@@ -374,7 +368,7 @@ module _ (g : Geometry) (d : List ℕ) where
   holds b i n = Passed.yes-T b (λ t. n (λ x. T-not b t (i .1 x)))
 
   writes : (h : Handle) → ((Fits g d → ⊥) → ⊥) → (consistent g d ≡ false → ⊥) → ((Live g d h → ⊥) → ⊥)
-      → ((4 < h .level) ⊎ T (Promises.isSystem (fileAt g d (h .slot))) → ⊥) → Writes h
+      → ((4 < h .level) ⊎ T (isSystem (fileAt g d (h .slot))) → ⊥) → Writes h
   unfolding fileAt
   writes h a b l u =
       let v = live-iff g d h .0 (holds (fresh g d h) (live-iff g d h) l) in

@@ -11,13 +11,13 @@ use lib.ListN.{length, getD, take, drop, length-append, List·getD-append}
 use lib.Seq.{getD-append-add}
 use lib.Dec.{eqb, ltb}
 use borrow.Author.Tests.{lt-ltb, le-ltb, eq-eqb, ne-eqb, ltb-true, ltb-false, eqb-true}
-use Rattle.meaning.specs.Lists.{count, keep, each, all}
+use Rattle.meaning.specs.Lists.{count, keep, each, all, length-count}
 use Rattle.meaning.specs.Layout.{isSlot, slots, directorySectors}
 use Rattle.meaning.specs.Entries.{runs, runStart, runLength, runGranules, entryGranules, marker, link}
 use Rattle.meaning.specs.Chain.{chainFrom}
 use Rattle.meaning.specs.declared.Geometry.{Geometry}
 use Rattle.layout.proofs.Laws.{left-more, left-none}
-use Rattle.layout.proofs.Lists.{length-count, getD-count, le-or-lt}
+use Rattle.layout.proofs.Lists.{getD-count, le-or-lt}
 use Rattle.seek.proofs.Below.{allBelow, all-below}
 use Rattle.seek.specs.Seek.{seekIn, onward}
 use Rattle.seek.specs.declared.Seek.{Seek}

@@ -2,7 +2,8 @@
 use meaning::Geometry;
 ghost use mathlib.Core.Path.{_≡_};
 ghost use Prim.Native.Nat.{_+_, _-_, _*_, _<_, _≤_};
-ghost use mathlib.Core.Bool.{true};
+ghost use mathlib.Core.Bool.{true, _||_};
+ghost use lib.Dec.{ltb};
 ghost use Rattle.meaning.specs.Lists.{count, every};
 ghost use Rattle.meaning.specs.Layout.{field, entryAt};
 ghost use Rattle.meaning.specs.Entries.{link};
@@ -54,19 +55,32 @@ fn take_run(
     n
 }
 
-// Whether no pair of an entry from k on is a run.
+// Whether pair j of an entry stands before pair k, or is no run.
+fn no_run(image: &[u8], g: Geometry, s: usize, at: usize, k: usize, j: usize) -> bool
+    requires { ⌜ Room g (now image) × Place g (now image) s at × (j < 4) ⌝ }
+    ensures { λ r. ⌜ r ≡ (ltb j k || unused g (now (image .entry)) s j) ⌝ }
+{
+    if j < k {
+        return true;
+    }
+    field_at(image, g, s, at, 0x16 + 2 * j) == 0xff
+}
+
+// Whether no pair of an entry from k on is a run. The four are written out: a loop from k on takes twice as many steps.
 fn no_runs(image: &[u8], g: Geometry, s: usize, at: usize, k: usize) -> bool
     requires { ⌜ Room g (now image) × Place g (now image) s at ⌝ }
     ensures { λ r. ⌜ r ≡ every (unused g (now (image .entry)) s) (count k (4 - k)) ⌝ }
 {
-    let mut j = k;
-    while j < 4 {
-        if field_at(image, g, s, at, 0x16 + 2 * j) != 0xff {
-            return false;
-        }
-        j += 1;
+    if !no_run(image, g, s, at, k, 0) {
+        return false;
     }
-    true
+    if !no_run(image, g, s, at, k, 1) {
+        return false;
+    }
+    if !no_run(image, g, s, at, k, 2) {
+        return false;
+    }
+    no_run(image, g, s, at, k, 3)
 }
 
 // What an entry's pairs gave: how many runs, and how many granules; or that they are not as they must be.

@@ -1,6 +1,7 @@
 //! The geometry of an image: stated, taken from a preset, or found.
 
 use crate::args::{Args, Spec};
+use crate::commands::counted;
 use crate::failure::Failure;
 use crate::json::Json;
 use genie_dos::{Counts, Disk, Geometry, Refusal};
@@ -130,7 +131,12 @@ impl Wanted {
     /// The geometry to work with: the one stated, or the only one that fits.
     pub fn find(&self, image: &[u8], path: &str) -> Result<Geometry, Failure> {
         if let Some(geometry) = self.whole() {
-            return Ok(geometry);
+            return match Disk::new(image, geometry).check() {
+                Err(Refusal::Geometry) => {
+                    Err(Failure::image(path)(Refusal::Geometry).because(fault(geometry, image.len())))
+                }
+                _ => Ok(geometry),
+            };
         }
         match self.consistent(image).as_slice() {
             [] => Err(self.none_fits(image.len(), path)),
@@ -157,6 +163,25 @@ impl Wanted {
             _ => Failure::image(path)(Refusal::Inconsistent)
                 .because(format!("under none of the {tried} geometries that fit its length{and_options}")),
         }
+    }
+}
+
+/// What is wrong with a geometry that the library refuses for an image of this length.
+pub fn fault(geometry: Geometry, image_len: usize) -> String {
+    let Geometry { blocks, units, start, .. } = geometry;
+    let Some(needed) = geometry.image_len() else {
+        let (most_blocks, most_units) = (Geometry::MOST_BLOCKS, Geometry::MOST_UNITS);
+        return format!("a disk has 1 to {most_blocks} blocks of 1 to {most_units} units, not {blocks} of {units}");
+    };
+    let disk = format!("a disk of {} of {}", counted(blocks, "block"), counted(units, "unit"));
+    match (needed / Geometry::SECTOR_BYTES).checked_sub(10) {
+        None => format!("{disk} has no room for a directory of 10 sectors"),
+        Some(last) if start % Geometry::GRANULE_SECTORS != 0 || start > last => {
+            format!(
+                "the directory of {disk} begins at a sector from 0 to {last} that is a multiple of 5, not at {start}"
+            )
+        }
+        Some(_) => format!("{disk} has {needed} bytes, the image {image_len}"),
     }
 }
 
@@ -202,6 +227,18 @@ mod tests {
             assert_eq!(named(preset.name).unwrap(), preset.geometry);
         }
         assert!(named("sd41").is_err());
+    }
+
+    #[test]
+    fn says_what_is_wrong_with_a_geometry() {
+        let fault = |blocks, units, start| fault(Geometry::new(blocks, units, start, 0), 40_960);
+        assert_eq!(fault(193, 2, 80), "a disk has 1 to 192 blocks of 1 to 8 units, not 193 of 2");
+        assert_eq!(fault(1, 1, 0), "a disk of 1 block of 1 unit has no room for a directory of 10 sectors");
+        let start =
+            "the directory of a disk of 16 blocks of 2 units begins at a sector from 0 to 150 that is a multiple of 5";
+        assert_eq!(fault(16, 2, 81), format!("{start}, not at 81"));
+        assert_eq!(fault(16, 2, 155), format!("{start}, not at 155"));
+        assert_eq!(fault(16, 3, 80), "a disk of 16 blocks of 3 units has 61440 bytes, the image 40960");
     }
 
     #[test]

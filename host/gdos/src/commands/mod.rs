@@ -222,7 +222,7 @@ fn open(disk: &Disk, image: &str, typed: &Typed, password: Password) -> Result<H
 }
 
 /// A number and its noun: `1 granule`, `2 granules`.
-fn counted(number: usize, noun: &str) -> String {
+pub fn counted(number: usize, noun: &str) -> String {
     format!("{number} {noun}{}", if number == 1 { "" } else { "s" })
 }
 

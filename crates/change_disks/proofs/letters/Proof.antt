@@ -1,8 +1,8 @@
 -- Nothing is to be kept from turn to turn.
 use borrow.Author.Needs.{needs}
 use Prim.Native.Nat.{ℕ, _-_}
-use Rattle.calls_on_disks.proofs.letters.Statement.{statement}
-use Rattle.calls_on_disks.proofs.letters.Tie as tie
+use Rattle.change_disks.proofs.letters.Statement.{statement}
+use Rattle.change_disks.proofs.letters.Tie as tie
 
 abbrev Inv-loop : tie.InvT-loop
 Inv-loop image₀ letter₀ image letter = Unit

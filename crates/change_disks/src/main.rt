@@ -1,5 +1,5 @@
-// Every call on prepared disks, with every refusal number that it can give. A line tells the call and its number; a number that is not
-// the one that 01's table gives is marked.
+// The calls that change a disk, with every refusal number that each can give. A line tells the call and its number; a number that is not
+// the one that 01's table gives is marked. (The calls that look: look_at_disks.)
 use meaning::Geometry;
 use meaning::Handle;
 use meaning::Mode;
@@ -86,12 +86,6 @@ fn elsewhere(h: Handle) -> Handle {
     x
 }
 
-fn without_length(h: Handle) -> Handle {
-    let mut x = h;
-    x.len = 0;
-    x
-}
-
 // Create -----------------------------------------------------------------------------------------------------------------
 
 fn created(
@@ -169,134 +163,6 @@ fn first_file(image: &mut [u8; 30720]) -> Handle {
     c.handle
 }
 
-// Look up and open -------------------------------------------------------------------------------------------------------
-
-fn looked_up(image: &[u8; 30720], g: Geometry, name: &[u8], words: &[u8], should: u8) {
-    let l = calls::look_up(image, g, name);
-    told(words, l.number, should);
-}
-
-fn looks_up(image: &mut [u8; 30720]) {
-    looked_up(
-        image,
-        other(),
-        b"PULS01  DAT",
-        b"look up, image length not as stated",
-        1,
-    );
-    damage(image);
-    looked_up(
-        image,
-        disk(),
-        b"PULS01  DAT",
-        b"look up, disk not consistent",
-        2,
-    );
-    repair(image);
-    looked_up(
-        image,
-        disk(),
-        b"PULS01 DAT",
-        b"look up, a name of 10 bytes",
-        3,
-    );
-    looked_up(image, disk(), b"LEER       ", b"look up, no such name", 4);
-    looked_up(image, disk(), b"PULS01  DAT", b"look up", 0);
-}
-
-fn opened(
-    image: &[u8; 30720],
-    g: Geometry,
-    name: &[u8],
-    len: usize,
-    code: u16,
-    words: &[u8],
-    should: u8,
-) {
-    let a = calls::open_file(image, g, name, len, true, code);
-    told(words, a.number, should);
-}
-
-fn opens(image: &mut [u8; 30720]) {
-    opened(
-        image,
-        other(),
-        b"PULS01  DAT",
-        16,
-        0x1111,
-        b"open, image length not as stated",
-        1,
-    );
-    damage(image);
-    opened(
-        image,
-        disk(),
-        b"PULS01  DAT",
-        16,
-        0x1111,
-        b"open, disk not consistent",
-        2,
-    );
-    repair(image);
-    opened(
-        image,
-        disk(),
-        b"PULS01  DAT",
-        0,
-        0x1111,
-        b"open, length 0",
-        12,
-    );
-    opened(
-        image,
-        disk(),
-        b"puls01  DAT",
-        16,
-        0x1111,
-        b"open, small letters",
-        3,
-    );
-}
-
-fn opens_more(image: &[u8; 30720]) {
-    opened(
-        image,
-        disk(),
-        b"LEER       ",
-        16,
-        0x1111,
-        b"open, no such name",
-        4,
-    );
-    opened(
-        image,
-        disk(),
-        b"PULS01  DAT",
-        16,
-        0x1112,
-        b"open, wrong code",
-        5,
-    );
-    opened(
-        image,
-        disk(),
-        b"PULS01  DAT",
-        16,
-        0x1111,
-        b"open, main code",
-        0,
-    );
-    opened(
-        image,
-        disk(),
-        b"PULS01  DAT",
-        16,
-        0x2222,
-        b"open, worker code",
-        0,
-    );
-}
-
 // Write and allot --------------------------------------------------------------------------------------------------------
 
 fn written(image: &mut [u8; 30720], g: Geometry, h: Handle, words: &[u8], should: u8) {
@@ -372,81 +238,6 @@ fn allots_more(image: &mut [u8; 30720], h: Handle) {
     growth(image);
     allotted(image, disk(), h, 7679, b"allot, sector 7,679", 9);
     allotted(image, disk(), h, 19, b"allot, four granules", 0);
-}
-
-// Read record and read sector --------------------------------------------------------------------------------------------
-
-fn read_at(image: &[u8; 30720], g: Geometry, h: Handle, words: &[u8], should: u8) {
-    let mut buffer = [0u8; 16];
-    let a = calls::read_record(image, g, h, &mut buffer);
-    told(words, a.number, should);
-}
-
-fn reads(image: &mut [u8; 30720], h: Handle) {
-    read_at(
-        image,
-        other(),
-        h,
-        b"read record, image length not as stated",
-        1,
-    );
-    damage(image);
-    read_at(image, disk(), h, b"read record, disk not consistent", 2);
-    repair(image);
-    read_at(
-        image,
-        disk(),
-        without_length(h),
-        b"read record, length 0",
-        12,
-    );
-    read_at(image, disk(), elsewhere(h), b"read record, handle stale", 7);
-}
-
-fn reads_more(image: &[u8; 30720], h: Handle) {
-    read_at(image, disk(), levelled(h, 6), b"read record, level 6", 6);
-    read_at(
-        image,
-        disk(),
-        placed(h, 1),
-        b"read record, past the size",
-        10,
-    );
-    read_at(image, disk(), levelled(h, 5), b"read record, level 5", 0);
-}
-
-fn sector(image: &[u8; 30720], g: Geometry, h: Handle, k: usize, words: &[u8], should: u8) {
-    let p = calls::sector_part(image, g, h, k);
-    told(words, p.number, should);
-}
-
-fn sectors(image: &mut [u8; 30720], h: Handle) {
-    sector(
-        image,
-        other(),
-        h,
-        0,
-        b"read sector, image length not as stated",
-        1,
-    );
-    damage(image);
-    sector(image, disk(), h, 0, b"read sector, disk not consistent", 2);
-    repair(image);
-    sector(image, disk(), h, 7680, b"read sector 7,680", 12);
-    sector(
-        image,
-        disk(),
-        elsewhere(h),
-        0,
-        b"read sector, handle stale",
-        7,
-    );
-}
-
-fn sectors_more(image: &[u8; 30720], h: Handle) {
-    sector(image, disk(), levelled(h, 6), 0, b"read sector, level 6", 6);
-    sector(image, disk(), h, 1, b"read sector 1 of 1", 10);
-    sector(image, disk(), h, 0, b"read sector 0", 0);
 }
 
 // No slot left -----------------------------------------------------------------------------------------------------------
@@ -594,51 +385,9 @@ fn brings_more(image: &mut [u8; 30720]) {
     brought(image, disk(), 0x80, b"bring back, slot in use again", 17);
 }
 
-// List and counts --------------------------------------------------------------------------------------------------------
-
-fn listed(image: &[u8; 30720], g: Geometry, words: &[u8], should: u8) {
-    let f = calls::list(image, g, 0);
-    told(words, f.number, should);
-}
-
-fn counted(image: &[u8; 30720], g: Geometry, words: &[u8], should: u8) {
-    let c = calls::counts(image, g);
-    told(words, c.number, should);
-}
-
-fn lists(image: &mut [u8; 30720]) {
-    listed(image, other(), b"list, image length not as stated", 1);
-    damage(image);
-    listed(image, disk(), b"list, disk not consistent", 2);
-    repair(image);
-    listed(image, disk(), b"list", 0);
-}
-
-fn counts(image: &mut [u8; 30720]) {
-    counted(image, other(), b"counts, image length not as stated", 1);
-    damage(image);
-    counted(image, disk(), b"counts, disk not consistent", 2);
-    repair(image);
-    counted(image, disk(), b"counts", 0);
-}
-
-fn space_and_names(image: &mut [u8; 30720]) -> Handle {
-    creates(image);
-    let h = first_file(image);
-    creates_old(image);
-    looks_up(image);
-    opens(image);
-    opens_more(image);
-    h
-}
-
 fn bytes(image: &mut [u8; 30720], h: Handle) {
     writes(image, h);
     writes_more(image, h);
-    reads(image, h);
-    reads_more(image, h);
-    sectors(image, h);
-    sectors_more(image, h);
 }
 
 fn granules(image: &mut [u8; 30720], h: Handle) {
@@ -653,11 +402,11 @@ fn granules(image: &mut [u8; 30720], h: Handle) {
 fn main() {
     let mut image = [0u8; 30720];
     reserve(&mut image);
-    let h = space_and_names(&mut image);
+    creates(&mut image);
+    let h = first_file(&mut image);
+    creates_old(&mut image);
     bytes(&mut image, h);
     granules(&mut image, h);
-    lists(&mut image);
-    counts(&mut image);
     kills(&mut image, h);
     kills_more(&mut image, h);
     brings(&mut image);

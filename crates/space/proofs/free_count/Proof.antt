@@ -1,14 +1,14 @@
-use Rattle.listing.proofs.Clear.{Freeing, freeing-start, freeing-step, freeing-end}
+use Rattle.space.proofs.Clear.{Freeing, freeing-start, freeing-step, freeing-end}
 use mathlib.Core.Path.{_≡_, sym}
 use Prim.Native.Nat.{ℕ, _-_, _≤_, _+_, _*_}
 use borrow.Author.Needs.{needs}
 use native.Mathlib.Omega.{arith}
-use Rattle.listing.proofs.free_count.Statement.{statement}
-use Rattle.listing.proofs.free_count.Tie as tie
-use Rattle.listing.proofs.free_count.Reads as reads
-use Rattle.listing.proofs.free_count.Lts as lts
+use Rattle.space.proofs.free_count.Statement.{statement}
+use Rattle.space.proofs.free_count.Tie as tie
+use Rattle.space.proofs.free_count.Reads as reads
+use Rattle.space.proofs.free_count.Lts as lts
 use Rattle.layout.proofs.wide.Reads as wide-reads
-use Rattle.listing.proofs.clear_bits.Reads as clear-bits-reads
+use Rattle.space.proofs.clear_bits.Reads as clear-bits-reads
 
 abbrev Inv-loop : tie.InvT-loop
 Inv-loop image g n₀ b₀ n b = (b ≤ g .blocks) × (n ≤ 8 * b) × Freeing g image b n

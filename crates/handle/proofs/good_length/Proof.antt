@@ -2,10 +2,10 @@ use Rattle.layout.proofs.Lists.{all-no, all-yes, all-one}
 use Rattle.meaning.specs.Refusals.{goodLength}
 use borrow.Author.Tests.{le-leb, lt-leb}
 use mathlib.Core.Path.{sym, _∙_}
-use Rattle.find.proofs.good_length.Statement.{statement}
-use Rattle.find.proofs.good_length.Tie as tie
-use Rattle.find.proofs.good_length.Reads as reads
-use Rattle.find.proofs.good_length.Lts as lts
+use Rattle.handle.proofs.good_length.Statement.{statement}
+use Rattle.handle.proofs.good_length.Tie as tie
+use Rattle.handle.proofs.good_length.Reads as reads
+use Rattle.handle.proofs.good_length.Lts as lts
 
 -- src/lib.rt:193:9
 returns : tie.Need-returns

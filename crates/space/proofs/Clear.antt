@@ -1,37 +1,64 @@
 -- FREE by the GAT's bytes: the clear bits of one block after the other.
-use mathlib.Core.Path.{_≡_, refl, sym, ap, _∙_}
+use mathlib.Core.Path.{_≡_, refl, sym, ap, ap₂, _∙_}
 use mathlib.Core.List.{List, [], _∷_}
-use mathlib.Core.Bool.{Bool, true, false, not, cond}
+use mathlib.Core.Bool.{Bool, true, false, not, cond, _&&_}
 use Prim.Native.Nat.{ℕ, zero, suc, _+_, _-_, _*_, _/_, _%_, _^_, _≤_, _<_}
 use native.Mathlib.Omega.{arith}
 use native.Mathlib.Decide.{ℕ-discrete}
-use native.Mathlib.Nat.{zero-add, add-zero, sub-zero, add-mul, one-mul, zero-mul, mul-add-div-right, mul-add-mod-self-right, div-eq-of-lt, mod-eq-of-lt, div-one, div-div-eq-div-mul, pow-succ', mul-comm}
+use native.Mathlib.Nat.{zero-add, add-zero, sub-zero, add-mul, one-mul, zero-mul, mul-add-div-right, mul-add-mod-self-right, div-eq-of-lt, mod-eq-of-lt, div-one, div-div-eq-div-mul, pow-succ', pow-suc, mul-comm, mod-one, div-add-mod'}
 use lib.ListN.{length}
 use lib.Dec.{eqb}
-use borrow.Author.Tests.{eq-eqb, ne-eqb}
-use Rattle.meaning.specs.Lists.{count, keep}
+use lib.Arith.{mod-mul}
+use lib.Pow.{pow-pos}
+use lib.Count.{ones, ones-step}
+use borrow.Author.Tests.{eq-eqb, ne-eqb, eqb-true}
+use Rattle.meaning.specs.Lists.{count, keep, every}
 use Rattle.meaning.specs.Layout.{byte, granules, taken}
 use Rattle.meaning.specs.Bits.{digit}
 use Rattle.meaning.specs.Free.{freeGranules}
 use Rattle.meaning.specs.declared.Geometry.{Geometry}
 use Rattle.layout.proofs.Laws.{digit-at, left-more, left-none}
 use Rattle.layout.proofs.Lists.{keep-yes, keep-no}
-use Rattle.listing.specs.Clear.{clearBits}
+use Rattle.seek.proofs.Below.{allBelow, all-below}
+use Rattle.space.specs.Clear.{clearBits}
 
--- one bit more
-pub clear-more : (n left x all : ℕ) → all ≡ n + clearBits left x → 0 < left → all ≡ n + (1 - x % 2) + clearBits (left - 1) (x / 2)
-unfolding clearBits
-clear-more n zero x all e h = absurd (let z : ⊥ = omega arith in z)
-clear-more n (suc left) x all e h =
-    let q : suc left - 1 ≡ left = omega arith in
-    let z : n + ((1 - x % 2) + clearBits left (x / 2)) ≡ n + (1 - x % 2) + clearBits left (x / 2) = omega arith in
-    e ∙ z ∙ ap (λ (m : ℕ). n + (1 - x % 2) + clearBits m (x / 2)) (sym q)
+pub shl-wide : (n : ℕ) → n ≤ 8 → 1 * 2 ^ n % 18446744073709551616 ≡ 2 ^ n
+shl-wide n h = eqb-true _ _ (all-below 9 (λ n. eqb (1 * 2 ^ n % 18446744073709551616) (2 ^ n)) refl n (omega arith))
 
-pub clear-none : (n left x all : ℕ) → all ≡ n + clearBits left x → left ≤ 0 → n ≡ all
-unfolding clearBits
-clear-none n left x all e h =
-    let q : left ≡ 0 = omega arith in
-    sym (e ∙ ap (λ (m : ℕ). n + clearBits m x) q ∙ add-zero n)
+-- clear and set bits together are all of them
+pub clear-ones : (n x : ℕ) → clearBits n x + ones (x % 2 ^ n) ≡ n
+unfolding clearBits ones
+clear-ones zero x = zero-add (ones (x % 1)) ∙ ap ones (mod-one x)
+clear-ones (suc n) x =
+    let m = x / 2 % 2 ^ n in
+    let e : x % 2 ^ suc n ≡ m * 2 + x % 2 = ap (λ (k : ℕ). x % k) (pow-suc 2 n) ∙ mod-mul x (pow-pos n) (omega arith) in
+    let p : (m * 2 + x % 2) % 2 ≡ x % 2 = omega arith in
+    let q : (m * 2 + x % 2) / 2 ≡ m = omega arith in
+    let f : ones (x % 2 ^ suc n) ≡ x % 2 + ones m = ap ones e ∙ ones-step (m * 2 + x % 2) ∙ ap₂ (λ (a b : ℕ). a + ones b) p q in
+    let ih = clear-ones n (x / 2) in
+    omega arith
+
+alike : Bool → Bool → Bool
+alike a b = cond a b (not b)
+
+alike-eq : (a b : Bool) → alike a b ≡ true → a ≡ b
+unfolding alike
+alike-eq true b e = sym e
+alike-eq false true e = e
+alike-eq false false e = refl
+
+-- all of them are set, by computing every case
+unfoldable filled : ℕ → ℕ → Bool
+unfolding clearBits alike
+filled n x = alike (eqb (x % 2 ^ n) (2 ^ n - 1)) (eqb (clearBits n x) 0)
+
+filled-all : allBelow 9 (λ n. allBelow 256 (filled n)) ≡ true
+unfolding filled clearBits alike
+filled-all = refl
+
+pub set-all : (n x : ℕ) → n ≤ 8 → x < 256 → eqb (x % 2 ^ n) (2 ^ n - 1) ≡ eqb (clearBits n x) 0
+unfolding filled
+set-all n x h l = alike-eq _ _ (all-below 256 (filled n) (all-below 9 (λ n. allBelow 256 (filled n)) filled-all n (omega arith)) x l)
 
 clear-of : (y : ℕ) → cond (eqb (y % 2) 1) 0 1 ≡ 1 - y % 2
 clear-of y = by (ℕ-discrete (y % 2) 1)
@@ -107,6 +134,23 @@ module _ (g : Geometry) (d : List ℕ) where
     free-block b =
         ap (λ (k : ℕ). freeIn k (g .units)) (sym (add-zero (b * g .units))) ∙ free-bits b 0 (g .units) (omega arith)
         ∙ ap (clearBits (g .units)) (div-one (gatByte b))
+
+  -- none of n granules from i on is free: all are taken
+  free-every : (i n : ℕ) → eqb (freeIn i n) 0 ≡ every (taken g d) (count i n)
+  free-every i zero = ap (λ (k : ℕ). eqb k 0) (free-none i)
+  free-every i (suc n) = ap (λ (k : ℕ). eqb k 0) (free-one i n) ∙ by (taken g d i) (free-every (i + 1) n)
+    where
+      by : (t : Bool) → eqb (freeIn (i + 1) n) 0 ≡ every (taken g d) (count (i + 1) n) → eqb (cond t 0 1 + freeIn (i + 1) n) 0 ≡ (t && every (taken g d) (count (i + 1) n))
+      by true e = ap (λ (k : ℕ). eqb k 0) (zero-add (freeIn (i + 1) n)) ∙ e
+      by false e = ne-eqb (1 + freeIn (i + 1) n) 0 (λ q. let z : ⊥ = omega arith in z)
+
+  -- the block that begins with granule n
+  pub block-every : (n : ℕ) {x : ℕ} → 0 < g .units → n % g .units ≡ 0 → x ≡ byte d (256 * g .start + n / g .units) → eqb (clearBits (g .units) x) 0 ≡ every (taken g d) (count n (g .units))
+  unfolding gatByte
+  block-every n {x} some h e =
+      let q : n / g .units * g .units ≡ n = sym (add-zero _) ∙ ap (λ (k : ℕ). n / g .units * g .units + k) (sym h) ∙ div-add-mod' n (g .units) in
+      ap (λ (k : ℕ). eqb (clearBits (g .units) k) 0) e ∙ ap (λ (k : ℕ). eqb k 0) (sym (free-block some (n / g .units)) ∙ ap (λ (k : ℕ). freeIn k (g .units)) q)
+      ∙ free-every n (g .units)
 
   -- b blocks are done, n granules of them are free
   pub record Freeing (b n : ℕ) : Type 0 where
