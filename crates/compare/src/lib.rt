@@ -35,8 +35,10 @@ fn name_before(a: &[u8], p: usize, b: &[u8], q: usize) -> bool
 {
     let mut i = 0;
     while i < 11 {
-        if a[p + i] != b[q + i] {
-            return a[p + i] < b[q + i];
+        let x = a[p + i];
+        let y = b[q + i];
+        if x != y {
+            return x < y;
         }
         i += 1;
     }

@@ -1,3 +1,4 @@
+use Rattle.compare.proofs.Telling.{whole, first-refused, second-refused, accepted′}
 use borrow.Author.Needs.{needs}
 use Rattle.compare.proofs.compare_checked.Statement.{statement}
 use Rattle.compare.proofs.compare_checked.Tie as tie
@@ -12,7 +13,7 @@ tells-none-requires c κs = search needs
 
 -- src/lib.rt:438:9
 returns : tie.Need-returns
-returns c = ?
+returns c = first-refused _ _ _ _ _ (c .tells-none .ensures) (c .before .before .before .before .pre .0) (c .before .if1 .taken)
 
 -- src/lib.rt:441:9
 tells-none-requires-2 : tie.Need-tells-none-requires-2
@@ -20,15 +21,15 @@ tells-none-requires-2 c κs = search needs
 
 -- src/lib.rt:441:9
 returns-2 : tie.Need-returns-2
-returns-2 c = ?
+returns-2 c = second-refused _ _ _ _ _ (c .tells-none2 .ensures) (c .before .before .before .before .before .pre .0) (c .before .before .if1 .left) (c .before .before .before .before .before .pre .1) (c .before .if2 .taken)
 
 -- src/lib.rt:443:5
 told-requires : tie.Need-told-requires
-told-requires c κs = ?
+told-requires c κs = (whole _ _ (c .before .before .before .before .pre .0) (c .before .if1 .left), whole _ _ (c .before .before .before .before .pre .1) (c .if2 .left))
 
 -- src/lib.rt:425:1
 returns-3 : tie.Need-returns-3
-returns-3 c = ?
+returns-3 c = accepted′ _ _ _ _ _ (c .told .ensures) (c .before .before .before .before .before .pre .0) (c .before .before .if1 .left) (c .before .before .before .before .before .pre .1) (c .before .if2 .left)
 
 pub compare-checked-spec : {M : Type 1} → statement M
 compare-checked-spec =

@@ -1,3 +1,4 @@
+use Rattle.compare.proofs.Attributes.{differs-is}
 use borrow.Author.Needs.{needs}
 use Rattle.compare.proofs.differs_at.Statement.{statement}
 use Rattle.compare.proofs.differs_at.Tie as tie
@@ -15,7 +16,7 @@ field-requires-2 c κs = search needs
 
 -- src/lib.rt:227:1
 returns : tie.Need-returns
-returns c = ?
+returns c = differs-is _ _ _ _ _ _ _ (c .before .field .ensures .is) (c .field2 .ensures .is)
 
 pub differs-at-spec : {M : Type 1} → statement M
 differs-at-spec = tie.close (tie.spec field-requires field-requires-2 returns)

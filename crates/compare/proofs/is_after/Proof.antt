@@ -1,3 +1,6 @@
+use mathlib.Core.Path.{_∙_}
+use Rattle.differences.specs.Compare.{before}
+use Rattle.compare.proofs.Names.{placed-name, whole-name}
 use borrow.Author.Needs.{needs}
 use Rattle.compare.proofs.is_after.Statement.{statement}
 use Rattle.compare.proofs.is_after.Tie as tie
@@ -16,7 +19,7 @@ name-before-requires c κs = search needs
 
 -- src/lib.rt:55:1
 returns : tie.Need-returns
-returns c = ?
+returns c = let a = c .before .before .before .before .args in let x = whole-name (a .last .now) (c .before .before .before .before .pre .2) in let y = placed-name (a .g) (a .image .now) (a .s) _ (c .before .name-place .ensures) in c .name-before .ensures ∙ (λ i. before (x i) (y i))
 
 pub is-after-spec : {M : Type 1} → statement M
 is-after-spec = tie.close (tie.spec name-place-requires name-before-requires returns)

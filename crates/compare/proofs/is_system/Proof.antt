@@ -1,3 +1,5 @@
+use mathlib.Core.Path.{sym}
+use Rattle.layout.proofs.Laws.{digit-at}
 use borrow.Author.Needs.{needs}
 use Rattle.compare.proofs.is_system.Statement.{statement}
 use Rattle.compare.proofs.is_system.Tie as tie
@@ -11,7 +13,7 @@ field-requires c κs = search needs
 
 -- src/lib.rt:354:1
 returns : tie.Need-returns
-returns c = ?
+returns c = simp (sym (c .field .ensures .is), digit-at)
 
 pub is-system-spec : {M : Type 1} → statement M
 is-system-spec = tie.close (tie.spec field-requires returns)

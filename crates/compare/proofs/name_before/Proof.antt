@@ -1,69 +1,56 @@
+use Prim.Native.Nat.{_-_}
+use Rattle.compare.proofs.Names.{Alike, alike-start, alike-on, alike-stop, alike-end}
+use borrow.Author.Needs.{needs}
 use Rattle.compare.proofs.name_before.Statement.{statement}
 use Rattle.compare.proofs.name_before.Tie as tie
 use Rattle.compare.proofs.name_before.Reads as reads
 use Rattle.compare.proofs.name_before.Lts as lts
 
 abbrev Inv-loop : tie.InvT-loop
-Inv-loop a p b q i₀ i = ?
+Inv-loop a p b q i₀ i = Alike a p b q i
 
 abbrev μ-loop : tie.MeasureT-loop
-μ-loop a p b q i₀ i = ?
+μ-loop a p b q i₀ i = 11 - i
 
 -- src/lib.rt:37:5
 loop-holds : tie.Need-loop-holds Inv-loop μ-loop
-loop-holds c = ?
+loop-holds c = alike-start _ _ _ _
 
--- src/lib.rt:38:14
-add-if1 : tie.Need-add-if1 Inv-loop μ-loop
-add-if1 c = ?
+-- src/lib.rt:38:19
+add-x : tie.Need-add-x Inv-loop μ-loop
+add-x c = search needs
 
--- src/lib.rt:38:12
-shared-slice-read-if1 : tie.Need-shared-slice-read-if1 Inv-loop μ-loop
-shared-slice-read-if1 c = ?
+-- src/lib.rt:38:17
+shared-slice-read-x : tie.Need-shared-slice-read-x Inv-loop μ-loop
+shared-slice-read-x c = search needs
 
--- src/lib.rt:38:26
-add-if1-2 : tie.Need-add-if1-2 Inv-loop μ-loop
-add-if1-2 c = ?
+-- src/lib.rt:39:19
+add-y : tie.Need-add-y Inv-loop μ-loop
+add-y c = search needs
 
--- src/lib.rt:38:24
-shared-slice-read-if1-2 : tie.Need-shared-slice-read-if1-2 Inv-loop μ-loop
-shared-slice-read-if1-2 c = ?
+-- src/lib.rt:39:17
+shared-slice-read-y : tie.Need-shared-slice-read-y Inv-loop μ-loop
+shared-slice-read-y c = search needs
 
--- src/lib.rt:39:22
-add-result : tie.Need-add-result Inv-loop μ-loop
-add-result c = ?
-
--- src/lib.rt:39:20
-shared-slice-read-result : tie.Need-shared-slice-read-result Inv-loop μ-loop
-shared-slice-read-result c = ?
-
--- src/lib.rt:39:33
-add-result-2 : tie.Need-add-result-2 Inv-loop μ-loop
-add-result-2 c = ?
-
--- src/lib.rt:39:31
-shared-slice-read-result-2 : tie.Need-shared-slice-read-result-2 Inv-loop μ-loop
-shared-slice-read-result-2 c = ?
-
--- src/lib.rt:39:13
+-- src/lib.rt:41:13
 returns : tie.Need-returns Inv-loop μ-loop
-returns c = ?
+returns c = alike-stop _ _ _ _ (c .before .before .before .loop-test .taken) (c .before .before .before .before .before .pre .0) (c .before .before .before .before .before .pre .1) (c .before .before .before .before .loop .inv) (c .if1 .taken)
 
--- src/lib.rt:41:9
+-- src/lib.rt:43:9
 add-i : tie.Need-add-i Inv-loop μ-loop
-add-i c = ?
+add-i c = search needs
 
 -- src/lib.rt:37:5
 loop-less : tie.Need-loop-less Inv-loop μ-loop
-loop-less c = ?
+loop-less c = search needs
 
 -- src/lib.rt:37:5
 loop-again : tie.Need-loop-again Inv-loop μ-loop
-loop-again c = ?
+loop-again c = alike-on _ _ _ _ (c .before .before .before .loop-test .taken) (c .before .before .before .before .before .pre .0) (c .before .before .before .before .before .pre .1) (c .before .before .before .before .loop .inv) (c .if1 .left)
 
 -- src/lib.rt:32:1
 returns-2 : tie.Need-returns-2 Inv-loop μ-loop
-returns-2 c = ?
+returns-2 c = alike-end _ _ _ _ (c .loop-test .left) (c .before .loop .inv)
 
 pub name-before-spec : {M : Type 1} → statement M
 name-before-spec =
@@ -72,14 +59,10 @@ name-before-spec =
     Inv-loop
     μ-loop
     loop-holds
-    add-if1
-    shared-slice-read-if1
-    add-if1-2
-    shared-slice-read-if1-2
-    add-result
-    shared-slice-read-result
-    add-result-2
-    shared-slice-read-result-2
+    add-x
+    shared-slice-read-x
+    add-y
+    shared-slice-read-y
     returns
     add-i
     loop-less

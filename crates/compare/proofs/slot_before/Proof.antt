@@ -1,3 +1,6 @@
+use mathlib.Core.Path.{_∙_}
+use Rattle.differences.specs.Compare.{before}
+use Rattle.compare.proofs.Names.{placed-name}
 use borrow.Author.Needs.{needs}
 use Rattle.compare.proofs.slot_before.Statement.{statement}
 use Rattle.compare.proofs.slot_before.Tie as tie
@@ -20,7 +23,7 @@ name-before-requires c κs = search needs
 
 -- src/lib.rt:64:1
 returns : tie.Need-returns
-returns c = ?
+returns c = let a = c .before .before .before .before .before .args in let x = placed-name (a .g) (a .first .now) (a .s) _ (c .before .before .name-place .ensures) in let y = placed-name (a .h) (a .second .now) (a .t) _ (c .before .name-place2 .ensures) in c .name-before .ensures ∙ (λ i. before (x i) (y i))
 
 pub slot-before-spec : {M : Type 1} → statement M
 slot-before-spec =

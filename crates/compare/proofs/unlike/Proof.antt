@@ -1,3 +1,6 @@
+use mathlib.Core.Path.{refl, _∙_}
+use Rattle.compare.proofs.Attributes.{unlike-is}
+use Rattle.compare.proofs.Names.{placed-name}
 use borrow.Author.Needs.{needs}
 use Rattle.compare.proofs.unlike.Statement.{statement}
 use Rattle.compare.proofs.unlike.Tie as tie
@@ -22,7 +25,7 @@ size-of-requires-2 c κs = search needs
 
 -- src/lib.rt:333:9
 parting-at-requires : tie.Need-parting-at-requires
-parting-at-requires c κs = search needs
+parting-at-requires c κs = (c .before .before .before .before .pre .0, c .before .before .before .before .pre .1, c .before .before .before .before .pre .2, c .before .before .before .before .pre .3, c .before .size-of .ensures .is, c .size-of2 .ensures .is, c .before .size-of .ensures .small, c .size-of2 .ensures .small)
 
 -- src/lib.rt:334:9
 contents-differ-requires : tie.Need-contents-differ-requires
@@ -50,7 +53,7 @@ name-at-requires c κs = search needs
 
 -- src/lib.rt:327:1
 returns : tie.Need-returns
-returns c = ?
+returns c = let a = c .before .before .before .before .before .before .before .before .before .before .before .args in unlike-is (a .g) (a .first .now) (a .h) (a .second .now) (a .s) (a .t) (c .name-at .ensures ∙ placed-name (a .g) (a .first .now) (a .s) _ (c .before .name-place .ensures)) (c .before .before .before .before .before .before .before .before .size-of .ensures .is) (c .before .before .before .before .before .before .before .size-of2 .ensures .is) (c .before .before .before .before .before .before .parting-at .ensures) (c .before .before .before .before .before .contents-differ .ensures) refl (c .before .before .before .before .dates-differ .ensures) (c .before .before .before .others-differ .ensures) (c .before .before .kind-of .ensures)
 
 pub unlike-spec : {M : Type 1} → statement M
 unlike-spec =
