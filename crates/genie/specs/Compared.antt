@@ -20,7 +20,7 @@ tellsDifference b x = (x .number, x .image, x .kind, x .at, flagsOf x, cond (eqb
 
 -- A name buffer under 11 bytes is 12, after 1 and 2 of both images, and names neither.
 unfoldable pub shortOf : ℕ → ℕ → List ℕ → ℕ × ℕ × ℕ × ℕ × ℕ × List ℕ
-shortOf no no′ b = cond (accepted no) (cond (accepted no′) (12, 0, 0, 0, 0, b) (no′, 2, 0, 0, 0, b)) (no, 1, 0, 0, 0, b)
+shortOf m n b = cond (accepted m) (cond (accepted n) (12, 0, 0, 0, 0, b) (n, 2, 0, 0, 0, b)) (m, 1, 0, 0, 0, b)
 
 abbrev pub exportedCompare : Geometry → List ℕ → Geometry → List ℕ → ℕ → List ℕ → ℕ × ℕ × ℕ × ℕ × ℕ × List ℕ
 exportedCompare g d g′ d′ i b = long 11 b (shortOf (check g d) (check g′ d′) b) (tellsDifference b (compare g d g′ d′ i))
