@@ -13,14 +13,14 @@ use Rattle.meaning.specs.Entries.{nameOf, sizeOf, system}
 use Rattle.meaning.specs.Read.{fetch}
 use Rattle.meaning.specs.Plain.{fileAt}
 use Rattle.meaning.specs.declared.Geometry.{Geometry}
-use Rattle.layout.proofs.Lists.{any-skip, all-no, all-yes, all-one}
+use Rattle.layout.proofs.Lists.{any-skip, any-hit, all-no, all-yes, all-one}
 use Rattle.read.proofs.Laws.{length-fetch}
 use Rattle.differences.specs.Compare.{parting, nameOnly, unlike, difference}
 use Rattle.differences.specs.Parting.{same-parting}
 use Rattle.differences.specs.declared.Difference.{Difference}
 use Rattle.compare.specs.Walk.{nameAt, onFirst, onSecond, differsAt, datesDiffer, othersDiffer, contentsDiffer, kindOf}
 use Rattle.compare.specs.declared.Pair.{Pair}
-use Rattle.compare.proofs.Lowest.{any-none, any-yes}
+use Rattle.compare.proofs.Lowest.{any-none}
 
 module _ (g : Geometry) (d : List ℕ) (h : Geometry) (e : List ℕ) where
   pub differs-is : (s t k : ℕ) {x y : ℕ} → x ≡ field g d s k → y ≡ field h e t k → not (eqb x y) ≡ differsAt g d h e s t k
@@ -157,11 +157,11 @@ module _ (g : Geometry) (d : List ℕ) (h : Geometry) (e : List ℕ) where
       on-both = rw (ne-eqb (p .kind) 1 k, ne-eqb (p .kind) 2 l)
 
       pub diff-system : {x : Difference} → system g d (p .first) ≡ true → x ≡ nameOnly (nameOf g d (p .first)) 0 → x ≡ difference (nameAt g d h e p) (onFirst g d h e p) (onSecond g d h e p)
-      diff-system u q = q ∙ sym (on-both ∙ ap (λ (b : Bool). cond b (nameOnly (nameOf g d (p .first)) 0) (unlike (nameOf g d (p .first)) (fileAt g d (p .first)) (fileAt h e (p .second)))) (any-yes u _))
+      diff-system u q = q ∙ sym (on-both ∙ ap (λ (b : Bool). cond b (nameOnly (nameOf g d (p .first)) 0) (unlike (nameOf g d (p .first)) (fileAt g d (p .first)) (fileAt h e (p .second)))) (any-hit u _))
 
       module _ (u : system g d (p .first) ≡ false) where
         pub diff-system-2 : {x : Difference} → system h e (p .second) ≡ true → x ≡ nameOnly (nameOf g d (p .first)) 0 → x ≡ difference (nameAt g d h e p) (onFirst g d h e p) (onSecond g d h e p)
-        diff-system-2 v q = q ∙ sym (on-both ∙ ap (λ (b : Bool). cond b (nameOnly (nameOf g d (p .first)) 0) (unlike (nameOf g d (p .first)) (fileAt g d (p .first)) (fileAt h e (p .second)))) (any-skip u _ ∙ any-yes v _))
+        diff-system-2 v q = q ∙ sym (on-both ∙ ap (λ (b : Bool). cond b (nameOnly (nameOf g d (p .first)) 0) (unlike (nameOf g d (p .first)) (fileAt g d (p .first)) (fileAt h e (p .second)))) (any-skip u _ ∙ any-hit v _))
 
         pub diff-unlike : {x : Difference} → system h e (p .second) ≡ false → x ≡ unlike (nameOf g d (p .first)) (fileAt g d (p .first)) (fileAt h e (p .second)) → x ≡ difference (nameAt g d h e p) (onFirst g d h e p) (onSecond g d h e p)
         diff-unlike v q =

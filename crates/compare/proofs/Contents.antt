@@ -10,13 +10,14 @@ use native.Mathlib.Numerals.{add-one}
 use lib.ListN.{length, getD, take, drop, drop-of-length-le}
 use lib.Seq.{drop-cons}
 use Rattle.meaning.specs.Entries.{sizeOf, inUse, extension, primary}
+use Rattle.meaning.specs.Layout.{granuleBytes}
 use Rattle.meaning.specs.Chain.{owned, place}
 use Rattle.meaning.specs.Read.{fetch}
 use Rattle.meaning.specs.declared.Geometry.{Geometry}
 use Rattle.layout.proofs.Lists.{and-l, le-or-lt}
 use Rattle.seek.specs.Seek.{Sound, Used}
-use Rattle.seek.proofs.Sound.{owned-low}
-use Rattle.read.proofs.Laws.{map-run, place-next, fetch-append, length-fetch}
+use Rattle.read.specs.Part.{File, Owned, InGranule}
+use Rattle.read.proofs.Laws.{place-fits, fetch-part, fetch-append, length-fetch}
 use Rattle.differences.specs.Compare.{parting}
 use Rattle.differences.specs.Parting.{parting-none, parting-nothing, parting-on, parting-here, parting-past, parting-in}
 use Rattle.compare.specs.Walk.{Whole, Starts}
@@ -51,32 +52,34 @@ module _ (a b : List ℕ) where
   agree-end {i} h k =
       (sym (k .rest ∙ ap (λ (x : List ℕ). i + parting x (drop i b)) (drop-of-length-le a {i = i} h) ∙ ap (λ (x : ℕ). i + x) (parting-nothing (drop i b)) ∙ add-zero i), k .low)
 
--- bytes in one granule follow one another in the image
+-- bytes of a file in one granule, as a part of the image that is lent on
 module _ (g : Geometry) (d : List ℕ) (s : ℕ) (w : Whole g d) (st : Starts g d s) where
   pub used : Used g d s
   used = record { slot = st .slot; used = and-l (inUse g d s) _ (st .first′) }
 
-  module _ (i n : ℕ) (b : 1 ≤ n) (x : i % 1280 + n ≤ 1280) (y : i + n ≤ sizeOf g d s) where
+  module _ (i n : ℕ) (b : 1 ≤ n) (x : i % granuleBytes + n ≤ granuleBytes) (y : i + n ≤ sizeOf g d s) (z : i + n ≤ 16777215) where
+    file : File g d s
+    file = record { sound = w .sound; used = used }
+
+    held : Owned g d s i n
+    held = let q = w .sound .size s (st .slot) (st .first′) in record { some = b; owned = omega arith; high = z }
+
+    inside : InGranule i n
+    inside = record { inside = x }
+
     pub granule-fits : place g d s i + n ≤ length d
-    unfolding place
-    granule-fits =
-        let z = w .sound .size s (st .slot) (st .first′) in let r = w .sound .room .whole in
-        let l = owned-low g d (w .sound) s used (i / 1280) (omega arith) in
-        omega arith
+    granule-fits = place-fits g d s i n file held inside
 
-    pub granule-part : fetch g d s i n ≡ take n (drop (place g d s i) d)
-    unfolding fetch
-    granule-part = map-run d (place g d s) i (place g d s i) n (λ t q. place-next g d s i t (omega arith)) granule-fits
-
-    -- as a part of the image that is lent on
     pub part-is : {r : ℕ} → r ≡ place g d s i → take (r + n - r) (drop r d) ≡ fetch g d s i n
-    part-is {r} e = let z : r + n - r ≡ n = omega arith in ap (λ (k : ℕ). take k (drop r d)) z ∙ ap (λ (k : ℕ). take n (drop k d)) e ∙ sym granule-part
+    part-is {r} e =
+        let q : r + n - r ≡ n = omega arith in
+        ap (λ (k : ℕ). take k (drop r d)) q ∙ ap (λ (k : ℕ). take n (drop k d)) e ∙ sym (fetch-part g d s i n file held inside)
 
 -- two files are alike in the first i bytes
 module _ (g : Geometry) (d : List ℕ) (h : Geometry) (e : List ℕ) (s t n m end : ℕ) where
   pub record Matches (i : ℕ) : Type 0 where
     pub low : i ≤ end
-    pub start : i < end → i % 1280 ≡ 0
+    pub start : i < end → i % granuleBytes ≡ 0
     pub rest : parting (fetch g d s 0 n) (fetch h e t 0 m) ≡ i + parting (fetch g d s i (n - i)) (fetch h e t i (m - i))
 
   pub matches-start : Matches 0
@@ -100,7 +103,7 @@ module _ (g : Geometry) (d : List ℕ) (h : Geometry) (e : List ℕ) (s t n m en
         = ap (fetch h e t i) y ∙ fetch-append h e t i len (m - (i + len)) ∙ ap (λ (z : List ℕ). z ++ fetch h e t (i + len) (m - (i + len))) (sym q) in
         λ j. parting (u j) (v j)
 
-    pub matches-on : {c : ℕ} → c ≡ parting a b → c ≡ len → (i + len < end → len ≡ 1280) → i < end → Matches i → Matches (i + len)
+    pub matches-on : {c : ℕ} → c ≡ parting a b → c ≡ len → (i + len < end → len ≡ granuleBytes) → i < end → Matches i → Matches (i + len)
     matches-on r z g′ o k′ =
         let u = k′ .start o in
         let y : i + (length a + parting (fetch g d s (i + len) (n - (i + len))) (fetch h e t (i + len) (m - (i + len)))) ≡ i + len + parting (fetch g d s (i + len) (n - (i + len))) (fetch h e t (i + len) (m - (i + len)))

@@ -14,7 +14,7 @@ use Rattle.meaning.specs.Layout.{directorySectors}
 use Rattle.meaning.specs.Entries.{primary, nameOf}
 use Rattle.meaning.specs.declared.Geometry.{Geometry}
 use Rattle.layout.specs.Room.{Slot}
-use Rattle.layout.proofs.Lists.{all-at, all-yes, all-no, all-one, any-skip, le-or-lt}
+use Rattle.layout.proofs.Lists.{all-at, all-yes, all-no, all-one, any-skip, any-hit, any-one, le-or-lt}
 use Rattle.differences.specs.Compare.{before}
 use Rattle.differences.specs.Order.{never, before-self, before-back, before-on, before-neither}
 use Rattle.compare.specs.Walk.{Starts, betters, Least}
@@ -28,18 +28,9 @@ before-not a b c h k = by (before a c) refl (before b a) refl
     by true e true f = never (sym (before-on b a c f e) ∙ k)
     by true e false f = never (sym (subst (λ (z : List ℕ). before z c ≡ true) (before-neither a b h f) e) ∙ k)
 
-any-one : (b : Bool) → any (b ∷ []) ≡ b
-unfolding any
-any-one true = refl
-any-one false = refl
-
 pub any-none : any [] ≡ false
 unfolding any
 any-none = refl
-
-pub any-yes : {b : Bool} → b ≡ true → (bs : List Bool) → any (b ∷ bs) ≡ true
-unfolding any
-any-yes h bs = ap (λ (b : Bool). b || any bs) h
 
 module _ (g : Geometry) (d : List ℕ) (last : List ℕ) where
   module _ (best s : ℕ) where
@@ -54,7 +45,7 @@ module _ (g : Geometry) (d : List ℕ) (last : List ℕ) where
 
     pub betters-none : primary g d s ≡ true → before last (nameOf g d s) ≡ true → best ≡ 256 → true ≡ betters g d last best s
     unfolding betters
-    betters-none h k e = sym (all-yes h _ ∙ all-yes k _ ∙ all-one _ ∙ any-yes (eq-eqb best 256 e) _)
+    betters-none h k e = sym (all-yes h _ ∙ all-yes k _ ∙ all-one _ ∙ any-hit (eq-eqb best 256 e) _)
 
     pub betters-than : {r : Bool} → primary g d s ≡ true → before last (nameOf g d s) ≡ true → (best ≡ 256 → ⊥) → r ≡ before (nameOf g d s) (nameOf g d best) → r ≡ betters g d last best s
     unfolding betters

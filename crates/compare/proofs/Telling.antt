@@ -9,22 +9,20 @@ use lib.ListN.{length, getD, replicate, drop, length-map, length-append}
 use lib.Seq.{drop-nil}
 use lib.Dec.{T, eqb, leb, leb→le}
 use borrow.Author.Tests.{ne-eqb, eq-eqb}
-use Rattle.meaning.specs.Lists.{count, keep, any, all}
+use Rattle.meaning.specs.Lists.{count, length-count, keep, any, all}
 use Rattle.meaning.specs.Layout.{slots, isSlot, field}
 use Rattle.meaning.specs.Names.{letter, wellFormed}
 use Rattle.meaning.specs.Entries.{primary, nameOf}
 use Rattle.meaning.specs.Chain.{files}
 use Rattle.meaning.specs.Refusals.{check}
-use Rattle.meaning.specs.Plain.{Found, found, nothing, plain}
+use Rattle.meaning.specs.Plain.{isSystem, Found, found, nothing, plain}
 use Rattle.meaning.specs.declared.Geometry.{Geometry}
 use Rattle.laws.specs.Members
 use Rattle.laws.specs.Facts as facts
 use Rattle.laws.specs.Change as change
-use Rattle.layout.proofs.Lists.{length-count, all-at}
-use Rattle.layout.proofs.Sound.{slot-yes}
 use Rattle.handle.proofs.Laws.{checked}
 use Rattle.seek.proofs.Sound.{sound}
-use Rattle.differences.specs.Compare.{before, rising, nameOnly, systemFile, unlike, difference, isOne, tellsNone, tellFirst, names, merged, at′, differences, compare}
+use Rattle.differences.specs.Compare.{before, rising, nameOnly, unlike, difference, isOne, tellsNone, tellFirst, names, merged, at′, differences, compare}
 use Rattle.differences.specs.Order.{In, before-less, rising-length, keep-yes, keep-no, keep-whole}
 use Rattle.differences.specs.declared.Difference.{Difference}
 use Rattle.compare.specs.Walk.{Whole, Starts, later, nameAt, onFirst, onSecond, Next}
@@ -85,9 +83,9 @@ unfolding difference unlike
 difference-name n nothing nothing = refl
 difference-name n (found f) nothing = refl
 difference-name n nothing (found f) = refl
-difference-name n (found f) (found f′) = by (any (systemFile f ∷ systemFile f′ ∷ [])) refl
+difference-name n (found f) (found f′) = by (any (isSystem f ∷ isSystem f′ ∷ [])) refl
   where
-    by : (t : Bool) → any (systemFile f ∷ systemFile f′ ∷ []) ≡ t → difference n (found f) (found f′) .name ≡ n
+    by : (t : Bool) → any (isSystem f ∷ isSystem f′ ∷ []) ≡ t → difference n (found f) (found f′) .name ≡ n
     by true e = rw e
     by false e = rw e
 

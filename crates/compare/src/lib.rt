@@ -6,6 +6,7 @@ ghost use mathlib.Core.Path.{_≡_};
 ghost use mathlib.Core.Bool.{true};
 ghost use Prim.Native.Nat.{_+_, _*_, _<_, _≤_};
 ghost use lib.ListN.{length, take, drop};
+ghost use Rattle.meaning.specs.Layout.{granuleBytes};
 ghost use Rattle.meaning.specs.Entries.{nameOf, sizeOf, system};
 ghost use Rattle.meaning.specs.Refusals.{check};
 ghost use Rattle.meaning.specs.Read.{fetch};
@@ -177,7 +178,7 @@ fn alike(a: &[u8], b: &[u8]) -> usize
 // So many of the bytes from i up to `end` lie in the granule of byte i, which starts it.
 fn in_granule(i: usize, end: usize) -> usize
     requires { ⌜ i < end ⌝ }
-    ensures { λ r. ⌜ (i + r ≤ end) × (1 ≤ r) × (r ≤ 1280) × (((i + r) < end) → r ≡ 1280) ⌝ }
+    ensures { λ r. ⌜ (i + r ≤ end) × (1 ≤ r) × (r ≤ granuleBytes) × (((i + r) < end) → r ≡ granuleBytes) ⌝ }
 {
     if end - i < layout::GRANULE_BYTES {
         return end - i;

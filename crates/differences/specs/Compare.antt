@@ -5,11 +5,10 @@ use mathlib.Core.List.{List, [], _∷_, _++_, map}
 use lib.Dec.{eqb, ltb}
 use lib.ListN.{length, getD, replicate, drop}
 use Rattle.meaning.specs.Lists.{keep, same, any}
-use Rattle.meaning.specs.Bits.{bit}
 use Rattle.meaning.specs.Entries.{nameOf}
 use Rattle.meaning.specs.Chain.{files}
 use Rattle.meaning.specs.Refusals.{check, accepted}
-use Rattle.meaning.specs.Plain.{File, Found, found, nothing, plain}
+use Rattle.meaning.specs.Plain.{File, Found, found, nothing, isSystem, plain}
 use Rattle.meaning.specs.declared.Geometry.{Geometry}
 use Rattle.differences.specs.declared.Difference.{Difference}
 
@@ -41,10 +40,6 @@ parting (x ∷ xs) (y ∷ ys) = cond (eqb x y) (suc (parting xs ys)) 0
 -- A file's attributes are its entry bytes 00, 01, 02, 04 and 10 to 13: those are places 0, 1, 2, 3 and 4 to 7 of the list.
 abbrev attribute : File → ℕ → ℕ
 attribute f k = getD (f .attributes) k 0
-
--- bit 6 of byte 00
-abbrev pub systemFile : File → Bool
-systemFile f = bit 6 (attribute f 0)
 
 -- date (byte 02, low five bits of 01)
 abbrev pub dateOf : File → List ℕ
@@ -87,7 +82,7 @@ unfoldable pub difference : List ℕ → Found → Found → Difference
 difference n nothing nothing = nameOnly n 0
 difference n (found f) nothing = nameOnly n 1
 difference n nothing (found f′) = nameOnly n 2
-difference n (found f) (found f′) = cond (any (systemFile f ∷ systemFile f′ ∷ [])) (nameOnly n 0) (unlike n f f′)
+difference n (found f) (found f′) = cond (any (isSystem f ∷ isSystem f′ ∷ [])) (nameOnly n 0) (unlike n f f′)
 
 unfoldable pub isOne : Difference → Bool
 isOne x = not (eqb (x .kind) 0)

@@ -10,10 +10,10 @@ use lib.ListN.{length, getD, drop}
 use borrow.Author.Tests.{eqb-true, eqb-false, eq-eqb, ne-eqb}
 use Rattle.meaning.specs.Lists.{same, any}
 use Rattle.meaning.specs.LookUp.{named}
-use Rattle.meaning.specs.Plain.{File, Found, found, nothing, fileAt, foundIn, plain}
+use Rattle.meaning.specs.Plain.{isSystem, File, Found, found, nothing, fileAt, foundIn, plain}
 use Rattle.meaning.specs.declared.Geometry.{Geometry}
 use Rattle.laws.specs.Members
-use Rattle.differences.specs.Compare.{parting, systemFile, dateOf, othersOf, nameOnly, unlike, difference, isOne}
+use Rattle.differences.specs.Compare.{parting, dateOf, othersOf, nameOnly, unlike, difference, isOne}
 use Rattle.differences.specs.Order.{never}
 use Rattle.differences.specs.Parting.{parting-none, parting-nothing, parting-on, parting-here, parting-swap}
 use Rattle.differences.specs.declared.Difference.{Difference}
@@ -161,7 +161,7 @@ module _ (n : List ℕ) (f f′ : File) where
       by (one-holds p) = never (sym (one-is p) ∙ e)
 
   -- what is told of two files
-  unlike-says : systemFile f ≡ false → systemFile f′ ≡ false → Unlike (unlike n f f′) f f′
+  unlike-says : isSystem f ≡ false → isSystem f′ ≡ false → Unlike (unlike n f f′) f f′
   unfolding unlike
   unlike-says u v =
       record {
@@ -182,26 +182,26 @@ module _ (n : List ℕ) (f f′ : File) where
 
   -- one of the two is a system file, or neither is
   data Either : Type 0 where
-    named-only : any (systemFile f ∷ systemFile f′ ∷ []) ≡ true → (systemFile f ≡ true) ⊎ (systemFile f′ ≡ true) → Either
-    both-user : any (systemFile f ∷ systemFile f′ ∷ []) ≡ false → systemFile f ≡ false → systemFile f′ ≡ false → Either
+    named-only : any (isSystem f ∷ isSystem f′ ∷ []) ≡ true → (isSystem f ≡ true) ⊎ (isSystem f′ ≡ true) → Either
+    both-user : any (isSystem f ∷ isSystem f′ ∷ []) ≡ false → isSystem f ≡ false → isSystem f′ ≡ false → Either
 
-  any-two : (a b : Bool) → systemFile f ≡ a → systemFile f′ ≡ b → any (systemFile f ∷ systemFile f′ ∷ []) ≡ a || (b || false)
+  any-two : (a b : Bool) → isSystem f ≡ a → isSystem f′ ≡ b → any (isSystem f ∷ isSystem f′ ∷ []) ≡ a || (b || false)
   unfolding any
   any-two a b p q = λ i. p i || (q i || false)
 
   either : Either
-  either = by (systemFile f) refl (systemFile f′) refl
+  either = by (isSystem f) refl (isSystem f′) refl
     where
-      by : (a : Bool) → systemFile f ≡ a → (b : Bool) → systemFile f′ ≡ b → Either
+      by : (a : Bool) → isSystem f ≡ a → (b : Bool) → isSystem f′ ≡ b → Either
       by true p b q = named-only (any-two true b p q) (inl p)
       by false p true q = named-only (any-two false true p q) (inr q)
       by false p false q = both-user (any-two false false p q) p q
 
-  by-name : any (systemFile f ∷ systemFile f′ ∷ []) ≡ true → difference n (found f) (found f′) ≡ nameOnly n 0
+  by-name : any (isSystem f ∷ isSystem f′ ∷ []) ≡ true → difference n (found f) (found f′) ≡ nameOnly n 0
   unfolding difference
   by-name e = ap (λ (t : Bool). cond t (nameOnly n 0) (unlike n f f′)) e
 
-  by-all : any (systemFile f ∷ systemFile f′ ∷ []) ≡ false → difference n (found f) (found f′) ≡ unlike n f f′
+  by-all : any (isSystem f ∷ isSystem f′ ∷ []) ≡ false → difference n (found f) (found f′) ≡ unlike n f f′
   unfolding difference
   by-all e = ap (λ (t : Bool). cond t (nameOnly n 0) (unlike n f f′)) e
 
@@ -235,7 +235,7 @@ agree-none n (byName {f} {f′} w) = by (either n f f′)
     by (named-only e v) = ap isOne (by-name n f f′ e) ∙ nameless n
     by (both-user e u v) = absurd (no w)
       where
-        no : (systemFile f ≡ true) ⊎ (systemFile f′ ≡ true) → ⊥
+        no : (isSystem f ≡ true) ⊎ (isSystem f′ ≡ true) → ⊥
         no (inl q) = never (sym q ∙ u)
         no (inr q) = never (sym q ∙ v)
 agree-none n (equal {f} {f′} w) = by (either n f f′)
@@ -316,5 +316,5 @@ swap-difference n nothing (found f) = first-is n f ∙ swapped-2 n ∙ ap swappe
 swap-difference n (found f) (found f′) = by (either n f f′)
   where
     by : Either n f f′ → difference n (found f′) (found f) ≡ swapped (difference n (found f) (found f′))
-    by (named-only q v) = by-name n f′ f (any-swap (systemFile f′) (systemFile f) ∙ q) ∙ swapped-0 n ∙ ap swapped (sym (by-name n f f′ q))
-    by (both-user q u v) = by-all n f′ f (any-swap (systemFile f′) (systemFile f) ∙ q) ∙ unlike-swap n f f′ ∙ ap swapped (sym (by-all n f f′ q))
+    by (named-only q v) = by-name n f′ f (any-swap (isSystem f′) (isSystem f) ∙ q) ∙ swapped-0 n ∙ ap swapped (sym (by-name n f f′ q))
+    by (both-user q u v) = by-all n f′ f (any-swap (isSystem f′) (isSystem f) ∙ q) ∙ unlike-swap n f f′ ∙ ap swapped (sym (by-all n f f′ q))

@@ -12,12 +12,12 @@ use borrow.Author.Tests.{eqb-true, eqb-false, eq-eqb, ne-eqb, not-false, ltb-tru
 use Rattle.meaning.specs.Lists.{keep}
 use Rattle.meaning.specs.Consistent.{consistent}
 use Rattle.meaning.specs.Refusals.{first, check, badGeometry, notConsistent}
-use Rattle.meaning.specs.Plain.{File, Found, found, nothing, plain}
+use Rattle.meaning.specs.Plain.{isSystem, File, Found, found, nothing, plain}
 use Rattle.meaning.specs.declared.Geometry.{Geometry}
 use Rattle.laws.specs.Facts as facts
 use Rattle.laws.specs.Members
 use Rattle.together.specs.Statement as statement
-use Rattle.differences.specs.Compare.{before, systemFile, difference, isOne, tellsNone, tellFirst, at′, differences, merged, compare}
+use Rattle.differences.specs.Compare.{before, difference, isOne, tellsNone, tellFirst, at′, differences, merged, compare}
 use Rattle.differences.specs.Order.{In, never, before-self}
 use Rattle.differences.specs.declared.Difference.{Difference}
 use Rattle.promises_compare.specs.Statement.{Agree, neither, byName, equal, Says, Both, many, Compares, Refuses, turned, swapped, EveryPair, EveryRefusal, Swaps, Itself, Interleaved}
@@ -211,11 +211,11 @@ itself g d e = agreed g d g d (record { first = e; second = e }) (λ n. with-its
 
 same-agree : {x y : Found} → statement.Same x y → Agree x y
 same-agree statement.Same.neither = neither
-same-agree (statement.Same.both {f} {f′} a) = by (systemFile f) refl
+same-agree (statement.Same.both {f} {f′} a) = by (isSystem f) refl
   where
-    by : (t : Bool) → systemFile f ≡ t → Agree (found f) (found f′)
+    by : (t : Bool) → isSystem f ≡ t → Agree (found f) (found f′)
     by true e = byName (inl e)
-    by false e = equal (record { attributes = a .attributes; bytes = a .bytes (not-T (systemFile f) (λ t. Members.false-no e t)) })
+    by false e = equal (record { attributes = a .attributes; bytes = a .bytes (not-T (isSystem f) (λ t. Members.false-no e t)) })
 
 pub interleaved : Interleaved
 interleaved g d d′ e f s = agreed g d g d′ (record { first = e; second = f }) (λ n. same-agree (s n))

@@ -8,10 +8,10 @@ use Prim.Native.Nat.{ℕ, _<_, _≤_}
 use lib.Dec.{eqb}
 use lib.ListN.{length, getD}
 use Rattle.meaning.specs.Refusals.{check}
-use Rattle.meaning.specs.Plain.{File, Found, found, nothing, plain}
+use Rattle.meaning.specs.Plain.{isSystem, File, Found, found, nothing, plain}
 use Rattle.meaning.specs.declared.Geometry.{Geometry}
 use Rattle.together.specs.Statement.{SameFiles}
-use Rattle.differences.specs.Compare.{before, systemFile, dateOf, othersOf, tellsNone, differences, compare}
+use Rattle.differences.specs.Compare.{before, dateOf, othersOf, tellsNone, differences, compare}
 use Rattle.differences.specs.declared.Difference.{Difference}
 
 -- 1. What is a difference, and what is none -------------------------------------------------------------------------------------
@@ -24,7 +24,7 @@ pub record Equal (f f′ : File) : Type 0 where
 -- the two plain lists agree under a name: no file on either disk, or one on both, equal or compared by name only
 pub data Agree : Found → Found → Type 0 where
   neither : Agree nothing nothing
-  byName : {f f′ : File} → (systemFile f ≡ true) ⊎ (systemFile f′ ≡ true) → Agree (found f) (found f′)
+  byName : {f f′ : File} → (isSystem f ≡ true) ⊎ (isSystem f′ ≡ true) → Agree (found f) (found f′)
   equal : {f f′ : File} → Equal f f′ → Agree (found f) (found f′)
 
 -- the first byte position where contents part, or the smaller size if one is a beginning of the other
@@ -35,7 +35,7 @@ pub record Parts (xs ys : List ℕ) (k : ℕ) : Type 0 where
 
 -- in both but unlike: what is told of the two files
 pub record Unlike (x : Difference) (f f′ : File) : Type 0 where
-  pub user : (systemFile f ≡ false) × (systemFile f′ ≡ false)
+  pub user : (isSystem f ≡ false) × (isSystem f′ ≡ false)
   pub position : Parts (f .bytes) (f′ .bytes) (x .at)
   pub contents : (x .contents ≡ true) ↔ (f .bytes ≢ f′ .bytes)
   pub size : (x .size ≡ true) ↔ (length (f .bytes) ≢ length (f′ .bytes))
