@@ -9,20 +9,20 @@ use lib.ListN.{length, getD, replicate, drop, length-map, length-append}
 use lib.Seq.{drop-nil}
 use lib.Dec.{T, eqb, leb, leb→le}
 use borrow.Author.Tests.{ne-eqb, eq-eqb}
-use Rattle.meaning.specs.Lists.{count, length-count, keep, any, all}
+use Rattle.meaning.specs.Lists.{count, length-count, keep, all}
 use Rattle.meaning.specs.Layout.{slots, isSlot, field}
 use Rattle.meaning.specs.Names.{letter, wellFormed}
 use Rattle.meaning.specs.Entries.{primary, nameOf}
 use Rattle.meaning.specs.Chain.{files}
 use Rattle.meaning.specs.Refusals.{check}
-use Rattle.meaning.specs.Plain.{isSystem, Found, found, nothing, plain}
+use Rattle.meaning.specs.Plain.{plain}
 use Rattle.meaning.specs.declared.Geometry.{Geometry}
 use Rattle.laws.specs.Members
 use Rattle.laws.specs.Facts as facts
 use Rattle.laws.specs.Change as change
 use Rattle.handle.proofs.Laws.{checked}
 use Rattle.seek.proofs.Sound.{sound}
-use Rattle.differences.specs.Compare.{before, rising, nameOnly, unlike, difference, isOne, tellsNone, tellFirst, names, merged, at′, differences, compare}
+use Rattle.differences.specs.Compare.{before, rising, difference, isOne, tellsNone, tellFirst, names, merged, at′, differences, compare}
 use Rattle.differences.specs.Order.{In, before-less, rising-length, keep-yes, keep-no, keep-whole}
 use Rattle.differences.specs.declared.Difference.{Difference}
 use Rattle.compare.specs.Walk.{Whole, Starts, later, nameAt, onFirst, onSecond, Next}
@@ -76,18 +76,6 @@ first-letter g d p t = letter-some (field g d p 5) (Members.and-l (letter (field
 after-zeros : (g : Geometry) (d : List ℕ) → Whole g d → (p : ℕ) → Starts g d p → before (replicate 11 0) (nameOf g d p) ≡ true
 unfolding nameOf
 after-zeros g d w p s = before-less (replicate 10 0) _ (first-letter g d p (change.filed-at g d (w .holds) p (starts-file g d p s) .name))
-
--- what is told of a name bears it
-pub difference-name : (n : List ℕ) (a b : Found) → difference n a b .name ≡ n
-unfolding difference unlike
-difference-name n nothing nothing = refl
-difference-name n (found f) nothing = refl
-difference-name n nothing (found f) = refl
-difference-name n (found f) (found f′) = by (any (isSystem f ∷ isSystem f′ ∷ [])) refl
-  where
-    by : (t : Bool) → any (isSystem f ∷ isSystem f′ ∷ []) ≡ t → difference n (found f) (found f′) .name ≡ n
-    by true e = rw e
-    by false e = rw e
 
 module _ (g : Geometry) (d : List ℕ) (h : Geometry) (e : List ℕ) where
   -- the differences under names after `last`

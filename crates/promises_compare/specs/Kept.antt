@@ -19,10 +19,11 @@ use Rattle.laws.specs.Members
 use Rattle.together.specs.Statement as statement
 use Rattle.differences.specs.Compare.{before, difference, isOne, tellsNone, tellFirst, at′, differences, merged, compare}
 use Rattle.differences.specs.Order.{In, never, before-self}
+use Rattle.differences.specs.Told.{difference-name, difference-number}
 use Rattle.differences.specs.declared.Difference.{Difference}
 use Rattle.promises_compare.specs.Statement.{Agree, neither, byName, equal, Says, Both, many, Compares, Refuses, turned, swapped, EveryPair, EveryRefusal, Swaps, Itself, Interleaved}
 use Rattle.promises_compare.specs.Agreement.{plain-told, agree-none, none-agrees, says, swap-difference}
-use Rattle.promises_compare.specs.Telling.{getD-in, in-getD, getD-rises, difference-name, difference-number, differing, many-are, differing-rises, differing-in, in-differing, told-is, told-none, merged-swap, map-swap, tell-swap}
+use Rattle.promises_compare.specs.Telling.{getD-in, in-getD, getD-rises, differing, many-are, differing-rises, differing-in, in-differing, told-is, told-none, merged-swap, map-swap, tell-swap}
 
 -- a disk whose check answers 0 is consistent
 sound : (g : Geometry) (d : List ℕ) → check g d ≡ 0 → facts.Sound g d

@@ -6,14 +6,14 @@ use mathlib.Core.List.{List, [], _∷_, _++_, map}
 use Prim.Native.Nat.{ℕ, zero, suc, _+_, _<_, _≤_}
 use native.Mathlib.Omega.{arith}
 use lib.ListN.{length, getD, drop, length-map}
-use Rattle.meaning.specs.Lists.{keep, any}
+use Rattle.meaning.specs.Lists.{keep}
 use Rattle.meaning.specs.Entries.{nameOf}
 use Rattle.meaning.specs.Chain.{files}
-use Rattle.meaning.specs.Plain.{isSystem, File, Found, found, nothing, plain}
+use Rattle.meaning.specs.Plain.{nothing, plain}
 use Rattle.meaning.specs.declared.Geometry.{Geometry}
 use Rattle.laws.specs.Facts as facts
 use Rattle.laws.specs.Named as named
-use Rattle.differences.specs.Compare.{before, rising, nameOnly, unlike, difference, isOne, tellsNone, tellFirst, names, merged, at′, differences}
+use Rattle.differences.specs.Compare.{before, rising, difference, isOne, tellsNone, tellFirst, names, merged, at′, differences}
 use Rattle.differences.specs.Order.{In, here, there, never, before-self, before-back, in-here, in-or, none-in, in-left, in-right, in-either, in-map, Rises, none, next, rising-rises, rising-in, in-rising, keep-yes, keep-no}
 use Rattle.differences.specs.declared.Difference.{Difference}
 use Rattle.promises_compare.specs.Statement.{swapped, turned}
@@ -103,28 +103,6 @@ told-past [] zero l = refl
 told-past [] (suc i) l = refl
 told-past (x ∷ xs) zero l = absurd (let q : ⊥ = omega arith in q)
 told-past (x ∷ xs) (suc i) l = told-past xs i (omega arith)
-
-pub difference-name : (n : List ℕ) (a b : Found) → difference n a b .name ≡ n
-unfolding difference unlike
-difference-name n nothing nothing = refl
-difference-name n (found f) nothing = refl
-difference-name n nothing (found f) = refl
-difference-name n (found f) (found f′) = by (any (isSystem f ∷ isSystem f′ ∷ []))
-  where
-    by : (t : Bool) → cond t (nameOnly n 0) (unlike n f f′) .name ≡ n
-    by true = refl
-    by false = refl
-
-pub difference-number : (n : List ℕ) (a b : Found) → difference n a b .number ≡ 0
-unfolding difference unlike
-difference-number n nothing nothing = refl
-difference-number n (found f) nothing = refl
-difference-number n nothing (found f) = refl
-difference-number n (found f) (found f′) = by (any (isSystem f ∷ isSystem f′ ∷ []))
-  where
-    by : (t : Bool) → cond t (nameOnly n 0) (unlike n f f′) .number ≡ 0
-    by true = refl
-    by false = refl
 
 -- A disk's names -----------------------------------------------------------------------------------------------------------------
 

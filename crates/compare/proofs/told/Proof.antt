@@ -1,9 +1,10 @@
+use Rattle.differences.specs.Told.{difference-name}
 use native.Mathlib.Omega.{arith}
 use Prim.Native.Nat.{_-_}
 use mathlib.Core.Logic.{⊎-elim}
 use mathlib.Core.Path.{_≡_, ap, sym, _∙_}
 use Rattle.differences.specs.declared.Difference.{Difference}
-use Rattle.compare.proofs.Telling.{name-sized, Going, going-start, going-no, going-here, going-more, going-end, going-out, going-same, stands-there, is-one, is-none, difference-name}
+use Rattle.compare.proofs.Telling.{name-sized, Going, going-start, going-no, going-here, going-more, going-end, going-out, going-same, stands-there, is-one, is-none}
 use borrow.Author.Needs.{needs}
 use Rattle.compare.proofs.told.Statement.{statement}
 use Rattle.compare.proofs.told.Tie as tie
