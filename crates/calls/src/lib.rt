@@ -1,5 +1,6 @@
 // The calls of the library, one function a call. Each checks the whole disk first, whatever it is given, so none asks anything of its
 // caller. (Free space is told of any disk whose geometry fits, and tests that alone.)
+use differences::Difference;
 use meaning::Answer;
 use meaning::BroughtBack;
 use meaning::Counts;
@@ -29,6 +30,7 @@ ghost use Rattle.meaning.specs.BringBack.{bringBack};
 ghost use Rattle.meaning.specs.Listing.{list, counts};
 ghost use Rattle.meaning.specs.FreeSpace.{freeSpace};
 ghost use Rattle.read.specs.Part.{partOf, Lies};
+ghost use Rattle.differences.specs.Compare.{compare};
 
 // Check: 0, or refusal 1 or 2.
 pub fn check(image: &[u8], g: Geometry) -> u8
@@ -161,4 +163,13 @@ pub fn free_space(image: &[u8], g: Geometry) -> Space
     ensures { λ r. ⌜ r ≡ freeSpace g (now (image .entry)) ⌝ }
 {
     gat::free_space(image, g)
+}
+
+// Compare: one difference of two disks, by its running number from 0, then "no more".
+pub fn compare(first: &[u8], g: Geometry, second: &[u8], h: Geometry, number: usize) -> Difference
+    ensures { λ r. ⌜ r ≡ compare g (now (first .entry)) h (now (second .entry)) number ⌝ }
+{
+    let checked = consistency::check(first, g);
+    let checked2 = consistency::check(second, h);
+    compare::compare_checked(first, g, second, h, number, checked, checked2)
 }
