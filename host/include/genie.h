@@ -7,7 +7,7 @@
  * WHAT THE CALLER SEES TO
  *   - No pointer is null, neither that of a slice nor that of an outgoing number. An empty slice (length 0) may have any other pointer.
  *   - A slice's pointer is good for as many bytes as the length beside it says.
- *   - Slices and outgoing numbers do not overlap.
+ *   - Slices and outgoing numbers do not overlap; the two images of genie_compare may, neither is written to.
  * Nothing else is asked: a size_t may hold any value.
  *
  * ARGUMENTS THAT MANY CALLS SHARE
@@ -46,9 +46,9 @@ enum genie_refusal {
     GENIE_GEOMETRY = 1,     /* blocks, units, start or the image's length is not as said above */
     GENIE_INCONSISTENT = 2, /* the disk is not consistent (directory, names, chains, runs, GAT or HIT contradict each other); never by genie_free */
     GENIE_RANGE = 12,       /* a position, record length, level, date or sector (0 to 7,679) is out of range; position + length passes 1,966,080 in
-                               a write; the buffer is shorter than the record length; the handle is under 19 bytes; the listing's name buffer is
-                               under 11 bytes; bring back is given a slot that the directory has not. A handle's three numbers are tested in every
-                               call that takes one, used or not. */
+                               a write; the buffer is shorter than the record length; the handle is under 19 bytes; the name buffer of list
+                               or compare is under 11 bytes; bring back is given a slot that the directory has not. A handle's three numbers
+                               are tested in every call that takes one, used or not. */
     GENIE_NAME = 3,         /* the name is not well formed, or not 11 bytes long (calls by name) */
     GENIE_STALE = 7,        /* the handle's slot is none that the directory has, or is not in use, or an extension, or has another name */
     GENIE_NOT_FOUND = 4,    /* no file has that name (look up, open) */
@@ -65,8 +65,9 @@ enum genie_refusal {
     GENIE_DIRECTORY_FULL = 8 /* fewer permitted slots are free than the call needs */
 };
 
-/* Answers under a refusal: every outgoing number is 0, every lent buffer and the image are as they stood. Two exceptions: look up tells its count
- * under refusal 4; a refused open or create leaves 19 zeros in a handle buffer of at least 19 bytes (using that handle is refusal 12). */
+/* Answers under a refusal: every outgoing number is 0, every lent buffer and the image are as they stood. Three exceptions: look up tells its
+ * count under refusal 4; a refused open or create leaves 19 zeros in a handle buffer of at least 19 bytes (using that handle is refusal 12);
+ * compare says which image it refuses. */
 
 #define GENIE_HANDLE_BYTES 19
 #define GENIE_NAME_BYTES 11
@@ -148,6 +149,32 @@ uint8_t genie_count(const uint8_t *image, size_t image_len, size_t blocks, size_
  * bits of the disk's granules. On a consistent disk it is the number that genie_count gives. Refusal 1. */
 uint8_t genie_free(const uint8_t *image, size_t image_len, size_t blocks, size_t units, size_t start, uint16_t open_code,
                    size_t *free, size_t *longest);
+
+/* What genie_compare tells in *kind ... */
+enum genie_difference {
+    GENIE_NO_MORE = 0,        /* no difference has this number: there are no more */
+    GENIE_ONLY_IN_FIRST = 1,  /* no file of the second image has the name */
+    GENIE_ONLY_IN_SECOND = 2, /* no file of the first image has the name */
+    GENIE_UNLIKE = 3          /* both have it, and something of the file differs */
+};
+
+/* ... and in *flags, where the kind is GENIE_UNLIKE: the sum of those that apply. */
+#define GENIE_SIZE_DIFFERS 1
+#define GENIE_DATE_DIFFERS 2       /* entry byte 02, or the low five bits of 01 */
+#define GENIE_ATTRIBUTES_DIFFER 4  /* other attributes: byte 00, the high three bits of 01, bytes 04 and 10 to 13 */
+#define GENIE_CONTENTS_DIFFER 8    /* also where one file is a beginning of the other */
+
+/* Compare: the difference with that number between the files of two disks, counted from 0, ordered by name and type bytes, rising. Each image has its
+ * geometry, the second's are the arguments with a 2. The name goes to the first 11 bytes of name (a buffer of at least 11 bytes), what it is to *kind.
+ * Where the kind is GENIE_UNLIKE, *position is the first byte position (from 0) where the contents part, or the smaller size if one is a beginning of
+ * the other, so the size itself where they are alike; *flags says what differs. Otherwise both are 0. Where a file lies, and how many granules it
+ * owns, is no difference; a file that is a system file on either disk is compared by name only. Past the last difference the call is accepted too: *kind
+ * is GENIE_NO_MORE, the name buffer is as it stood. *image is 0, or the image that is refused: 1 the first, 2 the second. Refusals 1 and 2 of the first
+ * image, then 1 and 2 of the second, then 12. */
+uint8_t genie_compare(const uint8_t *first, size_t first_len, size_t blocks, size_t units, size_t start, uint16_t open_code,
+                      const uint8_t *second, size_t second_len, size_t blocks2, size_t units2, size_t start2, uint16_t open_code2,
+                      size_t number, uint8_t *name, size_t name_len,
+                      size_t *image, size_t *kind, size_t *position, size_t *flags);
 
 #ifdef __cplusplus
 }

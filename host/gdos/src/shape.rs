@@ -31,6 +31,25 @@ pub const OPTIONS: &[Spec] = &[
     },
 ];
 
+/// The same for two images: the second's own options end in 2.
+pub const OPTIONS_OF_TWO: &[Spec] = &[
+    OPTIONS[0],
+    OPTIONS[1],
+    OPTIONS[2],
+    OPTIONS[3],
+    OPTIONS[4],
+    Spec {
+        long: "preset2",
+        short: None,
+        value: Some("NAME"),
+        help: "of the second image: its own numbers, where they are others",
+    },
+    Spec { long: "blocks2", short: None, value: Some("N"), help: "of the second image" },
+    Spec { long: "units2", short: None, value: Some("N"), help: "of the second image" },
+    Spec { long: "start2", short: None, value: Some("SECTOR"), help: "of the second image" },
+    Spec { long: "open-code2", short: None, value: Some("CODE"), help: "of the second image" },
+];
+
 /// A known kind of disk.
 pub struct Preset {
     pub name: &'static str,
@@ -71,7 +90,12 @@ pub struct Wanted {
     units: Option<usize>,
     start: Option<usize>,
     open_code: u16,
+    /// What the options that state it end in.
+    suffix: &'static str,
 }
+
+/// Nothing is said.
+const ANY: Wanted = Wanted { blocks: None, units: None, start: None, open_code: OPEN_CODE, suffix: "" };
 
 /// A geometry under which an image is consistent.
 #[derive(Clone, Copy, Debug)]
@@ -84,15 +108,27 @@ pub struct Fit {
 impl Wanted {
     /// From the options. A single option goes before the preset's number.
     pub fn from_args(args: &Args) -> Result<Wanted, Failure> {
-        let preset = match args.value("preset") {
+        Wanted::stated(args, ANY)
+    }
+
+    /// Of the second of two images: from its own options, which end in 2; where they say nothing the others hold for both.
+    pub fn second_from_args(args: &Args) -> Result<Wanted, Failure> {
+        Wanted::stated(args, Wanted { suffix: "2", ..Wanted::from_args(args)? })
+    }
+
+    /// What the options with a suffix say, and otherwise what is said already.
+    fn stated(args: &Args, otherwise: Wanted) -> Result<Wanted, Failure> {
+        let option = |name: &str| format!("{name}{}", otherwise.suffix);
+        let preset = match args.value(&option("preset")) {
             Some(name) => Some(named(&name.to_string_lossy())?),
             None => None,
         };
         Ok(Wanted {
-            blocks: args.number("blocks")?.or(preset.map(|p| p.blocks)),
-            units: args.number("units")?.or(preset.map(|p| p.units)),
-            start: args.number("start")?.or(preset.map(|p| p.start)),
-            open_code: args.code("open-code")?.unwrap_or(OPEN_CODE),
+            blocks: args.number(&option("blocks"))?.or(preset.map(|p| p.blocks)).or(otherwise.blocks),
+            units: args.number(&option("units"))?.or(preset.map(|p| p.units)).or(otherwise.units),
+            start: args.number(&option("start"))?.or(preset.map(|p| p.start)).or(otherwise.start),
+            open_code: args.code(&option("open-code"))?.unwrap_or(otherwise.open_code),
+            suffix: otherwise.suffix,
         })
     }
 
@@ -144,9 +180,9 @@ impl Wanted {
             several => {
                 let mut message = format!("{path}: {} geometries fit; choose one of\n", several.len());
                 for fit in several {
-                    message += &format!("  {}\n", described(fit));
+                    message += &format!("  {}\n", described(fit, self.suffix));
                 }
-                message += "by its options or, if it has one, by --preset";
+                message += &format!("by its options or, if it has one, by --preset{}", self.suffix);
                 Err(Failure::Wrong(message))
             }
         }
@@ -194,11 +230,14 @@ fn named(name: &str) -> Result<Geometry, Failure> {
 }
 
 /// The options that state a geometry, and what it would mean.
-fn described(fit: &Fit) -> String {
+fn described(fit: &Fit, suffix: &str) -> String {
     let Geometry { blocks, units, start, .. } = fit.geometry;
     let preset = preset_of(fit.geometry).map(|name| format!(", preset {name}")).unwrap_or_default();
     let Counts { files, free } = fit.counts;
-    format!("--blocks {blocks} --units {units} --start {start}  ({files} files, {free} granules free{preset})")
+    format!(
+        "--blocks{suffix} {blocks} --units{suffix} {units} --start{suffix} {start}  \
+         ({files} files, {free} granules free{preset})"
+    )
 }
 
 /// A geometry for `--json`.
@@ -215,8 +254,6 @@ pub fn json(geometry: Geometry) -> Json {
 #[cfg(test)]
 mod tests {
     use super::*;
-
-    const ANY: Wanted = Wanted { blocks: None, units: None, start: None, open_code: OPEN_CODE };
 
     #[test]
     fn every_preset_is_a_disk() {

@@ -289,5 +289,42 @@ mod bound {
                 genie_free(image.as_ptr(), image.len(), g.blocks, g.units, g.start, g.open_code, free, longest)
             }
         }
+        fn compare(
+            &self,
+            first: &[u8],
+            g: &Geometry,
+            second: &[u8],
+            h: &Geometry,
+            number: usize,
+            name: &mut [u8],
+            image: &mut usize,
+            kind: &mut usize,
+            position: &mut usize,
+            flags: &mut usize,
+        ) -> Number {
+            unsafe {
+                genie_compare(
+                    first.as_ptr(),
+                    first.len(),
+                    g.blocks,
+                    g.units,
+                    g.start,
+                    g.open_code,
+                    second.as_ptr(),
+                    second.len(),
+                    h.blocks,
+                    h.units,
+                    h.start,
+                    h.open_code,
+                    number,
+                    name.as_mut_ptr(),
+                    name.len(),
+                    image,
+                    kind,
+                    position,
+                    flags,
+                )
+            }
+        }
     }
 }

@@ -46,7 +46,7 @@ impl Call {
 }
 
 /// The numbers that each call can give, 0 included.
-pub const POSSIBLE: [(&str, &[Number]); 14] = [
+pub const POSSIBLE: [(&str, &[Number]); 15] = [
     ("check", &[0, 1, 2]),
     ("look up", &[0, 1, 2, 3, 4]),
     ("open", &[0, 1, 2, 12, 3, 4, 5]),
@@ -62,6 +62,7 @@ pub const POSSIBLE: [(&str, &[Number]); 14] = [
     ("list", &[0, 1, 2, 12]),
     ("count", &[0, 1, 2]),
     ("free", &[0, 1]),
+    ("compare", &[0, 1, 2, 12]),
 ];
 
 /// All that a call answers and leaves, the image apart.

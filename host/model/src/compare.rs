@@ -6,6 +6,9 @@ use crate::caller::{odd_geometry, Caller};
 use crate::calls::{Number, ACCEPTED, LEVEL};
 use crate::consistency::consistent;
 use crate::damage::{random_flips, DAMAGES};
+use crate::differences::{
+    differences, CONTENTS, DATE, FIRST, NO_MORE, ONLY_IN_FIRST, ONLY_IN_SECOND, OTHER, SECOND, SIZE, UNLIKE,
+};
 use crate::directory::{
     chain, directory_sectors, entry, gat_place, hit_place, owned, slots, ENTRY_BYTES, LENGTH_PLACE,
 };
@@ -13,7 +16,9 @@ use crate::disks::{random_disk, Disk};
 use crate::geometry::{Geometry, GRANULE_BYTES, SECTOR_BYTES};
 use crate::handle::Handle;
 use crate::library::{Library, Model};
-use crate::names::written;
+use crate::names::{written, FULL_NAME_BYTES};
+use crate::pairs::{holding, side, tell, Side, Told, CHANGES};
+use crate::plain::files_of;
 use crate::random::Random;
 use crate::space::free_stretches;
 use std::collections::BTreeMap;
@@ -66,6 +71,18 @@ pub const EVENTS: &[&str] = &[
     "level refused on a system file",
     "a long buffer's rest is untouched",
     "still consistent after flips",
+    "compare tells only in the first",
+    "compare tells only in the second",
+    "compare tells contents",
+    "compare tells a beginning of the other",
+    "compare tells a size",
+    "compare tells a date",
+    "compare tells attributes alone",
+    "compare tells no more",
+    "compare tells a high number",
+    "compare refuses the first image",
+    "compare refuses the second image",
+    "compare refuses both images",
 ];
 
 impl Seen {
@@ -425,6 +442,11 @@ pub fn disk_run(library: &dyn Library, seed: u64, seen: &mut Seen) -> Result<(),
         );
     }
 
+    let mut after = disk.clone();
+    after.image = sides.image().to_vec();
+    // Drawn by itself, so that a disk's calls are the same with and without it.
+    two_images(library, &mut Random::new(!seed), &disk, &after, seen)?;
+
     // Damaged copies: the check, and one call each. A call accepted under an odd geometry may have
     // spoilt the disk for its own; then the disk as it was is damaged.
     let mut whole = disk.clone();
@@ -486,4 +508,123 @@ pub fn disk_run(library: &dyn Library, seed: u64, seen: &mut Seen) -> Result<(),
         sides.both(&g, length, &Call::Free, seen).map_err(|text| format!("odd geometry: {text}"))?;
     }
     Ok(())
+}
+
+/// Compare on both sides; the text says what differs.
+fn both_tell(
+    library: &dyn Library,
+    (first, second): (Side, Side),
+    number: usize,
+    room: &[u8],
+    seen: &mut Seen,
+) -> Result<Told, String> {
+    let mine = tell(&Model, first, second, number, room);
+    let theirs = tell(library, first, second, number, room);
+    seen.calls += 1;
+    *seen.numbers.entry(("compare", mine.number)).or_default() += 1;
+    let unlike = mine.kind == UNLIKE;
+    let has = |flag: usize| unlike && mine.flags & flag != 0;
+    for (what, happened) in [
+        ("compare tells only in the first", mine.kind == ONLY_IN_FIRST),
+        ("compare tells only in the second", mine.kind == ONLY_IN_SECOND),
+        ("compare tells contents", has(CONTENTS)),
+        ("compare tells a size", has(SIZE)),
+        ("compare tells a date", has(DATE)),
+        ("compare tells attributes alone", unlike && mine.flags == OTHER),
+        ("compare tells no more", mine.number == ACCEPTED && mine.kind == NO_MORE),
+        ("compare tells a high number", mine.kind != NO_MORE && number >= 5),
+        ("compare refuses the first image", mine.image == FIRST),
+        ("compare refuses the second image", mine.image == SECOND),
+    ] {
+        seen.event(what, happened);
+    }
+    match mine == theirs && theirs.within {
+        true => Ok(mine),
+        false => Err(format!(
+            "compare, number {number}, name buffer {room:02X?}:\n  model   {mine:02X?}\n  library {theirs:02X?} (hexadecimal)\n  \
+             on {:?}, image length {}\n  and {:?}, image length {}",
+            first.1,
+            first.0.len(),
+            second.1,
+            second.0.len()
+        )),
+    }
+}
+
+/// Compare (02 §1): a disk as it was and as calls left it, either way about; with the same files laid out on another disk
+/// and one of them changed; and with images of which one or both are refused.
+fn two_images(
+    library: &dyn Library,
+    random: &mut Random,
+    before: &Disk,
+    after: &Disk,
+    seen: &mut Seen,
+) -> Result<(), String> {
+    let mut pairs = vec![(before.clone(), after.clone()), (after.clone(), before.clone())];
+    if before.g.granules() <= 400 {
+        let mut files = files_of(&before.image, &before.g);
+        random.pick(&CHANGES).apply(random, &mut files);
+        if let Some(other) = holding(random, &files) {
+            pairs.push((before.clone(), other));
+        }
+    }
+    // A call accepted under an odd geometry may have spoilt the disk for its own: that too is compared.
+    for (first, second) in &pairs {
+        let known = match consistent(&first.image, &first.g) && consistent(&second.image, &second.g) {
+            true => differences(&first.image, &first.g, &second.image, &second.g).len(),
+            false => 0,
+        };
+        for _ in 0..3 {
+            let number = match random.within(0, 7) {
+                0 => random.draw() as usize,
+                1 => known,
+                _ => random.within(0, known),
+            };
+            let length = match random.within(0, 9) {
+                0 => random.within(0, FULL_NAME_BYTES - 1),
+                1 => random.within(FULL_NAME_BYTES, 20),
+                _ => FULL_NAME_BYTES,
+            };
+            let room: Vec<u8> = (0..length).map(|_| random.byte()).collect();
+            let told = both_tell(library, (side(first), side(second)), number, &room, seen)?;
+            let whole = told.flags & (SIZE | CONTENTS) == SIZE | CONTENTS && told.kind == UNLIKE;
+            seen.event("compare tells a beginning of the other", whole && begins(first, second, &told));
+        }
+    }
+    for _ in 0..2 {
+        let (mut first, mut second) = random.pick(&pairs).clone();
+        let which = random.within(1, 3);
+        if which & 1 != 0 {
+            refusable(random, &mut first);
+        }
+        if which & 2 != 0 {
+            refusable(random, &mut second);
+        }
+        let refused = |disk: &Disk| crate::calls::check(&disk.image, &disk.g) != ACCEPTED;
+        seen.event("compare refuses both images", refused(&first) && refused(&second));
+        both_tell(library, (side(&first), side(&second)), 0, &[0xEE; FULL_NAME_BYTES], seen)?;
+    }
+    Ok(())
+}
+
+/// The position told is where one of the two files ends.
+fn begins(first: &Disk, second: &Disk, told: &Told) -> bool {
+    let ends = |disk: &Disk| {
+        let name = told.name[..FULL_NAME_BYTES].try_into().expect("11 bytes");
+        files_of(&disk.image, &disk.g)
+            .get::<crate::names::Name>(&name)
+            .is_some_and(|f| f.bytes.len() == told.position)
+    };
+    ends(first) || ends(second)
+}
+
+/// Makes a disk one that is likely to be refused: damaged, or under another geometry or of another length.
+fn refusable(random: &mut Random, disk: &mut Disk) {
+    if random.percent(50) && consistent(&disk.image, &disk.g) {
+        random.pick(DAMAGES).apply(disk, random);
+    } else {
+        let (g, length) = odd_geometry(random, &disk.g, disk.image.len());
+        disk.g = g;
+        disk.image.truncate(length);
+    }
 }

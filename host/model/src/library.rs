@@ -3,6 +3,7 @@
 
 use crate::bring_back;
 use crate::calls::{self, Birth, Number};
+use crate::differences;
 use crate::geometry::Geometry;
 use std::rc::Rc;
 
@@ -71,6 +72,19 @@ pub trait Library {
     ) -> Number;
     fn count(&self, image: &[u8], g: &Geometry, files: &mut usize, free: &mut usize) -> Number;
     fn free(&self, image: &[u8], g: &Geometry, free: &mut usize, longest: &mut usize) -> Number;
+    fn compare(
+        &self,
+        first: &[u8],
+        g: &Geometry,
+        second: &[u8],
+        h: &Geometry,
+        number: usize,
+        name: &mut [u8],
+        image: &mut usize,
+        kind: &mut usize,
+        position: &mut usize,
+        flags: &mut usize,
+    ) -> Number;
 }
 
 /// The model itself.
@@ -169,6 +183,21 @@ impl Library for Model {
     }
     fn free(&self, image: &[u8], g: &Geometry, free: &mut usize, longest: &mut usize) -> Number {
         calls::free(image, g, free, longest)
+    }
+    fn compare(
+        &self,
+        first: &[u8],
+        g: &Geometry,
+        second: &[u8],
+        h: &Geometry,
+        number: usize,
+        name: &mut [u8],
+        image: &mut usize,
+        kind: &mut usize,
+        position: &mut usize,
+        flags: &mut usize,
+    ) -> Number {
+        differences::compare(first, g, second, h, number, name, image, kind, position, flags)
     }
 }
 

@@ -188,4 +188,26 @@ extern "C" {
         free: *mut usize,
         longest: *mut usize,
     ) -> u8;
+
+    pub fn genie_compare(
+        first: *const u8,
+        first_len: usize,
+        blocks: usize,
+        units: usize,
+        start: usize,
+        open_code: u16,
+        second: *const u8,
+        second_len: usize,
+        blocks2: usize,
+        units2: usize,
+        start2: usize,
+        open_code2: u16,
+        number: usize,
+        name: *mut u8,
+        name_len: usize,
+        image: *mut usize,
+        kind: *mut usize,
+        position: *mut usize,
+        flags: *mut usize,
+    ) -> u8;
 }
