@@ -1,8 +1,6 @@
 //! `gdos undelete`.
 
-use super::{
-    counted, disk_of, disk_to_change, image_and_rest, json_head, keep, refused, shown, Command, Output, JSON,
-};
+use super::{counted, disk_of, disk_to_change, image_and_rest, json_head, keep, refused, shown, Command, Output, JSON};
 use crate::args::{Args, Spec};
 use crate::failure::Failure;
 use crate::json::Json;
@@ -70,9 +68,9 @@ fn table(tried: &[(&Entry, Result<BroughtBack, Refusal>)]) -> String {
 }
 
 fn entry_json(entry: &Entry, answer: Result<BroughtBack, Refusal>) -> Json {
-    let refused = answer.err().map(|refusal| {
-        Json::object([("number", refusal.number().into()), ("meaning", refusal.meaning().into())])
-    });
+    let refused = answer
+        .err()
+        .map(|refusal| Json::object([("number", refusal.number().into()), ("meaning", refusal.meaning().into())]));
     Json::object([
         ("slot", entry.slot().into()),
         ("name", name_text(entry).into()),
