@@ -66,6 +66,11 @@ fn usage() {
 }
 
 #[test]
+fn two_images() {
+    play("diff");
+}
+
+#[test]
 fn every_case_is_played() {
     let here = include_str!("sessions.rs");
     for case in fs::read_dir(cases()).unwrap() {

@@ -461,3 +461,76 @@ fn damaged_disks_are_refused_or_agree() {
     }
     assert!(consistent > 100 && refused > 100, "{consistent} consistent, {refused} refused");
 }
+
+/// A copy of a disk with one thing changed, compared with it both ways about.
+#[test]
+fn differences() {
+    let first = with_file("PULS01/DAT", &[7; 20]);
+    let unlike = |position: Option<usize>, size: bool, date: bool, attributes: bool| {
+        vec![Difference::Unlike { name: name("PULS01/DAT"), position, size, date, attributes }]
+    };
+    let only = |first: bool, typed: &str| match first {
+        true => Difference::OnlyInFirst { name: name(typed) },
+        false => Difference::OnlyInSecond { name: name(typed) },
+    };
+    let both_ways = |second: &Disk| {
+        let one_way: Vec<_> = first.differences(second).unwrap().collect();
+        let other_way: Vec<_> = second.differences(&first).unwrap().collect();
+        (one_way, other_way)
+    };
+    let same = |told: Vec<Difference>| (told.clone(), told);
+    let slot = first.look_up(&name("PULS01/DAT")).slot.unwrap();
+    let poked = |byte: usize, mask: u8| {
+        let mut image = first.image().to_vec();
+        image[entry_at(slot) + byte] ^= mask;
+        Disk::new(image, GEOMETRY)
+    };
+    assert_eq!(both_ways(&first.clone()), same(vec![]));
+    assert_eq!(both_ways(&poked(0x02, 0x10)), same(unlike(None, false, true, false)));
+    assert_eq!(both_ways(&poked(0x04, 0x10)), same(unlike(None, false, false, true)));
+    assert_eq!(both_ways(&poked(0x01, 0x81)), same(unlike(None, false, true, true)));
+    assert_eq!(both_ways(&poked(0x03, 0x01)), same(unlike(Some(20), true, false, false)));
+    assert_eq!(both_ways(&poked(0x00, 0x40)), same(vec![]), "a system file");
+
+    let mut changed = first.clone();
+    let mut handle = changed.open(&name("PULS01/DAT"), 1, Password::Unchecked).unwrap();
+    handle.set_position(13);
+    changed.write_record(&mut handle, Kind::Random, b"X").unwrap();
+    assert_eq!(both_ways(&changed), same(unlike(Some(13), false, false, false)));
+    // Allotted space is no difference, and neither is another geometry.
+    let mut roomy = Disk::blank(Geometry::new(16, 2, 80, 0), 10, &[]).unwrap();
+    roomy.create(&name("PULS01/DAT"), &plain()).unwrap();
+    let mut handle = roomy.open(&name("PULS01/DAT"), 20, Password::Unchecked).unwrap();
+    roomy.allot(&handle, 50).unwrap();
+    roomy.write_record(&mut handle, Kind::Sequential, &[7; 20]).unwrap();
+    assert_eq!(both_ways(&roomy), same(vec![]));
+
+    // Several, by rising name; the iterator is done for good.
+    let mut other = Disk::blank(Geometry::new(16, 2, 80, 0), 10, &[]).unwrap();
+    for typed in ["Z", "A/B", "A"] {
+        other.create(&name(typed), &plain()).unwrap();
+    }
+    let told =
+        |first: bool| [only(!first, "A"), only(!first, "A/B"), only(first, "PULS01/DAT"), only(!first, "Z")].to_vec();
+    assert_eq!(both_ways(&other), (told(true), told(false)));
+    let mut all = first.differences(&other).unwrap();
+    assert_eq!(all.by_ref().map(|difference| difference.name()).count(), 4);
+    assert_eq!((all.next(), all.next()), (None, None));
+}
+
+#[test]
+fn refused_differences_name_the_disk() {
+    let good = blank();
+    let mut image = good.image().to_vec();
+    image[entry_at(0x80)] |= 0x10;
+    let inconsistent = Disk::new(image, GEOMETRY);
+    let short = Disk::new(&good.image()[1..], GEOMETRY);
+    let refused = |image, refusal| Some(RefusedImage { image, refusal });
+    assert_eq!(good.differences(&inconsistent).err(), refused(Which::Second, Refusal::Inconsistent));
+    assert_eq!(good.differences(&short).err(), refused(Which::Second, Refusal::Geometry));
+    assert_eq!(inconsistent.differences(&good).err(), refused(Which::First, Refusal::Inconsistent));
+    assert_eq!(inconsistent.differences(&short).err(), refused(Which::First, Refusal::Inconsistent));
+    assert_eq!(short.differences(&inconsistent).err(), refused(Which::First, Refusal::Geometry));
+    let text = good.differences(&inconsistent).err().unwrap().to_string();
+    assert_eq!(text, "the second disk: 2 (disk not consistent)");
+}
