@@ -46,7 +46,7 @@ impl Call {
 }
 
 /// The numbers that each call can give, 0 included.
-pub const POSSIBLE: [(&str, &[Number]); 15] = [
+pub const POSSIBLE: [(&str, &[Number]); 16] = [
     ("check", &[0, 1, 2]),
     ("look up", &[0, 1, 2, 3, 4]),
     ("open", &[0, 1, 2, 12, 3, 4, 5]),

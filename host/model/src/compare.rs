@@ -335,7 +335,10 @@ impl Before {
                 let first = free_stretches(image, g).into_iter().find(|stretch| stretch.len() == longest);
                 let first = first.expect("the longest is one of them");
                 seen.event("free space of a disk that is not consistent", !consistent(image, g));
-                seen.event("longest stretch over blocks", longest > 0 && first.start / g.units < (first.end - 1) / g.units);
+                seen.event(
+                    "longest stretch over blocks",
+                    longest > 0 && first.start / g.units < (first.end - 1) / g.units,
+                );
                 seen.event("longest stretch to the end", longest > 0 && first.end == g.granules());
                 let spare = |block: usize| image[g.start * SECTOR_BYTES + block] as usize >> g.units;
                 let clear = (0..g.blocks).any(|block| spare(block) != 0xFF >> g.units);

@@ -109,7 +109,9 @@ fn calls_do_what_a_plain_list_of_files_would() {
                     assert_eq!(buffer, lent_buffer[..h.length()], "{at}");
                 }
                 // "On a consistent disk the number equals the disk's granules less those reserved and those owned."
-                Call::Free => assert_eq!(outcome.numbered("free"), g.granules() - reserved.len() - all_owned, "{at}"),
+                Call::Free => {
+                    assert_eq!(outcome.numbered("free"), g.granules() - reserved.len() - all_owned, "{at}")
+                }
                 _ => {}
             }
 

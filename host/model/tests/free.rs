@@ -94,7 +94,9 @@ fn refused() {
     let g = three();
     let image = with_gat(&g, &[0]);
     for library in libraries() {
-        for (blocks, units, start) in [(3, 3, 5), (4, 3, 6), (4, 3, 55), (0, 3, 5), (4, 0, 5), (4, 9, 5), (6, 2, 60)] {
+        for (blocks, units, start) in
+            [(3, 3, 5), (4, 3, 6), (4, 3, 55), (0, 3, 5), (4, 0, 5), (4, 9, 5), (6, 2, 60)]
+        {
             let (mut a, mut b) = (7, 7);
             let g = Geometry { blocks, units, start, open_code: 0 };
             assert_eq!(library.free(&image, &g, &mut a, &mut b), 1, "{}: {g:?}", library.title());
