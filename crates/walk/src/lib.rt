@@ -6,7 +6,7 @@ ghost use mathlib.Core.Bool.{true, _||_};
 ghost use lib.Dec.{ltb};
 ghost use Rattle.meaning.specs.Lists.{count, every};
 ghost use Rattle.meaning.specs.Layout.{field, entryAt};
-ghost use Rattle.meaning.specs.Entries.{link};
+ghost use Rattle.meaning.specs.Entries.{link, marker};
 ghost use Rattle.meaning.specs.Chain.{chainFrom};
 ghost use Rattle.layout.specs.Room.{Room, Slot, Read};
 ghost use Rattle.walk.specs.Walk.{Place, runsOf, TakesRun, Entered, Walked, unused, goesOn, markerHolds, chainHolds, onward};
@@ -188,6 +188,9 @@ pub fn entry_walk(
     if !p.ok {
         return false;
     }
+    if field_at(image, g, s, at, 0x1e) == 0xff {
+        return sectors <= layout::GRANULE_SECTORS * (owned + p.granules);
+    }
     marker_walk(
         image,
         g,
@@ -204,7 +207,7 @@ pub fn entry_walk(
     )
 }
 
-// The marker of slot s, and what it leads to.
+// The marker of slot s, which does not end the file, and what it leads to.
 fn marker_walk(
     image: &[u8],
     g: Geometry,
@@ -220,15 +223,12 @@ fn marker_walk(
     met: &mut [u8; 256],
 ) -> bool
     requires { ⌜ Room g (now image) × Place g (now image) s at × (runs ≡ runsOf g (now image) s)
-        × (owned + 128 * left ≤ 65536) ⌝ }
+        × (owned + 128 * left ≤ 65536) × (marker g (now image) s ≡ 0xff → ⊥) ⌝ }
     ensures { λ r. ⌜ Walked g (now (image .entry)) least sectors owned
         (markerHolds g (now (image .entry)) h s (chainHolds g (now (image .entry)) h left (link g (now (image .entry)) s)))
         (onward g (now (image .entry)) s (chainFrom g (now (image .entry)) left (link g (now (image .entry)) s)))
         (now (map .entry)) (now (map .exit)) (now (met .entry)) (now (met .exit)) r ⌝ }
 {
-    if field_at(image, g, s, at, 0x1e) == 0xff {
-        return sectors <= layout::GRANULE_SECTORS * owned;
-    }
     if !goes_on(image, g, s, at, runs, h) {
         return false;
     }
