@@ -9,7 +9,7 @@ use lib.Dec.{eqb, leb}
 use borrow.Author.Tests.{ne-eqb, not-true, not-false}
 use Rattle.meaning.specs.Lists.{every, each, some, distinct, all, through}
 use Rattle.meaning.specs.Bits.{bit}
-use Rattle.meaning.specs.Layout.{isSlot, field, entryAt, taken, takeGranule, slots, directorySectors}
+use Rattle.meaning.specs.Layout.{granuleBytes, isSlot, field, entryAt, taken, takeGranule, slots, directorySectors}
 use Rattle.meaning.specs.Names.{hash, wellFormed}
 use Rattle.meaning.specs.Entries.{inUse, extension, system, nameOf, sizeOf, sectorCount, endByte, entryGranules}
 use Rattle.meaning.specs.Chain.{chainFrom, chain, owned}
@@ -69,9 +69,9 @@ module _ (g : Geometry) (d : List ℕ) (s : ℕ) where
   unfolding sizeHolds countHolds
   size-bad w t = sym (all-no (is-no w t) _)
 
-  pub size-good : {f : Bool} {k n : ℕ} → f ≡ countHolds (sectorCount g d s) (endByte g d s) → not f ≡ false → k ≡ sizeOf g d s → n ≡ length (owned g d s) → leb k (1280 * n) ≡ sizeHolds g d s
+  pub size-good : {f : Bool} {k n : ℕ} → f ≡ countHolds (sectorCount g d s) (endByte g d s) → not f ≡ false → k ≡ sizeOf g d s → n ≡ length (owned g d s) → leb k (granuleBytes * n) ≡ sizeHolds g d s
   unfolding sizeHolds countHolds
-  size-good {f} {k} {n} w t p q = ap (λ (z : ℕ). leb z (1280 * n)) p ∙ ap (λ (z : ℕ). leb (sizeOf g d s) (1280 * z)) q ∙ sym (all-yes (is-yes w t) _ ∙ all-one _)
+  size-good {f} {k} {n} w t p q = ap (λ (z : ℕ). leb z (granuleBytes * n)) p ∙ ap (λ (z : ℕ). leb (sizeOf g d s) (granuleBytes * z)) q ∙ sym (all-yes (is-yes w t) _ ∙ all-one _)
 
   -- Whole --------------------------------------------------------------------------------------------------------------------
 

@@ -13,11 +13,10 @@ use Rattle.meaning.specs.Entries.{marker, link, runs, entryGranules}
 use Rattle.meaning.specs.Consistent.{pairsHold, runsHold, followsBy, linkHoldsBy}
 use Rattle.meaning.specs.BringBack
 use Rattle.meaning.specs.declared.Geometry.{Geometry}
-use Rattle.layout.proofs.Lists.{all-at, all-yes, all-no, all-none, all-one, any-skip, is-no}
+use Rattle.layout.proofs.Lists.{all-at, all-yes, all-no, all-none, all-one, any-hit, any-skip, any-one, is-no}
 use Rattle.marks.specs.Marks.{marked, allows}
 use Rattle.walk.specs.Walk.{entryFits, Entered}
 use Rattle.walk.specs.declared.Pairs.{Pairs}
-use Rattle.walk.proofs.Laws.{any-one}
 use Rattle.walk.proofs.Lists.{not-both, all-out}
 use Rattle.bring_back.specs.Line.{Visits}
 use Rattle.bring_back.specs.declared.Visited.{Visited}
@@ -30,10 +29,6 @@ middle {a} {b} {c} h l = rw (h, l) (and-true b)
 head : {a b c : Bool} → b ≡ true → c ≡ true → all (a ∷ b ∷ c ∷ []) ≡ a
 unfolding all
 head {a} {b} {c} h l = rw (h, l) (and-true a)
-
-any-hit : {b : Bool} → b ≡ true → (bs : List Bool) → any (b ∷ bs) ≡ true
-unfolding any
-any-hit h bs = ap (λ (b : Bool). b || any bs) h
 
 module _ (g : Geometry) (d : List ℕ) (s : ℕ) where
   -- the marker ends the chain, or is none, or leads to an extension

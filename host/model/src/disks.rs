@@ -3,8 +3,8 @@
 //! in kept slots, all flags, levels and codes, and odd bytes wherever 01 tests none.
 
 use crate::directory::{
-    chain, directory_granules, entry, entry_place, files, hit_place, owned, put_entry, set_taken, slots, Entry, Pair,
-    ENTRY_BYTES, EXTENSION_FLAGS, LENGTH_PLACE, MARKER_LAST, MARKER_LINK, PAIRS,
+    chain, directory_granules, entry, entry_place, files, hit_place, owned, put_entry, set_taken, slots, Entry,
+    Pair, ENTRY_BYTES, EXTENSION_FLAGS, LENGTH_PLACE, MARKER_LAST, MARKER_LINK, PAIRS,
 };
 use crate::geometry::{Geometry, GRANULE_BYTES, GRANULE_SECTORS, MOST_BLOCKS, MOST_UNITS, SECTOR_BYTES};
 use crate::names::{hash, Name, BLANK, FULL_NAME_BYTES, NAME_BYTES};

@@ -102,12 +102,15 @@ fn dead() -> Disk {
     killed(&*libraries()[0], &two_files(), FILE, "PULS01/DAT")
 }
 
+/// Slots, runs and size of a file.
+type Build<'a> = (&'a [u8], &'a [(usize, usize)], usize);
+
 #[test]
 fn killed_and_brought_back_is_the_same_image() {
     let g = blank().g;
     let every_second: Vec<(usize, usize)> = (0..14).map(|i| (11 + 2 * i, 1)).collect();
     let many: Vec<u8> = vec![0x61, 0xE7, 0x82, 0xC4];
-    let builds: [(&[u8], &[(usize, usize)], usize); 7] = [
+    let builds: [Build; 7] = [
         (&[FILE], &[], 0),
         (&[FILE], &[(3, 1)], 0),
         (&[FILE], &[(3, 1)], 1280),
@@ -166,7 +169,10 @@ fn only_bit_four_the_hit_bytes_and_the_gat_bits_change() {
         // The plain list gains the file, with what its granules hold now; the other is as it was.
         let all = files_of(&image, &g);
         let file = &all[&name("PULS01/DAT")];
-        assert_eq!((file.bytes.len(), file.granules, file.attributes), (5000, 11, [0x18, 9, 0x3A, 0x80, 1, 2, 3, 4]));
+        assert_eq!(
+            (file.bytes.len(), file.granules, file.attributes),
+            (5000, 11, [0x18, 9, 0x3A, 0x80, 1, 2, 3, 4])
+        );
         assert_eq!((file.bytes[0], file.bytes[1280], file.bytes[2560], file.bytes[4999]), (2, 3, 5, 11));
         assert_eq!(all[&name("LEER")], files_of(&disk.image, &g)[&name("LEER")]);
         assert_eq!(all.len(), 2);

@@ -337,7 +337,10 @@ fn a_killed_file_comes_back() {
     // What is left of it, and no more than that: the other entries are blank.
     let left = dead.dead_entries().unwrap();
     assert_eq!(left.len(), 1);
-    assert_eq!((left[0].slot(), left[0].name(), left[0].size(), left[0].granules()), (handle.slot(), name("A"), 1281, 2));
+    assert_eq!(
+        (left[0].slot(), left[0].name(), left[0].size(), left[0].granules()),
+        (handle.slot(), name("A"), 1281, 2)
+    );
     assert!(disk.dead_entries().unwrap().is_empty());
 
     // 12, 17, 6, 18, 19, 20.

@@ -1,8 +1,6 @@
 //! `gdos undelete`.
 
-use super::{
-    counted, disk_of, disk_to_change, image_and_rest, json_head, keep, refused, shown, Command, Output, JSON,
-};
+use super::{counted, disk_of, disk_to_change, image_and_rest, json_head, keep, refused, shown, Command, Output, JSON};
 use crate::args::{Args, Spec};
 use crate::failure::Failure;
 use crate::json::Json;
@@ -19,12 +17,12 @@ pub const COMMAND: Command = Command {
     summary: "list removed files, or bring one back",
     usage: "[OPTIONS] IMAGE [NAME]",
     about: "\
-Without a name: lists what removed files left in the directory, by slot: name, size in bytes, and whether the file can
-be brought back, or why it cannot. It can if nothing of it was overwritten: its entries are whole, its name is not in use
-and its granules are free.
+Without a name: lists what removed files left in the directory, by slot: name, size in bytes, and whether the file
+can be brought back, or why it cannot. It can if nothing of it was overwritten: its entries are whole, its name is
+not in use and its granules are free.
 
-With a name, or the slot: brings that file back, with the size, date, codes and flags that it had. Its bytes are what its
-granules hold now. If several removed files have the name, the slot is to say which one is meant.
+With a name, or the slot: brings that file back, with the size, date, codes and flags that it had. Its bytes are what
+its granules hold now. If several removed files have the name, the slot is to say which one is meant.
 ",
     groups: &[("Options", &[SLOT, JSON]), (shape::TITLE, shape::OPTIONS)],
     examples: &["gdos undelete disk.img", "gdos undelete disk.img PULS01/DAT", "gdos undelete disk.img --slot 82H"],
@@ -70,9 +68,9 @@ fn table(tried: &[(&Entry, Result<BroughtBack, Refusal>)]) -> String {
 }
 
 fn entry_json(entry: &Entry, answer: Result<BroughtBack, Refusal>) -> Json {
-    let refused = answer.err().map(|refusal| {
-        Json::object([("number", refusal.number().into()), ("meaning", refusal.meaning().into())])
-    });
+    let refused = answer
+        .err()
+        .map(|refusal| Json::object([("number", refusal.number().into()), ("meaning", refusal.meaning().into())]));
     Json::object([
         ("slot", entry.slot().into()),
         ("name", name_text(entry).into()),
