@@ -514,7 +514,8 @@ fn differences() {
         |first: bool| [only(!first, "A"), only(!first, "A/B"), only(first, "PULS01/DAT"), only(!first, "Z")].to_vec();
     assert_eq!(both_ways(&other), (told(true), told(false)));
     let mut all = first.differences(&other).unwrap();
-    assert_eq!(all.by_ref().map(|difference| difference.name()).count(), 4);
+    let names: Vec<Name> = all.by_ref().map(|difference| difference.name()).collect();
+    assert_eq!(names, ["A", "A/B", "PULS01/DAT", "Z"].map(name));
     assert_eq!((all.next(), all.next()), (None, None));
 }
 

@@ -20,7 +20,7 @@ pub const COMMAND: Command = Command {
 Tells every file that is on one disk only or differs, a line each, by rising name; nothing if the disks are alike:
   ALT/DAT: only in week1.img
   PULS01/DAT: differs from byte 256; size (257 and 300); date (1983-10-09 and 1983-10-16)
-  PULS02/DAT: attributes (----B- 0 and -----P 0)
+  PULS02/DAT: attributes (----B- 0 and -I--B- 3)
 Bytes are counted from 0. A file that is a beginning of the other differs from the byte at which it ends. The
 attributes are those of `gdos ls`, the record length and the codes. Where a file lies is no difference, nor is how
 many granules it owns. A file that is a system file on either disk is compared by name only.
