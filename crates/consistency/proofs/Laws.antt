@@ -359,13 +359,20 @@ name-is g d {s} {at} {n} r p e =
     let t = r .directory in
     ap (λ (k : ℕ). take k (drop (at + 5) d)) e ∙ ap (λ (k : ℕ). take 11 (drop (k + 5) d)) (p .is) ∙ sym (name-part g d s (omega arith))
 
-pub name-no : (g : Geometry) (d : List ℕ) (h : ℕ) {s at n : ℕ} {f : Bool} → Room g d → Place g d s at → n ≡ 11 → f ≡ wellFormed (take n (drop (at + 5) d)) → not f ≡ true
+pub name-no : (g : Geometry) (d : List ℕ) (h : ℕ) {s at n x : ℕ} → Room g d → Place g d s at → n ≡ 11 → x ≡ hash (take n (drop (at + 5) d)) → (h ≡ x → ⊥)
     → false ≡ nameFits g d h s
 unfolding nameFits
-name-no g d h r p e w t = sym (all-no (ap wellFormed (sym (name-is g d r p e)) ∙ is-no w t) _)
+name-no g d h r p e w t = sym (all-out _ 1 (ne-eqb _ _ (λ z. t (z ∙ ap hash (sym (name-is g d r p e)) ∙ sym w))))
 
-pub name-yes : (g : Geometry) (d : List ℕ) (h : ℕ) {s at n x : ℕ} {f : Bool} → Room g d → Place g d s at → n ≡ 11 → f ≡ wellFormed (take n (drop (at + 5) d)) → not f ≡ false
-    → x ≡ hash (take n (drop (at + 5) d)) → eqb h x ≡ nameFits g d h s
+pub name-yes : (g : Geometry) (d : List ℕ) (h : ℕ) {s at n x : ℕ} {f : Bool} → Room g d → Place g d s at → n ≡ 11 → x ≡ hash (take n (drop (at + 5) d)) → h ≡ x
+    → f ≡ wellFormed (take n (drop (at + 5) d)) → f ≡ nameFits g d h s
 unfolding nameFits
 name-yes g d h r p e w t q =
-    ap (eqb h) (q ∙ ap hash (name-is g d r p e)) ∙ sym (all-yes (ap wellFormed (sym (name-is g d r p e)) ∙ is-yes w t) _ ∙ all-one _)
+    q ∙ ap wellFormed (name-is g d r p e) ∙ sym (all-swap (eq-eqb _ _ (t ∙ w ∙ ap hash (name-is g d r p e))))
+  where
+    all-swap : {a b : Bool} → b ≡ true → all (a ∷ b ∷ []) ≡ a
+    all-swap {a} {b} e = unfold all in rw e (by a)
+      where
+        by : (a : Bool) → (a && true) ≡ a
+        by true = refl
+        by false = refl
