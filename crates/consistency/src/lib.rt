@@ -87,7 +87,7 @@ fn file_holds(
         return false;
     }
     let left = 8 * (layout::directory_sectors(image, g) - 2);
-    walk::entry_walk(image, g, s, at, left, h, least_of(flags), n, 0, map, met)
+    walk::file_walk(image, g, s, at, left, h, least_of(flags), n, map, met)
 }
 
 // One slot: its HIT byte, and the file that starts there.

@@ -1,15 +1,15 @@
 -- Marking, place by place, and the GAT's bits.
-use mathlib.Core.Path.{_≡_, refl, sym, ap, _∙_}
+use mathlib.Core.Path.{_≡_, refl, sym, ap, _∙_, subst}
 use mathlib.Core.List.{List, [], _∷_, _++_}
 use mathlib.Core.Bool.{Bool, true, false, _&&_, and-assoc}
 use mathlib.Core.Logic.{⊎-elim}
 use Prim.Native.Nat.{ℕ, zero, suc, _+_, _-_, _*_, _/_, _%_, _^_, _≤_, _<_}
 use native.Mathlib.Omega.{arith}
-use native.Mathlib.Nat.{mul-add-div-right, mul-add-mod-self-right, div-eq-of-lt, mod-eq-of-lt, mul-le-mul, add-mul, one-mul, add-zero}
+use native.Mathlib.Nat.{mul-add-div-right, mul-add-mod-self-right, div-eq-of-lt, mod-eq-of-lt, mul-le-mul, add-mul, one-mul, add-zero, add-assoc}
 use lib.Bits.{bitAnd}
 use lib.Dec.{leb, eqb}
-use lib.ListN.{length, getD, set, length-set}
-use lib.Seq.{getD-set-same, getD-set-other}
+use lib.ListN.{length, getD, set, take, drop, replicate, length-set, length-drop}
+use lib.Seq.{getD-set-same, getD-set-other, getD-drop}
 use borrow.Author.Tests.{le-leb, lt-leb, eqb-true, eqb-false}
 use Rattle.meaning.specs.Lists.{count}
 use Rattle.meaning.specs.Bits.{digit, bit, digit-lt}
@@ -17,8 +17,9 @@ use Rattle.meaning.specs.Layout.{granules, taken, byte, gatAt}
 use Rattle.meaning.specs.declared.Geometry.{Geometry}
 use Rattle.layout.proofs.Laws.{left-more, left-none}
 use Rattle.layout.proofs.Lists.{le-or-lt}
+use Rattle.layout.specs.Number.{number}
 use Rattle.seek.proofs.Below.{allBelow, all-below}
-use Rattle.marks.specs.Marks.{marked, allows, Marks, Spread, Bits, TakenMap}
+use Rattle.marks.specs.Marks.{marked, allows, Marks, Stand, Spread, Bits, TakenMap}
 
 -- One list of places after another
 pub marked-append : (m : List ℕ) (v : ℕ) (xs ys : List ℕ) → marked m v (xs ++ ys) ≡ marked (marked m v xs) v ys
@@ -60,6 +61,43 @@ marking-step {m = m} {least = least} {v = v} {i = i} {n = n} k h l =
           ∙ sym (ap (allows m least v) (count-more h)) ∙ k .answer;
     }
 
+-- k places further
+pub marking-many : (k i n : ℕ) {m₀ m whole : List ℕ} {least v : ℕ} → Marking m₀ least v whole m (count i (n - i)) → i + k ≤ n → ((u : ℕ) → u < k → least ≤ getD m (i + u) 0)
+    → Marking m₀ least v whole (marked m v (count i k)) (count (i + k) (n - (i + k)))
+unfolding marked
+marking-many zero i n {m₀} {m} {whole} {least} {v} w l h = subst (λ (j : ℕ). Marking m₀ least v whole m (count j (n - j))) (sym (add-zero i)) w
+marking-many (suc k) i n {m₀} {m} {whole} {least} {v} w l h =
+    subst (λ (j : ℕ). Marking m₀ least v whole (marked (set m i v) v (count (i + 1) k)) (count j (n - j))) (let z : i + 1 + k ≡ i + suc k = omega arith in z)
+    (marking-many k (i + 1) n (marking-step w (omega arith) (subst (λ (j : ℕ). least ≤ getD m j 0) (add-zero i) (h 0 (omega arith)))) (omega arith)
+    (λ u q. subst (λ (y : ℕ). least ≤ y) (sym (getD-set-other m i (i + 1 + u) v 0 (λ z. omega arith))) (subst (λ (j : ℕ). least ≤ getD m j 0) (let z : i + suc u ≡ i + 1 + u = omega arith in z) (h (suc u) (omega arith)))))
+
+-- eight stores
+pub marked-eight : (m : List ℕ) (v at : ℕ)
+    → set (set (set (set (set (set (set (set m at v) (at + 1) v) (at + 2) v) (at + 3) v) (at + 4) v) (at + 5) v) (at + 6) v) (at + 7) v ≡ marked m v (count at 8)
+unfolding marked
+marked-eight m v at = simp add-assoc
+
+-- bytes that make the number of n bytes of 3 are 3 each
+threes : (n : ℕ) (l : List ℕ) → n ≤ length l → ((i : ℕ) → getD l i 0 < 256) → number (take n l) ≡ number (replicate n 3) → (u : ℕ) → u < n → _≡_ {A = ℕ} (getD l u 0) 3
+unfolding number
+threes zero l h b e u k = absurd (let z : ⊥ = omega arith in z)
+threes (suc n) [] h b e u k = absurd (let z : ⊥ = omega arith in z)
+threes (suc n) (x ∷ xs) h b e zero k = let z = b 0 in omega arith
+threes (suc n) (x ∷ xs) h b e (suc u) k = threes n xs (omega arith) (λ i. b (suc i)) (let z = b 0 in omega arith) u (omega arith)
+
+eight : 0x0303030303030303 ≡ number (replicate 8 3)
+unfolding number
+eight = refl
+
+pub stand-is : {m : List ℕ} {at end least : ℕ} → at + 8 ≤ length m → ((i : ℕ) → getD m i 0 < 256) → at + 8 ≤ end → number (take 8 (drop at m)) ≡ 0x0303030303030303 → least ≤ 3 → Stand m at end least
+stand-is {m} {at} {end} {least} h b l e q =
+    record {
+      before = l;
+      high = λ u k.
+          subst (λ (y : ℕ). least ≤ y)
+          (sym (sym (getD-drop at m u 0) ∙ threes 8 (drop at m) (let z = length-drop at m in omega arith) (λ i. rw (getD-drop at m i 0) (b (at + i))) (e ∙ eight) u k)) q;
+    }
+
 pub marking-stop : {m₀ m m′ whole : List ℕ} {least v i n : ℕ} → Marking m₀ least v whole m (count i (n - i)) → i < n → getD m i 0 < least
     → Marks m₀ least v whole m′ false
 unfolding marked allows
@@ -91,6 +129,10 @@ spread-is gat h =
           eqb-true _ _
           (all-below 8 (λ u. eqb (spreads gat / 256 ^ u % 256) (digit gat u * 3)) (all-below 256 (λ gat. allBelow 8 (λ u. eqb (spreads gat / 256 ^ u % 256) (digit gat u * 3))) spreads-all gat h) u l);
     }
+
+-- the rest is marked
+pub marking-rest : {m₀ m m′ whole rest : List ℕ} {least v : ℕ} {r : Bool} → Marking m₀ least v whole m rest → Marks m least v rest m′ r → Marks m₀ least v whole m′ r
+marking-rest w k = record { answer = k .answer ∙ w .answer; map = λ e. k .map e ∙ w .map }
 
 -- The bits of one GAT byte, one after the other
 pub bits-none : (m : List ℕ) (n gat : ℕ) → Bits m n 0 gat m

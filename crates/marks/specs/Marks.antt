@@ -2,7 +2,7 @@
 use mathlib.Core.Path.{_≡_}
 use mathlib.Core.List.{List, [], _∷_}
 use mathlib.Core.Bool.{Bool, true, false, _&&_}
-use Prim.Native.Nat.{ℕ, _+_, _*_, _/_, _%_, _^_, _<_}
+use Prim.Native.Nat.{ℕ, _+_, _*_, _/_, _%_, _^_, _≤_, _<_}
 use lib.Dec.{leb}
 use lib.ListN.{length, getD, set}
 use Rattle.meaning.specs.Bits.{digit}
@@ -23,6 +23,11 @@ allows m least v (n ∷ ns) = leb least (getD m n 0) && allows (set m n v) least
 pub record Marks (m : List ℕ) (least v : ℕ) (ns m′ : List ℕ) (r : Bool) : Type 0 where
   pub answer : r ≡ allows m least v ns
   pub map : r ≡ true → m′ ≡ marked m v ns
+
+-- the eight places from `at` on lie before `end` and stand at `least` or above
+pub record Stand (m : List ℕ) (at end least : ℕ) : Type 0 where
+  pub before : at + 8 ≤ end
+  pub high : (u : ℕ) → u < 8 → least ≤ getD m (at + u) 0
 
 -- the bits of a GAT byte stand in the bytes of a number, lowest first, as 0 and 3
 pub record Spread (gat r : ℕ) : Type 0 where

@@ -4,7 +4,7 @@ use mathlib.Core.List.{List, [], _∷_, _++_, append-nil}
 use mathlib.Core.Bool.{Bool, true, false, not, cond, _&&_, _||_, and-true}
 use Prim.Native.Nat.{ℕ, zero, suc, _+_, _-_, _*_, _/_, _%_, _≤_, _<_}
 use native.Mathlib.Omega.{arith}
-use native.Mathlib.Nat.{add-zero}
+use native.Mathlib.Nat.{add-zero, zero-add}
 use lib.ListN.{length, getD, set, length-append}
 use lib.Dec.{eqb, ltb, leb}
 use borrow.Author.Tests.{le-leb, lt-leb, lt-ltb, le-ltb, eq-eqb, ne-eqb, eqb-true, not-true, not-false}
@@ -326,6 +326,13 @@ module _ (g : Geometry) (d : List ℕ) where
           = ap {B = ℕ} length (split s n) ∙ length-append (entryGranules g d s) rest ∙ ap (λ (j : ℕ). j + length rest) (sym (w .granules-is ok)) in
           let f : owned + length (granulesOf g d (chainFrom g d left s)) ≡ owned + p .granules + length rest = omega arith in
           ap (λ (j : ℕ). leb sectors (granuleSectors * j)) f
+
+  -- the same, of the primary entry: no granule was met before
+  pub walked-first : {least sectors : ℕ} (h s : ℕ) {left : ℕ} {m m₁ m₂ met met₂ : List ℕ} {p : Pairs} {r : Bool} → (left ≡ 0 → ⊥) → 1 ≤ getD met s 0 → Entered g d s least m m₁ p → not (p .ok) ≡ false
+      → Walked g d least sectors (p .granules) (markerHolds g d h s (chainHolds g d h (left - 1) (link g d s)))
+      (onward g d s (chainFrom g d (left - 1) (link g d s))) m₁ m₂ (set met s 0) met₂ r
+      → Walked g d least sectors 0 (chainHolds g d h left s) (chainFrom g d left s) m m₂ met met₂ r
+  walked-first h s {p = p} n l w t k = walked-entry h s n l w t (rw (zero-add (p .granules)) k)
 
   -- the marker is FFH
   pub walked-end : {least sectors owned : ℕ} (h s : ℕ) (rest : Bool) (cs : List ℕ) {x : ℕ} {m met : List ℕ} → x ≡ marker g d s → x ≡ 0xff

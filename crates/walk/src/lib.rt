@@ -158,9 +158,53 @@ fn goes_on(image: &[u8], g: Geometry, s: usize, at: usize, runs: usize, h: usize
     layout::hit(image, g, t) == h
 }
 
+// The whole chain of a file: its primary entry here, its extensions by the walk below. A file without extensions needs no call.
+pub fn file_walk(
+    image: &[u8],
+    g: Geometry,
+    s: usize,
+    at: usize,
+    left: usize,
+    h: usize,
+    least: u8,
+    sectors: usize,
+    map: &mut [u8; 1544],
+    met: &mut [u8; 256],
+) -> bool
+    requires { ⌜ Room g (now image) × Place g (now image) s at × (left ≡ 0 → ⊥) × (128 * left ≤ 65536) ⌝ }
+    ensures { λ r. ⌜ Walked g (now (image .entry)) least sectors 0 (chainHolds g (now (image .entry)) h left s)
+        (chainFrom g (now (image .entry)) left s) (now (map .entry)) (now (map .exit)) (now (met .entry)) (now (met .exit)) r ⌝ }
+{
+    if met[s] < 1 {
+        return false;
+    }
+    met[s] = 0;
+    let p = take_runs(image, g, s, at, map, least);
+    if !p.ok {
+        return false;
+    }
+    if field_at(image, g, s, at, 0x1e) == 0xff {
+        return sectors <= layout::GRANULE_SECTORS * p.granules;
+    }
+    marker_walk(
+        image,
+        g,
+        s,
+        at,
+        p.runs,
+        left - 1,
+        h,
+        least,
+        sectors,
+        p.granules,
+        map,
+        met,
+    )
+}
+
 // The entry of slot s, of a file with HIT byte h, and what its marker leads to: at most `left` entries. `met` has 1 for each slot not
 // met so far, and `owned` granules were met before. The sector count must fit the granules of the whole chain.
-pub fn entry_walk(
+fn entry_walk(
     image: &[u8],
     g: Geometry,
     s: usize,
