@@ -237,6 +237,10 @@ pub keep-eq : (p q : ℕ → Bool) (xs : List ℕ) → ((x : ℕ) → In x xs �
 keep-eq p q [] e = refl
 keep-eq p q (x ∷ xs) e = rw (e x here, keep-eq p q xs (λ y i. e y (there i)))
 
+pub every-eq : (p q : ℕ → Bool) (xs : List ℕ) → ((x : ℕ) → In x xs → p x ≡ q x) → every p xs ≡ every q xs
+every-eq p q [] e = refl
+every-eq p q (x ∷ xs) e = rw (e x here, every-eq p q xs (λ y i. e y (there i)))
+
 -- No number twice --------------------------------------------------------------------------------------------------------
 
 pub data Distinct : List ℕ → Type 0 where
