@@ -1,71 +1,67 @@
 -- Bits of a byte.
 use mathlib.Core.Path.{_≡_, refl, sym, ap, _∙_}
-use mathlib.Core.Bool.{Bool, true, false}
 use Prim.Native.Nat.{ℕ, zero, suc, _+_, _-_, _*_, _/_, _%_, _^_, _≤_, _<_}
 use native.Mathlib.Omega.{arith}
-use lib.Dec.{eqb, leb, ltb}
-use borrow.Author.Tests.{eqb-true, leb-true, ltb-true}
-use mathlib.Core.Bool.{cond, not, _&&_}
-use Rattle.seek.proofs.Below.{allBelow, all-below}
-use Rattle.layout.proofs.Lists.{and-l, and-r}
-use Rattle.meaning.specs.Bits.{digit, putDigit}
+use native.Mathlib.Nat.{pow-suc}
+use lib.Bits.{bitAnd, bitOr, and-block, or-block, and-zero-r, or-zero-r}
+use lib.Dec.{eqb}
+use borrow.Author.Tests.{eqb-true}
+use Rattle.seek.proofs.Below.{all-below}
+use Rattle.meaning.specs.Bits.{putDigit}
 
 pub shl-one : (u : ℕ) → u < 8 → 1 * 2 ^ u % 256 ≡ 2 ^ u
 shl-one u h = eqb-true _ _ (all-below 8 (λ u. eqb (1 * 2 ^ u % 256) (2 ^ u)) refl u h)
 
--- a set bit's weight is in the byte, a clear one's has room: by computing over all bytes and bits
-has-bit : ℕ → ℕ → Bool
-has-bit u b = cond (eqb (b / 2 ^ u % 2) 1) (leb (2 ^ u) b) (ltb (b + 2 ^ u) 256)
+-- a byte by its lowest digit and the rest
+halves : (b : ℕ) → b ≡ b / 2 * 2 ^ 1 + b % 2
+halves b = omega arith
 
-all-bits : allBelow 8 (λ u. allBelow 256 (has-bit u)) ≡ true
-unfolding has-bit
-all-bits = refl
+digit-or : (b : ℕ) → bitOr (b % 2) 1 ≡ 1
+digit-or b = by (b % 2) (omega arith)
+  where
+    by : (d : ℕ) → d < 2 → bitOr d 1 ≡ 1
+    by zero h = refl
+    by (suc zero) h = refl
+    by (suc (suc d)) h = absurd (let z : ⊥ = omega arith in z)
 
-bits-at : (u b : ℕ) → u < 8 → b < 256 → has-bit u b ≡ true
-bits-at u b h l = all-below 256 (has-bit u) (all-below 8 (λ u. allBelow 256 (has-bit u)) all-bits u h) b l
+digit-and : (b : ℕ) → bitAnd (b % 2) 1 ≡ b % 2
+digit-and b = by (b % 2) (omega arith)
+  where
+    by : (d : ℕ) → d < 2 → bitAnd d 1 ≡ d
+    by zero h = refl
+    by (suc zero) h = refl
+    by (suc (suc d)) h = absurd (let z : ⊥ = omega arith in z)
 
-pub bit-in : (u b : ℕ) → u < 8 → b < 256 → eqb (b / 2 ^ u % 2) 1 ≡ true → 2 ^ u ≤ b
-unfolding has-bit
-bit-in u b h l e = leb-true _ _ (sym (ap (λ (t : Bool). cond t (leb (2 ^ u) b) (ltb (b + 2 ^ u) 256)) e) ∙ bits-at u b h l)
+-- a power of two by its lowest digit, 0, and the rest
+twice : (u : ℕ) → 2 ^ suc u ≡ 2 ^ u * 2 ^ 1 + 0
+twice u = pow-suc 2 u ∙ (let z : 2 ^ u * 2 ≡ 2 ^ u * 2 ^ 1 + 0 = omega arith in z)
 
-pub bit-out : (u b : ℕ) → u < 8 → b < 256 → eqb (b / 2 ^ u % 2) 1 ≡ false → b + 2 ^ u < 256
-unfolding has-bit
-bit-out u b h l e = ltb-true _ _ (sym (ap (λ (t : Bool). cond t (leb (2 ^ u) b) (ltb (b + 2 ^ u) 256)) e) ∙ bits-at u b h l)
+-- the byte with a bit put, as the bit with the others or without
+pub set-bit : (u b : ℕ) → bitOr b (2 ^ u) ≡ putDigit b u 1
+unfolding putDigit
+set-bit zero b =
+    ap (λ (x : ℕ). bitOr x (0 * 2 ^ 1 + 1)) (halves b) ∙ or-block 1 (b / 2) 0 (b % 2) 1 (omega arith) (omega arith)
+    ∙ ap (λ (x : ℕ). x * 2 ^ 1 + bitOr (b % 2) 1) (or-zero-r (b / 2)) ∙ ap (λ (x : ℕ). b / 2 * 2 ^ 1 + x) (digit-or b)
+set-bit (suc u) b =
+    ap (λ (x : ℕ). bitOr x (2 ^ suc u)) (halves b) ∙ ap (λ (x : ℕ). bitOr (b / 2 * 2 ^ 1 + b % 2) x) (twice u)
+    ∙ or-block 1 (b / 2) (2 ^ u) (b % 2) 0 (omega arith) (omega arith)
+    ∙ ap (λ (x : ℕ). x * 2 ^ 1 + bitOr (b % 2) 0) (set-bit u (b / 2)) ∙ ap (λ (x : ℕ). putDigit (b / 2) u 1 * 2 ^ 1 + x) (or-zero-r (b % 2))
 
--- the byte with a bit put, as a sum or a difference finds it
-has-put : ℕ → ℕ → Bool
-has-put u b =
-    cond (eqb (b / 2 ^ u % 2) 1)
-    (eqb (putDigit b u 1) b && eqb (putDigit b u 0) (b - 2 ^ u))
-    (eqb (putDigit b u 1) (b + 2 ^ u) && eqb (putDigit b u 0) b)
+one-bit : (u b : ℕ) → putDigit b u 0 + bitAnd b (2 ^ u) ≡ b
+unfolding putDigit
+one-bit zero b =
+    let e : bitAnd b 1 ≡ 0 * 2 ^ 1 + bitAnd (b % 2) 1 =
+    ap (λ (x : ℕ). bitAnd x (0 * 2 ^ 1 + 1)) (halves b) ∙ and-block 1 (b / 2) 0 (b % 2) 1 (omega arith) (omega arith)
+    ∙ ap (λ (x : ℕ). x * 2 ^ 1 + bitAnd (b % 2) 1) (and-zero-r (b / 2)) in
+    let d = digit-and b in
+    omega arith
+one-bit (suc u) b =
+    let e : bitAnd b (2 ^ suc u) ≡ bitAnd (b / 2) (2 ^ u) * 2 =
+    ap (λ (x : ℕ). bitAnd x (2 ^ suc u)) (halves b) ∙ ap (λ (x : ℕ). bitAnd (b / 2 * 2 ^ 1 + b % 2) x) (twice u)
+    ∙ and-block 1 (b / 2) (2 ^ u) (b % 2) 0 (omega arith) (omega arith)
+    ∙ ap (λ (x : ℕ). bitAnd (b / 2) (2 ^ u) * 2 ^ 1 + x) (and-zero-r (b % 2)) ∙ (let z : bitAnd (b / 2) (2 ^ u) * 2 ^ 1 + 0 ≡ bitAnd (b / 2) (2 ^ u) * 2 = omega arith in z) in
+    let ih = one-bit u (b / 2) in
+    omega arith
 
-all-puts : allBelow 8 (λ u. allBelow 256 (has-put u)) ≡ true
-unfolding has-put putDigit
-all-puts = refl
-
-puts-at : (u b : ℕ) → u < 8 → b < 256 → has-put u b ≡ true
-puts-at u b h l = all-below 256 (has-put u) (all-below 8 (λ u. allBelow 256 (has-put u)) all-puts u h) b l
-
-put-in : (u b : ℕ) → u < 8 → b < 256 → eqb (b / 2 ^ u % 2) 1 ≡ true → (eqb (putDigit b u 1) b && eqb (putDigit b u 0) (b - 2 ^ u)) ≡ true
-unfolding has-put
-put-in u b h l e =
-    sym (ap (λ (t : Bool). cond t (eqb (putDigit b u 1) b && eqb (putDigit b u 0) (b - 2 ^ u)) (eqb (putDigit b u 1) (b + 2 ^ u) && eqb (putDigit b u 0) b)) e)
-    ∙ puts-at u b h l
-
-put-out : (u b : ℕ) → u < 8 → b < 256 → eqb (b / 2 ^ u % 2) 1 ≡ false → (eqb (putDigit b u 1) (b + 2 ^ u) && eqb (putDigit b u 0) b) ≡ true
-unfolding has-put
-put-out u b h l e =
-    sym (ap (λ (t : Bool). cond t (eqb (putDigit b u 1) b && eqb (putDigit b u 0) (b - 2 ^ u)) (eqb (putDigit b u 1) (b + 2 ^ u) && eqb (putDigit b u 0) b)) e)
-    ∙ puts-at u b h l
-
-pub set-set : (u b : ℕ) → u < 8 → b < 256 → eqb (b / 2 ^ u % 2) 1 ≡ true → putDigit b u 1 ≡ b
-set-set u b h l e = eqb-true _ _ (and-l _ _ (put-in u b h l e))
-
-pub clear-set : (u b : ℕ) → u < 8 → b < 256 → eqb (b / 2 ^ u % 2) 1 ≡ true → putDigit b u 0 ≡ b - 2 ^ u
-clear-set u b h l e = eqb-true _ _ (and-r (eqb (putDigit b u 1) b) _ (put-in u b h l e))
-
-pub set-clear : (u b : ℕ) → u < 8 → b < 256 → eqb (b / 2 ^ u % 2) 1 ≡ false → putDigit b u 1 ≡ b + 2 ^ u
-set-clear u b h l e = eqb-true _ _ (and-l _ _ (put-out u b h l e))
-
-pub clear-clear : (u b : ℕ) → u < 8 → b < 256 → eqb (b / 2 ^ u % 2) 1 ≡ false → putDigit b u 0 ≡ b
-clear-clear u b h l e = eqb-true _ _ (and-r (eqb (putDigit b u 1) (b + 2 ^ u)) _ (put-out u b h l e))
+pub clear-bit : (u b : ℕ) → b - bitAnd b (2 ^ u) ≡ putDigit b u 0
+clear-bit u b = let e = one-bit u b in omega arith

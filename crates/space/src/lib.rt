@@ -21,7 +21,7 @@ pub fn without_bit(b: u8, u: usize) -> u8
     ensures { λ r. ⌜ r ≡ withoutBit u b ⌝ }
 {
     let p: u8 = 1 << u;
-    if (b >> u) % 2 == 1 { b - p } else { b }
+    b - (b & p)
 }
 
 pub fn with_bit(b: u8, u: usize) -> u8
@@ -29,7 +29,7 @@ pub fn with_bit(b: u8, u: usize) -> u8
     ensures { λ r. ⌜ r ≡ withBit u b ⌝ }
 {
     let p: u8 = 1 << u;
-    if (b >> u) % 2 == 1 { b } else { b + p }
+    b | p
 }
 
 pub fn free_granule(image: &mut [u8], g: Geometry, n: usize)
