@@ -406,10 +406,10 @@ fn blank_disks() {
         |geometry, sectors, reserved: &[usize]| Disk::blank(geometry, sectors, reserved).map(|_| ()).unwrap_err();
     let small = Geometry::new(2, 1, 0, 0);
     assert!(Disk::blank(small, 10, &[]).is_ok());
-    assert_eq!(blank(small, 15, &[]), Refusal::Inconsistent);
-    assert_eq!(blank(small, 12, &[]), Refusal::Inconsistent);
-    assert_eq!(blank(small, 5, &[]), Refusal::Inconsistent);
-    assert_eq!(blank(small, usize::MAX, &[]), Refusal::Inconsistent);
+    for sectors in [15, 12, 5, usize::MAX] {
+        let no_length = Refusal::Inconsistent(Fault::of_disk(FaultKind::DirectoryLength));
+        assert_eq!(blank(small, sectors, &[]), no_length);
+    }
     assert_eq!(blank(small, 10, &[2]), Refusal::Range);
     assert_eq!(blank(Geometry { start: 5, ..small }, 10, &[]), Refusal::Geometry);
     assert_eq!(blank(Geometry { start: usize::MAX, ..small }, 10, &[]), Refusal::Geometry);
@@ -455,7 +455,12 @@ fn damaged_disks_are_refused_or_agree() {
             }
             Err(refusal) => {
                 refused += 1;
-                assert_eq!((refusal, damaged.entries().unwrap_err()), (Refusal::Inconsistent, Refusal::Inconsistent));
+                let fault = refusal.fault().expect("the geometry is good");
+                assert_eq!(damaged.entries(), Err(refusal), "every call tells the same fault");
+                // What is told can be explained, in words of its own.
+                let explained = damaged.explain(fault);
+                assert_eq!(explained.fault, fault);
+                assert_ne!(explained.message, fault.kind.words(), "{fault:?} is not explained");
             }
         }
     }
@@ -525,13 +530,14 @@ fn refused_differences_name_the_disk() {
     let mut image = good.image().to_vec();
     image[entry_at(0x80)] |= 0x10;
     let inconsistent = Disk::new(image, GEOMETRY);
+    let hit = Refusal::Inconsistent(Fault::at(FaultKind::HitAgainstEntry, 0x80));
     let short = Disk::new(&good.image()[1..], GEOMETRY);
     let refused = |image, refusal| Some(RefusedImage { image, refusal });
-    assert_eq!(good.differences(&inconsistent).err(), refused(Which::Second, Refusal::Inconsistent));
+    assert_eq!(good.differences(&inconsistent).err(), refused(Which::Second, hit));
     assert_eq!(good.differences(&short).err(), refused(Which::Second, Refusal::Geometry));
-    assert_eq!(inconsistent.differences(&good).err(), refused(Which::First, Refusal::Inconsistent));
-    assert_eq!(inconsistent.differences(&short).err(), refused(Which::First, Refusal::Inconsistent));
+    assert_eq!(inconsistent.differences(&good).err(), refused(Which::First, hit));
+    assert_eq!(inconsistent.differences(&short).err(), refused(Which::First, hit));
     assert_eq!(short.differences(&inconsistent).err(), refused(Which::First, Refusal::Geometry));
     let text = good.differences(&inconsistent).err().unwrap().to_string();
-    assert_eq!(text, "the second disk: 2 (disk not consistent)");
+    assert_eq!(text, "the second disk: 22 (disk not consistent: HIT against entry; slot 80H)");
 }
