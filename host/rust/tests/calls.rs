@@ -40,11 +40,16 @@ fn entry_at(slot: u8) -> usize {
 }
 
 /// Runs a call that must be refused, on a copy, and sees that it left the disk as it was.
-fn refused<T: std::fmt::Debug>(disk: &Disk, call: impl FnOnce(&mut Disk) -> Result<T, Refusal>) -> u8 {
+fn refusal<T: std::fmt::Debug>(disk: &Disk, call: impl FnOnce(&mut Disk) -> Result<T, Refusal>) -> Refusal {
     let mut copy = disk.clone();
     let refusal = call(&mut copy).expect_err("the call is refused");
     assert!(copy.image() == disk.image(), "{refusal} changed the image");
-    refusal.number()
+    refusal
+}
+
+/// The number of that refusal.
+fn refused<T: std::fmt::Debug>(disk: &Disk, call: impl FnOnce(&mut Disk) -> Result<T, Refusal>) -> u8 {
+    refusal(disk, call).number()
 }
 
 #[test]
@@ -265,38 +270,47 @@ fn every_refusal_by_its_number() {
     };
     let at = entry_at(handle.slot());
 
-    // 1 and 2, by every call.
-    for (bad, number) in [
-        (Disk::new(disk.image()[1..].to_vec(), GEOMETRY), 1),
-        (Disk::new(disk.image().to_vec(), Geometry { start: 61, ..GEOMETRY }), 1),
-        (Disk::new(disk.image().to_vec(), Geometry { blocks: usize::MAX, ..GEOMETRY }), 1),
-        (Disk::new(Vec::new(), GEOMETRY), 1),
-        (edited(at + 5, 0xff), 2),
+    // 1 and 21 to 30, by every call and with the same slot.
+    let (slot, start) = (handle.slot(), GEOMETRY.start * 256);
+    let fault = |kind, slot| Refusal::Inconsistent(Fault { kind, slot });
+    for (bad, told) in [
+        (Disk::new(disk.image()[1..].to_vec(), GEOMETRY), Refusal::Geometry),
+        (Disk::new(disk.image().to_vec(), Geometry { start: 61, ..GEOMETRY }), Refusal::Geometry),
+        (Disk::new(disk.image().to_vec(), Geometry { blocks: usize::MAX, ..GEOMETRY }), Refusal::Geometry),
+        (Disk::new(Vec::new(), GEOMETRY), Refusal::Geometry),
+        (edited(at + 5, 0xff), fault(FaultKind::HitAgainstEntry, Some(slot))),
+        (edited(at, 0x20), fault(FaultKind::Name, Some(slot))),
+        (edited(at + 0x1e, 0x80), fault(FaultKind::Chain, Some(slot))),
+        (edited(at + 0x16, 0x80), fault(FaultKind::RunOffDisk, Some(slot))),
+        (edited(start, 0x02), fault(FaultKind::GatBitMissing, Some(slot))),
+        (edited(at + 0x15, 0x01), fault(FaultKind::Size, Some(slot))),
+        (edited(start + 256 + 0x1f, 1), fault(FaultKind::DirectoryLength, None)),
+        (edited(start + 2, 0x04), fault(FaultKind::DirectoryGranule, None)),
     ] {
         let mut h = handle;
-        assert_eq!(refused(&bad, |d| d.check()), number);
-        assert_eq!(refused(&bad, |d| d.look_up(&name("A")).slot), number);
-        assert_eq!(refused(&bad, |d| d.open(&name("A"), 0, Password::Unchecked)), number);
-        assert_eq!(refused(&bad, |d| d.create(&name("A"), &plain())), number);
-        assert_eq!(refused(&bad, |d| d.read_record(&mut h, &mut [0; 256])), number);
-        assert_eq!(refused(&bad, |d| d.read_sector(&h, 0).map(<[u8]>::len)), number);
-        assert_eq!(refused(&bad, |d| d.write_record(&mut h, Kind::Random, &[0; 256])), number);
-        assert_eq!(refused(&bad, |d| d.allot(&h, 0)), number);
-        assert_eq!(refused(&bad, |d| d.trim(&h)), number);
-        assert_eq!(refused(&bad, |d| d.kill(&h)), number);
-        assert_eq!(refused(&bad, |d| d.bring_back(usize::MAX)), number);
-        assert_eq!(refused(&bad, |d| d.list(0)), number);
-        assert_eq!(refused(&bad, |d| d.count()), number);
-        assert_eq!(refused(&bad, |d| d.files()), number);
-        assert_eq!(refused(&bad, |d| d.listing()), number);
-        assert_eq!(refused(&bad, |d| d.contents(&h)), number);
-        assert_eq!(refused(&bad, |d| d.entries()), number);
-        assert_eq!(refused(&bad, |d| d.dead_entries().map(|all| all.len())), number);
-        assert_eq!(refused(&bad, |d| d.directory_sectors()), number);
+        assert_eq!(refusal(&bad, |d| d.check()), told);
+        assert_eq!(refusal(&bad, |d| d.look_up(&name("A")).slot), told);
+        assert_eq!(refusal(&bad, |d| d.open(&name("A"), 0, Password::Unchecked)), told);
+        assert_eq!(refusal(&bad, |d| d.create(&name("A"), &plain())), told);
+        assert_eq!(refusal(&bad, |d| d.read_record(&mut h, &mut [0; 256])), told);
+        assert_eq!(refusal(&bad, |d| d.read_sector(&h, 0).map(<[u8]>::len)), told);
+        assert_eq!(refusal(&bad, |d| d.write_record(&mut h, Kind::Random, &[0; 256])), told);
+        assert_eq!(refusal(&bad, |d| d.allot(&h, 0)), told);
+        assert_eq!(refusal(&bad, |d| d.trim(&h)), told);
+        assert_eq!(refusal(&bad, |d| d.kill(&h)), told);
+        assert_eq!(refusal(&bad, |d| d.bring_back(usize::MAX)), told);
+        assert_eq!(refusal(&bad, |d| d.list(0)), told);
+        assert_eq!(refusal(&bad, |d| d.count()), told);
+        assert_eq!(refusal(&bad, |d| d.files()), told);
+        assert_eq!(refusal(&bad, |d| d.listing()), told);
+        assert_eq!(refusal(&bad, |d| d.contents(&h)), told);
+        assert_eq!(refusal(&bad, |d| d.entries()), told);
+        assert_eq!(refusal(&bad, |d| d.dead_entries().map(|all| all.len())), told);
+        assert_eq!(refusal(&bad, |d| d.directory_sectors()), told);
         // Free space looks at the GAT alone.
-        match number {
-            1 => assert_eq!(refused(&bad, |d| d.free_space()), 1),
-            _ => assert_eq!(bad.free_space(), disk.free_space()),
+        match told {
+            Refusal::Geometry => assert_eq!(refusal(&bad, |d| d.free_space()), told),
+            _ => assert!(bad.free_space().is_ok()),
         }
         assert_eq!(h, handle);
     }
