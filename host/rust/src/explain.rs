@@ -273,7 +273,7 @@ impl Damaged<'_> {
 
     fn length(&self) -> Option<String> {
         let above = self.byte(1, 0x1f);
-        if above > 20 || above % 5 != 0 {
+        if ![0, 5, 10, 15, 20].contains(&above) {
             return Some(format!("HIT byte 1FH (directory sectors above 10) is {above}, not 0, 5, 10, 15 or 20"));
         }
         let (start, disk) = (self.g.start, self.image.len() / Geometry::SECTOR_BYTES);
