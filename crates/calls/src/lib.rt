@@ -26,18 +26,18 @@ ghost use Rattle.meaning.specs.Kill.{kill};
 ghost use Rattle.meaning.specs.Listing.{list, counts};
 ghost use Rattle.read.specs.Part.{partOf, Lies};
 
-// Check: 0, or refusal 1 or 2.
+// Check: 0, refusal 1, or a fault, 21 to 30.
 pub fn check(image: &[u8], g: Geometry) -> u8
     ensures { λ r. ⌜ r ≡ check g (now (image .entry)) ⌝ }
 {
-    consistency::check(image, g)
+    diagnosis::checked(image, g)
 }
 
 // Look up: the slot of the file of that name, and how many entries were compared.
 pub fn look_up(image: &[u8], g: Geometry, name: &[u8]) -> LookedUp
     ensures { λ r. ⌜ r ≡ lookUp g (now (image .entry)) (now (name .entry)) ⌝ }
 {
-    let checked = consistency::check(image, g);
+    let checked = diagnosis::checked(image, g);
     find::look_up_checked(image, g, name, checked)
 }
 
@@ -52,7 +52,7 @@ pub fn open_file(
 ) -> Answer
     ensures { λ r. ⌜ r ≡ open′ g (now (image .entry)) (now (name .entry)) len checking code ⌝ }
 {
-    let checked = consistency::check(image, g);
+    let checked = diagnosis::checked(image, g);
     find::open_checked(image, g, name, len, checking, code, checked)
 }
 
@@ -60,7 +60,7 @@ pub fn open_file(
 pub fn create(image: &mut [u8], g: Geometry, name: &[u8], f: NewFile, checking: bool) -> Created
     ensures { λ r. ⌜ (r, now (image .exit)) ≡ create g (now (image .entry)) (now (name .entry)) f checking ⌝ }
 {
-    let checked = consistency::check(image, g);
+    let checked = diagnosis::checked(image, g);
     create::create_checked(image, g, name, f, checking, checked)
 }
 
@@ -68,7 +68,7 @@ pub fn create(image: &mut [u8], g: Geometry, name: &[u8], f: NewFile, checking: 
 pub fn read_record(image: &[u8], g: Geometry, h: Handle, buffer: &mut [u8]) -> Answer
     ensures { λ r. ⌜ (r, now (buffer .exit)) ≡ readRecord g (now (image .entry)) h (now (buffer .entry)) ⌝ }
 {
-    let checked = consistency::check(image, g);
+    let checked = diagnosis::checked(image, g);
     read::record_checked(image, g, h, buffer, checked)
 }
 
@@ -77,7 +77,7 @@ pub fn sector_part(image: &[u8], g: Geometry, h: Handle, k: usize) -> Part
     ensures is { λ r. ⌜ r ≡ readSector g (now (image .entry)) h k ⌝ }
     ensures lies { λ r. ⌜ Lies r (length (now (image .entry))) ⌝ }
 {
-    let checked = consistency::check(image, g);
+    let checked = diagnosis::checked(image, g);
     read::sector_checked(image, g, h, k, checked)
 }
 
@@ -92,7 +92,7 @@ pub fn read_sector<'a>(
     ensures what { λ r. ⌜ (now (number .exit), now r) ≡ partOf (now (image .entry)) (readSector g (now (image .entry)) h k) ⌝ }
     ensures place_at { λ r. ⌜ ptr r ≡ (ptr (image .entry) .0, ptr (image .entry) .1 + readSector g (now (image .entry)) h k .from) ⌝ }
 {
-    let checked = consistency::check(image, g);
+    let checked = diagnosis::checked(image, g);
     read::part_checked(image, g, h, k, checked, number)
 }
 
@@ -100,7 +100,7 @@ pub fn read_sector<'a>(
 pub fn write_record(image: &mut [u8], g: Geometry, mode: Mode, h: Handle, buffer: &[u8]) -> Answer
     ensures { λ r. ⌜ (r, now (image .exit)) ≡ writeRecord g (now (image .entry)) mode h (now (buffer .entry)) ⌝ }
 {
-    let checked = consistency::check(image, g);
+    let checked = diagnosis::checked(image, g);
     write::write_checked(image, g, mode, h, buffer, checked)
 }
 
@@ -108,7 +108,7 @@ pub fn write_record(image: &mut [u8], g: Geometry, mode: Mode, h: Handle, buffer
 pub fn allot(image: &mut [u8], g: Geometry, h: Handle, k: usize) -> Answer
     ensures { λ r. ⌜ (r, now (image .exit)) ≡ allot g (now (image .entry)) h k ⌝ }
 {
-    let checked = consistency::check(image, g);
+    let checked = diagnosis::checked(image, g);
     allot::allot_checked(image, g, h, k, checked)
 }
 
@@ -116,7 +116,7 @@ pub fn allot(image: &mut [u8], g: Geometry, h: Handle, k: usize) -> Answer
 pub fn trim(image: &mut [u8], g: Geometry, h: Handle) -> Answer
     ensures { λ r. ⌜ (r, now (image .exit)) ≡ trim g (now (image .entry)) h ⌝ }
 {
-    let checked = consistency::check(image, g);
+    let checked = diagnosis::checked(image, g);
     trim::trim_checked(image, g, h, checked)
 }
 
@@ -124,7 +124,7 @@ pub fn trim(image: &mut [u8], g: Geometry, h: Handle) -> Answer
 pub fn kill(image: &mut [u8], g: Geometry, h: Handle) -> Answer
     ensures { λ r. ⌜ (r, now (image .exit)) ≡ kill g (now (image .entry)) h ⌝ }
 {
-    let checked = consistency::check(image, g);
+    let checked = diagnosis::checked(image, g);
     kill::kill_checked(image, g, h, checked)
 }
 
@@ -132,7 +132,7 @@ pub fn kill(image: &mut [u8], g: Geometry, h: Handle) -> Answer
 pub fn list(image: &[u8], g: Geometry, number: usize) -> Listed
     ensures { λ r. ⌜ r ≡ list g (now (image .entry)) number ⌝ }
 {
-    let checked = consistency::check(image, g);
+    let checked = diagnosis::checked(image, g);
     listing::list_checked(image, g, number, checked)
 }
 
@@ -140,6 +140,6 @@ pub fn list(image: &[u8], g: Geometry, number: usize) -> Listed
 pub fn counts(image: &[u8], g: Geometry) -> Counts
     ensures { λ r. ⌜ r ≡ counts g (now (image .entry)) ⌝ }
 {
-    let checked = consistency::check(image, g);
+    let checked = diagnosis::checked(image, g);
     listing::counts_checked(image, g, checked)
 }

@@ -14,7 +14,7 @@ fn small() -> Geometry {
 }
 
 fn told(image: &[u8], g: Geometry, words: &[u8], should: u8) {
-    let r = consistency::check(image, g);
+    let r = diagnosis::checked(image, g);
     io::write_all(1, words);
     if r == 0 {
         io::write_all(1, b": 0");

@@ -10,6 +10,7 @@ pub mod Change
 pub mod Named
 pub mod Others
 pub mod Kill
+pub mod First
 pub mod Passed
 pub mod Create
 pub mod Longer
@@ -30,5 +31,11 @@ pub mod Bytes
 pub mod Tally
 pub mod Rising
 pub mod Clauses
+pub mod Walk
+pub mod Faultless
+pub mod Kinds
+pub mod FaultlessSound
+pub mod SoundFaultless
+pub mod Fault
 pub mod Rewrite
 pub mod Store

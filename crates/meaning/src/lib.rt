@@ -78,3 +78,9 @@ pub struct Counts {
     pub files: usize,
     pub free: usize,
 }
+
+// What is inconsistent, and where (02): one of the numbers 21 to 30, 0 where there is no fault, and a slot, 256 where there is none.
+pub struct Fault {
+    pub number: u8,
+    pub slot: usize,
+}

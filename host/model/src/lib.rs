@@ -8,6 +8,7 @@
 pub mod calls;
 pub mod consistency;
 pub mod directory;
+pub mod fault;
 pub mod geometry;
 pub mod handle;
 pub mod names;
