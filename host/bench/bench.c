@@ -15,7 +15,8 @@
 #include <time.h>
 
 #define LIBRARY_CALLS(X) \
-    X(check) X(look_up) X(open) X(create) X(read_record) X(read_sector) X(write_record) X(allot) X(trim) X(kill) X(list) X(count)
+    X(check) X(look_up) X(open) X(create) X(read_record) X(read_sector) X(write_record) X(allot) X(trim) X(kill) X(list) X(count) \
+    X(compare)
 
 struct library {
     const char *name;
@@ -48,6 +49,12 @@ NONE none_trim(IO, const uint8_t *h, size_t hl) { USE, (void)h, (void)hl; return
 NONE none_kill(IO, const uint8_t *h, size_t hl) { USE, (void)h, (void)hl; return 0; }
 NONE none_list(I, size_t n, uint8_t *m, size_t ml, size_t *z, size_t *g, size_t *o) { USE, (void)n, (void)m, (void)ml, (void)z, (void)g, (void)o; return 0; }
 NONE none_count(I, size_t *f, size_t *r) { USE, (void)f, (void)r; return 0; }
+NONE none_compare(I, const uint8_t *j, size_t jl, size_t b2, size_t u2, size_t s2, uint16_t c2, size_t n, uint8_t *m, size_t ml, size_t *o, size_t *k,
+                  size_t *p, size_t *f)
+{
+    USE, (void)j, (void)jl, (void)b2, (void)u2, (void)s2, (void)c2, (void)n, (void)m, (void)ml, (void)o, (void)k, (void)p, (void)f;
+    return 0;
+}
 
 #define GENIE(call) genie_##call,
 #define SWIFT(call) fast_##call,
@@ -59,7 +66,7 @@ static const struct library libraries[] = {
 };
 
 /* What is measured. The last four are for the cost of a byte; they are no calls of their own. */
-enum what { CHECK, LOOK_UP, OPEN, CREATE, READ, SECTOR, WRITE, APPEND, ALLOT, TRIM, KILL, LIST, COUNT, READ_1, WRITE_1, FILL_0, FILL_1000, WHATS };
+enum what { CHECK, LOOK_UP, OPEN, CREATE, READ, SECTOR, WRITE, APPEND, ALLOT, TRIM, KILL, LIST, COUNT, COMPARE, READ_1, WRITE_1, FILL_0, FILL_1000, WHATS };
 
 static const struct {
     const char *name, *title;
@@ -78,6 +85,7 @@ static const struct {
     [KILL] = { "kill", "kill", true },
     [LIST] = { "list", "list the last file", false },
     [COUNT] = { "count", "count", false },
+    [COMPARE] = { "compare", "compare with itself", false },
     [READ_1] = { "read_1", "read 1 byte", false },
     [WRITE_1] = { "write_1", "write 1 byte", true },
     [FILL_0] = { "fill_0", "write 1 byte at the size", true },
@@ -95,7 +103,7 @@ struct work {
     size_t k;
     /* What a call leaves. */
     uint8_t answer, handle[GENIE_HANDLE_BYTES], buffer[256], name[GENIE_NAME_BYTES];
-    size_t numbers[3];
+    size_t numbers[4];
 };
 
 static void stop(const char *why)
@@ -173,6 +181,9 @@ static void once(struct work *w, const struct library *lib)
     case KILL: w->answer = lib->kill(DISK, HANDLE); break;
     case LIST: w->answer = lib->list(DISK, d->files - 1, w->name, sizeof w->name, &w->numbers[0], &w->numbers[1], &w->numbers[2]); break;
     case COUNT: w->answer = lib->count(DISK, &w->numbers[0], &w->numbers[1]); break;
+    case COMPARE:
+        w->answer = lib->compare(DISK, DISK, 0, w->name, sizeof w->name, &w->numbers[0], &w->numbers[1], &w->numbers[2], &w->numbers[3]);
+        break;
     case WHATS: break;
     }
 }

@@ -2,6 +2,7 @@
  * It keeps the same rules in full, the check above all; a yardstick that checks less would measure nothing. */
 #include "fast.h"
 
+#include <stdlib.h>
 #include <string.h>
 
 #if __BYTE_ORDER__ != __ORDER_LITTLE_ENDIAN__
@@ -772,5 +773,78 @@ uint8_t FAST(count)(IMAGE, GEO, size_t *files, size_t *free)
     for (size_t w = 0; w <= d.granules / 64; w++) left -= (size_t)__builtin_popcountll(d.taken[w]);
     *files = told;
     *free = left;
+    return GENIE_DONE;
+}
+
+/* ---- Two disks ---- */
+
+static int by_name(const void *a, const void *b) { return memcmp(*(const uint8_t *const *)a + E_NAME, *(const uint8_t *const *)b + E_NAME, NAME); }
+
+/* The first entries of all files, by rising name. */
+static size_t files_by_name(const uint8_t *image, const struct disk *d, const uint8_t **files)
+{
+    size_t n = 0;
+    const uint8_t *e = entry_of(image, d, 0);
+    for (size_t i = 0; i < 8 * d->columns; i++, e += 32)
+        if ((e[E_FLAGS] & (EXTENSION | IN_USE)) == IN_USE) files[n++] = e;
+    qsort(files, n, sizeof *files, by_name);
+    return n;
+}
+
+/* The first byte below `size` in which two files differ, or `size`; both are at least so long. */
+static size_t parting(const uint8_t *image, const struct disk *d, const uint8_t *e, const uint8_t *image2, const struct disk *d2, const uint8_t *e2, size_t size)
+{
+    struct cursor c = { e, 0, 0 }, c2 = { e2, 0, 0 };
+    for (size_t at = 0; at < size;) {
+        size_t room, room2;
+        const uint8_t *p = image + seek(image, d, &c, at, &room), *q = image2 + seek(image2, d2, &c2, at, &room2);
+        size_t part = room < room2 ? room : room2;
+        if (part > size - at) part = size - at;
+        if (memcmp(p, q, part))
+            for (;; p++, q++, at++)
+                if (*p != *q) return at;
+        at += part;
+    }
+    return size;
+}
+
+uint8_t FAST(compare)(const uint8_t *first, size_t first_len, GEO, const uint8_t *second, size_t second_len, size_t blocks2, size_t units2, size_t start2,
+                      uint16_t open_code2, size_t number, uint8_t *name, size_t name_len, size_t *image, size_t *kind, size_t *position, size_t *flags)
+{
+    struct disk d, d2;
+    const uint8_t *ours[MAX_SLOTS], *theirs[MAX_SLOTS];
+    (void)open_code, (void)open_code2;
+    *kind = *position = *flags = 0;
+    *image = 1;
+    uint8_t refusal = examine(first, first_len, blocks, units, start, &d);
+    if (refusal) return refusal;
+    *image = 2;
+    refusal = examine(second, second_len, blocks2, units2, start2, &d2);
+    if (refusal) return refusal;
+    *image = 0;
+    if (name_len < NAME) return GENIE_RANGE;
+    const size_t n = files_by_name(first, &d, ours), n2 = files_by_name(second, &d2, theirs);
+    for (size_t i = 0, j = 0; i < n || j < n2;) {
+        const int order = i == n ? 1 : j == n2 ? -1 : memcmp(ours[i] + E_NAME, theirs[j] + E_NAME, NAME);
+        const uint8_t *const e = order <= 0 ? ours[i++] : 0, *const e2 = order >= 0 ? theirs[j++] : 0;
+        size_t what = order < 0 ? GENIE_ONLY_IN_FIRST : GENIE_ONLY_IN_SECOND, at = 0, differs = 0;
+        if (e && e2) {
+            if ((e[E_FLAGS] | e2[E_FLAGS]) & SYSTEM) continue;
+            const size_t size = size_of(e), size2 = size_of(e2), smaller = size < size2 ? size : size2;
+            at = parting(first, &d, e, second, &d2, e2, smaller);
+            differs = (size != size2 ? GENIE_SIZE_DIFFERS : 0) | (at < smaller || size != size2 ? GENIE_CONTENTS_DIFFER : 0) |
+                      (e[E_MONTH] != e2[E_MONTH] || (e[E_DAY] ^ e2[E_DAY]) & 0x1F ? GENIE_DATE_DIFFERS : 0) |
+                      (e[E_FLAGS] != e2[E_FLAGS] || (e[E_DAY] ^ e2[E_DAY]) & 0xE0 || e[E_LENGTH] != e2[E_LENGTH] || load4(e + E_MAIN) != load4(e2 + E_MAIN)
+                           ? GENIE_ATTRIBUTES_DIFFER : 0);
+            if (!differs) continue;
+            what = GENIE_UNLIKE;
+        }
+        if (number--) continue;
+        memcpy(name, (e ? e : e2) + E_NAME, NAME);
+        *kind = what;
+        *position = at;
+        *flags = differs;
+        return GENIE_DONE;
+    }
     return GENIE_DONE;
 }

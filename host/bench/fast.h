@@ -24,6 +24,7 @@ extern __typeof__(genie_trim) fast_trim;
 extern __typeof__(genie_kill) fast_kill;
 extern __typeof__(genie_list) fast_list;
 extern __typeof__(genie_count) fast_count;
+extern __typeof__(genie_compare) fast_compare;
 #ifdef __cplusplus
 }
 #endif

@@ -18,7 +18,7 @@ static int wrong;
 static void step(const char *what, unsigned answer, unsigned expected, int as_documented)
 {
     const int good = answer == expected && as_documented;
-    printf("%-66s %2u%s\n", what, answer, good ? "" : "   NOT AS DOCUMENTED");
+    printf("%-70s %2u%s\n", what, answer, good ? "" : "   NOT AS DOCUMENTED");
     wrong += !good;
 }
 
@@ -49,10 +49,11 @@ int main(void)
     const uint8_t *const name = (const uint8_t *)"PULS01  DAT"; /* PULS01/DAT, 11 bytes */
     const uint8_t zeros[GENIE_HANDLE_BYTES] = { 0 };
     uint8_t handle[GENIE_HANDLE_BYTES], record[256], back[256], told[GENIE_NAME_BYTES];
-    size_t old, slot, compared, from, to, size, granules, more, files, left;
+    size_t old, slot, compared, from, to, size, slots, granules, more, files, left, longest, which, kind, position, flags;
 
     image = malloc(IMAGE_BYTES);
-    if (!image) {
+    uint8_t *const before = malloc(IMAGE_BYTES);
+    if (!image || !before) {
         fputs("no memory for the disk\n", stderr);
         return 1;
     }
@@ -61,6 +62,8 @@ int main(void)
     step("check it with a wrong number of blocks", genie_check(image, IMAGE_BYTES, BLOCKS - 1, UNITS, START, OPEN_CODE), GENIE_GEOMETRY, 1);
     uint8_t answer = genie_count(DISK, &files, &left);
     step("count: no file, 1,533 granules free", answer, GENIE_DONE, files == 0 && left == BLOCKS * UNITS - 3);
+    answer = genie_free(DISK, &left, &longest);
+    step("free space: the same, 767 of them in a row", answer, GENIE_DONE, left == BLOCKS * UNITS - 3 && longest == START / 5 - 1);
 
     memset(handle, 0xFF, sizeof handle);
     answer = genie_open(DISK, name, GENIE_NAME_BYTES, 256, true, 0, handle, sizeof handle);
@@ -98,6 +101,7 @@ int main(void)
     step("read the last sector, 64 bytes of it, in place", answer, GENIE_DONE, to - from == 64 && image[from] == 20 && image[to - 1] == 20);
     answer = genie_check(DISK);
     step("check the disk", answer, GENIE_DONE, 1);
+    memcpy(before, image, IMAGE_BYTES);
 
     set_position(handle, 0);
     answer = genie_write_record(DISK, handle, sizeof handle, true, record, sizeof record);
@@ -113,15 +117,32 @@ int main(void)
     answer = genie_allot(DISK, handle, sizeof handle, 7679);
     step("allot it the whole disk: more than is free", answer, GENIE_DISK_FULL, 1);
 
+    answer = genie_compare(before, IMAGE_BYTES, BLOCKS, UNITS, START, OPEN_CODE, DISK, 0, told, sizeof told, &which, &kind, &position, &flags);
+    step("compare with the disk before: PULS01/DAT from byte 0 on, and its size", answer, GENIE_DONE,
+         kind == GENIE_UNLIKE && position == 0 && flags == (GENIE_SIZE_DIFFERS | GENIE_CONTENTS_DIFFER) && !memcmp(told, name, sizeof told));
+    answer = genie_compare(before, IMAGE_BYTES, BLOCKS, UNITS, START, OPEN_CODE, DISK, 1, told, sizeof told, &which, &kind, &position, &flags);
+    step("compare on: no more", answer, GENIE_DONE, kind == GENIE_NO_MORE && which == 0 && position == 0 && flags == 0);
+
     answer = genie_kill(DISK, handle, sizeof handle);
     step("kill it", answer, GENIE_DONE, 1);
     answer = genie_kill(DISK, handle, sizeof handle);
     step("kill it once more: the handle is stale", answer, GENIE_STALE, 1);
+    answer = genie_bring_back(DISK, handle[0], &slots, &granules);
+    step("bring it back: 1 slot, 20 granules", answer, GENIE_DONE, slots == 1 && granules == 20);
+    answer = genie_bring_back(DISK, handle[0], &slots, &granules);
+    step("bring it back once more: its slot is in use", answer, GENIE_SLOT_IN_USE, slots == 0 && granules == 0);
+    answer = genie_kill(DISK, handle, sizeof handle);
+    step("kill it again: its handle is good once more", answer, GENIE_DONE, 1);
     answer = genie_count(DISK, &files, &left);
     step("count: no file, 1,533 granules free", answer, GENIE_DONE, files == 0 && left == BLOCKS * UNITS - 3);
     image[START * GENIE_SECTOR_BYTES + GENIE_SECTOR_BYTES + 0x80] = 0xA2; /* slot 80H is not in use */
     step("check after a byte of the HIT was damaged", genie_check(DISK), GENIE_INCONSISTENT, 1);
+    answer = genie_free(DISK, &left, &longest);
+    step("free space is told all the same", answer, GENIE_DONE, left == BLOCKS * UNITS - 3 && longest > 0);
+    answer = genie_compare(before, IMAGE_BYTES, BLOCKS, UNITS, START, OPEN_CODE, DISK, 0, told, sizeof told, &which, &kind, &position, &flags);
+    step("compare with it: the second image is refused", answer, GENIE_INCONSISTENT, which == 2 && kind == GENIE_NO_MORE);
 
+    free(before);
     free(image);
     if (wrong) printf("%d steps not as documented\n", wrong);
     else printf("every step as documented\n");

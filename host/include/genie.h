@@ -7,7 +7,7 @@
  * WHAT THE CALLER SEES TO
  *   - No pointer is null, neither that of a slice nor that of an outgoing number. An empty slice (length 0) may have any other pointer.
  *   - A slice's pointer is good for as many bytes as the length beside it says.
- *   - Slices and outgoing numbers do not overlap.
+ *   - Slices and outgoing numbers do not overlap; the two images of genie_compare may, neither is written to.
  * Nothing else is asked: a size_t may hold any value.
  *
  * ARGUMENTS THAT MANY CALLS SHARE
@@ -44,23 +44,30 @@ extern "C" {
 enum genie_refusal {
     GENIE_DONE = 0,         /* accepted */
     GENIE_GEOMETRY = 1,     /* blocks, units, start or the image's length is not as said above */
-    GENIE_INCONSISTENT = 2, /* the disk is not consistent (directory, names, chains, runs, GAT or HIT contradict each other) */
+    GENIE_INCONSISTENT = 2, /* the disk is not consistent (directory, names, chains, runs, GAT or HIT contradict each other); never by genie_free */
     GENIE_RANGE = 12,       /* a position, record length, level, date or sector (0 to 7,679) is out of range; position + length passes 1,966,080 in
-                               a write; the buffer is shorter than the record length; the handle is under 19 bytes; the listing's name buffer is
-                               under 11 bytes. A handle's three numbers are tested in every call that takes one, used or not. */
+                               a write; the buffer is shorter than the record length; the handle is under 19 bytes; the name buffer of list
+                               or compare is under 11 bytes; bring back is given a slot that the directory has not. A handle's three numbers
+                               are tested in every call that takes one, used or not. */
     GENIE_NAME = 3,         /* the name is not well formed, or not 11 bytes long (calls by name) */
     GENIE_STALE = 7,        /* the handle's slot is none that the directory has, or is not in use, or an extension, or has another name */
     GENIE_NOT_FOUND = 4,    /* no file has that name (look up, open) */
     GENIE_PASSWORD = 5,     /* wrong password code (open; create of a file that exists) */
-    GENIE_LEVEL = 6,        /* level over 5 for reading, over 4 for write, allot and trim, over 1 for kill; or a system file in the last four */
+    GENIE_SLOT_IN_USE = 17, /* the slot is in use (bring back) */
+    GENIE_LEVEL = 6,        /* level over 5 for reading, over 4 for write, allot and trim, over 1 for kill; or a system file in the last four and in
+                               bring back */
+    GENIE_NOTHING_WHOLE = 18, /* the slot holds no killed file that is still whole, or an extension (bring back) */
+    GENIE_NAME_IN_USE = 19, /* another file has the killed file's name (bring back) */
+    GENIE_GRANULE_TAKEN = 20, /* a granule of the killed file is taken again (bring back) */
     GENIE_PAST_END = 10,    /* a read passes the file's size; the sector read is not one of the file's */
     GENIE_NO_GROWTH = 11,   /* the file may not grow (flag E) and more granules are needed than it owns */
     GENIE_DISK_FULL = 9,    /* more further granules are needed than are free */
     GENIE_DIRECTORY_FULL = 8 /* fewer permitted slots are free than the call needs */
 };
 
-/* Answers under a refusal: every outgoing number is 0, every lent buffer and the image are as they stood. Two exceptions: look up tells its count
- * under refusal 4; a refused open or create leaves 19 zeros in a handle buffer of at least 19 bytes (using that handle is refusal 12). */
+/* Answers under a refusal: every outgoing number is 0, every lent buffer and the image are as they stood. Three exceptions: look up tells its
+ * count under refusal 4; a refused open or create leaves 19 zeros in a handle buffer of at least 19 bytes (using that handle is refusal 12);
+ * compare says which image it refuses. */
 
 #define GENIE_HANDLE_BYTES 19
 #define GENIE_NAME_BYTES 11
@@ -68,7 +75,7 @@ enum genie_refusal {
 #define GENIE_GRANULE_BYTES 1280
 #define GENIE_HIGHEST_POSITION 1966080
 
-/* Check: whether the image is a consistent disk. Refusals 1, 2. (Every other call makes this check first.) */
+/* Check: whether the image is a consistent disk. Refusals 1, 2. (Every other call makes this check first, genie_free excepted.) */
 uint8_t genie_check(const uint8_t *image, size_t image_len, size_t blocks, size_t units, size_t start, uint16_t open_code);
 
 /* Look up: the slot of the file's first entry in *slot; in *compared how many entries were compared, those whose HIT byte is the name's hash, by
@@ -121,6 +128,12 @@ uint8_t genie_trim(uint8_t *image, size_t image_len, size_t blocks, size_t units
 uint8_t genie_kill(uint8_t *image, size_t image_len, size_t blocks, size_t units, size_t start, uint16_t open_code,
                    const uint8_t *handle, size_t handle_len);
 
+/* Bring back: the killed file whose first entry is in that slot. It can be done as long as its entries are whole, no file has its name and its
+ * granules are free. They are in use again then, as many as *slots and *granules say; nothing else changes, so the file has the entries that it had
+ * before the kill, and its bytes are what the granules hold now. Refusals 1, 2, 12, 17, 6, 18, 19, 20. */
+uint8_t genie_bring_back(uint8_t *image, size_t image_len, size_t blocks, size_t units, size_t start, uint16_t open_code,
+                         size_t slot, size_t *slots, size_t *granules);
+
 /* List: the file with that number, counted from 0 by rising slot, system files left out. Its name goes to the first 11 bytes of name (a buffer of at
  * least 11 bytes), its size in bytes and the granules it owns to *size and *granules; *more is 1. Past the last file the call is accepted too: *more,
  * *size and *granules are 0, the name buffer is as it stood. Refusals 1, 2, 12. */
@@ -130,6 +143,38 @@ uint8_t genie_list(const uint8_t *image, size_t image_len, size_t blocks, size_t
 /* Count: in *files the files that the listing tells, in *free the granules that are free. Refusals 1, 2. */
 uint8_t genie_count(const uint8_t *image, size_t image_len, size_t blocks, size_t units, size_t start, uint16_t open_code,
                     size_t *files, size_t *free);
+
+/* Free space: in *free the granules that are free, in *longest how many lie in the longest free stretch, a row of free granules with consecutive
+ * numbers, across blocks. Only the GAT sector is looked at, so a disk that is not consistent is answered too: *free then only counts the clear GAT
+ * bits of the disk's granules. On a consistent disk it is the number that genie_count gives. Refusal 1. */
+uint8_t genie_free(const uint8_t *image, size_t image_len, size_t blocks, size_t units, size_t start, uint16_t open_code,
+                   size_t *free, size_t *longest);
+
+/* What genie_compare tells in *kind ... */
+enum genie_difference {
+    GENIE_NO_MORE = 0,        /* no difference has this number: there are no more */
+    GENIE_ONLY_IN_FIRST = 1,  /* no file of the second image has the name */
+    GENIE_ONLY_IN_SECOND = 2, /* no file of the first image has the name */
+    GENIE_UNLIKE = 3          /* both have it, and something of the file differs */
+};
+
+/* ... and in *flags, where the kind is GENIE_UNLIKE: the sum of those that apply. */
+#define GENIE_SIZE_DIFFERS 1
+#define GENIE_DATE_DIFFERS 2       /* entry byte 02, or the low five bits of 01 */
+#define GENIE_ATTRIBUTES_DIFFER 4  /* other attributes: byte 00, the high three bits of 01, bytes 04 and 10 to 13 */
+#define GENIE_CONTENTS_DIFFER 8    /* also where one file is a beginning of the other */
+
+/* Compare: the difference with that number between the files of two disks, counted from 0, ordered by name and type bytes, rising. Each image has its
+ * geometry, the second's are the arguments with a 2. The name goes to the first 11 bytes of name (a buffer of at least 11 bytes), what it is to *kind.
+ * Where the kind is GENIE_UNLIKE, *position is the first byte position (from 0) where the contents part, or the smaller size if one is a beginning of
+ * the other, so the size itself where they are alike; *flags says what differs. Otherwise both are 0. Where a file lies, and how many granules it
+ * owns, is no difference; a file that is a system file on either disk is compared by name only. Past the last difference the call is accepted too: *kind
+ * is GENIE_NO_MORE, the name buffer is as it stood. *image is 0, or the image that is refused: 1 the first, 2 the second. Refusals 1 and 2 of the first
+ * image, then 1 and 2 of the second, then 12. */
+uint8_t genie_compare(const uint8_t *first, size_t first_len, size_t blocks, size_t units, size_t start, uint16_t open_code,
+                      const uint8_t *second, size_t second_len, size_t blocks2, size_t units2, size_t start2, uint16_t open_code2,
+                      size_t number, uint8_t *name, size_t name_len,
+                      size_t *image, size_t *kind, size_t *position, size_t *flags);
 
 #ifdef __cplusplus
 }

@@ -1,6 +1,8 @@
 // The calls of the library, one function a call. Each checks the whole disk first, whatever it is given, so none asks anything of its
-// caller.
+// caller. (Free space is told of any disk whose geometry fits, and tests that alone.)
+use differences::Difference;
 use meaning::Answer;
+use meaning::BroughtBack;
 use meaning::Counts;
 use meaning::Created;
 use meaning::Geometry;
@@ -10,6 +12,7 @@ use meaning::LookedUp;
 use meaning::Mode;
 use meaning::NewFile;
 use meaning::Part;
+use meaning::Space;
 ghost use mathlib.Core.Path.{_≡_};
 ghost use Prim.Native.Nat.{_+_};
 ghost use lib.ListN.{length};
@@ -23,8 +26,11 @@ ghost use Rattle.meaning.specs.Write.{writeRecord};
 ghost use Rattle.meaning.specs.Allot.{allot};
 ghost use Rattle.meaning.specs.Trim.{trim};
 ghost use Rattle.meaning.specs.Kill.{kill};
+ghost use Rattle.meaning.specs.BringBack.{bringBack};
 ghost use Rattle.meaning.specs.Listing.{list, counts};
+ghost use Rattle.meaning.specs.FreeSpace.{freeSpace};
 ghost use Rattle.read.specs.Part.{partOf, Lies};
+ghost use Rattle.differences.specs.Compare.{compare};
 
 // Check: 0, refusal 1, or a fault, 21 to 30.
 pub fn check(image: &[u8], g: Geometry) -> u8
@@ -128,6 +134,14 @@ pub fn kill(image: &mut [u8], g: Geometry, h: Handle) -> Answer
     kill::kill_checked(image, g, h, checked)
 }
 
+// Bring back: the killed file at a slot is there again, if it is whole and nothing of it was taken.
+pub fn bring_back(image: &mut [u8], g: Geometry, s: usize) -> BroughtBack
+    ensures { λ r. ⌜ (r, now (image .exit)) ≡ bringBack g (now (image .entry)) s ⌝ }
+{
+    let checked = consistency::check(image, g);
+    bring_back::bring_back_checked(image, g, s, checked)
+}
+
 // The listing: one file, by number from 0, then "no more".
 pub fn list(image: &[u8], g: Geometry, number: usize) -> Listed
     ensures { λ r. ⌜ r ≡ list g (now (image .entry)) number ⌝ }
@@ -142,4 +156,20 @@ pub fn counts(image: &[u8], g: Geometry) -> Counts
 {
     let checked = diagnosis::checked(image, g);
     listing::counts_checked(image, g, checked)
+}
+
+// Free space: the number of free granules and the longest free stretch, from the GAT alone.
+pub fn free_space(image: &[u8], g: Geometry) -> Space
+    ensures { λ r. ⌜ r ≡ freeSpace g (now (image .entry)) ⌝ }
+{
+    gat::free_space(image, g)
+}
+
+// Compare: one difference of two disks, by its running number from 0, then "no more".
+pub fn compare(first: &[u8], g: Geometry, second: &[u8], h: Geometry, number: usize) -> Difference
+    ensures { λ r. ⌜ r ≡ compare g (now (first .entry)) h (now (second .entry)) number ⌝ }
+{
+    let checked = consistency::check(first, g);
+    let checked2 = consistency::check(second, h);
+    compare::compare_checked(first, g, second, h, number, checked, checked2)
 }

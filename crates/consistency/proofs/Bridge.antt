@@ -10,11 +10,11 @@ use lib.ListN.{length, getD, replicate, length-replicate, getD-replicate}
 use borrow.Author.Tests.{eq-eqb, ne-eqb, eqb-true, eqb-false, le-leb, leb-true, not-true, not-false}
 use Rattle.meaning.specs.Lists.{count, every, each, keep, has, distinct, lastOr, all, any}
 use Rattle.meaning.specs.Bits.{bit}
-use Rattle.meaning.specs.Layout.{granules, taken, field, hit, slots, isSlot, directorySectors, directoryGranules, byte}
+use Rattle.meaning.specs.Layout.{granules, taken, field, hit, slots, isSlot, directorySectors, directoryGranules, byte, granuleSectors}
 use Rattle.meaning.specs.Names.{hash, wellFormed}
 use Rattle.meaning.specs.Entries.{inUse, extension, primary, system, block, marker, link, runs, runsFrom, runStart, runLength, runGranules, entryGranules, nameOf, sectorCount, endByte, sizeOf}
 use Rattle.meaning.specs.Chain.{chainFrom, chain, owned, files}
-use Rattle.meaning.specs.Consistent.{lengthHolds, hitHolds, pairsHold, follows, linkHolds, runsHold, gatHolds, entryHolds, slotHolds, fileHolds, namesDiffer, met, consistent}
+use Rattle.meaning.specs.Consistent.{lengthHolds, hitHolds, pairsHold, followsBy, follows, linkHolds, runsHold, gatHolds, entryHolds, slotHolds, fileHolds, namesDiffer, met, consistent}
 use Rattle.meaning.specs.declared.Geometry.{Geometry}
 use Rattle.layout.specs.Room.{Room}
 use Rattle.layout.proofs.Lists.{all-at, all-yes, all-no, all-one, all-none, any-last, not-yes, not-no, le-or-lt}
@@ -42,7 +42,7 @@ pub record Base (g : Geometry) (d m : List ℕ) : Type 0 where
 
 module _ (g : Geometry) (d m : List ℕ) (room : Room g d) (w : TakenMap g d m) where
   directory-lt : (n : ℕ) → In n (directoryGranules g d) → n < granules g
-  directory-lt n i = let k = Members.count-in n (g .start / 5) (directorySectors g d / 5) i in let e = room .directory in omega arith
+  directory-lt n i = let k = Members.count-in n (g .start / granuleSectors) (directorySectors g d / granuleSectors) i in let e = room .directory in omega arith
 
   high-taken : (n : ℕ) → n < granules g → 1 ≤ getD m n 0 → T (taken g d n)
   high-taken n l h = go (taken g d n) refl
@@ -51,7 +51,7 @@ module _ (g : Geometry) (d m : List ℕ) (room : Room g d) (w : TakenMap g d m) 
       go true e = Members.true-T e
       go false e = absurd (let z = w .low n l e in let q : ⊥ = omega arith in q)
 
-  taken-high : (n : ℕ) → n < granules g → T (taken g d n) → _≡_ {A = ℕ} (getD m n 0) 2
+  taken-high : (n : ℕ) → n < granules g → T (taken g d n) → _≡_ {A = ℕ} (getD m n 0) 3
   taken-high n l t = w .high n l (Members.T-true {b = taken g d n} t)
 
   directory-open : allows m 2 1 (directoryGranules g d) ≡ true → (n : ℕ) → In n (directoryGranules g d) → 2 ≤ getD m n 0
@@ -65,7 +65,7 @@ module _ (g : Geometry) (d m : List ℕ) (room : Room g d) (w : TakenMap g d m) 
   taken-directory e =
       Maps.says-allows 2 1 (directoryGranules g d) m (record {
         high = λ n i. let z = taken-high n (directory-lt n i) (Members.every-all (taken g d) (Members.true-T e) i) in omega arith;
-        once = Members.count-distinct (g .start / 5) (directorySectors g d / 5);
+        once = Members.count-distinct (g .start / granuleSectors) (directorySectors g d / granuleSectors);
       })
 
   pub base : allows m 2 1 (directoryGranules g d) ≡ true → Base g d (marked m 1 (directoryGranules g d))
@@ -131,7 +131,7 @@ module _ (g : Geometry) (d : List ℕ) where
   open-marker h s rest e = Members.any-e (eqb (marker g d s) 0xff) (all (goesOn g d h s ∷ rest ∷ [])) (Members.true-T e)
 
   marker-links : (h s : ℕ) (rest : Bool) → markerHolds g d h s rest ≡ true → linkHolds g d s ≡ true
-  unfolding linkHolds
+  unfolding linkHolds follows followsBy
   marker-links h s rest e = Members.T-true (go (open-marker h s rest e))
     where
       go : T (eqb (marker g d s) 0xff) ⊎ T (all (goesOn g d h s ∷ rest ∷ []))

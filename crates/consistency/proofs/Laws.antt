@@ -10,14 +10,14 @@ use lib.ListN.{length, getD, take, drop}
 use borrow.Author.Tests.{eq-eqb, ne-eqb, le-leb, leb-true, eqb-true, not-false}
 use Rattle.meaning.specs.Lists.{count, every, each, keep, has, same, all, any}
 use Rattle.meaning.specs.Bits.{bit, digit}
-use Rattle.meaning.specs.Layout.{granules, fitsGeometry, field, hit, slots, isSlot, directorySectors, aboveTen}
+use Rattle.meaning.specs.Layout.{granules, fitsGeometry, field, hit, slots, isSlot, directorySectors, aboveTen, granuleSectors, mostBlocks, mostUnits}
 use Rattle.meaning.specs.Entries.{inUse, extension, primary, nameOf, sectorCount, endByte, entryGranules}
 use Rattle.meaning.specs.Chain.{chain, chainFrom, owned}
 use Rattle.meaning.specs.Consistent.{hitHolds, lengthHolds}
 use Rattle.meaning.specs.declared.Geometry.{Geometry}
 use Rattle.layout.specs.Room.{Room, Slot}
 use Rattle.layout.proofs.Laws.{digit-at, below, name-part}
-use Rattle.layout.proofs.Lists.{all-at, all-yes, all-no, all-one, all-none, any-skip, is-no, is-yes, not-yes, not-no}
+use Rattle.layout.proofs.Lists.{all-at, all-yes, all-no, all-one, all-none, any-skip, is-no, is-yes, not-yes, not-no, any-one}
 use Rattle.layout.proofs.Sound.{low-twenty, fits-directory}
 use Rattle.seek.proofs.Laws.{slots-length}
 use Rattle.seek.proofs.Below.{allBelow, all-below}
@@ -26,7 +26,6 @@ use Rattle.marks.proofs.Laws.{marked-append, count-more, count-none}
 use Rattle.walk.specs.Walk.{Place, Walked, chainHolds, granulesOf}
 use Rattle.meaning.specs.Names.{hash, wellFormed}
 use Rattle.walk.proofs.Lists.{not-both, on, off, all-out, every-append}
-use Rattle.walk.proofs.Laws.{any-one}
 use Rattle.laws.specs.Members
 use Rattle.consistency.specs.Slots.{Fits, least, leastOf, countHolds, nameFits, fileFits, slotFits, chainOf, ownedOf, opens, one, slotsFit, FileSeen, Seen, rowSlots}
 
@@ -43,7 +42,7 @@ bit-off u x h = ne-eqb _ _ (λ q. h (sym (digit-at u x) ∙ q))
 pub fits : (g : Geometry) (d : List ℕ) → fitsGeometry g d ≡ true → Fits g d
 unfolding fitsGeometry granules
 fits g d f =
-    let a = leb-true (g .blocks) 192 (all-at _ f 1) in
+    let a = leb-true (g .blocks) mostBlocks (all-at _ f 1) in
     let b = leb-true (g .units) 8 (all-at _ f 3) in
     record {
       blocks-low = leb-true _ _ (all-at _ f 0);
@@ -51,7 +50,7 @@ fits g d f =
       units-low = leb-true _ _ (all-at _ f 2);
       units-high = b;
       five = eqb-true _ _ (all-at _ f 4);
-      most = below (g .blocks) (g .units) 192 8 a b;
+      most = below (g .blocks) (g .units) mostBlocks mostUnits a b;
       whole = eqb-true _ _ (all-at _ f 5);
       ten = leb-true _ _ (all-at _ f 6);
     }
@@ -103,10 +102,10 @@ module _ (g : Geometry) (d : List ℕ) where
   unfolding lengthHolds
   length-odd {x} e h n = sym (all-no (ap (has fives) (sym e) ∙ five-at x h ∙ ne-eqb _ _ n) _)
 
-  pub length-rest : {x w : ℕ} → x ≡ aboveTen g d → x ≤ 20 → x % 5 ≡ 0 → w ≡ granules g → leb (g .start + (10 + x)) (w * 5) ≡ lengthHolds g d
+  pub length-rest : {x w : ℕ} → x ≡ aboveTen g d → x ≤ 20 → x % 5 ≡ 0 → w ≡ granules g → leb (g .start + (10 + x)) (w * granuleSectors) ≡ lengthHolds g d
   unfolding lengthHolds directorySectors
   length-rest {x} {w} e h n q =
-      ap (λ (k : ℕ). leb (g .start + (10 + k)) (w * 5)) e ∙ ap (λ (k : ℕ). leb (g .start + (10 + aboveTen g d)) (k * 5)) q
+      ap (λ (k : ℕ). leb (g .start + (10 + k)) (w * granuleSectors)) e ∙ ap (λ (k : ℕ). leb (g .start + (10 + aboveTen g d)) (k * granuleSectors)) q
       ∙ sym (all-yes (ap (has fives) (sym e) ∙ five-at x h ∙ eq-eqb _ _ n) _ ∙ all-one _)
 
 -- One file ------------------------------------------------------------------------------------------------------------------
@@ -151,13 +150,13 @@ module _ (g : Geometry) (d : List ℕ) (s : ℕ) where
       let len : left ≡ length (slots g d) = l ∙ ap (λ (j : ℕ). 8 * (j - 2)) ds ∙ sym (slots-length g d (room .ten) (room .thirty)) in
       let low-is : low ≡ leastOf g d s = o ∙ ap least e in
       let w′ : Walked g d (leastOf g d s) (sectorCount g d s) 0 (chainHolds g d (hit g d s) (length (slots g d)) s) (chain g d s) m m′ met met′ r = rw (low-is, c, i, len) at w in
-      let fit : fileFits g d s ≡ all (chainHolds g d (hit g d s) (length (slots g d)) s ∷ leb (sectorCount g d s) (5 * length (owned g d s)) ∷ [])
+      let fit : fileFits g d s ≡ all (chainHolds g d (hit g d s) (length (slots g d)) s ∷ leb (sectorCount g d s) (granuleSectors * length (owned g d s)) ∷ [])
       = all-yes (not-no (ap (bit 5) (sym e) ∙ bit-off 5 f b)) _ ∙ all-yes (ap (λ (j : ℕ). nameFits g d j s) (sym i) ∙ a) _
       ∙ all-yes (ap (λ (j : ℕ). countHolds j (endByte g d s)) (sym c) ∙ q) _ in
       record {
         answer =
-            w′ .answer ∙ ap (λ (j : ℕ). all (chainHolds g d (hit g d s) (length (slots g d)) s ∷ allows m (leastOf g d s) 0 (owned g d s) ∷ allows met 1 0 (chain g d s) ∷ leb (sectorCount g d s) (5 * j) ∷ [])) (zero-add (length (owned g d s)))
-            ∙ shuffle (chainHolds g d (hit g d s) (length (slots g d)) s) (allows m (leastOf g d s) 0 (owned g d s)) (allows met 1 0 (chain g d s)) (leb (sectorCount g d s) (5 * length (owned g d s)))
+            w′ .answer ∙ ap (λ (j : ℕ). all (chainHolds g d (hit g d s) (length (slots g d)) s ∷ allows m (leastOf g d s) 0 (owned g d s) ∷ allows met 1 0 (chain g d s) ∷ leb (sectorCount g d s) (granuleSectors * j) ∷ [])) (zero-add (length (owned g d s)))
+            ∙ shuffle (chainHolds g d (hit g d s) (length (slots g d)) s) (allows m (leastOf g d s) 0 (owned g d s)) (allows met 1 0 (chain g d s)) (leb (sectorCount g d s) (granuleSectors * length (owned g d s)))
             ∙ all-three (sym fit) refl refl;
         map = w′ .map;
         meets = w′ .meets;
@@ -360,13 +359,20 @@ name-is g d {s} {at} {n} r p e =
     let t = r .directory in
     ap (λ (k : ℕ). take k (drop (at + 5) d)) e ∙ ap (λ (k : ℕ). take 11 (drop (k + 5) d)) (p .is) ∙ sym (name-part g d s (omega arith))
 
-pub name-no : (g : Geometry) (d : List ℕ) (h : ℕ) {s at n : ℕ} {f : Bool} → Room g d → Place g d s at → n ≡ 11 → f ≡ wellFormed (take n (drop (at + 5) d)) → not f ≡ true
+pub name-no : (g : Geometry) (d : List ℕ) (h : ℕ) {s at n x : ℕ} → Room g d → Place g d s at → n ≡ 11 → x ≡ hash (take n (drop (at + 5) d)) → (h ≡ x → ⊥)
     → false ≡ nameFits g d h s
 unfolding nameFits
-name-no g d h r p e w t = sym (all-no (ap wellFormed (sym (name-is g d r p e)) ∙ is-no w t) _)
+name-no g d h r p e w t = sym (all-out _ 1 (ne-eqb _ _ (λ z. t (z ∙ ap hash (sym (name-is g d r p e)) ∙ sym w))))
 
-pub name-yes : (g : Geometry) (d : List ℕ) (h : ℕ) {s at n x : ℕ} {f : Bool} → Room g d → Place g d s at → n ≡ 11 → f ≡ wellFormed (take n (drop (at + 5) d)) → not f ≡ false
-    → x ≡ hash (take n (drop (at + 5) d)) → eqb h x ≡ nameFits g d h s
+pub name-yes : (g : Geometry) (d : List ℕ) (h : ℕ) {s at n x : ℕ} {f : Bool} → Room g d → Place g d s at → n ≡ 11 → x ≡ hash (take n (drop (at + 5) d)) → h ≡ x
+    → f ≡ wellFormed (take n (drop (at + 5) d)) → f ≡ nameFits g d h s
 unfolding nameFits
 name-yes g d h r p e w t q =
-    ap (eqb h) (q ∙ ap hash (name-is g d r p e)) ∙ sym (all-yes (ap wellFormed (sym (name-is g d r p e)) ∙ is-yes w t) _ ∙ all-one _)
+    q ∙ ap wellFormed (name-is g d r p e) ∙ sym (all-swap (eq-eqb _ _ (t ∙ w ∙ ap hash (name-is g d r p e))))
+  where
+    all-swap : {a b : Bool} → b ≡ true → all (a ∷ b ∷ []) ≡ a
+    all-swap {a} {b} e = unfold all in rw e (by a)
+      where
+        by : (a : Bool) → (a && true) ≡ a
+        by true = refl
+        by false = refl

@@ -10,7 +10,7 @@ use lib.ListN.{length, getD, replicate, length-replicate, getD-replicate}
 use borrow.Author.Tests.{eq-eqb, ne-eqb, eqb-true, eqb-false, le-leb, leb-true, not-true, not-false}
 use Rattle.meaning.specs.Lists.{count, every, each, keep, has, distinct, all, any}
 use Rattle.meaning.specs.Bits.{bit}
-use Rattle.meaning.specs.Layout.{granules, taken, field, hit, slots, isSlot, directoryGranules, directorySectors}
+use Rattle.meaning.specs.Layout.{granules, taken, field, hit, slots, isSlot, directoryGranules, directorySectors, granuleBytes, granuleSectors}
 use Rattle.meaning.specs.Names.{hash, wellFormed}
 use Rattle.meaning.specs.Entries.{inUse, primary, system, runs, runStart, runLength, runGranules, entryGranules, nameOf, sectorCount, endByte, sizeOf}
 use Rattle.meaning.specs.Chain.{chainFrom, chain, owned, files}
@@ -59,10 +59,6 @@ module _ (g : Geometry) (d : List ℕ) where
   least-one : (s : ℕ) → system g d s ≡ true → _≡_ {A = ℕ} (leastOf g d s) 1
   unfolding least
   least-one s e = ap {B = ℕ} (λ (b : Bool). cond b 1 2) e
-
-  chain-of : (p : ℕ) → T (primary g d p) → chainOf g d p ≡ chain g d p
-  unfolding chainOf
-  chain-of p t = rw (Members.T-true {b = primary g d p} t)
 
   owned-of : (p : ℕ) → T (primary g d p) → ownedOf g d p ≡ owned g d p
   unfolding ownedOf
@@ -114,11 +110,11 @@ module _ (g : Geometry) (d : List ℕ) where
       beq-true false = refl
 
   -- the size fits exactly if the sector count does
-  size-le : (p : ℕ) → Bytes d → countHolds (sectorCount g d p) (endByte g d p) ≡ true → sectorCount g d p ≤ 5 * length (owned g d p) → sizeOf g d p ≤ 1280 * length (owned g d p)
+  size-le : (p : ℕ) → Bytes d → countHolds (sectorCount g d p) (endByte g d p) ≡ true → sectorCount g d p ≤ granuleSectors * length (owned g d p) → sizeOf g d p ≤ granuleBytes * length (owned g d p)
   unfolding sizeOf countHolds field
   size-le p b c l = go (eqb (endByte g d p) 0) refl
     where
-      go : (t : Bool) → eqb (endByte g d p) 0 ≡ t → cond (eqb (endByte g d p) 0) (256 * sectorCount g d p) (256 * (sectorCount g d p - 1) + endByte g d p) ≤ 1280 * length (owned g d p)
+      go : (t : Bool) → eqb (endByte g d p) 0 ≡ t → cond (eqb (endByte g d p) 0) (256 * sectorCount g d p) (256 * (sectorCount g d p - 1) + endByte g d p) ≤ granuleBytes * length (owned g d p)
       go true e = rw e (omega arith)
       go false e =
           let n : (sectorCount g d p ≡ 0 → ⊥) = λ z. not-both (sym (ap (λ (k : ℕ). not (eqb k 0) || eqb (endByte g d p) 0) z ∙ e) ∙ c) refl in
@@ -128,11 +124,11 @@ module _ (g : Geometry) (d : List ℕ) where
           entryPlace : ℕ
           entryPlace = 256 * (g .start + 2 + p % 32) + 32 * (p / 32)
 
-  le-size : (p : ℕ) → (sectorCount g d p ≡ 0 → endByte g d p ≡ 0) → sizeOf g d p ≤ 1280 * length (owned g d p) → sectorCount g d p ≤ 5 * length (owned g d p)
+  le-size : (p : ℕ) → (sectorCount g d p ≡ 0 → endByte g d p ≡ 0) → sizeOf g d p ≤ granuleBytes * length (owned g d p) → sectorCount g d p ≤ granuleSectors * length (owned g d p)
   unfolding sizeOf
   le-size p c l = go (eqb (endByte g d p) 0) refl
     where
-      go : (t : Bool) → eqb (endByte g d p) 0 ≡ t → sectorCount g d p ≤ 5 * length (owned g d p)
+      go : (t : Bool) → eqb (endByte g d p) 0 ≡ t → sectorCount g d p ≤ granuleSectors * length (owned g d p)
       go true e = let h = rw e at l in omega arith
       go false e = let h = rw e at l in let n = eqb-false (endByte g d p) 0 e in omega arith
 
@@ -419,5 +415,5 @@ module _ (g : Geometry) (d : List ℕ) (room : Room g d) {m m₁ m₂ met₂ : L
   pub way-names : {q n : Bool} → r ≡ true → q ≡ every (metAt g d met₂) (slots g d) → q ≡ true → lengthHolds g d ≡ true → Bytes d → n ≡ namesDiffer g d (files g d) → n ≡ consistent g d
   way-names e f n l y h = h ∙ by-names g d m room w open′ l y (sym fit-is ∙ e) (sym (met-is e f) ∙ n)
 
-pub directory-as : (g : Geometry) (d : List ℕ) {m m′ : List ℕ} {k : ℕ} {r : Bool} → k ≡ directorySectors g d → Marks m 2 1 (count (g .start / 5) (k / 5)) m′ r → Marks m 2 1 (directoryGranules g d) m′ r
-directory-as g d {m} {m′} {k} {r} e w = subst (λ (j : ℕ). Marks m 2 1 (count (g .start / 5) (j / 5)) m′ r) e w
+pub directory-as : (g : Geometry) (d : List ℕ) {m m′ : List ℕ} {k : ℕ} {r : Bool} → k ≡ directorySectors g d → Marks m 2 1 (count (g .start / granuleSectors) (k / granuleSectors)) m′ r → Marks m 2 1 (directoryGranules g d) m′ r
+directory-as g d {m} {m′} {k} {r} e w = subst (λ (j : ℕ). Marks m 2 1 (count (g .start / granuleSectors) (j / granuleSectors)) m′ r) e w

@@ -7,7 +7,7 @@ use lib.Dec.{eqb, leb}
 use lib.ListN.{length, getD}
 use Rattle.meaning.specs.Lists.{count, every, each, all, any}
 use Rattle.meaning.specs.Bits.{bit}
-use Rattle.meaning.specs.Layout.{granules, field, hit, slots, directorySectors}
+use Rattle.meaning.specs.Layout.{granules, field, hit, slots, directorySectors, granuleBytes, granuleSectors, sectors, mostGranules, mostBlocks, mostUnits}
 use Rattle.meaning.specs.Names.{hash, wellFormed}
 use Rattle.meaning.specs.Entries.{primary, system, nameOf, sectorCount, endByte}
 use Rattle.meaning.specs.Chain.{chain, owned}
@@ -19,13 +19,13 @@ use Rattle.walk.specs.Walk.{chainHolds}
 -- the geometry and the image's length fit
 pub record Fits (g : Geometry) (d : List ℕ) : Type 0 where
   pub blocks-low : 1 ≤ g .blocks
-  pub blocks-high : g .blocks ≤ 192
+  pub blocks-high : g .blocks ≤ mostBlocks
   pub units-low : 1 ≤ g .units
-  pub units-high : g .units ≤ 8
-  pub five : g .start % 5 ≡ 0
-  pub most : granules g ≤ 1536
-  pub whole : length d ≡ granules g * 1280
-  pub ten : g .start + 10 ≤ granules g * 5
+  pub units-high : g .units ≤ mostUnits
+  pub five : g .start % granuleSectors ≡ 0
+  pub most : granules g ≤ mostGranules
+  pub whole : length d ≡ granules g * granuleBytes
+  pub ten : g .start + 10 ≤ sectors g
 
 -- what a granule must stand at to be open to a file with these flags
 unfoldable pub least : ℕ → ℕ
@@ -45,7 +45,7 @@ nameFits g d h s = all (wellFormed (nameOf g d s) ∷ eqb h (hash (nameOf g d s)
 unfoldable pub fileFits : Geometry → List ℕ → ℕ → Bool
 fileFits g d p =
     all (not (bit 5 (field g d p 0)) ∷ nameFits g d (hit g d p) p ∷ countHolds (sectorCount g d p) (endByte g d p)
-    ∷ chainHolds g d (hit g d p) (length (slots g d)) p ∷ leb (sectorCount g d p) (5 * length (owned g d p)) ∷ [])
+    ∷ chainHolds g d (hit g d p) (length (slots g d)) p ∷ leb (sectorCount g d p) (granuleSectors * length (owned g d p)) ∷ [])
 
 unfoldable pub slotFits : Geometry → List ℕ → ℕ → Bool
 slotFits g d s = all (hitHolds g d s ∷ any (not (primary g d s) ∷ fileFits g d s ∷ []) ∷ [])

@@ -30,17 +30,17 @@ pub fn length_holds(image: &[u8], g: Geometry) -> bool
     g.start + (10 + above) <= layout::granules(g) * layout::GRANULE_SECTORS
 }
 
-// Whether the name of the entry is well formed and its hash is h.
+// Whether the name of the entry is well formed and its hash is h. The hash comes first: it reads the bytes one by one.
 fn name_holds(image: &[u8], g: Geometry, s: usize, at: usize, h: usize) -> bool
     requires { ⌜ Room g (now image) × Place g (now image) s at ⌝ }
     ensures { λ r. ⌜ r ≡ nameFits g (now (image .entry)) h s ⌝ }
 {
     let a = at + 5;
     let e = a + 11;
-    if !find::well_formed(&image[a..e]) {
+    if h != names::hash(&image[a..e]) {
         return false;
     }
-    h == names::hash(&image[a..e])
+    find::well_formed(&image[a..e])
 }
 
 // n = 0 only with e = 0.
@@ -86,7 +86,7 @@ fn file_holds(
         return false;
     }
     let left = 8 * (layout::directory_sectors(image, g) - 2);
-    walk::entry_walk(image, g, s, at, left, h, least_of(flags), n, 0, map, met)
+    walk::file_walk(image, g, s, at, left, h, least_of(flags), n, map, met)
 }
 
 // One slot: its HIT byte, and the file that starts there.

@@ -26,19 +26,14 @@ use Rattle.laws.specs.Members.{In}
 use Rattle.layout.specs.Room.{Room, Slot}
 use Rattle.layout.proofs.Lists.{all-at, all-yes, all-no, all-none, first-hit, first-skip, first-none, not-yes, not-no}
 use Rattle.layout.proofs.Sound.{slot-of}
-use Rattle.handle.proofs.Laws.{check-stop, check-then}
+use Rattle.handle.proofs.Laws.{check-stop, check-then, length-range}
 use Rattle.copy.proofs.Laws.{sets-append}
+use Rattle.find.proofs.Open.{slot-found}
 
 -- day, month, year and record length as the entry can hold them
-pub ranges : (f : NewFile) → newInRange f ≡ true → (f .day ≤ 31) × (f .month ≤ 15) × (f .year ≤ 15) × (1 ≤ f .len) × (f .len ≤ 256)
+pub ranges : (f : NewFile) → newInRange f ≡ true → (f .day ≤ 31) × (f .month ≤ 15) × (f .year ≤ 15) × ((1 ≤ f .len) × (f .len ≤ 256))
 unfolding newInRange
-ranges f r = (leb-true _ _ (all-at _ r 0), leb-true _ _ (all-at _ r 1), leb-true _ _ (all-at _ r 2), leb-true _ _ (all-at _ r 3), leb-true _ _ (all-at _ r 4))
-
--- an entry lies in the image
-pub entry-fits : (g : Geometry) (d : List ℕ) (s : ℕ) → Room g d → Slot g d s → entryAt g s + 32 ≤ length d
-entry-fits g d s r sl =
-    let a = r .directory in let b = r .whole in let c = sl .low in let e = sl .held in
-    omega arith
+ranges f r = (leb-true _ _ (all-at _ r 0), leb-true _ _ (all-at _ r 1), leb-true _ _ (all-at _ r 2), length-range (f .len) (all-at _ r 3))
 
 -- the entry, written in three parts
 pub entry-put : (g : Geometry) (d : List ℕ) (x : ℕ) (n : List ℕ) (f : NewFile) {d₁ d₂ d₃ : List ℕ} {h : ℕ} → length n ≡ 11
@@ -101,13 +96,10 @@ module _ (g : Geometry) (d n : List ℕ) (f : NewFile) (checking : Bool) where
   there : {s : ℕ} → named g d n ≡ s ∷ [] → missing g d n ≡ false
   there e = ap (λ (l : List ℕ). eqb (length l) 0) e
 
-  at-slot : {s : ℕ} → named g d n ≡ s ∷ [] → slotOf g d n ≡ s
-  at-slot {s} e = ap (firstOr 0) e ∙ first-is 0 s []
-
   pub opened : {s : ℕ} {h : Handle} → first (createRefusals g d n f checking) ≡ 0 → named g d n ≡ s ∷ [] → h ≡ openedAt g d s n (f .len) checking (f .main)
       → _≡_ {A = Created × List ℕ} (record { number = 0; old = true; handle = h }, d) (create g d n f checking)
   unfolding create
-  opened {s} e m q = rw (e, there m, q, at-slot m)
+  opened {s} e m q = rw (e, there m, q, slot-found g d n (f .len) checking (f .main) m)
 
   pub made : {x : ℕ} {m d′ : List ℕ} → first (createRefusals g d n f checking) ≡ 0 → named g d n ≡ [] → x ≡ newSlot g d → m ≡ n → d′ ≡ withEntry g d x n f
       → _≡_ {A = Created × List ℕ} (record { number = 0; old = false; handle = record { slot = x; name = m; at = 0; len = f .len; level = 0 } }, d′) (create g d n f checking)
@@ -137,12 +129,12 @@ module _ (g : Geometry) (d n : List ℕ) (f : NewFile) (checking : Bool) where
   pub by-code : {c s : ℕ} → c ≡ check g d → c ≡ 0 → newInRange f ≡ true → wellFormed n ≡ true → named g d n ≡ s ∷ [] → admits g d s checking (f .main) ≡ false
       → 5 ≡ first (createRefusals g d n f checking)
   by-code e z r w m a =
-      sym (named-first e z r w ∙ first-hit (all-yes (not-no (there m)) _ ∙ all-yes (not-no (ap (λ (s : ℕ). admits g d s checking (f .main)) (at-slot m) ∙ a)) _ ∙ all-none) 5 _)
+      sym (named-first e z r w ∙ first-hit (all-yes (not-no (there m)) _ ∙ all-yes (not-no (ap (λ (s : ℕ). admits g d s checking (f .main)) (slot-found g d n (f .len) checking (f .main) m) ∙ a)) _ ∙ all-none) 5 _)
 
   pub is-old : {c s : ℕ} → c ≡ check g d → c ≡ 0 → newInRange f ≡ true → wellFormed n ≡ true → named g d n ≡ s ∷ [] → admits g d s checking (f .main) ≡ true
       → first (createRefusals g d n f checking) ≡ 0
   is-old e z r w m a =
-      named-first e z r w ∙ first-skip (all-yes (not-no (there m)) _ ∙ all-no (not-yes (ap (λ (s : ℕ). admits g d s checking (f .main)) (at-slot m) ∙ a)) _) 5 _
+      named-first e z r w ∙ first-skip (all-yes (not-no (there m)) _ ∙ all-no (not-yes (ap (λ (s : ℕ). admits g d s checking (f .main)) (slot-found g d n (f .len) checking (f .main) m) ∙ a)) _) 5 _
       ∙ first-skip (all-no (there m) _) 8 _ ∙ first-none
 
   -- where it is not: 8, or it is made

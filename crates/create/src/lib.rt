@@ -24,10 +24,7 @@ fn in_range(f: NewFile) -> bool
     if 15 < f.year {
         return false;
     }
-    if f.len < 1 {
-        return false;
-    }
-    f.len <= 256
+    handle::good_length(f.len)
 }
 
 // A new file of that name in slot x: all 32 bytes of its entry, and its HIT byte.

@@ -1,12 +1,13 @@
--- The listing and the counts on whole disks; plain files.
+-- The listing, the counts and free space on whole disks; plain files.
 use Prim.Native.Nat.{ℕ, _+_}
 use mathlib.Core.Path.{_≡_, refl}
 use mathlib.Core.Bool.{true}
 use mathlib.Core.List.{List, [], _∷_, _++_}
 use lib.ListN.{replicate}
 use Rattle.meaning.specs.Listing.{list, counts, listing, noFile}
+use Rattle.meaning.specs.FreeSpace.{freeSpace}
 use Rattle.meaning.specs.Plain.{reserved, overwritten}
-use Rattle.meaning.specs.Samples.{laid, puls, leer, three, sample, e80, e81, opened}
+use Rattle.meaning.specs.Samples.{laid, changed, puls, leer, three, sample, e80, e81, opened}
 use Rattle.meaning.specs.declared.Mode.the-variants.{Sequential, Random}
 use Rattle.facts.specs.Disks.{broken, flagged, disk}
 
@@ -41,6 +42,20 @@ counts-of-flagged = refl
 counts-refused : counts three broken ≡ record { number = 22; files = 0; free = 0 }
 unfolding opened
 counts-refused = refl
+
+-- free space: granules 7 and 9, which do not touch
+space-of-sample : freeSpace three sample ≡ record { number = 0; free = 2; longest = 1 }
+unfolding opened
+space-of-sample = refl
+
+-- a disk that is not consistent: block 2 is marked free, so granules 6 to 9 lie in a row, across blocks; the bits of no unit do not count
+space-of-broken : freeSpace three (changed sample ((2, 0xf8) ∷ [])) ≡ record { number = 0; free = 4; longest = 4 }
+unfolding opened
+space-of-broken = refl
+
+space-refused : freeSpace (disk 4 9 0) sample ≡ record { number = 1; free = 0; longest = 0 }
+unfolding opened
+space-refused = refl
 
 -- the listing, whole: 16 blocks of 2 units, directory of 10 sectors at sector 80, granules 0, 16, 17 reserved, PULS01/DAT (257 bytes) and LEER
 -- in the first two permitted slots

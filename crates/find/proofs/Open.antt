@@ -14,14 +14,6 @@ use Rattle.meaning.specs.declared.Geometry.{Geometry}
 use Rattle.meaning.specs.declared.Handle.{Handle}
 use Rattle.meaning.specs.declared.Answer.{Answer}
 
-pub any-hit : {b : Bool} → b ≡ true → (bs : List Bool) → any (b ∷ bs) ≡ true
-unfolding any
-any-hit h bs = ap (λ (b : Bool). b || any bs) h
-
-pub any-one : (b : Bool) → any (b ∷ []) ≡ b
-unfolding any
-any-one b = or-false b
-
 module _ (g : Geometry) (d n : List ℕ) (len : ℕ) (checking : Bool) (code : ℕ) where
   pub level-full : (s : ℕ) {level : ℕ} → level ≡ 0 → full g d s checking code ≡ true → level ≡ cond (full g d s checking code) 0 (accessLevel g d s)
   level-full s e h = e ∙ sym (ap (λ (b : Bool). cond b 0 (accessLevel g d s)) h)

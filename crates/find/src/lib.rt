@@ -4,17 +4,18 @@ use meaning::Geometry;
 use meaning::Handle;
 use meaning::LookedUp;
 ghost use mathlib.Core.Path.{_≡_};
-ghost use mathlib.Core.Bool.{Bool};
+ghost use mathlib.Core.Bool.{Bool, true};
 ghost use Prim.Native.Nat.{_+_, _-_, _*_, _<_, _≤_};
 ghost use lib.Dec.{eqb};
 ghost use lib.ListN.{length, take, drop};
 ghost use Rattle.meaning.specs.Lists.{every};
 ghost use Rattle.meaning.specs.Names.{letter, padded, wellFormed};
-ghost use Rattle.meaning.specs.Refusals.{check, goodLength, noHandle};
+ghost use Rattle.meaning.specs.Refusals.{check, noHandle};
 ghost use Rattle.meaning.specs.LookUp.{carries, lookUp};
 ghost use Rattle.meaning.specs.Open.{full, admits, openedAt, open′};
 ghost use Rattle.layout.specs.Room.{Room, Slot};
 ghost use Rattle.find.specs.Found.{Finds};
+ghost use Rattle.find.specs.Plain.{plain};
 
 pub struct Found {
     pub is: bool,
@@ -22,20 +23,18 @@ pub struct Found {
     pub compared: usize,
 }
 
-// Allowed bytes 30H to 39H and 41H to 5DH.
+// Allowed bytes 30H to 39H and 41H to 5DH. It branches nowhere, so that eight bytes can be looked at together.
 fn letter(x: u8) -> bool
     ensures { λ r. ⌜ r ≡ letter x ⌝ }
 {
-    if x < 0x30 {
-        return false;
-    }
-    if x <= 0x39 {
-        return true;
-    }
-    if x < 0x41 {
-        return false;
-    }
-    x <= 0x5d
+    ((0x30 <= x) & (x <= 0x39)) | ((0x41 <= x) & (x <= 0x5d))
+}
+
+// An allowed byte or 20H.
+fn plain(x: u8) -> bool
+    ensures { λ r. ⌜ r ≡ plain x ⌝ }
+{
+    (x == 0x20) | letter(x)
 }
 
 // Whether the bytes of a name from one place up to another are all 20H.
@@ -53,19 +52,43 @@ fn blank(name: &[u8], from: usize, to: usize) -> bool
     true
 }
 
-// Whether the bytes of a name from one place up to another are padded right with 20H.
-fn padded(name: &[u8], from: usize, to: usize) -> bool
-    requires { ⌜ to ≤ length (now name) ⌝ }
-    ensures { λ r. ⌜ r ≡ padded (take (to - from) (drop from (now (name .entry)))) ⌝ }
+// Whether each of the first eight bytes of a name is allowed or 20H.
+fn eight_plain(name: &[u8]) -> bool
+    requires { ⌜ length (now name) ≡ 11 ⌝ }
+    ensures { λ r. ⌜ r ≡ every plain (take 8 (now (name .entry))) ⌝ }
 {
-    let mut i = from;
-    while i < to {
-        if !letter(name[i]) {
-            return blank(name, i, to);
-        }
-        i += 1;
+    plain(name[0])
+        & plain(name[1])
+        & plain(name[2])
+        & plain(name[3])
+        & plain(name[4])
+        & plain(name[5])
+        & plain(name[6])
+        & plain(name[7])
+}
+
+// Whether the first eight bytes of a name, each of them allowed or 20H, are padded right with 20H: no allowed byte follows a 20H. Bit 7 of each
+// byte of `letters` tells whether that byte is allowed; the bytes after them stand one byte lower in `letters / 256`.
+fn blanks_last(name: &[u8]) -> bool
+    requires { ⌜ (length (now name) ≡ 11) × (every plain (take 8 (now name)) ≡ true) ⌝ }
+    ensures { λ r. ⌜ r ≡ padded (take 8 (now (name .entry))) ⌝ }
+{
+    let letters = (layout::eight(name, 0) + 0x5f5f5f5f5f5f5f5f) & 0x8080808080808080;
+    (letters / 256) | letters == letters
+}
+
+// Whether the three bytes of type are padded right with 20H.
+fn type_padded(name: &[u8]) -> bool
+    requires { ⌜ length (now name) ≡ 11 ⌝ }
+    ensures { λ r. ⌜ r ≡ padded (take 3 (drop 8 (now (name .entry)))) ⌝ }
+{
+    if !letter(name[8]) {
+        return blank(name, 8, 11);
     }
-    true
+    if !letter(name[9]) {
+        return blank(name, 9, 11);
+    }
+    plain(name[10])
 }
 
 // Whether a name is well formed. One that has not 11 bytes is not.
@@ -75,13 +98,16 @@ pub fn well_formed(name: &[u8]) -> bool
     if name.len() != 11 {
         return false;
     }
-    if !letter(name[0]) {
+    if !eight_plain(name) {
         return false;
     }
-    if !padded(name, 0, 8) {
+    if name[0] == 0x20 {
         return false;
     }
-    padded(name, 8, 11)
+    if !blanks_last(name) {
+        return false;
+    }
+    type_padded(name)
 }
 
 // Whether the slot is a primary entry of that name.
@@ -185,16 +211,6 @@ pub fn name_array(name: &[u8]) -> [u8; 11]
     name_at(name, 0)
 }
 
-// Record length 1 to 256.
-pub fn good_length(len: usize) -> bool
-    ensures { λ r. ⌜ r ≡ goodLength len ⌝ }
-{
-    if len < 1 {
-        return false;
-    }
-    len <= 256
-}
-
 // Whether a code opens the file at slot s at level 0: checking is off, the main code is the "no password" code, or the code is the main
 // code.
 pub fn full(image: &[u8], g: Geometry, s: usize, checking: bool, code: u16) -> bool
@@ -280,7 +296,7 @@ pub fn open_checked(
             handle: no_handle(),
         };
     }
-    if !good_length(len) {
+    if !handle::good_length(len) {
         return Answer {
             number: 12,
             handle: no_handle(),

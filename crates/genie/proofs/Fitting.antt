@@ -9,10 +9,10 @@ use lib.ListN.{length, take, getD}
 use borrow.Author.Tests.{ltb-true, leb-true, eqb-true, not-false}
 use Rattle.meaning.specs.Lists.{count, every, keep, firstOr}
 use Rattle.meaning.specs.Names.{wellFormed, hash}
-use Rattle.meaning.specs.Layout.{slots, isSlot, hit}
+use Rattle.meaning.specs.Layout.{slots, isSlot, hit, highest}
 use Rattle.meaning.specs.Entries.{accessLevel}
 use Rattle.meaning.specs.Free.{freeSlot, freeSlots}
-use Rattle.meaning.specs.Refusals.{first, goodLength, newInRange, inRange, noHandle, movedTo}
+use Rattle.meaning.specs.Refusals.{first, newInRange, inRange, noHandle, movedTo}
 use Rattle.meaning.specs.LookUp.{carries, candidates, named, slotOf, missing}
 use Rattle.meaning.specs.Open.{full, openedAt, openRefusals, open′}
 use Rattle.meaning.specs.Create.{newSlot, createRefusals, create}
@@ -25,6 +25,7 @@ use Rattle.meaning.specs.declared.Mode.{Mode}
 use Rattle.handle.proofs.Laws.{ownRow}
 use Rattle.layout.proofs.Lists.{and-l, and-r, all-at, first-at}
 use Rattle.genie.specs.Codec.{Fits}
+use Rattle.handle.proofs.Laws.{length-range}
 
 -- all of these are below 256
 low : List ℕ → Bool
@@ -83,7 +84,7 @@ module _ (g : Geometry) (d : List ℕ) where
 
   -- open, refused or accepted
   pub open-fits : (n : List ℕ) (len : ℕ) (checking : Bool) (code : ℕ) → Fits (open′ g d n len checking code .handle)
-  unfolding open′ goodLength
+  unfolding open′
   open-fits n len checking code = by (eqb (first (openRefusals g d n len checking code)) 0) refl
     where
       by : (t : Bool) → eqb (first (openRefusals g d n len checking code)) 0 ≡ t
@@ -91,7 +92,7 @@ module _ (g : Geometry) (d : List ℕ) where
       by true e =
           let t : (k : ℕ) → getD (openRefusals g d n len checking code) k (0, false) .1 ≡ false
           = λ k. first-at (openRefusals g d n len checking code) (eqb-true _ 0 e) refl k in
-          opened-fits n len checking code (not-false _ (t (ownRow 1))) (leb-true len 256 (all-at _ (not-false _ (t (ownRow 0))) 1))
+          opened-fits n len checking code (not-false _ (t (ownRow 1))) (length-range len (not-false _ (t (ownRow 0))) .1)
       by false e = zeros-fit
 
   -- create, refused or accepted
@@ -105,7 +106,7 @@ module _ (g : Geometry) (d : List ℕ) where
       by true e new =
           let t : (k : ℕ) → getD (createRefusals g d n f checking) k (0, false) .1 ≡ false
           = λ k. first-at (createRefusals g d n f checking) (eqb-true _ 0 e) refl k in
-          let l = leb-true (f .len) 256 (all-at _ (not-false _ (t (ownRow 0))) 4) in
+          let l = length-range (f .len) (all-at _ (not-false _ (t (ownRow 0))) 3) .1 in
           either new (not-false _ (t (ownRow 1))) l
         where
           either : (new : Bool) → wellFormed n ≡ true → f .len ≤ 256
@@ -119,7 +120,7 @@ module _ (g : Geometry) (d : List ℕ) where
   moved-fits : (h : Handle) → Fits h → inRange h ≡ true → Fits (movedTo h (h .at + h .len))
   unfolding inRange
   moved-fits h f r =
-      let a = leb-true (h .at) 1966080 (all-at _ r 0) in let l = leb-true (h .len) 256 (all-at _ r 2) in
+      let a = leb-true (h .at) highest (all-at _ r 0) in let l = length-range (h .len) (all-at _ r 1) .1 in
       record { slot = f .slot; level = f .level; len = f .len; at = omega arith; name = f .name }
 
   either-fits : (t : Bool) (h h′ : Handle) → Fits h → (t ≡ true → Fits h′) → Fits (cond t h′ h)

@@ -14,15 +14,19 @@ use Rattle.meaning.specs.Write.{writeRecord}
 use Rattle.meaning.specs.Allot.{allot}
 use Rattle.meaning.specs.Trim.{trim}
 use Rattle.meaning.specs.Kill.{kill}
+use Rattle.meaning.specs.BringBack.{bringBack}
 use Rattle.meaning.specs.Listing.{list, counts}
+use Rattle.meaning.specs.FreeSpace.{freeSpace}
 use Rattle.meaning.specs.declared.Geometry.{Geometry}
 use Rattle.meaning.specs.declared.NewFile.{NewFile}
 use Rattle.meaning.specs.declared.Answer.{Answer}
 use Rattle.meaning.specs.declared.Created.{Created}
+use Rattle.meaning.specs.declared.BroughtBack.{BroughtBack}
 use Rattle.meaning.specs.declared.LookedUp.{LookedUp}
 use Rattle.meaning.specs.declared.Part.{Part}
 use Rattle.meaning.specs.declared.Listed.{Listed}
 use Rattle.meaning.specs.declared.Counts.{Counts}
+use Rattle.meaning.specs.declared.Space.{Space}
 use Rattle.meaning.specs.declared.Mode.{Mode}
 use Rattle.meaning.specs.declared.Mode.the-variants.{Sequential, Random}
 use Rattle.genie.specs.Codec.{handleBytes, handleOf, stored}
@@ -67,6 +71,9 @@ opens b a = (a .number, stored b (a .handle))
 abbrev pub creates : List ℕ → Created × List ℕ → ℕ × ℕ × List ℕ × List ℕ
 creates b p = (p .0 .number, told (p .0 .old), stored b (p .0 .handle), p .1)
 
+abbrev pub brings : BroughtBack × List ℕ → ℕ × ℕ × ℕ × List ℕ
+brings p = (p .0 .number, p .0 .slots, p .0 .granules, p .1)
+
 abbrev pub looks : LookedUp → ℕ × ℕ × ℕ
 looks l = (l .number, l .slot, l .compared)
 
@@ -79,6 +86,9 @@ tells b l = (l .number, l .size, l .granules, told (l .more), cond (l .more) (se
 
 abbrev pub numbers : Counts → ℕ × ℕ × ℕ
 numbers c = (c .number, c .files, c .free)
+
+abbrev pub spaces : Space → ℕ × ℕ × ℕ
+spaces s = (s .number, s .free, s .longest)
 
 module _ (g : Geometry) (d : List ℕ) where
   -- slot, compared. "look up's count apart": under 4 it is told, and 0 under 1, 2 and 3.
@@ -116,6 +126,10 @@ module _ (g : Geometry) (d : List ℕ) where
   abbrev pub exportedKill : List ℕ → ℕ × List ℕ
   exportedKill b = long handleBytes b (tooShort g d, d) (leaves (kill g d (handleOf b)))
 
+  -- slots, granules, the image
+  abbrev pub exportedBringBack : ℕ → ℕ × ℕ × ℕ × List ℕ
+  exportedBringBack s = brings (bringBack g d s)
+
   -- size, granules, more, the name buffer
   abbrev pub exportedList : ℕ → List ℕ → ℕ × ℕ × ℕ × ℕ × List ℕ
   exportedList i b = long 11 b (tooShort g d, 0, 0, 0, b) (tells b (list g d i))
@@ -123,3 +137,7 @@ module _ (g : Geometry) (d : List ℕ) where
   -- files, free
   abbrev pub exportedCount : ℕ × ℕ × ℕ
   exportedCount = numbers (counts g d)
+
+  -- free, longest
+  abbrev pub exportedFree : ℕ × ℕ × ℕ
+  exportedFree = spaces (freeSpace g d)

@@ -1,4 +1,5 @@
 // The exported functions, for hosts in C and Rust: numbers and byte slices only (host/include/genie.h). Each tests what it is lent.
+use differences::Difference;
 use meaning::Geometry;
 use meaning::Handle;
 use meaning::Mode;
@@ -10,7 +11,9 @@ ghost use lib.Seq.{sets};
 ghost use Rattle.meaning.specs.Refusals.{check};
 ghost use Rattle.layout.specs.Room.{Below};
 ghost use Rattle.genie.specs.Codec.{two, handleOf, stored};
-ghost use Rattle.genie.specs.Exports.{geometry, newFile, modeOf, told, tooShort, exportedLookUp, exportedOpen, exportedCreate, exportedReadRecord, exportedReadSector, exportedWriteRecord, exportedAllot, exportedTrim, exportedKill, exportedList, exportedCount};
+ghost use Rattle.genie.specs.Exports.{geometry, newFile, modeOf, told, tooShort, exportedLookUp, exportedOpen, exportedCreate, exportedReadRecord, exportedReadSector, exportedWriteRecord, exportedAllot, exportedTrim, exportedKill, exportedBringBack, exportedList, exportedCount, exportedFree};
+ghost use mathlib.Core.Bool.{cond};
+ghost use Rattle.genie.specs.Compared.{flagsOf, exportedCompare};
 
 const HANDLE_BYTES: usize = 19;
 
@@ -385,6 +388,31 @@ pub extern "C" fn genie_kill(
 }
 
 #[no_mangle]
+pub extern "C" fn genie_bring_back(
+    image: &mut [u8],
+    blocks: usize,
+    units: usize,
+    start: usize,
+    open_code: u16,
+    slot: usize,
+    slots: &mut usize,
+    granules: &mut usize,
+) -> u8
+    ensures { λ r. ⌜ (r, now (slots .exit), now (granules .exit), now (image .exit)) ≡ exportedBringBack (geometry blocks units start open_code) (now (image .entry)) slot ⌝ }
+{
+    let g = Geometry {
+        blocks,
+        units,
+        start,
+        anyone: open_code,
+    };
+    let b = calls::bring_back(image, g, slot);
+    *slots = b.slots;
+    *granules = b.granules;
+    b.number
+}
+
+#[no_mangle]
 pub extern "C" fn genie_list(
     image: &[u8],
     blocks: usize,
@@ -446,4 +474,108 @@ pub extern "C" fn genie_count(
     *files = c.files;
     *free = c.free;
     c.number
+}
+
+#[no_mangle]
+pub extern "C" fn genie_free(
+    image: &[u8],
+    blocks: usize,
+    units: usize,
+    start: usize,
+    open_code: u16,
+    free: &mut usize,
+    longest: &mut usize,
+) -> u8
+    ensures { λ r. ⌜ (r, now (free .exit), now (longest .exit)) ≡ exportedFree (geometry blocks units start open_code) (now (image .entry)) ⌝ }
+{
+    let g = Geometry {
+        blocks,
+        units,
+        start,
+        anyone: open_code,
+    };
+    let s = calls::free_space(image, g);
+    *free = s.free;
+    *longest = s.longest;
+    s.number
+}
+
+// A truth as a number of its own, so that several can be added.
+fn flag(b: bool, n: usize) -> usize
+    ensures { λ r. ⌜ (r ≡ cond b n 0) × (r ≤ n) ⌝ }
+{
+    if b {
+        return n;
+    }
+    0
+}
+
+// What differs of a file: 1 the size, 2 the date, 4 other attributes, 8 the contents.
+fn flags_of(x: Difference) -> usize
+    ensures { λ r. ⌜ r ≡ flagsOf x ⌝ }
+{
+    flag(x.size, 1) + flag(x.date, 2) + flag(x.other, 4) + flag(x.contents, 8)
+}
+
+#[no_mangle]
+pub extern "C" fn genie_compare(
+    first: &[u8],
+    blocks: usize,
+    units: usize,
+    start: usize,
+    open_code: u16,
+    second: &[u8],
+    blocks2: usize,
+    units2: usize,
+    start2: usize,
+    open_code2: u16,
+    number: usize,
+    name: &mut [u8],
+    image: &mut usize,
+    kind: &mut usize,
+    position: &mut usize,
+    flags: &mut usize,
+) -> u8
+    ensures { λ r. ⌜ (r, now (image .exit), now (kind .exit), now (position .exit), now (flags .exit), now (name .exit)) ≡ exportedCompare (geometry blocks units start open_code) (now (first .entry)) (geometry blocks2 units2 start2 open_code2) (now (second .entry)) number (now (name .entry)) ⌝ }
+{
+    let g = Geometry {
+        blocks,
+        units,
+        start,
+        anyone: open_code,
+    };
+    let h = Geometry {
+        blocks: blocks2,
+        units: units2,
+        start: start2,
+        anyone: open_code2,
+    };
+    if name.len() < NAME_BYTES {
+        *kind = 0;
+        *position = 0;
+        *flags = 0;
+        let checked = calls::check(first, g);
+        if checked != 0 {
+            *image = 1;
+            return checked;
+        }
+        let checked2 = calls::check(second, h);
+        if checked2 != 0 {
+            *image = 2;
+            return checked2;
+        }
+        *image = 0;
+        return 12;
+    }
+    let x = calls::compare(first, g, second, h, number);
+    *image = layout::wide(x.image);
+    *kind = layout::wide(x.kind);
+    *position = x.at;
+    *flags = flags_of(x);
+    if x.kind == 0 {
+        return x.number;
+    }
+    let file = x.name;
+    put_name(name, 0, file);
+    x.number
 }

@@ -7,7 +7,7 @@ use native.Mathlib.Omega.{arith}
 use lib.ListN.{length, length-append}
 use lib.Dec.{ltb}
 use borrow.Author.Tests.{ltb-false}
-use Rattle.meaning.specs.Lists.{count}
+use Rattle.meaning.specs.Lists.{count, length-count}
 use Rattle.meaning.specs.Layout.{granules}
 use Rattle.meaning.specs.Chain.{owned}
 use Rattle.meaning.specs.Free.{freeGranules}
@@ -21,7 +21,7 @@ use Rattle.laws.specs.Change
 use Rattle.laws.specs.Longer
 use Rattle.laws.specs.TakeOne
 use Rattle.laws.specs.Steps.{Ready, take-ready}
-use Rattle.layout.proofs.Lists.{first-at, length-count}
+use Rattle.layout.proofs.Lists.{first-at}
 use Rattle.growth.proofs.Step
 
 module _ (g : Geometry) (p : ℕ) where

@@ -5,13 +5,13 @@ use mathlib.Core.Bool.{Bool, true, false, not, cond}
 use mathlib.Core.List.{List, [], _∷_, _++_}
 use Prim.Native.Nat.{ℕ, zero, suc, _+_, _-_, _*_, _/_, _%_, _≤_, _<_}
 use native.Mathlib.Omega.{arith}
-use native.Mathlib.Nat.{sub-zero}
+use native.Mathlib.Nat.{add-zero, add-mul, one-mul, div-add-mod', div-lt-iff-lt-mul, mul-le-mul-right}
 use native.Mathlib.Decide.{ℕ-discrete}
 use native.Mathlib.Numerals.{add-one}
 use lib.ListN.{length, getD, length-append}
 use lib.Dec.{eqb, ltb, leb}
-use borrow.Author.Tests.{eq-eqb, ne-eqb, le-ltb, lt-ltb, leb-true, leb-false}
-use Rattle.meaning.specs.Lists.{count, keep, each, lastOr, all}
+use borrow.Author.Tests.{eq-eqb, ne-eqb, eqb-true, leb-true, leb-false}
+use Rattle.meaning.specs.Lists.{count, each, every, lastOr, all, length-count}
 use Rattle.meaning.specs.Layout.{granules, taken, field, slots, directorySectors, isSlot, hit}
 use Rattle.meaning.specs.Entries.{block, second, runs, runsFrom, runLength, runGranules, entryGranules, marker, link}
 use Rattle.meaning.specs.Chain.{chainFrom, chain, owned}
@@ -21,7 +21,7 @@ use Rattle.meaning.specs.declared.Geometry.{Geometry}
 use Rattle.laws.specs.Members
 use Rattle.layout.specs.Room.{Room, Slot, Below}
 use Rattle.layout.proofs.Laws.{left-more, left-none, runs-more, runs-none}
-use Rattle.layout.proofs.Lists.{length-count, le-or-lt, keep-yes, keep-no}
+use Rattle.layout.proofs.Lists.{le-or-lt, all-at, every-count}
 use Rattle.seek.specs.Seek.{Sound, Used, onward}
 use Rattle.seek.proofs.Laws.{chain-more, chain-none, slots-length}
 use Rattle.growth.specs.Search.{Reaches, Clear, NextFree, NextSlot}
@@ -150,42 +150,6 @@ module _ (g : Geometry) (d : List ℕ) where
       let o = chain-none g d left at (omega arith) in
       reached snd w (c .ends ∙ ap (lastOr last) o ∙ last-none last) (c .sum ∙ ap (λ (l : List ℕ). n + length (each (entryGranules g d) l)) o ∙ omega arith) (omega (arith, c .small))
 
-  -- Free granules from n on, `left` of k still wanted ---------------------------------------------------------------------------
-
-  pub record Wanting (k n left total : ℕ) : Type 0 where
-    pub sum : length (freeGranules g d) + left ≡ k + length (keep (free g d) (count n (total - n)))
-    pub high : n ≤ total
-    pub fewer : left ≤ k
-
-  pub wanting-start : {k total : ℕ} → total ≡ granules g → Wanting k 0 k total
-  unfolding freeGranules
-  wanting-start {k} {total} e = record {
-    sum = rw (e, sub-zero) (omega arith);
-    high = omega arith;
-    fewer = omega arith;
-  }
-
-  pub wanting-taken : {k n left left′ total : ℕ} → Wanting k n left total → n < total → taken g d n ≡ true → left′ ≡ left → Wanting k (n + 1) left′ total
-  wanting-taken {k} {n} {left} {left′} {total} w h t e = record {
-    sum = ap (λ (j : ℕ). length (freeGranules g d) + j) e ∙ w .sum ∙ ap (λ (j : ℕ). k + length (keep (free g d) (count n j))) (left-more h) ∙ ap (λ (l : List ℕ). k + length l) (keep-no (free g d) {x = n} (ap not t) (count (n + 1) (total - (n + 1))));
-    high = omega arith;
-    fewer = omega (arith, w .fewer);
-  }
-
-  pub wanting-free : {k n left left′ total : ℕ} → Wanting k n left total → n < total → taken g d n ≡ false → left′ + 1 ≡ left → Wanting k (n + 1) left′ total
-  wanting-free {k} {n} {left} {left′} {total} w h t e =
-      let q = ap (λ (j : ℕ). length (keep (free g d) (count n j))) (left-more h) ∙ ap {B = ℕ} length (keep-yes (free g d) {x = n} (ap not t) (count (n + 1) (total - (n + 1)))) in
-      record { sum = omega (arith, w .sum, q); high = omega arith; fewer = omega (arith, w .fewer) }
-
-  pub wanting-enough : {k n left total : ℕ} → Wanting k n left total → left ≡ 0 → false ≡ ltb (length (freeGranules g d)) k
-  wanting-enough {k} w h = sym (le-ltb (length (freeGranules g d)) k (omega (arith, w .sum)))
-
-  pub wanting-end : {k n left total : ℕ} → Wanting k n left total → total ≤ n → ltb 0 left ≡ ltb (length (freeGranules g d)) k
-  wanting-end {k} {n} {left} {total} w h =
-      let e = ap (λ (j : ℕ). length (keep (free g d) (count n j))) (left-none h) in
-      ⊎-elim (λ (q : left ≤ 0). le-ltb 0 left q ∙ sym (le-ltb (length (freeGranules g d)) k (omega (arith, w .sum))))
-      (λ (q : 0 < left). lt-ltb 0 left q ∙ sym (lt-ltb (length (freeGranules g d)) k (omega (arith, w .sum)))) (le-or-lt left 0)
-
   -- The next free granule: all from `from` up to n passed -------------------------------------------------------------------------
 
   pub record Passing (from lo hi n total : ℕ) : Type 0 where
@@ -206,6 +170,22 @@ module _ (g : Geometry) (d : List ℕ) where
       go : (m : ℕ) → from ≤ m → m < n + 1 → Dec (m ≡ n) → (taken g d m ≡ true) ⊎ ((lo ≤ m) × (m < hi))
       go m a b (yes q) = rw q t
       go m a b (no q) = w .passed m a (omega arith)
+
+  -- a block that begins with n and is taken
+  pub passing-block : {from lo hi n total : ℕ} → 0 < g .units → Passing from lo hi n total → n < total → total ≡ granules g
+      → all (eqb (n % g .units) 0 ∷ every (taken g d) (count n (g .units)) ∷ []) ≡ true → Passing from lo hi (n + g .units) total
+  unfolding granules
+  passing-block {from} {lo} {hi} {n} {total} some w h e t =
+      let z = eqb-true (n % g .units) 0 (all-at _ t 0) in
+      let q : n / g .units * g .units ≡ n = sym (add-zero _) ∙ ap (λ (k : ℕ). n / g .units * g .units + k) (sym z) ∙ div-add-mod' n (g .units) in
+      let b : n / g .units < g .blocks = div-lt-iff-lt-mul some .1 (omega arith) in
+      let m = mul-le-mul-right (g .units) b in
+      let s : (n / g .units + 1) * g .units ≡ n / g .units * g .units + g .units = add-mul (n / g .units) 1 (g .units) ∙ ap (λ (k : ℕ). n / g .units * g .units + k) (one-mul (g .units)) in
+      record {
+        low = omega (arith, w .low);
+        high = omega arith;
+        passed = λ m a b. ⊎-elim (λ l. inl (every-count (taken g d) n (g .units) m (all-at _ t 1) l b)) (λ l. w .passed m a l) (le-or-lt n m);
+      }
 
   pub passing-found : {from lo hi n total : ℕ} → Passing from lo hi n total → total ≡ granules g → taken g d n ≡ false → (n < lo) ⊎ (hi ≤ n) → NextFree g d from lo hi n
   passing-found w e t o = record { low = w .low; high = rw e at (w .high); passed = w .passed; found = λ h. (t, o) }

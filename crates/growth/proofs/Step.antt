@@ -26,6 +26,7 @@ use Rattle.laws.specs.Frame
 use Rattle.laws.specs.Places
 use Rattle.laws.specs.Change
 use Rattle.laws.specs.Longer
+use Rattle.laws.specs.AtTail
 use Rattle.laws.specs.Tail
 use Rattle.laws.specs.Take
 use Rattle.laws.specs.Extend
@@ -130,16 +131,9 @@ module _ (g : Geometry) (p : ℕ) where
     shut-taken h = ⊎-elim (λ z. s .full z) (λ z. ⊎-elim (λ y. shut-past y) (λ y. let w = s .after z in
         lengthens-is d (s .last) (s .many) ∙ all-yes (le-leb 1 r (w .0)) _ ∙ all-yes (lt-ltb _ _ (subst (λ (x : ℕ). x < granules g) (w .1) y)) _ ∙ all-no (ap not (ap (taken g d) (sym (w .1)) ∙ h)) _) (le-or-lt (granules g) a)) (le-or-lt 32 l)
 
-  -- Only the last entry's pairs change: the chain is the same
+  -- Only the last entry's pairs change: it is still the last one
   grows-tail : {d d′ : List ℕ} {m : ℕ} → Ready g d p → Tail.Grows g d d′ p m → tail g p d′ ≡ tail g p d
-  grows-tail {d} {d′} {m} y h = ap (lastOr p) (Frame.chain-links g d d′ (h .above) p (λ x i. (steady x i 0x1e (omega arith) (omega arith), steady x i 0x1f (omega arith) (omega arith))))
-    where
-      steady : (x : ℕ) → In x (chain g d p) → (j : ℕ) → 0x1e ≤ j → j < 32 → field g d′ x j ≡ field g d x j
-      steady x i j b t = go (ℕ-discrete x (tail g p d))
-        where
-          go : Dec (x ≡ tail g p d) → field g d′ x j ≡ field g d x j
-          go (yes q) = rw q (h .fixed j t (inr b))
-          go (no q) = h .agrees x (Change.members g d (sound′ g d p y) p x (file′ g d p y) i .slot) q j t
+  grows-tail {d} {d′} y h = AtTail.tail-stays g d d′ (sound′ g d p y) p (file′ g d p y) (h .at)
 
   -- the numbers of free granules and of free slots
   slots-eq : (d d′ : List ℕ) → aboveTen g d′ ≡ aboveTen g d → (x : ℕ) → (T (isSlot g d x) → hit g d′ x ≡ hit g d x) → freeSlot g d′ x ≡ freeSlot g d x
@@ -209,9 +203,6 @@ module _ (g : Geometry) (p : ℕ) where
     y₁ : Ready g d p
     y₁ = s .ready
 
-    abbrev at₁ : ℕ
-    at₁ = 0x17 + 2 * (r - 1)
-
     unfoldable pub d₁ : List ℕ
     d₁ = longer d e (0x17 + 2 * (r - 1)) (field g d e (0x17 + 2 * (r - 1)) + 1) a
 
@@ -271,7 +262,7 @@ module _ (g : Geometry) (p : ℕ) where
     longer-taken = taken-by d d₁ a y₁ one₁ (Tail.grows-longer g d d₁ (sound′ g d p y₁) p (file′ g d p y₁) a grows₁) long₁
 
     pub longer-slots : (x : ℕ) → freeSlot g d₁ x ≡ freeSlot g d x
-    longer-slots x = slots-eq d d₁ (grows₁ .above) x (λ t. grows₁ .hits x t)
+    longer-slots x = slots-eq d d₁ (grows₁ .at .above) x (λ t. grows₁ .at .hits x t)
 
     pub longer-stand : 1 ≤ length (freeGranules g d) → Stand g p d₁ e r (a + 1) (l + 1)
     longer-stand room =
@@ -346,7 +337,7 @@ module _ (g : Geometry) (p : ℕ) where
     pair-taken = taken-by d d₂ n y₂ one₂ (Tail.grows-longer g d d₂ (sound′ g d p y₂) p (file′ g d p y₂) n grows₂) long₂
 
     pub pair-slots : (x : ℕ) → freeSlot g d₂ x ≡ freeSlot g d x
-    pair-slots x = slots-eq d d₂ (grows₂ .above) x (λ t. grows₂ .hits x t)
+    pair-slots x = slots-eq d d₂ (grows₂ .at .above) x (λ t. grows₂ .at .hits x t)
 
     pub pair-stand : 1 ≤ length (freeGranules g d) → Stand g p d₂ e (r + 1) (n + 1) 1
     pair-stand room =

@@ -5,7 +5,7 @@ use mathlib.Core.Bool.{Bool, true, false}
 use mathlib.Core.List.{List}
 use Prim.Native.Nat.{ℕ, _+_, _-_, _*_, _/_, _≤_, _<_}
 use lib.ListN.{length}
-use Rattle.meaning.specs.Layout.{granules, taken, entryAt}
+use Rattle.meaning.specs.Layout.{granules, taken, entryAt, mostBlocks, mostUnits}
 use Rattle.meaning.specs.Entries.{runs, runStart, runLength}
 use Rattle.meaning.specs.Chain.{owned}
 use Rattle.meaning.specs.Free.{freeSlot}
@@ -51,5 +51,5 @@ pub record NextSlot (g : Geometry) (d : List ℕ) (from r : ℕ) : Type 0 where
 pub record Inside (g : Geometry) (bytes e n : ℕ) : Type 0 where
   pub entry : entryAt g e + 32 ≤ bytes
   pub units-low : 1 ≤ g .units
-  pub units-high : g .units ≤ 8
-  pub block : n / g .units < 192
+  pub units-high : g .units ≤ mostUnits
+  pub block : n / g .units < mostBlocks

@@ -5,7 +5,7 @@ ghost use mathlib.Core.Bool.{Bool, false, cond};
 ghost use Prim.Native.Nat.{_+_, _-_, _*_, _%_, _<_, _≤_};
 ghost use lib.ListN.{length};
 ghost use lib.Dec.{ltb};
-ghost use Rattle.meaning.specs.Layout.{granules, field, setField, takeGranule, entryAt, hitAt};
+ghost use Rattle.meaning.specs.Layout.{granules, granulesFor, field, setField, takeGranule, entryAt, hitAt};
 ghost use Rattle.meaning.specs.Entries.{entryGranules, noGrowth};
 ghost use Rattle.meaning.specs.Chain.{owned};
 ghost use Rattle.meaning.specs.Free.{freeGranules};
@@ -33,6 +33,14 @@ pub struct Ending {
     pub runs: usize,
     pub after: usize,
     pub long: usize,
+}
+
+// How many granules that many bytes need.
+pub fn granules_for(n: usize) -> usize
+    requires { ⌜ n ≤ 33554432 ⌝ }
+    ensures { λ r. ⌜ r ≡ granulesFor n ⌝ }
+{
+    (n + (layout::GRANULE_BYTES - 1)) / layout::GRANULE_BYTES
 }
 
 // How many granules the runs of an entry hold.
@@ -78,22 +86,19 @@ fn too_few(image: &[u8], g: Geometry, k: usize) -> bool
     requires { ⌜ Room g (now image) ⌝ }
     ensures { λ r. ⌜ r ≡ ltb (length (freeGranules g (now (image .entry)))) k ⌝ }
 {
-    let total = layout::granules(g);
     let mut n = 0;
-    let mut left = k;
-    while n < total {
-        if left == 0 {
+    let mut b = 0;
+    while b < g.blocks {
+        if k <= n {
             return false;
         }
-        if !layout::taken(image, g, n) {
-            left -= 1;
-        }
-        n += 1;
+        n = n + space::clear_bits(layout::wide(image[256 * g.start + b]), g.units);
+        b += 1;
     }
-    0 < left
+    n < k
 }
 
-// The lowest granule from `from` on that is clear in the GAT and is none of lo to hi.
+// The lowest granule from `from` on that is clear in the GAT and is none of lo to hi. A block that is taken is one step.
 fn next_free(image: &[u8], g: Geometry, from: usize, lo: usize, hi: usize) -> usize
     requires { ⌜ Room g (now image) × (from ≤ granules g) ⌝ }
     ensures { λ r. ⌜ NextFree g (now (image .entry)) from lo hi r ⌝ }
@@ -101,6 +106,10 @@ fn next_free(image: &[u8], g: Geometry, from: usize, lo: usize, hi: usize) -> us
     let total = layout::granules(g);
     let mut n = from;
     while n < total {
+        if space::block_taken(image, g, n) {
+            n += g.units;
+            continue;
+        }
         if !layout::taken(image, g, n) {
             if n < lo {
                 return n;

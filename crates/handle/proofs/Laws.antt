@@ -11,7 +11,7 @@ use Rattle.meaning.specs.Lists.{every, any}
 use Rattle.meaning.specs.Layout.{fitsGeometry, highest}
 use Rattle.meaning.specs.Consistent.{consistent}
 use Rattle.meaning.specs.Entries.{inUse, extension, primary, system}
-use Rattle.meaning.specs.Refusals.{first, check, faultNumbers, diskRefusals, inRange, fresh, staleHandle, handleRefusals, protected}
+use Rattle.meaning.specs.Refusals.{first, check, faultNumbers, diskRefusals, inRange, fresh, staleHandle, handleRefusals, protected, goodLength}
 use Rattle.meaning.specs.declared.Geometry.{Geometry}
 use Rattle.meaning.specs.declared.Handle.{Handle}
 use Rattle.laws.specs.Members
@@ -38,6 +38,10 @@ first-stop ((m, b) ∷ xs) ys {n} h z = by (λ k. first-stop xs ys k z) b refl
     by : (n ≡ first xs → n ≡ first (xs ++ ys)) → (t : Bool) → b ≡ t → n ≡ first ((m, b) ∷ (xs ++ ys))
     by ih true q = h ∙ first-hit q m xs ∙ sym (first-hit q m (xs ++ ys))
     by ih false q = ih (h ∙ first-skip q m xs) ∙ sym (first-skip q m (xs ++ ys))
+
+pub length-range : (len : ℕ) → goodLength len ≡ true → (1 ≤ len) × (len ≤ 256)
+unfolding goodLength
+length-range len r = (leb-true _ _ (all-at _ r 0), leb-true _ _ (all-at _ r 1))
 
 any-second : (a b : Bool) → any (a ∷ b ∷ []) ≡ false → b ≡ false
 unfolding any
@@ -81,7 +85,7 @@ module _ (g : Geometry) (d : List ℕ) where
 
   pub ranges : (h : Handle) → inRange h ≡ true → (h .at ≤ highest) × (1 ≤ h .len) × (h .len ≤ 256) × (h .level ≤ 7)
   unfolding inRange
-  ranges h r = (leb-true _ _ (all-at _ r 0), leb-true _ _ (all-at _ r 1), leb-true _ _ (all-at _ r 2), leb-true _ _ (all-at _ r 3))
+  ranges h r = let l = length-range (h .len) (all-at _ r 1) in (leb-true _ _ (all-at _ r 0), l .0, l .1, leb-true _ _ (all-at _ r 2))
 
   pub is-slot : (h : Handle) → fresh g d h ≡ true → Slot g d (h .slot)
   unfolding fresh

@@ -5,8 +5,18 @@ use meaning::Handle;
 ghost use mathlib.Core.Path.{_≡_};
 ghost use mathlib.Core.List.{[], _∷_};
 ghost use Rattle.meaning.specs.Entries.{system};
-ghost use Rattle.meaning.specs.Refusals.{first, check, inRange, fresh, handleRefusals, notForReading, protected};
+ghost use Rattle.meaning.specs.Refusals.{first, check, goodLength, inRange, fresh, handleRefusals, notForReading, protected};
 ghost use Rattle.layout.specs.Room.{Room, Slot};
+
+// Record length 1 to 256.
+pub fn good_length(len: usize) -> bool
+    ensures { λ r. ⌜ r ≡ goodLength len ⌝ }
+{
+    if len < 1 {
+        return false;
+    }
+    len <= 256
+}
 
 // Position, record length and level are in range.
 pub fn in_range(h: Handle) -> bool
@@ -15,10 +25,7 @@ pub fn in_range(h: Handle) -> bool
     if layout::HIGHEST < h.at {
         return false;
     }
-    if h.len < 1 {
-        return false;
-    }
-    if 256 < h.len {
+    if !good_length(h.len) {
         return false;
     }
     h.level <= 7
@@ -70,7 +77,7 @@ pub fn handle_number(image: &[u8], g: Geometry, h: Handle, ranged: bool, checked
 // The same, then 6 for a call that reads.
 pub fn reading_number(image: &[u8], g: Geometry, h: Handle, ranged: bool, checked: u8) -> u8
     requires { ⌜ checked ≡ check g (now image) ⌝ }
-    ensures { λ r. ⌜ r ≡ first (handleRefusals g (now (image .entry)) h ranged (notForReading g (now (image .entry)) h ∷ [])) ⌝ }
+    ensures { λ r. ⌜ r ≡ first (handleRefusals g (now (image .entry)) h ranged (notForReading h ∷ [])) ⌝ }
 {
     let number = handle_number(image, g, h, ranged, checked);
     if number != 0 {

@@ -13,7 +13,7 @@ use Rattle.meaning.specs.Layout.{isSlot, slots, directorySectors, directoryGran
 use Rattle.meaning.specs.Entries.{inUse, primary, runs, link, runStart, runLength, runGranules, entryGranules}
 use Rattle.meaning.specs.Chain.{chain, files}
 use Rattle.meaning.specs.Consistent.{follows}
-use Rattle.meaning.specs.Fault.{handsOn, walk, walked, metFrom, fileOf, goodExtension, chainFault, whole}
+use Rattle.meaning.specs.Fault.{handsOn, walk, walked, metFrom, fileOf, goodExtension, chainFault, chainWhole}
 use Rattle.meaning.specs.declared.Geometry.{Geometry}
 use Rattle.layout.specs.Room.{Room, Slot}
 use Rattle.layout.proofs.Lists.{all-at, keep-yes, keep-no}
@@ -211,8 +211,8 @@ module _ (g : Geometry) (d : List ℕ) where
 
   -- A whole chain -------------------------------------------------------------------------------------------------------------------
 
-  pub whole-is : (p : ℕ) → isSlot g d p ≡ true → primary g d p ≡ true → whole g d p ≡ every (λ s. not (chainFault g d s)) (reach g d (length (slots g d)) p)
-  unfolding whole
+  pub whole-is : (p : ℕ) → isSlot g d p ≡ true → primary g d p ≡ true → chainWhole g d p ≡ every (λ s. not (chainFault g d s)) (reach g d (length (slots g d)) p)
+  unfolding chainWhole
   whole-is p a b =
       Members.both-T {a = every firm (walk g d p)} {b = every firm (reach g d (length (slots g d)) p)}
       (λ t. Members.all-every firm (reach g d (length (slots g d)) p) (λ x i. Members.every-all firm t (Members.has-in x (walk g d p) (rw (Reach.meets g d p x f) (Members.in-has i)))))
@@ -224,10 +224,10 @@ module _ (g : Geometry) (d : List ℕ) where
       firm : ℕ → Bool
       firm s = not (chainFault g d s)
 
-  pub whole-owns : (p : ℕ) → isSlot g d p ≡ true → primary g d p ≡ true → whole g d p ≡ true → reach g d (length (slots g d)) p ≡ chain g d p
+  pub whole-owns : (p : ℕ) → isSlot g d p ≡ true → primary g d p ≡ true → chainWhole g d p ≡ true → reach g d (length (slots g d)) p ≡ chain g d p
   whole-owns p a b w = sym (Reach.whole-chain g d p (file-of p a b) (Members.true-T w))
 
-  pub whole-by : (p : ℕ) {n : ℕ} → Slot g d p → primary g d p ≡ true → n ≡ length (slots g d) → whole g d p ≡ every (λ s. not (chainFault g d s)) (reach g d n p)
+  pub whole-by : (p : ℕ) {n : ℕ} → Slot g d p → primary g d p ≡ true → n ≡ length (slots g d) → chainWhole g d p ≡ every (λ s. not (chainFault g d s)) (reach g d n p)
   whole-by p {n} h b e =
       whole-is p (slot-yes g d p (h .low) (h .held)) b ∙ ap (λ (j : ℕ). every (λ s. not (chainFault g d s)) (reach g d j p)) (sym e)
 

@@ -11,7 +11,7 @@ use Rattle.meaning.specs.Lists.{has, every}
 use Rattle.meaning.specs.Layout.{slots}
 use Rattle.meaning.specs.Entries.{marker, link}
 use Rattle.meaning.specs.Chain.{chain, chainFrom}
-use Rattle.meaning.specs.Fault.{handsOn, ends, walkFrom, walk, chainFault, whole}
+use Rattle.meaning.specs.Fault.{handsOn, ends, walkFrom, walk, chainFault, chainWhole}
 use Rattle.meaning.specs.declared.Geometry.{Geometry}
 use Rattle.laws.specs.Members
 use Rattle.laws.specs.Members.{In}
@@ -71,11 +71,11 @@ module _ (g : Geometry) (d : List ℕ) where
       go t (inl h) = h
       go t (inr e) = absurd (omega (arith, eqb→eq (marker g d s) 0xfe t, Kinds.ends-says g d s e .1))
 
-  firm-at : (p s : ℕ) → File g d p → T (whole g d p) → In s (walk g d p) → Kinds.Firm g d s
-  unfolding whole
+  firm-at : (p s : ℕ) → File g d p → T (chainWhole g d p) → In s (walk g d p) → Kinds.Firm g d s
+  unfolding chainWhole
   firm-at p s f w i = Kinds.firm g d s (Walk.walk-used g d p s f i .used) (T-not (chainFault g d s) (Members.every-all (λ s. not (chainFault g d s)) w i))
 
-  chain-reach : (p : ℕ) → File g d p → T (whole g d p) → (left s : ℕ) → In s (walk g d p) → chainFrom g d left s ≡ reach left s
+  chain-reach : (p : ℕ) → File g d p → T (chainWhole g d p) → (left s : ℕ) → In s (walk g d p) → chainFrom g d left s ≡ reach left s
   unfolding chainFrom reach
   chain-reach p f w zero s i = refl
   chain-reach p f w (suc left) s i =
@@ -87,6 +87,6 @@ module _ (g : Geometry) (d : List ℕ) where
       go (Members.Test.fails t) r = rw (Members.no-false {b = handsOn g d s} t)
 
   -- a whole chain is what the plain steps come to
-  pub whole-chain : (p : ℕ) → File g d p → T (whole g d p) → chain g d p ≡ reach (length (slots g d)) p
+  pub whole-chain : (p : ℕ) → File g d p → T (chainWhole g d p) → chain g d p ≡ reach (length (slots g d)) p
   unfolding chain
   whole-chain p f w = chain-reach p f w (length (slots g d)) p (Walk.walk-first g d p f)

@@ -11,7 +11,7 @@ ghost use Rattle.meaning.specs.Layout.{granules, field, taken, slots, directory
 ghost use Rattle.meaning.specs.Entries.{runs, runStart, runLength, runGranules, entryGranules, extension};
 ghost use Rattle.meaning.specs.Chain.{chain};
 ghost use Rattle.meaning.specs.Consistent.{pairsHold, follows, runsHold, gatHolds, sizeHolds};
-ghost use Rattle.meaning.specs.Fault.{usedExtension, handsOn, ends, badEntry, walked, fileOf, goodExtension, chainFault, runFault, gatFault, sharedFault, whole, sizeFault, directoryFault};
+ghost use Rattle.meaning.specs.Fault.{usedExtension, handsOn, ends, badEntry, walked, fileOf, goodExtension, chainFault, runFault, gatFault, sharedFault, chainWhole, sizeFault, directoryFault};
 ghost use Rattle.layout.specs.Room.{Room, Slot, Below};
 ghost use Rattle.kinds.specs.Reach.{reach};
 ghost use Rattle.kinds.specs.Overlap.{runsMeet, runMeets, entriesMeet, meetsEarlier};

@@ -20,7 +20,7 @@ use Rattle.meaning.specs.Chain.{chain, owned}
 use Rattle.meaning.specs.Growth.{tail, after, lengthens, lengthened, withPair, newExtension, withExtension, extended, takeOne, grown}
 use Rattle.meaning.specs.Free.{freeGranules, freeSlot, freeSlots}
 use Rattle.meaning.specs.Drop.{unhooked, dropOne}
-use Rattle.meaning.specs.Kill.{killEntry, killed}
+use Rattle.meaning.specs.Kill.{killed}
 use Rattle.meaning.specs.Create.{newEntry, withEntry}
 use Rattle.meaning.specs.Write.{store, withSize}
 use Rattle.meaning.specs.Plain.{AreBytes}
@@ -32,6 +32,7 @@ use Rattle.laws.specs.Bits
 use Rattle.laws.specs.Facts
 use Rattle.laws.specs.Facts.{Sound, File}
 use Rattle.laws.specs.Places
+use Rattle.laws.specs.Marking
 use Rattle.laws.specs.Change
 use Rattle.laws.specs.Words.{words}
 
@@ -165,14 +166,17 @@ module _ (g : Geometry) (d : List ℕ) (k : Places.Fits g d) where
   unfolding words
   small-field e j s h = small-set (entryAt g e + j) s h
 
-  small-kill : (l : List ℕ) (x : ℕ) → Small l → Small (killEntry g l x)
-  unfolding words
-  small-kill l x s = small-set (hitAt g x) (small-set (entryAt g x + 0) s (put-small (field g l x 0) 4 0 (omega arith) (omega arith) (s .below (entryAt g x + 0)))) (omega arith)
+  -- bits 4, HIT bytes and GAT bits put, as kill and bring back do
+  pub small-marking : (v h : ℕ) (ns xs : List ℕ) → v < 2 → h < 256 → Small d → Small (Marking.marking g v h d ns xs)
+  unfolding Marking.marking
+  small-marking v h ns xs b e s =
+      Places.through-stays Small (Marking.putEntry g v h) xs (through (Places.marked g v) d ns)
+      (λ l x i r. small-set (hitAt g x) (small-set (entryAt g x + 0) r (put-small (byte l (entryAt g x + 0)) 4 v b (omega arith) (r .below (entryAt g x + 0)))) e)
+      (Places.through-stays Small (Places.marked g v) ns d (λ l n i r. small-set (gatAt g n) r (put-small (byte l (gatAt g n)) (n % g .units) v b (unit-lt n) (r .below (gatAt g n)))) s)
 
   pub small-killed : (p : ℕ) → Small d → Small (killed g d p)
-  small-killed p s =
-      Places.through-stays Small (killEntry g) (chain g d p) (through (freeGranule g) d (owned g d p)) (λ l x i r. small-kill l x r)
-      (Places.through-stays Small (freeGranule g) (owned g d p) d (λ l n i r. small-free n r) s)
+  unfolding Marking.marking words
+  small-killed p s = small-marking 0 0 (owned g d p) (chain g d p) (omega arith) (omega arith) s
 
   -- the size and B, where the sector count has two bytes
   pub small-size : (l : List ℕ) (p size : ℕ) → Small l → sectorsFor size < 65536 → Small (withSize g d l p size)

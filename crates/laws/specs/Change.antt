@@ -3,7 +3,7 @@
 use mathlib.Core.Path.{_≡_, refl, ap, sym, _∙_, subst}
 use mathlib.Core.Logic.{_≢_, _⊎_, inl, inr}
 use mathlib.Core.Bool.{Bool, true, false, not, cond, _&&_, Bool·beq}
-use mathlib.Core.List.{List, []}
+use mathlib.Core.List.{List, [], _∷_}
 use Prim.Native.Nat.{ℕ, zero, suc, _≤_, _<_}
 use native.Mathlib.Omega.{arith}
 use native.Mathlib.Decide.{ℕ-discrete}
@@ -18,6 +18,7 @@ use Rattle.meaning.specs.Growth.{tail}
 use Rattle.meaning.specs.declared.Geometry.{Geometry}
 use Rattle.laws.specs.Members
 use Rattle.laws.specs.Members.{In, Distinct}
+use Rattle.laws.specs.Counting
 use Rattle.laws.specs.Facts
 use Rattle.laws.specs.Facts.{File, Sound}
 use Rattle.laws.specs.Entry
@@ -127,6 +128,24 @@ flags-extension x e = rw e tt
 pub in-length : {x : ℕ} {xs : List ℕ} → In x xs → 1 ≤ length xs
 in-length Members.In.here = omega arith
 in-length (Members.In.there i) = omega arith
+
+-- A chain of slots that meets none twice ends by its marker, not by its bound: if it has every slot of the directory, it has the next one too.
+pub chain-next : (g : Geometry) (d : List ℕ) (p x : ℕ) → ((y : ℕ) → In y (chain g d p) → T (isSlot g d y)) → Distinct (chain g d p) → In x (chain g d p)
+    → marker g d x ≡ 0xfe → T (isSlot g d (link g d x)) → In (link g d x) (chain g d p)
+chain-next g d p x s u i m t = go (walk x i m) (Members.in? (link g d x) (chain g d p))
+  where
+    walk : (x : ℕ) → In x (chain g d p) → marker g d x ≡ 0xfe → In (link g d x) (chain g d p) ⊎ (length (chain g d p) ≡ length (slots g d))
+    walk x i m = unfold chain in Entry.chainFrom-next g d (length (slots g d)) p x i m
+
+    inside : (y : ℕ) → (y ≡ link g d x) ⊎ In y (chain g d p) → In y (slots g d)
+    inside y (inl q) = rw q (Facts.in-slots g d (link g d x) t)
+    inside y (inr j) = Facts.in-slots g d y (s y j)
+
+    go : In (link g d x) (chain g d p) ⊎ (length (chain g d p) ≡ length (slots g d)) → In (link g d x) (chain g d p) ⊎ (In (link g d x) (chain g d p) → ⊥) → In (link g d x) (chain g d p)
+    go (inl j) q = j
+    go (inr e) (inl j) = j
+    go (inr e) (inr n) =
+        absurd (omega (arith, Counting.pigeonhole {xs = slots g d} (link g d x ∷ chain g d p) (Facts.slots-distinct g d) (Members.Distinct.fresh n u) (λ y j. inside y (Members.in-cons j))))
 
 module _ (g : Geometry) (d : List ℕ) (c : Sound g d) where
   chainFrom-members : (n p x : ℕ) → T (isSlot g d p) → T (inUse g d p) → In x (chainFrom g d n p) → Member g d p x

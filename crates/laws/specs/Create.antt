@@ -44,10 +44,6 @@ module _ (g : Geometry) (d : List ℕ) (x : ℕ) (es : List ℕ) (v : ℕ) (len 
   unfolding withEntry
   with-byte i o n = getD-set-other (sets d (entryAt g x) es) (hitAt g x) i v 0 n ∙ Places.sets-outside es d (entryAt g x) i (rw len o)
 
-  pub with-length : length (withEntry g d x es v) ≡ length d
-  unfolding withEntry
-  with-length = simp (length-set, length-sets)
-
   pub with-field : (k : ℕ) → k < 32 → entryAt g x + 32 ≤ length d → field g (withEntry g d x es v) x k ≡ byte es k
   unfolding withEntry words
   with-field k b l =
@@ -75,7 +71,7 @@ map-read [] F i h = refl
 map-read (x ∷ n) F i h =
     ap₂ (λ (a : ℕ) (l : List ℕ). a ∷ l) (rw add-zero at (h 0 (omega arith))) (map-read n F (i + 1) (λ j b. let e : i + 1 + j ≡ i + suc j = omega arith in rw e (h (suc j) (omega arith))))
 
-hash-nonzero : (n : List ℕ) → hash n ≢ 0
+pub hash-nonzero : (n : List ℕ) → hash n ≢ 0
 unfolding hash
 hash-nonzero n = go (through _ 0 n) (ℕ-discrete (through _ 0 n) 0)
   where

@@ -169,13 +169,15 @@ module _ (g : Geometry) (d : List ℕ) (c : Sound g d) (k : Places.Fits g d) (p 
     pub shorter-shrinks : Shrink.Shrinks g d (freeGranule g (setField g d (tail g p d) (0x17 + 2 * (runs g d (tail g p d) - 1)) (field g d (tail g p d) (0x17 + 2 * (runs g d (tail g p d) - 1)) - 1)) m) p m
     unfolding words
     shorter-shrinks = record {
-      above = Take.put-above 0 (omega arith) g d c k e (member .slot) r r-lt d₁ d₁-length d₁-out m m-lt;
-      agrees = Take.put-agrees 0 (omega arith) g d c k e (member .slot) r r-lt d₁ d₁-length d₁-out m m-lt;
-      hits = Take.put-hits 0 (omega arith) g d c k e (member .slot) r r-lt d₁ d₁-length d₁-out m m-lt;
-      fixed = λ x b o. fixed x (side x o);
-      pairs = λ x b q. fixed (0x16 + 2 * x) (omega arith) ∙ entry .pairs x b (omega (arith, runs′, runs-r));
-      run = run′;
-      some′ = λ n. omega (arith, runs′);
+      at = record {
+        above = Take.put-above 0 (omega arith) g d c k e (member .slot) r r-lt d₁ d₁-length d₁-out m m-lt;
+        agrees = Take.put-agrees 0 (omega arith) g d c k e (member .slot) r r-lt d₁ d₁-length d₁-out m m-lt;
+        hits = Take.put-hits 0 (omega arith) g d c k e (member .slot) r r-lt d₁ d₁-length d₁-out m m-lt;
+        fixed = λ x b o. fixed x (side x o);
+        pairs = λ x b q. fixed (0x16 + 2 * x) (omega arith) ∙ entry .pairs x b (omega (arith, runs′, runs-r));
+        run = run′;
+        some′ = λ n. omega (arith, runs′);
+      };
       less = less;
       freed = rw (Take.put-digit 0 (omega arith) g d c k e (member .slot) r r-lt d₁ d₁-length d₁-out m m-lt) (λ t. t);
       keeps = Take.put-keeps 0 (omega arith) g d c k e (member .slot) r r-lt d₁ d₁-length d₁-out m m-lt;
@@ -243,13 +245,15 @@ module _ (g : Geometry) (d : List ℕ) (c : Sound g d) (k : Places.Fits g d) (p 
     pub emptied-shrinks : Shrink.Shrinks g d (freeGranule g (setField g (setField g d (tail g p d) (0x16 + 2 * (runs g d (tail g p d) - 1)) 0xff) (tail g p d) (0x17 + 2 * (runs g d (tail g p d) - 1)) 0xff) m) p m
     unfolding words
     emptied-shrinks = record {
-      above = Take.put-above 0 (omega arith) g d c k e (member .slot) r r-lt q₁ q₁-length q₁-out m m-lt;
-      agrees = Take.put-agrees 0 (omega arith) g d c k e (member .slot) r r-lt q₁ q₁-length q₁-out m m-lt;
-      hits = Take.put-hits 0 (omega arith) g d c k e (member .slot) r r-lt q₁ q₁-length q₁-out m m-lt;
-      fixed = λ x b o. fixed₂ x (side x o) (side′ x o);
-      pairs = pairs₂;
-      run = run₂;
-      some′ = λ n. omega (arith, runs₂, kept n);
+      at = record {
+        above = Take.put-above 0 (omega arith) g d c k e (member .slot) r r-lt q₁ q₁-length q₁-out m m-lt;
+        agrees = Take.put-agrees 0 (omega arith) g d c k e (member .slot) r r-lt q₁ q₁-length q₁-out m m-lt;
+        hits = Take.put-hits 0 (omega arith) g d c k e (member .slot) r r-lt q₁ q₁-length q₁-out m m-lt;
+        fixed = λ x b o. fixed₂ x (side x o) (side′ x o);
+        pairs = pairs₂;
+        run = run₂;
+        some′ = λ n. omega (arith, runs₂, kept n);
+      };
       less = less₂;
       freed = rw (Take.put-digit 0 (omega arith) g d c k e (member .slot) r r-lt q₁ q₁-length q₁-out m m-lt) (λ t. t);
       keeps = Take.put-keeps 0 (omega arith) g d c k e (member .slot) r r-lt q₁ q₁-length q₁-out m m-lt;

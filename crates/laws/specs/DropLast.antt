@@ -25,6 +25,7 @@ use Rattle.laws.specs.Change
 use Rattle.laws.specs.Take
 use Rattle.laws.specs.Shorter
 use Rattle.laws.specs.Shrink
+use Rattle.laws.specs.AtTail
 use Rattle.laws.specs.Drop
 use Rattle.laws.specs.Unhook
 use Rattle.laws.specs.Touch
@@ -215,9 +216,9 @@ module _ (g : Geometry) (d : List ℕ) (c : Sound g d) (k : Places.Fits g d) (p 
     change = Shrink.shrinks-change g d d′ c p f n w u;
     shorter = Shrink.shrinks-shorter g d d′ c p f n w;
     long = l;
-    file = Shrink.shrinks-file g d d′ c p f n w;
+    file = AtTail.file-stays g d d′ c p f (w .at);
     touch = o;
-    entries = λ x i. subst (In x) (Shrink.shrinks-chain g d d′ c p f n w) i;
+    entries = λ x i. subst (In x) (AtTail.chain-stays g d d′ c p f (w .at)) i;
   }
 
   tail-here : In t (chain g d p)

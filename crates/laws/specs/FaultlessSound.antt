@@ -3,24 +3,25 @@ use mathlib.Core.Path.{_≡_, refl, ap, sym, _∙_, subst}
 use mathlib.Core.Logic.{_⊎_, inl, inr}
 use mathlib.Core.Bool.{Bool, true, false, not, cond, _&&_}
 use mathlib.Core.List.{List, [], _∷_}
-use Prim.Native.Nat.{ℕ, zero, suc, _≤_, _<_}
+use Prim.Native.Nat.{ℕ, zero, suc, _<_}
 use native.Mathlib.Omega.{arith}
 use native.Mathlib.Decide.{ℕ-discrete}
 use lib.Dec.{T, eqb, eqb→eq, ltb, lt→ltb, ltb→lt, nltb→le, T-not, not-T}
 use Rattle.meaning.specs.Lists.{every, some, has, distinct, same, all, any}
+use Rattle.meaning.specs.Bits.{digit}
 use Rattle.meaning.specs.Layout.{isSlot, slots, field, hit, taken, directoryGranules}
 use Rattle.meaning.specs.Names.{hash}
 use Rattle.meaning.specs.Entries.{inUse, extension, primary, system, marker, link, runs, entryGranules, nameOf}
 use Rattle.meaning.specs.Chain.{chain, chainFrom, owned, files}
-use Rattle.meaning.specs.Consistent.{hitHolds, pairsHold, linkHolds, follows, runsHold, gatHolds, entryHolds, nameHolds, hashHolds, sizeHolds, offDirectory, fileHolds}
-use Rattle.meaning.specs.Fault.{handsOn, ends, walk, walked, goodExtension, fileOf, whole, hitFault, nameFault, duplicateFault, chainFault, runFault, gatFault, sharedFault, sizeFault, directoryFault}
+use Rattle.meaning.specs.Consistent.{hitHolds, pairsHold, linkHolds, runsHold, gatHolds, entryHolds, nameHolds, hashHolds, sizeHolds, offDirectory, fileHolds}
+use Rattle.meaning.specs.Fault.{handsOn, ends, walk, walked, goodExtension, fileOf, chainWhole, hitFault, nameFault, duplicateFault, chainFault, runFault, gatFault, sharedFault, sizeFault, directoryFault}
 use Rattle.meaning.specs.declared.Geometry.{Geometry}
 use Rattle.laws.specs.Members
 use Rattle.laws.specs.Members.{In, Distinct}
 use Rattle.laws.specs.Facts
 use Rattle.laws.specs.Facts.{File, Sound}
 use Rattle.laws.specs.Entry
-use Rattle.laws.specs.Entry.{Follows}
+use Rattle.laws.specs.Entry.{Follows, Linked}
 use Rattle.laws.specs.Clauses.{Used}
 use Rattle.laws.specs.Walk
 use Rattle.laws.specs.Kinds
@@ -98,8 +99,8 @@ module _ (g : Geometry) (d : List ℕ) (c : Faultless g d) where
       let i = one-way p q (a .0) k l f h (a .1) (subst (Reaches g d q l) e (b .1)) in
       (i .0, ap {B = ℕ} suc (i .1))
 
-  -- whoever is in a chain is reached, in no fewer steps than its start
-  chain-reaches : (n p k s x : ℕ) → File g d p → Reaches g d p k s → In x (chainFrom g d n s) → (j : ℕ) × (k ≤ j) × Reaches g d p j x
+  -- whoever is in a chain is reached
+  chain-reaches : (n p k s x : ℕ) → File g d p → Reaches g d p k s → In x (chainFrom g d n s) → (j : ℕ) × Reaches g d p j x
   unfolding chainFrom
   chain-reaches zero p k s x f r i = Members.none-in i
   chain-reaches (suc n) p k s x f r i = go (Members.decide (eqb (marker g d s) 0xfe)) (Members.in-cons i) (chain-reaches n p (suc k) (link g d s) x f)
@@ -108,41 +109,33 @@ module _ (g : Geometry) (d : List ℕ) (c : Faultless g d) where
       rest = chainFrom g d n (link g d s)
 
       go : Members.Test (eqb (marker g d s) 0xfe) → (x ≡ s) ⊎ In x (cond (eqb (marker g d s) 0xfe) rest [])
-          → (Reaches g d p (suc k) (link g d s) → In x rest → (j : ℕ) × (suc k ≤ j) × Reaches g d p j x) → (j : ℕ) × (k ≤ j) × Reaches g d p j x
-      go m (inl e) ih = (k, omega arith, subst (Reaches g d p k) (sym e) r)
+          → (Reaches g d p (suc k) (link g d s) → In x rest → (j : ℕ) × Reaches g d p j x) → (j : ℕ) × Reaches g d p j x
+      go m (inl e) ih = (k, subst (Reaches g d p k) (sym e) r)
       go (Members.Test.fails m) (inr i) ih = Members.none-in (rw (Members.no-false {b = eqb (marker g d s) 0xfe} m) at i)
       go (Members.Test.holds m) (inr i) ih =
-          let w = ih (s, r, marked s (reaches-used p k s f r) (eqb→eq _ _ m), refl) (rw (Members.T-true {b = eqb (marker g d s) 0xfe} m) at i) in
-          (w .0, omega (arith, w .1), w .2)
+          ih (s, r, marked s (reaches-used p k s f r) (eqb→eq _ _ m), refl) (rw (Members.T-true {b = eqb (marker g d s) 0xfe} m) at i)
 
-  chain-once : (n p k s : ℕ) → File g d p → Reaches g d p k s → Distinct (chainFrom g d n s)
-  unfolding chainFrom
-  chain-once zero p k s f r = Members.Distinct.done
-  chain-once (suc n) p k s f r = go (Members.decide (eqb (marker g d s) 0xfe)) (chain-once n p (suc k) (link g d s) f)
-    where
-      rest : List ℕ
-      rest = chainFrom g d n (link g d s)
-
-      go : Members.Test (eqb (marker g d s) 0xfe) → (Reaches g d p (suc k) (link g d s) → Distinct rest) → Distinct (s ∷ cond (eqb (marker g d s) 0xfe) rest [])
-      go (Members.Test.fails m) ih = rw (Members.no-false {b = eqb (marker g d s) 0xfe} m) (Members.Distinct.fresh (λ i. Members.none-in i) Members.Distinct.done)
-      go (Members.Test.holds m) ih =
-          let r′ : Reaches g d p (suc k) (link g d s) = (s, r, marked s (reaches-used p k s f r) (eqb→eq _ _ m), refl) in
-          rw (Members.T-true {b = eqb (marker g d s) 0xfe} m) (Members.Distinct.fresh
-          (λ i. let w = chain-reaches n p (suc k) (link g d s) s f r′ i in let e = one-way p p s k (w .0) f f r (w .2) .1 in omega (arith, w .1, e)) (ih r′))
-
-  once : (p : ℕ) → File g d p → Distinct (chain g d p)
-  unfolding chain
-  once p f = chain-once _ p 0 p f refl
-
-  members : (p x : ℕ) → File g d p → In x (chain g d p) → (j : ℕ) × (0 ≤ j) × Reaches g d p j x
+  members : (p x : ℕ) → File g d p → In x (chain g d p) → (j : ℕ) × Reaches g d p j x
   unfolding chain
   members p x f i = chain-reaches _ p 0 p x f refl i
 
   member-used : (p x : ℕ) → File g d p → In x (chain g d p) → Used g d x
-  member-used p x f i = let w = members p x f i in reaches-used p (w .0) x f (w .2)
+  member-used p x f i = let w = members p x f i in reaches-used p (w .0) x f (w .1)
+
+  -- an entry is the last of its chain, or an extension follows
+  linked : (s : ℕ) → Used g d s → (marker g d s ≡ 0xff) ⊎ Linked g d s
+  linked s u = go (firm s u .upright)
+    where
+      go : T (handsOn g d s) ⊎ T (ends g d s) → (marker g d s ≡ 0xff) ⊎ Linked g d s
+      go (inl h) = let k = Walk.hands-says g d s h in inr (record { marked = k .marked; next = followed s u h; full = k .full })
+      go (inr e) = inl (Kinds.ends-says g d s e .1)
+
+  once : (p : ℕ) → File g d p → Distinct (chain g d p)
+  unfolding digit
+  once p f = Entry.links-once g d 0x90 p (λ x i. linked x (member-used p x f i)) (λ e. T-not (extension g d p) (Facts.file-first g d p f) (rw e tt))
 
   chains : (p q s : ℕ) → File g d p → File g d q → In s (chain g d p) → In s (chain g d q) → p ≡ q
-  chains p q s f h i j = let v = members p s f i in let w = members q s h j in one-way p q s (v .0) (w .0) f h (v .2) (w .2) .0
+  chains p q s f h i j = let v = members p s f i in let w = members q s h j in one-way p q s (v .0) (w .0) f h (v .1) (w .1) .0
 
   covered : (s : ℕ) → Used g d s → (p : ℕ) × File g d p × In s (chain g d p)
   covered s u = let w = reached s u in (w .0, w .1, Walk.walk-chain g d (w .0) s (w .2))
@@ -172,17 +165,7 @@ module _ (g : Geometry) (d : List ℕ) (c : Faultless g d) where
 
   link-holds : (s : ℕ) → Used g d s → T (linkHolds g d s)
   unfolding linkHolds
-  link-holds s u = go (firm s u .upright)
-    where
-      on : Bool
-      on = all (eqb (marker g d s) 0xfe ∷ follows g d s (link g d s) ∷ eqb (runs g d s) 4 ∷ [])
-
-      go : T (handsOn g d s) ⊎ T (ends g d s) → T (any (eqb (marker g d s) 0xff ∷ on ∷ []))
-      go (inl h) =
-          let k = Walk.hands-says g d s h in
-          Members.any-r (eqb (marker g d s) 0xff) on (Kinds.all-three (eqb (marker g d s) 0xfe) (follows g d s (link g d s)) (eqb (runs g d s) 4)
-          (Members.eq-T (k .marked)) (Entry.says-follows g d s (link g d s) (followed s u h)) (Members.eq-T (k .full)))
-      go (inr e) = Members.any-l (eqb (marker g d s) 0xff) on (Members.eq-T (Kinds.ends-says g d s e .1))
+  link-holds s u = Entry.say-links g d 0x90 s (linked s u)
 
   entry-holds : (s : ℕ) → Used g d s → T (entryHolds g d s)
   unfolding all
@@ -262,14 +245,14 @@ module _ (g : Geometry) (d : List ℕ) (c : Faultless g d) where
   hash-holds p f = Members.all-every (λ s. eqb (hit g d s) (hash (nameOf g d p))) (chain g d p) (λ s i.
       Members.eq-T (hash-is s (member-used p s f i) ∙ ap {B = ℕ} (λ (q : ℕ). hash (nameOf g d q)) (file-of p s f i)))
 
-  whole-is : (p : ℕ) → File g d p → T (whole g d p)
-  unfolding whole
+  whole-is : (p : ℕ) → File g d p → T (chainWhole g d p)
+  unfolding chainWhole
   whole-is p f = Members.all-every (λ s. not (chainFault g d s)) (walk g d p) (λ s i.
       not-T (chainFault g d s) (c .clear s (Walk.walk-used g d p s f i .slot) .chain′))
 
   size-holds : (p : ℕ) → File g d p → T (sizeHolds g d p)
   unfolding sizeFault
-  size-holds p f = yes-T (sizeHolds g d p) (λ n. c .clear p (f .slot) .size (Kinds.all-three (primary g d p) (whole g d p) (not (sizeHolds g d p)) (f .primary′) (whole-is p f) n))
+  size-holds p f = yes-T (sizeHolds g d p) (λ n. c .clear p (f .slot) .size (Kinds.all-three (primary g d p) (chainWhole g d p) (not (sizeHolds g d p)) (f .primary′) (whole-is p f) n))
 
   off : (p n : ℕ) → File g d p → T (not (system g d p)) → In n (owned g d p) → In n (directoryGranules g d) → ⊥
   unfolding directoryFault owned

@@ -21,9 +21,6 @@ use Rattle.laws.specs.Words.{words}
 abbrev pub Agree : Geometry → List ℕ → List ℕ → ℕ → Type 0
 Agree g d d′ s = (k : ℕ) → k < 32 → field g d′ s k ≡ field g d s k
 
-pub agree-trans : (g : Geometry) (a b c : List ℕ) (s : ℕ) → Agree g a b s → Agree g b c s → Agree g a c s
-agree-trans g a b c s p q k h = q k h ∙ p k h
-
 module _ (g : Geometry) (d d′ : List ℕ) where
   runsFrom-eq : (s k n : ℕ) → ((j : ℕ) → j < 4 → block g d′ s j ≡ block g d s j) → k + n ≤ 4 → runsFrom g d′ s n k ≡ runsFrom g d s n k
   unfolding runsFrom
@@ -49,15 +46,18 @@ module _ (g : Geometry) (d d′ : List ℕ) where
   pub entryGranules-eq : (s : ℕ) → Agree g d d′ s → entryGranules g d′ s ≡ entryGranules g d s
   entryGranules-eq s a = entryGranules-pairs s (λ j b h. a j (omega arith))
 
-  pub nameOf-eq : (s : ℕ) → Agree g d d′ s → nameOf g d′ s ≡ nameOf g d s
+  pub nameOf-bytes : (s : ℕ) → ((k : ℕ) → 5 ≤ k → k < 16 → field g d′ s k ≡ field g d s k) → nameOf g d′ s ≡ nameOf g d s
   unfolding nameOf
-  nameOf-eq s a = Members.map-eq (field g d′ s) (field g d s) (count 5 11) (λ k i. a k (omega (arith, Members.count-in k 5 11 i)))
+  nameOf-bytes s a = Members.map-eq (field g d′ s) (field g d s) (count 5 11) (λ k i. let r = Members.count-in k 5 11 i in a k (r .0) (omega (arith, r)))
+
+  pub nameOf-eq : (s : ℕ) → Agree g d d′ s → nameOf g d′ s ≡ nameOf g d s
+  nameOf-eq s a = nameOf-bytes s (λ k b h. a k (omega arith))
 
   cond-eq : (b : Bool) (xs ys : List ℕ) → (((x : ℕ) → Members.In x xs → Members.In x (cond b xs [])) → ys ≡ xs) → cond b ys [] ≡ cond b xs []
   cond-eq true xs ys f = f (λ x i. i)
   cond-eq false xs ys f = refl
 
-  chainFrom-eq : (n s : ℕ) → ((x : ℕ) → Members.In x (chainFrom g d n s) → (marker g d′ x ≡ marker g d x) × (link g d′ x ≡ link g d x)) → chainFrom g d′ n s ≡ chainFrom g d n s
+  pub chainFrom-eq : (n s : ℕ) → ((x : ℕ) → Members.In x (chainFrom g d n s) → (marker g d′ x ≡ marker g d x) × (link g d′ x ≡ link g d x)) → chainFrom g d′ n s ≡ chainFrom g d n s
   unfolding chainFrom
   chainFrom-eq zero s a = refl
   chainFrom-eq (suc n) s a =
@@ -72,21 +72,46 @@ module _ (g : Geometry) (d d′ : List ℕ) where
     some′ = rw (runs-eq x a) (f .some′);
   }
 
+  -- pairs, marker and link are the same
+  abbrev pub Tail : ℕ → Type 0
+  Tail s = (k : ℕ) → 0x16 ≤ k → k < 32 → field g d′ s k ≡ field g d s k
+
+  pub runs-tail : (s : ℕ) → Tail s → runs g d′ s ≡ runs g d s
+  runs-tail s a = runs-blocks s (λ j h. a (0x16 + 2 * j) (omega arith) (omega arith))
+
+  pub granules-tail : (s : ℕ) → Tail s → entryGranules g d′ s ≡ entryGranules g d s
+  granules-tail s a = entryGranules-pairs s (λ j b h. a j b (omega arith))
+
+  pub pairs-next : (s : ℕ) → Tail s → ((k : ℕ) → k < 4 → runs g d s ≤ k → block g d s k ≡ 0xff) → (k : ℕ) → k < 4 → runs g d′ s ≤ k → block g d′ s k ≡ 0xff
+  pairs-next s a h k b r = a (0x16 + 2 * k) (omega arith) (omega arith) ∙ h k b (rw (runs-tail s a) at r)
+
+  pub run-next : (s : ℕ) → Tail s → ((k : ℕ) → k < runs g d s → Entry.Run g d s k) → (k : ℕ) → k < runs g d′ s → Entry.Run g d′ s k
+  run-next s a h k r =
+      let q = h k (rw (runs-tail s a) at r) in
+      let b : k < 4 = omega (arith, Entry.runs-le g d′ s) in
+      record {
+        unit = rw (a (0x17 + 2 * k) (omega arith) (omega arith)) (q .unit);
+        inside = rw (a (0x16 + 2 * k) (omega arith) (omega arith), a (0x17 + 2 * k) (omega arith) (omega arith)) (q .inside);
+      }
+
+  -- still followed, by an extension of the same flags or of others
+  pub linked-next : (flags flags′ s : ℕ) → Tail s → (Entry.LinkedBy g d flags s → Entry.FollowsBy g d′ flags′ s (link g d s))
+      → (marker g d s ≡ 0xff) ⊎ Entry.LinkedBy g d flags s → (marker g d′ s ≡ 0xff) ⊎ Entry.LinkedBy g d′ flags′ s
+  linked-next flags flags′ s a l (inl m) = inl (a 0x1e (omega arith) (omega arith) ∙ m)
+  linked-next flags flags′ s a l (inr m) =
+      inr (record { marked = a 0x1e (omega arith) (omega arith) ∙ m .marked; next = rw (a 0x1f (omega arith) (omega arith)) (l m); full = runs-tail s a ∙ m .full })
+
   -- an entry whose bytes and whose GAT bits are the same, and which is still followed
   pub entry-next : (s : ℕ) → Agree g d d′ s → (Entry.Linked g d s → Entry.Follows g d′ s (link g d s))
       → ((n : ℕ) → Members.In n (entryGranules g d s) → taken g d′ n ≡ taken g d n) → Entry.Entry g d s → Entry.Entry g d′ s
-  entry-next s a l t h = record {
-    pairs = λ k b r. a (0x16 + 2 * k) (omega arith) ∙ h .pairs k b (rw (runs-eq s a) at r);
-    linked = go (h .linked);
-    run = λ k r. let q = h .run k (rw (runs-eq s a) at r) in
-        let b : k < 4 = omega (arith, Entry.runs-le g d′ s) in
-        record { unit = rw (a (0x17 + 2 * k) (omega arith)) (q .unit); inside = rw (a (0x16 + 2 * k) (omega arith), a (0x17 + 2 * k) (omega arith)) (q .inside) };
-    gat = λ n i. let j = rw (entryGranules-eq s a) at i in rw (t n j) (h .gat n j);
-  }
-    where
-      go : (marker g d s ≡ 0xff) ⊎ Entry.Linked g d s → (marker g d′ s ≡ 0xff) ⊎ Entry.Linked g d′ s
-      go (inl m) = inl (a 0x1e (omega arith) ∙ m)
-      go (inr m) = inr (record { marked = a 0x1e (omega arith) ∙ m .marked; next = rw (a 0x1f (omega arith)) (l m); full = runs-eq s a ∙ m .full })
+  entry-next s a l t h =
+      let b : Tail s = λ k i j. a k j in
+      record {
+        pairs = pairs-next s b (h .pairs);
+        linked = linked-next 0x90 0x90 s b l (h .linked);
+        run = run-next s b (h .run);
+        gat = λ n i. let j = rw (entryGranules-eq s a) at i in rw (t n j) (h .gat n j);
+      }
 
   pub entry-eq : (s : ℕ) → Agree g d d′ s → (Entry.Linked g d s → isSlot g d′ (link g d s) ≡ isSlot g d (link g d s))
       → (Entry.Linked g d s → Agree g d d′ (link g d s)) → ((n : ℕ) → Members.In n (entryGranules g d s) → taken g d′ n ≡ taken g d n)

@@ -100,16 +100,16 @@ module _ (g : Geometry) (d : List ℕ) where
     pub follow : (b : ℕ) → In b (metFrom g d x) → Follows g d b x
 
   pub good-says : (x : ℕ) → T (goodExtension g d x) → Good x
-  unfolding goodExtension
+  unfolding goodExtension follows
   good-says x t =
       let k = two-says (eqb (length (metFrom g d x)) 1) (every (λ b. follows g d b x) (metFrom g d x)) t in
-      record { met = one-in (metFrom g d x) (eqb→eq _ _ (k .0)); follow = λ b i. Entry.follows-says g d b x (Members.every-all (λ b. follows g d b x) (k .1) i) }
+      record { met = one-in (metFrom g d x) (eqb→eq _ _ (k .0)); follow = λ b i. Entry.follows-says g d 0x90 b x (Members.every-all (λ b. follows g d b x) (k .1) i) }
 
   pub says-good : (x : ℕ) → length (metFrom g d x) ≡ 1 → ((b : ℕ) → In b (metFrom g d x) → Follows g d b x) → T (goodExtension g d x)
-  unfolding goodExtension
+  unfolding goodExtension follows
   says-good x e f =
       Members.all-two (eqb (length (metFrom g d x)) 1) (every (λ b. follows g d b x) (metFrom g d x)) (Members.eq-T e)
-      (Members.all-every (λ b. follows g d b x) (metFrom g d x) (λ b i. Entry.says-follows g d b x (f b i)))
+      (Members.all-every (λ b. follows g d b x) (metFrom g d x) (λ b i. Entry.says-follows g d 0x90 b x (f b i)))
 
   -- no chain fault at a slot in use
   pub record Firm (s : ℕ) : Type 0 where

@@ -1,3 +1,4 @@
+pub mod AtTail
 pub mod Words
 pub mod Members
 pub mod Counting
@@ -9,10 +10,13 @@ pub mod Places
 pub mod Change
 pub mod Named
 pub mod Others
+pub mod Marking
 pub mod Kill
 pub mod First
 pub mod Passed
 pub mod Create
+pub mod BringBack
+pub mod Undo
 pub mod Longer
 pub mod Tail
 pub mod Take
@@ -29,6 +33,7 @@ pub mod DropLast
 pub mod Steps
 pub mod Bytes
 pub mod Tally
+pub mod Stretches
 pub mod Rising
 pub mod Clauses
 pub mod Walk

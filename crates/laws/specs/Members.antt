@@ -98,9 +98,6 @@ false-no e t = rw e at t
 pub eq-T : {m n : ℕ} → m ≡ n → T (eqb m n)
 eq-T {n = n} e = rw e (eqb-refl n)
 
-pub ne-T : {m n : ℕ} → m ≢ n → T (not (eqb m n))
-ne-T {m = m} {n = n} h = not-T (eqb m n) (λ t. h (eqb→eq m n t))
-
 pub both-T : {a b : Bool} → (T a → T b) → (T b → T a) → a ≡ b
 both-T {a = true} {b = true} f h = refl
 both-T {a = true} {b = false} f h = absurd (f tt)

@@ -10,6 +10,7 @@ use Rattle.meaning.specs.Layout.{slots, hit}
 use Rattle.meaning.specs.Names.{hash}
 use Rattle.meaning.specs.Entries.{primary, nameOf}
 use Rattle.meaning.specs.LookUp.{candidates, carries, named}
+use Rattle.meaning.specs.Plain
 use Rattle.meaning.specs.Plain.{found, nothing, fileAt, foundIn, plain}
 use Rattle.meaning.specs.declared.Geometry.{Geometry}
 use Rattle.laws.specs.Members
@@ -26,6 +27,9 @@ only p (x ∷ xs) i f = rw (f x Members.In.here)
 empty : (xs : List ℕ) → ((x : ℕ) → In x xs → ⊥) → xs ≡ []
 empty [] f = refl
 empty (x ∷ xs) f = absurd (f x Members.In.here)
+
+pub found-inj : (a b : Plain.File) → found a ≡ found b → a ≡ b
+found-inj a b e = cc
 
 module _ (g : Geometry) (d : List ℕ) where
   pub named-in : (n : List ℕ) (x : ℕ) → In x (keep (carries g d n) (candidates g d n)) → File g d x × (nameOf g d x ≡ n)

@@ -8,13 +8,13 @@ use native.Mathlib.Omega.{arith}
 use native.Mathlib.Decide.{ℕ-discrete}
 use lib.ListN.{length, getD, replicate, length-map}
 use lib.Dec.{T, ltb, T-not, not-T, ltb→lt}
-use Rattle.meaning.specs.Lists.{count, each, has}
+use Rattle.meaning.specs.Lists.{count, each, has, length-count}
 use Rattle.meaning.specs.Layout.{byte, taken, field, granules, directoryGranules, granuleBytes}
 use Rattle.meaning.specs.Entries.{system, nameOf, sizeOf}
 use Rattle.meaning.specs.Chain.{owned, files, place}
 use Rattle.meaning.specs.LookUp.{named}
 use Rattle.meaning.specs.Plain
-use Rattle.meaning.specs.Plain.{Found, found, nothing, fileAt, foundIn, plain, hush, reserved}
+use Rattle.meaning.specs.Plain.{Found, found, nothing, fileAt, foundIn, plain, hush, beyondAt, beyondIn, beyond, reserved}
 use Rattle.meaning.specs.declared.Geometry.{Geometry}
 use Rattle.laws.specs.Members
 use Rattle.laws.specs.Members.{In}
@@ -43,24 +43,6 @@ abbrev pub Same : Geometry → List ℕ → List ℕ → ℕ → Type 0
 Same g d d′ p = (i : ℕ) → (In (i / granuleBytes) (directoryGranules g d) → ⊥) → (In (i / granuleBytes) (granulesOf g d p) → ⊥)
     → (In (i / granuleBytes) (granulesOf g d′ p) → ⊥) → byte d′ i ≡ byte d i
 
--- The file at slot p with its bytes that lie in a granule of the directory put to 0: what a change of another file must leave alone
--- even of a system file.
-unfoldable pub beyondAt : Geometry → List ℕ → ℕ → Plain.File
-beyondAt g d p =
-    record {
-      attributes = fileAt g d p .attributes;
-      granules = fileAt g d p .granules;
-      bytes = map (λ j. cond (has (directoryGranules g d) (place g d p j / granuleBytes)) 0 (byte d (place g d p j))) (count 0 (sizeOf g d p));
-    }
-
-unfoldable pub beyondIn : Geometry → List ℕ → List ℕ → Found
-beyondIn g d [] = nothing
-beyondIn g d (p ∷ ps) = found (beyondAt g d p)
-
--- the plain list of named files, told so
-unfoldable pub beyond : Geometry → List ℕ → Plain.Plain
-beyond g d n = beyondIn g d (named g d n)
-
 -- the name n stands at the same slot in both, and not at p; or at none
 pub data Elsewhere (g : Geometry) (d d′ : List ℕ) (p : ℕ) (n : List ℕ) : Type 0 where
   bears : (q : ℕ) → File g d q → q ≢ p → named g d n ≡ q ∷ [] → named g d′ n ≡ q ∷ [] → Elsewhere g d d′ p n
@@ -71,10 +53,6 @@ attribute-low k i = ltb→lt k 0x16 (Members.every-all (λ k. ltb k 0x16) tt i)
 
 attribute-lt : (k : ℕ) → In k (0 ∷ 1 ∷ 2 ∷ 4 ∷ count 0x10 4) → k < 32
 attribute-lt k i = ltb→lt k 32 (Members.every-all (λ k. ltb k 32) tt i)
-
-pub length-count : (i n : ℕ) → length (count i n) ≡ n
-length-count i zero = refl
-length-count i (suc n) = ap suc (length-count (i + 1) n)
 
 -- a file that is no system file is told whole
 pub beyond-whole : (g : Geometry) (d : List ℕ) → Sound g d → (p : ℕ) → File g d p → T (not (system g d p)) → beyondAt g d p ≡ fileAt g d p

@@ -9,6 +9,7 @@ use lib.Dec.{T, ltb, not-T}
 use Rattle.meaning.specs.Lists.{same, all}
 use Rattle.meaning.specs.Layout.{fitsGeometry, isSlot}
 use Rattle.meaning.specs.Entries.{system, primary, nameOf}
+use Rattle.meaning.specs.Consistent.{consistent}
 use Rattle.meaning.specs.Fault.{fault}
 use Rattle.meaning.specs.Refusals.{first, check, faultNumbers, faultRefusals, diskRefusals, fresh, staleHandle, protected}
 use Rattle.meaning.specs.declared.Geometry.{Geometry}
@@ -39,6 +40,16 @@ disk-passed g d cs e = go (passed 1 _ _ (omega arith) e) (Members.in-cons (Fault
       sym (First.number-miss n faultNumbers cs (λ i. let k = Members.count-in n 21 10 i in omega (arith, k, z))) ∙ p .1,
     )
     go p (inr i) = let k = Members.count-in n 21 10 i in absurd (omega (arith, k, sym (First.number-hit n faultNumbers cs i) ∙ p .1))
+
+-- and the other way: on a consistent disk they come to nothing
+pub disk-passes : (g : Geometry) (d : List ℕ) (cs : List (ℕ × Bool)) → fitsGeometry g d ≡ true → consistent g d ≡ true → first (diskRefusals g d cs) ≡ first cs
+unfolding first
+disk-passes g d cs f c = rw f (First.number-miss (fault g d .number) faultNumbers cs (λ i.
+    let k = Members.count-in (fault g d .number) 21 10 i in omega (arith, k, Fault.no-number g d .1 c)))
+
+pub check-none : (g : Geometry) (d : List ℕ) → fitsGeometry g d ≡ true → consistent g d ≡ true → check g d ≡ 0
+unfolding check first
+check-none g d f c = disk-passes g d [] f c
 
 -- where the geometry fits, the check answers the fault's number
 pub check-number : (g : Geometry) (d : List ℕ) → fitsGeometry g d ≡ true → check g d ≡ fault g d .number

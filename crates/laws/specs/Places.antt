@@ -66,13 +66,17 @@ pub slot : (g : Geometry) (d : List ℕ) (s : ℕ) → T (isSlot g d s) → Slot
 unfolding words
 slot g d s t = record { low = ltb→lt _ _ (Members.and-l (ltb s 256) _ t); sector = ltb→lt _ _ (Members.all-second (ltb s 256) (ltb (s % 32 + 2) (directorySectors g d)) t) }
 
-pub entry-granule-lt : (g : Geometry) (d : List ℕ) (s n : ℕ) → Entry.Entry g d s → In n (entryGranules g d s) → n < granules g
+-- where an entry's runs lie on the disk, its granules do
+pub runs-granule-lt : (g : Geometry) (d : List ℕ) (s n : ℕ) → ((k : ℕ) → k < runs g d s → Entry.Run g d s k) → In n (entryGranules g d s) → n < granules g
 unfolding entryGranules
-entry-granule-lt g d s n e i =
+runs-granule-lt g d s n f i =
     let k = Members.each-in (runGranules g d s) n (count 0 (runs g d s)) i in
     let r = Members.count-in (k .0) 0 (runs g d s) (k .1) in
     let m = Members.count-in n (runStart g d s (k .0)) (runLength g d s (k .0)) (k .2) in
-    omega (arith, m, e .run (k .0) (omega arith) .inside)
+    omega (arith, m, f (k .0) (omega arith) .inside)
+
+pub entry-granule-lt : (g : Geometry) (d : List ℕ) (s n : ℕ) → Entry.Entry g d s → In n (entryGranules g d s) → n < granules g
+entry-granule-lt g d s n e i = runs-granule-lt g d s n (e .run) i
 
 pub directory-lt : (g : Geometry) (d : List ℕ) (n : ℕ) → Dir g d → In n (directoryGranules g d) → n < granules g
 directory-lt g d n f i =
@@ -143,11 +147,19 @@ marked g v d n = set d (gatAt g n) (putDigit (byte d (gatAt g n)) (n % g .units)
 pub marked-same : (g : Geometry) (v : ℕ) → v < 2 → (d : List ℕ) (n : ℕ) → gatAt g n < length d → digit (byte (marked g v d n) (gatAt g n)) (n % g .units) ≡ v
 marked-same g v b d n h = rw (getD-set-same d (gatAt g n) (putDigit (byte d (gatAt g n)) (n % g .units) v) 0 h) (Bits.digit-same _ _ v b)
 
+-- another bit, of that byte or of another
+pub marked-digit : (g : Geometry) (v : ℕ) → v < 2 → (d : List ℕ) (n i u : ℕ) → (i ≡ gatAt g n → u ≢ n % g .units) → digit (byte (marked g v d n) i) u ≡ digit (byte d i) u
+marked-digit g v b d n i u k = go (ℕ-discrete i (gatAt g n)) (decLt (gatAt g n) (length d))
+  where
+    go : Dec (i ≡ gatAt g n) → Dec (gatAt g n < length d) → digit (byte (marked g v d n) i) u ≡ digit (byte d i) u
+    go (yes e) (yes l) = rw (e, getD-set-same d (gatAt g n) (putDigit (byte d (gatAt g n)) (n % g .units) v) 0 l) (Bits.digit-other (byte d (gatAt g n)) (n % g .units) u v b (k e))
+    go (yes e) (no l) = rw (set-out d (gatAt g n) (putDigit (byte d (gatAt g n)) (n % g .units) v) (omega arith))
+    go (no e) l = rw (getD-set-other d (gatAt g n) i (putDigit (byte d (gatAt g n)) (n % g .units) v) 0 e)
+
+-- the bit of another granule
+pub marked-apart : (g : Geometry) (v : ℕ) → v < 2 → (d : List ℕ) (n m : ℕ) → m ≢ n → digit (byte (marked g v d n) (gatAt g m)) (m % g .units) ≡ digit (byte d (gatAt g m)) (m % g .units)
+marked-apart g v b d n m k = marked-digit g v b d n (gatAt g m) (m % g .units) (λ e. apart (g .units) m n k (omega arith))
+
 pub marked-other : (g : Geometry) (v : ℕ) → v < 2 → (d : List ℕ) (n m : ℕ) → m ≢ n → taken g (marked g v d n) m ≡ taken g d m
 unfolding words
-marked-other g v b d n m k = go (ℕ-discrete (gatAt g m) (gatAt g n)) (decLt (gatAt g n) (length d))
-  where
-    go : Dec (gatAt g m ≡ gatAt g n) → Dec (gatAt g n < length d) → taken g (marked g v d n) m ≡ taken g d m
-    go (yes e) (yes l) = rw (e, getD-set-same d (gatAt g n) (putDigit (byte d (gatAt g n)) (n % g .units) v) 0 l, Bits.digit-other (byte d (gatAt g n)) (n % g .units) (m % g .units) v b (apart (g .units) m n k (omega arith)))
-    go (yes e) (no l) = rw (set-out d (gatAt g n) (putDigit (byte d (gatAt g n)) (n % g .units) v) (omega arith))
-    go (no e) l = rw (getD-set-other d (gatAt g n) (gatAt g m) (putDigit (byte d (gatAt g n)) (n % g .units) v) 0 e)
+marked-other g v b d n m k = ap (λ (x : ℕ). eqb x 1) (marked-apart g v b d n m k)

@@ -13,7 +13,10 @@ use Rattle.meaning.specs.Layout.{byte, isSlot, taken, field, granules, hit, dir
 use Rattle.meaning.specs.Entries.{extension, system, marker, link, nameOf, runs, entryGranules, sizeOf, sectorCount, endByte}
 use Rattle.meaning.specs.Chain.{chain, owned}
 use Rattle.meaning.specs.Free.{freeGranules}
+use Rattle.meaning.specs.Write.{sizeAfter}
 use Rattle.meaning.specs.Plain.{File}
+use Rattle.meaning.specs.declared.Mode.{Mode}
+use Rattle.meaning.specs.declared.Mode.the-variants.{Sequential, Random}
 use Rattle.meaning.specs.declared.Geometry.{Geometry}
 use Rattle.laws.specs.Members
 use Rattle.laws.specs.Members.{In}
@@ -25,6 +28,12 @@ use Rattle.laws.specs.Frame.{Agree}
 use Rattle.laws.specs.Change
 use Rattle.laws.specs.Change.{entriesOf, granulesOf}
 use Rattle.laws.specs.Others
+
+-- a write reaches at least its own end
+pub after-end : (m : Mode) (old end : ℕ) → end ≤ sizeAfter m old end
+unfolding sizeAfter
+after-end Sequential old end = omega arith
+after-end Random old end = omega arith
 
 -- the bytes of an entry that a write does not touch
 pub record Kept (k : ℕ) : Type 0 where

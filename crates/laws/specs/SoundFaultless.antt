@@ -13,7 +13,7 @@ use Rattle.meaning.specs.Names.{hash}
 use Rattle.meaning.specs.Entries.{inUse, extension, primary, system, marker, link, runs, entryGranules, nameOf}
 use Rattle.meaning.specs.Chain.{chain, chainFrom, owned, files}
 use Rattle.meaning.specs.Consistent.{hitHolds, pairsHold, linkHolds, runsHold, gatHolds, entryHolds, nameHolds, hashHolds, sizeHolds, offDirectory, fileHolds}
-use Rattle.meaning.specs.Fault.{handsOn, ends, walkFrom, walk, walked, metFrom, goodExtension, fileOf, whole, hitFault, nameFault, duplicateFault, chainFault, runFault, gatFault, sharedFault, sizeFault, directoryFault}
+use Rattle.meaning.specs.Fault.{handsOn, ends, walkFrom, walk, walked, metFrom, goodExtension, fileOf, chainWhole, hitFault, nameFault, duplicateFault, chainFault, runFault, gatFault, sharedFault, sizeFault, directoryFault}
 use Rattle.meaning.specs.declared.Geometry.{Geometry}
 use Rattle.laws.specs.Members
 use Rattle.laws.specs.Members.{In, Distinct}
@@ -240,7 +240,7 @@ module _ (g : Geometry) (d : List ℕ) (c : Sound g d) where
   no-size : (s : ℕ) → T (isSlot g d s) → T (sizeFault g d s) → ⊥
   unfolding sizeFault
   no-size s t v =
-      let k = Kinds.all-says (primary g d s) (whole g d s) (not (sizeHolds g d s)) v in
+      let k = Kinds.all-says (primary g d s) (chainWhole g d s) (not (sizeHolds g d s)) v in
       T-not (sizeHolds g d s) (k .2) (own g d s (c .file s (record { slot = t; primary′ = k .0 })) .size)
 
   no-directory : (s : ℕ) → T (isSlot g d s) → T (directoryFault g d s) → ⊥

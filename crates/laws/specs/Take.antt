@@ -195,13 +195,15 @@ module _ (g : Geometry) (d : List ℕ) (c : Sound g d) (k : Places.Fits g d) (p 
   pub lengthened-grows : Tail.Grows g d (lengthened g p d) p (after g p d)
   unfolding words
   lengthened-grows = record {
-    above = put-above 1 (omega arith) g d c k e (member .slot) r r-lt d₁ d₁-length d₁-out (after g p d) inside′;
-    agrees = put-agrees 1 (omega arith) g d c k e (member .slot) r r-lt d₁ d₁-length d₁-out (after g p d) inside′;
-    hits = put-hits 1 (omega arith) g d c k e (member .slot) r r-lt d₁ d₁-length d₁-out (after g p d) inside′;
-    fixed = λ x b o. fixed x (side x o);
-    pairs = λ x b q. fixed (0x16 + 2 * x) (omega arith) ∙ entry .pairs x b (omega (arith, runs′, runs-r));
-    run = run′;
-    some′ = omega (arith, runs′);
+    at = record {
+      above = put-above 1 (omega arith) g d c k e (member .slot) r r-lt d₁ d₁-length d₁-out (after g p d) inside′;
+      agrees = put-agrees 1 (omega arith) g d c k e (member .slot) r r-lt d₁ d₁-length d₁-out (after g p d) inside′;
+      hits = put-hits 1 (omega arith) g d c k e (member .slot) r r-lt d₁ d₁-length d₁-out (after g p d) inside′;
+      fixed = λ x b o. fixed x (side x o);
+      pairs = λ x b q. fixed (0x16 + 2 * x) (omega arith) ∙ entry .pairs x b (omega (arith, runs′, runs-r));
+      run = run′;
+      some′ = λ n. omega (arith, runs′);
+    };
     more = more;
     inside = inside′;
     free = untaken;
@@ -327,13 +329,15 @@ module _ (g : Geometry) (d : List ℕ) (c : Sound g d) (k : Places.Fits g d) (p 
   pub paired-grows : Tail.Grows g d (withPair g p d (tail g p d) (runs g d (tail g p d)) n) p n
   unfolding words
   paired-grows = record {
-    above = put-above 1 (omega arith) g d c k e₂ (member₂ .slot) r₂ few pair₂ len₂ out₂ n inn;
-    agrees = put-agrees 1 (omega arith) g d c k e₂ (member₂ .slot) r₂ few pair₂ len₂ out₂ n inn;
-    hits = put-hits 1 (omega arith) g d c k e₂ (member₂ .slot) r₂ few pair₂ len₂ out₂ n inn;
-    fixed = λ x b o. fixed₂ x (side x o) (side′ x o);
-    pairs = λ x b q. fixed₂ (0x16 + 2 * x) (omega (arith, runs₂)) (omega arith) ∙ entry₂ .pairs x b (omega (arith, runs₂));
-    run = run₂;
-    some′ = omega (arith, runs₂);
+    at = record {
+      above = put-above 1 (omega arith) g d c k e₂ (member₂ .slot) r₂ few pair₂ len₂ out₂ n inn;
+      agrees = put-agrees 1 (omega arith) g d c k e₂ (member₂ .slot) r₂ few pair₂ len₂ out₂ n inn;
+      hits = put-hits 1 (omega arith) g d c k e₂ (member₂ .slot) r₂ few pair₂ len₂ out₂ n inn;
+      fixed = λ x b o. fixed₂ x (side x o) (side′ x o);
+      pairs = λ x b q. fixed₂ (0x16 + 2 * x) (omega (arith, runs₂)) (omega arith) ∙ entry₂ .pairs x b (omega (arith, runs₂));
+      run = run₂;
+      some′ = λ n. omega (arith, runs₂);
+    };
     more = more₂;
     inside = inn;
     free = untaken;

@@ -23,6 +23,7 @@ use Rattle.laws.specs.Change
 use Rattle.laws.specs.Create
 use Rattle.laws.specs.Longer
 use Rattle.laws.specs.Tail
+use Rattle.laws.specs.AtTail
 use Rattle.laws.specs.Take
 use Rattle.laws.specs.Extend
 use Rattle.laws.specs.TakeNew
@@ -72,10 +73,10 @@ module _ (g : Geometry) (d : List ℕ) (c : Sound g d) (k : Places.Fits g d) (p 
     change = Tail.grows-change g d d′ c p f m w u;
     longer = Tail.grows-longer g d d′ c p f m w;
     long = l;
-    file = Tail.grows-file g d d′ c p f m w;
-    touch = subst (λ (xs : List ℕ). Touch.Touch g xs [] d d′) (sym (Tail.grows-chain g d d′ c p f m w)) t;
-    entries = λ x i. subst (In x) (sym (Tail.grows-chain g d d′ c p f m w)) i;
-    slots = ap₂ (λ (a b : List ℕ). length a + length b) (sym (FreeSlots.slots-same g d d′ (w .above) (w .hits))) (sym (Tail.grows-chain g d d′ c p f m w));
+    file = AtTail.file-stays g d d′ c p f (w .at);
+    touch = subst (λ (xs : List ℕ). Touch.Touch g xs [] d d′) (sym (AtTail.chain-stays g d d′ c p f (w .at))) t;
+    entries = λ x i. subst (In x) (sym (AtTail.chain-stays g d d′ c p f (w .at))) i;
+    slots = ap₂ (λ (a b : List ℕ). length a + length b) (sym (FreeSlots.slots-same g d d′ (w .at .above) (w .at .hits))) (sym (AtTail.chain-stays g d d′ c p f (w .at)));
   }
 
   tail-here : In e (chain g d p)

@@ -7,7 +7,7 @@ use native.Mathlib.Omega.{arith}
 use native.Mathlib.Nat.{mul-le-mul}
 use lib.ListN.{length}
 use lib.Dec.{T}
-use Rattle.meaning.specs.Lists.{count, keep, each, has}
+use Rattle.meaning.specs.Lists.{count, keep, each, has, length-count}
 use Rattle.meaning.specs.Layout.{taken, granules, highest}
 use Rattle.meaning.specs.Entries.{sizeOf}
 use Rattle.meaning.specs.Chain.{owned, files}
@@ -67,7 +67,7 @@ module _ (g : Geometry) (d : List ℕ) (c : Sound g d) where
       let all′ = count 0 (granules g) in
       let a = has-length {xs = all′} inRuns (Members.count-distinct 0 (granules g)) runs-distinct (λ n i. Members.in-count n 0 (granules g) (omega arith) (omega (arith, runs-in n i .1))) in
       let b = three (taken g d) (has inRuns) all′ (λ n i t. runs-in n (Members.has-in n inRuns t) .0) in
-      let e = Others.length-count 0 (granules g) in
+      let e = length-count 0 (granules g) in
       omega arith
 
 -- a file owns no more granules than the disk has, so its size is within the largest disk's
@@ -77,7 +77,7 @@ owned-le g d c p f =
       arith,
       Counting.pigeonhole {xs = count 0 (granules g)} (owned g d p) (Members.count-distinct 0 (granules g)) (c .single p f)
           (λ n i. Members.in-count n 0 (granules g) (omega arith) (omega (arith, Change.owned-lt g d c p n f i))),
-      Others.length-count 0 (granules g),
+      length-count 0 (granules g),
     )
 
 pub size-le : (g : Geometry) (d : List ℕ) → Sound g d → Places.Fits g d → (p : ℕ) → File g d p → sizeOf g d p ≤ highest

@@ -3,26 +3,27 @@
 use mathlib.Core.Path.{_≡_, refl, ap, _∙_, subst}
 use mathlib.Core.Logic.{_≢_, _⊎_, inl, inr}
 use mathlib.Core.List.{List, [], _∷_}
-use Prim.Native.Nat.{ℕ, suc, _+_, _*_, _/_, _%_, _≤_, _<_}
+use Prim.Native.Nat.{ℕ, suc, _+_, _*_, _/_, _≤_, _<_}
 use native.Mathlib.Omega.{arith}
 use native.Mathlib.Nat.{add-zero, mod-lt}
-use native.Mathlib.Decide.{ℕ-discrete, decLt}
 use lib.ListN.{length, set}
-use lib.Seq.{getD-set-same, getD-set-other, set-out, sets}
+use lib.Seq.{getD-set-other, sets}
 use Rattle.meaning.specs.Lists.{through}
 use Rattle.meaning.specs.Layout.{byte, setField, takeGranule, freeGranule, gatAt, hitAt, entryAt, granules, granuleBytes}
 use Rattle.meaning.specs.Bits.{digit, putDigit}
 use Rattle.meaning.specs.Chain.{chain, owned}
 use Rattle.meaning.specs.Growth.{withPair, newExtension, withExtension}
 use Rattle.meaning.specs.Drop.{unhooked}
-use Rattle.meaning.specs.Kill.{killEntry, killed}
+use Rattle.meaning.specs.Kill.{killed}
 use Rattle.meaning.specs.Write.{store, withSize}
+use Rattle.meaning.specs.Plain.{Aside}
 use Rattle.meaning.specs.declared.Geometry.{Geometry}
+use Rattle.laws.specs.Members
 use Rattle.laws.specs.Members.{In}
-use Rattle.laws.specs.Bits
 use Rattle.laws.specs.Facts.{Sound, File}
 use Rattle.laws.specs.Places
 use Rattle.laws.specs.Change
+use Rattle.laws.specs.Marking
 use Rattle.laws.specs.Words.{words}
 
 -- from d by stores to the GAT bits of granules of the disk, to HIT bytes and entries of the slots xs, to bytes of the granules ns
@@ -32,13 +33,6 @@ pub data Touch (g : Geometry) (xs ns d : List ℕ) : List ℕ → Type 0 where
   hits : (x v : ℕ) {e : List ℕ} → In x xs → Touch g xs ns d e → Touch g xs ns d (set e (hitAt g x) v)
   entry : (x k v : ℕ) {e : List ℕ} → In x xs → k < 32 → Touch g xs ns d e → Touch g xs ns d (set e (entryAt g x + k) v)
   bytes : (i v : ℕ) {e : List ℕ} → In (i / granuleBytes) ns → Touch g xs ns d e → Touch g xs ns d (set e i v)
-
--- a place that is in none of these: no GAT byte of a block, no HIT byte and no entry of the slots xs, in none of the granules ns
-pub record Aside (g : Geometry) (xs ns : List ℕ) (i : ℕ) : Type 0 where
-  pub gat : (i < 256 * g .start) ⊎ (256 * g .start + g .blocks ≤ i)
-  pub hits : (x : ℕ) → In x xs → i ≢ hitAt g x
-  pub entries : (x : ℕ) → In x xs → (i < entryAt g x) ⊎ (entryAt g x + 32 ≤ i)
-  pub bytes : In (i / granuleBytes) ns → ⊥
 
 pub touch-more : {g : Geometry} {xs ns d e : List ℕ} (xs′ ns′ : List ℕ) → ((x : ℕ) → In x xs → In x xs′) → ((n : ℕ) → In n ns → In n ns′) → Touch g xs ns d e → Touch g xs′ ns′ d e
 touch-more xs′ ns′ a b Touch.none = Touch.none
@@ -67,29 +61,20 @@ module _ (g : Geometry) (d₀ : List ℕ) (k : Places.Fits g d₀) where
       away : (i < 256 * g .start) ⊎ (256 * g .start + g .blocks ≤ i) → i ≢ gatAt g n
       away (inl q) = omega arith
       away (inr q) = omega (arith, in-gat n h)
-  touch-aside (Touch.hits x v {e = e} j t) i a = getD-set-other e (hitAt g x) i v 0 (a .hits x j) ∙ touch-aside t i a
-  touch-aside (Touch.entry x j v {e = e} m l t) i a = getD-set-other e (entryAt g x + j) i v 0 (away (a .entries x m)) ∙ touch-aside t i a
+  touch-aside (Touch.hits x v {e = e} j t) i a = getD-set-other e (hitAt g x) i v 0 (a .hits x (Members.in-has j)) ∙ touch-aside t i a
+  touch-aside (Touch.entry x j v {e = e} m l t) i a = getD-set-other e (entryAt g x + j) i v 0 (away (a .entries x (Members.in-has m))) ∙ touch-aside t i a
     where
       away : (i < entryAt g x) ⊎ (entryAt g x + 32 ≤ i) → i ≢ entryAt g x + j
       away (inl q) = omega arith
       away (inr q) = omega arith
-  touch-aside (Touch.bytes j v {e = e} m t) i a = getD-set-other e j i v 0 (λ q. a .bytes (rw q m)) ∙ touch-aside t i a
+  touch-aside {ns = ns} (Touch.bytes j v {e = e} m t) i a = getD-set-other e j i v 0 (λ q. a .bytes (Members.in-has {xs = ns} (rw q m))) ∙ touch-aside t i a
 
   -- the bits of a GAT byte past the last unit
   pub touch-spare : {xs ns d e : List ℕ} → Touch g xs ns d e → (b u : ℕ) → b < g .blocks → g .units ≤ u → (In ((256 * g .start + b) / granuleBytes) ns → ⊥)
       → digit (byte e (256 * g .start + b)) u ≡ digit (byte d (256 * g .start + b)) u
   touch-spare Touch.none b u h l o = refl
-  touch-spare (Touch.gat n v {e = e} m w t) b u h l o = go (ℕ-discrete (256 * g .start + b) (gatAt g n)) (decLt (gatAt g n) (length e)) ∙ touch-spare t b u h l o
-    where
-      other : u ≢ n % g .units
-      other = let q = mod-lt n (k .units-lo) in omega arith
-
-      go : Dec (256 * g .start + b ≡ gatAt g n) → Dec (gatAt g n < length e) → digit (byte (Places.marked g v e n) (256 * g .start + b)) u ≡ digit (byte e (256 * g .start + b)) u
-      go (yes q) (yes r) =
-          rw (q, getD-set-same e (gatAt g n) (putDigit (byte e (gatAt g n)) (n % g .units) v) 0 r)
-          (Bits.digit-other (byte e (gatAt g n)) (n % g .units) u v w other)
-      go (yes q) (no r) = rw (set-out e (gatAt g n) (putDigit (byte e (gatAt g n)) (n % g .units) v) (omega arith))
-      go (no q) r = rw (getD-set-other e (gatAt g n) (256 * g .start + b) (putDigit (byte e (gatAt g n)) (n % g .units) v) 0 q)
+  touch-spare (Touch.gat n v {e = e} m w t) b u h l o =
+      Places.marked-digit g v w e n (256 * g .start + b) u (λ q. let r = mod-lt n (k .units-lo) in omega arith) ∙ touch-spare t b u h l o
   touch-spare (Touch.hits x v {e = e} j t) b u h l o = ap (λ (z : ℕ). digit z u) (getD-set-other e (hitAt g x) (256 * g .start + b) v 0 (omega (arith, k .blocks-hi))) ∙ touch-spare t b u h l o
   touch-spare (Touch.entry x j v {e = e} m w t) b u h l o = ap (λ (z : ℕ). digit z u) (getD-set-other e (entryAt g x + j) (256 * g .start + b) v 0 (omega (arith, k .blocks-hi))) ∙ touch-spare t b u h l o
   touch-spare (Touch.bytes j v {e = e} m t) b u h l o =
@@ -141,11 +126,14 @@ module _ (g : Geometry) (xs ns d : List ℕ) where
       touch-field b 0x1f 0xff j (omega arith) (touch-field b 0x1e 0xff j (omega arith) (touch-field x 0x1f 0xff i (omega arith) (touch-field x 0x1e 0xff i (omega arith)
       (Touch.hits x 0 i (touch-field x 0 0x80 i (omega arith) t)))))
 
-  touch-killEntry : (e : List ℕ) (x : ℕ) → In x xs → Touch g xs ns d e → Touch g xs ns d (killEntry g e x)
-  unfolding killEntry
-  touch-killEntry e x i t = Touch.hits x 0 i (touch-field x 0 _ i (omega arith) t)
+-- bits 4, HIT bytes and GAT bits put, as kill and bring back do
+pub touch-marking : (g : Geometry) (v h : ℕ) (d ns xs : List ℕ) → v < 2 → ((n : ℕ) → In n ns → n < granules g) → Touch g xs [] d (Marking.marking g v h d ns xs)
+unfolding Marking.marking
+touch-marking g v h d ns xs b f =
+    Places.through-stays (Touch g xs [] d) (Marking.putEntry g v h) xs (through (Places.marked g v) d ns)
+    (λ e x i t. Touch.hits x h i (Touch.entry x 0 (putDigit (byte e (entryAt g x + 0)) 4 v) i (omega arith) t))
+    (Places.through-stays (Touch g xs [] d) (Places.marked g v) ns d (λ e n i t. Touch.gat n v (f n i) b t) Touch.none)
 
 pub touch-killed : (g : Geometry) (d : List ℕ) → Sound g d → (p : ℕ) → File g d p → Touch g (chain g d p) [] d (killed g d p)
-touch-killed g d c p f =
-    Places.through-stays (Touch g (chain g d p) [] d) (killEntry g) (chain g d p) (through (freeGranule g) d (owned g d p)) (λ e x i t. touch-killEntry g (chain g d p) [] d e x i t)
-    (Places.through-stays (Touch g (chain g d p) [] d) (freeGranule g) (owned g d p) d (λ e n i t. touch-free g (chain g d p) [] d n (Change.owned-lt g d c p n f i) t) Touch.none)
+unfolding Marking.marking words
+touch-killed g d c p f = touch-marking g 0 0 d (owned g d p) (chain g d p) (omega arith) (λ n i. Change.owned-lt g d c p n f i)

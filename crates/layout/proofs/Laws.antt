@@ -5,13 +5,12 @@ use mathlib.Core.Bool.{Bool, true, false, cond, _&&_, and-true}
 use Prim.Native.Nat.{ℕ, zero, suc, _+_, _-_, _*_, _/_, _%_, _^_, _≤_, _<_}
 use native.Mathlib.Omega.{arith}
 use native.Mathlib.Nat.{mul-le-mul, div-lt-iff-lt-mul, mod-lt, div-one, div-div-eq-div-mul, pow-succ'}
-use native.Mathlib.Numerals.{add-one}
 use lib.ListN.{length, getD, take, drop}
 use lib.Seq.{drop-cons, drop-length}
 use lib.Dec.{eqb, leb}
 use borrow.Author.Tests.{le-leb, eq-eqb}
 use Rattle.meaning.specs.Lists.{same, all, count}
-use Rattle.meaning.specs.Layout.{granules, fitsGeometry, field, entryAt}
+use Rattle.meaning.specs.Layout.{granules, fitsGeometry, field, entryAt, granuleBytes, granuleSectors, sectors, mostBlocks, mostUnits}
 use Rattle.meaning.specs.Bits.{digit}
 use Rattle.meaning.specs.Entries.{runsFrom, block, nameOf}
 use Rattle.meaning.specs.declared.Geometry.{Geometry}
@@ -60,15 +59,8 @@ pub name-at : (g : Geometry) (d n : List ℕ) (s : ℕ) → entryAt g s + 16 ≤
 unfolding nameOf field
 name-at g d n s h = ap (λ (l : List ℕ). same l n) (part-at d (entryAt g s) 5 11 (omega arith))
 
--- two names from byte i on
-pub same-more : (s t : List ℕ) (at m i : ℕ) → at + i < length s → i < length t
-    → same (take (suc m) (drop (at + i) s)) (drop i t) ≡ (eqb (getD s (at + i) 0) (getD t i 0) && same (take m (drop (at + (i + 1)) s)) (drop (i + 1) t))
-same-more s t at m i h k =
-    let e : suc (at + i) ≡ at + (i + 1) = omega arith in
-    simp (drop-cons s (at + i) 0 h, drop-cons t i 0 k, e, add-one)
-
 -- the geometry's first six tests passed
-pub fits-rest : (g : Geometry) (d : List ℕ) → 1 ≤ g .blocks → g .blocks ≤ 192 → 1 ≤ g .units → g .units ≤ 8 → g .start % 5 ≡ 0 → length d ≡ granules g * 1280
-    → fitsGeometry g d ≡ leb (g .start + 10) (granules g * 5)
+pub fits-rest : (g : Geometry) (d : List ℕ) → 1 ≤ g .blocks → g .blocks ≤ mostBlocks → 1 ≤ g .units → g .units ≤ mostUnits → g .start % granuleSectors ≡ 0 → length d ≡ granules g * granuleBytes
+    → fitsGeometry g d ≡ leb (g .start + 10) (sectors g)
 unfolding fitsGeometry all
 fits-rest g d a b c e f h = simp (le-leb _ _ a, le-leb _ _ b, le-leb _ _ c, le-leb _ _ e, eq-eqb _ _ f, eq-eqb _ _ h, and-true)

@@ -4,7 +4,7 @@ use mathlib.Core.List.{List, [], _∷_, _++_}
 use mathlib.Core.Bool.{Bool, true, false, not, cond, _&&_, _||_, and-true, or-false}
 use Prim.Native.Nat.{ℕ, zero, suc, _+_, _-_, _*_, _≤_, _<_}
 use native.Mathlib.Omega.{arith}
-use native.Mathlib.Nat.{add-zero}
+use native.Mathlib.Nat.{add-zero, zero-add}
 use mathlib.Core.Logic.{_⊎_, inl, inr, ⊎-elim}
 use lib.ListN.{length, getD}
 use lib.Dec.{eqb, ltb, leb}
@@ -60,9 +60,12 @@ module _ {A : Type 0} where
   pub keep-no : (p : A → Bool) {x : A} → p x ≡ false → (xs : List A) → keep p (x ∷ xs) ≡ keep p xs
   keep-no p {x} h xs = ap (λ (b : Bool). cond b (x ∷ keep p xs) (keep p xs)) h
 
-pub length-count : (i n : ℕ) → length (count i n) ≡ n
-length-count i zero = refl
-length-count i (suc n) = ap suc (length-count (i + 1) n)
+pub count-append : (i m n : ℕ) → count i (m + n) ≡ count i m ++ count (i + m) n
+count-append i zero n = let e : i ≡ i + 0 = omega arith in ap (count i) (zero-add n) ∙ ap (λ (k : ℕ). count k n) e
+count-append i (suc m) n =
+    let e : suc m + n ≡ suc (m + n) = omega arith in
+    let f : i + 1 + m ≡ i + suc m = omega arith in
+    ap (count i) e ∙ ap (λ (r : List ℕ). i ∷ r) (count-append (i + 1) m n ∙ ap (λ (k : ℕ). count (i + 1) m ++ count k n) f)
 
 pub getD-count : (i n k : ℕ) → k < n → getD (count i n) k 0 ≡ i + k
 getD-count i zero k h = absurd (let q : ⊥ = omega arith in q)
@@ -98,6 +101,14 @@ not-yes h = ap not h
 
 pub not-no : {b : Bool} → b ≡ false → not b ≡ true
 not-no h = ap not h
+
+pub any-hit : {b : Bool} → b ≡ true → (bs : List Bool) → any (b ∷ bs) ≡ true
+unfolding any
+any-hit h bs = ap (λ (b : Bool). b || any bs) h
+
+pub any-one : (b : Bool) → any (b ∷ []) ≡ b
+unfolding any
+any-one b = or-false b
 
 pub any-skip : {b : Bool} → b ≡ false → (bs : List Bool) → any (b ∷ bs) ≡ any bs
 unfolding any

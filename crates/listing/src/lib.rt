@@ -8,12 +8,10 @@ ghost use Prim.Native.Nat.{_+_, _*_, _<_, _≤_};
 ghost use lib.ListN.{length, drop};
 ghost use Rattle.meaning.specs.Lists.{all};
 ghost use Rattle.meaning.specs.Entries.{primary};
-ghost use Rattle.meaning.specs.Free.{freeGranules};
 ghost use Rattle.meaning.specs.Listing.{noFile, shown, listed, tellFirst, list, counts};
 ghost use Rattle.meaning.specs.Refusals.{check};
 ghost use Rattle.layout.specs.Room.{Room, Slot};
 ghost use Rattle.seek.specs.Seek.{Sound, Used};
-ghost use Rattle.listing.specs.Clear.{clearBits};
 
 // Whether a file that is listed starts at slot s: a primary entry in use, without the system flag. One byte is read.
 fn tells(image: &[u8], g: Geometry, s: usize) -> bool
@@ -113,36 +111,6 @@ fn files_count(image: &[u8], g: Geometry) -> usize
     n
 }
 
-// How many of the lowest bits of a GAT byte are clear.
-fn clear_bits(byte: usize, bits: usize) -> usize
-    requires { ⌜ bits ≤ 8 ⌝ }
-    ensures { λ r. ⌜ (r ≡ clearBits bits byte) × (r ≤ 8) ⌝ }
-{
-    let mut x = byte;
-    let mut left = bits;
-    let mut n = 0;
-    while 0 < left {
-        n = n + (1 - x % 2);
-        x = x / 2;
-        left -= 1;
-    }
-    n
-}
-
-// FREE: how many granules are free, by one pass over the GAT.
-fn free_count(image: &[u8], g: Geometry) -> usize
-    requires { ⌜ Room g (now image) ⌝ }
-    ensures { λ r. ⌜ r ≡ length (freeGranules g (now (image .entry))) ⌝ }
-{
-    let mut n = 0;
-    let mut b = 0;
-    while b < g.blocks {
-        n = n + clear_bits(layout::wide(image[256 * g.start + b]), g.units);
-        b += 1;
-    }
-    n
-}
-
 // The counts FILES and FREE, of a disk whose check answered `checked`.
 pub fn counts_checked(image: &[u8], g: Geometry, checked: u8) -> Counts
     requires { ⌜ checked ≡ check g (now image) ⌝ }
@@ -158,6 +126,6 @@ pub fn counts_checked(image: &[u8], g: Geometry, checked: u8) -> Counts
     Counts {
         number: 0,
         files: files_count(image, g),
-        free: free_count(image, g),
+        free: space::free_count(image, g),
     }
 }

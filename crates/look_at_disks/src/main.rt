@@ -23,6 +23,16 @@ fn nine_units() -> Geometry {
     }
 }
 
+// 9 blocks: not the geometry of a disk of 20,480 bytes.
+fn nine_blocks() -> Geometry {
+    Geometry {
+        blocks: 9,
+        units: 2,
+        start: 0,
+        anyone: 0,
+    }
+}
+
 // GAT: granules 0 to 6, 8 and 15 are taken, the last one reserved; bits past the last unit are set in block 5. HIT: four slots.
 fn put_maps(image: &mut [u8; 20480]) {
     image[0] = 0x03;
@@ -214,6 +224,14 @@ fn counts(image: &[u8], g: Geometry, words: &[u8]) {
     ended();
 }
 
+fn free_space(image: &[u8], g: Geometry, words: &[u8]) {
+    let r = calls::free_space(image, g);
+    said(words, r.number);
+    told(b"free", r.free);
+    told(b"longest", r.longest);
+    ended();
+}
+
 // The handle at another position.
 fn placed(h: Handle, at: usize) -> Handle {
     let mut moved = h;
@@ -235,7 +253,14 @@ fn levelled(h: Handle, level: usize) -> Handle {
     moved
 }
 
-// Every call, asked alike: on the good disk each is accepted, else each is refused.
+// The handle with record length 0.
+fn without_length(h: Handle) -> Handle {
+    let mut moved = h;
+    moved.len = 0;
+    moved
+}
+
+// Every call, asked alike: on the good disk each is accepted, else each is refused; but free space looks at the GAT alone.
 fn every_call(image: &[u8], g: Geometry, words: &[u8], h: Handle) {
     io::write_all(1, words);
     ended();
@@ -245,6 +270,7 @@ fn every_call(image: &[u8], g: Geometry, words: &[u8], h: Handle) {
     read_sector(image, g, b"read sector", h, 25);
     list(image, g, b"list", 0);
     counts(image, g, b"counts");
+    free_space(image, g, b"free space");
 }
 
 fn look_ups(image: &[u8]) {
@@ -346,6 +372,7 @@ fn records(image: &[u8], h: Handle) {
     );
     read_record(image, small(), b"record out of range", placed(h, 1966081));
     read_record(image, small(), b"record at level 8", levelled(h, 8));
+    read_record(image, small(), b"record of length 0", without_length(h));
     read_short(image, small(), b"record, buffer too short", h);
     read_record(image, small(), b"record, slot of LEER", slotted(h, 3));
     read_record(
@@ -415,7 +442,7 @@ fn good(image: &[u8], h: Handle) {
     lists(image);
 }
 
-// The good disk, a wrong geometry, and a HIT byte that is not the hash.
+// The good disk, two wrong geometries, and a HIT byte that is not the hash.
 fn looks(image: &mut [u8; 20480]) {
     let opened = open_file(
         image,
@@ -429,6 +456,7 @@ fn looks(image: &mut [u8; 20480]) {
     let h = placed(opened, 6398);
     good(image, h);
     every_call(image, nine_units(), b"9 units", h);
+    every_call(image, nine_blocks(), b"image length not as stated", h);
     image[259] = 0x71;
     every_call(image, small(), b"a HIT byte that is not the hash", h);
 }

@@ -35,17 +35,26 @@ module _ (g : Geometry) (d : List ℕ) where
   unfoldable pub pairsHold : ℕ → Bool
   pairsHold s = every (λ k. ltb k (Entries.runs g d s) || eqb (Entries.block g d s k) 0xff) (count 0 4)
 
-  -- an in-use extension: byte 00 is 90H, it points back, and has at least one run
-  unfoldable pub follows : ℕ → ℕ → Bool
-  follows s x =
-      all (Layout.isSlot g d x ∷ eqb (Layout.field g d x 0) 0x90 ∷ eqb (Layout.field g d x 1) s
+  -- an extension with these flags: so stands its byte 00; it points back, and has at least one run
+  unfoldable pub followsBy : ℕ → ℕ → ℕ → Bool
+  followsBy flags s x =
+      all (Layout.isSlot g d x ∷ eqb (Layout.field g d x 0) flags ∷ eqb (Layout.field g d x 1) s
       ∷ leb 1 (Entries.runs g d x) ∷ [])
 
   -- Markers are FEH or FFH. Each FEH link leads to such an extension. Each entry before the last of a chain has four runs.
-  unfoldable pub linkHolds : ℕ → Bool
-  linkHolds s =
+  unfoldable pub linkHoldsBy : ℕ → ℕ → Bool
+  linkHoldsBy flags s =
       any (eqb (Entries.marker g d s) 0xff
-      ∷ all (eqb (Entries.marker g d s) 0xfe ∷ follows s (Entries.link g d s) ∷ eqb (Entries.runs g d s) 4 ∷ []) ∷ [])
+      ∷ all (eqb (Entries.marker g d s) 0xfe ∷ followsBy flags s (Entries.link g d s) ∷ eqb (Entries.runs g d s) 4 ∷ []) ∷ [])
+
+  -- an in-use extension has byte 00 equal to 90H
+  unfoldable pub follows : ℕ → ℕ → Bool
+  unfolding followsBy
+  follows s x = followsBy 0x90 s x
+
+  unfoldable pub linkHolds : ℕ → Bool
+  unfolding linkHoldsBy
+  linkHolds s = linkHoldsBy 0x90 s
 
   -- Runs lie on the disk, their first unit is below units per block.
   unfoldable pub runsHold : ℕ → Bool

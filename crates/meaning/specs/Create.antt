@@ -35,7 +35,7 @@ module _ (g : Geometry) (d : List ℕ) where
   -- 5 under open's password rule, the given main code counting; 8 only if the name is not found
   abbrev pub createRefusals : List ℕ → NewFile → Bool → List (ℕ × Bool)
   createRefusals n f checking =
-      Refusals.diskRefusals g d ((12, not (Refusals.newInRange f)) ∷ Refusals.badName g d n
+      Refusals.diskRefusals g d ((12, not (Refusals.newInRange f)) ∷ Refusals.badName n
       ∷ (5, all (not (LookUp.missing g d n) ∷ not (Open.admits g d (LookUp.slotOf g d n) checking (f .main)) ∷ []))
       ∷ (8, all (LookUp.missing g d n ∷ eqb (length (Free.freeSlots g d)) 0 ∷ [])) ∷ [])
 

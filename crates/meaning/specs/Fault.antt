@@ -109,13 +109,13 @@ module _ (g : Geometry) (d : List ℕ) where
       ∷ []) ∷ [])
 
   -- the chain of the file at slot p is whole: no entry that its walk meets has a chain fault
-  unfoldable pub whole : ℕ → Bool
-  whole p = every (λ s. not (chainFault s)) (walk p)
+  unfoldable pub chainWhole : ℕ → Bool
+  chainWhole p = every (λ s. not (chainFault s)) (walk p)
 
   -- 29, size: n = 0 only with e = 0; the size fits the granules owned. Belongs to the primary entry, granules counted as the pairs name them, and
   -- only where its chain is whole.
   unfoldable pub sizeFault : ℕ → Bool
-  sizeFault p = all (Entries.primary g d p ∷ whole p ∷ not (Consistent.sizeHolds g d p) ∷ [])
+  sizeFault p = all (Entries.primary g d p ∷ chainWhole p ∷ not (Consistent.sizeHolds g d p) ∷ [])
 
   -- 30, directory granule, with a slot: in a run of a file without the system flag
   unfoldable pub directoryFault : ℕ → Bool

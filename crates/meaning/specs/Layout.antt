@@ -24,13 +24,16 @@ mostBlocks = 192
 abbrev pub mostUnits : ℕ
 mostUnits = 8
 
+abbrev pub mostGranules : ℕ
+mostGranules = mostBlocks * mostUnits
+
 -- position 0 to 1,966,080: the bytes of the largest disk
 abbrev pub highest : ℕ
-highest = mostBlocks * mostUnits * granuleBytes
+highest = mostGranules * granuleBytes
 
 -- sector 0 to 7,679: a sector number is below this
 abbrev pub sectorNumbers : ℕ
-sectorNumbers = mostBlocks * mostUnits * granuleSectors
+sectorNumbers = mostGranules * granuleSectors
 
 -- Granule number = block × units + unit: so many granules are on a disk.
 unfoldable pub granules : Geometry → ℕ

@@ -18,7 +18,9 @@ pub mod Write
 pub mod Allot
 pub mod Trim
 pub mod Kill
+pub mod BringBack
 pub mod Listing
+pub mod FreeSpace
 pub mod Plain
 pub mod Samples
 pub mod Table

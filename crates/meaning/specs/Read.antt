@@ -23,7 +23,7 @@ module _ (g : Geometry) (d : List ℕ) where
   abbrev pub readRefusals : Handle → ℕ → List (ℕ × Bool)
   readRefusals h room =
       Refusals.handleRefusals g d h (all (Refusals.inRange h ∷ leb (h .len) room ∷ []))
-      (Refusals.notForReading g d h ∷ (10, ltb (Entries.sizeOf g d (h .slot)) (h .at + h .len)) ∷ [])
+      (Refusals.notForReading h ∷ (10, ltb (Entries.sizeOf g d (h .slot)) (h .at + h .len)) ∷ [])
 
   -- Position + length must not pass the size; the bytes go to the start of the buffer, the rest of it is untouched, the position advances.
   unfoldable pub readRecord : Handle → List ℕ → Answer × List ℕ
@@ -37,7 +37,7 @@ module _ (g : Geometry) (d : List ℕ) where
   abbrev pub sectorRefusals : Handle → ℕ → List (ℕ × Bool)
   sectorRefusals h k =
       Refusals.handleRefusals g d h (all (Refusals.inRange h ∷ ltb k Layout.sectorNumbers ∷ []))
-      (Refusals.notForReading g d h ∷ (10, leb (Entries.sectorCount g d (h .slot)) k) ∷ [])
+      (Refusals.notForReading h ∷ (10, leb (Entries.sectorCount g d (h .slot)) k) ∷ [])
 
   -- how many bytes of sector k are the file's: what the end byte says of the last one, else 256
   abbrev pub sectorBytes : ℕ → ℕ → ℕ

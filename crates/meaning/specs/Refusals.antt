@@ -27,13 +27,13 @@ accepted n = eqb n 0
 unfoldable pub goodLength : ℕ → Bool
 goodLength len = all (leb 1 len ∷ leb len 256 ∷ [])
 
--- position (0 to 1,966,080), record length (1 to 256) and level (0 to 7): tested by each call that is given a handle
+-- position (0 to 1,966,080), record length and level (0 to 7): tested by each call that is given a handle
 unfoldable pub inRange : Handle → Bool
-inRange h = all (leb (h .at) Layout.highest ∷ leb 1 (h .len) ∷ leb (h .len) 256 ∷ leb (h .level) 7 ∷ [])
+inRange h = all (leb (h .at) Layout.highest ∷ goodLength (h .len) ∷ leb (h .level) 7 ∷ [])
 
 -- day 0 to 31, month and year offset 0 to 15
 unfoldable pub newInRange : NewFile → Bool
-newInRange f = all (leb (f .day) 31 ∷ leb (f .month) 15 ∷ leb (f .year) 15 ∷ leb 1 (f .len) ∷ leb (f .len) 256 ∷ [])
+newInRange f = all (leb (f .day) 31 ∷ leb (f .month) 15 ∷ leb (f .year) 15 ∷ goodLength (f .len) ∷ [])
 
 -- a refused open or create hands back a handle of zeros
 abbrev pub noHandle : Handle
@@ -42,6 +42,14 @@ noHandle = record { slot = 0; name = replicate 11 0; at = 0; len = 0; level = 0 
 -- the handle at another position
 abbrev pub movedTo : Handle → ℕ → Handle
 movedTo h at = record { slot = h .slot; name = h .name; at = at; len = h .len; level = h .level }
+
+-- 3: name not well formed (calls by name)
+abbrev pub badName : List ℕ → ℕ × Bool
+badName n = (3, not (Names.nameComesIn n))
+
+-- 6: level over 5 for reading
+abbrev pub notForReading : Handle → ℕ × Bool
+notForReading h = (6, ltb 5 (h .level))
 
 -- the numbers of faults: 21 to 30
 abbrev pub faultNumbers : List ℕ
@@ -68,10 +76,6 @@ module _ (g : Geometry) (d : List ℕ) where
   unfoldable pub check : ℕ
   check = first (diskRefusals [])
 
-  -- 3: name not well formed (calls by name)
-  abbrev pub badName : List ℕ → ℕ × Bool
-  badName n = (3, not (Names.nameComesIn n))
-
   -- A handle is stale unless its slot is one the directory has, in use, primary and carries its name.
   unfoldable pub fresh : Handle → Bool
   fresh h = all (Layout.isSlot g d (h .slot) ∷ Entries.primary g d (h .slot) ∷ same (Entries.nameOf g d (h .slot)) (h .name) ∷ [])
@@ -83,10 +87,6 @@ module _ (g : Geometry) (d : List ℕ) where
   -- what every call with a handle tests first; `ranged` is the call's own test 12, `rest` what it tests after
   abbrev pub handleRefusals : Handle → Bool → List (ℕ × Bool) → List (ℕ × Bool)
   handleRefusals h ranged rest = diskRefusals ((12, not ranged) ∷ staleHandle h ∷ rest)
-
-  -- 6: level over 5 for reading
-  abbrev pub notForReading : Handle → ℕ × Bool
-  notForReading h = (6, ltb 5 (h .level))
 
   -- 6: level over 4 for write, allot, trim, over 1 for kill; or write, allot, trim or kill of a system file
   abbrev pub protected : ℕ → Handle → ℕ × Bool

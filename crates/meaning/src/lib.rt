@@ -79,6 +79,20 @@ pub struct Counts {
     pub free: usize,
 }
 
+// What free space answers: how many granules are free, and how long the longest free stretch is.
+pub struct Space {
+    pub number: u8,
+    pub free: usize,
+    pub longest: usize,
+}
+
+// What bring back answers (02, §11): how many slots and granules the file has.
+pub struct BroughtBack {
+    pub number: u8,
+    pub slots: usize,
+    pub granules: usize,
+}
+
 // What is inconsistent, and where (02): one of the numbers 21 to 30, 0 where there is no fault, and a slot, 256 where there is none.
 pub struct Fault {
     pub number: u8,

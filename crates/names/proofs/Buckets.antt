@@ -5,6 +5,7 @@ use mathlib.Core.List.{List, [], _∷_, _++_}
 use mathlib.Core.Bool.{Bool, true, false, not, cond, _&&_}
 use Prim.Native.Nat.{ℕ, zero, suc, _+_, _-_, _*_, _/_, _%_, _≤_, _<_}
 use native.Mathlib.Omega.{arith}
+use native.Mathlib.Nat.{add-zero}
 use native.Mathlib.Numerals.{add-one}
 use native.Mathlib.Decide.{ℕ-discrete}
 use lib.ListN.{length, getD, set, take, drop, replicate, length-set}
@@ -12,7 +13,7 @@ use lib.Seq.{getD-set-same, getD-set-other}
 use lib.Dec.{T, eqb, T-not}
 use borrow.Author.Tests.{eq-eqb, ne-eqb, eqb-true, not-true, not-false}
 use Rattle.meaning.specs.Lists.{every, same, all}
-use Rattle.meaning.specs.Layout.{isSlot, hit, entryAt, directorySectors}
+use Rattle.meaning.specs.Layout.{isSlot, hit, field, entryAt, directorySectors}
 use Rattle.meaning.specs.Names.{hash}
 use Rattle.meaning.specs.Entries.{primary, nameOf}
 use Rattle.meaning.specs.Chain.{files}
@@ -23,7 +24,7 @@ use Rattle.laws.specs.Members.{In}
 use Rattle.laws.specs.Facts
 use Rattle.layout.specs.Room.{Room, Slot}
 use Rattle.layout.proofs.Lists.{all-yes, all-no, all-one, all-at, all-none}
-use Rattle.layout.proofs.Sound.{slot-of, slot-yes, slot-no}
+use Rattle.layout.proofs.Sound.{slot-of, slot-yes, slot-no, entry-fits}
 use Rattle.layout.proofs.Laws.{name-part}
 use Rattle.names.specs.Buckets.{Hashed, unlike, inBucket, bucket, Linked, Buckets, Joined, Differing, Visited}
 
@@ -229,17 +230,20 @@ module _ (g : Geometry) (d : List ℕ) where
         joined = λ z. subst (λ (k : ℕ). Buckets g d (s + 1) (set head k (s + 1)) (set next s (getD head k 0))) (sym e) (buckets-join s head next w h p (omega arith));
       }
 
-  -- what comparing the names' bytes says
-  place-low : (s : ℕ) → Room g d → Slot g d s → entryAt g s + 32 ≤ length d
-  place-low s r h = let a = h .low in let b = h .held in let c = r .directory in let e = r .whole in omega arith
+  -- the flags of the entry at `at`
+  pub flags-at : (s : ℕ) {at r : ℕ} → at ≡ entryAt g s → r ≡ getD d at 0 → r ≡ field g d s 0
+  unfolding field
+  flags-at s e q = q ∙ ap (λ (k : ℕ). getD d k 0) (e ∙ sym (add-zero (entryAt g s)))
 
-  pub compared : (s q n : ℕ) {r : Bool} → Room g d → Slot g d s → Slot g d q → n ≡ 11
-      → r ≡ same (take 11 (drop (entryAt g q + 5) d)) (take n (drop (entryAt g s + 5) d)) → unlike g d s q ≡ not r
+  -- what comparing the names' bytes says
+  pub compared : (s q n at : ℕ) {r : Bool} → Room g d → Slot g d s → Slot g d q → n ≡ 11 → at ≡ entryAt g s
+      → r ≡ same (take 11 (drop (entryAt g q + 5) d)) (take n (drop (at + 5) d)) → unlike g d s q ≡ not r
   unfolding unlike
-  compared s q n k h l z e =
-      let a = place-low s k h in let b = place-low q k l in
+  compared s q n at k h l z y e =
+      let a = entry-fits g d s k h in let b = entry-fits g d q k l in
       rw (name-part g d s (omega arith), name-part g d q (omega arith))
-      (ap not (sym (e ∙ ap (λ (m : ℕ). same (take 11 (drop (entryAt g q + 5) d)) (take m (drop (entryAt g s + 5) d))) z)))
+      (ap not (sym (e ∙ ap (λ (m : ℕ). same (take 11 (drop (entryAt g q + 5) d)) (take m (drop (at + 5) d))) z
+      ∙ ap (λ (m : ℕ). same (take 11 (drop (entryAt g q + 5) d)) (take 11 (drop (m + 5) d))) y)))
 
   pub differing-start : Differing g d 0 (replicate 256 0) (replicate 256 0)
   differing-start = record { low = omega arith; lists = buckets-none; apart = λ p q a. absurd (let z : ⊥ = omega arith in z) }
@@ -335,15 +339,34 @@ module _ (g : Geometry) (d : List ℕ) where
       let x = Facts.slot-lt g d p (a .slot) in let y = Facts.slot-lt g d q (b .slot) in
       w .apart p q (omega arith) (omega arith) a b e)))
 
-  -- the three ways through a slot
-  pub visit-shut : (s : ℕ) (head next : List ℕ) → Differing g d s head next → s < 256 → directorySectors g d ≤ s % 32 + 2 → Visited g d s head next true
-  visit-shut s head next w l e = record { bad = λ z. absurd (Members.false-no z tt); good = λ z. differing-shut s head next w l (slot-no g d s l e) }
+  -- slots that the directory lacks
+  shut-run : (j s : ℕ) (head next : List ℕ) → Differing g d s head next → s + j ≤ 256 → ((i : ℕ) → i < j → isSlot g d (s + i) ≡ false) → Differing g d (s + j) head next
+  shut-run zero s head next w l h = subst (λ (k : ℕ). Differing g d k head next) (sym (add-zero s)) w
+  shut-run (suc j) s head next w l h =
+      subst (λ (k : ℕ). Differing g d k head next) (let z : s + j + 1 ≡ s + suc j = omega arith in z)
+      (differing-shut (s + j) head next (shut-run j s head next w (omega arith) (λ i q. h i (omega arith))) (omega arith) (h j (omega arith)))
 
-  pub visit-other : (s : ℕ) (head next : List ℕ) {f : Bool} → Differing g d s head next → s < 256 → f ≡ primary g d s → not f ≡ true → Visited g d s head next true
+  -- the end of a row
+  pub row-end : (row s : ℕ) (head next : List ℕ) {k : ℕ} → Room g d → Differing g d s head next → row < 8 → k ≡ directorySectors g d → s ≡ 32 * row + (k - 2) → Visited g d (32 * (row + 1)) head next true
+  row-end row s head next {k} room w l e q =
+      let a = room .ten in let b = room .thirty in
+      record {
+        bad = λ z. absurd (Members.false-no z tt);
+        good = λ z.
+            subst (λ (n : ℕ). Differing g d n head next) (let y : s + (34 - k) ≡ 32 * (row + 1) = omega arith in y)
+            (shut-run (34 - k) s head next w (omega arith) (λ i h. slot-no g d (s + i) (omega arith) (omega arith)));
+      }
+
+  -- a file with the name of one before it
+  pub row-found : (row : ℕ) {s : ℕ} {head next : List ℕ} {r : Bool} → Visited g d s head next r → not r ≡ true → Visited g d (32 * (row + 1)) head next false
+  row-found row {r = r} w t = record { bad = λ z. w .bad (not-true r t); good = λ z. absurd (Members.false-no (sym z) tt) }
+
+  -- the two ways through a slot
+  pub visit-other : (s : ℕ) (head next : List ℕ) {f : Bool} → Differing g d s head next → s < 256 → f ≡ primary g d s → not f ≡ true → Visited g d (s + 1) head next true
   visit-other s head next {f} w l e t =
       record { bad = λ z. absurd (Members.false-no z tt); good = λ z. differing-other s head next w l (sym e ∙ not-true f t) }
 
   pub visit-file : Hashed g d → (s : ℕ) (head next head′ next′ : List ℕ) {r f : Bool} → Differing g d s head next → Slot g d s → f ≡ primary g d s → not f ≡ false
-      → Joined g d s head′ next′ r → Visited g d s head′ next′ r
+      → Joined g d s head′ next′ r → Visited g d (s + 1) head′ next′ r
   visit-file h s head next head′ next′ {r} {f} w k e t j =
       record { bad = λ z. differing-found s head′ next′ k (sym e ∙ not-false f t) j z; good = λ z. differing-on h s head next head′ next′ w (k .low) j z }

@@ -57,7 +57,7 @@ module _ (g : Geometry) (d : List ℕ) where
     pub lists : Buckets s head next
     pub apart : (p q : ℕ) → p < s → q < s → File g d p → File g d q → nameOf g d p ≡ nameOf g d q → p ≡ q
 
-  -- what a visit to slot s gives: two files with one name, or all names up to s different
-  pub record Visited (s : ℕ) (head next : List ℕ) (r : Bool) : Type 0 where
+  -- what a visit to slots up to n gives: two files with one name, or all names below n different
+  pub record Visited (n : ℕ) (head next : List ℕ) (r : Bool) : Type 0 where
     pub bad : r ≡ false → false ≡ namesDiffer g d (files g d)
-    pub good : r ≡ true → Differing (s + 1) head next
+    pub good : r ≡ true → Differing n head next

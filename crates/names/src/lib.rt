@@ -5,7 +5,7 @@ ghost use mathlib.Core.Bool.{true, not};
 ghost use Prim.Native.Nat.{_+_, _*_, _<_, _≤_};
 ghost use lib.ListN.{length, getD};
 ghost use Rattle.meaning.specs.Lists.{every, same};
-ghost use Rattle.meaning.specs.Layout.{hit, directorySectors};
+ghost use Rattle.meaning.specs.Layout.{hit, entryAt};
 ghost use Rattle.meaning.specs.Names.{hash};
 ghost use Rattle.meaning.specs.Entries.{primary, nameOf};
 ghost use Rattle.meaning.specs.Chain.{files};
@@ -27,14 +27,27 @@ pub fn hash(name: &[u8]) -> usize
     if h == 0 { 1 } else { layout::wide(h) }
 }
 
-// Whether no entry of a list has the name of slot s. The list starts at `first`: a slot's number plus 1, or 0 where it ends; `next` tells
-// what follows a slot.
-fn alone(image: &[u8], g: Geometry, s: usize, first: usize, next: &[usize]) -> bool
-    requires { ⌜ Room g (now image) × Slot g (now image) s × Linked g (now image) (now next) first (bucket g (now image) (hit g (now image) s) s)
+// Whether the entry of slot s, which is at `at`, starts a file.
+fn starts_file(image: &[u8], g: Geometry, s: usize, at: usize) -> bool
+    requires { ⌜ Room g (now image) × Slot g (now image) s × (at ≡ entryAt g s) ⌝ }
+    ensures { λ r. ⌜ r ≡ primary g (now (image .entry)) s ⌝ }
+{
+    let f = layout::wide(image[at]);
+    if (f >> 4) % 2 != 1 {
+        return false;
+    }
+    (f >> 7) % 2 != 1
+}
+
+// Whether no entry of a list has the name of slot s, whose entry is at `at`. The list starts at `first`: a slot's number plus 1, or 0 where
+// it ends; `next` tells what follows a slot.
+fn alone(image: &[u8], g: Geometry, s: usize, at: usize, first: usize, next: &[usize]) -> bool
+    requires { ⌜ Room g (now image) × Slot g (now image) s × (at ≡ entryAt g s)
+        × Linked g (now image) (now next) first (bucket g (now image) (hit g (now image) s) s)
         × (length (now next) ≡ 256) × ((k : _) → getD (now next) k 0 ≤ k) ⌝ }
     ensures { λ r. ⌜ r ≡ every (unlike g (now (image .entry)) s) (bucket g (now (image .entry)) (hit g (now (image .entry)) s) s) ⌝ }
 {
-    let a = 256 * (g.start + 2 + s % 32) + 32 * (s / 32) + 5;
+    let a = at + 5;
     let e = a + 11;
     let mut x = first;
     while 0 < x {
@@ -52,13 +65,21 @@ fn alone(image: &[u8], g: Geometry, s: usize, first: usize, next: &[usize]) -> b
 }
 
 // Puts slot s into the list of its HIT byte, unless an entry with its name is there.
-fn joins(image: &[u8], g: Geometry, s: usize, head: &mut [usize], next: &mut [usize]) -> bool
-    requires { ⌜ Room g (now image) × Slot g (now image) s × (primary g (now image) s ≡ true) × Buckets g (now image) s (now head) (now next) ⌝ }
+fn joins(
+    image: &[u8],
+    g: Geometry,
+    s: usize,
+    at: usize,
+    head: &mut [usize],
+    next: &mut [usize],
+) -> bool
+    requires { ⌜ Room g (now image) × Slot g (now image) s × (at ≡ entryAt g s) × (primary g (now image) s ≡ true)
+        × Buckets g (now image) s (now head) (now next) ⌝ }
     ensures { λ r. ⌜ Joined g (now (image .entry)) s (now (head .exit)) (now (next .exit)) r ⌝ }
 {
     let b = layout::hit(image, g, s);
     let first = head[b];
-    if !alone(image, g, s, first, next) {
+    if !alone(image, g, s, at, first, next) {
         return false;
     }
     next[s] = first;
@@ -70,22 +91,44 @@ fn joins(image: &[u8], g: Geometry, s: usize, head: &mut [usize], next: &mut [us
 fn visit(
     image: &[u8],
     g: Geometry,
-    sectors: usize,
     s: usize,
+    at: usize,
     head: &mut [usize],
     next: &mut [usize],
 ) -> bool
-    requires { ⌜ Room g (now image) × Hashed g (now image) × (sectors ≡ directorySectors g (now image)) × (s < 256)
+    requires { ⌜ Room g (now image) × Hashed g (now image) × Slot g (now image) s × (at ≡ entryAt g s)
         × Differing g (now image) s (now head) (now next) ⌝ }
-    ensures { λ r. ⌜ Visited g (now (image .entry)) s (now (head .exit)) (now (next .exit)) r ⌝ }
+    ensures { λ r. ⌜ Visited g (now (image .entry)) (s + 1) (now (head .exit)) (now (next .exit)) r ⌝ }
 {
-    if sectors <= s % 32 + 2 {
+    if !starts_file(image, g, s, at) {
         return true;
     }
-    if !layout::primary(image, g, s) {
-        return true;
+    joins(image, g, s, at, head, next)
+}
+
+// The slots of one row, after those of all rows before it.
+fn row_differs(
+    image: &[u8],
+    g: Geometry,
+    row: usize,
+    head: &mut [usize],
+    next: &mut [usize],
+) -> bool
+    requires { ⌜ Room g (now image) × Hashed g (now image) × (row < 8) × Differing g (now image) (32 * row) (now head) (now next) ⌝ }
+    ensures { λ r. ⌜ Visited g (now (image .entry)) (32 * (row + 1)) (now (head .exit)) (now (next .exit)) r ⌝ }
+{
+    let first = 32 * row;
+    let end = first + (layout::directory_sectors(image, g) - 2);
+    let mut at = 256 * (g.start + 2) + 32 * row;
+    let mut s = first;
+    while s < end {
+        if !visit(image, g, s, at, head, next) {
+            return false;
+        }
+        at += 256;
+        s += 1;
     }
-    joins(image, g, s, head, next)
+    true
 }
 
 // Whether no two files have the same name. Names are compared only where HIT bytes agree.
@@ -93,15 +136,14 @@ pub fn names_differ(image: &[u8], g: Geometry) -> bool
     requires { ⌜ Room g (now image) × Hashed g (now image) ⌝ }
     ensures { λ r. ⌜ r ≡ namesDiffer g (now (image .entry)) (files g (now (image .entry))) ⌝ }
 {
-    let sectors = layout::directory_sectors(image, g);
     let mut head = [0usize; 256];
     let mut next = [0usize; 256];
-    let mut s = 0;
-    while s < 256 {
-        if !visit(image, g, sectors, s, &mut head, &mut next) {
+    let mut row = 0;
+    while row < 8 {
+        if !row_differs(image, g, row, &mut head, &mut next) {
             return false;
         }
-        s += 1;
+        row += 1;
     }
     true
 }

@@ -20,7 +20,7 @@ use Rattle.meaning.specs.Write.{writeRecord, toWrite}
 use Rattle.meaning.specs.Allot.{allot, toAllot}
 use Rattle.meaning.specs.Trim.{trim}
 use Rattle.meaning.specs.Kill.{kill}
-use Rattle.meaning.specs.Plain.{File, Found, found, nothing, fileAt, plain, with′, hush, bornAs, writtenTo, allottedTo, trimmed}
+use Rattle.meaning.specs.Plain.{File, Found, found, nothing, fileAt, plain, with′, hush, bornAs, writtenTo, allottedTo, trimmed, beyond, Aside}
 use Rattle.meaning.specs.declared.Geometry.{Geometry}
 use Rattle.meaning.specs.declared.Handle.{Handle}
 use Rattle.meaning.specs.declared.NewFile.{NewFile}
@@ -31,7 +31,7 @@ use Rattle.laws.specs.Facts
 use Rattle.laws.specs.Places
 use Rattle.laws.specs.Named
 use Rattle.laws.specs.Touch
-use Rattle.laws.specs.Touch.{Touch, Aside}
+use Rattle.laws.specs.Touch.{Touch}
 use Rattle.laws.specs.Words.{words}
 use Rattle.laws.specs.Others
 use Rattle.laws.specs.Passed
@@ -49,7 +49,7 @@ use Rattle.promises.specs.WriteMeans
 
 module _ (g : Geometry) (d d′ n : List ℕ) (is : Found) where
   -- from "this name, and any other" to one equation over all names
-  one-list : plain g d′ n ≡ is → ((m : List ℕ) → m ≢ n → hush (plain g d′ m) ≡ hush (plain g d m)) → (m : List ℕ) → hush (plain g d′ m) ≡ hush (with′ (plain g d) n is m)
+  pub one-list : plain g d′ n ≡ is → ((m : List ℕ) → m ≢ n → hush (plain g d′ m) ≡ hush (plain g d m)) → (m : List ℕ) → hush (plain g d′ m) ≡ hush (with′ (plain g d) n is m)
   unfolding with′
   one-list o f m = go (Members.decide (same m n))
     where
@@ -62,9 +62,9 @@ module _ (g : Geometry) (d d′ n : List ℕ) where
   abbrev mine : List ℕ
   mine = Promises.ownEntries g d n ++ Promises.ownEntries g d′ n
 
-  record Left : Type 0 where
-    untouched : (i : ℕ) → Aside g (Promises.ownEntries g d n ++ Promises.ownEntries g d′ n) (Promises.ownGranules g d′ n) i → byte d′ i ≡ byte d i
-    spare : (b u : ℕ) → b < g .blocks → g .units ≤ u → digit (byte d′ (256 * g .start + b)) u ≡ digit (byte d (256 * g .start + b)) u
+  pub record Left : Type 0 where
+    pub untouched : (i : ℕ) → Aside g (Promises.ownEntries g d n ++ Promises.ownEntries g d′ n) (Promises.ownGranules g d′ n) i → byte d′ i ≡ byte d i
+    pub spare : (b u : ℕ) → b < g .blocks → g .units ≤ u → digit (byte d′ (256 * g .start + b)) u ≡ digit (byte d (256 * g .start + b)) u
 
   left : Places.Fits g d → (xs ns : List ℕ) → Touch g xs ns d d′ → ((x : ℕ) → In x xs → In x (Promises.ownEntries g d n ++ Promises.ownEntries g d′ n))
       → ((m : ℕ) → In m ns → In m (Promises.ownGranules g d′ n)) → ((b : ℕ) → b < g .blocks → In ((256 * g .start + b) / granuleBytes) ns → ⊥) → Left
@@ -83,14 +83,14 @@ module _ (g : Geometry) (d d′ n : List ℕ) where
   left-before : Places.Fits g d → (p : ℕ) → named g d n ≡ p ∷ [] → Touch g (chain g d p) [] d d′ → Left
   left-before k p e t = left k (chain g d p) [] t (λ x i. entries-before p x e i) (λ m i. Members.none-in i) (λ b h i. Members.none-in i)
 
-  left-after : Places.Fits g d → (p : ℕ) → named g d′ n ≡ p ∷ [] → Touch g (chain g d′ p) [] d d′ → Left
+  pub left-after : Places.Fits g d → (p : ℕ) → named g d′ n ≡ p ∷ [] → Touch g (chain g d′ p) [] d d′ → Left
   left-after k p e t = left k (chain g d′ p) [] t (λ x i. entries-after p x e i) (λ m i. Members.none-in i) (λ b h i. Members.none-in i)
 
 -- a call by a handle: what is said of the file at its slot is said of the file of its name
 module _ (g : Geometry) (d d′ : List ℕ) (h : Handle) (w : Holds g d h) (is : Found) where
   by-handle : plain g d′ (nameOf g d (h .slot)) ≡ is
       → ((m : List ℕ) → m ≢ nameOf g d (h .slot) → hush (plain g d′ m) ≡ hush (plain g d m))
-      → ((m : List ℕ) → m ≢ nameOf g d (h .slot) → Others.beyond g d′ m ≡ Others.beyond g d m)
+      → ((m : List ℕ) → m ≢ nameOf g d (h .slot) → beyond g d′ m ≡ beyond g d m)
       → ((m : List ℕ) → m ≢ nameOf g d (h .slot) → named g d′ m ≡ named g d m)
       → Left g d d′ (nameOf g d (h .slot))
       → length (freeGranules g d) + length (owned g d (h .slot)) ≡ length (freeGranules g d′) + Promises.granulesIn is

@@ -16,7 +16,7 @@ use Rattle.meaning.specs.Consistent.{consistent}
 use Rattle.meaning.specs.Free.{freeSlots, freeGranules}
 use Rattle.meaning.specs.Create.{create, newSlot}
 use Rattle.meaning.specs.LookUp.{named, missing}
-use Rattle.meaning.specs.Plain.{Found, found, nothing, plain, hush, reserved, bornAs}
+use Rattle.meaning.specs.Plain.{Found, found, nothing, plain, hush, reserved, bornAs, beyond}
 use Rattle.meaning.specs.declared.Geometry.{Geometry}
 use Rattle.meaning.specs.declared.NewFile.{NewFile}
 use Rattle.laws.specs.Members
@@ -37,7 +37,7 @@ pub record CreateMeans (g : Geometry) (d d′ n : List ℕ) (f : NewFile) : Type
   pub free′ : freeGranules g d′ ≡ freeGranules g d
   pub born : plain g d′ n ≡ found (bornAs f)
   pub others : (m : List ℕ) → m ≢ n → hush (plain g d′ m) ≡ hush (plain g d m)
-  pub beyond′ : (m : List ℕ) → m ≢ n → Others.beyond g d′ m ≡ Others.beyond g d m
+  pub beyond′ : (m : List ℕ) → m ≢ n → beyond g d′ m ≡ beyond g d m
   pub names′ : (m : List ℕ) → m ≢ n → named g d′ m ≡ named g d m
   pub was : plain g d n ≡ nothing
 
@@ -63,7 +63,7 @@ create-made g d c k x t z n w f free =
       was = Named.plain-none g d n free;
     }
 
-none-missing : (g : Geometry) (d : List ℕ) → Sound g d → (n : List ℕ) → T (missing g d n) → (q : ℕ) → File g d q → nameOf g d q ≢ n
+pub none-missing : (g : Geometry) (d : List ℕ) → Sound g d → (n : List ℕ) → T (missing g d n) → (q : ℕ) → File g d q → nameOf g d q ≢ n
 none-missing g d c n t q f e = subst (λ (l : List ℕ). T (eqb (length l) 0)) (ap (named g d) (sym e) ∙ Named.named-is g d c q f) t
 
 new-of : (a b : Bool) → T a → (a && not b) ≡ false → T b

@@ -186,7 +186,7 @@ opened g d c n len checking code r k t =
       file = fileAt g d p;
       called = Named.plain-is g d c p n (z .file) (z .name′);
       live = record { slot = z .file .slot; used = Facts.file-in-use g d p (z .file); first = Facts.file-first g d p (z .file); name′ = z .name′ };
-      ranged = record { at = omega arith; some = r .0; most = r .1; level = level p (full g d p checking code) };
+      ranged = record { at = omega arith; length′ = r; level = level p (full g d p checking code) };
       name″ = refl;
       start = refl;
       length′ = refl;
@@ -235,7 +235,7 @@ made g d n f checking e o = rw (e, Members.T-true {b = missing g d n} (fresh-of 
 pub create-serves : (g : Geometry) (d n : List ℕ) (f : NewFile) (checking : Bool) → create g d n f checking .0 .number ≡ 0 → Creates g d n f checking
 create-serves g d n f checking e = record {
   old = λ o. (old o, Passing.old-stands g d n f checking o);
-  new = λ o. (Changing.create-becomes g d n f checking e o, live o, subst InRange (sym (made g d n f checking e o)) (record { at = omega arith; some = range .some; most = range .most; level = omega arith }));
+  new = λ o. (Changing.create-becomes g d n f checking e o, live o, subst InRange (sym (made g d n f checking e o)) (record { at = omega arith; length′ = range .length′; level = omega arith }));
   handle′ = λ o. made g d n f checking e o;
 }
   where
@@ -250,7 +250,7 @@ create-serves g d n f checking e = record {
         let found′ : T (missing g d n) → ⊥ = old-says (missing g d n) (rw e at o) in
         let admitted : T (admits g d (slotOf g d n) checking (f .main)) = yes-T (admits g d (slotOf g d n) checking (f .main)) (λ t.
         p₅ .0 (Members.all-two (not (missing g d n)) (not (admits g d (slotOf g d n) checking (f .main))) (not-T (missing g d n) found′) t)) in
-        rw (e, Members.no-false {b = missing g d n} found′) (opened g d (w .0 .sound) n (f .len) checking (f .main) (range .some, range .most) found′ admitted)
+        rw (e, Members.no-false {b = missing g d n} found′) (opened g d (w .0 .sound) n (f .len) checking (f .main) (range .length′) found′ admitted)
 
     live : create g d n f checking .0 .old ≡ false → Live g (create g d n f checking .1) (create g d n f checking .0 .handle)
     live o =

@@ -14,7 +14,7 @@ use Rattle.meaning.specs.Chain.{chain, owned}
 use Rattle.meaning.specs.Consistent.{consistent}
 use Rattle.meaning.specs.Growth.{takeOne, Grown, grown, noSlot, grow, andThen, fails, diskOr}
 use Rattle.meaning.specs.Free.{freeGranules, freeSlots}
-use Rattle.meaning.specs.Plain.{fileAt, plain, hush, reserved, Found, found, allottedTo}
+use Rattle.meaning.specs.Plain.{fileAt, plain, hush, reserved, Found, found, allottedTo, beyond}
 use Rattle.meaning.specs.LookUp.{named}
 use Rattle.meaning.specs.Allot.{allot}
 use Rattle.meaning.specs.Refusals.{first, cannotGrow, larger, lacking}
@@ -56,7 +56,7 @@ pub record Grew (g : Geometry) (d d′ : List ℕ) (p k : ℕ) : Type 0 where
   pub attributes : fileAt g d′ p .attributes ≡ fileAt g d p .attributes
   pub bytes : fileAt g d′ p .bytes ≡ fileAt g d p .bytes
   pub others : (n : List ℕ) → n ≢ nameOf g d p → hush (plain g d′ n) ≡ hush (plain g d n)
-  pub beyond′ : (n : List ℕ) → n ≢ nameOf g d p → Others.beyond g d′ n ≡ Others.beyond g d n
+  pub beyond′ : (n : List ℕ) → n ≢ nameOf g d p → beyond g d′ n ≡ beyond g d n
   pub names′ : (n : List ℕ) → n ≢ nameOf g d p → named g d′ n ≡ named g d n
   pub small : Small d → Small d′
   pub touch : Touch g (chain g d′ p) [] d d′
@@ -185,7 +185,7 @@ pub record AllotMeans (g : Geometry) (d d′ : List ℕ) (p k : ℕ) : Type 0 wh
   pub reserved′ : reserved g d′ ≡ reserved g d
   pub own : plain g d′ (nameOf g d p) ≡ found (allottedTo k (fileAt g d p))
   pub others : (n : List ℕ) → n ≢ nameOf g d p → hush (plain g d′ n) ≡ hush (plain g d n)
-  pub beyond′ : (n : List ℕ) → n ≢ nameOf g d p → Others.beyond g d′ n ≡ Others.beyond g d n
+  pub beyond′ : (n : List ℕ) → n ≢ nameOf g d p → beyond g d′ n ≡ beyond g d n
   pub names′ : (n : List ℕ) → n ≢ nameOf g d p → named g d′ n ≡ named g d n
   pub touch : Touch g (chain g d′ p) [] d d′
   pub file′ : File g d′ p

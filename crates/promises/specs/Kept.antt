@@ -10,7 +10,7 @@ use Rattle.meaning.specs.declared.Geometry.{Geometry}
 use Rattle.laws.specs.Members
 use Rattle.laws.specs.Facts
 use Rattle.laws.specs.Fault
-use Rattle.promises.specs.Promises.{Call, number, leaves, AllBring, Stays, Serves, Refuses, EveryCall, Along, EveryState, EveryWrite, OldTwo}
+use Rattle.promises.specs.Promises.{Call, number, leaves, AllBring, Stays, Serves, Refuses, EveryCall, Along, EveryState, GatAlone, EveryWrite, OldTwo}
 use Rattle.promises.specs.Refusing
 use Rattle.promises.specs.Passing
 use Rattle.promises.specs.Staying
@@ -18,6 +18,7 @@ use Rattle.promises.specs.Changing
 use Rattle.promises.specs.Finding
 use Rattle.promises.specs.Sector
 use Rattle.promises.specs.Telling
+use Rattle.promises.specs.Measuring
 use Rattle.promises.specs.ReadBack
 
 module _ (g : Geometry) (d : List ℕ) where
@@ -51,6 +52,7 @@ module _ (g : Geometry) (d : List ℕ) where
   serves (Call.kills h) b e = Changing.kill-serves g d h e
   serves (Call.lists i) b e = list-serves i e
   serves Call.counts b e = counts-serves e
+  serves Call.measures b e = Measuring.measure-serves g d e
 
   pub refuses : (c : Call) → number g d c ≢ 0 → Refuses g d c
   unfolding number
@@ -66,6 +68,7 @@ module _ (g : Geometry) (d : List ℕ) where
   refuses (Call.kills h) k = Passing.kill-refuses g d h
   refuses (Call.lists i) k = Passing.list-refuses g d i k
   refuses Call.counts k = Passing.counts-refuses g d k
+  refuses Call.measures k = Measuring.measure-refuses g d k
 
 -- whatever the disk, whatever the call
 pub every-call : EveryCall
@@ -76,7 +79,7 @@ every-call g d c = record {
   numbers = Refusing.numbers g d c;
 }
 
-stays-after : (g : Geometry) (a b c : List ℕ) → Stays g a b → Stays g b c → Stays g a c
+pub stays-after : (g : Geometry) (a b c : List ℕ) → Stays g a b → Stays g b c → Stays g a c
 stays-after g a b c x y = record { long = y .long ∙ x .long; good = y .good; reserved′ = y .reserved′ ∙ x .reserved′; tally = y .tally }
 
 along : (g : Geometry) (d₀ d : List ℕ) → Stays g d₀ d → (cs : List Call) → AllBring cs → Along g d₀ d cs
@@ -87,6 +90,10 @@ along g d₀ d s (c ∷ cs) b =
 -- from each state reached
 pub every-state : EveryState
 every-state g d k cs b = along g d d (Staying.stays-same g d k) cs b
+
+-- free space hangs on the GAT's bits in range and on nothing else
+pub gat-alone : GatAlone
+gat-alone g d d′ e same = Measuring.alone g d d′ e same
 
 -- write, then read
 pub every-write : EveryWrite

@@ -13,7 +13,7 @@ use Rattle.meaning.specs.Consistent.{consistent}
 use Rattle.meaning.specs.Free.{freeGranules}
 use Rattle.meaning.specs.LookUp.{named}
 use Rattle.meaning.specs.Kill.{kill, killed}
-use Rattle.meaning.specs.Plain.{nothing, plain, hush, reserved}
+use Rattle.meaning.specs.Plain.{nothing, plain, hush, reserved, beyond}
 use Rattle.meaning.specs.declared.Geometry.{Geometry}
 use Rattle.meaning.specs.declared.Handle.{Handle}
 use Rattle.laws.specs.Members
@@ -33,7 +33,7 @@ pub record KillMeans (g : Geometry) (d d′ : List ℕ) (p : ℕ) : Type 0 where
   pub free : length (freeGranules g d′) ≡ length (freeGranules g d) + length (owned g d p)
   pub gone : plain g d′ (nameOf g d p) ≡ nothing
   pub others : (n : List ℕ) → n ≢ nameOf g d p → hush (plain g d′ n) ≡ hush (plain g d n)
-  pub beyond′ : (n : List ℕ) → n ≢ nameOf g d p → Others.beyond g d′ n ≡ Others.beyond g d n
+  pub beyond′ : (n : List ℕ) → n ≢ nameOf g d p → beyond g d′ n ≡ beyond g d n
   pub names′ : (n : List ℕ) → n ≢ nameOf g d p → named g d′ n ≡ named g d n
   pub touch : Touch.Touch g (chain g d p) [] d d′
 

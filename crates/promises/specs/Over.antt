@@ -48,11 +48,6 @@ module _ (O r : List ℕ) (at : ℕ) where
       ∙ getD-append-add r (drop (at + length r) O) (j - (at + length r)) 0 ∙ getD-drop (at + length r) O (j - (at + length r)) 0 ∙ ap (λ (x : ℕ). getD O x 0) (omega arith)
 
 -- what a mode makes of the size
-pub after-end : (m : Mode) (old end : ℕ) → end ≤ sizeAfter m old end
-unfolding sizeAfter
-after-end Sequential old end = omega arith
-after-end Random old end = omega arith
-
 pub after-max : (m : Mode) (old end : ℕ) → sizeAfter m old end ≤ max old end
 unfolding sizeAfter
 after-max Sequential old end = omega arith

@@ -57,7 +57,7 @@ first-of a b t = Members.and-l a (b && true) t
 
 -- a handle in range, moved within the range
 pub further : (h : Handle) (at : ℕ) → InRange h → at ≤ highest → InRange (movedTo h at)
-further h at r l = record { at = l; some = r .some; most = r .most; level = r .level }
+further h at r l = record { at = l; length′ = r .length′; level = r .level }
 
 -- Refused ---------------------------------------------------------------------------------------------------------------------------
 
@@ -83,6 +83,7 @@ module _ (g : Geometry) (d : List ℕ) where
   as-stood (Call.kills h) k = other-case (kill g d h .0 .number) _ d k
   as-stood (Call.lists i) k = refl
   as-stood Call.counts k = refl
+  as-stood Call.measures k = refl
 
   -- and so it is where create found an old file
   pub old-stands : (n : List ℕ) (f : NewFile) (checking : Bool) → create g d n f checking .0 .old ≡ true → create g d n f checking .1 ≡ d

@@ -13,7 +13,7 @@ use lib.ListN.{length, getD, take, drop}
 use lib.Seq.{slice}
 use Rattle.meaning.specs.Lists.{keep, each, firstOr}
 use Rattle.meaning.specs.Bits.{bit, digit}
-use Rattle.meaning.specs.Layout.{fitsGeometry, granules, granuleBytes, granuleSectors, sectors, highest, sectorNumbers, mostBlocks, mostUnits, slots, isSlot, hit, byte, granulesFor}
+use Rattle.meaning.specs.Layout.{fitsGeometry, granules, granuleBytes, granuleSectors, sectors, highest, sectorNumbers, mostBlocks, mostUnits, slots, isSlot, hit, byte, taken, granulesFor}
 use Rattle.meaning.specs.Names.{hash, wellFormed}
 use Rattle.meaning.specs.Entries.{inUse, extension, nameOf, sectorCount, runs}
 use Rattle.meaning.specs.Chain.{chain, owned, files}
@@ -32,13 +32,12 @@ use Rattle.meaning.specs.Trim.{trim}
 use Rattle.meaning.specs.Kill.{kill}
 use Rattle.meaning.specs.Listing
 use Rattle.meaning.specs.Listing.{listed, noFile}
-use Rattle.meaning.specs.Plain.{File, Found, found, nothing, fileAt, plain, with′, hush, bornAs, writtenTo, allottedTo, trimmed, AreBytes, reserved}
+use Rattle.meaning.specs.FreeSpace.{freeSpace}
+use Rattle.meaning.specs.Plain.{File, Found, found, nothing, fileAt, plain, with′, isSystem, hush, beyond, Aside, bornAs, writtenTo, allottedTo, trimmed, AreBytes, CodesFit, reserved}
 use Rattle.meaning.specs.declared.Geometry.{Geometry}
 use Rattle.meaning.specs.declared.Handle.{Handle}
 use Rattle.meaning.specs.declared.NewFile.{NewFile}
 use Rattle.meaning.specs.declared.Mode.{Mode}
-use Rattle.laws.specs.Others.{beyond}
-use Rattle.laws.specs.Touch.{Aside}
 
 -- Calls -----------------------------------------------------------------------------------------------------------------------------
 
@@ -56,6 +55,7 @@ pub data Call : Type 0 where
   kills : (h : Handle) → Call
   lists : (i : ℕ) → Call
   counts : Call
+  measures : Call
 
 -- the number that it answers, 0 where it is accepted
 unfoldable pub number : Geometry → List ℕ → Call → ℕ
@@ -71,6 +71,7 @@ number g d (trims h) = trim g d h .0 .number
 number g d (kills h) = kill g d h .0 .number
 number g d (lists i) = Listing.list g d i .number
 number g d counts = Listing.counts g d .number
+number g d measures = freeSpace g d .number
 
 -- the image that it leaves
 unfoldable pub leaves : Geometry → List ℕ → Call → List ℕ
@@ -86,13 +87,14 @@ leaves g d (trims h) = trim g d h .1
 leaves g d (kills h) = kill g d h .1
 leaves g d (lists i) = d
 leaves g d counts = d
+leaves g d measures = d
 
 -- what a caller's types see to: a record to be written is of bytes, the codes of a new file have 16 bits
 abbrev pub Brings : Call → Type 0
 Brings checks = Unit {0}
 Brings (looksUp n) = Unit {0}
 Brings (opens n len checking code) = Unit {0}
-Brings (creates n f checking) = (f .main < 65536) × (f .worker < 65536)
+Brings (creates n f checking) = CodesFit f
 Brings (reads h b) = Unit {0}
 Brings (readsSector h k) = Unit {0}
 Brings (writes m h b) = AreBytes b
@@ -101,6 +103,7 @@ Brings (trims h) = Unit {0}
 Brings (kills h) = Unit {0}
 Brings (lists i) = Unit {0}
 Brings counts = Unit {0}
+Brings measures = Unit {0}
 
 -- 1. What no call changes -------------------------------------------------------------------------------------------------------------
 
@@ -153,11 +156,14 @@ pub record Live (g : Geometry) (d : List ℕ) (h : Handle) : Type 0 where
   pub first : T (not (extension g d (h .slot)))
   pub name′ : nameOf g d (h .slot) ≡ h .name
 
--- position 0 to 1,966,080, record length 1 to 256, level 0 to 7
+-- record length 1 to 256
+abbrev pub LengthInRange : ℕ → Type 0
+LengthInRange len = (1 ≤ len) × (len ≤ 256)
+
+-- position 0 to 1,966,080, level 0 to 7
 pub record InRange (h : Handle) : Type 0 where
   pub at : h .at ≤ highest
-  pub some : 1 ≤ h .len
-  pub most : h .len ≤ 256
+  pub length′ : LengthInRange (h .len)
   pub level : h .level ≤ 7
 
 -- An accepted call by a handle has a file of the handle's name, the one at its slot; `u` is what the call makes of it. The handle
@@ -173,9 +179,6 @@ pub record Changes (g : Geometry) (d d′ : List ℕ) (h h′ : Handle) (u : Fil
 -- 3. What an accepted call answers ------------------------------------------------------------------------------------------------------
 
 -- what the attributes of a plain file say (bytes 00, 01, 02, 04 and 10 to 13 of its entry)
-abbrev pub isSystem : File → Bool
-isSystem f = bit 6 (getD (f .attributes) 0 0)
-
 abbrev pub storedLevel : File → ℕ
 storedLevel f = getD (f .attributes) 0 0 % 8
 
@@ -263,6 +266,21 @@ pub record Counted (g : Geometry) (d : List ℕ) : Type 0 where
   pub told : (n : List ℕ) (f : File) → plain g d n ≡ found f → T (not (isSystem f))
       → (i : ℕ) × (i < length (listed g d)) × (nameOf g d (ith g d i) ≡ n) × ((j : ℕ) → j < length (listed g d) → nameOf g d (ith g d j) ≡ n → j ≡ i)
 
+-- n granules from a on are on the disk and free, one after the other
+pub record Stretch (g : Geometry) (d : List ℕ) (a n : ℕ) : Type 0 where
+  pub inside : a + n ≤ granules g
+  pub clear : (k : ℕ) → a ≤ k → k < a + n → taken g d k ≡ false
+
+-- Free space (02 §5): the number of clear GAT bits in range, and the length of the longest free stretch, on any image of the right length. On
+-- a consistent disk the number is that of the disk's granules less those reserved and those owned (`tally`), and the listing's FREE (`listing`).
+pub record Measured (g : Geometry) (d : List ℕ) : Type 0 where
+  pub clear : freeSpace g d .free ≡ length (freeGranules g d)
+  pub tally : consistent g d ≡ true → freeSpace g d .free + length (reserved g d) + length (each (owned g d) (files g d)) ≡ granules g
+  pub listing : consistent g d ≡ true → Listing.counts g d .free ≡ freeSpace g d .free
+  pub first : ℕ
+  pub stretch : Stretch g d first (freeSpace g d .longest)
+  pub none-longer : (a n : ℕ) → Stretch g d a n → n ≤ freeSpace g d .longest
+
 -- What each accepted call answers and does
 abbrev pub Serves : Geometry → List ℕ → Call → Type 0
 Serves g d checks = (fitsGeometry g d ≡ true) × (consistent g d ≡ true)
@@ -278,6 +296,7 @@ Serves g d (trims h) = Changes g d (trim g d h .1) h (trim g d h .0 .handle) (λ
 Serves g d (kills h) = Changes g d (kill g d h .1) h (kill g d h .0 .handle) (λ f. nothing) h
 Serves g d (lists i) = Lists g d i
 Serves g d counts = Counted g d
+Serves g d measures = Measured g d
 
 -- 4. What a refused call leaves: nothing is written ---------------------------------------------------------------------------------------
 
@@ -302,6 +321,7 @@ Refuses g d (trims h) = trim g d h .0 .handle ≡ h
 Refuses g d (kills h) = kill g d h .0 .handle ≡ h
 Refuses g d (lists i) = Listing.list g d i ≡ noFile (Listing.list g d i .number)
 Refuses g d counts = (Listing.counts g d .files ≡ 0) × (Listing.counts g d .free ≡ 0)
+Refuses g d measures = (freeSpace g d .free ≡ 0) × (freeSpace g d .longest ≡ 0)
 
 -- 5. Refusal numbers, in order of test ------------------------------------------------------------------------------------------------------
 
@@ -328,13 +348,12 @@ pub record Fits (g : Geometry) (d : List ℕ) : Type 0 where
   pub long : length d ≡ granules g * granuleBytes
   pub ten : g .start + 10 ≤ sectors g
 
--- day 0 to 31, month and year offset 0 to 15, record length 1 to 256
+-- day 0 to 31, month and year offset 0 to 15
 pub record NewInRange (f : NewFile) : Type 0 where
   pub day : f .day ≤ 31
   pub month : f .month ≤ 15
   pub year : f .year ≤ 15
-  pub some : 1 ≤ f .len
-  pub most : f .len ≤ 256
+  pub length′ : LengthInRange (f .len)
 
 -- Fewer permitted slots are free than the rule needs: taking the granules one at a time, the file at slot p has put an extension into each
 -- slot that was free, and then comes to a granule that is a run beyond the fourth of its last entry.
@@ -354,7 +373,7 @@ module _ (g : Geometry) (d : List ℕ) where
   faultCases [] rest = rest
   faultCases (k ∷ ks) rest = (k, fault g d .number ≡ k) ∷ faultCases ks rest
 
-  -- 1 geometry or image length not as above, then the faults: every call
+  -- 1 geometry or image length not as above, then the faults: every call but free space, which gives 1 only
   abbrev pub diskCases : Table → Table
   diskCases rest = (1, (Fits g d → ⊥)) ∷ faultCases faultNumbers rest
 
@@ -392,7 +411,7 @@ module _ (g : Geometry) (d : List ℕ) where
   table checks = diskCases []
   table (looksUp n) = diskCases ((3, wellFormed n ≡ false) ∷ (4, NoFile n) ∷ [])
   table (opens n len checking code) =
-      diskCases ((12, ((1 ≤ len) × (len ≤ 256) → ⊥)) ∷ (3, wellFormed n ≡ false) ∷ (4, NoFile n) ∷ (5, WrongCode n checking code) ∷ [])
+      diskCases ((12, (LengthInRange len → ⊥)) ∷ (3, wellFormed n ≡ false) ∷ (4, NoFile n) ∷ (5, WrongCode n checking code) ∷ [])
   table (creates n f checking) =
       diskCases ((12, (NewInRange f → ⊥)) ∷ (3, wellFormed n ≡ false) ∷ (5, WrongCode n checking (f .main)) ∷ (8, NoFile n × (freeSlots g d ≡ [])) ∷ [])
   table (reads h b) =
@@ -407,6 +426,7 @@ module _ (g : Geometry) (d : List ℕ) where
   table (kills h) = handleCases h (InRange h) (barred 1 h ∷ [])
   table (lists i) = diskCases []
   table counts = diskCases []
+  table measures = (1, (Fits g d → ⊥)) ∷ []
 
 -- "The split answers together are exactly the old 2" (02 §2): a disk has no fault exactly if it is consistent.
 abbrev pub OldTwo : Type 0
@@ -437,7 +457,13 @@ Along g d₀ d (c ∷ cs) = Stays g d₀ d × Promise g d c × Along g d₀ (lea
 abbrev pub EveryState : Type 0
 EveryState = (g : Geometry) (d : List ℕ) → Good g d → (cs : List Call) → AllBring cs → Along g d d cs
 
--- 7. Read back ------------------------------------------------------------------------------------------------------------------------------
+-- 7. Free space from the GAT alone -----------------------------------------------------------------------------------------------------------
+
+-- Two images of one length whose granules are taken alike get the same answer, whatever else they hold, directory and spare GAT bits included.
+abbrev pub GatAlone : Type 0
+GatAlone = (g : Geometry) (d d′ : List ℕ) → length d′ ≡ length d → ((n : ℕ) → n < granules g → taken g d′ n ≡ taken g d n) → freeSpace g d′ ≡ freeSpace g d
+
+-- 8. Read back ------------------------------------------------------------------------------------------------------------------------------
 
 -- After an accepted write a read of that length at that position, by the same handle, is accepted and answers the record, whatever the
 -- buffer; and every byte of the file outside the record and the gap is as it was, the gap zero.

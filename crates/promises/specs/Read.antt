@@ -6,7 +6,7 @@ use native.Mathlib.Omega.{arith}
 use lib.ListN.{length, getD, take, drop, length-take, length-drop, length-map}
 use lib.Seq.{getD-take, getD-drop, ext-getD}
 use lib.Dec.{ltb, not-T, nltb→le}
-use Rattle.meaning.specs.Lists.{count}
+use Rattle.meaning.specs.Lists.{count, length-count}
 use Rattle.meaning.specs.Layout.{byte}
 use Rattle.meaning.specs.Chain.{place}
 use Rattle.meaning.specs.Entries.{sizeOf}
@@ -15,7 +15,6 @@ use Rattle.meaning.specs.Plain.{fileAt}
 use Rattle.meaning.specs.declared.Geometry.{Geometry}
 use Rattle.meaning.specs.declared.Handle.{Handle}
 use Rattle.laws.specs.Passed
-use Rattle.laws.specs.Others.{length-count}
 use Rattle.laws.specs.Words.{words}
 use Rattle.promises.specs.Over
 

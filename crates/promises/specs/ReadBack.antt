@@ -16,6 +16,7 @@ use Rattle.meaning.specs.declared.Handle.{Handle}
 use Rattle.meaning.specs.declared.Mode.{Mode}
 use Rattle.laws.specs.Members
 use Rattle.laws.specs.Facts
+use Rattle.laws.specs.Rewrite
 use Rattle.promises.specs.Promises.{ReadsBack, Call, Rows, number, table, Fits, Live}
 use Rattle.promises.specs.Refusing
 use Rattle.promises.specs.Over
@@ -36,12 +37,12 @@ module _ (m : Mode) (O : List ℕ) (at : ℕ) (r : List ℕ) where
     where
       long : length (take (length r) (drop at (overwritten m O at r))) ≡ length r
       long = length-take (length r) (drop at (overwritten m O at r)) ∙ ap (min (length r)) (length-drop at (overwritten m O at r) ∙ ap (λ (x : ℕ). x - at) (Over.overwritten-length m O at r))
-          ∙ omega (arith, Over.after-end m (length O) (at + length r))
+          ∙ omega (arith, Rewrite.after-end m (length O) (at + length r))
 
       point : (j : ℕ) → j < length r → getD (take (length r) (drop at (overwritten m O at r))) j 0 ≡ getD r j 0
       point j h =
           getD-take (length r) (drop at (overwritten m O at r)) j 0 h ∙ getD-drop at (overwritten m O at r) j 0
-          ∙ over-at (at + j) (omega (arith, Over.after-end m (length O) (at + length r))) ∙ Over.whole-new O r at (at + j) (omega arith) (omega arith)
+          ∙ over-at (at + j) (omega (arith, Rewrite.after-end m (length O) (at + length r))) ∙ Over.whole-new O r at (at + j) (omega arith) (omega arith)
           ∙ ap (λ (x : ℕ). getD r x 0) (omega arith)
 
   over-kept : (j : ℕ) → j < length O → j < S → (j < at) ⊎ (at + length r ≤ j) → getD (overwritten m O at r) j 0 ≡ getD O j 0
@@ -49,7 +50,7 @@ module _ (m : Mode) (O : List ℕ) (at : ℕ) (r : List ℕ) where
   over-kept j h l (inr a) = over-at j l ∙ Over.whole-rest O r at j a
 
   over-gap : (j : ℕ) → length O ≤ j → j < at → getD (overwritten m O at r) j 0 ≡ 0
-  over-gap j a b = over-at j (omega (arith, Over.after-end m (length O) (at + length r))) ∙ Over.whole-zero O r at j a b
+  over-gap j a b = over-at j (omega (arith, Rewrite.after-end m (length O) (at + length r))) ∙ Over.whole-zero O r at j a b
 
 module _ (g : Geometry) (d : List ℕ) (m : Mode) (h : Handle) (b : List ℕ) (e : writeRecord g d m h b .0 .number ≡ 0) where
   abbrev d′ : List ℕ
@@ -124,7 +125,7 @@ module _ (g : Geometry) (d : List ℕ) (m : Mode) (h : Handle) (b : List ℕ) (e
           ((Refusing.checked-of g d′ (λ n. Refusing.checked-fits g d (w .0 .0 .0 .0 .0 .0) (λ k. n (fits′ k))) (wrote .consistent′), λ n. w .0 .0 .0 .0 .0 .1 (λ t. n (t .0, room))), λ n. n live),
           λ l. w .0 .0 .0 .1 (inl (omega arith)),
         ),
-        λ l. omega (arith, size, Over.after-end m (length O) (h .at + h .len)),
+        λ l. omega (arith, size, Rewrite.after-end m (length O) (h .at + h .len)),
       )
 
   accepted : (b′ : List ℕ) → h .len ≤ length b′ → readRecord g (writeRecord g d m h b .1) h b′ .0 .number ≡ 0

@@ -25,7 +25,8 @@ use Rattle.meaning.specs.Allot.{allot, allotRefusals, toAllot}
 use Rattle.meaning.specs.Trim.{trim, trimRefusals}
 use Rattle.meaning.specs.Kill.{kill, killRefusals}
 use Rattle.meaning.specs.Listing
-use Rattle.meaning.specs.Plain.{File, found, nothing, fileAt, foundIn, plain}
+use Rattle.meaning.specs.FreeSpace.{spaceRefusals, freeSpace}
+use Rattle.meaning.specs.Plain.{File, found, nothing, fileAt, foundIn, plain, isSystem}
 use Rattle.meaning.specs.declared.Geometry.{Geometry}
 use Rattle.meaning.specs.declared.Handle.{Handle}
 use Rattle.meaning.specs.declared.NewFile.{NewFile}
@@ -39,9 +40,10 @@ use Rattle.laws.specs.Passed
 use Rattle.laws.specs.Fault
 use Rattle.laws.specs.Others
 use Rattle.laws.specs.Words.{words}
+use Rattle.laws.specs.Named
 use Rattle.promises.specs.Sticking
 use Rattle.promises.specs.Promises
-use Rattle.promises.specs.Promises.{Table, Rows, Exactly, Call, number, table, Fits, InRange, NewInRange, Live, Full}
+use Rattle.promises.specs.Promises.{Table, Rows, Exactly, Call, number, table, Fits, InRange, NewInRange, Live, Full, LengthInRange}
 
 -- Any list of refusals ------------------------------------------------------------------------------------------------------------
 
@@ -126,7 +128,7 @@ exactly cs rs w n = rows cs rs true (Unit {0}) (λ t. tt, λ t. tt) w (Members.d
 
 -- The cases -------------------------------------------------------------------------------------------------------------------------
 
-not-iff : (b : Bool) {C : Type 0} → (T b ↔ C) → (T (not b) ↔ (C → ⊥))
+pub not-iff : (b : Bool) {C : Type 0} → (T b ↔ C) → (T (not b) ↔ (C → ⊥))
 not-iff b i = (λ t c. T-not b t (i .1 c), λ n. not-T b (λ t. n (i .0 t)))
 
 false-iff : (b : Bool) → T (not b) ↔ (b ≡ false)
@@ -184,6 +186,10 @@ fits-iff g d = (fore, back)
         let i : T (leb (g .start + 10) (sectors g)) = le→leb _ _ (k .ten) in
         search Members.and-i depth 9
 
+pub length-iff : (len : ℕ) → T (goodLength len) ↔ LengthInRange len
+unfolding goodLength
+length-iff len = both-iff (leb 1 len) (leb len 256) (le-iff 1 len) (le-iff len 256)
+
 pub range-iff : (h : Handle) → T (inRange h) ↔ InRange h
 unfolding words
 range-iff h = (fore, back)
@@ -191,16 +197,14 @@ range-iff h = (fore, back)
     fore : T (inRange h) → InRange h
     fore t =
         let a : T (leb (h .at) highest) = search parts depth 6 in
-        let b : T (leb 1 (h .len)) = search parts depth 6 in
-        let c : T (leb (h .len) 256) = search parts depth 6 in
+        let b : T (goodLength (h .len)) = search parts depth 6 in
         let e : T (leb (h .level) 7) = search parts depth 6 in
-        record { at = leb→le _ _ a; some = leb→le _ _ b; most = leb→le _ _ c; level = leb→le _ _ e }
+        record { at = leb→le _ _ a; length′ = length-iff (h .len) .0 b; level = leb→le _ _ e }
 
     back : InRange h → T (inRange h)
     back r =
         let a : T (leb (h .at) highest) = le→leb _ _ (r .at) in
-        let b : T (leb 1 (h .len)) = le→leb _ _ (r .some) in
-        let c : T (leb (h .len) 256) = le→leb _ _ (r .most) in
+        let b : T (goodLength (h .len)) = length-iff (h .len) .1 (r .length′) in
         let e : T (leb (h .level) 7) = le→leb _ _ (r .level) in
         search Members.and-i depth 6
 
@@ -213,22 +217,16 @@ new-iff f = (fore, back)
         let a : T (leb (f .day) 31) = search parts depth 7 in
         let b : T (leb (f .month) 15) = search parts depth 7 in
         let c : T (leb (f .year) 15) = search parts depth 7 in
-        let e : T (leb 1 (f .len)) = search parts depth 7 in
-        let h : T (leb (f .len) 256) = search parts depth 7 in
-        record { day = leb→le _ _ a; month = leb→le _ _ b; year = leb→le _ _ c; some = leb→le _ _ e; most = leb→le _ _ h }
+        let e : T (goodLength (f .len)) = search parts depth 7 in
+        record { day = leb→le _ _ a; month = leb→le _ _ b; year = leb→le _ _ c; length′ = length-iff (f .len) .0 e }
 
     back : NewInRange f → T (newInRange f)
     back r =
         let a : T (leb (f .day) 31) = le→leb _ _ (r .day) in
         let b : T (leb (f .month) 15) = le→leb _ _ (r .month) in
         let c : T (leb (f .year) 15) = le→leb _ _ (r .year) in
-        let e : T (leb 1 (f .len)) = le→leb _ _ (r .some) in
-        let h : T (leb (f .len) 256) = le→leb _ _ (r .most) in
+        let e : T (goodLength (f .len)) = length-iff (f .len) .1 (r .length′) in
         search Members.and-i depth 7
-
-pub length-iff : (len : ℕ) → T (goodLength len) ↔ ((1 ≤ len) × (len ≤ 256))
-unfolding goodLength
-length-iff len = both-iff (leb 1 len) (leb len 256) (le-iff 1 len) (le-iff len 256)
 
 pub live-iff : (g : Geometry) (d : List ℕ) (h : Handle) → T (fresh g d h) ↔ Live g d h
 unfolding words
@@ -249,7 +247,7 @@ live-iff g d h = (fore, back)
         let e : T (same (nameOf g d (h .slot)) (h .name)) = subst (λ (l : List ℕ). T (same (nameOf g d (h .slot)) l)) (r .name′) (Members.same-refl (nameOf g d (h .slot))) in
         search Members.and-i depth 6
 
-found-not : (f : File) → found f ≡ nothing → ⊥
+pub found-not : (f : File) → found f ≡ nothing → ⊥
 found-not f e = let z : _≡_ {A = ℕ} 0 1 = cc in omega arith
 
 -- 4: no file of that name
@@ -323,12 +321,9 @@ wrong-iff g d n checking code = go (named g d n)
     go [] k = absurd (k tt)
     go (x ∷ xs) k = (
       λ t. let y = admits-iff g d x checking code .0 t in (fileAt g d x, refl, y .0, y .1),
-      λ y. let e : fileAt g d x ≡ y .0 = same-file (fileAt g d x) (y .0) (y .1) in
+      λ y. let e : fileAt g d x ≡ y .0 = Named.found-inj (fileAt g d x) (y .0) (y .1) in
           admits-iff g d x checking code .1 (rw e (y .2), rw e (y .3)),
     )
-      where
-        same-file : (a b : File) → found a ≡ found b → a ≡ b
-        same-file a b e = cc
 
 wrong-created : (g : Geometry) (d n : List ℕ) (checking : Bool) (code : ℕ)
     → T (all (not (missing g d n) ∷ not (admits g d (slotOf g d n) checking code) ∷ [])) ↔ Promises.WrongCode g d n checking code
@@ -351,7 +346,7 @@ fails-iff noSlot = (λ t. refl, λ e. tt)
 -- The calls -------------------------------------------------------------------------------------------------------------------------
 
 module _ (g : Geometry) (d : List ℕ) where
-  no-fit : T (not (fitsGeometry g d)) ↔ (Fits g d → ⊥)
+  pub no-fit : T (not (fitsGeometry g d)) ↔ (Fits g d → ⊥)
   no-fit = not-iff (fitsGeometry g d) (fits-iff g d)
 
   -- E, and none of these numbers is the fault's
@@ -414,7 +409,7 @@ module _ (g : Geometry) (d : List ℕ) where
   stale : (h : Handle) → T (not (fresh g d h)) ↔ (Live g d h → ⊥)
   stale h = not-iff (fresh g d h) (live-iff g d h)
 
-  barred-iff : (most : ℕ) (h : Handle) → T (any (ltb most (h .level) ∷ system g d (h .slot) ∷ [])) ↔ ((most < h .level) ⊎ T (Promises.isSystem (fileAt g d (h .slot))))
+  barred-iff : (most : ℕ) (h : Handle) → T (any (ltb most (h .level) ∷ system g d (h .slot) ∷ [])) ↔ ((most < h .level) ⊎ T (isSystem (fileAt g d (h .slot))))
   unfolding fileAt
   barred-iff most h = either-iff (ltb most (h .level)) (system g d (h .slot)) (lt-iff most (h .level)) (λ t. t, λ t. t)
 
@@ -429,7 +424,7 @@ module _ (g : Geometry) (d : List ℕ) where
   holds b i n = Passed.yes-T b (λ t. n (λ x. T-not b t (i .1 x)))
 
   writes : (h : Handle) → Checked → ((Live g d h → ⊥) → ⊥)
-      → ((4 < h .level) ⊎ T (Promises.isSystem (fileAt g d (h .slot))) → ⊥) → Writes h
+      → ((4 < h .level) ⊎ T (isSystem (fileAt g d (h .slot))) → ⊥) → Writes h
   unfolding fileAt
   writes h c l u =
       let v = live-iff g d h .0 (holds (fresh g d h) (live-iff g d h) l) in
@@ -572,6 +567,10 @@ module _ (g : Geometry) (d : List ℕ) where
       go n (Members.Test.holds t) = rw (Members.T-true {b = eqb n 0} t) (first-number (lib.ListN.drop i (Listing.listed g d)) ∙ sym (eqb→eq n 0 t))
       go n (Members.Test.fails t) = rw (Members.no-false {b = eqb n 0} t)
 
+  measure-numbers : Exactly (freeSpace g d .number) (table g d Call.measures)
+  unfolding freeSpace
+  measure-numbers = exactly (spaceRefusals g d) (table g d Call.measures) (refl, λ x. no-fit, tt) tt
+
   pub numbers : (c : Call) → Exactly (number g d c) (table g d c)
   unfolding number Listing.counts
   numbers Call.checks = check-numbers
@@ -586,3 +585,4 @@ module _ (g : Geometry) (d : List ℕ) where
   numbers (Call.kills h) = kill-numbers h
   numbers (Call.lists i) = subst (λ (n : ℕ). Exactly n (Promises.diskCases g d [])) (sym (list-number i)) check-numbers
   numbers Call.counts = check-numbers
+  numbers Call.measures = measure-numbers

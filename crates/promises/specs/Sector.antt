@@ -47,7 +47,7 @@ called g d h w = Named.plain-is g d (w .sound) (h .slot) (h .name) (Passing.live
 read-has : (g : Geometry) (d : List ℕ) (h : Handle) (b : List ℕ) → readRecord g d h b .0 .number ≡ 0 → Has g d h × (h .at + h .len ≤ sizeOf g d (h .slot)) × InRange h
 unfolding readRecord
 read-has g d h b e =
-    let w = Passing.handle-passed g d h (all (inRange h ∷ leb (h .len) (length b) ∷ [])) (notForReading g d h ∷ (10, ltb (sizeOf g d (h .slot)) (h .at + h .len)) ∷ []) e in
+    let w = Passing.handle-passed g d h (all (inRange h ∷ leb (h .len) (length b) ∷ [])) (notForReading h ∷ (10, ltb (sizeOf g d (h .slot)) (h .at + h .len)) ∷ []) e in
     let p₅ = passed 6 _ _ (omega arith) (w .2) in let p₆ = passed 10 _ _ (omega arith) (p₅ .1) in
     (w .0, nltb→le (sizeOf g d (h .slot)) (h .at + h .len) (not-T (ltb (sizeOf g d (h .slot)) (h .at + h .len)) (p₆ .0)), Refusing.range-iff h .0 (Passing.first-of (inRange h) (leb (h .len) (length b)) (w .1)))
 
@@ -147,7 +147,7 @@ record Handed (g : Geometry) (d : List ℕ) (h : Handle) (k : ℕ) : Type 0 wher
 handed : (g : Geometry) (d : List ℕ) (h : Handle) (k : ℕ) → readSector g d h k .number ≡ 0 → Handed g d h k
 unfolding readSector
 handed g d h k e =
-    let w = Passing.handle-passed g d h (all (inRange h ∷ ltb k sectorNumbers ∷ [])) (notForReading g d h ∷ (10, leb (sectorCount g d (h .slot)) k) ∷ []) e in
+    let w = Passing.handle-passed g d h (all (inRange h ∷ ltb k sectorNumbers ∷ [])) (notForReading h ∷ (10, leb (sectorCount g d (h .slot)) k) ∷ []) e in
     let p₅ = passed 6 _ _ (omega arith) (w .2) in let p₆ = passed 10 _ _ (omega arith) (p₅ .1) in
     record {
       has = w .0;

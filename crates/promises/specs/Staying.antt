@@ -138,6 +138,7 @@ module _ (g : Geometry) (d : List ℕ) (k : Good g d) where
       served (Call.kills h) b e = unfold leaves number in kill-stays h e
       served (Call.lists i) b e = unfold leaves in stays-same
       served Call.counts b e = unfold leaves in stays-same
+      served Call.measures b e = unfold leaves in stays-same
 
       go : Dec (number g d c ≡ 0) → Stays g d (leaves g d c)
       go (yes e) = served c b e

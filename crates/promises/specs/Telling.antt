@@ -15,7 +15,7 @@ use Rattle.meaning.specs.Refusals.{check}
 use Rattle.meaning.specs.Listing
 use Rattle.meaning.specs.Listing.{shown, listed, tellFirst, noFile}
 use Rattle.meaning.specs.Plain
-use Rattle.meaning.specs.Plain.{found, nothing, fileAt, plain}
+use Rattle.meaning.specs.Plain.{found, nothing, fileAt, plain, isSystem}
 use Rattle.meaning.specs.declared.Geometry.{Geometry}
 use Rattle.laws.specs.Members
 use Rattle.laws.specs.Members.{In, Distinct}
@@ -26,7 +26,7 @@ use Rattle.laws.specs.Others
 use Rattle.laws.specs.Store
 use Rattle.laws.specs.Rising
 use Rattle.laws.specs.Rising.{Rising}
-use Rattle.promises.specs.Promises.{Lists, Counted, ith, isSystem}
+use Rattle.promises.specs.Promises.{Lists, Counted, ith}
 use Rattle.promises.specs.Refusing
 
 module _ (g : Geometry) (d : List ℕ) where
@@ -72,9 +72,6 @@ module _ (g : Geometry) (d : List ℕ) where
       user : (p : ℕ) → T (not (system g d p)) → T (not (isSystem (fileAt g d p)))
       user p t = unfold fileAt in t
 
-  found-inj : (a b : Plain.File) → found a ≡ found b → a ≡ b
-  found-inj a b e = cc
-
   told : Sound g d → (n : List ℕ) (f : Plain.File) → plain g d n ≡ found f → T (not (isSystem f))
       → (i : ℕ) × (i < length (listed g d)) × (nameOf g d (ith g d i) ≡ n) × ((j : ℕ) → j < length (listed g d) → nameOf g d (ith g d j) ≡ n → j ≡ i)
   told c n f e t = go (Named.look g d c n)
@@ -86,7 +83,7 @@ module _ (g : Geometry) (d : List ℕ) where
           → (i : ℕ) × (i < length (listed g d)) × (nameOf g d (ith g d i) ≡ n) × ((j : ℕ) → j < length (listed g d) → nameOf g d (ith g d j) ≡ n → j ≡ i)
       go (inl w) =
           let p = w .0 in
-          let q : f ≡ fileAt g d p = found-inj f (fileAt g d p) (sym e ∙ Named.plain-is g d c p n (w .1) (w .2)) in
+          let q : f ≡ fileAt g d p = Named.found-inj f (fileAt g d p) (sym e ∙ Named.plain-is g d c p n (w .1) (w .2)) in
           let k = Rising.in-getD (in-listed p (w .1) (user p q)) in (
             k .0,
             k .1,

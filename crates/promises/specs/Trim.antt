@@ -12,7 +12,7 @@ use Rattle.meaning.specs.Layout.{granules, field, granuleBytes, granulesFor}
 use Rattle.meaning.specs.Entries.{system, nameOf, sizeOf, keepsSpace}
 use Rattle.meaning.specs.Chain.{chain, owned}
 use Rattle.meaning.specs.Consistent.{consistent}
-use Rattle.meaning.specs.Plain.{fileAt, plain, hush, reserved, Found, found, trimmed}
+use Rattle.meaning.specs.Plain.{fileAt, plain, hush, reserved, Found, found, trimmed, beyond}
 use Rattle.meaning.specs.LookUp.{named}
 use Rattle.meaning.specs.Drop.{dropOne}
 use Rattle.meaning.specs.Free.{freeGranules}
@@ -53,7 +53,7 @@ pub record Shrank (g : Geometry) (d d′ : List ℕ) (p k : ℕ) : Type 0 where
   pub attributes : fileAt g d′ p .attributes ≡ fileAt g d p .attributes
   pub bytes : fileAt g d′ p .bytes ≡ fileAt g d p .bytes
   pub others : (n : List ℕ) → n ≢ nameOf g d p → hush (plain g d′ n) ≡ hush (plain g d n)
-  pub beyond′ : (n : List ℕ) → n ≢ nameOf g d p → Others.beyond g d′ n ≡ Others.beyond g d n
+  pub beyond′ : (n : List ℕ) → n ≢ nameOf g d p → beyond g d′ n ≡ beyond g d n
   pub names′ : (n : List ℕ) → n ≢ nameOf g d p → named g d′ n ≡ named g d n
   pub touch : Touch g (chain g d p) [] d d′
   pub entries : (x : ℕ) → In x (chain g d′ p) → In x (chain g d p)
@@ -154,7 +154,7 @@ pub record TrimMeans (g : Geometry) (d d′ : List ℕ) (p : ℕ) : Type 0 where
   pub reserved′ : reserved g d′ ≡ reserved g d
   pub own : plain g d′ (nameOf g d p) ≡ found (trimmed (fileAt g d p))
   pub others : (n : List ℕ) → n ≢ nameOf g d p → hush (plain g d′ n) ≡ hush (plain g d n)
-  pub beyond′ : (n : List ℕ) → n ≢ nameOf g d p → Others.beyond g d′ n ≡ Others.beyond g d n
+  pub beyond′ : (n : List ℕ) → n ≢ nameOf g d p → beyond g d′ n ≡ beyond g d n
   pub names′ : (n : List ℕ) → n ≢ nameOf g d p → named g d′ n ≡ named g d n
   pub touch : Touch g (chain g d p) [] d d′
   pub file′ : File g d′ p

@@ -29,9 +29,6 @@ pub in-directory : (g : Geometry) (d : List ℕ) (i : ℕ) → g .start % granul
 unfolding words
 in-directory g d i e f a b = Members.in-count (i / granuleBytes) (g .start / granuleSectors) (directorySectors g d / granuleSectors) (omega (arith, f .fives)) (omega (arith, f .fives))
 
-size-says : (size : ℕ) → (size + 255) / 256 % 256 + 256 * ((size + 255) / 256 / 256) ≡ (size + 255) / 256
-size-says size = omega arith
-
 module _ (g : Geometry) (d : List ℕ) (c : Sound g d) (k : Places.Fits g d) (p : ℕ) (f : File g d p) (u : T (not (system g d p)))
     (at size : ℕ) (r : List ℕ) (end : at + length r ≤ granuleBytes * length (owned g d p)) (fit : size ≤ granuleBytes * length (owned g d p)) where
   abbrev old : ℕ

@@ -7,7 +7,7 @@ use Prim.Native.Nat.{ℕ, _+_, _-_, _*_, _≤_, _<_, max}
 use native.Mathlib.Omega.{arith}
 use lib.Dec.{T, leb, leb→le}
 use lib.ListN.{length-set, length, getD, set, take, replicate, length-append, length-take, length-map, length-replicate}
-use Rattle.meaning.specs.Lists.{count, all}
+use Rattle.meaning.specs.Lists.{count, all, length-count}
 use Rattle.meaning.specs.Layout
 use Rattle.meaning.specs.Bits
 use Rattle.meaning.specs.Layout.{granules, byte, field, directoryGranules, granuleBytes, granulesFor, highest}
@@ -20,7 +20,7 @@ use Rattle.meaning.specs.Write.{writeRecord, sizeAfter, store, withSize}
 use Rattle.meaning.specs.Refusals.{larger, lacking, cannotGrow, inRange}
 use Rattle.meaning.specs.Plain
 use Rattle.meaning.specs.Free.{freeGranules}
-use Rattle.meaning.specs.Plain.{Found, found, fileAt, plain, hush, reserved, writtenTo, overwritten}
+use Rattle.meaning.specs.Plain.{Found, found, fileAt, plain, hush, reserved, writtenTo, overwritten, beyond}
 use Rattle.meaning.specs.declared.Geometry.{Geometry}
 use Rattle.meaning.specs.declared.Handle.{Handle}
 use Rattle.meaning.specs.declared.Mode.{Mode}
@@ -37,7 +37,7 @@ use Rattle.laws.specs.Touch
 use Rattle.laws.specs.Touch.{Touch}
 use Rattle.laws.specs.Store.{store-length}
 use Rattle.laws.specs.Rewrite
-use Rattle.laws.specs.Others.{length-count, file-length}
+use Rattle.laws.specs.Others.{file-length}
 use Rattle.laws.specs.Words.{words}
 use Rattle.promises.specs.Grow
 use Rattle.promises.specs.Grow.{Grew}
@@ -51,7 +51,7 @@ module _ (g : Geometry) (d : List ℕ) (c : Sound g d) (k : Places.Fits g d) (p 
   size = sizeAfter m (sizeOf g d p) (at + length r)
 
   end : at + length r ≤ granuleBytes * length (owned g d p)
-  end = omega (arith, fit, Over.after-end m (sizeOf g d p) (at + length r))
+  end = omega (arith, fit, Rewrite.after-end m (sizeOf g d p) (at + length r))
 
   abbrev d′ : List ℕ
   d′ = withSize g d (store (place g d p) (store (place g d p) d (sizeOf g d p) (replicate (at - sizeOf g d p) 0)) at r) p size
@@ -120,7 +120,7 @@ pub record Wrote (g : Geometry) (d d′ : List ℕ) (p : ℕ) (w : Plain.File) :
   pub reserved′ : reserved g d′ ≡ reserved g d
   pub own : plain g d′ (nameOf g d p) ≡ found w
   pub others : (n : List ℕ) → n ≢ nameOf g d p → hush (plain g d′ n) ≡ hush (plain g d n)
-  pub beyond′ : (n : List ℕ) → n ≢ nameOf g d p → Others.beyond g d′ n ≡ Others.beyond g d n
+  pub beyond′ : (n : List ℕ) → n ≢ nameOf g d p → beyond g d′ n ≡ beyond g d n
   pub names′ : (n : List ℕ) → n ≢ nameOf g d p → named g d′ n ≡ named g d n
   pub touch : Touch g (chain g d′ p) (owned g d′ p) d d′
   pub apart : (n : ℕ) → In n (owned g d′ p) → In n (directoryGranules g d′) → ⊥

@@ -13,7 +13,7 @@ use Rattle.meaning.specs.Samples.{opened, three, sample, puls, leer, held}
 use Rattle.meaning.specs.declared.NewFile.{NewFile}
 use Rattle.meaning.specs.declared.Mode.the-variants.{Sequential, Random}
 use Rattle.promises.specs.Promises.{Call, number, Good, Along}
-use Rattle.promises.specs.Promises.Call.{checks, looksUp, opens, creates, reads, readsSector, writes, allots, trims, kills, lists, counts}
+use Rattle.promises.specs.Promises.Call.{checks, looksUp, opens, creates, reads, readsSector, writes, allots, trims, kills, lists, counts, measures}
 use Rattle.promises.specs.Kept
 
 -- `stays`, `EveryState`: a good disk
@@ -89,6 +89,10 @@ list-accepted = refl
 counts-accepted : number three sample counts ≡ 0
 unfolding opened number
 counts-accepted = refl
+
+measures-accepted : number three sample measures ≡ 0
+unfolding opened number
+measures-accepted = refl
 
 -- and `EveryWrite`: a byte of gap, a byte in the granule owned, and one in a granule that the write takes
 pub write-accepted : number three sample (writes Random (held 0x80 leer 1279 2 4) two) ≡ 0

@@ -10,8 +10,8 @@ use lib.ListN.{length, getD, take, drop, length-map}
 use lib.Seq.{drop-cons, sets, sets-eq}
 use lib.Dec.{eqb, ltb, leb}
 use borrow.Author.Tests.{leb-true, leb-false, ltb-true, ltb-false, eq-eqb, ne-eqb, not-false}
-use Rattle.meaning.specs.Lists.{count, all, same}
-use Rattle.meaning.specs.Layout.{byte, sectorNumbers}
+use Rattle.meaning.specs.Lists.{count, all, same, length-count}
+use Rattle.meaning.specs.Layout.{byte, sectorNumbers, granuleBytes}
 use Rattle.meaning.specs.Chain.{owned, place}
 use Rattle.meaning.specs.Entries.{sizeOf, sectorCount, endByte}
 use Rattle.meaning.specs.Read.{fetch, readRefusals, readRecord, sectorRefusals, sectorBytes, readSector}
@@ -22,12 +22,12 @@ use Rattle.meaning.specs.declared.Answer.{Answer}
 use Rattle.meaning.specs.declared.Part.{Part}
 use native.Mathlib.Decide.{ℕ-discrete}
 use Rattle.layout.specs.Room.{Slot}
-use Rattle.layout.proofs.Lists.{length-count, all-at, and-l, first-at}
+use Rattle.layout.proofs.Lists.{all-at, and-l, first-at, count-append}
 use Rattle.handle.proofs.Laws.{ownRow, passed, walks, ranges, handle-stop, handle-then}
 use Rattle.seek.specs.Seek.{Sound, Used}
 use Rattle.seek.proofs.Sound.{owned-low}
 use Rattle.copy.proofs.Laws.{sets-append}
-use Rattle.read.specs.Part.{File, Owned, InSector, partOf}
+use Rattle.read.specs.Part.{File, Owned, InGranule, partOf}
 use borrow.Rule.Slice.Shared.{byByte}
 
 -- bytes whose places follow one another
@@ -44,33 +44,26 @@ map-run d f i a (suc n) h l =
     ∙ ap (λ (r : List ℕ). byte d a ∷ r) (ih ∙ ap (λ (k : ℕ). take n (drop k d)) (add-one a))
     ∙ sym (ap (take (suc n)) (drop-cons d a 0 (omega arith)))
 
-pub count-append : (i m n : ℕ) → count i (m + n) ≡ count i m ++ count (i + m) n
-count-append i zero n = let e : i ≡ i + 0 = omega arith in ap (count i) (zero-add n) ∙ ap (λ (k : ℕ). count k n) e
-count-append i (suc m) n =
-    let e : suc m + n ≡ suc (m + n) = omega arith in
-    let f : i + 1 + m ≡ i + suc m = omega arith in
-    ap (count i) e ∙ ap (λ (r : List ℕ). i ∷ r) (count-append (i + 1) m n ∙ ap (λ (k : ℕ). count (i + 1) m ++ count k n) f)
-
 map-both : (f : ℕ → ℕ) (xs ys : List ℕ) → map f (xs ++ ys) ≡ map f xs ++ map f ys
 map-both f [] ys = refl
 map-both f (x ∷ xs) ys = ap (λ (r : List ℕ). f x ∷ r) (map-both f xs ys)
 
 module _ (g : Geometry) (d : List ℕ) where
-  pub place-next : (s i t : ℕ) → i % 1280 + t < 1280 → place g d s (i + t) ≡ place g d s i + t
+  pub place-next : (s i t : ℕ) → i % granuleBytes + t < granuleBytes → place g d s (i + t) ≡ place g d s i + t
   unfolding place
   place-next s i t h =
-      let e : (i + t) / 1280 ≡ i / 1280 = omega arith in
-      let f : (i + t) % 1280 ≡ i % 1280 + t = omega arith in
-      ap (λ (k : ℕ). 1280 * getD (owned g d s) k 0 + (i + t) % 1280) e ∙ (let z : 1280 * getD (owned g d s) (i / 1280) 0 + (i + t) % 1280 ≡ 1280 * getD (owned g d s) (i / 1280) 0 + i % 1280 + t = omega arith in z)
+      let e : (i + t) / granuleBytes ≡ i / granuleBytes = omega arith in
+      let f : (i + t) % granuleBytes ≡ i % granuleBytes + t = omega arith in
+      ap (λ (k : ℕ). granuleBytes * getD (owned g d s) k 0 + (i + t) % granuleBytes) e ∙ (let z : granuleBytes * getD (owned g d s) (i / granuleBytes) 0 + (i + t) % granuleBytes ≡ granuleBytes * getD (owned g d s) (i / granuleBytes) 0 + i % granuleBytes + t = omega arith in z)
 
-  pub place-fits : (s i n : ℕ) → File g d s → Owned g d s i n → InSector i n → place g d s i + n ≤ length d
+  pub place-fits : (s i n : ℕ) → File g d s → Owned g d s i n → InGranule i n → place g d s i + n ≤ length d
   unfolding place
   place-fits s i n f o x =
       let a = o .owned in let b = o .some in let y = x .inside in let w = f .sound .room .whole in
-      let l = owned-low g d (f .sound) s (f .used) (i / 1280) (omega arith) in
+      let l = owned-low g d (f .sound) s (f .used) (i / granuleBytes) (omega arith) in
       omega arith
 
-  pub fetch-part : (s i n : ℕ) → File g d s → Owned g d s i n → InSector i n → fetch g d s i n ≡ take n (drop (place g d s i) d)
+  pub fetch-part : (s i n : ℕ) → File g d s → Owned g d s i n → InGranule i n → fetch g d s i n ≡ take n (drop (place g d s i) d)
   unfolding fetch
   fetch-part s i n f o x =
       let y = x .inside in
@@ -110,14 +103,14 @@ module _ (g : Geometry) (d : List ℕ) where
 
   -- the tests of a reading call: those of its handle, then 10; q is the call's test 12 as the definition has it
   pub reading-stop : (h : Handle) (q : Bool) (rest : List (ℕ × Bool)) {ranged : Bool} {n : ℕ} → ranged ≡ q
-      → n ≡ first (handleRefusals g d h ranged (notForReading g d h ∷ [])) → (n ≡ 0 → ⊥) → n ≡ first (handleRefusals g d h q (notForReading g d h ∷ rest))
+      → n ≡ first (handleRefusals g d h ranged (notForReading h ∷ [])) → (n ≡ 0 → ⊥) → n ≡ first (handleRefusals g d h q (notForReading h ∷ rest))
   reading-stop h q rest r e z =
-      handle-stop g d h q (notForReading g d h ∷ []) rest (e ∙ ap (λ (t : Bool). first (handleRefusals g d h t (notForReading g d h ∷ []))) r) z
+      handle-stop g d h q (notForReading h ∷ []) rest (e ∙ ap (λ (t : Bool). first (handleRefusals g d h t (notForReading h ∷ []))) r) z
 
   pub reading-then : (h : Handle) (q : Bool) (rest : List (ℕ × Bool)) {ranged : Bool} {n : ℕ} → ranged ≡ q
-      → n ≡ first (handleRefusals g d h ranged (notForReading g d h ∷ [])) → n ≡ 0 → first (handleRefusals g d h q (notForReading g d h ∷ rest)) ≡ first rest
+      → n ≡ first (handleRefusals g d h ranged (notForReading h ∷ [])) → n ≡ 0 → first (handleRefusals g d h q (notForReading h ∷ rest)) ≡ first rest
   reading-then h q rest r e z =
-      handle-then g d h q (notForReading g d h ∷ []) rest refl (e ∙ ap (λ (t : Bool). first (handleRefusals g d h t (notForReading g d h ∷ []))) r) z
+      handle-then g d h q (notForReading h ∷ []) rest refl (e ∙ ap (λ (t : Bool). first (handleRefusals g d h t (notForReading h ∷ []))) r) z
 
   -- refused and accepted
   pub refused : (h : Handle) (b : List ℕ) {no : ℕ} → no ≡ first (readRefusals g d h (length b)) → (no ≡ 0 → ⊥)
@@ -194,8 +187,8 @@ module _ (g : Geometry) (d : List ℕ) where
     pub file : File g d (h .slot)
     pub held : k < sectorCount g d (h .slot)
     pub some : 1 ≤ sectorBytes g d (h .slot) k
-    pub owned : 256 * k + sectorBytes g d (h .slot) k ≤ 1280 * length (owned g d (h .slot))
-    pub low : k < 7680
+    pub owned : 256 * k + sectorBytes g d (h .slot) k ≤ granuleBytes * length (owned g d (h .slot))
+    pub low : k < sectorNumbers
 
   -- the part ends inside the image
   pub sector-lies : (h : Handle) (k : ℕ) {n : ℕ} → Sector h k → n ≡ sectorBytes g d (h .slot) k → n ≤ 256 → place g d (h .slot) (256 * k) + n ≤ length d
@@ -208,7 +201,7 @@ module _ (g : Geometry) (d : List ℕ) where
       let t : (j : ℕ) → getD (sectorRefusals g d h k) j (0, false) .1 ≡ false = λ j. first-at (sectorRefusals g d h k) (sym e ∙ z) refl j in
       let p = passed g d h (all (inRange h ∷ ltb k sectorNumbers ∷ [])) _ refl e z in
       let w = walks g d h _ p in
-      let l = ltb-true k 7680 (all-at _ (p .ranged′) 1) in
+      let l = ltb-true k sectorNumbers (all-at _ (p .ranged′) 1) in
       let c = leb-false (sectorCount g d (h .slot)) k (t (ownRow 3)) in
       let b = bytes-fit (h .slot) k (omega arith) in
       let y = w .0 .size (h .slot) (p .slot) (p .first′) in

@@ -4,6 +4,7 @@ use mathlib.Core.Bool.{Bool, true}
 use mathlib.Core.List.{List}
 use Prim.Native.Nat.{ℕ, _+_, _-_, _*_, _%_, _<_, _≤_}
 use lib.ListN.{length, take, drop}
+use Rattle.meaning.specs.Layout.{granuleBytes}
 use Rattle.meaning.specs.Chain.{owned}
 use Rattle.meaning.specs.declared.Geometry.{Geometry}
 use Rattle.meaning.specs.declared.Part.{Part}
@@ -16,11 +17,12 @@ pub record File (g : Geometry) (d : List ℕ) (s : ℕ) : Type 0 where
 -- bytes i to i + n are owned
 pub record Owned (g : Geometry) (d : List ℕ) (s i n : ℕ) : Type 0 where
   pub some : 1 ≤ n
-  pub owned : i + n ≤ 1280 * length (owned g d s)
+  pub owned : i + n ≤ granuleBytes * length (owned g d s)
   pub high : i + n ≤ 16777215
 
-pub record InSector (i n : ℕ) : Type 0 where
-  pub inside : i % 256 + n ≤ 256
+-- they lie in one granule, so they stand beside one another
+pub record InGranule (i n : ℕ) : Type 0 where
+  pub inside : i % granuleBytes + n ≤ granuleBytes
 
 -- what a part of an image is: the number beside it, and its bytes
 unfoldable pub partOf : List ℕ → Part → ℕ × List ℕ

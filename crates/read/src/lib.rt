@@ -16,9 +16,9 @@ ghost use Rattle.meaning.specs.Read.{fetch, readRefusals, readRecord, sectorRef
 ghost use Rattle.meaning.specs.Entries.{sectorCount};
 ghost use Rattle.layout.specs.Room.{Room, Slot};
 ghost use Rattle.meaning.specs.Refusals.{first, check, inRange};
-ghost use Rattle.read.specs.Part.{File, Owned, InSector, partOf, Lies};
+ghost use Rattle.read.specs.Part.{File, Owned, InGranule, partOf, Lies};
 
-// n bytes of the file from byte i on, all in one sector, go to the buffer at `to`: one walk along the chain, one copy.
+// n bytes of the file from byte i on, all in one granule, go to the buffer at `to`: one walk along the chain, one copy.
 pub fn read_part(
     image: &[u8],
     g: Geometry,
@@ -28,19 +28,19 @@ pub fn read_part(
     buffer: &mut [u8],
     to: usize,
 )
-    requires { ⌜ File g (now image) s × Owned g (now image) s i n × InSector i n × (to + n ≤ length (now buffer)) ⌝ }
+    requires { ⌜ File g (now image) s × Owned g (now image) s i n × InGranule i n × (to + n ≤ length (now buffer)) ⌝ }
     ensures { λ _. ⌜ now (buffer .exit) ≡ sets (now (buffer .entry)) to (fetch g (now (image .entry)) s i n) ⌝ }
 {
     let p = seek::place(image, g, s, i);
     copy::put_part(buffer, to, image, p, n);
 }
 
-// n bytes, at most 256, of the file from byte i on go to the buffer's start: sector by sector, so two at the most.
+// n bytes, at most 256, of the file from byte i on go to the buffer's start: granule by granule, so two parts at the most.
 pub fn read_bytes(image: &[u8], g: Geometry, s: usize, i: usize, n: usize, buffer: &mut [u8])
     requires { ⌜ File g (now image) s × Owned g (now image) s i n × (n ≤ 256) × (n ≤ length (now buffer)) ⌝ }
     ensures { λ _. ⌜ now (buffer .exit) ≡ fetch g (now (image .entry)) s i n ++ drop n (now (buffer .entry)) ⌝ }
 {
-    let first = 256 - i % 256;
+    let first = layout::GRANULE_BYTES - i % layout::GRANULE_BYTES;
     if n <= first {
         read_part(image, g, s, i, n, buffer, 0);
         return;

@@ -10,7 +10,7 @@ use lib.Seq.{getD-set-other}
 use lib.Dec.{eqb}
 use borrow.Author.Tests.{eqb-true}
 use Rattle.meaning.specs.Lists.{count, each, keep, through}
-use Rattle.meaning.specs.Layout.{directorySectors, field, granules, slots, isSlot, freeGranule, gatAt, byte}
+use Rattle.meaning.specs.Layout.{directorySectors, field, granules, slots, isSlot, freeGranule, gatAt, byte, granuleBytes}
 use Rattle.meaning.specs.Bits.{bit, withoutBit}
 use Rattle.meaning.specs.Entries.{inUse, extension, primary, marker, link, block, runs, runsFrom, runStart, runLength, runGranules, entryGranules, sizeOf}
 use Rattle.meaning.specs.Chain.{chainFrom, chain, owned, place}
@@ -134,7 +134,7 @@ module _ (g : Geometry) (d d′ : List ℕ) (snd : Sound g d) (e : Same g d d′
 
   pub same-place : (s i : ℕ) → Used g d s → place g d′ s i ≡ place g d s i
   unfolding place
-  same-place s i u = ap (λ (l : List ℕ). 1280 * getD l (i / 1280) 0 + i % 1280) (same-owned s u)
+  same-place s i u = ap (λ (l : List ℕ). granuleBytes * getD l (i / granuleBytes) 0 + i % granuleBytes) (same-owned s u)
 
 pub same-sym : (g : Geometry) (d d′ : List ℕ) → Room g d → Same g d d′ → Same g d′ d
 same-sym g d d′ r e =

@@ -11,15 +11,15 @@ use lib.ListN.{length, getD, take, drop, length-append, List·getD-append}
 use lib.Seq.{getD-append-add}
 use lib.Dec.{eqb, ltb}
 use borrow.Author.Tests.{lt-ltb, le-ltb, eq-eqb, ne-eqb, ltb-true, ltb-false, eqb-true}
-use Rattle.meaning.specs.Lists.{count, keep, each, all}
+use Rattle.meaning.specs.Lists.{count, keep, each, all, length-count}
 use Rattle.meaning.specs.Layout.{isSlot, slots, directorySectors}
-use Rattle.meaning.specs.Entries.{runs, runStart, runLength, runGranules, entryGranules, marker, link}
+use Rattle.meaning.specs.Entries.{block, runs, runsFrom, runStart, runLength, runGranules, entryGranules, marker, link}
 use Rattle.meaning.specs.Chain.{chainFrom}
 use Rattle.meaning.specs.declared.Geometry.{Geometry}
-use Rattle.layout.proofs.Laws.{left-more, left-none}
-use Rattle.layout.proofs.Lists.{length-count, getD-count, le-or-lt}
+use Rattle.layout.proofs.Laws.{left-more, left-none, runs-more, runs-none}
+use Rattle.layout.proofs.Lists.{getD-count, le-or-lt}
 use Rattle.seek.proofs.Below.{allBelow, all-below}
-use Rattle.seek.specs.Seek.{seekIn, onward}
+use Rattle.seek.specs.Seek.{Sound, Used, Sought, seekIn, onward}
 use Rattle.seek.specs.declared.Seek.{Seek}
 
 pub seek-here : (xs ys : List ℕ) (k : ℕ) → k < length xs → seekIn (xs ++ ys) k ≡ record { here = true; at = getD xs k 0 }
@@ -131,6 +131,39 @@ module _ (g : Geometry) (d : List ℕ) where
   unfolding chainFrom
   chain-none left s h = rw h
 
+  -- runs counted from j on are at least j
+  runs-low : (s m j : ℕ) → j ≤ runsFrom g d s m j
+  runs-low s zero j = rw (runs-none g d s j) (omega arith)
+  runs-low s (suc m) j = rw (runs-more g d s m j) (by (eqb (block g d s j) 0xff) (runs-low s m (j + 1)))
+    where
+      by : (b : Bool) → j + 1 ≤ runsFrom g d s m (j + 1) → j ≤ cond b j (runsFrom g d s m (j + 1))
+      by true h = omega arith
+      by false h = omega arith
+
+  -- j pairs are runs, and whether the next one is
+  pub record Pairs (s j : ℕ) : Type 0 where
+    pub rest : runs g d s ≡ runsFrom g d s (4 - j) j
+
+  pub pairs-start : (s : ℕ) → Pairs s 0
+  unfolding runs
+  pairs-start s = record { rest = refl }
+
+  next-pair : {s j : ℕ} → Pairs s j → j < 4 → runs g d s ≡ cond (eqb (block g d s j) 0xff) j (runsFrom g d s (4 - (j + 1)) (j + 1))
+  next-pair {s} {j} p h = p .rest ∙ ap (λ (m : ℕ). runsFrom g d s m j) (left-more h) ∙ runs-more g d s (4 - (j + 1)) j
+
+  pub pairs-stop : {s j b : ℕ} → Pairs s j → j < 4 → b ≡ block g d s j → b ≡ 0xff → runs g d s ≤ j
+  pairs-stop {s} {j} p h e q =
+      let w = next-pair p h ∙ ap (λ (t : Bool). cond t j (runsFrom g d s (4 - (j + 1)) (j + 1))) (eq-eqb (block g d s j) 0xff (sym e ∙ q)) in omega arith
+
+  pub pairs-step : {s j b : ℕ} → Pairs s j → j < 4 → b ≡ block g d s j → (b ≡ 0xff → ⊥) → Pairs s (j + 1) × (j < runs g d s)
+  pairs-step {s} {j} p h e q =
+      let w : runs g d s ≡ runsFrom g d s (4 - (j + 1)) (j + 1) = next-pair p h ∙ ap (λ (t : Bool). cond t j (runsFrom g d s (4 - (j + 1)) (j + 1))) (ne-eqb (block g d s j) 0xff (λ z. q (e ∙ z))) in
+      let l = runs-low s (4 - (j + 1)) (j + 1) in
+      (record { rest = w }, omega arith)
+
+  pub pairs-end : {s j : ℕ} → Pairs s j → 4 ≤ j → runs g d s ≤ j
+  pairs-end {s} {j} p h = let w = p .rest ∙ ap (λ (m : ℕ). runsFrom g d s m j) (left-none h) ∙ runs-none g d s j in omega arith
+
   -- n runs in all, at run j with `left` to go
   pub record Seeking (s k n j left : ℕ) : Type 0 where
     pub rest : seekIn (entryGranules g d s) k ≡ seekIn (each (runGranules g d s) (count j (n - j))) left
@@ -157,3 +190,43 @@ module _ (g : Geometry) (d : List ℕ) where
   pub seeking-end : {s k n j left : ℕ} → Seeking s k n j left → n ≤ j → _≡_ {A = Seek} (record { here = false; at = left }) (seekIn (entryGranules g d s) k)
   seeking-end {s} {k} {n} {j} {left} i h =
       sym (i .rest ∙ ap (λ (m : ℕ). seekIn (each (runGranules g d s) (count j m)) left) (left-none h) ∙ seek-none left)
+
+  -- of the file from slot s on, granule `seek` from slot `at` on is the one sought
+  pub record Walking (s k left at seek more : ℕ) : Type 0 where
+    pub rest : getD (each (entryGranules g d) (chainFrom g d left s)) k 0 ≡ getD (each (entryGranules g d) (chainFrom g d more at)) seek 0
+    pub used : Used g d at
+    pub low : seek ≤ k
+
+  pub walking-start : {s : ℕ} (k left : ℕ) → Used g d s → Walking s k left s k left
+  walking-start k left u = record { rest = refl; used = u; low = omega arith }
+
+  walking-on : {s k left at seek more : ℕ} → Walking s k left at seek more → 0 < more
+      → getD (each (entryGranules g d) (chainFrom g d left s)) k 0 ≡ getD (entryGranules g d at ++ each (entryGranules g d) (onward g d (more - 1) at)) seek 0
+  walking-on {at = at} {seek = seek} {more = more} w h = w .rest ∙ ap (λ (l : List ℕ). getD l seek 0) (chain-more more at (λ q. omega arith))
+
+  pub walking-here : {s k left at seek more : ℕ} {r : Seek} → Walking s k left at seek more → 0 < more → Sought (entryGranules g d at) seek r → r .here ≡ true
+      → r .at ≡ getD (each (entryGranules g d) (chainFrom g d left s)) k 0
+  walking-here w h e q = sym (walking-on w h ∙ sought-here _ _ _ (e .is) q)
+
+  pub walking-stop : {s k left at seek more m : ℕ} {r : Seek} → Walking s k left at seek more → 0 < more → Sought (entryGranules g d at) seek r → r .here ≡ false
+      → m ≡ marker g d at → (m ≡ 0xfe → ⊥) → 0 ≡ getD (each (entryGranules g d) (chainFrom g d left s)) k 0
+  walking-stop {at = at} {more = more} {r = r} w h e q f z =
+      sym (walking-on w h ∙ sought-past _ _ _ (e .is) q .0
+      ∙ ap (λ (b : Bool). getD (each (entryGranules g d) (cond b (chainFrom g d (more - 1) (link g d at)) [])) (r .at) 0) (ne-eqb (marker g d at) 0xfe (λ y. z (f ∙ y))))
+
+  pub walking-step : {s k left at seek more m t : ℕ} {r : Seek} → Sound g d → Walking s k left at seek more → 0 < more → Sought (entryGranules g d at) seek r → r .here ≡ false
+      → m ≡ marker g d at → m ≡ 0xfe → t ≡ link g d at → Walking s k left t (r .at) (more - 1)
+  walking-step {at = at} {more = more} {t = t} {r = r} snd w h e q f z y =
+      let p = sought-past _ (each (entryGranules g d) (onward g d (more - 1) at)) _ (e .is) q in
+      record {
+        rest =
+            walking-on w h ∙ p .0
+            ∙ ap (λ (b : Bool). getD (each (entryGranules g d) (cond b (chainFrom g d (more - 1) (link g d at)) [])) (r .at) 0) (eq-eqb (marker g d at) 0xfe (sym f ∙ z))
+            ∙ ap (λ (j : ℕ). getD (each (entryGranules g d) (chainFrom g d (more - 1) j)) (r .at) 0) (sym y);
+        used = rw y (snd .next at (w .used) (sym f ∙ z));
+        low = omega (arith, w .low, p .1);
+      }
+
+  pub walking-end : {s k left at seek more : ℕ} → Walking s k left at seek more → more ≤ 0 → 0 ≡ getD (each (entryGranules g d) (chainFrom g d left s)) k 0
+  walking-end {at = at} {seek = seek} {more = more} w h =
+      sym (w .rest ∙ ap (λ (l : List ℕ). getD (each (entryGranules g d) l) seek 0) (chain-none more at (omega arith)))

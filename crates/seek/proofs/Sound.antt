@@ -8,15 +8,15 @@ use native.Mathlib.Omega.{arith}
 use lib.ListN.{length, getD, length-append, List·getD-append}
 use lib.Dec.{eqb, ltb, leb}
 use borrow.Author.Tests.{leb-true, eqb-true, ne-eqb, eq-eqb}
-use Rattle.meaning.specs.Lists.{count, keep, each, every, all, any}
-use Rattle.meaning.specs.Layout.{isSlot, slots, fitsGeometry, granules, field}
+use Rattle.meaning.specs.Lists.{count, keep, each, every, all, any, length-count}
+use Rattle.meaning.specs.Layout.{isSlot, slots, fitsGeometry, granules, field, granuleBytes}
 use Rattle.meaning.specs.Bits.{bit, digit}
 use Rattle.meaning.specs.Entries.{inUse, primary, marker, link, runs, runStart, runLength, runGranules, entryGranules, sizeOf}
 use Rattle.meaning.specs.Chain.{chainFrom, chain, owned, files}
-use Rattle.meaning.specs.Consistent.{consistent, slotHolds, fileHolds, linkHolds, runsHold, sizeHolds, follows}
+use Rattle.meaning.specs.Consistent.{consistent, slotHolds, fileHolds, linkHolds, runsHold, sizeHolds, followsBy, follows}
 use Rattle.meaning.specs.declared.Geometry.{Geometry}
 use Rattle.layout.specs.Room.{Room, Slot}
-use Rattle.layout.proofs.Lists.{all-at, any-last, every-keep, every-count, not-yes, length-count, getD-count, le-or-lt}
+use Rattle.layout.proofs.Lists.{all-at, any-last, every-keep, every-count, not-yes, getD-count, le-or-lt}
 use Rattle.layout.proofs.Sound.{room, slot-of, slot-yes}
 use Rattle.seek.specs.Seek.{Sound, Used}
 use Rattle.seek.proofs.Laws.{getD-past}
@@ -42,7 +42,7 @@ module _ (g : Geometry) (d : List ℕ) where
   runs-hold s h u = all-at _ (any-last _ _ (all-at _ h 1) (not-yes u)) 2
 
   linked : (s : ℕ) → linkHolds g d s ≡ true → marker g d s ≡ 0xfe → follows g d s (link g d s) ≡ true
-  unfolding linkHolds
+  unfolding linkHolds follows followsBy
   linked s h m = all-at _ (any-last _ _ h (ne-eqb (marker g d s) 0xff (λ q. let z : _≡_ {A = ℕ} 0xfe 0xff = sym m ∙ q in omega arith))) 1
 
   followed : (s x : ℕ) → follows g d s x ≡ true → Used g d x
@@ -58,7 +58,7 @@ module _ (g : Geometry) (d : List ℕ) where
   size-fits h s sl p =
       all-at _ (any-last _ _ (at-slot (λ x. any (not (primary g d x) ∷ fileHolds g d x ∷ [])) (every-keep (fileHolds g d) (primary g d) (slots g d) (all-at _ h 2)) s sl) (not-yes p)) 2
 
-  size-below : (s : ℕ) → sizeHolds g d s ≡ true → sizeOf g d s ≤ 1280 * length (owned g d s)
+  size-below : (s : ℕ) → sizeHolds g d s ≡ true → sizeOf g d s ≤ granuleBytes * length (owned g d s)
   unfolding sizeHolds
   size-below s h = leb-true _ _ (all-at _ h 1)
 

@@ -20,10 +20,15 @@ pub fn seek_entry(image: &[u8], g: Geometry, s: usize, k: usize) -> Seek
     requires { ⌜ Room g (now image) × Slot g (now image) s × (k < 4294967296) ⌝ }
     ensures { λ r. ⌜ Sought (entryGranules g (now (image .entry)) s) k r ⌝ }
 {
-    let n = layout::runs(image, g, s);
     let mut j = 0;
     let mut left = k;
-    while j < n {
+    while j < 4 {
+        if layout::field(image, g, s, 0x16 + 2 * j) == 255 {
+            return Seek {
+                here: false,
+                at: left,
+            };
+        }
         let len = layout::run_length(image, g, s, j);
         if left < len {
             return Seek {
@@ -45,26 +50,22 @@ pub fn entry_walk(image: &[u8], g: Geometry, s: usize, k: usize, left: usize) ->
     requires { ⌜ Sound g (now image) × Used g (now image) s × (k < 65536) ⌝ }
     ensures { λ r. ⌜ (r ≡ getD (each (entryGranules g (now (image .entry))) (chainFrom g (now (image .entry)) left s)) k 0) × (r ≤ k + 2080) ⌝ }
 {
-    if left == 0 {
-        return 0;
+    let mut at = s;
+    let mut seek = k;
+    let mut more = left;
+    while 0 < more {
+        let e = seek_entry(image, g, at, seek);
+        if e.here {
+            return e.at;
+        }
+        if layout::field(image, g, at, 0x1e) != 0xfe {
+            return 0;
+        }
+        at = layout::field(image, g, at, 0x1f);
+        seek = e.at;
+        more -= 1;
     }
-    let e = seek_entry(image, g, s, k);
-    if e.here {
-        return e.at;
-    }
-    marker_walk(image, g, s, e.at, left - 1)
-}
-
-// The same from the entry on that the marker of slot s leads to.
-fn marker_walk(image: &[u8], g: Geometry, s: usize, k: usize, left: usize) -> usize
-    requires { ⌜ Sound g (now image) × Used g (now image) s × (k < 65536) ⌝ }
-    ensures { λ r. ⌜ (r ≡ getD (each (entryGranules g (now (image .entry))) (onward g (now (image .entry)) left s)) k 0) × (r ≤ k + 2080) ⌝ }
-{
-    if layout::field(image, g, s, 0x1e) != 0xfe {
-        return 0;
-    }
-    let t = layout::field(image, g, s, 0x1f);
-    entry_walk(image, g, t, k, left)
+    0
 }
 
 // Granule k of the file at slot s.

@@ -160,9 +160,6 @@ module _ (g : Geometry) where
   pub kept-slot : {d d′ : List ℕ} {s : ℕ} → Kept d d′ → Slot g d s → Slot g d′ s
   kept-slot e sl = record { low = sl .low; held = rw (e .sectors) (sl .held) }
 
-  kept-back : {d d′ : List ℕ} {s : ℕ} → Kept d d′ → Slot g d′ s → Slot g d s
-  kept-back e sl = record { low = sl .low; held = rw (e .sectors) at (sl .held) }
-
   kept-trans : {d d′ d″ : List ℕ} → Kept d d′ → Kept d′ d″ → Kept d d″
   kept-trans e f =
       record {

@@ -1,17 +1,20 @@
 // Granules taken and given back, entries cleared.
 use meaning::Geometry;
 ghost use mathlib.Core.Path.{_≡_};
-ghost use Prim.Native.Nat.{_+_, _*_, _<_, _≤_};
+ghost use Prim.Native.Nat.{_+_, _*_, _%_, _<_, _≤_};
 ghost use lib.ListN.{length};
-ghost use Rattle.meaning.specs.Lists.{count, each, through, firstOr};
-ghost use Rattle.meaning.specs.Free.{freeSlots};
-ghost use Rattle.meaning.specs.Layout.{granules, takeGranule, freeGranule};
+ghost use lib.Dec.{eqb};
+ghost use mathlib.Core.List.{[], _∷_};
+ghost use Rattle.meaning.specs.Lists.{count, each, through, firstOr, all, every};
+ghost use Rattle.meaning.specs.Free.{freeGranules, freeSlots};
+ghost use Rattle.meaning.specs.Layout.{granules, taken, takeGranule, freeGranule};
 ghost use Rattle.meaning.specs.Bits.{withBit, withoutBit};
 ghost use Rattle.meaning.specs.Kill.{killEntry};
 ghost use Rattle.meaning.specs.Entries.{entryGranules};
 ghost use Rattle.meaning.specs.Chain.{chainFrom, chain, owned};
 ghost use Rattle.layout.specs.Room.{Room, Slot};
 ghost use Rattle.seek.specs.Seek.{Sound, Used};
+ghost use Rattle.space.specs.Clear.{clearBits};
 
 pub fn without_bit(b: u8, u: usize) -> u8
     requires { ⌜ u < 8 ⌝ }
@@ -153,4 +156,47 @@ pub fn first_free_slot(image: &[u8], g: Geometry) -> usize
         row += 1;
     }
     found
+}
+
+// How many of the lowest bits of a GAT byte are clear.
+pub fn clear_bits(byte: usize, bits: usize) -> usize
+    requires { ⌜ bits ≤ 8 ⌝ }
+    ensures { λ r. ⌜ (r ≡ clearBits bits byte) × (r ≤ 8) ⌝ }
+{
+    let low = byte % (1 << bits);
+    bits - (usize::count_ones(low) as usize)
+}
+
+// Whether none of them is.
+fn all_set(byte: usize, bits: usize) -> bool
+    requires { ⌜ (bits ≤ 8) × (byte < 256) ⌝ }
+    ensures { λ r. ⌜ r ≡ eqb (clearBits bits byte) 0 ⌝ }
+{
+    let m = 1 << bits;
+    byte % m == m - 1
+}
+
+// Whether a block begins with granule n and all its granules are taken.
+pub fn block_taken(image: &[u8], g: Geometry, n: usize) -> bool
+    requires { ⌜ Room g (now image) × (n < granules g) ⌝ }
+    ensures { λ r. ⌜ r ≡ all (eqb (n % g .units) 0 ∷ every (taken g (now (image .entry))) (count n (g .units)) ∷ []) ⌝ }
+{
+    if n % g.units != 0 {
+        return false;
+    }
+    all_set(layout::wide(image[256 * g.start + n / g.units]), g.units)
+}
+
+// How many granules are free, by one pass over the GAT.
+pub fn free_count(image: &[u8], g: Geometry) -> usize
+    requires { ⌜ Room g (now image) ⌝ }
+    ensures { λ r. ⌜ r ≡ length (freeGranules g (now (image .entry))) ⌝ }
+{
+    let mut n = 0;
+    let mut b = 0;
+    while b < g.blocks {
+        n = n + clear_bits(layout::wide(image[256 * g.start + b]), g.units);
+        b += 1;
+    }
+    n
 }

@@ -13,6 +13,7 @@ use Rattle.meaning.specs.Allot.{allot}
 use Rattle.meaning.specs.Trim.{trim}
 use Rattle.meaning.specs.Kill.{kill}
 use Rattle.meaning.specs.Listing
+use Rattle.meaning.specs.FreeSpace.{freeSpace}
 use Rattle.meaning.specs.declared.Geometry.{Geometry}
 use Rattle.meaning.specs.declared.Handle.{Handle}
 use Rattle.meaning.specs.declared.LookedUp.{LookedUp}
@@ -21,10 +22,11 @@ use Rattle.meaning.specs.declared.Created.{Created}
 use Rattle.meaning.specs.declared.Part.{Part}
 use Rattle.meaning.specs.declared.Listed.{Listed}
 use Rattle.meaning.specs.declared.Counts.{Counts}
+use Rattle.meaning.specs.declared.Space.{Space}
 use Rattle.promises.specs.Promises.{Call, number, leaves}
-use Rattle.promises.specs.Promises.Call.{checks, looksUp, opens, creates, reads, readsSector, writes, allots, trims, kills, lists, counts}
+use Rattle.promises.specs.Promises.Call.{checks, looksUp, opens, creates, reads, readsSector, writes, allots, trims, kills, lists, counts, measures}
 
--- what a call hands back, whole: its number, and with it slot and count, handle, "old", the part, the file told, the counts
+-- what a call hands back, whole: its number, and with it slot and count, handle, "old", the part, the file told, the counts, the free space
 pub data Answers : Type 0 where
   checked : ℕ → Answers
   looked : LookedUp → Answers
@@ -33,6 +35,7 @@ pub data Answers : Type 0 where
   part : Part → Answers
   told : Listed → Answers
   counted : Counts → Answers
+  measured : Space → Answers
 
 unfoldable pub answerOf : Geometry → List ℕ → Call → Answers
 answerOf g d checks = checked (check g d)
@@ -47,6 +50,7 @@ answerOf g d (trims h) = answered (trim g d h .0)
 answerOf g d (kills h) = answered (kill g d h .0)
 answerOf g d (lists i) = told (Listing.list g d i)
 answerOf g d counts = counted (Listing.counts g d)
+answerOf g d measures = measured (freeSpace g d)
 
 -- the buffer that a read leaves; no other call changes one
 unfoldable pub bufferOf : Geometry → List ℕ → Call → List ℕ
@@ -62,6 +66,7 @@ bufferOf g d (trims h) = []
 bufferOf g d (kills h) = []
 bufferOf g d (lists i) = []
 bufferOf g d counts = []
+bufferOf g d measures = []
 
 -- all that a call says: its number, what it hands back, the image that it leaves, and the buffer
 pub record Said : Type 0 where

@@ -11,7 +11,7 @@ use Rattle.promises.specs.Promises.{Call, number, leaves}
 use Rattle.meaning.specs.declared.Geometry.{Geometry}
 use Rattle.meaning.specs.declared.Handle.{Handle}
 use Rattle.promises.specs.Promises.Call.{checks, looksUp, reads, kills}
-use Rattle.strength.specs.Programs.{Answers, checked, looked, answered, created, part, told, counted, Said, Program, Meets, says, right, answerOf, bufferOf, RefusesAll, AlwaysAlike, ChangesNothing, Faked, FirstOnly}
+use Rattle.strength.specs.Programs.{Answers, checked, looked, answered, created, part, told, counted, measured, Said, Program, Meets, says, right, answerOf, bufferOf, RefusesAll, AlwaysAlike, ChangesNothing, Faked, FirstOnly}
 
 -- what a program that meets the statements says of one call, and of two
 one : (p : Program) → Meets p → (c : Call) → p three sample (c ∷ []) ≡ says three sample c ∷ []
@@ -100,6 +100,7 @@ comparedIn (created r) = 0
 comparedIn (part r) = 0
 comparedIn (told r) = 0
 comparedIn (counted r) = 0
+comparedIn (measured r) = 0
 
 unfoldable pub firstCount : List Said → ℕ
 firstCount [] = 0

@@ -9,14 +9,14 @@ use lib.ListN.{length, getD, take, drop, replicate, List·getD-map}
 use lib.Seq.{slice}
 use Rattle.meaning.specs.Refusals.{noHandle}
 use Rattle.meaning.specs.Read.{readRecord, readSector}
-use Rattle.meaning.specs.Plain.{File, Found, found, nothing, plain, hush, AreBytes}
+use Rattle.meaning.specs.Plain.{File, Found, found, nothing, plain, isSystem, hush, AreBytes}
 use Rattle.meaning.specs.declared.Geometry.{Geometry}
 use Rattle.meaning.specs.declared.Handle.{Handle}
 use Rattle.promises.specs.Promises
 use Rattle.promises.specs.Promises.{leaves}
 use Rattle.promises.specs.Sector
 use Rattle.promises.specs.Staying
-use Rattle.together.specs.Statement.{Name, Call, looksUp, opens, creates, moves, reads, readsSector, writes, allots, trims, kills, Side, Brings, AllBring, known, answer, kept, systemFile, handleAt, Grip, grip, Turn, one, two, Interleaving, none, left, right, World, next, after, Accepted}
+use Rattle.together.specs.Statement.{Name, Call, looksUp, opens, creates, moves, reads, readsSector, writes, allots, trims, kills, Side, Brings, AllBring, known, answer, kept, handleAt, Grip, grip, Turn, one, two, Interleaving, none, left, right, World, next, after, Accepted}
 use Rattle.together.specs.State.{State, stateOf, gripAt, stands, effect, Held, Good}
 use Rattle.together.specs.Effects
 use Rattle.together.specs.Interleavings
@@ -25,12 +25,12 @@ use Rattle.together.specs.Interleavings.{Fine, stateIn}
 -- a part of the file's bytes, as it is kept
 unfoldable partOf : (List ℕ → List ℕ) → Found → List ℕ
 partOf part nothing = []
-partOf part (found f) = cond (systemFile f) [] (part (f .bytes))
+partOf part (found f) = cond (isSystem f) [] (part (f .bytes))
 
 -- a system file's bytes do not count
 part-kept : (part : List ℕ → List ℕ) (f : File) (bytes : List ℕ) → bytes ≡ part (f .bytes) → kept (found f) bytes ≡ partOf part (hush (found f))
 unfolding kept partOf hush
-part-kept part f bytes e = go (systemFile f)
+part-kept part f bytes e = go (isSystem f)
   where
     go : (b : Bool) → cond b [] bytes ≡ cond b [] (part (cond b (replicate (length (f .bytes)) 0) (f .bytes)))
     go true = refl

@@ -63,9 +63,6 @@ pub not-both : {A : Type 0} (f : File) → nothing ≡ found f → A
 unfolding present
 not-both f e = absurd (let z : 0 ≡ 1 = ap present e in omega arith)
 
-pub found-inj : (a b : File) → found a ≡ found b → a ≡ b
-found-inj a b e = cc
-
 -- the number of granules, as the plain file tells it
 plain-granules : (g : Geometry) (d : List ℕ) (n : Name) (f : File) → plain g d n ≡ found f → f .granules ≡ length (granulesOf g d n)
 unfolding plain foundIn fileAt words
@@ -73,7 +70,7 @@ plain-granules g d n f e = go (keep (carries g d n) (candidates g d n)) e
   where
     go : (ys : List ℕ) → foundIn g d (take 1 ys) ≡ found f → f .granules ≡ length (each (owned g d) (take 1 ys))
     go [] e = not-both f e
-    go (y ∷ ys) e = ap (λ (x : File). x .granules) (sym (found-inj (fileAt g d y) f e)) ∙ ap length (sym (append-nil (owned g d y)))
+    go (y ∷ ys) e = ap (λ (x : File). x .granules) (sym (Named.found-inj (fileAt g d y) f e)) ∙ ap length (sym (append-nil (owned g d y)))
 
 nothing-entries : (g : Geometry) (d : List ℕ) (n : Name) → plain g d n ≡ nothing → entriesOf g d n ≡ []
 unfolding plain foundIn words

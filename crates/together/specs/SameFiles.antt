@@ -7,9 +7,10 @@ use native.Mathlib.Omega.{arith}
 use lib.ListN.{length, getD, replicate, length-replicate}
 use lib.Dec.{T, T-not}
 use Rattle.meaning.specs.Bits.{bit}
-use Rattle.meaning.specs.Plain.{File, Found, found, nothing, hush}
+use Rattle.meaning.specs.Plain.{File, Found, found, nothing, isSystem, hush}
 use Rattle.laws.specs.Members
-use Rattle.together.specs.Statement.{systemFile, Alike, Same, neither, both}
+use Rattle.laws.specs.Named
+use Rattle.together.specs.Statement.{Alike, Same, neither, both}
 
 attributesOf : Found → List ℕ
 attributesOf nothing = []
@@ -29,15 +30,15 @@ present (found f) = 1
 
 hush-length : (f : File) → length (bytesOf (hush (found f))) ≡ length (f .bytes)
 unfolding hush bytesOf
-hush-length f = go (systemFile f)
+hush-length f = go (isSystem f)
   where
     go : (b : Bool) → length (cond b (replicate (length (f .bytes)) 0) (f .bytes)) ≡ length (f .bytes)
     go true = length-replicate (length (f .bytes)) 0
     go false = refl
 
-user-bytes : (f : File) → T (not (systemFile f)) → bytesOf (hush (found f)) ≡ f .bytes
+user-bytes : (f : File) → T (not (isSystem f)) → bytesOf (hush (found f)) ≡ f .bytes
 unfolding hush bytesOf
-user-bytes f u = rw (Members.no-false {b = systemFile f} (T-not (systemFile f) u))
+user-bytes f u = rw (Members.no-false {b = isSystem f} (T-not (isSystem f) u))
 
 -- what is told alike is the same
 pub hushed-same : (x y : Found) → hush x ≡ hush y → Same x y
@@ -55,14 +56,11 @@ hushed-same (found f) (found f′) e =
     })
 
 -- a file that is the same as one that is no system file is equal to it
-alike-eq : (f f′ : File) → Alike f f′ → T (not (systemFile f)) → f′ ≡ f
+alike-eq : (f f′ : File) → Alike f f′ → T (not (isSystem f)) → f′ ≡ f
 alike-eq f f′ a u = λ i. record { attributes = sym (a .attributes) i; granules = sym (a .granules) i; bytes = sym (a .bytes u) i }
 
-found-inj : (a b : File) → found a ≡ found b → a ≡ b
-found-inj a b e = cc
-
-pub same-whole : (x y : Found) → Same x y → (f : File) → x ≡ found f → T (not (systemFile f)) → y ≡ found f
+pub same-whole : (x y : Found) → Same x y → (f : File) → x ≡ found f → T (not (isSystem f)) → y ≡ found f
 unfolding present
 same-whole nothing nothing neither f e u = absurd (let z : 0 ≡ 1 = ap present e in omega arith)
 same-whole (found f₀) (found f′) (both a) f e u =
-    let z = found-inj f₀ f e in ap {B = Found} found (alike-eq f₀ f′ a (subst (λ (y : File). T (not (systemFile y))) (sym z) u) ∙ z)
+    let z = Named.found-inj f₀ f e in ap {B = Found} found (alike-eq f₀ f′ a (subst (λ (y : File). T (not (isSystem y))) (sym z) u) ∙ z)

@@ -12,7 +12,6 @@ use lib.Dec.{T, ltb}
 use lib.ListN.{length, getD, set}
 use lib.Seq.{slice}
 use Rattle.meaning.specs.Lists.{each}
-use Rattle.meaning.specs.Bits.{bit}
 use Rattle.meaning.specs.Layout.{fitsGeometry}
 use Rattle.meaning.specs.Chain.{chain, owned}
 use Rattle.meaning.specs.Consistent.{consistent}
@@ -25,7 +24,7 @@ use Rattle.meaning.specs.Write.{writeRecord}
 use Rattle.meaning.specs.Allot.{allot}
 use Rattle.meaning.specs.Trim.{trim}
 use Rattle.meaning.specs.Kill.{kill}
-use Rattle.meaning.specs.Plain.{File, Found, found, nothing, plain, AreBytes}
+use Rattle.meaning.specs.Plain.{File, Found, found, nothing, plain, isSystem, AreBytes, CodesFit}
 use Rattle.meaning.specs.declared.Geometry.{Geometry}
 use Rattle.meaning.specs.declared.Handle.{Handle}
 use Rattle.meaning.specs.declared.NewFile.{NewFile}
@@ -38,7 +37,8 @@ Name = List ℕ
 
 -- In a list of calls on one file each call uses a handle that the same list opened or created earlier: the first number of a call by a
 -- handle is that handle's place among them, from 0. Its positions and the bytes it writes are the list's own, fixed beforehand. The name
--- is the list's, and no call repeats it; the geometry is the same for all.
+-- is the list's, and no call repeats it; the geometry is the same for all. Bring back (02, §11) is not among them: "Demand 3's interleavings
+-- leave this call out." What it finds hangs on what the other list has written since the kill.
 pub data Call : Type 0 where
   looksUp : Call
   -- record length, whether codes are checked, the code
@@ -89,14 +89,10 @@ known hs (allots i k) = ltb i (length hs)
 known hs (trims i) = ltb i (length hs)
 known hs (kills i) = ltb i (length hs)
 
--- bit 6 of attribute byte 00
-abbrev pub systemFile : File → Bool
-systemFile f = bit 6 (getD (f .attributes) 0 0)
-
 -- what is kept of bytes handed back from a file: of a system file none, for the directory may itself be a file
 unfoldable pub kept : Found → List ℕ → List ℕ
 kept nothing bytes = []
-kept (found f) bytes = cond (systemFile f) [] bytes
+kept (found f) bytes = cond (isSystem f) [] bytes
 
 -- the number that a call answers, and the disk and the list's side that it leaves
 pub record Answered : Type 0 where
@@ -189,7 +185,7 @@ pub record Alike (f f′ : File) : Type 0 where
   pub attributes : f .attributes ≡ f′ .attributes
   pub size : length (f .bytes) ≡ length (f′ .bytes)
   pub granules : f .granules ≡ f′ .granules
-  pub bytes : T (not (systemFile f)) → f .bytes ≡ f′ .bytes
+  pub bytes : T (not (isSystem f)) → f .bytes ≡ f′ .bytes
 
 -- under a name stands no file on either disk, or one on both and they are alike
 pub data Same : Found → Found → Type 0 where
@@ -202,7 +198,7 @@ SameFiles g d d′ = (n : Name) → Same (plain g d n) (plain g d′ n)
 
 -- the file under that name, if it is no system file, is as it was
 abbrev pub AsItWas : Geometry → Name → List ℕ → List ℕ → Type 0
-AsItWas g n d d′ = (f : File) → plain g d n ≡ found f → T (not (systemFile f)) → plain g d′ n ≡ found f
+AsItWas g n d d′ = (f : File) → plain g d n ≡ found f → T (not (isSystem f)) → plain g d′ n ≡ found f
 
 -- 4. What is promised ---------------------------------------------------------------------------------------------------------
 
@@ -220,7 +216,7 @@ grip h = record { name = h .name; at = h .at; len = h .len; level = h .level }
 abbrev pub Brings : Call → Type 0
 Brings looksUp = Unit {0}
 Brings (opens len checking code) = Unit {0}
-Brings (creates f checking) = (f .main < 65536) × (f .worker < 65536)
+Brings (creates f checking) = CodesFit f
 Brings (moves i at) = Unit {0}
 Brings (reads i buffer) = Unit {0}
 Brings (readsSector i k) = Unit {0}

@@ -82,7 +82,7 @@ module _ (g : Geometry) (d : List ℕ) (n : Name) (m : Mode) (h : Handle) (b d�
   size = sizeAfter m (sizeOf g d p) (h .at + h .len)
 
   end : h .at + length (take (h .len) b) ≤ granuleBytes * length (owned g d p)
-  end = let a = w .len in let f = w .fit in omega (arith, Over.after-end m (sizeOf g d p) (h .at + h .len))
+  end = let a = w .len in let f = w .fit in omega (arith, Rewrite.after-end m (sizeOf g d p) (h .at + h .len))
 
   pub own-region : (i : ℕ) → region g d n i ≡ (inEntry g p i || inData g d p i)
   own-region i = Quiet.region-is g d (w .holds .sound) p n i (w .holds .file) (w .holds .name′ ∙ e)

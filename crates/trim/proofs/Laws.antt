@@ -8,7 +8,7 @@ use lib.ListN.{length, length-append}
 use lib.Dec.{eqb, not-T}
 use borrow.Author.Tests.{ne-eqb, eq-eqb}
 use Rattle.meaning.specs.Lists.{times}
-use Rattle.meaning.specs.Layout.{field, setField, freeGranule, entryAt, granules, granuleBytes}
+use Rattle.meaning.specs.Layout.{field, setField, freeGranule, entryAt, granules, granuleBytes, granulesFor}
 use Rattle.meaning.specs.Bits.{digit, bit}
 use Rattle.meaning.specs.Entries.{extension, runs, runStart, runLength, sizeOf, system}
 use Rattle.meaning.specs.Chain.{owned}
@@ -32,12 +32,6 @@ use Rattle.seek.proofs.Frame.{runs-four}
 use Rattle.joint.proofs.Ready.{walks}
 use Rattle.trim.specs.Last.{Last, Bit}
 use Rattle.trim.proofs.Step
-
--- an entry lies in the image
-pub entry-fits : (g : Geometry) (d : List ℕ) (s : ℕ) → Room g d → Slot g d s → entryAt g s + 32 ≤ length d
-entry-fits g d s r sl =
-    let a = r .directory in let b = r .whole in let c = sl .low in let e = sl .held in
-    omega arith
 
 pub bit-fits : (g : Geometry) (d d′ : List ℕ) (n : ℕ) → Room g d → n < granules g → length d′ ≡ length d → Bit g (length d′) n
 bit-fits g d d′ n r h l =
@@ -175,14 +169,14 @@ module _ (g : Geometry) (d : List ℕ) (h : Handle) where
   trim-reads r = let w = walks g d (h .slot) r in (w .0 .room, w .1 .slot)
 
   -- the size needs no more granules than are owned
-  pub needs-owned : {n size : ℕ} → Ready g d (h .slot) → n ≡ length (owned g d (h .slot)) → size ≡ sizeOf g d (h .slot) → (size + 1279) / 1280 ≤ n
+  pub needs-owned : {n size : ℕ} → Ready g d (h .slot) → n ≡ length (owned g d (h .slot)) → size ≡ sizeOf g d (h .slot) → granulesFor size ≤ n
   needs-owned {n} {size} r a b =
       let w = walks g d (h .slot) r in
       let f = w .0 .size (h .slot) (w .1 .slot) (r .first) in
       omega arith
 
   pub trim-last : {e n size : ℕ} → Ready g d (h .slot) → e ≡ tail g (h .slot) d → n ≡ length (owned g d (h .slot)) → size ≡ sizeOf g d (h .slot)
-      → Last g d (h .slot) e (n - (size + 1279) / 1280)
+      → Last g d (h .slot) e (n - granulesFor size)
   trim-last {e} {n} {size} r q a b =
       let w = walks g d (h .slot) r in
       let f = w .0 .size (h .slot) (w .1 .slot) (r .first) in
@@ -198,7 +192,7 @@ module _ (g : Geometry) (d : List ℕ) (h : Handle) where
   kept e z q f = rw (← e, z, bit-yes 7 q f)
 
   pub trimmed : {n x m size : ℕ} {d′ : List ℕ} → n ≡ first (trimRefusals g d h) → n ≡ 0 → x ≡ field g d (h .slot) 1 → (x / 2 ^ 7 % 2 ≡ 1 → ⊥)
-      → m ≡ length (owned g d (h .slot)) → size ≡ sizeOf g d (h .slot) → d′ ≡ times (m - (size + 1279) / 1280) (dropOne g (h .slot)) d
+      → m ≡ length (owned g d (h .slot)) → size ≡ sizeOf g d (h .slot) → d′ ≡ times (m - granulesFor size) (dropOne g (h .slot)) d
       → _≡_ {A = Answer × List ℕ} (record { number = 0; handle = h }, d′) (trim g d h)
   unfolding trim
   trimmed e z q f a b w = rw (← e, z, bit-no 7 q f, w, a, b)

@@ -22,7 +22,7 @@ use Rattle.laws.specs.Facts
 use Rattle.laws.specs.Frame
 use Rattle.laws.specs.Places
 use Rattle.laws.specs.Change
-use Rattle.laws.specs.Shrink
+use Rattle.laws.specs.AtTail
 use Rattle.laws.specs.Unhook
 use Rattle.laws.specs.Drop
 use Rattle.laws.specs.DropLast
@@ -73,17 +73,6 @@ module _ (g : Geometry) (d : List ℕ) (p : ℕ) (r : Ready g d p) where
   pub before-used : extension g d (tail g p d) ≡ true → Slot g d (field g d (tail g p d) 1)
   before-used x = member-used (field g d (tail g p d) 1) (DropLast.before-tail g d facts p file (later x) .0) .slot
 
-  -- the last entry's pairs changed, and no more: it is still the last one
-  still : (d′ : List ℕ) (m : ℕ) → Shrink.Shrinks g d d′ p m → tail g p d′ ≡ tail g p d
-  still d′ m h = ap (lastOr p) (Frame.chain-links g d d′ (h .above) p (λ x i. (steady x i 0x1e (omega arith) (omega arith), steady x i 0x1f (omega arith) (omega arith))))
-    where
-      steady : (x : ℕ) → In x (chain g d p) → (j : ℕ) → j < 32 → 0x1e ≤ j → field g d′ x j ≡ field g d x j
-      steady x i j a b = go (ℕ-discrete x (tail g p d))
-        where
-          go : Dec (x ≡ tail g p d) → field g d′ x j ≡ field g d x j
-          go (yes q) = rw q (h .fixed j a (inr b))
-          go (no q) = h .agrees x (Change.members g d facts p x file i .slot) q j a
-
   -- an extension unhooked: the one before it is the last
   cut : (d′ : List ℕ) (b m : ℕ) → Unhook.Unhooks g d d′ p b m → In b (chain g d p) → b ≢ tail g p d → tail g p d′ ≡ b
   unfolding chain
@@ -114,7 +103,7 @@ module _ (g : Geometry) (d : List ℕ) (p : ℕ) (r : Ready g d p) where
     short h = rw (lt-ltb 1 (runLength g d t k) h)
 
     pub short-last : 1 < runLength g d t k → tail g p (dropOne g p d) ≡ t
-    short-last h = ap (tail g p) (short h) ∙ still _ n (Drop.shorter-shrinks g d facts fits p file some-run size h)
+    short-last h = ap (tail g p) (short h) ∙ AtTail.tail-stays g d _ facts p file (Drop.shorter-shrinks g d facts fits p file some-run size h .at)
 
     -- Case 2: the last run is gone, and the entry stays.
     pub empty : runLength g d t k ≤ 1 → (extension g d t && eqb k 0) ≡ false
@@ -123,7 +112,7 @@ module _ (g : Geometry) (d : List ℕ) (p : ℕ) (r : Ready g d p) where
     empty h x = rw (le-ltb 1 (runLength g d t k) h, x)
 
     pub empty-last : runLength g d t k ≤ 1 → (extension g d t && eqb k 0) ≡ false → tail g p (dropOne g p d) ≡ t
-    empty-last h x = ap (tail g p) (empty h x) ∙ still _ n (Drop.emptied-shrinks g d facts fits p file some-run size (omega arith) kept)
+    empty-last h x = ap (tail g p) (empty h x) ∙ AtTail.tail-stays g d _ facts p file (Drop.emptied-shrinks g d facts fits p file some-run size (omega arith) kept .at)
       where
         first : k ≡ 0 → extension g d t ≡ true → ⊥
         first z e =

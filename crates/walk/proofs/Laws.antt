@@ -4,19 +4,19 @@ use mathlib.Core.List.{List, [], _∷_, _++_, append-nil}
 use mathlib.Core.Bool.{Bool, true, false, not, cond, _&&_, _||_, and-true}
 use Prim.Native.Nat.{ℕ, zero, suc, _+_, _-_, _*_, _/_, _%_, _≤_, _<_}
 use native.Mathlib.Omega.{arith}
-use native.Mathlib.Nat.{add-zero}
+use native.Mathlib.Nat.{add-zero, zero-add}
 use lib.ListN.{length, getD, set, length-append}
 use lib.Dec.{eqb, ltb, leb}
 use borrow.Author.Tests.{le-leb, lt-leb, lt-ltb, le-ltb, eq-eqb, ne-eqb, eqb-true, not-true, not-false}
-use Rattle.meaning.specs.Lists.{count, every, each, all, any}
-use Rattle.meaning.specs.Layout.{granules, field, hit, isSlot}
+use Rattle.meaning.specs.Lists.{count, every, each, all, any, length-count}
+use Rattle.meaning.specs.Layout.{granules, field, hit, isSlot, granuleSectors}
 use Rattle.meaning.specs.Entries.{runs, runsFrom, block, second, firstUnit, runStart, runLength, runGranules, entryGranules, marker, link}
 use Rattle.meaning.specs.Chain.{chainFrom}
 use Rattle.meaning.specs.Consistent.{pairsHold, runsHold}
 use Rattle.meaning.specs.declared.Geometry.{Geometry}
 use Rattle.layout.specs.Room.{Room, Slot}
 use Rattle.layout.proofs.Laws.{left-more, left-none, runs-more, runs-none, below}
-use Rattle.layout.proofs.Lists.{and-l, and-r, all-at, all-yes, all-no, all-one, all-none, any-skip, every-count, length-count, is-no, is-yes}
+use Rattle.layout.proofs.Lists.{and-l, and-r, all-at, all-yes, all-no, all-one, all-none, any-skip, every-count, is-no, is-yes, any-one}
 use Rattle.marks.specs.Marks.{marked, allows, Marks}
 use Rattle.marks.proofs.Laws.{marked-append, allows-append}
 use Rattle.laws.specs.Members
@@ -67,11 +67,6 @@ module _ (g : Geometry) (d : List ℕ) (s k least : ℕ) where
 all-rest : (a : Bool) {b c : Bool} → b ≡ true → c ≡ true → (a && true) ≡ all (a ∷ b ∷ c ∷ [])
 unfolding all
 all-rest a h l = rw (h, l)
-
-pub any-one : (b : Bool) → any (b ∷ []) ≡ b
-unfolding any
-any-one true = refl
-any-one false = refl
 
 -- An entry's pairs -------------------------------------------------------------------------------------------------------
 
@@ -249,7 +244,7 @@ module _ (g : Geometry) (d : List ℕ) where
   holds-none h s e = ap (λ (j : ℕ). chainHolds g d h j s) e
 
   walked-no : {least sectors owned : ℕ} {right : Bool} {cs m m′ met met′ : List ℕ}
-      → all (right ∷ allows m least 0 (granulesOf g d cs) ∷ allows met 1 0 cs ∷ leb sectors (5 * (owned + length (granulesOf g d cs))) ∷ []) ≡ false
+      → all (right ∷ allows m least 0 (granulesOf g d cs) ∷ allows met 1 0 cs ∷ leb sectors (granuleSectors * (owned + length (granulesOf g d cs))) ∷ []) ≡ false
       → Walked g d least sectors owned right cs m m′ met met′ false
   walked-no h = record { answer = sym h; map = λ q. not-both q refl; meets = λ q. not-both q refl }
 
@@ -278,9 +273,9 @@ module _ (g : Geometry) (d : List ℕ) where
 
       by : (b : Bool)
           → all (chainHolds g d h left s ∷ allows m least 0 (granulesOf g d (chainFrom g d left s)) ∷ allows met 1 0 (chainFrom g d left s)
-          ∷ leb sectors (5 * (owned + length (granulesOf g d (chainFrom g d left s)))) ∷ []) ≡ b
+          ∷ leb sectors (granuleSectors * (owned + length (granulesOf g d (chainFrom g d left s)))) ∷ []) ≡ b
           → all (chainHolds g d h left s ∷ allows m least 0 (granulesOf g d (chainFrom g d left s)) ∷ allows met 1 0 (chainFrom g d left s)
-          ∷ leb sectors (5 * (owned + length (granulesOf g d (chainFrom g d left s)))) ∷ []) ≡ false
+          ∷ leb sectors (granuleSectors * (owned + length (granulesOf g d (chainFrom g d left s)))) ∷ []) ≡ false
       by false q = q
       by true q =
           let c = sym (holds-some h s n) ∙ all-at _ q 0 in
@@ -326,15 +321,22 @@ module _ (g : Geometry) (d : List ℕ) where
       b : allows met 1 0 (chainFrom g d left s) ≡ allows (set met s 0) 1 0 cs
       b = ap (allows met 1 0) (chain-some s n) ∙ ap (λ (z : Bool). z && allows (set met s 0) 1 0 cs) (le-leb 1 (getD met s 0) l)
 
-      o : leb sectors (5 * (owned + length (granulesOf g d (chainFrom g d left s)))) ≡ leb sectors (5 * (owned + p .granules + length rest))
+      o : leb sectors (granuleSectors * (owned + length (granulesOf g d (chainFrom g d left s)))) ≡ leb sectors (granuleSectors * (owned + p .granules + length rest))
       o = let e : length (granulesOf g d (chainFrom g d left s)) ≡ p .granules + length rest
           = ap {B = ℕ} length (split s n) ∙ length-append (entryGranules g d s) rest ∙ ap (λ (j : ℕ). j + length rest) (sym (w .granules-is ok)) in
           let f : owned + length (granulesOf g d (chainFrom g d left s)) ≡ owned + p .granules + length rest = omega arith in
-          ap (λ (j : ℕ). leb sectors (5 * j)) f
+          ap (λ (j : ℕ). leb sectors (granuleSectors * j)) f
+
+  -- the same, of the primary entry: no granule was met before
+  pub walked-first : {least sectors : ℕ} (h s : ℕ) {left : ℕ} {m m₁ m₂ met met₂ : List ℕ} {p : Pairs} {r : Bool} → (left ≡ 0 → ⊥) → 1 ≤ getD met s 0 → Entered g d s least m m₁ p → not (p .ok) ≡ false
+      → Walked g d least sectors (p .granules) (markerHolds g d h s (chainHolds g d h (left - 1) (link g d s)))
+      (onward g d s (chainFrom g d (left - 1) (link g d s))) m₁ m₂ (set met s 0) met₂ r
+      → Walked g d least sectors 0 (chainHolds g d h left s) (chainFrom g d left s) m m₂ met met₂ r
+  walked-first h s {p = p} n l w t k = walked-entry h s n l w t (rw (zero-add (p .granules)) k)
 
   -- the marker is FFH
   pub walked-end : {least sectors owned : ℕ} (h s : ℕ) (rest : Bool) (cs : List ℕ) {x : ℕ} {m met : List ℕ} → x ≡ marker g d s → x ≡ 0xff
-      → Walked g d least sectors owned (markerHolds g d h s rest) (onward g d s cs) m m met met (leb sectors (5 * owned))
+      → Walked g d least sectors owned (markerHolds g d h s rest) (onward g d s cs) m m met met (leb sectors (granuleSectors * owned))
   unfolding markerHolds onward allows marked all any
   walked-end {least} {sectors} {owned} h s rest cs {x} {m} {met} e f =
       let q : marker g d s ≡ 0xff = sym e ∙ f in

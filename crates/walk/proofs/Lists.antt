@@ -1,17 +1,17 @@
 -- Tests over a range of places, and what a failed test says of a list of them.
 use mathlib.Core.Path.{_≡_, refl, sym, ap, _∙_}
 use mathlib.Core.List.{List, [], _∷_, _++_}
-use mathlib.Core.Bool.{Bool, true, false, not, cond, _&&_, _||_, and-assoc, true≢false}
+use mathlib.Core.Bool.{Bool, true, false, not, cond, _&&_, _||_, and-assoc, and-true, true≢false}
 use Prim.Native.Nat.{ℕ, zero, suc, _+_, _-_, _*_, _≤_, _<_}
 use native.Mathlib.Omega.{arith}
 use native.Mathlib.Numerals.{add-one}
 use native.Mathlib.Nat.{zero-add, add-zero}
 use lib.ListN.{getD}
-use lib.Dec.{eqb}
-use borrow.Author.Tests.{eq-eqb, ne-eqb}
+use lib.Dec.{eqb, ltb}
+use borrow.Author.Tests.{eq-eqb, ne-eqb, lt-ltb}
 use Rattle.meaning.specs.Lists.{count, every, each, all}
 use Rattle.layout.proofs.Laws.{left-more, left-none}
-use Rattle.layout.proofs.Lists.{all-at}
+use Rattle.layout.proofs.Lists.{all-at, count-append}
 use Rattle.marks.proofs.Laws.{count-more, count-none}
 use Rattle.laws.specs.Members
 
@@ -44,6 +44,20 @@ every-yes p {i} {n} h t = ap (every p) (count-more h) ∙ ap (λ (b : Bool). b &
 pub every-none : (p : ℕ → Bool) {i n : ℕ} → n ≤ i → every p (count i (n - i)) ≡ true
 every-none p h = ap (every p) (count-none h)
 
+-- the four places from k on, each looked at
+pub every-four : (p : ℕ → Bool) (k : ℕ) → every p (count k (4 - k)) ≡ ((ltb 0 k || p 0) && ((ltb 1 k || p 1) && ((ltb 2 k || p 2) && (ltb 3 k || p 3))))
+every-four p zero = simp and-true
+every-four p (suc zero) = simp and-true
+every-four p (suc (suc zero)) = simp and-true
+every-four p (suc (suc (suc zero))) = simp and-true
+every-four p (suc (suc (suc (suc k)))) =
+    let n : ℕ = suc (suc (suc (suc k))) in
+    every-none p {i = n} {n = 4} (omega arith) ∙ simp (lt-ltb 0 n (omega arith), lt-ltb 1 n (omega arith), lt-ltb 2 n (omega arith), lt-ltb 3 n (omega arith))
+
+pub four-looked : (p : ℕ → Bool) (k : ℕ) {a b c e : Bool} → a ≡ (ltb 0 k || p 0) → b ≡ (ltb 1 k || p 1) → c ≡ (ltb 2 k || p 2) → e ≡ (ltb 3 k || p 3)
+    → every p (count k (4 - k)) ≡ (a && (b && (c && e)))
+four-looked p k q r s t = every-four p k ∙ rw (q, r, s, t) refl
+
 pub every-append : (p : ℕ → Bool) (xs ys : List ℕ) → every p (xs ++ ys) ≡ (every p xs && every p ys)
 every-append p [] ys = refl
 every-append p (x ∷ xs) ys = ap (λ (b : Bool). p x && b) (every-append p xs ys) ∙ sym (and-assoc (p x) (every p xs) (every p ys))
@@ -60,18 +74,11 @@ every-true p i (suc n) h =
     ap (λ (b : Bool). b && every p (count (i + 1) n)) (h i (omega arith) (omega arith))
     ∙ every-true p (i + 1) n (λ j a b. h j (omega arith) (omega arith))
 
-pub count-split : (i m n : ℕ) → count i (m + n) ≡ count i m ++ count (i + m) n
-count-split i zero n = let e : i ≡ i + 0 = omega arith in ap (count i) (zero-add n) ∙ ap (λ (j : ℕ). count j n) e
-count-split i (suc m) n =
-    let e : suc m + n ≡ suc (m + n) = omega arith in
-    let f : i + 1 + m ≡ i + suc m = omega arith in
-    ap (count i) e ∙ ap (λ (l : List ℕ). i ∷ l) (count-split (i + 1) m n ∙ ap (λ (j : ℕ). count (i + 1) m ++ count j n) f)
-
 -- from 0 on, cut at k
 pub count-cut : {k n : ℕ} → k ≤ n → count 0 n ≡ count 0 k ++ count k (n - k)
 count-cut {k} {n} h =
     let e : n ≡ k + (n - k) = omega arith in
-    ap (count 0) e ∙ count-split 0 k (n - k) ∙ ap (λ (j : ℕ). count 0 k ++ count j (n - k)) (zero-add k)
+    ap (count 0) e ∙ count-append 0 k (n - k) ∙ ap (λ (j : ℕ). count 0 k ++ count j (n - k)) (zero-add k)
 
 pub each-snoc : (f : ℕ → List ℕ) (k : ℕ) → each f (count 0 (k + 1)) ≡ each f (count 0 k) ++ f k
 each-snoc f k =

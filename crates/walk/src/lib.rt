@@ -2,10 +2,11 @@
 use meaning::Geometry;
 ghost use mathlib.Core.Path.{_≡_};
 ghost use Prim.Native.Nat.{_+_, _-_, _*_, _<_, _≤_};
-ghost use mathlib.Core.Bool.{true};
+ghost use mathlib.Core.Bool.{true, _||_};
+ghost use lib.Dec.{ltb};
 ghost use Rattle.meaning.specs.Lists.{count, every};
 ghost use Rattle.meaning.specs.Layout.{field, entryAt};
-ghost use Rattle.meaning.specs.Entries.{link};
+ghost use Rattle.meaning.specs.Entries.{link, marker};
 ghost use Rattle.meaning.specs.Chain.{chainFrom};
 ghost use Rattle.layout.specs.Room.{Room, Slot, Read};
 ghost use Rattle.walk.specs.Walk.{Place, runsOf, TakesRun, Entered, Walked, unused, goesOn, markerHolds, chainHolds, onward};
@@ -54,19 +55,32 @@ fn take_run(
     n
 }
 
-// Whether no pair of an entry from k on is a run.
+// Whether pair j of an entry stands before pair k, or is no run.
+fn no_run(image: &[u8], g: Geometry, s: usize, at: usize, k: usize, j: usize) -> bool
+    requires { ⌜ Room g (now image) × Place g (now image) s at × (j < 4) ⌝ }
+    ensures { λ r. ⌜ r ≡ (ltb j k || unused g (now (image .entry)) s j) ⌝ }
+{
+    if j < k {
+        return true;
+    }
+    field_at(image, g, s, at, 0x16 + 2 * j) == 0xff
+}
+
+// Whether no pair of an entry from k on is a run. The four are written out: a loop from k on takes twice as many steps.
 fn no_runs(image: &[u8], g: Geometry, s: usize, at: usize, k: usize) -> bool
     requires { ⌜ Room g (now image) × Place g (now image) s at ⌝ }
     ensures { λ r. ⌜ r ≡ every (unused g (now (image .entry)) s) (count k (4 - k)) ⌝ }
 {
-    let mut j = k;
-    while j < 4 {
-        if field_at(image, g, s, at, 0x16 + 2 * j) != 0xff {
-            return false;
-        }
-        j += 1;
+    if !no_run(image, g, s, at, k, 0) {
+        return false;
     }
-    true
+    if !no_run(image, g, s, at, k, 1) {
+        return false;
+    }
+    if !no_run(image, g, s, at, k, 2) {
+        return false;
+    }
+    no_run(image, g, s, at, k, 3)
 }
 
 // What an entry's pairs gave: how many runs, and how many granules; or that they are not as they must be.
@@ -144,9 +158,53 @@ fn goes_on(image: &[u8], g: Geometry, s: usize, at: usize, runs: usize, h: usize
     layout::hit(image, g, t) == h
 }
 
+// The whole chain of a file: its primary entry here, its extensions by the walk below. A file without extensions needs no call.
+pub fn file_walk(
+    image: &[u8],
+    g: Geometry,
+    s: usize,
+    at: usize,
+    left: usize,
+    h: usize,
+    least: u8,
+    sectors: usize,
+    map: &mut [u8; 1544],
+    met: &mut [u8; 256],
+) -> bool
+    requires { ⌜ Room g (now image) × Place g (now image) s at × (left ≡ 0 → ⊥) × (128 * left ≤ 65536) ⌝ }
+    ensures { λ r. ⌜ Walked g (now (image .entry)) least sectors 0 (chainHolds g (now (image .entry)) h left s)
+        (chainFrom g (now (image .entry)) left s) (now (map .entry)) (now (map .exit)) (now (met .entry)) (now (met .exit)) r ⌝ }
+{
+    if met[s] < 1 {
+        return false;
+    }
+    met[s] = 0;
+    let p = take_runs(image, g, s, at, map, least);
+    if !p.ok {
+        return false;
+    }
+    if field_at(image, g, s, at, 0x1e) == 0xff {
+        return sectors <= layout::GRANULE_SECTORS * p.granules;
+    }
+    marker_walk(
+        image,
+        g,
+        s,
+        at,
+        p.runs,
+        left - 1,
+        h,
+        least,
+        sectors,
+        p.granules,
+        map,
+        met,
+    )
+}
+
 // The entry of slot s, of a file with HIT byte h, and what its marker leads to: at most `left` entries. `met` has 1 for each slot not
 // met so far, and `owned` granules were met before. The sector count must fit the granules of the whole chain.
-pub fn entry_walk(
+fn entry_walk(
     image: &[u8],
     g: Geometry,
     s: usize,
@@ -174,6 +232,9 @@ pub fn entry_walk(
     if !p.ok {
         return false;
     }
+    if field_at(image, g, s, at, 0x1e) == 0xff {
+        return sectors <= layout::GRANULE_SECTORS * (owned + p.granules);
+    }
     marker_walk(
         image,
         g,
@@ -190,7 +251,7 @@ pub fn entry_walk(
     )
 }
 
-// The marker of slot s, and what it leads to.
+// The marker of slot s, which does not end the file, and what it leads to.
 fn marker_walk(
     image: &[u8],
     g: Geometry,
@@ -206,15 +267,12 @@ fn marker_walk(
     met: &mut [u8; 256],
 ) -> bool
     requires { ⌜ Room g (now image) × Place g (now image) s at × (runs ≡ runsOf g (now image) s)
-        × (owned + 128 * left ≤ 65536) ⌝ }
+        × (owned + 128 * left ≤ 65536) × (marker g (now image) s ≡ 0xff → ⊥) ⌝ }
     ensures { λ r. ⌜ Walked g (now (image .entry)) least sectors owned
         (markerHolds g (now (image .entry)) h s (chainHolds g (now (image .entry)) h left (link g (now (image .entry)) s)))
         (onward g (now (image .entry)) s (chainFrom g (now (image .entry)) left (link g (now (image .entry)) s)))
         (now (map .entry)) (now (map .exit)) (now (met .entry)) (now (met .exit)) r ⌝ }
 {
-    if field_at(image, g, s, at, 0x1e) == 0xff {
-        return sectors <= layout::GRANULE_SECTORS * owned;
-    }
     if !goes_on(image, g, s, at, runs, h) {
         return false;
     }

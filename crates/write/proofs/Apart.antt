@@ -9,7 +9,7 @@ use lib.ListN.{length, getD}
 use lib.Dec.{eqb}
 use borrow.Author.Tests.{eqb-true, eq-eqb, ne-eqb, not-true}
 use Rattle.meaning.specs.Lists.{count, every, some, has, all, any, keep}
-use Rattle.meaning.specs.Layout.{directorySectors, directoryGranules, aboveTen, fitsGeometry, slots}
+use Rattle.meaning.specs.Layout.{directorySectors, directoryGranules, aboveTen, fitsGeometry, slots, granuleSectors}
 use Rattle.meaning.specs.Chain.{owned, files}
 use Rattle.meaning.specs.Entries.{primary, system}
 use Rattle.meaning.specs.Consistent.{consistent, fileHolds, offDirectory, lengthHolds}
@@ -55,9 +55,9 @@ module _ (g : Geometry) (d : List ℕ) where
   unfolding lengthHolds directorySectors
   fives h = let z = by-five (aboveTen g d) (all-at _ h 0) in omega arith
 
-  start-five : fitsGeometry g d ≡ true → g .start % 5 ≡ 0
+  start-five : fitsGeometry g d ≡ true → g .start % granuleSectors ≡ 0
   unfolding fitsGeometry
-  start-five h = eqb-true (g .start % 5) 0 (all-at _ h 4)
+  start-five h = eqb-true (g .start % granuleSectors) 0 (all-at _ h 4)
 
   off-holds : consistent g d ≡ true → (s : ℕ) → Slot g d s → primary g d s ≡ true → offDirectory g d s ≡ true
   unfolding consistent files fileHolds
@@ -75,5 +75,5 @@ module _ (g : Geometry) (d : List ℕ) where
       record {
         apart = λ k l.
             ⊎-elim (λ w. inl (omega arith)) (λ w. inr (omega arith))
-            (not-in (getD (owned g d s) k 0) (g .start / 5) (directorySectors g d / 5) (every-at (λ n. not (has (directoryGranules g d) n)) (owned g d s) e k l));
+            (not-in (getD (owned g d s) k 0) (g .start / granuleSectors) (directorySectors g d / granuleSectors) (every-at (λ n. not (has (directoryGranules g d) n)) (owned g d s) e k l));
       }

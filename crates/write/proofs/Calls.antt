@@ -9,7 +9,7 @@ use lib.ListN.{length, replicate, take, set, length-set}
 use lib.Dec.{leb}
 use borrow.Author.Tests.{ne-eqb, leb-true}
 use Rattle.meaning.specs.Lists.{all}
-use Rattle.meaning.specs.Layout.{highest, granulesFor, granules, entryAt}
+use Rattle.meaning.specs.Layout.{highest, granulesFor, granules, entryAt, granuleBytes}
 use Rattle.meaning.specs.Entries.{sizeOf}
 use Rattle.meaning.specs.Chain.{owned, place}
 use Rattle.meaning.specs.Refusals.{first, accepted, inRange, movedTo, handleRefusals, protected, cannotGrow, larger, lacking}
@@ -23,18 +23,13 @@ use Rattle.laws.specs.Steps.{Ready}
 use Rattle.layout.specs.Room.{Room, Slot}
 use Rattle.layout.proofs.Lists.{all-at}
 use Rattle.layout.proofs.Sound.{slot-of}
-use Rattle.handle.proofs.Laws.{handle-stop, handle-then, passed, ranges}
+use Rattle.handle.proofs.Laws.{handle-stop, handle-then, passed, ranges, length-range}
 use Rattle.joint.proofs.Ready.{walks}
 use Rattle.read.specs.Part.{File, Owned}
 use Rattle.growth.proofs.Grown.{More, larger-ready, owned-most}
 use Rattle.write.specs.Apart.{Apart}
 use Rattle.write.proofs.Apart.{is-apart}
-
--- a write reaches at least its own end
-pub after-end : (m : Mode) (old end : ℕ) → end ≤ sizeAfter m old end
-unfolding sizeAfter
-after-end Sequential old end = omega arith
-after-end Random old end = omega arith
+use Rattle.laws.specs.Rewrite.{after-end}
 
 pub after-sequential : (old end : ℕ) → sizeAfter Sequential old end ≡ end
 unfolding sizeAfter
@@ -61,7 +56,11 @@ stored-long f d i xs j ys e = ap (λ (l : List ℕ). length l) e ∙ store-long 
 -- position and length of a handle in range
 pub in-reach : (h : Handle) → inRange h ≡ true → (h .at ≤ highest) × (h .len ≤ 256)
 unfolding inRange
-in-reach h r = (leb-true _ _ (all-at _ r 0), leb-true _ _ (all-at _ r 2))
+in-reach h r = (leb-true _ _ (all-at _ r 0), length-range (h .len) (all-at _ r 1) .1)
+
+-- a file's size lies in what it owns
+pub old-owned : (g : Geometry) (d : List ℕ) (p : ℕ) {old : ℕ} → Ready g d p → old ≡ sizeOf g d p → old ≤ granuleBytes * length (owned g d p)
+old-owned g d p y e = let b = walks g d p y .0 .size p (slot-of g d p (y .slot)) (y .first) in omega arith
 
 module _ (g : Geometry) (d : List ℕ) (m : Mode) (h : Handle) (b : List ℕ) {ranged : Bool}
     (r : ranged ≡ all (inRange h ∷ leb (h .at + h .len) highest ∷ leb (h .len) (length b) ∷ [])) where
@@ -125,7 +124,7 @@ module _ (g : Geometry) (d : List ℕ) (m : Mode) (h : Handle) (b : List ℕ) {r
     pub file : File g d₁ (h .slot)
     pub apart : Apart g d₁ (h .slot)
     pub owns : Owned g d₁ (h .slot) (h .at) (h .len)
-    pub old : sizeOf g d (h .slot) ≤ 1280 * length (owned g d₁ (h .slot))
+    pub old : sizeOf g d (h .slot) ≤ granuleBytes * length (owned g d₁ (h .slot))
     pub high : size ≤ highest
     pub entry : entryAt g (h .slot) + 32 ≤ length d₁
 
@@ -133,7 +132,7 @@ module _ (g : Geometry) (d : List ℕ) (m : Mode) (h : Handle) (b : List ℕ) {r
       → (entryAt g (h .slot) + 32 ≤ length d₃) × (size ≤ highest)
   sized f i xs j ys {d₁} w e = let q = w .entry in let l = stored-long f d₁ i xs j ys e in (omega arith, w .high)
 
-  pub old-fits : {old size : ℕ} {d₁ : List ℕ} → old ≡ sizeOf g d (h .slot) → Stores d₁ size → old ≤ 1280 * length (owned g d₁ (h .slot))
+  pub old-fits : {old size : ℕ} {d₁ : List ℕ} → old ≡ sizeOf g d (h .slot) → Stores d₁ size → old ≤ granuleBytes * length (owned g d₁ (h .slot))
   old-fits e w = let q = w .old in omega arith
 
   pub stores : {k size : ℕ} {d₁ : List ℕ} → Ready g d (h .slot) → Fit → k ≡ first (cannotGrow g d (h .slot) (toWrite g d m h)) → k ≡ 0

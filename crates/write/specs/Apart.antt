@@ -3,9 +3,9 @@ use mathlib.Core.Logic.{_⊎_}
 use mathlib.Core.List.{List}
 use Prim.Native.Nat.{ℕ, _+_, _*_, _<_, _≤_}
 use lib.ListN.{length, getD}
-use Rattle.meaning.specs.Layout.{directorySectors}
+use Rattle.meaning.specs.Layout.{directorySectors, granuleBytes}
 use Rattle.meaning.specs.Chain.{owned}
 use Rattle.meaning.specs.declared.Geometry.{Geometry}
 
 pub record Apart (g : Geometry) (d : List ℕ) (s : ℕ) : Type 0 where
-  pub apart : (k : ℕ) → k < length (owned g d s) → (1280 * getD (owned g d s) k 0 + 1280 ≤ 256 * g .start) ⊎ (256 * (g .start + directorySectors g d) ≤ 1280 * getD (owned g d s) k 0)
+  pub apart : (k : ℕ) → k < length (owned g d s) → (granuleBytes * getD (owned g d s) k 0 + granuleBytes ≤ 256 * g .start) ⊎ (256 * (g .start + directorySectors g d) ≤ granuleBytes * getD (owned g d s) k 0)

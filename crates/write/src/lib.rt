@@ -4,25 +4,27 @@ use meaning::Geometry;
 use meaning::Handle;
 use meaning::Mode;
 ghost use mathlib.Core.Path.{_≡_};
+ghost use mathlib.Core.Bool.{cond};
 ghost use mathlib.Core.List.{[], _∷_};
 ghost use Prim.Native.Nat.{_+_, _-_, _*_, _<_, _≤_};
 ghost use lib.ListN.{length, take, replicate};
 ghost use lib.Dec.{leb};
 ghost use Rattle.meaning.specs.Lists.{all};
-ghost use Rattle.meaning.specs.Layout.{highest, entryAt};
+ghost use Rattle.meaning.specs.Layout.{highest, entryAt, granuleBytes, granulesFor};
 ghost use Rattle.meaning.specs.Chain.{owned, place};
-ghost use Rattle.meaning.specs.Refusals.{check, inRange};
+ghost use Rattle.meaning.specs.Refusals.{check, inRange, first, accepted, cannotGrow, larger, lacking};
 ghost use Rattle.meaning.specs.Write.{store, sizeAfter, withSize, writeRecord};
-ghost use Rattle.read.specs.Part.{File, Owned, InSector};
+ghost use Rattle.laws.specs.Steps.{Ready};
+ghost use Rattle.read.specs.Part.{File, Owned, InGranule};
 ghost use Rattle.write.specs.Apart.{Apart};
 
-// The first n bytes of src, at most 256, go to the file from byte i on: sector by sector, so two parts at the most. Both places
+// The first n bytes of src, at most 256, go to the file from byte i on: granule by granule, so two parts at the most. Both places
 // are found before anything is written.
 pub fn write_bytes(image: &mut [u8], g: Geometry, s: usize, i: usize, src: &[u8], n: usize)
     requires { ⌜ File g (now image) s × Owned g (now image) s i n × (n ≤ 256) × (n ≤ length (now src)) ⌝ }
     ensures { λ _. ⌜ now (image .exit) ≡ store (place g (now (image .entry)) s) (now (image .entry)) i (take n (now (src .entry))) ⌝ }
 {
-    let first = 256 - i % 256;
+    let first = layout::GRANULE_BYTES - i % layout::GRANULE_BYTES;
     let p = seek::place(image, g, s, i);
     if n <= first {
         copy::put_part(image, p, src, 0, n);
@@ -33,9 +35,9 @@ pub fn write_bytes(image: &mut [u8], g: Geometry, s: usize, i: usize, src: &[u8]
     copy::put_part(image, q, src, first, n - first);
 }
 
-// n zeros go to the file from byte i on: one walk along the chain and one part a sector.
+// n zeros go to the file from byte i on: one walk along the chain and one part a granule.
 pub fn clear_bytes(image: &mut [u8], g: Geometry, s: usize, i: usize, n: usize)
-    requires { ⌜ File g (now image) s × Apart g (now image) s × (i + n ≤ 1280 * length (owned g (now image) s)) × (i + n ≤ 16777215) ⌝ }
+    requires { ⌜ File g (now image) s × Apart g (now image) s × (i + n ≤ granuleBytes * length (owned g (now image) s)) × (i + n ≤ 16777215) ⌝ }
     ensures { λ _. ⌜ now (image .exit) ≡ store (place g (now (image .entry)) s) (now (image .entry)) i (replicate n 0) ⌝ }
 {
     let mut at = i;
@@ -49,12 +51,12 @@ pub fn clear_bytes(image: &mut [u8], g: Geometry, s: usize, i: usize, n: usize)
     }
 }
 
-// How many of n bytes from byte i on lie in its sector.
+// How many of n bytes from byte i on lie in its granule.
 fn part_of(i: usize, n: usize) -> usize
     requires { ⌜ 1 ≤ n ⌝ }
-    ensures { λ r. ⌜ InSector i r × (1 ≤ r) × (r ≤ n) ⌝ }
+    ensures { λ r. ⌜ InGranule i r × (1 ≤ r) × (r ≤ n) ⌝ }
 {
-    let room = 256 - i % 256;
+    let room = layout::GRANULE_BYTES - i % layout::GRANULE_BYTES;
     if n < room { n } else { room }
 }
 
@@ -89,12 +91,26 @@ fn gap(old: usize, at: usize) -> usize
 
 // Zeros from the old size to the position, then the record: the first n bytes of src.
 fn put_record(image: &mut [u8], g: Geometry, s: usize, old: usize, at: usize, src: &[u8], n: usize)
-    requires { ⌜ File g (now image) s × Apart g (now image) s × Owned g (now image) s at n × (old ≤ 1280 * length (owned g (now image) s)) × (old < 16777216) × (n ≤ 256) × (n ≤ length (now src)) ⌝ }
+    requires { ⌜ File g (now image) s × Apart g (now image) s × Owned g (now image) s at n × (old ≤ granuleBytes * length (owned g (now image) s)) × (old < 16777216) × (n ≤ 256) × (n ≤ length (now src)) ⌝ }
     ensures { λ _. ⌜ now (image .exit) ≡ store (place g (now (image .entry)) s) (store (place g (now (image .entry)) s) (now (image .entry)) old (replicate (at - old) 0)) at (take n (now (src .entry))) ⌝ }
 {
     let zeros = gap(old, at);
     clear_bytes(image, g, s, old, zeros);
     write_bytes(image, g, s, at, src, n);
+}
+
+// The file at slot p, `old` bytes long, gets the granules of a size, or the number of the refusal. Where the old size needs as many,
+// nothing is lacking, and the chain is not walked.
+fn grow_to(image: &mut [u8], g: Geometry, p: usize, old: usize, size: usize) -> u8
+    requires { ⌜ Ready g (now image) p × (old ≤ granuleBytes * length (owned g (now image) p)) × (old < 16777216) × (size ≤ 33554432) ⌝ }
+    ensures { λ r. ⌜ (r ≡ first (cannotGrow g (now (image .entry)) p (lacking g (now (image .entry)) p (granulesFor size))))
+        × (now (image .exit) ≡ cond (accepted r) (larger g (now (image .entry)) p (lacking g (now (image .entry)) p (granulesFor size))) (now (image .entry))) ⌝ }
+{
+    let wanted = growth::granules_for(size);
+    if wanted <= growth::granules_for(old) {
+        return 0;
+    }
+    growth::grow(image, g, p, wanted)
 }
 
 // The directory's end of file: end byte and sector count. B is set.
@@ -134,12 +150,7 @@ pub fn write_checked(
     let old = layout::size_of(image, g, h.slot);
     let end = h.at + h.len;
     let size = size_after(mode, old, end);
-    let number = growth::grow(
-        image,
-        g,
-        h.slot,
-        (size + (layout::GRANULE_BYTES - 1)) / layout::GRANULE_BYTES,
-    );
+    let number = grow_to(image, g, h.slot, old, size);
     if number != 0 {
         return Answer { number, handle: h };
     }

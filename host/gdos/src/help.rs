@@ -31,6 +31,7 @@ Exit status
   0  done
   1  refused by the disk's rules; the message has the number, what it means and the file
   2  wrong usage, or a file of the host that cannot be read or written
+  diff alone has that of the host's diff: 0 alike, 1 different, 2 trouble, a refusal too.
   Where a command was refused or failed no image was changed. An image is never left half written: a change is
   made to a copy beside it, which is then put in its place.
 ";
@@ -39,7 +40,7 @@ Exit status
 pub fn overview() -> String {
     let mut text = format!("{ABOUT}\nCommands\n");
     for command in COMMANDS {
-        text += &format!("  {:<7}{}\n", command.name, command.summary);
+        text += &format!("  {:<10}{}\n", command.name, command.summary);
     }
     text + "\n" + NAMES + "\n" + GEOMETRY + "\n" + &presets() + "\n" + STATUS
 }
@@ -67,7 +68,7 @@ pub fn on(command: &Command) -> String {
     for example in command.examples {
         text += &format!("  {example}\n");
     }
-    text + "\nExit status: 0 done, 1 refused, 2 wrong usage or I/O. `gdos --help` tells more.\n"
+    text + &format!("\nExit status: {}. `gdos --help` tells more.\n", command.status())
 }
 
 fn option(spec: &Spec) -> String {

@@ -21,7 +21,8 @@ fn main() -> ExitCode {
     ExitCode::from(run(std::env::args_os().skip(1)))
 }
 
-/// Runs one command and answers its exit status: 0 done, 1 refused, 2 wrong usage or I/O.
+/// Runs one command and answers its exit status: 0 done, 1 refused, 2 wrong usage or I/O (of `diff`: 0 alike, 1 different,
+/// 2 trouble).
 fn run(mut words: impl Iterator<Item = OsString>) -> u8 {
     let Some(first) = words.next() else {
         complain(help::overview().trim_end());
@@ -75,7 +76,7 @@ fn perform(command: &Command, args: &Args) -> u8 {
     for failure in &output.failures {
         complain(&format!("gdos: {failure}"));
     }
-    let status = output.failures.iter().map(Failure::status).max().unwrap_or(0);
+    let status = output.failures.iter().map(Failure::status).fold(output.status, u8::max);
     let printed = match json {
         true => print(format!("{}\n", output.json).as_bytes()),
         false => print(&output.text),

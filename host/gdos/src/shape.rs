@@ -1,6 +1,7 @@
 //! The geometry of an image: stated, taken from a preset, or found.
 
 use crate::args::{Args, Spec};
+use crate::commands::counted;
 use crate::failure::Failure;
 use crate::json::Json;
 use genie_dos::{Counts, Disk, Geometry, Refusal};
@@ -28,6 +29,25 @@ pub const OPTIONS: &[Spec] = &[
         value: Some("CODE"),
         help: "the password code that stands for \"no password\" (4296H)",
     },
+];
+
+/// The same for two images: the second's own options end in 2.
+pub const OPTIONS_OF_TWO: &[Spec] = &[
+    OPTIONS[0],
+    OPTIONS[1],
+    OPTIONS[2],
+    OPTIONS[3],
+    OPTIONS[4],
+    Spec {
+        long: "preset2",
+        short: None,
+        value: Some("NAME"),
+        help: "of the second image: its own numbers, where they are others",
+    },
+    Spec { long: "blocks2", short: None, value: Some("N"), help: "of the second image" },
+    Spec { long: "units2", short: None, value: Some("N"), help: "of the second image" },
+    Spec { long: "start2", short: None, value: Some("SECTOR"), help: "of the second image" },
+    Spec { long: "open-code2", short: None, value: Some("CODE"), help: "of the second image" },
 ];
 
 /// A known kind of disk.
@@ -70,7 +90,12 @@ pub struct Wanted {
     units: Option<usize>,
     start: Option<usize>,
     open_code: u16,
+    /// What the options that state it end in.
+    suffix: &'static str,
 }
+
+/// Nothing is said.
+const ANY: Wanted = Wanted { blocks: None, units: None, start: None, open_code: OPEN_CODE, suffix: "" };
 
 /// A geometry under which an image is consistent.
 #[derive(Clone, Copy, Debug)]
@@ -83,15 +108,27 @@ pub struct Fit {
 impl Wanted {
     /// From the options. A single option goes before the preset's number.
     pub fn from_args(args: &Args) -> Result<Wanted, Failure> {
-        let preset = match args.value("preset") {
+        Wanted::stated(args, ANY)
+    }
+
+    /// Of the second of two images: from its own options, which end in 2; where they say nothing the others hold for both.
+    pub fn second_from_args(args: &Args) -> Result<Wanted, Failure> {
+        Wanted::stated(args, Wanted { suffix: "2", ..Wanted::from_args(args)? })
+    }
+
+    /// What the options with a suffix say, and otherwise what is said already.
+    fn stated(args: &Args, otherwise: Wanted) -> Result<Wanted, Failure> {
+        let option = |name: &str| format!("{name}{}", otherwise.suffix);
+        let preset = match args.value(&option("preset")) {
             Some(name) => Some(named(&name.to_string_lossy())?),
             None => None,
         };
         Ok(Wanted {
-            blocks: args.number("blocks")?.or(preset.map(|p| p.blocks)),
-            units: args.number("units")?.or(preset.map(|p| p.units)),
-            start: args.number("start")?.or(preset.map(|p| p.start)),
-            open_code: args.code("open-code")?.unwrap_or(OPEN_CODE),
+            blocks: args.number(&option("blocks"))?.or(preset.map(|p| p.blocks)).or(otherwise.blocks),
+            units: args.number(&option("units"))?.or(preset.map(|p| p.units)).or(otherwise.units),
+            start: args.number(&option("start"))?.or(preset.map(|p| p.start)).or(otherwise.start),
+            open_code: args.code(&option("open-code"))?.unwrap_or(otherwise.open_code),
+            suffix: otherwise.suffix,
         })
     }
 
@@ -130,7 +167,12 @@ impl Wanted {
     /// The geometry to work with: the one stated, or the only one that fits.
     pub fn find(&self, image: &[u8], path: &str) -> Result<Geometry, Failure> {
         if let Some(geometry) = self.whole() {
-            return Ok(geometry);
+            return match Disk::new(image, geometry).check() {
+                Err(Refusal::Geometry) => {
+                    Err(Failure::image(path)(Refusal::Geometry).because(fault(geometry, image.len())))
+                }
+                _ => Ok(geometry),
+            };
         }
         match self.consistent(image).as_slice() {
             [] => Err(self.none_fits(image.len(), path)),
@@ -138,9 +180,9 @@ impl Wanted {
             several => {
                 let mut message = format!("{path}: {} geometries fit; choose one of\n", several.len());
                 for fit in several {
-                    message += &format!("  {}\n", described(fit));
+                    message += &format!("  {}\n", described(fit, self.suffix));
                 }
-                message += "by its options or, if it has one, by --preset";
+                message += &format!("by its options or, if it has one, by --preset{}", self.suffix);
                 Err(Failure::Wrong(message))
             }
         }
@@ -160,6 +202,25 @@ impl Wanted {
     }
 }
 
+/// What is wrong with a geometry that the library refuses for an image of this length.
+pub fn fault(geometry: Geometry, image_len: usize) -> String {
+    let Geometry { blocks, units, start, .. } = geometry;
+    let Some(needed) = geometry.image_len() else {
+        let (most_blocks, most_units) = (Geometry::MOST_BLOCKS, Geometry::MOST_UNITS);
+        return format!("a disk has 1 to {most_blocks} blocks of 1 to {most_units} units, not {blocks} of {units}");
+    };
+    let disk = format!("a disk of {} of {}", counted(blocks, "block"), counted(units, "unit"));
+    match (needed / Geometry::SECTOR_BYTES).checked_sub(10) {
+        None => format!("{disk} has no room for a directory of 10 sectors"),
+        Some(last) if start % Geometry::GRANULE_SECTORS != 0 || start > last => {
+            format!(
+                "the directory of {disk} begins at a sector from 0 to {last} that is a multiple of 5, not at {start}"
+            )
+        }
+        Some(_) => format!("{disk} has {needed} bytes, the image {image_len}"),
+    }
+}
+
 fn named(name: &str) -> Result<Geometry, Failure> {
     let found = PRESETS.iter().find(|preset| preset.name.eq_ignore_ascii_case(name));
     let names = || PRESETS.iter().map(|preset| preset.name).collect::<Vec<_>>().join(", ");
@@ -169,11 +230,14 @@ fn named(name: &str) -> Result<Geometry, Failure> {
 }
 
 /// The options that state a geometry, and what it would mean.
-fn described(fit: &Fit) -> String {
+fn described(fit: &Fit, suffix: &str) -> String {
     let Geometry { blocks, units, start, .. } = fit.geometry;
     let preset = preset_of(fit.geometry).map(|name| format!(", preset {name}")).unwrap_or_default();
     let Counts { files, free } = fit.counts;
-    format!("--blocks {blocks} --units {units} --start {start}  ({files} files, {free} granules free{preset})")
+    format!(
+        "--blocks{suffix} {blocks} --units{suffix} {units} --start{suffix} {start}  \
+         ({files} files, {free} granules free{preset})"
+    )
 }
 
 /// A geometry for `--json`.
@@ -191,8 +255,6 @@ pub fn json(geometry: Geometry) -> Json {
 mod tests {
     use super::*;
 
-    const ANY: Wanted = Wanted { blocks: None, units: None, start: None, open_code: OPEN_CODE };
-
     #[test]
     fn every_preset_is_a_disk() {
         for preset in PRESETS {
@@ -202,6 +264,18 @@ mod tests {
             assert_eq!(named(preset.name).unwrap(), preset.geometry);
         }
         assert!(named("sd41").is_err());
+    }
+
+    #[test]
+    fn says_what_is_wrong_with_a_geometry() {
+        let fault = |blocks, units, start| fault(Geometry::new(blocks, units, start, 0), 40_960);
+        assert_eq!(fault(193, 2, 80), "a disk has 1 to 192 blocks of 1 to 8 units, not 193 of 2");
+        assert_eq!(fault(1, 1, 0), "a disk of 1 block of 1 unit has no room for a directory of 10 sectors");
+        let start =
+            "the directory of a disk of 16 blocks of 2 units begins at a sector from 0 to 150 that is a multiple of 5";
+        assert_eq!(fault(16, 2, 81), format!("{start}, not at 81"));
+        assert_eq!(fault(16, 2, 155), format!("{start}, not at 155"));
+        assert_eq!(fault(16, 3, 80), "a disk of 16 blocks of 3 units has 61440 bytes, the image 40960");
     }
 
     #[test]

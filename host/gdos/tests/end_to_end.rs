@@ -11,7 +11,8 @@ use std::process::{Command, Stdio};
 use std::time::{Duration, SystemTime};
 
 const DATE: [&str; 2] = ["--date", "1983-10-09"];
-const COMMANDS: [&str; 11] = ["check", "ls", "cat", "get", "put", "rm", "trim", "free", "info", "new", "probe"];
+const COMMANDS: [&str; 13] =
+    ["check", "ls", "cat", "get", "put", "rm", "undelete", "trim", "free", "info", "new", "probe", "diff"];
 
 /// A folder with the small disk of the examples, PULS01/DAT (257 bytes) and LEER on it.
 fn sample(name: &str) -> Folder {
@@ -116,6 +117,8 @@ fn json_of_every_command() {
 
     let (status, free) = json(&["free", "d.img"]);
     assert_eq!((status, free.at("free").number(), free.at("free_bytes").number()), (0, 28, 28 * 1280));
+    assert_eq!((free.at("longest").number(), free.at("longest_bytes").number()), (14, 14 * 1280));
+    assert_eq!(free.at("granules").number(), 32);
     let (status, probe) = json(&["probe", "d.img"]);
     assert_eq!((status, probe.at("geometries").len(), probe.at("tried").number()), (0, 1, 124));
     assert_eq!(probe.at("geometries.0.geometry.start").number(), 80);
@@ -134,6 +137,21 @@ fn json_of_every_command() {
     assert_eq!((status, trim.at("files").len(), trim.at("files.0.freed").number()), (0, 2, 0));
     let (status, rm) = json(&["rm", "d.img", "PULS01/DAT"]);
     assert_eq!((status, rm.at("files.0.name").text(), rm.at("files.0.freed").number()), (0, "PULS01/DAT", 1));
+    let (status, removed) = json(&["undelete", "d.img"]);
+    assert_eq!((status, removed.at("removed").len()), (0, 1));
+    let members = [("slot", 0x80), ("size", 257), ("slots", 1), ("granules", 1)];
+    for (member, number) in members {
+        assert_eq!(removed.at("removed.0").at(member).number(), number, "{member}");
+    }
+    assert_eq!(removed.at("removed.0.name").text(), "PULS01/DAT");
+    assert_eq!(removed.at("removed.0.refused"), &Json::Null);
+    let (status, back) = json(&["undelete", "d.img", "puls01/dat"]);
+    assert_eq!((status, back.at("file.name").text(), back.at("file.size").number()), (0, "PULS01/DAT", 257));
+    for (member, number) in members {
+        assert_eq!(back.at("file").at(member).number(), number, "{member}");
+    }
+    let (status, refused) = json(&["undelete", "d.img", "--slot", "80H"]);
+    assert_eq!((status, refused.at("refused.number").number()), (1, 17));
     let (status, new) = json(&["new", "n.img", "--preset", "dd80ds"]);
     assert_eq!((status, new.at("bytes").number(), new.at("free").number()), (0, 737_280, 573));
 
@@ -463,4 +481,77 @@ fn probing_is_quick() {
             assert!(begun.elapsed().unwrap() < Duration::from_secs(5), "{name} of {filler}");
         }
     }
+}
+
+#[test]
+fn differences_as_json() {
+    let folder = sample("diff");
+    let json = |words: &[&str]| {
+        let done = folder.gdos(words);
+        (done.status, done.json())
+    };
+    let (status, alike) = json(&["diff", "--json", "d.img", "d.img"]);
+    assert_eq!((status, alike.at("alike"), alike.at("differences").len()), (0, &Json::Bool(true), 0));
+    assert_eq!((alike.at("first.image").text(), alike.at("second.image").text()), ("d.img", "d.img"));
+
+    // On another kind of disk, with a byte more, another day, and a file less and one more.
+    folder.write("puls01.dat", [0x55; 258]);
+    folder.done(&["new", "e.img", "--preset", "dd80ds"]);
+    folder.done(&["put", "e.img", "puls01.dat", "--date", "1983-10-10"]);
+    folder.done(&["put", "e.img", "leer", "--as", "NEU", "--date", "1983-10-10"]);
+    let (status, json) = json(&["diff", "--json", "d.img", "e.img"]);
+    assert_eq!((status, json.at("alike"), json.at("differences").len()), (1, &Json::Bool(false), 3));
+    assert_eq!(
+        (json.at("first.geometry.preset").text(), json.at("second.geometry.preset").text()),
+        ("sample", "dd80ds")
+    );
+    let told = |number: usize, member: &str| json.at(&format!("differences.{number}.{member}")).clone();
+    for (number, name, kind) in
+        [(0, "LEER", "only_in_first"), (1, "NEU", "only_in_second"), (2, "PULS01/DAT", "unlike")]
+    {
+        assert_eq!((told(number, "name").text(), told(number, "kind").text()), (name, kind));
+    }
+    for (member, set) in [("contents", true), ("size", true), ("date", true), ("attributes", false)] {
+        assert_eq!(told(2, member), Json::Bool(set), "{member}");
+        assert_eq!(told(0, member), Json::Bool(false), "{member}");
+    }
+    assert_eq!((told(2, "position"), told(0, "position")), (Json::Number(257), Json::Null));
+    assert_eq!((told(2, "first.size").number(), told(2, "second.size").number()), (257, 258));
+    assert_eq!(told(2, "second.date").text(), "1983-10-10");
+    assert_eq!((told(0, "second"), told(1, "first")), (Json::Null, Json::Null));
+    assert_eq!(told(1, "second.name").text(), "NEU");
+}
+
+/// What was read out of a disk and put back on another of any kind makes no difference; a change of one byte is found.
+#[test]
+fn a_copy_of_a_disk_has_no_difference() {
+    let folder = Folder::new("copy");
+    folder.done(&["new", "a.img", "--preset", "sd35"]);
+    let mut names = Vec::new();
+    for (i, size) in [0, 1, 255, 256, 257, 1279, 1280, 1281, 5000].into_iter().enumerate() {
+        let name = format!("f{i}.dat");
+        folder.write(&name, (0..size).map(|k| (k * 31 + i) as u8).collect::<Vec<_>>());
+        folder.done(&["put", "a.img", &name, DATE[0], DATE[1]]);
+        names.push(name);
+    }
+    names.reverse();
+    for preset in ["sd35", "sd80ds", "dd80ds", "largest"] {
+        folder.done(&["new", "b.img", "--preset", preset, "--force"]);
+        for name in &names {
+            folder.done(&["put", "b.img", name, DATE[0], DATE[1]]);
+        }
+        let done = folder.gdos(&["diff", "a.img", "b.img"]);
+        assert_eq!((done.status, done.text(), done.err.as_str()), (0, "", ""), "{preset}");
+    }
+    let mut bytes = folder.read("f8.dat");
+    bytes[4321] ^= 1;
+    folder.write("f8.dat", bytes);
+    folder.done(&["put", "b.img", "f8.dat", "--force"]);
+    let done = folder.gdos(&["diff", "a.img", "b.img"]);
+    assert_eq!((done.status, done.text()), (1, "F8/DAT: differs from byte 4321\n"));
+    // Neither image is touched, a write-protected one can be compared.
+    fs::set_permissions(folder.path("a.img"), Permissions::from_mode(0o444)).unwrap();
+    let before = folder.everything();
+    assert_eq!(folder.gdos(&["diff", "a.img", "b.img"]).status, 1);
+    assert!(folder.everything() == before);
 }

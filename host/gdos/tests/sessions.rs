@@ -26,6 +26,11 @@ fn refusals() {
 }
 
 #[test]
+fn undelete() {
+    play("undelete");
+}
+
+#[test]
 fn full_disk() {
     play("full-disk");
 }
@@ -58,6 +63,11 @@ fn overwriting() {
 #[test]
 fn usage() {
     play("usage");
+}
+
+#[test]
+fn two_images() {
+    play("diff");
 }
 
 #[test]

@@ -1,4 +1,4 @@
-//! The exported functions of `libgenie.a`, and the one place where they are called.
+//! The exported functions of `libgenie.a`, and the one place in this crate where they are called.
 
 use crate::library::Library;
 use std::rc::Rc;
@@ -16,162 +16,17 @@ pub fn linked_or_fail() -> Rc<dyn Library> {
     linked().expect("built without libgenie.a: build the library first, or name its directory in GENIE_LIB_DIR")
 }
 
+// The declarations are the wrapper's; its tests/header.rs holds them against genie.h.
+#[cfg(genie_linked)]
+#[path = "../../rust/src/sys.rs"]
+mod sys;
+
 #[cfg(genie_linked)]
 mod bound {
+    use super::sys::*;
     use crate::calls::{Birth, Number};
     use crate::geometry::Geometry;
     use crate::library::Library;
-
-    extern "C" {
-        fn genie_check(
-            image: *const u8,
-            image_len: usize,
-            blocks: usize,
-            units: usize,
-            start: usize,
-            open_code: u16,
-        ) -> u8;
-        fn genie_look_up(
-            image: *const u8,
-            image_len: usize,
-            blocks: usize,
-            units: usize,
-            start: usize,
-            open_code: u16,
-            name: *const u8,
-            name_len: usize,
-            slot: *mut usize,
-            compared: *mut usize,
-        ) -> u8;
-        fn genie_open(
-            image: *const u8,
-            image_len: usize,
-            blocks: usize,
-            units: usize,
-            start: usize,
-            open_code: u16,
-            name: *const u8,
-            name_len: usize,
-            length: usize,
-            checking: bool,
-            code: u16,
-            handle: *mut u8,
-            handle_len: usize,
-        ) -> u8;
-        fn genie_create(
-            image: *mut u8,
-            image_len: usize,
-            blocks: usize,
-            units: usize,
-            start: usize,
-            open_code: u16,
-            name: *const u8,
-            name_len: usize,
-            day: usize,
-            month: usize,
-            year: usize,
-            length: usize,
-            main_code: u16,
-            worker_code: u16,
-            checking: bool,
-            old: *mut usize,
-            handle: *mut u8,
-            handle_len: usize,
-        ) -> u8;
-        fn genie_read_record(
-            image: *const u8,
-            image_len: usize,
-            blocks: usize,
-            units: usize,
-            start: usize,
-            open_code: u16,
-            handle: *mut u8,
-            handle_len: usize,
-            buffer: *mut u8,
-            buffer_len: usize,
-        ) -> u8;
-        fn genie_read_sector(
-            image: *const u8,
-            image_len: usize,
-            blocks: usize,
-            units: usize,
-            start: usize,
-            open_code: u16,
-            handle: *const u8,
-            handle_len: usize,
-            k: usize,
-            from: *mut usize,
-            to: *mut usize,
-        ) -> u8;
-        fn genie_write_record(
-            image: *mut u8,
-            image_len: usize,
-            blocks: usize,
-            units: usize,
-            start: usize,
-            open_code: u16,
-            handle: *mut u8,
-            handle_len: usize,
-            sequential: bool,
-            buffer: *const u8,
-            buffer_len: usize,
-        ) -> u8;
-        fn genie_allot(
-            image: *mut u8,
-            image_len: usize,
-            blocks: usize,
-            units: usize,
-            start: usize,
-            open_code: u16,
-            handle: *const u8,
-            handle_len: usize,
-            k: usize,
-        ) -> u8;
-        fn genie_trim(
-            image: *mut u8,
-            image_len: usize,
-            blocks: usize,
-            units: usize,
-            start: usize,
-            open_code: u16,
-            handle: *const u8,
-            handle_len: usize,
-        ) -> u8;
-        fn genie_kill(
-            image: *mut u8,
-            image_len: usize,
-            blocks: usize,
-            units: usize,
-            start: usize,
-            open_code: u16,
-            handle: *const u8,
-            handle_len: usize,
-        ) -> u8;
-        fn genie_list(
-            image: *const u8,
-            image_len: usize,
-            blocks: usize,
-            units: usize,
-            start: usize,
-            open_code: u16,
-            number: usize,
-            name: *mut u8,
-            name_len: usize,
-            size: *mut usize,
-            granules: *mut usize,
-            more: *mut usize,
-        ) -> u8;
-        fn genie_count(
-            image: *const u8,
-            image_len: usize,
-            blocks: usize,
-            units: usize,
-            start: usize,
-            open_code: u16,
-            files: *mut usize,
-            free: *mut usize,
-        ) -> u8;
-    }
 
     pub struct Linked;
 
@@ -375,6 +230,28 @@ mod bound {
                 )
             }
         }
+        fn bring_back(
+            &self,
+            image: &mut [u8],
+            g: &Geometry,
+            slot: usize,
+            slots: &mut usize,
+            granules: &mut usize,
+        ) -> Number {
+            unsafe {
+                genie_bring_back(
+                    image.as_mut_ptr(),
+                    image.len(),
+                    g.blocks,
+                    g.units,
+                    g.start,
+                    g.open_code,
+                    slot,
+                    slots,
+                    granules,
+                )
+            }
+        }
         fn list(
             &self,
             image: &[u8],
@@ -405,6 +282,48 @@ mod bound {
         fn count(&self, image: &[u8], g: &Geometry, files: &mut usize, free: &mut usize) -> Number {
             unsafe {
                 genie_count(image.as_ptr(), image.len(), g.blocks, g.units, g.start, g.open_code, files, free)
+            }
+        }
+        fn free(&self, image: &[u8], g: &Geometry, free: &mut usize, longest: &mut usize) -> Number {
+            unsafe {
+                genie_free(image.as_ptr(), image.len(), g.blocks, g.units, g.start, g.open_code, free, longest)
+            }
+        }
+        fn compare(
+            &self,
+            first: &[u8],
+            g: &Geometry,
+            second: &[u8],
+            h: &Geometry,
+            number: usize,
+            name: &mut [u8],
+            image: &mut usize,
+            kind: &mut usize,
+            position: &mut usize,
+            flags: &mut usize,
+        ) -> Number {
+            unsafe {
+                genie_compare(
+                    first.as_ptr(),
+                    first.len(),
+                    g.blocks,
+                    g.units,
+                    g.start,
+                    g.open_code,
+                    second.as_ptr(),
+                    second.len(),
+                    h.blocks,
+                    h.units,
+                    h.start,
+                    h.open_code,
+                    number,
+                    name.as_mut_ptr(),
+                    name.len(),
+                    image,
+                    kind,
+                    position,
+                    flags,
+                )
             }
         }
     }

@@ -17,8 +17,10 @@ pub enum Call {
     Allot { handle: Vec<u8>, k: usize },
     Trim { handle: Vec<u8> },
     Kill { handle: Vec<u8> },
+    BringBack { slot: usize },
     List { which: usize, name: Vec<u8> },
     Count,
+    Free,
 }
 
 impl Call {
@@ -35,14 +37,16 @@ impl Call {
             Call::Allot { .. } => "allot",
             Call::Trim { .. } => "trim",
             Call::Kill { .. } => "kill",
+            Call::BringBack { .. } => "bring back",
             Call::List { .. } => "list",
             Call::Count => "count",
+            Call::Free => "free",
         }
     }
 }
 
 /// The numbers that each call can give, 0 included.
-pub const POSSIBLE: [(&str, &[Number]); 13] = [
+pub const POSSIBLE: [(&str, &[Number]); 16] = [
     ("check", &[0, 1, 2]),
     ("look up", &[0, 1, 2, 3, 4]),
     ("open", &[0, 1, 2, 12, 3, 4, 5]),
@@ -54,8 +58,11 @@ pub const POSSIBLE: [(&str, &[Number]); 13] = [
     ("allot", &[0, 1, 2, 12, 7, 6, 11, 9, 8]),
     ("trim", &[0, 1, 2, 12, 7, 6]),
     ("kill", &[0, 1, 2, 12, 7, 6]),
+    ("bring back", &[0, 1, 2, 12, 17, 6, 18, 19, 20]),
     ("list", &[0, 1, 2, 12]),
     ("count", &[0, 1, 2]),
+    ("free", &[0, 1]),
+    ("compare", &[0, 1, 2, 12]),
 ];
 
 /// All that a call answers and leaves, the image apart.
@@ -125,7 +132,7 @@ pub fn perform(library: &dyn Library, image: &mut [u8], g: &Geometry, call: &Cal
         }
         Call::ReadSector { handle, .. } | Call::Allot { handle, .. } => (handle, &nothing, &nothing),
         Call::Trim { handle } | Call::Kill { handle } => (handle, &nothing, &nothing),
-        Call::Check | Call::Count => (&nothing, &nothing, &nothing),
+        Call::Check | Call::BringBack { .. } | Call::Count | Call::Free => (&nothing, &nothing, &nothing),
     };
     let (mut handle, mut buffer, mut name) = (Lent::new(handle), Lent::new(buffer), Lent::new(name));
     let (mut one, mut two, mut three) = (UNSET, UNSET, UNSET);
@@ -157,6 +164,11 @@ pub fn perform(library: &dyn Library, image: &mut [u8], g: &Geometry, call: &Cal
         Call::Allot { k, .. } => library.allot(image, g, handle.lend(), *k),
         Call::Trim { .. } => library.trim(image, g, handle.lend()),
         Call::Kill { .. } => library.kill(image, g, handle.lend()),
+        Call::BringBack { slot } => {
+            let number = library.bring_back(image, g, *slot, &mut one, &mut two);
+            numbers = vec![("slots", one), ("granules", two)];
+            number
+        }
         Call::List { which, .. } => {
             let number = library.list(image, g, *which, name.lend(), &mut one, &mut two, &mut three);
             numbers = vec![("size", one), ("granules", two), ("more", three)];
@@ -165,6 +177,11 @@ pub fn perform(library: &dyn Library, image: &mut [u8], g: &Geometry, call: &Cal
         Call::Count => {
             let number = library.count(image, g, &mut one, &mut two);
             numbers = vec![("files", one), ("free", two)];
+            number
+        }
+        Call::Free => {
+            let number = library.free(image, g, &mut one, &mut two);
+            numbers = vec![("free", one), ("longest", two)];
             number
         }
     };

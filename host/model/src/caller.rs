@@ -7,7 +7,7 @@ use crate::directory::{directory_sectors, entry, files, owned, slots};
 use crate::disks::{random_name, random_name_like, Disk};
 use crate::geometry::{Geometry, GRANULE_BYTES, GRANULE_SECTORS, HIGHEST_POSITION, HIGHEST_SECTOR};
 use crate::handle::{Handle, HANDLE_BYTES};
-use crate::names::{Name, BLANK, FULL_NAME_BYTES};
+use crate::names::{well_formed, Name, BLANK, FULL_NAME_BYTES};
 use crate::random::Random;
 use crate::space::free_granules;
 
@@ -271,7 +271,7 @@ impl Caller {
 
     /// Some call.
     pub fn make(&self, random: &mut Random, image: &[u8], g: &Geometry) -> Call {
-        match random.within(0, 99) {
+        match random.within(0, 106) {
             0..=2 => Call::Check,
             3..=9 => Call::LookUp { name: self.name(random, image, g) },
             10..=19 => Call::Open {
@@ -327,7 +327,30 @@ impl Caller {
                 };
                 Call::List { which, name: (0..room).map(|_| random.byte()).collect() }
             }
-            _ => Call::Count,
+            97 | 98 => Call::Count,
+            99 => Call::Free,
+            _ => Call::BringBack { slot: self.killed_slot(random, image, g) },
+        }
+    }
+
+    /// A slot to bring a file back from: mostly one whose entry looks like a killed file's.
+    fn killed_slot(&self, random: &mut Random, image: &[u8], g: &Geometry) -> usize {
+        let Some(d) = directory_within(image, g) else {
+            return random.byte() as usize;
+        };
+        let dead: Vec<u8> = slots(d).filter(|&slot| !entry(image, g, slot).in_use()).collect();
+        let looks_killed = |slot: &u8| {
+            let this = entry(image, g, *slot);
+            well_formed(&this.name()) && !this.is_extension()
+        };
+        let killed: Vec<u8> = dead.iter().copied().filter(looks_killed).collect();
+        match random.within(if self.sober { 2 } else { 0 }, 19) {
+            0 => wild(random),
+            1 | 2 => random.byte() as usize,
+            3 if !dead.is_empty() => *random.pick(&dead) as usize,
+            4 => Self::some_file(random, image, g).unwrap_or(0) as usize,
+            _ if !killed.is_empty() => *random.pick(&killed) as usize,
+            _ => *random.pick(&slots(d).collect::<Vec<_>>()) as usize,
         }
     }
 

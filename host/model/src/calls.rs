@@ -8,7 +8,7 @@ use crate::directory::{
 use crate::geometry::{Geometry, GRANULE_BYTES, GRANULE_SECTORS, HIGHEST_POSITION, HIGHEST_SECTOR, SECTOR_BYTES};
 use crate::handle::{good_length, Handle, HANDLE_BYTES};
 use crate::names::{hash, well_formed, Name, FULL_NAME_BYTES};
-use crate::space::{drop_one, first_permitted_slot, free_granules, grow, Short};
+use crate::space::{drop_one, first_permitted_slot, free_granules, grow, longest_stretch, Short};
 
 /// A refusal's number; 0 is no refusal.
 pub type Number = u8;
@@ -48,7 +48,7 @@ const WRITING_LEVEL: u8 = 4;
 const KILLING_LEVEL: u8 = 1;
 
 /// Rows 1 and 2 of the table, which come first in every call. Gives the number of directory sectors.
-fn tested(image: &[u8], g: &Geometry) -> Result<usize, Number> {
+pub(crate) fn tested(image: &[u8], g: &Geometry) -> Result<usize, Number> {
     if !g.fits(image.len()) {
         return Err(GEOMETRY);
     }
@@ -58,7 +58,7 @@ fn tested(image: &[u8], g: &Geometry) -> Result<usize, Number> {
     Ok(directory_sectors(image, g).expect("allowed on a consistent disk"))
 }
 
-fn number(answer: Result<(), Number>) -> Number {
+pub(crate) fn number(answer: Result<(), Number>) -> Number {
     answer.err().unwrap_or(ACCEPTED)
 }
 
@@ -436,4 +436,15 @@ pub fn count(image: &[u8], g: &Geometry, files: &mut usize, free: &mut usize) ->
         *free = free_granules(image, g).count();
         Ok(())
     })())
+}
+
+/// 02 §5: "Give the number, and the longest free stretch, from the GAT sector alone. ... Refusals: 1 only."
+pub fn free(image: &[u8], g: &Geometry, free: &mut usize, longest: &mut usize) -> Number {
+    (*free, *longest) = (0, 0);
+    if !g.fits(image.len()) {
+        return GEOMETRY;
+    }
+    *free = free_granules(image, g).count();
+    *longest = longest_stretch(image, g);
+    ACCEPTED
 }

@@ -6,6 +6,9 @@ use crate::caller::{odd_geometry, Caller};
 use crate::calls::{Number, ACCEPTED, LEVEL};
 use crate::consistency::consistent;
 use crate::damage::{random_flips, DAMAGES};
+use crate::differences::{
+    differences, CONTENTS, DATE, FIRST, NO_MORE, ONLY_IN_FIRST, ONLY_IN_SECOND, OTHER, SECOND, SIZE, UNLIKE,
+};
 use crate::directory::{
     chain, directory_sectors, entry, gat_place, hit_place, owned, slots, ENTRY_BYTES, LENGTH_PLACE,
 };
@@ -13,8 +16,11 @@ use crate::disks::{random_disk, Disk};
 use crate::geometry::{Geometry, GRANULE_BYTES, SECTOR_BYTES};
 use crate::handle::Handle;
 use crate::library::{Library, Model};
-use crate::names::written;
+use crate::names::{written, FULL_NAME_BYTES};
+use crate::pairs::{holding, side, tell, Side, Told, CHANGES};
+use crate::plain::files_of;
 use crate::random::Random;
+use crate::space::free_stretches;
 use std::collections::BTreeMap;
 
 /// How often each call gave each number, and how often other things worth meeting were met.
@@ -53,11 +59,30 @@ pub const EVENTS: &[&str] = &[
     "trim gives back all",
     "trim under F",
     "kill of a file with extensions",
+    "bring back of a file without granules",
+    "bring back of a file with an extension",
+    "bring back of a file with many extensions",
     "list tells a file",
     "list tells no more",
+    "free space of a disk that is not consistent",
+    "longest stretch over blocks",
+    "longest stretch to the end",
+    "bits past the last unit clear",
     "level refused on a system file",
     "a long buffer's rest is untouched",
     "still consistent after flips",
+    "compare tells only in the first",
+    "compare tells only in the second",
+    "compare tells contents",
+    "compare tells a beginning of the other",
+    "compare tells a size",
+    "compare tells a date",
+    "compare tells attributes alone",
+    "compare tells no more",
+    "compare tells a high number",
+    "compare refuses the first image",
+    "compare refuses the second image",
+    "compare refuses both images",
 ];
 
 impl Seen {
@@ -305,6 +330,26 @@ impl Before {
                 seen.event("list tells a file", outcome.numbered("more") == 1);
                 seen.event("list tells no more", outcome.numbered("more") == 0);
             }
+            Call::Free => {
+                let longest = outcome.numbered("longest");
+                let first = free_stretches(image, g).into_iter().find(|stretch| stretch.len() == longest);
+                let first = first.expect("the longest is one of them");
+                seen.event("free space of a disk that is not consistent", !consistent(image, g));
+                seen.event(
+                    "longest stretch over blocks",
+                    longest > 0 && first.start / g.units < (first.end - 1) / g.units,
+                );
+                seen.event("longest stretch to the end", longest > 0 && first.end == g.granules());
+                let spare = |block: usize| image[g.start * SECTOR_BYTES + block] as usize >> g.units;
+                let clear = (0..g.blocks).any(|block| spare(block) != 0xFF >> g.units);
+                seen.event("bits past the last unit clear", g.units < 8 && clear);
+            }
+            Call::BringBack { .. } => {
+                let slots = outcome.numbered("slots");
+                seen.event("bring back of a file without granules", outcome.numbered("granules") == 0);
+                seen.event("bring back of a file with an extension", slots == 2);
+                seen.event("bring back of a file with many extensions", slots > 4);
+            }
             Call::ReadSector { .. } => {
                 seen.event("sector part under 256 bytes", outcome.numbered("to") - outcome.numbered("from") < 256)
             }
@@ -400,6 +445,11 @@ pub fn disk_run(library: &dyn Library, seed: u64, seen: &mut Seen) -> Result<(),
         );
     }
 
+    let mut after = disk.clone();
+    after.image = sides.image().to_vec();
+    // Drawn by itself, so that a disk's calls are the same with and without it.
+    two_images(library, &mut Random::new(!seed), &disk, &after, seen)?;
+
     // Damaged copies: the check, and one call each. A call accepted under an odd geometry may have
     // spoilt the disk for its own; then the disk as it was is damaged.
     let mut whole = disk.clone();
@@ -423,6 +473,7 @@ pub fn disk_run(library: &dyn Library, seed: u64, seen: &mut Seen) -> Result<(),
         sides.set_image(&copy.image);
         let outcome = sides.both(&disk.g, length, &Call::Check, seen).map_err(|text| format!("{title}: {text}"))?;
         seen.event("still consistent after flips", title == "flips" && outcome.number == ACCEPTED);
+        sides.both(&disk.g, length, &Call::Free, seen).map_err(|text| format!("{title}: {text}"))?;
         for _ in 0..if outcome.number == ACCEPTED { 6 } else { 1 } {
             sides.step(&mut random, seen).map_err(|text| format!("{title}: {text}"))?;
         }
@@ -441,10 +492,142 @@ pub fn disk_run(library: &dyn Library, seed: u64, seen: &mut Seen) -> Result<(),
     sides.set_image(&image);
     sides.both(&disk.g, length, &Call::Check, seen).map_err(|text| format!("random directory: {text}"))?;
 
+    // Nonsense for a GAT: free space is told all the same.
+    let gat = from..from + SECTOR_BYTES;
+    random.fill(&mut image[gat.clone()]);
+    if random.percent(50) {
+        // Long stretches: most bits clear, or whole blocks.
+        for place in gat {
+            image[place] = if random.percent(80) { 0 } else { *random.pick(&[0xFF, 0x01, 0x80, image[place]]) };
+        }
+    }
+    sides.set_image(&image);
+    sides.both(&disk.g, length, &Call::Free, seen).map_err(|text| format!("random GAT: {text}"))?;
+
     // Geometries for the same bytes.
     for _ in 0..4 {
         let (g, length) = odd_geometry(&mut random, &disk.g, length);
         sides.both(&g, length, &Call::Check, seen).map_err(|text| format!("odd geometry: {text}"))?;
+        sides.both(&g, length, &Call::Free, seen).map_err(|text| format!("odd geometry: {text}"))?;
     }
     Ok(())
+}
+
+/// Compare on both sides; the text says what differs.
+fn both_tell(
+    library: &dyn Library,
+    (first, second): (Side, Side),
+    number: usize,
+    room: &[u8],
+    seen: &mut Seen,
+) -> Result<Told, String> {
+    let mine = tell(&Model, first, second, number, room);
+    let theirs = tell(library, first, second, number, room);
+    seen.calls += 1;
+    *seen.numbers.entry(("compare", mine.number)).or_default() += 1;
+    let unlike = mine.kind == UNLIKE;
+    let has = |flag: usize| unlike && mine.flags & flag != 0;
+    for (what, happened) in [
+        ("compare tells only in the first", mine.kind == ONLY_IN_FIRST),
+        ("compare tells only in the second", mine.kind == ONLY_IN_SECOND),
+        ("compare tells contents", has(CONTENTS)),
+        ("compare tells a size", has(SIZE)),
+        ("compare tells a date", has(DATE)),
+        ("compare tells attributes alone", unlike && mine.flags == OTHER),
+        ("compare tells no more", mine.number == ACCEPTED && mine.kind == NO_MORE),
+        ("compare tells a high number", mine.kind != NO_MORE && number >= 5),
+        ("compare refuses the first image", mine.image == FIRST),
+        ("compare refuses the second image", mine.image == SECOND),
+    ] {
+        seen.event(what, happened);
+    }
+    match mine == theirs && theirs.within {
+        true => Ok(mine),
+        false => Err(format!(
+            "compare, number {number}, name buffer {room:02X?}:\n  model   {mine:02X?}\n  library {theirs:02X?} (hexadecimal)\n  \
+             on {:?}, image length {}\n  and {:?}, image length {}",
+            first.1,
+            first.0.len(),
+            second.1,
+            second.0.len()
+        )),
+    }
+}
+
+/// Compare (02 §1): a disk as it was and as calls left it, either way about; with the same files laid out on another disk
+/// and one of them changed; and with images of which one or both are refused.
+fn two_images(
+    library: &dyn Library,
+    random: &mut Random,
+    before: &Disk,
+    after: &Disk,
+    seen: &mut Seen,
+) -> Result<(), String> {
+    let mut pairs = vec![(before.clone(), after.clone()), (after.clone(), before.clone())];
+    if before.g.granules() <= 400 {
+        let mut files = files_of(&before.image, &before.g);
+        random.pick(&CHANGES).apply(random, &mut files);
+        if let Some(other) = holding(random, &files) {
+            pairs.push((before.clone(), other));
+        }
+    }
+    // A call accepted under an odd geometry may have spoilt the disk for its own: that too is compared.
+    for (first, second) in &pairs {
+        let known = match consistent(&first.image, &first.g) && consistent(&second.image, &second.g) {
+            true => differences(&first.image, &first.g, &second.image, &second.g).len(),
+            false => 0,
+        };
+        for _ in 0..3 {
+            let number = match random.within(0, 7) {
+                0 => random.draw() as usize,
+                1 => known,
+                _ => random.within(0, known),
+            };
+            let length = match random.within(0, 9) {
+                0 => random.within(0, FULL_NAME_BYTES - 1),
+                1 => random.within(FULL_NAME_BYTES, 20),
+                _ => FULL_NAME_BYTES,
+            };
+            let room: Vec<u8> = (0..length).map(|_| random.byte()).collect();
+            let told = both_tell(library, (side(first), side(second)), number, &room, seen)?;
+            let whole = told.flags & (SIZE | CONTENTS) == SIZE | CONTENTS && told.kind == UNLIKE;
+            seen.event("compare tells a beginning of the other", whole && begins(first, second, &told));
+        }
+    }
+    for _ in 0..2 {
+        let (mut first, mut second) = random.pick(&pairs).clone();
+        let which = random.within(1, 3);
+        if which & 1 != 0 {
+            refusable(random, &mut first);
+        }
+        if which & 2 != 0 {
+            refusable(random, &mut second);
+        }
+        let refused = |disk: &Disk| crate::calls::check(&disk.image, &disk.g) != ACCEPTED;
+        seen.event("compare refuses both images", refused(&first) && refused(&second));
+        both_tell(library, (side(&first), side(&second)), 0, &[0xEE; FULL_NAME_BYTES], seen)?;
+    }
+    Ok(())
+}
+
+/// The position told is where one of the two files ends.
+fn begins(first: &Disk, second: &Disk, told: &Told) -> bool {
+    let ends = |disk: &Disk| {
+        let name = told.name[..FULL_NAME_BYTES].try_into().expect("11 bytes");
+        files_of(&disk.image, &disk.g)
+            .get::<crate::names::Name>(&name)
+            .is_some_and(|f| f.bytes.len() == told.position)
+    };
+    ends(first) || ends(second)
+}
+
+/// Makes a disk one that is likely to be refused: damaged, or under another geometry or of another length.
+fn refusable(random: &mut Random, disk: &mut Disk) {
+    if random.percent(50) && consistent(&disk.image, &disk.g) {
+        random.pick(DAMAGES).apply(disk, random);
+    } else {
+        let (g, length) = odd_geometry(random, &disk.g, disk.image.len());
+        disk.g = g;
+        disk.image.truncate(length);
+    }
 }

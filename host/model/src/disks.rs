@@ -1,10 +1,10 @@
 //! Random consistent disks, built by placing files at random, not by calls: scattered files,
-//! extensions, system files that own directory granules, reserved granules, files and extensions in
-//! kept slots, all flags, levels and codes, and odd bytes wherever 01 tests none.
+//! extensions, system files that own directory granules, reserved granules, killed files, files and extensions
+//! in kept slots, all flags, levels and codes, and odd bytes wherever 01 tests none.
 
 use crate::directory::{
-    directory_granules, hit_place, put_entry, set_taken, slots, Entry, Pair, ENTRY_BYTES, EXTENSION_FLAGS,
-    LENGTH_PLACE, MARKER_LAST, MARKER_LINK, PAIRS,
+    chain, directory_granules, entry, entry_place, files, hit_place, owned, put_entry, set_taken, slots, Entry,
+    Pair, ENTRY_BYTES, EXTENSION_FLAGS, LENGTH_PLACE, MARKER_LAST, MARKER_LINK, PAIRS,
 };
 use crate::geometry::{Geometry, GRANULE_BYTES, GRANULE_SECTORS, MOST_BLOCKS, MOST_UNITS, SECTOR_BYTES};
 use crate::names::{hash, Name, BLANK, FULL_NAME_BYTES, NAME_BYTES};
@@ -345,6 +345,43 @@ impl Builder<'_> {
     }
 }
 
+/// Kills some of the files, system files too, as the call would; some of the dead entries are then spoilt, or
+/// get the name of a file that is there.
+fn leave_killed(random: &mut Random, image: &mut [u8], g: &Geometry, d: usize) {
+    let mut all = files(image, g, d);
+    random.shuffle(&mut all);
+    all.truncate(random.within(0, all.len().min(8)));
+    for &file in &all {
+        let (dead, granules) = (chain(image, g, d, file), owned(image, g, d, file));
+        let of_directory = granules.iter().any(|granule| directory_granules(g, d).contains(granule));
+        if of_directory {
+            continue;
+        }
+        for &slot in &dead {
+            image[entry_place(g, slot)] &= !(1 << 4);
+            image[hit_place(g, slot)] = 0;
+        }
+        for granule in granules {
+            set_taken(image, g, granule, false);
+        }
+        match random.within(0, 9) {
+            0 => {
+                let spoilt = entry_place(g, *random.pick(&dead));
+                let at = *random.pick(&[0x00, 0x01, 0x03, 0x05, 0x14, 0x15, 0x16, 0x17, 0x18, 0x1E, 0x1F]);
+                image[spoilt + at] = random.byte() & if at == 0 { !(1 << 4) } else { 0xFF };
+            }
+            1 => {
+                if let Some(&other) = files(image, g, d).first() {
+                    let name = entry(image, g, other).name();
+                    let place = entry_place(g, file);
+                    image[place + 0x05..place + 0x10].copy_from_slice(&name);
+                }
+            }
+            _ => {}
+        }
+    }
+}
+
 pub fn random_disk(random: &mut Random) -> Disk {
     let plan = plan(random);
     let (g, d) = (plan.g, plan.d);
@@ -355,7 +392,7 @@ pub fn random_disk(random: &mut Random) -> Disk {
     let mut free_slots: Vec<u8> = slots(d).collect();
     for &slot in &free_slots {
         image[hit_place(&g, slot)] = 0;
-        let place = crate::directory::entry_place(&g, slot);
+        let place = entry_place(&g, slot);
         image[place] &= !(1 << 4);
     }
     random.shuffle(&mut free_slots);
@@ -372,7 +409,11 @@ pub fn random_disk(random: &mut Random) -> Disk {
     let mut builder = Builder { random, plan, image, free, free_slots, names: Vec::new(), codes };
     builder.place_system_files();
     builder.place_files();
-    Disk { g, image: builder.image, codes: builder.codes }
+    let (mut image, codes) = (builder.image, builder.codes);
+    if random.percent(50) {
+        leave_killed(random, &mut image, &g, d);
+    }
+    Disk { g, image, codes }
 }
 
 /// An empty disk: zeros, but for the directory's length and its reserved granules.

@@ -9,6 +9,7 @@ use crate::geometry::{Geometry, GRANULE_BYTES, SECTOR_BYTES};
 use crate::handle::{Handle, HANDLE_BYTES};
 use crate::library::{Library, Model};
 use crate::names::Name;
+use crate::pairs::tell_all;
 use crate::plain::{files_of, Files};
 use crate::random::Random;
 
@@ -314,6 +315,11 @@ pub fn demand_three(library: &dyn Library, seed: u64, tally: &mut Tally) -> Resu
         }
         if outcome.told != before.told {
             return wrong("other answers");
+        }
+        // Request 02, §1: a disk whose calls were made in another order has no difference.
+        let compared = tell_all(library, (&before.image, &disk.g), (&outcome.image, &disk.g));
+        if compared != Ok(Vec::new()) {
+            return wrong(&format!("compare tells {compared:02X?}"));
         }
         if outcome.quiet != before.quiet {
             return wrong("something is taken or given back");

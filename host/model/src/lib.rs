@@ -1,10 +1,11 @@
-//! Document 01 as a plain model, and the tests that hold the library against it.
+//! Documents 01 and 02 as a plain model, and the tests that hold the library against it.
 //!
-//! The model is written from document 01 alone, slowly and readably, one module a concept: it is a
-//! second opinion on what the document says, so it shares no line with the library or its proofs.
+//! The model is written from the documents alone, slowly and readably, one module a concept: it is a
+//! second opinion on what they say, so it shares no line with the library or its proofs.
 //! Beside it stand random disks, ways to damage them, random calls, and the binding of the library.
 
-// The model: document 01.
+// The model: document 01, and the requests of document 02 that have landed.
+pub mod bring_back;
 pub mod calls;
 pub mod consistency;
 pub mod directory;
@@ -13,6 +14,9 @@ pub mod geometry;
 pub mod handle;
 pub mod names;
 pub mod space;
+
+// The model: request 02.
+pub mod differences;
 
 // The library under test.
 pub mod binding;
@@ -25,5 +29,6 @@ pub mod compare;
 pub mod damage;
 pub mod disks;
 pub mod interleave;
+pub mod pairs;
 pub mod plain;
 pub mod random;

@@ -1,7 +1,9 @@
 //! The exported interface as a trait, so that the same tests run on the model and on the library.
 //! Whoever implements it sets every outgoing number, also under a refusal.
 
+use crate::bring_back;
 use crate::calls::{self, Birth, Number};
+use crate::differences;
 use crate::geometry::Geometry;
 use std::rc::Rc;
 
@@ -50,6 +52,14 @@ pub trait Library {
     fn allot(&self, image: &mut [u8], g: &Geometry, handle: &[u8], k: usize) -> Number;
     fn trim(&self, image: &mut [u8], g: &Geometry, handle: &[u8]) -> Number;
     fn kill(&self, image: &mut [u8], g: &Geometry, handle: &[u8]) -> Number;
+    fn bring_back(
+        &self,
+        image: &mut [u8],
+        g: &Geometry,
+        slot: usize,
+        slots: &mut usize,
+        granules: &mut usize,
+    ) -> Number;
     fn list(
         &self,
         image: &[u8],
@@ -61,6 +71,20 @@ pub trait Library {
         more: &mut usize,
     ) -> Number;
     fn count(&self, image: &[u8], g: &Geometry, files: &mut usize, free: &mut usize) -> Number;
+    fn free(&self, image: &[u8], g: &Geometry, free: &mut usize, longest: &mut usize) -> Number;
+    fn compare(
+        &self,
+        first: &[u8],
+        g: &Geometry,
+        second: &[u8],
+        h: &Geometry,
+        number: usize,
+        name: &mut [u8],
+        image: &mut usize,
+        kind: &mut usize,
+        position: &mut usize,
+        flags: &mut usize,
+    ) -> Number;
 }
 
 /// The model itself.
@@ -132,6 +156,16 @@ impl Library for Model {
     fn kill(&self, image: &mut [u8], g: &Geometry, handle: &[u8]) -> Number {
         calls::kill(image, g, handle)
     }
+    fn bring_back(
+        &self,
+        image: &mut [u8],
+        g: &Geometry,
+        slot: usize,
+        slots: &mut usize,
+        granules: &mut usize,
+    ) -> Number {
+        bring_back::bring_back(image, g, slot, slots, granules)
+    }
     fn list(
         &self,
         image: &[u8],
@@ -146,6 +180,24 @@ impl Library for Model {
     }
     fn count(&self, image: &[u8], g: &Geometry, files: &mut usize, free: &mut usize) -> Number {
         calls::count(image, g, files, free)
+    }
+    fn free(&self, image: &[u8], g: &Geometry, free: &mut usize, longest: &mut usize) -> Number {
+        calls::free(image, g, free, longest)
+    }
+    fn compare(
+        &self,
+        first: &[u8],
+        g: &Geometry,
+        second: &[u8],
+        h: &Geometry,
+        number: usize,
+        name: &mut [u8],
+        image: &mut usize,
+        kind: &mut usize,
+        position: &mut usize,
+        flags: &mut usize,
+    ) -> Number {
+        differences::compare(first, g, second, h, number, name, image, kind, position, flags)
     }
 }
 

@@ -25,6 +25,24 @@ pub fn free_granules<'a>(image: &'a [u8], g: &'a Geometry) -> impl Iterator<Item
     (0..g.granules()).filter(|&granule| !taken(image, g, granule))
 }
 
+/// The free stretches, rising: the granules between one that is taken and the next.
+pub fn free_stretches(image: &[u8], g: &Geometry) -> Vec<std::ops::Range<usize>> {
+    let mut stretches = Vec::new();
+    let mut first = 0;
+    for granule in 0..=g.granules() {
+        if granule == g.granules() || taken(image, g, granule) {
+            stretches.push(first..granule);
+            first = granule + 1;
+        }
+    }
+    stretches
+}
+
+/// 02 §5: "the longest free stretch".
+pub fn longest_stretch(image: &[u8], g: &Geometry) -> usize {
+    free_stretches(image, g).iter().map(|stretch| stretch.len()).max().unwrap_or(0)
+}
+
 /// "A set granule in no run is reserved."
 pub fn reserved_granules(image: &[u8], g: &Geometry, d: usize) -> Vec<usize> {
     let mut in_run = vec![false; g.granules()];

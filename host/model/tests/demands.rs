@@ -5,7 +5,7 @@ use genie_model::call::{perform, Call};
 use genie_model::caller::Caller;
 use genie_model::calls::ACCEPTED;
 use genie_model::consistency::consistent;
-use genie_model::directory::{directory_sectors, files, owned, slots};
+use genie_model::directory::{directory_sectors, entry, files, owned, slots};
 use genie_model::disks::random_disk;
 use genie_model::geometry::SECTOR_BYTES;
 use genie_model::handle::{Handle, HANDLE_BYTES};
@@ -96,7 +96,7 @@ fn calls_do_what_a_plain_list_of_files_would() {
                         .filter(|&other| genie_model::directory::hit(&before, &g, other) == hash(&name))
                         .count();
                     assert_eq!(outcome.numbered("compared"), up_to_hit, "{at}");
-                    assert_eq!(genie_model::directory::entry(&before, &g, slot).name(), name, "{at}");
+                    assert_eq!(entry(&before, &g, slot).name(), name, "{at}");
                 }
                 Call::WriteRecord { .. } => {
                     let h = handled();
@@ -108,7 +108,25 @@ fn calls_do_what_a_plain_list_of_files_would() {
                     assert_eq!(genie_model::calls::read_record(&image, &g, again, &mut buffer), ACCEPTED, "{at}");
                     assert_eq!(buffer, lent_buffer[..h.length()], "{at}");
                 }
+                // "On a consistent disk the number equals the disk's granules less those reserved and those owned."
+                Call::Free => {
+                    assert_eq!(outcome.numbered("free"), g.granules() - reserved.len() - all_owned, "{at}")
+                }
                 _ => {}
+            }
+
+            // A file brought back bears what its entry bore, bit 4 set; every byte of the disk's data is as it was.
+            if let Call::BringBack { slot } = call {
+                let e = entry(&before, &g, slot as u8);
+                let gained = files_of(&image, &g).remove(&e.name()).expect("it is there again");
+                let mut attributes = [e.0[0x00] | 1 << 4, e.0[0x01], e.0[0x02], e.0[0x04], 0, 0, 0, 0];
+                attributes[4..].copy_from_slice(&e.0[0x10..0x14]);
+                assert_eq!((gained.attributes, Some(gained.bytes.len())), (attributes, e.size()), "{at}");
+                assert_eq!(gained.granules, outcome.numbered("granules"), "{at}");
+                let directory = g.start * SECTOR_BYTES..(g.start + d) * SECTOR_BYTES;
+                assert!(image[..directory.start] == before[..directory.start], "{at}");
+                assert!(image[directory.end..] == before[directory.end..], "{at}");
+                assert!(plain.insert(e.name(), gained).is_none(), "{at}");
             }
 
             // The list afterwards is the list with the call's own file changed.
@@ -132,7 +150,7 @@ fn owns_directory(image: &[u8], g: &genie_model::geometry::Geometry, d: usize, f
 fn lent(call: &Call) -> (Vec<u8>, Vec<u8>, Vec<u8>) {
     let none = Vec::new;
     match call.clone() {
-        Call::Check | Call::Count => (none(), none(), none()),
+        Call::Check | Call::BringBack { .. } | Call::Count | Call::Free => (none(), none(), none()),
         Call::LookUp { name } | Call::List { name, .. } => (none(), none(), name),
         Call::Open { name, handle, .. } | Call::Create { name, handle, .. } => (handle, none(), name),
         Call::ReadRecord { handle, buffer } | Call::WriteRecord { handle, buffer, .. } => (handle, buffer, none()),

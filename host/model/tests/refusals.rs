@@ -109,6 +109,7 @@ fn by_handle(h: Handle) -> Vec<Call> {
     vec![read(h), sector(h, 0), write(h, true), write(h, false), allot(h, 0), trim(h), kill(h)]
 }
 
+/// All calls but free space, which row 2 does not concern.
 fn all_calls() -> Vec<Call> {
     let mut all =
         vec![Call::Check, look_up("DATA/DAT"), open("DATA/DAT", true, OPEN), create("NEW"), list(), Call::Count];
@@ -160,6 +161,7 @@ fn accepted_calls_on_the_test_disk() {
     for call in all_calls() {
         gives(&disk, &call, 0);
     }
+    gives(&disk, &Call::Free, 0);
 }
 
 #[test]
@@ -182,15 +184,18 @@ fn row_1_geometry() {
         for call in all_calls() {
             gives_under(&disk, &g, &call, 1);
         }
+        gives_under(&disk, &g, &Call::Free, 1);
     }
     // Another image length.
     for length in [0, 1, 1280, disk.image.len() - 1, disk.image.len() - 1280] {
         let short = Disk { image: disk.image[..length].to_vec(), ..disk.clone() };
         gives(&short, &Call::Check, 1);
+        gives(&short, &Call::Free, 1);
     }
     let mut long = disk.clone();
     long.image.push(0);
     gives(&long, &Call::Check, 1);
+    gives(&long, &Call::Free, 1);
     // Ten sectors behind the start are enough: what stands there is judged by row 2.
     gives_under(&disk, &Geometry { start: 150, ..good }, &Call::Check, 2);
 }
@@ -203,6 +208,9 @@ fn row_2_consistency() {
     for call in all_calls() {
         gives(&broken, &call, 2);
     }
+    // Free space looks at the GAT alone.
+    let told = gives(&broken, &Call::Free, 0);
+    assert_eq!(told.numbers, gives(&disk(), &Call::Free, 0).numbers);
     // A directory length that passes the end is inconsistent, no matter of geometry.
     let mut last = empty_disk(Geometry { blocks: 16, units: 2, start: 150, open_code: OPEN }, 10, &[]);
     gives(&last, &Call::Check, 0);

@@ -271,6 +271,17 @@ uint8_t genie_kill(IMAGE, const uint8_t *handle, size_t handle_len)
     return end();
 }
 
+uint8_t genie_bring_back(IMAGE, size_t slot, size_t *slots, size_t *granules)
+{
+    BEGIN(BRING_BACK);
+    w->in[0] = slot;
+    go();
+    *slots = w->out[0];
+    *granules = w->out[1];
+    BACK(image);
+    return end();
+}
+
 uint8_t genie_list(const IMAGE, size_t number, uint8_t *name, size_t name_len, size_t *size, size_t *granules, size_t *more)
 {
     BEGIN(LIST);
@@ -290,5 +301,35 @@ uint8_t genie_count(const IMAGE, size_t *files, size_t *free)
     go();
     *files = w->out[0];
     *free = w->out[1];
+    return end();
+}
+
+uint8_t genie_free(const IMAGE, size_t *free, size_t *longest)
+{
+    BEGIN(FREE);
+    go();
+    *free = w->out[0];
+    *longest = w->out[1];
+    return end();
+}
+
+uint8_t genie_compare(const uint8_t *first, size_t first_len, size_t blocks, size_t units, size_t start, uint16_t open_code,
+                      const uint8_t *second, size_t second_len, size_t blocks2, size_t units2, size_t start2, uint16_t open_code2,
+                      size_t number, uint8_t *name, size_t name_len, size_t *image, size_t *kind, size_t *position, size_t *flags)
+{
+    begin(COMPARE, first, first_len, blocks, units, start, open_code);
+    TAKE(second, IMAGE_MOST);
+    w->blocks2 = blocks2;
+    w->units2 = units2;
+    w->start2 = start2;
+    w->open_code2 = open_code2;
+    TAKE_NAME;
+    w->in[0] = number;
+    go();
+    BACK(name);
+    *image = w->out[0];
+    *kind = w->out[1];
+    *position = w->out[2];
+    *flags = w->out[3];
     return end();
 }

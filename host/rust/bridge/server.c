@@ -73,7 +73,7 @@ void *memchr(const void *from, int byte, size_t n)
 #define HANDLE w->handle, w->handle_len
 #define BUFFER w->buffer, w->buffer_len
 
-static uint8_t serve(struct wire *w, size_t out[3])
+static uint8_t serve(struct wire *w, size_t out[4])
 {
     const uint64_t *in = w->in;
     switch (w->call) {
@@ -97,10 +97,17 @@ static uint8_t serve(struct wire *w, size_t out[3])
         return genie_trim(IMAGE, HANDLE);
     case KILL:
         return genie_kill(IMAGE, HANDLE);
+    case BRING_BACK:
+        return genie_bring_back(IMAGE, in[0], &out[0], &out[1]);
     case LIST:
         return genie_list(IMAGE, in[0], NAME, &out[0], &out[1], &out[2]);
-    default:
+    case COMPARE:
+        return genie_compare(IMAGE, w->second, w->second_len, w->blocks2, w->units2, w->start2, (uint16_t)w->open_code2, in[0], NAME,
+                             &out[0], &out[1], &out[2], &out[3]);
+    case COUNT:
         return genie_count(IMAGE, &out[0], &out[1]);
+    default:
+        return genie_free(IMAGE, &out[0], &out[1]);
     }
 }
 
@@ -110,9 +117,9 @@ __attribute__((used)) static void begin(void)
     struct wire *w = (struct wire *)at;
     char byte = 0;
     while (at > 0 && kernel(READ, SOCKET_FD, (long)&byte, 1, 0, 0, 0) == 1) {
-        size_t out[3] = {w->out[0], w->out[1], w->out[2]};
+        size_t out[4] = {w->out[0], w->out[1], w->out[2], w->out[3]};
         w->answer = serve(w, out);
-        for (int i = 0; i < 3; i++)
+        for (int i = 0; i < 4; i++)
             w->out[i] = out[i];
         if (kernel(WRITE, SOCKET_FD, (long)&byte, 1, 0, 0, 0) != 1)
             break;

@@ -5,7 +5,8 @@ use crate::{sys, Date, Entry, Geometry, Handle, Name, Refusal};
 ///
 /// The image can be owned (`Disk<Vec<u8>>`) or lent (`Disk<&[u8]>` to look only, `Disk<&mut [u8]>`). Any bytes will
 /// do: each call tests the geometry, the image's length and the whole directory before it does anything, so that a
-/// damaged disk is refused with [`Refusal::Inconsistent`] and stays as it is.
+/// damaged disk is refused with [`Refusal::Inconsistent`] and stays as it is. ([`Disk::free_space`] tests the first two
+/// only.)
 ///
 /// ```
 /// use genie_dos::{Date, Disk, Geometry, Kind, Name, NewFile, Password};
@@ -114,6 +115,24 @@ pub struct Counts {
     pub files: usize,
     /// Free granules.
     pub free: usize,
+}
+
+/// The answer of [`Disk::free_space`], in granules.
+#[derive(Clone, Copy, Debug, PartialEq, Eq)]
+pub struct FreeSpace {
+    /// Free granules.
+    pub free: usize,
+    /// Those of the longest free stretch: free granules with consecutive numbers.
+    pub longest: usize,
+}
+
+/// The answer of [`Disk::bring_back`].
+#[derive(Clone, Copy, Debug, PartialEq, Eq)]
+pub struct BroughtBack {
+    /// Directory slots that are in use again.
+    pub slots: usize,
+    /// Granules that are taken again.
+    pub granules: usize,
 }
 
 /// A refusal number as a result.
@@ -407,6 +426,36 @@ impl<B: AsRef<[u8]>> Disk<B> {
         Ok(Counts { files, free })
     }
 
+    /// How many granules are free, and how many of them lie in a row at the most. Only the GAT sector is looked at: a
+    /// disk that is not consistent is answered too (the clear bits are counted), and the one refusal is
+    /// [`Refusal::Geometry`].
+    ///
+    /// ```
+    /// # use genie_dos::*;
+    /// // 32 granules, of which 0 and the directory's 16 and 17 are reserved.
+    /// let mut disk = Disk::blank(Geometry::new(16, 2, 80, 0x4296), 10, &[0])?;
+    /// assert_eq!(disk.free_space()?, FreeSpace { free: 29, longest: 15 });
+    /// # Ok::<(), Refusal>(())
+    /// ```
+    pub fn free_space(&self) -> Result<FreeSpace, Refusal> {
+        let (image, g) = (self.image.as_ref(), self.geometry);
+        let (mut free, mut longest) = (0, 0);
+        // SAFETY: the image is a live reference; the outgoing numbers are locals.
+        accepted(unsafe {
+            sys::genie_free(
+                image.as_ptr(),
+                image.len(),
+                g.blocks,
+                g.units,
+                g.start,
+                g.open_code,
+                &mut free,
+                &mut longest,
+            )
+        })?;
+        Ok(FreeSpace { free, longest })
+    }
+
     /// All files of the listing.
     pub fn files(&self) -> Result<Vec<Listed>, Refusal> {
         let mut files = Vec::new();
@@ -460,6 +509,14 @@ impl<B: AsRef<[u8]>> Disk<B> {
     pub fn entries(&self) -> Result<Vec<Entry>, Refusal> {
         self.check()?;
         Ok(Directory::new(self.image.as_ref(), self.geometry).entries())
+    }
+
+    /// The primary entries that are not in use and not blank, by rising slot: what killed files left, and whatever
+    /// else stands there. Their names and runs are as the bytes say; whether a file can be made of one again,
+    /// [`bring_back`](Disk::bring_back) tells. The disk is checked first.
+    pub fn dead_entries(&self) -> Result<Vec<Entry>, Refusal> {
+        self.check()?;
+        Ok(Directory::new(self.image.as_ref(), self.geometry).dead_entries())
     }
 
     /// Sectors of the directory: 10, 15, 20, 25 or 30. The disk is checked first.
@@ -630,5 +687,41 @@ impl<B: AsMut<[u8]>> Disk<B> {
                 lent.len(),
             )
         })
+    }
+
+    /// Brings back the killed file whose primary entry is in a slot, if nothing of it was overwritten: its entries are
+    /// whole, its name is not in use and its granules are free. Its bytes are what those granules hold now.
+    ///
+    /// ```
+    /// # use genie_dos::*;
+    /// # let mut disk = Disk::blank(Geometry::new(16, 2, 80, 0x4296), 10, &[0])?;
+    /// # let name = "PULS01/DAT".parse().unwrap();
+    /// # let mut handle = disk.create(&name, &NewFile::open(disk.geometry(), Date::new(1983, 10, 9)))?.handle;
+    /// # disk.write_record(&mut handle, Kind::Sequential, &[7; 256])?;
+    /// let before = disk.image().to_vec();
+    /// disk.kill(&handle)?;
+    /// assert_eq!(disk.bring_back(handle.slot().into())?, BroughtBack { slots: 1, granules: 1 });
+    /// assert_eq!(disk.image(), before);
+    /// assert_eq!(disk.bring_back(handle.slot().into()), Err(Refusal::SlotInUse));
+    /// # Ok::<(), Refusal>(())
+    /// ```
+    pub fn bring_back(&mut self, slot: usize) -> Result<BroughtBack, Refusal> {
+        let (image, g) = (self.image.as_mut(), self.geometry);
+        let (mut slots, mut granules) = (0, 0);
+        // SAFETY: the slice is a live, exclusive reference; the outgoing numbers are locals.
+        accepted(unsafe {
+            sys::genie_bring_back(
+                image.as_mut_ptr(),
+                image.len(),
+                g.blocks,
+                g.units,
+                g.start,
+                g.open_code,
+                slot,
+                &mut slots,
+                &mut granules,
+            )
+        })?;
+        Ok(BroughtBack { slots, granules })
     }
 }

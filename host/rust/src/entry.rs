@@ -47,6 +47,7 @@ pub struct Run {
 }
 
 /// The directory's entry of a file, as [`Disk::entries`](crate::Disk::entries) finds it: what the listing leaves out.
+/// Of a dead entry ([`Disk::dead_entries`](crate::Disk::dead_entries)) it is what the bytes say, whatever they are.
 #[derive(Clone, Debug, PartialEq, Eq)]
 pub struct Entry {
     slot: u8,
@@ -192,6 +193,16 @@ impl<'a> Directory<'a> {
     pub(crate) fn entries(&self) -> Vec<Entry> {
         let primary = |bytes: &[u8; Entry::LEN]| bytes[0x00] & 0x90 == 0x10;
         let found = self.slots().filter_map(|slot| Some((slot, self.bytes(slot).filter(primary)?)));
+        found.map(|(slot, bytes)| Entry { slot, bytes, runs: self.runs(bytes) }).collect()
+    }
+
+    /// Primary entries that are neither in use nor blank, by rising slot.
+    pub(crate) fn dead_entries(&self) -> Vec<Entry> {
+        let dead = |bytes: &[u8; Entry::LEN]| {
+            let blank = bytes.iter().all(|&byte| byte == bytes[0]);
+            bytes[0x00] & 0x90 == 0 && !blank
+        };
+        let found = self.slots().filter_map(|slot| Some((slot, self.bytes(slot).filter(dead)?)));
         found.map(|(slot, bytes)| Entry { slot, bytes, runs: self.runs(bytes) }).collect()
     }
 

@@ -28,6 +28,7 @@
 
 #![warn(missing_docs)]
 
+mod difference;
 mod disk;
 mod entry;
 mod geometry;
@@ -36,7 +37,8 @@ mod name;
 mod refusal;
 mod sys;
 
-pub use disk::{Counts, Created, Disk, Kind, Listed, LookUp, NewFile, Password};
+pub use difference::{Difference, Differences, RefusedImage, Which};
+pub use disk::{BroughtBack, Counts, Created, Disk, FreeSpace, Kind, Listed, LookUp, NewFile, Password};
 pub use entry::{Date, Entry, Run};
 pub use geometry::Geometry;
 pub use handle::Handle;

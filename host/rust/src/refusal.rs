@@ -19,7 +19,8 @@ pub enum Refusal {
     Geometry,
     /// 2: the disk is not consistent.
     Inconsistent,
-    /// 12: a position, length, level, date or sector out of range, or a buffer shorter than the record.
+    /// 12: a position, length, level, date or sector out of range, a buffer shorter than the record, or a slot that the
+    /// directory has not.
     Range,
     /// 3: the name is not well formed (calls by name).
     Name,
@@ -29,6 +30,8 @@ pub enum Refusal {
     NotFound,
     /// 5: wrong password code.
     Password,
+    /// 17: the slot is in use (bring back).
+    SlotInUse,
     /// 6: the handle's level does not allow it, or it would change a system file.
     Access,
     /// 10: a read past the file's size.
@@ -39,13 +42,19 @@ pub enum Refusal {
     NoSpace,
     /// 8: too few directory slots free.
     NoSlot,
+    /// 18: no killed file that is still whole begins in this slot (bring back).
+    NothingWhole,
+    /// 19: a file has the killed file's name (bring back).
+    NameInUse,
+    /// 20: a granule of the killed file is taken again (bring back).
+    GranuleTaken,
     /// A number that this crate does not know: the library is newer.
     Other(u8),
 }
 
 impl Refusal {
     /// The numbers that the library gives today, in the order in which it tests.
-    pub const ALL: [Refusal; 12] = [
+    pub const ALL: [Refusal; 16] = [
         Refusal::Geometry,
         Refusal::Inconsistent,
         Refusal::Range,
@@ -53,11 +62,15 @@ impl Refusal {
         Refusal::Stale,
         Refusal::NotFound,
         Refusal::Password,
+        Refusal::SlotInUse,
         Refusal::Access,
         Refusal::PastEnd,
         Refusal::NoGrowth,
         Refusal::NoSpace,
         Refusal::NoSlot,
+        Refusal::NothingWhole,
+        Refusal::NameInUse,
+        Refusal::GranuleTaken,
     ];
 
     /// The refusal number.
@@ -75,6 +88,10 @@ impl Refusal {
             Refusal::PastEnd => 10,
             Refusal::NoGrowth => 11,
             Refusal::Range => 12,
+            Refusal::SlotInUse => 17,
+            Refusal::NothingWhole => 18,
+            Refusal::NameInUse => 19,
+            Refusal::GranuleTaken => 20,
             Refusal::Other(number) => number,
         }
     }
@@ -103,6 +120,10 @@ impl Refusal {
             Refusal::PastEnd => "read past the end of the file",
             Refusal::NoGrowth => "file may not grow: its flag E is set",
             Refusal::Range => "position, length, level, date or sector out of range",
+            Refusal::SlotInUse => "slot in use",
+            Refusal::NothingWhole => "nothing whole to bring back",
+            Refusal::NameInUse => "name in use",
+            Refusal::GranuleTaken => "a granule is taken again",
             Refusal::Other(_) => "refused by a newer library",
         }
     }
@@ -124,7 +145,7 @@ mod tests {
     #[test]
     fn every_number_has_its_refusal_and_its_own_text() {
         let mut texts = Vec::new();
-        for number in 1..=12 {
+        for number in (1..=12).chain(17..=20) {
             let refusal = Refusal::from_number(number).unwrap();
             assert_ne!(refusal, Refusal::Other(number));
             assert_eq!(refusal.number(), number);
@@ -139,6 +160,6 @@ mod tests {
     #[test]
     fn all_is_in_the_order_of_test() {
         let numbers: Vec<u8> = Refusal::ALL.iter().map(|r| r.number()).collect();
-        assert_eq!(numbers, [1, 2, 12, 3, 7, 4, 5, 6, 10, 11, 9, 8]);
+        assert_eq!(numbers, [1, 2, 12, 3, 7, 4, 5, 17, 6, 10, 11, 9, 8, 18, 19, 20]);
     }
 }

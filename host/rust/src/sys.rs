@@ -140,6 +140,18 @@ extern "C" {
         handle_len: usize,
     ) -> u8;
 
+    pub fn genie_bring_back(
+        image: *mut u8,
+        image_len: usize,
+        blocks: usize,
+        units: usize,
+        start: usize,
+        open_code: u16,
+        slot: usize,
+        slots: *mut usize,
+        granules: *mut usize,
+    ) -> u8;
+
     pub fn genie_list(
         image: *const u8,
         image_len: usize,
@@ -164,5 +176,38 @@ extern "C" {
         open_code: u16,
         files: *mut usize,
         free: *mut usize,
+    ) -> u8;
+
+    pub fn genie_free(
+        image: *const u8,
+        image_len: usize,
+        blocks: usize,
+        units: usize,
+        start: usize,
+        open_code: u16,
+        free: *mut usize,
+        longest: *mut usize,
+    ) -> u8;
+
+    pub fn genie_compare(
+        first: *const u8,
+        first_len: usize,
+        blocks: usize,
+        units: usize,
+        start: usize,
+        open_code: u16,
+        second: *const u8,
+        second_len: usize,
+        blocks2: usize,
+        units2: usize,
+        start2: usize,
+        open_code2: u16,
+        number: usize,
+        name: *mut u8,
+        name_len: usize,
+        image: *mut usize,
+        kind: *mut usize,
+        position: *mut usize,
+        flags: *mut usize,
     ) -> u8;
 }

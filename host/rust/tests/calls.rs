@@ -248,6 +248,8 @@ fn entries_agree_with_the_listing() {
     disk.trim(&handle).unwrap();
     assert_eq!(disk.files().unwrap()[1].granules, 0);
     assert_eq!(disk.count().unwrap().free, 2 + 13);
+    // The three files took turns, so what one gave back lies scattered; the last two granules were never taken.
+    assert_eq!(disk.free_space(), Ok(FreeSpace { free: 2 + 13, longest: 2 }));
     disk.kill(&handle).unwrap();
     assert_eq!(disk.files().unwrap().len(), 2);
 }
@@ -282,13 +284,20 @@ fn every_refusal_by_its_number() {
         assert_eq!(refused(&bad, |d| d.allot(&h, 0)), number);
         assert_eq!(refused(&bad, |d| d.trim(&h)), number);
         assert_eq!(refused(&bad, |d| d.kill(&h)), number);
+        assert_eq!(refused(&bad, |d| d.bring_back(usize::MAX)), number);
         assert_eq!(refused(&bad, |d| d.list(0)), number);
         assert_eq!(refused(&bad, |d| d.count()), number);
         assert_eq!(refused(&bad, |d| d.files()), number);
         assert_eq!(refused(&bad, |d| d.listing()), number);
         assert_eq!(refused(&bad, |d| d.contents(&h)), number);
         assert_eq!(refused(&bad, |d| d.entries()), number);
+        assert_eq!(refused(&bad, |d| d.dead_entries().map(|all| all.len())), number);
         assert_eq!(refused(&bad, |d| d.directory_sectors()), number);
+        // Free space looks at the GAT alone.
+        match number {
+            1 => assert_eq!(refused(&bad, |d| d.free_space()), 1),
+            _ => assert_eq!(bad.free_space(), disk.free_space()),
+        }
         assert_eq!(h, handle);
     }
 
@@ -323,6 +332,52 @@ fn every_refusal_by_its_number() {
         full.create(&name(&format!("F{i}")), &plain()).unwrap();
     }
     assert_eq!(refused(&full, |d| d.create(&name("F72"), &plain())), 8);
+}
+
+#[test]
+fn a_killed_file_comes_back() {
+    let disk = with_file("A", &[1; 1281]);
+    let handle = disk.open(&name("A"), 256, Password::Unchecked).unwrap();
+    let slot = usize::from(handle.slot());
+    let mut dead = disk.clone();
+    dead.kill(&handle).unwrap();
+    // What is left of it, and no more than that: the other entries are blank.
+    let left = dead.dead_entries().unwrap();
+    assert_eq!(left.len(), 1);
+    assert_eq!(
+        (left[0].slot(), left[0].name(), left[0].size(), left[0].granules()),
+        (handle.slot(), name("A"), 1281, 2)
+    );
+    assert!(disk.dead_entries().unwrap().is_empty());
+
+    // 12, 17, 6, 18, 19, 20.
+    assert_eq!(refused(&dead, |d| d.bring_back(0x1f)), 12);
+    assert_eq!(refused(&dead, |d| d.bring_back(slot + 256)), 12);
+    assert_eq!(refused(&disk, |d| d.bring_back(slot)), 17);
+    let edited = |at: usize, byte: u8| {
+        let mut image = dead.image().to_vec();
+        image[entry_at(handle.slot()) + at] = byte;
+        Disk::new(image, GEOMETRY)
+    };
+    assert_eq!(refused(&edited(0x00, 0x40), |d| d.bring_back(slot)), 6);
+    assert_eq!(refused(&edited(0x1e, 0x00), |d| d.bring_back(slot)), 18);
+    assert_eq!(refused(&dead, |d| d.bring_back(0)), 18);
+    let mut both = disk.clone();
+    let mut second = both.create(&name("B"), &plain()).unwrap().handle;
+    both.write_record(&mut second, Kind::Sequential, &[2; 256]).unwrap();
+    both.kill(&second).unwrap();
+    let mut larger = both.clone();
+    larger.allot(&handle, 10).unwrap();
+    assert_eq!(refused(&larger, |d| d.bring_back(second.slot().into())), 20);
+    both.kill(&handle).unwrap();
+    assert_eq!(both.create(&name("B"), &plain()).unwrap().handle.slot(), handle.slot());
+    assert_eq!(refused(&both, |d| d.bring_back(second.slot().into())), 19);
+
+    // Brought back, it is the disk before; its handle is good again.
+    let back = dead.bring_back(slot).unwrap();
+    assert_eq!((back.slots, back.granules), (1, 2));
+    assert!(dead.image() == disk.image());
+    assert_eq!(dead.contents(&handle).unwrap(), [1; 1281]);
 }
 
 #[test]
@@ -405,4 +460,78 @@ fn damaged_disks_are_refused_or_agree() {
         }
     }
     assert!(consistent > 100 && refused > 100, "{consistent} consistent, {refused} refused");
+}
+
+/// A copy of a disk with one thing changed, compared with it both ways about.
+#[test]
+fn differences() {
+    let first = with_file("PULS01/DAT", &[7; 20]);
+    let unlike = |position: Option<usize>, size: bool, date: bool, attributes: bool| {
+        vec![Difference::Unlike { name: name("PULS01/DAT"), position, size, date, attributes }]
+    };
+    let only = |first: bool, typed: &str| match first {
+        true => Difference::OnlyInFirst { name: name(typed) },
+        false => Difference::OnlyInSecond { name: name(typed) },
+    };
+    let both_ways = |second: &Disk| {
+        let one_way: Vec<_> = first.differences(second).unwrap().collect();
+        let other_way: Vec<_> = second.differences(&first).unwrap().collect();
+        (one_way, other_way)
+    };
+    let same = |told: Vec<Difference>| (told.clone(), told);
+    let slot = first.look_up(&name("PULS01/DAT")).slot.unwrap();
+    let poked = |byte: usize, mask: u8| {
+        let mut image = first.image().to_vec();
+        image[entry_at(slot) + byte] ^= mask;
+        Disk::new(image, GEOMETRY)
+    };
+    assert_eq!(both_ways(&first.clone()), same(vec![]));
+    assert_eq!(both_ways(&poked(0x02, 0x10)), same(unlike(None, false, true, false)));
+    assert_eq!(both_ways(&poked(0x04, 0x10)), same(unlike(None, false, false, true)));
+    assert_eq!(both_ways(&poked(0x01, 0x81)), same(unlike(None, false, true, true)));
+    assert_eq!(both_ways(&poked(0x03, 0x01)), same(unlike(Some(20), true, false, false)));
+    assert_eq!(both_ways(&poked(0x00, 0x40)), same(vec![]), "a system file");
+
+    let mut changed = first.clone();
+    let mut handle = changed.open(&name("PULS01/DAT"), 1, Password::Unchecked).unwrap();
+    handle.set_position(13);
+    changed.write_record(&mut handle, Kind::Random, b"X").unwrap();
+    assert_eq!(both_ways(&changed), same(unlike(Some(13), false, false, false)));
+    // Allotted space is no difference, and neither is another geometry.
+    let mut roomy = Disk::blank(Geometry::new(16, 2, 80, 0), 10, &[]).unwrap();
+    roomy.create(&name("PULS01/DAT"), &plain()).unwrap();
+    let mut handle = roomy.open(&name("PULS01/DAT"), 20, Password::Unchecked).unwrap();
+    roomy.allot(&handle, 50).unwrap();
+    roomy.write_record(&mut handle, Kind::Sequential, &[7; 20]).unwrap();
+    assert_eq!(both_ways(&roomy), same(vec![]));
+
+    // Several, by rising name; the iterator is done for good.
+    let mut other = Disk::blank(Geometry::new(16, 2, 80, 0), 10, &[]).unwrap();
+    for typed in ["Z", "A/B", "A"] {
+        other.create(&name(typed), &plain()).unwrap();
+    }
+    let told =
+        |first: bool| [only(!first, "A"), only(!first, "A/B"), only(first, "PULS01/DAT"), only(!first, "Z")].to_vec();
+    assert_eq!(both_ways(&other), (told(true), told(false)));
+    let mut all = first.differences(&other).unwrap();
+    let names: Vec<Name> = all.by_ref().map(|difference| difference.name()).collect();
+    assert_eq!(names, ["A", "A/B", "PULS01/DAT", "Z"].map(name));
+    assert_eq!((all.next(), all.next()), (None, None));
+}
+
+#[test]
+fn refused_differences_name_the_disk() {
+    let good = blank();
+    let mut image = good.image().to_vec();
+    image[entry_at(0x80)] |= 0x10;
+    let inconsistent = Disk::new(image, GEOMETRY);
+    let short = Disk::new(&good.image()[1..], GEOMETRY);
+    let refused = |image, refusal| Some(RefusedImage { image, refusal });
+    assert_eq!(good.differences(&inconsistent).err(), refused(Which::Second, Refusal::Inconsistent));
+    assert_eq!(good.differences(&short).err(), refused(Which::Second, Refusal::Geometry));
+    assert_eq!(inconsistent.differences(&good).err(), refused(Which::First, Refusal::Inconsistent));
+    assert_eq!(inconsistent.differences(&short).err(), refused(Which::First, Refusal::Inconsistent));
+    assert_eq!(short.differences(&inconsistent).err(), refused(Which::First, Refusal::Geometry));
+    let text = good.differences(&inconsistent).err().unwrap().to_string();
+    assert_eq!(text, "the second disk: 2 (disk not consistent)");
 }

@@ -12,7 +12,7 @@ use Rattle.consistency.proofs.count_holds.Reads as count-holds-reads
 use Rattle.consistency.proofs.least_of.Reads as least-of-reads
 use Rattle.consistency.proofs.name_holds.Reads as name-holds-reads
 use Rattle.layout.proofs.directory_sectors.Reads as directory-sectors-reads
-use Rattle.walk.proofs.entry_walk.Reads as entry-walk-reads
+use Rattle.walk.proofs.file_walk.Reads as file-walk-reads
 use Rattle.walk.proofs.field_at.Reads as field-at-reads
 
 -- src/lib.rt:75:9
@@ -68,13 +68,13 @@ least-of-requires : tie.Need-least-of-requires
 least-of-requires c κs = search needs
 
 -- src/lib.rt:85:5
-entry-walk-requires : tie.Need-entry-walk-requires
-entry-walk-requires c κs = search needs
+file-walk-requires : tie.Need-file-walk-requires
+file-walk-requires c κs = search needs
 
 -- src/lib.rt:61:1
 returns-4 : tie.Need-returns-4
 returns-4 c = file-walk _ _ _ (c .before .before .before .before .before .before .before .before .before .before .before .before .before .pre .0) (c .before .before .before .before .before .before .before .before .before .before .before .before .before .pre .2) (c .before .before .before .before .before .before .before .before .before .before .before .if1 .left) (c .before .before .before .before .before .before .before .before .before .before .before .before .before .pre .3) (is-yes (c .before .before .before .before .before .before .before .before .before .before .name-holds .ensures) (c .before .before .before .before .before .before .before .before .before .if2 .left)) (two _ _ _ (c .before .before .before .before .before .before .before .before .field-at .ensures .is) (c .before .before .before .before .before .before .before .field-at2 .ensures .is))
-    (is-yes (c .before .before .before .before .before .before .count-holds .ensures) (c .before .before .before .before .before .if3 .left)) (c .before .before .before .before .directory-sectors .ensures) refl (c .before .before .before .least-of .ensures) (c .entry-walk .ensures)
+    (is-yes (c .before .before .before .before .before .before .count-holds .ensures) (c .before .before .before .before .before .if3 .left)) (c .before .before .before .before .directory-sectors .ensures) refl (c .before .before .before .least-of .ensures) (c .file-walk .ensures)
 
 pub file-holds-spec : {M : Type 1} → statement M
 file-holds-spec =
@@ -93,5 +93,5 @@ file-holds-spec =
     sub-left
     mul-left
     least-of-requires
-    entry-walk-requires
+    file-walk-requires
     returns-4)

@@ -1,8 +1,7 @@
 use native.Mathlib.Omega.{arith}
 use Rattle.consistency.proofs.Laws.{met-yes}
 use Rattle.laws.specs.Members
-use Rattle.walk.proofs.Laws.{any-one}
-use Rattle.layout.proofs.Lists.{any-skip}
+use Rattle.layout.proofs.Lists.{any-skip, any-one}
 use Rattle.meaning.specs.Layout.{hit}
 use borrow.Author.Tests.{eq-eqb, ne-eqb}
 use lib.ListN.{getD}

@@ -1,4 +1,5 @@
-use Rattle.create.proofs.Laws.{told, opened, made, by-check, by-range, by-name, by-code, is-old, by-slot, is-new, slot-none, slot-some, entry-fits}
+use Rattle.layout.proofs.Sound.{entry-fits}
+use Rattle.create.proofs.Laws.{told, opened, made, by-check, by-range, by-name, by-code, is-old, by-slot, is-new, slot-none, slot-some}
 use Rattle.find.proofs.Name.{well-length}
 use Rattle.find.proofs.Laws.{finds-none, finds-one}
 use Rattle.handle.proofs.Laws.{checked, checked-room}

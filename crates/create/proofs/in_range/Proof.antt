@@ -1,12 +1,13 @@
-use Rattle.layout.proofs.Lists.{all-yes, all-no, all-one}
 use Rattle.meaning.specs.Refusals.{newInRange}
-use borrow.Author.Tests.{le-leb, lt-leb}
+use Rattle.layout.proofs.Lists.{all-yes, all-no, all-one}
+use borrow.Author.Tests.{lt-leb, le-leb}
 use mathlib.Core.Path.{sym, _∙_}
-use native.Mathlib.Omega.{arith}
+use borrow.Author.Needs.{needs}
 use Rattle.create.proofs.in_range.Statement.{statement}
 use Rattle.create.proofs.in_range.Tie as tie
 use Rattle.create.proofs.in_range.Reads as reads
 use Rattle.create.proofs.in_range.Lts as lts
+use Rattle.handle.proofs.good_length.Reads as good-length-reads
 
 -- src/lib.rt:19:9
 returns : tie.Need-returns
@@ -23,15 +24,14 @@ returns-3 : tie.Need-returns-3
 unfolding newInRange
 returns-3 c = sym (all-yes (le-leb _ _ (c .before .before .before .before .if1 .left)) _ ∙ all-yes (le-leb _ _ (c .before .before .if2 .left)) _ ∙ all-no (lt-leb _ _ (c .if3 .taken)) _)
 
--- src/lib.rt:28:9
-returns-4 : tie.Need-returns-4
-unfolding newInRange
-returns-4 c = sym (all-yes (le-leb _ _ (c .before .before .before .before .before .before .if1 .left)) _ ∙ all-yes (le-leb _ _ (c .before .before .before .before .if2 .left)) _ ∙ all-yes (le-leb _ _ (c .before .before .if3 .left)) _ ∙ all-no (lt-leb _ _ (c .if4 .taken)) _)
+-- src/lib.rt:27:5
+good-length-requires : tie.Need-good-length-requires
+good-length-requires c κs = search needs
 
 -- src/lib.rt:15:1
-returns-5 : tie.Need-returns-5
+returns-4 : tie.Need-returns-4
 unfolding newInRange
-returns-5 c = sym (all-yes (le-leb _ _ (c .before .before .before .before .before .before .before .if1 .left)) _ ∙ all-yes (le-leb _ _ (c .before .before .before .before .before .if2 .left)) _ ∙ all-yes (le-leb _ _ (c .before .before .before .if3 .left)) _ ∙ all-yes (le-leb _ _ (c .before .if4 .left)) _ ∙ all-one _)
+returns-4 c = c .good-length .ensures ∙ sym (all-yes (le-leb _ _ (c .before .before .before .before .before .if1 .left)) _ ∙ all-yes (le-leb _ _ (c .before .before .before .if2 .left)) _ ∙ all-yes (le-leb _ _ (c .before .if3 .left)) _ ∙ all-one _)
 
 pub in-range-spec : {M : Type 1} → statement M
-in-range-spec = tie.close (tie.spec returns returns-2 returns-3 returns-4 returns-5)
+in-range-spec = tie.close (tie.spec returns returns-2 returns-3 good-length-requires returns-4)

@@ -1,5 +1,4 @@
-use Rattle.find.proofs.Open.{any-hit, any-one}
-use Rattle.layout.proofs.Lists.{any-skip}
+use Rattle.layout.proofs.Lists.{any-skip, any-hit, any-one}
 use Rattle.meaning.specs.Open.{admits}
 use lib.Dec.{eqb}
 use Prim.Native.Nat.{ℕ}

@@ -17,7 +17,7 @@ use Rattle.find.proofs.open_checked.Reads as reads
 use Rattle.find.proofs.open_checked.Lts as lts
 use Rattle.find.proofs.admits.Reads as admits-reads
 use Rattle.find.proofs.find.Reads as find-reads
-use Rattle.find.proofs.good_length.Reads as good-length-reads
+use Rattle.handle.proofs.good_length.Reads as good-length-reads
 use Rattle.find.proofs.no_handle.Reads as no-handle-reads
 use Rattle.find.proofs.opened_at.Reads as opened-at-reads
 use Rattle.find.proofs.well_formed.Reads as well-formed-reads

@@ -1,61 +1,72 @@
-use Rattle.growth.proofs.Search.{Wanting, wanting-start, wanting-taken, wanting-free, wanting-enough, wanting-end}
-use Rattle.layout.proofs.Lists.{is-no, is-yes}
-use Prim.Native.Nat.{ℕ, _≤_, _<_, _-_, _+_, _*_}
-use mathlib.Core.Path.{_≡_, refl, ap, sym, subst, _∙_}
-use mathlib.Core.Logic.{⊎-elim}
-use native.Mathlib.Omega.{arith}
 use borrow.Author.Needs.{needs}
+use native.Mathlib.Omega.{arith}
+use mathlib.Core.Path.{_≡_, ap, sym, _∙_}
+use Prim.Native.Nat.{ℕ, _≤_, _<_, _-_, _+_, _*_}
+use lib.ListN.{length}
+use lib.Dec.{ltb}
+use borrow.Author.Tests.{le-ltb}
+use Rattle.meaning.specs.Free.{freeGranules}
+use Rattle.space.proofs.Clear.{Freeing, freeing-start, freeing-step, freeing-end}
 use Rattle.growth.proofs.too_few.Statement.{statement}
 use Rattle.growth.proofs.too_few.Tie as tie
 use Rattle.growth.proofs.too_few.Reads as reads
 use Rattle.growth.proofs.too_few.Lts as lts
-use Rattle.layout.proofs.granules.Reads as granules-reads
-use Rattle.layout.proofs.taken.Reads as taken-reads
+use Rattle.layout.proofs.wide.Reads as wide-reads
+use Rattle.space.proofs.clear_bits.Reads as clear-bits-reads
 
 abbrev Inv-loop : tie.InvT-loop
-Inv-loop image g k total n₀ left₀ n left = Wanting g image k n left total
+Inv-loop image g k n₀ b₀ n b = (b ≤ g .blocks) × (n ≤ 8 * b) × Freeing g image b n
 
 abbrev μ-loop : tie.MeasureT-loop
-μ-loop image g k total n₀ left₀ n left = total - n
+μ-loop image g k n₀ b₀ n b = g .blocks - b
 
--- src/lib.rt:67:9
-granules-requires : tie.Need-granules-requires Inv-loop μ-loop
-granules-requires c κs = search needs
-
--- src/lib.rt:70:5
+-- src/lib.rt:83:5
 loop-holds : tie.Need-loop-holds Inv-loop μ-loop
-loop-holds c = wanting-start _ _ (c .granules .ensures .0)
+loop-holds c = (omega arith, omega arith, freeing-start _ _)
 
--- src/lib.rt:72:13
+-- src/lib.rt:85:13
 returns : tie.Need-returns Inv-loop μ-loop
-returns c = wanting-enough _ _ (c .before .before .loop .inv) (c .if1 .taken)
+returns c = sym (le-ltb (length (freeGranules (c .before .before .before .before .before .args .g) (c .before .before .before .before .before .args .image .now))) (c .before .before .before .before .before .args .k) (let f = c .before .before .before .loop .inv .2 .rest in let t = c .if2 .taken in omega arith))
 
--- src/lib.rt:74:13
-taken-requires : tie.Need-taken-requires Inv-loop μ-loop
-taken-requires c κs = (c .before .before .before .before .before .pre, let e = c .before .before .before .granules .ensures .0 in omega arith)
+-- src/lib.rt:87:54
+mul-wide : tie.Need-mul-wide Inv-loop μ-loop
+mul-wide c = let r = (c .before .before .before .before .before .before .pre) in omega arith
 
--- src/lib.rt:75:13
-sub-left : tie.Need-sub-left Inv-loop μ-loop
-sub-left c = search needs
+-- src/lib.rt:87:54
+add-wide : tie.Need-add-wide Inv-loop μ-loop
+add-wide c = let r = (c .before .before .before .before .before .before .pre) in omega arith
 
--- src/lib.rt:77:9
+-- src/lib.rt:87:48
+shared-slice-read-wide : tie.Need-shared-slice-read-wide Inv-loop μ-loop
+shared-slice-read-wide c = let r = (c .before .before .before .before .before .before .before .pre) in omega arith
+
+-- src/lib.rt:87:35
+wide-requires : tie.Need-wide-requires Inv-loop μ-loop
+wide-requires c κs = search needs
+
+-- src/lib.rt:87:17
+clear-bits-requires : tie.Need-clear-bits-requires Inv-loop μ-loop
+clear-bits-requires c κs = (c .before .before .before .before .before .before .before .before .pre .units-high)
+
+-- src/lib.rt:87:13
 add-n : tie.Need-add-n Inv-loop μ-loop
-add-n c = search needs
+add-n c = let r = (c .before .before .before .before .before .before .before .before .before .pre) in let k = (c .clear-bits .ensures .1) in omega arith
 
--- src/lib.rt:70:5
+-- src/lib.rt:88:9
+add-b : tie.Need-add-b Inv-loop μ-loop
+add-b c = let r = (c .before .before .before .before .before .before .before .before .before .pre) in omega arith
+
+-- src/lib.rt:83:5
 loop-less : tie.Need-loop-less Inv-loop μ-loop
-loop-less c = search needs
+loop-less c = omega arith
 
--- src/lib.rt:70:5
+-- src/lib.rt:83:5
 loop-again : tie.Need-loop-again Inv-loop μ-loop
-loop-again c = ⊎-elim
-    (λ w. wanting-free _ _ (c .before .before .before .before .loop .inv) (c .before .before .before .loop-test .taken) (is-no (c .before .taken .ensures) (w .0 .taken)) (let z = w .1 in let q = c .before .before .if1 .left in omega arith))
-    (λ w. wanting-taken _ _ (c .before .before .before .before .loop .inv) (c .before .before .before .loop-test .taken) (is-yes (c .before .taken .ensures) (w .0 .left)) (w .1))
-    (c .if2 .came)
+loop-again c = (omega arith, (let k = (c .clear-bits .ensures .1) in omega arith), freeing-step _ _ (c .before .before .before .before .before .before .before .before .before .pre .units-low) (c .before .before .before .before .before .before .before .loop .inv .2) (c .before .before .before .before .before .if1 .taken) (c .before .wide .ensures .is) (c .clear-bits .ensures .0))
 
--- src/lib.rt:63:1
+-- src/lib.rt:77:1
 returns-2 : tie.Need-returns-2 Inv-loop μ-loop
-returns-2 c = wanting-end _ _ (c .before .loop .inv) (c .loop-test .left)
+returns-2 c = ap (λ (m : ℕ). ltb m (c .before .before .before .before .args .k)) (freeing-end _ _ (c .before .before .loop .inv .2) (c .if1 .left))
 
 pub too-few-spec : {M : Type 1} → statement M
 too-few-spec =
@@ -63,12 +74,15 @@ too-few-spec =
     (tie.spec
     Inv-loop
     μ-loop
-    granules-requires
     loop-holds
     returns
-    taken-requires
-    sub-left
+    mul-wide
+    add-wide
+    shared-slice-read-wide
+    wide-requires
+    clear-bits-requires
     add-n
+    add-b
     loop-less
     loop-again
     returns-2)

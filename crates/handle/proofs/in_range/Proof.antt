@@ -1,33 +1,32 @@
-use borrow.Author.Needs.{needs}
-use native.Mathlib.Omega.{arith}
-use mathlib.Core.Path.{sym, _∙_}
-use borrow.Author.Tests.{lt-leb, le-leb}
-use Rattle.layout.proofs.Lists.{all-yes, all-no, all-one}
 use Rattle.meaning.specs.Refusals.{inRange}
+use Rattle.layout.proofs.Lists.{all-yes, all-no, all-one, is-no, is-yes}
+use borrow.Author.Tests.{lt-leb, le-leb}
+use mathlib.Core.Path.{sym, _∙_}
+use borrow.Author.Needs.{needs}
 use Rattle.handle.proofs.in_range.Statement.{statement}
 use Rattle.handle.proofs.in_range.Tie as tie
 use Rattle.handle.proofs.in_range.Reads as reads
 use Rattle.handle.proofs.in_range.Lts as lts
+use Rattle.handle.proofs.good_length.Reads as good-length-reads
 
--- src/lib.rt:42:9
+-- src/lib.rt:26:9
 returns : tie.Need-returns
 unfolding inRange
 returns c = sym (all-no (lt-leb _ _ (c .if1 .taken)) _)
 
--- src/lib.rt:45:9
+-- src/lib.rt:28:9
+good-length-requires : tie.Need-good-length-requires
+good-length-requires c κs = search needs
+
+-- src/lib.rt:29:9
 returns-2 : tie.Need-returns-2
 unfolding inRange
-returns-2 c = sym (all-yes (le-leb _ _ (c .before .before .if1 .left)) _ ∙ all-no (lt-leb _ _ (c .if2 .taken)) _)
+returns-2 c = sym (all-yes (le-leb _ _ (c .before .before .if1 .left)) _ ∙ all-no (is-no (c .before .good-length .ensures) (c .if2 .taken)) _)
 
--- src/lib.rt:48:9
+-- src/lib.rt:22:1
 returns-3 : tie.Need-returns-3
 unfolding inRange
-returns-3 c = sym (all-yes (le-leb _ _ (c .before .before .before .before .if1 .left)) _ ∙ all-yes (le-leb _ _ (c .before .before .if2 .left)) _ ∙ all-no (lt-leb _ _ (c .if3 .taken)) _)
-
--- src/lib.rt:38:1
-returns-4 : tie.Need-returns-4
-unfolding inRange
-returns-4 c = sym (all-yes (le-leb _ _ (c .before .before .before .before .before .if1 .left)) _ ∙ all-yes (le-leb _ _ (c .before .before .before .if2 .left)) _ ∙ all-yes (le-leb _ _ (c .before .if3 .left)) _ ∙ all-one _)
+returns-3 c = sym (all-yes (le-leb _ _ (c .before .before .before .if1 .left)) _ ∙ all-yes (is-yes (c .before .before .good-length .ensures) (c .before .if2 .left)) _ ∙ all-one _)
 
 pub in-range-spec : {M : Type 1} → statement M
-in-range-spec = tie.close (tie.spec returns returns-2 returns-3 returns-4)
+in-range-spec = tie.close (tie.spec returns good-length-requires returns-2 returns-3)

@@ -5,7 +5,7 @@ use Rattle.listing.proofs.counts_checked.Tie as tie
 use Rattle.listing.proofs.counts_checked.Reads as reads
 use Rattle.listing.proofs.counts_checked.Lts as lts
 use Rattle.listing.proofs.files_count.Reads as files-count-reads
-use Rattle.listing.proofs.free_count.Reads as free-count-reads
+use Rattle.space.proofs.free_count.Reads as free-count-reads
 
 -- src/lib.rt:155:9
 returns : tie.Need-returns

@@ -1,62 +1,57 @@
-use Rattle.names.proofs.Buckets.{differing-start, differing-end}
-use Rattle.names.specs.Buckets.{Differing}
-use borrow.Author.Tests.{not-true, not-false}
-use Prim.Native.Nat.{ℕ, _+_, _-_, _*_, _/_, _%_}
-use mathlib.Core.Path.{_≡_, refl, sym, ap, _∙_}
-use borrow.Author.Needs.{needs}
 use native.Mathlib.Omega.{arith}
+use borrow.Author.Needs.{needs}
+use mathlib.Core.Path.{_≡_, refl, sym, ap, _∙_}
+use Prim.Native.Nat.{ℕ, _+_, _-_, _*_, _≤_}
+use borrow.Author.Tests.{not-true, not-false}
+use Rattle.names.specs.Buckets.{Differing}
+use Rattle.names.proofs.Buckets.{differing-start, differing-end}
 use Rattle.names.proofs.names_differ.Statement.{statement}
 use Rattle.names.proofs.names_differ.Tie as tie
 use Rattle.names.proofs.names_differ.Reads as reads
 use Rattle.names.proofs.names_differ.Lts as lts
-use Rattle.layout.proofs.directory_sectors.Reads as directory-sectors-reads
-use Rattle.names.proofs.visit.Reads as visit-reads
+use Rattle.names.proofs.row_differs.Reads as row-differs-reads
 
 abbrev Inv-loop : tie.InvT-loop
-Inv-loop image g sectors head₀ next₀ s₀ head next s = Differing g image s head next
+Inv-loop image g head₀ next₀ row₀ head next row = Differing g image (32 * row) head next × (row ≤ 8)
 
 abbrev μ-loop : tie.MeasureT-loop
-μ-loop image g sectors head₀ next₀ s₀ head next s = 256 - s
+μ-loop image g head₀ next₀ row₀ head next row = 8 - row
 
--- src/lib.rt:96:9
-directory-sectors-requires : tie.Need-directory-sectors-requires Inv-loop μ-loop
-directory-sectors-requires c κs = search needs
-
--- src/lib.rt:100:5
+-- src/lib.rt:142:5
 loop-holds : tie.Need-loop-holds Inv-loop μ-loop
-loop-holds c = differing-start _ _
+loop-holds c = (differing-start _ _, omega arith)
 
--- src/lib.rt:101:41
-slice-aggregate-visit : tie.Need-slice-aggregate-visit Inv-loop μ-loop
-slice-aggregate-visit c = search needs
+-- src/lib.rt:143:40
+slice-aggregate-row-differs : tie.Need-slice-aggregate-row-differs Inv-loop μ-loop
+slice-aggregate-row-differs c = search needs
 
--- src/lib.rt:101:52
-slice-aggregate-visit-2 : tie.Need-slice-aggregate-visit-2 Inv-loop μ-loop
-slice-aggregate-visit-2 c = search needs
+-- src/lib.rt:143:51
+slice-aggregate-row-differs-2 : tie.Need-slice-aggregate-row-differs-2 Inv-loop μ-loop
+slice-aggregate-row-differs-2 c = search needs
 
--- src/lib.rt:101:13
-visit-requires : tie.Need-visit-requires Inv-loop μ-loop
-visit-requires c κs = search needs
+-- src/lib.rt:143:13
+row-differs-requires : tie.Need-row-differs-requires Inv-loop μ-loop
+row-differs-requires c κs = (c .before .before .before .before .before .pre .0, c .before .before .before .before .before .pre .1, c .before .before .loop-test .taken, c .before .before .before .loop .inv .0)
 
--- src/lib.rt:102:13
+-- src/lib.rt:144:13
 returns : tie.Need-returns Inv-loop μ-loop
-returns c = c .before .before .before .visit .ensures .bad (not-true _ (c .if1 .taken))
+returns c = c .before .before .before .row-differs .ensures .bad (not-true (c .before .before .before .row-differs .result) (c .if1 .taken))
 
--- src/lib.rt:104:9
-add-s : tie.Need-add-s Inv-loop μ-loop
-add-s c = search needs
+-- src/lib.rt:146:9
+add-row : tie.Need-add-row Inv-loop μ-loop
+add-row c = search needs
 
--- src/lib.rt:100:5
+-- src/lib.rt:142:5
 loop-less : tie.Need-loop-less Inv-loop μ-loop
 loop-less c = search needs
 
--- src/lib.rt:100:5
+-- src/lib.rt:142:5
 loop-again : tie.Need-loop-again Inv-loop μ-loop
-loop-again c = c .before .before .before .visit .ensures .good (not-false _ (c .if1 .left))
+loop-again c = (c .before .before .before .row-differs .ensures .good (not-false (c .before .before .before .row-differs .result) (c .if1 .left)), omega arith)
 
--- src/lib.rt:92:1
+-- src/lib.rt:135:1
 returns-2 : tie.Need-returns-2 Inv-loop μ-loop
-returns-2 c = differing-end _ _ _ _ _ (c .before .loop .inv) (c .loop-test .left)
+returns-2 c = differing-end _ _ (32 * c .before .loop .row) _ _ (c .before .loop .inv .0) (omega arith)
 
 pub names-differ-spec : {M : Type 1} → statement M
 names-differ-spec =
@@ -64,13 +59,12 @@ names-differ-spec =
     (tie.spec
     Inv-loop
     μ-loop
-    directory-sectors-requires
     loop-holds
-    slice-aggregate-visit
-    slice-aggregate-visit-2
-    visit-requires
+    slice-aggregate-row-differs
+    slice-aggregate-row-differs-2
+    row-differs-requires
     returns
-    add-s
+    add-row
     loop-less
     loop-again
     returns-2)

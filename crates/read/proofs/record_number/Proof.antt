@@ -32,13 +32,13 @@ returns c = reading-stop _ _ _ _ _ (c .before .before .record-ranged .ensures) (
 -- src/lib.rt:70:8
 size-of-requires : tie.Need-size-of-requires
 size-of-requires c κs = let a = c .before .before .before .before .args in
-    let p = passed (a .g) (a .image .now) (a .h) (c .before .before .record-ranged .result) (notForReading (a .g) (a .image .now) (a .h) ∷ []) refl (c .before .reading-number .ensures) (c .if1 .left) in
+    let p = passed (a .g) (a .image .now) (a .h) (c .before .before .record-ranged .result) (notForReading (a .h) ∷ []) refl (c .before .reading-number .ensures) (c .if1 .left) in
     (walks (a .g) (a .image .now) (a .h) (c .before .before .record-ranged .result) p .0 .room, p .slot)
 
 -- src/lib.rt:70:44
 add-if2 : tie.Need-add-if2
 add-if2 c = let a = c .before .before .before .before .before .before .args in
-    let p = passed (a .g) (a .image .now) (a .h) (c .before .before .before .before .record-ranged .result) (notForReading (a .g) (a .image .now) (a .h) ∷ []) refl (c .before .before .before .reading-number .ensures) (c .before .before .if1 .left) in
+    let p = passed (a .g) (a .image .now) (a .h) (c .before .before .before .before .record-ranged .result) (notForReading (a .h) ∷ []) refl (c .before .before .before .reading-number .ensures) (c .before .before .if1 .left) in
     let q = ranges (a .g) (a .image .now) (a .h) (all-at _ (sym (c .before .before .before .before .record-ranged .ensures) ∙ p .ranged′) 0) in omega arith
 
 -- src/lib.rt:71:9

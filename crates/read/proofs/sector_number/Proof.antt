@@ -32,7 +32,7 @@ returns c = reading-stop _ _ _ _ _ (c .before .before .sector-ranged .ensures) (
 -- src/lib.rt:119:8
 word-requires : tie.Need-word-requires
 word-requires c κs = let a = c .before .before .before .before .args in
-    let p = passed (a .g) (a .image .now) (a .h) (c .before .before .sector-ranged .result) (notForReading (a .g) (a .image .now) (a .h) ∷ []) refl (c .before .reading-number .ensures) (c .if1 .left) in
+    let p = passed (a .g) (a .image .now) (a .h) (c .before .before .sector-ranged .result) (notForReading (a .h) ∷ []) refl (c .before .reading-number .ensures) (c .if1 .left) in
     (walks (a .g) (a .image .now) (a .h) (c .before .before .sector-ranged .result) p .0 .room, p .slot, omega arith)
 
 -- src/lib.rt:120:9

@@ -1,5 +1,6 @@
+use Rattle.layout.proofs.Sound.{entry-fits}
 use Rattle.meaning.specs.Entries.{extension}
-use Rattle.trim.proofs.Laws.{last-reads, last-run, last-granule, last-before, entry-fits, bit-fits, by-shorter, by-emptied, by-unhooked, not-first, is-first, extension-yes, extension-no}
+use Rattle.trim.proofs.Laws.{last-reads, last-run, last-granule, last-before, bit-fits, by-shorter, by-emptied, by-unhooked, not-first, is-first, extension-yes, extension-no}
 use Rattle.layout.specs.Room.{Room, Slot}
 use lib.ListN.{length}
 use Prim.Native.Nat.{ℕ, _+_, _-_, _*_, _≤_, _<_}

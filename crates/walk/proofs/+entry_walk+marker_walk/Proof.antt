@@ -1,12 +1,12 @@
-use borrow.Author.Tests.{not-false}
-use native.Mathlib.Omega.{arith}
-use borrow.Author.Needs.{needs}
-use Rattle.walk.proofs.Laws.{goes-slot, walked-none, walked-again, walked-entry-no, walked-entry, walked-end, walked-stop, walked-on}
-use Rattle.meaning.specs.Layout.{isSlot}
-use mathlib.Core.Path.{ap, sym, _∙_}
-use Rattle.layout.proofs.Sound.{slot-of}
-use Rattle.layout.proofs.Lists.{is-no, is-yes}
 use Prim.Native.Nat.{_+_, _*_}
+use Rattle.layout.proofs.Lists.{is-no, is-yes}
+use Rattle.layout.proofs.Sound.{slot-of}
+use mathlib.Core.Path.{refl, ap, sym, _∙_}
+use Rattle.meaning.specs.Layout.{isSlot}
+use Rattle.walk.proofs.Laws.{goes-slot, walked-none, walked-again, walked-entry-no, walked-entry, walked-end, walked-stop, walked-on}
+use borrow.Author.Needs.{needs}
+use native.Mathlib.Omega.{arith}
+use borrow.Author.Tests.{not-false}
 use Prim.Native.Nat.{ℕ, _<_}
 use borrow.Fn.Kinds.{In}
 use borrow.Fn.PlainCycle.{Measures, is, falls, and}
@@ -45,141 +45,166 @@ abbrev marker-walk-below : ℕ → In 3 marker-walk-kinds.ps
 marker-walk-below t =
     and 3 marker-walk-kinds.ps (falls 3 marker-walk-kinds.ps _<_ μ-marker-walk t) marker-walk.Pre
 
--- src/lib.rt:167:9
+-- src/lib.rt:181:9
 entry-walk-returns : (t : ℕ) → entry-walk-lts.Need-returns (
   take-runs-reads.Asked,
   take-runs-reads.Learnt,
+  field-at-reads.Asked,
+  field-at-reads.Learnt,
   marker-walk-below t,
   marker-walk.Post,
 ) (entry-walk-at t) entry-walk.Post
 entry-walk-returns t c = walked-none _ _ _ _ (c .if1 .taken)
 
--- src/lib.rt:169:8
+-- src/lib.rt:183:8
 entry-walk-element-copy-out-if2 : (t : ℕ) → entry-walk-lts.Need-element-copy-out-if2 (
   take-runs-reads.Asked,
   take-runs-reads.Learnt,
+  field-at-reads.Asked,
+  field-at-reads.Learnt,
   marker-walk-below t,
   marker-walk.Post,
 ) (entry-walk-at t) entry-walk.Post
 entry-walk-element-copy-out-if2 t c = search needs
 
--- src/lib.rt:170:9
+-- src/lib.rt:184:9
 entry-walk-returns-2 : (t : ℕ) → entry-walk-lts.Need-returns-2 (
   take-runs-reads.Asked,
   take-runs-reads.Learnt,
+  field-at-reads.Asked,
+  field-at-reads.Learnt,
   marker-walk-below t,
   marker-walk.Post,
 ) (entry-walk-at t) entry-walk.Post
 entry-walk-returns-2 t c = walked-again _ _ _ (c .before .before .if1 .left) (c .if2 .taken)
 
--- src/lib.rt:172:5
+-- src/lib.rt:186:5
 entry-walk-element-write-met : (t : ℕ) → entry-walk-lts.Need-element-write-met (
   take-runs-reads.Asked,
   take-runs-reads.Learnt,
+  field-at-reads.Asked,
+  field-at-reads.Learnt,
   marker-walk-below t,
   marker-walk.Post,
 ) (entry-walk-at t) entry-walk.Post
 entry-walk-element-write-met t c = search needs
 
--- src/lib.rt:173:9
+-- src/lib.rt:187:9
 entry-walk-take-runs-requires : (t : ℕ) → entry-walk-lts.Need-take-runs-requires (
   take-runs-reads.Asked,
   take-runs-reads.Learnt,
+  field-at-reads.Asked,
+  field-at-reads.Learnt,
   marker-walk-below t,
   marker-walk.Post,
 ) (entry-walk-at t) entry-walk.Post
 entry-walk-take-runs-requires t c κs = search needs
 
--- src/lib.rt:175:9
+-- src/lib.rt:189:9
 entry-walk-returns-3 : (t : ℕ) → entry-walk-lts.Need-returns-3 (
   take-runs-reads.Asked,
   take-runs-reads.Learnt,
+  field-at-reads.Asked,
+  field-at-reads.Learnt,
   marker-walk-below t,
   marker-walk.Post,
 ) (entry-walk-at t) entry-walk.Post
 entry-walk-returns-3 t c = walked-entry-no _ _ _ _ (c .before .before .before .before .before .before .if1 .left) (c .before .before .take-runs .ensures) (c .if3 .taken)
 
--- src/lib.rt:183:9
+-- src/lib.rt:191:8
+entry-walk-field-at-requires : (t : ℕ) → entry-walk-lts.Need-field-at-requires (
+  take-runs-reads.Asked,
+  take-runs-reads.Learnt,
+  field-at-reads.Asked,
+  field-at-reads.Learnt,
+  marker-walk-below t,
+  marker-walk.Post,
+) (entry-walk-at t) entry-walk.Post
+entry-walk-field-at-requires t c κs = search needs
+
+-- src/lib.rt:192:54
+entry-walk-add-result : (t : ℕ) → entry-walk-lts.Need-add-result (
+  take-runs-reads.Asked,
+  take-runs-reads.Learnt,
+  field-at-reads.Asked,
+  field-at-reads.Learnt,
+  marker-walk-below t,
+  marker-walk.Post,
+) (entry-walk-at t) entry-walk.Post
+entry-walk-add-result t c = search needs
+
+-- src/lib.rt:192:27
+entry-walk-mul-result : (t : ℕ) → entry-walk-lts.Need-mul-result (
+  take-runs-reads.Asked,
+  take-runs-reads.Learnt,
+  field-at-reads.Asked,
+  field-at-reads.Learnt,
+  marker-walk-below t,
+  marker-walk.Post,
+) (entry-walk-at t) entry-walk.Post
+entry-walk-mul-result t c = search needs
+
+-- src/lib.rt:192:9
+entry-walk-returns-4 : (t : ℕ) → entry-walk-lts.Need-returns-4 (
+  take-runs-reads.Asked,
+  take-runs-reads.Learnt,
+  field-at-reads.Asked,
+  field-at-reads.Learnt,
+  marker-walk-below t,
+  marker-walk.Post,
+) (entry-walk-at t) entry-walk.Post
+entry-walk-returns-4 t c = walked-entry _ _ _ _ (c .before .before .before .before .before .before .before .before .before .if1 .left) (c .before .before .before .before .before .before .before .if2 .left) (c .before .before .before .before .before .take-runs .ensures) (c .before .before .before .if3 .left) (walked-end _ _ _ _ _ _ (c .before .before .field-at .ensures .is) (c .before .if4 .taken))
+
+-- src/lib.rt:200:9
 entry-walk-sub-marker-walk : (t : ℕ) → entry-walk-lts.Need-sub-marker-walk (
   take-runs-reads.Asked,
   take-runs-reads.Learnt,
+  field-at-reads.Asked,
+  field-at-reads.Learnt,
   marker-walk-below t,
   marker-walk.Post,
 ) (entry-walk-at t) entry-walk.Post
 entry-walk-sub-marker-walk t c = search needs
 
--- src/lib.rt:187:9
+-- src/lib.rt:204:9
 entry-walk-add-marker-walk : (t : ℕ) → entry-walk-lts.Need-add-marker-walk (
   take-runs-reads.Asked,
   take-runs-reads.Learnt,
+  field-at-reads.Asked,
+  field-at-reads.Learnt,
   marker-walk-below t,
   marker-walk.Post,
 ) (entry-walk-at t) entry-walk.Post
 entry-walk-add-marker-walk t c = search needs
 
--- src/lib.rt:177:5
+-- src/lib.rt:194:5
 entry-walk-marker-walk-requires : (t : ℕ) → entry-walk-lts.Need-marker-walk-requires (
   take-runs-reads.Asked,
   take-runs-reads.Learnt,
+  field-at-reads.Asked,
+  field-at-reads.Learnt,
   marker-walk-below t,
   marker-walk.Post,
 ) (entry-walk-at t) entry-walk.Post
-entry-walk-marker-walk-requires t c κs = (omega arith, (c .before .before .before .before .before .before .before .before .before .before .before .pre .1 .0, c .before .before .before .before .before .before .before .before .before .before .before .pre .1 .1, c .before .before .before .before .before .take-runs .ensures .runs-is (not-false _ (c .before .before .before .if3 .left)), omega arith))
+entry-walk-marker-walk-requires t c κs = (omega arith, (c .before .before .before .before .before .before .before .before .before .before .before .before .before .pre .1 .0, c .before .before .before .before .before .before .before .before .before .before .before .before .before .pre .1 .1, c .before .before .before .before .before .before .before .take-runs .ensures .runs-is (not-false _ (c .before .before .before .before .before .if3 .left)), omega arith, λ z. c .before .before .before .if4 .left (c .before .before .before .before .field-at .ensures .is ∙ z)))
 
--- src/lib.rt:149:1
-entry-walk-returns-4 : (t : ℕ) → entry-walk-lts.Need-returns-4 (
+-- src/lib.rt:163:1
+entry-walk-returns-5 : (t : ℕ) → entry-walk-lts.Need-returns-5 (
   take-runs-reads.Asked,
   take-runs-reads.Learnt,
+  field-at-reads.Asked,
+  field-at-reads.Learnt,
   marker-walk-below t,
   marker-walk.Post,
 ) (entry-walk-at t) entry-walk.Post
-entry-walk-returns-4 t c = walked-entry _ _ _ _ (c .before .before .before .before .before .before .before .before .before .before .if1 .left) (c .before .before .before .before .before .before .before .before .if2 .left) (c .before .before .before .before .before .before .take-runs .ensures) (c .before .before .before .before .if3 .left) (c .marker-walk .ensures)
+entry-walk-returns-5 t c = walked-entry _ _ _ _ (c .before .before .before .before .before .before .before .before .before .before .before .before .if1 .left) (c .before .before .before .before .before .before .before .before .before .before .if2 .left) (c .before .before .before .before .before .before .before .before .take-runs .ensures) (c .before .before .before .before .before .before .if3 .left) (c .marker-walk .ensures)
 
--- src/lib.rt:215:8
-marker-walk-field-at-requires : (t : ℕ) → marker-walk-lts.Need-field-at-requires (
-  field-at-reads.Asked,
-  field-at-reads.Learnt,
-  goes-on-reads.Asked,
-  goes-on-reads.Learnt,
-  entry-at-reads.Asked,
-  entry-at-reads.Learnt,
-  entry-walk-below t,
-  entry-walk.Post,
-) (marker-walk-at t) marker-walk.Post
-marker-walk-field-at-requires t c κs = search needs
-
--- src/lib.rt:216:27
-marker-walk-mul-result : (t : ℕ) → marker-walk-lts.Need-mul-result (
-  field-at-reads.Asked,
-  field-at-reads.Learnt,
-  goes-on-reads.Asked,
-  goes-on-reads.Learnt,
-  entry-at-reads.Asked,
-  entry-at-reads.Learnt,
-  entry-walk-below t,
-  entry-walk.Post,
-) (marker-walk-at t) marker-walk.Post
-marker-walk-mul-result t c = search needs
-
--- src/lib.rt:216:9
-marker-walk-returns : (t : ℕ) → marker-walk-lts.Need-returns (
-  field-at-reads.Asked,
-  field-at-reads.Learnt,
-  goes-on-reads.Asked,
-  goes-on-reads.Learnt,
-  entry-at-reads.Asked,
-  entry-at-reads.Learnt,
-  entry-walk-below t,
-  entry-walk.Post,
-) (marker-walk-at t) marker-walk.Post
-marker-walk-returns t c = walked-end _ _ _ _ _ _ (c .before .field-at .ensures .is) (c .if1 .taken)
-
--- src/lib.rt:218:9
+-- src/lib.rt:232:9
 marker-walk-goes-on-requires : (t : ℕ) → marker-walk-lts.Need-goes-on-requires (
-  field-at-reads.Asked,
-  field-at-reads.Learnt,
   goes-on-reads.Asked,
   goes-on-reads.Learnt,
+  field-at-reads.Asked,
+  field-at-reads.Learnt,
   entry-at-reads.Asked,
   entry-at-reads.Learnt,
   entry-walk-below t,
@@ -187,75 +212,77 @@ marker-walk-goes-on-requires : (t : ℕ) → marker-walk-lts.Need-goes-on-requir
 ) (marker-walk-at t) marker-walk.Post
 marker-walk-goes-on-requires t c κs = search needs
 
--- src/lib.rt:219:9
-marker-walk-returns-2 : (t : ℕ) → marker-walk-lts.Need-returns-2 (
-  field-at-reads.Asked,
-  field-at-reads.Learnt,
+-- src/lib.rt:233:9
+marker-walk-returns : (t : ℕ) → marker-walk-lts.Need-returns (
   goes-on-reads.Asked,
   goes-on-reads.Learnt,
+  field-at-reads.Asked,
+  field-at-reads.Learnt,
   entry-at-reads.Asked,
   entry-at-reads.Learnt,
   entry-walk-below t,
   entry-walk.Post,
 ) (marker-walk-at t) marker-walk.Post
-marker-walk-returns-2 t c = walked-stop _ _ _ _ _ (c .before .before .before .field-at .ensures .is) (c .before .before .if1 .left) (is-no (c .before .goes-on .ensures) (c .if2 .taken))
+marker-walk-returns t c = walked-stop _ _ _ _ _ refl (c .before .before .before .pre .1 .4) (is-no (c .before .goes-on .ensures) (c .if1 .taken))
 
--- src/lib.rt:221:9
-marker-walk-field-at-requires-2 : (t : ℕ) → marker-walk-lts.Need-field-at-requires-2 (
-  field-at-reads.Asked,
-  field-at-reads.Learnt,
+-- src/lib.rt:235:9
+marker-walk-field-at-requires : (t : ℕ) → marker-walk-lts.Need-field-at-requires (
   goes-on-reads.Asked,
   goes-on-reads.Learnt,
+  field-at-reads.Asked,
+  field-at-reads.Learnt,
   entry-at-reads.Asked,
   entry-at-reads.Learnt,
   entry-walk-below t,
   entry-walk.Post,
 ) (marker-walk-at t) marker-walk.Post
-marker-walk-field-at-requires-2 t c κs = search needs
+marker-walk-field-at-requires t c κs = search needs
 
--- src/lib.rt:222:9
+-- src/lib.rt:236:9
 marker-walk-entry-at-requires : (t : ℕ) → marker-walk-lts.Need-entry-at-requires (
-  field-at-reads.Asked,
-  field-at-reads.Learnt,
   goes-on-reads.Asked,
   goes-on-reads.Learnt,
+  field-at-reads.Asked,
+  field-at-reads.Learnt,
   entry-at-reads.Asked,
   entry-at-reads.Learnt,
   entry-walk-below t,
   entry-walk.Post,
 ) (marker-walk-at t) marker-walk.Post
-marker-walk-entry-at-requires t c κs = (c .before .before .before .before .before .before .pre .1 .0, slot-of _ _ _ (ap (isSlot (c .before .before .before .before .before .before .args .g) (c .before .before .before .before .before .before .args .image .now)) (c .field-at2 .ensures .is) ∙ goes-slot _ _ _ _ (is-yes (c .before .before .goes-on .ensures) (c .before .if2 .left))))
+marker-walk-entry-at-requires t c κs = (c .before .before .before .before .pre .1 .0, slot-of _ _ _ (ap (isSlot (c .before .before .before .before .args .g) (c .before .before .before .before .args .image .now)) (c .field-at .ensures .is) ∙ goes-slot _ _ _ _ (is-yes (c .before .before .goes-on .ensures) (c .before .if1 .left))))
 
--- src/lib.rt:223:5
+-- src/lib.rt:237:5
 marker-walk-entry-walk-requires : (t : ℕ) → marker-walk-lts.Need-entry-walk-requires (
-  field-at-reads.Asked,
-  field-at-reads.Learnt,
   goes-on-reads.Asked,
   goes-on-reads.Learnt,
+  field-at-reads.Asked,
+  field-at-reads.Learnt,
   entry-at-reads.Asked,
   entry-at-reads.Learnt,
   entry-walk-below t,
   entry-walk.Post,
 ) (marker-walk-at t) marker-walk.Post
-marker-walk-entry-walk-requires t c κs = (omega arith, (c .before .before .before .before .before .before .before .before .before .pre .1 .0, c .before .before .entry-at .ensures, omega arith))
+marker-walk-entry-walk-requires t c κs = (omega arith, (c .before .before .before .before .before .before .before .pre .1 .0, c .before .before .entry-at .ensures, omega arith))
 
--- src/lib.rt:194:1
-marker-walk-returns-3 : (t : ℕ) → marker-walk-lts.Need-returns-3 (
-  field-at-reads.Asked,
-  field-at-reads.Learnt,
+-- src/lib.rt:211:1
+marker-walk-returns-2 : (t : ℕ) → marker-walk-lts.Need-returns-2 (
   goes-on-reads.Asked,
   goes-on-reads.Learnt,
+  field-at-reads.Asked,
+  field-at-reads.Learnt,
   entry-at-reads.Asked,
   entry-at-reads.Learnt,
   entry-walk-below t,
   entry-walk.Post,
 ) (marker-walk-at t) marker-walk.Post
-marker-walk-returns-3 t c = walked-on _ _ _ _ _ (c .before .before .before .before .before .before .before .before .field-at .ensures .is) (c .before .before .before .before .before .before .before .if1 .left) (is-yes (c .before .before .before .before .before .before .goes-on .ensures) (c .before .before .before .before .before .if2 .left)) (c .before .before .before .before .field-at2 .ensures .is) (c .entry-walk .ensures)
+marker-walk-returns-2 t c = walked-on _ _ _ _ _ refl (c .before .before .before .before .before .before .before .before .pre .1 .4) (is-yes (c .before .before .before .before .before .before .goes-on .ensures) (c .before .before .before .before .before .if1 .left)) (c .before .before .before .before .field-at .ensures .is) (c .entry-walk .ensures)
 
 pub +entry-walk+marker-walk-spec : {M : Type 1} → statement M
 +entry-walk+marker-walk-spec = close μ-entry-walk μ-marker-walk (λ t. entry-walk-lts.spec (
   take-runs-reads.Asked,
   take-runs-reads.Learnt,
+  field-at-reads.Asked,
+  field-at-reads.Learnt,
   marker-walk-below t,
   marker-walk.Post,
 )
@@ -267,15 +294,19 @@ pub +entry-walk+marker-walk-spec : {M : Type 1} → statement M
     (entry-walk-element-write-met t)
     (entry-walk-take-runs-requires t)
     (entry-walk-returns-3 t)
+    (entry-walk-field-at-requires t)
+    (entry-walk-add-result t)
+    (entry-walk-mul-result t)
+    (entry-walk-returns-4 t)
     (entry-walk-sub-marker-walk t)
     (entry-walk-add-marker-walk t)
     (entry-walk-marker-walk-requires t)
-    (entry-walk-returns-4 t))
+    (entry-walk-returns-5 t))
     λ t. marker-walk-lts.spec (
-      field-at-reads.Asked,
-      field-at-reads.Learnt,
       goes-on-reads.Asked,
       goes-on-reads.Learnt,
+      field-at-reads.Asked,
+      field-at-reads.Learnt,
       entry-at-reads.Asked,
       entry-at-reads.Learnt,
       entry-walk-below t,
@@ -283,12 +314,9 @@ pub +entry-walk+marker-walk-spec : {M : Type 1} → statement M
     )
     (marker-walk-at t)
     marker-walk.Post
-    (marker-walk-field-at-requires t)
-    (marker-walk-mul-result t)
-    (marker-walk-returns t)
     (marker-walk-goes-on-requires t)
-    (marker-walk-returns-2 t)
-    (marker-walk-field-at-requires-2 t)
+    (marker-walk-returns t)
+    (marker-walk-field-at-requires t)
     (marker-walk-entry-at-requires t)
     (marker-walk-entry-walk-requires t)
-    (marker-walk-returns-3 t)
+    (marker-walk-returns-2 t)

@@ -1,70 +1,56 @@
-use native.Mathlib.Omega.{arith}
-use borrow.Author.Needs.{needs}
-use Rattle.walk.proofs.Lists.{on, off, every-yes, every-no, every-none}
 use Rattle.walk.specs.Walk.{unused}
-use Rattle.meaning.specs.Lists.{count, every}
-use Prim.Native.Nat.{_-_}
-use mathlib.Core.Path.{_≡_, refl, sym, _∙_}
+use mathlib.Core.Bool.{Bool, _&&_}
+use mathlib.Core.Path.{_≡_, refl, ap, sym, _∙_}
+use borrow.Author.Tests.{not-true, not-false}
+use Rattle.walk.proofs.Lists.{four-looked}
+use borrow.Author.Needs.{needs}
 use Rattle.walk.proofs.no_runs.Statement.{statement}
 use Rattle.walk.proofs.no_runs.Tie as tie
 use Rattle.walk.proofs.no_runs.Reads as reads
 use Rattle.walk.proofs.no_runs.Lts as lts
-use Rattle.walk.proofs.field_at.Reads as field-at-reads
+use Rattle.walk.proofs.no_run.Reads as no-run-reads
 
-abbrev Inv-loop : tie.InvT-loop
-Inv-loop image g s at k j₀ j = every (unused g image s) (count k (4 - k)) ≡ every (unused g image s) (count j (4 - j))
+-- src/lib.rt:74:9
+no-run-requires : tie.Need-no-run-requires
+no-run-requires c κs = search needs
 
-abbrev μ-loop : tie.MeasureT-loop
-μ-loop image g s at k j₀ j = 4 - j
+-- src/lib.rt:75:9
+returns : tie.Need-returns
+returns c = sym (four-looked (unused (c .before .before .before .args .g) (c .before .before .before .args .image .now) (c .before .before .before .args .s)) (c .before .before .before .args .k) (c .before .no-run .ensures) refl refl refl ∙ simp (not-true (c .before .no-run .result) (c .if1 .taken)))
 
--- src/lib.rt:63:5
-loop-holds : tie.Need-loop-holds Inv-loop μ-loop
-loop-holds c = refl
+-- src/lib.rt:77:9
+no-run-requires-2 : tie.Need-no-run-requires-2
+no-run-requires-2 c κs = search needs
 
--- src/lib.rt:64:45
-mul-field-at : tie.Need-mul-field-at Inv-loop μ-loop
-mul-field-at c = search needs
+-- src/lib.rt:78:9
+returns-2 : tie.Need-returns-2
+returns-2 c = sym (four-looked (unused (c .before .before .before .before .before .args .g) (c .before .before .before .before .before .args .image .now) (c .before .before .before .before .before .args .s)) (c .before .before .before .before .before .args .k) (c .before .before .before .no-run .ensures) (c .before .no-run2 .ensures) refl refl ∙ simp (not-false (c .before .before .before .no-run .result) (c .before .before .if1 .left), not-true (c .before .no-run2 .result) (c .if2 .taken)))
 
--- src/lib.rt:64:38
-add-field-at : tie.Need-add-field-at Inv-loop μ-loop
-add-field-at c = search needs
+-- src/lib.rt:80:9
+no-run-requires-3 : tie.Need-no-run-requires-3
+no-run-requires-3 c κs = search needs
 
--- src/lib.rt:64:12
-field-at-requires : tie.Need-field-at-requires Inv-loop μ-loop
-field-at-requires c κs = search needs
+-- src/lib.rt:81:9
+returns-3 : tie.Need-returns-3
+returns-3 c = sym (four-looked (unused (c .before .before .before .before .before .before .before .args .g) (c .before .before .before .before .before .before .before .args .image .now) (c .before .before .before .before .before .before .before .args .s)) (c .before .before .before .before .before .before .before .args .k) (c .before .before .before .before .before .no-run .ensures) (c .before .before .before .no-run2 .ensures) (c .before .no-run3 .ensures) refl ∙ simp (not-false (c .before .before .before .before .before .no-run .result) (c .before .before .before .before .if1 .left), not-false (c .before .before .before .no-run2 .result) (c .before .before .if2 .left), not-true (c .before .no-run3 .result) (c .if3 .taken)))
 
--- src/lib.rt:65:13
-returns : tie.Need-returns Inv-loop μ-loop
-returns c = sym (c .before .before .before .loop .inv ∙ every-no (unused (c .before .before .before .before .before .args .g) (c .before .before .before .before .before .args .image .now) (c .before .before .before .before .before .args .s)) (c .before .before .loop-test .taken) (off (c .before .field-at .ensures .is) (c .if1 .taken)))
+-- src/lib.rt:83:5
+no-run-requires-4 : tie.Need-no-run-requires-4
+no-run-requires-4 c κs = search needs
 
--- src/lib.rt:67:9
-add-j : tie.Need-add-j Inv-loop μ-loop
-add-j c = search needs
-
--- src/lib.rt:63:5
-loop-less : tie.Need-loop-less Inv-loop μ-loop
-loop-less c = omega arith
-
--- src/lib.rt:63:5
-loop-again : tie.Need-loop-again Inv-loop μ-loop
-loop-again c = c .before .before .before .loop .inv ∙ every-yes (unused (c .before .before .before .before .before .args .g) (c .before .before .before .before .before .args .image .now) (c .before .before .before .before .before .args .s)) (c .before .before .loop-test .taken) (on (c .before .field-at .ensures .is) (c .if1 .left))
-
--- src/lib.rt:58:1
-returns-2 : tie.Need-returns-2 Inv-loop μ-loop
-returns-2 c = sym (c .before .loop .inv ∙ every-none (unused (c .before .before .before .args .g) (c .before .before .before .args .image .now) (c .before .before .before .args .s)) (c .loop-test .left))
+-- src/lib.rt:70:1
+returns-4 : tie.Need-returns-4
+returns-4 c = sym (four-looked (unused (c .before .before .before .before .before .before .before .before .args .g) (c .before .before .before .before .before .before .before .before .args .image .now) (c .before .before .before .before .before .before .before .before .args .s)) (c .before .before .before .before .before .before .before .before .args .k) (c .before .before .before .before .before .before .no-run .ensures) (c .before .before .before .before .no-run2 .ensures) (c .before .before .no-run3 .ensures) (c .no-run4 .ensures) ∙ simp (not-false (c .before .before .before .before .before .before .no-run .result) (c .before .before .before .before .before .if1 .left), not-false (c .before .before .before .before .no-run2 .result) (c .before .before .before .if2 .left), not-false (c .before .before .no-run3 .result) (c .before .if3 .left)))
 
 pub no-runs-spec : {M : Type 1} → statement M
 no-runs-spec =
     tie.close
     (tie.spec
-    Inv-loop
-    μ-loop
-    loop-holds
-    mul-field-at
-    add-field-at
-    field-at-requires
+    no-run-requires
     returns
-    add-j
-    loop-less
-    loop-again
-    returns-2)
+    no-run-requires-2
+    returns-2
+    no-run-requires-3
+    returns-3
+    no-run-requires-4
+    returns-4)

@@ -1,36 +1,53 @@
 //! `gdos free`.
 
-use super::{counted, disk_of, json_head, only_image, shown, Command, Output, JSON};
+use super::{counted, json_head, only_image, shown, unchecked_disk_of, Command, Output, JSON};
 use crate::args::Args;
 use crate::failure::Failure;
 use crate::json::Json;
 use crate::shape;
-use genie_dos::Geometry;
+use genie_dos::{FreeSpace, Geometry};
 
 pub const COMMAND: Command = Command {
     name: "free",
     summary: "tell how much space is left",
     usage: "[OPTIONS] IMAGE",
     about: "\
-Tells the free granules and the bytes that fit into them. A file takes whole granules of 1,280 bytes.
+Tells the free granules and the longest free stretch (granules with consecutive numbers), and the bytes that fit into
+them. A file takes whole granules of 1,280 bytes.
+
+Only the disk's map of granules is looked at. So a disk that is not consistent is answered too, if its geometry is
+stated: what is marked free is counted, and a note says that the disk is not consistent.
 ",
     groups: &[("Options", &[JSON]), (shape::TITLE, shape::OPTIONS)],
-    examples: &["gdos free disk.img"],
+    examples: &["gdos free disk.img", "gdos free damaged.img --preset dd80ds"],
     run,
 };
 
 fn run(args: &Args) -> Result<Output, Failure> {
     let image = only_image(args)?;
-    let disk = disk_of(args, image)?;
+    let disk = unchecked_disk_of(args, image)?;
     let path = shown(image);
-    let free = disk.count().map_err(Failure::image(&path))?.free;
+    let FreeSpace { free, longest } = disk.free_space().map_err(Failure::image(&path))?;
+    let consistent = disk.check().is_ok();
     let total = disk.image().len() / Geometry::GRANULE_BYTES;
-    let bytes = free * Geometry::GRANULE_BYTES;
+    let (bytes, longest_bytes) = (free * Geometry::GRANULE_BYTES, longest * Geometry::GRANULE_BYTES);
     let mut json = json_head(&path, disk.geometry());
-    json.extend([("free", free.into()), ("free_bytes", bytes.into()), ("granules", total.into())]);
-    Ok(Output {
-        text: format!("{free} of {} free, {bytes} bytes\n", counted(total, "granule")).into_bytes(),
-        json: Json::Object(json),
-        ..Output::default()
-    })
+    json.extend([
+        ("free", free.into()),
+        ("free_bytes", bytes.into()),
+        ("longest", longest.into()),
+        ("longest_bytes", longest_bytes.into()),
+        ("granules", total.into()),
+        ("consistent", consistent.into()),
+    ]);
+    let text = format!(
+        "{free} of {} free, {bytes} bytes\nlongest stretch {}, {longest_bytes} bytes\n",
+        counted(total, "granule"),
+        counted(longest, "granule"),
+    );
+    let notes = match consistent {
+        true => Vec::new(),
+        false => vec![format!("{path} is not consistent: this is what its GAT marks as free, not what may be taken")],
+    };
+    Ok(Output { text: text.into_bytes(), json: Json::Object(json), notes, ..Output::default() })
 }

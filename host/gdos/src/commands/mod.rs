@@ -1,6 +1,7 @@
 //! The commands, and what several of them share.
 
 mod check;
+mod diff;
 mod free;
 mod get;
 mod info;
@@ -10,6 +11,7 @@ mod probe;
 mod put;
 mod rm;
 mod trim;
+mod undelete;
 
 use crate::args::{Args, Spec};
 use crate::failure::Failure;
@@ -40,6 +42,14 @@ impl Command {
     pub fn options(&self) -> Vec<Spec> {
         self.groups.iter().flat_map(|(_, specs)| *specs).copied().collect()
     }
+
+    /// What its exit status tells, for its help.
+    pub fn status(&self) -> &'static str {
+        match self.name {
+            diff::NAME => diff::STATUS,
+            _ => "0 done, 1 refused, 2 wrong usage or I/O",
+        }
+    }
 }
 
 /// All commands, in the order of the help.
@@ -50,11 +60,13 @@ pub const COMMANDS: &[Command] = &[
     get::COMMAND,
     put::COMMAND,
     rm::COMMAND,
+    undelete::COMMAND,
     trim::COMMAND,
     free::COMMAND,
     info::COMMAND,
     new::COMMAND,
     probe::COMMAND,
+    diff::COMMAND,
 ];
 
 /// The command of a name.
@@ -73,6 +85,8 @@ pub struct Output {
     pub notes: Vec<String>,
     /// What went wrong although the command went on.
     pub failures: Vec<Failure>,
+    /// The exit status, if it is more than the failures make it.
+    pub status: u8,
 }
 
 pub const JSON: Spec = Spec { long: "json", short: None, value: None, help: "write one JSON value instead of text" };
@@ -110,12 +124,25 @@ fn only_image(args: &Args) -> Result<&OsString, Failure> {
 
 /// The disk of an image that is only looked at.
 fn disk_of(args: &Args, image: &OsStr) -> Result<Disk, Failure> {
-    let wanted = Wanted::from_args(args)?;
-    let bytes = image::read(Path::new(image))?;
-    let geometry = wanted.find(&bytes, &shown(image))?;
-    let disk = Disk::new(bytes, geometry);
+    disk_as(Wanted::from_args(args)?, image)
+}
+
+/// The disk of an image of which the geometry wanted is known.
+fn disk_as(wanted: Wanted, image: &OsStr) -> Result<Disk, Failure> {
+    let disk = unchecked_disk_as(wanted, image)?;
     disk.check().map_err(Failure::image(&shown(image)))?;
     Ok(disk)
+}
+
+/// The same where its geometry is stated and the disk need not be consistent.
+fn unchecked_disk_of(args: &Args, image: &OsStr) -> Result<Disk, Failure> {
+    unchecked_disk_as(Wanted::from_args(args)?, image)
+}
+
+fn unchecked_disk_as(wanted: Wanted, image: &OsStr) -> Result<Disk, Failure> {
+    let bytes = image::read(Path::new(image))?;
+    let geometry = wanted.find(&bytes, &shown(image))?;
+    Ok(Disk::new(bytes, geometry))
 }
 
 /// The disk of an image that is to be changed, as a copy in memory, and the lock on its file.
@@ -220,7 +247,7 @@ fn open(disk: &Disk, image: &str, typed: &Typed, password: Password) -> Result<H
 }
 
 /// A number and its noun: `1 granule`, `2 granules`.
-fn counted(number: usize, noun: &str) -> String {
+pub fn counted(number: usize, noun: &str) -> String {
     format!("{number} {noun}{}", if number == 1 { "" } else { "s" })
 }
 

@@ -6,7 +6,7 @@ use crate::failure::Failure;
 use crate::image;
 use crate::json::Json;
 use crate::shape::{self, Wanted};
-use genie_dos::Disk;
+use genie_dos::{Disk, Refusal};
 use std::path::Path;
 
 const DIRECTORY: Spec = Spec {
@@ -59,7 +59,12 @@ fn run(args: &Args) -> Result<Output, Failure> {
             return Err(Failure::Wrong(format!("--reserve: the disk has granules 0 to {}, not {off}", granules - 1)));
         }
     }
-    let disk = Disk::blank(geometry, sectors, &reserved).map_err(Failure::image(&path))?;
+    let disk = Disk::blank(geometry, sectors, &reserved).map_err(|refusal| match refusal {
+        Refusal::Geometry => Failure::image(&path)(refusal).because(shape::fault(geometry, 0)),
+        Refusal::Inconsistent => Failure::image(&path)(refusal)
+            .because(format!("a directory of {sectors} sectors from sector {} on does not fit", geometry.start)),
+        _ => Failure::image(&path)(refusal),
+    })?;
     image::write_new(Path::new(image), disk.image(), args.has("force"))?;
     let free = disk.count().map_err(Failure::image(&path))?.free;
     let mut json = json_head(&path, geometry);

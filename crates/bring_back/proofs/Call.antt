@@ -1,0 +1,211 @@
+-- The call: name and size, the whole file, the refusals, and what is left.
+use mathlib.Core.Path.{_≡_, refl, sym, ap, _∙_}
+use mathlib.Core.List.{List, [], _∷_, _++_}
+use mathlib.Core.Bool.{Bool, true, false, not, cond, _&&_, _||_}
+use Prim.Native.Nat.{ℕ, _+_, _-_, _*_, _/_, _%_, _≤_, _<_}
+use native.Mathlib.Omega.{arith}
+use lib.ListN.{length, getD, take, drop}
+use lib.Dec.{eqb, leb}
+use borrow.Author.Tests.{ne-eqb, not-true, not-false}
+use Rattle.meaning.specs.Lists.{every, each, some, distinct, all, through}
+use Rattle.meaning.specs.Bits.{bit}
+use Rattle.meaning.specs.Layout.{granuleBytes, isSlot, field, entryAt, taken, takeGranule, slots, directorySectors}
+use Rattle.meaning.specs.Names.{hash, wellFormed}
+use Rattle.meaning.specs.Entries.{inUse, extension, system, nameOf, sizeOf, sectorCount, endByte, entryGranules}
+use Rattle.meaning.specs.Chain.{chainFrom, chain, owned}
+use Rattle.meaning.specs.Consistent.{nameHolds, sizeHolds}
+use Rattle.meaning.specs.Refusals.{first, check, badGeometry, notConsistent}
+use Rattle.meaning.specs.LookUp.{named}
+use Rattle.meaning.specs.BringBack
+use Rattle.meaning.specs.BringBack.{whole, backEntry, bringBack}
+use Rattle.meaning.specs.declared.Geometry.{Geometry}
+use Rattle.meaning.specs.declared.BroughtBack.{BroughtBack}
+use Rattle.layout.specs.Room.{Room, Slot}
+use Rattle.layout.proofs.Laws.{name-part}
+use Rattle.layout.proofs.Lists.{all-at, all-yes, all-no, all-none, all-one, is-no, is-yes, not-yes, not-no, first-hit, first-skip, first-none}
+use Rattle.handle.proofs.Laws.{check-stop, check-then}
+use Rattle.seek.proofs.Laws.{slots-length}
+use Rattle.seek.proofs.Frame.{Same, same-room}
+use Rattle.walk.proofs.Lists.{not-both, all-out}
+use Rattle.consistency.specs.Slots.{countHolds}
+use Rattle.find.specs.Found.{Finds}
+use Rattle.find.specs.declared.Found.{Found}
+use Rattle.find.proofs.Laws.{finds-none, finds-one}
+use Rattle.bring_back.specs.Line.{firstOf, Listed, Written, Lined, Wholly, Plans}
+use Rattle.bring_back.specs.declared.Walked.{Walked}
+use Rattle.bring_back.specs.declared.Planned.{Planned}
+use Rattle.bring_back.proofs.Steps.{first-length}
+use Rattle.bring_back.proofs.Frame.{same-taken, same-on-disk, under-each, listed-in}
+
+-- a part of eleven bytes
+pub cut : (a : ℕ) → a + 11 - a ≡ 11
+cut a = omega arith
+
+module _ (g : Geometry) (d : List ℕ) (s : ℕ) where
+  pub name-ends : Room g d → Slot g d s → entryAt g s + 16 ≤ length d
+  name-ends r sl =
+      let l = sl .low in let h = sl .held in let w = r .whole in let t = r .directory in omega arith
+
+  -- the name as it is lent
+  pub name-is : {n : ℕ} → Room g d → Slot g d s → n ≡ 11 → take n (drop (entryAt g s + 5) d) ≡ nameOf g d s
+  name-is {n} r sl e = ap (λ (k : ℕ). take k (drop (entryAt g s + 5) d)) e ∙ sym (name-part g d s (name-ends r sl))
+
+  pub name-long : {n : ℕ} → Room g d → Slot g d s → n ≡ 11 → length (take n (drop (entryAt g s + 5) d)) ≡ 11
+  unfolding nameOf
+  name-long r sl e = ap {B = ℕ} length (name-is r sl e)
+
+  pub name-bad : {n : ℕ} {f : Bool} → Room g d → Slot g d s → n ≡ 11 → f ≡ wellFormed (take n (drop (entryAt g s + 5) d)) → not f ≡ true → false ≡ nameHolds g d s
+  unfolding nameHolds
+  name-bad r sl e w t =
+      sym (ap (λ (b : Bool). b && not (bit 5 (field g d s 0))) (ap wellFormed (sym (name-is r sl e)) ∙ is-no w t))
+
+  pub name-good : {n : ℕ} {f h : Bool} → Room g d → Slot g d s → n ≡ 11 → f ≡ wellFormed (take n (drop (entryAt g s + 5) d)) → not f ≡ false → h ≡ bit 5 (field g d s 0)
+      → not h ≡ nameHolds g d s
+  unfolding nameHolds
+  name-good r sl e w t q =
+      ap not q ∙ sym (ap (λ (b : Bool). b && not (bit 5 (field g d s 0))) (ap wellFormed (sym (name-is r sl e)) ∙ is-yes w t))
+
+  pub size-bad : {f : Bool} → f ≡ countHolds (sectorCount g d s) (endByte g d s) → not f ≡ true → false ≡ sizeHolds g d s
+  unfolding sizeHolds countHolds
+  size-bad w t = sym (all-no (is-no w t) _)
+
+  pub size-good : {f : Bool} {k n : ℕ} → f ≡ countHolds (sectorCount g d s) (endByte g d s) → not f ≡ false → k ≡ sizeOf g d s → n ≡ length (owned g d s) → leb k (granuleBytes * n) ≡ sizeHolds g d s
+  unfolding sizeHolds countHolds
+  size-good {f} {k} {n} w t p q = ap (λ (z : ℕ). leb z (granuleBytes * n)) p ∙ ap (λ (z : ℕ). leb (sizeOf g d s) (granuleBytes * z)) q ∙ sym (all-yes (is-yes w t) _ ∙ all-one _)
+
+  -- Whole --------------------------------------------------------------------------------------------------------------------
+
+  pub nothing-whole : {es : List ℕ} {r : Walked} → r ≡ record { ok = false; slots = 0; granules = 0 } → whole g d s ≡ false → Wholly g d s es r
+  nothing-whole e h = rw e (record { answer = sym h; written = λ q. not-both q refl })
+
+  pub by-extension : bit 7 (field g d s 0) ≡ true → whole g d s ≡ false
+  unfolding whole
+  by-extension h = all-no (not-yes h) _
+
+  pub by-name : nameHolds g d s ≡ false → whole g d s ≡ false
+  unfolding whole
+  by-name h = all-out _ 1 h
+
+  pub by-size : sizeHolds g d s ≡ false → whole g d s ≡ false
+  unfolding whole
+  by-size h = all-out _ 5 h
+
+  -- the walk goes along 01's chain
+  pub lined : {k : ℕ} {es : List ℕ} {r : Walked} → Room g d → k ≡ directorySectors g d → Lined g d (8 * (k - 2)) s es r → Lined g d (length (slots g d)) s es r
+  lined {k} {es} {r} rm q l =
+      let w : 8 * (k - 2) ≡ length (slots g d) = ap (λ (j : ℕ). 8 * (j - 2)) q ∙ sym (slots-length g d (rm .ten) (rm .thirty)) in
+      rw w at l
+
+  pub by-line : {es : List ℕ} {r : Walked} → Lined g d (length (slots g d)) s es r → not (r .ok) ≡ true → whole g d s ≡ false
+  unfolding whole chain owned
+  by-line {es} {r} l h = by (whole g d s) refl
+    where
+      by : (t : Bool) → whole g d s ≡ t → whole g d s ≡ false
+      by true q = not-both (l .answer ∙ all-yes (all-at _ q 2) _ ∙ all-yes (all-at _ q 3) _ ∙ all-yes (all-at _ q 4) _ ∙ all-none) (not-true (r .ok) h)
+      by false q = q
+
+  pub lined-own : {es : List ℕ} {r : Walked} → Lined g d (length (slots g d)) s es r → not (r .ok) ≡ false → r .granules ≡ length (owned g d s)
+  unfolding chain owned
+  lined-own {es} {r} l h = l .written (not-false (r .ok) h) .granules-are
+
+  pub is-whole : {es : List ℕ} {r : Walked} → bit 7 (field g d s 0) ≡ false → nameHolds g d s ≡ true → Lined g d (length (slots g d)) s es r → not (r .ok) ≡ false → sizeHolds g d s ≡ true
+      → Wholly g d s es r
+  unfolding whole chain owned
+  is-whole {es} {r} x n l h z =
+      let ok = not-false (r .ok) h in
+      let a = sym (l .answer) ∙ ok in
+      record {
+        answer = ok ∙ sym (all-yes (not-no x) _ ∙ all-yes n _ ∙ all-yes (all-at _ a 0) _ ∙ all-yes (all-at _ a 1) _ ∙ all-yes (all-at _ a 2) _ ∙ all-yes z _ ∙ all-none);
+        written = λ q. l .written q;
+      }
+
+  -- The refusals -------------------------------------------------------------------------------------------------------------
+
+  abbrev number : ℕ
+  number = first (BringBack.bringBackRefusals g d s)
+
+  pub refused-plan : {n : ℕ} {es : List ℕ} {r : Planned} → r ≡ record { number = n; slots = 0; granules = 0; hash = 0 } → n ≡ first (BringBack.bringBackRefusals g d s) → (n ≡ 0 → ⊥) → Plans g d s es r
+  refused-plan e q z =
+      rw e (record { number-is = q; room = λ w. absurd (z w); written = λ w. absurd (z w); hash-is = λ w. absurd (z w); small = λ w. absurd (z w) })
+
+  pub at-check : {n : ℕ} → n ≡ check g d → (n ≡ 0 → ⊥) → n ≡ first (BringBack.bringBackRefusals g d s)
+  at-check e z = check-stop g d _ e z
+
+  module _ {n : ℕ} (e : n ≡ check g d) (z : n ≡ 0) where
+    pub at-slot : isSlot g d s ≡ false → 12 ≡ first (BringBack.bringBackRefusals g d s)
+    at-slot a = sym (check-then g d _ e z ∙ first-hit (not-no a) 12 _)
+
+    pub at-use : isSlot g d s ≡ true → inUse g d s ≡ true → 17 ≡ first (BringBack.bringBackRefusals g d s)
+    at-use a b = sym (check-then g d _ e z ∙ first-skip (not-yes a) 12 _ ∙ first-hit b 17 _)
+
+    pub at-system : isSlot g d s ≡ true → inUse g d s ≡ false → system g d s ≡ true → 6 ≡ first (BringBack.bringBackRefusals g d s)
+    at-system a b c = sym (check-then g d _ e z ∙ first-skip (not-yes a) 12 _ ∙ first-skip b 17 _ ∙ first-hit c 6 _)
+
+    module _ (a : isSlot g d s ≡ true) (b : inUse g d s ≡ false) (c : system g d s ≡ false) where
+      so-far : first (BringBack.bringBackRefusals g d s) ≡ first ((18, not (whole g d s)) ∷ (19, BringBack.nameInUse g d s) ∷ (20, some (taken g d) (owned g d s)) ∷ [])
+      so-far = check-then g d _ e z ∙ first-skip (not-yes a) 12 _ ∙ first-skip b 17 _ ∙ first-skip c 6 _
+
+      pub at-whole : whole g d s ≡ false → 18 ≡ first (BringBack.bringBackRefusals g d s)
+      at-whole w = sym (so-far ∙ first-hit (not-no w) 18 _)
+
+      pub at-name : whole g d s ≡ true → BringBack.nameInUse g d s ≡ true → 19 ≡ first (BringBack.bringBackRefusals g d s)
+      at-name w k = sym (so-far ∙ first-skip (not-yes w) 18 _ ∙ first-hit k 19 _)
+
+      pub at-taken : whole g d s ≡ true → BringBack.nameInUse g d s ≡ false → some (taken g d) (owned g d s) ≡ true → 20 ≡ first (BringBack.bringBackRefusals g d s)
+      at-taken w k t = sym (so-far ∙ first-skip (not-yes w) 18 _ ∙ first-skip k 19 _ ∙ first-hit t 20 _)
+
+      pub at-none : whole g d s ≡ true → BringBack.nameInUse g d s ≡ false → some (taken g d) (owned g d s) ≡ false → 0 ≡ first (BringBack.bringBackRefusals g d s)
+      at-none w k t = sym (so-far ∙ first-skip (not-yes w) 18 _ ∙ first-skip k 19 _ ∙ first-skip t 20 _ ∙ first-none)
+
+  -- the name is looked up
+  pub name-used : {n : ℕ} {f : Found} → Room g d → Slot g d s → n ≡ 11 → Finds g d (take n (drop (entryAt g s + 5) d)) f → f .is ≡ true → BringBack.nameInUse g d s ≡ true
+  name-used {n} {f} r sl e w t =
+      ap (λ (l : List ℕ). not (eqb (length l) 0)) (finds-one g d (nameOf g d s) (rw (name-is r sl e) at w) (not-yes t))
+
+  pub name-free : {n : ℕ} {f : Found} → Room g d → Slot g d s → n ≡ 11 → Finds g d (take n (drop (entryAt g s + 5) d)) f → f .is ≡ false → BringBack.nameInUse g d s ≡ false
+  name-free {n} {f} r sl e w t =
+      ap (λ (l : List ℕ). not (eqb (length l) 0)) (finds-none g d (nameOf g d s) (rw (name-is r sl e) at w) (not-no t))
+
+  -- the granules are those of the entries written down
+  pub taken-is : {es : List ℕ} {n size : ℕ} → Written g d (chain g d s) es n size → some (taken g d) (each (entryGranules g d) (firstOf es n)) ≡ some (taken g d) (owned g d s)
+  unfolding owned
+  taken-is w = ap (λ (l : List ℕ). some (taken g d) (each (entryGranules g d) l)) (sym (w .entries-are))
+
+  -- Answer and image ---------------------------------------------------------------------------------------------------------
+
+  pub refused : {n : ℕ} → n ≡ first (BringBack.bringBackRefusals g d s) → (n ≡ 0 → ⊥) → _≡_ {A = BroughtBack × List ℕ} (record { number = n; slots = 0; granules = 0 }, d) (bringBack g d s)
+  unfolding bringBack
+  refused {n} e z = rw (← e, ne-eqb n 0 z)
+
+  pub listed-then : {es d′ : List ℕ} {n size : ℕ} → Room g d → Written g d (chain g d s) es n size → Same g d d′ → Listed g d′ es n
+  listed-then r w e = record { few = w .listed .few; entry = λ j l. same-on-disk g r e (w .listed .entry j l) }
+
+  pub taken-same : {es d′ : List ℕ} {n size : ℕ} → Room g d → Written g d (chain g d s) es n size → d′ ≡ through (takeGranule g) d (each (entryGranules g d) (firstOf es n)) → Same g d d′
+  taken-same {es} {d′} {n} {size} r w e =
+      rw e (same-taken g d (each (entryGranules g d) (firstOf es n)) r (under-each g d (firstOf es n) (listed-in g d es n (w .listed .entry))))
+
+  -- the image with the file brought back, by the entries written down
+  back-is : {es d′ d″ : List ℕ} {n size h : ℕ} → Written g d (chain g d s) es n size → h ≡ hash (nameOf g d s) → d′ ≡ through (takeGranule g) d (each (entryGranules g d) (firstOf es n))
+      → d″ ≡ through (backEntry g h) d′ (firstOf es n) → d″ ≡ BringBack.broughtBack g d s
+  unfolding owned
+  back-is {es} {d′} {d″} {n} {size} {h} w q e f =
+      f ∙ ap (λ (l : List ℕ). through (backEntry g h) l (firstOf es n)) e
+      ∙ ap (λ (k : ℕ). through (backEntry g k) (through (takeGranule g) d (each (entryGranules g d) (firstOf es n))) (firstOf es n)) q
+      ∙ ap (λ (l : List ℕ). through (backEntry g (hash (nameOf g d s))) (through (takeGranule g) d (each (entryGranules g d) l)) l) (sym (w .entries-are))
+
+  slots-are : {es : List ℕ} {n size : ℕ} → Written g d (chain g d s) es n size → n ≡ length (chain g d s)
+  slots-are {es} {n} w = sym (first-length es n) ∙ ap {B = ℕ} length (sym (w .entries-are))
+
+  own-are : {es : List ℕ} {n size : ℕ} → Written g d (chain g d s) es n size → size ≡ length (owned g d s)
+  unfolding owned
+  own-are w = w .granules-are
+
+  pub accepted : {es d′ d″ : List ℕ} {p : Planned} → Plans g d s es p → p .number ≡ 0 → d′ ≡ through (takeGranule g) d (each (entryGranules g d) (firstOf es (p .slots)))
+      → d″ ≡ through (backEntry g (p .hash)) d′ (firstOf es (p .slots))
+      → _≡_ {A = BroughtBack × List ℕ} (record { number = 0; slots = p .slots; granules = p .granules }, d″) (bringBack g d s)
+  unfolding bringBack
+  accepted {es} {d′} {d″} {p} k z e f =
+      let w = k .written z in
+      let q : 0 ≡ first (BringBack.bringBackRefusals g d s) = sym z ∙ k .number-is in
+      let a = slots-are w in let b = own-are w in
+      rw (← q, ← a, ← b, back-is w (k .hash-is z) e f)

@@ -1,0 +1,5 @@
+pub mod Steps
+pub mod Frame
+pub mod Entry
+pub mod Chain
+pub mod Call

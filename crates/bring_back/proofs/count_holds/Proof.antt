@@ -1,0 +1,34 @@
+use Rattle.walk.proofs.Lists.{on, off}
+use Rattle.consistency.specs.Slots.{countHolds}
+use Rattle.meaning.specs.Entries.{endByte}
+use lib.Dec.{eqb}
+use mathlib.Core.Bool.{not, _||_}
+use mathlib.Core.Path.{sym, ap, _∙_}
+use borrow.Author.Needs.{needs}
+use Rattle.bring_back.proofs.count_holds.Statement.{statement}
+use Rattle.bring_back.proofs.count_holds.Tie as tie
+use Rattle.bring_back.proofs.count_holds.Reads as reads
+use Rattle.bring_back.proofs.count_holds.Lts as lts
+use Rattle.layout.proofs.field.Reads as field-reads
+use Rattle.layout.proofs.word.Reads as word-reads
+
+-- src/lib.rt:275:8
+word-requires : tie.Need-word-requires
+word-requires c κs = search needs
+
+-- src/lib.rt:276:9
+returns : tie.Need-returns
+unfolding countHolds
+returns c = simp (off (c .before .word .ensures .is) (c .if1 .taken))
+
+-- src/lib.rt:278:5
+field-requires : tie.Need-field-requires
+field-requires c κs = search needs
+
+-- src/lib.rt:271:1
+returns-2 : tie.Need-returns-2
+unfolding countHolds
+returns-2 c = simp (on (c .before .before .word .ensures .is) (c .before .if1 .left), c .field .ensures .is)
+
+pub count-holds-spec : {M : Type 1} → statement M
+count-holds-spec = tie.close (tie.spec word-requires returns field-requires returns-2)

@@ -1,0 +1,6 @@
+pub mod Names
+pub mod Lowest
+pub mod Pairs
+pub mod Contents
+pub mod Attributes
+pub mod Telling

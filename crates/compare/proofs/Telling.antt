@@ -1,0 +1,181 @@
+-- The differences by rising names, one after the other.
+use mathlib.Core.Path.{_≡_, refl, sym, ap, subst, _∙_}
+use mathlib.Core.Logic.{_⊎_, inl, inr, ⊎-elim}
+use mathlib.Core.List.{List, [], _∷_, _++_, map}
+use mathlib.Core.Bool.{Bool, true, false, not, cond, _&&_}
+use Prim.Native.Nat.{ℕ, zero, suc, _+_, _-_, _≤_, _<_}
+use native.Mathlib.Omega.{arith}
+use lib.ListN.{length, getD, replicate, drop, length-map, length-append}
+use lib.Seq.{drop-nil}
+use lib.Dec.{T, eqb, leb, leb→le}
+use borrow.Author.Tests.{ne-eqb, eq-eqb}
+use Rattle.meaning.specs.Lists.{count, length-count, keep, all}
+use Rattle.meaning.specs.Layout.{slots, isSlot, field}
+use Rattle.meaning.specs.Names.{letter, wellFormed}
+use Rattle.meaning.specs.Entries.{primary, nameOf}
+use Rattle.meaning.specs.Chain.{files}
+use Rattle.meaning.specs.Refusals.{check}
+use Rattle.meaning.specs.Plain.{plain}
+use Rattle.meaning.specs.declared.Geometry.{Geometry}
+use Rattle.laws.specs.Members
+use Rattle.laws.specs.Facts as facts
+use Rattle.laws.specs.Change as change
+use Rattle.handle.proofs.Laws.{checked}
+use Rattle.seek.proofs.Sound.{sound}
+use Rattle.differences.specs.Compare.{before, rising, difference, isOne, tellsNone, tellFirst, names, merged, at′, differences, compare}
+use Rattle.differences.specs.Order.{In, before-less, rising-length, keep-yes, keep-no, keep-whole}
+use Rattle.differences.specs.declared.Difference.{Difference}
+use Rattle.compare.specs.Walk.{Whole, Starts, later, nameAt, onFirst, onSecond, Next}
+use Rattle.compare.specs.declared.Pair.{Pair}
+use Rattle.compare.proofs.Pairs.{starts-file, merged-in}
+
+-- a disk whose check answered 0 is whole
+pub whole : (g : Geometry) (d : List ℕ) {no : ℕ} → no ≡ check g d → no ≡ 0 → Whole g d
+whole g d e z = let k = checked g d e z in record { sound = sound g d (k .fits) (k .sound); holds = facts.sound g d (k .sound) }
+
+-- so many names at the most
+keep-length : {A : Type 0} (p : A → Bool) (xs : List A) → length (keep p xs) ≤ length xs
+keep-length p [] = omega arith
+keep-length p (x ∷ xs) = by (keep-length p xs) (p x) refl
+  where
+    by : length (keep p xs) ≤ length xs → (t : Bool) → p x ≡ t → length (keep p (x ∷ xs)) ≤ suc (length xs)
+    by ih true e = rw (keep-yes p e xs) (omega arith)
+    by ih false e = rw (keep-no p e xs) (omega arith)
+
+keep-under : {A : Type 0} (p : A → Bool) (xs : List A) {n : ℕ} → length xs ≤ n → length (keep p xs) ≤ n
+keep-under p xs h = let k = keep-length p xs in omega arith
+
+slots-length : (g : Geometry) (d : List ℕ) → length (slots g d) ≤ 256
+unfolding slots
+slots-length g d = keep-under (isSlot g d) (count 0 256) (subst (λ (n : ℕ). n ≤ 256) (sym (length-count 0 256)) (omega arith))
+
+files-length : (g : Geometry) (d : List ℕ) → length (files g d) ≤ 256
+unfolding files
+files-length g d = keep-under (primary g d) (slots g d) (slots-length g d)
+
+names-length : (g : Geometry) (d : List ℕ) → length (names g d) ≤ 256
+unfolding names
+names-length g d = subst (λ (n : ℕ). n ≤ 256) (sym (length-map (files g d) (nameOf g d))) (files-length g d)
+
+name-length : (g : Geometry) (d : List ℕ) (s : ℕ) → length (nameOf g d s) ≡ 11
+unfolding nameOf
+name-length g d s = refl
+
+-- every name comes after zeros
+letter-some : (x : ℕ) → T (letter x) → 0 < x
+letter-some x t = go (Members.or-e (leb 0x30 x && leb x 0x39) (leb 0x41 x && leb x 0x5d) t)
+  where
+    go : T (leb 0x30 x && leb x 0x39) ⊎ T (leb 0x41 x && leb x 0x5d) → 0 < x
+    go (inl a) = let p = leb→le 0x30 x (Members.and-l (leb 0x30 x) _ a) in omega arith
+    go (inr a) = let p = leb→le 0x41 x (Members.and-l (leb 0x41 x) _ a) in omega arith
+
+first-letter : (g : Geometry) (d : List ℕ) (p : ℕ) → T (wellFormed (nameOf g d p)) → 0 < field g d p 5
+unfolding wellFormed nameOf all
+first-letter g d p t = letter-some (field g d p 5) (Members.and-l (letter (field g d p 5)) _ t)
+
+after-zeros : (g : Geometry) (d : List ℕ) → Whole g d → (p : ℕ) → Starts g d p → before (replicate 11 0) (nameOf g d p) ≡ true
+unfolding nameOf
+after-zeros g d w p s = before-less (replicate 10 0) _ (first-letter g d p (change.filed-at g d (w .holds) p (starts-file g d p s) .name))
+
+module _ (g : Geometry) (d : List ℕ) (h : Geometry) (e : List ℕ) where
+  -- the differences under names after `last`
+  unfoldable pub told-later : List ℕ → List Difference
+  told-later last = keep isOne (map (at′ g d h e) (later g d h e last))
+
+  -- of the differences from number i on, `left` are to be passed over after `last`; k names were met
+  pub record Going (i left : ℕ) (last : List ℕ) (k : ℕ) : Type 0 where
+    pub ahead : drop i (differences g d h e) ≡ drop left (told-later last)
+    pub bound : length (later g d h e last) + k ≤ 512
+    pub sized : length last ≡ 11
+
+  -- the name of a pair has eleven bytes
+  pub name-sized : (p : Pair) → length (nameAt g d h e p) ≡ 11
+  unfolding nameAt
+  name-sized p = by (eqb (p .kind) 2)
+    where
+      by : (t : Bool) → length (cond t (nameOf h e (p .second)) (nameOf g d (p .first))) ≡ 11
+      by true = name-length h e (p .second)
+      by false = name-length g d (p .first)
+
+  pub going-start : Whole g d → Whole h e → (i : ℕ) → Going i i (replicate 11 0) 0
+  unfolding told-later later differences merged
+  going-start w v i =
+      let x : keep (before (replicate 11 0)) (merged g d h e) ≡ merged g d h e
+      = keep-whole (before (replicate 11 0)) (merged g d h e) (λ y j.
+      ⊎-elim (λ q. subst (λ (z : List ℕ). before (replicate 11 0) z ≡ true) (q .2) (after-zeros g d w (q .0) (q .1)))
+      (λ q. subst (λ (z : List ℕ). before (replicate 11 0) z ≡ true) (q .2) (after-zeros h e v (q .0) (q .1))) (merged-in g d h e j)) in
+      let a = rising-length (names g d ++ names h e) in let b = length-append (names g d) (names h e) in
+      let c = names-length g d in let f = names-length h e in
+      record {
+        ahead = ap (λ (l : List (List ℕ)). drop i (keep isOne (map (at′ g d h e) l))) (sym x);
+        bound = let y = ap length x in omega arith;
+        sized = refl;
+      }
+
+  module _ (i left : ℕ) (last n : List ℕ) (k : ℕ) (a : later g d h e last ≡ n ∷ later g d h e n) (eleven : length n ≡ 11) (t : Going i left last k) where
+    bounded : length (later g d h e n) + (k + 1) ≤ 512
+    bounded = let b = t .bound in let c = ap length a in omega arith
+
+    pub going-no : isOne (at′ g d h e n) ≡ false → Going i left n (k + 1)
+    unfolding told-later
+    going-no f =
+        record {
+          ahead = t .ahead ∙ ap (drop left) (ap (λ (l : List (List ℕ)). keep isOne (map (at′ g d h e) l)) a ∙ keep-no isOne f (map (at′ g d h e) (later g d h e n)));
+          bound = bounded;
+          sized = eleven;
+        }
+
+    one : isOne (at′ g d h e n) ≡ true → told-later last ≡ at′ g d h e n ∷ told-later n
+    unfolding told-later
+    one f = ap (λ (l : List (List ℕ)). keep isOne (map (at′ g d h e) l)) a ∙ keep-yes isOne f (map (at′ g d h e) (later g d h e n))
+
+    pub going-here : isOne (at′ g d h e n) ≡ true → left ≡ 0 → at′ g d h e n ≡ tellFirst (drop i (differences g d h e))
+    unfolding tellFirst
+    going-here f z = sym (ap tellFirst (t .ahead ∙ ap (λ (m : ℕ). drop m (told-later last)) z ∙ one f))
+
+    pub going-more : isOne (at′ g d h e n) ≡ true → (left ≡ 0 → ⊥) → Going i (left - 1) n (k + 1)
+    going-more f z = record { ahead = t .ahead ∙ dropped left z; bound = bounded; sized = eleven }
+      where
+        dropped : (m : ℕ) → (m ≡ 0 → ⊥) → drop m (told-later last) ≡ drop (m - 1) (told-later n)
+        dropped zero z = absurd (z refl)
+        dropped (suc m) z = let q : m ≡ suc m - 1 = omega arith in ap (drop (suc m)) (one f) ∙ ap (λ (j : ℕ). drop j (told-later n)) q
+
+  pub going-end : (i left : ℕ) (last : List ℕ) (k : ℕ) → later g d h e last ≡ [] → Going i left last k → tellsNone 0 0 ≡ tellFirst (drop i (differences g d h e))
+  unfolding tellFirst told-later
+  going-end i left last k a t =
+      sym (ap tellFirst (t .ahead ∙ ap (λ (l : List (List ℕ)). drop left (keep isOne (map (at′ g d h e) l))) a ∙ drop-nil left))
+
+  pub going-out : (i left : ℕ) (last : List ℕ) (k : ℕ) → 512 ≤ k → Going i left last k → later g d h e last ≡ []
+  going-out i left last k f t = none (later g d h e last) (let b = t .bound in omega arith)
+    where
+      none : (l : List (List ℕ)) → length l ≡ 0 → l ≡ []
+      none [] z = refl
+      none (x ∷ l) z = absurd (let q : ⊥ = omega arith in q)
+
+  pub going-same : {i left left′ k : ℕ} {last last′ : List ℕ} → left′ ≡ left → last′ ≡ last → Going i left last k → Going i left′ last′ k
+  going-same a b t = rw (a, b) t
+
+  -- what stands under the pair's name
+  pub stands-there : {last : List ℕ} (p : Pair) {x : Difference} → Next g d h e last p → (p .kind ≡ 0 → ⊥) → x ≡ difference (nameAt g d h e p) (onFirst g d h e p) (onSecond g d h e p) → x ≡ at′ g d h e (nameAt g d h e p)
+  stands-there p n z q = q ∙ (λ i. difference (nameAt g d h e p) (sym (n .first′ z) i) (sym (n .second′ z) i))
+
+  pub is-one : {x y : Difference} → x ≡ y → (x .kind ≡ 0 → ⊥) → isOne y ≡ true
+  unfolding isOne
+  is-one {x} q z = ap (λ (w : Difference). not (eqb (w .kind) 0)) (sym q) ∙ ap not (ne-eqb (x .kind) 0 z)
+
+  pub is-none : {x y : Difference} → x ≡ y → x .kind ≡ 0 → isOne y ≡ false
+  unfolding isOne
+  is-none {x} q z = ap (λ (w : Difference). not (eqb (w .kind) 0)) (sym q) ∙ ap not (eq-eqb (x .kind) 0 z)
+
+  -- refused and accepted
+  pub first-refused : (i : ℕ) {no : ℕ} {r : Difference} → r ≡ tellsNone no 1 → no ≡ check g d → (no ≡ 0 → ⊥) → r ≡ compare g d h e i
+  unfolding compare
+  first-refused i {no} f q z = f ∙ (rw (← q, ne-eqb no 0 z))
+
+  pub second-refused : (i : ℕ) {no no′ : ℕ} {r : Difference} → r ≡ tellsNone no′ 2 → no ≡ check g d → no ≡ 0 → no′ ≡ check h e → (no′ ≡ 0 → ⊥) → r ≡ compare g d h e i
+  unfolding compare
+  second-refused i {no} {no′} f q z q′ z′ = f ∙ (rw (← q, z, ← q′, ne-eqb no′ 0 z′))
+
+  pub accepted′ : (i : ℕ) {no no′ : ℕ} {r : Difference} → r ≡ tellFirst (drop i (differences g d h e)) → no ≡ check g d → no ≡ 0 → no′ ≡ check h e → no′ ≡ 0 → r ≡ compare g d h e i
+  unfolding compare
+  accepted′ i f q z q′ z′ = f ∙ (rw (← q, z, ← q′, z′))

@@ -1,0 +1,27 @@
+use Prim.Native.Nat.{ℕ}
+use mathlib.Core.List.{List}
+use mathlib.Core.Path.{ap, _∙_}
+use Rattle.differences.specs.Compare.{nameOnly}
+use Rattle.compare.proofs.Names.{placed-name}
+use borrow.Author.Needs.{needs}
+use Rattle.compare.proofs.name_only.Statement.{statement}
+use Rattle.compare.proofs.name_only.Tie as tie
+use Rattle.compare.proofs.name_only.Reads as reads
+use Rattle.compare.proofs.name_only.Lts as lts
+use Rattle.compare.proofs.name_place.Reads as name-place-reads
+use Rattle.find.proofs.name_at.Reads as name-at-reads
+
+-- src/lib.rt:312:9
+name-place-requires : tie.Need-name-place-requires
+name-place-requires c κs = search needs
+
+-- src/lib.rt:317:15
+name-at-requires : tie.Need-name-at-requires
+name-at-requires c κs = search needs
+
+-- src/lib.rt:308:1
+returns : tie.Need-returns
+returns c = let a = c .before .before .before .args in ap (λ (n : List ℕ). nameOnly n (a .kind)) (c .name-at .ensures ∙ placed-name (a .g) (a .image .now) (a .s) _ (c .before .name-place .ensures))
+
+pub name-only-spec : {M : Type 1} → statement M
+name-only-spec = tie.close (tie.spec name-place-requires name-at-requires returns)

@@ -1,0 +1,5 @@
+pub mod Compare
+pub mod Order
+pub mod Parting
+pub mod Told
+pub mod Samples

@@ -1,0 +1,21 @@
+use Rattle.gat.proofs.Laws.{ended-here, ended-before}
+use borrow.Author.Needs.{needs}
+use Rattle.gat.proofs.ended.Statement.{statement}
+use Rattle.gat.proofs.ended.Tie as tie
+use Rattle.gat.proofs.ended.Reads as reads
+use Rattle.gat.proofs.ended.Lts as lts
+
+-- src/lib.rt:22:16
+add-free : tie.Need-add-free
+add-free c = search needs
+
+-- src/lib.rt:24:9
+returns : tie.Need-returns
+returns c = ended-here _ (c .if1 .taken)
+
+-- src/lib.rt:18:1
+returns-2 : tie.Need-returns-2
+returns-2 c = ended-before _ (c .if1 .left)
+
+pub ended-spec : {M : Type 1} → statement M
+ended-spec = tie.close (tie.spec add-free returns returns-2)

@@ -1,0 +1,30 @@
+use Rattle.names.proofs.Buckets.{flags-at}
+use borrow.Author.Tests.{eq-eqb, ne-eqb}
+use Rattle.layout.proofs.Laws.{digit-at}
+use mathlib.Core.Path.{_≡_, refl, sym, ap, _∙_}
+use native.Mathlib.Omega.{arith}
+use borrow.Author.Needs.{needs}
+use Rattle.names.proofs.starts_file.Statement.{statement}
+use Rattle.names.proofs.starts_file.Tie as tie
+use Rattle.names.proofs.starts_file.Reads as reads
+use Rattle.names.proofs.starts_file.Lts as lts
+use Rattle.layout.proofs.wide.Reads as wide-reads
+
+-- src/lib.rt:35:26
+shared-slice-read-wide : tie.Need-shared-slice-read-wide
+shared-slice-read-wide c = search needs
+
+-- src/lib.rt:35:9
+wide-requires : tie.Need-wide-requires
+wide-requires c κs = search needs
+
+-- src/lib.rt:37:9
+returns : tie.Need-returns
+returns c = simp (sym (flags-at (c .before .before .before .before .args .g) (c .before .before .before .before .args .image .now) (c .before .before .before .before .args .s) (c .before .before .before .before .pre .2) (c .before .wide .ensures .is)), digit-at, ne-eqb _ _ (c .if1 .taken))
+
+-- src/lib.rt:31:1
+returns-2 : tie.Need-returns-2
+returns-2 c = simp (sym (flags-at (c .before .before .before .before .args .g) (c .before .before .before .before .args .image .now) (c .before .before .before .before .args .s) (c .before .before .before .before .pre .2) (c .before .wide .ensures .is)), digit-at, eq-eqb _ _ (c .if1 .left))
+
+pub starts-file-spec : {M : Type 1} → statement M
+starts-file-spec = tie.close (tie.spec shared-slice-read-wide wide-requires returns returns-2)

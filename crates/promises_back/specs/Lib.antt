@@ -1,0 +1,5 @@
+pub mod Statement
+pub mod Passing
+pub mod Serving
+pub mod Numbers
+pub mod Kept

@@ -1,0 +1,4 @@
+pub mod Statement
+pub mod Agreement
+pub mod Telling
+pub mod Kept

@@ -1,0 +1,36 @@
+use lib.Dec.{eqb}
+use Prim.Native.Nat.{ℕ}
+use Rattle.meaning.specs.Entries.{block}
+use Rattle.walk.specs.Walk.{unused}
+use mathlib.Core.Bool.{Bool, _||_}
+use mathlib.Core.Path.{_≡_, ap, sym, _∙_}
+use borrow.Author.Tests.{lt-ltb, le-ltb}
+use borrow.Author.Needs.{needs}
+use Rattle.walk.proofs.no_run.Statement.{statement}
+use Rattle.walk.proofs.no_run.Tie as tie
+use Rattle.walk.proofs.no_run.Reads as reads
+use Rattle.walk.proofs.no_run.Lts as lts
+use Rattle.walk.proofs.field_at.Reads as field-at-reads
+
+-- src/lib.rt:64:9
+returns : tie.Need-returns
+returns c = sym (ap (λ (b : Bool). b || unused (c .before .before .args .g) (c .before .before .args .image .now) (c .before .before .args .s) (c .before .before .args .j)) (lt-ltb _ _ (c .if1 .taken)))
+
+-- src/lib.rt:66:38
+mul-field-at : tie.Need-mul-field-at
+mul-field-at c = search needs
+
+-- src/lib.rt:66:31
+add-field-at : tie.Need-add-field-at
+add-field-at c = search needs
+
+-- src/lib.rt:66:5
+field-at-requires : tie.Need-field-at-requires
+field-at-requires c κs = search needs
+
+-- src/lib.rt:59:1
+returns-2 : tie.Need-returns-2
+returns-2 c = ap (λ (x : ℕ). eqb x 0xff) (c .field-at .ensures .is) ∙ sym (ap (λ (b : Bool). b || unused (c .before .before .before .args .g) (c .before .before .before .args .image .now) (c .before .before .before .args .s) (c .before .before .before .args .j)) (le-ltb _ _ (c .before .if1 .left)))
+
+pub no-run-spec : {M : Type 1} → statement M
+no-run-spec = tie.close (tie.spec returns mul-field-at add-field-at field-at-requires returns-2)
