@@ -138,7 +138,7 @@ pub fn kill(image: &mut [u8], g: Geometry, h: Handle) -> Answer
 pub fn bring_back(image: &mut [u8], g: Geometry, s: usize) -> BroughtBack
     ensures { λ r. ⌜ (r, now (image .exit)) ≡ bringBack g (now (image .entry)) s ⌝ }
 {
-    let checked = consistency::check(image, g);
+    let checked = diagnosis::checked(image, g);
     bring_back::bring_back_checked(image, g, s, checked)
 }
 
@@ -169,7 +169,7 @@ pub fn free_space(image: &[u8], g: Geometry) -> Space
 pub fn compare(first: &[u8], g: Geometry, second: &[u8], h: Geometry, number: usize) -> Difference
     ensures { λ r. ⌜ r ≡ compare g (now (first .entry)) h (now (second .entry)) number ⌝ }
 {
-    let checked = consistency::check(first, g);
-    let checked2 = consistency::check(second, h);
+    let checked = diagnosis::checked(first, g);
+    let checked2 = diagnosis::checked(second, h);
     compare::compare_checked(first, g, second, h, number, checked, checked2)
 }

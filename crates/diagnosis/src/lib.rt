@@ -13,6 +13,9 @@ ghost use Rattle.layout.specs.Room.{Room, Slot, Below};
 ghost use Rattle.consistency.specs.Slots.{Fits};
 ghost use Rattle.diagnosis.specs.Told.{hashDiffers, sameFile, faultIn, afterSlots, told};
 
+// told where a fault has no slot, and where there is no fault
+pub const NO_SLOT: usize = 256;
+
 // A slot's HIT byte is nonzero exactly if its entry is in use.
 fn hit_holds(image: &[u8], g: Geometry, s: usize) -> bool
     requires { ⌜ Room g (now image) × Slot g (now image) s ⌝ }
@@ -178,12 +181,12 @@ fn after_slots(image: &[u8], g: Geometry) -> Fault
     if !kinds::all_taken(image, g, a, n) {
         return Fault {
             number: 30,
-            slot: 256,
+            slot: NO_SLOT,
         };
     }
     Fault {
         number: 0,
-        slot: 256,
+        slot: NO_SLOT,
     }
 }
 
@@ -211,7 +214,7 @@ pub fn fault_of(image: &[u8], g: Geometry) -> Fault
     if !consistency::length_holds(image, g) {
         return Fault {
             number: 21,
-            slot: 256,
+            slot: NO_SLOT,
         };
     }
     slots_fault(image, g)
@@ -225,13 +228,13 @@ pub fn check(image: &[u8], g: Geometry) -> Fault
     if !layout::fits_geometry(image, g) {
         return Fault {
             number: 1,
-            slot: 256,
+            slot: NO_SLOT,
         };
     }
     if consistency::consistent(image, g) {
         return Fault {
             number: 0,
-            slot: 256,
+            slot: NO_SLOT,
         };
     }
     fault_of(image, g)

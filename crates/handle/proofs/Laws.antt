@@ -16,7 +16,7 @@ use Rattle.meaning.specs.declared.Geometry.{Geometry}
 use Rattle.meaning.specs.declared.Handle.{Handle}
 use Rattle.laws.specs.Members
 use Rattle.laws.specs.Facts
-use Rattle.laws.specs.Passed.{disk-passed}
+use Rattle.laws.specs.Passed.{Served, disk-passed, check-passed}
 use Rattle.layout.specs.Room.{Room, Slot}
 use Rattle.layout.proofs.Lists.{first-at, first-hit, first-skip, first-none, and-l, and-r, any-skip, all-at}
 use Rattle.layout.proofs.Sound.{room, slot-of}
@@ -59,10 +59,11 @@ module _ (g : Geometry) (d : List ℕ) where
     pub fits : fitsGeometry g d ≡ true
     pub sound : consistent g d ≡ true
 
+  of-served : Served g d → Checked
+  of-served w = record { fits = Members.T-true (w .fits); sound = Facts.back g d (w .sound) }
+
   pub checked : {n : ℕ} → n ≡ check g d → n ≡ 0 → Checked
-  unfolding check
-  checked e z =
-      let w = disk-passed g d [] (sym e ∙ z) in record { fits = Members.T-true (w .0 .fits); sound = Facts.back g d (w .0 .sound) }
+  checked e z = of-served (check-passed g d (sym e ∙ z))
 
   pub check-stop : (rest : List (ℕ × Bool)) {n : ℕ} → n ≡ check g d → (n ≡ 0 → ⊥) → n ≡ first (diskRefusals g d rest)
   unfolding check
@@ -110,7 +111,7 @@ module _ (g : Geometry) (d : List ℕ) where
       let w = not-false _ (t (ownRow 1)) in
       let c = disk-passed g d ((12, not ranged) ∷ staleHandle g d h ∷ rest) (sym e ∙ z) in
       record {
-        disk = record { fits = Members.T-true (c .0 .fits); sound = Facts.back g d (c .0 .sound) };
+        disk = of-served (c .0);
         ranged′ = not-false _ (t (ownRow 0));
         slot = is-slot h w;
         first′ = is-primary h w;

@@ -7,7 +7,7 @@ use native.Mathlib.Omega.{arith}
 use lib.Dec.{eqb, leb, ltb}
 use lib.ListN.{length, length-append}
 use borrow.Author.Tests.{eq-eqb, ne-eqb, lt-ltb, le-ltb, leb-true, not-true, not-false}
-use Rattle.meaning.specs.Lists.{count, every, some, each, has, keep, all, any, firstOr}
+use Rattle.meaning.specs.Lists.{count, every, some, each, has, keep, all, any, firstOr, length-count}
 use Rattle.meaning.specs.Layout.{granules, taken}
 use Rattle.meaning.specs.Entries.{inUse, runs, link, runStart, runLength, runGranules, entryGranules}
 use Rattle.meaning.specs.Consistent.{follows, runsHold, gatHolds}
@@ -15,7 +15,7 @@ use Rattle.meaning.specs.Fault.{handsOn, goodExtension, chainFault, runFault}
 use Rattle.meaning.specs.declared.Geometry.{Geometry}
 use Rattle.layout.specs.Room.{Slot}
 use Rattle.layout.proofs.Laws.{left-more, left-none}
-use Rattle.layout.proofs.Lists.{all-at, all-yes, all-one, every-count, length-count, keep-yes, keep-no}
+use Rattle.layout.proofs.Lists.{all-at, all-yes, all-one, every-count, keep-yes, keep-no}
 use Rattle.layout.proofs.Sound.{slot-of}
 use Rattle.laws.specs.Members
 use Rattle.laws.specs.Walk

@@ -41,6 +41,10 @@ disk-passed g d cs e = go (passed 1 _ _ (omega arith) e) (Members.in-cons (Fault
     )
     go p (inr i) = let k = Members.count-in n 21 10 i in absurd (omega (arith, k, sym (First.number-hit n faultNumbers cs i) ∙ p .1))
 
+pub check-passed : (g : Geometry) (d : List ℕ) → check g d ≡ 0 → Served g d
+unfolding check
+check-passed g d e = disk-passed g d [] e .0
+
 -- and the other way: on a consistent disk they come to nothing
 pub disk-passes : (g : Geometry) (d : List ℕ) (cs : List (ℕ × Bool)) → fitsGeometry g d ≡ true → consistent g d ≡ true → first (diskRefusals g d cs) ≡ first cs
 unfolding first

@@ -111,7 +111,7 @@ rows (c ∷ cs) (r ∷ rs) e E i w n a y z =
     none t (Members.Test.holds u) (Members.Test.fails b) k j = t (Members.and-i e (not (c .1)) u (not-T (c .1) b))
 
 -- the rows of a call after those of the disk
-abbrev ownRows : List (ℕ × Bool) → List (ℕ × Bool)
+abbrev pub ownRows : List (ℕ × Bool) → List (ℕ × Bool)
 ownRows cs = drop (1 + length faultNumbers) cs
 
 abbrev pub without : ℕ → Table → Table
@@ -346,7 +346,7 @@ fails-iff noSlot = (λ t. refl, λ e. tt)
 -- The calls -------------------------------------------------------------------------------------------------------------------------
 
 module _ (g : Geometry) (d : List ℕ) where
-  pub no-fit : T (not (fitsGeometry g d)) ↔ (Fits g d → ⊥)
+  no-fit : T (not (fitsGeometry g d)) ↔ (Fits g d → ⊥)
   no-fit = not-iff (fitsGeometry g d) (fits-iff g d)
 
   -- E, and none of these numbers is the fault's
@@ -403,7 +403,7 @@ module _ (g : Geometry) (d : List ℕ) where
   own-rows rs a r = rows-past faultNumbers rs a (Unit {0} × ((Fits g d → ⊥) → ⊥)) (r .1)
 
   -- the rows that every call has first
-  disk-reading : (cs : List (ℕ × Bool)) (rs : Table) → Reading cs rs Checked → Reading (diskRefusals g d cs) (Promises.diskCases g d rs) (Unit {0})
+  pub disk-reading : (cs : List (ℕ × Bool)) (rs : Table) → Reading cs rs Checked → Reading (diskRefusals g d cs) (Promises.diskCases g d rs) (Unit {0})
   disk-reading cs rs r = (refl, λ x. no-fit, faults-reading faultNumbers cs rs (Unit {0} × ((Fits g d → ⊥) → ⊥)) r)
 
   stale : (h : Handle) → T (not (fresh g d h)) ↔ (Live g d h → ⊥)
