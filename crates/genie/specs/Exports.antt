@@ -91,7 +91,7 @@ abbrev pub spaces : Space → ℕ × ℕ × ℕ
 spaces s = (s .number, s .free, s .longest)
 
 module _ (g : Geometry) (d : List ℕ) where
-  -- slot, compared. "look up's count apart": under 4 it is told, and 0 under 1, 2 and 3.
+  -- slot, compared. "look up's count apart": under 4 it is told, and 0 under 1, 2 (21 to 30) and 3.
   abbrev pub exportedLookUp : List ℕ → ℕ × ℕ × ℕ
   exportedLookUp n = looks (lookUp g d n)
 
