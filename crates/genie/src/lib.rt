@@ -632,8 +632,9 @@ pub extern "C" fn genie_compare(
         return 12;
     }
     let x = calls::compare(first, g, second, h, number);
-    *image = layout::wide(x.image);
-    *fault_slot = compared_slot(first, g, second, h, layout::wide(x.image), x.number);
+    let named = layout::wide(x.image);
+    *image = named;
+    *fault_slot = compared_slot(first, g, second, h, named, x.number);
     *kind = layout::wide(x.kind);
     *position = x.at;
     *flags = flags_of(x);
