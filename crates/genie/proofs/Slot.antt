@@ -27,9 +27,9 @@ kept g {n} {d} {d′} h = by (ℕ-discrete n 0)
     by (no z) = ap (faultSlot n g) (h z)
 
 -- p is the call's answer and image, by its definition; d is the image lent
-pub after : {A : Type 0} (number : A → ℕ) {g : Geometry} {d d′ : List ℕ} {a : A} {p : A × List ℕ} {r : ℕ} → _≡_ {A = A × List ℕ} (a, d′) p
+pub after : {A : Type 0} (number : A → ℕ) (g : Geometry) (d d′ : List ℕ) {a : A} {p : A × List ℕ} {r : ℕ} → _≡_ {A = A × List ℕ} (a, d′) p
     → ((number (p .0) ≡ 0 → ⊥) → p .1 ≡ d) → r ≡ faultSlot (number a) g d′ → r ≡ faultSlot (number a) g d
-after {A} number {g} e h q =
+after {A} number g d d′ e h q =
     q ∙ kept g (λ z. ap {B = List ℕ} (λ (x : A × List ℕ). x .1) e ∙ h (λ w. z (ap {B = ℕ} (λ (x : A × List ℕ). number (x .0)) e ∙ w)))
 
 module _ (n : ℕ) (b : Bool) (x d : List ℕ) (z : n ≡ 0 → ⊥) where

@@ -88,7 +88,7 @@ fn slot_of(image: &[u8], g: Geometry, number: u8) -> usize
 
 // 12 for what is lent too short, after 1 and the faults.
 fn short_number(image: &[u8], g: Geometry, fault_slot: &mut usize) -> u8
-    ensures { λ r. ⌜ (r ≡ tooShort g (now (image .entry))) × (now (fault_slot .exit) ≡ faultSlot r g (now (image .entry))) ⌝ }
+    ensures { λ r. ⌜ (r ≡ tooShort g (now (image .entry))) × (now («fault_slot» .exit) ≡ faultSlot r g (now (image .entry))) ⌝ }
 {
     let number = calls::check(image, g);
     *fault_slot = slot_of(image, g, number);
@@ -125,7 +125,7 @@ pub extern "C" fn genie_check(
     open_code: u16,
     fault_slot: &mut usize,
 ) -> u8
-    ensures { λ r. ⌜ (r ≡ check (geometry blocks units start open_code) (now (image .entry))) × (now (fault_slot .exit) ≡ checkSlot (geometry blocks units start open_code) (now (image .entry))) ⌝ }
+    ensures { λ r. ⌜ (r ≡ check (geometry blocks units start open_code) (now (image .entry))) × (now («fault_slot» .exit) ≡ checkSlot (geometry blocks units start open_code) (now (image .entry))) ⌝ }
 {
     let g = Geometry {
         blocks,
@@ -150,7 +150,7 @@ pub extern "C" fn genie_look_up(
     compared: &mut usize,
     fault_slot: &mut usize,
 ) -> u8
-    ensures { λ r. ⌜ ((r, now (slot .exit), now (compared .exit)) ≡ exportedLookUp (geometry blocks units start open_code) (now (image .entry)) (now (name .entry))) × (now (fault_slot .exit) ≡ faultSlot r (geometry blocks units start open_code) (now (image .entry))) ⌝ }
+    ensures { λ r. ⌜ ((r, now (slot .exit), now (compared .exit)) ≡ exportedLookUp (geometry blocks units start open_code) (now (image .entry)) (now (name .entry))) × (now («fault_slot» .exit) ≡ faultSlot r (geometry blocks units start open_code) (now (image .entry))) ⌝ }
 {
     let g = Geometry {
         blocks,
@@ -179,7 +179,7 @@ pub extern "C" fn genie_open(
     handle: &mut [u8],
     fault_slot: &mut usize,
 ) -> u8
-    ensures { λ r. ⌜ ((r, now (handle .exit)) ≡ exportedOpen (geometry blocks units start open_code) (now (image .entry)) (now (name .entry)) length checking code (now (handle .entry))) × (now (fault_slot .exit) ≡ faultSlot r (geometry blocks units start open_code) (now (image .entry))) ⌝ }
+    ensures { λ r. ⌜ ((r, now (handle .exit)) ≡ exportedOpen (geometry blocks units start open_code) (now (image .entry)) (now (name .entry)) length checking code (now (handle .entry))) × (now («fault_slot» .exit) ≡ faultSlot r (geometry blocks units start open_code) (now (image .entry))) ⌝ }
 {
     let g = Geometry {
         blocks,
@@ -215,7 +215,7 @@ pub extern "C" fn genie_create(
     handle: &mut [u8],
     fault_slot: &mut usize,
 ) -> u8
-    ensures { λ r. ⌜ ((r, now (old .exit), now (handle .exit), now (image .exit)) ≡ exportedCreate (geometry blocks units start open_code) (now (image .entry)) (now (name .entry)) (newFile day month year length main worker) checking (now (handle .entry))) × (now (fault_slot .exit) ≡ faultSlot r (geometry blocks units start open_code) (now (image .entry))) ⌝ }
+    ensures { λ r. ⌜ ((r, now (old .exit), now (handle .exit), now (image .exit)) ≡ exportedCreate (geometry blocks units start open_code) (now (image .entry)) (now (name .entry)) (newFile day month year length main worker) checking (now (handle .entry))) × (now («fault_slot» .exit) ≡ faultSlot r (geometry blocks units start open_code) (now (image .entry))) ⌝ }
 {
     let g = Geometry {
         blocks,
@@ -253,7 +253,7 @@ pub extern "C" fn genie_read_record(
     buffer: &mut [u8],
     fault_slot: &mut usize,
 ) -> u8
-    ensures { λ r. ⌜ ((r, now (handle .exit), now (buffer .exit)) ≡ exportedReadRecord (geometry blocks units start open_code) (now (image .entry)) (now (handle .entry)) (now (buffer .entry))) × (now (fault_slot .exit) ≡ faultSlot r (geometry blocks units start open_code) (now (image .entry))) ⌝ }
+    ensures { λ r. ⌜ ((r, now (handle .exit), now (buffer .exit)) ≡ exportedReadRecord (geometry blocks units start open_code) (now (image .entry)) (now (handle .entry)) (now (buffer .entry))) × (now («fault_slot» .exit) ≡ faultSlot r (geometry blocks units start open_code) (now (image .entry))) ⌝ }
 {
     let g = Geometry {
         blocks,
@@ -287,7 +287,7 @@ pub extern "C" fn genie_read_sector(
     to: &mut usize,
     fault_slot: &mut usize,
 ) -> u8
-    ensures { λ r. ⌜ ((r, now (from .exit), now (to .exit)) ≡ exportedReadSector (geometry blocks units start open_code) (now (image .entry)) (now (handle .entry)) k) × (now (fault_slot .exit) ≡ faultSlot r (geometry blocks units start open_code) (now (image .entry))) ⌝ }
+    ensures { λ r. ⌜ ((r, now (from .exit), now (to .exit)) ≡ exportedReadSector (geometry blocks units start open_code) (now (image .entry)) (now (handle .entry)) k) × (now («fault_slot» .exit) ≡ faultSlot r (geometry blocks units start open_code) (now (image .entry))) ⌝ }
 {
     let g = Geometry {
         blocks,
@@ -320,7 +320,7 @@ pub extern "C" fn genie_write_record(
     buffer: &[u8],
     fault_slot: &mut usize,
 ) -> u8
-    ensures { λ r. ⌜ ((r, now (handle .exit), now (image .exit)) ≡ exportedWriteRecord (geometry blocks units start open_code) (now (image .entry)) (now (handle .entry)) sequential (now (buffer .entry))) × (now (fault_slot .exit) ≡ faultSlot r (geometry blocks units start open_code) (now (image .entry))) ⌝ }
+    ensures { λ r. ⌜ ((r, now (handle .exit), now (image .exit)) ≡ exportedWriteRecord (geometry blocks units start open_code) (now (image .entry)) (now (handle .entry)) sequential (now (buffer .entry))) × (now («fault_slot» .exit) ≡ faultSlot r (geometry blocks units start open_code) (now (image .entry))) ⌝ }
 {
     let g = Geometry {
         blocks,
@@ -353,7 +353,7 @@ pub extern "C" fn genie_allot(
     k: usize,
     fault_slot: &mut usize,
 ) -> u8
-    ensures { λ r. ⌜ ((r, now (image .exit)) ≡ exportedAllot (geometry blocks units start open_code) (now (image .entry)) (now (handle .entry)) k) × (now (fault_slot .exit) ≡ faultSlot r (geometry blocks units start open_code) (now (image .entry))) ⌝ }
+    ensures { λ r. ⌜ ((r, now (image .exit)) ≡ exportedAllot (geometry blocks units start open_code) (now (image .entry)) (now (handle .entry)) k) × (now («fault_slot» .exit) ≡ faultSlot r (geometry blocks units start open_code) (now (image .entry))) ⌝ }
 {
     let g = Geometry {
         blocks,
@@ -380,7 +380,7 @@ pub extern "C" fn genie_trim(
     handle: &[u8],
     fault_slot: &mut usize,
 ) -> u8
-    ensures { λ r. ⌜ ((r, now (image .exit)) ≡ exportedTrim (geometry blocks units start open_code) (now (image .entry)) (now (handle .entry))) × (now (fault_slot .exit) ≡ faultSlot r (geometry blocks units start open_code) (now (image .entry))) ⌝ }
+    ensures { λ r. ⌜ ((r, now (image .exit)) ≡ exportedTrim (geometry blocks units start open_code) (now (image .entry)) (now (handle .entry))) × (now («fault_slot» .exit) ≡ faultSlot r (geometry blocks units start open_code) (now (image .entry))) ⌝ }
 {
     let g = Geometry {
         blocks,
@@ -407,7 +407,7 @@ pub extern "C" fn genie_kill(
     handle: &[u8],
     fault_slot: &mut usize,
 ) -> u8
-    ensures { λ r. ⌜ ((r, now (image .exit)) ≡ exportedKill (geometry blocks units start open_code) (now (image .entry)) (now (handle .entry))) × (now (fault_slot .exit) ≡ faultSlot r (geometry blocks units start open_code) (now (image .entry))) ⌝ }
+    ensures { λ r. ⌜ ((r, now (image .exit)) ≡ exportedKill (geometry blocks units start open_code) (now (image .entry)) (now (handle .entry))) × (now («fault_slot» .exit) ≡ faultSlot r (geometry blocks units start open_code) (now (image .entry))) ⌝ }
 {
     let g = Geometry {
         blocks,
@@ -436,7 +436,7 @@ pub extern "C" fn genie_bring_back(
     granules: &mut usize,
     fault_slot: &mut usize,
 ) -> u8
-    ensures { λ r. ⌜ ((r, now (slots .exit), now (granules .exit), now (image .exit)) ≡ exportedBringBack (geometry blocks units start open_code) (now (image .entry)) slot) × (now (fault_slot .exit) ≡ faultSlot r (geometry blocks units start open_code) (now (image .entry))) ⌝ }
+    ensures { λ r. ⌜ ((r, now (slots .exit), now (granules .exit), now (image .exit)) ≡ exportedBringBack (geometry blocks units start open_code) (now (image .entry)) slot) × (now («fault_slot» .exit) ≡ faultSlot r (geometry blocks units start open_code) (now (image .entry))) ⌝ }
 {
     let g = Geometry {
         blocks,
@@ -465,7 +465,7 @@ pub extern "C" fn genie_list(
     more: &mut usize,
     fault_slot: &mut usize,
 ) -> u8
-    ensures { λ r. ⌜ ((r, now (size .exit), now (granules .exit), now (more .exit), now (name .exit)) ≡ exportedList (geometry blocks units start open_code) (now (image .entry)) number (now (name .entry))) × (now (fault_slot .exit) ≡ faultSlot r (geometry blocks units start open_code) (now (image .entry))) ⌝ }
+    ensures { λ r. ⌜ ((r, now (size .exit), now (granules .exit), now (more .exit), now (name .exit)) ≡ exportedList (geometry blocks units start open_code) (now (image .entry)) number (now (name .entry))) × (now («fault_slot» .exit) ≡ faultSlot r (geometry blocks units start open_code) (now (image .entry))) ⌝ }
 {
     let g = Geometry {
         blocks,
@@ -504,7 +504,7 @@ pub extern "C" fn genie_count(
     free: &mut usize,
     fault_slot: &mut usize,
 ) -> u8
-    ensures { λ r. ⌜ ((r, now (files .exit), now (free .exit)) ≡ exportedCount (geometry blocks units start open_code) (now (image .entry))) × (now (fault_slot .exit) ≡ faultSlot r (geometry blocks units start open_code) (now (image .entry))) ⌝ }
+    ensures { λ r. ⌜ ((r, now (files .exit), now (free .exit)) ≡ exportedCount (geometry blocks units start open_code) (now (image .entry))) × (now («fault_slot» .exit) ≡ faultSlot r (geometry blocks units start open_code) (now (image .entry))) ⌝ }
 {
     let g = Geometry {
         blocks,
@@ -597,7 +597,7 @@ pub extern "C" fn genie_compare(
     flags: &mut usize,
     fault_slot: &mut usize,
 ) -> u8
-    ensures { λ r. ⌜ ((r, now (image .exit), now (kind .exit), now (position .exit), now (flags .exit), now (name .exit)) ≡ exportedCompare (geometry blocks units start open_code) (now (first .entry)) (geometry blocks2 units2 start2 open_code2) (now (second .entry)) number (now (name .entry))) × (now (fault_slot .exit) ≡ comparedSlot (now (image .exit)) r (geometry blocks units start open_code) (now (first .entry)) (geometry blocks2 units2 start2 open_code2) (now (second .entry))) ⌝ }
+    ensures { λ r. ⌜ ((r, now (image .exit), now (kind .exit), now (position .exit), now (flags .exit), now (name .exit)) ≡ exportedCompare (geometry blocks units start open_code) (now (first .entry)) (geometry blocks2 units2 start2 open_code2) (now (second .entry)) number (now (name .entry))) × (now («fault_slot» .exit) ≡ comparedSlot (now (image .exit)) r (geometry blocks units start open_code) (now (first .entry)) (geometry blocks2 units2 start2 open_code2) (now (second .entry))) ⌝ }
 {
     let g = Geometry {
         blocks,
