@@ -128,21 +128,49 @@ take-low (suc k) [] b i = omega arith
 take-low (suc k) (x ∷ xs) b zero = b 0
 take-low (suc k) (x ∷ xs) b (suc i) = take-low k xs (λ i. b (suc i)) i
 
+-- the same, and the first is allowed
+begins : (x : ℕ) (xs : List ℕ) → ((i : ℕ) → getD (x ∷ xs) i 0 < 256) → every plain (x ∷ xs) ≡ true
+    → eqb (bitOr (bitOr (number (map top (x ∷ xs)) / 256) 0x80) (number (map top (x ∷ xs)))) (number (map top (x ∷ xs))) ≡ (letter x && padded (x ∷ xs))
+unfolding number
+begins x xs b e =
+    let t = number (map top xs) in let h = top-lt x in
+    let q : (top x + 256 * t) / 256 ≡ t / 256 * 2 ^ 8 + t % 256 = omega arith in
+    let r : top x + 256 * t ≡ t * 2 ^ 8 + top x = omega arith in
+    let w : 0x80 ≡ 0 * 2 ^ 8 + 0x80 = refl in
+    let low : bitOr (t % 256) 0x80 < 2 ^ 8 = or-lt 8 (t % 256) 0x80 (omega arith) (omega arith) in
+    ap (λ (y : ℕ). eqb (bitOr (bitOr ((top x + 256 * t) / 256) 0x80) y) (top x + 256 * t)) r
+    ∙ ap (λ (y : ℕ). eqb (bitOr (bitOr y 0x80) (t * 2 ^ 8 + top x)) (top x + 256 * t)) q
+    ∙ ap (λ (y : ℕ). eqb (bitOr (bitOr (t / 256 * 2 ^ 8 + t % 256) y) (t * 2 ^ 8 + top x)) (top x + 256 * t)) w
+    ∙ ap (λ (y : ℕ). eqb (bitOr y (t * 2 ^ 8 + top x)) (top x + 256 * t)) (or-block 8 (t / 256) 0 (t % 256) 0x80 (omega arith) (omega arith))
+    ∙ ap (λ (y : ℕ). eqb (bitOr (y * 2 ^ 8 + bitOr (t % 256) 0x80) (t * 2 ^ 8 + top x)) (top x + 256 * t)) (or-zero-r (t / 256))
+    ∙ ap (λ (y : ℕ). eqb y (top x + 256 * t)) (or-block 8 (t / 256) t (bitOr (t % 256) 0x80) (top x) low (omega arith))
+    ∙ digits (bitOr (t / 256) t) t (bitOr (bitOr (t % 256) 0x80) (top x)) (top x) (or-lt 8 (bitOr (t % 256) 0x80) (top x) low (omega arith)) (omega arith)
+    ∙ ap (λ (c : Bool). eqb (bitOr (bitOr (t % 256) 0x80) (top x)) (top x) && c) (in-order xs (λ i. b (suc i)) (and-r (plain x) (every plain xs) e))
+    ∙ by (byte-is x (b 0) (and-l (plain x) (every plain xs) e)) (next xs (λ i. b (suc i)) (and-r (plain x) (every plain xs) e))
+  where
+    by : Byte x → Next xs → (eqb (bitOr (bitOr (number (map top xs) % 256) 0x80) (top x)) (top x) && padded xs) ≡ (letter x && padded (x ∷ xs))
+    by (Byte.allowed p q r l) (Next.more u v) = rw (u, q, p) refl
+    by (Byte.allowed p q r l) (Next.last u v) = rw (u, q, p) refl
+    by (Byte.blank p) (Next.more u v) = rw (p, u) refl
+    by (Byte.blank p) (Next.last u v) = rw (p, u) refl
+
 -- the first eight bytes of a name
-pub eight-in-order : (n : List ℕ) → length n ≡ 11 → ((i : ℕ) → getD n i 0 < 256) → every plain (take 8 n) ≡ true
-    → eqb (bitOr (bitAnd (number (take 8 n) + 0x5f5f5f5f5f5f5f5f) 0x8080808080808080 / 256) (bitAnd (number (take 8 n) + 0x5f5f5f5f5f5f5f5f) 0x8080808080808080))
-    (bitAnd (number (take 8 n) + 0x5f5f5f5f5f5f5f5f) 0x8080808080808080) ≡ padded (take 8 n)
-eight-in-order n h b e =
+pub eight-begins : (n : List ℕ) → length n ≡ 11 → ((i : ℕ) → getD n i 0 < 256) → every plain (take 8 n) ≡ true
+    → eqb (bitOr (bitOr (bitAnd (number (take 8 n) + 0x5f5f5f5f5f5f5f5f) 0x8080808080808080 / 256) 0x80) (bitAnd (number (take 8 n) + 0x5f5f5f5f5f5f5f5f) 0x8080808080808080))
+    (bitAnd (number (take 8 n) + 0x5f5f5f5f5f5f5f5f) 0x8080808080808080) ≡ (letter (getD n 0 0) && padded (take 8 n))
+eight-begins n h b e =
     let l : length (take 8 n) ≡ 8 = length-take-le 8 n (omega arith) in
     let f : fill 8 0x5f ≡ 0x5f5f5f5f5f5f5f5f = unfold number in refl in
     let g : fill 8 0x80 ≡ 0x8080808080808080 = unfold number in refl in
     let t : bitAnd (number (take 8 n) + 0x5f5f5f5f5f5f5f5f) 0x8080808080808080 ≡ number (map top (take 8 n))
     = ap (λ (y : ℕ). bitAnd (number (take 8 n) + y) 0x8080808080808080) (sym f) ∙ ap (λ (y : ℕ). bitAnd (number (take 8 n) + fill 8 0x5f) y) (sym g)
-    ∙ ap (λ (k : ℕ). bitAnd (number (take 8 n) + fill k 0x5f) (fill k 0x80)) (sym l) ∙ tops (take 8 n) low e in
-    ap (λ (y : ℕ). eqb (bitOr (y / 256) y) y) t ∙ in-order (take 8 n) low e
+    ∙ ap (λ (k : ℕ). bitAnd (number (take 8 n) + fill k 0x5f) (fill k 0x80)) (sym l) ∙ tops (take 8 n) (take-low 8 n b) e in
+    ap (λ (y : ℕ). eqb (bitOr (bitOr (y / 256) 0x80) y) y) t ∙ eight n h (take-low 8 n b) e
   where
-    low : (i : ℕ) → getD (take 8 n) i 0 < 256
-    low i = take-low 8 n b i
+    eight : (n : List ℕ) → length n ≡ 11 → ((i : ℕ) → getD (take 8 n) i 0 < 256) → every plain (take 8 n) ≡ true
+        → eqb (bitOr (bitOr (number (map top (take 8 n)) / 256) 0x80) (number (map top (take 8 n)))) (number (map top (take 8 n))) ≡ (letter (getD n 0 0) && padded (take 8 n))
+    eight [] h b e = absurd (let z : ⊥ = omega arith in z)
+    eight (x ∷ xs) h b e = begins x (take 7 xs) b e
 
 -- and the sum is a number of 64 bits
 below : (xs : List ℕ) → ((i : ℕ) → getD xs i 0 < 256) → every plain xs ≡ true → number xs ≤ fill (length xs) 0x5d
@@ -196,11 +224,6 @@ plain-of (x ∷ xs) e = by (λ w. plain-of xs w) (letter x) refl e
 
 pub eight-not : (n : List ℕ) {r : Bool} → r ≡ every plain (take 8 n) → not r ≡ true → padded (take 8 n) ≡ true → ⊥
 eight-not n {r} e t p = true≢false (sym (plain-of (take 8 n) p) ∙ sym e ∙ not-true r t)
-
-pub first-letter : (n : List ℕ) → length n ≡ 11 → every plain (take 8 n) ≡ true → (getD n 0 0 ≡ 0x20 → ⊥) → letter (getD n 0 0) ≡ true
-first-letter [] h e q = absurd (let z : ⊥ = omega arith in z)
-first-letter (x ∷ xs) h e q =
-    sym (ap (λ (t : Bool). t || letter x) (ne-eqb x 0x20 q)) ∙ and-l (plain x) (every plain (take 7 xs)) e
 
 pub last-plain : (n : List ℕ) → length n ≡ 11 → padded (take (11 - 10) (drop 10 n)) ≡ plain (getD n 10 0)
 last-plain n h = ap padded (part-more n 11 10 (omega arith) (omega arith)) ∙ one (getD n 10 0)

@@ -21,6 +21,33 @@ keep-past p i (suc k) m h =
     ap (λ (n : ℕ). keep p (count i n)) e ∙ keep-no p (h i (omega arith) (omega arith)) (count (i + 1) (k + m))
     ∙ keep-past p (i + 1) k m (λ j a b. h j (omega arith) (omega arith)) ∙ ap (λ (j : ℕ). keep p (count j m)) f
 
+-- a pass by rows: slot s of a row, or the row's end
+pub record InRow (row columns s : ℕ) : Type 0 where
+  pub low : row < 8
+  pub begun : 32 * row ≤ s
+  pub ends : s ≤ 32 * row + columns
+  pub few : columns ≤ 28
+
+pub row-start : (row columns : ℕ) → row < 8 → columns ≤ 28 → InRow row columns (32 * row)
+row-start row columns h k = record { low = h; begun = omega arith; ends = omega arith; few = k }
+
+module _ {row columns s : ℕ} (r : InRow row columns s) where
+  pub row-slot : s ≤ 32 * row + columns → s < 256
+  row-slot h = let a = r .low in let b = r .few in omega arith
+
+  pub row-here : s < 32 * row + columns → s % 32 < columns
+  row-here h = let a = r .begun in let b = r .few in omega arith
+
+  pub row-next : s < 32 * row + columns → InRow row columns (s + 1)
+  row-next h = let a = r .begun in record { low = r .low; begun = omega arith; ends = omega arith; few = r .few }
+
+  -- the row has no slot more, and the next one begins
+  pub row-past : 32 * row + columns ≤ s → columns ≤ s % 32
+  row-past h = let a = r .ends in let b = r .few in omega arith
+
+  pub row-after : 32 * row + columns ≤ s → 32 * (s / 32 + 1) ≡ 32 * (row + 1)
+  row-after h = let a = r .ends in let b = r .few in omega arith
+
 module _ (g : Geometry) (d : List ℕ) where
   -- the slots from s on
   unfoldable pub slotsFrom : ℕ → List ℕ

@@ -4,10 +4,10 @@ use meaning::Geometry;
 use meaning::Handle;
 use meaning::LookedUp;
 ghost use mathlib.Core.Path.{_≡_};
-ghost use mathlib.Core.Bool.{Bool, true};
+ghost use mathlib.Core.Bool.{Bool, true, _&&_};
 ghost use Prim.Native.Nat.{_+_, _-_, _*_, _<_, _≤_};
 ghost use lib.Dec.{eqb};
-ghost use lib.ListN.{length, take, drop};
+ghost use lib.ListN.{length, getD, take, drop};
 ghost use Rattle.meaning.specs.Lists.{every};
 ghost use Rattle.meaning.specs.Names.{letter, padded, wellFormed};
 ghost use Rattle.meaning.specs.Refusals.{check, noHandle};
@@ -67,14 +67,15 @@ fn eight_plain(name: &[u8]) -> bool
         & plain(name[7])
 }
 
-// Whether the first eight bytes of a name, each of them allowed or 20H, are padded right with 20H: no allowed byte follows a 20H. Bit 7 of each
-// byte of `letters` tells whether that byte is allowed; the bytes after them stand one byte lower in `letters / 256`.
+// Whether the first eight bytes of a name, each of them allowed or 20H, begin with an allowed byte and are padded right with 20H: no allowed
+// byte follows a 20H. Bit 7 of each byte of `letters` tells whether that byte is allowed; the bytes after them stand one byte lower in
+// `letters / 256`.
 fn blanks_last(name: &[u8]) -> bool
     requires { ⌜ (length (now name) ≡ 11) × (every plain (take 8 (now name)) ≡ true) ⌝ }
-    ensures { λ r. ⌜ r ≡ padded (take 8 (now (name .entry))) ⌝ }
+    ensures { λ r. ⌜ r ≡ (letter (getD (now (name .entry)) 0 0) && padded (take 8 (now (name .entry)))) ⌝ }
 {
     let letters = (layout::eight(name, 0) + 0x5f5f5f5f5f5f5f5f) & 0x8080808080808080;
-    (letters / 256) | letters == letters
+    (letters / 256) | 0x80 | letters == letters
 }
 
 // Whether the three bytes of type are padded right with 20H.
@@ -101,9 +102,6 @@ pub fn well_formed(name: &[u8]) -> bool
     if !eight_plain(name) {
         return false;
     }
-    if name[0] == 0x20 {
-        return false;
-    }
     if !blanks_last(name) {
         return false;
     }
@@ -126,31 +124,32 @@ pub fn carries(image: &[u8], g: Geometry, s: usize, name: &[u8]) -> bool
 }
 
 // The first slot of that name, by rising slot number, and how many entries were compared. Only the slots that the directory has are
-// met, and an entry is read only where its HIT byte is the hash.
+// met, row by row, and an entry is read only where its HIT byte is the hash.
 pub fn find(image: &[u8], g: Geometry, name: &[u8]) -> Found
     requires { ⌜ Room g (now image) × (length (now name) ≡ 11) ⌝ }
     ensures { λ r. ⌜ Finds g (now (image .entry)) (now (name .entry)) r ⌝ }
 {
     let h = names::hash(name);
     let columns = layout::directory_sectors(image, g) - 2;
-    let mut s = 0;
     let mut compared = 0;
-    while s < 256 {
-        if columns <= s % 32 {
-            s = 32 * (s / 32 + 1);
-            continue;
-        }
-        if layout::hit(image, g, s) == h {
-            compared += 1;
-            if carries(image, g, s, name) {
-                return Found {
-                    is: true,
-                    slot: s,
-                    compared,
-                };
+    let mut row = 0;
+    while row < 8 {
+        let mut s = 32 * row;
+        let end = s + columns;
+        while s < end {
+            if layout::hit(image, g, s) == h {
+                compared += 1;
+                if carries(image, g, s, name) {
+                    return Found {
+                        is: true,
+                        slot: s,
+                        compared,
+                    };
+                }
             }
+            s += 1;
         }
-        s += 1;
+        row += 1;
     }
     Found {
         is: false,

@@ -1,7 +1,7 @@
 -- Passes over places, over slots, and along a walk.
 use mathlib.Core.Path.{_≡_, refl, sym, ap, _∙_}
 use mathlib.Core.List.{List, [], _∷_, _++_}
-use mathlib.Core.Bool.{Bool, true, false, not, cond, _&&_, _||_, and-assoc}
+use mathlib.Core.Bool.{Bool, true, false, not, cond, _&&_, _||_}
 use Prim.Native.Nat.{ℕ, zero, suc, _+_, _-_, _*_, _≤_, _<_}
 use native.Mathlib.Omega.{arith}
 use lib.Dec.{eqb, leb, ltb}
@@ -14,11 +14,14 @@ use Rattle.meaning.specs.Consistent.{follows, runsHold, gatHolds}
 use Rattle.meaning.specs.Fault.{handsOn, goodExtension, chainFault, runFault}
 use Rattle.meaning.specs.declared.Geometry.{Geometry}
 use Rattle.layout.specs.Room.{Slot}
-use Rattle.layout.proofs.Laws.{left-more, left-none}
 use Rattle.layout.proofs.Lists.{all-at, all-yes, all-one, every-count, keep-yes, keep-no}
 use Rattle.layout.proofs.Sound.{slot-of}
+use Rattle.walk.proofs.Lists.{every-append, all-out}
 use Rattle.laws.specs.Members
 use Rattle.laws.specs.Walk
+pub use Rattle.layout.proofs.Lists.{any-one}
+pub use Rattle.marks.proofs.Laws.{count-more, count-none}
+pub use Rattle.walk.proofs.Lists.{on, off}
 use Rattle.kinds.specs.Reach.{reach}
 use Rattle.kinds.specs.Tests.{startsTo, firstFile, leads, tally, goodFrom, runHolds, runIn}
 use Rattle.kinds.specs.Overlap.{overlaps, runsMeet}
@@ -27,12 +30,6 @@ use Rattle.kinds.specs.Overlap.{overlaps, runsMeet}
 
 pub from-zero : (n : ℕ) → count 0 n ≡ count 0 (n - 0)
 from-zero n = let e : n ≡ n - 0 = omega arith in ap (count 0) e
-
-pub count-more : {i n : ℕ} → i < n → count i (n - i) ≡ i ∷ count (i + 1) (n - (i + 1))
-count-more {i} h = ap (count i) (left-more h)
-
-pub count-none : {i n : ℕ} → n ≤ i → count i (n - i) ≡ []
-count-none {i} h = ap (count i) (left-none h)
 
 module _ (p : ℕ → Bool) {n k : ℕ} where
   -- the test failed at one, has passed up to here, has passed at all
@@ -77,20 +74,11 @@ module _ (p : ℕ → Bool) {w : Bool} {n k : ℕ} (i : w ≡ every p (count k (
   pub all-held : n ≤ k → true ≡ w
   all-held h = sym (i ∙ ap (every p) (count-none h))
 
-every-append : (p : ℕ → Bool) (xs ys : List ℕ) → every p (xs ++ ys) ≡ (every p xs && every p ys)
-every-append p [] ys = refl
-every-append p (x ∷ xs) ys = ap (λ (b : Bool). p x && b) (every-append p xs ys) ∙ sym (and-assoc (p x) (every p xs) (every p ys))
-
 -- Bool ------------------------------------------------------------------------------------------------------------------------
 
 pub any-yes : {b : Bool} → b ≡ true → (bs : List Bool) → any (b ∷ bs) ≡ true
 unfolding any
 any-yes h bs = ap (λ (b : Bool). b || any bs) h
-
-pub any-one : (b : Bool) → any (b ∷ []) ≡ b
-unfolding any
-any-one true = refl
-any-one false = refl
 
 -- what a test `if f(..)` says of the definition that f's contract names
 pub so : {f a : Bool} → f ≡ a → f ≡ true → a ≡ true
@@ -98,19 +86,6 @@ so e t = sym e ∙ t
 
 pub not-so : {f a : Bool} → f ≡ a → f ≡ false → a ≡ false
 not-so e t = sym e ∙ t
-
--- of some tests one fails
-pub out-second : (a : Bool) {b : Bool} (bs : List Bool) → b ≡ false → all (a ∷ b ∷ bs) ≡ false
-unfolding all
-out-second true bs e = ap (λ (b : Bool). b && all bs) e
-out-second false bs e = refl
-
--- a number that was read is a byte's, or is not
-pub on : {r b k : ℕ} → r ≡ b → r ≡ k → eqb b k ≡ true
-on {r} {b} {k} e t = eq-eqb b k (sym e ∙ t)
-
-pub off : {r b k : ℕ} → r ≡ b → (r ≡ k → ⊥) → eqb b k ≡ false
-off {r} {b} {k} e t = ne-eqb b k (λ q. t (e ∙ q))
 
 -- neither the last nor one that hands on
 pub bad-ends : (a b : Bool) → b ≡ true → false ≡ not (any (a ∷ b ∷ []))
@@ -132,17 +107,13 @@ unlinked false false = refl
 
 -- four tests made in another order
 pub hands-no : (a : Bool) {b : Bool} (cs : List Bool) → b ≡ false → false ≡ all (a ∷ b ∷ cs)
-hands-no a cs e = sym (out-second a cs e)
+hands-no a cs e = sym (all-out _ 1 e)
 
 pub hands-third : (a b : Bool) {c : Bool} (cs : List Bool) → c ≡ false → false ≡ all (a ∷ b ∷ c ∷ cs)
-unfolding all
-hands-third true b cs e = sym (out-second b cs e)
-hands-third false b cs e = refl
+hands-third a b cs e = sym (all-out _ 2 e)
 
 pub hands-fourth : (a b c : Bool) {e : Bool} → e ≡ false → false ≡ all (a ∷ b ∷ c ∷ e ∷ [])
-unfolding all
-hands-fourth true b c h = hands-third b c [] h
-hands-fourth false b c h = refl
+hands-fourth a b c h = sym (all-out _ 3 h)
 
 pub hands-first : (a : Bool) {b c e : Bool} → b ≡ true → c ≡ true → e ≡ true → a ≡ all (a ∷ b ∷ c ∷ e ∷ [])
 unfolding all
@@ -271,7 +242,7 @@ module _ (g : Geometry) (d : List ℕ) where
         at : leads g d x b ≡ true → (u : Bool) → follows g d b x ≡ u → false ≡ goodExtension g d x
         at l true f = absurd (let z : t ≡ 1 = e ∙ tally-yes x b l ∙ ap {B = ℕ} (λ (t : Bool). cond t 1 2) f in let w : ⊥ = omega arith in w)
         at l false f =
-            sym (i ∙ ap (goodFrom g d x n) (keep-in (leads g d x) h l) ∙ out-second (eqb (n + length (b ∷ (later x b))) 1) [] (ap (λ (t : Bool). t && every (λ b. follows g d b x) (later x b)) f))
+            sym (i ∙ ap (goodFrom g d x n) (keep-in (leads g d x) h l) ∙ all-out (eqb (n + length (b ∷ (later x b))) 1 ∷ _ ∷ []) 1 (ap (λ (t : Bool). t && every (λ b. follows g d b x) (later x b)) f))
 
         by : (u : Bool) → leads g d x b ≡ u → false ≡ goodExtension g d x
         by true l = at l (follows g d b x) refl

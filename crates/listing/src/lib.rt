@@ -7,18 +7,19 @@ ghost use mathlib.Core.List.{[], _∷_};
 ghost use Prim.Native.Nat.{_+_, _*_, _<_, _≤_};
 ghost use lib.ListN.{length, drop};
 ghost use Rattle.meaning.specs.Lists.{all};
+ghost use Rattle.meaning.specs.Layout.{entryAt};
 ghost use Rattle.meaning.specs.Entries.{primary};
 ghost use Rattle.meaning.specs.Listing.{noFile, shown, listed, tellFirst, list, counts};
 ghost use Rattle.meaning.specs.Refusals.{check};
 ghost use Rattle.layout.specs.Room.{Room, Slot};
 ghost use Rattle.seek.specs.Seek.{Sound, Used};
 
-// Whether a file that is listed starts at slot s: a primary entry in use, without the system flag. One byte is read.
-fn tells(image: &[u8], g: Geometry, s: usize) -> bool
-    requires { ⌜ Room g (now image) × Slot g (now image) s ⌝ }
+// Whether a file that is listed starts at slot s, whose entry is at `at`: a primary entry in use, without the system flag. One byte is read.
+fn tells(image: &[u8], g: Geometry, s: usize, at: usize) -> bool
+    requires { ⌜ Room g (now image) × Slot g (now image) s × (at ≡ entryAt g s) ⌝ }
     ensures { λ r. ⌜ r ≡ all (primary g (now (image .entry)) s ∷ shown g (now (image .entry)) s ∷ []) ⌝ }
 {
-    let f = layout::field(image, g, s, 0);
+    let f = layout::wide(image[at]);
     if (f >> 4) % 2 != 1 {
         return false;
     }
@@ -55,26 +56,29 @@ fn tell(image: &[u8], g: Geometry, s: usize) -> Listed
     }
 }
 
-// The listed file of that number, by rising slot number; or "no more".
+// The listed file of that number, by rising slot number; or "no more". Row by row, so that the next entry is 256 bytes on.
 fn told(image: &[u8], g: Geometry, number: usize) -> Listed
     requires { ⌜ Sound g (now image) ⌝ }
     ensures { λ r. ⌜ r ≡ tellFirst g (now (image .entry)) (drop number (listed g (now (image .entry)))) ⌝ }
 {
     let columns = layout::directory_sectors(image, g) - 2;
     let mut left = number;
-    let mut s = 0;
-    while s < 256 {
-        if columns <= s % 32 {
-            s = 32 * (s / 32 + 1);
-            continue;
-        }
-        if tells(image, g, s) {
-            if left == 0 {
-                return tell(image, g, s);
+    let mut row = 0;
+    while row < 8 {
+        let mut s = 32 * row;
+        let end = s + columns;
+        let mut at = 256 * (g.start + 2) + 32 * row;
+        while s < end {
+            if tells(image, g, s, at) {
+                if left == 0 {
+                    return tell(image, g, s);
+                }
+                left -= 1;
             }
-            left -= 1;
+            at += 256;
+            s += 1;
         }
-        s += 1;
+        row += 1;
     }
     no_file(0)
 }
@@ -90,23 +94,26 @@ pub fn list_checked(image: &[u8], g: Geometry, number: usize, checked: u8) -> Li
     told(image, g, number)
 }
 
-// FILES: how many files are listed.
+// FILES: how many files are listed, row by row.
 fn files_count(image: &[u8], g: Geometry) -> usize
     requires { ⌜ Room g (now image) ⌝ }
     ensures { λ r. ⌜ r ≡ length (listed g (now (image .entry))) ⌝ }
 {
     let columns = layout::directory_sectors(image, g) - 2;
     let mut n = 0;
-    let mut s = 0;
-    while s < 256 {
-        if columns <= s % 32 {
-            s = 32 * (s / 32 + 1);
-            continue;
+    let mut row = 0;
+    while row < 8 {
+        let mut s = 32 * row;
+        let end = s + columns;
+        let mut at = 256 * (g.start + 2) + 32 * row;
+        while s < end {
+            if tells(image, g, s, at) {
+                n += 1;
+            }
+            at += 256;
+            s += 1;
         }
-        if tells(image, g, s) {
-            n += 1;
-        }
-        s += 1;
+        row += 1;
     }
     n
 }

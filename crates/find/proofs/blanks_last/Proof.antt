@@ -1,6 +1,6 @@
-use Rattle.find.proofs.Padded.{eight-in-order, eight-room}
-use mathlib.Core.Path.{_≡_}
 use native.Mathlib.Omega.{arith}
+use mathlib.Core.Path.{_≡_}
+use Rattle.find.proofs.Padded.{eight-begins, eight-room}
 use borrow.Author.Needs.{needs}
 use Rattle.find.proofs.blanks_last.Statement.{statement}
 use Rattle.find.proofs.blanks_last.Tie as tie
@@ -8,17 +8,17 @@ use Rattle.find.proofs.blanks_last.Reads as reads
 use Rattle.find.proofs.blanks_last.Lts as lts
 use Rattle.layout.proofs.eight.Reads as eight-reads
 
--- src/lib.rt:76:20
+-- src/lib.rt:77:20
 eight-requires : tie.Need-eight-requires
 eight-requires c κs = search needs
 
--- src/lib.rt:76:20
+-- src/lib.rt:77:20
 add-letters : tie.Need-add-letters
 add-letters c = let z = eight-room (c .before .before .args .name .now) (c .before .before .pre .0) (λ i. omega (arith, c .before .shared-slice-known .given i)) (c .before .before .pre .1) in let e = c .eight .ensures in omega arith
 
--- src/lib.rt:72:1
+-- src/lib.rt:73:1
 returns : tie.Need-returns
-returns c = rw (c .eight .ensures) (eight-in-order (c .before .before .args .name .now) (c .before .before .pre .0) (λ i. omega (arith, c .before .shared-slice-known .given i)) (c .before .before .pre .1))
+returns c = rw (c .eight .ensures) (eight-begins (c .before .before .args .name .now) (c .before .before .pre .0) (λ i. omega (arith, c .before .shared-slice-known .given i)) (c .before .before .pre .1))
 
 pub blanks-last-spec : {M : Type 1} → statement M
 blanks-last-spec = tie.close (tie.spec eight-requires add-letters returns)

@@ -1,9 +1,10 @@
-use Rattle.listing.proofs.Files.{Telling, telling-start, telling-past, telling-no, telling-more, telling-here, telling-end, telling-same, tells-used}
-use mathlib.Core.Path.{_≡_, refl, ap, sym, _∙_}
-use Prim.Native.Nat.{ℕ, _-_, _≤_, _+_, _*_, _/_, _%_}
-use borrow.Author.Needs.{needs}
-use native.Mathlib.Omega.{arith}
 use mathlib.Core.Logic.{⊎-elim}
+use native.Mathlib.Omega.{arith}
+use borrow.Author.Needs.{needs}
+use Prim.Native.Nat.{ℕ, _-_, _≤_, _+_, _*_, _/_, _%_}
+use mathlib.Core.Path.{_≡_, refl, ap, sym, _∙_, subst}
+use Rattle.find.proofs.Pass.{InRow, row-start, row-slot, row-here, row-next, row-past, row-after}
+use Rattle.listing.proofs.Files.{Telling, telling-start, telling-past, telling-no, telling-more, telling-here, telling-end, telling-same, tells-used}
 use Rattle.listing.proofs.told.Statement.{statement}
 use Rattle.listing.proofs.told.Tie as tie
 use Rattle.listing.proofs.told.Reads as reads
@@ -13,101 +14,142 @@ use Rattle.listing.proofs.no_file.Reads as no-file-reads
 use Rattle.listing.proofs.tell.Reads as tell-reads
 use Rattle.listing.proofs.tells.Reads as tells-reads
 
+abbrev Inv-loop2 : tie.InvT-loop2
+Inv-loop2 image g number columns left₀ row s₀ end at₀ left s at = InRow row columns s × (at ≡ 256 * (g .start + 2) + 32 * row + 256 * (s - 32 * row)) × Telling g image number left s
+
+abbrev μ-loop2 : tie.MeasureT-loop2
+μ-loop2 image g number columns left₀ row s₀ end at₀ left s at = end - s
+
 abbrev Inv-loop : tie.InvT-loop
-Inv-loop image g number columns left₀ s₀ left s = (s ≤ 256) × Telling g image number left s
+Inv-loop image g number columns left₀ row₀ left row = (row ≤ 8) × Telling g image number left (32 * row)
 
 abbrev μ-loop : tie.MeasureT-loop
-μ-loop image g number columns left₀ s₀ left s = 256 - s
+μ-loop image g number columns left₀ row₀ left row = 8 - row
 
--- src/lib.rt:68:19
-directory-sectors-requires : tie.Need-directory-sectors-requires Inv-loop μ-loop
+-- src/lib.rt:64:19
+directory-sectors-requires : tie.Need-directory-sectors-requires Inv-loop2 μ-loop2 Inv-loop μ-loop
 directory-sectors-requires c κs = search needs
 
--- src/lib.rt:68:19
-sub-columns : tie.Need-sub-columns Inv-loop μ-loop
-sub-columns c = let e = (c .directory-sectors .ensures) in let t = (c .before .before .pre .room .ten) in omega arith
+-- src/lib.rt:64:19
+sub-columns : tie.Need-sub-columns Inv-loop2 μ-loop2 Inv-loop μ-loop
+sub-columns c = search needs
 
--- src/lib.rt:71:5
-loop-holds : tie.Need-loop-holds Inv-loop μ-loop
+-- src/lib.rt:67:5
+loop-holds : tie.Need-loop-holds Inv-loop2 μ-loop2 Inv-loop μ-loop
 loop-holds c = (omega arith, telling-start _ _ _)
 
--- src/lib.rt:73:23
-add-s : tie.Need-add-s Inv-loop μ-loop
-add-s c = search needs
-
--- src/lib.rt:73:17
-mul-s : tie.Need-mul-s Inv-loop μ-loop
+-- src/lib.rt:68:21
+mul-s : tie.Need-mul-s Inv-loop2 μ-loop2 Inv-loop μ-loop
 mul-s c = search needs
 
--- src/lib.rt:71:5
-loop-less : tie.Need-loop-less Inv-loop μ-loop
-loop-less c = search needs
+-- src/lib.rt:69:19
+add-end : tie.Need-add-end Inv-loop2 μ-loop2 Inv-loop μ-loop
+add-end c = search needs
 
--- src/lib.rt:71:5
-loop-again : tie.Need-loop-again Inv-loop μ-loop
-loop-again c = (omega arith, telling-past _ _ (c .before .loop-test .taken) (ap (λ (k : ℕ). k - 2) (c .before .before .before .directory-sectors .ensures)) (c .if1 .taken) (c .before .before .loop .inv .1))
+-- src/lib.rt:70:29
+add-at : tie.Need-add-at Inv-loop2 μ-loop2 Inv-loop μ-loop
+add-at c = search needs
 
--- src/lib.rt:76:12
-tells-requires : tie.Need-tells-requires Inv-loop μ-loop
-tells-requires c κs = (c .before .before .before .before .before .pre .room, record { low = (c .before .loop-test .taken); held = let e = (c .before .before .before .directory-sectors .ensures) in omega arith })
+-- src/lib.rt:70:22
+mul-at : tie.Need-mul-at Inv-loop2 μ-loop2 Inv-loop μ-loop
+mul-at c = search needs
 
--- src/lib.rt:78:17
-tell-requires : tie.Need-tell-requires Inv-loop μ-loop
-tell-requires c κs = (c .before .before .before .before .before .before .before .before .pre, tells-used _ _ (c .before .before .before .before .loop-test .taken) (ap (λ (k : ℕ). k - 2) (c .before .before .before .before .before .before .directory-sectors .ensures)) (c .before .before .before .if1 .left) (sym (c .before .before .tells .ensures) ∙ (c .before .if2 .taken)))
+-- src/lib.rt:70:44
+mul-at-2 : tie.Need-mul-at-2 Inv-loop2 μ-loop2 Inv-loop μ-loop
+mul-at-2 c = search needs
 
--- src/lib.rt:78:17
-returns : tie.Need-returns Inv-loop μ-loop
-returns c = (c .tell .ensures) ∙ telling-here _ _ (c .before .before .before .before .before .loop-test .taken) (ap (λ (k : ℕ). k - 2) (c .before .before .before .before .before .before .before .directory-sectors .ensures)) (c .before .before .before .before .if1 .left) (sym (c .before .before .before .tells .ensures) ∙ (c .before .before .if2 .taken)) (c .before .if3 .taken) (c .before .before .before .before .before .before .loop .inv .1)
+-- src/lib.rt:70:22
+add-at-2 : tie.Need-add-at-2 Inv-loop2 μ-loop2 Inv-loop μ-loop
+add-at-2 c = search needs
 
--- src/lib.rt:80:13
-sub-left : tie.Need-sub-left Inv-loop μ-loop
+-- src/lib.rt:71:9
+loop2-holds : tie.Need-loop2-holds Inv-loop2 μ-loop2 Inv-loop μ-loop
+loop2-holds c = let e = c .before .before .before .directory-sectors .ensures in let t = c .before .before .before .before .before .pre .room .thirty in (row-start _ _ (c .before .loop-test .taken) (omega arith), omega arith, c .before .before .loop .inv .1)
+
+-- src/lib.rt:72:16
+tells-requires : tie.Need-tells-requires Inv-loop2 μ-loop2 Inv-loop μ-loop
+tells-requires c κs = let e = c .before .before .before .before .before .directory-sectors .ensures in let i = c .before .loop2 .inv .0 in let b = i .begun in let f = i .few in let q = c .before .loop2 .inv .1 in let z = c .loop2-test .taken in let h = row-here i z in (c .before .before .before .before .before .before .before .pre .room, record { low = row-slot i (omega arith); held = omega arith }, omega arith)
+
+-- src/lib.rt:74:21
+tell-requires : tie.Need-tell-requires Inv-loop2 μ-loop2 Inv-loop μ-loop
+tell-requires c κs = let i = c .before .before .before .before .loop2 .inv .0 in let z = c .before .before .before .loop2-test .taken in (c .before .before .before .before .before .before .before .before .before .before .pre, tells-used _ _ (row-slot i (omega arith)) (ap (λ (k : ℕ). k - 2) (c .before .before .before .before .before .before .before .before .directory-sectors .ensures)) (row-here i z) (sym (c .before .before .tells .ensures) ∙ (c .before .if1 .taken)))
+
+-- src/lib.rt:74:21
+returns : tie.Need-returns Inv-loop2 μ-loop2 Inv-loop μ-loop
+returns c = let i = c .before .before .before .before .before .loop2 .inv .0 in let z = c .before .before .before .before .loop2-test .taken in (c .tell .ensures) ∙ telling-here _ _ (row-slot i (omega arith)) (ap (λ (k : ℕ). k - 2) (c .before .before .before .before .before .before .before .before .before .directory-sectors .ensures)) (row-here i z) (sym (c .before .before .before .tells .ensures) ∙ (c .before .before .if1 .taken)) (c .before .if2 .taken) (c .before .before .before .before .before .loop2 .inv .2)
+
+-- src/lib.rt:76:17
+sub-left : tie.Need-sub-left Inv-loop2 μ-loop2 Inv-loop μ-loop
 sub-left c = search needs
 
--- src/lib.rt:82:9
-add-s-2 : tie.Need-add-s-2 Inv-loop μ-loop
-add-s-2 c = search needs
+-- src/lib.rt:78:13
+add-at-3 : tie.Need-add-at-3 Inv-loop2 μ-loop2 Inv-loop μ-loop
+add-at-3 c = let i = c .before .before .before .loop2 .inv .0 in let a = i .begun in let b = i .few in let q = c .before .before .before .loop2 .inv .1 in let z = c .before .before .loop2-test .taken in let r = c .before .before .before .before .before .before .before .before .before .pre .room .directory in let m = c .before .before .before .before .before .before .before .before .before .pre .room .most in let l = c .before .before .before .before .before .loop-test .taken in omega arith
 
--- src/lib.rt:71:5
-loop-less-2 : tie.Need-loop-less-2 Inv-loop μ-loop
-loop-less-2 c = search needs
+-- src/lib.rt:79:13
+add-s : tie.Need-add-s Inv-loop2 μ-loop2 Inv-loop μ-loop
+add-s c = let r = row-slot (c .before .before .before .loop2 .inv .0) (let z = c .before .before .loop2-test .taken in omega arith) in omega arith
 
--- src/lib.rt:71:5
-loop-again-2 : tie.Need-loop-again-2 Inv-loop μ-loop
-loop-again-2 c = let e = ap (λ (k : ℕ). k - 2) (c .before .before .before .before .before .directory-sectors .ensures) in (
-  omega arith,
-  ⊎-elim
-      (λ w. telling-same _ _ (w .2) (telling-more _ _ (c .before .before .before .loop-test .taken) e _ _ (c .before .before .if1 .left) (sym (c .before .tells .ensures) ∙ w .0 .taken) (w .1 .left) (c .before .before .before .before .loop .inv .1)))
-      (λ w. telling-same _ _ (w .1) (telling-no _ _ (c .before .before .before .loop-test .taken) e (c .before .before .if1 .left) (sym (c .before .tells .ensures) ∙ w .0 .left) (c .before .before .before .before .loop .inv .1)))
-      (c .if2 .came),
-)
+-- src/lib.rt:71:9
+loop2-less : tie.Need-loop2-less Inv-loop2 μ-loop2 Inv-loop μ-loop
+loop2-less c = let z = c .before .before .loop2-test .taken in omega arith
 
--- src/lib.rt:84:5
-no-file-requires : tie.Need-no-file-requires Inv-loop μ-loop
+-- src/lib.rt:71:9
+loop2-again : tie.Need-loop2-again Inv-loop2 μ-loop2 Inv-loop μ-loop
+loop2-again c = let e = ap (λ (k : ℕ). k - 2) (c .before .before .before .before .before .before .before .directory-sectors .ensures) in let i = c .before .before .before .loop2 .inv .0 in let z = c .before .before .loop2-test .taken in let l = row-slot i (omega arith) in let h = row-here i z in let b = i .begun in let r = c .before .before .before .loop2 .inv .1 in let f = c .before .before .before .loop2 .inv .2 in
+    ⊎-elim
+    (λ w. (row-next i z, omega arith, telling-same _ _ (w .2) (telling-more _ _ l e _ _ h (sym (c .before .tells .ensures) ∙ w .0 .taken) (w .1 .left) f)))
+    (λ w. (row-next i z, omega arith, telling-same _ _ (w .1) (telling-no _ _ l e h (sym (c .before .tells .ensures) ∙ w .0 .left) f)))
+    (c .if1 .came)
+
+-- src/lib.rt:81:9
+add-row : tie.Need-add-row Inv-loop2 μ-loop2 Inv-loop μ-loop
+add-row c = search needs
+
+-- src/lib.rt:67:5
+loop-less : tie.Need-loop-less Inv-loop2 μ-loop2 Inv-loop μ-loop
+loop-less c = let z = c .before .before .before .loop-test .taken in omega arith
+
+-- src/lib.rt:67:5
+loop-again : tie.Need-loop-again Inv-loop2 μ-loop2 Inv-loop μ-loop
+loop-again c = let i = c .before .loop2 .inv .0 in let a = i .ends in let b = i .few in let r = c .before .before .before .loop-test .taken in (omega arith, subst (Telling (c .before .before .before .before .before .before .before .args .g) (c .before .before .before .before .before .before .before .args .image .now) (c .before .before .before .before .before .before .before .args .number) (c .before .loop2 .left)) (row-after i (c .loop2-test .left)) (telling-past _ _ (row-slot i a) (ap (λ (k : ℕ). k - 2) (c .before .before .before .before .before .directory-sectors .ensures)) (row-past i (c .loop2-test .left)) (c .before .loop2 .inv .2)))
+
+-- src/lib.rt:83:5
+no-file-requires : tie.Need-no-file-requires Inv-loop2 μ-loop2 Inv-loop μ-loop
 no-file-requires c κs = search needs
 
--- src/lib.rt:64:1
-returns-2 : tie.Need-returns-2 Inv-loop μ-loop
-returns-2 c = (c .no-file .ensures) ∙ telling-end _ _ (c .before .loop-test .left) (c .before .before .loop .inv .1)
+-- src/lib.rt:60:1
+returns-2 : tie.Need-returns-2 Inv-loop2 μ-loop2 Inv-loop μ-loop
+returns-2 c = (c .no-file .ensures) ∙ telling-end _ _ (let z = c .before .loop-test .left in omega arith) (c .before .before .loop .inv .1)
 
 pub told-spec : {M : Type 1} → statement M
 told-spec =
     tie.close
     (tie.spec
+    Inv-loop2
+    μ-loop2
     Inv-loop
     μ-loop
     directory-sectors-requires
     sub-columns
     loop-holds
-    add-s
     mul-s
-    loop-less
-    loop-again
+    add-end
+    add-at
+    mul-at
+    mul-at-2
+    add-at-2
+    loop2-holds
     tells-requires
     tell-requires
     returns
     sub-left
-    add-s-2
-    loop-less-2
-    loop-again-2
+    add-at-3
+    add-s
+    loop2-less
+    loop2-again
+    add-row
+    loop-less
+    loop-again
     no-file-requires
     returns-2)
