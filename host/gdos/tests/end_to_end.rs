@@ -79,7 +79,7 @@ fn help_for_everything() {
 fn check_tells_what_is_wrong_and_where() {
     let folder = sample("faults");
     // GAT at 5000H, HIT at 5100H, the entries of slots 80H (PULS01/DAT) and 81H (LEER) at 5280H and 5380H.
-    let damages: [(&str, usize, u8, u64, Option<u64>, &str); 5] = [
+    let damages = [
         ("length.img", 0x511f, 3, 21, None, "directory length"),
         ("hit.img", 0x5181, 0, 22, Some(0x81), "HIT against entry"),
         ("chain.img", 0x529e, 0xfe, 25, Some(0x80), "chain"),
