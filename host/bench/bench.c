@@ -1,7 +1,8 @@
 /* bench CALL DISK LIBRARY N      makes the call N times on the disk, by that library: genie (proved), fast (C for speed) or none (no library: what the
  *                                driver itself costs)
  * bench time CALL DISK LIBRARY   wall time of one call in nanoseconds, the driver's own work included
- * bench same                     whether genie and fast answer alike and leave image, handle, buffer and numbers alike, for each call on each disk
+ * bench same                     whether genie and fast answer alike and leave image, handle, buffer and numbers alike, for each call on each disk, and
+ *                                tell the same fault of damaged disks
  * bench names                    the calls, then the disks, a line each: name and title
  * bench image DISK FILE          writes the disk to a file and says its geometry
  */
@@ -29,30 +30,30 @@ struct library {
 #define IO uint8_t *i, size_t il, size_t b, size_t u, size_t s, uint16_t c
 #define USE (void)i, (void)il, (void)b, (void)u, (void)s, (void)c
 #define NONE __attribute__((noinline)) static uint8_t
-NONE none_check(I) { USE; return 0; }
-NONE none_look_up(I, const uint8_t *n, size_t nl, size_t *o, size_t *p) { USE, (void)n, (void)nl, (void)o, (void)p; return 0; }
-NONE none_open(I, const uint8_t *n, size_t nl, size_t l, bool k, uint16_t w, uint8_t *h, size_t hl)
+NONE none_check(I, size_t *fs) { USE, (void)fs; return 0; }
+NONE none_look_up(I, const uint8_t *n, size_t nl, size_t *o, size_t *p, size_t *fs) { USE, (void)n, (void)nl, (void)o, (void)p, (void)fs; return 0; }
+NONE none_open(I, const uint8_t *n, size_t nl, size_t l, bool k, uint16_t w, uint8_t *h, size_t hl, size_t *fs)
 {
-    USE, (void)n, (void)nl, (void)l, (void)k, (void)w, (void)h, (void)hl;
+    USE, (void)n, (void)nl, (void)l, (void)k, (void)w, (void)h, (void)hl, (void)fs;
     return 0;
 }
-NONE none_create(IO, const uint8_t *n, size_t nl, size_t d, size_t m, size_t y, size_t l, uint16_t w, uint16_t v, bool k, size_t *o, uint8_t *h, size_t hl)
+NONE none_create(IO, const uint8_t *n, size_t nl, size_t d, size_t m, size_t y, size_t l, uint16_t w, uint16_t v, bool k, size_t *o, uint8_t *h, size_t hl, size_t *fs)
 {
-    USE, (void)n, (void)nl, (void)d, (void)m, (void)y, (void)l, (void)w, (void)v, (void)k, (void)o, (void)h, (void)hl;
+    USE, (void)n, (void)nl, (void)d, (void)m, (void)y, (void)l, (void)w, (void)v, (void)k, (void)o, (void)h, (void)hl, (void)fs;
     return 0;
 }
-NONE none_read_record(I, uint8_t *h, size_t hl, uint8_t *f, size_t fl) { USE, (void)h, (void)hl, (void)f, (void)fl; return 0; }
-NONE none_read_sector(I, const uint8_t *h, size_t hl, size_t k, size_t *f, size_t *t) { USE, (void)h, (void)hl, (void)k, (void)f, (void)t; return 0; }
-NONE none_write_record(IO, uint8_t *h, size_t hl, bool q, const uint8_t *f, size_t fl) { USE, (void)h, (void)hl, (void)q, (void)f, (void)fl; return 0; }
-NONE none_allot(IO, const uint8_t *h, size_t hl, size_t k) { USE, (void)h, (void)hl, (void)k; return 0; }
-NONE none_trim(IO, const uint8_t *h, size_t hl) { USE, (void)h, (void)hl; return 0; }
-NONE none_kill(IO, const uint8_t *h, size_t hl) { USE, (void)h, (void)hl; return 0; }
-NONE none_list(I, size_t n, uint8_t *m, size_t ml, size_t *z, size_t *g, size_t *o) { USE, (void)n, (void)m, (void)ml, (void)z, (void)g, (void)o; return 0; }
-NONE none_count(I, size_t *f, size_t *r) { USE, (void)f, (void)r; return 0; }
+NONE none_read_record(I, uint8_t *h, size_t hl, uint8_t *f, size_t fl, size_t *fs) { USE, (void)h, (void)hl, (void)f, (void)fl, (void)fs; return 0; }
+NONE none_read_sector(I, const uint8_t *h, size_t hl, size_t k, size_t *f, size_t *t, size_t *fs) { USE, (void)h, (void)hl, (void)k, (void)f, (void)t, (void)fs; return 0; }
+NONE none_write_record(IO, uint8_t *h, size_t hl, bool q, const uint8_t *f, size_t fl, size_t *fs) { USE, (void)h, (void)hl, (void)q, (void)f, (void)fl, (void)fs; return 0; }
+NONE none_allot(IO, const uint8_t *h, size_t hl, size_t k, size_t *fs) { USE, (void)h, (void)hl, (void)k, (void)fs; return 0; }
+NONE none_trim(IO, const uint8_t *h, size_t hl, size_t *fs) { USE, (void)h, (void)hl, (void)fs; return 0; }
+NONE none_kill(IO, const uint8_t *h, size_t hl, size_t *fs) { USE, (void)h, (void)hl, (void)fs; return 0; }
+NONE none_list(I, size_t n, uint8_t *m, size_t ml, size_t *z, size_t *g, size_t *o, size_t *fs) { USE, (void)n, (void)m, (void)ml, (void)z, (void)g, (void)o, (void)fs; return 0; }
+NONE none_count(I, size_t *f, size_t *r, size_t *fs) { USE, (void)f, (void)r, (void)fs; return 0; }
 NONE none_compare(I, const uint8_t *j, size_t jl, size_t b2, size_t u2, size_t s2, uint16_t c2, size_t n, uint8_t *m, size_t ml, size_t *o, size_t *k,
-                  size_t *p, size_t *f)
+                  size_t *p, size_t *f, size_t *fs)
 {
-    USE, (void)j, (void)jl, (void)b2, (void)u2, (void)s2, (void)c2, (void)n, (void)m, (void)ml, (void)o, (void)k, (void)p, (void)f;
+    USE, (void)j, (void)jl, (void)b2, (void)u2, (void)s2, (void)c2, (void)n, (void)m, (void)ml, (void)o, (void)k, (void)p, (void)f, (void)fs;
     return 0;
 }
 
@@ -103,7 +104,7 @@ struct work {
     size_t k;
     /* What a call leaves. */
     uint8_t answer, handle[GENIE_HANDLE_BYTES], buffer[256], name[GENIE_NAME_BYTES];
-    size_t numbers[4];
+    size_t numbers[4], fault_slot;
 };
 
 static void stop(const char *why)
@@ -162,27 +163,27 @@ static void once(struct work *w, const struct library *lib)
     if (whats[w->what].changes) memcpy(d->image + d->start * SECTOR_BYTES, w->directory, w->directory_len);
     memcpy(w->handle, w->fresh, sizeof w->handle);
     switch (w->what) {
-    case CHECK: w->answer = lib->check(DISK); break;
-    case LOOK_UP: w->answer = lib->look_up(DISK, d->subject, sizeof d->subject, &w->numbers[0], &w->numbers[1]); break;
-    case OPEN: w->answer = lib->open(DISK, d->subject, sizeof d->subject, 256, true, 0, HANDLE); break;
+    case CHECK: w->answer = lib->check(DISK, &w->fault_slot); break;
+    case LOOK_UP: w->answer = lib->look_up(DISK, d->subject, sizeof d->subject, &w->numbers[0], &w->numbers[1], &w->fault_slot); break;
+    case OPEN: w->answer = lib->open(DISK, d->subject, sizeof d->subject, 256, true, 0, HANDLE, &w->fault_slot); break;
     case CREATE:
-        w->answer = lib->create(DISK, (const uint8_t *)"FRISCH  NEU", GENIE_NAME_BYTES, 9, 10, 3, 256, 0x1234, 0x5678, true, &w->numbers[0], HANDLE);
+        w->answer = lib->create(DISK, (const uint8_t *)"FRISCH  NEU", GENIE_NAME_BYTES, 9, 10, 3, 256, 0x1234, 0x5678, true, &w->numbers[0], HANDLE, &w->fault_slot);
         break;
     case READ:
-    case READ_1: w->answer = lib->read_record(DISK, HANDLE, w->buffer, sizeof w->buffer); break;
-    case SECTOR: w->answer = lib->read_sector(DISK, HANDLE, w->k, &w->numbers[0], &w->numbers[1]); break;
+    case READ_1: w->answer = lib->read_record(DISK, HANDLE, w->buffer, sizeof w->buffer, &w->fault_slot); break;
+    case SECTOR: w->answer = lib->read_sector(DISK, HANDLE, w->k, &w->numbers[0], &w->numbers[1], &w->fault_slot); break;
     case WRITE:
     case WRITE_1:
     case FILL_0:
-    case FILL_1000: w->answer = lib->write_record(DISK, HANDLE, false, w->buffer, sizeof w->buffer); break;
-    case APPEND: w->answer = lib->write_record(DISK, HANDLE, true, w->buffer, sizeof w->buffer); break;
-    case ALLOT: w->answer = lib->allot(DISK, HANDLE, w->k); break;
-    case TRIM: w->answer = lib->trim(DISK, HANDLE); break;
-    case KILL: w->answer = lib->kill(DISK, HANDLE); break;
-    case LIST: w->answer = lib->list(DISK, d->files - 1, w->name, sizeof w->name, &w->numbers[0], &w->numbers[1], &w->numbers[2]); break;
-    case COUNT: w->answer = lib->count(DISK, &w->numbers[0], &w->numbers[1]); break;
+    case FILL_1000: w->answer = lib->write_record(DISK, HANDLE, false, w->buffer, sizeof w->buffer, &w->fault_slot); break;
+    case APPEND: w->answer = lib->write_record(DISK, HANDLE, true, w->buffer, sizeof w->buffer, &w->fault_slot); break;
+    case ALLOT: w->answer = lib->allot(DISK, HANDLE, w->k, &w->fault_slot); break;
+    case TRIM: w->answer = lib->trim(DISK, HANDLE, &w->fault_slot); break;
+    case KILL: w->answer = lib->kill(DISK, HANDLE, &w->fault_slot); break;
+    case LIST: w->answer = lib->list(DISK, d->files - 1, w->name, sizeof w->name, &w->numbers[0], &w->numbers[1], &w->numbers[2], &w->fault_slot); break;
+    case COUNT: w->answer = lib->count(DISK, &w->numbers[0], &w->numbers[1], &w->fault_slot); break;
     case COMPARE:
-        w->answer = lib->compare(DISK, DISK, 0, w->name, sizeof w->name, &w->numbers[0], &w->numbers[1], &w->numbers[2], &w->numbers[3]);
+        w->answer = lib->compare(DISK, DISK, 0, w->name, sizeof w->name, &w->numbers[0], &w->numbers[1], &w->numbers[2], &w->numbers[3], &w->fault_slot);
         break;
     case WHATS: break;
     }
@@ -236,12 +237,45 @@ static int same(void)
             once(&b, &libraries[1]);
             const bool alike = a.answer == b.answer && !memcmp(a.disk.image, b.disk.image, a.disk.image_len) &&
                                !memcmp(a.handle, b.handle, sizeof a.handle) && !memcmp(a.buffer, b.buffer, sizeof a.buffer) &&
-                               !memcmp(a.name, b.name, sizeof a.name) && !memcmp(a.numbers, b.numbers, sizeof a.numbers);
+                               !memcmp(a.name, b.name, sizeof a.name) && !memcmp(a.numbers, b.numbers, sizeof a.numbers) && a.fault_slot == b.fault_slot;
             printf("%s %s: %d %d%s\n", bench_disk_names[disk], whats[what].name, a.answer, b.answer, alike ? "" : " UNLIKE");
             unlike += !alike;
             free(a.disk.image);
             free(b.disk.image);
         }
+    return unlike ? 1 : 0;
+}
+
+/* Whether the two tell the same fault of damaged disks: random bytes of the directory are changed, a few at a time. */
+static int same_faults(void)
+{
+    static struct work w;
+    int unlike = 0;
+    uint64_t seed = 20262;
+    size_t told[256] = { 0 };
+    for (size_t disk = 0; disk < BENCH_DISKS; disk++) {
+        prepare(&w, CHECK, disk);
+        struct bench_disk *const d = &w.disk;
+        uint8_t *const directory = d->image + d->start * SECTOR_BYTES;
+        for (size_t change = 0; change < 100; change++) {
+            for (size_t i = 0; i <= change % 3; i++) {
+                seed = seed * 6364136223846793005u + 1442695040888963407u;
+                uint8_t *const at = directory + (seed >> 33) % w.directory_len;
+                *at = seed >> 20 & 1 ? (uint8_t)(seed >> 24) : *at ^ (uint8_t)(1u << (seed >> 24 & 7));
+            }
+            size_t slot = 1, slot2 = 2;
+            const uint8_t number = genie_check(DISK, &slot), number2 = fast_check(DISK, &slot2);
+            if (number != number2 || slot != slot2)
+                printf("%s damaged, change %zu: %d slot %zu, %d slot %zu UNLIKE\n", bench_disk_names[disk], change, number, slot, number2, slot2), unlike++;
+            told[number]++;
+            memcpy(directory, w.directory, w.directory_len);
+        }
+        free(d->image);
+    }
+    printf("damaged disks, by answer:");
+    for (size_t i = 0; i < 256; i++)
+        if (told[i]) printf(" %zu: %zu", i, told[i]);
+    printf("\n");
     return unlike ? 1 : 0;
 }
 
@@ -263,7 +297,7 @@ int main(int argc, char **argv)
     for (size_t i = 0; i < WHATS; i++) what_names[i] = whats[i].name;
     for (size_t i = 0; i < 3; i++) library_names[i] = libraries[i].name;
 
-    if (argc == 2 && !strcmp(argv[1], "same")) return same();
+    if (argc == 2 && !strcmp(argv[1], "same")) return same() | same_faults();
     if (argc == 2 && !strcmp(argv[1], "names")) {
         for (size_t i = 0; i < WHATS; i++) printf("call %s %s\n", whats[i].name, whats[i].title);
         for (size_t i = 0; i < BENCH_DISKS; i++) printf("disk %s %s\n", bench_disk_names[i], bench_disk_titles[i]);

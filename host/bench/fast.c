@@ -62,7 +62,7 @@ struct disk {
 #define IMAGE const uint8_t *image, size_t image_len
 #define IMAGE_OUT uint8_t *image, size_t image_len
 #define GEO size_t blocks, size_t units, size_t start, uint16_t open_code
-#define EXAMINE(d) examine(image, image_len, blocks, units, start, (d))
+#define EXAMINE(d) examine(image, image_len, blocks, units, start, (d), fault_slot)
 
 static inline uint64_t load8(const void *p) { uint64_t v; memcpy(&v, p, 8); return v; }
 static inline void store8(void *p, uint64_t v) { memcpy(p, &v, 8); }
@@ -244,9 +244,144 @@ static bool consistent(const uint8_t *image, size_t start, struct disk *d)
     return extensions == met;
 }
 
-/* Refusals 1 and 2. */
-static uint8_t examine(IMAGE, size_t blocks, size_t units, size_t start, struct disk *d)
+/* ---- Where the check says no: a plain second pass, slot by slot from the lowest. It is not measured ---- */
+
+static inline bool has_slot(const struct disk *d, size_t slot) { return (slot & 31) < d->columns; }
+
+static inline bool is_file(const uint8_t *e) { return (e[E_FLAGS] & (EXTENSION | IN_USE)) == IN_USE; }
+
+static size_t runs_of(const uint8_t *e)
 {
+    size_t runs = 0;
+    while (runs < 4 && e[E_PAIRS + 2 * runs] != 0xFF) runs++;
+    return runs;
+}
+
+/* The entry's marker, pairs or link. */
+static bool bad_entry(const uint8_t *image, const struct disk *d, const uint8_t *e)
+{
+    const size_t runs = runs_of(e), link = e[E_LINK];
+    for (size_t i = runs; i < 4; i++)
+        if (e[E_PAIRS + 2 * i] != 0xFF) return true;
+    if (e[E_MARKER] == MARK_END) return false;
+    if (e[E_MARKER] != MARK_LINK || runs < 4 || !has_slot(d, link)) return true;
+    return (entry_of(image, d, link)[E_FLAGS] & (EXTENSION | IN_USE)) != (EXTENSION | IN_USE);
+}
+
+/* What the walks along all files' chains meet: how often a slot, in whose chain first, and from which slot. */
+struct walks {
+    uint8_t met[256], file[256], from[256];
+};
+
+/* A walk passes badly formed extensions, and stops at a bad entry and at a second meeting: so each entry hands on once. */
+static void walk(const uint8_t *image, const struct disk *d, struct walks *w)
+{
+    memset(w, 0, sizeof *w);
+    for (size_t file = 0; file < 256; file++) {
+        if (!has_slot(d, file) || !is_file(entry_of(image, d, file))) continue;
+        for (size_t at = file;;) {
+            const uint8_t *const e = entry_of(image, d, at);
+            if (bad_entry(image, d, e) || e[E_MARKER] == MARK_END) break;
+            const size_t next = e[E_LINK];
+            if (w->met[next]) {
+                w->met[next] = 2;
+                break;
+            }
+            w->met[next] = 1;
+            w->file[next] = (uint8_t)file;
+            w->from[next] = (uint8_t)at;
+            at = next;
+        }
+    }
+}
+
+/* An extension met in no chain, met twice, or badly formed. */
+static bool bad_extension(const uint8_t *image, const struct disk *d, const struct walks *w, size_t slot)
+{
+    const uint8_t *const e = entry_of(image, d, slot);
+    if (!(e[E_FLAGS] & EXTENSION)) return false;
+    return w->met[slot] != 1 || e[E_FLAGS] != (EXTENSION | IN_USE) || e[E_BACK] != w->from[slot] || runs_of(e) == 0;
+}
+
+/* The granules that a whole chain owns, or SIZE_MAX where it is not whole. */
+static size_t whole(const uint8_t *image, const struct disk *d, const struct walks *w, size_t slot)
+{
+    for (size_t owned = 0;;) {
+        const uint8_t *const e = entry_of(image, d, slot);
+        if (bad_entry(image, d, e) || bad_extension(image, d, w, slot)) return SIZE_MAX;
+        for (size_t i = 0; i < runs_of(e); i++) owned += (size_t)(e[E_PAIRS + 2 * i + 1] & 31) + 1;
+        if (e[E_MARKER] == MARK_END) return owned;
+        slot = e[E_LINK];
+    }
+}
+
+static inline bool in_map(const uint64_t *map, size_t granule) { return map[granule / 64] >> granule % 64 & 1; }
+
+/* The first number that applies to a slot, or 0. `owned` has the granules of the lower slots, which have no fault, and gets this one's. */
+static uint8_t fault_at(const uint8_t *image, const struct disk *d, const struct walks *w, size_t slot, uint64_t *owned)
+{
+    const uint8_t *const e = entry_of(image, d, slot), h = hit_of(image, d)[slot];
+    const bool in_use = e[E_FLAGS] & IN_USE, extension = e[E_FLAGS] & EXTENSION;
+    if ((h != 0) != in_use) return GENIE_FAULT_HIT;
+    if (!in_use) return 0;
+    const bool bad = bad_extension(image, d, w, slot);
+    const uint8_t *const file = extension ? entry_of(image, d, w->file[slot]) : e;
+    if (!bad && hash(name_at(file + E_NAME)) != h) return GENIE_FAULT_HIT;
+    if (!extension) {
+        if ((e[E_FLAGS] & ZERO) || !well_formed(name_at(e + E_NAME))) return GENIE_FAULT_NAME;
+        for (size_t lower = 0; lower < slot; lower++) {
+            if (!has_slot(d, lower)) continue;
+            const uint8_t *const other = entry_of(image, d, lower);
+            if (is_file(other) && same_name(other + E_NAME, e + E_NAME)) return GENIE_FAULT_DUPLICATE_NAME;
+        }
+    }
+    if (bad || bad_entry(image, d, e)) return GENIE_FAULT_CHAIN;
+
+    /* The kinds that a run can have: each is told before the next, whichever run it is of. */
+    bool missing = false, shared = false, of_directory = false;
+    const size_t first = d->directory / GRANULE, behind = first + (d->columns + 2) / GRANULE_SECTORS;
+    for (size_t i = 0; i < runs_of(e); i++) {
+        const uint8_t *const pair = e + E_PAIRS + 2 * i;
+        const size_t unit = pair[1] >> 5, granule = pair[0] * d->units + unit, end = granule + (pair[1] & 31) + 1;
+        if (unit >= d->units || end > d->granules) return GENIE_FAULT_RUN_OFF_DISK;
+        for (size_t at = granule; at < end; at++) {
+            missing |= !in_map(d->taken, at);
+            shared |= in_map(owned, at);
+            of_directory |= at >= first && at < behind;
+            owned[at / 64] |= (uint64_t)1 << at % 64;
+        }
+    }
+    if (missing) return GENIE_FAULT_GAT_BIT;
+    if (shared) return GENIE_FAULT_GRANULE_SHARED;
+    if (!extension) {
+        const size_t n = load2(e + E_COUNT), granules = whole(image, d, w, slot);
+        if (granules != SIZE_MAX && ((n == 0 && e[E_END] != 0) || n > granules * GRANULE_SECTORS)) return GENIE_FAULT_SIZE;
+    }
+    return of_directory && !(file[E_FLAGS] & SYSTEM) ? GENIE_FAULT_DIRECTORY_GRANULE : 0;
+}
+
+__attribute__((noinline)) static uint8_t fault_of(const uint8_t *image, size_t start, struct disk *d, size_t *fault_slot)
+{
+    const size_t extra = hit_of(image, d)[DIRECTORY_LENGTH];
+    if (extra > 20 || extra % 5 || start + 10 + extra > d->granules * GRANULE_SECTORS) return GENIE_FAULT_DIRECTORY_LENGTH;
+    d->columns = 8 + extra;
+    struct walks w;
+    uint64_t owned[MAP_WORDS] = { 0 };
+    walk(image, d, &w);
+    for (size_t slot = 0; slot < 256; slot++) {
+        const uint8_t number = has_slot(d, slot) ? fault_at(image, d, &w, slot, owned) : 0;
+        if (number) {
+            *fault_slot = slot;
+            return number;
+        }
+    }
+    return GENIE_FAULT_DIRECTORY_GRANULE; /* free in the GAT: no other fault is left */
+}
+
+/* Refusals 1 and 21 to 30. */
+static uint8_t examine(IMAGE, size_t blocks, size_t units, size_t start, struct disk *d, size_t *fault_slot)
+{
+    *fault_slot = GENIE_NO_SLOT;
     if (blocks < 1 || blocks > 192 || units < 1 || units > 8) return GENIE_GEOMETRY;
     d->granules = blocks * units;
     d->units = units;
@@ -254,7 +389,7 @@ static uint8_t examine(IMAGE, size_t blocks, size_t units, size_t start, struct 
     if (start > d->granules * GRANULE_SECTORS || d->granules * GRANULE_SECTORS - start < 10) return GENIE_GEOMETRY;
     d->directory = start * SECTOR;
     pack(d->taken, gat_of(image, d), blocks, units);
-    return consistent(image, start, d) ? GENIE_DONE : GENIE_INCONSISTENT;
+    return consistent(image, start, d) ? GENIE_DONE : fault_of(image, start, d, fault_slot);
 }
 
 /* ---- Finding ---- */
@@ -497,14 +632,14 @@ static uint8_t grow(uint8_t *image, struct disk *d, size_t slot, const struct ex
 
 /* ---- The calls ---- */
 
-uint8_t FAST(check)(IMAGE, GEO)
+uint8_t FAST(check)(IMAGE, GEO, size_t *fault_slot)
 {
     struct disk d;
     (void)open_code;
     return EXAMINE(&d);
 }
 
-uint8_t FAST(look_up)(IMAGE, GEO, const uint8_t *name, size_t name_len, size_t *slot, size_t *compared)
+uint8_t FAST(look_up)(IMAGE, GEO, const uint8_t *name, size_t name_len, size_t *slot, size_t *compared, size_t *fault_slot)
 {
     struct disk d;
     (void)open_code;
@@ -518,7 +653,8 @@ uint8_t FAST(look_up)(IMAGE, GEO, const uint8_t *name, size_t name_len, size_t *
     return GENIE_DONE;
 }
 
-uint8_t FAST(open)(IMAGE, GEO, const uint8_t *name, size_t name_len, size_t length, bool checking, uint16_t code, uint8_t *handle, size_t handle_len)
+uint8_t FAST(open)(IMAGE, GEO, const uint8_t *name, size_t name_len, size_t length, bool checking, uint16_t code, uint8_t *handle, size_t handle_len,
+                   size_t *fault_slot)
 {
     struct disk d;
     size_t compared;
@@ -536,7 +672,7 @@ uint8_t FAST(open)(IMAGE, GEO, const uint8_t *name, size_t name_len, size_t leng
 }
 
 uint8_t FAST(create)(IMAGE_OUT, GEO, const uint8_t *name, size_t name_len, size_t day, size_t month, size_t year, size_t length, uint16_t main_code,
-                     uint16_t worker_code, bool checking, size_t *old, uint8_t *handle, size_t handle_len)
+                     uint16_t worker_code, bool checking, size_t *old, uint8_t *handle, size_t handle_len, size_t *fault_slot)
 {
     struct disk d;
     size_t compared;
@@ -571,7 +707,7 @@ uint8_t FAST(create)(IMAGE_OUT, GEO, const uint8_t *name, size_t name_len, size_
     return GENIE_DONE;
 }
 
-uint8_t FAST(read_record)(IMAGE, GEO, uint8_t *handle, size_t handle_len, uint8_t *buffer, size_t buffer_len)
+uint8_t FAST(read_record)(IMAGE, GEO, uint8_t *handle, size_t handle_len, uint8_t *buffer, size_t buffer_len, size_t *fault_slot)
 {
     struct disk d;
     struct held h;
@@ -594,7 +730,7 @@ uint8_t FAST(read_record)(IMAGE, GEO, uint8_t *handle, size_t handle_len, uint8_
     return GENIE_DONE;
 }
 
-uint8_t FAST(read_sector)(IMAGE, GEO, const uint8_t *handle, size_t handle_len, size_t k, size_t *from, size_t *to)
+uint8_t FAST(read_sector)(IMAGE, GEO, const uint8_t *handle, size_t handle_len, size_t k, size_t *from, size_t *to, size_t *fault_slot)
 {
     struct disk d;
     struct held h;
@@ -615,7 +751,7 @@ uint8_t FAST(read_sector)(IMAGE, GEO, const uint8_t *handle, size_t handle_len, 
     return GENIE_DONE;
 }
 
-uint8_t FAST(write_record)(IMAGE_OUT, GEO, uint8_t *handle, size_t handle_len, bool sequential, const uint8_t *buffer, size_t buffer_len)
+uint8_t FAST(write_record)(IMAGE_OUT, GEO, uint8_t *handle, size_t handle_len, bool sequential, const uint8_t *buffer, size_t buffer_len, size_t *fault_slot)
 {
     struct disk d;
     struct held h;
@@ -656,7 +792,7 @@ uint8_t FAST(write_record)(IMAGE_OUT, GEO, uint8_t *handle, size_t handle_len, b
     return GENIE_DONE;
 }
 
-uint8_t FAST(allot)(IMAGE_OUT, GEO, const uint8_t *handle, size_t handle_len, size_t k)
+uint8_t FAST(allot)(IMAGE_OUT, GEO, const uint8_t *handle, size_t handle_len, size_t k, size_t *fault_slot)
 {
     struct disk d;
     struct held h;
@@ -674,7 +810,7 @@ uint8_t FAST(allot)(IMAGE_OUT, GEO, const uint8_t *handle, size_t handle_len, si
     return grow(image, &d, h.slot, &x, wanted - x.owned);
 }
 
-uint8_t FAST(trim)(IMAGE_OUT, GEO, const uint8_t *handle, size_t handle_len)
+uint8_t FAST(trim)(IMAGE_OUT, GEO, const uint8_t *handle, size_t handle_len, size_t *fault_slot)
 {
     struct disk d;
     struct held h;
@@ -714,7 +850,7 @@ uint8_t FAST(trim)(IMAGE_OUT, GEO, const uint8_t *handle, size_t handle_len)
     }
 }
 
-uint8_t FAST(kill)(IMAGE_OUT, GEO, const uint8_t *handle, size_t handle_len)
+uint8_t FAST(kill)(IMAGE_OUT, GEO, const uint8_t *handle, size_t handle_len, size_t *fault_slot)
 {
     struct disk d;
     struct held h;
@@ -738,7 +874,7 @@ uint8_t FAST(kill)(IMAGE_OUT, GEO, const uint8_t *handle, size_t handle_len)
     }
 }
 
-uint8_t FAST(list)(IMAGE, GEO, size_t number, uint8_t *name, size_t name_len, size_t *size, size_t *granules, size_t *more)
+uint8_t FAST(list)(IMAGE, GEO, size_t number, uint8_t *name, size_t name_len, size_t *size, size_t *granules, size_t *more, size_t *fault_slot)
 {
     struct disk d;
     (void)open_code;
@@ -760,7 +896,7 @@ uint8_t FAST(list)(IMAGE, GEO, size_t number, uint8_t *name, size_t name_len, si
     return GENIE_DONE;
 }
 
-uint8_t FAST(count)(IMAGE, GEO, size_t *files, size_t *free)
+uint8_t FAST(count)(IMAGE, GEO, size_t *files, size_t *free, size_t *fault_slot)
 {
     struct disk d;
     (void)open_code;
@@ -809,17 +945,18 @@ static size_t parting(const uint8_t *image, const struct disk *d, const uint8_t 
 }
 
 uint8_t FAST(compare)(const uint8_t *first, size_t first_len, GEO, const uint8_t *second, size_t second_len, size_t blocks2, size_t units2, size_t start2,
-                      uint16_t open_code2, size_t number, uint8_t *name, size_t name_len, size_t *image, size_t *kind, size_t *position, size_t *flags)
+                      uint16_t open_code2, size_t number, uint8_t *name, size_t name_len, size_t *image, size_t *kind, size_t *position, size_t *flags,
+                      size_t *fault_slot)
 {
     struct disk d, d2;
     const uint8_t *ours[MAX_SLOTS], *theirs[MAX_SLOTS];
     (void)open_code, (void)open_code2;
     *kind = *position = *flags = 0;
     *image = 1;
-    uint8_t refusal = examine(first, first_len, blocks, units, start, &d);
+    uint8_t refusal = examine(first, first_len, blocks, units, start, &d, fault_slot);
     if (refusal) return refusal;
     *image = 2;
-    refusal = examine(second, second_len, blocks2, units2, start2, &d2);
+    refusal = examine(second, second_len, blocks2, units2, start2, &d2, fault_slot);
     if (refusal) return refusal;
     *image = 0;
     if (name_len < NAME) return GENIE_RANGE;

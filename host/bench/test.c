@@ -150,6 +150,7 @@ static struct geometry g;
 static uint8_t *image, *before;
 static size_t image_len, active; /* files in play: many, or one that grows undisturbed */
 static uint16_t open_code;
+static size_t fault_slot; /* of the last call */
 static bool reserved[1536];
 
 #define DISK image, image_len, g.blocks, g.units, g.start, open_code
@@ -308,7 +309,7 @@ static uint8_t plain_growth(const struct file *f, size_t need, size_t left)
 static void look_over(size_t step)
 {
     static uint8_t bytes[1966080], owned_map[1536];
-    if (!plainly_consistent(image, g) || fast_check(DISK) != 0) fail("consistent after a call", step);
+    if (!plainly_consistent(image, g) || fast_check(DISK, &fault_slot) != 0) fail("consistent after a call", step);
     memset(owned_map, 0, sizeof owned_map);
     size_t all = 0, told = 0;
     for (size_t i = 0; i < FILES; i++) {
@@ -324,7 +325,7 @@ static void look_over(size_t step)
         kept += reserved[granule];
         if (reserved[granule] && !gat_bit(image, g, granule)) fail("reserved granule", step);
     }
-    if (fast_count(DISK, &count, &left) || count != told || left != clear_bits() || left + kept + all != granules_of(g)) fail("count", step);
+    if (fast_count(DISK, &count, &left, &fault_slot) || count != told || left != clear_bits() || left + kept + all != granules_of(g)) fail("count", step);
 }
 
 static void refused_changes_nothing(size_t step)
@@ -346,7 +347,7 @@ static void one_call(size_t step)
         for (size_t i = 0; i < FILES; i++)
             if (files[i].there && !memcmp(files[i].name, name, 11)) f = &files[i];
         const size_t length = 1 + below(256), room = free_permitted();
-        const uint8_t r = fast_create(DISK, name, 11, below(32), below(16), below(16), length, 1, 2, false, &old, handle, 19);
+        const uint8_t r = fast_create(DISK, name, 11, below(32), below(16), below(16), length, 1, 2, false, &old, handle, 19, &fault_slot);
         answers[r]++;
         if (f->there ? r != 0 || old != 1 : r != (room ? 0 : 8) || old != 0) fail("create", step);
         if (r || old) refused_changes_nothing(step);
@@ -377,7 +378,7 @@ static void one_call(size_t step)
     switch (below(12)) {
     case 0:
     case 1: {
-        r = fast_read_record(DISK, handle, 19, buffer, sizeof buffer);
+        r = fast_read_record(DISK, handle, 19, buffer, sizeof buffer, &fault_slot);
         if (r != (position + length > f->size ? 10 : 0)) fail("read record", step);
         if (!r) memcpy(kept, f->bytes + position, length);
         if (memcmp(buffer, kept, sizeof kept) || (!r && memcmp(handle, after, 19))) fail("bytes read", step);
@@ -387,7 +388,7 @@ static void one_call(size_t step)
     case 2: {
         const size_t k = below(2) ? below(f->size / 256 + 2) : below(7680);
         size_t from = 1, to = 2;
-        r = fast_read_sector(DISK, handle, 19, k, &from, &to);
+        r = fast_read_sector(DISK, handle, 19, k, &from, &to, &fault_slot);
         if (r != (k * 256 >= f->size ? 10 : 0)) fail("read sector", step);
         const size_t part = r ? 0 : f->size - k * 256 < 256 ? f->size - k * 256 : 256;
         if (to - from != part || (r && from) || (!r && memcmp(image + from, f->bytes + k * 256, part))) fail("sector", step);
@@ -402,7 +403,7 @@ static void one_call(size_t step)
         const bool sequential = below(2);
         const size_t size = sequential || position + length > f->size ? position + length : f->size, need = (size + 1279) / 1280;
         const uint8_t expected = position + length > 1966080 ? 12 : plain_growth(f, need, left);
-        r = fast_write_record(DISK, handle, 19, sequential, buffer, sizeof buffer);
+        r = fast_write_record(DISK, handle, 19, sequential, buffer, sizeof buffer, &fault_slot);
         if (r != expected) fail("write record", step);
         if (r) {
             refused_changes_nothing(step);
@@ -424,33 +425,33 @@ static void one_call(size_t step)
     case 8: {
         const size_t k = below(3) ? below(f->granules * 5 + (below(2) ? 60 : 500)) % 7680 : below(7680), need = k / 5 + 1;
         const uint8_t expected = plain_growth(f, need, left);
-        r = fast_allot(DISK, handle, 19, k);
+        r = fast_allot(DISK, handle, 19, k, &fault_slot);
         if (r != expected) fail("allot", step);
         refused_changes_nothing(step); /* beyond the growth, if any */
         if (!r && need > f->granules) f->granules = need;
         break;
     }
     case 9:
-        r = fast_trim(DISK, handle, 19);
+        r = fast_trim(DISK, handle, 19, &fault_slot);
         if (r) fail("trim", step);
         f->granules = (f->size + 1279) / 1280;
         break;
     case 10: {
         size_t slot = 99, compared = 0;
-        r = fast_look_up(DISK, f->name, 11, &slot, &compared);
+        r = fast_look_up(DISK, f->name, 11, &slot, &compared, &fault_slot);
         if (r || slot != f->handle[0] || !compared) fail("look up", step);
         uint8_t opened[20] = { 0 };
-        if (fast_open(DISK, f->name, 11, length, true, 1, opened, 20) || memcmp(opened + 8, f->name, 11) || opened[0] != slot) fail("open", step);
+        if (fast_open(DISK, f->name, 11, length, true, 1, opened, 20, &fault_slot) || memcmp(opened + 8, f->name, 11) || opened[0] != slot) fail("open", step);
         refused_changes_nothing(step);
         break;
     }
     default:
         if (below(4)) return;
-        r = fast_kill(DISK, handle, 19);
+        r = fast_kill(DISK, handle, 19, &fault_slot);
         if (r) fail("kill", step);
         f->there = false;
         memcpy(before, image, image_len);
-        if (fast_kill(DISK, handle, 19) != 7 || fast_trim(DISK, handle, 19) != 7) fail("a killed file's handle is stale", step);
+        if (fast_kill(DISK, handle, 19, &fault_slot) != 7 || fast_trim(DISK, handle, 19, &fault_slot) != 7) fail("a killed file's handle is stale", step);
         refused_changes_nothing(step);
     }
     answers[r]++;
@@ -561,15 +562,21 @@ static void spoil(void)
 }
 
 /* Spoils the directory in one to three places, and compares the two checks. */
-static size_t sound, unsound;
+static size_t sound, unsound, faults[10];
 static void damage(size_t step)
 {
     const size_t changes = 1 + below(3);
     memcpy(before, image, image_len);
     for (size_t i = 0; i < changes && sectors_of(image, g) == 10u + before[(g.start + 1) * 256 + 0x1F]; i++) spoil();
     const bool expected = plainly_consistent(image, g);
-    const uint8_t r = fast_check(DISK);
-    if (r != (expected ? 0 : 2)) fail("the two checks differ", step);
+    const uint8_t r = fast_check(DISK, &fault_slot);
+    /* Number and slot of a fault are held against the library's, by `bench same`; here, that there is one and that a slot is the directory's. */
+    if (expected ? r != 0 || fault_slot != GENIE_NO_SLOT : r < GENIE_FAULT_DIRECTORY_LENGTH || r > GENIE_FAULT_DIRECTORY_GRANULE)
+        fail("the two checks differ", step);
+    if (fault_slot != GENIE_NO_SLOT ? r == GENIE_FAULT_DIRECTORY_LENGTH || fault_slot % 32 >= sectors_of(image, g) - 2
+                                    : !expected && r != GENIE_FAULT_DIRECTORY_LENGTH && r != GENIE_FAULT_DIRECTORY_GRANULE)
+        fail("slot of a fault", step);
+    if (!expected) faults[r - GENIE_FAULT_DIRECTORY_LENGTH]++;
     if (expected) sound++;
     else unsound++;
     /* A disk that is still sound is used as it is. */
@@ -577,12 +584,12 @@ static void damage(size_t step)
     else {
         size_t files_told, left, size, granules, more;
         uint8_t name[11];
-        if (fast_count(DISK, &files_told, &left) || left != clear_bits()) fail("count of a changed disk", step);
+        if (fast_count(DISK, &files_told, &left, &fault_slot) || left != clear_bits()) fail("count of a changed disk", step);
         for (size_t i = 0; i <= files_told; i++) {
             uint8_t handle[19];
             size_t old;
-            if (fast_list(DISK, i, name, 11, &size, &granules, &more) || more != (i < files_told)) fail("list", step);
-            if (more && (fast_create(DISK, name, 11, 0, 0, 0, 256, 0, 0, false, &old, handle, 19) || !old)) fail("create of an old file", step);
+            if (fast_list(DISK, i, name, 11, &size, &granules, &more, &fault_slot) || more != (i < files_told)) fail("list", step);
+            if (more && (fast_create(DISK, name, 11, 0, 0, 0, 256, 0, 0, false, &old, handle, 19, &fault_slot) || !old)) fail("create of an old file", step);
         }
         memcpy(image, before, image_len);
     }
@@ -596,31 +603,33 @@ static void any_arguments(size_t step)
     size_t a = 1, b = 1, c = 1;
     uint8_t handle[19] = { 0 }, name[11];
     memcpy(before, image, image_len);
-    if (fast_check(image, image_len, ODD, ODD, ODD, 0) != 1 && fast_check(image, image_len, g.blocks, g.units, ODD, 0) > 2) fail("geometry", step);
+    const uint8_t anywhere = fast_check(image, image_len, g.blocks, g.units, ODD, 0, &fault_slot);
+    if (anywhere > 1 && (anywhere < GENIE_FAULT_DIRECTORY_LENGTH || anywhere > GENIE_FAULT_DIRECTORY_GRANULE)) fail("geometry", step);
+    (void)fast_check(image, image_len, ODD, ODD, ODD, 0, &fault_slot);
     const size_t other = ODD;
-    if (other != g.start && other % 5 && fast_check(image, image_len, g.blocks, g.units, other, 0) != 1) fail("start", step);
-    if (fast_check(image, image_len - 1, g.blocks, g.units, g.start, 0) != 1) fail("length", step);
-    if (fast_check(image, SIZE_MAX - 100, SIZE_MAX / 1280, 1, 0, 0) != 1 || fast_check(image, 0, 0, 8, 0, 0) != 1) fail("length", step);
+    if (other != g.start && other % 5 && fast_check(image, image_len, g.blocks, g.units, other, 0, &fault_slot) != 1) fail("start", step);
+    if (fast_check(image, image_len - 1, g.blocks, g.units, g.start, 0, &fault_slot) != 1) fail("length", step);
+    if (fast_check(image, SIZE_MAX - 100, SIZE_MAX / 1280, 1, 0, 0, &fault_slot) != 1 || fast_check(image, 0, 0, 8, 0, 0, &fault_slot) != 1) fail("length", step);
     random_name(name);
-    if (fast_create(DISK, name, 11, 32 + below(9), 0, 0, 1, 0, 0, false, &a, handle, 19) != 12 || a) fail("day", step);
-    if (fast_create(DISK, name, 11, 0, SIZE_MAX, 0, 1, 0, 0, false, &a, handle, 19) != 12) fail("month", step);
-    if (fast_create(DISK, name, 11, 0, 0, 16, 1, 0, 0, false, &a, handle, 19) != 12) fail("year", step);
-    if (fast_create(DISK, name, 11, 0, 0, 0, below(2) ? 0 : 257, 0, 0, false, &a, handle, 19) != 12) fail("record length", step);
-    if (fast_create(DISK, name, 11, 0, 0, 0, 1, 0, 0, false, &a, handle, below(19)) != 12) fail("short handle", step);
-    if (fast_look_up(DISK, name, below(11), &a, &b) != 3 || a || b) fail("short name", step);
-    if (fast_kill(DISK, handle, 19) != 12) fail("the handle of zeros", step);
-    if (fast_list(DISK, ODD, name, below(11), &a, &b, &c) != 12 || a || b || c) fail("short name buffer", step);
-    if (fast_list(DISK, ODD, name, 11, &a, &b, &c)) fail("any listing number", step);
+    if (fast_create(DISK, name, 11, 32 + below(9), 0, 0, 1, 0, 0, false, &a, handle, 19, &fault_slot) != 12 || a) fail("day", step);
+    if (fast_create(DISK, name, 11, 0, SIZE_MAX, 0, 1, 0, 0, false, &a, handle, 19, &fault_slot) != 12) fail("month", step);
+    if (fast_create(DISK, name, 11, 0, 0, 16, 1, 0, 0, false, &a, handle, 19, &fault_slot) != 12) fail("year", step);
+    if (fast_create(DISK, name, 11, 0, 0, 0, below(2) ? 0 : 257, 0, 0, false, &a, handle, 19, &fault_slot) != 12) fail("record length", step);
+    if (fast_create(DISK, name, 11, 0, 0, 0, 1, 0, 0, false, &a, handle, below(19), &fault_slot) != 12) fail("short handle", step);
+    if (fast_look_up(DISK, name, below(11), &a, &b, &fault_slot) != 3 || a || b) fail("short name", step);
+    if (fast_kill(DISK, handle, 19, &fault_slot) != 12) fail("the handle of zeros", step);
+    if (fast_list(DISK, ODD, name, below(11), &a, &b, &c, &fault_slot) != 12 || a || b || c) fail("short name buffer", step);
+    if (fast_list(DISK, ODD, name, 11, &a, &b, &c, &fault_slot)) fail("any listing number", step);
     for (size_t i = 0; i < FILES; i++)
         if (files[i].there) {
             uint8_t h[19];
             memcpy(h, files[i].handle, 19);
             const size_t k = ODD;
-            const uint8_t r = fast_read_sector(DISK, h, 19, k, &a, &b);
+            const uint8_t r = fast_read_sector(DISK, h, 19, k, &a, &b, &fault_slot);
             if (r != (k > 7679 ? 12 : k * 256 >= files[i].size ? 10 : 0)) fail("any sector", step);
-            if (k > 7679 && fast_allot(DISK, h, 19, k) != 12) fail("any sector to allot", step);
+            if (k > 7679 && fast_allot(DISK, h, 19, k, &fault_slot) != 12) fail("any sector to allot", step);
             h[1] = (uint8_t)below(256);
-            if (fast_kill(DISK, h, 19) != (h[1] > 7 ? 12 : h[1] > 1 ? 6 : 0)) fail("level", step);
+            if (fast_kill(DISK, h, 19, &fault_slot) != (h[1] > 7 ? 12 : h[1] > 1 ? 6 : 0)) fail("level", step);
             if (h[1] <= 1) {
                 memcpy(image, before, image_len);
             }
@@ -644,7 +653,12 @@ int main(int argc, char **argv)
         }
         look_over(disk);
     }
-    printf("damaged disks: %zu sound, %zu not; calls by answer:", sound, unsound);
+    printf("damaged disks: %zu sound, %zu not (by kind", sound, unsound);
+    for (size_t i = 0; i < 10; i++) {
+        if (!faults[i] && disks >= 60) fail("a kind never met", 21 + i);
+        printf(" %zu: %zu", 21 + i, faults[i]);
+    }
+    printf("); calls by answer:");
     for (size_t i = 0; i < 16; i++)
         if (answers[i]) printf(" %zu: %zu", i, answers[i]);
     printf("\n");

@@ -49,7 +49,7 @@ int main(void)
     const uint8_t *const name = (const uint8_t *)"PULS01  DAT"; /* PULS01/DAT, 11 bytes */
     const uint8_t zeros[GENIE_HANDLE_BYTES] = { 0 };
     uint8_t handle[GENIE_HANDLE_BYTES], record[256], back[256], told[GENIE_NAME_BYTES];
-    size_t old, slot, compared, from, to, size, slots, granules, more, files, left, longest, which, kind, position, flags;
+    size_t old, slot, compared, from, to, size, slots, granules, more, files, left, longest, which, kind, position, flags, fault;
 
     image = malloc(IMAGE_BYTES);
     uint8_t *const before = malloc(IMAGE_BYTES);
@@ -58,89 +58,95 @@ int main(void)
         return 1;
     }
     make_disk();
-    step("check an empty disk of 1,966,080 bytes", genie_check(DISK), GENIE_DONE, 1);
-    step("check it with a wrong number of blocks", genie_check(image, IMAGE_BYTES, BLOCKS - 1, UNITS, START, OPEN_CODE), GENIE_GEOMETRY, 1);
-    uint8_t answer = genie_count(DISK, &files, &left);
+    uint8_t answer = genie_check(DISK, &fault);
+    step("check an empty disk of 1,966,080 bytes: no slot is at fault", answer, GENIE_DONE, fault == GENIE_NO_SLOT);
+    step("check it with a wrong number of blocks", genie_check(image, IMAGE_BYTES, BLOCKS - 1, UNITS, START, OPEN_CODE, &fault), GENIE_GEOMETRY, 1);
+    answer = genie_count(DISK, &files, &left, &fault);
     step("count: no file, 1,533 granules free", answer, GENIE_DONE, files == 0 && left == BLOCKS * UNITS - 3);
     answer = genie_free(DISK, &left, &longest);
     step("free space: the same, 767 of them in a row", answer, GENIE_DONE, left == BLOCKS * UNITS - 3 && longest == START / 5 - 1);
 
     memset(handle, 0xFF, sizeof handle);
-    answer = genie_open(DISK, name, GENIE_NAME_BYTES, 256, true, 0, handle, sizeof handle);
+    answer = genie_open(DISK, name, GENIE_NAME_BYTES, 256, true, 0, handle, sizeof handle, &fault);
     step("open PULS01/DAT before it is there: a handle of zeros", answer, GENIE_NOT_FOUND, !memcmp(handle, zeros, sizeof zeros));
-    answer = genie_create(DISK, name, GENIE_NAME_BYTES, 9, 10, 3, 256, OPEN_CODE, OPEN_CODE, true, &old, handle, sizeof handle);
+    answer = genie_create(DISK, name, GENIE_NAME_BYTES, 9, 10, 3, 256, OPEN_CODE, OPEN_CODE, true, &old, handle, sizeof handle, &fault);
     step("create it, dated 9 October 1983, records of 256 bytes", answer, GENIE_DONE, old == 0 && handle[1] == 0 && position_of(handle) == 0);
-    answer = genie_look_up(DISK, name, GENIE_NAME_BYTES, &slot, &compared);
+    answer = genie_look_up(DISK, name, GENIE_NAME_BYTES, &slot, &compared, &fault);
     step("look it up: slot 80H, the first that is not kept; one compared", answer, GENIE_DONE, slot == 0x80 && slot == handle[0] && compared == 1);
 
     unsigned written = 0;
     for (unsigned i = 0; i < 20 && !written; i++) {
         memset(record, (int)(i + 1), sizeof record);
-        written = genie_write_record(DISK, handle, sizeof handle, true, record, sizeof record);
+        written = genie_write_record(DISK, handle, sizeof handle, true, record, sizeof record, &fault);
     }
     step("write 20 records one after the other", written, GENIE_DONE, position_of(handle) == 20 * 256);
-    answer = genie_list(DISK, 0, told, sizeof told, &size, &granules, &more);
+    answer = genie_list(DISK, 0, told, sizeof told, &size, &granules, &more, &fault);
     step("list: PULS01/DAT, 5,120 bytes, 4 granules", answer, GENIE_DONE, more == 1 && size == 5120 && granules == 4 && !memcmp(told, name, sizeof told));
 
     set_position(handle, 1000000);
-    answer = genie_write_record(DISK, handle, sizeof handle, false, record, sizeof record);
+    answer = genie_write_record(DISK, handle, sizeof handle, false, record, sizeof record, &fault);
     step("write one at position 1,000,000", answer, GENIE_DONE, position_of(handle) == 1000256);
     set_position(handle, 256 * 7);
-    answer = genie_read_record(DISK, handle, sizeof handle, back, sizeof back);
+    answer = genie_read_record(DISK, handle, sizeof handle, back, sizeof back, &fault);
     memset(record, 8, sizeof record);
     step("read back the eighth record", answer, GENIE_DONE, !memcmp(back, record, sizeof back) && position_of(handle) == 256 * 8);
     set_position(handle, 500000);
-    answer = genie_read_record(DISK, handle, sizeof handle, back, sizeof back);
+    answer = genie_read_record(DISK, handle, sizeof handle, back, sizeof back, &fault);
     memset(record, 0, sizeof record);
     step("read in the gap: zeros", answer, GENIE_DONE, !memcmp(back, record, sizeof back));
     set_position(handle, 1000001);
     memcpy(record, back, sizeof record);
-    answer = genie_read_record(DISK, handle, sizeof handle, back, sizeof back);
+    answer = genie_read_record(DISK, handle, sizeof handle, back, sizeof back, &fault);
     step("read past the size: buffer and position stay", answer, GENIE_PAST_END, !memcmp(back, record, sizeof back) && position_of(handle) == 1000001);
-    answer = genie_read_sector(DISK, handle, sizeof handle, 3907, &from, &to);
+    answer = genie_read_sector(DISK, handle, sizeof handle, 3907, &from, &to, &fault);
     step("read the last sector, 64 bytes of it, in place", answer, GENIE_DONE, to - from == 64 && image[from] == 20 && image[to - 1] == 20);
-    answer = genie_check(DISK);
+    answer = genie_check(DISK, &fault);
     step("check the disk", answer, GENIE_DONE, 1);
     memcpy(before, image, IMAGE_BYTES);
 
     set_position(handle, 0);
-    answer = genie_write_record(DISK, handle, sizeof handle, true, record, sizeof record);
+    answer = genie_write_record(DISK, handle, sizeof handle, true, record, sizeof record, &fault);
     step("a sequential write at 0 shortens it to 256 bytes", answer, GENIE_DONE, 1);
-    answer = genie_trim(DISK, handle, sizeof handle);
+    answer = genie_trim(DISK, handle, sizeof handle, &fault);
     step("trim it", answer, GENIE_DONE, 1);
-    answer = genie_allot(DISK, handle, sizeof handle, 99);
+    answer = genie_allot(DISK, handle, sizeof handle, 99, &fault);
     step("allot it space to sector 99", answer, GENIE_DONE, 1);
-    answer = genie_list(DISK, 0, told, sizeof told, &size, &granules, &more);
+    answer = genie_list(DISK, 0, told, sizeof told, &size, &granules, &more, &fault);
     step("list: 256 bytes, 20 granules", answer, GENIE_DONE, more == 1 && size == 256 && granules == 20);
-    answer = genie_list(DISK, 1, told, sizeof told, &size, &granules, &more);
+    answer = genie_list(DISK, 1, told, sizeof told, &size, &granules, &more, &fault);
     step("list on: no more", answer, GENIE_DONE, more == 0 && size == 0 && granules == 0);
-    answer = genie_allot(DISK, handle, sizeof handle, 7679);
+    answer = genie_allot(DISK, handle, sizeof handle, 7679, &fault);
     step("allot it the whole disk: more than is free", answer, GENIE_DISK_FULL, 1);
 
-    answer = genie_compare(before, IMAGE_BYTES, BLOCKS, UNITS, START, OPEN_CODE, DISK, 0, told, sizeof told, &which, &kind, &position, &flags);
+    answer = genie_compare(before, IMAGE_BYTES, BLOCKS, UNITS, START, OPEN_CODE, DISK, 0, told, sizeof told, &which, &kind, &position, &flags, &fault);
     step("compare with the disk before: PULS01/DAT from byte 0 on, and its size", answer, GENIE_DONE,
          kind == GENIE_UNLIKE && position == 0 && flags == (GENIE_SIZE_DIFFERS | GENIE_CONTENTS_DIFFER) && !memcmp(told, name, sizeof told));
-    answer = genie_compare(before, IMAGE_BYTES, BLOCKS, UNITS, START, OPEN_CODE, DISK, 1, told, sizeof told, &which, &kind, &position, &flags);
+    answer = genie_compare(before, IMAGE_BYTES, BLOCKS, UNITS, START, OPEN_CODE, DISK, 1, told, sizeof told, &which, &kind, &position, &flags, &fault);
     step("compare on: no more", answer, GENIE_DONE, kind == GENIE_NO_MORE && which == 0 && position == 0 && flags == 0);
 
-    answer = genie_kill(DISK, handle, sizeof handle);
+    answer = genie_kill(DISK, handle, sizeof handle, &fault);
     step("kill it", answer, GENIE_DONE, 1);
-    answer = genie_kill(DISK, handle, sizeof handle);
+    answer = genie_kill(DISK, handle, sizeof handle, &fault);
     step("kill it once more: the handle is stale", answer, GENIE_STALE, 1);
-    answer = genie_bring_back(DISK, handle[0], &slots, &granules);
+    answer = genie_bring_back(DISK, handle[0], &slots, &granules, &fault);
     step("bring it back: 1 slot, 20 granules", answer, GENIE_DONE, slots == 1 && granules == 20);
-    answer = genie_bring_back(DISK, handle[0], &slots, &granules);
+    answer = genie_bring_back(DISK, handle[0], &slots, &granules, &fault);
     step("bring it back once more: its slot is in use", answer, GENIE_SLOT_IN_USE, slots == 0 && granules == 0);
-    answer = genie_kill(DISK, handle, sizeof handle);
+    answer = genie_kill(DISK, handle, sizeof handle, &fault);
     step("kill it again: its handle is good once more", answer, GENIE_DONE, 1);
-    answer = genie_count(DISK, &files, &left);
+    answer = genie_count(DISK, &files, &left, &fault);
     step("count: no file, 1,533 granules free", answer, GENIE_DONE, files == 0 && left == BLOCKS * UNITS - 3);
     image[START * GENIE_SECTOR_BYTES + GENIE_SECTOR_BYTES + 0x80] = 0xA2; /* slot 80H is not in use */
-    step("check after a byte of the HIT was damaged", genie_check(DISK), GENIE_INCONSISTENT, 1);
+    answer = genie_check(DISK, &fault);
+    step("check after a byte of the HIT was damaged: slot 80H is at fault", answer, GENIE_FAULT_HIT, fault == 0x80);
     answer = genie_free(DISK, &left, &longest);
     step("free space is told all the same", answer, GENIE_DONE, left == BLOCKS * UNITS - 3 && longest > 0);
-    answer = genie_compare(before, IMAGE_BYTES, BLOCKS, UNITS, START, OPEN_CODE, DISK, 0, told, sizeof told, &which, &kind, &position, &flags);
-    step("compare with it: the second image is refused", answer, GENIE_INCONSISTENT, which == 2 && kind == GENIE_NO_MORE);
+    answer = genie_compare(before, IMAGE_BYTES, BLOCKS, UNITS, START, OPEN_CODE, DISK, 0, told, sizeof told, &which, &kind, &position, &flags, &fault);
+    step("compare with it: the second image is refused, by that slot", answer, GENIE_FAULT_HIT, which == 2 && kind == GENIE_NO_MORE && fault == 0x80);
+    image[START * GENIE_SECTOR_BYTES + GENIE_SECTOR_BYTES + 0x80] = 0;
+    image[START * GENIE_SECTOR_BYTES + START / 5 / UNITS] = 0;
+    answer = genie_count(DISK, &files, &left, &fault);
+    step("count where the GAT marks the directory as free: no slot is at fault", answer, GENIE_FAULT_DIRECTORY_GRANULE, fault == GENIE_NO_SLOT);
 
     free(before);
     free(image);

@@ -27,6 +27,9 @@
  *                         Between calls the caller may set the position (bytes 4 to 7).
  *   checking              whether password codes are tested.
  *   code                  the password code given; any 16-bit number is good.
+ *   fault_slot            every call but genie_free sets it: where the answer is one of 21 to 30 and an entry is at fault, *fault_slot is the entry's
+ *                         slot, 0 to 255; otherwise GENIE_NO_SLOT (256). The entry of slot 32 x row + s is in directory sector s + 2 (counted from the
+ *                         GAT, sector 0) at byte 32 x row. Of several faults the one in the lowest slot is told, and at that slot the first number.
  *
  * REFUSALS, in the order in which they are tested
  */
@@ -44,7 +47,22 @@ extern "C" {
 enum genie_refusal {
     GENIE_DONE = 0,         /* accepted */
     GENIE_GEOMETRY = 1,     /* blocks, units, start or the image's length is not as said above */
-    GENIE_INCONSISTENT = 2, /* the disk is not consistent (directory, names, chains, runs, GAT or HIT contradict each other); never by genie_free */
+    /* 21 to 30: the disk is not consistent; never by genie_free. With the slot of the entry at fault, except where it says "no slot". */
+    GENIE_FAULT_DIRECTORY_LENGTH = 21, /* HIT byte 1FH is not 0, 5, 10, 15 or 20, or the directory passes the end of the disk; no slot */
+    GENIE_FAULT_HIT = 22,   /* the slot's HIT byte is not 0 though its entry is not in use, or is 0 though it is, or is not the hash of its file's name
+                               (not tested of an extension under 25 for being met in no chain, met twice or badly formed) */
+    GENIE_FAULT_NAME = 23,  /* the file's name is not well formed, or bit 5 of the entry's byte 00 is set */
+    GENIE_FAULT_DUPLICATE_NAME = 24, /* a file in a lower slot has the same name */
+    GENIE_FAULT_CHAIN = 25, /* the entry's marker is neither FEH nor FFH, a pair stands behind a block FFH, fewer than four runs stand before a marker
+                               FEH, or the link leads to no extension in use; or the entry is an extension that is met in no file's chain, met twice, or
+                               badly formed (byte 00 not 90H, a wrong link back, no run) */
+    GENIE_FAULT_RUN_OFF_DISK = 26, /* a run of the entry passes the end of the disk, or its first unit is none that a block has */
+    GENIE_FAULT_GAT_BIT = 27, /* a granule of the entry's runs is free in the GAT */
+    GENIE_FAULT_GRANULE_SHARED = 28, /* a granule of the entry's runs is in a run of a lower slot's entry too, or twice in this one's */
+    GENIE_FAULT_SIZE = 29,  /* the file's size is larger than its granules, or its sector count is 0 and its end byte is not; told only where the
+                               file's chain is whole */
+    GENIE_FAULT_DIRECTORY_GRANULE = 30, /* a granule of the directory is in the entry's runs, and its file has no system flag; or, with no slot and after
+                               all slots, a granule of the directory is free in the GAT */
     GENIE_RANGE = 12,       /* a position, record length, level, date or sector (0 to 7,679) is out of range; position + length passes 1,966,080 in
                                a write; the buffer is shorter than the record length; the handle is under 19 bytes; the name buffer of list
                                or compare is under 11 bytes; bring back is given a slot that the directory has not. A handle's three numbers
@@ -65,84 +83,86 @@ enum genie_refusal {
     GENIE_DIRECTORY_FULL = 8 /* fewer permitted slots are free than the call needs */
 };
 
-/* Answers under a refusal: every outgoing number is 0, every lent buffer and the image are as they stood. Three exceptions: look up tells its
+/* Answers under a refusal: every outgoing number is 0, every lent buffer and the image are as they stood. Four exceptions: look up tells its
  * count under refusal 4; a refused open or create leaves 19 zeros in a handle buffer of at least 19 bytes (using that handle is refusal 12);
- * compare says which image it refuses. */
+ * compare says which image it refuses; *fault_slot is the slot at fault, or GENIE_NO_SLOT. */
 
 #define GENIE_HANDLE_BYTES 19
 #define GENIE_NAME_BYTES 11
 #define GENIE_SECTOR_BYTES 256
 #define GENIE_GRANULE_BYTES 1280
 #define GENIE_HIGHEST_POSITION 1966080
+#define GENIE_NO_SLOT 256
 
-/* Check: whether the image is a consistent disk. Refusals 1, 2. (Every other call makes this check first, genie_free excepted.) */
-uint8_t genie_check(const uint8_t *image, size_t image_len, size_t blocks, size_t units, size_t start, uint16_t open_code);
+/* Check: whether the image is a consistent disk. Refusals 1, 21 to 30 with *fault_slot. (Every other call makes this check first and tells the same
+ * number and slot, genie_free excepted.) */
+uint8_t genie_check(const uint8_t *image, size_t image_len, size_t blocks, size_t units, size_t start, uint16_t open_code, size_t *fault_slot);
 
 /* Look up: the slot of the file's first entry in *slot; in *compared how many entries were compared, those whose HIT byte is the name's hash, by
- * rising slot number, the found one included. Under refusal 4 *compared counts them all. Refusals 1, 2, 3, 4. */
+ * rising slot number, the found one included. Under refusal 4 *compared counts them all. Refusals 1, 21 to 30 with *fault_slot, 3, 4. */
 uint8_t genie_look_up(const uint8_t *image, size_t image_len, size_t blocks, size_t units, size_t start, uint16_t open_code,
-                      const uint8_t *name, size_t name_len, size_t *slot, size_t *compared);
+                      const uint8_t *name, size_t name_len, size_t *slot, size_t *compared, size_t *fault_slot);
 
 /* Open: makes a handle with position 0 and the record length given (1 to 256). Its level is 0 if checking is off, the file's main code is
- * open_code, or code is the main code; the file's stored level if code is the worker code only. Refusals 1, 2, 12, 3, 4, 5. */
+ * open_code, or code is the main code; the file's stored level if code is the worker code only. Refusals 1, 21 to 30 with *fault_slot, 12, 3, 4, 5. */
 uint8_t genie_open(const uint8_t *image, size_t image_len, size_t blocks, size_t units, size_t start, uint16_t open_code,
                    const uint8_t *name, size_t name_len, size_t length, bool checking, uint16_t code,
-                   uint8_t *handle, size_t handle_len);
+                   uint8_t *handle, size_t handle_len, size_t *fault_slot);
 
 /* Create: an empty file with that name, date (day 0 to 31, month 0 to 15, year since 1980 0 to 15), record length (1 to 256) and codes, in the first
  * permitted free slot; *old is 0, the handle has level 0. If the file exists nothing changes on the disk: it is opened as by genie_open with
- * main_code as the code given, and *old is 1. The numbers are tested either way. Refusals 1, 2, 12, 3, 5, 8. */
+ * main_code as the code given, and *old is 1. The numbers are tested either way. Refusals 1, 21 to 30 with *fault_slot, 12, 3, 5, 8. */
 uint8_t genie_create(uint8_t *image, size_t image_len, size_t blocks, size_t units, size_t start, uint16_t open_code,
                      const uint8_t *name, size_t name_len, size_t day, size_t month, size_t year, size_t length,
                      uint16_t main_code, uint16_t worker_code, bool checking, size_t *old,
-                     uint8_t *handle, size_t handle_len);
+                     uint8_t *handle, size_t handle_len, size_t *fault_slot);
 
 /* Read record: the file's bytes from the handle's position, as many as its record length, go to the start of the buffer; the rest of the buffer is
- * untouched; the handle's position advances by the record length. Refusals 1, 2, 12, 7, 6, 10. */
+ * untouched; the handle's position advances by the record length. Refusals 1, 21 to 30 with *fault_slot, 12, 7, 6, 10. */
 uint8_t genie_read_record(const uint8_t *image, size_t image_len, size_t blocks, size_t units, size_t start, uint16_t open_code,
-                          uint8_t *handle, size_t handle_len, uint8_t *buffer, size_t buffer_len);
+                          uint8_t *handle, size_t handle_len, uint8_t *buffer, size_t buffer_len, size_t *fault_slot);
 
 /* Read sector: where the file's sector k (0 to 7,679) lies. Its bytes are image[*from] up to, not including, image[*to]: 256 of them, or fewer in the
- * file's last sector. Nothing is copied, the position plays no part and does not move. Refusals 1, 2, 12, 7, 6, 10. */
+ * file's last sector. Nothing is copied, the position plays no part and does not move. Refusals 1, 21 to 30 with *fault_slot, 12, 7, 6, 10. */
 uint8_t genie_read_sector(const uint8_t *image, size_t image_len, size_t blocks, size_t units, size_t start, uint16_t open_code,
-                          const uint8_t *handle, size_t handle_len, size_t k, size_t *from, size_t *to);
+                          const uint8_t *handle, size_t handle_len, size_t k, size_t *from, size_t *to, size_t *fault_slot);
 
 /* Write record: the first bytes of the buffer, as many as the handle's record length, go to the file at the handle's position, and the position
  * advances by that length. Bytes between the old size and the position become zero. Sequential: the size becomes position + length, even if smaller.
  * Not sequential (random): the larger of that and the old size. Exactly the granules that the new size lacks are taken. The file's flag B (worked
- * on) is set. Refusals 1, 2, 12, 7, 6, 11, 9, 8. */
+ * on) is set. Refusals 1, 21 to 30 with *fault_slot, 12, 7, 6, 11, 9, 8. */
 uint8_t genie_write_record(uint8_t *image, size_t image_len, size_t blocks, size_t units, size_t start, uint16_t open_code,
-                           uint8_t *handle, size_t handle_len, bool sequential, const uint8_t *buffer, size_t buffer_len);
+                           uint8_t *handle, size_t handle_len, bool sequential, const uint8_t *buffer, size_t buffer_len, size_t *fault_slot);
 
 /* Allot: takes granules until the file owns those of its sectors 0 to k (k is 0 to 7,679); none if it does. The size does not change.
- * Refusals 1, 2, 12, 7, 6, 11, 9, 8. */
+ * Refusals 1, 21 to 30 with *fault_slot, 12, 7, 6, 11, 9, 8. */
 uint8_t genie_allot(uint8_t *image, size_t image_len, size_t blocks, size_t units, size_t start, uint16_t open_code,
-                    const uint8_t *handle, size_t handle_len, size_t k);
+                    const uint8_t *handle, size_t handle_len, size_t k, size_t *fault_slot);
 
 /* Trim: gives back the granules that the size does not need, the last ones; with the file's flag F (keep space) set nothing changes.
- * Refusals 1, 2, 12, 7, 6. */
+ * Refusals 1, 21 to 30 with *fault_slot, 12, 7, 6. */
 uint8_t genie_trim(uint8_t *image, size_t image_len, size_t blocks, size_t units, size_t start, uint16_t open_code,
-                   const uint8_t *handle, size_t handle_len);
+                   const uint8_t *handle, size_t handle_len, size_t *fault_slot);
 
-/* Kill: the file is gone, its granules and slots are free. The handle stays as it is, and is stale. Refusals 1, 2, 12, 7, 6. */
+/* Kill: the file is gone, its granules and slots are free. The handle stays as it is, and is stale. Refusals 1, 21 to 30 with *fault_slot, 12, 7, 6. */
 uint8_t genie_kill(uint8_t *image, size_t image_len, size_t blocks, size_t units, size_t start, uint16_t open_code,
-                   const uint8_t *handle, size_t handle_len);
+                   const uint8_t *handle, size_t handle_len, size_t *fault_slot);
 
 /* Bring back: the killed file whose first entry is in that slot. It can be done as long as its entries are whole, no file has its name and its
  * granules are free. They are in use again then, as many as *slots and *granules say; nothing else changes, so the file has the entries that it had
- * before the kill, and its bytes are what the granules hold now. Refusals 1, 2, 12, 17, 6, 18, 19, 20. */
+ * before the kill, and its bytes are what the granules hold now. Refusals 1, 21 to 30 with *fault_slot, 12, 17, 6, 18, 19, 20. */
 uint8_t genie_bring_back(uint8_t *image, size_t image_len, size_t blocks, size_t units, size_t start, uint16_t open_code,
-                         size_t slot, size_t *slots, size_t *granules);
+                         size_t slot, size_t *slots, size_t *granules, size_t *fault_slot);
 
 /* List: the file with that number, counted from 0 by rising slot, system files left out. Its name goes to the first 11 bytes of name (a buffer of at
  * least 11 bytes), its size in bytes and the granules it owns to *size and *granules; *more is 1. Past the last file the call is accepted too: *more,
- * *size and *granules are 0, the name buffer is as it stood. Refusals 1, 2, 12. */
+ * *size and *granules are 0, the name buffer is as it stood. Refusals 1, 21 to 30 with *fault_slot, 12. */
 uint8_t genie_list(const uint8_t *image, size_t image_len, size_t blocks, size_t units, size_t start, uint16_t open_code,
-                   size_t number, uint8_t *name, size_t name_len, size_t *size, size_t *granules, size_t *more);
+                   size_t number, uint8_t *name, size_t name_len, size_t *size, size_t *granules, size_t *more, size_t *fault_slot);
 
-/* Count: in *files the files that the listing tells, in *free the granules that are free. Refusals 1, 2. */
+/* Count: in *files the files that the listing tells, in *free the granules that are free. Refusals 1, 21 to 30 with *fault_slot. */
 uint8_t genie_count(const uint8_t *image, size_t image_len, size_t blocks, size_t units, size_t start, uint16_t open_code,
-                    size_t *files, size_t *free);
+                    size_t *files, size_t *free, size_t *fault_slot);
 
 /* Free space: in *free the granules that are free, in *longest how many lie in the longest free stretch, a row of free granules with consecutive
  * numbers, across blocks. Only the GAT sector is looked at, so a disk that is not consistent is answered too: *free then only counts the clear GAT
@@ -169,12 +189,12 @@ enum genie_difference {
  * Where the kind is GENIE_UNLIKE, *position is the first byte position (from 0) where the contents part, or the smaller size if one is a beginning of
  * the other, so the size itself where they are alike; *flags says what differs. Otherwise both are 0. Where a file lies, and how many granules it
  * owns, is no difference; a file that is a system file on either disk is compared by name only. Past the last difference the call is accepted too: *kind
- * is GENIE_NO_MORE, the name buffer is as it stood. *image is 0, or the image that is refused: 1 the first, 2 the second. Refusals 1 and 2 of the first
- * image, then 1 and 2 of the second, then 12. */
+ * is GENIE_NO_MORE, the name buffer is as it stood. *image is 0, or the image that is refused: 1 the first, 2 the second. Refusals 1 and 21 to 30 of
+ * the first image, then of the second, then 12; *fault_slot is a slot of the image refused. */
 uint8_t genie_compare(const uint8_t *first, size_t first_len, size_t blocks, size_t units, size_t start, uint16_t open_code,
                       const uint8_t *second, size_t second_len, size_t blocks2, size_t units2, size_t start2, uint16_t open_code2,
                       size_t number, uint8_t *name, size_t name_len,
-                      size_t *image, size_t *kind, size_t *position, size_t *flags);
+                      size_t *image, size_t *kind, size_t *position, size_t *flags, size_t *fault_slot);
 
 #ifdef __cplusplus
 }

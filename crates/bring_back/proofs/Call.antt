@@ -14,7 +14,7 @@ use Rattle.meaning.specs.Names.{hash, wellFormed}
 use Rattle.meaning.specs.Entries.{inUse, extension, system, nameOf, sizeOf, sectorCount, endByte, entryGranules}
 use Rattle.meaning.specs.Chain.{chainFrom, chain, owned}
 use Rattle.meaning.specs.Consistent.{nameHolds, sizeHolds}
-use Rattle.meaning.specs.Refusals.{first, check, badGeometry, notConsistent}
+use Rattle.meaning.specs.Refusals.{first, check}
 use Rattle.meaning.specs.LookUp.{named}
 use Rattle.meaning.specs.BringBack
 use Rattle.meaning.specs.BringBack.{whole, backEntry, bringBack}

@@ -36,7 +36,7 @@ fn reserve(image: &mut [u8; 30720]) {
     );
 }
 
-// A HIT byte without an entry, and without it again.
+// A HIT byte without an entry, at slot 5 (22), and without it again.
 fn damage(image: &mut [u8; 30720]) {
     image[261] = 7;
 }
@@ -117,7 +117,7 @@ fn creates(image: &mut [u8; 30720]) {
         b"PULS01  DAT",
         f,
         b"create, disk not consistent",
-        2,
+        22,
     );
     repair(image);
     created(
@@ -174,7 +174,7 @@ fn written(image: &mut [u8; 30720], g: Geometry, h: Handle, words: &[u8], should
 fn writes(image: &mut [u8; 30720], h: Handle) {
     written(image, other(), h, b"write, image length not as stated", 1);
     damage(image);
-    written(image, disk(), h, b"write, disk not consistent", 2);
+    written(image, disk(), h, b"write, disk not consistent", 22);
     repair(image);
     written(
         image,
@@ -225,7 +225,7 @@ fn allots(image: &mut [u8; 30720], h: Handle) {
         1,
     );
     damage(image);
-    allotted(image, disk(), h, 0, b"allot, disk not consistent", 2);
+    allotted(image, disk(), h, 0, b"allot, disk not consistent", 22);
     repair(image);
     allotted(image, disk(), h, 7680, b"allot, sector 7,680", 12);
     allotted(image, disk(), elsewhere(h), 0, b"allot, handle stale", 7);
@@ -290,7 +290,7 @@ fn trimmed(image: &mut [u8; 30720], g: Geometry, h: Handle, words: &[u8], should
 fn trims(image: &mut [u8; 30720], h: Handle) {
     trimmed(image, other(), h, b"trim, image length not as stated", 1);
     damage(image);
-    trimmed(image, disk(), h, b"trim, disk not consistent", 2);
+    trimmed(image, disk(), h, b"trim, disk not consistent", 22);
     repair(image);
     trimmed(
         image,
@@ -326,7 +326,7 @@ fn killed(image: &mut [u8; 30720], g: Geometry, h: Handle, words: &[u8], should:
 fn kills(image: &mut [u8; 30720], h: Handle) {
     killed(image, other(), h, b"kill, image length not as stated", 1);
     damage(image);
-    killed(image, disk(), h, b"kill, disk not consistent", 2);
+    killed(image, disk(), h, b"kill, disk not consistent", 22);
     repair(image);
     killed(image, disk(), levelled(h, 8), b"kill, level 8", 12);
     killed(image, disk(), elsewhere(h), b"kill, handle stale", 7);
@@ -355,7 +355,7 @@ fn brings(image: &mut [u8; 30720]) {
         1,
     );
     damage(image);
-    brought(image, disk(), 0x80, b"bring back, disk not consistent", 2);
+    brought(image, disk(), 0x80, b"bring back, disk not consistent", 22);
     repair(image);
     brought(image, disk(), 0x1f, b"bring back, no slot", 12);
     brought(image, disk(), 0x81, b"bring back, slot in use", 17);

@@ -1,5 +1,5 @@
-// The check on small disks, good and damaged: one damage for each clause of "A consistent disk". Each line tells what was done and what the
-// check answers; a wrong answer is marked.
+// The check on small disks, good and damaged: one damage for each clause of "A consistent disk". Each line tells what was done, what the
+// check answers and, where there is one, the slot of the fault; a wrong answer is marked.
 use meaning::Geometry;
 ghost use Prim.Native.Nat.{_<_};
 
@@ -13,27 +13,28 @@ fn small() -> Geometry {
     }
 }
 
-fn told(image: &[u8], g: Geometry, words: &[u8], should: u8) {
-    let r = consistency::check(image, g);
+// The number and the slot that the check should tell; slot 256 is none.
+fn told(image: &[u8], g: Geometry, words: &[u8], number: u8, slot: usize) {
+    let f = diagnosis::check(image, g);
     io::write_all(1, words);
-    if r == 0 {
-        io::write_all(1, b": 0");
+    io::write_all(1, b": ");
+    io::print_decimal(1, f.number as u64);
+    if f.slot < diagnosis::NO_SLOT {
+        io::write_all(1, b" slot ");
+        io::print_decimal(1, f.slot as u64);
     }
-    if r == 1 {
-        io::write_all(1, b": 1");
-    }
-    if r == 2 {
-        io::write_all(1, b": 2");
-    }
-    if r != should {
+    if f.number != number {
         io::write_all(1, b" WRONG");
+    }
+    if f.slot != slot {
+        io::write_all(1, b" WRONG SLOT");
     }
     io::write_all(1, b"\n");
 }
 
 // The disk as it is.
-fn whole(image: &[u8; 20480], words: &[u8], should: u8) {
-    told(image, small(), words, should);
+fn whole(image: &[u8; 20480], words: &[u8], number: u8, slot: usize) {
+    told(image, small(), words, number, slot);
 }
 
 fn other_geometries(image: &[u8; 20480]) {
@@ -41,12 +42,12 @@ fn other_geometries(image: &[u8; 20480]) {
 }
 
 // The disk with one byte changed, and back again.
-fn with_byte(image: &mut [u8; 20480], at: usize, v: u8, words: &[u8], should: u8)
+fn with_byte(image: &mut [u8; 20480], at: usize, v: u8, words: &[u8], number: u8, slot: usize)
     requires { ⌜ at < 20480 ⌝ }
 {
     let was = image[at];
     image[at] = v;
-    told(image, small(), words, should);
+    told(image, small(), words, number, slot);
     image[at] = was;
 }
 
@@ -58,13 +59,14 @@ fn with_bytes(
     also: usize,
     w: u8,
     words: &[u8],
-    should: u8,
+    number: u8,
+    slot: usize,
 )
     requires { ⌜ (at < 20480) × (also < 20480) ⌝ }
 {
     let was = image[at];
     image[at] = v;
-    with_byte(image, also, w, words, should);
+    with_byte(image, also, w, words, number, slot);
     image[at] = was;
 }
 
@@ -113,7 +115,13 @@ fn geometries(image: &[u8]) {
     if image.len() < 1 {
         return;
     }
-    told(&image[1..], small(), b"an image one byte short", 1);
+    told(
+        &image[1..],
+        small(),
+        b"an image one byte short",
+        1,
+        diagnosis::NO_SLOT,
+    );
     told(
         image,
         Geometry {
@@ -124,6 +132,7 @@ fn geometries(image: &[u8]) {
         },
         b"no block",
         1,
+        diagnosis::NO_SLOT,
     );
     told(
         image,
@@ -135,6 +144,7 @@ fn geometries(image: &[u8]) {
         },
         b"9 units",
         1,
+        diagnosis::NO_SLOT,
     );
     told(
         image,
@@ -146,6 +156,7 @@ fn geometries(image: &[u8]) {
         },
         b"the largest numbers",
         1,
+        diagnosis::NO_SLOT,
     );
     told(
         image,
@@ -157,6 +168,7 @@ fn geometries(image: &[u8]) {
         },
         b"a start that is no multiple of 5",
         1,
+        diagnosis::NO_SLOT,
     );
     told(
         image,
@@ -168,6 +180,7 @@ fn geometries(image: &[u8]) {
         },
         b"5 sectors behind the start",
         1,
+        diagnosis::NO_SLOT,
     );
     told(
         image,
@@ -178,26 +191,29 @@ fn geometries(image: &[u8]) {
             anyone: 0,
         },
         b"one unit a block on the same disk",
-        2,
+        26,
+        0,
     );
 }
 
 // Damages to the HIT and the GAT.
 fn maps(image: &mut [u8; 20480]) {
-    with_byte(image, 287, 3, b"length byte 3", 2);
-    with_byte(image, 287, 25, b"length byte 25", 2);
-    with_byte(image, 260, 7, b"a HIT byte without an entry", 2);
-    with_byte(image, 259, 0, b"an entry without a HIT byte", 2);
-    with_byte(image, 259, 0x71, b"a HIT byte that is not the hash", 2);
+    with_byte(image, 287, 3, b"length byte 3", 21, diagnosis::NO_SLOT);
+    with_byte(image, 287, 25, b"length byte 25", 21, diagnosis::NO_SLOT);
+    with_byte(image, 260, 7, b"a HIT byte without an entry", 22, 4);
+    with_byte(image, 259, 0, b"an entry without a HIT byte", 22, 3);
+    with_byte(image, 259, 0x71, b"a HIT byte that is not the hash", 22, 3);
     with_byte(
         image,
         257,
         0xc0,
         b"an extension's HIT byte that is not the hash",
-        2,
+        22,
+        1,
     );
-    with_byte(image, 0, 0x01, b"a directory granule that is clear", 2);
-    with_byte(image, 2, 0x01, b"a granule of a run that is clear", 2);
+    // it is in a run of DIR/SYS, and slots come before the directory
+    with_byte(image, 0, 0x01, b"a directory granule that is clear", 27, 2);
+    with_byte(image, 2, 0x01, b"a granule of a run that is clear", 27, 1);
 }
 
 // Damages to a primary entry.
@@ -209,24 +225,63 @@ fn files(image: &mut [u8; 20480]) {
         259,
         0x77,
         b"a name that is not well formed",
-        2,
+        23,
+        3,
     );
-    with_byte(image, 1280, 0x30, b"bit 5 set", 2);
-    with_byte(image, 1283, 1, b"n = 0 with e = 1", 2);
-    with_byte(image, 532, 26, b"a size over the granules owned", 2);
+    with_byte(image, 1280, 0x30, b"bit 5 set", 23, 3);
+    with_byte(image, 1283, 1, b"n = 0 with e = 1", 29, 3);
+    with_byte(image, 532, 26, b"a size over the granules owned", 29, 0);
     with_byte(
         image,
         1024,
         0x10,
         b"the directory in a file without the system flag",
+        30,
         2,
     );
-    with_byte(image, 541, 0x00, b"a granule in two runs of one entry", 2);
-    with_byte(image, 534, 0x08, b"a run behind the disk", 2);
-    with_bytes(image, 534, 0x07, 535, 0x21, b"a run over the disk's end", 2);
-    with_byte(image, 535, 0x40, b"a first unit that the block has not", 2);
-    with_byte(image, 1304, 0x06, b"a run behind a pair that is none", 2);
-    with_byte(image, 542, 0xfd, b"a marker that is neither FEH nor FFH", 2);
+    with_byte(
+        image,
+        541,
+        0x00,
+        b"a granule in two runs of one entry",
+        28,
+        0,
+    );
+    with_byte(image, 534, 0x08, b"a run behind the disk", 26, 0);
+    with_bytes(
+        image,
+        534,
+        0x07,
+        535,
+        0x21,
+        b"a run over the disk's end",
+        26,
+        0,
+    );
+    with_byte(
+        image,
+        535,
+        0x40,
+        b"a first unit that the block has not",
+        26,
+        0,
+    );
+    with_byte(
+        image,
+        1304,
+        0x06,
+        b"a run behind a pair that is none",
+        25,
+        3,
+    );
+    with_byte(
+        image,
+        542,
+        0xfd,
+        b"a marker that is neither FEH nor FFH",
+        25,
+        0,
+    );
 }
 
 // Damages to a chain.
@@ -236,41 +291,138 @@ fn chains(image: &mut [u8; 20480]) {
         768,
         0x98,
         b"an extension's byte 00 that is not 90H",
-        2,
+        25,
+        1,
     );
-    with_byte(image, 769, 2, b"an extension that points back elsewhere", 2);
-    with_byte(image, 790, 0xff, b"an extension without a run", 2);
-    with_byte(image, 791, 0x00, b"a granule in two runs of one file", 2);
+    with_byte(
+        image,
+        769,
+        2,
+        b"an extension that points back elsewhere",
+        25,
+        1,
+    );
+    with_byte(image, 790, 0xff, b"an extension without a run", 25, 1);
+    with_byte(
+        image,
+        791,
+        0x00,
+        b"a granule in two runs of one file",
+        28,
+        1,
+    );
+    with_bytes(
+        image,
+        1302,
+        0x01,
+        1303,
+        0x00,
+        b"a granule in runs of two files",
+        28,
+        3,
+    );
+    // slot 1 comes before slot 2, which has the granule too
     with_bytes(
         image,
         790,
         0x00,
         791,
         0x00,
-        b"a granule in runs of two files",
-        2,
+        b"a granule of the directory in runs of two files",
+        30,
+        1,
     );
-    with_byte(image, 540, 0xff, b"three runs before an extension", 2);
-    with_byte(image, 542, 0xff, b"an extension in no chain", 2);
-    with_byte(image, 543, 0x08, b"a link to a place that is no slot", 2);
-    with_byte(image, 543, 0x03, b"a link to a primary entry", 2);
-    with_byte(image, 543, 0x04, b"a link to an entry not in use", 2);
+    with_byte(image, 540, 0xff, b"three runs before an extension", 25, 0);
+    with_byte(image, 542, 0xff, b"an extension in no chain", 25, 1);
+    with_byte(
+        image,
+        543,
+        0x08,
+        b"a link to a place that is no slot",
+        25,
+        0,
+    );
+    with_byte(image, 543, 0x03, b"a link to a primary entry", 25, 0);
+    with_byte(image, 543, 0x04, b"a link to an entry not in use", 25, 0);
 }
 
 // What is not tested.
 fn untested(image: &mut [u8; 20480]) {
-    with_byte(image, 3, 0x03, b"a granule reserved", 0);
-    with_byte(image, 2, 0xff, b"GAT bits past the last unit", 0);
-    with_byte(image, 8, 0xff, b"a GAT byte past the last block", 0);
-    with_byte(image, 264, 9, b"a HIT place that is no slot", 0);
-    with_byte(image, 1536, 0x8f, b"an entry not in use", 0);
-    with_byte(image, 799, 9, b"a link behind FFH", 0);
-    with_byte(image, 793, 9, b"the second byte of a pair that is none", 0);
-    with_byte(image, 770, 9, b"an extension's byte 02", 0);
-    with_byte(image, 1280, 0x1f, b"invisible, level 7", 0);
-    with_byte(image, 1281, 0xff, b"F, E, B and the day", 0);
-    with_byte(image, 1300, 0, b"n = 0 with e = 0", 0);
-    with_byte(image, 532, 25, b"a size that fills the granules owned", 0);
+    with_byte(image, 3, 0x03, b"a granule reserved", 0, diagnosis::NO_SLOT);
+    with_byte(
+        image,
+        2,
+        0xff,
+        b"GAT bits past the last unit",
+        0,
+        diagnosis::NO_SLOT,
+    );
+    with_byte(
+        image,
+        8,
+        0xff,
+        b"a GAT byte past the last block",
+        0,
+        diagnosis::NO_SLOT,
+    );
+    with_byte(
+        image,
+        264,
+        9,
+        b"a HIT place that is no slot",
+        0,
+        diagnosis::NO_SLOT,
+    );
+    with_byte(
+        image,
+        1536,
+        0x8f,
+        b"an entry not in use",
+        0,
+        diagnosis::NO_SLOT,
+    );
+    with_byte(image, 799, 9, b"a link behind FFH", 0, diagnosis::NO_SLOT);
+    with_byte(
+        image,
+        793,
+        9,
+        b"the second byte of a pair that is none",
+        0,
+        diagnosis::NO_SLOT,
+    );
+    with_byte(
+        image,
+        770,
+        9,
+        b"an extension's byte 02",
+        0,
+        diagnosis::NO_SLOT,
+    );
+    with_byte(
+        image,
+        1280,
+        0x1f,
+        b"invisible, level 7",
+        0,
+        diagnosis::NO_SLOT,
+    );
+    with_byte(
+        image,
+        1281,
+        0xff,
+        b"F, E, B and the day",
+        0,
+        diagnosis::NO_SLOT,
+    );
+    with_byte(image, 1300, 0, b"n = 0 with e = 0", 0, diagnosis::NO_SLOT);
+    with_byte(
+        image,
+        532,
+        25,
+        b"a size that fills the granules owned",
+        0,
+        diagnosis::NO_SLOT,
+    );
 }
 
 // A second file LEER at slot 4.
@@ -282,8 +434,17 @@ fn twice(image: &mut [u8; 20480]) {
         0,
         32,
     );
-    with_byte(image, 260, 0x70, b"two files of one name", 2);
-    with_bytes(image, 1545, 0x41, 260, 0xc0, b"two files of two names", 0);
+    with_byte(image, 260, 0x70, b"two files of one name", 24, 4);
+    with_bytes(
+        image,
+        1545,
+        0x41,
+        260,
+        0xc0,
+        b"two files of two names",
+        0,
+        diagnosis::NO_SLOT,
+    );
 }
 
 // An extension at slot 4 that is its own next, with granules 8 to 11.
@@ -297,14 +458,14 @@ fn ring(image: &mut [u8; 20480]) {
         0,
         32,
     );
-    with_byte(image, 260, 0xc1, b"a ring of extensions", 2);
+    with_byte(image, 260, 0xc1, b"a ring of extensions", 25, 4);
 }
 
 fn main() {
     let mut image = [0u8; 20480];
-    whole(&image, b"an empty image", 2);
+    whole(&image, b"an empty image", 30, diagnosis::NO_SLOT);
     fill(&mut image);
-    whole(&image, b"the good disk", 0);
+    whole(&image, b"the good disk", 0, diagnosis::NO_SLOT);
     other_geometries(&image);
     maps(&mut image);
     files(&mut image);

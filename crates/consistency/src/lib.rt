@@ -1,4 +1,4 @@
-// The check of a whole disk: geometry and image length first, then every clause of "A consistent disk".
+// The check of a whole disk whose geometry and image length fit: every clause of "A consistent disk".
 use meaning::Geometry;
 ghost use mathlib.Core.Path.{_≡_};
 ghost use mathlib.Core.Bool.{true, not, _||_};
@@ -11,13 +11,12 @@ ghost use Rattle.meaning.specs.Names.{hash, wellFormed};
 ghost use Rattle.meaning.specs.Entries.{primary, nameOf, endByte};
 ghost use Rattle.meaning.specs.Chain.{chain, owned, files};
 ghost use Rattle.meaning.specs.Consistent.{lengthHolds, namesDiffer, consistent};
-ghost use Rattle.meaning.specs.Refusals.{check};
 ghost use Rattle.layout.specs.Room.{Room, Slot};
 ghost use Rattle.walk.specs.Walk.{Place};
 ghost use Rattle.consistency.specs.Slots.{Fits, least, countHolds, nameFits, FileSeen, Seen, rowSlots, metAt};
 
 // Whether the 1FH byte is allowed and the directory fits the image.
-fn length_holds(image: &[u8], g: Geometry) -> bool
+pub fn length_holds(image: &[u8], g: Geometry) -> bool
     requires { ⌜ Fits g (now image) ⌝ }
     ensures { λ r. ⌜ r ≡ lengthHolds g (now (image .entry)) ⌝ }
 {
@@ -226,17 +225,4 @@ pub fn consistent(image: &[u8], g: Geometry) -> bool
         return false;
     }
     names::names_differ(image, g)
-}
-
-// The check of a whole disk: 0, 1 where the geometry or the image's length does not fit, 2 where the disk is not consistent.
-pub fn check(image: &[u8], g: Geometry) -> u8
-    ensures { λ r. ⌜ r ≡ check g (now (image .entry)) ⌝ }
-{
-    if !layout::fits_geometry(image, g) {
-        return 1;
-    }
-    if !consistent(image, g) {
-        return 2;
-    }
-    0
 }

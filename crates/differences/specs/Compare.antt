@@ -113,8 +113,8 @@ module _ (g : Geometry) (d : List ℕ) (g′ : Geometry) (d′ : List ℕ) where
   unfoldable pub differences : List Difference
   differences = keep isOne (map at′ merged)
 
-  -- One difference is told a call, by its running number from 0, and past the last the answer is "no more". Refusals: 1 and 2, each naming the
-  -- image, the first's before the second's.
+  -- One difference is told a call, by its running number from 0, and past the last the answer is "no more". Refusals: 1 and 2 (told as 21 to
+  -- 30, §2), each naming the image, the first's before the second's.
   unfoldable pub compare : ℕ → Difference
   compare i =
       let no = check g d in let no′ = check g′ d′ in

@@ -123,8 +123,8 @@ second-only : (compare three abc three pair 0 ≡ nameOnly puls 2) × (compare t
 unfolding seen
 second-only = (refl, refl)
 
--- Refusals name the image, the first's before the second's.
-refused : (compare three bad three bad 0 ≡ tellsNone 2 1) × (compare three abc three bad 0 ≡ tellsNone 2 2) × (compare three bad two abc 0 ≡ tellsNone 2 1)
+-- Refusals name the image, the first's before the second's: 22, a HIT byte without an entry, and 1.
+refused : (compare three bad three bad 0 ≡ tellsNone 22 1) × (compare three abc three bad 0 ≡ tellsNone 22 2) × (compare three bad two abc 0 ≡ tellsNone 22 1)
     × (compare three (0 ∷ []) three bad 0 ≡ tellsNone 1 1) × (compare three abc three (0 ∷ []) 0 ≡ tellsNone 1 2)
 unfolding seen
 refused = (refl, refl, refl, refl, refl)

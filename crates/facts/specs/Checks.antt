@@ -41,6 +41,6 @@ start-too-late : check (disk 4 3 55) sample ≡ 1
 unfolding opened
 start-too-late = refl
 
-last-start : check (disk 4 3 50) sample ≡ 2
+last-start : check (disk 4 3 50) sample ≡ 30
 unfolding opened
 last-start = refl

@@ -38,7 +38,7 @@ look-up-of-a-short-name : lookUp three sample (0x50 ∷ replicate 9 0x20) ≡ re
 unfolding opened
 look-up-of-a-short-name = refl
 
-look-up-refused : lookUp three broken puls ≡ record { number = 2; slot = 0; compared = 0 }
+look-up-refused : lookUp three broken puls ≡ record { number = 22; slot = 0; compared = 0 }
 unfolding opened
 look-up-refused = refl
 

@@ -26,7 +26,7 @@ no-more : list three sample 2 ≡ noFile 0
 unfolding opened
 no-more = refl
 
-list-refused : list three broken 0 ≡ noFile 2
+list-refused : list three broken 0 ≡ noFile 22
 unfolding opened
 list-refused = refl
 
@@ -39,7 +39,7 @@ counts-of-flagged : counts three flagged ≡ record { number = 0; files = 1; fre
 unfolding opened
 counts-of-flagged = refl
 
-counts-refused : counts three broken ≡ record { number = 2; files = 0; free = 0 }
+counts-refused : counts three broken ≡ record { number = 22; files = 0; free = 0 }
 unfolding opened
 counts-refused = refl
 

@@ -1,5 +1,6 @@
 -- The search, slot by slot, and the refusals of look up.
 use mathlib.Core.Path.{_≡_, refl, sym, ap, _∙_}
+use mathlib.Core.Logic.{_⊎_, inl, inr}
 use mathlib.Core.List.{List, [], _∷_, _++_}
 use mathlib.Core.Bool.{Bool, true, false, not, cond, _&&_}
 use Prim.Native.Nat.{ℕ, zero, suc, _+_, _-_, _*_, _/_, _%_, _≤_, _<_}
@@ -12,9 +13,11 @@ use Rattle.meaning.specs.Lists.{keep, has, firstOr}
 use Rattle.meaning.specs.Layout.{hit, slots, directorySectors}
 use Rattle.meaning.specs.Names.{hash}
 use Rattle.meaning.specs.LookUp.{candidates, carries, comparedIn, named, lookUp, lookUpRefusals}
-use Rattle.meaning.specs.Refusals.{first, accepted, check, badGeometry, notConsistent}
+use Rattle.meaning.specs.Refusals.{first, accepted, check, faultNumbers, diskRefusals}
 use Rattle.meaning.specs.declared.LookedUp.{LookedUp}
 use Rattle.meaning.specs.declared.Geometry.{Geometry}
+use Rattle.laws.specs.Members
+use Rattle.laws.specs.First.{first-in}
 use Rattle.layout.proofs.Lists.{keep-yes, keep-no, first-hit, first-skip, first-none}
 use Rattle.handle.proofs.Laws.{check-stop}
 use Rattle.find.specs.Found.{Finds}
@@ -123,20 +126,22 @@ module _ (g : Geometry) (d n : List ℕ) where
   finds-one {r} f h = f .slot ∙ ap (λ (b : Bool). cond b (r .slot ∷ []) []) (not-false (r .is) h)
 
 module _ (g : Geometry) (d : List ℕ) where
-  -- the check answers 0, 1 or 2
-  check-low : check g d ≤ 2
-  unfolding check first
-  check-low = by (badGeometry g d .1) (notConsistent g d .1)
+  -- the check answers 0, 1 or 21 to 30
+  not-missing : check g d ≡ 4 → ⊥
+  unfolding check
+  not-missing e = zero-or (Members.in-cons (first-in (diskRefusals g d [])))
     where
-      by : (a b : Bool) → first ((1, a) ∷ (2, b) ∷ []) ≤ 2
-      by true b = omega arith
-      by false true = omega arith
-      by false false = omega arith
+      one-or : (check g d ≡ 1) ⊎ Members.In (check g d) faultNumbers → ⊥
+      one-or (inl q) = omega (arith, e, q)
+      one-or (inr i) = let k = Members.count-in (check g d) 21 10 i in omega (arith, e, k)
 
-  -- refused under 1 or 2: no slot, no count
+      zero-or : (check g d ≡ 0) ⊎ Members.In (check g d) (1 ∷ faultNumbers) → ⊥
+      zero-or (inl q) = omega (arith, e, q)
+      zero-or (inr i) = one-or (Members.in-cons i)
+
+  -- refused under 1 or 21 to 30: no slot, no count
   pub told-stop : (n : List ℕ) {no : ℕ} → no ≡ check g d → (no ≡ 0 → ⊥)
       → _≡_ {A = LookedUp} (record { number = no; slot = 0; compared = 0 }) (lookUp g d n)
   told-stop n {no} e z =
-      let l = check-low in
       told g d n (check-stop g d _ e z) (ap (λ (b : Bool). cond b (firstOr 0 (named g d n)) 0) (ne-eqb no 0 z))
-      (simp (ne-eqb no 0 z, ne-eqb no 4 (λ q. omega arith)))
+      (simp (ne-eqb no 0 z, ne-eqb no 4 (λ q. not-missing (sym e ∙ q))))

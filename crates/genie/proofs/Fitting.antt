@@ -23,6 +23,7 @@ use Rattle.meaning.specs.declared.Handle.{Handle}
 use Rattle.meaning.specs.declared.NewFile.{NewFile}
 use Rattle.meaning.specs.declared.Mode.{Mode}
 use Rattle.layout.proofs.Laws.{well-length}
+use Rattle.handle.proofs.Laws.{ownRow}
 use Rattle.layout.proofs.Lists.{and-l, and-r, all-at, first-at}
 use Rattle.genie.specs.Codec.{Fits}
 use Rattle.handle.proofs.Laws.{length-range}
@@ -88,7 +89,7 @@ module _ (g : Geometry) (d : List ℕ) where
       by true e =
           let t : (k : ℕ) → getD (openRefusals g d n len checking code) k (0, false) .1 ≡ false
           = λ k. first-at (openRefusals g d n len checking code) (eqb-true _ 0 e) refl k in
-          opened-fits n len checking code (not-false _ (t 3)) (length-range len (not-false _ (t 2)) .1)
+          opened-fits n len checking code (not-false _ (t (ownRow 1))) (length-range len (not-false _ (t (ownRow 0))) .1)
       by false e = zeros-fit
 
   -- create, refused or accepted
@@ -102,8 +103,8 @@ module _ (g : Geometry) (d : List ℕ) where
       by true e new =
           let t : (k : ℕ) → getD (createRefusals g d n f checking) k (0, false) .1 ≡ false
           = λ k. first-at (createRefusals g d n f checking) (eqb-true _ 0 e) refl k in
-          let l = length-range (f .len) (all-at _ (not-false _ (t 2)) 3) .1 in
-          either new (not-false _ (t 3)) l
+          let l = length-range (f .len) (all-at _ (not-false _ (t (ownRow 0))) 3) .1 in
+          either new (not-false _ (t (ownRow 1))) l
         where
           either : (new : Bool) → wellFormed n ≡ true → f .len ≤ 256
               → Fits (cond new (record { slot = newSlot g d; name = n; at = 0; len = f .len; level = 0 })
@@ -127,9 +128,9 @@ module _ (g : Geometry) (d : List ℕ) where
   pub read-fits : (h : Handle) (b : List ℕ) → Fits h → Fits (readRecord g d h b .0 .handle)
   unfolding readRecord
   read-fits h b f =
-      either-fits _ h _ f (λ e. moved-fits h f (all-at _ (not-false _ (first-at (readRefusals g d h (length b)) (eqb-true _ 0 e) refl 2)) 0))
+      either-fits _ h _ f (λ e. moved-fits h f (all-at _ (not-false _ (first-at (readRefusals g d h (length b)) (eqb-true _ 0 e) refl (ownRow 0))) 0))
 
   pub write-fits : (m : Mode) (h : Handle) (b : List ℕ) → Fits h → Fits (writeRecord g d m h b .0 .handle)
   unfolding writeRecord
   write-fits m h b f =
-      either-fits _ h _ f (λ e. moved-fits h f (all-at _ (not-false _ (first-at (writeRefusals g d m h (length b)) (eqb-true _ 0 e) refl 2)) 0))
+      either-fits _ h _ f (λ e. moved-fits h f (all-at _ (not-false _ (first-at (writeRefusals g d m h (length b)) (eqb-true _ 0 e) refl (ownRow 0))) 0))

@@ -1,3 +1,4 @@
 pub mod Laws
 pub mod Fitting
 pub mod Compared
+pub mod Slot

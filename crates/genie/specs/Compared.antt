@@ -18,7 +18,7 @@ flagsOf x = cond (x .size) 1 0 + cond (x .date) 2 0 + cond (x .other) 4 0 + cond
 unfoldable pub tellsDifference : List ℕ → Difference → ℕ × ℕ × ℕ × ℕ × ℕ × List ℕ
 tellsDifference b x = (x .number, x .image, x .kind, x .at, flagsOf x, cond (eqb (x .kind) 0) b (sets b 0 (x .name)))
 
--- A name buffer under 11 bytes is 12, after 1 and 2 of both images, and names neither.
+-- A name buffer under 11 bytes is 12, after 1 and the faults of both images, and names neither.
 unfoldable pub shortOf : ℕ → ℕ → List ℕ → ℕ × ℕ × ℕ × ℕ × ℕ × List ℕ
 shortOf m n b = cond (accepted m) (cond (accepted n) (12, 0, 0, 0, 0, b) (n, 2, 0, 0, 0, b)) (m, 1, 0, 0, 0, b)
 

@@ -5,7 +5,7 @@ use mathlib.Core.List.{List, [], _∷_}
 use lib.Dec.{ltb}
 use lib.ListN.{length}
 use lib.Seq.{sets}
-use Rattle.meaning.specs.Refusals.{first, accepted, badGeometry, notConsistent}
+use Rattle.meaning.specs.Refusals.{first, accepted, diskRefusals}
 use Rattle.meaning.specs.LookUp.{lookUp}
 use Rattle.meaning.specs.Open.{open′}
 use Rattle.meaning.specs.Create.{create}
@@ -50,7 +50,7 @@ told b = cond b 1 0
 
 -- "A handle under 19 bytes is 12; so is the listing's outgoing name buffer under 11 bytes", in the table's order.
 unfoldable pub tooShort : Geometry → List ℕ → ℕ
-tooShort g d = first (badGeometry g d ∷ notConsistent g d ∷ (12, true) ∷ [])
+tooShort g d = first (diskRefusals g d ((12, true) ∷ []))
 
 -- so for a slice of at least n bytes, and so for a shorter one
 abbrev pub long : {A : Type 0} → ℕ → List ℕ → A → A → A
@@ -91,7 +91,7 @@ abbrev pub spaces : Space → ℕ × ℕ × ℕ
 spaces s = (s .number, s .free, s .longest)
 
 module _ (g : Geometry) (d : List ℕ) where
-  -- slot, compared. "look up's count apart": under 4 it is told, and 0 under 1, 2 and 3.
+  -- slot, compared. "look up's count apart": under 4 it is told, and 0 under 1, 2 (21 to 30) and 3.
   abbrev pub exportedLookUp : List ℕ → ℕ × ℕ × ℕ
   exportedLookUp n = looks (lookUp g d n)
 

@@ -1,3 +1,4 @@
 pub mod Codec
 pub mod Exports
 pub mod Compared
+pub mod Slot

@@ -14,6 +14,7 @@ ghost use Rattle.genie.specs.Codec.{two, handleOf, stored};
 ghost use Rattle.genie.specs.Exports.{geometry, newFile, modeOf, told, tooShort, exportedLookUp, exportedOpen, exportedCreate, exportedReadRecord, exportedReadSector, exportedWriteRecord, exportedAllot, exportedTrim, exportedKill, exportedBringBack, exportedList, exportedCount, exportedFree};
 ghost use mathlib.Core.Bool.{cond};
 ghost use Rattle.genie.specs.Compared.{flagsOf, exportedCompare};
+ghost use Rattle.genie.specs.Slot.{checkSlot, faultSlot, comparedSlot};
 
 const HANDLE_BYTES: usize = 19;
 
@@ -71,11 +72,26 @@ fn put_handle(b: &mut [u8], h: Handle)
     put_name(b, 8, name);
 }
 
-// 12 for what is lent too short, after 1 and 2.
-fn short_number(image: &[u8], g: Geometry) -> u8
-    ensures { λ r. ⌜ r ≡ tooShort g (now (image .entry)) ⌝ }
+// The slot that goes out beside a number: the fault's, where the number is a fault's. A disk without one is not looked at again. A refused
+// call leaves its image as it stood, so this may come after the call.
+fn slot_of(image: &[u8], g: Geometry, number: u8) -> usize
+    ensures { λ r. ⌜ r ≡ faultSlot number g (now (image .entry)) ⌝ }
+{
+    if number < 21 {
+        return diagnosis::NO_SLOT;
+    }
+    if 30 < number {
+        return diagnosis::NO_SLOT;
+    }
+    diagnosis::check(image, g).slot
+}
+
+// 12 for what is lent too short, after 1 and the faults.
+fn short_number(image: &[u8], g: Geometry, fault_slot: &mut usize) -> u8
+    ensures { λ r. ⌜ (r ≡ tooShort g (now (image .entry))) × (now («fault_slot» .exit) ≡ faultSlot r g (now (image .entry))) ⌝ }
 {
     let number = calls::check(image, g);
+    *fault_slot = slot_of(image, g, number);
     if number != 0 {
         return number;
     }
@@ -107,8 +123,9 @@ pub extern "C" fn genie_check(
     units: usize,
     start: usize,
     open_code: u16,
+    fault_slot: &mut usize,
 ) -> u8
-    ensures { λ r. ⌜ r ≡ check (geometry blocks units start open_code) (now (image .entry)) ⌝ }
+    ensures { λ r. ⌜ (r ≡ check (geometry blocks units start open_code) (now (image .entry))) × (now («fault_slot» .exit) ≡ checkSlot (geometry blocks units start open_code) (now (image .entry))) ⌝ }
 {
     let g = Geometry {
         blocks,
@@ -116,7 +133,9 @@ pub extern "C" fn genie_check(
         start,
         anyone: open_code,
     };
-    calls::check(image, g)
+    let f = diagnosis::check(image, g);
+    *fault_slot = f.slot;
+    f.number
 }
 
 #[no_mangle]
@@ -129,8 +148,9 @@ pub extern "C" fn genie_look_up(
     name: &[u8],
     slot: &mut usize,
     compared: &mut usize,
+    fault_slot: &mut usize,
 ) -> u8
-    ensures { λ r. ⌜ (r, now (slot .exit), now (compared .exit)) ≡ exportedLookUp (geometry blocks units start open_code) (now (image .entry)) (now (name .entry)) ⌝ }
+    ensures { λ r. ⌜ ((r, now (slot .exit), now (compared .exit)) ≡ exportedLookUp (geometry blocks units start open_code) (now (image .entry)) (now (name .entry))) × (now («fault_slot» .exit) ≡ faultSlot r (geometry blocks units start open_code) (now (image .entry))) ⌝ }
 {
     let g = Geometry {
         blocks,
@@ -139,6 +159,7 @@ pub extern "C" fn genie_look_up(
         anyone: open_code,
     };
     let l = calls::look_up(image, g, name);
+    *fault_slot = slot_of(image, g, l.number);
     *slot = l.slot;
     *compared = l.compared;
     l.number
@@ -156,8 +177,9 @@ pub extern "C" fn genie_open(
     checking: bool,
     code: u16,
     handle: &mut [u8],
+    fault_slot: &mut usize,
 ) -> u8
-    ensures { λ r. ⌜ (r, now (handle .exit)) ≡ exportedOpen (geometry blocks units start open_code) (now (image .entry)) (now (name .entry)) length checking code (now (handle .entry)) ⌝ }
+    ensures { λ r. ⌜ ((r, now (handle .exit)) ≡ exportedOpen (geometry blocks units start open_code) (now (image .entry)) (now (name .entry)) length checking code (now (handle .entry))) × (now («fault_slot» .exit) ≡ faultSlot r (geometry blocks units start open_code) (now (image .entry))) ⌝ }
 {
     let g = Geometry {
         blocks,
@@ -166,9 +188,10 @@ pub extern "C" fn genie_open(
         anyone: open_code,
     };
     if handle.len() < HANDLE_BYTES {
-        return short_number(image, g);
+        return short_number(image, g, fault_slot);
     }
     let a = calls::open_file(image, g, name, length, checking, code);
+    *fault_slot = slot_of(image, g, a.number);
     put_handle(handle, a.handle);
     a.number
 }
@@ -190,8 +213,9 @@ pub extern "C" fn genie_create(
     checking: bool,
     old: &mut usize,
     handle: &mut [u8],
+    fault_slot: &mut usize,
 ) -> u8
-    ensures { λ r. ⌜ (r, now (old .exit), now (handle .exit), now (image .exit)) ≡ exportedCreate (geometry blocks units start open_code) (now (image .entry)) (now (name .entry)) (newFile day month year length main worker) checking (now (handle .entry)) ⌝ }
+    ensures { λ r. ⌜ ((r, now (old .exit), now (handle .exit), now (image .exit)) ≡ exportedCreate (geometry blocks units start open_code) (now (image .entry)) (now (name .entry)) (newFile day month year length main worker) checking (now (handle .entry))) × (now («fault_slot» .exit) ≡ faultSlot r (geometry blocks units start open_code) (now (image .entry))) ⌝ }
 {
     let g = Geometry {
         blocks,
@@ -201,7 +225,7 @@ pub extern "C" fn genie_create(
     };
     if handle.len() < HANDLE_BYTES {
         *old = 0;
-        return short_number(image, g);
+        return short_number(image, g, fault_slot);
     }
     let f = NewFile {
         day,
@@ -212,6 +236,7 @@ pub extern "C" fn genie_create(
         worker,
     };
     let c = calls::create(image, g, name, f, checking);
+    *fault_slot = slot_of(image, g, c.number);
     *old = told(c.old);
     put_handle(handle, c.handle);
     c.number
@@ -226,8 +251,9 @@ pub extern "C" fn genie_read_record(
     open_code: u16,
     handle: &mut [u8],
     buffer: &mut [u8],
+    fault_slot: &mut usize,
 ) -> u8
-    ensures { λ r. ⌜ (r, now (handle .exit), now (buffer .exit)) ≡ exportedReadRecord (geometry blocks units start open_code) (now (image .entry)) (now (handle .entry)) (now (buffer .entry)) ⌝ }
+    ensures { λ r. ⌜ ((r, now (handle .exit), now (buffer .exit)) ≡ exportedReadRecord (geometry blocks units start open_code) (now (image .entry)) (now (handle .entry)) (now (buffer .entry))) × (now («fault_slot» .exit) ≡ faultSlot r (geometry blocks units start open_code) (now (image .entry))) ⌝ }
 {
     let g = Geometry {
         blocks,
@@ -236,10 +262,11 @@ pub extern "C" fn genie_read_record(
         anyone: open_code,
     };
     if handle.len() < HANDLE_BYTES {
-        return short_number(image, g);
+        return short_number(image, g, fault_slot);
     }
     let h = handle_of(handle);
     let a = calls::read_record(image, g, h, buffer);
+    *fault_slot = slot_of(image, g, a.number);
     if a.number != 0 {
         return a.number;
     }
@@ -258,8 +285,9 @@ pub extern "C" fn genie_read_sector(
     k: usize,
     from: &mut usize,
     to: &mut usize,
+    fault_slot: &mut usize,
 ) -> u8
-    ensures { λ r. ⌜ (r, now (from .exit), now (to .exit)) ≡ exportedReadSector (geometry blocks units start open_code) (now (image .entry)) (now (handle .entry)) k ⌝ }
+    ensures { λ r. ⌜ ((r, now (from .exit), now (to .exit)) ≡ exportedReadSector (geometry blocks units start open_code) (now (image .entry)) (now (handle .entry)) k) × (now («fault_slot» .exit) ≡ faultSlot r (geometry blocks units start open_code) (now (image .entry))) ⌝ }
 {
     let g = Geometry {
         blocks,
@@ -270,10 +298,11 @@ pub extern "C" fn genie_read_sector(
     if handle.len() < HANDLE_BYTES {
         *from = 0;
         *to = 0;
-        return short_number(image, g);
+        return short_number(image, g, fault_slot);
     }
     let h = handle_of(handle);
     let p = calls::sector_part(image, g, h, k);
+    *fault_slot = slot_of(image, g, p.number);
     *from = p.from;
     *to = p.to;
     p.number
@@ -289,8 +318,9 @@ pub extern "C" fn genie_write_record(
     handle: &mut [u8],
     sequential: bool,
     buffer: &[u8],
+    fault_slot: &mut usize,
 ) -> u8
-    ensures { λ r. ⌜ (r, now (handle .exit), now (image .exit)) ≡ exportedWriteRecord (geometry blocks units start open_code) (now (image .entry)) (now (handle .entry)) sequential (now (buffer .entry)) ⌝ }
+    ensures { λ r. ⌜ ((r, now (handle .exit), now (image .exit)) ≡ exportedWriteRecord (geometry blocks units start open_code) (now (image .entry)) (now (handle .entry)) sequential (now (buffer .entry))) × (now («fault_slot» .exit) ≡ faultSlot r (geometry blocks units start open_code) (now (image .entry))) ⌝ }
 {
     let g = Geometry {
         blocks,
@@ -299,11 +329,12 @@ pub extern "C" fn genie_write_record(
         anyone: open_code,
     };
     if handle.len() < HANDLE_BYTES {
-        return short_number(image, g);
+        return short_number(image, g, fault_slot);
     }
     let h = handle_of(handle);
     let m = mode_of(sequential);
     let a = calls::write_record(image, g, m, h, buffer);
+    *fault_slot = slot_of(image, g, a.number);
     if a.number != 0 {
         return a.number;
     }
@@ -320,8 +351,9 @@ pub extern "C" fn genie_allot(
     open_code: u16,
     handle: &[u8],
     k: usize,
+    fault_slot: &mut usize,
 ) -> u8
-    ensures { λ r. ⌜ (r, now (image .exit)) ≡ exportedAllot (geometry blocks units start open_code) (now (image .entry)) (now (handle .entry)) k ⌝ }
+    ensures { λ r. ⌜ ((r, now (image .exit)) ≡ exportedAllot (geometry blocks units start open_code) (now (image .entry)) (now (handle .entry)) k) × (now («fault_slot» .exit) ≡ faultSlot r (geometry blocks units start open_code) (now (image .entry))) ⌝ }
 {
     let g = Geometry {
         blocks,
@@ -330,10 +362,11 @@ pub extern "C" fn genie_allot(
         anyone: open_code,
     };
     if handle.len() < HANDLE_BYTES {
-        return short_number(image, g);
+        return short_number(image, g, fault_slot);
     }
     let h = handle_of(handle);
     let a = calls::allot(image, g, h, k);
+    *fault_slot = slot_of(image, g, a.number);
     a.number
 }
 
@@ -345,8 +378,9 @@ pub extern "C" fn genie_trim(
     start: usize,
     open_code: u16,
     handle: &[u8],
+    fault_slot: &mut usize,
 ) -> u8
-    ensures { λ r. ⌜ (r, now (image .exit)) ≡ exportedTrim (geometry blocks units start open_code) (now (image .entry)) (now (handle .entry)) ⌝ }
+    ensures { λ r. ⌜ ((r, now (image .exit)) ≡ exportedTrim (geometry blocks units start open_code) (now (image .entry)) (now (handle .entry))) × (now («fault_slot» .exit) ≡ faultSlot r (geometry blocks units start open_code) (now (image .entry))) ⌝ }
 {
     let g = Geometry {
         blocks,
@@ -355,10 +389,11 @@ pub extern "C" fn genie_trim(
         anyone: open_code,
     };
     if handle.len() < HANDLE_BYTES {
-        return short_number(image, g);
+        return short_number(image, g, fault_slot);
     }
     let h = handle_of(handle);
     let a = calls::trim(image, g, h);
+    *fault_slot = slot_of(image, g, a.number);
     a.number
 }
 
@@ -370,8 +405,9 @@ pub extern "C" fn genie_kill(
     start: usize,
     open_code: u16,
     handle: &[u8],
+    fault_slot: &mut usize,
 ) -> u8
-    ensures { λ r. ⌜ (r, now (image .exit)) ≡ exportedKill (geometry blocks units start open_code) (now (image .entry)) (now (handle .entry)) ⌝ }
+    ensures { λ r. ⌜ ((r, now (image .exit)) ≡ exportedKill (geometry blocks units start open_code) (now (image .entry)) (now (handle .entry))) × (now («fault_slot» .exit) ≡ faultSlot r (geometry blocks units start open_code) (now (image .entry))) ⌝ }
 {
     let g = Geometry {
         blocks,
@@ -380,10 +416,11 @@ pub extern "C" fn genie_kill(
         anyone: open_code,
     };
     if handle.len() < HANDLE_BYTES {
-        return short_number(image, g);
+        return short_number(image, g, fault_slot);
     }
     let h = handle_of(handle);
     let a = calls::kill(image, g, h);
+    *fault_slot = slot_of(image, g, a.number);
     a.number
 }
 
@@ -397,8 +434,9 @@ pub extern "C" fn genie_bring_back(
     slot: usize,
     slots: &mut usize,
     granules: &mut usize,
+    fault_slot: &mut usize,
 ) -> u8
-    ensures { λ r. ⌜ (r, now (slots .exit), now (granules .exit), now (image .exit)) ≡ exportedBringBack (geometry blocks units start open_code) (now (image .entry)) slot ⌝ }
+    ensures { λ r. ⌜ ((r, now (slots .exit), now (granules .exit), now (image .exit)) ≡ exportedBringBack (geometry blocks units start open_code) (now (image .entry)) slot) × (now («fault_slot» .exit) ≡ faultSlot r (geometry blocks units start open_code) (now (image .entry))) ⌝ }
 {
     let g = Geometry {
         blocks,
@@ -407,6 +445,7 @@ pub extern "C" fn genie_bring_back(
         anyone: open_code,
     };
     let b = calls::bring_back(image, g, slot);
+    *fault_slot = slot_of(image, g, b.number);
     *slots = b.slots;
     *granules = b.granules;
     b.number
@@ -424,8 +463,9 @@ pub extern "C" fn genie_list(
     size: &mut usize,
     granules: &mut usize,
     more: &mut usize,
+    fault_slot: &mut usize,
 ) -> u8
-    ensures { λ r. ⌜ (r, now (size .exit), now (granules .exit), now (more .exit), now (name .exit)) ≡ exportedList (geometry blocks units start open_code) (now (image .entry)) number (now (name .entry)) ⌝ }
+    ensures { λ r. ⌜ ((r, now (size .exit), now (granules .exit), now (more .exit), now (name .exit)) ≡ exportedList (geometry blocks units start open_code) (now (image .entry)) number (now (name .entry))) × (now («fault_slot» .exit) ≡ faultSlot r (geometry blocks units start open_code) (now (image .entry))) ⌝ }
 {
     let g = Geometry {
         blocks,
@@ -437,9 +477,10 @@ pub extern "C" fn genie_list(
         *size = 0;
         *granules = 0;
         *more = 0;
-        return short_number(image, g);
+        return short_number(image, g, fault_slot);
     }
     let l = calls::list(image, g, number);
+    *fault_slot = slot_of(image, g, l.number);
     *size = l.size;
     *granules = l.granules;
     if !l.more {
@@ -461,8 +502,9 @@ pub extern "C" fn genie_count(
     open_code: u16,
     files: &mut usize,
     free: &mut usize,
+    fault_slot: &mut usize,
 ) -> u8
-    ensures { λ r. ⌜ (r, now (files .exit), now (free .exit)) ≡ exportedCount (geometry blocks units start open_code) (now (image .entry)) ⌝ }
+    ensures { λ r. ⌜ ((r, now (files .exit), now (free .exit)) ≡ exportedCount (geometry blocks units start open_code) (now (image .entry))) × (now («fault_slot» .exit) ≡ faultSlot r (geometry blocks units start open_code) (now (image .entry))) ⌝ }
 {
     let g = Geometry {
         blocks,
@@ -471,6 +513,7 @@ pub extern "C" fn genie_count(
         anyone: open_code,
     };
     let c = calls::counts(image, g);
+    *fault_slot = slot_of(image, g, c.number);
     *files = c.files;
     *free = c.free;
     c.number
@@ -517,6 +560,23 @@ fn flags_of(x: Difference) -> usize
     flag(x.size, 1) + flag(x.date, 2) + flag(x.other, 4) + flag(x.contents, 8)
 }
 
+// The slot that goes out beside compare's number: of the image that the refusal names.
+fn compared_slot(
+    first: &[u8],
+    g: Geometry,
+    second: &[u8],
+    h: Geometry,
+    image: usize,
+    number: u8,
+) -> usize
+    ensures { λ r. ⌜ r ≡ comparedSlot image number g (now (first .entry)) h (now (second .entry)) ⌝ }
+{
+    if image == 2 {
+        return slot_of(second, h, number);
+    }
+    slot_of(first, g, number)
+}
+
 #[no_mangle]
 pub extern "C" fn genie_compare(
     first: &[u8],
@@ -535,8 +595,9 @@ pub extern "C" fn genie_compare(
     kind: &mut usize,
     position: &mut usize,
     flags: &mut usize,
+    fault_slot: &mut usize,
 ) -> u8
-    ensures { λ r. ⌜ (r, now (image .exit), now (kind .exit), now (position .exit), now (flags .exit), now (name .exit)) ≡ exportedCompare (geometry blocks units start open_code) (now (first .entry)) (geometry blocks2 units2 start2 open_code2) (now (second .entry)) number (now (name .entry)) ⌝ }
+    ensures { λ r. ⌜ ((r, now (image .exit), now (kind .exit), now (position .exit), now (flags .exit), now (name .exit)) ≡ exportedCompare (geometry blocks units start open_code) (now (first .entry)) (geometry blocks2 units2 start2 open_code2) (now (second .entry)) number (now (name .entry))) × (now («fault_slot» .exit) ≡ comparedSlot (now (image .exit)) r (geometry blocks units start open_code) (now (first .entry)) (geometry blocks2 units2 start2 open_code2) (now (second .entry))) ⌝ }
 {
     let g = Geometry {
         blocks,
@@ -557,18 +618,23 @@ pub extern "C" fn genie_compare(
         let checked = calls::check(first, g);
         if checked != 0 {
             *image = 1;
+            *fault_slot = slot_of(first, g, checked);
             return checked;
         }
         let checked2 = calls::check(second, h);
         if checked2 != 0 {
             *image = 2;
+            *fault_slot = slot_of(second, h, checked2);
             return checked2;
         }
         *image = 0;
+        *fault_slot = diagnosis::NO_SLOT;
         return 12;
     }
     let x = calls::compare(first, g, second, h, number);
-    *image = layout::wide(x.image);
+    let named = layout::wide(x.image);
+    *image = named;
+    *fault_slot = compared_slot(first, g, second, h, named, x.number);
     *kind = layout::wide(x.kind);
     *position = x.at;
     *flags = flags_of(x);

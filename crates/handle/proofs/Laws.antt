@@ -2,18 +2,21 @@
 use mathlib.Core.Path.{_≡_, refl, sym, ap, _∙_}
 use mathlib.Core.List.{List, [], _∷_, _++_}
 use mathlib.Core.Bool.{Bool, true, false, not, cond, _&&_}
-use Prim.Native.Nat.{ℕ, _≤_}
+use Prim.Native.Nat.{ℕ, _+_, _≤_}
 use native.Mathlib.Omega.{arith}
-use lib.ListN.{getD}
+use lib.ListN.{length, getD}
 use lib.Dec.{eqb, ltb}
 use borrow.Author.Tests.{not-false, leb-true}
 use Rattle.meaning.specs.Lists.{every, any}
 use Rattle.meaning.specs.Layout.{fitsGeometry, highest}
 use Rattle.meaning.specs.Consistent.{consistent}
 use Rattle.meaning.specs.Entries.{inUse, extension, primary, system}
-use Rattle.meaning.specs.Refusals.{first, check, badGeometry, notConsistent, inRange, fresh, handleRefusals, protected, goodLength}
+use Rattle.meaning.specs.Refusals.{first, check, faultNumbers, diskRefusals, inRange, fresh, staleHandle, handleRefusals, protected, goodLength}
 use Rattle.meaning.specs.declared.Geometry.{Geometry}
 use Rattle.meaning.specs.declared.Handle.{Handle}
+use Rattle.laws.specs.Members
+use Rattle.laws.specs.Facts
+use Rattle.laws.specs.Passed.{Served, disk-passed, check-passed}
 use Rattle.layout.specs.Room.{Room, Slot}
 use Rattle.layout.proofs.Lists.{first-at, first-hit, first-skip, first-none, and-l, and-r, any-skip, all-at}
 use Rattle.layout.proofs.Sound.{room, slot-of}
@@ -46,31 +49,34 @@ any-second true b h = absurd (let z : _≡_ {A = ℕ} 0 1 = cc in let q : ⊥ = 
 any-second false true h = h
 any-second false false h = refl
 
+-- the place of a call's own row k, behind those of the disk
+abbrev pub ownRow : ℕ → ℕ
+ownRow k = 1 + length faultNumbers + k
+
 module _ (g : Geometry) (d : List ℕ) where
-  -- the check answers 0: tests 1 and 2 are passed
+  -- the check answers 0: test 1 is passed, and there is no fault
   pub record Checked : Type 0 where
     pub fits : fitsGeometry g d ≡ true
     pub sound : consistent g d ≡ true
 
+  of-served : Served g d → Checked
+  of-served w = record { fits = Members.T-true (w .fits); sound = Facts.back g d (w .sound) }
+
   pub checked : {n : ℕ} → n ≡ check g d → n ≡ 0 → Checked
-  unfolding check
-  checked e z =
-      let t : (k : ℕ) → getD (badGeometry g d ∷ notConsistent g d ∷ []) k (0, false) .1 ≡ false
-      = λ k. first-at (badGeometry g d ∷ notConsistent g d ∷ []) (sym e ∙ z) refl k in
-      record { fits = not-false _ (t 0); sound = not-false _ (t 1) }
+  checked e z = of-served (check-passed g d (sym e ∙ z))
 
-  pub check-stop : (rest : List (ℕ × Bool)) {n : ℕ} → n ≡ check g d → (n ≡ 0 → ⊥) → n ≡ first (badGeometry g d ∷ notConsistent g d ∷ rest)
+  pub check-stop : (rest : List (ℕ × Bool)) {n : ℕ} → n ≡ check g d → (n ≡ 0 → ⊥) → n ≡ first (diskRefusals g d rest)
   unfolding check
-  check-stop rest e z = first-stop (badGeometry g d ∷ notConsistent g d ∷ []) rest e z
+  check-stop rest e z = first-stop (diskRefusals g d []) rest e z
 
-  pub check-then : (rest : List (ℕ × Bool)) {n : ℕ} → n ≡ check g d → n ≡ 0 → first (badGeometry g d ∷ notConsistent g d ∷ rest) ≡ first rest
+  pub check-then : (rest : List (ℕ × Bool)) {n : ℕ} → n ≡ check g d → n ≡ 0 → first (diskRefusals g d rest) ≡ first rest
   unfolding check
-  check-then rest e z = first-then (badGeometry g d ∷ notConsistent g d ∷ []) rest (sym e ∙ z) refl
+  check-then rest e z = first-then (diskRefusals g d []) rest (sym e ∙ z) refl
 
   pub checked-room : Checked → Room g d
   checked-room c = room g d (c .fits) (c .sound)
 
-  -- what a handle is whose call passed 1, 2, 12 and 7
+  -- what a handle is whose call passed 1, 21 to 30, 12 and 7
   pub record Passed (h : Handle) (ranged : Bool) : Type 0 where
     pub disk : Checked
     pub ranged′ : ranged ≡ true
@@ -102,10 +108,11 @@ module _ (g : Geometry) (d : List ℕ) where
       → Passed h ranged
   passed h ranged rest q e z =
       let t : (k : ℕ) → getD (handleRefusals g d h ranged rest) k (0, false) .1 ≡ false = λ k. first-at (handleRefusals g d h ranged rest) (sym e ∙ z) q k in
-      let w = not-false _ (t 3) in
+      let w = not-false _ (t (ownRow 1)) in
+      let c = disk-passed g d ((12, not ranged) ∷ staleHandle g d h ∷ rest) (sym e ∙ z) in
       record {
-        disk = record { fits = not-false _ (t 0); sound = not-false _ (t 1) };
-        ranged′ = not-false _ (t 2);
+        disk = of-served (c .0);
+        ranged′ = not-false _ (t (ownRow 0));
         slot = is-slot h w;
         first′ = is-primary h w;
         used = and-l (inUse g d (h .slot)) (not (extension g d (h .slot))) (is-primary h w);
@@ -115,7 +122,7 @@ module _ (g : Geometry) (d : List ℕ) where
   pub passed-user : (h : Handle) (ranged : Bool) (most : ℕ) (rest : List (ℕ × Bool)) → NonZero rest → {n : ℕ}
       → n ≡ first (handleRefusals g d h ranged (protected g d most h ∷ rest)) → n ≡ 0 → system g d (h .slot) ≡ false
   passed-user h ranged most rest q e z =
-      any-second _ _ (first-at (handleRefusals g d h ranged (protected g d most h ∷ rest)) (sym e ∙ z) q 4)
+      any-second _ _ (first-at (handleRefusals g d h ranged (protected g d most h ∷ rest)) (sym e ∙ z) q (ownRow 2))
 
   -- a call that tests first `xs` after its handle, then `rest`
   pub handle-stop : (h : Handle) (ranged : Bool) (xs rest : List (ℕ × Bool)) {n : ℕ} → n ≡ first (handleRefusals g d h ranged xs) → (n ≡ 0 → ⊥)

@@ -100,7 +100,8 @@ module _ (g : Geometry) (d : List ℕ) where
   unfolding runs
   runs-has s j b = runsFrom-has s 0 4 j (omega arith) b
 
-  follows-says : (flags s x : ℕ) → T (followsBy g d flags s x) → FollowsBy g d flags s x
+  -- what it is to follow
+  pub follows-says : (flags s x : ℕ) → T (followsBy g d flags s x) → FollowsBy g d flags s x
   unfolding words
   follows-says flags s x t =
       let a : T (isSlot g d x) = search parts depth 5 in
@@ -109,7 +110,7 @@ module _ (g : Geometry) (d : List ℕ) where
       let e : T (leb 1 (runs g d x)) = search parts depth 5 in
       record { slot = a; flags = eqb→eq _ _ b; before = eqb→eq _ _ c; some′ = leb→le _ _ e }
 
-  says-follows : (flags s x : ℕ) → FollowsBy g d flags s x → T (followsBy g d flags s x)
+  pub says-follows : (flags s x : ℕ) → FollowsBy g d flags s x → T (followsBy g d flags s x)
   unfolding words
   says-follows flags s x f =
       let a : T (isSlot g d x) = f .slot in

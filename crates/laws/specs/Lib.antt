@@ -12,6 +12,7 @@ pub mod Named
 pub mod Others
 pub mod Marking
 pub mod Kill
+pub mod First
 pub mod Passed
 pub mod Create
 pub mod BringBack
@@ -35,5 +36,11 @@ pub mod Tally
 pub mod Stretches
 pub mod Rising
 pub mod Clauses
+pub mod Walk
+pub mod Faultless
+pub mod Kinds
+pub mod FaultlessSound
+pub mod SoundFaultless
+pub mod Fault
 pub mod Rewrite
 pub mod Store

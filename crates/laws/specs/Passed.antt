@@ -1,8 +1,8 @@
 -- What a call that was accepted has passed
-use mathlib.Core.Path.{_≡_}
-use mathlib.Core.Logic.{_≢_}
-use mathlib.Core.Bool.{Bool, true, false, not}
-use mathlib.Core.List.{List, [], _∷_}
+use mathlib.Core.Path.{_≡_, sym, _∙_}
+use mathlib.Core.Logic.{_⊎_, inl, inr}
+use mathlib.Core.Bool.{Bool, true, not}
+use mathlib.Core.List.{List, [], _∷_, _++_}
 use Prim.Native.Nat.{ℕ}
 use native.Mathlib.Omega.{arith}
 use lib.Dec.{T, ltb, not-T}
@@ -10,23 +10,62 @@ use Rattle.meaning.specs.Lists.{same, all}
 use Rattle.meaning.specs.Layout.{fitsGeometry, isSlot}
 use Rattle.meaning.specs.Entries.{system, primary, nameOf}
 use Rattle.meaning.specs.Consistent.{consistent}
-use Rattle.meaning.specs.Refusals.{first, badGeometry, notConsistent, fresh, staleHandle, protected}
+use Rattle.meaning.specs.Fault.{fault}
+use Rattle.meaning.specs.Refusals.{first, check, faultNumbers, faultRefusals, diskRefusals, fresh, staleHandle, protected}
 use Rattle.meaning.specs.declared.Geometry.{Geometry}
 use Rattle.meaning.specs.declared.Handle.{Handle}
 use Rattle.laws.specs.Members
+use Rattle.laws.specs.Members.{In}
+use Rattle.laws.specs.First
 use Rattle.laws.specs.Facts
+use Rattle.laws.specs.Fault
 use Rattle.laws.specs.Places
 use Rattle.laws.specs.Words.{words}
+pub use Rattle.laws.specs.First.{passed, yes-T}
 
--- a refusal that was not given does not apply
-pub passed : (n : ℕ) (b : Bool) (cs : List (ℕ × Bool)) → n ≢ 0 → first ((n, b) ∷ cs) ≡ 0 → (T b → ⊥) × (first cs ≡ 0)
+-- refusals 1 and 21 to 30 passed
+pub record Served (g : Geometry) (d : List ℕ) : Type 0 where
+  pub fits : T (fitsGeometry g d)
+  pub sound : Facts.Sound g d
+
+pub disk-passed : (g : Geometry) (d : List ℕ) (cs : List (ℕ × Bool)) → first (diskRefusals g d cs) ≡ 0 → Served g d × (first cs ≡ 0)
+disk-passed g d cs e = go (passed 1 _ _ (omega arith) e) (Members.in-cons (Fault.numbered g d))
+  where
+    n : ℕ
+    n = fault g d .number
+
+    go : (T (not (fitsGeometry g d)) → ⊥) × (first (faultRefusals g d ++ cs) ≡ 0) → (n ≡ 0) ⊎ In n faultNumbers → Served g d × (first cs ≡ 0)
+    go p (inl z) = (
+      record { fits = yes-T (fitsGeometry g d) (p .0); sound = Facts.sound g d (Fault.no-number g d .0 z) },
+      sym (First.number-miss n faultNumbers cs (λ i. let k = Members.count-in n 21 10 i in omega (arith, k, z))) ∙ p .1,
+    )
+    go p (inr i) = let k = Members.count-in n 21 10 i in absurd (omega (arith, k, sym (First.number-hit n faultNumbers cs i) ∙ p .1))
+
+pub check-passed : (g : Geometry) (d : List ℕ) → check g d ≡ 0 → Served g d
+unfolding check
+check-passed g d e = disk-passed g d [] e .0
+
+-- and the other way: on a consistent disk they come to nothing
+pub disk-passes : (g : Geometry) (d : List ℕ) (cs : List (ℕ × Bool)) → fitsGeometry g d ≡ true → consistent g d ≡ true → first (diskRefusals g d cs) ≡ first cs
 unfolding first
-passed n true cs k e = absurd (k e)
-passed n false cs k e = (λ t. t, e)
+disk-passes g d cs f c = rw f (First.number-miss (fault g d .number) faultNumbers cs (λ i.
+    let k = Members.count-in (fault g d .number) 21 10 i in omega (arith, k, Fault.no-number g d .1 c)))
 
-pub yes-T : (b : Bool) → (T (not b) → ⊥) → T b
-yes-T true f = tt
-yes-T false f = f tt
+pub check-none : (g : Geometry) (d : List ℕ) → fitsGeometry g d ≡ true → consistent g d ≡ true → check g d ≡ 0
+unfolding check first
+check-none g d f c = disk-passes g d [] f c
+
+-- where the geometry fits, the check answers the fault's number
+pub check-number : (g : Geometry) (d : List ℕ) → fitsGeometry g d ≡ true → check g d ≡ fault g d .number
+unfolding check first
+check-number g d f = rw f (go (Members.in-cons (Fault.numbered g d)))
+  where
+    n : ℕ
+    n = fault g d .number
+
+    go : (n ≡ 0) ⊎ In n faultNumbers → first (faultRefusals g d ++ []) ≡ n
+    go (inl z) = First.number-miss n faultNumbers [] (λ i. let k = Members.count-in n 21 10 i in omega (arith, k, z)) ∙ sym z
+    go (inr i) = First.number-hit n faultNumbers [] i
 
 -- a handle that is not stale, and may write
 pub record Holds (g : Geometry) (d : List ℕ) (h : Handle) : Type 0 where
@@ -38,19 +77,18 @@ pub record Holds (g : Geometry) (d : List ℕ) (h : Handle) : Type 0 where
 
 -- what every call by a handle that writes has passed
 pub holds : (g : Geometry) (d : List ℕ) (h : Handle) (b : Bool) (most : ℕ) (cs : List (ℕ × Bool))
-    → first (badGeometry g d ∷ notConsistent g d ∷ (12, b) ∷ staleHandle g d h ∷ protected g d most h ∷ cs) ≡ 0 → Holds g d h × (first cs ≡ 0)
+    → first (diskRefusals g d ((12, b) ∷ staleHandle g d h ∷ protected g d most h ∷ cs)) ≡ 0 → Holds g d h × (first cs ≡ 0)
 unfolding words
 holds g d h b most cs e =
-    let p₁ = passed 1 _ _ (omega arith) e in
-    let p₂ = passed 2 _ _ (omega arith) (p₁ .1) in
-    let p₃ = passed 12 _ _ (omega arith) (p₂ .1) in
+    let p = disk-passed g d _ e in
+    let p₃ = passed 12 _ _ (omega arith) (p .1) in
     let p₄ = passed 7 _ _ (omega arith) (p₃ .1) in
     let p₅ = passed 6 _ _ (omega arith) (p₄ .1) in
     let live : T (fresh g d h) = yes-T (fresh g d h) (p₄ .0) in
     let t : T (all (primary g d (h .slot) ∷ same (nameOf g d (h .slot)) (h .name) ∷ [])) = Members.and-r (isSlot g d (h .slot)) (all (primary g d (h .slot) ∷ same (nameOf g d (h .slot)) (h .name) ∷ [])) live in (
       record {
-        fits = Places.fits g d (yes-T (fitsGeometry g d) (p₁ .0));
-        sound = Facts.sound g d (Members.T-true (yes-T (consistent g d) (p₂ .0)));
+        fits = Places.fits g d (p .0 .fits);
+        sound = p .0 .sound;
         file = record { slot = Members.and-l (isSlot g d (h .slot)) (all (primary g d (h .slot) ∷ same (nameOf g d (h .slot)) (h .name) ∷ [])) live; primary′ = Members.and-l (primary g d (h .slot)) (all (same (nameOf g d (h .slot)) (h .name) ∷ [])) t };
         name′ = Members.same-eq _ _ (Members.all-second (primary g d (h .slot)) (same (nameOf g d (h .slot)) (h .name)) t);
         user = not-T (system g d (h .slot)) (λ u. p₅ .0 (Members.any-r (ltb most (h .level)) (system g d (h .slot)) u));

@@ -442,7 +442,7 @@ fn good(image: &[u8], h: Handle) {
     lists(image);
 }
 
-// The good disk, two wrong geometries, and a HIT byte that is not the hash.
+// The good disk, two wrong geometries, and a HIT byte that is not the hash: 22.
 fn looks(image: &mut [u8; 20480]) {
     let opened = open_file(
         image,

@@ -9,7 +9,7 @@
 --   "Only bit 4 and the HIT bytes of its slots and its granules' GAT bits change": `backEntry`, `broughtBack`.
 --   "the answer is how many slots and granules": `bringBack`.
 --   "Refusals, after 2 and 12 (a slot the directory lacks): 17 slot in use, 6 bit 6 set, 18 nothing whole to bring back (an extension's slot
---     too), 19 name in use, 20 a granule is taken": `bringBackRefusals`.
+--     too), 19 name in use, 20 a granule is taken": `bringBackRefusals`. 2 is told as 21 to 30 (§2).
 use Prim.Native.Nat.{ℕ}
 use mathlib.Core.Bool.{Bool, not, cond}
 use mathlib.Core.List.{List, [], _∷_}
@@ -52,9 +52,9 @@ module _ (g : Geometry) (d : List ℕ) where
 
   abbrev pub bringBackRefusals : ℕ → List (ℕ × Bool)
   bringBackRefusals s =
-      Refusals.badGeometry g d ∷ Refusals.notConsistent g d ∷ (12, not (Layout.isSlot g d s))
+      Refusals.diskRefusals g d ((12, not (Layout.isSlot g d s))
       ∷ (17, Entries.inUse g d s) ∷ (6, Entries.system g d s) ∷ (18, not (whole s)) ∷ (19, nameInUse s)
-      ∷ (20, some (Layout.taken g d) (Chain.owned g d s)) ∷ []
+      ∷ (20, some (Layout.taken g d) (Chain.owned g d s)) ∷ [])
 
   unfoldable pub bringBack : ℕ → BroughtBack × List ℕ
   bringBack s =

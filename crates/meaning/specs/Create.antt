@@ -35,9 +35,9 @@ module _ (g : Geometry) (d : List ℕ) where
   -- 5 under open's password rule, the given main code counting; 8 only if the name is not found
   abbrev pub createRefusals : List ℕ → NewFile → Bool → List (ℕ × Bool)
   createRefusals n f checking =
-      Refusals.badGeometry g d ∷ Refusals.notConsistent g d ∷ (12, not (Refusals.newInRange f)) ∷ Refusals.badName n
+      Refusals.diskRefusals g d ((12, not (Refusals.newInRange f)) ∷ Refusals.badName n
       ∷ (5, all (not (LookUp.missing g d n) ∷ not (Open.admits g d (LookUp.slotOf g d n) checking (f .main)) ∷ []))
-      ∷ (8, all (LookUp.missing g d n ∷ eqb (length (Free.freeSlots g d)) 0 ∷ [])) ∷ []
+      ∷ (8, all (LookUp.missing g d n ∷ eqb (length (Free.freeSlots g d)) 0 ∷ [])) ∷ [])
 
   -- An existing file is opened and reported as old. Otherwise the first permitted slot is taken. The new handle has level 0.
   unfoldable pub create : List ℕ → NewFile → Bool → Created × List ℕ

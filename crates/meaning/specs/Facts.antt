@@ -1,10 +1,12 @@
--- What the worked table does not tell of a file with an extension, computed on whole disks. The crate `facts` has more of the kind.
+-- What the worked table does not tell, of a file with an extension and of faults, computed on whole disks. The crate `facts` has more of the kind.
 use Prim.Native.Nat.{ℕ, _+_}
 use mathlib.Core.Path.{_≡_, refl}
 use mathlib.Core.List.{List, [], _∷_}
 use Rattle.meaning.specs.Allot.{allot}
 use Rattle.meaning.specs.Kill.{kill}
-use Rattle.meaning.specs.Samples.{changed, held, puls, leer, three, sample, gaps, filled, hits, e81, eA3, opened}
+use Rattle.meaning.specs.Fault.{fault}
+use Rattle.meaning.specs.Samples.{changed, held, puls, leer, three, sample, gaps, filled, hits, e80, e81, e82, eA3, opened}
+use Rattle.meaning.specs.declared.Fault.{Fault}
 
 -- A run beyond the fourth starts an extension in the first permitted slot: the fifth pair does not reach marker and link.
 fifth-run : allot three gaps (held 0x80 leer 0 256 4) 24 ≡ (record { number = 0; handle = held 0x80 leer 0 256 4 }, filled)
@@ -18,3 +20,31 @@ both-entries : kill three sample (held 0xa3 puls 0 256 1) ≡ (
 )
 unfolding opened
 both-entries = refl
+
+-- What is inconsistent, and where (02 §2). The crate `faults` has a disk for each kind of fault.
+
+-- the fault of a disk like the sample, and its slot
+abbrev Told : List (ℕ × ℕ) → ℕ → ℕ → Type 0
+Told cs number slot = _≡_ {A = Fault} (fault three (changed sample cs)) (record { number = number; slot = slot })
+
+-- For a pair of slots the higher one: LEER in slot 80H is called PULS01/DAT too.
+higher-slot : Told ((hits + 0x80, 0xc1) ∷ (e80 + 5, 0x50) ∷ (e80 + 6, 0x55) ∷ (e80 + 7, 0x4c) ∷ (e80 + 8, 0x53) ∷ (e80 + 9, 0x30) ∷ (e80 + 10, 0x31)
+    ∷ (e80 + 13, 0x44) ∷ (e80 + 14, 0x41) ∷ (e80 + 15, 0x54) ∷ []) 24 0xa3
+unfolding opened
+higher-slot = refl
+
+-- At a slot the first kind in 02's order: a name that is not well formed, and a HIT byte that is another name's.
+first-kind : Told ((e80 + 7, 0x40) ∷ []) 22 0x80
+unfolding opened
+first-kind = refl
+
+-- A clear directory granule after the slots: granule 1 is clear, and the file in slot A3H has a size that does not fit.
+slots-first : Told ((0, 0x05) ∷ (eA3 + 0x14, 90) ∷ []) 29 0xa3
+unfolding opened
+slots-first = refl
+
+-- An extension met in no file's chain has not its hash tested.
+unlinked : Told ((0, 0x07) ∷ (2, 0xa7) ∷ (hits + 0x82, 0x70) ∷ (e82, 0x90) ∷ (e82 + 1, 0x81) ∷ (e82 + 0x16, 0x02) ∷ (e82 + 0x17, 0x20)
+    ∷ (e82 + 0x18, 0xff) ∷ (e82 + 0x1a, 0xff) ∷ (e82 + 0x1c, 0xff) ∷ (e82 + 0x1e, 0xff) ∷ []) 25 0x82
+unfolding opened
+unlinked = refl

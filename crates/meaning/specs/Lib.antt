@@ -5,6 +5,7 @@ pub mod Names
 pub mod Entries
 pub mod Chain
 pub mod Consistent
+pub mod Fault
 pub mod Free
 pub mod Growth
 pub mod Drop

@@ -27,6 +27,11 @@ unfoldable pub any : List Bool → Bool
 any [] = false
 any (b ∷ bs) = b || any bs
 
+-- of numbered cases the number of the first that holds, 0 where none does
+unfoldable pub first : List (ℕ × Bool) → ℕ
+first [] = 0
+first (c ∷ cs) = cond (c .1) (c .0) (first cs)
+
 module _ {A : Type 0} where
   abbrev pub every : (A → Bool) → List A → Bool
   every p [] = true

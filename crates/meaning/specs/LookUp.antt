@@ -39,9 +39,9 @@ module _ (g : Geometry) (d : List ℕ) where
   slotOf n = firstOr 0 (named n)
 
   abbrev pub lookUpRefusals : List ℕ → List (ℕ × Bool)
-  lookUpRefusals n = Refusals.badGeometry g d ∷ Refusals.notConsistent g d ∷ Refusals.badName n ∷ (4, missing n) ∷ []
+  lookUpRefusals n = Refusals.diskRefusals g d (Refusals.badName n ∷ (4, missing n) ∷ [])
 
-  -- look up returns its count as well under 4, and 0 under 1, 2 and 3
+  -- look up returns its count as well under 4, and 0 under 1, 2 (now 21 to 30) and 3
   unfoldable pub lookUp : List ℕ → LookedUp
   lookUp n =
       let no = Refusals.first (lookUpRefusals n) in

@@ -28,8 +28,8 @@ module _ (g : Geometry) (d : List ℕ) where
   -- 5: wrong password code
   abbrev pub openRefusals : List ℕ → ℕ → Bool → ℕ → List (ℕ × Bool)
   openRefusals n len checking code =
-      Refusals.badGeometry g d ∷ Refusals.notConsistent g d ∷ (12, not (Refusals.goodLength len)) ∷ Refusals.badName n
-      ∷ (4, LookUp.missing g d n) ∷ (5, not (admits (LookUp.slotOf g d n) checking code)) ∷ []
+      Refusals.diskRefusals g d ((12, not (Refusals.goodLength len)) ∷ Refusals.badName n
+      ∷ (4, LookUp.missing g d n) ∷ (5, not (admits (LookUp.slotOf g d n) checking code)) ∷ [])
 
   unfoldable pub open′ : List ℕ → ℕ → Bool → ℕ → Answer
   open′ n len checking code =

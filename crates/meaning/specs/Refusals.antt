@@ -1,25 +1,22 @@
 -- Refusal numbers, in order of test (01). Each call has one list of them, in the table's order; its number is the first that holds.
 use Prim.Native.Nat.{ℕ, _+_, _-_}
-use mathlib.Core.Bool.{Bool, not, cond}
-use mathlib.Core.List.{List, [], _∷_}
+use mathlib.Core.Bool.{Bool, not}
+use mathlib.Core.List.{List, [], _∷_, _++_, map}
 use lib.Dec.{leb, ltb, eqb}
 use lib.ListN.{length, replicate}
-use Rattle.meaning.specs.Lists.{all, any, same}
+use Rattle.meaning.specs.Lists.{count, all, any, same}
 use Rattle.meaning.specs.Layout
 use Rattle.meaning.specs.Names
 use Rattle.meaning.specs.Entries
 use Rattle.meaning.specs.Chain
-use Rattle.meaning.specs.Consistent
+use Rattle.meaning.specs.Fault
 use Rattle.meaning.specs.Free
 use Rattle.meaning.specs.Growth
 use Rattle.meaning.specs.declared.Geometry.{Geometry}
 use Rattle.meaning.specs.declared.Handle.{Handle}
 use Rattle.meaning.specs.declared.NewFile.{NewFile}
-
 -- Where several apply, the first in the table is returned and no other; 0 where none does: the call is accepted.
-unfoldable pub first : List (ℕ × Bool) → ℕ
-first [] = 0
-first (c ∷ cs) = cond (c .1) (c .0) (first cs)
+unfoldable pub use Rattle.meaning.specs.Lists.{first}
 
 abbrev pub accepted : ℕ → Bool
 accepted n = eqb n 0
@@ -54,18 +51,30 @@ badName n = (3, not (Names.nameComesIn n))
 abbrev pub notForReading : Handle → ℕ × Bool
 notForReading h = (6, ltb 5 (h .level))
 
+-- the numbers of faults: 21 to 30
+abbrev pub faultNumbers : List ℕ
+faultNumbers = count 21 10
+
+-- each of these, where the number is that one
+abbrev pub byNumber : ℕ → List ℕ → List (ℕ × Bool)
+byNumber n ks = map (λ k. (k, eqb n k)) ks
+
 module _ (g : Geometry) (d : List ℕ) where
   -- 1: geometry or image length not as above
   abbrev pub badGeometry : ℕ × Bool
   badGeometry = (1, not (Layout.fitsGeometry g d))
 
-  -- 2: disk not consistent
-  abbrev pub notConsistent : ℕ × Bool
-  notConsistent = (2, not (Consistent.consistent g d))
+  -- 21 to 30, in 2's place (02 §2): the disk has a fault of that number
+  abbrev pub faultRefusals : List (ℕ × Bool)
+  faultRefusals = byNumber (Fault.fault g d .number) faultNumbers
 
-  -- Check as a call answers 0, 1 or 2.
+  -- what every call tests first; `rest` is what it tests after
+  abbrev pub diskRefusals : List (ℕ × Bool) → List (ℕ × Bool)
+  diskRefusals rest = badGeometry ∷ (faultRefusals ++ rest)
+
+  -- Check as a call answers 0, 1 or 21 to 30.
   unfoldable pub check : ℕ
-  check = first (badGeometry ∷ notConsistent ∷ [])
+  check = first (diskRefusals [])
 
   -- A handle is stale unless its slot is one the directory has, in use, primary and carries its name.
   unfoldable pub fresh : Handle → Bool
@@ -77,7 +86,7 @@ module _ (g : Geometry) (d : List ℕ) where
 
   -- what every call with a handle tests first; `ranged` is the call's own test 12, `rest` what it tests after
   abbrev pub handleRefusals : Handle → Bool → List (ℕ × Bool) → List (ℕ × Bool)
-  handleRefusals h ranged rest = badGeometry ∷ notConsistent ∷ (12, not ranged) ∷ staleHandle h ∷ rest
+  handleRefusals h ranged rest = diskRefusals ((12, not ranged) ∷ staleHandle h ∷ rest)
 
   -- 6: level over 4 for write, allot, trim, over 1 for kill; or write, allot, trim or kill of a system file
   abbrev pub protected : ℕ → Handle → ℕ × Bool

@@ -49,11 +49,11 @@ pub record Rows : Type 0 where
   pub slot : (Layout.row 0x25 ≡ 1) × (Layout.column 0x25 ≡ 5)
       × ((g : Geometry) → Layout.entryAt g 0x25 ≡ 256 * (g .start + 7) + 32)
   -- 3. Pair 11H 42H, 3 units per block: granules 53 to 55, sectors 265 to 279. With 2 units: inconsistent (the
-  -- first unit is 2).
+  -- first unit is 2: 26, run off the disk).
   pub pair : (count (Entries.pairStart 3 0x11 0x42) (Entries.pairLength 0x42) ≡ 53 ∷ 54 ∷ 55 ∷ [])
       × (each Layout.granuleSectorsOf (53 ∷ 54 ∷ 55 ∷ []) ≡ count 265 15)
       × (Chain.owned (wide 3) (onePair 76800) 0x80 ≡ 53 ∷ 54 ∷ 55 ∷ []) × (check (wide 3) (onePair 76800) ≡ 0)
-      × (Consistent.runsHold (wide 2) (onePair 51200) 0x80 ≡ false) × (check (wide 2) (onePair 51200) ≡ 2)
+      × (Consistent.runsHold (wide 2) (onePair 51200) 0x80 ≡ false) × (check (wide 2) (onePair 51200) ≡ 26)
   -- 4. Sizes 0, 255, 256, 257 are (n, e) = (0, 0), (1, 255), (1, 0), (2, 1).
   pub sizes : Size 0 0 0 × Size 255 1 255 × Size 256 1 0 × Size 257 2 1
   -- 5. Byte 1,280 is in the second granule owned.

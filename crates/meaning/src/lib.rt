@@ -92,3 +92,9 @@ pub struct BroughtBack {
     pub slots: usize,
     pub granules: usize,
 }
+
+// What is inconsistent, and where (02): one of the numbers 21 to 30, 0 where there is no fault, and a slot, 256 where there is none.
+pub struct Fault {
+    pub number: u8,
+    pub slot: usize,
+}

@@ -81,14 +81,13 @@ create-both : (g : Geometry) (d n : List ℕ) (f : NewFile) (checking : Bool) �
     → CreateMeans g d (create g d n f checking .1) n f × Placed g d (create g d n f checking .1) n (newSlot g d)
 unfolding create Create.made Create.withEntry
 create-both g d n f checking e o =
-    let p₁ = Passed.passed 1 _ _ (omega arith) e in
-    let p₂ = Passed.passed 2 _ _ (omega arith) (p₁ .1) in
+    let p₂ = Passed.disk-passed g d _ e in
     let p₃ = Passed.passed 12 _ _ (omega arith) (p₂ .1) in
     let p₄ = Passed.passed 3 _ _ (omega arith) (p₃ .1) in
     let p₅ = Passed.passed 5 _ _ (omega arith) (p₄ .1) in
     let p₆ = Passed.passed 8 _ _ (omega arith) (p₅ .1) in
-    let c = Facts.sound g d (Members.T-true (Passed.yes-T (consistent g d) (p₂ .0))) in
-    let k = Places.fits g d (Passed.yes-T (fitsGeometry g d) (p₁ .0)) in
+    let c = p₂ .0 .sound in
+    let k = Places.fits g d (p₂ .0 .fits) in
     let new : T (missing g d n) = new-of true (missing g d n) tt (rw e at o) in
     let i = Create.first-in (freeSlots g d) (λ t. p₆ .0 (Members.all-two (missing g d n) (eqb (length (freeSlots g d)) 0) new t)) in
     let x = firstOr 0 (freeSlots g d) in

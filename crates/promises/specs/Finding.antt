@@ -143,8 +143,11 @@ look-refuses g d n k = record {
     slot = unfold lookUp in Passing.other-case (lookUp g d n .number) (slotOf g d n) 0 k
 
     lost : lookUp g d n .number ≡ 4 → T (missing g d n)
-    lost e = Refusing.missing-iff g d n .1 (Refusing.numbers g d (Promises.Call.looksUp n) .1 .1 .1 .0 .0 (known e) .1)
+    lost e = Refusing.missing-iff g d n .1 (rows .1 .0 .0 (known e) .1)
       where
+        rows : Promises.Rows (Promises.number g d (Promises.Call.looksUp n)) (Refusing.Checked g d) (Refusing.ownCases (Promises.table g d (Promises.Call.looksUp n)))
+        rows = Refusing.own-rows g d (Refusing.ownCases (Promises.table g d (Promises.Call.looksUp n))) (Promises.number g d (Promises.Call.looksUp n)) (Refusing.numbers g d (Promises.Call.looksUp n))
+
         known : lookUp g d n .number ≡ 4 → Promises.number g d (Promises.Call.looksUp n) ≡ 4
         known e = unfold Promises.number in e
 

@@ -9,7 +9,8 @@ use Rattle.meaning.specs.Plain.{AreBytes}
 use Rattle.meaning.specs.declared.Geometry.{Geometry}
 use Rattle.laws.specs.Members
 use Rattle.laws.specs.Facts
-use Rattle.promises.specs.Promises.{Call, number, leaves, AllBring, Stays, Serves, Refuses, EveryCall, Along, EveryState, GatAlone, EveryWrite}
+use Rattle.laws.specs.Fault
+use Rattle.promises.specs.Promises.{Call, number, leaves, AllBring, Stays, Serves, Refuses, EveryCall, Along, EveryState, GatAlone, EveryWrite, OldTwo}
 use Rattle.promises.specs.Refusing
 use Rattle.promises.specs.Passing
 use Rattle.promises.specs.Staying
@@ -97,3 +98,7 @@ gat-alone g d d′ e same = Measuring.alone g d d′ e same
 -- write, then read
 pub every-write : EveryWrite
 every-write g d m h b e = ReadBack.reads-back g d m h b e
+
+-- the numbers 21 to 30 and the old 2
+pub old-two : OldTwo
+old-two = Fault.no-fault

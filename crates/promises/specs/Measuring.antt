@@ -11,7 +11,7 @@ use Rattle.meaning.specs.Lists.{count, keep}
 use Rattle.meaning.specs.Layout.{fitsGeometry, granules, taken}
 use Rattle.meaning.specs.Consistent.{consistent}
 use Rattle.meaning.specs.Free.{freeGranules}
-use Rattle.meaning.specs.Refusals.{check, first, accepted}
+use Rattle.meaning.specs.Refusals.{first, accepted}
 use Rattle.meaning.specs.Listing
 use Rattle.meaning.specs.FreeSpace.{longest, spaceRefusals, freeSpace}
 use Rattle.meaning.specs.declared.Geometry.{Geometry}
@@ -20,7 +20,7 @@ use Rattle.laws.specs.Members
 use Rattle.laws.specs.Facts
 use Rattle.laws.specs.Tally
 use Rattle.laws.specs.Stretches
-use Rattle.laws.specs.Passed.{passed, yes-T}
+use Rattle.laws.specs.Passed.{passed, yes-T, check-none}
 use Rattle.promises.specs.Promises.{Stretch, Measured}
 use Rattle.promises.specs.Passing
 
@@ -40,8 +40,8 @@ module _ (g : Geometry) (d : List ℕ) where
     fits = Members.T-true (yes-T (fitsGeometry g d) (passed 1 _ _ (omega arith) e .0))
 
     counts-free : consistent g d ≡ true → Listing.counts g d .free ≡ length (freeGranules g d)
-    unfolding Listing.counts check first
-    counts-free c = rw (fits, c) refl
+    unfolding Listing.counts
+    counts-free c = rw (check-none g d fits c) refl
 
     pub measure-serves : Measured g d
     measure-serves =

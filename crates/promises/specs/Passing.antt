@@ -9,8 +9,7 @@ use lib.Dec.{T, eqb, eqb→eq}
 use Rattle.meaning.specs.Lists.{all}
 use Rattle.meaning.specs.Layout.{fitsGeometry, highest}
 use Rattle.meaning.specs.Entries.{inUse, extension}
-use Rattle.meaning.specs.Consistent.{consistent}
-use Rattle.meaning.specs.Refusals.{movedTo, first, handleRefusals, fresh, check, noHandle, badGeometry, notConsistent}
+use Rattle.meaning.specs.Refusals.{movedTo, first, handleRefusals, fresh, check, noHandle}
 use Rattle.meaning.specs.LookUp.{missing}
 use Rattle.meaning.specs.Open.{open′}
 use Rattle.meaning.specs.Create.{create}
@@ -29,19 +28,10 @@ use Rattle.laws.specs.Facts
 use Rattle.laws.specs.Passed.{passed, yes-T}
 use Rattle.promises.specs.Promises.{Call, number, leaves, Live, InRange}
 use Rattle.promises.specs.Refusing
-
 -- Accepted --------------------------------------------------------------------------------------------------------------------------
 
--- refusals 1 and 2 passed
-pub record Served (g : Geometry) (d : List ℕ) : Type 0 where
-  pub fits : T (fitsGeometry g d)
-  pub sound : Facts.Sound g d
-
-pub disk-passed : (g : Geometry) (d : List ℕ) (cs : List (ℕ × Bool)) → first (badGeometry g d ∷ notConsistent g d ∷ cs) ≡ 0 → Served g d × (first cs ≡ 0)
-disk-passed g d cs e =
-    let p₁ = passed 1 _ _ (omega arith) e in
-    let p₂ = passed 2 _ _ (omega arith) (p₁ .1) in
-    (record { fits = yes-T (fitsGeometry g d) (p₁ .0); sound = Facts.sound g d (Members.T-true (yes-T (consistent g d) (p₂ .0))) }, p₂ .1)
+-- refusals 1 and 21 to 30 passed
+pub use Rattle.laws.specs.Passed.{Served, disk-passed}
 
 -- and 12 and 7: the handle is live
 pub record Has (g : Geometry) (d : List ℕ) (h : Handle) : Type 0 where

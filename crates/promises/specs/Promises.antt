@@ -20,7 +20,8 @@ use Rattle.meaning.specs.Chain.{chain, owned, files}
 use Rattle.meaning.specs.Consistent.{consistent}
 use Rattle.meaning.specs.Free.{freeGranules, freeSlots}
 use Rattle.meaning.specs.Growth.{grown, grow, tail, lengthens}
-use Rattle.meaning.specs.Refusals.{check, movedTo, noHandle}
+use Rattle.meaning.specs.Fault.{fault, unplaced}
+use Rattle.meaning.specs.Refusals.{check, movedTo, noHandle, faultNumbers}
 use Rattle.meaning.specs.LookUp.{lookUp, named}
 use Rattle.meaning.specs.Open.{open′}
 use Rattle.meaning.specs.Create.{create}
@@ -106,7 +107,7 @@ Brings measures = Unit {0}
 
 -- 1. What no call changes -------------------------------------------------------------------------------------------------------------
 
--- a disk that calls are served on: neither 1 nor 2 applies, and its members are bytes
+-- a disk that calls are served on: neither 1 nor 21 to 30 applies, and its members are bytes
 pub record Good (g : Geometry) (d : List ℕ) : Type 0 where
   pub fits : fitsGeometry g d ≡ true
   pub sound : consistent g d ≡ true
@@ -367,9 +368,14 @@ pub record Stuck (g : Geometry) (d : List ℕ) (p more : ℕ) : Type 0 where
   pub four : 4 ≤ runs g disk (tail g p disk)
 
 module _ (g : Geometry) (d : List ℕ) where
-  -- 1 geometry or image length not as above, 2 disk not consistent: every call but free space, which gives 1 only
+  -- 21 to 30, in 2's place (02 §2): the disk's fault has that number. It has one exactly if it is not consistent.
+  abbrev pub faultCases : List ℕ → Table → Table
+  faultCases [] rest = rest
+  faultCases (k ∷ ks) rest = (k, fault g d .number ≡ k) ∷ faultCases ks rest
+
+  -- 1 geometry or image length not as above, then the faults: every call but free space, which gives 1 only
   abbrev pub diskCases : Table → Table
-  diskCases rest = (1, (Fits g d → ⊥)) ∷ (2, consistent g d ≡ false) ∷ rest
+  diskCases rest = (1, (Fits g d → ⊥)) ∷ faultCases faultNumbers rest
 
   -- 12 out of range, 7 handle stale: every call with a handle; `ranged` is what it tests of range
   abbrev pub handleCases : Handle → Type 0 → Table → Table
@@ -421,6 +427,10 @@ module _ (g : Geometry) (d : List ℕ) where
   table (lists i) = diskCases []
   table counts = diskCases []
   table measures = (1, (Fits g d → ⊥)) ∷ []
+
+-- "The split answers together are exactly the old 2" (02 §2): a disk has no fault exactly if it is consistent.
+abbrev pub OldTwo : Type 0
+OldTwo = (g : Geometry) (d : List ℕ) → (fault g d ≡ unplaced 0) ↔ (consistent g d ≡ true)
 
 -- 6. One call, and every state reached ----------------------------------------------------------------------------------------------------
 

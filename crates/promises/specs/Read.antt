@@ -34,8 +34,7 @@ pub read-means : (g : Geometry) (d : List ℕ) (h : Handle) (b : List ℕ) → r
     → readRecord g d h b .1 ≡ take (h .len) (drop (h .at) (fileAt g d (h .slot) .bytes)) ++ drop (h .len) b
 unfolding readRecord fileAt words
 read-means g d h b e =
-    let p₁ = Passed.passed 1 _ _ (omega arith) e in
-    let p₂ = Passed.passed 2 _ _ (omega arith) (p₁ .1) in
+    let p₂ = Passed.disk-passed g d _ e in
     let p₃ = Passed.passed 12 _ _ (omega arith) (p₂ .1) in
     let p₄ = Passed.passed 7 _ _ (omega arith) (p₃ .1) in
     let p₅ = Passed.passed 6 _ _ (omega arith) (p₄ .1) in

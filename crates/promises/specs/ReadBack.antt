@@ -17,7 +17,7 @@ use Rattle.meaning.specs.declared.Mode.{Mode}
 use Rattle.laws.specs.Members
 use Rattle.laws.specs.Facts
 use Rattle.laws.specs.Rewrite
-use Rattle.promises.specs.Promises.{ReadsBack, Call, number, Fits, Live}
+use Rattle.promises.specs.Promises.{ReadsBack, Call, Rows, number, table, Fits, Live}
 use Rattle.promises.specs.Refusing
 use Rattle.promises.specs.Over
 use Rattle.promises.specs.Read
@@ -77,12 +77,15 @@ module _ (g : Geometry) (d : List ℕ) (m : Mode) (h : Handle) (b : List ℕ) (e
   unfolding number
   passes = e
 
+  written : Rows (number g d (Call.writes m h b)) (Refusing.Checked g d) (Refusing.ownCases (table g d (Call.writes m h b)))
+  written = Refusing.own-rows g d (Refusing.ownCases (table g d (Call.writes m h b))) (number g d (Call.writes m h b)) (Refusing.numbers g d (Call.writes m h b))
+
   short : h .len ≤ length b
   short = go (decLe (h .len) (length b))
     where
       go : Dec (h .len ≤ length b) → h .len ≤ length b
       go (yes q) = q
-      go (no q) = absurd (Refusing.numbers g d (Call.writes m h b) .1 .1 .1 .1 .1 .1 .1 .1 .0 passes .0 .0 .0 .0 .0 .1 (λ t. q (t .2)))
+      go (no q) = absurd (written .1 .1 .1 .1 .1 .1 .0 passes .0 .0 .0 .0 .0 .1 (λ t. q (t .2)))
 
   long : length (take (h .len) b) ≡ h .len
   long = length-take (h .len) b ∙ omega (arith, short)
@@ -114,10 +117,12 @@ module _ (g : Geometry) (d : List ℕ) (m : Mode) (h : Handle) (b : List ℕ) (e
   -- none of the read's table does either
   read-passes : (b′ : List ℕ) → h .len ≤ length b′ → number g (writeRecord g d m h b .1) (Call.reads h b′) ≡ 0
   read-passes b′ room =
-      let w = Refusing.numbers g d (Call.writes m h b) .1 .1 .1 .1 .1 .1 .1 .1 .0 passes in
-      Refusing.numbers g d′ (Call.reads h b′) .1 .1 .1 .1 .1 .1 .1 (
+      let w = written .1 .1 .1 .1 .1 .1 .0 passes in
+      let read : Rows (number g d′ (Call.reads h b′)) (Refusing.Checked g d′) (Refusing.ownCases (table g d′ (Call.reads h b′))) =
+      Refusing.own-rows g d′ (Refusing.ownCases (table g d′ (Call.reads h b′))) (number g d′ (Call.reads h b′)) (Refusing.numbers g d′ (Call.reads h b′)) in
+      read .1 .1 .1 .1 .1 (
         (
-          ((((tt, λ n. w .0 .0 .0 .0 .0 .0 .0 .1 (λ k. n (fits′ k))), λ q. Members.false-no q (Members.true-T (wrote .consistent′))), λ n. w .0 .0 .0 .0 .0 .1 (λ t. n (t .0, room))), λ n. n live),
+          ((Refusing.checked-of g d′ (λ n. Refusing.checked-fits g d (w .0 .0 .0 .0 .0 .0) (λ k. n (fits′ k))) (wrote .consistent′), λ n. w .0 .0 .0 .0 .0 .1 (λ t. n (t .0, room))), λ n. n live),
           λ l. w .0 .0 .0 .1 (inl (omega arith)),
         ),
         λ l. omega (arith, size, Rewrite.after-end m (length O) (h .at + h .len)),

@@ -2,19 +2,20 @@
 use mathlib.Core.Path.{_≡_, refl, ap, sym, _∙_, subst}
 use mathlib.Core.Logic.{_≢_, _↔_, _⊎_, inl, inr}
 use mathlib.Core.Bool.{Bool, true, false, not, cond, _&&_, _||_}
-use mathlib.Core.List.{List, [], _∷_}
-use Prim.Native.Nat.{ℕ, _+_, _*_, _%_, _≤_, _<_}
+use mathlib.Core.List.{List, [], _∷_, _++_}
+use Prim.Native.Nat.{ℕ, zero, suc, _+_, _*_, _%_, _≤_, _<_}
 use native.Mathlib.Omega.{arith}
-use lib.ListN.{length}
+use lib.ListN.{length, drop}
 use lib.Dec.{T, eqb, leb, ltb, T-not, not-T, eqb→eq, leb→le, le→leb, ltb→lt, lt→ltb, nltb→le}
 use Rattle.meaning.specs.Lists.{all, any, distinct, same, firstOr}
 use Rattle.meaning.specs.Layout.{fitsGeometry, granules, granuleBytes, granuleSectors, sectors, highest, mostBlocks, mostUnits, isSlot, granulesFor, sectorNumbers}
 use Rattle.meaning.specs.Names.{wellFormed}
 use Rattle.meaning.specs.Entries.{inUse, extension, primary, nameOf, sizeOf, system, noGrowth, mainCode, workerCode, sectorCount}
 use Rattle.meaning.specs.Consistent.{consistent}
+use Rattle.meaning.specs.Fault.{fault}
 use Rattle.meaning.specs.Free.{freeGranules, freeSlots}
 use Rattle.meaning.specs.Growth.{Grown, grown, noSlot, fails, grow}
-use Rattle.meaning.specs.Refusals.{first, inRange, goodLength, newInRange, fresh, cannotGrow, lacking, check}
+use Rattle.meaning.specs.Refusals.{first, inRange, goodLength, newInRange, fresh, cannotGrow, lacking, check, faultNumbers, byNumber, diskRefusals}
 use Rattle.meaning.specs.LookUp.{named, missing, slotOf, lookUp, lookUpRefusals}
 use Rattle.meaning.specs.Open.{full, admits, open′, openRefusals}
 use Rattle.meaning.specs.Create.{create, createRefusals}
@@ -34,7 +35,9 @@ use Rattle.laws.specs.Members
 use Rattle.laws.specs.Members.{In, Distinct}
 use Rattle.laws.specs.Facts
 use Rattle.laws.specs.Places
+use Rattle.laws.specs.First.{numbersOf, first-in}
 use Rattle.laws.specs.Passed
+use Rattle.laws.specs.Fault
 use Rattle.laws.specs.Others
 use Rattle.laws.specs.Words.{words}
 use Rattle.laws.specs.Named
@@ -44,26 +47,12 @@ use Rattle.promises.specs.Promises.{Table, Rows, Exactly, Call, number, 
 
 -- Any list of refusals ------------------------------------------------------------------------------------------------------------
 
-abbrev numbersOf : List (ℕ × Bool) → List ℕ
-numbersOf [] = []
-numbersOf (c ∷ cs) = c .0 ∷ numbersOf cs
-
 -- the tests of a list are the cases of a table, each where no earlier one holds
 abbrev pub Reading : List (ℕ × Bool) → Table → Type 0 → Type 0
 Reading [] [] earlier = Unit {0}
 Reading [] (r ∷ rs) earlier = ⊥
 Reading (c ∷ cs) [] earlier = ⊥
 Reading (c ∷ cs) (r ∷ rs) earlier = (c .0 ≡ r .0) × (earlier → (T (c .1) ↔ r .1)) × Reading cs rs (earlier × (r .1 → ⊥))
-
-first-in : (cs : List (ℕ × Bool)) → In (first cs) (0 ∷ numbersOf cs)
-unfolding first
-first-in [] = Members.In.here
-first-in (c ∷ cs) = go (c .1) (Members.in-cons (first-in cs))
-  where
-    go : (b : Bool) → (first cs ≡ 0) ⊎ In (first cs) (numbersOf cs) → In (cond b (c .0) (first cs)) (0 ∷ c .0 ∷ numbersOf cs)
-    go true i = Members.In.there Members.In.here
-    go false (inl e) = Members.head-in (c .0 ∷ numbersOf cs) e
-    go false (inr i) = Members.In.there (Members.In.there i)
 
 -- the numbers after the first row, 0 among them, are not the first row's
 rest-apart : (m : ℕ) (ns : List ℕ) → Distinct (0 ∷ m ∷ ns) → Distinct (0 ∷ ns) × (In m (0 ∷ ns) → ⊥)
@@ -120,6 +109,18 @@ rows (c ∷ cs) (r ∷ rs) e E i w n a y z =
     none t (Members.Test.fails u) b k j = z u (skip-in a (c .0) (numbersOf cs) j)
     none t (Members.Test.holds u) (Members.Test.holds b) k j = k .1 (subst (λ (x : ℕ). In x (0 ∷ numbersOf cs)) (y u ∙ hit b) j)
     none t (Members.Test.holds u) (Members.Test.fails b) k j = t (Members.and-i e (not (c .1)) u (not-T (c .1) b))
+
+-- the rows of a call after those of the disk
+abbrev pub ownRows : List (ℕ × Bool) → List (ℕ × Bool)
+ownRows cs = drop (1 + length faultNumbers) cs
+
+abbrev pub without : ℕ → Table → Table
+without zero rs = rs
+without (suc n) [] = []
+without (suc n) (r ∷ rs) = without n rs
+
+abbrev pub ownCases : Table → Table
+ownCases rs = without (1 + length faultNumbers) rs
 
 -- The law: a list whose numbers differ, and are not 0, answers each number exactly in its case
 pub exactly : (cs : List (ℕ × Bool)) (rs : Table) → Reading cs rs (Unit {0}) → T (distinct (0 ∷ numbersOf cs)) → Exactly (first cs) rs
@@ -345,11 +346,65 @@ fails-iff noSlot = (λ t. refl, λ e. tt)
 -- The calls -------------------------------------------------------------------------------------------------------------------------
 
 module _ (g : Geometry) (d : List ℕ) where
-  pub no-fit : T (not (fitsGeometry g d)) ↔ (Fits g d → ⊥)
+  no-fit : T (not (fitsGeometry g d)) ↔ (Fits g d → ⊥)
   no-fit = not-iff (fitsGeometry g d) (fits-iff g d)
 
-  pub unsound : T (not (consistent g d)) ↔ (consistent g d ≡ false)
-  unsound = false-iff (consistent g d)
+  -- E, and none of these numbers is the fault's
+  abbrev pub Past : List ℕ → Type 0 → Type 0
+  Past [] E = E
+  Past (k ∷ ks) E = Past ks (E × (fault g d .number ≡ k → ⊥))
+
+  past-first : (ks : List ℕ) (E : Type 0) → Past ks E → E
+  past-first [] E x = x
+  past-first (k ∷ ks) E x = past-first ks (E × (fault g d .number ≡ k → ⊥)) x .0
+
+  past-none : (ks : List ℕ) (E : Type 0) → Past ks E → In (fault g d .number) ks → ⊥
+  past-none [] E x i = Members.none-in i
+  past-none (k ∷ ks) E x i = go (Members.in-cons i) (past-none ks (E × (fault g d .number ≡ k → ⊥)) x)
+    where
+      go : (fault g d .number ≡ k) ⊎ In (fault g d .number) ks → (In (fault g d .number) ks → ⊥) → ⊥
+      go (inl e) r = past-first ks (E × (fault g d .number ≡ k → ⊥)) x .1 e
+      go (inr j) r = r j
+
+  faults-reading : (ks : List ℕ) (cs : List (ℕ × Bool)) (rs : Table) (E : Type 0) → Reading cs rs (Past ks E)
+      → Reading (byNumber (fault g d .number) ks ++ cs) (Promises.faultCases g d ks rs) E
+  faults-reading [] cs rs E r = r
+  faults-reading (k ∷ ks) cs rs E r = (refl, λ x. eq-iff (fault g d .number) k, faults-reading ks cs rs (E × (fault g d .number ≡ k → ⊥)) r)
+
+  -- 1 and the faults are passed
+  abbrev pub Checked : Type 0
+  Checked = Past faultNumbers (Unit {0} × ((Fits g d → ⊥) → ⊥))
+
+  -- then the disk has no fault
+  checked-sound : Checked → Facts.Sound g d
+  checked-sound x = go (Members.in-cons (Fault.numbered g d))
+    where
+      go : (fault g d .number ≡ 0) ⊎ In (fault g d .number) faultNumbers → Facts.Sound g d
+      go (inl e) = Facts.sound g d (Fault.no-number g d .0 e)
+      go (inr i) = absurd (past-none faultNumbers (Unit {0} × ((Fits g d → ⊥) → ⊥)) x i)
+
+  -- a disk that fits and has no fault passes them
+  past-of : (ks : List ℕ) (E : Type 0) → E → (In (fault g d .number) ks → ⊥) → Past ks E
+  past-of [] E x f = x
+  past-of (k ∷ ks) E x f = past-of ks (E × (fault g d .number ≡ k → ⊥)) (x, λ e. f (Members.head-in ks e)) (λ i. f (Members.In.there i))
+
+  pub checked-of : ((Fits g d → ⊥) → ⊥) → consistent g d ≡ true → Checked
+  checked-of f e = past-of faultNumbers (Unit {0} × ((Fits g d → ⊥) → ⊥)) (tt, f) (λ i. let k = Members.count-in (fault g d .number) 21 10 i in omega (arith, k, Fault.no-number g d .1 e))
+
+  pub checked-fits : Checked → (Fits g d → ⊥) → ⊥
+  checked-fits c = past-first faultNumbers (Unit {0} × ((Fits g d → ⊥) → ⊥)) c .1
+
+  -- a call's own rows
+  rows-past : (ks : List ℕ) (rs : Table) (a : ℕ) (E : Type 0) → Rows a E (Promises.faultCases g d ks rs) → Rows a (Past ks E) rs
+  rows-past [] rs a E r = r
+  rows-past (k ∷ ks) rs a E r = rows-past ks rs a (E × (fault g d .number ≡ k → ⊥)) (r .1)
+
+  pub own-rows : (rs : Table) (a : ℕ) → Exactly a (Promises.diskCases g d rs) → Rows a Checked rs
+  own-rows rs a r = rows-past faultNumbers rs a (Unit {0} × ((Fits g d → ⊥) → ⊥)) (r .1)
+
+  -- the rows that every call has first
+  pub disk-reading : (cs : List (ℕ × Bool)) (rs : Table) → Reading cs rs Checked → Reading (diskRefusals g d cs) (Promises.diskCases g d rs) (Unit {0})
+  disk-reading cs rs r = (refl, λ x. no-fit, faults-reading faultNumbers cs rs (Unit {0} × ((Fits g d → ⊥) → ⊥)) r)
 
   stale : (h : Handle) → T (not (fresh g d h)) ↔ (Live g d h → ⊥)
   stale h = not-iff (fresh g d h) (live-iff g d h)
@@ -368,14 +423,14 @@ module _ (g : Geometry) (d : List ℕ) where
   holds : (b : Bool) {C : Type 0} → (T b ↔ C) → ((C → ⊥) → ⊥) → T b
   holds b i n = Passed.yes-T b (λ t. n (λ x. T-not b t (i .1 x)))
 
-  writes : (h : Handle) → ((Fits g d → ⊥) → ⊥) → (consistent g d ≡ false → ⊥) → ((Live g d h → ⊥) → ⊥)
+  writes : (h : Handle) → Checked → ((Live g d h → ⊥) → ⊥)
       → ((4 < h .level) ⊎ T (isSystem (fileAt g d (h .slot))) → ⊥) → Writes h
   unfolding fileAt
-  writes h a b l u =
+  writes h c l u =
       let v = live-iff g d h .0 (holds (fresh g d h) (live-iff g d h) l) in
       record {
-        fits = Places.fits g d (holds (fitsGeometry g d) (fits-iff g d) a);
-        sound = Facts.sound g d (Members.T-true (Passed.yes-T (consistent g d) (λ t. b (false-iff (consistent g d) .0 t))));
+        fits = Places.fits g d (holds (fitsGeometry g d) (fits-iff g d) (checked-fits c));
+        sound = checked-sound c;
         file = record { slot = v .slot; primary′ = Members.and-i (inUse g d (h .slot)) (not (extension g d (h .slot))) (v .used) (v .first) };
         user = not-T (system g d (h .slot)) (λ t. u (inr t));
       }
@@ -399,100 +454,68 @@ module _ (g : Geometry) (d : List ℕ) where
 
   check-numbers : Exactly (check g d) (Promises.diskCases g d [])
   unfolding check
-  check-numbers = exactly _ (Promises.diskCases g d []) (refl, λ x. no-fit, (refl, λ x. unsound, tt)) tt
+  check-numbers = exactly (diskRefusals g d []) (Promises.diskCases g d []) (disk-reading [] [] tt) tt
 
   look-numbers : (n : List ℕ) → Exactly (lookUp g d n .number) (table g d (Call.looksUp n))
   unfolding lookUp
   look-numbers n = exactly (lookUpRefusals g d n) (table g d (Call.looksUp n))
-      (refl, λ x. no-fit, (refl, λ x. unsound, (refl, λ x. false-iff (wellFormed n), (refl, λ x. missing-iff g d n, tt)))) tt
+      (disk-reading (ownRows (lookUpRefusals g d n)) (ownCases (table g d (Call.looksUp n))) (refl, λ x. false-iff (wellFormed n), (refl, λ x. missing-iff g d n, tt))) tt
 
   open-numbers : (n : List ℕ) (len : ℕ) (checking : Bool) (code : ℕ) → Exactly (open′ g d n len checking code .number) (table g d (Call.opens n len checking code))
   unfolding open′
-  open-numbers n len checking code = exactly (openRefusals g d n len checking code) (table g d (Call.opens n len checking code)) (
+  open-numbers n len checking code = exactly (openRefusals g d n len checking code) (table g d (Call.opens n len checking code)) (disk-reading (ownRows (openRefusals g d n len checking code)) (ownCases (table g d (Call.opens n len checking code))) (
     refl,
-    λ x. no-fit,
+    λ x. not-iff (goodLength len) (length-iff len),
     (
       refl,
-      λ x. unsound,
+      λ x. false-iff (wellFormed n),
       (
         refl,
-        λ x. not-iff (goodLength len) (length-iff len),
-        (
-          refl,
-          λ x. false-iff (wellFormed n),
-          (
-            refl,
-            λ x. missing-iff g d n,
-            (refl, λ x. wrong-iff g d n checking code (λ t. x .1 (missing-iff g d n .0 t)), tt),
-          ),
-        ),
+        λ x. missing-iff g d n,
+        (refl, λ x. wrong-iff g d n checking code (λ t. x .1 (missing-iff g d n .0 t)), tt),
       ),
     ),
-  ) tt
+  )) tt
 
   create-numbers : (n : List ℕ) (f : NewFile) (checking : Bool) → Exactly (create g d n f checking .0 .number) (table g d (Call.creates n f checking))
   unfolding create
-  create-numbers n f checking = exactly (createRefusals g d n f checking) (table g d (Call.creates n f checking)) (
+  create-numbers n f checking = exactly (createRefusals g d n f checking) (table g d (Call.creates n f checking)) (disk-reading (ownRows (createRefusals g d n f checking)) (ownCases (table g d (Call.creates n f checking))) (
     refl,
-    λ x. no-fit,
+    λ x. not-iff (newInRange f) (new-iff f),
     (
       refl,
-      λ x. unsound,
+      λ x. false-iff (wellFormed n),
       (
         refl,
-        λ x. not-iff (newInRange f) (new-iff f),
-        (
-          refl,
-          λ x. false-iff (wellFormed n),
-          (
-            refl,
-            λ x. wrong-created g d n checking (f .main),
-            (refl, λ x. both-iff (missing g d n) (eqb (length (freeSlots g d)) 0) (missing-iff g d n) (none-iff (freeSlots g d)), tt),
-          ),
-        ),
+        λ x. wrong-created g d n checking (f .main),
+        (refl, λ x. both-iff (missing g d n) (eqb (length (freeSlots g d)) 0) (missing-iff g d n) (none-iff (freeSlots g d)), tt),
       ),
     ),
-  ) tt
+  )) tt
 
   read-numbers : (h : Handle) (b : List ℕ) → Exactly (readRecord g d h b .0 .number) (table g d (Call.reads h b))
   unfolding readRecord
-  read-numbers h b = exactly (readRefusals g d h (length b)) (table g d (Call.reads h b)) (
+  read-numbers h b = exactly (readRefusals g d h (length b)) (table g d (Call.reads h b)) (disk-reading (ownRows (readRefusals g d h (length b))) (ownCases (table g d (Call.reads h b))) (
     refl,
-    λ x. no-fit,
+    λ x. not-iff (all (inRange h ∷ leb (h .len) (length b) ∷ [])) (both-iff (inRange h) (leb (h .len) (length b)) (range-iff h) (le-iff (h .len) (length b))),
     (
       refl,
-      λ x. unsound,
-      (
-        refl,
-        λ x. not-iff (all (inRange h ∷ leb (h .len) (length b) ∷ [])) (both-iff (inRange h) (leb (h .len) (length b)) (range-iff h) (le-iff (h .len) (length b))),
-        (
-          refl,
-          λ x. stale h,
-          (refl, λ x. lt-iff 5 (h .level), (refl, λ x. subst (λ (s : ℕ). T (ltb (sizeOf g d (h .slot)) (h .at + h .len)) ↔ (s < h .at + h .len)) (sym (Others.file-length g d (h .slot))) (lt-iff (sizeOf g d (h .slot)) (h .at + h .len)), tt)),
-        ),
-      ),
+      λ x. stale h,
+      (refl, λ x. lt-iff 5 (h .level), (refl, λ x. subst (λ (s : ℕ). T (ltb (sizeOf g d (h .slot)) (h .at + h .len)) ↔ (s < h .at + h .len)) (sym (Others.file-length g d (h .slot))) (lt-iff (sizeOf g d (h .slot)) (h .at + h .len)), tt)),
     ),
-  ) tt
+  )) tt
 
   sector-numbers : (h : Handle) (k : ℕ) → Exactly (readSector g d h k .number) (table g d (Call.readsSector h k))
   unfolding readSector
-  sector-numbers h k = exactly (sectorRefusals g d h k) (table g d (Call.readsSector h k)) (
+  sector-numbers h k = exactly (sectorRefusals g d h k) (table g d (Call.readsSector h k)) (disk-reading (ownRows (sectorRefusals g d h k)) (ownCases (table g d (Call.readsSector h k))) (
     refl,
-    λ x. no-fit,
+    λ x. not-iff (all (inRange h ∷ ltb k sectorNumbers ∷ [])) (both-iff (inRange h) (ltb k sectorNumbers) (range-iff h) (lt-iff k sectorNumbers)),
     (
       refl,
-      λ x. unsound,
-      (
-        refl,
-        λ x. not-iff (all (inRange h ∷ ltb k sectorNumbers ∷ [])) (both-iff (inRange h) (ltb k sectorNumbers) (range-iff h) (lt-iff k sectorNumbers)),
-        (
-          refl,
-          λ x. stale h,
-          (refl, λ x. lt-iff 5 (h .level), (refl, λ x. le-iff (sectorCount g d (h .slot)) k, tt)),
-        ),
-      ),
+      λ x. stale h,
+      (refl, λ x. lt-iff 5 (h .level), (refl, λ x. le-iff (sectorCount g d (h .slot)) k, tt)),
     ),
-  ) tt
+  )) tt
 
   three-iff : (a b c : Bool) {A B C : Type 0} → (T a ↔ A) → (T b ↔ B) → (T c ↔ C) → (T (all (a ∷ b ∷ c ∷ [])) ↔ (A × B × C))
   unfolding all
@@ -503,23 +526,15 @@ module _ (g : Geometry) (d : List ℕ) where
 
   write-numbers : (m : Mode) (h : Handle) (b : List ℕ) → Exactly (writeRecord g d m h b .0 .number) (table g d (Call.writes m h b))
   unfolding writeRecord
-  write-numbers m h b = exactly (writeRefusals g d m h (length b)) (table g d (Call.writes m h b)) (
+  write-numbers m h b = exactly (writeRefusals g d m h (length b)) (table g d (Call.writes m h b)) (disk-reading (ownRows (writeRefusals g d m h (length b))) (ownCases (table g d (Call.writes m h b))) (
     refl,
-    λ x. no-fit,
+    λ x. not-iff (all (inRange h ∷ leb (h .at + h .len) highest ∷ leb (h .len) (length b) ∷ [])) (three-iff (inRange h) (leb (h .at + h .len) highest) (leb (h .len) (length b)) (range-iff h) (le-iff (h .at + h .len) highest) (le-iff (h .len) (length b))),
     (
       refl,
-      λ x. unsound,
-      (
-        refl,
-        λ x. not-iff (all (inRange h ∷ leb (h .at + h .len) highest ∷ leb (h .len) (length b) ∷ [])) (three-iff (inRange h) (leb (h .at + h .len) highest) (leb (h .len) (length b)) (range-iff h) (le-iff (h .at + h .len) highest) (le-iff (h .len) (length b))),
-        (
-          refl,
-          λ x. stale h,
-          (refl, λ x. barred-iff 4 h, growth-needed h (toWrite g d m h) _ needed _ (λ x. writes h (x .0 .0 .0 .0 .1) (x .0 .0 .0 .1) (x .0 .1) (x .1))),
-        ),
-      ),
+      λ x. stale h,
+      (refl, λ x. barred-iff 4 h, growth-needed h (toWrite g d m h) _ needed _ (λ x. writes h (x .0 .0 .0) (x .0 .1) (x .1))),
     ),
-  ) tt
+  )) tt
     where
       needed : toWrite g d m h ≡ Promises.lacks g d h (granulesFor (sizeAfter m (length (fileAt g d (h .slot) .bytes)) (h .at + h .len)))
       needed = unfold fileAt in ap (λ (s : ℕ). lacking g d (h .slot) (granulesFor (sizeAfter m s (h .at + h .len)))) (sym (Others.file-length g d (h .slot)))
@@ -527,17 +542,17 @@ module _ (g : Geometry) (d : List ℕ) where
   allot-numbers : (h : Handle) (k : ℕ) → Exactly (allot g d h k .0 .number) (table g d (Call.allots h k))
   unfolding allot fileAt
   allot-numbers h k = exactly (allotRefusals g d h k) (table g d (Call.allots h k))
-      (refl, λ x. no-fit, (refl, λ x. unsound, (refl, λ x. not-iff (all (inRange h ∷ ltb k sectorNumbers ∷ [])) (both-iff (inRange h) (ltb k sectorNumbers) (range-iff h) (lt-iff k sectorNumbers)), (refl, λ x. stale h, (refl, λ x. barred-iff 4 h, growth-reading h (toAllot g d h k) _ (λ x. writes h (x .0 .0 .0 .0 .1) (x .0 .0 .0 .1) (x .0 .1) (x .1))))))) tt
+      (disk-reading (ownRows (allotRefusals g d h k)) (ownCases (table g d (Call.allots h k))) (refl, λ x. not-iff (all (inRange h ∷ ltb k sectorNumbers ∷ [])) (both-iff (inRange h) (ltb k sectorNumbers) (range-iff h) (lt-iff k sectorNumbers)), (refl, λ x. stale h, (refl, λ x. barred-iff 4 h, growth-reading h (toAllot g d h k) _ (λ x. writes h (x .0 .0 .0) (x .0 .1) (x .1)))))) tt
 
   trim-numbers : (h : Handle) → Exactly (trim g d h .0 .number) (table g d (Call.trims h))
   unfolding trim
   trim-numbers h = exactly (trimRefusals g d h) (table g d (Call.trims h))
-      (refl, λ x. no-fit, (refl, λ x. unsound, (refl, λ x. not-iff (inRange h) (range-iff h), (refl, λ x. stale h, (refl, λ x. barred-iff 4 h, tt))))) tt
+      (disk-reading (ownRows (trimRefusals g d h)) (ownCases (table g d (Call.trims h))) (refl, λ x. not-iff (inRange h) (range-iff h), (refl, λ x. stale h, (refl, λ x. barred-iff 4 h, tt)))) tt
 
   kill-numbers : (h : Handle) → Exactly (kill g d h .0 .number) (table g d (Call.kills h))
   unfolding kill
   kill-numbers h = exactly (killRefusals g d h) (table g d (Call.kills h))
-      (refl, λ x. no-fit, (refl, λ x. unsound, (refl, λ x. not-iff (inRange h) (range-iff h), (refl, λ x. stale h, (refl, λ x. barred-iff 1 h, tt))))) tt
+      (disk-reading (ownRows (killRefusals g d h)) (ownCases (table g d (Call.kills h))) (refl, λ x. not-iff (inRange h) (range-iff h), (refl, λ x. stale h, (refl, λ x. barred-iff 1 h, tt)))) tt
 
   -- the listing answers check's number
   pub list-number : (i : ℕ) → Listing.list g d i .number ≡ check g d

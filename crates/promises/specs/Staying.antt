@@ -81,8 +81,7 @@ module _ (g : Geometry) (d : List ℕ) (k : Good g d) where
       let p = h .slot in let more = toWrite g d m h in
       let w = Passed.holds g d h _ 4 (cannotGrow g d p more) e in
       let x = Grow.larger-grew g d h more (w .0) (w .1) in
-      let p₁ = passed 1 _ _ (omega arith) e in
-      let p₂ = passed 2 _ _ (omega arith) (p₁ .1) in
+      let p₂ = Passed.disk-passed g d _ e in
       let p₃ = passed 12 _ _ (omega arith) (p₂ .1) in
       let tests : Bool = all (leb (h .at + h .len) highest ∷ leb (h .len) (length b) ∷ []) in
       let range : T (inRange h && tests) = yes-T (inRange h && tests) (p₃ .0) in
@@ -104,8 +103,7 @@ module _ (g : Geometry) (d : List ℕ) (k : Good g d) where
   create-small : (n : List ℕ) (f : NewFile) (checking : Bool) → f .main < 65536 → f .worker < 65536 → create g d n f checking .0 .number ≡ 0 → Small (create g d n f checking .1)
   unfolding create
   create-small n f checking a b e =
-      let p₁ = passed 1 _ _ (omega arith) e in
-      let p₂ = passed 2 _ _ (omega arith) (p₁ .1) in
+      let p₂ = Passed.disk-passed g d _ e in
       let p₃ = passed 12 _ _ (omega arith) (p₂ .1) in
       let p₄ = passed 3 _ _ (omega arith) (p₃ .1) in
       let r = Refusing.new-iff f .0 (yes-T (newInRange f) (p₃ .0)) in

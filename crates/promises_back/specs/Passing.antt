@@ -1,5 +1,5 @@
 -- What a bring back that was accepted has passed, and that what passes is accepted
-use mathlib.Core.Path.{_≡_, refl}
+use mathlib.Core.Path.{_≡_, refl, _∙_}
 use mathlib.Core.Logic.{_⊎_, inl, inr}
 use mathlib.Core.Bool.{Bool, true, false, not}
 use mathlib.Core.List.{List, [], _∷_}
@@ -18,11 +18,10 @@ use Rattle.meaning.specs.BringBack.{bringBack, bringBackRefusals, broughtBack, 
 use Rattle.meaning.specs.declared.Geometry.{Geometry}
 use Rattle.laws.specs.Members
 use Rattle.laws.specs.Members.{In}
-use Rattle.laws.specs.Facts
 use Rattle.laws.specs.Facts.{Sound}
 use Rattle.laws.specs.Places
 use Rattle.laws.specs.Named
-use Rattle.laws.specs.Passed.{passed, yes-T}
+use Rattle.laws.specs.Passed.{passed, yes-T, disk-passed, disk-passes}
 use Rattle.laws.specs.BringBack
 use Rattle.laws.specs.BringBack.{Back}
 use Rattle.promises.specs.CreateMeans
@@ -48,17 +47,16 @@ pub record Accepted (g : Geometry) (d : List ℕ) (s : ℕ) : Type 0 where
 module _ (g : Geometry) (d : List ℕ) (s : ℕ) where
   accepted : first (bringBackRefusals g d s) ≡ 0 → Accepted g d s
   accepted e =
-      let p₁ = passed 1 _ _ (omega arith) e in
-      let p₂ = passed 2 _ _ (omega arith) (p₁ .1) in
-      let p₃ = passed 12 _ _ (omega arith) (p₂ .1) in
+      let p = disk-passed g d _ e in
+      let p₃ = passed 12 _ _ (omega arith) (p .1) in
       let p₄ = passed 17 _ _ (omega arith) (p₃ .1) in
       let p₅ = passed 6 _ _ (omega arith) (p₄ .1) in
       let p₆ = passed 18 _ _ (omega arith) (p₅ .1) in
       let p₇ = passed 19 _ _ (omega arith) (p₆ .1) in
       let p₈ = passed 20 _ _ (omega arith) (p₇ .1) in
-      let c = Facts.sound g d (Members.T-true (yes-T (consistent g d) (p₂ .0))) in
+      let c = p .0 .sound in
       record {
-        fits = Places.fits g d (yes-T (fitsGeometry g d) (p₁ .0));
+        fits = Places.fits g d (p .0 .fits);
         sound = c;
         back = record {
           slot = yes-T (isSlot g d s) (p₃ .0);
@@ -92,9 +90,9 @@ module _ (g : Geometry) (d : List ℕ) (s : ℕ) where
 
   pub accepts : T (fitsGeometry g d) → T (consistent g d) → Back g d s → first (bringBackRefusals g d s) ≡ 0
   accepts f c w =
-      skip 1 (not (fitsGeometry g d)) _ (no-not (fitsGeometry g d) f) (skip 2 (not (consistent g d)) _ (no-not (consistent g d) c) (skip 12 (not (isSlot g d s)) _ (no-not (isSlot g d s) (w .slot))
+      disk-passes g d _ (Members.T-true f) (Members.T-true c) ∙ skip 12 (not (isSlot g d s)) _ (no-not (isSlot g d s) (w .slot))
       (skip 17 (inUse g d s) _ (w .dead) (skip 6 (system g d s) _ (T-not (system g d s) (w .user)) (skip 18 (not (whole g d s)) _ (no-not (whole g d s) (BringBack.says-whole g d s (w .whole′)))
-      (skip 19 (nameInUse g d s) _ (no-not (missing g d (nameOf g d s)) (unnamed w)) (skip 20 (some (taken g d) (owned g d s)) [] (λ t. let k = some-in (taken g d) (owned g d s) t in w .free (k .0) (k .1) (k .2)) none)))))))
+      (skip 19 (nameInUse g d s) _ (no-not (missing g d (nameOf g d s)) (unnamed w)) (skip 20 (some (taken g d) (owned g d s)) [] (λ t. let k = some-in (taken g d) (owned g d s) t in w .free (k .0) (k .1) (k .2)) none)))))
 
   -- the whole answer, where nothing is refused
   pub answers : first (bringBackRefusals g d s) ≡ 0

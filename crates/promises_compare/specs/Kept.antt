@@ -10,12 +10,12 @@ use lib.Dec.{T, eqb, ltb, not-T}
 use lib.ListN.{length, getD, drop}
 use borrow.Author.Tests.{eqb-true, eqb-false, eq-eqb, ne-eqb, not-false, ltb-true, ltb-false}
 use Rattle.meaning.specs.Lists.{keep}
-use Rattle.meaning.specs.Consistent.{consistent}
-use Rattle.meaning.specs.Refusals.{first, check, badGeometry, notConsistent}
+use Rattle.meaning.specs.Refusals.{check}
 use Rattle.meaning.specs.Plain.{isSystem, File, Found, found, nothing, plain}
 use Rattle.meaning.specs.declared.Geometry.{Geometry}
 use Rattle.laws.specs.Facts as facts
 use Rattle.laws.specs.Members
+use Rattle.laws.specs.Passed.{check-passed}
 use Rattle.together.specs.Statement as statement
 use Rattle.differences.specs.Compare.{before, difference, isOne, tellsNone, tellFirst, at′, differences, merged, compare}
 use Rattle.differences.specs.Order.{In, never, before-self}
@@ -27,13 +27,7 @@ use Rattle.promises_compare.specs.Telling.{getD-in, in-getD, getD-rises,
 
 -- a disk whose check answers 0 is consistent
 sound : (g : Geometry) (d : List ℕ) → check g d ≡ 0 → facts.Sound g d
-unfolding check first
-sound g d e = facts.sound g d (by (badGeometry g d .1) refl (consistent g d) refl)
-  where
-    by : (a : Bool) → badGeometry g d .1 ≡ a → (b : Bool) → consistent g d ≡ b → consistent g d ≡ true
-    by a p true q = q
-    by true p false q = absurd (let z : _≡_ {A = ℕ} 1 0 = sym (λ i. cond (p i) 1 (cond (not (consistent g d)) 2 0)) ∙ e in let w : ⊥ = omega arith in w)
-    by false p false q = absurd (let z : _≡_ {A = ℕ} 2 0 = sym (λ i. cond (p i) 1 (cond (not (q i)) 2 0)) ∙ e in let w : ⊥ = omega arith in w)
+sound g d e = check-passed g d e .sound
 
 nothing-one : isOne (tellsNone 0 0) ≡ false
 unfolding isOne

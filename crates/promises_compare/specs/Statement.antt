@@ -50,7 +50,7 @@ pub data Says (x : Difference) : Found → Found → Type 0 where
 
 -- 2. Two disks ---------------------------------------------------------------------------------------------------------------
 
--- 1 and 2 are given to neither image
+-- 1 and 2 (21 to 30) are given to neither image
 pub record Both (g : Geometry) (d : List ℕ) (g′ : Geometry) (d′ : List ℕ) : Type 0 where
   pub first : check g d ≡ 0
   pub second : check g′ d′ ≡ 0
@@ -74,7 +74,7 @@ module _ (g : Geometry) (d : List ℕ) (g′ : Geometry) (d′ : List ℕ) where
     pub every′ : (n : List ℕ) → (Agree (plain g d n) (plain g′ d′ n) → ⊥) → (i : ℕ) × (i < many) × (compare g d g′ d′ i .name ≡ n)
     pub once : (i j : ℕ) → i < many → j < many → compare g d g′ d′ i .name ≡ compare g d g′ d′ j .name → i ≡ j
 
-  -- Refusals: 1 and 2, each naming the image, the first's before the second's
+  -- Refusals: 1 and 2 (21 to 30), each naming the image, the first's before the second's
   pub record Refuses : Type 0 where
     pub first : (i : ℕ) → check g d ≢ 0 → compare g d g′ d′ i ≡ tellsNone (check g d) 1
     pub second : (i : ℕ) → check g d ≡ 0 → check g′ d′ ≢ 0 → compare g d g′ d′ i ≡ tellsNone (check g′ d′) 2

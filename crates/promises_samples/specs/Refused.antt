@@ -15,9 +15,9 @@ unfolding opened number
 row-1 = refl
 
 -- the directory's granules clear in the GAT
-row-2 : number three (set gaps 0 0) checks ≡ 2
+row-30 : number three (set gaps 0 0) checks ≡ 30
 unfolding opened number
-row-2 = refl
+row-30 = refl
 
 -- position 1,966,081
 row-12 : number three gaps (kills (held 0x80 leer 1966081 256 1)) ≡ 12

@@ -23,7 +23,7 @@ use Rattle.meaning.specs.declared.Part.{Part}
 use native.Mathlib.Decide.{ℕ-discrete}
 use Rattle.layout.specs.Room.{Slot}
 use Rattle.layout.proofs.Lists.{all-at, and-l, first-at, count-append}
-use Rattle.handle.proofs.Laws.{passed, walks, ranges, handle-stop, handle-then}
+use Rattle.handle.proofs.Laws.{ownRow, passed, walks, ranges, handle-stop, handle-then}
 use Rattle.seek.specs.Seek.{Sound, Used}
 use Rattle.seek.proofs.Sound.{owned-low}
 use Rattle.copy.proofs.Laws.{sets-append}
@@ -137,7 +137,7 @@ module _ (g : Geometry) (d : List ℕ) where
       let w = walks g d h _ p in
       let r = ranges g d h (all-at _ (p .ranged′) 0) in
       let l = leb-true (h .len) room (all-at _ (p .ranged′) 1) in
-      let z = ltb-false (sizeOf g d (h .slot)) (h .at + h .len) (t 5) in
+      let z = ltb-false (sizeOf g d (h .slot)) (h .at + h .len) (t (ownRow 3)) in
       let y = w .0 .size (h .slot) (p .slot) (p .first′) in
       record {
         file = record { sound = w .0; used = w .1 };
@@ -202,7 +202,7 @@ module _ (g : Geometry) (d : List ℕ) where
       let p = passed g d h (all (inRange h ∷ ltb k sectorNumbers ∷ [])) _ refl e z in
       let w = walks g d h _ p in
       let l = ltb-true k sectorNumbers (all-at _ (p .ranged′) 1) in
-      let c = leb-false (sectorCount g d (h .slot)) k (t 5) in
+      let c = leb-false (sectorCount g d (h .slot)) k (t (ownRow 3)) in
       let b = bytes-fit (h .slot) k (omega arith) in
       let y = w .0 .size (h .slot) (p .slot) (p .first′) in
       record {

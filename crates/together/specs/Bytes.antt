@@ -69,8 +69,7 @@ open-handle : (g : Geometry) (d : List ℕ) (n : Name) (len : ℕ) (checking : B
     → (open′ g d n len checking code .handle ≡ openedAt g d (firstOr 0 (named g d n)) n len checking code) × (T (missing g d n) → ⊥)
 unfolding open′
 open-handle g d n len checking code e =
-    let p₁ = Passed.passed 1 _ _ (omega arith) e in
-    let p₂ = Passed.passed 2 _ _ (omega arith) (p₁ .1) in
+    let p₂ = Passed.disk-passed g d _ e in
     let p₃ = Passed.passed 12 _ _ (omega arith) (p₂ .1) in
     let p₄ = Passed.passed 3 _ _ (omega arith) (p₃ .1) in
     let p₅ = Passed.passed 4 _ _ (omega arith) (p₄ .1) in

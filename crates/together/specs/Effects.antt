@@ -161,8 +161,7 @@ module _ (g : Geometry) (n : Name) (d : List ℕ) (hs : List Handle) (k : Good g
       → Effect g n d hs (opens len checking code) d (hs ++ (open′ g d n len checking code .handle ∷ []))
   unfolding effect open′
   open-effect len checking code e =
-      let p₁ = Passed.passed 1 _ _ (omega arith) e in
-      let p₂ = Passed.passed 2 _ _ (omega arith) (p₁ .1) in
+      let p₂ = Passed.disk-passed g d _ e in
       let p₃ = Passed.passed 12 _ _ (omega arith) (p₂ .1) in
       let p₄ = Passed.passed 3 _ _ (omega arith) (p₃ .1) in
       let p₅ = Passed.passed 4 _ _ (omega arith) (p₄ .1) in

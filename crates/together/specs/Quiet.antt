@@ -186,8 +186,7 @@ write-quiet g d n m h b e t q =
   where
     length-b : writeRecord g d m h b .0 .number ≡ 0 → length (take (h .len) b) ≡ h .len
     length-b t = unfold writeRecord all in (
-        let p₁ = Passed.passed 1 _ _ (omega arith) t in
-        let p₂ = Passed.passed 2 _ _ (omega arith) (p₁ .1) in
+        let p₂ = Passed.disk-passed g d _ t in
         let p₃ = Passed.passed 12 _ _ (omega arith) (p₂ .1) in
         let range : T (all (inRange h ∷ leb (h .at + h .len) highest ∷ leb (h .len) (length b) ∷ [])) = Passed.yes-T (all (inRange h ∷ leb (h .at + h .len) highest ∷ leb (h .len) (length b) ∷ [])) (p₃ .0) in
         let short = leb→le (h .len) (length b) (Members.and-l (leb (h .len) (length b)) true (Members.and-r (leb (h .at + h .len) highest) _ (Members.and-r (inRange h) _ range))) in

@@ -175,7 +175,7 @@ impl Wanted {
             };
         }
         match self.consistent(image).as_slice() {
-            [] => Err(self.none_fits(image.len(), path)),
+            [] => Err(self.none_fits(image, path)),
             [fit] => Ok(fit.geometry),
             several => {
                 let mut message = format!("{path}: {} geometries fit; choose one of\n", several.len());
@@ -188,17 +188,31 @@ impl Wanted {
         }
     }
 
-    /// The refusal of an image that no geometry fits: 1 if none has its length, else 2.
-    pub fn none_fits(&self, image_len: usize, path: &str) -> Failure {
-        let tried = self.fitting(image_len).len();
+    /// The refusal of an image under none of whose geometries the disk is consistent: 1 if none has its length, the fault if
+    /// there is only one, and of several the faults under those that are of a known kind of disk.
+    pub fn none_fits(&self, image: &[u8], path: &str) -> Failure {
+        let tried = self.fitting(image.len());
         let stated = self.blocks.or(self.units).or(self.start).is_some();
         let and_options = if stated { " and the options" } else { "" };
-        match tried {
-            0 => Failure::image(path)(Refusal::Geometry)
-                .because(format!("no geometry fits its length of {image_len} bytes{and_options}")),
-            _ => Failure::image(path)(Refusal::Inconsistent)
-                .because(format!("under none of the {tried} geometries that fit its length{and_options}")),
+        if tried.is_empty() {
+            let why = format!("no geometry fits its length of {} bytes{and_options}", image.len());
+            return Failure::image(path)(Refusal::Geometry).because(why);
         }
+        if let [only] = tried.as_slice() {
+            let disk = Disk::new(image, *only);
+            if let Err(refused) = disk.check().map_err(Failure::disk(path, &disk)) {
+                return refused;
+            }
+        }
+        let mut detail = format!("under none of the {} geometries that fit its length{and_options}", tried.len());
+        for (geometry, name) in tried.into_iter().filter_map(|geometry| Some((geometry, preset_of(geometry)?))) {
+            let disk = Disk::new(image, geometry);
+            if let Some(fault) = disk.check().err().and_then(Refusal::fault) {
+                let number = fault.kind.number();
+                detail += &format!("; by --preset {name}: {number} ({}): {}", fault.kind, disk.explain(fault));
+            }
+        }
+        Failure::NoGeometry { image: path.to_string(), detail }
     }
 }
 
@@ -302,7 +316,9 @@ mod tests {
         }
         let nothing = [0; 40_960];
         assert_eq!(ANY.find(&nothing, "x").unwrap_err().status(), 1);
-        assert!(ANY.find(&nothing, "x").unwrap_err().to_string().contains("refused: 2"));
+        assert!(ANY.find(&nothing, "x").unwrap_err().to_string().contains("refused: disk not consistent"));
+        let one = Wanted { units: Some(2), start: Some(80), ..ANY };
+        assert!(one.find(&nothing, "x").unwrap_err().to_string().contains("refused: 30"));
         assert!(ANY.find(&nothing[1..], "x").unwrap_err().to_string().contains("refused: 1"));
     }
 }

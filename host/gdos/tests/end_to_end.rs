@@ -74,6 +74,53 @@ fn help_for_everything() {
     assert_eq!(folder.done(&["--version"]), format!("gdos {}\n", env!("CARGO_PKG_VERSION")));
 }
 
+/// Good and damaged images in one command: each is told by itself, and the status is the worst.
+#[test]
+fn check_tells_what_is_wrong_and_where() {
+    let folder = sample("faults");
+    // GAT at 5000H, HIT at 5100H, the entries of slots 80H (PULS01/DAT) and 81H (LEER) at 5280H and 5380H.
+    let damages = [
+        ("length.img", 0x511f, 3, 21, None, "directory length"),
+        ("hit.img", 0x5181, 0, 22, Some(0x81), "HIT against entry"),
+        ("chain.img", 0x529e, 0xfe, 25, Some(0x80), "chain"),
+        ("gat.img", 0x5000, 1, 27, Some(0x80), "GAT bit missing"),
+        ("directory.img", 0x5008, 0, 30, None, "directory granule"),
+    ];
+    let mut words = vec!["check", "--preset", "sample", "--json", "d.img"];
+    for (image, at, byte, ..) in damages {
+        folder.write(image, folder.read("d.img"));
+        folder.poke(image, at, &[byte]);
+        words.push(image);
+    }
+    let done = folder.gdos(&words);
+    assert_eq!((done.status, done.err.lines().count()), (1, 5));
+    let json = done.json();
+    assert_eq!((json.at("images").len(), json.at("images.0.image").text()), (1, "d.img"));
+    assert_eq!(json.at("failures").len(), 5);
+    for (i, (image, _, _, number, slot, kind)) in damages.into_iter().enumerate() {
+        let refused = json.at(&format!("failures.{i}.refused"));
+        let fault = refused.at("fault");
+        assert_eq!(refused.at("image").text(), image);
+        assert_eq!((refused.at("number").number(), fault.at("number").number()), (number, number));
+        assert_eq!(fault.at("kind").text(), kind);
+        let told = |number: Option<u64>| number.map_or(Json::Null, Json::Number);
+        assert_eq!(fault.at("slot"), &told(slot));
+        assert_eq!(fault.at("sector"), &told(slot.map(|slot| slot % 32 + 2)));
+        assert_eq!(fault.at("byte"), &told(slot.map(|slot| slot / 32 * 32)));
+        let name = slot.map_or(Json::Null, |slot| Json::Text(["PULS01/DAT", "LEER"][slot as usize - 0x80].to_string()));
+        assert_eq!(fault.at("name"), &name);
+        // The same in words, by itself and by a command that would change the disk; which it does not.
+        let alone = folder.gdos(&["check", "--preset", "sample", image]);
+        assert_eq!((alone.status, alone.out.len()), (1, 0));
+        assert!(alone.err.starts_with(&format!("gdos: refused: {number} (disk not consistent: {kind}): {image}: ")));
+        assert!(alone.err.trim_end().ends_with(fault.at("message").text()), "{}", alone.err);
+        let before = folder.everything();
+        assert_eq!(folder.gdos(&["rm", image, "LEER", "--preset", "sample"]).err, alone.err);
+        assert_eq!(folder.gdos(&["put", image, "leer", "--force", "--preset", "sample"]).err, alone.err);
+        assert!(folder.everything() == before);
+    }
+}
+
 #[test]
 fn json_of_every_command() {
     let folder = sample("json");

@@ -41,6 +41,11 @@ fn damaged_images() {
 }
 
 #[test]
+fn faults() {
+    play("faults");
+}
+
+#[test]
 fn patterns() {
     play("patterns");
 }

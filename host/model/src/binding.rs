@@ -36,8 +36,8 @@ mod bound {
         fn title(&self) -> &'static str {
             "library"
         }
-        fn check(&self, image: &[u8], g: &Geometry) -> Number {
-            unsafe { genie_check(image.as_ptr(), image.len(), g.blocks, g.units, g.start, g.open_code) }
+        fn check(&self, image: &[u8], g: &Geometry, fault_slot: &mut usize) -> Number {
+            unsafe { genie_check(image.as_ptr(), image.len(), g.blocks, g.units, g.start, g.open_code, fault_slot) }
         }
         fn look_up(
             &self,
@@ -46,6 +46,7 @@ mod bound {
             name: &[u8],
             slot: &mut usize,
             compared: &mut usize,
+            fault_slot: &mut usize,
         ) -> Number {
             unsafe {
                 genie_look_up(
@@ -59,6 +60,7 @@ mod bound {
                     name.len(),
                     slot,
                     compared,
+                    fault_slot,
                 )
             }
         }
@@ -71,6 +73,7 @@ mod bound {
             checking: bool,
             code: u16,
             handle: &mut [u8],
+            fault_slot: &mut usize,
         ) -> Number {
             unsafe {
                 genie_open(
@@ -87,6 +90,7 @@ mod bound {
                     code,
                     handle.as_mut_ptr(),
                     handle.len(),
+                    fault_slot,
                 )
             }
         }
@@ -98,6 +102,7 @@ mod bound {
             birth: &Birth,
             old: &mut usize,
             handle: &mut [u8],
+            fault_slot: &mut usize,
         ) -> Number {
             unsafe {
                 genie_create(
@@ -119,10 +124,18 @@ mod bound {
                     old,
                     handle.as_mut_ptr(),
                     handle.len(),
+                    fault_slot,
                 )
             }
         }
-        fn read_record(&self, image: &[u8], g: &Geometry, handle: &mut [u8], buffer: &mut [u8]) -> Number {
+        fn read_record(
+            &self,
+            image: &[u8],
+            g: &Geometry,
+            handle: &mut [u8],
+            buffer: &mut [u8],
+            fault_slot: &mut usize,
+        ) -> Number {
             unsafe {
                 genie_read_record(
                     image.as_ptr(),
@@ -135,6 +148,7 @@ mod bound {
                     handle.len(),
                     buffer.as_mut_ptr(),
                     buffer.len(),
+                    fault_slot,
                 )
             }
         }
@@ -146,6 +160,7 @@ mod bound {
             k: usize,
             from: &mut usize,
             to: &mut usize,
+            fault_slot: &mut usize,
         ) -> Number {
             unsafe {
                 genie_read_sector(
@@ -160,6 +175,7 @@ mod bound {
                     k,
                     from,
                     to,
+                    fault_slot,
                 )
             }
         }
@@ -170,6 +186,7 @@ mod bound {
             handle: &mut [u8],
             sequential: bool,
             buffer: &[u8],
+            fault_slot: &mut usize,
         ) -> Number {
             unsafe {
                 genie_write_record(
@@ -184,10 +201,11 @@ mod bound {
                     sequential,
                     buffer.as_ptr(),
                     buffer.len(),
+                    fault_slot,
                 )
             }
         }
-        fn allot(&self, image: &mut [u8], g: &Geometry, handle: &[u8], k: usize) -> Number {
+        fn allot(&self, image: &mut [u8], g: &Geometry, handle: &[u8], k: usize, fault_slot: &mut usize) -> Number {
             unsafe {
                 genie_allot(
                     image.as_mut_ptr(),
@@ -199,10 +217,11 @@ mod bound {
                     handle.as_ptr(),
                     handle.len(),
                     k,
+                    fault_slot,
                 )
             }
         }
-        fn trim(&self, image: &mut [u8], g: &Geometry, handle: &[u8]) -> Number {
+        fn trim(&self, image: &mut [u8], g: &Geometry, handle: &[u8], fault_slot: &mut usize) -> Number {
             unsafe {
                 genie_trim(
                     image.as_mut_ptr(),
@@ -213,10 +232,11 @@ mod bound {
                     g.open_code,
                     handle.as_ptr(),
                     handle.len(),
+                    fault_slot,
                 )
             }
         }
-        fn kill(&self, image: &mut [u8], g: &Geometry, handle: &[u8]) -> Number {
+        fn kill(&self, image: &mut [u8], g: &Geometry, handle: &[u8], fault_slot: &mut usize) -> Number {
             unsafe {
                 genie_kill(
                     image.as_mut_ptr(),
@@ -227,6 +247,7 @@ mod bound {
                     g.open_code,
                     handle.as_ptr(),
                     handle.len(),
+                    fault_slot,
                 )
             }
         }
@@ -237,6 +258,7 @@ mod bound {
             slot: usize,
             slots: &mut usize,
             granules: &mut usize,
+            fault_slot: &mut usize,
         ) -> Number {
             unsafe {
                 genie_bring_back(
@@ -249,6 +271,7 @@ mod bound {
                     slot,
                     slots,
                     granules,
+                    fault_slot,
                 )
             }
         }
@@ -261,6 +284,7 @@ mod bound {
             size: &mut usize,
             granules: &mut usize,
             more: &mut usize,
+            fault_slot: &mut usize,
         ) -> Number {
             unsafe {
                 genie_list(
@@ -276,12 +300,30 @@ mod bound {
                     size,
                     granules,
                     more,
+                    fault_slot,
                 )
             }
         }
-        fn count(&self, image: &[u8], g: &Geometry, files: &mut usize, free: &mut usize) -> Number {
+        fn count(
+            &self,
+            image: &[u8],
+            g: &Geometry,
+            files: &mut usize,
+            free: &mut usize,
+            fault_slot: &mut usize,
+        ) -> Number {
             unsafe {
-                genie_count(image.as_ptr(), image.len(), g.blocks, g.units, g.start, g.open_code, files, free)
+                genie_count(
+                    image.as_ptr(),
+                    image.len(),
+                    g.blocks,
+                    g.units,
+                    g.start,
+                    g.open_code,
+                    files,
+                    free,
+                    fault_slot,
+                )
             }
         }
         fn free(&self, image: &[u8], g: &Geometry, free: &mut usize, longest: &mut usize) -> Number {
@@ -301,6 +343,7 @@ mod bound {
             kind: &mut usize,
             position: &mut usize,
             flags: &mut usize,
+            fault_slot: &mut usize,
         ) -> Number {
             unsafe {
                 genie_compare(
@@ -323,6 +366,7 @@ mod bound {
                     kind,
                     position,
                     flags,
+                    fault_slot,
                 )
             }
         }

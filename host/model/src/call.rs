@@ -1,6 +1,7 @@
 //! A call as a value, so that it can be made up, printed, and performed on any library.
 
 use crate::calls::{Birth, Number};
+use crate::fault;
 use crate::geometry::Geometry;
 use crate::library::Library;
 
@@ -45,8 +46,8 @@ impl Call {
     }
 }
 
-/// The numbers that each call can give, 0 included.
-pub const POSSIBLE: [(&str, &[Number]); 16] = [
+/// The numbers that each call can give, 0 included; a 2 stands for all of 21 to 30.
+const ROWS: [(&str, &[Number]); 16] = [
     ("check", &[0, 1, 2]),
     ("look up", &[0, 1, 2, 3, 4]),
     ("open", &[0, 1, 2, 12, 3, 4, 5]),
@@ -65,11 +66,17 @@ pub const POSSIBLE: [(&str, &[Number]); 16] = [
     ("compare", &[0, 1, 2, 12]),
 ];
 
+/// The numbers that each call can give, 0 included.
+pub fn possible() -> Vec<(&'static str, Vec<Number>)> {
+    let split = |row: Number| if row == 2 { fault::numbers().collect() } else { vec![row] };
+    ROWS.iter().map(|(title, rows)| (*title, rows.iter().flat_map(|&row| split(row)).collect())).collect()
+}
+
 /// All that a call answers and leaves, the image apart.
 #[derive(Clone, Debug, PartialEq, Eq)]
 pub struct Outcome {
     pub number: Number,
-    /// The outgoing numbers, by name.
+    /// The outgoing numbers, by name; last, where the call has one, the fault's slot.
     pub numbers: Vec<(&'static str, usize)>,
     pub handle: Vec<u8>,
     pub buffer: Vec<u8>,
@@ -82,7 +89,14 @@ impl Outcome {
     pub fn numbered(&self, title: &str) -> usize {
         self.numbers.iter().find(|(name, _)| *name == title).expect("an outgoing number of this call").1
     }
+
+    /// The slot of the fault; none where it has none, and of an answer that is no fault.
+    pub fn fault_slot(&self) -> Option<u8> {
+        u8::try_from(self.numbered(FAULT_SLOT)).ok()
+    }
 }
+
+pub const FAULT_SLOT: &str = "fault slot";
 
 const EDGE: usize = 64;
 const EDGE_BYTE: u8 = 0xA7;
@@ -136,46 +150,48 @@ pub fn perform(library: &dyn Library, image: &mut [u8], g: &Geometry, call: &Cal
     };
     let (mut handle, mut buffer, mut name) = (Lent::new(handle), Lent::new(buffer), Lent::new(name));
     let (mut one, mut two, mut three) = (UNSET, UNSET, UNSET);
+    let mut fault_slot = UNSET;
     let mut numbers = Vec::new();
     let number = match call {
-        Call::Check => library.check(image, g),
+        Call::Check => library.check(image, g, &mut fault_slot),
         Call::LookUp { .. } => {
-            let number = library.look_up(image, g, name.lend(), &mut one, &mut two);
+            let number = library.look_up(image, g, name.lend(), &mut one, &mut two, &mut fault_slot);
             numbers = vec![("slot", one), ("compared", two)];
             number
         }
         Call::Open { length, checking, code, .. } => {
-            library.open(image, g, name.lend(), *length, *checking, *code, handle.lend())
+            library.open(image, g, name.lend(), *length, *checking, *code, handle.lend(), &mut fault_slot)
         }
         Call::Create { birth, .. } => {
-            let number = library.create(image, g, name.lend(), birth, &mut one, handle.lend());
+            let number = library.create(image, g, name.lend(), birth, &mut one, handle.lend(), &mut fault_slot);
             numbers = vec![("old", one)];
             number
         }
-        Call::ReadRecord { .. } => library.read_record(image, g, handle.lend(), buffer.lend()),
+        Call::ReadRecord { .. } => library.read_record(image, g, handle.lend(), buffer.lend(), &mut fault_slot),
         Call::ReadSector { k, .. } => {
-            let number = library.read_sector(image, g, handle.lend(), *k, &mut one, &mut two);
+            let number = library.read_sector(image, g, handle.lend(), *k, &mut one, &mut two, &mut fault_slot);
             numbers = vec![("from", one), ("to", two)];
             number
         }
         Call::WriteRecord { sequential, .. } => {
-            library.write_record(image, g, handle.lend(), *sequential, buffer.lend())
+            library.write_record(image, g, handle.lend(), *sequential, buffer.lend(), &mut fault_slot)
         }
-        Call::Allot { k, .. } => library.allot(image, g, handle.lend(), *k),
-        Call::Trim { .. } => library.trim(image, g, handle.lend()),
-        Call::Kill { .. } => library.kill(image, g, handle.lend()),
+        Call::Allot { k, .. } => library.allot(image, g, handle.lend(), *k, &mut fault_slot),
+        Call::Trim { .. } => library.trim(image, g, handle.lend(), &mut fault_slot),
+        Call::Kill { .. } => library.kill(image, g, handle.lend(), &mut fault_slot),
         Call::BringBack { slot } => {
-            let number = library.bring_back(image, g, *slot, &mut one, &mut two);
+            let number = library.bring_back(image, g, *slot, &mut one, &mut two, &mut fault_slot);
             numbers = vec![("slots", one), ("granules", two)];
             number
         }
         Call::List { which, .. } => {
-            let number = library.list(image, g, *which, name.lend(), &mut one, &mut two, &mut three);
+            let number =
+                library.list(image, g, *which, name.lend(), &mut one, &mut two, &mut three, &mut fault_slot);
             numbers = vec![("size", one), ("granules", two), ("more", three)];
             number
         }
         Call::Count => {
-            let number = library.count(image, g, &mut one, &mut two);
+            let number = library.count(image, g, &mut one, &mut two, &mut fault_slot);
             numbers = vec![("files", one), ("free", two)];
             number
         }
@@ -185,6 +201,10 @@ pub fn perform(library: &dyn Library, image: &mut [u8], g: &Geometry, call: &Cal
             number
         }
     };
+    // Free space has no such number: it looks for no fault.
+    if !matches!(call, Call::Free) {
+        numbers.push((FAULT_SLOT, fault_slot));
+    }
     Outcome {
         number,
         numbers,

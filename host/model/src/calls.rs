@@ -5,6 +5,7 @@ use crate::consistency::consistent;
 use crate::directory::{
     chain, directory_sectors, entry, files, hit, hit_place, owned, put_entry, set_taken, slots, Entry, ENTRY_BYTES,
 };
+use crate::fault::fault;
 use crate::geometry::{Geometry, GRANULE_BYTES, GRANULE_SECTORS, HIGHEST_POSITION, HIGHEST_SECTOR, SECTOR_BYTES};
 use crate::handle::{good_length, Handle, HANDLE_BYTES};
 use crate::names::{hash, well_formed, Name, FULL_NAME_BYTES};
@@ -15,8 +16,6 @@ pub type Number = u8;
 pub const ACCEPTED: Number = 0;
 /// "geometry or image length not as above"
 pub const GEOMETRY: Number = 1;
-/// "disk not consistent"
-pub const INCONSISTENT: Number = 2;
 /// "position, length, level, date or sector out of range (sector 0 to 7,679), position + length over
 /// 1,966,080 in a write, buffer shorter than the record length"
 pub const RANGE: Number = 12;
@@ -47,13 +46,15 @@ const READING_LEVEL: u8 = 5;
 const WRITING_LEVEL: u8 = 4;
 const KILLING_LEVEL: u8 = 1;
 
-/// Rows 1 and 2 of the table, which come first in every call. Gives the number of directory sectors.
+/// Rows 1 and 2 of the table, which come first in every call; "21 to 30 in this order, in 2's place" (02 §2). Gives the
+/// number of directory sectors.
 pub(crate) fn tested(image: &[u8], g: &Geometry) -> Result<usize, Number> {
     if !g.fits(image.len()) {
         return Err(GEOMETRY);
     }
     if !consistent(image, g) {
-        return Err(INCONSISTENT);
+        // "The split answers together are exactly the old 2."
+        return Err(fault(image, g).expect("some fault on a disk that is not consistent").kind as Number);
     }
     Ok(directory_sectors(image, g).expect("allowed on a consistent disk"))
 }
@@ -71,7 +72,7 @@ fn place(granules: &[usize], i: usize) -> usize {
     granules[i / GRANULE_BYTES] * GRANULE_BYTES + i % GRANULE_BYTES
 }
 
-/// Check: 0, 1 or 2.
+/// Check: 0, 1, or 21 to 30.
 pub fn check(image: &[u8], g: &Geometry) -> Number {
     number(tested(image, g).map(|_| ()))
 }
@@ -94,7 +95,7 @@ fn find(image: &[u8], g: &Geometry, d: usize, name: &Name) -> (Option<u8>, usize
 }
 
 pub fn look_up(image: &[u8], g: &Geometry, name: &[u8], slot: &mut usize, compared: &mut usize) -> Number {
-    // "look up returns its count as well under 4, and 0 under 1, 2 and 3"
+    // "look up returns its count as well under 4, and 0 under 1, 2 and 3" (2 is 21 to 30 now)
     (*slot, *compared) = (0, 0);
     let d = match tested(image, g) {
         Ok(d) => d,

@@ -1,7 +1,7 @@
 //! The comparison: each call is performed on the model and on the library under test, each with an
 //! image of its own, and all they answer and leave must be alike.
 
-use crate::call::{perform, Call, Lent, Outcome, POSSIBLE};
+use crate::call::{perform, possible, Call, Lent, Outcome};
 use crate::caller::{odd_geometry, Caller};
 use crate::calls::{Number, ACCEPTED, LEVEL};
 use crate::consistency::consistent;
@@ -96,9 +96,9 @@ impl Seen {
     /// What never occurred: each number by each call that can give it, and each event.
     pub fn missing(&self) -> Vec<String> {
         let mut all = Vec::new();
-        for (title, numbers) in POSSIBLE {
+        for (title, numbers) in possible() {
             for number in numbers {
-                if !self.numbers.contains_key(&(title, *number)) {
+                if !self.numbers.contains_key(&(title, number)) {
                     all.push(format!("{title} never gave {number}"));
                 }
             }
@@ -114,10 +114,10 @@ impl Seen {
     /// A table for the reader.
     pub fn table(&self) -> String {
         let mut text = format!("{} disks, {} calls\n", self.disks, self.calls);
-        for (title, numbers) in POSSIBLE {
+        for (title, numbers) in possible() {
             text += &format!("  {title:<17}");
             for number in numbers {
-                let times = self.numbers.get(&(title, *number)).copied().unwrap_or(0);
+                let times = self.numbers.get(&(title, number)).copied().unwrap_or(0);
                 text += &format!(" {number}:{times}");
             }
             text += "\n";
@@ -267,6 +267,14 @@ impl<'a> SideBySide<'a> {
         let outcome = self.both(&g, length, &call, seen)?;
         self.caller.learn(&call, &outcome);
         Ok(outcome)
+    }
+
+    /// One random call on a disk that is refused with this number: of some, the one that has met it least.
+    fn refused_step(&mut self, number: Number, random: &mut Random, seen: &mut Seen) -> Result<Outcome, String> {
+        let some: Vec<Call> = (0..20).map(|_| self.caller.make(random, self.mine.bytes(), &self.g)).collect();
+        let met = |call: &&Call| seen.numbers.get(&(call.title(), number)).copied().unwrap_or(0);
+        let rarest = some.iter().filter(|call| !matches!(call, Call::Free)).min_by_key(met).expect("some call");
+        self.both(&self.g.clone(), self.mine.bytes().len(), rarest, seen)
     }
 }
 
@@ -450,7 +458,7 @@ pub fn disk_run(library: &dyn Library, seed: u64, seen: &mut Seen) -> Result<(),
     // Drawn by itself, so that a disk's calls are the same with and without it.
     two_images(library, &mut Random::new(!seed), &disk, &after, seen)?;
 
-    // Damaged copies: the check, and one call each. A call accepted under an odd geometry may have
+    // Damaged copies: the check, and some calls each. A call accepted under an odd geometry may have
     // spoilt the disk for its own; then the disk as it was is damaged.
     let mut whole = disk.clone();
     if consistent(sides.image(), &disk.g) {
@@ -474,9 +482,11 @@ pub fn disk_run(library: &dyn Library, seed: u64, seen: &mut Seen) -> Result<(),
         let outcome = sides.both(&disk.g, length, &Call::Check, seen).map_err(|text| format!("{title}: {text}"))?;
         seen.event("still consistent after flips", title == "flips" && outcome.number == ACCEPTED);
         sides.both(&disk.g, length, &Call::Free, seen).map_err(|text| format!("{title}: {text}"))?;
-        for _ in 0..if outcome.number == ACCEPTED { 6 } else { 1 } {
-            sides.step(&mut random, seen).map_err(|text| format!("{title}: {text}"))?;
+        match outcome.number {
+            ACCEPTED => (0..6).try_for_each(|_| sides.step(&mut random, seen).map(|_| ())),
+            number => (0..3).try_for_each(|_| sides.refused_step(number, &mut random, seen).map(|_| ())),
         }
+        .map_err(|text| format!("{title}: {text}"))?;
     }
 
     // Nonsense for a directory.

@@ -81,36 +81,36 @@ impl Progress {
         let number = match step {
             Step::Open { length, checking, code } => {
                 let mut handle = [0; HANDLE_BYTES];
-                let number = library.open(image, g, name, *length, *checking, *code, &mut handle);
+                let number = library.open(image, g, name, *length, *checking, *code, &mut handle, &mut 0);
                 told.push(handle[1]);
                 self.handles.push(handle);
                 number
             }
             Step::Create { birth } => {
                 let (mut handle, mut old) = ([0; HANDLE_BYTES], 0);
-                let number = library.create(image, g, name, birth, &mut old, &mut handle);
+                let number = library.create(image, g, name, birth, &mut old, &mut handle, &mut 0);
                 told.extend([handle[1], old as u8]);
                 self.handles.push(handle);
                 number
             }
-            Step::LookUp => library.look_up(image, g, name, &mut 0, &mut 0),
+            Step::LookUp => library.look_up(image, g, name, &mut 0, &mut 0, &mut 0),
             Step::Read { by, at } => {
                 let handle = self.handle(*by, *at);
                 told = vec![0; Handle::read(handle).expect("19 bytes").length()];
-                library.read_record(image, g, handle, &mut told)
+                library.read_record(image, g, handle, &mut told, &mut 0)
             }
             Step::ReadSector { by, k } => {
                 let (mut from, mut to) = (0, 0);
-                let number = library.read_sector(image, g, self.handle(*by, None), *k, &mut from, &mut to);
+                let number = library.read_sector(image, g, self.handle(*by, None), *k, &mut from, &mut to, &mut 0);
                 told.extend(&image[from..to]);
                 number
             }
             Step::Write { by, at, sequential, bytes } => {
-                library.write_record(image, g, self.handle(*by, *at), *sequential, bytes)
+                library.write_record(image, g, self.handle(*by, *at), *sequential, bytes, &mut 0)
             }
-            Step::Allot { by, k } => library.allot(image, g, self.handle(*by, None), *k),
-            Step::Trim { by } => library.trim(image, g, self.handle(*by, None)),
-            Step::Kill { by } => library.kill(image, g, self.handle(*by, None)),
+            Step::Allot { by, k } => library.allot(image, g, self.handle(*by, None), *k, &mut 0),
+            Step::Trim { by } => library.trim(image, g, self.handle(*by, None), &mut 0),
+            Step::Kill { by } => library.kill(image, g, self.handle(*by, None), &mut 0),
         };
         self.told.push(told);
         number

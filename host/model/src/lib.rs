@@ -9,6 +9,7 @@ pub mod bring_back;
 pub mod calls;
 pub mod consistency;
 pub mod directory;
+pub mod fault;
 pub mod geometry;
 pub mod handle;
 pub mod names;

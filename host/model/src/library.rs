@@ -1,17 +1,27 @@
 //! The exported interface as a trait, so that the same tests run on the model and on the library.
-//! Whoever implements it sets every outgoing number, also under a refusal.
+//! Whoever implements it sets every outgoing number, also under a refusal: `fault_slot` last, the slot of the disk's fault
+//! (02 §2) where one was told, else 256.
 
 use crate::bring_back;
 use crate::calls::{self, Birth, Number};
 use crate::differences;
+use crate::fault::{self, fault};
 use crate::geometry::Geometry;
 use std::rc::Rc;
 
 #[allow(clippy::too_many_arguments)]
 pub trait Library {
     fn title(&self) -> &'static str;
-    fn check(&self, image: &[u8], g: &Geometry) -> Number;
-    fn look_up(&self, image: &[u8], g: &Geometry, name: &[u8], slot: &mut usize, compared: &mut usize) -> Number;
+    fn check(&self, image: &[u8], g: &Geometry, fault_slot: &mut usize) -> Number;
+    fn look_up(
+        &self,
+        image: &[u8],
+        g: &Geometry,
+        name: &[u8],
+        slot: &mut usize,
+        compared: &mut usize,
+        fault_slot: &mut usize,
+    ) -> Number;
     fn open(
         &self,
         image: &[u8],
@@ -21,6 +31,7 @@ pub trait Library {
         checking: bool,
         code: u16,
         handle: &mut [u8],
+        fault_slot: &mut usize,
     ) -> Number;
     fn create(
         &self,
@@ -30,8 +41,16 @@ pub trait Library {
         birth: &Birth,
         old: &mut usize,
         handle: &mut [u8],
+        fault_slot: &mut usize,
     ) -> Number;
-    fn read_record(&self, image: &[u8], g: &Geometry, handle: &mut [u8], buffer: &mut [u8]) -> Number;
+    fn read_record(
+        &self,
+        image: &[u8],
+        g: &Geometry,
+        handle: &mut [u8],
+        buffer: &mut [u8],
+        fault_slot: &mut usize,
+    ) -> Number;
     fn read_sector(
         &self,
         image: &[u8],
@@ -40,6 +59,7 @@ pub trait Library {
         k: usize,
         from: &mut usize,
         to: &mut usize,
+        fault_slot: &mut usize,
     ) -> Number;
     fn write_record(
         &self,
@@ -48,10 +68,11 @@ pub trait Library {
         handle: &mut [u8],
         sequential: bool,
         buffer: &[u8],
+        fault_slot: &mut usize,
     ) -> Number;
-    fn allot(&self, image: &mut [u8], g: &Geometry, handle: &[u8], k: usize) -> Number;
-    fn trim(&self, image: &mut [u8], g: &Geometry, handle: &[u8]) -> Number;
-    fn kill(&self, image: &mut [u8], g: &Geometry, handle: &[u8]) -> Number;
+    fn allot(&self, image: &mut [u8], g: &Geometry, handle: &[u8], k: usize, fault_slot: &mut usize) -> Number;
+    fn trim(&self, image: &mut [u8], g: &Geometry, handle: &[u8], fault_slot: &mut usize) -> Number;
+    fn kill(&self, image: &mut [u8], g: &Geometry, handle: &[u8], fault_slot: &mut usize) -> Number;
     fn bring_back(
         &self,
         image: &mut [u8],
@@ -59,6 +80,7 @@ pub trait Library {
         slot: usize,
         slots: &mut usize,
         granules: &mut usize,
+        fault_slot: &mut usize,
     ) -> Number;
     fn list(
         &self,
@@ -69,8 +91,16 @@ pub trait Library {
         size: &mut usize,
         granules: &mut usize,
         more: &mut usize,
+        fault_slot: &mut usize,
     ) -> Number;
-    fn count(&self, image: &[u8], g: &Geometry, files: &mut usize, free: &mut usize) -> Number;
+    fn count(
+        &self,
+        image: &[u8],
+        g: &Geometry,
+        files: &mut usize,
+        free: &mut usize,
+        fault_slot: &mut usize,
+    ) -> Number;
     fn free(&self, image: &[u8], g: &Geometry, free: &mut usize, longest: &mut usize) -> Number;
     fn compare(
         &self,
@@ -84,21 +114,42 @@ pub trait Library {
         kind: &mut usize,
         position: &mut usize,
         flags: &mut usize,
+        fault_slot: &mut usize,
     ) -> Number;
 }
 
 /// The model itself.
 pub struct Model;
 
+/// What the slot is where there is none to tell.
+pub const NO_SLOT: usize = 256;
+
+/// Beside a number of a fault, its slot (02 §2): a refused call has left the image as it was.
+fn with_slot(number: Number, image: &[u8], g: &Geometry, fault_slot: &mut usize) -> Number {
+    let told = fault::numbers().contains(&number).then(|| fault(image, g).expect("refused for it"));
+    *fault_slot = told.and_then(|fault| fault.slot).map_or(NO_SLOT, usize::from);
+    number
+}
+
 impl Library for Model {
     fn title(&self) -> &'static str {
         "model"
     }
-    fn check(&self, image: &[u8], g: &Geometry) -> Number {
-        calls::check(image, g)
+    fn check(&self, image: &[u8], g: &Geometry, fault_slot: &mut usize) -> Number {
+        let number = calls::check(image, g);
+        with_slot(number, image, g, fault_slot)
     }
-    fn look_up(&self, image: &[u8], g: &Geometry, name: &[u8], slot: &mut usize, compared: &mut usize) -> Number {
-        calls::look_up(image, g, name, slot, compared)
+    fn look_up(
+        &self,
+        image: &[u8],
+        g: &Geometry,
+        name: &[u8],
+        slot: &mut usize,
+        compared: &mut usize,
+        fault_slot: &mut usize,
+    ) -> Number {
+        let number = calls::look_up(image, g, name, slot, compared);
+        with_slot(number, image, g, fault_slot)
     }
     fn open(
         &self,
@@ -109,8 +160,10 @@ impl Library for Model {
         checking: bool,
         code: u16,
         handle: &mut [u8],
+        fault_slot: &mut usize,
     ) -> Number {
-        calls::open(image, g, name, length, checking, code, handle)
+        let number = calls::open(image, g, name, length, checking, code, handle);
+        with_slot(number, image, g, fault_slot)
     }
     fn create(
         &self,
@@ -120,11 +173,21 @@ impl Library for Model {
         birth: &Birth,
         old: &mut usize,
         handle: &mut [u8],
+        fault_slot: &mut usize,
     ) -> Number {
-        calls::create(image, g, name, birth, old, handle)
+        let number = calls::create(image, g, name, birth, old, handle);
+        with_slot(number, image, g, fault_slot)
     }
-    fn read_record(&self, image: &[u8], g: &Geometry, handle: &mut [u8], buffer: &mut [u8]) -> Number {
-        calls::read_record(image, g, handle, buffer)
+    fn read_record(
+        &self,
+        image: &[u8],
+        g: &Geometry,
+        handle: &mut [u8],
+        buffer: &mut [u8],
+        fault_slot: &mut usize,
+    ) -> Number {
+        let number = calls::read_record(image, g, handle, buffer);
+        with_slot(number, image, g, fault_slot)
     }
     fn read_sector(
         &self,
@@ -134,8 +197,10 @@ impl Library for Model {
         k: usize,
         from: &mut usize,
         to: &mut usize,
+        fault_slot: &mut usize,
     ) -> Number {
-        calls::read_sector(image, g, handle, k, from, to)
+        let number = calls::read_sector(image, g, handle, k, from, to);
+        with_slot(number, image, g, fault_slot)
     }
     fn write_record(
         &self,
@@ -144,17 +209,22 @@ impl Library for Model {
         handle: &mut [u8],
         sequential: bool,
         buffer: &[u8],
+        fault_slot: &mut usize,
     ) -> Number {
-        calls::write_record(image, g, handle, sequential, buffer)
+        let number = calls::write_record(image, g, handle, sequential, buffer);
+        with_slot(number, image, g, fault_slot)
     }
-    fn allot(&self, image: &mut [u8], g: &Geometry, handle: &[u8], k: usize) -> Number {
-        calls::allot(image, g, handle, k)
+    fn allot(&self, image: &mut [u8], g: &Geometry, handle: &[u8], k: usize, fault_slot: &mut usize) -> Number {
+        let number = calls::allot(image, g, handle, k);
+        with_slot(number, image, g, fault_slot)
     }
-    fn trim(&self, image: &mut [u8], g: &Geometry, handle: &[u8]) -> Number {
-        calls::trim(image, g, handle)
+    fn trim(&self, image: &mut [u8], g: &Geometry, handle: &[u8], fault_slot: &mut usize) -> Number {
+        let number = calls::trim(image, g, handle);
+        with_slot(number, image, g, fault_slot)
     }
-    fn kill(&self, image: &mut [u8], g: &Geometry, handle: &[u8]) -> Number {
-        calls::kill(image, g, handle)
+    fn kill(&self, image: &mut [u8], g: &Geometry, handle: &[u8], fault_slot: &mut usize) -> Number {
+        let number = calls::kill(image, g, handle);
+        with_slot(number, image, g, fault_slot)
     }
     fn bring_back(
         &self,
@@ -163,8 +233,10 @@ impl Library for Model {
         slot: usize,
         slots: &mut usize,
         granules: &mut usize,
+        fault_slot: &mut usize,
     ) -> Number {
-        bring_back::bring_back(image, g, slot, slots, granules)
+        let number = bring_back::bring_back(image, g, slot, slots, granules);
+        with_slot(number, image, g, fault_slot)
     }
     fn list(
         &self,
@@ -175,11 +247,21 @@ impl Library for Model {
         size: &mut usize,
         granules: &mut usize,
         more: &mut usize,
+        fault_slot: &mut usize,
     ) -> Number {
-        calls::list(image, g, which, name, size, granules, more)
+        let number = calls::list(image, g, which, name, size, granules, more);
+        with_slot(number, image, g, fault_slot)
     }
-    fn count(&self, image: &[u8], g: &Geometry, files: &mut usize, free: &mut usize) -> Number {
-        calls::count(image, g, files, free)
+    fn count(
+        &self,
+        image: &[u8],
+        g: &Geometry,
+        files: &mut usize,
+        free: &mut usize,
+        fault_slot: &mut usize,
+    ) -> Number {
+        let number = calls::count(image, g, files, free);
+        with_slot(number, image, g, fault_slot)
     }
     fn free(&self, image: &[u8], g: &Geometry, free: &mut usize, longest: &mut usize) -> Number {
         calls::free(image, g, free, longest)
@@ -196,8 +278,11 @@ impl Library for Model {
         kind: &mut usize,
         position: &mut usize,
         flags: &mut usize,
+        fault_slot: &mut usize,
     ) -> Number {
-        differences::compare(first, g, second, h, number, name, image, kind, position, flags)
+        let answer = differences::compare(first, g, second, h, number, name, image, kind, position, flags);
+        let (refused, geometry) = if *image == differences::SECOND { (second, h) } else { (first, g) };
+        with_slot(answer, refused, geometry, fault_slot)
     }
 }
 

@@ -32,6 +32,7 @@ pub struct Told {
     pub kind: usize,
     pub position: usize,
     pub flags: usize,
+    pub fault_slot: usize,
     pub name: Vec<u8>,
     /// Nothing was written beside the name buffer.
     pub within: bool,
@@ -44,10 +45,22 @@ const UNSET: usize = 0x5EED_0B57_AC1E_D00D;
 pub fn tell(library: &dyn Library, (first, g): Side, (second, h): Side, number: usize, room: &[u8]) -> Told {
     let mut name = Lent::new(room);
     let (mut image, mut kind, mut position, mut flags) = (UNSET, UNSET, UNSET, UNSET);
-    let answer =
-        library.compare(first, g, second, h, number, name.lend(), &mut image, &mut kind, &mut position, &mut flags);
+    let mut fault_slot = UNSET;
+    let answer = library.compare(
+        first,
+        g,
+        second,
+        h,
+        number,
+        name.lend(),
+        &mut image,
+        &mut kind,
+        &mut position,
+        &mut flags,
+        &mut fault_slot,
+    );
     let (within, name) = (name.edges_whole(), name.bytes().to_vec());
-    Told { number: answer, image, kind, position, flags, name, within }
+    Told { number: answer, image, kind, position, flags, fault_slot, name, within }
 }
 
 /// All differences, one a call from 0 up to "no more"; or the refusal and the image that it names. Panics if an answer is

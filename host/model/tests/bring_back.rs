@@ -2,10 +2,11 @@
 //! kill and bring back of files of every build; on the model and on the linked library.
 
 use genie_model::bring_back::{GRANULE_TAKEN, NAME_IN_USE, NOTHING_WHOLE, SLOT_IN_USE};
-use genie_model::calls::{Birth, Number, ACCEPTED, GEOMETRY, INCONSISTENT, LEVEL, RANGE};
+use genie_model::calls::{Birth, Number, ACCEPTED, GEOMETRY, LEVEL, RANGE};
 use genie_model::consistency::consistent;
 use genie_model::directory::{entry_place, gat_place, hit_place, put_entry, set_taken, Entry, Pair};
 use genie_model::disks::{empty_disk, Disk};
+use genie_model::fault::Kind;
 use genie_model::geometry::{Geometry, GRANULE_BYTES};
 use genie_model::handle::Handle;
 use genie_model::library::{libraries, Library};
@@ -62,7 +63,12 @@ fn handle(slot: u8, title: &str) -> [u8; 19] {
 /// The disk after the kill of a file.
 fn killed(library: &dyn Library, disk: &Disk, slot: u8, title: &str) -> Disk {
     let mut dead = disk.clone();
-    assert_eq!(library.kill(&mut dead.image, &dead.g, &handle(slot, title)), ACCEPTED, "{}", library.title());
+    assert_eq!(
+        library.kill(&mut dead.image, &dead.g, &handle(slot, title), &mut 0),
+        ACCEPTED,
+        "{}",
+        library.title()
+    );
     dead
 }
 
@@ -79,7 +85,7 @@ fn gives(disk: &Disk, slot: usize, wanted: (Number, usize, usize)) {
     for library in libraries() {
         let mut image = disk.image.clone();
         let (mut slots, mut granules) = (77, 77);
-        let number = library.bring_back(&mut image, &disk.g, slot, &mut slots, &mut granules);
+        let number = library.bring_back(&mut image, &disk.g, slot, &mut slots, &mut granules, &mut 0);
         assert_eq!((number, slots, granules), wanted, "{}", library.title());
         assert!(number == ACCEPTED || image == disk.image, "{}: changed", library.title());
         assert!(number != ACCEPTED || consistent(&image, &disk.g), "{}: spoilt", library.title());
@@ -129,7 +135,7 @@ fn killed_and_brought_back_is_the_same_image() {
             let dead = killed(&*library, &disk, slots[0], "A");
             gives(&dead, slots[0] as usize, (ACCEPTED, slots.len(), granules));
             let mut image = dead.image;
-            library.bring_back(&mut image, &g, slots[0] as usize, &mut 0, &mut 0);
+            library.bring_back(&mut image, &g, slots[0] as usize, &mut 0, &mut 0, &mut 0);
             assert!(image == disk.image, "{}: not the image before", library.title());
         }
     }
@@ -164,7 +170,7 @@ fn only_bit_four_the_hit_bytes_and_the_gat_bits_change() {
     }
     for library in libraries() {
         let mut image = disk.image.clone();
-        assert_eq!(library.bring_back(&mut image, &g, FILE as usize, &mut 0, &mut 0), ACCEPTED);
+        assert_eq!(library.bring_back(&mut image, &g, FILE as usize, &mut 0, &mut 0, &mut 0), ACCEPTED);
         assert!(image == wanted, "{}", library.title());
         // The plain list gains the file, with what its granules hold now; the other is as it was.
         let all = files_of(&image, &g);
@@ -187,8 +193,8 @@ fn geometry_consistency_and_slot() {
     }
     let mut spoilt = disk.clone();
     spoilt.image[hit_place(&disk.g, OTHER)] ^= 1;
-    refuses(&spoilt, FILE as usize, INCONSISTENT);
-    refuses(&spoilt, usize::MAX, INCONSISTENT);
+    refuses(&spoilt, FILE as usize, Kind::HitAgainstEntry as Number);
+    refuses(&spoilt, usize::MAX, Kind::HitAgainstEntry as Number);
     // s runs from 0 to 7; 1FH is no slot.
     for slot in [0x08, 0x1F, 0x3F, 0xFF, 256, FILE as usize + 256, 1 << 32, usize::MAX] {
         refuses(&disk, slot, RANGE);
@@ -316,11 +322,11 @@ fn name_in_use_and_granules_taken() {
     // Part of the space taken by a call.
     for library in libraries() {
         let mut disk = dead();
-        let allotted = library.allot(&mut disk.image, &disk.g, &handle(OTHER, "LEER"), 5);
+        let allotted = library.allot(&mut disk.image, &disk.g, &handle(OTHER, "LEER"), 5, &mut 0);
         assert_eq!(allotted, ACCEPTED);
         refuses(&disk, file, GRANULE_TAKEN);
         // Given back again it can be brought back.
-        assert_eq!(library.trim(&mut disk.image, &disk.g, &handle(OTHER, "LEER")), ACCEPTED);
+        assert_eq!(library.trim(&mut disk.image, &disk.g, &handle(OTHER, "LEER"), &mut 0), ACCEPTED);
         gives(&disk, file, (ACCEPTED, 2, 11));
     }
 }
@@ -333,7 +339,10 @@ fn a_slot_written_since() {
         let mut disk = dead();
         for i in 0..6 {
             let given = name(&format!("N{i}"));
-            assert_eq!(library.create(&mut disk.image, &disk.g, &given, &birth, &mut 0, &mut [0; 19]), ACCEPTED);
+            assert_eq!(
+                library.create(&mut disk.image, &disk.g, &given, &birth, &mut 0, &mut [0; 19], &mut 0),
+                ACCEPTED
+            );
         }
         refuses(&disk, SECOND as usize, SLOT_IN_USE);
         refuses(&disk, FILE as usize, NOTHING_WHOLE);

@@ -1,7 +1,7 @@
 //! The model against demands 1 and 2: it refuses without a trace, and accepted calls do to the disk
 //! what they would do to a plain list of named files.
 
-use genie_model::call::{perform, Call};
+use genie_model::call::{perform, Call, FAULT_SLOT};
 use genie_model::caller::Caller;
 use genie_model::calls::ACCEPTED;
 use genie_model::consistency::consistent;
@@ -10,7 +10,7 @@ use genie_model::disks::random_disk;
 use genie_model::geometry::SECTOR_BYTES;
 use genie_model::handle::{Handle, HANDLE_BYTES};
 use genie_model::interleave::{demand_three, Tally};
-use genie_model::library::Model;
+use genie_model::library::{Model, NO_SLOT};
 use genie_model::names::{hash, Name};
 use genie_model::plain::{effect, files_of};
 use genie_model::random::Random;
@@ -55,7 +55,11 @@ fn calls_do_what_a_plain_list_of_files_would() {
                     assert_eq!(outcome.handle, lent_handle, "{at}");
                 }
                 for (title, told) in &outcome.numbers {
-                    assert!(*told == 0 || *title == "compared" && outcome.number == 4, "{at}");
+                    let good = match *title {
+                        FAULT_SLOT => *told == NO_SLOT,
+                        title => *told == 0 || title == "compared" && outcome.number == 4,
+                    };
+                    assert!(good, "{title} = {told}: {at}");
                 }
                 continue;
             }

@@ -74,9 +74,11 @@ fn every_byte_of_a_directory_changed() {
             for to in flipped.chain([0x00, 0xFF, 0xFE, 0x90, 0x10, 0x20, was.wrapping_add(1), was.wrapping_sub(1)])
             {
                 image[place] = to;
-                let verdict = Model.check(&image, &disk.g);
+                let (mut ours, mut theirs) = (0, 0);
+                let verdict = Model.check(&image, &disk.g, &mut ours);
+                let answer = library.check(&image, &disk.g, &mut theirs);
                 let what = || format!("{} from {was:02X}H to {to:02X}H", what_is(&disk.image, &disk.g, place));
-                assert_eq!(library.check(&image, &disk.g), verdict, "{} on {:?}", what(), disk.g);
+                assert_eq!((answer, theirs), (verdict, ours), "{} on {:?}", what(), disk.g);
                 if verdict == 0 {
                     kept += 1;
                 } else {

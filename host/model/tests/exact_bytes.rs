@@ -74,7 +74,7 @@ fn handle(position: usize, length: u16) -> [u8; 19] {
 /// Performs a call on a copy by each library; the image afterwards must be the wanted one.
 fn leaves(before: &Disk, wanted: &Disk, call: impl Fn(&dyn Library, &mut [u8], &Geometry) -> u8) {
     for library in libraries() {
-        assert_eq!(library.check(&before.image, &before.g), ACCEPTED, "{}: before", library.title());
+        assert_eq!(library.check(&before.image, &before.g, &mut 0), ACCEPTED, "{}: before", library.title());
         let mut image = before.image.clone();
         assert_eq!(call(&*library, &mut image, &before.g), ACCEPTED, "{}", library.title());
         if let Some(at) = image.iter().zip(&wanted.image).position(|(a, b)| a != b) {
@@ -106,7 +106,7 @@ fn create_writes_an_entry_and_its_hit_byte() {
     });
     leaves(&before, &wanted, |library, image, g| {
         let mut handle = [0xEE; 19];
-        let number = library.create(image, g, &name("AB/C"), &birth, &mut 7, &mut handle);
+        let number = library.create(image, g, &name("AB/C"), &birth, &mut 7, &mut handle, &mut 0);
         assert_eq!(handle, *b"\x80\x00\x00\x01\x00\x00\x00\x00AB      C  ");
         number
     });
@@ -115,7 +115,7 @@ fn create_writes_an_entry_and_its_hit_byte() {
     put_file(&mut there, &[], 0);
     leaves(&there, &there, |library, image, g| {
         let birth = Birth { checking: false, ..birth };
-        library.create(image, g, &name("A"), &birth, &mut 7, &mut [0; 19])
+        library.create(image, g, &name("A"), &birth, &mut 7, &mut [0; 19], &mut 0)
     });
 }
 
@@ -134,8 +134,8 @@ fn growth_lengthens_the_last_run_then_takes_the_lowest_free() {
         [6, 7, 2, 3].into_iter().for_each(|granule| set_taken(&mut disk.image, &g, granule, true));
     });
     // Odd bytes behind FFH stay where they are not needed: the fourth pair's, and the link.
-    leaves(&before, &wanted, |library, image, g| library.allot(image, g, &handle(0, 1), 5 * 6 - 1));
-    leaves(&wanted, &wanted, |library, image, g| library.allot(image, g, &handle(0, 1), 5 * 6 - 1));
+    leaves(&before, &wanted, |library, image, g| library.allot(image, g, &handle(0, 1), 5 * 6 - 1, &mut 0));
+    leaves(&wanted, &wanted, |library, image, g| library.allot(image, g, &handle(0, 1), 5 * 6 - 1, &mut 0));
 }
 
 /// Four runs that cannot be lengthened, the lowest free granule is 3 (and 4 behind it is taken).
@@ -165,7 +165,9 @@ fn with_extension() -> Disk {
 
 #[test]
 fn a_fifth_run_starts_an_extension() {
-    leaves(&full_entry(), &with_extension(), |library, image, g| library.allot(image, g, &handle(0, 1), 5 * 7 - 1));
+    leaves(&full_entry(), &with_extension(), |library, image, g| {
+        library.allot(image, g, &handle(0, 1), 5 * 7 - 1, &mut 0)
+    });
 }
 
 #[test]
@@ -190,9 +192,9 @@ fn trim_empties_the_extension_and_what_it_must() {
         disk.image[hit_place(&g, 0x81)] = 0;
         [14, 22, 23, 3].into_iter().for_each(|granule| set_taken(&mut disk.image, &g, granule, false));
     });
-    leaves(&before, &wanted, |library, image, g| library.trim(image, g, &handle(0, 1)));
+    leaves(&before, &wanted, |library, image, g| library.trim(image, g, &handle(0, 1), &mut 0));
     // Nothing left to drop: not one byte changes.
-    leaves(&wanted, &wanted, |library, image, g| library.trim(image, g, &handle(0, 1)));
+    leaves(&wanted, &wanted, |library, image, g| library.trim(image, g, &handle(0, 1), &mut 0));
 }
 
 #[test]
@@ -207,13 +209,13 @@ fn trim_cuts_a_run_and_leaves_unused_pairs_and_the_link() {
         put_entry(&mut disk.image, &g, FILE, &e);
         [12, 13, 5].into_iter().for_each(|granule| set_taken(&mut disk.image, &g, granule, false));
     });
-    leaves(&before, &wanted, |library, image, g| library.trim(image, g, &handle(0, 1)));
+    leaves(&before, &wanted, |library, image, g| library.trim(image, g, &handle(0, 1), &mut 0));
     // With F set nothing changes.
     let kept = change(&before, |disk| {
         let place = entry_place(&g, FILE);
         disk.image[place + 0x01] |= 0x80;
     });
-    leaves(&kept, &kept, |library, image, g| library.trim(image, g, &handle(0, 1)));
+    leaves(&kept, &kept, |library, image, g| library.trim(image, g, &handle(0, 1), &mut 0));
 }
 
 #[test]
@@ -231,7 +233,7 @@ fn kill_clears_bits_and_hit_bytes_only() {
             disk.image[place] &= !bit;
         }
     });
-    leaves(&before, &wanted, |library, image, g| library.kill(image, g, &handle(0, 1)));
+    leaves(&before, &wanted, |library, image, g| library.kill(image, g, &handle(0, 1), &mut 0));
 }
 
 #[test]
@@ -254,7 +256,7 @@ fn writes_touch_the_gap_the_record_the_size_and_b() {
     for sequential in [true, false] {
         leaves(&before, &wanted, |library, image, g| {
             let mut lent = handle(1270, 20);
-            let number = library.write_record(image, g, &mut lent, sequential, &[0x33; 30]);
+            let number = library.write_record(image, g, &mut lent, sequential, &[0x33; 30], &mut 0);
             assert_eq!(lent, handle(1290, 20));
             number
         });
@@ -266,10 +268,14 @@ fn writes_touch_the_gap_the_record_the_size_and_b() {
         (e.0[0x14], e.0[0x15], e.0[0x03]) = (1, 0, 6);
         put_entry(&mut disk.image, &g, FILE, &e);
     });
-    leaves(&wanted, &shrunk, |library, image, g| library.write_record(image, g, &mut handle(5, 1), true, &[0x44]));
+    leaves(&wanted, &shrunk, |library, image, g| {
+        library.write_record(image, g, &mut handle(5, 1), true, &[0x44], &mut 0)
+    });
     // A random write within leaves the size.
     let within = change(&wanted, |disk| disk.image[10 * 1280 + 5] = 0x44);
-    leaves(&wanted, &within, |library, image, g| library.write_record(image, g, &mut handle(5, 1), false, &[0x44]));
+    leaves(&wanted, &within, |library, image, g| {
+        library.write_record(image, g, &mut handle(5, 1), false, &[0x44], &mut 0)
+    });
 }
 
 #[test]
@@ -278,12 +284,12 @@ fn reads_and_listings_touch_nothing() {
     leaves(&before, &before, |library, image, g| {
         let (mut a, mut b, mut c) = (0, 0, 0);
         let mut room = [0; 19];
-        assert_eq!(library.look_up(image, g, &name("A"), &mut a, &mut b), ACCEPTED);
+        assert_eq!(library.look_up(image, g, &name("A"), &mut a, &mut b, &mut 0), ACCEPTED);
         // The extension bears the same hash, but lies behind.
         assert_eq!((a, b), (FILE as usize, 1));
-        assert_eq!(library.open(image, g, &name("A"), 1, true, 0x1234, &mut room), ACCEPTED);
-        assert_eq!(library.list(image, g, 0, &mut room, &mut a, &mut b, &mut c), ACCEPTED);
+        assert_eq!(library.open(image, g, &name("A"), 1, true, 0x1234, &mut room, &mut 0), ACCEPTED);
+        assert_eq!(library.list(image, g, 0, &mut room, &mut a, &mut b, &mut c, &mut 0), ACCEPTED);
         assert_eq!((a, b, c), (0, 7, 1));
-        library.count(image, g, &mut a, &mut b)
+        library.count(image, g, &mut a, &mut b, &mut 0)
     });
 }

@@ -58,18 +58,18 @@ fn a_system_file_of_1966080_bytes() {
     let disk = disk_of_one_file(0, 0, true);
     assert_eq!(owned(&disk.image, &disk.g, 10, SLOT).len(), 1536);
     for library in libraries() {
-        assert_eq!(library.check(&disk.image, &disk.g), ACCEPTED, "{}", library.title());
+        assert_eq!(library.check(&disk.image, &disk.g, &mut 0), ACCEPTED, "{}", library.title());
         let mut lent = handle(HIGHEST_POSITION - 256, 256);
         let mut buffer = [0; 256];
-        assert_eq!(library.read_record(&disk.image, &disk.g, &mut lent, &mut buffer), ACCEPTED);
+        assert_eq!(library.read_record(&disk.image, &disk.g, &mut lent, &mut buffer, &mut 0), ACCEPTED);
         assert_eq!(buffer, disk.image[HIGHEST_POSITION - 256..]);
         assert_eq!(lent, handle(HIGHEST_POSITION, 256));
-        assert_eq!(library.read_record(&disk.image, &disk.g, &mut lent, &mut buffer), 10);
+        assert_eq!(library.read_record(&disk.image, &disk.g, &mut lent, &mut buffer, &mut 0), 10);
         let (mut from, mut to) = (0, 0);
-        let number = library.read_sector(&disk.image, &disk.g, &lent, HIGHEST_SECTOR, &mut from, &mut to);
+        let number = library.read_sector(&disk.image, &disk.g, &lent, HIGHEST_SECTOR, &mut from, &mut to, &mut 0);
         assert_eq!((number, from, to), (ACCEPTED, HIGHEST_POSITION - 256, HIGHEST_POSITION));
         let (mut files, mut free) = (9, 9);
-        assert_eq!(library.count(&disk.image, &disk.g, &mut files, &mut free), ACCEPTED);
+        assert_eq!(library.count(&disk.image, &disk.g, &mut files, &mut free, &mut 0), ACCEPTED);
         assert_eq!((files, free), (0, 0));
     }
 }
@@ -81,11 +81,11 @@ fn another_file_of_1963520_bytes() {
     for library in libraries() {
         let mut image = disk.image.clone();
         let (mut told, mut size, mut granules, mut more) = ([0; 11], 0, 0, 0);
-        let number = library.list(&image, &disk.g, 0, &mut told, &mut size, &mut granules, &mut more);
+        let number = library.list(&image, &disk.g, 0, &mut told, &mut size, &mut granules, &mut more, &mut 0);
         assert_eq!((number, told, size, granules, more), (ACCEPTED, name("ALL"), 1_963_520, 1534, 1));
         let end = 1_963_520;
         let write = |image: &mut [u8], position: usize| {
-            library.write_record(image, &disk.g, &mut handle(position, 256), false, &[0x5A; 256])
+            library.write_record(image, &disk.g, &mut handle(position, 256), false, &[0x5A; 256], &mut 0)
         };
         assert_eq!(write(&mut image, end - 256), ACCEPTED);
         assert_eq!(image[image.len() - 256..], [0x5A; 256]);
@@ -93,9 +93,9 @@ fn another_file_of_1963520_bytes() {
         assert_eq!(write(&mut image, HIGHEST_POSITION - 256), 9);
         assert_eq!(write(&mut image, HIGHEST_POSITION - 255), 12);
         // Kill gives all of it back.
-        assert_eq!(library.kill(&mut image, &disk.g, &handle(0, 1)), ACCEPTED);
+        assert_eq!(library.kill(&mut image, &disk.g, &handle(0, 1), &mut 0), ACCEPTED);
         let (mut files, mut free) = (9, 9);
-        assert_eq!(library.count(&image, &disk.g, &mut files, &mut free), ACCEPTED);
+        assert_eq!(library.count(&image, &disk.g, &mut files, &mut free, &mut 0), ACCEPTED);
         assert_eq!((files, free), (0, 1534), "{}", library.title());
     }
 }
@@ -115,16 +115,16 @@ fn the_whole_disk_taken_at_once() {
             worker_code: 0,
             checking: true,
         };
-        assert_eq!(library.create(&mut image, &g, &name("ALL"), &birth, &mut 0, &mut lent), ACCEPTED);
+        assert_eq!(library.create(&mut image, &g, &name("ALL"), &birth, &mut 0, &mut lent, &mut 0), ACCEPTED);
         lent[4..8].copy_from_slice(&(1_963_519u32).to_le_bytes());
-        assert_eq!(library.write_record(&mut image, &g, &mut lent, true, &[9]), ACCEPTED);
-        assert_eq!(library.check(&image, &g), ACCEPTED);
+        assert_eq!(library.write_record(&mut image, &g, &mut lent, true, &[9], &mut 0), ACCEPTED);
+        assert_eq!(library.check(&image, &g, &mut 0), ACCEPTED);
         // 1534 granules are 48 runs in 12 entries: slot 80H and the eleven permitted ones after it.
         let slot = lent[0];
         assert_eq!((slot, owned(&image, &g, 10, slot).len()), (0x80, 1534));
         assert_eq!(genie_model::directory::chain(&image, &g, 10, slot).len(), 12);
         assert!(image[2560..image.len() - 1].iter().all(|&byte| byte == 0), "{}", library.title());
-        assert_eq!(library.trim(&mut image, &g, &lent), ACCEPTED);
+        assert_eq!(library.trim(&mut image, &g, &lent, &mut 0), ACCEPTED);
         assert_eq!(owned(&image, &g, 10, slot).len(), 1534);
     }
 }

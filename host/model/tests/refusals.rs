@@ -1,13 +1,14 @@
 //! Each row of the table of refusals, for each call that can give it and for each of its reasons, and
 //! the order of the rows; on the model and on the linked library.
 
-use genie_model::call::{perform, Call, Outcome};
+use genie_model::call::{perform, Call, Outcome, FAULT_SLOT};
 use genie_model::calls::Birth;
 use genie_model::directory::{entry_place, hit_place, put_entry, set_taken, slots, Entry, Pair};
 use genie_model::disks::{empty_disk, Disk};
+use genie_model::fault::{self, Kind};
 use genie_model::geometry::{Geometry, HIGHEST_POSITION, HIGHEST_SECTOR};
 use genie_model::handle::{Handle, HANDLE_BYTES};
-use genie_model::library::libraries;
+use genie_model::library::{libraries, NO_SLOT};
 use genie_model::names::{hash, name};
 use genie_model::space::permitted;
 
@@ -130,7 +131,12 @@ fn gives_under(disk: &Disk, g: &Geometry, call: &Call, wanted: u8) -> Outcome {
             assert!(image == disk.image, "changed by {at}");
             let count_stands = wanted == 4 && matches!(call, Call::LookUp { .. });
             for (title, told) in &outcome.numbers {
-                assert!(*told == 0 || count_stands && *title == "compared", "{title} = {told} of {at}");
+                // The fault's slot is looked at in tests/faults.rs; where there is no fault, there is none.
+                let good = match *title {
+                    FAULT_SLOT => fault::numbers().contains(&wanted) || *told == NO_SLOT,
+                    title => *told == 0 || count_stands && title == "compared",
+                };
+                assert!(good, "{title} = {told} of {at}");
             }
             match call {
                 Call::Open { handle, .. } | Call::Create { handle, .. } => {
@@ -196,8 +202,10 @@ fn row_1_geometry() {
     long.image.push(0);
     gives(&long, &Call::Check, 1);
     gives(&long, &Call::Free, 1);
-    // Ten sectors behind the start are enough: what stands there is judged by row 2.
-    gives_under(&disk, &Geometry { start: 150, ..good }, &Call::Check, 2);
+    // Ten sectors behind the start are enough: what stands there is judged by row 2. Zeros are a directory that the GAT
+    // does not mark.
+    let zeros = gives_under(&disk, &Geometry { start: 150, ..good }, &Call::Check, Kind::DirectoryGranule as u8);
+    assert_eq!(zeros.fault_slot(), None);
 }
 
 #[test]
@@ -206,7 +214,7 @@ fn row_2_consistency() {
     let place = entry_place(&broken.g, DATA);
     broken.image[place] |= 1 << 5;
     for call in all_calls() {
-        gives(&broken, &call, 2);
+        assert_eq!(gives(&broken, &call, Kind::Name as u8).fault_slot(), Some(DATA));
     }
     // Free space looks at the GAT alone.
     let told = gives(&broken, &Call::Free, 0);
@@ -216,9 +224,9 @@ fn row_2_consistency() {
     gives(&last, &Call::Check, 0);
     let place = hit_place(&last.g, 0x1F);
     last.image[place] = 5;
-    gives(&last, &Call::Check, 2);
+    assert_eq!(gives(&last, &Call::Check, Kind::DirectoryLength as u8).fault_slot(), None);
     // Row 2 comes before row 12.
-    gives(&broken, &create_with("NEW", |birth| birth.day = 32), 2);
+    gives(&broken, &create_with("NEW", |birth| birth.day = 32), Kind::Name as u8);
 }
 
 #[test]

@@ -1,7 +1,7 @@
 //! Request 02, §1, on the model and on the linked library: compare two images. What must be told is worked out here from
 //! how the disks were made, not by comparing them.
 
-use genie_model::calls::{GEOMETRY, INCONSISTENT, RANGE};
+use genie_model::calls::{check, Number, GEOMETRY, RANGE};
 use genie_model::consistency::consistent;
 use genie_model::damage::DAMAGES;
 use genie_model::differences::{
@@ -9,10 +9,11 @@ use genie_model::differences::{
 };
 use genie_model::directory::{entry_place, put_entry, set_taken, Entry, Pair};
 use genie_model::disks::{empty_disk, random_disk, Disk};
+use genie_model::fault::Kind;
 use genie_model::geometry::{Geometry, GRANULE_BYTES};
 use genie_model::handle::Handle;
 use genie_model::interleave::{demand_three, Tally};
-use genie_model::library::{libraries, Library};
+use genie_model::library::{libraries, Library, NO_SLOT};
 use genie_model::names::{hash, name, Name};
 use genie_model::pairs::{holding, side, swapped, tell, tell_all, Change, CHANGES};
 use genie_model::plain::files_of;
@@ -402,12 +403,15 @@ fn any_two_disks_swapped() {
 
 // Refusals ------------------------------------------------------------------------------------------------------
 
-/// A disk that is accepted (0), or refused with 1 or 2.
+/// What a file with bit 5 set is refused with.
+const BIT_FIVE: Number = Kind::Name as Number;
+
+/// A disk that is accepted (0), or refused with 1 or BIT_FIVE.
 fn made(refusal: u8, g: Geometry) -> Disk {
     let mut disk = disk(g, &[Laid("PULS01/DAT", 0x80, 1, vec![7; 300])]);
     match refusal {
         1 => drop(disk.image.pop()),
-        2 => {
+        BIT_FIVE => {
             let place = entry_place(&g, 0x80);
             disk.image[place] |= 0x20;
         }
@@ -420,8 +424,8 @@ fn made(refusal: u8, g: Geometry) -> Disk {
 fn refusals_name_the_image_and_the_first_comes_first() {
     for library in libraries() {
         let library: &dyn Library = &*library;
-        for first in [0, GEOMETRY, INCONSISTENT] {
-            for second in [0, GEOMETRY, INCONSISTENT] {
+        for first in [0, GEOMETRY, BIT_FIVE] {
+            for second in [0, GEOMETRY, BIT_FIVE] {
                 let (one, two) = (made(first, small()), made(second, other()));
                 let (number, image) = match (first, second) {
                     (0, 0) => (0, 0),
@@ -436,6 +440,8 @@ fn refusals_name_the_image_and_the_first_comes_first() {
                         let expected = if short { RANGE } else { number };
                         let at = format!("{}, {first} {second}, buffer {length}", library.title());
                         assert_eq!((told.number, told.image), (expected, image), "{at}");
+                        let slot = if expected == BIT_FIVE { 0x80 } else { NO_SLOT };
+                        assert_eq!(told.fault_slot, slot, "{at}");
                         assert_eq!((told.kind, told.position, told.flags), (NO_MORE, 0, 0), "{at}");
                         assert!(told.within && told.name == room, "{at}");
                     }
@@ -453,9 +459,10 @@ fn refusals_name_the_image_and_the_first_comes_first() {
             }
             tried += 1;
             let of = |one: &Disk, two: &Disk| tell_all(library, side(one), side(two));
-            assert_eq!(of(&bad, &good), Err((INCONSISTENT, FIRST)), "{}", damage.title);
-            assert_eq!(of(&good, &bad), Err((INCONSISTENT, SECOND)), "{}", damage.title);
-            assert_eq!(of(&bad, &bad), Err((INCONSISTENT, FIRST)), "{}", damage.title);
+            let number = check(&bad.image, &bad.g);
+            assert_eq!(of(&bad, &good), Err((number, FIRST)), "{}", damage.title);
+            assert_eq!(of(&good, &bad), Err((number, SECOND)), "{}", damage.title);
+            assert_eq!(of(&bad, &bad), Err((number, FIRST)), "{}", damage.title);
         }
         assert!(tried > DAMAGES.len());
         // Geometries that are none, numbers of any size.
@@ -488,19 +495,19 @@ fn calls_of_a_week() {
         };
         let write = |after: &mut Disk, position: u32, bytes: &[u8]| {
             let mut handle = handle(0x80, "PULS01/DAT", bytes.len() as u16, position);
-            assert_eq!(library.write_record(&mut after.image, &g, &mut handle, false, bytes), 0);
+            assert_eq!(library.write_record(&mut after.image, &g, &mut handle, false, bytes, &mut 0), 0);
         };
         // Written with the bytes that it had: only B is set.
         write(&mut after, 0, &[7; 10]);
         let b = [told("PULS01/DAT", UNLIKE, 300, OTHER)];
         assert_eq!(tell_all(&*library, side(&before), side(&after)).as_deref(), Ok(&b[..]));
         write(&mut after, 290, &[7; 20]);
-        assert_eq!(library.kill(&mut after.image, &g, &handle(0x81, "ALT", 1, 0)), 0);
+        assert_eq!(library.kill(&mut after.image, &g, &handle(0x81, "ALT", 1, 0), &mut 0), 0);
         let all = [told("ALT", ONLY_IN_FIRST, 0, 0), told("PULS01/DAT", UNLIKE, 300, SIZE + OTHER + CONTENTS)];
         assert_eq!(tell_all(&*library, side(&before), side(&after)).as_deref(), Ok(&all[..]));
         // Allotted space is placement.
         let mut roomy = after.clone();
-        assert_eq!(library.allot(&mut roomy.image, &g, &handle(0x80, "PULS01/DAT", 1, 0), 40), 0);
+        assert_eq!(library.allot(&mut roomy.image, &g, &handle(0x80, "PULS01/DAT", 1, 0), 40, &mut 0), 0);
         assert_eq!(tell_all(&*library, side(&after), side(&roomy)), Ok(vec![]));
     }
 }

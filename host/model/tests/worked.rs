@@ -1,8 +1,9 @@
 //! Document 01's worked table and its listing, on the model and on the linked library.
 
-use genie_model::calls::{Birth, ACCEPTED, INCONSISTENT};
+use genie_model::calls::{Birth, Number, ACCEPTED};
 use genie_model::directory::{directory_sectors, entry_place, hit_place, row, s, set_taken, slots, Entry, Pair};
 use genie_model::disks::{empty_disk, Disk};
+use genie_model::fault::Kind;
 use genie_model::geometry::Geometry;
 use genie_model::handle::{Handle, HANDLE_BYTES};
 use genie_model::library::{libraries, Library};
@@ -18,13 +19,13 @@ fn sixteen_by_two() -> Disk {
 
 fn create(library: &dyn Library, disk: &mut Disk, text: &str, length: usize) -> [u8; HANDLE_BYTES] {
     let mut handle = [0; HANDLE_BYTES];
-    let number = library.create(&mut disk.image, &disk.g, &name(text), &birth(length), &mut 9, &mut handle);
+    let number = library.create(&mut disk.image, &disk.g, &name(text), &birth(length), &mut 9, &mut handle, &mut 0);
     assert_eq!(number, ACCEPTED, "{}: create {text}", library.title());
     handle
 }
 
 fn write(library: &dyn Library, disk: &mut Disk, handle: &mut [u8], bytes: &[u8]) {
-    let number = library.write_record(&mut disk.image, &disk.g, handle, true, bytes);
+    let number = library.write_record(&mut disk.image, &disk.g, handle, true, bytes, &mut 0);
     assert_eq!(number, ACCEPTED, "{}: write", library.title());
 }
 
@@ -73,7 +74,7 @@ fn row_2_slot_25() {
         let mut disk = sixteen_by_two();
         place(&mut disk, 0x25, "PULS01/DAT", &[], 0);
         let (mut slot, mut compared) = (0, 0);
-        let number = library.look_up(&disk.image, &disk.g, &name("PULS01/DAT"), &mut slot, &mut compared);
+        let number = library.look_up(&disk.image, &disk.g, &name("PULS01/DAT"), &mut slot, &mut compared, &mut 0);
         assert_eq!((number, slot, compared), (ACCEPTED, 0x25, 1), "{}", library.title());
     }
 }
@@ -85,17 +86,19 @@ fn row_3_pair_11_42() {
         let mut disk = empty_disk(Geometry { blocks: 40, units: 3, start: 80, open_code: 0 }, 10, &[]);
         assert_eq!(pair.run(&disk.g), 53..56);
         place(&mut disk, 0x80, "A", &[pair], 3 * 1280);
-        assert_eq!(library.check(&disk.image, &disk.g), ACCEPTED);
+        assert_eq!(library.check(&disk.image, &disk.g, &mut 0), ACCEPTED);
         let handle = Handle { slot: 0x80, level: 0, length: 1, position: 0, name: name("A") }.bytes();
         for k in 0..15 {
             let (mut from, mut to) = (0, 0);
-            assert_eq!(library.read_sector(&disk.image, &disk.g, &handle, k, &mut from, &mut to), ACCEPTED);
+            assert_eq!(library.read_sector(&disk.image, &disk.g, &handle, k, &mut from, &mut to, &mut 0), ACCEPTED);
             assert_eq!((from, to), ((265 + k) * 256, (266 + k) * 256));
         }
         // With 2 units the first unit, 2, is too high.
         let mut disk = empty_disk(Geometry { blocks: 40, units: 2, start: 80, open_code: 0 }, 10, &[]);
         place(&mut disk, 0x80, "A", &[pair], 0);
-        assert_eq!(library.check(&disk.image, &disk.g), INCONSISTENT);
+        let mut slot = 0;
+        let number = library.check(&disk.image, &disk.g, &mut slot);
+        assert_eq!((number, slot), (Kind::RunOffDisk as Number, 0x80));
     }
 }
 
@@ -130,9 +133,12 @@ fn row_5_byte_1280() {
         disk.image[20 * 1280 + 1279] = 0x11;
         disk.image[7 * 1280] = 0x22;
         let mut buffer = [0];
-        assert_eq!(library.read_record(&disk.image, &disk.g, &mut handle.clone(), &mut buffer), ACCEPTED);
+        assert_eq!(library.read_record(&disk.image, &disk.g, &mut handle.clone(), &mut buffer, &mut 0), ACCEPTED);
         assert_eq!(buffer, [0x22]);
-        assert_eq!(library.read_record(&disk.image, &disk.g, &mut at(&handle, 1279), &mut buffer), ACCEPTED);
+        assert_eq!(
+            library.read_record(&disk.image, &disk.g, &mut at(&handle, 1279), &mut buffer, &mut 0),
+            ACCEPTED
+        );
         assert_eq!(buffer, [0x11]);
     }
 }
@@ -143,9 +149,9 @@ fn row_6_runs_of_32() {
         let mut disk = empty_disk(Geometry { blocks: 40, units: 2, start: 0, open_code: 0 }, 10, &[]);
         let handle = create(&*library, &mut disk, "A", 1);
         let entry_of = |disk: &Disk| genie_model::directory::entry(&disk.image, &disk.g, handle[0]);
-        assert_eq!(library.allot(&mut disk.image, &disk.g, &handle, 32 * 5 - 1), ACCEPTED);
+        assert_eq!(library.allot(&mut disk.image, &disk.g, &handle, 32 * 5 - 1, &mut 0), ACCEPTED);
         assert_eq!(entry_of(&disk).0[0x16..0x1A], [1, 0x1F, 0xFF, 0xFF]);
-        assert_eq!(library.allot(&mut disk.image, &disk.g, &handle, 32 * 5), ACCEPTED);
+        assert_eq!(library.allot(&mut disk.image, &disk.g, &handle, 32 * 5, &mut 0), ACCEPTED);
         // The 33rd granule has the next number, 34, and needs a new pair all the same.
         assert_eq!(entry_of(&disk).0[0x16..0x1C], [1, 0x1F, 17, 0x00, 0xFF, 0xFF]);
     }
@@ -172,7 +178,7 @@ fn row_8_longest_directory() {
     disk.image[hit_place(&disk.g, 0xFC)] = 0x77;
     for library in libraries() {
         let (mut slot, mut compared) = (0, 0);
-        assert_eq!(library.look_up(&disk.image, &disk.g, &name("A"), &mut slot, &mut compared), ACCEPTED);
+        assert_eq!(library.look_up(&disk.image, &disk.g, &name("A"), &mut slot, &mut compared, &mut 0), ACCEPTED);
         assert_eq!((slot, compared), (0xFB, 1), "{}", library.title());
     }
 }
@@ -188,11 +194,12 @@ fn the_listing() {
         create(&*library, &mut disk, "LEER", 256);
 
         let (mut files, mut free) = (0, 0);
-        assert_eq!(library.count(&disk.image, &disk.g, &mut files, &mut free), ACCEPTED);
+        assert_eq!(library.count(&disk.image, &disk.g, &mut files, &mut free, &mut 0), ACCEPTED);
         let mut text = format!("FILES {files}\n");
         for number in 0.. {
             let (mut told, mut size, mut granules, mut more) = ([0xEE; 11], 0, 0, 0);
-            let answer = library.list(&disk.image, &disk.g, number, &mut told, &mut size, &mut granules, &mut more);
+            let answer =
+                library.list(&disk.image, &disk.g, number, &mut told, &mut size, &mut granules, &mut more, &mut 0);
             assert_eq!(answer, ACCEPTED);
             if more == 0 {
                 assert_eq!((told, size, granules), ([0xEE; 11], 0, 0));

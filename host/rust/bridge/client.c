@@ -158,25 +158,27 @@ static uint8_t end(void)
 #define TAKE_HANDLE TAKE(handle, HANDLE_MOST)
 #define TAKE_BUFFER TAKE(buffer, BUFFER_MOST)
 
-uint8_t genie_check(const IMAGE)
+uint8_t genie_check(const IMAGE, size_t *fault_slot)
 {
     BEGIN(CHECK);
     go();
+    *fault_slot = w->fault_slot;
     return end();
 }
 
-uint8_t genie_look_up(const IMAGE, const uint8_t *name, size_t name_len, size_t *slot, size_t *compared)
+uint8_t genie_look_up(const IMAGE, const uint8_t *name, size_t name_len, size_t *slot, size_t *compared, size_t *fault_slot)
 {
     BEGIN(LOOK_UP);
     TAKE_NAME;
     go();
     *slot = w->out[0];
     *compared = w->out[1];
+    *fault_slot = w->fault_slot;
     return end();
 }
 
 uint8_t genie_open(const IMAGE, const uint8_t *name, size_t name_len, size_t length, bool checking, uint16_t code,
-                   uint8_t *handle, size_t handle_len)
+                   uint8_t *handle, size_t handle_len, size_t *fault_slot)
 {
     BEGIN(OPEN);
     TAKE_NAME;
@@ -186,11 +188,12 @@ uint8_t genie_open(const IMAGE, const uint8_t *name, size_t name_len, size_t len
     w->in[2] = code;
     go();
     BACK(handle);
+    *fault_slot = w->fault_slot;
     return end();
 }
 
 uint8_t genie_create(IMAGE, const uint8_t *name, size_t name_len, size_t day, size_t month, size_t year, size_t length,
-                     uint16_t main_code, uint16_t worker_code, bool checking, size_t *old, uint8_t *handle, size_t handle_len)
+                     uint16_t main_code, uint16_t worker_code, bool checking, size_t *old, uint8_t *handle, size_t handle_len, size_t *fault_slot)
 {
     BEGIN(CREATE);
     TAKE_NAME;
@@ -206,10 +209,11 @@ uint8_t genie_create(IMAGE, const uint8_t *name, size_t name_len, size_t day, si
     *old = w->out[0];
     BACK(handle);
     BACK(image);
+    *fault_slot = w->fault_slot;
     return end();
 }
 
-uint8_t genie_read_record(const IMAGE, uint8_t *handle, size_t handle_len, uint8_t *buffer, size_t buffer_len)
+uint8_t genie_read_record(const IMAGE, uint8_t *handle, size_t handle_len, uint8_t *buffer, size_t buffer_len, size_t *fault_slot)
 {
     BEGIN(READ_RECORD);
     TAKE_HANDLE;
@@ -217,10 +221,11 @@ uint8_t genie_read_record(const IMAGE, uint8_t *handle, size_t handle_len, uint8
     go();
     BACK(handle);
     BACK(buffer);
+    *fault_slot = w->fault_slot;
     return end();
 }
 
-uint8_t genie_read_sector(const IMAGE, const uint8_t *handle, size_t handle_len, size_t k, size_t *from, size_t *to)
+uint8_t genie_read_sector(const IMAGE, const uint8_t *handle, size_t handle_len, size_t k, size_t *from, size_t *to, size_t *fault_slot)
 {
     BEGIN(READ_SECTOR);
     TAKE_HANDLE;
@@ -228,10 +233,11 @@ uint8_t genie_read_sector(const IMAGE, const uint8_t *handle, size_t handle_len,
     go();
     *from = w->out[0];
     *to = w->out[1];
+    *fault_slot = w->fault_slot;
     return end();
 }
 
-uint8_t genie_write_record(IMAGE, uint8_t *handle, size_t handle_len, bool sequential, const uint8_t *buffer, size_t buffer_len)
+uint8_t genie_write_record(IMAGE, uint8_t *handle, size_t handle_len, bool sequential, const uint8_t *buffer, size_t buffer_len, size_t *fault_slot)
 {
     BEGIN(WRITE_RECORD);
     TAKE_HANDLE;
@@ -240,38 +246,42 @@ uint8_t genie_write_record(IMAGE, uint8_t *handle, size_t handle_len, bool seque
     go();
     BACK(handle);
     BACK(image);
+    *fault_slot = w->fault_slot;
     return end();
 }
 
-uint8_t genie_allot(IMAGE, const uint8_t *handle, size_t handle_len, size_t k)
+uint8_t genie_allot(IMAGE, const uint8_t *handle, size_t handle_len, size_t k, size_t *fault_slot)
 {
     BEGIN(ALLOT);
     TAKE_HANDLE;
     w->in[0] = k;
     go();
     BACK(image);
+    *fault_slot = w->fault_slot;
     return end();
 }
 
-uint8_t genie_trim(IMAGE, const uint8_t *handle, size_t handle_len)
+uint8_t genie_trim(IMAGE, const uint8_t *handle, size_t handle_len, size_t *fault_slot)
 {
     BEGIN(TRIM);
     TAKE_HANDLE;
     go();
     BACK(image);
+    *fault_slot = w->fault_slot;
     return end();
 }
 
-uint8_t genie_kill(IMAGE, const uint8_t *handle, size_t handle_len)
+uint8_t genie_kill(IMAGE, const uint8_t *handle, size_t handle_len, size_t *fault_slot)
 {
     BEGIN(KILL);
     TAKE_HANDLE;
     go();
     BACK(image);
+    *fault_slot = w->fault_slot;
     return end();
 }
 
-uint8_t genie_bring_back(IMAGE, size_t slot, size_t *slots, size_t *granules)
+uint8_t genie_bring_back(IMAGE, size_t slot, size_t *slots, size_t *granules, size_t *fault_slot)
 {
     BEGIN(BRING_BACK);
     w->in[0] = slot;
@@ -279,10 +289,11 @@ uint8_t genie_bring_back(IMAGE, size_t slot, size_t *slots, size_t *granules)
     *slots = w->out[0];
     *granules = w->out[1];
     BACK(image);
+    *fault_slot = w->fault_slot;
     return end();
 }
 
-uint8_t genie_list(const IMAGE, size_t number, uint8_t *name, size_t name_len, size_t *size, size_t *granules, size_t *more)
+uint8_t genie_list(const IMAGE, size_t number, uint8_t *name, size_t name_len, size_t *size, size_t *granules, size_t *more, size_t *fault_slot)
 {
     BEGIN(LIST);
     TAKE_NAME;
@@ -292,15 +303,17 @@ uint8_t genie_list(const IMAGE, size_t number, uint8_t *name, size_t name_len, s
     *size = w->out[0];
     *granules = w->out[1];
     *more = w->out[2];
+    *fault_slot = w->fault_slot;
     return end();
 }
 
-uint8_t genie_count(const IMAGE, size_t *files, size_t *free)
+uint8_t genie_count(const IMAGE, size_t *files, size_t *free, size_t *fault_slot)
 {
     BEGIN(COUNT);
     go();
     *files = w->out[0];
     *free = w->out[1];
+    *fault_slot = w->fault_slot;
     return end();
 }
 
@@ -315,7 +328,7 @@ uint8_t genie_free(const IMAGE, size_t *free, size_t *longest)
 
 uint8_t genie_compare(const uint8_t *first, size_t first_len, size_t blocks, size_t units, size_t start, uint16_t open_code,
                       const uint8_t *second, size_t second_len, size_t blocks2, size_t units2, size_t start2, uint16_t open_code2,
-                      size_t number, uint8_t *name, size_t name_len, size_t *image, size_t *kind, size_t *position, size_t *flags)
+                      size_t number, uint8_t *name, size_t name_len, size_t *image, size_t *kind, size_t *position, size_t *flags, size_t *fault_slot)
 {
     begin(COMPARE, first, first_len, blocks, units, start, open_code);
     TAKE(second, IMAGE_MOST);
@@ -331,5 +344,6 @@ uint8_t genie_compare(const uint8_t *first, size_t first_len, size_t blocks, siz
     *kind = w->out[1];
     *position = w->out[2];
     *flags = w->out[3];
+    *fault_slot = w->fault_slot;
     return end();
 }

@@ -61,7 +61,7 @@ pub struct RefusedImage {
     pub refusal: Refusal,
 }
 
-/// `the second disk: 2 (disk not consistent)`.
+/// `the second disk: 30 (disk not consistent: directory granule)`.
 impl fmt::Display for RefusedImage {
     fn fmt(&self, f: &mut fmt::Formatter<'_>) -> fmt::Result {
         let which = match self.image {
@@ -120,13 +120,13 @@ impl<B: AsRef<[u8]>> Disk<B> {
     /// A refusal says which disk it is of:
     ///
     /// ```
-    /// use genie_dos::{Disk, Geometry, Refusal, RefusedImage, Which};
+    /// use genie_dos::{Disk, Fault, FaultKind, Geometry, Refusal, RefusedImage, Which};
     ///
     /// let geometry = Geometry::new(16, 2, 80, 0x4296);
     /// let disk = Disk::blank(geometry, 10, &[0])?;
     /// let damaged = Disk::new([0; 40_960], geometry);
-    /// let refused = RefusedImage { image: Which::Second, refusal: Refusal::Inconsistent };
-    /// assert_eq!(disk.differences(&damaged).err(), Some(refused));
+    /// let clear = Refusal::Inconsistent(Fault::of_disk(FaultKind::DirectoryGranule));
+    /// assert_eq!(disk.differences(&damaged).err(), Some(RefusedImage { image: Which::Second, refusal: clear }));
     /// # Ok::<(), Refusal>(())
     /// ```
     pub fn differences<'a, C: AsRef<[u8]>>(&'a self, second: &'a Disk<C>) -> Result<Differences<'a>, RefusedImage> {
@@ -158,6 +158,7 @@ fn told(first: &Disk<&[u8]>, second: &Disk<&[u8]>, number: usize) -> Result<Opti
     let mut name = [b' '; Name::LEN];
     let (mut image, mut kind, mut position, mut flags) = (0, 0, 0, 0);
     // SAFETY: the images are live references; name and outgoing numbers are locals.
+    let mut fault_slot = 0;
     let answer = unsafe {
         sys::genie_compare(
             one.as_ptr(),
@@ -179,9 +180,10 @@ fn told(first: &Disk<&[u8]>, second: &Disk<&[u8]>, number: usize) -> Result<Opti
             &mut kind,
             &mut position,
             &mut flags,
+            &mut fault_slot,
         )
     };
-    if let Some(refusal) = Refusal::from_number(answer) {
+    if let Some(refusal) = Refusal::from_answer(answer, fault_slot) {
         let image = if image == 2 { Which::Second } else { Which::First };
         return Err(RefusedImage { image, refusal });
     }

@@ -1,12 +1,12 @@
 use crate::entry::Directory;
-use crate::{sys, Date, Entry, Geometry, Handle, Name, Refusal};
+use crate::{sys, Date, Entry, Fault, FaultKind, Geometry, Handle, Name, Refusal};
 
 /// A disk: the bytes of its image and the geometry that the caller states for it.
 ///
 /// The image can be owned (`Disk<Vec<u8>>`) or lent (`Disk<&[u8]>` to look only, `Disk<&mut [u8]>`). Any bytes will
 /// do: each call tests the geometry, the image's length and the whole directory before it does anything, so that a
-/// damaged disk is refused with [`Refusal::Inconsistent`] and stays as it is. ([`Disk::free_space`] tests the first two
-/// only.)
+/// damaged disk is refused with [`Refusal::Inconsistent`], which says what is wrong and where, and stays as it is.
+/// ([`Disk::free_space`] tests the first two only.)
 ///
 /// ```
 /// use genie_dos::{Date, Disk, Geometry, Kind, Name, NewFile, Password};
@@ -135,9 +135,11 @@ pub struct BroughtBack {
     pub granules: usize,
 }
 
-/// A refusal number as a result.
-fn accepted(number: u8) -> Result<(), Refusal> {
-    Refusal::from_number(number).map_or(Ok(()), Err)
+/// What a call answers, as a result: its number, and the slot that it sets.
+fn accepted(call: impl FnOnce(&mut usize) -> u8) -> Result<(), Refusal> {
+    let mut fault_slot = 0;
+    let number = call(&mut fault_slot);
+    Refusal::from_answer(number, fault_slot).map_or(Ok(()), Err)
 }
 
 impl<B> Disk<B> {
@@ -182,9 +184,10 @@ impl Disk<Vec<u8>> {
         let gat = geometry.start * Geometry::SECTOR_BYTES;
         let hit = gat + Geometry::SECTOR_BYTES;
         let above_ten = directory_sectors.checked_sub(10).and_then(|above| u8::try_from(above).ok());
-        let above_ten = above_ten.ok_or(Refusal::Inconsistent)?;
+        let no_length = Refusal::Inconsistent(Fault::of_disk(FaultKind::DirectoryLength));
+        let above_ten = above_ten.ok_or(no_length)?;
         let end = gat + directory_sectors * Geometry::SECTOR_BYTES;
-        disk.image.get_mut(gat..end).ok_or(Refusal::Inconsistent)?.fill(0);
+        disk.image.get_mut(gat..end).ok_or(no_length)?.fill(0);
         disk.image[hit + 0x1f] = above_ten;
         let first = geometry.start / Geometry::GRANULE_SECTORS;
         let directory = first..first + directory_sectors / Geometry::GRANULE_SECTORS;
@@ -205,19 +208,31 @@ impl<B: AsRef<[u8]>> Disk<B> {
         self.image.as_ref()
     }
 
-    /// Tests geometry, image length and consistency: accepted, or refused with 1 or 2.
+    /// Tests geometry, image length and consistency: accepted, or refused with 1 or one of 21 to 30.
     ///
     /// ```
-    /// use genie_dos::{Disk, Geometry, Refusal};
+    /// use genie_dos::{Disk, Fault, FaultKind, Geometry, Refusal};
     ///
     /// let geometry = Geometry::new(16, 2, 80, 0x4296);
-    /// assert_eq!(Disk::new([0u8; 40_960], geometry).check(), Err(Refusal::Inconsistent));
     /// assert_eq!(Disk::new([0u8; 40_959], geometry).check(), Err(Refusal::Geometry));
+    ///
+    /// // Zeros are a disk without files, but the GAT marks the directory itself as free.
+    /// let clear = Refusal::Inconsistent(Fault::of_disk(FaultKind::DirectoryGranule));
+    /// assert_eq!(Disk::new([0u8; 40_960], geometry).check(), Err(clear));
+    ///
+    /// // Slot 80H has a HIT byte though its entry is not in use.
+    /// let mut image = Disk::blank(geometry, 10, &[0])?.into_image();
+    /// image[81 * 256 + 0x80] = 0xA2;
+    /// let refusal = Disk::new(image, geometry).check().unwrap_err();
+    /// assert_eq!((refusal.number(), refusal.slot()), (22, Some(0x80)));
+    /// # Ok::<(), Refusal>(())
     /// ```
     pub fn check(&self) -> Result<(), Refusal> {
         let (image, g) = (self.image.as_ref(), self.geometry);
         // SAFETY: the slice is a live reference.
-        accepted(unsafe { sys::genie_check(image.as_ptr(), image.len(), g.blocks, g.units, g.start, g.open_code) })
+        accepted(|fault_slot| unsafe {
+            sys::genie_check(image.as_ptr(), image.len(), g.blocks, g.units, g.start, g.open_code, fault_slot)
+        })
     }
 
     /// Finds a file's slot and tells how many entries were compared.
@@ -233,7 +248,7 @@ impl<B: AsRef<[u8]>> Disk<B> {
         let (image, g, name) = (self.image.as_ref(), self.geometry, name.as_bytes());
         let (mut slot, mut compared) = (0, 0);
         // SAFETY: the slices are live references; the outgoing numbers are locals.
-        let number = unsafe {
+        let answer = accepted(|fault_slot| unsafe {
             sys::genie_look_up(
                 image.as_ptr(),
                 image.len(),
@@ -245,10 +260,11 @@ impl<B: AsRef<[u8]>> Disk<B> {
                 name.len(),
                 &mut slot,
                 &mut compared,
+                fault_slot,
             )
-        };
+        });
         // A slot is below 256.
-        LookUp { slot: accepted(number).map(|()| slot as u8), compared }
+        LookUp { slot: answer.map(|()| slot as u8), compared }
     }
 
     /// Opens a file for records of `length` bytes (1 to 256).
@@ -276,7 +292,7 @@ impl<B: AsRef<[u8]>> Disk<B> {
         let mut handle = Handle::zeros();
         let lent = handle.as_mut_bytes();
         // SAFETY: the slices are live references, the handle's a local.
-        accepted(unsafe {
+        accepted(|fault_slot| unsafe {
             sys::genie_open(
                 image.as_ptr(),
                 image.len(),
@@ -291,6 +307,7 @@ impl<B: AsRef<[u8]>> Disk<B> {
                 code,
                 lent.as_mut_ptr(),
                 lent.len(),
+                fault_slot,
             )
         })?;
         Ok(handle)
@@ -318,7 +335,7 @@ impl<B: AsRef<[u8]>> Disk<B> {
     pub fn read_record(&self, handle: &mut Handle, buffer: &mut [u8]) -> Result<(), Refusal> {
         let (image, g, lent) = (self.image.as_ref(), self.geometry, handle.as_mut_bytes());
         // SAFETY: the slices are live references, those written to are exclusive.
-        accepted(unsafe {
+        accepted(|fault_slot| unsafe {
             sys::genie_read_record(
                 image.as_ptr(),
                 image.len(),
@@ -330,6 +347,7 @@ impl<B: AsRef<[u8]>> Disk<B> {
                 lent.len(),
                 buffer.as_mut_ptr(),
                 buffer.len(),
+                fault_slot,
             )
         })
     }
@@ -352,7 +370,7 @@ impl<B: AsRef<[u8]>> Disk<B> {
         let (image, g, lent) = (self.image.as_ref(), self.geometry, handle.as_bytes());
         let (mut from, mut to) = (0, 0);
         // SAFETY: the slices are live references; the outgoing numbers are locals.
-        accepted(unsafe {
+        accepted(|fault_slot| unsafe {
             sys::genie_read_sector(
                 image.as_ptr(),
                 image.len(),
@@ -365,6 +383,7 @@ impl<B: AsRef<[u8]>> Disk<B> {
                 k,
                 &mut from,
                 &mut to,
+                fault_slot,
             )
         })?;
         Ok(&image[from..to])
@@ -387,7 +406,7 @@ impl<B: AsRef<[u8]>> Disk<B> {
         let mut name = [b' '; Name::LEN];
         let (mut size, mut granules, mut more) = (0, 0, 0);
         // SAFETY: the image is a live reference; name and outgoing numbers are locals.
-        accepted(unsafe {
+        accepted(|fault_slot| unsafe {
             sys::genie_list(
                 image.as_ptr(),
                 image.len(),
@@ -401,6 +420,7 @@ impl<B: AsRef<[u8]>> Disk<B> {
                 &mut size,
                 &mut granules,
                 &mut more,
+                fault_slot,
             )
         })?;
         Ok((more != 0).then(|| Listed { name: Name::from_bytes(name), size, granules }))
@@ -411,7 +431,7 @@ impl<B: AsRef<[u8]>> Disk<B> {
         let (image, g) = (self.image.as_ref(), self.geometry);
         let (mut files, mut free) = (0, 0);
         // SAFETY: the image is a live reference; the outgoing numbers are locals.
-        accepted(unsafe {
+        accepted(|fault_slot| unsafe {
             sys::genie_count(
                 image.as_ptr(),
                 image.len(),
@@ -421,6 +441,7 @@ impl<B: AsRef<[u8]>> Disk<B> {
                 g.open_code,
                 &mut files,
                 &mut free,
+                fault_slot,
             )
         })?;
         Ok(Counts { files, free })
@@ -441,7 +462,7 @@ impl<B: AsRef<[u8]>> Disk<B> {
         let (image, g) = (self.image.as_ref(), self.geometry);
         let (mut free, mut longest) = (0, 0);
         // SAFETY: the image is a live reference; the outgoing numbers are locals.
-        accepted(unsafe {
+        accepted(|_| unsafe {
             sys::genie_free(
                 image.as_ptr(),
                 image.len(),
@@ -545,7 +566,7 @@ impl<B: AsMut<[u8]>> Disk<B> {
         let lent = handle.as_mut_bytes();
         let mut old = 0;
         // SAFETY: the slices are live references, the image's is exclusive; the others written to are locals.
-        accepted(unsafe {
+        accepted(|fault_slot| unsafe {
             sys::genie_create(
                 image.as_mut_ptr(),
                 image.len(),
@@ -566,6 +587,7 @@ impl<B: AsMut<[u8]>> Disk<B> {
                 &mut old,
                 lent.as_mut_ptr(),
                 lent.len(),
+                fault_slot,
             )
         })?;
         Ok(Created { handle, old: old != 0 })
@@ -594,7 +616,7 @@ impl<B: AsMut<[u8]>> Disk<B> {
     pub fn write_record(&mut self, handle: &mut Handle, kind: Kind, buffer: &[u8]) -> Result<(), Refusal> {
         let (image, g, lent) = (self.image.as_mut(), self.geometry, handle.as_mut_bytes());
         // SAFETY: the slices are live references, those written to are exclusive.
-        accepted(unsafe {
+        accepted(|fault_slot| unsafe {
             sys::genie_write_record(
                 image.as_mut_ptr(),
                 image.len(),
@@ -607,6 +629,7 @@ impl<B: AsMut<[u8]>> Disk<B> {
                 kind == Kind::Sequential,
                 buffer.as_ptr(),
                 buffer.len(),
+                fault_slot,
             )
         })
     }
@@ -627,7 +650,7 @@ impl<B: AsMut<[u8]>> Disk<B> {
     pub fn allot(&mut self, handle: &Handle, k: usize) -> Result<(), Refusal> {
         let (image, g, lent) = (self.image.as_mut(), self.geometry, handle.as_bytes());
         // SAFETY: the slices are live references, the image's is exclusive.
-        accepted(unsafe {
+        accepted(|fault_slot| unsafe {
             sys::genie_allot(
                 image.as_mut_ptr(),
                 image.len(),
@@ -638,6 +661,7 @@ impl<B: AsMut<[u8]>> Disk<B> {
                 lent.as_ptr(),
                 lent.len(),
                 k,
+                fault_slot,
             )
         })
     }
@@ -647,7 +671,7 @@ impl<B: AsMut<[u8]>> Disk<B> {
     pub fn trim(&mut self, handle: &Handle) -> Result<(), Refusal> {
         let (image, g, lent) = (self.image.as_mut(), self.geometry, handle.as_bytes());
         // SAFETY: the slices are live references, the image's is exclusive.
-        accepted(unsafe {
+        accepted(|fault_slot| unsafe {
             sys::genie_trim(
                 image.as_mut_ptr(),
                 image.len(),
@@ -657,6 +681,7 @@ impl<B: AsMut<[u8]>> Disk<B> {
                 g.open_code,
                 lent.as_ptr(),
                 lent.len(),
+                fault_slot,
             )
         })
     }
@@ -675,7 +700,7 @@ impl<B: AsMut<[u8]>> Disk<B> {
     pub fn kill(&mut self, handle: &Handle) -> Result<(), Refusal> {
         let (image, g, lent) = (self.image.as_mut(), self.geometry, handle.as_bytes());
         // SAFETY: the slices are live references, the image's is exclusive.
-        accepted(unsafe {
+        accepted(|fault_slot| unsafe {
             sys::genie_kill(
                 image.as_mut_ptr(),
                 image.len(),
@@ -685,6 +710,7 @@ impl<B: AsMut<[u8]>> Disk<B> {
                 g.open_code,
                 lent.as_ptr(),
                 lent.len(),
+                fault_slot,
             )
         })
     }
@@ -709,7 +735,7 @@ impl<B: AsMut<[u8]>> Disk<B> {
         let (image, g) = (self.image.as_mut(), self.geometry);
         let (mut slots, mut granules) = (0, 0);
         // SAFETY: the slice is a live, exclusive reference; the outgoing numbers are locals.
-        accepted(unsafe {
+        accepted(|fault_slot| unsafe {
             sys::genie_bring_back(
                 image.as_mut_ptr(),
                 image.len(),
@@ -720,6 +746,7 @@ impl<B: AsMut<[u8]>> Disk<B> {
                 slot,
                 &mut slots,
                 &mut granules,
+                fault_slot,
             )
         })?;
         Ok(BroughtBack { slots, granules })

@@ -31,6 +31,8 @@
 mod difference;
 mod disk;
 mod entry;
+mod explain;
+mod fault;
 mod geometry;
 mod handle;
 mod name;
@@ -40,6 +42,8 @@ mod sys;
 pub use difference::{Difference, Differences, RefusedImage, Which};
 pub use disk::{BroughtBack, Counts, Created, Disk, FreeSpace, Kind, Listed, LookUp, NewFile, Password};
 pub use entry::{Date, Entry, Run};
+pub use explain::Explained;
+pub use fault::{Fault, FaultKind};
 pub use geometry::Geometry;
 pub use handle::Handle;
 pub use name::{BadName, Name};

@@ -1,3 +1,4 @@
+use crate::{Fault, FaultKind};
 use std::fmt;
 
 /// Why the library refused a call. A refused call has changed nothing.
@@ -12,13 +13,26 @@ use std::fmt;
 /// assert_eq!(Refusal::from_number(0), None); // 0 is "accepted"
 /// assert_eq!(Refusal::Password.to_string(), "5 (wrong password code)");
 /// ```
+///
+/// A disk that is not consistent is refused with one of ten numbers, 21 to 30, and where the fault is an entry's, with its
+/// slot:
+///
+/// ```
+/// use genie_dos::{Fault, FaultKind, Refusal};
+///
+/// let refusal = Refusal::from_answer(28, 0x25).unwrap();
+/// assert_eq!(refusal, Refusal::Inconsistent(Fault::at(FaultKind::GranuleShared, 0x25)));
+/// assert_eq!((refusal.number(), refusal.slot()), (28, Some(0x25)));
+/// assert_eq!(refusal.to_string(), "28 (disk not consistent: granule shared; slot 25H)");
+/// assert_eq!(Refusal::from_answer(21, 256).unwrap().slot(), None); // 256 is "no slot"
+/// ```
 #[derive(Clone, Copy, Debug, PartialEq, Eq, Hash)]
 #[non_exhaustive]
 pub enum Refusal {
     /// 1: the geometry or the image's length is not allowed.
     Geometry,
-    /// 2: the disk is not consistent.
-    Inconsistent,
+    /// 21 to 30: the disk is not consistent, by this fault.
+    Inconsistent(Fault),
     /// 12: a position, length, level, date or sector out of range, a buffer shorter than the record, or a slot that the
     /// directory has not.
     Range,
@@ -53,10 +67,19 @@ pub enum Refusal {
 }
 
 impl Refusal {
-    /// The numbers that the library gives today, in the order in which it tests.
-    pub const ALL: [Refusal; 16] = [
+    /// The numbers that the library gives today, in the order in which it tests; those of faults without their slots.
+    pub const ALL: [Refusal; 25] = [
         Refusal::Geometry,
-        Refusal::Inconsistent,
+        Refusal::Inconsistent(Fault::of_disk(FaultKind::DirectoryLength)),
+        Refusal::Inconsistent(Fault::of_disk(FaultKind::HitAgainstEntry)),
+        Refusal::Inconsistent(Fault::of_disk(FaultKind::Name)),
+        Refusal::Inconsistent(Fault::of_disk(FaultKind::DuplicateName)),
+        Refusal::Inconsistent(Fault::of_disk(FaultKind::Chain)),
+        Refusal::Inconsistent(Fault::of_disk(FaultKind::RunOffDisk)),
+        Refusal::Inconsistent(Fault::of_disk(FaultKind::GatBitMissing)),
+        Refusal::Inconsistent(Fault::of_disk(FaultKind::GranuleShared)),
+        Refusal::Inconsistent(Fault::of_disk(FaultKind::Size)),
+        Refusal::Inconsistent(Fault::of_disk(FaultKind::DirectoryGranule)),
         Refusal::Range,
         Refusal::Name,
         Refusal::Stale,
@@ -77,7 +100,7 @@ impl Refusal {
     pub fn number(self) -> u8 {
         match self {
             Refusal::Geometry => 1,
-            Refusal::Inconsistent => 2,
+            Refusal::Inconsistent(fault) => fault.kind.number(),
             Refusal::Name => 3,
             Refusal::NotFound => 4,
             Refusal::Password => 5,
@@ -96,7 +119,29 @@ impl Refusal {
         }
     }
 
-    /// The refusal of a number; none for 0, which stands for "accepted".
+    /// The slot of the entry at fault; none where it is no entry's, and of every other refusal.
+    pub fn slot(self) -> Option<u8> {
+        self.fault().and_then(|fault| fault.slot)
+    }
+
+    /// The fault of a disk that is not consistent; none of every other refusal.
+    pub fn fault(self) -> Option<Fault> {
+        match self {
+            Refusal::Inconsistent(fault) => Some(fault),
+            _ => None,
+        }
+    }
+
+    /// The refusal that the library answers with a number and a fault's slot, of which 256 stands for none.
+    pub fn from_answer(number: u8, fault_slot: usize) -> Option<Refusal> {
+        let slot = u8::try_from(fault_slot).ok();
+        Refusal::from_number(number).map(|refusal| match refusal {
+            Refusal::Inconsistent(Fault { kind, .. }) => Refusal::Inconsistent(Fault { kind, slot }),
+            other => other,
+        })
+    }
+
+    /// The refusal of a number, without a slot; none for 0, which stands for "accepted".
     pub fn from_number(number: u8) -> Option<Refusal> {
         if number == 0 {
             return None;
@@ -109,7 +154,7 @@ impl Refusal {
     pub fn meaning(self) -> &'static str {
         match self {
             Refusal::Geometry => "geometry or image length not allowed",
-            Refusal::Inconsistent => "disk not consistent",
+            Refusal::Inconsistent(fault) => fault.kind.meaning(),
             Refusal::Name => "name not well formed",
             Refusal::NotFound => "name not found",
             Refusal::Password => "wrong password code",
@@ -129,10 +174,14 @@ impl Refusal {
     }
 }
 
-/// The number and what it means: `5 (wrong password code)`.
+/// The number, what it means and the slot at fault: `5 (wrong password code)`.
 impl fmt::Display for Refusal {
     fn fmt(&self, f: &mut fmt::Formatter<'_>) -> fmt::Result {
-        write!(f, "{} ({})", self.number(), self.meaning())
+        write!(f, "{} ({}", self.number(), self.meaning())?;
+        if let Some(slot) = self.slot() {
+            write!(f, "; slot {slot:02X}H")?;
+        }
+        f.write_str(")")
     }
 }
 
@@ -145,7 +194,7 @@ mod tests {
     #[test]
     fn every_number_has_its_refusal_and_its_own_text() {
         let mut texts = Vec::new();
-        for number in (1..=12).chain(17..=20) {
+        for number in [1].into_iter().chain(3..=12).chain(17..=30) {
             let refusal = Refusal::from_number(number).unwrap();
             assert_ne!(refusal, Refusal::Other(number));
             assert_eq!(refusal.number(), number);
@@ -155,11 +204,26 @@ mod tests {
         assert_eq!(Refusal::from_number(0), None);
         assert_eq!(Refusal::from_number(13), Some(Refusal::Other(13)));
         assert_eq!(Refusal::Other(13).number(), 13);
+        assert_eq!(Refusal::from_number(2), Some(Refusal::Other(2)), "no longer given");
+    }
+
+    #[test]
+    fn slots_belong_to_faults() {
+        for refusal in Refusal::ALL {
+            let is_fault = refusal.fault().is_some();
+            let told = Refusal::from_answer(refusal.number(), 0x80).unwrap();
+            assert_eq!((told.number(), told.slot()), (refusal.number(), is_fault.then_some(0x80)));
+            assert_eq!(Refusal::from_answer(refusal.number(), 256), Some(refusal));
+        }
+        assert_eq!(Refusal::from_answer(0, 256), None);
     }
 
     #[test]
     fn all_is_in_the_order_of_test() {
         let numbers: Vec<u8> = Refusal::ALL.iter().map(|r| r.number()).collect();
-        assert_eq!(numbers, [1, 2, 12, 3, 7, 4, 5, 17, 6, 10, 11, 9, 8, 18, 19, 20]);
+        assert_eq!(
+            numbers,
+            [1, 21, 22, 23, 24, 25, 26, 27, 28, 29, 30, 12, 3, 7, 4, 5, 17, 6, 10, 11, 9, 8, 18, 19, 20]
+        );
     }
 }

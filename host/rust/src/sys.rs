@@ -1,9 +1,9 @@
 //! The exported functions of libgenie.a, as `host/include/genie.h` declares them.
 //!
-//! A slice is a pointer and a length. Every function answers the refusal number, 0 if it accepts. It tests whatever it
-//! is lent: its only demands are those of any C function, that the pointers are not null, that the lent parts are there
-//! for their whole length and do not overlap. References and slices of safe Rust meet them, so each call in
-//! `disk.rs` passes nothing else.
+//! A slice is a pointer and a length. Every function answers the refusal number, 0 if it accepts, and all but
+//! `genie_free` set the slot of the disk's fault, 256 where there is none to tell. It tests whatever it is lent: its only
+//! demands are those of any C function, that the pointers are not null, that the lent parts are there for their whole
+//! length and do not overlap. References and slices of safe Rust meet them, so each call in `disk.rs` passes nothing else.
 
 extern "C" {
     pub fn genie_check(
@@ -13,6 +13,7 @@ extern "C" {
         units: usize,
         start: usize,
         open_code: u16,
+        fault_slot: *mut usize,
     ) -> u8;
 
     pub fn genie_look_up(
@@ -26,6 +27,7 @@ extern "C" {
         name_len: usize,
         slot: *mut usize,
         compared: *mut usize,
+        fault_slot: *mut usize,
     ) -> u8;
 
     pub fn genie_open(
@@ -42,6 +44,7 @@ extern "C" {
         code: u16,
         handle: *mut u8,
         handle_len: usize,
+        fault_slot: *mut usize,
     ) -> u8;
 
     pub fn genie_create(
@@ -63,6 +66,7 @@ extern "C" {
         old: *mut usize,
         handle: *mut u8,
         handle_len: usize,
+        fault_slot: *mut usize,
     ) -> u8;
 
     pub fn genie_read_record(
@@ -76,6 +80,7 @@ extern "C" {
         handle_len: usize,
         buffer: *mut u8,
         buffer_len: usize,
+        fault_slot: *mut usize,
     ) -> u8;
 
     pub fn genie_read_sector(
@@ -90,6 +95,7 @@ extern "C" {
         k: usize,
         from: *mut usize,
         to: *mut usize,
+        fault_slot: *mut usize,
     ) -> u8;
 
     pub fn genie_write_record(
@@ -104,6 +110,7 @@ extern "C" {
         sequential: bool,
         buffer: *const u8,
         buffer_len: usize,
+        fault_slot: *mut usize,
     ) -> u8;
 
     pub fn genie_allot(
@@ -116,6 +123,7 @@ extern "C" {
         handle: *const u8,
         handle_len: usize,
         k: usize,
+        fault_slot: *mut usize,
     ) -> u8;
 
     pub fn genie_trim(
@@ -127,6 +135,7 @@ extern "C" {
         open_code: u16,
         handle: *const u8,
         handle_len: usize,
+        fault_slot: *mut usize,
     ) -> u8;
 
     pub fn genie_kill(
@@ -138,6 +147,7 @@ extern "C" {
         open_code: u16,
         handle: *const u8,
         handle_len: usize,
+        fault_slot: *mut usize,
     ) -> u8;
 
     pub fn genie_bring_back(
@@ -150,6 +160,7 @@ extern "C" {
         slot: usize,
         slots: *mut usize,
         granules: *mut usize,
+        fault_slot: *mut usize,
     ) -> u8;
 
     pub fn genie_list(
@@ -165,6 +176,7 @@ extern "C" {
         size: *mut usize,
         granules: *mut usize,
         more: *mut usize,
+        fault_slot: *mut usize,
     ) -> u8;
 
     pub fn genie_count(
@@ -176,6 +188,7 @@ extern "C" {
         open_code: u16,
         files: *mut usize,
         free: *mut usize,
+        fault_slot: *mut usize,
     ) -> u8;
 
     pub fn genie_free(
@@ -209,5 +222,6 @@ extern "C" {
         kind: *mut usize,
         position: *mut usize,
         flags: *mut usize,
+        fault_slot: *mut usize,
     ) -> u8;
 }

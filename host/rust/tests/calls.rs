@@ -40,11 +40,16 @@ fn entry_at(slot: u8) -> usize {
 }
 
 /// Runs a call that must be refused, on a copy, and sees that it left the disk as it was.
-fn refused<T: std::fmt::Debug>(disk: &Disk, call: impl FnOnce(&mut Disk) -> Result<T, Refusal>) -> u8 {
+fn refusal<T: std::fmt::Debug>(disk: &Disk, call: impl FnOnce(&mut Disk) -> Result<T, Refusal>) -> Refusal {
     let mut copy = disk.clone();
     let refusal = call(&mut copy).expect_err("the call is refused");
     assert!(copy.image() == disk.image(), "{refusal} changed the image");
-    refusal.number()
+    refusal
+}
+
+/// The number of that refusal.
+fn refused<T: std::fmt::Debug>(disk: &Disk, call: impl FnOnce(&mut Disk) -> Result<T, Refusal>) -> u8 {
+    refusal(disk, call).number()
 }
 
 #[test]
@@ -265,38 +270,47 @@ fn every_refusal_by_its_number() {
     };
     let at = entry_at(handle.slot());
 
-    // 1 and 2, by every call.
-    for (bad, number) in [
-        (Disk::new(disk.image()[1..].to_vec(), GEOMETRY), 1),
-        (Disk::new(disk.image().to_vec(), Geometry { start: 61, ..GEOMETRY }), 1),
-        (Disk::new(disk.image().to_vec(), Geometry { blocks: usize::MAX, ..GEOMETRY }), 1),
-        (Disk::new(Vec::new(), GEOMETRY), 1),
-        (edited(at + 5, 0xff), 2),
+    // 1 and 21 to 30, by every call and with the same slot.
+    let (slot, start) = (handle.slot(), GEOMETRY.start * 256);
+    let fault = |kind, slot| Refusal::Inconsistent(Fault { kind, slot });
+    for (bad, told) in [
+        (Disk::new(disk.image()[1..].to_vec(), GEOMETRY), Refusal::Geometry),
+        (Disk::new(disk.image().to_vec(), Geometry { start: 61, ..GEOMETRY }), Refusal::Geometry),
+        (Disk::new(disk.image().to_vec(), Geometry { blocks: usize::MAX, ..GEOMETRY }), Refusal::Geometry),
+        (Disk::new(Vec::new(), GEOMETRY), Refusal::Geometry),
+        (edited(at + 5, 0xff), fault(FaultKind::HitAgainstEntry, Some(slot))),
+        (edited(at, 0x20), fault(FaultKind::Name, Some(slot))),
+        (edited(at + 0x1e, 0x80), fault(FaultKind::Chain, Some(slot))),
+        (edited(at + 0x16, 0x80), fault(FaultKind::RunOffDisk, Some(slot))),
+        (edited(start, 0x02), fault(FaultKind::GatBitMissing, Some(slot))),
+        (edited(at + 0x15, 0x01), fault(FaultKind::Size, Some(slot))),
+        (edited(start + 256 + 0x1f, 1), fault(FaultKind::DirectoryLength, None)),
+        (edited(start + 2, 0x04), fault(FaultKind::DirectoryGranule, None)),
     ] {
         let mut h = handle;
-        assert_eq!(refused(&bad, |d| d.check()), number);
-        assert_eq!(refused(&bad, |d| d.look_up(&name("A")).slot), number);
-        assert_eq!(refused(&bad, |d| d.open(&name("A"), 0, Password::Unchecked)), number);
-        assert_eq!(refused(&bad, |d| d.create(&name("A"), &plain())), number);
-        assert_eq!(refused(&bad, |d| d.read_record(&mut h, &mut [0; 256])), number);
-        assert_eq!(refused(&bad, |d| d.read_sector(&h, 0).map(<[u8]>::len)), number);
-        assert_eq!(refused(&bad, |d| d.write_record(&mut h, Kind::Random, &[0; 256])), number);
-        assert_eq!(refused(&bad, |d| d.allot(&h, 0)), number);
-        assert_eq!(refused(&bad, |d| d.trim(&h)), number);
-        assert_eq!(refused(&bad, |d| d.kill(&h)), number);
-        assert_eq!(refused(&bad, |d| d.bring_back(usize::MAX)), number);
-        assert_eq!(refused(&bad, |d| d.list(0)), number);
-        assert_eq!(refused(&bad, |d| d.count()), number);
-        assert_eq!(refused(&bad, |d| d.files()), number);
-        assert_eq!(refused(&bad, |d| d.listing()), number);
-        assert_eq!(refused(&bad, |d| d.contents(&h)), number);
-        assert_eq!(refused(&bad, |d| d.entries()), number);
-        assert_eq!(refused(&bad, |d| d.dead_entries().map(|all| all.len())), number);
-        assert_eq!(refused(&bad, |d| d.directory_sectors()), number);
+        assert_eq!(refusal(&bad, |d| d.check()), told);
+        assert_eq!(refusal(&bad, |d| d.look_up(&name("A")).slot), told);
+        assert_eq!(refusal(&bad, |d| d.open(&name("A"), 0, Password::Unchecked)), told);
+        assert_eq!(refusal(&bad, |d| d.create(&name("A"), &plain())), told);
+        assert_eq!(refusal(&bad, |d| d.read_record(&mut h, &mut [0; 256])), told);
+        assert_eq!(refusal(&bad, |d| d.read_sector(&h, 0).map(<[u8]>::len)), told);
+        assert_eq!(refusal(&bad, |d| d.write_record(&mut h, Kind::Random, &[0; 256])), told);
+        assert_eq!(refusal(&bad, |d| d.allot(&h, 0)), told);
+        assert_eq!(refusal(&bad, |d| d.trim(&h)), told);
+        assert_eq!(refusal(&bad, |d| d.kill(&h)), told);
+        assert_eq!(refusal(&bad, |d| d.bring_back(usize::MAX)), told);
+        assert_eq!(refusal(&bad, |d| d.list(0)), told);
+        assert_eq!(refusal(&bad, |d| d.count()), told);
+        assert_eq!(refusal(&bad, |d| d.files()), told);
+        assert_eq!(refusal(&bad, |d| d.listing()), told);
+        assert_eq!(refusal(&bad, |d| d.contents(&h)), told);
+        assert_eq!(refusal(&bad, |d| d.entries()), told);
+        assert_eq!(refusal(&bad, |d| d.dead_entries().map(|all| all.len())), told);
+        assert_eq!(refusal(&bad, |d| d.directory_sectors()), told);
         // Free space looks at the GAT alone.
-        match number {
-            1 => assert_eq!(refused(&bad, |d| d.free_space()), 1),
-            _ => assert_eq!(bad.free_space(), disk.free_space()),
+        match told {
+            Refusal::Geometry => assert_eq!(refusal(&bad, |d| d.free_space()), told),
+            _ => assert!(bad.free_space().is_ok()),
         }
         assert_eq!(h, handle);
     }
@@ -406,10 +420,10 @@ fn blank_disks() {
         |geometry, sectors, reserved: &[usize]| Disk::blank(geometry, sectors, reserved).map(|_| ()).unwrap_err();
     let small = Geometry::new(2, 1, 0, 0);
     assert!(Disk::blank(small, 10, &[]).is_ok());
-    assert_eq!(blank(small, 15, &[]), Refusal::Inconsistent);
-    assert_eq!(blank(small, 12, &[]), Refusal::Inconsistent);
-    assert_eq!(blank(small, 5, &[]), Refusal::Inconsistent);
-    assert_eq!(blank(small, usize::MAX, &[]), Refusal::Inconsistent);
+    for sectors in [15, 12, 5, usize::MAX] {
+        let no_length = Refusal::Inconsistent(Fault::of_disk(FaultKind::DirectoryLength));
+        assert_eq!(blank(small, sectors, &[]), no_length);
+    }
     assert_eq!(blank(small, 10, &[2]), Refusal::Range);
     assert_eq!(blank(Geometry { start: 5, ..small }, 10, &[]), Refusal::Geometry);
     assert_eq!(blank(Geometry { start: usize::MAX, ..small }, 10, &[]), Refusal::Geometry);
@@ -455,7 +469,12 @@ fn damaged_disks_are_refused_or_agree() {
             }
             Err(refusal) => {
                 refused += 1;
-                assert_eq!((refusal, damaged.entries().unwrap_err()), (Refusal::Inconsistent, Refusal::Inconsistent));
+                let fault = refusal.fault().expect("the geometry is good");
+                assert_eq!(damaged.entries(), Err(refusal), "every call tells the same fault");
+                // What is told can be explained, in words of its own.
+                let explained = damaged.explain(fault);
+                assert_eq!(explained.fault, fault);
+                assert_ne!(explained.message, fault.kind.words(), "{fault:?} is not explained");
             }
         }
     }
@@ -525,13 +544,14 @@ fn refused_differences_name_the_disk() {
     let mut image = good.image().to_vec();
     image[entry_at(0x80)] |= 0x10;
     let inconsistent = Disk::new(image, GEOMETRY);
+    let hit = Refusal::Inconsistent(Fault::at(FaultKind::HitAgainstEntry, 0x80));
     let short = Disk::new(&good.image()[1..], GEOMETRY);
     let refused = |image, refusal| Some(RefusedImage { image, refusal });
-    assert_eq!(good.differences(&inconsistent).err(), refused(Which::Second, Refusal::Inconsistent));
+    assert_eq!(good.differences(&inconsistent).err(), refused(Which::Second, hit));
     assert_eq!(good.differences(&short).err(), refused(Which::Second, Refusal::Geometry));
-    assert_eq!(inconsistent.differences(&good).err(), refused(Which::First, Refusal::Inconsistent));
-    assert_eq!(inconsistent.differences(&short).err(), refused(Which::First, Refusal::Inconsistent));
+    assert_eq!(inconsistent.differences(&good).err(), refused(Which::First, hit));
+    assert_eq!(inconsistent.differences(&short).err(), refused(Which::First, hit));
     assert_eq!(short.differences(&inconsistent).err(), refused(Which::First, Refusal::Geometry));
     let text = good.differences(&inconsistent).err().unwrap().to_string();
-    assert_eq!(text, "the second disk: 2 (disk not consistent)");
+    assert_eq!(text, "the second disk: 22 (disk not consistent: HIT against entry; slot 80H)");
 }

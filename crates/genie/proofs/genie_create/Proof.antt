@@ -1,9 +1,10 @@
-use Rattle.genie.proofs.Laws.{number, created}
+use Rattle.genie.specs.Exports.{geometry}
+use Rattle.meaning.specs.declared.Created.{Created}
+use Rattle.genie.proofs.Slot.{after, create-kept}
+use Prim.Native.Nat.{ℕ}
+use mathlib.Core.List.{List}
 use borrow.Author.Tests.{lt-ltb, le-ltb}
-use mathlib.Core.Path.{_≡_, refl, sym, ap, _∙_}
-use mathlib.Core.List.{List, [], _∷_}
-use Prim.Native.Nat.{ℕ, _+_, _*_, _≤_}
-use native.Mathlib.Omega.{arith}
+use Rattle.genie.proofs.Laws.{number, created}
 use borrow.Author.Needs.{needs}
 use Rattle.genie.proofs.genie_create.Statement.{statement}
 use Rattle.genie.proofs.genie_create.Tie as tie
@@ -12,43 +13,48 @@ use Rattle.genie.proofs.genie_create.Lts as lts
 use Rattle.calls.proofs.create.Reads as create-reads
 use Rattle.genie.proofs.put_handle.Reads as put-handle-reads
 use Rattle.genie.proofs.short_number.Reads as short-number-reads
+use Rattle.genie.proofs.slot_of.Reads as slot-of-reads
 use Rattle.genie.proofs.told.Reads as told-reads
 
--- src/lib.rt:203:9
+-- src/lib.rt:228:9
 short-number-requires : tie.Need-short-number-requires
 short-number-requires c κs = search needs
 
--- src/lib.rt:203:9
+-- src/lib.rt:228:9
 same-length : tie.Need-same-length
 same-length c = search needs
 
--- src/lib.rt:203:9
+-- src/lib.rt:228:9
 returns : tie.Need-returns
-returns c = rw (lt-ltb _ _ (c .before .before .if1 .taken)) (number (ℕ × ℕ × List ℕ × List ℕ) (λ n. (n, 0, c .before .before .before .before .before .before .args .handle .now, c .before .before .before .before .before .before .args .image .now)) (c .short-number .ensures))
+returns c = (rw (lt-ltb _ _ (c .before .before .before .if1 .taken)) (number (ℕ × ℕ × List ℕ × List ℕ) (λ n. (n, 0, c .before .before .before .before .before .before .before .args .handle .now, c .before .before .before .before .before .before .before .args .image .now)) (c .short-number .ensures .0)), c .short-number .ensures .1)
 
--- src/lib.rt:213:9
+-- src/lib.rt:238:9
 create-requires : tie.Need-create-requires
 create-requires c κs = search needs
 
--- src/lib.rt:214:12
+-- src/lib.rt:239:19
+slot-of-requires : tie.Need-slot-of-requires
+slot-of-requires c κs = search needs
+
+-- src/lib.rt:240:12
 told-requires : tie.Need-told-requires
 told-requires c κs = search needs
 
--- src/lib.rt:215:5
+-- src/lib.rt:241:5
 put-handle-requires : tie.Need-put-handle-requires
 put-handle-requires c κs = search needs
 
--- src/lib.rt:175:1
+-- src/lib.rt:199:1
 same-length-2 : tie.Need-same-length-2
 same-length-2 c = search needs
 
--- src/lib.rt:175:1
+-- src/lib.rt:199:1
 same-length-3 : tie.Need-same-length-3
 same-length-3 c = search needs
 
--- src/lib.rt:175:1
+-- src/lib.rt:199:1
 returns-2 : tie.Need-returns-2
-returns-2 c = rw (le-ltb _ _ (c .before .before .before .before .before .before .before .before .before .if1 .left)) (created (c .before .before .before .before .before .before .before .before .before .before .before .before .before .args .handle .now) (c .before .before .before .before .before .before .before .create .last .0) (c .before .before .before .before .before .before .before .create .result) (c .before .before .before .before .told .ensures) (c .before .before .put-handle .ensures) (c .before .before .before .before .before .before .before .create .ensures))
+returns-2 c = (rw (le-ltb _ _ (c .before .before .before .before .before .before .before .before .before .before .before .if1 .left)) (created (c .before .before .before .before .before .before .before .before .before .before .before .before .before .before .before .args .handle .now) (c .before .before .before .before .before .before .before .before .before .create .last .0) (c .before .before .before .before .before .before .before .before .before .create .result) (c .before .before .before .before .told .ensures) (c .before .before .put-handle .ensures) (c .before .before .before .before .before .before .before .before .before .create .ensures)), after (λ (a : Created). a .number) (geometry (c .before .before .before .before .before .before .before .before .before .before .before .before .before .before .before .args .blocks) (c .before .before .before .before .before .before .before .before .before .before .before .before .before .before .before .args .units) (c .before .before .before .before .before .before .before .before .before .before .before .before .before .before .before .args .start) (c .before .before .before .before .before .before .before .before .before .before .before .before .before .before .before .args .open-code)) (c .before .before .before .before .before .before .before .before .before .before .before .before .before .before .before .args .image .now) _ (c .before .before .before .before .before .before .before .before .before .create .ensures) (create-kept _ _ _ _ _) (c .before .before .before .before .before .slot-of .ensures))
 
 pub genie-create-spec : {M : Type 1} → statement M
 genie-create-spec =
@@ -58,6 +64,7 @@ genie-create-spec =
     same-length
     returns
     create-requires
+    slot-of-requires
     told-requires
     put-handle-requires
     same-length-2

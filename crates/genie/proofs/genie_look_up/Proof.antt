@@ -1,22 +1,24 @@
+use mathlib.Core.Path.{ap}
 use Rattle.genie.specs.Exports.{looks}
-use mathlib.Core.Path.{_≡_, refl, sym, ap, _∙_}
-use mathlib.Core.List.{List, [], _∷_}
-use Prim.Native.Nat.{ℕ, _+_, _*_, _≤_}
-use native.Mathlib.Omega.{arith}
 use borrow.Author.Needs.{needs}
 use Rattle.genie.proofs.genie_look_up.Statement.{statement}
 use Rattle.genie.proofs.genie_look_up.Tie as tie
 use Rattle.genie.proofs.genie_look_up.Reads as reads
 use Rattle.genie.proofs.genie_look_up.Lts as lts
 use Rattle.calls.proofs.look_up.Reads as look-up-reads
+use Rattle.genie.proofs.slot_of.Reads as slot-of-reads
 
--- src/lib.rt:116:9
+-- src/lib.rt:161:9
 look-up-requires : tie.Need-look-up-requires
 look-up-requires c κs = search needs
 
--- src/lib.rt:111:1
+-- src/lib.rt:162:19
+slot-of-requires : tie.Need-slot-of-requires
+slot-of-requires c κs = search needs
+
+-- src/lib.rt:141:1
 returns : tie.Need-returns
-returns c = ap looks (c .look-up .ensures)
+returns c = (ap looks (c .before .look-up .ensures), c .slot-of .ensures)
 
 pub genie-look-up-spec : {M : Type 1} → statement M
-genie-look-up-spec = tie.close (tie.spec look-up-requires returns)
+genie-look-up-spec = tie.close (tie.spec look-up-requires slot-of-requires returns)

@@ -1,11 +1,7 @@
-use Rattle.genie.proofs.Laws.{number, opened}
-use Rattle.genie.specs.Exports.{geometry}
-use Rattle.genie.specs.Codec.{handleOf}
+use Prim.Native.Nat.{ℕ}
+use mathlib.Core.List.{List}
 use borrow.Author.Tests.{lt-ltb, le-ltb}
-use mathlib.Core.Path.{_≡_, refl, sym, ap, _∙_}
-use mathlib.Core.List.{List, [], _∷_}
-use Prim.Native.Nat.{ℕ, _+_, _*_, _≤_}
-use native.Mathlib.Omega.{arith}
+use Rattle.genie.proofs.Laws.{number, opened}
 use borrow.Author.Needs.{needs}
 use Rattle.genie.proofs.genie_open.Statement.{statement}
 use Rattle.genie.proofs.genie_open.Tie as tie
@@ -14,30 +10,35 @@ use Rattle.genie.proofs.genie_open.Lts as lts
 use Rattle.calls.proofs.open_file.Reads as open-file-reads
 use Rattle.genie.proofs.put_handle.Reads as put-handle-reads
 use Rattle.genie.proofs.short_number.Reads as short-number-reads
+use Rattle.genie.proofs.slot_of.Reads as slot-of-reads
 
--- src/lib.rt:128:9
+-- src/lib.rt:191:9
 short-number-requires : tie.Need-short-number-requires
 short-number-requires c κs = search needs
 
--- src/lib.rt:128:9
+-- src/lib.rt:191:9
 returns : tie.Need-returns
-returns c = rw (lt-ltb _ _ (c .before .if1 .taken)) (number (ℕ × List ℕ) (λ n. (n, c .before .before .before .before .before .args .handle .now)) (c .short-number .ensures))
+returns c = (rw (lt-ltb _ _ (c .before .before .if1 .taken)) (number (ℕ × List ℕ) (λ n. (n, c .before .before .before .before .before .before .args .handle .now)) (c .short-number .ensures .0)), c .short-number .ensures .1)
 
--- src/lib.rt:130:9
+-- src/lib.rt:193:9
 open-file-requires : tie.Need-open-file-requires
 open-file-requires c κs = search needs
 
--- src/lib.rt:131:5
+-- src/lib.rt:194:19
+slot-of-requires : tie.Need-slot-of-requires
+slot-of-requires c κs = search needs
+
+-- src/lib.rt:195:5
 put-handle-requires : tie.Need-put-handle-requires
 put-handle-requires c κs = search needs
 
--- src/lib.rt:122:1
+-- src/lib.rt:168:1
 same-length : tie.Need-same-length
 same-length c = search needs
 
--- src/lib.rt:122:1
+-- src/lib.rt:168:1
 returns-2 : tie.Need-returns-2
-returns-2 c = rw (le-ltb _ _ (c .before .before .before .before .before .if1 .left)) (opened (c .before .before .before .before .before .before .before .before .before .args .handle .now) (c .before .before .before .before .open-file .result) (c .before .before .put-handle .ensures) (c .before .before .before .before .open-file .ensures))
+returns-2 c = (rw (le-ltb _ _ (c .before .before .before .before .before .before .if1 .left)) (opened (c .before .before .before .before .before .before .before .before .before .before .args .handle .now) (c .before .before .before .before .before .open-file .result) (c .before .before .put-handle .ensures) (c .before .before .before .before .before .open-file .ensures)), c .before .before .before .before .slot-of .ensures)
 
 pub genie-open-spec : {M : Type 1} → statement M
 genie-open-spec =
@@ -46,6 +47,7 @@ genie-open-spec =
     short-number-requires
     returns
     open-file-requires
+    slot-of-requires
     put-handle-requires
     same-length
     returns-2)

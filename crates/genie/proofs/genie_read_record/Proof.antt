@@ -1,13 +1,12 @@
-use Rattle.genie.proofs.Laws.{number, stays, moved}
-use Rattle.meaning.specs.declared.Handle.{Handle}
-use Rattle.meaning.specs.Read.{readRecord}
-use Rattle.genie.specs.Exports.{geometry}
-use Rattle.genie.specs.Codec.{handleOf}
+use Rattle.genie.specs.Slot.{faultSlot}
+use Prim.Native.Nat.{ℕ}
+use mathlib.Core.List.{List}
+use mathlib.Core.Path.{ap, _∙_}
 use borrow.Author.Tests.{lt-ltb, le-ltb}
-use mathlib.Core.Path.{_≡_, refl, sym, ap, _∙_}
-use mathlib.Core.List.{List, [], _∷_}
-use Prim.Native.Nat.{ℕ, _+_, _*_, _≤_}
-use native.Mathlib.Omega.{arith}
+use Rattle.genie.specs.Exports.{geometry}
+use Rattle.meaning.specs.Read.{readRecord}
+use Rattle.meaning.specs.declared.Handle.{Handle}
+use Rattle.genie.proofs.Laws.{number, stays, moved}
 use borrow.Author.Needs.{needs}
 use Rattle.genie.proofs.genie_read_record.Statement.{statement}
 use Rattle.genie.proofs.genie_read_record.Tie as tie
@@ -17,50 +16,55 @@ use Rattle.calls.proofs.read_record.Reads as read-record-reads
 use Rattle.genie.proofs.handle_of.Reads as handle-of-reads
 use Rattle.genie.proofs.put_handle.Reads as put-handle-reads
 use Rattle.genie.proofs.short_number.Reads as short-number-reads
+use Rattle.genie.proofs.slot_of.Reads as slot-of-reads
 
--- src/lib.rt:157:9
+-- src/lib.rt:265:9
 short-number-requires : tie.Need-short-number-requires
 short-number-requires c κs = search needs
 
--- src/lib.rt:157:9
+-- src/lib.rt:265:9
 returns : tie.Need-returns
-returns c = rw (lt-ltb _ _ (c .before .if1 .taken)) (number (ℕ × List ℕ × List ℕ) (λ n. (n, c .before .before .before .before .before .args .handle .now, c .before .before .before .before .before .args .buffer .now)) (c .short-number .ensures))
+returns c = (rw (lt-ltb _ _ (c .before .before .if1 .taken)) (number (ℕ × List ℕ × List ℕ) (λ n. (n, c .before .before .before .before .before .before .args .handle .now, c .before .before .before .before .before .before .args .buffer .now)) (c .short-number .ensures .0)), c .short-number .ensures .1)
 
--- src/lib.rt:159:9
+-- src/lib.rt:267:9
 handle-of-requires : tie.Need-handle-of-requires
 handle-of-requires c κs = search needs
 
--- src/lib.rt:160:9
+-- src/lib.rt:268:9
 read-record-requires : tie.Need-read-record-requires
 read-record-requires c κs = search needs
 
--- src/lib.rt:162:9
+-- src/lib.rt:269:19
+slot-of-requires : tie.Need-slot-of-requires
+slot-of-requires c κs = search needs
+
+-- src/lib.rt:271:9
 same-length : tie.Need-same-length
 same-length c = search needs
 
--- src/lib.rt:162:9
+-- src/lib.rt:271:9
 same-length-2 : tie.Need-same-length-2
 same-length-2 c = search needs
 
--- src/lib.rt:162:9
+-- src/lib.rt:271:9
 returns-2 : tie.Need-returns-2
-returns-2 c = rw (le-ltb _ _ (c .before .before .before .before .before .before .before .before .if1 .left)) (stays (c .before .before .before .before .before .before .before .before .before .before .before .before .args .handle .now) (c .before .before .before .before .read-record .result) _ (c .if2 .taken) (c .before .before .before .before .read-record .ensures ∙ ap (λ (h : Handle). readRecord (geometry (c .before .before .before .before .before .before .before .before .before .before .before .before .args .blocks) (c .before .before .before .before .before .before .before .before .before .before .before .before .args .units) (c .before .before .before .before .before .before .before .before .before .before .before .before .args .start) (c .before .before .before .before .before .before .before .before .before .before .before .before .args .open-code)) (c .before .before .before .before .before .before .before .before .before .before .before .before .args .image .now) h (c .before .before .before .before .before .before .before .before .before .before .before .before .args .buffer .now)) (c .before .before .before .before .before .before .handle-of .ensures)))
+returns-2 c = (rw (le-ltb _ _ (c .before .before .before .before .before .before .before .before .before .if1 .left)) (stays (c .before .before .before .before .before .before .before .before .before .before .before .before .before .args .handle .now) (c .before .before .before .before .before .read-record .result) _ (c .if2 .taken) (c .before .before .before .before .before .read-record .ensures ∙ ap (λ (h : Handle). readRecord (geometry (c .before .before .before .before .before .before .before .before .before .before .before .before .before .args .blocks) (c .before .before .before .before .before .before .before .before .before .before .before .before .before .args .units) (c .before .before .before .before .before .before .before .before .before .before .before .before .before .args .start) (c .before .before .before .before .before .before .before .before .before .before .before .before .before .args .open-code)) (c .before .before .before .before .before .before .before .before .before .before .before .before .before .args .image .now) h (c .before .before .before .before .before .before .before .before .before .before .before .before .before .args .buffer .now)) (c .before .before .before .before .before .before .before .handle-of .ensures))), c .before .before .slot-of .ensures)
 
--- src/lib.rt:164:5
+-- src/lib.rt:273:5
 put-handle-requires : tie.Need-put-handle-requires
 put-handle-requires c κs = search needs
 
--- src/lib.rt:151:1
+-- src/lib.rt:245:1
 same-length-3 : tie.Need-same-length-3
 same-length-3 c = search needs
 
--- src/lib.rt:151:1
+-- src/lib.rt:245:1
 same-length-4 : tie.Need-same-length-4
 same-length-4 c = search needs
 
--- src/lib.rt:151:1
+-- src/lib.rt:245:1
 returns-3 : tie.Need-returns-3
-returns-3 c = rw (le-ltb _ _ (c .before .before .before .before .before .before .before .before .before .before .before .before .if1 .left)) (moved (c .before .before .before .before .before .before .before .before .before .before .before .before .before .before .before .before .args .handle .now) (c .before .before .before .before .before .before .before .before .read-record .result) _ (c .before .before .before .before .if2 .left) (c .before .before .put-handle .ensures) (c .before .before .before .before .before .before .before .before .read-record .ensures ∙ ap (λ (h : Handle). readRecord (geometry (c .before .before .before .before .before .before .before .before .before .before .before .before .before .before .before .before .args .blocks) (c .before .before .before .before .before .before .before .before .before .before .before .before .before .before .before .before .args .units) (c .before .before .before .before .before .before .before .before .before .before .before .before .before .before .before .before .args .start) (c .before .before .before .before .before .before .before .before .before .before .before .before .before .before .before .before .args .open-code)) (c .before .before .before .before .before .before .before .before .before .before .before .before .before .before .before .before .args .image .now) h (c .before .before .before .before .before .before .before .before .before .before .before .before .before .before .before .before .args .buffer .now)) (c .before .before .before .before .before .before .before .before .before .before .handle-of .ensures)))
+returns-3 c = (rw (le-ltb _ _ (c .before .before .before .before .before .before .before .before .before .before .before .before .before .if1 .left)) (moved (c .before .before .before .before .before .before .before .before .before .before .before .before .before .before .before .before .before .args .handle .now) (c .before .before .before .before .before .before .before .before .before .read-record .result) _ (c .before .before .before .before .if2 .left) (c .before .before .put-handle .ensures) (c .before .before .before .before .before .before .before .before .before .read-record .ensures ∙ ap (λ (h : Handle). readRecord (geometry (c .before .before .before .before .before .before .before .before .before .before .before .before .before .before .before .before .before .args .blocks) (c .before .before .before .before .before .before .before .before .before .before .before .before .before .before .before .before .before .args .units) (c .before .before .before .before .before .before .before .before .before .before .before .before .before .before .before .before .before .args .start) (c .before .before .before .before .before .before .before .before .before .before .before .before .before .before .before .before .before .args .open-code)) (c .before .before .before .before .before .before .before .before .before .before .before .before .before .before .before .before .before .args .image .now) h (c .before .before .before .before .before .before .before .before .before .before .before .before .before .before .before .before .before .args .buffer .now)) (c .before .before .before .before .before .before .before .before .before .before .before .handle-of .ensures))), c .before .before .before .before .before .before .slot-of .ensures ∙ ap (λ (n : ℕ). faultSlot n (geometry (c .before .before .before .before .before .before .before .before .before .before .before .before .before .before .before .before .before .args .blocks) (c .before .before .before .before .before .before .before .before .before .before .before .before .before .before .before .before .before .args .units) (c .before .before .before .before .before .before .before .before .before .before .before .before .before .before .before .before .before .args .start) (c .before .before .before .before .before .before .before .before .before .before .before .before .before .before .before .before .before .args .open-code)) (c .before .before .before .before .before .before .before .before .before .before .before .before .before .before .before .before .before .args .image .now)) (c .before .before .before .before .if2 .left))
 
 pub genie-read-record-spec : {M : Type 1} → statement M
 genie-read-record-spec =
@@ -70,6 +74,7 @@ genie-read-record-spec =
     returns
     handle-of-requires
     read-record-requires
+    slot-of-requires
     same-length
     same-length-2
     returns-2

@@ -1,14 +1,10 @@
-use Rattle.genie.proofs.Laws.{number}
-use Rattle.genie.specs.Exports.{lies}
-use Rattle.meaning.specs.declared.Handle.{Handle}
-use Rattle.meaning.specs.Read.{readSector}
-use Rattle.genie.specs.Exports.{geometry}
-use Rattle.genie.specs.Codec.{handleOf}
+use Prim.Native.Nat.{ℕ}
+use mathlib.Core.Path.{ap, _∙_}
 use borrow.Author.Tests.{lt-ltb, le-ltb}
-use mathlib.Core.Path.{_≡_, refl, sym, ap, _∙_}
-use mathlib.Core.List.{List, [], _∷_}
-use Prim.Native.Nat.{ℕ, _+_, _*_, _≤_}
-use native.Mathlib.Omega.{arith}
+use Rattle.meaning.specs.Read.{readSector}
+use Rattle.meaning.specs.declared.Handle.{Handle}
+use Rattle.genie.specs.Exports.{lies, geometry}
+use Rattle.genie.proofs.Laws.{number}
 use borrow.Author.Needs.{needs}
 use Rattle.genie.proofs.genie_read_sector.Statement.{statement}
 use Rattle.genie.proofs.genie_read_sector.Tie as tie
@@ -17,28 +13,39 @@ use Rattle.genie.proofs.genie_read_sector.Lts as lts
 use Rattle.calls.proofs.sector_part.Reads as sector-part-reads
 use Rattle.genie.proofs.handle_of.Reads as handle-of-reads
 use Rattle.genie.proofs.short_number.Reads as short-number-reads
+use Rattle.genie.proofs.slot_of.Reads as slot-of-reads
 
--- src/lib.rt:176:9
+-- src/lib.rt:301:9
 short-number-requires : tie.Need-short-number-requires
 short-number-requires c κs = search needs
 
--- src/lib.rt:176:9
+-- src/lib.rt:301:9
 returns : tie.Need-returns
-returns c = rw (lt-ltb _ _ (c .before .if1 .taken)) (number (ℕ × ℕ × ℕ) (λ n. (n, 0, 0)) (c .short-number .ensures))
+returns c = (rw (lt-ltb _ _ (c .before .before .if1 .taken)) (number (ℕ × ℕ × ℕ) (λ n. (n, 0, 0)) (c .short-number .ensures .0)), c .short-number .ensures .1)
 
--- src/lib.rt:178:9
+-- src/lib.rt:303:9
 handle-of-requires : tie.Need-handle-of-requires
 handle-of-requires c κs = search needs
 
--- src/lib.rt:179:9
+-- src/lib.rt:304:9
 sector-part-requires : tie.Need-sector-part-requires
 sector-part-requires c κs = search needs
 
--- src/lib.rt:168:1
+-- src/lib.rt:305:19
+slot-of-requires : tie.Need-slot-of-requires
+slot-of-requires c κs = search needs
+
+-- src/lib.rt:277:1
 returns-2 : tie.Need-returns-2
-returns-2 c = rw (le-ltb _ _ (c .before .before .if1 .left)) (ap lies (c .sector-part .ensures .0 ∙ ap (λ (h : Handle). readSector (geometry (c .before .before .before .before .before .args .blocks) (c .before .before .before .before .before .args .units) (c .before .before .before .before .before .args .start) (c .before .before .before .before .before .args .open-code)) (c .before .before .before .before .before .args .image .now) h (c .before .before .before .before .before .args .k)) (c .before .handle-of .ensures)))
+returns-2 c = (rw (le-ltb _ _ (c .before .before .before .if1 .left)) (ap lies (c .before .sector-part .ensures .0 ∙ ap (λ (h : Handle). readSector (geometry (c .before .before .before .before .before .before .args .blocks) (c .before .before .before .before .before .before .args .units) (c .before .before .before .before .before .before .args .start) (c .before .before .before .before .before .before .args .open-code)) (c .before .before .before .before .before .before .args .image .now) h (c .before .before .before .before .before .before .args .k)) (c .before .before .handle-of .ensures))), c .slot-of .ensures)
 
 pub genie-read-sector-spec : {M : Type 1} → statement M
 genie-read-sector-spec =
     tie.close
-    (tie.spec short-number-requires returns handle-of-requires sector-part-requires returns-2)
+    (tie.spec
+    short-number-requires
+    returns
+    handle-of-requires
+    sector-part-requires
+    slot-of-requires
+    returns-2)

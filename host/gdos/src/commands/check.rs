@@ -13,8 +13,11 @@ pub const COMMAND: Command = Command {
     usage: "[OPTIONS] IMAGE...",
     about: "\
 Tests the directory, every file's chain and runs, and that no granule belongs to two files. An image that passes
-may be worked on; one that does not is refused with 1 (length or geometry) or 2 (not consistent). The status is
-that of the worst image.
+may be worked on; one that does not is refused with 1 (length or geometry), or with 21 to 30 (not consistent) and what
+is wrong and where:
+  slot 25H, directory sector 7, byte 32 (PULS01/DAT): granule 53 is also in slot 04H (EICH01/DAT)
+Directory sectors are counted from 0, the GAT; bytes within the sector. Of several faults the one in the lowest slot
+is told; mend it and check again. The status is that of the worst image.
 ",
     groups: &[("Options", &[JSON]), (shape::TITLE, shape::OPTIONS)],
     examples: &["gdos check disk.img", "gdos check --preset dd80ds week1.img week2.img"],

@@ -2,10 +2,10 @@
 
 use super::{counted, json_head, only_image, shown, unchecked_disk_of, Command, Output, JSON};
 use crate::args::Args;
-use crate::failure::Failure;
+use crate::failure::{fault_json, Failure};
 use crate::json::Json;
 use crate::shape;
-use genie_dos::{FreeSpace, Geometry};
+use genie_dos::{Explained, FreeSpace, Geometry, Refusal};
 
 pub const COMMAND: Command = Command {
     name: "free",
@@ -16,7 +16,7 @@ Tells the free granules and the longest free stretch (granules with consecutive 
 them. A file takes whole granules of 1,280 bytes.
 
 Only the disk's map of granules is looked at. So a disk that is not consistent is answered too, if its geometry is
-stated: what is marked free is counted, and a note says that the disk is not consistent.
+stated: what is marked free is counted, and a note says what is wrong with the disk (`gdos check` tells more).
 ",
     groups: &[("Options", &[JSON]), (shape::TITLE, shape::OPTIONS)],
     examples: &["gdos free disk.img", "gdos free damaged.img --preset dd80ds"],
@@ -28,7 +28,7 @@ fn run(args: &Args) -> Result<Output, Failure> {
     let disk = unchecked_disk_of(args, image)?;
     let path = shown(image);
     let FreeSpace { free, longest } = disk.free_space().map_err(Failure::image(&path))?;
-    let consistent = disk.check().is_ok();
+    let fault = disk.check().err().and_then(Refusal::fault).map(|fault| disk.explain(fault));
     let total = disk.image().len() / Geometry::GRANULE_BYTES;
     let (bytes, longest_bytes) = (free * Geometry::GRANULE_BYTES, longest * Geometry::GRANULE_BYTES);
     let mut json = json_head(&path, disk.geometry());
@@ -38,16 +38,19 @@ fn run(args: &Args) -> Result<Output, Failure> {
         ("longest", longest.into()),
         ("longest_bytes", longest_bytes.into()),
         ("granules", total.into()),
-        ("consistent", consistent.into()),
+        ("consistent", fault.is_none().into()),
+        ("fault", fault.as_ref().map(fault_json).into()),
     ]);
     let text = format!(
         "{free} of {} free, {bytes} bytes\nlongest stretch {}, {longest_bytes} bytes\n",
         counted(total, "granule"),
         counted(longest, "granule"),
     );
-    let notes = match consistent {
-        true => Vec::new(),
-        false => vec![format!("{path} is not consistent: this is what its GAT marks as free, not what may be taken")],
+    let note = |fault: Explained| {
+        let kind = fault.fault.kind;
+        let place = fault.fault.slot.map(|slot| format!(", slot {slot:02X}H")).unwrap_or_default();
+        format!("{path} is not consistent ({kind}{place}): this is what its GAT marks as free, not what may be taken")
     };
+    let notes = fault.map(note).into_iter().collect();
     Ok(Output { text: text.into_bytes(), json: Json::Object(json), notes, ..Output::default() })
 }

@@ -130,7 +130,7 @@ fn disk_of(args: &Args, image: &OsStr) -> Result<Disk, Failure> {
 /// The disk of an image of which the geometry wanted is known.
 fn disk_as(wanted: Wanted, image: &OsStr) -> Result<Disk, Failure> {
     let disk = unchecked_disk_as(wanted, image)?;
-    disk.check().map_err(Failure::image(&shown(image)))?;
+    disk.check().map_err(Failure::disk(&shown(image), &disk))?;
     Ok(disk)
 }
 
@@ -151,13 +151,13 @@ fn disk_to_change(args: &Args, image: &OsStr) -> Result<(Disk, Locked), Failure>
     let locked = Locked::open(Path::new(image))?;
     let geometry = wanted.find(locked.bytes(), &shown(image))?;
     let disk = Disk::new(locked.bytes().to_vec(), geometry);
-    disk.check().map_err(Failure::image(&shown(image)))?;
+    disk.check().map_err(Failure::disk(&shown(image), &disk))?;
     Ok((disk, locked))
 }
 
 /// Puts the changed disk in the image's place: the one step in which the host's file changes.
 fn keep(disk: Disk, locked: Locked, image: &OsStr) -> Result<(), Failure> {
-    disk.check().map_err(Failure::image(&shown(image)))?;
+    disk.check().map_err(Failure::disk(&shown(image), &disk))?;
     locked.replace(disk.image())
 }
 

@@ -61,7 +61,7 @@ fn run(args: &Args) -> Result<Output, Failure> {
     }
     let disk = Disk::blank(geometry, sectors, &reserved).map_err(|refusal| match refusal {
         Refusal::Geometry => Failure::image(&path)(refusal).because(shape::fault(geometry, 0)),
-        Refusal::Inconsistent => Failure::image(&path)(refusal)
+        Refusal::Inconsistent(_) => Failure::image(&path)(refusal)
             .because(format!("a directory of {sectors} sectors from sector {} on does not fit", geometry.start)),
         _ => Failure::image(&path)(refusal),
     })?;

@@ -15,7 +15,8 @@ pub const COMMAND: Command = Command {
     about: "\
 Tries every geometry that fits the image's length, or those that agree with the options given, and lists those
 under which the disk is consistent. The open code cannot be found: no rule of a consistent disk speaks of it.
-Refused with 1 if no geometry has this length, with 2 if the disk is consistent under none.
+Refused with 1 if no geometry has this length, and if the disk is consistent under none: then what is wrong under
+those of the presets that fit is told.
 ",
     groups: &[("Options", &[JSON]), (shape::TITLE, shape::OPTIONS)],
     examples: &["gdos probe disk.img", "gdos probe --units 6 disk.img"],
@@ -29,7 +30,7 @@ fn run(args: &Args) -> Result<Output, Failure> {
     let bytes = image::read(Path::new(image))?;
     let fits = wanted.consistent(&bytes);
     if fits.is_empty() {
-        return Err(wanted.none_fits(bytes.len(), &path));
+        return Err(wanted.none_fits(&bytes, &path));
     }
     let mut text = String::from("BLOCKS  UNITS  START  DIRECTORY  FILES  FREE  PRESET\n");
     for Fit { geometry, counts, directory_sectors } in &fits {

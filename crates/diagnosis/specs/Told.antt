@@ -1,0 +1,34 @@
+-- What the check of a whole disk tells: number and slot.
+use mathlib.Core.Bool.{Bool, not, cond}
+use mathlib.Core.List.{List, [], _∷_}
+use Prim.Native.Nat.{ℕ}
+use lib.Dec.{eqb}
+use Rattle.meaning.specs.Lists.{same, all}
+use Rattle.meaning.specs.Layout.{fitsGeometry, isSlot, hit}
+use Rattle.meaning.specs.Names.{hash}
+use Rattle.meaning.specs.Entries.{primary, nameOf}
+use Rattle.meaning.specs.Consistent.{directoryTaken}
+use Rattle.meaning.specs.Fault.{fault, fileOf, faultAt, unplaced}
+use Rattle.meaning.specs.declared.Geometry.{Geometry}
+use Rattle.meaning.specs.declared.Fault.{Fault}
+
+module _ (g : Geometry) (d : List ℕ) where
+  -- the HIT byte is not the hash of the file's name
+  abbrev pub hashDiffers : ℕ → Bool
+  hashDiffers s = not (eqb (hit g d s) (hash (nameOf g d (fileOf g d s))))
+
+  -- a file starts at slot q with the name of that at p
+  unfoldable pub sameFile : ℕ → ℕ → Bool
+  sameFile p q = all (isSlot g d q ∷ primary g d q ∷ same (nameOf g d q) (nameOf g d p) ∷ [])
+
+  -- the fault's number at s, 0 where s is no slot
+  unfoldable pub faultIn : ℕ → ℕ
+  faultIn s = cond (isSlot g d s) (faultAt g d s) 0
+
+  -- after all slots: a clear directory granule
+  unfoldable pub afterSlots : Fault
+  afterSlots = cond (directoryTaken g d) (unplaced 0) (unplaced 30)
+
+  -- 1 where geometry or image length is not as 01 has it, else the fault; 256 where there is no slot
+  unfoldable pub told : Fault
+  told = cond (fitsGeometry g d) (fault g d) (unplaced 1)

@@ -1,0 +1,24 @@
+use native.Mathlib.Omega.{arith}
+use Rattle.layout.proofs.Laws.{digit-at}
+use mathlib.Core.Path.{sym}
+use borrow.Author.Needs.{needs}
+use Rattle.kinds.proofs.flag.Statement.{statement}
+use Rattle.kinds.proofs.flag.Tie as tie
+use Rattle.kinds.proofs.flag.Reads as reads
+use Rattle.kinds.proofs.flag.Lts as lts
+use Rattle.layout.proofs.field.Reads as field-reads
+
+-- src/lib.rt:25:6
+field-requires : tie.Need-field-requires
+field-requires c κs = search needs
+
+-- src/lib.rt:25:6
+shr-result : tie.Need-shr-result
+shr-result c = search needs
+
+-- src/lib.rt:21:1
+returns : tie.Need-returns
+returns c = simp (sym (c .field .ensures .is), digit-at)
+
+pub flag-spec : {M : Type 1} → statement M
+flag-spec = tie.close (tie.spec field-requires shr-result returns)

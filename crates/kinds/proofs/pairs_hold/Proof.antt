@@ -1,0 +1,70 @@
+use Rattle.kinds.proofs.Laws.{failed, passed, held}
+use Rattle.layout.proofs.Lists.{is-no, is-yes}
+use Rattle.kinds.specs.Tests.{pairHolds}
+use Rattle.meaning.specs.Consistent.{pairsHold}
+use Rattle.meaning.specs.Lists.{count, every}
+use borrow.Author.Needs.{needs}
+use native.Mathlib.Omega.{arith}
+use Prim.Native.Nat.{ℕ, _+_, _-_}
+use mathlib.Core.Path.{_≡_, refl}
+use Rattle.kinds.proofs.pairs_hold.Statement.{statement}
+use Rattle.kinds.proofs.pairs_hold.Tie as tie
+use Rattle.kinds.proofs.pairs_hold.Reads as reads
+use Rattle.kinds.proofs.pairs_hold.Lts as lts
+use Rattle.kinds.proofs.pair_holds.Reads as pair-holds-reads
+use Rattle.layout.proofs.runs.Reads as runs-reads
+
+abbrev Inv-loop : tie.InvT-loop
+Inv-loop image g s n k₀ k = every (pairHolds g image s) (count 0 4) ≡ every (pairHolds g image s) (count k (4 - k))
+
+abbrev μ-loop : tie.MeasureT-loop
+μ-loop image g s n k₀ k = 4 - k
+
+-- src/lib.rt:45:9
+runs-requires : tie.Need-runs-requires Inv-loop μ-loop
+runs-requires c κs = search needs
+
+-- src/lib.rt:47:5
+loop-holds : tie.Need-loop-holds Inv-loop μ-loop
+loop-holds c = refl
+
+-- src/lib.rt:48:13
+pair-holds-requires : tie.Need-pair-holds-requires Inv-loop μ-loop
+pair-holds-requires c κs = search needs
+
+-- src/lib.rt:49:13
+returns : tie.Need-returns Inv-loop μ-loop
+unfolding pairsHold
+returns c = failed (pairHolds (c .before .before .before .before .before .before .args .g) (c .before .before .before .before .before .before .args .image .now) (c .before .before .before .before .before .before .args .s)) refl (c .before .before .before .loop .inv) (c .before .before .loop-test .taken) (is-no (c .before .pair-holds .ensures) (c .if1 .taken))
+
+-- src/lib.rt:51:9
+add-k : tie.Need-add-k Inv-loop μ-loop
+add-k c = search needs
+
+-- src/lib.rt:47:5
+loop-less : tie.Need-loop-less Inv-loop μ-loop
+loop-less c = omega arith
+
+-- src/lib.rt:47:5
+loop-again : tie.Need-loop-again Inv-loop μ-loop
+loop-again c = passed (pairHolds (c .before .before .before .before .before .before .args .g) (c .before .before .before .before .before .before .args .image .now) (c .before .before .before .before .before .before .args .s)) (c .before .before .before .loop .inv) (c .before .before .loop-test .taken) (is-yes (c .before .pair-holds .ensures) (c .if1 .left))
+
+-- src/lib.rt:41:1
+returns-2 : tie.Need-returns-2 Inv-loop μ-loop
+unfolding pairsHold
+returns-2 c = held (pairHolds (c .before .before .before .before .args .g) (c .before .before .before .before .args .image .now) (c .before .before .before .before .args .s)) refl (c .before .loop .inv) (c .loop-test .left)
+
+pub pairs-hold-spec : {M : Type 1} → statement M
+pairs-hold-spec =
+    tie.close
+    (tie.spec
+    Inv-loop
+    μ-loop
+    runs-requires
+    loop-holds
+    pair-holds-requires
+    returns
+    add-k
+    loop-less
+    loop-again
+    returns-2)

@@ -1,0 +1,32 @@
+use native.Mathlib.Omega.{arith}
+use Rattle.kinds.proofs.Laws.{meet-of}
+use Prim.Native.Nat.{ℕ}
+use mathlib.Core.Path.{_≡_, sym, ap, _∙_}
+use borrow.Author.Needs.{needs}
+use Rattle.kinds.proofs.runs_meet.Statement.{statement}
+use Rattle.kinds.proofs.runs_meet.Tie as tie
+use Rattle.kinds.proofs.runs_meet.Reads as reads
+use Rattle.kinds.proofs.runs_meet.Lts as lts
+use Rattle.kinds.proofs.run_in.Reads as run-in-reads
+use Rattle.layout.proofs.run_length.Reads as run-length-reads
+use Rattle.layout.proofs.run_start.Reads as run-start-reads
+
+-- src/lib.rt:397:9
+run-start-requires : tie.Need-run-start-requires
+run-start-requires c κs = search needs
+
+-- src/lib.rt:398:9
+run-length-requires : tie.Need-run-length-requires
+run-length-requires c κs = search needs
+
+-- src/lib.rt:399:5
+run-in-requires : tie.Need-run-in-requires
+run-in-requires c κs = search needs
+
+-- src/lib.rt:393:1
+returns : tie.Need-returns
+returns c = c .run-in .ensures ∙ meet-of _ _ _ _ _ _ (c .before .before .run-start .ensures .is) (c .before .run-length .ensures .is)
+
+pub runs-meet-spec : {M : Type 1} → statement M
+runs-meet-spec =
+    tie.close (tie.spec run-start-requires run-length-requires run-in-requires returns)
