@@ -1,2 +1,3 @@
 pub mod Mixing
+pub mod Turning
 pub mod Buckets

@@ -4,26 +4,66 @@ ghost use mathlib.Core.Path.{_≡_};
 ghost use mathlib.Core.Bool.{true, not};
 ghost use Prim.Native.Nat.{_+_, _*_, _<_, _≤_};
 ghost use lib.ListN.{length, getD};
-ghost use Rattle.meaning.specs.Lists.{every, same};
+ghost use Rattle.meaning.specs.Lists.{every, same, through};
 ghost use Rattle.meaning.specs.Layout.{hit, entryAt};
-ghost use Rattle.meaning.specs.Names.{hash};
+ghost use Rattle.meaning.specs.Names.{rotate, mix, hash};
 ghost use Rattle.meaning.specs.Entries.{primary, nameOf};
 ghost use Rattle.meaning.specs.Chain.{files};
 ghost use Rattle.meaning.specs.Consistent.{namesDiffer};
 ghost use Rattle.layout.specs.Room.{Room, Slot, Below};
 ghost use Rattle.names.specs.Buckets.{Hashed, Buckets, Linked, bucket, unlike, Joined, Differing, Visited};
 
+// A byte turned left by one.
+fn turned(x: u8) -> u8
+    ensures { λ r. ⌜ r ≡ rotate x ⌝ }
+{
+    x % 128 * 2 + x / 128
+}
+
+// Bytes that are no name, one after the other.
+fn all_mixed(bytes: &[u8]) -> u8
+    ensures { λ r. ⌜ r ≡ through mix 0 (now (bytes .entry)) ⌝ }
+{
+    let mut h = 0;
+    let mut i = 0;
+    while i < bytes.len() {
+        h = turned(h ^ bytes[i]);
+        i += 1;
+    }
+    h
+}
+
+// The eleven bytes of a name. Eight turns leave a byte as it was, so the three of type turn as the first three of name do, and go in with them.
+fn name_mixed(name: &[u8]) -> u8
+    requires { ⌜ length (now name) ≡ 11 ⌝ }
+    ensures { λ r. ⌜ r ≡ through mix 0 (now (name .entry)) ⌝ }
+{
+    let h = turned(name[0] ^ name[8]);
+    let h = turned(h ^ name[1] ^ name[9]);
+    let h = turned(h ^ name[2] ^ name[10]);
+    let h = turned(h ^ name[3]);
+    let h = turned(h ^ name[4]);
+    let h = turned(h ^ name[5]);
+    let h = turned(h ^ name[6]);
+    let h = turned(h ^ name[7]);
+    h % 32 * 8 + h / 32
+}
+
+// What the hash is before a final 0 becomes 1.
+fn mixed(name: &[u8]) -> u8
+    ensures { λ r. ⌜ r ≡ through mix 0 (now (name .entry)) ⌝ }
+{
+    if name.len() != 11 {
+        return all_mixed(name);
+    }
+    name_mixed(name)
+}
+
 // The hash of a name.
 pub fn hash(name: &[u8]) -> usize
     ensures { λ r. ⌜ Below 256 (hash (now (name .entry))) r ⌝ }
 {
-    let mut h: u8 = 0;
-    let mut i = 0;
-    while i < name.len() {
-        let x = h ^ name[i];
-        h = x % 128 * 2 + x / 128;
-        i += 1;
-    }
+    let h = mixed(name);
     if h == 0 { 1 } else { layout::wide(h) }
 }
 
