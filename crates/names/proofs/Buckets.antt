@@ -215,20 +215,28 @@ module _ (g : Geometry) (d : List ℕ) where
       low′ b (no e) = rw (getD-set-other head b₀ b (s + 1) 0 e) (let z = w .low b in omega arith)
 
   -- the list that slot s looks through, and what looking gives
-  pub first-list : (s : ℕ) (head next : List ℕ) {b : ℕ} → Buckets g d s head next → b ≡ hit g d s → b < 256
-      → Linked g d next (getD head b 0) (bucket g d (hit g d s) s)
-  first-list s head next w e l = subst (λ (k : ℕ). Linked g d next (getD head k 0) (bucket g d (hit g d s) s)) (sym e) (w .linked (hit g d s) (omega arith))
+  pub first-list : (s : ℕ) (head next : List ℕ) {b x : ℕ} → Buckets g d s head next → b ≡ hit g d s → b < 256 → x ≡ getD head b 0
+      → Linked g d next x (bucket g d (hit g d s) s)
+  first-list s head next w e l r =
+      subst (λ (y : ℕ). Linked g d next y (bucket g d (hit g d s) s)) (sym r)
+      (subst (λ (k : ℕ). Linked g d next (getD head k 0) (bucket g d (hit g d s) s)) (sym e) (w .linked (hit g d s) (omega arith)))
 
   pub joined-no : (s : ℕ) (head next : List ℕ) {f : Bool} → f ≡ every (unlike g d s) (bucket g d (hit g d s) s) → not f ≡ true → Joined g d s head next false
   joined-no s head next {f} e t = record { answer = sym (not-true f t) ∙ e; joined = λ z. absurd (Members.false-no (sym z) tt) }
 
-  pub joined-yes : (s : ℕ) (head next : List ℕ) {b : ℕ} {f : Bool} → Buckets g d s head next → Slot g d s → primary g d s ≡ true → b ≡ hit g d s → b < 256
-      → f ≡ every (unlike g d s) (bucket g d (hit g d s) s) → not f ≡ false → Joined g d s (set head b (s + 1)) (set next s (getD head b 0)) true
-  joined-yes s head next {b} {f} w h p e l q t =
+  pub joined-yes : (s : ℕ) (head next : List ℕ) {b x : ℕ} {f : Bool} → Buckets g d s head next → Slot g d s → primary g d s ≡ true → b ≡ hit g d s → b < 256
+      → x ≡ getD head b 0 → f ≡ every (unlike g d s) (bucket g d (hit g d s) s) → not f ≡ false → Joined g d s (set head b (s + 1)) (set next s x) true
+  joined-yes s head next {b} {x} {f} w h p e l r q t =
       record {
         answer = sym (not-false f t) ∙ q;
-        joined = λ z. subst (λ (k : ℕ). Buckets g d (s + 1) (set head k (s + 1)) (set next s (getD head k 0))) (sym e) (buckets-join s head next w h p (omega arith));
+        joined = λ z. subst (λ (y : ℕ). Buckets g d (s + 1) (set head b (s + 1)) (set next s y)) (sym r)
+            (subst (λ (k : ℕ). Buckets g d (s + 1) (set head k (s + 1)) (set next s (getD head k 0))) (sym e) (buckets-join s head next w h p (omega arith)));
       }
+
+  -- a slot's number plus 1 is a byte
+  pub next-low : (s : ℕ) → Room g d → Slot g d s → s + 1 < 256
+  next-low s r h =
+      let a = h .low in let b = h .held in let c = r .thirty in omega arith
 
   -- the flags of the entry at `at`
   pub flags-at : (s : ℕ) {at r : ℕ} → at ≡ entryAt g s → r ≡ getD d at 0 → r ≡ field g d s 0

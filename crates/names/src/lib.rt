@@ -1,4 +1,4 @@
-// Names: the hash, the test of a name, and that no two files have the same one.
+// Names: the hash of a name, and that no two files have the same one.
 use meaning::Geometry;
 ghost use mathlib.Core.Path.{_≡_};
 ghost use mathlib.Core.Bool.{true, not};
@@ -104,13 +104,13 @@ fn alone(image: &[u8], g: Geometry, s: usize, at: usize, first: usize, next: &[u
     true
 }
 
-// Puts slot s into the list of its HIT byte, unless an entry with its name is there.
+// Puts slot s into the list of its HIT byte, unless an entry with its name is there. A slot's number plus 1 is a byte: no row has all 32 slots.
 fn joins(
     image: &[u8],
     g: Geometry,
     s: usize,
     at: usize,
-    head: &mut [usize],
+    head: &mut [u8],
     next: &mut [usize],
 ) -> bool
     requires { ⌜ Room g (now image) × Slot g (now image) s × (at ≡ entryAt g s) × (primary g (now image) s ≡ true)
@@ -118,12 +118,12 @@ fn joins(
     ensures { λ r. ⌜ Joined g (now (image .entry)) s (now (head .exit)) (now (next .exit)) r ⌝ }
 {
     let b = layout::hit(image, g, s);
-    let first = head[b];
+    let first = layout::wide(head[b]);
     if !alone(image, g, s, at, first, next) {
         return false;
     }
     next[s] = first;
-    head[b] = s + 1;
+    head[b] = (s + 1) as u8;
     true
 }
 
@@ -133,7 +133,7 @@ fn visit(
     g: Geometry,
     s: usize,
     at: usize,
-    head: &mut [usize],
+    head: &mut [u8],
     next: &mut [usize],
 ) -> bool
     requires { ⌜ Room g (now image) × Hashed g (now image) × Slot g (now image) s × (at ≡ entryAt g s)
@@ -151,7 +151,7 @@ fn row_differs(
     image: &[u8],
     g: Geometry,
     row: usize,
-    head: &mut [usize],
+    head: &mut [u8],
     next: &mut [usize],
 ) -> bool
     requires { ⌜ Room g (now image) × Hashed g (now image) × (row < 8) × Differing g (now image) (32 * row) (now head) (now next) ⌝ }
@@ -176,7 +176,7 @@ pub fn names_differ(image: &[u8], g: Geometry) -> bool
     requires { ⌜ Room g (now image) × Hashed g (now image) ⌝ }
     ensures { λ r. ⌜ r ≡ namesDiffer g (now (image .entry)) (files g (now (image .entry))) ⌝ }
 {
-    let mut head = [0usize; 256];
+    let mut head = [0u8; 256];
     let mut next = [0usize; 256];
     let mut row = 0;
     while row < 8 {
