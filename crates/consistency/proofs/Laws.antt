@@ -350,16 +350,21 @@ name-is g d {s} {at} {n} r p e =
     let t = r .directory in
     ap (λ (k : ℕ). take k (drop (at + 5) d)) e ∙ ap (λ (k : ℕ). take 11 (drop (k + 5) d)) (p .is) ∙ sym (name-part g d s (omega arith))
 
-pub name-no : (g : Geometry) (d : List ℕ) (h : ℕ) {s at n x : ℕ} → Room g d → Place g d s at → n ≡ 11 → x ≡ hash (take n (drop (at + 5) d)) → (h ≡ x → ⊥)
+-- what the test of the hash says of the entry's name
+hash-says : (g : Geometry) (d : List ℕ) (h : ℕ) {s at n : ℕ} {b : Bool} → Room g d → Place g d s at → n ≡ 11 → b ≡ eqb h (hash (take n (drop (at + 5) d)))
+    → eqb h (hash (nameOf g d s)) ≡ b
+hash-says g d h r p e w = ap (λ (l : List ℕ). eqb h (hash l)) (sym (name-is g d r p e)) ∙ sym w
+
+pub name-no : (g : Geometry) (d : List ℕ) (h : ℕ) {s at n : ℕ} {b : Bool} → Room g d → Place g d s at → n ≡ 11 → b ≡ eqb h (hash (take n (drop (at + 5) d))) → b ≡ false
     → false ≡ nameFits g d h s
 unfolding nameFits
-name-no g d h r p e w t = sym (all-out _ 1 (ne-eqb _ _ (λ z. t (z ∙ ap hash (sym (name-is g d r p e)) ∙ sym w))))
+name-no g d h r p e w t = sym (all-out _ 1 (hash-says g d h r p e w ∙ t))
 
-pub name-yes : (g : Geometry) (d : List ℕ) (h : ℕ) {s at n x : ℕ} {f : Bool} → Room g d → Place g d s at → n ≡ 11 → x ≡ hash (take n (drop (at + 5) d)) → h ≡ x
+pub name-yes : (g : Geometry) (d : List ℕ) (h : ℕ) {s at n : ℕ} {b f : Bool} → Room g d → Place g d s at → n ≡ 11 → b ≡ eqb h (hash (take n (drop (at + 5) d))) → b ≡ true
     → f ≡ wellFormed (take n (drop (at + 5) d)) → f ≡ nameFits g d h s
 unfolding nameFits
 name-yes g d h r p e w t q =
-    q ∙ ap wellFormed (name-is g d r p e) ∙ sym (all-swap (eq-eqb _ _ (t ∙ w ∙ ap hash (name-is g d r p e))))
+    q ∙ ap wellFormed (name-is g d r p e) ∙ sym (all-swap (hash-says g d h r p e w ∙ t))
   where
     all-swap : {a b : Bool} → b ≡ true → all (a ∷ b ∷ []) ≡ a
     all-swap {a} {b} e = unfold all in rw e (by a)

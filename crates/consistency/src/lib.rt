@@ -37,7 +37,7 @@ fn name_holds(image: &[u8], g: Geometry, s: usize, at: usize, h: usize) -> bool
 {
     let a = at + 5;
     let e = a + 11;
-    if h != names::hash(&image[a..e]) {
+    if !names::hashes_to(&image[a..e], h) {
         return false;
     }
     find::well_formed(&image[a..e])

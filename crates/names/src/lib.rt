@@ -3,6 +3,7 @@ use meaning::Geometry;
 ghost use mathlib.Core.Path.{_≡_};
 ghost use mathlib.Core.Bool.{true, not};
 ghost use Prim.Native.Nat.{_+_, _*_, _<_, _≤_};
+ghost use lib.Dec.{eqb};
 ghost use lib.ListN.{length, getD};
 ghost use Rattle.meaning.specs.Lists.{every, same, through};
 ghost use Rattle.meaning.specs.Layout.{hit, entryAt};
@@ -67,6 +68,20 @@ pub fn hash(name: &[u8]) -> usize
     if h == 0 { 1 } else { layout::wide(h) }
 }
 
+// Whether h is the hash of a name. The check asks this of every file: mostly the bytes give h as it is, and the final 0 need not be looked for.
+pub fn hashes_to(name: &[u8], h: usize) -> bool
+    ensures { λ r. ⌜ r ≡ eqb h (hash (now (name .entry))) ⌝ }
+{
+    let m = layout::wide(mixed(name));
+    if m == h {
+        return h != 0;
+    }
+    if m != 0 {
+        return false;
+    }
+    h == 1
+}
+
 // Whether the entry of slot s, which is at `at`, starts a file.
 fn starts_file(image: &[u8], g: Geometry, s: usize, at: usize) -> bool
     requires { ⌜ Room g (now image) × Slot g (now image) s × (at ≡ entryAt g s) ⌝ }
@@ -81,7 +96,7 @@ fn starts_file(image: &[u8], g: Geometry, s: usize, at: usize) -> bool
 
 // Whether no entry of a list has the name of slot s, whose entry is at `at`. The list starts at `first`: a slot's number plus 1, or 0 where
 // it ends; `next` tells what follows a slot.
-fn alone(image: &[u8], g: Geometry, s: usize, at: usize, first: usize, next: &[usize]) -> bool
+fn alone(image: &[u8], g: Geometry, s: usize, at: usize, first: usize, next: &[u16]) -> bool
     requires { ⌜ Room g (now image) × Slot g (now image) s × (at ≡ entryAt g s)
         × Linked g (now image) (now next) first (bucket g (now image) (hit g (now image) s) s)
         × (length (now next) ≡ 256) × ((k : _) → getD (now next) k 0 ≤ k) ⌝ }
@@ -99,20 +114,13 @@ fn alone(image: &[u8], g: Geometry, s: usize, at: usize, first: usize, next: &[u
         ) {
             return false;
         }
-        x = next[q];
+        x = next[q] as usize;
     }
     true
 }
 
 // Puts slot s into the list of its HIT byte, unless an entry with its name is there. A slot's number plus 1 is a byte: no row has all 32 slots.
-fn joins(
-    image: &[u8],
-    g: Geometry,
-    s: usize,
-    at: usize,
-    head: &mut [u8],
-    next: &mut [usize],
-) -> bool
+fn joins(image: &[u8], g: Geometry, s: usize, at: usize, head: &mut [u8], next: &mut [u16]) -> bool
     requires { ⌜ Room g (now image) × Slot g (now image) s × (at ≡ entryAt g s) × (primary g (now image) s ≡ true)
         × Buckets g (now image) s (now head) (now next) ⌝ }
     ensures { λ r. ⌜ Joined g (now (image .entry)) s (now (head .exit)) (now (next .exit)) r ⌝ }
@@ -122,20 +130,13 @@ fn joins(
     if !alone(image, g, s, at, first, next) {
         return false;
     }
-    next[s] = first;
+    next[s] = first as u16;
     head[b] = (s + 1) as u8;
     true
 }
 
 // Slot s, after all slots below it: false if it is a file whose name one of those has.
-fn visit(
-    image: &[u8],
-    g: Geometry,
-    s: usize,
-    at: usize,
-    head: &mut [u8],
-    next: &mut [usize],
-) -> bool
+fn visit(image: &[u8], g: Geometry, s: usize, at: usize, head: &mut [u8], next: &mut [u16]) -> bool
     requires { ⌜ Room g (now image) × Hashed g (now image) × Slot g (now image) s × (at ≡ entryAt g s)
         × Differing g (now image) s (now head) (now next) ⌝ }
     ensures { λ r. ⌜ Visited g (now (image .entry)) (s + 1) (now (head .exit)) (now (next .exit)) r ⌝ }
@@ -147,13 +148,7 @@ fn visit(
 }
 
 // The slots of one row, after those of all rows before it.
-fn row_differs(
-    image: &[u8],
-    g: Geometry,
-    row: usize,
-    head: &mut [u8],
-    next: &mut [usize],
-) -> bool
+fn row_differs(image: &[u8], g: Geometry, row: usize, head: &mut [u8], next: &mut [u16]) -> bool
     requires { ⌜ Room g (now image) × Hashed g (now image) × (row < 8) × Differing g (now image) (32 * row) (now head) (now next) ⌝ }
     ensures { λ r. ⌜ Visited g (now (image .entry)) (32 * (row + 1)) (now (head .exit)) (now (next .exit)) r ⌝ }
 {
@@ -177,7 +172,7 @@ pub fn names_differ(image: &[u8], g: Geometry) -> bool
     ensures { λ r. ⌜ r ≡ namesDiffer g (now (image .entry)) (files g (now (image .entry))) ⌝ }
 {
     let mut head = [0u8; 256];
-    let mut next = [0usize; 256];
+    let mut next = [0u16; 256];
     let mut row = 0;
     while row < 8 {
         if !row_differs(image, g, row, &mut head, &mut next) {

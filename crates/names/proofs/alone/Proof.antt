@@ -86,6 +86,10 @@ mul-x c = let a = c .before .before .before .before .before .before .before .bef
 shared-slice-read-x : tie.Need-shared-slice-read-x Inv-loop μ-loop
 shared-slice-read-x c = let a = c .before .before .before .before .before .before .before .before .before .args in let w = here (a .g) (a .image .now) (a .next .now) (bucket (a .g) (a .image .now) (hit (a .g) (a .image .now) (a .s)) (a .s)) (a .s) (c .before .before .before .before .before .before .loop .x) (c .before .before .before .before .before .before .loop .inv) (c .before .before .before .before .before .loop-test .taken) in let lo = w .slot .low in let he = w .slot .held in omega arith
 
+-- src/lib.rt:62:13
+cast-x : tie.Need-cast-x Inv-loop μ-loop
+cast-x c = let a = c .before .before .before .before .before .before .before .before .before .args in let w = here (a .g) (a .image .now) (a .next .now) (bucket (a .g) (a .image .now) (hit (a .g) (a .image .now) (a .s)) (a .s)) (a .s) (c .before .before .before .before .before .before .loop .x) (c .before .before .before .before .before .before .loop .inv) (c .before .before .before .before .before .loop-test .taken) in let lo = w .slot .low in let he = w .slot .held in let z = c .before .before .before .before .before .before .before .before .before .pre .5 (c .before .before .before .before .before .before .loop .x - 1) in omega arith
+
 -- src/lib.rt:53:5
 loop-less : tie.Need-loop-less Inv-loop μ-loop
 loop-less c = let a = c .before .before .before .before .before .before .before .before .before .args in let z = c .before .before .before .before .before .before .before .before .before .pre .5 (c .before .before .before .before .before .before .loop .x - 1) in omega arith
@@ -121,6 +125,7 @@ alone-spec =
     returns
     mul-x
     shared-slice-read-x
+    cast-x
     loop-less
     loop-again
     returns-2)

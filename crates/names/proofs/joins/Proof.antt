@@ -32,6 +32,10 @@ same-length c = search needs
 returns : tie.Need-returns
 returns c = let a = c .before .before .before .before .before .before .before .before .before .args in joined-no (a .g) (a .image .now) (a .s) (a .head .now) (a .next .now) (c .before .alone .ensures) (c .if1 .taken)
 
+-- src/lib.rt:125:15
+cast-next : tie.Need-cast-next
+cast-next c = search needs
+
 -- src/lib.rt:125:5
 mul-next : tie.Need-mul-next
 mul-next c = search needs
@@ -74,6 +78,7 @@ joins-spec =
     alone-requires
     same-length
     returns
+    cast-next
     mul-next
     slice-write-next
     add-head
