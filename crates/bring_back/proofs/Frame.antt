@@ -18,8 +18,9 @@ use Rattle.layout.specs.Room.{Room, Slot}
 use Rattle.layout.proofs.Laws.{gat-low}
 use Rattle.layout.proofs.Lists.{every-count, all-at}
 use borrow.Author.Tests.{leb-true}
-use Rattle.seek.proofs.Frame.{Same, opened, same-refl, same-trans, same-before, same-room, same-slot, same-runs, same-start, same-len, same-entry, runs-four}
+use Rattle.seek.proofs.Frame.{Same, opened, same-refl, same-trans, same-before, same-room, same-slot, same-runs, same-start, same-len, same-entry}
 use Rattle.space.proofs.Folds.{Kept, kept-room, kept-slot}
+use Rattle.laws.specs.Entry.{runs-le}
 use Rattle.laws.specs.Members
 use Rattle.laws.specs.Members.{In}
 use Rattle.bring_back.specs.Line.{OnDisk, Listed, firstOf}
@@ -88,7 +89,7 @@ module _ (g : Geometry) where
 
   pub same-on-disk : {d d′ : List ℕ} {s : ℕ} → Room g d → Same g d d′ → OnDisk g d s → OnDisk g d′ s
   same-on-disk {d} {d′} {s} r e o =
-      let sl = o .slot in let q = same-runs g d d′ r e s sl in let four = runs-four g d s in
+      let sl = o .slot in let q = same-runs g d d′ r e s sl in let four = runs-le g d s in
       record {
         slot = same-slot g d d′ r e sl;
         run =
@@ -116,7 +117,7 @@ module _ (g : Geometry) where
   pub taking-run : {d d′ d″ : List ℕ} {s k n a len : ℕ} → Room g d → OnDisk g d s → n ≡ runs g d s → Taking d (λ j. each (runGranules g d s) (count 0 j)) d′ k n → k < n
       → a ≡ runStart g d′ s k → len ≡ runLength g d′ s k → d″ ≡ through (takeGranule g) d′ (count a len) → Taking d (λ j. each (runGranules g d s) (count 0 j)) d″ (k + 1) n
   taking-run {d} {d′} {d″} {s} {k} {n} {a} {len} r o q t h x y e =
-      let four = runs-four g d s in
+      let four = runs-le g d s in
       let x′ : a ≡ runStart g d s k = x ∙ same-start g d d′ r (t .same) s k (o .slot) (omega arith) in
       let y′ : len ≡ runLength g d s k = y ∙ same-len g d d′ r (t .same) s k (o .slot) (omega arith) in
       taking-more (entry-steps (runGranules g d s)) r t h (under-run (runStart g d s k) (runLength g d s k) (o .run k (omega arith)))

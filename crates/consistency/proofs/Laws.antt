@@ -20,7 +20,7 @@ use Rattle.layout.proofs.Laws.{digit-at, below, name-part}
 use Rattle.layout.proofs.Lists.{all-at, all-yes, all-no, all-one, all-none, any-skip, is-no, is-yes, not-yes, not-no, any-one}
 use Rattle.layout.proofs.Sound.{low-twenty, fits-directory}
 use Rattle.seek.proofs.Laws.{slots-length}
-use Rattle.seek.proofs.Below.{allBelow, all-below}
+use Rattle.seek.proofs.Below.{allBelow, all-below, alike, alike-eq}
 use Rattle.marks.specs.Marks.{marked, allows}
 use Rattle.marks.proofs.Laws.{marked-append, count-more, count-none}
 use Rattle.walk.specs.Walk.{Place, Walked, chainHolds, granulesOf}
@@ -72,15 +72,6 @@ room-of g d f h =
 
 abbrev fives : List ℕ
 fives = 0 ∷ 5 ∷ 10 ∷ 15 ∷ 20 ∷ []
-
-alike : Bool → Bool → Bool
-alike a b = cond a b (not b)
-
-alike-eq : (a b : Bool) → alike a b ≡ true → a ≡ b
-unfolding alike
-alike-eq true b e = sym e
-alike-eq false true e = e
-alike-eq false false e = refl
 
 five-all : allBelow 21 (λ x. alike (has fives x) (eqb (x % 5) 0)) ≡ true
 unfolding alike

@@ -8,11 +8,9 @@ use native.Mathlib.Numerals.{add-one}
 use lib.ListN.{length, getD, take, drop, length-drop}
 use lib.Seq.{drop-cons, take-all}
 use lib.Dec.{eqb}
-use borrow.Author.Tests.{eqb-true}
-use Rattle.meaning.specs.Lists.{every, all}
-use Rattle.meaning.specs.Names.{letter, padded, wellFormed}
+use Rattle.meaning.specs.Lists.{every}
+use Rattle.meaning.specs.Names.{letter, padded}
 use Rattle.layout.proofs.Laws.{left-more, left-none}
-use Rattle.layout.proofs.Lists.{all-at}
 
 module _ (n : List ℕ) (to i : ℕ) where
   -- the part from i up to `to` has one byte more than the part after it
@@ -44,7 +42,3 @@ module _ (n : List ℕ) (to i : ℕ) where
 
 pub type-part : (n : List ℕ) → length n ≡ 11 → take 3 (drop 8 n) ≡ drop 8 n
 type-part n h = take-all 3 (drop 8 n) (simp length-drop (omega arith))
-
-pub well-length : (n : List ℕ) → wellFormed n ≡ true → length n ≡ 11
-unfolding wellFormed
-well-length n h = eqb-true _ _ (all-at _ h 0)

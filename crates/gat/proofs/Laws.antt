@@ -4,7 +4,7 @@ use mathlib.Core.List.{List, [], _∷_}
 use mathlib.Core.Bool.{Bool, true, false, not, cond}
 use Prim.Native.Nat.{ℕ, zero, suc, _+_, _-_, _*_, _/_, _%_, _^_, _≤_, _<_, max}
 use native.Mathlib.Omega.{arith}
-use native.Mathlib.Nat.{zero-add, add-zero, sub-zero, add-mul, one-mul, zero-mul, div-one, div-div-eq-div-mul, pow-succ', mul-comm}
+use native.Mathlib.Nat.{zero-add, add-zero, sub-zero, zero-mul, div-one, div-div-eq-div-mul, pow-succ', mul-comm}
 use lib.ListN.{length}
 use lib.Dec.{eqb}
 use borrow.Author.Tests.{leb-true, eqb-true}
@@ -17,7 +17,7 @@ use Rattle.meaning.specs.declared.Space.{Space}
 use Rattle.laws.specs.Stretches.{stretch-taken, stretch-free, stretch-le}
 use Rattle.layout.proofs.Laws.{left-none}
 use Rattle.layout.proofs.Lists.{keep-yes, keep-no, all-at, first-hit, first-skip, first-none, not-yes, not-no}
-use Rattle.space.proofs.Clear.{gatByte, taken-at}
+use Rattle.space.proofs.Clear.{gatByte, taken-at, blocks-more, block-next}
 use Rattle.gat.specs.Pass.{Gat, Small, Tells, ended, met, bits}
 use Rattle.gat.specs.declared.Seen.{Seen}
 
@@ -173,14 +173,11 @@ module _ (g : Geometry) (d : List ℕ) where
   going-step {b} {x} {p} {q} some s h e f =
       let units = g .units in
       let m = g .blocks - (b + 1) in
-      let c : g .blocks - b ≡ 1 + m = omega arith in
-      let j : (g .blocks - b) * units ≡ units + m * units = ap (λ (j : ℕ). j * units) c ∙ add-mul 1 m units ∙ ap (λ (j : ℕ). j + m * units) (one-mul units) in
-      let a : b * units + units ≡ (b + 1) * units = sym (add-mul b 1 units ∙ ap (λ (j : ℕ). b * units + j) (one-mul units)) in
       let w : q ≡ over (b * units) units p = f ∙ ap (λ (k : ℕ). bits units k p) e ∙ sym (over-block some b p) in
       record {
         rest =
-            s .rest ∙ ap (λ (k : ℕ). over (b * units) k p) j ∙ over-append (b * units) units (m * units) p
-            ∙ ap (λ (k : ℕ). over k (m * units) (over (b * units) units p)) a ∙ ap (over ((b + 1) * units) (m * units)) (sym w);
+            s .rest ∙ ap (λ (k : ℕ). over (b * units) k p) (blocks-more (g .blocks) b units h) ∙ over-append (b * units) units (m * units) p
+            ∙ ap (λ (k : ℕ). over k (m * units) (over (b * units) units p)) (block-next b units) ∙ ap (over ((b + 1) * units) (m * units)) (sym w);
       }
 
   pub going-end : {b : ℕ} {p r : Seen} → Going b p → g .blocks ≤ b → r ≡ ended p → Tells g d r

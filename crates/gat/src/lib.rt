@@ -1,5 +1,6 @@
 // Free space from the GAT alone: one pass over the bytes of the disk's blocks, bit by bit. A stretch goes on from block to block, and no
-// granule number is worked out, so nothing is divided.
+// granule number is worked out, so nothing is divided. space::free_count counts by whole bytes: it cannot serve here, for the longest
+// stretch hangs on which bits are clear and not on how many.
 use meaning::Geometry;
 use meaning::Space;
 ghost use mathlib.Core.Path.{_≡_};

@@ -22,10 +22,10 @@ use Rattle.meaning.specs.declared.Geometry.{Geometry}
 use Rattle.meaning.specs.declared.Handle.{Handle}
 use Rattle.meaning.specs.declared.NewFile.{NewFile}
 use Rattle.meaning.specs.declared.Mode.{Mode}
-use Rattle.handle.proofs.Laws.{ownRow}
+use Rattle.layout.proofs.Laws.{well-length}
 use Rattle.layout.proofs.Lists.{and-l, and-r, all-at, first-at}
 use Rattle.genie.specs.Codec.{Fits}
-use Rattle.handle.proofs.Laws.{length-range}
+use Rattle.handle.proofs.Laws.{ownRow, length-range}
 
 -- all of these are below 256
 low : List ℕ → Bool
@@ -70,17 +70,13 @@ module _ (g : Geometry) (d : List ℕ) where
   zeros-fit : Fits noHandle
   zeros-fit = record { slot = omega arith; level = omega arith; len = omega arith; at = omega arith; name = refl }
 
-  name-length : (n : List ℕ) → wellFormed n ≡ true → length n ≡ 11
-  unfolding wellFormed
-  name-length n h = eqb-true (length n) 11 (all-at _ h 0)
-
   level-low : (s : ℕ) (t : Bool) → cond t 0 (accessLevel g d s) < 256
   level-low s true = omega arith
   level-low s false = omega arith
 
   opened-fits : (n : List ℕ) (len : ℕ) (checking : Bool) (code : ℕ) → wellFormed n ≡ true → len ≤ 256 → Fits (openedAt g d (slotOf g d n) n len checking code)
   opened-fits n len checking code h l =
-      record { slot = found-low n; level = level-low (slotOf g d n) (full g d (slotOf g d n) checking code); len = omega arith; at = omega arith; name = name-length n h }
+      record { slot = found-low n; level = level-low (slotOf g d n) (full g d (slotOf g d n) checking code); len = omega arith; at = omega arith; name = well-length n h }
 
   -- open, refused or accepted
   pub open-fits : (n : List ℕ) (len : ℕ) (checking : Bool) (code : ℕ) → Fits (open′ g d n len checking code .handle)
@@ -112,7 +108,7 @@ module _ (g : Geometry) (d : List ℕ) where
           either : (new : Bool) → wellFormed n ≡ true → f .len ≤ 256
               → Fits (cond new (record { slot = newSlot g d; name = n; at = 0; len = f .len; level = 0 })
               (openedAt g d (slotOf g d n) n (f .len) checking (f .main)))
-          either true h l = record { slot = free-low; level = omega arith; len = omega arith; at = omega arith; name = name-length n h }
+          either true h l = record { slot = free-low; level = omega arith; len = omega arith; at = omega arith; name = well-length n h }
           either false h l = opened-fits n (f .len) checking (f .main) h l
       by false e new = zeros-fit
 

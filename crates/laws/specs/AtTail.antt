@@ -96,8 +96,7 @@ module _ (g : Geometry) (d d′ : List ℕ) (c : Sound g d) (p : ℕ) (f : Facts
       }
 
   name-stays : nameOf g d′ p ≡ nameOf g d p
-  unfolding nameOf
-  name-stays = Members.map-eq (field g d′ p) (field g d p) (count 5 11) (λ k i. low k (omega (arith, Members.count-in k 5 11 i)))
+  name-stays = Frame.nameOf-bytes g d d′ p (λ k a b. low k (omega arith))
 
   size-stays : sizeOf g d′ p ≡ sizeOf g d p
   unfolding words

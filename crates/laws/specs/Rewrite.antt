@@ -74,10 +74,7 @@ module _ (g : Geometry) (d d′ : List ℕ) (c : Sound g d) (p : ℕ) (f : Facts
   rw-chain = Frame.chain-links g d d′ (h .above) p (λ x i. (tail-bytes x (slot-of x i) 0x1e (omega arith) (omega arith), tail-bytes x (slot-of x i) 0x1f (omega arith) (omega arith)))
 
   kept-granules : (x : ℕ) → T (isSlot g d x) → entryGranules g d′ x ≡ entryGranules g d x
-  kept-granules x t = Frame.entryGranules-pairs g d d′ x (λ k a b. tail-bytes x t k a (omega arith))
-
-  kept-runs : (x : ℕ) → T (isSlot g d x) → runs g d′ x ≡ runs g d x
-  kept-runs x t = Frame.runs-blocks g d d′ x (λ j b. tail-bytes x t (0x16 + 2 * j) (omega arith) (omega arith))
+  kept-granules x t = Frame.granules-tail g d d′ x (tail-bytes x t)
 
   pub rw-owned : owned g d′ p ≡ owned g d p
   unfolding owned
@@ -98,25 +95,16 @@ module _ (g : Geometry) (d d′ : List ℕ) (c : Sound g d) (p : ℕ) (f : Facts
   entry′ : (x : ℕ) → In x (chain g d p) → Entry.Entry g d′ x
   entry′ x i =
       let t = slot-of x i in let w = entry-was x i in
+      let a = Frame.tail-pairs g d d′ x (tail-bytes x t) in
       record {
-        pairs = λ j a q. tail-bytes x t (0x16 + 2 * j) (omega arith) (omega arith) ∙ w .pairs j a (rw (kept-runs x t) at q);
-        linked = go t (w .linked);
-        run = λ j q. let v = w .run j (rw (kept-runs x t) at q) in
-            let u : j < 4 = omega (arith, Entry.runs-le g d′ x) in
-            record {
-              unit = rw (tail-bytes x t (0x17 + 2 * j) (omega arith) (omega arith)) (v .unit);
-              inside = rw (tail-bytes x t (0x16 + 2 * j) (omega arith) (omega arith), tail-bytes x t (0x17 + 2 * j) (omega arith) (omega arith)) (v .inside);
-            };
+        pairs = Frame.pairs-next g d d′ x a (w .pairs);
+        linked = Frame.linked-next g d d′ 0x90 0x90 x (tail-bytes x t) (next′ x) (w .linked);
+        run = Frame.run-next g d d′ x a (w .run);
         gat = λ n j. let o = rw (kept-granules x t) at j in rw (h .keeps n (Change.owned-lt g d c p n f (Change.granule-owned g d c p x n i o))) (w .gat n o);
       }
-    where
-      go : T (isSlot g d x) → (marker g d x ≡ 0xff) ⊎ Entry.Linked g d x → (marker g d′ x ≡ 0xff) ⊎ Entry.Linked g d′ x
-      go t (inl q) = inl (tail-bytes x t 0x1e (omega arith) (omega arith) ∙ q)
-      go t (inr q) = inr (record { marked = tail-bytes x t 0x1e (omega arith) (omega arith) ∙ q .marked; next = rw (tail-bytes x t 0x1f (omega arith) (omega arith)) (next′ x q); full = kept-runs x t ∙ q .full })
 
   pub rw-name : nameOf g d′ p ≡ nameOf g d p
-  unfolding nameOf
-  rw-name = Members.map-eq (field g d′ p) (field g d p) (count 5 11) (λ k i. let q = Members.count-in k 5 11 i in h .fixed k (omega arith) (record { flags = omega arith; ends = omega arith; low = omega arith; high = omega arith }))
+  rw-name = Frame.nameOf-bytes g d d′ p (λ k a b. h .fixed k (omega arith) (record { flags = omega arith; ends = omega arith; low = omega arith; high = omega arith }))
 
   filed′ : Entry.Filed g d′ p
   filed′ = record {

@@ -36,9 +36,6 @@ module _ (g : Geometry) (d d′ : List ℕ) (c : Sound g d) (p : ℕ) (f : Facts
   pub m-in : In m (owned g d p)
   m-in = rw (h .less) (Members.in-append-r (owned g d′ p) Members.In.here)
 
-  pub m-once : In m (owned g d′ p) → ⊥
-  m-once i = Members.distinct-apart (m ∷ []) (subst Distinct (h .less) (c .single p f)) i Members.In.here
-
   pub size-same : sizeOf g d′ p ≡ sizeOf g d p
   unfolding words
   size-same = rw (h .low 3 (omega arith), h .low 0x14 (omega arith), h .low 0x15 (omega arith))

@@ -252,9 +252,6 @@ module _ (g : Geometry) (d : List ℕ) (c : Sound g d) (k : Places.Fits g d) (p 
   abbrev r₂ : ℕ
   r₂ = runs g d e₂
 
-  abbrev first₂ : ℕ
-  first₂ = n / g .units
-
   abbrev pair₂ : List ℕ
   pair₂ = paired g d e₂ r₂ (n / g .units) (n % g .units * 32)
 

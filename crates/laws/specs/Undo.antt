@@ -68,7 +68,7 @@ module _ (g : Geometry) (d : List ℕ) (c : Sound g d) (k : Places.Fits g d) (p 
   killed-entry x i =
       let e = Change.entry-at g d c x (member x i .slot) (member x i .used) in
       let a = Marking.file-tail g d 0 0 p (f .slot) marks x i in
-      record { pairs = Frame.pairs-next g d gone x a (e .pairs); linked = Frame.linked-next g d gone 0x90 0x80 x a next (e .linked); run = Frame.run-next g d gone x a (e .run) }
+      record { pairs = Frame.pairs-next g d gone x (Frame.tail-pairs g d gone x a) (e .pairs); linked = Frame.linked-next g d gone 0x90 0x80 x a next (e .linked); run = Frame.run-next g d gone x (Frame.tail-pairs g d gone x a) (e .run) }
     where
       next : Entry.Linked g d x → Entry.FollowsBy g gone 0x80 x (link g d x)
       next l = rw now-killed at (Marking.file-next g d 0 0 p (f .slot) marks 0x90 x i (Change.chain-next g d p x (λ y j. member y j .slot) (c .once p f) i (l .marked) (l .next .slot)) l)

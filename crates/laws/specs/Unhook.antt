@@ -180,23 +180,16 @@ module _ (g : Geometry) (d d′ : List ℕ) (c : Sound g d) (p : ℕ) (f : Facts
   next′ : (y : ℕ) → y ≢ b → In y (chain g d p) → Entry.Linked g d y → Entry.Follows g d′ y (link g d y)
   next′ y n i l =
       let t = l .next .slot in let w : link g d y ≢ e = λ q. n (only-b y i (l .marked) q) in
-      record {
-        slot = rw (slot′ (link g d y)) t;
-        flags = steady (link g d y) t w 0 (omega arith) ∙ l .next .flags;
-        before = steady (link g d y) t w 1 (omega arith) ∙ l .next .before;
-        some′ = rw (Frame.runs-blocks g d d′ (link g d y) (λ j k. steady (link g d y) t w (0x16 + 2 * j) (omega arith))) (l .next .some′);
-      }
+      Frame.follows-low g d d′ y (link g d y) (slot′ (link g d y)) (steady (link g d y) t w) (l .next)
 
   entry-b : In b (chain g d′ p) → Entry.Entry g d′ b
   entry-b i =
       let w = entry-was b (before .inside) in
-      let q : runs g d′ b ≡ runs g d b = Frame.runs-blocks g d d′ b (λ j k. h .fixed (0x16 + 2 * j) (omega arith)) in
+      let a : Frame.Pairs g d d′ b = λ k j q. h .fixed k q in
       record {
-        pairs = λ j a k. h .fixed (0x16 + 2 * j) (omega arith) ∙ w .pairs j a (rw q at k);
+        pairs = Frame.pairs-next g d d′ b a (w .pairs);
         linked = inl (h .ended);
-        run = λ j k. let v = w .run j (rw q at k) in
-            let u : j < 4 = omega (arith, Entry.runs-le g d′ b) in
-            record { unit = rw (h .fixed (0x17 + 2 * j) (omega arith)) (v .unit); inside = rw (h .fixed (0x16 + 2 * j) (omega arith), h .fixed (0x17 + 2 * j) (omega arith)) (v .inside) };
+        run = Frame.run-next g d d′ b a (w .run);
         gat = λ n j. let o = rw (kept-granules b i) at j in rw (old-same n (entry-owned b n i o)) (w .gat n o);
       }
 
@@ -209,8 +202,7 @@ module _ (g : Geometry) (d d′ : List ℕ) (c : Sound g d) (p : ℕ) (f : Facts
           Frame.entry-next g d d′ y (h .agrees y (slot-of y j) (not-e y i) q) (next′ y q j) (λ n w. old-same n (entry-owned y n i w)) (entry-was y j)
 
   name′ : nameOf g d′ p ≡ nameOf g d p
-  unfolding nameOf
-  name′ = Members.map-eq (field g d′ p) (field g d p) (count 5 11) (λ k i. low k (omega (arith, Members.count-in k 5 11 i)))
+  name′ = Frame.nameOf-bytes g d d′ p (λ k a b. low k (omega arith))
 
   room′ : sizeOf g d p ≤ granuleBytes * length (owned g d′ p)
   room′ = omega (arith, h .room, ap length cut-owned ∙ length-append (owned g d′ p) (m ∷ []))

@@ -8,12 +8,14 @@ use native.Mathlib.Nat.{mul-le-mul, div-lt-iff-lt-mul, mod-lt, div-one, div-div-
 use lib.ListN.{length, getD, take, drop}
 use lib.Seq.{drop-cons, drop-length}
 use lib.Dec.{eqb, leb}
-use borrow.Author.Tests.{le-leb, eq-eqb}
+use borrow.Author.Tests.{le-leb, eq-eqb, eqb-true}
 use Rattle.meaning.specs.Lists.{same, all, count}
 use Rattle.meaning.specs.Layout.{granules, fitsGeometry, field, entryAt, granuleBytes, granuleSectors, sectors, mostBlocks, mostUnits}
 use Rattle.meaning.specs.Bits.{digit}
 use Rattle.meaning.specs.Entries.{runsFrom, block, nameOf}
+use Rattle.meaning.specs.Names.{wellFormed}
 use Rattle.meaning.specs.declared.Geometry.{Geometry}
+use Rattle.layout.proofs.Lists.{all-at}
 
 pub below : (a b m n : ℕ) → a ≤ m → b ≤ n → a * b ≤ m * n
 below a b m n p q = mul-le-mul {n₁ = a} {m₁ = b} {n₂ = m} {m₂ = n} p q
@@ -60,6 +62,10 @@ unfolding nameOf field
 name-at g d n s h = ap (λ (l : List ℕ). same l n) (part-at d (entryAt g s) 5 11 (omega arith))
 
 -- the geometry's first six tests passed
+pub well-length : (n : List ℕ) → wellFormed n ≡ true → length n ≡ 11
+unfolding wellFormed
+well-length n h = eqb-true _ _ (all-at _ h 0)
+
 pub fits-rest : (g : Geometry) (d : List ℕ) → 1 ≤ g .blocks → g .blocks ≤ mostBlocks → 1 ≤ g .units → g .units ≤ mostUnits → g .start % granuleSectors ≡ 0 → length d ≡ granules g * granuleBytes
     → fitsGeometry g d ≡ leb (g .start + 10) (sectors g)
 unfolding fitsGeometry all

@@ -37,28 +37,17 @@ use Rattle.laws.specs.TakeOne.{Took}
 use Rattle.laws.specs.Named
 use Rattle.laws.specs.Passed
 use Rattle.laws.specs.Words.{words}
+use Rattle.promises.specs.Resized.{Resized, resized-none, resized-one, resized-trans}
 
 -- the file at p has k granules more, and all else is as it was
 pub record Grew (g : Geometry) (d d′ : List ℕ) (p k : ℕ) : Type 0 where
-  pub sound : Sound g d′
-  pub fits : Places.Fits g d′
-  pub file : File g d′ p
-  pub user : T (not (system g d′ p))
-  pub long : length d′ ≡ length d
+  pub kept : Resized g d d′ p
   pub above : aboveTen g d′ ≡ aboveTen g d
   pub low : (j : ℕ) → j < 0x16 → field g d′ p j ≡ field g d p j
-  pub name : nameOf g d′ p ≡ nameOf g d p
-  pub reserved′ : reserved g d′ ≡ reserved g d
   pub new : List ℕ
   pub owned′ : owned g d′ p ≡ owned g d p ++ new
   pub many : length new ≡ k
   pub free : length (freeGranules g d) ≡ length (freeGranules g d′) + k
-  pub attributes : fileAt g d′ p .attributes ≡ fileAt g d p .attributes
-  pub bytes : fileAt g d′ p .bytes ≡ fileAt g d p .bytes
-  pub others : (n : List ℕ) → n ≢ nameOf g d p → hush (plain g d′ n) ≡ hush (plain g d n)
-  pub beyond′ : (n : List ℕ) → n ≢ nameOf g d p → beyond g d′ n ≡ beyond g d n
-  pub names′ : (n : List ℕ) → n ≢ nameOf g d p → named g d′ n ≡ named g d n
-  pub small : Small d → Small d′
   pub touch : Touch g (chain g d′ p) [] d d′
   pub entries : (x : ℕ) → In x (chain g d p) → In x (chain g d′ p)
   pub slots : length (freeSlots g d) + length (chain g d p) ≡ length (freeSlots g d′) + length (chain g d′ p)
@@ -67,25 +56,13 @@ pub record Grew (g : Geometry) (d d′ : List ℕ) (p k : ℕ) : Type 0 where
 module _ (g : Geometry) where
   grew-none : (d : List ℕ) (p : ℕ) → Sound g d → Places.Fits g d → File g d p → T (not (system g d p)) → Grew g d d p 0
   grew-none d p c k f u = record {
-    sound = c;
-    fits = k;
-    file = f;
-    user = u;
-    long = refl;
+    kept = resized-none g d p c k f u;
     above = refl;
     low = λ j b. refl;
-    name = refl;
-    reserved′ = refl;
     new = [];
     owned′ = sym (append-nil (owned g d p));
     many = refl;
     free = omega arith;
-    attributes = refl;
-    bytes = refl;
-    others = λ n q. refl;
-    beyond′ = λ n q. refl;
-    names′ = λ n q. refl;
-    small = λ b. b;
     touch = Touch.Touch.none;
     entries = λ x i. i;
     slots = refl;
@@ -93,32 +70,18 @@ module _ (g : Geometry) where
   }
 
   grew-one : (d d₁ : List ℕ) (p : ℕ) → Sound g d → Places.Fits g d → File g d p → T (not (system g d p)) → (Small d → Small d₁) → Took g d d₁ p → Grew g d d₁ p 1
-  unfolding nameOf
   grew-one d d₁ p c k f u b w =
       let m = w .which in let h = w .change in let l = w .longer in
-      let s : Others.Same g d d₁ p = λ i a b e. l .same i a in
-      let n : nameOf g d₁ p ≡ nameOf g d p = Members.map-eq (field g d₁ p) (field g d p) (count 5 11) (λ j i. l .low j (omega (arith, Members.count-in j 5 11 i))) in
       let file′ = Longer.grown-file g d d₁ c p f m l u in
       record {
-        sound = Change.changed g d d₁ c p h;
-        fits = record { blocks-lo = k .blocks-lo; blocks-hi = k .blocks-hi; units-lo = k .units-lo; units-hi = k .units-hi; start-at = k .start-at; size = w .long ∙ k .size };
-        file = w .file;
-        user = rw (l .low 0 (omega arith)) u;
-        long = w .long;
+        kept = resized-one g d d₁ p c k u b h (w .long) (w .file) (l .low) (l .same)
+            (ap (λ (x : Rattle.meaning.specs.Plain.File). x .attributes) file′) (ap (λ (x : Rattle.meaning.specs.Plain.File). x .bytes) file′);
         above = h .above;
         low = l .low;
-        name = n;
-        reserved′ = Others.reserved-stays g d d₁ c p h;
         new = m ∷ [];
         owned′ = l .more;
         many = refl;
         free = omega (arith, Longer.grown-free g d d₁ c p f m l);
-        attributes = ap (λ (x : Rattle.meaning.specs.Plain.File). x .attributes) file′;
-        bytes = ap (λ (x : Rattle.meaning.specs.Plain.File). x .bytes) file′;
-        others = λ b q. Others.others-plain g d d₁ c p h s b (λ z a. q (sym a)) (λ z a. q (sym a ∙ n));
-        beyond′ = λ b q. Others.beyond-plain g d d₁ c p h s b (λ z a. q (sym a)) (λ z a. q (sym a ∙ n));
-        names′ = λ b q. Others.names-stay g d d₁ c p h b (λ z a. q (sym a)) (λ z a. q (sym a ∙ n));
-        small = b;
         touch = w .touch;
         entries = w .entries;
         slots = w .slots;
@@ -128,25 +91,13 @@ module _ (g : Geometry) where
   grew-trans : (a b e : List ℕ) (p j k : ℕ) → Grew g a b p j → Grew g b e p k → Grew g a e p (j + k)
   unfolding words
   grew-trans a b e p j k x y = record {
-    sound = y .sound;
-    fits = y .fits;
-    file = y .file;
-    user = y .user;
-    long = y .long ∙ x .long;
+    kept = resized-trans g a b e p (x .kept) (y .kept);
     above = y .above ∙ x .above;
     low = λ i h. y .low i h ∙ x .low i h;
-    name = y .name ∙ x .name;
-    reserved′ = y .reserved′ ∙ x .reserved′;
     new = x .new ++ y .new;
     owned′ = y .owned′ ∙ ap (λ (l : List ℕ). l ++ y .new) (x .owned′) ∙ append-assoc (owned g a p) (x .new) (y .new);
     many = length-append (x .new) (y .new) ∙ ap₂ (λ (m n : ℕ). m + n) (x .many) (y .many);
     free = omega (arith, x .free, y .free);
-    attributes = y .attributes ∙ x .attributes;
-    bytes = y .bytes ∙ x .bytes;
-    others = λ n q. y .others n (λ z. q (z ∙ x .name)) ∙ x .others n q;
-    beyond′ = λ n q. y .beyond′ n (λ z. q (z ∙ x .name)) ∙ x .beyond′ n q;
-    names′ = λ n q. y .names′ n (λ z. q (z ∙ x .name)) ∙ x .names′ n q;
-    small = λ b. y .small (x .small b);
     touch = Touch.touch-then (Touch.touch-more (chain g e p) [] (y .entries) (λ n i. i) (x .touch)) (y .touch);
     entries = λ z i. y .entries z (x .entries z i);
     slots = x .slots ∙ y .slots;
@@ -157,7 +108,7 @@ module _ (g : Geometry) where
       → grow g p k d ≡ grown d′ → Grew g d d′ p k
   unfolding grow andThen
   grow-grew zero d d′ p c w f u room q = let r : d ≡ d′ = cc in subst (λ (l : List ℕ). Grew g d l p 0) r (grew-none d p c w f u)
-  grow-grew (suc k) d d′ p c w f u room q = go (takeOne g p d) refl q (λ d₁ x. grow-grew k d₁ d′ p (x .sound) (x .fits) (x .file) (x .user) (omega (arith, x .free)))
+  grow-grew (suc k) d d′ p c w f u room q = go (takeOne g p d) refl q (λ d₁ x. grow-grew k d₁ d′ p (x .kept .sound) (x .kept .fits) (x .kept .file) (x .kept .user) (omega (arith, x .free)))
     where
       go : (t : Grown) → takeOne g p d ≡ t → andThen t (grow g p k) ≡ grown d′ → ((d₁ : List ℕ) → Grew g d d₁ p 1 → grow g p k d₁ ≡ grown d′ → Grew g d₁ d′ p k) → Grew g d d′ p (suc k)
       go (grown d₁) e q ih =
@@ -196,9 +147,9 @@ pub record AllotMeans (g : Geometry) (d d′ : List ℕ) (p k : ℕ) : Type 0 wh
 allotted : (g : Geometry) (d d′ : List ℕ) (p k : ℕ) → Grew g d d′ p (lacking g d p (k / granuleSectors + 1)) → fileAt g d′ p ≡ allottedTo k (fileAt g d p)
 unfolding fileAt allottedTo
 allotted g d d′ p k x = λ i. record {
-  attributes = x .attributes i;
+  attributes = x .kept .attributes i;
   granules = many i;
-  bytes = x .bytes i;
+  bytes = x .kept .bytes i;
 }
   where
     many : length (owned g d′ p) ≡ max (length (owned g d p)) (k / granuleSectors + 1)
@@ -212,16 +163,16 @@ allot-means g d h k e =
     let x = larger-grew g d h (lacking g d p (k / granuleSectors + 1)) (w .0) (w .1) in
     let d′ = larger g d p (lacking g d p (k / granuleSectors + 1)) in
     rw e (record {
-      long = x .long;
-      consistent′ = Facts.back g d′ (x .sound);
-      reserved′ = x .reserved′;
-      own = Named.plain-is g d′ (x .sound) p (nameOf g d p) (x .file) (x .name) ∙ ap {B = Found} found (allotted g d d′ p k x);
-      others = x .others;
-      beyond′ = x .beyond′;
-      names′ = x .names′;
+      long = x .kept .long;
+      consistent′ = Facts.back g d′ (x .kept .sound);
+      reserved′ = x .kept .reserved′;
+      own = Named.plain-is g d′ (x .kept .sound) p (nameOf g d p) (x .kept .file) (x .kept .name) ∙ ap {B = Found} found (allotted g d d′ p k x);
+      others = x .kept .others;
+      beyond′ = x .kept .beyond′;
+      names′ = x .kept .names′;
       touch = x .touch;
-      file′ = x .file;
-      name′ = x .name;
-      small = x .small;
+      file′ = x .kept .file;
+      name′ = x .kept .name;
+      small = x .kept .small;
       free = x .free;
     })

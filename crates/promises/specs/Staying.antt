@@ -93,7 +93,7 @@ module _ (g : Geometry) (d : List ℕ) (k : Good g d) where
       let two : sectorsFor size < 65536 = omega arith in
       rw e (Bytes.small-size g d fit _ p size
       (Bytes.small-store F (take (h .len) b) (h .at)
-      (Bytes.small-store F (replicate (h .at - old) 0) old (x .small s) (Bytes.small-replicate (h .at - old) (omega arith)))
+      (Bytes.small-store F (replicate (h .at - old) 0) old (x .kept .small s) (Bytes.small-replicate (h .at - old) (omega arith)))
       (Bytes.small-take (h .len) b (Bytes.bytes-small b ab))) two)
 
   write-stays : (m : Mode) (h : Handle) (b : List ℕ) → AreBytes b → writeRecord g d m h b .0 .number ≡ 0 → Stays g d (writeRecord g d m h b .1)

@@ -35,107 +35,58 @@ use Rattle.laws.specs.Passed
 use Rattle.laws.specs.Shorter
 use Rattle.laws.specs.DropLast
 use Rattle.laws.specs.DropLast.{Dropped}
+use Rattle.promises.specs.Resized.{Resized, resized-none, resized-one, resized-trans}
 
 -- the file at p has lost its last k granules, and all else is as it was
 pub record Shrank (g : Geometry) (d d′ : List ℕ) (p k : ℕ) : Type 0 where
-  pub sound : Sound g d′
-  pub fits : Places.Fits g d′
-  pub file : File g d′ p
-  pub user : T (not (system g d′ p))
-  pub long : length d′ ≡ length d
-  pub name : nameOf g d′ p ≡ nameOf g d p
+  pub kept : Resized g d d′ p
   pub size : sizeOf g d′ p ≡ sizeOf g d p
-  pub reserved′ : reserved g d′ ≡ reserved g d
   pub old : List ℕ
   pub owned′ : owned g d p ≡ owned g d′ p ++ old
   pub many : length old ≡ k
   pub free : length (freeGranules g d′) ≡ length (freeGranules g d) + k
-  pub attributes : fileAt g d′ p .attributes ≡ fileAt g d p .attributes
-  pub bytes : fileAt g d′ p .bytes ≡ fileAt g d p .bytes
-  pub others : (n : List ℕ) → n ≢ nameOf g d p → hush (plain g d′ n) ≡ hush (plain g d n)
-  pub beyond′ : (n : List ℕ) → n ≢ nameOf g d p → beyond g d′ n ≡ beyond g d n
-  pub names′ : (n : List ℕ) → n ≢ nameOf g d p → named g d′ n ≡ named g d n
   pub touch : Touch g (chain g d p) [] d d′
   pub entries : (x : ℕ) → In x (chain g d′ p) → In x (chain g d p)
-  pub small : Small d → Small d′
 
 module _ (g : Geometry) where
   shrank-none : (d : List ℕ) (p : ℕ) → Sound g d → Places.Fits g d → File g d p → T (not (system g d p)) → Shrank g d d p 0
   shrank-none d p c k f u = record {
-    sound = c;
-    fits = k;
-    file = f;
-    user = u;
-    long = refl;
-    name = refl;
+    kept = resized-none g d p c k f u;
     size = refl;
-    reserved′ = refl;
     old = [];
     owned′ = sym (append-nil (owned g d p));
     many = refl;
     free = omega arith;
-    attributes = refl;
-    bytes = refl;
-    others = λ n q. refl;
-    beyond′ = λ n q. refl;
-    names′ = λ n q. refl;
     touch = Touch.Touch.none;
     entries = λ x i. i;
-    small = λ b. b;
   }
 
   shrank-one : (d d₁ : List ℕ) (p : ℕ) → Sound g d → Places.Fits g d → File g d p → T (not (system g d p)) → (Small d → Small d₁) → Dropped g d d₁ p → Shrank g d d₁ p 1
-  unfolding nameOf
   shrank-one d d₁ p c k f u b w =
       let m = w .which in let h = w .change in let l = w .shorter in
-      let s : Others.Same g d d₁ p = λ i a b e. l .same i a in
-      let n : nameOf g d₁ p ≡ nameOf g d p = Members.map-eq (field g d₁ p) (field g d p) (count 5 11) (λ j i. l .low j (omega (arith, Members.count-in j 5 11 i))) in
       let file′ = Shorter.shrunk-file g d d₁ c p f m l u in
       record {
-        sound = Change.changed g d d₁ c p h;
-        fits = record { blocks-lo = k .blocks-lo; blocks-hi = k .blocks-hi; units-lo = k .units-lo; units-hi = k .units-hi; start-at = k .start-at; size = w .long ∙ k .size };
-        file = w .file;
-        user = rw (l .low 0 (omega arith)) u;
-        long = w .long;
-        name = n;
+        kept = resized-one g d d₁ p c k u b h (w .long) (w .file) (l .low) (l .same)
+            (sym (ap (λ (x : Rattle.meaning.specs.Plain.File). x .attributes) file′)) (sym (ap (λ (x : Rattle.meaning.specs.Plain.File). x .bytes) file′));
         size = Shorter.size-same g d d₁ c p f m l;
-        reserved′ = Others.reserved-stays g d d₁ c p h;
         old = m ∷ [];
         owned′ = l .less;
         many = refl;
         free = omega (arith, Shorter.shrunk-free g d d₁ c p f m l);
-        attributes = sym (ap (λ (x : Rattle.meaning.specs.Plain.File). x .attributes) file′);
-        bytes = sym (ap (λ (x : Rattle.meaning.specs.Plain.File). x .bytes) file′);
-        others = λ b q. Others.others-plain g d d₁ c p h s b (λ z a. q (sym a)) (λ z a. q (sym a ∙ n));
-        beyond′ = λ b q. Others.beyond-plain g d d₁ c p h s b (λ z a. q (sym a)) (λ z a. q (sym a ∙ n));
-        names′ = λ b q. Others.names-stay g d d₁ c p h b (λ z a. q (sym a)) (λ z a. q (sym a ∙ n));
         touch = w .touch;
         entries = w .entries;
-        small = b;
       }
 
   shrank-trans : (a b e : List ℕ) (p j k : ℕ) → Shrank g a b p j → Shrank g b e p k → Shrank g a e p (j + k)
   shrank-trans a b e p j k x y = record {
-    sound = y .sound;
-    fits = y .fits;
-    file = y .file;
-    user = y .user;
-    long = y .long ∙ x .long;
-    name = y .name ∙ x .name;
+    kept = resized-trans g a b e p (x .kept) (y .kept);
     size = y .size ∙ x .size;
-    reserved′ = y .reserved′ ∙ x .reserved′;
     old = y .old ++ x .old;
     owned′ = x .owned′ ∙ ap (λ (l : List ℕ). l ++ x .old) (y .owned′) ∙ append-assoc (owned g e p) (y .old) (x .old);
     many = length-append (y .old) (x .old) ∙ ap₂ (λ (m n : ℕ). m + n) (y .many) (x .many) ∙ omega arith;
     free = omega (arith, x .free, y .free);
-    attributes = y .attributes ∙ x .attributes;
-    bytes = y .bytes ∙ x .bytes;
-    others = λ n q. y .others n (λ z. q (z ∙ x .name)) ∙ x .others n q;
-    beyond′ = λ n q. y .beyond′ n (λ z. q (z ∙ x .name)) ∙ x .beyond′ n q;
-    names′ = λ n q. y .names′ n (λ z. q (z ∙ x .name)) ∙ x .names′ n q;
     touch = Touch.touch-then (x .touch) (Touch.touch-more (chain g a p) [] (x .entries) (λ n i. i) (y .touch));
     entries = λ z i. x .entries z (y .entries z i);
-    small = λ b. y .small (x .small b);
   }
 
   pub times-shrank : (k : ℕ) (d : List ℕ) (p : ℕ) → Sound g d → Places.Fits g d → File g d p → T (not (system g d p))
@@ -146,7 +97,7 @@ module _ (g : Geometry) where
       let x = shrank-one d d₁ p c w f u (λ b. Bytes.drop-small g d c w p f b) (DropLast.drop-one g d c w p f u (omega arith)) in
       let l = ap length (x .owned′) ∙ length-append (owned g d₁ p) (x .old) in
       subst (λ (j : ℕ). Shrank g d (times k (dropOne g p) d₁) p j) (omega arith)
-      (shrank-trans d d₁ (times k (dropOne g p) d₁) p 1 k x (times-shrank k d₁ p (x .sound) (x .fits) (x .file) (x .user) (omega (arith, x .size, x .many, l))))
+      (shrank-trans d d₁ (times k (dropOne g p) d₁) p 1 k x (times-shrank k d₁ p (x .kept .sound) (x .kept .fits) (x .kept .file) (x .kept .user) (omega (arith, x .size, x .many, l))))
 
 pub record TrimMeans (g : Geometry) (d d′ : List ℕ) (p : ℕ) : Type 0 where
   pub long : length d′ ≡ length d
@@ -170,7 +121,7 @@ trim-kept g d p t = rw (Members.T-true {b = keepsSpace g d p} t)
 trim-done : (g : Geometry) (d d′ : List ℕ) (p : ℕ) → (T (keepsSpace g d p) → ⊥) → granulesFor (sizeOf g d p) ≤ length (owned g d p)
     → Shrank g d d′ p (length (owned g d p) - granulesFor (sizeOf g d p)) → fileAt g d′ p ≡ trimmed (fileAt g d p)
 unfolding trimmed fileAt
-trim-done g d d′ p t h x = λ i. record { attributes = x .attributes i; granules = many i; bytes = x .bytes i }
+trim-done g d d′ p t h x = λ i. record { attributes = x .kept .attributes i; granules = many i; bytes = x .kept .bytes i }
   where
     many : length (owned g d′ p) ≡ cond (keepsSpace g d p) (length (owned g d p)) (granulesFor (length (fileAt g d p .bytes)))
     many = rw (Members.no-false {b = keepsSpace g d p} t, Others.file-length g d p) (omega (arith, h, x .many, ap length (x .owned′) ∙ length-append (owned g d′ p) (x .old)))
@@ -205,17 +156,17 @@ trim-means g d h e =
         let x = times-shrank g k d (h .slot) (w .sound) (w .fits) (w .file) (w .user) (omega (arith, fit)) in
         let d′ = times k (dropOne g (h .slot)) d in
         rw (Members.no-false {b = keepsSpace g d (h .slot)} t) (record {
-          long = x .long;
-          consistent′ = Facts.back g d′ (x .sound);
-          reserved′ = x .reserved′;
-          own = Named.plain-is g d′ (x .sound) (h .slot) (nameOf g d (h .slot)) (x .file) (x .name) ∙ ap {B = Found} found (trim-done g d d′ (h .slot) t (omega (arith, fit)) x);
-          others = x .others;
-          beyond′ = x .beyond′;
-          names′ = x .names′;
+          long = x .kept .long;
+          consistent′ = Facts.back g d′ (x .kept .sound);
+          reserved′ = x .kept .reserved′;
+          own = Named.plain-is g d′ (x .kept .sound) (h .slot) (nameOf g d (h .slot)) (x .kept .file) (x .kept .name) ∙ ap {B = Found} found (trim-done g d d′ (h .slot) t (omega (arith, fit)) x);
+          others = x .kept .others;
+          beyond′ = x .kept .beyond′;
+          names′ = x .kept .names′;
           touch = x .touch;
-          file′ = x .file;
-          name′ = x .name;
+          file′ = x .kept .file;
+          name′ = x .kept .name;
           told = trim-done g d d′ (h .slot) t (omega (arith, fit)) x;
           free = omega (arith, x .free, x .many, ap length (x .owned′) ∙ length-append (owned g d′ (h .slot)) (x .old));
-          small = x .small;
+          small = x .kept .small;
         })

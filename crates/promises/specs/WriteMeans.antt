@@ -151,16 +151,16 @@ module _ (g : Geometry) (d d₁ : List ℕ) (p : ℕ) (m : Mode) (at : ℕ) (r :
   written-file : fileAt g (img (sizeOf g d₁ p)) p ≡ writtenTo m at r (fileAt g d p)
   unfolding writtenTo
   written-file = λ i. record {
-    attributes = (own-attributes g d₁ (x .sound) (x .fits) p (x .file) (x .user) m at r fit₁ ∙ ap (λ (l : List ℕ). set l 1 (Bits.withBit 5 (getD l 1 0))) (x .attributes)) i;
+    attributes = (own-attributes g d₁ (x .kept .sound) (x .kept .fits) p (x .kept .file) (x .kept .user) m at r fit₁ ∙ ap (λ (l : List ℕ). set l 1 (Bits.withBit 5 (getD l 1 0))) (x .kept .attributes)) i;
     granules = many i;
-    bytes = (own-bytes g d₁ (x .sound) (x .fits) p (x .file) (x .user) m at r fit₁ ∙ ap (λ (l : List ℕ). overwritten m l at r) (x .bytes)) i;
+    bytes = (own-bytes g d₁ (x .kept .sound) (x .kept .fits) p (x .kept .file) (x .kept .user) m at r fit₁ ∙ ap (λ (l : List ℕ). overwritten m l at r) (x .kept .bytes)) i;
   }
     where
       long : length (overwritten m (fileAt g d p .bytes) at r) ≡ size₀
       long = Over.overwritten-length m (fileAt g d p .bytes) at r ∙ ap (λ (y : ℕ). sizeAfter m y (at + length r)) (file-length g d p)
 
       many : fileAt g (img (sizeOf g d₁ p)) p .granules ≡ max (fileAt g d p .granules) (granulesFor (length (overwritten m (fileAt g d p .bytes) at r)))
-      many = own-granules g d₁ (x .sound) (x .fits) p (x .file) (x .user) m at r fit₁ ∙ rw long (own₁ ∙ maxed)
+      many = own-granules g d₁ (x .kept .sound) (x .kept .fits) p (x .kept .file) (x .kept .user) m at r fit₁ ∙ rw long (own₁ ∙ maxed)
         where
           maxed : length (owned g d p) + lacking g d p (granulesFor size₀) ≡ max (fileAt g d p .granules) (granulesFor size₀)
           maxed = unfold fileAt in omega arith
@@ -168,52 +168,52 @@ module _ (g : Geometry) (d d₁ : List ℕ) (p : ℕ) (m : Mode) (at : ℕ) (r :
   free₄ : length (freeGranules g d) + length (owned g d p) ≡ length (freeGranules g (img (sizeOf g d₁ p))) + length (owned g (img (sizeOf g d₁ p)) p)
   free₄ =
       let d₄ = img (sizeOf g d₁ p) in
-      let w = rewrites g d₁ (x .sound) (x .fits) p (x .file) (x .user) m at r fit₁ in
-      rw (Rewrite.rw-free g d₁ d₄ (x .sound) p (x .file) w, Rewrite.rw-owned g d₁ d₄ (x .sound) p (x .file) w) (omega (arith, x .free, own₁))
+      let w = rewrites g d₁ (x .kept .sound) (x .kept .fits) p (x .kept .file) (x .kept .user) m at r fit₁ in
+      rw (Rewrite.rw-free g d₁ d₄ (x .kept .sound) p (x .kept .file) w, Rewrite.rw-owned g d₁ d₄ (x .kept .sound) p (x .kept .file) w) (omega (arith, x .free, own₁))
 
   -- the stores: growth, then bytes of the granules owned, then the file's entry
   touch₄ : Touch g (chain g (img (sizeOf g d₁ p)) p) (owned g (img (sizeOf g d₁ p)) p) d (img (sizeOf g d₁ p))
   touch₄ =
       let d₄ = img (sizeOf g d₁ p) in let old = sizeOf g d₁ p in
-      let w = rewrites g d₁ (x .sound) (x .fits) p (x .file) (x .user) m at r fit₁ in
+      let w = rewrites g d₁ (x .kept .sound) (x .kept .fits) p (x .kept .file) (x .kept .user) m at r fit₁ in
       let xs = chain g d₁ p in let ns = owned g d₁ p in
-      let end₁ = end g d₁ (x .sound) (x .fits) p (x .file) (x .user) m at r fit₁ in
+      let end₁ = end g d₁ (x .kept .sound) (x .kept .fits) p (x .kept .file) (x .kept .user) m at r fit₁ in
       let grown′ : Touch g xs ns d d₁ = Touch.touch-more xs ns (λ y i. i) (λ n i. Members.none-in i) (x .touch) in
       let zeros : length {A = ℕ} (replicate (at - old) 0) ≡ at - old = length-replicate (at - old) 0 in
       let stored = Touch.touch-store g xs ns d (place g d₁ p) r at (λ j a b. Others.place-in g d₁ p j (omega arith))
       (Touch.touch-store g xs ns d (place g d₁ p) (replicate (at - old) 0) old (λ j a b. Others.place-in g d₁ p j (omega arith)) grown′) in
-      subst (λ (l : List ℕ). Touch g l (owned g d₄ p) d d₄) (sym (Rewrite.rw-chain g d₁ d₄ (x .sound) p (x .file) w))
-      (subst (λ (l : List ℕ). Touch g xs l d d₄) (sym (Rewrite.rw-owned g d₁ d₄ (x .sound) p (x .file) w))
-      (Touch.touch-size g xs ns d d₁ p (sizeAfter m old (at + length r)) (Change.chain-head g d₁ (x .sound) p (x .file .slot)) stored))
+      subst (λ (l : List ℕ). Touch g l (owned g d₄ p) d d₄) (sym (Rewrite.rw-chain g d₁ d₄ (x .kept .sound) p (x .kept .file) w))
+      (subst (λ (l : List ℕ). Touch g xs l d d₄) (sym (Rewrite.rw-owned g d₁ d₄ (x .kept .sound) p (x .kept .file) w))
+      (Touch.touch-size g xs ns d d₁ p (sizeAfter m old (at + length r)) (Change.chain-head g d₁ (x .kept .sound) p (x .kept .file .slot)) stored))
 
   user₄ : Sound g (img (sizeOf g d₁ p)) → T (not (system g (img (sizeOf g d₁ p)) p))
   user₄ s =
       let d₄ = img (sizeOf g d₁ p) in
-      let e : field g d₄ p 0 ≡ field g d₁ p 0 = kept g d₁ (x .sound) (x .fits) p (x .file) (x .user) m at r fit₁ 0 (omega arith) (record { flags = omega arith; ends = omega arith; low = omega arith; high = omega arith }) in
-      rw e (x .user)
+      let e : field g d₄ p 0 ≡ field g d₁ p 0 = kept g d₁ (x .kept .sound) (x .kept .fits) p (x .kept .file) (x .kept .user) m at r fit₁ 0 (omega arith) (record { flags = omega arith; ends = omega arith; low = omega arith; high = omega arith }) in
+      rw e (x .kept .user)
 
   pub wrote : Wrote g d (img (sizeOf g d₁ p)) p (writtenTo m at r (fileAt g d p))
   unfolding words
   wrote =
       let d₄ = img (sizeOf g d₁ p) in
-      let w = rewrites g d₁ (x .sound) (x .fits) p (x .file) (x .user) m at r fit₁ in
-      let h = change g d₁ (x .sound) (x .fits) p (x .file) (x .user) m at r fit₁ in
-      let s = Change.changed g d₁ d₄ (x .sound) p h in
-      let n = Rewrite.rw-name g d₁ d₄ (x .sound) p (x .file) w ∙ x .name in
+      let w = rewrites g d₁ (x .kept .sound) (x .kept .fits) p (x .kept .file) (x .kept .user) m at r fit₁ in
+      let h = change g d₁ (x .kept .sound) (x .kept .fits) p (x .kept .file) (x .kept .user) m at r fit₁ in
+      let s = Change.changed g d₁ d₄ (x .kept .sound) p h in
+      let n = Rewrite.rw-name g d₁ d₄ (x .kept .sound) p (x .kept .file) w ∙ x .kept .name in
       record {
-        long = simp (length-set, store-length) (x .long);
+        long = simp (length-set, store-length) (x .kept .long);
         consistent′ = Facts.back g d₄ s;
-        reserved′ = Others.reserved-stays g d₁ d₄ (x .sound) p h ∙ x .reserved′;
-        own = Named.plain-is g d₄ s p (nameOf g d p) (Rewrite.rw-file g d₁ d₄ (x .sound) p (x .file) w) n ∙ ap {B = Found} found written-file;
-        beyond′ = λ b q. Others.beyond-plain g d₁ d₄ (x .sound) p h (Rewrite.rw-same g d₁ d₄ (x .sound) p (x .file) w) b (λ z a. q (sym a ∙ x .name)) (λ z a. q (sym a ∙ n)) ∙ x .beyond′ b q;
-        names′ = λ b q. Others.names-stay g d₁ d₄ (x .sound) p h b (λ z a. q (sym a ∙ x .name)) (λ z a. q (sym a ∙ n)) ∙ x .names′ b q;
+        reserved′ = Others.reserved-stays g d₁ d₄ (x .kept .sound) p h ∙ x .kept .reserved′;
+        own = Named.plain-is g d₄ s p (nameOf g d p) (Rewrite.rw-file g d₁ d₄ (x .kept .sound) p (x .kept .file) w) n ∙ ap {B = Found} found written-file;
+        beyond′ = λ b q. Others.beyond-plain g d₁ d₄ (x .kept .sound) p h (Rewrite.rw-same g d₁ d₄ (x .kept .sound) p (x .kept .file) w) b (λ z a. q (sym a ∙ x .kept .name)) (λ z a. q (sym a ∙ n)) ∙ x .kept .beyond′ b q;
+        names′ = λ b q. Others.names-stay g d₁ d₄ (x .kept .sound) p h b (λ z a. q (sym a ∙ x .kept .name)) (λ z a. q (sym a ∙ n)) ∙ x .kept .names′ b q;
         touch = touch₄;
-        apart = λ n i. Change.filed-at g d₄ s p (Rewrite.rw-file g d₁ d₄ (x .sound) p (x .file) w) .off (user₄ s) n i;
+        apart = λ n i. Change.filed-at g d₄ s p (Rewrite.rw-file g d₁ d₄ (x .kept .sound) p (x .kept .file) w) .off (user₄ s) n i;
         free = free₄;
-        file′ = Rewrite.rw-file g d₁ d₄ (x .sound) p (x .file) w;
+        file′ = Rewrite.rw-file g d₁ d₄ (x .kept .sound) p (x .kept .file) w;
         name′ = n;
         told = written-file;
-        others = λ b q. Others.others-plain g d₁ d₄ (x .sound) p h (Rewrite.rw-same g d₁ d₄ (x .sound) p (x .file) w) b (λ z a. q (sym a ∙ x .name)) (λ z a. q (sym a ∙ n)) ∙ x .others b q;
+        others = λ b q. Others.others-plain g d₁ d₄ (x .kept .sound) p h (Rewrite.rw-same g d₁ d₄ (x .kept .sound) p (x .kept .file) w) b (λ z a. q (sym a ∙ x .kept .name)) (λ z a. q (sym a ∙ n)) ∙ x .kept .others b q;
       }
 
 -- the geometry fits an image of the same length

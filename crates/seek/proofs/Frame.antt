@@ -1,7 +1,8 @@
 -- Two images with the same HIT and entries: the same files at the same places. (The GAT and the data may differ.)
 use mathlib.Core.Path.{_≡_, refl, sym, ap, _∙_}
-use mathlib.Core.List.{List, [], _∷_, _++_}
-use mathlib.Core.Bool.{Bool, true, false, not, cond, _&&_}
+use mathlib.Core.List.{List, [], _∷_}
+use mathlib.Core.Bool.{Bool, true, false, not, cond}
+use mathlib.Core.Logic.{_⊎_, inl, inr}
 use Prim.Native.Nat.{ℕ, zero, suc, _+_, _-_, _*_, _/_, _%_, _≤_, _<_}
 use native.Mathlib.Omega.{arith}
 use native.Mathlib.Numerals.{add-one}
@@ -15,6 +16,9 @@ use Rattle.meaning.specs.Bits.{bit, withoutBit}
 use Rattle.meaning.specs.Entries.{inUse, extension, primary, marker, link, block, runs, runsFrom, runStart, runLength, runGranules, entryGranules, sizeOf}
 use Rattle.meaning.specs.Chain.{chainFrom, chain, owned, place}
 use Rattle.meaning.specs.declared.Geometry.{Geometry}
+use Rattle.laws.specs.Members.{In, none-in, in-cons, each-eq}
+use Rattle.laws.specs.Entry.{runs-le}
+use Rattle.laws.specs.Frame
 use Rattle.layout.specs.Room.{Room, Slot}
 use Rattle.layout.proofs.Laws.{gat-low}
 use Rattle.layout.proofs.Lists.{and-l}
@@ -30,18 +34,23 @@ pub opened : (g : Geometry) (d d′ : List ℕ) → getD d′ (256 * (g .start +
 unfolding directorySectors
 opened g d d′ q = ap (λ (k : ℕ). 10 + k) q
 
-runs-low : (g : Geometry) (d : List ℕ) (s left k : ℕ) → runsFrom g d s left k ≤ k + left
-unfolding runsFrom
-runs-low g d s zero k = omega arith
-runs-low g d s (suc left) k = by (runs-low g d s left (k + 1)) (eqb (block g d s k) 0xff)
-  where
-    by : runsFrom g d s left (k + 1) ≤ k + 1 + left → (t : Bool) → cond t k (runsFrom g d s left (k + 1)) ≤ k + suc left
-    by ih true = omega arith
-    by ih false = omega arith
+-- the length of the image and that of the directory are the same
+pub room-kept : (g : Geometry) (d d′ : List ℕ) → length d′ ≡ length d → directorySectors g d′ ≡ directorySectors g d → Room g d → Room g d′
+room-kept g d d′ l q r =
+    record {
+      blocks-low = r .blocks-low;
+      blocks-high = r .blocks-high;
+      units-low = r .units-low;
+      units-high = r .units-high;
+      most = r .most;
+      whole = l ∙ r .whole;
+      ten = rw q (r .ten);
+      thirty = rw q (r .thirty);
+      directory = rw q (r .directory);
+    }
 
-pub runs-four : (g : Geometry) (d : List ℕ) (s : ℕ) → runs g d s ≤ 4
-unfolding runs
-runs-four g d s = runs-low g d s 4 0
+pub slot-kept : (g : Geometry) (d d′ : List ℕ) {s : ℕ} → directorySectors g d′ ≡ directorySectors g d → Slot g d s → Slot g d′ s
+slot-kept g d d′ q sl = record { low = sl .low; held = rw q (sl .held) }
 
 pub same-refl : (g : Geometry) (d : List ℕ) → Same g d d
 same-refl g d = record { long = refl; bytes = λ a h l. refl }
@@ -51,21 +60,10 @@ module _ (g : Geometry) (d d′ : List ℕ) (r : Room g d) (e : Same g d d′) w
   same-sectors = opened g d d′ (e .bytes (256 * (g .start + 1) + 31) (omega arith) (let t = r .ten in omega arith))
 
   pub same-room : Room g d′
-  same-room =
-      record {
-        blocks-low = r .blocks-low;
-        blocks-high = r .blocks-high;
-        units-low = r .units-low;
-        units-high = r .units-high;
-        most = r .most;
-        whole = e .long ∙ r .whole;
-        ten = rw same-sectors (r .ten);
-        thirty = rw same-sectors (r .thirty);
-        directory = rw same-sectors (r .directory);
-      }
+  same-room = room-kept g d d′ (e .long) same-sectors r
 
   pub same-slot : {s : ℕ} → Slot g d s → Slot g d′ s
-  same-slot {s} sl = record { low = sl .low; held = rw same-sectors (sl .held) }
+  same-slot sl = slot-kept g d d′ same-sectors sl
 
   pub same-field : (s k : ℕ) → Slot g d s → k < 32 → field g d′ s k ≡ field g d s k
   unfolding field
@@ -76,16 +74,11 @@ module _ (g : Geometry) (d d′ : List ℕ) (r : Room g d) (e : Same g d d′) w
   pub same-used : {s : ℕ} → Used g d s → Used g d′ s
   same-used {s} u = record { slot = same-slot (u .slot); used = ap (bit 4) (same-field s 0 (u .slot) (omega arith)) ∙ u .used }
 
-  runs-from : (s : ℕ) → Slot g d s → (left k : ℕ) → k + left ≤ 4 → runsFrom g d′ s left k ≡ runsFrom g d s left k
-  unfolding runsFrom
-  runs-from s sl zero k h = refl
-  runs-from s sl (suc left) k h =
-      ap (λ (b : ℕ). cond (eqb b 0xff) k (runsFrom g d′ s left (k + 1))) (same-field s (0x16 + 2 * k) sl (omega arith))
-      ∙ ap (λ (b : ℕ). cond (eqb (block g d s k) 0xff) k b) (runs-from s sl left (k + 1) (omega arith))
+  agrees : (s : ℕ) → Slot g d s → Frame.Agree g d d′ s
+  agrees s sl k h = same-field s k sl h
 
   pub same-runs : (s : ℕ) → Slot g d s → runs g d′ s ≡ runs g d s
-  unfolding runs
-  same-runs s sl = runs-from s sl 4 0 (omega arith)
+  same-runs s sl = Frame.runs-eq g d d′ s (agrees s sl)
 
   pub same-start : (s k : ℕ) → Slot g d s → k < 4 → runStart g d′ s k ≡ runStart g d s k
   same-start s k sl h = rw (same-field s (0x16 + 2 * k) sl (omega arith), same-field s (0x17 + 2 * k) sl (omega arith))
@@ -93,39 +86,39 @@ module _ (g : Geometry) (d d′ : List ℕ) (r : Room g d) (e : Same g d d′) w
   pub same-len : (s k : ℕ) → Slot g d s → k < 4 → runLength g d′ s k ≡ runLength g d s k
   same-len s k sl h = rw (same-field s (0x17 + 2 * k) sl (omega arith))
 
-  each-same : (s : ℕ) → Slot g d s → (j n : ℕ) → j + n ≤ 4 → each (runGranules g d′ s) (count j n) ≡ each (runGranules g d s) (count j n)
-  each-same s sl j zero h = refl
-  each-same s sl j (suc n) h =
-      ap (λ (a : ℕ). count a (runLength g d′ s j) ++ each (runGranules g d′ s) (count (j + 1) n)) (same-start s j sl (omega arith))
-      ∙ ap (λ (a : ℕ). count (runStart g d s j) a ++ each (runGranules g d′ s) (count (j + 1) n)) (same-len s j sl (omega arith))
-      ∙ ap (λ (l : List ℕ). runGranules g d s j ++ l) (each-same s sl (j + 1) n (omega arith))
-
   pub same-entry : (s : ℕ) → Slot g d s → entryGranules g d′ s ≡ entryGranules g d s
-  unfolding entryGranules
-  same-entry s sl =
-      let h = runs-four g d s in
-      ap (λ (n : ℕ). each (runGranules g d′ s) (count 0 n)) (same-runs s sl) ∙ each-same s sl 0 (runs g d s) (omega arith)
+  same-entry s sl = Frame.entryGranules-eq g d d′ s (agrees s sl)
 
   pub same-slots : slots g d′ ≡ slots g d
   same-slots = slots-same g d d′ same-sectors
 
+-- every entry along a chain is in use
+used-along : (g : Geometry) (d : List ℕ) → Sound g d → (left s x : ℕ) → Used g d s → In x (chainFrom g d left s) → Used g d x
+unfolding chainFrom
+used-along g d snd zero s x u i = none-in i
+used-along g d snd (suc left) s x u i = by (λ w k. used-along g d snd left (link g d s) x w k) (in-cons i)
+  where
+    on : (Used g d (link g d s) → In x (chainFrom g d left (link g d s)) → Used g d x)
+        → (t : Bool) → eqb (marker g d s) 0xfe ≡ t → In x (cond t (chainFrom g d left (link g d s)) []) → Used g d x
+    on ih true q j = ih (snd .next s u (eqb-true (marker g d s) 0xfe q)) j
+    on ih false q j = none-in j
+
+    by : (Used g d (link g d s) → In x (chainFrom g d left (link g d s)) → Used g d x)
+        → (x ≡ s) ⊎ In x (cond (eqb (marker g d s) 0xfe) (chainFrom g d left (link g d s)) []) → Used g d x
+    by ih (inl q) = rw q u
+    by ih (inr j) = on ih (eqb (marker g d s) 0xfe) refl j
+
 module _ (g : Geometry) (d d′ : List ℕ) (snd : Sound g d) (e : Same g d d′) where
-  -- the granules along a chain
-  pub same-chain : (left s : ℕ) → Used g d s → each (entryGranules g d′) (chainFrom g d′ left s) ≡ each (entryGranules g d) (chainFrom g d left s)
-  unfolding chainFrom
-  same-chain zero s u = refl
-  same-chain (suc left) s u =
-      let r = snd .room in
-      ap (λ (l : List ℕ). l ++ each (entryGranules g d′) (cond (eqb (marker g d′ s) 0xfe) (chainFrom g d′ left (link g d′ s)) [])) (same-entry g d d′ r e s (u .slot))
-      ∙ ap (λ (m : ℕ). entryGranules g d s ++ each (entryGranules g d′) (cond (eqb m 0xfe) (chainFrom g d′ left (link g d′ s)) [])) (same-field g d d′ r e s 0x1e (u .slot) (omega arith))
-      ∙ ap (λ (m : ℕ). entryGranules g d s ++ each (entryGranules g d′) (cond (eqb (marker g d s) 0xfe) (chainFrom g d′ left m) [])) (same-field g d d′ r e s 0x1f (u .slot) (omega arith))
-      ∙ ap (λ (l : List ℕ). entryGranules g d s ++ l) (by (λ w. same-chain left (link g d s) w) (eqb (marker g d s) 0xfe) refl)
-    where
-      by : (Used g d (link g d s) → each (entryGranules g d′) (chainFrom g d′ left (link g d s)) ≡ each (entryGranules g d) (chainFrom g d left (link g d s)))
-          → (t : Bool) → eqb (marker g d s) 0xfe ≡ t
-          → each (entryGranules g d′) (cond t (chainFrom g d′ left (link g d s)) []) ≡ each (entryGranules g d) (cond t (chainFrom g d left (link g d s)) [])
-      by ih true q = ih (snd .next s u (eqb-true (marker g d s) 0xfe q))
-      by ih false q = refl
+  -- the entries of a chain, and their granules
+  pub same-slots-of : (left s : ℕ) → Used g d s → chainFrom g d′ left s ≡ chainFrom g d left s
+  same-slots-of left s u =
+      Frame.chainFrom-eq g d d′ left s (λ x i. let w = used-along g d snd left s x u i .slot in
+      (same-field g d d′ (snd .room) e x 0x1e w (omega arith), same-field g d d′ (snd .room) e x 0x1f w (omega arith)))
+
+  same-chain : (left s : ℕ) → Used g d s → each (entryGranules g d′) (chainFrom g d′ left s) ≡ each (entryGranules g d) (chainFrom g d left s)
+  same-chain left s u =
+      ap (each (entryGranules g d′)) (same-slots-of left s u)
+      ∙ each-eq (entryGranules g d′) (entryGranules g d) (chainFrom g d left s) (λ x i. same-entry g d d′ (snd .room) e x (used-along g d snd left s x u i .slot))
 
   pub same-owned : (s : ℕ) → Used g d s → owned g d′ s ≡ owned g d s
   unfolding owned chain
@@ -187,28 +180,13 @@ module _ (g : Geometry) (d d′ : List ℕ) (snd : Sound g d) (e : Same g d d′
         run = λ s k u l.
             let w = used-back u in
             let l′ : k < runs g d s = rw (same-runs g d d′ (snd .room) e s (w .slot)) at l in
-            let q = runs-four g d s in
+            let q = runs-le g d s in
             rw (same-start g d d′ (snd .room) e s k (w .slot) (omega arith), same-len g d d′ (snd .room) e s k (w .slot) (omega arith)) (snd .run s k w l′);
         size = λ s sl p.
             let w = slot-back sl in
             let p′ : primary g d s ≡ true = sym (primary-same s w) ∙ p in
             rw (size-same s w, same-owned g d d′ snd e s (record { slot = w; used = and-l (inUse g d s) (not (extension g d s)) p′ })) (snd .size s w p′);
       }
-
-module _ (g : Geometry) (d d′ : List ℕ) (snd : Sound g d) (e : Same g d d′) where
-  pub same-slots-of : (left s : ℕ) → Used g d s → chainFrom g d′ left s ≡ chainFrom g d left s
-  unfolding chainFrom
-  same-slots-of zero s u = refl
-  same-slots-of (suc left) s u =
-      let r = snd .room in
-      ap (λ (m : ℕ). s ∷ cond (eqb m 0xfe) (chainFrom g d′ left (link g d′ s)) []) (same-field g d d′ r e s 0x1e (u .slot) (omega arith))
-      ∙ ap (λ (m : ℕ). s ∷ cond (eqb (marker g d s) 0xfe) (chainFrom g d′ left m) []) (same-field g d d′ r e s 0x1f (u .slot) (omega arith))
-      ∙ ap (λ (l : List ℕ). s ∷ l) (by (λ w. same-slots-of left (link g d s) w) (eqb (marker g d s) 0xfe) refl)
-    where
-      by : (Used g d (link g d s) → chainFrom g d′ left (link g d s) ≡ chainFrom g d left (link g d s)) → (t : Bool) → eqb (marker g d s) 0xfe ≡ t
-          → cond t (chainFrom g d′ left (link g d s)) [] ≡ cond t (chainFrom g d left (link g d s)) []
-      by ih true q = ih (snd .next s u (eqb-true (marker g d s) 0xfe q))
-      by ih false q = refl
 
 -- granules given back, one after the other
 pub same-all : (g : Geometry) (d : List ℕ) (xs : List ℕ) → Room g d → Low (granules g) xs → Same g d (through (freeGranule g) d xs)

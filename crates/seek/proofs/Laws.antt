@@ -83,9 +83,6 @@ sought-past {r} xs ys k e h = ⊎-elim (λ p. past p) (λ p. absurd (never p)) (
         let z : false ≡ true = sym h ∙ ap (λ (q : Seek). q .here) (e ∙ in-here xs k p) in
         let y : _≡_ {A = ℕ} 0 1 = cc in omega arith
 
-pub sought-low : {r : Seek} (xs : List ℕ) (k : ℕ) → r ≡ seekIn xs k → r .here ≡ false → r .at ≤ k
-sought-low xs k e h = sought-past xs [] k e h .1
-
 -- the number of slots, for each length of a directory that there is
 slotsFor : ℕ → List ℕ
 slotsFor n = keep (λ s. all (ltb s 256 ∷ ltb (s % 32 + 2) n ∷ [])) (count 0 256)

@@ -19,7 +19,7 @@ use Rattle.meaning.specs.Free.{freeGranules}
 use Rattle.meaning.specs.declared.Geometry.{Geometry}
 use Rattle.layout.proofs.Laws.{digit-at, left-more, left-none}
 use Rattle.layout.proofs.Lists.{keep-yes, keep-no}
-use Rattle.seek.proofs.Below.{allBelow, all-below}
+use Rattle.seek.proofs.Below.{allBelow, all-below, alike, alike-eq}
 use Rattle.space.specs.Clear.{clearBits}
 
 pub shl-wide : (n : ℕ) → n ≤ 8 → 1 * 2 ^ n % 18446744073709551616 ≡ 2 ^ n
@@ -38,15 +38,6 @@ clear-ones (suc n) x =
     let ih = clear-ones n (x / 2) in
     omega arith
 
-alike : Bool → Bool → Bool
-alike a b = cond a b (not b)
-
-alike-eq : (a b : Bool) → alike a b ≡ true → a ≡ b
-unfolding alike
-alike-eq true b e = sym e
-alike-eq false true e = e
-alike-eq false false e = refl
-
 -- all of them are set, by computing every case
 unfoldable filled : ℕ → ℕ → Bool
 unfolding clearBits alike
@@ -59,6 +50,16 @@ filled-all = refl
 pub set-all : (n x : ℕ) → n ≤ 8 → x < 256 → eqb (x % 2 ^ n) (2 ^ n - 1) ≡ eqb (clearBits n x) 0
 unfolding filled
 set-all n x h l = alike-eq _ _ (all-below 256 (filled n) (all-below 9 (λ n. allBelow 256 (filled n)) filled-all n (omega arith)) x l)
+
+-- the granules of the blocks from b on are those of block b and the rest, and where the rest begins
+pub blocks-more : (blocks b units : ℕ) → b < blocks → (blocks - b) * units ≡ units + (blocks - (b + 1)) * units
+blocks-more blocks b units h =
+    let m = blocks - (b + 1) in
+    let c : blocks - b ≡ 1 + m = omega arith in
+    ap (λ (j : ℕ). j * units) c ∙ add-mul 1 m units ∙ ap (λ (j : ℕ). j + m * units) (one-mul units)
+
+pub block-next : (b units : ℕ) → b * units + units ≡ (b + 1) * units
+block-next b units = sym (add-mul b 1 units ∙ ap (λ (j : ℕ). b * units + j) (one-mul units))
 
 clear-of : (y : ℕ) → cond (eqb (y % 2) 1) 0 1 ≡ 1 - y % 2
 clear-of y = by (ℕ-discrete (y % 2) 1)
@@ -170,15 +171,12 @@ module _ (g : Geometry) (d : List ℕ) where
   freeing-step {b} {n} {k} {x} some f h p q =
       let units = g .units in
       let m = g .blocks - (b + 1) in
-      let c : g .blocks - b ≡ 1 + m = omega arith in
-      let e : (g .blocks - b) * units ≡ units + m * units = ap (λ (j : ℕ). j * units) c ∙ add-mul 1 m units ∙ ap (λ (j : ℕ). j + m * units) (one-mul units) in
-      let a : b * units + units ≡ (b + 1) * units = sym (add-mul b 1 units ∙ ap (λ (j : ℕ). b * units + j) (one-mul units)) in
       let w : k ≡ freeIn (b * units) units = q ∙ ap (clearBits units) p ∙ sym (free-block some b) in
       let z : n + (k + freeIn ((b + 1) * units) (m * units)) ≡ n + k + freeIn ((b + 1) * units) (m * units) = omega arith in
       record {
         rest =
-            f .rest ∙ ap (λ (j : ℕ). n + freeIn (b * units) j) e ∙ ap (λ (j : ℕ). n + j) (free-append (b * units) units (m * units))
-            ∙ ap (λ (j : ℕ). n + (freeIn (b * units) units + freeIn j (m * units))) a
+            f .rest ∙ ap (λ (j : ℕ). n + freeIn (b * units) j) (blocks-more (g .blocks) b units h) ∙ ap (λ (j : ℕ). n + j) (free-append (b * units) units (m * units))
+            ∙ ap (λ (j : ℕ). n + (freeIn (b * units) units + freeIn j (m * units))) (block-next b units)
             ∙ ap (λ (j : ℕ). n + (j + freeIn ((b + 1) * units) (m * units))) (sym w) ∙ z;
       }
 

@@ -20,7 +20,7 @@ use Rattle.layout.specs.Room.{Room, Slot}
 use Rattle.layout.proofs.Laws.{left-more, left-none}
 use Rattle.seek.specs.Seek.{Sound, Used, onward}
 use Rattle.seek.proofs.Laws.{chain-more, chain-none, slots-length}
-use Rattle.seek.proofs.Frame.{opened, Same, same-refl, same-trans, same-free, same-room, same-field, same-entry, same-sound, same-slots, same-all, same-used, same-slots-of}
+use Rattle.seek.proofs.Frame.{opened, room-kept, slot-kept, Same, same-refl, same-trans, same-free, same-room, same-field, same-entry, same-sound, same-slots, same-all, same-used, same-slots-of}
 use Rattle.seek.proofs.Sound.{low-entry, low-chain}
 
 pub through-append : (f : List ℕ → ℕ → List ℕ) (x : List ℕ) (xs ys : List ℕ) → through f x (xs ++ ys) ≡ through f (through f x xs) ys
@@ -144,21 +144,10 @@ module _ (g : Geometry) where
     pub fields : (x k : ℕ) → Slot g d x → 1 ≤ k → k < 32 → field g d′ x k ≡ field g d x k
 
   pub kept-room : {d d′ : List ℕ} → Room g d → Kept d d′ → Room g d′
-  kept-room {d} {d′} r e =
-      record {
-        blocks-low = r .blocks-low;
-        blocks-high = r .blocks-high;
-        units-low = r .units-low;
-        units-high = r .units-high;
-        most = r .most;
-        whole = e .long ∙ r .whole;
-        ten = rw (e .sectors) (r .ten);
-        thirty = rw (e .sectors) (r .thirty);
-        directory = rw (e .sectors) (r .directory);
-      }
+  kept-room {d} {d′} r e = room-kept g d d′ (e .long) (e .sectors) r
 
   pub kept-slot : {d d′ : List ℕ} {s : ℕ} → Kept d d′ → Slot g d s → Slot g d′ s
-  kept-slot e sl = record { low = sl .low; held = rw (e .sectors) (sl .held) }
+  kept-slot {d} {d′} e sl = slot-kept g d d′ (e .sectors) sl
 
   kept-trans : {d d′ d″ : List ℕ} → Kept d d′ → Kept d′ d″ → Kept d d″
   kept-trans e f =

@@ -187,7 +187,8 @@ pub fn block_taken(image: &[u8], g: Geometry, n: usize) -> bool
     all_set(layout::wide(image[256 * g.start + n / g.units]), g.units)
 }
 
-// How many granules are free, by one pass over the GAT.
+// How many granules are free, by one pass over the GAT, a byte at a time: the calls that take or list granules ask for the number alone,
+// and the pass of the crate gat, which goes bit by bit for the longest stretch, would cost them its time.
 pub fn free_count(image: &[u8], g: Geometry) -> usize
     requires { ⌜ Room g (now image) ⌝ }
     ensures { λ r. ⌜ r ≡ length (freeGranules g (now (image .entry))) ⌝ }

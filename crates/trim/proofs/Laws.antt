@@ -20,6 +20,7 @@ use Rattle.meaning.specs.declared.Geometry.{Geometry}
 use Rattle.meaning.specs.declared.Handle.{Handle}
 use Rattle.meaning.specs.declared.Answer.{Answer}
 use Rattle.laws.specs.Members
+use Rattle.laws.specs.Entry.{runs-le}
 use Rattle.laws.specs.Shorter
 use Rattle.laws.specs.DropLast
 use Rattle.laws.specs.Steps.{Ready, drop-ready}
@@ -28,7 +29,6 @@ use Rattle.layout.proofs.Laws.{gat-low, digit-at}
 use Rattle.layout.proofs.Sound.{slot-yes}
 use Rattle.handle.proofs.Laws.{passed, passed-user}
 use Rattle.seek.specs.Seek.{Sound, Used}
-use Rattle.seek.proofs.Frame.{runs-four}
 use Rattle.joint.proofs.Ready.{walks}
 use Rattle.trim.specs.Last.{Last, Bit}
 use Rattle.trim.proofs.Step
@@ -54,7 +54,7 @@ module _ (g : Geometry) (d : List ℕ) (p e : ℕ) (l : Last g d p e 1) where
 
   -- it has a run
   pub last-run : (1 ≤ runs g d e) × (runs g d e ≤ 4)
-  last-run = (rw (l .last) (Step.some-run g d p (l .ready) size), runs-four g d e)
+  last-run = (rw (l .last) (Step.some-run g d p (l .ready) size), runs-le g d e)
 
   pub last-before : extension g d e ≡ true → Slot g d (field g d e 1)
   last-before x = rw (l .last) (Step.before-used g d p (l .ready) (rw (l .last) at x))
@@ -169,15 +169,15 @@ module _ (g : Geometry) (d : List ℕ) (h : Handle) where
   trim-reads r = let w = walks g d (h .slot) r in (w .0 .room, w .1 .slot)
 
   -- the size needs no more granules than are owned
-  pub needs-owned : {n size : ℕ} → Ready g d (h .slot) → n ≡ length (owned g d (h .slot)) → size ≡ sizeOf g d (h .slot) → granulesFor size ≤ n
-  needs-owned {n} {size} r a b =
+  pub needs-owned : {n size k : ℕ} → Ready g d (h .slot) → n ≡ length (owned g d (h .slot)) → size ≡ sizeOf g d (h .slot) → k ≡ granulesFor size → k ≤ n
+  needs-owned {n} {size} {k} r a b c =
       let w = walks g d (h .slot) r in
       let f = w .0 .size (h .slot) (w .1 .slot) (r .first) in
       omega arith
 
-  pub trim-last : {e n size : ℕ} → Ready g d (h .slot) → e ≡ tail g (h .slot) d → n ≡ length (owned g d (h .slot)) → size ≡ sizeOf g d (h .slot)
-      → Last g d (h .slot) e (n - granulesFor size)
-  trim-last {e} {n} {size} r q a b =
+  pub trim-last : {e n size k : ℕ} → Ready g d (h .slot) → e ≡ tail g (h .slot) d → n ≡ length (owned g d (h .slot)) → size ≡ sizeOf g d (h .slot) → k ≡ granulesFor size
+      → Last g d (h .slot) e (n - k)
+  trim-last {e} {n} {size} {k} r q a b c =
       let w = walks g d (h .slot) r in
       let f = w .0 .size (h .slot) (w .1 .slot) (r .first) in
       record { ready = r; last = q; room = omega arith }
@@ -191,8 +191,8 @@ module _ (g : Geometry) (d : List ℕ) (h : Handle) where
   unfolding trim
   kept e z q f = rw (← e, z, bit-yes 7 q f)
 
-  pub trimmed : {n x m size : ℕ} {d′ : List ℕ} → n ≡ first (trimRefusals g d h) → n ≡ 0 → x ≡ field g d (h .slot) 1 → (x / 2 ^ 7 % 2 ≡ 1 → ⊥)
-      → m ≡ length (owned g d (h .slot)) → size ≡ sizeOf g d (h .slot) → d′ ≡ times (m - granulesFor size) (dropOne g (h .slot)) d
+  pub trimmed : {n x m size k : ℕ} {d′ : List ℕ} → n ≡ first (trimRefusals g d h) → n ≡ 0 → x ≡ field g d (h .slot) 1 → (x / 2 ^ 7 % 2 ≡ 1 → ⊥)
+      → m ≡ length (owned g d (h .slot)) → size ≡ sizeOf g d (h .slot) → k ≡ granulesFor size → d′ ≡ times (m - k) (dropOne g (h .slot)) d
       → _≡_ {A = Answer × List ℕ} (record { number = 0; handle = h }, d′) (trim g d h)
   unfolding trim
-  trimmed e z q f a b w = rw (← e, z, bit-no 7 q f, w, a, b)
+  trimmed e z q f a b c w = rw (← e, z, bit-no 7 q f, w, a, c, b)

@@ -117,7 +117,7 @@ pub fn trim_checked(image: &mut [u8], g: Geometry, h: Handle, checked: u8) -> An
         };
     }
     let size = layout::size_of(image, g, h.slot);
-    let needed = (size + (layout::GRANULE_BYTES - 1)) / layout::GRANULE_BYTES;
+    let needed = growth::granules_for(size);
     let extent = growth::measure(image, g, h.slot);
     drop_last(image, g, h.slot, extent.last, extent.owned - needed);
     Answer {

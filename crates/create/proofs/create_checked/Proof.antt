@@ -1,6 +1,6 @@
 use Rattle.layout.proofs.Sound.{entry-fits}
 use Rattle.create.proofs.Laws.{told, opened, made, by-check, by-range, by-name, by-code, is-old, by-slot, is-new, slot-none, slot-some}
-use Rattle.find.proofs.Name.{well-length}
+use Rattle.layout.proofs.Laws.{well-length}
 use Rattle.find.proofs.Laws.{finds-none, finds-one}
 use Rattle.handle.proofs.Laws.{checked, checked-room}
 use Rattle.layout.proofs.Lists.{is-yes, is-no, not-yes, not-no}

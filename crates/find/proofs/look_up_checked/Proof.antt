@@ -1,5 +1,5 @@
 use Rattle.find.proofs.Laws.{told, told-stop, finds-none, finds-one}
-use Rattle.find.proofs.Name.{well-length}
+use Rattle.layout.proofs.Laws.{well-length}
 use Rattle.handle.proofs.Laws.{checked, checked-room, check-then}
 use Rattle.layout.proofs.Lists.{first-hit, first-skip, first-none, is-no, is-yes, not-no, not-yes}
 use Rattle.meaning.specs.Lists.{firstOr}

@@ -1,6 +1,6 @@
 use Rattle.find.proofs.Open.{open-refused, open-accepted, admitted}
 use Rattle.find.proofs.Laws.{finds-none, finds-one}
-use Rattle.find.proofs.Name.{well-length}
+use Rattle.layout.proofs.Laws.{well-length}
 use Rattle.handle.proofs.Laws.{checked, checked-room, check-stop, check-then}
 use Rattle.layout.proofs.Lists.{first-hit, first-skip, first-none, is-no, is-yes, not-no, not-yes}
 use borrow.Author.Tests.{not-false}

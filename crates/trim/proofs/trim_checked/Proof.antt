@@ -1,12 +1,12 @@
-use Rattle.trim.proofs.Laws.{by-range, trim-ready, trim-reads, needs-owned, trim-last, refused, kept, trimmed}
-use Rattle.joint.proofs.Ready.{walks}
-use mathlib.Core.Path.{_≡_}
 use native.Mathlib.Omega.{arith}
+use Rattle.joint.proofs.Ready.{walks}
+use Rattle.trim.proofs.Laws.{by-range, trim-ready, trim-reads, needs-owned, trim-last, refused, kept, trimmed}
 use borrow.Author.Needs.{needs}
 use Rattle.trim.proofs.trim_checked.Statement.{statement}
 use Rattle.trim.proofs.trim_checked.Tie as tie
 use Rattle.trim.proofs.trim_checked.Reads as reads
 use Rattle.trim.proofs.trim_checked.Lts as lts
+use Rattle.growth.proofs.granules_for.Reads as granules-for-reads
 use Rattle.growth.proofs.measure.Reads as measure-reads
 use Rattle.handle.proofs.changing_number.Reads as changing-number-reads
 use Rattle.handle.proofs.in_range.Reads as in-range-reads
@@ -46,25 +46,21 @@ returns-2 c = kept _ _ _ (by-range _ _ _ (c .before .before .before .before .bef
 size-of-requires : tie.Need-size-of-requires
 size-of-requires c κs = let a = c .before .before .before .before .before .before .before .before .before .args in trim-reads (a .g) (a .image .now) (a .h) (trim-ready (a .g) (a .image .now) (a .h) (c .before .before .before .before .before .before .before .in-range .result) (c .before .before .before .before .before .changing-number .ensures) (c .before .before .before .before .if1 .left))
 
--- src/lib.rt:120:27
-sub-needed : tie.Need-sub-needed
-sub-needed c = search needs
-
--- src/lib.rt:120:19
-add-needed : tie.Need-add-needed
-add-needed c = search needs
+-- src/lib.rt:120:9
+granules-for-requires : tie.Need-granules-for-requires
+granules-for-requires c κs = omega (arith, c .size-of .ensures .small)
 
 -- src/lib.rt:121:9
 measure-requires : tie.Need-measure-requires
-measure-requires c κs = let a = c .before .before .before .before .before .before .before .before .before .before .before .args in walks (a .g) (a .image .now) (a .h .slot) (trim-ready (a .g) (a .image .now) (a .h) (c .before .before .before .before .before .before .before .before .before .in-range .result) (c .before .before .before .before .before .before .before .changing-number .ensures) (c .before .before .before .before .before .before .if1 .left))
+measure-requires c κs = let a = c .before .before .before .before .before .before .before .before .before .before .before .before .args in walks (a .g) (a .image .now) (a .h .slot) (trim-ready (a .g) (a .image .now) (a .h) (c .before .before .before .before .before .before .before .before .before .before .in-range .result) (c .before .before .before .before .before .before .before .before .changing-number .ensures) (c .before .before .before .before .before .before .before .if1 .left))
 
 -- src/lib.rt:122:46
 sub-drop-last : tie.Need-sub-drop-last
-sub-drop-last c = let a = c .before .before .before .before .before .before .before .before .before .before .before .before .before .before .args in needs-owned (a .g) (a .image .now) (a .h) (trim-ready (a .g) (a .image .now) (a .h) (c .before .before .before .before .before .before .before .before .before .before .before .before .in-range .result) (c .before .before .before .before .before .before .before .before .before .before .changing-number .ensures) (c .before .before .before .before .before .before .before .before .before .if1 .left)) (c .before .before .measure .ensures .many) (c .before .before .before .before .size-of .ensures .is)
+sub-drop-last c = let a = c .before .before .before .before .before .before .before .before .before .before .before .before .before .before .before .args in needs-owned (a .g) (a .image .now) (a .h) (trim-ready (a .g) (a .image .now) (a .h) (c .before .before .before .before .before .before .before .before .before .before .before .before .before .in-range .result) (c .before .before .before .before .before .before .before .before .before .before .before .changing-number .ensures) (c .before .before .before .before .before .before .before .before .before .before .if1 .left)) (c .before .before .measure .ensures .many) (c .before .before .before .before .before .size-of .ensures .is) (c .before .before .before .before .granules-for .ensures)
 
 -- src/lib.rt:122:5
 drop-last-requires : tie.Need-drop-last-requires
-drop-last-requires c κs = let a = c .before .before .before .before .before .before .before .before .before .before .before .before .before .before .args in trim-last (a .g) (a .image .now) (a .h) (trim-ready (a .g) (a .image .now) (a .h) (c .before .before .before .before .before .before .before .before .before .before .before .before .in-range .result) (c .before .before .before .before .before .before .before .before .before .before .changing-number .ensures) (c .before .before .before .before .before .before .before .before .before .if1 .left)) (c .before .before .measure .ensures .last) (c .before .before .measure .ensures .many) (c .before .before .before .before .size-of .ensures .is)
+drop-last-requires c κs = let a = c .before .before .before .before .before .before .before .before .before .before .before .before .before .before .before .args in trim-last (a .g) (a .image .now) (a .h) (trim-ready (a .g) (a .image .now) (a .h) (c .before .before .before .before .before .before .before .before .before .before .before .before .before .in-range .result) (c .before .before .before .before .before .before .before .before .before .before .before .changing-number .ensures) (c .before .before .before .before .before .before .before .before .before .before .if1 .left)) (c .before .before .measure .ensures .last) (c .before .before .measure .ensures .many) (c .before .before .before .before .before .size-of .ensures .is) (c .before .before .before .before .granules-for .ensures)
 
 -- src/lib.rt:103:1
 same-length-3 : tie.Need-same-length-3
@@ -72,7 +68,7 @@ same-length-3 c = search needs
 
 -- src/lib.rt:103:1
 returns-3 : tie.Need-returns-3
-returns-3 c = trimmed _ _ _ (by-range _ _ _ (c .before .before .before .before .before .before .before .before .before .before .before .before .before .before .before .in-range .ensures) (c .before .before .before .before .before .before .before .before .before .before .before .before .before .changing-number .ensures)) (c .before .before .before .before .before .before .before .before .before .before .before .before .if1 .left) (c .before .before .before .before .before .before .before .before .before .before .field .ensures .is) (c .before .before .before .before .before .before .before .before .before .if2 .left) (c .before .before .before .before .before .measure .ensures .many) (c .before .before .before .before .before .before .before .size-of .ensures .is) (c .before .before .drop-last .ensures)
+returns-3 c = trimmed _ _ _ (by-range _ _ _ (c .before .before .before .before .before .before .before .before .before .before .before .before .before .before .before .before .in-range .ensures) (c .before .before .before .before .before .before .before .before .before .before .before .before .before .before .changing-number .ensures)) (c .before .before .before .before .before .before .before .before .before .before .before .before .before .if1 .left) (c .before .before .before .before .before .before .before .before .before .before .before .field .ensures .is) (c .before .before .before .before .before .before .before .before .before .before .if2 .left) (c .before .before .before .before .before .measure .ensures .many) (c .before .before .before .before .before .before .before .before .size-of .ensures .is) (c .before .before .before .before .before .before .before .granules-for .ensures) (c .before .before .drop-last .ensures)
 
 pub trim-checked-spec : {M : Type 1} → statement M
 trim-checked-spec =
@@ -86,8 +82,7 @@ trim-checked-spec =
     same-length-2
     returns-2
     size-of-requires
-    sub-needed
-    add-needed
+    granules-for-requires
     measure-requires
     sub-drop-last
     drop-last-requires
