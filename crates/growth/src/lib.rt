@@ -81,19 +81,19 @@ pub fn measure(image: &[u8], g: Geometry, s: usize) -> Extent
     Extent { last, owned }
 }
 
-// Whether fewer than k granules are free.
+// Whether fewer than k granules are free. From the last block on: growth takes the lowest granules, so that free ones are met soonest there.
 fn too_few(image: &[u8], g: Geometry, k: usize) -> bool
     requires { ⌜ Room g (now image) ⌝ }
     ensures { λ r. ⌜ r ≡ ltb (length (freeGranules g (now (image .entry)))) k ⌝ }
 {
     let mut n = 0;
-    let mut b = 0;
-    while b < g.blocks {
+    let mut b = g.blocks;
+    while 0 < b {
         if k <= n {
             return false;
         }
+        b -= 1;
         n = n + space::clear_bits(layout::wide(image[256 * g.start + b]), g.units);
-        b += 1;
     }
     n < k
 }

@@ -14,6 +14,7 @@ use Rattle.meaning.specs.Lists.{through}
 use Rattle.meaning.specs.Names.{rotate, mix}
 use Rattle.layout.proofs.Lists.{and-l, and-r}
 use Rattle.seek.proofs.Below.{allBelow, all-below}
+use Rattle.names.specs.Short.{fourBlanks}
 use Rattle.names.proofs.Mixing.{through-more}
 
 -- ---- exclusive-or is associative
@@ -92,6 +93,16 @@ three-turns h p = eqb-true _ _ (and-l _ _ (all-below 256 turning turning-all h p
 pub eight-turns : (h : ℕ) → h < 256 → turns 8 h ≡ h
 eight-turns h p = eqb-true _ _ (and-r (eqb (h % 32 * 8 + h / 32) (turns 3 h)) _ (all-below 256 turning turning-all h p))
 
+abbrev backwards : ℕ → Bool
+backwards h = eqb (h % 2 * 128 + h / 2) (turns 7 h)
+
+backwards-all : allBelow 256 backwards ≡ true
+backwards-all = refl
+
+-- seven turns are one to the right
+pub seven-turns : (h : ℕ) → h < 256 → h % 2 * 128 + h / 2 ≡ turns 7 h
+seven-turns h p = eqb-true _ _ (all-below 256 backwards backwards-all h p)
+
 -- ---- what a run does to a value
 
 pub mix-lt : (h x : ℕ) → h < 256 → x < 256 → mix h x < 256
@@ -163,19 +174,46 @@ one-more {c} {m} {d} x w p e =
     }
 
 -- Three bytes were turned five times too often; three turns more, and they are as they were, and what they were beside has made way for three bytes.
-pub type-last : {c m : ℕ} (x y z : ℕ) → x < 256 → y < 256 → z < 256 → Beside c m (turns 5 (through mix 0 (x ∷ y ∷ z ∷ []))) → c % 32 * 8 + c / 32 ≡ through mix m (x ∷ y ∷ z ∷ [])
-type-last {c} {m} x y z p q r w =
-    let t = through mix 0 (x ∷ y ∷ z ∷ []) in
-    let tl : t < 256 = mix-lt (mix (mix 0 x) y) z (mix-lt (mix 0 x) y (rotate-lt x p) q) r in
-    let cl : c < 256 = subst (λ (k : ℕ). k < 256) (sym (w .is)) (xor-lt 8 m (turns 5 t) (w .one) (w .other)) in
-    three-turns c cl ∙ ap (turns 3) (w .is) ∙ turns-xor 3 m (turns 5 t) (w .one) (w .other) ∙ ap (bitXor (turns 3 m)) (eight-turns t tl)
-    ∙ sym (run m (x ∷ y ∷ z ∷ []) (w .one) small)
+three-low : (x y z : ℕ) → x < 256 → y < 256 → z < 256 → through mix 0 (x ∷ y ∷ z ∷ []) < 256
+three-low x y z p q r = mix-lt (mix (mix 0 x) y) z (mix-lt (mix 0 x) y (rotate-lt x p) q) r
+
+three-run : (m x y z : ℕ) → m < 256 → x < 256 → y < 256 → z < 256
+    → through mix m (x ∷ y ∷ z ∷ []) ≡ bitXor (turns 3 m) (through mix 0 (x ∷ y ∷ z ∷ []))
+three-run m x y z l p q r = run m (x ∷ y ∷ z ∷ []) l small
   where
     small : (i : ℕ) → getD (x ∷ y ∷ z ∷ []) i 0 < 256
     small zero = p
     small (suc zero) = q
     small (suc (suc zero)) = r
     small (suc (suc (suc i))) = omega arith
+
+pub type-last : {c m : ℕ} (x y z : ℕ) → x < 256 → y < 256 → z < 256 → Beside c m (turns 5 (through mix 0 (x ∷ y ∷ z ∷ []))) → c % 32 * 8 + c / 32 ≡ through mix m (x ∷ y ∷ z ∷ [])
+type-last {c} {m} x y z p q r w =
+    let t = through mix 0 (x ∷ y ∷ z ∷ []) in
+    let cl : c < 256 = subst (λ (k : ℕ). k < 256) (sym (w .is)) (xor-lt 8 m (turns 5 t) (w .one) (w .other)) in
+    three-turns c cl ∙ ap (turns 3) (w .is) ∙ turns-xor 3 m (turns 5 t) (w .one) (w .other) ∙ ap (bitXor (turns 3 m)) (eight-turns t (three-low x y z p q r))
+    ∙ sym (three-run m x y z (w .one) p q r)
+
+-- the number that four blanks bring in, turned by the type's three bytes as well
+abbrev pub blanksTurned : ℕ
+blanksTurned = turns 3 (through mix 0 (replicate 4 0x20))
+
+-- The same where four blanks come between: the run of blanks turns the value four times, and brings in its number.
+pub short-last : {c m : ℕ} (x y z : ℕ) → x < 256 → y < 256 → z < 256 → Beside c m (turns 1 (through mix 0 (x ∷ y ∷ z ∷ [])))
+    → bitXor (c % 2 * 128 + c / 2) blanksTurned ≡ through mix (through mix m (replicate 4 0x20)) (x ∷ y ∷ z ∷ [])
+short-last {c} {m} x y z p q r w =
+    let t = through mix 0 (x ∷ y ∷ z ∷ []) in
+    let k = through mix 0 (replicate 4 0x20) in
+    let cl : c < 256 = subst (λ (j : ℕ). j < 256) (sym (w .is)) (xor-lt 8 m (turns 1 t) (w .one) (w .other)) in
+    let kl : k < 256 = omega arith in
+    let f : turns 4 m < 256 = turns-lt 4 m (w .one) in
+    let b : through mix m (replicate 4 0x20) ≡ bitXor (turns 4 m) k = run-of-blanks 4 m (w .one) in
+    let bl : through mix m (replicate 4 0x20) < 256 = subst (λ (j : ℕ). j < 256) (sym b) (xor-lt 8 (turns 4 m) k f kl) in
+    ap (λ (j : ℕ). bitXor j blanksTurned) (seven-turns c cl ∙ ap (turns 7) (w .is) ∙ turns-xor 7 m (turns 1 t) (w .one) (w .other)
+    ∙ ap (bitXor (turns 7 m)) (eight-turns t (three-low x y z p q r)))
+    ∙ xor-assoc (turns 7 m) t blanksTurned ∙ ap (bitXor (turns 7 m)) (xor-comm t blanksTurned) ∙ sym (xor-assoc (turns 7 m) blanksTurned t)
+    ∙ ap (λ (j : ℕ). bitXor j t) (sym (turns-xor 3 (turns 4 m) k f kl) ∙ ap (turns 3) (sym b))
+    ∙ sym (three-run (through mix m (replicate 4 0x20)) x y z bl p q r)
 
 pub name-bytes : (n : List ℕ) → length n ≡ 11
     → through mix 0 n
@@ -188,3 +226,23 @@ name-bytes n e =
     ∙ through-more n _ 4 (omega arith) ∙ through-more n _ 5 (omega arith) ∙ through-more n _ 6 (omega arith) ∙ through-more n _ 7 (omega arith)
     ∙ through-more n _ 8 (omega arith) ∙ through-more n _ 9 (omega arith) ∙ through-more n _ 10 (omega arith)
     ∙ ap (through mix _) (drop-of-length-le n {i = 11} (omega arith))
+
+four-bytes : (m x y z u : ℕ) → x ≡ 0x20 → y ≡ 0x20 → z ≡ 0x20 → u ≡ 0x20 → through mix m (x ∷ y ∷ z ∷ u ∷ []) ≡ through mix m (replicate 4 0x20)
+four-bytes m x y z u a b c d =
+    ap (λ (k : ℕ). through mix m (k ∷ y ∷ z ∷ u ∷ [])) a ∙ ap (λ (k : ℕ). through mix m (0x20 ∷ k ∷ z ∷ u ∷ [])) b
+    ∙ ap (λ (k : ℕ). through mix m (0x20 ∷ 0x20 ∷ k ∷ u ∷ [])) c ∙ ap (λ (k : ℕ). through mix m (0x20 ∷ 0x20 ∷ 0x20 ∷ k ∷ [])) d
+
+pub short-bytes : (n : List ℕ) → length n ≡ 11 → fourBlanks n ≡ true
+    → through mix (through mix (through mix 0 (getD n 0 0 ∷ getD n 1 0 ∷ getD n 2 0 ∷ getD n 3 0 ∷ [])) (replicate 4 0x20)) (getD n 8 0 ∷ getD n 9 0 ∷ getD n 10 0 ∷ [])
+    ≡ through mix 0 n
+short-bytes n e s =
+    let a4 = eqb-true (getD n 4 0) 0x20 (and-l _ _ s) in
+    let s5 = and-r (eqb (getD n 4 0) 0x20) _ s in
+    let a5 = eqb-true (getD n 5 0) 0x20 (and-l _ _ s5) in
+    let s6 = and-r (eqb (getD n 5 0) 0x20) _ s5 in
+    let a6 = eqb-true (getD n 6 0) 0x20 (and-l _ _ s6) in
+    let s7 = and-r (eqb (getD n 6 0) 0x20) _ s6 in
+    let a7 = eqb-true (getD n 7 0) 0x20 (and-l _ _ s7) in
+    let m = through mix 0 (getD n 0 0 ∷ getD n 1 0 ∷ getD n 2 0 ∷ getD n 3 0 ∷ []) in
+    sym (name-bytes n e ∙ ap (λ (k : ℕ). through mix k (getD n 8 0 ∷ getD n 9 0 ∷ getD n 10 0 ∷ []))
+    (four-bytes m (getD n 4 0) (getD n 5 0) (getD n 6 0) (getD n 7 0) a4 a5 a6 a7))

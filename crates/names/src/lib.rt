@@ -12,6 +12,7 @@ ghost use Rattle.meaning.specs.Entries.{primary, nameOf};
 ghost use Rattle.meaning.specs.Chain.{files};
 ghost use Rattle.meaning.specs.Consistent.{namesDiffer};
 ghost use Rattle.layout.specs.Room.{Room, Slot, Below};
+ghost use Rattle.names.specs.Short.{fourBlanks};
 ghost use Rattle.names.specs.Buckets.{Hashed, Buckets, Linked, bucket, unlike, Joined, Differing, Visited};
 
 // A byte turned left by one.
@@ -34,7 +35,25 @@ fn all_mixed(bytes: &[u8]) -> u8
     h
 }
 
+// Whether the second half of a name is blank: a short name, of four bytes at the most.
+fn four_blanks(name: &[u8]) -> bool
+    requires { ⌜ length (now name) ≡ 11 ⌝ }
+    ensures { λ r. ⌜ r ≡ fourBlanks (now (name .entry)) ⌝ }
+{
+    if name[4] != 0x20 {
+        return false;
+    }
+    if name[5] != 0x20 {
+        return false;
+    }
+    if name[6] != 0x20 {
+        return false;
+    }
+    name[7] == 0x20
+}
+
 // The eleven bytes of a name. Eight turns leave a byte as it was, so the three of type turn as the first three of name do, and go in with them.
+// Four blanks turn a value four times and bring in C3H; with the type's three turns that is seven turns, or one to the right, and 1EH.
 fn name_mixed(name: &[u8]) -> u8
     requires { ⌜ length (now name) ≡ 11 ⌝ }
     ensures { λ r. ⌜ r ≡ through mix 0 (now (name .entry)) ⌝ }
@@ -43,6 +62,9 @@ fn name_mixed(name: &[u8]) -> u8
     let h = turned(h ^ name[1] ^ name[9]);
     let h = turned(h ^ name[2] ^ name[10]);
     let h = turned(h ^ name[3]);
+    if four_blanks(name) {
+        return (h % 2 * 128 + h / 2) ^ 0x1e;
+    }
     let h = turned(h ^ name[4]);
     let h = turned(h ^ name[5]);
     let h = turned(h ^ name[6]);

@@ -185,3 +185,31 @@ module _ (g : Geometry) (d : List ℕ) where
       sym
       (f .rest ∙ ap (λ (j : ℕ). n + freeIn (b * g .units) (j * g .units)) (left-none h)
       ∙ ap (λ (j : ℕ). n + freeIn (b * g .units) j) (zero-mul (g .units)) ∙ ap (λ (j : ℕ). n + j) (free-none (b * g .units)) ∙ add-zero n)
+
+  -- the blocks from b on are done, n granules of them are free
+  pub record Freed (b n : ℕ) : Type 0 where
+    pub rest : length (freeGranules g d) ≡ freeIn 0 (b * g .units) + n
+
+  pub freed-start : Freed (g .blocks) 0
+  unfolding freeGranules freeIn granules
+  freed-start = record { rest = sym (add-zero _) }
+
+  pub freed-step : {b n k x : ℕ} → 0 < g .units → Freed b n → 0 < b → x ≡ byte d (256 * g .start + (b - 1)) → k ≡ clearBits (g .units) x → Freed (b - 1) (n + k)
+  unfolding gatByte
+  freed-step {b} {n} {k} {x} some f h p q =
+      let units = g .units in
+      let c = b - 1 in
+      let low = freeIn 0 (c * units) in
+      let w : k ≡ freeIn (c * units) units = q ∙ ap (clearBits units) p ∙ sym (free-block some c) in
+      let e : b ≡ c + 1 = omega arith in
+      let z : low + k + n ≡ low + (n + k) = omega arith in
+      record {
+        rest =
+            f .rest ∙ ap (λ (j : ℕ). freeIn 0 (j * units) + n) e ∙ ap (λ (j : ℕ). freeIn 0 j + n) (sym (block-next c units))
+            ∙ ap (λ (j : ℕ). j + n) (free-append 0 (c * units) units) ∙ ap (λ (j : ℕ). low + freeIn j units + n) (zero-add (c * units))
+            ∙ ap (λ (j : ℕ). low + j + n) (sym w) ∙ z;
+      }
+
+  pub freed-end : {n : ℕ} → Freed 0 n → n ≡ length (freeGranules g d)
+  freed-end {n} f =
+      sym (f .rest ∙ ap (λ (j : ℕ). freeIn 0 j + n) (zero-mul (g .units)) ∙ ap (λ (j : ℕ). j + n) (free-none 0) ∙ zero-add n)
