@@ -5,7 +5,7 @@ use mathlib.Core.Bool.{Bool, true, false, not, cond, _&&_}
 use Prim.Native.Nat.{ℕ, zero, suc, _+_, _-_, _*_, _/_, _%_, _^_, _≤_, _<_}
 use native.Mathlib.Omega.{arith}
 use native.Mathlib.Decide.{ℕ-discrete}
-use native.Mathlib.Nat.{zero-add, add-zero, sub-zero, add-mul, one-mul, zero-mul, mul-add-div-right, mul-add-mod-self-right, div-eq-of-lt, mod-eq-of-lt, div-one, div-div-eq-div-mul, pow-succ', pow-suc, mul-comm, mod-one, div-add-mod'}
+use native.Mathlib.Nat.{zero-add, add-zero, add-mul, one-mul, zero-mul, mul-add-div-right, mul-add-mod-self-right, div-eq-of-lt, mod-eq-of-lt, div-one, div-div-eq-div-mul, pow-succ', pow-suc, mul-comm, mod-one, div-add-mod'}
 use lib.ListN.{length}
 use lib.Dec.{eqb}
 use lib.Arith.{mod-mul}
@@ -17,7 +17,7 @@ use Rattle.meaning.specs.Layout.{byte, granules, taken}
 use Rattle.meaning.specs.Bits.{digit}
 use Rattle.meaning.specs.Free.{freeGranules}
 use Rattle.meaning.specs.declared.Geometry.{Geometry}
-use Rattle.layout.proofs.Laws.{digit-at, left-more, left-none}
+use Rattle.layout.proofs.Laws.{digit-at}
 use Rattle.layout.proofs.Lists.{keep-yes, keep-no}
 use Rattle.seek.proofs.Below.{allBelow, all-below, alike, alike-eq}
 use Rattle.space.specs.Clear.{clearBits}
@@ -152,39 +152,6 @@ module _ (g : Geometry) (d : List ℕ) where
       let q : n / g .units * g .units ≡ n = sym (add-zero _) ∙ ap (λ (k : ℕ). n / g .units * g .units + k) (sym h) ∙ div-add-mod' n (g .units) in
       ap (λ (k : ℕ). eqb (clearBits (g .units) k) 0) e ∙ ap (λ (k : ℕ). eqb k 0) (sym (free-block some (n / g .units)) ∙ ap (λ (k : ℕ). freeIn k (g .units)) q)
       ∙ free-every n (g .units)
-
-  -- b blocks are done, n granules of them are free
-  pub record Freeing (b n : ℕ) : Type 0 where
-    pub rest : length (freeGranules g d) ≡ n + freeIn (b * g .units) ((g .blocks - b) * g .units)
-
-  pub freeing-start : Freeing 0 0
-  unfolding freeGranules freeIn granules
-  freeing-start =
-      record {
-        rest =
-            ap (λ (k : ℕ). freeIn k (g .blocks * g .units)) (sym (zero-mul (g .units)))
-            ∙ ap (λ (k : ℕ). freeIn (0 * g .units) (k * g .units)) (sym (sub-zero (g .blocks))) ∙ sym (zero-add _);
-      }
-
-  pub freeing-step : {b n k x : ℕ} → 0 < g .units → Freeing b n → b < g .blocks → x ≡ byte d (256 * g .start + b) → k ≡ clearBits (g .units) x → Freeing (b + 1) (n + k)
-  unfolding gatByte
-  freeing-step {b} {n} {k} {x} some f h p q =
-      let units = g .units in
-      let m = g .blocks - (b + 1) in
-      let w : k ≡ freeIn (b * units) units = q ∙ ap (clearBits units) p ∙ sym (free-block some b) in
-      let z : n + (k + freeIn ((b + 1) * units) (m * units)) ≡ n + k + freeIn ((b + 1) * units) (m * units) = omega arith in
-      record {
-        rest =
-            f .rest ∙ ap (λ (j : ℕ). n + freeIn (b * units) j) (blocks-more (g .blocks) b units h) ∙ ap (λ (j : ℕ). n + j) (free-append (b * units) units (m * units))
-            ∙ ap (λ (j : ℕ). n + (freeIn (b * units) units + freeIn j (m * units))) (block-next b units)
-            ∙ ap (λ (j : ℕ). n + (j + freeIn ((b + 1) * units) (m * units))) (sym w) ∙ z;
-      }
-
-  pub freeing-end : {b n : ℕ} → Freeing b n → g .blocks ≤ b → n ≡ length (freeGranules g d)
-  freeing-end {b} {n} f h =
-      sym
-      (f .rest ∙ ap (λ (j : ℕ). n + freeIn (b * g .units) (j * g .units)) (left-none h)
-      ∙ ap (λ (j : ℕ). n + freeIn (b * g .units) j) (zero-mul (g .units)) ∙ ap (λ (j : ℕ). n + j) (free-none (b * g .units)) ∙ add-zero n)
 
   -- the blocks from b on are done, n granules of them are free
   pub record Freed (b n : ℕ) : Type 0 where

@@ -188,16 +188,17 @@ pub fn block_taken(image: &[u8], g: Geometry, n: usize) -> bool
 }
 
 // How many granules are free, by one pass over the GAT, a byte at a time: the calls that take or list granules ask for the number alone,
-// and the pass of the crate gat, which goes bit by bit for the longest stretch, would cost them its time.
+// and the pass of the crate gat, which goes bit by bit for the longest stretch, would cost them its time. From the last block on, as growth
+// counts, so that the same laws serve both.
 pub fn free_count(image: &[u8], g: Geometry) -> usize
     requires { ⌜ Room g (now image) ⌝ }
     ensures { λ r. ⌜ r ≡ length (freeGranules g (now (image .entry))) ⌝ }
 {
     let mut n = 0;
-    let mut b = 0;
-    while b < g.blocks {
+    let mut b = g.blocks;
+    while 0 < b {
+        b -= 1;
         n = n + clear_bits(layout::wide(image[256 * g.start + b]), g.units);
-        b += 1;
     }
     n
 }
