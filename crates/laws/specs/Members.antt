@@ -8,6 +8,7 @@ use native.Mathlib.Nat.{add-zero}
 use native.Mathlib.Omega.{arith}
 use native.Mathlib.Decide.{ℕ-discrete}
 use lib.Dec.{T, eqb, eqb→eq, eqb-refl, T-not, not-T}
+use lib.ListN.{getD}
 use Rattle.meaning.specs.Lists.{count, every, keep, each, has, distinct, same, all, any, lastOr}
 
 -- Tests ------------------------------------------------------------------------------------------------------------------
@@ -255,6 +256,12 @@ distinct-says (x ∷ xs) t =
 pub says-distinct : {xs : List ℕ} → Distinct xs → T (distinct xs)
 says-distinct done = tt
 says-distinct (fresh {x = x} {xs = xs} f r) = and-i (not (has xs x)) (distinct xs) (not-T (has xs x) (λ t. f (has-in x xs t))) (says-distinct r)
+
+-- what a function gives along a count, at one place of it
+pub map-count : (f : ℕ → ℕ) (i n j : ℕ) → j < n → getD (map f (count i n)) j 0 ≡ f (i + j)
+map-count f i zero j h = absurd (omega arith)
+map-count f i (suc n) zero h = ap f (omega arith)
+map-count f i (suc n) (suc j) h = map-count f (i + 1) n j (omega arith) ∙ ap f (omega arith)
 
 pub count-distinct : (i n : ℕ) → Distinct (count i n)
 count-distinct i zero = done

@@ -12,11 +12,7 @@ use Rattle.meaning.specs.Write.{sizeAfter}
 use Rattle.meaning.specs.Plain.{overwritten}
 use Rattle.meaning.specs.declared.Mode.{Mode}
 use Rattle.meaning.specs.declared.Mode.the-variants.{Sequential, Random}
-
-pub map-count : (G : ℕ → ℕ) (i n j : ℕ) → j < n → getD (map G (count i n)) j 0 ≡ G (i + j)
-map-count G i zero j h = absurd (omega arith)
-map-count G i (suc n) zero h = ap G (omega arith)
-map-count G i (suc n) (suc j) h = map-count G (i + 1) n j (omega arith) ∙ ap G (omega arith)
+use Rattle.laws.specs.Members
 
 module _ (O r : List ℕ) (at : ℕ) where
   abbrev kept : List ℕ
@@ -78,4 +74,4 @@ is-overwritten m O at r G a b c len =
     val j h (no p) (no q) (no s) = absurd (omega (arith, after-max m (length O) (at + length r)))
 
     point : (j : ℕ) → j < S → getD (map G (count 0 S)) j 0 ≡ getD (overwritten m O at r) j 0
-    point j h = map-count G 0 S j h ∙ ap G (omega arith) ∙ val j h (decLt j at) (decLt j (at + length r)) (decLt j (length O)) ∙ sym (getD-take S (whole O r at) j 0 h)
+    point j h = Members.map-count G 0 S j h ∙ ap G (omega arith) ∙ val j h (decLt j at) (decLt j (at + length r)) (decLt j (length O)) ∙ sym (getD-take S (whole O r at) j 0 h)

@@ -14,9 +14,9 @@ use Rattle.meaning.specs.Read.{readRecord}
 use Rattle.meaning.specs.Plain.{fileAt}
 use Rattle.meaning.specs.declared.Geometry.{Geometry}
 use Rattle.meaning.specs.declared.Handle.{Handle}
+use Rattle.laws.specs.Members
 use Rattle.laws.specs.Passed
 use Rattle.laws.specs.Words.{words}
-use Rattle.promises.specs.Over
 
 part-of : (G : ℕ → ℕ) (i n s : ℕ) → i + n ≤ s → map G (count i n) ≡ take n (drop i (map G (count 0 s)))
 part-of G i n s h = ext-getD 0 (map G (count i n)) (take n (drop i (map G (count 0 s)))) (left ∙ sym right) (λ j b. point j (omega (arith, left)))
@@ -28,7 +28,7 @@ part-of G i n s h = ext-getD 0 (map G (count i n)) (take n (drop i (map G (count
     right = length-take n (drop i (map G (count 0 s))) ∙ ap (min n) (length-drop i (map G (count 0 s)) ∙ ap (λ (x : ℕ). x - i) (length-map (count 0 s) G ∙ length-count 0 s)) ∙ omega arith
 
     point : (j : ℕ) → j < n → getD (map G (count i n)) j 0 ≡ getD (take n (drop i (map G (count 0 s)))) j 0
-    point j b = Over.map-count G i n j b ∙ sym (getD-take n (drop i (map G (count 0 s))) j 0 b ∙ getD-drop i (map G (count 0 s)) j 0 ∙ Over.map-count G 0 s (i + j) (omega arith) ∙ ap G (omega arith))
+    point j b = Members.map-count G i n j b ∙ sym (getD-take n (drop i (map G (count 0 s))) j 0 b ∙ getD-drop i (map G (count 0 s)) j 0 ∙ Members.map-count G 0 s (i + j) (omega arith) ∙ ap G (omega arith))
 
 pub read-means : (g : Geometry) (d : List ℕ) (h : Handle) (b : List ℕ) → readRecord g d h b .0 .number ≡ 0
     → readRecord g d h b .1 ≡ take (h .len) (drop (h .at) (fileAt g d (h .slot) .bytes)) ++ drop (h .len) b

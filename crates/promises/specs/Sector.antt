@@ -32,13 +32,12 @@ use Rattle.promises.specs.Promises.{Reads, ReadsSector, InRange}
 use Rattle.promises.specs.Refusing
 use Rattle.promises.specs.Passing
 use Rattle.promises.specs.Passing.{Has}
-use Rattle.promises.specs.Over
 use Rattle.promises.specs.Read
 
 -- byte j of the plain file is the image's byte at its place
 pub byte-at : (g : Geometry) (d : List ℕ) (p j : ℕ) → j < sizeOf g d p → getD (fileAt g d p .bytes) j 0 ≡ byte d (place g d p j)
 unfolding fileAt words
-byte-at g d p j h = Over.map-count (λ j. byte d (place g d p j)) 0 (sizeOf g d p) j h ∙ ap (λ (x : ℕ). byte d (place g d p x)) (omega arith)
+byte-at g d p j h = Members.map-count (λ j. byte d (place g d p j)) 0 (sizeOf g d p) j h ∙ ap (λ (x : ℕ). byte d (place g d p x)) (omega arith)
 
 -- the file of a live handle
 called : (g : Geometry) (d : List ℕ) (h : Handle) → Has g d h → Rattle.meaning.specs.Plain.plain g d (h .name) ≡ Rattle.meaning.specs.Plain.found (fileAt g d (h .slot))

@@ -74,7 +74,7 @@ module _ (g : Geometry) (d : List ℕ) (c : Sound g d) (k : Places.Fits g d) (p 
 
   O-at : (j : ℕ) → j < sizeOf g d p → getD O j 0 ≡ Layout.byte d (place g d p j)
   unfolding fileAt words
-  O-at j h = Over.map-count (λ j. Layout.byte d (place g d p j)) 0 (sizeOf g d p) j h ∙ ap (λ (x : ℕ). Layout.byte d (place g d p x)) (omega arith)
+  O-at j h = Members.map-count (λ j. Layout.byte d (place g d p j)) 0 (sizeOf g d p) j h ∙ ap (λ (x : ℕ). Layout.byte d (place g d p x)) (omega arith)
 
   abbrev G : ℕ → ℕ
   G j = Layout.byte d′ (place g d p j)
