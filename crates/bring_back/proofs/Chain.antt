@@ -10,7 +10,7 @@ use lib.ListN.{length, getD, set, replicate, getD-replicate, length-append, leng
 use lib.Dec.{eqb}
 use borrow.Author.Tests.{eqb-true, not-true, not-false, ne-eqb, eq-eqb}
 use Rattle.meaning.specs.Lists.{every, each, distinct, all, any}
-use Rattle.meaning.specs.Layout.{granules, isSlot}
+use Rattle.meaning.specs.Layout.{granules, isSlot, mostBlocks}
 use Rattle.meaning.specs.Entries.{marker, link, entryGranules}
 use Rattle.meaning.specs.Chain.{chainFrom}
 use Rattle.meaning.specs.Consistent.{followsBy, linkHoldsBy}
@@ -22,9 +22,11 @@ use Rattle.layout.proofs.Sound.{slot-of}
 use Rattle.layout.proofs.Laws.{left-more, left-none}
 use Rattle.seek.proofs.Laws.{chain-none}
 use Rattle.marks.specs.Marks.{marked, allows}
+use Rattle.marks.specs.Owners.{standing}
 use Rattle.marks.proofs.Laws.{marked-append, allows-append}
+use Rattle.marks.proofs.Maps.{Open, allows-says, says-allows}
+use Rattle.marks.proofs.Standing.{blank-open}
 use Rattle.walk.proofs.Lists.{not-both, every-append}
-use Rattle.consistency.proofs.Maps.{Open, allows-says, says-allows}
 use Rattle.laws.specs.Members
 use Rattle.laws.specs.Members.{In, Distinct}
 use Rattle.bring_back.specs.Line.{OnDisk, firstOf, Listed, Visits, Written, Lined}
@@ -37,33 +39,34 @@ snoc-cons : (xs : List ℕ) (x : ℕ) (ys : List ℕ) → (xs ++ (x ∷ [])) ++ 
 snoc-cons [] x ys = refl
 snoc-cons (y ∷ xs) x ys = ap (λ (l : List ℕ). y ∷ l) (snoc-cons xs x ys)
 
--- a map on which nothing is marked yet
-abbrev fresh : ℕ → List ℕ
-fresh n = replicate n 1
+-- a map of slots on which nothing is marked yet
+abbrev fresh : List ℕ
+fresh = replicate 256 1
 
--- on it places are open if they are in range and none stands twice
-fresh-allows : (n : ℕ) (xs : List ℕ) → Under n xs → Distinct xs → allows (fresh n) 1 0 xs ≡ true
-fresh-allows n xs u e =
-    says-allows 1 0 xs (fresh n) (record { high = λ k i. let q : _≡_ {A = ℕ} (getD (replicate n 1) k 0) 1 = getD-replicate n k 1 0 (u k i) in omega arith; once = e })
+-- places that stand open are allowed if none stands twice
+open-allows : (b xs : List ℕ) → ((k : ℕ) → In k xs → 1 ≤ getD b k 0) → Distinct xs → allows b 1 0 xs ≡ true
+open-allows b xs u e = says-allows 1 0 xs b (record { high = u; once = e })
 
-fresh-once : (n : ℕ) (xs : List ℕ) → allows (fresh n) 1 0 xs ≡ true → distinct xs ≡ true
-fresh-once n xs e = Members.T-true (Members.says-distinct (allows-says 1 0 xs (fresh n) (omega arith) e .once))
+open-once : (b xs : List ℕ) → allows b 1 0 xs ≡ true → distinct xs ≡ true
+open-once b xs e = Members.T-true (Members.says-distinct (allows-says 1 0 xs b (omega arith) e .once))
 
 -- the part of a test that belongs to what follows
-later : (n : ℕ) (xs ys : List ℕ) {m : List ℕ} → m ≡ marked (fresh n) 0 xs → allows (fresh n) 1 0 (xs ++ ys) ≡ true → allows m 1 0 ys ≡ true
-later n xs ys {m} q e =
-    ap (λ (l : List ℕ). allows l 1 0 ys) q
-    ∙ and-r (allows (fresh n) 1 0 xs) (allows (marked (fresh n) 0 xs) 1 0 ys) (sym (allows-append (fresh n) 1 0 xs ys) ∙ e)
+later : (b xs ys : List ℕ) {m : List ℕ} → m ≡ marked b 0 xs → allows b 1 0 (xs ++ ys) ≡ true → allows m 1 0 ys ≡ true
+later b xs ys {m} q e = ap (λ (l : List ℕ). allows l 1 0 ys) q ∙ and-r (allows b 1 0 xs) (allows (marked b 0 xs) 1 0 ys) (sym (allows-append b 1 0 xs ys) ∙ e)
 
 -- and the test of both, from the parts
-joined : (n : ℕ) (xs ys : List ℕ) {m : List ℕ} → m ≡ marked (fresh n) 0 xs → allows (fresh n) 1 0 xs ≡ true → allows m 1 0 ys ≡ true → allows (fresh n) 1 0 (xs ++ ys) ≡ true
-joined n xs ys {m} q a b =
-    let b′ : allows (marked (fresh n) 0 xs) 1 0 ys ≡ true = ap (λ (l : List ℕ). allows l 1 0 ys) (sym q) ∙ b in
-    allows-append (fresh n) 1 0 xs ys ∙ rw (a, b′)
+joined : (b xs ys : List ℕ) {m : List ℕ} → m ≡ marked b 0 xs → allows b 1 0 xs ≡ true → allows m 1 0 ys ≡ true → allows b 1 0 (xs ++ ys) ≡ true
+joined b xs ys {m} q a c =
+    let c′ : allows (marked b 0 xs) 1 0 ys ≡ true = ap (λ (l : List ℕ). allows l 1 0 ys) (sym q) ∙ c in
+    allows-append b 1 0 xs ys ∙ rw (a, c′)
 
 module _ (g : Geometry) (d : List ℕ) where
   abbrev holds : ℕ → Bool
   holds = BringBack.killedEntryHolds g d
+
+  -- the owner map on which nothing is taken yet, as numbers
+  abbrev blank : List ℕ
+  blank = standing g d (replicate mostBlocks 0)
 
   abbrev own : List ℕ → List ℕ
   own cs = each (entryGranules g d) cs
@@ -75,14 +78,14 @@ module _ (g : Geometry) (d : List ℕ) where
   -- the entries ps are walked: each holds, and the maps have lost their slots and granules
   pub record Walked′ (ps m met : List ℕ) (size : ℕ) : Type 0 where
     pub hold : every holds ps ≡ true
-    pub own-open : allows (fresh 1544) 1 0 (own ps) ≡ true
-    pub map : m ≡ marked (fresh 1544) 0 (own ps)
-    pub open-met : allows (fresh 256) 1 0 ps ≡ true
-    pub meets : met ≡ marked (fresh 256) 0 ps
+    pub own-open : allows blank 1 0 (own ps) ≡ true
+    pub map : m ≡ marked blank 0 (own ps)
+    pub open-met : allows fresh 1 0 ps ≡ true
+    pub meets : met ≡ marked fresh 0 ps
     pub size-is : size ≡ length (own ps)
     pub lie : (x : ℕ) → In x ps → OnDisk g d x
 
-  pub walked-start : Walked′ [] (fresh 1544) (fresh 256) 0
+  pub walked-start : Walked′ [] blank fresh 0
   unfolding allows marked
   walked-start = record { hold = refl; own-open = refl; map = refl; open-met = refl; meets = refl; size-is = refl; lie = λ x i. Members.none-in i }
 
@@ -108,12 +111,12 @@ module _ (g : Geometry) (d : List ℕ) where
       let h = w .hold in
       record {
         hold = every-append holds ps (at ∷ []) ∙ rw (h, k);
-        own-open = ap (allows (fresh 1544) 1 0) (own-snoc ps at) ∙ joined 1544 (own ps) (entryGranules g d at) (w .map) (w .own-open) (all-at _ t 1);
+        own-open = ap (allows blank 1 0) (own-snoc ps at) ∙ joined blank (own ps) (entryGranules g d at) (w .map) (w .own-open) (all-at _ t 1);
         map =
-            e .map ok ∙ ap (λ (l : List ℕ). marked l 0 (entryGranules g d at)) (w .map) ∙ sym (marked-append (fresh 1544) 0 (own ps) (entryGranules g d at))
-            ∙ ap (marked (fresh 1544) 0) (sym (own-snoc ps at));
-        open-met = joined 256 ps (at ∷ []) (w .meets) (w .open-met) (all-at _ t 2);
-        meets = e .meets ok ∙ ap (λ (l : List ℕ). marked l 0 (at ∷ [])) (w .meets) ∙ sym (marked-append (fresh 256) 0 ps (at ∷ []));
+            e .map ok ∙ ap (λ (l : List ℕ). marked l 0 (entryGranules g d at)) (w .map) ∙ sym (marked-append blank 0 (own ps) (entryGranules g d at))
+            ∙ ap (marked blank 0) (sym (own-snoc ps at));
+        open-met = joined fresh ps (at ∷ []) (w .meets) (w .open-met) (all-at _ t 2);
+        meets = e .meets ok ∙ ap (λ (l : List ℕ). marked l 0 (at ∷ [])) (w .meets) ∙ sym (marked-append fresh 0 ps (at ∷ []));
         size-is =
             ap (λ (j : ℕ). j + v .granules) (w .size-is) ∙ ap (λ (j : ℕ). length (own ps) + j) (e .granules-is ok)
             ∙ sym (length-append (own ps) (entryGranules g d at)) ∙ ap {B = ℕ} length (sym (own-snoc ps at));
@@ -122,7 +125,7 @@ module _ (g : Geometry) (d : List ℕ) where
 
   -- all entries are walked
   pub walked-said : {ps m met : List ℕ} {size : ℕ} → Walked′ ps m met size → said ps ≡ true
-  walked-said {ps} w = all-yes (w .hold) _ ∙ all-yes (fresh-once 256 ps (w .open-met)) _ ∙ all-yes (fresh-once 1544 (own ps) (w .own-open)) _ ∙ all-none
+  walked-said {ps} w = all-yes (w .hold) _ ∙ all-yes (open-once fresh ps (w .open-met)) _ ∙ all-yes (open-once blank (own ps) (w .own-open)) _ ∙ all-none
 
   -- an entry that does not hold with those before it: nor does the chain, whatever follows
   pub walked-bad : {ps m m′ met met′ : List ℕ} {size at : ℕ} {v : Visited} → Room g d → Walked′ ps m met size → Slot g d at → Visits g d at m m′ met met′ v → not (v .ok) ≡ true
@@ -138,14 +141,13 @@ module _ (g : Geometry) (d : List ℕ) where
           let own-is : own (ps ++ (at ∷ rest)) ≡ own (ps ++ (at ∷ [])) ++ own rest
           = ap own (sym (snoc-cons ps at rest)) ∙ Members.each-append (entryGranules g d) (ps ++ (at ∷ [])) rest in
           let own-once : Distinct (own (ps ++ (at ∷ [])) ++ own rest) = rw own-is at (Members.distinct-says (own (ps ++ (at ∷ rest))) (Members.true-T (all-at _ q 2))) in
-          let most = r .most in
-          let a : allows (fresh 256) 1 0 (ps ++ (at ∷ [])) ≡ true
-          = fresh-allows 256 (ps ++ (at ∷ [])) (λ x i. lie x i .slot .low) (Members.distinct-l (ps ++ (at ∷ [])) rest once) in
-          let b : allows (fresh 1544) 1 0 (own (ps ++ (at ∷ []))) ≡ true
-          = fresh-allows 1544 (own (ps ++ (at ∷ []))) (λ n i. let l = under-each g d (ps ++ (at ∷ [])) lie n i in omega arith) (Members.distinct-l (own (ps ++ (at ∷ []))) (own rest) own-once) in
-          let b′ : allows (fresh 1544) 1 0 (own ps ++ entryGranules g d at) ≡ true = rw (own-snoc ps at) at b in
+          let a : allows fresh 1 0 (ps ++ (at ∷ [])) ≡ true
+          = open-allows fresh (ps ++ (at ∷ [])) (λ x i. let q : _≡_ {A = ℕ} (getD fresh x 0) 1 = getD-replicate 256 x 1 0 (lie x i .slot .low) in omega arith) (Members.distinct-l (ps ++ (at ∷ [])) rest once) in
+          let b : allows blank 1 0 (own (ps ++ (at ∷ []))) ≡ true
+          = open-allows blank (own (ps ++ (at ∷ []))) (λ n i. blank-open g d n (under-each g d (ps ++ (at ∷ [])) lie n i)) (Members.distinct-l (own (ps ++ (at ∷ []))) (own rest) own-once) in
+          let b′ : allows blank 1 0 (own ps ++ entryGranules g d at) ≡ true = rw (own-snoc ps at) at b in
           let all-hold : v .ok ≡ true
-          = e .answer ∙ all-yes k _ ∙ all-yes (later 1544 (own ps) (entryGranules g d at) (w .map) b′) _ ∙ all-yes (later 256 ps (at ∷ []) (w .meets) a) _ ∙ all-none in
+          = e .answer ∙ all-yes k _ ∙ all-yes (later blank (own ps) (entryGranules g d at) (w .map) b′) _ ∙ all-yes (later fresh ps (at ∷ []) (w .meets) a) _ ∙ all-none in
           not-both all-hold (not-true (v .ok) bad)
 
   -- The chain: n entries of it are walked and written down, `at` is the next --------------------------------------------------
@@ -157,7 +159,7 @@ module _ (g : Geometry) (d : List ℕ) where
     pub chain-is : chainFrom g d most s ≡ firstOf es n ++ chainFrom g d (most - n) at
     pub walked : Walked′ (firstOf es n) m met size
 
-  pub lining-start : (most s : ℕ) (es : List ℕ) → Slot g d s → Lining most s es (fresh 1544) (fresh 256) s 0 0
+  pub lining-start : (most s : ℕ) (es : List ℕ) → Slot g d s → Lining most s es blank fresh s 0 0
   lining-start most s es sl =
       let e = first-steps es .none in
       record {

@@ -15,6 +15,7 @@ ghost use Rattle.meaning.specs.Consistent.{followsBy, linkHoldsBy, nameHolds, s
 ghost use Rattle.meaning.specs.Refusals.{check};
 ghost use Rattle.meaning.specs.BringBack.{backEntry, bringBack};
 ghost use Rattle.layout.specs.Room.{Room, Slot};
+ghost use Rattle.marks.specs.Owners.{standing};
 ghost use Rattle.walk.specs.Walk.{runsOf};
 ghost use Rattle.consistency.specs.Slots.{countHolds};
 ghost use Rattle.bring_back.specs.Line.{OnDisk, Visits, Lined, firstOf, Listed, Wholly, Plans};
@@ -68,10 +69,10 @@ pub struct Visited {
     pub granules: usize,
 }
 
-// One entry of a killed file. `map` has 1 for each granule, `met` 1 for each slot, that no entry before had.
-fn visit(image: &[u8], g: Geometry, s: usize, map: &mut [u8; 1544], met: &mut [u8; 256]) -> Visited
+// One entry of a killed file. In `map` a granule's bit is clear, and `met` has 1 for a slot, where no entry before had it.
+fn visit(image: &[u8], g: Geometry, s: usize, map: &mut [u8; 192], met: &mut [u8; 256]) -> Visited
     requires { ⌜ Room g (now image) × Slot g (now image) s ⌝ }
-    ensures { λ r. ⌜ Visits g (now (image .entry)) s (now (map .entry)) (now (map .exit)) (now (met .entry)) (now (met .exit)) r ⌝ }
+    ensures { λ r. ⌜ Visits g (now (image .entry)) s (standing g (now (image .entry)) (now (map .entry))) (standing g (now (image .entry)) (now (map .exit))) (now (met .entry)) (now (met .exit)) r ⌝ }
 {
     if met[s] < 1 {
         return Visited {
@@ -81,7 +82,7 @@ fn visit(image: &[u8], g: Geometry, s: usize, map: &mut [u8; 1544], met: &mut [u
     }
     met[s] = 0;
     let at = walk::entry_at(image, g, s);
-    let p = walk::take_runs(image, g, s, at, map, 1);
+    let p = walk::take_runs(image, g, s, at, map);
     if !p.ok {
         return Visited {
             ok: false,
@@ -106,7 +107,7 @@ fn line(image: &[u8], g: Geometry, s: usize, most: usize, entries: &mut [usize; 
     requires { ⌜ Room g (now image) × Slot g (now image) s × (most ≤ 256) × (length (now entries) ≡ 256) ⌝ }
     ensures { λ r. ⌜ Lined g (now (image .entry)) most s (now (entries .exit)) r ⌝ }
 {
-    let mut map = [1u8; 1544];
+    let mut map = [0u8; 192];
     let mut met = [1u8; 256];
     let mut at = s;
     let mut n = 0;

@@ -18,7 +18,8 @@ use Rattle.meaning.specs.Consistent.{lengthHolds, hitHolds, pairsHold, followsB
 use Rattle.meaning.specs.declared.Geometry.{Geometry}
 use Rattle.layout.specs.Room.{Room}
 use Rattle.layout.proofs.Lists.{all-at, all-yes, all-no, all-one, all-none, any-last, not-yes, not-no, le-or-lt}
-use Rattle.marks.specs.Marks.{marked, allows, TakenMap}
+use Rattle.marks.specs.Owners.{shut, GatMap, weight, standing}
+use Rattle.marks.proofs.Standing.{weight-low, weight-in, weight-out, standing-open, open-if}
 use Rattle.walk.specs.Walk.{goesOn, markerHolds, chainHolds, runHolds}
 use Rattle.walk.proofs.Lists.{not-both, all-out}
 use Rattle.walk.proofs.Laws.{from-above}
@@ -28,7 +29,7 @@ use Rattle.laws.specs.Facts
 use Rattle.laws.specs.Facts.{File, Sound}
 use Rattle.laws.specs.Entry
 use Rattle.laws.specs.Change
-use Rattle.consistency.specs.Slots.{least, leastOf, countHolds, nameFits, fileFits, slotFits, chainOf, ownedOf, opens, one, slotsFit, metAt}
+use Rattle.consistency.specs.Slots.{least, leastOf, countHolds, nameFits, fileFits, slotFits, chainOf, ownedOf, opens, one, slotsFit}
 use Rattle.consistency.proofs.Maps
 
 -- The map ---------------------------------------------------------------------------------------------------------------------
@@ -40,56 +41,37 @@ pub record Base (g : Geometry) (d m : List ℕ) : Type 0 where
   pub open-one : (n : ℕ) → n < granules g → T (taken g d n) → 1 ≤ getD m n 0
   pub open-two : (n : ℕ) → n < granules g → T (taken g d n) → (In n (directoryGranules g d) → ⊥) → 2 ≤ getD m n 0
 
-module _ (g : Geometry) (d m : List ℕ) (room : Room g d) (w : TakenMap g d m) where
-  directory-lt : (n : ℕ) → In n (directoryGranules g d) → n < granules g
-  directory-lt n i = let k = Members.count-in n (g .start / granuleSectors) (directorySectors g d / granuleSectors) i in let e = room .directory in omega arith
+pub directory-lt : (g : Geometry) (d : List ℕ) → Room g d → (n : ℕ) → In n (directoryGranules g d) → n < granules g
+directory-lt g d room n i = let k = Members.count-in n (g .start / granuleSectors) (directorySectors g d / granuleSectors) i in let e = room .directory in omega arith
 
-  high-taken : (n : ℕ) → n < granules g → 1 ≤ getD m n 0 → T (taken g d n)
-  high-taken n l h = go (taken g d n) refl
+module _ (g : Geometry) (d m : List ℕ) (room : Room g d) (w : GatMap g d m) where
+  pub open-taken : (n : ℕ) → n < granules g → shut (g .units) m n ≡ 0 → T (taken g d n)
+  open-taken n l h = go (taken g d n) refl
     where
       go : (b : Bool) → taken g d n ≡ b → T (taken g d n)
       go true e = Members.true-T e
-      go false e = absurd (let z = w .low n l e in let q : ⊥ = omega arith in q)
+      go false e = absurd (let z = w .shuts n l e in let q : ⊥ = omega arith in q)
 
-  taken-high : (n : ℕ) → n < granules g → T (taken g d n) → _≡_ {A = ℕ} (getD m n 0) 3
-  taken-high n l t = w .high n l (Members.T-true {b = taken g d n} t)
+  pub directory-taken : ((n : ℕ) → In n (directoryGranules g d) → shut (g .units) m n ≡ 0) → every (taken g d) (directoryGranules g d) ≡ true
+  directory-taken f = Members.T-true (Members.all-every (taken g d) (directoryGranules g d) (λ n i. open-taken n (directory-lt g d room n i) (f n i)))
 
-  directory-open : allows m 2 1 (directoryGranules g d) ≡ true → (n : ℕ) → In n (directoryGranules g d) → 2 ≤ getD m n 0
-  directory-open e = Maps.allows-says 2 1 (directoryGranules g d) m (omega arith) e .high
+  pub taken-directory : every (taken g d) (directoryGranules g d) ≡ true → (n : ℕ) → In n (directoryGranules g d) → shut (g .units) m n ≡ 0
+  taken-directory e n i = w .opens n (directory-lt g d room n i) (Members.T-true {b = taken g d n} (Members.every-all (taken g d) (Members.true-T e) i))
 
-  pub directory-taken : allows m 2 1 (directoryGranules g d) ≡ true → every (taken g d) (directoryGranules g d) ≡ true
-  directory-taken e =
-      Members.T-true (Members.all-every (taken g d) (directoryGranules g d) (λ n i. high-taken n (directory-lt n i) (let h = directory-open e n i in omega arith)))
+  stands : (n : ℕ) → n < granules g → T (taken g d n) → getD (standing g d m) n 0 ≡ weight g d n
+  stands n l t = standing-open g d m n l (w .opens n l (Members.T-true {b = taken g d n} t))
 
-  pub taken-directory : every (taken g d) (directoryGranules g d) ≡ true → allows m 2 1 (directoryGranules g d) ≡ true
-  taken-directory e =
-      Maps.says-allows 2 1 (directoryGranules g d) m (record {
-        high = λ n i. let z = taken-high n (directory-lt n i) (Members.every-all (taken g d) (Members.true-T e) i) in omega arith;
-        once = Members.count-distinct (g .start / granuleSectors) (directorySectors g d / granuleSectors);
-      })
-
-  pub base : allows m 2 1 (directoryGranules g d) ≡ true → Base g d (marked m 1 (directoryGranules g d))
-  base e =
+  pub base : Base g d (standing g d m)
+  base =
       record {
-        taken-in = λ n l h. taken′ n l h (Members.in? n (directoryGranules g d));
-        off-in = λ n h i. let z = inside n i in omega arith;
-        open-one = λ n l t. open′ n l t (Members.in? n (directoryGranules g d));
-        open-two = λ n l t f. let a = outside n f in let b = taken-high n l t in omega arith;
+        taken-in = λ n l h. open-taken n l (open-if g d m n l h);
+        off-in =
+            λ n h i.
+            let l = directory-lt g d room n i in
+            let e = standing-open g d m n l (open-if g d m n l (omega arith)) in let v = weight-in g d n i in omega arith;
+        open-one = λ n l t. let e = stands n l t in let v = weight-low g d n in omega arith;
+        open-two = λ n l t f. let e = stands n l t in let v = weight-out g d n f in omega arith;
       }
-    where
-      inside : (n : ℕ) → In n (directoryGranules g d) → _≡_ {A = ℕ} (getD (marked m 1 (directoryGranules g d)) n 0) 1
-      inside n i = Maps.marked-in 1 n (directoryGranules g d) m i (Maps.in-range m n (let h = directory-open e n i in omega arith))
-
-      outside : (n : ℕ) → (In n (directoryGranules g d) → ⊥) → getD (marked m 1 (directoryGranules g d)) n 0 ≡ getD m n 0
-      outside n f = Maps.marked-out 1 n (directoryGranules g d) m f
-
-      taken′ : (n : ℕ) → n < granules g → 1 ≤ getD (marked m 1 (directoryGranules g d)) n 0 → In n (directoryGranules g d) ⊎ (In n (directoryGranules g d) → ⊥) → T (taken g d n)
-      taken′ n l h (inl i) = high-taken n l (let k = directory-open e n i in omega arith)
-      taken′ n l h (inr f) = high-taken n l (let k = outside n f in omega arith)
-
-      open′ : (n : ℕ) → n < granules g → T (taken g d n) → In n (directoryGranules g d) ⊎ (In n (directoryGranules g d) → ⊥) → 1 ≤ getD (marked m 1 (directoryGranules g d)) n 0
-      open′ n l t (inl i) = let k = inside n i in omega arith
-      open′ n l t (inr f) = let a = outside n f in let b = taken-high n l t in omega arith
 
 -- The chain -------------------------------------------------------------------------------------------------------------------
 

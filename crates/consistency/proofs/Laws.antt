@@ -6,7 +6,10 @@ use Prim.Native.Nat.{ℕ, zero, suc, _+_, _-_, _*_, _/_, _%_, _^_, _≤_, _<_}
 use native.Mathlib.Omega.{arith}
 use native.Mathlib.Nat.{zero-add, mul-le-mul}
 use lib.Dec.{eqb, leb, ltb}
-use lib.ListN.{length, getD, take, drop}
+use lib.ListN.{length, getD, take, drop, set, length-set}
+use lib.Seq.{drop-cons, getD-set-same, getD-set-other}
+use mathlib.Core.Logic.{_⊎_, ⊎-elim}
+use native.Mathlib.Numerals.{add-one}
 use borrow.Author.Tests.{eq-eqb, ne-eqb, le-leb, leb-true, eqb-true, not-false}
 use Rattle.meaning.specs.Lists.{count, every, each, keep, has, same, all, any}
 use Rattle.meaning.specs.Bits.{bit, digit}
@@ -16,8 +19,9 @@ use Rattle.meaning.specs.Chain.{chain, chainFrom, owned}
 use Rattle.meaning.specs.Consistent.{hitHolds, lengthHolds}
 use Rattle.meaning.specs.declared.Geometry.{Geometry}
 use Rattle.layout.specs.Room.{Room, Slot}
+use Rattle.layout.specs.Number.{number}
 use Rattle.layout.proofs.Laws.{digit-at, below, name-part}
-use Rattle.layout.proofs.Lists.{all-at, all-yes, all-no, all-one, all-none, any-skip, is-no, is-yes, not-yes, not-no, any-one}
+use Rattle.layout.proofs.Lists.{all-at, all-yes, all-no, all-one, all-none, any-skip, is-no, is-yes, not-yes, not-no, any-one, le-or-lt, every-count}
 use Rattle.layout.proofs.Sound.{low-twenty, fits-directory}
 use Rattle.seek.proofs.Laws.{slots-length}
 use Rattle.seek.proofs.Below.{allBelow, all-below, alike, alike-eq}
@@ -25,9 +29,9 @@ use Rattle.marks.specs.Marks.{marked, allows}
 use Rattle.marks.proofs.Laws.{marked-append, count-more, count-none}
 use Rattle.walk.specs.Walk.{Place, Walked, chainHolds, granulesOf}
 use Rattle.meaning.specs.Names.{hash, wellFormed}
-use Rattle.walk.proofs.Lists.{not-both, on, off, all-out, every-append}
+use Rattle.walk.proofs.Lists.{not-both, on, off, all-out, every-append, every-true}
 use Rattle.laws.specs.Members
-use Rattle.consistency.specs.Slots.{Fits, least, leastOf, countHolds, nameFits, fileFits, slotFits, chainOf, ownedOf, opens, one, slotsFit, FileSeen, Seen, rowSlots}
+use Rattle.consistency.specs.Slots.{Fits, least, leastOf, countHolds, nameFits, fileFits, slotFits, chainOf, ownedOf, opens, one, slotsFit, FileSeen, Seen, by32, sectorSlots, diskSlots, HitCopied, metAt}
 
 -- Bits --------------------------------------------------------------------------------------------------------------------
 
@@ -115,39 +119,38 @@ all-three : {a a′ b b′ c c′ : Bool} → a ≡ a′ → b ≡ b′ → c �
 all-three p q r = rw (p, q, r)
 
 module _ (g : Geometry) (d : List ℕ) (s : ℕ) where
-  file-no : {m m′ met met′ : List ℕ} → fileFits g d s ≡ false → FileSeen g d s m m′ met met′ false
+  file-no : {low : ℕ} {m m′ met met′ : List ℕ} → fileFits g d s ≡ false → FileSeen g d s low m m′ met met′ false
   file-no h = record { answer = sym (all-no h _); map = λ q. not-both q refl; meets = λ q. not-both q refl }
 
-  pub file-bit : {m m′ met met′ : List ℕ} {f : ℕ} → f ≡ field g d s 0 → f / 2 ^ 5 % 2 ≡ 1 → FileSeen g d s m m′ met met′ false
+  pub file-bit : {low : ℕ} {m m′ met met′ : List ℕ} {f : ℕ} → f ≡ field g d s 0 → f / 2 ^ 5 % 2 ≡ 1 → FileSeen g d s low m m′ met met′ false
   unfolding fileFits
   file-bit {f = f} e h = file-no (all-no (not-yes (ap (bit 5) (sym e) ∙ bit-on 5 f h)) _)
 
-  pub file-name : {m m′ met met′ : List ℕ} {h : ℕ} → h ≡ hit g d s → nameFits g d h s ≡ false → FileSeen g d s m m′ met met′ false
+  pub file-name : {low : ℕ} {m m′ met met′ : List ℕ} {h : ℕ} → h ≡ hit g d s → nameFits g d h s ≡ false → FileSeen g d s low m m′ met met′ false
   unfolding fileFits
   file-name e n = file-no (all-out _ 1 (ap (λ (k : ℕ). nameFits g d k s) (sym e) ∙ n))
 
-  pub file-count : {m m′ met met′ : List ℕ} {n : ℕ} → n ≡ sectorCount g d s → countHolds n (endByte g d s) ≡ false → FileSeen g d s m m′ met met′ false
+  pub file-count : {low : ℕ} {m m′ met met′ : List ℕ} {n : ℕ} → n ≡ sectorCount g d s → countHolds n (endByte g d s) ≡ false → FileSeen g d s low m m′ met met′ false
   unfolding fileFits
   file-count e n = file-no (all-out _ 2 (ap (λ (k : ℕ). countHolds k (endByte g d s)) (sym e) ∙ n))
 
   pub two : {x y : ℕ} → x ≡ field g d s 0x14 → y ≡ field g d s 0x15 → x + 256 * y ≡ sectorCount g d s
   two {x} {y} e f = ap (λ (k : ℕ). k + 256 * y) e ∙ ap (λ (k : ℕ). field g d s 0x14 + 256 * k) f
 
-  pub file-walk : {m m′ met met′ : List ℕ} {f h n low left k : ℕ} {r : Bool} → Room g d → f ≡ field g d s 0 → (f / 2 ^ 5 % 2 ≡ 1 → ⊥) → h ≡ hit g d s → nameFits g d h s ≡ true
-      → n ≡ sectorCount g d s → countHolds n (endByte g d s) ≡ true → k ≡ directorySectors g d → left ≡ 8 * (k - 2) → low ≡ least f
-      → Walked g d low n 0 (chainHolds g d h left s) (chainFrom g d left s) m m′ met met′ r → FileSeen g d s m m′ met met′ r
+  pub file-walk : {m m′ met met′ : List ℕ} {f h n left k : ℕ} {r : Bool} → Room g d → f ≡ field g d s 0 → (f / 2 ^ 5 % 2 ≡ 1 → ⊥) → h ≡ hit g d s → nameFits g d h s ≡ true
+      → n ≡ sectorCount g d s → countHolds n (endByte g d s) ≡ true → k ≡ directorySectors g d → left ≡ 8 * (k - 2)
+      → Walked g d 1 n 0 (chainHolds g d h left s) (chainFrom g d left s) m m′ met met′ r → FileSeen g d s 1 m m′ met met′ r
   unfolding fileFits chain owned
-  file-walk {m} {m′} {met} {met′} {f} {h} {n} {low} {left} {k} {r} room e b i a c q ds l o w =
+  file-walk {m} {m′} {met} {met′} {f} {h} {n} {left} {k} {r} room e b i a c q ds l w =
       let len : left ≡ length (slots g d) = l ∙ ap (λ (j : ℕ). 8 * (j - 2)) ds ∙ sym (slots-length g d (room .ten) (room .thirty)) in
-      let low-is : low ≡ leastOf g d s = o ∙ ap least e in
-      let w′ : Walked g d (leastOf g d s) (sectorCount g d s) 0 (chainHolds g d (hit g d s) (length (slots g d)) s) (chain g d s) m m′ met met′ r = rw (low-is, c, i, len) at w in
+      let w′ : Walked g d 1 (sectorCount g d s) 0 (chainHolds g d (hit g d s) (length (slots g d)) s) (chain g d s) m m′ met met′ r = rw (c, i, len) at w in
       let fit : fileFits g d s ≡ all (chainHolds g d (hit g d s) (length (slots g d)) s ∷ leb (sectorCount g d s) (granuleSectors * length (owned g d s)) ∷ [])
       = all-yes (not-no (ap (bit 5) (sym e) ∙ bit-off 5 f b)) _ ∙ all-yes (ap (λ (j : ℕ). nameFits g d j s) (sym i) ∙ a) _
       ∙ all-yes (ap (λ (j : ℕ). countHolds j (endByte g d s)) (sym c) ∙ q) _ in
       record {
         answer =
-            w′ .answer ∙ ap (λ (j : ℕ). all (chainHolds g d (hit g d s) (length (slots g d)) s ∷ allows m (leastOf g d s) 0 (owned g d s) ∷ allows met 1 0 (chain g d s) ∷ leb (sectorCount g d s) (granuleSectors * j) ∷ [])) (zero-add (length (owned g d s)))
-            ∙ shuffle (chainHolds g d (hit g d s) (length (slots g d)) s) (allows m (leastOf g d s) 0 (owned g d s)) (allows met 1 0 (chain g d s)) (leb (sectorCount g d s) (granuleSectors * length (owned g d s)))
+            w′ .answer ∙ ap (λ (j : ℕ). all (chainHolds g d (hit g d s) (length (slots g d)) s ∷ allows m 1 0 (owned g d s) ∷ allows met 1 0 (chain g d s) ∷ leb (sectorCount g d s) (granuleSectors * j) ∷ [])) (zero-add (length (owned g d s)))
+            ∙ shuffle (chainHolds g d (hit g d s) (length (slots g d)) s) (allows m 1 0 (owned g d s)) (allows met 1 0 (chain g d s)) (leb (sectorCount g d s) (granuleSectors * length (owned g d s)))
             ∙ all-three (sym fit) refl refl;
         map = w′ .map;
         meets = w′ .meets;
@@ -189,7 +192,7 @@ module _ (g : Geometry) (d : List ℕ) (s : ℕ) where
       seen-plain (rw (u, v)) (sym (hit-is e (ne-eqb _ _ z) u))
 
   pub seen-file : {m m′ met met′ : List ℕ} {h f : ℕ} {r : Bool} → h ≡ hit g d s → (h ≡ 0 → ⊥) → f ≡ field g d s 0 → f / 2 ^ 4 % 2 ≡ 1 → (f / 2 ^ 7 % 2 ≡ 1 → ⊥)
-      → FileSeen g d s m m′ met met′ r → Seen g d (s ∷ []) m m′ met met′ r
+      → FileSeen g d s (leastOf g d s) m m′ met met′ r → Seen g d (s ∷ []) m m′ met met′ r
   unfolding slotsFit slotFits opens ownedOf chainOf
   seen-file {m} {m′} {met} {met′} {h} {f} {r} e z q n x w =
       let u : inUse g d s ≡ true = ap (bit 4) (sym q) ∙ bit-on 4 f n in
@@ -230,6 +233,36 @@ regroup true false true b′ false b″ = refl
 regroup true true true true false b″ = refl
 regroup true true true false false b″ = refl
 regroup true true true b′ true b″ = refl
+
+-- Sectors of the directory, from a column on
+abbrev pub sectorsFrom : ℕ → ℕ → List ℕ
+sectorsFrom columns column = each sectorSlots (count column (columns - column))
+
+pub sectors-more : {columns column : ℕ} → column < columns → sectorsFrom columns column ≡ sectorSlots column ++ sectorsFrom columns (column + 1)
+sectors-more h = ap (each sectorSlots) (count-more h)
+
+pub sectors-none : {columns column : ℕ} → columns ≤ column → sectorsFrom columns column ≡ []
+sectors-none h = ap (each sectorSlots) (count-none h)
+
+pub sectors-are : (g : Geometry) (d : List ℕ) {k : ℕ} → k ≡ directorySectors g d → sectorsFrom (k - 2) 0 ≡ diskSlots g d
+unfolding diskSlots
+sectors-are g d {k} e = ap (λ (j : ℕ). each sectorSlots (count 0 (j - 2 - 0))) e ∙ ap (λ (j : ℕ). each sectorSlots (count 0 j)) (let z : directorySectors g d - 2 - 0 ≡ directorySectors g d - 2 = omega arith in z)
+
+-- the slots of a sector from s on
+abbrev pub columnFrom : ℕ → List ℕ
+columnFrom s = by32 ((287 - s) / 32) s
+
+pub column-are : {column : ℕ} → column < 32 → columnFrom column ≡ sectorSlots column
+unfolding sectorSlots
+column-are {column} h = ap (λ (n : ℕ). by32 n column) (let z : (287 - column) / 32 ≡ 8 = omega arith in z)
+
+pub column-more : {s : ℕ} → s < 256 → columnFrom s ≡ s ∷ columnFrom (s + 32)
+unfolding by32
+column-more {s} h = ap (λ (n : ℕ). by32 n s) (let z : (287 - s) / 32 ≡ suc ((287 - (s + 32)) / 32) = omega arith in z)
+
+pub column-none : {s : ℕ} → 256 ≤ s → columnFrom s ≡ []
+unfolding by32
+column-none {s} h = ap (λ (n : ℕ). by32 n s) (let z : (287 - s) / 32 ≡ 0 = omega arith in z)
 
 module _ (g : Geometry) (d : List ℕ) where
   fit-append : (xs ys m met : List ℕ)
@@ -289,31 +322,31 @@ module _ (g : Geometry) (d : List ℕ) where
   unfolding slotsFit opens marked all
   seeing-end i = record { answer = i .answer; map = λ q. i .map; meets = λ q. i .meets }
 
-  -- Rows
-  abbrev pub rowsFrom : ℕ → List ℕ
-  rowsFrom row = each (rowSlots g d) (count row (8 - row))
+-- Rows ------------------------------------------------------------------------------------------------------------------------
 
-  pub rows-more : {row : ℕ} → row < 8 → rowsFrom row ≡ rowSlots g d row ++ rowsFrom (row + 1)
-  rows-more h = ap (each (rowSlots g d)) (count-more h)
+-- the slots of a row, and of all rows from one on
+abbrev pub rowSlots : ℕ → ℕ → List ℕ
+rowSlots columns row = count (32 * row) columns
 
-  pub rows-no : (p : ℕ → Bool) {row : ℕ} → row < 8 → every p (rowSlots g d row) ≡ false → every p (rowsFrom row) ≡ false
-  rows-no p {row} h e = ap (every p) (rows-more h) ∙ every-append p (rowSlots g d row) (rowsFrom (row + 1)) ∙ ap (λ (b : Bool). b && every p (rowsFrom (row + 1))) e
+abbrev pub rowsFrom : ℕ → ℕ → List ℕ
+rowsFrom columns row = each (rowSlots columns) (count row (8 - row))
 
-  pub rows-yes : (p : ℕ → Bool) {row : ℕ} → row < 8 → every p (rowSlots g d row) ≡ true → every p (rowsFrom row) ≡ every p (rowsFrom (row + 1))
-  rows-yes p {row} h e = ap (every p) (rows-more h) ∙ every-append p (rowSlots g d row) (rowsFrom (row + 1)) ∙ ap (λ (b : Bool). b && every p (rowsFrom (row + 1))) e
+-- the rows from `row` on decide for all
+pub record Rows (p : ℕ → Bool) (columns row : ℕ) : Type 0 where
+  pub rest : every p (rowsFrom columns row) ≡ every p (rowsFrom columns 0)
 
-  -- one row, as the code counts its slots
-  pub row-count : (row : ℕ) {k : ℕ} → k ≡ directorySectors g d → count (32 * row) (32 * row + (k - 2) - 32 * row) ≡ rowSlots g d row
-  unfolding rowSlots
-  row-count row {k} e =
-      let f : 32 * row + (k - 2) - 32 * row ≡ k - 2 = omega arith in
-      ap (count (32 * row)) (f ∙ ap (λ (j : ℕ). j - 2) e)
+module _ {p : ℕ → Bool} {columns row : ℕ} (w : Rows p columns row) where
+  rows-more : row < 8 → (every p (rowSlots columns row) && every p (rowsFrom columns (row + 1))) ≡ every p (rowsFrom columns row)
+  rows-more h = sym (ap (λ (l : List ℕ). every p (each (rowSlots columns) l)) (count-more h) ∙ every-append p (rowSlots columns row) (rowsFrom columns (row + 1)))
 
-  pub met-yes : (met : List ℕ) (s : ℕ) → getD met s 0 ≡ 0 → true ≡ any (eqb (getD met s 0) 0 ∷ eqb (hit g d s) 0 ∷ [])
-  met-yes met s e = sym (Members.T-true (Members.any-l (eqb (getD met s 0) 0) (eqb (hit g d s) 0) (Members.eq-T e)))
+  pub rows-stop : row < 8 → every p (rowSlots columns row) ≡ false → false ≡ every p (rowsFrom columns 0)
+  rows-stop h e = ap (λ (b : Bool). b && every p (rowsFrom columns (row + 1))) (sym e) ∙ rows-more h ∙ w .rest
 
-  pub rows-none : {row : ℕ} → 8 ≤ row → rowsFrom row ≡ []
-  rows-none h = ap (each (rowSlots g d)) (count-none h)
+  pub rows-step : row < 8 → every p (rowSlots columns row) ≡ true → Rows p columns (row + 1)
+  rows-step h e = record { rest = ap (λ (b : Bool). b && every p (rowsFrom columns (row + 1))) (sym e) ∙ rows-more h ∙ w .rest }
+
+  pub rows-end : 8 ≤ row → true ≡ every p (rowsFrom columns 0)
+  rows-end h = sym (ap (λ (l : List ℕ). every p (each (rowSlots columns) l)) (count-none h)) ∙ w .rest
 
 slotsFor : ℕ → List ℕ
 slotsFor n = keep (λ s. all (ltb s 256 ∷ ltb (s % 32 + 2) n ∷ [])) (count 0 256)
@@ -328,18 +361,105 @@ rows-all = refl
 rows-for : (k : ℕ) → k < 21 → rowsFor (10 + k) ≡ slotsFor (10 + k)
 rows-for k h = Members.same-eq _ _ (Members.true-T (all-below 21 (λ k. same (rowsFor (10 + k)) (slotsFor (10 + k))) rows-all k h))
 
-row-list : (g : Geometry) (d : List ℕ) → rowsFrom g d 0 ≡ rowsFor (directorySectors g d)
-unfolding rowSlots rowsFor
-row-list g d = refl
+row-list : (n : ℕ) → rowsFrom (n - 2) 0 ≡ rowsFor n
+unfolding rowsFor
+row-list n = refl
 
 slot-list : (g : Geometry) (d : List ℕ) → slotsFor (directorySectors g d) ≡ slots g d
 unfolding slots isSlot slotsFor
 slot-list g d = refl
 
-pub rows-are : (g : Geometry) (d : List ℕ) → Room g d → rowsFrom g d 0 ≡ slots g d
-rows-are g d r =
-    let e : 10 + (directorySectors g d - 10) ≡ directorySectors g d = let t = r .ten in omega arith in
-    row-list g d ∙ ap rowsFor (sym e) ∙ rows-for (directorySectors g d - 10) (let t = r .thirty in omega arith) ∙ ap slotsFor e ∙ slot-list g d
+pub rows-are : (g : Geometry) (d : List ℕ) {k : ℕ} → Room g d → k ≡ directorySectors g d → rowsFrom (k - 2) 0 ≡ slots g d
+rows-are g d {k} r q =
+    let e : 10 + (k - 10) ≡ k = let t = r .ten in omega arith in
+    row-list k ∙ ap rowsFor (sym e) ∙ rows-for (k - 10) (let t = r .thirty in omega arith) ∙ ap slotsFor (e ∙ q) ∙ slot-list g d
+
+-- Eight slots as one number ---------------------------------------------------------------------------------------------------
+
+-- a number of n bytes is 0 exactly if each of them is
+zeros : (n : ℕ) (m : List ℕ) (at : ℕ) → at + n ≤ length m → eqb (number (take n (drop at m))) 0 ≡ every (metAt m) (count at n)
+unfolding number
+zeros zero m at h = refl
+zeros (suc n) m at h =
+    ap (λ (l : List ℕ). eqb (number (take (suc n) l)) 0) (drop-cons m at 0 (omega arith)) ∙ zero-sum (getD m at 0) (number (take n (drop (suc at) m)))
+    ∙ ap (λ (k : ℕ). eqb (getD m at 0) 0 && eqb (number (take n (drop k m))) 0) (sym (add-one at))
+    ∙ ap (λ (b : Bool). eqb (getD m at 0) 0 && b) (zeros n m (at + 1) (omega arith))
+  where
+    zero-sum : (x y : ℕ) → eqb (x + 256 * y) 0 ≡ (eqb x 0 && eqb y 0)
+    zero-sum zero zero = refl
+    zero-sum zero (suc y) = ne-eqb (0 + 256 * suc y) 0 (λ z. omega arith) ∙ sym (ne-eqb (suc y) 0 (λ z. omega arith))
+    zero-sum (suc x) y = ne-eqb (suc x + 256 * y) 0 (λ z. omega arith) ∙ sym (ap (λ (b : Bool). b && eqb y 0) (ne-eqb (suc x) 0 (λ z. omega arith)))
+
+-- the slots of a row before `at` stand at 0
+pub record Rowing (met : List ℕ) (first columns at : ℕ) : Type 0 where
+  pub past : (s : ℕ) → first ≤ s → s < at → metAt met s ≡ true
+  pub low : first ≤ at
+  pub before : at < first + columns
+
+pub rowing-start : (met : List ℕ) (first columns : ℕ) → 0 < columns → Rowing met first columns first
+rowing-start met first columns h = record { past = λ s a b. absurd (let z : ⊥ = omega arith in z); low = omega arith; before = omega arith }
+
+pub rowing-step : {met : List ℕ} {first columns at r : ℕ} → Rowing met first columns at → at + 8 < first + columns → first + columns ≤ length met → r ≡ number (take 8 (drop at met)) → r ≡ 0
+    → Rowing met first columns (at + 8)
+rowing-step {met} {first} {columns} {at} {r} w h l e z =
+    let q : every (metAt met) (count at 8) ≡ true = sym (zeros 8 met at (omega arith)) ∙ eq-eqb _ _ (sym e ∙ z) in
+    record {
+      past = λ s a b. ⊎-elim (λ c. every-count (metAt met) at 8 s q c b) (λ c. w .past s a c) (le-or-lt at s);
+      low = let k = w .low in omega arith;
+      before = h;
+    }
+
+-- eight of the row do not all stand at 0
+pub rowing-stop : {met : List ℕ} {first columns at r : ℕ} → Rowing met first columns at → at + 8 < first + columns → first + columns ≤ length met → r ≡ number (take 8 (drop at met))
+    → (r ≡ 0 → ⊥) → false ≡ every (metAt met) (count first columns)
+rowing-stop {met} {first} {columns} {at} {r} w h l e n = sym (by (every (metAt met) (count first columns)) refl)
+  where
+    by : (b : Bool) → every (metAt met) (count first columns) ≡ b → every (metAt met) (count first columns) ≡ false
+    by true q =
+        not-both (every-true (metAt met) at 8 (λ s a b. every-count (metAt met) first columns s q (let k = w .low in omega arith) (omega arith)))
+        (sym (zeros 8 met at (omega arith)) ∙ ne-eqb _ _ (λ z. n (e ∙ z)))
+    by false q = q
+
+-- the last eight
+pub rowing-end : {met : List ℕ} {first columns at r : ℕ} → Rowing met first columns at → first + columns ≤ at + 8 → 8 ≤ columns → first + columns ≤ length met
+    → r ≡ number (take 8 (drop (first + columns - 8) met)) → eqb r 0 ≡ every (metAt met) (count first columns)
+rowing-end {met} {first} {columns} {at} {r} w h c l e =
+    ap (λ (k : ℕ). eqb k 0) e ∙ zeros 8 met (first + columns - 8) (omega arith) ∙ by (every (metAt met) (count (first + columns - 8) 8)) refl
+  where
+    by : (b : Bool) → every (metAt met) (count (first + columns - 8) 8) ≡ b → every (metAt met) (count (first + columns - 8) 8) ≡ every (metAt met) (count first columns)
+    by true q =
+        q ∙ sym (every-true (metAt met) first columns (λ s a b.
+        ⊎-elim (λ k. every-count (metAt met) (first + columns - 8) 8 s q (omega arith) (omega arith)) (λ k. w .past s a k) (le-or-lt at s)))
+    by false q = q ∙ rest (every (metAt met) (count first columns)) refl
+      where
+        rest : (b : Bool) → every (metAt met) (count first columns) ≡ b → false ≡ every (metAt met) (count first columns)
+        rest true k = not-both (every-true (metAt met) (first + columns - 8) 8 (λ s a b. every-count (metAt met) first columns s k (omega arith) (omega arith))) q
+        rest false k = sym k
+
+-- The HIT, which starts at `from`, byte by byte: s bytes are copied
+pub record Copying (d met : List ℕ) (from s : ℕ) : Type 0 where
+  pub long : length met ≡ 256
+  pub is : (k : ℕ) → k < s → getD met k 0 ≡ getD d (from + k) 0
+
+pub copying-start : (d met : List ℕ) (from : ℕ) → length met ≡ 256 → Copying d met from 0
+copying-start d met from h = record { long = h; is = λ k l. absurd (let z : ⊥ = omega arith in z) }
+
+pub copying-step : {d met : List ℕ} {from s : ℕ} → Copying d met from s → s < 256 → Copying d (set met s (getD d (from + s) 0)) from (s + 1)
+copying-step {d} {met} {from} {s} w h =
+    record {
+      long = length-set met s v ∙ w .long;
+      is = λ k l. ⊎-elim (λ a. let z : k ≡ s = omega arith in here k z) (λ a. getD-set-other met s k v 0 (λ z. omega arith) ∙ w .is k a) (le-or-lt s k);
+    }
+  where
+    v : ℕ
+    v = getD d (from + s) 0
+
+    here : (k : ℕ) → k ≡ s → getD (set met s v) k 0 ≡ getD d (from + k) 0
+    here k z = ap (λ (j : ℕ). getD (set met s v) j 0) z ∙ getD-set-same met s v 0 (let q = w .long in omega arith) ∙ ap (λ (j : ℕ). getD d (from + j) 0) (sym z)
+
+pub copying-end : (g : Geometry) {d met : List ℕ} {s : ℕ} → Copying d met (256 * (g .start + 1)) s → 256 ≤ s → HitCopied g d met
+unfolding hit
+copying-end g w h = record { long = w .long; is = λ k l. w .is k (omega arith) }
 
 -- The name of an entry, as a part of the image: n is 11
 name-is : (g : Geometry) (d : List ℕ) {s at n : ℕ} → Room g d → Place g d s at → n ≡ 11 → take n (drop (at + 5) d) ≡ nameOf g d s

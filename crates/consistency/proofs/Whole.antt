@@ -6,7 +6,7 @@ use mathlib.Core.Bool.{Bool, true, false, not, cond, _&&_, _||_, Bool·beq}
 use Prim.Native.Nat.{ℕ, zero, suc, _+_, _-_, _*_, _/_, _%_, _≤_, _<_}
 use native.Mathlib.Omega.{arith}
 use lib.Dec.{T, eqb, leb, ltb, eqb→eq, T-not, not-T}
-use lib.ListN.{length, getD, replicate, length-replicate, getD-replicate}
+use lib.ListN.{length, getD}
 use borrow.Author.Tests.{eq-eqb, ne-eqb, eqb-true, eqb-false, le-leb, leb-true, not-true, not-false}
 use Rattle.meaning.specs.Lists.{count, every, each, keep, has, distinct, all, any}
 use Rattle.meaning.specs.Bits.{bit}
@@ -19,7 +19,9 @@ use Rattle.meaning.specs.declared.Geometry.{Geometry}
 use Rattle.layout.specs.Room.{Room, Slot}
 use Rattle.layout.proofs.Sound.{slot-yes}
 use Rattle.layout.proofs.Lists.{all-at, all-yes, all-no, all-one, all-none, any-last, not-yes, not-no, every-count}
-use Rattle.marks.specs.Marks.{marked, allows, Marks, TakenMap}
+use Rattle.marks.specs.Marks.{marked}
+use Rattle.marks.specs.Owners.{GatMap, standing}
+use Rattle.marks.specs.Eight.{Among}
 use Rattle.walk.specs.Walk.{chainHolds, runHolds}
 use Rattle.walk.proofs.Lists.{not-both, all-out}
 use Rattle.laws.specs.Members
@@ -28,8 +30,10 @@ use Rattle.laws.specs.Facts
 use Rattle.laws.specs.Facts.{File, Sound}
 use Rattle.laws.specs.Entry
 use Rattle.laws.specs.Change
-use Rattle.consistency.specs.Slots.{least, leastOf, countHolds, nameFits, fileFits, slotFits, chainOf, ownedOf, opens, one, slotsFit, Seen, metAt}
+use Rattle.consistency.specs.Slots.{least, leastOf, countHolds, nameFits, fileFits, slotFits, chainOf, ownedOf, opens, one, slotsFit, Seen, Directory, diskSlots, HitCopied, metAt}
 use Rattle.consistency.proofs.Maps
+use Rattle.consistency.proofs.Order.{Alike, fit-alike, marked-alike, disk-order}
+use Rattle.consistency.proofs.Directory.{all-open, open-all}
 use Rattle.consistency.proofs.Bridge
 use Rattle.consistency.proofs.Bridge.{Base, Held, Good}
 
@@ -37,14 +41,10 @@ use Rattle.consistency.proofs.Bridge.{Base, Held, Good}
 abbrev pub Bytes : List ℕ → Type 0
 Bytes d = (i : ℕ) → getD d i 0 < 256
 
--- no slot is met yet
-abbrev pub Blank : List ℕ → Type 0
-Blank m = (s : ℕ) → s < 256 → _≡_ {A = ℕ} (getD m s 0) 1
-
 module _ (g : Geometry) (d : List ℕ) where
   -- Small parts ---------------------------------------------------------------------------------------------------------------
 
-  least-low : (s : ℕ) → 1 ≤ leastOf g d s
+  pub least-low : (s : ℕ) → 1 ≤ leastOf g d s
   unfolding least
   least-low s = go (bit 6 (field g d s 0))
     where
@@ -134,8 +134,8 @@ module _ (g : Geometry) (d : List ℕ) where
 
   -- From the maps to the disk -------------------------------------------------------------------------------------------------
 
-  module _ (lh : lengthHolds g d ≡ true) (m seen : List ℕ) (b : Base g d m) (blank : Blank seen) (bytes : Bytes d) (dt : every (taken g d) (directoryGranules g d) ≡ true)
-      (fit : slotsFit g d m seen (slots g d) ≡ true) (all-met : every (metAt g d (marked seen 0 (each (chainOf g d) (slots g d)))) (slots g d) ≡ true) where
+  module _ (lh : lengthHolds g d ≡ true) (m seen : List ℕ) (b : Base g d m) (copy : HitCopied g d seen) (bytes : Bytes d) (dt : every (taken g d) (directoryGranules g d) ≡ true)
+      (fit : slotsFit g d m seen (slots g d) ≡ true) (all-met : every (metAt (marked seen 0 (each (chainOf g d) (slots g d)))) (slots g d) ≡ true) where
     fits : every (slotFits g d) (slots g d) ≡ true
     unfolding slotsFit
     fits = all-at _ fit 0
@@ -169,22 +169,18 @@ module _ (g : Geometry) (d : List ℕ) where
 
     covered : (s : ℕ) → T (isSlot g d s) → T (inUse g d s) → (p : ℕ) × File g d p × In s (chain g d p)
     covered s t u =
-        go (Members.any-e (eqb (getD (marked seen 0 (each (chainOf g d) (slots g d))) s 0) 0) (eqb (hit g d s) 0)
-        (Members.every-all (metAt g d (marked seen 0 (each (chainOf g d) (slots g d)))) (Members.true-T all-met) (Facts.in-slots g d s t)))
+        go (eqb→eq _ _ (Members.every-all (metAt (marked seen 0 (each (chainOf g d) (slots g d)))) (Members.true-T all-met) (Facts.in-slots g d s t)))
         (Members.in? s (each (chainOf g d) (slots g d)))
       where
-        go : T (eqb (getD (marked seen 0 (each (chainOf g d) (slots g d))) s 0) 0) ⊎ T (eqb (hit g d s) 0) → In s (each (chainOf g d) (slots g d)) ⊎ (In s (each (chainOf g d) (slots g d)) → ⊥)
+        go : _≡_ {A = ℕ} (getD (marked seen 0 (each (chainOf g d) (slots g d))) s 0) 0 → In s (each (chainOf g d) (slots g d)) ⊎ (In s (each (chainOf g d) (slots g d)) → ⊥)
             → (p : ℕ) × File g d p × In s (chain g d p)
-        go (inr z) q = absurd (unused-hit s (hit-fits s t) u (eqb→eq _ _ z))
-        go (inl z) (inl i) =
+        go z (inl i) =
             let k = Members.each-in (chainOf g d) s (slots g d) i in
             let c = of-chain (k .0) s (k .2) in
             (k .0, record { slot = Facts.slots-in g d (k .0) (k .1); primary′ = c .0 }, c .1)
-        go (inl z) (inr f) =
-            absurd (let a = eqb→eq (getD (marked seen 0 (each (chainOf g d) (slots g d))) s 0) 0 z in
-            let o = Maps.marked-out 0 s (each (chainOf g d) (slots g d)) seen f in
-            let w = blank s (Facts.slot-lt g d s t) in
-            let x : ⊥ = omega arith in x)
+        go z (inr f) =
+            absurd (unused-hit s (hit-fits s t) u
+            (sym (copy .is s (Facts.slot-lt g d s t)) ∙ sym (Maps.marked-out 0 s (each (chainOf g d) (slots g d)) seen f) ∙ z))
 
     high : (p n : ℕ) → File g d p → In n (owned g d p) → leastOf g d p ≤ getD m n 0
     high p n f i = own .high p n (Facts.in-slots g d p (f .slot)) (rw (owned-of p (f .primary′)) i)
@@ -264,7 +260,7 @@ module _ (g : Geometry) (d : List ℕ) where
 
   -- From the disk to the maps -------------------------------------------------------------------------------------------------
 
-  module _ (e : consistent g d ≡ true) (m seen : List ℕ) (b : Base g d m) (blank : Blank seen) (long : length seen ≡ 256) where
+  module _ (e : consistent g d ≡ true) (m seen : List ℕ) (b : Base g d m) (copy : HitCopied g d seen) where
     c : Sound g d
     c = Facts.sound g d e
 
@@ -322,12 +318,15 @@ module _ (g : Geometry) (d : List ℕ) where
     unfolding consistent
     chain-open =
         record {
-          high =
-              λ s n i j.
-              let k = of-chain s n j in
-              let w = blank n (chain-low s n (record { slot = Facts.slots-in g d s i; primary′ = k .0 }) (k .1)) in omega arith;
+          high = λ s n i j. let k = of-chain s n j in at s n (record { slot = Facts.slots-in g d s i; primary′ = k .0 }) (k .1);
           once = rw (← all-chains) (Members.distinct-says _ (Members.true-T (all-at _ e 4)));
         }
+      where
+        at : (s n : ℕ) → File g d s → In n (chain g d s) → 1 ≤ getD seen n 0
+        at s n f i =
+            let k = Change.members g d c s n f i in
+            let w = copy .is n (chain-low s n f i) in
+            let u = unused-hit n (Members.T-true (c .hits n (k .slot))) (k .used) in omega arith
 
     pub maps-fit : slotsFit g d m seen (slots g d) ≡ true
     unfolding slotsFit
@@ -335,17 +334,22 @@ module _ (g : Geometry) (d : List ℕ) where
         all-yes slots-good _ ∙ all-yes (Maps.says-opens (leastOf g d) (ownedOf g d) (slots g d) m owned-open) _
         ∙ all-yes (Maps.says-opens one (chainOf g d) (slots g d) seen chain-open) _ ∙ all-none
 
-    pub maps-met : every (metAt g d (marked seen 0 (each (chainOf g d) (slots g d)))) (slots g d) ≡ true
+    pub maps-met : every (metAt (marked seen 0 (each (chainOf g d) (slots g d)))) (slots g d) ≡ true
     maps-met =
-        Members.T-true (Members.all-every (metAt g d (marked seen 0 (each (chainOf g d) (slots g d)))) (slots g d) (λ s i.
-        at s (Facts.slots-in g d s i) (eqb (hit g d s) 0) refl))
+        Members.T-true (Members.all-every (metAt (marked seen 0 (each (chainOf g d) (slots g d)))) (slots g d) (λ s i.
+        Members.eq-T (at s (Facts.slots-in g d s i) (Members.in? s (each (chainOf g d) (slots g d))))))
       where
-        at : (s : ℕ) → T (isSlot g d s) → (t : Bool) → eqb (hit g d s) 0 ≡ t → T (metAt g d (marked seen 0 (each (chainOf g d) (slots g d))) s)
-        at s t true q = Members.any-r (eqb (getD (marked seen 0 (each (chainOf g d) (slots g d))) s 0) 0) (eqb (hit g d s) 0) (Members.true-T q)
-        at s t false q =
+        unmet : (s : ℕ) → T (isSlot g d s) → (In s (each (chainOf g d) (slots g d)) → ⊥) → (t : Bool) → eqb (hit g d s) 0 ≡ t → hit g d s ≡ 0
+        unmet s t f true q = eqb-true _ _ q
+        unmet s t f false q =
             let k = c .covered s t (used-hit s (Members.T-true (c .hits s t)) (eqb-false _ _ q)) in
-            Members.any-l (eqb (getD (marked seen 0 (each (chainOf g d) (slots g d))) s 0) 0) (eqb (hit g d s) 0)
-            (Members.eq-T (Maps.marked-in 0 s (each (chainOf g d) (slots g d)) seen (rw (← all-chains) (Facts.in-met g d (k .0) s (k .1) (k .2))) (rw long (Facts.slot-lt g d s t))))
+            absurd (f (rw (← all-chains) (Facts.in-met g d (k .0) s (k .1) (k .2))))
+
+        at : (s : ℕ) → T (isSlot g d s) → In s (each (chainOf g d) (slots g d)) ⊎ (In s (each (chainOf g d) (slots g d)) → ⊥)
+            → _≡_ {A = ℕ} (getD (marked seen 0 (each (chainOf g d) (slots g d))) s 0) 0
+        at s t (inl i) = Maps.marked-in 0 s (each (chainOf g d) (slots g d)) seen i (rw (copy .long) (Facts.slot-lt g d s t))
+        at s t (inr f) =
+            Maps.marked-out 0 s (each (chainOf g d) (slots g d)) seen f ∙ copy .is s (Facts.slot-lt g d s t) ∙ unmet s t f (eqb (hit g d s) 0) refl
 
 -- One law for each way through the code ------------------------------------------------------------------------------------------
 
@@ -357,63 +361,59 @@ pub no-length : (g : Geometry) (d : List ℕ) → lengthHolds g d ≡ false → 
 unfolding consistent
 no-length g d e = sym (all-no e _)
 
-pub blank-seen : (k : ℕ) → Blank (replicate 256 1)
-blank-seen k s h = getD-replicate 256 s 1 0 h
-
-pub blank-long : length (replicate {A = ℕ} 256 1) ≡ 256
-blank-long = length-replicate {A = ℕ} 256 1
-
 by-way : (g : Geometry) (d : List ℕ) → (consistent g d ≡ true → ⊥) → false ≡ consistent g d
 by-way g d f = sym (Members.no-false {b = consistent g d} (λ t. f (Members.T-true t)))
 
-module _ (g : Geometry) (d m : List ℕ) (room : Room g d) (w : TakenMap g d m) where
-  pub no-directory : allows m 2 1 (directoryGranules g d) ≡ false → false ≡ consistent g d
+module _ (g : Geometry) (d m : List ℕ) (room : Room g d) (w : GatMap g d m) where
+  pub no-directory : {from bits r : ℕ} → Directory g d from bits → Among m from bits r → (r ≡ 0 → ⊥) → false ≡ consistent g d
   unfolding consistent
-  no-directory e = by-way g d (λ q. not-both (Bridge.taken-directory g d m room w (all-at _ q 7)) e)
+  no-directory k a f = by-way g d (λ q. f (open-all g d room k a (Bridge.taken-directory g d m room w (all-at _ q 7))))
 
-  module _ (o : allows m 2 1 (directoryGranules g d) ≡ true) where
-    pub no-slots : slotsFit g d (marked m 1 (directoryGranules g d)) (replicate 256 1) (slots g d) ≡ false → false ≡ consistent g d
-    no-slots e = by-way g d (λ q. not-both (maps-fit g d q _ _ (Bridge.base g d m room w o) (blank-seen 0) blank-long) e)
+  module _ (dt : every (taken g d) (directoryGranules g d) ≡ true) (seen : List ℕ) (copy : HitCopied g d seen) where
+    pub no-slots : slotsFit g d (standing g d m) seen (slots g d) ≡ false → false ≡ consistent g d
+    no-slots e = by-way g d (λ q. not-both (maps-fit g d q _ _ (Bridge.base g d m room w) copy) e)
 
-    pub no-met : every (metAt g d (marked (replicate 256 1) 0 (each (chainOf g d) (slots g d)))) (slots g d) ≡ false → false ≡ consistent g d
-    no-met e = by-way g d (λ q. not-both (maps-met g d q (marked m 1 (directoryGranules g d)) _ (Bridge.base g d m room w o) (blank-seen 0) blank-long) e)
+    pub no-met : every (metAt (marked seen 0 (each (chainOf g d) (slots g d)))) (slots g d) ≡ false → false ≡ consistent g d
+    no-met e = by-way g d (λ q. not-both (maps-met g d q (standing g d m) _ (Bridge.base g d m room w) copy) e)
 
-    pub hashes : lengthHolds g d ≡ true → Bytes d → slotsFit g d (marked m 1 (directoryGranules g d)) (replicate 256 1) (slots g d) ≡ true
-        → every (metAt g d (marked (replicate 256 1) 0 (each (chainOf g d) (slots g d)))) (slots g d) ≡ true → (p : ℕ) → File g d p → hit g d p ≡ hash (nameOf g d p)
-    hashes l y f a = hashed g d l _ _ (Bridge.base g d m room w o) (blank-seen 0) y (Bridge.directory-taken g d m room w o) f a
+    pub hashes : lengthHolds g d ≡ true → Bytes d → slotsFit g d (standing g d m) seen (slots g d) ≡ true
+        → every (metAt (marked seen 0 (each (chainOf g d) (slots g d)))) (slots g d) ≡ true → (p : ℕ) → File g d p → hit g d p ≡ hash (nameOf g d p)
+    hashes l y f a = hashed g d l _ _ (Bridge.base g d m room w) copy y dt f a
 
-    pub by-names : lengthHolds g d ≡ true → Bytes d → slotsFit g d (marked m 1 (directoryGranules g d)) (replicate 256 1) (slots g d) ≡ true
-        → every (metAt g d (marked (replicate 256 1) 0 (each (chainOf g d) (slots g d)))) (slots g d) ≡ true → namesDiffer g d (files g d) ≡ consistent g d
+    pub by-names : lengthHolds g d ≡ true → Bytes d → slotsFit g d (standing g d m) seen (slots g d) ≡ true
+        → every (metAt (marked seen 0 (each (chainOf g d) (slots g d)))) (slots g d) ≡ true → namesDiffer g d (files g d) ≡ consistent g d
     by-names l y f a =
         Members.both-T
-        (λ t. Members.true-T (disk-holds g d l _ _ (Bridge.base g d m room w o) (blank-seen 0) y (Bridge.directory-taken g d m room w o) f a (Members.T-true {b = namesDiffer g d (files g d)} t)))
+        (λ t. Members.true-T (disk-holds g d l _ _ (Bridge.base g d m room w) copy y dt f a (Members.T-true {b = namesDiffer g d (files g d)} t)))
         (λ t. Members.true-T (names-good g d (Members.T-true {b = consistent g d} t)))
 
 -- The same, as the code comes to it: `a`, `r` and `q` are what its functions answered
-module _ (g : Geometry) (d : List ℕ) (room : Room g d) {m m₁ m₂ met₂ : List ℕ} {a r : Bool} (w : TakenMap g d m) (k : Marks m 2 1 (directoryGranules g d) m₁ a) (t : a ≡ true)
-    (s : Seen g d (slots g d) m₁ m₂ (replicate 256 1) met₂ r) where
-  open′ : allows m 2 1 (directoryGranules g d) ≡ true
-  open′ = sym (k .answer) ∙ t
+module _ (g : Geometry) (d : List ℕ) (room : Room g d) {m m₂ seen met₂ : List ℕ} {from bits a : ℕ} {r : Bool} (w : GatMap g d m) (k : Directory g d from bits) (u : Among m from bits a) (t : a ≡ 0)
+    (copy : HitCopied g d seen) (s : Seen g d (diskSlots g d) (standing g d m) m₂ seen met₂ r) where
+  open′ : every (taken g d) (directoryGranules g d) ≡ true
+  open′ = Bridge.directory-taken g d m room w (all-open g d room k u t)
 
-  fit-is : r ≡ slotsFit g d (marked m 1 (directoryGranules g d)) (replicate 256 1) (slots g d)
-  fit-is = s .answer ∙ ap (λ (l : List ℕ). slotsFit g d l (replicate 256 1) (slots g d)) (k .map t)
+  fit-is : r ≡ slotsFit g d (standing g d m) seen (slots g d)
+  fit-is =
+      s .answer ∙ fit-alike g d (least-low g d) (standing g d m) seen (disk-order g d room)
 
   pub way-slots : r ≡ false → false ≡ consistent g d
-  way-slots e = no-slots g d m room w open′ (sym fit-is ∙ e)
+  way-slots e = no-slots g d m room w open′ seen copy (sym fit-is ∙ e)
 
-  met-is : {q : Bool} → r ≡ true → q ≡ every (metAt g d met₂) (slots g d) → q ≡ every (metAt g d (marked (replicate 256 1) 0 (each (chainOf g d) (slots g d)))) (slots g d)
-  met-is e f = f ∙ ap (λ (l : List ℕ). every (metAt g d l) (slots g d)) (s .meets e)
+  met-is : {q : Bool} → r ≡ true → q ≡ every (metAt met₂) (slots g d) → q ≡ every (metAt (marked seen 0 (each (chainOf g d) (slots g d)))) (slots g d)
+  met-is e f =
+      f ∙ ap (λ (l : List ℕ). every (metAt l) (slots g d)) (s .meets e)
+      ∙ Members.every-eq (metAt (marked seen 0 (each (chainOf g d) (diskSlots g d)))) (metAt (marked seen 0 (each (chainOf g d) (slots g d)))) (slots g d) (λ p i.
+      ap (λ (v : ℕ). eqb v 0)
+      (marked-alike seen (chainOf g d) (disk-order g d room) p (let l = Facts.slot-lt g d p (Facts.slots-in g d p i) in let b = copy .long in omega arith)))
 
-  pub way-met : {q : Bool} → r ≡ true → q ≡ every (metAt g d met₂) (slots g d) → q ≡ false → false ≡ consistent g d
-  way-met e f n = no-met g d m room w open′ (sym (met-is e f) ∙ n)
+  pub way-met : {q : Bool} → r ≡ true → q ≡ every (metAt met₂) (slots g d) → q ≡ false → false ≡ consistent g d
+  way-met e f n = no-met g d m room w open′ seen copy (sym (met-is e f) ∙ n)
 
-  pub way-hashed : {q : Bool} → r ≡ true → q ≡ every (metAt g d met₂) (slots g d) → q ≡ true → lengthHolds g d ≡ true → Bytes d → (p : ℕ) → Slot g d p → primary g d p ≡ true
+  pub way-hashed : {q : Bool} → r ≡ true → q ≡ every (metAt met₂) (slots g d) → q ≡ true → lengthHolds g d ≡ true → Bytes d → (p : ℕ) → Slot g d p → primary g d p ≡ true
       → hit g d p ≡ hash (nameOf g d p)
   way-hashed e f n l y p sl u =
-      hashes g d m room w open′ l y (sym fit-is ∙ e) (sym (met-is e f) ∙ n) p (record { slot = Members.true-T (slot-yes g d p (sl .low) (sl .held)); primary′ = Members.true-T u })
+      hashes g d m room w open′ seen copy l y (sym fit-is ∙ e) (sym (met-is e f) ∙ n) p (record { slot = Members.true-T (slot-yes g d p (sl .low) (sl .held)); primary′ = Members.true-T u })
 
-  pub way-names : {q n : Bool} → r ≡ true → q ≡ every (metAt g d met₂) (slots g d) → q ≡ true → lengthHolds g d ≡ true → Bytes d → n ≡ namesDiffer g d (files g d) → n ≡ consistent g d
-  way-names e f n l y h = h ∙ by-names g d m room w open′ l y (sym fit-is ∙ e) (sym (met-is e f) ∙ n)
-
-pub directory-as : (g : Geometry) (d : List ℕ) {m m′ : List ℕ} {k : ℕ} {r : Bool} → k ≡ directorySectors g d → Marks m 2 1 (count (g .start / granuleSectors) (k / granuleSectors)) m′ r → Marks m 2 1 (directoryGranules g d) m′ r
-directory-as g d {m} {m′} {k} {r} e w = subst (λ (j : ℕ). Marks m 2 1 (count (g .start / granuleSectors) (j / granuleSectors)) m′ r) e w
+  pub way-names : {q n : Bool} → r ≡ true → q ≡ every (metAt met₂) (slots g d) → q ≡ true → lengthHolds g d ≡ true → Bytes d → n ≡ namesDiffer g d (files g d) → n ≡ consistent g d
+  way-names e f n l y h = h ∙ by-names g d m room w open′ seen copy l y (sym fit-is ∙ e) (sym (met-is e f) ∙ n)

@@ -2,7 +2,7 @@
 use mathlib.Core.Path.{_≡_}
 use mathlib.Core.Bool.{Bool, true, false, not, cond, _&&_, _||_}
 use mathlib.Core.List.{List, [], _∷_}
-use Prim.Native.Nat.{ℕ, _+_, _-_, _*_, _%_, _≤_}
+use Prim.Native.Nat.{ℕ, zero, suc, _+_, _-_, _*_, _/_, _%_, _≤_, _<_}
 use lib.Dec.{eqb, leb}
 use lib.ListN.{length, getD}
 use Rattle.meaning.specs.Lists.{count, every, each, all, any}
@@ -14,6 +14,8 @@ use Rattle.meaning.specs.Chain.{chain, owned}
 use Rattle.meaning.specs.Consistent.{hitHolds}
 use Rattle.meaning.specs.declared.Geometry.{Geometry}
 use Rattle.marks.specs.Marks.{marked, allows}
+use Rattle.marks.specs.Owners.{Window}
+use Rattle.marks.specs.Eight.{Spans}
 use Rattle.walk.specs.Walk.{chainHolds}
 
 -- the geometry and the image's length fit
@@ -68,9 +70,9 @@ one s = 1
 unfoldable pub slotsFit : Geometry → List ℕ → List ℕ → List ℕ → List ℕ → Bool
 slotsFit g d m met ss = all (every (slotFits g d) ss ∷ opens m (leastOf g d) (ownedOf g d) ss ∷ opens met one (chainOf g d) ss ∷ [])
 
--- what the check of one file says, and of some slots; if it holds, both maps are marked
-pub record FileSeen (g : Geometry) (d : List ℕ) (p : ℕ) (m m′ met met′ : List ℕ) (r : Bool) : Type 0 where
-  pub answer : r ≡ all (fileFits g d p ∷ allows m (leastOf g d p) 0 (owned g d p) ∷ allows met 1 0 (chain g d p) ∷ [])
+-- what the check of one file says, to which granules are open that stand at `low` or above, and of some slots; if it holds, both maps are marked
+pub record FileSeen (g : Geometry) (d : List ℕ) (p low : ℕ) (m m′ met met′ : List ℕ) (r : Bool) : Type 0 where
+  pub answer : r ≡ all (fileFits g d p ∷ allows m low 0 (owned g d p) ∷ allows met 1 0 (chain g d p) ∷ [])
   pub map : r ≡ true → m′ ≡ marked m 0 (owned g d p)
   pub meets : r ≡ true → met′ ≡ marked met 0 (chain g d p)
 
@@ -79,10 +81,29 @@ pub record Seen (g : Geometry) (d ss m m′ met met′ : List ℕ) (r : Bool) : 
   pub map : r ≡ true → m′ ≡ marked m 0 (each (ownedOf g d) ss)
   pub meets : r ≡ true → met′ ≡ marked met 0 (each (chainOf g d) ss)
 
--- the slots of a row
-unfoldable pub rowSlots : Geometry → List ℕ → ℕ → List ℕ
-rowSlots g d row = count (32 * row) (directorySectors g d - 2)
+-- `bits` has the directory's granules, as they stand in the eight bytes of the owner map from `from` on
+pub record Directory (g : Geometry) (d : List ℕ) (from bits : ℕ) : Type 0 where
+  pub spans : Spans (g .units) (g .start / granuleSectors) (directorySectors g d / granuleSectors) from
+  pub window : Window (g .units) (g .start / granuleSectors) (directorySectors g d / granuleSectors) from bits
 
--- an entry in use was met: 0 stands in the map
-abbrev pub metAt : Geometry → List ℕ → List ℕ → ℕ → Bool
-metAt g d met s = any (eqb (getD met s 0) 0 ∷ eqb (hit g d s) 0 ∷ [])
+-- s and every 32nd slot after it, n in all
+unfoldable pub by32 : ℕ → ℕ → List ℕ
+by32 zero s = []
+by32 (suc n) s = s ∷ by32 n (s + 32)
+
+-- the slots whose entries stand in one sector of the directory, row by row
+unfoldable pub sectorSlots : ℕ → List ℕ
+sectorSlots column = by32 8 column
+
+-- "visit entries in disk order, by directory sector and then row" (02, §8)
+unfoldable pub diskSlots : Geometry → List ℕ → List ℕ
+diskSlots g d = each sectorSlots (count 0 (directorySectors g d - 2))
+
+-- each slot stands at its HIT byte, which is 0 where it is not in use
+pub record HitCopied (g : Geometry) (d met : List ℕ) : Type 0 where
+  pub long : length met ≡ 256
+  pub is : (s : ℕ) → s < 256 → getD met s 0 ≡ hit g d s
+
+-- a slot was met, or is not in use: 0 stands in the map
+abbrev pub metAt : List ℕ → ℕ → Bool
+metAt met s = eqb (getD met s 0) 0

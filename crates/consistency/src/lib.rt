@@ -3,17 +3,20 @@ use meaning::Geometry;
 ghost use mathlib.Core.Path.{_≡_};
 ghost use mathlib.Core.Bool.{true, not, _||_};
 ghost use mathlib.Core.List.{[], _∷_};
-ghost use Prim.Native.Nat.{_+_, _-_, _*_, _<_, _≤_};
+ghost use Prim.Native.Nat.{_+_, _-_, _*_, _/_, _<_, _≤_};
 ghost use lib.Dec.{eqb};
+ghost use lib.ListN.{length};
 ghost use Rattle.meaning.specs.Lists.{count, every, all};
-ghost use Rattle.meaning.specs.Layout.{field, hit, slots, directorySectors};
+ghost use Rattle.meaning.specs.Layout.{field, hit, slots, directorySectors, granuleSectors};
 ghost use Rattle.meaning.specs.Names.{hash, wellFormed};
 ghost use Rattle.meaning.specs.Entries.{primary, nameOf, endByte};
 ghost use Rattle.meaning.specs.Chain.{chain, owned, files};
 ghost use Rattle.meaning.specs.Consistent.{lengthHolds, namesDiffer, consistent};
 ghost use Rattle.layout.specs.Room.{Room, Slot};
+ghost use Rattle.marks.specs.Owners.{standing};
+ghost use Rattle.marks.specs.Eight.{Spans};
 ghost use Rattle.walk.specs.Walk.{Place};
-ghost use Rattle.consistency.specs.Slots.{Fits, least, countHolds, nameFits, FileSeen, Seen, rowSlots, metAt};
+ghost use Rattle.consistency.specs.Slots.{Fits, leastOf, countHolds, nameFits, FileSeen, Seen, Directory, sectorSlots, diskSlots, HitCopied, metAt};
 
 // Whether the 1FH byte is allowed and the directory fits the image.
 pub fn length_holds(image: &[u8], g: Geometry) -> bool
@@ -54,14 +57,8 @@ fn count_holds(image: &[u8], g: Geometry, s: usize, at: usize, n: usize) -> bool
     walk::field_at(image, g, s, at, 3) == 0
 }
 
-// What a granule must stand at to be open to a file with these flags: the directory's are open to system files only.
-fn least_of(flags: usize) -> u8
-    ensures { λ r. ⌜ r ≡ least flags ⌝ }
-{
-    if (flags >> 6) % 2 == 1 { 1 } else { 2 }
-}
-
-// A file: its name, its sizes, and its whole chain.
+// A file: its name, its sizes, and its whole chain. The directory's granules are open to system files only: the walk of any other file must leave their
+// bits as they were. That is one test a file and none a run.
 fn file_holds(
     image: &[u8],
     g: Geometry,
@@ -69,11 +66,13 @@ fn file_holds(
     at: usize,
     flags: usize,
     h: usize,
-    map: &mut [u8; 1544],
+    map: &mut [u8; 192],
     met: &mut [u8; 256],
+    from: usize,
+    bits: usize,
 ) -> bool
-    requires { ⌜ Room g (now image) × Place g (now image) s at × (flags ≡ field g (now image) s 0) × (h ≡ hit g (now image) s) ⌝ }
-    ensures { λ r. ⌜ FileSeen g (now (image .entry)) s (now (map .entry)) (now (map .exit)) (now (met .entry)) (now (met .exit)) r ⌝ }
+    requires { ⌜ Room g (now image) × Place g (now image) s at × (flags ≡ field g (now image) s 0) × (h ≡ hit g (now image) s) × Directory g (now image) from bits ⌝ }
+    ensures { λ r. ⌜ FileSeen g (now (image .entry)) s (leastOf g (now (image .entry)) s) (standing g (now (image .entry)) (now (map .entry))) (standing g (now (image .entry)) (now (map .exit))) (now (met .entry)) (now (met .exit)) r ⌝ }
 {
     if (flags >> 5) % 2 == 1 {
         return false;
@@ -86,7 +85,14 @@ fn file_holds(
         return false;
     }
     let left = 8 * (layout::directory_sectors(image, g) - 2);
-    walk::file_walk(image, g, s, at, left, h, least_of(flags), n, map, met)
+    let before = marks::among(map, from, bits);
+    if !walk::file_walk(image, g, s, at, left, h, n, map, met) {
+        return false;
+    }
+    if (flags >> 6) % 2 == 1 {
+        return true;
+    }
+    marks::among(map, from, bits) == before
 }
 
 // One slot: its HIT byte, and the file that starts there.
@@ -95,11 +101,13 @@ fn slot_holds(
     g: Geometry,
     s: usize,
     at: usize,
-    map: &mut [u8; 1544],
+    map: &mut [u8; 192],
     met: &mut [u8; 256],
+    from: usize,
+    bits: usize,
 ) -> bool
-    requires { ⌜ Room g (now image) × Place g (now image) s at ⌝ }
-    ensures { λ r. ⌜ Seen g (now (image .entry)) (s ∷ []) (now (map .entry)) (now (map .exit)) (now (met .entry)) (now (met .exit)) r ⌝ }
+    requires { ⌜ Room g (now image) × Place g (now image) s at × Directory g (now image) from bits ⌝ }
+    ensures { λ r. ⌜ Seen g (now (image .entry)) (s ∷ []) (standing g (now (image .entry)) (now (map .entry))) (standing g (now (image .entry)) (now (map .exit))) (now (met .entry)) (now (met .exit)) r ⌝ }
 {
     let h = layout::hit(image, g, s);
     let flags = walk::field_at(image, g, s, at, 0);
@@ -112,90 +120,122 @@ fn slot_holds(
     if (flags >> 7) % 2 == 1 {
         return true;
     }
-    file_holds(image, g, s, at, flags, h, map, met)
+    file_holds(image, g, s, at, flags, h, map, met, from, bits)
 }
 
-// The slots of one row.
-fn row_holds(
+// The slots of one sector of the directory, which stand below each other in a column of the HIT.
+fn sector_holds(
     image: &[u8],
     g: Geometry,
-    row: usize,
-    map: &mut [u8; 1544],
+    column: usize,
+    map: &mut [u8; 192],
     met: &mut [u8; 256],
+    from: usize,
+    bits: usize,
 ) -> bool
-    requires { ⌜ Room g (now image) × (row < 8) ⌝ }
-    ensures { λ r. ⌜ Seen g (now (image .entry)) (rowSlots g (now (image .entry)) row) (now (map .entry)) (now (map .exit)) (now (met .entry)) (now (met .exit)) r ⌝ }
+    requires { ⌜ Room g (now image) × (column + 2 < directorySectors g (now image)) × Directory g (now image) from bits ⌝ }
+    ensures { λ r. ⌜ Seen g (now (image .entry)) (sectorSlots column) (standing g (now (image .entry)) (now (map .entry))) (standing g (now (image .entry)) (now (map .exit))) (now (met .entry)) (now (met .exit)) r ⌝ }
 {
-    let first = 32 * row;
-    let end = first + (layout::directory_sectors(image, g) - 2);
-    let mut at = 256 * (g.start + 2) + 32 * row;
-    let mut s = first;
-    while s < end {
-        if !slot_holds(image, g, s, at, map, met) {
+    let mut at = 256 * (g.start + 2 + column);
+    let mut s = column;
+    while s < 256 {
+        if !slot_holds(image, g, s, at, map, met, from, bits) {
             return false;
         }
-        at += 256;
+        at += 32;
+        s += 32;
+    }
+    true
+}
+
+// All slots, in the order in which their entries stand on the disk.
+fn slots_hold(
+    image: &[u8],
+    g: Geometry,
+    map: &mut [u8; 192],
+    met: &mut [u8; 256],
+    from: usize,
+    bits: usize,
+) -> bool
+    requires { ⌜ Room g (now image) × Directory g (now image) from bits ⌝ }
+    ensures { λ r. ⌜ Seen g (now (image .entry)) (diskSlots g (now (image .entry))) (standing g (now (image .entry)) (now (map .entry))) (standing g (now (image .entry)) (now (map .exit))) (now (met .entry)) (now (met .exit)) r ⌝ }
+{
+    let columns = layout::directory_sectors(image, g) - 2;
+    let mut column = 0;
+    while column < columns {
+        if !sector_holds(image, g, column, map, met, from, bits) {
+            return false;
+        }
+        column += 1;
+    }
+    true
+}
+
+// Each slot at its HIT byte: at 0 where it is not in use.
+fn copy_hit(image: &[u8], g: Geometry, met: &mut [u8; 256])
+    requires { ⌜ Room g (now image) × (length (now met) ≡ 256) ⌝ }
+    ensures { λ _. ⌜ HitCopied g (now (image .entry)) (now (met .exit)) ⌝ }
+{
+    let hit = 256 * (g.start + 1);
+    let mut s = 0;
+    while s < 256 {
+        met[s] = image[hit + s];
         s += 1;
     }
-    true
 }
 
-// All slots.
-fn slots_hold(image: &[u8], g: Geometry, map: &mut [u8; 1544], met: &mut [u8; 256]) -> bool
-    requires { ⌜ Room g (now image) ⌝ }
-    ensures { λ r. ⌜ Seen g (now (image .entry)) (slots g (now (image .entry))) (now (map .entry)) (now (map .exit)) (now (met .entry)) (now (met .exit)) r ⌝ }
+// Whether a row of slots from `first` on stands at 0, by eight. The last eight end with the row: some of them may be among those before.
+fn row_met(met: &[u8; 256], first: usize, columns: usize) -> bool
+    requires { ⌜ (8 ≤ columns) × (first + columns ≤ 256) ⌝ }
+    ensures { λ r. ⌜ r ≡ every (metAt (now (met .entry))) (count first columns) ⌝ }
 {
-    let mut row = 0;
-    while row < 8 {
-        if !row_holds(image, g, row, map, met) {
+    let end = first + columns;
+    let mut at = first;
+    while at + 8 < end {
+        if layout::eight(met, at) != 0 {
             return false;
         }
-        row += 1;
+        at += 8;
     }
-    true
+    layout::eight(met, end - 8) == 0
 }
 
-// Whether the entry of a slot was met in some chain, if it is in use.
-fn slot_met(image: &[u8], g: Geometry, s: usize, met: &[u8; 256]) -> bool
-    requires { ⌜ Room g (now image) × (s < 256) ⌝ }
-    ensures { λ r. ⌜ r ≡ metAt g (now (image .entry)) (now (met .entry)) s ⌝ }
-{
-    if met[s] == 0 {
-        return true;
-    }
-    layout::hit(image, g, s) == 0
-}
-
-// Whether each entry in use of a row was met in some chain.
-fn row_met(image: &[u8], g: Geometry, row: usize, met: &[u8; 256]) -> bool
-    requires { ⌜ Room g (now image) × (row < 8) ⌝ }
-    ensures { λ r. ⌜ r ≡ every (metAt g (now (image .entry)) (now (met .entry))) (rowSlots g (now (image .entry)) row) ⌝ }
-{
-    let first = 32 * row;
-    let end = first + (layout::directory_sectors(image, g) - 2);
-    let mut s = first;
-    while s < end {
-        if !slot_met(image, g, s, met) {
-            return false;
-        }
-        s += 1;
-    }
-    true
-}
-
-// Whether each entry in use was met in some chain.
+// Whether each entry in use was met in some chain: all slots stand at 0.
 fn all_met(image: &[u8], g: Geometry, met: &[u8; 256]) -> bool
     requires { ⌜ Room g (now image) ⌝ }
-    ensures { λ r. ⌜ r ≡ every (metAt g (now (image .entry)) (now (met .entry))) (slots g (now (image .entry))) ⌝ }
+    ensures { λ r. ⌜ r ≡ every (metAt (now (met .entry))) (slots g (now (image .entry))) ⌝ }
 {
+    let columns = layout::directory_sectors(image, g) - 2;
     let mut row = 0;
     while row < 8 {
-        if !row_met(image, g, row, met) {
+        if !row_met(met, 32 * row, columns) {
             return false;
         }
         row += 1;
     }
     true
+}
+
+// The first of the eight bytes of the owner map that the directory's granules stand in.
+fn directory_from(image: &[u8], g: Geometry) -> usize
+    requires { ⌜ Room g (now image) ⌝ }
+    ensures { λ r. ⌜ Spans (g .units) (g .start / granuleSectors) (directorySectors g (now (image .entry)) / granuleSectors) r ⌝ }
+{
+    let block = g.start / layout::GRANULE_SECTORS / g.units;
+    if block < 184 { block } else { 184 }
+}
+
+// The bits of the directory's granules in them.
+fn directory_bits(image: &[u8], g: Geometry, from: usize) -> usize
+    requires { ⌜ Room g (now image) × Spans (g .units) (g .start / granuleSectors) (directorySectors g (now image) / granuleSectors) from ⌝ }
+    ensures { λ r. ⌜ Directory g (now (image .entry)) from r ⌝ }
+{
+    marks::directory_bits(
+        g.units,
+        g.start / layout::GRANULE_SECTORS,
+        layout::directory_sectors(image, g) / layout::GRANULE_SECTORS,
+        from,
+    )
 }
 
 // Whether the disk is consistent. The geometry and the image's length fit.
@@ -206,19 +246,16 @@ pub fn consistent(image: &[u8], g: Geometry) -> bool
     if !length_holds(image, g) {
         return false;
     }
-    let mut map = [0u8; 1544];
-    marks::taken_map(image, g, &mut map);
-    if !marks::mark_run(
-        &mut map,
-        g.start / layout::GRANULE_SECTORS,
-        layout::directory_sectors(image, g) / layout::GRANULE_SECTORS,
-        2,
-        1,
-    ) {
+    let from = directory_from(image, g);
+    let bits = directory_bits(image, g, from);
+    let mut map = [0u8; 192];
+    marks::gat_map(image, g, &mut map);
+    if marks::among(&map, from, bits) != 0 {
         return false;
     }
-    let mut met = [1u8; 256];
-    if !slots_hold(image, g, &mut map, &mut met) {
+    let mut met = [0u8; 256];
+    copy_hit(image, g, &mut met);
+    if !slots_hold(image, g, &mut map, &mut met, from, bits) {
         return false;
     }
     if !all_met(image, g, &met) {

@@ -1,114 +1,136 @@
-// A map with one number a granule: 3 where its GAT bit is set, 1 where it lies in the directory besides, 0 where the bit is clear
-// or a run holds the granule already; 8 places more than granules, since a block's byte is read whole. So "its GAT bit is set", "it is in no two runs" and "it is off the directory" are one test.
+// The owner map (02, §8): one bit a granule, laid out as the GAT is, a byte a block. A bit is clear where the granule is open: its GAT bit is
+// set, and no run holds it so far. So "its GAT bit is set" and "it is in no two runs" are one test, and a run is tested and taken by masks.
 use meaning::Geometry;
 ghost use mathlib.Core.Path.{_≡_};
-ghost use mathlib.Core.Bool.{true};
 ghost use Prim.Native.Nat.{_+_, _*_, _<_, _≤_};
-ghost use lib.ListN.{length};
-ghost use Rattle.meaning.specs.Layout.{mostGranules};
-ghost use Rattle.meaning.specs.Lists.{count};
-ghost use Rattle.layout.specs.Room.{Room};
-ghost use Rattle.marks.specs.Marks.{marked, Marks, Stand, Spread, Bits, TakenMap};
+ghost use lib.ListN.{length, getD};
+ghost use Rattle.meaning.specs.Layout.{mostBlocks, mostUnits};
+ghost use Rattle.layout.specs.Room.{Room, Read};
+ghost use Rattle.marks.specs.Owners.{Takes, GatMap, Window};
+ghost use Rattle.marks.specs.Eight.{ReadsEight, PutsEight, Spans, Among};
 
-// Whether eight granules from `at` on lie before `end` and all stand at 3, which is `least` or above.
-fn eight_stand(map: &[u8], at: usize, end: usize, least: u8) -> bool
-    requires { ⌜ (end ≤ 1536) × (length (now map) ≡ 1544) × (at ≤ end) ⌝ }
-    ensures { λ r. ⌜ (r ≡ true → Stand (now (map .entry)) at end least) ⌝ }
+// The GAT: a bit is clear where the GAT's is set.
+pub fn gat_map(image: &[u8], g: Geometry, map: &mut [u8; 192])
+    requires { ⌜ Room g (now image) × (length (now map) ≡ mostBlocks) ⌝ }
+    ensures { λ _. ⌜ GatMap g (now (image .entry)) (now (map .exit)) ⌝ }
 {
-    if end < at + 8 {
-        return false;
+    let gat = 256 * g.start;
+    let mut b = 0;
+    while b < 192 {
+        map[b] = 255 - image[gat + b];
+        b += 1;
     }
-    if layout::eight(map, at) != 0x0303030303030303 {
-        return false;
-    }
-    least <= 3
 }
 
-// Sets eight granules to v, written so that a machine that can makes one store of it.
-fn mark_eight(map: &mut [u8; 1544], at: usize, v: u8)
-    requires { ⌜ at + 8 ≤ 1536 ⌝ }
-    ensures { λ _. ⌜ now (map .exit) ≡ marked (now (map .entry)) v (count at 8) ⌝ }
+// The byte of a block. A slice's length is known, an array's behind a reference is not: hence a function of its own.
+fn byte_of(map: &[u8], block: usize) -> usize
+    requires { ⌜ block < length (now map) ⌝ }
+    ensures { λ r. ⌜ Read (getD (now (map .entry)) block 0) r ⌝ }
 {
-    map[at] = v;
-    map[at + 1] = v;
-    map[at + 2] = v;
-    map[at + 3] = v;
-    map[at + 4] = v;
-    map[at + 5] = v;
-    map[at + 6] = v;
-    map[at + 7] = v;
+    layout::wide(map[block])
 }
 
-// Sets n granules from a on to v, one after the other; whether each stood at `least` or above.
-fn mark_singly(map: &mut [u8; 1544], a: usize, n: usize, least: u8, v: u8) -> bool
-    requires { ⌜ a + n ≤ 1536 ⌝ }
-    ensures { λ r. ⌜ Marks (now (map .entry)) least v (count a n) (now (map .exit)) r ⌝ }
+// Takes n granules of one block, from `unit` on. Whether all were open.
+pub fn take_units(map: &mut [u8; 192], units: usize, block: usize, unit: usize, n: usize) -> bool
+    requires { ⌜ (block < mostBlocks) × (unit + n ≤ units) × (units ≤ mostUnits) × (1 ≤ n) ⌝ }
+    ensures { λ r. ⌜ Takes units (now (map .entry)) (block * units + unit) n (now (map .exit)) r ⌝ }
 {
-    let end = a + n;
-    let mut at = a;
-    while at < end {
-        if map[at] < least {
-            return false;
-        }
-        map[at] = v;
-        at += 1;
+    let mask = ((1 << n) - 1) << unit;
+    let x = byte_of(map, block);
+    if x & mask != 0 {
+        return false;
     }
+    map[block] = (x | mask) as u8;
     true
 }
 
-// The same, by eight as long as eight stand.
-pub fn mark_run(map: &mut [u8; 1544], a: usize, n: usize, least: u8, v: u8) -> bool
-    requires { ⌜ a + n ≤ 1536 ⌝ }
-    ensures { λ r. ⌜ Marks (now (map .entry)) least v (count a n) (now (map .exit)) r ⌝ }
+// The same over several blocks, one after the other.
+fn take_blocks(map: &mut [u8; 192], units: usize, block: usize, unit: usize, n: usize) -> bool
+    requires { ⌜ (unit < units) × (units ≤ mostUnits) × (block * units + unit + n ≤ mostBlocks * units) × (1 ≤ n) × (n ≤ 32) ⌝ }
+    ensures { λ r. ⌜ Takes units (now (map .entry)) (block * units + unit) n (now (map .exit)) r ⌝ }
 {
-    let end = a + n;
-    let mut at = a;
-    while eight_stand(map, at, end, least) {
-        mark_eight(map, at, v);
-        at += 8;
-    }
-    mark_singly(map, at, end - at, least, v)
-}
-
-// The bits of a GAT byte in eight bytes of a number, lowest first, each as 0 or 3: the byte eight times, of each copy its own bit, and
-// that carried to the top of its byte.
-fn spread(gat: u8) -> usize
-    ensures { λ r. ⌜ Spread gat r ⌝ }
-{
-    let own = (layout::wide(gat) * 0x0101010101010101) & 0x8040201008040201;
-    let tops = (own + 0x007f7f7f7f7f7f7f) & 0x8080808080808080;
-    tops / 128 * 3
-}
-
-// The GAT byte of one block, its bits one after the other from n on. Those past the last unit are written over by the next block. The eight
-// stores are written so that a machine that can makes one of them.
-fn block_bits(map: &mut [u8; 1544], n: usize, gat: u8)
-    requires { ⌜ (n + 8 ≤ 1544) × (length (now map) ≡ 1544) ⌝ }
-    ensures { λ _. ⌜ Bits (now (map .entry)) n 8 gat (now (map .exit)) ⌝ }
-{
-    let bits = spread(gat);
-    map[n] = (bits % 256) as u8;
-    map[n + 1] = (bits / 0x100 % 256) as u8;
-    map[n + 2] = (bits / 0x10000 % 256) as u8;
-    map[n + 3] = (bits / 0x1000000 % 256) as u8;
-    map[n + 4] = (bits / 0x100000000 % 256) as u8;
-    map[n + 5] = (bits / 0x10000000000 % 256) as u8;
-    map[n + 6] = (bits / 0x1000000000000 % 256) as u8;
-    map[n + 7] = (bits / 0x100000000000000 % 256) as u8;
-}
-
-// The GAT, one number a granule.
-pub fn taken_map(image: &[u8], g: Geometry, map: &mut [u8; 1544])
-    requires { ⌜ Room g (now image) × (length (now map) ≡ 1544) ⌝ }
-    ensures { λ _. ⌜ TakenMap g (now (image .entry)) (now (map .exit)) ⌝ }
-{
-    let units = g.units;
-    let gat = 256 * g.start;
-    let mut n = 0;
-    let mut b = 0;
-    while b < g.blocks {
-        block_bits(map, n, image[gat + b]);
-        n += units;
+    let mut b = block;
+    let mut u = unit;
+    let mut left = n;
+    while units < u + left {
+        if !take_units(map, units, b, u, units - u) {
+            return false;
+        }
+        left -= units - u;
         b += 1;
+        u = 0;
     }
+    take_units(map, units, b, u, left)
+}
+
+// Eight bytes of the map as a number. A slice's elements are known to be bytes, an array's behind a reference are not.
+fn read_eight(map: &[u8], at: usize) -> usize
+    requires { ⌜ at + 8 ≤ length (now map) ⌝ }
+    ensures { λ r. ⌜ ReadsEight (now (map .entry)) at r ⌝ }
+{
+    layout::eight(map, at)
+}
+
+// Puts the eight bytes of x into the map, lowest first, written so that a machine that can stores them at once.
+fn put_eight(map: &mut [u8; 192], at: usize, x: usize)
+    requires { ⌜ (length (now map) ≡ mostBlocks) × (at + 8 ≤ mostBlocks) ⌝ }
+    ensures { λ _. ⌜ PutsEight (now (map .entry)) at x (now (map .exit)) ⌝ }
+{
+    map[at] = (x % 256) as u8;
+    map[at + 1] = (x / 0x100 % 256) as u8;
+    map[at + 2] = (x / 0x10000 % 256) as u8;
+    map[at + 3] = (x / 0x1000000 % 256) as u8;
+    map[at + 4] = (x / 0x100000000 % 256) as u8;
+    map[at + 5] = (x / 0x10000000000 % 256) as u8;
+    map[at + 6] = (x / 0x1000000000000 % 256) as u8;
+    map[at + 7] = (x / 0x100000000000000 % 256) as u8;
+}
+
+// Takes a run of a disk with 8 units a block: there the granules stand one after the other in the map, and the run in eight bytes of it.
+fn take_stretch(map: &mut [u8; 192], block: usize, unit: usize, n: usize) -> bool
+    requires { ⌜ (unit < mostUnits) × (block * 8 + unit + n ≤ mostBlocks * 8) × (1 ≤ n) × (n ≤ 32) ⌝ }
+    ensures { λ r. ⌜ Takes 8 (now (map .entry)) (block * 8 + unit) n (now (map .exit)) r ⌝ }
+{
+    let at = if block < 184 { block } else { 184 };
+    let shift = 8 * (block - at) + unit;
+    let mask = ((1 << n) - 1) << shift;
+    let x = read_eight(map, at);
+    if x & mask != 0 {
+        return false;
+    }
+    put_eight(map, at, x | mask);
+    true
+}
+
+// Takes a run that goes over one block's end.
+pub fn take_long(map: &mut [u8; 192], units: usize, block: usize, unit: usize, n: usize) -> bool
+    requires { ⌜ (unit < units) × (units ≤ mostUnits) × (block * units + unit + n ≤ mostBlocks * units) × (1 ≤ n) × (n ≤ 32) ⌝ }
+    ensures { λ r. ⌜ Takes units (now (map .entry)) (block * units + unit) n (now (map .exit)) r ⌝ }
+{
+    if units == 8 {
+        return take_stretch(map, block, unit, n);
+    }
+    take_blocks(map, units, block, unit, n)
+}
+
+// The bits of n granules from a on, in the eight bytes of the map from `at` on.
+pub fn directory_bits(units: usize, a: usize, n: usize, at: usize) -> usize
+    requires { ⌜ (1 ≤ units) × (units ≤ mostUnits) × (n ≤ 6) × (a + n ≤ mostBlocks * units) × Spans units a n at ⌝ }
+    ensures { λ r. ⌜ Window units a n at r ⌝ }
+{
+    let mut bits = 0;
+    let mut k = a;
+    while k < a + n {
+        bits = bits | (1 << (8 * (k / units - at) + k % units));
+        k += 1;
+    }
+    bits
+}
+
+// Those of the bits that are set in the map.
+pub fn among(map: &[u8; 192], at: usize, bits: usize) -> usize
+    requires { ⌜ at + 8 ≤ mostBlocks ⌝ }
+    ensures { λ r. ⌜ Among (now (map .entry)) at bits r ⌝ }
+{
+    read_eight(map, at) & bits
 }

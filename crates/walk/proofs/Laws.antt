@@ -4,12 +4,12 @@ use mathlib.Core.List.{List, [], _∷_, _++_, append-nil}
 use mathlib.Core.Bool.{Bool, true, false, not, cond, _&&_, _||_, and-true}
 use Prim.Native.Nat.{ℕ, zero, suc, _+_, _-_, _*_, _/_, _%_, _≤_, _<_}
 use native.Mathlib.Omega.{arith}
-use native.Mathlib.Nat.{add-zero, zero-add}
+use native.Mathlib.Nat.{add-zero, zero-add, add-mul, one-mul, mul-le-mul}
 use lib.ListN.{length, getD, set, length-append}
 use lib.Dec.{eqb, ltb, leb}
 use borrow.Author.Tests.{le-leb, lt-leb, lt-ltb, le-ltb, eq-eqb, ne-eqb, eqb-true, not-true, not-false}
 use Rattle.meaning.specs.Lists.{count, every, each, all, any, length-count}
-use Rattle.meaning.specs.Layout.{granules, field, hit, isSlot, granuleSectors}
+use Rattle.meaning.specs.Layout.{granules, field, hit, isSlot, granuleSectors, mostBlocks}
 use Rattle.meaning.specs.Entries.{runs, runsFrom, block, second, firstUnit, runStart, runLength, runGranules, entryGranules, marker, link}
 use Rattle.meaning.specs.Chain.{chainFrom}
 use Rattle.meaning.specs.Consistent.{pairsHold, runsHold}
@@ -26,6 +26,23 @@ use Rattle.walk.proofs.Lists.{not-both, on, off, all-out, all-four, eve
 
 -- A run ------------------------------------------------------------------------------------------------------------------
 
+-- a run within one block is on the disk exactly if the block is
+pub block-in : (g : Geometry) (y a : ℕ) → y < g .blocks → a ≤ g .units → y * g .units + a ≤ granules g
+unfolding granules
+block-in g y a h l =
+    let e : (y + 1) * g .units ≡ y * g .units + 1 * g .units = add-mul y 1 (g .units) in
+    let o : 1 * g .units ≡ g .units = one-mul (g .units) in
+    let q : (y + 1) * g .units ≤ g .blocks * g .units = mul-le-mul {n₁ = y + 1} {m₁ = g .units} {n₂ = g .blocks} {m₂ = g .units} (omega arith) (omega arith) in omega arith
+
+pub block-out : (g : Geometry) (y a : ℕ) → g .blocks ≤ y → 1 ≤ a → granules g < y * g .units + a
+unfolding granules
+block-out g y a h l = let q : g .blocks * g .units ≤ y * g .units = mul-le-mul {n₁ = g .blocks} {m₁ = g .units} {n₂ = y} {m₂ = g .units} h (omega arith) in omega arith
+
+-- and what is on the disk is on the owner map
+pub on-map : (g : Geometry) (d : List ℕ) (a : ℕ) → Room g d → a ≤ granules g → a ≤ mostBlocks * g .units
+unfolding granules
+on-map g d a r h = let q : g .blocks * g .units ≤ mostBlocks * g .units = mul-le-mul {n₁ = g .blocks} {m₁ = g .units} {n₂ = mostBlocks} {m₂ = g .units} (r .blocks-high) (omega arith) in omega arith
+
 module _ (g : Geometry) (d : List ℕ) (s k least : ℕ) where
   taken-not : {m m′ : List ℕ} → all (runHolds g d s k ∷ allows m least 0 (runGranules g d s k) ∷ []) ≡ false → TakesRun g d s k least m m′ 0
   taken-not h = record { small = omega arith; no′ = λ e. h; yes′ = λ n. absurd (n refl) }
@@ -33,11 +50,9 @@ module _ (g : Geometry) (d : List ℕ) (s k least : ℕ) where
   pub takes-unit : {m m′ : List ℕ} {x : ℕ} → x ≡ second g d s k → g .units ≤ x / 32 → TakesRun g d s k least m m′ 0
   takes-unit e h = taken-not (all-no (all-no (le-ltb _ _ (rw e at h)) _) _)
 
-  pub takes-disk : {m m′ : List ℕ} {x y w : ℕ} → x ≡ second g d s k → y ≡ block g d s k → w ≡ granules g → w ≤ y * g .units + x / 32 + x % 32
+  pub takes-disk : {m m′ : List ℕ} {x y w : ℕ} → x ≡ second g d s k → y ≡ block g d s k → w ≡ granules g → w < y * g .units + x / 32 + (1 + x % 32)
       → TakesRun g d s k least m m′ 0
-  takes-disk {m} {m′} {x} {y} {w} e f q h =
-      let l : w < y * g .units + x / 32 + (1 + x % 32) = omega arith in
-      taken-not (all-no (all-out _ 1 (lt-leb _ _ (rw (e, f, q) at l))) _)
+  takes-disk e f q h = taken-not (all-no (all-out _ 1 (lt-leb _ _ (rw (e, f, q) at h))) _)
 
   pub takes-map : {m m′ : List ℕ} {x y : ℕ} {r : Bool} → x ≡ second g d s k → y ≡ block g d s k
       → Marks m least 0 (count (y * g .units + x / 32) (1 + x % 32)) m′ r → not r ≡ true → TakesRun g d s k least m m′ 0
@@ -46,10 +61,9 @@ module _ (g : Geometry) (d : List ℕ) (s k least : ℕ) where
       taken-not (all-out _ 1 (is-no (w′ .answer) h))
 
   pub takes-run : {m m′ : List ℕ} {x y w : ℕ} {r : Bool} → x ≡ second g d s k → y ≡ block g d s k → w ≡ granules g → x / 32 < g .units
-      → y * g .units + x / 32 + x % 32 < w → Marks m least 0 (count (y * g .units + x / 32) (1 + x % 32)) m′ r → not r ≡ false
+      → y * g .units + x / 32 + (1 + x % 32) ≤ w → Marks m least 0 (count (y * g .units + x / 32) (1 + x % 32)) m′ r → not r ≡ false
       → TakesRun g d s k least m m′ (1 + x % 32)
   takes-run {m} {m′} {x} {y} {w} {r} e f q u l k′ h =
-      let l′ : y * g .units + x / 32 + (1 + x % 32) ≤ w = omega arith in
       let w′ : Marks m least 0 (runGranules g d s k) m′ r = rw (e, f) at k′ in
       record {
         small = omega arith;
@@ -58,7 +72,7 @@ module _ (g : Geometry) (d : List ℕ) (s k least : ℕ) where
             λ z.
             record {
               length-is = ap (λ (v : ℕ). 1 + v % 32) e;
-              holds = all-yes (lt-ltb _ _ (rw e at u)) _ ∙ all-yes (le-leb _ _ (rw (e, f, q) at l′)) _ ∙ all-none;
+              holds = all-yes (lt-ltb _ _ (rw e at u)) _ ∙ all-yes (le-leb _ _ (rw (e, f, q) at l)) _ ∙ all-none;
               allowed = is-yes (w′ .answer) h;
               map = w′ .map (not-false r h);
             };

@@ -10,9 +10,8 @@ use lib.ListN.{getD}
 use lib.Dec.{eqb, ltb}
 use borrow.Author.Tests.{eq-eqb, ne-eqb, lt-ltb}
 use Rattle.meaning.specs.Lists.{count, every, each, all}
-use Rattle.layout.proofs.Laws.{left-more, left-none}
 use Rattle.layout.proofs.Lists.{all-at, count-append}
-use Rattle.marks.proofs.Laws.{count-more, count-none}
+use Rattle.marks.proofs.Laws.{count-none}
 use Rattle.laws.specs.Members
 
 pub not-both : {A : Type 0} {b : Bool} → b ≡ true → b ≡ false → A
@@ -34,12 +33,6 @@ all-out bs k h = by (all bs) refl
 
 pub all-four : {a a′ b b′ c c′ e e′ : Bool} → a ≡ a′ → b ≡ b′ → c ≡ c′ → e ≡ e′ → all (a ∷ b ∷ c ∷ e ∷ []) ≡ all (a′ ∷ b′ ∷ c′ ∷ e′ ∷ [])
 all-four p q r s = rw (p, q, r, s)
-
-pub every-no : (p : ℕ → Bool) {i n : ℕ} → i < n → p i ≡ false → every p (count i (n - i)) ≡ false
-every-no p {i} {n} h f = ap (every p) (count-more h) ∙ ap (λ (b : Bool). b && every p (count (i + 1) (n - (i + 1)))) f
-
-pub every-yes : (p : ℕ → Bool) {i n : ℕ} → i < n → p i ≡ true → every p (count i (n - i)) ≡ every p (count (i + 1) (n - (i + 1)))
-every-yes p {i} {n} h t = ap (every p) (count-more h) ∙ ap (λ (b : Bool). b && every p (count (i + 1) (n - (i + 1)))) t
 
 pub every-none : (p : ℕ → Bool) {i n : ℕ} → n ≤ i → every p (count i (n - i)) ≡ true
 every-none p h = ap (every p) (count-none h)

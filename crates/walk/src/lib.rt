@@ -1,4 +1,4 @@
-// The walk along a file's chain: it tests every entry that it meets, and takes the entry's granules off the map.
+// The walk along a file's chain: it tests every entry that it meets, and takes the entry's granules off the owner map.
 use meaning::Geometry;
 ghost use mathlib.Core.Path.{_≡_};
 ghost use Prim.Native.Nat.{_+_, _-_, _*_, _<_, _≤_};
@@ -9,6 +9,7 @@ ghost use Rattle.meaning.specs.Layout.{field, entryAt};
 ghost use Rattle.meaning.specs.Entries.{link, marker};
 ghost use Rattle.meaning.specs.Chain.{chainFrom};
 ghost use Rattle.layout.specs.Room.{Room, Slot, Read};
+ghost use Rattle.marks.specs.Owners.{standing};
 ghost use Rattle.walk.specs.Walk.{Place, runsOf, TakesRun, Entered, Walked, unused, goesOn, markerHolds, chainHolds, onward};
 
 // Where the entry of a slot is.
@@ -27,29 +28,32 @@ pub fn field_at(image: &[u8], g: Geometry, s: usize, at: usize, k: usize) -> usi
     layout::wide(image[at + k])
 }
 
-// Takes run k of an entry off the map. Its length; 0 if it is not on the disk, or a granule of it is not open to the file.
-fn take_run(
-    image: &[u8],
-    g: Geometry,
-    s: usize,
-    at: usize,
-    k: usize,
-    map: &mut [u8; 1544],
-    least: u8,
-) -> usize
+// Takes run k of an entry off the map. Its length; 0 if it is not on the disk, or a granule of it is not open. A run within one block is the common
+// case: one test of one byte, and its block's number says whether it is on the disk.
+fn take_run(image: &[u8], g: Geometry, s: usize, at: usize, k: usize, map: &mut [u8; 192]) -> usize
     requires { ⌜ Room g (now image) × Place g (now image) s at × (k < 4) ⌝ }
-    ensures { λ r. ⌜ TakesRun g (now (image .entry)) s k least (now (map .entry)) (now (map .exit)) r ⌝ }
+    ensures { λ r. ⌜ TakesRun g (now (image .entry)) s k 1 (standing g (now (image .entry)) (now (map .entry))) (standing g (now (image .entry)) (now (map .exit))) r ⌝ }
 {
     let second = field_at(image, g, s, at, 0x17 + 2 * k);
-    if g.units <= second / 32 {
-        return 0;
-    }
-    let a = field_at(image, g, s, at, 0x16 + 2 * k) * g.units + second / 32;
-    if layout::granules(g) <= a + second % 32 {
-        return 0;
-    }
+    let block = field_at(image, g, s, at, 0x16 + 2 * k);
+    let unit = second / 32;
     let n = 1 + second % 32;
-    if !marks::mark_run(map, a, n, least, 0) {
+    if unit + n <= g.units {
+        if g.blocks <= block {
+            return 0;
+        }
+        if !marks::take_units(map, g.units, block, unit, n) {
+            return 0;
+        }
+        return n;
+    }
+    if g.units <= unit {
+        return 0;
+    }
+    if layout::granules(g) < block * g.units + unit + n {
+        return 0;
+    }
+    if !marks::take_long(map, g.units, block, unit, n) {
         return 0;
     }
     n
@@ -91,16 +95,9 @@ pub struct Pairs {
 }
 
 // Takes the granules of an entry off the map.
-pub fn take_runs(
-    image: &[u8],
-    g: Geometry,
-    s: usize,
-    at: usize,
-    map: &mut [u8; 1544],
-    least: u8,
-) -> Pairs
+pub fn take_runs(image: &[u8], g: Geometry, s: usize, at: usize, map: &mut [u8; 192]) -> Pairs
     requires { ⌜ Room g (now image) × Place g (now image) s at ⌝ }
-    ensures { λ r. ⌜ Entered g (now (image .entry)) s least (now (map .entry)) (now (map .exit)) r ⌝ }
+    ensures { λ r. ⌜ Entered g (now (image .entry)) s 1 (standing g (now (image .entry)) (now (map .entry))) (standing g (now (image .entry)) (now (map .exit))) r ⌝ }
 {
     let mut k = 0;
     let mut n = 0;
@@ -112,7 +109,7 @@ pub fn take_runs(
                 granules: n,
             };
         }
-        let len = take_run(image, g, s, at, k, map, least);
+        let len = take_run(image, g, s, at, k, map);
         if len == 0 {
             return Pairs {
                 ok: false,
@@ -166,20 +163,19 @@ pub fn file_walk(
     at: usize,
     left: usize,
     h: usize,
-    least: u8,
     sectors: usize,
-    map: &mut [u8; 1544],
+    map: &mut [u8; 192],
     met: &mut [u8; 256],
 ) -> bool
     requires { ⌜ Room g (now image) × Place g (now image) s at × (left ≡ 0 → ⊥) × (128 * left ≤ 65536) ⌝ }
-    ensures { λ r. ⌜ Walked g (now (image .entry)) least sectors 0 (chainHolds g (now (image .entry)) h left s)
-        (chainFrom g (now (image .entry)) left s) (now (map .entry)) (now (map .exit)) (now (met .entry)) (now (met .exit)) r ⌝ }
+    ensures { λ r. ⌜ Walked g (now (image .entry)) 1 sectors 0 (chainHolds g (now (image .entry)) h left s)
+        (chainFrom g (now (image .entry)) left s) (standing g (now (image .entry)) (now (map .entry))) (standing g (now (image .entry)) (now (map .exit))) (now (met .entry)) (now (met .exit)) r ⌝ }
 {
     if met[s] < 1 {
         return false;
     }
     met[s] = 0;
-    let p = take_runs(image, g, s, at, map, least);
+    let p = take_runs(image, g, s, at, map);
     if !p.ok {
         return false;
     }
@@ -194,7 +190,6 @@ pub fn file_walk(
         p.runs,
         left - 1,
         h,
-        least,
         sectors,
         p.granules,
         map,
@@ -211,15 +206,14 @@ fn entry_walk(
     at: usize,
     left: usize,
     h: usize,
-    least: u8,
     sectors: usize,
     owned: usize,
-    map: &mut [u8; 1544],
+    map: &mut [u8; 192],
     met: &mut [u8; 256],
 ) -> bool
     requires { ⌜ Room g (now image) × Place g (now image) s at × (owned + 128 * left ≤ 65536) ⌝ }
-    ensures { λ r. ⌜ Walked g (now (image .entry)) least sectors owned (chainHolds g (now (image .entry)) h left s)
-        (chainFrom g (now (image .entry)) left s) (now (map .entry)) (now (map .exit)) (now (met .entry)) (now (met .exit)) r ⌝ }
+    ensures { λ r. ⌜ Walked g (now (image .entry)) 1 sectors owned (chainHolds g (now (image .entry)) h left s)
+        (chainFrom g (now (image .entry)) left s) (standing g (now (image .entry)) (now (map .entry))) (standing g (now (image .entry)) (now (map .exit))) (now (met .entry)) (now (met .exit)) r ⌝ }
 {
     if left == 0 {
         return false;
@@ -228,7 +222,7 @@ fn entry_walk(
         return false;
     }
     met[s] = 0;
-    let p = take_runs(image, g, s, at, map, least);
+    let p = take_runs(image, g, s, at, map);
     if !p.ok {
         return false;
     }
@@ -243,7 +237,6 @@ fn entry_walk(
         p.runs,
         left - 1,
         h,
-        least,
         sectors,
         owned + p.granules,
         map,
@@ -260,23 +253,22 @@ fn marker_walk(
     runs: usize,
     left: usize,
     h: usize,
-    least: u8,
     sectors: usize,
     owned: usize,
-    map: &mut [u8; 1544],
+    map: &mut [u8; 192],
     met: &mut [u8; 256],
 ) -> bool
     requires { ⌜ Room g (now image) × Place g (now image) s at × (runs ≡ runsOf g (now image) s)
         × (owned + 128 * left ≤ 65536) × (marker g (now image) s ≡ 0xff → ⊥) ⌝ }
-    ensures { λ r. ⌜ Walked g (now (image .entry)) least sectors owned
+    ensures { λ r. ⌜ Walked g (now (image .entry)) 1 sectors owned
         (markerHolds g (now (image .entry)) h s (chainHolds g (now (image .entry)) h left (link g (now (image .entry)) s)))
         (onward g (now (image .entry)) s (chainFrom g (now (image .entry)) left (link g (now (image .entry)) s)))
-        (now (map .entry)) (now (map .exit)) (now (met .entry)) (now (met .exit)) r ⌝ }
+        (standing g (now (image .entry)) (now (map .entry))) (standing g (now (image .entry)) (now (map .exit))) (now (met .entry)) (now (met .exit)) r ⌝ }
 {
     if !goes_on(image, g, s, at, runs, h) {
         return false;
     }
     let t = field_at(image, g, s, at, 0x1f);
     let to = entry_at(image, g, t);
-    entry_walk(image, g, t, to, left, h, least, sectors, owned, map, met)
+    entry_walk(image, g, t, to, left, h, sectors, owned, map, met)
 }

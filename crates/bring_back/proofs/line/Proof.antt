@@ -2,6 +2,7 @@ use lib.ListN.{length, length-set}
 use mathlib.Core.Path.{_≡_, _∙_}
 use Rattle.bring_back.proofs.Chain.{Lining, lining-start, lining-bad, lining-stop, lining-more, lining-end}
 use Prim.Native.Nat.{_-_}
+use Rattle.marks.specs.Owners.{standing}
 use native.Mathlib.Omega.{arith}
 use Rattle.bring_back.proofs.line.Statement.{statement}
 use Rattle.bring_back.proofs.line.Tie as tie
@@ -11,7 +12,7 @@ use Rattle.bring_back.proofs.visit.Reads as visit-reads
 use Rattle.layout.proofs.field.Reads as field-reads
 
 abbrev Inv-loop : tie.InvT-loop
-Inv-loop image g s most entries₀ map₀ met₀ at₀ n₀ granules₀ entries map met at n granules = (length entries ≡ 256) × Lining g image most s entries map met at n granules
+Inv-loop image g s most entries₀ map₀ met₀ at₀ n₀ granules₀ entries map met at n granules = (length entries ≡ 256) × Lining g image most s entries (standing g image map) met at n granules
 
 abbrev μ-loop : tie.MeasureT-loop
 μ-loop image g s most entries₀ map₀ met₀ at₀ n₀ granules₀ entries map met at n granules = most - n

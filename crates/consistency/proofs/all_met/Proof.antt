@@ -1,52 +1,63 @@
+use Rattle.layout.proofs.Lists.{is-no, is-yes}
+use Rattle.meaning.specs.Lists.{every}
+use Rattle.consistency.specs.Slots.{metAt}
+use Rattle.consistency.proofs.Laws.{Rows, rows-are, rows-step, rows-stop, rows-end}
+use mathlib.Core.Path.{refl, ap, _∙_}
+use Prim.Native.Nat.{_-_}
 use native.Mathlib.Omega.{arith}
 use borrow.Author.Needs.{needs}
-use Rattle.consistency.proofs.Laws.{rowsFrom, rows-are, rows-yes, rows-no, rows-none}
-use Rattle.consistency.specs.Slots.{rowSlots, metAt}
-use Rattle.meaning.specs.Layout.{slots}
-use Rattle.meaning.specs.Lists.{every}
-use Rattle.layout.proofs.Lists.{is-no, is-yes}
-use Prim.Native.Nat.{ℕ, _+_, _-_, _*_, _≤_}
-use mathlib.Core.Bool.{Bool, _&&_}
-use mathlib.Core.Path.{_≡_, refl, sym, ap, _∙_}
 use Rattle.consistency.proofs.all_met.Statement.{statement}
 use Rattle.consistency.proofs.all_met.Tie as tie
 use Rattle.consistency.proofs.all_met.Reads as reads
 use Rattle.consistency.proofs.all_met.Lts as lts
 use Rattle.consistency.proofs.row_met.Reads as row-met-reads
+use Rattle.layout.proofs.directory_sectors.Reads as directory-sectors-reads
 
 abbrev Inv-loop : tie.InvT-loop
-Inv-loop image g met row₀ row = every (metAt g image met) (slots g image) ≡ every (metAt g image met) (rowsFrom g image row)
+Inv-loop image met columns row₀ row = Rows (metAt met) columns row
 
 abbrev μ-loop : tie.MeasureT-loop
-μ-loop image g met row₀ row = 8 - row
+μ-loop image met columns row₀ row = 8 - row
 
--- src/lib.rt:178:5
+-- src/lib.rt:192:19
+directory-sectors-requires : tie.Need-directory-sectors-requires Inv-loop μ-loop
+directory-sectors-requires c κs = search needs
+
+-- src/lib.rt:192:19
+sub-columns : tie.Need-sub-columns Inv-loop μ-loop
+sub-columns c = search needs
+
+-- src/lib.rt:194:5
 loop-holds : tie.Need-loop-holds Inv-loop μ-loop
-loop-holds c = ap (every (metAt (c .before .args .g) (c .before .args .image .now) (c .before .args .met .now))) (sym (rows-are _ _ (c .before .pre)))
+loop-holds c = record { rest = refl }
 
--- src/lib.rt:179:13
+-- src/lib.rt:195:26
+mul-row-met : tie.Need-mul-row-met Inv-loop μ-loop
+mul-row-met c = search needs
+
+-- src/lib.rt:195:13
 row-met-requires : tie.Need-row-met-requires Inv-loop μ-loop
-row-met-requires c κs = search needs
+row-met-requires c κs = (omega arith, omega arith)
 
--- src/lib.rt:180:13
+-- src/lib.rt:196:13
 returns : tie.Need-returns Inv-loop μ-loop
-returns c = sym (c .before .before .before .loop .inv ∙ rows-no _ _ (metAt (c .before .before .before .before .before .args .g) (c .before .before .before .before .before .args .image .now) (c .before .before .before .before .before .args .met .now)) (c .before .before .loop-test .taken) (is-no (c .before .row-met .ensures) (c .if1 .taken)))
+returns c = rows-stop (c .before .before .before .loop .inv) (c .before .before .loop-test .taken) (is-no (c .before .row-met .ensures) (c .if1 .taken)) ∙ ap (every (metAt (c .before .before .before .before .before .before .args .met .now))) (rows-are _ _ (c .before .before .before .before .before .before .pre) (c .before .before .before .before .directory-sectors .ensures))
 
--- src/lib.rt:182:9
+-- src/lib.rt:198:9
 add-row : tie.Need-add-row Inv-loop μ-loop
 add-row c = search needs
 
--- src/lib.rt:178:5
+-- src/lib.rt:194:5
 loop-less : tie.Need-loop-less Inv-loop μ-loop
 loop-less c = omega arith
 
--- src/lib.rt:178:5
+-- src/lib.rt:194:5
 loop-again : tie.Need-loop-again Inv-loop μ-loop
-loop-again c = c .before .before .before .loop .inv ∙ rows-yes _ _ (metAt (c .before .before .before .before .before .args .g) (c .before .before .before .before .before .args .image .now) (c .before .before .before .before .before .args .met .now)) (c .before .before .loop-test .taken) (is-yes (c .before .row-met .ensures) (c .if1 .left))
+loop-again c = rows-step (c .before .before .before .loop .inv) (c .before .before .loop-test .taken) (is-yes (c .before .row-met .ensures) (c .if1 .left))
 
--- src/lib.rt:173:1
+-- src/lib.rt:188:1
 returns-2 : tie.Need-returns-2 Inv-loop μ-loop
-returns-2 c = sym (c .before .loop .inv ∙ ap (every (metAt (c .before .before .before .args .g) (c .before .before .before .args .image .now) (c .before .before .before .args .met .now))) (rows-none _ _ (c .loop-test .left)))
+returns-2 c = rows-end (c .before .loop .inv) (c .loop-test .left) ∙ ap (every (metAt (c .before .before .before .before .args .met .now))) (rows-are _ _ (c .before .before .before .before .pre) (c .before .before .directory-sectors .ensures))
 
 pub all-met-spec : {M : Type 1} → statement M
 all-met-spec =
@@ -54,7 +65,10 @@ all-met-spec =
     (tie.spec
     Inv-loop
     μ-loop
+    directory-sectors-requires
+    sub-columns
     loop-holds
+    mul-row-met
     row-met-requires
     returns
     add-row

@@ -1,50 +1,59 @@
-use native.Mathlib.Omega.{arith}
-use borrow.Author.Needs.{needs}
-use Rattle.consistency.proofs.Laws.{Seeing, seeing-start, seeing-as, seeing-step, seeing-stop, seeing-end, rowsFrom, rows-are, rows-more, rows-none}
-use Rattle.consistency.specs.Slots.{rowSlots}
-use Rattle.meaning.specs.Layout.{slots}
-use borrow.Author.Tests.{not-true, not-false}
-use Prim.Native.Nat.{ℕ, _+_, _-_, _*_, _≤_}
 use mathlib.Core.Path.{_≡_, refl, sym, ap, _∙_}
+use Prim.Native.Nat.{ℕ, _+_, _-_, _*_, _≤_}
+use borrow.Author.Tests.{not-true, not-false}
+use Rattle.consistency.specs.Slots.{sectorSlots, diskSlots}
+use Rattle.consistency.proofs.Laws.{Seeing, seeing-start, seeing-as, seeing-step, seeing-stop, seeing-end, sectorsFrom, sectors-are, sectors-more, sectors-none}
+use borrow.Author.Needs.{needs}
+use native.Mathlib.Omega.{arith}
+use Rattle.marks.specs.Owners.{standing}
 use Rattle.consistency.proofs.slots_hold.Statement.{statement}
 use Rattle.consistency.proofs.slots_hold.Tie as tie
 use Rattle.consistency.proofs.slots_hold.Reads as reads
 use Rattle.consistency.proofs.slots_hold.Lts as lts
-use Rattle.consistency.proofs.row_holds.Reads as row-holds-reads
+use Rattle.consistency.proofs.sector_holds.Reads as sector-holds-reads
+use Rattle.layout.proofs.directory_sectors.Reads as directory-sectors-reads
 
 abbrev Inv-loop : tie.InvT-loop
-Inv-loop image g map₀ met₀ row₀ map met row = Seeing g image map₀ met₀ (slots g image) map met (rowsFrom g image row)
+Inv-loop image g map₀ met₀ from bits columns column₀ map met column = Seeing g image (standing g image map₀) met₀ (diskSlots g image) (standing g image map) met (sectorsFrom columns column)
 
 abbrev μ-loop : tie.MeasureT-loop
-μ-loop image g map₀ met₀ row₀ map met row = 8 - row
+μ-loop image g map₀ met₀ from bits columns column₀ map met column = columns - column
 
--- src/lib.rt:145:5
+-- src/lib.rt:147:19
+directory-sectors-requires : tie.Need-directory-sectors-requires Inv-loop μ-loop
+directory-sectors-requires c κs = search needs
+
+-- src/lib.rt:147:19
+sub-columns : tie.Need-sub-columns Inv-loop μ-loop
+sub-columns c = search needs
+
+-- src/lib.rt:149:5
 loop-holds : tie.Need-loop-holds Inv-loop μ-loop
-loop-holds c = seeing-start _ _ _ _ (rows-are _ _ (c .before .pre))
+loop-holds c = seeing-start _ _ _ _ (sectors-are _ _ (c .directory-sectors .ensures))
 
--- src/lib.rt:146:13
-row-holds-requires : tie.Need-row-holds-requires Inv-loop μ-loop
-row-holds-requires c κs = search needs
+-- src/lib.rt:150:13
+sector-holds-requires : tie.Need-sector-holds-requires Inv-loop μ-loop
+sector-holds-requires c κs = (c .before .before .before .before .before .before .pre .0, omega arith, c .before .before .before .before .before .before .pre .1)
 
--- src/lib.rt:147:13
+-- src/lib.rt:151:13
 returns : tie.Need-returns Inv-loop μ-loop
-returns c = seeing-stop _ _ (rowSlots (c .before .before .before .before .before .before .before .args .g) (c .before .before .before .before .before .before .before .args .image .now) (c .before .before .before .before .before .loop .row)) _ (seeing-as _ _ (c .before .before .before .before .before .loop .inv) (rows-more _ _ (c .before .before .before .before .loop-test .taken))) (c .before .row-holds .ensures) (not-true _ (c .if1 .taken))
+returns c = seeing-stop _ _ (sectorSlots (c .before .before .before .before .before .loop .column)) _ (seeing-as _ _ (c .before .before .before .before .before .loop .inv) (sectors-more (c .before .before .before .before .loop-test .taken))) (c .before .sector-holds .ensures) (not-true _ (c .if1 .taken))
 
--- src/lib.rt:149:9
-add-row : tie.Need-add-row Inv-loop μ-loop
-add-row c = search needs
+-- src/lib.rt:153:9
+add-column : tie.Need-add-column Inv-loop μ-loop
+add-column c = search needs
 
--- src/lib.rt:145:5
+-- src/lib.rt:149:5
 loop-less : tie.Need-loop-less Inv-loop μ-loop
 loop-less c = omega arith
 
--- src/lib.rt:145:5
+-- src/lib.rt:149:5
 loop-again : tie.Need-loop-again Inv-loop μ-loop
-loop-again c = seeing-step _ _ (rowSlots (c .before .before .before .before .before .before .before .args .g) (c .before .before .before .before .before .before .before .args .image .now) (c .before .before .before .before .before .loop .row)) _ (seeing-as _ _ (c .before .before .before .before .before .loop .inv) (rows-more _ _ (c .before .before .before .before .loop-test .taken))) (c .before .row-holds .ensures) (not-false _ (c .if1 .left))
+loop-again c = seeing-step _ _ (sectorSlots (c .before .before .before .before .before .loop .column)) _ (seeing-as _ _ (c .before .before .before .before .before .loop .inv) (sectors-more (c .before .before .before .before .loop-test .taken))) (c .before .sector-holds .ensures) (not-false _ (c .if1 .left))
 
--- src/lib.rt:140:1
+-- src/lib.rt:143:1
 returns-2 : tie.Need-returns-2 Inv-loop μ-loop
-returns-2 c = seeing-end _ _ (seeing-as _ _ (c .before .loop .inv) (rows-none _ _ (c .loop-test .left)))
+returns-2 c = seeing-end _ _ (seeing-as _ _ (c .before .loop .inv) (sectors-none (c .loop-test .left)))
 
 pub slots-hold-spec : {M : Type 1} → statement M
 slots-hold-spec =
@@ -52,10 +61,12 @@ slots-hold-spec =
     (tie.spec
     Inv-loop
     μ-loop
+    directory-sectors-requires
+    sub-columns
     loop-holds
-    row-holds-requires
+    sector-holds-requires
     returns
-    add-row
+    add-column
     loop-less
     loop-again
     returns-2)

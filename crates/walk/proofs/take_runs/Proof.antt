@@ -2,6 +2,7 @@ use native.Mathlib.Omega.{arith}
 use borrow.Author.Needs.{needs}
 use Rattle.walk.proofs.Laws.{Entering, entering-start, entering-step, entering-bad, entering-stop, entering-end}
 use Prim.Native.Nat.{_-_}
+use Rattle.marks.specs.Owners.{standing}
 use mathlib.Core.Path.{_≡_, refl, sym, _∙_}
 use Rattle.walk.proofs.take_runs.Statement.{statement}
 use Rattle.walk.proofs.take_runs.Tie as tie
@@ -12,10 +13,10 @@ use Rattle.walk.proofs.no_runs.Reads as no-runs-reads
 use Rattle.walk.proofs.take_run.Reads as take-run-reads
 
 abbrev Inv-loop : tie.InvT-loop
-Inv-loop image g s at map₀ least k₀ n₀ map k n = Entering g image s least map₀ map k n
+Inv-loop image g s at map₀ k₀ n₀ map k n = Entering g image s 1 (standing g image map₀) (standing g image map) k n
 
 abbrev μ-loop : tie.MeasureT-loop
-μ-loop image g s at map₀ least k₀ n₀ map k n = 4 - k
+μ-loop image g s at map₀ k₀ n₀ map k n = 4 - k
 
 -- src/lib.rt:93:5
 loop-holds : tie.Need-loop-holds Inv-loop μ-loop

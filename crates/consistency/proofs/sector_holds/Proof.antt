@@ -1,0 +1,83 @@
+use mathlib.Core.Path.{_≡_, refl, sym, ap, _∙_}
+use mathlib.Core.List.{List, [], _∷_}
+use Prim.Native.Nat.{ℕ, _+_, _-_, _*_, _/_, _%_, _≤_}
+use borrow.Author.Tests.{not-true, not-false}
+use Rattle.meaning.specs.Layout.{entryAt}
+use Rattle.consistency.specs.Slots.{sectorSlots}
+use Rattle.consistency.proofs.Laws.{Seeing, seeing-start, seeing-as, seeing-step, seeing-stop, seeing-end, columnFrom, column-are, column-more, column-none}
+use borrow.Author.Needs.{needs}
+use native.Mathlib.Omega.{arith}
+use Rattle.marks.specs.Owners.{standing}
+use Rattle.consistency.proofs.sector_holds.Statement.{statement}
+use Rattle.consistency.proofs.sector_holds.Tie as tie
+use Rattle.consistency.proofs.sector_holds.Reads as reads
+use Rattle.consistency.proofs.sector_holds.Lts as lts
+use Rattle.consistency.proofs.slot_holds.Reads as slot-holds-reads
+
+abbrev Inv-loop : tie.InvT-loop
+Inv-loop image g column map₀ met₀ from bits at₀ s₀ map met at s = Seeing g image (standing g image map₀) met₀ (sectorSlots column) (standing g image map) met (columnFrom s) × (at ≡ 256 * (g .start + 2 + column) + 32 * (s / 32)) × (s % 32 ≡ column)
+
+abbrev μ-loop : tie.MeasureT-loop
+μ-loop image g column map₀ met₀ from bits at₀ s₀ map met at s = 256 - s
+
+-- src/lib.rt:130:25
+add-at : tie.Need-add-at Inv-loop μ-loop
+add-at c = search needs
+
+-- src/lib.rt:130:25
+add-at-2 : tie.Need-add-at-2 Inv-loop μ-loop
+add-at-2 c = search needs
+
+-- src/lib.rt:130:18
+mul-at : tie.Need-mul-at Inv-loop μ-loop
+mul-at c = search needs
+
+-- src/lib.rt:132:5
+loop-holds : tie.Need-loop-holds Inv-loop μ-loop
+loop-holds c = (seeing-start _ _ _ _ (column-are (omega arith)), omega arith, omega arith)
+
+-- src/lib.rt:133:13
+slot-holds-requires : tie.Need-slot-holds-requires Inv-loop μ-loop
+slot-holds-requires c κs = (c .before .before .before .before .before .before .pre .0, record { slot = record { low = omega arith; held = omega arith }; is = omega arith }, c .before .before .before .before .before .before .pre .2)
+
+-- src/lib.rt:134:13
+returns : tie.Need-returns Inv-loop μ-loop
+returns c = seeing-stop _ _ (c .before .before .before .before .before .loop .s ∷ []) _ (seeing-as _ _ (c .before .before .before .before .before .loop .inv .0) (column-more (c .before .before .before .before .loop-test .taken))) (c .before .slot-holds .ensures) (not-true _ (c .if1 .taken))
+
+-- src/lib.rt:136:9
+add-at-3 : tie.Need-add-at-3 Inv-loop μ-loop
+add-at-3 c = omega arith
+
+-- src/lib.rt:137:9
+add-s : tie.Need-add-s Inv-loop μ-loop
+add-s c = omega arith
+
+-- src/lib.rt:132:5
+loop-less : tie.Need-loop-less Inv-loop μ-loop
+loop-less c = omega arith
+
+-- src/lib.rt:132:5
+loop-again : tie.Need-loop-again Inv-loop μ-loop
+loop-again c = (seeing-step _ _ (c .before .before .before .before .before .loop .s ∷ []) _ (seeing-as _ _ (c .before .before .before .before .before .loop .inv .0) (column-more (c .before .before .before .before .loop-test .taken))) (c .before .slot-holds .ensures) (not-false _ (c .if1 .left)), omega arith, omega arith)
+
+-- src/lib.rt:120:1
+returns-2 : tie.Need-returns-2 Inv-loop μ-loop
+returns-2 c = seeing-end _ _ (seeing-as _ _ (c .before .loop .inv .0) (column-none (c .loop-test .left)))
+
+pub sector-holds-spec : {M : Type 1} → statement M
+sector-holds-spec =
+    tie.close
+    (tie.spec
+    Inv-loop
+    μ-loop
+    add-at
+    add-at-2
+    mul-at
+    loop-holds
+    slot-holds-requires
+    returns
+    add-at-3
+    add-s
+    loop-less
+    loop-again
+    returns-2)

@@ -1,0 +1,20 @@
+use lib.Bits.{bitAnd}
+use Prim.Native.Nat.{ℕ}
+use mathlib.Core.Path.{ap}
+use borrow.Author.Needs.{needs}
+use Rattle.marks.proofs.among.Statement.{statement}
+use Rattle.marks.proofs.among.Tie as tie
+use Rattle.marks.proofs.among.Reads as reads
+use Rattle.marks.proofs.among.Lts as lts
+use Rattle.marks.proofs.read_eight.Reads as read-eight-reads
+
+-- src/lib.rt:68:5
+read-eight-requires : tie.Need-read-eight-requires
+read-eight-requires c κs = search needs
+
+-- src/lib.rt:64:1
+returns : tie.Need-returns
+returns c = record { is = ap (λ (y : ℕ). bitAnd y (c .before .before .args .bits)) (c .read-eight .ensures .is); bytes = c .read-eight .ensures .bytes }
+
+pub among-spec : {M : Type 1} → statement M
+among-spec = tie.close (tie.spec read-eight-requires returns)
