@@ -384,6 +384,16 @@ fn leave_killed(random: &mut Random, image: &mut [u8], g: &Geometry, d: usize) {
 
 pub fn random_disk(random: &mut Random) -> Disk {
     let plan = plan(random);
+    filled(random, plan)
+}
+
+/// A random disk of this geometry, with so many directory sectors.
+pub fn random_disk_of(random: &mut Random, g: Geometry, d: usize) -> Disk {
+    let plan = Plan { g, d, ..plan(random) };
+    filled(random, plan)
+}
+
+fn filled(random: &mut Random, plan: Plan) -> Disk {
     let (g, d) = (plan.g, plan.d);
     let mut image = vec![0; g.granules() * GRANULE_BYTES];
     // Whatever is not set below holds anything: data, GAT and HIT places out of range, dead entries.

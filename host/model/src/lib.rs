@@ -22,7 +22,8 @@ pub mod differences;
 pub mod binding;
 pub mod library;
 
-// Disks and calls made up at random, and the comparison.
+// Disks made by hand; disks and calls made up at random, and the comparison.
+pub mod by_hand;
 pub mod call;
 pub mod caller;
 pub mod compare;

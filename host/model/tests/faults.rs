@@ -3,8 +3,9 @@
 //! every call. And the library against the model on damaged disks.
 
 use genie_model::binding::linked_or_fail;
+use genie_model::by_hand::{change, is_consistent, put_extension, put_file, tells, with_runs};
 use genie_model::call::{perform, Call, FAULT_SLOT};
-use genie_model::calls::{Birth, Number, ACCEPTED};
+use genie_model::calls::{Birth, Number};
 use genie_model::consistency::{faults, Clause};
 use genie_model::damage::{random_flips, DAMAGES};
 use genie_model::differences::{FIRST, SECOND};
@@ -135,70 +136,9 @@ fn blank(d: usize) -> Disk {
     empty_disk(G, d, &[0])
 }
 
-fn pair((first, length): (usize, usize)) -> Pair {
-    Pair { further: (length - 1) as u8, ..Pair::of_granule(&G, first) }
-}
-
-/// An entry with these runs, the last of its chain.
-fn with_runs(mut e: Entry, runs: &[(usize, usize)]) -> Entry {
-    e.0[0x16..].fill(0xFF);
-    for (i, &run) in runs.iter().enumerate() {
-        e.set_pair(i, pair(run));
-    }
-    e
-}
-
-fn put(disk: &mut Disk, slot: u8, e: &Entry, runs: &[(usize, usize)], title: &str) {
-    put_entry(&mut disk.image, &disk.g, slot, &with_runs(*e, runs));
-    for &(first, length) in runs {
-        (first..first + length).for_each(|granule| set_taken(&mut disk.image, &G, granule, true));
-    }
-    disk.image[hit_place(&G, slot)] = hash(&name(title));
-}
-
-/// A file of these runs, empty.
-fn put_file(disk: &mut Disk, slot: u8, title: &str, runs: &[(usize, usize)]) {
-    let mut e = Entry([0; 32]);
-    e.0[0x00] = 0x10;
-    e.0[0x05..0x10].copy_from_slice(&name(title));
-    put(disk, slot, &e, runs, title);
-}
-
-/// An extension of these runs behind an entry with four.
-fn put_extension(disk: &mut Disk, slot: u8, before: u8, title: &str, runs: &[(usize, usize)]) {
-    let mut e = Entry([0; 32]);
-    (e.0[0x00], e.0[0x01]) = (0x90, before);
-    put(disk, slot, &e, runs, title);
-    change(disk, before, |e| e.set_link(0xFE, slot));
-}
-
-fn change(disk: &mut Disk, slot: u8, with: impl FnOnce(&mut Entry)) {
-    let mut e = entry(&disk.image, &disk.g, slot);
-    with(&mut e);
-    put_entry(&mut disk.image, &disk.g, slot, &e);
-}
-
 fn rename(disk: &mut Disk, slot: u8, to: &[u8; 11]) {
     change(disk, slot, |e| e.0[0x05..0x10].copy_from_slice(to));
     disk.image[hit_place(&G, slot)] = hash(to);
-}
-
-/// Every library tells this of the disk.
-fn tells(disk: &Disk, kind: Kind, slot: Option<u8>, what: &str) {
-    for library in libraries() {
-        let mut fault_slot = 0;
-        let number = library.check(&disk.image, &disk.g, &mut fault_slot);
-        let wanted = (kind as Number, slot.map_or(NO_SLOT, usize::from));
-        assert_eq!((number, fault_slot), wanted, "{}: {what}", library.title());
-    }
-}
-
-fn is_consistent(disk: &Disk, what: &str) {
-    for library in libraries() {
-        let mut fault_slot = 0;
-        let number = library.check(&disk.image, &disk.g, &mut fault_slot);
-        assert_eq!((number, fault_slot), (ACCEPTED, NO_SLOT), "{}: {what}", library.title());
-    }
 }
 
 /// The damage to a copy of the disk, and what is then told.
@@ -328,7 +268,7 @@ fn each_kind_in_an_extension() {
                 for back in [slot, other, 0x1F, file ^ 0x80] {
                     case(Kind::Chain, "back link", &|disk| change(disk, slot, |e| e.0[0x01] = back));
                 }
-                case(Kind::Chain, "no run", &|disk| change(disk, slot, |e| *e = with_runs(*e, &[])));
+                case(Kind::Chain, "no run", &|disk| change(disk, slot, |e| *e = with_runs(&G, *e, &[])));
                 case(Kind::Chain, "in no chain", &|disk| change(disk, file, |e| e.0[0x1E] = 0xFF));
                 case(Kind::Chain, "in no chain, its hash not tested", &|disk| {
                     change(disk, file, |e| e.0[0x1E] = 0xFF);
@@ -404,7 +344,7 @@ fn faults_of_slots_that_are_not_in_use_and_of_no_slot() {
             // An extension by itself, with its HIT byte: met in no chain.
             damaged(&whole, Kind::Chain, slot, "extension alone", |disk| {
                 change(disk, slot, |e| {
-                    *e = with_runs(*e, &[(2, 1)]);
+                    *e = with_runs(&G, *e, &[(2, 1)]);
                     (e.0[0x00], e.0[0x01]) = (0x90, slot);
                 });
                 disk.image[hit_place(&G, slot)] = 1;
