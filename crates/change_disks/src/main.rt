@@ -227,7 +227,14 @@ fn allots(image: &mut [u8; 30720], h: Handle) {
     damage(image);
     allotted(image, disk(), h, 0, b"allot, disk not consistent", 22);
     repair(image);
-    allotted(image, disk(), h, 7680, b"allot, sector 7,680", 12);
+    allotted(
+        image,
+        disk(),
+        h,
+        layout::SECTOR_NUMBERS,
+        b"allot, sector 7,680",
+        12,
+    );
     allotted(image, disk(), elsewhere(h), 0, b"allot, handle stale", 7);
 }
 
@@ -236,7 +243,14 @@ fn allots_more(image: &mut [u8; 30720], h: Handle) {
     no_growth(image);
     allotted(image, disk(), h, 5, b"allot, E set", 11);
     growth(image);
-    allotted(image, disk(), h, 7679, b"allot, sector 7,679", 9);
+    allotted(
+        image,
+        disk(),
+        h,
+        layout::SECTOR_NUMBERS - 1,
+        b"allot, sector 7,679",
+        9,
+    );
     allotted(image, disk(), h, 19, b"allot, four granules", 0);
 }
 

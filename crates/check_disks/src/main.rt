@@ -3,6 +3,9 @@
 use meaning::Geometry;
 ghost use Prim.Native.Nat.{_<_};
 
+// Where the entry of slot 3 stands: in directory sector 2 + 3, and the directory starts at sector 0.
+const SLOT_3: usize = 256 * (2 + 3);
+
 // 8 blocks of 2 units, directory of 10 sectors at sector 0.
 fn small() -> Geometry {
     Geometry {
@@ -104,7 +107,7 @@ fn fill(image: &mut [u8; 20480]) {
     );
     copy::put_part(
         image,
-        1280,
+        SLOT_3,
         b"\x10\x00\x00\x00\x00LEER       \x00\x00\x00\x00\x00\x00\xff\xff\xff\xff\xff\xff\xff\xff\xff\xff",
         0,
         32,
@@ -228,8 +231,8 @@ fn files(image: &mut [u8; 20480]) {
         23,
         3,
     );
-    with_byte(image, 1280, 0x30, b"bit 5 set", 23, 3);
-    with_byte(image, 1283, 1, b"n = 0 with e = 1", 29, 3);
+    with_byte(image, SLOT_3, 0x30, b"bit 5 set", 23, 3);
+    with_byte(image, SLOT_3 + 3, 1, b"n = 0 with e = 1", 29, 3);
     with_byte(image, 532, 26, b"a size over the granules owned", 29, 0);
     with_byte(
         image,
@@ -400,7 +403,7 @@ fn untested(image: &mut [u8; 20480]) {
     );
     with_byte(
         image,
-        1280,
+        SLOT_3,
         0x1f,
         b"invisible, level 7",
         0,

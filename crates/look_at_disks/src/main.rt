@@ -3,6 +3,9 @@
 use meaning::Geometry;
 use meaning::Handle;
 
+// Where the entry of slot 3 stands: in directory sector 2 + 3, and the directory starts at sector 0.
+const SLOT_3: usize = 256 * (2 + 3);
+
 // 8 blocks of 2 units, directory of 10 sectors at sector 0; code 0 stands for "no password".
 fn small() -> Geometry {
     Geometry {
@@ -74,7 +77,7 @@ fn put_entries(image: &mut [u8; 20480]) {
     );
     copy::put_part(
         image,
-        1280,
+        SLOT_3,
         b"\x1e\x00\x00\x00\x00LEER       \x34\x12\x78\x56\x00\x00\xff\xff\xff\xff\xff\xff\xff\xff\xff\xff",
         0,
         32,
@@ -368,7 +371,7 @@ fn records(image: &[u8], h: Handle) {
         image,
         small(),
         b"record at the last position",
-        placed(h, 1966080),
+        placed(h, layout::HIGHEST),
     );
     read_record(image, small(), b"record out of range", placed(h, 1966081));
     read_record(image, small(), b"record at level 8", levelled(h, 8));
@@ -389,8 +392,14 @@ fn sectors(image: &[u8], h: Handle) {
     read_sector(image, small(), b"sector 14", h, 14);
     read_sector(image, small(), b"sector 15", h, 15);
     read_sector(image, small(), b"sector 26", h, 26);
-    read_sector(image, small(), b"sector 7679", h, 7679);
-    read_sector(image, small(), b"sector 7680", h, 7680);
+    read_sector(
+        image,
+        small(),
+        b"sector 7679",
+        h,
+        layout::SECTOR_NUMBERS - 1,
+    );
+    read_sector(image, small(), b"sector 7680", h, layout::SECTOR_NUMBERS);
     read_sector(image, small(), b"sector 0, slot of LEER", slotted(h, 3), 0);
 }
 
