@@ -1,124 +1,38 @@
--- The call: name and size, the whole file, the refusals, and what is left.
-use mathlib.Core.Path.{_≡_, refl, sym, ap, _∙_}
-use mathlib.Core.List.{List, [], _∷_, _++_}
-use mathlib.Core.Bool.{Bool, true, false, not, cond, _&&_, _||_}
-use Prim.Native.Nat.{ℕ, _+_, _-_, _*_, _/_, _%_, _≤_, _<_}
-use native.Mathlib.Omega.{arith}
-use lib.ListN.{length, getD, take, drop}
-use lib.Dec.{eqb, leb}
-use borrow.Author.Tests.{ne-eqb, not-true, not-false}
-use Rattle.meaning.specs.Lists.{every, each, some, distinct, all, through}
-use Rattle.meaning.specs.Bits.{bit}
-use Rattle.meaning.specs.Layout.{granuleBytes, isSlot, field, entryAt, taken, takeGranule, slots, directorySectors}
-use Rattle.meaning.specs.Names.{hash, wellFormed}
-use Rattle.meaning.specs.Entries.{inUse, extension, system, nameOf, sizeOf, sectorCount, endByte, entryGranules}
-use Rattle.meaning.specs.Chain.{chainFrom, chain, owned}
-use Rattle.meaning.specs.Consistent.{nameHolds, sizeHolds}
+-- The call: the refusals, and what is left.
+use mathlib.Core.Path.{_≡_, sym, ap, _∙_}
+use mathlib.Core.List.{List, [], _∷_}
+use mathlib.Core.Bool.{true, false, not}
+use Prim.Native.Nat.{ℕ, _+_}
+use lib.ListN.{length, take, drop}
+use lib.Dec.{eqb}
+use borrow.Author.Tests.{ne-eqb}
+use Rattle.meaning.specs.Lists.{each, some, through}
+use Rattle.meaning.specs.Layout.{isSlot, entryAt, taken, takeGranule, slots}
+use Rattle.meaning.specs.Names.{hash}
+use Rattle.meaning.specs.Entries.{inUse, system, nameOf, entryGranules}
+use Rattle.meaning.specs.Chain.{chain, owned}
 use Rattle.meaning.specs.Refusals.{first, check}
-use Rattle.meaning.specs.LookUp.{named}
 use Rattle.meaning.specs.BringBack
 use Rattle.meaning.specs.BringBack.{whole, backEntry, bringBack}
 use Rattle.meaning.specs.declared.Geometry.{Geometry}
 use Rattle.meaning.specs.declared.BroughtBack.{BroughtBack}
 use Rattle.layout.specs.Room.{Room, Slot}
-use Rattle.layout.proofs.Laws.{name-part}
-use Rattle.layout.proofs.Lists.{all-at, all-yes, all-no, all-none, all-one, is-no, is-yes, not-yes, not-no, first-hit, first-skip, first-none}
+use Rattle.layout.proofs.Lists.{not-yes, not-no, first-hit, first-skip, first-none}
 use Rattle.handle.proofs.Laws.{check-stop, check-then}
-use Rattle.seek.proofs.Laws.{slots-length}
-use Rattle.seek.proofs.Frame.{Same, same-room}
-use Rattle.walk.proofs.Lists.{not-both, all-out}
-use Rattle.consistency.specs.Slots.{countHolds}
+use Rattle.seek.proofs.Frame.{Same}
 use Rattle.find.specs.Found.{Finds}
 use Rattle.find.specs.declared.Found.{Found}
 use Rattle.find.proofs.Laws.{finds-none, finds-one}
-use Rattle.bring_back.specs.Line.{firstOf, Listed, Written, Lined, Wholly, Plans}
-use Rattle.bring_back.specs.declared.Walked.{Walked}
+use Rattle.taken.specs.Listed.{firstOf, Listed}
+use Rattle.killed.specs.Line.{Written}
+use Rattle.bring_back.specs.Plan.{Plans}
 use Rattle.bring_back.specs.declared.Planned.{Planned}
-use Rattle.bring_back.proofs.Steps.{first-length}
-use Rattle.bring_back.proofs.Frame.{same-taken, same-on-disk, under-each, listed-in}
-
--- a part of eleven bytes
-pub cut : (a : ℕ) → a + 11 - a ≡ 11
-cut a = omega arith
+use Rattle.killed.proofs.First.{first-length}
+use Rattle.restore.proofs.Frame.{same-taken}
+use Rattle.taken.proofs.OnDisk.{same-on-disk, under-each, listed-in}
+use Rattle.entry.proofs.Laws.{name-is}
 
 module _ (g : Geometry) (d : List ℕ) (s : ℕ) where
-  pub name-ends : Room g d → Slot g d s → entryAt g s + 16 ≤ length d
-  name-ends r sl =
-      let l = sl .low in let h = sl .held in let w = r .whole in let t = r .directory in omega arith
-
-  -- the name as it is lent
-  pub name-is : {n : ℕ} → Room g d → Slot g d s → n ≡ 11 → take n (drop (entryAt g s + 5) d) ≡ nameOf g d s
-  name-is {n} r sl e = ap (λ (k : ℕ). take k (drop (entryAt g s + 5) d)) e ∙ sym (name-part g d s (name-ends r sl))
-
-  pub name-long : {n : ℕ} → Room g d → Slot g d s → n ≡ 11 → length (take n (drop (entryAt g s + 5) d)) ≡ 11
-  unfolding nameOf
-  name-long r sl e = ap {B = ℕ} length (name-is r sl e)
-
-  pub name-bad : {n : ℕ} {f : Bool} → Room g d → Slot g d s → n ≡ 11 → f ≡ wellFormed (take n (drop (entryAt g s + 5) d)) → not f ≡ true → false ≡ nameHolds g d s
-  unfolding nameHolds
-  name-bad r sl e w t =
-      sym (ap (λ (b : Bool). b && not (bit 5 (field g d s 0))) (ap wellFormed (sym (name-is r sl e)) ∙ is-no w t))
-
-  pub name-good : {n : ℕ} {f h : Bool} → Room g d → Slot g d s → n ≡ 11 → f ≡ wellFormed (take n (drop (entryAt g s + 5) d)) → not f ≡ false → h ≡ bit 5 (field g d s 0)
-      → not h ≡ nameHolds g d s
-  unfolding nameHolds
-  name-good r sl e w t q =
-      ap not q ∙ sym (ap (λ (b : Bool). b && not (bit 5 (field g d s 0))) (ap wellFormed (sym (name-is r sl e)) ∙ is-yes w t))
-
-  pub size-bad : {f : Bool} → f ≡ countHolds (sectorCount g d s) (endByte g d s) → not f ≡ true → false ≡ sizeHolds g d s
-  unfolding sizeHolds countHolds
-  size-bad w t = sym (all-no (is-no w t) _)
-
-  pub size-good : {f : Bool} {k n : ℕ} → f ≡ countHolds (sectorCount g d s) (endByte g d s) → not f ≡ false → k ≡ sizeOf g d s → n ≡ length (owned g d s) → leb k (granuleBytes * n) ≡ sizeHolds g d s
-  unfolding sizeHolds countHolds
-  size-good {f} {k} {n} w t p q = ap (λ (z : ℕ). leb z (granuleBytes * n)) p ∙ ap (λ (z : ℕ). leb (sizeOf g d s) (granuleBytes * z)) q ∙ sym (all-yes (is-yes w t) _ ∙ all-one _)
-
-  -- Whole --------------------------------------------------------------------------------------------------------------------
-
-  pub nothing-whole : {es : List ℕ} {r : Walked} → r ≡ record { ok = false; slots = 0; granules = 0 } → whole g d s ≡ false → Wholly g d s es r
-  nothing-whole e h = rw e (record { answer = sym h; written = λ q. not-both q refl })
-
-  pub by-extension : bit 7 (field g d s 0) ≡ true → whole g d s ≡ false
-  unfolding whole
-  by-extension h = all-no (not-yes h) _
-
-  pub by-name : nameHolds g d s ≡ false → whole g d s ≡ false
-  unfolding whole
-  by-name h = all-out _ 1 h
-
-  pub by-size : sizeHolds g d s ≡ false → whole g d s ≡ false
-  unfolding whole
-  by-size h = all-out _ 5 h
-
-  -- the walk goes along 01's chain
-  pub lined : {k : ℕ} {es : List ℕ} {r : Walked} → Room g d → k ≡ directorySectors g d → Lined g d (8 * (k - 2)) s es r → Lined g d (length (slots g d)) s es r
-  lined {k} {es} {r} rm q l =
-      let w : 8 * (k - 2) ≡ length (slots g d) = ap (λ (j : ℕ). 8 * (j - 2)) q ∙ sym (slots-length g d (rm .ten) (rm .thirty)) in
-      rw w at l
-
-  pub by-line : {es : List ℕ} {r : Walked} → Lined g d (length (slots g d)) s es r → not (r .ok) ≡ true → whole g d s ≡ false
-  unfolding whole chain owned
-  by-line {es} {r} l h = by (whole g d s) refl
-    where
-      by : (t : Bool) → whole g d s ≡ t → whole g d s ≡ false
-      by true q = not-both (l .answer ∙ all-yes (all-at _ q 2) _ ∙ all-yes (all-at _ q 3) _ ∙ all-yes (all-at _ q 4) _ ∙ all-none) (not-true (r .ok) h)
-      by false q = q
-
-  pub lined-own : {es : List ℕ} {r : Walked} → Lined g d (length (slots g d)) s es r → not (r .ok) ≡ false → r .granules ≡ length (owned g d s)
-  unfolding chain owned
-  lined-own {es} {r} l h = l .written (not-false (r .ok) h) .granules-are
-
-  pub is-whole : {es : List ℕ} {r : Walked} → bit 7 (field g d s 0) ≡ false → nameHolds g d s ≡ true → Lined g d (length (slots g d)) s es r → not (r .ok) ≡ false → sizeHolds g d s ≡ true
-      → Wholly g d s es r
-  unfolding whole chain owned
-  is-whole {es} {r} x n l h z =
-      let ok = not-false (r .ok) h in
-      let a = sym (l .answer) ∙ ok in
-      record {
-        answer = ok ∙ sym (all-yes (not-no x) _ ∙ all-yes n _ ∙ all-yes (all-at _ a 0) _ ∙ all-yes (all-at _ a 1) _ ∙ all-yes (all-at _ a 2) _ ∙ all-yes z _ ∙ all-none);
-        written = λ q. l .written q;
-      }
-
   -- The refusals -------------------------------------------------------------------------------------------------------------
 
   abbrev number : ℕ
@@ -160,11 +74,11 @@ module _ (g : Geometry) (d : List ℕ) (s : ℕ) where
   -- the name is looked up
   pub name-used : {n : ℕ} {f : Found} → Room g d → Slot g d s → n ≡ 11 → Finds g d (take n (drop (entryAt g s + 5) d)) f → f .is ≡ true → BringBack.nameInUse g d s ≡ true
   name-used {n} {f} r sl e w t =
-      ap (λ (l : List ℕ). not (eqb (length l) 0)) (finds-one g d (nameOf g d s) (rw (name-is r sl e) at w) (not-yes t))
+      ap (λ (l : List ℕ). not (eqb (length l) 0)) (finds-one g d (nameOf g d s) (rw (name-is g d s r sl e) at w) (not-yes t))
 
   pub name-free : {n : ℕ} {f : Found} → Room g d → Slot g d s → n ≡ 11 → Finds g d (take n (drop (entryAt g s + 5) d)) f → f .is ≡ false → BringBack.nameInUse g d s ≡ false
   name-free {n} {f} r sl e w t =
-      ap (λ (l : List ℕ). not (eqb (length l) 0)) (finds-none g d (nameOf g d s) (rw (name-is r sl e) at w) (not-no t))
+      ap (λ (l : List ℕ). not (eqb (length l) 0)) (finds-none g d (nameOf g d s) (rw (name-is g d s r sl e) at w) (not-no t))
 
   -- the granules are those of the entries written down
   pub taken-is : {es : List ℕ} {n size : ℕ} → Written g d (chain g d s) es n size → some (taken g d) (each (entryGranules g d) (firstOf es n)) ≡ some (taken g d) (owned g d s)

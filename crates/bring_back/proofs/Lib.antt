@@ -1,5 +1,1 @@
-pub mod Steps
-pub mod Frame
-pub mod Entry
-pub mod Chain
 pub mod Call

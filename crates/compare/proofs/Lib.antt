@@ -1,6 +1,2 @@
-pub mod Names
-pub mod Lowest
-pub mod Pairs
-pub mod Contents
-pub mod Attributes
+pub mod Under
 pub mod Telling

@@ -5,7 +5,7 @@ use mathlib.Core.List.{List, [], _∷_, _++_, map}
 use mathlib.Core.Bool.{Bool, true, false, not, cond, _&&_}
 use Prim.Native.Nat.{ℕ, zero, suc, _+_, _-_, _≤_, _<_}
 use native.Mathlib.Omega.{arith}
-use lib.ListN.{length, getD, replicate, drop, length-map, length-append}
+use lib.ListN.{length, replicate, drop, length-map, length-append}
 use lib.Seq.{drop-nil}
 use lib.Dec.{T, eqb, leb, leb→le}
 use borrow.Author.Tests.{ne-eqb, eq-eqb}
@@ -15,19 +15,19 @@ use Rattle.meaning.specs.Names.{letter, wellFormed}
 use Rattle.meaning.specs.Entries.{primary, nameOf}
 use Rattle.meaning.specs.Chain.{files}
 use Rattle.meaning.specs.Refusals.{check}
-use Rattle.meaning.specs.Plain.{plain}
 use Rattle.meaning.specs.declared.Geometry.{Geometry}
 use Rattle.laws.specs.Members
 use Rattle.laws.specs.Facts as facts
 use Rattle.laws.specs.Change as change
 use Rattle.handle.proofs.Laws.{checked}
 use Rattle.seek.proofs.Sound.{sound}
-use Rattle.differences.specs.Compare.{before, rising, difference, isOne, tellsNone, tellFirst, names, merged, at′, differences, compare}
-use Rattle.differences.specs.Order.{In, before-less, rising-length, keep-yes, keep-no, keep-whole}
+use Rattle.differences.specs.Compare.{before, difference, isOne, tellsNone, tellFirst, names, merged, at′, differences, compare}
+use Rattle.differences.specs.Order.{before-less, rising-length, keep-yes, keep-no, keep-whole}
 use Rattle.differences.specs.declared.Difference.{Difference}
-use Rattle.compare.specs.Walk.{Whole, Starts, later, nameAt, onFirst, onSecond, Next}
-use Rattle.compare.specs.declared.Pair.{Pair}
-use Rattle.compare.proofs.Pairs.{starts-file, merged-in}
+use Rattle.rising.specs.Whole.{Whole, Starts}
+use Rattle.rising.specs.Walk.{later, nameAt, onFirst, onSecond, Next}
+use Rattle.rising.specs.declared.Pair.{Pair}
+use Rattle.rising.proofs.Pairs.{starts-file, merged-in}
 
 -- a disk whose check answered 0 is whole
 pub whole : (g : Geometry) (d : List ℕ) {no : ℕ} → no ≡ check g d → no ≡ 0 → Whole g d

@@ -1,36 +1,30 @@
 -- The check by maps answers what "A consistent disk" says.
-use mathlib.Core.Path.{_≡_, refl, sym, ap, _∙_, subst}
-use mathlib.Core.Logic.{_≢_, _⊎_, inl, inr}
-use mathlib.Core.List.{List, [], _∷_, _++_}
-use mathlib.Core.Bool.{Bool, true, false, not, cond, _&&_, _||_, Bool·beq}
-use Prim.Native.Nat.{ℕ, zero, suc, _+_, _-_, _*_, _/_, _%_, _≤_, _<_}
+use mathlib.Core.Path.{_≡_, refl, ap, _∙_}
+use mathlib.Core.Logic.{_⊎_, inl, inr}
+use mathlib.Core.List.{List, [], _∷_}
+use mathlib.Core.Bool.{Bool, true, false, cond}
+use Prim.Native.Nat.{ℕ, zero, suc, _≤_, _<_}
 use native.Mathlib.Omega.{arith}
-use lib.Dec.{T, eqb, leb, ltb, eqb→eq, T-not, not-T}
-use lib.ListN.{length, getD, replicate, length-replicate, getD-replicate}
-use borrow.Author.Tests.{eq-eqb, ne-eqb, eqb-true, eqb-false, le-leb, leb-true, not-true, not-false}
-use Rattle.meaning.specs.Lists.{count, every, each, keep, has, distinct, lastOr, all, any}
-use Rattle.meaning.specs.Bits.{bit}
-use Rattle.meaning.specs.Layout.{granules, taken, field, hit, slots, isSlot, directorySectors, directoryGranules, byte, granuleSectors}
-use Rattle.meaning.specs.Names.{hash, wellFormed}
-use Rattle.meaning.specs.Entries.{inUse, extension, primary, system, block, marker, link, runs, runsFrom, runStart, runLength, runGranules, entryGranules, nameOf, sectorCount, endByte, sizeOf}
-use Rattle.meaning.specs.Chain.{chainFrom, chain, owned, files}
-use Rattle.meaning.specs.Consistent.{lengthHolds, hitHolds, pairsHold, followsBy, follows, linkHolds, runsHold, gatHolds, entryHolds, slotHolds, fileHolds, namesDiffer, met, consistent}
+use lib.Dec.{T, eqb, eqb→eq}
+use lib.ListN.{getD}
+use borrow.Author.Tests.{eq-eqb, ne-eqb, eqb-true, le-leb, not-true}
+use Rattle.meaning.specs.Lists.{every, lastOr, all, any}
+use Rattle.meaning.specs.Layout.{granules, taken, hit, directoryGranules}
+use Rattle.meaning.specs.Entries.{block, marker, link, runs, runsFrom}
+use Rattle.meaning.specs.Chain.{chainFrom}
+use Rattle.meaning.specs.Consistent.{pairsHold, followsBy, follows, linkHolds, runsHold, gatHolds, entryHolds}
 use Rattle.meaning.specs.declared.Geometry.{Geometry}
 use Rattle.layout.specs.Room.{Room}
-use Rattle.layout.proofs.Lists.{all-at, all-yes, all-no, all-one, all-none, any-last, not-yes, not-no, le-or-lt}
+use Rattle.layout.proofs.Lists.{all-at, all-yes, all-none, not-no}
 use Rattle.marks.specs.Owners.{shut, GatMap, weight, standing}
 use Rattle.marks.proofs.Standing.{weight-low, weight-in, weight-out, standing-open, open-if}
-use Rattle.walk.specs.Walk.{goesOn, markerHolds, chainHolds, runHolds}
-use Rattle.walk.proofs.Lists.{not-both, all-out}
+use Rattle.walk.specs.Walk.{goesOn, markerHolds, chainHolds}
 use Rattle.walk.proofs.Laws.{from-above}
 use Rattle.laws.specs.Members
-use Rattle.laws.specs.Members.{In, Distinct}
-use Rattle.laws.specs.Facts
-use Rattle.laws.specs.Facts.{File, Sound}
+use Rattle.laws.specs.Members.{In}
 use Rattle.laws.specs.Entry
-use Rattle.laws.specs.Change
-use Rattle.consistency.specs.Slots.{least, leastOf, countHolds, nameFits, fileFits, slotFits, chainOf, ownedOf, opens, one, slotsFit}
-use Rattle.consistency.proofs.Maps
+use Rattle.one_file.specs.Slots.{opens}
+use Rattle.one_file.proofs.Directory.{directory-lt}
 
 -- The map ---------------------------------------------------------------------------------------------------------------------
 
@@ -40,9 +34,6 @@ pub record Base (g : Geometry) (d m : List ℕ) : Type 0 where
   pub off-in : (n : ℕ) → 2 ≤ getD m n 0 → In n (directoryGranules g d) → ⊥
   pub open-one : (n : ℕ) → n < granules g → T (taken g d n) → 1 ≤ getD m n 0
   pub open-two : (n : ℕ) → n < granules g → T (taken g d n) → (In n (directoryGranules g d) → ⊥) → 2 ≤ getD m n 0
-
-pub directory-lt : (g : Geometry) (d : List ℕ) → Room g d → (n : ℕ) → In n (directoryGranules g d) → n < granules g
-directory-lt g d room n i = let k = Members.count-in n (g .start / granuleSectors) (directorySectors g d / granuleSectors) i in let e = room .directory in omega arith
 
 module _ (g : Geometry) (d m : List ℕ) (room : Room g d) (w : GatMap g d m) where
   pub open-taken : (n : ℕ) → n < granules g → shut (g .units) m n ≡ 0 → T (taken g d n)

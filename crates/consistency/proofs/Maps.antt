@@ -1,18 +1,18 @@
 -- Slots' places in a map, as a statement about lists.
-use mathlib.Core.Path.{_≡_, refl, sym, ap, _∙_, subst}
+use mathlib.Core.Path.{_≡_, refl, ap, _∙_}
 use mathlib.Core.Logic.{_⊎_, inl, inr}
 use mathlib.Core.List.{List, [], _∷_, _++_}
-use mathlib.Core.Bool.{Bool, true, false, not, cond, _&&_}
-use Prim.Native.Nat.{ℕ, zero, suc, _+_, _≤_, _<_}
+use mathlib.Core.Bool.{Bool, true, false, cond, _&&_}
+use Prim.Native.Nat.{ℕ, _≤_}
 use native.Mathlib.Omega.{arith}
-use lib.ListN.{length, getD}
+use lib.ListN.{getD}
 use Rattle.meaning.specs.Lists.{each, keep}
 use Rattle.layout.proofs.Lists.{and-l, and-r}
 use Rattle.marks.specs.Marks.{marked, allows}
 pub use Rattle.marks.proofs.Maps.{in-range, marked-out, marked-in, Open, allows-says, says-allows}
 use Rattle.laws.specs.Members
 use Rattle.laws.specs.Members.{In, Distinct}
-use Rattle.consistency.specs.Slots.{opens}
+use Rattle.one_file.specs.Slots.{opens}
 
 -- Slot after slot
 pub record Opens (m : List ℕ) (low : ℕ → ℕ) (f : ℕ → List ℕ) (ss : List ℕ) : Type 0 where

@@ -1,24 +1,24 @@
 -- The order in which slots are visited does not matter: two lists with the same slots, each once, have the same answer.
-use mathlib.Core.Path.{_≡_, refl, sym, ap, _∙_}
+use mathlib.Core.Path.{_≡_, sym, ap, _∙_}
 use mathlib.Core.Logic.{_⊎_, inl, inr}
-use mathlib.Core.List.{List, [], _∷_, _++_}
-use mathlib.Core.Bool.{Bool, true, false}
-use Prim.Native.Nat.{ℕ, zero, suc, _+_, _-_, _*_, _/_, _%_, _≤_, _<_}
+use mathlib.Core.List.{List, _∷_}
+use mathlib.Core.Bool.{Bool, true}
+use Prim.Native.Nat.{ℕ, zero, suc, _+_, _-_, _*_, _%_, _≤_, _<_}
 use native.Mathlib.Omega.{arith}
-use native.Mathlib.Decide.{ℕ-discrete}
 use lib.Dec.{T}
 use lib.ListN.{length, getD}
-use Rattle.meaning.specs.Lists.{count, every, each, all}
+use Rattle.meaning.specs.Lists.{count, every, each}
 use Rattle.meaning.specs.Layout.{slots, isSlot, directorySectors}
 use Rattle.meaning.specs.declared.Geometry.{Geometry}
-use Rattle.layout.specs.Room.{Room, Slot}
+use Rattle.layout.specs.Room.{Room}
 use Rattle.layout.proofs.Lists.{all-at, all-yes, all-none, le-or-lt}
 use Rattle.layout.proofs.Sound.{slot-yes, slot-of}
 use Rattle.marks.specs.Marks.{marked}
 use Rattle.laws.specs.Members
 use Rattle.laws.specs.Members.{In, Distinct}
 use Rattle.laws.specs.Facts
-use Rattle.consistency.specs.Slots.{leastOf, slotFits, chainOf, ownedOf, opens, one, slotsFit, by32, sectorSlots, diskSlots}
+use Rattle.one_file.specs.Slots.{leastOf, slotFits, chainOf, ownedOf, opens, one, slotsFit}
+use Rattle.consistency.specs.Slots.{by32, sectorSlots, diskSlots}
 use Rattle.consistency.proofs.Maps
 
 -- the same slots, each of them once

@@ -1,39 +1,41 @@
 -- The whole disk: the tests by maps hold exactly if the disk is consistent.
-use mathlib.Core.Path.{_≡_, refl, sym, ap, _∙_, subst}
-use mathlib.Core.Logic.{_≢_, _⊎_, inl, inr}
-use mathlib.Core.List.{List, [], _∷_, _++_}
-use mathlib.Core.Bool.{Bool, true, false, not, cond, _&&_, _||_, Bool·beq}
-use Prim.Native.Nat.{ℕ, zero, suc, _+_, _-_, _*_, _/_, _%_, _≤_, _<_}
+use mathlib.Core.Path.{_≡_, refl, sym, ap, _∙_}
+use mathlib.Core.Logic.{_⊎_, inl, inr}
+use mathlib.Core.List.{List, [], _∷_}
+use mathlib.Core.Bool.{Bool, true, false, not, cond, _||_, Bool·beq}
+use Prim.Native.Nat.{ℕ, _+_, _-_, _*_, _/_, _%_, _≤_, _<_}
 use native.Mathlib.Omega.{arith}
-use lib.Dec.{T, eqb, leb, ltb, eqb→eq, T-not, not-T}
+use lib.Dec.{T, eqb, eqb→eq, T-not, not-T}
 use lib.ListN.{length, getD}
-use borrow.Author.Tests.{eq-eqb, ne-eqb, eqb-true, eqb-false, le-leb, leb-true, not-true, not-false}
-use Rattle.meaning.specs.Lists.{count, every, each, keep, has, distinct, all, any}
+use borrow.Author.Tests.{eq-eqb, ne-eqb, eqb-true, eqb-false, le-leb, leb-true}
+use Rattle.meaning.specs.Lists.{count, every, each, keep, has, distinct, any}
 use Rattle.meaning.specs.Bits.{bit}
-use Rattle.meaning.specs.Layout.{granules, taken, field, hit, slots, isSlot, directoryGranules, directorySectors, granuleBytes, granuleSectors}
-use Rattle.meaning.specs.Names.{hash, wellFormed}
+use Rattle.meaning.specs.Layout.{granules, taken, field, hit, slots, isSlot, directoryGranules, granuleBytes, granuleSectors}
+use Rattle.meaning.specs.Names.{hash}
 use Rattle.meaning.specs.Entries.{inUse, primary, system, runs, runStart, runLength, runGranules, entryGranules, nameOf, sectorCount, endByte, sizeOf}
-use Rattle.meaning.specs.Chain.{chainFrom, chain, owned, files}
-use Rattle.meaning.specs.Consistent.{lengthHolds, hitHolds, pairsHold, linkHolds, runsHold, gatHolds, entryHolds, slotHolds, fileHolds, namesDiffer, met, consistent}
+use Rattle.meaning.specs.Chain.{chain, owned, files}
+use Rattle.meaning.specs.Consistent.{lengthHolds, hitHolds, runsHold, gatHolds, entryHolds, slotHolds, fileHolds, namesDiffer, met, consistent}
 use Rattle.meaning.specs.declared.Geometry.{Geometry}
 use Rattle.layout.specs.Room.{Room, Slot}
 use Rattle.layout.proofs.Sound.{slot-yes}
-use Rattle.layout.proofs.Lists.{all-at, all-yes, all-no, all-one, all-none, any-last, not-yes, not-no, every-count}
+use Rattle.layout.proofs.Lists.{all-at, all-yes, all-no, all-none, any-last, not-yes, every-count, not-both}
 use Rattle.marks.specs.Marks.{marked}
 use Rattle.marks.specs.Owners.{GatMap, standing}
 use Rattle.marks.specs.Eight.{Among}
 use Rattle.walk.specs.Walk.{chainHolds, runHolds}
-use Rattle.walk.proofs.Lists.{not-both, all-out}
 use Rattle.laws.specs.Members
-use Rattle.laws.specs.Members.{In, Distinct}
+use Rattle.laws.specs.Members.{In}
 use Rattle.laws.specs.Facts
 use Rattle.laws.specs.Facts.{File, Sound}
 use Rattle.laws.specs.Entry
 use Rattle.laws.specs.Change
-use Rattle.consistency.specs.Slots.{least, leastOf, countHolds, nameFits, fileFits, slotFits, chainOf, ownedOf, opens, one, slotsFit, Seen, Directory, diskSlots, HitCopied, metAt}
+use Rattle.one_file.specs.Slots.{least, leastOf, nameFits, fileFits, slotFits, chainOf, ownedOf, one, slotsFit, Seen, Directory}
+use Rattle.entry.specs.Count.{countHolds}
+use Rattle.consistency.specs.Slots.{diskSlots}
+use Rattle.entries_met.specs.Met.{HitCopied, metAt}
 use Rattle.consistency.proofs.Maps
-use Rattle.consistency.proofs.Order.{Alike, fit-alike, marked-alike, disk-order}
-use Rattle.consistency.proofs.Directory.{all-open, open-all}
+use Rattle.consistency.proofs.Order.{fit-alike, marked-alike, disk-order}
+use Rattle.one_file.proofs.Directory.{all-open, open-all}
 use Rattle.consistency.proofs.Bridge
 use Rattle.consistency.proofs.Bridge.{Base, Held, Good}
 

@@ -1,22 +1,11 @@
--- What the check tests of a slot and of a list of slots, by two maps: one number a granule, one number a slot.
+-- What the whole check is given, and the order in which it visits the slots.
 use mathlib.Core.Path.{_≡_}
-use mathlib.Core.Bool.{Bool, true, false, not, cond, _&&_, _||_}
 use mathlib.Core.List.{List, [], _∷_}
-use Prim.Native.Nat.{ℕ, zero, suc, _+_, _-_, _*_, _/_, _%_, _≤_, _<_}
-use lib.Dec.{eqb, leb}
-use lib.ListN.{length, getD}
-use Rattle.meaning.specs.Lists.{count, every, each, all, any}
-use Rattle.meaning.specs.Bits.{bit}
-use Rattle.meaning.specs.Layout.{granules, field, hit, slots, directorySectors, granuleBytes, granuleSectors, sectors, mostGranules, mostBlocks, mostUnits}
-use Rattle.meaning.specs.Names.{hash, wellFormed}
-use Rattle.meaning.specs.Entries.{primary, system, nameOf, sectorCount, endByte}
-use Rattle.meaning.specs.Chain.{chain, owned}
-use Rattle.meaning.specs.Consistent.{hitHolds}
+use Prim.Native.Nat.{ℕ, zero, suc, _+_, _-_, _*_, _%_, _≤_}
+use lib.ListN.{length}
+use Rattle.meaning.specs.Lists.{count, each}
+use Rattle.meaning.specs.Layout.{granules, directorySectors, granuleBytes, granuleSectors, sectors, mostGranules, mostBlocks, mostUnits}
 use Rattle.meaning.specs.declared.Geometry.{Geometry}
-use Rattle.marks.specs.Marks.{marked, allows}
-use Rattle.marks.specs.Owners.{Window}
-use Rattle.marks.specs.Eight.{Spans}
-use Rattle.walk.specs.Walk.{chainHolds}
 
 -- the geometry and the image's length fit
 pub record Fits (g : Geometry) (d : List ℕ) : Type 0 where
@@ -28,63 +17,6 @@ pub record Fits (g : Geometry) (d : List ℕ) : Type 0 where
   pub most : granules g ≤ mostGranules
   pub whole : length d ≡ granules g * granuleBytes
   pub ten : g .start + 10 ≤ sectors g
-
--- what a granule must stand at to be open to a file with these flags
-unfoldable pub least : ℕ → ℕ
-least flags = cond (bit 6 flags) 1 2
-
-abbrev pub leastOf : Geometry → List ℕ → ℕ → ℕ
-leastOf g d s = least (field g d s 0)
-
--- n = 0 only with e = 0
-unfoldable pub countHolds : ℕ → ℕ → Bool
-countHolds n e = not (eqb n 0) || eqb e 0
-
-unfoldable pub nameFits : Geometry → List ℕ → ℕ → ℕ → Bool
-nameFits g d h s = all (wellFormed (nameOf g d s) ∷ eqb h (hash (nameOf g d s)) ∷ [])
-
--- a file, but for what the maps say: bit 5, the name, the sizes, the chain
-unfoldable pub fileFits : Geometry → List ℕ → ℕ → Bool
-fileFits g d p =
-    all (not (bit 5 (field g d p 0)) ∷ nameFits g d (hit g d p) p ∷ countHolds (sectorCount g d p) (endByte g d p)
-    ∷ chainHolds g d (hit g d p) (length (slots g d)) p ∷ leb (sectorCount g d p) (granuleSectors * length (owned g d p)) ∷ [])
-
-unfoldable pub slotFits : Geometry → List ℕ → ℕ → Bool
-slotFits g d s = all (hitHolds g d s ∷ any (not (primary g d s) ∷ fileFits g d s ∷ []) ∷ [])
-
--- the entries and the granules of the file that starts at a slot; none where none starts
-unfoldable pub chainOf : Geometry → List ℕ → ℕ → List ℕ
-chainOf g d s = cond (primary g d s) (chain g d s) []
-
-unfoldable pub ownedOf : Geometry → List ℕ → ℕ → List ℕ
-ownedOf g d s = cond (primary g d s) (owned g d s) []
-
--- slot after slot, the places that f gives are open in the map, and are taken off it
-unfoldable pub opens : List ℕ → (ℕ → ℕ) → (ℕ → List ℕ) → List ℕ → Bool
-opens m low f [] = true
-opens m low f (s ∷ ss) = allows m (low s) 0 (f s) && opens (marked m 0 (f s)) low f ss
-
-abbrev pub one : ℕ → ℕ
-one s = 1
-
-unfoldable pub slotsFit : Geometry → List ℕ → List ℕ → List ℕ → List ℕ → Bool
-slotsFit g d m met ss = all (every (slotFits g d) ss ∷ opens m (leastOf g d) (ownedOf g d) ss ∷ opens met one (chainOf g d) ss ∷ [])
-
--- what the check of one file says, to which granules are open that stand at `low` or above, and of some slots; if it holds, both maps are marked
-pub record FileSeen (g : Geometry) (d : List ℕ) (p low : ℕ) (m m′ met met′ : List ℕ) (r : Bool) : Type 0 where
-  pub answer : r ≡ all (fileFits g d p ∷ allows m low 0 (owned g d p) ∷ allows met 1 0 (chain g d p) ∷ [])
-  pub map : r ≡ true → m′ ≡ marked m 0 (owned g d p)
-  pub meets : r ≡ true → met′ ≡ marked met 0 (chain g d p)
-
-pub record Seen (g : Geometry) (d ss m m′ met met′ : List ℕ) (r : Bool) : Type 0 where
-  pub answer : r ≡ slotsFit g d m met ss
-  pub map : r ≡ true → m′ ≡ marked m 0 (each (ownedOf g d) ss)
-  pub meets : r ≡ true → met′ ≡ marked met 0 (each (chainOf g d) ss)
-
--- `bits` has the directory's granules, as they stand in the eight bytes of the owner map from `from` on
-pub record Directory (g : Geometry) (d : List ℕ) (from bits : ℕ) : Type 0 where
-  pub spans : Spans (g .units) (g .start / granuleSectors) (directorySectors g d / granuleSectors) from
-  pub window : Window (g .units) (g .start / granuleSectors) (directorySectors g d / granuleSectors) from bits
 
 -- s and every 32nd slot after it, n in all
 unfoldable pub by32 : ℕ → ℕ → List ℕ
@@ -98,12 +30,3 @@ sectorSlots column = by32 8 column
 -- "visit entries in disk order, by directory sector and then row" (02, §8)
 unfoldable pub diskSlots : Geometry → List ℕ → List ℕ
 diskSlots g d = each sectorSlots (count 0 (directorySectors g d - 2))
-
--- each slot stands at its HIT byte, which is 0 where it is not in use
-pub record HitCopied (g : Geometry) (d met : List ℕ) : Type 0 where
-  pub long : length met ≡ 256
-  pub is : (s : ℕ) → s < 256 → getD met s 0 ≡ hit g d s
-
--- a slot was met, or is not in use: 0 stands in the map
-abbrev pub metAt : List ℕ → ℕ → Bool
-metAt met s = eqb (getD met s 0) 0

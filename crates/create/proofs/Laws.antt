@@ -23,7 +23,7 @@ use Rattle.meaning.specs.declared.NewFile.{NewFile}
 use Rattle.meaning.specs.declared.Created.{Created}
 use Rattle.laws.specs.Members
 use Rattle.laws.specs.Members.{In}
-use Rattle.layout.specs.Room.{Room, Slot}
+use Rattle.layout.specs.Room.{Slot}
 use Rattle.layout.proofs.Lists.{all-at, all-yes, all-no, all-none, first-hit, first-skip, first-none, not-yes, not-no}
 use Rattle.layout.proofs.Sound.{slot-of}
 use Rattle.handle.proofs.Laws.{check-stop, check-then, length-range}

@@ -56,7 +56,7 @@ fn put_entry(image: &mut [u8], g: Geometry, x: usize, name: &[u8], f: NewFile)
         0xff,
     ];
     copy::put_part(image, at + 16, &rest, 0, 16);
-    image[256 * (g.start + 1) + x] = names::hash(name) as u8;
+    image[256 * (g.start + 1) + x] = hash::hash(name) as u8;
 }
 
 // A refused create hands back a handle of zeros.
@@ -88,7 +88,7 @@ pub fn create_checked(
     if !in_range(f) {
         return refused(12);
     }
-    if !find::well_formed(name) {
+    if !spelling::well_formed(name) {
         return refused(3);
     }
     let found = find::find(image, g, name);

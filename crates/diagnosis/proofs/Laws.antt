@@ -1,17 +1,15 @@
 -- The tests of HIT bytes and names, and the pass over all slots.
 use mathlib.Core.Path.{_≡_, refl, sym, ap, _∙_}
-use mathlib.Core.Logic.{_⊎_, inl, inr}
 use mathlib.Core.List.{List, [], _∷_, _++_}
-use mathlib.Core.Bool.{Bool, true, false, not, cond, _&&_, _||_, Bool·beq}
-use Prim.Native.Nat.{ℕ, zero, suc, _+_, _-_, _*_, _/_, _%_, _≤_, _<_}
+use mathlib.Core.Bool.{Bool, true, false, not, cond, _&&_, Bool·beq}
+use Prim.Native.Nat.{ℕ, _+_, _-_, _/_, _≤_, _<_}
 use native.Mathlib.Omega.{arith}
 use lib.Dec.{T, eqb, ltb, ltb→lt, lt→ltb}
 use lib.ListN.{length, take, drop}
 use borrow.Author.Tests.{eq-eqb, ne-eqb}
-use Rattle.meaning.specs.Lists.{count, every, some, keep, same, all, any}
-use Rattle.meaning.specs.Layout.{fitsGeometry, taken, isSlot, slots, hit, entryAt, directorySectors, directoryGranules}
-use Rattle.meaning.specs.Names.{hash, wellFormed}
-use Rattle.meaning.specs.Entries.{inUse, primary, nameOf}
+use Rattle.meaning.specs.Lists.{count, every, some, keep, same}
+use Rattle.meaning.specs.Layout.{fitsGeometry, taken, isSlot, slots, entryAt, directorySectors, granuleSectors}
+use Rattle.meaning.specs.Entries.{primary, nameOf}
 use Rattle.meaning.specs.Chain.{files}
 use Rattle.meaning.specs.Consistent.{lengthHolds, directoryTaken, consistent}
 use Rattle.meaning.specs.Fault.{faultAt, lowest, fault, unplaced}
@@ -23,7 +21,6 @@ use Rattle.layout.proofs.Laws.{name-part}
 use Rattle.layout.proofs.Lists.{keep-yes, keep-no, first-hit}
 use Rattle.laws.specs.Members
 use Rattle.laws.specs.Facts
-use Rattle.laws.specs.Facts.{File}
 use Rattle.laws.specs.Kinds
 use Rattle.laws.specs.Fault as FaultLaws
 use Rattle.laws.specs.Passed.{check-number}
@@ -139,14 +136,14 @@ module _ (g : Geometry) (d : List ℕ) where
   slots-done after s i h = sym (i ∙ ap (λ (l : List ℕ). lowest g d after (keep (isSlot g d) l)) (count-none h))
 
   -- a clear granule of the directory
-  taken-by : {k : ℕ} {b : Bool} → k ≡ directorySectors g d → every (taken g d) (count (g .start / 5) (k / 5)) ≡ b → directoryTaken g d ≡ b
-  taken-by e h = ap (λ (j : ℕ). every (taken g d) (count (g .start / 5) (j / 5))) (sym e) ∙ h
+  taken-by : {k : ℕ} {b : Bool} → k ≡ directorySectors g d → every (taken g d) (count (g .start / granuleSectors) (k / granuleSectors)) ≡ b → directoryTaken g d ≡ b
+  taken-by e h = ap (λ (j : ℕ). every (taken g d) (count (g .start / granuleSectors) (j / granuleSectors))) (sym e) ∙ h
 
-  pub clear-no : {k : ℕ} → k ≡ directorySectors g d → every (taken g d) (count (g .start / 5) (k / 5)) ≡ false → unplaced 30 ≡ afterSlots g d
+  pub clear-no : {k : ℕ} → k ≡ directorySectors g d → every (taken g d) (count (g .start / granuleSectors) (k / granuleSectors)) ≡ false → unplaced 30 ≡ afterSlots g d
   unfolding afterSlots
   clear-no e h = sym (ap {B = Fault} (λ (b : Bool). cond b (unplaced 0) (unplaced 30)) (taken-by e h))
 
-  pub clear-yes : {k : ℕ} → k ≡ directorySectors g d → every (taken g d) (count (g .start / 5) (k / 5)) ≡ true → unplaced 0 ≡ afterSlots g d
+  pub clear-yes : {k : ℕ} → k ≡ directorySectors g d → every (taken g d) (count (g .start / granuleSectors) (k / granuleSectors)) ≡ true → unplaced 0 ≡ afterSlots g d
   unfolding afterSlots
   clear-yes e h = sym (ap {B = Fault} (λ (b : Bool). cond b (unplaced 0) (unplaced 30)) (taken-by e h))
 

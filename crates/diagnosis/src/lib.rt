@@ -2,14 +2,14 @@
 use meaning::Fault;
 use meaning::Geometry;
 ghost use mathlib.Core.Path.{_≡_};
-ghost use mathlib.Core.Bool.{true, not};
-ghost use Prim.Native.Nat.{_+_, _-_, _*_, _<_, _≤_};
+ghost use mathlib.Core.Bool.{true};
+ghost use Prim.Native.Nat.{_+_, _*_, _<_};
 ghost use Rattle.meaning.specs.Lists.{count, some};
 ghost use Rattle.meaning.specs.Layout.{slots};
-ghost use Rattle.meaning.specs.Consistent.{hitHolds, nameHolds};
+ghost use Rattle.meaning.specs.Consistent.{hitHolds};
 ghost use Rattle.meaning.specs.Fault.{hitFault, nameFault, duplicateFault, faultAt, lowest, fault};
 ghost use Rattle.meaning.specs.Refusals.{check};
-ghost use Rattle.layout.specs.Room.{Room, Slot, Below};
+ghost use Rattle.layout.specs.Room.{Room, Slot};
 ghost use Rattle.consistency.specs.Slots.{Fits};
 ghost use Rattle.diagnosis.specs.Told.{hashDiffers, sameFile, faultIn, afterSlots, told};
 
@@ -22,7 +22,7 @@ fn hit_holds(image: &[u8], g: Geometry, s: usize) -> bool
     ensures { λ r. ⌜ r ≡ hitHolds g (now (image .entry)) s ⌝ }
 {
     let h = layout::hit(image, g, s);
-    let used = kinds::flag(image, g, s, 4);
+    let used = entry::flag(image, g, s, 4);
     if h == 0 {
         return !used;
     }
@@ -37,7 +37,7 @@ fn hash_differs(image: &[u8], g: Geometry, s: usize) -> bool
     let p = kinds::file_of(image, g, s);
     let a = 256 * (g.start + 2 + p % 32) + 32 * (p / 32) + 5;
     let e = a + 11;
-    let h = names::hash(&image[a..e]);
+    let h = hash::hash(&image[a..e]);
     layout::hit(image, g, s) != h
 }
 
@@ -48,26 +48,13 @@ fn hit_fault(image: &[u8], g: Geometry, s: usize) -> bool
     if !hit_holds(image, g, s) {
         return true;
     }
-    if !kinds::flag(image, g, s, 4) {
+    if !entry::flag(image, g, s, 4) {
         return false;
     }
     if !kinds::linked(image, g, s) {
         return false;
     }
     hash_differs(image, g, s)
-}
-
-// The name is well formed, and bit 5 is zero.
-fn name_holds(image: &[u8], g: Geometry, p: usize) -> bool
-    requires { ⌜ Room g (now image) × Slot g (now image) p ⌝ }
-    ensures { λ r. ⌜ r ≡ nameHolds g (now (image .entry)) p ⌝ }
-{
-    let a = 256 * (g.start + 2 + p % 32) + 32 * (p / 32) + 5;
-    let e = a + 11;
-    if !find::well_formed(&image[a..e]) {
-        return false;
-    }
-    !kinds::flag(image, g, p, 5)
 }
 
 fn name_fault(image: &[u8], g: Geometry, p: usize) -> bool
@@ -77,7 +64,7 @@ fn name_fault(image: &[u8], g: Geometry, p: usize) -> bool
     if !layout::primary(image, g, p) {
         return false;
     }
-    !name_holds(image, g, p)
+    !entry::name_holds(image, g, p)
 }
 
 // Whether a file starts at slot q with the name of that at p.

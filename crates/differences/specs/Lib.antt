@@ -2,4 +2,4 @@ pub mod Compare
 pub mod Order
 pub mod Parting
 pub mod Told
-pub mod Samples
+pub mod Placement

@@ -1,8 +1,8 @@
 -- Laws of the position where two contents part.
 use mathlib.Core.Path.{_≡_, refl, sym, ap, _∙_}
-use mathlib.Core.Bool.{Bool, true, false, not, cond, _&&_, and-false}
+use mathlib.Core.Bool.{Bool, true, false, and-false}
 use mathlib.Core.List.{List, [], _∷_, _++_}
-use Prim.Native.Nat.{ℕ, zero, suc, _+_, _<_, _≤_}
+use Prim.Native.Nat.{ℕ, suc, _+_}
 use native.Mathlib.Omega.{arith}
 use native.Mathlib.Nat.{zero-add}
 use lib.Dec.{eqb, eqb·suc-suc, eqb·zero-suc}
@@ -10,7 +10,6 @@ use lib.ListN.{length}
 use borrow.Author.Tests.{eqb-true, eqb-false, eq-eqb, ne-eqb}
 use Rattle.meaning.specs.Lists.{same, all}
 use Rattle.differences.specs.Compare.{parting}
-use Rattle.differences.specs.Order.{never}
 
 pub parting-none : (xs : List ℕ) → parting xs [] ≡ 0
 unfolding parting
@@ -40,15 +39,6 @@ look x y = by (eqb x y) refl
     by : (t : Bool) → eqb x y ≡ t → Alike x y
     by true e = yes′ (eqb-true x y e)
     by false e = no′ (eqb-false x y e)
-
-pub parting-low : (xs ys : List ℕ) → parting xs ys ≤ length xs
-parting-low [] ys = rw (parting-nothing ys) (omega arith)
-parting-low (x ∷ xs) [] = rw (parting-none (x ∷ xs)) (omega arith)
-parting-low (x ∷ xs) (y ∷ ys) = by (parting-low xs ys) (look x y)
-  where
-    by : parting xs ys ≤ length xs → Alike x y → parting (x ∷ xs) (y ∷ ys) ≤ suc (length xs)
-    by ih (yes′ e) = rw (parting-on x y xs ys e) (omega arith)
-    by ih (no′ e) = rw (parting-here x y xs ys e) (omega arith)
 
 -- The two sides may be changed: the position is the same.
 pub parting-swap : (xs ys : List ℕ) → parting xs ys ≡ parting ys xs

@@ -1,7 +1,6 @@
 -- Check: the geometry.
-use Prim.Native.Nat.{ℕ}
 use mathlib.Core.Path.{_≡_, refl}
-use mathlib.Core.List.{List, [], _∷_}
+use mathlib.Core.List.{[], _∷_}
 use Rattle.meaning.specs.Layout
 use Rattle.meaning.specs.Refusals.{check}
 use Rattle.meaning.specs.Samples.{laid, sample, opened}

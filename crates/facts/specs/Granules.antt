@@ -1,14 +1,14 @@
 -- Allot, trim and kill on whole disks, accepted and refused: the answer and the whole image. (A fifth run, and the kill of a chain, stand beside
 -- the definitions.)
-use Prim.Native.Nat.{ℕ, _+_}
+use Prim.Native.Nat.{_+_}
 use mathlib.Core.Path.{_≡_, refl}
-use mathlib.Core.List.{List, [], _∷_}
+use mathlib.Core.List.{[], _∷_}
 use lib.ListN.{replicate}
 use Rattle.meaning.specs.Allot.{allot}
 use Rattle.meaning.specs.Trim.{trim}
 use Rattle.meaning.specs.Kill.{kill}
 use Rattle.meaning.specs.Samples.{changed, written, held, puls, leer, three, sample, gaps, filled, hits, e80, e81, eA3, opened}
-use Rattle.facts.specs.Disks.{flagged, fixed, kept, answered, crowd, crowded}
+use Rattle.facts.specs.Disks.{fixed, kept, answered, crowd, crowded}
 
 -- Allot -------------------------------------------------------------------------------------------------------------------
 

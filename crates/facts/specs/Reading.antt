@@ -1,7 +1,7 @@
 -- Read record and read sector on whole disks, accepted and refused.
-use Prim.Native.Nat.{ℕ, _+_}
+use Prim.Native.Nat.{_+_}
 use mathlib.Core.Path.{_≡_, refl}
-use mathlib.Core.List.{List, [], _∷_}
+use mathlib.Core.List.{[], _∷_}
 use Rattle.meaning.specs.Read.{readRecord, readSector}
 use Rattle.meaning.specs.Samples.{changed, held, puls, three, sample, eA3, opened}
 use Rattle.facts.specs.Disks.{answered}

@@ -1,16 +1,16 @@
 -- The search, slot by slot, and the refusals of look up.
-use mathlib.Core.Path.{_≡_, refl, sym, ap, _∙_}
+use mathlib.Core.Path.{_≡_, sym, ap, _∙_}
 use mathlib.Core.Logic.{_⊎_, inl, inr}
-use mathlib.Core.List.{List, [], _∷_, _++_}
-use mathlib.Core.Bool.{Bool, true, false, not, cond, _&&_}
-use Prim.Native.Nat.{ℕ, zero, suc, _+_, _-_, _*_, _/_, _%_, _≤_, _<_}
+use mathlib.Core.List.{List, [], _∷_}
+use mathlib.Core.Bool.{Bool, true, false, not, cond}
+use Prim.Native.Nat.{ℕ, suc, _+_, _-_, _*_, _/_, _%_, _≤_, _<_}
 use native.Mathlib.Omega.{arith}
 use native.Mathlib.Nat.{zero-add}
-use lib.ListN.{length, take}
+use lib.ListN.{take}
 use lib.Dec.{eqb}
 use borrow.Author.Tests.{not-true, not-false, ne-eqb}
 use Rattle.meaning.specs.Lists.{keep, has, firstOr}
-use Rattle.meaning.specs.Layout.{hit, slots, directorySectors}
+use Rattle.meaning.specs.Layout.{hit, directorySectors}
 use Rattle.meaning.specs.Names.{hash}
 use Rattle.meaning.specs.LookUp.{candidates, carries, comparedIn, named, lookUp, lookUpRefusals}
 use Rattle.meaning.specs.Refusals.{first, accepted, check, faultNumbers, diskRefusals}
@@ -18,7 +18,7 @@ use Rattle.meaning.specs.declared.LookedUp.{LookedUp}
 use Rattle.meaning.specs.declared.Geometry.{Geometry}
 use Rattle.laws.specs.Members
 use Rattle.laws.specs.First.{first-in}
-use Rattle.layout.proofs.Lists.{keep-yes, keep-no, first-hit, first-skip, first-none}
+use Rattle.layout.proofs.Lists.{keep-yes, keep-no}
 use Rattle.handle.proofs.Laws.{check-stop}
 use Rattle.find.specs.Found.{Finds}
 use Rattle.find.specs.declared.Found.{Found}

@@ -1,11 +1,10 @@
 -- The password rule, and open's answers.
-use mathlib.Core.Path.{_≡_, refl, sym, ap, _∙_}
+use mathlib.Core.Path.{_≡_, sym, ap, _∙_}
 use mathlib.Core.List.{List, [], _∷_}
-use mathlib.Core.Bool.{Bool, true, false, not, cond, _||_, or-false}
+use mathlib.Core.Bool.{Bool, true, false, not, cond}
 use Prim.Native.Nat.{ℕ}
-use lib.Dec.{eqb}
 use borrow.Author.Tests.{ne-eqb}
-use Rattle.meaning.specs.Lists.{any, firstOr}
+use Rattle.meaning.specs.Lists.{firstOr}
 use Rattle.meaning.specs.Entries.{accessLevel}
 use Rattle.meaning.specs.Refusals.{first, noHandle}
 use Rattle.meaning.specs.LookUp.{named, slotOf}

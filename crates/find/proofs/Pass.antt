@@ -1,10 +1,10 @@
 -- A pass over the slots of the directory, by rising number: what is left of them from slot s on.
-use mathlib.Core.Path.{_≡_, refl, sym, ap, _∙_}
+use mathlib.Core.Path.{_≡_, refl, ap, _∙_}
 use mathlib.Core.List.{List, [], _∷_}
-use mathlib.Core.Bool.{Bool, true, false, cond}
+use mathlib.Core.Bool.{Bool, false}
 use Prim.Native.Nat.{ℕ, zero, suc, _+_, _-_, _*_, _/_, _%_, _≤_, _<_}
 use native.Mathlib.Omega.{arith}
-use native.Mathlib.Nat.{zero-add, add-zero}
+use native.Mathlib.Nat.{zero-add}
 use Rattle.meaning.specs.Lists.{count, keep}
 use Rattle.meaning.specs.Layout.{isSlot, slots, directorySectors}
 use Rattle.meaning.specs.declared.Geometry.{Geometry}

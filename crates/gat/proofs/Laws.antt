@@ -1,7 +1,7 @@
 -- The pass over the GAT is a pass over the granules, and its numbers are those of the disk.
 use mathlib.Core.Path.{_≡_, refl, sym, ap, _∙_}
 use mathlib.Core.List.{List, [], _∷_}
-use mathlib.Core.Bool.{Bool, true, false, not, cond}
+use mathlib.Core.Bool.{Bool, true, false, not}
 use Prim.Native.Nat.{ℕ, zero, suc, _+_, _-_, _*_, _/_, _%_, _^_, _≤_, _<_, max}
 use native.Mathlib.Omega.{arith}
 use native.Mathlib.Nat.{zero-add, add-zero, sub-zero, zero-mul, div-one, div-div-eq-div-mul, pow-succ', mul-comm}
@@ -9,7 +9,7 @@ use lib.ListN.{length}
 use lib.Dec.{eqb}
 use borrow.Author.Tests.{leb-true, eqb-true}
 use Rattle.meaning.specs.Lists.{count, keep}
-use Rattle.meaning.specs.Layout.{byte, granules, taken, fitsGeometry}
+use Rattle.meaning.specs.Layout.{byte, granules, granuleBytes, granuleSectors, taken, fitsGeometry}
 use Rattle.meaning.specs.Free.{freeGranules}
 use Rattle.meaning.specs.FreeSpace.{stretch, longestIn, longest, freeSpace}
 use Rattle.meaning.specs.declared.Geometry.{Geometry}
@@ -18,7 +18,7 @@ use Rattle.laws.specs.Stretches.{stretch-taken, stretch-free, stretch-le}
 use Rattle.layout.proofs.Laws.{left-none}
 use Rattle.layout.proofs.Lists.{keep-yes, keep-no, all-at, first-hit, first-skip, first-none, not-yes, not-no}
 use Rattle.space.proofs.Clear.{gatByte, taken-at, blocks-more, block-next}
-use Rattle.gat.specs.Pass.{Gat, Small, Tells, ended, met, bits}
+use Rattle.gat.specs.Pass.{Gat, Tells, ended, met, bits}
 use Rattle.gat.specs.declared.Seen.{Seen}
 
 -- One step ----------------------------------------------------------------------------------------------------------------
@@ -197,8 +197,8 @@ pub gat-fits : (g : Geometry) (d : List ℕ) → fitsGeometry g d ≡ true → G
 unfolding fitsGeometry
 gat-fits g d f =
     let a = leb-true (g .blocks) 192 (all-at _ f 1) in
-    let b = eqb-true (length d) (granules g * 1280) (all-at _ f 5) in
-    let c = leb-true (g .start + 10) (granules g * 5) (all-at _ f 6) in
+    let b = eqb-true (length d) (granules g * granuleBytes) (all-at _ f 5) in
+    let c = leb-true (g .start + 10) (granules g * granuleSectors) (all-at _ f 6) in
     record { blocks-high = a; units-low = leb-true _ _ (all-at _ f 2); units-high = leb-true _ _ (all-at _ f 3); inside = omega arith }
 
 -- Refused and accepted ----------------------------------------------------------------------------------------------------

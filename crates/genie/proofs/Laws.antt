@@ -1,32 +1,16 @@
--- Bytes over a whole slice, and what each exported function hands back.
-use mathlib.Core.Path.{_≡_, refl, sym, ap, _∙_}
-use mathlib.Core.List.{List, [], _∷_, _++_, append-nil}
+-- What each exported function hands back, case by case.
+use mathlib.Core.Path.{_≡_, sym, ap, _∙_}
+use mathlib.Core.List.{List}
 use mathlib.Core.Bool.{Bool, true, false, not, cond}
-use Prim.Native.Nat.{ℕ, _+_, _≤_, _<_}
-use native.Mathlib.Omega.{arith}
-use native.Mathlib.Nat.{zero-add}
-use lib.ListN.{length, take, drop, drop-of-length-le}
-use lib.Seq.{sets, sets-eq, take-all}
+use Prim.Native.Nat.{ℕ}
+use lib.Seq.{sets}
 use borrow.Author.Tests.{eq-eqb, ne-eqb, not-true, not-false}
-use Rattle.meaning.specs.declared.Handle.{Handle}
 use Rattle.meaning.specs.declared.Answer.{Answer}
 use Rattle.meaning.specs.declared.Created.{Created}
 use Rattle.meaning.specs.declared.Listed.{Listed}
-use Rattle.genie.specs.Codec.{lowFirst, bytesOf, stored}
-use Rattle.genie.specs.Exports.{told, moves, opens, creates, tells}
-
--- as many bytes over a whole slice
-pub whole : (z xs : List ℕ) → length xs ≡ length z → sets z 0 xs ≡ xs
-whole z xs e =
-    sets-eq xs z 0 (omega (arith, e)) ∙ ap (λ (k : ℕ). xs ++ drop k z) (zero-add (length xs) ∙ e)
-    ∙ ap (λ (r : List ℕ). xs ++ r) (let q : length z ≤ length z = omega arith in drop-of-length-le z q) ∙ append-nil xs
-
--- a handle's numbers, then its name
-pub numbers-then-name : (b : List ℕ) (h : Handle) {b₁ b₂ : List ℕ}
-    → b₁ ≡ sets b 0 (lowFirst 1 (h .slot) ++ (lowFirst 1 (h .level) ++ (lowFirst 2 (h .len) ++ lowFirst 4 (h .at))))
-    → b₂ ≡ sets b₁ 8 (h .name) → b₂ ≡ stored b h
-unfolding stored bytesOf
-numbers-then-name b h e f = f ∙ ap (λ (r : List ℕ). sets r 8 (h .name)) e
+use Rattle.codec.specs.Codec.{stored}
+use Rattle.codec.specs.Words.{told}
+use Rattle.genie.specs.Exports.{moves, opens, creates, tells}
 
 -- what stands around a number stays
 pub number : (T : Type 0) (f : ℕ → T) {m n : ℕ} → m ≡ n → f m ≡ f n

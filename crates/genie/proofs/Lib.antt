@@ -1,4 +1,3 @@
 pub mod Laws
-pub mod Fitting
 pub mod Compared
 pub mod Slot

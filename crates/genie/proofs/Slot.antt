@@ -1,5 +1,5 @@
 -- The slot that goes out is found after the call: a refused call has left its image as it stood.
-use mathlib.Core.Path.{_≡_, refl, sym, ap, _∙_}
+use mathlib.Core.Path.{_≡_, ap, _∙_}
 use mathlib.Core.Bool.{Bool, false, cond, _&&_}
 use mathlib.Core.List.{List}
 use Prim.Native.Nat.{ℕ}
@@ -16,7 +16,7 @@ use Rattle.meaning.specs.declared.Geometry.{Geometry}
 use Rattle.meaning.specs.declared.Handle.{Handle}
 use Rattle.meaning.specs.declared.NewFile.{NewFile}
 use Rattle.meaning.specs.declared.Mode.{Mode}
-use Rattle.genie.specs.Slot.{faultSlot}
+use Rattle.refusal.specs.Slot.{faultSlot}
 
 kept : (g : Geometry) {n : ℕ} {d d′ : List ℕ} → ((n ≡ 0 → ⊥) → d′ ≡ d) → faultSlot n g d′ ≡ faultSlot n g d
 unfolding faultSlot

@@ -1,11 +1,11 @@
 -- What each exported function hands back: its number first, then the numbers that go out, then the bytes of what it was lent.
 use Prim.Native.Nat.{ℕ}
-use mathlib.Core.Bool.{Bool, true, cond}
-use mathlib.Core.List.{List, [], _∷_}
+use mathlib.Core.Bool.{Bool, cond}
+use mathlib.Core.List.{List}
 use lib.Dec.{ltb}
 use lib.ListN.{length}
 use lib.Seq.{sets}
-use Rattle.meaning.specs.Refusals.{first, accepted, diskRefusals}
+use Rattle.meaning.specs.Refusals.{accepted}
 use Rattle.meaning.specs.LookUp.{lookUp}
 use Rattle.meaning.specs.Open.{open′}
 use Rattle.meaning.specs.Create.{create}
@@ -27,9 +27,9 @@ use Rattle.meaning.specs.declared.Part.{Part}
 use Rattle.meaning.specs.declared.Listed.{Listed}
 use Rattle.meaning.specs.declared.Counts.{Counts}
 use Rattle.meaning.specs.declared.Space.{Space}
-use Rattle.meaning.specs.declared.Mode.{Mode}
-use Rattle.meaning.specs.declared.Mode.the-variants.{Sequential, Random}
-use Rattle.genie.specs.Codec.{handleBytes, handleOf, stored}
+use Rattle.codec.specs.Codec.{handleBytes, nameBytes, handleOf, stored}
+use Rattle.codec.specs.Words.{modeOf, told}
+use Rattle.refusal.specs.Short.{tooShort}
 
 -- the four numbers that state a disk
 abbrev pub geometry : ℕ → ℕ → ℕ → ℕ → Geometry
@@ -39,18 +39,6 @@ geometry blocks units start code = record { blocks = blocks; units = units; star
 abbrev pub newFile : ℕ → ℕ → ℕ → ℕ → ℕ → ℕ → NewFile
 newFile day month year len main worker =
     record { day = day; month = month; year = year; len = len; main = main; worker = worker }
-
--- the flag that a host gives for a write
-unfoldable pub modeOf : Bool → Mode
-modeOf sequential = cond sequential Sequential Random
-
--- a truth as a number that goes out
-abbrev pub told : Bool → ℕ
-told b = cond b 1 0
-
--- "A handle under 19 bytes is 12; so is the listing's outgoing name buffer under 11 bytes", in the table's order.
-unfoldable pub tooShort : Geometry → List ℕ → ℕ
-tooShort g d = first (diskRefusals g d ((12, true) ∷ []))
 
 -- so for a slice of at least n bytes, and so for a shorter one
 abbrev pub long : {A : Type 0} → ℕ → List ℕ → A → A → A
@@ -132,7 +120,7 @@ module _ (g : Geometry) (d : List ℕ) where
 
   -- size, granules, more, the name buffer
   abbrev pub exportedList : ℕ → List ℕ → ℕ × ℕ × ℕ × ℕ × List ℕ
-  exportedList i b = long 11 b (tooShort g d, 0, 0, 0, b) (tells b (list g d i))
+  exportedList i b = long nameBytes b (tooShort g d, 0, 0, 0, b) (tells b (list g d i))
 
   -- files, free
   abbrev pub exportedCount : ℕ × ℕ × ℕ

@@ -1,4 +1,2 @@
-pub mod Codec
 pub mod Exports
 pub mod Compared
-pub mod Slot

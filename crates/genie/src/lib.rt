@@ -1,120 +1,11 @@
 // The exported functions, for hosts in C and Rust: numbers and byte slices only (host/include/genie.h). Each tests what it is lent.
-use differences::Difference;
 use meaning::Geometry;
-use meaning::Handle;
-use meaning::Mode;
 use meaning::NewFile;
 ghost use mathlib.Core.Path.{_≡_};
-ghost use Prim.Native.Nat.{_+_, _≤_};
-ghost use lib.ListN.{length};
-ghost use lib.Seq.{sets};
 ghost use Rattle.meaning.specs.Refusals.{check};
-ghost use Rattle.layout.specs.Room.{Below};
-ghost use Rattle.genie.specs.Codec.{two, handleOf, stored};
-ghost use Rattle.genie.specs.Exports.{geometry, newFile, modeOf, told, tooShort, exportedLookUp, exportedOpen, exportedCreate, exportedReadRecord, exportedReadSector, exportedWriteRecord, exportedAllot, exportedTrim, exportedKill, exportedBringBack, exportedList, exportedCount, exportedFree};
-ghost use mathlib.Core.Bool.{cond};
-ghost use Rattle.genie.specs.Compared.{flagsOf, exportedCompare};
-ghost use Rattle.genie.specs.Slot.{checkSlot, faultSlot, comparedSlot};
-
-const HANDLE_BYTES: usize = 19;
-
-const NAME_BYTES: usize = 11;
-
-// Two bytes as a number, low byte first.
-fn two(b: &[u8], i: usize) -> usize
-    requires { ⌜ (i ≤ 17) × (19 ≤ length (now b)) ⌝ }
-    ensures { λ r. ⌜ Below 65536 (two (now (b .entry)) i) r ⌝ }
-{
-    layout::wide(b[i]) + 256 * layout::wide(b[i + 1])
-}
-
-// The handle that the first 19 bytes hold.
-fn handle_of(b: &[u8]) -> Handle
-    requires { ⌜ 19 ≤ length (now b) ⌝ }
-    ensures { λ r. ⌜ r ≡ handleOf (now (b .entry)) ⌝ }
-{
-    let mut name = [0u8; 11];
-    copy::put_part(&mut name, 0, b, 8, NAME_BYTES);
-    Handle {
-        slot: layout::wide(b[0]),
-        name,
-        at: two(b, 4) + 65536 * two(b, 6),
-        len: two(b, 2),
-        level: layout::wide(b[1]),
-    }
-}
-
-// A name goes to the 11 bytes from `at` on.
-fn put_name(b: &mut [u8], at: usize, name: [u8; 11])
-    requires { ⌜ at + 11 ≤ length (now b) ⌝ }
-    ensures { λ _. ⌜ now (b .exit) ≡ sets (now (b .entry)) at name ⌝ }
-{
-    copy::put_part(b, at, &name, 0, NAME_BYTES);
-}
-
-// The handle goes to the first 19 bytes.
-fn put_handle(b: &mut [u8], h: Handle)
-    requires { ⌜ 19 ≤ length (now b) ⌝ }
-    ensures { λ _. ⌜ now (b .exit) ≡ stored (now (b .entry)) h ⌝ }
-{
-    let numbers = [
-        (h.slot % 256) as u8,
-        (h.level % 256) as u8,
-        (h.len % 256) as u8,
-        (h.len / 256 % 256) as u8,
-        (h.at % 256) as u8,
-        (h.at / 256 % 256) as u8,
-        (h.at / 256 / 256 % 256) as u8,
-        (h.at / 256 / 256 / 256 % 256) as u8,
-    ];
-    copy::put_part(b, 0, &numbers, 0, 8);
-    let name = h.name;
-    put_name(b, 8, name);
-}
-
-// The slot that goes out beside a number: the fault's, where the number is a fault's. A disk without one is not looked at again. A refused
-// call leaves its image as it stood, so this may come after the call.
-fn slot_of(image: &[u8], g: Geometry, number: u8) -> usize
-    ensures { λ r. ⌜ r ≡ faultSlot number g (now (image .entry)) ⌝ }
-{
-    if number < 21 {
-        return diagnosis::NO_SLOT;
-    }
-    if 30 < number {
-        return diagnosis::NO_SLOT;
-    }
-    diagnosis::check(image, g).slot
-}
-
-// 12 for what is lent too short, after 1 and the faults.
-fn short_number(image: &[u8], g: Geometry, fault_slot: &mut usize) -> u8
-    ensures { λ r. ⌜ (r ≡ tooShort g (now (image .entry))) × (now («fault_slot» .exit) ≡ faultSlot r g (now (image .entry))) ⌝ }
-{
-    let number = calls::check(image, g);
-    *fault_slot = slot_of(image, g, number);
-    if number != 0 {
-        return number;
-    }
-    12
-}
-
-fn mode_of(sequential: bool) -> Mode
-    ensures { λ r. ⌜ r ≡ modeOf sequential ⌝ }
-{
-    if sequential {
-        return Mode::Sequential;
-    }
-    Mode::Random
-}
-
-fn told(b: bool) -> usize
-    ensures { λ r. ⌜ r ≡ told b ⌝ }
-{
-    if b {
-        return 1;
-    }
-    0
-}
+ghost use Rattle.refusal.specs.Slot.{checkSlot, faultSlot, comparedSlot};
+ghost use Rattle.genie.specs.Exports.{geometry, newFile, exportedLookUp, exportedOpen, exportedCreate, exportedReadRecord, exportedReadSector, exportedWriteRecord, exportedAllot, exportedTrim, exportedKill, exportedBringBack, exportedList, exportedCount, exportedFree};
+ghost use Rattle.genie.specs.Compared.{exportedCompare};
 
 #[no_mangle]
 pub extern "C" fn genie_check(
@@ -159,7 +50,7 @@ pub extern "C" fn genie_look_up(
         anyone: open_code,
     };
     let l = calls::look_up(image, g, name);
-    *fault_slot = slot_of(image, g, l.number);
+    *fault_slot = refusal::slot_of(image, g, l.number);
     *slot = l.slot;
     *compared = l.compared;
     l.number
@@ -187,12 +78,12 @@ pub extern "C" fn genie_open(
         start,
         anyone: open_code,
     };
-    if handle.len() < HANDLE_BYTES {
-        return short_number(image, g, fault_slot);
+    if handle.len() < codec::HANDLE_BYTES {
+        return refusal::short_number(image, g, fault_slot);
     }
     let a = calls::open_file(image, g, name, length, checking, code);
-    *fault_slot = slot_of(image, g, a.number);
-    put_handle(handle, a.handle);
+    *fault_slot = refusal::slot_of(image, g, a.number);
+    codec::put_handle(handle, a.handle);
     a.number
 }
 
@@ -223,9 +114,9 @@ pub extern "C" fn genie_create(
         start,
         anyone: open_code,
     };
-    if handle.len() < HANDLE_BYTES {
+    if handle.len() < codec::HANDLE_BYTES {
         *old = 0;
-        return short_number(image, g, fault_slot);
+        return refusal::short_number(image, g, fault_slot);
     }
     let f = NewFile {
         day,
@@ -236,9 +127,9 @@ pub extern "C" fn genie_create(
         worker,
     };
     let c = calls::create(image, g, name, f, checking);
-    *fault_slot = slot_of(image, g, c.number);
-    *old = told(c.old);
-    put_handle(handle, c.handle);
+    *fault_slot = refusal::slot_of(image, g, c.number);
+    *old = codec::told(c.old);
+    codec::put_handle(handle, c.handle);
     c.number
 }
 
@@ -261,16 +152,16 @@ pub extern "C" fn genie_read_record(
         start,
         anyone: open_code,
     };
-    if handle.len() < HANDLE_BYTES {
-        return short_number(image, g, fault_slot);
+    if handle.len() < codec::HANDLE_BYTES {
+        return refusal::short_number(image, g, fault_slot);
     }
-    let h = handle_of(handle);
+    let h = codec::handle_of(handle);
     let a = calls::read_record(image, g, h, buffer);
-    *fault_slot = slot_of(image, g, a.number);
+    *fault_slot = refusal::slot_of(image, g, a.number);
     if a.number != 0 {
         return a.number;
     }
-    put_handle(handle, a.handle);
+    codec::put_handle(handle, a.handle);
     0
 }
 
@@ -295,14 +186,14 @@ pub extern "C" fn genie_read_sector(
         start,
         anyone: open_code,
     };
-    if handle.len() < HANDLE_BYTES {
+    if handle.len() < codec::HANDLE_BYTES {
         *from = 0;
         *to = 0;
-        return short_number(image, g, fault_slot);
+        return refusal::short_number(image, g, fault_slot);
     }
-    let h = handle_of(handle);
+    let h = codec::handle_of(handle);
     let p = calls::sector_part(image, g, h, k);
-    *fault_slot = slot_of(image, g, p.number);
+    *fault_slot = refusal::slot_of(image, g, p.number);
     *from = p.from;
     *to = p.to;
     p.number
@@ -328,17 +219,17 @@ pub extern "C" fn genie_write_record(
         start,
         anyone: open_code,
     };
-    if handle.len() < HANDLE_BYTES {
-        return short_number(image, g, fault_slot);
+    if handle.len() < codec::HANDLE_BYTES {
+        return refusal::short_number(image, g, fault_slot);
     }
-    let h = handle_of(handle);
-    let m = mode_of(sequential);
+    let h = codec::handle_of(handle);
+    let m = codec::mode_of(sequential);
     let a = calls::write_record(image, g, m, h, buffer);
-    *fault_slot = slot_of(image, g, a.number);
+    *fault_slot = refusal::slot_of(image, g, a.number);
     if a.number != 0 {
         return a.number;
     }
-    put_handle(handle, a.handle);
+    codec::put_handle(handle, a.handle);
     0
 }
 
@@ -361,12 +252,12 @@ pub extern "C" fn genie_allot(
         start,
         anyone: open_code,
     };
-    if handle.len() < HANDLE_BYTES {
-        return short_number(image, g, fault_slot);
+    if handle.len() < codec::HANDLE_BYTES {
+        return refusal::short_number(image, g, fault_slot);
     }
-    let h = handle_of(handle);
+    let h = codec::handle_of(handle);
     let a = calls::allot(image, g, h, k);
-    *fault_slot = slot_of(image, g, a.number);
+    *fault_slot = refusal::slot_of(image, g, a.number);
     a.number
 }
 
@@ -388,12 +279,12 @@ pub extern "C" fn genie_trim(
         start,
         anyone: open_code,
     };
-    if handle.len() < HANDLE_BYTES {
-        return short_number(image, g, fault_slot);
+    if handle.len() < codec::HANDLE_BYTES {
+        return refusal::short_number(image, g, fault_slot);
     }
-    let h = handle_of(handle);
+    let h = codec::handle_of(handle);
     let a = calls::trim(image, g, h);
-    *fault_slot = slot_of(image, g, a.number);
+    *fault_slot = refusal::slot_of(image, g, a.number);
     a.number
 }
 
@@ -415,12 +306,12 @@ pub extern "C" fn genie_kill(
         start,
         anyone: open_code,
     };
-    if handle.len() < HANDLE_BYTES {
-        return short_number(image, g, fault_slot);
+    if handle.len() < codec::HANDLE_BYTES {
+        return refusal::short_number(image, g, fault_slot);
     }
-    let h = handle_of(handle);
+    let h = codec::handle_of(handle);
     let a = calls::kill(image, g, h);
-    *fault_slot = slot_of(image, g, a.number);
+    *fault_slot = refusal::slot_of(image, g, a.number);
     a.number
 }
 
@@ -445,7 +336,7 @@ pub extern "C" fn genie_bring_back(
         anyone: open_code,
     };
     let b = calls::bring_back(image, g, slot);
-    *fault_slot = slot_of(image, g, b.number);
+    *fault_slot = refusal::slot_of(image, g, b.number);
     *slots = b.slots;
     *granules = b.granules;
     b.number
@@ -473,14 +364,14 @@ pub extern "C" fn genie_list(
         start,
         anyone: open_code,
     };
-    if name.len() < NAME_BYTES {
+    if name.len() < codec::NAME_BYTES {
         *size = 0;
         *granules = 0;
         *more = 0;
-        return short_number(image, g, fault_slot);
+        return refusal::short_number(image, g, fault_slot);
     }
     let l = calls::list(image, g, number);
-    *fault_slot = slot_of(image, g, l.number);
+    *fault_slot = refusal::slot_of(image, g, l.number);
     *size = l.size;
     *granules = l.granules;
     if !l.more {
@@ -489,7 +380,7 @@ pub extern "C" fn genie_list(
     }
     *more = 1;
     let file = l.name;
-    put_name(name, 0, file);
+    codec::put_name(name, 0, file);
     l.number
 }
 
@@ -513,7 +404,7 @@ pub extern "C" fn genie_count(
         anyone: open_code,
     };
     let c = calls::counts(image, g);
-    *fault_slot = slot_of(image, g, c.number);
+    *fault_slot = refusal::slot_of(image, g, c.number);
     *files = c.files;
     *free = c.free;
     c.number
@@ -541,40 +432,6 @@ pub extern "C" fn genie_free(
     *free = s.free;
     *longest = s.longest;
     s.number
-}
-
-// A truth as a number of its own, so that several can be added.
-fn flag(b: bool, n: usize) -> usize
-    ensures { λ r. ⌜ (r ≡ cond b n 0) × (r ≤ n) ⌝ }
-{
-    if b {
-        return n;
-    }
-    0
-}
-
-// What differs of a file: 1 the size, 2 the date, 4 other attributes, 8 the contents.
-fn flags_of(x: Difference) -> usize
-    ensures { λ r. ⌜ r ≡ flagsOf x ⌝ }
-{
-    flag(x.size, 1) + flag(x.date, 2) + flag(x.other, 4) + flag(x.contents, 8)
-}
-
-// The slot that goes out beside compare's number: of the image that the refusal names.
-fn compared_slot(
-    first: &[u8],
-    g: Geometry,
-    second: &[u8],
-    h: Geometry,
-    image: usize,
-    number: u8,
-) -> usize
-    ensures { λ r. ⌜ r ≡ comparedSlot image number g (now (first .entry)) h (now (second .entry)) ⌝ }
-{
-    if image == 2 {
-        return slot_of(second, h, number);
-    }
-    slot_of(first, g, number)
 }
 
 #[no_mangle]
@@ -611,37 +468,23 @@ pub extern "C" fn genie_compare(
         start: start2,
         anyone: open_code2,
     };
-    if name.len() < NAME_BYTES {
+    if name.len() < codec::NAME_BYTES {
         *kind = 0;
         *position = 0;
         *flags = 0;
-        let checked = calls::check(first, g);
-        if checked != 0 {
-            *image = 1;
-            *fault_slot = slot_of(first, g, checked);
-            return checked;
-        }
-        let checked2 = calls::check(second, h);
-        if checked2 != 0 {
-            *image = 2;
-            *fault_slot = slot_of(second, h, checked2);
-            return checked2;
-        }
-        *image = 0;
-        *fault_slot = diagnosis::NO_SLOT;
-        return 12;
+        return refusal::short_of_two(first, g, second, h, image, fault_slot);
     }
     let x = calls::compare(first, g, second, h, number);
     let named = layout::wide(x.image);
     *image = named;
-    *fault_slot = compared_slot(first, g, second, h, named, x.number);
+    *fault_slot = refusal::compared_slot(first, g, second, h, named, x.number);
     *kind = layout::wide(x.kind);
     *position = x.at;
-    *flags = flags_of(x);
+    *flags = codec::flags_of(x);
     if x.kind == 0 {
         return x.number;
     }
     let file = x.name;
-    put_name(name, 0, file);
+    codec::put_name(name, 0, file);
     x.number
 }

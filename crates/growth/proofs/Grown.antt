@@ -1,18 +1,17 @@
 -- What an accepted growth leaves, for the call that asked for it.
 use mathlib.Core.Path.{_≡_, refl, ap, sym, _∙_, subst}
-use mathlib.Core.Bool.{Bool, true, false, not, cond}
-use mathlib.Core.List.{List, [], _∷_, _++_}
-use Prim.Native.Nat.{ℕ, zero, suc, _+_, _-_, _*_, _≤_, _<_}
+use mathlib.Core.Bool.{false, cond}
+use mathlib.Core.List.{List, [], _∷_}
+use Prim.Native.Nat.{ℕ, zero, suc, _+_, _≤_}
 use native.Mathlib.Omega.{arith}
 use lib.ListN.{length, length-append}
-use lib.Dec.{ltb}
 use borrow.Author.Tests.{ltb-false}
 use Rattle.meaning.specs.Lists.{count, length-count}
 use Rattle.meaning.specs.Layout.{granules}
 use Rattle.meaning.specs.Chain.{owned}
 use Rattle.meaning.specs.Free.{freeGranules}
 use Rattle.meaning.specs.Growth.{takeOne, Grown, grown, noSlot, grow, andThen, fails, diskOr}
-use Rattle.meaning.specs.Refusals.{first, accepted, cannotGrow, larger, lacking}
+use Rattle.meaning.specs.Refusals.{first, accepted, cannotGrow, larger}
 use Rattle.meaning.specs.declared.Geometry.{Geometry}
 use Rattle.laws.specs.Members
 use Rattle.laws.specs.Counting
@@ -22,7 +21,7 @@ use Rattle.laws.specs.Longer
 use Rattle.laws.specs.TakeOne
 use Rattle.laws.specs.Steps.{Ready, take-ready}
 use Rattle.layout.proofs.Lists.{first-at}
-use Rattle.growth.proofs.Step
+use Rattle.supply.proofs.Step
 
 module _ (g : Geometry) (p : ℕ) where
   pub record More (d d′ : List ℕ) (k : ℕ) : Type 0 where

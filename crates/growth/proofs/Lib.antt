@@ -1,7 +1,5 @@
-pub mod Step
-pub mod Search
 pub mod Put
-pub mod Loops
+pub mod Disk
 pub mod Whole
 pub mod Grown
 pub mod Handed

@@ -1,13 +1,13 @@
 -- What the stores of a new extension leave.
 use mathlib.Core.Path.{_≡_, ap, _∙_}
-use mathlib.Core.List.{List, [], _∷_}
+use mathlib.Core.List.{List}
 use Prim.Native.Nat.{ℕ, _+_}
 use lib.ListN.{length, getD, set, length-set}
 use lib.Seq.{sets, length-sets}
 use Rattle.meaning.specs.Layout.{entryAt, hitAt, hit, setField}
 use Rattle.meaning.specs.Growth.{newExtension, withExtension}
 use Rattle.meaning.specs.declared.Geometry.{Geometry}
-use Rattle.growth.specs.Search.{Inside}
+use Rattle.growth.specs.Inside.{Inside}
 
 module _ (g : Geometry) (p : ℕ) (d : List ℕ) (e x : ℕ) {d₁ : List ℕ} (q : d₁ ≡ sets (set (set d (entryAt g e + 0x1e) 0xfe) (entryAt g e + 0x1f) x) (entryAt g x) (newExtension g p e)) where
   pub extension-put : set d₁ (hitAt g x) (getD d (hitAt g p) 0) ≡ withExtension g p d e x

@@ -2,11 +2,11 @@
 use mathlib.Core.Path.{_≡_, refl, ap, sym, _∙_}
 use mathlib.Core.Bool.{Bool, true, false, cond}
 use mathlib.Core.List.{List, [], _∷_}
-use Prim.Native.Nat.{ℕ, zero, suc, _+_, _-_, _*_, _≤_, _<_}
+use Prim.Native.Nat.{ℕ, _-_, _≤_, _<_}
 use native.Mathlib.Omega.{arith}
 use lib.ListN.{length}
 use lib.Dec.{ltb}
-use borrow.Author.Tests.{lt-ltb, le-ltb, ltb-false}
+use borrow.Author.Tests.{lt-ltb, le-ltb}
 use Rattle.meaning.specs.Lists.{all}
 use Rattle.meaning.specs.Entries.{noGrowth}
 use Rattle.meaning.specs.Chain.{owned}
@@ -15,7 +15,7 @@ use Rattle.meaning.specs.Growth.{grow, grown, fails, diskOr}
 use Rattle.meaning.specs.Refusals.{first, accepted, cannotGrow, larger, lacking}
 use Rattle.meaning.specs.declared.Geometry.{Geometry}
 use Rattle.layout.proofs.Lists.{first-hit, first-skip, first-none, all-yes, all-no, all-none}
-use Rattle.growth.proofs.Loops.{grow-done, not-stuck}
+use Rattle.supply.proofs.Growing.{grow-done, not-stuck}
 
 module _ (g : Geometry) (d : List ℕ) (p : ℕ) where
   -- the number r and the disk d′ of a growth by k granules

@@ -1,15 +1,14 @@
 -- What the functions test is what the definitions of 02 §2 say.
 use mathlib.Core.Path.{_≡_, refl, sym, ap, _∙_, subst}
-use mathlib.Core.Logic.{_⊎_, inl, inr}
 use mathlib.Core.List.{List, [], _∷_}
-use mathlib.Core.Bool.{Bool, true, false, not, cond, _&&_, _||_, and-true}
-use Prim.Native.Nat.{ℕ, zero, suc, _+_, _-_, _/_, _≤_, _<_}
+use mathlib.Core.Bool.{Bool, true, false, not, _&&_, and-true}
+use Prim.Native.Nat.{ℕ, _-_, _/_, _≤_, _<_}
 use native.Mathlib.Omega.{arith}
 use native.Mathlib.Nat.{zero-add}
-use lib.Dec.{T, eqb, ltb, leb, ltb→lt, lt→ltb}
+use lib.Dec.{T, eqb, ltb, ltb→lt, lt→ltb}
 use lib.ListN.{length}
-use Rattle.meaning.specs.Lists.{count, every, some, each, has, keep, all, any, firstOr}
-use Rattle.meaning.specs.Layout.{isSlot, slots, directorySectors, directoryGranules}
+use Rattle.meaning.specs.Lists.{count, every, some, has, keep, all, firstOr}
+use Rattle.meaning.specs.Layout.{isSlot, slots, directorySectors, directoryGranules, granuleSectors}
 use Rattle.meaning.specs.Entries.{inUse, primary, runs, link, runStart, runLength, runGranules, entryGranules}
 use Rattle.meaning.specs.Chain.{chain, files}
 use Rattle.meaning.specs.Consistent.{follows}
@@ -27,7 +26,7 @@ use Rattle.laws.specs.Kinds
 use Rattle.kinds.specs.Reach
 use Rattle.kinds.specs.Reach.{reach}
 use Rattle.kinds.specs.Overlap
-use Rattle.kinds.specs.Overlap.{overlaps, entriesMeet}
+use Rattle.kinds.specs.Overlap.{entriesMeet}
 use Rattle.kinds.specs.Tests.{startsTo, firstFile, leads, goodFrom, runIn, shares}
 
 keep-both : (p q : ℕ → Bool) (xs : List ℕ) → keep q (keep p xs) ≡ keep (λ x. p x && q x) xs
@@ -237,8 +236,8 @@ module _ (g : Geometry) (d : List ℕ) where
       ap (λ (j : ℕ). reach g d j p) e ∙ whole-owns p (slot-yes g d p (h .low) (h .held)) b (whole-by p h b e ∙ w)
 
   pub directory-by : (s : ℕ) {k : ℕ} → Room g d → k ≡ directorySectors g d
-      → some (runIn g d (g .start / 5) (k / 5) s) (count 0 (runs g d s)) ≡ some (has (directoryGranules g d)) (entryGranules g d s)
+      → some (runIn g d (g .start / granuleSectors) (k / granuleSectors) s) (count 0 (runs g d s)) ≡ some (has (directoryGranules g d)) (entryGranules g d s)
   directory-by s {k} r e =
       let t = r .ten in
-      let u : 1 ≤ directorySectors g d / 5 = omega arith in
-      ap (λ (j : ℕ). some (runIn g d (g .start / 5) (j / 5) s) (count 0 (runs g d s))) e ∙ sym (within-is s (g .start / 5) (directorySectors g d / 5) u)
+      let u : 1 ≤ directorySectors g d / granuleSectors = omega arith in
+      ap (λ (j : ℕ). some (runIn g d (g .start / granuleSectors) (j / granuleSectors) s) (count 0 (runs g d s))) e ∙ sym (within-is s (g .start / granuleSectors) (directorySectors g d / granuleSectors) u)

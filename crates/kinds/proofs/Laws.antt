@@ -1,27 +1,26 @@
 -- Passes over places, over slots, and along a walk.
 use mathlib.Core.Path.{_≡_, refl, sym, ap, _∙_}
-use mathlib.Core.List.{List, [], _∷_, _++_}
+use mathlib.Core.List.{List, [], _∷_}
 use mathlib.Core.Bool.{Bool, true, false, not, cond, _&&_, _||_}
-use Prim.Native.Nat.{ℕ, zero, suc, _+_, _-_, _*_, _≤_, _<_}
+use Prim.Native.Nat.{ℕ, suc, _+_, _-_, _≤_, _<_}
 use native.Mathlib.Omega.{arith}
-use lib.Dec.{eqb, leb, ltb}
+use lib.Dec.{eqb, ltb}
 use lib.ListN.{length, length-append}
-use borrow.Author.Tests.{eq-eqb, ne-eqb, lt-ltb, le-ltb, leb-true, not-true, not-false}
-use Rattle.meaning.specs.Lists.{count, every, some, each, has, keep, all, any, firstOr, length-count}
+use borrow.Author.Tests.{eq-eqb, ne-eqb, lt-ltb, le-ltb, leb-true, not-false}
+use Rattle.meaning.specs.Lists.{count, every, some, each, has, keep, all, any, firstOr}
 use Rattle.meaning.specs.Layout.{granules, taken}
 use Rattle.meaning.specs.Entries.{inUse, runs, link, runStart, runLength, runGranules, entryGranules}
 use Rattle.meaning.specs.Consistent.{follows, runsHold, gatHolds}
 use Rattle.meaning.specs.Fault.{handsOn, goodExtension, chainFault, runFault}
 use Rattle.meaning.specs.declared.Geometry.{Geometry}
 use Rattle.layout.specs.Room.{Slot}
-use Rattle.layout.proofs.Lists.{all-at, all-yes, all-one, every-count, keep-yes, keep-no}
+use Rattle.layout.proofs.Lists.{all-at, all-yes, all-one, every-count, keep-yes, keep-no, all-out}
 use Rattle.layout.proofs.Sound.{slot-of}
-use Rattle.walk.proofs.Lists.{every-append, all-out}
+use Rattle.walk.proofs.Lists.{every-append}
 use Rattle.laws.specs.Members
 use Rattle.laws.specs.Walk
 pub use Rattle.layout.proofs.Lists.{any-one}
 pub use Rattle.marks.proofs.Laws.{count-more, count-none}
-pub use Rattle.walk.proofs.Lists.{on, off}
 use Rattle.kinds.specs.Reach.{reach}
 use Rattle.kinds.specs.Tests.{startsTo, firstFile, leads, tally, goodFrom, runHolds, runIn}
 use Rattle.kinds.specs.Overlap.{overlaps, runsMeet}
@@ -299,16 +298,6 @@ module _ (g : Geometry) (d : List ℕ) where
   pub named-all : {n : ℕ} (s : ℕ) → n ≡ runs g d s → entryGranules g d s ≡ named s (count 0 (n - 0))
   unfolding entryGranules
   named-all {n} s e = ap (λ (j : ℕ). named s (count 0 j)) (sym e) ∙ ap (named s) (from-zero n)
-
-  module _ (s n k c : ℕ) (i : length (entryGranules g d s) ≡ c + length (named s (count k (n - k)))) where
-    pub tell-on : {m : ℕ} → k < n → m ≡ runLength g d s k → length (entryGranules g d s) ≡ c + m + length (named s (count (k + 1) (n - (k + 1))))
-    tell-on {m} h e =
-        let q : length (named s (count k (n - k))) ≡ m + length (named s (count (k + 1) (n - (k + 1))))
-        = ap (λ (l : List ℕ). length (named s l)) (count-more h) ∙ length-append (runGranules g d s k) (named s (count (k + 1) (n - (k + 1))))
-        ∙ ap (λ (j : ℕ). j + length (named s (count (k + 1) (n - (k + 1))))) (length-count (runStart g d s k) (runLength g d s k) ∙ sym e) in omega (arith, i, q)
-
-    pub tell-end : n ≤ k → c ≡ length (entryGranules g d s)
-    tell-end h = let q : length (named s (count k (n - k))) ≡ 0 = ap (λ (l : List ℕ). length (named s l)) (count-none h) in omega (arith, i, q)
 
   pub run-taken : (s k : ℕ) {a m : ℕ} {b : Bool} → a ≡ runStart g d s k → m ≡ runLength g d s k → every (taken g d) (count a m) ≡ b → every (taken g d) (runGranules g d s k) ≡ b
   run-taken s k {a} {m} e f h = ap (λ (j : ℕ). every (taken g d) (count j (runLength g d s k))) (sym e) ∙ ap (λ (j : ℕ). every (taken g d) (count a j)) (sym f) ∙ h

@@ -1,17 +1,17 @@
 -- Granules in common, told from where runs start and end
-use mathlib.Core.Path.{_≡_, refl}
+use mathlib.Core.Path.{_≡_}
 use mathlib.Core.Logic.{_⊎_, inl, inr}
-use mathlib.Core.Bool.{Bool, true, false, not, _&&_}
-use mathlib.Core.List.{List, [], _∷_}
+use mathlib.Core.Bool.{Bool, not, _&&_}
+use mathlib.Core.List.{List}
 use Prim.Native.Nat.{ℕ, _+_, _≤_, _<_}
 use native.Mathlib.Omega.{arith}
 use native.Mathlib.Decide.{ℕ-discrete}
 use lib.Dec.{T, leb, ltb, leb→le, ltb→lt, lt→ltb, nleb→lt, T-not, not-T}
-use Rattle.meaning.specs.Lists.{count, some, has, distinct, all}
+use Rattle.meaning.specs.Lists.{count, some, has, distinct}
 use Rattle.meaning.specs.Entries.{runs, runStart, runLength, runGranules, entryGranules}
 use Rattle.meaning.specs.declared.Geometry.{Geometry}
 use Rattle.laws.specs.Members
-use Rattle.laws.specs.Members.{In, Distinct}
+use Rattle.laws.specs.Members.{In}
 use Rattle.laws.specs.Kinds
 use Rattle.laws.specs.FaultlessSound.{higher}
 

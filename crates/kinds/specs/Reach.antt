@@ -7,7 +7,7 @@ use Prim.Native.Nat.{ℕ, zero, suc}
 use native.Mathlib.Omega.{arith}
 use lib.ListN.{length}
 use lib.Dec.{T, eqb, eqb→eq, T-not}
-use Rattle.meaning.specs.Lists.{has, every}
+use Rattle.meaning.specs.Lists.{has}
 use Rattle.meaning.specs.Layout.{slots}
 use Rattle.meaning.specs.Entries.{marker, link}
 use Rattle.meaning.specs.Chain.{chain, chainFrom}

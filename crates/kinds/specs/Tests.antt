@@ -1,12 +1,12 @@
 -- The tests of one slot (02 §2), as the functions here make them.
-use mathlib.Core.Bool.{Bool, not, cond, _&&_, _||_}
+use mathlib.Core.Bool.{Bool, cond, _&&_, _||_}
 use mathlib.Core.List.{List, [], _∷_}
-use Prim.Native.Nat.{ℕ, zero, suc, _+_}
+use Prim.Native.Nat.{ℕ, _+_}
 use lib.Dec.{eqb, ltb, leb}
 use lib.ListN.{length}
-use Rattle.meaning.specs.Lists.{count, every, some, each, has, keep, all, firstOr}
+use Rattle.meaning.specs.Lists.{count, every, has, keep, all, firstOr}
 use Rattle.meaning.specs.Layout.{granules, isSlot, slots}
-use Rattle.meaning.specs.Entries.{inUse, primary, runs, block, link, firstUnit, runStart, runLength, sectorCount, endByte}
+use Rattle.meaning.specs.Entries.{inUse, primary, runs, block, link, firstUnit, runStart, runLength}
 use Rattle.meaning.specs.Consistent.{follows}
 use Rattle.meaning.specs.Fault.{handsOn, walked}
 use Rattle.meaning.specs.declared.Geometry.{Geometry}
@@ -53,7 +53,3 @@ module _ (g : Geometry) (d : List ℕ) where
   -- the entry of slot t, in use, has a granule in common with that of s
   unfoldable pub shares : ℕ → ℕ → Bool
   shares s t = all (isSlot g d t ∷ inUse g d t ∷ entriesMeet g d s t ∷ [])
-
-  -- n = 0 only with e = 0
-  abbrev pub countHolds : ℕ → Bool
-  countHolds p = not (eqb (sectorCount g d p) 0) || eqb (endByte g d p) 0

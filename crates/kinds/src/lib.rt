@@ -6,26 +6,15 @@ ghost use mathlib.Core.List.{[], _∷_};
 ghost use Prim.Native.Nat.{_+_, _-_, _*_, _<_, _≤_};
 ghost use lib.ListN.{length};
 ghost use Rattle.meaning.specs.Lists.{count, every, some, each, has, any};
-ghost use Rattle.meaning.specs.Bits.{bit};
-ghost use Rattle.meaning.specs.Layout.{granules, field, taken, slots, directoryGranules};
-ghost use Rattle.meaning.specs.Entries.{runs, runStart, runLength, runGranules, entryGranules, extension};
+ghost use Rattle.meaning.specs.Layout.{granules, taken, slots};
+ghost use Rattle.meaning.specs.Entries.{runs, entryGranules, extension};
 ghost use Rattle.meaning.specs.Chain.{chain};
-ghost use Rattle.meaning.specs.Consistent.{pairsHold, follows, runsHold, gatHolds, sizeHolds};
-ghost use Rattle.meaning.specs.Fault.{usedExtension, handsOn, ends, badEntry, walked, fileOf, goodExtension, chainFault, runFault, gatFault, sharedFault, chainWhole, sizeFault, directoryFault};
+ghost use Rattle.meaning.specs.Consistent.{pairsHold, runsHold, gatHolds, sizeHolds};
+ghost use Rattle.meaning.specs.Fault.{usedExtension, handsOn, ends, badEntry, walked, fileOf, goodExtension, chainFault, runFault, gatFault, sharedFault, sizeFault, directoryFault};
 ghost use Rattle.layout.specs.Room.{Room, Slot, Below};
 ghost use Rattle.kinds.specs.Reach.{reach};
 ghost use Rattle.kinds.specs.Overlap.{runsMeet, runMeets, entriesMeet, meetsEarlier};
-ghost use Rattle.kinds.specs.Tests.{pairHolds, startsTo, firstFile, leads, tally, runHolds, runIn, earlier, shares, countHolds};
-
-// Bit u of an entry's flags.
-pub fn flag(image: &[u8], g: Geometry, s: usize, u: usize) -> bool
-    requires { ⌜ Room g (now image) × Slot g (now image) s × (u < 8) ⌝ }
-    ensures { λ r. ⌜ r ≡ bit u (field g (now (image .entry)) s 0) ⌝ }
-{
-    (layout::field(image, g, s, 0) >> u) % 2 == 1
-}
-
-// Walks -----------------------------------------------------------------------------------------------------------------
+ghost use Rattle.kinds.specs.Tests.{pairHolds, startsTo, firstFile, leads, tally, runHolds, runIn, earlier, shares};
 
 fn pair_holds(image: &[u8], g: Geometry, s: usize, n: usize, k: usize) -> bool
     requires { ⌜ Room g (now image) × Slot g (now image) s × (n ≡ runs g (now image) s) × (k < 4) ⌝ }
@@ -61,10 +50,10 @@ fn used_extension(image: &[u8], g: Geometry, x: usize) -> bool
     if !layout::is_slot(image, g, x) {
         return false;
     }
-    if !flag(image, g, x, 4) {
+    if !entry::flag(image, g, x, 4) {
         return false;
     }
-    flag(image, g, x, 7)
+    entry::flag(image, g, x, 7)
 }
 
 // Whether an entry hands on to the next of its chain.
@@ -185,23 +174,6 @@ pub fn file_of(image: &[u8], g: Geometry, s: usize) -> usize
     s
 }
 
-// Whether x is an extension that points back to b and has a run.
-fn follows(image: &[u8], g: Geometry, b: usize, x: usize) -> bool
-    requires { ⌜ Room g (now image) ⌝ }
-    ensures { λ r. ⌜ r ≡ follows g (now (image .entry)) b x ⌝ }
-{
-    if !layout::is_slot(image, g, x) {
-        return false;
-    }
-    if layout::field(image, g, x, 0) != 0x90 {
-        return false;
-    }
-    if layout::field(image, g, x, 1) != b {
-        return false;
-    }
-    1 <= layout::runs(image, g, x)
-}
-
 // Whether a walk comes from slot b to x.
 fn leads(image: &[u8], g: Geometry, x: usize, b: usize) -> bool
     requires { ⌜ Room g (now image) ⌝ }
@@ -227,7 +199,7 @@ fn tally(image: &[u8], g: Geometry, x: usize, b: usize) -> usize
     if !leads(image, g, x, b) {
         return 0;
     }
-    if !follows(image, g, b, x) {
+    if !entry::follows(image, g, 0x90, b, x) {
         return 2;
     }
     1
@@ -258,7 +230,7 @@ pub fn linked(image: &[u8], g: Geometry, s: usize) -> bool
     requires { ⌜ Room g (now image) × Slot g (now image) s ⌝ }
     ensures { λ r. ⌜ r ≡ any (not (extension g (now (image .entry)) s) ∷ goodExtension g (now (image .entry)) s ∷ []) ⌝ }
 {
-    if !flag(image, g, s, 7) {
+    if !entry::flag(image, g, s, 7) {
         return true;
     }
     good_extension(image, g, s)
@@ -268,7 +240,7 @@ pub fn chain_fault(image: &[u8], g: Geometry, s: usize) -> bool
     requires { ⌜ Room g (now image) × Slot g (now image) s ⌝ }
     ensures { λ r. ⌜ r ≡ chainFault g (now (image .entry)) s ⌝ }
 {
-    if !flag(image, g, s, 4) {
+    if !entry::flag(image, g, s, 4) {
         return false;
     }
     if bad_entry(image, g, s) {
@@ -309,7 +281,7 @@ pub fn run_fault(image: &[u8], g: Geometry, s: usize) -> bool
     requires { ⌜ Room g (now image) × Slot g (now image) s ⌝ }
     ensures { λ r. ⌜ r ≡ runFault g (now (image .entry)) s ⌝ }
 {
-    if !flag(image, g, s, 4) {
+    if !entry::flag(image, g, s, 4) {
         return false;
     }
     !runs_hold(image, g, s)
@@ -353,7 +325,7 @@ pub fn gat_fault(image: &[u8], g: Geometry, s: usize) -> bool
     requires { ⌜ Room g (now image) × Slot g (now image) s × (runFault g (now image) s ≡ false) ⌝ }
     ensures { λ r. ⌜ r ≡ gatFault g (now (image .entry)) s ⌝ }
 {
-    if !flag(image, g, s, 4) {
+    if !entry::flag(image, g, s, 4) {
         return false;
     }
     !gat_holds(image, g, s)
@@ -482,7 +454,7 @@ fn shares(image: &[u8], g: Geometry, s: usize, t: usize) -> bool
     if !layout::is_slot(image, g, t) {
         return false;
     }
-    if !flag(image, g, t, 4) {
+    if !entry::flag(image, g, t, 4) {
         return false;
     }
     entries_meet(image, g, s, t)
@@ -507,7 +479,7 @@ pub fn shared_fault(image: &[u8], g: Geometry, s: usize) -> bool
     requires { ⌜ Room g (now image) × Slot g (now image) s ⌝ }
     ensures { λ r. ⌜ r ≡ sharedFault g (now (image .entry)) s ⌝ }
 {
-    if !flag(image, g, s, 4) {
+    if !entry::flag(image, g, s, 4) {
         return false;
     }
     if twice(image, g, s) {
@@ -538,21 +510,6 @@ fn whole_from(image: &[u8], g: Geometry, p: usize, n: usize) -> bool
     true
 }
 
-// How many granules an entry's pairs name.
-fn entry_count(image: &[u8], g: Geometry, s: usize) -> usize
-    requires { ⌜ Room g (now image) × Slot g (now image) s ⌝ }
-    ensures { λ r. ⌜ Below 129 (length (entryGranules g (now (image .entry)) s)) r ⌝ }
-{
-    let n = layout::runs(image, g, s);
-    let mut k = 0;
-    let mut c = 0;
-    while k < n {
-        c += layout::run_length(image, g, s, k);
-        k += 1;
-    }
-    c
-}
-
 // How many granules the entries from slot p on name, at most n of them.
 fn count_from(image: &[u8], g: Geometry, p: usize, n: usize) -> usize
     requires { ⌜ Room g (now image) × Slot g (now image) p × (n < 257) ⌝ }
@@ -562,7 +519,7 @@ fn count_from(image: &[u8], g: Geometry, p: usize, n: usize) -> usize
     let mut left = n;
     let mut c = 0;
     while 0 < left {
-        c += entry_count(image, g, s);
+        c += extent::entry_length(image, g, s);
         if !hands_on(image, g, s) {
             return c;
         }
@@ -572,27 +529,13 @@ fn count_from(image: &[u8], g: Geometry, p: usize, n: usize) -> usize
     c
 }
 
-// n = 0 only with e = 0.
-fn count_holds(image: &[u8], g: Geometry, p: usize) -> bool
-    requires { ⌜ Room g (now image) × Slot g (now image) p ⌝ }
-    ensures { λ r. ⌜ r ≡ countHolds g (now (image .entry)) p ⌝ }
-{
-    if layout::word(image, g, p, 0x14) != 0 {
-        return true;
-    }
-    layout::field(image, g, p, 3) == 0
-}
-
 // Of a file whose chain its walk meets: n = 0 only with e = 0; the size fits the granules owned.
 fn size_holds(image: &[u8], g: Geometry, p: usize, n: usize) -> bool
     requires { ⌜ Room g (now image) × Slot g (now image) p × (n < 257) × (reach g (now image) n p ≡ chain g (now image) p) ⌝ }
     ensures { λ r. ⌜ r ≡ sizeHolds g (now (image .entry)) p ⌝ }
 {
-    if !count_holds(image, g, p) {
-        return false;
-    }
     let c = count_from(image, g, p, n);
-    layout::size_of(image, g, p) <= layout::GRANULE_BYTES * c
+    entry::size_holds(image, g, p, c)
 }
 
 pub fn size_fault(image: &[u8], g: Geometry, p: usize) -> bool
@@ -615,11 +558,11 @@ pub fn directory_fault(image: &[u8], g: Geometry, s: usize) -> bool
     requires { ⌜ Room g (now image) × Slot g (now image) s ⌝ }
     ensures { λ r. ⌜ r ≡ directoryFault g (now (image .entry)) s ⌝ }
 {
-    if !flag(image, g, s, 4) {
+    if !entry::flag(image, g, s, 4) {
         return false;
     }
     let p = file_of(image, g, s);
-    if flag(image, g, p, 6) {
+    if entry::flag(image, g, p, 6) {
         return false;
     }
     let b = g.start / layout::GRANULE_SECTORS;

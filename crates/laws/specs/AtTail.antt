@@ -1,5 +1,5 @@
 -- A file whose last entry alone changed, and that in its pairs only: what such a change keeps, whether a granule was won or lost
-use mathlib.Core.Path.{_≡_, ap, sym, _∙_}
+use mathlib.Core.Path.{_≡_, ap, _∙_}
 use mathlib.Core.Logic.{_≢_, _⊎_, inl, inr}
 use mathlib.Core.Bool.{not}
 use mathlib.Core.List.{List, [], _∷_, _++_}
@@ -8,7 +8,7 @@ use native.Mathlib.Omega.{arith}
 use native.Mathlib.Decide.{ℕ-discrete}
 use lib.ListN.{length}
 use lib.Dec.{T, T-not}
-use Rattle.meaning.specs.Lists.{count, each, lastOr}
+use Rattle.meaning.specs.Lists.{each, lastOr}
 use Rattle.meaning.specs.Layout.{isSlot, taken, field, granules, hit, directoryGranules, granuleBytes, aboveTen}
 use Rattle.meaning.specs.Entries.{extension, system, link, block, nameOf, runs, entryGranules, sizeOf}
 use Rattle.meaning.specs.Chain.{chain, owned}

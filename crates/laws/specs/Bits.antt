@@ -3,7 +3,7 @@ use mathlib.Core.Path.{_≡_, refl, ap, sym, _∙_}
 use mathlib.Core.Logic.{_≢_}
 use Prim.Native.Nat.{ℕ, zero, suc, _+_, _*_, _/_, _%_, _^_, _≤_, _<_}
 use native.Mathlib.Omega.{arith}
-use Rattle.meaning.specs.Bits.{digit, putDigit, digit-lt}
+use Rattle.meaning.specs.Bits.{digit, putDigit}
 
 half : (y x : ℕ) → (y * 2 + x % 2) / 2 ≡ y
 half y x = omega arith

@@ -8,14 +8,14 @@ use Prim.Native.Nat.{ℕ, _*_, _/_, _≤_, _<_}
 use native.Mathlib.Omega.{arith}
 use lib.ListN.{length}
 use lib.Dec.{T, eqb, leb, eqb→eq, leb→le, le→leb, T-not}
-use Rattle.meaning.specs.Lists.{count, each, every, distinct}
+use Rattle.meaning.specs.Lists.{count, every, distinct}
 use Rattle.meaning.specs.Layout.{byte, isSlot, taken, field, granules, hit, directoryGranules, granuleBytes, aboveTen}
 use Rattle.meaning.specs.Bits.{bit, digit, putDigit, withBit}
 use Rattle.meaning.specs.Names.{hash, wellFormed}
 use Rattle.meaning.specs.Entries.{inUse, extension, system, block, marker, link, runs, entryGranules, nameOf, sizeOf, sectorCount, endByte}
 use Rattle.meaning.specs.Chain.{chain, owned, place}
 use Rattle.meaning.specs.Consistent.{pairsHold, linkHoldsBy, runsHold}
-use Rattle.meaning.specs.BringBack.{killedEntryHolds, whole, broughtBack}
+use Rattle.meaning.specs.BringBack.{killedEntryHolds, whole}
 use Rattle.meaning.specs.Read.{fetch}
 use Rattle.meaning.specs.Plain.{fileAt, backAs}
 use Rattle.meaning.specs.declared.Geometry.{Geometry}

@@ -9,7 +9,7 @@ use native.Mathlib.Decide.{ℕ-discrete}
 use native.Mathlib.Nat.{mod-lt}
 use lib.ListN.{length, length-append}
 use lib.Dec.{T, eqb}
-use Rattle.meaning.specs.Lists.{count, each}
+use Rattle.meaning.specs.Lists.{each}
 use Rattle.meaning.specs.Layout.{byte, isSlot, slots, taken, field, granules, hit, directoryGranules, granuleBytes, aboveTen, mostBlocks}
 use Rattle.meaning.specs.Entries.{inUse, extension, system, marker, link, block, nameOf, runs, runStart, runLength, entryGranules}
 use Rattle.meaning.specs.Chain.{chain, owned, chainFrom}

@@ -1,7 +1,7 @@
 -- A disk without a fault (02 §2) is consistent (01).
 use mathlib.Core.Path.{_≡_, refl, ap, sym, _∙_, subst}
 use mathlib.Core.Logic.{_⊎_, inl, inr}
-use mathlib.Core.Bool.{Bool, true, false, not, cond, _&&_}
+use mathlib.Core.Bool.{Bool, not, cond, _&&_}
 use mathlib.Core.List.{List, [], _∷_}
 use Prim.Native.Nat.{ℕ, zero, suc, _<_}
 use native.Mathlib.Omega.{arith}
@@ -11,10 +11,10 @@ use Rattle.meaning.specs.Lists.{every, some, has, distinct, same, all, any}
 use Rattle.meaning.specs.Bits.{digit}
 use Rattle.meaning.specs.Layout.{isSlot, slots, field, hit, taken, directoryGranules}
 use Rattle.meaning.specs.Names.{hash}
-use Rattle.meaning.specs.Entries.{inUse, extension, primary, system, marker, link, runs, entryGranules, nameOf}
+use Rattle.meaning.specs.Entries.{inUse, extension, primary, system, marker, link, entryGranules, nameOf}
 use Rattle.meaning.specs.Chain.{chain, chainFrom, owned, files}
 use Rattle.meaning.specs.Consistent.{hitHolds, pairsHold, linkHolds, runsHold, gatHolds, entryHolds, nameHolds, hashHolds, sizeHolds, offDirectory, fileHolds}
-use Rattle.meaning.specs.Fault.{handsOn, ends, walk, walked, goodExtension, fileOf, chainWhole, hitFault, nameFault, duplicateFault, chainFault, runFault, gatFault, sharedFault, sizeFault, directoryFault}
+use Rattle.meaning.specs.Fault.{handsOn, ends, walk, goodExtension, fileOf, chainWhole, hitFault, nameFault, duplicateFault, chainFault, runFault, gatFault, sharedFault, sizeFault, directoryFault}
 use Rattle.meaning.specs.declared.Geometry.{Geometry}
 use Rattle.laws.specs.Members
 use Rattle.laws.specs.Members.{In, Distinct}

@@ -1,5 +1,5 @@
 -- Kill: what is left is consistent, every other file is as it was, and the name is gone
-use mathlib.Core.Path.{_≡_, refl}
+use mathlib.Core.Path.{_≡_}
 use mathlib.Core.Bool.{not}
 use mathlib.Core.List.{List}
 use Prim.Native.Nat.{ℕ, _/_, _<_}

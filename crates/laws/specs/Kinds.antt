@@ -1,12 +1,12 @@
 -- What the tests of a slot's fault say (02 §2), opened.
-use mathlib.Core.Path.{_≡_, refl, sym, subst}
+use mathlib.Core.Path.{_≡_, refl}
 use mathlib.Core.Logic.{_⊎_, inl, inr}
-use mathlib.Core.Bool.{Bool, true, false, not, cond, _&&_, _||_}
+use mathlib.Core.Bool.{Bool, true, not, _&&_}
 use mathlib.Core.List.{List, [], _∷_}
-use Prim.Native.Nat.{ℕ, zero, suc}
+use Prim.Native.Nat.{ℕ}
 use native.Mathlib.Omega.{arith}
 use lib.ListN.{length}
-use lib.Dec.{T, eqb, eqb→eq, not-T, T-not}
+use lib.Dec.{T, eqb, eqb→eq, T-not}
 use Rattle.meaning.specs.Lists.{has, some, all, any, every, firstOr, keep}
 use Rattle.meaning.specs.Layout.{isSlot, slots}
 use Rattle.meaning.specs.Entries.{inUse, extension, marker, link}
@@ -20,7 +20,6 @@ use Rattle.laws.specs.Facts
 use Rattle.laws.specs.Facts.{File}
 use Rattle.laws.specs.Entry
 use Rattle.laws.specs.Entry.{Follows}
-use Rattle.laws.specs.Clauses.{Used}
 use Rattle.laws.specs.Walk
 use Rattle.laws.specs.First.{yes-T}
 

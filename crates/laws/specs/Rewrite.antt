@@ -1,16 +1,16 @@
 -- A file whose bytes, size and B flag changed, and nothing else
 use mathlib.Core.Path.{_≡_, ap, _∙_}
-use mathlib.Core.Logic.{_≢_, _⊎_, inl, inr}
+use mathlib.Core.Logic.{_≢_}
 use mathlib.Core.Bool.{not}
 use mathlib.Core.List.{List}
-use Prim.Native.Nat.{ℕ, _+_, _*_, _/_, _≤_, _<_}
+use Prim.Native.Nat.{ℕ, _*_, _/_, _≤_, _<_}
 use native.Mathlib.Omega.{arith}
 use native.Mathlib.Decide.{ℕ-discrete}
 use lib.ListN.{length}
 use lib.Dec.{T, T-not}
 use Rattle.meaning.specs.Lists.{count, each}
 use Rattle.meaning.specs.Layout.{byte, isSlot, taken, field, granules, hit, directoryGranules, granuleBytes, aboveTen}
-use Rattle.meaning.specs.Entries.{extension, system, marker, link, nameOf, runs, entryGranules, sizeOf, sectorCount, endByte}
+use Rattle.meaning.specs.Entries.{extension, system, link, nameOf, entryGranules, sizeOf, sectorCount, endByte}
 use Rattle.meaning.specs.Chain.{chain, owned}
 use Rattle.meaning.specs.Free.{freeGranules}
 use Rattle.meaning.specs.Write.{sizeAfter}

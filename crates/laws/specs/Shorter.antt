@@ -1,5 +1,5 @@
 -- A file that lost the last of its granules: its bytes are as they were
-use mathlib.Core.Path.{_≡_, ap, sym, _∙_, subst}
+use mathlib.Core.Path.{_≡_, ap, sym, _∙_}
 use mathlib.Core.Logic.{_≢_}
 use mathlib.Core.Bool.{not}
 use mathlib.Core.List.{List, [], _∷_, _++_}
@@ -16,7 +16,7 @@ use Rattle.meaning.specs.Free.{freeGranules}
 use Rattle.meaning.specs.Plain.{File, fileAt}
 use Rattle.meaning.specs.declared.Geometry.{Geometry}
 use Rattle.laws.specs.Members
-use Rattle.laws.specs.Members.{In, Distinct}
+use Rattle.laws.specs.Members.{In}
 use Rattle.laws.specs.Counting
 use Rattle.laws.specs.Facts
 use Rattle.laws.specs.Facts.{Sound}

@@ -1,19 +1,18 @@
 -- A consistent disk (01) has no fault (02 §2).
-use mathlib.Core.Path.{_≡_, refl, ap, sym, _∙_, subst}
+use mathlib.Core.Path.{_≡_, refl, ap, sym, subst}
 use mathlib.Core.Logic.{_⊎_, inl, inr}
-use mathlib.Core.Bool.{Bool, true, false, not, cond, _&&_}
+use mathlib.Core.Bool.{Bool, not, cond, _&&_}
 use mathlib.Core.List.{List, [], _∷_}
-use Prim.Native.Nat.{ℕ, zero, suc, _<_}
+use Prim.Native.Nat.{ℕ, zero, suc}
 use native.Mathlib.Omega.{arith}
-use lib.ListN.{length}
-use lib.Dec.{T, eqb, eqb→eq, ltb, ltb→lt, T-not, not-T}
-use Rattle.meaning.specs.Lists.{every, some, has, distinct, same, all, any}
+use lib.Dec.{T, eqb, eqb→eq, ltb, ltb→lt, T-not}
+use Rattle.meaning.specs.Lists.{some, has, distinct, same, all, any}
 use Rattle.meaning.specs.Layout.{isSlot, slots, field, hit, taken, directoryGranules}
 use Rattle.meaning.specs.Names.{hash}
-use Rattle.meaning.specs.Entries.{inUse, extension, primary, system, marker, link, runs, entryGranules, nameOf}
+use Rattle.meaning.specs.Entries.{inUse, extension, primary, system, marker, link, entryGranules, nameOf}
 use Rattle.meaning.specs.Chain.{chain, chainFrom, owned, files}
-use Rattle.meaning.specs.Consistent.{hitHolds, pairsHold, linkHolds, runsHold, gatHolds, entryHolds, nameHolds, hashHolds, sizeHolds, offDirectory, fileHolds}
-use Rattle.meaning.specs.Fault.{handsOn, ends, walkFrom, walk, walked, metFrom, goodExtension, fileOf, chainWhole, hitFault, nameFault, duplicateFault, chainFault, runFault, gatFault, sharedFault, sizeFault, directoryFault}
+use Rattle.meaning.specs.Consistent.{hitHolds, pairsHold, runsHold, gatHolds, entryHolds, nameHolds, sizeHolds, fileHolds}
+use Rattle.meaning.specs.Fault.{handsOn, ends, walkFrom, walk, metFrom, goodExtension, fileOf, chainWhole, hitFault, nameFault, duplicateFault, chainFault, runFault, gatFault, sharedFault, sizeFault, directoryFault}
 use Rattle.meaning.specs.declared.Geometry.{Geometry}
 use Rattle.laws.specs.Members
 use Rattle.laws.specs.Members.{In, Distinct}
@@ -25,7 +24,7 @@ use Rattle.laws.specs.Change
 use Rattle.laws.specs.Clauses.{Used}
 use Rattle.laws.specs.Walk
 use Rattle.laws.specs.Kinds
-use Rattle.laws.specs.Faultless.{Faultless, Clear}
+use Rattle.laws.specs.Faultless.{Faultless}
 
 ruleset parts = (Members.and-l, Members.and-r)
 

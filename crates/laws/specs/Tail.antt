@@ -9,7 +9,7 @@ use lib.ListN.{length-append}
 use lib.Dec.{T}
 use Rattle.meaning.specs.Layout.{byte, taken, granules, directoryGranules, granuleBytes}
 use Rattle.meaning.specs.Entries.{system, entryGranules}
-use Rattle.meaning.specs.Chain.{chain, owned}
+use Rattle.meaning.specs.Chain.{owned}
 use Rattle.meaning.specs.Growth.{tail}
 use Rattle.meaning.specs.declared.Geometry.{Geometry}
 use Rattle.laws.specs.Members

@@ -8,9 +8,9 @@ use native.Mathlib.Omega.{arith}
 use native.Mathlib.Decide.{ℕ-discrete}
 use lib.ListN.{length, length-append}
 use lib.Dec.{T, eqb, eqb→eq}
-use Rattle.meaning.specs.Lists.{count, each}
+use Rattle.meaning.specs.Lists.{each}
 use Rattle.meaning.specs.Layout.{byte, isSlot, slots, taken, field, granules, hit, directoryGranules, granuleBytes, aboveTen}
-use Rattle.meaning.specs.Entries.{inUse, system, marker, link, nameOf, runs, entryGranules, sizeOf}
+use Rattle.meaning.specs.Entries.{inUse, system, marker, link, nameOf, entryGranules, sizeOf}
 use Rattle.meaning.specs.Chain.{chain, chainFrom, owned}
 use Rattle.meaning.specs.Growth.{tail}
 use Rattle.meaning.specs.Plain.{File}

@@ -1,12 +1,12 @@
 -- One step of each recursion at the code's numbers, and two bounds.
 use mathlib.Core.Path.{_≡_, refl, sym, ap, _∙_}
-use mathlib.Core.List.{List, [], _∷_, _++_, map}
-use mathlib.Core.Bool.{Bool, true, false, cond, _&&_, and-true}
+use mathlib.Core.List.{List, map}
+use mathlib.Core.Bool.{true, cond, and-true}
 use Prim.Native.Nat.{ℕ, zero, suc, _+_, _-_, _*_, _/_, _%_, _^_, _≤_, _<_}
 use native.Mathlib.Omega.{arith}
-use native.Mathlib.Nat.{mul-le-mul, div-lt-iff-lt-mul, mod-lt, div-one, div-div-eq-div-mul, pow-succ'}
+use native.Mathlib.Nat.{add-zero, mul-le-mul, div-lt-iff-lt-mul, div-one, div-div-eq-div-mul, pow-succ'}
 use lib.ListN.{length, getD, take, drop}
-use lib.Seq.{drop-cons, drop-length}
+use lib.Seq.{drop-cons}
 use lib.Dec.{eqb, leb}
 use borrow.Author.Tests.{le-leb, eq-eqb, eqb-true}
 use Rattle.meaning.specs.Lists.{same, all, count}
@@ -56,6 +56,11 @@ part-at d a i (suc n) h =
 pub name-part : (g : Geometry) (d : List ℕ) (s : ℕ) → entryAt g s + 16 ≤ length d → nameOf g d s ≡ take 11 (drop (entryAt g s + 5) d)
 unfolding nameOf field
 name-part g d s h = part-at d (entryAt g s) 5 11 (omega arith)
+
+-- the flags of the entry at `at`
+pub flags-at : (g : Geometry) (d : List ℕ) (s : ℕ) {at r : ℕ} → at ≡ entryAt g s → r ≡ getD d at 0 → r ≡ field g d s 0
+unfolding field
+flags-at g d s e q = q ∙ ap (λ (k : ℕ). getD d k 0) (e ∙ sym (add-zero (entryAt g s)))
 
 pub name-at : (g : Geometry) (d n : List ℕ) (s : ℕ) → entryAt g s + 16 ≤ length d → same (nameOf g d s) n ≡ same (take 11 (drop (entryAt g s + 5) d)) n
 unfolding nameOf field

@@ -1,16 +1,16 @@
 -- Laws of the words on lists, and of Bool.
 use mathlib.Core.Path.{_≡_, refl, sym, ap, _∙_}
 use mathlib.Core.List.{List, [], _∷_, _++_}
-use mathlib.Core.Bool.{Bool, true, false, not, cond, _&&_, _||_, and-true, or-false}
-use Prim.Native.Nat.{ℕ, zero, suc, _+_, _-_, _*_, _≤_, _<_}
+use mathlib.Core.Bool.{Bool, true, false, not, cond, _&&_, _||_, and-true, or-false, true≢false}
+use Prim.Native.Nat.{ℕ, zero, suc, _+_, _≤_, _<_}
 use native.Mathlib.Omega.{arith}
 use native.Mathlib.Nat.{add-zero, zero-add}
 use mathlib.Core.Logic.{_⊎_, inl, inr, ⊎-elim}
-use lib.ListN.{length, getD}
-use lib.Dec.{eqb, ltb, leb}
-use borrow.Author.Tests.{ltb-true, ltb-false, le-ltb, lt-ltb, not-true, not-false, eqb-false}
+use lib.ListN.{getD}
+use lib.Dec.{eqb, ltb}
+use borrow.Author.Tests.{eq-eqb, ne-eqb, ltb-true, ltb-false, not-true, not-false, eqb-false}
 use Rattle.meaning.specs.Refusals.{first}
-use Rattle.meaning.specs.Lists.{count, every, some, keep, each, has, all, any}
+use Rattle.meaning.specs.Lists.{count, every, keep, all, any}
 
 pub and-l : (a b : Bool) → (a && b) ≡ true → a ≡ true
 and-l true b h = refl
@@ -45,6 +45,23 @@ all-at bs h k = at bs h k
     at [] h k = refl
     at (b ∷ bs) h zero = and-l b (all bs) h
     at (b ∷ bs) h (suc k) = at bs (and-r b (all bs) h) k
+
+pub not-both : {A : Type 0} {b : Bool} → b ≡ true → b ≡ false → A
+not-both t f = absurd (true≢false (sym t ∙ f))
+
+-- what a test of a number that was read says of what it was read from
+pub on : {r b k : ℕ} → r ≡ b → r ≡ k → eqb b k ≡ true
+on {r} {b} {k} e t = eq-eqb b k (sym e ∙ t)
+
+pub off : {r b k : ℕ} → r ≡ b → (r ≡ k → ⊥) → eqb b k ≡ false
+off {r} {b} {k} e t = ne-eqb b k (λ q. t (e ∙ q))
+
+pub all-out : (bs : List Bool) (k : ℕ) → getD bs k true ≡ false → all bs ≡ false
+all-out bs k h = by (all bs) refl
+  where
+    by : (t : Bool) → all bs ≡ t → all bs ≡ false
+    by true e = not-both (all-at bs e k) h
+    by false e = e
 
 pub le-or-lt : (a b : ℕ) → (a ≤ b) ⊎ (b < a)
 le-or-lt a b = by (ltb b a) refl

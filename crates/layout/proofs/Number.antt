@@ -1,13 +1,12 @@
 -- Bytes as one number: two parts make a whole, and equal numbers are equal bytes.
 use mathlib.Core.Path.{_≡_, refl, sym, ap, _∙_}
 use mathlib.Core.List.{List, [], _∷_}
-use mathlib.Core.Bool.{Bool, true, false, _&&_, and-assoc}
-use mathlib.Core.Logic.{_≢_}
+use mathlib.Core.Bool.{Bool, _&&_, and-assoc}
 use Prim.Native.Nat.{ℕ, zero, suc, _+_, _*_, _^_, _≤_, _<_}
 use native.Mathlib.Omega.{arith}
 use native.Mathlib.Decide.{ℕ-discrete}
 use native.Mathlib.Numerals.{add-one}
-use native.Mathlib.Nat.{one-mul, mul-zero, add-zero, zero-add, suc-add, mul-assoc, mul-comm, pow-succ'}
+use native.Mathlib.Nat.{one-mul, mul-zero, add-zero, zero-add, suc-add, mul-assoc, pow-succ'}
 use lib.ListN.{length, getD, take, drop, length-drop}
 use lib.Seq.{drop-cons, drop-drop, take-all, getD-drop}
 use lib.Dec.{eqb}

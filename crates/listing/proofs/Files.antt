@@ -7,9 +7,9 @@ use native.Mathlib.Omega.{arith}
 use native.Mathlib.Nat.{zero-add, add-zero}
 use lib.ListN.{length, take, drop}
 use lib.Seq.{drop-nil}
-use lib.Dec.{T, eqb}
+use lib.Dec.{T}
 use borrow.Author.Tests.{ne-eqb}
-use Rattle.meaning.specs.Lists.{keep, all, same}
+use Rattle.meaning.specs.Lists.{keep, all}
 use Rattle.meaning.specs.Layout.{directorySectors, entryAt}
 use Rattle.meaning.specs.Entries.{inUse, extension, primary, nameOf, sizeOf}
 use Rattle.meaning.specs.Chain.{files, owned}
@@ -20,9 +20,8 @@ use Rattle.meaning.specs.declared.Geometry.{Geometry}
 use Rattle.meaning.specs.declared.Listed.{Listed}
 use Rattle.meaning.specs.declared.Counts.{Counts}
 use Rattle.laws.specs.Members.{same-eq, same-refl}
-use Rattle.layout.specs.Room.{Slot}
 use Rattle.layout.proofs.Laws.{name-at}
-use Rattle.layout.proofs.Lists.{keep-yes, keep-no, all-at, all-yes, all-one, and-l}
+use Rattle.layout.proofs.Lists.{all-at, and-l}
 use Rattle.seek.specs.Seek.{Used}
 use Rattle.find.proofs.Pass.{slotsFrom, slots-start, slots-here, slots-past, slots-end}
 

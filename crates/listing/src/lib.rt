@@ -4,7 +4,7 @@ use meaning::Geometry;
 use meaning::Listed;
 ghost use mathlib.Core.Path.{_≡_};
 ghost use mathlib.Core.List.{[], _∷_};
-ghost use Prim.Native.Nat.{_+_, _*_, _<_, _≤_};
+ghost use Prim.Native.Nat.{_+_, _*_, _<_};
 ghost use lib.ListN.{length, drop};
 ghost use Rattle.meaning.specs.Lists.{all};
 ghost use Rattle.meaning.specs.Layout.{entryAt};
@@ -52,7 +52,7 @@ fn tell(image: &[u8], g: Geometry, s: usize) -> Listed
         more: true,
         name: find::name_at(image, 256 * (g.start + 2 + s % 32) + 32 * (s / 32) + 5),
         size: layout::size_of(image, g, s),
-        granules: growth::measure(image, g, s).owned,
+        granules: extent::measure(image, g, s).owned,
     }
 }
 

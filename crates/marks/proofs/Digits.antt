@@ -1,9 +1,9 @@
 -- Binary digits of `and`, `or` and masks.
-use mathlib.Core.Path.{_≡_, refl, sym, ap, ap₂, _∙_, subst}
+use mathlib.Core.Path.{_≡_, refl, sym, ap, ap₂, _∙_}
 use mathlib.Core.Logic.{_⊎_, inl, inr}
 use Prim.Native.Nat.{ℕ, zero, suc, _+_, _-_, _*_, _/_, _%_, _^_, _≤_, _<_, min, max}
 use native.Mathlib.Omega.{arith}
-use native.Mathlib.Nat.{add-zero, pow-suc, min-le-left, max-le, min-zero, max-zero, zero-min, mul-assoc}
+use native.Mathlib.Nat.{pow-suc, min-le-left, max-le, min-zero, max-zero, zero-min, mul-assoc}
 use lib.Bits.{bitAnd, bitOr, and-step, or-step, and-le-r}
 use lib.Pow.{pow-pos, shl-lt, ones-lt}
 use Rattle.meaning.specs.Bits.{digit, digit-lt}

@@ -1,27 +1,25 @@
 -- Taking granules of the owner map.
 use mathlib.Core.Path.{_≡_, refl, sym, ap, _∙_, subst}
 use mathlib.Core.Logic.{_⊎_, inl, inr}
-use mathlib.Core.List.{List, map}
-use mathlib.Core.Bool.{Bool, true, false, true≢false, cond}
-use Prim.Native.Nat.{ℕ, zero, suc, _+_, _-_, _*_, _/_, _%_, _^_, _≤_, _<_}
+use mathlib.Core.List.{List}
+use mathlib.Core.Bool.{Bool, true, false, true≢false}
+use Prim.Native.Nat.{ℕ, _+_, _-_, _*_, _/_, _%_, _^_, _≤_, _<_}
 use native.Mathlib.Omega.{arith}
 use native.Mathlib.Nat.{one-mul, add-zero, div-add-mod', pow-le-pow-right, mul-add-div-right, mul-add-mod-self-right, div-eq-of-lt, mod-eq-of-lt, mod-lt, div-lt-iff-lt-mul, add-mul, mul-le-mul}
 use lib.Bits.{bitAnd, bitOr, or-lt}
 use lib.Dec.{eqb}
 use lib.ListN.{length, getD, set, length-set}
-use lib.Seq.{getD-set-same, getD-set-other, ext-getD}
+use lib.Seq.{getD-set-same, getD-set-other}
 use lib.Pow.{pow-pos, shl-exact, shl-lt, ones-lt}
 use borrow.Author.Tests.{eqb-true, eqb-false}
 use Rattle.meaning.specs.Bits.{digit, digit-lt}
-use Rattle.meaning.specs.Lists.{count, has}
 use Rattle.meaning.specs.Layout.{granules, taken, byte, gatAt, mostBlocks}
 use Rattle.meaning.specs.declared.Geometry.{Geometry}
 use Rattle.layout.specs.Room.{Room}
 use Rattle.layout.proofs.Lists.{le-or-lt}
 use Rattle.seek.proofs.Below.{allBelow, all-below}
 use Rattle.laws.specs.Members
-use Rattle.marks.specs.Marks.{marked, allows, Marks}
-use Rattle.marks.specs.Owners.{shut, Takes, GatMap, weight, standing}
+use Rattle.marks.specs.Owners.{shut, Takes, GatMap}
 use Rattle.marks.proofs.Maps
 use Rattle.marks.proofs.Digits.{mask, clear-says, says-clear, or-in, or-out}
 

@@ -1,12 +1,11 @@
 -- The owner map as one number a granule.
-use mathlib.Core.Path.{_≡_, refl, sym, ap, _∙_, subst}
+use mathlib.Core.Path.{_≡_, refl, sym, ap, _∙_}
 use mathlib.Core.Logic.{_⊎_, inl, inr}
 use mathlib.Core.List.{List, [], _∷_, map}
 use mathlib.Core.Bool.{Bool, true, false, cond}
 use Prim.Native.Nat.{ℕ, zero, suc, _+_, _-_, _*_, _/_, _%_, _≤_, _<_}
 use native.Mathlib.Omega.{arith}
 use native.Mathlib.Nat.{one-mul, zero-mul}
-use lib.Dec.{T}
 use lib.ListN.{length, getD, set, replicate, length-set, length-map}
 use lib.Seq.{ext-getD}
 use Rattle.meaning.specs.Bits.{digit, digit-lt}
@@ -16,7 +15,7 @@ use Rattle.meaning.specs.declared.Geometry.{Geometry}
 use Rattle.layout.proofs.Lists.{le-or-lt}
 use Rattle.laws.specs.Members
 use Rattle.laws.specs.Members.{In}
-use Rattle.marks.specs.Marks.{marked, allows, Marks}
+use Rattle.marks.specs.Marks.{marked, Marks}
 use Rattle.marks.specs.Owners.{shut, Takes, weight, standing}
 use Rattle.marks.proofs.Maps
 use Rattle.marks.proofs.Digits.{digit-zero}

@@ -9,6 +9,9 @@ ghost use Rattle.layout.specs.Room.{Room, Read};
 ghost use Rattle.marks.specs.Owners.{Takes, GatMap, Window};
 ghost use Rattle.marks.specs.Eight.{ReadsEight, PutsEight, Spans, Among};
 
+// The first of the map's last eight bytes: eight from there on are the last that are read at once.
+pub const LAST_EIGHT: usize = 184;
+
 // The GAT: a bit is clear where the GAT's is set.
 pub fn gat_map(image: &[u8], g: Geometry, map: &mut [u8; 192])
     requires { ⌜ Room g (now image) × (length (now map) ≡ mostBlocks) ⌝ }
@@ -91,7 +94,11 @@ fn take_stretch(map: &mut [u8; 192], block: usize, unit: usize, n: usize) -> boo
     requires { ⌜ (unit < mostUnits) × (block * 8 + unit + n ≤ mostBlocks * 8) × (1 ≤ n) × (n ≤ 32) ⌝ }
     ensures { λ r. ⌜ Takes 8 (now (map .entry)) (block * 8 + unit) n (now (map .exit)) r ⌝ }
 {
-    let at = if block < 184 { block } else { 184 };
+    let at = if block < LAST_EIGHT {
+        block
+    } else {
+        LAST_EIGHT
+    };
     let shift = 8 * (block - at) + unit;
     let mask = ((1 << n) - 1) << shift;
     let x = read_eight(map, at);

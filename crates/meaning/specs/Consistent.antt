@@ -1,10 +1,10 @@
 -- A consistent disk (01). A part stands for each kind of fault: it says what must hold of one slot, one file, or the directory.
-use Prim.Native.Nat.{ℕ, zero, suc, _+_, _-_, _*_, _/_, _%_}
-use mathlib.Core.Bool.{Bool, true, false, not, cond, _&&_, _||_, Bool·beq}
-use mathlib.Core.List.{List, [], _∷_, _++_}
+use Prim.Native.Nat.{ℕ, _+_, _*_}
+use mathlib.Core.Bool.{Bool, true, not, _&&_, _||_, Bool·beq}
+use mathlib.Core.List.{List, [], _∷_}
 use lib.Dec.{leb, ltb, eqb}
 use lib.ListN.{length}
-use Rattle.meaning.specs.Lists.{count, every, some, each, has, keep, distinct, same, all, any}
+use Rattle.meaning.specs.Lists.{count, every, each, has, keep, distinct, same, all, any}
 use Rattle.meaning.specs.Layout
 use Rattle.meaning.specs.Names
 use Rattle.meaning.specs.Bits

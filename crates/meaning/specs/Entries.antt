@@ -1,7 +1,7 @@
 -- What one entry says (01, Directory layout): flags, codes, size, runs, marker and link.
 use Prim.Native.Nat.{ℕ, zero, suc, _+_, _-_, _*_, _/_, _%_}
 use mathlib.Core.Bool.{Bool, not, cond, _&&_}
-use mathlib.Core.List.{List, [], _∷_, _++_, map}
+use mathlib.Core.List.{List, map}
 use lib.Dec.{eqb}
 use Rattle.meaning.specs.Lists.{count, each}
 use Rattle.meaning.specs.Bits.{bit}

@@ -1,10 +1,10 @@
 -- Say what is inconsistent, and where (02 §2). A disk's fault is a number, 21 to 30, and a slot. Each kind of fault is a test of one slot; the
 -- lowest slot at fault is told, and at that slot the first kind in 02's order. Where two slots are at fault together, the higher one is.
 -- The sentences are those of 01's paragraph on consistency, and its tests (`Consistent`) are used wherever they speak of one slot.
-use Prim.Native.Nat.{ℕ, zero, suc, _+_}
+use Prim.Native.Nat.{ℕ, zero, suc}
 use mathlib.Core.Bool.{Bool, not, cond, _&&_}
 use mathlib.Core.List.{List, [], _∷_}
-use lib.Dec.{leb, ltb, eqb}
+use lib.Dec.{ltb, eqb}
 use lib.ListN.{length}
 use Rattle.meaning.specs.Lists.{every, some, each, has, keep, distinct, same, all, any, first, firstOr}
 use Rattle.meaning.specs.Layout

@@ -3,7 +3,7 @@ use Prim.Native.Nat.{ℕ}
 use mathlib.Core.Bool.{Bool, not, cond}
 use mathlib.Core.List.{List, [], _∷_}
 use lib.Dec.{eqb}
-use Rattle.meaning.specs.Lists.{all, any}
+use Rattle.meaning.specs.Lists.{any}
 use Rattle.meaning.specs.Entries
 use Rattle.meaning.specs.Refusals
 use Rattle.meaning.specs.LookUp

@@ -1,5 +1,5 @@
 -- Refusal numbers, in order of test (01). Each call has one list of them, in the table's order; its number is the first that holds.
-use Prim.Native.Nat.{ℕ, _+_, _-_}
+use Prim.Native.Nat.{ℕ, _-_}
 use mathlib.Core.Bool.{Bool, not}
 use mathlib.Core.List.{List, [], _∷_, _++_, map}
 use lib.Dec.{leb, ltb, eqb}

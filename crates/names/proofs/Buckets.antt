@@ -1,19 +1,18 @@
 -- Files in lists by their HIT byte: one more file, the search along a list, and what the search says of all files.
 use mathlib.Core.Path.{_≡_, refl, sym, ap, _∙_, subst}
-use mathlib.Core.Logic.{_≢_, _⊎_, inl, inr, ⊎-elim}
-use mathlib.Core.List.{List, [], _∷_, _++_}
+use mathlib.Core.Logic.{_≢_, ⊎-elim}
+use mathlib.Core.List.{List, [], _∷_}
 use mathlib.Core.Bool.{Bool, true, false, not, cond, _&&_}
-use Prim.Native.Nat.{ℕ, zero, suc, _+_, _-_, _*_, _/_, _%_, _≤_, _<_}
+use Prim.Native.Nat.{ℕ, zero, suc, _+_, _-_, _*_, _≤_, _<_}
 use native.Mathlib.Omega.{arith}
 use native.Mathlib.Nat.{add-zero}
 use native.Mathlib.Numerals.{add-one}
 use native.Mathlib.Decide.{ℕ-discrete}
-use lib.ListN.{length, getD, set, take, drop, replicate, length-set}
+use lib.ListN.{getD, set, take, drop, replicate, length-set}
 use lib.Seq.{getD-set-same, getD-set-other}
-use lib.Dec.{T, eqb, T-not}
-use borrow.Author.Tests.{eq-eqb, ne-eqb, eqb-true, not-true, not-false}
+use borrow.Author.Tests.{eq-eqb, ne-eqb, not-true, not-false}
 use Rattle.meaning.specs.Lists.{every, same, all}
-use Rattle.meaning.specs.Layout.{isSlot, hit, field, entryAt, directorySectors}
+use Rattle.meaning.specs.Layout.{isSlot, hit, entryAt, directorySectors}
 use Rattle.meaning.specs.Names.{hash}
 use Rattle.meaning.specs.Entries.{primary, nameOf}
 use Rattle.meaning.specs.Chain.{files}
@@ -23,7 +22,7 @@ use Rattle.laws.specs.Members
 use Rattle.laws.specs.Members.{In}
 use Rattle.laws.specs.Facts
 use Rattle.layout.specs.Room.{Room, Slot}
-use Rattle.layout.proofs.Lists.{all-yes, all-no, all-one, all-at, all-none}
+use Rattle.layout.proofs.Lists.{all-yes, all-no, all-one, all-at}
 use Rattle.layout.proofs.Sound.{slot-of, slot-yes, slot-no, entry-fits}
 use Rattle.layout.proofs.Laws.{name-part}
 use Rattle.names.specs.Buckets.{Hashed, unlike, inBucket, bucket, Linked, Buckets, Joined, Differing, Visited}
@@ -237,11 +236,6 @@ module _ (g : Geometry) (d : List ℕ) where
   pub next-low : (s : ℕ) → Room g d → Slot g d s → s + 1 < 256
   next-low s r h =
       let a = h .low in let b = h .held in let c = r .thirty in omega arith
-
-  -- the flags of the entry at `at`
-  pub flags-at : (s : ℕ) {at r : ℕ} → at ≡ entryAt g s → r ≡ getD d at 0 → r ≡ field g d s 0
-  unfolding field
-  flags-at s e q = q ∙ ap (λ (k : ℕ). getD d k 0) (e ∙ sym (add-zero (entryAt g s)))
 
   -- what comparing the names' bytes says
   pub compared : (s q n at : ℕ) {r : Bool} → Room g d → Slot g d s → Slot g d q → n ≡ 11 → at ≡ entryAt g s

@@ -1,3 +1,1 @@
-pub mod Mixing
-pub mod Turning
 pub mod Buckets

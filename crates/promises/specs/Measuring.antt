@@ -1,27 +1,25 @@
 -- Free space: how many granules are free, and the longest free stretch, from the GAT alone
 use mathlib.Core.Path.{_≡_, refl, sym, ap, _∙_}
 use mathlib.Core.Logic.{_≢_}
-use mathlib.Core.Bool.{Bool, true, not, cond}
-use mathlib.Core.List.{List, [], _∷_}
-use Prim.Native.Nat.{ℕ, _+_, _<_}
+use mathlib.Core.Bool.{true, not}
+use mathlib.Core.List.{List}
+use Prim.Native.Nat.{ℕ, _<_}
 use native.Mathlib.Omega.{arith}
-use lib.Dec.{T, eqb}
 use lib.ListN.{length}
-use Rattle.meaning.specs.Lists.{count, keep}
+use Rattle.meaning.specs.Lists.{count}
 use Rattle.meaning.specs.Layout.{fitsGeometry, granules, taken}
 use Rattle.meaning.specs.Consistent.{consistent}
 use Rattle.meaning.specs.Free.{freeGranules}
-use Rattle.meaning.specs.Refusals.{first, accepted}
+use Rattle.meaning.specs.Refusals.{first}
 use Rattle.meaning.specs.Listing
 use Rattle.meaning.specs.FreeSpace.{longest, spaceRefusals, freeSpace}
 use Rattle.meaning.specs.declared.Geometry.{Geometry}
-use Rattle.meaning.specs.declared.Space.{Space}
 use Rattle.laws.specs.Members
 use Rattle.laws.specs.Facts
 use Rattle.laws.specs.Tally
 use Rattle.laws.specs.Stretches
 use Rattle.laws.specs.Passed.{passed, yes-T, check-none}
-use Rattle.promises.specs.Promises.{Stretch, Measured}
+use Rattle.promises.specs.Promises.{Measured}
 use Rattle.promises.specs.Passing
 
 module _ (g : Geometry) (d : List ℕ) where

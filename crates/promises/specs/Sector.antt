@@ -1,7 +1,6 @@
 -- Reads: a record and a sector are the plain file's bytes
 use mathlib.Core.Path.{_≡_, ap, ap₂, sym, _∙_, subst}
 use mathlib.Core.Logic.{_≢_}
-use mathlib.Core.Bool.{Bool, cond}
 use mathlib.Core.List.{List, [], _∷_}
 use Prim.Native.Nat.{ℕ, suc, _+_, _-_, _*_, _/_, _%_, _≤_, _<_, min}
 use native.Mathlib.Omega.{arith}
@@ -94,9 +93,6 @@ module _ (g : Geometry) (d : List ℕ) (b : AreBytes d) (c : Sound g d) (fit : P
     where
       low : endByte g d p < 256
       low = Bytes.bytes-small d b .below (entryAt g p + 3)
-
-      size-of : (a : Bool) → Type 0
-      size-of a = cond a (256 * sectorCount g d p) (256 * (sectorCount g d p - 1) + endByte g d p) ≡ sizeOf g d p
 
       go : Members.Test (eqb (endByte g d p) 0) → Members.Test (eqb (suc k) (sectorCount g d p)) → Holds (sizeOf g d p) k (sectorBytes g d p k)
       go (Members.Test.holds t) (Members.Test.holds u) =

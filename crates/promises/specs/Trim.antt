@@ -7,8 +7,8 @@ use Prim.Native.Nat.{ℕ, zero, suc, _+_, _-_, _*_, _≤_}
 use native.Mathlib.Omega.{arith}
 use lib.ListN.{length, length-append}
 use lib.Dec.{T}
-use Rattle.meaning.specs.Lists.{count, times}
-use Rattle.meaning.specs.Layout.{granules, field, granuleBytes, granulesFor}
+use Rattle.meaning.specs.Lists.{times}
+use Rattle.meaning.specs.Layout.{granules, granuleBytes, granulesFor}
 use Rattle.meaning.specs.Entries.{system, nameOf, sizeOf, keepsSpace}
 use Rattle.meaning.specs.Chain.{chain, owned}
 use Rattle.meaning.specs.Consistent.{consistent}

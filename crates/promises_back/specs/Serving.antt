@@ -1,13 +1,11 @@
 -- An accepted bring back: the plain list of named files gains that file, and every other is as it was
 use mathlib.Core.Path.{_≡_, ap, sym, _∙_, subst}
 use mathlib.Core.Logic.{_≢_}
-use mathlib.Core.Bool.{true, not}
+use mathlib.Core.Bool.{not}
 use mathlib.Core.List.{List, [], _∷_}
 use Prim.Native.Nat.{ℕ, _+_}
 use native.Mathlib.Omega.{arith}
 use lib.ListN.{length}
-use lib.Dec.{T}
-use Rattle.meaning.specs.Lists.{count}
 use Rattle.meaning.specs.Layout.{taken, granules}
 use Rattle.meaning.specs.Names.{hash}
 use Rattle.meaning.specs.Entries.{nameOf}
@@ -15,7 +13,7 @@ use Rattle.meaning.specs.Chain.{chain, owned}
 use Rattle.meaning.specs.Free.{freeGranules}
 use Rattle.meaning.specs.LookUp.{named}
 use Rattle.meaning.specs.BringBack.{bringBack}
-use Rattle.meaning.specs.Plain.{Found, found, nothing, plain, backAs, reserved}
+use Rattle.meaning.specs.Plain.{Found, found, nothing, plain, backAs}
 use Rattle.meaning.specs.declared.Geometry.{Geometry}
 use Rattle.laws.specs.Members
 use Rattle.laws.specs.Counting

@@ -1,23 +1,23 @@
 -- The promises of compare, proved: a theorem for each type of `Statement`.
 use mathlib.Core.Path.{_≡_, refl, sym, ap, subst, _∙_}
-use mathlib.Core.Logic.{_≢_, _⊎_, inl, inr}
+use mathlib.Core.Logic.{_⊎_, inl, inr}
 use mathlib.Core.Bool.{Bool, true, false, not, cond}
-use mathlib.Core.List.{List, [], _∷_, map}
-use Prim.Native.Nat.{ℕ, zero, suc, _<_, _≤_}
+use mathlib.Core.List.{List, [], map}
+use Prim.Native.Nat.{ℕ, _<_, _≤_}
 use native.Mathlib.Omega.{arith}
 use native.Mathlib.Decide.{ℕ-discrete}
-use lib.Dec.{T, eqb, ltb, not-T}
-use lib.ListN.{length, getD, drop}
-use borrow.Author.Tests.{eqb-true, eqb-false, eq-eqb, ne-eqb, not-false, ltb-true, ltb-false}
+use lib.Dec.{eqb, ltb, not-T}
+use lib.ListN.{getD, drop}
+use borrow.Author.Tests.{eqb-true, ne-eqb, ltb-true, ltb-false}
 use Rattle.meaning.specs.Lists.{keep}
 use Rattle.meaning.specs.Refusals.{check}
-use Rattle.meaning.specs.Plain.{isSystem, File, Found, found, nothing, plain}
+use Rattle.meaning.specs.Plain.{isSystem, Found, found, nothing, plain}
 use Rattle.meaning.specs.declared.Geometry.{Geometry}
 use Rattle.laws.specs.Facts as facts
 use Rattle.laws.specs.Members
 use Rattle.laws.specs.Passed.{check-passed}
 use Rattle.together.specs.Statement as statement
-use Rattle.differences.specs.Compare.{before, difference, isOne, tellsNone, tellFirst, at′, differences, merged, compare}
+use Rattle.differences.specs.Compare.{before, isOne, tellsNone, tellFirst, at′, differences, merged, compare}
 use Rattle.differences.specs.Order.{In, never, before-self}
 use Rattle.differences.specs.Told.{difference-name, difference-number}
 use Rattle.differences.specs.declared.Difference.{Difference}

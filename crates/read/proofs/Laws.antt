@@ -1,16 +1,16 @@
 -- A file's bytes by parts, and what an accepted read has.
 use mathlib.Core.Path.{_≡_, refl, sym, ap, _∙_}
 use mathlib.Core.List.{List, [], _∷_, _++_, map}
-use mathlib.Core.Bool.{Bool, true, false, not, cond, _&&_}
+use mathlib.Core.Bool.{Bool, false, cond}
 use Prim.Native.Nat.{ℕ, zero, suc, _+_, _-_, _*_, _/_, _%_, _≤_, _<_}
 use native.Mathlib.Omega.{arith}
 use native.Mathlib.Nat.{zero-add, add-zero}
 use native.Mathlib.Numerals.{add-one}
 use lib.ListN.{length, getD, take, drop, length-map}
 use lib.Seq.{drop-cons, sets, sets-eq}
-use lib.Dec.{eqb, ltb, leb}
-use borrow.Author.Tests.{leb-true, leb-false, ltb-true, ltb-false, eq-eqb, ne-eqb, not-false}
-use Rattle.meaning.specs.Lists.{count, all, same, length-count}
+use lib.Dec.{ltb, leb}
+use borrow.Author.Tests.{leb-true, leb-false, ltb-true, ltb-false, eq-eqb, ne-eqb}
+use Rattle.meaning.specs.Lists.{count, all, length-count}
 use Rattle.meaning.specs.Layout.{byte, sectorNumbers, granuleBytes}
 use Rattle.meaning.specs.Chain.{owned, place}
 use Rattle.meaning.specs.Entries.{sizeOf, sectorCount, endByte}
@@ -21,10 +21,8 @@ use Rattle.meaning.specs.declared.Handle.{Handle}
 use Rattle.meaning.specs.declared.Answer.{Answer}
 use Rattle.meaning.specs.declared.Part.{Part}
 use native.Mathlib.Decide.{ℕ-discrete}
-use Rattle.layout.specs.Room.{Slot}
-use Rattle.layout.proofs.Lists.{all-at, and-l, first-at, count-append}
+use Rattle.layout.proofs.Lists.{all-at, first-at, count-append}
 use Rattle.handle.proofs.Laws.{ownRow, passed, walks, ranges, handle-stop, handle-then}
-use Rattle.seek.specs.Seek.{Sound, Used}
 use Rattle.seek.proofs.Sound.{owned-low}
 use Rattle.copy.proofs.Laws.{sets-append}
 use Rattle.read.specs.Part.{File, Owned, InGranule, partOf}

@@ -1,8 +1,6 @@
 -- Parts of a file and of an image.
-use mathlib.Core.Path.{_≡_}
-use mathlib.Core.Bool.{Bool, true}
 use mathlib.Core.List.{List}
-use Prim.Native.Nat.{ℕ, _+_, _-_, _*_, _%_, _<_, _≤_}
+use Prim.Native.Nat.{ℕ, _+_, _-_, _*_, _%_, _≤_}
 use lib.ListN.{length, take, drop}
 use Rattle.meaning.specs.Layout.{granuleBytes}
 use Rattle.meaning.specs.Chain.{owned}

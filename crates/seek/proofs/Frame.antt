@@ -3,17 +3,16 @@ use mathlib.Core.Path.{_≡_, refl, sym, ap, _∙_}
 use mathlib.Core.List.{List, [], _∷_}
 use mathlib.Core.Bool.{Bool, true, false, not, cond}
 use mathlib.Core.Logic.{_⊎_, inl, inr}
-use Prim.Native.Nat.{ℕ, zero, suc, _+_, _-_, _*_, _/_, _%_, _≤_, _<_}
+use Prim.Native.Nat.{ℕ, zero, suc, _+_, _*_, _/_, _%_, _≤_, _<_}
 use native.Mathlib.Omega.{arith}
-use native.Mathlib.Numerals.{add-one}
 use lib.ListN.{length, getD, set, length-set}
 use lib.Seq.{getD-set-other}
 use lib.Dec.{eqb}
 use borrow.Author.Tests.{eqb-true}
-use Rattle.meaning.specs.Lists.{count, each, keep, through}
-use Rattle.meaning.specs.Layout.{directorySectors, field, granules, slots, isSlot, freeGranule, gatAt, byte, granuleBytes}
+use Rattle.meaning.specs.Lists.{each, through}
+use Rattle.meaning.specs.Layout.{directorySectors, field, granules, slots, freeGranule, gatAt, byte, granuleBytes}
 use Rattle.meaning.specs.Bits.{bit, withoutBit}
-use Rattle.meaning.specs.Entries.{inUse, extension, primary, marker, link, block, runs, runsFrom, runStart, runLength, runGranules, entryGranules, sizeOf}
+use Rattle.meaning.specs.Entries.{inUse, extension, primary, marker, link, runs, runStart, runLength, entryGranules, sizeOf}
 use Rattle.meaning.specs.Chain.{chainFrom, chain, owned, place}
 use Rattle.meaning.specs.declared.Geometry.{Geometry}
 use Rattle.laws.specs.Members.{In, none-in, in-cons, each-eq}

@@ -2,20 +2,20 @@
 use mathlib.Core.Path.{_≡_, refl, sym, ap, _∙_}
 use mathlib.Core.Logic.{⊎-elim}
 use mathlib.Core.List.{List, [], _∷_, _++_}
-use mathlib.Core.Bool.{Bool, true, false, not, cond, _&&_}
-use Prim.Native.Nat.{ℕ, zero, suc, _+_, _-_, _*_, _/_, _%_, _≤_, _<_}
+use mathlib.Core.Bool.{Bool, true, false, not, cond}
+use Prim.Native.Nat.{ℕ, zero, suc, _+_, _-_, _*_, _≤_, _<_}
 use native.Mathlib.Omega.{arith}
 use lib.ListN.{length, getD, length-append, List·getD-append}
-use lib.Dec.{eqb, ltb, leb}
-use borrow.Author.Tests.{leb-true, eqb-true, ne-eqb, eq-eqb}
-use Rattle.meaning.specs.Lists.{count, keep, each, every, all, any, length-count}
+use lib.Dec.{eqb}
+use borrow.Author.Tests.{leb-true, eqb-true, ne-eqb}
+use Rattle.meaning.specs.Lists.{count, each, every, any, length-count}
 use Rattle.meaning.specs.Layout.{isSlot, slots, fitsGeometry, granules, field, granuleBytes}
 use Rattle.meaning.specs.Bits.{bit, digit}
 use Rattle.meaning.specs.Entries.{inUse, primary, marker, link, runs, runStart, runLength, runGranules, entryGranules, sizeOf}
 use Rattle.meaning.specs.Chain.{chainFrom, chain, owned, files}
 use Rattle.meaning.specs.Consistent.{consistent, slotHolds, fileHolds, linkHolds, runsHold, sizeHolds, followsBy, follows}
 use Rattle.meaning.specs.declared.Geometry.{Geometry}
-use Rattle.layout.specs.Room.{Room, Slot}
+use Rattle.layout.specs.Room.{Slot}
 use Rattle.layout.proofs.Lists.{all-at, any-last, every-keep, every-count, not-yes, getD-count, le-or-lt}
 use Rattle.layout.proofs.Sound.{room, slot-of, slot-yes}
 use Rattle.seek.specs.Seek.{Sound, Used}

@@ -2,13 +2,12 @@
 use meaning::Geometry;
 ghost use mathlib.Core.Path.{_≡_};
 ghost use Prim.Native.Nat.{_+_, _*_, _<_, _≤_};
-ghost use lib.ListN.{length, getD};
+ghost use lib.ListN.{getD};
 ghost use Rattle.meaning.specs.Lists.{each};
-ghost use Rattle.meaning.specs.Layout.{slots};
 ghost use Rattle.meaning.specs.Entries.{entryGranules};
 ghost use Rattle.meaning.specs.Chain.{chainFrom, owned, place};
 ghost use Rattle.layout.specs.Room.{Room, Slot};
-ghost use Rattle.seek.specs.Seek.{Sound, Used, Sought, onward};
+ghost use Rattle.seek.specs.Seek.{Sound, Used, Sought};
 
 pub struct Seek {
     pub here: bool,

@@ -1,14 +1,13 @@
 -- Folds of the image along runs and chains.
 use mathlib.Core.Path.{_≡_, refl, sym, ap, _∙_}
 use mathlib.Core.List.{List, [], _∷_, _++_}
-use mathlib.Core.Bool.{Bool, true, false, not, cond}
-use Prim.Native.Nat.{ℕ, zero, suc, _+_, _-_, _*_, _/_, _%_, _≤_, _<_}
+use mathlib.Core.Bool.{Bool, cond}
+use Prim.Native.Nat.{ℕ, zero, suc, _+_, _-_, _*_, _≤_, _<_}
 use native.Mathlib.Omega.{arith}
 use native.Mathlib.Nat.{sub-zero, add-zero}
 use lib.ListN.{length, getD, set, length-set}
 use lib.Seq.{getD-set-other}
-use lib.Dec.{eqb}
-use borrow.Author.Tests.{eq-eqb, ne-eqb, eqb-true}
+use borrow.Author.Tests.{eq-eqb, ne-eqb}
 use Rattle.meaning.specs.Lists.{count, each, through}
 use Rattle.meaning.specs.Layout.{granules, freeGranule, directorySectors, field, setField, slots, hitAt, entryAt}
 use Rattle.meaning.specs.Bits.{withoutBit}
@@ -20,7 +19,7 @@ use Rattle.layout.specs.Room.{Room, Slot}
 use Rattle.layout.proofs.Laws.{left-more, left-none}
 use Rattle.seek.specs.Seek.{Sound, Used, onward}
 use Rattle.seek.proofs.Laws.{chain-more, chain-none, slots-length}
-use Rattle.seek.proofs.Frame.{opened, room-kept, slot-kept, Same, same-refl, same-trans, same-free, same-room, same-field, same-entry, same-sound, same-slots, same-all, same-used, same-slots-of}
+use Rattle.seek.proofs.Frame.{opened, room-kept, slot-kept, Same, same-refl, same-trans, same-free, same-room, same-entry, same-sound, same-all, same-used, same-slots-of}
 use Rattle.seek.proofs.Sound.{low-entry, low-chain}
 
 pub through-append : (f : List ℕ → ℕ → List ℕ) (x : List ℕ) (xs ys : List ℕ) → through f x (xs ++ ys) ≡ through f (through f x xs) ys

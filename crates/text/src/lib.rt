@@ -1,8 +1,8 @@
 // The text of the listing, put into a lent buffer. Each function answers the place after what it has put.
 ghost use mathlib.Core.Path.{_≡_};
-ghost use mathlib.Core.List.{[], _∷_, _++_};
+ghost use mathlib.Core.List.{[], _∷_};
 ghost use Prim.Native.Nat.{_+_, _<_, _≤_};
-ghost use lib.ListN.{length, take, drop};
+ghost use lib.ListN.{length};
 ghost use Rattle.meaning.specs.Listing.{digits, decimal, stripped, slashed, nameText, line};
 ghost use Rattle.text.specs.Put.{Put, none, filesLine, freeLine};
 

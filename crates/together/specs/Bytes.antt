@@ -7,7 +7,7 @@ use Prim.Native.Nat.{ℕ, _+_, _<_}
 use native.Mathlib.Omega.{arith}
 use lib.ListN.{length, set, take}
 use lib.Seq.{ext-getD}
-use lib.Dec.{T, eqb, leb, ltb, lt→ltb, le→leb}
+use lib.Dec.{T, eqb, leb, lt→ltb, le→leb}
 use Rattle.meaning.specs.Layout.{byte, entryAt}
 use Rattle.meaning.specs.Entries.{nameOf}
 use Rattle.meaning.specs.Lists.{firstOr}

@@ -36,7 +36,7 @@ use Rattle.promises.specs.Grow
 use Rattle.promises.specs.Trim
 use Rattle.promises.specs.WriteMeans
 use Rattle.together.specs.Statement.{Name, Call, looksUp, opens, creates, moves, reads, readsSector, writes, allots, trims, kills, Side, known, answer, handleAt, Grip, grip}
-use Rattle.together.specs.State.{State, stateOf, stands, changed, born, levelOf, effect, Held, Good, atPlace}
+use Rattle.together.specs.State.{stateOf, stands, changed, born, levelOf, effect, Held, Good, atPlace}
 
 -- Lists of handles -------------------------------------------------------------------------------------------------------
 
@@ -144,9 +144,6 @@ pub record Effect (g : Geometry) (n : Name) (d : List ℕ) (hs : List Handle) (c
   pub spares : (m : Name) → m ≢ n → stands g d′ m ≡ stands g d m
 
 module _ (g : Geometry) (n : Name) (d : List ℕ) (hs : List Handle) (k : Good g d) (held : Held n hs) where
-  abbrev before : State
-  before = stateOf g n d hs
-
   grip-at : (i : ℕ) → getD (map grip hs) i (grip noHandle) ≡ grip (handleAt hs i)
   grip-at i = List·getD-map grip hs i noHandle
 

@@ -3,7 +3,7 @@
 --
 -- `answer` is all that this page knows of the calls, and it only names those of `meaning`, which answer as the program does: each
 -- function's contract says so. The files are those that demand 2 speaks of, `plain`.
-use Prim.Native.Nat.{ℕ, _<_}
+use Prim.Native.Nat.{ℕ}
 use mathlib.Core.Path.{_≡_}
 use mathlib.Core.Logic.{_≢_}
 use mathlib.Core.Bool.{Bool, true, not, cond}

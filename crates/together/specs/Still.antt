@@ -8,7 +8,7 @@ use native.Mathlib.Omega.{arith}
 use native.Mathlib.Decide.{ℕ-discrete, decLt}
 use lib.ListN.{length, getD, set, take, replicate, length-set}
 use lib.Seq.{getD-set-same, getD-set-other, set-out}
-use lib.Dec.{T, ltb, leb, not-T, lt→ltb, le→leb}
+use lib.Dec.{T, leb, not-T, lt→ltb, le→leb}
 use Rattle.meaning.specs.Lists.{has}
 use Rattle.meaning.specs.Bits
 use Rattle.meaning.specs.Layout.{byte, field, entryAt, granuleBytes, directoryGranules}

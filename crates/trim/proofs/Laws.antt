@@ -1,14 +1,14 @@
 -- The turns of the loop that drops granules, and what a trim answers and leaves.
 use mathlib.Core.Path.{_≡_, refl, sym, ap, _∙_}
 use mathlib.Core.List.{List, [], _∷_}
-use mathlib.Core.Bool.{Bool, true, false, not, _&&_}
+use mathlib.Core.Bool.{Bool, true, false, _&&_}
 use Prim.Native.Nat.{ℕ, suc, _+_, _-_, _*_, _/_, _%_, _^_, _≤_, _<_}
 use native.Mathlib.Omega.{arith}
 use lib.ListN.{length, length-append}
 use lib.Dec.{eqb, not-T}
 use borrow.Author.Tests.{ne-eqb, eq-eqb}
 use Rattle.meaning.specs.Lists.{times}
-use Rattle.meaning.specs.Layout.{field, setField, freeGranule, entryAt, granules, granuleBytes, granulesFor}
+use Rattle.meaning.specs.Layout.{field, setField, freeGranule, granules, granuleBytes, granulesFor}
 use Rattle.meaning.specs.Bits.{digit, bit}
 use Rattle.meaning.specs.Entries.{extension, runs, runStart, runLength, sizeOf, system}
 use Rattle.meaning.specs.Chain.{owned}

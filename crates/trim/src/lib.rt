@@ -6,14 +6,12 @@ ghost use mathlib.Core.Path.{_≡_};
 ghost use Prim.Native.Nat.{_+_, _-_, _*_, _/_, _<_, _≤_};
 ghost use lib.ListN.{length};
 ghost use Rattle.meaning.specs.Lists.{times};
-ghost use Rattle.meaning.specs.Layout.{field, setField, freeGranule, entryAt, granuleBytes};
-ghost use Rattle.meaning.specs.Entries.{sizeOf};
+ghost use Rattle.meaning.specs.Layout.{field, setField, freeGranule, entryAt};
 ghost use Rattle.meaning.specs.Chain.{owned};
 ghost use Rattle.meaning.specs.Growth.{tail};
 ghost use Rattle.meaning.specs.Drop.{unhooked, dropOne};
 ghost use Rattle.meaning.specs.Refusals.{check};
 ghost use Rattle.meaning.specs.Trim.{trim};
-ghost use Rattle.laws.specs.Steps.{Ready};
 ghost use Rattle.trim.specs.Last.{Last, Bit};
 
 // Clears the GAT bit of granule n.
@@ -117,8 +115,8 @@ pub fn trim_checked(image: &mut [u8], g: Geometry, h: Handle, checked: u8) -> An
         };
     }
     let size = layout::size_of(image, g, h.slot);
-    let needed = growth::granules_for(size);
-    let extent = growth::measure(image, g, h.slot);
+    let needed = extent::granules_for(size);
+    let extent = extent::measure(image, g, h.slot);
     drop_last(image, g, h.slot, extent.last, extent.owned - needed);
     Answer {
         number: 0,

@@ -1,28 +1,28 @@
 -- The walk, step by step: a run, an entry's pairs, the chain.
 use mathlib.Core.Path.{_≡_, refl, sym, ap, _∙_}
-use mathlib.Core.List.{List, [], _∷_, _++_, append-nil}
+use mathlib.Core.List.{List, [], _∷_, _++_}
 use mathlib.Core.Bool.{Bool, true, false, not, cond, _&&_, _||_, and-true}
 use Prim.Native.Nat.{ℕ, zero, suc, _+_, _-_, _*_, _/_, _%_, _≤_, _<_}
 use native.Mathlib.Omega.{arith}
-use native.Mathlib.Nat.{add-zero, zero-add, add-mul, one-mul, mul-le-mul}
+use native.Mathlib.Nat.{zero-add, add-mul, one-mul, mul-le-mul}
 use lib.ListN.{length, getD, set, length-append}
 use lib.Dec.{eqb, ltb, leb}
-use borrow.Author.Tests.{le-leb, lt-leb, lt-ltb, le-ltb, eq-eqb, ne-eqb, eqb-true, not-true, not-false}
+use borrow.Author.Tests.{le-leb, lt-leb, lt-ltb, le-ltb, eqb-true, not-false}
 use Rattle.meaning.specs.Lists.{count, every, each, all, any, length-count}
 use Rattle.meaning.specs.Layout.{granules, field, hit, isSlot, granuleSectors, mostBlocks}
-use Rattle.meaning.specs.Entries.{runs, runsFrom, block, second, firstUnit, runStart, runLength, runGranules, entryGranules, marker, link}
+use Rattle.meaning.specs.Entries.{runs, runsFrom, block, second, runStart, runLength, runGranules, entryGranules, marker, link}
 use Rattle.meaning.specs.Chain.{chainFrom}
 use Rattle.meaning.specs.Consistent.{pairsHold, runsHold}
 use Rattle.meaning.specs.declared.Geometry.{Geometry}
-use Rattle.layout.specs.Room.{Room, Slot}
-use Rattle.layout.proofs.Laws.{left-more, left-none, runs-more, runs-none, below}
-use Rattle.layout.proofs.Lists.{and-l, and-r, all-at, all-yes, all-no, all-one, all-none, any-skip, every-count, is-no, is-yes, any-one}
+use Rattle.layout.specs.Room.{Room}
+use Rattle.layout.proofs.Laws.{left-more, runs-more, runs-none}
+use Rattle.layout.proofs.Lists.{and-l, and-r, all-at, all-yes, all-no, all-one, all-none, any-skip, every-count, is-no, is-yes, any-one, not-both, on, off, all-out}
 use Rattle.marks.specs.Marks.{marked, allows, Marks}
 use Rattle.marks.proofs.Laws.{marked-append, allows-append}
 use Rattle.laws.specs.Members
-use Rattle.walk.specs.Walk.{Place, TakesRun, RunTaken, runHolds, unused, entryFits, Entered, Walked, goesOn, markerHolds, chainHolds, onward, granulesOf}
+use Rattle.walk.specs.Walk.{TakesRun, runHolds, unused, entryFits, Entered, Walked, goesOn, markerHolds, chainHolds, onward, granulesOf}
 use Rattle.walk.specs.declared.Pairs.{Pairs}
-use Rattle.walk.proofs.Lists.{not-both, on, off, all-out, all-four, every-append, every-alike, every-true, count-cut, each-snoc, every-snoc}
+use Rattle.walk.proofs.Lists.{all-four, every-append, every-alike, every-true, count-cut, each-snoc, every-snoc}
 
 -- A run ------------------------------------------------------------------------------------------------------------------
 

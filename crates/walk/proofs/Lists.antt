@@ -1,35 +1,17 @@
 -- Tests over a range of places, and what a failed test says of a list of them.
 use mathlib.Core.Path.{_≡_, refl, sym, ap, _∙_}
 use mathlib.Core.List.{List, [], _∷_, _++_}
-use mathlib.Core.Bool.{Bool, true, false, not, cond, _&&_, _||_, and-assoc, and-true, true≢false}
-use Prim.Native.Nat.{ℕ, zero, suc, _+_, _-_, _*_, _≤_, _<_}
+use mathlib.Core.Bool.{Bool, true, _&&_, _||_, and-assoc, and-true}
+use Prim.Native.Nat.{ℕ, zero, suc, _+_, _-_, _≤_, _<_}
 use native.Mathlib.Omega.{arith}
 use native.Mathlib.Numerals.{add-one}
-use native.Mathlib.Nat.{zero-add, add-zero}
-use lib.ListN.{getD}
-use lib.Dec.{eqb, ltb}
-use borrow.Author.Tests.{eq-eqb, ne-eqb, lt-ltb}
+use native.Mathlib.Nat.{zero-add}
+use lib.Dec.{ltb}
+use borrow.Author.Tests.{lt-ltb}
 use Rattle.meaning.specs.Lists.{count, every, each, all}
-use Rattle.layout.proofs.Lists.{all-at, count-append}
+use Rattle.layout.proofs.Lists.{count-append}
 use Rattle.marks.proofs.Laws.{count-none}
 use Rattle.laws.specs.Members
-
-pub not-both : {A : Type 0} {b : Bool} → b ≡ true → b ≡ false → A
-not-both t f = absurd (true≢false (sym t ∙ f))
-
--- what a test of a number that was read says of what it was read from
-pub on : {r b k : ℕ} → r ≡ b → r ≡ k → eqb b k ≡ true
-on {r} {b} {k} e t = eq-eqb b k (sym e ∙ t)
-
-pub off : {r b k : ℕ} → r ≡ b → (r ≡ k → ⊥) → eqb b k ≡ false
-off {r} {b} {k} e t = ne-eqb b k (λ q. t (e ∙ q))
-
-pub all-out : (bs : List Bool) (k : ℕ) → getD bs k true ≡ false → all bs ≡ false
-all-out bs k h = by (all bs) refl
-  where
-    by : (t : Bool) → all bs ≡ t → all bs ≡ false
-    by true e = not-both (all-at bs e k) h
-    by false e = e
 
 pub all-four : {a a′ b b′ c c′ e e′ : Bool} → a ≡ a′ → b ≡ b′ → c ≡ c′ → e ≡ e′ → all (a ∷ b ∷ c ∷ e ∷ []) ≡ all (a′ ∷ b′ ∷ c′ ∷ e′ ∷ [])
 all-four p q r s = rw (p, q, r, s)

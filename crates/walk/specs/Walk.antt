@@ -1,17 +1,16 @@
 -- What the walk along a chain tests, and what it leaves in the maps.
 use mathlib.Core.Path.{_≡_}
 use mathlib.Core.Bool.{Bool, true, false, not, cond}
-use mathlib.Core.List.{List, [], _∷_, _++_}
-use Prim.Native.Nat.{ℕ, zero, suc, _+_, _-_, _*_, _<_, _≤_}
+use mathlib.Core.List.{List, [], _∷_}
+use Prim.Native.Nat.{ℕ, zero, suc, _+_, _*_, _≤_}
 use lib.Dec.{eqb, ltb, leb}
 use lib.ListN.{length}
-use Rattle.meaning.specs.Lists.{count, every, each, all, any}
+use Rattle.meaning.specs.Lists.{each, all, any}
 use Rattle.meaning.specs.Layout.{granules, field, hit, isSlot, entryAt, granuleSectors}
 use Rattle.meaning.specs.Entries.{runs, block, firstUnit, runStart, runLength, runGranules, entryGranules, marker, link}
-use Rattle.meaning.specs.Chain.{chainFrom}
 use Rattle.meaning.specs.Consistent.{pairsHold, runsHold}
 use Rattle.meaning.specs.declared.Geometry.{Geometry}
-use Rattle.layout.specs.Room.{Room, Slot}
+use Rattle.layout.specs.Room.{Slot}
 use Rattle.marks.specs.Marks.{marked, allows}
 use Rattle.walk.specs.declared.Pairs.{Pairs}
 

@@ -5,7 +5,7 @@ ghost use Prim.Native.Nat.{_+_, _-_, _*_, _<_, _≤_};
 ghost use mathlib.Core.Bool.{true, _||_};
 ghost use lib.Dec.{ltb};
 ghost use Rattle.meaning.specs.Lists.{count, every};
-ghost use Rattle.meaning.specs.Layout.{field, entryAt};
+ghost use Rattle.meaning.specs.Layout.{field};
 ghost use Rattle.meaning.specs.Entries.{link, marker};
 ghost use Rattle.meaning.specs.Chain.{chainFrom};
 ghost use Rattle.layout.specs.Room.{Room, Slot, Read};

@@ -1,15 +1,14 @@
 -- What a write answers and leaves: refused by its handle, refused by the growth, accepted.
-use mathlib.Core.Path.{_≡_, refl, sym, ap, _∙_, subst}
-use mathlib.Core.Logic.{_⊎_, inl, inr, ⊎-elim}
+use mathlib.Core.Path.{_≡_, refl, sym, ap, _∙_}
 use mathlib.Core.List.{List, [], _∷_}
-use mathlib.Core.Bool.{Bool, true, false, cond}
-use Prim.Native.Nat.{ℕ, _+_, _-_, _*_, _/_, _≤_, _<_, max}
+use mathlib.Core.Bool.{Bool, true, cond}
+use Prim.Native.Nat.{ℕ, _+_, _-_, _*_, _≤_, max}
 use native.Mathlib.Omega.{arith}
 use lib.ListN.{length, replicate, take, set, length-set}
 use lib.Dec.{leb}
 use borrow.Author.Tests.{ne-eqb, leb-true}
 use Rattle.meaning.specs.Lists.{all}
-use Rattle.meaning.specs.Layout.{highest, granulesFor, granules, entryAt, granuleBytes}
+use Rattle.meaning.specs.Layout.{highest, granulesFor, entryAt, granuleBytes}
 use Rattle.meaning.specs.Entries.{sizeOf}
 use Rattle.meaning.specs.Chain.{owned, place}
 use Rattle.meaning.specs.Refusals.{first, accepted, inRange, movedTo, handleRefusals, protected, cannotGrow, larger, lacking}
@@ -20,13 +19,12 @@ use Rattle.meaning.specs.declared.Answer.{Answer}
 use Rattle.meaning.specs.declared.Mode.{Mode}
 use Rattle.meaning.specs.declared.Mode.the-variants.{Sequential, Random}
 use Rattle.laws.specs.Steps.{Ready}
-use Rattle.layout.specs.Room.{Room, Slot}
 use Rattle.layout.proofs.Lists.{all-at}
 use Rattle.layout.proofs.Sound.{slot-of}
 use Rattle.handle.proofs.Laws.{handle-stop, handle-then, passed, ranges, length-range}
 use Rattle.joint.proofs.Ready.{walks}
 use Rattle.read.specs.Part.{File, Owned}
-use Rattle.growth.proofs.Grown.{More, larger-ready, owned-most}
+use Rattle.growth.proofs.Grown.{larger-ready, owned-most}
 use Rattle.write.specs.Apart.{Apart}
 use Rattle.write.proofs.Apart.{is-apart}
 use Rattle.laws.specs.Rewrite.{after-end}
@@ -150,7 +148,7 @@ module _ (g : Geometry) (d : List ℕ) (m : Mode) (h : Handle) (b : List ℕ) {r
       let rm = a .0 .room in let rd = rm .directory in let rl = rm .whole in let rmost = rm .most in let l₀ = sl .low in let l₁ = sl .held in
       record {
         file = record { sound = a .0; used = a .1 };
-        apart = is-apart g d₁ (w .ready .fits) (w .ready .sound) p sl (w .ready .first) (w .ready .user);
+        apart = is-apart g d₁ p (w .ready);
         owns = record { some = o; owned = omega arith; high = omega arith };
         old = omega arith;
         high = omega arith;

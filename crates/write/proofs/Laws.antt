@@ -1,12 +1,12 @@
 -- A store by parts.
 use mathlib.Core.Path.{_≡_, refl, sym, ap, _∙_}
 use mathlib.Core.List.{List, [], _∷_, _++_}
-use Prim.Native.Nat.{ℕ, zero, suc, _+_, _-_, _*_, _/_, _%_, _≤_, _<_}
+use Prim.Native.Nat.{ℕ, suc, _+_, _-_, _*_, _/_, _≤_, _<_}
 use native.Mathlib.Omega.{arith}
-use native.Mathlib.Nat.{zero-add, add-zero}
+use native.Mathlib.Nat.{add-zero}
 use native.Mathlib.Numerals.{add-one}
-use lib.ListN.{length, getD, take, drop, set, length-drop, replicate, length-replicate, replicate-append-replicate}
-use lib.Seq.{sets, take-add, length-take-le, length-sets}
+use lib.ListN.{length, take, drop, set, length-drop, replicate, length-replicate, replicate-append-replicate}
+use lib.Seq.{sets, take-add, length-take-le}
 use Rattle.meaning.specs.Chain.{place}
 use Rattle.meaning.specs.Write.{store}
 use Rattle.meaning.specs.declared.Geometry.{Geometry}
@@ -14,11 +14,10 @@ use mathlib.Core.Logic.{⊎-elim, _⊎_, inl, inr}
 use Rattle.meaning.specs.Layout.{directorySectors, granuleBytes}
 use Rattle.meaning.specs.Chain.{owned}
 use Rattle.layout.specs.Room.{Room}
-use Rattle.seek.specs.Seek.{Sound, Used}
 use Rattle.seek.proofs.Frame.{Same, same-refl, same-trans, same-before, same-behind, same-sectors, same-place, same-room, same-sound, same-used, same-owned}
 use Rattle.write.specs.Apart.{Apart}
 use Rattle.read.specs.Part.{File, Owned, InGranule}
-use Rattle.read.proofs.Laws.{place-next, place-fits, owned-first, owned-second}
+use Rattle.read.proofs.Laws.{place-next}
 
 -- places that follow one another
 pub store-run : (f : ℕ → ℕ) (d : List ℕ) (i : ℕ) (bs : List ℕ) → ((t : ℕ) → t < length bs → f (i + t) ≡ f i + t) → store f d i bs ≡ sets d (f i) bs

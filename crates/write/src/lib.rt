@@ -106,8 +106,8 @@ fn grow_to(image: &mut [u8], g: Geometry, p: usize, old: usize, size: usize) -> 
     ensures { λ r. ⌜ (r ≡ first (cannotGrow g (now (image .entry)) p (lacking g (now (image .entry)) p (granulesFor size))))
         × (now (image .exit) ≡ cond (accepted r) (larger g (now (image .entry)) p (lacking g (now (image .entry)) p (granulesFor size))) (now (image .entry))) ⌝ }
 {
-    let wanted = growth::granules_for(size);
-    if wanted <= growth::granules_for(old) {
+    let wanted = extent::granules_for(size);
+    if wanted <= extent::granules_for(old) {
         return 0;
     }
     growth::grow(image, g, p, wanted)

@@ -1,26 +1,26 @@
 use Rattle.meaning.specs.Layout.{entryAt}
-use Rattle.bring_back.proofs.Call.{refused-plan, at-check, at-slot, at-use, at-system, at-whole, at-name, at-taken, at-none, name-used, name-free, name-is, name-ends, name-long, cut, taken-is}
-use Rattle.bring_back.proofs.Call.{refused-plan, at-check, at-slot, at-use, at-system, at-whole, at-name, at-taken, at-none, name-used, name-free, name-is, name-ends, taken-is}
+use Rattle.bring_back.proofs.Call.{refused-plan, at-check, at-slot, at-use, at-system, at-whole, at-name, at-taken, at-none, name-used, name-free, taken-is}
+use Rattle.entry.proofs.Laws.{name-is, name-ends, name-long, cut}
 use Rattle.handle.proofs.Laws.{checked, checked-room}
 use Rattle.layout.proofs.Sound.{slot-of}
 use Rattle.layout.proofs.Lists.{is-no, is-yes}
 use Rattle.meaning.specs.Names.{hash}
-use Prim.Native.Nat.{_+_, _-_, _*_, _/_, _%_}
+use Prim.Native.Nat.{_+_}
 use borrow.Author.Tests.{not-false}
 use native.Mathlib.Omega.{arith}
-use mathlib.Core.Path.{_≡_, sym, ap, _∙_}
+use mathlib.Core.Path.{sym, ap, _∙_}
 use borrow.Author.Needs.{needs}
 use Rattle.bring_back.proofs.plan.Statement.{statement}
 use Rattle.bring_back.proofs.plan.Tie as tie
 use Rattle.bring_back.proofs.plan.Reads as reads
 use Rattle.bring_back.proofs.plan.Lts as lts
-use Rattle.bring_back.proofs.any_taken.Reads as any-taken-reads
-use Rattle.bring_back.proofs.flag.Reads as flag-reads
+use Rattle.taken.proofs.any_taken.Reads as any-taken-reads
+use Rattle.entry.proofs.flag.Reads as flag-reads
 use Rattle.bring_back.proofs.refused.Reads as refused-reads
-use Rattle.bring_back.proofs.whole.Reads as whole-reads
+use Rattle.killed.proofs.whole.Reads as whole-reads
 use Rattle.find.proofs.find.Reads as find-reads
 use Rattle.layout.proofs.is_slot.Reads as is-slot-reads
-use Rattle.names.proofs.hash.Reads as hash-reads
+use Rattle.hash.proofs.hash.Reads as hash-reads
 
 -- src/lib.rt:350:9
 refused-requires : tie.Need-refused-requires

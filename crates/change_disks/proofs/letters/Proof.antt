@@ -1,6 +1,6 @@
 -- Nothing is to be kept from turn to turn.
 use borrow.Author.Needs.{needs}
-use Prim.Native.Nat.{ℕ, _-_}
+use Prim.Native.Nat.{_-_}
 use Rattle.change_disks.proofs.letters.Statement.{statement}
 use Rattle.change_disks.proofs.letters.Tie as tie
 

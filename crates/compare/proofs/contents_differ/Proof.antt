@@ -2,8 +2,7 @@ use borrow.Author.Tests.{eq-eqb, ne-eqb}
 use mathlib.Core.Bool.{not}
 use mathlib.Core.Path.{sym, ap, _∙_}
 use Rattle.layout.proofs.Lists.{all-no, all-yes, all-one}
-use Rattle.compare.specs.Walk.{contentsDiffer}
-use borrow.Author.Needs.{needs}
+use Rattle.compare.specs.Kind.{contentsDiffer}
 use Rattle.compare.proofs.contents_differ.Statement.{statement}
 use Rattle.compare.proofs.contents_differ.Tie as tie
 use Rattle.compare.proofs.contents_differ.Reads as reads

@@ -1,12 +1,11 @@
 use native.Mathlib.Omega.{arith}
 use mathlib.Core.Path.{sym, _∙_}
-use Rattle.compare.proofs.Attributes.{diff-first, diff-second, diff-system, diff-system-2, diff-unlike}
-use borrow.Author.Needs.{needs}
+use Rattle.compare.proofs.Under.{diff-first, diff-second, diff-system, diff-system-2, diff-unlike}
 use Rattle.compare.proofs.difference_at.Statement.{statement}
 use Rattle.compare.proofs.difference_at.Tie as tie
 use Rattle.compare.proofs.difference_at.Reads as reads
 use Rattle.compare.proofs.difference_at.Lts as lts
-use Rattle.compare.proofs.is_system.Reads as is-system-reads
+use Rattle.attributes.proofs.is_system.Reads as is-system-reads
 use Rattle.compare.proofs.name_only.Reads as name-only-reads
 use Rattle.compare.proofs.unlike.Reads as unlike-reads
 

@@ -1,7 +1,5 @@
-use mathlib.Core.Bool.{Bool, cond}
 use Rattle.meaning.specs.Lists.{any}
-use Rattle.compare.specs.Walk.{kindOf}
-use borrow.Author.Needs.{needs}
+use Rattle.compare.specs.Kind.{kindOf}
 use Rattle.compare.proofs.kind_of.Statement.{statement}
 use Rattle.compare.proofs.kind_of.Tie as tie
 use Rattle.compare.proofs.kind_of.Reads as reads

@@ -2,13 +2,13 @@ use Prim.Native.Nat.{ℕ}
 use mathlib.Core.List.{List}
 use mathlib.Core.Path.{ap, _∙_}
 use Rattle.differences.specs.Compare.{nameOnly}
-use Rattle.compare.proofs.Names.{placed-name}
+use Rattle.rising.proofs.Names.{placed-name}
 use borrow.Author.Needs.{needs}
 use Rattle.compare.proofs.name_only.Statement.{statement}
 use Rattle.compare.proofs.name_only.Tie as tie
 use Rattle.compare.proofs.name_only.Reads as reads
 use Rattle.compare.proofs.name_only.Lts as lts
-use Rattle.compare.proofs.name_place.Reads as name-place-reads
+use Rattle.rising.proofs.name_place.Reads as name-place-reads
 use Rattle.find.proofs.name_at.Reads as name-at-reads
 
 -- src/lib.rt:312:9

@@ -1,8 +1,7 @@
 use Rattle.differences.specs.Told.{difference-name}
-use native.Mathlib.Omega.{arith}
 use Prim.Native.Nat.{_-_}
 use mathlib.Core.Logic.{⊎-elim}
-use mathlib.Core.Path.{_≡_, ap, sym, _∙_}
+use mathlib.Core.Path.{ap, _∙_}
 use Rattle.differences.specs.declared.Difference.{Difference}
 use Rattle.compare.proofs.Telling.{name-sized, Going, going-start, going-no, going-here, going-more, going-end, going-out, going-same, stands-there, is-one, is-none}
 use borrow.Author.Needs.{needs}
@@ -11,7 +10,7 @@ use Rattle.compare.proofs.told.Tie as tie
 use Rattle.compare.proofs.told.Reads as reads
 use Rattle.compare.proofs.told.Lts as lts
 use Rattle.compare.proofs.difference_at.Reads as difference-at-reads
-use Rattle.compare.proofs.next_pair.Reads as next-pair-reads
+use Rattle.rising.proofs.next_pair.Reads as next-pair-reads
 use Rattle.compare.proofs.tells_none.Reads as tells-none-reads
 
 abbrev Inv-loop : tie.InvT-loop

@@ -1,17 +1,17 @@
 use mathlib.Core.Path.{refl, _∙_}
-use Rattle.compare.proofs.Attributes.{unlike-is}
-use Rattle.compare.proofs.Names.{placed-name}
+use Rattle.compare.proofs.Under.{unlike-is}
+use Rattle.rising.proofs.Names.{placed-name}
 use borrow.Author.Needs.{needs}
 use Rattle.compare.proofs.unlike.Statement.{statement}
 use Rattle.compare.proofs.unlike.Tie as tie
 use Rattle.compare.proofs.unlike.Reads as reads
 use Rattle.compare.proofs.unlike.Lts as lts
 use Rattle.compare.proofs.contents_differ.Reads as contents-differ-reads
-use Rattle.compare.proofs.dates_differ.Reads as dates-differ-reads
+use Rattle.attributes.proofs.dates_differ.Reads as dates-differ-reads
 use Rattle.compare.proofs.kind_of.Reads as kind-of-reads
-use Rattle.compare.proofs.name_place.Reads as name-place-reads
-use Rattle.compare.proofs.others_differ.Reads as others-differ-reads
-use Rattle.compare.proofs.parting_at.Reads as parting-at-reads
+use Rattle.rising.proofs.name_place.Reads as name-place-reads
+use Rattle.attributes.proofs.others_differ.Reads as others-differ-reads
+use Rattle.parting.proofs.parting_at.Reads as parting-at-reads
 use Rattle.find.proofs.name_at.Reads as name-at-reads
 use Rattle.layout.proofs.size_of.Reads as size-of-reads
 

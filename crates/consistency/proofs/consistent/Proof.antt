@@ -1,9 +1,4 @@
-use native.Mathlib.Omega.{arith}
-use mathlib.Core.Path.{_≡_, refl, sym, ap, _∙_}
-use Prim.Native.Nat.{ℕ, _<_}
-use lib.ListN.{getD}
 use borrow.Author.Tests.{not-true, not-false}
-use Rattle.layout.specs.Room.{Room}
 use Rattle.layout.proofs.Lists.{is-no, is-yes}
 use Rattle.consistency.proofs.Laws.{room-of}
 use Rattle.consistency.proofs.Whole.{no-length, no-directory, way-slots, way-met, way-hashed, way-names}
@@ -12,8 +7,8 @@ use Rattle.consistency.proofs.consistent.Statement.{statement}
 use Rattle.consistency.proofs.consistent.Tie as tie
 use Rattle.consistency.proofs.consistent.Reads as reads
 use Rattle.consistency.proofs.consistent.Lts as lts
-use Rattle.consistency.proofs.all_met.Reads as all-met-reads
-use Rattle.consistency.proofs.copy_hit.Reads as copy-hit-reads
+use Rattle.entries_met.proofs.all_met.Reads as all-met-reads
+use Rattle.entries_met.proofs.copy_hit.Reads as copy-hit-reads
 use Rattle.consistency.proofs.directory_bits.Reads as directory-bits-reads
 use Rattle.consistency.proofs.directory_from.Reads as directory-from-reads
 use Rattle.consistency.proofs.length_holds.Reads as length-holds-reads

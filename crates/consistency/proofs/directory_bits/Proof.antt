@@ -1,7 +1,4 @@
 use Rattle.consistency.proofs.Directory.{directory-on-map}
-use Rattle.meaning.specs.Layout.{granuleSectors}
-use mathlib.Core.Path.{subst}
-use Prim.Native.Nat.{ℕ, _/_}
 use native.Mathlib.Omega.{arith}
 use borrow.Author.Needs.{needs}
 use Rattle.consistency.proofs.directory_bits.Statement.{statement}

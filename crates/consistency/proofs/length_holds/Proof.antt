@@ -1,4 +1,3 @@
-use native.Mathlib.Omega.{arith}
 use Rattle.consistency.proofs.Laws.{length-far, length-odd, length-rest}
 use borrow.Author.Needs.{needs}
 use Rattle.consistency.proofs.length_holds.Statement.{statement}

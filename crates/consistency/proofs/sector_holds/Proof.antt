@@ -1,8 +1,7 @@
-use mathlib.Core.Path.{_≡_, refl, sym, ap, _∙_}
-use mathlib.Core.List.{List, [], _∷_}
-use Prim.Native.Nat.{ℕ, _+_, _-_, _*_, _/_, _%_, _≤_}
+use mathlib.Core.Path.{_≡_}
+use mathlib.Core.List.{[], _∷_}
+use Prim.Native.Nat.{_+_, _-_, _*_, _/_, _%_}
 use borrow.Author.Tests.{not-true, not-false}
-use Rattle.meaning.specs.Layout.{entryAt}
 use Rattle.consistency.specs.Slots.{sectorSlots}
 use Rattle.consistency.proofs.Laws.{Seeing, seeing-start, seeing-as, seeing-step, seeing-stop, seeing-end, columnFrom, column-are, column-more, column-none}
 use borrow.Author.Needs.{needs}
@@ -12,7 +11,7 @@ use Rattle.consistency.proofs.sector_holds.Statement.{statement}
 use Rattle.consistency.proofs.sector_holds.Tie as tie
 use Rattle.consistency.proofs.sector_holds.Reads as reads
 use Rattle.consistency.proofs.sector_holds.Lts as lts
-use Rattle.consistency.proofs.slot_holds.Reads as slot-holds-reads
+use Rattle.one_file.proofs.slot_holds.Reads as slot-holds-reads
 
 abbrev Inv-loop : tie.InvT-loop
 Inv-loop image g column map₀ met₀ from bits at₀ s₀ map met at s = Seeing g image (standing g image map₀) met₀ (sectorSlots column) (standing g image map) met (columnFrom s) × (at ≡ 256 * (g .start + 2 + column) + 32 * (s / 32)) × (s % 32 ≡ column)

@@ -1,5 +1,4 @@
-use mathlib.Core.Path.{_≡_, refl, sym, ap, _∙_}
-use Prim.Native.Nat.{ℕ, _+_, _-_, _*_, _≤_}
+use Prim.Native.Nat.{_-_}
 use borrow.Author.Tests.{not-true, not-false}
 use Rattle.consistency.specs.Slots.{sectorSlots, diskSlots}
 use Rattle.consistency.proofs.Laws.{Seeing, seeing-start, seeing-as, seeing-step, seeing-stop, seeing-end, sectorsFrom, sectors-are, sectors-more, sectors-none}

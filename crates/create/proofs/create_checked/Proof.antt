@@ -4,8 +4,6 @@ use Rattle.layout.proofs.Laws.{well-length}
 use Rattle.find.proofs.Laws.{finds-none, finds-one}
 use Rattle.handle.proofs.Laws.{checked, checked-room}
 use Rattle.layout.proofs.Lists.{is-yes, is-no, not-yes, not-no}
-use borrow.Author.Tests.{not-true, not-false}
-use mathlib.Core.Path.{_≡_, sym, ap, _∙_}
 use native.Mathlib.Omega.{arith}
 use borrow.Author.Needs.{needs}
 use Rattle.create.proofs.create_checked.Statement.{statement}
@@ -19,7 +17,7 @@ use Rattle.find.proofs.admits.Reads as admits-reads
 use Rattle.find.proofs.find.Reads as find-reads
 use Rattle.find.proofs.name_array.Reads as name-array-reads
 use Rattle.find.proofs.opened_at.Reads as opened-at-reads
-use Rattle.find.proofs.well_formed.Reads as well-formed-reads
+use Rattle.spelling.proofs.well_formed.Reads as well-formed-reads
 use Rattle.space.proofs.first_free_slot.Reads as first-free-slot-reads
 
 -- src/lib.rt:89:9

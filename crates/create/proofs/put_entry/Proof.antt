@@ -1,7 +1,7 @@
 use Rattle.create.proofs.Laws.{ranges, entry-put}
 use lib.Seq.{length-sets}
 use lib.ListN.{length, length-set}
-use mathlib.Core.Path.{_≡_, sym, ap, _∙_}
+use mathlib.Core.Path.{_≡_, ap, _∙_}
 use native.Mathlib.Omega.{arith}
 use borrow.Author.Needs.{needs}
 use Rattle.create.proofs.put_entry.Statement.{statement}
@@ -9,7 +9,7 @@ use Rattle.create.proofs.put_entry.Tie as tie
 use Rattle.create.proofs.put_entry.Reads as reads
 use Rattle.create.proofs.put_entry.Lts as lts
 use Rattle.copy.proofs.put_part.Reads as put-part-reads
-use Rattle.names.proofs.hash.Reads as hash-reads
+use Rattle.hash.proofs.hash.Reads as hash-reads
 
 -- src/lib.rt:38:21
 add-at : tie.Need-add-at

@@ -1,6 +1,5 @@
 use Rattle.meaning.specs.declared.Created.{Created}
 use Rattle.meaning.specs.declared.Handle.{Handle}
-use Prim.Native.Nat.{ℕ}
 use mathlib.Core.Bool.{false}
 use mathlib.Core.Path.{ap}
 use borrow.Author.Needs.{needs}

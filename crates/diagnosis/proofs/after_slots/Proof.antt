@@ -1,5 +1,4 @@
 use native.Mathlib.Omega.{arith}
-use mathlib.Core.Path.{_≡_, sym, ap, _∙_}
 use Rattle.layout.proofs.Lists.{is-no, is-yes}
 use Rattle.diagnosis.proofs.Laws.{clear-no, clear-yes}
 use borrow.Author.Needs.{needs}

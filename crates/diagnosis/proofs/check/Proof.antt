@@ -1,9 +1,8 @@
-use mathlib.Core.Path.{_≡_, sym, ap, _∙_}
+use mathlib.Core.Path.{_∙_}
 use Rattle.layout.proofs.Lists.{is-no, is-yes}
 use Rattle.consistency.proofs.Laws.{fits}
 use Rattle.kinds.proofs.Laws.{so}
 use Rattle.diagnosis.proofs.Laws.{told-one, told-none, told-fault}
-use native.Mathlib.Omega.{arith}
 use borrow.Author.Needs.{needs}
 use Rattle.diagnosis.proofs.check.Statement.{statement}
 use Rattle.diagnosis.proofs.check.Tie as tie

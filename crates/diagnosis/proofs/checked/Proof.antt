@@ -1,8 +1,7 @@
-use mathlib.Core.Path.{_≡_, ap, _∙_}
+use mathlib.Core.Path.{ap, _∙_}
 use Prim.Native.Nat.{ℕ}
 use Rattle.meaning.specs.declared.Fault.{Fault}
 use Rattle.diagnosis.proofs.Laws.{told-number}
-use native.Mathlib.Omega.{arith}
 use borrow.Author.Needs.{needs}
 use Rattle.diagnosis.proofs.checked.Statement.{statement}
 use Rattle.diagnosis.proofs.checked.Tie as tie

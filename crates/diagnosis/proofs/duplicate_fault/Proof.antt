@@ -1,8 +1,7 @@
-use mathlib.Core.Path.{_≡_, sym, ap, _∙_}
+use mathlib.Core.Path.{sym, _∙_}
 use Rattle.meaning.specs.Fault.{duplicateFault}
 use Rattle.layout.proofs.Lists.{all-no, all-yes, all-one, is-no, is-yes}
 use Rattle.diagnosis.proofs.Laws.{below-is}
-use native.Mathlib.Omega.{arith}
 use borrow.Author.Needs.{needs}
 use Rattle.diagnosis.proofs.duplicate_fault.Statement.{statement}
 use Rattle.diagnosis.proofs.duplicate_fault.Tie as tie

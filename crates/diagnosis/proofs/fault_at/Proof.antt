@@ -1,8 +1,7 @@
-use mathlib.Core.Path.{_≡_, sym, _∙_}
+use mathlib.Core.Path.{sym, _∙_}
 use Rattle.meaning.specs.Fault.{faultAt}
 use Rattle.layout.proofs.Lists.{first-hit, first-skip, first-none}
 use Rattle.kinds.proofs.Laws.{so, not-so}
-use native.Mathlib.Omega.{arith}
 use borrow.Author.Needs.{needs}
 use Rattle.diagnosis.proofs.fault_at.Statement.{statement}
 use Rattle.diagnosis.proofs.fault_at.Tie as tie

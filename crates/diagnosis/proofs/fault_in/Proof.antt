@@ -2,7 +2,6 @@ use mathlib.Core.Path.{_∙_}
 use Rattle.layout.proofs.Lists.{is-no, is-yes}
 use Rattle.layout.proofs.Sound.{slot-of}
 use Rattle.diagnosis.proofs.Laws.{none-in, one-in}
-use native.Mathlib.Omega.{arith}
 use borrow.Author.Needs.{needs}
 use Rattle.diagnosis.proofs.fault_in.Statement.{statement}
 use Rattle.diagnosis.proofs.fault_in.Tie as tie

@@ -1,8 +1,7 @@
-use mathlib.Core.Path.{_≡_, sym, ap, _∙_}
+use mathlib.Core.Path.{_∙_}
 use Rattle.layout.proofs.Lists.{is-no, is-yes}
 use Rattle.consistency.proofs.Laws.{room-of}
 use Rattle.diagnosis.proofs.Laws.{length-no, length-yes}
-use native.Mathlib.Omega.{arith}
 use borrow.Author.Needs.{needs}
 use Rattle.diagnosis.proofs.fault_of.Statement.{statement}
 use Rattle.diagnosis.proofs.fault_of.Tie as tie

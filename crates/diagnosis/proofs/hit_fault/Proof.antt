@@ -1,8 +1,7 @@
-use mathlib.Core.Path.{_≡_, sym, ap, _∙_}
+use mathlib.Core.Path.{sym, _∙_}
 use Rattle.meaning.specs.Fault.{hitFault}
 use Rattle.layout.proofs.Lists.{all-no, all-yes, all-one, is-no, is-yes, not-no, not-yes, any-skip}
 use Rattle.kinds.proofs.Laws.{any-yes, any-one}
-use native.Mathlib.Omega.{arith}
 use borrow.Author.Needs.{needs}
 use Rattle.diagnosis.proofs.hit_fault.Statement.{statement}
 use Rattle.diagnosis.proofs.hit_fault.Tie as tie

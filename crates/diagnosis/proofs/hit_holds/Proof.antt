@@ -1,11 +1,9 @@
-use mathlib.Core.Path.{_≡_, sym, ap, _∙_}
-use mathlib.Core.Bool.{Bool, not, Bool·beq}
-use lib.Dec.{eqb}
+use mathlib.Core.Path.{ap, _∙_}
+use mathlib.Core.Bool.{not}
 use Rattle.meaning.specs.Layout.{hit}
 use Rattle.meaning.specs.Consistent.{hitHolds}
-use Rattle.kinds.proofs.Laws.{on, off}
+use Rattle.layout.proofs.Lists.{on, off}
 use Rattle.diagnosis.proofs.Laws.{beq-off, beq-on}
-use native.Mathlib.Omega.{arith}
 use borrow.Author.Needs.{needs}
 use Rattle.diagnosis.proofs.hit_holds.Statement.{statement}
 use Rattle.diagnosis.proofs.hit_holds.Tie as tie

@@ -1,8 +1,7 @@
-use mathlib.Core.Path.{_≡_, sym, ap, _∙_}
+use mathlib.Core.Path.{sym, ap, _∙_}
 use mathlib.Core.Bool.{not}
 use Rattle.meaning.specs.Fault.{nameFault}
 use Rattle.layout.proofs.Lists.{all-no, all-yes, all-one, is-no, is-yes}
-use native.Mathlib.Omega.{arith}
 use borrow.Author.Needs.{needs}
 use Rattle.diagnosis.proofs.name_fault.Statement.{statement}
 use Rattle.diagnosis.proofs.name_fault.Tie as tie

@@ -5,8 +5,8 @@ use Rattle.layout.proofs.Sound.{slot-of}
 use Rattle.layout.proofs.Lists.{all-no, all-yes, all-one, is-no, is-yes}
 use Rattle.meaning.specs.Layout.{entryAt}
 use native.Mathlib.Omega.{arith}
-use Prim.Native.Nat.{ℕ, _+_, _-_}
-use mathlib.Core.Path.{_≡_, sym, ap, _∙_}
+use Prim.Native.Nat.{_+_, _-_}
+use mathlib.Core.Path.{_≡_, sym, _∙_}
 use Rattle.diagnosis.proofs.same_file.Statement.{statement}
 use Rattle.diagnosis.proofs.same_file.Tie as tie
 

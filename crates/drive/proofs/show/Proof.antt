@@ -1,6 +1,6 @@
 -- A loop that only writes: nothing is to be kept from turn to turn.
 use borrow.Author.Needs.{needs}
-use Prim.Native.Nat.{ℕ, _-_}
+use Prim.Native.Nat.{_-_}
 use lib.ListN.{length}
 use Rattle.drive.proofs.show.Statement.{statement}
 use Rattle.drive.proofs.show.Tie as tie

@@ -1,7 +1,6 @@
 use Rattle.layout.proofs.Lists.{any-skip, any-hit, any-one}
 use Rattle.meaning.specs.Open.{admits}
 use lib.Dec.{eqb}
-use Prim.Native.Nat.{ℕ}
 use mathlib.Core.Path.{sym, ap, _∙_}
 use borrow.Author.Needs.{needs}
 use Rattle.find.proofs.admits.Statement.{statement}

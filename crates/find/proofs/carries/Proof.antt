@@ -1,10 +1,8 @@
-use Rattle.layout.proofs.Lists.{all-yes, all-no, all-none, all-one}
+use Rattle.layout.proofs.Lists.{all-yes, all-no, all-one}
 use native.Mathlib.Omega.{arith}
 use mathlib.Core.Path.{sym, _∙_}
-use mathlib.Core.Bool.{and-true}
-use Rattle.meaning.specs.Lists.{all}
 use Rattle.layout.proofs.Lists.{is-no, is-yes}
-use Rattle.layout.proofs.Lists.{all-yes, all-no, all-none}
+use Rattle.layout.proofs.Lists.{all-yes, all-no}
 use Rattle.layout.proofs.Laws.{name-at}
 use Rattle.meaning.specs.LookUp.{carries}
 use borrow.Author.Needs.{needs}

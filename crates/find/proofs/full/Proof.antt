@@ -2,7 +2,6 @@ use Rattle.layout.proofs.Lists.{any-skip, any-hit, any-one}
 use Rattle.meaning.specs.Open.{full}
 use borrow.Author.Tests.{eq-eqb, ne-eqb}
 use lib.Dec.{eqb}
-use Prim.Native.Nat.{ℕ}
 use mathlib.Core.Path.{sym, ap, _∙_}
 use borrow.Author.Needs.{needs}
 use Rattle.find.proofs.full.Statement.{statement}

@@ -3,7 +3,7 @@ use Rattle.layout.proofs.Laws.{well-length}
 use Rattle.handle.proofs.Laws.{checked, checked-room, check-then}
 use Rattle.layout.proofs.Lists.{first-hit, first-skip, first-none, is-no, is-yes, not-no, not-yes}
 use Rattle.meaning.specs.Lists.{firstOr}
-use mathlib.Core.Path.{_≡_, refl, ap, sym, _∙_}
+use mathlib.Core.Path.{refl, ap, sym, _∙_}
 use lib.ListN.{length}
 use lib.Dec.{eqb}
 use Prim.Native.Nat.{ℕ}
@@ -14,7 +14,7 @@ use Rattle.find.proofs.look_up_checked.Tie as tie
 use Rattle.find.proofs.look_up_checked.Reads as reads
 use Rattle.find.proofs.look_up_checked.Lts as lts
 use Rattle.find.proofs.find.Reads as find-reads
-use Rattle.find.proofs.well_formed.Reads as well-formed-reads
+use Rattle.spelling.proofs.well_formed.Reads as well-formed-reads
 
 -- src/lib.rt:154:9
 returns : tie.Need-returns

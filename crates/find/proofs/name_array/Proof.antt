@@ -1,5 +1,5 @@
 use lib.Seq.{take-all}
-use mathlib.Core.Path.{sym, _∙_}
+use mathlib.Core.Path.{_∙_}
 use native.Mathlib.Omega.{arith}
 use borrow.Author.Needs.{needs}
 use Rattle.find.proofs.name_array.Statement.{statement}

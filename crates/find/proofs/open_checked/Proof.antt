@@ -4,7 +4,7 @@ use Rattle.layout.proofs.Laws.{well-length}
 use Rattle.handle.proofs.Laws.{checked, checked-room, check-stop, check-then}
 use Rattle.layout.proofs.Lists.{first-hit, first-skip, first-none, is-no, is-yes, not-no, not-yes}
 use borrow.Author.Tests.{not-false}
-use mathlib.Core.Path.{_≡_, refl, ap, sym, _∙_}
+use mathlib.Core.Path.{ap, sym, _∙_}
 use lib.ListN.{length}
 use lib.Dec.{eqb}
 use Prim.Native.Nat.{ℕ}
@@ -20,7 +20,7 @@ use Rattle.find.proofs.find.Reads as find-reads
 use Rattle.handle.proofs.good_length.Reads as good-length-reads
 use Rattle.find.proofs.no_handle.Reads as no-handle-reads
 use Rattle.find.proofs.opened_at.Reads as opened-at-reads
-use Rattle.find.proofs.well_formed.Reads as well-formed-reads
+use Rattle.spelling.proofs.well_formed.Reads as well-formed-reads
 
 -- src/lib.rt:280:21
 no-handle-requires : tie.Need-no-handle-requires

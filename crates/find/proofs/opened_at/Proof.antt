@@ -1,7 +1,7 @@
 use Rattle.find.proofs.Open.{opened, level-full, level-stored}
 use Rattle.layout.proofs.Lists.{is-no, is-yes}
 use Prim.Native.Nat.{ℕ, _%_}
-use mathlib.Core.Path.{sym, ap, _∙_}
+use mathlib.Core.Path.{ap, _∙_}
 use mathlib.Core.Logic.{⊎-elim}
 use borrow.Author.Needs.{needs}
 use Rattle.find.proofs.opened_at.Statement.{statement}

@@ -8,7 +8,7 @@ use Rattle.genie.proofs.genie_bring_back.Tie as tie
 use Rattle.genie.proofs.genie_bring_back.Reads as reads
 use Rattle.genie.proofs.genie_bring_back.Lts as lts
 use Rattle.calls.proofs.bring_back.Reads as bring-back-reads
-use Rattle.genie.proofs.slot_of.Reads as slot-of-reads
+use Rattle.refusal.proofs.slot_of.Reads as slot-of-reads
 
 -- src/lib.rt:447:9
 bring-back-requires : tie.Need-bring-back-requires

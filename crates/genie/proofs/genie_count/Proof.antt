@@ -6,7 +6,7 @@ use Rattle.genie.proofs.genie_count.Tie as tie
 use Rattle.genie.proofs.genie_count.Reads as reads
 use Rattle.genie.proofs.genie_count.Lts as lts
 use Rattle.calls.proofs.counts.Reads as counts-reads
-use Rattle.genie.proofs.slot_of.Reads as slot-of-reads
+use Rattle.refusal.proofs.slot_of.Reads as slot-of-reads
 
 -- src/lib.rt:515:9
 counts-requires : tie.Need-counts-requires

@@ -11,10 +11,10 @@ use Rattle.genie.proofs.genie_create.Tie as tie
 use Rattle.genie.proofs.genie_create.Reads as reads
 use Rattle.genie.proofs.genie_create.Lts as lts
 use Rattle.calls.proofs.create.Reads as create-reads
-use Rattle.genie.proofs.put_handle.Reads as put-handle-reads
-use Rattle.genie.proofs.short_number.Reads as short-number-reads
-use Rattle.genie.proofs.slot_of.Reads as slot-of-reads
-use Rattle.genie.proofs.told.Reads as told-reads
+use Rattle.codec.proofs.put_handle.Reads as put-handle-reads
+use Rattle.refusal.proofs.short_number.Reads as short-number-reads
+use Rattle.refusal.proofs.slot_of.Reads as slot-of-reads
+use Rattle.codec.proofs.told.Reads as told-reads
 
 -- src/lib.rt:228:9
 short-number-requires : tie.Need-short-number-requires

@@ -8,9 +8,9 @@ use Rattle.genie.proofs.genie_list.Tie as tie
 use Rattle.genie.proofs.genie_list.Reads as reads
 use Rattle.genie.proofs.genie_list.Lts as lts
 use Rattle.calls.proofs.list.Reads as list-reads
-use Rattle.genie.proofs.put_name.Reads as put-name-reads
-use Rattle.genie.proofs.short_number.Reads as short-number-reads
-use Rattle.genie.proofs.slot_of.Reads as slot-of-reads
+use Rattle.codec.proofs.put_name.Reads as put-name-reads
+use Rattle.refusal.proofs.short_number.Reads as short-number-reads
+use Rattle.refusal.proofs.slot_of.Reads as slot-of-reads
 
 -- src/lib.rt:480:9
 short-number-requires : tie.Need-short-number-requires
@@ -56,3 +56,5 @@ genie-list-spec =
     put-name-requires
     same-length
     returns-3)
+
+-- x

@@ -6,7 +6,7 @@ use Rattle.genie.proofs.genie_look_up.Tie as tie
 use Rattle.genie.proofs.genie_look_up.Reads as reads
 use Rattle.genie.proofs.genie_look_up.Lts as lts
 use Rattle.calls.proofs.look_up.Reads as look-up-reads
-use Rattle.genie.proofs.slot_of.Reads as slot-of-reads
+use Rattle.refusal.proofs.slot_of.Reads as slot-of-reads
 
 -- src/lib.rt:161:9
 look-up-requires : tie.Need-look-up-requires

@@ -8,9 +8,9 @@ use Rattle.genie.proofs.genie_open.Tie as tie
 use Rattle.genie.proofs.genie_open.Reads as reads
 use Rattle.genie.proofs.genie_open.Lts as lts
 use Rattle.calls.proofs.open_file.Reads as open-file-reads
-use Rattle.genie.proofs.put_handle.Reads as put-handle-reads
-use Rattle.genie.proofs.short_number.Reads as short-number-reads
-use Rattle.genie.proofs.slot_of.Reads as slot-of-reads
+use Rattle.codec.proofs.put_handle.Reads as put-handle-reads
+use Rattle.refusal.proofs.short_number.Reads as short-number-reads
+use Rattle.refusal.proofs.slot_of.Reads as slot-of-reads
 
 -- src/lib.rt:191:9
 short-number-requires : tie.Need-short-number-requires

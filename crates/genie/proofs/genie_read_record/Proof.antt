@@ -1,4 +1,4 @@
-use Rattle.genie.specs.Slot.{faultSlot}
+use Rattle.refusal.specs.Slot.{faultSlot}
 use Prim.Native.Nat.{ℕ}
 use mathlib.Core.List.{List}
 use mathlib.Core.Path.{ap, _∙_}
@@ -13,10 +13,10 @@ use Rattle.genie.proofs.genie_read_record.Tie as tie
 use Rattle.genie.proofs.genie_read_record.Reads as reads
 use Rattle.genie.proofs.genie_read_record.Lts as lts
 use Rattle.calls.proofs.read_record.Reads as read-record-reads
-use Rattle.genie.proofs.handle_of.Reads as handle-of-reads
-use Rattle.genie.proofs.put_handle.Reads as put-handle-reads
-use Rattle.genie.proofs.short_number.Reads as short-number-reads
-use Rattle.genie.proofs.slot_of.Reads as slot-of-reads
+use Rattle.codec.proofs.handle_of.Reads as handle-of-reads
+use Rattle.codec.proofs.put_handle.Reads as put-handle-reads
+use Rattle.refusal.proofs.short_number.Reads as short-number-reads
+use Rattle.refusal.proofs.slot_of.Reads as slot-of-reads
 
 -- src/lib.rt:265:9
 short-number-requires : tie.Need-short-number-requires

@@ -11,9 +11,9 @@ use Rattle.genie.proofs.genie_read_sector.Tie as tie
 use Rattle.genie.proofs.genie_read_sector.Reads as reads
 use Rattle.genie.proofs.genie_read_sector.Lts as lts
 use Rattle.calls.proofs.sector_part.Reads as sector-part-reads
-use Rattle.genie.proofs.handle_of.Reads as handle-of-reads
-use Rattle.genie.proofs.short_number.Reads as short-number-reads
-use Rattle.genie.proofs.slot_of.Reads as slot-of-reads
+use Rattle.codec.proofs.handle_of.Reads as handle-of-reads
+use Rattle.refusal.proofs.short_number.Reads as short-number-reads
+use Rattle.refusal.proofs.slot_of.Reads as slot-of-reads
 
 -- src/lib.rt:301:9
 short-number-requires : tie.Need-short-number-requires

@@ -1,4 +1,4 @@
-use Rattle.genie.specs.Slot.{faultSlot}
+use Rattle.refusal.specs.Slot.{faultSlot}
 use Rattle.meaning.specs.declared.Answer.{Answer}
 use Rattle.genie.proofs.Slot.{after, write-kept}
 use Prim.Native.Nat.{ℕ}
@@ -8,7 +8,8 @@ use borrow.Author.Tests.{lt-ltb, le-ltb}
 use Rattle.meaning.specs.Write.{writeRecord}
 use Rattle.meaning.specs.declared.Handle.{Handle}
 use Rattle.meaning.specs.declared.Mode.{Mode}
-use Rattle.genie.specs.Exports.{modeOf, geometry}
+use Rattle.codec.specs.Words.{modeOf}
+use Rattle.genie.specs.Exports.{geometry}
 use Rattle.genie.proofs.Laws.{number, stays, moved}
 use borrow.Author.Needs.{needs}
 use Rattle.genie.proofs.genie_write_record.Statement.{statement}
@@ -16,11 +17,11 @@ use Rattle.genie.proofs.genie_write_record.Tie as tie
 use Rattle.genie.proofs.genie_write_record.Reads as reads
 use Rattle.genie.proofs.genie_write_record.Lts as lts
 use Rattle.calls.proofs.write_record.Reads as write-record-reads
-use Rattle.genie.proofs.handle_of.Reads as handle-of-reads
-use Rattle.genie.proofs.mode_of.Reads as mode-of-reads
-use Rattle.genie.proofs.put_handle.Reads as put-handle-reads
-use Rattle.genie.proofs.short_number.Reads as short-number-reads
-use Rattle.genie.proofs.slot_of.Reads as slot-of-reads
+use Rattle.codec.proofs.handle_of.Reads as handle-of-reads
+use Rattle.codec.proofs.mode_of.Reads as mode-of-reads
+use Rattle.codec.proofs.put_handle.Reads as put-handle-reads
+use Rattle.refusal.proofs.short_number.Reads as short-number-reads
+use Rattle.refusal.proofs.slot_of.Reads as slot-of-reads
 
 -- src/lib.rt:332:9
 short-number-requires : tie.Need-short-number-requires

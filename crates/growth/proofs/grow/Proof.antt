@@ -3,23 +3,22 @@ use Rattle.meaning.specs.Growth.{fails, grow}
 use Rattle.meaning.specs.Free.{freeGranules}
 use lib.Dec.{ltb}
 use lib.ListN.{length}
-use Rattle.growth.proofs.Whole.{Whole, whole-none, whole-eleven, whole-nine, whole-eight, whole-grown, lacks}
+use Rattle.growth.proofs.Whole.{whole-none, whole-eleven, whole-nine, whole-eight, whole-grown, lacks}
 use Rattle.joint.proofs.Ready.{walks}
 use borrow.Author.Tests.{ltb-false}
-use Prim.Native.Nat.{ℕ, _≤_, _<_, _-_, _+_, _*_}
-use mathlib.Core.List.{List}
-use mathlib.Core.Path.{_≡_, refl, ap, sym, subst, _∙_}
+use Prim.Native.Nat.{ℕ}
+use mathlib.Core.Path.{ap, sym, _∙_}
 use native.Mathlib.Omega.{arith}
 use borrow.Author.Needs.{needs}
 use Rattle.growth.proofs.grow.Statement.{statement}
 use Rattle.growth.proofs.grow.Tie as tie
 use Rattle.growth.proofs.grow.Reads as reads
 use Rattle.growth.proofs.grow.Lts as lts
-use Rattle.growth.proofs.measure.Reads as measure-reads
+use Rattle.extent.proofs.measure.Reads as measure-reads
 use Rattle.growth.proofs.no_growth.Reads as no-growth-reads
 use Rattle.growth.proofs.take_granules.Reads as take-granules-reads
-use Rattle.growth.proofs.too_few.Reads as too-few-reads
-use Rattle.growth.proofs.too_few_slots.Reads as too-few-slots-reads
+use Rattle.supply.proofs.too_few.Reads as too-few-reads
+use Rattle.supply.proofs.too_few_slots.Reads as too-few-slots-reads
 
 -- src/lib.rt:313:9
 measure-requires : tie.Need-measure-requires

@@ -1,5 +1,4 @@
 use Rattle.growth.proofs.Put.{extension-put, extension-long}
-use Rattle.meaning.specs.Layout.{setField, field, hit}
 use lib.Seq.{length-sets}
 use lib.ListN.{length-set}
 use native.Mathlib.Omega.{arith}
@@ -12,55 +11,55 @@ use Rattle.copy.proofs.put_part.Reads as put-part-reads
 
 -- src/lib.rt:154:29
 add-hash : tie.Need-add-hash
-add-hash c = search needs
+add-hash c = omega arith
 
 -- src/lib.rt:154:22
 mul-hash : tie.Need-mul-hash
-mul-hash c = search needs
+mul-hash c = omega arith
 
 -- src/lib.rt:154:22
 add-hash-2 : tie.Need-add-hash-2
-add-hash-2 c = search needs
+add-hash-2 c = omega arith
 
 -- src/lib.rt:154:16
 slice-read-hash : tie.Need-slice-read-hash
-slice-read-hash c = search needs
+slice-read-hash c = omega arith
 
 -- src/lib.rt:155:25
 add-before : tie.Need-add-before
-add-before c = search needs
+add-before c = omega arith
 
 -- src/lib.rt:155:25
 add-before-2 : tie.Need-add-before-2
-add-before-2 c = search needs
+add-before-2 c = omega arith
 
 -- src/lib.rt:155:18
 mul-before : tie.Need-mul-before
-mul-before c = search needs
+mul-before c = omega arith
 
 -- src/lib.rt:155:49
 mul-before-2 : tie.Need-mul-before-2
-mul-before-2 c = search needs
+mul-before-2 c = omega arith
 
 -- src/lib.rt:155:18
 add-before-3 : tie.Need-add-before-3
-add-before-3 c = search needs
+add-before-3 c = omega arith
 
 -- src/lib.rt:156:11
 add-image : tie.Need-add-image
-add-image c = search needs
+add-image c = omega arith
 
 -- src/lib.rt:156:5
 slice-write-image : tie.Need-slice-write-image
-slice-write-image c = search needs
+slice-write-image c = omega arith
 
 -- src/lib.rt:157:28
 cast-image : tie.Need-cast-image
-cast-image c = search needs
+cast-image c = omega arith
 
 -- src/lib.rt:157:11
 add-image-2 : tie.Need-add-image-2
-add-image-2 c = search needs
+add-image-2 c = omega arith
 
 -- src/lib.rt:157:5
 slice-write-image-2 : tie.Need-slice-write-image-2
@@ -68,31 +67,31 @@ slice-write-image-2 c = let b = c .before .before .before .before .pre .0 in sim
 
 -- src/lib.rt:159:15
 cast-t13 : tie.Need-cast-t13
-cast-t13 c = search needs
+cast-t13 c = omega arith
 
 -- src/lib.rt:162:34
 add-put-part : tie.Need-add-put-part
-add-put-part c = search needs
+add-put-part c = omega arith
 
 -- src/lib.rt:162:34
 add-put-part-2 : tie.Need-add-put-part-2
-add-put-part-2 c = search needs
+add-put-part-2 c = omega arith
 
 -- src/lib.rt:162:27
 mul-put-part : tie.Need-mul-put-part
-mul-put-part c = search needs
+mul-put-part c = omega arith
 
 -- src/lib.rt:162:58
 mul-put-part-2 : tie.Need-mul-put-part-2
-mul-put-part-2 c = search needs
+mul-put-part-2 c = omega arith
 
 -- src/lib.rt:162:27
 add-put-part-3 : tie.Need-add-put-part-3
-add-put-part-3 c = search needs
+add-put-part-3 c = omega arith
 
 -- src/lib.rt:162:73
 slice-aggregate-put-part : tie.Need-slice-aggregate-put-part
-slice-aggregate-put-part c = search needs
+slice-aggregate-put-part c = omega arith
 
 -- src/lib.rt:162:5
 put-part-requires : tie.Need-put-part-requires
@@ -100,15 +99,15 @@ put-part-requires c κs = search needs
 
 -- src/lib.rt:163:18
 add-image-3 : tie.Need-add-image-3
-add-image-3 c = search needs
+add-image-3 c = omega arith
 
 -- src/lib.rt:163:11
 mul-image : tie.Need-mul-image
-mul-image c = search needs
+mul-image c = omega arith
 
 -- src/lib.rt:163:11
 add-image-4 : tie.Need-add-image-4
-add-image-4 c = search needs
+add-image-4 c = omega arith
 
 -- src/lib.rt:163:5
 slice-write-image-3 : tie.Need-slice-write-image-3

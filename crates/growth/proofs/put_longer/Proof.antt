@@ -1,9 +1,8 @@
 use Rattle.meaning.specs.Layout.{setField, field, takeGranule}
-use Prim.Native.Nat.{ℕ, _≤_, _<_, _-_, _+_, _*_, _/_, _%_}
-use lib.ListN.{length-set, getD}
+use Prim.Native.Nat.{_+_, _*_, _/_, _%_}
+use lib.ListN.{length-set}
 use native.Mathlib.Nat.{mod-lt}
 use native.Mathlib.Omega.{arith}
-use borrow.Author.Needs.{needs}
 use Rattle.growth.proofs.put_longer.Statement.{statement}
 use Rattle.growth.proofs.put_longer.Tie as tie
 use Rattle.growth.proofs.put_longer.Reads as reads
@@ -12,39 +11,39 @@ use Rattle.space.proofs.with_bit.Reads as with-bit-reads
 
 -- src/lib.rt:131:21
 add-at : tie.Need-add-at
-add-at c = search needs
+add-at c = omega arith
 
 -- src/lib.rt:131:21
 add-at-2 : tie.Need-add-at-2
-add-at-2 c = search needs
+add-at-2 c = omega arith
 
 -- src/lib.rt:131:14
 mul-at : tie.Need-mul-at
-mul-at c = search needs
+mul-at c = omega arith
 
 -- src/lib.rt:131:45
 mul-at-2 : tie.Need-mul-at-2
-mul-at-2 c = search needs
+mul-at-2 c = omega arith
 
 -- src/lib.rt:131:14
 add-at-3 : tie.Need-add-at-3
-add-at-3 c = search needs
+add-at-3 c = omega arith
 
 -- src/lib.rt:131:69
 mul-at-3 : tie.Need-mul-at-3
-mul-at-3 c = search needs
+mul-at-3 c = omega arith
 
 -- src/lib.rt:131:62
 add-at-4 : tie.Need-add-at-4
-add-at-4 c = search needs
+add-at-4 c = omega arith
 
 -- src/lib.rt:131:14
 add-at-5 : tie.Need-add-at-5
-add-at-5 c = search needs
+add-at-5 c = omega arith
 
 -- src/lib.rt:132:17
 slice-read-image : tie.Need-slice-read-image
-slice-read-image c = search needs
+slice-read-image c = omega arith
 
 -- src/lib.rt:132:17
 add-image : tie.Need-add-image
@@ -53,19 +52,19 @@ add-image c = let b = c .slice-known2 .given (256 * (c .before .before .before .
 
 -- src/lib.rt:132:5
 slice-write-image : tie.Need-slice-write-image
-slice-write-image c = search needs
+slice-write-image c = omega arith
 
 -- src/lib.rt:133:15
 mul-gat : tie.Need-mul-gat
-mul-gat c = search needs
+mul-gat c = omega arith
 
 -- src/lib.rt:133:31
 div-gat : tie.Need-div-gat
-div-gat c = search needs
+div-gat c = omega arith
 
 -- src/lib.rt:133:15
 add-gat : tie.Need-add-gat
-add-gat c = search needs
+add-gat c = omega arith
 
 -- src/lib.rt:134:34
 slice-read-with-bit : tie.Need-slice-read-with-bit
@@ -73,7 +72,7 @@ slice-read-with-bit c = let b = c .before .before .before .before .before .befor
 
 -- src/lib.rt:134:46
 rem-with-bit : tie.Need-rem-with-bit
-rem-with-bit c = search needs
+rem-with-bit c = omega arith
 
 -- src/lib.rt:134:18
 with-bit-requires : tie.Need-with-bit-requires
@@ -85,7 +84,7 @@ slice-write-image-2 c = let b = c .before .before .before .before .before .befor
 
 -- src/lib.rt:127:1
 same-length : tie.Need-same-length
-same-length c = search needs
+same-length c = simp length-set
 
 -- src/lib.rt:127:1
 returns : tie.Need-returns

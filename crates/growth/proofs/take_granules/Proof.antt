@@ -1,21 +1,22 @@
 use Rattle.meaning.specs.Growth.{withPair}
 use mathlib.Core.List.{List}
-use Rattle.growth.proofs.Loops.{Growing, growing-start, growing-longer, growing-pair, growing-new, growing-end, disk-shut, disk-found, disk-slot, stand-room, stand-slot, ready-slot, tail-slot, inside, free-slot-is, longer-fits, new-places}
+use Rattle.supply.proofs.Growing.{Growing, growing-start, growing-longer, growing-pair, growing-new, growing-end, stand-room, stand-slot, tail-slot}
+use Rattle.growth.proofs.Disk.{disk-shut, disk-found, disk-slot, inside, free-slot-is, longer-fits, new-places}
 use Rattle.growth.proofs.Put.{extended-inside}
 use Rattle.joint.proofs.Ready.{walks}
-use Prim.Native.Nat.{ℕ, _≤_, _<_, _-_, _+_, _*_}
+use Prim.Native.Nat.{ℕ}
 use mathlib.Core.Logic.{⊎-elim, inl, inr}
-use mathlib.Core.Path.{_≡_, refl, ap, sym, _∙_}
+use mathlib.Core.Path.{refl, ap, _∙_}
 use native.Mathlib.Omega.{arith}
 use borrow.Author.Needs.{needs}
 use Rattle.growth.proofs.take_granules.Statement.{statement}
 use Rattle.growth.proofs.take_granules.Tie as tie
 use Rattle.growth.proofs.take_granules.Reads as reads
 use Rattle.growth.proofs.take_granules.Lts as lts
-use Rattle.growth.proofs.is_clear.Reads as is-clear-reads
-use Rattle.growth.proofs.last_run.Reads as last-run-reads
-use Rattle.growth.proofs.next_free.Reads as next-free-reads
-use Rattle.growth.proofs.next_slot.Reads as next-slot-reads
+use Rattle.supply.proofs.is_clear.Reads as is-clear-reads
+use Rattle.supply.proofs.last_run.Reads as last-run-reads
+use Rattle.supply.proofs.next_free.Reads as next-free-reads
+use Rattle.supply.proofs.next_slot.Reads as next-slot-reads
 use Rattle.growth.proofs.put_extension.Reads as put-extension-reads
 use Rattle.growth.proofs.put_longer.Reads as put-longer-reads
 use Rattle.growth.proofs.put_pair.Reads as put-pair-reads

@@ -1,6 +1,6 @@
 use Rattle.handle.proofs.Laws.{checked, checked-room, check-stop, check-then}
 use Rattle.layout.proofs.Lists.{first-hit, first-skip, first-none, is-no, is-yes, not-no, not-yes}
-use mathlib.Core.Path.{_≡_, refl, ap, sym, _∙_}
+use mathlib.Core.Path.{sym, _∙_}
 use Rattle.handle.proofs.handle_number.Statement.{statement}
 use Rattle.handle.proofs.handle_number.Tie as tie
 use Rattle.handle.proofs.handle_number.Reads as reads

@@ -1,8 +1,8 @@
-use mathlib.Core.List.{List, [], _∷_}
+use mathlib.Core.List.{[]}
 use Rattle.handle.proofs.Laws.{handle-stop, handle-then}
 use Rattle.layout.proofs.Lists.{first-hit, first-skip, first-none}
 use borrow.Author.Tests.{lt-ltb, le-ltb}
-use mathlib.Core.Path.{_≡_, refl, ap, sym, _∙_}
+use mathlib.Core.Path.{refl, sym, _∙_}
 use borrow.Author.Needs.{needs}
 use Rattle.handle.proofs.reading_number.Statement.{statement}
 use Rattle.handle.proofs.reading_number.Tie as tie

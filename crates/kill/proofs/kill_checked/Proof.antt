@@ -1,8 +1,8 @@
 use Rattle.kill.proofs.Laws.{by-range, refused, accepted}
 use Rattle.meaning.specs.Refusals.{protected}
 use Rattle.handle.proofs.Laws.{passed, walks}
-use mathlib.Core.Path.{_≡_, refl, sym, ap, _∙_}
-use mathlib.Core.List.{List, [], _∷_}
+use mathlib.Core.Path.{refl}
+use mathlib.Core.List.{[], _∷_}
 use borrow.Author.Needs.{needs}
 use Rattle.kill.proofs.kill_checked.Statement.{statement}
 use Rattle.kill.proofs.kill_checked.Tie as tie

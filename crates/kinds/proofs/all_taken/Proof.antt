@@ -4,9 +4,8 @@ use Rattle.meaning.specs.Layout.{taken}
 use Rattle.meaning.specs.Lists.{count, every}
 use borrow.Author.Needs.{needs}
 use native.Mathlib.Omega.{arith}
-use Prim.Native.Nat.{ℕ, _+_, _-_, _≤_}
-use mathlib.Core.Bool.{Bool, _&&_}
-use mathlib.Core.Path.{_≡_, refl, ap, sym, _∙_}
+use Prim.Native.Nat.{_-_, _≤_}
+use mathlib.Core.Path.{_≡_, ap}
 use Rattle.kinds.proofs.all_taken.Statement.{statement}
 use Rattle.kinds.proofs.all_taken.Tie as tie
 use Rattle.kinds.proofs.all_taken.Reads as reads

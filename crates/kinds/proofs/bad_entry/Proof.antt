@@ -1,4 +1,3 @@
-use native.Mathlib.Omega.{arith}
 use borrow.Author.Needs.{needs}
 use Rattle.kinds.proofs.Laws.{so, not-so, bad-ends, bad-hands}
 use Rattle.meaning.specs.Fault.{badEntry}

@@ -5,7 +5,6 @@ use Rattle.layout.specs.Room.{Slot}
 use Rattle.meaning.specs.Lists.{has}
 use borrow.Author.Needs.{needs}
 use native.Mathlib.Omega.{arith}
-use Prim.Native.Nat.{ℕ, _+_, _-_}
 use mathlib.Core.Path.{_≡_, refl}
 use Rattle.kinds.proofs.comes_to.Statement.{statement}
 use Rattle.kinds.proofs.comes_to.Tie as tie

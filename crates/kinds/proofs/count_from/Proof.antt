@@ -5,8 +5,8 @@ use Rattle.layout.specs.Room.{Slot}
 use borrow.Author.Needs.{needs}
 use native.Mathlib.Nat.{zero-add}
 use native.Mathlib.Omega.{arith}
-use Prim.Native.Nat.{ℕ, _+_, _-_, _*_, _≤_}
-use mathlib.Core.Path.{_≡_, refl, ap, _∙_, sym}
+use Prim.Native.Nat.{_+_, _*_, _≤_}
+use mathlib.Core.Path.{_≡_, sym}
 use Rattle.kinds.proofs.count_from.Statement.{statement}
 use Rattle.kinds.proofs.count_from.Tie as tie
 
@@ -19,17 +19,17 @@ abbrev μ-loop : tie.MeasureT-loop
 loop-holds : tie.Need-loop-holds Inv-loop μ-loop
 loop-holds c = (sym (zero-add _), c .before .pre .1, let h = c .before .pre .2 in omega arith)
 
-entry-count-requires : tie.Need-entry-count-requires Inv-loop μ-loop
-entry-count-requires c κs = (c .before .before .before .pre .0, c .before .loop .inv .1)
+entry-length-requires : tie.Need-entry-length-requires Inv-loop μ-loop
+entry-length-requires c κs = (c .before .before .before .pre .0, c .before .loop .inv .1)
 
 add-c : tie.Need-add-c Inv-loop μ-loop
-add-c c = let q = c .entry-count .ensures .small in let z = c .before .before .loop .inv .2 in omega arith
+add-c c = let q = c .entry-length .ensures .small in let z = c .before .before .loop .inv .2 in omega arith
 
 hands-on-requires : tie.Need-hands-on-requires Inv-loop μ-loop
 hands-on-requires c κs = (c .before .before .before .before .pre .0, c .before .before .loop .inv .1)
 
 returns : tie.Need-returns Inv-loop μ-loop
-returns c = record { is = count-end _ _ _ _ _ _ _ (c .before .before .before .before .loop .inv .0) (c .before .before .before .loop-test .taken) (c .before .before .entry-count .ensures .is) (is-no (c .before .hands-on .ensures) (c .if1 .taken)); small = let q = c .before .before .entry-count .ensures .small in let z = c .before .before .before .before .loop .inv .2 in omega arith }
+returns c = record { is = count-end _ _ _ _ _ _ _ (c .before .before .before .before .loop .inv .0) (c .before .before .before .loop-test .taken) (c .before .before .entry-length .ensures .is) (is-no (c .before .hands-on .ensures) (c .if1 .taken)); small = let q = c .before .before .entry-length .ensures .small in let z = c .before .before .before .before .loop .inv .2 in omega arith }
 
 field-requires : tie.Need-field-requires Inv-loop μ-loop
 field-requires c κs = (c .before .before .before .before .before .before .pre .0, c .before .before .before .before .loop .inv .1, omega arith)
@@ -41,10 +41,10 @@ loop-less : tie.Need-loop-less Inv-loop μ-loop
 loop-less c = omega arith
 
 loop-again : tie.Need-loop-again Inv-loop μ-loop
-loop-again c = (count-on _ _ _ _ _ _ _ (c .before .before .before .before .before .loop .inv .0) (c .before .before .before .before .loop-test .taken) (c .before .before .before .entry-count .ensures .is) (is-yes (c .before .before .hands-on .ensures) (c .before .if1 .left)) (c .field .ensures .is), hands-slot _ _ _ (is-yes (c .before .before .hands-on .ensures) (c .before .if1 .left)) (c .field .ensures .is), let q = c .before .before .before .entry-count .ensures .small in let z = c .before .before .before .before .before .loop .inv .2 in let w = c .before .before .before .before .loop-test .taken in omega arith)
+loop-again c = (count-on _ _ _ _ _ _ _ (c .before .before .before .before .before .loop .inv .0) (c .before .before .before .before .loop-test .taken) (c .before .before .before .entry-length .ensures .is) (is-yes (c .before .before .hands-on .ensures) (c .before .if1 .left)) (c .field .ensures .is), hands-slot _ _ _ (is-yes (c .before .before .hands-on .ensures) (c .before .if1 .left)) (c .field .ensures .is), let q = c .before .before .before .entry-length .ensures .small in let z = c .before .before .before .before .before .loop .inv .2 in let w = c .before .before .before .before .loop-test .taken in omega arith)
 
 returns-2 : tie.Need-returns-2 Inv-loop μ-loop
 returns-2 c = record { is = count-none′ _ _ _ _ _ _ _ (c .before .loop .inv .0) (c .loop-test .left); small = let z = c .before .loop .inv .2 in omega arith }
 
 pub count-from-spec : {M : Type 1} → statement M
-count-from-spec = tie.close (tie.spec Inv-loop μ-loop loop-holds entry-count-requires add-c hands-on-requires returns field-requires sub-left loop-less loop-again returns-2)
+count-from-spec = tie.close (tie.spec Inv-loop μ-loop loop-holds entry-length-requires add-c hands-on-requires returns field-requires sub-left loop-less loop-again returns-2)

@@ -5,9 +5,7 @@ use Rattle.layout.proofs.Lists.{all-no, all-yes, all-one, is-no, is-yes, not-ye
 use Rattle.meaning.specs.Entries.{system}
 use Rattle.meaning.specs.Fault.{directoryFault}
 use native.Mathlib.Omega.{arith}
-use Prim.Native.Nat.{ℕ, _/_}
-use mathlib.Core.Bool.{Bool, not}
-use mathlib.Core.Path.{_≡_, sym, ap, _∙_}
+use mathlib.Core.Path.{sym, ap, _∙_}
 use Rattle.kinds.proofs.directory_fault.Statement.{statement}
 use Rattle.kinds.proofs.directory_fault.Tie as tie
 

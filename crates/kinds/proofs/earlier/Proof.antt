@@ -1,8 +1,7 @@
-use native.Mathlib.Omega.{arith}
 use Rattle.kinds.specs.Overlap.{runsMeet}
 use borrow.Author.Tests.{lt-ltb, le-ltb}
 use mathlib.Core.Bool.{Bool, _&&_}
-use mathlib.Core.Path.{_≡_, sym, ap, _∙_}
+use mathlib.Core.Path.{sym, ap, _∙_}
 use borrow.Author.Needs.{needs}
 use Rattle.kinds.proofs.earlier.Statement.{statement}
 use Rattle.kinds.proofs.earlier.Tie as tie

@@ -1,6 +1,6 @@
-use native.Mathlib.Omega.{arith}
 use borrow.Author.Needs.{needs}
-use Rattle.kinds.proofs.Laws.{on, off, hands-no, ends-first}
+use Rattle.kinds.proofs.Laws.{hands-no, ends-first}
+use Rattle.layout.proofs.Lists.{on, off}
 use Rattle.meaning.specs.Fault.{ends}
 use mathlib.Core.Path.{_∙_}
 use Rattle.kinds.proofs.ends.Statement.{statement}

@@ -3,8 +3,8 @@ use Rattle.kinds.specs.Overlap.{runMeets, entriesMeet}
 use Rattle.meaning.specs.Lists.{count, some}
 use borrow.Author.Needs.{needs}
 use native.Mathlib.Omega.{arith}
-use Prim.Native.Nat.{ℕ, _+_, _-_}
-use mathlib.Core.Path.{_≡_, refl, ap}
+use Prim.Native.Nat.{_-_}
+use mathlib.Core.Path.{_≡_, ap}
 use Rattle.kinds.proofs.entries_meet.Statement.{statement}
 use Rattle.kinds.proofs.entries_meet.Tie as tie
 

@@ -1,10 +1,9 @@
-use native.Mathlib.Omega.{arith}
 use borrow.Author.Needs.{needs}
 use Rattle.kinds.proofs.Bridge.{first-file, first-self}
 use Rattle.kinds.specs.Tests.{firstFile}
 use Rattle.layout.specs.Room.{Slot}
 use Prim.Native.Nat.{ℕ, _<_, _≤_}
-use mathlib.Core.Path.{_≡_, sym, _∙_, subst}
+use mathlib.Core.Path.{sym, _∙_, subst}
 use Rattle.kinds.proofs.file_of.Statement.{statement}
 use Rattle.kinds.proofs.file_of.Tie as tie
 

@@ -3,7 +3,7 @@ use Rattle.kinds.specs.Tests.{startsTo}
 use Rattle.meaning.specs.Lists.{count, keep}
 use borrow.Author.Needs.{needs}
 use native.Mathlib.Omega.{arith}
-use Prim.Native.Nat.{ℕ, _+_, _-_}
+use Prim.Native.Nat.{_-_}
 use mathlib.Core.Path.{_≡_, refl}
 use Rattle.kinds.proofs.first_file.Statement.{statement}
 use Rattle.kinds.proofs.first_file.Tie as tie

@@ -1,4 +1,3 @@
-use native.Mathlib.Omega.{arith}
 use borrow.Author.Needs.{needs}
 use Rattle.kinds.proofs.Laws.{runs-lie}
 use Rattle.layout.proofs.Lists.{all-no, all-yes, all-one, is-no, is-yes}

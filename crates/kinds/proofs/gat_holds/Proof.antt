@@ -1,13 +1,12 @@
 use Rattle.kinds.proofs.Laws.{named, named-all, run-inside, run-taken, gat-no, gat-on, gat-end}
 use Rattle.layout.proofs.Lists.{is-no, is-yes}
-use Rattle.meaning.specs.Entries.{entryGranules, runGranules, runStart, runLength}
+use Rattle.meaning.specs.Entries.{entryGranules}
 use Rattle.meaning.specs.Layout.{taken}
 use Rattle.meaning.specs.Lists.{count, every}
 use borrow.Author.Needs.{needs}
 use native.Mathlib.Omega.{arith}
-use Prim.Native.Nat.{ℕ, _+_, _-_, _≤_}
-use mathlib.Core.Bool.{Bool, _&&_}
-use mathlib.Core.Path.{_≡_, refl, ap, sym, _∙_, subst}
+use Prim.Native.Nat.{_-_}
+use mathlib.Core.Path.{_≡_, ap}
 use Rattle.kinds.proofs.gat_holds.Statement.{statement}
 use Rattle.kinds.proofs.gat_holds.Tie as tie
 

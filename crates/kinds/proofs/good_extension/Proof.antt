@@ -5,8 +5,8 @@ use Rattle.meaning.specs.Fault.{goodExtension}
 use Rattle.meaning.specs.Lists.{count, keep}
 use borrow.Author.Needs.{needs}
 use native.Mathlib.Omega.{arith}
-use Prim.Native.Nat.{ℕ, _+_, _-_, _*_, _≤_}
-use mathlib.Core.Path.{_≡_, refl}
+use Prim.Native.Nat.{_-_, _*_, _≤_}
+use mathlib.Core.Path.{_≡_}
 use Rattle.kinds.proofs.good_extension.Statement.{statement}
 use Rattle.kinds.proofs.good_extension.Tie as tie
 

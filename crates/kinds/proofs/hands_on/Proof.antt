@@ -1,7 +1,6 @@
-use native.Mathlib.Omega.{arith}
 use borrow.Author.Needs.{needs}
-use Rattle.kinds.proofs.Laws.{on, off, hands-no, hands-third, hands-fourth, hands-first}
-use Rattle.layout.proofs.Lists.{is-no, is-yes}
+use Rattle.kinds.proofs.Laws.{hands-no, hands-third, hands-fourth, hands-first}
+use Rattle.layout.proofs.Lists.{on, off, is-no, is-yes}
 use Rattle.meaning.specs.Fault.{usedExtension, handsOn}
 use mathlib.Core.Path.{sym, ap, _∙_}
 use Rattle.kinds.proofs.hands_on.Statement.{statement}

@@ -1,8 +1,7 @@
 use native.Mathlib.Omega.{arith}
 use borrow.Author.Needs.{needs}
-use Rattle.kinds.proofs.Laws.{on, off}
+use Rattle.layout.proofs.Lists.{on, off, all-no, all-yes, all-one, is-no, is-yes}
 use Rattle.layout.proofs.Sound.{slot-of}
-use Rattle.layout.proofs.Lists.{all-no, all-yes, all-one, is-no, is-yes}
 use Rattle.kinds.specs.Tests.{leads}
 use mathlib.Core.Path.{sym, _∙_}
 use Rattle.kinds.proofs.leads.Statement.{statement}

@@ -1,4 +1,3 @@
-use native.Mathlib.Omega.{arith}
 use borrow.Author.Needs.{needs}
 use Rattle.kinds.proofs.Laws.{any-yes, any-one}
 use Rattle.layout.proofs.Lists.{is-no, is-yes, not-no, not-yes, any-skip}

@@ -5,7 +5,7 @@ use Rattle.meaning.specs.Consistent.{pairsHold}
 use Rattle.meaning.specs.Lists.{count, every}
 use borrow.Author.Needs.{needs}
 use native.Mathlib.Omega.{arith}
-use Prim.Native.Nat.{ℕ, _+_, _-_}
+use Prim.Native.Nat.{_-_}
 use mathlib.Core.Path.{_≡_, refl}
 use Rattle.kinds.proofs.pairs_hold.Statement.{statement}
 use Rattle.kinds.proofs.pairs_hold.Tie as tie

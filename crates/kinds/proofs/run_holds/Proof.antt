@@ -1,11 +1,10 @@
-use native.Mathlib.Omega.{arith}
 use Rattle.layout.proofs.Lists.{all-no, all-yes, all-one}
 use Rattle.meaning.specs.Entries.{runStart, runLength}
 use Rattle.meaning.specs.Layout.{granules}
 use borrow.Author.Tests.{lt-ltb, le-ltb}
-use lib.Dec.{leb, ltb}
-use Prim.Native.Nat.{ℕ, _+_, _/_, _≤_, _<_}
-use mathlib.Core.Path.{_≡_, sym, ap, _∙_}
+use lib.Dec.{leb}
+use Prim.Native.Nat.{ℕ, _+_}
+use mathlib.Core.Path.{sym, ap, _∙_}
 use borrow.Author.Needs.{needs}
 use Rattle.kinds.proofs.run_holds.Statement.{statement}
 use Rattle.kinds.proofs.run_holds.Tie as tie

@@ -1,11 +1,4 @@
-use native.Mathlib.Omega.{arith}
 use Rattle.kinds.proofs.Laws.{in-no, in-rest}
-use Rattle.kinds.specs.Tests.{runIn}
-use borrow.Author.Tests.{lt-ltb, le-ltb}
-use lib.Dec.{ltb}
-use Prim.Native.Nat.{ℕ, _+_, _≤_, _<_}
-use mathlib.Core.Bool.{Bool, _&&_}
-use mathlib.Core.Path.{_≡_, sym, ap, _∙_}
 use borrow.Author.Needs.{needs}
 use Rattle.kinds.proofs.run_in.Statement.{statement}
 use Rattle.kinds.proofs.run_in.Tie as tie

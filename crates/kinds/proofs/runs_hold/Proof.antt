@@ -5,8 +5,8 @@ use Rattle.meaning.specs.Consistent.{runsHold}
 use Rattle.meaning.specs.Lists.{count, every}
 use borrow.Author.Needs.{needs}
 use native.Mathlib.Omega.{arith}
-use Prim.Native.Nat.{ℕ, _+_, _-_}
-use mathlib.Core.Path.{_≡_, refl, ap}
+use Prim.Native.Nat.{_-_}
+use mathlib.Core.Path.{_≡_, ap}
 use Rattle.kinds.proofs.runs_hold.Statement.{statement}
 use Rattle.kinds.proofs.runs_hold.Tie as tie
 use Rattle.kinds.proofs.runs_hold.Reads as reads

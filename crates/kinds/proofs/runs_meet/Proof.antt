@@ -1,7 +1,5 @@
-use native.Mathlib.Omega.{arith}
 use Rattle.kinds.proofs.Laws.{meet-of}
-use Prim.Native.Nat.{ℕ}
-use mathlib.Core.Path.{_≡_, sym, ap, _∙_}
+use mathlib.Core.Path.{_∙_}
 use borrow.Author.Needs.{needs}
 use Rattle.kinds.proofs.runs_meet.Statement.{statement}
 use Rattle.kinds.proofs.runs_meet.Tie as tie

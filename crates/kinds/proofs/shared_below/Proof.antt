@@ -3,7 +3,7 @@ use Rattle.kinds.specs.Tests.{shares}
 use Rattle.meaning.specs.Lists.{count, some}
 use borrow.Author.Needs.{needs}
 use native.Mathlib.Omega.{arith}
-use Prim.Native.Nat.{ℕ, _+_, _-_}
+use Prim.Native.Nat.{_-_}
 use mathlib.Core.Path.{_≡_, refl, ap}
 use Rattle.kinds.proofs.shared_below.Statement.{statement}
 use Rattle.kinds.proofs.shared_below.Tie as tie

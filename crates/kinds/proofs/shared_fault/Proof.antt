@@ -1,11 +1,10 @@
-use native.Mathlib.Omega.{arith}
 use borrow.Author.Needs.{needs}
 use Rattle.kinds.proofs.Bridge.{below-is}
 use Rattle.kinds.proofs.Laws.{so, not-so, any-yes, any-one}
 use Rattle.kinds.specs.Overlap.{twice-is}
 use Rattle.layout.proofs.Lists.{all-no, all-yes, all-one, is-no, is-yes, any-skip}
 use Rattle.meaning.specs.Fault.{sharedFault}
-use mathlib.Core.Path.{sym, ap, _∙_}
+use mathlib.Core.Path.{sym, _∙_}
 use Rattle.kinds.proofs.shared_fault.Statement.{statement}
 use Rattle.kinds.proofs.shared_fault.Tie as tie
 

@@ -1,15 +1,9 @@
-use native.Mathlib.Omega.{arith}
 use borrow.Author.Needs.{needs}
 use Rattle.kinds.proofs.Bridge.{whole-by, whole-same}
-use Rattle.kinds.proofs.Laws.{firm}
-use Rattle.kinds.specs.Reach.{reach}
-use Rattle.layout.proofs.Sound.{slot-yes}
 use Rattle.layout.proofs.Lists.{all-no, all-yes, all-one, is-no, is-yes}
 use Rattle.meaning.specs.Fault.{sizeFault}
-use Rattle.meaning.specs.Lists.{every}
-use Prim.Native.Nat.{ℕ}
 use mathlib.Core.Bool.{not}
-use mathlib.Core.Path.{_≡_, sym, ap, _∙_}
+use mathlib.Core.Path.{sym, ap, _∙_}
 use Rattle.kinds.proofs.size_fault.Statement.{statement}
 use Rattle.kinds.proofs.size_fault.Tie as tie
 

@@ -1,7 +1,7 @@
 use Rattle.seek.proofs.Laws.{slots-length}
 use native.Mathlib.Omega.{arith}
 use Prim.Native.Nat.{ℕ, _-_, _*_}
-use mathlib.Core.Path.{_≡_, sym, ap, _∙_}
+use mathlib.Core.Path.{sym, ap, _∙_}
 use borrow.Author.Needs.{needs}
 use Rattle.kinds.proofs.slots.Statement.{statement}
 use Rattle.kinds.proofs.slots.Tie as tie

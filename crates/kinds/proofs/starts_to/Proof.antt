@@ -1,4 +1,3 @@
-use native.Mathlib.Omega.{arith}
 use borrow.Author.Needs.{needs}
 use Rattle.layout.proofs.Sound.{slot-of}
 use Rattle.layout.proofs.Lists.{all-no, all-yes, all-one, is-no, is-yes}

@@ -8,7 +8,7 @@ use Rattle.kinds.proofs.used_extension.Statement.{statement}
 use Rattle.kinds.proofs.used_extension.Tie as tie
 use Rattle.kinds.proofs.used_extension.Reads as reads
 use Rattle.kinds.proofs.used_extension.Lts as lts
-use Rattle.kinds.proofs.flag.Reads as flag-reads
+use Rattle.entry.proofs.flag.Reads as flag-reads
 use Rattle.layout.proofs.is_slot.Reads as is-slot-reads
 
 -- src/lib.rt:61:9

@@ -5,7 +5,6 @@ use Rattle.layout.specs.Room.{Slot}
 use Rattle.meaning.specs.Lists.{every}
 use borrow.Author.Needs.{needs}
 use native.Mathlib.Omega.{arith}
-use Prim.Native.Nat.{ℕ, _+_, _-_}
 use mathlib.Core.Path.{_≡_, refl}
 use Rattle.kinds.proofs.whole_from.Statement.{statement}
 use Rattle.kinds.proofs.whole_from.Tie as tie

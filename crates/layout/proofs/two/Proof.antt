@@ -1,5 +1,4 @@
 use native.Mathlib.Omega.{arith}
-use mathlib.Core.Path.{_≡_, ap, sym, _∙_}
 use Rattle.layout.proofs.Number.{number-two}
 use borrow.Author.Needs.{needs}
 use Rattle.layout.proofs.two.Statement.{statement}

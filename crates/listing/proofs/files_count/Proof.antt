@@ -1,8 +1,8 @@
 use mathlib.Core.Logic.{⊎-elim}
 use native.Mathlib.Omega.{arith}
 use borrow.Author.Needs.{needs}
-use Prim.Native.Nat.{ℕ, _-_, _≤_, _+_, _*_, _/_, _%_}
-use mathlib.Core.Path.{_≡_, refl, ap, sym, _∙_, subst}
+use Prim.Native.Nat.{ℕ, _-_, _≤_, _+_, _*_}
+use mathlib.Core.Path.{_≡_, ap, sym, _∙_, subst}
 use Rattle.find.proofs.Pass.{InRow, row-start, row-slot, row-here, row-next, row-past, row-after}
 use Rattle.listing.proofs.Files.{Counting, counting-start, counting-past, counting-no, counting-yes, counting-end}
 use Rattle.listing.proofs.files_count.Statement.{statement}

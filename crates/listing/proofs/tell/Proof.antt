@@ -7,7 +7,7 @@ use Rattle.listing.proofs.tell.Tie as tie
 use Rattle.listing.proofs.tell.Reads as reads
 use Rattle.listing.proofs.tell.Lts as lts
 use Rattle.find.proofs.name_at.Reads as name-at-reads
-use Rattle.growth.proofs.measure.Reads as measure-reads
+use Rattle.extent.proofs.measure.Reads as measure-reads
 use Rattle.layout.proofs.size_of.Reads as size-of-reads
 
 -- src/lib.rt:56:20

@@ -1,10 +1,9 @@
 use mathlib.Core.Bool.{and-true}
 use mathlib.Core.Path.{sym}
 use borrow.Author.Tests.{eq-eqb, ne-eqb}
-use Rattle.layout.proofs.Laws.{digit-at}
+use Rattle.layout.proofs.Laws.{digit-at, flags-at}
 use Rattle.meaning.specs.Lists.{all}
 use Rattle.meaning.specs.Listing.{shown}
-use Rattle.names.proofs.Buckets.{flags-at}
 use borrow.Author.Needs.{needs}
 use Rattle.listing.proofs.tells.Statement.{statement}
 use Rattle.listing.proofs.tells.Tie as tie

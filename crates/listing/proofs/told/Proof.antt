@@ -1,8 +1,8 @@
 use mathlib.Core.Logic.{⊎-elim}
 use native.Mathlib.Omega.{arith}
 use borrow.Author.Needs.{needs}
-use Prim.Native.Nat.{ℕ, _-_, _≤_, _+_, _*_, _/_, _%_}
-use mathlib.Core.Path.{_≡_, refl, ap, sym, _∙_, subst}
+use Prim.Native.Nat.{ℕ, _-_, _≤_, _+_, _*_}
+use mathlib.Core.Path.{_≡_, ap, sym, _∙_, subst}
 use Rattle.find.proofs.Pass.{InRow, row-start, row-slot, row-here, row-next, row-past, row-after}
 use Rattle.listing.proofs.Files.{Telling, telling-start, telling-past, telling-no, telling-more, telling-here, telling-end, telling-same, tells-used}
 use Rattle.listing.proofs.told.Statement.{statement}

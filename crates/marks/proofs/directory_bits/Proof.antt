@@ -1,6 +1,6 @@
 use Rattle.marks.proofs.Window.{spans-from, spot-lt, window-start, window-step, window-end}
 use native.Mathlib.Omega.{arith}
-use Prim.Native.Nat.{ℕ, _+_, _-_, _≤_}
+use Prim.Native.Nat.{_+_, _-_, _≤_}
 use borrow.Author.Needs.{needs}
 use Rattle.marks.specs.Owners.{Window}
 use Rattle.marks.proofs.directory_bits.Statement.{statement}

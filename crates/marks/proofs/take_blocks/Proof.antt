@@ -1,6 +1,5 @@
 use borrow.Author.Tests.{not-true, not-false}
 use Rattle.marks.proofs.Owners.{Taking, taking-start, taking-block, taking-step, taking-stop, taking-end}
-use borrow.Author.Needs.{needs}
 use Prim.Native.Nat.{_+_, _*_}
 use native.Mathlib.Omega.{arith}
 use Rattle.marks.proofs.take_blocks.Statement.{statement}

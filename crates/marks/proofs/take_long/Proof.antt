@@ -1,7 +1,3 @@
-use Rattle.marks.specs.Owners.{Takes}
-use mathlib.Core.Path.{sym, subst}
-use Prim.Native.Nat.{ℕ, _+_, _*_}
-use native.Mathlib.Omega.{arith}
 use borrow.Author.Needs.{needs}
 use Rattle.marks.proofs.take_long.Statement.{statement}
 use Rattle.marks.proofs.take_long.Tie as tie

@@ -1,8 +1,6 @@
 use Rattle.marks.proofs.Window.{base-own, base-last, lies, Base, stretch-no, stretch-yes}
 use Rattle.marks.proofs.Owners.{one-shl-pos}
-use Prim.Native.Nat.{ℕ, _<_}
 use mathlib.Core.Logic.{⊎-elim}
-use mathlib.Core.Path.{_≡_, sym, ap, _∙_, subst}
 use native.Mathlib.Omega.{arith}
 use borrow.Author.Needs.{needs}
 use Rattle.marks.proofs.take_stretch.Statement.{statement}

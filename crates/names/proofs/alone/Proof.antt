@@ -1,11 +1,11 @@
-use mathlib.Core.Path.{_≡_, refl, sym, ap, _∙_}
-use Prim.Native.Nat.{ℕ, _+_, _-_, _*_, _/_, _%_}
+use mathlib.Core.Path.{ap, _∙_}
+use Prim.Native.Nat.{_+_, _-_}
 use Rattle.meaning.specs.Layout.{hit}
 use Rattle.names.specs.Buckets.{bucket}
 use Rattle.names.proofs.Buckets.{Searching, searching-start, here, searching-found, searching-on, searching-end, compared}
 use borrow.Author.Needs.{needs}
 use native.Mathlib.Omega.{arith}
-use mathlib.Core.Bool.{Bool, not}
+use mathlib.Core.Bool.{not}
 use Rattle.names.proofs.alone.Statement.{statement}
 use Rattle.names.proofs.alone.Tie as tie
 use Rattle.names.proofs.alone.Reads as reads

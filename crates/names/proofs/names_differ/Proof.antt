@@ -1,7 +1,6 @@
 use native.Mathlib.Omega.{arith}
 use borrow.Author.Needs.{needs}
-use mathlib.Core.Path.{_≡_, refl, sym, ap, _∙_}
-use Prim.Native.Nat.{ℕ, _+_, _-_, _*_, _≤_}
+use Prim.Native.Nat.{_-_, _*_, _≤_}
 use borrow.Author.Tests.{not-true, not-false}
 use Rattle.names.specs.Buckets.{Differing}
 use Rattle.names.proofs.Buckets.{differing-start, differing-end}

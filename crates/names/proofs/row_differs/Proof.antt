@@ -1,10 +1,10 @@
-use Prim.Native.Nat.{ℕ, _+_, _-_, _*_, _≤_}
+use Prim.Native.Nat.{_+_, _-_, _*_, _≤_}
 use borrow.Author.Needs.{needs}
 use native.Mathlib.Omega.{arith}
-use mathlib.Core.Path.{_≡_, refl, sym, ap, _∙_}
+use mathlib.Core.Path.{_≡_}
 use Rattle.names.specs.Buckets.{Differing}
 use Rattle.names.proofs.Buckets.{row-end, row-found}
-use borrow.Author.Tests.{not-true, not-false}
+use borrow.Author.Tests.{not-false}
 use Rattle.names.proofs.row_differs.Statement.{statement}
 use Rattle.names.proofs.row_differs.Tie as tie
 use Rattle.names.proofs.row_differs.Reads as reads

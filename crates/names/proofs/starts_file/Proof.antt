@@ -1,8 +1,6 @@
-use Rattle.names.proofs.Buckets.{flags-at}
 use borrow.Author.Tests.{eq-eqb, ne-eqb}
-use Rattle.layout.proofs.Laws.{digit-at}
-use mathlib.Core.Path.{_≡_, refl, sym, ap, _∙_}
-use native.Mathlib.Omega.{arith}
+use Rattle.layout.proofs.Laws.{digit-at, flags-at}
+use mathlib.Core.Path.{sym}
 use borrow.Author.Needs.{needs}
 use Rattle.names.proofs.starts_file.Statement.{statement}
 use Rattle.names.proofs.starts_file.Tie as tie

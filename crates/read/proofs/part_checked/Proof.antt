@@ -1,9 +1,7 @@
 use Rattle.read.proofs.Laws.{part-is, part-ptr}
 use Rattle.meaning.specs.declared.Part.{Part}
-use Prim.Native.Nat.{ℕ, _+_}
-use mathlib.Core.List.{List}
-use native.Mathlib.Omega.{arith}
-use mathlib.Core.Path.{_≡_, refl, ap, sym, _∙_}
+use Prim.Native.Nat.{_+_}
+use mathlib.Core.Path.{ap, _∙_}
 use borrow.Author.Needs.{needs}
 use Rattle.read.proofs.part_checked.Statement.{statement}
 use Rattle.read.proofs.part_checked.Tie as tie

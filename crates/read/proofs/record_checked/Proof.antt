@@ -1,6 +1,6 @@
 use native.Mathlib.Omega.{arith}
 use Rattle.read.proofs.Laws.{refused, accepted, allowed}
-use mathlib.Core.Path.{_≡_, refl, ap, sym, _∙_}
+use mathlib.Core.Path.{sym, _∙_}
 use borrow.Author.Needs.{needs}
 use Rattle.read.proofs.record_checked.Statement.{statement}
 use Rattle.read.proofs.record_checked.Tie as tie

@@ -6,8 +6,8 @@ use Rattle.layout.proofs.Lists.{first-hit, first-skip, first-none, all-at}
 use borrow.Author.Tests.{lt-ltb, le-ltb}
 use lib.Dec.{ltb}
 use Prim.Native.Nat.{ℕ, _+_}
-use mathlib.Core.Path.{_≡_, refl, ap, sym, _∙_}
-use mathlib.Core.List.{List, [], _∷_}
+use mathlib.Core.Path.{refl, ap, sym, _∙_}
+use mathlib.Core.List.{[], _∷_}
 use borrow.Author.Needs.{needs}
 use Rattle.read.proofs.record_number.Statement.{statement}
 use Rattle.read.proofs.record_number.Tie as tie

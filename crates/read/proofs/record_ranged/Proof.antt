@@ -1,7 +1,5 @@
-use native.Mathlib.Omega.{arith}
 use Rattle.layout.proofs.Lists.{is-no, is-yes, all-yes, all-no, all-one}
-use borrow.Author.Tests.{lt-leb, le-leb}
-use mathlib.Core.Path.{_≡_, refl, ap, sym, _∙_}
+use mathlib.Core.Path.{sym, _∙_}
 use borrow.Author.Needs.{needs}
 use Rattle.read.proofs.record_ranged.Statement.{statement}
 use Rattle.read.proofs.record_ranged.Tie as tie

@@ -1,8 +1,6 @@
 use native.Mathlib.Omega.{arith}
 use Rattle.read.proofs.Laws.{bytes-before, bytes-whole, bytes-last}
-use native.Mathlib.Numerals.{add-one}
-use Prim.Native.Nat.{ℕ, suc, _+_}
-use mathlib.Core.Path.{_≡_, refl, ap, sym, _∙_}
+use mathlib.Core.Path.{sym, _∙_}
 use borrow.Author.Needs.{needs}
 use Rattle.read.proofs.sector_bytes.Statement.{statement}
 use Rattle.read.proofs.sector_bytes.Tie as tie

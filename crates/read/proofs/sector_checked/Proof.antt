@@ -1,7 +1,6 @@
 use Rattle.read.proofs.Laws.{sector, sector-refused, sector-accepted, sector-lies}
 use native.Mathlib.Omega.{arith}
-use Rattle.read.proofs.Laws.{sector, sector-refused, sector-accepted, place-fits}
-use mathlib.Core.Path.{_≡_, refl, ap, sym, _∙_}
+use Rattle.read.proofs.Laws.{sector, sector-refused, sector-accepted}
 use borrow.Author.Needs.{needs}
 use Rattle.read.proofs.sector_checked.Statement.{statement}
 use Rattle.read.proofs.sector_checked.Tie as tie

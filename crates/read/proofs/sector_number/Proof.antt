@@ -2,12 +2,12 @@ use native.Mathlib.Omega.{arith}
 use Rattle.read.proofs.Laws.{reading-stop, reading-then}
 use Rattle.meaning.specs.Refusals.{notForReading}
 use Rattle.handle.proofs.Laws.{passed, walks}
-use Rattle.layout.proofs.Lists.{first-hit, first-skip, first-none, all-at}
+use Rattle.layout.proofs.Lists.{first-hit, first-skip, first-none}
 use borrow.Author.Tests.{lt-leb, le-leb}
 use lib.Dec.{leb}
-use Prim.Native.Nat.{ℕ, _+_}
-use mathlib.Core.Path.{_≡_, refl, ap, sym, _∙_}
-use mathlib.Core.List.{List, [], _∷_}
+use Prim.Native.Nat.{ℕ}
+use mathlib.Core.Path.{refl, ap, sym, _∙_}
+use mathlib.Core.List.{[], _∷_}
 use borrow.Author.Needs.{needs}
 use Rattle.read.proofs.sector_number.Statement.{statement}
 use Rattle.read.proofs.sector_number.Tie as tie

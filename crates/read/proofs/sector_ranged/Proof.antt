@@ -1,6 +1,5 @@
-use native.Mathlib.Omega.{arith}
 use Rattle.layout.proofs.Lists.{is-no, is-yes, all-yes, all-no, all-one}
-use mathlib.Core.Path.{_≡_, refl, ap, sym, _∙_}
+use mathlib.Core.Path.{sym, _∙_}
 use borrow.Author.Needs.{needs}
 use Rattle.read.proofs.sector_ranged.Statement.{statement}
 use Rattle.read.proofs.sector_ranged.Tie as tie

@@ -1,6 +1,6 @@
 -- A loop that only writes: nothing is to be kept from turn to turn.
 use borrow.Author.Needs.{needs}
-use Prim.Native.Nat.{ℕ, _-_}
+use Prim.Native.Nat.{_-_}
 use Rattle.sample.proofs.show_files.Statement.{statement}
 use Rattle.sample.proofs.show_files.Tie as tie
 

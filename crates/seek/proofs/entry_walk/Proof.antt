@@ -1,7 +1,5 @@
 use borrow.Author.Needs.{needs}
 use Rattle.seek.proofs.Laws.{Walking, walking-start, walking-here, walking-stop, walking-step, walking-end}
-use mathlib.Core.Path.{_≡_, refl, ap, sym, _∙_}
-use Prim.Native.Nat.{ℕ, _≤_, _<_, _-_, _+_, _*_}
 use native.Mathlib.Omega.{arith}
 use Rattle.seek.proofs.entry_walk.Statement.{statement}
 use Rattle.seek.proofs.entry_walk.Tie as tie

@@ -1,7 +1,7 @@
 use native.Mathlib.Omega.{arith}
 use Prim.Native.Nat.{ℕ, _-_, _*_}
 use lib.ListN.{getD}
-use mathlib.Core.Path.{_≡_, refl, ap, sym, _∙_}
+use mathlib.Core.Path.{ap, sym, _∙_}
 use Rattle.meaning.specs.Lists.{each}
 use Rattle.meaning.specs.Chain.{owned, chain, chainFrom}
 use Rattle.meaning.specs.Entries.{entryGranules}

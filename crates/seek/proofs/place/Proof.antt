@@ -1,4 +1,3 @@
-use native.Mathlib.Omega.{arith}
 use Rattle.meaning.specs.Chain.{place}
 use borrow.Author.Needs.{needs}
 use Rattle.seek.proofs.place.Statement.{statement}

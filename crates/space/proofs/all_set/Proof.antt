@@ -1,8 +1,8 @@
 use Rattle.space.proofs.Clear.{shl-wide, set-all}
 use lib.Pow.{pow-pos}
 use lib.Dec.{eqb}
-use Prim.Native.Nat.{ℕ, _%_, _^_, _-_, _*_, _+_, _<_, _≤_}
-use mathlib.Core.Path.{_≡_, refl, sym, ap, _∙_}
+use Prim.Native.Nat.{ℕ, _%_, _-_}
+use mathlib.Core.Path.{ap, _∙_}
 use native.Mathlib.Omega.{arith}
 use borrow.Author.Needs.{needs}
 use Rattle.space.proofs.all_set.Statement.{statement}

@@ -2,9 +2,8 @@ use Rattle.space.proofs.Clear.{block-every}
 use Rattle.layout.proofs.Lists.{all-no, all-yes, all-one}
 use Rattle.layout.proofs.Laws.{gat-low}
 use borrow.Author.Tests.{eq-eqb, ne-eqb}
-use Prim.Native.Nat.{ℕ, _%_, _+_, _*_, _/_}
-use mathlib.Core.List.{[], _∷_}
-use mathlib.Core.Path.{_≡_, sym, _∙_}
+use Prim.Native.Nat.{_%_}
+use mathlib.Core.Path.{sym, _∙_}
 use native.Mathlib.Omega.{arith}
 use borrow.Author.Needs.{needs}
 use Rattle.space.proofs.block_taken.Statement.{statement}

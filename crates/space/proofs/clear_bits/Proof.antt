@@ -1,9 +1,8 @@
-use Rattle.space.specs.Clear.{clearBits}
 use Rattle.space.proofs.Clear.{shl-wide, clear-ones}
 use lib.Count.{ones}
 use lib.Pow.{pow-pos}
-use Prim.Native.Nat.{ℕ, _%_, _^_, _-_, _*_, _+_, _<_, _≤_}
-use mathlib.Core.Path.{_≡_, refl, sym, ap, _∙_}
+use Prim.Native.Nat.{ℕ, _%_}
+use mathlib.Core.Path.{ap}
 use native.Mathlib.Omega.{arith}
 use borrow.Author.Needs.{needs}
 use Rattle.space.proofs.clear_bits.Statement.{statement}

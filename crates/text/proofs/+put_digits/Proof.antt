@@ -1,8 +1,8 @@
 use Rattle.text.proofs.Laws.{put-both}
-use Rattle.text.proofs.Laws.{put-none, put-as, put-then, digits-none, digits-one, digits-more}
+use Rattle.text.proofs.Laws.{put-none, put-as, digits-none, digits-one, digits-more}
 use native.Mathlib.Omega.{arith}
 use borrow.Author.Needs.{needs}
-use Prim.Native.Nat.{ℕ, _<_}
+use Prim.Native.Nat.{_<_, ℕ}
 use borrow.Fn.Kinds.{In}
 use borrow.Fn.PlainCycle.{Measures, is, falls, and}
 use Rattle.text.proofs.put_digits.Reads as put-digits

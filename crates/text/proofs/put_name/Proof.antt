@@ -4,10 +4,8 @@ use lib.ListN.{take}
 use Prim.Native.Nat.{ℕ}
 use mathlib.Core.List.{List, _++_}
 use mathlib.Core.Path.{ap}
-use Rattle.text.proofs.Laws.{put-as, put-then}
 use lib.Seq.{length-take-le}
-use lib.ListN.{length, drop, length-drop}
-use mathlib.Core.Path.{_≡_, sym, _∙_}
+use mathlib.Core.Path.{sym}
 use native.Mathlib.Omega.{arith}
 use borrow.Author.Needs.{needs}
 use Rattle.text.proofs.put_name.Statement.{statement}

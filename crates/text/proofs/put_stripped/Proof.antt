@@ -1,11 +1,10 @@
 use Rattle.text.proofs.Laws.{put-both}
-use Rattle.text.proofs.Laws.{put-none, put-as, put-then, stripped-more, stripped-all}
+use Rattle.text.proofs.Laws.{put-none, put-as, stripped-more, stripped-all}
 use Rattle.text.specs.Put.{Put}
 use Rattle.meaning.specs.Listing.{stripped}
 use lib.ListN.{length, take}
-use Prim.Native.Nat.{ℕ, _≤_, _-_}
-use mathlib.Core.List.{List}
-use mathlib.Core.Path.{_≡_, refl, ap, sym, _∙_}
+use Prim.Native.Nat.{_≤_, _-_}
+use mathlib.Core.Path.{_≡_, refl}
 use native.Mathlib.Omega.{arith}
 use borrow.Author.Needs.{needs}
 use Rattle.text.proofs.put_stripped.Statement.{statement}

@@ -1,7 +1,7 @@
 use Rattle.text.proofs.Laws.{put-both}
-use Rattle.text.proofs.Laws.{put-none, put-as, put-then, slashed-none, slashed-some}
+use Rattle.text.proofs.Laws.{put-none, slashed-none, slashed-some}
 use Rattle.meaning.specs.Listing.{stripped}
-use mathlib.Core.Path.{_≡_, sym, _∙_}
+use mathlib.Core.Path.{sym, _∙_}
 use native.Mathlib.Omega.{arith}
 use borrow.Author.Needs.{needs}
 use Rattle.text.proofs.put_type.Statement.{statement}

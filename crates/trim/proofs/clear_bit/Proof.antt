@@ -1,6 +1,6 @@
 use Rattle.meaning.specs.Layout.{freeGranule}
 use lib.ListN.{set}
-use Prim.Native.Nat.{ℕ, _+_, _*_, _/_}
+use Prim.Native.Nat.{_+_, _*_, _/_}
 use mathlib.Core.Path.{ap}
 use native.Mathlib.Nat.{mod-lt}
 use native.Mathlib.Omega.{arith}

@@ -1,7 +1,5 @@
 use Rattle.trim.proofs.Laws.{Dropping, dropping-start, dropping-one, dropping-step, dropping-end}
-use mathlib.Core.Path.{_≡_}
 use borrow.Author.Needs.{needs}
-use native.Mathlib.Omega.{arith}
 use Rattle.trim.proofs.drop_last.Statement.{statement}
 use Rattle.trim.proofs.drop_last.Tie as tie
 use Rattle.trim.proofs.drop_last.Reads as reads

@@ -1,12 +1,10 @@
 use Rattle.layout.proofs.Sound.{entry-fits}
 use Rattle.meaning.specs.Entries.{extension}
 use Rattle.trim.proofs.Laws.{last-reads, last-run, last-granule, last-before, bit-fits, by-shorter, by-emptied, by-unhooked, not-first, is-first, extension-yes, extension-no}
-use Rattle.layout.specs.Room.{Room, Slot}
 use lib.ListN.{length}
-use Prim.Native.Nat.{ℕ, _+_, _-_, _*_, _≤_, _<_}
+use Prim.Native.Nat.{_-_}
 use mathlib.Core.Logic.{⊎-elim}
-use mathlib.Core.Bool.{Bool, true, false, _&&_}
-use mathlib.Core.Path.{_≡_, refl, sym, ap, _∙_}
+use mathlib.Core.Path.{_≡_}
 use native.Mathlib.Omega.{arith}
 use borrow.Author.Needs.{needs}
 use Rattle.trim.proofs.drop_one.Statement.{statement}

@@ -1,6 +1,5 @@
 use Rattle.meaning.specs.Layout.{setField, field}
 use mathlib.Core.Path.{refl}
-use native.Mathlib.Omega.{arith}
 use borrow.Author.Needs.{needs}
 use Rattle.trim.proofs.shorten.Statement.{statement}
 use Rattle.trim.proofs.shorten.Tie as tie

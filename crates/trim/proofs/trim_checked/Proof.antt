@@ -6,8 +6,8 @@ use Rattle.trim.proofs.trim_checked.Statement.{statement}
 use Rattle.trim.proofs.trim_checked.Tie as tie
 use Rattle.trim.proofs.trim_checked.Reads as reads
 use Rattle.trim.proofs.trim_checked.Lts as lts
-use Rattle.growth.proofs.granules_for.Reads as granules-for-reads
-use Rattle.growth.proofs.measure.Reads as measure-reads
+use Rattle.extent.proofs.granules_for.Reads as granules-for-reads
+use Rattle.extent.proofs.measure.Reads as measure-reads
 use Rattle.handle.proofs.changing_number.Reads as changing-number-reads
 use Rattle.handle.proofs.in_range.Reads as in-range-reads
 use Rattle.layout.proofs.field.Reads as field-reads

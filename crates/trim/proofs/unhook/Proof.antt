@@ -1,6 +1,5 @@
 use Rattle.meaning.specs.Layout.{setField}
 use Rattle.meaning.specs.Drop.{unhooked}
-use mathlib.Core.Path.{refl}
 use native.Mathlib.Nat.{add-zero}
 use lib.ListN.{length-set}
 use native.Mathlib.Omega.{arith}

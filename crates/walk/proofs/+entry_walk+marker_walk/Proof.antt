@@ -1,13 +1,13 @@
-use Prim.Native.Nat.{_+_, _*_}
+use Prim.Native.Nat.{_<_, _+_, _*_}
 use Rattle.layout.proofs.Lists.{is-no, is-yes}
 use Rattle.layout.proofs.Sound.{slot-of}
-use mathlib.Core.Path.{refl, ap, sym, _∙_}
+use mathlib.Core.Path.{refl, ap, _∙_}
 use Rattle.meaning.specs.Layout.{isSlot}
 use Rattle.walk.proofs.Laws.{goes-slot, walked-none, walked-again, walked-entry-no, walked-entry, walked-end, walked-stop, walked-on}
 use borrow.Author.Needs.{needs}
 use native.Mathlib.Omega.{arith}
 use borrow.Author.Tests.{not-false}
-use Prim.Native.Nat.{ℕ, _<_}
+use Prim.Native.Nat.{ℕ}
 use borrow.Fn.Kinds.{In}
 use borrow.Fn.PlainCycle.{Measures, is, falls, and}
 use Rattle.walk.proofs.entry_walk.Reads as entry-walk

@@ -1,8 +1,7 @@
 use lib.ListN.{getD}
 use Prim.Native.Nat.{ℕ, _+_}
-use native.Mathlib.Omega.{arith}
 use Rattle.meaning.specs.Layout.{field}
-use mathlib.Core.Path.{sym, ap, _∙_}
+use mathlib.Core.Path.{ap, _∙_}
 use borrow.Author.Needs.{needs}
 use Rattle.walk.proofs.field_at.Statement.{statement}
 use Rattle.walk.proofs.field_at.Tie as tie

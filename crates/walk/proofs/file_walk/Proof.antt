@@ -1,7 +1,5 @@
-use Prim.Native.Nat.{_+_, _*_}
-use mathlib.Core.Path.{refl, ap, sym, _∙_}
-use Rattle.walk.proofs.Laws.{walked-again, walked-entry-no, walked-entry, walked-end, walked-first}
-use native.Mathlib.Nat.{zero-add}
+use mathlib.Core.Path.{_∙_}
+use Rattle.walk.proofs.Laws.{walked-again, walked-entry-no, walked-end, walked-first}
 use native.Mathlib.Omega.{arith}
 use borrow.Author.Tests.{not-false}
 use borrow.Author.Needs.{needs}

@@ -1,12 +1,10 @@
-use native.Mathlib.Omega.{arith}
 use lib.Dec.{eqb}
 use Prim.Native.Nat.{ℕ}
 use Rattle.walk.proofs.Laws.{goes-at}
-use Rattle.walk.proofs.Lists.{on, off}
+use Rattle.layout.proofs.Lists.{on, off, all-yes, all-no, all-one, is-no, is-yes, not-yes, not-no}
 use Rattle.walk.specs.Walk.{goesOn}
 use Rattle.meaning.specs.Layout.{hit}
 use Rattle.layout.proofs.Sound.{slot-of}
-use Rattle.layout.proofs.Lists.{all-yes, all-no, all-one, is-no, is-yes, not-yes, not-no}
 use mathlib.Core.Path.{sym, ap, _∙_}
 use borrow.Author.Needs.{needs}
 use Rattle.walk.proofs.goes_on.Statement.{statement}

@@ -1,9 +1,8 @@
 use lib.Dec.{eqb}
 use Prim.Native.Nat.{ℕ}
-use Rattle.meaning.specs.Entries.{block}
 use Rattle.walk.specs.Walk.{unused}
 use mathlib.Core.Bool.{Bool, _||_}
-use mathlib.Core.Path.{_≡_, ap, sym, _∙_}
+use mathlib.Core.Path.{ap, sym, _∙_}
 use borrow.Author.Tests.{lt-ltb, le-ltb}
 use borrow.Author.Needs.{needs}
 use Rattle.walk.proofs.no_run.Statement.{statement}

@@ -1,6 +1,5 @@
 use Rattle.walk.specs.Walk.{unused}
-use mathlib.Core.Bool.{Bool, _&&_}
-use mathlib.Core.Path.{_≡_, refl, ap, sym, _∙_}
+use mathlib.Core.Path.{refl, sym, _∙_}
 use borrow.Author.Tests.{not-true, not-false}
 use Rattle.walk.proofs.Lists.{four-looked}
 use borrow.Author.Needs.{needs}

@@ -1,7 +1,7 @@
 use Rattle.walk.proofs.Laws.{block-in, block-out, on-map, takes-unit, takes-disk, takes-map, takes-run}
 use Rattle.layout.proofs.Laws.{below}
 use Rattle.marks.proofs.Standing.{takes-marks}
-use Prim.Native.Nat.{_+_, _*_, _/_, _%_}
+use Prim.Native.Nat.{_+_, _/_, _%_}
 use mathlib.Core.Path.{refl}
 use native.Mathlib.Omega.{arith}
 use borrow.Author.Needs.{needs}

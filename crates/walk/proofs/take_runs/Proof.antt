@@ -3,7 +3,6 @@ use borrow.Author.Needs.{needs}
 use Rattle.walk.proofs.Laws.{Entering, entering-start, entering-step, entering-bad, entering-stop, entering-end}
 use Prim.Native.Nat.{_-_}
 use Rattle.marks.specs.Owners.{standing}
-use mathlib.Core.Path.{_≡_, refl, sym, _∙_}
 use Rattle.walk.proofs.take_runs.Statement.{statement}
 use Rattle.walk.proofs.take_runs.Tie as tie
 use Rattle.walk.proofs.take_runs.Reads as reads

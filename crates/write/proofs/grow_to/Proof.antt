@@ -1,7 +1,7 @@
 use Rattle.growth.proofs.Whole.{Whole, whole-none}
 use Rattle.meaning.specs.Refusals.{lacking}
 use Prim.Native.Nat.{ℕ}
-use mathlib.Core.Path.{_≡_, subst}
+use mathlib.Core.Path.{subst}
 use native.Mathlib.Omega.{arith}
 use borrow.Author.Needs.{needs}
 use Rattle.write.proofs.grow_to.Statement.{statement}
@@ -9,7 +9,7 @@ use Rattle.write.proofs.grow_to.Tie as tie
 use Rattle.write.proofs.grow_to.Reads as reads
 use Rattle.write.proofs.grow_to.Lts as lts
 use Rattle.growth.proofs.grow.Reads as grow-reads
-use Rattle.growth.proofs.granules_for.Reads as granules-for-reads
+use Rattle.extent.proofs.granules_for.Reads as granules-for-reads
 
 -- src/lib.rt:117:9
 granules-for-requires : tie.Need-granules-for-requires

@@ -1,7 +1,5 @@
 use lib.ListN.{take}
 use Rattle.write.proofs.Laws.{gap-file, gap-then, recorded}
-use mathlib.Core.Path.{_≡_, refl, ap, sym, _∙_}
-use native.Mathlib.Omega.{arith}
 use borrow.Author.Needs.{needs}
 use Rattle.write.proofs.put_record.Statement.{statement}
 use Rattle.write.proofs.put_record.Tie as tie

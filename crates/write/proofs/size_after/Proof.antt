@@ -1,8 +1,7 @@
 use Rattle.write.proofs.Calls.{after-sequential, after-random}
 use Rattle.meaning.specs.declared.Mode.{Mode}
 use Rattle.meaning.specs.Write.{sizeAfter}
-use Prim.Native.Nat.{ℕ}
-use mathlib.Core.Path.{_≡_, refl, ap, sym, _∙_}
+use mathlib.Core.Path.{ap, sym, _∙_}
 use native.Mathlib.Omega.{arith}
 use borrow.Author.Needs.{needs}
 use Rattle.write.proofs.size_after.Statement.{statement}

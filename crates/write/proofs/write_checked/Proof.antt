@@ -1,15 +1,10 @@
 use Rattle.write.proofs.Calls.{refused, not-grown, written, fit, stores, sized, old-fits, size-is, number-is, image-is, sizes-low, old-owned}
 use Rattle.growth.proofs.Handed.{ready}
 use Rattle.handle.proofs.Laws.{passed, checked-room}
-use Rattle.meaning.specs.Write.{sizeAfter, withSize}
-use Rattle.meaning.specs.Entries.{sizeOf}
-use Rattle.meaning.specs.Layout.{granulesFor}
-use Rattle.meaning.specs.Refusals.{first, cannotGrow, accepted, larger, protected, lacking}
-use lib.ListN.{length}
-use Prim.Native.Nat.{ℕ, _+_, _-_, _*_, _/_, _≤_, _<_}
-use mathlib.Core.Bool.{cond}
-use mathlib.Core.List.{List, [], _∷_}
-use mathlib.Core.Path.{_≡_, refl, ap, sym, _∙_, subst}
+use Rattle.meaning.specs.Refusals.{protected}
+use Prim.Native.Nat.{_+_}
+use mathlib.Core.List.{[], _∷_}
+use mathlib.Core.Path.{refl}
 use native.Mathlib.Omega.{arith}
 use borrow.Author.Needs.{needs}
 use Rattle.write.proofs.write_checked.Statement.{statement}

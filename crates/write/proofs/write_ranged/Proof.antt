@@ -1,7 +1,7 @@
 use Rattle.write.proofs.Calls.{in-reach}
 use Rattle.layout.proofs.Lists.{is-no, is-yes, all-yes, all-no, all-one}
 use borrow.Author.Tests.{lt-leb, le-leb}
-use mathlib.Core.Path.{_≡_, refl, ap, sym, _∙_}
+use mathlib.Core.Path.{sym, _∙_}
 use native.Mathlib.Omega.{arith}
 use borrow.Author.Needs.{needs}
 use Rattle.write.proofs.write_ranged.Statement.{statement}

@@ -1,0 +1,19 @@
+use mathlib.Core.Path.{sym}
+use Rattle.layout.proofs.Laws.{digit-at}
+use borrow.Author.Needs.{needs}
+use Rattle.attributes.proofs.is_system.Statement.{statement}
+use Rattle.attributes.proofs.is_system.Tie as tie
+use Rattle.attributes.proofs.is_system.Reads as reads
+use Rattle.attributes.proofs.is_system.Lts as lts
+use Rattle.layout.proofs.field.Reads as field-reads
+
+-- src/lib.rt:358:6
+field-requires : tie.Need-field-requires
+field-requires c κs = search needs
+
+-- src/lib.rt:354:1
+returns : tie.Need-returns
+returns c = simp (sym (c .field .ensures .is), digit-at)
+
+pub is-system-spec : {M : Type 1} → statement M
+is-system-spec = tie.close (tie.spec field-requires returns)

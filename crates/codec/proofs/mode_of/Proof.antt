@@ -1,0 +1,19 @@
+use Rattle.codec.specs.Words.{modeOf}
+use borrow.Author.Needs.{needs}
+use Rattle.codec.proofs.mode_of.Statement.{statement}
+use Rattle.codec.proofs.mode_of.Tie as tie
+use Rattle.codec.proofs.mode_of.Reads as reads
+use Rattle.codec.proofs.mode_of.Lts as lts
+
+-- src/lib.rt:89:9
+returns : tie.Need-returns
+unfolding modeOf
+returns c = search needs
+
+-- src/lib.rt:85:1
+returns-2 : tie.Need-returns-2
+unfolding modeOf
+returns-2 c = search needs
+
+pub mode-of-spec : {M : Type 1} → statement M
+mode-of-spec = tie.close (tie.spec returns returns-2)

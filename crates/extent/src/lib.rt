@@ -1,0 +1,62 @@
+// How far a file reaches, and how many granules a size needs.
+use meaning::Geometry;
+ghost use mathlib.Core.Path.{_≡_};
+ghost use Prim.Native.Nat.{_≤_};
+ghost use lib.ListN.{length};
+ghost use Rattle.meaning.specs.Layout.{granulesFor};
+ghost use Rattle.meaning.specs.Entries.{entryGranules};
+ghost use Rattle.layout.specs.Room.{Room, Slot, Below};
+ghost use Rattle.seek.specs.Seek.{Sound, Used};
+ghost use Rattle.extent.specs.Reach.{Reaches};
+
+// The last entry of a file, and how many granules the file owns.
+pub struct Extent {
+    pub last: usize,
+    pub owned: usize,
+}
+
+// How many granules that many bytes need.
+pub fn granules_for(n: usize) -> usize
+    requires { ⌜ n ≤ 33554432 ⌝ }
+    ensures { λ r. ⌜ r ≡ granulesFor n ⌝ }
+{
+    (n + (layout::GRANULE_BYTES - 1)) / layout::GRANULE_BYTES
+}
+
+// How many granules the runs of an entry hold.
+pub fn entry_length(image: &[u8], g: Geometry, s: usize) -> usize
+    requires { ⌜ Room g (now image) × Slot g (now image) s ⌝ }
+    ensures { λ r. ⌜ Below 129 (length (entryGranules g (now (image .entry)) s)) r ⌝ }
+{
+    let mut k = 0;
+    let mut n = 0;
+    while k < 4 {
+        if layout::field(image, g, s, 0x16 + 2 * k) == 255 {
+            return n;
+        }
+        n = n + (1 + layout::field(image, g, s, 0x17 + 2 * k) % 32);
+        k += 1;
+    }
+    n
+}
+
+// How far the file at slot s reaches.
+pub fn measure(image: &[u8], g: Geometry, s: usize) -> Extent
+    requires { ⌜ Sound g (now image) × Used g (now image) s ⌝ }
+    ensures { λ r. ⌜ Reaches g (now (image .entry)) s r ⌝ }
+{
+    let mut at = s;
+    let mut last = s;
+    let mut owned = 0;
+    let mut left = 8 * (layout::directory_sectors(image, g) - 2);
+    while 0 < left {
+        last = at;
+        owned = owned + entry_length(image, g, at);
+        if layout::field(image, g, at, 0x1e) != 0xfe {
+            return Extent { last, owned };
+        }
+        at = layout::field(image, g, at, 0x1f);
+        left -= 1;
+    }
+    Extent { last, owned }
+}

@@ -1,0 +1,4 @@
+pub mod First
+pub mod Entry
+pub mod Chain
+pub mod File

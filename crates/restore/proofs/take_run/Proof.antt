@@ -1,0 +1,65 @@
+use Rattle.taken.proofs.Steps.{run-steps}
+use Rattle.restore.proofs.Done.{done-end}
+use Rattle.restore.proofs.Frame.{Taking, taking-start, taking-more, under-one}
+use Rattle.seek.proofs.Frame.{same-room}
+use Rattle.meaning.specs.Lists.{count}
+use Prim.Native.Nat.{_-_}
+use native.Mathlib.Omega.{arith}
+use Rattle.restore.proofs.take_run.Statement.{statement}
+use Rattle.restore.proofs.take_run.Tie as tie
+use Rattle.restore.proofs.take_run.Reads as reads
+use Rattle.restore.proofs.take_run.Lts as lts
+use Rattle.space.proofs.take_granule.Reads as take-granule-reads
+
+abbrev Inv-loop : tie.InvT-loop
+Inv-loop image₀ g a n k₀ image k = Taking g image₀ (count a) image k n
+
+abbrev μ-loop : tie.MeasureT-loop
+μ-loop image₀ g a n k₀ image k = n - k
+
+-- src/lib.rt:202:5
+loop-holds : tie.Need-loop-holds Inv-loop μ-loop
+loop-holds c = taking-start _ _ _ (run-steps _)
+
+-- src/lib.rt:203:39
+add-take-granule : tie.Need-add-take-granule Inv-loop μ-loop
+add-take-granule c = let m = c .before .before .before .before .pre .0 .most in omega arith
+
+-- src/lib.rt:203:9
+take-granule-requires : tie.Need-take-granule-requires Inv-loop μ-loop
+take-granule-requires c κs = (same-room _ _ _ (c .before .before .before .before .pre .0) (c .before .before .loop .inv .same), omega arith)
+
+-- src/lib.rt:204:9
+add-k : tie.Need-add-k Inv-loop μ-loop
+add-k c = omega arith
+
+-- src/lib.rt:202:5
+loop-less : tie.Need-loop-less Inv-loop μ-loop
+loop-less c = omega arith
+
+-- src/lib.rt:202:5
+loop-again : tie.Need-loop-again Inv-loop μ-loop
+loop-again c = taking-more _ (run-steps _) (c .before .before .before .before .before .before .before .pre .0) (c .before .before .before .before .before .loop .inv) (c .before .before .before .before .loop-test .taken) (under-one _ (omega arith)) (c .before .before .take-granule .ensures)
+
+-- src/lib.rt:197:1
+same-length : tie.Need-same-length Inv-loop μ-loop
+same-length c = c .before .loop .inv .same .long
+
+-- src/lib.rt:197:1
+returns : tie.Need-returns Inv-loop μ-loop
+returns c = done-end (c .before .loop .inv .done) (c .loop-test .left)
+
+pub take-run-spec : {M : Type 1} → statement M
+take-run-spec =
+    tie.close
+    (tie.spec
+    Inv-loop
+    μ-loop
+    loop-holds
+    add-take-granule
+    take-granule-requires
+    add-k
+    loop-less
+    loop-again
+    same-length
+    returns)

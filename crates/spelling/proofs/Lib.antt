@@ -1,0 +1,2 @@
+mod Name
+mod Padded

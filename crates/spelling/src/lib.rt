@@ -1,0 +1,94 @@
+// Whether a name is well formed.
+ghost use mathlib.Core.Path.{_≡_};
+ghost use mathlib.Core.Bool.{true, _&&_};
+ghost use Prim.Native.Nat.{_-_, _≤_};
+ghost use lib.Dec.{eqb};
+ghost use lib.ListN.{length, getD, take, drop};
+ghost use Rattle.meaning.specs.Lists.{every};
+ghost use Rattle.meaning.specs.Names.{letter, padded, wellFormed};
+ghost use Rattle.spelling.specs.Plain.{plain};
+
+// Allowed bytes 30H to 39H and 41H to 5DH. It branches nowhere, so that eight bytes can be looked at together.
+fn letter(x: u8) -> bool
+    ensures { λ r. ⌜ r ≡ letter x ⌝ }
+{
+    ((0x30 <= x) & (x <= 0x39)) | ((0x41 <= x) & (x <= 0x5d))
+}
+
+// An allowed byte or 20H.
+fn plain(x: u8) -> bool
+    ensures { λ r. ⌜ r ≡ plain x ⌝ }
+{
+    (x == 0x20) | letter(x)
+}
+
+// Whether the bytes of a name from one place up to another are all 20H.
+fn blank(name: &[u8], from: usize, to: usize) -> bool
+    requires { ⌜ to ≤ length (now name) ⌝ }
+    ensures { λ r. ⌜ r ≡ every (eqb 0x20) (take (to - from) (drop from (now (name .entry)))) ⌝ }
+{
+    let mut i = from;
+    while i < to {
+        if name[i] != 0x20 {
+            return false;
+        }
+        i += 1;
+    }
+    true
+}
+
+// Whether each of the first eight bytes of a name is allowed or 20H.
+fn eight_plain(name: &[u8]) -> bool
+    requires { ⌜ length (now name) ≡ 11 ⌝ }
+    ensures { λ r. ⌜ r ≡ every plain (take 8 (now (name .entry))) ⌝ }
+{
+    plain(name[0])
+        & plain(name[1])
+        & plain(name[2])
+        & plain(name[3])
+        & plain(name[4])
+        & plain(name[5])
+        & plain(name[6])
+        & plain(name[7])
+}
+
+// Whether the first eight bytes of a name, each of them allowed or 20H, begin with an allowed byte and are padded right with 20H: no allowed
+// byte follows a 20H. Bit 7 of each byte of `letters` tells whether that byte is allowed; the bytes after them stand one byte lower in
+// `letters / 256`.
+fn blanks_last(name: &[u8]) -> bool
+    requires { ⌜ (length (now name) ≡ 11) × (every plain (take 8 (now name)) ≡ true) ⌝ }
+    ensures { λ r. ⌜ r ≡ (letter (getD (now (name .entry)) 0 0) && padded (take 8 (now (name .entry)))) ⌝ }
+{
+    let letters = (layout::eight(name, 0) + 0x5f5f5f5f5f5f5f5f) & 0x8080808080808080;
+    (letters / 256) | 0x80 | letters == letters
+}
+
+// Whether the three bytes of type are padded right with 20H.
+fn type_padded(name: &[u8]) -> bool
+    requires { ⌜ length (now name) ≡ 11 ⌝ }
+    ensures { λ r. ⌜ r ≡ padded (take 3 (drop 8 (now (name .entry)))) ⌝ }
+{
+    if !letter(name[8]) {
+        return blank(name, 8, 11);
+    }
+    if !letter(name[9]) {
+        return blank(name, 9, 11);
+    }
+    plain(name[10])
+}
+
+// Whether a name is well formed. One that has not 11 bytes is not.
+pub fn well_formed(name: &[u8]) -> bool
+    ensures { λ r. ⌜ r ≡ wellFormed (now (name .entry)) ⌝ }
+{
+    if name.len() != 11 {
+        return false;
+    }
+    if !eight_plain(name) {
+        return false;
+    }
+    if !blanks_last(name) {
+        return false;
+    }
+    type_padded(name)
+}

@@ -1,0 +1,197 @@
+-- A growth turn by turn.
+use mathlib.Core.Path.{_≡_, refl, ap, sym, _∙_, subst}
+use mathlib.Core.Logic.{_≢_, _⊎_, ⊎-elim}
+use mathlib.Core.Bool.{true, false, not}
+use mathlib.Core.List.{List}
+use Prim.Native.Nat.{ℕ, zero, suc, _+_, _-_, _*_, _≤_, _<_}
+use native.Mathlib.Omega.{arith}
+use native.Mathlib.Decide.{ℕ-discrete}
+use lib.ListN.{length}
+use Rattle.meaning.specs.Layout.{taken, takeGranule, field, setField, granules}
+use Rattle.meaning.specs.Entries.{runs}
+use Rattle.meaning.specs.Growth.{tail, lengthens, withPair, withExtension, takeOne, grown, noSlot, grow, andThen, fails}
+use Rattle.meaning.specs.Free.{freeGranules, freeSlot}
+use Rattle.meaning.specs.declared.Geometry.{Geometry}
+use Rattle.laws.specs.Members
+use Rattle.laws.specs.Steps.{Ready}
+use Rattle.layout.specs.Room.{Room, Slot}
+use Rattle.layout.proofs.Lists.{le-or-lt}
+use Rattle.layout.proofs.Sound.{slot-of}
+use Rattle.joint.proofs.Ready.{walks}
+use Rattle.space.proofs.First.{NoneBelow}
+use Rattle.supply.specs.Stand.{Stand}
+use Rattle.supply.specs.Search.{Ends}
+use Rattle.supply.specs.declared.Ending.{Ending}
+use Rattle.supply.proofs.Step
+
+module _ (g : Geometry) (p : ℕ) where
+  -- one turn of the growth
+  pub grow-more : (left : ℕ) (d d′ : List ℕ) → 0 < left → takeOne g p d ≡ grown d′ → grow g p left d ≡ grow g p (left - 1) d′
+  unfolding grow andThen
+  grow-more zero d d′ h e = absurd (let z : ⊥ = omega arith in z)
+  grow-more (suc left) d d′ h e = let q : suc left - 1 ≡ left = omega arith in rw (e, q)
+
+  pub grow-stuck : (left : ℕ) (d : List ℕ) → 0 < left → takeOne g p d ≡ noSlot → fails (grow g p left d) ≡ true
+  unfolding grow andThen fails
+  grow-stuck zero d h e = absurd (let z : ⊥ = omega arith in z)
+  grow-stuck (suc left) d h e = rw e
+
+  pub grow-done : (left : ℕ) (d : List ℕ) → left ≤ 0 → grow g p left d ≡ grown d
+  unfolding grow
+  grow-done zero d h = refl
+  grow-done (suc left) d h = absurd (let z : ⊥ = omega arith in z)
+
+  pub not-stuck : (d : List ℕ) → fails (grown d) ≡ false
+  unfolding fails
+  not-stuck d = refl
+
+  -- `left` granules are to come on disk d; none below `next` is free, and no slot below `slot`
+  pub record Growing (k : ℕ) (d₀ d : List ℕ) (e runs after long next slot left : ℕ) : Type 0 where
+    pub rest : grow g p k d₀ ≡ grow g p left d
+    pub stand : Stand g p d e runs after long
+    pub room : left ≤ length (freeGranules g d)
+    pub none : NoneBelow (Step.free g d) next
+    pub slots : NoneBelow (freeSlot g d) slot
+    pub next-low : next ≤ granules g
+    pub slot-low : slot ≤ 256
+    pub few : runs ≤ 4
+    pub short : long ≤ 32
+    pub same-long : length d ≡ length d₀
+
+  -- what the code asks of the disk at each turn
+  pub stand-room : {d : List ℕ} {e r a l : ℕ} → Stand g p d e r a l → Room g d
+  stand-room {d} s = walks g d p (s .ready) .0 .room
+
+  pub stand-slot : {d : List ℕ} {e r a l : ℕ} → Stand g p d e r a l → Slot g d e
+  stand-slot {d} {e} s = slot-of g d e (Members.T-true (Step.member′ g d p (s .ready) (s .last) .slot))
+
+  pub ready-slot : {d : List ℕ} → Ready g d p → Slot g d p
+  ready-slot {d} y = slot-of g d p (y .slot)
+
+  pub tail-slot : {d : List ℕ} {e : ℕ} → Ready g d p → e ≡ tail g p d → Slot g d e
+  tail-slot {d} {e} y q = slot-of g d e (Members.T-true (Step.member′ g d p y (sym q) .slot))
+
+  pub stand-start : {d : List ℕ} {e : ℕ} {r : Ending} → Ready g d p → e ≡ tail g p d → Ends g d e r → Stand g p d e (r .runs) (r .after) (r .long)
+  stand-start {d} {e} {r} y q w = ⊎-elim
+      (λ (h : r .runs ≤ 0). Step.stand-none g p y (sym q) (w .many) (omega arith) (w .none (omega arith)))
+      (λ (h : 0 < r .runs). Step.stand-run g p y (sym q) (w .many) h (w .after h .0) (w .after h .1)) (le-or-lt (r .runs) 0)
+
+  pub growing-start : {k : ℕ} {d : List ℕ} {e : ℕ} {r : Ending} → Ready g d p → e ≡ tail g p d → k ≤ length (freeGranules g d) → Ends g d e r
+      → Growing k d d e (r .runs) (r .after) (r .long) 0 0 k
+  growing-start y q h w = record {
+    rest = refl;
+    stand = stand-start y q w;
+    room = h;
+    none = λ n l. absurd (let z : ⊥ = omega arith in z);
+    slots = λ n l. absurd (let z : ⊥ = omega arith in z);
+    next-low = omega arith;
+    slot-low = omega arith;
+    few = w .few;
+    short = w .small;
+    same-long = refl;
+  }
+
+  -- a granule taken: none is free below where none was, nor below it where it was the lowest
+  none-after : {d d′ : List ℕ} {m c : ℕ} → Step.Taken g p d d′ m → NoneBelow (Step.free g d) c → c ≤ granules g → NoneBelow (Step.free g d′) c
+  none-after {d} {d′} {m} {c} t none h n l = go (ℕ-discrete n m)
+    where
+      go : Dec (n ≡ m) → not (taken g d′ n) ≡ false
+      go (yes q) = ap not (ap (taken g d′) q ∙ t .set′)
+      go (no q) = ap not (t .keeps n (omega arith) q) ∙ none n l
+
+  none-past : {d d′ : List ℕ} {m : ℕ} → Step.Taken g p d d′ m → NoneBelow (Step.free g d) m → m < granules g → NoneBelow (Step.free g d′) (m + 1)
+  none-past {d} {d′} {m} t none h n l = go (ℕ-discrete n m)
+    where
+      go : Dec (n ≡ m) → not (taken g d′ n) ≡ false
+      go (yes q) = ap not (ap (taken g d′) q ∙ t .set′)
+      go (no q) = ap not (t .keeps n (omega arith) q) ∙ none n (omega arith)
+
+  module _ {k : ℕ} {d₀ d : List ℕ} {e r a l next slot left : ℕ} (c : Growing k d₀ d e r a l next slot left) (h : 0 < left) where
+    some-room : 1 ≤ length (freeGranules g d)
+    some-room = omega (arith, c .room)
+
+    -- 1. the last run grows
+    pub growing-longer : l < 32 → (i : a < granules g) → taken g d a ≡ false → {d′ : List ℕ} {next′ : ℕ} → d′ ≡ takeGranule g (setField g d e (0x17 + 2 * (r - 1)) (field g d e (0x17 + 2 * (r - 1)) + 1)) a
+        → ((next′ ≡ next) ⊎ ((next′ ≡ a + 1) × (next ≡ a))) → Step.Taken g p d d′ a × ((x : ℕ) → freeSlot g d′ x ≡ freeSlot g d x) × Growing k d₀ d′ e r (a + 1) (l + 1) next′ slot (left - 1)
+    unfolding Step.d₁
+    growing-longer u i f {d′} {next′} q w =
+        let t : Step.Taken g p d d′ a = rw q (Step.longer-taken g p (c .stand) u i f) in
+        let s : (x : ℕ) → freeSlot g d′ x ≡ freeSlot g d x = rw q (Step.longer-slots g p (c .stand) u i f) in
+        let low : next′ ≤ granules g = ⊎-elim (λ (z : next′ ≡ next). let y = c .next-low in omega arith) (λ (z : (next′ ≡ a + 1) × (next ≡ a)). let y = z .0 in omega arith) w in (
+          t,
+          s,
+          record {
+            rest = c .rest ∙ grow-more left d d′ h (t .one);
+            stand = rw q (Step.longer-stand g p (c .stand) u i f some-room);
+            room = omega (arith, c .room, t .fewer);
+            none = ⊎-elim
+                (λ (z : next′ ≡ next). rw z (none-after t (c .none) (c .next-low)))
+                (λ (z : (next′ ≡ a + 1) × (next ≡ a)). rw (z .0) (none-past t (subst (NoneBelow (Step.free g d)) (z .1) (c .none)) i)) w;
+            slots = λ x y. s x ∙ c .slots x y;
+            next-low = low;
+            slot-low = c .slot-low;
+            few = c .few;
+            short = omega arith;
+            same-long = t .long ∙ c .same-long;
+          },
+        )
+
+    -- 2. a new run in the last entry
+    pub growing-pair : lengthens g p d ≡ false → r < 4 → {n : ℕ} → NoneBelow (Step.free g d) n → n < granules g → taken g d n ≡ false → {d′ : List ℕ} → d′ ≡ withPair g p d e r n
+        → Step.Taken g p d d′ n × ((x : ℕ) → freeSlot g d′ x ≡ freeSlot g d x) × Growing k d₀ d′ e (r + 1) (n + 1) 1 (n + 1) slot (left - 1)
+    unfolding Step.d₂
+    growing-pair u v {n} none i f {d′} q =
+        let t : Step.Taken g p d d′ n = rw q (Step.pair-taken g p (c .stand) u v none i f) in
+        let s : (x : ℕ) → freeSlot g d′ x ≡ freeSlot g d x = rw q (Step.pair-slots g p (c .stand) u v none i f) in (
+          t,
+          s,
+          record {
+            rest = c .rest ∙ grow-more left d d′ h (t .one);
+            stand = rw q (Step.pair-stand g p (c .stand) u v none i f some-room);
+            room = omega (arith, c .room, t .fewer);
+            none = none-past t none i;
+            slots = λ x y. s x ∙ c .slots x y;
+            next-low = omega arith;
+            slot-low = c .slot-low;
+            few = omega arith;
+            short = omega arith;
+            same-long = t .long ∙ c .same-long;
+          },
+        )
+
+    -- 3. a run in a new extension
+    pub growing-new : lengthens g p d ≡ false → 4 ≤ r → {n x : ℕ} → NoneBelow (Step.free g d) n → n < granules g → taken g d n ≡ false → x < 256 → NoneBelow (freeSlot g d) x → freeSlot g d x ≡ true
+        → {d′ : List ℕ} → d′ ≡ withPair g p (withExtension g p d e x) x 0 n
+        → Step.Taken g p d d′ n × ((y : ℕ) → y ≢ x → freeSlot g d′ y ≡ freeSlot g d y) × Growing k d₀ d′ x 1 (n + 1) 1 (n + 1) (x + 1) (left - 1)
+    unfolding Step.d₃
+    growing-new u v {n} {x} none i f b slots o {d′} q =
+        let t : Step.Taken g p d d′ n = rw q (Step.new-taken g p (c .stand) u v none i f b slots o) in
+        let s : (y : ℕ) → y ≢ x → freeSlot g d′ y ≡ freeSlot g d y = rw q (Step.new-slots g p (c .stand) u v none i f b slots o) in
+        let z : freeSlot g d′ x ≡ false = rw q (Step.new-slot g p (c .stand) u v none i f b slots o) in (
+          t,
+          s,
+          record {
+            rest = c .rest ∙ grow-more left d d′ h (t .one);
+            stand = rw q (Step.new-stand g p (c .stand) u v none i f b slots o some-room);
+            room = omega (arith, c .room, t .fewer);
+            none = none-past t none i;
+            slots = λ y w. last s z y w (ℕ-discrete y x);
+            next-low = omega arith;
+            slot-low = omega arith;
+            few = omega arith;
+            short = omega arith;
+            same-long = t .long ∙ c .same-long;
+          },
+        )
+      where
+        last : ((y : ℕ) → y ≢ x → freeSlot g d′ y ≡ freeSlot g d y) → freeSlot g d′ x ≡ false → (y : ℕ) → y < x + 1 → Dec (y ≡ x) → freeSlot g d′ y ≡ false
+        last s z y w (yes e) = rw e z
+        last s z y w (no e) = s y e ∙ slots y (omega arith)
+
+    -- no slot is left
+    pub growing-stuck : lengthens g p d ≡ false → 4 ≤ r → NoneBelow (freeSlot g d) 256 → fails (grow g p k d₀) ≡ true
+    growing-stuck u v none =
+        ap fails (c .rest) ∙ grow-stuck left d h (Step.one-none g p d u (rw (c .stand .last, c .stand .many) v) none)
+
+  pub growing-end : {k : ℕ} {d₀ d : List ℕ} {e r a l next slot left : ℕ} → Growing k d₀ d e r a l next slot left → left ≤ 0 → grown d ≡ grow g p k d₀
+  growing-end {left = left} c h = sym (c .rest ∙ grow-done left _ h)

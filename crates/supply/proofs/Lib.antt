@@ -1,0 +1,4 @@
+pub mod Step
+pub mod Search
+pub mod Growing
+pub mod Paper

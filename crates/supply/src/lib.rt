@@ -1,0 +1,176 @@
+// What a growth looks for: the granule and the slot that come next, and whether there are enough of both. The disk stays as it is.
+use meaning::Geometry;
+ghost use mathlib.Core.Path.{_≡_};
+ghost use Prim.Native.Nat.{_≤_};
+ghost use lib.ListN.{length};
+ghost use lib.Dec.{ltb};
+ghost use Rattle.meaning.specs.Layout.{granules};
+ghost use Rattle.meaning.specs.Free.{freeGranules};
+ghost use Rattle.meaning.specs.Growth.{tail, grow, fails};
+ghost use Rattle.laws.specs.Steps.{Ready};
+ghost use Rattle.layout.specs.Room.{Room, Slot};
+ghost use Rattle.supply.specs.Search.{Ends, Clear, NextFree, NextSlot};
+
+// A run is 1 to 32 granules.
+pub const MOST_RUN: usize = 32;
+
+// An entry has four pairs.
+pub const PAIRS: usize = 4;
+
+// The runs of an entry; the granule after the last of them, and how long that one is. `long` is 32 where there is none.
+pub struct Ending {
+    pub runs: usize,
+    pub after: usize,
+    pub long: usize,
+}
+
+// Whether fewer than k granules are free. From the last block on: growth takes the lowest granules, so that free ones are met soonest there.
+pub fn too_few(image: &[u8], g: Geometry, k: usize) -> bool
+    requires { ⌜ Room g (now image) ⌝ }
+    ensures { λ r. ⌜ r ≡ ltb (length (freeGranules g (now (image .entry)))) k ⌝ }
+{
+    let mut n = 0;
+    let mut b = g.blocks;
+    while 0 < b {
+        if k <= n {
+            return false;
+        }
+        b -= 1;
+        n = n + space::clear_bits(layout::wide(image[256 * g.start + b]), g.units);
+    }
+    n < k
+}
+
+// The lowest granule from `from` on that is clear in the GAT and is none of lo to hi. A block that is taken is one step.
+pub fn next_free(image: &[u8], g: Geometry, from: usize, lo: usize, hi: usize) -> usize
+    requires { ⌜ Room g (now image) × (from ≤ granules g) ⌝ }
+    ensures { λ r. ⌜ NextFree g (now (image .entry)) from lo hi r ⌝ }
+{
+    let total = layout::granules(g);
+    let mut n = from;
+    while n < total {
+        if space::block_taken(image, g, n) {
+            n += g.units;
+            continue;
+        }
+        if !layout::taken(image, g, n) {
+            if n < lo {
+                return n;
+            }
+            if hi <= n {
+                return n;
+            }
+        }
+        n += 1;
+    }
+    n
+}
+
+// The first free permitted slot from `from` on.
+pub fn next_slot(image: &[u8], g: Geometry, from: usize) -> usize
+    requires { ⌜ Room g (now image) × (from ≤ 256) ⌝ }
+    ensures { λ r. ⌜ NextSlot g (now (image .entry)) from r ⌝ }
+{
+    let n = layout::directory_sectors(image, g) - 2;
+    let mut s = from;
+    while s < 256 {
+        if layout::hit(image, g, s) == 0 {
+            if s % 32 < n {
+                if 4 <= s / 32 {
+                    return s;
+                }
+                if 8 <= s % 32 {
+                    return s;
+                }
+            }
+        }
+        s += 1;
+    }
+    s
+}
+
+// The runs of the entry at slot e, and where the last of them ends.
+pub fn last_run(image: &[u8], g: Geometry, e: usize) -> Ending
+    requires { ⌜ Room g (now image) × Slot g (now image) e ⌝ }
+    ensures { λ r. ⌜ Ends g (now (image .entry)) e r ⌝ }
+{
+    let runs = layout::runs(image, g, e);
+    if runs == 0 {
+        return Ending {
+            runs,
+            after: 0,
+            long: 32,
+        };
+    }
+    let long = layout::run_length(image, g, e, runs - 1);
+    Ending {
+        runs,
+        after: layout::run_start(image, g, e, runs - 1) + long,
+        long,
+    }
+}
+
+// Whether granule n is on the disk, clear in the GAT and none of lo to hi.
+pub fn is_clear(image: &[u8], g: Geometry, n: usize, lo: usize, hi: usize) -> bool
+    requires { ⌜ Room g (now image) ⌝ }
+    ensures { λ r. ⌜ Clear g (now (image .entry)) n lo hi r ⌝ }
+{
+    if layout::granules(g) <= n {
+        return false;
+    }
+    if layout::taken(image, g, n) {
+        return false;
+    }
+    if n < lo {
+        return true;
+    }
+    hi <= n
+}
+
+// Whether k further granules for the file at slot p find too few slots: the growth on paper. The granules from lo to hi lengthen the run
+// that was the last; every granule below `next` is taken, every slot below `slot` is not free.
+pub fn too_few_slots(image: &[u8], g: Geometry, p: usize, e: usize, k: usize) -> bool
+    requires { ⌜ Ready g (now image) p × (e ≡ tail g p (now image)) × (k ≤ length (freeGranules g (now image))) ⌝ }
+    ensures { λ r. ⌜ r ≡ fails (grow g p k (now (image .entry))) ⌝ }
+{
+    let end = last_run(image, g, e);
+    let mut runs = end.runs;
+    let mut after = end.after;
+    let mut long = end.long;
+    let lo = after;
+    let mut hi = after;
+    let mut next = 0;
+    let mut slot = 0;
+    let mut left = k;
+    while 0 < left {
+        left -= 1;
+        if long < MOST_RUN {
+            if is_clear(image, g, after, lo, hi) {
+                let m = after;
+                after = m + 1;
+                long += 1;
+                if m == next {
+                    next = m + 1;
+                    continue;
+                }
+                hi = m + 1;
+                continue;
+            }
+        }
+        let n = next_free(image, g, next, lo, hi);
+        next = n + 1;
+        after = n + 1;
+        long = 1;
+        if runs < PAIRS {
+            runs += 1;
+            continue;
+        }
+        let x = next_slot(image, g, slot);
+        if x == 256 {
+            return true;
+        }
+        slot = x + 1;
+        runs = 1;
+    }
+    false
+}
