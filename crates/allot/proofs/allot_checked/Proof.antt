@@ -9,35 +9,27 @@ use Rattle.growth.proofs.grow.Reads as grow-reads
 use Rattle.handle.proofs.changing_number.Reads as changing-number-reads
 use Rattle.read.proofs.sector_ranged.Reads as sector-ranged-reads
 
--- src/lib.rt:20:9
 sector-ranged-requires : tie.Need-sector-ranged-requires
 sector-ranged-requires c κs = search needs
 
--- src/lib.rt:21:9
 changing-number-requires : tie.Need-changing-number-requires
 changing-number-requires c κs = search needs
 
--- src/lib.rt:23:9
 same-length : tie.Need-same-length
 same-length c = search needs
 
--- src/lib.rt:23:9
 returns : tie.Need-returns
 returns c = refused _ _ _ _ (c .before .before .before .sector-ranged .ensures) (c .before .changing-number .ensures) (c .if1 .taken)
 
--- src/lib.rt:28:49
 add-grow : tie.Need-add-grow
 add-grow c = search needs
 
--- src/lib.rt:28:9
 grow-requires : tie.Need-grow-requires
 grow-requires c κs = let a = c .before .before .before .before .before .before .args in ready (a .g) (a .image .now) (a .h) (c .before .before .before .before .sector-ranged .result) 4 (c .before .before .changing-number .ensures) (c .before .if1 .left)
 
--- src/lib.rt:10:1
 same-length-2 : tie.Need-same-length-2
 same-length-2 c = search needs
 
--- src/lib.rt:10:1
 returns-2 : tie.Need-returns-2
 returns-2 c = grew _ _ _ _ (c .before .before .before .before .before .before .before .sector-ranged .ensures) (c .before .before .before .before .before .changing-number .ensures) (c .before .before .before .before .if1 .left) (c .before .before .grow .ensures .0) (c .before .before .grow .ensures .1)
 

@@ -7,23 +7,18 @@ use Rattle.attributes.proofs.dates_differ.Lts as lts
 use Rattle.attributes.proofs.differs_at.Reads as differs-at-reads
 use Rattle.layout.proofs.field.Reads as field-reads
 
--- src/lib.rt:247:8
 differs-at-requires : tie.Need-differs-at-requires
 differs-at-requires c κs = search needs
 
--- src/lib.rt:248:9
 returns : tie.Need-returns
 returns c = date-first _ _ _ _ _ _ (c .before .differs-at .ensures) (c .if1 .taken)
 
--- src/lib.rt:250:5
 field-requires : tie.Need-field-requires
 field-requires c κs = search needs
 
--- src/lib.rt:250:43
 field-requires-2 : tie.Need-field-requires-2
 field-requires-2 c κs = search needs
 
--- src/lib.rt:243:1
 returns-2 : tie.Need-returns-2
 returns-2 c = date-second _ _ _ _ _ _ _ _ (c .before .before .before .differs-at .ensures) (c .before .before .if1 .left) (c .before .field .ensures .is) (c .field2 .ensures .is)
 

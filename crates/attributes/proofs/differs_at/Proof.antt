@@ -6,15 +6,12 @@ use Rattle.attributes.proofs.differs_at.Reads as reads
 use Rattle.attributes.proofs.differs_at.Lts as lts
 use Rattle.layout.proofs.field.Reads as field-reads
 
--- src/lib.rt:239:5
 field-requires : tie.Need-field-requires
 field-requires c κs = search needs
 
--- src/lib.rt:239:38
 field-requires-2 : tie.Need-field-requires-2
 field-requires-2 c κs = search needs
 
--- src/lib.rt:227:1
 returns : tie.Need-returns
 returns c = differs-is _ _ _ _ _ _ _ (c .before .field .ensures .is) (c .field2 .ensures .is)
 

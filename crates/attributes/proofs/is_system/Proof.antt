@@ -7,11 +7,9 @@ use Rattle.attributes.proofs.is_system.Reads as reads
 use Rattle.attributes.proofs.is_system.Lts as lts
 use Rattle.layout.proofs.field.Reads as field-reads
 
--- src/lib.rt:358:6
 field-requires : tie.Need-field-requires
 field-requires c κs = search needs
 
--- src/lib.rt:354:1
 returns : tie.Need-returns
 returns c = simp (sym (c .field .ensures .is), digit-at)
 

@@ -11,31 +11,24 @@ use Rattle.restore.proofs.back_all.Reads as back-all-reads
 use Rattle.bring_back.proofs.plan.Reads as plan-reads
 use Rattle.restore.proofs.take_all.Reads as take-all-reads
 
--- src/lib.rt:389:9
 plan-requires : tie.Need-plan-requires
 plan-requires c κs = (c .before .before .before .pre, length-replicate {A = ℕ} 256 0)
 
--- src/lib.rt:391:9
 same-length : tie.Need-same-length
 same-length c = search needs
 
--- src/lib.rt:391:9
 returns : tie.Need-returns
 returns c = refused _ _ _ (c .before .before .plan .ensures .number-is) (c .if1 .taken)
 
--- src/lib.rt:397:5
 take-all-requires : tie.Need-take-all-requires
 take-all-requires c κs = (c .before .before .before .before .plan .ensures .room (c .before .before .if1 .left), c .before .before .before .before .plan .ensures .written (c .before .before .if1 .left) .listed)
 
--- src/lib.rt:398:5
 back-all-requires : tie.Need-back-all-requires
 back-all-requires c κs = let p = c .before .before .before .before .before .before .before .before .before .plan .ensures in let z = c .before .before .before .before .before .before .before .if1 .left in let e = taken-same _ _ _ (p .room z) (p .written z) (c .before .before .before .before .take-all .ensures) in (same-room _ _ _ (p .room z) e, listed-then _ _ _ (p .room z) (p .written z) e, p .small z)
 
--- src/lib.rt:384:1
 same-length-2 : tie.Need-same-length-2
 same-length-2 c = search needs
 
--- src/lib.rt:384:1
 returns-2 : tie.Need-returns-2
 returns-2 c = accepted _ _ _ (c .before .before .before .before .before .before .before .before .before .before .before .before .plan .ensures) (c .before .before .before .before .before .before .before .before .before .before .if1 .left) (c .before .before .before .before .before .before .before .take-all .ensures) (c .before .before .back-all .ensures)
 

@@ -22,131 +22,99 @@ use Rattle.find.proofs.find.Reads as find-reads
 use Rattle.layout.proofs.is_slot.Reads as is-slot-reads
 use Rattle.hash.proofs.hash.Reads as hash-reads
 
--- src/lib.rt:350:9
 refused-requires : tie.Need-refused-requires
 refused-requires c κs = search needs
 
--- src/lib.rt:350:9
 returns : tie.Need-returns
 returns c = refused-plan _ _ _ (c .refused .ensures) (at-check _ _ _ (c .before .before .before .pre .0) (c .before .if1 .taken)) (c .before .if1 .taken)
 
--- src/lib.rt:352:9
 is-slot-requires : tie.Need-is-slot-requires
 is-slot-requires c κs = checked-room _ _ (checked _ _ (c .before .before .pre .0) (c .if1 .left))
 
--- src/lib.rt:353:9
 refused-requires-2 : tie.Need-refused-requires-2
 refused-requires-2 c κs = search needs
 
--- src/lib.rt:353:9
 returns-2 : tie.Need-returns-2
 returns-2 c = refused-plan _ _ _ (c .refused2 .ensures) (at-slot _ _ _ (c .before .before .before .before .before .pre .0) (c .before .before .before .if1 .left) (is-no (c .before .before .is-slot .ensures) (c .before .if2 .taken))) (λ z. omega arith)
 
--- src/lib.rt:355:8
 flag-requires : tie.Need-flag-requires
 flag-requires c κs = (checked-room _ _ (checked _ _ (c .before .before .before .before .pre .0) (c .before .before .if1 .left)), slot-of _ _ _ (is-yes (c .before .is-slot .ensures) (c .if2 .left)), omega arith)
 
--- src/lib.rt:356:9
 refused-requires-3 : tie.Need-refused-requires-3
 refused-requires-3 c κs = search needs
 
--- src/lib.rt:356:9
 returns-3 : tie.Need-returns-3
 returns-3 c = refused-plan _ _ _ (c .refused3 .ensures) (at-use _ _ _ (c .before .before .before .before .before .before .before .pre .0) (c .before .before .before .before .before .if1 .left) (is-yes (c .before .before .before .before .is-slot .ensures) (c .before .before .before .if2 .left)) (sym (c .before .before .flag .ensures) ∙ c .before .if3 .taken)) (λ z. omega arith)
 
--- src/lib.rt:358:8
 flag-requires-2 : tie.Need-flag-requires-2
 flag-requires-2 c κs = (checked-room _ _ (checked _ _ (c .before .before .before .before .before .before .pre .0) (c .before .before .before .before .if1 .left)), slot-of _ _ _ (is-yes (c .before .before .before .is-slot .ensures) (c .before .before .if2 .left)), omega arith)
 
--- src/lib.rt:359:9
 refused-requires-4 : tie.Need-refused-requires-4
 refused-requires-4 c κs = search needs
 
--- src/lib.rt:359:9
 returns-4 : tie.Need-returns-4
 returns-4 c = refused-plan _ _ _ (c .refused4 .ensures) (at-system _ _ _ (c .before .before .before .before .before .before .before .before .before .pre .0) (c .before .before .before .before .before .before .before .if1 .left) (is-yes (c .before .before .before .before .before .before .is-slot .ensures) (c .before .before .before .before .before .if2 .left)) (sym (c .before .before .before .before .flag .ensures) ∙ c .before .before .before .if3 .left) (sym (c .before .before .flag2 .ensures) ∙ c .before .if4 .taken)) (λ z. omega arith)
 
--- src/lib.rt:361:9
 whole-requires : tie.Need-whole-requires
 whole-requires c κs = (checked-room _ _ (checked _ _ (c .before .before .before .before .before .before .before .before .before .pre .0) (c .before .before .before .before .before .before .before .if1 .left)), slot-of _ _ _ (is-yes (c .before .before .before .before .before .before .is-slot .ensures) (c .before .before .before .before .before .if2 .left)), c .before .before .before .before .before .before .before .before .before .pre .1)
 
--- src/lib.rt:363:9
 refused-requires-5 : tie.Need-refused-requires-5
 refused-requires-5 c κs = search needs
 
--- src/lib.rt:363:9
 returns-5 : tie.Need-returns-5
 returns-5 c = refused-plan _ _ _ (c .refused5 .ensures) (at-whole _ _ _ (c .before .before .before .before .before .before .before .before .before .before .before .before .before .pre .0) (c .before .before .before .before .before .before .before .before .before .before .before .if1 .left) (is-yes (c .before .before .before .before .before .before .before .before .before .before .is-slot .ensures) (c .before .before .before .before .before .before .before .before .before .if2 .left)) (sym (c .before .before .before .before .before .before .before .before .flag .ensures) ∙ c .before .before .before .before .before .before .before .if3 .left) (sym (c .before .before .before .before .before .before .flag2 .ensures) ∙ c .before .before .before .before .before .if4 .left) (is-no (c .before .before .before .whole .ensures .answer) (c .before .if5 .taken))) (λ z. omega arith)
 
--- src/lib.rt:365:20
 add-a : tie.Need-add-a
 add-a c = let r = checked-room _ _ (checked _ _ (c .before .before .before .before .before .before .before .before .before .before .before .before .before .pre .0) (c .before .before .before .before .before .before .before .before .before .before .before .if1 .left)) in let t = r .directory in let m = r .most in omega arith
 
--- src/lib.rt:365:20
 add-a-2 : tie.Need-add-a-2
 add-a-2 c = let r = checked-room _ _ (checked _ _ (c .before .before .before .before .before .before .before .before .before .before .before .before .before .pre .0) (c .before .before .before .before .before .before .before .before .before .before .before .if1 .left)) in let t = r .directory in let m = r .most in omega arith
 
--- src/lib.rt:365:13
 mul-a : tie.Need-mul-a
 mul-a c = let r = checked-room _ _ (checked _ _ (c .before .before .before .before .before .before .before .before .before .before .before .before .before .pre .0) (c .before .before .before .before .before .before .before .before .before .before .before .if1 .left)) in let t = r .directory in let m = r .most in omega arith
 
--- src/lib.rt:365:44
 mul-a-2 : tie.Need-mul-a-2
 mul-a-2 c = search needs
 
--- src/lib.rt:365:13
 add-a-3 : tie.Need-add-a-3
 add-a-3 c = let r = checked-room _ _ (checked _ _ (c .before .before .before .before .before .before .before .before .before .before .before .before .before .pre .0) (c .before .before .before .before .before .before .before .before .before .before .before .if1 .left)) in let t = r .directory in let m = r .most in let l = slot-of _ _ _ (is-yes (c .before .before .before .before .before .before .before .before .before .before .is-slot .ensures) (c .before .before .before .before .before .before .before .before .before .if2 .left)) .low in omega arith
 
--- src/lib.rt:365:13
 add-a-4 : tie.Need-add-a-4
 add-a-4 c = let r = checked-room _ _ (checked _ _ (c .before .before .before .before .before .before .before .before .before .before .before .before .before .pre .0) (c .before .before .before .before .before .before .before .before .before .before .before .if1 .left)) in let t = r .directory in let m = r .most in let l = slot-of _ _ _ (is-yes (c .before .before .before .before .before .before .before .before .before .before .is-slot .ensures) (c .before .before .before .before .before .before .before .before .before .if2 .left)) .low in omega arith
 
--- src/lib.rt:366:13
 add-e : tie.Need-add-e
 add-e c = let r = checked-room _ _ (checked _ _ (c .before .before .before .before .before .before .before .before .before .before .before .before .before .pre .0) (c .before .before .before .before .before .before .before .before .before .before .before .if1 .left)) in let t = r .directory in let m = r .most in let l = slot-of _ _ _ (is-yes (c .before .before .before .before .before .before .before .before .before .before .is-slot .ensures) (c .before .before .before .before .before .before .before .before .before .if2 .left)) .low in omega arith
 
--- src/lib.rt:367:16
 sub-name : tie.Need-sub-name
 sub-name c = search needs
 
--- src/lib.rt:367:16
 part-name-start : tie.Need-part-name-start
 part-name-start c = search needs
 
--- src/lib.rt:367:16
 part-name-end : tie.Need-part-name-end
 part-name-end c = let w = name-ends _ _ _ (checked-room _ _ (checked _ _ (c .before .before .before .before .before .before .before .before .before .before .before .before .before .pre .0) (c .before .before .before .before .before .before .before .before .before .before .before .if1 .left))) (slot-of _ _ _ (is-yes (c .before .before .before .before .before .before .before .before .before .before .is-slot .ensures) (c .before .before .before .before .before .before .before .before .before .if2 .left))) in omega arith
 
--- src/lib.rt:368:9
 find-requires : tie.Need-find-requires
 find-requires c κs = let r = checked-room _ _ (checked _ _ (c .before .before .before .before .before .before .before .before .before .before .before .before .before .before .pre .0) (c .before .before .before .before .before .before .before .before .before .before .before .before .if1 .left)) in (r, name-long _ _ _ r (slot-of _ _ _ (is-yes (c .before .before .before .before .before .before .before .before .before .before .before .is-slot .ensures) (c .before .before .before .before .before .before .before .before .before .before .if2 .left))) (cut (entryAt (c .before .before .before .before .before .before .before .before .before .before .before .before .before .before .args .g) (c .before .before .before .before .before .before .before .before .before .before .before .before .before .before .args .s) + 5)))
 
--- src/lib.rt:370:9
 refused-requires-6 : tie.Need-refused-requires-6
 refused-requires-6 c κs = search needs
 
--- src/lib.rt:370:9
 returns-6 : tie.Need-returns-6
 returns-6 c = refused-plan _ _ _ (c .refused6 .ensures) (at-name _ _ _ (c .before .before .before .before .before .before .before .before .before .before .before .before .before .before .before .before .before .pre .0) (c .before .before .before .before .before .before .before .before .before .before .before .before .before .before .before .if1 .left) (is-yes (c .before .before .before .before .before .before .before .before .before .before .before .before .before .before .is-slot .ensures) (c .before .before .before .before .before .before .before .before .before .before .before .before .before .if2 .left)) (sym (c .before .before .before .before .before .before .before .before .before .before .before .before .flag .ensures) ∙ c .before .before .before .before .before .before .before .before .before .before .before .if3 .left) (sym (c .before .before .before .before .before .before .before .before .before .before .flag2 .ensures) ∙ c .before .before .before .before .before .before .before .before .before .if4 .left) (is-yes (c .before .before .before .before .before .before .before .whole .ensures .answer) (c .before .before .before .before .before .if5 .left)) (name-used _ _ _ (checked-room _ _ (checked _ _ (c .before .before .before .before .before .before .before .before .before .before .before .before .before .before .before .before .before .pre .0) (c .before .before .before .before .before .before .before .before .before .before .before .before .before .before .before .if1 .left))) (slot-of _ _ _ (is-yes (c .before .before .before .before .before .before .before .before .before .before .before .before .before .before .is-slot .ensures) (c .before .before .before .before .before .before .before .before .before .before .before .before .before .if2 .left))) (cut (entryAt (c .before .before .before .before .before .before .before .before .before .before .before .before .before .before .before .before .before .args .g) (c .before .before .before .before .before .before .before .before .before .before .before .before .before .before .before .before .before .args .s) + 5)) (c .before .before .find .ensures) (c .before .if6 .taken))) (λ z. omega arith)
 
--- src/lib.rt:372:8
 any-taken-requires : tie.Need-any-taken-requires
 any-taken-requires c κs = (checked-room _ _ (checked _ _ (c .before .before .before .before .before .before .before .before .before .before .before .before .before .before .before .before .before .pre .0) (c .before .before .before .before .before .before .before .before .before .before .before .before .before .before .before .if1 .left)), c .before .before .before .before .before .before .before .whole .ensures .written (not-false _ (c .before .before .before .before .before .if5 .left)) .listed)
 
--- src/lib.rt:373:9
 refused-requires-7 : tie.Need-refused-requires-7
 refused-requires-7 c κs = search needs
 
--- src/lib.rt:373:9
 returns-7 : tie.Need-returns-7
 returns-7 c = refused-plan _ _ _ (c .refused7 .ensures) (at-taken _ _ _ (c .before .before .before .before .before .before .before .before .before .before .before .before .before .before .before .before .before .before .before .before .pre .0) (c .before .before .before .before .before .before .before .before .before .before .before .before .before .before .before .before .before .before .if1 .left) (is-yes (c .before .before .before .before .before .before .before .before .before .before .before .before .before .before .before .before .before .is-slot .ensures) (c .before .before .before .before .before .before .before .before .before .before .before .before .before .before .before .before .if2 .left)) (sym (c .before .before .before .before .before .before .before .before .before .before .before .before .before .before .before .flag .ensures) ∙ c .before .before .before .before .before .before .before .before .before .before .before .before .before .before .if3 .left) (sym (c .before .before .before .before .before .before .before .before .before .before .before .before .before .flag2 .ensures) ∙ c .before .before .before .before .before .before .before .before .before .before .before .before .if4 .left) (is-yes (c .before .before .before .before .before .before .before .before .before .before .whole .ensures .answer) (c .before .before .before .before .before .before .before .before .if5 .left)) (name-free _ _ _ (checked-room _ _ (checked _ _ (c .before .before .before .before .before .before .before .before .before .before .before .before .before .before .before .before .before .before .before .before .pre .0) (c .before .before .before .before .before .before .before .before .before .before .before .before .before .before .before .before .before .before .if1 .left))) (slot-of _ _ _ (is-yes (c .before .before .before .before .before .before .before .before .before .before .before .before .before .before .before .before .before .is-slot .ensures) (c .before .before .before .before .before .before .before .before .before .before .before .before .before .before .before .before .if2 .left))) (cut (entryAt (c .before .before .before .before .before .before .before .before .before .before .before .before .before .before .before .before .before .before .before .before .args .g) (c .before .before .before .before .before .before .before .before .before .before .before .before .before .before .before .before .before .before .before .before .args .s) + 5)) (c .before .before .before .before .before .find .ensures) (c .before .before .before .before .if6 .left)) (sym (taken-is _ _ _ (c .before .before .before .before .before .before .before .before .before .before .whole .ensures .written (not-false _ (c .before .before .before .before .before .before .before .before .if5 .left)))) ∙ sym (c .before .before .any-taken .ensures) ∙ c .before .if7 .taken)) (λ z. omega arith)
 
--- src/lib.rt:379:15
 hash-requires : tie.Need-hash-requires
 hash-requires c κs = search needs
 
--- src/lib.rt:345:1
 returns-8 : tie.Need-returns-8
 returns-8 c = let r = checked-room _ _ (checked _ _ (c .before .before .before .before .before .before .before .before .before .before .before .before .before .before .before .before .before .before .before .before .pre .0) (c .before .before .before .before .before .before .before .before .before .before .before .before .before .before .before .before .before .before .if1 .left)) in let sl = slot-of _ _ _ (is-yes (c .before .before .before .before .before .before .before .before .before .before .before .before .before .before .before .before .before .is-slot .ensures) (c .before .before .before .before .before .before .before .before .before .before .before .before .before .before .before .before .if2 .left)) in let w = c .before .before .before .before .before .before .before .before .before .before .whole .ensures .written (not-false _ (c .before .before .before .before .before .before .before .before .if5 .left)) in
     record {

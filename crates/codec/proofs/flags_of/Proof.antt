@@ -7,35 +7,27 @@ use Rattle.codec.proofs.flags_of.Reads as reads
 use Rattle.codec.proofs.flags_of.Lts as lts
 use Rattle.codec.proofs.flag.Reads as flag-reads
 
--- src/lib.rt:468:5
 flag-requires : tie.Need-flag-requires
 flag-requires c κs = search needs
 
--- src/lib.rt:468:23
 flag-requires-2 : tie.Need-flag-requires-2
 flag-requires-2 c κs = search needs
 
--- src/lib.rt:468:5
 add-result : tie.Need-add-result
 add-result c = search needs
 
--- src/lib.rt:468:41
 flag-requires-3 : tie.Need-flag-requires-3
 flag-requires-3 c κs = search needs
 
--- src/lib.rt:468:5
 add-result-2 : tie.Need-add-result-2
 add-result-2 c = search needs
 
--- src/lib.rt:468:60
 flag-requires-4 : tie.Need-flag-requires-4
 flag-requires-4 c κs = search needs
 
--- src/lib.rt:468:5
 add-result-3 : tie.Need-add-result-3
 add-result-3 c = search needs
 
--- src/lib.rt:465:1
 returns : tie.Need-returns
 unfolding flagsOf
 returns c = let p = c .before .before .before .flag .ensures .0 in let q = c .before .before .flag2 .ensures .0 in let r = c .before .flag3 .ensures .0 in let s = c .flag4 .ensures .0 in λ i. p i + q i + r i + s i

@@ -13,51 +13,39 @@ use Rattle.copy.proofs.put_part.Reads as put-part-reads
 use Rattle.codec.proofs.two.Reads as two-reads
 use Rattle.layout.proofs.wide.Reads as wide-reads
 
--- src/lib.rt:27:20
 slice-aggregate-put-part : tie.Need-slice-aggregate-put-part
 slice-aggregate-put-part c = search needs
 
--- src/lib.rt:27:5
 put-part-requires : tie.Need-put-part-requires
 put-part-requires c κs = search needs
 
--- src/lib.rt:29:28
 shared-slice-read-wide : tie.Need-shared-slice-read-wide
 shared-slice-read-wide c = search needs
 
--- src/lib.rt:29:15
 wide-requires : tie.Need-wide-requires
 wide-requires c κs = search needs
 
--- src/lib.rt:31:13
 two-requires : tie.Need-two-requires
 two-requires c κs = search needs
 
--- src/lib.rt:31:33
 two-requires-2 : tie.Need-two-requires-2
 two-requires-2 c κs = search needs
 
--- src/lib.rt:31:25
 mul-t12 : tie.Need-mul-t12
 mul-t12 c = search needs
 
--- src/lib.rt:31:13
 add-t13 : tie.Need-add-t13
 add-t13 c = search needs
 
--- src/lib.rt:32:14
 two-requires-3 : tie.Need-two-requires-3
 two-requires-3 c κs = search needs
 
--- src/lib.rt:33:29
 shared-slice-read-wide-2 : tie.Need-shared-slice-read-wide-2
 shared-slice-read-wide-2 c = search needs
 
--- src/lib.rt:33:16
 wide-requires-2 : tie.Need-wide-requires-2
 wide-requires-2 c κs = search needs
 
--- src/lib.rt:22:1
 returns : tie.Need-returns
 unfolding handleOf
 returns c = let b = c .before .before .before .before .before .before .before .before .before .before .before .args .b .now in

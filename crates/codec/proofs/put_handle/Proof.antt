@@ -7,55 +7,42 @@ use Rattle.codec.proofs.put_handle.Lts as lts
 use Rattle.copy.proofs.put_part.Reads as put-part-reads
 use Rattle.codec.proofs.put_name.Reads as put-name-reads
 
--- src/lib.rt:59:9
 cast-t6 : tie.Need-cast-t6
 cast-t6 c = search needs
 
--- src/lib.rt:60:9
 cast-t8 : tie.Need-cast-t8
 cast-t8 c = search needs
 
--- src/lib.rt:61:9
 cast-t10 : tie.Need-cast-t10
 cast-t10 c = search needs
 
--- src/lib.rt:62:9
 cast-t13 : tie.Need-cast-t13
 cast-t13 c = search needs
 
--- src/lib.rt:63:9
 cast-t15 : tie.Need-cast-t15
 cast-t15 c = search needs
 
--- src/lib.rt:64:9
 cast-t18 : tie.Need-cast-t18
 cast-t18 c = search needs
 
--- src/lib.rt:65:9
 cast-t22 : tie.Need-cast-t22
 cast-t22 c = search needs
 
--- src/lib.rt:66:9
 cast-t27 : tie.Need-cast-t27
 cast-t27 c = search needs
 
--- src/lib.rt:68:26
 slice-aggregate-put-part : tie.Need-slice-aggregate-put-part
 slice-aggregate-put-part c = search needs
 
--- src/lib.rt:68:5
 put-part-requires : tie.Need-put-part-requires
 put-part-requires c κs = search needs
 
--- src/lib.rt:70:5
 put-name-requires : tie.Need-put-name-requires
 put-name-requires c κs = search needs
 
--- src/lib.rt:54:1
 same-length : tie.Need-same-length
 same-length c = search needs
 
--- src/lib.rt:54:1
 returns : tie.Need-returns
 returns c = numbers-then-name (c .before .before .before .before .before .before .before .before .before .before .before .before .before .before .before .before .before .before .before .args .b .now) (c .before .before .before .before .before .before .before .before .before .before .before .before .before .before .before .before .before .before .before .args .h) (c .before .before .before .before .before .before .before .put-part .ensures) (c .before .before .put-name .ensures)
 

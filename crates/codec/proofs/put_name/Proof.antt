@@ -11,19 +11,15 @@ use Rattle.codec.proofs.put_name.Reads as reads
 use Rattle.codec.proofs.put_name.Lts as lts
 use Rattle.copy.proofs.put_part.Reads as put-part-reads
 
--- src/lib.rt:50:27
 slice-aggregate-put-part : tie.Need-slice-aggregate-put-part
 slice-aggregate-put-part c = search needs
 
--- src/lib.rt:50:5
 put-part-requires : tie.Need-put-part-requires
 put-part-requires c κs = search needs
 
--- src/lib.rt:46:1
 same-length : tie.Need-same-length
 same-length c = search needs
 
--- src/lib.rt:46:1
 returns : tie.Need-returns
 returns c = let q : length (c .before .before .before .before .before .before .args .t3) ≡ 11 = search needs in
     c .before .before .put-part .ensures ∙ ap (λ (m : List ℕ). sets (c .before .before .before .before .before .before .args .b .now) (c .before .before .before .before .before .before .args .at) m) (take-all 11 (c .before .before .before .before .before .before .args .t3) (omega (arith, q)))

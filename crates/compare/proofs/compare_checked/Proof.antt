@@ -7,27 +7,21 @@ use Rattle.compare.proofs.compare_checked.Lts as lts
 use Rattle.compare.proofs.tells_none.Reads as tells-none-reads
 use Rattle.compare.proofs.told.Reads as told-reads
 
--- src/lib.rt:438:9
 tells-none-requires : tie.Need-tells-none-requires
 tells-none-requires c κs = search needs
 
--- src/lib.rt:438:9
 returns : tie.Need-returns
 returns c = first-refused _ _ _ _ _ (c .tells-none .ensures) (c .before .before .before .before .pre .0) (c .before .if1 .taken)
 
--- src/lib.rt:441:9
 tells-none-requires-2 : tie.Need-tells-none-requires-2
 tells-none-requires-2 c κs = search needs
 
--- src/lib.rt:441:9
 returns-2 : tie.Need-returns-2
 returns-2 c = second-refused _ _ _ _ _ (c .tells-none2 .ensures) (c .before .before .before .before .before .pre .0) (c .before .before .if1 .left) (c .before .before .before .before .before .pre .1) (c .before .if2 .taken)
 
--- src/lib.rt:443:5
 told-requires : tie.Need-told-requires
 told-requires c κs = (whole _ _ (c .before .before .before .before .pre .0) (c .before .if1 .left), whole _ _ (c .before .before .before .before .pre .1) (c .if2 .left))
 
--- src/lib.rt:425:1
 returns-3 : tie.Need-returns-3
 returns-3 c = accepted′ _ _ _ _ _ (c .told .ensures) (c .before .before .before .before .before .pre .0) (c .before .before .if1 .left) (c .before .before .before .before .before .pre .1) (c .before .if2 .left)
 

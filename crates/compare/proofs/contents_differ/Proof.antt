@@ -8,12 +8,10 @@ use Rattle.compare.proofs.contents_differ.Tie as tie
 use Rattle.compare.proofs.contents_differ.Reads as reads
 use Rattle.compare.proofs.contents_differ.Lts as lts
 
--- src/lib.rt:284:9
 returns : tie.Need-returns
 unfolding contentsDiffer
 returns c = sym (ap not (all-no (ne-eqb _ _ (c .if1 .taken)) _))
 
--- src/lib.rt:280:1
 returns-2 : tie.Need-returns-2
 unfolding contentsDiffer
 returns-2 c = sym (ap not (all-yes (eq-eqb _ _ (c .if1 .left)) _ ∙ all-one _))

@@ -9,51 +9,39 @@ use Rattle.attributes.proofs.is_system.Reads as is-system-reads
 use Rattle.compare.proofs.name_only.Reads as name-only-reads
 use Rattle.compare.proofs.unlike.Reads as unlike-reads
 
--- src/lib.rt:367:9
 name-only-requires : tie.Need-name-only-requires
 name-only-requires c κs = let k = c .if1 .taken in (c .before .before .before .before .pre .0 .sound .room, c .before .before .before .before .pre .2 .first′ (λ q. omega arith) .slot)
 
--- src/lib.rt:367:9
 returns : tie.Need-returns
 returns c = diff-first _ _ _ _ _ (c .before .if1 .taken) (c .name-only .ensures)
 
--- src/lib.rt:370:9
 name-only-requires-2 : tie.Need-name-only-requires-2
 name-only-requires-2 c κs = let k = c .if2 .taken in (c .before .before .before .before .before .before .pre .1 .sound .room, c .before .before .before .before .before .before .pre .2 .second′ (λ q. omega arith) .slot)
 
--- src/lib.rt:370:9
 returns-2 : tie.Need-returns-2
 returns-2 c = diff-second _ _ _ _ _ (c .before .if2 .taken) (c .name-only2 .ensures)
 
--- src/lib.rt:372:8
 is-system-requires : tie.Need-is-system-requires
 is-system-requires c κs = (c .before .before .before .before .before .before .pre .0 .sound .room, c .before .before .before .before .before .before .pre .2 .first′ (c .if2 .left) .slot)
 
--- src/lib.rt:373:9
 name-only-requires-3 : tie.Need-name-only-requires-3
 name-only-requires-3 c κs = (c .before .before .before .before .before .before .before .before .pre .0 .sound .room, c .before .before .before .before .before .before .before .before .pre .2 .first′ (c .before .before .if2 .left) .slot)
 
--- src/lib.rt:373:9
 returns-3 : tie.Need-returns-3
 returns-3 c = diff-system _ _ _ _ _ (c .before .before .before .before .before .if1 .left) (c .before .before .before .if2 .left) (sym (c .before .before .is-system .ensures) ∙ c .before .if3 .taken) (c .name-only3 .ensures)
 
--- src/lib.rt:375:8
 is-system-requires-2 : tie.Need-is-system-requires-2
 is-system-requires-2 c κs = (c .before .before .before .before .before .before .before .before .pre .1 .sound .room, c .before .before .before .before .before .before .before .before .pre .2 .second′ (c .before .before .before .before .if1 .left) .slot)
 
--- src/lib.rt:376:9
 name-only-requires-4 : tie.Need-name-only-requires-4
 name-only-requires-4 c κs = (c .before .before .before .before .before .before .before .before .before .before .pre .0 .sound .room, c .before .before .before .before .before .before .before .before .before .before .pre .2 .first′ (c .before .before .before .before .if2 .left) .slot)
 
--- src/lib.rt:376:9
 returns-4 : tie.Need-returns-4
 returns-4 c = diff-system-2 _ _ _ _ _ (c .before .before .before .before .before .before .before .if1 .left) (c .before .before .before .before .before .if2 .left) (sym (c .before .before .before .before .is-system .ensures) ∙ c .before .before .before .if3 .left) (sym (c .before .before .is-system2 .ensures) ∙ c .before .if4 .taken) (c .name-only4 .ensures)
 
--- src/lib.rt:378:5
 unlike-requires : tie.Need-unlike-requires
 unlike-requires c κs = (c .before .before .before .before .before .before .before .before .before .before .pre .0, c .before .before .before .before .before .before .before .before .before .before .pre .1, c .before .before .before .before .before .before .before .before .before .before .pre .2 .first′ (c .before .before .before .before .if2 .left), c .before .before .before .before .before .before .before .before .before .before .pre .2 .second′ (c .before .before .before .before .before .before .if1 .left))
 
--- src/lib.rt:362:1
 returns-5 : tie.Need-returns-5
 returns-5 c = diff-unlike _ _ _ _ _ (c .before .before .before .before .before .before .before .if1 .left) (c .before .before .before .before .before .if2 .left) (sym (c .before .before .before .before .is-system .ensures) ∙ c .before .before .before .if3 .left) (sym (c .before .before .is-system2 .ensures) ∙ c .before .if4 .left) (c .unlike .ensures)
 

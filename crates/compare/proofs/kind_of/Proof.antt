@@ -5,27 +5,22 @@ use Rattle.compare.proofs.kind_of.Tie as tie
 use Rattle.compare.proofs.kind_of.Reads as reads
 use Rattle.compare.proofs.kind_of.Lts as lts
 
--- src/lib.rt:293:9
 returns : tie.Need-returns
 unfolding kindOf any
 returns c = rw (c .if1 .taken)
 
--- src/lib.rt:296:9
 returns-2 : tie.Need-returns-2
 unfolding kindOf any
 returns-2 c = rw (c .before .if1 .left, c .if2 .taken)
 
--- src/lib.rt:299:9
 returns-3 : tie.Need-returns-3
 unfolding kindOf any
 returns-3 c = rw (c .before .before .if1 .left, c .before .if2 .left, c .if3 .taken)
 
--- src/lib.rt:302:9
 returns-4 : tie.Need-returns-4
 unfolding kindOf any
 returns-4 c = rw (c .before .before .before .if1 .left, c .before .before .if2 .left, c .before .if3 .left, c .if4 .taken)
 
--- src/lib.rt:289:1
 returns-5 : tie.Need-returns-5
 unfolding kindOf any
 returns-5 c = rw (c .before .before .before .if1 .left, c .before .before .if2 .left, c .before .if3 .left, c .if4 .left)

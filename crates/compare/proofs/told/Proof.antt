@@ -19,47 +19,36 @@ Inv-loop first g second h number last₀ left₀ k₀ last left k = Going g firs
 abbrev μ-loop : tie.MeasureT-loop
 μ-loop first g second h number last₀ left₀ k₀ last left k = 512 - k
 
--- src/lib.rt:406:5
 loop-holds : tie.Need-loop-holds Inv-loop μ-loop
 loop-holds c = going-start _ _ _ _ (c .before .before .pre .0) (c .before .before .pre .1) _
 
--- src/lib.rt:407:48
 slice-aggregate-next-pair : tie.Need-slice-aggregate-next-pair Inv-loop μ-loop
 slice-aggregate-next-pair c = search needs
 
--- src/lib.rt:407:13
 next-pair-requires : tie.Need-next-pair-requires Inv-loop μ-loop
 next-pair-requires c κs = search needs
 
--- src/lib.rt:409:13
 tells-none-requires : tie.Need-tells-none-requires Inv-loop μ-loop
 tells-none-requires c κs = search needs
 
--- src/lib.rt:409:13
 returns : tie.Need-returns Inv-loop μ-loop
 returns c = c .tells-none .ensures ∙ going-end _ _ _ _ _ _ _ _ (c .before .before .before .next-pair .ensures .ended (c .before .if1 .taken)) (c .before .before .before .before .before .before .loop .inv)
 
--- src/lib.rt:411:13
 difference-at-requires : tie.Need-difference-at-requires Inv-loop μ-loop
 difference-at-requires c κs = (c .before .before .before .before .before .before .before .before .pre .0, c .before .before .before .before .before .before .before .before .pre .1, c .before .before .next-pair .ensures .files (c .if1 .left))
 
--- src/lib.rt:414:17
 returns-2 : tie.Need-returns-2 Inv-loop μ-loop
 returns-2 c = let a = c .before .before .before .before .before .before .before .before .before .before .before .before .args in let x = stands-there (a .g) (a .first .now) (a .h) (a .second .now) _ (c .before .before .before .before .before .before .next-pair .ensures) (c .before .before .before .before .if1 .left) (c .before .before .before .difference-at .ensures) in x ∙ going-here (a .g) (a .first .now) (a .h) (a .second .now) _ _ _ _ _ (c .before .before .before .before .before .before .next-pair .ensures .ahead (c .before .before .before .before .if1 .left)) (name-sized (a .g) (a .first .now) (a .h) (a .second .now) _) (c .before .before .before .before .before .before .before .before .before .loop .inv) (is-one (a .g) (a .first .now) (a .h) (a .second .now) x (c .before .if2 .taken)) (c .if3 .taken)
 
--- src/lib.rt:416:13
 sub-left : tie.Need-sub-left Inv-loop μ-loop
 sub-left c = search needs
 
--- src/lib.rt:419:9
 add-k : tie.Need-add-k Inv-loop μ-loop
 add-k c = search needs
 
--- src/lib.rt:406:5
 loop-less : tie.Need-loop-less Inv-loop μ-loop
 loop-less c = search needs
 
--- src/lib.rt:406:5
 loop-again : tie.Need-loop-again Inv-loop μ-loop
 loop-again c =
     let a = c .before .before .before .before .before .before .before .before .before .before .before .before .args in let x = stands-there (a .g) (a .first .now) (a .h) (a .second .now) _ (c .before .before .before .before .before .before .next-pair .ensures) (c .before .before .before .before .if1 .left) (c .before .before .before .difference-at .ensures) in
@@ -69,11 +58,9 @@ loop-again c =
     (λ w. going-same _ _ _ _ (w .1) n (going-no (a .g) (a .first .now) (a .h) (a .second .now) _ _ _ _ _ (c .before .before .before .before .before .before .next-pair .ensures .ahead (c .before .before .before .before .if1 .left)) (name-sized (a .g) (a .first .now) (a .h) (a .second .now) _) (c .before .before .before .before .before .before .before .before .before .loop .inv) (is-none (a .g) (a .first .now) (a .h) (a .second .now) x (w .0 .left))))
     (c .before .if2 .came)
 
--- src/lib.rt:421:5
 tells-none-requires-2 : tie.Need-tells-none-requires-2 Inv-loop μ-loop
 tells-none-requires-2 c κs = search needs
 
--- src/lib.rt:399:1
 returns-3 : tie.Need-returns-3 Inv-loop μ-loop
 returns-3 c = c .tells-none2 .ensures ∙ going-end _ _ _ _ _ _ _ _ (going-out _ _ _ _ _ _ _ _ (c .before .loop-test .left) (c .before .before .loop .inv)) (c .before .before .loop .inv)
 

@@ -15,43 +15,33 @@ use Rattle.parting.proofs.parting_at.Reads as parting-at-reads
 use Rattle.find.proofs.name_at.Reads as name-at-reads
 use Rattle.layout.proofs.size_of.Reads as size-of-reads
 
--- src/lib.rt:331:9
 size-of-requires : tie.Need-size-of-requires
 size-of-requires c κs = search needs
 
--- src/lib.rt:332:9
 size-of-requires-2 : tie.Need-size-of-requires-2
 size-of-requires-2 c κs = search needs
 
--- src/lib.rt:333:9
 parting-at-requires : tie.Need-parting-at-requires
 parting-at-requires c κs = (c .before .before .before .before .pre .0, c .before .before .before .before .pre .1, c .before .before .before .before .pre .2, c .before .before .before .before .pre .3, c .before .size-of .ensures .is, c .size-of2 .ensures .is, c .before .size-of .ensures .small, c .size-of2 .ensures .small)
 
--- src/lib.rt:334:9
 contents-differ-requires : tie.Need-contents-differ-requires
 contents-differ-requires c κs = search needs
 
--- src/lib.rt:336:9
 dates-differ-requires : tie.Need-dates-differ-requires
 dates-differ-requires c κs = search needs
 
--- src/lib.rt:337:9
 others-differ-requires : tie.Need-others-differ-requires
 others-differ-requires c κs = search needs
 
--- src/lib.rt:338:9
 kind-of-requires : tie.Need-kind-of-requires
 kind-of-requires c κs = search needs
 
--- src/lib.rt:339:9
 name-place-requires : tie.Need-name-place-requires
 name-place-requires c κs = search needs
 
--- src/lib.rt:344:15
 name-at-requires : tie.Need-name-at-requires
 name-at-requires c κs = search needs
 
--- src/lib.rt:327:1
 returns : tie.Need-returns
 returns c = let a = c .before .before .before .before .before .before .before .before .before .before .before .args in unlike-is (a .g) (a .first .now) (a .h) (a .second .now) (a .s) (a .t) (c .name-at .ensures ∙ placed-name (a .g) (a .first .now) (a .s) _ (c .before .name-place .ensures)) (c .before .before .before .before .before .before .before .before .size-of .ensures .is) (c .before .before .before .before .before .before .before .size-of2 .ensures .is) (c .before .before .before .before .before .before .parting-at .ensures) (c .before .before .before .before .before .contents-differ .ensures) refl (c .before .before .before .before .dates-differ .ensures) (c .before .before .before .others-differ .ensures) (c .before .before .kind-of .ensures)
 

@@ -17,57 +17,44 @@ use Rattle.marks.proofs.among.Reads as among-reads
 use Rattle.marks.proofs.gat_map.Reads as gat-map-reads
 use Rattle.names.proofs.names_differ.Reads as names-differ-reads
 
--- src/lib.rt:246:9
 length-holds-requires : tie.Need-length-holds-requires
 length-holds-requires c κs = search needs
 
--- src/lib.rt:247:9
 returns : tie.Need-returns
 returns c = no-length _ _ (is-no (c .before .length-holds .ensures) (c .if1 .taken))
 
--- src/lib.rt:249:9
 directory-from-requires : tie.Need-directory-from-requires
 directory-from-requires c κs = room-of _ _ (c .before .before .before .pre) (is-yes (c .before .length-holds .ensures) (c .if1 .left))
 
--- src/lib.rt:250:9
 directory-bits-requires : tie.Need-directory-bits-requires
 directory-bits-requires c κs = (room-of _ _ (c .before .before .before .before .pre) (is-yes (c .before .before .length-holds .ensures) (c .before .if1 .left)), c .directory-from .ensures)
 
--- src/lib.rt:252:5
 gat-map-requires : tie.Need-gat-map-requires
 gat-map-requires c κs = (room-of _ _ (c .before .before .before .before .before .before .pre) (is-yes (c .before .before .before .before .length-holds .ensures) (c .before .before .before .if1 .left)), search needs)
 
--- src/lib.rt:253:8
 among-requires : tie.Need-among-requires
 among-requires c κs = c .before .before .before .before .directory-from .ensures .room
 
--- src/lib.rt:254:9
 returns-2 : tie.Need-returns-2
 returns-2 c = no-directory _ _ _ (room-of _ _ (c .before .before .before .before .before .before .before .before .before .before .pre) (is-yes (c .before .before .before .before .before .before .before .before .length-holds .ensures) (c .before .before .before .before .before .before .before .if1 .left))) (c .before .before .before .gat-map .ensures) (c .before .before .before .before .before .directory-bits .ensures) (c .before .among .ensures) (c .if2 .taken)
 
--- src/lib.rt:257:5
 copy-hit-requires : tie.Need-copy-hit-requires
 copy-hit-requires c κs = (room-of _ _ (c .before .before .before .before .before .before .before .before .before .before .before .pre) (is-yes (c .before .before .before .before .before .before .before .before .before .length-holds .ensures) (c .before .before .before .before .before .before .before .before .if1 .left)), search needs)
 
--- src/lib.rt:258:9
 slots-hold-requires : tie.Need-slots-hold-requires
 slots-hold-requires c κs = (room-of _ _ (c .before .before .before .before .before .before .before .before .before .before .before .before .before .before .pre) (is-yes (c .before .before .before .before .before .before .before .before .before .before .before .before .length-holds .ensures) (c .before .before .before .before .before .before .before .before .before .before .before .if1 .left)), c .before .before .before .before .before .before .before .before .before .directory-bits .ensures)
 
--- src/lib.rt:259:9
 returns-3 : tie.Need-returns-3
 returns-3 c = way-slots _ _ (room-of _ _ (c .before .before .before .before .before .before .before .before .before .before .before .before .before .before .before .before .pre) (is-yes (c .before .before .before .before .before .before .before .before .before .before .before .before .before .before .length-holds .ensures) (c .before .before .before .before .before .before .before .before .before .before .before .before .before .if1 .left))) (c .before .before .before .before .before .before .before .before .before .gat-map .ensures) (c .before .before .before .before .before .before .before .before .before .before .before .directory-bits .ensures) (c .before .before .before .before .before .before .before .among .ensures) (c .before .before .before .before .before .before .if2 .left)
     (c .before .before .before .before .copy-hit .ensures) (c .before .slots-hold .ensures) (not-true _ (c .if3 .taken))
 
--- src/lib.rt:261:9
 all-met-requires : tie.Need-all-met-requires
 all-met-requires c κs = room-of _ _ (c .before .before .before .before .before .before .before .before .before .before .before .before .before .before .before .before .before .pre) (is-yes (c .before .before .before .before .before .before .before .before .before .before .before .before .before .before .before .length-holds .ensures) (c .before .before .before .before .before .before .before .before .before .before .before .before .before .before .if1 .left))
 
--- src/lib.rt:262:9
 returns-4 : tie.Need-returns-4
 returns-4 c = way-met _ _ (room-of _ _ (c .before .before .before .before .before .before .before .before .before .before .before .before .before .before .before .before .before .before .before .pre) (is-yes (c .before .before .before .before .before .before .before .before .before .before .before .before .before .before .before .before .before .length-holds .ensures) (c .before .before .before .before .before .before .before .before .before .before .before .before .before .before .before .before .if1 .left))) (c .before .before .before .before .before .before .before .before .before .before .before .before .gat-map .ensures) (c .before .before .before .before .before .before .before .before .before .before .before .before .before .before .directory-bits .ensures) (c .before .before .before .before .before .before .before .before .before .before .among .ensures) (c .before .before .before .before .before .before .before .before .before .if2 .left)
     (c .before .before .before .before .before .before .before .copy-hit .ensures) (c .before .before .before .before .slots-hold .ensures) (not-false _ (c .before .before .before .if3 .left)) (c .before .all-met .ensures) (not-true _ (c .if4 .taken))
 
--- src/lib.rt:264:5
 names-differ-requires : tie.Need-names-differ-requires
 names-differ-requires c κs = (
   room-of _ _ (c .before .before .before .before .before .before .before .before .before .before .before .before .before .before .before .before .before .before .before .pre) (is-yes (c .before .before .before .before .before .before .before .before .before .before .before .before .before .before .before .before .before .length-holds .ensures) (c .before .before .before .before .before .before .before .before .before .before .before .before .before .before .before .before .if1 .left)),
@@ -77,7 +64,6 @@ names-differ-requires c κs = (
   },
 )
 
--- src/lib.rt:242:1
 returns-5 : tie.Need-returns-5
 returns-5 c = way-names _ _ (room-of _ _ (c .before .before .before .before .before .before .before .before .before .before .before .before .before .before .before .before .before .before .before .before .pre) (is-yes (c .before .before .before .before .before .before .before .before .before .before .before .before .before .before .before .before .before .before .length-holds .ensures) (c .before .before .before .before .before .before .before .before .before .before .before .before .before .before .before .before .before .if1 .left))) (c .before .before .before .before .before .before .before .before .before .before .before .before .before .gat-map .ensures) (c .before .before .before .before .before .before .before .before .before .before .before .before .before .before .before .directory-bits .ensures) (c .before .before .before .before .before .before .before .before .before .before .before .among .ensures) (c .before .before .before .before .before .before .before .before .before .before .if2 .left)
     (c .before .before .before .before .before .before .before .before .copy-hit .ensures) (c .before .before .before .before .before .slots-hold .ensures) (not-false _ (c .before .before .before .before .if3 .left)) (c .before .before .all-met .ensures) (not-false _ (c .before .if4 .left)) (is-yes (c .before .before .before .before .before .before .before .before .before .before .before .before .before .before .before .before .before .before .length-holds .ensures) (c .before .before .before .before .before .before .before .before .before .before .before .before .before .before .before .before .before .if1 .left)) (λ i. c .before .before .before .before .before .before .before .before .before .before .before .before .before .before .before .before .before .before .before .shared-slice-known .given i .fits) (c .names-differ .ensures)

@@ -8,15 +8,12 @@ use Rattle.consistency.proofs.directory_bits.Lts as lts
 use Rattle.layout.proofs.directory_sectors.Reads as directory-sectors-reads
 use Rattle.marks.proofs.directory_bits.Reads as directory-bits-reads
 
--- src/lib.rt:236:9
 directory-sectors-requires : tie.Need-directory-sectors-requires
 directory-sectors-requires c κs = search needs
 
--- src/lib.rt:233:5
 directory-bits-requires : tie.Need-directory-bits-requires
 directory-bits-requires c κs = let p = (c .before .before .before .pre) in let e = c .directory-sectors .ensures in let t = p .0 .thirty in let m = directory-on-map _ _ (p .0) in (p .0 .units-low, p .0 .units-high, omega arith, omega arith, rw (← c .directory-sectors .ensures) at (p .1))
 
--- src/lib.rt:229:1
 returns : tie.Need-returns
 returns c = record { spans = (c .before .before .before .before .pre) .1; window = rw (c .before .directory-sectors .ensures) at (c .directory-bits .ensures) }
 

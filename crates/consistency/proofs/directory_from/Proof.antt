@@ -8,15 +8,12 @@ use Rattle.consistency.proofs.directory_from.Tie as tie
 use Rattle.consistency.proofs.directory_from.Reads as reads
 use Rattle.consistency.proofs.directory_from.Lts as lts
 
--- src/lib.rt:224:17
 div-block : tie.Need-div-block
 div-block c = search needs
 
--- src/lib.rt:220:1
 returns : tie.Need-returns
 returns c = base-spans (c .before .before .before .args .g .units) _ _ (base-own (c .if1 .taken) refl) ((c .before .before .before .pre) .units-low) (let t = (c .before .before .before .pre) .thirty in omega arith) (directory-on-map _ _ (c .before .before .before .pre))
 
--- src/lib.rt:220:1
 returns-2 : tie.Need-returns-2
 returns-2 c = base-spans (c .before .before .before .args .g .units) _ _ (base-last (c .if1 .left) refl) ((c .before .before .before .pre) .units-low) (let t = (c .before .before .before .pre) .thirty in omega arith) (directory-on-map _ _ (c .before .before .before .pre))
 

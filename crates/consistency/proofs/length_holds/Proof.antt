@@ -7,51 +7,39 @@ use Rattle.consistency.proofs.length_holds.Lts as lts
 use Rattle.layout.proofs.granules.Reads as granules-reads
 use Rattle.layout.proofs.wide.Reads as wide-reads
 
--- src/lib.rt:24:43
 add-wide : tie.Need-add-wide
 add-wide c = search needs
 
--- src/lib.rt:24:36
 mul-wide : tie.Need-mul-wide
 mul-wide c = search needs
 
--- src/lib.rt:24:36
 add-wide-2 : tie.Need-add-wide-2
 add-wide-2 c = search needs
 
--- src/lib.rt:24:30
 shared-slice-read-wide : tie.Need-shared-slice-read-wide
 shared-slice-read-wide c = search needs
 
--- src/lib.rt:24:9
 wide-requires : tie.Need-wide-requires
 wide-requires c κs = search needs
 
--- src/lib.rt:26:9
 returns : tie.Need-returns
 returns c = length-far _ _ (c .before .wide .ensures .is) (c .if1 .taken)
 
--- src/lib.rt:29:9
 returns-2 : tie.Need-returns-2
 returns-2 c = length-odd _ _ (c .before .before .wide .ensures .is) (c .before .if1 .left) (c .if2 .taken)
 
--- src/lib.rt:31:16
 add-result : tie.Need-add-result
 add-result c = search needs
 
--- src/lib.rt:31:5
 add-result-2 : tie.Need-add-result-2
 add-result-2 c = search needs
 
--- src/lib.rt:31:31
 granules-requires : tie.Need-granules-requires
 granules-requires c κs = search needs
 
--- src/lib.rt:31:31
 mul-result : tie.Need-mul-result
 mul-result c = search needs
 
--- src/lib.rt:20:1
 returns-3 : tie.Need-returns-3
 returns-3 c = length-rest _ _ (c .before .before .before .before .wide .ensures .is) (c .before .before .before .if1 .left) (c .before .before .if2 .left) (c .granules .ensures .0)
 

@@ -19,47 +19,36 @@ Inv-loop image g column map₀ met₀ from bits at₀ s₀ map met at s = Seeing
 abbrev μ-loop : tie.MeasureT-loop
 μ-loop image g column map₀ met₀ from bits at₀ s₀ map met at s = 256 - s
 
--- src/lib.rt:130:25
 add-at : tie.Need-add-at Inv-loop μ-loop
 add-at c = search needs
 
--- src/lib.rt:130:25
 add-at-2 : tie.Need-add-at-2 Inv-loop μ-loop
 add-at-2 c = search needs
 
--- src/lib.rt:130:18
 mul-at : tie.Need-mul-at Inv-loop μ-loop
 mul-at c = search needs
 
--- src/lib.rt:132:5
 loop-holds : tie.Need-loop-holds Inv-loop μ-loop
 loop-holds c = (seeing-start _ _ _ _ (column-are (omega arith)), omega arith, omega arith)
 
--- src/lib.rt:133:13
 slot-holds-requires : tie.Need-slot-holds-requires Inv-loop μ-loop
 slot-holds-requires c κs = (c .before .before .before .before .before .before .pre .0, record { slot = record { low = omega arith; held = omega arith }; is = omega arith }, c .before .before .before .before .before .before .pre .2)
 
--- src/lib.rt:134:13
 returns : tie.Need-returns Inv-loop μ-loop
 returns c = seeing-stop _ _ (c .before .before .before .before .before .loop .s ∷ []) _ (seeing-as _ _ (c .before .before .before .before .before .loop .inv .0) (column-more (c .before .before .before .before .loop-test .taken))) (c .before .slot-holds .ensures) (not-true _ (c .if1 .taken))
 
--- src/lib.rt:136:9
 add-at-3 : tie.Need-add-at-3 Inv-loop μ-loop
 add-at-3 c = omega arith
 
--- src/lib.rt:137:9
 add-s : tie.Need-add-s Inv-loop μ-loop
 add-s c = omega arith
 
--- src/lib.rt:132:5
 loop-less : tie.Need-loop-less Inv-loop μ-loop
 loop-less c = omega arith
 
--- src/lib.rt:132:5
 loop-again : tie.Need-loop-again Inv-loop μ-loop
 loop-again c = (seeing-step _ _ (c .before .before .before .before .before .loop .s ∷ []) _ (seeing-as _ _ (c .before .before .before .before .before .loop .inv .0) (column-more (c .before .before .before .before .loop-test .taken))) (c .before .slot-holds .ensures) (not-false _ (c .if1 .left)), omega arith, omega arith)
 
--- src/lib.rt:120:1
 returns-2 : tie.Need-returns-2 Inv-loop μ-loop
 returns-2 c = seeing-end _ _ (seeing-as _ _ (c .before .loop .inv .0) (column-none (c .loop-test .left)))
 

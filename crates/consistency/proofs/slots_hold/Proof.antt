@@ -18,39 +18,30 @@ Inv-loop image g map₀ met₀ from bits columns column₀ map met column = Seei
 abbrev μ-loop : tie.MeasureT-loop
 μ-loop image g map₀ met₀ from bits columns column₀ map met column = columns - column
 
--- src/lib.rt:147:19
 directory-sectors-requires : tie.Need-directory-sectors-requires Inv-loop μ-loop
 directory-sectors-requires c κs = search needs
 
--- src/lib.rt:147:19
 sub-columns : tie.Need-sub-columns Inv-loop μ-loop
 sub-columns c = search needs
 
--- src/lib.rt:149:5
 loop-holds : tie.Need-loop-holds Inv-loop μ-loop
 loop-holds c = seeing-start _ _ _ _ (sectors-are _ _ (c .directory-sectors .ensures))
 
--- src/lib.rt:150:13
 sector-holds-requires : tie.Need-sector-holds-requires Inv-loop μ-loop
 sector-holds-requires c κs = (c .before .before .before .before .before .before .pre .0, omega arith, c .before .before .before .before .before .before .pre .1)
 
--- src/lib.rt:151:13
 returns : tie.Need-returns Inv-loop μ-loop
 returns c = seeing-stop _ _ (sectorSlots (c .before .before .before .before .before .loop .column)) _ (seeing-as _ _ (c .before .before .before .before .before .loop .inv) (sectors-more (c .before .before .before .before .loop-test .taken))) (c .before .sector-holds .ensures) (not-true _ (c .if1 .taken))
 
--- src/lib.rt:153:9
 add-column : tie.Need-add-column Inv-loop μ-loop
 add-column c = search needs
 
--- src/lib.rt:149:5
 loop-less : tie.Need-loop-less Inv-loop μ-loop
 loop-less c = omega arith
 
--- src/lib.rt:149:5
 loop-again : tie.Need-loop-again Inv-loop μ-loop
 loop-again c = seeing-step _ _ (sectorSlots (c .before .before .before .before .before .loop .column)) _ (seeing-as _ _ (c .before .before .before .before .before .loop .inv) (sectors-more (c .before .before .before .before .loop-test .taken))) (c .before .sector-holds .ensures) (not-false _ (c .if1 .left))
 
--- src/lib.rt:143:1
 returns-2 : tie.Need-returns-2 Inv-loop μ-loop
 returns-2 c = seeing-end _ _ (seeing-as _ _ (c .before .loop .inv) (sectors-none (c .loop-test .left)))
 

@@ -9,26 +9,21 @@ use Rattle.create.proofs.in_range.Reads as reads
 use Rattle.create.proofs.in_range.Lts as lts
 use Rattle.handle.proofs.good_length.Reads as good-length-reads
 
--- src/lib.rt:19:9
 returns : tie.Need-returns
 unfolding newInRange
 returns c = sym (all-no (lt-leb _ _ (c .if1 .taken)) _)
 
--- src/lib.rt:22:9
 returns-2 : tie.Need-returns-2
 unfolding newInRange
 returns-2 c = sym (all-yes (le-leb _ _ (c .before .before .if1 .left)) _ ∙ all-no (lt-leb _ _ (c .if2 .taken)) _)
 
--- src/lib.rt:25:9
 returns-3 : tie.Need-returns-3
 unfolding newInRange
 returns-3 c = sym (all-yes (le-leb _ _ (c .before .before .before .before .if1 .left)) _ ∙ all-yes (le-leb _ _ (c .before .before .if2 .left)) _ ∙ all-no (lt-leb _ _ (c .if3 .taken)) _)
 
--- src/lib.rt:27:5
 good-length-requires : tie.Need-good-length-requires
 good-length-requires c κs = search needs
 
--- src/lib.rt:15:1
 returns-4 : tie.Need-returns-4
 unfolding newInRange
 returns-4 c = c .good-length .ensures ∙ sym (all-yes (le-leb _ _ (c .before .before .before .before .before .if1 .left)) _ ∙ all-yes (le-leb _ _ (c .before .before .before .if2 .left)) _ ∙ all-yes (le-leb _ _ (c .before .if3 .left)) _ ∙ all-one _)

@@ -11,119 +11,90 @@ use Rattle.create.proofs.put_entry.Lts as lts
 use Rattle.copy.proofs.put_part.Reads as put-part-reads
 use Rattle.hash.proofs.hash.Reads as hash-reads
 
--- src/lib.rt:38:21
 add-at : tie.Need-add-at
 add-at c = search needs
 
--- src/lib.rt:38:21
 add-at-2 : tie.Need-add-at-2
 add-at-2 c = search needs
 
--- src/lib.rt:38:14
 mul-at : tie.Need-mul-at
 mul-at c = search needs
 
--- src/lib.rt:38:45
 mul-at-2 : tie.Need-mul-at-2
 mul-at-2 c = search needs
 
--- src/lib.rt:38:14
 add-at-3 : tie.Need-add-at-3
 add-at-3 c = search needs
 
--- src/lib.rt:39:16
 mul-date : tie.Need-mul-date
 mul-date c = let r = ranges (c .before .before .before .before .args .f) (c .before .before .before .before .pre .3) in omega arith
 
--- src/lib.rt:39:16
 add-date : tie.Need-add-date
 add-date c = let r = ranges (c .before .before .before .before .before .args .f) (c .before .before .before .before .before .pre .3) in omega arith
 
--- src/lib.rt:40:33
 cast-t16 : tie.Need-cast-t16
 cast-t16 c = let r = ranges (c .before .before .before .before .before .before .args .f) (c .before .before .before .before .before .before .pre .3) in omega arith
 
--- src/lib.rt:40:46
 cast-t17 : tie.Need-cast-t17
 cast-t17 c = let r = ranges (c .before .before .before .before .before .before .args .f) (c .before .before .before .before .before .before .pre .3) in omega arith
 
--- src/lib.rt:40:61
 cast-t18 : tie.Need-cast-t18
 cast-t18 c = search needs
 
--- src/lib.rt:41:31
 slice-aggregate-put-part : tie.Need-slice-aggregate-put-part
 slice-aggregate-put-part c = search needs
 
--- src/lib.rt:41:5
 put-part-requires : tie.Need-put-part-requires
 put-part-requires c κs = search needs
 
--- src/lib.rt:42:27
 add-put-part : tie.Need-add-put-part
 add-put-part c = search needs
 
--- src/lib.rt:42:5
 put-part-requires-2 : tie.Need-put-part-requires-2
 put-part-requires-2 c κs = search needs
 
--- src/lib.rt:44:9
 cast-t18-2 : tie.Need-cast-t18-2
 cast-t18-2 c = search needs
 
--- src/lib.rt:45:9
 cast-t16-2 : tie.Need-cast-t16-2
 cast-t16-2 c = search needs
 
--- src/lib.rt:46:9
 cast-t17-2 : tie.Need-cast-t17-2
 cast-t17-2 c = search needs
 
--- src/lib.rt:47:9
 cast-image : tie.Need-cast-image
 cast-image c = search needs
 
--- src/lib.rt:61:27
 add-put-part-2 : tie.Need-add-put-part-2
 add-put-part-2 c = let p = c .before .before .before .before .before .before .before .before .before .before .before .before .before .before .before .before .before .before .before .before .before .pre .0 in let q = c .before .before .before .before .before .before .before .before .before .before .before .before .before .before .before .before .before .before .before .before .before .fits in let u = c .before .before .before .before .before .before .before .before .before .before .before .before .before .before .before .before .before .before .before .before .before .good in omega arith
 
--- src/lib.rt:61:36
 slice-aggregate-put-part-2 : tie.Need-slice-aggregate-put-part-2
 slice-aggregate-put-part-2 c = search needs
 
--- src/lib.rt:61:5
 put-part-requires-3 : tie.Need-put-part-requires-3
 put-part-requires-3 c κs = let p = c .before .before .before .before .before .before .before .before .before .before .before .before .before .before .before .before .before .before .before .before .before .before .pre .0 in let z : length (c .before .before .before .before .before .before .before .before .put-part2 .last .0) ≡ length (c .before .before .before .before .before .before .before .before .before .before .before .before .before .before .before .before .before .before .before .before .before .before .args .image .now) = ap length (c .before .before .before .before .before .before .before .before .put-part2 .ensures) ∙ (simp length-sets) ∙ ap length (c .before .before .before .before .before .before .before .before .before .before .before .before .put-part .ensures) ∙ (simp length-sets) in (omega arith, omega arith)
 
--- src/lib.rt:62:38
 hash-requires : tie.Need-hash-requires
 hash-requires c κs = search needs
 
--- src/lib.rt:62:38
 cast-image-2 : tie.Need-cast-image-2
 cast-image-2 c = search needs
 
--- src/lib.rt:62:18
 add-image : tie.Need-add-image
 add-image c = let p = c .before .before .before .before .before .before .before .before .before .before .before .before .before .before .before .before .before .before .before .before .before .before .before .before .before .before .before .pre .0 in let q = c .before .before .before .before .before .before .before .before .before .before .before .before .before .before .before .before .before .before .before .before .before .before .before .before .before .before .before .fits in let u = c .before .before .before .before .before .before .before .before .before .before .before .before .before .before .before .before .before .before .before .before .before .before .before .before .before .before .before .good in omega arith
 
--- src/lib.rt:62:11
 mul-image : tie.Need-mul-image
 mul-image c = let p = c .before .before .before .before .before .before .before .before .before .before .before .before .before .before .before .before .before .before .before .before .before .before .before .before .before .before .before .pre .0 in let q = c .before .before .before .before .before .before .before .before .before .before .before .before .before .before .before .before .before .before .before .before .before .before .before .before .before .before .before .fits in let u = c .before .before .before .before .before .before .before .before .before .before .before .before .before .before .before .before .before .before .before .before .before .before .before .before .before .before .before .good in omega arith
 
--- src/lib.rt:62:11
 add-image-2 : tie.Need-add-image-2
 add-image-2 c = let p = c .before .before .before .before .before .before .before .before .before .before .before .before .before .before .before .before .before .before .before .before .before .before .before .before .before .before .before .pre .0 in let q = c .before .before .before .before .before .before .before .before .before .before .before .before .before .before .before .before .before .before .before .before .before .before .before .before .before .before .before .fits in let u = c .before .before .before .before .before .before .before .before .before .before .before .before .before .before .before .before .before .before .before .before .before .before .before .before .before .before .before .good in omega arith
 
--- src/lib.rt:62:5
 slice-write-image : tie.Need-slice-write-image
 slice-write-image c = let p = c .before .before .before .before .before .before .before .before .before .before .before .before .before .before .before .before .before .before .before .before .before .before .before .before .before .before .before .pre .0 in let z : length (c .before .before .before .before .put-part3 .last .0) ≡ length (c .before .before .before .before .before .before .before .before .before .before .before .before .before .before .before .before .before .before .before .before .before .before .before .before .before .before .before .args .image .now) = ap length (c .before .before .before .before .put-part3 .ensures) ∙ (simp length-sets) ∙ ap length (c .before .before .before .before .before .before .before .before .before .before .before .before .before .put-part2 .ensures) ∙ (simp length-sets) ∙ ap length (c .before .before .before .before .before .before .before .before .before .before .before .before .before .before .before .before .before .put-part .ensures) ∙ (simp length-sets) in omega arith
 
--- src/lib.rt:34:1
 same-length : tie.Need-same-length
 same-length c = (simp length-set) ∙ ap length (c .before .before .before .before .put-part3 .ensures) ∙ (simp length-sets) ∙ ap length (c .before .before .before .before .before .before .before .before .before .before .before .before .before .put-part2 .ensures) ∙ (simp length-sets) ∙ ap length (c .before .before .before .before .before .before .before .before .before .before .before .before .before .before .before .before .before .put-part .ensures) ∙ (simp length-sets)
 
--- src/lib.rt:34:1
 returns : tie.Need-returns
 returns c = let a = c .before .before .before .before .before .before .before .before .before .before .before .before .before .before .before .before .before .before .before .before .before .before .before .before .before .before .before .args in entry-put (a .g) (a .image .now) (a .x) (a .name .now) (a .f) (c .before .before .before .before .before .before .before .before .before .before .before .before .before .before .before .before .before .before .before .before .before .before .before .before .before .before .before .pre .2) (c .before .before .before .before .before .before .before .before .before .before .before .before .before .before .before .before .before .put-part .ensures) (c .before .before .before .before .before .before .before .before .before .before .before .before .before .put-part2 .ensures) (c .before .before .before .before .put-part3 .ensures) (c .before .hash .ensures .is)
 

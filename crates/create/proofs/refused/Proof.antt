@@ -9,11 +9,9 @@ use Rattle.create.proofs.refused.Reads as reads
 use Rattle.create.proofs.refused.Lts as lts
 use Rattle.find.proofs.no_handle.Reads as no-handle-reads
 
--- src/lib.rt:72:17
 no-handle-requires : tie.Need-no-handle-requires
 no-handle-requires c κs = search needs
 
--- src/lib.rt:66:1
 returns : tie.Need-returns
 returns c = ap {B = Created} (λ (h : Handle). record { number = c .before .args .number; old = false; handle = h }) (c .no-handle .ensures)
 

@@ -19,43 +19,33 @@ Inv-loop image met columns row₀ row = Rows (metAt met) columns row
 abbrev μ-loop : tie.MeasureT-loop
 μ-loop image met columns row₀ row = 8 - row
 
--- src/lib.rt:192:19
 directory-sectors-requires : tie.Need-directory-sectors-requires Inv-loop μ-loop
 directory-sectors-requires c κs = search needs
 
--- src/lib.rt:192:19
 sub-columns : tie.Need-sub-columns Inv-loop μ-loop
 sub-columns c = search needs
 
--- src/lib.rt:194:5
 loop-holds : tie.Need-loop-holds Inv-loop μ-loop
 loop-holds c = record { rest = refl }
 
--- src/lib.rt:195:26
 mul-row-met : tie.Need-mul-row-met Inv-loop μ-loop
 mul-row-met c = search needs
 
--- src/lib.rt:195:13
 row-met-requires : tie.Need-row-met-requires Inv-loop μ-loop
 row-met-requires c κs = (omega arith, omega arith)
 
--- src/lib.rt:196:13
 returns : tie.Need-returns Inv-loop μ-loop
 returns c = rows-stop (c .before .before .before .loop .inv) (c .before .before .loop-test .taken) (is-no (c .before .row-met .ensures) (c .if1 .taken)) ∙ ap (every (metAt (c .before .before .before .before .before .before .args .met .now))) (rows-are _ _ (c .before .before .before .before .before .before .pre) (c .before .before .before .before .directory-sectors .ensures))
 
--- src/lib.rt:198:9
 add-row : tie.Need-add-row Inv-loop μ-loop
 add-row c = search needs
 
--- src/lib.rt:194:5
 loop-less : tie.Need-loop-less Inv-loop μ-loop
 loop-less c = omega arith
 
--- src/lib.rt:194:5
 loop-again : tie.Need-loop-again Inv-loop μ-loop
 loop-again c = rows-step (c .before .before .before .loop .inv) (c .before .before .loop-test .taken) (is-yes (c .before .row-met .ensures) (c .if1 .left))
 
--- src/lib.rt:188:1
 returns-2 : tie.Need-returns-2 Inv-loop μ-loop
 returns-2 c = rows-end (c .before .loop .inv) (c .loop-test .left) ∙ ap (every (metAt (c .before .before .before .before .args .met .now))) (rows-are _ _ (c .before .before .before .before .pre) (c .before .before .directory-sectors .ensures))
 

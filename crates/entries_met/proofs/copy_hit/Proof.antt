@@ -13,43 +13,33 @@ Inv-loop image met₀ hit s₀ met s = Copying image met hit s
 abbrev μ-loop : tie.MeasureT-loop
 μ-loop image met₀ hit s₀ met s = 256 - s
 
--- src/lib.rt:163:22
 add-hit : tie.Need-add-hit Inv-loop μ-loop
 add-hit c = search needs
 
--- src/lib.rt:163:15
 mul-hit : tie.Need-mul-hit Inv-loop μ-loop
 mul-hit c = search needs
 
--- src/lib.rt:165:5
 loop-holds : tie.Need-loop-holds Inv-loop μ-loop
 loop-holds c = copying-start _ _ _ (c .before .pre .1)
 
--- src/lib.rt:166:24
 add-met : tie.Need-add-met Inv-loop μ-loop
 add-met c = search needs
 
--- src/lib.rt:166:18
 shared-slice-read-met : tie.Need-shared-slice-read-met Inv-loop μ-loop
 shared-slice-read-met c = search needs
 
--- src/lib.rt:166:9
 element-write-met : tie.Need-element-write-met Inv-loop μ-loop
 element-write-met c = search needs
 
--- src/lib.rt:167:9
 add-s : tie.Need-add-s Inv-loop μ-loop
 add-s c = search needs
 
--- src/lib.rt:165:5
 loop-less : tie.Need-loop-less Inv-loop μ-loop
 loop-less c = omega arith
 
--- src/lib.rt:165:5
 loop-again : tie.Need-loop-again Inv-loop μ-loop
 loop-again c = copying-step (c .before .before .loop .inv) (c .before .loop-test .taken)
 
--- src/lib.rt:159:1
 returns : tie.Need-returns Inv-loop μ-loop
 returns c = copying-end _ (c .before .loop .inv) (c .loop-test .left)
 

@@ -14,47 +14,36 @@ Inv-loop met first columns end at₀ at = Rowing met first columns at
 abbrev μ-loop : tie.MeasureT-loop
 μ-loop met first columns end at₀ at = end - at
 
--- src/lib.rt:176:15
 add-end : tie.Need-add-end Inv-loop μ-loop
 add-end c = search needs
 
--- src/lib.rt:178:5
 loop-holds : tie.Need-loop-holds Inv-loop μ-loop
 loop-holds c = rowing-start _ _ _ (omega arith)
 
--- src/lib.rt:178:11
 add-loop : tie.Need-add-loop Inv-loop μ-loop
 add-loop c = omega arith
 
--- src/lib.rt:179:12
 eight-requires : tie.Need-eight-requires Inv-loop μ-loop
 eight-requires c κs = search needs
 
--- src/lib.rt:180:13
 returns : tie.Need-returns Inv-loop μ-loop
 returns c = rowing-stop (c .before .before .before .before .loop .inv) (omega arith) (omega arith) (c .before .eight .ensures) (c .if1 .taken)
 
--- src/lib.rt:182:9
 add-at : tie.Need-add-at Inv-loop μ-loop
 add-at c = omega arith
 
--- src/lib.rt:178:5
 loop-less : tie.Need-loop-less Inv-loop μ-loop
 loop-less c = omega arith
 
--- src/lib.rt:178:5
 loop-again : tie.Need-loop-again Inv-loop μ-loop
 loop-again c = rowing-step (c .before .before .before .before .loop .inv) (omega arith) (omega arith) (c .before .eight .ensures) (c .if1 .left)
 
--- src/lib.rt:184:24
 sub-eight : tie.Need-sub-eight Inv-loop μ-loop
 sub-eight c = omega arith
 
--- src/lib.rt:184:5
 eight-requires-2 : tie.Need-eight-requires-2 Inv-loop μ-loop
 eight-requires-2 c κs = search needs
 
--- src/lib.rt:172:1
 returns-2 : tie.Need-returns-2 Inv-loop μ-loop
 returns-2 c = rowing-end (c .before .before .before .loop .inv) (c .before .before .loop-test .left) (omega arith) (omega arith) (c .eight2 .ensures)
 

@@ -8,20 +8,16 @@ use Rattle.entry.proofs.count_holds.Lts as lts
 use Rattle.layout.proofs.field.Reads as field-reads
 use Rattle.layout.proofs.word.Reads as word-reads
 
--- src/lib.rt:275:8
 word-requires : tie.Need-word-requires
 word-requires c κs = search needs
 
--- src/lib.rt:276:9
 returns : tie.Need-returns
 unfolding countHolds
 returns c = simp (off (c .before .word .ensures .is) (c .if1 .taken))
 
--- src/lib.rt:278:5
 field-requires : tie.Need-field-requires
 field-requires c κs = search needs
 
--- src/lib.rt:271:1
 returns-2 : tie.Need-returns-2
 unfolding countHolds
 returns-2 c = simp (on (c .before .before .word .ensures .is) (c .before .if1 .left), c .field .ensures .is)

@@ -7,15 +7,12 @@ use Rattle.entry.proofs.flag.Reads as reads
 use Rattle.entry.proofs.flag.Lts as lts
 use Rattle.layout.proofs.field.Reads as field-reads
 
--- src/lib.rt:27:6
 field-requires : tie.Need-field-requires
 field-requires c κs = search needs
 
--- src/lib.rt:27:6
 shr-result : tie.Need-shr-result
 shr-result c = search needs
 
--- src/lib.rt:23:1
 returns : tie.Need-returns
 returns c = simp (sym (c .field .ensures .is), digit-at)
 

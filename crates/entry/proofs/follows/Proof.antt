@@ -13,38 +13,30 @@ use Rattle.layout.proofs.field.Reads as field-reads
 use Rattle.layout.proofs.is_slot.Reads as is-slot-reads
 use Rattle.layout.proofs.runs.Reads as runs-reads
 
--- src/lib.rt:35:9
 is-slot-requires : tie.Need-is-slot-requires
 is-slot-requires c κs = search needs
 
--- src/lib.rt:36:9
 returns : tie.Need-returns
 unfolding followsBy
 returns c = sym (all-no (is-no (c .before .is-slot .ensures) (c .if1 .taken)) _)
 
--- src/lib.rt:38:8
 field-requires : tie.Need-field-requires
 field-requires c κs = (c .before .before .before .pre, slot-of _ _ _ (is-yes (c .before .is-slot .ensures) (c .if1 .left)), omega arith)
 
--- src/lib.rt:39:9
 returns-2 : tie.Need-returns-2
 unfolding followsBy
 returns-2 c = sym (all-out _ 1 (off (c .before .field .ensures .is) (c .if2 .taken)))
 
--- src/lib.rt:41:8
 field-requires-2 : tie.Need-field-requires-2
 field-requires-2 c κs = (c .before .before .before .before .before .pre, slot-of _ _ _ (is-yes (c .before .before .before .is-slot .ensures) (c .before .before .if1 .left)), omega arith)
 
--- src/lib.rt:42:9
 returns-3 : tie.Need-returns-3
 unfolding followsBy
 returns-3 c = sym (all-out _ 2 (off (c .before .field2 .ensures .is) (c .if3 .taken)))
 
--- src/lib.rt:44:10
 runs-requires : tie.Need-runs-requires
 runs-requires c κs = (c .before .before .before .before .before .before .before .pre, slot-of _ _ _ (is-yes (c .before .before .before .before .before .is-slot .ensures) (c .before .before .before .before .if1 .left)))
 
--- src/lib.rt:31:1
 returns-4 : tie.Need-returns-4
 unfolding followsBy
 returns-4 c = ap (leb 1) (c .runs .ensures .is) ∙ sym (all-yes (is-yes (c .before .before .before .before .before .before .is-slot .ensures) (c .before .before .before .before .before .if1 .left)) _ ∙ all-yes (on (c .before .before .before .before .field .ensures .is) (c .before .before .before .if2 .left)) _ ∙ all-yes (on (c .before .before .field2 .ensures .is) (c .before .if3 .left)) _ ∙ all-one _)

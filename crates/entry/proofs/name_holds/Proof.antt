@@ -9,59 +9,45 @@ use Rattle.entry.proofs.name_holds.Lts as lts
 use Rattle.entry.proofs.flag.Reads as flag-reads
 use Rattle.spelling.proofs.well_formed.Reads as well-formed-reads
 
--- src/lib.rt:262:20
 add-a : tie.Need-add-a
 add-a c = search needs
 
--- src/lib.rt:262:20
 add-a-2 : tie.Need-add-a-2
 add-a-2 c = search needs
 
--- src/lib.rt:262:13
 mul-a : tie.Need-mul-a
 mul-a c = search needs
 
--- src/lib.rt:262:44
 mul-a-2 : tie.Need-mul-a-2
 mul-a-2 c = search needs
 
--- src/lib.rt:262:13
 add-a-3 : tie.Need-add-a-3
 add-a-3 c = search needs
 
--- src/lib.rt:262:13
 add-a-4 : tie.Need-add-a-4
 add-a-4 c = search needs
 
--- src/lib.rt:263:13
 add-e : tie.Need-add-e
 add-e c = search needs
 
--- src/lib.rt:264:27
 sub-well-formed : tie.Need-sub-well-formed
 sub-well-formed c = search needs
 
--- src/lib.rt:264:27
 part-well-formed-start : tie.Need-part-well-formed-start
 part-well-formed-start c = search needs
 
--- src/lib.rt:264:27
 part-well-formed-end : tie.Need-part-well-formed-end
 part-well-formed-end c = search needs
 
--- src/lib.rt:264:9
 well-formed-requires : tie.Need-well-formed-requires
 well-formed-requires c κs = search needs
 
--- src/lib.rt:265:9
 returns : tie.Need-returns
 returns c = name-bad _ _ _ (c .before .before .before .before .before .pre .0) (c .before .before .before .before .before .pre .1) (cut (entryAt (c .before .before .before .before .before .args .g) (c .before .before .before .before .before .args .s) + 5)) (c .before .well-formed .ensures) (c .if1 .taken)
 
--- src/lib.rt:267:6
 flag-requires : tie.Need-flag-requires
 flag-requires c κs = search needs
 
--- src/lib.rt:258:1
 returns-2 : tie.Need-returns-2
 returns-2 c = name-good _ _ _ (c .before .before .before .before .before .before .pre .0) (c .before .before .before .before .before .before .pre .1) (cut (entryAt (c .before .before .before .before .before .before .args .g) (c .before .before .before .before .before .before .args .s) + 5)) (c .before .before .well-formed .ensures) (c .before .if1 .left) (c .flag .ensures)
 

@@ -7,23 +7,18 @@ use Rattle.entry.proofs.size_holds.Lts as lts
 use Rattle.entry.proofs.count_holds.Reads as count-holds-reads
 use Rattle.layout.proofs.size_of.Reads as size-of-reads
 
--- src/lib.rt:286:9
 count-holds-requires : tie.Need-count-holds-requires
 count-holds-requires c κs = search needs
 
--- src/lib.rt:287:9
 returns : tie.Need-returns
 returns c = size-bad _ _ _ (c .before .count-holds .ensures) (c .if1 .taken)
 
--- src/lib.rt:289:5
 size-of-requires : tie.Need-size-of-requires
 size-of-requires c κs = search needs
 
--- src/lib.rt:289:37
 mul-result : tie.Need-mul-result
 mul-result c = search needs
 
--- src/lib.rt:282:1
 returns-2 : tie.Need-returns-2
 returns-2 c = size-good _ _ _ (c .before .before .count-holds .ensures) (c .before .if1 .left) (c .size-of .ensures .is) (c .before .before .before .before .pre .3)
 

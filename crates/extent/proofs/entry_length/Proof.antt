@@ -14,59 +14,45 @@ Inv-loop image g s k₀ n₀ k n = Counting g image s k n
 abbrev μ-loop : tie.MeasureT-loop
 μ-loop image g s k₀ n₀ k n = 4 - k
 
--- src/lib.rt:30:5
 loop-holds : tie.Need-loop-holds Inv-loop μ-loop
 loop-holds c = counting-start _ _ _
 
--- src/lib.rt:31:46
 mul-field : tie.Need-mul-field Inv-loop μ-loop
 mul-field c = search needs
 
--- src/lib.rt:31:39
 add-field : tie.Need-add-field Inv-loop μ-loop
 add-field c = search needs
 
--- src/lib.rt:31:12
 field-requires : tie.Need-field-requires Inv-loop μ-loop
 field-requires c κs = search needs
 
--- src/lib.rt:32:13
 returns : tie.Need-returns Inv-loop μ-loop
 returns c = counting-stop _ _ (c .before .before .before .loop .inv) (c .before .before .loop-test .taken) (sym (c .before .field .ensures .is) ∙ c .if1 .taken)
 
--- src/lib.rt:34:56
 mul-field-2 : tie.Need-mul-field-2 Inv-loop μ-loop
 mul-field-2 c = search needs
 
--- src/lib.rt:34:49
 add-field-2 : tie.Need-add-field-2 Inv-loop μ-loop
 add-field-2 c = search needs
 
--- src/lib.rt:34:22
 field-requires-2 : tie.Need-field-requires-2 Inv-loop μ-loop
 field-requires-2 c κs = search needs
 
--- src/lib.rt:34:18
 add-n : tie.Need-add-n Inv-loop μ-loop
 add-n c = search needs
 
--- src/lib.rt:34:13
 add-n-2 : tie.Need-add-n-2 Inv-loop μ-loop
 add-n-2 c = search needs
 
--- src/lib.rt:35:9
 add-k : tie.Need-add-k Inv-loop μ-loop
 add-k c = search needs
 
--- src/lib.rt:30:5
 loop-less : tie.Need-loop-less Inv-loop μ-loop
 loop-less c = search needs
 
--- src/lib.rt:30:5
 loop-again : tie.Need-loop-again Inv-loop μ-loop
 loop-again c = counting-step _ _ (c .before .before .before .before .loop .inv) (c .before .before .before .loop-test .taken) (λ q. c .before .if1 .left (c .before .before .field .ensures .is ∙ q)) (c .field2 .ensures .is)
 
--- src/lib.rt:24:1
 returns-2 : tie.Need-returns-2 Inv-loop μ-loop
 returns-2 c = counting-end _ _ (c .before .loop .inv) (c .loop-test .left)
 

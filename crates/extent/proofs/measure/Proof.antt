@@ -17,55 +17,42 @@ Inv-loop image g s at₀ last₀ owned₀ left₀ at last owned left = Measuring
 abbrev μ-loop : tie.MeasureT-loop
 μ-loop image g s at₀ last₀ owned₀ left₀ at last owned left = left
 
--- src/lib.rt:49:25
 directory-sectors-requires : tie.Need-directory-sectors-requires Inv-loop μ-loop
 directory-sectors-requires c κs = search needs
 
--- src/lib.rt:49:25
 sub-left : tie.Need-sub-left Inv-loop μ-loop
 sub-left c = let e = c .directory-sectors .ensures in let t = c .before .before .pre .0 .room .ten in omega arith
 
--- src/lib.rt:49:20
 mul-left : tie.Need-mul-left Inv-loop μ-loop
 mul-left c = search needs
 
--- src/lib.rt:50:5
 loop-holds : tie.Need-loop-holds Inv-loop μ-loop
 loop-holds c = let e = c .directory-sectors .ensures in let t = c .before .before .pre .0 .room .thirty in (measuring-start _ _ _ (c .before .before .pre .1), omega arith)
 
--- src/lib.rt:52:25
 entry-length-requires : tie.Need-entry-length-requires Inv-loop μ-loop
 entry-length-requires c κs = (c .before .before .before .before .pre .0 .room, c .before .loop .inv .0 .used .slot)
 
--- src/lib.rt:52:17
 add-owned : tie.Need-add-owned Inv-loop μ-loop
 add-owned c = let a = c .before .before .loop .inv .0 .small in let b = c .before .before .loop .inv .1 in let e = c .entry-length .ensures .small in omega arith
 
--- src/lib.rt:53:12
 field-requires : tie.Need-field-requires Inv-loop μ-loop
 field-requires c κs = (c .before .before .before .before .before .pre .0 .room, c .before .before .loop .inv .0 .used .slot, omega arith)
 
--- src/lib.rt:54:13
 returns : tie.Need-returns Inv-loop μ-loop
 returns c = measuring-stop _ _ (c .before .before .before .before .before .before .before .pre .0) (ap (λ (k : ℕ). 8 * (k - 2)) (c .before .before .before .before .before .directory-sectors .ensures)) (c .before .before .before .before .loop .inv .0) (c .before .before .before .loop-test .taken) (c .before .before .entry-length .ensures) (c .before .field .ensures .is) (c .if1 .taken)
 
--- src/lib.rt:56:9
 field-requires-2 : tie.Need-field-requires-2 Inv-loop μ-loop
 field-requires-2 c κs = (c .before .before .before .before .before .before .before .pre .0 .room, c .before .before .before .before .loop .inv .0 .used .slot, omega arith)
 
--- src/lib.rt:57:9
 sub-left-2 : tie.Need-sub-left-2 Inv-loop μ-loop
 sub-left-2 c = search needs
 
--- src/lib.rt:50:5
 loop-less : tie.Need-loop-less Inv-loop μ-loop
 loop-less c = search needs
 
--- src/lib.rt:50:5
 loop-again : tie.Need-loop-again Inv-loop μ-loop
 loop-again c = (measuring-step _ _ (c .before .before .before .before .before .before .before .before .pre .0) (c .before .before .before .before .before .loop .inv .0) (c .before .before .before .before .loop-test .taken) (c .before .before .before .entry-length .ensures) (c .before .before .field .ensures .is) (c .before .if1 .left) (c .field2 .ensures .is), c .before .before .before .before .before .loop .inv .1)
 
--- src/lib.rt:42:1
 returns-2 : tie.Need-returns-2 Inv-loop μ-loop
 returns-2 c = measuring-end _ _ (c .before .before .before .before .pre .0) (ap (λ (k : ℕ). 8 * (k - 2)) (c .before .before .directory-sectors .ensures)) (c .before .loop .inv .0) (c .loop-test .left)
 

@@ -10,20 +10,16 @@ use Rattle.find.proofs.admits.Lts as lts
 use Rattle.find.proofs.full.Reads as full-reads
 use Rattle.layout.proofs.word.Reads as word-reads
 
--- src/lib.rt:219:8
 full-requires : tie.Need-full-requires
 full-requires c κs = search needs
 
--- src/lib.rt:220:9
 returns : tie.Need-returns
 unfolding admits
 returns c = sym (any-hit (sym (c .before .full .ensures) ∙ (c .if1 .taken)) _)
 
--- src/lib.rt:222:22
 word-requires : tie.Need-word-requires
 word-requires c κs = search needs
 
--- src/lib.rt:215:1
 returns-2 : tie.Need-returns-2
 unfolding admits
 returns-2 c = sym (any-skip (sym (c .before .before .full .ensures) ∙ (c .before .if1 .left)) _ ∙ any-one _ ∙ ap (eqb (c .before .before .before .before .args .code)) (sym (c .word .ensures .is)))

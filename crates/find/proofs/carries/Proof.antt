@@ -13,44 +13,34 @@ use Rattle.find.proofs.carries.Lts as lts
 use Rattle.layout.proofs.primary.Reads as primary-reads
 use Rattle.layout.proofs.same_name.Reads as same-name-reads
 
--- src/lib.rt:37:9
 primary-requires : tie.Need-primary-requires
 primary-requires c κs = search needs
 
--- src/lib.rt:38:9
 returns : tie.Need-returns
 unfolding carries
 returns c = sym (all-no (is-no (c .before .primary .ensures) (c .if1 .taken)) _)
 
--- src/lib.rt:40:37
 add-same-name : tie.Need-add-same-name
 add-same-name c = search needs
 
--- src/lib.rt:40:37
 add-same-name-2 : tie.Need-add-same-name-2
 add-same-name-2 c = search needs
 
--- src/lib.rt:40:30
 mul-same-name : tie.Need-mul-same-name
 mul-same-name c = search needs
 
--- src/lib.rt:40:61
 mul-same-name-2 : tie.Need-mul-same-name-2
 mul-same-name-2 c = search needs
 
--- src/lib.rt:40:30
 add-same-name-3 : tie.Need-add-same-name-3
 add-same-name-3 c = search needs
 
--- src/lib.rt:40:30
 add-same-name-4 : tie.Need-add-same-name-4
 add-same-name-4 c = search needs
 
--- src/lib.rt:40:5
 same-name-requires : tie.Need-same-name-requires
 same-name-requires c κs = search needs
 
--- src/lib.rt:33:1
 returns-2 : tie.Need-returns-2
 unfolding carries
 returns-2 c = sym (all-yes (is-yes (c .before .before .before .primary .ensures) (c .before .before .if1 .left)) _ ∙ all-one _ ∙ (let a = c .before .before .before .before .before .before .args in name-at (a .g) (a .image .now) (a .name .now) (a .s) (omega arith)) ∙ sym (c .same-name .ensures))

@@ -10,25 +10,20 @@ use Rattle.find.proofs.full.Reads as reads
 use Rattle.find.proofs.full.Lts as lts
 use Rattle.layout.proofs.word.Reads as word-reads
 
--- src/lib.rt:205:9
 returns : tie.Need-returns
 unfolding full
 returns c = sym (any-hit (c .if1 .taken) _)
 
--- src/lib.rt:207:9
 word-requires : tie.Need-word-requires
 word-requires c κs = search needs
 
--- src/lib.rt:208:16
 cast-if2 : tie.Need-cast-if2
 cast-if2 c = search needs
 
--- src/lib.rt:209:9
 returns-2 : tie.Need-returns-2
 unfolding full
 returns-2 c = sym (any-skip (c .before .before .before .if1 .left) _ ∙ any-hit (eq-eqb _ _ (sym (c .before .before .word .ensures .is) ∙ (c .if2 .taken))) _)
 
--- src/lib.rt:200:1
 returns-3 : tie.Need-returns-3
 unfolding full
 returns-3 c = sym (any-skip (c .before .before .before .if1 .left) _ ∙ any-skip (ne-eqb _ _ (λ q. (c .if2 .left) (c .before .before .word .ensures .is ∙ q))) _ ∙ any-one _ ∙ ap (eqb (c .before .before .before .before .before .args .code)) (sym (c .before .before .word .ensures .is)))

@@ -16,28 +16,22 @@ use Rattle.find.proofs.look_up_checked.Lts as lts
 use Rattle.find.proofs.find.Reads as find-reads
 use Rattle.spelling.proofs.well_formed.Reads as well-formed-reads
 
--- src/lib.rt:154:9
 returns : tie.Need-returns
 returns c = told-stop _ _ _ (c .before .before .before .pre) (c .if1 .taken)
 
--- src/lib.rt:160:9
 well-formed-requires : tie.Need-well-formed-requires
 well-formed-requires c κs = search needs
 
--- src/lib.rt:161:9
 returns-2 : tie.Need-returns-2
 returns-2 c = told _ _ _ (sym (check-then _ _ _ (c .before .before .before .before .before .pre) (c .before .before .if1 .left) ∙ first-hit (not-no (is-no (c .before .well-formed .ensures) (c .if2 .taken))) _ _)) refl refl
 
--- src/lib.rt:167:9
 find-requires : tie.Need-find-requires
 find-requires c κs = (checked-room _ _ (checked _ _ (c .before .before .before .before .before .pre) (c .before .before .if1 .left)), well-length _ (is-yes (c .before .well-formed .ensures) (c .if2 .left)))
 
--- src/lib.rt:169:9
 returns-3 : tie.Need-returns-3
 returns-3 c = let e = finds-none _ _ _ (c .before .before .find .ensures) (c .if3 .taken) in
     told _ _ _ (sym (check-then _ _ _ (c .before .before .before .before .before .before .before .before .pre) (c .before .before .before .before .before .if1 .left) ∙ first-skip (not-yes (is-yes (c .before .before .before .before .well-formed .ensures) (c .before .before .before .if2 .left))) _ _ ∙ first-hit (ap (λ (l : List ℕ). eqb (length l) 0) e) _ _)) refl (sym (c .before .before .find .ensures .compared))
 
--- src/lib.rt:149:1
 returns-4 : tie.Need-returns-4
 unfolding firstOr
 returns-4 c = let e = finds-one _ _ _ (c .before .before .find .ensures) (c .if3 .left) in

@@ -8,11 +8,9 @@ use Rattle.find.proofs.name_array.Reads as reads
 use Rattle.find.proofs.name_array.Lts as lts
 use Rattle.find.proofs.name_at.Reads as name-at-reads
 
--- src/lib.rt:185:5
 name-at-requires : tie.Need-name-at-requires
 name-at-requires c κs = search needs
 
--- src/lib.rt:181:1
 returns : tie.Need-returns
 returns c = (c .name-at .ensures) ∙ take-all 11 (c .before .before .args .name .now) (omega arith)
 

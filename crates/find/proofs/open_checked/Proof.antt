@@ -22,69 +22,53 @@ use Rattle.find.proofs.no_handle.Reads as no-handle-reads
 use Rattle.find.proofs.opened_at.Reads as opened-at-reads
 use Rattle.spelling.proofs.well_formed.Reads as well-formed-reads
 
--- src/lib.rt:280:21
 no-handle-requires : tie.Need-no-handle-requires
 no-handle-requires c κs = search needs
 
--- src/lib.rt:278:9
 returns : tie.Need-returns
 returns c = open-refused _ _ _ _ _ _ (c .no-handle .ensures) (check-stop _ _ _ (c .before .before .before .before .pre) (c .before .if1 .taken)) (c .before .if1 .taken)
 
--- src/lib.rt:283:9
 good-length-requires : tie.Need-good-length-requires
 good-length-requires c κs = search needs
 
--- src/lib.rt:286:21
 no-handle-requires-2 : tie.Need-no-handle-requires-2
 no-handle-requires-2 c κs = search needs
 
--- src/lib.rt:284:9
 returns-2 : tie.Need-returns-2
 returns-2 c = open-refused _ _ _ _ _ _ (c .no-handle2 .ensures) (sym (check-then _ _ _ (c .before .before .before .before .before .before .pre) (c .before .before .before .if1 .left) ∙ first-hit (not-no (is-no (c .before .before .good-length .ensures) (c .before .if2 .taken))) _ _)) (λ z. omega arith)
 
--- src/lib.rt:289:9
 well-formed-requires : tie.Need-well-formed-requires
 well-formed-requires c κs = search needs
 
--- src/lib.rt:292:21
 no-handle-requires-3 : tie.Need-no-handle-requires-3
 no-handle-requires-3 c κs = search needs
 
--- src/lib.rt:290:9
 returns-3 : tie.Need-returns-3
 returns-3 c = open-refused _ _ _ _ _ _ (c .no-handle3 .ensures) (sym (check-then _ _ _ (c .before .before .before .before .before .before .before .before .pre) (c .before .before .before .before .before .if1 .left) ∙ first-skip (not-yes (is-yes (c .before .before .before .before .good-length .ensures) (c .before .before .before .if2 .left))) _ _ ∙ first-hit (not-no (is-no (c .before .before .well-formed .ensures) (c .before .if3 .taken))) _ _)) (λ z. omega arith)
 
--- src/lib.rt:295:9
 find-requires : tie.Need-find-requires
 find-requires c κs = (checked-room _ _ (checked _ _ (c .before .before .before .before .before .before .before .pre) (c .before .before .before .before .if1 .left)), well-length _ (is-yes (c .before .well-formed .ensures) (c .if3 .left)))
 
--- src/lib.rt:299:21
 no-handle-requires-4 : tie.Need-no-handle-requires-4
 no-handle-requires-4 c κs = search needs
 
--- src/lib.rt:297:9
 returns-4 : tie.Need-returns-4
 returns-4 c = let e = finds-none _ _ _ (c .before .before .before .find .ensures) (c .before .if4 .taken) in
     open-refused _ _ _ _ _ _ (c .no-handle4 .ensures) (sym (check-then _ _ _ (c .before .before .before .before .before .before .before .before .before .before .before .pre) (c .before .before .before .before .before .before .before .before .if1 .left) ∙ first-skip (not-yes (is-yes (c .before .before .before .before .before .before .before .good-length .ensures) (c .before .before .before .before .before .before .if2 .left))) _ _ ∙ first-skip (not-yes (is-yes (c .before .before .before .before .before .well-formed .ensures) (c .before .before .before .before .if3 .left))) _ _ ∙ first-hit (ap (λ (l : List ℕ). eqb (length l) 0) e) _ _)) (λ z. omega arith)
 
--- src/lib.rt:302:9
 admits-requires : tie.Need-admits-requires
 admits-requires c κs = (checked-room _ _ (checked _ _ (c .before .before .before .before .before .before .before .before .before .before .pre) (c .before .before .before .before .before .before .before .if1 .left)), (c .before .before .find .ensures .held) (not-false _ (c .if4 .left)))
 
--- src/lib.rt:305:21
 no-handle-requires-5 : tie.Need-no-handle-requires-5
 no-handle-requires-5 c κs = search needs
 
--- src/lib.rt:303:9
 returns-5 : tie.Need-returns-5
 returns-5 c = let e = finds-one _ _ _ (c .before .before .before .before .before .find .ensures) (c .before .before .before .if4 .left) in
     open-refused _ _ _ _ _ _ (c .no-handle5 .ensures) (sym (check-then _ _ _ (c .before .before .before .before .before .before .before .before .before .before .before .before .before .pre) (c .before .before .before .before .before .before .before .before .before .before .if1 .left) ∙ first-skip (not-yes (is-yes (c .before .before .before .before .before .before .before .before .before .good-length .ensures) (c .before .before .before .before .before .before .before .before .if2 .left))) _ _ ∙ first-skip (not-yes (is-yes (c .before .before .before .before .before .before .before .well-formed .ensures) (c .before .before .before .before .before .before .if3 .left))) _ _ ∙ first-skip (ap (λ (l : List ℕ). eqb (length l) 0) e) _ _ ∙ first-hit (admitted _ _ _ (c .before .before .before .before .before .before .before .before .before .before .before .before .before .args .len) _ _ e (is-no (c .before .before .admits .ensures) (c .before .if5 .taken))) _ _)) (λ z. omega arith)
 
--- src/lib.rt:310:17
 opened-at-requires : tie.Need-opened-at-requires
 opened-at-requires c κs = (checked-room _ _ (checked _ _ (c .before .before .before .before .before .before .before .before .before .before .before .before .pre) (c .before .before .before .before .before .before .before .before .before .if1 .left)), (c .before .before .before .before .find .ensures .held) (not-false _ (c .before .before .if4 .left)), well-length _ (is-yes (c .before .before .before .before .before .before .well-formed .ensures) (c .before .before .before .before .before .if3 .left)))
 
--- src/lib.rt:265:1
 returns-6 : tie.Need-returns-6
 returns-6 c = let e = finds-one _ _ _ (c .before .before .before .before .before .find .ensures) (c .before .before .before .if4 .left) in
     open-accepted _ _ _ _ _ _ (c .opened-at .ensures) (sym (check-then _ _ _ (c .before .before .before .before .before .before .before .before .before .before .before .before .before .pre) (c .before .before .before .before .before .before .before .before .before .before .if1 .left) ∙ first-skip (not-yes (is-yes (c .before .before .before .before .before .before .before .before .before .good-length .ensures) (c .before .before .before .before .before .before .before .before .if2 .left))) _ _ ∙ first-skip (not-yes (is-yes (c .before .before .before .before .before .before .before .well-formed .ensures) (c .before .before .before .before .before .before .if3 .left))) _ _ ∙ first-skip (ap (λ (l : List ℕ). eqb (length l) 0) e) _ _ ∙ first-skip (admitted _ _ _ (c .before .before .before .before .before .before .before .before .before .before .before .before .before .args .len) _ _ e (is-yes (c .before .before .admits .ensures) (c .before .if5 .left))) _ _ ∙ first-none)) e

@@ -12,19 +12,15 @@ use Rattle.find.proofs.full.Reads as full-reads
 use Rattle.find.proofs.name_array.Reads as name-array-reads
 use Rattle.layout.proofs.field.Reads as field-reads
 
--- src/lib.rt:239:9
 full-requires : tie.Need-full-requires
 full-requires c κs = search needs
 
--- src/lib.rt:240:17
 field-requires : tie.Need-field-requires
 field-requires c κs = search needs
 
--- src/lib.rt:244:15
 name-array-requires : tie.Need-name-array-requires
 name-array-requires c κs = search needs
 
--- src/lib.rt:226:1
 returns : tie.Need-returns
 returns c = opened _ _ _ _ _ _ (c .name-array .ensures)
     (⊎-elim

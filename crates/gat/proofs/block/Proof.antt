@@ -15,27 +15,21 @@ Inv-loop byte units q₀ x₀ left₀ q x left = (bits units byte q₀ ≡ bits 
 abbrev μ-loop : tie.MeasureT-loop
 μ-loop byte units q₀ x₀ left₀ q x left = left
 
--- src/lib.rt:60:5
 loop-holds : tie.Need-loop-holds Inv-loop μ-loop
 loop-holds c = (refl, omega arith)
 
--- src/lib.rt:61:9
 met-requires : tie.Need-met-requires Inv-loop μ-loop
 met-requires c κs = let r = c .before .before .pre .few in record { few = omega arith }
 
--- src/lib.rt:63:9
 sub-left : tie.Need-sub-left Inv-loop μ-loop
 sub-left c = omega arith
 
--- src/lib.rt:60:5
 loop-less : tie.Need-loop-less Inv-loop μ-loop
 loop-less c = omega arith
 
--- src/lib.rt:60:5
 loop-again : tie.Need-loop-again Inv-loop μ-loop
 loop-again c = (bits-more _ _ _ _ _ (c .before .before .loop .inv .0) (c .before .loop-test .taken) (c .met .ensures), (let k = met-few _ _ _ (c .met .ensures) in omega arith))
 
--- src/lib.rt:53:1
 returns : tie.Need-returns Inv-loop μ-loop
 returns c = record { is = bits-none _ _ _ _ (c .before .loop .inv .0) (c .loop-test .left); few = omega arith }
 

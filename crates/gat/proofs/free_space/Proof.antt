@@ -8,19 +8,15 @@ use Rattle.gat.proofs.free_space.Lts as lts
 use Rattle.gat.proofs.pass.Reads as pass-reads
 use Rattle.layout.proofs.fits_geometry.Reads as fits-geometry-reads
 
--- src/lib.rt:90:9
 fits-geometry-requires : tie.Need-fits-geometry-requires
 fits-geometry-requires c κs = search needs
 
--- src/lib.rt:91:9
 returns : tie.Need-returns
 returns c = space-refused _ _ (is-no (c .before .fits-geometry .ensures) (c .if1 .taken))
 
--- src/lib.rt:97:9
 pass-requires : tie.Need-pass-requires
 pass-requires c κs = gat-fits _ _ (is-yes (c .before .fits-geometry .ensures) (c .if1 .left))
 
--- src/lib.rt:87:1
 returns-2 : tie.Need-returns-2
 returns-2 c = space-accepted _ _ (is-yes (c .before .before .fits-geometry .ensures) (c .before .if1 .left)) (c .pass .ensures .free) (c .pass .ensures .longest′)
 

@@ -7,19 +7,15 @@ use Rattle.gat.proofs.met.Reads as reads
 use Rattle.gat.proofs.met.Lts as lts
 use Rattle.gat.proofs.ended.Reads as ended-reads
 
--- src/lib.rt:43:9
 ended-requires : tie.Need-ended-requires
 ended-requires c κs = search needs
 
--- src/lib.rt:43:9
 returns : tie.Need-returns
 returns c = c .ended .ensures ∙ met-taken _ (c .before .if1 .taken)
 
--- src/lib.rt:47:15
 add-t4 : tie.Need-add-t4
 add-t4 c = search needs
 
--- src/lib.rt:38:1
 returns-2 : tie.Need-returns-2
 returns-2 c = met-free _ (c .before .if1 .left)
 

@@ -16,47 +16,36 @@ Inv-loop image g seen₀ b₀ seen b = (b ≤ g .blocks) × (seen .free + seen .
 abbrev μ-loop : tie.MeasureT-loop
 μ-loop image g seen₀ b₀ seen b = g .blocks - b
 
--- src/lib.rt:79:5
 loop-holds : tie.Need-loop-holds Inv-loop μ-loop
 loop-holds c = (omega arith, omega arith, going-start _ _)
 
--- src/lib.rt:80:38
 mul-wide : tie.Need-mul-wide Inv-loop μ-loop
 mul-wide c = let r = c .before .before .before .before .before .pre in omega arith
 
--- src/lib.rt:80:38
 add-wide : tie.Need-add-wide Inv-loop μ-loop
 add-wide c = let r = c .before .before .before .before .before .pre in omega arith
 
--- src/lib.rt:80:32
 shared-slice-read-wide : tie.Need-shared-slice-read-wide Inv-loop μ-loop
 shared-slice-read-wide c = let r = c .before .before .before .before .before .before .pre in omega arith
 
--- src/lib.rt:80:19
 wide-requires : tie.Need-wide-requires Inv-loop μ-loop
 wide-requires c κs = search needs
 
--- src/lib.rt:80:9
 block-requires : tie.Need-block-requires Inv-loop μ-loop
 block-requires c κs = let r = c .before .before .before .before .before .before .before .pre in record { few = omega arith }
 
--- src/lib.rt:81:9
 add-b : tie.Need-add-b Inv-loop μ-loop
 add-b c = let r = c .before .before .before .before .before .before .before .before .pre in omega arith
 
--- src/lib.rt:79:5
 loop-less : tie.Need-loop-less Inv-loop μ-loop
 loop-less c = omega arith
 
--- src/lib.rt:79:5
 loop-again : tie.Need-loop-again Inv-loop μ-loop
 loop-again c = (omega arith, (let r = c .before .before .before .before .before .before .before .before .pre in let k = c .block .ensures .few in omega arith), going-step _ _ (c .before .before .before .before .before .before .before .before .pre .units-low) (c .before .before .before .before .before .before .loop .inv .2) (c .before .before .before .before .if1 .taken) (c .before .wide .ensures .is) (c .block .ensures .is))
 
--- src/lib.rt:83:5
 ended-requires : tie.Need-ended-requires Inv-loop μ-loop
 ended-requires c κs = let r = c .before .before .before .before .pre in record { few = omega arith }
 
--- src/lib.rt:69:1
 returns : tie.Need-returns Inv-loop μ-loop
 returns c = going-end _ _ (c .before .before .before .loop .inv .2) (c .before .if1 .left) (c .ended .ensures)
 

@@ -18,35 +18,27 @@ use Rattle.codec.proofs.handle_of.Reads as handle-of-reads
 use Rattle.refusal.proofs.short_number.Reads as short-number-reads
 use Rattle.refusal.proofs.slot_of.Reads as slot-of-reads
 
--- src/lib.rt:365:9
 short-number-requires : tie.Need-short-number-requires
 short-number-requires c κs = search needs
 
--- src/lib.rt:365:9
 same-length : tie.Need-same-length
 same-length c = search needs
 
--- src/lib.rt:365:9
 returns : tie.Need-returns
 returns c = (rw (lt-ltb _ _ (c .before .before .before .if1 .taken)) (number (ℕ × List ℕ) (λ n. (n, c .before .before .before .before .before .before .args .image .now)) (c .short-number .ensures .0)), c .short-number .ensures .1)
 
--- src/lib.rt:367:9
 handle-of-requires : tie.Need-handle-of-requires
 handle-of-requires c κs = search needs
 
--- src/lib.rt:368:9
 allot-requires : tie.Need-allot-requires
 allot-requires c κs = search needs
 
--- src/lib.rt:369:19
 slot-of-requires : tie.Need-slot-of-requires
 slot-of-requires c κs = search needs
 
--- src/lib.rt:345:1
 same-length-2 : tie.Need-same-length-2
 same-length-2 c = search needs
 
--- src/lib.rt:345:1
 returns-2 : tie.Need-returns-2
 returns-2 c = (rw (le-ltb _ _ (c .before .before .before .before .before .before .before .if1 .left)) (ap leaves (c .before .before .before .before .allot .ensures ∙ ap (λ (h : Handle). allot (geometry (c .before .before .before .before .before .before .before .before .before .before .args .blocks) (c .before .before .before .before .before .before .before .before .before .before .args .units) (c .before .before .before .before .before .before .before .before .before .before .args .start) (c .before .before .before .before .before .before .before .before .before .before .args .open-code)) (c .before .before .before .before .before .before .before .before .before .before .args .image .now) h (c .before .before .before .before .before .before .before .before .before .before .args .k)) (c .before .before .before .before .before .before .handle-of .ensures))), after (λ (a : Answer). a .number) (geometry (c .before .before .before .before .before .before .before .before .before .before .args .blocks) (c .before .before .before .before .before .before .before .before .before .before .args .units) (c .before .before .before .before .before .before .before .before .before .before .args .start) (c .before .before .before .before .before .before .before .before .before .before .args .open-code)) (c .before .before .before .before .before .before .before .before .before .before .args .image .now) _ (c .before .before .before .before .allot .ensures) (allot-kept _ _ _ _) (c .slot-of .ensures))
 

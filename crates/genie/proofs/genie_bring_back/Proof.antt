@@ -10,19 +10,15 @@ use Rattle.genie.proofs.genie_bring_back.Lts as lts
 use Rattle.calls.proofs.bring_back.Reads as bring-back-reads
 use Rattle.refusal.proofs.slot_of.Reads as slot-of-reads
 
--- src/lib.rt:447:9
 bring-back-requires : tie.Need-bring-back-requires
 bring-back-requires c κs = search needs
 
--- src/lib.rt:448:19
 slot-of-requires : tie.Need-slot-of-requires
 slot-of-requires c κs = search needs
 
--- src/lib.rt:427:1
 same-length : tie.Need-same-length
 same-length c = search needs
 
--- src/lib.rt:427:1
 returns : tie.Need-returns
 returns c = (ap brings (c .before .before .before .before .bring-back .ensures), after (λ (a : BroughtBack). a .number) (geometry (c .before .before .before .before .before .before .before .args .blocks) (c .before .before .before .before .before .before .before .args .units) (c .before .before .before .before .before .before .before .args .start) (c .before .before .before .before .before .before .before .args .open-code)) (c .before .before .before .before .before .before .before .args .image .now) _ (c .before .before .before .before .bring-back .ensures) (back-kept _ _ _) (c .slot-of .ensures))
 

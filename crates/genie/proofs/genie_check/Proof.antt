@@ -9,11 +9,9 @@ use Rattle.genie.proofs.genie_check.Reads as reads
 use Rattle.genie.proofs.genie_check.Lts as lts
 use Rattle.diagnosis.proofs.check.Reads as check-reads
 
--- src/lib.rt:136:9
 check-requires : tie.Need-check-requires
 check-requires c κs = search needs
 
--- src/lib.rt:119:1
 returns : tie.Need-returns
 returns c = (ap {B = ℕ} (λ (f : Fault). f .number) (c .check .ensures) ∙ told-number _ _, ap {B = ℕ} (λ (f : Fault). f .slot) (c .check .ensures))
 

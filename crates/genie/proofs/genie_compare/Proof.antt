@@ -14,47 +14,36 @@ use Rattle.layout.proofs.wide.Reads as wide-reads
 use Rattle.refusal.proofs.compared_slot.Reads as compared-slot-reads
 use Rattle.refusal.proofs.short_of_two.Reads as short-of-two-reads
 
--- src/lib.rt:475:9
 short-of-two-requires : tie.Need-short-of-two-requires
 short-of-two-requires c κs = search needs
 
--- src/lib.rt:475:9
 returns : tie.Need-returns
 returns c = (rw (lt-ltb _ _ (c .before .before .before .if1 .taken)) (ap (shortOf (c .before .before .before .before .before .before .before .args .name .now)) (c .short-of-two .ensures .0)), c .short-of-two .ensures .1)
 
--- src/lib.rt:477:9
 compare-requires : tie.Need-compare-requires
 compare-requires c κs = search needs
 
--- src/lib.rt:478:9
 wide-requires : tie.Need-wide-requires
 wide-requires c κs = search needs
 
--- src/lib.rt:480:19
 compared-slot-requires : tie.Need-compared-slot-requires
 compared-slot-requires c κs = search needs
 
--- src/lib.rt:481:13
 wide-requires-2 : tie.Need-wide-requires-2
 wide-requires-2 c κs = search needs
 
--- src/lib.rt:483:14
 flags-of-requires : tie.Need-flags-of-requires
 flags-of-requires c κs = search needs
 
--- src/lib.rt:485:9
 returns-2 : tie.Need-returns-2
 returns-2 c = (rw (le-ltb _ _ (c .before .before .before .before .before .before .before .if1 .left)) (none-told (c .before .before .before .before .before .before .before .before .before .before .before .args .name .now) (c .before .before .before .before .before .before .compare .result) (c .before .before .before .before .before .wide .ensures .is) (c .before .before .before .wide2 .ensures .is) (c .before .before .flags-of .ensures) (c .before .before .before .before .before .before .compare .ensures) (c .if2 .taken)), c .before .before .before .before .compared-slot .ensures)
 
--- src/lib.rt:488:5
 put-name-requires : tie.Need-put-name-requires
 put-name-requires c κs = search needs
 
--- src/lib.rt:437:1
 same-length : tie.Need-same-length
 same-length c = search needs
 
--- src/lib.rt:437:1
 returns-3 : tie.Need-returns-3
 returns-3 c = (rw (le-ltb _ _ (c .before .before .before .before .before .before .before .before .before .before .before .before .if1 .left)) (one-told (c .before .before .before .before .before .before .before .before .before .before .before .before .before .before .before .before .args .name .now) (c .before .before .before .before .before .before .before .before .before .before .before .compare .result) (c .before .before .before .before .before .before .before .before .before .before .wide .ensures .is) (c .before .before .before .before .before .before .before .before .wide2 .ensures .is) (c .before .before .before .before .before .before .before .flags-of .ensures) (c .before .before .before .before .before .before .before .before .before .before .before .compare .ensures) (c .before .before .before .before .before .if2 .left) (c .before .before .put-name .ensures)), c .before .before .before .before .before .before .before .before .before .compared-slot .ensures)
 

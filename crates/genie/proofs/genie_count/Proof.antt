@@ -8,15 +8,12 @@ use Rattle.genie.proofs.genie_count.Lts as lts
 use Rattle.calls.proofs.counts.Reads as counts-reads
 use Rattle.refusal.proofs.slot_of.Reads as slot-of-reads
 
--- src/lib.rt:515:9
 counts-requires : tie.Need-counts-requires
 counts-requires c κs = search needs
 
--- src/lib.rt:516:19
 slot-of-requires : tie.Need-slot-of-requires
 slot-of-requires c κs = search needs
 
--- src/lib.rt:496:1
 returns : tie.Need-returns
 returns c = (ap numbers (c .before .counts .ensures), c .slot-of .ensures)
 

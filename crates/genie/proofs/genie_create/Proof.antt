@@ -16,43 +16,33 @@ use Rattle.refusal.proofs.short_number.Reads as short-number-reads
 use Rattle.refusal.proofs.slot_of.Reads as slot-of-reads
 use Rattle.codec.proofs.told.Reads as told-reads
 
--- src/lib.rt:228:9
 short-number-requires : tie.Need-short-number-requires
 short-number-requires c κs = search needs
 
--- src/lib.rt:228:9
 same-length : tie.Need-same-length
 same-length c = search needs
 
--- src/lib.rt:228:9
 returns : tie.Need-returns
 returns c = (rw (lt-ltb _ _ (c .before .before .before .if1 .taken)) (number (ℕ × ℕ × List ℕ × List ℕ) (λ n. (n, 0, c .before .before .before .before .before .before .before .args .handle .now, c .before .before .before .before .before .before .before .args .image .now)) (c .short-number .ensures .0)), c .short-number .ensures .1)
 
--- src/lib.rt:238:9
 create-requires : tie.Need-create-requires
 create-requires c κs = search needs
 
--- src/lib.rt:239:19
 slot-of-requires : tie.Need-slot-of-requires
 slot-of-requires c κs = search needs
 
--- src/lib.rt:240:12
 told-requires : tie.Need-told-requires
 told-requires c κs = search needs
 
--- src/lib.rt:241:5
 put-handle-requires : tie.Need-put-handle-requires
 put-handle-requires c κs = search needs
 
--- src/lib.rt:199:1
 same-length-2 : tie.Need-same-length-2
 same-length-2 c = search needs
 
--- src/lib.rt:199:1
 same-length-3 : tie.Need-same-length-3
 same-length-3 c = search needs
 
--- src/lib.rt:199:1
 returns-2 : tie.Need-returns-2
 returns-2 c = (rw (le-ltb _ _ (c .before .before .before .before .before .before .before .before .before .before .before .if1 .left)) (created (c .before .before .before .before .before .before .before .before .before .before .before .before .before .before .before .args .handle .now) (c .before .before .before .before .before .before .before .before .before .create .last .0) (c .before .before .before .before .before .before .before .before .before .create .result) (c .before .before .before .before .told .ensures) (c .before .before .put-handle .ensures) (c .before .before .before .before .before .before .before .before .before .create .ensures)), after (λ (a : Created). a .number) (geometry (c .before .before .before .before .before .before .before .before .before .before .before .before .before .before .before .args .blocks) (c .before .before .before .before .before .before .before .before .before .before .before .before .before .before .before .args .units) (c .before .before .before .before .before .before .before .before .before .before .before .before .before .before .before .args .start) (c .before .before .before .before .before .before .before .before .before .before .before .before .before .before .before .args .open-code)) (c .before .before .before .before .before .before .before .before .before .before .before .before .before .before .before .args .image .now) _ (c .before .before .before .before .before .before .before .before .before .create .ensures) (create-kept _ _ _ _ _) (c .before .before .before .before .before .slot-of .ensures))
 

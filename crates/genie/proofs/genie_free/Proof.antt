@@ -7,11 +7,9 @@ use Rattle.genie.proofs.genie_free.Reads as reads
 use Rattle.genie.proofs.genie_free.Lts as lts
 use Rattle.calls.proofs.free_space.Reads as free-space-reads
 
--- src/lib.rt:469:9
 free-space-requires : tie.Need-free-space-requires
 free-space-requires c κs = search needs
 
--- src/lib.rt:451:1
 returns : tie.Need-returns
 returns c = ap spaces (c .free-space .ensures)
 

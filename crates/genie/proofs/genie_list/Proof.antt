@@ -12,35 +12,27 @@ use Rattle.codec.proofs.put_name.Reads as put-name-reads
 use Rattle.refusal.proofs.short_number.Reads as short-number-reads
 use Rattle.refusal.proofs.slot_of.Reads as slot-of-reads
 
--- src/lib.rt:480:9
 short-number-requires : tie.Need-short-number-requires
 short-number-requires c κs = search needs
 
--- src/lib.rt:480:9
 returns : tie.Need-returns
 returns c = (rw (lt-ltb _ _ (c .before .before .if1 .taken)) (number (ℕ × ℕ × ℕ × ℕ × List ℕ) (λ n. (n, 0, 0, 0, c .before .before .before .before .before .args .name .now)) (c .short-number .ensures .0)), c .short-number .ensures .1)
 
--- src/lib.rt:482:9
 list-requires : tie.Need-list-requires
 list-requires c κs = search needs
 
--- src/lib.rt:483:19
 slot-of-requires : tie.Need-slot-of-requires
 slot-of-requires c κs = search needs
 
--- src/lib.rt:488:9
 returns-2 : tie.Need-returns-2
 returns-2 c = (rw (le-ltb _ _ (c .before .before .before .before .if1 .left)) (nothing (c .before .before .before .before .before .before .before .args .name .now) (c .before .before .before .list .result) (c .if2 .taken) (c .before .before .before .list .ensures)), c .before .before .slot-of .ensures)
 
--- src/lib.rt:492:5
 put-name-requires : tie.Need-put-name-requires
 put-name-requires c κs = search needs
 
--- src/lib.rt:454:1
 same-length : tie.Need-same-length
 same-length c = search needs
 
--- src/lib.rt:454:1
 returns-3 : tie.Need-returns-3
 returns-3 c = (rw (le-ltb _ _ (c .before .before .before .before .before .before .before .before .before .if1 .left)) (file (c .before .before .before .before .before .before .before .before .before .before .before .before .args .name .now) (c .before .before .before .before .before .before .before .before .list .result) (c .before .before .before .before .before .if2 .left) (c .before .before .put-name .ensures) (c .before .before .before .before .before .before .before .before .list .ensures)), c .before .before .before .before .before .before .before .slot-of .ensures)
 

@@ -8,15 +8,12 @@ use Rattle.genie.proofs.genie_look_up.Lts as lts
 use Rattle.calls.proofs.look_up.Reads as look-up-reads
 use Rattle.refusal.proofs.slot_of.Reads as slot-of-reads
 
--- src/lib.rt:161:9
 look-up-requires : tie.Need-look-up-requires
 look-up-requires c κs = search needs
 
--- src/lib.rt:162:19
 slot-of-requires : tie.Need-slot-of-requires
 slot-of-requires c κs = search needs
 
--- src/lib.rt:141:1
 returns : tie.Need-returns
 returns c = (ap looks (c .before .look-up .ensures), c .slot-of .ensures)
 

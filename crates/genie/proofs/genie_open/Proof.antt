@@ -12,31 +12,24 @@ use Rattle.codec.proofs.put_handle.Reads as put-handle-reads
 use Rattle.refusal.proofs.short_number.Reads as short-number-reads
 use Rattle.refusal.proofs.slot_of.Reads as slot-of-reads
 
--- src/lib.rt:191:9
 short-number-requires : tie.Need-short-number-requires
 short-number-requires c κs = search needs
 
--- src/lib.rt:191:9
 returns : tie.Need-returns
 returns c = (rw (lt-ltb _ _ (c .before .before .if1 .taken)) (number (ℕ × List ℕ) (λ n. (n, c .before .before .before .before .before .before .args .handle .now)) (c .short-number .ensures .0)), c .short-number .ensures .1)
 
--- src/lib.rt:193:9
 open-file-requires : tie.Need-open-file-requires
 open-file-requires c κs = search needs
 
--- src/lib.rt:194:19
 slot-of-requires : tie.Need-slot-of-requires
 slot-of-requires c κs = search needs
 
--- src/lib.rt:195:5
 put-handle-requires : tie.Need-put-handle-requires
 put-handle-requires c κs = search needs
 
--- src/lib.rt:168:1
 same-length : tie.Need-same-length
 same-length c = search needs
 
--- src/lib.rt:168:1
 returns-2 : tie.Need-returns-2
 returns-2 c = (rw (le-ltb _ _ (c .before .before .before .before .before .before .if1 .left)) (opened (c .before .before .before .before .before .before .before .before .before .before .args .handle .now) (c .before .before .before .before .before .open-file .result) (c .before .before .put-handle .ensures) (c .before .before .before .before .before .open-file .ensures)), c .before .before .before .before .slot-of .ensures)
 

@@ -15,27 +15,21 @@ use Rattle.codec.proofs.handle_of.Reads as handle-of-reads
 use Rattle.refusal.proofs.short_number.Reads as short-number-reads
 use Rattle.refusal.proofs.slot_of.Reads as slot-of-reads
 
--- src/lib.rt:301:9
 short-number-requires : tie.Need-short-number-requires
 short-number-requires c κs = search needs
 
--- src/lib.rt:301:9
 returns : tie.Need-returns
 returns c = (rw (lt-ltb _ _ (c .before .before .if1 .taken)) (number (ℕ × ℕ × ℕ) (λ n. (n, 0, 0)) (c .short-number .ensures .0)), c .short-number .ensures .1)
 
--- src/lib.rt:303:9
 handle-of-requires : tie.Need-handle-of-requires
 handle-of-requires c κs = search needs
 
--- src/lib.rt:304:9
 sector-part-requires : tie.Need-sector-part-requires
 sector-part-requires c κs = search needs
 
--- src/lib.rt:305:19
 slot-of-requires : tie.Need-slot-of-requires
 slot-of-requires c κs = search needs
 
--- src/lib.rt:277:1
 returns-2 : tie.Need-returns-2
 returns-2 c = (rw (le-ltb _ _ (c .before .before .before .if1 .left)) (ap lies (c .before .sector-part .ensures .0 ∙ ap (λ (h : Handle). readSector (geometry (c .before .before .before .before .before .before .args .blocks) (c .before .before .before .before .before .before .args .units) (c .before .before .before .before .before .before .args .start) (c .before .before .before .before .before .before .args .open-code)) (c .before .before .before .before .before .before .args .image .now) h (c .before .before .before .before .before .before .args .k)) (c .before .before .handle-of .ensures))), c .slot-of .ensures)
 

@@ -23,43 +23,33 @@ use Rattle.codec.proofs.put_handle.Reads as put-handle-reads
 use Rattle.refusal.proofs.short_number.Reads as short-number-reads
 use Rattle.refusal.proofs.slot_of.Reads as slot-of-reads
 
--- src/lib.rt:332:9
 short-number-requires : tie.Need-short-number-requires
 short-number-requires c κs = search needs
 
--- src/lib.rt:332:9
 same-length : tie.Need-same-length
 same-length c = search needs
 
--- src/lib.rt:332:9
 returns : tie.Need-returns
 returns c = (rw (lt-ltb _ _ (c .before .before .before .if1 .taken)) (number (ℕ × List ℕ × List ℕ) (λ n. (n, c .before .before .before .before .before .before .before .args .handle .now, c .before .before .before .before .before .before .before .args .image .now)) (c .short-number .ensures .0)), c .short-number .ensures .1)
 
--- src/lib.rt:334:9
 handle-of-requires : tie.Need-handle-of-requires
 handle-of-requires c κs = search needs
 
--- src/lib.rt:335:9
 mode-of-requires : tie.Need-mode-of-requires
 mode-of-requires c κs = search needs
 
--- src/lib.rt:336:9
 write-record-requires : tie.Need-write-record-requires
 write-record-requires c κs = search needs
 
--- src/lib.rt:337:19
 slot-of-requires : tie.Need-slot-of-requires
 slot-of-requires c κs = search needs
 
--- src/lib.rt:339:9
 same-length-2 : tie.Need-same-length-2
 same-length-2 c = search needs
 
--- src/lib.rt:339:9
 same-length-3 : tie.Need-same-length-3
 same-length-3 c = search needs
 
--- src/lib.rt:339:9
 returns-2 : tie.Need-returns-2
 returns-2 c = (
   rw (le-ltb _ _ (c .before .before .before .before .before .before .before .before .before .before .before .if1 .left)) (stays (c .before .before .before .before .before .before .before .before .before .before .before .before .before .before .before .args .handle .now) (c .before .before .before .before .before .before .write-record .result) _ (c .if2 .taken) (c .before .before .before .before .before .before .write-record .ensures
@@ -68,19 +58,15 @@ returns-2 c = (
   after (λ (a : Answer). a .number) (geometry (c .before .before .before .before .before .before .before .before .before .before .before .before .before .before .before .args .blocks) (c .before .before .before .before .before .before .before .before .before .before .before .before .before .before .before .args .units) (c .before .before .before .before .before .before .before .before .before .before .before .before .before .before .before .args .start) (c .before .before .before .before .before .before .before .before .before .before .before .before .before .before .before .args .open-code)) (c .before .before .before .before .before .before .before .before .before .before .before .before .before .before .before .args .image .now) _ (c .before .before .before .before .before .before .write-record .ensures) (write-kept _ _ _ _ _) (c .before .before .slot-of .ensures),
 )
 
--- src/lib.rt:341:5
 put-handle-requires : tie.Need-put-handle-requires
 put-handle-requires c κs = search needs
 
--- src/lib.rt:311:1
 same-length-4 : tie.Need-same-length-4
 same-length-4 c = search needs
 
--- src/lib.rt:311:1
 same-length-5 : tie.Need-same-length-5
 same-length-5 c = search needs
 
--- src/lib.rt:311:1
 returns-3 : tie.Need-returns-3
 returns-3 c = (
   rw (le-ltb _ _ (c .before .before .before .before .before .before .before .before .before .before .before .before .before .before .before .if1 .left)) (moved (c .before .before .before .before .before .before .before .before .before .before .before .before .before .before .before .before .before .before .before .args .handle .now) (c .before .before .before .before .before .before .before .before .before .before .write-record .result) _ (c .before .before .before .before .if2 .left) (c .before .before .put-handle .ensures) (c .before .before .before .before .before .before .before .before .before .before .write-record .ensures

@@ -20,70 +20,54 @@ use Rattle.growth.proofs.take_granules.Reads as take-granules-reads
 use Rattle.supply.proofs.too_few.Reads as too-few-reads
 use Rattle.supply.proofs.too_few_slots.Reads as too-few-slots-reads
 
--- src/lib.rt:313:9
 measure-requires : tie.Need-measure-requires
 measure-requires c κs = walks _ _ _ (c .before .before .pre)
 
--- src/lib.rt:315:9
 same-length : tie.Need-same-length
 same-length c = search needs
 
--- src/lib.rt:315:9
 returns : tie.Need-returns
 returns c = whole-none _ _ _ _ (let e = c .before .before .measure .ensures .many in let t = c .if1 .taken in omega arith)
 
--- src/lib.rt:317:13
 sub-k : tie.Need-sub-k
 sub-k c = search needs
 
--- src/lib.rt:318:8
 no-growth-requires : tie.Need-no-growth-requires
 no-growth-requires c κs = let w = walks _ _ _ (c .before .before .before .before .before .before .before .pre) in (w .0 .room, w .1 .slot)
 
--- src/lib.rt:319:9
 same-length-2 : tie.Need-same-length-2
 same-length-2 c = search needs
 
--- src/lib.rt:319:9
 returns-2 : tie.Need-returns-2
 returns-2 c = whole-eleven _ _ _ (lacking (c .before .before .before .before .before .before .before .before .before .args .g) (c .before .before .before .before .before .before .before .before .before .args .image .now) (c .before .before .before .before .before .before .before .before .before .args .p) (c .before .before .before .before .before .before .before .before .before .args .wanted)) (let e = c .before .before .before .before .before .before .measure .ensures .many in let t = c .before .before .before .before .if1 .left in omega arith) (sym (c .before .no-growth .ensures) ∙ c .if2 .taken)
 
--- src/lib.rt:321:8
 too-few-requires : tie.Need-too-few-requires
 too-few-requires c κs = walks _ _ _ (c .before .before .before .before .before .before .before .before .before .before .pre) .0 .room
 
--- src/lib.rt:322:9
 same-length-3 : tie.Need-same-length-3
 same-length-3 c = search needs
 
--- src/lib.rt:322:9
 returns-3 : tie.Need-returns-3
 returns-3 c = let e = lacks (c .before .before .before .before .before .before .before .before .before .before .before .before .args .g) (c .before .before .before .before .before .before .before .before .before .before .before .before .args .image .now) (c .before .before .before .before .before .before .before .before .before .before .before .before .args .p) (c .before .before .before .before .before .before .before .before .before .before .before .before .args .wanted) (c .before .before .before .before .before .before .before .before .before .measure .ensures .many) in
     whole-nine _ _ _ _ (sym (c .before .before .before .before .no-growth .ensures) ∙ c .before .before .before .if2 .left) (ap (λ (k : ℕ). ltb (length (freeGranules (c .before .before .before .before .before .before .before .before .before .before .before .before .args .g) (c .before .before .before .before .before .before .before .before .before .before .before .before .args .image .now))) k) (sym e) ∙ sym (c .before .too-few .ensures) ∙ c .if3 .taken)
 
--- src/lib.rt:324:8
 too-few-slots-requires : tie.Need-too-few-slots-requires
 too-few-slots-requires c κs = (c .before .before .before .before .before .before .before .before .before .before .before .before .before .pre, c .before .before .before .before .before .before .before .before .before .before .measure .ensures .last, ltb-false _ _ (sym (c .before .before .too-few .ensures) ∙ c .before .if3 .left))
 
--- src/lib.rt:325:9
 same-length-4 : tie.Need-same-length-4
 same-length-4 c = search needs
 
--- src/lib.rt:325:9
 returns-4 : tie.Need-returns-4
 returns-4 c = let e = lacks (c .before .before .before .before .before .before .before .before .before .before .before .before .before .before .before .args .g) (c .before .before .before .before .before .before .before .before .before .before .before .before .before .before .before .args .image .now) (c .before .before .before .before .before .before .before .before .before .before .before .before .before .before .before .args .p) (c .before .before .before .before .before .before .before .before .before .before .before .before .before .before .before .args .wanted) (c .before .before .before .before .before .before .before .before .before .before .before .before .measure .ensures .many) in
     whole-eight _ _ _ _ (sym (c .before .before .before .before .before .before .before .no-growth .ensures) ∙ c .before .before .before .before .before .before .if2 .left) (ap (λ (k : ℕ). ltb (length (freeGranules (c .before .before .before .before .before .before .before .before .before .before .before .before .before .before .before .args .g) (c .before .before .before .before .before .before .before .before .before .before .before .before .before .before .before .args .image .now))) k) (sym e) ∙ sym (c .before .before .before .before .too-few .ensures) ∙ c .before .before .before .if3 .left)
     (ap (λ (k : ℕ). fails (grow (c .before .before .before .before .before .before .before .before .before .before .before .before .before .before .before .args .g) (c .before .before .before .before .before .before .before .before .before .before .before .before .before .before .before .args .p) k (c .before .before .before .before .before .before .before .before .before .before .before .before .before .before .before .args .image .now))) (sym e) ∙ sym (c .before .too-few-slots .ensures) ∙ c .if4 .taken)
 
--- src/lib.rt:327:5
 take-granules-requires : tie.Need-take-granules-requires
 take-granules-requires c κs = (c .before .before .before .before .before .before .before .before .before .before .before .before .before .before .before .before .pre, c .before .before .before .before .before .before .before .before .before .before .before .before .before .measure .ensures .last, ltb-false _ _ (sym (c .before .before .before .before .before .too-few .ensures) ∙ c .before .before .before .before .if3 .left), sym (c .before .before .too-few-slots .ensures) ∙ c .before .if4 .left)
 
--- src/lib.rt:308:1
 same-length-5 : tie.Need-same-length-5
 same-length-5 c = search needs
 
--- src/lib.rt:308:1
 returns-5 : tie.Need-returns-5
 returns-5 c = let e = lacks (c .before .before .before .before .before .before .before .before .before .before .before .before .before .before .before .before .before .before .before .args .g) (c .before .before .before .before .before .before .before .before .before .before .before .before .before .before .before .before .before .before .before .args .image .now) (c .before .before .before .before .before .before .before .before .before .before .before .before .before .before .before .before .before .before .before .args .p) (c .before .before .before .before .before .before .before .before .before .before .before .before .before .before .before .before .before .before .before .args .wanted) (c .before .before .before .before .before .before .before .before .before .before .before .before .before .before .before .before .measure .ensures .many) in
     whole-grown _ _ _ _ (sym (c .before .before .before .before .before .before .before .before .before .before .before .no-growth .ensures) ∙ c .before .before .before .before .before .before .before .before .before .before .if2 .left) (ap (λ (k : ℕ). ltb (length (freeGranules (c .before .before .before .before .before .before .before .before .before .before .before .before .before .before .before .before .before .before .before .args .g) (c .before .before .before .before .before .before .before .before .before .before .before .before .before .before .before .before .before .before .before .args .image .now))) k) (sym e) ∙ sym (c .before .before .before .before .before .before .before .before .too-few .ensures) ∙ c .before .before .before .before .before .before .before .if3 .left)

@@ -7,11 +7,9 @@ use Rattle.growth.proofs.no_growth.Reads as reads
 use Rattle.growth.proofs.no_growth.Lts as lts
 use Rattle.layout.proofs.field.Reads as field-reads
 
--- src/lib.rt:304:6
 field-requires : tie.Need-field-requires
 field-requires c κs = search needs
 
--- src/lib.rt:300:1
 returns : tie.Need-returns
 returns c = simp (sym (c .field .ensures .is), digit-at)
 

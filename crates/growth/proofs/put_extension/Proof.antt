@@ -9,115 +9,87 @@ use Rattle.growth.proofs.put_extension.Reads as reads
 use Rattle.growth.proofs.put_extension.Lts as lts
 use Rattle.copy.proofs.put_part.Reads as put-part-reads
 
--- src/lib.rt:154:29
 add-hash : tie.Need-add-hash
 add-hash c = omega arith
 
--- src/lib.rt:154:22
 mul-hash : tie.Need-mul-hash
 mul-hash c = omega arith
 
--- src/lib.rt:154:22
 add-hash-2 : tie.Need-add-hash-2
 add-hash-2 c = omega arith
 
--- src/lib.rt:154:16
 slice-read-hash : tie.Need-slice-read-hash
 slice-read-hash c = omega arith
 
--- src/lib.rt:155:25
 add-before : tie.Need-add-before
 add-before c = omega arith
 
--- src/lib.rt:155:25
 add-before-2 : tie.Need-add-before-2
 add-before-2 c = omega arith
 
--- src/lib.rt:155:18
 mul-before : tie.Need-mul-before
 mul-before c = omega arith
 
--- src/lib.rt:155:49
 mul-before-2 : tie.Need-mul-before-2
 mul-before-2 c = omega arith
 
--- src/lib.rt:155:18
 add-before-3 : tie.Need-add-before-3
 add-before-3 c = omega arith
 
--- src/lib.rt:156:11
 add-image : tie.Need-add-image
 add-image c = omega arith
 
--- src/lib.rt:156:5
 slice-write-image : tie.Need-slice-write-image
 slice-write-image c = omega arith
 
--- src/lib.rt:157:28
 cast-image : tie.Need-cast-image
 cast-image c = omega arith
 
--- src/lib.rt:157:11
 add-image-2 : tie.Need-add-image-2
 add-image-2 c = omega arith
 
--- src/lib.rt:157:5
 slice-write-image-2 : tie.Need-slice-write-image-2
 slice-write-image-2 c = let b = c .before .before .before .before .pre .0 in simp length-set (omega arith)
 
--- src/lib.rt:159:15
 cast-t13 : tie.Need-cast-t13
 cast-t13 c = omega arith
 
--- src/lib.rt:162:34
 add-put-part : tie.Need-add-put-part
 add-put-part c = omega arith
 
--- src/lib.rt:162:34
 add-put-part-2 : tie.Need-add-put-part-2
 add-put-part-2 c = omega arith
 
--- src/lib.rt:162:27
 mul-put-part : tie.Need-mul-put-part
 mul-put-part c = omega arith
 
--- src/lib.rt:162:58
 mul-put-part-2 : tie.Need-mul-put-part-2
 mul-put-part-2 c = omega arith
 
--- src/lib.rt:162:27
 add-put-part-3 : tie.Need-add-put-part-3
 add-put-part-3 c = omega arith
 
--- src/lib.rt:162:73
 slice-aggregate-put-part : tie.Need-slice-aggregate-put-part
 slice-aggregate-put-part c = omega arith
 
--- src/lib.rt:162:5
 put-part-requires : tie.Need-put-part-requires
 put-part-requires c κs = search needs
 
--- src/lib.rt:163:18
 add-image-3 : tie.Need-add-image-3
 add-image-3 c = omega arith
 
--- src/lib.rt:163:11
 mul-image : tie.Need-mul-image
 mul-image c = omega arith
 
--- src/lib.rt:163:11
 add-image-4 : tie.Need-add-image-4
 add-image-4 c = omega arith
 
--- src/lib.rt:163:5
 slice-write-image-3 : tie.Need-slice-write-image-3
 slice-write-image-3 c = let b = c .before .before .before .before .before .before .before .before .before .before .before .pre .0 in let e = c .before .before .before .put-part .ensures in rw e (simp (length-sets, length-set) (omega arith))
 
--- src/lib.rt:150:1
 same-length : tie.Need-same-length
 same-length c = extension-long (c .before .before .before .before .before .before .before .before .before .before .before .args .g) (c .before .before .before .before .before .before .before .before .before .before .before .args .p) (c .before .before .before .before .before .before .before .before .before .before .before .args .image .now) (c .before .before .before .before .before .before .before .before .before .before .before .args .e) (c .before .before .before .before .before .before .before .before .before .before .before .args .x) (c .before .before .before .put-part .ensures)
 
--- src/lib.rt:150:1
 returns : tie.Need-returns
 returns c = extension-put (c .before .before .before .before .before .before .before .before .before .before .before .args .g) (c .before .before .before .before .before .before .before .before .before .before .before .args .p) (c .before .before .before .before .before .before .before .before .before .before .before .args .image .now) (c .before .before .before .before .before .before .before .before .before .before .before .args .e) (c .before .before .before .before .before .before .before .before .before .before .before .args .x) (c .before .before .before .put-part .ensures)
 

@@ -9,84 +9,64 @@ use Rattle.growth.proofs.put_longer.Reads as reads
 use Rattle.growth.proofs.put_longer.Lts as lts
 use Rattle.space.proofs.with_bit.Reads as with-bit-reads
 
--- src/lib.rt:131:21
 add-at : tie.Need-add-at
 add-at c = omega arith
 
--- src/lib.rt:131:21
 add-at-2 : tie.Need-add-at-2
 add-at-2 c = omega arith
 
--- src/lib.rt:131:14
 mul-at : tie.Need-mul-at
 mul-at c = omega arith
 
--- src/lib.rt:131:45
 mul-at-2 : tie.Need-mul-at-2
 mul-at-2 c = omega arith
 
--- src/lib.rt:131:14
 add-at-3 : tie.Need-add-at-3
 add-at-3 c = omega arith
 
--- src/lib.rt:131:69
 mul-at-3 : tie.Need-mul-at-3
 mul-at-3 c = omega arith
 
--- src/lib.rt:131:62
 add-at-4 : tie.Need-add-at-4
 add-at-4 c = omega arith
 
--- src/lib.rt:131:14
 add-at-5 : tie.Need-add-at-5
 add-at-5 c = omega arith
 
--- src/lib.rt:132:17
 slice-read-image : tie.Need-slice-read-image
 slice-read-image c = omega arith
 
--- src/lib.rt:132:17
 add-image : tie.Need-add-image
 unfolding field
 add-image c = let b = c .slice-known2 .given (256 * (c .before .before .before .args .g .start + 2 + c .before .before .before .args .e % 32) + 32 * (c .before .before .before .args .e / 32) + (23 + 2 * c .before .before .before .args .k)) in let q = c .before .before .before .pre .2 in omega arith
 
--- src/lib.rt:132:5
 slice-write-image : tie.Need-slice-write-image
 slice-write-image c = omega arith
 
--- src/lib.rt:133:15
 mul-gat : tie.Need-mul-gat
 mul-gat c = omega arith
 
--- src/lib.rt:133:31
 div-gat : tie.Need-div-gat
 div-gat c = omega arith
 
--- src/lib.rt:133:15
 add-gat : tie.Need-add-gat
 add-gat c = omega arith
 
--- src/lib.rt:134:34
 slice-read-with-bit : tie.Need-slice-read-with-bit
 slice-read-with-bit c = let b = c .before .before .before .before .before .before .pre .0 .entry in let q = c .before .before .before .before .before .before .pre .0 .block in simp length-set (omega arith)
 
--- src/lib.rt:134:46
 rem-with-bit : tie.Need-rem-with-bit
 rem-with-bit c = omega arith
 
--- src/lib.rt:134:18
 with-bit-requires : tie.Need-with-bit-requires
 with-bit-requires c κs = let a = c .before .before .before .before .before .before .before .pre .0 .units-low in let b = c .before .before .before .before .before .before .before .pre .0 .units-high in let m = mod-lt (c .before .before .before .before .before .before .before .args .m) a in omega arith
 
--- src/lib.rt:134:5
 slice-write-image-2 : tie.Need-slice-write-image-2
 slice-write-image-2 c = let b = c .before .before .before .before .before .before .before .before .pre .0 .entry in let q = c .before .before .before .before .before .before .before .before .pre .0 .block in simp length-set (omega arith)
 
--- src/lib.rt:127:1
 same-length : tie.Need-same-length
 same-length c = simp length-set
 
--- src/lib.rt:127:1
 returns : tie.Need-returns
 unfolding takeGranule setField field
 returns c = simp (c .with-bit .ensures)

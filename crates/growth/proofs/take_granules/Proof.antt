@@ -27,99 +27,76 @@ Inv-loop image₀ g p e k last₀ runs₀ after₀ long₀ next₀ slot₀ left�
 abbrev μ-loop : tie.MeasureT-loop
 μ-loop image₀ g p e k last₀ runs₀ after₀ long₀ next₀ slot₀ left₀ image last runs after long next slot left = left
 
--- src/lib.rt:263:9
 last-run-requires : tie.Need-last-run-requires Inv-loop μ-loop
 last-run-requires c κs = (walks _ _ _ (c .before .before .pre .0) .0 .room, tail-slot _ _ (c .before .before .pre .0) (c .before .before .pre .1))
 
--- src/lib.rt:271:5
 loop-holds : tie.Need-loop-holds Inv-loop μ-loop
 loop-holds c = growing-start _ _ (c .before .before .before .pre .0) (c .before .before .before .pre .1) (c .before .before .before .pre .2) (c .last-run .ensures)
 
--- src/lib.rt:272:9
 sub-left : tie.Need-sub-left Inv-loop μ-loop
 sub-left c = search needs
 
--- src/lib.rt:274:16
 is-clear-requires : tie.Need-is-clear-requires Inv-loop μ-loop
 is-clear-requires c κs = stand-room _ _ (c .before .before .before .loop .inv .stand)
 
--- src/lib.rt:275:44
 sub-put-longer : tie.Need-sub-put-longer Inv-loop μ-loop
 sub-put-longer c = c .before .before .before .before .before .before .loop .inv .stand .after (c .before .before .before .before .if1 .taken) .0
 
--- src/lib.rt:275:17
 put-longer-requires : tie.Need-put-longer-requires Inv-loop μ-loop
 put-longer-requires c κs = let f = c .before .before .is-clear .ensures .yes (c .before .if2 .taken) in (inside (c .before .before .before .before .before .before .before .before .before .before .args .g) (c .before .before .before .before .before .before .before .before .before .before .args .p) (stand-room _ _ (c .before .before .before .before .before .before .loop .inv .stand)) (stand-slot _ _ (c .before .before .before .before .before .before .loop .inv .stand)) (f .0), (let a = c .before .before .before .before .before .before .loop .inv .few in let b = c .before .before .before .before .before .before .loop .inv .stand .after (c .before .before .before .before .if1 .taken) .0 in omega arith), longer-fits _ _ (c .before .before .before .before .before .before .loop .inv .stand) (c .before .before .before .before .if1 .taken))
 
--- src/lib.rt:276:17
 add-after : tie.Need-add-after Inv-loop μ-loop
 add-after c = let b = stand-room _ _ (c .before .before .before .before .before .before .before .before .before .loop .inv .stand) .most in let q = c .before .before .before .before .before .is-clear .ensures .yes (c .before .before .before .before .if2 .taken) .0 in omega arith
 
--- src/lib.rt:277:17
 add-long : tie.Need-add-long Inv-loop μ-loop
 add-long c = search needs
 
--- src/lib.rt:271:5
 loop-less : tie.Need-loop-less Inv-loop μ-loop
 loop-less c = search needs
 
--- src/lib.rt:271:5
 loop-again : tie.Need-loop-again Inv-loop μ-loop
 loop-again c = let f = c .before .before .before .before .before .is-clear .ensures .yes (c .before .before .before .before .if2 .taken) in growing-longer _ _ (c .before .before .before .before .before .before .before .before .before .loop .inv) (c .before .before .before .before .before .before .before .before .loop-test .taken) (c .before .before .before .before .before .before .before .if1 .taken) (f .0) (f .1) (c .before .before .put-longer .ensures) (inl refl) .2
 
--- src/lib.rt:281:13
 next-free-requires : tie.Need-next-free-requires Inv-loop μ-loop
 next-free-requires c κs = (stand-room _ _ (c .before .before .before .loop .inv .stand), c .before .before .before .loop .inv .next-low)
 
--- src/lib.rt:282:16
 add-next : tie.Need-add-next Inv-loop μ-loop
 add-next c = let b = stand-room _ _ (c .before .before .before .before .loop .inv .stand) .most in let q = disk-found _ _ (c .before .before .before .before .loop .inv) (c .before .before .before .loop-test .taken) (c .next-free .ensures) .1 in omega arith
 
--- src/lib.rt:283:17
 add-after-2 : tie.Need-add-after-2 Inv-loop μ-loop
 add-after-2 c = let b = stand-room _ _ (c .before .before .before .before .loop .inv .stand) .most in let q = disk-found _ _ (c .before .before .before .before .loop .inv) (c .before .before .before .loop-test .taken) (c .next-free .ensures) .1 in omega arith
 
--- src/lib.rt:286:13
 put-pair-requires : tie.Need-put-pair-requires Inv-loop μ-loop
 put-pair-requires c κs = (inside (c .before .before .before .before .before .before .before .before .before .before .args .g) (c .before .before .before .before .before .before .before .before .before .before .args .p) (stand-room _ _ (c .before .before .before .before .before .before .loop .inv .stand)) (stand-slot _ _ (c .before .before .before .before .before .before .loop .inv .stand)) (disk-found _ _ (c .before .before .before .before .before .before .loop .inv) (c .before .before .before .before .before .loop-test .taken) (c .before .before .next-free .ensures) .1), c .before .if3 .taken)
 
--- src/lib.rt:287:13
 add-runs : tie.Need-add-runs Inv-loop μ-loop
 add-runs c = search needs
 
--- src/lib.rt:271:5
 loop-less-2 : tie.Need-loop-less-2 Inv-loop μ-loop
 loop-less-2 c = search needs
 
--- src/lib.rt:271:5
 loop-again-2 : tie.Need-loop-again-2 Inv-loop μ-loop
 loop-again-2 c = let f = disk-found _ _ (c .before .before .before .before .before .before .before .before .before .loop .inv) (c .before .before .before .before .before .before .before .before .loop-test .taken) (c .before .before .before .before .before .next-free .ensures) in growing-pair _ _ (c .before .before .before .before .before .before .before .before .before .loop .inv) (c .before .before .before .before .before .before .before .before .loop-test .taken) (disk-shut _ _ (c .before .before .before .before .before .before .before .before .before .loop .inv) (c .before .before .before .before .before .before .before .before .loop-test .taken) (⊎-elim (λ w. inr (w .2 .ensures .no (w .3 .left))) (λ w. inl (w .left)) (c .before .before .before .before .before .before .before .if1 .came))) (c .before .before .before .before .if3 .taken) (f .0) (f .1) (f .2) (c .before .before .put-pair .ensures) .2
 
--- src/lib.rt:290:13
 next-slot-requires : tie.Need-next-slot-requires Inv-loop μ-loop
 next-slot-requires c κs = (stand-room _ _ (c .before .before .before .before .before .before .loop .inv .stand), c .before .before .before .before .before .before .loop .inv .slot-low)
 
--- src/lib.rt:291:9
 put-extension-requires : tie.Need-put-extension-requires Inv-loop μ-loop
 put-extension-requires c κs = let u = disk-shut _ _ (c .before .before .before .before .before .before .before .before .loop .inv) (c .before .before .before .before .before .before .before .loop-test .taken) (⊎-elim (λ w. inr (w .2 .ensures .no (w .3 .left))) (λ w. inl (w .left)) (c .before .before .before .before .before .before .if1 .came)) in
     let v = disk-slot _ _ (c .before .before .before .before .before .before .before .before .loop .inv) (c .before .before .before .before .before .before .before .loop-test .taken) (c .before .before .before .before .before .before .before .before .before .before .before .before .pre .3) u (c .before .before .before .if3 .left) (c .before .next-slot .ensures) in new-places _ _ (c .before .before .before .before .before .before .before .before .loop .inv) (c .before .before .before .before .before .before .before .loop-test .taken) (v .2)
 
--- src/lib.rt:292:9
 put-pair-requires-2 : tie.Need-put-pair-requires-2 Inv-loop μ-loop
 put-pair-requires-2 c κs = let u = disk-shut _ _ (c .before .before .before .before .before .before .before .before .before .before .before .before .loop .inv) (c .before .before .before .before .before .before .before .before .before .before .before .loop-test .taken) (⊎-elim (λ w. inr (w .2 .ensures .no (w .3 .left))) (λ w. inl (w .left)) (c .before .before .before .before .before .before .before .before .before .before .if1 .came)) in
     let v = disk-slot _ _ (c .before .before .before .before .before .before .before .before .before .before .before .before .loop .inv) (c .before .before .before .before .before .before .before .before .before .before .before .loop-test .taken) (c .before .before .before .before .before .before .before .before .before .before .before .before .before .before .before .before .pre .3) u (c .before .before .before .before .before .before .before .if3 .left) (c .before .before .before .before .before .next-slot .ensures) in
     let f = disk-found _ _ (c .before .before .before .before .before .before .before .before .before .before .before .before .loop .inv) (c .before .before .before .before .before .before .before .before .before .before .before .loop-test .taken) (c .before .before .before .before .before .before .before .before .next-free .ensures) in
     (extended-inside (c .before .before .before .before .before .before .before .before .before .before .before .before .before .before .before .before .args .g) (c .before .before .before .before .before .before .before .before .before .before .before .before .before .before .before .before .args .p) (c .before .before .before .before .before .before .before .before .before .before .before .before .loop .image) (c .before .before .before .before .before .before .before .before .before .before .before .before .loop .last) (c .before .before .before .put-extension .ensures) (inside (c .before .before .before .before .before .before .before .before .before .before .before .before .before .before .before .before .args .g) (c .before .before .before .before .before .before .before .before .before .before .before .before .before .before .before .before .args .p) (stand-room _ _ (c .before .before .before .before .before .before .before .before .before .before .before .before .loop .inv .stand)) (free-slot-is (c .before .before .before .before .before .before .before .before .before .before .before .before .before .before .before .before .args .g) (c .before .before .before .before .before .before .before .before .before .before .before .before .before .before .before .before .args .p) {d = c .before .before .before .before .before .before .before .before .before .before .before .before .loop .image} _ (v .2)) (f .1)), omega arith)
 
--- src/lib.rt:294:16
 add-slot : tie.Need-add-slot Inv-loop μ-loop
 add-slot c = let q = c .before .before .before .before .before .before .before .before .next-slot .ensures .high in omega arith
 
--- src/lib.rt:271:5
 loop-less-3 : tie.Need-loop-less-3 Inv-loop μ-loop
 loop-less-3 c = search needs
 
--- src/lib.rt:271:5
 loop-again-3 : tie.Need-loop-again-3 Inv-loop μ-loop
 loop-again-3 c = let u = disk-shut _ _ (c .before .before .before .before .before .before .before .before .before .before .before .before .before .before .before .loop .inv) (c .before .before .before .before .before .before .before .before .before .before .before .before .before .before .loop-test .taken) (⊎-elim (λ w. inr (w .2 .ensures .no (w .3 .left))) (λ w. inl (w .left)) (c .before .before .before .before .before .before .before .before .before .before .before .before .before .if1 .came)) in
     let v = disk-slot _ _ (c .before .before .before .before .before .before .before .before .before .before .before .before .before .before .before .loop .inv) (c .before .before .before .before .before .before .before .before .before .before .before .before .before .before .loop-test .taken) (c .before .before .before .before .before .before .before .before .before .before .before .before .before .before .before .before .before .before .before .pre .3) u (c .before .before .before .before .before .before .before .before .before .before .if3 .left) (c .before .before .before .before .before .before .before .before .next-slot .ensures) in
@@ -127,11 +104,9 @@ loop-again-3 c = let u = disk-shut _ _ (c .before .before .before .before .befor
     growing-new _ _ (c .before .before .before .before .before .before .before .before .before .before .before .before .before .before .before .loop .inv) (c .before .before .before .before .before .before .before .before .before .before .before .before .before .before .loop-test .taken) u (c .before .before .before .before .before .before .before .before .before .before .if3 .left) (f .0) (f .1) (f .2) (v .0) (v .1) (v .2)
     (c .before .before .put-pair2 .ensures ∙ ap (λ (l : List ℕ). withPair (c .before .before .before .before .before .before .before .before .before .before .before .before .before .before .before .before .before .before .before .args .g) (c .before .before .before .before .before .before .before .before .before .before .before .before .before .before .before .before .before .before .before .args .p) l (c .before .before .before .before .before .before .before .before .next-slot .result) 0 (c .before .before .before .before .before .before .before .before .before .before .before .next-free .result)) (c .before .before .before .before .before .before .put-extension .ensures)) .2
 
--- src/lib.rt:259:1
 same-length : tie.Need-same-length Inv-loop μ-loop
 same-length c = c .before .loop .inv .same-long
 
--- src/lib.rt:259:1
 returns : tie.Need-returns Inv-loop μ-loop
 returns c = growing-end _ _ (c .before .loop .inv) (c .loop-test .left)
 

@@ -13,57 +13,44 @@ use Rattle.layout.proofs.is_slot.Reads as is-slot-reads
 use Rattle.layout.proofs.primary.Reads as primary-reads
 use Rattle.layout.proofs.same_name.Reads as same-name-reads
 
--- src/lib.rt:59:9
 is-slot-requires : tie.Need-is-slot-requires
 is-slot-requires c κs = search needs
 
--- src/lib.rt:60:9
 returns : tie.Need-returns
 unfolding fresh
 returns c = sym (all-no (is-no (c .before .is-slot .ensures) (c .if1 .taken)) _)
 
--- src/lib.rt:62:9
 primary-requires : tie.Need-primary-requires
 primary-requires c κs = (c .before .before .before .pre, slot-of _ _ _ (is-yes (c .before .is-slot .ensures) (c .if1 .left)))
 
--- src/lib.rt:63:9
 returns-2 : tie.Need-returns-2
 unfolding fresh
 returns-2 c = sym (all-yes (is-yes (c .before .before .before .is-slot .ensures) (c .before .before .if1 .left)) _ ∙ all-no (is-no (c .before .primary .ensures) (c .if2 .taken)) _)
 
--- src/lib.rt:66:37
 add-same-name : tie.Need-add-same-name
 add-same-name c = search needs
 
--- src/lib.rt:66:37
 add-same-name-2 : tie.Need-add-same-name-2
 add-same-name-2 c = search needs
 
--- src/lib.rt:66:30
 mul-same-name : tie.Need-mul-same-name
 mul-same-name c = search needs
 
--- src/lib.rt:66:61
 mul-same-name-2 : tie.Need-mul-same-name-2
 mul-same-name-2 c = search needs
 
--- src/lib.rt:66:30
 add-same-name-3 : tie.Need-add-same-name-3
 add-same-name-3 c = let q = slot-of _ _ _ (is-yes (c .before .before .before .before .before .is-slot .ensures) (c .before .before .before .before .if1 .left)) in omega arith
 
--- src/lib.rt:66:30
 add-same-name-4 : tie.Need-add-same-name-4
 add-same-name-4 c = let q = slot-of _ _ _ (is-yes (c .before .before .before .before .before .is-slot .ensures) (c .before .before .before .before .if1 .left)) in omega arith
 
--- src/lib.rt:66:80
 slice-aggregate-same-name : tie.Need-slice-aggregate-same-name
 slice-aggregate-same-name c = search needs
 
--- src/lib.rt:66:5
 same-name-requires : tie.Need-same-name-requires
 same-name-requires c κs = let q = slot-of _ _ _ (is-yes (c .before .before .before .before .before .before .is-slot .ensures) (c .before .before .before .before .before .if1 .left)) in (omega arith, search needs)
 
--- src/lib.rt:54:1
 returns-3 : tie.Need-returns-3
 unfolding fresh
 returns-3 c = sym (all-yes (is-yes (c .before .before .before .before .before .before .before .is-slot .ensures) (c .before .before .before .before .before .before .if1 .left)) _ ∙ all-yes (is-yes (c .before .before .before .before .before .primary .ensures) (c .before .before .before .before .if2 .left)) _ ∙ all-one _ ∙ (let q = slot-of _ _ _ (is-yes (c .before .before .before .before .before .before .before .is-slot .ensures) (c .before .before .before .before .before .before .if1 .left)) in let a = c .before .before .before .before .before .before .before .before .before .args in name-at (a .g) (a .image .now) (a .h .name) (a .h .slot) (omega arith)) ∙ sym (c .same-name .ensures))

@@ -7,12 +7,10 @@ use Rattle.handle.proofs.good_length.Tie as tie
 use Rattle.handle.proofs.good_length.Reads as reads
 use Rattle.handle.proofs.good_length.Lts as lts
 
--- src/lib.rt:193:9
 returns : tie.Need-returns
 unfolding goodLength
 returns c = sym (all-no (lt-leb _ _ (c .if1 .taken)) _)
 
--- src/lib.rt:189:1
 returns-2 : tie.Need-returns-2
 unfolding goodLength
 returns-2 c = sym (all-yes (le-leb _ _ (c .if1 .left)) _ ∙ all-one _)

@@ -7,23 +7,18 @@ use Rattle.handle.proofs.handle_number.Reads as reads
 use Rattle.handle.proofs.handle_number.Lts as lts
 use Rattle.handle.proofs.fresh.Reads as fresh-reads
 
--- src/lib.rt:59:9
 returns : tie.Need-returns
 returns c = check-stop _ _ _ (c .before .before .pre) (c .if1 .taken)
 
--- src/lib.rt:62:9
 returns-2 : tie.Need-returns-2
 returns-2 c = sym (check-then _ _ _ (c .before .before .before .pre) (c .before .if1 .left) ∙ first-hit (c .if2 .taken) _ _)
 
--- src/lib.rt:64:9
 fresh-requires : tie.Need-fresh-requires
 fresh-requires c κs = checked-room _ _ (checked _ _ (c .before .before .before .pre) (c .before .if1 .left))
 
--- src/lib.rt:65:9
 returns-3 : tie.Need-returns-3
 returns-3 c = sym (check-then _ _ _ (c .before .before .before .before .before .pre) (c .before .before .before .if1 .left) ∙ first-skip (c .before .before .if2 .left) _ _ ∙ first-hit (not-no (is-no (c .before .fresh .ensures) (c .if3 .taken))) _ _)
 
--- src/lib.rt:54:1
 returns-4 : tie.Need-returns-4
 returns-4 c = sym (check-then _ _ _ (c .before .before .before .before .before .pre) (c .before .before .before .if1 .left) ∙ first-skip (c .before .before .if2 .left) _ _ ∙ first-skip (not-yes (is-yes (c .before .fresh .ensures) (c .if3 .left))) _ _ ∙ first-none)
 

@@ -9,21 +9,17 @@ use Rattle.handle.proofs.in_range.Reads as reads
 use Rattle.handle.proofs.in_range.Lts as lts
 use Rattle.handle.proofs.good_length.Reads as good-length-reads
 
--- src/lib.rt:26:9
 returns : tie.Need-returns
 unfolding inRange
 returns c = sym (all-no (lt-leb _ _ (c .if1 .taken)) _)
 
--- src/lib.rt:28:9
 good-length-requires : tie.Need-good-length-requires
 good-length-requires c κs = search needs
 
--- src/lib.rt:29:9
 returns-2 : tie.Need-returns-2
 unfolding inRange
 returns-2 c = sym (all-yes (le-leb _ _ (c .before .before .if1 .left)) _ ∙ all-no (is-no (c .before .good-length .ensures) (c .if2 .taken)) _)
 
--- src/lib.rt:22:1
 returns-3 : tie.Need-returns-3
 unfolding inRange
 returns-3 c = sym (all-yes (le-leb _ _ (c .before .before .before .if1 .left)) _ ∙ all-yes (is-yes (c .before .before .good-length .ensures) (c .before .if2 .left)) _ ∙ all-one _)

@@ -10,19 +10,15 @@ use Rattle.handle.proofs.reading_number.Reads as reads
 use Rattle.handle.proofs.reading_number.Lts as lts
 use Rattle.handle.proofs.handle_number.Reads as handle-number-reads
 
--- src/lib.rt:75:9
 handle-number-requires : tie.Need-handle-number-requires
 handle-number-requires c κs = search needs
 
--- src/lib.rt:77:9
 returns : tie.Need-returns
 returns c = let a = c .before .before .before .args in handle-stop (a .g) (a .image .now) (a .h) (a .ranged) [] _ (c .before .handle-number .ensures) (c .if1 .taken)
 
--- src/lib.rt:80:9
 returns-2 : tie.Need-returns-2
 returns-2 c = let a = c .before .before .before .before .before .args in sym (handle-then (a .g) (a .image .now) (a .h) (a .ranged) [] _ refl (c .before .before .before .handle-number .ensures) (c .before .before .if1 .left) ∙ first-hit (lt-ltb _ _ (c .if2 .taken)) _ _)
 
--- src/lib.rt:71:1
 returns-3 : tie.Need-returns-3
 returns-3 c = let a = c .before .before .before .before .before .args in sym (handle-then (a .g) (a .image .now) (a .h) (a .ranged) [] _ refl (c .before .before .before .handle-number .ensures) (c .before .before .if1 .left) ∙ first-skip (le-ltb _ _ (c .if2 .left)) _ _ ∙ first-none)
 

@@ -6,11 +6,9 @@ use Rattle.handle.proofs.system.Reads as reads
 use Rattle.handle.proofs.system.Lts as lts
 use Rattle.layout.proofs.field.Reads as field-reads
 
--- src/lib.rt:16:6
 field-requires : tie.Need-field-requires
 field-requires c κs = search needs
 
--- src/lib.rt:12:1
 returns : tie.Need-returns
 returns c = simp (digit-at, c .field .ensures .is)
 

@@ -18,31 +18,24 @@ Inv-loop bytes h₀ i₀ h i = (through mix 0 bytes ≡ through mix h (drop i by
 abbrev μ-loop : tie.MeasureT-loop
 μ-loop bytes h₀ i₀ h i = length bytes - i
 
--- src/lib.rt:29:5
 loop-holds : tie.Need-loop-holds Inv-loop μ-loop
 loop-holds c = (refl, omega arith)
 
--- src/lib.rt:30:24
 shared-slice-read-turned : tie.Need-shared-slice-read-turned Inv-loop μ-loop
 shared-slice-read-turned c = search needs
 
--- src/lib.rt:30:9
 turned-requires : tie.Need-turned-requires Inv-loop μ-loop
 turned-requires c κs = search needs
 
--- src/lib.rt:31:9
 add-i : tie.Need-add-i Inv-loop μ-loop
 add-i c = search needs
 
--- src/lib.rt:29:5
 loop-less : tie.Need-loop-less Inv-loop μ-loop
 loop-less c = search needs
 
--- src/lib.rt:29:5
 loop-again : tie.Need-loop-again Inv-loop μ-loop
 loop-again c = (c .before .before .before .loop .inv .0 ∙ through-more (c .before .before .before .before .before .args .bytes .now) (c .before .before .before .loop .h) (c .before .before .before .loop .i) (omega arith) ∙ ap (λ (k : ℕ). through mix k (drop (c .before .before .before .loop .i + 1) (c .before .before .before .before .before .args .bytes .now))) (sym (c .turned .ensures)), omega arith)
 
--- src/lib.rt:24:1
 returns : tie.Need-returns Inv-loop μ-loop
 returns c = sym (c .before .loop .inv .0 ∙ ap (through mix (c .before .loop .h)) (drop-of-length-le (c .before .before .before .args .bytes .now) {i = c .before .loop .i} (omega arith)))
 

@@ -14,35 +14,27 @@ last d p q r = rw (p, q, r) (alone d)
     alone true = refl
     alone false = refl
 
--- src/lib.rt:43:8
 shared-slice-read-if1 : tie.Need-shared-slice-read-if1
 shared-slice-read-if1 c = search needs
 
--- src/lib.rt:44:9
 returns : tie.Need-returns
 returns c = simp (ne-eqb _ _ (c .if1 .taken)) refl
 
--- src/lib.rt:46:8
 shared-slice-read-if2 : tie.Need-shared-slice-read-if2
 shared-slice-read-if2 c = search needs
 
--- src/lib.rt:47:9
 returns-2 : tie.Need-returns-2
 returns-2 c = simp (ne-eqb _ _ (c .if2 .taken), eq-eqb _ _ (c .before .before .if1 .left)) refl
 
--- src/lib.rt:49:8
 shared-slice-read-if3 : tie.Need-shared-slice-read-if3
 shared-slice-read-if3 c = search needs
 
--- src/lib.rt:50:9
 returns-3 : tie.Need-returns-3
 returns-3 c = simp (ne-eqb _ _ (c .if3 .taken), eq-eqb _ _ (c .before .before .before .before .if1 .left), eq-eqb _ _ (c .before .before .if2 .left)) refl
 
--- src/lib.rt:52:5
 shared-slice-read-result : tie.Need-shared-slice-read-result
 shared-slice-read-result c = search needs
 
--- src/lib.rt:39:1
 returns-4 : tie.Need-returns-4
 returns-4 c = last _ (eq-eqb _ _ (c .before .before .before .before .before .if1 .left)) (eq-eqb _ _ (c .before .before .before .if2 .left)) (eq-eqb _ _ (c .before .if3 .left))
 

@@ -11,20 +11,16 @@ use Rattle.hash.proofs.hash.Lts as lts
 use Rattle.layout.proofs.wide.Reads as wide-reads
 use Rattle.hash.proofs.mixed.Reads as mixed-reads
 
--- src/lib.rt:66:9
 mixed-requires : tie.Need-mixed-requires
 mixed-requires c κs = search needs
 
--- src/lib.rt:67:28
 wide-requires : tie.Need-wide-requires
 wide-requires c κs = search needs
 
--- src/lib.rt:63:1
 returns : tie.Need-returns
 unfolding hash
 returns c = let e : through mix 0 (c .before .before .before .args .name .now) ≡ 0 = sym (c .before .mixed .ensures) ∙ c .if1 .taken in record { is = simp (eq-eqb _ _ e); small = omega arith }
 
--- src/lib.rt:63:1
 returns-2 : tie.Need-returns-2
 unfolding hash
 returns-2 c = let e : through mix 0 (c .before .before .before .before .args .name .now) ≡ c .before .before .mixed .result = sym (c .before .before .mixed .ensures) in record { is = simp (e, ne-eqb _ _ (c .before .if1 .left)) (c .wide .ensures .is); small = c .wide .ensures .small }

@@ -8,23 +8,18 @@ use Rattle.hash.proofs.hashes_to.Lts as lts
 use Rattle.layout.proofs.wide.Reads as wide-reads
 use Rattle.hash.proofs.mixed.Reads as mixed-reads
 
--- src/lib.rt:75:26
 mixed-requires : tie.Need-mixed-requires
 mixed-requires c κs = search needs
 
--- src/lib.rt:75:9
 wide-requires : tie.Need-wide-requires
 wide-requires c κs = search needs
 
--- src/lib.rt:77:9
 returns : tie.Need-returns
 returns c = ends-same (c .before .before .before .before .args .name .now) (c .before .before .before .before .args .h) (sym (c .before .before .mixed .ensures) ∙ sym (c .before .wide .ensures .is) ∙ c .if1 .taken)
 
--- src/lib.rt:80:9
 returns-2 : tie.Need-returns-2
 returns-2 c = ends-other (c .before .before .before .before .before .args .name .now) (c .before .before .before .before .before .args .h) (λ q. c .before .if1 .left (c .before .before .wide .ensures .is ∙ c .before .before .before .mixed .ensures ∙ q)) (λ q. c .if2 .taken (c .before .before .wide .ensures .is ∙ c .before .before .before .mixed .ensures ∙ q))
 
--- src/lib.rt:72:1
 returns-3 : tie.Need-returns-3
 returns-3 c = ends-zero (c .before .before .before .before .before .args .name .now) (c .before .before .before .before .before .args .h) (sym (c .before .before .before .mixed .ensures) ∙ sym (c .before .before .wide .ensures .is) ∙ c .if2 .left)
 

@@ -10,63 +10,48 @@ use Rattle.hash.proofs.name_mixed.Lts as lts
 use Rattle.hash.proofs.four_blanks.Reads as four-blanks-reads
 use Rattle.hash.proofs.turned.Reads as turned-reads
 
--- src/lib.rt:61:20
 shared-slice-read-turned : tie.Need-shared-slice-read-turned
 shared-slice-read-turned c = search needs
 
--- src/lib.rt:61:30
 shared-slice-read-turned-2 : tie.Need-shared-slice-read-turned-2
 shared-slice-read-turned-2 c = search needs
 
--- src/lib.rt:61:9
 turned-requires : tie.Need-turned-requires
 turned-requires c κs = search needs
 
--- src/lib.rt:62:24
 shared-slice-read-turned-3 : tie.Need-shared-slice-read-turned-3
 shared-slice-read-turned-3 c = search needs
 
--- src/lib.rt:62:34
 shared-slice-read-turned-4 : tie.Need-shared-slice-read-turned-4
 shared-slice-read-turned-4 c = search needs
 
--- src/lib.rt:62:9
 turned-requires-2 : tie.Need-turned-requires-2
 turned-requires-2 c κs = search needs
 
--- src/lib.rt:63:24
 shared-slice-read-turned-5 : tie.Need-shared-slice-read-turned-5
 shared-slice-read-turned-5 c = search needs
 
--- src/lib.rt:63:34
 shared-slice-read-turned-6 : tie.Need-shared-slice-read-turned-6
 shared-slice-read-turned-6 c = search needs
 
--- src/lib.rt:63:9
 turned-requires-3 : tie.Need-turned-requires-3
 turned-requires-3 c κs = search needs
 
--- src/lib.rt:64:24
 shared-slice-read-turned-7 : tie.Need-shared-slice-read-turned-7
 shared-slice-read-turned-7 c = search needs
 
--- src/lib.rt:64:9
 turned-requires-4 : tie.Need-turned-requires-4
 turned-requires-4 c κs = search needs
 
--- src/lib.rt:65:8
 four-blanks-requires : tie.Need-four-blanks-requires
 four-blanks-requires c κs = search needs
 
--- src/lib.rt:66:17
 mul-result : tie.Need-mul-result
 mul-result c = search needs
 
--- src/lib.rt:66:17
 add-result : tie.Need-add-result
 add-result c = search needs
 
--- src/lib.rt:66:9
 returns : tie.Need-returns
 returns c = let n = c .before .before .before .before .before .before .before .before .before .before .before .before .before .before .args .name .now in
     let k : (i : ℕ) → getD n i 0 < 256 = λ i. c .before .before .before .before .before .before .before .before .before .before .before .before .before .shared-slice-known .given i .fits in
@@ -76,47 +61,36 @@ returns c = let n = c .before .before .before .before .before .before .before .b
     let w4 = one-more (getD n 3 0) w3 (k 3) (c .before .before .turned4 .ensures) in
     short-last (getD n 8 0) (getD n 9 0) (getD n 10 0) (k 8) (k 9) (k 10) w4 ∙ short-bytes n (c .before .before .before .before .before .before .before .before .before .before .before .before .before .before .pre) (sym (c .before .four-blanks .ensures) ∙ c .if1 .taken)
 
--- src/lib.rt:68:24
 shared-slice-read-turned-8 : tie.Need-shared-slice-read-turned-8
 shared-slice-read-turned-8 c = search needs
 
--- src/lib.rt:68:9
 turned-requires-5 : tie.Need-turned-requires-5
 turned-requires-5 c κs = search needs
 
--- src/lib.rt:69:24
 shared-slice-read-turned-9 : tie.Need-shared-slice-read-turned-9
 shared-slice-read-turned-9 c = search needs
 
--- src/lib.rt:69:9
 turned-requires-6 : tie.Need-turned-requires-6
 turned-requires-6 c κs = search needs
 
--- src/lib.rt:70:24
 shared-slice-read-turned-10 : tie.Need-shared-slice-read-turned-10
 shared-slice-read-turned-10 c = search needs
 
--- src/lib.rt:70:9
 turned-requires-7 : tie.Need-turned-requires-7
 turned-requires-7 c κs = search needs
 
--- src/lib.rt:71:24
 shared-slice-read-turned-11 : tie.Need-shared-slice-read-turned-11
 shared-slice-read-turned-11 c = search needs
 
--- src/lib.rt:71:9
 turned-requires-8 : tie.Need-turned-requires-8
 turned-requires-8 c κs = search needs
 
--- src/lib.rt:72:5
 mul-result-2 : tie.Need-mul-result-2
 mul-result-2 c = search needs
 
--- src/lib.rt:72:5
 add-result-2 : tie.Need-add-result-2
 add-result-2 c = search needs
 
--- src/lib.rt:57:1
 returns-2 : tie.Need-returns-2
 returns-2 c = let n = c .before .before .before .before .before .before .before .before .before .before .before .before .before .before .before .before .before .before .before .before .before .before .args .name .now in
     let k : (i : ℕ) → getD n i 0 < 256 = λ i. c .before .before .before .before .before .before .before .before .before .before .before .before .before .before .before .before .before .before .before .before .before .shared-slice-known .given i .fits in

@@ -12,32 +12,25 @@ use Rattle.handle.proofs.changing_number.Reads as changing-number-reads
 use Rattle.handle.proofs.in_range.Reads as in-range-reads
 use Rattle.space.proofs.kill_file.Reads as kill-file-reads
 
--- src/lib.rt:14:9
 in-range-requires : tie.Need-in-range-requires
 in-range-requires c κs = search needs
 
--- src/lib.rt:15:9
 changing-number-requires : tie.Need-changing-number-requires
 changing-number-requires c κs = search needs
 
--- src/lib.rt:17:9
 same-length : tie.Need-same-length
 same-length c = search needs
 
--- src/lib.rt:17:9
 returns : tie.Need-returns
 returns c = refused _ _ _ (by-range _ _ _ (c .before .before .before .in-range .ensures) (c .before .changing-number .ensures)) (c .if1 .taken)
 
--- src/lib.rt:19:5
 kill-file-requires : tie.Need-kill-file-requires
 kill-file-requires c κs = let a = c .before .before .before .before .before .before .args in
     walks (a .g) (a .image .now) (a .h) (c .before .before .before .before .in-range .result) (passed (a .g) (a .image .now) (a .h) (c .before .before .before .before .in-range .result) (protected (a .g) (a .image .now) 1 (a .h) ∷ []) refl (c .before .before .changing-number .ensures) (c .before .if1 .left))
 
--- src/lib.rt:10:1
 same-length-2 : tie.Need-same-length-2
 same-length-2 c = search needs
 
--- src/lib.rt:10:1
 returns-2 : tie.Need-returns-2
 returns-2 c = accepted _ _ _ (by-range _ _ _ (c .before .before .before .before .before .before .before .in-range .ensures) (c .before .before .before .before .before .changing-number .ensures)) (c .before .before .before .before .if1 .left) (c .before .before .kill-file .ensures)
 

@@ -17,55 +17,42 @@ Inv-loop image g s most entries₀ map₀ met₀ at₀ n₀ granules₀ entries 
 abbrev μ-loop : tie.MeasureT-loop
 μ-loop image g s most entries₀ map₀ met₀ at₀ n₀ granules₀ entries map met at n granules = most - n
 
--- src/lib.rt:120:5
 loop-holds : tie.Need-loop-holds Inv-loop μ-loop
 loop-holds c = (c .before .pre .3, lining-start _ _ _ _ _ (c .before .pre .1))
 
--- src/lib.rt:121:9
 mul-entries : tie.Need-mul-entries Inv-loop μ-loop
 mul-entries c = omega arith
 
--- src/lib.rt:121:9
 element-write-entries : tie.Need-element-write-entries Inv-loop μ-loop
 element-write-entries c = omega arith
 
--- src/lib.rt:122:13
 visit-requires : tie.Need-visit-requires Inv-loop μ-loop
 visit-requires c κs = (c .before .before .before .before .before .pre .0, c .before .before .before .loop .inv .1 .slot)
 
--- src/lib.rt:124:13
 returns : tie.Need-returns Inv-loop μ-loop
 returns c = lining-bad _ _ (c .before .before .before .before .before .before .before .before .pre .0) (c .before .before .before .before .before .before .loop .inv .1) (c .before .before .before .before .before .loop-test .taken) (c .before .before .visit .ensures) (c .if1 .taken)
 
--- src/lib.rt:130:9
 add-granules : tie.Need-add-granules Inv-loop μ-loop
 add-granules c = let a = c .before .before .before .before .before .before .before .loop .inv .1 .small in let b = c .before .before .before .visit .ensures .few in omega arith
 
--- src/lib.rt:131:9
 add-n : tie.Need-add-n Inv-loop μ-loop
 add-n c = omega arith
 
--- src/lib.rt:132:12
 field-requires : tie.Need-field-requires Inv-loop μ-loop
 field-requires c κs = (c .before .before .before .before .before .before .before .before .before .pre .0, c .before .before .before .before .before .before .before .loop .inv .1 .slot, omega arith)
 
--- src/lib.rt:133:13
 returns-2 : tie.Need-returns-2 Inv-loop μ-loop
 returns-2 c = lining-stop _ _ (c .before .before .before .before .before .before .before .before .before .loop .inv .1) (let q = c .before .before .before .before .before .before .before .before .before .loop .inv .0 in omega arith) (c .before .before .before .before .before .before .before .before .loop-test .taken) (c .before .before .before .before .before .before .before .before .before .before .before .pre .2) (c .before .before .before .before .before .visit .ensures) (c .before .before .before .if1 .left) (c .before .field .ensures .is) (c .if2 .taken)
 
--- src/lib.rt:139:9
 field-requires-2 : tie.Need-field-requires-2 Inv-loop μ-loop
 field-requires-2 c κs = (c .before .before .before .before .before .before .before .before .before .before .before .pre .0, c .before .before .before .before .before .before .before .before .before .loop .inv .1 .slot, omega arith)
 
--- src/lib.rt:120:5
 loop-less : tie.Need-loop-less Inv-loop μ-loop
 loop-less c = omega arith
 
--- src/lib.rt:120:5
 loop-again : tie.Need-loop-again Inv-loop μ-loop
 loop-again c = (length-set (c .before .before .before .before .before .before .before .before .before .before .loop .entries) (c .before .before .before .before .before .before .before .before .before .before .loop .n) (c .before .before .before .before .before .before .before .before .before .before .loop .at) ∙ c .before .before .before .before .before .before .before .before .before .before .loop .inv .0, lining-more _ _ (c .before .before .before .before .before .before .before .before .before .before .loop .inv .1) (let q = c .before .before .before .before .before .before .before .before .before .before .loop .inv .0 in omega arith) (c .before .before .before .before .before .before .before .before .before .loop-test .taken) (c .before .before .before .before .before .before .visit .ensures) (c .before .before .before .before .if1 .left) (c .before .before .field .ensures .is) (c .before .if2 .left) (c .field2 .ensures .is))
 
--- src/lib.rt:111:1
 returns-3 : tie.Need-returns-3 Inv-loop μ-loop
 returns-3 c = lining-end _ _ (c .before .loop .inv .1) (c .loop-test .left) (c .before .before .before .pre .2)
 

@@ -8,31 +8,24 @@ use Rattle.killed.proofs.link_holds.Lts as lts
 use Rattle.entry.proofs.follows.Reads as follows-reads
 use Rattle.layout.proofs.field.Reads as field-reads
 
--- src/lib.rt:52:9
 field-requires : tie.Need-field-requires
 field-requires c κs = search needs
 
--- src/lib.rt:54:9
 returns : tie.Need-returns
 returns c = link-last _ _ _ (on (c .before .field .ensures .is) (c .if1 .taken))
 
--- src/lib.rt:57:9
 returns-2 : tie.Need-returns-2
 returns-2 c = link-none _ _ _ (off (c .before .before .field .ensures .is) (c .before .if1 .left)) (off (c .before .before .field .ensures .is) (c .if2 .taken))
 
--- src/lib.rt:59:30
 field-requires-2 : tie.Need-field-requires-2
 field-requires-2 c κs = search needs
 
--- src/lib.rt:59:9
 follows-requires : tie.Need-follows-requires
 follows-requires c κs = search needs
 
--- src/lib.rt:60:9
 returns-3 : tie.Need-returns-3
 returns-3 c = link-astray _ _ _ (c .before .before .field2 .ensures .is) (off (c .before .before .before .before .before .field .ensures .is) (c .before .before .before .before .if1 .left)) (c .before .follows .ensures) (c .if3 .taken)
 
--- src/lib.rt:48:1
 returns-4 : tie.Need-returns-4
 returns-4 c = link-on _ _ _ (c .before .before .field2 .ensures .is) (off (c .before .before .before .before .before .field .ensures .is) (c .before .before .before .before .if1 .left)) (on (c .before .before .before .before .before .field .ensures .is) (c .before .before .before .if2 .left)) (c .before .follows .ensures) (c .if3 .left) (c .before .before .before .before .before .before .before .pre .2)
 

@@ -9,35 +9,27 @@ use Rattle.killed.proofs.link_holds.Reads as link-holds-reads
 use Rattle.walk.proofs.entry_at.Reads as entry-at-reads
 use Rattle.walk.proofs.take_runs.Reads as take-runs-reads
 
--- src/lib.rt:82:8
 element-copy-out-if1 : tie.Need-element-copy-out-if1
 element-copy-out-if1 c = search needs
 
--- src/lib.rt:83:9
 returns : tie.Need-returns
 returns c = visits-met _ _ _ (c .if1 .taken)
 
--- src/lib.rt:88:5
 element-write-met : tie.Need-element-write-met
 element-write-met c = search needs
 
--- src/lib.rt:89:9
 entry-at-requires : tie.Need-entry-at-requires
 entry-at-requires c κs = search needs
 
--- src/lib.rt:90:9
 take-runs-requires : tie.Need-take-runs-requires
 take-runs-requires c κs = search needs
 
--- src/lib.rt:92:9
 returns-2 : tie.Need-returns-2
 returns-2 c = visits-pairs _ _ _ (c .before .before .take-runs .ensures) (c .if2 .taken)
 
--- src/lib.rt:98:13
 link-holds-requires : tie.Need-link-holds-requires
 link-holds-requires c κs = (c .before .before .before .before .before .before .before .before .pre .0, c .before .before .before .before .before .before .before .before .pre .1, c .before .before .take-runs .ensures .runs-is (not-false _ (c .if2 .left)))
 
--- src/lib.rt:72:1
 returns-3 : tie.Need-returns-3
 returns-3 c = visits-link _ _ _ (c .before .before .before .take-runs .ensures) (c .before .if2 .left) (c .before .before .before .before .before .before .if1 .left) (c .link-holds .ensures)
 

@@ -14,67 +14,51 @@ use Rattle.killed.proofs.nothing.Reads as nothing-reads
 use Rattle.entry.proofs.size_holds.Reads as size-holds-reads
 use Rattle.layout.proofs.directory_sectors.Reads as directory-sectors-reads
 
--- src/lib.rt:308:8
 flag-requires : tie.Need-flag-requires
 flag-requires c κs = search needs
 
--- src/lib.rt:309:9
 nothing-requires : tie.Need-nothing-requires
 nothing-requires c κs = search needs
 
--- src/lib.rt:309:9
 returns : tie.Need-returns
 returns c = nothing-whole _ _ _ (c .nothing .ensures) (by-extension _ _ _ (sym (c .before .before .flag .ensures) ∙ c .before .if1 .taken))
 
--- src/lib.rt:311:9
 name-holds-requires : tie.Need-name-holds-requires
 name-holds-requires c κs = search needs
 
--- src/lib.rt:312:9
 nothing-requires-2 : tie.Need-nothing-requires-2
 nothing-requires-2 c κs = search needs
 
--- src/lib.rt:312:9
 returns-2 : tie.Need-returns-2
 returns-2 c = nothing-whole _ _ _ (c .nothing2 .ensures) (by-name _ _ _ (is-no (c .before .before .name-holds .ensures) (c .before .if2 .taken)))
 
--- src/lib.rt:314:21
 directory-sectors-requires : tie.Need-directory-sectors-requires
 directory-sectors-requires c κs = search needs
 
--- src/lib.rt:314:21
 sub-most : tie.Need-sub-most
 sub-most c = search needs
 
--- src/lib.rt:314:16
 mul-most : tie.Need-mul-most
 mul-most c = search needs
 
--- src/lib.rt:315:9
 line-requires : tie.Need-line-requires
 line-requires c κs = (c .before .before .before .before .before .before .before .pre .0, c .before .before .before .before .before .before .before .pre .1, (let q = c .before .directory-sectors .ensures in let t = c .before .before .before .before .before .before .before .pre .0 .thirty in omega arith), c .before .before .before .before .before .before .before .pre .2)
 
--- src/lib.rt:317:9
 nothing-requires-3 : tie.Need-nothing-requires-3
 nothing-requires-3 c κs = search needs
 
--- src/lib.rt:317:9
 returns-3 : tie.Need-returns-3
 returns-3 c = nothing-whole _ _ _ (c .nothing3 .ensures) (by-line _ _ _ (lined _ _ _ (c .before .before .before .before .before .before .before .before .before .before .before .pre .0) (c .before .before .before .before .before .directory-sectors .ensures) (c .before .before .before .line .ensures)) (c .before .if3 .taken))
 
--- src/lib.rt:319:9
 size-holds-requires : tie.Need-size-holds-requires
 size-holds-requires c κs = (c .before .before .before .before .before .before .before .before .before .before .pre .0, c .before .before .before .before .before .before .before .before .before .before .pre .1, (let m = c .before .before .line .ensures .few in omega arith), lined-own _ _ _ (lined _ _ _ (c .before .before .before .before .before .before .before .before .before .before .pre .0) (c .before .before .before .before .directory-sectors .ensures) (c .before .before .line .ensures)) (c .if3 .left))
 
--- src/lib.rt:320:9
 nothing-requires-4 : tie.Need-nothing-requires-4
 nothing-requires-4 c κs = search needs
 
--- src/lib.rt:320:9
 returns-4 : tie.Need-returns-4
 returns-4 c = nothing-whole _ _ _ (c .nothing4 .ensures) (by-size _ _ _ (is-no (c .before .before .size-holds .ensures) (c .before .if4 .taken)))
 
--- src/lib.rt:304:1
 returns-5 : tie.Need-returns-5
 returns-5 c = is-whole _ _ _ (sym (c .before .before .before .before .before .before .before .before .before .before .flag .ensures) ∙ c .before .before .before .before .before .before .before .before .before .if1 .left) (is-yes (c .before .before .before .before .before .before .before .before .name-holds .ensures) (c .before .before .before .before .before .before .before .if2 .left)) (lined _ _ _ (c .before .before .before .before .before .before .before .before .before .before .before .before .pre .0) (c .before .before .before .before .before .before .directory-sectors .ensures) (c .before .before .before .before .line .ensures)) (c .before .before .if3 .left) (is-yes (c .before .size-holds .ensures) (c .if4 .left))
 

@@ -18,35 +18,27 @@ Inv-loop image g a n end i₀ i = (every (taken g image) (count a n) ≡ every (
 abbrev μ-loop : tie.MeasureT-loop
 μ-loop image g a n end i₀ i = end - i
 
--- src/lib.rt:323:15
 add-end : tie.Need-add-end Inv-loop μ-loop
 add-end c = search needs
 
--- src/lib.rt:325:5
 loop-holds : tie.Need-loop-holds Inv-loop μ-loop
 loop-holds c = (ap (every (taken (c .before .args .g) (c .before .args .image .now))) (all-start (c .before .args .a) (c .before .args .n)), omega arith)
 
--- src/lib.rt:326:13
 taken-requires : tie.Need-taken-requires Inv-loop μ-loop
 taken-requires c κs = (c .before .before .before .pre .0, omega arith)
 
--- src/lib.rt:327:13
 returns : tie.Need-returns Inv-loop μ-loop
 returns c = all-failed (taken (c .before .before .before .before .before .args .g) (c .before .before .before .before .before .args .image .now)) (c .before .before .before .loop .inv .0) (c .before .before .loop-test .taken) (is-no (c .before .taken .ensures) (c .if1 .taken))
 
--- src/lib.rt:329:9
 add-i : tie.Need-add-i Inv-loop μ-loop
 add-i c = let h = c .before .before .before .before .before .pre .1 in let k = c .before .before .before .before .before .pre .0 .most in omega arith
 
--- src/lib.rt:325:5
 loop-less : tie.Need-loop-less Inv-loop μ-loop
 loop-less c = omega arith
 
--- src/lib.rt:325:5
 loop-again : tie.Need-loop-again Inv-loop μ-loop
 loop-again c = (all-passed (taken (c .before .before .before .before .before .args .g) (c .before .before .before .before .before .args .image .now)) (c .before .before .before .loop .inv .0) (c .before .before .loop-test .taken) (is-yes (c .before .taken .ensures) (c .if1 .left)), let k = c .before .before .before .loop .inv .1 in omega arith)
 
--- src/lib.rt:319:1
 returns-2 : tie.Need-returns-2 Inv-loop μ-loop
 returns-2 c = all-held (taken (c .before .before .before .args .g) (c .before .before .before .args .image .now)) (c .before .loop .inv .0) (c .loop-test .left)
 

@@ -9,15 +9,12 @@ use Rattle.kinds.proofs.earlier.Reads as reads
 use Rattle.kinds.proofs.earlier.Lts as lts
 use Rattle.kinds.proofs.runs_meet.Reads as runs-meet-reads
 
--- src/lib.rt:440:9
 returns : tie.Need-returns
 returns c = let a = c .before .before .args in sym (ap (λ (b : Bool). b && runsMeet (a .g) (a .image .now) (a .s) (a .k) (a .s) (a .l)) (le-ltb _ _ (c .if1 .taken)))
 
--- src/lib.rt:442:5
 runs-meet-requires : tie.Need-runs-meet-requires
 runs-meet-requires c κs = search needs
 
--- src/lib.rt:435:1
 returns-2 : tie.Need-returns-2
 returns-2 c = let a = c .before .before .before .args in c .runs-meet .ensures ∙ sym (ap (λ (b : Bool). b && runsMeet (a .g) (a .image .now) (a .s) (a .k) (a .s) (a .l)) (lt-ltb _ _ (c .before .if1 .left)))
 

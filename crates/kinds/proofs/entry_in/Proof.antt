@@ -18,35 +18,27 @@ Inv-loop image g s b m n k₀ k = some (runIn g image b m s) (count 0 n) ≡ som
 abbrev μ-loop : tie.MeasureT-loop
 μ-loop image g s b m n k₀ k = n - k
 
--- src/lib.rt:381:9
 runs-requires : tie.Need-runs-requires Inv-loop μ-loop
 runs-requires c κs = search needs
 
--- src/lib.rt:383:5
 loop-holds : tie.Need-loop-holds Inv-loop μ-loop
 loop-holds c = let a = c .before .before .args in ap (some (runIn (a .g) (a .image .now) (a .b) (a .m) (a .s))) (from-zero (c .runs .result))
 
--- src/lib.rt:384:12
 run-in-requires : tie.Need-run-in-requires Inv-loop μ-loop
 run-in-requires c κs = let h = c .before .before .runs .ensures .small in (c .before .before .before .before .pre .0, c .before .before .before .before .pre .1, omega arith, c .before .before .before .before .pre .2, c .before .before .before .before .pre .3)
 
--- src/lib.rt:385:13
 returns : tie.Need-returns Inv-loop μ-loop
 returns c = let a = c .before .before .before .before .before .before .args in found (runIn (a .g) (a .image .now) (a .b) (a .m) (a .s)) (c .before .before .before .before .runs .ensures .is) (c .before .before .before .loop .inv) (c .before .before .loop-test .taken) (so (c .before .run-in .ensures) (c .if1 .taken))
 
--- src/lib.rt:387:9
 add-k : tie.Need-add-k Inv-loop μ-loop
 add-k c = search needs
 
--- src/lib.rt:383:5
 loop-less : tie.Need-loop-less Inv-loop μ-loop
 loop-less c = omega arith
 
--- src/lib.rt:383:5
 loop-again : tie.Need-loop-again Inv-loop μ-loop
 loop-again c = let a = c .before .before .before .before .before .before .args in not-yet (runIn (a .g) (a .image .now) (a .b) (a .m) (a .s)) (c .before .before .before .loop .inv) (c .before .before .loop-test .taken) (not-so (c .before .run-in .ensures) (c .if1 .left))
 
--- src/lib.rt:377:1
 returns-2 : tie.Need-returns-2 Inv-loop μ-loop
 returns-2 c = let a = c .before .before .before .before .args in nowhere (runIn (a .g) (a .image .now) (a .b) (a .m) (a .s)) (c .before .before .runs .ensures .is) (c .before .loop .inv) (c .loop-test .left)
 

@@ -19,36 +19,28 @@ Inv-loop image g s k n l₀ l = some (earlier g image s k) (count 0 n) ≡ some 
 abbrev μ-loop : tie.MeasureT-loop
 μ-loop image g s k n l₀ l = n - l
 
--- src/lib.rt:450:9
 runs-requires : tie.Need-runs-requires Inv-loop μ-loop
 runs-requires c κs = search needs
 
--- src/lib.rt:452:5
 loop-holds : tie.Need-loop-holds Inv-loop μ-loop
 loop-holds c = let a = c .before .before .args in ap (some (earlier (a .g) (a .image .now) (a .s) (a .k))) (from-zero (c .runs .result))
 
--- src/lib.rt:453:12
 earlier-requires : tie.Need-earlier-requires Inv-loop μ-loop
 earlier-requires c κs = let h = c .before .before .runs .ensures .small in (c .before .before .before .before .pre .0, c .before .before .before .before .pre .1, c .before .before .before .before .pre .2, omega arith)
 
--- src/lib.rt:454:13
 returns : tie.Need-returns Inv-loop μ-loop
 unfolding meetsEarlier
 returns c = let a = c .before .before .before .before .before .before .args in found (earlier (a .g) (a .image .now) (a .s) (a .k)) (c .before .before .before .before .runs .ensures .is) (c .before .before .before .loop .inv) (c .before .before .loop-test .taken) (so (c .before .earlier .ensures) (c .if1 .taken))
 
--- src/lib.rt:456:9
 add-l : tie.Need-add-l Inv-loop μ-loop
 add-l c = search needs
 
--- src/lib.rt:452:5
 loop-less : tie.Need-loop-less Inv-loop μ-loop
 loop-less c = omega arith
 
--- src/lib.rt:452:5
 loop-again : tie.Need-loop-again Inv-loop μ-loop
 loop-again c = let a = c .before .before .before .before .before .before .args in not-yet (earlier (a .g) (a .image .now) (a .s) (a .k)) (c .before .before .before .loop .inv) (c .before .before .loop-test .taken) (not-so (c .before .earlier .ensures) (c .if1 .left))
 
--- src/lib.rt:446:1
 returns-2 : tie.Need-returns-2 Inv-loop μ-loop
 unfolding meetsEarlier
 returns-2 c = let a = c .before .before .before .before .args in nowhere (earlier (a .g) (a .image .now) (a .s) (a .k)) (c .before .before .runs .ensures .is) (c .before .loop .inv) (c .loop-test .left)

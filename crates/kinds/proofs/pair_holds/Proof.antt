@@ -7,23 +7,18 @@ use Rattle.kinds.proofs.pair_holds.Reads as reads
 use Rattle.kinds.proofs.pair_holds.Lts as lts
 use Rattle.layout.proofs.field.Reads as field-reads
 
--- src/lib.rt:35:9
 returns : tie.Need-returns
 returns c = simp (sym (c .before .before .pre .2), lt-ltb _ _ (c .if1 .taken))
 
--- src/lib.rt:37:39
 mul-field : tie.Need-mul-field
 mul-field c = search needs
 
--- src/lib.rt:37:32
 add-field : tie.Need-add-field
 add-field c = search needs
 
--- src/lib.rt:37:5
 field-requires : tie.Need-field-requires
 field-requires c κs = search needs
 
--- src/lib.rt:30:1
 returns-2 : tie.Need-returns-2
 returns-2 c = simp (sym (c .before .before .before .pre .2), le-ltb _ _ (c .before .if1 .left), c .field .ensures .is)
 

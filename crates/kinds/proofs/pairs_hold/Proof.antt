@@ -20,36 +20,28 @@ Inv-loop image g s n k₀ k = every (pairHolds g image s) (count 0 4) ≡ every 
 abbrev μ-loop : tie.MeasureT-loop
 μ-loop image g s n k₀ k = 4 - k
 
--- src/lib.rt:45:9
 runs-requires : tie.Need-runs-requires Inv-loop μ-loop
 runs-requires c κs = search needs
 
--- src/lib.rt:47:5
 loop-holds : tie.Need-loop-holds Inv-loop μ-loop
 loop-holds c = refl
 
--- src/lib.rt:48:13
 pair-holds-requires : tie.Need-pair-holds-requires Inv-loop μ-loop
 pair-holds-requires c κs = search needs
 
--- src/lib.rt:49:13
 returns : tie.Need-returns Inv-loop μ-loop
 unfolding pairsHold
 returns c = failed (pairHolds (c .before .before .before .before .before .before .args .g) (c .before .before .before .before .before .before .args .image .now) (c .before .before .before .before .before .before .args .s)) refl (c .before .before .before .loop .inv) (c .before .before .loop-test .taken) (is-no (c .before .pair-holds .ensures) (c .if1 .taken))
 
--- src/lib.rt:51:9
 add-k : tie.Need-add-k Inv-loop μ-loop
 add-k c = search needs
 
--- src/lib.rt:47:5
 loop-less : tie.Need-loop-less Inv-loop μ-loop
 loop-less c = omega arith
 
--- src/lib.rt:47:5
 loop-again : tie.Need-loop-again Inv-loop μ-loop
 loop-again c = passed (pairHolds (c .before .before .before .before .before .before .args .g) (c .before .before .before .before .before .before .args .image .now) (c .before .before .before .before .before .before .args .s)) (c .before .before .before .loop .inv) (c .before .before .loop-test .taken) (is-yes (c .before .pair-holds .ensures) (c .if1 .left))
 
--- src/lib.rt:41:1
 returns-2 : tie.Need-returns-2 Inv-loop μ-loop
 unfolding pairsHold
 returns-2 c = held (pairHolds (c .before .before .before .before .args .g) (c .before .before .before .before .args .image .now) (c .before .before .before .before .args .s)) refl (c .before .loop .inv) (c .loop-test .left)

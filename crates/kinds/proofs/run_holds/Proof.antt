@@ -15,39 +15,30 @@ use Rattle.layout.proofs.granules.Reads as granules-reads
 use Rattle.layout.proofs.run_length.Reads as run-length-reads
 use Rattle.layout.proofs.run_start.Reads as run-start-reads
 
--- src/lib.rt:287:53
 mul-field : tie.Need-mul-field
 mul-field c = search needs
 
--- src/lib.rt:287:46
 add-field : tie.Need-add-field
 add-field c = search needs
 
--- src/lib.rt:287:19
 field-requires : tie.Need-field-requires
 field-requires c κs = search needs
 
--- src/lib.rt:288:9
 returns : tie.Need-returns
 returns c = sym (all-no (le-ltb _ _ (rw (c .before .before .field .ensures .is) at (c .if1 .taken))) _)
 
--- src/lib.rt:290:5
 run-start-requires : tie.Need-run-start-requires
 run-start-requires c κs = search needs
 
--- src/lib.rt:290:41
 run-length-requires : tie.Need-run-length-requires
 run-length-requires c κs = search needs
 
--- src/lib.rt:290:5
 add-result : tie.Need-add-result
 add-result c = search needs
 
--- src/lib.rt:290:79
 granules-requires : tie.Need-granules-requires
 granules-requires c κs = search needs
 
--- src/lib.rt:283:1
 returns-2 : tie.Need-returns-2
 returns-2 c = let a = c .before .before .before .before .before .before .before .args in ap (λ (n : ℕ). leb (n + c .before .run-length .result) (c .granules .result)) (c .before .before .run-start .ensures .is) ∙ ap (λ (n : ℕ). leb (runStart (a .g) (a .image .now) (a .s) (a .k) + n) (c .granules .result)) (c .before .run-length .ensures .is)
     ∙ ap (λ (n : ℕ). leb (runStart (a .g) (a .image .now) (a .s) (a .k) + runLength (a .g) (a .image .now) (a .s) (a .k)) n) (c .granules .ensures .0) ∙ sym (all-yes (lt-ltb _ _ (rw (c .before .before .before .before .before .field .ensures .is) at (c .before .before .before .if1 .left))) _ ∙ all-one _)

@@ -7,27 +7,21 @@ use Rattle.kinds.proofs.run_in.Lts as lts
 use Rattle.layout.proofs.run_length.Reads as run-length-reads
 use Rattle.layout.proofs.run_start.Reads as run-start-reads
 
--- src/lib.rt:369:9
 run-start-requires : tie.Need-run-start-requires
 run-start-requires c κs = search needs
 
--- src/lib.rt:370:8
 add-if1 : tie.Need-add-if1
 add-if1 c = search needs
 
--- src/lib.rt:371:9
 returns : tie.Need-returns
 returns c = in-no _ _ _ _ _ _ (c .before .run-start .ensures .is) (c .if1 .taken)
 
--- src/lib.rt:373:13
 run-length-requires : tie.Need-run-length-requires
 run-length-requires c κs = search needs
 
--- src/lib.rt:373:9
 add-result : tie.Need-add-result
 add-result c = search needs
 
--- src/lib.rt:365:1
 returns-2 : tie.Need-returns-2
 returns-2 c = in-rest _ _ _ _ _ _ (c .before .before .run-start .ensures .is) (c .run-length .ensures .is) (c .before .if1 .left)
 

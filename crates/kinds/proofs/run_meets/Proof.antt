@@ -18,36 +18,28 @@ Inv-loop image g s t k n l₀ l = some (runsMeet g image s k t) (count 0 n) ≡ 
 abbrev μ-loop : tie.MeasureT-loop
 μ-loop image g s t k n l₀ l = n - l
 
--- src/lib.rt:407:9
 runs-requires : tie.Need-runs-requires Inv-loop μ-loop
 runs-requires c κs = search needs
 
--- src/lib.rt:409:5
 loop-holds : tie.Need-loop-holds Inv-loop μ-loop
 loop-holds c = let a = c .before .before .args in ap (some (runsMeet (a .g) (a .image .now) (a .s) (a .k) (a .t))) (from-zero (c .runs .result))
 
--- src/lib.rt:410:12
 runs-meet-requires : tie.Need-runs-meet-requires Inv-loop μ-loop
 runs-meet-requires c κs = let h = c .before .before .runs .ensures .small in (c .before .before .before .before .pre .0, c .before .before .before .before .pre .1, c .before .before .before .before .pre .3, c .before .before .before .before .pre .2, omega arith)
 
--- src/lib.rt:411:13
 returns : tie.Need-returns Inv-loop μ-loop
 unfolding runMeets
 returns c = let a = c .before .before .before .before .before .before .args in found (runsMeet (a .g) (a .image .now) (a .s) (a .k) (a .t)) (c .before .before .before .before .runs .ensures .is) (c .before .before .before .loop .inv) (c .before .before .loop-test .taken) (so (c .before .runs-meet .ensures) (c .if1 .taken))
 
--- src/lib.rt:413:9
 add-l : tie.Need-add-l Inv-loop μ-loop
 add-l c = search needs
 
--- src/lib.rt:409:5
 loop-less : tie.Need-loop-less Inv-loop μ-loop
 loop-less c = omega arith
 
--- src/lib.rt:409:5
 loop-again : tie.Need-loop-again Inv-loop μ-loop
 loop-again c = let a = c .before .before .before .before .before .before .args in not-yet (runsMeet (a .g) (a .image .now) (a .s) (a .k) (a .t)) (c .before .before .before .loop .inv) (c .before .before .loop-test .taken) (not-so (c .before .runs-meet .ensures) (c .if1 .left))
 
--- src/lib.rt:403:1
 returns-2 : tie.Need-returns-2 Inv-loop μ-loop
 unfolding runMeets
 returns-2 c = let a = c .before .before .before .before .args in nowhere (runsMeet (a .g) (a .image .now) (a .s) (a .k) (a .t)) (c .before .before .runs .ensures .is) (c .before .loop .inv) (c .loop-test .left)

@@ -20,36 +20,28 @@ Inv-loop image g s n k₀ k = every (runHolds g image s) (count 0 n) ≡ every (
 abbrev μ-loop : tie.MeasureT-loop
 μ-loop image g s n k₀ k = n - k
 
--- src/lib.rt:297:9
 runs-requires : tie.Need-runs-requires Inv-loop μ-loop
 runs-requires c κs = search needs
 
--- src/lib.rt:299:5
 loop-holds : tie.Need-loop-holds Inv-loop μ-loop
 loop-holds c = ap (every (runHolds (c .before .before .args .g) (c .before .before .args .image .now) (c .before .before .args .s))) (from-zero (c .runs .result))
 
--- src/lib.rt:300:13
 run-holds-requires : tie.Need-run-holds-requires Inv-loop μ-loop
 run-holds-requires c κs = let h = c .before .before .runs .ensures .small in (c .before .before .before .before .pre .0, c .before .before .before .before .pre .1, omega arith)
 
--- src/lib.rt:301:13
 returns : tie.Need-returns Inv-loop μ-loop
 unfolding runsHold
 returns c = failed (runHolds (c .before .before .before .before .before .before .args .g) (c .before .before .before .before .before .before .args .image .now) (c .before .before .before .before .before .before .args .s)) (c .before .before .before .before .runs .ensures .is) (c .before .before .before .loop .inv) (c .before .before .loop-test .taken) (is-no (c .before .run-holds .ensures) (c .if1 .taken))
 
--- src/lib.rt:303:9
 add-k : tie.Need-add-k Inv-loop μ-loop
 add-k c = search needs
 
--- src/lib.rt:299:5
 loop-less : tie.Need-loop-less Inv-loop μ-loop
 loop-less c = omega arith
 
--- src/lib.rt:299:5
 loop-again : tie.Need-loop-again Inv-loop μ-loop
 loop-again c = passed (runHolds (c .before .before .before .before .before .before .args .g) (c .before .before .before .before .before .before .args .image .now) (c .before .before .before .before .before .before .args .s)) (c .before .before .before .loop .inv) (c .before .before .loop-test .taken) (is-yes (c .before .run-holds .ensures) (c .if1 .left))
 
--- src/lib.rt:293:1
 returns-2 : tie.Need-returns-2 Inv-loop μ-loop
 unfolding runsHold
 returns-2 c = held (runHolds (c .before .before .before .before .args .g) (c .before .before .before .before .args .image .now) (c .before .before .before .before .args .s)) (c .before .before .runs .ensures .is) (c .before .loop .inv) (c .loop-test .left)

@@ -9,19 +9,15 @@ use Rattle.kinds.proofs.run_in.Reads as run-in-reads
 use Rattle.layout.proofs.run_length.Reads as run-length-reads
 use Rattle.layout.proofs.run_start.Reads as run-start-reads
 
--- src/lib.rt:397:9
 run-start-requires : tie.Need-run-start-requires
 run-start-requires c κs = search needs
 
--- src/lib.rt:398:9
 run-length-requires : tie.Need-run-length-requires
 run-length-requires c κs = search needs
 
--- src/lib.rt:399:5
 run-in-requires : tie.Need-run-in-requires
 run-in-requires c κs = search needs
 
--- src/lib.rt:393:1
 returns : tie.Need-returns
 returns c = c .run-in .ensures ∙ meet-of _ _ _ _ _ _ (c .before .before .run-start .ensures .is) (c .before .run-length .ensures .is)
 

@@ -13,16 +13,13 @@ use Rattle.kinds.proofs.size_holds.Lts as lts
 use Rattle.entry.proofs.size_holds.Reads as size-holds-reads
 use Rattle.kinds.proofs.count_from.Reads as count-from-reads
 
--- src/lib.rt:553:9
 count-from-requires : tie.Need-count-from-requires
 count-from-requires c κs = search needs
 
--- src/lib.rt:554:5
 size-holds-requires : tie.Need-size-holds-requires
 unfolding owned
 size-holds-requires c κs = ((c .before .before .pre) .0, (c .before .before .pre) .1, c .count-from .ensures .small, c .count-from .ensures .is ∙ ap (λ (l : List ℕ). length (each (entryGranules (c .before .before .args .g) (c .before .before .args .image .now)) l)) ((c .before .before .pre) .3))
 
--- src/lib.rt:549:1
 returns : tie.Need-returns
 returns c = search needs
 

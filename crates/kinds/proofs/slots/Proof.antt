@@ -9,19 +9,15 @@ use Rattle.kinds.proofs.slots.Reads as reads
 use Rattle.kinds.proofs.slots.Lts as lts
 use Rattle.layout.proofs.directory_sectors.Reads as directory-sectors-reads
 
--- src/lib.rt:135:10
 directory-sectors-requires : tie.Need-directory-sectors-requires
 directory-sectors-requires c κs = search needs
 
--- src/lib.rt:135:10
 sub-result : tie.Need-sub-result
 sub-result c = search needs
 
--- src/lib.rt:135:5
 mul-result : tie.Need-mul-result
 mul-result c = search needs
 
--- src/lib.rt:131:1
 returns : tie.Need-returns
 returns c = let a = c .before .before .args in let h = c .directory-sectors .ensures in record { is = ap (λ (n : ℕ). 8 * (n - 2)) h ∙ sym (slots-length (a .g) (a .image .now) (omega arith) (omega arith)); small = omega arith }
 

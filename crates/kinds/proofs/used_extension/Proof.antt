@@ -11,29 +11,23 @@ use Rattle.kinds.proofs.used_extension.Lts as lts
 use Rattle.entry.proofs.flag.Reads as flag-reads
 use Rattle.layout.proofs.is_slot.Reads as is-slot-reads
 
--- src/lib.rt:61:9
 is-slot-requires : tie.Need-is-slot-requires
 is-slot-requires c κs = search needs
 
--- src/lib.rt:62:9
 returns : tie.Need-returns
 unfolding usedExtension
 returns c = sym (all-no (is-no (c .before .is-slot .ensures) (c .if1 .taken)) _)
 
--- src/lib.rt:64:9
 flag-requires : tie.Need-flag-requires
 flag-requires c κs = (c .before .before .before .pre, slot-of _ _ _ (is-yes (c .before .is-slot .ensures) (c .if1 .left)), omega arith)
 
--- src/lib.rt:65:9
 returns-2 : tie.Need-returns-2
 unfolding usedExtension
 returns-2 c = sym (all-yes (is-yes (c .before .before .before .is-slot .ensures) (c .before .before .if1 .left)) _ ∙ all-no (is-no (c .before .flag .ensures) (c .if2 .taken)) _)
 
--- src/lib.rt:67:5
 flag-requires-2 : tie.Need-flag-requires-2
 flag-requires-2 c κs = (c .before .before .before .before .before .pre, slot-of _ _ _ (is-yes (c .before .before .before .is-slot .ensures) (c .before .before .if1 .left)), omega arith)
 
--- src/lib.rt:57:1
 returns-3 : tie.Need-returns-3
 unfolding usedExtension
 returns-3 c = c .flag2 .ensures ∙ sym (all-yes (is-yes (c .before .before .before .before .is-slot .ensures) (c .before .before .before .if1 .left)) _ ∙ all-yes (is-yes (c .before .before .flag .ensures) (c .before .if2 .left)) _ ∙ all-one _)

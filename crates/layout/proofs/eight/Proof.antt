@@ -7,27 +7,21 @@ use Rattle.layout.proofs.eight.Reads as reads
 use Rattle.layout.proofs.eight.Lts as lts
 use Rattle.layout.proofs.four.Reads as four-reads
 
--- src/lib.rt:195:5
 four-requires : tie.Need-four-requires
 four-requires c κs = search needs
 
--- src/lib.rt:195:48
 add-four : tie.Need-add-four
 add-four c = search needs
 
--- src/lib.rt:195:36
 four-requires-2 : tie.Need-four-requires-2
 four-requires-2 c κs = search needs
 
--- src/lib.rt:195:23
 mul-result : tie.Need-mul-result
 mul-result c = search needs
 
--- src/lib.rt:195:5
 add-result : tie.Need-add-result
 add-result c = search needs
 
--- src/lib.rt:191:1
 returns : tie.Need-returns
 returns c = let e = number-eight (c .before .before .before .args .bytes .now) (c .before .before .before .args .at) in let p = c .before .four .ensures .is in let q = c .four2 .ensures .is in omega arith
 

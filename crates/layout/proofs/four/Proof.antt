@@ -7,27 +7,21 @@ use Rattle.layout.proofs.four.Reads as reads
 use Rattle.layout.proofs.four.Lts as lts
 use Rattle.layout.proofs.two.Reads as two-reads
 
--- src/lib.rt:187:5
 two-requires : tie.Need-two-requires
 two-requires c κs = search needs
 
--- src/lib.rt:187:41
 add-two : tie.Need-add-two
 add-two c = search needs
 
--- src/lib.rt:187:30
 two-requires-2 : tie.Need-two-requires-2
 two-requires-2 c κs = search needs
 
--- src/lib.rt:187:22
 mul-result : tie.Need-mul-result
 mul-result c = search needs
 
--- src/lib.rt:187:5
 add-result : tie.Need-add-result
 add-result c = search needs
 
--- src/lib.rt:183:1
 returns : tie.Need-returns
 returns c = let e = number-four (c .before .before .before .args .bytes .now) (c .before .before .before .args .at) in let a = c .before .two .ensures in let b = c .two2 .ensures in let p = a .is in let q = b .is in let x = a .small in let y = b .small in record { is = omega arith; small = omega arith }
 

@@ -7,35 +7,27 @@ use Rattle.layout.proofs.two.Reads as reads
 use Rattle.layout.proofs.two.Lts as lts
 use Rattle.layout.proofs.wide.Reads as wide-reads
 
--- src/lib.rt:180:10
 shared-slice-read-wide : tie.Need-shared-slice-read-wide
 shared-slice-read-wide c = search needs
 
--- src/lib.rt:180:5
 wide-requires : tie.Need-wide-requires
 wide-requires c κs = search needs
 
--- src/lib.rt:180:40
 add-wide : tie.Need-add-wide
 add-wide c = search needs
 
--- src/lib.rt:180:34
 shared-slice-read-wide-2 : tie.Need-shared-slice-read-wide-2
 shared-slice-read-wide-2 c = search needs
 
--- src/lib.rt:180:29
 wide-requires-2 : tie.Need-wide-requires-2
 wide-requires-2 c κs = search needs
 
--- src/lib.rt:180:23
 mul-result : tie.Need-mul-result
 mul-result c = search needs
 
--- src/lib.rt:180:5
 add-result : tie.Need-add-result
 add-result c = search needs
 
--- src/lib.rt:176:1
 returns : tie.Need-returns
 returns c = let e = number-two (c .before .before .before .before .before .args .bytes .now) (c .before .before .before .before .before .args .at) (omega arith) in let a = c .before .before .wide .ensures in let b = c .wide2 .ensures in let p = a .is in let q = b .is in let x = a .small in let y = b .small in record { is = omega arith; small = omega arith }
 

@@ -7,19 +7,15 @@ use Rattle.listing.proofs.counts_checked.Lts as lts
 use Rattle.listing.proofs.files_count.Reads as files-count-reads
 use Rattle.space.proofs.free_count.Reads as free-count-reads
 
--- src/lib.rt:155:9
 returns : tie.Need-returns
 returns c = counts-refused _ _ (c .before .before .pre) (c .if1 .taken)
 
--- src/lib.rt:163:16
 files-count-requires : tie.Need-files-count-requires
 files-count-requires c κs = checked-room _ _ (checked _ _ (c .before .before .pre) (c .if1 .left))
 
--- src/lib.rt:164:15
 free-count-requires : tie.Need-free-count-requires
 free-count-requires c κs = checked-room _ _ (checked _ _ (c .before .before .before .pre) (c .before .if1 .left))
 
--- src/lib.rt:150:1
 returns-2 : tie.Need-returns-2
 returns-2 c = counts-accepted _ _ (c .before .before .before .before .pre) (c .before .before .if1 .left) (c .before .files-count .ensures) (c .free-count .ensures)
 

@@ -24,67 +24,51 @@ Inv-loop image g columns n₀ row₀ n row = (row ≤ 8) × (n ≤ 32 * row) × 
 abbrev μ-loop : tie.MeasureT-loop
 μ-loop image g columns n₀ row₀ n row = 8 - row
 
--- src/lib.rt:102:19
 directory-sectors-requires : tie.Need-directory-sectors-requires Inv-loop2 μ-loop2 Inv-loop μ-loop
 directory-sectors-requires c κs = search needs
 
--- src/lib.rt:102:19
 sub-columns : tie.Need-sub-columns Inv-loop2 μ-loop2 Inv-loop μ-loop
 sub-columns c = search needs
 
--- src/lib.rt:105:5
 loop-holds : tie.Need-loop-holds Inv-loop2 μ-loop2 Inv-loop μ-loop
 loop-holds c = (omega arith, omega arith, counting-start _ _)
 
--- src/lib.rt:106:21
 mul-s : tie.Need-mul-s Inv-loop2 μ-loop2 Inv-loop μ-loop
 mul-s c = search needs
 
--- src/lib.rt:107:19
 add-end : tie.Need-add-end Inv-loop2 μ-loop2 Inv-loop μ-loop
 add-end c = search needs
 
--- src/lib.rt:108:29
 add-at : tie.Need-add-at Inv-loop2 μ-loop2 Inv-loop μ-loop
 add-at c = search needs
 
--- src/lib.rt:108:22
 mul-at : tie.Need-mul-at Inv-loop2 μ-loop2 Inv-loop μ-loop
 mul-at c = search needs
 
--- src/lib.rt:108:44
 mul-at-2 : tie.Need-mul-at-2 Inv-loop2 μ-loop2 Inv-loop μ-loop
 mul-at-2 c = search needs
 
--- src/lib.rt:108:22
 add-at-2 : tie.Need-add-at-2 Inv-loop2 μ-loop2 Inv-loop μ-loop
 add-at-2 c = search needs
 
--- src/lib.rt:109:9
 loop2-holds : tie.Need-loop2-holds Inv-loop2 μ-loop2 Inv-loop μ-loop
 loop2-holds c = let e = c .before .before .before .directory-sectors .ensures in let t = c .before .before .before .before .before .pre .thirty in (row-start _ _ (c .before .loop-test .taken) (omega arith), c .before .before .loop .inv .1, omega arith, c .before .before .loop .inv .2)
 
--- src/lib.rt:110:16
 tells-requires : tie.Need-tells-requires Inv-loop2 μ-loop2 Inv-loop μ-loop
 tells-requires c κs = let e = c .before .before .before .before .before .directory-sectors .ensures in let i = c .before .loop2 .inv .0 in let b = i .begun in let f = i .few in let q = c .before .loop2 .inv .2 in let z = c .loop2-test .taken in let h = row-here i z in (c .before .before .before .before .before .before .before .pre, record { low = row-slot i (omega arith); held = omega arith }, omega arith)
 
--- src/lib.rt:111:17
 add-n : tie.Need-add-n Inv-loop2 μ-loop2 Inv-loop μ-loop
 add-n c = let r = row-slot (c .before .before .before .loop2 .inv .0) (let z = c .before .before .loop2-test .taken in omega arith) in let q = c .before .before .before .loop2 .inv .1 in omega arith
 
--- src/lib.rt:113:13
 add-at-3 : tie.Need-add-at-3 Inv-loop2 μ-loop2 Inv-loop μ-loop
 add-at-3 c = let i = c .before .before .before .loop2 .inv .0 in let a = i .begun in let b = i .few in let q = c .before .before .before .loop2 .inv .2 in let z = c .before .before .loop2-test .taken in let r = c .before .before .before .before .before .before .before .before .before .pre .directory in let m = c .before .before .before .before .before .before .before .before .before .pre .most in let l = c .before .before .before .before .before .loop-test .taken in omega arith
 
--- src/lib.rt:114:13
 add-s : tie.Need-add-s Inv-loop2 μ-loop2 Inv-loop μ-loop
 add-s c = let r = row-slot (c .before .before .before .loop2 .inv .0) (let z = c .before .before .loop2-test .taken in omega arith) in omega arith
 
--- src/lib.rt:109:9
 loop2-less : tie.Need-loop2-less Inv-loop2 μ-loop2 Inv-loop μ-loop
 loop2-less c = let z = c .before .before .loop2-test .taken in omega arith
 
--- src/lib.rt:109:9
 loop2-again : tie.Need-loop2-again Inv-loop2 μ-loop2 Inv-loop μ-loop
 loop2-again c = let e = ap (λ (k : ℕ). k - 2) (c .before .before .before .before .before .before .before .directory-sectors .ensures) in let i = c .before .before .before .loop2 .inv .0 in let z = c .before .before .loop2-test .taken in let l = row-slot i (omega arith) in let h = row-here i z in let b = i .begun in let q = c .before .before .before .loop2 .inv .1 in let r = c .before .before .before .loop2 .inv .2 in let f = c .before .before .before .loop2 .inv .3 in
     ⊎-elim
@@ -92,19 +76,15 @@ loop2-again c = let e = ap (λ (k : ℕ). k - 2) (c .before .before .before .bef
     (λ w. (row-next i z, omega (arith, w .1), omega arith, counting-no _ _ l e h (sym (c .before .tells .ensures) ∙ w .0 .left) (w .1) f))
     (c .if1 .came)
 
--- src/lib.rt:116:9
 add-row : tie.Need-add-row Inv-loop2 μ-loop2 Inv-loop μ-loop
 add-row c = search needs
 
--- src/lib.rt:105:5
 loop-less : tie.Need-loop-less Inv-loop2 μ-loop2 Inv-loop μ-loop
 loop-less c = let z = c .before .before .before .loop-test .taken in omega arith
 
--- src/lib.rt:105:5
 loop-again : tie.Need-loop-again Inv-loop2 μ-loop2 Inv-loop μ-loop
 loop-again c = let i = c .before .loop2 .inv .0 in let a = i .ends in let b = i .few in let q = c .before .loop2 .inv .1 in let r = c .before .before .before .loop-test .taken in (omega arith, omega arith, subst (Counting (c .before .before .before .before .before .before .before .args .g) (c .before .before .before .before .before .before .before .args .image .now) (c .before .loop2 .n)) (row-after i (c .loop2-test .left)) (counting-past _ _ (row-slot i a) (ap (λ (k : ℕ). k - 2) (c .before .before .before .before .before .directory-sectors .ensures)) (row-past i (c .loop2-test .left)) (c .before .loop2 .inv .3)))
 
--- src/lib.rt:98:1
 returns : tie.Need-returns Inv-loop2 μ-loop2 Inv-loop μ-loop
 returns c = counting-end _ _ (let z = c .loop-test .left in omega arith) (c .before .loop .inv .2)
 

@@ -9,19 +9,15 @@ use Rattle.listing.proofs.list_checked.Lts as lts
 use Rattle.listing.proofs.no_file.Reads as no-file-reads
 use Rattle.listing.proofs.told.Reads as told-reads
 
--- src/lib.rt:93:9
 no-file-requires : tie.Need-no-file-requires
 no-file-requires c κs = search needs
 
--- src/lib.rt:93:9
 returns : tie.Need-returns
 returns c = list-refused _ _ _ (c .no-file .ensures) (c .before .before .before .pre) (c .before .if1 .taken)
 
--- src/lib.rt:95:5
 told-requires : tie.Need-told-requires
 told-requires c κs = let k = checked _ _ (c .before .before .pre) (c .if1 .left) in sound _ _ (k .fits) (k .sound)
 
--- src/lib.rt:88:1
 returns-2 : tie.Need-returns-2
 returns-2 c = list-accepted _ _ _ (c .told .ensures) (c .before .before .before .pre) (c .before .if1 .left)
 

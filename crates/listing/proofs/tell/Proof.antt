@@ -10,43 +10,33 @@ use Rattle.find.proofs.name_at.Reads as name-at-reads
 use Rattle.extent.proofs.measure.Reads as measure-reads
 use Rattle.layout.proofs.size_of.Reads as size-of-reads
 
--- src/lib.rt:56:20
 add-name-at : tie.Need-add-name-at
 add-name-at c = search needs
 
--- src/lib.rt:56:20
 add-name-at-2 : tie.Need-add-name-at-2
 add-name-at-2 c = search needs
 
--- src/lib.rt:56:13
 mul-name-at : tie.Need-mul-name-at
 mul-name-at c = search needs
 
--- src/lib.rt:56:44
 mul-name-at-2 : tie.Need-mul-name-at-2
 mul-name-at-2 c = search needs
 
--- src/lib.rt:56:13
 add-name-at-3 : tie.Need-add-name-at-3
 add-name-at-3 c = search needs
 
--- src/lib.rt:56:13
 add-name-at-4 : tie.Need-add-name-at-4
 add-name-at-4 c = search needs
 
--- src/lib.rt:54:15
 name-at-requires : tie.Need-name-at-requires
 name-at-requires c κs = search needs
 
--- src/lib.rt:58:15
 size-of-requires : tie.Need-size-of-requires
 size-of-requires c κs = search needs
 
--- src/lib.rt:59:19
 measure-requires : tie.Need-measure-requires
 measure-requires c κs = search needs
 
--- src/lib.rt:47:1
 returns : tie.Need-returns
 returns c = told-is _ _ (c .before .before .before .before .before .args .s) (c .before .before .name-at .ensures ∙ name-is (c .before .before .before .before .before .args .g) (c .before .before .before .before .before .args .image .now) (c .before .before .before .before .before .args .s) (let r = (c .before .before .before .before .before .pre .0 .room) in let u = (c .before .before .before .before .before .pre .1 .slot) in omega arith)) (c .before .size-of .ensures .is) (c .measure .ensures .many)
 

@@ -11,25 +11,20 @@ use Rattle.listing.proofs.tells.Reads as reads
 use Rattle.listing.proofs.tells.Lts as lts
 use Rattle.layout.proofs.wide.Reads as wide-reads
 
--- src/lib.rt:22:26
 shared-slice-read-wide : tie.Need-shared-slice-read-wide
 shared-slice-read-wide c = search needs
 
--- src/lib.rt:22:9
 wide-requires : tie.Need-wide-requires
 wide-requires c κs = search needs
 
--- src/lib.rt:24:9
 returns : tie.Need-returns
 unfolding all shown
 returns c = simp (sym (flags-at (c .before .before .before .before .args .g) (c .before .before .before .before .args .image .now) (c .before .before .before .before .args .s) (c .before .before .before .before .pre .2) (c .before .wide .ensures .is)), digit-at, ne-eqb _ _ (c .if1 .taken))
 
--- src/lib.rt:27:9
 returns-2 : tie.Need-returns-2
 unfolding all shown
 returns-2 c = simp (sym (flags-at (c .before .before .before .before .before .args .g) (c .before .before .before .before .before .args .image .now) (c .before .before .before .before .before .args .s) (c .before .before .before .before .before .pre .2) (c .before .before .wide .ensures .is)), digit-at, eq-eqb _ _ (c .before .if1 .left), eq-eqb _ _ (c .if2 .taken))
 
--- src/lib.rt:18:1
 returns-3 : tie.Need-returns-3
 unfolding all shown
 returns-3 c = simp (sym (flags-at (c .before .before .before .before .before .args .g) (c .before .before .before .before .before .args .image .now) (c .before .before .before .before .before .args .s) (c .before .before .before .before .before .pre .2) (c .before .before .wide .ensures .is)), digit-at, eq-eqb _ _ (c .before .if1 .left), ne-eqb _ _ (c .if2 .left), and-true)

@@ -26,75 +26,57 @@ Inv-loop image g number columns left₀ row₀ left row = (row ≤ 8) × Telling
 abbrev μ-loop : tie.MeasureT-loop
 μ-loop image g number columns left₀ row₀ left row = 8 - row
 
--- src/lib.rt:64:19
 directory-sectors-requires : tie.Need-directory-sectors-requires Inv-loop2 μ-loop2 Inv-loop μ-loop
 directory-sectors-requires c κs = search needs
 
--- src/lib.rt:64:19
 sub-columns : tie.Need-sub-columns Inv-loop2 μ-loop2 Inv-loop μ-loop
 sub-columns c = search needs
 
--- src/lib.rt:67:5
 loop-holds : tie.Need-loop-holds Inv-loop2 μ-loop2 Inv-loop μ-loop
 loop-holds c = (omega arith, telling-start _ _ _)
 
--- src/lib.rt:68:21
 mul-s : tie.Need-mul-s Inv-loop2 μ-loop2 Inv-loop μ-loop
 mul-s c = search needs
 
--- src/lib.rt:69:19
 add-end : tie.Need-add-end Inv-loop2 μ-loop2 Inv-loop μ-loop
 add-end c = search needs
 
--- src/lib.rt:70:29
 add-at : tie.Need-add-at Inv-loop2 μ-loop2 Inv-loop μ-loop
 add-at c = search needs
 
--- src/lib.rt:70:22
 mul-at : tie.Need-mul-at Inv-loop2 μ-loop2 Inv-loop μ-loop
 mul-at c = search needs
 
--- src/lib.rt:70:44
 mul-at-2 : tie.Need-mul-at-2 Inv-loop2 μ-loop2 Inv-loop μ-loop
 mul-at-2 c = search needs
 
--- src/lib.rt:70:22
 add-at-2 : tie.Need-add-at-2 Inv-loop2 μ-loop2 Inv-loop μ-loop
 add-at-2 c = search needs
 
--- src/lib.rt:71:9
 loop2-holds : tie.Need-loop2-holds Inv-loop2 μ-loop2 Inv-loop μ-loop
 loop2-holds c = let e = c .before .before .before .directory-sectors .ensures in let t = c .before .before .before .before .before .pre .room .thirty in (row-start _ _ (c .before .loop-test .taken) (omega arith), omega arith, c .before .before .loop .inv .1)
 
--- src/lib.rt:72:16
 tells-requires : tie.Need-tells-requires Inv-loop2 μ-loop2 Inv-loop μ-loop
 tells-requires c κs = let e = c .before .before .before .before .before .directory-sectors .ensures in let i = c .before .loop2 .inv .0 in let b = i .begun in let f = i .few in let q = c .before .loop2 .inv .1 in let z = c .loop2-test .taken in let h = row-here i z in (c .before .before .before .before .before .before .before .pre .room, record { low = row-slot i (omega arith); held = omega arith }, omega arith)
 
--- src/lib.rt:74:21
 tell-requires : tie.Need-tell-requires Inv-loop2 μ-loop2 Inv-loop μ-loop
 tell-requires c κs = let i = c .before .before .before .before .loop2 .inv .0 in let z = c .before .before .before .loop2-test .taken in (c .before .before .before .before .before .before .before .before .before .before .pre, tells-used _ _ (row-slot i (omega arith)) (ap (λ (k : ℕ). k - 2) (c .before .before .before .before .before .before .before .before .directory-sectors .ensures)) (row-here i z) (sym (c .before .before .tells .ensures) ∙ (c .before .if1 .taken)))
 
--- src/lib.rt:74:21
 returns : tie.Need-returns Inv-loop2 μ-loop2 Inv-loop μ-loop
 returns c = let i = c .before .before .before .before .before .loop2 .inv .0 in let z = c .before .before .before .before .loop2-test .taken in (c .tell .ensures) ∙ telling-here _ _ (row-slot i (omega arith)) (ap (λ (k : ℕ). k - 2) (c .before .before .before .before .before .before .before .before .before .directory-sectors .ensures)) (row-here i z) (sym (c .before .before .before .tells .ensures) ∙ (c .before .before .if1 .taken)) (c .before .if2 .taken) (c .before .before .before .before .before .loop2 .inv .2)
 
--- src/lib.rt:76:17
 sub-left : tie.Need-sub-left Inv-loop2 μ-loop2 Inv-loop μ-loop
 sub-left c = search needs
 
--- src/lib.rt:78:13
 add-at-3 : tie.Need-add-at-3 Inv-loop2 μ-loop2 Inv-loop μ-loop
 add-at-3 c = let i = c .before .before .before .loop2 .inv .0 in let a = i .begun in let b = i .few in let q = c .before .before .before .loop2 .inv .1 in let z = c .before .before .loop2-test .taken in let r = c .before .before .before .before .before .before .before .before .before .pre .room .directory in let m = c .before .before .before .before .before .before .before .before .before .pre .room .most in let l = c .before .before .before .before .before .loop-test .taken in omega arith
 
--- src/lib.rt:79:13
 add-s : tie.Need-add-s Inv-loop2 μ-loop2 Inv-loop μ-loop
 add-s c = let r = row-slot (c .before .before .before .loop2 .inv .0) (let z = c .before .before .loop2-test .taken in omega arith) in omega arith
 
--- src/lib.rt:71:9
 loop2-less : tie.Need-loop2-less Inv-loop2 μ-loop2 Inv-loop μ-loop
 loop2-less c = let z = c .before .before .loop2-test .taken in omega arith
 
--- src/lib.rt:71:9
 loop2-again : tie.Need-loop2-again Inv-loop2 μ-loop2 Inv-loop μ-loop
 loop2-again c = let e = ap (λ (k : ℕ). k - 2) (c .before .before .before .before .before .before .before .directory-sectors .ensures) in let i = c .before .before .before .loop2 .inv .0 in let z = c .before .before .loop2-test .taken in let l = row-slot i (omega arith) in let h = row-here i z in let b = i .begun in let r = c .before .before .before .loop2 .inv .1 in let f = c .before .before .before .loop2 .inv .2 in
     ⊎-elim
@@ -102,23 +84,18 @@ loop2-again c = let e = ap (λ (k : ℕ). k - 2) (c .before .before .before .bef
     (λ w. (row-next i z, omega arith, telling-same _ _ (w .1) (telling-no _ _ l e h (sym (c .before .tells .ensures) ∙ w .0 .left) f)))
     (c .if1 .came)
 
--- src/lib.rt:81:9
 add-row : tie.Need-add-row Inv-loop2 μ-loop2 Inv-loop μ-loop
 add-row c = search needs
 
--- src/lib.rt:67:5
 loop-less : tie.Need-loop-less Inv-loop2 μ-loop2 Inv-loop μ-loop
 loop-less c = let z = c .before .before .before .loop-test .taken in omega arith
 
--- src/lib.rt:67:5
 loop-again : tie.Need-loop-again Inv-loop2 μ-loop2 Inv-loop μ-loop
 loop-again c = let i = c .before .loop2 .inv .0 in let a = i .ends in let b = i .few in let r = c .before .before .before .loop-test .taken in (omega arith, subst (Telling (c .before .before .before .before .before .before .before .args .g) (c .before .before .before .before .before .before .before .args .image .now) (c .before .before .before .before .before .before .before .args .number) (c .before .loop2 .left)) (row-after i (c .loop2-test .left)) (telling-past _ _ (row-slot i a) (ap (λ (k : ℕ). k - 2) (c .before .before .before .before .before .directory-sectors .ensures)) (row-past i (c .loop2-test .left)) (c .before .loop2 .inv .2)))
 
--- src/lib.rt:83:5
 no-file-requires : tie.Need-no-file-requires Inv-loop2 μ-loop2 Inv-loop μ-loop
 no-file-requires c κs = search needs
 
--- src/lib.rt:60:1
 returns-2 : tie.Need-returns-2 Inv-loop2 μ-loop2 Inv-loop μ-loop
 returns-2 c = (c .no-file .ensures) ∙ telling-end _ _ (let z = c .before .loop-test .left in omega arith) (c .before .before .loop .inv .1)
 

@@ -8,11 +8,9 @@ use Rattle.marks.proofs.among.Reads as reads
 use Rattle.marks.proofs.among.Lts as lts
 use Rattle.marks.proofs.read_eight.Reads as read-eight-reads
 
--- src/lib.rt:68:5
 read-eight-requires : tie.Need-read-eight-requires
 read-eight-requires c κs = search needs
 
--- src/lib.rt:64:1
 returns : tie.Need-returns
 returns c = record { is = ap (λ (y : ℕ). bitAnd y (c .before .before .args .bits)) (c .read-eight .ensures .is); bytes = c .read-eight .ensures .bytes }
 

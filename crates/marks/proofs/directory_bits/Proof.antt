@@ -14,47 +14,36 @@ Inv-loop units a n at bits₀ k₀ bits k = Window units a (k - a) at bits × (a
 abbrev μ-loop : tie.MeasureT-loop
 μ-loop units a n at bits₀ k₀ bits k = a + n - k
 
--- src/lib.rt:56:5
 loop-holds : tie.Need-loop-holds Inv-loop μ-loop
 loop-holds c = (window-start (c .args .units) (c .args .a) (c .args .at), omega arith, omega arith)
 
--- src/lib.rt:56:15
 add-loop : tie.Need-add-loop Inv-loop μ-loop
 add-loop c = let u = c .before .pre .1 in let z = c .before .pre .3 in omega arith
 
--- src/lib.rt:57:35
 div-bits : tie.Need-div-bits Inv-loop μ-loop
 div-bits c = search needs
 
--- src/lib.rt:57:35
 sub-bits : tie.Need-sub-bits Inv-loop μ-loop
 sub-bits c = spans-from {k = c .before .loop .k} (c .before .before .pre .4) (c .before .before .pre .0) (c .before .loop .inv .1)
 
--- src/lib.rt:57:30
 mul-bits : tie.Need-mul-bits Inv-loop μ-loop
 mul-bits c = let z = spot-lt {k = c .before .loop .k} (c .before .before .pre .4) (c .before .before .pre .0) (c .before .before .pre .1) (c .loop-test .taken) in omega arith
 
--- src/lib.rt:57:53
 rem-bits : tie.Need-rem-bits Inv-loop μ-loop
 rem-bits c = search needs
 
--- src/lib.rt:57:30
 add-bits : tie.Need-add-bits Inv-loop μ-loop
 add-bits c = let z = spot-lt {k = c .before .loop .k} (c .before .before .pre .4) (c .before .before .pre .0) (c .before .before .pre .1) (c .loop-test .taken) in omega arith
 
--- src/lib.rt:57:24
 shl-bits : tie.Need-shl-bits Inv-loop μ-loop
 shl-bits c = let q = spot-lt {k = c .before .loop .k} (c .before .before .pre .4) (c .before .before .pre .0) (c .before .before .pre .1) (c .loop-test .taken) in omega arith
 
--- src/lib.rt:58:9
 add-k : tie.Need-add-k Inv-loop μ-loop
 add-k c = let u = c .before .before .pre .1 in let z = c .before .before .pre .3 in let t = c .loop-test .taken in omega arith
 
--- src/lib.rt:56:5
 loop-less : tie.Need-loop-less Inv-loop μ-loop
 loop-less c = let t = c .loop-test .taken in omega arith
 
--- src/lib.rt:56:5
 loop-again : tie.Need-loop-again Inv-loop μ-loop
 loop-again c = let t = c .loop-test .taken in (
   window-step (c .before .before .args .units) (c .before .before .args .a) (c .before .before .args .at) (c .before .loop .k) (c .before .loop .bits) (c .before .loop .inv .1)
@@ -63,7 +52,6 @@ loop-again c = let t = c .loop-test .taken in (
   omega arith,
 )
 
--- src/lib.rt:50:1
 returns : tie.Need-returns Inv-loop μ-loop
 returns c = window-end (c .before .loop .inv .1) (c .before .loop .inv .2) (c .loop-test .left) (c .before .loop .inv .0)
 

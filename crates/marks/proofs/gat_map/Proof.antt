@@ -14,43 +14,33 @@ Inv-loop image map₀ gat b₀ map b = Turning image gat map b
 abbrev μ-loop : tie.MeasureT-loop
 μ-loop image map₀ gat b₀ map b = 192 - b
 
--- src/lib.rt:16:15
 mul-gat : tie.Need-mul-gat Inv-loop μ-loop
 mul-gat c = search needs
 
--- src/lib.rt:18:5
 loop-holds : tie.Need-loop-holds Inv-loop μ-loop
 loop-holds c = turning-start _ _ _ ((c .before .pre) .1)
 
--- src/lib.rt:19:30
 add-map : tie.Need-add-map Inv-loop μ-loop
 add-map c = search needs
 
--- src/lib.rt:19:24
 shared-slice-read-map : tie.Need-shared-slice-read-map Inv-loop μ-loop
 shared-slice-read-map c = search needs
 
--- src/lib.rt:19:18
 sub-map : tie.Need-sub-map Inv-loop μ-loop
 sub-map c = omega (arith, c .shared-slice-known .given (256 * c .before .before .before .before .args .g .start + c .before .before .loop .b))
 
--- src/lib.rt:19:9
 element-write-map : tie.Need-element-write-map Inv-loop μ-loop
 element-write-map c = search needs
 
--- src/lib.rt:20:9
 add-b : tie.Need-add-b Inv-loop μ-loop
 add-b c = search needs
 
--- src/lib.rt:18:5
 loop-less : tie.Need-loop-less Inv-loop μ-loop
 loop-less c = omega arith
 
--- src/lib.rt:18:5
 loop-again : tie.Need-loop-again Inv-loop μ-loop
 loop-again c = turning-step (c .before .before .loop .inv) (c .before .loop-test .taken) (c .shared-slice-known .given _ .fits)
 
--- src/lib.rt:12:1
 returns : tie.Need-returns Inv-loop μ-loop
 returns c = turning-end _ _ _ ((c .before .before .before .pre) .0) _ (c .before .loop .inv) (c .loop-test .left)
 

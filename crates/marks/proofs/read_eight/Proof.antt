@@ -5,11 +5,9 @@ use Rattle.marks.proofs.read_eight.Reads as reads
 use Rattle.marks.proofs.read_eight.Lts as lts
 use Rattle.layout.proofs.eight.Reads as eight-reads
 
--- src/lib.rt:15:5
 eight-requires : tie.Need-eight-requires
 eight-requires c κs = search needs
 
--- src/lib.rt:11:1
 returns : tie.Need-returns
 returns c = record { is = c .eight .ensures; bytes = λ j. c .before .shared-slice-known .given j .fits }
 

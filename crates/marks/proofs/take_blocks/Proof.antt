@@ -14,51 +14,39 @@ Inv-loop map₀ units block unit n b₀ u₀ left₀ map b u left = Taking units
 abbrev μ-loop : tie.MeasureT-loop
 μ-loop map₀ units block unit n b₀ u₀ left₀ map b u left = left
 
--- src/lib.rt:46:5
 loop-holds : tie.Need-loop-holds Inv-loop μ-loop
 loop-holds c = taking-start _ _ _ _ _ ((c .pre) .3) ((c .pre) .0)
 
--- src/lib.rt:46:19
 add-loop : tie.Need-add-loop Inv-loop μ-loop
 add-loop c = let i = c .loop .inv in let l = i .unit in let k = i .most in let p = (c .before .pre) in omega arith
 
--- src/lib.rt:47:42
 sub-take-units : tie.Need-sub-take-units Inv-loop μ-loop
 sub-take-units c = let l = c .before .before .loop .inv .unit in omega arith
 
--- src/lib.rt:47:13
 take-units-requires : tie.Need-take-units-requires Inv-loop μ-loop
 take-units-requires c κs = let i = c .before .before .loop .inv in let l = i .unit in let p = (c .before .before .before .pre) in (taking-block i (p .2), omega arith, p .1, omega arith)
 
--- src/lib.rt:48:13
 returns : tie.Need-returns Inv-loop μ-loop
 returns c = taking-stop (c .before .before .before .before .loop .inv) (let l = c .before .before .before .loop-test .taken in omega arith) (c .before .take-units .ensures) (not-true _ (c .if1 .taken))
 
--- src/lib.rt:50:17
 sub-left : tie.Need-sub-left Inv-loop μ-loop
 sub-left c = let l = c .before .before .before .before .loop .inv .unit in omega arith
 
--- src/lib.rt:50:9
 sub-left-2 : tie.Need-sub-left-2 Inv-loop μ-loop
 sub-left-2 c = let l = c .before .before .before .before .loop .inv .unit in let k = c .before .before .before .loop-test .taken in omega arith
 
--- src/lib.rt:51:9
 add-b : tie.Need-add-b Inv-loop μ-loop
 add-b c = let b = taking-block (c .before .before .before .before .loop .inv) ((c .before .before .before .before .before .pre) .2) in omega arith
 
--- src/lib.rt:46:5
 loop-less : tie.Need-loop-less Inv-loop μ-loop
 loop-less c = let l = c .before .before .before .before .loop .inv .unit in let k = c .before .before .before .loop-test .taken in omega arith
 
--- src/lib.rt:46:5
 loop-again : tie.Need-loop-again Inv-loop μ-loop
 loop-again c = taking-step (c .before .before .before .before .loop .inv) (c .before .before .before .loop-test .taken) (c .before .take-units .ensures) (not-false _ (c .if1 .left))
 
--- src/lib.rt:54:5
 take-units-requires-2 : tie.Need-take-units-requires-2 Inv-loop μ-loop
 take-units-requires-2 c κs = let i = c .before .before .loop .inv in let l = i .unit in let k = c .before .loop-test .left in let p = (c .before .before .before .pre) in (taking-block i (p .2), omega arith, p .1, i .some)
 
--- src/lib.rt:39:1
 returns-2 : tie.Need-returns-2 Inv-loop μ-loop
 returns-2 c = taking-end (c .before .before .before .loop .inv) (c .take-units2 .ensures)
 

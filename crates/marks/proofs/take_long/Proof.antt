@@ -6,19 +6,15 @@ use Rattle.marks.proofs.take_long.Lts as lts
 use Rattle.marks.proofs.take_blocks.Reads as take-blocks-reads
 use Rattle.marks.proofs.take_stretch.Reads as take-stretch-reads
 
--- src/lib.rt:111:9
 take-stretch-requires : tie.Need-take-stretch-requires
 take-stretch-requires c κs = let p = (rw (c .before .if1 .taken) at (c .before .before .pre)) in (p .0, p .2, p .3, p .4)
 
--- src/lib.rt:111:9
 returns : tie.Need-returns
 returns c = rw (c .before .before .if1 .taken) (c .take-stretch .ensures)
 
--- src/lib.rt:113:5
 take-blocks-requires : tie.Need-take-blocks-requires
 take-blocks-requires c κs = search needs
 
--- src/lib.rt:106:1
 returns-2 : tie.Need-returns-2
 returns-2 c = search needs
 

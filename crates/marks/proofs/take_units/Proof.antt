@@ -8,35 +8,27 @@ use Rattle.marks.proofs.take_units.Reads as reads
 use Rattle.marks.proofs.take_units.Lts as lts
 use Rattle.marks.proofs.byte_of.Reads as byte-of-reads
 
--- src/lib.rt:38:18
 shl-mask : tie.Need-shl-mask
 shl-mask c = search needs
 
--- src/lib.rt:38:17
 sub-mask : tie.Need-sub-mask
 sub-mask c = let q = one-shl-two (c .args .n) ((c .pre) .3) (let p = (c .pre) in omega arith) in omega arith
 
--- src/lib.rt:38:16
 shl-mask-2 : tie.Need-shl-mask-2
 shl-mask-2 c = search needs
 
--- src/lib.rt:39:9
 byte-of-requires : tie.Need-byte-of-requires
 byte-of-requires c κs = search needs
 
--- src/lib.rt:41:9
 returns : tie.Need-returns
 returns c = takes-no (c .before .before .before .before .args .units) (c .before .before .before .before .args .block) (c .before .before .before .before .args .unit) (c .before .before .before .before .args .n) _ ((c .before .before .before .before .pre) .1) ((c .before .before .before .before .pre) .2) (c .before .byte-of .ensures .is) (c .if1 .taken)
 
--- src/lib.rt:43:18
 cast-map : tie.Need-cast-map
 cast-map c = omega (arith, fits-byte (c .before .byte-of .result) (c .before .before .before .before .args .n) (c .before .before .before .before .args .unit) (c .before .byte-of .ensures .small) (let p = (c .before .before .before .before .pre) in omega arith))
 
--- src/lib.rt:43:5
 element-write-map : tie.Need-element-write-map
 element-write-map c = search needs
 
--- src/lib.rt:34:1
 returns-2 : tie.Need-returns-2
 returns-2 c = takes-yes (c .before .before .before .before .args .units) (c .before .before .before .before .args .block) (c .before .before .before .before .args .unit) (c .before .before .before .before .args .n) _ ((c .before .before .before .before .pre) .1) ((c .before .before .before .before .pre) .2) (omega arith) (c .before .byte-of .ensures .is) (c .if1 .left)
 

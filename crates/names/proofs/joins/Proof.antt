@@ -8,63 +8,48 @@ use Rattle.layout.proofs.hit.Reads as hit-reads
 use Rattle.layout.proofs.wide.Reads as wide-reads
 use Rattle.names.proofs.alone.Reads as alone-reads
 
--- src/lib.rt:120:9
 hit-requires : tie.Need-hit-requires
 hit-requires c κs = search needs
 
--- src/lib.rt:121:30
 slice-read-wide : tie.Need-slice-read-wide
 slice-read-wide c = search needs
 
--- src/lib.rt:121:9
 wide-requires : tie.Need-wide-requires
 wide-requires c κs = search needs
 
--- src/lib.rt:122:9
 alone-requires : tie.Need-alone-requires
 alone-requires c κs = let a = c .before .before .before .before .before .before .before .args in (c .before .before .before .before .before .before .before .pre .0, c .before .before .before .before .before .before .before .pre .1, c .before .before .before .before .before .before .before .pre .2, first-list (a .g) (a .image .now) (a .s) (a .head .now) (a .next .now) (c .before .before .before .before .before .before .before .pre .4) (c .before .before .before .hit .ensures .is) (c .before .before .before .hit .ensures .small) (c .before .wide .ensures .is), c .before .before .before .before .before .before .before .pre .4 .nexts, c .before .before .before .before .before .before .before .pre .4 .falls)
 
--- src/lib.rt:123:9
 same-length : tie.Need-same-length
 same-length c = search needs
 
--- src/lib.rt:123:9
 returns : tie.Need-returns
 returns c = let a = c .before .before .before .before .before .before .before .before .before .args in joined-no (a .g) (a .image .now) (a .s) (a .head .now) (a .next .now) (c .before .alone .ensures) (c .if1 .taken)
 
--- src/lib.rt:125:15
 cast-next : tie.Need-cast-next
 cast-next c = search needs
 
--- src/lib.rt:125:5
 mul-next : tie.Need-mul-next
 mul-next c = search needs
 
--- src/lib.rt:125:5
 slice-write-next : tie.Need-slice-write-next
 slice-write-next c = search needs
 
--- src/lib.rt:126:16
 add-head : tie.Need-add-head
 add-head c = search needs
 
--- src/lib.rt:126:15
 cast-head : tie.Need-cast-head
 cast-head c = let h = next-low _ _ _ (c .before .before .before .before .before .before .before .before .before .pre .0) (c .before .before .before .before .before .before .before .before .before .pre .1) in search needs
 
--- src/lib.rt:126:5
 slice-write-head : tie.Need-slice-write-head
 slice-write-head c = search needs
 
--- src/lib.rt:108:1
 same-length-2 : tie.Need-same-length-2
 same-length-2 c = search needs
 
--- src/lib.rt:108:1
 same-length-3 : tie.Need-same-length-3
 same-length-3 c = search needs
 
--- src/lib.rt:108:1
 returns-2 : tie.Need-returns-2
 returns-2 c = let a = c .before .before .before .before .before .before .before .before .before .args in joined-yes (a .g) (a .image .now) (a .s) (a .head .now) (a .next .now) (c .before .before .before .before .before .before .before .before .before .pre .4) (c .before .before .before .before .before .before .before .before .before .pre .1) (c .before .before .before .before .before .before .before .before .before .pre .3) (c .before .before .before .before .before .hit .ensures .is) (c .before .before .before .before .before .hit .ensures .small) (c .before .before .before .wide .ensures .is) (c .before .alone .ensures) (c .if1 .left)
 

@@ -16,39 +16,30 @@ Inv-loop image g head₀ next₀ row₀ head next row = Differing g image (32 * 
 abbrev μ-loop : tie.MeasureT-loop
 μ-loop image g head₀ next₀ row₀ head next row = 8 - row
 
--- src/lib.rt:142:5
 loop-holds : tie.Need-loop-holds Inv-loop μ-loop
 loop-holds c = (differing-start _ _, omega arith)
 
--- src/lib.rt:143:40
 slice-aggregate-row-differs : tie.Need-slice-aggregate-row-differs Inv-loop μ-loop
 slice-aggregate-row-differs c = search needs
 
--- src/lib.rt:143:51
 slice-aggregate-row-differs-2 : tie.Need-slice-aggregate-row-differs-2 Inv-loop μ-loop
 slice-aggregate-row-differs-2 c = search needs
 
--- src/lib.rt:143:13
 row-differs-requires : tie.Need-row-differs-requires Inv-loop μ-loop
 row-differs-requires c κs = (c .before .before .before .before .before .pre .0, c .before .before .before .before .before .pre .1, c .before .before .loop-test .taken, c .before .before .before .loop .inv .0)
 
--- src/lib.rt:144:13
 returns : tie.Need-returns Inv-loop μ-loop
 returns c = c .before .before .before .row-differs .ensures .bad (not-true (c .before .before .before .row-differs .result) (c .if1 .taken))
 
--- src/lib.rt:146:9
 add-row : tie.Need-add-row Inv-loop μ-loop
 add-row c = search needs
 
--- src/lib.rt:142:5
 loop-less : tie.Need-loop-less Inv-loop μ-loop
 loop-less c = search needs
 
--- src/lib.rt:142:5
 loop-again : tie.Need-loop-again Inv-loop μ-loop
 loop-again c = (c .before .before .before .row-differs .ensures .good (not-false (c .before .before .before .row-differs .result) (c .if1 .left)), omega arith)
 
--- src/lib.rt:135:1
 returns-2 : tie.Need-returns-2 Inv-loop μ-loop
 returns-2 c = differing-end _ _ (32 * c .before .loop .row) _ _ (c .before .loop .inv .0) (omega arith)
 

@@ -18,83 +18,63 @@ Inv-loop image g row head₀ next₀ first end at₀ s₀ head next at s = Diffe
 abbrev μ-loop : tie.MeasureT-loop
 μ-loop image g row head₀ next₀ first end at₀ s₀ head next at s = end - s
 
--- src/lib.rt:120:17
 mul-first : tie.Need-mul-first Inv-loop μ-loop
 mul-first c = search needs
 
--- src/lib.rt:121:24
 directory-sectors-requires : tie.Need-directory-sectors-requires Inv-loop μ-loop
 directory-sectors-requires c κs = search needs
 
--- src/lib.rt:121:24
 sub-end : tie.Need-sub-end Inv-loop μ-loop
 sub-end c = search needs
 
--- src/lib.rt:121:15
 add-end : tie.Need-add-end Inv-loop μ-loop
 add-end c = search needs
 
--- src/lib.rt:122:25
 add-at : tie.Need-add-at Inv-loop μ-loop
 add-at c = search needs
 
--- src/lib.rt:122:18
 mul-at : tie.Need-mul-at Inv-loop μ-loop
 mul-at c = search needs
 
--- src/lib.rt:122:40
 mul-at-2 : tie.Need-mul-at-2 Inv-loop μ-loop
 mul-at-2 c = search needs
 
--- src/lib.rt:122:18
 add-at-2 : tie.Need-add-at-2 Inv-loop μ-loop
 add-at-2 c = search needs
 
--- src/lib.rt:124:5
 loop-holds : tie.Need-loop-holds Inv-loop μ-loop
 loop-holds c = let e = c .before .directory-sectors .ensures in let t = c .before .before .before .before .before .pre .0 .thirty in (c .before .before .before .before .before .pre .3, omega arith, omega arith, omega arith, omega arith)
 
--- src/lib.rt:125:13
 visit-requires : tie.Need-visit-requires Inv-loop μ-loop
 visit-requires c κs = let z = c .before .before .before .loop .inv in let q1 = z .1 in let q2 = z .2 in let q3 = z .3 in let q4 = z .4 in let e = c .before .before .before .before .before .directory-sectors .ensures in (c .before .before .before .before .before .before .before .before .before .pre .0, c .before .before .before .before .before .before .before .before .before .pre .1, record { low = omega arith; held = omega arith }, omega arith, z .0)
 
--- src/lib.rt:126:13
 same-length : tie.Need-same-length Inv-loop μ-loop
 same-length c = let a = c .before .before .before .before .before .before .before .before .before .loop .inv .0 .lists .heads in let b = c .before .before .before .before .before .before .before .before .before .before .before .before .before .before .before .pre .3 .lists .heads in let h = c .before .before .before .before .head .given in omega arith
 
--- src/lib.rt:126:13
 same-length-2 : tie.Need-same-length-2 Inv-loop μ-loop
 same-length-2 c = let a = c .before .before .before .before .before .before .before .before .before .loop .inv .0 .lists .nexts in let b = c .before .before .before .before .before .before .before .before .before .before .before .before .before .before .before .pre .3 .lists .nexts in let h = c .before .before .next .given in omega arith
 
--- src/lib.rt:126:13
 returns : tie.Need-returns Inv-loop μ-loop
 returns c = row-found (c .before .before .before .before .before .before .before .before .before .before .before .before .before .before .before .args .g) (c .before .before .before .before .before .before .before .before .before .before .before .before .before .before .before .args .image .now) (c .before .before .before .before .before .before .before .before .before .before .before .before .before .before .before .args .row) (c .before .before .before .before .before .visit .ensures) (c .if1 .taken)
 
--- src/lib.rt:128:9
 add-at-3 : tie.Need-add-at-3 Inv-loop μ-loop
 add-at-3 c = let z = c .before .before .before .before .before .before .before .before .before .loop .inv in let q1 = z .1 in let q2 = z .2 in let q3 = z .3 in let q4 = z .4 in let e = c .before .before .before .before .before .before .before .before .before .before .before .directory-sectors .ensures in let r = c .before .before .before .before .before .before .before .before .before .before .before .before .before .before .before .pre .0 .directory in let q = c .before .before .before .before .before .before .before .before .before .before .before .before .before .before .before .pre .0 .most in let d = c .before .before .before .before .before .before .before .before .before .before .before .before .before .before .before .pre .2 in omega arith
 
--- src/lib.rt:129:9
 add-s : tie.Need-add-s Inv-loop μ-loop
 add-s c = let z = c .before .before .before .before .before .before .before .before .before .loop .inv in let q1 = z .1 in let q2 = z .2 in let q3 = z .3 in let q4 = z .4 in let e = c .before .before .before .before .before .before .before .before .before .before .before .directory-sectors .ensures in omega arith
 
--- src/lib.rt:124:5
 loop-less : tie.Need-loop-less Inv-loop μ-loop
 loop-less c = let z = c .before .before .before .before .before .before .before .before .before .loop .inv in let q1 = z .1 in let q2 = z .2 in let q3 = z .3 in let q4 = z .4 in let e = c .before .before .before .before .before .before .before .before .before .before .before .directory-sectors .ensures in omega arith
 
--- src/lib.rt:124:5
 loop-again : tie.Need-loop-again Inv-loop μ-loop
 loop-again c = let z = c .before .before .before .before .before .before .before .before .before .loop .inv in let q1 = z .1 in let q2 = z .2 in let q3 = z .3 in let q4 = z .4 in let e = c .before .before .before .before .before .before .before .before .before .before .before .directory-sectors .ensures in (c .before .before .before .before .before .visit .ensures .good (not-false (c .before .before .before .before .before .visit .result) (c .if1 .left)), omega arith, omega arith, omega arith, omega arith)
 
--- src/lib.rt:110:1
 same-length-3 : tie.Need-same-length-3 Inv-loop μ-loop
 same-length-3 c = let a = c .before .loop .inv .0 .lists .heads in let b = c .before .before .before .before .before .before .before .pre .3 .lists .heads in omega arith
 
--- src/lib.rt:110:1
 same-length-4 : tie.Need-same-length-4 Inv-loop μ-loop
 same-length-4 c = let a = c .before .loop .inv .0 .lists .nexts in let b = c .before .before .before .before .before .before .before .pre .3 .lists .nexts in omega arith
 
--- src/lib.rt:110:1
 returns-2 : tie.Need-returns-2 Inv-loop μ-loop
 returns-2 c = let z = c .before .loop .inv in let q1 = z .1 in let q2 = z .2 in let q3 = z .3 in let q4 = z .4 in let e = c .before .before .before .directory-sectors .ensures in row-end (c .before .before .before .before .before .before .before .args .g) (c .before .before .before .before .before .before .before .args .image .now) (c .before .before .before .before .before .before .before .args .row) (c .before .loop .s) (c .before .loop .head) (c .before .loop .next) (c .before .before .before .before .before .before .before .pre .0) (z .0) (c .before .before .before .before .before .before .before .pre .2) e (omega arith)
 

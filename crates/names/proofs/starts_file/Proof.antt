@@ -8,19 +8,15 @@ use Rattle.names.proofs.starts_file.Reads as reads
 use Rattle.names.proofs.starts_file.Lts as lts
 use Rattle.layout.proofs.wide.Reads as wide-reads
 
--- src/lib.rt:35:26
 shared-slice-read-wide : tie.Need-shared-slice-read-wide
 shared-slice-read-wide c = search needs
 
--- src/lib.rt:35:9
 wide-requires : tie.Need-wide-requires
 wide-requires c κs = search needs
 
--- src/lib.rt:37:9
 returns : tie.Need-returns
 returns c = simp (sym (flags-at (c .before .before .before .before .args .g) (c .before .before .before .before .args .image .now) (c .before .before .before .before .args .s) (c .before .before .before .before .pre .2) (c .before .wide .ensures .is)), digit-at, ne-eqb _ _ (c .if1 .taken))
 
--- src/lib.rt:31:1
 returns-2 : tie.Need-returns-2
 returns-2 c = simp (sym (flags-at (c .before .before .before .before .args .g) (c .before .before .before .before .args .image .now) (c .before .before .before .before .args .s) (c .before .before .before .before .pre .2) (c .before .wide .ensures .is)), digit-at, eq-eqb _ _ (c .if1 .left))
 

@@ -9,27 +9,21 @@ use Rattle.names.proofs.visit.Lts as lts
 use Rattle.names.proofs.joins.Reads as joins-reads
 use Rattle.names.proofs.starts_file.Reads as starts-file-reads
 
--- src/lib.rt:103:9
 starts-file-requires : tie.Need-starts-file-requires
 starts-file-requires c κs = search needs
 
--- src/lib.rt:104:9
 returns : tie.Need-returns
 returns c = let a = c .before .before .before .before .before .args in visit-other (a .g) (a .image .now) (a .s) (a .head .now) (a .next .now) (c .before .before .before .before .before .pre .4) (c .before .before .before .before .before .pre .2 .low) (c .before .starts-file .ensures) (c .if1 .taken)
 
--- src/lib.rt:106:5
 joins-requires : tie.Need-joins-requires
 joins-requires c κs = let z = not-false (c .before .before .before .starts-file .result) (c .before .before .if1 .left) in (c .before .before .before .before .before .before .before .pre .0, c .before .before .before .before .before .before .before .pre .2, c .before .before .before .before .before .before .before .pre .3, sym (c .before .before .before .starts-file .ensures) ∙ z, c .before .before .before .before .before .before .before .pre .4 .lists)
 
--- src/lib.rt:91:1
 same-length : tie.Need-same-length
 same-length c = search needs
 
--- src/lib.rt:91:1
 same-length-2 : tie.Need-same-length-2
 same-length-2 c = search needs
 
--- src/lib.rt:91:1
 returns-2 : tie.Need-returns-2
 returns-2 c = let a = c .before .before .before .before .before .before .before .before .before .before .before .before .args in visit-file (a .g) (a .image .now) (c .before .before .before .before .before .before .before .before .before .before .before .before .pre .1) (a .s) (a .head .now) (a .next .now) _ _ (c .before .before .before .before .before .before .before .before .before .before .before .before .pre .4) (c .before .before .before .before .before .before .before .before .before .before .before .before .pre .2) (c .before .before .before .before .before .before .before .before .starts-file .ensures) (c .before .before .before .before .before .before .before .if1 .left) (c .before .before .before .before .joins .ensures)
 

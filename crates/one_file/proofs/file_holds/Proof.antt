@@ -15,75 +15,57 @@ use Rattle.marks.proofs.among.Reads as among-reads
 use Rattle.walk.proofs.field_at.Reads as field-at-reads
 use Rattle.walk.proofs.file_walk.Reads as file-walk-reads
 
--- src/lib.rt:78:9
 returns : tie.Need-returns
 returns c = file-bit _ _ _ ((c .before .before .pre) .2) (c .if1 .taken)
 
--- src/lib.rt:80:9
 name-holds-requires : tie.Need-name-holds-requires
 name-holds-requires c κs = search needs
 
--- src/lib.rt:81:9
 returns-2 : tie.Need-returns-2
 returns-2 c = file-name _ _ _ ((c .before .before .before .before .pre) .3) (is-no (c .before .name-holds .ensures) (c .if2 .taken))
 
--- src/lib.rt:83:13
 field-at-requires : tie.Need-field-at-requires
 field-at-requires c κs = search needs
 
--- src/lib.rt:83:59
 field-at-requires-2 : tie.Need-field-at-requires-2
 field-at-requires-2 c κs = search needs
 
--- src/lib.rt:83:53
 mul-n : tie.Need-mul-n
 mul-n c = search needs
 
--- src/lib.rt:83:13
 add-n : tie.Need-add-n
 add-n c = search needs
 
--- src/lib.rt:84:9
 count-holds-requires : tie.Need-count-holds-requires
 count-holds-requires c κs = search needs
 
--- src/lib.rt:85:9
 returns-3 : tie.Need-returns-3
 returns-3 c = file-count _ _ _ (two _ _ _ (c .before .before .before .field-at .ensures .is) (c .before .before .field-at2 .ensures .is)) (is-no (c .before .count-holds .ensures) (c .if3 .taken))
 
--- src/lib.rt:87:21
 directory-sectors-requires : tie.Need-directory-sectors-requires
 directory-sectors-requires c κs = search needs
 
--- src/lib.rt:87:21
 sub-left : tie.Need-sub-left
 sub-left c = search needs
 
--- src/lib.rt:87:16
 mul-left : tie.Need-mul-left
 mul-left c = search needs
 
--- src/lib.rt:88:9
 among-requires : tie.Need-among-requires
 among-requires c κs = (c .before .before .before .before .before .before .before .before .before .before .pre) .4 .spans .room
 
--- src/lib.rt:89:9
 file-walk-requires : tie.Need-file-walk-requires
 file-walk-requires c κs = search needs
 
--- src/lib.rt:90:9
 returns-4 : tie.Need-returns-4
 returns-4 c = file-refused _ _ _ (file-walk _ _ _ ((c .before .before .before .before .before .before .before .before .before .before .before .before .before .before .before .pre) .0) ((c .before .before .before .before .before .before .before .before .before .before .before .before .before .before .before .pre) .2) (c .before .before .before .before .before .before .before .before .before .before .before .before .before .if1 .left) ((c .before .before .before .before .before .before .before .before .before .before .before .before .before .before .before .pre) .3) (is-yes (c .before .before .before .before .before .before .before .before .before .before .before .before .name-holds .ensures) (c .before .before .before .before .before .before .before .before .before .before .before .if2 .left)) (two _ _ _ (c .before .before .before .before .before .before .before .before .before .before .field-at .ensures .is) (c .before .before .before .before .before .before .before .before .before .field-at2 .ensures .is)) (is-yes (c .before .before .before .before .before .before .before .before .count-holds .ensures) (c .before .before .before .before .before .before .before .if3 .left)) (c .before .before .before .before .before .before .directory-sectors .ensures) refl (c .before .file-walk .ensures)) (not-true _ (c .if4 .taken))
 
--- src/lib.rt:93:9
 returns-5 : tie.Need-returns-5
 returns-5 c = file-system _ _ _ ((c .before .before .before .before .before .before .before .before .before .before .before .before .before .before .before .before .pre) .2) (c .if5 .taken) (file-walk _ _ _ ((c .before .before .before .before .before .before .before .before .before .before .before .before .before .before .before .before .pre) .0) ((c .before .before .before .before .before .before .before .before .before .before .before .before .before .before .before .before .pre) .2) (c .before .before .before .before .before .before .before .before .before .before .before .before .before .before .if1 .left) ((c .before .before .before .before .before .before .before .before .before .before .before .before .before .before .before .before .pre) .3) (is-yes (c .before .before .before .before .before .before .before .before .before .before .before .before .before .name-holds .ensures) (c .before .before .before .before .before .before .before .before .before .before .before .before .if2 .left)) (two _ _ _ (c .before .before .before .before .before .before .before .before .before .before .before .field-at .ensures .is) (c .before .before .before .before .before .before .before .before .before .before .field-at2 .ensures .is)) (is-yes (c .before .before .before .before .before .before .before .before .before .count-holds .ensures) (c .before .before .before .before .before .before .before .before .if3 .left)) (c .before .before .before .before .before .before .before .directory-sectors .ensures) refl (c .before .before .file-walk .ensures)) (not-false _ (c .before .if4 .left))
 
--- src/lib.rt:95:5
 among-requires-2 : tie.Need-among-requires-2
 among-requires-2 c κs = (c .before .before .before .before .before .before .before .before .before .before .before .before .before .before .before .before .before .pre) .4 .spans .room
 
--- src/lib.rt:62:1
 returns-6 : tie.Need-returns-6
 returns-6 c = file-other _ _ _ ((c .before .before .before .before .before .before .before .before .before .before .before .before .before .before .before .before .before .before .pre) .0) ((c .before .before .before .before .before .before .before .before .before .before .before .before .before .before .before .before .before .before .pre) .4) ((c .before .before .before .before .before .before .before .before .before .before .before .before .before .before .before .before .before .before .pre) .2) (c .before .before .if5 .left) (file-walk _ _ _ ((c .before .before .before .before .before .before .before .before .before .before .before .before .before .before .before .before .before .before .pre) .0) ((c .before .before .before .before .before .before .before .before .before .before .before .before .before .before .before .before .before .before .pre) .2) (c .before .before .before .before .before .before .before .before .before .before .before .before .before .before .before .before .if1 .left) ((c .before .before .before .before .before .before .before .before .before .before .before .before .before .before .before .before .before .before .pre) .3) (is-yes (c .before .before .before .before .before .before .before .before .before .before .before .before .before .before .before .name-holds .ensures) (c .before .before .before .before .before .before .before .before .before .before .before .before .before .before .if2 .left)) (two _ _ _ (c .before .before .before .before .before .before .before .before .before .before .before .before .before .field-at .ensures .is) (c .before .before .before .before .before .before .before .before .before .before .before .before .field-at2 .ensures .is)) (is-yes (c .before .before .before .before .before .before .before .before .before .before .before .count-holds .ensures) (c .before .before .before .before .before .before .before .before .before .before .if3 .left)) (c .before .before .before .before .before .before .before .before .before .directory-sectors .ensures) refl (c .before .before .before .before .file-walk .ensures)) (not-false _ (c .before .before .before .if4 .left)) (c .before .before .before .before .before .before .before .among .ensures) (c .among2 .ensures)
 

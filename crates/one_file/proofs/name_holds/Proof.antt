@@ -11,51 +11,39 @@ use Rattle.one_file.proofs.name_holds.Lts as lts
 use Rattle.spelling.proofs.well_formed.Reads as well-formed-reads
 use Rattle.hash.proofs.hashes_to.Reads as hashes-to-reads
 
--- src/lib.rt:38:13
 add-a : tie.Need-add-a
 add-a c = search needs
 
--- src/lib.rt:39:13
 add-e : tie.Need-add-e
 add-e c = search needs
 
--- src/lib.rt:40:26
 sub-hashes-to : tie.Need-sub-hashes-to
 sub-hashes-to c = search needs
 
--- src/lib.rt:40:26
 part-hashes-to-start : tie.Need-part-hashes-to-start
 part-hashes-to-start c = search needs
 
--- src/lib.rt:40:26
 part-hashes-to-end : tie.Need-part-hashes-to-end
 part-hashes-to-end c = search needs
 
--- src/lib.rt:40:9
 hashes-to-requires : tie.Need-hashes-to-requires
 hashes-to-requires c κs = search needs
 
--- src/lib.rt:41:9
 returns : tie.Need-returns
 returns c = let q : (c .before .before .before .before .args .at + 5 + 11) - (c .before .before .before .before .args .at + 5) ≡ 11 = omega arith in name-no _ _ _ (c .before .before .before .before .pre .0) (c .before .before .before .before .pre .1) q (c .before .hashes-to .ensures) (not-true _ (c .if1 .taken))
 
--- src/lib.rt:43:23
 sub-well-formed : tie.Need-sub-well-formed
 sub-well-formed c = search needs
 
--- src/lib.rt:43:23
 part-well-formed-start : tie.Need-part-well-formed-start
 part-well-formed-start c = search needs
 
--- src/lib.rt:43:23
 part-well-formed-end : tie.Need-part-well-formed-end
 part-well-formed-end c = search needs
 
--- src/lib.rt:43:5
 well-formed-requires : tie.Need-well-formed-requires
 well-formed-requires c κs = search needs
 
--- src/lib.rt:34:1
 returns-2 : tie.Need-returns-2
 returns-2 c = let q : (c .before .before .before .before .before .before .args .at + 5 + 11) - (c .before .before .before .before .before .before .args .at + 5) ≡ 11 = omega arith in name-yes _ _ _ (c .before .before .before .before .before .before .pre .0) (c .before .before .before .before .before .before .pre .1) q (c .before .before .before .hashes-to .ensures) (not-false _ (c .before .before .if1 .left)) (c .well-formed .ensures)
 

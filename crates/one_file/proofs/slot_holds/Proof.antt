@@ -8,31 +8,24 @@ use Rattle.one_file.proofs.file_holds.Reads as file-holds-reads
 use Rattle.layout.proofs.hit.Reads as hit-reads
 use Rattle.walk.proofs.field_at.Reads as field-at-reads
 
--- src/lib.rt:100:9
 hit-requires : tie.Need-hit-requires
 hit-requires c κs = search needs
 
--- src/lib.rt:101:9
 field-at-requires : tie.Need-field-at-requires
 field-at-requires c κs = search needs
 
--- src/lib.rt:103:9
 returns : tie.Need-returns
 returns c = seen-free _ _ _ (c .before .before .hit .ensures .is) (c .if1 .taken) (c .before .field-at .ensures .is)
 
--- src/lib.rt:106:9
 returns-2 : tie.Need-returns-2
 returns-2 c = seen-unused _ _ _ (c .before .before .before .hit .ensures .is) (c .before .if1 .left) (c .before .before .field-at .ensures .is) (c .if2 .taken)
 
--- src/lib.rt:109:9
 returns-3 : tie.Need-returns-3
 returns-3 c = seen-extension _ _ _ (c .before .before .before .before .hit .ensures .is) (c .before .before .if1 .left) (c .before .before .before .field-at .ensures .is) (c .before .if2 .left) (c .if3 .taken)
 
--- src/lib.rt:111:5
 file-holds-requires : tie.Need-file-holds-requires
 file-holds-requires c κs = search needs
 
--- src/lib.rt:89:1
 returns-4 : tie.Need-returns-4
 returns-4 c = seen-file _ _ _ (c .before .before .before .before .before .before .before .hit .ensures .is) (c .before .before .before .before .before .if1 .left) (c .before .before .before .before .before .before .field-at .ensures .is) (c .before .before .before .before .if2 .left) (c .before .before .before .if3 .left) (c .file-holds .ensures)
 

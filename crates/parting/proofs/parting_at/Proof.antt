@@ -20,83 +20,63 @@ Inv-loop first g second h s t n m end i₀ i = Matches g first h second s t n m 
 abbrev μ-loop : tie.MeasureT-loop
 μ-loop first g second h s t n m end i₀ i = end - i
 
--- src/lib.rt:209:9
 least-requires : tie.Need-least-requires Inv-loop μ-loop
 least-requires c κs = search needs
 
--- src/lib.rt:211:5
 loop-holds : tie.Need-loop-holds Inv-loop μ-loop
 loop-holds c = matches-start _ _ _ _ _ _ _ _ _
 
--- src/lib.rt:212:13
 in-granule-requires : tie.Need-in-granule-requires Inv-loop μ-loop
 in-granule-requires c κs = search needs
 
--- src/lib.rt:213:13
 place-requires : tie.Need-place-requires Inv-loop μ-loop
 place-requires c κs = (c .before .before .before .before .before .before .pre .0 .sound, used _ _ _ (c .before .before .before .before .before .before .pre .0) (c .before .before .before .before .before .before .pre .2), let l = c .before .before .before .least .ensures .0 in let z = c .before .before .before .before .before .before .pre .6 in let t = c .before .loop-test .taken in omega arith)
 
--- src/lib.rt:214:13
 place-requires-2 : tie.Need-place-requires-2 Inv-loop μ-loop
 place-requires-2 c κs = (c .before .before .before .before .before .before .before .pre .1 .sound, used _ _ _ (c .before .before .before .before .before .before .before .pre .1) (c .before .before .before .before .before .before .before .pre .3), let l = c .before .before .before .before .least .ensures .1 in let z = c .before .before .before .before .before .before .before .pre .7 in let t = c .before .before .loop-test .taken in omega arith)
 
--- src/lib.rt:215:18
 add-pe : tie.Need-add-pe Inv-loop μ-loop
 add-pe c = let f = granule-fits _ _ _ (c .before .before .before .before .before .before .before .before .pre .0) (c .before .before .before .before .before .before .before .before .pre .2) (c .before .before .before .before .loop .i) (c .before .before .in-granule .result) (c .before .before .in-granule .ensures .1) (let o = c .before .before .before .before .loop .inv .start (c .before .before .before .loop-test .taken) in let u = c .before .before .in-granule .ensures .2 in omega arith) (let u = c .before .before .in-granule .ensures .0 in let l = c .before .before .before .before .before .least .ensures .0 in let z = c .before .before .before .before .before .before .before .before .pre .4 in omega arith) (let u = c .before .before .in-granule .ensures .0 in let l = c .before .before .before .before .before .least .ensures .0 in let z = c .before .before .before .before .before .before .before .before .pre .6 in omega arith) in let e = c .before .place .ensures in omega arith
 
--- src/lib.rt:216:18
 add-qe : tie.Need-add-qe Inv-loop μ-loop
 add-qe c = let f = granule-fits _ _ _ (c .before .before .before .before .before .before .before .before .pre .1) (c .before .before .before .before .before .before .before .before .pre .3) (c .before .before .before .before .loop .i) (c .before .before .in-granule .result) (c .before .before .in-granule .ensures .1) (let o = c .before .before .before .before .loop .inv .start (c .before .before .before .loop-test .taken) in let u = c .before .before .in-granule .ensures .2 in omega arith) (let u = c .before .before .in-granule .ensures .0 in let l = c .before .before .before .before .before .least .ensures .1 in let z = c .before .before .before .before .before .before .before .before .pre .5 in omega arith) (let u = c .before .before .in-granule .ensures .0 in let l = c .before .before .before .before .before .least .ensures .1 in let z = c .before .before .before .before .before .before .before .before .pre .7 in omega arith) in let e = c .place2 .ensures in omega arith
 
--- src/lib.rt:217:23
 sub-alike : tie.Need-sub-alike Inv-loop μ-loop
 sub-alike c = search needs
 
--- src/lib.rt:217:23
 part-alike-start : tie.Need-part-alike-start Inv-loop μ-loop
 part-alike-start c = search needs
 
--- src/lib.rt:217:23
 part-alike-end : tie.Need-part-alike-end Inv-loop μ-loop
 part-alike-end c = let f = granule-fits _ _ _ (c .before .before .before .before .before .before .before .before .pre .0) (c .before .before .before .before .before .before .before .before .pre .2) (c .before .before .before .before .loop .i) (c .before .before .in-granule .result) (c .before .before .in-granule .ensures .1) (let o = c .before .before .before .before .loop .inv .start (c .before .before .before .loop-test .taken) in let u = c .before .before .in-granule .ensures .2 in omega arith) (let u = c .before .before .in-granule .ensures .0 in let l = c .before .before .before .before .before .least .ensures .0 in let z = c .before .before .before .before .before .before .before .before .pre .4 in omega arith) (let u = c .before .before .in-granule .ensures .0 in let l = c .before .before .before .before .before .least .ensures .0 in let z = c .before .before .before .before .before .before .before .before .pre .6 in omega arith) in let e = c .before .place .ensures in omega arith
 
--- src/lib.rt:217:38
 sub-alike-2 : tie.Need-sub-alike-2 Inv-loop μ-loop
 sub-alike-2 c = search needs
 
--- src/lib.rt:217:38
 part-alike-start-2 : tie.Need-part-alike-start-2 Inv-loop μ-loop
 part-alike-start-2 c = search needs
 
--- src/lib.rt:217:38
 part-alike-end-2 : tie.Need-part-alike-end-2 Inv-loop μ-loop
 part-alike-end-2 c = let f = granule-fits _ _ _ (c .before .before .before .before .before .before .before .before .before .pre .1) (c .before .before .before .before .before .before .before .before .before .pre .3) (c .before .before .before .before .before .loop .i) (c .before .before .before .in-granule .result) (c .before .before .before .in-granule .ensures .1) (let o = c .before .before .before .before .before .loop .inv .start (c .before .before .before .before .loop-test .taken) in let u = c .before .before .before .in-granule .ensures .2 in omega arith) (let u = c .before .before .before .in-granule .ensures .0 in let l = c .before .before .before .before .before .before .least .ensures .1 in let z = c .before .before .before .before .before .before .before .before .before .pre .5 in omega arith) (let u = c .before .before .before .in-granule .ensures .0 in let l = c .before .before .before .before .before .before .least .ensures .1 in let z = c .before .before .before .before .before .before .before .before .before .pre .7 in omega arith) in let e = c .before .place2 .ensures in omega arith
 
--- src/lib.rt:217:13
 alike-requires : tie.Need-alike-requires Inv-loop μ-loop
 alike-requires c κs = ap length (part-is _ _ _ (c .before .before .before .before .before .before .before .before .before .before .pre .0) (c .before .before .before .before .before .before .before .before .before .before .pre .2) (c .before .before .before .before .before .before .loop .i) (c .before .before .before .before .in-granule .result) (c .before .before .before .before .in-granule .ensures .1) (let o = c .before .before .before .before .before .before .loop .inv .start (c .before .before .before .before .before .loop-test .taken) in let u = c .before .before .before .before .in-granule .ensures .2 in omega arith) (let u = c .before .before .before .before .in-granule .ensures .0 in let l = c .before .before .before .before .before .before .before .least .ensures .0 in let z = c .before .before .before .before .before .before .before .before .before .before .pre .4 in omega arith) (let u = c .before .before .before .before .in-granule .ensures .0 in let l = c .before .before .before .before .before .before .before .least .ensures .0 in let z = c .before .before .before .before .before .before .before .before .before .before .pre .6 in omega arith) (c .before .before .before .place .ensures)) ∙ length-fetch _ _ _ _ _ ∙ sym (ap length (part-is _ _ _ (c .before .before .before .before .before .before .before .before .before .before .pre .1) (c .before .before .before .before .before .before .before .before .before .before .pre .3) (c .before .before .before .before .before .before .loop .i) (c .before .before .before .before .in-granule .result) (c .before .before .before .before .in-granule .ensures .1) (let o = c .before .before .before .before .before .before .loop .inv .start (c .before .before .before .before .before .loop-test .taken) in let u = c .before .before .before .before .in-granule .ensures .2 in omega arith) (let u = c .before .before .before .before .in-granule .ensures .0 in let l = c .before .before .before .before .before .before .before .least .ensures .1 in let z = c .before .before .before .before .before .before .before .before .before .before .pre .5 in omega arith) (let u = c .before .before .before .before .in-granule .ensures .0 in let l = c .before .before .before .before .before .before .before .least .ensures .1 in let z = c .before .before .before .before .before .before .before .before .before .before .pre .7 in omega arith) (c .before .before .place2 .ensures)) ∙ length-fetch _ _ _ _ _)
 
--- src/lib.rt:219:20
 add-result : tie.Need-add-result Inv-loop μ-loop
 add-result c = search needs
 
--- src/lib.rt:219:13
 returns : tie.Need-returns Inv-loop μ-loop
 returns c = matches-stop _ _ _ _ _ _ _ _ _ (c .before .before .before .before .before .before .before .before .loop .i) (c .before .before .before .before .before .before .in-granule .result) (c .before .before .before .before .before .before .before .before .before .least .ensures .0) (c .before .before .before .before .before .before .before .before .before .least .ensures .1) (c .before .before .before .before .before .before .in-granule .ensures .0) (part-is _ _ _ (c .before .before .before .before .before .before .before .before .before .before .before .before .pre .0) (c .before .before .before .before .before .before .before .before .before .before .before .before .pre .2) (c .before .before .before .before .before .before .before .before .loop .i) (c .before .before .before .before .before .before .in-granule .result) (c .before .before .before .before .before .before .in-granule .ensures .1) (let o = c .before .before .before .before .before .before .before .before .loop .inv .start (c .before .before .before .before .before .before .before .loop-test .taken) in let u = c .before .before .before .before .before .before .in-granule .ensures .2 in omega arith) (let u = c .before .before .before .before .before .before .in-granule .ensures .0 in let l = c .before .before .before .before .before .before .before .before .before .least .ensures .0 in let z = c .before .before .before .before .before .before .before .before .before .before .before .before .pre .4 in omega arith) (let u = c .before .before .before .before .before .before .in-granule .ensures .0 in let l = c .before .before .before .before .before .before .before .before .before .least .ensures .0 in let z = c .before .before .before .before .before .before .before .before .before .before .before .before .pre .6 in omega arith) (c .before .before .before .before .before .place .ensures)) (part-is _ _ _ (c .before .before .before .before .before .before .before .before .before .before .before .before .pre .1) (c .before .before .before .before .before .before .before .before .before .before .before .before .pre .3) (c .before .before .before .before .before .before .before .before .loop .i) (c .before .before .before .before .before .before .in-granule .result) (c .before .before .before .before .before .before .in-granule .ensures .1) (let o = c .before .before .before .before .before .before .before .before .loop .inv .start (c .before .before .before .before .before .before .before .loop-test .taken) in let u = c .before .before .before .before .before .before .in-granule .ensures .2 in omega arith) (let u = c .before .before .before .before .before .before .in-granule .ensures .0 in let l = c .before .before .before .before .before .before .before .before .before .least .ensures .1 in let z = c .before .before .before .before .before .before .before .before .before .before .before .before .pre .5 in omega arith) (let u = c .before .before .before .before .before .before .in-granule .ensures .0 in let l = c .before .before .before .before .before .before .before .before .before .least .ensures .1 in let z = c .before .before .before .before .before .before .before .before .before .before .before .before .pre .7 in omega arith) (c .before .before .before .before .place2 .ensures)) (c .before .alike .ensures .0) (c .if1 .taken) (c .before .before .before .before .before .before .before .before .loop .inv)
 
--- src/lib.rt:221:9
 add-i : tie.Need-add-i Inv-loop μ-loop
 add-i c = search needs
 
--- src/lib.rt:211:5
 loop-less : tie.Need-loop-less Inv-loop μ-loop
 loop-less c = search needs
 
--- src/lib.rt:211:5
 loop-again : tie.Need-loop-again Inv-loop μ-loop
 loop-again c = matches-on _ _ _ _ _ _ _ _ _ (c .before .before .before .before .before .before .before .before .loop .i) (c .before .before .before .before .before .before .in-granule .result) (c .before .before .before .before .before .before .before .before .before .least .ensures .0) (c .before .before .before .before .before .before .before .before .before .least .ensures .1) (c .before .before .before .before .before .before .in-granule .ensures .0) (part-is _ _ _ (c .before .before .before .before .before .before .before .before .before .before .before .before .pre .0) (c .before .before .before .before .before .before .before .before .before .before .before .before .pre .2) (c .before .before .before .before .before .before .before .before .loop .i) (c .before .before .before .before .before .before .in-granule .result) (c .before .before .before .before .before .before .in-granule .ensures .1) (let o = c .before .before .before .before .before .before .before .before .loop .inv .start (c .before .before .before .before .before .before .before .loop-test .taken) in let u = c .before .before .before .before .before .before .in-granule .ensures .2 in omega arith) (let u = c .before .before .before .before .before .before .in-granule .ensures .0 in let l = c .before .before .before .before .before .before .before .before .before .least .ensures .0 in let z = c .before .before .before .before .before .before .before .before .before .before .before .before .pre .4 in omega arith) (let u = c .before .before .before .before .before .before .in-granule .ensures .0 in let l = c .before .before .before .before .before .before .before .before .before .least .ensures .0 in let z = c .before .before .before .before .before .before .before .before .before .before .before .before .pre .6 in omega arith) (c .before .before .before .before .before .place .ensures)) (part-is _ _ _ (c .before .before .before .before .before .before .before .before .before .before .before .before .pre .1) (c .before .before .before .before .before .before .before .before .before .before .before .before .pre .3) (c .before .before .before .before .before .before .before .before .loop .i) (c .before .before .before .before .before .before .in-granule .result) (c .before .before .before .before .before .before .in-granule .ensures .1) (let o = c .before .before .before .before .before .before .before .before .loop .inv .start (c .before .before .before .before .before .before .before .loop-test .taken) in let u = c .before .before .before .before .before .before .in-granule .ensures .2 in omega arith) (let u = c .before .before .before .before .before .before .in-granule .ensures .0 in let l = c .before .before .before .before .before .before .before .before .before .least .ensures .1 in let z = c .before .before .before .before .before .before .before .before .before .before .before .before .pre .5 in omega arith) (let u = c .before .before .before .before .before .before .in-granule .ensures .0 in let l = c .before .before .before .before .before .before .before .before .before .least .ensures .1 in let z = c .before .before .before .before .before .before .before .before .before .before .before .before .pre .7 in omega arith) (c .before .before .before .before .place2 .ensures)) (c .before .alike .ensures .0) (c .if1 .left) (c .before .before .before .before .before .before .in-granule .ensures .3) (c .before .before .before .before .before .before .before .loop-test .taken) (c .before .before .before .before .before .before .before .before .loop .inv)
 
--- src/lib.rt:196:1
 returns-2 : tie.Need-returns-2 Inv-loop μ-loop
 returns-2 c = matches-end _ _ _ _ _ _ _ _ _ (c .before .before .least .ensures .0) (c .before .before .least .ensures .1) (c .before .before .least .ensures .2) (c .loop-test .left) (c .before .loop .inv)
 

@@ -9,23 +9,18 @@ use Rattle.read.proofs.part_checked.Reads as reads
 use Rattle.read.proofs.part_checked.Lts as lts
 use Rattle.read.proofs.sector_checked.Reads as sector-checked-reads
 
--- src/lib.rt:168:9
 sector-checked-requires : tie.Need-sector-checked-requires
 sector-checked-requires c κs = search needs
 
--- src/lib.rt:172:5
 sub-result : tie.Need-sub-result
 sub-result c = search needs
 
--- src/lib.rt:172:5
 part-result-start : tie.Need-part-result-start
 part-result-start c = search needs
 
--- src/lib.rt:172:5
 part-result-end : tie.Need-part-result-end
 part-result-end c = search needs
 
--- src/lib.rt:156:1
 returns : tie.Need-returns
 returns c = let a = c .before .before .before .args in let p = c .before .sector-checked .ensures .0 in
     (part-is (a .g) (a .image .now) (a .h) (a .k) p, λ i. (a .image .ptr .0, (part-ptr _ _ ∙ ap (λ (x : Part). a .image .ptr .1 + x .from) p) i))

@@ -9,27 +9,21 @@ use Rattle.read.proofs.record_checked.Lts as lts
 use Rattle.read.proofs.read_bytes.Reads as read-bytes-reads
 use Rattle.read.proofs.record_number.Reads as record-number-reads
 
--- src/lib.rt:87:9
 record-number-requires : tie.Need-record-number-requires
 record-number-requires c κs = search needs
 
--- src/lib.rt:89:9
 returns : tie.Need-returns
 returns c = refused _ _ _ _ (c .before .record-number .ensures) (c .if1 .taken)
 
--- src/lib.rt:91:5
 read-bytes-requires : tie.Need-read-bytes-requires
 read-bytes-requires c κs = let q = allowed _ _ _ _ (sym (c .before .before .record-number .ensures) ∙ c .before .if1 .left) in (q .file, q .owned, q .short, q .fits)
 
--- src/lib.rt:93:16
 add-moved : tie.Need-add-moved
 add-moved c = let q = allowed _ _ _ _ (sym (c .before .before .before .before .before .before .record-number .ensures) ∙ c .before .before .before .before .before .if1 .left) in let o = q .owned .high in omega arith
 
--- src/lib.rt:77:1
 same-length : tie.Need-same-length
 same-length c = search needs
 
--- src/lib.rt:77:1
 returns-2 : tie.Need-returns-2
 returns-2 c = accepted _ _ _ _ (c .before .before .before .before .before .before .record-number .ensures) (c .before .before .before .before .before .if1 .left) (c .before .before .before .read-bytes .ensures)
 

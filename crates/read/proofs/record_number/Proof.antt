@@ -17,36 +17,29 @@ use Rattle.handle.proofs.reading_number.Reads as reading-number-reads
 use Rattle.layout.proofs.size_of.Reads as size-of-reads
 use Rattle.read.proofs.record_ranged.Reads as record-ranged-reads
 
--- src/lib.rt:65:9
 record-ranged-requires : tie.Need-record-ranged-requires
 record-ranged-requires c κs = search needs
 
--- src/lib.rt:66:9
 reading-number-requires : tie.Need-reading-number-requires
 reading-number-requires c κs = search needs
 
--- src/lib.rt:68:9
 returns : tie.Need-returns
 returns c = reading-stop _ _ _ _ _ (c .before .before .record-ranged .ensures) (c .before .reading-number .ensures) (c .if1 .taken)
 
--- src/lib.rt:70:8
 size-of-requires : tie.Need-size-of-requires
 size-of-requires c κs = let a = c .before .before .before .before .args in
     let p = passed (a .g) (a .image .now) (a .h) (c .before .before .record-ranged .result) (notForReading (a .h) ∷ []) refl (c .before .reading-number .ensures) (c .if1 .left) in
     (walks (a .g) (a .image .now) (a .h) (c .before .before .record-ranged .result) p .0 .room, p .slot)
 
--- src/lib.rt:70:44
 add-if2 : tie.Need-add-if2
 add-if2 c = let a = c .before .before .before .before .before .before .args in
     let p = passed (a .g) (a .image .now) (a .h) (c .before .before .before .before .record-ranged .result) (notForReading (a .h) ∷ []) refl (c .before .before .before .reading-number .ensures) (c .before .before .if1 .left) in
     let q = ranges (a .g) (a .image .now) (a .h) (all-at _ (sym (c .before .before .before .before .record-ranged .ensures) ∙ p .ranged′) 0) in omega arith
 
--- src/lib.rt:71:9
 returns-2 : tie.Need-returns-2
 returns-2 c = sym (reading-then _ _ _ _ _ (c .before .before .before .before .before .record-ranged .ensures) (c .before .before .before .before .reading-number .ensures) (c .before .before .before .if1 .left)
     ∙ first-hit (ap (λ (k : ℕ). ltb k (c .before .before .before .before .before .before .before .args .h .at + c .before .before .before .before .before .before .before .args .h .len)) (sym (c .before .before .size-of .ensures .is)) ∙ lt-ltb _ _ (c .if2 .taken)) _ _)
 
--- src/lib.rt:61:1
 returns-3 : tie.Need-returns-3
 returns-3 c = sym (reading-then _ _ _ _ _ (c .before .before .before .before .before .record-ranged .ensures) (c .before .before .before .before .reading-number .ensures) (c .before .before .before .if1 .left)
     ∙ first-skip (ap (λ (k : ℕ). ltb k (c .before .before .before .before .before .before .before .args .h .at + c .before .before .before .before .before .before .before .args .h .len)) (sym (c .before .before .size-of .ensures .is)) ∙ le-ltb _ _ (c .if2 .left)) _ _ ∙ first-none)

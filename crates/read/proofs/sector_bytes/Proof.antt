@@ -9,27 +9,21 @@ use Rattle.read.proofs.sector_bytes.Lts as lts
 use Rattle.layout.proofs.field.Reads as field-reads
 use Rattle.layout.proofs.word.Reads as word-reads
 
--- src/lib.rt:132:8
 add-if1 : tie.Need-add-if1
 add-if1 c = search needs
 
--- src/lib.rt:132:17
 word-requires : tie.Need-word-requires
 word-requires c κs = search needs
 
--- src/lib.rt:133:9
 returns : tie.Need-returns
 returns c = let a = c .before .before .before .args in (bytes-before (a .g) (a .image .now) (a .s) (a .k) (λ q. c .if1 .taken (q ∙ sym (c .before .word .ensures .is))), omega arith)
 
--- src/lib.rt:135:9
 field-requires : tie.Need-field-requires
 field-requires c κs = search needs
 
--- src/lib.rt:137:9
 returns-2 : tie.Need-returns-2
 returns-2 c = let a = c .before .before .before .before .before .args in (bytes-whole (a .g) (a .image .now) (a .s) (a .k) (c .before .before .if1 .left ∙ c .before .before .before .word .ensures .is) (sym (c .before .field .ensures .is) ∙ c .if2 .taken), omega arith)
 
--- src/lib.rt:128:1
 returns-3 : tie.Need-returns-3
 returns-3 c = let a = c .before .before .before .before .before .args in (c .before .field .ensures .is ∙ bytes-last (a .g) (a .image .now) (a .s) (a .k) (c .before .before .if1 .left ∙ c .before .before .before .word .ensures .is) (λ q. c .if2 .left (c .before .field .ensures .is ∙ q)), omega arith)
 

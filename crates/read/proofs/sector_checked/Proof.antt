@@ -10,32 +10,25 @@ use Rattle.read.proofs.sector_bytes.Reads as sector-bytes-reads
 use Rattle.read.proofs.sector_number.Reads as sector-number-reads
 use Rattle.seek.proofs.place.Reads as place-reads
 
--- src/lib.rt:148:9
 sector-number-requires : tie.Need-sector-number-requires
 sector-number-requires c κs = search needs
 
--- src/lib.rt:150:9
 returns : tie.Need-returns
 returns c = (sector-refused _ _ _ _ (c .before .sector-number .ensures) (c .if1 .taken), record { forward = omega arith; inside = omega arith })
 
--- src/lib.rt:156:46
 mul-place : tie.Need-mul-place
 mul-place c = let a = c .before .before .before .args in let q = sector (a .g) (a .image .now) (a .h) (a .k) (c .before .sector-number .ensures) (c .if1 .left) in let l = q .low in omega arith
 
--- src/lib.rt:156:9
 place-requires : tie.Need-place-requires
 place-requires c κs = let a = c .before .before .before .args in let q = sector (a .g) (a .image .now) (a .h) (a .k) (c .before .sector-number .ensures) (c .if1 .left) in let l = q .low in (q .file .sound, q .file .used, omega arith)
 
--- src/lib.rt:157:9
 sector-bytes-requires : tie.Need-sector-bytes-requires
 sector-bytes-requires c κs = let a = c .before .before .before .before .args in let q = sector (a .g) (a .image .now) (a .h) (a .k) (c .before .before .sector-number .ensures) (c .before .if1 .left) in let l = q .low in (q .file .sound .room, q .file .used .slot, q .held, omega arith)
 
--- src/lib.rt:161:13
 add-t10 : tie.Need-add-t10
 add-t10 c = let a = c .before .before .before .before .before .args in let q = sector (a .g) (a .image .now) (a .h) (a .k) (c .before .before .before .sector-number .ensures) (c .before .before .if1 .left) in
     let l = sector-lies (a .g) (a .image .now) (a .h) (a .k) q (c .sector-bytes .ensures .0) (c .sector-bytes .ensures .1) in omega (arith, c .before .place .ensures)
 
--- src/lib.rt:143:1
 returns-2 : tie.Need-returns-2
 returns-2 c = let a = c .before .before .before .before .before .args in let q = sector (a .g) (a .image .now) (a .h) (a .k) (c .before .before .before .sector-number .ensures) (c .before .before .if1 .left) in
     let l = sector-lies (a .g) (a .image .now) (a .h) (a .k) q (c .sector-bytes .ensures .0) (c .sector-bytes .ensures .1) in

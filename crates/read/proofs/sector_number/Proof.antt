@@ -17,30 +17,24 @@ use Rattle.handle.proofs.reading_number.Reads as reading-number-reads
 use Rattle.layout.proofs.word.Reads as word-reads
 use Rattle.read.proofs.sector_ranged.Reads as sector-ranged-reads
 
--- src/lib.rt:114:9
 sector-ranged-requires : tie.Need-sector-ranged-requires
 sector-ranged-requires c κs = search needs
 
--- src/lib.rt:115:9
 reading-number-requires : tie.Need-reading-number-requires
 reading-number-requires c κs = search needs
 
--- src/lib.rt:117:9
 returns : tie.Need-returns
 returns c = reading-stop _ _ _ _ _ (c .before .before .sector-ranged .ensures) (c .before .reading-number .ensures) (c .if1 .taken)
 
--- src/lib.rt:119:8
 word-requires : tie.Need-word-requires
 word-requires c κs = let a = c .before .before .before .before .args in
     let p = passed (a .g) (a .image .now) (a .h) (c .before .before .sector-ranged .result) (notForReading (a .h) ∷ []) refl (c .before .reading-number .ensures) (c .if1 .left) in
     (walks (a .g) (a .image .now) (a .h) (c .before .before .sector-ranged .result) p .0 .room, p .slot, omega arith)
 
--- src/lib.rt:120:9
 returns-2 : tie.Need-returns-2
 returns-2 c = sym (reading-then _ _ _ _ _ (c .before .before .before .before .sector-ranged .ensures) (c .before .before .before .reading-number .ensures) (c .before .before .if1 .left)
     ∙ first-hit (ap (λ (n : ℕ). leb n (c .before .before .before .before .before .before .args .k)) (sym (c .before .word .ensures .is)) ∙ le-leb _ _ (c .if2 .taken)) _ _)
 
--- src/lib.rt:110:1
 returns-3 : tie.Need-returns-3
 returns-3 c = sym (reading-then _ _ _ _ _ (c .before .before .before .before .sector-ranged .ensures) (c .before .before .before .reading-number .ensures) (c .before .before .if1 .left)
     ∙ first-skip (ap (λ (n : ℕ). leb n (c .before .before .before .before .before .before .args .k)) (sym (c .before .word .ensures .is)) ∙ lt-leb _ _ (c .if2 .left)) _ _ ∙ first-none)

@@ -7,15 +7,12 @@ use Rattle.read.proofs.sector_ranged.Reads as reads
 use Rattle.read.proofs.sector_ranged.Lts as lts
 use Rattle.handle.proofs.in_range.Reads as in-range-reads
 
--- src/lib.rt:104:9
 in-range-requires : tie.Need-in-range-requires
 in-range-requires c κs = search needs
 
--- src/lib.rt:105:9
 returns : tie.Need-returns
 returns c = sym (all-no (is-no (c .before .in-range .ensures) (c .if1 .taken)) _)
 
--- src/lib.rt:101:1
 returns-2 : tie.Need-returns-2
 returns-2 c = sym (all-yes (is-yes (c .before .in-range .ensures) (c .if1 .left)) _ ∙ all-one _)
 

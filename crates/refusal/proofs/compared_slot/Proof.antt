@@ -7,20 +7,16 @@ use Rattle.refusal.proofs.compared_slot.Reads as reads
 use Rattle.refusal.proofs.compared_slot.Lts as lts
 use Rattle.refusal.proofs.slot_of.Reads as slot-of-reads
 
--- src/lib.rt:575:9
 slot-of-requires : tie.Need-slot-of-requires
 slot-of-requires c κs = search needs
 
--- src/lib.rt:575:9
 returns : tie.Need-returns
 unfolding comparedSlot
 returns c = rw (eq-eqb _ _ (c .before .if1 .taken)) (c .slot-of .ensures)
 
--- src/lib.rt:577:5
 slot-of-requires-2 : tie.Need-slot-of-requires-2
 slot-of-requires-2 c κs = search needs
 
--- src/lib.rt:564:1
 returns-2 : tie.Need-returns-2
 unfolding comparedSlot
 returns-2 c = rw (ne-eqb _ _ (c .before .if1 .left)) (c .slot-of2 .ensures)

@@ -14,20 +14,16 @@ use Rattle.refusal.proofs.short_number.Lts as lts
 use Rattle.diagnosis.proofs.checked.Reads as checked-reads
 use Rattle.refusal.proofs.slot_of.Reads as slot-of-reads
 
--- src/lib.rt:93:9
 checked-requires : tie.Need-checked-requires
 checked-requires c κs = search needs
 
--- src/lib.rt:94:19
 slot-of-requires : tie.Need-slot-of-requires
 slot-of-requires c κs = search needs
 
--- src/lib.rt:96:9
 returns : tie.Need-returns
 unfolding tooShort faultSlot
 returns c = (check-stop (c .before .before .before .before .args .g) (c .before .before .before .before .args .image .now) ((12, true) ∷ []) (c .before .before .checked .ensures) (c .if1 .taken), c .before .slot-of .ensures)
 
--- src/lib.rt:90:1
 returns-2 : tie.Need-returns-2
 unfolding tooShort faultSlot
 returns-2 c = (sym (check-then (c .before .before .before .before .args .g) (c .before .before .before .before .args .image .now) ((12, true) ∷ []) (c .before .before .checked .ensures) (c .if1 .left) ∙ first-hit refl 12 []), c .before .slot-of .ensures ∙ ap (λ (n : ℕ). faultSlot n (c .before .before .before .before .args .g) (c .before .before .before .before .args .image .now)) (c .if1 .left))

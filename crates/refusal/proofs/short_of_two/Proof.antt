@@ -9,33 +9,26 @@ use Rattle.refusal.proofs.short_of_two.Lts as lts
 use Rattle.diagnosis.proofs.checked.Reads as checked-reads
 use Rattle.refusal.proofs.slot_of.Reads as slot-of-reads
 
--- src/lib.rt:62:9
 checked-requires : tie.Need-checked-requires
 checked-requires c κs = search needs
 
--- src/lib.rt:65:23
 slot-of-requires : tie.Need-slot-of-requires
 slot-of-requires c κs = search needs
 
--- src/lib.rt:66:9
 returns : tie.Need-returns
 unfolding comparedSlot
 returns c = (of-first _ _ (c .before .before .checked .ensures) (c .before .if1 .taken), c .slot-of .ensures)
 
--- src/lib.rt:68:9
 checked-requires-2 : tie.Need-checked-requires-2
 checked-requires-2 c κs = search needs
 
--- src/lib.rt:71:23
 slot-of-requires-2 : tie.Need-slot-of-requires-2
 slot-of-requires-2 c κs = search needs
 
--- src/lib.rt:72:9
 returns-2 : tie.Need-returns-2
 unfolding comparedSlot
 returns-2 c = (of-second _ _ (c .before .before .before .before .checked .ensures) (c .before .before .before .if1 .left) (c .before .before .checked2 .ensures) (c .before .if2 .taken), c .slot-of2 .ensures)
 
--- src/lib.rt:52:1
 returns-3 : tie.Need-returns-3
 unfolding comparedSlot faultSlot
 returns-3 c = (of-neither _ _ (c .before .before .before .checked .ensures) (c .before .before .if1 .left) (c .before .checked2 .ensures) (c .if2 .left), refl)

@@ -10,21 +10,17 @@ use Rattle.refusal.proofs.slot_of.Reads as reads
 use Rattle.refusal.proofs.slot_of.Lts as lts
 use Rattle.diagnosis.proofs.check.Reads as check-reads
 
--- src/lib.rt:81:9
 returns : tie.Need-returns
 unfolding faultSlot
 returns c = rw (lt-ltb _ _ (c .if1 .taken)) refl
 
--- src/lib.rt:84:9
 returns-2 : tie.Need-returns-2
 unfolding faultSlot
 returns-2 c = rw (le-ltb _ _ (c .before .if1 .left), lt-ltb _ _ (c .if2 .taken)) refl
 
--- src/lib.rt:86:5
 check-requires : tie.Need-check-requires
 check-requires c κs = search needs
 
--- src/lib.rt:77:1
 returns-3 : tie.Need-returns-3
 unfolding faultSlot
 returns-3 c = rw (le-ltb _ _ (c .before .before .if1 .left), le-ltb _ _ (c .before .if2 .left)) (ap {B = ℕ} (λ (f : Fault). f .slot) (c .check .ensures))

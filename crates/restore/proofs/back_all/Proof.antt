@@ -15,39 +15,30 @@ Inv-loop image₀ g entries n h j₀ image j = Backing g h image₀ entries imag
 abbrev μ-loop : tie.MeasureT-loop
 μ-loop image₀ g entries n h j₀ image j = n - j
 
--- src/lib.rt:251:5
 loop-holds : tie.Need-loop-holds Inv-loop μ-loop
 loop-holds c = backing-start _ _ _ _ _
 
--- src/lib.rt:252:30
 mul-back-entry : tie.Need-mul-back-entry Inv-loop μ-loop
 mul-back-entry c = let q = c .before .before .before .before .pre .1 .few in omega arith
 
--- src/lib.rt:252:30
 element-copy-out-back-entry : tie.Need-element-copy-out-back-entry Inv-loop μ-loop
 element-copy-out-back-entry c = let q = c .before .before .before .before .pre .1 .few in omega arith
 
--- src/lib.rt:252:9
 back-entry-requires : tie.Need-back-entry-requires Inv-loop μ-loop
 back-entry-requires c κs = (kept-room _ (c .before .before .before .before .before .pre .0) (c .before .before .before .loop .inv .kept), kept-slot _ (c .before .before .before .loop .inv .kept) (c .before .before .before .before .before .pre .1 .entry _ (c .before .before .loop-test .taken) .slot), c .before .before .before .before .before .pre .2)
 
--- src/lib.rt:253:9
 add-back : tie.Need-add-back Inv-loop μ-loop
 add-back c = let q = c .before .before .before .before .before .before .before .before .pre .1 .few in omega arith
 
--- src/lib.rt:251:5
 loop-less : tie.Need-loop-less Inv-loop μ-loop
 loop-less c = omega arith
 
--- src/lib.rt:251:5
 loop-again : tie.Need-loop-again Inv-loop μ-loop
 loop-again c = backing-more _ (c .before .before .before .before .before .before .before .before .pre .0) (c .before .before .before .before .before .before .before .before .pre .1) (c .before .before .before .before .before .before .loop .inv) (c .before .before .before .before .before .loop-test .taken) (c .before .before .back-entry .ensures)
 
--- src/lib.rt:246:1
 same-length : tie.Need-same-length Inv-loop μ-loop
 same-length c = c .before .loop .inv .kept .long
 
--- src/lib.rt:246:1
 returns : tie.Need-returns Inv-loop μ-loop
 returns c = done-end (c .before .loop .inv .done) (c .loop-test .left)
 

@@ -20,39 +20,30 @@ Inv-loop image₀ g entries n j₀ image j = Taking g image₀ (λ k. each (entr
 abbrev μ-loop : tie.MeasureT-loop
 μ-loop image₀ g entries n j₀ image j = n - j
 
--- src/lib.rt:229:5
 loop-holds : tie.Need-loop-holds Inv-loop μ-loop
 loop-holds c = taking-start _ _ _ (all-steps _ _)
 
--- src/lib.rt:230:30
 mul-take-entry : tie.Need-mul-take-entry Inv-loop μ-loop
 mul-take-entry c = let q = c .before .before .before .before .pre .1 .few in omega arith
 
--- src/lib.rt:230:30
 element-copy-out-take-entry : tie.Need-element-copy-out-take-entry Inv-loop μ-loop
 element-copy-out-take-entry c = let q = c .before .before .before .before .pre .1 .few in omega arith
 
--- src/lib.rt:230:9
 take-entry-requires : tie.Need-take-entry-requires Inv-loop μ-loop
 take-entry-requires c κs = (same-room _ _ _ (c .before .before .before .before .before .pre .0) (c .before .before .before .loop .inv .same), same-on-disk _ (c .before .before .before .before .before .pre .0) (c .before .before .before .loop .inv .same) (c .before .before .before .before .before .pre .1 .entry _ (c .before .before .loop-test .taken)))
 
--- src/lib.rt:231:9
 add-j : tie.Need-add-j Inv-loop μ-loop
 add-j c = let q = c .before .before .before .before .before .before .before .before .pre .1 .few in omega arith
 
--- src/lib.rt:229:5
 loop-less : tie.Need-loop-less Inv-loop μ-loop
 loop-less c = omega arith
 
--- src/lib.rt:229:5
 loop-again : tie.Need-loop-again Inv-loop μ-loop
 loop-again c = taking-entry _ (c .before .before .before .before .before .before .before .before .pre .0) (c .before .before .before .before .before .before .before .before .pre .1) (c .before .before .before .before .before .before .loop .inv) (c .before .before .before .before .before .loop-test .taken) (c .before .before .take-entry .ensures)
 
--- src/lib.rt:224:1
 same-length : tie.Need-same-length Inv-loop μ-loop
 same-length c = c .before .loop .inv .same .long
 
--- src/lib.rt:224:1
 returns : tie.Need-returns Inv-loop μ-loop
 returns c = done-end (c .before .loop .inv .done) (c .loop-test .left)
 

@@ -23,43 +23,33 @@ Inv-loop image₀ g s n j₀ image j = Taking g image₀ (λ k. each (runGranule
 abbrev μ-loop : tie.MeasureT-loop
 μ-loop image₀ g s n j₀ image j = n - j
 
--- src/lib.rt:213:9
 runs-requires : tie.Need-runs-requires Inv-loop μ-loop
 runs-requires c κs = (c .before .before .pre .0, c .before .before .pre .1 .slot)
 
--- src/lib.rt:215:5
 loop-holds : tie.Need-loop-holds Inv-loop μ-loop
 loop-holds c = taking-start _ _ _ (entry-steps _)
 
--- src/lib.rt:216:13
 run-start-requires : tie.Need-run-start-requires Inv-loop μ-loop
 run-start-requires c κs = (same-room _ _ _ (c .before .before .before .before .before .before .pre .0) (c .before .before .loop .inv .same), same-slot _ _ _ (c .before .before .before .before .before .before .pre .0) (c .before .before .loop .inv .same) (c .before .before .before .before .before .before .pre .1 .slot), let q = c .before .before .before .runs .ensures .small in omega arith)
 
--- src/lib.rt:217:13
 run-length-requires : tie.Need-run-length-requires Inv-loop μ-loop
 run-length-requires c κs = (same-room _ _ _ (c .before .before .before .before .before .before .before .before .pre .0) (c .before .before .before .before .loop .inv .same), same-slot _ _ _ (c .before .before .before .before .before .before .before .before .pre .0) (c .before .before .before .before .loop .inv .same) (c .before .before .before .before .before .before .before .before .pre .1 .slot), let q = c .before .before .before .before .before .runs .ensures .small in omega arith)
 
--- src/lib.rt:218:9
 take-run-requires : tie.Need-take-run-requires Inv-loop μ-loop
 take-run-requires c κs = (same-room _ _ _ (c .before .before .before .before .before .before .before .before .before .before .pre .0) (c .before .before .before .before .before .before .loop .inv .same), run-fits _ (c .before .before .before .before .before .before .before .before .before .before .pre .0) (c .before .before .before .before .before .before .before .before .before .before .pre .1) (c .before .before .before .before .before .before .before .runs .ensures .is) (c .before .before .before .before .before .before .loop .inv .same) (c .before .before .before .before .before .loop-test .taken) (c .before .before .before .run-start .ensures .is) (c .before .run-length .ensures .is))
 
--- src/lib.rt:219:9
 add-j : tie.Need-add-j Inv-loop μ-loop
 add-j c = let q = c .before .before .before .before .before .before .before .before .before .before .runs .ensures .small in omega arith
 
--- src/lib.rt:215:5
 loop-less : tie.Need-loop-less Inv-loop μ-loop
 loop-less c = omega arith
 
--- src/lib.rt:215:5
 loop-again : tie.Need-loop-again Inv-loop μ-loop
 loop-again c = taking-run _ (c .before .before .before .before .before .before .before .before .before .before .before .before .before .pre .0) (c .before .before .before .before .before .before .before .before .before .before .before .before .before .pre .1) (c .before .before .before .before .before .before .before .before .before .before .runs .ensures .is) (c .before .before .before .before .before .before .before .before .before .loop .inv) (c .before .before .before .before .before .before .before .before .loop-test .taken) (c .before .before .before .before .before .before .run-start .ensures .is) (c .before .before .before .before .run-length .ensures .is) (c .before .before .take-run .ensures)
 
--- src/lib.rt:209:1
 same-length : tie.Need-same-length Inv-loop μ-loop
 same-length c = c .before .loop .inv .same .long
 
--- src/lib.rt:209:1
 returns : tie.Need-returns Inv-loop μ-loop
 returns c = done-end (c .before .loop .inv .done) (c .loop-test .left) ∙ ap (through _ _) (runs-are _ _ _ (c .before .before .runs .ensures .is))
 

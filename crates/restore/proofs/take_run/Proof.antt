@@ -17,35 +17,27 @@ Inv-loop image₀ g a n k₀ image k = Taking g image₀ (count a) image k n
 abbrev μ-loop : tie.MeasureT-loop
 μ-loop image₀ g a n k₀ image k = n - k
 
--- src/lib.rt:202:5
 loop-holds : tie.Need-loop-holds Inv-loop μ-loop
 loop-holds c = taking-start _ _ _ (run-steps _)
 
--- src/lib.rt:203:39
 add-take-granule : tie.Need-add-take-granule Inv-loop μ-loop
 add-take-granule c = let m = c .before .before .before .before .pre .0 .most in omega arith
 
--- src/lib.rt:203:9
 take-granule-requires : tie.Need-take-granule-requires Inv-loop μ-loop
 take-granule-requires c κs = (same-room _ _ _ (c .before .before .before .before .pre .0) (c .before .before .loop .inv .same), omega arith)
 
--- src/lib.rt:204:9
 add-k : tie.Need-add-k Inv-loop μ-loop
 add-k c = omega arith
 
--- src/lib.rt:202:5
 loop-less : tie.Need-loop-less Inv-loop μ-loop
 loop-less c = omega arith
 
--- src/lib.rt:202:5
 loop-again : tie.Need-loop-again Inv-loop μ-loop
 loop-again c = taking-more _ (run-steps _) (c .before .before .before .before .before .before .before .pre .0) (c .before .before .before .before .before .loop .inv) (c .before .before .before .before .loop-test .taken) (under-one _ (omega arith)) (c .before .before .take-granule .ensures)
 
--- src/lib.rt:197:1
 same-length : tie.Need-same-length Inv-loop μ-loop
 same-length c = c .before .loop .inv .same .long
 
--- src/lib.rt:197:1
 returns : tie.Need-returns Inv-loop μ-loop
 returns c = done-end (c .before .loop .inv .done) (c .loop-test .left)
 

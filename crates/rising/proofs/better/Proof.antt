@@ -10,31 +10,24 @@ use Rattle.rising.proofs.is_after.Reads as is-after-reads
 use Rattle.rising.proofs.slot_before.Reads as slot-before-reads
 use Rattle.layout.proofs.primary.Reads as primary-reads
 
--- src/lib.rt:78:9
 primary-requires : tie.Need-primary-requires
 primary-requires c κs = search needs
 
--- src/lib.rt:79:9
 returns : tie.Need-returns
 returns c = betters-first _ _ _ _ _ (is-no (c .before .primary .ensures) (c .if1 .taken))
 
--- src/lib.rt:81:9
 is-after-requires : tie.Need-is-after-requires
 is-after-requires c κs = search needs
 
--- src/lib.rt:82:9
 returns-2 : tie.Need-returns-2
 returns-2 c = betters-after _ _ _ _ _ (is-yes (c .before .before .before .primary .ensures) (c .before .before .if1 .left)) (is-no (c .before .is-after .ensures) (c .if2 .taken))
 
--- src/lib.rt:85:9
 returns-3 : tie.Need-returns-3
 returns-3 c = betters-none _ _ _ _ _ (is-yes (c .before .before .before .before .primary .ensures) (c .before .before .before .if1 .left)) (is-yes (c .before .before .is-after .ensures) (c .before .if2 .left)) (c .if3 .taken)
 
--- src/lib.rt:87:5
 slot-before-requires : tie.Need-slot-before-requires
 slot-before-requires c κs = let n = c .if3 .left in let l = c .before .before .before .before .before .before .before .pre .3 in (c .before .before .before .before .before .before .before .pre .0, c .before .before .before .before .before .before .before .pre .1, c .before .before .before .before .before .before .before .pre .0, c .before .before .before .before .before .before .before .pre .4 (omega arith) .slot)
 
--- src/lib.rt:74:1
 returns-4 : tie.Need-returns-4
 returns-4 c = betters-than _ _ _ _ _ (is-yes (c .before .before .before .before .before .primary .ensures) (c .before .before .before .before .if1 .left)) (is-yes (c .before .before .before .is-after .ensures) (c .before .before .if2 .left)) (c .before .if3 .left) (c .slot-before .ensures)
 

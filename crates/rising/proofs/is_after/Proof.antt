@@ -9,15 +9,12 @@ use Rattle.rising.proofs.is_after.Lts as lts
 use Rattle.rising.proofs.name_before.Reads as name-before-reads
 use Rattle.rising.proofs.name_place.Reads as name-place-reads
 
--- src/lib.rt:59:9
 name-place-requires : tie.Need-name-place-requires
 name-place-requires c κs = search needs
 
--- src/lib.rt:60:5
 name-before-requires : tie.Need-name-before-requires
 name-before-requires c κs = search needs
 
--- src/lib.rt:55:1
 returns : tie.Need-returns
 returns c = let a = c .before .before .before .before .args in let x = whole-name (a .last .now) (c .before .before .before .before .pre .2) in let y = placed-name (a .g) (a .image .now) (a .s) _ (c .before .name-place .ensures) in c .name-before .ensures ∙ (λ i. before (x i) (y i))
 

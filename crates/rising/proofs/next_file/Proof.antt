@@ -18,47 +18,36 @@ Inv-loop image g last columns best₀ s₀ best s = (s ≤ 256) × Least g image
 abbrev μ-loop : tie.MeasureT-loop
 μ-loop image g last columns best₀ s₀ best s = 256 - s
 
--- src/lib.rt:95:19
 directory-sectors-requires : tie.Need-directory-sectors-requires Inv-loop μ-loop
 directory-sectors-requires c κs = search needs
 
--- src/lib.rt:95:19
 sub-columns : tie.Need-sub-columns Inv-loop μ-loop
 sub-columns c = let e = c .directory-sectors .ensures in let t = c .before .before .before .pre .0 .ten in omega arith
 
--- src/lib.rt:98:5
 loop-holds : tie.Need-loop-holds Inv-loop μ-loop
 loop-holds c = (omega arith, least-start _ _ _)
 
--- src/lib.rt:100:23
 add-s : tie.Need-add-s Inv-loop μ-loop
 add-s c = search needs
 
--- src/lib.rt:100:17
 mul-s : tie.Need-mul-s Inv-loop μ-loop
 mul-s c = search needs
 
--- src/lib.rt:98:5
 loop-less : tie.Need-loop-less Inv-loop μ-loop
 loop-less c = search needs
 
--- src/lib.rt:98:5
 loop-again : tie.Need-loop-again Inv-loop μ-loop
 loop-again c = (omega arith, least-past _ _ _ (c .before .loop-test .taken) (ap (λ (k : ℕ). k - 2) (c .before .before .before .directory-sectors .ensures)) (c .if1 .taken) (c .before .before .loop .inv .1))
 
--- src/lib.rt:103:12
 better-requires : tie.Need-better-requires Inv-loop μ-loop
 better-requires c κs = (c .before .before .before .before .before .before .pre .0, record { low = c .before .loop-test .taken; held = let e = c .before .before .before .directory-sectors .ensures in let t = c .if1 .left in omega arith }, c .before .before .before .before .before .before .pre .1, c .before .before .loop .inv .1 .low, c .before .before .loop .inv .1 .is)
 
--- src/lib.rt:106:9
 add-s-2 : tie.Need-add-s-2 Inv-loop μ-loop
 add-s-2 c = search needs
 
--- src/lib.rt:98:5
 loop-less-2 : tie.Need-loop-less-2 Inv-loop μ-loop
 loop-less-2 c = search needs
 
--- src/lib.rt:98:5
 loop-again-2 : tie.Need-loop-again-2 Inv-loop μ-loop
 loop-again-2 c = let l = c .before .before .before .loop-test .taken in (
   omega arith,
@@ -68,7 +57,6 @@ loop-again-2 c = let l = c .before .before .before .loop-test .taken in (
       (c .if2 .came),
 )
 
--- src/lib.rt:91:1
 returns : tie.Need-returns Inv-loop μ-loop
 returns c = least-end _ _ _ (c .loop-test .left) (c .before .loop .inv .1)
 

@@ -9,19 +9,15 @@ use Rattle.rising.proofs.slot_before.Lts as lts
 use Rattle.rising.proofs.name_before.Reads as name-before-reads
 use Rattle.rising.proofs.name_place.Reads as name-place-reads
 
--- src/lib.rt:68:9
 name-place-requires : tie.Need-name-place-requires
 name-place-requires c κs = search needs
 
--- src/lib.rt:69:9
 name-place-requires-2 : tie.Need-name-place-requires-2
 name-place-requires-2 c κs = search needs
 
--- src/lib.rt:70:5
 name-before-requires : tie.Need-name-before-requires
 name-before-requires c κs = search needs
 
--- src/lib.rt:64:1
 returns : tie.Need-returns
 returns c = let a = c .before .before .before .before .before .args in let x = placed-name (a .g) (a .first .now) (a .s) _ (c .before .before .name-place .ensures) in let y = placed-name (a .h) (a .second .now) (a .t) _ (c .before .name-place2 .ensures) in c .name-before .ensures ∙ (λ i. before (x i) (y i))
 

@@ -14,43 +14,33 @@ Inv-loop image g s k left at₀ seek₀ more₀ at seek more = Walking g image s
 abbrev μ-loop : tie.MeasureT-loop
 μ-loop image g s k left at₀ seek₀ more₀ at seek more = more
 
--- src/lib.rt:56:5
 loop-holds : tie.Need-loop-holds Inv-loop μ-loop
 loop-holds c = walking-start _ _ _ _ (c .before .pre .1)
 
--- src/lib.rt:57:13
 seek-entry-requires : tie.Need-seek-entry-requires Inv-loop μ-loop
 seek-entry-requires c κs = (c .before .before .before .pre .0 .room, c .before .loop .inv .used .slot, let w = c .before .loop .inv .low in omega arith)
 
--- src/lib.rt:59:13
 returns : tie.Need-returns Inv-loop μ-loop
 returns c = (walking-here _ _ (c .before .before .before .loop .inv) (c .before .before .loop-test .taken) (c .before .seek-entry .ensures) (c .if1 .taken), let w = c .before .before .before .loop .inv .low in omega (arith, c .before .seek-entry .ensures .small))
 
--- src/lib.rt:61:12
 field-requires : tie.Need-field-requires Inv-loop μ-loop
 field-requires c κs = (c .before .before .before .before .before .pre .0 .room, c .before .before .before .loop .inv .used .slot, omega arith)
 
--- src/lib.rt:62:13
 returns-2 : tie.Need-returns-2 Inv-loop μ-loop
 returns-2 c = (walking-stop _ _ (c .before .before .before .before .before .loop .inv) (c .before .before .before .before .loop-test .taken) (c .before .before .before .seek-entry .ensures) (c .before .before .if1 .left) (c .before .field .ensures .is) (c .if2 .taken), omega arith)
 
--- src/lib.rt:64:9
 field-requires-2 : tie.Need-field-requires-2 Inv-loop μ-loop
 field-requires-2 c κs = (c .before .before .before .before .before .before .before .pre .0 .room, c .before .before .before .before .before .loop .inv .used .slot, omega arith)
 
--- src/lib.rt:66:9
 sub-more : tie.Need-sub-more Inv-loop μ-loop
 sub-more c = search needs
 
--- src/lib.rt:56:5
 loop-less : tie.Need-loop-less Inv-loop μ-loop
 loop-less c = search needs
 
--- src/lib.rt:56:5
 loop-again : tie.Need-loop-again Inv-loop μ-loop
 loop-again c = walking-step _ _ (c .before .before .before .before .before .before .before .before .pre .0) (c .before .before .before .before .before .before .loop .inv) (c .before .before .before .before .before .loop-test .taken) (c .before .before .before .before .seek-entry .ensures) (c .before .before .before .if1 .left) (c .before .before .field .ensures .is) (c .before .if2 .left) (c .field2 .ensures .is)
 
--- src/lib.rt:49:1
 returns-3 : tie.Need-returns-3 Inv-loop μ-loop
 returns-3 c = (walking-end _ _ (c .before .loop .inv) (c .loop-test .left), omega arith)
 

@@ -14,23 +14,18 @@ use Rattle.seek.proofs.owned_at.Lts as lts
 use Rattle.layout.proofs.directory_sectors.Reads as directory-sectors-reads
 use Rattle.seek.proofs.entry_walk.Reads as entry-walk-reads
 
--- src/lib.rt:74:9
 directory-sectors-requires : tie.Need-directory-sectors-requires
 directory-sectors-requires c κs = search needs
 
--- src/lib.rt:75:37
 sub-entry-walk : tie.Need-sub-entry-walk
 sub-entry-walk c = search needs
 
--- src/lib.rt:75:32
 mul-entry-walk : tie.Need-mul-entry-walk
 mul-entry-walk c = search needs
 
--- src/lib.rt:75:5
 entry-walk-requires : tie.Need-entry-walk-requires
 entry-walk-requires c κs = search needs
 
--- src/lib.rt:70:1
 returns : tie.Need-returns
 unfolding owned chain
 returns c = let a = c .before .before .before .args in (c .entry-walk .ensures .0 ∙ ap (λ (n : ℕ). getD (each (entryGranules (a .g) (a .image .now)) (chainFrom (a .g) (a .image .now) n (a .s))) (a .k) 0) (ap (λ (n : ℕ). 8 * (n - 2)) (c .before .directory-sectors .ensures) ∙ sym (slots-length (a .g) (a .image .now) (omega arith) (omega arith))), c .entry-walk .ensures .1)

@@ -6,19 +6,15 @@ use Rattle.seek.proofs.place.Reads as reads
 use Rattle.seek.proofs.place.Lts as lts
 use Rattle.seek.proofs.owned_at.Reads as owned-at-reads
 
--- src/lib.rt:83:29
 owned-at-requires : tie.Need-owned-at-requires
 owned-at-requires c κs = search needs
 
--- src/lib.rt:83:5
 mul-result : tie.Need-mul-result
 mul-result c = search needs
 
--- src/lib.rt:83:5
 add-result : tie.Need-add-result
 add-result c = search needs
 
--- src/lib.rt:79:1
 returns : tie.Need-returns
 unfolding place
 returns c = cc

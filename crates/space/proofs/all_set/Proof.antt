@@ -10,19 +10,15 @@ use Rattle.space.proofs.all_set.Tie as tie
 use Rattle.space.proofs.all_set.Reads as reads
 use Rattle.space.proofs.all_set.Lts as lts
 
--- src/lib.rt:175:13
 shl-m : tie.Need-shl-m
 shl-m c = search needs
 
--- src/lib.rt:176:5
 rem-result : tie.Need-rem-result
 rem-result c = let e = shl-wide (c .args .bits) (c .pre .0) in let p = pow-pos (c .args .bits) in omega arith
 
--- src/lib.rt:176:17
 sub-result : tie.Need-sub-result
 sub-result c = let e = shl-wide (c .args .bits) (c .pre .0) in let p = pow-pos (c .args .bits) in omega arith
 
--- src/lib.rt:171:1
 returns : tie.Need-returns
 returns c = ap (λ (k : ℕ). eqb (c .args .byte % k) (k - 1)) (shl-wide (c .args .bits) (c .pre .0)) ∙ set-all (c .args .bits) (c .args .byte) (c .pre .0) (c .pre .1)
 

@@ -13,39 +13,30 @@ use Rattle.space.proofs.block_taken.Lts as lts
 use Rattle.layout.proofs.wide.Reads as wide-reads
 use Rattle.space.proofs.all_set.Reads as all-set-reads
 
--- src/lib.rt:184:8
 rem-if1 : tie.Need-rem-if1
 rem-if1 c = search needs
 
--- src/lib.rt:185:9
 returns : tie.Need-returns
 returns c = sym (all-no (ne-eqb (c .before .before .before .args .n % c .before .before .before .args .g .units) 0 (c .if1 .taken)) _)
 
--- src/lib.rt:187:32
 mul-wide : tie.Need-mul-wide
 mul-wide c = search needs
 
--- src/lib.rt:187:48
 div-wide : tie.Need-div-wide
 div-wide c = search needs
 
--- src/lib.rt:187:32
 add-wide : tie.Need-add-wide
 add-wide c = omega (arith, gat-low (c .before .before .before .before .before .args .g) (c .before .before .before .before .before .args .n) (omega arith) (omega arith))
 
--- src/lib.rt:187:26
 shared-slice-read-wide : tie.Need-shared-slice-read-wide
 shared-slice-read-wide c = omega (arith, gat-low (c .before .before .before .before .before .before .args .g) (c .before .before .before .before .before .before .args .n) (omega arith) (omega arith))
 
--- src/lib.rt:187:13
 wide-requires : tie.Need-wide-requires
 wide-requires c κs = search needs
 
--- src/lib.rt:187:5
 all-set-requires : tie.Need-all-set-requires
 all-set-requires c κs = search needs
 
--- src/lib.rt:180:1
 returns-2 : tie.Need-returns-2
 returns-2 c = let e = block-every (c .before .before .before .before .before .before .before .before .args .g) (c .before .before .before .before .before .before .before .before .args .image .now) (c .before .before .before .before .before .before .before .before .args .n) (c .before .before .before .before .before .before .before .before .pre .0 .units-low) (c .before .before .before .before .before .if1 .left) (c .before .wide .ensures .is) in
     c .all-set .ensures ∙ e ∙ sym (all-yes (eq-eqb (c .before .before .before .before .before .before .before .before .args .n % c .before .before .before .before .before .before .before .before .args .g .units) 0 (c .before .before .before .before .before .if1 .left)) _ ∙ all-one _)

@@ -10,23 +10,18 @@ use Rattle.space.proofs.clear_bits.Tie as tie
 use Rattle.space.proofs.clear_bits.Reads as reads
 use Rattle.space.proofs.clear_bits.Lts as lts
 
--- src/lib.rt:166:23
 shl-low : tie.Need-shl-low
 shl-low c = search needs
 
--- src/lib.rt:166:15
 rem-low : tie.Need-rem-low
 rem-low c = let e = shl-wide (c .args .bits) (c .pre) in let p = pow-pos (c .args .bits) in omega arith
 
--- src/lib.rt:167:13
 cast-result : tie.Need-cast-result
 cast-result c = let e = ap (λ (k : ℕ). ones (c .args .byte % k)) (shl-wide (c .args .bits) (c .pre)) in let q = clear-ones (c .args .bits) (c .args .byte) in omega arith
 
--- src/lib.rt:167:5
 sub-result : tie.Need-sub-result
 sub-result c = let e = ap (λ (k : ℕ). ones (c .args .byte % k)) (shl-wide (c .args .bits) (c .pre)) in let q = clear-ones (c .args .bits) (c .args .byte) in omega arith
 
--- src/lib.rt:162:1
 returns : tie.Need-returns
 returns c = let e = ap (λ (k : ℕ). ones (c .args .byte % k)) (shl-wide (c .args .bits) (c .pre)) in let q = clear-ones (c .args .bits) (c .args .byte) in (omega arith, omega arith)
 

@@ -24,66 +24,51 @@ Inv-rows image g n found₀ row₀ found row = (row ≤ 8) × (found ≡ 256) ×
 abbrev μ-rows : tie.MeasureT-rows
 μ-rows image g n found₀ row₀ found row = 8 - row
 
--- src/lib.rt:137:13
 directory-sectors-requires : tie.Need-directory-sectors-requires Inv-loop μ-loop Inv-rows μ-rows
 directory-sectors-requires c κs = search needs
 
--- src/lib.rt:137:13
 sub-n : tie.Need-sub-n Inv-loop μ-loop Inv-rows μ-rows
 sub-n c = let e = c .directory-sectors .ensures in let t = c .before .before .pre .ten in omega arith
 
--- src/lib.rt:140:5
 rows-holds : tie.Need-rows-holds Inv-loop μ-loop Inv-rows μ-rows
 rows-holds c = (omega arith, refl, λ k h. absurd (omega arith))
 
--- src/lib.rt:145:9
 loop-holds : tie.Need-loop-holds Inv-loop μ-loop Inv-rows μ-rows
 loop-holds c = ⊎-elim
     (λ w. let t = w .0 .taken in let e = w .1 in (c .before .rows-test .taken, (λ q. omega arith), c .before .before .rows .inv .1, none-kept (c .before .before .before .before .before .args .g) (c .before .before .before .before .before .args .image .now) (c .before .rows-test .taken) (c .before .before .rows .inv .2) (λ z. absurd (omega arith)) (λ z. e)))
     (λ w. let t = w .0 .left in let e = w .1 in (c .before .rows-test .taken, (λ q. absurd (omega arith)), c .before .before .rows .inv .1, none-kept (c .before .before .before .before .before .args .g) (c .before .before .before .before .before .args .image .now) (c .before .rows-test .taken) (c .before .before .rows .inv .2) (λ z. e) (λ z. absurd (omega arith))))
     (c .if1 .came)
 
--- src/lib.rt:146:24
 mul-slot : tie.Need-mul-slot Inv-loop μ-loop Inv-rows μ-rows
 mul-slot c = search needs
 
--- src/lib.rt:146:24
 add-slot : tie.Need-add-slot Inv-loop μ-loop Inv-rows μ-rows
 add-slot c = search needs
 
--- src/lib.rt:147:16
 hit-requires : tie.Need-hit-requires Inv-loop μ-loop Inv-rows μ-rows
 hit-requires c κs = search needs
 
--- src/lib.rt:151:13
 add-s : tie.Need-add-s Inv-loop μ-loop Inv-rows μ-rows
 add-s c = search needs
 
--- src/lib.rt:145:9
 loop-less : tie.Need-loop-less Inv-loop μ-loop Inv-rows μ-rows
 loop-less c = search needs
 
--- src/lib.rt:145:9
 loop-again : tie.Need-loop-again Inv-loop μ-loop Inv-rows μ-rows
 loop-again c = (c .before .before .before .before .before .before .rows-test .taken, (λ q. let w = c .before .before .before .before .loop .inv .1 q in omega arith), c .before .before .before .before .loop .inv .2, none-step (freeSlot (c .before .before .before .before .before .before .before .before .before .before .args .g) (c .before .before .before .before .before .before .before .before .before .before .args .image .now)) _ (c .before .before .before .before .loop .inv .3) (slot-used (c .before .before .before .before .before .before .before .before .before .before .args .g) (c .before .before .before .before .before .before .before .before .before .before .args .image .now) _ (λ z. c .if2 .left (c .before .hit .ensures .is ∙ z))) (omega arith))
 
--- src/lib.rt:153:9
 add-row : tie.Need-add-row Inv-loop μ-loop Inv-rows μ-rows
 add-row c = search needs
 
--- src/lib.rt:140:5
 rows-less : tie.Need-rows-less Inv-loop μ-loop Inv-rows μ-rows
 rows-less c = search needs
 
--- src/lib.rt:140:5
 rows-again : tie.Need-rows-again Inv-loop μ-loop Inv-rows μ-rows
 rows-again c = (omega arith, c .before .loop .inv .2, none-row (c .before .before .before .before .before .before .before .args .g) (c .before .before .before .before .before .before .before .args .image .now) (c .before .before .before .rows-test .taken) (ap (λ (k : ℕ). k - 2) (c .before .before .before .before .before .directory-sectors .ensures)) (c .loop-test .left) refl (c .before .loop .inv .3))
 
--- src/lib.rt:133:1
 returns : tie.Need-returns Inv-loop μ-loop Inv-rows μ-rows
 returns c = let e : c .before .rows .row ≡ 8 = omega arith in c .before .rows .inv .1 ∙ slots-none (c .before .before .before .before .args .g) (c .before .before .before .before .args .image .now) (λ k h. c .before .rows .inv .2 k (omega arith))
 
--- src/lib.rt:133:1
 returns-2 : tie.Need-returns-2 Inv-loop μ-loop Inv-rows μ-rows
 returns-2 c = let e = c .before .before .before .before .before .before .before .before .directory-sectors .ensures in let t = c .before .before .before .before .before .before .before .before .before .before .pre .thirty in slots-first (c .before .before .before .before .before .before .before .before .before .before .args .g) (c .before .before .before .before .before .before .before .before .before .before .args .image .now) _ (omega arith) (c .before .before .before .before .loop .inv .3) (slot-free (c .before .before .before .before .before .before .before .before .before .before .args .g) (c .before .before .before .before .before .before .before .before .before .before .args .image .now) _ _ (c .before .before .before .before .before .before .rows-test .taken) (omega arith) t (c .before .before .before .before .loop .inv .1) (sym (c .before .hit .ensures .is) ∙ c .if2 .taken))
 

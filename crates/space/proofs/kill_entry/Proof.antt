@@ -10,59 +10,45 @@ use Rattle.space.proofs.kill_entry.Reads as reads
 use Rattle.space.proofs.kill_entry.Lts as lts
 use Rattle.space.proofs.without_bit.Reads as without-bit-reads
 
--- src/lib.rt:48:21
 add-at : tie.Need-add-at
 add-at c = search needs
 
--- src/lib.rt:48:21
 add-at-2 : tie.Need-add-at-2
 add-at-2 c = search needs
 
--- src/lib.rt:48:14
 mul-at : tie.Need-mul-at
 mul-at c = search needs
 
--- src/lib.rt:48:45
 mul-at-2 : tie.Need-mul-at-2
 mul-at-2 c = search needs
 
--- src/lib.rt:48:14
 add-at-3 : tie.Need-add-at-3
 add-at-3 c = search needs
 
--- src/lib.rt:49:29
 slice-read-without-bit : tie.Need-slice-read-without-bit
 slice-read-without-bit c = search needs
 
--- src/lib.rt:49:17
 without-bit-requires : tie.Need-without-bit-requires
 without-bit-requires c κs = search needs
 
--- src/lib.rt:49:5
 slice-write-image : tie.Need-slice-write-image
 slice-write-image c = search needs
 
--- src/lib.rt:50:18
 add-image : tie.Need-add-image
 add-image c = search needs
 
--- src/lib.rt:50:11
 mul-image : tie.Need-mul-image
 mul-image c = search needs
 
--- src/lib.rt:50:11
 add-image-2 : tie.Need-add-image-2
 add-image-2 c = search needs
 
--- src/lib.rt:50:5
 slice-write-image-2 : tie.Need-slice-write-image-2
 slice-write-image-2 c = simp length-set (omega arith)
 
--- src/lib.rt:44:1
 same-length : tie.Need-same-length
 same-length c = search needs
 
--- src/lib.rt:44:1
 returns : tie.Need-returns
 unfolding killEntry setField field
 returns c = simp (add-zero, c .before .without-bit .ensures)

@@ -18,31 +18,24 @@ Inv-loop name from to i₀ i = every (eqb 0x20) (take (to - from) (drop from nam
 abbrev μ-loop : tie.MeasureT-loop
 μ-loop name from to i₀ i = to - i
 
--- src/lib.rt:59:5
 loop-holds : tie.Need-loop-holds Inv-loop μ-loop
 loop-holds c = refl
 
--- src/lib.rt:60:12
 shared-slice-read-if1 : tie.Need-shared-slice-read-if1 Inv-loop μ-loop
 shared-slice-read-if1 c = search needs
 
--- src/lib.rt:61:13
 returns : tie.Need-returns Inv-loop μ-loop
 returns c = sym (c .before .before .before .loop .inv ∙ every-stop (c .before .before .before .before .args .name .now) (c .before .before .before .before .args .to) (c .before .before .before .loop .i) (eqb 0x20) (c .before .before .loop-test .taken) (omega arith) (ne-eqb _ _ (λ q. (c .if1 .taken) (sym q))))
 
--- src/lib.rt:63:9
 add-i : tie.Need-add-i Inv-loop μ-loop
 add-i c = search needs
 
--- src/lib.rt:59:5
 loop-less : tie.Need-loop-less Inv-loop μ-loop
 loop-less c = search needs
 
--- src/lib.rt:59:5
 loop-again : tie.Need-loop-again Inv-loop μ-loop
 loop-again c = (c .before .before .before .loop .inv) ∙ every-more (c .before .before .before .before .args .name .now) (c .before .before .before .before .args .to) (c .before .before .before .loop .i) (eqb 0x20) (c .before .before .loop-test .taken) (omega arith) (eq-eqb _ _ (sym (c .if1 .left)))
 
--- src/lib.rt:54:1
 returns-2 : tie.Need-returns-2 Inv-loop μ-loop
 returns-2 c = sym (c .before .loop .inv ∙ ap (every (eqb 0x20)) (part-none (c .before .before .args .name .now) (c .before .before .args .to) (c .before .loop .i) (c .loop-test .left)))
 

@@ -7,15 +7,12 @@ use Rattle.spelling.proofs.blanks_last.Reads as reads
 use Rattle.spelling.proofs.blanks_last.Lts as lts
 use Rattle.layout.proofs.eight.Reads as eight-reads
 
--- src/lib.rt:77:20
 eight-requires : tie.Need-eight-requires
 eight-requires c κs = search needs
 
--- src/lib.rt:77:20
 add-letters : tie.Need-add-letters
 add-letters c = let z = eight-room (c .before .before .args .name .now) (c .before .before .pre .0) (λ i. omega (arith, c .before .shared-slice-known .given i)) (c .before .before .pre .1) in let e = c .eight .ensures in omega arith
 
--- src/lib.rt:73:1
 returns : tie.Need-returns
 returns c = rw (c .eight .ensures) (eight-begins (c .before .before .args .name .now) (c .before .before .pre .0) (λ i. omega (arith, c .before .shared-slice-known .given i)) (c .before .before .pre .1))
 

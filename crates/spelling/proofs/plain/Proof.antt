@@ -8,11 +8,9 @@ use Rattle.spelling.proofs.plain.Reads as reads
 use Rattle.spelling.proofs.plain.Lts as lts
 use Rattle.spelling.proofs.letter.Reads as letter-reads
 
--- src/lib.rt:37:19
 letter-requires : tie.Need-letter-requires
 letter-requires c κs = search needs
 
--- src/lib.rt:34:1
 returns : tie.Need-returns
 returns c = ap (λ (b : Bool). eqb (c .before .args .x) 0x20 || b) (c .letter .ensures)
 

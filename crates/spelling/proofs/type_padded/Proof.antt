@@ -12,47 +12,36 @@ use Rattle.spelling.proofs.blank.Reads as blank-reads
 use Rattle.spelling.proofs.letter.Reads as letter-reads
 use Rattle.spelling.proofs.plain.Reads as plain-reads
 
--- src/lib.rt:85:16
 shared-slice-read-letter : tie.Need-shared-slice-read-letter
 shared-slice-read-letter c = search needs
 
--- src/lib.rt:85:9
 letter-requires : tie.Need-letter-requires
 letter-requires c κs = search needs
 
--- src/lib.rt:86:9
 blank-requires : tie.Need-blank-requires
 blank-requires c κs = search needs
 
--- src/lib.rt:86:9
 returns : tie.Need-returns
 returns c = c .blank .ensures ∙ sym (padded-stop (c .before .before .before .before .before .args .name .now) 11 8 (omega arith) (omega (arith, c .before .before .before .before .before .pre)) (is-no (c .before .before .letter .ensures) (c .before .if1 .taken)))
 
--- src/lib.rt:88:16
 shared-slice-read-letter-2 : tie.Need-shared-slice-read-letter-2
 shared-slice-read-letter-2 c = search needs
 
--- src/lib.rt:88:9
 letter-requires-2 : tie.Need-letter-requires-2
 letter-requires-2 c κs = search needs
 
--- src/lib.rt:89:9
 blank-requires-2 : tie.Need-blank-requires-2
 blank-requires-2 c κs = search needs
 
--- src/lib.rt:89:9
 returns-2 : tie.Need-returns-2
 returns-2 c = c .blank2 .ensures ∙ sym (padded-more (c .before .before .before .before .before .before .before .before .args .name .now) 11 8 (omega arith) (omega (arith, c .before .before .before .before .before .before .before .before .pre)) (is-yes (c .before .before .before .before .before .letter .ensures) (c .before .before .before .before .if1 .left)) ∙ padded-stop (c .before .before .before .before .before .before .before .before .args .name .now) 11 9 (omega arith) (omega (arith, c .before .before .before .before .before .before .before .before .pre)) (is-no (c .before .before .letter2 .ensures) (c .before .if2 .taken)))
 
--- src/lib.rt:91:11
 shared-slice-read-plain : tie.Need-shared-slice-read-plain
 shared-slice-read-plain c = search needs
 
--- src/lib.rt:91:5
 plain-requires : tie.Need-plain-requires
 plain-requires c κs = search needs
 
--- src/lib.rt:81:1
 returns-3 : tie.Need-returns-3
 returns-3 c = c .plain .ensures ∙ sym (padded-more (c .before .before .before .before .before .before .before .before .before .args .name .now) 11 8 (omega arith) (omega (arith, c .before .before .before .before .before .before .before .before .before .pre)) (is-yes (c .before .before .before .before .before .before .letter .ensures) (c .before .before .before .before .before .if1 .left)) ∙ padded-more (c .before .before .before .before .before .before .before .before .before .args .name .now) 11 9 (omega arith) (omega (arith, c .before .before .before .before .before .before .before .before .before .pre)) (is-yes (c .before .before .before .letter2 .ensures) (c .before .before .if2 .left)) ∙ last-plain (c .before .before .before .before .before .before .before .before .before .args .name .now) (c .before .before .before .before .before .before .before .before .before .pre))
 

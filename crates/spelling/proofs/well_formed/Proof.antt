@@ -15,34 +15,27 @@ use Rattle.spelling.proofs.blanks_last.Reads as blanks-last-reads
 use Rattle.spelling.proofs.eight_plain.Reads as eight-plain-reads
 use Rattle.spelling.proofs.type_padded.Reads as type-padded-reads
 
--- src/lib.rt:100:9
 returns : tie.Need-returns
 unfolding wellFormed
 returns c = sym (all-no (ne-eqb _ _ (c .if1 .taken)) _)
 
--- src/lib.rt:102:9
 eight-plain-requires : tie.Need-eight-plain-requires
 eight-plain-requires c κs = search needs
 
--- src/lib.rt:103:9
 returns-2 : tie.Need-returns-2
 unfolding wellFormed
 returns-2 c = not-well (c .before .before .before .before .args .name .now) (λ w. eight-not (c .before .before .before .before .args .name .now) (c .before .eight-plain .ensures) (c .if2 .taken) (all-at _ w 2))
 
--- src/lib.rt:105:9
 blanks-last-requires : tie.Need-blanks-last-requires
 blanks-last-requires c κs = (c .before .before .if1 .left, is-yes (c .before .eight-plain .ensures) (c .if2 .left))
 
--- src/lib.rt:106:9
 returns-3 : tie.Need-returns-3
 unfolding wellFormed
 returns-3 c = not-well (c .before .before .before .before .before .before .args .name .now) (λ w. true≢false (sym (ap (λ (b : Bool). b && padded (take 8 (c .before .before .before .before .before .before .args .name .now))) (all-at _ w 1) ∙ all-at _ w 2) ∙ is-no (c .before .blanks-last .ensures) (c .if3 .taken)))
 
--- src/lib.rt:108:5
 type-padded-requires : tie.Need-type-padded-requires
 type-padded-requires c κs = search needs
 
--- src/lib.rt:96:1
 returns-4 : tie.Need-returns-4
 unfolding wellFormed
 returns-4 c = let n = c .before .before .before .before .before .before .before .args .name .now in let z = is-yes (c .before .before .blanks-last .ensures) (c .before .if3 .left) in sym (all-yes (eq-eqb _ _ (c .before .before .before .before .before .if1 .left)) _ ∙ all-yes (and-l (letter (getD n 0 0)) (padded (take 8 n)) z) _ ∙ all-yes (and-r (letter (getD n 0 0)) (padded (take 8 n)) z) _ ∙ all-one _ ∙ ap padded (sym (type-part n (c .before .before .before .before .before .if1 .left))) ∙ sym (c .type-padded .ensures))

@@ -8,27 +8,21 @@ use Rattle.supply.proofs.is_clear.Lts as lts
 use Rattle.layout.proofs.granules.Reads as granules-reads
 use Rattle.layout.proofs.taken.Reads as taken-reads
 
--- src/lib.rt:198:8
 granules-requires : tie.Need-granules-requires
 granules-requires c κs = search needs
 
--- src/lib.rt:199:9
 returns : tie.Need-returns
 returns c = clear-off _ _ (c .before .granules .ensures .0) (c .if1 .taken)
 
--- src/lib.rt:201:8
 taken-requires : tie.Need-taken-requires
 taken-requires c κs = search needs
 
--- src/lib.rt:202:9
 returns-2 : tie.Need-returns-2
 returns-2 c = clear-taken _ _ (sym (c .before .taken .ensures) ∙ c .if2 .taken)
 
--- src/lib.rt:205:9
 returns-3 : tie.Need-returns-3
 returns-3 c = clear-below _ _ (c .before .before .before .before .granules .ensures .0) (c .before .before .before .if1 .left) (sym (c .before .before .taken .ensures) ∙ c .before .if2 .left) (c .if3 .taken)
 
--- src/lib.rt:194:1
 returns-4 : tie.Need-returns-4
 returns-4 c = clear-from _ _ (c .before .before .before .before .granules .ensures .0) (c .before .before .before .if1 .left) (sym (c .before .before .taken .ensures) ∙ c .before .if2 .left) (c .if3 .left)
 

@@ -19,58 +19,45 @@ Inv-loop image g from lo hi total n₀ n = Passing g image from lo hi n total
 abbrev μ-loop : tie.MeasureT-loop
 μ-loop image g from lo hi total n₀ n = total - n
 
--- src/lib.rt:98:9
 granules-requires : tie.Need-granules-requires Inv-loop μ-loop
 granules-requires c κs = search needs
 
--- src/lib.rt:100:5
 loop-holds : tie.Need-loop-holds Inv-loop μ-loop
 loop-holds c = let e = c .granules .ensures .0 in passing-start _ _ (let w = c .before .before .pre .1 in omega arith)
 
--- src/lib.rt:101:12
 block-taken-requires : tie.Need-block-taken-requires Inv-loop μ-loop
 block-taken-requires c κs = (c .before .before .before .before .pre .0, let e = c .before .before .granules .ensures .0 in omega arith)
 
--- src/lib.rt:102:13
 add-n : tie.Need-add-n Inv-loop μ-loop
 add-n c = let r = c .before .before .before .before .before .before .before .pre .0 .units-high in let m = c .before .before .before .before .before .before .before .pre .0 .most in let e = c .before .before .before .before .before .granules .ensures .0 in omega arith
 
--- src/lib.rt:100:5
 loop-less : tie.Need-loop-less Inv-loop μ-loop
 loop-less c = let r = c .before .before .before .before .before .before .before .pre .0 .units-low in omega arith
 
--- src/lib.rt:100:5
 loop-again : tie.Need-loop-again Inv-loop μ-loop
 loop-again c = passing-block _ _ (c .before .before .before .before .before .before .before .pre .0 .units-low) (c .before .before .before .before .loop .inv) (c .before .before .before .loop-test .taken) (c .before .before .before .before .before .granules .ensures .0) (sym (c .before .before .block-taken .ensures) ∙ c .before .if1 .taken)
 
--- src/lib.rt:105:13
 taken-requires : tie.Need-taken-requires Inv-loop μ-loop
 taken-requires c κs = (c .before .before .before .before .before .before .pre .0, let e = c .before .before .before .before .granules .ensures .0 in omega arith)
 
--- src/lib.rt:107:17
 returns : tie.Need-returns Inv-loop μ-loop
 returns c = passing-found _ _ (c .before .before .before .before .before .before .loop .inv) (c .before .before .before .before .before .before .before .granules .ensures .0) (is-no (c .before .before .taken .ensures) (c .before .if2 .taken)) (inl (c .if3 .taken))
 
--- src/lib.rt:110:17
 returns-2 : tie.Need-returns-2 Inv-loop μ-loop
 returns-2 c = passing-found _ _ (c .before .before .before .before .before .before .before .loop .inv) (c .before .before .before .before .before .before .before .before .granules .ensures .0) (is-no (c .before .before .before .taken .ensures) (c .before .before .if2 .taken)) (inr (c .if4 .taken))
 
--- src/lib.rt:113:9
 add-n-2 : tie.Need-add-n-2 Inv-loop μ-loop
 add-n-2 c = search needs
 
--- src/lib.rt:100:5
 loop-less-2 : tie.Need-loop-less-2 Inv-loop μ-loop
 loop-less-2 c = search needs
 
--- src/lib.rt:100:5
 loop-again-2 : tie.Need-loop-again-2 Inv-loop μ-loop
 loop-again-2 c = ⊎-elim
     (λ w. passing-step _ _ (c .before .before .before .before .before .loop .inv) (c .before .before .before .before .loop-test .taken) (let a = w .1 .left in let b = w .2 .left in inr (omega arith, omega arith)))
     (λ w. passing-step _ _ (c .before .before .before .before .before .loop .inv) (c .before .before .before .before .loop-test .taken) (inl (is-yes (c .before .taken .ensures) (w .left))))
     (c .if2 .came)
 
--- src/lib.rt:94:1
 returns-3 : tie.Need-returns-3 Inv-loop μ-loop
 returns-3 c = passing-end _ _ (c .before .loop .inv) (c .before .before .granules .ensures .0) (c .loop-test .left)
 

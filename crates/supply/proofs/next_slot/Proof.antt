@@ -18,39 +18,30 @@ Inv-loop image g from n s₀ s = Looking g image from s
 abbrev μ-loop : tie.MeasureT-loop
 μ-loop image g from n s₀ s = 256 - s
 
--- src/lib.rt:108:13
 directory-sectors-requires : tie.Need-directory-sectors-requires Inv-loop μ-loop
 directory-sectors-requires c κs = search needs
 
--- src/lib.rt:108:13
 sub-n : tie.Need-sub-n Inv-loop μ-loop
 sub-n c = let e = c .directory-sectors .ensures in let t = c .before .before .pre .0 .ten in omega arith
 
--- src/lib.rt:110:5
 loop-holds : tie.Need-loop-holds Inv-loop μ-loop
 loop-holds c = looking-start _ _ (c .before .before .pre .1)
 
--- src/lib.rt:111:12
 hit-requires : tie.Need-hit-requires Inv-loop μ-loop
 hit-requires c κs = search needs
 
--- src/lib.rt:114:21
 returns : tie.Need-returns Inv-loop μ-loop
 returns c = let e = c .before .before .before .before .before .before .directory-sectors .ensures in looking-found _ _ (c .before .before .before .before .before .loop .inv) (slot-open _ _ _ (c .before .before .before .before .loop-test .taken) (let w = c .before .if2 .taken in omega arith) (inl (c .if3 .taken)) (sym (c .before .before .before .hit .ensures .is) ∙ c .before .before .if1 .taken))
 
--- src/lib.rt:117:21
 returns-2 : tie.Need-returns-2 Inv-loop μ-loop
 returns-2 c = let e = c .before .before .before .before .before .before .before .directory-sectors .ensures in looking-found _ _ (c .before .before .before .before .before .before .loop .inv) (slot-open _ _ _ (c .before .before .before .before .before .loop-test .taken) (let w = c .before .before .if2 .taken in omega arith) (inr (c .if4 .taken)) (sym (c .before .before .before .before .hit .ensures .is) ∙ c .before .before .before .if1 .taken))
 
--- src/lib.rt:121:9
 add-s : tie.Need-add-s Inv-loop μ-loop
 add-s c = search needs
 
--- src/lib.rt:110:5
 loop-less : tie.Need-loop-less Inv-loop μ-loop
 loop-less c = search needs
 
--- src/lib.rt:110:5
 loop-again : tie.Need-loop-again Inv-loop μ-loop
 loop-again c = let e = c .before .before .before .before .directory-sectors .ensures in
     looking-step _ _ (c .before .before .before .loop .inv) (c .before .before .loop-test .taken) (⊎-elim
@@ -58,7 +49,6 @@ loop-again c = let e = c .before .before .before .before .directory-sectors .ens
     (λ v. ⊎-elim (λ w. let a = w .1 .left in slot-past _ _ _ (c .before .before .loop-test .taken) (omega arith)) (λ w. slot-used _ _ _ (λ q. w .left (c .before .hit .ensures .is ∙ q))) v)
     (c .if1 .came))
 
--- src/lib.rt:104:1
 returns-3 : tie.Need-returns-3 Inv-loop μ-loop
 returns-3 c = looking-end _ _ (c .before .loop .inv) (c .loop-test .left)
 

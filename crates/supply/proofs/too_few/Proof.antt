@@ -21,51 +21,39 @@ Inv-loop image g k n₀ b₀ n b = (b ≤ g .blocks) × (n ≤ 8 * (g .blocks - 
 abbrev μ-loop : tie.MeasureT-loop
 μ-loop image g k n₀ b₀ n b = b
 
--- src/lib.rt:91:5
 loop-holds : tie.Need-loop-holds Inv-loop μ-loop
 loop-holds c = (omega arith, omega arith, freed-start _ _)
 
--- src/lib.rt:93:13
 returns : tie.Need-returns Inv-loop μ-loop
 returns c = sym (le-ltb (length (freeGranules (c .before .before .before .before .args .g) (c .before .before .before .before .args .image .now))) (c .before .before .before .before .args .k) (let f = c .before .before .loop .inv .2 .rest in let t = c .if1 .taken in omega arith))
 
--- src/lib.rt:95:9
 sub-b : tie.Need-sub-b Inv-loop μ-loop
 sub-b c = omega arith
 
--- src/lib.rt:96:54
 mul-wide : tie.Need-mul-wide Inv-loop μ-loop
 mul-wide c = let r = c .before .before .before .before .before .pre in omega arith
 
--- src/lib.rt:96:54
 add-wide : tie.Need-add-wide Inv-loop μ-loop
 add-wide c = let r = c .before .before .before .before .before .pre in omega arith
 
--- src/lib.rt:96:48
 shared-slice-read-wide : tie.Need-shared-slice-read-wide Inv-loop μ-loop
 shared-slice-read-wide c = let r = c .before .before .before .before .before .before .pre in omega arith
 
--- src/lib.rt:96:35
 wide-requires : tie.Need-wide-requires Inv-loop μ-loop
 wide-requires c κs = search needs
 
--- src/lib.rt:96:17
 clear-bits-requires : tie.Need-clear-bits-requires Inv-loop μ-loop
 clear-bits-requires c κs = c .before .before .before .before .before .before .before .pre .units-high
 
--- src/lib.rt:96:13
 add-n : tie.Need-add-n Inv-loop μ-loop
 add-n c = let r = c .before .before .before .before .before .before .before .before .pre in let k = c .clear-bits .ensures .1 in omega arith
 
--- src/lib.rt:91:5
 loop-less : tie.Need-loop-less Inv-loop μ-loop
 loop-less c = omega arith
 
--- src/lib.rt:91:5
 loop-again : tie.Need-loop-again Inv-loop μ-loop
 loop-again c = (omega arith, (let k = c .clear-bits .ensures .1 in omega arith), freed-step _ _ (c .before .before .before .before .before .before .before .before .pre .units-low) (c .before .before .before .before .before .before .loop .inv .2) (c .before .before .before .before .before .loop-test .taken) (c .before .wide .ensures .is) (c .clear-bits .ensures .0))
 
--- src/lib.rt:85:1
 returns-2 : tie.Need-returns-2 Inv-loop μ-loop
 returns-2 c = let z : c .before .loop .b ≡ 0 = omega arith in ap (λ (m : ℕ). ltb m (c .before .before .before .args .k)) (freed-end _ _ (subst (λ (j : ℕ). Freed (c .before .before .before .args .g) (c .before .before .before .args .image .now) j (c .before .loop .n)) z (c .before .loop .inv .2)))
 

@@ -19,99 +19,75 @@ Inv-loop image g p e k runs₀ after₀ long₀ lo hi₀ next₀ slot₀ left₀
 abbrev μ-loop : tie.MeasureT-loop
 μ-loop image g p e k runs₀ after₀ long₀ lo hi₀ next₀ slot₀ left₀ runs after long hi next slot left = left
 
--- src/lib.rt:216:9
 last-run-requires : tie.Need-last-run-requires Inv-loop μ-loop
 last-run-requires c κs = (walks _ _ _ (c .before .pre .0) .0 .room, tail-slot _ _ (c .before .pre .0) (c .before .pre .1))
 
--- src/lib.rt:225:5
 loop-holds : tie.Need-loop-holds Inv-loop μ-loop
 loop-holds c = paper-start _ _ (c .before .before .pre .0) (c .before .before .pre .1) (c .before .before .pre .2) (c .last-run .ensures)
 
--- src/lib.rt:226:9
 sub-left : tie.Need-sub-left Inv-loop μ-loop
 sub-left c = search needs
 
--- src/lib.rt:228:16
 is-clear-requires : tie.Need-is-clear-requires Inv-loop μ-loop
 is-clear-requires c κs = walks _ _ _ (c .before .before .before .before .before .pre .0) .0 .room
 
--- src/lib.rt:230:25
 add-after : tie.Need-add-after Inv-loop μ-loop
 add-after c = let b = walks _ _ _ (c .before .before .before .before .before .before .before .pre .0) .0 .room .most in let q = c .before .is-clear .ensures .yes (c .if2 .taken) .0 in omega arith
 
--- src/lib.rt:231:17
 add-long : tie.Need-add-long Inv-loop μ-loop
 add-long c = search needs
 
--- src/lib.rt:233:28
 add-next : tie.Need-add-next Inv-loop μ-loop
 add-next c = let b = walks _ _ _ (c .before .before .before .before .before .before .before .before .pre .0) .0 .room .most in let q = c .before .before .is-clear .ensures .yes (c .before .if2 .taken) .0 in omega arith
 
--- src/lib.rt:225:5
 loop-less : tie.Need-loop-less Inv-loop μ-loop
 loop-less c = search needs
 
--- src/lib.rt:225:5
 loop-again : tie.Need-loop-again Inv-loop μ-loop
 loop-again c = paper-next _ _ (c .before .before .before .before .before .loop .inv) (c .before .before .before .before .loop-test .taken) (c .before .before .before .if1 .taken) (c .before .before .is-clear .ensures .yes (c .before .if2 .taken)) (c .if3 .taken)
 
--- src/lib.rt:236:22
 add-hi : tie.Need-add-hi Inv-loop μ-loop
 add-hi c = let b = walks _ _ _ (c .before .before .before .before .before .before .before .before .pre .0) .0 .room .most in let q = c .before .before .is-clear .ensures .yes (c .before .if2 .taken) .0 in omega arith
 
--- src/lib.rt:225:5
 loop-less-2 : tie.Need-loop-less-2 Inv-loop μ-loop
 loop-less-2 c = search needs
 
--- src/lib.rt:225:5
 loop-again-2 : tie.Need-loop-again-2 Inv-loop μ-loop
 loop-again-2 c = paper-hi _ _ (c .before .before .before .before .before .loop .inv) (c .before .before .before .before .loop-test .taken) (c .before .before .before .if1 .taken) (c .before .before .is-clear .ensures .yes (c .before .if2 .taken)) (c .if3 .left)
 
--- src/lib.rt:240:13
 next-free-requires : tie.Need-next-free-requires Inv-loop μ-loop
 next-free-requires c κs = (walks _ _ _ (c .before .before .before .before .before .pre .0) .0 .room, c .before .before .loop .inv .growing .next-low)
 
--- src/lib.rt:241:16
 add-next-2 : tie.Need-add-next-2 Inv-loop μ-loop
 add-next-2 c = let b = walks _ _ _ (c .before .before .before .before .before .before .pre .0) .0 .room .most in let q = paper-low _ _ (c .before .before .before .loop .inv) (c .before .before .loop-test .taken) (c .next-free .ensures) in omega arith
 
--- src/lib.rt:242:17
 add-after-2 : tie.Need-add-after-2 Inv-loop μ-loop
 add-after-2 c = let b = walks _ _ _ (c .before .before .before .before .before .before .pre .0) .0 .room .most in let q = paper-low _ _ (c .before .before .before .loop .inv) (c .before .before .loop-test .taken) (c .next-free .ensures) in omega arith
 
--- src/lib.rt:245:13
 add-runs : tie.Need-add-runs Inv-loop μ-loop
 add-runs c = search needs
 
--- src/lib.rt:225:5
 loop-less-3 : tie.Need-loop-less-3 Inv-loop μ-loop
 loop-less-3 c = search needs
 
--- src/lib.rt:225:5
 loop-again-3 : tie.Need-loop-again-3 Inv-loop μ-loop
 loop-again-3 c = paper-pair _ _ (c .before .before .before .before .loop .inv) (c .before .before .before .loop-test .taken) (paper-shut _ _ (c .before .before .before .before .loop .inv) (c .before .before .before .loop-test .taken) (⊎-elim (λ w. inr (w .1 .ensures .no (w .2 .left))) (λ w. inl (w .left)) (c .before .before .if1 .came))) (c .if4 .taken) (c .before .next-free .ensures)
 
--- src/lib.rt:248:13
 next-slot-requires : tie.Need-next-slot-requires Inv-loop μ-loop
 next-slot-requires c κs = (walks _ _ _ (c .before .before .before .before .before .before .before .pre .0) .0 .room, c .before .before .before .before .loop .inv .growing .slot-low)
 
--- src/lib.rt:250:13
 returns : tie.Need-returns Inv-loop μ-loop
 returns c = paper-stuck _ _ (c .before .before .before .before .before .before .loop .inv) (c .before .before .before .before .before .loop-test .taken) (paper-shut _ _ (c .before .before .before .before .before .before .loop .inv) (c .before .before .before .before .before .loop-test .taken) (⊎-elim (λ w. inr (w .1 .ensures .no (w .2 .left))) (λ w. inl (w .left)) (c .before .before .before .before .if1 .came))) (c .before .before .if4 .left) (c .before .next-slot .ensures) (c .if5 .taken)
 
--- src/lib.rt:252:16
 add-slot : tie.Need-add-slot Inv-loop μ-loop
 add-slot c = let q = c .before .next-slot .ensures .high in omega arith
 
--- src/lib.rt:225:5
 loop-less-4 : tie.Need-loop-less-4 Inv-loop μ-loop
 loop-less-4 c = search needs
 
--- src/lib.rt:225:5
 loop-again-4 : tie.Need-loop-again-4 Inv-loop μ-loop
 loop-again-4 c = paper-new _ _ (c .before .before .before .before .before .before .loop .inv) (c .before .before .before .before .before .loop-test .taken) (paper-shut _ _ (c .before .before .before .before .before .before .loop .inv) (c .before .before .before .before .before .loop-test .taken) (⊎-elim (λ w. inr (w .1 .ensures .no (w .2 .left))) (λ w. inl (w .left)) (c .before .before .before .before .if1 .came))) (c .before .before .if4 .left) (c .before .before .before .next-free .ensures) (c .before .next-slot .ensures) (c .if5 .left)
 
--- src/lib.rt:212:1
 returns-2 : tie.Need-returns-2 Inv-loop μ-loop
 returns-2 c = paper-end _ _ (c .before .loop .inv) (c .loop-test .left)
 

@@ -18,39 +18,30 @@ Inv-loop image g entries n j₀ j = Quiet (taken g image) (λ k. each (entryGran
 abbrev μ-loop : tie.MeasureT-loop
 μ-loop image g entries n j₀ j = n - j
 
--- src/lib.rt:187:5
 loop-holds : tie.Need-loop-holds Inv-loop μ-loop
 loop-holds c = quiet-start (all-steps _ _) _ _
 
--- src/lib.rt:188:34
 mul-entry-taken : tie.Need-mul-entry-taken Inv-loop μ-loop
 mul-entry-taken c = let q = c .before .before .before .pre .1 .few in omega arith
 
--- src/lib.rt:188:34
 element-copy-out-entry-taken : tie.Need-element-copy-out-entry-taken Inv-loop μ-loop
 element-copy-out-entry-taken c = let q = c .before .before .before .pre .1 .few in omega arith
 
--- src/lib.rt:188:12
 entry-taken-requires : tie.Need-entry-taken-requires Inv-loop μ-loop
 entry-taken-requires c κs = (c .before .before .before .before .pre .0, c .before .before .before .before .pre .1 .entry _ (c .before .loop-test .taken))
 
--- src/lib.rt:189:13
 returns : tie.Need-returns Inv-loop μ-loop
 returns c = quiet-hit (all-steps _ _) (c .before .before .before .before .loop .inv) (c .before .before .before .loop-test .taken) (sym (c .before .entry-taken .ensures) ∙ c .if1 .taken)
 
--- src/lib.rt:191:9
 add-j : tie.Need-add-j Inv-loop μ-loop
 add-j c = let q = c .before .before .before .before .before .before .pre .1 .few in omega arith
 
--- src/lib.rt:187:5
 loop-less : tie.Need-loop-less Inv-loop μ-loop
 loop-less c = omega arith
 
--- src/lib.rt:187:5
 loop-again : tie.Need-loop-again Inv-loop μ-loop
 loop-again c = quiet-more (all-steps _ _) (c .before .before .before .before .loop .inv) (c .before .before .before .loop-test .taken) (sym (c .before .entry-taken .ensures) ∙ c .if1 .left)
 
--- src/lib.rt:182:1
 returns-2 : tie.Need-returns-2 Inv-loop μ-loop
 returns-2 c = quiet-end (c .before .loop .inv) (c .loop-test .left)
 

@@ -22,43 +22,33 @@ Inv-loop image g s n j₀ j = Quiet (taken g image) (λ k. each (runGranules g i
 abbrev μ-loop : tie.MeasureT-loop
 μ-loop image g s n j₀ j = n - j
 
--- src/lib.rt:168:9
 runs-requires : tie.Need-runs-requires Inv-loop μ-loop
 runs-requires c κs = (c .before .pre .0, c .before .pre .1 .slot)
 
--- src/lib.rt:170:5
 loop-holds : tie.Need-loop-holds Inv-loop μ-loop
 loop-holds c = quiet-start (entry-steps _) _ _
 
--- src/lib.rt:171:13
 run-start-requires : tie.Need-run-start-requires Inv-loop μ-loop
 run-start-requires c κs = (c .before .before .before .before .pre .0, c .before .before .before .before .pre .1 .slot, let q = c .before .before .runs .ensures .small in omega arith)
 
--- src/lib.rt:172:13
 run-length-requires : tie.Need-run-length-requires Inv-loop μ-loop
 run-length-requires c κs = (c .before .before .before .before .before .pre .0, c .before .before .before .before .before .pre .1 .slot, let q = c .before .before .before .runs .ensures .small in omega arith)
 
--- src/lib.rt:173:12
 run-taken-requires : tie.Need-run-taken-requires Inv-loop μ-loop
 run-taken-requires c κs = (c .before .before .before .before .before .before .pre .0, run-fits _ (c .before .before .before .before .before .before .pre .0) (c .before .before .before .before .before .before .pre .1) (c .before .before .before .before .runs .ensures .is) (same-refl _ _) (c .before .before .loop-test .taken) (c .before .run-start .ensures .is) (c .run-length .ensures .is))
 
--- src/lib.rt:174:13
 returns : tie.Need-returns Inv-loop μ-loop
 returns c = quiet-hit (entry-steps _) (c .before .before .before .before .before .loop .inv) (c .before .before .before .before .loop-test .taken) (ap (some _) (run-is _ _ _ _ (c .before .before .before .run-start .ensures .is) (c .before .before .run-length .ensures .is)) ∙ sym (c .before .run-taken .ensures) ∙ c .if1 .taken) ∙ ap (some _) (runs-are _ _ _ (c .before .before .before .before .before .before .runs .ensures .is))
 
--- src/lib.rt:176:9
 add-j : tie.Need-add-j Inv-loop μ-loop
 add-j c = let q = c .before .before .before .before .before .before .runs .ensures .small in omega arith
 
--- src/lib.rt:170:5
 loop-less : tie.Need-loop-less Inv-loop μ-loop
 loop-less c = omega arith
 
--- src/lib.rt:170:5
 loop-again : tie.Need-loop-again Inv-loop μ-loop
 loop-again c = quiet-more (entry-steps _) (c .before .before .before .before .before .loop .inv) (c .before .before .before .before .loop-test .taken) (ap (some _) (run-is _ _ _ _ (c .before .before .before .run-start .ensures .is) (c .before .before .run-length .ensures .is)) ∙ sym (c .before .run-taken .ensures) ∙ c .if1 .left)
 
--- src/lib.rt:164:1
 returns-2 : tie.Need-returns-2 Inv-loop μ-loop
 returns-2 c = quiet-end (c .before .loop .inv) (c .loop-test .left) ∙ ap (some _) (runs-are _ _ _ (c .before .before .runs .ensures .is))
 

@@ -17,35 +17,27 @@ Inv-loop image g a n k₀ k = Quiet (taken g image) (count a) k n
 abbrev μ-loop : tie.MeasureT-loop
 μ-loop image g a n k₀ k = n - k
 
--- src/lib.rt:154:5
 loop-holds : tie.Need-loop-holds Inv-loop μ-loop
 loop-holds c = quiet-start (run-steps _) _ _
 
--- src/lib.rt:155:36
 add-taken : tie.Need-add-taken Inv-loop μ-loop
 add-taken c = let m = c .before .before .before .pre .0 .most in omega arith
 
--- src/lib.rt:155:12
 taken-requires : tie.Need-taken-requires Inv-loop μ-loop
 taken-requires c κs = (c .before .before .before .pre .0, omega arith)
 
--- src/lib.rt:156:13
 returns : tie.Need-returns Inv-loop μ-loop
 returns c = quiet-hit (run-steps _) (c .before .before .before .loop .inv) (c .before .before .loop-test .taken) (some-one (taken (c .before .before .before .before .before .args .g) (c .before .before .before .before .before .args .image .now)) (c .before .before .before .before .before .args .a + c .before .before .before .loop .looked) ∙ sym (c .before .taken .ensures) ∙ c .if1 .taken)
 
--- src/lib.rt:158:9
 add-looked : tie.Need-add-looked Inv-loop μ-loop
 add-looked c = omega arith
 
--- src/lib.rt:154:5
 loop-less : tie.Need-loop-less Inv-loop μ-loop
 loop-less c = omega arith
 
--- src/lib.rt:154:5
 loop-again : tie.Need-loop-again Inv-loop μ-loop
 loop-again c = quiet-more (run-steps _) (c .before .before .before .loop .inv) (c .before .before .loop-test .taken) (some-one (taken (c .before .before .before .before .before .args .g) (c .before .before .before .before .before .args .image .now)) (c .before .before .before .before .before .args .a + c .before .before .before .loop .looked) ∙ sym (c .before .taken .ensures) ∙ c .if1 .left)
 
--- src/lib.rt:149:1
 returns-2 : tie.Need-returns-2 Inv-loop μ-loop
 returns-2 c = quiet-end (c .before .loop .inv) (c .loop-test .left)
 

@@ -24,7 +24,6 @@ abbrev put-digits-below : ℕ → In 1 put-digits-kinds.ps
 put-digits-below t =
     and 1 put-digits-kinds.ps (falls 1 put-digits-kinds.ps _<_ μ-put-digits t) put-digits.Pre
 
--- src/lib.rt:38:9
 put-digits-returns : (t : ℕ) → put-digits-lts.Need-returns (
   digit-reads.Asked,
   digit-reads.Learnt,
@@ -35,7 +34,6 @@ put-digits-returns : (t : ℕ) → put-digits-lts.Need-returns (
 ) (put-digits-at t) put-digits.Post
 put-digits-returns t c = let a = c .before .before .args in put-none (a .most) (a .to .now) (a .at) (digits-none (a .most) (a .n) (c .if1 .taken))
 
--- src/lib.rt:41:33
 put-digits-digit-requires : (t : ℕ) → put-digits-lts.Need-digit-requires (
   digit-reads.Asked,
   digit-reads.Learnt,
@@ -46,7 +44,6 @@ put-digits-digit-requires : (t : ℕ) → put-digits-lts.Need-digit-requires (
 ) (put-digits-at t) put-digits.Post
 put-digits-digit-requires t c κs = search needs
 
--- src/lib.rt:41:9
 put-digits-put-byte-requires : (t : ℕ) → put-digits-lts.Need-put-byte-requires (
   digit-reads.Asked,
   digit-reads.Learnt,
@@ -57,7 +54,6 @@ put-digits-put-byte-requires : (t : ℕ) → put-digits-lts.Need-put-byte-requir
 ) (put-digits-at t) put-digits.Post
 put-digits-put-byte-requires t c κs = omega arith
 
--- src/lib.rt:41:9
 put-digits-same-length : (t : ℕ) → put-digits-lts.Need-same-length (
   digit-reads.Asked,
   digit-reads.Learnt,
@@ -68,7 +64,6 @@ put-digits-same-length : (t : ℕ) → put-digits-lts.Need-same-length (
 ) (put-digits-at t) put-digits.Post
 put-digits-same-length t c = search needs
 
--- src/lib.rt:41:9
 put-digits-returns-2 : (t : ℕ) → put-digits-lts.Need-returns-2 (
   digit-reads.Asked,
   digit-reads.Learnt,
@@ -79,7 +74,6 @@ put-digits-returns-2 : (t : ℕ) → put-digits-lts.Need-returns-2 (
 ) (put-digits-at t) put-digits.Post
 put-digits-returns-2 t c = let a = c .before .before .before .before .before .before .before .before .args in put-as (c .before .before .put-byte .ensures) (digits-one (a .most) (a .n) _ (c .before .before .before .before .before .before .if1 .left) (c .before .before .before .before .before .if2 .taken) (c .before .before .before .digit .ensures)) (omega (arith, c .before .before .before .before .before .before .if1 .left))
 
--- src/lib.rt:43:43
 put-digits-sub-put-digits : (t : ℕ) → put-digits-lts.Need-sub-put-digits (
   digit-reads.Asked,
   digit-reads.Learnt,
@@ -90,7 +84,6 @@ put-digits-sub-put-digits : (t : ℕ) → put-digits-lts.Need-sub-put-digits (
 ) (put-digits-at t) put-digits.Post
 put-digits-sub-put-digits t c = omega (arith, c .before .before .if1 .left)
 
--- src/lib.rt:43:9
 put-digits-put-digits-requires : (t : ℕ) → put-digits-lts.Need-put-digits-requires (
   digit-reads.Asked,
   digit-reads.Learnt,
@@ -101,7 +94,6 @@ put-digits-put-digits-requires : (t : ℕ) → put-digits-lts.Need-put-digits-re
 ) (put-digits-at t) put-digits.Post
 put-digits-put-digits-requires t c κs = (omega (arith, c .before .before .if1 .left), omega (arith, c .before .before .if1 .left))
 
--- src/lib.rt:44:24
 put-digits-digit-requires-2 : (t : ℕ) → put-digits-lts.Need-digit-requires-2 (
   digit-reads.Asked,
   digit-reads.Learnt,
@@ -112,7 +104,6 @@ put-digits-digit-requires-2 : (t : ℕ) → put-digits-lts.Need-digit-requires-2
 ) (put-digits-at t) put-digits.Post
 put-digits-digit-requires-2 t c κs = search needs
 
--- src/lib.rt:44:5
 put-digits-put-byte-requires-2 : (t : ℕ) → put-digits-lts.Need-put-byte-requires-2 (
   digit-reads.Asked,
   digit-reads.Learnt,
@@ -123,7 +114,6 @@ put-digits-put-byte-requires-2 : (t : ℕ) → put-digits-lts.Need-put-byte-requ
 ) (put-digits-at t) put-digits.Post
 put-digits-put-byte-requires-2 t c κs = omega (arith, c .before .before .before .before .before .before .before .if1 .left, c .before .before .before .before .put-digits .ensures .past, c .before .before .before .before .put-digits .ensures .fits)
 
--- src/lib.rt:33:1
 put-digits-same-length-2 : (t : ℕ) → put-digits-lts.Need-same-length-2 (
   digit-reads.Asked,
   digit-reads.Learnt,
@@ -134,7 +124,6 @@ put-digits-same-length-2 : (t : ℕ) → put-digits-lts.Need-same-length-2 (
 ) (put-digits-at t) put-digits.Post
 put-digits-same-length-2 t c = search needs
 
--- src/lib.rt:33:1
 put-digits-returns-3 : (t : ℕ) → put-digits-lts.Need-returns-3 (
   digit-reads.Asked,
   digit-reads.Learnt,

@@ -18,31 +18,24 @@ Inv-loop part i₀ i = (none (stripped part) ≡ none (stripped (drop i part))) 
 abbrev μ-loop : tie.MeasureT-loop
 μ-loop part i₀ i = length part - i
 
--- src/lib.rt:76:5
 loop-holds : tie.Need-loop-holds Inv-loop μ-loop
 loop-holds c = (refl, omega arith)
 
--- src/lib.rt:77:12
 shared-slice-read-if1 : tie.Need-shared-slice-read-if1 Inv-loop μ-loop
 shared-slice-read-if1 c = search needs
 
--- src/lib.rt:78:13
 returns : tie.Need-returns Inv-loop μ-loop
 returns c = sym (c .before .before .before .loop .inv .0 ∙ blank-not (c .before .before .before .before .args .part .now) (c .before .before .before .loop .i) (c .before .before .loop-test .taken) (c .if1 .taken))
 
--- src/lib.rt:80:9
 add-i : tie.Need-add-i Inv-loop μ-loop
 add-i c = search needs
 
--- src/lib.rt:76:5
 loop-less : tie.Need-loop-less Inv-loop μ-loop
 loop-less c = search needs
 
--- src/lib.rt:76:5
 loop-again : tie.Need-loop-again Inv-loop μ-loop
 loop-again c = (c .before .before .before .loop .inv .0 ∙ ap (λ (r : List ℕ). none r) (blank-more (c .before .before .before .before .args .part .now) (c .before .before .before .loop .i) (c .before .before .loop-test .taken) (c .if1 .left)), omega arith)
 
--- src/lib.rt:72:1
 returns-2 : tie.Need-returns-2 Inv-loop μ-loop
 returns-2 c = sym (c .before .loop .inv .0 ∙ blank-all (c .before .before .args .part .now) (c .before .loop .i) (c .loop-test .left))
 

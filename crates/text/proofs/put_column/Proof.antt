@@ -8,19 +8,15 @@ use Rattle.text.proofs.put_column.Lts as lts
 use Rattle.text.proofs.put_byte.Reads as put-byte-reads
 use Rattle.text.proofs.put_decimal.Reads as put-decimal-reads
 
--- src/lib.rt:111:9
 put-byte-requires : tie.Need-put-byte-requires
 put-byte-requires c κs = search needs
 
--- src/lib.rt:112:5
 put-decimal-requires : tie.Need-put-decimal-requires
 put-decimal-requires c κs = search needs
 
--- src/lib.rt:107:1
 same-length : tie.Need-same-length
 same-length c = search needs
 
--- src/lib.rt:107:1
 returns : tie.Need-returns
 returns c = put-then (c .before .before .before .before .before .before .put-byte .ensures) (c .before .before .put-decimal .ensures) (omega arith)
 

@@ -10,27 +10,21 @@ use Rattle.text.proofs.put_byte.Reads as put-byte-reads
 use Rattle.text.proofs.put_column.Reads as put-column-reads
 use Rattle.text.proofs.put_word.Reads as put-word-reads
 
--- src/lib.rt:150:37
 slice-aggregate-put-word : tie.Need-slice-aggregate-put-word
 slice-aggregate-put-word c = search needs
 
--- src/lib.rt:150:9
 put-word-requires : tie.Need-put-word-requires
 put-word-requires c κs = search needs
 
--- src/lib.rt:151:9
 put-column-requires : tie.Need-put-column-requires
 put-column-requires c κs = search needs
 
--- src/lib.rt:152:5
 put-byte-requires : tie.Need-put-byte-requires
 put-byte-requires c κs = search needs
 
--- src/lib.rt:146:1
 same-length : tie.Need-same-length
 same-length c = search needs
 
--- src/lib.rt:146:1
 returns : tie.Need-returns
 unfolding freeLine
 returns c = put-then {most = 55} (put-then {most = 25} (c .before .before .before .before .before .before .before .before .before .before .put-word .ensures) (c .before .before .before .before .before .before .put-column .ensures) (omega arith)) (c .before .before .put-byte .ensures) (omega arith)

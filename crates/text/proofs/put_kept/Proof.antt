@@ -9,19 +9,15 @@ use Rattle.text.proofs.put_kept.Reads as reads
 use Rattle.text.proofs.put_kept.Lts as lts
 use Rattle.text.proofs.put_byte.Reads as put-byte-reads
 
--- src/lib.rt:61:9
 returns : tie.Need-returns
 returns c = let a = c .before .before .args in put-none 1 (a .to .now) (a .at) (stripped-blank (a .b) [] (c .if1 .taken))
 
--- src/lib.rt:63:5
 put-byte-requires : tie.Need-put-byte-requires
 put-byte-requires c κs = search needs
 
--- src/lib.rt:56:1
 same-length : tie.Need-same-length
 same-length c = search needs
 
--- src/lib.rt:56:1
 returns-2 : tie.Need-returns-2
 returns-2 c = let a = c .before .before .before .before .before .before .args in put-as (c .before .before .put-byte .ensures) (sym (stripped-kept (a .b) [] (c .before .before .before .before .if1 .left))) (omega arith)
 

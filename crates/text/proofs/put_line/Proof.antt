@@ -10,27 +10,21 @@ use Rattle.text.proofs.put_byte.Reads as put-byte-reads
 use Rattle.text.proofs.put_column.Reads as put-column-reads
 use Rattle.text.proofs.put_name.Reads as put-name-reads
 
--- src/lib.rt:120:9
 put-name-requires : tie.Need-put-name-requires
 put-name-requires c κs = search needs
 
--- src/lib.rt:121:9
 put-column-requires : tie.Need-put-column-requires
 put-column-requires c κs = search needs
 
--- src/lib.rt:122:9
 put-column-requires-2 : tie.Need-put-column-requires-2
 put-column-requires-2 c κs = search needs
 
--- src/lib.rt:123:5
 put-byte-requires : tie.Need-put-byte-requires
 put-byte-requires c κs = search needs
 
--- src/lib.rt:116:1
 same-length : tie.Need-same-length
 same-length c = search needs
 
--- src/lib.rt:116:1
 returns : tie.Need-returns
 unfolding line
 returns c = put-then {most = 55} (put-then {most = 54} (put-then {most = 33} (c .before .before .before .before .before .before .before .before .before .before .before .before .before .before .put-name .ensures) (c .before .before .before .before .before .before .before .before .before .before .put-column .ensures) (omega arith)) (c .before .before .before .before .before .before .put-column2 .ensures) (omega arith)) (c .before .before .put-byte .ensures) (omega arith)

@@ -15,35 +15,27 @@ use Rattle.text.proofs.put_name.Lts as lts
 use Rattle.text.proofs.put_stripped.Reads as put-stripped-reads
 use Rattle.text.proofs.put_type.Reads as put-type-reads
 
--- src/lib.rt:102:34
 slice-aggregate-put-stripped : tie.Need-slice-aggregate-put-stripped
 slice-aggregate-put-stripped c = sym (length-take-le 8 (c .before .before .before .before .args .name .now) (omega (arith, c .before .before .before .before .pre .1)))
 
--- src/lib.rt:102:9
 put-stripped-requires : tie.Need-put-stripped-requires
 put-stripped-requires c κs = omega (arith, length-take-le 8 (c .before .before .before .before .args .name .now) (omega (arith, c .before .before .before .before .pre .1)), c .before .before .before .before .pre .0)
 
--- src/lib.rt:103:21
 sub-put-type : tie.Need-sub-put-type
 sub-put-type c = search needs
 
--- src/lib.rt:103:21
 part-put-type-start : tie.Need-part-put-type-start
 part-put-type-start c = search needs
 
--- src/lib.rt:103:21
 part-put-type-end : tie.Need-part-put-type-end
 part-put-type-end c = search needs
 
--- src/lib.rt:103:5
 put-type-requires : tie.Need-put-type-requires
 put-type-requires c κs = (omega (arith, length-take-le 8 (c .before .before .before .before .before .before .before .before .before .args .name .now) (omega (arith, c .before .before .before .before .before .before .before .before .before .pre .1)), c .before .before .before .before .put-stripped .ensures .past, c .before .before .before .before .put-stripped .ensures .fits, c .before .before .before .before .before .before .before .before .before .pre .0), type-length (c .before .before .before .before .before .before .before .before .before .args .name .now) (c .before .before .before .before .before .before .before .before .before .pre .1))
 
--- src/lib.rt:98:1
 same-length : tie.Need-same-length
 same-length c = search needs
 
--- src/lib.rt:98:1
 returns : tie.Need-returns
 returns c = let a = c .before .before .before .before .before .before .before .before .before .before .before .before .args in put-both (c .before .before .before .before .before .before .before .put-stripped .ensures) (c .before .before .put-type .ensures) (ap (λ (r : List ℕ). stripped (take 8 (a .name .now)) ++ slashed (stripped r)) (type-part (a .name .now))) (omega (arith, length-take-le 8 (c .before .before .before .before .before .before .before .before .before .before .before .before .args .name .now) (omega (arith, c .before .before .before .before .before .before .before .before .before .before .before .before .pre .1))))
 

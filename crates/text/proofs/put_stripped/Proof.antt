@@ -19,35 +19,27 @@ Inv-loop to₀ at part i₀ e₀ to i e = (Put i to₀ at (stripped (take i part
 abbrev μ-loop : tie.MeasureT-loop
 μ-loop to₀ at part i₀ e₀ to i e = length part - i
 
--- src/lib.rt:73:5
 loop-holds : tie.Need-loop-holds Inv-loop μ-loop
 loop-holds c = (put-none 0 (c .before .before .args .to .now) (c .before .before .args .at) refl, omega arith, refl)
 
--- src/lib.rt:74:29
 shared-slice-read-put-kept : tie.Need-shared-slice-read-put-kept Inv-loop μ-loop
 shared-slice-read-put-kept c = search needs
 
--- src/lib.rt:74:9
 put-kept-requires : tie.Need-put-kept-requires Inv-loop μ-loop
 put-kept-requires c κs = omega (arith, c .before .before .before .loop .inv .0 .past, c .before .before .before .loop .inv .0 .fits, c .before .before .before .before .before .before .pre)
 
--- src/lib.rt:75:9
 add-i : tie.Need-add-i Inv-loop μ-loop
 add-i c = search needs
 
--- src/lib.rt:73:5
 loop-less : tie.Need-loop-less Inv-loop μ-loop
 loop-less c = search needs
 
--- src/lib.rt:73:5
 loop-again : tie.Need-loop-again Inv-loop μ-loop
 loop-again c = (put-both (c .before .before .before .before .before .before .loop .inv .0) (c .before .before .put-kept .ensures) (stripped-more (c .before .before .before .before .before .before .before .before .before .args .part .now) (c .before .before .before .before .before .before .loop .i) (c .before .before .before .before .before .loop-test .taken)) (omega arith), omega arith, search needs)
 
--- src/lib.rt:67:1
 same-length : tie.Need-same-length Inv-loop μ-loop
 same-length c = search needs
 
--- src/lib.rt:67:1
 returns : tie.Need-returns Inv-loop μ-loop
 returns c = put-as (c .before .loop .inv .0) (stripped-all (c .before .before .before .before .args .part .now) (c .before .loop .i) (c .loop-test .left)) (omega arith)
 

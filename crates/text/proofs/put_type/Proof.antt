@@ -12,27 +12,21 @@ use Rattle.text.proofs.blank.Reads as blank-reads
 use Rattle.text.proofs.put_byte.Reads as put-byte-reads
 use Rattle.text.proofs.put_stripped.Reads as put-stripped-reads
 
--- src/lib.rt:90:8
 blank-requires : tie.Need-blank-requires
 blank-requires c κs = search needs
 
--- src/lib.rt:91:9
 returns : tie.Need-returns
 returns c = let a = c .before .before .before .before .args in put-none 4 (a .to .now) (a .at) (slashed-none (stripped (a .part .now)) (sym (c .before .blank .ensures) ∙ c .if1 .taken))
 
--- src/lib.rt:93:9
 put-byte-requires : tie.Need-put-byte-requires
 put-byte-requires c κs = search needs
 
--- src/lib.rt:94:5
 put-stripped-requires : tie.Need-put-stripped-requires
 put-stripped-requires c κs = search needs
 
--- src/lib.rt:86:1
 same-length : tie.Need-same-length
 same-length c = search needs
 
--- src/lib.rt:86:1
 returns-2 : tie.Need-returns-2
 returns-2 c = let a = c .before .before .before .before .before .before .before .before .before .before .before .before .args in put-both (c .before .before .before .before .before .before .put-byte .ensures) (c .before .before .put-stripped .ensures) (slashed-some (stripped (a .part .now)) (sym (c .before .before .before .before .before .before .before .before .before .blank .ensures) ∙ c .before .before .before .before .before .before .before .before .if1 .left)) (omega (arith, c .before .before .before .before .before .before .before .before .before .before .before .before .pre .1))
 

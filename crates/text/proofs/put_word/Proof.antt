@@ -9,19 +9,15 @@ use Rattle.text.proofs.put_word.Reads as reads
 use Rattle.text.proofs.put_word.Lts as lts
 use Rattle.copy.proofs.put_part.Reads as put-part-reads
 
--- src/lib.rt:131:5
 put-part-requires : tie.Need-put-part-requires
 put-part-requires c κs = search needs
 
--- src/lib.rt:132:5
 add-result : tie.Need-add-result
 add-result c = search needs
 
--- src/lib.rt:127:1
 same-length : tie.Need-same-length
 same-length c = search needs
 
--- src/lib.rt:127:1
 returns : tie.Need-returns
 returns c = let a = c .before .before .before .before .before .before .args in record { is = c .before .before .put-part .ensures ∙ ap (λ (bs : List _). sets (a .to .now) (a .at) bs) (take-length (a .word .now)); past = refl; fits = omega arith }
 

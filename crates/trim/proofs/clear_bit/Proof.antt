@@ -11,39 +11,30 @@ use Rattle.trim.proofs.clear_bit.Reads as reads
 use Rattle.trim.proofs.clear_bit.Lts as lts
 use Rattle.space.proofs.without_bit.Reads as without-bit-reads
 
--- src/lib.rt:24:14
 mul-at : tie.Need-mul-at
 mul-at c = search needs
 
--- src/lib.rt:24:30
 div-at : tie.Need-div-at
 div-at c = search needs
 
--- src/lib.rt:24:14
 add-at : tie.Need-add-at
 add-at c = search needs
 
--- src/lib.rt:25:36
 slice-read-without-bit : tie.Need-slice-read-without-bit
 slice-read-without-bit c = search needs
 
--- src/lib.rt:25:47
 rem-without-bit : tie.Need-rem-without-bit
 rem-without-bit c = search needs
 
--- src/lib.rt:25:17
 without-bit-requires : tie.Need-without-bit-requires
 without-bit-requires c κs = omega (arith, mod-lt (c .before .before .before .before .before .args .n) {m = c .before .before .before .before .before .args .g .units} (omega arith))
 
--- src/lib.rt:25:5
 slice-write-image : tie.Need-slice-write-image
 slice-write-image c = search needs
 
--- src/lib.rt:20:1
 same-length : tie.Need-same-length
 same-length c = search needs
 
--- src/lib.rt:20:1
 returns : tie.Need-returns
 unfolding freeGranule
 returns c = ap (set (c .before .before .before .before .before .before .args .image .now) (256 * c .before .before .before .before .before .before .args .g .start + c .before .before .before .before .before .before .args .n / c .before .before .before .before .before .before .args .g .units)) (c .without-bit .ensures)

@@ -12,31 +12,24 @@ Inv-loop image₀ g p e n at₀ left₀ image at left = Dropping g p image₀ n 
 abbrev μ-loop : tie.MeasureT-loop
 μ-loop image₀ g p e n at₀ left₀ image at left = left
 
--- src/lib.rt:96:5
 loop-holds : tie.Need-loop-holds Inv-loop μ-loop
 loop-holds c = dropping-start _ _ (c .before .pre)
 
--- src/lib.rt:97:9
 drop-one-requires : tie.Need-drop-one-requires Inv-loop μ-loop
 drop-one-requires c κs = dropping-one _ _ (c .before .before .loop .inv) (c .before .loop-test .taken)
 
--- src/lib.rt:98:9
 sub-left : tie.Need-sub-left Inv-loop μ-loop
 sub-left c = search needs
 
--- src/lib.rt:96:5
 loop-less : tie.Need-loop-less Inv-loop μ-loop
 loop-less c = search needs
 
--- src/lib.rt:96:5
 loop-again : tie.Need-loop-again Inv-loop μ-loop
 loop-again c = dropping-step _ _ (c .before .before .before .before .before .loop .inv) (c .before .before .before .before .loop-test .taken) (c .before .before .drop-one .ensures)
 
--- src/lib.rt:90:1
 same-length : tie.Need-same-length Inv-loop μ-loop
 same-length c = c .before .loop .inv .long
 
--- src/lib.rt:90:1
 returns : tie.Need-returns Inv-loop μ-loop
 returns c = dropping-end _ _ (c .before .loop .inv) (c .loop-test .left)
 

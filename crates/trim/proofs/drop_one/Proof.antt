@@ -20,62 +20,48 @@ use Rattle.trim.proofs.empty_pair.Reads as empty-pair-reads
 use Rattle.trim.proofs.shorten.Reads as shorten-reads
 use Rattle.trim.proofs.unhook.Reads as unhook-reads
 
--- src/lib.rt:67:13
 runs-requires : tie.Need-runs-requires
 runs-requires c κs = let a = c .before .before .args in last-reads (a .g) (a .image .now) (a .p) (a .e) (c .before .before .pre)
 
--- src/lib.rt:67:13
 sub-k : tie.Need-sub-k
 sub-k c = let a = c .before .before .before .args in omega (arith, last-run (a .g) (a .image .now) (a .p) (a .e) (c .before .before .before .pre) .0)
 
--- src/lib.rt:68:9
 run-length-requires : tie.Need-run-length-requires
 run-length-requires c κs = let a = c .before .before .before .before .args in let l = last-reads (a .g) (a .image .now) (a .p) (a .e) (c .before .before .before .before .pre) in let w = last-run (a .g) (a .image .now) (a .p) (a .e) (c .before .before .before .before .pre) in (l .0, l .1, omega arith)
 
--- src/lib.rt:69:13
 run-start-requires : tie.Need-run-start-requires
 run-start-requires c κs = let a = c .before .before .before .before .before .before .args in let l = last-reads (a .g) (a .image .now) (a .p) (a .e) (c .before .before .before .before .before .before .pre) in let w = last-run (a .g) (a .image .now) (a .p) (a .e) (c .before .before .before .before .before .before .pre) in (l .0, l .1, omega arith)
 
--- src/lib.rt:69:13
 add-n : tie.Need-add-n
 add-n c = search needs
 
--- src/lib.rt:69:13
 sub-n : tie.Need-sub-n
 sub-n c = search needs
 
--- src/lib.rt:71:9
 shorten-requires : tie.Need-shorten-requires
 shorten-requires c κs = let a = c .before .before .before .before .before .before .before .before .before .args in let l = last-reads (a .g) (a .image .now) (a .p) (a .e) (c .before .before .before .before .before .before .before .before .before .pre) in let w = last-run (a .g) (a .image .now) (a .p) (a .e) (c .before .before .before .before .before .before .before .before .before .pre) in
     (entry-fits (a .g) (a .image .now) (a .e) (l .0) (l .1), omega arith, omega (arith, c .before .before .before .before .run-length .ensures .is, c .before .if1 .taken))
 
--- src/lib.rt:72:9
 clear-bit-requires : tie.Need-clear-bit-requires
 clear-bit-requires c κs = let a = c .before .before .before .before .before .before .before .before .before .before .before .before .before .args in let l = last-reads (a .g) (a .image .now) (a .p) (a .e) (c .before .before .before .before .before .before .before .before .before .before .before .before .before .pre) in
     bit-fits (a .g) (a .image .now) (c .before .before .before .shorten .last .0) _ (l .0) (last-granule (a .g) (a .image .now) (a .p) (a .e) (c .before .before .before .before .before .before .before .before .before .before .before .before .before .pre) (c .before .before .before .before .before .before .before .before .before .before .runs .ensures .is) (c .before .before .before .before .before .before .before .before .run-length .ensures .is) (c .before .before .before .before .before .before .run-start .ensures .is)) (search needs)
 
--- src/lib.rt:73:9
 same-length : tie.Need-same-length
 same-length c = search needs
 
--- src/lib.rt:73:9
 returns : tie.Need-returns
 returns c = by-shorter _ _ _ _ (c .before .before .before .before .before .before .before .before .before .before .before .before .before .before .before .before .pre) (c .before .before .before .before .before .before .before .before .before .before .before .before .before .runs .ensures .is) (c .before .before .before .before .before .before .before .before .before .before .before .run-length .ensures .is) (c .before .before .before .before .before .before .before .before .before .run-start .ensures .is) (c .before .before .before .before .before .before .before .before .if1 .taken) (c .before .before .before .before .before .before .shorten .ensures) (c .before .before .clear-bit .ensures)
 
--- src/lib.rt:75:9
 field-requires : tie.Need-field-requires
 field-requires c κs = let a = c .before .before .before .before .before .before .before .before .before .args in let l = last-reads (a .g) (a .image .now) (a .p) (a .e) (c .before .before .before .before .before .before .before .before .before .pre) in (l .0, l .1, omega arith)
 
--- src/lib.rt:76:9
 field-requires-2 : tie.Need-field-requires-2
 field-requires-2 c κs = let a = c .before .before .before .before .before .before .before .before .before .before .before .args in let l = last-reads (a .g) (a .image .now) (a .p) (a .e) (c .before .before .before .before .before .before .before .before .before .before .before .pre) in (l .0, l .1, omega arith)
 
--- src/lib.rt:77:5
 empty-pair-requires : tie.Need-empty-pair-requires
 empty-pair-requires c κs = let a = c .before .before .before .before .before .before .before .before .before .before .before .before .before .args in let l = last-reads (a .g) (a .image .now) (a .p) (a .e) (c .before .before .before .before .before .before .before .before .before .before .before .before .before .pre) in let w = last-run (a .g) (a .image .now) (a .p) (a .e) (c .before .before .before .before .before .before .before .before .before .before .before .before .before .pre) in
     (entry-fits (a .g) (a .image .now) (a .e) (l .0) (l .1), omega arith)
 
--- src/lib.rt:80:13
 unhook-requires : tie.Need-unhook-requires
 unhook-requires c κs = let a = c .before .before .before .before .before .before .before .before .before .before .before .before .before .before .before .before .before .before .before .args in let l = last-reads (a .g) (a .image .now) (a .p) (a .e) (c .before .before .before .before .before .before .before .before .before .before .before .before .before .before .before .before .before .before .before .pre) in
     let z : length (c .before .before .before .before .before .empty-pair .last .0) ≡ length (a .image .now) = search needs in
@@ -85,30 +71,24 @@ unhook-requires c κs = let a = c .before .before .before .before .before .befor
     let s = l .1 .low in
     (omega arith, omega arith, omega arith)
 
--- src/lib.rt:81:13
 clear-bit-requires-2 : tie.Need-clear-bit-requires-2
 clear-bit-requires-2 c κs = let a = c .before .before .before .before .before .before .before .before .before .before .before .before .before .before .before .before .before .before .before .before .before .before .before .args in let l = last-reads (a .g) (a .image .now) (a .p) (a .e) (c .before .before .before .before .before .before .before .before .before .before .before .before .before .before .before .before .before .before .before .before .before .before .before .pre) in
     bit-fits (a .g) (a .image .now) (c .before .before .before .unhook .last .0) _ (l .0) (last-granule (a .g) (a .image .now) (a .p) (a .e) (c .before .before .before .before .before .before .before .before .before .before .before .before .before .before .before .before .before .before .before .before .before .before .before .pre) (c .before .before .before .before .before .before .before .before .before .before .before .before .before .before .before .before .before .before .before .before .runs .ensures .is) (c .before .before .before .before .before .before .before .before .before .before .before .before .before .before .before .before .before .before .run-length .ensures .is) (c .before .before .before .before .before .before .before .before .before .before .before .before .before .before .before .before .run-start .ensures .is)) (search needs)
 
--- src/lib.rt:82:13
 same-length-2 : tie.Need-same-length-2
 same-length-2 c = search needs
 
--- src/lib.rt:82:13
 returns-2 : tie.Need-returns-2
 returns-2 c = let a = c .before .before .before .before .before .before .before .before .before .before .before .before .before .before .before .before .before .before .before .before .before .before .before .before .before .before .args in by-unhooked (a .g) (a .image .now) (a .p) (a .e) (c .before .before .before .before .before .before .before .before .before .before .before .before .before .before .before .before .before .before .before .before .before .before .before .before .before .before .pre) (c .before .before .before .before .before .before .before .before .before .before .before .before .before .before .before .before .before .before .before .before .before .before .before .runs .ensures .is) (c .before .before .before .before .before .before .before .before .before .before .before .before .before .before .before .before .before .before .before .before .before .run-length .ensures .is) (c .before .before .before .before .before .before .before .before .before .before .before .before .before .before .before .before .before .before .before .run-start .ensures .is) (c .before .before .before .before .before .before .before .before .before .before .before .before .before .before .before .before .before .before .if1 .left)
     (extension-yes (a .g) (a .image .now) (a .e) (c .before .before .before .before .before .before .before .before .before .before .before .before .before .before .before .before .field .ensures .is) (c .before .before .before .before .before .before .before .before .before .if2 .taken)) (c .before .before .before .before .before .before .before .before .if3 .taken) (c .before .before .before .before .before .before .before .before .before .before .before .before .before .before .field2 .ensures .is) (c .before .before .before .before .before .before .before .before .before .before .before .before .empty-pair .ensures) (c .before .before .before .before .before .before .unhook .ensures) (c .before .before .clear-bit2 .ensures)
 
--- src/lib.rt:85:5
 clear-bit-requires-3 : tie.Need-clear-bit-requires-3
 clear-bit-requires-3 c κs = let a = c .before .before .before .before .before .before .before .before .before .before .before .before .before .before .before .before .before .before .args in let l = last-reads (a .g) (a .image .now) (a .p) (a .e) (c .before .before .before .before .before .before .before .before .before .before .before .before .before .before .before .before .before .before .pre) in
     bit-fits (a .g) (a .image .now) (c .before .before .before .before .empty-pair .last .0) _ (l .0) (last-granule (a .g) (a .image .now) (a .p) (a .e) (c .before .before .before .before .before .before .before .before .before .before .before .before .before .before .before .before .before .before .pre) (c .before .before .before .before .before .before .before .before .before .before .before .before .before .before .before .runs .ensures .is) (c .before .before .before .before .before .before .before .before .before .before .before .before .before .run-length .ensures .is) (c .before .before .before .before .before .before .before .before .before .before .before .run-start .ensures .is)) (search needs)
 
--- src/lib.rt:63:1
 same-length-3 : tie.Need-same-length-3
 same-length-3 c = search needs
 
--- src/lib.rt:63:1
 returns-3 : tie.Need-returns-3
 returns-3 c = let a = c .before .before .before .before .before .before .before .before .before .before .before .before .before .before .before .before .before .before .before .before .before .args in by-emptied (a .g) (a .image .now) (a .p) (a .e) (c .before .before .before .before .before .before .before .before .before .before .before .before .before .before .before .before .before .before .before .before .before .pre) (c .before .before .before .before .before .before .before .before .before .before .before .before .before .before .before .before .before .before .runs .ensures .is) (c .before .before .before .before .before .before .before .before .before .before .before .before .before .before .before .before .run-length .ensures .is) (c .before .before .before .before .before .before .before .before .before .before .before .before .before .before .run-start .ensures .is) (c .before .before .before .before .before .before .before .before .before .before .before .before .before .if1 .left)
     (⊎-elim (λ q. not-first (extension (a .g) (a .image .now) (a .e)) (c .before .before .before .before .before .before .before .before .before .before .before .before .before .before .before .before .before .before .runs .result - 1) (q .1 .left)) (λ q. is-first (extension-no (a .g) (a .image .now) (a .e) (c .before .before .before .before .before .before .before .before .before .before .before .field .ensures .is) (q .left)) (c .before .before .before .before .before .before .before .before .before .before .before .before .before .before .before .before .before .before .runs .result - 1)) (c .before .before .before .before .if2 .came))

@@ -8,63 +8,48 @@ use Rattle.trim.proofs.empty_pair.Tie as tie
 use Rattle.trim.proofs.empty_pair.Reads as reads
 use Rattle.trim.proofs.empty_pair.Lts as lts
 
--- src/lib.rt:42:21
 add-at : tie.Need-add-at
 add-at c = search needs
 
--- src/lib.rt:42:21
 add-at-2 : tie.Need-add-at-2
 add-at-2 c = search needs
 
--- src/lib.rt:42:14
 mul-at : tie.Need-mul-at
 mul-at c = search needs
 
--- src/lib.rt:42:45
 mul-at-2 : tie.Need-mul-at-2
 mul-at-2 c = search needs
 
--- src/lib.rt:42:14
 add-at-3 : tie.Need-add-at-3
 add-at-3 c = search needs
 
--- src/lib.rt:43:24
 mul-image : tie.Need-mul-image
 mul-image c = search needs
 
--- src/lib.rt:43:17
 add-image : tie.Need-add-image
 add-image c = search needs
 
--- src/lib.rt:43:11
 add-image-2 : tie.Need-add-image-2
 add-image-2 c = search needs
 
--- src/lib.rt:43:5
 slice-write-image : tie.Need-slice-write-image
 slice-write-image c = search needs
 
--- src/lib.rt:44:24
 mul-image-2 : tie.Need-mul-image-2
 mul-image-2 c = search needs
 
--- src/lib.rt:44:17
 add-image-3 : tie.Need-add-image-3
 add-image-3 c = search needs
 
--- src/lib.rt:44:11
 add-image-4 : tie.Need-add-image-4
 add-image-4 c = search needs
 
--- src/lib.rt:44:5
 slice-write-image-2 : tie.Need-slice-write-image-2
 slice-write-image-2 c = simp length-set (omega arith)
 
--- src/lib.rt:38:1
 same-length : tie.Need-same-length
 same-length c = search needs
 
--- src/lib.rt:38:1
 returns : tie.Need-returns
 unfolding setField
 returns c = refl

@@ -6,56 +6,43 @@ use Rattle.trim.proofs.shorten.Tie as tie
 use Rattle.trim.proofs.shorten.Reads as reads
 use Rattle.trim.proofs.shorten.Lts as lts
 
--- src/lib.rt:33:21
 add-at : tie.Need-add-at
 add-at c = search needs
 
--- src/lib.rt:33:21
 add-at-2 : tie.Need-add-at-2
 add-at-2 c = search needs
 
--- src/lib.rt:33:14
 mul-at : tie.Need-mul-at
 mul-at c = search needs
 
--- src/lib.rt:33:45
 mul-at-2 : tie.Need-mul-at-2
 mul-at-2 c = search needs
 
--- src/lib.rt:33:14
 add-at-3 : tie.Need-add-at-3
 add-at-3 c = search needs
 
--- src/lib.rt:33:69
 mul-at-3 : tie.Need-mul-at-3
 mul-at-3 c = search needs
 
--- src/lib.rt:33:62
 add-at-4 : tie.Need-add-at-4
 add-at-4 c = search needs
 
--- src/lib.rt:33:14
 add-at-5 : tie.Need-add-at-5
 add-at-5 c = search needs
 
--- src/lib.rt:34:17
 slice-read-image : tie.Need-slice-read-image
 slice-read-image c = search needs
 
--- src/lib.rt:34:17
 sub-image : tie.Need-sub-image
 unfolding field
 sub-image c = (c .before .before .pre) .2
 
--- src/lib.rt:34:5
 slice-write-image : tie.Need-slice-write-image
 slice-write-image c = search needs
 
--- src/lib.rt:29:1
 same-length : tie.Need-same-length
 same-length c = search needs
 
--- src/lib.rt:29:1
 returns : tie.Need-returns
 unfolding field setField
 returns c = refl

@@ -14,59 +14,45 @@ use Rattle.layout.proofs.field.Reads as field-reads
 use Rattle.layout.proofs.size_of.Reads as size-of-reads
 use Rattle.trim.proofs.drop_last.Reads as drop-last-reads
 
--- src/lib.rt:107:9
 in-range-requires : tie.Need-in-range-requires
 in-range-requires c κs = search needs
 
--- src/lib.rt:108:9
 changing-number-requires : tie.Need-changing-number-requires
 changing-number-requires c κs = search needs
 
--- src/lib.rt:110:9
 same-length : tie.Need-same-length
 same-length c = search needs
 
--- src/lib.rt:110:9
 returns : tie.Need-returns
 returns c = refused _ _ _ (by-range _ _ _ (c .before .before .before .in-range .ensures) (c .before .changing-number .ensures)) (c .if1 .taken)
 
--- src/lib.rt:112:9
 field-requires : tie.Need-field-requires
 field-requires c κs = let a = c .before .before .before .before .before .before .args in let r = trim-reads (a .g) (a .image .now) (a .h) (trim-ready (a .g) (a .image .now) (a .h) (c .before .before .before .before .in-range .result) (c .before .before .changing-number .ensures) (c .before .if1 .left)) in (r .0, r .1, omega arith)
 
--- src/lib.rt:114:9
 same-length-2 : tie.Need-same-length-2
 same-length-2 c = search needs
 
--- src/lib.rt:114:9
 returns-2 : tie.Need-returns-2
 returns-2 c = kept _ _ _ (by-range _ _ _ (c .before .before .before .before .before .before .in-range .ensures) (c .before .before .before .before .changing-number .ensures)) (c .before .before .before .if1 .left) (c .before .field .ensures .is) (c .if2 .taken)
 
--- src/lib.rt:119:9
 size-of-requires : tie.Need-size-of-requires
 size-of-requires c κs = let a = c .before .before .before .before .before .before .before .before .before .args in trim-reads (a .g) (a .image .now) (a .h) (trim-ready (a .g) (a .image .now) (a .h) (c .before .before .before .before .before .before .before .in-range .result) (c .before .before .before .before .before .changing-number .ensures) (c .before .before .before .before .if1 .left))
 
--- src/lib.rt:120:9
 granules-for-requires : tie.Need-granules-for-requires
 granules-for-requires c κs = omega (arith, c .size-of .ensures .small)
 
--- src/lib.rt:121:9
 measure-requires : tie.Need-measure-requires
 measure-requires c κs = let a = c .before .before .before .before .before .before .before .before .before .before .before .before .args in walks (a .g) (a .image .now) (a .h .slot) (trim-ready (a .g) (a .image .now) (a .h) (c .before .before .before .before .before .before .before .before .before .before .in-range .result) (c .before .before .before .before .before .before .before .before .changing-number .ensures) (c .before .before .before .before .before .before .before .if1 .left))
 
--- src/lib.rt:122:46
 sub-drop-last : tie.Need-sub-drop-last
 sub-drop-last c = let a = c .before .before .before .before .before .before .before .before .before .before .before .before .before .before .before .args in needs-owned (a .g) (a .image .now) (a .h) (trim-ready (a .g) (a .image .now) (a .h) (c .before .before .before .before .before .before .before .before .before .before .before .before .before .in-range .result) (c .before .before .before .before .before .before .before .before .before .before .before .changing-number .ensures) (c .before .before .before .before .before .before .before .before .before .before .if1 .left)) (c .before .before .measure .ensures .many) (c .before .before .before .before .before .size-of .ensures .is) (c .before .before .before .before .granules-for .ensures)
 
--- src/lib.rt:122:5
 drop-last-requires : tie.Need-drop-last-requires
 drop-last-requires c κs = let a = c .before .before .before .before .before .before .before .before .before .before .before .before .before .before .before .args in trim-last (a .g) (a .image .now) (a .h) (trim-ready (a .g) (a .image .now) (a .h) (c .before .before .before .before .before .before .before .before .before .before .before .before .before .in-range .result) (c .before .before .before .before .before .before .before .before .before .before .before .changing-number .ensures) (c .before .before .before .before .before .before .before .before .before .before .if1 .left)) (c .before .before .measure .ensures .last) (c .before .before .measure .ensures .many) (c .before .before .before .before .before .size-of .ensures .is) (c .before .before .before .before .granules-for .ensures)
 
--- src/lib.rt:103:1
 same-length-3 : tie.Need-same-length-3
 same-length-3 c = search needs
 
--- src/lib.rt:103:1
 returns-3 : tie.Need-returns-3
 returns-3 c = trimmed _ _ _ (by-range _ _ _ (c .before .before .before .before .before .before .before .before .before .before .before .before .before .before .before .before .in-range .ensures) (c .before .before .before .before .before .before .before .before .before .before .before .before .before .before .changing-number .ensures)) (c .before .before .before .before .before .before .before .before .before .before .before .before .before .if1 .left) (c .before .before .before .before .before .before .before .before .before .before .before .field .ensures .is) (c .before .before .before .before .before .before .before .before .before .before .if2 .left) (c .before .before .before .before .before .measure .ensures .many) (c .before .before .before .before .before .before .before .before .size-of .ensures .is) (c .before .before .before .before .before .before .before .granules-for .ensures) (c .before .before .drop-last .ensures)
 

@@ -45,7 +45,6 @@ abbrev marker-walk-below : ℕ → In 3 marker-walk-kinds.ps
 marker-walk-below t =
     and 3 marker-walk-kinds.ps (falls 3 marker-walk-kinds.ps _<_ μ-marker-walk t) marker-walk.Pre
 
--- src/lib.rt:181:9
 entry-walk-returns : (t : ℕ) → entry-walk-lts.Need-returns (
   take-runs-reads.Asked,
   take-runs-reads.Learnt,
@@ -56,7 +55,6 @@ entry-walk-returns : (t : ℕ) → entry-walk-lts.Need-returns (
 ) (entry-walk-at t) entry-walk.Post
 entry-walk-returns t c = walked-none _ _ _ _ (c .if1 .taken)
 
--- src/lib.rt:183:8
 entry-walk-element-copy-out-if2 : (t : ℕ) → entry-walk-lts.Need-element-copy-out-if2 (
   take-runs-reads.Asked,
   take-runs-reads.Learnt,
@@ -67,7 +65,6 @@ entry-walk-element-copy-out-if2 : (t : ℕ) → entry-walk-lts.Need-element-copy
 ) (entry-walk-at t) entry-walk.Post
 entry-walk-element-copy-out-if2 t c = search needs
 
--- src/lib.rt:184:9
 entry-walk-returns-2 : (t : ℕ) → entry-walk-lts.Need-returns-2 (
   take-runs-reads.Asked,
   take-runs-reads.Learnt,
@@ -78,7 +75,6 @@ entry-walk-returns-2 : (t : ℕ) → entry-walk-lts.Need-returns-2 (
 ) (entry-walk-at t) entry-walk.Post
 entry-walk-returns-2 t c = walked-again _ _ _ (c .before .before .if1 .left) (c .if2 .taken)
 
--- src/lib.rt:186:5
 entry-walk-element-write-met : (t : ℕ) → entry-walk-lts.Need-element-write-met (
   take-runs-reads.Asked,
   take-runs-reads.Learnt,
@@ -89,7 +85,6 @@ entry-walk-element-write-met : (t : ℕ) → entry-walk-lts.Need-element-write-m
 ) (entry-walk-at t) entry-walk.Post
 entry-walk-element-write-met t c = search needs
 
--- src/lib.rt:187:9
 entry-walk-take-runs-requires : (t : ℕ) → entry-walk-lts.Need-take-runs-requires (
   take-runs-reads.Asked,
   take-runs-reads.Learnt,
@@ -100,7 +95,6 @@ entry-walk-take-runs-requires : (t : ℕ) → entry-walk-lts.Need-take-runs-requ
 ) (entry-walk-at t) entry-walk.Post
 entry-walk-take-runs-requires t c κs = search needs
 
--- src/lib.rt:189:9
 entry-walk-returns-3 : (t : ℕ) → entry-walk-lts.Need-returns-3 (
   take-runs-reads.Asked,
   take-runs-reads.Learnt,
@@ -111,7 +105,6 @@ entry-walk-returns-3 : (t : ℕ) → entry-walk-lts.Need-returns-3 (
 ) (entry-walk-at t) entry-walk.Post
 entry-walk-returns-3 t c = walked-entry-no _ _ _ _ (c .before .before .before .before .before .before .if1 .left) (c .before .before .take-runs .ensures) (c .if3 .taken)
 
--- src/lib.rt:191:8
 entry-walk-field-at-requires : (t : ℕ) → entry-walk-lts.Need-field-at-requires (
   take-runs-reads.Asked,
   take-runs-reads.Learnt,
@@ -122,7 +115,6 @@ entry-walk-field-at-requires : (t : ℕ) → entry-walk-lts.Need-field-at-requir
 ) (entry-walk-at t) entry-walk.Post
 entry-walk-field-at-requires t c κs = search needs
 
--- src/lib.rt:192:54
 entry-walk-add-result : (t : ℕ) → entry-walk-lts.Need-add-result (
   take-runs-reads.Asked,
   take-runs-reads.Learnt,
@@ -133,7 +125,6 @@ entry-walk-add-result : (t : ℕ) → entry-walk-lts.Need-add-result (
 ) (entry-walk-at t) entry-walk.Post
 entry-walk-add-result t c = search needs
 
--- src/lib.rt:192:27
 entry-walk-mul-result : (t : ℕ) → entry-walk-lts.Need-mul-result (
   take-runs-reads.Asked,
   take-runs-reads.Learnt,
@@ -144,7 +135,6 @@ entry-walk-mul-result : (t : ℕ) → entry-walk-lts.Need-mul-result (
 ) (entry-walk-at t) entry-walk.Post
 entry-walk-mul-result t c = search needs
 
--- src/lib.rt:192:9
 entry-walk-returns-4 : (t : ℕ) → entry-walk-lts.Need-returns-4 (
   take-runs-reads.Asked,
   take-runs-reads.Learnt,
@@ -155,7 +145,6 @@ entry-walk-returns-4 : (t : ℕ) → entry-walk-lts.Need-returns-4 (
 ) (entry-walk-at t) entry-walk.Post
 entry-walk-returns-4 t c = walked-entry _ _ _ _ (c .before .before .before .before .before .before .before .before .before .if1 .left) (c .before .before .before .before .before .before .before .if2 .left) (c .before .before .before .before .before .take-runs .ensures) (c .before .before .before .if3 .left) (walked-end _ _ _ _ _ _ (c .before .before .field-at .ensures .is) (c .before .if4 .taken))
 
--- src/lib.rt:200:9
 entry-walk-sub-marker-walk : (t : ℕ) → entry-walk-lts.Need-sub-marker-walk (
   take-runs-reads.Asked,
   take-runs-reads.Learnt,
@@ -166,7 +155,6 @@ entry-walk-sub-marker-walk : (t : ℕ) → entry-walk-lts.Need-sub-marker-walk (
 ) (entry-walk-at t) entry-walk.Post
 entry-walk-sub-marker-walk t c = search needs
 
--- src/lib.rt:204:9
 entry-walk-add-marker-walk : (t : ℕ) → entry-walk-lts.Need-add-marker-walk (
   take-runs-reads.Asked,
   take-runs-reads.Learnt,
@@ -177,7 +165,6 @@ entry-walk-add-marker-walk : (t : ℕ) → entry-walk-lts.Need-add-marker-walk (
 ) (entry-walk-at t) entry-walk.Post
 entry-walk-add-marker-walk t c = search needs
 
--- src/lib.rt:194:5
 entry-walk-marker-walk-requires : (t : ℕ) → entry-walk-lts.Need-marker-walk-requires (
   take-runs-reads.Asked,
   take-runs-reads.Learnt,
@@ -188,7 +175,6 @@ entry-walk-marker-walk-requires : (t : ℕ) → entry-walk-lts.Need-marker-walk-
 ) (entry-walk-at t) entry-walk.Post
 entry-walk-marker-walk-requires t c κs = (omega arith, (c .before .before .before .before .before .before .before .before .before .before .before .before .before .pre .1 .0, c .before .before .before .before .before .before .before .before .before .before .before .before .before .pre .1 .1, c .before .before .before .before .before .before .before .take-runs .ensures .runs-is (not-false _ (c .before .before .before .before .before .if3 .left)), omega arith, λ z. c .before .before .before .if4 .left (c .before .before .before .before .field-at .ensures .is ∙ z)))
 
--- src/lib.rt:163:1
 entry-walk-returns-5 : (t : ℕ) → entry-walk-lts.Need-returns-5 (
   take-runs-reads.Asked,
   take-runs-reads.Learnt,
@@ -199,7 +185,6 @@ entry-walk-returns-5 : (t : ℕ) → entry-walk-lts.Need-returns-5 (
 ) (entry-walk-at t) entry-walk.Post
 entry-walk-returns-5 t c = walked-entry _ _ _ _ (c .before .before .before .before .before .before .before .before .before .before .before .before .if1 .left) (c .before .before .before .before .before .before .before .before .before .before .if2 .left) (c .before .before .before .before .before .before .before .before .take-runs .ensures) (c .before .before .before .before .before .before .if3 .left) (c .marker-walk .ensures)
 
--- src/lib.rt:232:9
 marker-walk-goes-on-requires : (t : ℕ) → marker-walk-lts.Need-goes-on-requires (
   goes-on-reads.Asked,
   goes-on-reads.Learnt,
@@ -212,7 +197,6 @@ marker-walk-goes-on-requires : (t : ℕ) → marker-walk-lts.Need-goes-on-requir
 ) (marker-walk-at t) marker-walk.Post
 marker-walk-goes-on-requires t c κs = search needs
 
--- src/lib.rt:233:9
 marker-walk-returns : (t : ℕ) → marker-walk-lts.Need-returns (
   goes-on-reads.Asked,
   goes-on-reads.Learnt,
@@ -225,7 +209,6 @@ marker-walk-returns : (t : ℕ) → marker-walk-lts.Need-returns (
 ) (marker-walk-at t) marker-walk.Post
 marker-walk-returns t c = walked-stop _ _ _ _ _ refl (c .before .before .before .pre .1 .4) (is-no (c .before .goes-on .ensures) (c .if1 .taken))
 
--- src/lib.rt:235:9
 marker-walk-field-at-requires : (t : ℕ) → marker-walk-lts.Need-field-at-requires (
   goes-on-reads.Asked,
   goes-on-reads.Learnt,
@@ -238,7 +221,6 @@ marker-walk-field-at-requires : (t : ℕ) → marker-walk-lts.Need-field-at-requ
 ) (marker-walk-at t) marker-walk.Post
 marker-walk-field-at-requires t c κs = search needs
 
--- src/lib.rt:236:9
 marker-walk-entry-at-requires : (t : ℕ) → marker-walk-lts.Need-entry-at-requires (
   goes-on-reads.Asked,
   goes-on-reads.Learnt,
@@ -251,7 +233,6 @@ marker-walk-entry-at-requires : (t : ℕ) → marker-walk-lts.Need-entry-at-requ
 ) (marker-walk-at t) marker-walk.Post
 marker-walk-entry-at-requires t c κs = (c .before .before .before .before .pre .1 .0, slot-of _ _ _ (ap (isSlot (c .before .before .before .before .args .g) (c .before .before .before .before .args .image .now)) (c .field-at .ensures .is) ∙ goes-slot _ _ _ _ (is-yes (c .before .before .goes-on .ensures) (c .before .if1 .left))))
 
--- src/lib.rt:237:5
 marker-walk-entry-walk-requires : (t : ℕ) → marker-walk-lts.Need-entry-walk-requires (
   goes-on-reads.Asked,
   goes-on-reads.Learnt,
@@ -264,7 +245,6 @@ marker-walk-entry-walk-requires : (t : ℕ) → marker-walk-lts.Need-entry-walk-
 ) (marker-walk-at t) marker-walk.Post
 marker-walk-entry-walk-requires t c κs = (omega arith, (c .before .before .before .before .before .before .before .pre .1 .0, c .before .before .entry-at .ensures, omega arith))
 
--- src/lib.rt:211:1
 marker-walk-returns-2 : (t : ℕ) → marker-walk-lts.Need-returns-2 (
   goes-on-reads.Asked,
   goes-on-reads.Learnt,

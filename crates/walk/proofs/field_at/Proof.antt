@@ -9,19 +9,15 @@ use Rattle.walk.proofs.field_at.Reads as reads
 use Rattle.walk.proofs.field_at.Lts as lts
 use Rattle.layout.proofs.wide.Reads as wide-reads
 
--- src/lib.rt:26:24
 add-wide : tie.Need-add-wide
 add-wide c = search needs
 
--- src/lib.rt:26:18
 shared-slice-read-wide : tie.Need-shared-slice-read-wide
 shared-slice-read-wide c = search needs
 
--- src/lib.rt:26:5
 wide-requires : tie.Need-wide-requires
 wide-requires c κs = search needs
 
--- src/lib.rt:22:1
 returns : tie.Need-returns
 unfolding field
 returns c = record { is = c .wide .ensures .is ∙ ap (λ (x : ℕ). getD (c .before .before .before .args .image .now) (x + c .before .before .before .args .k) 0) (c .before .before .before .pre .1 .is); small = c .wide .ensures .small }

@@ -11,47 +11,36 @@ use Rattle.walk.proofs.field_at.Reads as field-at-reads
 use Rattle.walk.proofs.marker_walk.Reads as marker-walk-reads
 use Rattle.walk.proofs.take_runs.Reads as take-runs-reads
 
--- src/lib.rt:178:8
 element-copy-out-if1 : tie.Need-element-copy-out-if1
 element-copy-out-if1 c = search needs
 
--- src/lib.rt:179:9
 returns : tie.Need-returns
 returns c = walked-again _ _ _ (c .before .before .before .pre .2) (c .if1 .taken)
 
--- src/lib.rt:181:5
 element-write-met : tie.Need-element-write-met
 element-write-met c = search needs
 
--- src/lib.rt:182:9
 take-runs-requires : tie.Need-take-runs-requires
 take-runs-requires c κs = search needs
 
--- src/lib.rt:184:9
 returns-2 : tie.Need-returns-2
 returns-2 c = walked-entry-no _ _ _ _ (c .before .before .before .before .before .before .before .pre .2) (c .before .before .take-runs .ensures) (c .if2 .taken)
 
--- src/lib.rt:186:8
 field-at-requires : tie.Need-field-at-requires
 field-at-requires c κs = search needs
 
--- src/lib.rt:187:27
 mul-result : tie.Need-mul-result
 mul-result c = search needs
 
--- src/lib.rt:187:9
 returns-3 : tie.Need-returns-3
 returns-3 c = walked-first _ _ _ _ (c .before .before .before .before .before .before .before .before .before .before .pre .2) (c .before .before .before .before .before .before .before .if1 .left) (c .before .before .before .before .before .take-runs .ensures) (c .before .before .before .if2 .left) (walked-end _ _ _ _ _ _ (c .before .before .field-at .ensures .is) (c .before .if3 .taken))
 
--- src/lib.rt:195:9
 sub-marker-walk : tie.Need-sub-marker-walk
 sub-marker-walk c = search needs
 
--- src/lib.rt:189:5
 marker-walk-requires : tie.Need-marker-walk-requires
 marker-walk-requires c κs = (c .before .before .before .before .before .before .before .before .before .before .before .pre .0, c .before .before .before .before .before .before .before .before .before .before .before .pre .1, c .before .before .before .before .before .before .take-runs .ensures .runs-is (not-false _ (c .before .before .before .before .if2 .left)), omega arith, λ z. c .before .before .if3 .left (c .before .before .before .field-at .ensures .is ∙ z))
 
--- src/lib.rt:162:1
 returns-4 : tie.Need-returns-4
 returns-4 c = walked-first _ _ _ _ (c .before .before .before .before .before .before .before .before .before .before .before .before .pre .2) (c .before .before .before .before .before .before .before .before .before .if1 .left) (c .before .before .before .before .before .before .before .take-runs .ensures) (c .before .before .before .before .before .if2 .left) (c .marker-walk .ensures)
 

@@ -11,23 +11,18 @@ use Rattle.walk.proofs.no_run.Reads as reads
 use Rattle.walk.proofs.no_run.Lts as lts
 use Rattle.walk.proofs.field_at.Reads as field-at-reads
 
--- src/lib.rt:64:9
 returns : tie.Need-returns
 returns c = sym (ap (λ (b : Bool). b || unused (c .before .before .args .g) (c .before .before .args .image .now) (c .before .before .args .s) (c .before .before .args .j)) (lt-ltb _ _ (c .if1 .taken)))
 
--- src/lib.rt:66:38
 mul-field-at : tie.Need-mul-field-at
 mul-field-at c = search needs
 
--- src/lib.rt:66:31
 add-field-at : tie.Need-add-field-at
 add-field-at c = search needs
 
--- src/lib.rt:66:5
 field-at-requires : tie.Need-field-at-requires
 field-at-requires c κs = search needs
 
--- src/lib.rt:59:1
 returns-2 : tie.Need-returns-2
 returns-2 c = ap (λ (x : ℕ). eqb x 0xff) (c .field-at .ensures .is) ∙ sym (ap (λ (b : Bool). b || unused (c .before .before .before .args .g) (c .before .before .before .args .image .now) (c .before .before .before .args .s) (c .before .before .before .args .j)) (le-ltb _ _ (c .before .if1 .left)))
 

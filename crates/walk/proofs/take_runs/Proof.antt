@@ -17,55 +17,42 @@ Inv-loop image g s at map₀ k₀ n₀ map k n = Entering g image s 1 (standing 
 abbrev μ-loop : tie.MeasureT-loop
 μ-loop image g s at map₀ k₀ n₀ map k n = 4 - k
 
--- src/lib.rt:93:5
 loop-holds : tie.Need-loop-holds Inv-loop μ-loop
 loop-holds c = entering-start _ _ _ _ _
 
--- src/lib.rt:94:45
 mul-field-at : tie.Need-mul-field-at Inv-loop μ-loop
 mul-field-at c = search needs
 
--- src/lib.rt:94:38
 add-field-at : tie.Need-add-field-at Inv-loop μ-loop
 add-field-at c = search needs
 
--- src/lib.rt:94:12
 field-at-requires : tie.Need-field-at-requires Inv-loop μ-loop
 field-at-requires c κs = search needs
 
--- src/lib.rt:96:21
 no-runs-requires : tie.Need-no-runs-requires Inv-loop μ-loop
 no-runs-requires c κs = search needs
 
--- src/lib.rt:95:13
 returns : tie.Need-returns Inv-loop μ-loop
 returns c = entering-stop _ _ _ (c .before .before .before .before .loop .inv) (c .before .before .before .loop-test .taken) (c .before .before .field-at .ensures .is) (c .before .if1 .taken) (c .no-runs .ensures)
 
--- src/lib.rt:101:13
 take-run-requires : tie.Need-take-run-requires Inv-loop μ-loop
 take-run-requires c κs = search needs
 
--- src/lib.rt:103:13
 returns-2 : tie.Need-returns-2 Inv-loop μ-loop
 returns-2 c = entering-bad _ _ _ (c .before .before .before .before .before .before .loop .inv) (c .before .before .before .before .before .loop-test .taken) (c .before .before .before .before .field-at .ensures .is) (c .before .before .before .if1 .left) (rw (c .if2 .taken) at (c .before .take-run .ensures))
 
--- src/lib.rt:109:9
 add-n : tie.Need-add-n Inv-loop μ-loop
 add-n c = omega arith
 
--- src/lib.rt:110:9
 add-k : tie.Need-add-k Inv-loop μ-loop
 add-k c = search needs
 
--- src/lib.rt:93:5
 loop-less : tie.Need-loop-less Inv-loop μ-loop
 loop-less c = omega arith
 
--- src/lib.rt:93:5
 loop-again : tie.Need-loop-again Inv-loop μ-loop
 loop-again c = entering-step _ _ _ (c .before .before .before .before .before .before .loop .inv) (c .before .before .before .before .before .loop-test .taken) (c .before .before .before .before .field-at .ensures .is) (c .before .before .before .if1 .left) (c .before .take-run .ensures) (c .if2 .left)
 
--- src/lib.rt:80:1
 returns-3 : tie.Need-returns-3 Inv-loop μ-loop
 returns-3 c = entering-end _ _ _ (c .before .loop .inv) (c .loop-test .left)
 

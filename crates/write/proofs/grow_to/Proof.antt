@@ -11,27 +11,21 @@ use Rattle.write.proofs.grow_to.Lts as lts
 use Rattle.growth.proofs.grow.Reads as grow-reads
 use Rattle.extent.proofs.granules_for.Reads as granules-for-reads
 
--- src/lib.rt:117:9
 granules-for-requires : tie.Need-granules-for-requires
 granules-for-requires c κs = search needs
 
--- src/lib.rt:118:18
 granules-for-requires-2 : tie.Need-granules-for-requires-2
 granules-for-requires-2 c κs = search needs
 
--- src/lib.rt:119:9
 returns : tie.Need-returns
 returns c = whole-none (c .before .before .before .before .args .g) (c .before .before .before .before .args .image .now) (c .before .before .before .before .args .p) _ (let e = c .before .before .granules-for .ensures in let f = c .before .granules-for2 .ensures in let t = c .if1 .taken in let o = c .before .before .before .before .pre .1 in omega arith)
 
--- src/lib.rt:121:5
 grow-requires : tie.Need-grow-requires
 grow-requires c κs = search needs
 
--- src/lib.rt:112:1
 same-length : tie.Need-same-length
 same-length c = search needs
 
--- src/lib.rt:112:1
 returns-2 : tie.Need-returns-2
 returns-2 c = subst (λ (w : ℕ). Whole (c .before .before .before .before .before .before .before .before .args .g) (c .before .before .before .before .before .before .before .before .args .image .now) (c .before .before .before .before .before .before .before .before .args .p) (lacking (c .before .before .before .before .before .before .before .before .args .g) (c .before .before .before .before .before .before .before .before .args .image .now) (c .before .before .before .before .before .before .before .before .args .p) w) (c .before .before .grow .result) (c .before .before .grow .last .0)) (c .before .before .before .before .before .before .granules-for .ensures) (c .before .before .grow .ensures)
 

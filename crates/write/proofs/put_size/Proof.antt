@@ -8,91 +8,69 @@ use Rattle.write.proofs.put_size.Reads as reads
 use Rattle.write.proofs.put_size.Lts as lts
 use Rattle.space.proofs.with_bit.Reads as with-bit-reads
 
--- src/lib.rt:107:21
 add-at : tie.Need-add-at
 add-at c = search needs
 
--- src/lib.rt:107:21
 add-at-2 : tie.Need-add-at-2
 add-at-2 c = search needs
 
--- src/lib.rt:107:14
 mul-at : tie.Need-mul-at
 mul-at c = search needs
 
--- src/lib.rt:107:45
 mul-at-2 : tie.Need-mul-at-2
 mul-at-2 c = search needs
 
--- src/lib.rt:107:14
 add-at-3 : tie.Need-add-at-3
 add-at-3 c = search needs
 
--- src/lib.rt:108:14
 add-n : tie.Need-add-n
 add-n c = search needs
 
--- src/lib.rt:109:40
 add-with-bit : tie.Need-add-with-bit
 add-with-bit c = search needs
 
--- src/lib.rt:109:34
 slice-read-with-bit : tie.Need-slice-read-with-bit
 slice-read-with-bit c = search needs
 
--- src/lib.rt:109:9
 with-bit-requires : tie.Need-with-bit-requires
 with-bit-requires c κs = search needs
 
--- src/lib.rt:110:21
 cast-image : tie.Need-cast-image
 cast-image c = search needs
 
--- src/lib.rt:110:11
 add-image : tie.Need-add-image
 add-image c = search needs
 
--- src/lib.rt:110:5
 slice-write-image : tie.Need-slice-write-image
 slice-write-image c = search needs
 
--- src/lib.rt:111:24
 cast-image-2 : tie.Need-cast-image-2
 cast-image-2 c = search needs
 
--- src/lib.rt:111:11
 add-image-2 : tie.Need-add-image-2
 add-image-2 c = search needs
 
--- src/lib.rt:111:5
 slice-write-image-2 : tie.Need-slice-write-image-2
 slice-write-image-2 c = let b = c .before .before .before .before .pre .0 in simp length-set (omega arith)
 
--- src/lib.rt:112:24
 cast-image-3 : tie.Need-cast-image-3
 cast-image-3 c = search needs
 
--- src/lib.rt:112:11
 add-image-3 : tie.Need-add-image-3
 add-image-3 c = search needs
 
--- src/lib.rt:112:5
 slice-write-image-3 : tie.Need-slice-write-image-3
 slice-write-image-3 c = let b = c .before .before .before .before .pre .0 in simp length-set (omega arith)
 
--- src/lib.rt:113:11
 add-image-4 : tie.Need-add-image-4
 add-image-4 c = search needs
 
--- src/lib.rt:113:5
 slice-write-image-4 : tie.Need-slice-write-image-4
 slice-write-image-4 c = let b = c .before .before .before .before .pre .0 in simp length-set (omega arith)
 
--- src/lib.rt:103:1
 same-length : tie.Need-same-length
 same-length c = search needs
 
--- src/lib.rt:103:1
 returns : tie.Need-returns
 unfolding setField field
 returns c = simp (c .with-bit .ensures)

@@ -9,23 +9,18 @@ use Rattle.write.proofs.size_after.Tie as tie
 use Rattle.write.proofs.size_after.Reads as reads
 use Rattle.write.proofs.size_after.Lts as lts
 
--- src/lib.rt:78:29
 enum-told : tie.Need-enum-told
 enum-told c = search needs
 
--- src/lib.rt:80:16
 enum-told-2 : tie.Need-enum-told-2
 enum-told-2 c = search needs
 
--- src/lib.rt:74:1
 returns : tie.Need-returns
 returns c = sym (ap (λ (m : Mode). sizeAfter m (c .before .before .args .old) (c .before .before .args .end)) (c .enum-told .given .1) ∙ after-sequential _ _)
 
--- src/lib.rt:74:1
 returns-2 : tie.Need-returns-2
 returns-2 c = sym (ap (λ (m : Mode). sizeAfter m (c .before .before .before .args .old) (c .before .before .before .args .end)) (c .before .enum-told2 .given .1) ∙ after-random _ _ ∙ (let t = c .if1 .taken in omega arith))
 
--- src/lib.rt:74:1
 returns-3 : tie.Need-returns-3
 returns-3 c = sym (ap (λ (m : Mode). sizeAfter m (c .before .before .before .args .old) (c .before .before .before .args .end)) (c .before .enum-told2 .given .1) ∙ after-random _ _ ∙ (let t = c .if1 .left in omega arith))
 

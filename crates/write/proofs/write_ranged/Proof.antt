@@ -10,23 +10,18 @@ use Rattle.write.proofs.write_ranged.Reads as reads
 use Rattle.write.proofs.write_ranged.Lts as lts
 use Rattle.handle.proofs.in_range.Reads as in-range-reads
 
--- src/lib.rt:65:9
 in-range-requires : tie.Need-in-range-requires
 in-range-requires c κs = search needs
 
--- src/lib.rt:66:9
 returns : tie.Need-returns
 returns c = sym (all-no (is-no (c .before .in-range .ensures) (c .if1 .taken)) _)
 
--- src/lib.rt:68:26
 add-if2 : tie.Need-add-if2
 add-if2 c = let q = in-reach (c .before .before .before .args .h) (is-yes (c .before .before .in-range .ensures) (c .before .if1 .left)) in let a = q .0 in let b = q .1 in omega arith
 
--- src/lib.rt:69:9
 returns-2 : tie.Need-returns-2
 returns-2 c = sym (all-yes (is-yes (c .before .before .before .in-range .ensures) (c .before .before .if1 .left)) _ ∙ all-no (lt-leb _ _ (c .if2 .taken)) _)
 
--- src/lib.rt:62:1
 returns-3 : tie.Need-returns-3
 returns-3 c = sym (all-yes (is-yes (c .before .before .before .before .in-range .ensures) (c .before .before .before .if1 .left)) _ ∙ all-yes (le-leb _ _ (c .before .if2 .left)) _ ∙ all-one _)
 
