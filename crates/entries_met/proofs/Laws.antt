@@ -1,17 +1,17 @@
 -- The map of slots: the HIT copied to it, and its rows looked through.
 use mathlib.Core.Path.{_≡_, refl, sym, ap, _∙_}
-use mathlib.Core.List.{List, [], _∷_}
+use mathlib.Core.List.{List}
 use mathlib.Core.Bool.{Bool, true, false, _&&_}
-use Prim.Native.Nat.{ℕ, zero, suc, _+_, _-_, _*_, _%_, _≤_, _<_}
+use Prim.Native.Nat.{ℕ, zero, suc, _+_, _-_, _*_, _≤_, _<_}
 use native.Mathlib.Omega.{arith}
-use lib.Dec.{eqb, ltb}
+use lib.Dec.{eqb}
 use lib.ListN.{length, getD, take, drop, set, length-set}
 use lib.Seq.{drop-cons, getD-set-same, getD-set-other}
 use mathlib.Core.Logic.{⊎-elim}
 use native.Mathlib.Numerals.{add-one}
 use borrow.Author.Tests.{eq-eqb, ne-eqb}
-use Rattle.meaning.specs.Lists.{count, every, each, keep, same, all}
-use Rattle.meaning.specs.Layout.{hit, slots, isSlot, directorySectors}
+use Rattle.meaning.specs.Lists.{count, every, each, same, all}
+use Rattle.meaning.specs.Layout.{hit, slots, directorySectors}
 use Rattle.meaning.specs.declared.Geometry.{Geometry}
 use Rattle.layout.specs.Room.{Room}
 use Rattle.layout.specs.Number.{number}
@@ -20,6 +20,7 @@ use Rattle.seek.proofs.Below.{allBelow, all-below}
 use Rattle.marks.proofs.Laws.{count-more, count-none}
 use Rattle.walk.proofs.Lists.{every-append, every-true}
 use Rattle.laws.specs.Members
+use Rattle.seek.proofs.Laws.{slotsFor, slots-are}
 use Rattle.entries_met.specs.Met.{HitCopied, metAt}
 
 -- Rows ------------------------------------------------------------------------------------------------------------------------
@@ -48,9 +49,6 @@ module _ {p : ℕ → Bool} {columns row : ℕ} (w : Rows p columns row) where
   pub rows-end : 8 ≤ row → true ≡ every p (rowsFrom columns 0)
   rows-end h = sym (ap (λ (l : List ℕ). every p (each (rowSlots columns) l)) (count-none h)) ∙ w .rest
 
-slotsFor : ℕ → List ℕ
-slotsFor n = keep (λ s. all (ltb s 256 ∷ ltb (s % 32 + 2) n ∷ [])) (count 0 256)
-
 rowsFor : ℕ → List ℕ
 rowsFor n = each (λ row. count (32 * row) (n - 2)) (count 0 8)
 
@@ -65,14 +63,10 @@ row-list : (n : ℕ) → rowsFrom (n - 2) 0 ≡ rowsFor n
 unfolding rowsFor
 row-list n = refl
 
-slot-list : (g : Geometry) (d : List ℕ) → slotsFor (directorySectors g d) ≡ slots g d
-unfolding slots isSlot slotsFor
-slot-list g d = refl
-
 pub rows-are : (g : Geometry) (d : List ℕ) {k : ℕ} → Room g d → k ≡ directorySectors g d → rowsFrom (k - 2) 0 ≡ slots g d
 rows-are g d {k} r q =
     let e : 10 + (k - 10) ≡ k = let t = r .ten in omega arith in
-    row-list k ∙ ap rowsFor (sym e) ∙ rows-for (k - 10) (let t = r .thirty in omega arith) ∙ ap slotsFor (e ∙ q) ∙ slot-list g d
+    row-list k ∙ ap rowsFor (sym e) ∙ rows-for (k - 10) (let t = r .thirty in omega arith) ∙ ap slotsFor (e ∙ q) ∙ sym (slots-are g d)
 
 -- Eight slots as one number ---------------------------------------------------------------------------------------------------
 

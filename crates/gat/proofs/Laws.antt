@@ -8,7 +8,7 @@ use native.Mathlib.Nat.{zero-add, add-zero, sub-zero, zero-mul, div-one, div-div
 use lib.ListN.{length}
 use lib.Dec.{eqb}
 use borrow.Author.Tests.{leb-true, eqb-true}
-use Rattle.meaning.specs.Lists.{count, keep}
+use Rattle.meaning.specs.Lists.{count}
 use Rattle.meaning.specs.Layout.{byte, granules, granuleBytes, granuleSectors, taken, fitsGeometry}
 use Rattle.meaning.specs.Free.{freeGranules}
 use Rattle.meaning.specs.FreeSpace.{stretch, longestIn, longest, freeSpace}
@@ -17,7 +17,7 @@ use Rattle.meaning.specs.declared.Space.{Space}
 use Rattle.laws.specs.Stretches.{stretch-taken, stretch-free, stretch-le}
 use Rattle.layout.proofs.Laws.{left-none}
 use Rattle.layout.proofs.Lists.{keep-yes, keep-no, all-at, first-hit, first-skip, first-none, not-yes, not-no}
-use Rattle.space.proofs.Clear.{gatByte, taken-at, blocks-more, block-next}
+use Rattle.space.proofs.Clear.{freeIn, gatByte, taken-at, blocks-more, block-next}
 use Rattle.gat.specs.Pass.{Gat, Tells, ended, met, bits}
 use Rattle.gat.specs.declared.Seen.{Seen}
 
@@ -86,27 +86,23 @@ module _ (g : Geometry) (d : List ℕ) where
       let q = met (taken g d i) p in
       ap (λ (k : ℕ). over i k p) e ∙ over-append (i + 1) m n q ∙ ap (λ (k : ℕ). over k n (over (i + 1) m q)) f
 
-  -- how many of n granules from i on are free
-  freeIn : ℕ → ℕ → ℕ
-  freeIn i n = length (keep (λ k. not (taken g d k)) (count i n))
-
-  free-taken : (i n : ℕ) → taken g d i ≡ true → freeIn i (suc n) ≡ freeIn (i + 1) n
+  free-taken : (i n : ℕ) → taken g d i ≡ true → freeIn g d i (suc n) ≡ freeIn g d (i + 1) n
   unfolding freeIn
   free-taken i n e = ap length (keep-no (λ k. not (taken g d k)) {x = i} (ap not e) (count (i + 1) n))
 
-  free-free : (i n : ℕ) → taken g d i ≡ false → freeIn i (suc n) ≡ suc (freeIn (i + 1) n)
+  free-free : (i n : ℕ) → taken g d i ≡ false → freeIn g d i (suc n) ≡ suc (freeIn g d (i + 1) n)
   unfolding freeIn
   free-free i n e = ap length (keep-yes (λ k. not (taken g d k)) {x = i} (ap not e) (count (i + 1) n))
 
   -- What the pass tells ------------------------------------------------------------------------------------------------------
 
-  ends-free : (n i : ℕ) (p : Seen) → ended (over i n p) .free ≡ p .free + p .here + freeIn i n
+  ends-free : (n i : ℕ) (p : Seen) → ended (over i n p) .free ≡ p .free + p .here + freeIn g d i n
   unfolding over ended met freeIn
   ends-free zero i p = omega arith
   ends-free (suc n) i p = go (taken g d i) refl (ends-free n (i + 1))
     where
-      go : (t : Bool) → taken g d i ≡ t → ((q : Seen) → ended (over (i + 1) n q) .free ≡ q .free + q .here + freeIn (i + 1) n)
-          → ended (over (i + 1) n (met (taken g d i) p)) .free ≡ p .free + p .here + freeIn i (suc n)
+      go : (t : Bool) → taken g d i ≡ t → ((q : Seen) → ended (over (i + 1) n q) .free ≡ q .free + q .here + freeIn g d (i + 1) n)
+          → ended (over (i + 1) n (met (taken g d i) p)) .free ≡ p .free + p .here + freeIn g d i (suc n)
       go true e h = rw e (omega (arith, h (ended p), free-taken i n e))
       go false e h = rw e (omega (arith, h (record { free = p .free; here = p .here + 1; longest = p .longest }), free-free i n e))
 

@@ -15,8 +15,9 @@ use Rattle.meaning.specs.Consistent.{follows}
 use Rattle.meaning.specs.Fault.{handsOn, walk, walked, metFrom, fileOf, goodExtension, chainFault, chainWhole}
 use Rattle.meaning.specs.declared.Geometry.{Geometry}
 use Rattle.layout.specs.Room.{Room, Slot}
-use Rattle.layout.proofs.Lists.{all-at, keep-yes, keep-no}
+use Rattle.layout.proofs.Lists.{all-at}
 use Rattle.layout.proofs.Sound.{slot-of, slot-yes}
+use Rattle.laws.specs.Rising.{keep-keep}
 use Rattle.laws.specs.Members
 use Rattle.laws.specs.Members.{In}
 use Rattle.laws.specs.Facts
@@ -28,19 +29,6 @@ use Rattle.kinds.specs.Reach.{reach}
 use Rattle.kinds.specs.Overlap
 use Rattle.kinds.specs.Overlap.{entriesMeet}
 use Rattle.kinds.specs.Tests.{startsTo, firstFile, leads, goodFrom, runIn, shares}
-
-keep-both : (p q : ℕ → Bool) (xs : List ℕ) → keep q (keep p xs) ≡ keep (λ x. p x && q x) xs
-keep-both p q [] = refl
-keep-both p q (x ∷ xs) = by (p x) (q x) refl refl (keep-both p q xs)
-  where
-    both : ℕ → Bool
-    both x = p x && q x
-
-    by : (a b : Bool) → p x ≡ a → q x ≡ b → keep q (keep p xs) ≡ keep both xs → keep q (keep p (x ∷ xs)) ≡ keep both (x ∷ xs)
-    by true true e f h =
-        ap (keep q) (keep-yes p e xs) ∙ keep-yes q f (keep p xs) ∙ ap (λ (l : List ℕ). x ∷ l) h ∙ sym (keep-yes both (ap (λ (u : Bool). u && q x) e ∙ f) xs)
-    by true false e f h = ap (keep q) (keep-yes p e xs) ∙ keep-no q f (keep p xs) ∙ h ∙ sym (keep-no both (ap (λ (u : Bool). u && q x) e ∙ f) xs)
-    by false b e f h = ap (keep q) (keep-no p e xs) ∙ h ∙ sym (keep-no both (ap (λ (u : Bool). u && q x) e) xs)
 
 -- a last test that is another's where the first two hold
 alike : (a b x y : Bool) → (a ≡ true → b ≡ true → x ≡ y) → (a && (b && x)) ≡ all (a ∷ b ∷ y ∷ [])
@@ -71,8 +59,8 @@ module _ (g : Geometry) (d : List ℕ) where
   files-keep : (x : ℕ) → keep (λ p. has (walk g d p) x) (files g d) ≡ keep (startsTo g d x) (count 0 256)
   unfolding files slots
   files-keep x =
-      keep-both (primary g d) (λ p. has (walk g d p) x) (keep (isSlot g d) (count 0 256))
-      ∙ keep-both (isSlot g d) (λ p. primary g d p && has (walk g d p) x) (count 0 256)
+      keep-keep (primary g d) (λ p. has (walk g d p) x) (keep (isSlot g d) (count 0 256))
+      ∙ keep-keep (isSlot g d) (λ p. primary g d p && has (walk g d p) x) (count 0 256)
       ∙ Members.keep-eq (λ p. isSlot g d p && (primary g d p && has (walk g d p) x)) (startsTo g d x) (count 0 256) (λ p i. starts-same x p)
 
   starts-file : (x p : ℕ) → T (startsTo g d x p) → File g d p
@@ -156,7 +144,7 @@ module _ (g : Geometry) (d : List ℕ) where
 
   met-is : (x : ℕ) → metFrom g d x ≡ keep (leads g d x) (count 0 256)
   unfolding metFrom slots leads all
-  met-is x = keep-both (isSlot g d) (λ b. all (eqb (link g d b) x ∷ handsOn g d b ∷ has (walked g d) b ∷ [])) (count 0 256)
+  met-is x = keep-keep (isSlot g d) (λ b. all (eqb (link g d b) x ∷ handsOn g d b ∷ has (walked g d) b ∷ [])) (count 0 256)
 
   pub good-start : (x : ℕ) → goodExtension g d x ≡ goodFrom g d x 0 (keep (leads g d x) (count 0 (256 - 0)))
   unfolding goodExtension

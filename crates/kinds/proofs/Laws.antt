@@ -6,15 +6,15 @@ use Prim.Native.Nat.{ℕ, suc, _+_, _-_, _≤_, _<_}
 use native.Mathlib.Omega.{arith}
 use lib.Dec.{eqb, ltb}
 use lib.ListN.{length, length-append}
-use borrow.Author.Tests.{eq-eqb, ne-eqb, lt-ltb, le-ltb, leb-true, not-false}
+use borrow.Author.Tests.{eq-eqb, ne-eqb, lt-ltb, le-ltb, not-false}
 use Rattle.meaning.specs.Lists.{count, every, some, each, has, keep, all, any, firstOr}
-use Rattle.meaning.specs.Layout.{granules, taken}
+use Rattle.meaning.specs.Layout.{taken}
 use Rattle.meaning.specs.Entries.{inUse, runs, link, runStart, runLength, runGranules, entryGranules}
 use Rattle.meaning.specs.Consistent.{follows, runsHold, gatHolds}
 use Rattle.meaning.specs.Fault.{handsOn, goodExtension, chainFault, runFault}
 use Rattle.meaning.specs.declared.Geometry.{Geometry}
 use Rattle.layout.specs.Room.{Slot}
-use Rattle.layout.proofs.Lists.{all-at, all-yes, all-one, every-count, keep-yes, keep-no, all-out}
+use Rattle.layout.proofs.Lists.{all-yes, all-one, keep-yes, keep-no, all-out}
 use Rattle.layout.proofs.Sound.{slot-of}
 use Rattle.walk.proofs.Lists.{every-append}
 use Rattle.laws.specs.Members
@@ -22,7 +22,7 @@ use Rattle.laws.specs.Walk
 pub use Rattle.layout.proofs.Lists.{any-one}
 pub use Rattle.marks.proofs.Laws.{count-more, count-none}
 use Rattle.kinds.specs.Reach.{reach}
-use Rattle.kinds.specs.Tests.{startsTo, firstFile, leads, tally, goodFrom, runHolds, runIn}
+use Rattle.kinds.specs.Tests.{startsTo, firstFile, leads, tally, goodFrom, runIn}
 use Rattle.kinds.specs.Overlap.{overlaps, runsMeet}
 
 -- Places in a row -------------------------------------------------------------------------------------------------------------
@@ -74,10 +74,6 @@ module _ (p : ℕ → Bool) {w : Bool} {n k : ℕ} (i : w ≡ every p (count k (
   all-held h = sym (i ∙ ap (every p) (count-none h))
 
 -- Bool ------------------------------------------------------------------------------------------------------------------------
-
-pub any-yes : {b : Bool} → b ≡ true → (bs : List Bool) → any (b ∷ bs) ≡ true
-unfolding any
-any-yes h bs = ap (λ (b : Bool). b || any bs) h
 
 -- what a test `if f(..)` says of the definition that f's contract names
 pub so : {f a : Bool} → f ≡ a → f ≡ true → a ≡ true
@@ -272,10 +268,6 @@ module _ (g : Geometry) (d : List ℕ) where
         ap (λ (j : ℕ). eqb j 1) w ∙ ends-first (eqb (n + 0) 1) refl ∙ sym (i ∙ ap (goodFrom g d x n) (ap (keep (leads g d x)) (count-none h)))
 
   -- Runs -------------------------------------------------------------------------------------------------------------------------
-
-  pub run-inside : (s k : ℕ) → runsHold g d s ≡ true → k < runs g d s → runStart g d s k + runLength g d s k ≤ granules g
-  unfolding runsHold
-  run-inside s k h l = leb-true _ _ (all-at _ (every-count (runHolds g d s) 0 (runs g d s) k h (omega arith) (omega arith)) 1)
 
   abbrev pub named : ℕ → List ℕ → List ℕ
   named s ks = each (runGranules g d s) ks

@@ -93,7 +93,7 @@ mask-out n o u (inl h) = shift-low o (2 ^ n - 1) u h
 mask-out n o u (inr h) =
     ap (λ (y : ℕ). digit (mask n o) y) (let z : u ≡ o + (u - o) = omega arith in z) ∙ shift-high o (2 ^ n - 1) (u - o) ∙ ones-out n (u - o) (omega arith)
 
-min-one : (x : ℕ) → x < 2 → min x 1 ≡ x
+pub min-one : (x : ℕ) → x < 2 → min x 1 ≡ x
 min-one zero h = refl
 min-one (suc zero) h = refl
 min-one (suc (suc x)) h = absurd (let z : ⊥ = omega arith in z)

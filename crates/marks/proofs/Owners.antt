@@ -41,7 +41,7 @@ pub coded-is : (n o : ℕ) → n < 64 → o + n ≤ 64 → coded n o ≡ mask n 
 coded-is n o h k =
     ap (λ (y : ℕ). (y - 1) * 2 ^ o % 18446744073709551616) (one-shl n h) ∙ shl-exact {a = 2 ^ n - 1} n o 64 (ones-lt n) (omega arith)
 
-other-bit : {A : Type 0} → false ≡ true → A
+pub other-bit : {A : Type 0} → false ≡ true → A
 other-bit e = absurd (true≢false (sym e))
 
 -- one stretch after another

@@ -2,7 +2,7 @@
 use mathlib.Core.Path.{_≡_, refl, sym, ap, ap₂, _∙_, subst}
 use mathlib.Core.Logic.{_⊎_, inl, inr, _≢_}
 use mathlib.Core.List.{List, [], _∷_}
-use mathlib.Core.Bool.{true, false, true≢false}
+use mathlib.Core.Bool.{true, false}
 use Prim.Native.Nat.{ℕ, zero, suc, _+_, _-_, _*_, _/_, _%_, _^_, _≤_, _<_, min, max}
 use native.Mathlib.Omega.{arith}
 use native.Mathlib.Decide.{ℕ-discrete}
@@ -17,8 +17,8 @@ use Rattle.layout.proofs.Lists.{le-or-lt}
 use Rattle.layout.specs.Number.{number}
 use Rattle.marks.specs.Owners.{shut, Takes, Window}
 use Rattle.marks.specs.Eight.{PutsEight, Spans}
-use Rattle.marks.proofs.Digits.{mask, digit-zero, digit-and, digit-or, all-zero, says-clear, clear-says, or-in, or-out}
-use Rattle.marks.proofs.Owners.{coded, coded-is}
+use Rattle.marks.proofs.Digits.{mask, min-one, digit-zero, digit-and, digit-or, all-zero, says-clear, clear-says, or-in, or-out}
+use Rattle.marks.proofs.Owners.{coded, coded-is, other-bit}
 
 -- the digits of a byte and a rest above it
 low-part : (k x y u : ℕ) → u < k → digit (x + 2 ^ k * y) u ≡ digit x u
@@ -168,9 +168,6 @@ stored-other m m′ at x q s h = ap (λ (y : ℕ). digit y (q % 8)) (s .outside 
     far : (q < 8 * at) ⊎ (8 * at + 64 ≤ q) → (q / 8 < at) ⊎ (at + 8 ≤ q / 8)
     far (inl k) = inl (omega arith)
     far (inr k) = inr (omega arith)
-
-other-bit : {A : Type 0} → false ≡ true → A
-other-bit e = absurd (true≢false (sym e))
 
 -- where a stretch of n granules from a on lies in the eight bytes from `at` on
 pub record Lies (at a n o : ℕ) : Type 0 where
@@ -338,11 +335,6 @@ same-digits (suc k) x y h l f =
     let p = pow-suc 2 k in
     let a : x % 2 ≡ y % 2 = f 0 (omega arith) in
     let b : x / 2 ≡ y / 2 = same-digits k (x / 2) (y / 2) (omega arith) (omega arith) (λ u r. f (suc u) (omega arith)) in omega arith
-
-min-one : (x : ℕ) → x < 2 → min x 1 ≡ x
-min-one zero h = refl
-min-one (suc zero) h = refl
-min-one (suc (suc x)) h = absurd (let z : ⊥ = omega arith in z)
 
 -- a digit under a window, and one outside it
 under-in : (x w u : ℕ) → digit w u ≡ 1 → digit (bitAnd x w) u ≡ digit x u

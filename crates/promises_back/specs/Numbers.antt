@@ -13,6 +13,7 @@ use Rattle.meaning.specs.LookUp.{missing}
 use Rattle.meaning.specs.BringBack.{bringBack, bringBackRefusals, whole}
 use Rattle.meaning.specs.Plain.{File, Found, found, nothing, plain}
 use Rattle.meaning.specs.declared.Geometry.{Geometry}
+use Rattle.laws.specs.Kinds
 use Rattle.laws.specs.Members.{In}
 use Rattle.laws.specs.BringBack
 use Rattle.laws.specs.BringBack.{Whole}
@@ -37,7 +38,7 @@ module _ (g : Geometry) (d : List ℕ) (s : ℕ) where
   whole-iff = (BringBack.whole-says g d s, BringBack.says-whole g d s)
 
   some-iff : T (some (taken g d) (owned g d s)) ↔ ((n : ℕ) × In n (owned g d s) × T (taken g d n))
-  some-iff = (Passing.some-in (taken g d) (owned g d s), λ k. Passing.in-some (taken g d) (k .1) (k .2))
+  some-iff = (Kinds.some-in (taken g d) (owned g d s), λ k. Kinds.in-some (taken g d) (k .1) (k .2))
 
   pub back-numbers : Exactly (bringBack g d s .0 .number) (backTable g d s)
   unfolding bringBack

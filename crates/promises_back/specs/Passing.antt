@@ -1,6 +1,5 @@
 -- What a bring back that was accepted has passed, and that what passes is accepted
 use mathlib.Core.Path.{_≡_, refl, _∙_}
-use mathlib.Core.Logic.{_⊎_, inl, inr}
 use mathlib.Core.Bool.{Bool, true, false, not}
 use mathlib.Core.List.{List, [], _∷_}
 use Prim.Native.Nat.{ℕ}
@@ -16,8 +15,8 @@ use Rattle.meaning.specs.Refusals.{first}
 use Rattle.meaning.specs.LookUp.{missing}
 use Rattle.meaning.specs.BringBack.{bringBack, bringBackRefusals, broughtBack, whole, nameInUse}
 use Rattle.meaning.specs.declared.Geometry.{Geometry}
+use Rattle.laws.specs.Kinds.{some-in, in-some}
 use Rattle.laws.specs.Members
-use Rattle.laws.specs.Members.{In}
 use Rattle.laws.specs.Facts.{Sound}
 use Rattle.laws.specs.Places
 use Rattle.laws.specs.Named
@@ -27,18 +26,6 @@ use Rattle.laws.specs.BringBack.{Back}
 use Rattle.promises.specs.CreateMeans
 
 -- some member of a list passes
-pub in-some : (p : ℕ → Bool) {x : ℕ} {xs : List ℕ} → In x xs → T (p x) → T (some p xs)
-in-some p {x} (Members.In.here {xs = xs}) t = Members.or-l (p x) (some p xs) t
-in-some p (Members.In.there {y = y} {xs = xs} i) t = Members.or-r (p y) (some p xs) (in-some p i t)
-
-pub some-in : (p : ℕ → Bool) (xs : List ℕ) → T (some p xs) → (x : ℕ) × In x xs × T (p x)
-some-in p [] t = absurd t
-some-in p (y ∷ xs) t = go (Members.or-e (p y) (some p xs) t) (some-in p xs)
-  where
-    go : T (p y) ⊎ T (some p xs) → (T (some p xs) → (x : ℕ) × In x xs × T (p x)) → (x : ℕ) × In x (y ∷ xs) × T (p x)
-    go (inl h) r = (y, Members.In.here, h)
-    go (inr h) r = let k = r h in (k .0, Members.In.there (k .1), k .2)
-
 pub record Accepted (g : Geometry) (d : List ℕ) (s : ℕ) : Type 0 where
   pub fits : Places.Fits g d
   pub sound : Sound g d

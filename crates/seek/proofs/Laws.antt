@@ -83,7 +83,7 @@ sought-past {r} xs ys k e h = ⊎-elim (λ p. past p) (λ p. absurd (never p)) (
         let y : _≡_ {A = ℕ} 0 1 = cc in omega arith
 
 -- the number of slots, for each length of a directory that there is
-slotsFor : ℕ → List ℕ
+unfoldable pub slotsFor : ℕ → List ℕ
 slotsFor n = keep (λ s. all (ltb s 256 ∷ ltb (s % 32 + 2) n ∷ [])) (count 0 256)
 
 counted : allBelow 21 (λ k. eqb (length (slotsFor (10 + k))) (8 * (8 + k))) ≡ true
@@ -93,7 +93,7 @@ counted = refl
 counted-at : (k : ℕ) → k < 21 → length (slotsFor (10 + k)) ≡ 8 * (8 + k)
 counted-at k h = eqb-true (length (slotsFor (10 + k))) (8 * (8 + k)) (all-below 21 (λ k. eqb (length (slotsFor (10 + k))) (8 * (8 + k))) counted k h)
 
-slots-are : (g : Geometry) (d : List ℕ) → slots g d ≡ slotsFor (directorySectors g d)
+pub slots-are : (g : Geometry) (d : List ℕ) → slots g d ≡ slotsFor (directorySectors g d)
 unfolding slots isSlot slotsFor
 slots-are g d = refl
 

@@ -49,7 +49,7 @@ module _ (g : Geometry) (d : List ℕ) where
   unfolding follows digit
   followed s x h = record { slot = slot-of g d x (all-at _ h 0); used = ap (bit 4) (eqb-true (field g d x 0) 0x90 (all-at _ h 1)) }
 
-  run-fits : (s k : ℕ) → runsHold g d s ≡ true → k < runs g d s → runStart g d s k + runLength g d s k ≤ granules g
+  pub run-fits : (s k : ℕ) → runsHold g d s ≡ true → k < runs g d s → runStart g d s k + runLength g d s k ≤ granules g
   unfolding runsHold
   run-fits s k h l = leb-true _ _ (all-at _ (every-count _ 0 (runs g d s) k h (omega arith) (omega arith)) 1)
 

@@ -1,7 +1,7 @@
 use mathlib.Core.Path.{sym, _∙_}
 use Rattle.meaning.specs.Fault.{hitFault}
-use Rattle.layout.proofs.Lists.{all-no, all-yes, all-one, is-no, is-yes, not-no, not-yes, any-skip}
-use Rattle.kinds.proofs.Laws.{any-yes, any-one}
+use Rattle.layout.proofs.Lists.{all-no, all-yes, all-one, is-no, is-yes, not-no, not-yes, any-skip, any-hit}
+use Rattle.kinds.proofs.Laws.{any-one}
 use borrow.Author.Needs.{needs}
 use Rattle.diagnosis.proofs.hit_fault.Statement.{statement}
 use Rattle.diagnosis.proofs.hit_fault.Tie as tie
@@ -11,7 +11,7 @@ hit-holds-requires c κs = search needs
 
 returns : tie.Need-returns
 unfolding hitFault
-returns c = sym (any-yes (not-no (is-no (c .before .hit-holds .ensures) (c .if1 .taken))) _)
+returns c = sym (any-hit (not-no (is-no (c .before .hit-holds .ensures) (c .if1 .taken))) _)
 
 flag-requires : tie.Need-flag-requires
 flag-requires c κs = search needs

@@ -1,6 +1,6 @@
 use borrow.Author.Needs.{needs}
-use Rattle.kinds.proofs.Laws.{so, not-so, any-yes, any-one, unlinked}
-use Rattle.layout.proofs.Lists.{all-no, all-yes, all-one, is-no, is-yes, any-skip}
+use Rattle.kinds.proofs.Laws.{so, not-so, any-one, unlinked}
+use Rattle.layout.proofs.Lists.{all-no, all-yes, all-one, is-no, is-yes, any-skip, any-hit}
 use Rattle.meaning.specs.Fault.{chainFault}
 use mathlib.Core.Bool.{not}
 use mathlib.Core.Path.{sym, ap, _∙_}
@@ -19,7 +19,7 @@ bad-entry-requires c κs = search needs
 
 returns-2 : tie.Need-returns-2
 unfolding chainFault
-returns-2 c = sym (all-yes (is-yes (c .before .before .before .flag .ensures) (c .before .before .if1 .left)) _ ∙ all-one _ ∙ any-yes (so (c .before .bad-entry .ensures) (c .if2 .taken)) _)
+returns-2 c = sym (all-yes (is-yes (c .before .before .before .flag .ensures) (c .before .before .if1 .left)) _ ∙ all-one _ ∙ any-hit (so (c .before .bad-entry .ensures) (c .if2 .taken)) _)
 
 linked-requires : tie.Need-linked-requires
 linked-requires c κs = search needs

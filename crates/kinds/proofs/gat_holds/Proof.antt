@@ -1,4 +1,5 @@
-use Rattle.kinds.proofs.Laws.{named, named-all, run-inside, run-taken, gat-no, gat-on, gat-end}
+use Rattle.seek.proofs.Sound.{run-fits}
+use Rattle.kinds.proofs.Laws.{named, named-all, run-taken, gat-no, gat-on, gat-end}
 use Rattle.layout.proofs.Lists.{is-no, is-yes}
 use Rattle.meaning.specs.Entries.{entryGranules}
 use Rattle.meaning.specs.Layout.{taken}
@@ -29,7 +30,7 @@ run-length-requires : tie.Need-run-length-requires Inv-loop μ-loop
 run-length-requires c κs = let h = c .before .before .before .runs .ensures .small in (c .before .before .before .before .before .pre .0, c .before .before .before .before .before .pre .1, omega arith)
 
 all-taken-requires : tie.Need-all-taken-requires Inv-loop μ-loop
-all-taken-requires c κs = let e = c .before .run-start .ensures .is in let f = c .run-length .ensures .is in let q = c .before .before .before .before .runs .ensures .is in let z = run-inside (c .before .before .before .before .before .before .args .g) (c .before .before .before .before .before .before .args .image .now) (c .before .before .before .before .before .before .args .s) (c .before .before .before .loop .k) (c .before .before .before .before .before .before .pre .2) (omega arith) in (c .before .before .before .before .before .before .pre .0, omega arith)
+all-taken-requires c κs = let e = c .before .run-start .ensures .is in let f = c .run-length .ensures .is in let q = c .before .before .before .before .runs .ensures .is in let z = run-fits (c .before .before .before .before .before .before .args .g) (c .before .before .before .before .before .before .args .image .now) (c .before .before .before .before .before .before .args .s) (c .before .before .before .loop .k) (c .before .before .before .before .before .before .pre .2) (omega arith) in (c .before .before .before .before .before .before .pre .0, omega arith)
 
 returns : tie.Need-returns Inv-loop μ-loop
 returns c = gat-no _ _ _ _ _ (c .before .before .before .before .before .loop .inv) (c .before .before .before .before .loop-test .taken) (run-taken _ _ _ _ (c .before .before .before .run-start .ensures .is) (c .before .before .run-length .ensures .is) (is-no (c .before .all-taken .ensures) (c .if1 .taken)))

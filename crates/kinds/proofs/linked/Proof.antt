@@ -1,6 +1,6 @@
 use borrow.Author.Needs.{needs}
-use Rattle.kinds.proofs.Laws.{any-yes, any-one}
-use Rattle.layout.proofs.Lists.{is-no, is-yes, not-no, not-yes, any-skip}
+use Rattle.kinds.proofs.Laws.{any-one}
+use Rattle.layout.proofs.Lists.{is-no, is-yes, not-no, not-yes, any-skip, any-hit}
 use mathlib.Core.Path.{sym, _∙_}
 use Rattle.kinds.proofs.linked.Statement.{statement}
 use Rattle.kinds.proofs.linked.Tie as tie
@@ -9,7 +9,7 @@ flag-requires : tie.Need-flag-requires
 flag-requires c κs = search needs
 
 returns : tie.Need-returns
-returns c = sym (any-yes (not-no (is-no (c .before .flag .ensures) (c .if1 .taken))) _)
+returns c = sym (any-hit (not-no (is-no (c .before .flag .ensures) (c .if1 .taken))) _)
 
 good-extension-requires : tie.Need-good-extension-requires
 good-extension-requires c κs = search needs

@@ -1,8 +1,8 @@
 use borrow.Author.Needs.{needs}
 use Rattle.kinds.proofs.Bridge.{below-is}
-use Rattle.kinds.proofs.Laws.{so, not-so, any-yes, any-one}
+use Rattle.kinds.proofs.Laws.{so, not-so, any-one}
 use Rattle.kinds.specs.Overlap.{twice-is}
-use Rattle.layout.proofs.Lists.{all-no, all-yes, all-one, is-no, is-yes, any-skip}
+use Rattle.layout.proofs.Lists.{all-no, all-yes, all-one, is-no, is-yes, any-skip, any-hit}
 use Rattle.meaning.specs.Fault.{sharedFault}
 use mathlib.Core.Path.{sym, _∙_}
 use Rattle.kinds.proofs.shared_fault.Statement.{statement}
@@ -20,7 +20,7 @@ twice-requires c κs = search needs
 
 returns-2 : tie.Need-returns-2
 unfolding sharedFault
-returns-2 c = let a = c .before .before .before .before .before .args in sym (all-yes (is-yes (c .before .before .before .flag .ensures) (c .before .before .if1 .left)) _ ∙ all-one _ ∙ any-yes (twice-is (a .g) (a .image .now) (a .s) ∙ so (c .before .twice .ensures) (c .if2 .taken)) _)
+returns-2 c = let a = c .before .before .before .before .before .args in sym (all-yes (is-yes (c .before .before .before .flag .ensures) (c .before .before .if1 .left)) _ ∙ all-one _ ∙ any-hit (twice-is (a .g) (a .image .now) (a .s) ∙ so (c .before .twice .ensures) (c .if2 .taken)) _)
 
 shared-below-requires : tie.Need-shared-below-requires
 shared-below-requires c κs = search needs
