@@ -8,7 +8,7 @@ use lib.Dec.{T, eqb, ltb, ltb→lt, lt→ltb}
 use lib.ListN.{length, take, drop}
 use borrow.Author.Tests.{eq-eqb, ne-eqb}
 use Rattle.meaning.specs.Lists.{count, every, some, keep, same}
-use Rattle.meaning.specs.Layout.{fitsGeometry, taken, isSlot, slots, entryAt, directorySectors, granuleSectors}
+use Rattle.meaning.specs.Layout.{fitsGeometry, taken, isSlot, slots, entryAt, directorySectors, granuleSectors, roundUp}
 use Rattle.meaning.specs.Entries.{primary, nameOf}
 use Rattle.meaning.specs.Chain.{files}
 use Rattle.meaning.specs.Consistent.{lengthHolds, directoryTaken, consistent}
@@ -43,7 +43,7 @@ placed n s = record { number = n; slot = s }
 
 module _ (g : Geometry) (d : List ℕ) where
   place-low : (s : ℕ) → Room g d → Slot g d s → entryAt g s + 32 ≤ length d
-  place-low s r h = let a = h .low in let b = h .held in let c = r .directory in let e = r .whole in omega arith
+  place-low s r h = let a = h .low in let b = h .held in let c = r .directory in let e = r .long in omega arith
 
   -- the eleven bytes of a name
   pub name-is : (s n : ℕ) → Room g d → Slot g d s → n ≡ 11 → take n (drop (entryAt g s + 5) d) ≡ nameOf g d s
@@ -136,14 +136,14 @@ module _ (g : Geometry) (d : List ℕ) where
   slots-done after s i h = sym (i ∙ ap (λ (l : List ℕ). lowest g d after (keep (isSlot g d) l)) (count-none h))
 
   -- a clear granule of the directory
-  taken-by : {k : ℕ} {b : Bool} → k ≡ directorySectors g d → every (taken g d) (count (g .start / granuleSectors) (k / granuleSectors)) ≡ b → directoryTaken g d ≡ b
-  taken-by e h = ap (λ (j : ℕ). every (taken g d) (count (g .start / granuleSectors) (j / granuleSectors))) (sym e) ∙ h
+  taken-by : {k : ℕ} {b : Bool} → k ≡ directorySectors g d → every (taken g d) (count (g .start / granuleSectors g) (roundUp k (granuleSectors g))) ≡ b → directoryTaken g d ≡ b
+  taken-by e h = ap (λ (j : ℕ). every (taken g d) (count (g .start / granuleSectors g) (roundUp j (granuleSectors g)))) (sym e) ∙ h
 
-  pub clear-no : {k : ℕ} → k ≡ directorySectors g d → every (taken g d) (count (g .start / granuleSectors) (k / granuleSectors)) ≡ false → unplaced 30 ≡ afterSlots g d
+  pub clear-no : {k : ℕ} → k ≡ directorySectors g d → every (taken g d) (count (g .start / granuleSectors g) (roundUp k (granuleSectors g))) ≡ false → unplaced 30 ≡ afterSlots g d
   unfolding afterSlots
   clear-no e h = sym (ap {B = Fault} (λ (b : Bool). cond b (unplaced 0) (unplaced 30)) (taken-by e h))
 
-  pub clear-yes : {k : ℕ} → k ≡ directorySectors g d → every (taken g d) (count (g .start / granuleSectors) (k / granuleSectors)) ≡ true → unplaced 0 ≡ afterSlots g d
+  pub clear-yes : {k : ℕ} → k ≡ directorySectors g d → every (taken g d) (count (g .start / granuleSectors g) (roundUp k (granuleSectors g))) ≡ true → unplaced 0 ≡ afterSlots g d
   unfolding afterSlots
   clear-yes e h = sym (ap {B = Fault} (λ (b : Bool). cond b (unplaced 0) (unplaced 30)) (taken-by e h))
 

@@ -4,14 +4,17 @@ use mathlib.Core.List.{[], _∷_}
 use Rattle.meaning.specs.Layout
 use Rattle.meaning.specs.Refusals.{check}
 use Rattle.meaning.specs.Samples.{laid, sample, opened}
+use Rattle.meaning.specs.declared.Geometry.{Geometry}
 use Rattle.facts.specs.Disks.{disk}
 
 -- position 0 to 1,966,080, sector 0 to 7,679: what 192 blocks of 8 units hold
-highest-position : Layout.highest ≡ 1966080
-highest-position = refl
+highest-position : (g : Geometry) → Layout.highest g ≡ 1966080
+unfolding opened
+highest-position g = refl
 
-highest-sector : Layout.sectorNumbers ≡ 7680
-highest-sector = refl
+highest-sector : (g : Geometry) → Layout.sectorNumbers g ≡ 7680
+unfolding opened
+highest-sector g = refl
 
 -- "blocks 1 to 192, units per block 1 to 8"
 most-units : check (disk 1 8 0) (laid 0 ((0, 0x03 ∷ []) ∷ []) 10240) ≡ 0

@@ -10,6 +10,7 @@ use lib.Dec.{eqb}
 use borrow.Author.Tests.{leb-true, eqb-true}
 use Rattle.meaning.specs.Lists.{count}
 use Rattle.meaning.specs.Layout.{byte, granules, granuleBytes, granuleSectors, taken, fitsGeometry}
+use Rattle.meaning.specs.Sizes
 use Rattle.meaning.specs.Free.{freeGranules}
 use Rattle.meaning.specs.FreeSpace.{stretch, longestIn, longest, freeSpace}
 use Rattle.meaning.specs.declared.Geometry.{Geometry}
@@ -193,9 +194,9 @@ pub gat-fits : (g : Geometry) (d : List ℕ) → fitsGeometry g d ≡ true → G
 unfolding fitsGeometry
 gat-fits g d f =
     let a = leb-true (g .blocks) 192 (all-at _ f 1) in
-    let b = eqb-true (length d) (granules g * granuleBytes) (all-at _ f 5) in
-    let c = leb-true (g .start + 10) (granules g * granuleSectors) (all-at _ f 6) in
-    record { blocks-high = a; units-low = leb-true _ _ (all-at _ f 2); units-high = leb-true _ _ (all-at _ f 3); inside = omega arith }
+    let b = eqb-true (length d) (granules g * granuleBytes g) (all-at _ f 5) in
+    let c = leb-true (g .start + 10) (granules g * granuleSectors g) (all-at _ f 6) in
+    record { blocks-high = a; units-low = leb-true _ _ (all-at _ f 2); units-high = leb-true _ _ (all-at _ f 3); inside = omega (arith, Sizes.bytes-sectors g) }
 
 -- Refused and accepted ----------------------------------------------------------------------------------------------------
 

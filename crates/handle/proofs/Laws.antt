@@ -9,6 +9,7 @@ use lib.Dec.{eqb, ltb}
 use borrow.Author.Tests.{not-false, leb-true}
 use Rattle.meaning.specs.Lists.{every, any}
 use Rattle.meaning.specs.Layout.{fitsGeometry, highest}
+use Rattle.meaning.specs.Sizes
 use Rattle.meaning.specs.Consistent.{consistent}
 use Rattle.meaning.specs.Entries.{inUse, extension, primary, system}
 use Rattle.meaning.specs.Refusals.{first, check, faultNumbers, diskRefusals, inRange, fresh, staleHandle, handleRefusals, protected, goodLength}
@@ -84,9 +85,9 @@ module _ (g : Geometry) (d : List ℕ) where
     pub first′ : primary g d (h .slot) ≡ true
     pub used : inUse g d (h .slot) ≡ true
 
-  pub ranges : (h : Handle) → inRange h ≡ true → (h .at ≤ highest) × (1 ≤ h .len) × (h .len ≤ 256) × (h .level ≤ 7)
+  pub ranges : (h : Handle) → inRange g h ≡ true → (h .at ≤ 7864320) × (1 ≤ h .len) × (h .len ≤ 256) × (h .level ≤ 7)
   unfolding inRange
-  ranges h r = let l = length-range (h .len) (all-at _ r 1) in (leb-true _ _ (all-at _ r 0), l .0, l .1, leb-true _ _ (all-at _ r 2))
+  ranges h r = let l = length-range (h .len) (all-at _ r 1) in let a = leb-true _ (highest g) (all-at _ r 0) in (omega (arith, Sizes.bytes-are g, Sizes.sectors-most g), l .0, l .1, leb-true _ _ (all-at _ r 2))
 
   pub is-slot : (h : Handle) → fresh g d h ≡ true → Slot g d (h .slot)
   unfolding fresh

@@ -19,8 +19,8 @@ pub fn good_length(len: usize) -> bool
 }
 
 // Position, record length and level are in range.
-pub fn in_range(h: Handle) -> bool
-    ensures { λ r. ⌜ r ≡ inRange h ⌝ }
+pub fn in_range(g: Geometry, h: Handle) -> bool
+    ensures { λ r. ⌜ r ≡ inRange g h ⌝ }
 {
     if layout::HIGHEST < h.at {
         return false;

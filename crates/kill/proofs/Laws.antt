@@ -12,7 +12,7 @@ use Rattle.meaning.specs.declared.Answer.{Answer}
 
 module _ (g : Geometry) (d : List ℕ) (h : Handle) where
   -- the number of a kill is that of a changing call at level 1
-  pub by-range : {ranged : Bool} {n : ℕ} → ranged ≡ inRange h → n ≡ first (handleRefusals g d h ranged (protected g d 1 h ∷ [])) → n ≡ first (killRefusals g d h)
+  pub by-range : {ranged : Bool} {n : ℕ} → ranged ≡ inRange g h → n ≡ first (handleRefusals g d h ranged (protected g d 1 h ∷ [])) → n ≡ first (killRefusals g d h)
   by-range r e = e ∙ ap (λ (t : Bool). first (handleRefusals g d h t (protected g d 1 h ∷ []))) r
 
   pub refused : {n : ℕ} → n ≡ first (killRefusals g d h) → (n ≡ 0 → ⊥) → _≡_ {A = Answer × List ℕ} (record { number = n; handle = h }, d) (kill g d h)

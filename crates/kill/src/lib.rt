@@ -11,7 +11,7 @@ pub fn kill_checked(image: &mut [u8], g: Geometry, h: Handle, checked: u8) -> An
     requires { ⌜ checked ≡ check g (now image) ⌝ }
     ensures { λ r. ⌜ (r, now (image .exit)) ≡ kill g (now (image .entry)) h ⌝ }
 {
-    let ranged = handle::in_range(h);
+    let ranged = handle::in_range(g, h);
     let number = handle::changing_number(image, g, h, ranged, 1, checked);
     if number != 0 {
         return Answer { number, handle: h };

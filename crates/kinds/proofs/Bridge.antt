@@ -8,7 +8,7 @@ use native.Mathlib.Nat.{zero-add}
 use lib.Dec.{T, eqb, ltb, ltb→lt, lt→ltb}
 use lib.ListN.{length}
 use Rattle.meaning.specs.Lists.{count, every, some, has, keep, all, firstOr}
-use Rattle.meaning.specs.Layout.{isSlot, slots, directorySectors, directoryGranules, granuleSectors}
+use Rattle.meaning.specs.Layout.{isSlot, slots, directorySectors, directoryGranules, granuleSectors, roundUp}
 use Rattle.meaning.specs.Entries.{inUse, primary, runs, link, runStart, runLength, runGranules, entryGranules}
 use Rattle.meaning.specs.Chain.{chain, files}
 use Rattle.meaning.specs.Consistent.{follows}
@@ -224,8 +224,8 @@ module _ (g : Geometry) (d : List ℕ) where
       ap (λ (j : ℕ). reach g d j p) e ∙ whole-owns p (slot-yes g d p (h .low) (h .held)) b (whole-by p h b e ∙ w)
 
   pub directory-by : (s : ℕ) {k : ℕ} → Room g d → k ≡ directorySectors g d
-      → some (runIn g d (g .start / granuleSectors) (k / granuleSectors) s) (count 0 (runs g d s)) ≡ some (has (directoryGranules g d)) (entryGranules g d s)
+      → some (runIn g d (g .start / granuleSectors g) (roundUp k (granuleSectors g)) s) (count 0 (runs g d s)) ≡ some (has (directoryGranules g d)) (entryGranules g d s)
   directory-by s {k} r e =
       let t = r .ten in
-      let u : 1 ≤ directorySectors g d / granuleSectors = omega arith in
-      ap (λ (j : ℕ). some (runIn g d (g .start / granuleSectors) (j / granuleSectors) s) (count 0 (runs g d s))) e ∙ sym (within-is s (g .start / granuleSectors) (directorySectors g d / granuleSectors) u)
+      let u : 1 ≤ roundUp (directorySectors g d) (granuleSectors g) = omega arith in
+      ap (λ (j : ℕ). some (runIn g d (g .start / granuleSectors g) (roundUp j (granuleSectors g)) s) (count 0 (runs g d s))) e ∙ sym (within-is s (g .start / granuleSectors g) (roundUp (directorySectors g d) (granuleSectors g)) u)

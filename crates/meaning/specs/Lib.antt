@@ -1,6 +1,7 @@
 pub mod Lists
 pub mod Bits
 pub mod Layout
+pub mod Sizes
 pub mod Names
 pub mod Entries
 pub mod Chain

@@ -22,7 +22,7 @@ module _ (g : Geometry) (d : List ℕ) where
   -- 12 also where the buffer is shorter than the record length; `room` is the buffer's length. 10: read past the size.
   abbrev pub readRefusals : Handle → ℕ → List (ℕ × Bool)
   readRefusals h room =
-      Refusals.handleRefusals g d h (all (Refusals.inRange h ∷ leb (h .len) room ∷ []))
+      Refusals.handleRefusals g d h (all (Refusals.inRange g h ∷ leb (h .len) room ∷ []))
       (Refusals.notForReading h ∷ (10, ltb (Entries.sizeOf g d (h .slot)) (h .at + h .len)) ∷ [])
 
   -- Position + length must not pass the size; the bytes go to the start of the buffer, the rest of it is untouched, the position advances.
@@ -36,7 +36,7 @@ module _ (g : Geometry) (d : List ℕ) where
   -- 12 also where the sector is out of range (0 to 7,679). 10: sector k not below n.
   abbrev pub sectorRefusals : Handle → ℕ → List (ℕ × Bool)
   sectorRefusals h k =
-      Refusals.handleRefusals g d h (all (Refusals.inRange h ∷ ltb k Layout.sectorNumbers ∷ []))
+      Refusals.handleRefusals g d h (all (Refusals.inRange g h ∷ ltb k (Layout.sectorNumbers g) ∷ []))
       (Refusals.notForReading h ∷ (10, leb (Entries.sectorCount g d (h .slot)) k) ∷ [])
 
   -- how many bytes of sector k are the file's: what the end byte says of the last one, else 256

@@ -28,8 +28,8 @@ unfoldable pub goodLength : ℕ → Bool
 goodLength len = all (leb 1 len ∷ leb len 256 ∷ [])
 
 -- position (0 to 1,966,080), record length and level (0 to 7): tested by each call that is given a handle
-unfoldable pub inRange : Handle → Bool
-inRange h = all (leb (h .at) Layout.highest ∷ goodLength (h .len) ∷ leb (h .level) 7 ∷ [])
+unfoldable pub inRange : Geometry → Handle → Bool
+inRange g h = all (leb (h .at) (Layout.highest g) ∷ goodLength (h .len) ∷ leb (h .level) 7 ∷ [])
 
 -- day 0 to 31, month and year offset 0 to 15
 unfoldable pub newInRange : NewFile → Bool

@@ -235,7 +235,7 @@ made g d n f checking e o = rw (e, Members.T-true {b = missing g d n} (fresh-of 
 pub create-serves : (g : Geometry) (d n : List ℕ) (f : NewFile) (checking : Bool) → create g d n f checking .0 .number ≡ 0 → Creates g d n f checking
 create-serves g d n f checking e = record {
   old = λ o. (old o, Passing.old-stands g d n f checking o);
-  new = λ o. (Changing.create-becomes g d n f checking e o, live o, subst InRange (sym (made g d n f checking e o)) (record { at = omega arith; length′ = range .length′; level = omega arith }));
+  new = λ o. (Changing.create-becomes g d n f checking e o, live o, subst (InRange g) (sym (made g d n f checking e o)) (record { at = omega arith; length′ = range .length′; level = omega arith }));
   handle′ = λ o. made g d n f checking e o;
 }
   where

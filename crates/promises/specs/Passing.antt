@@ -56,8 +56,8 @@ unfolding all
 first-of a b t = Members.and-l a (b && true) t
 
 -- a handle in range, moved within the range
-pub further : (h : Handle) (at : ℕ) → InRange h → at ≤ highest → InRange (movedTo h at)
-further h at r l = record { at = l; length′ = r .length′; level = r .level }
+pub further : (g : Geometry) (h : Handle) (at : ℕ) → InRange g h → at ≤ highest g → InRange g (movedTo h at)
+further g h at r l = record { at = l; length′ = r .length′; level = r .level }
 
 -- Refused ---------------------------------------------------------------------------------------------------------------------------
 

@@ -161,8 +161,8 @@ abbrev pub LengthInRange : ℕ → Type 0
 LengthInRange len = (1 ≤ len) × (len ≤ 256)
 
 -- position 0 to 1,966,080, level 0 to 7
-pub record InRange (h : Handle) : Type 0 where
-  pub at : h .at ≤ highest
+pub record InRange (g : Geometry) (h : Handle) : Type 0 where
+  pub at : h .at ≤ highest g
   pub length′ : LengthInRange (h .len)
   pub level : h .level ≤ 7
 
@@ -174,7 +174,7 @@ pub record Changes (g : Geometry) (d d′ : List ℕ) (h h′ : Handle) (u : Fil
   pub becomes : Becomes g d d′ (h .name) (found file) (u file)
   pub handle′ : h′ ≡ moved
   pub live : (f : File) → u file ≡ found f → Live g d′ h′
-  pub ranged : InRange h′
+  pub ranged : InRange g h′
 
 -- 3. What an accepted call answers ------------------------------------------------------------------------------------------------------
 
@@ -210,7 +210,7 @@ pub record Opened (g : Geometry) (d n : List ℕ) (len : ℕ) (checking : Bool) 
   pub file : File
   pub called : plain g d n ≡ found file
   pub live : Live g d h
-  pub ranged : InRange h
+  pub ranged : InRange g h
   pub name″ : h .name ≡ n
   pub start : h .at ≡ 0
   pub length′ : h .len ≡ len
@@ -223,7 +223,7 @@ pub record Creates (g : Geometry) (d n : List ℕ) (f : NewFile) (checking : Boo
       → Opened g d n (f .len) checking (f .main) (create g d n f checking .0 .handle) × (create g d n f checking .1 ≡ d)
   pub new : create g d n f checking .0 .old ≡ false
       → Becomes g d (create g d n f checking .1) n nothing (found (bornAs f))
-      × Live g (create g d n f checking .1) (create g d n f checking .0 .handle) × InRange (create g d n f checking .0 .handle)
+      × Live g (create g d n f checking .1) (create g d n f checking .0 .handle) × InRange g (create g d n f checking .0 .handle)
   pub handle′ : create g d n f checking .0 .old ≡ false
       → create g d n f checking .0 .handle ≡ record { slot = firstOr 0 (freeSlots g d); name = n; at = 0; len = f .len; level = 0 }
 
@@ -234,7 +234,7 @@ pub record Reads (g : Geometry) (d : List ℕ) (h : Handle) (b : List ℕ) : Typ
   pub inside : h .at + h .len ≤ length (file .bytes)
   pub buffer : readRecord g d h b .1 ≡ take (h .len) (drop (h .at) (file .bytes)) ++ drop (h .len) b
   pub handle′ : readRecord g d h b .0 .handle ≡ movedTo h (h .at + h .len)
-  pub ranged : InRange (readRecord g d h b .0 .handle)
+  pub ranged : InRange g (readRecord g d h b .0 .handle)
 
 -- Read sector k: the image's bytes from one place up to another, 1 to 256 of them, are the plain file's bytes 256k and on
 pub record ReadsSector (g : Geometry) (d : List ℕ) (h : Handle) (k : ℕ) : Type 0 where
@@ -290,9 +290,9 @@ Serves g d (creates n f checking) = Creates g d n f checking
 Serves g d (reads h b) = Reads g d h b
 Serves g d (readsSector h k) = ReadsSector g d h k
 Serves g d (writes m h b) =
-    Changes g d (writeRecord g d m h b .1) h (writeRecord g d m h b .0 .handle) (λ f. found (writtenTo m (h .at) (take (h .len) b) f)) (movedTo h (h .at + h .len))
-Serves g d (allots h k) = Changes g d (allot g d h k .1) h (allot g d h k .0 .handle) (λ f. found (allottedTo k f)) h
-Serves g d (trims h) = Changes g d (trim g d h .1) h (trim g d h .0 .handle) (λ f. found (trimmed f)) h
+    Changes g d (writeRecord g d m h b .1) h (writeRecord g d m h b .0 .handle) (λ f. found (writtenTo g m (h .at) (take (h .len) b) f)) (movedTo h (h .at + h .len))
+Serves g d (allots h k) = Changes g d (allot g d h k .1) h (allot g d h k .0 .handle) (λ f. found (allottedTo g k f)) h
+Serves g d (trims h) = Changes g d (trim g d h .1) h (trim g d h .0 .handle) (λ f. found (trimmed g f)) h
 Serves g d (kills h) = Changes g d (kill g d h .1) h (kill g d h .0 .handle) (λ f. nothing) h
 Serves g d (lists i) = Lists g d i
 Serves g d counts = Counted g d
@@ -344,8 +344,8 @@ pub record Fits (g : Geometry) (d : List ℕ) : Type 0 where
   pub blocks-hi : g .blocks ≤ mostBlocks
   pub units-lo : 1 ≤ g .units
   pub units-hi : g .units ≤ mostUnits
-  pub start-at : g .start % granuleSectors ≡ 0
-  pub long : length d ≡ granules g * granuleBytes
+  pub start-at : g .start % granuleSectors g ≡ 0
+  pub long : length d ≡ granules g * granuleBytes g
   pub ten : g .start + 10 ≤ sectors g
 
 -- day 0 to 31, month and year offset 0 to 15
@@ -415,15 +415,15 @@ module _ (g : Geometry) (d : List ℕ) where
   table (creates n f checking) =
       diskCases ((12, (NewInRange f → ⊥)) ∷ (3, wellFormed n ≡ false) ∷ (5, WrongCode n checking (f .main)) ∷ (8, NoFile n × (freeSlots g d ≡ [])) ∷ [])
   table (reads h b) =
-      handleCases h (InRange h × (h .len ≤ length b)) ((6, 5 < h .level) ∷ (10, length (fileOf h .bytes) < h .at + h .len) ∷ [])
+      handleCases h (InRange g h × (h .len ≤ length b)) ((6, 5 < h .level) ∷ (10, length (fileOf h .bytes) < h .at + h .len) ∷ [])
   table (readsSector h k) =
-      handleCases h (InRange h × (k < sectorNumbers)) ((6, 5 < h .level) ∷ (10, sectorCount g d (h .slot) ≤ k) ∷ [])
+      handleCases h (InRange g h × (k < sectorNumbers g)) ((6, 5 < h .level) ∷ (10, sectorCount g d (h .slot) ≤ k) ∷ [])
   table (writes m h b) =
-      handleCases h (InRange h × (h .at + h .len ≤ highest) × (h .len ≤ length b))
-      (barred 4 h ∷ growthCases h (lacks h (granulesFor (sizeAfter m (length (fileOf h .bytes)) (h .at + h .len)))))
-  table (allots h k) = handleCases h (InRange h × (k < sectorNumbers)) (barred 4 h ∷ growthCases h (lacks h (granulesTo k)))
-  table (trims h) = handleCases h (InRange h) (barred 4 h ∷ [])
-  table (kills h) = handleCases h (InRange h) (barred 1 h ∷ [])
+      handleCases h (InRange g h × (h .at + h .len ≤ highest g) × (h .len ≤ length b))
+      (barred 4 h ∷ growthCases h (lacks h (granulesFor g (sizeAfter m (length (fileOf h .bytes)) (h .at + h .len)))))
+  table (allots h k) = handleCases h (InRange g h × (k < sectorNumbers g)) (barred 4 h ∷ growthCases h (lacks h (granulesTo g k)))
+  table (trims h) = handleCases h (InRange g h) (barred 4 h ∷ [])
+  table (kills h) = handleCases h (InRange g h) (barred 1 h ∷ [])
   table (lists i) = diskCases []
   table counts = diskCases []
   table measures = (1, (Fits g d → ⊥)) ∷ []

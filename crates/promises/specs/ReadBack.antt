@@ -65,7 +65,7 @@ module _ (g : Geometry) (d : List ℕ) (m : Mode) (h : Handle) (b : List ℕ) (e
   abbrev O : List ℕ
   O = fileAt g d (h .slot) .bytes
 
-  wrote : WriteMeans.Wrote g d (writeRecord g d m h b .1) (h .slot) (writtenTo m (h .at) (take (h .len) b) (fileAt g d (h .slot)))
+  wrote : WriteMeans.Wrote g d (writeRecord g d m h b .1) (h .slot) (writtenTo g m (h .at) (take (h .len) b) (fileAt g d (h .slot)))
   wrote = WriteMeans.write-wrote g d m h b e .1
 
   new : fileAt g (writeRecord g d m h b .1) (h .slot) .bytes ≡ overwritten m (fileAt g d (h .slot) .bytes) (h .at) (take (h .len) b)

@@ -9,6 +9,7 @@ use lib.ListN.{length, take, replicate}
 use lib.Dec.{T, leb, leb→le}
 use Rattle.meaning.specs.Lists.{all}
 use Rattle.meaning.specs.Layout.{highest}
+use Rattle.meaning.specs.Sizes
 use Rattle.meaning.specs.Names.{wellFormed}
 use Rattle.meaning.specs.Entries.{sizeOf, sectorsFor}
 use Rattle.meaning.specs.Chain.{place}
@@ -83,14 +84,14 @@ module _ (g : Geometry) (d : List ℕ) (k : Good g d) where
       let x = Grow.larger-grew g d h more (w .0) (w .1) in
       let p₂ = Passed.disk-passed g d _ e in
       let p₃ = passed 12 _ _ (omega arith) (p₂ .1) in
-      let tests : Bool = all (leb (h .at + h .len) highest ∷ leb (h .len) (length b) ∷ []) in
-      let range : T (inRange h && tests) = yes-T (inRange h && tests) (p₃ .0) in
-      let top = leb→le (h .at + h .len) highest (Members.and-l (leb (h .at + h .len) highest) (all (leb (h .len) (length b) ∷ [])) (Members.and-r (inRange h) tests range)) in
+      let tests : Bool = all (leb (h .at + h .len) (highest g) ∷ leb (h .len) (length b) ∷ []) in
+      let range : T (inRange g h && tests) = yes-T (inRange g h && tests) (p₃ .0) in
+      let top = leb→le (h .at + h .len) (highest g) (Members.and-l (leb (h .at + h .len) (highest g)) (all (leb (h .len) (length b) ∷ [])) (Members.and-r (inRange g h) tests range)) in
       let d₁ = larger g d p more in let F = place g d₁ p in let old = sizeOf g d p in
       let old-sectors = Bytes.size-sectors g d fit p s in
       let size = sizeAfter m old (h .at + h .len) in
       let bound = Over.after-max m old (h .at + h .len) in
-      let two : sectorsFor size < 65536 = omega arith in
+      let two : sectorsFor size < 65536 = omega (arith, Sizes.bytes-are g, Sizes.sectors-most g) in
       rw e (Bytes.small-size g d fit _ p size
       (Bytes.small-store F (take (h .len) b) (h .at)
       (Bytes.small-store F (replicate (h .at - old) 0) old (x .kept .small s) (Bytes.small-replicate (h .at - old) (omega arith)))

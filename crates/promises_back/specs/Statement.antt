@@ -42,7 +42,7 @@ pub record BringsBack (g : Geometry) (d d′ : List ℕ) (s many more : ℕ) : T
   pub bytes : (x k : ℕ) → In x (chain g d s) → 1 ≤ k → k < 32 → field g d′ x k ≡ field g d x k
   pub hits : (x : ℕ) → In x (chain g d s) → hit g d′ x ≡ hash (nameOf g d s)
   pub gat : (n : ℕ) → n < granules g → (In n (owned g d s) → ⊥) → taken g d′ n ≡ taken g d n
-  pub data′ : (i : ℕ) → (In (i / granuleBytes) (directoryGranules g d) → ⊥) → byte d′ i ≡ byte d i
+  pub data′ : (i : ℕ) → (In (i / granuleBytes g) (directoryGranules g d) → ⊥) → byte d′ i ≡ byte d i
 
 -- 17 slot in use, 6 bit 6 set, 18 nothing whole to bring back, 19 name in use, 20 a granule is taken; after 2 (21 to 30) and 12, a slot the
 -- directory lacks

@@ -28,7 +28,7 @@ pub fn read_part(
     buffer: &mut [u8],
     to: usize,
 )
-    requires { ⌜ File g (now image) s × Owned g (now image) s i n × InGranule i n × (to + n ≤ length (now buffer)) ⌝ }
+    requires { ⌜ File g (now image) s × Owned g (now image) s i n × InGranule g i n × (to + n ≤ length (now buffer)) ⌝ }
     ensures { λ _. ⌜ now (buffer .exit) ≡ sets (now (buffer .entry)) to (fetch g (now (image .entry)) s i n) ⌝ }
 {
     let p = seek::place(image, g, s, i);
@@ -50,10 +50,10 @@ pub fn read_bytes(image: &[u8], g: Geometry, s: usize, i: usize, n: usize, buffe
 }
 
 // Test 12 of a read: the handle's numbers are in range, and the record fits a buffer of length `room`.
-pub fn record_ranged(h: Handle, room: usize) -> bool
-    ensures { λ r. ⌜ r ≡ all (inRange h ∷ leb (h .len) room ∷ []) ⌝ }
+pub fn record_ranged(g: Geometry, h: Handle, room: usize) -> bool
+    ensures { λ r. ⌜ r ≡ all (inRange g h ∷ leb (h .len) room ∷ []) ⌝ }
 {
-    if !handle::in_range(h) {
+    if !handle::in_range(g, h) {
         return false;
     }
     h.len <= room
@@ -64,7 +64,7 @@ pub fn record_number(image: &[u8], g: Geometry, h: Handle, room: usize, checked:
     requires { ⌜ checked ≡ check g (now image) ⌝ }
     ensures { λ r. ⌜ r ≡ first (readRefusals g (now (image .entry)) h room) ⌝ }
 {
-    let ranged = record_ranged(h, room);
+    let ranged = record_ranged(g, h, room);
     let number = handle::reading_number(image, g, h, ranged, checked);
     if number != 0 {
         return number;
@@ -100,10 +100,10 @@ pub fn record_checked(
 }
 
 // Test 12 of a call that names a sector.
-pub fn sector_ranged(h: Handle, k: usize) -> bool
-    ensures { λ r. ⌜ r ≡ all (inRange h ∷ ltb k sectorNumbers ∷ []) ⌝ }
+pub fn sector_ranged(g: Geometry, h: Handle, k: usize) -> bool
+    ensures { λ r. ⌜ r ≡ all (inRange g h ∷ ltb k (sectorNumbers g) ∷ []) ⌝ }
 {
-    if !handle::in_range(h) {
+    if !handle::in_range(g, h) {
         return false;
     }
     k < layout::SECTOR_NUMBERS
@@ -113,7 +113,7 @@ pub fn sector_number(image: &[u8], g: Geometry, h: Handle, k: usize, checked: u8
     requires { ⌜ checked ≡ check g (now image) ⌝ }
     ensures { λ r. ⌜ r ≡ first (sectorRefusals g (now (image .entry)) h k) ⌝ }
 {
-    let ranged = sector_ranged(h, k);
+    let ranged = sector_ranged(g, h, k);
     let number = handle::reading_number(image, g, h, ranged, checked);
     if number != 0 {
         return number;

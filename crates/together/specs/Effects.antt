@@ -210,8 +210,8 @@ module _ (g : Geometry) (n : Name) (d : List ℕ) (hs : List Handle) (k : Good g
       record {
         good = good-after g d d′ k (w .1 .long) (w .1 .consistent′);
         held = held-set n hs i _ held (name-kept q);
-        file = stands-changed g d n h (w .0) q d′ (writtenTo m (h .at) (take (h .len) b)) (w .1 .own)
-            ∙ ap (λ (x : Grip). changed (writtenTo m (x .at) (take (x .len) b)) (stands g d n)) (sym (grip-at i));
+        file = stands-changed g d n h (w .0) q d′ (writtenTo g m (h .at) (take (h .len) b)) (w .1 .own)
+            ∙ ap (λ (x : Grip). changed (writtenTo g m (x .at) (take (x .len) b)) (stands g d n)) (sym (grip-at i));
         grips = handle-moved;
         spares = stands-others g d n h (w .0) q d′ (w .1 .others);
       }
@@ -235,7 +235,7 @@ module _ (g : Geometry) (n : Name) (d : List ℕ) (hs : List Handle) (k : Good g
       record {
         good = good-after g d d′ k (x .long) (x .consistent′);
         held = held;
-        file = stands-changed g d n h w q d′ (allottedTo j) (x .own);
+        file = stands-changed g d n h w q d′ (allottedTo g j) (x .own);
         grips = refl;
         spares = stands-others g d n h w q d′ (x .others);
       }
@@ -252,7 +252,7 @@ module _ (g : Geometry) (n : Name) (d : List ℕ) (hs : List Handle) (k : Good g
       record {
         good = good-after g d d′ k (x .long) (x .consistent′);
         held = held;
-        file = stands-changed g d n h w q d′ trimmed (x .own);
+        file = stands-changed g d n h w q d′ (trimmed g) (x .own);
         grips = refl;
         spares = stands-others g d n h w q d′ (x .others);
       }

@@ -102,7 +102,7 @@ pub fn trim_checked(image: &mut [u8], g: Geometry, h: Handle, checked: u8) -> An
     requires { ⌜ checked ≡ check g (now image) ⌝ }
     ensures { λ r. ⌜ (r, now (image .exit)) ≡ trim g (now (image .entry)) h ⌝ }
 {
-    let ranged = handle::in_range(h);
+    let ranged = handle::in_range(g, h);
     let number = handle::changing_number(image, g, h, ranged, 4, checked);
     if number != 0 {
         return Answer { number, handle: h };
@@ -115,7 +115,7 @@ pub fn trim_checked(image: &mut [u8], g: Geometry, h: Handle, checked: u8) -> An
         };
     }
     let size = layout::size_of(image, g, h.slot);
-    let needed = extent::granules_for(size);
+    let needed = extent::granules_for(g, size);
     let extent = extent::measure(image, g, h.slot);
     drop_last(image, g, h.slot, extent.last, extent.owned - needed);
     Answer {
