@@ -17,8 +17,8 @@ abbrev pub placed : ℕ → ℕ → Refusal
 placed n s = record { number = n; image = 0; at = s }
 
 -- the same refusal, naming an image
-abbrev pub named : ℕ → Refusal → Refusal
-named i c = record { number = c .number; image = i; at = c .at }
+abbrev pub naming : ℕ → Refusal → Refusal
+naming i c = record { number = c .number; image = i; at = c .at }
 
 -- what goes with number n where c was found before: c's, if the number is c's own; else nothing
 unfoldable pub beside : Refusal → ℕ → Refusal
