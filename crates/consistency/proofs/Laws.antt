@@ -31,14 +31,18 @@ unfolding fitsGeometry granules
 fits g d f =
     let a = leb-true (g .blocks) mostBlocks (all-at _ f 1) in
     let b = leb-true (g .units) 8 (all-at _ f 3) in
+    let m = below (g .blocks) (g .units) mostBlocks mostUnits a b in
+    let w = eqb-true _ _ (all-at _ f 5) in
     record {
       blocks-low = leb-true _ _ (all-at _ f 0);
       blocks-high = a;
       units-low = leb-true _ _ (all-at _ f 2);
       units-high = b;
       five = eqb-true _ _ (all-at _ f 4);
-      most = below (g .blocks) (g .units) mostBlocks mostUnits a b;
-      whole = eqb-true _ _ (all-at _ f 5);
+      most = m;
+      whole = w;
+      long = w ∙ Sizes.bytes-sectors g;
+      far = Sizes.sectors-low g m;
       ten = leb-true _ _ (all-at _ f 6);
     }
 
@@ -52,8 +56,8 @@ room-of g d f h =
       units-high = f .units-high;
       most = f .most;
       whole = f .whole;
-      long = f .whole ∙ Sizes.bytes-sectors g;
-      far = Sizes.sectors-low g (f .most);
+      long = f .long;
+      far = f .far;
       ten = e .0;
       thirty = e .1;
       directory = e .2;

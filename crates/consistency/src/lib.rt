@@ -94,7 +94,7 @@ fn directory_bits(image: &[u8], g: Geometry, from: usize) -> usize
     marks::directory_bits(
         g.units,
         g.start / layout::GRANULE_SECTORS,
-        layout::directory_sectors(image, g) / layout::GRANULE_SECTORS,
+        layout::directory_granules(image, g),
         from,
     )
 }

@@ -1,5 +1,5 @@
 -- The tests of HIT bytes and names, and the pass over all slots.
-use mathlib.Core.Path.{_≡_, refl, sym, ap, _∙_}
+use mathlib.Core.Path.{_≡_, refl, sym, ap, ap₂, _∙_}
 use mathlib.Core.List.{List, [], _∷_, _++_}
 use mathlib.Core.Bool.{Bool, true, false, not, cond, _&&_, Bool·beq}
 use Prim.Native.Nat.{ℕ, _+_, _-_, _/_, _≤_, _<_}
@@ -8,7 +8,8 @@ use lib.Dec.{T, eqb, ltb, ltb→lt, lt→ltb}
 use lib.ListN.{length, take, drop}
 use borrow.Author.Tests.{eq-eqb, ne-eqb}
 use Rattle.meaning.specs.Lists.{count, every, some, keep, same}
-use Rattle.meaning.specs.Layout.{fitsGeometry, taken, isSlot, slots, entryAt, directorySectors, granuleSectors, roundUp}
+use Rattle.meaning.specs.Layout.{granules, fitsGeometry, taken, isSlot, slots, entryAt, directorySectors, granuleSectors, roundUp}
+use Rattle.meaning.specs.Sizes
 use Rattle.meaning.specs.Entries.{primary, nameOf}
 use Rattle.meaning.specs.Chain.{files}
 use Rattle.meaning.specs.Consistent.{lengthHolds, directoryTaken, consistent}
@@ -135,17 +136,21 @@ module _ (g : Geometry) (d : List ℕ) where
   unfolding lowest
   slots-done after s i h = sym (i ∙ ap (λ (l : List ℕ). lowest g d after (keep (isSlot g d) l)) (count-none h))
 
+  -- the granules of the directory are on the disk
+  pub directory-in : {a n : ℕ} → a ≡ g .start / granuleSectors g → n ≡ roundUp (directorySectors g d) (granuleSectors g) → Room g d → a + n ≤ granules g
+  directory-in e f r = rw (e, f) (Sizes.touched-inside (Sizes.sectors-pos g) (g .start) (directorySectors g d) (granules g) (r .directory))
+
   -- a clear granule of the directory
-  taken-by : {k : ℕ} {b : Bool} → k ≡ directorySectors g d → every (taken g d) (count (g .start / granuleSectors g) (roundUp k (granuleSectors g))) ≡ b → directoryTaken g d ≡ b
-  taken-by e h = ap (λ (j : ℕ). every (taken g d) (count (g .start / granuleSectors g) (roundUp j (granuleSectors g)))) (sym e) ∙ h
+  taken-by : {a n : ℕ} {b : Bool} → a ≡ g .start / granuleSectors g → n ≡ roundUp (directorySectors g d) (granuleSectors g) → every (taken g d) (count a n) ≡ b → directoryTaken g d ≡ b
+  taken-by e f h = ap₂ (λ (x y : ℕ). every (taken g d) (count x y)) (sym e) (sym f) ∙ h
 
-  pub clear-no : {k : ℕ} → k ≡ directorySectors g d → every (taken g d) (count (g .start / granuleSectors g) (roundUp k (granuleSectors g))) ≡ false → unplaced 30 ≡ afterSlots g d
+  pub clear-no : {a n : ℕ} → a ≡ g .start / granuleSectors g → n ≡ roundUp (directorySectors g d) (granuleSectors g) → every (taken g d) (count a n) ≡ false → unplaced 30 ≡ afterSlots g d
   unfolding afterSlots
-  clear-no e h = sym (ap {B = Fault} (λ (b : Bool). cond b (unplaced 0) (unplaced 30)) (taken-by e h))
+  clear-no e f h = sym (ap {B = Fault} (λ (b : Bool). cond b (unplaced 0) (unplaced 30)) (taken-by e f h))
 
-  pub clear-yes : {k : ℕ} → k ≡ directorySectors g d → every (taken g d) (count (g .start / granuleSectors g) (roundUp k (granuleSectors g))) ≡ true → unplaced 0 ≡ afterSlots g d
+  pub clear-yes : {a n : ℕ} → a ≡ g .start / granuleSectors g → n ≡ roundUp (directorySectors g d) (granuleSectors g) → every (taken g d) (count a n) ≡ true → unplaced 0 ≡ afterSlots g d
   unfolding afterSlots
-  clear-yes e h = sym (ap {B = Fault} (λ (b : Bool). cond b (unplaced 0) (unplaced 30)) (taken-by e h))
+  clear-yes e f h = sym (ap {B = Fault} (λ (b : Bool). cond b (unplaced 0) (unplaced 30)) (taken-by e f h))
 
   -- The disk -----------------------------------------------------------------------------------------------------------------------
 

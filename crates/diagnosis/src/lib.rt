@@ -161,7 +161,7 @@ fn after_slots(image: &[u8], g: Geometry) -> Refusal
     ensures { λ r. ⌜ r ≡ afterSlots g (now (image .entry)) ⌝ }
 {
     let a = g.start / layout::GRANULE_SECTORS;
-    let n = layout::directory_sectors(image, g) / layout::GRANULE_SECTORS;
+    let n = layout::directory_granules(image, g);
     if !kinds::all_taken(image, g, a, n) {
         return refusal::unplaced(30);
     }

@@ -51,8 +51,15 @@ fits g d t =
     let f : T (eqb (g .start % granuleSectors g) 0) = search parts depth 9 in
     let h : T (eqb (length d) (granules g * granuleBytes g)) = search parts depth 9 in
     record {
-      blocks-lo = leb→le _ _ a; blocks-hi = leb→le _ _ b; units-lo = leb→le _ _ c; units-hi = leb→le _ _ e; start-at = eqb→eq _ _ f; size = eqb→eq _ _ h;
-      long = eqb→eq _ _ h ∙ Sizes.bytes-sectors g; wide = Sizes.bytes-pos g; deep = Sizes.sectors-pos g;
+      blocks-lo = leb→le _ _ a;
+      blocks-hi = leb→le _ _ b;
+      units-lo = leb→le _ _ c;
+      units-hi = leb→le _ _ e;
+      start-at = eqb→eq _ _ f;
+      size = eqb→eq _ _ h;
+      long = eqb→eq _ _ h ∙ Sizes.bytes-sectors g;
+      wide = Sizes.bytes-pos g;
+      deep = Sizes.sectors-pos g;
     }
 
 -- an image as long fits as well
@@ -115,7 +122,7 @@ outside g d i e f n = go (decLt i (256 * g .start)) (decLt i (256 * (g .start + 
     go : Dec (i < 256 * g .start) → Dec (i < 256 * (g .start + directorySectors g d)) → (i < 256 * g .start) ⊎ (256 * (g .start + directorySectors g d) ≤ i)
     go (yes a) b = inl a
     go (no a) (no b) = inr (omega arith)
-    go (no a) (yes b) = absurd (n (Members.in-count (i / granuleBytes g) (g .start / granuleSectors g) (roundUp (directorySectors g d) (granuleSectors g))  (Sizes.touched-from g i (g .start) (omega arith)) (Sizes.touched-to g i (g .start) (directorySectors g d) e (omega arith))))
+    go (no a) (yes b) = absurd (n (Members.in-count (i / granuleBytes g) (g .start / granuleSectors g) (roundUp (directorySectors g d) (granuleSectors g)) (Sizes.touched-from g i (g .start) (omega arith)) (Sizes.touched-to g i (g .start) (directorySectors g d) e (omega arith))))
 
 pub block-lt : (g : Geometry) (d : List ℕ) (n : ℕ) → Fits g d → n < granules g → n / g .units < g .blocks
 unfolding words

@@ -52,6 +52,9 @@ round-least {w} p size n h =
     let k : w * roundUp size w < w * (n + 1) = omega (arith, split p (size + (w - 1))) in
     omega (arith, lt-of-mul-lt-mul-left w k)
 
+pub round-some : {w : ℕ} → 0 < w → (size : ℕ) → 0 < size → 1 ≤ roundUp size w
+round-some {w} p size h = width-le p (size + (w - 1)) 1 (omega arith)
+
 pub round-more : {w : ℕ} → 0 < w → (size n : ℕ) → n < roundUp size w → w * n < size
 round-more {w} p size n h =
     let k = mul-le-mul-left w h in
@@ -66,6 +69,10 @@ sectors-pos g = omega arith
 pub sectors-most : (g : Geometry) → granuleSectors g ≤ 20
 unfolding granuleSectors
 sectors-most g = omega arith
+
+pub sectors-least : (g : Geometry) → 5 ≤ granuleSectors g
+unfolding granuleSectors
+sectors-least g = omega arith
 
 pub bytes-are : (g : Geometry) → granuleBytes g ≡ 256 * granuleSectors g
 unfolding granuleBytes
@@ -89,6 +96,10 @@ touched-inside {w} p start n k h =
   where
     width-le′ : start / w ≤ k
     width-le′ = div-le-of-le-mul w (omega arith)
+
+-- the longest directory touches six granules at most
+pub touched-few : (g : Geometry) (n : ℕ) → n ≤ 30 → roundUp n (granuleSectors g) ≤ 6
+touched-few g n h = round-least (sectors-pos g) n 6 (omega (arith, sectors-least g))
 
 pub touched-from : (g : Geometry) (i start : ℕ) → 256 * start ≤ i → start / granuleSectors g ≤ i / granuleBytes g
 touched-from g i start h =
