@@ -159,10 +159,11 @@ pub fn sector_checked(image: &[u8], g: Geometry, h: Handle, k: usize, checked: R
     }
     let from = seek::place(image, g, h.slot, 256 * k);
     let n = sector_bytes(image, g, h.slot, k);
+    let to = from + n;
     Part {
         refusal: refusal::carried(checked, 0),
         from,
-        to: from + n,
+        to,
     }
 }
 

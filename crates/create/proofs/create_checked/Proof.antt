@@ -71,7 +71,7 @@ same-length-2 c = search needs
 
 returns-5 : tie.Need-returns-5
 returns-5 c = let e = finds-one _ _ _ (c .before .before .before .before .before .before .before .find .ensures) (not-yes (c .before .before .before .before .before .before .if4 .taken)) in
-    opened _ _ _ _ _ (handed _ _ 0 (c .before .before .before .before .before .before .before .before .before .before .before .before .before .before .before .before .before .pre) (c .before .carried .ensures)) (is-old _ _ _ _ _ (c .before .before .before .before .before .before .before .before .before .before .before .before .before .before .before .before .before .pre) (c .before .before .before .before .before .before .before .before .before .before .before .before .before .if1 .left) (is-yes (c .before .before .before .before .before .before .before .before .before .before .before .before .in-range .ensures) (c .before .before .before .before .before .before .before .before .before .before .before .if2 .left)) (is-yes (c .before .before .before .before .before .before .before .before .before .before .well-formed .ensures) (c .before .before .before .before .before .before .before .before .before .if3 .left)) e (is-yes (c .before .before .before .before .admits .ensures) (c .before .before .before .if5 .left))) e (c .opened-at .ensures)
+    opened _ _ _ _ _ (handed _ _ 0 (c .before .before .before .before .before .before .before .before .before .before .before .before .before .before .before .before .before .pre) (c .before .before .carried .ensures)) (is-old _ _ _ _ _ (c .before .before .before .before .before .before .before .before .before .before .before .before .before .before .before .before .before .pre) (c .before .before .before .before .before .before .before .before .before .before .before .before .before .if1 .left) (is-yes (c .before .before .before .before .before .before .before .before .before .before .before .before .in-range .ensures) (c .before .before .before .before .before .before .before .before .before .before .before .if2 .left)) (is-yes (c .before .before .before .before .before .before .before .before .before .before .well-formed .ensures) (c .before .before .before .before .before .before .before .before .before .if3 .left)) e (is-yes (c .before .before .before .before .admits .ensures) (c .before .before .before .if5 .left))) e (c .opened-at .ensures)
 
 first-free-slot-requires : tie.Need-first-free-slot-requires
 first-free-slot-requires c κs = checked-room _ _ (checked _ _ (c .before .before .before .before .before .before .before .before .before .before .before .before .pre) (c .before .before .before .before .before .before .before .before .if1 .left))

@@ -33,9 +33,9 @@ sector-bytes-requires c κs = let a = c .before .before .before .before .args in
 carried-requires-2 : tie.Need-carried-requires-2
 carried-requires-2 c κs = search needs
 
-add-t10 : tie.Need-add-t10
-add-t10 c = let a = c .before .before .before .before .before .before .args in let q = sector (a .g) (a .image .now) (a .h) (a .k) (c .before .before .before .before .sector-number .ensures) (c .before .before .before .if1 .left) in
-    let l = sector-lies (a .g) (a .image .now) (a .h) (a .k) q (c .before .sector-bytes .ensures .0) (c .before .sector-bytes .ensures .1) in omega (arith, c .before .before .place .ensures)
+add-to : tie.Need-add-to
+add-to c = let a = c .before .before .before .before .before .args in let q = sector (a .g) (a .image .now) (a .h) (a .k) (c .before .before .before .sector-number .ensures) (c .before .before .if1 .left) in
+    let l = sector-lies (a .g) (a .image .now) (a .h) (a .k) q (c .sector-bytes .ensures .0) (c .sector-bytes .ensures .1) in omega (arith, c .before .place .ensures)
 
 returns-2 : tie.Need-returns-2
 returns-2 c = let a = c .before .before .before .before .before .before .args in let q = sector (a .g) (a .image .now) (a .h) (a .k) (c .before .before .before .before .sector-number .ensures) (c .before .before .before .if1 .left) in
@@ -51,5 +51,5 @@ sector-checked-spec =
     mul-place
     place-requires
     sector-bytes-requires
-    carried-requires-2 add-t10
+    add-to carried-requires-2
     returns-2)
