@@ -12,15 +12,15 @@ use Rattle.differences.specs.declared.Difference.{Difference}
 use Rattle.codec.specs.Codec.{nameBytes}
 use Rattle.codec.specs.Words.{flagsOf}
 use Rattle.refusal.specs.Short.{shortOfTwo}
-use Rattle.genie.specs.Exports.{long, out}
+use Rattle.genie.specs.Exports.{long}
 
 -- image, kind, position, flags, and the name buffer: the name at its start where a difference is told, else as it stood
 unfoldable pub tellsDifference : List ℕ → Difference → ℕ × ℕ × ℕ × ℕ × ℕ × ℕ × List ℕ
-tellsDifference b x = out (x .refusal) (x .refusal .image, x .kind, x .at, flagsOf x, cond (eqb (x .kind) 0) b (sets b 0 (x .name)))
+tellsDifference b x = (x .refusal .number, x .refusal .at, x .refusal .image, x .kind, x .at, flagsOf x, cond (eqb (x .kind) 0) b (sets b 0 (x .name)))
 
 -- A name buffer under 11 bytes is 12, and names neither image.
 abbrev pub shortOf : List ℕ → Refusal → ℕ × ℕ × ℕ × ℕ × ℕ × ℕ × List ℕ
-shortOf b c = out c (c .image, 0, 0, 0, b)
+shortOf b c = (c .number, c .at, c .image, 0, 0, 0, b)
 
 abbrev pub exportedCompare : Geometry → List ℕ → Geometry → List ℕ → ℕ → List ℕ → ℕ × ℕ × ℕ × ℕ × ℕ × ℕ × List ℕ
 exportedCompare g d g′ d′ i b =

@@ -41,40 +41,36 @@ newFile day month year len main worker =
 abbrev pub long : {A : Type 0} → ℕ → List ℕ → A → A → A
 long n b under whole = cond (ltb (length b) n) under whole
 
--- what goes out of a refusal, before the rest: its number, and the slot of a fault, 256 where there is none
-abbrev pub out : {A : Type 0} → Refusal → A → ℕ × ℕ × A
-out c x = (c .number, c .at, x)
-
 -- a call that moves: the handle's bytes change where it was accepted ("under a refusal every lent buffer is as it stood")
 unfoldable pub moves : List ℕ → Answer × List ℕ → ℕ × ℕ × List ℕ × List ℕ
-moves b p = out (p .0 .refusal) (cond (accepted (p .0 .refusal .number)) (stored b (p .0 .handle)) b, p .1)
+moves b p = (p .0 .refusal .number, p .0 .refusal .at, cond (accepted (p .0 .refusal .number)) (stored b (p .0 .handle)) b, p .1)
 
 -- a call that leaves the handle alone
 abbrev pub leaves : Answer × List ℕ → ℕ × ℕ × List ℕ
-leaves p = out (p .0 .refusal) (p .1)
+leaves p = (p .0 .refusal .number, p .0 .refusal .at, p .1)
 
 -- "a refused open or create leaves a handle of zeros": meaning's open and create hand it back
 abbrev pub opens : List ℕ → Answer → ℕ × ℕ × List ℕ
-opens b a = out (a .refusal) (stored b (a .handle))
+opens b a = (a .refusal .number, a .refusal .at, stored b (a .handle))
 
 abbrev pub creates : List ℕ → Created × List ℕ → ℕ × ℕ × ℕ × List ℕ × List ℕ
-creates b p = out (p .0 .refusal) (told (p .0 .old), stored b (p .0 .handle), p .1)
+creates b p = (p .0 .refusal .number, p .0 .refusal .at, told (p .0 .old), stored b (p .0 .handle), p .1)
 
 abbrev pub brings : BroughtBack × List ℕ → ℕ × ℕ × ℕ × ℕ × List ℕ
-brings p = out (p .0 .refusal) (p .0 .slots, p .0 .granules, p .1)
+brings p = (p .0 .refusal .number, p .0 .refusal .at, p .0 .slots, p .0 .granules, p .1)
 
 abbrev pub looks : LookedUp → ℕ × ℕ × ℕ × ℕ
-looks l = out (l .refusal) (l .slot, l .compared)
+looks l = (l .refusal .number, l .refusal .at, l .slot, l .compared)
 
 abbrev pub lies : Part → ℕ × ℕ × ℕ × ℕ
-lies p = out (p .refusal) (p .from, p .to)
+lies p = (p .refusal .number, p .refusal .at, p .from, p .to)
 
 -- "No more" is accepted: more 0, size and granules 0, the name buffer as it stood; more is 1 where a file was told.
 unfoldable pub tells : List ℕ → Listed → ℕ × ℕ × ℕ × ℕ × ℕ × List ℕ
-tells b l = out (l .refusal) (l .size, l .granules, told (l .more), cond (l .more) (sets b 0 (l .name)) b)
+tells b l = (l .refusal .number, l .refusal .at, l .size, l .granules, told (l .more), cond (l .more) (sets b 0 (l .name)) b)
 
 abbrev pub numbers : Counts → ℕ × ℕ × ℕ × ℕ
-numbers c = out (c .refusal) (c .files, c .free)
+numbers c = (c .refusal .number, c .refusal .at, c .files, c .free)
 
 -- free space alone has no slot to tell: it looks at no fault
 abbrev pub spaces : Space → ℕ × ℕ × ℕ
@@ -94,34 +90,34 @@ module _ (g : Geometry) (d : List ℕ) where
 
   -- the handle's bytes
   abbrev pub exportedOpen : List ℕ → ℕ → Bool → ℕ → List ℕ → ℕ × ℕ × List ℕ
-  exportedOpen n len checking code b = long handleBytes b (out tooShort b) (opens b (open′ g d n len checking code))
+  exportedOpen n len checking code b = long handleBytes b (tooShort .number, tooShort .at, b) (opens b (open′ g d n len checking code))
 
   -- old, the handle's bytes, the image
   abbrev pub exportedCreate : List ℕ → NewFile → Bool → List ℕ → ℕ × ℕ × ℕ × List ℕ × List ℕ
-  exportedCreate n f checking b = long handleBytes b (out tooShort (0, b, d)) (creates b (create g d n f checking))
+  exportedCreate n f checking b = long handleBytes b (tooShort .number, tooShort .at, 0, b, d) (creates b (create g d n f checking))
 
   -- the handle's bytes, the buffer
   abbrev pub exportedReadRecord : List ℕ → List ℕ → ℕ × ℕ × List ℕ × List ℕ
-  exportedReadRecord b buffer = long handleBytes b (out tooShort (b, buffer)) (moves b (readRecord g d (handleOf b) buffer))
+  exportedReadRecord b buffer = long handleBytes b (tooShort .number, tooShort .at, b, buffer) (moves b (readRecord g d (handleOf b) buffer))
 
   -- from, to
   abbrev pub exportedReadSector : List ℕ → ℕ → ℕ × ℕ × ℕ × ℕ
-  exportedReadSector b k = long handleBytes b (out tooShort (0, 0)) (lies (readSector g d (handleOf b) k))
+  exportedReadSector b k = long handleBytes b (tooShort .number, tooShort .at, 0, 0) (lies (readSector g d (handleOf b) k))
 
   -- the handle's bytes, the image
   abbrev pub exportedWriteRecord : List ℕ → Bool → List ℕ → ℕ × ℕ × List ℕ × List ℕ
   exportedWriteRecord b sequential buffer =
-      long handleBytes b (out tooShort (b, d)) (moves b (writeRecord g d (modeOf sequential) (handleOf b) buffer))
+      long handleBytes b (tooShort .number, tooShort .at, b, d) (moves b (writeRecord g d (modeOf sequential) (handleOf b) buffer))
 
   -- the image
   abbrev pub exportedAllot : List ℕ → ℕ → ℕ × ℕ × List ℕ
-  exportedAllot b k = long handleBytes b (out tooShort d) (leaves (allot g d (handleOf b) k))
+  exportedAllot b k = long handleBytes b (tooShort .number, tooShort .at, d) (leaves (allot g d (handleOf b) k))
 
   abbrev pub exportedTrim : List ℕ → ℕ × ℕ × List ℕ
-  exportedTrim b = long handleBytes b (out tooShort d) (leaves (trim g d (handleOf b)))
+  exportedTrim b = long handleBytes b (tooShort .number, tooShort .at, d) (leaves (trim g d (handleOf b)))
 
   abbrev pub exportedKill : List ℕ → ℕ × ℕ × List ℕ
-  exportedKill b = long handleBytes b (out tooShort d) (leaves (kill g d (handleOf b)))
+  exportedKill b = long handleBytes b (tooShort .number, tooShort .at, d) (leaves (kill g d (handleOf b)))
 
   -- slots, granules, the image
   abbrev pub exportedBringBack : ℕ → ℕ × ℕ × ℕ × ℕ × List ℕ
@@ -129,7 +125,7 @@ module _ (g : Geometry) (d : List ℕ) where
 
   -- size, granules, more, the name buffer
   abbrev pub exportedList : ℕ → List ℕ → ℕ × ℕ × ℕ × ℕ × ℕ × List ℕ
-  exportedList i b = long nameBytes b (out tooShort (0, 0, 0, b)) (tells b (list g d i))
+  exportedList i b = long nameBytes b (tooShort .number, tooShort .at, 0, 0, 0, b) (tells b (list g d i))
 
   -- files, free
   abbrev pub exportedCount : ℕ × ℕ × ℕ × ℕ

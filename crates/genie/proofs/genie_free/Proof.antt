@@ -1,0 +1,26 @@
+use mathlib.Core.Path.{ap}
+use Rattle.meaning.specs.declared.Geometry.{Geometry}
+use Rattle.genie.specs.Exports.{spaces, exportedFree}
+use Rattle.genie.proofs.Laws.{at-disk}
+use borrow.Author.Needs.{needs}
+use Rattle.genie.proofs.genie_free.Statement.{statement}
+use Rattle.genie.proofs.genie_free.Tie as tie
+use Rattle.genie.proofs.genie_free.Reads as reads
+use Rattle.genie.proofs.genie_free.Lts as lts
+use Rattle.calls.proofs.free_space.Reads as free-space-reads
+use Rattle.codec.proofs.geometry.Reads as geometry-reads
+
+-- src/lib.rt:368:9
+geometry-requires : tie.Need-geometry-requires
+geometry-requires c κs = search needs
+
+-- src/lib.rt:369:9
+free-space-requires : tie.Need-free-space-requires
+free-space-requires c κs = search needs
+
+-- src/lib.rt:356:1
+returns : tie.Need-returns
+returns c = at-disk (λ (g : Geometry). exportedFree g (c .before .before .before .args .image .now)) (c .before .geometry .ensures) (ap spaces (c .free-space .ensures))
+
+pub genie-free-spec : {M : Type 1} → statement M
+genie-free-spec = tie.close (tie.spec geometry-requires free-space-requires returns)
