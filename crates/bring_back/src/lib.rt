@@ -30,7 +30,13 @@ fn refused(number: u8) -> Planned
 }
 
 // Every test of the call. Nothing is written but, to `entries`, the slots of the killed file.
-fn plan(image: &[u8], g: Geometry, s: usize, checked: Refusal, entries: &mut [usize; 256]) -> Planned
+fn plan(
+    image: &[u8],
+    g: Geometry,
+    s: usize,
+    checked: Refusal,
+    entries: &mut [usize; 256],
+) -> Planned
     requires { ⌜ (checked ≡ check g (now image)) × (length (now entries) ≡ 256) ⌝ }
     ensures { λ r. ⌜ Plans g (now (image .entry)) s (now (entries .exit)) r ⌝ }
 {

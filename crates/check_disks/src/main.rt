@@ -130,23 +130,15 @@ fn geometries(image: &[u8]) {
         1,
         refusal::NOWHERE,
     );
+    told(image, disk(0, 2, 0), b"no block", 1, refusal::NOWHERE);
+    told(image, disk(2, 9, 0), b"9 units", 1, refusal::NOWHERE);
     told(
         image,
-        disk(0, 2, 0),
-        b"no block",
-        1,
-        refusal::NOWHERE,
-    );
-    told(
-        image,
-        disk(2, 9, 0),
-        b"9 units",
-        1,
-        refusal::NOWHERE,
-    );
-    told(
-        image,
-        disk(18446744073709551615, 18446744073709551615, 18446744073709551615),
+        disk(
+            18446744073709551615,
+            18446744073709551615,
+            18446744073709551615,
+        ),
         b"the largest numbers",
         1,
         refusal::NOWHERE,

@@ -137,7 +137,12 @@ fn first_granules(image: &mut [u8; 30720], should: &mut [u8; 2560], pulses: Hand
     let a = calls::allot(image, disk(), pulses, 0);
     should[1] = 0x03;
     copy::put_part(should, 640 + 0x16, b"\x01\x00", 0, 2);
-    told(image, should, b"allot PULS01/DAT to sector 0", a.refusal.number);
+    told(
+        image,
+        should,
+        b"allot PULS01/DAT to sector 0",
+        a.refusal.number,
+    );
     let b = calls::allot(image, disk(), empty, 4);
     should[2] = 0x03;
     copy::put_part(should, 896 + 0x16, b"\x02\x00", 0, 2);
@@ -149,13 +154,23 @@ fn first_extension(image: &mut [u8; 30720], should: &mut [u8; 2560], pulses: Han
     let a = calls::allot(image, disk(), pulses, 19);
     copy::put_part(should, 3, b"\x03\x03\x03", 0, 3);
     copy::put_part(should, 640 + 0x18, b"\x03\x00\x04\x00\x05\x00", 0, 6);
-    told(image, should, b"allot PULS01/DAT to sector 19", a.refusal.number);
+    told(
+        image,
+        should,
+        b"allot PULS01/DAT to sector 19",
+        a.refusal.number,
+    );
     let b = calls::allot(image, disk(), pulses, 20);
     should[6] = 0x03;
     should[386] = 0xc1;
     copy::put_part(should, 640 + 0x1e, b"\xfe\x82", 0, 2);
     put_extension(should);
-    told(image, should, b"allot PULS01/DAT to sector 20", b.refusal.number);
+    told(
+        image,
+        should,
+        b"allot PULS01/DAT to sector 20",
+        b.refusal.number,
+    );
 }
 
 // The extension at slot 82H as it is made, with granule 12.
@@ -193,13 +208,28 @@ fn put_second(should: &mut [u8; 2560]) {
 fn second_extension(image: &mut [u8; 30720], should: &mut [u8; 2560], pulses: Handle) {
     let a = calls::allot(image, disk(), pulses, 40);
     put_second(should);
-    told(image, should, b"allot PULS01/DAT to sector 40", a.refusal.number);
+    told(
+        image,
+        should,
+        b"allot PULS01/DAT to sector 40",
+        a.refusal.number,
+    );
     let b = calls::allot(image, disk(), pulses, 54);
     should[11] = 0x03;
     copy::put_part(should, 1408 + 0x18, b"\x0b\x01", 0, 2);
-    told(image, should, b"allot PULS01/DAT to sector 54", b.refusal.number);
+    told(
+        image,
+        should,
+        b"allot PULS01/DAT to sector 54",
+        b.refusal.number,
+    );
     let c = calls::allot(image, disk(), pulses, 55);
-    told(image, should, b"allot PULS01/DAT to sector 55", c.refusal.number);
+    told(
+        image,
+        should,
+        b"allot PULS01/DAT to sector 55",
+        c.refusal.number,
+    );
 }
 
 // Of the size 0 no granule is kept: both extensions go.
@@ -253,10 +283,20 @@ fn write_far(image: &mut [u8; 30720], should: &mut [u8; 2560], pulses: Handle) {
         10,
     );
     put_extension(should);
-    told(image, should, b"write PULS01/DAT at 5120, random", a.refusal.number);
+    told(
+        image,
+        should,
+        b"write PULS01/DAT at 5120, random",
+        a.refusal.number,
+    );
     let b = calls::allot(image, disk(), pulses, 40);
     put_second(should);
-    told(image, should, b"allot PULS01/DAT to sector 40", b.refusal.number);
+    told(
+        image,
+        should,
+        b"allot PULS01/DAT to sector 40",
+        b.refusal.number,
+    );
 }
 
 // Trim keeps 5 granules, and one extension. A write at the start makes the size 256; trim keeps one granule, and no extension.

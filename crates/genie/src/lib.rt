@@ -44,7 +44,8 @@ pub extern "C" fn genie_look_up(
     compared: &mut usize,
     fault_slot: &mut usize,
 ) -> u8
-    ensures { λ r. ⌜ (r, now («fault_slot» .exit), now (slot .exit), now (compared .exit)) ≡ exportedLookUp (geometry blocks units start open_code) (now (image .entry)) (now (name .entry)) ⌝ }
+    ensures { λ r. ⌜ (r, now («fault_slot» .exit), now (slot .exit), now (compared .exit))
+        ≡ exportedLookUp (geometry blocks units start open_code) (now (image .entry)) (now (name .entry)) ⌝ }
 {
     let g = codec::geometry(blocks, units, start, open_code);
     let l = calls::look_up(image, g, name);
@@ -68,7 +69,8 @@ pub extern "C" fn genie_open(
     handle: &mut [u8],
     fault_slot: &mut usize,
 ) -> u8
-    ensures { λ r. ⌜ (r, now («fault_slot» .exit), now (handle .exit)) ≡ exportedOpen (geometry blocks units start open_code) (now (image .entry)) (now (name .entry)) length checking code (now (handle .entry)) ⌝ }
+    ensures { λ r. ⌜ (r, now («fault_slot» .exit), now (handle .exit))
+        ≡ exportedOpen (geometry blocks units start open_code) (now (image .entry)) (now (name .entry)) length checking code (now (handle .entry)) ⌝ }
 {
     let g = codec::geometry(blocks, units, start, open_code);
     if handle.len() < codec::HANDLE_BYTES {
@@ -99,7 +101,9 @@ pub extern "C" fn genie_create(
     handle: &mut [u8],
     fault_slot: &mut usize,
 ) -> u8
-    ensures { λ r. ⌜ (r, now («fault_slot» .exit), now (old .exit), now (handle .exit), now (image .exit)) ≡ exportedCreate (geometry blocks units start open_code) (now (image .entry)) (now (name .entry)) (newFile day month year length main worker) checking (now (handle .entry)) ⌝ }
+    ensures { λ r. ⌜ (r, now («fault_slot» .exit), now (old .exit), now (handle .exit), now (image .exit))
+        ≡ exportedCreate (geometry blocks units start open_code) (now (image .entry)) (now (name .entry))
+        (newFile day month year length main worker) checking (now (handle .entry)) ⌝ }
 {
     let g = codec::geometry(blocks, units, start, open_code);
     if handle.len() < codec::HANDLE_BYTES {
@@ -132,7 +136,8 @@ pub extern "C" fn genie_read_record(
     buffer: &mut [u8],
     fault_slot: &mut usize,
 ) -> u8
-    ensures { λ r. ⌜ (r, now («fault_slot» .exit), now (handle .exit), now (buffer .exit)) ≡ exportedReadRecord (geometry blocks units start open_code) (now (image .entry)) (now (handle .entry)) (now (buffer .entry)) ⌝ }
+    ensures { λ r. ⌜ (r, now («fault_slot» .exit), now (handle .exit), now (buffer .exit))
+        ≡ exportedReadRecord (geometry blocks units start open_code) (now (image .entry)) (now (handle .entry)) (now (buffer .entry)) ⌝ }
 {
     let g = codec::geometry(blocks, units, start, open_code);
     if handle.len() < codec::HANDLE_BYTES {
@@ -161,7 +166,8 @@ pub extern "C" fn genie_read_sector(
     to: &mut usize,
     fault_slot: &mut usize,
 ) -> u8
-    ensures { λ r. ⌜ (r, now («fault_slot» .exit), now (from .exit), now (to .exit)) ≡ exportedReadSector (geometry blocks units start open_code) (now (image .entry)) (now (handle .entry)) k ⌝ }
+    ensures { λ r. ⌜ (r, now («fault_slot» .exit), now (from .exit), now (to .exit))
+        ≡ exportedReadSector (geometry blocks units start open_code) (now (image .entry)) (now (handle .entry)) k ⌝ }
 {
     let g = codec::geometry(blocks, units, start, open_code);
     if handle.len() < codec::HANDLE_BYTES {
@@ -189,7 +195,8 @@ pub extern "C" fn genie_write_record(
     buffer: &[u8],
     fault_slot: &mut usize,
 ) -> u8
-    ensures { λ r. ⌜ (r, now («fault_slot» .exit), now (handle .exit), now (image .exit)) ≡ exportedWriteRecord (geometry blocks units start open_code) (now (image .entry)) (now (handle .entry)) sequential (now (buffer .entry)) ⌝ }
+    ensures { λ r. ⌜ (r, now («fault_slot» .exit), now (handle .exit), now (image .exit))
+        ≡ exportedWriteRecord (geometry blocks units start open_code) (now (image .entry)) (now (handle .entry)) sequential (now (buffer .entry)) ⌝ }
 {
     let g = codec::geometry(blocks, units, start, open_code);
     if handle.len() < codec::HANDLE_BYTES {
@@ -217,7 +224,8 @@ pub extern "C" fn genie_allot(
     k: usize,
     fault_slot: &mut usize,
 ) -> u8
-    ensures { λ r. ⌜ (r, now («fault_slot» .exit), now (image .exit)) ≡ exportedAllot (geometry blocks units start open_code) (now (image .entry)) (now (handle .entry)) k ⌝ }
+    ensures { λ r. ⌜ (r, now («fault_slot» .exit), now (image .exit))
+        ≡ exportedAllot (geometry blocks units start open_code) (now (image .entry)) (now (handle .entry)) k ⌝ }
 {
     let g = codec::geometry(blocks, units, start, open_code);
     if handle.len() < codec::HANDLE_BYTES {
@@ -239,7 +247,8 @@ pub extern "C" fn genie_trim(
     handle: &[u8],
     fault_slot: &mut usize,
 ) -> u8
-    ensures { λ r. ⌜ (r, now («fault_slot» .exit), now (image .exit)) ≡ exportedTrim (geometry blocks units start open_code) (now (image .entry)) (now (handle .entry)) ⌝ }
+    ensures { λ r. ⌜ (r, now («fault_slot» .exit), now (image .exit))
+        ≡ exportedTrim (geometry blocks units start open_code) (now (image .entry)) (now (handle .entry)) ⌝ }
 {
     let g = codec::geometry(blocks, units, start, open_code);
     if handle.len() < codec::HANDLE_BYTES {
@@ -261,7 +270,8 @@ pub extern "C" fn genie_kill(
     handle: &[u8],
     fault_slot: &mut usize,
 ) -> u8
-    ensures { λ r. ⌜ (r, now («fault_slot» .exit), now (image .exit)) ≡ exportedKill (geometry blocks units start open_code) (now (image .entry)) (now (handle .entry)) ⌝ }
+    ensures { λ r. ⌜ (r, now («fault_slot» .exit), now (image .exit))
+        ≡ exportedKill (geometry blocks units start open_code) (now (image .entry)) (now (handle .entry)) ⌝ }
 {
     let g = codec::geometry(blocks, units, start, open_code);
     if handle.len() < codec::HANDLE_BYTES {
@@ -285,7 +295,8 @@ pub extern "C" fn genie_bring_back(
     granules: &mut usize,
     fault_slot: &mut usize,
 ) -> u8
-    ensures { λ r. ⌜ (r, now («fault_slot» .exit), now (slots .exit), now (granules .exit), now (image .exit)) ≡ exportedBringBack (geometry blocks units start open_code) (now (image .entry)) slot ⌝ }
+    ensures { λ r. ⌜ (r, now («fault_slot» .exit), now (slots .exit), now (granules .exit), now (image .exit))
+        ≡ exportedBringBack (geometry blocks units start open_code) (now (image .entry)) slot ⌝ }
 {
     let g = codec::geometry(blocks, units, start, open_code);
     let b = calls::bring_back(image, g, slot);
@@ -309,7 +320,8 @@ pub extern "C" fn genie_list(
     more: &mut usize,
     fault_slot: &mut usize,
 ) -> u8
-    ensures { λ r. ⌜ (r, now («fault_slot» .exit), now (size .exit), now (granules .exit), now (more .exit), now (name .exit)) ≡ exportedList (geometry blocks units start open_code) (now (image .entry)) number (now (name .entry)) ⌝ }
+    ensures { λ r. ⌜ (r, now («fault_slot» .exit), now (size .exit), now (granules .exit), now (more .exit), now (name .exit))
+        ≡ exportedList (geometry blocks units start open_code) (now (image .entry)) number (now (name .entry)) ⌝ }
 {
     let g = codec::geometry(blocks, units, start, open_code);
     if name.len() < codec::NAME_BYTES {
@@ -343,7 +355,8 @@ pub extern "C" fn genie_count(
     free: &mut usize,
     fault_slot: &mut usize,
 ) -> u8
-    ensures { λ r. ⌜ (r, now («fault_slot» .exit), now (files .exit), now (free .exit)) ≡ exportedCount (geometry blocks units start open_code) (now (image .entry)) ⌝ }
+    ensures { λ r. ⌜ (r, now («fault_slot» .exit), now (files .exit), now (free .exit))
+        ≡ exportedCount (geometry blocks units start open_code) (now (image .entry)) ⌝ }
 {
     let g = codec::geometry(blocks, units, start, open_code);
     let c = calls::counts(image, g);
@@ -392,7 +405,9 @@ pub extern "C" fn genie_compare(
     flags: &mut usize,
     fault_slot: &mut usize,
 ) -> u8
-    ensures { λ r. ⌜ (r, now («fault_slot» .exit), now (image .exit), now (kind .exit), now (position .exit), now (flags .exit), now (name .exit)) ≡ exportedCompare (geometry blocks units start open_code) (now (first .entry)) (geometry blocks2 units2 start2 open_code2) (now (second .entry)) number (now (name .entry)) ⌝ }
+    ensures { λ r. ⌜ (r, now («fault_slot» .exit), now (image .exit), now (kind .exit), now (position .exit), now (flags .exit), now (name .exit))
+        ≡ exportedCompare (geometry blocks units start open_code) (now (first .entry)) (geometry blocks2 units2 start2 open_code2) (now
+        (second .entry)) number (now (name .entry)) ⌝ }
 {
     let g = codec::geometry(blocks, units, start, open_code);
     let h = codec::geometry(blocks2, units2, start2, open_code2);

@@ -29,9 +29,13 @@ same-length c = search needs
 
 -- src/lib.rt:224:9
 returns : tie.Need-returns
-returns c = let a = c .before .before .before .before .before .before .before .args in
-    at-disk (λ (g : Geometry). exportedAllot g (a .image .now) (a .handle .now) (a .k)) (c .before .before .before .before .geometry .ensures)
-    (rw (lt-ltb _ _ (c .before .before .before .if1 .taken)) (λ i. (c .short .ensures .0 i, c .short .ensures .1 i, a .image .now)))
+returns c =
+    let a = c .before .before .before .before .before .before .before .args in
+    let the-geometry = c .before .before .before .before .geometry in
+    let the-if1 = c .before .before .before .if1 in
+    let the-short = c .short in
+    at-disk (λ (g : Geometry). exportedAllot g (a .image .now) (a .handle .now) (a .k)) (the-geometry .ensures)
+    (rw (lt-ltb _ _ (the-if1 .taken)) (λ i. (the-short .ensures .0 i, the-short .ensures .1 i, a .image .now)))
 
 -- src/lib.rt:226:9
 handle-of-requires : tie.Need-handle-of-requires
@@ -47,9 +51,15 @@ same-length-2 c = search needs
 
 -- src/lib.rt:209:1
 returns-2 : tie.Need-returns-2
-returns-2 c = let a = c .before .before .before .before .before .before .before .before .before .args in
-    at-disk (λ (g : Geometry). exportedAllot g (a .image .now) (a .handle .now) (a .k)) (c .before .before .before .before .before .before .geometry .ensures)
-    (rw (le-ltb _ _ (c .before .before .before .before .before .if1 .left)) (ap leaves (c .before .before .allot .ensures ∙ ap (λ (h : Handle). allot (c .before .before .before .before .before .before .geometry .result) (a .image .now) h (a .k)) (c .before .before .before .before .handle-of .ensures))))
+returns-2 c =
+    let a = c .before .before .before .before .before .before .before .before .before .args in
+    let the-geometry = c .before .before .before .before .before .before .geometry in
+    let the-if1 = c .before .before .before .before .before .if1 in
+    let the-allot = c .before .before .allot in
+    let the-handle-of = c .before .before .before .before .handle-of in
+    at-disk (λ (g : Geometry). exportedAllot g (a .image .now) (a .handle .now) (a .k)) (the-geometry .ensures)
+    (rw (le-ltb _ _ (the-if1 .left)) (ap leaves (the-allot .ensures ∙ ap (λ (h : Handle). allot (the-geometry .result) (a .image .now) h (a .k))
+    (the-handle-of .ensures))))
 
 pub genie-allot-spec : {M : Type 1} → statement M
 genie-allot-spec =

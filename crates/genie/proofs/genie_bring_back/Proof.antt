@@ -24,7 +24,11 @@ same-length c = search needs
 
 -- src/lib.rt:276:1
 returns : tie.Need-returns
-returns c = let a = c .before .before .before .before .before .before .args in at-disk (λ (g : Geometry). exportedBringBack g (a .image .now) (a .slot)) (c .before .before .before .before .geometry .ensures) (ap brings (c .before .before .bring-back .ensures))
+returns c =
+    let a = c .before .before .before .before .before .before .args in
+    let the-geometry = c .before .before .before .before .geometry in
+    let the-bring-back = c .before .before .bring-back in
+    at-disk (λ (g : Geometry). exportedBringBack g (a .image .now) (a .slot)) (the-geometry .ensures) (ap brings (the-bring-back .ensures))
 
 pub genie-bring-back-spec : {M : Type 1} → statement M
 genie-bring-back-spec =

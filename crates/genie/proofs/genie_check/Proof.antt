@@ -22,7 +22,12 @@ check-requires c κs = search needs
 
 -- src/lib.rt:18:1
 returns : tie.Need-returns
-returns c = at-disk (λ (g : Geometry). exportedCheck g (c .before .before .before .args .image .now)) (c .before .geometry .ensures) (ap {B = ℕ × ℕ} (λ (c : Refusal). (c .number, c .at)) (c .check .ensures))
+returns c =
+    let a = c .before .before .before .args in
+    let the-geometry = c .before .geometry in
+    let the-check = c .check in
+    at-disk (λ (g : Geometry). exportedCheck g (a .image .now)) (the-geometry .ensures) (ap {B = ℕ × ℕ} (λ (c : Refusal). (c .number, c .at))
+    (the-check .ensures))
 
 pub genie-check-spec : {M : Type 1} → statement M
 genie-check-spec = tie.close (tie.spec geometry-requires check-requires returns)

@@ -45,11 +45,20 @@ wide-requires c κs = search needs
 
 -- src/lib.rt:406:9
 returns : tie.Need-returns
-returns c = let a = c .before .before .before .before .before .before .before .before .before .before .args in
-    at-disk (λ (g : Geometry). exportedCompare g (a .first .now) (geometry (a .blocks2) (a .units2) (a .start2) (a .open-code2)) (a .second .now) (a .number) (a .name .now)) (c .before .before .before .before .before .before .geometry .ensures)
-    (at-disk (λ (h : Geometry). exportedCompare (c .before .before .before .before .before .before .geometry .result) (a .first .now) h (a .second .now) (a .number) (a .name .now)) (c .before .before .before .before .before .geometry2 .ensures)
-    (rw (lt-ltb _ _ (c .before .before .before .before .if1 .taken)) (short-told (a .name .now) (c .before .short-of-two .result) (c .wide .ensures .is)
-    (c .before .short-of-two .ensures ∙ (λ i. shortOfTwo (c .before .before .before .check .ensures i) (c .before .before .check2 .ensures i))))))
+returns c =
+    let a = c .before .before .before .before .before .before .before .before .before .before .args in
+    let the-geometry = c .before .before .before .before .before .before .geometry in
+    let the-geometry2 = c .before .before .before .before .before .geometry2 in
+    let the-if1 = c .before .before .before .before .if1 in
+    let the-short-of-two = c .before .short-of-two in
+    let the-wide = c .wide in
+    let the-check = c .before .before .before .check in
+    let the-check2 = c .before .before .check2 in
+    at-disk (λ (g : Geometry). exportedCompare g (a .first .now) (geometry (a .blocks2) (a .units2) (a .start2) (a .open-code2)) (a .second .now)
+    (a .number) (a .name .now)) (the-geometry .ensures)
+    (at-disk (λ (h : Geometry). exportedCompare (the-geometry .result) (a .first .now) h (a .second .now) (a .number) (a .name .now)) (the-geometry2 .ensures)
+    (rw (lt-ltb _ _ (the-if1 .taken)) (short-told (a .name .now) (the-short-of-two .result) (the-wide .ensures .is)
+    (the-short-of-two .ensures ∙ (λ i. shortOfTwo (the-check .ensures i) (the-check2 .ensures i))))))
 
 -- src/lib.rt:408:9
 compare-requires : tie.Need-compare-requires
@@ -69,10 +78,21 @@ flags-of-requires c κs = search needs
 
 -- src/lib.rt:415:9
 returns-2 : tie.Need-returns-2
-returns-2 c = let a = c .before .before .before .before .before .before .before .before .before .before .before .before .args in
-    at-disk (λ (g : Geometry). exportedCompare g (a .first .now) (geometry (a .blocks2) (a .units2) (a .start2) (a .open-code2)) (a .second .now) (a .number) (a .name .now)) (c .before .before .before .before .before .before .before .before .geometry .ensures)
-    (at-disk (λ (h : Geometry). exportedCompare (c .before .before .before .before .before .before .before .before .geometry .result) (a .first .now) h (a .second .now) (a .number) (a .name .now)) (c .before .before .before .before .before .before .before .geometry2 .ensures)
-    (rw (le-ltb _ _ (c .before .before .before .before .before .before .if1 .left)) (none-told (a .name .now) (c .before .before .before .before .before .compare .result) (c .before .before .before .before .wide2 .ensures .is) (c .before .before .before .wide3 .ensures .is) (c .before .before .flags-of .ensures) (c .before .before .before .before .before .compare .ensures) (c .if2 .taken))))
+returns-2 c =
+    let a = c .before .before .before .before .before .before .before .before .before .before .before .before .args in
+    let the-geometry = c .before .before .before .before .before .before .before .before .geometry in
+    let the-geometry2 = c .before .before .before .before .before .before .before .geometry2 in
+    let the-if1 = c .before .before .before .before .before .before .if1 in
+    let the-compare = c .before .before .before .before .before .compare in
+    let the-wide2 = c .before .before .before .before .wide2 in
+    let the-wide3 = c .before .before .before .wide3 in
+    let the-flags-of = c .before .before .flags-of in
+    let the-if2 = c .if2 in
+    at-disk (λ (g : Geometry). exportedCompare g (a .first .now) (geometry (a .blocks2) (a .units2) (a .start2) (a .open-code2)) (a .second .now)
+    (a .number) (a .name .now)) (the-geometry .ensures)
+    (at-disk (λ (h : Geometry). exportedCompare (the-geometry .result) (a .first .now) h (a .second .now) (a .number) (a .name .now)) (the-geometry2 .ensures)
+    (rw (le-ltb _ _ (the-if1 .left)) (none-told (a .name .now) (the-compare .result) (the-wide2 .ensures .is) (the-wide3 .ensures .is)
+    (the-flags-of .ensures) (the-compare .ensures) (the-if2 .taken))))
 
 -- src/lib.rt:418:5
 put-name-requires : tie.Need-put-name-requires
@@ -84,10 +104,22 @@ same-length c = search needs
 
 -- src/lib.rt:375:1
 returns-3 : tie.Need-returns-3
-returns-3 c = let a = c .before .before .before .before .before .before .before .before .before .before .before .before .before .before .before .before .before .args in
-    at-disk (λ (g : Geometry). exportedCompare g (a .first .now) (geometry (a .blocks2) (a .units2) (a .start2) (a .open-code2)) (a .second .now) (a .number) (a .name .now)) (c .before .before .before .before .before .before .before .before .before .before .before .before .before .geometry .ensures)
-    (at-disk (λ (h : Geometry). exportedCompare (c .before .before .before .before .before .before .before .before .before .before .before .before .before .geometry .result) (a .first .now) h (a .second .now) (a .number) (a .name .now)) (c .before .before .before .before .before .before .before .before .before .before .before .before .geometry2 .ensures)
-    (rw (le-ltb _ _ (c .before .before .before .before .before .before .before .before .before .before .before .if1 .left)) (one-told (a .name .now) (c .before .before .before .before .before .before .before .before .before .before .compare .result) (c .before .before .before .before .before .before .before .before .before .wide2 .ensures .is) (c .before .before .before .before .before .before .before .before .wide3 .ensures .is) (c .before .before .before .before .before .before .before .flags-of .ensures) (c .before .before .before .before .before .before .before .before .before .before .compare .ensures) (c .before .before .before .before .before .if2 .left) (c .before .before .put-name .ensures))))
+returns-3 c =
+    let a = c .before .before .before .before .before .before .before .before .before .before .before .before .before .before .before .before .before .args in
+    let the-geometry = c .before .before .before .before .before .before .before .before .before .before .before .before .before .geometry in
+    let the-geometry2 = c .before .before .before .before .before .before .before .before .before .before .before .before .geometry2 in
+    let the-if1 = c .before .before .before .before .before .before .before .before .before .before .before .if1 in
+    let the-compare = c .before .before .before .before .before .before .before .before .before .before .compare in
+    let the-wide2 = c .before .before .before .before .before .before .before .before .before .wide2 in
+    let the-wide3 = c .before .before .before .before .before .before .before .before .wide3 in
+    let the-flags-of = c .before .before .before .before .before .before .before .flags-of in
+    let the-if2 = c .before .before .before .before .before .if2 in
+    let the-put-name = c .before .before .put-name in
+    at-disk (λ (g : Geometry). exportedCompare g (a .first .now) (geometry (a .blocks2) (a .units2) (a .start2) (a .open-code2)) (a .second .now)
+    (a .number) (a .name .now)) (the-geometry .ensures)
+    (at-disk (λ (h : Geometry). exportedCompare (the-geometry .result) (a .first .now) h (a .second .now) (a .number) (a .name .now)) (the-geometry2 .ensures)
+    (rw (le-ltb _ _ (the-if1 .left)) (one-told (a .name .now) (the-compare .result) (the-wide2 .ensures .is) (the-wide3 .ensures .is)
+    (the-flags-of .ensures) (the-compare .ensures) (the-if2 .left) (the-put-name .ensures))))
 
 pub genie-compare-spec : {M : Type 1} → statement M
 genie-compare-spec =

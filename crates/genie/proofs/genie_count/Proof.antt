@@ -20,7 +20,11 @@ counts-requires c κs = search needs
 
 -- src/lib.rt:335:1
 returns : tie.Need-returns
-returns c = at-disk (λ (g : Geometry). exportedCount g (c .before .before .before .args .image .now)) (c .before .geometry .ensures) (ap numbers (c .counts .ensures))
+returns c =
+    let a = c .before .before .before .args in
+    let the-geometry = c .before .geometry in
+    let the-counts = c .counts in
+    at-disk (λ (g : Geometry). exportedCount g (a .image .now)) (the-geometry .ensures) (ap numbers (the-counts .ensures))
 
 pub genie-count-spec : {M : Type 1} → statement M
 genie-count-spec = tie.close (tie.spec geometry-requires counts-requires returns)

@@ -27,9 +27,14 @@ same-length c = search needs
 
 -- src/lib.rt:107:9
 returns : tie.Need-returns
-returns c = let a = c .before .before .before .before .before .before .before .before .args in
-    at-disk (λ (g : Geometry). exportedCreate g (a .image .now) (a .name .now) (newFile (a .day) (a .month) (a .year) (a .length) (a .main) (a .worker)) (a .checking) (a .handle .now)) (c .before .before .before .before .geometry .ensures)
-    (rw (lt-ltb _ _ (c .before .before .before .if1 .taken)) (λ i. (c .short .ensures .0 i, c .short .ensures .1 i, 0, a .handle .now, a .image .now)))
+returns c =
+    let a = c .before .before .before .before .before .before .before .before .args in
+    let the-geometry = c .before .before .before .before .geometry in
+    let the-if1 = c .before .before .before .if1 in
+    let the-short = c .short in
+    at-disk (λ (g : Geometry). exportedCreate g (a .image .now) (a .name .now) (newFile (a .day) (a .month) (a .year) (a .length) (a .main) (a .worker))
+    (a .checking) (a .handle .now)) (the-geometry .ensures)
+    (rw (lt-ltb _ _ (the-if1 .taken)) (λ i. (the-short .ensures .0 i, the-short .ensures .1 i, 0, a .handle .now, a .image .now)))
 
 -- src/lib.rt:117:9
 create-requires : tie.Need-create-requires
@@ -53,9 +58,17 @@ same-length-3 c = search needs
 
 -- src/lib.rt:83:1
 returns-2 : tie.Need-returns-2
-returns-2 c = let a = c .before .before .before .before .before .before .before .before .before .before .before .before .before .before .args in
-    at-disk (λ (g : Geometry). exportedCreate g (a .image .now) (a .name .now) (newFile (a .day) (a .month) (a .year) (a .length) (a .main) (a .worker)) (a .checking) (a .handle .now)) (c .before .before .before .before .before .before .before .before .before .before .geometry .ensures)
-    (rw (le-ltb _ _ (c .before .before .before .before .before .before .before .before .before .if1 .left)) (created (a .handle .now) (c .before .before .before .before .before .before .before .create .last .0) (c .before .before .before .before .before .before .before .create .result) (c .before .before .before .before .told .ensures) (c .before .before .put-handle .ensures) (c .before .before .before .before .before .before .before .create .ensures)))
+returns-2 c =
+    let a = c .before .before .before .before .before .before .before .before .before .before .before .before .before .before .args in
+    let the-geometry = c .before .before .before .before .before .before .before .before .before .before .geometry in
+    let the-if1 = c .before .before .before .before .before .before .before .before .before .if1 in
+    let the-create = c .before .before .before .before .before .before .before .create in
+    let the-told = c .before .before .before .before .told in
+    let the-put-handle = c .before .before .put-handle in
+    at-disk (λ (g : Geometry). exportedCreate g (a .image .now) (a .name .now) (newFile (a .day) (a .month) (a .year) (a .length) (a .main) (a .worker))
+    (a .checking) (a .handle .now)) (the-geometry .ensures)
+    (rw (le-ltb _ _ (the-if1 .left)) (created (a .handle .now) (the-create .last .0) (the-create .result) (the-told .ensures) (the-put-handle .ensures)
+    (the-create .ensures)))
 
 pub genie-create-spec : {M : Type 1} → statement M
 genie-create-spec =

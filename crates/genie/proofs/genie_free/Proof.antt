@@ -20,7 +20,11 @@ free-space-requires c κs = search needs
 
 -- src/lib.rt:356:1
 returns : tie.Need-returns
-returns c = at-disk (λ (g : Geometry). exportedFree g (c .before .before .before .args .image .now)) (c .before .geometry .ensures) (ap spaces (c .free-space .ensures))
+returns c =
+    let a = c .before .before .before .args in
+    let the-geometry = c .before .geometry in
+    let the-free-space = c .free-space in
+    at-disk (λ (g : Geometry). exportedFree g (a .image .now)) (the-geometry .ensures) (ap spaces (the-free-space .ensures))
 
 pub genie-free-spec : {M : Type 1} → statement M
 genie-free-spec = tie.close (tie.spec geometry-requires free-space-requires returns)

@@ -22,9 +22,13 @@ short-requires c κs = search needs
 
 -- src/lib.rt:319:9
 returns : tie.Need-returns
-returns c = let a = c .before .before .before .before .before .before .args in
-    at-disk (λ (g : Geometry). exportedList g (a .image .now) (a .number) (a .name .now)) (c .before .before .before .geometry .ensures)
-    (rw (lt-ltb _ _ (c .before .before .if1 .taken)) (λ i. (c .short .ensures .0 i, c .short .ensures .1 i, 0, 0, 0, a .name .now)))
+returns c =
+    let a = c .before .before .before .before .before .before .args in
+    let the-geometry = c .before .before .before .geometry in
+    let the-if1 = c .before .before .if1 in
+    let the-short = c .short in
+    at-disk (λ (g : Geometry). exportedList g (a .image .now) (a .number) (a .name .now)) (the-geometry .ensures)
+    (rw (lt-ltb _ _ (the-if1 .taken)) (λ i. (the-short .ensures .0 i, the-short .ensures .1 i, 0, 0, 0, a .name .now)))
 
 -- src/lib.rt:321:9
 list-requires : tie.Need-list-requires
@@ -32,9 +36,14 @@ list-requires c κs = search needs
 
 -- src/lib.rt:327:9
 returns-2 : tie.Need-returns-2
-returns-2 c = let a = c .before .before .before .before .before .before .before .args in
-    at-disk (λ (g : Geometry). exportedList g (a .image .now) (a .number) (a .name .now)) (c .before .before .before .before .geometry .ensures)
-    (rw (le-ltb _ _ (c .before .before .before .if1 .left)) (nothing (a .name .now) (c .before .before .list .result) (c .if2 .taken) (c .before .before .list .ensures)))
+returns-2 c =
+    let a = c .before .before .before .before .before .before .before .args in
+    let the-geometry = c .before .before .before .before .geometry in
+    let the-if1 = c .before .before .before .if1 in
+    let the-list = c .before .before .list in
+    let the-if2 = c .if2 in
+    at-disk (λ (g : Geometry). exportedList g (a .image .now) (a .number) (a .name .now)) (the-geometry .ensures)
+    (rw (le-ltb _ _ (the-if1 .left)) (nothing (a .name .now) (the-list .result) (the-if2 .taken) (the-list .ensures)))
 
 -- src/lib.rt:331:5
 put-name-requires : tie.Need-put-name-requires
@@ -46,9 +55,15 @@ same-length c = search needs
 
 -- src/lib.rt:298:1
 returns-3 : tie.Need-returns-3
-returns-3 c = let a = c .before .before .before .before .before .before .before .before .before .before .before .before .args in
-    at-disk (λ (g : Geometry). exportedList g (a .image .now) (a .number) (a .name .now)) (c .before .before .before .before .before .before .before .before .before .geometry .ensures)
-    (rw (le-ltb _ _ (c .before .before .before .before .before .before .before .before .if1 .left)) (file (a .name .now) (c .before .before .before .before .before .before .before .list .result) (c .before .before .before .before .before .if2 .left) (c .before .before .put-name .ensures) (c .before .before .before .before .before .before .before .list .ensures)))
+returns-3 c =
+    let a = c .before .before .before .before .before .before .before .before .before .before .before .before .args in
+    let the-geometry = c .before .before .before .before .before .before .before .before .before .geometry in
+    let the-if1 = c .before .before .before .before .before .before .before .before .if1 in
+    let the-list = c .before .before .before .before .before .before .before .list in
+    let the-if2 = c .before .before .before .before .before .if2 in
+    let the-put-name = c .before .before .put-name in
+    at-disk (λ (g : Geometry). exportedList g (a .image .now) (a .number) (a .name .now)) (the-geometry .ensures)
+    (rw (le-ltb _ _ (the-if1 .left)) (file (a .name .now) (the-list .result) (the-if2 .left) (the-put-name .ensures) (the-list .ensures)))
 
 pub genie-list-spec : {M : Type 1} → statement M
 genie-list-spec =

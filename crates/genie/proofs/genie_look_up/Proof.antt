@@ -20,7 +20,11 @@ look-up-requires c κs = search needs
 
 -- src/lib.rt:35:1
 returns : tie.Need-returns
-returns c = let a = c .before .before .before .before .args in at-disk (λ (g : Geometry). exportedLookUp g (a .image .now) (a .name .now)) (c .before .geometry .ensures) (ap looks (c .look-up .ensures))
+returns c =
+    let a = c .before .before .before .before .args in
+    let the-geometry = c .before .geometry in
+    let the-look-up = c .look-up in
+    at-disk (λ (g : Geometry). exportedLookUp g (a .image .now) (a .name .now)) (the-geometry .ensures) (ap looks (the-look-up .ensures))
 
 pub genie-look-up-spec : {M : Type 1} → statement M
 genie-look-up-spec = tie.close (tie.spec geometry-requires look-up-requires returns)

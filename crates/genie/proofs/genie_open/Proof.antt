@@ -22,9 +22,13 @@ short-requires c κs = search needs
 
 -- src/lib.rt:75:9
 returns : tie.Need-returns
-returns c = let a = c .before .before .before .before .before .before .before .args in
-    at-disk (λ (g : Geometry). exportedOpen g (a .image .now) (a .name .now) (a .length) (a .checking) (a .code) (a .handle .now)) (c .before .before .before .geometry .ensures)
-    (rw (lt-ltb _ _ (c .before .before .if1 .taken)) (λ i. (c .short .ensures .0 i, c .short .ensures .1 i, a .handle .now)))
+returns c =
+    let a = c .before .before .before .before .before .before .before .args in
+    let the-geometry = c .before .before .before .geometry in
+    let the-if1 = c .before .before .if1 in
+    let the-short = c .short in
+    at-disk (λ (g : Geometry). exportedOpen g (a .image .now) (a .name .now) (a .length) (a .checking) (a .code) (a .handle .now)) (the-geometry .ensures)
+    (rw (lt-ltb _ _ (the-if1 .taken)) (λ i. (the-short .ensures .0 i, the-short .ensures .1 i, a .handle .now)))
 
 -- src/lib.rt:77:9
 open-file-requires : tie.Need-open-file-requires
@@ -40,9 +44,14 @@ same-length c = search needs
 
 -- src/lib.rt:57:1
 returns-2 : tie.Need-returns-2
-returns-2 c = let a = c .before .before .before .before .before .before .before .before .before .before .args in
-    at-disk (λ (g : Geometry). exportedOpen g (a .image .now) (a .name .now) (a .length) (a .checking) (a .code) (a .handle .now)) (c .before .before .before .before .before .before .geometry .ensures)
-    (rw (le-ltb _ _ (c .before .before .before .before .before .if1 .left)) (opened (a .handle .now) (c .before .before .before .before .open-file .result) (c .before .before .put-handle .ensures) (c .before .before .before .before .open-file .ensures)))
+returns-2 c =
+    let a = c .before .before .before .before .before .before .before .before .before .before .args in
+    let the-geometry = c .before .before .before .before .before .before .geometry in
+    let the-if1 = c .before .before .before .before .before .if1 in
+    let the-open-file = c .before .before .before .before .open-file in
+    let the-put-handle = c .before .before .put-handle in
+    at-disk (λ (g : Geometry). exportedOpen g (a .image .now) (a .name .now) (a .length) (a .checking) (a .code) (a .handle .now)) (the-geometry .ensures)
+    (rw (le-ltb _ _ (the-if1 .left)) (opened (a .handle .now) (the-open-file .result) (the-put-handle .ensures) (the-open-file .ensures)))
 
 pub genie-open-spec : {M : Type 1} → statement M
 genie-open-spec =

@@ -26,9 +26,13 @@ short-requires c κs = search needs
 
 -- src/lib.rt:139:9
 returns : tie.Need-returns
-returns c = let a = c .before .before .before .before .before .before .before .args in
-    at-disk (λ (g : Geometry). exportedReadRecord g (a .image .now) (a .handle .now) (a .buffer .now)) (c .before .before .before .geometry .ensures)
-    (rw (lt-ltb _ _ (c .before .before .if1 .taken)) (λ i. (c .short .ensures .0 i, c .short .ensures .1 i, a .handle .now, a .buffer .now)))
+returns c =
+    let a = c .before .before .before .before .before .before .before .args in
+    let the-geometry = c .before .before .before .geometry in
+    let the-if1 = c .before .before .if1 in
+    let the-short = c .short in
+    at-disk (λ (g : Geometry). exportedReadRecord g (a .image .now) (a .handle .now) (a .buffer .now)) (the-geometry .ensures)
+    (rw (lt-ltb _ _ (the-if1 .taken)) (λ i. (the-short .ensures .0 i, the-short .ensures .1 i, a .handle .now, a .buffer .now)))
 
 -- src/lib.rt:141:9
 handle-of-requires : tie.Need-handle-of-requires
@@ -48,10 +52,16 @@ same-length-2 c = search needs
 
 -- src/lib.rt:145:9
 returns-2 : tie.Need-returns-2
-returns-2 c = let a = c .before .before .before .before .before .before .before .before .before .before .before .before .before .args in
-    at-disk (λ (g : Geometry). exportedReadRecord g (a .image .now) (a .handle .now) (a .buffer .now)) (c .before .before .before .before .before .before .before .before .before .geometry .ensures)
-    (rw (le-ltb _ _ (c .before .before .before .before .before .before .before .before .if1 .left)) (stays (a .handle .now) (c .before .before .before .before .read-record .result) _ (c .if2 .taken)
-    (c .before .before .before .before .read-record .ensures ∙ ap (λ (h : Handle). readRecord (c .before .before .before .before .before .before .before .before .before .geometry .result) (a .image .now) h (a .buffer .now)) (c .before .before .before .before .before .before .handle-of .ensures))))
+returns-2 c =
+    let a = c .before .before .before .before .before .before .before .before .before .before .before .before .before .args in
+    let the-geometry = c .before .before .before .before .before .before .before .before .before .geometry in
+    let the-if1 = c .before .before .before .before .before .before .before .before .if1 in
+    let the-read-record = c .before .before .before .before .read-record in
+    let the-if2 = c .if2 in
+    let the-handle-of = c .before .before .before .before .before .before .handle-of in
+    at-disk (λ (g : Geometry). exportedReadRecord g (a .image .now) (a .handle .now) (a .buffer .now)) (the-geometry .ensures)
+    (rw (le-ltb _ _ (the-if1 .left)) (stays (a .handle .now) (the-read-record .result) _ (the-if2 .taken)
+    (the-read-record .ensures ∙ ap (λ (h : Handle). readRecord (the-geometry .result) (a .image .now) h (a .buffer .now)) (the-handle-of .ensures))))
 
 -- src/lib.rt:147:5
 put-handle-requires : tie.Need-put-handle-requires
@@ -67,10 +77,17 @@ same-length-4 c = search needs
 
 -- src/lib.rt:124:1
 returns-3 : tie.Need-returns-3
-returns-3 c = let a = c .before .before .before .before .before .before .before .before .before .before .before .before .before .before .before .before .before .args in
-    at-disk (λ (g : Geometry). exportedReadRecord g (a .image .now) (a .handle .now) (a .buffer .now)) (c .before .before .before .before .before .before .before .before .before .before .before .before .before .geometry .ensures)
-    (rw (le-ltb _ _ (c .before .before .before .before .before .before .before .before .before .before .before .before .if1 .left)) (moved (a .handle .now) (c .before .before .before .before .before .before .before .before .read-record .result) _ (c .before .before .before .before .if2 .left) (c .before .before .put-handle .ensures)
-    (c .before .before .before .before .before .before .before .before .read-record .ensures ∙ ap (λ (h : Handle). readRecord (c .before .before .before .before .before .before .before .before .before .before .before .before .before .geometry .result) (a .image .now) h (a .buffer .now)) (c .before .before .before .before .before .before .before .before .before .before .handle-of .ensures))))
+returns-3 c =
+    let a = c .before .before .before .before .before .before .before .before .before .before .before .before .before .before .before .before .before .args in
+    let the-geometry = c .before .before .before .before .before .before .before .before .before .before .before .before .before .geometry in
+    let the-if1 = c .before .before .before .before .before .before .before .before .before .before .before .before .if1 in
+    let the-read-record = c .before .before .before .before .before .before .before .before .read-record in
+    let the-if2 = c .before .before .before .before .if2 in
+    let the-put-handle = c .before .before .put-handle in
+    let the-handle-of = c .before .before .before .before .before .before .before .before .before .before .handle-of in
+    at-disk (λ (g : Geometry). exportedReadRecord g (a .image .now) (a .handle .now) (a .buffer .now)) (the-geometry .ensures)
+    (rw (le-ltb _ _ (the-if1 .left)) (moved (a .handle .now) (the-read-record .result) _ (the-if2 .left) (the-put-handle .ensures)
+    (the-read-record .ensures ∙ ap (λ (h : Handle). readRecord (the-geometry .result) (a .image .now) h (a .buffer .now)) (the-handle-of .ensures))))
 
 pub genie-read-record-spec : {M : Type 1} → statement M
 genie-read-record-spec =

@@ -25,9 +25,13 @@ short-requires c κs = search needs
 
 -- src/lib.rt:170:9
 returns : tie.Need-returns
-returns c = let a = c .before .before .before .before .before .before .args in
-    at-disk (λ (g : Geometry). exportedReadSector g (a .image .now) (a .handle .now) (a .k)) (c .before .before .before .geometry .ensures)
-    (rw (lt-ltb _ _ (c .before .before .if1 .taken)) (λ i. (c .short .ensures .0 i, c .short .ensures .1 i, 0, 0)))
+returns c =
+    let a = c .before .before .before .before .before .before .args in
+    let the-geometry = c .before .before .before .geometry in
+    let the-if1 = c .before .before .if1 in
+    let the-short = c .short in
+    at-disk (λ (g : Geometry). exportedReadSector g (a .image .now) (a .handle .now) (a .k)) (the-geometry .ensures)
+    (rw (lt-ltb _ _ (the-if1 .taken)) (λ i. (the-short .ensures .0 i, the-short .ensures .1 i, 0, 0)))
 
 -- src/lib.rt:172:9
 handle-of-requires : tie.Need-handle-of-requires
@@ -39,9 +43,15 @@ sector-part-requires c κs = search needs
 
 -- src/lib.rt:151:1
 returns-2 : tie.Need-returns-2
-returns-2 c = let a = c .before .before .before .before .before .before .args in
-    at-disk (λ (g : Geometry). exportedReadSector g (a .image .now) (a .handle .now) (a .k)) (c .before .before .before .geometry .ensures)
-    (rw (le-ltb _ _ (c .before .before .if1 .left)) (ap lies (c .sector-part .ensures .0 ∙ ap (λ (h : Handle). readSector (c .before .before .before .geometry .result) (a .image .now) h (a .k)) (c .before .handle-of .ensures))))
+returns-2 c =
+    let a = c .before .before .before .before .before .before .args in
+    let the-geometry = c .before .before .before .geometry in
+    let the-if1 = c .before .before .if1 in
+    let the-sector-part = c .sector-part in
+    let the-handle-of = c .before .handle-of in
+    at-disk (λ (g : Geometry). exportedReadSector g (a .image .now) (a .handle .now) (a .k)) (the-geometry .ensures)
+    (rw (le-ltb _ _ (the-if1 .left)) (ap lies (the-sector-part .ensures .0 ∙ ap (λ (h : Handle). readSector (the-geometry .result) (a .image .now) h (a .k))
+    (the-handle-of .ensures))))
 
 pub genie-read-sector-spec : {M : Type 1} → statement M
 genie-read-sector-spec =

@@ -33,9 +33,13 @@ same-length c = search needs
 
 -- src/lib.rt:196:9
 returns : tie.Need-returns
-returns c = let a = c .before .before .before .before .before .before .before .before .args in
-    at-disk (λ (g : Geometry). exportedWriteRecord g (a .image .now) (a .handle .now) (a .sequential) (a .buffer .now)) (c .before .before .before .before .geometry .ensures)
-    (rw (lt-ltb _ _ (c .before .before .before .if1 .taken)) (λ i. (c .short .ensures .0 i, c .short .ensures .1 i, a .handle .now, a .image .now)))
+returns c =
+    let a = c .before .before .before .before .before .before .before .before .args in
+    let the-geometry = c .before .before .before .before .geometry in
+    let the-if1 = c .before .before .before .if1 in
+    let the-short = c .short in
+    at-disk (λ (g : Geometry). exportedWriteRecord g (a .image .now) (a .handle .now) (a .sequential) (a .buffer .now)) (the-geometry .ensures)
+    (rw (lt-ltb _ _ (the-if1 .taken)) (λ i. (the-short .ensures .0 i, the-short .ensures .1 i, a .handle .now, a .image .now)))
 
 -- src/lib.rt:198:9
 handle-of-requires : tie.Need-handle-of-requires
@@ -59,11 +63,19 @@ same-length-3 c = search needs
 
 -- src/lib.rt:203:9
 returns-2 : tie.Need-returns-2
-returns-2 c = let a = c .before .before .before .before .before .before .before .before .before .before .before .before .before .before .args in
-    at-disk (λ (g : Geometry). exportedWriteRecord g (a .image .now) (a .handle .now) (a .sequential) (a .buffer .now)) (c .before .before .before .before .before .before .before .before .before .before .geometry .ensures)
-    (rw (le-ltb _ _ (c .before .before .before .before .before .before .before .before .before .if1 .left)) (stays (a .handle .now) (c .before .before .before .before .write-record .result) _ (c .if2 .taken)
-    (c .before .before .before .before .write-record .ensures ∙ ap (λ (m : Mode). writeRecord (c .before .before .before .before .before .before .before .before .before .before .geometry .result) (a .image .now) m (c .before .before .before .before .before .before .before .handle-of .result) (a .buffer .now)) (c .before .before .before .before .before .before .mode-of .ensures)
-    ∙ ap (λ (h : Handle). writeRecord (c .before .before .before .before .before .before .before .before .before .before .geometry .result) (a .image .now) (modeOf (a .sequential)) h (a .buffer .now)) (c .before .before .before .before .before .before .before .handle-of .ensures))))
+returns-2 c =
+    let a = c .before .before .before .before .before .before .before .before .before .before .before .before .before .before .args in
+    let the-geometry = c .before .before .before .before .before .before .before .before .before .before .geometry in
+    let the-if1 = c .before .before .before .before .before .before .before .before .before .if1 in
+    let the-write-record = c .before .before .before .before .write-record in
+    let the-if2 = c .if2 in
+    let the-handle-of = c .before .before .before .before .before .before .before .handle-of in
+    let the-mode-of = c .before .before .before .before .before .before .mode-of in
+    at-disk (λ (g : Geometry). exportedWriteRecord g (a .image .now) (a .handle .now) (a .sequential) (a .buffer .now)) (the-geometry .ensures)
+    (rw (le-ltb _ _ (the-if1 .left)) (stays (a .handle .now) (the-write-record .result) _ (the-if2 .taken)
+    (the-write-record .ensures ∙ ap (λ (m : Mode). writeRecord (the-geometry .result) (a .image .now) m (the-handle-of .result) (a .buffer .now))
+    (the-mode-of .ensures)
+    ∙ ap (λ (h : Handle). writeRecord (the-geometry .result) (a .image .now) (modeOf (a .sequential)) h (a .buffer .now)) (the-handle-of .ensures))))
 
 -- src/lib.rt:205:5
 put-handle-requires : tie.Need-put-handle-requires
@@ -79,11 +91,20 @@ same-length-5 c = search needs
 
 -- src/lib.rt:180:1
 returns-3 : tie.Need-returns-3
-returns-3 c = let a = c .before .before .before .before .before .before .before .before .before .before .before .before .before .before .before .before .before .before .args in
-    at-disk (λ (g : Geometry). exportedWriteRecord g (a .image .now) (a .handle .now) (a .sequential) (a .buffer .now)) (c .before .before .before .before .before .before .before .before .before .before .before .before .before .before .geometry .ensures)
-    (rw (le-ltb _ _ (c .before .before .before .before .before .before .before .before .before .before .before .before .before .if1 .left)) (moved (a .handle .now) (c .before .before .before .before .before .before .before .before .write-record .result) _ (c .before .before .before .before .if2 .left) (c .before .before .put-handle .ensures)
-    (c .before .before .before .before .before .before .before .before .write-record .ensures ∙ ap (λ (m : Mode). writeRecord (c .before .before .before .before .before .before .before .before .before .before .before .before .before .before .geometry .result) (a .image .now) m (c .before .before .before .before .before .before .before .before .before .before .before .handle-of .result) (a .buffer .now)) (c .before .before .before .before .before .before .before .before .before .before .mode-of .ensures)
-    ∙ ap (λ (h : Handle). writeRecord (c .before .before .before .before .before .before .before .before .before .before .before .before .before .before .geometry .result) (a .image .now) (modeOf (a .sequential)) h (a .buffer .now)) (c .before .before .before .before .before .before .before .before .before .before .before .handle-of .ensures))))
+returns-3 c =
+    let a = c .before .before .before .before .before .before .before .before .before .before .before .before .before .before .before .before .before .before .args in
+    let the-geometry = c .before .before .before .before .before .before .before .before .before .before .before .before .before .before .geometry in
+    let the-if1 = c .before .before .before .before .before .before .before .before .before .before .before .before .before .if1 in
+    let the-write-record = c .before .before .before .before .before .before .before .before .write-record in
+    let the-if2 = c .before .before .before .before .if2 in
+    let the-put-handle = c .before .before .put-handle in
+    let the-handle-of = c .before .before .before .before .before .before .before .before .before .before .before .handle-of in
+    let the-mode-of = c .before .before .before .before .before .before .before .before .before .before .mode-of in
+    at-disk (λ (g : Geometry). exportedWriteRecord g (a .image .now) (a .handle .now) (a .sequential) (a .buffer .now)) (the-geometry .ensures)
+    (rw (le-ltb _ _ (the-if1 .left)) (moved (a .handle .now) (the-write-record .result) _ (the-if2 .left) (the-put-handle .ensures)
+    (the-write-record .ensures ∙ ap (λ (m : Mode). writeRecord (the-geometry .result) (a .image .now) m (the-handle-of .result) (a .buffer .now))
+    (the-mode-of .ensures)
+    ∙ ap (λ (h : Handle). writeRecord (the-geometry .result) (a .image .now) (modeOf (a .sequential)) h (a .buffer .now)) (the-handle-of .ensures))))
 
 pub genie-write-record-spec : {M : Type 1} → statement M
 genie-write-record-spec =

@@ -21,7 +21,11 @@ short-requires c κs = search needs
 
 -- src/lib.rt:10:1
 returns : tie.Need-returns
-returns c = let e = c .short .ensures ∙ ap short (c .before .check .ensures) ∙ sym (short-is _ _) in (ap {B = ℕ} (λ (c : Refusal). c .number) e, ap {B = ℕ} (λ (c : Refusal). c .at) e)
+returns c =
+    let the-short = c .short in
+    let the-check = c .before .check in
+    let e = the-short .ensures ∙ ap short (the-check .ensures) ∙ sym (short-is _ _) in (ap {B = ℕ} (λ (c : Refusal). c .number) e, ap {B = ℕ} (λ
+    (c : Refusal). c .at) e)
 
 pub short-spec : {M : Type 1} → statement M
 short-spec = tie.close (tie.spec check-requires short-requires returns)
