@@ -10,6 +10,7 @@ use borrow.Author.Tests.{ltb-true, leb-true, eqb-true, not-false}
 use Rattle.meaning.specs.Lists.{count, every, keep, firstOr}
 use Rattle.meaning.specs.Names.{wellFormed, hash}
 use Rattle.meaning.specs.Layout.{slots, isSlot, hit, highest}
+use Rattle.meaning.specs.Sizes
 use Rattle.meaning.specs.Entries.{accessLevel}
 use Rattle.meaning.specs.Free.{freeSlot, freeSlots}
 use Rattle.meaning.specs.Refusals.{first, newInRange, inRange, noHandle, movedTo}
@@ -114,11 +115,11 @@ module _ (g : Geometry) (d : List ℕ) where
       by false e new = zeros-fit
 
   -- a position that advances is in range still, as bytes go
-  moved-fits : (h : Handle) → Fits h → inRange h ≡ true → Fits (movedTo h (h .at + h .len))
+  moved-fits : (h : Handle) → Fits h → inRange g h ≡ true → Fits (movedTo h (h .at + h .len))
   unfolding inRange
   moved-fits h f r =
-      let a = leb-true (h .at) highest (all-at _ r 0) in let l = length-range (h .len) (all-at _ r 1) .1 in
-      record { slot = f .slot; level = f .level; len = f .len; at = omega arith; name = f .name }
+      let a = leb-true (h .at) (highest g) (all-at _ r 0) in let l = length-range (h .len) (all-at _ r 1) .1 in
+      record { slot = f .slot; level = f .level; len = f .len; at = omega (arith, Sizes.bytes-are g, Sizes.sectors-most g); name = f .name }
 
   either-fits : (t : Bool) (h h′ : Handle) → Fits h → (t ≡ true → Fits h′) → Fits (cond t h′ h)
   either-fits true h h′ f k = k refl

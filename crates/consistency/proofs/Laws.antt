@@ -8,6 +8,7 @@ use lib.Dec.{eqb, leb}
 use borrow.Author.Tests.{eq-eqb, ne-eqb, leb-true, eqb-true}
 use Rattle.meaning.specs.Lists.{count, every, each, has, all}
 use Rattle.meaning.specs.Layout.{granules, fitsGeometry, directorySectors, aboveTen, granuleSectors, mostBlocks, mostUnits}
+use Rattle.meaning.specs.Sizes
 use Rattle.meaning.specs.Consistent.{lengthHolds}
 use Rattle.meaning.specs.declared.Geometry.{Geometry}
 use Rattle.layout.specs.Room.{Room}
@@ -30,14 +31,18 @@ unfolding fitsGeometry granules
 fits g d f =
     let a = leb-true (g .blocks) mostBlocks (all-at _ f 1) in
     let b = leb-true (g .units) 8 (all-at _ f 3) in
+    let m = below (g .blocks) (g .units) mostBlocks mostUnits a b in
+    let w = eqb-true _ _ (all-at _ f 5) in
     record {
       blocks-low = leb-true _ _ (all-at _ f 0);
       blocks-high = a;
       units-low = leb-true _ _ (all-at _ f 2);
       units-high = b;
       five = eqb-true _ _ (all-at _ f 4);
-      most = below (g .blocks) (g .units) mostBlocks mostUnits a b;
-      whole = eqb-true _ _ (all-at _ f 5);
+      most = m;
+      whole = w;
+      long = w ∙ Sizes.bytes-sectors g;
+      far = Sizes.sectors-low g m;
       ten = leb-true _ _ (all-at _ f 6);
     }
 
@@ -51,6 +56,8 @@ room-of g d f h =
       units-high = f .units-high;
       most = f .most;
       whole = f .whole;
+      long = f .long;
+      far = f .far;
       ten = e .0;
       thirty = e .1;
       directory = e .2;
@@ -79,10 +86,11 @@ module _ (g : Geometry) (d : List ℕ) where
   unfolding lengthHolds
   length-odd {x} e h n = sym (all-no (ap (has fives) (sym e) ∙ five-at x h ∙ ne-eqb _ _ n) _)
 
-  pub length-rest : {x w : ℕ} → x ≡ aboveTen g d → x ≤ 20 → x % 5 ≡ 0 → w ≡ granules g → leb (g .start + (10 + x)) (w * granuleSectors) ≡ lengthHolds g d
+  pub length-rest : {x w : ℕ} → x ≡ aboveTen g d → x ≤ 20 → x % 5 ≡ 0 → w ≡ granules g → leb (g .start + (10 + x)) (w * 5) ≡ lengthHolds g d
   unfolding lengthHolds directorySectors
   length-rest {x} {w} e h n q =
-      ap (λ (k : ℕ). leb (g .start + (10 + k)) (w * granuleSectors)) e ∙ ap (λ (k : ℕ). leb (g .start + (10 + aboveTen g d)) (k * granuleSectors)) q
+      ap (λ (s : ℕ). leb (g .start + (10 + x)) (w * s)) (sym (Sizes.code-sectors g))
+      ∙ ap (λ (k : ℕ). leb (g .start + (10 + k)) (w * granuleSectors g)) e ∙ ap (λ (k : ℕ). leb (g .start + (10 + aboveTen g d)) (k * granuleSectors g)) q
       ∙ sym (all-yes (ap (has fives) (sym e) ∙ five-at x h ∙ eq-eqb _ _ n) _ ∙ all-one _)
 
 -- Slot after slot -------------------------------------------------------------------------------------------------------------

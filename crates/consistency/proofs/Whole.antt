@@ -11,6 +11,7 @@ use borrow.Author.Tests.{eq-eqb, ne-eqb, eqb-true, eqb-false, le-leb, leb-true}
 use Rattle.meaning.specs.Lists.{count, every, each, keep, has, distinct, any}
 use Rattle.meaning.specs.Bits.{bit}
 use Rattle.meaning.specs.Layout.{granules, taken, field, hit, slots, isSlot, directoryGranules, granuleBytes, granuleSectors}
+use Rattle.meaning.specs.Sizes
 use Rattle.meaning.specs.Names.{hash}
 use Rattle.meaning.specs.Entries.{inUse, primary, system, runs, runStart, runLength, runGranules, entryGranules, nameOf, sectorCount, endByte, sizeOf}
 use Rattle.meaning.specs.Chain.{chain, owned, files}
@@ -112,27 +113,27 @@ module _ (g : Geometry) (d : List ℕ) where
       beq-true false = refl
 
   -- the size fits exactly if the sector count does
-  size-le : (p : ℕ) → Bytes d → countHolds (sectorCount g d p) (endByte g d p) ≡ true → sectorCount g d p ≤ granuleSectors * length (owned g d p) → sizeOf g d p ≤ granuleBytes * length (owned g d p)
+  size-le : (p : ℕ) → Bytes d → countHolds (sectorCount g d p) (endByte g d p) ≡ true → sectorCount g d p ≤ granuleSectors g * length (owned g d p) → sizeOf g d p ≤ granuleBytes g * length (owned g d p)
   unfolding sizeOf countHolds field
   size-le p b c l = go (eqb (endByte g d p) 0) refl
     where
-      go : (t : Bool) → eqb (endByte g d p) 0 ≡ t → cond (eqb (endByte g d p) 0) (256 * sectorCount g d p) (256 * (sectorCount g d p - 1) + endByte g d p) ≤ granuleBytes * length (owned g d p)
-      go true e = rw e (omega arith)
+      go : (t : Bool) → eqb (endByte g d p) 0 ≡ t → cond (eqb (endByte g d p) 0) (256 * sectorCount g d p) (256 * (sectorCount g d p - 1) + endByte g d p) ≤ granuleBytes g * length (owned g d p)
+      go true e = rw e (omega (arith, ap (λ (x : ℕ). x * length (owned g d p)) (Sizes.bytes-are g)))
       go false e =
           let n : (sectorCount g d p ≡ 0 → ⊥) = λ z. not-both (sym (ap (λ (k : ℕ). not (eqb k 0) || eqb (endByte g d p) 0) z ∙ e) ∙ c) refl in
           let w = b (entryPlace + 3) in
-          rw e (omega arith)
+          rw e (omega (arith, ap (λ (x : ℕ). x * length (owned g d p)) (Sizes.bytes-are g)))
         where
           entryPlace : ℕ
           entryPlace = 256 * (g .start + 2 + p % 32) + 32 * (p / 32)
 
-  le-size : (p : ℕ) → (sectorCount g d p ≡ 0 → endByte g d p ≡ 0) → sizeOf g d p ≤ granuleBytes * length (owned g d p) → sectorCount g d p ≤ granuleSectors * length (owned g d p)
+  le-size : (p : ℕ) → (sectorCount g d p ≡ 0 → endByte g d p ≡ 0) → sizeOf g d p ≤ granuleBytes g * length (owned g d p) → sectorCount g d p ≤ granuleSectors g * length (owned g d p)
   unfolding sizeOf
   le-size p c l = go (eqb (endByte g d p) 0) refl
     where
-      go : (t : Bool) → eqb (endByte g d p) 0 ≡ t → sectorCount g d p ≤ granuleSectors * length (owned g d p)
-      go true e = let h = rw e at l in omega arith
-      go false e = let h = rw e at l in let n = eqb-false (endByte g d p) 0 e in omega arith
+      go : (t : Bool) → eqb (endByte g d p) 0 ≡ t → sectorCount g d p ≤ granuleSectors g * length (owned g d p)
+      go true e = let h = rw e at l in omega (arith, ap (λ (x : ℕ). x * length (owned g d p)) (Sizes.bytes-are g))
+      go false e = let h = rw e at l in let n = eqb-false (endByte g d p) 0 e in omega (arith, ap (λ (x : ℕ). x * length (owned g d p)) (Sizes.bytes-are g))
 
   -- From the maps to the disk -------------------------------------------------------------------------------------------------
 

@@ -13,9 +13,12 @@ pub record Fits (g : Geometry) (d : List ℕ) : Type 0 where
   pub blocks-high : g .blocks ≤ mostBlocks
   pub units-low : 1 ≤ g .units
   pub units-high : g .units ≤ mostUnits
-  pub five : g .start % granuleSectors ≡ 0
+  pub five : g .start % granuleSectors g ≡ 0
   pub most : granules g ≤ mostGranules
-  pub whole : length d ≡ granules g * granuleBytes
+  pub whole : length d ≡ granules g * granuleBytes g
+  -- the same by sectors, of which the largest disk has so many
+  pub long : length d ≡ 256 * sectors g
+  pub far : sectors g ≤ 30720
   pub ten : g .start + 10 ≤ sectors g
 
 -- s and every 32nd slot after it, n in all

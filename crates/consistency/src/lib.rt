@@ -2,7 +2,7 @@
 use meaning::Geometry;
 ghost use mathlib.Core.Path.{_≡_};
 ghost use Prim.Native.Nat.{_+_, _/_, _<_};
-ghost use Rattle.meaning.specs.Layout.{directorySectors, granuleSectors};
+ghost use Rattle.meaning.specs.Layout.{directorySectors, granuleSectors, roundUp};
 ghost use Rattle.meaning.specs.Consistent.{lengthHolds, consistent};
 ghost use Rattle.layout.specs.Room.{Room};
 ghost use Rattle.marks.specs.Owners.{standing};
@@ -76,7 +76,7 @@ fn slots_hold(
 // The first of the eight bytes of the owner map that the directory's granules stand in.
 fn directory_from(image: &[u8], g: Geometry) -> usize
     requires { ⌜ Room g (now image) ⌝ }
-    ensures { λ r. ⌜ Spans (g .units) (g .start / granuleSectors) (directorySectors g (now (image .entry)) / granuleSectors) r ⌝ }
+    ensures { λ r. ⌜ Spans (g .units) (g .start / granuleSectors g) (roundUp (directorySectors g (now (image .entry))) (granuleSectors g)) r ⌝ }
 {
     let block = g.start / layout::GRANULE_SECTORS / g.units;
     if block < marks::LAST_EIGHT {
@@ -88,13 +88,13 @@ fn directory_from(image: &[u8], g: Geometry) -> usize
 
 // The bits of the directory's granules in them.
 fn directory_bits(image: &[u8], g: Geometry, from: usize) -> usize
-    requires { ⌜ Room g (now image) × Spans (g .units) (g .start / granuleSectors) (directorySectors g (now image) / granuleSectors) from ⌝ }
+    requires { ⌜ Room g (now image) × Spans (g .units) (g .start / granuleSectors g) (roundUp (directorySectors g (now image)) (granuleSectors g)) from ⌝ }
     ensures { λ r. ⌜ Directory g (now (image .entry)) from r ⌝ }
 {
     marks::directory_bits(
         g.units,
         g.start / layout::GRANULE_SECTORS,
-        layout::directory_sectors(image, g) / layout::GRANULE_SECTORS,
+        layout::directory_granules(image, g),
         from,
     )
 }

@@ -8,6 +8,7 @@ use lib.ListN.{length, take, drop}
 use lib.Dec.{leb}
 use Rattle.meaning.specs.Bits.{bit}
 use Rattle.meaning.specs.Layout.{granuleBytes, field, entryAt}
+use Rattle.meaning.specs.Sizes
 use Rattle.meaning.specs.Names.{wellFormed}
 use Rattle.meaning.specs.Entries.{nameOf, sizeOf, sectorCount, endByte}
 use Rattle.meaning.specs.Chain.{owned}
@@ -25,7 +26,7 @@ cut a = omega arith
 module _ (g : Geometry) (d : List ℕ) (s : ℕ) where
   pub name-ends : Room g d → Slot g d s → entryAt g s + 16 ≤ length d
   name-ends r sl =
-      let l = sl .low in let h = sl .held in let w = r .whole in let t = r .directory in omega arith
+      let l = sl .low in let h = sl .held in let w = r .long in let t = r .directory in omega arith
 
   -- the name as it is lent
   pub name-is : {n : ℕ} → Room g d → Slot g d s → n ≡ 11 → take n (drop (entryAt g s + 5) d) ≡ nameOf g d s
@@ -50,6 +51,6 @@ module _ (g : Geometry) (d : List ℕ) (s : ℕ) where
   unfolding sizeHolds countHolds
   size-bad w t = sym (all-no (is-no w t) _)
 
-  pub size-good : {f : Bool} {k n : ℕ} → f ≡ countHolds (sectorCount g d s) (endByte g d s) → not f ≡ false → k ≡ sizeOf g d s → n ≡ length (owned g d s) → leb k (granuleBytes * n) ≡ sizeHolds g d s
+  pub size-good : {f : Bool} {k n : ℕ} → f ≡ countHolds (sectorCount g d s) (endByte g d s) → not f ≡ false → k ≡ sizeOf g d s → n ≡ length (owned g d s) → leb k (1280 * n) ≡ sizeHolds g d s
   unfolding sizeHolds countHolds
-  size-good {f} {k} {n} w t p q = ap (λ (z : ℕ). leb z (granuleBytes * n)) p ∙ ap (λ (z : ℕ). leb (sizeOf g d s) (granuleBytes * z)) q ∙ sym (all-yes (is-yes w t) _ ∙ all-one _)
+  size-good {f} {k} {n} w t p q = ap (λ (z : ℕ). leb k (z * n)) (sym (Sizes.code-bytes g)) ∙ ap (λ (z : ℕ). leb z (granuleBytes g * n)) p ∙ ap (λ (z : ℕ). leb (sizeOf g d s) (granuleBytes g * z)) q ∙ sym (all-yes (is-yes w t) _ ∙ all-one _)

@@ -16,9 +16,9 @@ pub struct Extent {
 }
 
 // How many granules that many bytes need.
-pub fn granules_for(n: usize) -> usize
+pub fn granules_for(g: Geometry, n: usize) -> usize
     requires { ⌜ n ≤ 33554432 ⌝ }
-    ensures { λ r. ⌜ r ≡ granulesFor n ⌝ }
+    ensures { λ r. ⌜ r ≡ granulesFor g n ⌝ }
 {
     (n + (layout::GRANULE_BYTES - 1)) / layout::GRANULE_BYTES
 }

@@ -30,7 +30,7 @@ module _ (g : Geometry) (p : ℕ) where
 
   pub inside : {d : List ℕ} {e n : ℕ} → Room g d → Slot g d e → n < granules g → Inside g (length d) e n
   inside {d} {e} {n} r s h =
-      let a = r .directory in let b = r .whole in let c = s .low in let q = s .held in let w = gat-low g n h (r .units-low) in let v = r .blocks-high in
+      let a = r .directory in let b = r .long in let c = s .low in let q = s .held in let w = gat-low g n h (r .units-low) in let v = r .blocks-high in
       record { entry = omega arith; units-low = r .units-low; units-high = r .units-high; block = omega arith }
 
   pub free-slot-is : {d : List ℕ} (x : ℕ) → freeSlot g d x ≡ true → Slot g d x
@@ -65,7 +65,7 @@ module _ (g : Geometry) (p : ℕ) where
     -- the numbers that the stores of an extension ask for
     pub new-places : {x : ℕ} → freeSlot g d x ≡ true → (entryAt g e + 32 ≤ length d) × (entryAt g x + 32 ≤ length d) × (p < 256) × (e < 256) × (x < 256)
     new-places {x} o =
-        let rm = stand-room g p (c .stand) in let a = rm .directory in let b = rm .whole in
+        let rm = stand-room g p (c .stand) in let a = rm .directory in let b = rm .long in
         let s = stand-slot g p (c .stand) in let s₀ = s .low in let s₁ = s .held in
         let t = free-slot-is {d = d} x o in let t₀ = t .low in let t₁ = t .held in
         (omega arith, omega arith, ready-slot g p (c .stand .ready) .low, s₀, t₀)

@@ -1,5 +1,5 @@
 -- What the functions test is what the definitions of 02 §2 say.
-use mathlib.Core.Path.{_≡_, refl, sym, ap, _∙_, subst}
+use mathlib.Core.Path.{_≡_, refl, sym, ap, ap₂, _∙_, subst}
 use mathlib.Core.List.{List, [], _∷_}
 use mathlib.Core.Bool.{Bool, true, false, not, _&&_, and-true}
 use Prim.Native.Nat.{ℕ, _-_, _/_, _≤_, _<_}
@@ -8,7 +8,8 @@ use native.Mathlib.Nat.{zero-add}
 use lib.Dec.{T, eqb, ltb, ltb→lt, lt→ltb}
 use lib.ListN.{length}
 use Rattle.meaning.specs.Lists.{count, every, some, has, keep, all, firstOr}
-use Rattle.meaning.specs.Layout.{isSlot, slots, directorySectors, directoryGranules, granuleSectors}
+use Rattle.meaning.specs.Layout.{isSlot, slots, directorySectors, directoryGranules, granuleSectors, roundUp}
+use Rattle.meaning.specs.Sizes
 use Rattle.meaning.specs.Entries.{inUse, primary, runs, link, runStart, runLength, runGranules, entryGranules}
 use Rattle.meaning.specs.Chain.{chain, files}
 use Rattle.meaning.specs.Consistent.{follows}
@@ -223,9 +224,9 @@ module _ (g : Geometry) (d : List ℕ) where
   whole-same p {n} h b e w =
       ap (λ (j : ℕ). reach g d j p) e ∙ whole-owns p (slot-yes g d p (h .low) (h .held)) b (whole-by p h b e ∙ w)
 
-  pub directory-by : (s : ℕ) {k : ℕ} → Room g d → k ≡ directorySectors g d
-      → some (runIn g d (g .start / granuleSectors) (k / granuleSectors) s) (count 0 (runs g d s)) ≡ some (has (directoryGranules g d)) (entryGranules g d s)
-  directory-by s {k} r e =
+  pub directory-by : (s : ℕ) {b m : ℕ} → Room g d → b ≡ g .start / granuleSectors g → m ≡ roundUp (directorySectors g d) (granuleSectors g)
+      → some (runIn g d b m s) (count 0 (runs g d s)) ≡ some (has (directoryGranules g d)) (entryGranules g d s)
+  directory-by s {b} {m} r e f =
       let t = r .ten in
-      let u : 1 ≤ directorySectors g d / granuleSectors = omega arith in
-      ap (λ (j : ℕ). some (runIn g d (g .start / granuleSectors) (j / granuleSectors) s) (count 0 (runs g d s))) e ∙ sym (within-is s (g .start / granuleSectors) (directorySectors g d / granuleSectors) u)
+      let u : 1 ≤ m = rw f (Sizes.round-some (Sizes.sectors-pos g) (directorySectors g d) (omega arith)) in
+      sym (within-is s b m u) ∙ ap₂ (λ (x y : ℕ). some (has (count x y)) (entryGranules g d s)) e f

@@ -566,6 +566,6 @@ pub fn directory_fault(image: &[u8], g: Geometry, s: usize) -> bool
         return false;
     }
     let b = g.start / layout::GRANULE_SECTORS;
-    let m = layout::directory_sectors(image, g) / layout::GRANULE_SECTORS;
+    let m = layout::directory_granules(image, g);
     entry_in(image, g, s, b, m)
 }

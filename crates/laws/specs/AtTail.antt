@@ -113,7 +113,7 @@ module _ (g : Geometry) (d d′ : List ℕ) (c : Sound g d) (p : ℕ) (f : Facts
     -- those of its last entry are taken, and those of the entries before it are taken as they were
     pub last : (n : ℕ) → In n (entryGranules g d′ (tail g p d)) → T (taken g d′ n)
     pub before : (x n : ℕ) → In x (chain g d p) → x ≢ tail g p d → In n (entryGranules g d x) → taken g d′ n ≡ taken g d n
-    pub fits : sizeOf g d p ≤ granuleBytes * length (owned g d′ p)
+    pub fits : sizeOf g d p ≤ granuleBytes g * length (owned g d′ p)
     pub off : T (not (system g d p)) → (n : ℕ) → In n (owned g d′ p) → In n (directoryGranules g d) → ⊥
     pub single : Distinct (owned g d′ p)
     pub keeps : (n : ℕ) → n < granules g → (In n (owned g d p) → ⊥) → (In n (owned g d′ p) → ⊥) → taken g d′ n ≡ taken g d n

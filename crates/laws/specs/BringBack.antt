@@ -49,7 +49,7 @@ pub record Whole (g : Geometry) (d : List ℕ) (p : ℕ) : Type 0 where
   pub once : Distinct (chain g d p)
   pub single : Distinct (owned g d p)
   pub count′ : sectorCount g d p ≡ 0 → endByte g d p ≡ 0
-  pub fits : sizeOf g d p ≤ granuleBytes * length (owned g d p)
+  pub fits : sizeOf g d p ≤ granuleBytes g * length (owned g d p)
 
 ruleset parts = (Members.and-l, Members.and-r)
 
@@ -80,7 +80,7 @@ module _ (g : Geometry) (d : List ℕ) where
       let os : T (distinct (chain g d p)) = search parts depth 9 in
       let ss : T (distinct (owned g d p)) = search parts depth 9 in
       let n : T (not (eqb (sectorCount g d p) 0) || eqb (endByte g d p) 0) = search parts depth 9 in
-      let f : T (leb (sizeOf g d p) (granuleBytes * length (owned g d p))) = search parts depth 9 in
+      let f : T (leb (sizeOf g d p) (granuleBytes g * length (owned g d p))) = search parts depth 9 in
       record {
         first = a;
         name = b;
@@ -102,7 +102,7 @@ module _ (g : Geometry) (d : List ℕ) where
       let os : T (distinct (chain g d p)) = Members.says-distinct (w .once) in
       let ss : T (distinct (owned g d p)) = Members.says-distinct (w .single) in
       let n : T (not (eqb (sectorCount g d p) 0) || eqb (endByte g d p) 0) = Members.or-if (eqb (sectorCount g d p) 0) _ (λ t. Members.eq-T (w .count′ (eqb→eq _ _ t))) in
-      let f : T (leb (sizeOf g d p) (granuleBytes * length (owned g d p))) = le→leb _ _ (w .fits) in
+      let f : T (leb (sizeOf g d p) (granuleBytes g * length (owned g d p))) = le→leb _ _ (w .fits) in
       search Members.and-i depth 9
 
   -- That no entry is met twice follows from the back links, so a program need not test it.
@@ -292,7 +292,7 @@ module _ (g : Geometry) (d : List ℕ) (c : Sound g d) (k : Places.Fits g d) (p 
   pub back-length : length d′ ≡ length d
   back-length = Marking.mark-length g d 1 (hash (nameOf g d p)) (owned g d p) (chain g d p) back-marks
 
-  pub back-same : (i : ℕ) → (In (i / granuleBytes) (directoryGranules g d) → ⊥) → byte d′ i ≡ byte d i
+  pub back-same : (i : ℕ) → (In (i / granuleBytes g) (directoryGranules g d) → ⊥) → byte d′ i ≡ byte d i
   back-same = Marking.mark-same g d 1 (hash (nameOf g d p)) (owned g d p) (chain g d p) back-marks
 
   pub back-taken : (n : ℕ) → In n (owned g d p) → T (taken g d′ n)

@@ -57,7 +57,7 @@ pub record Clauses (g : Geometry) (d : List ℕ) : Type 0 where
   pub one-run : (p : ℕ) → File g d p → Distinct (owned g d p)
   -- n = 0 only with e = 0; the size fits the granules owned.
   pub no-sector : (p : ℕ) → File g d p → sectorCount g d p ≡ 0 → endByte g d p ≡ 0
-  pub size-fits : (p : ℕ) → File g d p → sizeOf g d p ≤ granuleBytes * length (owned g d p)
+  pub size-fits : (p : ℕ) → File g d p → sizeOf g d p ≤ granuleBytes g * length (owned g d p)
   -- Directory granules are set in the GAT and in no run of a file without the system flag.
   pub directory-set : (n : ℕ) → In n (directoryGranules g d) → T (taken g d n)
   pub directory-kept : (p n : ℕ) → File g d p → T (not (system g d p)) → In n (owned g d p) → In n (directoryGranules g d) → ⊥

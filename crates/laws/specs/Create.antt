@@ -119,7 +119,7 @@ module _ (g : Geometry) (d : List ℕ) (c : Sound g d) (k : Places.Fits g d) (x 
   made = withEntry g d x (newEntry n f) (hash n)
 
   room : entryAt g x + 32 ≤ length d
-  room = let a = Places.dir g d (c .dir) in let b = Places.slot g d x t in omega (arith, k .size)
+  room = let a = Places.dir g d (c .dir) in let b = Places.slot g d x t in omega (arith, k .long)
 
   fields : (j : ℕ) → j < 32 → field g made x j ≡ byte (newEntry n f) j
   unfolding made
@@ -152,7 +152,7 @@ module _ (g : Geometry) (d : List ℕ) (c : Sound g d) (k : Places.Fits g d) (x 
       let b = Places.block-lt g d m k h in let e = k .blocks-hi in
       ap (λ (y : ℕ). bit (m % g .units) y) (with-byte g d x (newEntry n f) (hash n) (new-length g d n f ln) s (gatAt g m) (inl (omega arith)) (omega arith))
 
-  pub made-same : (i : ℕ) → (In (i / granuleBytes) (directoryGranules g d) → ⊥) → byte made i ≡ byte d i
+  pub made-same : (i : ℕ) → (In (i / granuleBytes g) (directoryGranules g d) → ⊥) → byte made i ≡ byte d i
   unfolding made
   made-same i o = go (Places.outside g d i (k .start-at) (Places.dir g d (c .dir)) o)
     where

@@ -73,7 +73,7 @@ module _ (g : Geometry) (d : List ℕ) (c : Sound g d) (p : ℕ) (f : File g d p
 
 -- Case 1: the last run is shorter by one
 module _ (g : Geometry) (d : List ℕ) (c : Sound g d) (k : Places.Fits g d) (p : ℕ) (f : File g d p) (some-run : 1 ≤ runs g d (tail g p d))
-    (size : sizeOf g d p + granuleBytes ≤ granuleBytes * length (owned g d p)) where
+    (size : sizeOf g d p + granuleBytes g ≤ granuleBytes g * length (owned g d p)) where
   abbrev e : ℕ
   e = tail g p d
 
@@ -99,7 +99,7 @@ module _ (g : Geometry) (d : List ℕ) (c : Sound g d) (k : Places.Fits g d) (p 
   runs-r = omega (arith, some-run)
 
   room : entryAt g e + 32 ≤ length d
-  room = let a = Places.dir g d (c .dir) in let b = Places.slot g d e (member .slot) in omega (arith, k .size)
+  room = let a = Places.dir g d (c .dir) in let b = Places.slot g d e (member .slot) in omega (arith, k .long)
 
   m-lt : m < granules g
   m-lt = omega (arith, entry .run r (omega (arith, some-run)) .inside)

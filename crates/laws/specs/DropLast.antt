@@ -9,6 +9,7 @@ use lib.ListN.{length, set, length-set}
 use lib.Seq.{getD-set-same, getD-set-other}
 use lib.Dec.{T, eqb, ltb, T-not, not-T, eqb→eq, ltb→lt, nltb→le}
 use Rattle.meaning.specs.Layout.{byte, isSlot, freeGranule, field, setField, gatAt, hitAt, entryAt, granules, hit, directoryGranules, directorySectors, granuleBytes, mostBlocks}
+use Rattle.meaning.specs.Sizes
 use Rattle.meaning.specs.Bits.{bit, digit}
 use Rattle.meaning.specs.Entries.{inUse, extension, system, marker, link, runs, runStart, runLength, entryGranules, sizeOf}
 use Rattle.meaning.specs.Chain.{chain, owned}
@@ -33,7 +34,7 @@ use Rattle.laws.specs.Words.{words}
 
 -- Case 3: an emptied extension
 module _ (g : Geometry) (d : List ℕ) (c : Sound g d) (k : Places.Fits g d) (p : ℕ) (f : File g d p)
-    (size : sizeOf g d p + granuleBytes ≤ granuleBytes * length (owned g d p))
+    (size : sizeOf g d p + granuleBytes g ≤ granuleBytes g * length (owned g d p))
     (later : tail g p d ≢ p) (one : runs g d (tail g p d) ≡ 1) (single : runLength g d (tail g p d) 0 ≡ 1) (b : ℕ) (back : field g d (tail g p d) 1 ≡ b) (tb : T (isSlot g d b)) (b≢e : b ≢ tail g p d) where
   abbrev e : ℕ
   e = tail g p d
@@ -78,10 +79,10 @@ module _ (g : Geometry) (d : List ℕ) (c : Sound g d) (k : Places.Fits g d) (p 
   block-m = omega (arith, Places.block-lt g d m k m-lt, k .blocks-hi)
 
   room : entryAt g e + 32 ≤ length d
-  room = let a = a10 in let q = se in omega (arith, k .size)
+  room = let a = a10 in let q = se in omega (arith, k .long)
 
   room-b : entryAt g b + 32 ≤ length d
-  room-b = let a = a10 in let q = sb in omega (arith, k .size)
+  room-b = let a = a10 in let q = sb in omega (arith, k .long)
 
   -- outside entry e, its HIT byte and two bytes of entry b
   q₄-byte : (i : ℕ) → ((j : ℕ) → j < 32 → i ≢ entryAt g e + j) → i ≢ hitAt g e → i ≢ entryAt g b + 0x1e → i ≢ entryAt g b + 0x1f → byte q₄ i ≡ byte d i
@@ -142,7 +143,7 @@ module _ (g : Geometry) (d : List ℕ) (c : Sound g d) (k : Places.Fits g d) (p 
   unfolding digit
   dead = rw dead-flag (λ t. t)
 
-  cut-same : (i : ℕ) → (In (i / granuleBytes) (directoryGranules g d) → ⊥) → byte d′ i ≡ byte d i
+  cut-same : (i : ℕ) → (In (i / granuleBytes g) (directoryGranules g d) → ⊥) → byte d′ i ≡ byte d i
   cut-same i o = go (Places.outside g d i (k .start-at) a10 o)
     where
       go : (i < 256 * g .start) ⊎ (256 * (g .start + directorySectors g d) ≤ i) → byte d′ i ≡ byte d i
@@ -163,7 +164,7 @@ module _ (g : Geometry) (d : List ℕ) (c : Sound g d) (k : Places.Fits g d) (p 
     fixed = λ j l. let r = se .low in let q = sb .low in let z = block-m in cut-byte (entryAt g b + j) (omega arith) (λ i n. omega arith) (omega arith) (omega arith) (omega arith);
     ended = b-marker;
     only = only-m;
-    freed = let a = a10 in let w = block-m in rw (Places.marked-same g 0 (omega arith) q₄ m (omega (arith, k .size, q₄-length))) (λ t. t);
+    freed = let a = a10 in let w = block-m in rw (Places.marked-same g 0 (omega arith) q₄ m (omega (arith, k .long, q₄-length))) (λ t. t);
     keeps = λ n h q. let w = Places.block-lt g d n k h in let v = k .blocks-hi in let s = se .low in
         Places.marked-other g 0 (omega arith) q₄ m n q ∙ ap (λ (y : ℕ). bit (n % g .units) y) (q₄-byte (gatAt g n) (λ j l. omega arith) (omega arith) (omega arith) (omega arith));
     same = cut-same;
@@ -200,7 +201,7 @@ pub record Dropped (g : Geometry) (d d′ : List ℕ) (p : ℕ) : Type 0 where
   pub entries : (x : ℕ) → In x (chain g d′ p) → In x (chain g d p)
 
 module _ (g : Geometry) (d : List ℕ) (c : Sound g d) (k : Places.Fits g d) (p : ℕ) (f : File g d p) (u : T (not (system g d p)))
-    (size : sizeOf g d p + granuleBytes ≤ granuleBytes * length (owned g d p)) where
+    (size : sizeOf g d p + granuleBytes g ≤ granuleBytes g * length (owned g d p)) where
   abbrev t : ℕ
   t = tail g p d
 
@@ -208,7 +209,7 @@ module _ (g : Geometry) (d : List ℕ) (c : Sound g d) (k : Places.Fits g d) (p 
   r = runs g d t - 1
 
   some-run : 1 ≤ runs g d t
-  some-run = Drop.tail-run g d c p f (omega (arith, size))
+  some-run = Drop.tail-run g d c p f (Sizes.some-width (Sizes.bytes-pos g) _ (omega (arith, size)))
 
   by-shrink : (d′ : List ℕ) (n : ℕ) → Shrink.Shrinks g d d′ p n → length d′ ≡ length d → Touch.Touch g (chain g d p) [] d d′ → Dropped g d d′ p
   by-shrink d′ n w l o = record {

@@ -53,7 +53,7 @@ pub record Filed (g : Geometry) (d : List ℕ) (p : ℕ) : Type 0 where
   pub zero′ : T (not (bit 5 (field g d p 0)))
   pub hashes : (s : ℕ) → Members.In s (chain g d p) → hit g d s ≡ hash (nameOf g d p)
   pub count′ : sectorCount g d p ≡ 0 → endByte g d p ≡ 0
-  pub fits : sizeOf g d p ≤ granuleBytes * length (owned g d p)
+  pub fits : sizeOf g d p ≤ granuleBytes g * length (owned g d p)
   pub off : T (not (system g d p)) → (n : ℕ) → Members.In n (owned g d p) → Members.In n (directoryGranules g d) → ⊥
 
 ruleset parts = (Members.and-l, Members.and-r)
@@ -200,7 +200,7 @@ module _ (g : Geometry) (d : List ℕ) where
       let b : T (not (bit 5 (field g d p 0))) = search parts depth 8 in
       let c : T (hashHolds g d p) = search parts depth 8 in
       let e : T (not (eqb (sectorCount g d p) 0) || eqb (endByte g d p) 0) = search parts depth 8 in
-      let f : T (leb (sizeOf g d p) (granuleBytes * length (owned g d p))) = search parts depth 8 in
+      let f : T (leb (sizeOf g d p) (granuleBytes g * length (owned g d p))) = search parts depth 8 in
       let o : T (offDirectory g d p) = search parts depth 8 in
       record {
         name = a;
@@ -223,7 +223,7 @@ module _ (g : Geometry) (d : List ℕ) where
       let b : T (not (bit 5 (field g d p 0))) = f .zero′ in
       let c : T (hashHolds g d p) = Members.all-every (λ s. eqb (hit g d s) (hash (nameOf g d p))) (chain g d p) (λ s i. Members.eq-T (f .hashes s i)) in
       let e : T (not (eqb (sectorCount g d p) 0) || eqb (endByte g d p) 0) = Members.or-if (eqb (sectorCount g d p) 0) _ (λ t. Members.eq-T (f .count′ (eqb→eq _ _ t))) in
-      let h : T (leb (sizeOf g d p) (granuleBytes * length (owned g d p))) = le→leb _ _ (f .fits) in
+      let h : T (leb (sizeOf g d p) (granuleBytes g * length (owned g d p))) = le→leb _ _ (f .fits) in
       let o : T (offDirectory g d p) = away (Members.decide (system g d p)) in
       search Members.and-i depth 8
     where

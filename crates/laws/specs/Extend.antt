@@ -52,7 +52,7 @@ pub record Extends (g : Geometry) (d d′ : List ℕ) (p x m : ℕ) : Type 0 whe
   pub free : T (taken g d m) → ⊥
   pub set′ : T (taken g d′ m)
   pub keeps : (n : ℕ) → n < granules g → n ≢ m → taken g d′ n ≡ taken g d n
-  pub same : (i : ℕ) → (In (i / granuleBytes) (directoryGranules g d) → ⊥) → byte d′ i ≡ byte d i
+  pub same : (i : ℕ) → (In (i / granuleBytes g) (directoryGranules g d) → ⊥) → byte d′ i ≡ byte d i
 
 -- a chain that goes on at its end
 module _ (g : Geometry) (d d′ : List ℕ) (e x : ℕ) (m₀ : marker g d e ≡ 0xff) (m₁ : marker g d′ e ≡ 0xfe) (l₁ : link g d′ e ≡ x) (m₂ : marker g d′ x ≡ 0xff) where

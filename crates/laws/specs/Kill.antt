@@ -45,7 +45,7 @@ module _ (g : Geometry) (d : List ℕ) (c : Sound g d) (k : Places.Fits g d) (p 
   unfolding Marking.marking words
   kill-hits = Marking.mark-hits g d 0 0 (owned g d p) (chain g d p) kill-marks
 
-  pub kill-same : (i : ℕ) → (In (i / granuleBytes) (directoryGranules g d) → ⊥) → byte (killed g d p) i ≡ byte d i
+  pub kill-same : (i : ℕ) → (In (i / granuleBytes g) (directoryGranules g d) → ⊥) → byte (killed g d p) i ≡ byte d i
   unfolding Marking.marking words
   kill-same = Marking.mark-same g d 0 0 (owned g d p) (chain g d p) kill-marks
 

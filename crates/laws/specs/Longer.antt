@@ -10,6 +10,7 @@ use lib.ListN.{length, length-append, List·getD-append}
 use lib.Dec.{T}
 use Rattle.meaning.specs.Lists.{count}
 use Rattle.meaning.specs.Layout.{byte, taken, field, granules, directoryGranules, granuleBytes}
+use Rattle.meaning.specs.Sizes
 use Rattle.meaning.specs.Entries.{system, sizeOf}
 use Rattle.meaning.specs.Chain.{owned, place}
 use Rattle.meaning.specs.Free.{freeGranules}
@@ -31,7 +32,7 @@ pub record Longer (g : Geometry) (d d′ : List ℕ) (p m : ℕ) : Type 0 where
   pub free : T (taken g d m) → ⊥
   pub set′ : T (taken g d′ m)
   pub keeps : (n : ℕ) → n < granules g → n ≢ m → taken g d′ n ≡ taken g d n
-  pub same : (i : ℕ) → (In (i / granuleBytes) (directoryGranules g d) → ⊥) → byte d′ i ≡ byte d i
+  pub same : (i : ℕ) → (In (i / granuleBytes g) (directoryGranules g d) → ⊥) → byte d′ i ≡ byte d i
 
 module _ (g : Geometry) (d d′ : List ℕ) (c : Sound g d) (p : ℕ) (f : Facts.File g d p) (m : ℕ) (h : Longer g d d′ p m) where
   size-same : sizeOf g d′ p ≡ sizeOf g d p
@@ -39,9 +40,9 @@ module _ (g : Geometry) (d d′ : List ℕ) (c : Sound g d) (p : ℕ) (f : Facts
   size-same = rw (h .low 3 (omega arith), h .low 0x14 (omega arith), h .low 0x15 (omega arith))
 
   -- the file itself: one granule more, and nothing else
-  grown-place : (i : ℕ) → i < granuleBytes * length (owned g d p) → place g d′ p i ≡ place g d p i
+  grown-place : (i : ℕ) → i < granuleBytes g * length (owned g d p) → place g d′ p i ≡ place g d p i
   unfolding place
-  grown-place i b = rw (h .more, List·getD-append (owned g d p) (m ∷ []) 0 (i / granuleBytes) (omega arith))
+  grown-place i b = rw (h .more, List·getD-append (owned g d p) (m ∷ []) 0 (i / granuleBytes g) (Sizes.width-lt (Sizes.bytes-pos g) i _ b))
 
   grown-bytes : T (not (system g d p)) → fileAt g d′ p .bytes ≡ fileAt g d p .bytes
   unfolding fileAt words
@@ -49,7 +50,7 @@ module _ (g : Geometry) (d d′ : List ℕ) (c : Sound g d) (p : ℕ) (f : Facts
     where
       one : (i : ℕ) → i < sizeOf g d p → byte d′ (place g d′ p i) ≡ byte d (place g d p i)
       one i b =
-          let l : i < granuleBytes * length (owned g d p) = omega (arith, Change.filed-at g d c p f .fits) in
+          let l : i < granuleBytes g * length (owned g d p) = omega (arith, Change.filed-at g d c p f .fits) in
           rw (grown-place i l) (h .same (place g d p i) (Change.filed-at g d c p f .off u _ (Others.place-in g d p i l)))
 
   pub grown-file : T (not (system g d p)) → fileAt g d′ p ≡ record { attributes = fileAt g d p .attributes; granules = suc (fileAt g d p .granules); bytes = fileAt g d p .bytes }

@@ -97,14 +97,14 @@ module _ (g : Geometry) (d : List ℕ) (v h : ℕ) (ns xs : List ℕ) (m : Marks
   mark-length = Places.through-keeps length (putEntry g v h) xs first (λ l x j. entry-length g v h l x) ∙ first-long
 
   hit-inside : (x : ℕ) → In x xs → (l : List ℕ) → length l ≡ length d → hitAt g x < length l
-  hit-inside x i l e = let s = slot-of x i in let a = m .dir in omega (arith, m .fits .size)
+  hit-inside x i l e = let s = slot-of x i in let a = m .dir in omega (arith, m .fits .long)
 
   entry-inside : (x : ℕ) → In x xs → (l : List ℕ) → length l ≡ length d → entryAt g x + 0 < length l
-  entry-inside x i l e = let s = slot-of x i in let a = m .dir in omega (arith, m .fits .size)
+  entry-inside x i l e = let s = slot-of x i in let a = m .dir in omega (arith, m .fits .long)
 
   gat-inside : (n : ℕ) → n < granules g → (l : List ℕ) → length l ≡ length d → gatAt g n < length l
   unfolding words
-  gat-inside n b l e = let a = m .dir in omega (arith, block-of n b, m .fits .size)
+  gat-inside n b l e = let a = m .dir in omega (arith, block-of n b, m .fits .long)
 
   -- a place of no such entry and no such HIT byte is told by the granules alone
   entries-aside : (i : ℕ) → ((x : ℕ) → In x xs → i ≢ entryAt g x + 0) → ((x : ℕ) → In x xs → i ≢ hitAt g x) → byte (marking g v h d ns xs) i ≡ byte first i
@@ -147,7 +147,7 @@ module _ (g : Geometry) (d : List ℕ) (v h : ℕ) (ns xs : List ℕ) (m : Marks
       (λ y i. let q = slot-of y i in omega arith)
 
   -- outside the directory
-  pub mark-same : (i : ℕ) → (In (i / granuleBytes) (directoryGranules g d) → ⊥) → byte (marking g v h d ns xs) i ≡ byte d i
+  pub mark-same : (i : ℕ) → (In (i / granuleBytes g) (directoryGranules g d) → ⊥) → byte (marking g v h d ns xs) i ≡ byte d i
   unfolding words
   mark-same i n = go (Places.outside g d i (m .fits .start-at) (m .dir) n)
     where
@@ -245,14 +245,7 @@ module _ (g : Geometry) (d : List ℕ) (h : ℕ) (ns xs : List ℕ) (m : Marks g
       let b = m .dir in let f = m .fits in
       record {
         dir = record { fives = rw a (b .fives); small = rw a (b .small); inside = rw a (b .inside) };
-        fits = record {
-          blocks-lo = f .blocks-lo;
-          blocks-hi = f .blocks-hi;
-          units-lo = f .units-lo;
-          units-hi = f .units-hi;
-          start-at = f .start-at;
-          size = mark-length g d 0 0 ns xs m ∙ f .size;
-        };
+        fits = Places.as-long f (mark-length g d 0 0 ns xs m);
         digit′ = omega arith;
         granules′ = m .granules′;
         slots′ = λ x i. rw (Frame.slot-eq g d cleared a x) (m .slots′ x i);

@@ -10,6 +10,7 @@ use lib.ListN.{length, getD, replicate, length-map}
 use lib.Dec.{T, ltb, T-not, not-T, ltb→lt}
 use Rattle.meaning.specs.Lists.{count, each, has, length-count}
 use Rattle.meaning.specs.Layout.{byte, taken, field, granules, directoryGranules, granuleBytes}
+use Rattle.meaning.specs.Sizes
 use Rattle.meaning.specs.Entries.{system, nameOf, sizeOf}
 use Rattle.meaning.specs.Chain.{owned, files, place}
 use Rattle.meaning.specs.LookUp.{named}
@@ -32,16 +33,16 @@ getD-in (x ∷ xs) zero h = Members.In.here
 getD-in (x ∷ xs) (suc i) h = Members.In.there (getD-in xs i (omega arith))
 
 -- in which granule a byte of a file lies
-pub place-in : (g : Geometry) (d : List ℕ) (p i : ℕ) → i < granuleBytes * length (owned g d p) → In (place g d p i / granuleBytes) (owned g d p)
+pub place-in : (g : Geometry) (d : List ℕ) (p i : ℕ) → i < granuleBytes g * length (owned g d p) → In (place g d p i / granuleBytes g) (owned g d p)
 unfolding place
 place-in g d p i h =
-    let e : (granuleBytes * getD (owned g d p) (i / granuleBytes) 0 + i % granuleBytes) / granuleBytes ≡ getD (owned g d p) (i / granuleBytes) 0 = omega arith in
-    rw e (getD-in (owned g d p) (i / granuleBytes) (omega arith))
+    let e : (granuleBytes g * getD (owned g d p) (i / granuleBytes g) 0 + i % granuleBytes g) / granuleBytes g ≡ getD (owned g d p) (i / granuleBytes g) 0 = Sizes.at-width _ _ (Sizes.split (Sizes.bytes-pos g) i .rest) in
+    rw e (getD-in (owned g d p) (i / granuleBytes g) (Sizes.width-lt (Sizes.bytes-pos g) i _ h))
 
 -- outside the directory and the file's granules, before and after, nothing changed
 abbrev pub Same : Geometry → List ℕ → List ℕ → ℕ → Type 0
-Same g d d′ p = (i : ℕ) → (In (i / granuleBytes) (directoryGranules g d) → ⊥) → (In (i / granuleBytes) (granulesOf g d p) → ⊥)
-    → (In (i / granuleBytes) (granulesOf g d′ p) → ⊥) → byte d′ i ≡ byte d i
+Same g d d′ p = (i : ℕ) → (In (i / granuleBytes g) (directoryGranules g d) → ⊥) → (In (i / granuleBytes g) (granulesOf g d p) → ⊥)
+    → (In (i / granuleBytes g) (granulesOf g d′ p) → ⊥) → byte d′ i ≡ byte d i
 
 -- the name n stands at the same slot in both, and not at p; or at none
 pub data Elsewhere (g : Geometry) (d d′ : List ℕ) (p : ℕ) (n : List ℕ) : Type 0 where
@@ -121,11 +122,11 @@ module _ (g : Geometry) (d d′ : List ℕ) (c : Sound g d) (p : ℕ) (h : Chang
     unfolding beyondAt place words
     beyond-bytes q f n =
         rw (size-stays q f n, Change.owned-stays g d d′ c p h q f n, Frame.directory-eq g d d′ (h .above))
-        (Members.map-eq _ _ (count 0 (sizeOf g d q)) (λ j k. one j (omega (arith, Members.count-in j 0 (sizeOf g d q) k)) (Members.in? (place g d q j / granuleBytes) (directoryGranules g d))))
+        (Members.map-eq _ _ (count 0 (sizeOf g d q)) (λ j k. one j (omega (arith, Members.count-in j 0 (sizeOf g d q) k)) (Members.in? (place g d q j / granuleBytes g) (directoryGranules g d))))
       where
-        one : (j : ℕ) → j < sizeOf g d q → In (place g d q j / granuleBytes) (directoryGranules g d) ⊎ (In (place g d q j / granuleBytes) (directoryGranules g d) → ⊥)
-            → cond (has (directoryGranules g d) (place g d q j / granuleBytes)) 0 (byte d′ (place g d q j)) ≡ cond (has (directoryGranules g d) (place g d q j / granuleBytes)) 0 (byte d (place g d q j))
-        one j b (inl t) = rw (Members.T-true {b = has (directoryGranules g d) (place g d q j / granuleBytes)} (Members.in-has t))
+        one : (j : ℕ) → j < sizeOf g d q → In (place g d q j / granuleBytes g) (directoryGranules g d) ⊎ (In (place g d q j / granuleBytes g) (directoryGranules g d) → ⊥)
+            → cond (has (directoryGranules g d) (place g d q j / granuleBytes g)) 0 (byte d′ (place g d q j)) ≡ cond (has (directoryGranules g d) (place g d q j / granuleBytes g)) 0 (byte d (place g d q j))
+        one j b (inl t) = rw (Members.T-true {b = has (directoryGranules g d) (place g d q j / granuleBytes g)} (Members.in-has t))
         one j b (inr t) =
             let o = place-in g d q j (omega (arith, Change.filed-at g d c q f .fits)) in
             rw (s (place g d q j) t (Change.foreign-granule g d d′ c p h q _ f n o) (Change.foreign-granule′ g d d′ c p h q _ f n o))

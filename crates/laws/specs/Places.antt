@@ -10,7 +10,8 @@ use lib.ListN.{length, set, length-set}
 use lib.Seq.{getD-set-same, getD-set-other, set-out, sets}
 use lib.Dec.{T, eqb, leb, ltb, eqb→eq, ltb→lt, leb→le}
 use Rattle.meaning.specs.Lists.{count, has, through}
-use Rattle.meaning.specs.Layout.{fitsGeometry, byte, isSlot, taken, gatAt, granules, directoryGranules, granuleBytes, granuleSectors, aboveTen, directorySectors, sectors, mostBlocks, mostUnits}
+use Rattle.meaning.specs.Layout.{fitsGeometry, byte, isSlot, taken, gatAt, granules, directoryGranules, granuleBytes, granuleSectors, aboveTen, directorySectors, sectors, roundUp, mostBlocks, mostUnits}
+use Rattle.meaning.specs.Sizes
 use Rattle.meaning.specs.Bits.{digit, putDigit}
 use Rattle.meaning.specs.Entries.{runs, runStart, runLength, runGranules, entryGranules}
 use Rattle.meaning.specs.Consistent.{lengthHolds}
@@ -26,8 +27,12 @@ pub record Fits (g : Geometry) (d : List ℕ) : Type 0 where
   pub blocks-hi : g .blocks ≤ mostBlocks
   pub units-lo : 1 ≤ g .units
   pub units-hi : g .units ≤ mostUnits
-  pub start-at : g .start % granuleSectors ≡ 0
-  pub size : length d ≡ granules g * granuleBytes
+  pub start-at : g .start % granuleSectors g ≡ 0
+  pub size : length d ≡ granules g * granuleBytes g
+  -- the same by sectors, and that a granule has some: what follows from them is linear
+  pub long : length d ≡ 256 * sectors g
+  pub wide : 1 ≤ granuleBytes g
+  pub deep : 1 ≤ granuleSectors g
 
 pub record Dir (g : Geometry) (d : List ℕ) : Type 0 where
   pub fives : aboveTen g d % 5 ≡ 0
@@ -43,9 +48,33 @@ fits g d t =
     let b : T (leb (g .blocks) mostBlocks) = search parts depth 9 in
     let c : T (leb 1 (g .units)) = search parts depth 9 in
     let e : T (leb (g .units) mostUnits) = search parts depth 9 in
-    let f : T (eqb (g .start % granuleSectors) 0) = search parts depth 9 in
-    let h : T (eqb (length d) (granules g * granuleBytes)) = search parts depth 9 in
-    record { blocks-lo = leb→le _ _ a; blocks-hi = leb→le _ _ b; units-lo = leb→le _ _ c; units-hi = leb→le _ _ e; start-at = eqb→eq _ _ f; size = eqb→eq _ _ h }
+    let f : T (eqb (g .start % granuleSectors g) 0) = search parts depth 9 in
+    let h : T (eqb (length d) (granules g * granuleBytes g)) = search parts depth 9 in
+    record {
+      blocks-lo = leb→le _ _ a;
+      blocks-hi = leb→le _ _ b;
+      units-lo = leb→le _ _ c;
+      units-hi = leb→le _ _ e;
+      start-at = eqb→eq _ _ f;
+      size = eqb→eq _ _ h;
+      long = eqb→eq _ _ h ∙ Sizes.bytes-sectors g;
+      wide = Sizes.bytes-pos g;
+      deep = Sizes.sectors-pos g;
+    }
+
+-- an image as long fits as well
+pub as-long : {g : Geometry} {d d′ : List ℕ} → Fits g d → length d′ ≡ length d → Fits g d′
+as-long k l = record {
+  blocks-lo = k .blocks-lo;
+  blocks-hi = k .blocks-hi;
+  units-lo = k .units-lo;
+  units-hi = k .units-hi;
+  start-at = k .start-at;
+  size = l ∙ k .size;
+  long = l ∙ k .long;
+  wide = k .wide;
+  deep = k .deep;
+}
 
 five : (x : ℕ) → In x (0 ∷ 5 ∷ 10 ∷ 15 ∷ 20 ∷ []) → (x % 5 ≡ 0) × (x ≤ 20)
 five x i = (eqb→eq _ _ (Members.every-all (λ x. eqb (x % 5) 0) tt i), leb→le _ _ (Members.every-all (λ x. leb x 20) tt i))
@@ -80,11 +109,12 @@ entry-granule-lt g d s n e i = runs-granule-lt g d s n (e .run) i
 
 pub directory-lt : (g : Geometry) (d : List ℕ) (n : ℕ) → Dir g d → In n (directoryGranules g d) → n < granules g
 directory-lt g d n f i =
-    let m = Members.count-in n (g .start / granuleSectors) (directorySectors g d / granuleSectors) i in
-    omega arith
+    let m = Members.count-in n (g .start / granuleSectors g) (roundUp (directorySectors g d) (granuleSectors g)) i in
+    let k = Sizes.touched-inside (Sizes.sectors-pos g) (g .start) (directorySectors g d) (granules g) (f .inside) in
+    omega (arith, m, k)
 
 -- a place in no granule of the directory is in no sector of it
-pub outside : (g : Geometry) (d : List ℕ) (i : ℕ) → g .start % granuleSectors ≡ 0 → Dir g d → (In (i / granuleBytes) (directoryGranules g d) → ⊥)
+pub outside : (g : Geometry) (d : List ℕ) (i : ℕ) → g .start % granuleSectors g ≡ 0 → Dir g d → (In (i / granuleBytes g) (directoryGranules g d) → ⊥)
     → (i < 256 * g .start) ⊎ (256 * (g .start + directorySectors g d) ≤ i)
 unfolding words
 outside g d i e f n = go (decLt i (256 * g .start)) (decLt i (256 * (g .start + directorySectors g d)))
@@ -92,7 +122,7 @@ outside g d i e f n = go (decLt i (256 * g .start)) (decLt i (256 * (g .start + 
     go : Dec (i < 256 * g .start) → Dec (i < 256 * (g .start + directorySectors g d)) → (i < 256 * g .start) ⊎ (256 * (g .start + directorySectors g d) ≤ i)
     go (yes a) b = inl a
     go (no a) (no b) = inr (omega arith)
-    go (no a) (yes b) = absurd (n (Members.in-count (i / granuleBytes) (g .start / granuleSectors) (directorySectors g d / granuleSectors) (omega arith) (omega arith)))
+    go (no a) (yes b) = absurd (n (Members.in-count (i / granuleBytes g) (g .start / granuleSectors g) (roundUp (directorySectors g d) (granuleSectors g)) (Sizes.touched-from g i (g .start) (omega arith)) (Sizes.touched-to g i (g .start) (directorySectors g d) e (omega arith))))
 
 pub block-lt : (g : Geometry) (d : List ℕ) (n : ℕ) → Fits g d → n < granules g → n / g .units < g .blocks
 unfolding words

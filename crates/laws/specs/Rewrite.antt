@@ -49,8 +49,8 @@ pub record Rewrites (g : Geometry) (d d′ : List ℕ) (p : ℕ) : Type 0 where
   pub fixed : (k : ℕ) → k < 32 → Kept k → field g d′ p k ≡ field g d p k
   pub keeps : (n : ℕ) → n < granules g → taken g d′ n ≡ taken g d n
   pub none : sectorCount g d′ p ≡ 0 → endByte g d′ p ≡ 0
-  pub fits : sizeOf g d′ p ≤ granuleBytes * length (owned g d p)
-  pub same : (i : ℕ) → (In (i / granuleBytes) (directoryGranules g d) → ⊥) → (In (i / granuleBytes) (owned g d p) → ⊥) → byte d′ i ≡ byte d i
+  pub fits : sizeOf g d′ p ≤ granuleBytes g * length (owned g d p)
+  pub same : (i : ℕ) → (In (i / granuleBytes g) (directoryGranules g d) → ⊥) → (In (i / granuleBytes g) (owned g d p) → ⊥) → byte d′ i ≡ byte d i
 
 module _ (g : Geometry) (d d′ : List ℕ) (c : Sound g d) (p : ℕ) (f : Facts.File g d p) (h : Rewrites g d d′ p) where
   slot-of : (x : ℕ) → In x (chain g d p) → T (isSlot g d x)

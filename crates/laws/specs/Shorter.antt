@@ -10,6 +10,7 @@ use lib.ListN.{length, length-append, List·getD-append}
 use lib.Dec.{T}
 use Rattle.meaning.specs.Lists.{count}
 use Rattle.meaning.specs.Layout.{byte, taken, field, granules, directoryGranules, granuleBytes}
+use Rattle.meaning.specs.Sizes
 use Rattle.meaning.specs.Entries.{system, sizeOf}
 use Rattle.meaning.specs.Chain.{owned, place}
 use Rattle.meaning.specs.Free.{freeGranules}
@@ -29,8 +30,8 @@ pub record Shorter (g : Geometry) (d d′ : List ℕ) (p m : ℕ) : Type 0 where
   pub low : (k : ℕ) → k < 0x16 → field g d′ p k ≡ field g d p k
   pub freed : T (taken g d′ m) → ⊥
   pub keeps : (n : ℕ) → n < granules g → n ≢ m → taken g d′ n ≡ taken g d n
-  pub same : (i : ℕ) → (In (i / granuleBytes) (directoryGranules g d) → ⊥) → byte d′ i ≡ byte d i
-  pub room : sizeOf g d p ≤ granuleBytes * length (owned g d′ p)
+  pub same : (i : ℕ) → (In (i / granuleBytes g) (directoryGranules g d) → ⊥) → byte d′ i ≡ byte d i
+  pub room : sizeOf g d p ≤ granuleBytes g * length (owned g d′ p)
 
 module _ (g : Geometry) (d d′ : List ℕ) (c : Sound g d) (p : ℕ) (f : Facts.File g d p) (m : ℕ) (h : Shorter g d d′ p m) where
   pub m-in : In m (owned g d p)
@@ -40,9 +41,9 @@ module _ (g : Geometry) (d d′ : List ℕ) (c : Sound g d) (p : ℕ) (f : Facts
   unfolding words
   size-same = rw (h .low 3 (omega arith), h .low 0x14 (omega arith), h .low 0x15 (omega arith))
 
-  shrunk-place : (i : ℕ) → i < granuleBytes * length (owned g d′ p) → place g d′ p i ≡ place g d p i
+  shrunk-place : (i : ℕ) → i < granuleBytes g * length (owned g d′ p) → place g d′ p i ≡ place g d p i
   unfolding place
-  shrunk-place i b = rw (h .less, List·getD-append (owned g d′ p) (m ∷ []) 0 (i / granuleBytes) (omega arith))
+  shrunk-place i b = rw (h .less, List·getD-append (owned g d′ p) (m ∷ []) 0 (i / granuleBytes g) (Sizes.width-lt (Sizes.bytes-pos g) i _ b))
 
   shrunk-bytes : T (not (system g d p)) → fileAt g d′ p .bytes ≡ fileAt g d p .bytes
   unfolding fileAt words

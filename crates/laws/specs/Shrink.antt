@@ -27,8 +27,8 @@ pub record Shrinks (g : Geometry) (d d′ : List ℕ) (p m : ℕ) : Type 0 where
   pub less : entryGranules g d (tail g p d) ≡ entryGranules g d′ (tail g p d) ++ (m ∷ [])
   pub freed : T (taken g d′ m) → ⊥
   pub keeps : (n : ℕ) → n < granules g → n ≢ m → taken g d′ n ≡ taken g d n
-  pub same : (i : ℕ) → (In (i / granuleBytes) (directoryGranules g d) → ⊥) → byte d′ i ≡ byte d i
-  pub room : sizeOf g d p + granuleBytes ≤ granuleBytes * length (owned g d p)
+  pub same : (i : ℕ) → (In (i / granuleBytes g) (directoryGranules g d) → ⊥) → byte d′ i ≡ byte d i
+  pub room : sizeOf g d p + granuleBytes g ≤ granuleBytes g * length (owned g d p)
 
 module _ (g : Geometry) (d d′ : List ℕ) (c : Sound g d) (p : ℕ) (f : Facts.File g d p) (m : ℕ) (h : Shrinks g d d′ p m) where
   pub shrinks-owned : owned g d p ≡ owned g d′ p ++ (m ∷ [])
@@ -51,8 +51,8 @@ module _ (g : Geometry) (d d′ : List ℕ) (c : Sound g d) (p : ℕ) (f : Facts
   unfolding owned
   entry-owned x n i j = Members.in-each (entryGranules g d′) {xs = chain g d′ p} (rw (AtTail.chain-stays g d d′ c p f (h .at)) i) j
 
-  room′ : sizeOf g d p ≤ granuleBytes * length (owned g d′ p)
-  room′ = omega (arith, h .room, ap length shrinks-owned ∙ length-append (owned g d′ p) (m ∷ []))
+  room′ : sizeOf g d p ≤ granuleBytes g * length (owned g d′ p)
+  room′ = omega (arith, h .room, ap (granuleBytes g *_) (ap length shrinks-owned ∙ length-append (owned g d′ p) (m ∷ [])))
 
   pub shrinks-change : T (not (system g d p)) → Change.Change g d d′ p
   shrinks-change = AtTail.tail-change g d d′ c p f (h .at) (record {

@@ -63,7 +63,7 @@ module _ (g : Geometry) (d : List ℕ) (p : ℕ) (r : Ready g d p) where
       let w = TakeOne.take-one g d c k p f u room d′ e in
       (ready d′ (w .change) (w .long) (w .file) (w .longer .low 0 (omega arith)), (w .which, w .longer .more))
 
-  pub drop-ready : sizeOf g d p + granuleBytes ≤ granuleBytes * length (owned g d p)
+  pub drop-ready : sizeOf g d p + granuleBytes g ≤ granuleBytes g * length (owned g d p)
       → Ready g (dropOne g p d) p × ((m : ℕ) × (owned g d p ≡ owned g (dropOne g p d) p ++ (m ∷ [])))
   drop-ready h =
       let w = DropLast.drop-one g d c k p f u h in

@@ -7,7 +7,8 @@ use native.Mathlib.Omega.{arith}
 use native.Mathlib.Decide.{ℕ-discrete}
 use lib.ListN.{length, getD, set, length-set}
 use lib.Seq.{getD-set-same, getD-set-other}
-use Rattle.meaning.specs.Layout.{byte, granuleBytes}
+use Rattle.meaning.specs.Layout.{byte, granules, granuleBytes}
+use Rattle.meaning.specs.Sizes
 use Rattle.meaning.specs.Chain.{owned, place}
 use Rattle.meaning.specs.Write.{store}
 use Rattle.meaning.specs.declared.Geometry.{Geometry}
@@ -56,13 +57,14 @@ getD-inj (Members.Distinct.fresh {xs = xs} n r) (suc a) zero h l e = absurd (n (
 getD-inj (Members.Distinct.fresh n r) (suc a) (suc b) h l e = ap suc (getD-inj r a b (omega arith) (omega arith) e)
 
 module _ (g : Geometry) (d : List ℕ) (c : Sound g d) (k : Places.Fits g d) (p : ℕ) (f : File g d p) where
-  pub place-inj : (a b : ℕ) → a < granuleBytes * length (owned g d p) → b < granuleBytes * length (owned g d p) → place g d p a ≡ place g d p b → a ≡ b
+  pub place-inj : (a b : ℕ) → a < granuleBytes g * length (owned g d p) → b < granuleBytes g * length (owned g d p) → place g d p a ≡ place g d p b → a ≡ b
   unfolding place
   place-inj a b h l e =
-      let q = getD-inj (c .single p f) (a / granuleBytes) (b / granuleBytes) (omega arith) (omega arith) (omega arith) in
-      omega arith
+      let s = Sizes.same-width _ _ _ _ (Sizes.split (k .wide) a .rest) (Sizes.split (k .wide) b .rest) e in
+      let q = getD-inj (c .single p f) (a / granuleBytes g) (b / granuleBytes g) (Sizes.width-lt (k .wide) a _ h) (Sizes.width-lt (k .wide) b _ l) (s .0) in
+      omega (arith, Sizes.split (k .wide) a, Sizes.split (k .wide) b, s .1, ap (granuleBytes g *_) q)
 
-  pub place-lt : (a : ℕ) → a < granuleBytes * length (owned g d p) → place g d p a < length d
+  pub place-lt : (a : ℕ) → a < granuleBytes g * length (owned g d p) → place g d p a < length d
   place-lt a h =
-      let q = Change.owned-lt g d c p (place g d p a / granuleBytes) f (Others.place-in g d p a h) in
-      omega (arith, k .size)
+      let q = Change.owned-lt g d c p (place g d p a / granuleBytes g) f (Others.place-in g d p a h) in
+      omega (arith, k .size, Sizes.lt-width (k .wide) (place g d p a) (granules g) q)

@@ -66,7 +66,7 @@ module _ (v : ℕ) (bv : v < 2) (g : Geometry) (d : List ℕ) (c : Sound g d) (k
 
   pub put-digit : digit (byte (Places.marked g v d₁ m) (gatAt g m)) (m % g .units) ≡ v
   unfolding words
-  put-digit = let a = a10 in let w = block-m in Places.marked-same g v bv d₁ m (omega (arith, k .size, len))
+  put-digit = let a = a10 in let w = block-m in Places.marked-same g v bv d₁ m (omega (arith, k .long, len))
 
   pub put-keeps : (n : ℕ) → n < granules g → n ≢ m → taken g (Places.marked g v d₁ m) n ≡ taken g d n
   unfolding words
@@ -74,7 +74,7 @@ module _ (v : ℕ) (bv : v < 2) (g : Geometry) (d : List ℕ) (c : Sound g d) (k
       let b = Places.block-lt g d n k h in let w = k .blocks-hi in
       Places.marked-other g v bv d₁ m n q ∙ ap (λ (y : ℕ). bit (n % g .units) y) (out (gatAt g n) (omega arith) (omega arith))
 
-  pub put-same : (i : ℕ) → (In (i / granuleBytes) (directoryGranules g d) → ⊥) → byte (Places.marked g v d₁ m) i ≡ byte d i
+  pub put-same : (i : ℕ) → (In (i / granuleBytes g) (directoryGranules g d) → ⊥) → byte (Places.marked g v d₁ m) i ≡ byte d i
   put-same i o = go (Places.outside g d i (k .start-at) a10 o)
     where
       go : (i < 256 * g .start) ⊎ (256 * (g .start + directorySectors g d) ≤ i) → byte (Places.marked g v d₁ m) i ≡ byte d i
@@ -131,7 +131,7 @@ module _ (g : Geometry) (d : List ℕ) (c : Sound g d) (k : Places.Fits g d) (p 
   runs-r = omega (arith, some-run)
 
   room : entryAt g e + 32 ≤ length d
-  room = let a = Places.dir g d (c .dir) in let b = Places.slot g d e (member .slot) in omega (arith, k .size)
+  room = let a = Places.dir g d (c .dir) in let b = Places.slot g d e (member .slot) in omega (arith, k .long)
 
   d₁-length : length d₁ ≡ length d
   unfolding words
@@ -265,7 +265,7 @@ module _ (g : Geometry) (d : List ℕ) (c : Sound g d) (k : Places.Fits g d) (p 
   entry₂ = Change.entry-at g d c e₂ (member₂ .slot) (member₂ .used)
 
   room₂ : entryAt g e₂ + 32 ≤ length d
-  room₂ = let a = Places.dir g d (c .dir) in let b = Places.slot g d e₂ (member₂ .slot) in omega (arith, k .size)
+  room₂ = let a = Places.dir g d (c .dir) in let b = Places.slot g d e₂ (member₂ .slot) in omega (arith, k .long)
 
   len₂ : length pair₂ ≡ length d
   len₂ = paired-length g d e₂ r₂ (n / g .units) (n % g .units * 32)

@@ -100,10 +100,10 @@ module _ (g : Geometry) (d : List ℕ) (c : Sound g d) (k : Places.Fits g d) (p 
   ext-byte i q o a b w = new-byte i q o ∙ H-byte i o a b w
 
   room : entryAt g x + 32 ≤ length d
-  room = let a = a10 in let b = sx in omega (arith, k .size)
+  room = let a = a10 in let b = sx in omega (arith, k .long)
 
   room-e : entryAt g e + 32 ≤ length d
-  room-e = let a = a10 in let b = se in omega (arith, k .size)
+  room-e = let a = a10 in let b = se in omega (arith, k .long)
 
   -- another entry lies outside
   apart : (y j : ℕ) → y < 256 → y ≢ x → j < 32 → (entryAt g y + j < entryAt g x) ⊎ (entryAt g x + 32 ≤ entryAt g y + j)
@@ -170,7 +170,7 @@ module _ (g : Geometry) (d : List ℕ) (c : Sound g d) (k : Places.Fits g d) (p 
   Q-length : length Q ≡ length d
   Q-length = Take.paired-length g H x 0 (n / g .units) (n % g .units * 32) ∙ H-length
 
-  ext-same : (i : ℕ) → (In (i / granuleBytes) (directoryGranules g d) → ⊥) → byte d′ i ≡ byte d i
+  ext-same : (i : ℕ) → (In (i / granuleBytes g) (directoryGranules g d) → ⊥) → byte d′ i ≡ byte d i
   ext-same i o = go (Places.outside g d i (k .start-at) a10 o)
     where
       go : (i < 256 * g .start) ⊎ (256 * (g .start + directorySectors g d) ≤ i) → byte d′ i ≡ byte d i
@@ -199,7 +199,7 @@ module _ (g : Geometry) (d : List ℕ) (c : Sound g d) (k : Places.Fits g d) (p 
     small = block-n;
     inside = inn;
     free = untaken;
-    set′ = let a = a10 in let w = block-n in rw (Places.marked-same g 1 (omega arith) Q n (omega (arith, k .size, Q-length))) tt;
+    set′ = let a = a10 in let w = block-n in rw (Places.marked-same g 1 (omega arith) Q n (omega (arith, k .long, Q-length))) tt;
     keeps = λ m h q. Places.marked-other g 1 (omega arith) Q n m q ∙ ap (λ (y : ℕ). bit (m % g .units) y) (gat-byte m h);
     same = ext-same;
   }

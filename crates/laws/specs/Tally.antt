@@ -2,13 +2,13 @@
 use mathlib.Core.Path.{_≡_, refl, _∙_}
 use mathlib.Core.Bool.{Bool, true, false, not, cond, _&&_}
 use mathlib.Core.List.{List, [], _∷_}
-use Prim.Native.Nat.{ℕ, suc, _+_, _≤_, _<_}
+use Prim.Native.Nat.{ℕ, suc, _+_, _*_, _≤_, _<_}
 use native.Mathlib.Omega.{arith}
-use native.Mathlib.Nat.{mul-le-mul}
+use native.Mathlib.Nat.{mul-le-mul, mul-le-mul-left}
 use lib.ListN.{length}
 use lib.Dec.{T}
 use Rattle.meaning.specs.Lists.{count, keep, each, has, length-count}
-use Rattle.meaning.specs.Layout.{taken, granules, highest}
+use Rattle.meaning.specs.Layout.{taken, granules, granuleBytes, mostGranules, highest}
 use Rattle.meaning.specs.Entries.{sizeOf}
 use Rattle.meaning.specs.Chain.{owned, files}
 use Rattle.meaning.specs.Free.{freeGranules}
@@ -80,8 +80,10 @@ owned-le g d c p f =
       length-count 0 (granules g),
     )
 
-pub size-le : (g : Geometry) (d : List ℕ) → Sound g d → Places.Fits g d → (p : ℕ) → File g d p → sizeOf g d p ≤ highest
+pub size-le : (g : Geometry) (d : List ℕ) → Sound g d → Places.Fits g d → (p : ℕ) → File g d p → sizeOf g d p ≤ highest g
 unfolding granules
 size-le g d c k p f =
     let a = mul-le-mul (k .blocks-hi) (k .units-hi) in
-    omega (arith, owned-le g d c p f, Change.filed-at g d c p f .fits)
+    let o = owned-le g d c p f in
+    let b = mul-le-mul-left {m = length (owned g d p)} {n = mostGranules} (granuleBytes g) (omega arith) in
+    omega (arith, b, Change.filed-at g d c p f .fits)

@@ -32,14 +32,14 @@ pub data Touch (g : Geometry) (xs ns d : List ℕ) : List ℕ → Type 0 where
   gat : (n v : ℕ) {e : List ℕ} → n < granules g → v < 2 → Touch g xs ns d e → Touch g xs ns d (Places.marked g v e n)
   hits : (x v : ℕ) {e : List ℕ} → In x xs → Touch g xs ns d e → Touch g xs ns d (set e (hitAt g x) v)
   entry : (x k v : ℕ) {e : List ℕ} → In x xs → k < 32 → Touch g xs ns d e → Touch g xs ns d (set e (entryAt g x + k) v)
-  bytes : (i v : ℕ) {e : List ℕ} → In (i / granuleBytes) ns → Touch g xs ns d e → Touch g xs ns d (set e i v)
+  bytes : (i v : ℕ) {e : List ℕ} → In (i / granuleBytes g) ns → Touch g xs ns d e → Touch g xs ns d (set e i v)
 
 pub touch-more : {g : Geometry} {xs ns d e : List ℕ} (xs′ ns′ : List ℕ) → ((x : ℕ) → In x xs → In x xs′) → ((n : ℕ) → In n ns → In n ns′) → Touch g xs ns d e → Touch g xs′ ns′ d e
 touch-more xs′ ns′ a b Touch.none = Touch.none
 touch-more xs′ ns′ a b (Touch.gat n v h l t) = Touch.gat n v h l (touch-more xs′ ns′ a b t)
 touch-more xs′ ns′ a b (Touch.hits x v i t) = Touch.hits x v (a x i) (touch-more xs′ ns′ a b t)
 touch-more xs′ ns′ a b (Touch.entry x k v i l t) = Touch.entry x k v (a x i) l (touch-more xs′ ns′ a b t)
-touch-more xs′ ns′ a b (Touch.bytes i v j t) = Touch.bytes i v (b (i / granuleBytes) j) (touch-more xs′ ns′ a b t)
+touch-more {g} xs′ ns′ a b (Touch.bytes i v j t) = Touch.bytes i v (b (i / granuleBytes g) j) (touch-more xs′ ns′ a b t)
 
 pub touch-then : {g : Geometry} {xs ns a b c : List ℕ} → Touch g xs ns a b → Touch g xs ns b c → Touch g xs ns a c
 touch-then s Touch.none = s
@@ -70,7 +70,7 @@ module _ (g : Geometry) (d₀ : List ℕ) (k : Places.Fits g d₀) where
   touch-aside {ns = ns} (Touch.bytes j v {e = e} m t) i a = getD-set-other e j i v 0 (λ q. a .bytes (Members.in-has {xs = ns} (rw q m))) ∙ touch-aside t i a
 
   -- the bits of a GAT byte past the last unit
-  pub touch-spare : {xs ns d e : List ℕ} → Touch g xs ns d e → (b u : ℕ) → b < g .blocks → g .units ≤ u → (In ((256 * g .start + b) / granuleBytes) ns → ⊥)
+  pub touch-spare : {xs ns d e : List ℕ} → Touch g xs ns d e → (b u : ℕ) → b < g .blocks → g .units ≤ u → (In ((256 * g .start + b) / granuleBytes g) ns → ⊥)
       → digit (byte e (256 * g .start + b)) u ≡ digit (byte d (256 * g .start + b)) u
   touch-spare Touch.none b u h l o = refl
   touch-spare (Touch.gat n v {e = e} m w t) b u h l o =
@@ -104,7 +104,7 @@ module _ (g : Geometry) (xs ns d : List ℕ) where
   pub touch-whole : {e : List ℕ} (x : ℕ) (vs : List ℕ) → In x xs → length vs ≤ 32 → Touch g xs ns d e → Touch g xs ns d (sets e (entryAt g x) vs)
   touch-whole {e} x vs i h t = subst (λ (j : ℕ). Touch g xs ns d (sets e j vs)) (add-zero (entryAt g x)) (touch-part x i vs 0 (omega arith) t)
 
-  pub touch-store : {e : List ℕ} (F : ℕ → ℕ) (bs : List ℕ) (i : ℕ) → ((j : ℕ) → i ≤ j → j < i + length bs → In (F j / granuleBytes) ns) → Touch g xs ns d e → Touch g xs ns d (store F e i bs)
+  pub touch-store : {e : List ℕ} (F : ℕ → ℕ) (bs : List ℕ) (i : ℕ) → ((j : ℕ) → i ≤ j → j < i + length bs → In (F j / granuleBytes g) ns) → Touch g xs ns d e → Touch g xs ns d (store F e i bs)
   unfolding store
   touch-store F [] i h t = t
   touch-store F (b ∷ bs) i h t = touch-store F bs (i + 1) (λ j a l. h j (omega arith) (omega arith)) (Touch.bytes (F i) b (h i (omega arith) (omega arith)) t)

@@ -40,8 +40,8 @@ pub record Unhooks (g : Geometry) (d d′ : List ℕ) (p b m : ℕ) : Type 0 whe
   pub only : entryGranules g d (tail g p d) ≡ m ∷ []
   pub freed : T (taken g d′ m) → ⊥
   pub keeps : (n : ℕ) → n < granules g → n ≢ m → taken g d′ n ≡ taken g d n
-  pub same : (i : ℕ) → (In (i / granuleBytes) (directoryGranules g d) → ⊥) → byte d′ i ≡ byte d i
-  pub room : sizeOf g d p + granuleBytes ≤ granuleBytes * length (owned g d p)
+  pub same : (i : ℕ) → (In (i / granuleBytes g) (directoryGranules g d) → ⊥) → byte d′ i ≡ byte d i
+  pub room : sizeOf g d p + granuleBytes g ≤ granuleBytes g * length (owned g d p)
 
 past : (e s : ℕ) (xs : List ℕ) → s ≢ e → In e (s ∷ xs) → In e xs
 past e s xs q i = into (Members.in-cons i)
@@ -204,8 +204,8 @@ module _ (g : Geometry) (d d′ : List ℕ) (c : Sound g d) (p : ℕ) (f : Facts
   name′ : nameOf g d′ p ≡ nameOf g d p
   name′ = Frame.nameOf-bytes g d d′ p (λ k a b. low k (omega arith))
 
-  room′ : sizeOf g d p ≤ granuleBytes * length (owned g d′ p)
-  room′ = omega (arith, h .room, ap length cut-owned ∙ length-append (owned g d′ p) (m ∷ []))
+  room′ : sizeOf g d p ≤ granuleBytes g * length (owned g d′ p)
+  room′ = omega (arith, h .room, ap (granuleBytes g *_) (ap length cut-owned ∙ length-append (owned g d′ p) (m ∷ [])))
 
   filed′ : Entry.Filed g d′ p
   unfolding words

@@ -11,6 +11,7 @@ use lib.Dec.{eqb, leb}
 use borrow.Author.Tests.{le-leb, eq-eqb, eqb-true}
 use Rattle.meaning.specs.Lists.{same, all, count}
 use Rattle.meaning.specs.Layout.{granules, fitsGeometry, field, entryAt, granuleBytes, granuleSectors, sectors, mostBlocks, mostUnits}
+use Rattle.meaning.specs.Sizes
 use Rattle.meaning.specs.Bits.{digit}
 use Rattle.meaning.specs.Entries.{runsFrom, block, nameOf}
 use Rattle.meaning.specs.Names.{wellFormed}
@@ -66,12 +67,12 @@ pub name-at : (g : Geometry) (d n : List ℕ) (s : ℕ) → entryAt g s + 16 ≤
 unfolding nameOf field
 name-at g d n s h = ap (λ (l : List ℕ). same l n) (part-at d (entryAt g s) 5 11 (omega arith))
 
--- the geometry's first six tests passed
 pub well-length : (n : List ℕ) → wellFormed n ≡ true → length n ≡ 11
 unfolding wellFormed
 well-length n h = eqb-true _ _ (all-at _ h 0)
 
-pub fits-rest : (g : Geometry) (d : List ℕ) → 1 ≤ g .blocks → g .blocks ≤ mostBlocks → 1 ≤ g .units → g .units ≤ mostUnits → g .start % granuleSectors ≡ 0 → length d ≡ granules g * granuleBytes
-    → fitsGeometry g d ≡ leb (g .start + 10) (sectors g)
+-- the geometry's first six tests passed, with the code's numbers
+pub fits-rest : (g : Geometry) (d : List ℕ) → 1 ≤ g .blocks → g .blocks ≤ mostBlocks → 1 ≤ g .units → g .units ≤ mostUnits → g .start % 5 ≡ 0 → length d ≡ granules g * 1280
+    → fitsGeometry g d ≡ leb (g .start + 10) (granules g * 5)
 unfolding fitsGeometry all
-fits-rest g d a b c e f h = simp (le-leb _ _ a, le-leb _ _ b, le-leb _ _ c, le-leb _ _ e, eq-eqb _ _ f, eq-eqb _ _ h, and-true)
+fits-rest g d a b c e f h = simp (Sizes.code-sectors, Sizes.code-bytes, le-leb _ _ a, le-leb _ _ b, le-leb _ _ c, le-leb _ _ e, eq-eqb _ _ f, eq-eqb _ _ h, and-true)

@@ -11,23 +11,23 @@ use Rattle.meaning.specs.declared.Handle.{Handle}
 use Rattle.meaning.specs.declared.Answer.{Answer}
 
 -- ⌊k/5⌋ + 1: so many granules hold sector k
-abbrev pub granulesTo : ℕ → ℕ
-granulesTo k = k / Layout.granuleSectors + 1
+abbrev pub granulesTo : Geometry → ℕ → ℕ
+granulesTo g k = k / Layout.granuleSectors g + 1
 
 module _ (g : Geometry) (d : List ℕ) where
   -- until ⌊k/5⌋ + 1 are owned, none if they are already
   abbrev pub toAllot : Handle → ℕ → ℕ
-  toAllot h k = Refusals.lacking g d (h .slot) (granulesTo k)
+  toAllot h k = Refusals.lacking g d (h .slot) (granulesTo g k)
 
   abbrev pub allotRefusals : Handle → ℕ → List (ℕ × Bool)
   allotRefusals h k =
-      Refusals.handleRefusals g d h (all (Refusals.inRange h ∷ ltb k Layout.sectorNumbers ∷ []))
+      Refusals.handleRefusals g d h (all (Refusals.inRange g h ∷ ltb k (Layout.sectorNumbers g) ∷ []))
       (Refusals.protected g d 4 h ∷ Refusals.cannotGrow g d (h .slot) (toAllot h k))
 
   -- Allot to sector k: takes granules; size unchanged.
   unfoldable pub allot : Handle → ℕ → Answer × List ℕ
   allot h k =
       let no = Refusals.first (allotRefusals h k) in (
-        record { number = no; handle = h },
+        record { refusal = Refusals.refusal g d no; handle = h },
         cond (Refusals.accepted no) (Refusals.larger g d (h .slot) (toAllot h k)) d,
       )

@@ -10,8 +10,8 @@ use Rattle.meaning.specs.Entries.{marker, link, entryGranules, primary}
 use Rattle.meaning.specs.declared.Geometry.{Geometry}
 
 -- which of the granules owned holds byte i of a file, counted from 0
-abbrev pub granuleOf : ℕ → ℕ
-granuleOf i = i / granuleBytes
+abbrev pub granuleOf : Geometry → ℕ → ℕ
+granuleOf g i = i / granuleBytes g
 
 module _ (g : Geometry) (d : List ℕ) where
   -- An entry hands on to its marker, and the marker to the next entry.
@@ -33,4 +33,4 @@ module _ (g : Geometry) (d : List ℕ) where
 
   -- where byte i of the file at slot s lies in the image
   unfoldable pub place : ℕ → ℕ → ℕ
-  place s i = granuleBytes * getD (owned s) (granuleOf i) 0 + i % granuleBytes
+  place s i = granuleBytes g * getD (owned s) (granuleOf g i) 0 + i % granuleBytes g

@@ -71,7 +71,7 @@ module _ (g : Geometry) (d : List ℕ) where
   unfoldable pub sizeHolds : ℕ → Bool
   sizeHolds p =
       all ((not (eqb (Entries.sectorCount g d p) 0) || eqb (Entries.endByte g d p) 0)
-      ∷ leb (Entries.sizeOf g d p) (Layout.granuleBytes * length (Chain.owned g d p)) ∷ [])
+      ∷ leb (Entries.sizeOf g d p) (Layout.granuleBytes g * length (Chain.owned g d p)) ∷ [])
 
   -- Directory granules are in no run of a file without the system flag.
   unfoldable pub offDirectory : ℕ → Bool

@@ -22,12 +22,12 @@ killed g d s = through (killEntry g) (through (Layout.freeGranule g) d (Chain.ow
 
 module _ (g : Geometry) (d : List ℕ) where
   abbrev pub killRefusals : Handle → List (ℕ × Bool)
-  killRefusals h = Refusals.handleRefusals g d h (Refusals.inRange h) (Refusals.protected g d 1 h ∷ [])
+  killRefusals h = Refusals.handleRefusals g d h (Refusals.inRange g h) (Refusals.protected g d 1 h ∷ [])
 
   -- Kill: clears bit 4 of the entry and its extensions, their HIT bytes and their GAT bits, nothing else.
   unfoldable pub kill : Handle → Answer × List ℕ
   kill h =
       let no = Refusals.first (killRefusals h) in (
-        record { number = no; handle = h },
+        record { refusal = Refusals.refusal g d no; handle = h },
         cond (Refusals.accepted no) (killed g d (h .slot)) d,
       )

@@ -10,12 +10,13 @@ use Rattle.meaning.specs.declared.Geometry.{Geometry}
 
 -- Geometry ----------------------------------------------------------------------------------------------------------------
 
--- A granule is 5 sectors of 256 bytes. This is the only place where that 5 stands.
-abbrev pub granuleSectors : ℕ
-granuleSectors = 5
+-- A granule is 5 sectors of 256 bytes. This is the only place where that 5 stands. Both are shut: what is proved of them is proved
+-- from the laws of Sizes alone, which hold of any number of sectors above 0.
+unfoldable pub granuleSectors : Geometry → ℕ
+granuleSectors g = 5
 
-abbrev pub granuleBytes : ℕ
-granuleBytes = granuleSectors * 256
+unfoldable pub granuleBytes : Geometry → ℕ
+granuleBytes g = granuleSectors g * 256
 
 -- The caller states: blocks 1 to 192, units per block 1 to 8.
 abbrev pub mostBlocks : ℕ
@@ -28,40 +29,40 @@ abbrev pub mostGranules : ℕ
 mostGranules = mostBlocks * mostUnits
 
 -- position 0 to 1,966,080: the bytes of the largest disk
-abbrev pub highest : ℕ
-highest = mostGranules * granuleBytes
+abbrev pub highest : Geometry → ℕ
+highest g = mostGranules * granuleBytes g
 
 -- sector 0 to 7,679: a sector number is below this
-abbrev pub sectorNumbers : ℕ
-sectorNumbers = mostGranules * granuleSectors
+abbrev pub sectorNumbers : Geometry → ℕ
+sectorNumbers g = mostGranules * granuleSectors g
 
 -- Granule number = block × units + unit: so many granules are on a disk.
 unfoldable pub granules : Geometry → ℕ
 granules g = g .blocks * g .units
 
 abbrev pub sectors : Geometry → ℕ
-sectors g = granules g * granuleSectors
+sectors g = granules g * granuleSectors g
 
 -- Directory start: a sector number, multiple of 5. The image length must be blocks × units × 1,280 bytes exactly, and at least 10
 -- sectors must lie from the directory start to the end. Refusal 1 is given exactly where this is false.
 unfoldable pub fitsGeometry : Geometry → List ℕ → Bool
 fitsGeometry g d =
     all (leb 1 (g .blocks) ∷ leb (g .blocks) mostBlocks ∷ leb 1 (g .units) ∷ leb (g .units) mostUnits
-    ∷ eqb (g .start % granuleSectors) 0
-    ∷ eqb (length d) (granules g * granuleBytes)
+    ∷ eqb (g .start % granuleSectors g) 0
+    ∷ eqb (length d) (granules g * granuleBytes g)
     ∷ leb (g .start + 10) (sectors g) ∷ [])
 
 -- the sectors of a granule
-abbrev pub granuleSectorsOf : ℕ → List ℕ
-granuleSectorsOf n = count (n * granuleSectors) granuleSectors
+abbrev pub granuleSectorsOf : Geometry → ℕ → List ℕ
+granuleSectorsOf g n = count (n * granuleSectors g) (granuleSectors g)
 
 -- n things of k each to hold a size: ⌈size / k⌉
 abbrev pub roundUp : ℕ → ℕ → ℕ
 roundUp size k = (size + (k - 1)) / k
 
 -- the granules that a size needs: ⌈size/1280⌉
-abbrev pub granulesFor : ℕ → ℕ
-granulesFor size = roundUp size granuleBytes
+abbrev pub granulesFor : Geometry → ℕ → ℕ
+granulesFor g size = roundUp size (granuleBytes g)
 
 -- byte i of an image; 0 past its end: no answer hangs on that
 abbrev pub byte : List ℕ → ℕ → ℕ
@@ -126,6 +127,6 @@ field g d slot k = byte d (entryAt g slot + k)
 unfoldable pub setField : Geometry → List ℕ → ℕ → ℕ → ℕ → List ℕ
 setField g d slot k v = set d (entryAt g slot + k) v
 
--- the granules that the directory lies in
+-- the granules that the directory touches
 abbrev pub directoryGranules : Geometry → List ℕ → List ℕ
-directoryGranules g d = count (g .start / granuleSectors) (directorySectors g d / granuleSectors)
+directoryGranules g d = count (g .start / granuleSectors g) (roundUp (directorySectors g d) (granuleSectors g))

@@ -1,10 +1,12 @@
 pub mod Lists
 pub mod Bits
 pub mod Layout
+pub mod Sizes
 pub mod Names
 pub mod Entries
 pub mod Chain
 pub mod Consistent
+pub mod Refusal
 pub mod Fault
 pub mod Free
 pub mod Growth

@@ -35,6 +35,6 @@ module _ (g : Geometry) (d : List ℕ) where
   open′ n len checking code =
       let no = Refusals.first (openRefusals n len checking code) in
       record {
-        number = no;
+        refusal = Refusals.refusal g d no;
         handle = cond (Refusals.accepted no) (openedAt (LookUp.slotOf g d n) n len checking code) Refusals.noHandle;
       }

@@ -68,26 +68,26 @@ overwritten m old i r =
     take (sizeAfter m (length old) (i + length r)) (kept ++ (r ++ drop (i + length r) old))
 
 -- write: the bytes, B set, and as many granules as the bytes need, if there were fewer
-unfoldable pub writtenTo : Mode → ℕ → List ℕ → File → File
-writtenTo m i r f =
+unfoldable pub writtenTo : Geometry → Mode → ℕ → List ℕ → File → File
+writtenTo g m i r f =
     let bs = overwritten m (f .bytes) i r in
     record {
       attributes = set (f .attributes) 1 (Bits.withBit 5 (getD (f .attributes) 1 0));
-      granules = max (f .granules) (Layout.granulesFor (length bs));
+      granules = max (f .granules) (Layout.granulesFor g (length bs));
       bytes = bs;
     }
 
 -- allot: ⌊k/5⌋ + 1 granules, if there were fewer
-unfoldable pub allottedTo : ℕ → File → File
-allottedTo k f =
-    record { attributes = f .attributes; granules = max (f .granules) (Allot.granulesTo k); bytes = f .bytes }
+unfoldable pub allottedTo : Geometry → ℕ → File → File
+allottedTo g k f =
+    record { attributes = f .attributes; granules = max (f .granules) (Allot.granulesTo g k); bytes = f .bytes }
 
 -- trim: the granules that the bytes need, unless F is set
-unfoldable pub trimmed : File → File
-trimmed f =
+unfoldable pub trimmed : Geometry → File → File
+trimmed g f =
     record {
       attributes = f .attributes;
-      granules = cond (Bits.bit 7 (getD (f .attributes) 1 0)) (f .granules) (Layout.granulesFor (length (f .bytes)));
+      granules = cond (Bits.bit 7 (getD (f .attributes) 1 0)) (f .granules) (Layout.granulesFor g (length (f .bytes)));
       bytes = f .bytes;
     }
 
@@ -127,7 +127,7 @@ beyondAt g d p =
       attributes = fileAt g d p .attributes;
       granules = fileAt g d p .granules;
       bytes =
-          map (λ j. cond (has (Layout.directoryGranules g d) (Chain.place g d p j / Layout.granuleBytes)) 0 (Layout.byte d (Chain.place g d p j)))
+          map (λ j. cond (has (Layout.directoryGranules g d) (Chain.place g d p j / Layout.granuleBytes g)) 0 (Layout.byte d (Chain.place g d p j)))
           (count 0 (Entries.sizeOf g d p));
     }
 
@@ -145,7 +145,7 @@ pub record Aside (g : Geometry) (xs ns : List ℕ) (i : ℕ) : Type 0 where
   pub gat : (i < 256 * g .start) ⊎ (256 * g .start + g .blocks ≤ i)
   pub hits : (x : ℕ) → T (has xs x) → i ≢ Layout.hitAt g x
   pub entries : (x : ℕ) → T (has xs x) → (i < Layout.entryAt g x) ⊎ (Layout.entryAt g x + 32 ≤ i)
-  pub bytes : T (has ns (i / Layout.granuleBytes)) → ⊥
+  pub bytes : T (has ns (i / Layout.granuleBytes g)) → ⊥
 
 -- every member of the list is a byte
 abbrev pub AreBytes : List ℕ → Type 0

@@ -22,21 +22,21 @@ module _ (g : Geometry) (d : List ℕ) where
   -- 12 also where the buffer is shorter than the record length; `room` is the buffer's length. 10: read past the size.
   abbrev pub readRefusals : Handle → ℕ → List (ℕ × Bool)
   readRefusals h room =
-      Refusals.handleRefusals g d h (all (Refusals.inRange h ∷ leb (h .len) room ∷ []))
+      Refusals.handleRefusals g d h (all (Refusals.inRange g h ∷ leb (h .len) room ∷ []))
       (Refusals.notForReading h ∷ (10, ltb (Entries.sizeOf g d (h .slot)) (h .at + h .len)) ∷ [])
 
   -- Position + length must not pass the size; the bytes go to the start of the buffer, the rest of it is untouched, the position advances.
   unfoldable pub readRecord : Handle → List ℕ → Answer × List ℕ
   readRecord h b =
       let no = Refusals.first (readRefusals h (length b)) in (
-        record { number = no; handle = cond (Refusals.accepted no) (Refusals.movedTo h (h .at + h .len)) h },
+        record { refusal = Refusals.refusal g d no; handle = cond (Refusals.accepted no) (Refusals.movedTo h (h .at + h .len)) h },
         cond (Refusals.accepted no) (fetch (h .slot) (h .at) (h .len) ++ drop (h .len) b) b,
       )
 
   -- 12 also where the sector is out of range (0 to 7,679). 10: sector k not below n.
   abbrev pub sectorRefusals : Handle → ℕ → List (ℕ × Bool)
   sectorRefusals h k =
-      Refusals.handleRefusals g d h (all (Refusals.inRange h ∷ ltb k Layout.sectorNumbers ∷ []))
+      Refusals.handleRefusals g d h (all (Refusals.inRange g h ∷ ltb k (Layout.sectorNumbers g) ∷ []))
       (Refusals.notForReading h ∷ (10, leb (Entries.sectorCount g d (h .slot)) k) ∷ [])
 
   -- how many bytes of sector k are the file's: what the end byte says of the last one, else 256
@@ -50,7 +50,7 @@ module _ (g : Geometry) (d : List ℕ) where
       let s = h .slot in let no = Refusals.first (sectorRefusals h k) in
       let from = Chain.place g d s (256 * k) in
       record {
-        number = no;
+        refusal = Refusals.refusal g d no;
         from = cond (Refusals.accepted no) from 0;
         to = cond (Refusals.accepted no) (from + sectorBytes s k) 0;
       }

@@ -19,6 +19,7 @@ use Rattle.meaning.specs.Consistent
 use Rattle.meaning.specs.Growth
 use Rattle.meaning.specs.Growth.{lengthens}
 use Rattle.meaning.specs.Create
+use Rattle.meaning.specs.Refusal.{unplaced, placed}
 use Rattle.meaning.specs.Refusals.{check}
 use Rattle.meaning.specs.Samples.{wide, onePair, opened}
 use Rattle.meaning.specs.declared.Geometry.{Geometry}
@@ -51,13 +52,13 @@ pub record Rows : Type 0 where
   -- 3. Pair 11H 42H, 3 units per block: granules 53 to 55, sectors 265 to 279. With 2 units: inconsistent (the
   -- first unit is 2: 26, run off the disk).
   pub pair : (count (Entries.pairStart 3 0x11 0x42) (Entries.pairLength 0x42) ≡ 53 ∷ 54 ∷ 55 ∷ [])
-      × (each Layout.granuleSectorsOf (53 ∷ 54 ∷ 55 ∷ []) ≡ count 265 15)
-      × (Chain.owned (wide 3) (onePair 76800) 0x80 ≡ 53 ∷ 54 ∷ 55 ∷ []) × (check (wide 3) (onePair 76800) ≡ 0)
-      × (Consistent.runsHold (wide 2) (onePair 51200) 0x80 ≡ false) × (check (wide 2) (onePair 51200) ≡ 26)
+      × ((g : Geometry) → each (Layout.granuleSectorsOf g) (53 ∷ 54 ∷ 55 ∷ []) ≡ count 265 15)
+      × (Chain.owned (wide 3) (onePair 76800) 0x80 ≡ 53 ∷ 54 ∷ 55 ∷ []) × (check (wide 3) (onePair 76800) ≡ unplaced 0)
+      × (Consistent.runsHold (wide 2) (onePair 51200) 0x80 ≡ false) × (check (wide 2) (onePair 51200) ≡ placed 26 0x80)
   -- 4. Sizes 0, 255, 256, 257 are (n, e) = (0, 0), (1, 255), (1, 0), (2, 1).
   pub sizes : Size 0 0 0 × Size 255 1 255 × Size 256 1 0 × Size 257 2 1
   -- 5. Byte 1,280 is in the second granule owned.
-  pub granule : (Chain.granuleOf 1279 ≡ 0) × (Chain.granuleOf 1280 ≡ 1)
+  pub granule : ((g : Geometry) → Chain.granuleOf g 1279 ≡ 0) × ((g : Geometry) → Chain.granuleOf g 1280 ≡ 1)
       × ((g : Geometry) (d : List ℕ) (s : ℕ) → place g d s 1280 ≡ 1280 * getD (Chain.owned g d s) 1 0)
   -- 6. A 32-granule run has low bits 1FH; the 33rd granule needs a new pair.
   pub run : (Entries.pairLength 0x1f ≡ 32) × ((second : ℕ) → Entries.pairLength second ≡ 32 → second % 32 ≡ 0x1f)
@@ -92,7 +93,7 @@ unfolding lengthens
 full-run g p d e = last-fails _ _ _ (ap (λ n. ltb n 32) e)
 
 second-granule : (g : Geometry) (d : List ℕ) (s : ℕ) → place g d s 1280 ≡ 1280 * getD (Chain.owned g d s) 1 0
-unfolding place
+unfolding place Layout.granuleBytes Layout.granuleSectors
 second-granule g d s = omega arith
 
 pub table : Rows
@@ -100,9 +101,9 @@ unfolding opened slotsOf
 table = record {
   hashes = (refl, refl, refl);
   slot = (refl, refl, λ g. omega arith);
-  pair = (refl, refl, refl, refl, refl, refl);
+  pair = (refl, (λ g. refl), refl, refl, refl, refl);
   sizes = ((refl, refl, refl), (refl, refl, refl), (refl, refl, refl), (refl, refl, refl));
-  granule = (refl, refl, second-granule);
+  granule = ((λ g. refl), (λ g. refl), second-granule);
   run = (refl, (λ second e. omega arith), full-run);
   date = λ n len main worker. (refl, refl);
   directory = λ g d e. (ap (10 +_) e, ap length (slots-of g d ∙ ap (λ n. slotsOf (10 + n)) e));

@@ -16,16 +16,16 @@ use Rattle.meaning.specs.declared.Answer.{Answer}
 module _ (g : Geometry) (d : List ℕ) where
   -- keeps ⌈size/1280⌉ granules, dropping the last ones: so many
   abbrev pub surplus : ℕ → ℕ
-  surplus s = length (Chain.owned g d s) - Layout.granulesFor (Entries.sizeOf g d s)
+  surplus s = length (Chain.owned g d s) - Layout.granulesFor g (Entries.sizeOf g d s)
 
   abbrev pub trimRefusals : Handle → List (ℕ × Bool)
-  trimRefusals h = Refusals.handleRefusals g d h (Refusals.inRange h) (Refusals.protected g d 4 h ∷ [])
+  trimRefusals h = Refusals.handleRefusals g d h (Refusals.inRange g h) (Refusals.protected g d 4 h ∷ [])
 
   -- Trim: if F is clear, keeps ⌈size/1280⌉ granules. With F set nothing changes.
   unfoldable pub trim : Handle → Answer × List ℕ
   trim h =
       let s = h .slot in
       let no = Refusals.first (trimRefusals h) in (
-        record { number = no; handle = h },
+        record { refusal = Refusals.refusal g d no; handle = h },
         cond (Refusals.accepted no && not (Entries.keepsSpace g d s)) (times (surplus s) (Drop.dropOne g s) d) d,
       )

@@ -36,12 +36,12 @@ module _ (g : Geometry) (d : List ℕ) where
 
   -- A write takes exactly what the file lacks of ⌈new size/1280⌉ granules.
   abbrev pub toWrite : Mode → Handle → ℕ
-  toWrite m h = Refusals.lacking g d (h .slot) (Layout.granulesFor (sizeAfter m (Entries.sizeOf g d (h .slot)) (h .at + h .len)))
+  toWrite m h = Refusals.lacking g d (h .slot) (Layout.granulesFor g (sizeAfter m (Entries.sizeOf g d (h .slot)) (h .at + h .len)))
 
   -- 12 also where position + length is over 1,966,080 or the buffer shorter than the record length; `room` is the buffer's length
   abbrev pub writeRefusals : Mode → Handle → ℕ → List (ℕ × Bool)
   writeRefusals m h room =
-      Refusals.handleRefusals g d h (all (Refusals.inRange h ∷ leb (h .at + h .len) Layout.highest ∷ leb (h .len) room ∷ []))
+      Refusals.handleRefusals g d h (all (Refusals.inRange g h ∷ leb (h .at + h .len) (Layout.highest g) ∷ leb (h .len) room ∷ []))
       (Refusals.protected g d 4 h ∷ Refusals.cannotGrow g d (h .slot) (toWrite m h))
 
   -- Write record, from the buffer's start: the file grows; bytes between the old size and the position become zero; the record; the size
@@ -54,6 +54,6 @@ module _ (g : Geometry) (d : List ℕ) where
       let f = Chain.place g d₁ s in
       let d₂ = store f d₁ old (replicate (h .at - old) 0) in
       let d₃ = store f d₂ (h .at) (take (h .len) b) in (
-        record { number = no; handle = cond (Refusals.accepted no) (Refusals.movedTo h end) h },
+        record { refusal = Refusals.refusal g d no; handle = cond (Refusals.accepted no) (Refusals.movedTo h end) h },
         cond (Refusals.accepted no) (withSize d₃ s (sizeAfter m old end)) d,
       )

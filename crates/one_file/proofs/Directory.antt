@@ -10,7 +10,8 @@ use lib.ListN.{getD}
 use borrow.Author.Tests.{eq-eqb, eqb-true}
 use Rattle.meaning.specs.Lists.{all}
 use Rattle.meaning.specs.Bits.{bit}
-use Rattle.meaning.specs.Layout.{granules, field, directoryGranules, directorySectors, granuleSectors}
+use Rattle.meaning.specs.Layout.{granules, field, directoryGranules, directorySectors, granuleSectors, roundUp}
+use Rattle.meaning.specs.Sizes
 use Rattle.meaning.specs.Chain.{chain, owned}
 use Rattle.meaning.specs.declared.Geometry.{Geometry}
 use Rattle.layout.specs.Room.{Room}
@@ -27,14 +28,14 @@ use Rattle.one_file.specs.Slots.{least, leastOf, fileFits, FileSeen, Dir
 use Rattle.one_file.proofs.Laws.{bit-on, bit-off}
 
 pub directory-lt : (g : Geometry) (d : List ℕ) → Room g d → (n : ℕ) → In n (directoryGranules g d) → n < granules g
-directory-lt g d room n i = let k = Members.count-in n (g .start / granuleSectors) (directorySectors g d / granuleSectors) i in let e = room .directory in omega arith
+directory-lt g d room n i = let k = Members.count-in n (g .start / granuleSectors g) (roundUp (directorySectors g d) (granuleSectors g)) i in let e = Sizes.touched-inside (Sizes.sectors-pos g) (g .start) (directorySectors g d) (granules g) (room .directory) in omega (arith, k, e)
 
 module _ (g : Geometry) (d : List ℕ) (room : Room g d) {from bits : ℕ} (w : Directory g d from bits) where
-  within : {n : ℕ} → In n (directoryGranules g d) → (g .start / granuleSectors ≤ n) × (n < g .start / granuleSectors + directorySectors g d / granuleSectors)
-  within {n} i = Members.count-in n (g .start / granuleSectors) (directorySectors g d / granuleSectors) i
+  within : {n : ℕ} → In n (directoryGranules g d) → (g .start / granuleSectors g ≤ n) × (n < g .start / granuleSectors g + roundUp (directorySectors g d) (granuleSectors g))
+  within {n} i = Members.count-in n (g .start / granuleSectors g) (roundUp (directorySectors g d) (granuleSectors g)) i
 
-  inside : (n : ℕ) → g .start / granuleSectors ≤ n → n < g .start / granuleSectors + directorySectors g d / granuleSectors → In n (directoryGranules g d)
-  inside n h l = Members.in-count n (g .start / granuleSectors) (directorySectors g d / granuleSectors) h l
+  inside : (n : ℕ) → g .start / granuleSectors g ≤ n → n < g .start / granuleSectors g + roundUp (directorySectors g d) (granuleSectors g) → In n (directoryGranules g d)
+  inside n h l = Members.in-count n (g .start / granuleSectors g) (roundUp (directorySectors g d) (granuleSectors g)) h l
 
   pub all-open : {m : List ℕ} {r : ℕ} → Among m from bits r → r ≡ 0 → (n : ℕ) → In n (directoryGranules g d) → shut (g .units) m n ≡ 0
   all-open {m} a e n i = none-shut m (w .spans) (room .units-low) (room .units-high) (w .window) (a .bytes) (sym (a .is) ∙ e) n (within i .0) (within i .1)

@@ -75,13 +75,13 @@ module _ (g : Geometry) (d : List ℕ) (s : ℕ) where
   file-walk {m} {m′} {met} {met′} {f} {h} {n} {left} {k} {r} room e b i a c q ds l w =
       let len : left ≡ length (slots g d) = l ∙ ap (λ (j : ℕ). 8 * (j - 2)) ds ∙ sym (slots-length g d (room .ten) (room .thirty)) in
       let w′ : Walked g d 1 (sectorCount g d s) 0 (chainHolds g d (hit g d s) (length (slots g d)) s) (chain g d s) m m′ met met′ r = rw (c, i, len) at w in
-      let fit : fileFits g d s ≡ all (chainHolds g d (hit g d s) (length (slots g d)) s ∷ leb (sectorCount g d s) (granuleSectors * length (owned g d s)) ∷ [])
+      let fit : fileFits g d s ≡ all (chainHolds g d (hit g d s) (length (slots g d)) s ∷ leb (sectorCount g d s) (granuleSectors g * length (owned g d s)) ∷ [])
       = all-yes (not-no (ap (bit 5) (sym e) ∙ bit-off 5 f b)) _ ∙ all-yes (ap (λ (j : ℕ). nameFits g d j s) (sym i) ∙ a) _
       ∙ all-yes (ap (λ (j : ℕ). countHolds j (endByte g d s)) (sym c) ∙ q) _ in
       record {
         answer =
-            w′ .answer ∙ ap (λ (j : ℕ). all (chainHolds g d (hit g d s) (length (slots g d)) s ∷ allows m 1 0 (owned g d s) ∷ allows met 1 0 (chain g d s) ∷ leb (sectorCount g d s) (granuleSectors * j) ∷ [])) (zero-add (length (owned g d s)))
-            ∙ shuffle (chainHolds g d (hit g d s) (length (slots g d)) s) (allows m 1 0 (owned g d s)) (allows met 1 0 (chain g d s)) (leb (sectorCount g d s) (granuleSectors * length (owned g d s)))
+            w′ .answer ∙ ap (λ (j : ℕ). all (chainHolds g d (hit g d s) (length (slots g d)) s ∷ allows m 1 0 (owned g d s) ∷ allows met 1 0 (chain g d s) ∷ leb (sectorCount g d s) (granuleSectors g * j) ∷ [])) (zero-add (length (owned g d s)))
+            ∙ shuffle (chainHolds g d (hit g d s) (length (slots g d)) s) (allows m 1 0 (owned g d s)) (allows met 1 0 (chain g d s)) (leb (sectorCount g d s) (granuleSectors g * length (owned g d s)))
             ∙ all-three (sym fit) refl refl;
         map = w′ .map;
         meets = w′ .meets;
@@ -146,7 +146,7 @@ name-is : (g : Geometry) (d : List ℕ) {s at n : ℕ} → Room g d → Place g 
 name-is g d {s} {at} {n} r p e =
     let l = p .slot .low in
     let h = p .slot .held in
-    let w = r .whole in
+    let w = r .long in
     let t = r .directory in
     ap (λ (k : ℕ). take k (drop (at + 5) d)) e ∙ ap (λ (k : ℕ). take 11 (drop (k + 5) d)) (p .is) ∙ sym (name-part g d s (omega arith))
 

@@ -7,7 +7,7 @@ use lib.Dec.{eqb, leb}
 use lib.ListN.{length}
 use Rattle.meaning.specs.Lists.{every, each, all, any}
 use Rattle.meaning.specs.Bits.{bit}
-use Rattle.meaning.specs.Layout.{field, hit, slots, directorySectors, granuleSectors}
+use Rattle.meaning.specs.Layout.{field, hit, slots, directorySectors, granuleSectors, roundUp}
 use Rattle.meaning.specs.Names.{hash, wellFormed}
 use Rattle.meaning.specs.Entries.{primary, nameOf, sectorCount, endByte}
 use Rattle.meaning.specs.Chain.{chain, owned}
@@ -33,7 +33,7 @@ nameFits g d h s = all (wellFormed (nameOf g d s) ∷ eqb h (hash (nameOf g d s)
 unfoldable pub fileFits : Geometry → List ℕ → ℕ → Bool
 fileFits g d p =
     all (not (bit 5 (field g d p 0)) ∷ nameFits g d (hit g d p) p ∷ countHolds (sectorCount g d p) (endByte g d p)
-    ∷ chainHolds g d (hit g d p) (length (slots g d)) p ∷ leb (sectorCount g d p) (granuleSectors * length (owned g d p)) ∷ [])
+    ∷ chainHolds g d (hit g d p) (length (slots g d)) p ∷ leb (sectorCount g d p) (granuleSectors g * length (owned g d p)) ∷ [])
 
 unfoldable pub slotFits : Geometry → List ℕ → ℕ → Bool
 slotFits g d s = all (hitHolds g d s ∷ any (not (primary g d s) ∷ fileFits g d s ∷ []) ∷ [])
@@ -69,5 +69,5 @@ pub record Seen (g : Geometry) (d ss m m′ met met′ : List ℕ) (r : Bool) : 
 
 -- `bits` has the directory's granules, as they stand in the eight bytes of the owner map from `from` on
 pub record Directory (g : Geometry) (d : List ℕ) (from bits : ℕ) : Type 0 where
-  pub spans : Spans (g .units) (g .start / granuleSectors) (directorySectors g d / granuleSectors) from
-  pub window : Window (g .units) (g .start / granuleSectors) (directorySectors g d / granuleSectors) from bits
+  pub spans : Spans (g .units) (g .start / granuleSectors g) (roundUp (directorySectors g d) (granuleSectors g)) from
+  pub window : Window (g .units) (g .start / granuleSectors g) (roundUp (directorySectors g d) (granuleSectors g)) from bits

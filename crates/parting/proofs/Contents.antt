@@ -9,14 +9,13 @@ use native.Mathlib.Numerals.{add-one}
 use lib.ListN.{length, getD, take, drop, drop-of-length-le}
 use lib.Seq.{drop-cons}
 use Rattle.meaning.specs.Entries.{sizeOf, inUse}
-use Rattle.meaning.specs.Layout.{granuleBytes}
 use Rattle.meaning.specs.Chain.{owned, place}
 use Rattle.meaning.specs.Read.{fetch}
 use Rattle.meaning.specs.declared.Geometry.{Geometry}
 use Rattle.layout.proofs.Lists.{and-l, le-or-lt}
 use Rattle.seek.specs.Seek.{Used}
 use Rattle.read.specs.Part.{File, Owned, InGranule}
-use Rattle.read.proofs.Laws.{place-fits, fetch-part, fetch-append, length-fetch}
+use Rattle.read.proofs.Laws.{in-part, place-fits, fetch-part, fetch-append, length-fetch}
 use Rattle.differences.specs.Compare.{parting}
 use Rattle.differences.specs.Parting.{parting-none, parting-nothing, parting-on, parting-here, parting-past, parting-in}
 use Rattle.rising.specs.Whole.{Whole, Starts}
@@ -56,15 +55,15 @@ module _ (g : Geometry) (d : List ℕ) (s : ℕ) (w : Whole g d) (st : Starts g 
   pub used : Used g d s
   used = record { slot = st .slot; used = and-l (inUse g d s) _ (st .first′) }
 
-  module _ (i n : ℕ) (b : 1 ≤ n) (x : i % granuleBytes + n ≤ granuleBytes) (y : i + n ≤ sizeOf g d s) (z : i + n ≤ 16777215) where
+  module _ (i n : ℕ) (b : 1 ≤ n) (x : i % 1280 + n ≤ 1280) (y : i + n ≤ sizeOf g d s) (z : i + n ≤ 16777215) where
     file : File g d s
     file = record { sound = w .sound; used = used }
 
     held : Owned g d s i n
     held = let q = w .sound .size s (st .slot) (st .first′) in record { some = b; owned = omega arith; high = z }
 
-    inside : InGranule i n
-    inside = record { inside = x }
+    inside : InGranule g i n
+    inside = in-part x
 
     pub granule-fits : place g d s i + n ≤ length d
     granule-fits = place-fits g d s i n file held inside
@@ -78,7 +77,7 @@ module _ (g : Geometry) (d : List ℕ) (s : ℕ) (w : Whole g d) (st : Starts g 
 module _ (g : Geometry) (d : List ℕ) (h : Geometry) (e : List ℕ) (s t n m end : ℕ) where
   pub record Matches (i : ℕ) : Type 0 where
     pub low : i ≤ end
-    pub start : i < end → i % granuleBytes ≡ 0
+    pub start : i < end → i % 1280 ≡ 0
     pub rest : parting (fetch g d s 0 n) (fetch h e t 0 m) ≡ i + parting (fetch g d s i (n - i)) (fetch h e t i (m - i))
 
   pub matches-start : Matches 0
@@ -102,7 +101,7 @@ module _ (g : Geometry) (d : List ℕ) (h : Geometry) (e : List ℕ) (s t n m en
         = ap (fetch h e t i) y ∙ fetch-append h e t i len (m - (i + len)) ∙ ap (λ (z : List ℕ). z ++ fetch h e t (i + len) (m - (i + len))) (sym q) in
         λ j. parting (u j) (v j)
 
-    pub matches-on : {c : ℕ} → c ≡ parting a b → c ≡ len → (i + len < end → len ≡ granuleBytes) → i < end → Matches i → Matches (i + len)
+    pub matches-on : {c : ℕ} → c ≡ parting a b → c ≡ len → (i + len < end → len ≡ 1280) → i < end → Matches i → Matches (i + len)
     matches-on r z g′ o k′ =
         let u = k′ .start o in
         let y : i + (length a + parting (fetch g d s (i + len) (n - (i + len))) (fetch h e t (i + len) (m - (i + len)))) ≡ i + len + parting (fetch g d s (i + len) (n - (i + len))) (fetch h e t (i + len) (m - (i + len)))

@@ -3,7 +3,6 @@ use meaning::Geometry;
 ghost use mathlib.Core.Path.{_≡_};
 ghost use Prim.Native.Nat.{_+_, _<_, _≤_};
 ghost use lib.ListN.{length};
-ghost use Rattle.meaning.specs.Layout.{granuleBytes};
 ghost use Rattle.meaning.specs.Entries.{sizeOf};
 ghost use Rattle.meaning.specs.Read.{fetch};
 ghost use Rattle.differences.specs.Compare.{parting};
@@ -27,7 +26,7 @@ fn alike(a: &[u8], b: &[u8]) -> usize
 // So many of the bytes from i up to `end` lie in the granule of byte i, which starts it.
 fn in_granule(i: usize, end: usize) -> usize
     requires { ⌜ i < end ⌝ }
-    ensures { λ r. ⌜ (i + r ≤ end) × (1 ≤ r) × (r ≤ granuleBytes) × (((i + r) < end) → r ≡ granuleBytes) ⌝ }
+    ensures { λ r. ⌜ (i + r ≤ end) × (1 ≤ r) × (r ≤ 1280) × (((i + r) < end) → r ≡ 1280) ⌝ }
 {
     if end - i < layout::GRANULE_BYTES {
         return end - i;

@@ -67,7 +67,7 @@ module _ (g : Geometry) (d d′ n : List ℕ) where
     pub spare : (b u : ℕ) → b < g .blocks → g .units ≤ u → digit (byte d′ (256 * g .start + b)) u ≡ digit (byte d (256 * g .start + b)) u
 
   left : Places.Fits g d → (xs ns : List ℕ) → Touch g xs ns d d′ → ((x : ℕ) → In x xs → In x (Promises.ownEntries g d n ++ Promises.ownEntries g d′ n))
-      → ((m : ℕ) → In m ns → In m (Promises.ownGranules g d′ n)) → ((b : ℕ) → b < g .blocks → In ((256 * g .start + b) / granuleBytes) ns → ⊥) → Left
+      → ((m : ℕ) → In m ns → In m (Promises.ownGranules g d′ n)) → ((b : ℕ) → b < g .blocks → In ((256 * g .start + b) / granuleBytes g) ns → ⊥) → Left
   left k xs ns t a b o = record {
     untouched = Touch.touch-aside g d k (Touch.touch-more mine (Promises.ownGranules g d′ n) a b t);
     spare = λ e u h l. Touch.touch-spare g d k t e u h l (o e h);
@@ -124,7 +124,7 @@ owns : (g : Geometry) (d : List ℕ) (p : ℕ) → length (owned g d p) ≡ file
 unfolding fileAt
 owns g d p = refl
 
-pub kill-serves : (g : Geometry) (d : List ℕ) (h : Handle) → kill g d h .0 .number ≡ 0 → Serves g d (Call.kills h)
+pub kill-serves : (g : Geometry) (d : List ℕ) (h : Handle) → kill g d h .0 .refusal .number ≡ 0 → Serves g d (Call.kills h)
 unfolding kill
 kill-serves g d h e =
     let w = Passed.holds g d h _ 1 [] e .0 in let x = KillMeans.kill-means g d h e in
@@ -134,77 +134,77 @@ kill-serves g d h e =
       becomes = by-handle g d (kill g d h .1) h w nothing (x .gone) (x .others) (x .beyond′) (x .names′) (left-before g d (kill g d h .1) (nameOf g d (h .slot)) (w .fits) (h .slot) (named-here g d (kill g d h .1) h w nothing) (x .touch)) (omega (arith, x .free));
       handle′ = refl;
       live = λ f q. absurd (let z : _≡_ {A = ℕ} 0 1 = cc in omega arith);
-      ranged = Refusing.range-iff h .0 (Passing.handle-passed g d h (inRange h) (protected g d 1 h ∷ []) e .1);
+      ranged = Refusing.range-iff g h .0 (Passing.handle-passed g d h (inRange g h) (protected g d 1 h ∷ []) e .1);
     }
 
-pub allot-serves : (g : Geometry) (d : List ℕ) (h : Handle) (k : ℕ) → allot g d h k .0 .number ≡ 0 → Serves g d (Call.allots h k)
+pub allot-serves : (g : Geometry) (d : List ℕ) (h : Handle) (k : ℕ) → allot g d h k .0 .refusal .number ≡ 0 → Serves g d (Call.allots h k)
 unfolding allot allottedTo fileAt
 allot-serves g d h k e =
     let w = Passed.holds g d h _ 4 _ e .0 in let x = Grow.allot-means g d h k e in
     record {
       file = fileAt g d (h .slot);
       mine = refl;
-      becomes = by-handle g d (allot g d h k .1) h w (found (allottedTo k (fileAt g d (h .slot)))) (x .own) (x .others) (x .beyond′) (x .names′)
+      becomes = by-handle g d (allot g d h k .1) h w (found (allottedTo g k (fileAt g d (h .slot)))) (x .own) (x .others) (x .beyond′) (x .names′)
           (left-after g d (allot g d h k .1) (nameOf g d (h .slot)) (w .fits) (h .slot) (Named.named-at g (allot g d h k .1) (Facts.sound g (allot g d h k .1) (x .consistent′)) (h .slot) (nameOf g d (h .slot)) (x .file′) (x .name′)) (x .touch)) (omega (arith, x .free));
       handle′ = refl;
       live = λ f q. alive g d (allot g d h k .1) h h w (x .file′) (x .name′) refl refl;
-      ranged = Refusing.range-iff h .0 (Passing.first-of (inRange h) (ltb k sectorNumbers)
-          (Passing.handle-passed g d h (all (inRange h ∷ ltb k sectorNumbers ∷ [])) (protected g d 4 h ∷ cannotGrow g d (h .slot) (toAllot g d h k)) e .1));
+      ranged = Refusing.range-iff g h .0 (Passing.first-of (inRange g h) (ltb k (sectorNumbers g))
+          (Passing.handle-passed g d h (all (inRange g h ∷ ltb k (sectorNumbers g) ∷ [])) (protected g d 4 h ∷ cannotGrow g d (h .slot) (toAllot g d h k)) e .1));
     }
 
-pub trim-serves : (g : Geometry) (d : List ℕ) (h : Handle) → trim g d h .0 .number ≡ 0 → Serves g d (Call.trims h)
+pub trim-serves : (g : Geometry) (d : List ℕ) (h : Handle) → trim g d h .0 .refusal .number ≡ 0 → Serves g d (Call.trims h)
 unfolding trim
 trim-serves g d h e =
     let w = Passed.holds g d h _ 4 [] e .0 in let x = Trim.trim-means g d h e in
-    let many : length (owned g (trim g d h .1) (h .slot)) ≡ trimmed (fileAt g d (h .slot)) .granules = owns g (trim g d h .1) (h .slot) ∙ ap (λ (f : File). f .granules) (x .told) in
+    let many : length (owned g (trim g d h .1) (h .slot)) ≡ trimmed g (fileAt g d (h .slot)) .granules = owns g (trim g d h .1) (h .slot) ∙ ap (λ (f : File). f .granules) (x .told) in
     record {
       file = fileAt g d (h .slot);
       mine = refl;
-      becomes = by-handle g d (trim g d h .1) h w (found (trimmed (fileAt g d (h .slot)))) (x .own) (x .others) (x .beyond′) (x .names′)
+      becomes = by-handle g d (trim g d h .1) h w (found (trimmed g (fileAt g d (h .slot)))) (x .own) (x .others) (x .beyond′) (x .names′)
           (left-before g d (trim g d h .1) (nameOf g d (h .slot)) (w .fits) (h .slot) (named-here g d (trim g d h .1) h w nothing) (x .touch))
           (x .free ∙ ap (λ (n : ℕ). length (freeGranules g (trim g d h .1)) + n) many);
       handle′ = refl;
       live = λ f q. alive g d (trim g d h .1) h h w (x .file′) (x .name′) refl refl;
-      ranged = Refusing.range-iff h .0 (Passing.handle-passed g d h (inRange h) (protected g d 4 h ∷ []) e .1);
+      ranged = Refusing.range-iff g h .0 (Passing.handle-passed g d h (inRange g h) (protected g d 4 h ∷ []) e .1);
     }
 
 -- a GAT byte of a block lies in the directory
-gat-in : (g : Geometry) (d : List ℕ) → Facts.Sound g d → Places.Fits g d → (b : ℕ) → b < g .blocks → In ((256 * g .start + b) / granuleBytes) (directoryGranules g d)
+gat-in : (g : Geometry) (d : List ℕ) → Facts.Sound g d → Places.Fits g d → (b : ℕ) → b < g .blocks → In ((256 * g .start + b) / granuleBytes g) (directoryGranules g d)
 unfolding words
 gat-in g d c k b h = Write.in-directory g d (256 * g .start + b) (k .start-at) (Places.dir g d (c .dir)) (omega arith) (omega (arith, k .blocks-hi))
 
-write-range : (g : Geometry) (d : List ℕ) (m : Mode) (h : Handle) (b : List ℕ) → writeRecord g d m h b .0 .number ≡ 0 → InRange (movedTo h (h .at + h .len))
+write-range : (g : Geometry) (d : List ℕ) (m : Mode) (h : Handle) (b : List ℕ) → writeRecord g d m h b .0 .refusal .number ≡ 0 → InRange g (movedTo h (h .at + h .len))
 unfolding writeRecord all
 write-range g d m h b e =
-    let far = leb (h .at + h .len) highest in let room = leb (h .len) (length b) in
-    let t = Passing.handle-passed g d h (all (inRange h ∷ far ∷ room ∷ [])) (protected g d 4 h ∷ cannotGrow g d (h .slot) (toWrite g d m h)) e .1 in
-    let u = Members.and-r (inRange h) (far && (room && true)) t in
-    Passing.further h (h .at + h .len) (Refusing.range-iff h .0 (Members.and-l (inRange h) (far && (room && true)) t)) (leb→le (h .at + h .len) highest (Members.and-l far (room && true) u))
+    let far = leb (h .at + h .len) (highest g) in let room = leb (h .len) (length b) in
+    let t = Passing.handle-passed g d h (all (inRange g h ∷ far ∷ room ∷ [])) (protected g d 4 h ∷ cannotGrow g d (h .slot) (toWrite g d m h)) e .1 in
+    let u = Members.and-r (inRange g h) (far && (room && true)) t in
+    Passing.further g h (h .at + h .len) (Refusing.range-iff g h .0 (Members.and-l (inRange g h) (far && (room && true)) t)) (leb→le (h .at + h .len) (highest g) (Members.and-l far (room && true) u))
 
-pub write-serves : (g : Geometry) (d : List ℕ) (m : Mode) (h : Handle) (b : List ℕ) → writeRecord g d m h b .0 .number ≡ 0 → Serves g d (Call.writes m h b)
+pub write-serves : (g : Geometry) (d : List ℕ) (m : Mode) (h : Handle) (b : List ℕ) → writeRecord g d m h b .0 .refusal .number ≡ 0 → Serves g d (Call.writes m h b)
 write-serves g d m h b e =
     let w = WriteMeans.write-wrote g d m h b e .0 in let x = WriteMeans.write-wrote g d m h b e .1 in
     let d′ = writeRecord g d m h b .1 in let p = h .slot in
-    let many : length (owned g d′ p) ≡ writtenTo m (h .at) (take (h .len) b) (fileAt g d p) .granules = owns g d′ p ∙ ap (λ (f : File). f .granules) (x .told) in
+    let many : length (owned g d′ p) ≡ writtenTo g m (h .at) (take (h .len) b) (fileAt g d p) .granules = owns g d′ p ∙ ap (λ (f : File). f .granules) (x .told) in
     let c′ = Facts.sound g d′ (x .consistent′) in
     let at : named g d′ (nameOf g d p) ≡ p ∷ [] = Named.named-at g d′ c′ p (nameOf g d p) (x .file′) (x .name′) in
     record {
       file = fileAt g d p;
       mine = refl;
-      becomes = by-handle g d d′ h w (found (writtenTo m (h .at) (take (h .len) b) (fileAt g d p))) (x .own) (x .others) (x .beyond′) (x .names′)
+      becomes = by-handle g d d′ h w (found (writtenTo g m (h .at) (take (h .len) b) (fileAt g d p))) (x .own) (x .others) (x .beyond′) (x .names′)
           (left g d d′ (nameOf g d p) (w .fits) (chain g d′ p) (owned g d′ p) (x .touch) (λ y i. entries-after g d d′ (nameOf g d p) p y at i) (λ n i. rw at (Members.in-append-l [] i))
-          (λ b l i. x .apart ((256 * g .start + b) / granuleBytes) i (gat-in g d′ c′ (WriteMeans.fits-after g d d′ (w .fits) (x .long)) b l)))
+          (λ b l i. x .apart ((256 * g .start + b) / granuleBytes g) i (gat-in g d′ c′ (WriteMeans.fits-after g d d′ (w .fits) (x .long)) b l)))
           (x .free ∙ ap (λ (n : ℕ). length (freeGranules g d′) + n) many);
       handle′ = moved e;
       live = λ f q. alive g d d′ h (writeRecord g d m h b .0 .handle) w (x .file′) (x .name′) (ap (λ (k : Handle). k .slot) (moved e)) (ap (λ (k : Handle). k .name) (moved e));
-      ranged = subst InRange (sym (moved e)) (write-range g d m h b e);
+      ranged = subst (InRange g) (sym (moved e)) (write-range g d m h b e);
     }
   where
-    moved : writeRecord g d m h b .0 .number ≡ 0 → writeRecord g d m h b .0 .handle ≡ movedTo h (h .at + h .len)
+    moved : writeRecord g d m h b .0 .refusal .number ≡ 0 → writeRecord g d m h b .0 .handle ≡ movedTo h (h .at + h .len)
     moved e = unfold writeRecord in rw e
 
 -- a file born
-pub create-becomes : (g : Geometry) (d n : List ℕ) (f : NewFile) (checking : Bool) → create g d n f checking .0 .number ≡ 0 → create g d n f checking .0 .old ≡ false
+pub create-becomes : (g : Geometry) (d n : List ℕ) (f : NewFile) (checking : Bool) → create g d n f checking .0 .refusal .number ≡ 0 → create g d n f checking .0 .old ≡ false
     → Becomes g d (create g d n f checking .1) n nothing (found (bornAs f))
 unfolding bornAs
 create-becomes g d n f checking e o =

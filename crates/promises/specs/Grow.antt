@@ -8,7 +8,7 @@ use native.Mathlib.Omega.{arith}
 use lib.ListN.{length, length-append}
 use lib.Dec.{T, ltb, not-T, nltb→le}
 use Rattle.meaning.specs.Lists.{count}
-use Rattle.meaning.specs.Layout.{granules, byte, field, directoryGranules, granuleBytes, granuleSectors, aboveTen}
+use Rattle.meaning.specs.Layout.{granules, byte, field, directoryGranules, granuleBytes, granuleSectors, aboveTen, roundUp}
 use Rattle.meaning.specs.Entries.{system, nameOf}
 use Rattle.meaning.specs.Chain.{chain, owned}
 use Rattle.meaning.specs.Consistent.{consistent}
@@ -51,7 +51,7 @@ pub record Grew (g : Geometry) (d d′ : List ℕ) (p k : ℕ) : Type 0 where
   pub touch : Touch g (chain g d′ p) [] d d′
   pub entries : (x : ℕ) → In x (chain g d p) → In x (chain g d′ p)
   pub slots : length (freeSlots g d) + length (chain g d p) ≡ length (freeSlots g d′) + length (chain g d′ p)
-  pub same : (i : ℕ) → (In (i / granuleBytes) (directoryGranules g d) → ⊥) → byte d′ i ≡ byte d i
+  pub same : (i : ℕ) → (In (i / granuleBytes g) (directoryGranules g d) → ⊥) → byte d′ i ≡ byte d i
 
 module _ (g : Geometry) where
   grew-none : (d : List ℕ) (p : ℕ) → Sound g d → Places.Fits g d → File g d p → T (not (system g d p)) → Grew g d d p 0
@@ -101,7 +101,7 @@ module _ (g : Geometry) where
     touch = Touch.touch-then (Touch.touch-more (chain g e p) [] (y .entries) (λ n i. i) (x .touch)) (y .touch);
     entries = λ z i. y .entries z (x .entries z i);
     slots = x .slots ∙ y .slots;
-    same = λ i o. y .same i (λ z. o (subst (λ (v : ℕ). In (i / granuleBytes) (count (g .start / granuleSectors) ((10 + v) / granuleSectors))) (x .above) z)) ∙ x .same i o;
+    same = λ i o. y .same i (λ z. o (subst (λ (v : ℕ). In (i / granuleBytes g) (count (g .start / granuleSectors g) (roundUp (10 + v) (granuleSectors g)))) (x .above) z)) ∙ x .same i o;
   }
 
   pub grow-grew : (k : ℕ) (d d′ : List ℕ) (p : ℕ) → Sound g d → Places.Fits g d → File g d p → T (not (system g d p)) → k ≤ length (freeGranules g d)
@@ -134,7 +134,7 @@ pub record AllotMeans (g : Geometry) (d d′ : List ℕ) (p k : ℕ) : Type 0 wh
   pub long : length d′ ≡ length d
   pub consistent′ : consistent g d′ ≡ true
   pub reserved′ : reserved g d′ ≡ reserved g d
-  pub own : plain g d′ (nameOf g d p) ≡ found (allottedTo k (fileAt g d p))
+  pub own : plain g d′ (nameOf g d p) ≡ found (allottedTo g k (fileAt g d p))
   pub others : (n : List ℕ) → n ≢ nameOf g d p → hush (plain g d′ n) ≡ hush (plain g d n)
   pub beyond′ : (n : List ℕ) → n ≢ nameOf g d p → beyond g d′ n ≡ beyond g d n
   pub names′ : (n : List ℕ) → n ≢ nameOf g d p → named g d′ n ≡ named g d n
@@ -142,9 +142,9 @@ pub record AllotMeans (g : Geometry) (d d′ : List ℕ) (p k : ℕ) : Type 0 wh
   pub file′ : File g d′ p
   pub name′ : nameOf g d′ p ≡ nameOf g d p
   pub small : Small d → Small d′
-  pub free : length (freeGranules g d) ≡ length (freeGranules g d′) + lacking g d p (k / granuleSectors + 1)
+  pub free : length (freeGranules g d) ≡ length (freeGranules g d′) + lacking g d p (k / granuleSectors g + 1)
 
-allotted : (g : Geometry) (d d′ : List ℕ) (p k : ℕ) → Grew g d d′ p (lacking g d p (k / granuleSectors + 1)) → fileAt g d′ p ≡ allottedTo k (fileAt g d p)
+allotted : (g : Geometry) (d d′ : List ℕ) (p k : ℕ) → Grew g d d′ p (lacking g d p (k / granuleSectors g + 1)) → fileAt g d′ p ≡ allottedTo g k (fileAt g d p)
 unfolding fileAt allottedTo
 allotted g d d′ p k x = λ i. record {
   attributes = x .kept .attributes i;
@@ -152,16 +152,16 @@ allotted g d d′ p k x = λ i. record {
   bytes = x .kept .bytes i;
 }
   where
-    many : length (owned g d′ p) ≡ max (length (owned g d p)) (k / granuleSectors + 1)
+    many : length (owned g d′ p) ≡ max (length (owned g d p)) (k / granuleSectors g + 1)
     many = ap length (x .owned′) ∙ length-append (owned g d p) (x .new) ∙ omega (arith, x .many)
 
-pub allot-means : (g : Geometry) (d : List ℕ) (h : Handle) (k : ℕ) → allot g d h k .0 .number ≡ 0 → AllotMeans g d (allot g d h k .1) (h .slot) k
+pub allot-means : (g : Geometry) (d : List ℕ) (h : Handle) (k : ℕ) → allot g d h k .0 .refusal .number ≡ 0 → AllotMeans g d (allot g d h k .1) (h .slot) k
 unfolding allot
 allot-means g d h k e =
     let p = h .slot in
-    let w = Passed.holds g d h _ 4 (cannotGrow g d p (lacking g d p (k / granuleSectors + 1))) e in
-    let x = larger-grew g d h (lacking g d p (k / granuleSectors + 1)) (w .0) (w .1) in
-    let d′ = larger g d p (lacking g d p (k / granuleSectors + 1)) in
+    let w = Passed.holds g d h _ 4 (cannotGrow g d p (lacking g d p (k / granuleSectors g + 1))) e in
+    let x = larger-grew g d h (lacking g d p (k / granuleSectors g + 1)) (w .0) (w .1) in
+    let d′ = larger g d p (lacking g d p (k / granuleSectors g + 1)) in
     rw e (record {
       long = x .kept .long;
       consistent′ = Facts.back g d′ (x .kept .sound);

@@ -20,7 +20,8 @@ use Rattle.meaning.specs.Chain.{chain, owned, files}
 use Rattle.meaning.specs.Consistent.{consistent}
 use Rattle.meaning.specs.Free.{freeGranules, freeSlots}
 use Rattle.meaning.specs.Growth.{grown, grow, tail, lengthens}
-use Rattle.meaning.specs.Fault.{fault, unplaced}
+use Rattle.meaning.specs.Refusal.{unplaced}
+use Rattle.meaning.specs.Fault.{fault}
 use Rattle.meaning.specs.Refusals.{check, movedTo, noHandle, faultNumbers}
 use Rattle.meaning.specs.LookUp.{lookUp, named}
 use Rattle.meaning.specs.Open.{open′}
@@ -59,19 +60,19 @@ pub data Call : Type 0 where
 
 -- the number that it answers, 0 where it is accepted
 unfoldable pub number : Geometry → List ℕ → Call → ℕ
-number g d checks = check g d
-number g d (looksUp n) = lookUp g d n .number
-number g d (opens n len checking code) = open′ g d n len checking code .number
-number g d (creates n f checking) = create g d n f checking .0 .number
-number g d (reads h b) = readRecord g d h b .0 .number
-number g d (readsSector h k) = readSector g d h k .number
-number g d (writes m h b) = writeRecord g d m h b .0 .number
-number g d (allots h k) = allot g d h k .0 .number
-number g d (trims h) = trim g d h .0 .number
-number g d (kills h) = kill g d h .0 .number
-number g d (lists i) = Listing.list g d i .number
-number g d counts = Listing.counts g d .number
-number g d measures = freeSpace g d .number
+number g d checks = check g d .number
+number g d (looksUp n) = lookUp g d n .refusal .number
+number g d (opens n len checking code) = open′ g d n len checking code .refusal .number
+number g d (creates n f checking) = create g d n f checking .0 .refusal .number
+number g d (reads h b) = readRecord g d h b .0 .refusal .number
+number g d (readsSector h k) = readSector g d h k .refusal .number
+number g d (writes m h b) = writeRecord g d m h b .0 .refusal .number
+number g d (allots h k) = allot g d h k .0 .refusal .number
+number g d (trims h) = trim g d h .0 .refusal .number
+number g d (kills h) = kill g d h .0 .refusal .number
+number g d (lists i) = Listing.list g d i .refusal .number
+number g d counts = Listing.counts g d .refusal .number
+number g d measures = freeSpace g d .refusal .number
 
 -- the image that it leaves
 unfoldable pub leaves : Geometry → List ℕ → Call → List ℕ
@@ -161,8 +162,8 @@ abbrev pub LengthInRange : ℕ → Type 0
 LengthInRange len = (1 ≤ len) × (len ≤ 256)
 
 -- position 0 to 1,966,080, level 0 to 7
-pub record InRange (h : Handle) : Type 0 where
-  pub at : h .at ≤ highest
+pub record InRange (g : Geometry) (h : Handle) : Type 0 where
+  pub at : h .at ≤ highest g
   pub length′ : LengthInRange (h .len)
   pub level : h .level ≤ 7
 
@@ -174,7 +175,7 @@ pub record Changes (g : Geometry) (d d′ : List ℕ) (h h′ : Handle) (u : Fil
   pub becomes : Becomes g d d′ (h .name) (found file) (u file)
   pub handle′ : h′ ≡ moved
   pub live : (f : File) → u file ≡ found f → Live g d′ h′
-  pub ranged : InRange h′
+  pub ranged : InRange g h′
 
 -- 3. What an accepted call answers ------------------------------------------------------------------------------------------------------
 
@@ -210,7 +211,7 @@ pub record Opened (g : Geometry) (d n : List ℕ) (len : ℕ) (checking : Bool) 
   pub file : File
   pub called : plain g d n ≡ found file
   pub live : Live g d h
-  pub ranged : InRange h
+  pub ranged : InRange g h
   pub name″ : h .name ≡ n
   pub start : h .at ≡ 0
   pub length′ : h .len ≡ len
@@ -223,7 +224,7 @@ pub record Creates (g : Geometry) (d n : List ℕ) (f : NewFile) (checking : Boo
       → Opened g d n (f .len) checking (f .main) (create g d n f checking .0 .handle) × (create g d n f checking .1 ≡ d)
   pub new : create g d n f checking .0 .old ≡ false
       → Becomes g d (create g d n f checking .1) n nothing (found (bornAs f))
-      × Live g (create g d n f checking .1) (create g d n f checking .0 .handle) × InRange (create g d n f checking .0 .handle)
+      × Live g (create g d n f checking .1) (create g d n f checking .0 .handle) × InRange g (create g d n f checking .0 .handle)
   pub handle′ : create g d n f checking .0 .old ≡ false
       → create g d n f checking .0 .handle ≡ record { slot = firstOr 0 (freeSlots g d); name = n; at = 0; len = f .len; level = 0 }
 
@@ -234,7 +235,7 @@ pub record Reads (g : Geometry) (d : List ℕ) (h : Handle) (b : List ℕ) : Typ
   pub inside : h .at + h .len ≤ length (file .bytes)
   pub buffer : readRecord g d h b .1 ≡ take (h .len) (drop (h .at) (file .bytes)) ++ drop (h .len) b
   pub handle′ : readRecord g d h b .0 .handle ≡ movedTo h (h .at + h .len)
-  pub ranged : InRange (readRecord g d h b .0 .handle)
+  pub ranged : InRange g (readRecord g d h b .0 .handle)
 
 -- Read sector k: the image's bytes from one place up to another, 1 to 256 of them, are the plain file's bytes 256k and on
 pub record ReadsSector (g : Geometry) (d : List ℕ) (h : Handle) (k : ℕ) : Type 0 where
@@ -252,11 +253,11 @@ ith g d i = getD (listed g d) i 0
 -- Listing: number i tells the i-th file by rising slot, name, size and granules owned, and "no more" from FILES on
 pub record Lists (g : Geometry) (d : List ℕ) (i : ℕ) : Type 0 where
   pub tells : i < length (listed g d) → Listing.list g d i
-      ≡ record { number = 0; more = true; name = nameOf g d (ith g d i); size = length (fileAt g d (ith g d i) .bytes); granules = fileAt g d (ith g d i) .granules }
+      ≡ record { refusal = unplaced 0; more = true; name = nameOf g d (ith g d i); size = length (fileAt g d (ith g d i) .bytes); granules = fileAt g d (ith g d i) .granules }
   pub file : i < length (listed g d) → plain g d (nameOf g d (ith g d i)) ≡ found (fileAt g d (ith g d i))
   pub shown : i < length (listed g d) → T (not (isSystem (fileAt g d (ith g d i))))
   pub rising : (j : ℕ) → j < i → i < length (listed g d) → ith g d j < ith g d i
-  pub ends : length (listed g d) ≤ i → Listing.list g d i ≡ noFile 0
+  pub ends : length (listed g d) ≤ i → Listing.list g d i ≡ noFile (unplaced 0)
 
 -- Counts: FILES is how many numbers the listing tells, FREE the number of clear GAT bits in range. Each file that is no system file is
 -- told, under one number only.
@@ -290,9 +291,9 @@ Serves g d (creates n f checking) = Creates g d n f checking
 Serves g d (reads h b) = Reads g d h b
 Serves g d (readsSector h k) = ReadsSector g d h k
 Serves g d (writes m h b) =
-    Changes g d (writeRecord g d m h b .1) h (writeRecord g d m h b .0 .handle) (λ f. found (writtenTo m (h .at) (take (h .len) b) f)) (movedTo h (h .at + h .len))
-Serves g d (allots h k) = Changes g d (allot g d h k .1) h (allot g d h k .0 .handle) (λ f. found (allottedTo k f)) h
-Serves g d (trims h) = Changes g d (trim g d h .1) h (trim g d h .0 .handle) (λ f. found (trimmed f)) h
+    Changes g d (writeRecord g d m h b .1) h (writeRecord g d m h b .0 .handle) (λ f. found (writtenTo g m (h .at) (take (h .len) b) f)) (movedTo h (h .at + h .len))
+Serves g d (allots h k) = Changes g d (allot g d h k .1) h (allot g d h k .0 .handle) (λ f. found (allottedTo g k f)) h
+Serves g d (trims h) = Changes g d (trim g d h .1) h (trim g d h .0 .handle) (λ f. found (trimmed g f)) h
 Serves g d (kills h) = Changes g d (kill g d h .1) h (kill g d h .0 .handle) (λ f. nothing) h
 Serves g d (lists i) = Lists g d i
 Serves g d counts = Counted g d
@@ -303,8 +304,8 @@ Serves g d measures = Measured g d
 -- look up returns its count as well under 4, and 0 under 1, 2 and 3
 pub record NotFound (g : Geometry) (d n : List ℕ) : Type 0 where
   pub slot : lookUp g d n .slot ≡ 0
-  pub all′ : lookUp g d n .number ≡ 4 → lookUp g d n .compared ≡ length (keep (λ x. eqb (hit g d x) (hash n)) (slots g d))
-  pub none : lookUp g d n .number ≢ 4 → lookUp g d n .compared ≡ 0
+  pub all′ : lookUp g d n .refusal .number ≡ 4 → lookUp g d n .compared ≡ length (keep (λ x. eqb (hit g d x) (hash n)) (slots g d))
+  pub none : lookUp g d n .refusal .number ≢ 4 → lookUp g d n .compared ≡ 0
 
 -- beside the image, which is as it stood: handle and buffer as they stood, a refused open or create a handle of zeros, a refused sector
 -- read an empty part
@@ -319,7 +320,7 @@ Refuses g d (writes m h b) = writeRecord g d m h b .0 .handle ≡ h
 Refuses g d (allots h k) = allot g d h k .0 .handle ≡ h
 Refuses g d (trims h) = trim g d h .0 .handle ≡ h
 Refuses g d (kills h) = kill g d h .0 .handle ≡ h
-Refuses g d (lists i) = Listing.list g d i ≡ noFile (Listing.list g d i .number)
+Refuses g d (lists i) = Listing.list g d i ≡ noFile (Listing.list g d i .refusal)
 Refuses g d counts = (Listing.counts g d .files ≡ 0) × (Listing.counts g d .free ≡ 0)
 Refuses g d measures = (freeSpace g d .free ≡ 0) × (freeSpace g d .longest ≡ 0)
 
@@ -344,8 +345,8 @@ pub record Fits (g : Geometry) (d : List ℕ) : Type 0 where
   pub blocks-hi : g .blocks ≤ mostBlocks
   pub units-lo : 1 ≤ g .units
   pub units-hi : g .units ≤ mostUnits
-  pub start-at : g .start % granuleSectors ≡ 0
-  pub long : length d ≡ granules g * granuleBytes
+  pub start-at : g .start % granuleSectors g ≡ 0
+  pub long : length d ≡ granules g * granuleBytes g
   pub ten : g .start + 10 ≤ sectors g
 
 -- day 0 to 31, month and year offset 0 to 15
@@ -415,15 +416,15 @@ module _ (g : Geometry) (d : List ℕ) where
   table (creates n f checking) =
       diskCases ((12, (NewInRange f → ⊥)) ∷ (3, wellFormed n ≡ false) ∷ (5, WrongCode n checking (f .main)) ∷ (8, NoFile n × (freeSlots g d ≡ [])) ∷ [])
   table (reads h b) =
-      handleCases h (InRange h × (h .len ≤ length b)) ((6, 5 < h .level) ∷ (10, length (fileOf h .bytes) < h .at + h .len) ∷ [])
+      handleCases h (InRange g h × (h .len ≤ length b)) ((6, 5 < h .level) ∷ (10, length (fileOf h .bytes) < h .at + h .len) ∷ [])
   table (readsSector h k) =
-      handleCases h (InRange h × (k < sectorNumbers)) ((6, 5 < h .level) ∷ (10, sectorCount g d (h .slot) ≤ k) ∷ [])
+      handleCases h (InRange g h × (k < sectorNumbers g)) ((6, 5 < h .level) ∷ (10, sectorCount g d (h .slot) ≤ k) ∷ [])
   table (writes m h b) =
-      handleCases h (InRange h × (h .at + h .len ≤ highest) × (h .len ≤ length b))
-      (barred 4 h ∷ growthCases h (lacks h (granulesFor (sizeAfter m (length (fileOf h .bytes)) (h .at + h .len)))))
-  table (allots h k) = handleCases h (InRange h × (k < sectorNumbers)) (barred 4 h ∷ growthCases h (lacks h (granulesTo k)))
-  table (trims h) = handleCases h (InRange h) (barred 4 h ∷ [])
-  table (kills h) = handleCases h (InRange h) (barred 1 h ∷ [])
+      handleCases h (InRange g h × (h .at + h .len ≤ highest g) × (h .len ≤ length b))
+      (barred 4 h ∷ growthCases h (lacks h (granulesFor g (sizeAfter m (length (fileOf h .bytes)) (h .at + h .len)))))
+  table (allots h k) = handleCases h (InRange g h × (k < sectorNumbers g)) (barred 4 h ∷ growthCases h (lacks h (granulesTo g k)))
+  table (trims h) = handleCases h (InRange g h) (barred 4 h ∷ [])
+  table (kills h) = handleCases h (InRange g h) (barred 1 h ∷ [])
   table (lists i) = diskCases []
   table counts = diskCases []
   table measures = (1, (Fits g d → ⊥)) ∷ []
@@ -468,7 +469,7 @@ GatAlone = (g : Geometry) (d d′ : List ℕ) → length d′ ≡ length d → (
 -- After an accepted write a read of that length at that position, by the same handle, is accepted and answers the record, whatever the
 -- buffer; and every byte of the file outside the record and the gap is as it was, the gap zero.
 pub record ReadsBack (g : Geometry) (d : List ℕ) (m : Mode) (h : Handle) (b : List ℕ) : Type 0 where
-  pub accepted′ : (b′ : List ℕ) → h .len ≤ length b′ → readRecord g (writeRecord g d m h b .1) h b′ .0 .number ≡ 0
+  pub accepted′ : (b′ : List ℕ) → h .len ≤ length b′ → readRecord g (writeRecord g d m h b .1) h b′ .0 .refusal .number ≡ 0
   pub record′ : (b′ : List ℕ) → h .len ≤ length b′ → readRecord g (writeRecord g d m h b .1) h b′ .1 ≡ take (h .len) b ++ drop (h .len) b′
   pub kept : (j : ℕ) → j < length (fileAt g d (h .slot) .bytes) → j < length (fileAt g (writeRecord g d m h b .1) (h .slot) .bytes) → (j < h .at) ⊎ (h .at + h .len ≤ j)
       → getD (fileAt g (writeRecord g d m h b .1) (h .slot) .bytes) j 0 ≡ getD (fileAt g d (h .slot) .bytes) j 0
@@ -476,4 +477,4 @@ pub record ReadsBack (g : Geometry) (d : List ℕ) (m : Mode) (h : Handle) (b : 
   pub size : length (fileAt g (writeRecord g d m h b .1) (h .slot) .bytes) ≡ sizeAfter m (length (fileAt g d (h .slot) .bytes)) (h .at + h .len)
 
 abbrev pub EveryWrite : Type 0
-EveryWrite = (g : Geometry) (d : List ℕ) (m : Mode) (h : Handle) (b : List ℕ) → writeRecord g d m h b .0 .number ≡ 0 → ReadsBack g d m h b
+EveryWrite = (g : Geometry) (d : List ℕ) (m : Mode) (h : Handle) (b : List ℕ) → writeRecord g d m h b .0 .refusal .number ≡ 0 → ReadsBack g d m h b

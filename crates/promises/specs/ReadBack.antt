@@ -52,7 +52,7 @@ module _ (m : Mode) (O : List ℕ) (at : ℕ) (r : List ℕ) where
   over-gap : (j : ℕ) → length O ≤ j → j < at → getD (overwritten m O at r) j 0 ≡ 0
   over-gap j a b = over-at j (omega (arith, Rewrite.after-end m (length O) (at + length r))) ∙ Over.whole-zero O r at j a b
 
-module _ (g : Geometry) (d : List ℕ) (m : Mode) (h : Handle) (b : List ℕ) (e : writeRecord g d m h b .0 .number ≡ 0) where
+module _ (g : Geometry) (d : List ℕ) (m : Mode) (h : Handle) (b : List ℕ) (e : writeRecord g d m h b .0 .refusal .number ≡ 0) where
   abbrev d′ : List ℕ
   d′ = writeRecord g d m h b .1
 
@@ -65,7 +65,7 @@ module _ (g : Geometry) (d : List ℕ) (m : Mode) (h : Handle) (b : List ℕ) (e
   abbrev O : List ℕ
   O = fileAt g d (h .slot) .bytes
 
-  wrote : WriteMeans.Wrote g d (writeRecord g d m h b .1) (h .slot) (writtenTo m (h .at) (take (h .len) b) (fileAt g d (h .slot)))
+  wrote : WriteMeans.Wrote g d (writeRecord g d m h b .1) (h .slot) (writtenTo g m (h .at) (take (h .len) b) (fileAt g d (h .slot)))
   wrote = WriteMeans.write-wrote g d m h b e .1
 
   new : fileAt g (writeRecord g d m h b .1) (h .slot) .bytes ≡ overwritten m (fileAt g d (h .slot) .bytes) (h .at) (take (h .len) b)
@@ -128,7 +128,7 @@ module _ (g : Geometry) (d : List ℕ) (m : Mode) (h : Handle) (b : List ℕ) (e
         λ l. omega (arith, size, Rewrite.after-end m (length O) (h .at + h .len)),
       )
 
-  accepted : (b′ : List ℕ) → h .len ≤ length b′ → readRecord g (writeRecord g d m h b .1) h b′ .0 .number ≡ 0
+  accepted : (b′ : List ℕ) → h .len ≤ length b′ → readRecord g (writeRecord g d m h b .1) h b′ .0 .refusal .number ≡ 0
   unfolding number
   accepted b′ room = read-passes b′ room
 

@@ -56,14 +56,14 @@ module _ (g : Geometry) where
   -- one step: what is before the pairs stays, and so does every byte beyond the directory
   pub resized-one : (d d′ : List ℕ) (p : ℕ) → Sound g d → Places.Fits g d → T (not (system g d p)) → (Small d → Small d′) → Change.Change g d d′ p → length d′ ≡ length d
       → File g d′ p → ((j : ℕ) → j < 0x16 → field g d′ p j ≡ field g d p j)
-      → ((i : ℕ) → (In (i / granuleBytes) (directoryGranules g d) → ⊥) → byte d′ i ≡ byte d i)
+      → ((i : ℕ) → (In (i / granuleBytes g) (directoryGranules g d) → ⊥) → byte d′ i ≡ byte d i)
       → fileAt g d′ p .attributes ≡ fileAt g d p .attributes → fileAt g d′ p .bytes ≡ fileAt g d p .bytes → Resized g d d′ p
   resized-one d d′ p c k u b h l f low same at bs =
       let s : Others.Same g d d′ p = λ i a b e. same i a in
       let n : nameOf g d′ p ≡ nameOf g d p = Frame.nameOf-bytes g d d′ p (λ j a b. low j (omega arith)) in
       record {
         sound = Change.changed g d d′ c p h;
-        fits = record { blocks-lo = k .blocks-lo; blocks-hi = k .blocks-hi; units-lo = k .units-lo; units-hi = k .units-hi; start-at = k .start-at; size = l ∙ k .size };
+        fits = Places.as-long k l;
         file = f;
         user = rw (low 0 (omega arith)) u;
         long = l;

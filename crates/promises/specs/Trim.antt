@@ -9,6 +9,7 @@ use lib.ListN.{length, length-append}
 use lib.Dec.{T}
 use Rattle.meaning.specs.Lists.{times}
 use Rattle.meaning.specs.Layout.{granules, granuleBytes, granulesFor}
+use Rattle.meaning.specs.Sizes
 use Rattle.meaning.specs.Entries.{system, nameOf, sizeOf, keepsSpace}
 use Rattle.meaning.specs.Chain.{chain, owned}
 use Rattle.meaning.specs.Consistent.{consistent}
@@ -90,43 +91,43 @@ module _ (g : Geometry) where
   }
 
   pub times-shrank : (k : ℕ) (d : List ℕ) (p : ℕ) → Sound g d → Places.Fits g d → File g d p → T (not (system g d p))
-      → sizeOf g d p + granuleBytes * k ≤ granuleBytes * length (owned g d p) → Shrank g d (times k (dropOne g p) d) p k
+      → sizeOf g d p + granuleBytes g * k ≤ granuleBytes g * length (owned g d p) → Shrank g d (times k (dropOne g p) d) p k
   times-shrank zero d p c w f u room = shrank-none d p c w f u
   times-shrank (suc k) d p c w f u room =
       let d₁ = dropOne g p d in
       let x = shrank-one d d₁ p c w f u (λ b. Bytes.drop-small g d c w p f b) (DropLast.drop-one g d c w p f u (omega arith)) in
       let l = ap length (x .owned′) ∙ length-append (owned g d₁ p) (x .old) in
       subst (λ (j : ℕ). Shrank g d (times k (dropOne g p) d₁) p j) (omega arith)
-      (shrank-trans d d₁ (times k (dropOne g p) d₁) p 1 k x (times-shrank k d₁ p (x .kept .sound) (x .kept .fits) (x .kept .file) (x .kept .user) (omega (arith, x .size, x .many, l))))
+      (shrank-trans d d₁ (times k (dropOne g p) d₁) p 1 k x (times-shrank k d₁ p (x .kept .sound) (x .kept .fits) (x .kept .file) (x .kept .user) (omega (arith, x .size, ap (granuleBytes g *_) (l ∙ ap (length (owned g d₁ p) +_) (x .many))))))
 
 pub record TrimMeans (g : Geometry) (d d′ : List ℕ) (p : ℕ) : Type 0 where
   pub long : length d′ ≡ length d
   pub consistent′ : consistent g d′ ≡ true
   pub reserved′ : reserved g d′ ≡ reserved g d
-  pub own : plain g d′ (nameOf g d p) ≡ found (trimmed (fileAt g d p))
+  pub own : plain g d′ (nameOf g d p) ≡ found (trimmed g (fileAt g d p))
   pub others : (n : List ℕ) → n ≢ nameOf g d p → hush (plain g d′ n) ≡ hush (plain g d n)
   pub beyond′ : (n : List ℕ) → n ≢ nameOf g d p → beyond g d′ n ≡ beyond g d n
   pub names′ : (n : List ℕ) → n ≢ nameOf g d p → named g d′ n ≡ named g d n
   pub touch : Touch g (chain g d p) [] d d′
   pub file′ : File g d′ p
   pub name′ : nameOf g d′ p ≡ nameOf g d p
-  pub told : fileAt g d′ p ≡ trimmed (fileAt g d p)
+  pub told : fileAt g d′ p ≡ trimmed g (fileAt g d p)
   pub free : length (freeGranules g d) + length (owned g d p) ≡ length (freeGranules g d′) + length (owned g d′ p)
   pub small : Small d → Small d′
 
-trim-kept : (g : Geometry) (d : List ℕ) (p : ℕ) → T (keepsSpace g d p) → fileAt g d p ≡ trimmed (fileAt g d p)
+trim-kept : (g : Geometry) (d : List ℕ) (p : ℕ) → T (keepsSpace g d p) → fileAt g d p ≡ trimmed g (fileAt g d p)
 unfolding trimmed fileAt
 trim-kept g d p t = rw (Members.T-true {b = keepsSpace g d p} t)
 
-trim-done : (g : Geometry) (d d′ : List ℕ) (p : ℕ) → (T (keepsSpace g d p) → ⊥) → granulesFor (sizeOf g d p) ≤ length (owned g d p)
-    → Shrank g d d′ p (length (owned g d p) - granulesFor (sizeOf g d p)) → fileAt g d′ p ≡ trimmed (fileAt g d p)
+trim-done : (g : Geometry) (d d′ : List ℕ) (p : ℕ) → (T (keepsSpace g d p) → ⊥) → granulesFor g (sizeOf g d p) ≤ length (owned g d p)
+    → Shrank g d d′ p (length (owned g d p) - granulesFor g (sizeOf g d p)) → fileAt g d′ p ≡ trimmed g (fileAt g d p)
 unfolding trimmed fileAt
 trim-done g d d′ p t h x = λ i. record { attributes = x .kept .attributes i; granules = many i; bytes = x .kept .bytes i }
   where
-    many : length (owned g d′ p) ≡ cond (keepsSpace g d p) (length (owned g d p)) (granulesFor (length (fileAt g d p .bytes)))
+    many : length (owned g d′ p) ≡ cond (keepsSpace g d p) (length (owned g d p)) (granulesFor g (length (fileAt g d p .bytes)))
     many = rw (Members.no-false {b = keepsSpace g d p} t, Others.file-length g d p) (omega (arith, h, x .many, ap length (x .owned′) ∙ length-append (owned g d′ p) (x .old)))
 
-pub trim-means : (g : Geometry) (d : List ℕ) (h : Handle) → trim g d h .0 .number ≡ 0 → TrimMeans g d (trim g d h .1) (h .slot)
+pub trim-means : (g : Geometry) (d : List ℕ) (h : Handle) → trim g d h .0 .refusal .number ≡ 0 → TrimMeans g d (trim g d h .1) (h .slot)
 unfolding trim
 trim-means g d h e =
     let p = h .slot in
@@ -134,7 +135,7 @@ trim-means g d h e =
     rw e (go p w (Members.decide (keepsSpace g d p)))
   where
     go : (p : ℕ) → Passed.Holds g d h → Members.Test (keepsSpace g d (h .slot))
-        → TrimMeans g d (cond (not (keepsSpace g d (h .slot))) (times (length (owned g d (h .slot)) - granulesFor (sizeOf g d (h .slot))) (dropOne g (h .slot)) d) d) (h .slot)
+        → TrimMeans g d (cond (not (keepsSpace g d (h .slot))) (times (length (owned g d (h .slot)) - granulesFor g (sizeOf g d (h .slot))) (dropOne g (h .slot)) d) d) (h .slot)
     go p w (Members.Test.holds t) = rw (Members.T-true {b = keepsSpace g d (h .slot)} t) (record {
       long = refl;
       consistent′ = Facts.back g d (w .sound);
@@ -151,22 +152,23 @@ trim-means g d h e =
       small = λ b. b;
     })
     go p w (Members.Test.fails t) =
-        let k = length (owned g d (h .slot)) - granulesFor (sizeOf g d (h .slot)) in
+        let k = length (owned g d (h .slot)) - granulesFor g (sizeOf g d (h .slot)) in
         let fit = Change.filed-at g d (w .sound) (h .slot) (w .file) .fits in
-        let x = times-shrank g k d (h .slot) (w .sound) (w .fits) (w .file) (w .user) (omega (arith, fit)) in
+        let held = Sizes.round-least (Sizes.bytes-pos g) _ _ fit in
+        let x = times-shrank g k d (h .slot) (w .sound) (w .fits) (w .file) (w .user) (Sizes.surplus-fits (Sizes.bytes-pos g) _ _ fit) in
         let d′ = times k (dropOne g (h .slot)) d in
         rw (Members.no-false {b = keepsSpace g d (h .slot)} t) (record {
           long = x .kept .long;
           consistent′ = Facts.back g d′ (x .kept .sound);
           reserved′ = x .kept .reserved′;
-          own = Named.plain-is g d′ (x .kept .sound) (h .slot) (nameOf g d (h .slot)) (x .kept .file) (x .kept .name) ∙ ap {B = Found} found (trim-done g d d′ (h .slot) t (omega (arith, fit)) x);
+          own = Named.plain-is g d′ (x .kept .sound) (h .slot) (nameOf g d (h .slot)) (x .kept .file) (x .kept .name) ∙ ap {B = Found} found (trim-done g d d′ (h .slot) t held x);
           others = x .kept .others;
           beyond′ = x .kept .beyond′;
           names′ = x .kept .names′;
           touch = x .touch;
           file′ = x .kept .file;
           name′ = x .kept .name;
-          told = trim-done g d d′ (h .slot) t (omega (arith, fit)) x;
+          told = trim-done g d d′ (h .slot) t held x;
           free = omega (arith, x .free, x .many, ap length (x .owned′) ∙ length-append (owned g d′ (h .slot)) (x .old));
           small = x .kept .small;
         })

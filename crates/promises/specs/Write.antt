@@ -9,6 +9,7 @@ use lib.ListN.{length, getD, length-set, replicate, length-replicate, getD-repli
 use lib.Seq.{getD-set-same, getD-set-other}
 use lib.Dec.{T, eqb, eqb→eq}
 use Rattle.meaning.specs.Layout.{byte, field, setField, gatAt, hitAt, entryAt, directoryGranules, directorySectors, granuleBytes, roundUp, granuleSectors}
+use Rattle.meaning.specs.Sizes
 use Rattle.meaning.specs.Bits.{bit}
 use Rattle.meaning.specs.Entries.{sizeOf, system, sectorCount, endByte}
 use Rattle.meaning.specs.Chain.{owned, place}
@@ -25,12 +26,12 @@ use Rattle.laws.specs.Store.{store-length, store-other, store-at, place-inj, pl
 use Rattle.laws.specs.Words.{words}
 
 -- a place of the directory is in one of its granules
-pub in-directory : (g : Geometry) (d : List ℕ) (i : ℕ) → g .start % granuleSectors ≡ 0 → Places.Dir g d → 256 * g .start ≤ i → i < 256 * (g .start + directorySectors g d) → In (i / granuleBytes) (directoryGranules g d)
+pub in-directory : (g : Geometry) (d : List ℕ) (i : ℕ) → g .start % granuleSectors g ≡ 0 → Places.Dir g d → 256 * g .start ≤ i → i < 256 * (g .start + directorySectors g d) → In (i / granuleBytes g) (directoryGranules g d)
 unfolding words
-in-directory g d i e f a b = Members.in-count (i / granuleBytes) (g .start / granuleSectors) (directorySectors g d / granuleSectors) (omega (arith, f .fives)) (omega (arith, f .fives))
+in-directory g d i e f a b = Members.in-count (i / granuleBytes g) (g .start / granuleSectors g) (roundUp (directorySectors g d) (granuleSectors g)) (Sizes.touched-from g i (g .start) a) (Sizes.touched-to g i (g .start) (directorySectors g d) e b)
 
 module _ (g : Geometry) (d : List ℕ) (c : Sound g d) (k : Places.Fits g d) (p : ℕ) (f : File g d p) (u : T (not (system g d p)))
-    (at size : ℕ) (r : List ℕ) (end : at + length r ≤ granuleBytes * length (owned g d p)) (fit : size ≤ granuleBytes * length (owned g d p)) where
+    (at size : ℕ) (r : List ℕ) (end : at + length r ≤ granuleBytes g * length (owned g d p)) (fit : size ≤ granuleBytes g * length (owned g d p)) where
   abbrev old : ℕ
   old = sizeOf g d p
 
@@ -77,13 +78,13 @@ module _ (g : Geometry) (d : List ℕ) (c : Sound g d) (k : Places.Fits g d) (p 
   d₃-length = store-length F r d₂ at ∙ store-length F (replicate (at - old) 0) d old
 
   -- only the file's own granules
-  pub d₃-out : (j : ℕ) → (In (j / granuleBytes) (owned g d p) → ⊥) → byte d₃ j ≡ byte d j
+  pub d₃-out : (j : ℕ) → (In (j / granuleBytes g) (owned g d p) → ⊥) → byte d₃ j ≡ byte d j
   d₃-out j o =
       store-other F r d₂ at j (λ i a b q. o (rw q (Others.place-in g d p i (omega arith))))
       ∙ store-other F (replicate (at - old) 0) d old j (λ i a b q. o (rw q (Others.place-in g d p i (omega (arith, zeros)))))
 
   d₃-dir : (j : ℕ) → 256 * g .start ≤ j → j < 256 * (g .start + directorySectors g d) → byte d₃ j ≡ byte d j
-  d₃-dir j a b = d₃-out j (λ i. Change.filed-at g d c p f .off u (j / granuleBytes) i (in-directory g d j (k .start-at) a10 a b))
+  d₃-dir j a b = d₃-out j (λ i. Change.filed-at g d c p f .off u (j / granuleBytes g) i (in-directory g d j (k .start-at) a10 a b))
 
   pub d₄-out : (j : ℕ) → j ≢ entryAt g p + 1 → j ≢ entryAt g p + 3 → j ≢ entryAt g p + 0x14 → j ≢ entryAt g p + 0x15 → byte d₄ j ≡ byte d₃ j
   unfolding words
@@ -122,7 +123,7 @@ module _ (g : Geometry) (d : List ℕ) (c : Sound g d) (k : Places.Fits g d) (p 
   write-none : sectorCount g d₄ p ≡ 0 → endByte g d₄ p ≡ 0
   write-none = rw (f3, f14, f15) (λ q. omega arith)
 
-  outside-entry : (j : ℕ) → (In (j / granuleBytes) (directoryGranules g d) → ⊥) → byte d₄ j ≡ byte d₃ j
+  outside-entry : (j : ℕ) → (In (j / granuleBytes g) (directoryGranules g d) → ⊥) → byte d₄ j ≡ byte d₃ j
   outside-entry j o = go (Places.outside g d j (k .start-at) a10 o)
     where
       go : (j < 256 * g .start) ⊎ (256 * (g .start + directorySectors g d) ≤ j) → byte d₄ j ≡ byte d₃ j
@@ -146,15 +147,15 @@ module _ (g : Geometry) (d : List ℕ) (c : Sound g d) (k : Places.Fits g d) (p 
   }
 
   -- what each byte of the file is afterwards
-  data-byte : (j : ℕ) → j < granuleBytes * length (owned g d p) → byte d₄ (F j) ≡ byte d₃ (F j)
-  data-byte j h = outside-entry (F j) (λ i. Change.filed-at g d c p f .off u (F j / granuleBytes) (Others.place-in g d p j h) i)
+  data-byte : (j : ℕ) → j < granuleBytes g * length (owned g d p) → byte d₄ (F j) ≡ byte d₃ (F j)
+  data-byte j h = outside-entry (F j) (λ i. Change.filed-at g d c p f .off u (F j / granuleBytes g) (Others.place-in g d p j h) i)
 
   pub written-in : (j : ℕ) → at ≤ j → j < at + length r → byte d₄ (F j) ≡ getD r (j - at) 0
   written-in j a b = data-byte j (omega arith) ∙ store-at F r d₂ at j a b
       (λ x y s t v w q. place-inj g d c k p f x y (omega arith) (omega arith) q)
       (λ x s t. rw (store-length F (replicate (at - old) 0) d old) (place-lt g d c k p f x (omega arith)))
 
-  not-written : (j : ℕ) → j < granuleBytes * length (owned g d p) → (j < at) ⊎ (at + length r ≤ j) → byte d₃ (F j) ≡ byte d₂ (F j)
+  not-written : (j : ℕ) → j < granuleBytes g * length (owned g d p) → (j < at) ⊎ (at + length r ≤ j) → byte d₃ (F j) ≡ byte d₂ (F j)
   not-written j h o = store-other F r d₂ at (F j) (λ x s t q. away x s t (place-inj g d c k p f j x h (omega arith) q) o)
     where
       away : (x : ℕ) → at ≤ x → x < at + length r → j ≡ x → (j < at) ⊎ (at + length r ≤ j) → ⊥
@@ -163,14 +164,14 @@ module _ (g : Geometry) (d : List ℕ) (c : Sound g d) (k : Places.Fits g d) (p 
 
   pub zero-in : (j : ℕ) → old ≤ j → j < at → byte d₄ (F j) ≡ 0
   zero-in j a b =
-      let h : j < granuleBytes * length (owned g d p) = omega arith in
+      let h : j < granuleBytes g * length (owned g d p) = omega arith in
       data-byte j h ∙ not-written j h (inl b)
       ∙ store-at F (replicate (at - old) 0) d old j a (omega (arith, zeros)) (λ x y s t v w q. place-inj g d c k p f x y (omega (arith, zeros)) (omega (arith, zeros)) q) (λ x s t. place-lt g d c k p f x (omega (arith, zeros)))
       ∙ getD-replicate (at - old) (j - old) 0 0 (omega arith)
 
   pub old-in : (j : ℕ) → j < old → (j < at) ⊎ (at + length r ≤ j) → byte d₄ (F j) ≡ byte d (F j)
   old-in j a o =
-      let h : j < granuleBytes * length (owned g d p) = omega (arith, Change.filed-at g d c p f .fits) in
+      let h : j < granuleBytes g * length (owned g d p) = omega (arith, Change.filed-at g d c p f .fits) in
       data-byte j h ∙ not-written j h o
       ∙ store-other F (replicate (at - old) 0) d old (F j) (λ x s t q. away x s (place-inj g d c k p f j x h (omega (arith, zeros)) q))
     where

@@ -11,6 +11,7 @@ use Rattle.meaning.specs.Lists.{count, all, length-count}
 use Rattle.meaning.specs.Layout
 use Rattle.meaning.specs.Bits
 use Rattle.meaning.specs.Layout.{granules, byte, field, directoryGranules, granuleBytes, granulesFor, highest}
+use Rattle.meaning.specs.Sizes
 use Rattle.meaning.specs.Entries.{system, nameOf, sizeOf}
 use Rattle.meaning.specs.Chain.{chain, owned, place}
 use Rattle.meaning.specs.Consistent.{consistent}
@@ -46,11 +47,11 @@ use Rattle.promises.specs.Over
 
 -- the data part, on a disk that is large enough
 module _ (g : Geometry) (d : List ℕ) (c : Sound g d) (k : Places.Fits g d) (p : ℕ) (f : File g d p) (u : T (not (system g d p)))
-    (m : Mode) (at : ℕ) (r : List ℕ) (fit : sizeAfter m (sizeOf g d p) (at + length r) ≤ granuleBytes * length (owned g d p)) where
+    (m : Mode) (at : ℕ) (r : List ℕ) (fit : sizeAfter m (sizeOf g d p) (at + length r) ≤ granuleBytes g * length (owned g d p)) where
   abbrev size : ℕ
   size = sizeAfter m (sizeOf g d p) (at + length r)
 
-  end : at + length r ≤ granuleBytes * length (owned g d p)
+  end : at + length r ≤ granuleBytes g * length (owned g d p)
   end = omega (arith, fit, Rewrite.after-end m (sizeOf g d p) (at + length r))
 
   abbrev d′ : List ℕ
@@ -131,7 +132,7 @@ pub record Wrote (g : Geometry) (d d′ : List ℕ) (p : ℕ) (w : Plain.File) :
 
 -- growth, then the data part
 module _ (g : Geometry) (d d₁ : List ℕ) (p : ℕ) (m : Mode) (at : ℕ) (r : List ℕ)
-    (x : Grew g d d₁ p (lacking g d p (granulesFor (sizeAfter m (sizeOf g d p) (at + length r))))) where
+    (x : Grew g d d₁ p (lacking g d p (granulesFor g (sizeAfter m (sizeOf g d p) (at + length r))))) where
   abbrev size₀ : ℕ
   size₀ = sizeAfter m (sizeOf g d p) (at + length r)
 
@@ -139,16 +140,16 @@ module _ (g : Geometry) (d d₁ : List ℕ) (p : ℕ) (m : Mode) (at : ℕ) (r :
   unfolding words
   size₁ = rw (x .low 3 (omega arith), x .low 0x14 (omega arith), x .low 0x15 (omega arith))
 
-  own₁ : length (owned g d₁ p) ≡ length (owned g d p) + lacking g d p (granulesFor size₀)
+  own₁ : length (owned g d₁ p) ≡ length (owned g d p) + lacking g d p (granulesFor g size₀)
   own₁ = ap length (x .owned′) ∙ length-append (owned g d p) (x .new) ∙ ap (λ (y : ℕ). length (owned g d p) + y) (x .many)
 
-  fit₁ : sizeAfter m (sizeOf g d₁ p) (at + length r) ≤ granuleBytes * length (owned g d₁ p)
-  fit₁ = rw size₁ (omega (arith, own₁))
+  fit₁ : sizeAfter m (sizeOf g d₁ p) (at + length r) ≤ granuleBytes g * length (owned g d₁ p)
+  fit₁ = rw size₁ (Sizes.round-fits (Sizes.bytes-pos g) size₀ (length (owned g d₁ p)) (omega (arith, own₁)))
 
   abbrev img : ℕ → List ℕ
   img o = withSize g d₁ (store (place g d₁ p) (store (place g d₁ p) d₁ o (replicate (at - o) 0)) at r) p (sizeAfter m o (at + length r))
 
-  written-file : fileAt g (img (sizeOf g d₁ p)) p ≡ writtenTo m at r (fileAt g d p)
+  written-file : fileAt g (img (sizeOf g d₁ p)) p ≡ writtenTo g m at r (fileAt g d p)
   unfolding writtenTo
   written-file = λ i. record {
     attributes = (own-attributes g d₁ (x .kept .sound) (x .kept .fits) p (x .kept .file) (x .kept .user) m at r fit₁ ∙ ap (λ (l : List ℕ). set l 1 (Bits.withBit 5 (getD l 1 0))) (x .kept .attributes)) i;
@@ -159,10 +160,10 @@ module _ (g : Geometry) (d d₁ : List ℕ) (p : ℕ) (m : Mode) (at : ℕ) (r :
       long : length (overwritten m (fileAt g d p .bytes) at r) ≡ size₀
       long = Over.overwritten-length m (fileAt g d p .bytes) at r ∙ ap (λ (y : ℕ). sizeAfter m y (at + length r)) (file-length g d p)
 
-      many : fileAt g (img (sizeOf g d₁ p)) p .granules ≡ max (fileAt g d p .granules) (granulesFor (length (overwritten m (fileAt g d p .bytes) at r)))
+      many : fileAt g (img (sizeOf g d₁ p)) p .granules ≡ max (fileAt g d p .granules) (granulesFor g (length (overwritten m (fileAt g d p .bytes) at r)))
       many = own-granules g d₁ (x .kept .sound) (x .kept .fits) p (x .kept .file) (x .kept .user) m at r fit₁ ∙ rw long (own₁ ∙ maxed)
         where
-          maxed : length (owned g d p) + lacking g d p (granulesFor size₀) ≡ max (fileAt g d p .granules) (granulesFor size₀)
+          maxed : length (owned g d p) + lacking g d p (granulesFor g size₀) ≡ max (fileAt g d p .granules) (granulesFor g size₀)
           maxed = unfold fileAt in omega arith
 
   free₄ : length (freeGranules g d) + length (owned g d p) ≡ length (freeGranules g (img (sizeOf g d₁ p))) + length (owned g (img (sizeOf g d₁ p)) p)
@@ -192,7 +193,7 @@ module _ (g : Geometry) (d d₁ : List ℕ) (p : ℕ) (m : Mode) (at : ℕ) (r :
       let e : field g d₄ p 0 ≡ field g d₁ p 0 = kept g d₁ (x .kept .sound) (x .kept .fits) p (x .kept .file) (x .kept .user) m at r fit₁ 0 (omega arith) (record { flags = omega arith; ends = omega arith; low = omega arith; high = omega arith }) in
       rw e (x .kept .user)
 
-  pub wrote : Wrote g d (img (sizeOf g d₁ p)) p (writtenTo m at r (fileAt g d p))
+  pub wrote : Wrote g d (img (sizeOf g d₁ p)) p (writtenTo g m at r (fileAt g d p))
   unfolding words
   wrote =
       let d₄ = img (sizeOf g d₁ p) in
@@ -218,26 +219,26 @@ module _ (g : Geometry) (d d₁ : List ℕ) (p : ℕ) (m : Mode) (at : ℕ) (r :
 
 -- the geometry fits an image of the same length
 pub fits-after : (g : Geometry) (d d′ : List ℕ) → Places.Fits g d → length d′ ≡ length d → Places.Fits g d′
-fits-after g d d′ k l = record { blocks-lo = k .blocks-lo; blocks-hi = k .blocks-hi; units-lo = k .units-lo; units-hi = k .units-hi; start-at = k .start-at; size = l ∙ k .size }
+fits-after g d d′ k l = Places.as-long k l
 
-pub write-wrote : (g : Geometry) (d : List ℕ) (m : Mode) (h : Handle) (b : List ℕ) → writeRecord g d m h b .0 .number ≡ 0
-    → Passed.Holds g d h × Wrote g d (writeRecord g d m h b .1) (h .slot) (writtenTo m (h .at) (take (h .len) b) (fileAt g d (h .slot)))
+pub write-wrote : (g : Geometry) (d : List ℕ) (m : Mode) (h : Handle) (b : List ℕ) → writeRecord g d m h b .0 .refusal .number ≡ 0
+    → Passed.Holds g d h × Wrote g d (writeRecord g d m h b .1) (h .slot) (writtenTo g m (h .at) (take (h .len) b) (fileAt g d (h .slot)))
 unfolding writeRecord words
 write-wrote g d m h b e =
     let p = h .slot in
     let r = take (h .len) b in
-    let more = lacking g d p (granulesFor (sizeAfter m (sizeOf g d p) (h .at + h .len))) in
+    let more = lacking g d p (granulesFor g (sizeAfter m (sizeOf g d p) (h .at + h .len))) in
     let w = Passed.holds g d h _ 4 (cannotGrow g d p more) e in
     let p₂ = Passed.disk-passed g d _ e in
     let p₃ = Passed.passed 12 _ _ (omega arith) (p₂ .1) in
-    let fit : Bool = all (leb (h .at + h .len) highest ∷ leb (h .len) (length b) ∷ []) in
-    let range : T (inRange h && fit) = Passed.yes-T (inRange h && fit) (p₃ .0) in
-    let short = leb→le (h .len) (length b) (Members.all-second (leb (h .at + h .len) highest) (leb (h .len) (length b)) (Members.and-r (inRange h) fit range)) in
+    let fit : Bool = all (leb (h .at + h .len) (highest g) ∷ leb (h .len) (length b) ∷ []) in
+    let range : T (inRange g h && fit) = Passed.yes-T (inRange g h && fit) (p₃ .0) in
+    let short = leb→le (h .len) (length b) (Members.all-second (leb (h .at + h .len) (highest g)) (leb (h .len) (length b)) (Members.and-r (inRange g h) fit range)) in
     let lr : length r ≡ h .len = length-take (h .len) b ∙ omega arith in
     let d₁ = larger g d p more in
     let x : Grew g d d₁ p more = Grow.larger-grew g d h more (w .0) (w .1) in
-    let y : Grew g d d₁ p (lacking g d p (granulesFor (sizeAfter m (sizeOf g d p) (h .at + length r)))) =
-    subst (λ (l : ℕ). Grew g d d₁ p (lacking g d p (granulesFor (sizeAfter m (sizeOf g d p) (h .at + l))))) (sym lr) x in
+    let y : Grew g d d₁ p (lacking g d p (granulesFor g (sizeAfter m (sizeOf g d p) (h .at + length r)))) =
+    subst (λ (l : ℕ). Grew g d d₁ p (lacking g d p (granulesFor g (sizeAfter m (sizeOf g d p) (h .at + l))))) (sym lr) x in
     let image : ℕ → ℕ → List ℕ = λ o l. withSize g d (store (place g d₁ p) (store (place g d₁ p) d₁ o (replicate (h .at - o) 0)) (h .at) r) p (sizeAfter m o (h .at + l)) in
     let same′ : image (sizeOf g d₁ p) (length r) ≡ image (sizeOf g d p) (h .len) = ap₂ image (size₁ g d d₁ p m (h .at) r y) lr in
-    (w .0, rw e (subst (λ (i : List ℕ). Wrote g d i p (writtenTo m (h .at) r (fileAt g d p))) same′ (wrote g d d₁ p m (h .at) r y)))
+    (w .0, rw e (subst (λ (i : List ℕ). Wrote g d i p (writtenTo g m (h .at) r (fileAt g d p))) same′ (wrote g d d₁ p m (h .at) r y)))

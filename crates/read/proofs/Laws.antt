@@ -4,7 +4,7 @@ use mathlib.Core.List.{List, [], _∷_, _++_, map}
 use mathlib.Core.Bool.{Bool, false, cond}
 use Prim.Native.Nat.{ℕ, zero, suc, _+_, _-_, _*_, _/_, _%_, _≤_, _<_}
 use native.Mathlib.Omega.{arith}
-use native.Mathlib.Nat.{zero-add, add-zero}
+use native.Mathlib.Nat.{zero-add, add-zero, mul-le-mul-left}
 use native.Mathlib.Numerals.{add-one}
 use lib.ListN.{length, getD, take, drop, length-map}
 use lib.Seq.{drop-cons, sets, sets-eq}
@@ -12,14 +12,16 @@ use lib.Dec.{ltb, leb}
 use borrow.Author.Tests.{leb-true, leb-false, ltb-true, ltb-false, eq-eqb, ne-eqb}
 use Rattle.meaning.specs.Lists.{count, all, length-count}
 use Rattle.meaning.specs.Layout.{byte, sectorNumbers, granuleBytes}
+use Rattle.meaning.specs.Sizes
 use Rattle.meaning.specs.Chain.{owned, place}
 use Rattle.meaning.specs.Entries.{sizeOf, sectorCount, endByte}
 use Rattle.meaning.specs.Read.{fetch, readRefusals, readRecord, sectorRefusals, sectorBytes, readSector}
-use Rattle.meaning.specs.Refusals.{first, inRange, movedTo, handleRefusals, notForReading}
+use Rattle.meaning.specs.Refusals.{first, refusal, inRange, movedTo, handleRefusals, notForReading}
 use Rattle.meaning.specs.declared.Geometry.{Geometry}
 use Rattle.meaning.specs.declared.Handle.{Handle}
 use Rattle.meaning.specs.declared.Answer.{Answer}
 use Rattle.meaning.specs.declared.Part.{Part}
+use Rattle.meaning.specs.declared.Refusal.{Refusal}
 use native.Mathlib.Decide.{ℕ-discrete}
 use Rattle.layout.proofs.Lists.{all-at, first-at, count-append}
 use Rattle.handle.proofs.Laws.{ownRow, passed, walks, ranges, handle-stop, handle-then}
@@ -46,22 +48,27 @@ map-both : (f : ℕ → ℕ) (xs ys : List ℕ) → map f (xs ++ ys) ≡ map f x
 map-both f [] ys = refl
 map-both f (x ∷ xs) ys = ap (λ (r : List ℕ). f x ∷ r) (map-both f xs ys)
 
+-- in one granule, as the code's own number has it
+pub in-part : {g : Geometry} {i n : ℕ} → i % 1280 + n ≤ 1280 → InGranule g i n
+in-part h = record { inside = rw Sizes.code-bytes h }
+
 module _ (g : Geometry) (d : List ℕ) where
-  pub place-next : (s i t : ℕ) → i % granuleBytes + t < granuleBytes → place g d s (i + t) ≡ place g d s i + t
+  pub place-next : (s i t : ℕ) → i % granuleBytes g + t < granuleBytes g → place g d s (i + t) ≡ place g d s i + t
   unfolding place
   place-next s i t h =
-      let e : (i + t) / granuleBytes ≡ i / granuleBytes = omega arith in
-      let f : (i + t) % granuleBytes ≡ i % granuleBytes + t = omega arith in
-      ap (λ (k : ℕ). granuleBytes * getD (owned g d s) k 0 + (i + t) % granuleBytes) e ∙ (let z : granuleBytes * getD (owned g d s) (i / granuleBytes) 0 + (i + t) % granuleBytes ≡ granuleBytes * getD (owned g d s) (i / granuleBytes) 0 + i % granuleBytes + t = omega arith in z)
+      let q : i + t ≡ granuleBytes g * (i / granuleBytes g) + (i % granuleBytes g + t) = omega (arith, Sizes.split (Sizes.bytes-pos g) i .is) in
+      let e : (i + t) / granuleBytes g ≡ i / granuleBytes g = ap (λ (j : ℕ). j / granuleBytes g) q ∙ Sizes.at-width _ _ h in
+      let f : (i + t) % granuleBytes g ≡ i % granuleBytes g + t = ap (λ (j : ℕ). j % granuleBytes g) q ∙ Sizes.at-rest _ _ h in
+      ap (λ (k : ℕ). granuleBytes g * getD (owned g d s) k 0 + (i + t) % granuleBytes g) e ∙ (let z : granuleBytes g * getD (owned g d s) (i / granuleBytes g) 0 + (i + t) % granuleBytes g ≡ granuleBytes g * getD (owned g d s) (i / granuleBytes g) 0 + i % granuleBytes g + t = omega arith in z)
 
-  pub place-fits : (s i n : ℕ) → File g d s → Owned g d s i n → InGranule i n → place g d s i + n ≤ length d
+  pub place-fits : (s i n : ℕ) → File g d s → Owned g d s i n → InGranule g i n → place g d s i + n ≤ length d
   unfolding place
   place-fits s i n f o x =
       let a = o .owned in let b = o .some in let y = x .inside in let w = f .sound .room .whole in
-      let l = owned-low g d (f .sound) s (f .used) (i / granuleBytes) (omega arith) in
-      omega arith
+      let l = owned-low g d (f .sound) s (f .used) (i / granuleBytes g) (Sizes.width-lt (Sizes.bytes-pos g) i _ (omega arith)) in
+      omega (arith, mul-le-mul-left (granuleBytes g) l)
 
-  pub fetch-part : (s i n : ℕ) → File g d s → Owned g d s i n → InGranule i n → fetch g d s i n ≡ take n (drop (place g d s i) d)
+  pub fetch-part : (s i n : ℕ) → File g d s → Owned g d s i n → InGranule g i n → fetch g d s i n ≡ take n (drop (place g d s i) d)
   unfolding fetch
   fetch-part s i n f o x =
       let y = x .inside in
@@ -111,16 +118,16 @@ module _ (g : Geometry) (d : List ℕ) where
       handle-then g d h q (notForReading h ∷ []) rest refl (e ∙ ap (λ (t : Bool). first (handleRefusals g d h t (notForReading h ∷ []))) r) z
 
   -- refused and accepted
-  pub refused : (h : Handle) (b : List ℕ) {no : ℕ} → no ≡ first (readRefusals g d h (length b)) → (no ≡ 0 → ⊥)
-      → _≡_ {A = Answer × List ℕ} (record { number = no; handle = h }, b) (readRecord g d h b)
+  pub refused : (h : Handle) (b : List ℕ) {no : ℕ} {c : Refusal} → c ≡ refusal g d no → no ≡ first (readRefusals g d h (length b)) → (no ≡ 0 → ⊥)
+      → _≡_ {A = Answer × List ℕ} (record { refusal = c; handle = h }, b) (readRecord g d h b)
   unfolding readRecord
-  refused h b {no} e n = rw (← e, ne-eqb no 0 n)
+  refused h b {no} q e n = rw (← e, ne-eqb no 0 n, q)
 
-  pub accepted : (h : Handle) (b : List ℕ) {b′ : List ℕ} {no : ℕ} → no ≡ first (readRefusals g d h (length b)) → no ≡ 0
+  pub accepted : (h : Handle) (b : List ℕ) {b′ : List ℕ} {no : ℕ} {c : Refusal} → c ≡ refusal g d 0 → no ≡ first (readRefusals g d h (length b)) → no ≡ 0
       → b′ ≡ fetch g d (h .slot) (h .at) (h .len) ++ drop (h .len) b
-      → _≡_ {A = Answer × List ℕ} (record { number = 0; handle = movedTo h (h .at + h .len) }, b′) (readRecord g d h b)
+      → _≡_ {A = Answer × List ℕ} (record { refusal = c; handle = movedTo h (h .at + h .len) }, b′) (readRecord g d h b)
   unfolding readRecord
-  accepted h b {b′} {no} e n f = rw (← e, n, f)
+  accepted h b {b′} {no} q e n f = rw (← e, n, f, q)
 
   pub record Allowed (h : Handle) (room : ℕ) : Type 0 where
     pub file : File g d (h .slot)
@@ -131,7 +138,7 @@ module _ (g : Geometry) (d : List ℕ) where
   pub allowed : (h : Handle) (room : ℕ) → first (readRefusals g d h room) ≡ 0 → Allowed h room
   allowed h room e =
       let t : (k : ℕ) → getD (readRefusals g d h room) k (0, false) .1 ≡ false = λ k. first-at (readRefusals g d h room) e refl k in
-      let p = passed g d h (all (inRange h ∷ leb (h .len) room ∷ [])) _ refl (sym e) refl in
+      let p = passed g d h (all (inRange g h ∷ leb (h .len) room ∷ [])) _ refl (sym e) refl in
       let w = walks g d h _ p in
       let r = ranges g d h (all-at _ (p .ranged′) 0) in
       let l = leb-true (h .len) room (all-at _ (p .ranged′) 1) in
@@ -185,21 +192,21 @@ module _ (g : Geometry) (d : List ℕ) where
     pub file : File g d (h .slot)
     pub held : k < sectorCount g d (h .slot)
     pub some : 1 ≤ sectorBytes g d (h .slot) k
-    pub owned : 256 * k + sectorBytes g d (h .slot) k ≤ granuleBytes * length (owned g d (h .slot))
-    pub low : k < sectorNumbers
+    pub owned : 256 * k + sectorBytes g d (h .slot) k ≤ granuleBytes g * length (owned g d (h .slot))
+    pub low : k < 30720
 
   -- the part ends inside the image
   pub sector-lies : (h : Handle) (k : ℕ) {n : ℕ} → Sector h k → n ≡ sectorBytes g d (h .slot) k → n ≤ 256 → place g d (h .slot) (256 * k) + n ≤ length d
   sector-lies h k {n} q e l =
       let a = q .some in let b = q .owned in let c = q .low in
-      place-fits (h .slot) (256 * k) n (q .file) (record { some = omega arith; owned = omega arith; high = omega arith }) (record { inside = omega arith })
+      place-fits (h .slot) (256 * k) n (q .file) (record { some = omega arith; owned = omega arith; high = omega arith }) (record { inside = omega (arith, Sizes.sector-begin g k, Sizes.bytes-are g, Sizes.split (Sizes.sectors-pos g) k .rest) })
 
   pub sector : (h : Handle) (k : ℕ) {n : ℕ} → n ≡ first (sectorRefusals g d h k) → n ≡ 0 → Sector h k
   sector h k e z =
       let t : (j : ℕ) → getD (sectorRefusals g d h k) j (0, false) .1 ≡ false = λ j. first-at (sectorRefusals g d h k) (sym e ∙ z) refl j in
-      let p = passed g d h (all (inRange h ∷ ltb k sectorNumbers ∷ [])) _ refl e z in
+      let p = passed g d h (all (inRange g h ∷ ltb k (sectorNumbers g) ∷ [])) _ refl e z in
       let w = walks g d h _ p in
-      let l = ltb-true k sectorNumbers (all-at _ (p .ranged′) 1) in
+      let l = ltb-true k (sectorNumbers g) (all-at _ (p .ranged′) 1) in
       let c = leb-false (sectorCount g d (h .slot)) k (t (ownRow 3)) in
       let b = bytes-fit (h .slot) k (omega arith) in
       let y = w .0 .size (h .slot) (p .slot) (p .first′) in
@@ -208,23 +215,23 @@ module _ (g : Geometry) (d : List ℕ) where
         held = omega arith;
         some = b .1;
         owned = omega arith;
-        low = l;
+        low = omega (arith, l, Sizes.sectors-most g);
       }
 
-  pub sector-refused : (h : Handle) (k : ℕ) {n : ℕ} → n ≡ first (sectorRefusals g d h k) → (n ≡ 0 → ⊥)
-      → _≡_ {A = Part} (record { number = n; from = 0; to = 0 }) (readSector g d h k)
+  pub sector-refused : (h : Handle) (k : ℕ) {n : ℕ} {c : Refusal} → c ≡ refusal g d n → n ≡ first (sectorRefusals g d h k) → (n ≡ 0 → ⊥)
+      → _≡_ {A = Part} (record { refusal = c; from = 0; to = 0 }) (readSector g d h k)
   unfolding readSector
-  sector-refused h k {n} e z = rw (← e, ne-eqb n 0 z)
+  sector-refused h k {n} q e z = rw (← e, ne-eqb n 0 z, q)
 
-  pub sector-accepted : (h : Handle) (k : ℕ) {n from bytes : ℕ} → n ≡ first (sectorRefusals g d h k) → n ≡ 0
+  pub sector-accepted : (h : Handle) (k : ℕ) {n from bytes : ℕ} {c : Refusal} → c ≡ refusal g d 0 → n ≡ first (sectorRefusals g d h k) → n ≡ 0
       → from ≡ place g d (h .slot) (256 * k) → bytes ≡ sectorBytes g d (h .slot) k
-      → _≡_ {A = Part} (record { number = 0; from = from; to = from + bytes }) (readSector g d h k)
+      → _≡_ {A = Part} (record { refusal = c; from = from; to = from + bytes }) (readSector g d h k)
   unfolding readSector
-  sector-accepted h k e z f b = rw (← e, z, f, b)
+  sector-accepted h k q e z f b = rw (← e, z, f, b, q)
 
   -- the part that is handed back: its bytes, and its place
   pub part-is : (h : Handle) (k : ℕ) {p : Part} → p ≡ readSector g d h k
-      → _≡_ {A = ℕ × List ℕ} (p .number, take (p .to - p .from) (drop (p .from) d)) (partOf d (readSector g d h k))
+      → _≡_ {A = ℕ × ℕ × List ℕ} (p .refusal .number, p .refusal .at, take (p .to - p .from) (drop (p .from) d)) (partOf d (readSector g d h k))
   unfolding partOf
   part-is h k e = ap (partOf d) e
 

@@ -3,6 +3,7 @@ use meaning::Answer;
 use meaning::Geometry;
 use meaning::Handle;
 use meaning::Part;
+use meaning::Refusal;
 ghost use mathlib.Core.Path.{_≡_};
 ghost use mathlib.Core.List.{[], _∷_, _++_};
 ghost use Prim.Native.Nat.{_+_, _-_, _*_, _<_, _≤_};
@@ -28,7 +29,7 @@ pub fn read_part(
     buffer: &mut [u8],
     to: usize,
 )
-    requires { ⌜ File g (now image) s × Owned g (now image) s i n × InGranule i n × (to + n ≤ length (now buffer)) ⌝ }
+    requires { ⌜ File g (now image) s × Owned g (now image) s i n × InGranule g i n × (to + n ≤ length (now buffer)) ⌝ }
     ensures { λ _. ⌜ now (buffer .exit) ≡ sets (now (buffer .entry)) to (fetch g (now (image .entry)) s i n) ⌝ }
 {
     let p = seek::place(image, g, s, i);
@@ -50,21 +51,21 @@ pub fn read_bytes(image: &[u8], g: Geometry, s: usize, i: usize, n: usize, buffe
 }
 
 // Test 12 of a read: the handle's numbers are in range, and the record fits a buffer of length `room`.
-pub fn record_ranged(h: Handle, room: usize) -> bool
-    ensures { λ r. ⌜ r ≡ all (inRange h ∷ leb (h .len) room ∷ []) ⌝ }
+pub fn record_ranged(g: Geometry, h: Handle, room: usize) -> bool
+    ensures { λ r. ⌜ r ≡ all (inRange g h ∷ leb (h .len) room ∷ []) ⌝ }
 {
-    if !handle::in_range(h) {
+    if !handle::in_range(g, h) {
         return false;
     }
     h.len <= room
 }
 
 // The refusal number of a read, 0 where there is none.
-pub fn record_number(image: &[u8], g: Geometry, h: Handle, room: usize, checked: u8) -> u8
+pub fn record_number(image: &[u8], g: Geometry, h: Handle, room: usize, checked: Refusal) -> u8
     requires { ⌜ checked ≡ check g (now image) ⌝ }
     ensures { λ r. ⌜ r ≡ first (readRefusals g (now (image .entry)) h room) ⌝ }
 {
-    let ranged = record_ranged(h, room);
+    let ranged = record_ranged(g, h, room);
     let number = handle::reading_number(image, g, h, ranged, checked);
     if number != 0 {
         return number;
@@ -81,39 +82,42 @@ pub fn record_checked(
     g: Geometry,
     h: Handle,
     buffer: &mut [u8],
-    checked: u8,
+    checked: Refusal,
 ) -> Answer
     requires { ⌜ checked ≡ check g (now image) ⌝ }
     ensures { λ r. ⌜ (r, now (buffer .exit)) ≡ readRecord g (now (image .entry)) h (now (buffer .entry)) ⌝ }
 {
     let number = record_number(image, g, h, buffer.len(), checked);
     if number != 0 {
-        return Answer { number, handle: h };
+        return Answer {
+            refusal: refusal::carried(checked, number),
+            handle: h,
+        };
     }
     read_bytes(image, g, h.slot, h.at, h.len, buffer);
     let mut moved = h;
     moved.at = h.at + h.len;
     Answer {
-        number: 0,
+        refusal: refusal::carried(checked, 0),
         handle: moved,
     }
 }
 
 // Test 12 of a call that names a sector.
-pub fn sector_ranged(h: Handle, k: usize) -> bool
-    ensures { λ r. ⌜ r ≡ all (inRange h ∷ ltb k sectorNumbers ∷ []) ⌝ }
+pub fn sector_ranged(g: Geometry, h: Handle, k: usize) -> bool
+    ensures { λ r. ⌜ r ≡ all (inRange g h ∷ ltb k (sectorNumbers g) ∷ []) ⌝ }
 {
-    if !handle::in_range(h) {
+    if !handle::in_range(g, h) {
         return false;
     }
     k < layout::SECTOR_NUMBERS
 }
 
-pub fn sector_number(image: &[u8], g: Geometry, h: Handle, k: usize, checked: u8) -> u8
+pub fn sector_number(image: &[u8], g: Geometry, h: Handle, k: usize, checked: Refusal) -> u8
     requires { ⌜ checked ≡ check g (now image) ⌝ }
     ensures { λ r. ⌜ r ≡ first (sectorRefusals g (now (image .entry)) h k) ⌝ }
 {
-    let ranged = sector_ranged(h, k);
+    let ranged = sector_ranged(g, h, k);
     let number = handle::reading_number(image, g, h, ranged, checked);
     if number != 0 {
         return number;
@@ -140,7 +144,7 @@ pub fn sector_bytes(image: &[u8], g: Geometry, s: usize, k: usize) -> usize
 }
 
 // Where the file's bytes in sector k lie, of a disk whose check answered `checked`.
-pub fn sector_checked(image: &[u8], g: Geometry, h: Handle, k: usize, checked: u8) -> Part
+pub fn sector_checked(image: &[u8], g: Geometry, h: Handle, k: usize, checked: Refusal) -> Part
     requires { ⌜ checked ≡ check g (now image) ⌝ }
     ensures is { λ r. ⌜ r ≡ readSector g (now (image .entry)) h k ⌝ }
     ensures lies { λ r. ⌜ Lies r (length (now (image .entry))) ⌝ }
@@ -148,35 +152,38 @@ pub fn sector_checked(image: &[u8], g: Geometry, h: Handle, k: usize, checked: u
     let number = sector_number(image, g, h, k, checked);
     if number != 0 {
         return Part {
-            number,
+            refusal: refusal::carried(checked, number),
             from: 0,
             to: 0,
         };
     }
     let from = seek::place(image, g, h.slot, 256 * k);
     let n = sector_bytes(image, g, h.slot, k);
+    let to = from + n;
     Part {
-        number: 0,
+        refusal: refusal::carried(checked, 0),
         from,
-        to: from + n,
+        to,
     }
 }
 
-// Read sector: the file's bytes in sector k, handed back as a part of the lent image.
+// Read sector: the file's bytes in sector k, handed back as a part of the lent image; the refusal's number and what goes with it go out beside it.
 pub fn part_checked<'a>(
     image: &'a [u8],
     g: Geometry,
     h: Handle,
     k: usize,
-    checked: u8,
+    checked: Refusal,
     number: &mut u8,
+    at: &mut usize,
 ) -> &'a [u8]
     requires { ⌜ checked ≡ check g (now image) ⌝ }
-    ensures what { λ r. ⌜ (now (number .exit), now r) ≡ partOf (now (image .entry)) (readSector g (now (image .entry)) h k) ⌝ }
+    ensures what { λ r. ⌜ (now (number .exit), now (at .exit), now r) ≡ partOf (now (image .entry)) (readSector g (now (image .entry)) h k) ⌝ }
     ensures place_at { λ r. ⌜ ptr r ≡ (ptr (image .entry) .0, ptr (image .entry) .1 + readSector g (now (image .entry)) h k .from) ⌝ }
 {
     let p = sector_checked(image, g, h, k, checked);
-    *number = p.number;
+    *number = p.refusal.number;
+    *at = p.refusal.at;
     let from = p.from;
     let to = p.to;
     &image[from..to]

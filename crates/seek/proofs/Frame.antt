@@ -43,6 +43,8 @@ room-kept g d d′ l q r =
       units-high = r .units-high;
       most = r .most;
       whole = l ∙ r .whole;
+      long = l ∙ r .long;
+      far = r .far;
       ten = rw q (r .ten);
       thirty = rw q (r .thirty);
       directory = rw q (r .directory);
@@ -126,7 +128,7 @@ module _ (g : Geometry) (d d′ : List ℕ) (snd : Sound g d) (e : Same g d d′
 
   pub same-place : (s i : ℕ) → Used g d s → place g d′ s i ≡ place g d s i
   unfolding place
-  same-place s i u = ap (λ (l : List ℕ). granuleBytes * getD l (i / granuleBytes) 0 + i % granuleBytes) (same-owned s u)
+  same-place s i u = ap (λ (l : List ℕ). granuleBytes g * getD l (i / granuleBytes g) 0 + i % granuleBytes g) (same-owned s u)
 
 pub same-sym : (g : Geometry) (d d′ : List ℕ) → Room g d → Same g d d′ → Same g d′ d
 same-sym g d d′ r e =

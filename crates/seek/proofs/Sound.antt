@@ -58,7 +58,7 @@ module _ (g : Geometry) (d : List ℕ) where
   size-fits h s sl p =
       all-at _ (any-last _ _ (at-slot (λ x. any (not (primary g d x) ∷ fileHolds g d x ∷ [])) (every-keep (fileHolds g d) (primary g d) (slots g d) (all-at _ h 2)) s sl) (not-yes p)) 2
 
-  size-below : (s : ℕ) → sizeHolds g d s ≡ true → sizeOf g d s ≤ granuleBytes * length (owned g d s)
+  size-below : (s : ℕ) → sizeHolds g d s ≡ true → sizeOf g d s ≤ granuleBytes g * length (owned g d s)
   unfolding sizeHolds
   size-below s h = leb-true _ _ (all-at _ h 1)
 

@@ -62,7 +62,7 @@ module _ (g : Geometry) (d : List ℕ) (p : ℕ) (r : Ready g d p) where
   entry′ {e} q = Change.entry-at g d sound′ e (member′ q .slot) (member′ q .used)
 
   pub room′ : (e : ℕ) → T (isSlot g d e) → entryAt g e + 32 ≤ length d
-  room′ e t = let a = Places.dir g d (sound′ .dir) in let b = Places.slot g d e t in omega (arith, fits′ .size)
+  room′ e t = let a = Places.dir g d (sound′ .dir) in let b = Places.slot g d e t in omega (arith, fits′ .long)
 
 -- The lowest free granule ------------------------------------------------------------------------------------------------
 
@@ -152,7 +152,7 @@ module _ (g : Geometry) (p : ℕ) where
   gat-field d m x k w h = let b = Places.block-lt g d m w h in let c = w .blocks-hi in getD-set-other d (gatAt g m) (entryAt g x + k) _ 0 (λ q. omega arith)
 
   same-fits : (d d′ : List ℕ) → length d′ ≡ length d → Places.Fits g d → Places.Fits g d′
-  same-fits d d′ e w = record { blocks-lo = w .blocks-lo; blocks-hi = w .blocks-hi; units-lo = w .units-lo; units-hi = w .units-hi; start-at = w .start-at; size = e ∙ w .size }
+  same-fits d d′ e w = Places.as-long w e
 
   -- byte k of entry e stored, and granule m taken
   module _ (d : List ℕ) (e k v m : ℕ) where

@@ -9,6 +9,7 @@ use lib.ListN.{length, take, replicate, length-take}
 use lib.Dec.{T, eqb, eqb→eq, ltb, leb, T-not, ltb→lt, leb→le}
 use Rattle.meaning.specs.Lists.{keep, each, has, times, all}
 use Rattle.meaning.specs.Layout.{entryAt, granuleBytes, granuleSectors, directoryGranules, aboveTen}
+use Rattle.meaning.specs.Sizes
 use Rattle.meaning.specs.Entries.{nameOf, sizeOf, keepsSpace}
 use Rattle.meaning.specs.Chain.{chain, owned, place}
 use Rattle.meaning.specs.Lists.{firstOr}
@@ -119,46 +120,46 @@ module _ (g : Geometry) (d : List ℕ) (n : Name) (h : Handle) (e : h .name ≡ 
   same-granules d′ f w q o =
       let z : suc (f .granules) ≡ suc (length (owned g d (h .slot))) = sym (ap tally (ap (plain g d′) (sym (w .name′ ∙ e)) ∙ o)) ∙ q ∙ ap tally (here w) in omega arith
 
-  pub kill-never : kill g d h .0 .number ≡ 0 → Even g n d (kill g d h .1) → ⊥
+  pub kill-never : kill g d h .0 .refusal .number ≡ 0 → Even g n d (kill g d h .1) → ⊥
   unfolding tally
   kill-never t q =
       let x = KillMeans.kill-means g d h t in
       let w : Holds g d h = unfold kill in (Passed.holds g d h _ 1 [] t .0) in
       let z : 0 ≡ suc (fileAt g d (h .slot) .granules) = sym (ap tally (ap (plain g (kill g d h .1)) (sym (w .name′ ∙ e)) ∙ x .gone)) ∙ q ∙ ap tally (here w) in omega arith
 
-  pub allot-still : (k : ℕ) → allot g d h k .0 .number ≡ 0 → Even g n d (allot g d h k .1) → allot g d h k .1 ≡ d
+  pub allot-still : (k : ℕ) → allot g d h k .0 .refusal .number ≡ 0 → Even g n d (allot g d h k .1) → allot g d h k .1 ≡ d
   allot-still k t q =
       let x = Grow.allot-means g d h k t in
       let w : Holds g d h = unfold allot in (Passed.holds g d h _ 4 _ t .0) in
-      let m : max (length (owned g d (h .slot))) (k / granuleSectors + 1) ≡ length (owned g d (h .slot)) = many (same-granules (allot g d h k .1) (allottedTo k (fileAt g d (h .slot))) w q (x .own)) in
+      let m : max (length (owned g d (h .slot))) (k / granuleSectors g + 1) ≡ length (owned g d (h .slot)) = many (same-granules (allot g d h k .1) (allottedTo g k (fileAt g d (h .slot))) w q (x .own)) in
       image (omega arith)
     where
-      many : allottedTo k (fileAt g d (h .slot)) .granules ≡ length (owned g d (h .slot)) → max (length (owned g d (h .slot))) (k / granuleSectors + 1) ≡ length (owned g d (h .slot))
+      many : allottedTo g k (fileAt g d (h .slot)) .granules ≡ length (owned g d (h .slot)) → max (length (owned g d (h .slot))) (k / granuleSectors g + 1) ≡ length (owned g d (h .slot))
       many m = unfold allottedTo fileAt in m
 
-      image : lacking g d (h .slot) (k / granuleSectors + 1) ≡ 0 → allot g d h k .1 ≡ d
+      image : lacking g d (h .slot) (k / granuleSectors g + 1) ≡ 0 → allot g d h k .1 ≡ d
       image z = unfold allot grow diskOr in rw t (ap (larger g d (h .slot)) z)
 
-  pub trim-still : trim g d h .0 .number ≡ 0 → Even g n d (trim g d h .1) → trim g d h .1 ≡ d
+  pub trim-still : trim g d h .0 .refusal .number ≡ 0 → Even g n d (trim g d h .1) → trim g d h .1 ≡ d
   trim-still t q =
       let x = Trim.trim-means g d h t in
       let w : Holds g d h = unfold trim in (Passed.holds g d h _ 4 [] t .0) in
-      image (many (same-granules (trim g d h .1) (trimmed (fileAt g d (h .slot))) w q (x .own))) (Members.decide (keepsSpace g d (h .slot)))
+      image (many (same-granules (trim g d h .1) (trimmed g (fileAt g d (h .slot))) w q (x .own))) (Members.decide (keepsSpace g d (h .slot)))
     where
-      many : trimmed (fileAt g d (h .slot)) .granules ≡ length (owned g d (h .slot))
-          → cond (keepsSpace g d (h .slot)) (length (owned g d (h .slot))) (granulesFor (length (fileAt g d (h .slot) .bytes))) ≡ length (owned g d (h .slot))
+      many : trimmed g (fileAt g d (h .slot)) .granules ≡ length (owned g d (h .slot))
+          → cond (keepsSpace g d (h .slot)) (length (owned g d (h .slot))) (granulesFor g (length (fileAt g d (h .slot) .bytes))) ≡ length (owned g d (h .slot))
       many m = unfold trimmed fileAt in m
 
-      image : cond (keepsSpace g d (h .slot)) (length (owned g d (h .slot))) (granulesFor (length (fileAt g d (h .slot) .bytes))) ≡ length (owned g d (h .slot))
+      image : cond (keepsSpace g d (h .slot)) (length (owned g d (h .slot))) (granulesFor g (length (fileAt g d (h .slot) .bytes))) ≡ length (owned g d (h .slot))
           → Members.Test (keepsSpace g d (h .slot)) → trim g d h .1 ≡ d
       image m (Members.Test.holds v) = unfold trim in rw (t, Members.T-true {b = keepsSpace g d (h .slot)} v)
       image m (Members.Test.fails v) =
-          let k : granulesFor (length (fileAt g d (h .slot) .bytes)) ≡ length (owned g d (h .slot)) = rw (Members.no-false {b = keepsSpace g d (h .slot)} v) at m in
+          let k : granulesFor g (length (fileAt g d (h .slot) .bytes)) ≡ length (owned g d (h .slot)) = rw (Members.no-false {b = keepsSpace g d (h .slot)} v) at m in
           let l = Others.file-length g d (h .slot) in
-          let z : length (owned g d (h .slot)) - granulesFor (sizeOf g d (h .slot)) ≡ 0 = omega arith in
+          let z : length (owned g d (h .slot)) - granulesFor g (sizeOf g d (h .slot)) ≡ 0 = omega (arith, ap (granulesFor g) l) in
           nothing-dropped v z
         where
-          nothing-dropped : (T (keepsSpace g d (h .slot)) → ⊥) → length (owned g d (h .slot)) - granulesFor (sizeOf g d (h .slot)) ≡ 0 → trim g d h .1 ≡ d
+          nothing-dropped : (T (keepsSpace g d (h .slot)) → ⊥) → length (owned g d (h .slot)) - granulesFor g (sizeOf g d (h .slot)) ≡ 0 → trim g d h .1 ≡ d
           nothing-dropped v z = unfold trim in rw (t, Members.no-false {b = keepsSpace g d (h .slot)} v) (ap (λ (y : ℕ). times y (dropOne g (h .slot)) d) z)
 
 -- the image after a write that takes nothing
@@ -170,40 +171,40 @@ pub record QuietWrite (g : Geometry) (d : List ℕ) (m : Mode) (h : Handle) (b d
   pub holds : Holds g d h
   pub image : d′ ≡ written g d (h .slot) m (h .at) (h .len) (take (h .len) b)
   pub len : length (take (h .len) b) ≡ h .len
-  pub fit : sizeAfter m (sizeOf g d (h .slot)) (h .at + h .len) ≤ granuleBytes * length (owned g d (h .slot))
+  pub fit : sizeAfter m (sizeOf g d (h .slot)) (h .at + h .len) ≤ granuleBytes g * length (owned g d (h .slot))
 
-pub write-quiet : (g : Geometry) (d : List ℕ) (n : Name) (m : Mode) (h : Handle) (b : List ℕ) → h .name ≡ n → writeRecord g d m h b .0 .number ≡ 0 → Even g n d (writeRecord g d m h b .1)
+pub write-quiet : (g : Geometry) (d : List ℕ) (n : Name) (m : Mode) (h : Handle) (b : List ℕ) → h .name ≡ n → writeRecord g d m h b .0 .refusal .number ≡ 0 → Even g n d (writeRecord g d m h b .1)
     → QuietWrite g d m h b (writeRecord g d m h b .1)
 write-quiet g d n m h b e t q =
     let x = WriteMeans.write-wrote g d m h b t in
     let p = h .slot in
     let l = length-b t in
-    let k : max (length (owned g d p)) (granulesFor (sizeAfter m (sizeOf g d p) (h .at + length (take (h .len) b)))) ≡ length (owned g d p) =
-    many (same-granules g d n h e (writeRecord g d m h b .1) (writtenTo m (h .at) (take (h .len) b) (fileAt g d p)) (x .0) q (x .1 .own)) in
-    let k′ : max (length (owned g d p)) (granulesFor (sizeAfter m (sizeOf g d p) (h .at + h .len))) ≡ length (owned g d p) =
-    subst (λ (y : ℕ). max (length (owned g d p)) (granulesFor (sizeAfter m (sizeOf g d p) (h .at + y))) ≡ length (owned g d p)) l k in
-    record { holds = x .0; image = still (omega arith); len = l; fit = omega arith }
+    let k : max (length (owned g d p)) (granulesFor g (sizeAfter m (sizeOf g d p) (h .at + length (take (h .len) b)))) ≡ length (owned g d p) =
+    many (same-granules g d n h e (writeRecord g d m h b .1) (writtenTo g m (h .at) (take (h .len) b) (fileAt g d p)) (x .0) q (x .1 .own)) in
+    let k′ : max (length (owned g d p)) (granulesFor g (sizeAfter m (sizeOf g d p) (h .at + h .len))) ≡ length (owned g d p) =
+    subst (λ (y : ℕ). max (length (owned g d p)) (granulesFor g (sizeAfter m (sizeOf g d p) (h .at + y))) ≡ length (owned g d p)) l k in
+    record { holds = x .0; image = still (omega arith); len = l; fit = Sizes.round-fits (Sizes.bytes-pos g) _ _ (omega arith) }
   where
-    length-b : writeRecord g d m h b .0 .number ≡ 0 → length (take (h .len) b) ≡ h .len
+    length-b : writeRecord g d m h b .0 .refusal .number ≡ 0 → length (take (h .len) b) ≡ h .len
     length-b t = unfold writeRecord all in (
         let p₂ = Passed.disk-passed g d _ t in
         let p₃ = Passed.passed 12 _ _ (omega arith) (p₂ .1) in
-        let range : T (all (inRange h ∷ leb (h .at + h .len) highest ∷ leb (h .len) (length b) ∷ [])) = Passed.yes-T (all (inRange h ∷ leb (h .at + h .len) highest ∷ leb (h .len) (length b) ∷ [])) (p₃ .0) in
-        let short = leb→le (h .len) (length b) (Members.and-l (leb (h .len) (length b)) true (Members.and-r (leb (h .at + h .len) highest) _ (Members.and-r (inRange h) _ range))) in
+        let range : T (all (inRange g h ∷ leb (h .at + h .len) (highest g) ∷ leb (h .len) (length b) ∷ [])) = Passed.yes-T (all (inRange g h ∷ leb (h .at + h .len) (highest g) ∷ leb (h .len) (length b) ∷ [])) (p₃ .0) in
+        let short = leb→le (h .len) (length b) (Members.and-l (leb (h .len) (length b)) true (Members.and-r (leb (h .at + h .len) (highest g)) _ (Members.and-r (inRange g h) _ range))) in
         length-take (h .len) b ∙ omega arith)
 
-    many : writtenTo m (h .at) (take (h .len) b) (fileAt g d (h .slot)) .granules ≡ length (owned g d (h .slot))
-        → max (length (owned g d (h .slot))) (granulesFor (sizeAfter m (sizeOf g d (h .slot)) (h .at + length (take (h .len) b)))) ≡ length (owned g d (h .slot))
+    many : writtenTo g m (h .at) (take (h .len) b) (fileAt g d (h .slot)) .granules ≡ length (owned g d (h .slot))
+        → max (length (owned g d (h .slot))) (granulesFor g (sizeAfter m (sizeOf g d (h .slot)) (h .at + length (take (h .len) b)))) ≡ length (owned g d (h .slot))
     many k =
         let o : length (overwritten m (fileAt g d (h .slot) .bytes) (h .at) (take (h .len) b)) ≡ sizeAfter m (sizeOf g d (h .slot)) (h .at + length (take (h .len) b)) =
         Over.overwritten-length m (fileAt g d (h .slot) .bytes) (h .at) (take (h .len) b) ∙ ap (λ (y : ℕ). sizeAfter m y (h .at + length (take (h .len) b))) (Others.file-length g d (h .slot)) in
-        ap (λ (y : ℕ). max (length (owned g d (h .slot))) (granulesFor y)) (sym o) ∙ told k
+        ap (λ (y : ℕ). max (length (owned g d (h .slot))) (granulesFor g y)) (sym o) ∙ told k
       where
-        told : writtenTo m (h .at) (take (h .len) b) (fileAt g d (h .slot)) .granules ≡ length (owned g d (h .slot))
-            → max (length (owned g d (h .slot))) (granulesFor (length (overwritten m (fileAt g d (h .slot) .bytes) (h .at) (take (h .len) b)))) ≡ length (owned g d (h .slot))
+        told : writtenTo g m (h .at) (take (h .len) b) (fileAt g d (h .slot)) .granules ≡ length (owned g d (h .slot))
+            → max (length (owned g d (h .slot))) (granulesFor g (length (overwritten m (fileAt g d (h .slot) .bytes) (h .at) (take (h .len) b)))) ≡ length (owned g d (h .slot))
         told k = unfold writtenTo fileAt in k
 
-    still : lacking g d (h .slot) (granulesFor (sizeAfter m (sizeOf g d (h .slot)) (h .at + h .len))) ≡ 0
+    still : lacking g d (h .slot) (granulesFor g (sizeAfter m (sizeOf g d (h .slot)) (h .at + h .len))) ≡ 0
         → writeRecord g d m h b .1 ≡ written g d (h .slot) m (h .at) (h .len) (take (h .len) b)
     still z = unfold writeRecord written grow diskOr in rw t (ap (λ (y : ℕ).
         let d₁ = larger g d (h .slot) y in
@@ -215,7 +216,7 @@ pub record QuietCreate (g : Geometry) (d : List ℕ) (n : Name) (f : NewFile) (c
   pub handle : create g d n f checking .0 .handle ≡ openedAt g d (firstOr 0 (named g d n)) n (f .len) checking (f .main)
   pub old : T (missing g d n) → ⊥
 
-pub create-quiet : (g : Geometry) (d : List ℕ) (n : Name) (f : NewFile) (checking : Bool) → create g d n f checking .0 .number ≡ 0 → Even g n d (create g d n f checking .1) → QuietCreate g d n f checking
+pub create-quiet : (g : Geometry) (d : List ℕ) (n : Name) (f : NewFile) (checking : Bool) → create g d n f checking .0 .refusal .number ≡ 0 → Even g n d (create g d n f checking .1) → QuietCreate g d n f checking
 create-quiet g d n f checking e q = go (Members.decide (missing g d n))
   where
     told-old : T (missing g d n) → create g d n f checking .0 .old ≡ false
@@ -267,7 +268,7 @@ inEntry g p i = leb (entryAt g p) i && ltb i (entryAt g p + 32)
 
 -- the bytes of its granules, the directory apart
 abbrev pub inData : Geometry → List ℕ → ℕ → ℕ → Bool
-inData g d p i = has (owned g d p) (i / granuleBytes) && not (has (directoryGranules g d) (i / granuleBytes))
+inData g d p i = has (owned g d p) (i / granuleBytes g) && not (has (directoryGranules g d) (i / granuleBytes g))
 
 unfoldable pub regionOf : Geometry → List ℕ → List ℕ → ℕ → Bool
 regionOf g d [] i = false
@@ -296,7 +297,7 @@ module _ (g : Geometry) (d : List ℕ) (c : Sound g d) where
           rw one (rw (l .owns (w .0) (w .1), l .above))
       go (inr w) = rw (Named.none-named g d n w)
 
-  in-entry-dir : (k : Places.Fits g d) (p i : ℕ) → Facts.File g d p → T (inEntry g p i) → In (i / granuleBytes) (directoryGranules g d)
+  in-entry-dir : (k : Places.Fits g d) (p i : ℕ) → Facts.File g d p → T (inEntry g p i) → In (i / granuleBytes g) (directoryGranules g d)
   in-entry-dir k p i f t =
       let a = leb→le (entryAt g p) i (Members.and-l (leb (entryAt g p) i) _ t) in
       let b = ltb→lt i (entryAt g p + 32) (Members.and-r (leb (entryAt g p) i) _ t) in
@@ -310,7 +311,7 @@ module _ (g : Geometry) (d : List ℕ) (c : Sound g d) where
     where
       data-not-entry : (p q : ℕ) → Facts.File g d q → T (inData g d p i) → T (inEntry g q i) → ⊥
       data-not-entry p q f x y =
-          T-not (has (directoryGranules g d) (i / granuleBytes)) (Members.and-r (has (owned g d p) (i / granuleBytes)) _ x) (Members.in-has (in-entry-dir k q i f y))
+          T-not (has (directoryGranules g d) (i / granuleBytes g)) (Members.and-r (has (owned g d p) (i / granuleBytes g)) _ x) (Members.in-has (in-entry-dir k q i f y))
 
       entries : (p q : ℕ) → Facts.File g d p → Facts.File g d q → p ≢ q → T (inEntry g p i) → T (inEntry g q i) → ⊥
       entries p q f h n x y =
@@ -326,8 +327,8 @@ module _ (g : Geometry) (d : List ℕ) (c : Sound g d) where
       apart p q f h n (inl x) (inr y) = data-not-entry q p f y x
       apart p q f h n (inr x) (inl y) = data-not-entry p q h x y
       apart p q f h n (inr x) (inr y) =
-          n (c .granules p q (i / granuleBytes) f h (Members.has-in (i / granuleBytes) (owned g d p) (Members.and-l (has (owned g d p) (i / granuleBytes)) _ x))
-          (Members.has-in (i / granuleBytes) (owned g d q) (Members.and-l (has (owned g d q) (i / granuleBytes)) _ y)))
+          n (c .granules p q (i / granuleBytes g) f h (Members.has-in (i / granuleBytes g) (owned g d p) (Members.and-l (has (owned g d p) (i / granuleBytes g)) _ x))
+          (Members.has-in (i / granuleBytes g) (owned g d q) (Members.and-l (has (owned g d q) (i / granuleBytes g)) _ y)))
 
       go : ((p : ℕ) × Facts.File g d p × (nameOf g d p ≡ a)) ⊎ ((p : ℕ) → Facts.File g d p → nameOf g d p ≢ a)
           → ((p : ℕ) × Facts.File g d p × (nameOf g d p ≡ b)) ⊎ ((p : ℕ) → Facts.File g d p → nameOf g d p ≢ b) → ⊥

@@ -66,9 +66,9 @@ effect g n (reads i buffer) o = record { file = o .file; grips = placed o i (gri
 effect g n (readsSector i k) o = o
 effect g n (writes m i bytes) o =
     let k = gripAt o i in
-    record { file = changed (writtenTo m (k .at) (take (k .len) bytes)) (o .file); grips = placed o i (k .at + k .len) }
-effect g n (allots i k) o = record { file = changed (allottedTo k) (o .file); grips = o .grips }
-effect g n (trims i) o = record { file = changed trimmed (o .file); grips = o .grips }
+    record { file = changed (writtenTo g m (k .at) (take (k .len) bytes)) (o .file); grips = placed o i (k .at + k .len) }
+effect g n (allots i k) o = record { file = changed (allottedTo g k) (o .file); grips = o .grips }
+effect g n (trims i) o = record { file = changed (trimmed g) (o .file); grips = o .grips }
 effect g n (kills i) o = record { file = nothing; grips = o .grips }
 
 -- the calls of a list, one after another

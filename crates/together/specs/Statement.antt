@@ -101,23 +101,23 @@ pub record Answered : Type 0 where
   pub side : Side
 
 unfoldable pub answer : Geometry → Name → List ℕ → Side → Call → Answered
-answer g n d s looksUp = record { number = lookUp g d n .number; disk = d; side = s }
+answer g n d s looksUp = record { number = lookUp g d n .refusal .number; disk = d; side = s }
 answer g n d s (opens len checking code) =
-    let r = open′ g d n len checking code in record { number = r .number; disk = d; side = withNew s (r .handle) }
+    let r = open′ g d n len checking code in record { number = r .refusal .number; disk = d; side = withNew s (r .handle) }
 answer g n d s (creates f checking) =
-    let r = create g d n f checking in record { number = r .0 .number; disk = r .1; side = withNew s (r .0 .handle) }
+    let r = create g d n f checking in record { number = r .0 .refusal .number; disk = r .1; side = withNew s (r .0 .handle) }
 answer g n d s (moves i at) = record { number = 0; disk = d; side = withMoved s i (movedTo (handleAt (s .handles) i) at) }
 answer g n d s (reads i buffer) =
     let h = handleAt (s .handles) i in let r = readRecord g d h buffer in
-    record { number = r .0 .number; disk = d; side = hearing (withMoved s i (r .0 .handle)) (kept (plain g d n) (r .1)) }
+    record { number = r .0 .refusal .number; disk = d; side = hearing (withMoved s i (r .0 .handle)) (kept (plain g d n) (r .1)) }
 answer g n d s (readsSector i k) =
     let h = handleAt (s .handles) i in let r = readSector g d h k in
-    record { number = r .number; disk = d; side = hearing s (kept (plain g d n) (slice (r .from) (r .to) d)) }
+    record { number = r .refusal .number; disk = d; side = hearing s (kept (plain g d n) (slice (r .from) (r .to) d)) }
 answer g n d s (writes m i bytes) =
-    let r = writeRecord g d m (handleAt (s .handles) i) bytes in record { number = r .0 .number; disk = r .1; side = withMoved s i (r .0 .handle) }
-answer g n d s (allots i k) = let r = allot g d (handleAt (s .handles) i) k in record { number = r .0 .number; disk = r .1; side = s }
-answer g n d s (trims i) = let r = trim g d (handleAt (s .handles) i) in record { number = r .0 .number; disk = r .1; side = s }
-answer g n d s (kills i) = let r = kill g d (handleAt (s .handles) i) in record { number = r .0 .number; disk = r .1; side = s }
+    let r = writeRecord g d m (handleAt (s .handles) i) bytes in record { number = r .0 .refusal .number; disk = r .1; side = withMoved s i (r .0 .handle) }
+answer g n d s (allots i k) = let r = allot g d (handleAt (s .handles) i) k in record { number = r .0 .refusal .number; disk = r .1; side = s }
+answer g n d s (trims i) = let r = trim g d (handleAt (s .handles) i) in record { number = r .0 .refusal .number; disk = r .1; side = s }
+answer g n d s (kills i) = let r = kill g d (handleAt (s .handles) i) in record { number = r .0 .refusal .number; disk = r .1; side = s }
 
 -- 2. Two lists, interleaved ---------------------------------------------------------------------------------------------------
 

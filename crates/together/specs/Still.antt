@@ -81,7 +81,7 @@ module _ (g : Geometry) (d : List ℕ) (n : Name) (m : Mode) (h : Handle) (b d�
   abbrev size : ℕ
   size = sizeAfter m (sizeOf g d p) (h .at + h .len)
 
-  end : h .at + length (take (h .len) b) ≤ granuleBytes * length (owned g d p)
+  end : h .at + length (take (h .len) b) ≤ granuleBytes g * length (owned g d p)
   end = let a = w .len in let f = w .fit in omega (arith, Rewrite.after-end m (sizeOf g d p) (h .at + h .len))
 
   pub own-region : (i : ℕ) → region g d n i ≡ (inEntry g p i || inData g d p i)
@@ -91,7 +91,7 @@ module _ (g : Geometry) (d : List ℕ) (n : Name) (m : Mode) (h : Handle) (b d�
   unfolding written
   rewrites = Write.write-rewrites g d (w .holds .sound) (w .holds .fits) p (w .holds .file) (w .holds .user) (h .at) size (take (h .len) b) end (w .fit)
 
-  untouched : (i : ℕ) → (T (inEntry g p i) → ⊥) → (In (i / granuleBytes) (owned g d p) → ⊥) → byte (written g d p m (h .at) (h .len) (take (h .len) b)) i ≡ byte d i
+  untouched : (i : ℕ) → (T (inEntry g p i) → ⊥) → (In (i / granuleBytes g) (owned g d p) → ⊥) → byte (written g d p m (h .at) (h .len) (take (h .len) b)) i ≡ byte d i
   unfolding written
   untouched i o v =
       Write.d₄-out g d (w .holds .sound) (w .holds .fits) p (w .holds .file) (w .holds .user) (h .at) size (take (h .len) b) end (w .fit) i
@@ -106,8 +106,8 @@ module _ (g : Geometry) (d : List ℕ) (n : Name) (m : Mode) (h : Handle) (b d�
     laid = rewrites-laid g d (written g d p m (h .at) (h .len) (take (h .len) b)) (w .holds .sound) p (w .holds .file) (w .holds .user) rewrites;
     outside = λ i o. untouched i
         (λ t. o (rw (own-region i) (Members.or-l (inEntry g p i) (inData g d p i) t)))
-        (λ v. o (rw (own-region i) (Members.or-r (inEntry g p i) (inData g d p i) (Members.and-i (has (owned g d p) (i / granuleBytes)) _ (Members.in-has v)
-        (not-T (has (directoryGranules g d) (i / granuleBytes)) (λ y. Change.filed-at g d (w .holds .sound) p (w .holds .file) .off (w .holds .user) (i / granuleBytes) v (Members.has-in (i / granuleBytes) (directoryGranules g d) y)))))));
+        (λ v. o (rw (own-region i) (Members.or-r (inEntry g p i) (inData g d p i) (Members.and-i (has (owned g d p) (i / granuleBytes g)) _ (Members.in-has v)
+        (not-T (has (directoryGranules g d) (i / granuleBytes g)) (λ y. Change.filed-at g d (w .holds .sound) p (w .holds .file) .off (w .holds .user) (i / granuleBytes g) v (Members.has-in (i / granuleBytes g) (directoryGranules g d) y)))))));
   })
 
 -- Two disks that agree on a region -----------------------------------------------------------------------------------------
@@ -151,7 +151,7 @@ module _ (P : ℕ → Bool) where
       size fs = rw (fs 3 (omega arith), fs 0x14 (omega arith), fs 0x15 (omega arith))
 
       places : place g d p ≡ place g e p
-      places = unfold place in (λ i j. granuleBytes * getD (o i) (j / granuleBytes) 0 + j % granuleBytes)
+      places = unfold place in (λ i j. granuleBytes g * getD (o i) (j / granuleBytes g) 0 + j % granuleBytes g)
 
       go : sizeOf g d p ≡ sizeOf g e p → place g d p ≡ place g e p → Agreed P (written g d p m at len r) (written g e p m at len r)
       go s f = unfold written in rw (s, f) (agreed-size g d e _ _ p (sizeAfter m (sizeOf g e p) (at + len)) (t 1 (omega arith))

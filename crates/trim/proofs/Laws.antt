@@ -1,24 +1,27 @@
 -- The turns of the loop that drops granules, and what a trim answers and leaves.
-use mathlib.Core.Path.{_≡_, refl, sym, ap, _∙_}
+use mathlib.Core.Path.{_≡_, refl, sym, ap, ap₂, _∙_}
 use mathlib.Core.List.{List, [], _∷_}
 use mathlib.Core.Bool.{Bool, true, false, _&&_}
 use Prim.Native.Nat.{ℕ, suc, _+_, _-_, _*_, _/_, _%_, _^_, _≤_, _<_}
 use native.Mathlib.Omega.{arith}
+use native.Mathlib.Nat.{mul-le-mul-left}
 use lib.ListN.{length, length-append}
 use lib.Dec.{eqb, not-T}
 use borrow.Author.Tests.{ne-eqb, eq-eqb}
 use Rattle.meaning.specs.Lists.{times}
 use Rattle.meaning.specs.Layout.{field, setField, freeGranule, granules, granuleBytes, granulesFor}
+use Rattle.meaning.specs.Sizes
 use Rattle.meaning.specs.Bits.{digit, bit}
 use Rattle.meaning.specs.Entries.{extension, runs, runStart, runLength, sizeOf, system}
 use Rattle.meaning.specs.Chain.{owned}
 use Rattle.meaning.specs.Growth.{tail}
 use Rattle.meaning.specs.Drop.{unhooked, dropOne}
-use Rattle.meaning.specs.Refusals.{first, inRange, handleRefusals, protected}
+use Rattle.meaning.specs.Refusals.{first, refusal, inRange, handleRefusals, protected}
 use Rattle.meaning.specs.Trim.{trimRefusals, trim}
 use Rattle.meaning.specs.declared.Geometry.{Geometry}
 use Rattle.meaning.specs.declared.Handle.{Handle}
 use Rattle.meaning.specs.declared.Answer.{Answer}
+use Rattle.meaning.specs.declared.Refusal.{Refusal}
 use Rattle.laws.specs.Members
 use Rattle.laws.specs.Entry.{runs-le}
 use Rattle.laws.specs.Shorter
@@ -35,12 +38,12 @@ use Rattle.trim.proofs.Step
 
 pub bit-fits : (g : Geometry) (d d′ : List ℕ) (n : ℕ) → Room g d → n < granules g → length d′ ≡ length d → Bit g (length d′) n
 bit-fits g d d′ n r h l =
-    let a = r .directory in let b = r .whole in let c = r .blocks-high in let t = r .ten in
+    let a = r .directory in let b = r .long in let c = r .blocks-high in let t = r .ten in
     let q = gat-low g n h (r .units-low) in
     record { units-low = r .units-low; units-high = r .units-high; inside = omega arith }
 
 module _ (g : Geometry) (d : List ℕ) (p e : ℕ) (l : Last g d p e 1) where
-  size : sizeOf g d p + granuleBytes ≤ granuleBytes * length (owned g d p)
+  size : sizeOf g d p + granuleBytes g ≤ granuleBytes g * length (owned g d p)
   size = omega (arith, l .room)
 
   pub last-sound : Sound g d
@@ -128,20 +131,20 @@ module _ (g : Geometry) (p : ℕ) where
   dropping-start l = record { rest = refl; last = l; long = refl }
 
   pub dropping-one : {d d′ : List ℕ} {n at left : ℕ} → Dropping d n d′ at left → 0 < left → Last g d′ p at 1
-  dropping-one i h = record { ready = i .last .ready; last = i .last .last; room = omega (arith, i .last .room) }
+  dropping-one i h = record { ready = i .last .ready; last = i .last .last; room = omega (arith, i .last .room, mul-le-mul-left (granuleBytes g) h) }
 
   pub dropping-step : {d d′ d″ : List ℕ} {n at left b : ℕ} → Dropping d n d′ at left → 0 < left → (d″ ≡ dropOne g p d′) × (b ≡ tail g p (dropOne g p d′))
       → Dropping d n d″ b (left - 1)
   dropping-step {d} {d′} {d″} {n} {at} {left} {b} i h q =
       let r = i .last .ready in
-      let s : sizeOf g d′ p + granuleBytes ≤ granuleBytes * length (owned g d′ p) = omega (arith, i .last .room) in
+      let s : sizeOf g d′ p + granuleBytes g ≤ granuleBytes g * length (owned g d′ p) = omega (arith, i .last .room, mul-le-mul-left (granuleBytes g) h) in
       let w = DropLast.drop-one g d′ (Step.facts g d′ p r) (Step.fits g d′ p r) p (Step.file g d′ p r) (not-T (system g d′ p) (λ t. Members.false-no (r .user) t)) s in
       let z : sizeOf g (dropOne g p d′) p ≡ sizeOf g d′ p = Shorter.size-same g d′ (dropOne g p d′) (Step.facts g d′ p r) p (Step.file g d′ p r) (w .which) (w .shorter) in
       let m : length (owned g d′ p) ≡ length (owned g (dropOne g p d′) p) + 1 = ap length (w .shorter .less) ∙ length-append (owned g (dropOne g p d′) p) (w .which ∷ []) in
       let e : left ≡ suc (left - 1) = omega arith in
       record {
         rest = i .rest ∙ ap (λ (k : ℕ). times k (dropOne g p) d′) e ∙ ap (times (left - 1) (dropOne g p)) (sym (q .0));
-        last = rw (q .0, q .1) (record { ready = drop-ready g d′ p r s .0; last = refl; room = rw z (omega (arith, i .last .room)) });
+        last = rw (q .0, q .1) (record { ready = drop-ready g d′ p r s .0; last = refl; room = rw z (omega (arith, i .last .room, ap (granuleBytes g *_) m, ap (granuleBytes g *_) e)) });
         long = ap length (q .0) ∙ w .long ∙ i .long;
       }
 
@@ -150,7 +153,7 @@ module _ (g : Geometry) (p : ℕ) where
 
 module _ (g : Geometry) (d : List ℕ) (h : Handle) where
   -- the number of a trim is that of a changing call at level 4
-  pub by-range : {ranged : Bool} {n : ℕ} → ranged ≡ inRange h → n ≡ first (handleRefusals g d h ranged (protected g d 4 h ∷ [])) → n ≡ first (trimRefusals g d h)
+  pub by-range : {ranged : Bool} {n : ℕ} → ranged ≡ inRange g h → n ≡ first (handleRefusals g d h ranged (protected g d 4 h ∷ [])) → n ≡ first (trimRefusals g d h)
   by-range r e = e ∙ ap (λ (t : Bool). first (handleRefusals g d h t (protected g d 4 h ∷ []))) r
 
   -- what the file has that passed the tests
@@ -169,30 +172,31 @@ module _ (g : Geometry) (d : List ℕ) (h : Handle) where
   trim-reads r = let w = walks g d (h .slot) r in (w .0 .room, w .1 .slot)
 
   -- the size needs no more granules than are owned
-  pub needs-owned : {n size k : ℕ} → Ready g d (h .slot) → n ≡ length (owned g d (h .slot)) → size ≡ sizeOf g d (h .slot) → k ≡ granulesFor size → k ≤ n
+  pub needs-owned : {n size k : ℕ} → Ready g d (h .slot) → n ≡ length (owned g d (h .slot)) → size ≡ sizeOf g d (h .slot) → k ≡ granulesFor g size → k ≤ n
   needs-owned {n} {size} {k} r a b c =
       let w = walks g d (h .slot) r in
       let f = w .0 .size (h .slot) (w .1 .slot) (r .first) in
-      omega arith
+      omega (arith, Sizes.round-least (Sizes.bytes-pos g) _ _ f, ap (granulesFor g) b)
 
-  pub trim-last : {e n size k : ℕ} → Ready g d (h .slot) → e ≡ tail g (h .slot) d → n ≡ length (owned g d (h .slot)) → size ≡ sizeOf g d (h .slot) → k ≡ granulesFor size
+  pub trim-last : {e n size k : ℕ} → Ready g d (h .slot) → e ≡ tail g (h .slot) d → n ≡ length (owned g d (h .slot)) → size ≡ sizeOf g d (h .slot) → k ≡ granulesFor g size
       → Last g d (h .slot) e (n - k)
   trim-last {e} {n} {size} {k} r q a b c =
       let w = walks g d (h .slot) r in
       let f = w .0 .size (h .slot) (w .1 .slot) (r .first) in
-      record { ready = r; last = q; room = omega arith }
+      record { ready = r; last = q; room = omega (arith, Sizes.surplus-fits (Sizes.bytes-pos g) _ _ f, ap₂ (λ (x y : ℕ). granuleBytes g * (x - y)) a (c ∙ ap (granulesFor g) b)) }
 
-  pub refused : {n : ℕ} → n ≡ first (trimRefusals g d h) → (n ≡ 0 → ⊥) → _≡_ {A = Answer × List ℕ} (record { number = n; handle = h }, d) (trim g d h)
+  pub refused : {n : ℕ} {c : Refusal} → c ≡ refusal g d n → n ≡ first (trimRefusals g d h) → (n ≡ 0 → ⊥)
+      → _≡_ {A = Answer × List ℕ} (record { refusal = c; handle = h }, d) (trim g d h)
   unfolding trim
-  refused {n} e z = rw (← e, ne-eqb n 0 z)
+  refused {n} y e z = rw (← e, ne-eqb n 0 z, y)
 
-  pub kept : {n x : ℕ} → n ≡ first (trimRefusals g d h) → n ≡ 0 → x ≡ field g d (h .slot) 1 → x / 2 ^ 7 % 2 ≡ 1
-      → _≡_ {A = Answer × List ℕ} (record { number = 0; handle = h }, d) (trim g d h)
+  pub kept : {n x : ℕ} {c : Refusal} → c ≡ refusal g d 0 → n ≡ first (trimRefusals g d h) → n ≡ 0 → x ≡ field g d (h .slot) 1 → x / 2 ^ 7 % 2 ≡ 1
+      → _≡_ {A = Answer × List ℕ} (record { refusal = c; handle = h }, d) (trim g d h)
   unfolding trim
-  kept e z q f = rw (← e, z, bit-yes 7 q f)
+  kept y e z q f = rw (← e, z, bit-yes 7 q f, y)
 
-  pub trimmed : {n x m size k : ℕ} {d′ : List ℕ} → n ≡ first (trimRefusals g d h) → n ≡ 0 → x ≡ field g d (h .slot) 1 → (x / 2 ^ 7 % 2 ≡ 1 → ⊥)
-      → m ≡ length (owned g d (h .slot)) → size ≡ sizeOf g d (h .slot) → k ≡ granulesFor size → d′ ≡ times (m - k) (dropOne g (h .slot)) d
-      → _≡_ {A = Answer × List ℕ} (record { number = 0; handle = h }, d′) (trim g d h)
+  pub trimmed : {n x m size k : ℕ} {d′ : List ℕ} {c : Refusal} → c ≡ refusal g d 0 → n ≡ first (trimRefusals g d h) → n ≡ 0 → x ≡ field g d (h .slot) 1 → (x / 2 ^ 7 % 2 ≡ 1 → ⊥)
+      → m ≡ length (owned g d (h .slot)) → size ≡ sizeOf g d (h .slot) → k ≡ granulesFor g size → d′ ≡ times (m - k) (dropOne g (h .slot)) d
+      → _≡_ {A = Answer × List ℕ} (record { refusal = c; handle = h }, d′) (trim g d h)
   unfolding trim
-  trimmed e z q f a b c w = rw (← e, z, bit-no 7 q f, w, a, c, b)
+  trimmed y e z q f a b c w = rw (← e, z, bit-no 7 q f, w, a, c, b, y)

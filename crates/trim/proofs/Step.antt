@@ -10,6 +10,7 @@ use lib.Dec.{eqb, T-not}
 use borrow.Author.Tests.{lt-ltb, le-ltb, eq-eqb, ne-eqb}
 use Rattle.meaning.specs.Lists.{lastOr}
 use Rattle.meaning.specs.Layout.{field, setField, freeGranule, granuleBytes}
+use Rattle.meaning.specs.Sizes
 use Rattle.meaning.specs.Entries.{extension, marker, link, runs, runStart, runLength, sizeOf}
 use Rattle.meaning.specs.Chain.{chainFrom, chain, owned}
 use Rattle.meaning.specs.Growth.{tail}
@@ -83,7 +84,7 @@ module _ (g : Geometry) (d : List ℕ) (p : ℕ) (r : Ready g d p) where
       shorter (inl j) = j
       shorter (inr q) = absurd (n q)
 
-  module _ (size : sizeOf g d p + granuleBytes ≤ granuleBytes * length (owned g d p)) where
+  module _ (size : sizeOf g d p + granuleBytes g ≤ granuleBytes g * length (owned g d p)) where
     abbrev t : ℕ
     t = tail g p d
 
@@ -94,7 +95,7 @@ module _ (g : Geometry) (d : List ℕ) (p : ℕ) (r : Ready g d p) where
     n = runStart g d t k + runLength g d t k - 1
 
     pub some-run : 1 ≤ runs g d t
-    some-run = Drop.tail-run g d facts p file (omega (arith, size))
+    some-run = Drop.tail-run g d facts p file (Sizes.some-width (Sizes.bytes-pos g) _ (omega (arith, size)))
 
     -- Case 1: the last run is shorter by one.
     pub short : 1 < runLength g d t k → dropOne g p d ≡ freeGranule g (setField g d t (0x17 + 2 * k) (field g d t (0x17 + 2 * k) - 1)) n

@@ -10,6 +10,7 @@ use lib.Dec.{eqb, ltb, leb}
 use borrow.Author.Tests.{le-leb, lt-leb, lt-ltb, le-ltb, eqb-true, not-false}
 use Rattle.meaning.specs.Lists.{count, every, each, all, any, length-count}
 use Rattle.meaning.specs.Layout.{granules, field, hit, isSlot, granuleSectors, mostBlocks}
+use Rattle.meaning.specs.Sizes
 use Rattle.meaning.specs.Entries.{runs, runsFrom, block, second, runStart, runLength, runGranules, entryGranules, marker, link}
 use Rattle.meaning.specs.Chain.{chainFrom}
 use Rattle.meaning.specs.Consistent.{pairsHold, runsHold}
@@ -258,7 +259,7 @@ module _ (g : Geometry) (d : List ℕ) where
   holds-none h s e = ap (λ (j : ℕ). chainHolds g d h j s) e
 
   walked-no : {least sectors owned : ℕ} {right : Bool} {cs m m′ met met′ : List ℕ}
-      → all (right ∷ allows m least 0 (granulesOf g d cs) ∷ allows met 1 0 cs ∷ leb sectors (granuleSectors * (owned + length (granulesOf g d cs))) ∷ []) ≡ false
+      → all (right ∷ allows m least 0 (granulesOf g d cs) ∷ allows met 1 0 cs ∷ leb sectors (granuleSectors g * (owned + length (granulesOf g d cs))) ∷ []) ≡ false
       → Walked g d least sectors owned right cs m m′ met met′ false
   walked-no h = record { answer = sym h; map = λ q. not-both q refl; meets = λ q. not-both q refl }
 
@@ -287,9 +288,9 @@ module _ (g : Geometry) (d : List ℕ) where
 
       by : (b : Bool)
           → all (chainHolds g d h left s ∷ allows m least 0 (granulesOf g d (chainFrom g d left s)) ∷ allows met 1 0 (chainFrom g d left s)
-          ∷ leb sectors (granuleSectors * (owned + length (granulesOf g d (chainFrom g d left s)))) ∷ []) ≡ b
+          ∷ leb sectors (granuleSectors g * (owned + length (granulesOf g d (chainFrom g d left s)))) ∷ []) ≡ b
           → all (chainHolds g d h left s ∷ allows m least 0 (granulesOf g d (chainFrom g d left s)) ∷ allows met 1 0 (chainFrom g d left s)
-          ∷ leb sectors (granuleSectors * (owned + length (granulesOf g d (chainFrom g d left s)))) ∷ []) ≡ false
+          ∷ leb sectors (granuleSectors g * (owned + length (granulesOf g d (chainFrom g d left s)))) ∷ []) ≡ false
       by false q = q
       by true q =
           let c = sym (holds-some h s n) ∙ all-at _ q 0 in
@@ -335,11 +336,11 @@ module _ (g : Geometry) (d : List ℕ) where
       b : allows met 1 0 (chainFrom g d left s) ≡ allows (set met s 0) 1 0 cs
       b = ap (allows met 1 0) (chain-some s n) ∙ ap (λ (z : Bool). z && allows (set met s 0) 1 0 cs) (le-leb 1 (getD met s 0) l)
 
-      o : leb sectors (granuleSectors * (owned + length (granulesOf g d (chainFrom g d left s)))) ≡ leb sectors (granuleSectors * (owned + p .granules + length rest))
+      o : leb sectors (granuleSectors g * (owned + length (granulesOf g d (chainFrom g d left s)))) ≡ leb sectors (granuleSectors g * (owned + p .granules + length rest))
       o = let e : length (granulesOf g d (chainFrom g d left s)) ≡ p .granules + length rest
           = ap {B = ℕ} length (split s n) ∙ length-append (entryGranules g d s) rest ∙ ap (λ (j : ℕ). j + length rest) (sym (w .granules-is ok)) in
           let f : owned + length (granulesOf g d (chainFrom g d left s)) ≡ owned + p .granules + length rest = omega arith in
-          ap (λ (j : ℕ). leb sectors (granuleSectors * j)) f
+          ap (λ (j : ℕ). leb sectors (granuleSectors g * j)) f
 
   -- the same, of the primary entry: no granule was met before
   pub walked-first : {least sectors : ℕ} (h s : ℕ) {left : ℕ} {m m₁ m₂ met met₂ : List ℕ} {p : Pairs} {r : Bool} → (left ≡ 0 → ⊥) → 1 ≤ getD met s 0 → Entered g d s least m m₁ p → not (p .ok) ≡ false
@@ -350,12 +351,12 @@ module _ (g : Geometry) (d : List ℕ) where
 
   -- the marker is FFH
   pub walked-end : {least sectors owned : ℕ} (h s : ℕ) (rest : Bool) (cs : List ℕ) {x : ℕ} {m met : List ℕ} → x ≡ marker g d s → x ≡ 0xff
-      → Walked g d least sectors owned (markerHolds g d h s rest) (onward g d s cs) m m met met (leb sectors (granuleSectors * owned))
+      → Walked g d least sectors owned (markerHolds g d h s rest) (onward g d s cs) m m met met (leb sectors (5 * owned))
   unfolding markerHolds onward allows marked all any
   walked-end {least} {sectors} {owned} h s rest cs {x} {m} {met} e f =
       let q : marker g d s ≡ 0xff = sym e ∙ f in
       let z : owned + 0 ≡ owned = omega arith in
-      record { answer = rw (q, z, and-true); map = λ t. rw q; meets = λ t. rw q }
+      record { answer = rw (Sizes.code-sectors g, q, z, and-true); map = λ t. rw q; meets = λ t. rw q }
 
   -- the marker is not FFH, and does not lead on
   pub walked-stop : {least sectors owned : ℕ} (h s : ℕ) (rest : Bool) {x : ℕ} {cs m m′ met met′ : List ℕ} → x ≡ marker g d s → (x ≡ 0xff → ⊥) → goesOn g d h s ≡ false

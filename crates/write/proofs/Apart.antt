@@ -3,10 +3,12 @@ use mathlib.Core.Logic.{⊎-elim, _⊎_, inl, inr}
 use mathlib.Core.List.{List}
 use mathlib.Core.Path.{ap}
 use mathlib.Core.Bool.{not}
-use Prim.Native.Nat.{ℕ, _+_, _*_, _/_, _≤_}
+use Prim.Native.Nat.{ℕ, _+_, _*_, _/_, _≤_, suc}
 use native.Mathlib.Omega.{arith}
+use native.Mathlib.Nat.{mul-le-mul-left}
 use lib.ListN.{getD}
-use Rattle.meaning.specs.Layout.{directorySectors, directoryGranules, granuleSectors, granuleBytes}
+use Rattle.meaning.specs.Layout.{directorySectors, directoryGranules, granuleSectors, granuleBytes, roundUp}
+use Rattle.meaning.specs.Sizes
 use Rattle.meaning.specs.Chain.{owned}
 use Rattle.meaning.specs.declared.Geometry.{Geometry}
 use Rattle.laws.specs.Change
@@ -24,15 +26,17 @@ module _ (g : Geometry) (d : List ℕ) (s : ℕ) (r : Ready g d s) where
 
   -- a granule that is none of the directory's lies before it or behind it
   before-or-behind : (n : ℕ) → (In n (directoryGranules g d) → ⊥)
-      → (granuleBytes * n + granuleBytes ≤ 256 * g .start) ⊎ (256 * (g .start + directorySectors g d) ≤ granuleBytes * n)
+      → (granuleBytes g * n + granuleBytes g ≤ 256 * g .start) ⊎ (256 * (g .start + directorySectors g d) ≤ granuleBytes g * n)
   unfolding directorySectors
   before-or-behind n z =
-      let a = Places.fits g d (true-T (r .fits)) .start-at in let b = Places.dir g d (sound .dir) .fives in
+      let a = Places.fits g d (true-T (r .fits)) .start-at in
+      let b = Sizes.split (Sizes.sectors-pos g) (g .start) .is in
+      let c = Sizes.round-holds (Sizes.sectors-pos g) (directorySectors g d) in
       ⊎-elim
       (λ p.
-      ⊎-elim (λ q. inr (omega arith)) (λ q. absurd (z (in-count n (g .start / granuleSectors) (directorySectors g d / granuleSectors) p q)))
-      (le-or-lt (g .start / granuleSectors + directorySectors g d / granuleSectors) n))
-      (λ p. inl (omega arith)) (le-or-lt (g .start / granuleSectors) n)
+      ⊎-elim (λ q. inr (rw (Sizes.bytes-are g) (omega (arith, mul-le-mul-left {m = g .start / granuleSectors g + roundUp (directorySectors g d) (granuleSectors g)} {n = n} (granuleSectors g) q)))) (λ q. absurd (z (in-count n (g .start / granuleSectors g) (roundUp (directorySectors g d) (granuleSectors g)) p q)))
+      (le-or-lt (g .start / granuleSectors g + roundUp (directorySectors g d) (granuleSectors g)) n))
+      (λ p. inl (rw (Sizes.bytes-are g) (omega (arith, mul-le-mul-left {m = suc n} {n = g .start / granuleSectors g} (granuleSectors g) p)))) (le-or-lt (g .start / granuleSectors g) n)
 
   pub is-apart : Apart g d s
   is-apart =

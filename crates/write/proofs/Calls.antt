@@ -4,18 +4,21 @@ use mathlib.Core.List.{List, [], _∷_}
 use mathlib.Core.Bool.{Bool, true, cond}
 use Prim.Native.Nat.{ℕ, _+_, _-_, _*_, _≤_, max}
 use native.Mathlib.Omega.{arith}
+use native.Mathlib.Nat.{mul-le-mul-left}
 use lib.ListN.{length, replicate, take, set, length-set}
 use lib.Dec.{leb}
 use borrow.Author.Tests.{ne-eqb, leb-true}
 use Rattle.meaning.specs.Lists.{all}
 use Rattle.meaning.specs.Layout.{highest, granulesFor, entryAt, granuleBytes}
+use Rattle.meaning.specs.Sizes
 use Rattle.meaning.specs.Entries.{sizeOf}
 use Rattle.meaning.specs.Chain.{owned, place}
-use Rattle.meaning.specs.Refusals.{first, accepted, inRange, movedTo, handleRefusals, protected, cannotGrow, larger, lacking}
+use Rattle.meaning.specs.Refusals.{first, accepted, refusal, inRange, movedTo, handleRefusals, protected, cannotGrow, larger, lacking}
 use Rattle.meaning.specs.Write.{store, sizeAfter, withSize, toWrite, writeRefusals, writeRecord}
 use Rattle.meaning.specs.declared.Geometry.{Geometry}
 use Rattle.meaning.specs.declared.Handle.{Handle}
 use Rattle.meaning.specs.declared.Answer.{Answer}
+use Rattle.meaning.specs.declared.Refusal.{Refusal}
 use Rattle.meaning.specs.declared.Mode.{Mode}
 use Rattle.meaning.specs.declared.Mode.the-variants.{Sequential, Random}
 use Rattle.laws.specs.Steps.{Ready}
@@ -51,17 +54,21 @@ store-long f d i (b ∷ bs) = store-long f (set d (f i) b) (i + 1) bs ∙ length
 pub stored-long : (f : ℕ → ℕ) (d : List ℕ) (i : ℕ) (xs : List ℕ) (j : ℕ) (ys : List ℕ) {d′ : List ℕ} → d′ ≡ store f (store f d i xs) j ys → length d′ ≡ length d
 stored-long f d i xs j ys e = ap (λ (l : List ℕ). length l) e ∙ store-long f (store f d i xs) j ys ∙ store-long f d i xs
 
+-- every position is this low, whatever the granule
+low-at : (g : Geometry) (n : ℕ) → n ≤ highest g → n ≤ 7864320
+low-at g n h = omega (arith, Sizes.bytes-are g, Sizes.sectors-most g)
+
 -- position and length of a handle in range
-pub in-reach : (h : Handle) → inRange h ≡ true → (h .at ≤ highest) × (h .len ≤ 256)
+pub in-reach : (g : Geometry) (h : Handle) → inRange g h ≡ true → (h .at ≤ 7864320) × (h .len ≤ 256)
 unfolding inRange
-in-reach h r = (leb-true _ _ (all-at _ r 0), length-range (h .len) (all-at _ r 1) .1)
+in-reach g h r = (low-at g _ (leb-true _ _ (all-at _ r 0)), length-range (h .len) (all-at _ r 1) .1)
 
 -- a file's size lies in what it owns
-pub old-owned : (g : Geometry) (d : List ℕ) (p : ℕ) {old : ℕ} → Ready g d p → old ≡ sizeOf g d p → old ≤ granuleBytes * length (owned g d p)
+pub old-owned : (g : Geometry) (d : List ℕ) (p : ℕ) {old : ℕ} → Ready g d p → old ≡ sizeOf g d p → old ≤ granuleBytes g * length (owned g d p)
 old-owned g d p y e = let b = walks g d p y .0 .size p (slot-of g d p (y .slot)) (y .first) in omega arith
 
 module _ (g : Geometry) (d : List ℕ) (m : Mode) (h : Handle) (b : List ℕ) {ranged : Bool}
-    (r : ranged ≡ all (inRange h ∷ leb (h .at + h .len) highest ∷ leb (h .len) (length b) ∷ [])) where
+    (r : ranged ≡ all (inRange g h ∷ leb (h .at + h .len) (highest g) ∷ leb (h .len) (length b) ∷ [])) where
   by-handle : {n : ℕ} → n ≡ first (handleRefusals g d h ranged (protected g d 4 h ∷ [])) → (n ≡ 0 → ⊥) → n ≡ first (writeRefusals g d m h (length b))
   by-handle e z =
       handle-stop g d h ranged (protected g d 4 h ∷ []) (cannotGrow g d (h .slot) (toWrite g d m h)) e z
@@ -72,41 +79,41 @@ module _ (g : Geometry) (d : List ℕ) (m : Mode) (h : Handle) (b : List ℕ) {r
       f ∙ sym (handle-then g d h ranged (protected g d 4 h ∷ []) (cannotGrow g d (h .slot) (toWrite g d m h)) refl e z)
       ∙ ap (λ (t : Bool). first (handleRefusals g d h t (protected g d 4 h ∷ cannotGrow g d (h .slot) (toWrite g d m h)))) r
 
-  pub refused : {n : ℕ} → n ≡ first (handleRefusals g d h ranged (protected g d 4 h ∷ [])) → (n ≡ 0 → ⊥) → _≡_ {A = Answer × List ℕ} (record { number = n; handle = h }, d) (writeRecord g d m h b)
+  pub refused : {n : ℕ} {c : Refusal} → c ≡ refusal g d n → n ≡ first (handleRefusals g d h ranged (protected g d 4 h ∷ [])) → (n ≡ 0 → ⊥) → _≡_ {A = Answer × List ℕ} (record { refusal = c; handle = h }, d) (writeRecord g d m h b)
   unfolding writeRecord
-  refused {n} e z = rw (← by-handle e z, ne-eqb n 0 z)
+  refused {n} x e z = rw (← by-handle e z, ne-eqb n 0 z, x)
 
-  pub not-grown : {n k : ℕ} {d′ : List ℕ} → n ≡ first (handleRefusals g d h ranged (protected g d 4 h ∷ [])) → n ≡ 0 → k ≡ first (cannotGrow g d (h .slot) (toWrite g d m h))
-      → (k ≡ 0 → ⊥) → d′ ≡ cond (accepted k) (larger g d (h .slot) (toWrite g d m h)) d → _≡_ {A = Answer × List ℕ} (record { number = k; handle = h }, d′) (writeRecord g d m h b)
+  pub not-grown : {n k : ℕ} {d′ : List ℕ} {c : Refusal} → c ≡ refusal g d k → n ≡ first (handleRefusals g d h ranged (protected g d 4 h ∷ [])) → n ≡ 0 → k ≡ first (cannotGrow g d (h .slot) (toWrite g d m h))
+      → (k ≡ 0 → ⊥) → d′ ≡ cond (accepted k) (larger g d (h .slot) (toWrite g d m h)) d → _≡_ {A = Answer × List ℕ} (record { refusal = c; handle = h }, d′) (writeRecord g d m h b)
   unfolding writeRecord
-  not-grown {n} {k} e z f y q = rw (← by-growth e z f, q, ne-eqb k 0 y)
+  not-grown {n} {k} x e z f y q = rw (← by-growth e z f, q, ne-eqb k 0 y, x)
 
-  pub written : {n k old size : ℕ} {d₁ d₃ d₄ : List ℕ} → old ≡ sizeOf g d (h .slot) → n ≡ first (handleRefusals g d h ranged (protected g d 4 h ∷ [])) → n ≡ 0 → k ≡ first (cannotGrow g d (h .slot) (toWrite g d m h)) → k ≡ 0
+  pub written : {n k old size : ℕ} {d₁ d₃ d₄ : List ℕ} {c : Refusal} → c ≡ refusal g d 0 → old ≡ sizeOf g d (h .slot) → n ≡ first (handleRefusals g d h ranged (protected g d 4 h ∷ [])) → n ≡ 0 → k ≡ first (cannotGrow g d (h .slot) (toWrite g d m h)) → k ≡ 0
       → d₁ ≡ cond (accepted k) (larger g d (h .slot) (toWrite g d m h)) d → size ≡ sizeAfter m (sizeOf g d (h .slot)) (h .at + h .len)
       → d₃ ≡ store (place g d₁ (h .slot)) (store (place g d₁ (h .slot)) d₁ old (replicate (h .at - old) 0)) (h .at) (take (h .len) b)
       → d₄ ≡ withSize g d d₃ (h .slot) size
-      → _≡_ {A = Answer × List ℕ} (record { number = 0; handle = movedTo h (h .at + h .len) }, d₄) (writeRecord g d m h b)
+      → _≡_ {A = Answer × List ℕ} (record { refusal = c; handle = movedTo h (h .at + h .len) }, d₄) (writeRecord g d m h b)
   unfolding writeRecord
-  written {n} {k} {old} {size} {d₁} {d₃} {d₄} o e z f y q s w v =
+  written {n} {k} {old} {size} {d₁} {d₃} {d₄} t o e z f y q s w v =
       let x : d₁ ≡ larger g d (h .slot) (toWrite g d m h) = q ∙ ap (λ (j : ℕ). cond (accepted j) (larger g d (h .slot) (toWrite g d m h)) d) y in
       let u : 0 ≡ first (writeRefusals g d m h (length b)) = sym y ∙ by-growth e z f in
-      rw (← u, v, w, o, s, x)
+      rw (← u, v, w, o, s, x, t)
 
   -- the size, the growth's number and image in the words of the call
   pub size-is : {old size : ℕ} → old ≡ sizeOf g d (h .slot) → size ≡ sizeAfter m old (h .at + h .len) → size ≡ sizeAfter m (sizeOf g d (h .slot)) (h .at + h .len)
   size-is o s = s ∙ ap (λ (k : ℕ). sizeAfter m k (h .at + h .len)) o
 
-  pub number-is : {n size : ℕ} → size ≡ sizeAfter m (sizeOf g d (h .slot)) (h .at + h .len) → n ≡ first (cannotGrow g d (h .slot) (lacking g d (h .slot) (granulesFor size)))
+  pub number-is : {n size : ℕ} → size ≡ sizeAfter m (sizeOf g d (h .slot)) (h .at + h .len) → n ≡ first (cannotGrow g d (h .slot) (lacking g d (h .slot) (granulesFor g size)))
       → n ≡ first (cannotGrow g d (h .slot) (toWrite g d m h))
-  number-is s e = e ∙ ap (λ (k : ℕ). first (cannotGrow g d (h .slot) (lacking g d (h .slot) (granulesFor k)))) s
+  number-is s e = e ∙ ap (λ (k : ℕ). first (cannotGrow g d (h .slot) (lacking g d (h .slot) (granulesFor g k)))) s
 
-  pub image-is : (n : ℕ) {size : ℕ} {d′ : List ℕ} → size ≡ sizeAfter m (sizeOf g d (h .slot)) (h .at + h .len) → d′ ≡ cond (accepted n) (larger g d (h .slot) (lacking g d (h .slot) (granulesFor size))) d
+  pub image-is : (n : ℕ) {size : ℕ} {d′ : List ℕ} → size ≡ sizeAfter m (sizeOf g d (h .slot)) (h .at + h .len) → d′ ≡ cond (accepted n) (larger g d (h .slot) (lacking g d (h .slot) (granulesFor g size))) d
       → d′ ≡ cond (accepted n) (larger g d (h .slot) (toWrite g d m h)) d
-  image-is n s e = e ∙ ap (λ (k : ℕ). cond (accepted n) (larger g d (h .slot) (lacking g d (h .slot) (granulesFor k))) d) s
+  image-is n s e = e ∙ ap (λ (k : ℕ). cond (accepted n) (larger g d (h .slot) (lacking g d (h .slot) (granulesFor g k))) d) s
 
   -- the numbers of a write whose handle passed
   pub record Fit : Type 0 where
-    pub ends : h .at + h .len ≤ highest
+    pub ends : h .at + h .len ≤ 7864320
     pub some : 1 ≤ h .len
     pub short : h .len ≤ 256
     pub room : h .len ≤ length b
@@ -115,22 +122,22 @@ module _ (g : Geometry) (d : List ℕ) (m : Mode) (h : Handle) (b : List ℕ) {r
   fit e z =
       let w = sym r ∙ passed g d h ranged (protected g d 4 h ∷ []) refl e z .ranged′ in
       let q = ranges g d h (all-at _ w 0) in
-      record { ends = leb-true _ _ (all-at _ w 1); some = q .1; short = q .2; room = leb-true _ _ (all-at _ w 2) }
+      record { ends = low-at g _ (leb-true _ _ (all-at _ w 1)); some = q .1; short = q .2; room = leb-true _ _ (all-at _ w 2) }
 
   -- what the stores of an accepted write ask for
   pub record Stores (d₁ : List ℕ) (size : ℕ) : Type 0 where
     pub file : File g d₁ (h .slot)
     pub apart : Apart g d₁ (h .slot)
     pub owns : Owned g d₁ (h .slot) (h .at) (h .len)
-    pub old : sizeOf g d (h .slot) ≤ granuleBytes * length (owned g d₁ (h .slot))
-    pub high : size ≤ highest
+    pub old : sizeOf g d (h .slot) ≤ granuleBytes g * length (owned g d₁ (h .slot))
+    pub high : size ≤ 7864320
     pub entry : entryAt g (h .slot) + 32 ≤ length d₁
 
   pub sized : (f : ℕ → ℕ) (i : ℕ) (xs : List ℕ) (j : ℕ) (ys : List ℕ) {d₁ d₃ : List ℕ} {size : ℕ} → Stores d₁ size → d₃ ≡ store f (store f d₁ i xs) j ys
-      → (entryAt g (h .slot) + 32 ≤ length d₃) × (size ≤ highest)
+      → (entryAt g (h .slot) + 32 ≤ length d₃) × (size ≤ 7864320)
   sized f i xs j ys {d₁} w e = let q = w .entry in let l = stored-long f d₁ i xs j ys e in (omega arith, w .high)
 
-  pub old-fits : {old size : ℕ} {d₁ : List ℕ} → old ≡ sizeOf g d (h .slot) → Stores d₁ size → old ≤ granuleBytes * length (owned g d₁ (h .slot))
+  pub old-fits : {old size : ℕ} {d₁ : List ℕ} → old ≡ sizeOf g d (h .slot) → Stores d₁ size → old ≤ granuleBytes g * length (owned g d₁ (h .slot))
   old-fits e w = let q = w .old in omega arith
 
   pub stores : {k size : ℕ} {d₁ : List ℕ} → Ready g d (h .slot) → Fit → k ≡ first (cannotGrow g d (h .slot) (toWrite g d m h)) → k ≡ 0
@@ -145,12 +152,13 @@ module _ (g : Geometry) (d : List ℕ) (m : Mode) (h : Handle) (b : List ℕ) {r
       let b₀ = walks g d p y .0 .size p (slot-of g d p (y .slot)) (y .first) in
       let c = after-end m (sizeOf g d p) (h .at + h .len) in
       let o = f .some in let u = f .ends in
-      let rm = a .0 .room in let rd = rm .directory in let rl = rm .whole in let rmost = rm .most in let l₀ = sl .low in let l₁ = sl .held in
+      let held = Sizes.round-fits (Sizes.bytes-pos g) (sizeAfter m (sizeOf g d p) (h .at + h .len)) (length (owned g d₁ p)) (omega arith) in
+      let rm = a .0 .room in let rd = rm .directory in let rl = rm .long in let rmost = rm .most in let l₀ = sl .low in let l₁ = sl .held in
       record {
         file = record { sound = a .0; used = a .1 };
         apart = is-apart g d₁ p (w .ready);
         owns = record { some = o; owned = omega arith; high = omega arith };
-        old = omega arith;
-        high = omega arith;
+        old = omega (arith, mul-le-mul-left {m = length (owned g d p)} {n = length (owned g d₁ p)} (granuleBytes g) (omega arith));
+        high = omega (arith, mul-le-mul-left (granuleBytes g) t, Sizes.bytes-are g, Sizes.sectors-most g);
         entry = omega arith;
       }

@@ -12,6 +12,7 @@ use Rattle.meaning.specs.Write.{store}
 use Rattle.meaning.specs.declared.Geometry.{Geometry}
 use mathlib.Core.Logic.{⊎-elim, _⊎_, inl, inr}
 use Rattle.meaning.specs.Layout.{directorySectors, granuleBytes}
+use Rattle.meaning.specs.Sizes
 use Rattle.meaning.specs.Chain.{owned}
 use Rattle.layout.specs.Room.{Room}
 use Rattle.seek.proofs.Frame.{Same, same-refl, same-trans, same-before, same-behind, same-sectors, same-place, same-room, same-sound, same-used, same-owned}
@@ -39,16 +40,16 @@ store-append f d i (x ∷ xs) ys =
 
 module _ (g : Geometry) (d : List ℕ) where
   -- a part in one sector, put into whatever the image is by then
-  pub stored-part : (s i n : ℕ) (d′ bs : List ℕ) → InGranule i n → length bs ≡ n → store (place g d s) d′ i bs ≡ sets d′ (place g d s i) bs
+  pub stored-part : (s i n : ℕ) (d′ bs : List ℕ) → InGranule g i n → length bs ≡ n → store (place g d s) d′ i bs ≡ sets d′ (place g d s i) bs
   stored-part s i n d′ bs x e = let y = x .inside in store-run (place g d s) d′ i bs (λ t l. place-next g d s i t (omega arith))
 
-  pub stored-one : (s i n : ℕ) (src : List ℕ) {p : ℕ} {d′ : List ℕ} → p ≡ place g d s i → d′ ≡ sets d p (take n (drop 0 src)) → InGranule i n → n ≤ length src
+  pub stored-one : (s i n : ℕ) (src : List ℕ) {p : ℕ} {d′ : List ℕ} → p ≡ place g d s i → d′ ≡ sets d p (take n (drop 0 src)) → InGranule g i n → n ≤ length src
       → d′ ≡ store (place g d s) d i (take n src)
   stored-one s i n src {p} {d′} e f x l =
       f ∙ ap (λ (k : ℕ). sets d k (take n src)) e ∙ sym (stored-part s i n d (take n src) x (length-take-le n src l))
 
   pub stored-two : (s i m n : ℕ) (src : List ℕ) {p q : ℕ} {d′ d″ : List ℕ} → p ≡ place g d s i → q ≡ place g d s (i + m) → d′ ≡ sets d p (take m (drop 0 src)) → d″ ≡ sets d′ q (take (n - m) (drop m src))
-      → InGranule i m → InGranule (i + m) (n - m) → m ≤ n → n ≤ length src
+      → InGranule g i m → InGranule g (i + m) (n - m) → m ≤ n → n ≤ length src
       → d″ ≡ store (place g d s) d i (take n src)
   stored-two s i m n src {p} {q} {d′} {d″} e f u v x y h l =
       let r : m + (n - m) ≡ n = omega arith in
@@ -86,13 +87,13 @@ module _ (g : Geometry) (d : List ℕ) where
   pub zeroing-start : (s i n : ℕ) → Zeroing s i n d i n
   zeroing-start s i n = record { rest = refl; same = same-refl g d; sum = refl }
 
-  pub apart-at : (s i m : ℕ) → Apart g d s → Owned g d s i m → InGranule i m → (place g d s i + m ≤ 256 * g .start) ⊎ (256 * (g .start + directorySectors g d) ≤ place g d s i)
+  pub apart-at : (s i m : ℕ) → Apart g d s → Owned g d s i m → InGranule g i m → (place g d s i + m ≤ 256 * g .start) ⊎ (256 * (g .start + directorySectors g d) ≤ place g d s i)
   unfolding place
   apart-at s i m a o x =
       let y = x .inside in let z = o .owned in let w = o .some in
-      ⊎-elim (λ h. inl (omega arith)) (λ h. inr (omega arith)) (a .apart (i / granuleBytes) (omega arith))
+      ⊎-elim (λ h. inl (omega arith)) (λ h. inr (omega arith)) (a .apart (i / granuleBytes g) (Sizes.width-lt (Sizes.bytes-pos g) i _ (omega arith)))
 
-  pub zeroing-step : {s i n at left m p : ℕ} {d′ d″ : List ℕ} → File g d s → Apart g d s → Zeroing s i n d′ at left → Owned g d s at m → InGranule at m → m ≤ left
+  pub zeroing-step : {s i n at left m p : ℕ} {d′ d″ : List ℕ} → File g d s → Apart g d s → Zeroing s i n d′ at left → Owned g d s at m → InGranule g at m → m ≤ left
       → p ≡ place g d s at → d″ ≡ sets d′ p (replicate m 0) → Zeroing s i n d″ (at + m) (left - m)
   zeroing-step {s} {i} {n} {at} {left} {m} {p} {d′} {d″} f a z o x l e q =
       let r : m + (left - m) ≡ left = omega arith in
@@ -130,7 +131,7 @@ store-place f f′ d i (b ∷ bs) e = ap (λ (k : ℕ). store f (set d k b) (i +
 
 module _ (g : Geometry) (d : List ℕ) (s : ℕ) (f : File g d s) (a : Apart g d s) where
   -- bytes of the file stored: HIT and entries are as they were
-  store-same : (bs : List ℕ) (i : ℕ) (d′ : List ℕ) → i + length bs ≤ granuleBytes * length (owned g d s) → i + length bs ≤ 16777215 → Same g d d′ → Same g d (store (place g d s) d′ i bs)
+  store-same : (bs : List ℕ) (i : ℕ) (d′ : List ℕ) → i + length bs ≤ granuleBytes g * length (owned g d s) → i + length bs ≤ 16777215 → Same g d d′ → Same g d (store (place g d s) d′ i bs)
   unfolding store
   store-same [] i d′ h l e = e
   store-same (b ∷ bs) i d′ h l e =
@@ -140,12 +141,12 @@ module _ (g : Geometry) (d : List ℕ) (s : ℕ) (f : File g d s) (a : Apart g d
       (⊎-elim
       (λ w. same-before g d′ (place g d s i) b (omega arith))
       (λ w. same-behind g d′ (place g d s i) b (rw (same-sectors g d d′ rm e) w))
-      (apart-at g d s i 1 a (record { some = omega arith; owned = omega arith; high = omega arith }) (record { inside = omega arith }))))
+      (apart-at g d s i 1 a (record { some = omega arith; owned = omega arith; high = omega arith }) (record { inside = omega (arith, Sizes.split (Sizes.bytes-pos g) i .rest) }))))
 
   -- the zeros, then the record
-  module _ {old at n zeros : ℕ} {d′ : List ℕ} (o : Owned g d s at n) (h : old ≤ granuleBytes * length (owned g d s)) (l : old < 16777216) (z : zeros ≡ at - old)
+  module _ {old at n zeros : ℕ} {d′ : List ℕ} (o : Owned g d s at n) (h : old ≤ granuleBytes g * length (owned g d s)) (l : old < 16777216) (z : zeros ≡ at - old)
       (e : d′ ≡ store (place g d s) d old (replicate zeros 0)) where
-    pub gap-owned : old + zeros ≤ granuleBytes * length (owned g d s)
+    pub gap-owned : old + zeros ≤ granuleBytes g * length (owned g d s)
     gap-owned = let u = o .owned in omega arith
 
     pub gap-high : old + zeros ≤ 16777215

@@ -3,6 +3,7 @@ use meaning::Answer;
 use meaning::Geometry;
 use meaning::Handle;
 use meaning::Mode;
+use meaning::Refusal;
 ghost use mathlib.Core.Path.{_≡_};
 ghost use mathlib.Core.Bool.{cond};
 ghost use mathlib.Core.List.{[], _∷_};
@@ -37,13 +38,13 @@ pub fn write_bytes(image: &mut [u8], g: Geometry, s: usize, i: usize, src: &[u8]
 
 // n zeros go to the file from byte i on: one walk along the chain and one part a granule.
 pub fn clear_bytes(image: &mut [u8], g: Geometry, s: usize, i: usize, n: usize)
-    requires { ⌜ File g (now image) s × Apart g (now image) s × (i + n ≤ granuleBytes * length (owned g (now image) s)) × (i + n ≤ 16777215) ⌝ }
+    requires { ⌜ File g (now image) s × Apart g (now image) s × (i + n ≤ granuleBytes g * length (owned g (now image) s)) × (i + n ≤ 16777215) ⌝ }
     ensures { λ _. ⌜ now (image .exit) ≡ store (place g (now (image .entry)) s) (now (image .entry)) i (replicate n 0) ⌝ }
 {
     let mut at = i;
     let mut left = n;
     while 0 < left {
-        let m = part_of(at, left);
+        let m = part_of(g, at, left);
         let p = seek::place(image, g, s, at);
         copy::clear_part(image, p, m);
         at += m;
@@ -52,19 +53,19 @@ pub fn clear_bytes(image: &mut [u8], g: Geometry, s: usize, i: usize, n: usize)
 }
 
 // How many of n bytes from byte i on lie in its granule.
-fn part_of(i: usize, n: usize) -> usize
+fn part_of(g: Geometry, i: usize, n: usize) -> usize
     requires { ⌜ 1 ≤ n ⌝ }
-    ensures { λ r. ⌜ InGranule i r × (1 ≤ r) × (r ≤ n) ⌝ }
+    ensures { λ r. ⌜ InGranule g i r × (1 ≤ r) × (r ≤ n) ⌝ }
 {
     let room = layout::GRANULE_BYTES - i % layout::GRANULE_BYTES;
     if n < room { n } else { room }
 }
 
 // Test 12 of a write; `room` is the buffer's length.
-fn write_ranged(h: Handle, room: usize) -> bool
-    ensures { λ r. ⌜ r ≡ all (inRange h ∷ leb (h .at + h .len) highest ∷ leb (h .len) room ∷ []) ⌝ }
+fn write_ranged(g: Geometry, h: Handle, room: usize) -> bool
+    ensures { λ r. ⌜ r ≡ all (inRange g h ∷ leb (h .at + h .len) (highest g) ∷ leb (h .len) room ∷ []) ⌝ }
 {
-    if !handle::in_range(h) {
+    if !handle::in_range(g, h) {
         return false;
     }
     if layout::HIGHEST < h.at + h.len {
@@ -91,7 +92,7 @@ fn gap(old: usize, at: usize) -> usize
 
 // Zeros from the old size to the position, then the record: the first n bytes of src.
 fn put_record(image: &mut [u8], g: Geometry, s: usize, old: usize, at: usize, src: &[u8], n: usize)
-    requires { ⌜ File g (now image) s × Apart g (now image) s × Owned g (now image) s at n × (old ≤ granuleBytes * length (owned g (now image) s)) × (old < 16777216) × (n ≤ 256) × (n ≤ length (now src)) ⌝ }
+    requires { ⌜ File g (now image) s × Apart g (now image) s × Owned g (now image) s at n × (old ≤ granuleBytes g * length (owned g (now image) s)) × (old < 16777216) × (n ≤ 256) × (n ≤ length (now src)) ⌝ }
     ensures { λ _. ⌜ now (image .exit) ≡ store (place g (now (image .entry)) s) (store (place g (now (image .entry)) s) (now (image .entry)) old (replicate (at - old) 0)) at (take n (now (src .entry))) ⌝ }
 {
     let zeros = gap(old, at);
@@ -102,12 +103,12 @@ fn put_record(image: &mut [u8], g: Geometry, s: usize, old: usize, at: usize, sr
 // The file at slot p, `old` bytes long, gets the granules of a size, or the number of the refusal. Where the old size needs as many,
 // nothing is lacking, and the chain is not walked.
 fn grow_to(image: &mut [u8], g: Geometry, p: usize, old: usize, size: usize) -> u8
-    requires { ⌜ Ready g (now image) p × (old ≤ granuleBytes * length (owned g (now image) p)) × (old < 16777216) × (size ≤ 33554432) ⌝ }
-    ensures { λ r. ⌜ (r ≡ first (cannotGrow g (now (image .entry)) p (lacking g (now (image .entry)) p (granulesFor size))))
-        × (now (image .exit) ≡ cond (accepted r) (larger g (now (image .entry)) p (lacking g (now (image .entry)) p (granulesFor size))) (now (image .entry))) ⌝ }
+    requires { ⌜ Ready g (now image) p × (old ≤ granuleBytes g * length (owned g (now image) p)) × (old < 16777216) × (size ≤ 33554432) ⌝ }
+    ensures { λ r. ⌜ (r ≡ first (cannotGrow g (now (image .entry)) p (lacking g (now (image .entry)) p (granulesFor g size))))
+        × (now (image .exit) ≡ cond (accepted r) (larger g (now (image .entry)) p (lacking g (now (image .entry)) p (granulesFor g size))) (now (image .entry))) ⌝ }
 {
-    let wanted = extent::granules_for(size);
-    if wanted <= extent::granules_for(old) {
+    let wanted = extent::granules_for(g, size);
+    if wanted <= extent::granules_for(g, old) {
         return 0;
     }
     growth::grow(image, g, p, wanted)
@@ -115,7 +116,7 @@ fn grow_to(image: &mut [u8], g: Geometry, p: usize, old: usize, size: usize) -> 
 
 // The directory's end of file: end byte and sector count. B is set.
 fn put_size(image: &mut [u8], g: Geometry, s: usize, size: usize)
-    requires { ⌜ (entryAt g s + 32 ≤ length (now image)) × (size ≤ highest) ⌝ }
+    requires { ⌜ (entryAt g s + 32 ≤ length (now image)) × (size ≤ 7864320) ⌝ }
     ensures { λ _. ⌜ now (image .exit) ≡ withSize g (now (image .entry)) (now (image .entry)) s size ⌝ }
 {
     let at = 256 * (g.start + 2 + s % 32) + 32 * (s / 32);
@@ -134,16 +135,16 @@ pub fn write_checked(
     mode: Mode,
     h: Handle,
     buffer: &[u8],
-    checked: u8,
+    checked: Refusal,
 ) -> Answer
     requires { ⌜ checked ≡ check g (now image) ⌝ }
     ensures { λ r. ⌜ (r, now (image .exit)) ≡ writeRecord g (now (image .entry)) mode h (now (buffer .entry)) ⌝ }
 {
-    let ranged = write_ranged(h, buffer.len());
+    let ranged = write_ranged(g, h, buffer.len());
     let refused = handle::changing_number(image, g, h, ranged, 4, checked);
     if refused != 0 {
         return Answer {
-            number: refused,
+            refusal: refusal::carried(checked, refused),
             handle: h,
         };
     }
@@ -152,14 +153,17 @@ pub fn write_checked(
     let size = size_after(mode, old, end);
     let number = grow_to(image, g, h.slot, old, size);
     if number != 0 {
-        return Answer { number, handle: h };
+        return Answer {
+            refusal: refusal::carried(checked, number),
+            handle: h,
+        };
     }
     put_record(image, g, h.slot, old, h.at, buffer, h.len);
     put_size(image, g, h.slot, size);
     let mut moved = h;
     moved.at = end;
     Answer {
-        number: 0,
+        refusal: refusal::carried(checked, 0),
         handle: moved,
     }
 }

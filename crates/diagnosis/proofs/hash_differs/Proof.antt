@@ -15,25 +15,25 @@ file-of-requires : tie.Need-file-of-requires
 file-of-requires c κs = search needs
 
 add-a : tie.Need-add-a
-add-a c = let h = c .before .file-of .ensures .1 .held in let l = c .before .file-of .ensures .1 .low in let r = c .before .before .before .pre .0 .directory in let w = c .before .before .before .pre .0 .most in let z = c .before .before .before .pre .0 .whole in omega arith
+add-a c = let h = c .before .file-of .ensures .1 .held in let l = c .before .file-of .ensures .1 .low in let r = c .before .before .before .pre .0 .directory in let w = c .before .before .before .pre .0 .most in let z = c .before .before .before .pre .0 .long in omega arith
 
 add-a-2 : tie.Need-add-a-2
-add-a-2 c = let h = c .before .file-of .ensures .1 .held in let l = c .before .file-of .ensures .1 .low in let r = c .before .before .before .pre .0 .directory in let w = c .before .before .before .pre .0 .most in let z = c .before .before .before .pre .0 .whole in omega arith
+add-a-2 c = let h = c .before .file-of .ensures .1 .held in let l = c .before .file-of .ensures .1 .low in let r = c .before .before .before .pre .0 .directory in let w = c .before .before .before .pre .0 .most in let z = c .before .before .before .pre .0 .long in omega arith
 
 mul-a : tie.Need-mul-a
-mul-a c = let h = c .before .file-of .ensures .1 .held in let l = c .before .file-of .ensures .1 .low in let r = c .before .before .before .pre .0 .directory in let w = c .before .before .before .pre .0 .most in let z = c .before .before .before .pre .0 .whole in omega arith
+mul-a c = let h = c .before .file-of .ensures .1 .held in let l = c .before .file-of .ensures .1 .low in let r = c .before .before .before .pre .0 .directory in let w = c .before .before .before .pre .0 .most in let z = c .before .before .before .pre .0 .long in omega arith
 
 mul-a-2 : tie.Need-mul-a-2
-mul-a-2 c = let h = c .before .file-of .ensures .1 .held in let l = c .before .file-of .ensures .1 .low in let r = c .before .before .before .pre .0 .directory in let w = c .before .before .before .pre .0 .most in let z = c .before .before .before .pre .0 .whole in omega arith
+mul-a-2 c = let h = c .before .file-of .ensures .1 .held in let l = c .before .file-of .ensures .1 .low in let r = c .before .before .before .pre .0 .directory in let w = c .before .before .before .pre .0 .most in let z = c .before .before .before .pre .0 .long in omega arith
 
 add-a-3 : tie.Need-add-a-3
-add-a-3 c = let h = c .before .file-of .ensures .1 .held in let l = c .before .file-of .ensures .1 .low in let r = c .before .before .before .pre .0 .directory in let w = c .before .before .before .pre .0 .most in let z = c .before .before .before .pre .0 .whole in omega arith
+add-a-3 c = let h = c .before .file-of .ensures .1 .held in let l = c .before .file-of .ensures .1 .low in let r = c .before .before .before .pre .0 .directory in let w = c .before .before .before .pre .0 .most in let z = c .before .before .before .pre .0 .long in omega arith
 
 add-a-4 : tie.Need-add-a-4
-add-a-4 c = let h = c .before .file-of .ensures .1 .held in let l = c .before .file-of .ensures .1 .low in let r = c .before .before .before .pre .0 .directory in let w = c .before .before .before .pre .0 .most in let z = c .before .before .before .pre .0 .whole in omega arith
+add-a-4 c = let h = c .before .file-of .ensures .1 .held in let l = c .before .file-of .ensures .1 .low in let r = c .before .before .before .pre .0 .directory in let w = c .before .before .before .pre .0 .most in let z = c .before .before .before .pre .0 .long in omega arith
 
 add-e : tie.Need-add-e
-add-e c = let h = c .before .file-of .ensures .1 .held in let l = c .before .file-of .ensures .1 .low in let r = c .before .before .before .pre .0 .directory in let w = c .before .before .before .pre .0 .most in let z = c .before .before .before .pre .0 .whole in omega arith
+add-e c = let h = c .before .file-of .ensures .1 .held in let l = c .before .file-of .ensures .1 .low in let r = c .before .before .before .pre .0 .directory in let w = c .before .before .before .pre .0 .most in let z = c .before .before .before .pre .0 .long in omega arith
 
 sub-hash : tie.Need-sub-hash
 sub-hash c = search needs
@@ -42,7 +42,7 @@ part-hash-start : tie.Need-part-hash-start
 part-hash-start c = search needs
 
 part-hash-end : tie.Need-part-hash-end
-part-hash-end c = let h = c .before .file-of .ensures .1 .held in let l = c .before .file-of .ensures .1 .low in let r = c .before .before .before .pre .0 .directory in let w = c .before .before .before .pre .0 .most in let z = c .before .before .before .pre .0 .whole in omega arith
+part-hash-end c = let h = c .before .file-of .ensures .1 .held in let l = c .before .file-of .ensures .1 .low in let r = c .before .before .before .pre .0 .directory in let w = c .before .before .before .pre .0 .most in let z = c .before .before .before .pre .0 .long in omega arith
 
 hash-requires : tie.Need-hash-requires
 hash-requires c κs = search needs

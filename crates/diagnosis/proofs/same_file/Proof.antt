@@ -46,22 +46,22 @@ add-e : tie.Need-add-e
 add-e c = search needs
 
 add-same-name : tie.Need-add-same-name
-add-same-name c = let k = slot-of _ _ _ (is-yes (c .before .before .before .before .before .is-slot .ensures) (c .before .before .before .before .if1 .left)) in let h = k .held in let l = k .low in let r = c .before .before .before .before .before .before .before .pre .0 .directory in let w = c .before .before .before .before .before .before .before .pre .0 .most in let z = c .before .before .before .before .before .before .before .pre .0 .whole in omega arith
+add-same-name c = let k = slot-of _ _ _ (is-yes (c .before .before .before .before .before .is-slot .ensures) (c .before .before .before .before .if1 .left)) in let h = k .held in let l = k .low in let r = c .before .before .before .before .before .before .before .pre .0 .directory in let w = c .before .before .before .before .before .before .before .pre .0 .most in let z = c .before .before .before .before .before .before .before .pre .0 .long in omega arith
 
 add-same-name-2 : tie.Need-add-same-name-2
-add-same-name-2 c = let k = slot-of _ _ _ (is-yes (c .before .before .before .before .before .is-slot .ensures) (c .before .before .before .before .if1 .left)) in let h = k .held in let l = k .low in let r = c .before .before .before .before .before .before .before .pre .0 .directory in let w = c .before .before .before .before .before .before .before .pre .0 .most in let z = c .before .before .before .before .before .before .before .pre .0 .whole in omega arith
+add-same-name-2 c = let k = slot-of _ _ _ (is-yes (c .before .before .before .before .before .is-slot .ensures) (c .before .before .before .before .if1 .left)) in let h = k .held in let l = k .low in let r = c .before .before .before .before .before .before .before .pre .0 .directory in let w = c .before .before .before .before .before .before .before .pre .0 .most in let z = c .before .before .before .before .before .before .before .pre .0 .long in omega arith
 
 mul-same-name : tie.Need-mul-same-name
-mul-same-name c = let k = slot-of _ _ _ (is-yes (c .before .before .before .before .before .is-slot .ensures) (c .before .before .before .before .if1 .left)) in let h = k .held in let l = k .low in let r = c .before .before .before .before .before .before .before .pre .0 .directory in let w = c .before .before .before .before .before .before .before .pre .0 .most in let z = c .before .before .before .before .before .before .before .pre .0 .whole in omega arith
+mul-same-name c = let k = slot-of _ _ _ (is-yes (c .before .before .before .before .before .is-slot .ensures) (c .before .before .before .before .if1 .left)) in let h = k .held in let l = k .low in let r = c .before .before .before .before .before .before .before .pre .0 .directory in let w = c .before .before .before .before .before .before .before .pre .0 .most in let z = c .before .before .before .before .before .before .before .pre .0 .long in omega arith
 
 mul-same-name-2 : tie.Need-mul-same-name-2
-mul-same-name-2 c = let k = slot-of _ _ _ (is-yes (c .before .before .before .before .before .is-slot .ensures) (c .before .before .before .before .if1 .left)) in let h = k .held in let l = k .low in let r = c .before .before .before .before .before .before .before .pre .0 .directory in let w = c .before .before .before .before .before .before .before .pre .0 .most in let z = c .before .before .before .before .before .before .before .pre .0 .whole in omega arith
+mul-same-name-2 c = let k = slot-of _ _ _ (is-yes (c .before .before .before .before .before .is-slot .ensures) (c .before .before .before .before .if1 .left)) in let h = k .held in let l = k .low in let r = c .before .before .before .before .before .before .before .pre .0 .directory in let w = c .before .before .before .before .before .before .before .pre .0 .most in let z = c .before .before .before .before .before .before .before .pre .0 .long in omega arith
 
 add-same-name-3 : tie.Need-add-same-name-3
-add-same-name-3 c = let k = slot-of _ _ _ (is-yes (c .before .before .before .before .before .is-slot .ensures) (c .before .before .before .before .if1 .left)) in let h = k .held in let l = k .low in let r = c .before .before .before .before .before .before .before .pre .0 .directory in let w = c .before .before .before .before .before .before .before .pre .0 .most in let z = c .before .before .before .before .before .before .before .pre .0 .whole in omega arith
+add-same-name-3 c = let k = slot-of _ _ _ (is-yes (c .before .before .before .before .before .is-slot .ensures) (c .before .before .before .before .if1 .left)) in let h = k .held in let l = k .low in let r = c .before .before .before .before .before .before .before .pre .0 .directory in let w = c .before .before .before .before .before .before .before .pre .0 .most in let z = c .before .before .before .before .before .before .before .pre .0 .long in omega arith
 
 add-same-name-4 : tie.Need-add-same-name-4
-add-same-name-4 c = let k = slot-of _ _ _ (is-yes (c .before .before .before .before .before .is-slot .ensures) (c .before .before .before .before .if1 .left)) in let h = k .held in let l = k .low in let r = c .before .before .before .before .before .before .before .pre .0 .directory in let w = c .before .before .before .before .before .before .before .pre .0 .most in let z = c .before .before .before .before .before .before .before .pre .0 .whole in omega arith
+add-same-name-4 c = let k = slot-of _ _ _ (is-yes (c .before .before .before .before .before .is-slot .ensures) (c .before .before .before .before .if1 .left)) in let h = k .held in let l = k .low in let r = c .before .before .before .before .before .before .before .pre .0 .directory in let w = c .before .before .before .before .before .before .before .pre .0 .most in let z = c .before .before .before .before .before .before .before .pre .0 .long in omega arith
 
 sub-same-name : tie.Need-sub-same-name
 sub-same-name c = search needs
@@ -73,7 +73,7 @@ part-same-name-end : tie.Need-part-same-name-end
 part-same-name-end c = search needs
 
 same-name-requires : tie.Need-same-name-requires
-same-name-requires c κs = let h = slot-of _ _ _ (is-yes (c .before .before .before .before .before .before .is-slot .ensures) (c .before .before .before .before .before .if1 .left)) in let l = h .held in let k = h .low in let r = c .before .before .before .before .before .before .before .before .pre .0 .directory in let w = c .before .before .before .before .before .before .before .before .pre .0 .whole in (omega arith, omega arith)
+same-name-requires c κs = let h = slot-of _ _ _ (is-yes (c .before .before .before .before .before .before .is-slot .ensures) (c .before .before .before .before .before .if1 .left)) in let l = h .held in let k = h .low in let r = c .before .before .before .before .before .before .before .before .pre .0 .directory in let w = c .before .before .before .before .before .before .before .before .pre .0 .long in (omega arith, omega arith)
 
 returns-3 : tie.Need-returns-3
 unfolding sameFile

@@ -1,4 +1,5 @@
 use Rattle.meaning.specs.Refusals.{inRange}
+use Rattle.meaning.specs.Sizes.{code-bytes}
 use Rattle.layout.proofs.Lists.{all-yes, all-no, all-one, is-no, is-yes}
 use borrow.Author.Tests.{lt-leb, le-leb}
 use mathlib.Core.Path.{sym, _∙_}
@@ -11,18 +12,18 @@ use Rattle.handle.proofs.good_length.Reads as good-length-reads
 
 returns : tie.Need-returns
 unfolding inRange
-returns c = sym (all-no (lt-leb _ _ (c .if1 .taken)) _)
+returns c = rw code-bytes (sym (all-no (lt-leb _ _ (c .if1 .taken)) _))
 
 good-length-requires : tie.Need-good-length-requires
 good-length-requires c κs = search needs
 
 returns-2 : tie.Need-returns-2
 unfolding inRange
-returns-2 c = sym (all-yes (le-leb _ _ (c .before .before .if1 .left)) _ ∙ all-no (is-no (c .before .good-length .ensures) (c .if2 .taken)) _)
+returns-2 c = rw code-bytes (sym (all-yes (le-leb _ _ (c .before .before .if1 .left)) _ ∙ all-no (is-no (c .before .good-length .ensures) (c .if2 .taken)) _))
 
 returns-3 : tie.Need-returns-3
 unfolding inRange
-returns-3 c = sym (all-yes (le-leb _ _ (c .before .before .before .if1 .left)) _ ∙ all-yes (is-yes (c .before .before .good-length .ensures) (c .before .if2 .left)) _ ∙ all-one _)
+returns-3 c = rw code-bytes (sym (all-yes (le-leb _ _ (c .before .before .before .if1 .left)) _ ∙ all-yes (is-yes (c .before .before .good-length .ensures) (c .before .if2 .left)) _ ∙ all-one _))
 
 pub in-range-spec : {M : Type 1} → statement M
 in-range-spec = tie.close (tie.spec returns good-length-requires returns-2 returns-3)

@@ -5,7 +5,8 @@ use Rattle.layout.proofs.Lists.{all-no, all-yes, all-one, is-no, is-yes, not-ye
 use Rattle.meaning.specs.Entries.{system}
 use Rattle.meaning.specs.Fault.{directoryFault}
 use native.Mathlib.Omega.{arith}
-use mathlib.Core.Path.{sym, ap, _∙_}
+use mathlib.Core.Path.{refl, sym, ap, _∙_}
+use Rattle.meaning.specs.Sizes.{code-sectors}
 use Rattle.kinds.proofs.directory_fault.Statement.{statement}
 use Rattle.kinds.proofs.directory_fault.Tie as tie
 
@@ -26,16 +27,16 @@ returns-2 : tie.Need-returns-2
 unfolding directoryFault
 returns-2 c = let a = c .before .before .before .before .before .before .args in sym (all-yes (is-yes (c .before .before .before .before .flag .ensures) (c .before .before .before .if1 .left)) _ ∙ all-no (not-yes (ap (system (a .g) (a .image .now)) (sym (c .before .before .file-of .ensures .0)) ∙ so (c .before .flag2 .ensures) (c .if2 .taken))) _)
 
-directory-sectors-requires : tie.Need-directory-sectors-requires
-directory-sectors-requires c κs = search needs
+directory-granules-requires : tie.Need-directory-granules-requires
+directory-granules-requires c κs = search needs
 
 entry-in-requires : tie.Need-entry-in-requires
-entry-in-requires c κs = let h = c .before .before .before .before .before .before .before .before .pre .0 .directory in let k = c .before .before .before .before .before .before .before .before .pre .0 .most in let e = c .directory-sectors .ensures in let z = c .before .before .before .before .before .before .before .before .pre .0 .thirty in (c .before .before .before .before .before .before .before .before .pre .0, c .before .before .before .before .before .before .before .before .pre .1, omega arith, omega arith)
+entry-in-requires c κs = let h = c .before .before .before .before .before .before .before .before .pre .0 .directory in let k = c .before .before .before .before .before .before .before .before .pre .0 .far in let e = c .directory-granules .ensures .small in (c .before .before .before .before .before .before .before .before .pre .0, c .before .before .before .before .before .before .before .before .pre .1, omega arith, omega arith)
 
 returns-3 : tie.Need-returns-3
 unfolding directoryFault
-returns-3 c = let a = c .before .before .before .before .before .before .before .before .before .args in c .entry-in .ensures ∙ directory-by _ _ _ (c .before .before .before .before .before .before .before .before .before .pre .0) (c .before .directory-sectors .ensures)
+returns-3 c = let a = c .before .before .before .before .before .before .before .before .before .args in c .entry-in .ensures ∙ directory-by _ _ _ (c .before .before .before .before .before .before .before .before .before .pre .0) (rw code-sectors refl) (c .before .directory-granules .ensures .is)
     ∙ sym (all-yes (is-yes (c .before .before .before .before .before .before .before .flag .ensures) (c .before .before .before .before .before .before .if1 .left)) _ ∙ all-yes (not-no (ap (system (a .g) (a .image .now)) (sym (c .before .before .before .before .before .file-of .ensures .0)) ∙ not-so (c .before .before .before .before .flag2 .ensures) (c .before .before .before .if2 .left))) _ ∙ all-one _)
 
 pub directory-fault-spec : {M : Type 1} → statement M
-directory-fault-spec = tie.close (tie.spec flag-requires returns file-of-requires flag-requires-2 returns-2 directory-sectors-requires entry-in-requires returns-3)
+directory-fault-spec = tie.close (tie.spec flag-requires returns file-of-requires flag-requires-2 returns-2 directory-granules-requires entry-in-requires returns-3)

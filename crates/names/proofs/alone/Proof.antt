@@ -55,7 +55,7 @@ part-same-name-start : tie.Need-part-same-name-start Inv-loop μ-loop
 part-same-name-start c = search needs
 
 part-same-name-end : tie.Need-part-same-name-end Inv-loop μ-loop
-part-same-name-end c = let e = c .before .before .before .before .before .pre .2 in let h = c .before .before .before .before .before .pre .1 .held in let r = c .before .before .before .before .before .pre .0 .directory in let q = c .before .before .before .before .before .pre .0 .whole in omega arith
+part-same-name-end c = let e = c .before .before .before .before .before .pre .2 in let h = c .before .before .before .before .before .pre .1 .held in let r = c .before .before .before .before .before .pre .0 .directory in let q = c .before .before .before .before .before .pre .0 .long in omega arith
 
 same-name-requires : tie.Need-same-name-requires Inv-loop μ-loop
 same-name-requires c κs = let a = c .before .before .before .before .before .before .args in let w = here (a .g) (a .image .now) (a .next .now) (bucket (a .g) (a .image .now) (hit (a .g) (a .image .now) (a .s)) (a .s)) (a .s) (c .before .before .before .loop .x) (c .before .before .before .loop .inv) (c .before .before .loop-test .taken) in let lo = w .slot .low in let he = w .slot .held in (omega arith, omega arith)

@@ -1,4 +1,5 @@
 use Rattle.layout.proofs.Lists.{is-no, is-yes, all-yes, all-no, all-one}
+use Rattle.meaning.specs.Sizes.{code-sectors}
 use mathlib.Core.Path.{sym, _∙_}
 use borrow.Author.Needs.{needs}
 use Rattle.read.proofs.sector_ranged.Statement.{statement}
@@ -14,7 +15,7 @@ returns : tie.Need-returns
 returns c = sym (all-no (is-no (c .before .in-range .ensures) (c .if1 .taken)) _)
 
 returns-2 : tie.Need-returns-2
-returns-2 c = sym (all-yes (is-yes (c .before .in-range .ensures) (c .if1 .left)) _ ∙ all-one _)
+returns-2 c = rw code-sectors (sym (all-yes (is-yes (c .before .in-range .ensures) (c .if1 .left)) _ ∙ all-one _))
 
 pub sector-ranged-spec : {M : Type 1} → statement M
 sector-ranged-spec = tie.close (tie.spec in-range-requires returns returns-2)

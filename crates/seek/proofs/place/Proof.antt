@@ -1,4 +1,5 @@
 use Rattle.meaning.specs.Chain.{place}
+use Rattle.meaning.specs.Sizes.{code-bytes}
 use borrow.Author.Needs.{needs}
 use Rattle.seek.proofs.place.Statement.{statement}
 use Rattle.seek.proofs.place.Tie as tie
@@ -17,7 +18,7 @@ add-result c = search needs
 
 returns : tie.Need-returns
 unfolding place
-returns c = cc
+returns c = rw code-bytes cc
 
 pub place-spec : {M : Type 1} → statement M
 place-spec = tie.close (tie.spec owned-at-requires mul-result add-result returns)

@@ -1,3 +1,4 @@
+use Rattle.meaning.specs.Sizes.{round-least, bytes-pos}
 use Rattle.growth.proofs.Whole.{Whole, whole-none}
 use Rattle.meaning.specs.Refusals.{lacking}
 use Prim.Native.Nat.{ℕ}
@@ -18,7 +19,7 @@ granules-for-requires-2 : tie.Need-granules-for-requires-2
 granules-for-requires-2 c κs = search needs
 
 returns : tie.Need-returns
-returns c = whole-none (c .before .before .before .before .args .g) (c .before .before .before .before .args .image .now) (c .before .before .before .before .args .p) _ (let e = c .before .before .granules-for .ensures in let f = c .before .granules-for2 .ensures in let t = c .if1 .taken in let o = c .before .before .before .before .pre .1 in omega arith)
+returns c = whole-none (c .before .before .before .before .args .g) (c .before .before .before .before .args .image .now) (c .before .before .before .before .args .p) _ (let e = c .before .before .granules-for .ensures in let f = c .before .granules-for2 .ensures in let t = c .if1 .taken in let o = c .before .before .before .before .pre .1 in omega (arith, round-least (bytes-pos _) _ _ o))
 
 grow-requires : tie.Need-grow-requires
 grow-requires c κs = search needs

@@ -1,3 +1,4 @@
+use Rattle.meaning.specs.Sizes.{code-bytes}
 use Rattle.write.proofs.Calls.{in-reach}
 use Rattle.layout.proofs.Lists.{is-no, is-yes, all-yes, all-no, all-one}
 use borrow.Author.Tests.{lt-leb, le-leb}
@@ -17,13 +18,13 @@ returns : tie.Need-returns
 returns c = sym (all-no (is-no (c .before .in-range .ensures) (c .if1 .taken)) _)
 
 add-if2 : tie.Need-add-if2
-add-if2 c = let q = in-reach (c .before .before .before .args .h) (is-yes (c .before .before .in-range .ensures) (c .before .if1 .left)) in let a = q .0 in let b = q .1 in omega arith
+add-if2 c = let q = in-reach (c .before .before .before .args .g) (c .before .before .before .args .h) (is-yes (c .before .before .in-range .ensures) (c .before .if1 .left)) in let a = q .0 in let b = q .1 in omega arith
 
 returns-2 : tie.Need-returns-2
-returns-2 c = sym (all-yes (is-yes (c .before .before .before .in-range .ensures) (c .before .before .if1 .left)) _ ∙ all-no (lt-leb _ _ (c .if2 .taken)) _)
+returns-2 c = rw code-bytes (sym (all-yes (is-yes (c .before .before .before .in-range .ensures) (c .before .before .if1 .left)) _ ∙ all-no (lt-leb _ _ (c .if2 .taken)) _))
 
 returns-3 : tie.Need-returns-3
-returns-3 c = sym (all-yes (is-yes (c .before .before .before .before .in-range .ensures) (c .before .before .before .if1 .left)) _ ∙ all-yes (le-leb _ _ (c .before .if2 .left)) _ ∙ all-one _)
+returns-3 c = rw code-bytes (sym (all-yes (is-yes (c .before .before .before .before .in-range .ensures) (c .before .before .before .if1 .left)) _ ∙ all-yes (le-leb _ _ (c .before .if2 .left)) _ ∙ all-one _))
 
 pub write-ranged-spec : {M : Type 1} → statement M
 write-ranged-spec = tie.close (tie.spec in-range-requires returns add-if2 returns-2 returns-3)
