@@ -33,7 +33,7 @@ fn sector_holds(
     map: &mut [u8; 192],
     met: &mut [u8; 256],
     from: usize,
-    bits: usize,
+    bits: u64,
 ) -> bool
     requires { ⌜ Room g (now image) × (column + 2 < directorySectors g (now image)) × Directory g (now image) from bits ⌝ }
     ensures { λ r. ⌜ Seen g (now (image .entry)) (sectorSlots column) (standing g (now (image .entry)) (now (map .entry))) (standing g (now (image .entry)) (now (map .exit))) (now (met .entry)) (now (met .exit)) r ⌝ }
@@ -57,7 +57,7 @@ fn slots_hold(
     map: &mut [u8; 192],
     met: &mut [u8; 256],
     from: usize,
-    bits: usize,
+    bits: u64,
 ) -> bool
     requires { ⌜ Room g (now image) × Directory g (now image) from bits ⌝ }
     ensures { λ r. ⌜ Seen g (now (image .entry)) (diskSlots g (now (image .entry))) (standing g (now (image .entry)) (now (map .entry))) (standing g (now (image .entry)) (now (map .exit))) (now (met .entry)) (now (met .exit)) r ⌝ }
@@ -87,7 +87,7 @@ fn directory_from(image: &[u8], g: Geometry) -> usize
 }
 
 // The bits of the directory's granules in them.
-fn directory_bits(image: &[u8], g: Geometry, from: usize) -> usize
+fn directory_bits(image: &[u8], g: Geometry, from: usize) -> u64
     requires { ⌜ Room g (now image) × Spans (g .units) (g .start / granuleSectors g) (roundUp (directorySectors g (now image)) (granuleSectors g)) from ⌝ }
     ensures { λ r. ⌜ Directory g (now (image .entry)) from r ⌝ }
 {

@@ -67,7 +67,7 @@ fn take_blocks(map: &mut [u8; 192], units: usize, block: usize, unit: usize, n: 
 }
 
 // Eight bytes of the map as a number. A slice's elements are known to be bytes, an array's behind a reference are not.
-fn read_eight(map: &[u8], at: usize) -> usize
+fn read_eight(map: &[u8], at: usize) -> u64
     requires { ⌜ at + 8 ≤ length (now map) ⌝ }
     ensures { λ r. ⌜ ReadsEight (now (map .entry)) at r ⌝ }
 {
@@ -75,7 +75,7 @@ fn read_eight(map: &[u8], at: usize) -> usize
 }
 
 // Puts the eight bytes of x into the map, lowest first, written so that a machine that can stores them at once.
-fn put_eight(map: &mut [u8; 192], at: usize, x: usize)
+fn put_eight(map: &mut [u8; 192], at: usize, x: u64)
     requires { ⌜ (length (now map) ≡ mostBlocks) × (at + 8 ≤ mostBlocks) ⌝ }
     ensures { λ _. ⌜ PutsEight (now (map .entry)) at x (now (map .exit)) ⌝ }
 {
@@ -100,7 +100,7 @@ fn take_stretch(map: &mut [u8; 192], block: usize, unit: usize, n: usize) -> boo
         LAST_EIGHT
     };
     let shift = 8 * (block - at) + unit;
-    let mask = ((1 << n) - 1) << shift;
+    let mask = ((1u64 << n) - 1) << shift;
     let x = read_eight(map, at);
     if x & mask != 0 {
         return false;
@@ -121,21 +121,21 @@ pub fn take_long(map: &mut [u8; 192], units: usize, block: usize, unit: usize, n
 }
 
 // The bits of n granules from a on, in the eight bytes of the map from `at` on.
-pub fn directory_bits(units: usize, a: usize, n: usize, at: usize) -> usize
+pub fn directory_bits(units: usize, a: usize, n: usize, at: usize) -> u64
     requires { ⌜ (1 ≤ units) × (units ≤ mostUnits) × (n ≤ 6) × (a + n ≤ mostBlocks * units) × Spans units a n at ⌝ }
     ensures { λ r. ⌜ Window units a n at r ⌝ }
 {
-    let mut bits = 0;
+    let mut bits = 0u64;
     let mut k = a;
     while k < a + n {
-        bits = bits | (1 << (8 * (k / units - at) + k % units));
+        bits = bits | (1u64 << (8 * (k / units - at) + k % units));
         k += 1;
     }
     bits
 }
 
 // Those of the bits that are set in the map.
-pub fn among(map: &[u8; 192], at: usize, bits: usize) -> usize
+pub fn among(map: &[u8; 192], at: usize, bits: u64) -> u64
     requires { ⌜ at + 8 ≤ mostBlocks ⌝ }
     ensures { λ r. ⌜ Among (now (map .entry)) at bits r ⌝ }
 {

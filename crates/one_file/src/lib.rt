@@ -46,7 +46,7 @@ fn file_holds(
     map: &mut [u8; 192],
     met: &mut [u8; 256],
     from: usize,
-    bits: usize,
+    bits: u64,
 ) -> bool
     requires { ⌜ Room g (now image) × Place g (now image) s at × (flags ≡ field g (now image) s 0) × (h ≡ hit g (now image) s) × Directory g (now image) from bits ⌝ }
     ensures { λ r. ⌜ FileSeen g (now (image .entry)) s (leastOf g (now (image .entry)) s) (standing g (now (image .entry)) (now (map .entry))) (standing g (now (image .entry)) (now (map .exit))) (now (met .entry)) (now (met .exit)) r ⌝ }
@@ -81,7 +81,7 @@ pub fn slot_holds(
     map: &mut [u8; 192],
     met: &mut [u8; 256],
     from: usize,
-    bits: usize,
+    bits: u64,
 ) -> bool
     requires { ⌜ Room g (now image) × Place g (now image) s at × Directory g (now image) from bits ⌝ }
     ensures { λ r. ⌜ Seen g (now (image .entry)) (s ∷ []) (standing g (now (image .entry)) (now (map .entry))) (standing g (now (image .entry)) (now (map .exit))) (now (met .entry)) (now (met .exit)) r ⌝ }
