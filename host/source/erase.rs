@@ -230,10 +230,9 @@ impl<'a> File<'a> {
                 "extern" if exported && start.text == "pub" && inner.is_none() => {
                     self.expect_text("\"C\"")?;
                     self.expect_text("fn")?;
-                    let export = self.function()?;
-                    self.exports.push(export);
+                    self.function(true)?;
                 }
-                "fn" if !exported => drop(self.function()?),
+                "fn" if !exported => self.function(false)?,
                 other => return self.unknown(word.from, &format!("an item that starts with `{other}` is not known")),
             }
         }
@@ -295,7 +294,7 @@ impl<'a> File<'a> {
     }
 
     /// A function from its name on: parameters, answer, clauses, body.
-    fn function(&mut self) -> Result<Export, String> {
+    fn function(&mut self, exported: bool) -> Result<(), String> {
         let name = self.expect_name()?;
         let mut open = self.expect()?;
         while open.text == "<" || open.text == "," || open.text == ">" || open.text.starts_with('\'') {
@@ -329,12 +328,12 @@ impl<'a> File<'a> {
                 .unknown(token.from, &format!("`{}` is not known between a signature and its body", token.text));
         }
         self.through(token, "}")?;
-        Ok(Export {
-            name: name.text.to_string(),
-            parameters: self.parameters(&parameters)?,
-            answer,
-            place: self.place(name.from),
-        })
+        if exported {
+            let (name, place) = (name.text.to_string(), self.place(name.from));
+            let parameters = self.parameters(&parameters)?;
+            self.exports.push(Export { name, parameters, answer, place });
+        }
+        Ok(())
     }
 
     /// A clause, with a name or without: its text, in braces, is not Rust. Braces stand in pairs in it, and no comment or
@@ -366,7 +365,7 @@ impl<'a> File<'a> {
         self.unknown(word.from, "this clause is not closed")
     }
 
-    /// The parameters' names and types.
+    /// The names and types of an export's parameters.
     fn parameters(&self, tokens: &[Token]) -> Result<Vec<(String, String)>, String> {
         let mut all = Vec::new();
         for parameter in tokens.split(|token| token.text == ",") {
