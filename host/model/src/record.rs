@@ -3,10 +3,12 @@
 //!
 //! A recording is a row of calls. Numbers are little-endian; `u32` unless it says otherwise.
 //!
-//!     call      length of the name (one byte), the export's name; how many arguments (one byte), the arguments; the answer (one byte)
-//!     argument  'n' and the number (u64)
-//!               'o' and the outgoing number as the call leaves it (u64)
-//!               's', a place (one byte) and a slice's length; what the call is lent, then what it leaves there
+//! ```text
+//! call      length of the name (one byte), the export's name; how many arguments (one byte), the arguments; the answer (one byte)
+//! argument  'n' and the number (u64)
+//!           'o' and the outgoing number as the call leaves it (u64)
+//!           's', a place (one byte) and a slice's length; what the call is lent, then what it leaves there
+//! ```
 //!
 //! What is lent is written as what has to be changed of the bytes that stand at that place since the last call with it, or
 //! of zeros where the length was another; what is left, as what has to be changed of what is lent: how many changes, then for
