@@ -1,4 +1,4 @@
-//! Genie-DOS disks (TRSDOS family, 1983) for Rust programs: a safe wrapper over the proved library `libgenie.a`.
+//! Genie-DOS disks (TRSDOS family, 1983) for Rust programs: a safe wrapper over the proved library.
 //!
 //! A [`Disk`] is the bytes of an image together with its [`Geometry`]. Each call answers as the library does: done, or
 //! refused with a [`Refusal`], and a refused call has changed nothing. Any bytes and any numbers may be given; the
@@ -27,6 +27,10 @@
 //! ```
 
 #![warn(missing_docs)]
+
+// What `sys` declares, where the archive is not asked for (build.rs).
+#[cfg(not(genie_archive))]
+extern crate genie_source as _;
 
 mod difference;
 mod disk;
