@@ -1,0 +1,12 @@
+//! The search for an image's geometry. It judges by evidence: where a directory may begin, what speaks for it and what
+//! against it; and it takes a geometry by itself only where nothing speaks for another.
+
+mod evidence;
+mod fit;
+mod ranking;
+mod verdict;
+mod words;
+
+pub use ranking::Reading;
+pub use verdict::{search, Search, Verdict};
+pub use words::{candidate_json, candidate_lines};
