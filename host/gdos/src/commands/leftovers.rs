@@ -170,13 +170,12 @@ mod tests {
             }
         }
         kill(&mut disk, "A");
-        // One sector each, in slots 80H (A's) and 83H on: granules 1, 3, 5, 7, 9.
-        for name in ["C", "D", "E", "F", "G"] {
-            put(&mut disk, name, 1);
-        }
-        kill(&mut disk, "G");
-        // A's primary entry is gone, its extension in slot 82H still names granule 9.
-        let slot = (0..256).find(|&slot| entry(&disk, slot).is_some_and(|e| name_text(&e) == "G")).unwrap();
-        assert_eq!(told(&also_in(&disk, slot)), "granule 9 is also in slot 82H (an extension)");
+        kill(&mut disk, "B");
+        assert!(also_in(&disk, 0x80).is_empty());
+        // In A's slot, granules 1 to 9: A's first entry is gone, its extension in slot 82H still names granule 9.
+        put(&mut disk, "C", 45);
+        kill(&mut disk, "C");
+        let also = also_in(&disk, 0x80);
+        assert_eq!(told(&also), "4 granules are also in slot 81H (B), granule 9 is also in slot 82H (an extension)");
     }
 }

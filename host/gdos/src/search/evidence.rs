@@ -63,7 +63,13 @@ impl Evidence {
             let Some(entries) = sector(number) else { break };
             for row in 0..ROWS {
                 let entry = &entries[32 * row..32 * (row + 1)];
-                let says = match says(entry, hit[32 * row + number - 2]) {
+                let slot = 32 * row + number - 2;
+                let extends = |link: u8| {
+                    let (row, s) = (usize::from(link / 32), usize::from(link % 32));
+                    let next = sector(s + 2).map(|entries| (entries[32 * row], usize::from(entries[32 * row + 1])));
+                    next == Some((0x90, slot))
+                };
+                let says = match says(entry, hit[slot], extends) {
                     // One name in two slots: only one of them can be right.
                     Says::Name | Says::Nearly if seen.contains(&&entry[0x05..0x10]) => Says::Against,
                     says => says,
@@ -97,6 +103,12 @@ impl Evidence {
         self.clone().with(signs)
     }
 
+    /// The sectors of the directory, and those of all entries that speak for it.
+    pub fn reach(&self) -> Range<usize> {
+        let last = self.signs.iter().map(|sign| sign.sector + 1).max().unwrap_or(0);
+        self.start..last.max(self.start + self.sectors)
+    }
+
     /// Whether anything speaks for a directory here.
     pub fn speaks(&self) -> bool {
         !self.signs.is_empty()
@@ -108,10 +120,12 @@ impl Evidence {
     }
 }
 
-/// What a slot says by its entry and its HIT byte.
-fn says(entry: &[u8], hit: u8) -> Says {
+/// What a slot says by its entry and its HIT byte. An extension is one that points back to this slot.
+fn says(entry: &[u8], hit: u8, extends: impl Fn(u8) -> bool) -> Says {
     let flags = entry[0x00];
     let marked = matches!(entry[0x1e], 0xfe | 0xff);
+    // Letters over and over may be a name with its hash; a marker is no letter, and neither is what stands behind it.
+    let linked = entry[0x1f] == 0xff || extends(entry[0x1f]);
     // In use, primary, bit 5 zero.
     let used = flags & 0xb0 == 0x10;
     if marked || used && hit != 0 {
@@ -122,7 +136,7 @@ fn says(entry: &[u8], hit: u8) -> Says {
         let signs = [used, named, hashed, marked].iter().filter(|&&sign| sign).count();
         match signs {
             4 => return Says::Name,
-            3 if named => return Says::Nearly,
+            3 if named && (marked || linked) => return Says::Nearly,
             _ if used && marked && hit != 0 && one_byte_from(bytes, hit) => return Says::Nearly,
             _ => {}
         }
@@ -249,7 +263,7 @@ mod tests {
     #[test]
     fn names_are_mended_by_one_byte() {
         let hash = |name: &[u8; 11]| Name::from_bytes(*name).hash();
-        assert!(one_byte_from(*b"puls01  DAT", hash(b"PULS01  DAT")) == false);
+        assert!(!one_byte_from(*b"puls01  DAT", hash(b"PULS01  DAT")));
         for at in 0..11 {
             let mut bytes = *b"PULS01XYDAT";
             bytes[at] = 0x07;

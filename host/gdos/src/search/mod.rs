@@ -7,6 +7,6 @@ mod ranking;
 mod verdict;
 mod words;
 
-pub use ranking::Reading;
+pub use ranking::{Candidate, Reading};
 pub use verdict::{search, Search, Verdict};
-pub use words::{candidate_json, candidate_lines};
+pub use words::{candidate_brief, candidate_json, candidate_lines};

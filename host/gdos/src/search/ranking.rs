@@ -43,8 +43,10 @@ pub fn ranked(image: &[u8], everywhere: &[Evidence], tried: &[Geometry], intact:
     let mut ranked = Vec::new();
     while let Some(best) = strongest(&left, reads) {
         let place = left.swap_remove(best);
-        let own = place.start..place.start + place.sectors;
-        left = left.iter().map(|place| place.without(&own)).collect();
+        let (own, reach) = (place.start..place.start + place.sectors, place.reach());
+        // Beyond its length only those are its entries that are no other's for certain.
+        let own_of = |other: &Evidence| if other.names == 0 { &reach } else { &own };
+        left = left.iter().map(|other| other.without(own_of(other))).collect();
         left.retain(|place| place.speaks() || reads(place.start));
         let readings = readings(image, &place, tried, intact);
         ranked.push(Candidate { evidence: place, readings });

@@ -66,12 +66,12 @@ fn verdict(image: &[u8], wanted: &Wanted, tried: &[Geometry], intact: &[Reading]
         let Some(here) = everywhere.iter().find(|place| place.start == geometry.start) else {
             return Verdict::NoName;
         };
+        if here.beyond > 0 {
+            return Verdict::Longer;
+        }
         let elsewhere = everywhere.iter().filter(|place| place.start != geometry.start);
         if elsewhere.map(|place| place.without(&own)).any(|place| place.speaks()) {
             return Verdict::AnotherPlace;
-        }
-        if here.beyond > 0 {
-            return Verdict::Longer;
         }
         if here.names == 0 {
             return Verdict::NoName;

@@ -37,6 +37,12 @@ pub fn candidate_lines(candidate: &Candidate, suffix: &str) -> Vec<String> {
     candidate.readings.iter().map(line).collect()
 }
 
+/// One line of a place of which the reading is told already.
+pub fn candidate_brief(candidate: &Candidate, suffix: &str) -> Option<String> {
+    let options = shape::options(candidate.readings.first()?.geometry, suffix);
+    Some(format!("{options}: {}; not consistent, as told", evidence_words(&candidate.evidence)))
+}
+
 /// A place for `--json`.
 pub fn candidate_json(candidate: &Candidate) -> Json {
     let Evidence { start, sectors, names, nearly, against, beyond, .. } = candidate.evidence;

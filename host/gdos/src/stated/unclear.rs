@@ -1,7 +1,7 @@
 //! What is said where no geometry is stated and the search takes none.
 
 use crate::failure::{Failure, Ranking};
-use crate::search::{candidate_json, candidate_lines, Reading, Search, Verdict};
+use crate::search::{candidate_brief, candidate_json, candidate_lines, Candidate, Reading, Search, Verdict};
 use crate::shape::{self, preset_of, Wanted};
 use crate::text::counted;
 use genie_dos::{Counts, Disk, Explained, Geometry, Refusal};
@@ -87,7 +87,10 @@ fn damaged(search: &Search, wanted: &Wanted, image: &[u8], path: &str) -> Option
     let disk = Disk::new(image, first.readings.first()?.geometry);
     let refusal = disk.check().err()?;
     let mut lines = vec!["nothing is read or written; what speaks for each directory, and the options to type:".into()];
-    lines.extend(ranked_lines(search, wanted));
+    lines.extend(ranked_lines(search, |candidate| match std::ptr::eq(candidate, first) {
+        true => candidate_brief(candidate, wanted.suffix()).into_iter().collect(),
+        false => candidate_lines(candidate, wanted.suffix()),
+    }));
     match search.ranking.iter().filter(|candidate| candidate.is_intact()).count() {
         0 => {}
         1 => lines.push("the only intact reading is the weaker one: an older directory, or a copy of one".into()),
@@ -99,11 +102,10 @@ fn damaged(search: &Search, wanted: &Wanted, image: &[u8], path: &str) -> Option
 }
 
 /// The places that are told, numbered.
-fn ranked_lines(search: &Search, wanted: &Wanted) -> Vec<String> {
+fn ranked_lines(search: &Search, told: impl Fn(&Candidate) -> Vec<String>) -> Vec<String> {
     let mut lines = Vec::new();
     for (number, candidate) in (1..).zip(search.ranking.iter().take(TOLD)) {
-        let told = candidate_lines(candidate, wanted.suffix());
-        lines.extend(told.into_iter().map(|line| format!("  {number}. {line}")));
+        lines.extend(told(candidate).into_iter().map(|line| format!("  {number}. {line}")));
     }
     match search.ranking.len().saturating_sub(TOLD) {
         0 => {}
@@ -121,7 +123,7 @@ fn to_state(search: &Search, wanted: &Wanted, path: &str, why: &str, more: Vec<S
         "{path}: {why}, so the geometry is to be stated; nothing is read or written; what speaks for each directory, and \
          the options to type:"
     );
-    let mut lines = ranked_lines(search, wanted);
+    let mut lines = ranked_lines(search, |candidate| candidate_lines(candidate, wanted.suffix()));
     lines.extend(more);
     Failure::Unclear { message, ranking: Ranking { lines, json: ranked_json(search) } }
 }
