@@ -214,7 +214,7 @@ fn attack(folder: &Folder, made: &Made, image: &[u8], all: bool, tally: &mut Tal
     let put = ["put", &path, &host, "--date", "1983-10-09"];
     let changes =
         [&put[..], &["rm", &path, "PULS01/DAT"], &["trim", &path, "*"], &["undelete", &path, "--slot", "80H"]];
-    for change in changes.into_iter().take(if all { 4 } else { 1 }) {
+    for change in changes.into_iter().take(if all { 4 } else { 0 }) {
         let (status, ..) = gdos(change);
         tally.changes += 1;
         assert!(status != 0 && folder.read("d.img") == image, "{}: {change:?} was made", made.kind);

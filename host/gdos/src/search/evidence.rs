@@ -1,18 +1,11 @@
 //! What speaks for a directory at a place of the image, and what against it.
-//!
-//! A slot in use shows in four ways: its entry's flag byte, a well-formed name, the name's hash in the HIT, and the marker.
-//! Where all four agree the slot speaks for the directory: it is no accident of other bytes. Where one byte is all that
-//! parts them it nearly does, so that no single damaged byte makes a file's trace vanish. A slot in which HIT and entry
-//! contradict each other otherwise speaks against it. None of this hangs on blocks and units.
 
-use genie_dos::{Geometry, Name};
+use super::slot::{Says, Slots};
+use genie_dos::Geometry;
 use std::ops::Range;
 
 /// Sectors that a directory may have.
 const LENGTHS: [usize; 5] = [10, 15, 20, 25, 30];
-
-/// Entries in a sector.
-const ROWS: usize = 8;
 
 /// What was found where a directory would begin.
 #[derive(Clone, Debug, PartialEq, Eq)]
@@ -39,48 +32,23 @@ struct Sign {
     whole: bool,
 }
 
-/// What a slot says.
-#[derive(Clone, Copy, Debug, PartialEq, Eq)]
-enum Says {
-    Name,
-    Nearly,
-    Against,
-    Nothing,
-}
-
 impl Evidence {
-    /// What the image shows where a directory would begin with this sector.
+    /// What the image shows where a directory would begin with this sector. None of it hangs on blocks and units.
     pub fn at(image: &[u8], start: usize) -> Evidence {
-        let sector = |number: usize| {
-            let from = (start + number) * Geometry::SECTOR_BYTES;
-            image.get(from..from + Geometry::SECTOR_BYTES)
-        };
-        let hit = sector(1).unwrap_or(&[0; Geometry::SECTOR_BYTES]);
+        let slots = Slots::at(image, start);
         let room = (image.len() / Geometry::SECTOR_BYTES).saturating_sub(start);
-        let stated = LENGTHS.into_iter().find(|&length| length == 10 + usize::from(hit[0x1f]) && length <= room);
+        let stated = LENGTHS.into_iter().find(|&length| length == slots.stated_sectors() && length <= room);
         let (mut signs, mut against, mut seen) = (Vec::new(), [0; 30], Vec::new());
-        for number in 2..room.min(30) {
-            let Some(entries) = sector(number) else { break };
-            for row in 0..ROWS {
-                let entry = &entries[32 * row..32 * (row + 1)];
-                let slot = 32 * row + number - 2;
-                let extends = |link: u8| {
-                    let (row, s) = (usize::from(link / 32), usize::from(link % 32));
-                    let next = sector(s + 2).map(|entries| (entries[32 * row], usize::from(entries[32 * row + 1])));
-                    next == Some((0x90, slot))
-                };
-                let says = match says(entry, hit[slot], extends) {
-                    // One name in two slots: only one of them can be right.
-                    Says::Name | Says::Nearly if seen.contains(&&entry[0x05..0x10]) => Says::Against,
-                    says => says,
-                };
-                match says {
-                    Says::Name | Says::Nearly => {
-                        seen.push(&entry[0x05..0x10]);
-                        signs.push(Sign { sector: start + number, whole: says == Says::Name });
-                    }
-                    Says::Against => against[number] += 1,
-                    Says::Nothing => {}
+        for slot in (0..256).filter(|slot| slot % 32 + 2 < room.min(30)) {
+            let number = slot % 32 + 2;
+            match slots.says(slot) {
+                Says::Nothing => {}
+                Says::Against => against[number] += 1,
+                // One name in two slots: only one of them can be right.
+                _ if seen.contains(&slots.name(slot)) => against[number] += 1,
+                says => {
+                    seen.push(slots.name(slot));
+                    signs.push(Sign { sector: start + number, whole: says == Says::Name });
                 }
             }
         }
@@ -109,6 +77,12 @@ impl Evidence {
         self.start..last.max(self.start + self.sectors)
     }
 
+    /// Whether the slots allow that a disk is consistent here: none contradicts itself, nor is one byte short of a name.
+    /// Whether it is one is the library's word.
+    pub fn may_be_consistent(&self) -> bool {
+        self.against == 0 && self.nearly == 0
+    }
+
     /// Whether anything speaks for a directory here.
     pub fn speaks(&self) -> bool {
         !self.signs.is_empty()
@@ -118,51 +92,6 @@ impl Evidence {
     pub fn weight(&self) -> (usize, std::cmp::Reverse<usize>) {
         (2 * self.names + self.nearly + self.beyond, std::cmp::Reverse(self.against))
     }
-}
-
-/// What a slot says by its entry and its HIT byte. An extension is one that points back to this slot.
-fn says(entry: &[u8], hit: u8, extends: impl Fn(u8) -> bool) -> Says {
-    let flags = entry[0x00];
-    let marked = matches!(entry[0x1e], 0xfe | 0xff);
-    // Letters over and over may be a name with its hash; a marker is no letter, and neither is what stands behind it.
-    let linked = entry[0x1f] == 0xff || extends(entry[0x1f]);
-    // In use, primary, bit 5 zero.
-    let used = flags & 0xb0 == 0x10;
-    if marked || used && hit != 0 {
-        let mut bytes = [0; Name::LEN];
-        bytes.copy_from_slice(&entry[0x05..0x10]);
-        let name = Name::from_bytes(bytes);
-        let (named, hashed) = (name.is_well_formed(), name.hash() == hit);
-        let signs = [used, named, hashed, marked].iter().filter(|&&sign| sign).count();
-        match signs {
-            4 => return Says::Name,
-            3 if named && (marked || linked) => return Says::Nearly,
-            _ if used && marked && hit != 0 && one_byte_from(bytes, hit) => return Says::Nearly,
-            _ => {}
-        }
-    }
-    match (flags & 0x10 != 0, flags & 0x80 != 0) {
-        (false, _) if hit == 0 => Says::Nothing,
-        // An extension has no name of its own.
-        (true, true) if hit != 0 && flags == 0x90 && marked => Says::Nothing,
-        _ => Says::Against,
-    }
-}
-
-/// Whether a name of this hash is had by changing one byte.
-fn one_byte_from(bytes: [u8; Name::LEN], hash: u8) -> bool {
-    let plain = |bytes: &[u8; Name::LEN]| bytes.iter().fold(0u8, |hash, byte| (hash ^ byte).rotate_left(1));
-    // A hash of 0 is written as 1.
-    let written = if hash == 1 { [0, 1] } else { [hash, hash] };
-    (0..Name::LEN).any(|at| {
-        written.iter().any(|wanted| {
-            // What the byte at this place gives to the hash has been turned once for it and for each behind it.
-            let turns = (Name::LEN - at) as u32;
-            let mut mended = bytes;
-            mended[at] ^= (plain(&bytes) ^ wanted).rotate_right(turns);
-            Name::from_bytes(mended).is_well_formed()
-        })
-    })
 }
 
 #[cfg(test)]
@@ -258,16 +187,5 @@ mod tests {
         assert!(!evidence.without(&(80..90)).speaks());
         assert!(evidence.without(&(80..85)).speaks());
         assert_eq!(evidence.without(&(0..80)), evidence);
-    }
-
-    #[test]
-    fn names_are_mended_by_one_byte() {
-        let hash = |name: &[u8; 11]| Name::from_bytes(*name).hash();
-        assert!(!one_byte_from(*b"puls01  DAT", hash(b"PULS01  DAT")));
-        for at in 0..11 {
-            let mut bytes = *b"PULS01XYDAT";
-            bytes[at] = 0x07;
-            assert!(one_byte_from(bytes, hash(b"PULS01XYDAT")), "{at}");
-        }
     }
 }

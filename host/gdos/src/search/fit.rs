@@ -50,14 +50,14 @@ impl Fit {
                     fit.faults.push(Fault { runs: vec![run], gat_byte: None });
                     continue;
                 }
-                for granule in from..=to {
+                for (granule, owner) in owner.iter_mut().enumerate().take(to + 1).skip(from) {
                     if !taken(granule) {
                         fit.faults.push(Fault { runs: vec![run], gat_byte: Some(granule / g.units) });
                     }
                     if directory.contains(&granule) && flags & 0xc0 == 0 {
                         fit.faults.push(Fault { runs: vec![run], gat_byte: None });
                     }
-                    if let Some(other) = owner[granule].replace(run) {
+                    if let Some(other) = owner.replace(run) {
                         fit.faults.push(Fault { runs: vec![other, run], gat_byte: None });
                     }
                 }

@@ -4,6 +4,7 @@
 mod evidence;
 mod fit;
 mod ranking;
+mod slot;
 mod verdict;
 mod words;
 

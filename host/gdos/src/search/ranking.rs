@@ -88,11 +88,55 @@ pub fn read(image: &[u8], geometry: Geometry) -> Option<Reading> {
     }
 }
 
-/// Those geometries under which the image is consistent. The library refuses nearly all of them after a few bytes.
-pub fn consistent(image: &[u8], tried: &[Geometry]) -> Vec<Reading> {
+/// Those geometries under which the image is consistent. Where the slots contradict themselves the library is not asked.
+pub fn consistent(image: &[u8], everywhere: &[Evidence], tried: &[Geometry]) -> Vec<Reading> {
+    let places: Vec<usize> =
+        everywhere.iter().filter(|place| place.may_be_consistent()).map(|place| place.start).collect();
     let reading = |&geometry: &Geometry| {
         let counts = Disk::new(image, geometry).count().ok()?;
         Some(Reading { geometry, found: Ok(counts) })
     };
-    tried.iter().filter_map(reading).collect()
+    tried.iter().filter(|geometry| places.contains(&geometry.start)).filter_map(reading).collect()
+}
+
+#[cfg(test)]
+mod tests {
+    use super::*;
+    use genie_dos::{Date, Kind, NewFile};
+
+    /// Whether or not the slots are looked at first, the same geometries are consistent: on a disk whose directory has
+    /// a chain and names in every part, among zeros, with each byte damaged in turn.
+    #[test]
+    fn the_library_has_the_last_word() {
+        let geometry = Geometry::new(16, 2, 80, 0x4296);
+        let mut disk = Disk::blank(geometry, 15, &[0, 2, 4, 6, 8]).unwrap();
+        for (name, sectors) in [("A", 30), ("B/DAT", 1), ("C", 0)] {
+            let new = NewFile::open(geometry, Date::new(1983, 10, 9));
+            let mut handle = disk.create(&name.parse().unwrap(), &new).unwrap().handle;
+            for _ in 0..sectors {
+                disk.write_record(&mut handle, Kind::Sequential, &[0; 256]).unwrap();
+            }
+        }
+        let mut image = disk.into_image();
+        image.iter_mut().filter(|byte| **byte == 0xe5).for_each(|byte| *byte = 0);
+        let tried: Vec<Geometry> = crate::shape::fitting(image.len());
+        let starts = |readings: Vec<Reading>| readings.iter().map(|reading| reading.geometry).collect::<Vec<_>>();
+        let mut found = 0;
+        for at in (80 * 256..95 * 256).filter(|at| at % 3 == 0 || (82..84).contains(&(at / 256))) {
+            for damage in [0x10, 0xff] {
+                let mut image = image.clone();
+                image[at] ^= damage;
+                let everywhere = everywhere(&image);
+                let asked = starts(consistent(&image, &everywhere, &tried));
+                let all: Vec<Geometry> = tried
+                    .iter()
+                    .copied()
+                    .filter(|&geometry| Disk::new(image.as_slice(), geometry).check().is_ok())
+                    .collect();
+                assert_eq!(asked, all, "byte {at}");
+                found += all.len();
+            }
+        }
+        assert!(found > 0);
+    }
 }

@@ -45,8 +45,8 @@ pub enum Verdict {
 /// Searches an image for its geometry, as far as the options leave it open.
 pub fn search(image: &[u8], wanted: &Wanted) -> Search {
     let tried = wanted.fitting(image.len());
-    let intact = consistent(image, &tried);
     let everywhere = everywhere(image);
+    let intact = consistent(image, &everywhere, &tried);
     let ranking = ranked(image, &everywhere, &tried, &intact);
     let verdict = verdict(image, wanted, &tried, &intact, &everywhere);
     Search { tried: tried.len(), intact, ranking, verdict }

@@ -61,7 +61,7 @@ pub struct Wanted {
 }
 
 /// Nothing is said.
-pub const ANY: Wanted = Wanted { blocks: None, units: None, start: None, open_code: None, suffix: "" };
+const ANY: Wanted = Wanted { blocks: None, units: None, start: None, open_code: None, suffix: "" };
 
 impl Wanted {
     /// From the options. A single option goes before the preset's number.
@@ -131,6 +131,12 @@ impl Wanted {
         }
         fitting
     }
+}
+
+/// Every geometry that fits an image of this length.
+#[cfg(test)]
+pub fn fitting(image_len: usize) -> Vec<Geometry> {
+    ANY.fitting(image_len)
 }
 
 /// Where the directory of an image of this length may begin: with a granule, ten sectors before the end at the latest.
