@@ -37,7 +37,7 @@ const STATUS: &str = "\
 Exit status
   0  done
   1  refused by the disk's rules; the message has the number, what it means and the file
-  2  wrong usage, or a file of the host that cannot be read or written
+  2  wrong usage, a geometry that is to be stated, or a file of the host that cannot be read or written
   diff alone has that of the host's diff: 0 alike, 1 different, 2 trouble, a refusal too.
   Where a command was refused or failed no image was changed. An image is never left half written: a change is
   made to a copy beside it, which is then put in its place.

@@ -219,6 +219,10 @@ fn attack(folder: &Folder, made: &Made, image: &[u8], all: bool, tally: &mut Tal
         tally.changes += 1;
         assert!(status != 0 && folder.read("d.img") == image, "{}: {change:?} was made", made.kind);
     }
+    // A change that is made waits for the host's disk, so of those not every image's is tried.
+    if made.other.is_none() && !all {
+        return;
+    }
     let (status, ..) = gdos(&[&put[..], &["--search"]].concat());
     tally.changes += 1;
     match made.other {

@@ -95,3 +95,67 @@ fn rival(image: &[u8], geometry: Geometry, sectors: usize, tried: &[Geometry]) -
         fit.is_one_byte_away() && !fit.same_granules(&own) && likelier
     })
 }
+
+#[cfg(test)]
+mod tests {
+    use super::*;
+    use crate::shape::{anything, PRESETS};
+    use genie_dos::{Date, Kind, NewFile, Password};
+
+    /// A disk with so many files; what is in them is of many kinds, and none of it is a directory.
+    fn disk(geometry: Geometry, sectors: usize, files: usize, spare: u8) -> Vec<u8> {
+        let mut disk = Disk::blank(geometry, sectors, &[0]).unwrap();
+        for number in 0..files {
+            let name = format!("P{number:03}/DAT").parse().unwrap();
+            let new = NewFile::open(geometry, Date::new(1983, 10, 9));
+            disk.create(&name, &new).unwrap();
+            let records = [1, 0, 5, 16, 2][number % 5];
+            let byte = |i: usize| match number % 6 {
+                0 => 0x55,
+                1 => b"PULS0123456789AB"[i * 5 % 16],
+                2 => 0xff,
+                3 => (i * 31 + number) as u8,
+                4 => b"PQRSTUVWXYZ\x50\xff\xfe\x10A"[i * 3 % 16],
+                _ => 0,
+            };
+            let mut handle = disk.open(&name, 256, Password::Unchecked).unwrap();
+            for record in 0..records {
+                let bytes: [u8; 256] = std::array::from_fn(|i| byte(256 * record + i));
+                // Where the disk is full the file is as long as it got.
+                if disk.write_record(&mut handle, Kind::Sequential, &bytes).is_err() {
+                    break;
+                }
+            }
+        }
+        let mut image = disk.into_image();
+        let gat = geometry.start * Geometry::SECTOR_BYTES;
+        image[gat..gat + geometry.blocks].iter_mut().for_each(|byte| *byte |= spare << geometry.units);
+        image
+    }
+
+    /// The plain disk of every day, one directory and files: its geometry is taken, or told among those that fit as well.
+    #[test]
+    fn everyday_disks_are_found() {
+        let mut several = 0;
+        let others = [Geometry::new(20, 3, 150, 0x4296), Geometry::new(77, 5, 960, 0x4296)];
+        for geometry in PRESETS.iter().map(|preset| preset.geometry).chain(others) {
+            for (sectors, files) in [(10, 1), (10, 3), (10, 20), (15, 8), (30, 60)] {
+                for spare in [0, 0xff] {
+                    let image = disk(geometry, sectors, files, spare);
+                    let found = search(&image, &anything());
+                    let told = format!("{geometry:?} {sectors} {files} {spare:02X}H: {:?}", found.ranking);
+                    assert_eq!(found.ranking.len(), 1, "{told}");
+                    match found.verdict {
+                        Verdict::Taken(taken) => assert_eq!(taken, geometry, "{told}"),
+                        Verdict::Several => {
+                            assert!(found.intact.iter().any(|reading| reading.geometry == geometry), "{told}");
+                            several += 1;
+                        }
+                        other => panic!("{other:?}: {told}"),
+                    }
+                }
+            }
+        }
+        assert!(several < 10, "{several} are not clear");
+    }
+}

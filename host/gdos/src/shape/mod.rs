@@ -8,6 +8,6 @@ mod words;
 pub use form::{parse, written};
 pub use preset::{preset_of, PRESETS};
 #[cfg(test)]
-pub use wanted::fitting;
+pub use wanted::anything;
 pub use wanted::{starts, Wanted, OPTIONS, OPTIONS_OF_TWO, SEARCH, TITLE};
 pub use words::{fault, json, length, options};

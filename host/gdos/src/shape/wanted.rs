@@ -133,10 +133,10 @@ impl Wanted {
     }
 }
 
-/// Every geometry that fits an image of this length.
+/// Where nothing is said.
 #[cfg(test)]
-pub fn fitting(image_len: usize) -> Vec<Geometry> {
-    ANY.fitting(image_len)
+pub fn anything() -> Wanted {
+    ANY
 }
 
 /// Where the directory of an image of this length may begin: with a granule, ten sectors before the end at the latest.
