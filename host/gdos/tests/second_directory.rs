@@ -178,6 +178,8 @@ fn places(made: &Made) -> Vec<usize> {
 #[derive(Default)]
 struct Tally {
     images: usize,
+    /// Those in which the other directory is the only intact one.
+    traps: usize,
     reads: usize,
     done: usize,
     changes: usize,
@@ -190,6 +192,8 @@ fn attack(folder: &Folder, made: &Made, image: &[u8], all: bool, tally: &mut Tal
     folder.write("d.img", image);
     let path = folder.path("d.img").to_str().unwrap().to_string();
     let truth = Disk::new(image, made.truth);
+    let other = made.other.is_some_and(|other| Disk::new(image, other).check().is_ok());
+    tally.traps += usize::from(other && truth.check().is_err());
     let own = |typed: &str| {
         let handle = truth.open(&name(typed), 256, Password::Unchecked).ok()?;
         truth.contents(&handle).ok()
@@ -220,25 +224,29 @@ fn attack(folder: &Folder, made: &Made, image: &[u8], all: bool, tally: &mut Tal
         assert!(status != 0 && folder.read("d.img") == image, "{}: {change:?} was made", made.kind);
     }
     // A change that is made waits for the host's disk, so of those not every image's is tried.
-    if made.other.is_none() && !all {
-        return;
+    if made.other.is_some() || all {
+        tally.changes += 1;
+        change_by_search(folder, made, image, &put);
     }
-    let (status, ..) = gdos(&[&put[..], &["--search"]].concat());
-    tally.changes += 1;
+    if tally.images % 100 == 1 {
+        tally.spawned += 1;
+        folder.write("d.img", image);
+        let (status, out, _) = gdos(&["cat", &path, "PULS01/DAT", "--unlock"]);
+        let spawned = folder.gdos(&["cat", "d.img", "PULS01/DAT", "--unlock"]);
+        assert_eq!((spawned.status, spawned.out), (status.into(), out));
+    }
+}
+
+/// A change under what the search finds: none where there is another directory, and else only to the true disk.
+fn change_by_search(folder: &Folder, made: &Made, image: &[u8], put: &[&str]) {
+    let truth = Disk::new(image, made.truth);
+    let (status, ..) = gdos(&[put, &["--search"]].concat());
     match made.other {
         Some(_) => assert!(status != 0 && folder.read("d.img") == image, "{}: put --search was made", made.kind),
         None if status == 0 => {
             assert!(truth.check().is_ok() && Disk::new(folder.read("d.img"), made.truth).check().is_ok())
         }
         None => assert!(folder.read("d.img") == image),
-    }
-    if tally.images % 100 == 1 {
-        tally.spawned += 1;
-        let words = ["cat", "d.img", "PULS01/DAT", "--unlock"];
-        let spawned = folder.gdos(&words);
-        folder.write("d.img", image);
-        let (status, out, _) = gdos(&["cat", &path, "PULS01/DAT", "--unlock"]);
-        assert_eq!((folder.gdos(&words).status, folder.gdos(&words).out), (status.into(), out), "{spawned:?}");
     }
 }
 
@@ -260,10 +268,11 @@ fn attacked(made: Made) -> Tally {
         }
     }
     // Written past the test's own capture, so that the number stands in the output of a gate that asks for no more.
-    let Tally { images, reads, done, changes, spawned } = tally;
+    let Tally { images, traps, reads, done, changes, spawned } = tally;
+    assert!(made.other.is_none() || traps > 0, "{}: no trap", made.kind);
     let _ = writeln!(
         std::io::stderr(),
-        "{}: {images} images tried, {reads} reads ({done} with status 0, none of them wrong), {changes} changes refused or \
+        "{}: {images} images tried, in {traps} of them the other directory is the only intact one; {reads} reads ({done} with status 0, none of them wrong), {changes} changes refused or \
          rightly made, {spawned} images by a process too",
         made.kind
     );

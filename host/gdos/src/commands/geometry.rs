@@ -82,10 +82,9 @@ fn output(opened: &Opened, told: Option<String>) -> Output {
         let (path, number, kind) = (&opened.path, fault.fault.kind.number(), fault.fault.kind);
         format!("{path} is not consistent under it: {number} ({kind}): {fault}")
     });
-    Output {
-        text: text.into_bytes(),
-        json: Json::Object(json),
-        notes: notes.into_iter().collect(),
-        ..Output::default()
-    }
+    let mut output = Output { text: text.into_bytes(), json: Json::Object(json), ..Output::default() };
+    // That it was searched stands in the text.
+    output.notes.extend(opened.notes().into_iter().filter(|_| opened.source != Source::Search));
+    output.notes.extend(notes);
+    output
 }

@@ -5,6 +5,7 @@ use crate::args::Args;
 use crate::failure::Failure;
 use crate::host::{self, Locked};
 use crate::json::Json;
+use crate::search::{evidence_words, stronger_elsewhere};
 use crate::shape::{self, Wanted};
 use crate::stated::{self, Found, Source};
 use genie_dos::{Disk, Geometry, Refusal};
@@ -79,14 +80,23 @@ impl Opened {
         self.disk.geometry()
     }
 
-    /// What is to be remarked: which geometry a search found.
+    /// What is to be remarked: which geometry a search found; or that more speaks for another than for the stated one.
     pub fn notes(&self) -> Vec<String> {
-        match self.source {
-            Source::Search => {
-                vec![format!("{}: geometry found by search: {}", self.path, shape::options(self.geometry(), ""))]
-            }
-            _ => Vec::new(),
+        let path = &self.path;
+        if self.source == Source::Search {
+            return vec![format!("{path}: geometry found by search: {}", shape::options(self.geometry(), ""))];
         }
+        let note = stronger_elsewhere(self.disk.image(), self.geometry()).map(|(other, own)| {
+            format!(
+                "{path}: more speaks for a directory at sector {} ({}) than for the stated one at sector {} ({}); \
+                 `gdos probe {path}` shows it",
+                other.start,
+                evidence_words(&other),
+                own.start,
+                evidence_words(&own)
+            )
+        });
+        note.into_iter().collect()
     }
 
     /// An output that has the remarks.

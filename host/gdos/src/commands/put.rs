@@ -89,7 +89,7 @@ fn run(args: &Args) -> Result<Output, Failure> {
     let sources = sources(args, words)?;
 
     let (mut opened, locked) = Opened::change(args, image)?;
-    let geometry = opened.geometry();
+    let (geometry, output) = (opened.geometry(), opened.output());
     let main_code = main_code.unwrap_or(geometry.open_code);
     let new = NewFile {
         date,
@@ -109,14 +109,14 @@ fn run(args: &Args) -> Result<Output, Failure> {
         1 => return Err(failures.remove(0)),
         _ => {
             let json = Json::object([("failures", failures_json(&failures))]);
-            return Ok(Output { json, failures, ..opened.output() });
+            return Ok(Output { json, failures, ..output });
         }
     }
     let mut put = Vec::new();
     for source in &sources {
         put.push((source, put_one(&mut opened, source, &new, password, args.has("force"))?));
     }
-    let mut output = Output { changed: true, ..opened.output() };
+    let mut output = Output { changed: true, ..output };
     // Old files keep their date.
     output.notes.extend(note.filter(|_| put.iter().any(|(_, old)| !old)));
     let mut told = Vec::new();

@@ -131,6 +131,7 @@ fn slot_of(opened: &Opened, name: &OsString) -> Result<usize, Failure> {
 /// Brings the file of a slot back.
 fn bring_back(args: &Args, image: &OsStr, find: impl Fn(&Opened) -> Result<usize, Failure>) -> Result<Output, Failure> {
     let (mut opened, locked) = Opened::change(args, image)?;
+    let mut output = Output { changed: true, ..opened.output() };
     let slot = find(&opened)?;
     let dead = opened.disk.dead_entries().map_err(Failure::image(&opened.path))?;
     let entry = dead.into_iter().find(|entry| usize::from(entry.slot()) == slot);
@@ -148,7 +149,6 @@ fn bring_back(args: &Args, image: &OsStr, find: impl Fn(&Opened) -> Result<usize
     })?;
     // Only a dead primary entry is brought back, and that is one of these.
     let (name, size) = entry.as_ref().map_or_else(Default::default, |entry| (name_text(entry), entry.size()));
-    let mut output = Output { changed: true, ..opened.output() };
     output.notes.extend(opened.keep(locked)?);
     if !also.is_empty() {
         let told = leftovers::told(&also);

@@ -9,5 +9,5 @@ mod verdict;
 mod words;
 
 pub use ranking::{Candidate, Reading};
-pub use verdict::{search, Search, Verdict};
-pub use words::{candidate_brief, candidate_json, candidate_lines};
+pub use verdict::{search, stronger_elsewhere, Search, Verdict};
+pub use words::{candidate_brief, candidate_json, candidate_lines, evidence_words};

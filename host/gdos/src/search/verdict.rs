@@ -83,6 +83,15 @@ fn verdict(image: &[u8], wanted: &Wanted, tried: &[Geometry], intact: &[Reading]
     }
 }
 
+/// What speaks for a directory elsewhere, if it is more than for the one of a geometry that was stated; and for that one.
+pub fn stronger_elsewhere(image: &[u8], geometry: Geometry) -> Option<(Evidence, Evidence)> {
+    let own = Evidence::at(image, geometry.start);
+    let sectors = geometry.start..geometry.start + own.sectors;
+    let elsewhere = everywhere(image).into_iter().filter(|place| place.start != geometry.start);
+    let strongest = elsewhere.map(|place| place.without(&sectors)).max_by_key(Evidence::weight)?;
+    (strongest.speaks() && strongest.weight() > own.weight()).then_some((strongest, own))
+}
+
 /// Blocks and units that the same directory would have, were one byte of a run or of the GAT not damaged; that put some
 /// file elsewhere; and that leave no more unexplained, or are those of a known kind of disk where the geometry is not.
 fn rival(image: &[u8], geometry: Geometry, sectors: usize, tried: &[Geometry]) -> Option<Geometry> {

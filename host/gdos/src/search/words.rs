@@ -9,7 +9,7 @@ use crate::text::counted;
 use genie_dos::Counts;
 
 /// `2 names for it, 1 nearly, 0 slots against`.
-fn evidence_words(evidence: &Evidence) -> String {
+pub fn evidence_words(evidence: &Evidence) -> String {
     let Evidence { names, nearly, against, beyond, .. } = *evidence;
     let beyond = match beyond {
         0 => String::new(),
