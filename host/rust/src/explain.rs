@@ -11,17 +11,22 @@ pub struct Explained {
     pub sector: Option<usize>,
     /// The entry's first byte in that sector.
     pub byte: Option<usize>,
+    /// The same byte counted from the image's start; where the fault has no slot, the byte of HIT or GAT at fault.
+    pub image_byte: Option<usize>,
     /// The name of the file that the entry belongs to, where it has a well-formed one.
     pub name: Option<Name>,
     /// What is wrong.
     pub message: String,
 }
 
-/// `slot 25H, directory sector 7, byte 32 (PULS01/DAT): granule 53 is also in slot 04H`.
+/// `slot 25H, directory sector 7, byte 32, image byte 24864 (PULS01/DAT): granule 53 is also in slot 04H`.
 impl fmt::Display for Explained {
     fn fmt(&self, f: &mut fmt::Formatter<'_>) -> fmt::Result {
         if let (Some(slot), Some(sector), Some(byte)) = (self.fault.slot, self.sector, self.byte) {
             write!(f, "slot {slot:02X}H, directory sector {sector}, byte {byte}")?;
+            if let Some(image_byte) = self.image_byte {
+                write!(f, ", image byte {image_byte}")?;
+            }
             if let Some(name) = self.name {
                 write!(f, " ({name})")?;
             }
@@ -48,43 +53,28 @@ impl<B: AsRef<[u8]>> Disk<B> {
     /// let fault = damaged.check().unwrap_err().fault().unwrap();
     /// assert_eq!(
     ///     damaged.explain(fault).to_string(),
-    ///     "slot 80H, directory sector 2, byte 128 (PULS01/DAT): the marker (byte 1EH) is 07H, neither FEH nor FFH"
+    ///     "slot 80H, directory sector 2, byte 128, image byte 21120 (PULS01/DAT): \
+    ///      the marker (byte 1EH) is 07H, neither FEH nor FFH"
     /// );
     /// # Ok::<(), genie_dos::Refusal>(())
     /// ```
     pub fn explain(&self, fault: Fault) -> Explained {
-        let place = |slot: u8| (usize::from(slot % 32) + 2, 32 * usize::from(slot / 32));
         let (sector, byte) = fault.slot.map(place).unzip();
         // Under another geometry, or where there is no such fault, its kind alone can be told.
         let g = self.geometry();
         let fits = g.image_len() == Some(self.image().len()) && g.start < self.image().len() / Geometry::SECTOR_BYTES;
         let damaged = fits.then_some(Damaged { image: self.image(), g });
         let message = damaged.as_ref().and_then(|damaged| damaged.message(fault));
+        let image_byte = damaged.as_ref().and_then(|damaged| damaged.image_byte(fault));
         let name = damaged.zip(fault.slot).and_then(|(damaged, slot)| damaged.name_of(slot));
-        Explained { fault, sector, byte, name, message: message.unwrap_or_else(|| fault.kind.words().to_string()) }
+        let message = message.unwrap_or_else(|| fault.kind.words().to_string());
+        Explained { fault, sector, byte, image_byte, name, message }
     }
 }
 
-fn allowed(byte: u8) -> bool {
-    matches!(byte, 0x30..=0x39 | 0x41..=0x5d)
-}
-
-/// The place, 0 to 10, of the first byte that cannot stand where it does in a name.
-fn bad_place(name: &Name) -> Option<usize> {
-    let bytes = name.as_bytes();
-    (0..Name::LEN).find(|&at| match bytes[at] {
-        b' ' => at == 0,
-        byte => !allowed(byte) || at % 8 > 0 && bytes[at - 1] == b' ',
-    })
-}
-
-fn well_formed(name: &Name) -> bool {
-    bad_place(name).is_none()
-}
-
-fn hash(name: Name) -> u8 {
-    let turned = name.as_bytes().iter().fold(0u8, |hash, byte| (hash ^ byte).rotate_left(1));
-    turned.max(1)
+/// The directory sector and the byte in it at which a slot's entry begins.
+fn place(slot: u8) -> (usize, usize) {
+    (usize::from(slot % 32) + 2, 32 * usize::from(slot / 32))
 }
 
 /// An entry's 32 bytes.
@@ -157,9 +147,13 @@ struct Damaged<'a> {
 }
 
 impl Damaged<'_> {
+    /// Where a byte of a directory sector stands in the image.
+    fn at(&self, sector: usize, byte: usize) -> usize {
+        (self.g.start + sector) * Geometry::SECTOR_BYTES + byte
+    }
+
     fn byte(&self, sector: usize, byte: usize) -> u8 {
-        let at = (self.g.start + sector) * Geometry::SECTOR_BYTES + byte;
-        self.image.get(at).copied().unwrap_or(0)
+        self.image.get(self.at(sector, byte)).copied().unwrap_or(0)
     }
 
     fn hit(&self, slot: u8) -> u8 {
@@ -167,8 +161,23 @@ impl Damaged<'_> {
     }
 
     fn entry(&self, slot: u8) -> Entry {
-        let (sector, from) = (usize::from(slot % 32) + 2, 32 * usize::from(slot / 32));
+        let (sector, from) = place(slot);
         Entry(std::array::from_fn(|i| self.byte(sector, from + i)))
+    }
+
+    /// Where in the image a fault is: its entry, or the byte of HIT or GAT that is at fault.
+    fn image_byte(&self, fault: Fault) -> Option<usize> {
+        match (fault.kind, fault.slot) {
+            (_, Some(slot)) => {
+                let (sector, from) = place(slot);
+                Some(self.at(sector, from))
+            }
+            (FaultKind::DirectoryLength, None) => Some(self.at(1, 0x1f)),
+            (FaultKind::DirectoryGranule, None) => {
+                self.clear_directory_granule().map(|granule| self.at(0, granule / self.g.units))
+            }
+            _ => None,
+        }
     }
 
     fn taken(&self, granule: usize) -> bool {
@@ -251,13 +260,13 @@ impl Damaged<'_> {
 
     /// That file's name, if it is well formed.
     fn name_of(&self, slot: u8) -> Option<Name> {
-        self.file_of(slot).map(|file| self.entry(file).name()).filter(well_formed)
+        self.file_of(slot).map(|file| self.entry(file).name()).filter(Name::is_well_formed)
     }
 
     fn message(&self, fault: Fault) -> Option<String> {
         match (fault.kind, fault.slot) {
             (FaultKind::DirectoryLength, _) => self.length(),
-            (FaultKind::DirectoryGranule, None) => self.clear_directory_granule(),
+            (FaultKind::DirectoryGranule, None) => self.clear_directory(),
             (_, None) => None,
             (FaultKind::HitAgainstEntry, Some(slot)) => self.hit_against_entry(slot),
             (FaultKind::Name, Some(slot)) => self.name(slot),
@@ -274,7 +283,10 @@ impl Damaged<'_> {
     fn length(&self) -> Option<String> {
         let above = self.byte(1, 0x1f);
         if ![0, 5, 10, 15, 20].contains(&above) {
-            return Some(format!("HIT byte 1FH (directory sectors above 10) is {above}, not 0, 5, 10, 15 or 20"));
+            let at = self.at(1, 0x1f);
+            return Some(format!(
+                "HIT byte 1FH (directory sectors above 10; image byte {at}) is {above}, not 0, 5, 10, 15 or 20"
+            ));
         }
         let (start, disk) = (self.g.start, self.image.len() / Geometry::SECTOR_BYTES);
         let sectors = self.sectors();
@@ -284,40 +296,46 @@ impl Damaged<'_> {
         ))
     }
 
-    fn clear_directory_granule(&self) -> Option<String> {
+    fn clear_directory_granule(&self) -> Option<usize> {
         let first = self.g.start / Geometry::GRANULE_SECTORS;
         let mut directory = first..first + self.sectors() / Geometry::GRANULE_SECTORS;
-        let clear = directory.find(|&granule| !self.taken(granule))?;
+        directory.find(|&granule| !self.taken(granule))
+    }
+
+    fn clear_directory(&self) -> Option<String> {
+        let clear = self.clear_directory_granule()?;
         Some(format!("granule {clear} is the directory's, but free in the GAT ({})", self.gat_place(clear)))
     }
 
     fn gat_place(&self, granule: usize) -> String {
-        format!("byte {}, bit {}", granule / self.g.units, granule % self.g.units)
+        let (byte, bit) = (granule / self.g.units, granule % self.g.units);
+        format!("byte {byte}, bit {bit}; image byte {}", self.at(0, byte))
     }
 
     fn hit_against_entry(&self, slot: u8) -> Option<String> {
         let (hit, in_use) = (self.hit(slot), self.entry(slot).in_use());
+        let at = self.at(1, slot.into());
         if hit == 0 || !in_use {
             return Some(match in_use {
-                true => "the entry is in use, but its HIT byte is 0".to_string(),
-                false => format!("the entry is not in use, but its HIT byte is {hit:02X}H"),
+                true => format!("the entry is in use, but its HIT byte (image byte {at}) is 0"),
+                false => format!("the entry is not in use, but its HIT byte (image byte {at}) is {hit:02X}H"),
             });
         }
         let file = self.file_of(slot)?;
-        let expected = hash(self.entry(file).name());
+        let expected = self.entry(file).name().hash();
         let whose = if file == slot { "its name".to_string() } else { format!("its file's name (slot {file:02X}H)") };
-        Some(format!("the HIT byte is {hit:02X}H, the hash of {whose} {expected:02X}H"))
+        Some(format!("the HIT byte (image byte {at}) is {hit:02X}H, the hash of {whose} {expected:02X}H"))
     }
 
     fn name(&self, slot: u8) -> Option<String> {
         let entry = self.entry(slot);
-        let Some(at) = bad_place(&entry.name()) else {
+        let Some(at) = entry.name().bad_place() else {
             return Some(format!("bit 5 of byte 00 ({:02X}H) is set", entry.0[0x00]));
         };
         let (byte, place) = (entry.name().as_bytes()[at], 0x05 + at);
         Some(match byte {
             b' ' => "the name begins with a blank".to_string(),
-            byte if allowed(byte) => format!("in the name a blank stands before byte {place:02X}H ({byte:02X}H)"),
+            byte if Name::allows(byte) => format!("in the name a blank stands before byte {place:02X}H ({byte:02X}H)"),
             byte => format!("byte {place:02X}H of the name is {byte:02X}H, which no name can have"),
         })
     }
