@@ -1,7 +1,7 @@
 // node replay.js MODULE.wasm < RECORDING
-// Makes the calls of a recording (host/model/src/record.rs says its form) on the library compiled for WebAssembly, and compares all that they answer
-// and leave, the bytes beside what they are lent too. A call with a number that has no 32 bits cannot be made here; it is counted. Exit status 0 only if
-// nothing differs.
+// Makes the calls of a recording (host/model/src/record.rs says its form) on the library compiled for WebAssembly, and compares all that
+// they answer and leave, the bytes beside what they are lent too. A call with a number of over 32 bits cannot be made here; it is counted.
+// Exit status 0 only if nothing differs.
 'use strict';
 const fs = require('fs');
 
@@ -80,13 +80,13 @@ while (at < recording.length) {
     calls++;
     if (!fits) continue;
     const wrong = (what) => stop(`call ${calls - 1}, ${name}: ${what}`);
-    let told;
+    let answered;
     try {
-        told = call(...given) & 0xFF;
+        answered = call(...given) & 0xFF;
     } catch (why) {
         wrong(`${why}, where the model answers ${answer}`);
     }
-    if (told !== answer) wrong(`answers ${told}, the model ${answer}`);
+    if (answered !== answer) wrong(`answers ${answered}, the model ${answer}`);
     for (const [where, value] of outgoing) {
         const number = memory.readUInt32LE(where);
         if (BigInt(number) !== value) wrong(`an outgoing number is ${number}, the model's ${value}`);
@@ -106,4 +106,5 @@ while (at < recording.length) {
 const exported = Object.keys(library).filter((name) => name.startsWith('genie_'));
 const missed = exported.filter((name) => !seen.has(name));
 if (missed.length || !made) stop(`never called: ${missed.join(', ') || 'anything'}`);
-console.log(`WebAssembly: ${made} calls of ${exported.length} functions answer and leave what the model does; ${calls - made} more have numbers of over 32 bits`);
+const told = `${made} calls of ${exported.length} functions answer and leave what the model does`;
+console.log(`WebAssembly: ${told}; ${calls - made} more have numbers of over 32 bits`);
