@@ -1,5 +1,5 @@
 //! Never the wrong disk: images with a second directory (of an older format, of a copy kept as a file, of another length),
-//! and the true one damaged in one byte, at each place in use. Nobody states a geometry. A read that ends with status 0 has
+//! and the true one damaged in one byte, at each place in use, or in one sector. Nobody states a geometry. A read that ends with status 0 has
 //! handed out the file's own bytes, and no image is changed.
 //!
 //! The program runs within the test, word for word as from the command line; every hundredth image also as a process.
@@ -265,6 +265,16 @@ fn attacked(made: Made) -> Tally {
             let mut image = made.image.clone();
             image[place] = damage(image[place]);
             attack(&folder, &made, &image, number == 0, &mut tally);
+        }
+    }
+    // Where several files speak for the true directory, any one of its sectors may be lost.
+    let sectors = Disk::new(made.image.as_slice(), made.truth).directory_sectors().unwrap();
+    let files = Disk::new(made.image.as_slice(), made.truth).count().unwrap().files;
+    for sector in (0..sectors).filter(|_| files > 2) {
+        for filler in [0x00, 0xe5, 0xff, 0x6b] {
+            let (mut image, from) = (made.image.clone(), (made.truth.start + sector) * 256);
+            image[from..from + 256].fill(filler);
+            attack(&folder, &made, &image, true, &mut tally);
         }
     }
     // Written past the test's own capture, so that the number stands in the output of a gate that asks for no more.

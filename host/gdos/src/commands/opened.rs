@@ -71,9 +71,27 @@ impl Opened {
         locked.replace(self.disk.image())
     }
 
-    /// The refusal of the disk as a whole, with where its geometry is from.
+    /// The refusal of the disk as a whole, with where its geometry is from; and if that was not typed, whether more speaks
+    /// for another.
     pub fn refused(&self, refusal: Refusal) -> Failure {
-        Failure::disk(&self.path, &self.disk)(refusal).by(self.source.word(), self.source.told())
+        let failure = Failure::disk(&self.path, &self.disk)(refusal).by(self.source.word(), self.source.told());
+        match (&self.source, self.stronger()) {
+            (Source::Environment | Source::Beside(_), Some(stronger)) => failure.because(stronger),
+            _ => failure,
+        }
+    }
+
+    /// That more speaks for another directory than for the stated one.
+    fn stronger(&self) -> Option<String> {
+        let (other, own) = stronger_elsewhere(self.disk.image(), self.geometry())?;
+        Some(format!(
+            "more speaks for a directory at sector {} ({}) than for the stated one at sector {} ({}); `gdos probe {}` shows it",
+            other.start,
+            evidence_words(&other),
+            own.start,
+            evidence_words(&own),
+            self.path
+        ))
     }
 
     pub fn geometry(&self) -> Geometry {
@@ -86,17 +104,7 @@ impl Opened {
         if self.source == Source::Search {
             return vec![format!("{path}: geometry found by search: {}", shape::options(self.geometry(), ""))];
         }
-        let note = stronger_elsewhere(self.disk.image(), self.geometry()).map(|(other, own)| {
-            format!(
-                "{path}: more speaks for a directory at sector {} ({}) than for the stated one at sector {} ({}); \
-                 `gdos probe {path}` shows it",
-                other.start,
-                evidence_words(&other),
-                own.start,
-                evidence_words(&own)
-            )
-        });
-        note.into_iter().collect()
+        self.stronger().map(|stronger| format!("{path}: {stronger}")).into_iter().collect()
     }
 
     /// An output that has the remarks.

@@ -142,6 +142,38 @@ mod tests {
         image
     }
 
+    /// Whatever the bytes are, an answer comes, and what is taken is consistent: directories cut up and laid anywhere.
+    #[test]
+    fn any_image_gets_an_answer() {
+        let mut state = 1u32;
+        let mut next = |below: usize| {
+            state = state.wrapping_mul(1_664_525).wrapping_add(1_013_904_223);
+            (state >> 8) as usize % below
+        };
+        let whole = disk(Geometry::new(16, 2, 80, 0x4296), 30, 9, 0);
+        for _ in 0..400 {
+            let len = [2560, 3840, 40_960, 76_800][next(4)];
+            let mut image = vec![[0, 0xe5, 0xff][next(3)]; len];
+            for _ in 0..next(4) {
+                let (from, to) = (80 * 256 + 256 * next(30), 256 * next(len / 256));
+                let bytes = (256 * (1 + next(30))).min(len - to).min(whole.len() - from);
+                image[to..to + bytes].copy_from_slice(&whole[from..from + bytes]);
+            }
+            for _ in 0..next(5) {
+                image[next(len)] = next(256) as u8;
+            }
+            let found = search(&image, &anything());
+            match found.verdict {
+                Verdict::Taken(geometry) => assert_eq!(Disk::new(image.as_slice(), geometry).check(), Ok(())),
+                Verdict::NoLength => panic!("every length is one"),
+                _ => {}
+            }
+            for place in found.intact {
+                let _ = stronger_elsewhere(&image, place.geometry);
+            }
+        }
+    }
+
     /// The plain disk of every day, one directory and files: its geometry is taken, or told among those that fit as well.
     #[test]
     fn everyday_disks_are_found() {
