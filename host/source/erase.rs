@@ -309,13 +309,17 @@ impl<'a> File<'a> {
         if token.text == "-" {
             self.expect_text(">")?;
             token = self.expect()?;
+            let mut last = "";
             while !["requires", "ensures", "{"].contains(&token.text) {
                 // Within brackets it stands before an array's length.
                 let ends = token.text == ";" && answer.matches('[').count() == answer.matches(']').count();
-                if ends || UNKNOWN.contains(&token.text) {
+                // A second word is no part of a type: perhaps a clause of another kind.
+                let second = last.ends_with(is_word) && token.text.starts_with(is_word);
+                if ends || second && last != "mut" && !last.starts_with('\'') || UNKNOWN.contains(&token.text) {
                     return self.unknown(token.from, &format!("`{}` is not known here", token.text));
                 }
                 answer += token.text;
+                last = token.text;
                 token = self.expect()?;
             }
         }

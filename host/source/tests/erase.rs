@@ -174,6 +174,8 @@ fn forms_that_are_not_known() {
     let f = |body: &str| format!("fn f(x: u8) -> u8\n    ensures {{ ⊤ }}\n{{\n{body}\n}}\n");
     let cases: &[(String, usize)] = &[
         ("fn f()\n    measure { x }\n{\n}\n".into(), 2),
+        ("fn f() -> u8\n    measure { x }\n{\n    1\n}\n".into(), 2),
+        ("fn f() -> &'a mut [u8; 3]\n    ghost { x }\n{\n}\n".into(), 2),
         ("fn f()\n    ensures { x\n{\n}\n".into(), 2),
         ("fn f()\n    ensures { x -- } }\n{\n}\n".into(), 2),
         ("fn f()\n    ensures { \"}\" }\n{\n}\n".into(), 2),
