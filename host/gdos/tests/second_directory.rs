@@ -103,6 +103,15 @@ fn another_length(sectors: usize, older_sectors: usize) -> Made {
     Made { kind: "a directory of another length", image: disk.into_image(), truth: DD40, other: Some(old) }
 }
 
+/// The disk was formatted anew and is empty: no file of it can be read, and none of the older disk's.
+fn formatted_and_empty() -> Made {
+    let old = Geometry { start: 5, ..DD40 };
+    let mut older = blank(old, 10, &[0]);
+    put(&mut older, &[("PULS01/DAT", 9000), ("PULS02/DAT", 9000), ("ALT/DAT", 700)], 0x11);
+    let disk = formatted_anew(&older, DD40, 10, &[0]);
+    Made { kind: "formatted anew and empty", image: disk.into_image(), truth: DD40, other: Some(old) }
+}
+
 /// The older directory is the stronger by far, and one of its files lies over the newer directory, which has one file.
 fn over_the_newer() -> Made {
     let old = Geometry { start: 5, ..DD40 };
@@ -292,6 +301,11 @@ fn attacked(made: Made) -> Tally {
 #[test]
 fn an_older_format() {
     assert_eq!(attacked(older_format()).done, 0);
+}
+
+#[test]
+fn formatted_anew_and_empty() {
+    assert_eq!(attacked(formatted_and_empty()).done, 0);
 }
 
 #[test]

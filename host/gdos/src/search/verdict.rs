@@ -1,8 +1,10 @@
 //! What the search makes of the evidence. It takes a geometry only if it is consistent, if a name speaks for its
 //! directory, and if nothing speaks for another: neither for a directory at another place, nor for slots beyond its own
-//! length, nor for other blocks and units that one damaged byte would account for. That a file lies over another directory
+//! length, nor for other blocks and units that one damaged byte would account for; nor does a known kind of disk seem to
+//! have its directory there without files, as a disk has that was formatted anew. That a file lies over another directory
 //! explains nothing: an older disk's file may lie over the newer directory just so.
 
+use super::blank::blank_elsewhere;
 use super::evidence::Evidence;
 use super::fit::Fit;
 use super::ranking::{consistent, everywhere, ranked, Candidate, Reading};
@@ -38,6 +40,8 @@ pub enum Verdict {
     AnotherPlace,
     /// The same, but its HIT says that the directory is shorter than names speak for.
     Longer,
+    /// The same, but at the place of this known kind of disk there seems to be a directory without files.
+    Blank(Geometry),
     /// The same, but these blocks and units would fit as well if one byte of run or GAT were damaged.
     OtherUnits(Geometry),
 }
@@ -75,6 +79,9 @@ fn verdict(image: &[u8], wanted: &Wanted, tried: &[Geometry], intact: &[Reading]
         }
         if here.names == 0 {
             return Verdict::NoName;
+        }
+        if let Some(blank) = blank_elsewhere(image, &own) {
+            return Verdict::Blank(blank);
         }
     }
     match rival(image, geometry, sectors, tried) {
