@@ -149,6 +149,45 @@ mod tests {
         image
     }
 
+    /// The newer directory lies within the older, longer one, and its only file's flag byte is damaged: to the older one
+    /// that is a removed file's entry.
+    #[test]
+    fn a_directory_within_another() {
+        let (old, new) = (Geometry::new(48, 3, 345, 0x4296), Geometry::new(48, 3, 360, 0x4296));
+        let mut tried = 0;
+        for number in 0..40 {
+            let mut image = disk(old, 30, 3, 0);
+            let mut newer = Disk::blank(new, 10, &[0]).unwrap();
+            let name = format!("NEU{number}").parse().unwrap();
+            newer.create(&name, &NewFile::open(new, Date::new(1983, 10, 9))).unwrap();
+            image[360 * 256..370 * 256].copy_from_slice(&newer.image()[360 * 256..370 * 256]);
+            image[362 * 256 + 128] = 0;
+            // Where the new HIT byte read as an older entry's flags is not in use, the older one is consistent.
+            if Disk::new(image.as_slice(), old).check().is_ok() {
+                tried += 1;
+                assert!(!matches!(search(&image, &anything()).verdict, Verdict::Taken(_)), "{number}");
+            }
+        }
+        assert!(tried > 5, "{tried}");
+    }
+
+    /// A disk with removed files is found like any other.
+    #[test]
+    fn removed_files_do_not_speak() {
+        for geometry in PRESETS.iter().map(|preset| preset.geometry).filter(|g| g.blocks * g.units > 100) {
+            for sectors in [10, 20, 30] {
+                let mut disk = Disk::new(disk(geometry, sectors, 28, 0), geometry);
+                for number in (0..28).filter(|number| number % 4 > 0) {
+                    let name = format!("P{number:03}/DAT").parse().unwrap();
+                    let handle = disk.open(&name, 256, Password::Unchecked).unwrap();
+                    disk.kill(&handle).unwrap();
+                }
+                let found = search(disk.image(), &anything());
+                assert_eq!(found.verdict, Verdict::Taken(geometry), "{:?}", found.ranking);
+            }
+        }
+    }
+
     /// Whatever the bytes are, an answer comes, and what is taken is consistent: directories cut up and laid anywhere.
     #[test]
     fn any_image_gets_an_answer() {
