@@ -173,7 +173,7 @@ static void prepare(struct work *w, enum what what, size_t disk)
 /* One call, on the disk as it stood at first. (What a write puts into the file's sectors is the same each time.) */
 static void once(struct work *w, const struct library *lib)
 {
-#define DISK d->image, d->image_len, d->blocks, d->units, d->start, d->open_code
+#define DISK d->image, d->image_len, d->blocks, d->units, d->start, d->open_code, true
 #define HANDLE w->handle, sizeof w->handle
     struct bench_disk *const d = &w->disk;
     if (whats[w->what].changes) memcpy(d->image + d->start * SECTOR_BYTES, w->directory, w->directory_len);

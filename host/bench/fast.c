@@ -56,13 +56,14 @@ struct disk {
     size_t granules;
     size_t units;
     size_t columns; /* s runs from 0 to columns - 1 */
+    bool system;    /* a system disk keeps rows 0 to 3 with s 0 to 7, a data disk slots 00H and 01H */
     uint64_t taken[MAP_WORDS];
 };
 
 #define IMAGE const uint8_t *image, size_t image_len
 #define IMAGE_OUT uint8_t *image, size_t image_len
-#define GEO size_t blocks, size_t units, size_t start, uint16_t open_code
-#define EXAMINE(d) examine(image, image_len, blocks, units, start, (d), fault_slot)
+#define GEO size_t blocks, size_t units, size_t start, uint16_t open_code, bool system_disk
+#define EXAMINE(d) examine(image, image_len, blocks, units, start, system_disk, (d), fault_slot)
 
 static inline uint64_t load8(const void *p) { uint64_t v; memcpy(&v, p, 8); return v; }
 static inline void store8(void *p, uint64_t v) { memcpy(p, &v, 8); }
@@ -379,12 +380,13 @@ __attribute__((noinline)) static uint8_t fault_of(const uint8_t *image, size_t s
 }
 
 /* Refusals 1 and 21 to 30. */
-static uint8_t examine(IMAGE, size_t blocks, size_t units, size_t start, struct disk *d, size_t *fault_slot)
+static uint8_t examine(IMAGE, size_t blocks, size_t units, size_t start, bool system_disk, struct disk *d, size_t *fault_slot)
 {
     *fault_slot = GENIE_NO_SLOT;
     if (blocks < 1 || blocks > 192 || units < 1 || units > 8) return GENIE_GEOMETRY;
     d->granules = blocks * units;
     d->units = units;
+    d->system = system_disk;
     if (image_len != d->granules * GRANULE || start % GRANULE_SECTORS) return GENIE_GEOMETRY;
     if (start > d->granules * GRANULE_SECTORS || d->granules * GRANULE_SECTORS - start < 10) return GENIE_GEOMETRY;
     d->directory = start * SECTOR;
@@ -422,7 +424,7 @@ static size_t free_slot(const uint8_t *image, const struct disk *d, size_t from)
 {
     const uint8_t *const hit = hit_of(image, d);
     for (size_t row = from / 32; row < 8; row++) {
-        const size_t kept = row < 4 ? 8 : 0, begun = row == from / 32 ? from % 32 : 0, s = begun > kept ? begun : kept;
+        const size_t kept = d->system ? (row < 4 ? 8 : 0) : (row < 1 ? 2 : 0), begun = row == from / 32 ? from % 32 : 0, s = begun > kept ? begun : kept;
         if (s >= d->columns) continue;
         const uint8_t *const at = memchr(hit + 32 * row + s, 0, d->columns - s);
         if (at) return (size_t)(at - hit);
@@ -945,7 +947,7 @@ static size_t parting(const uint8_t *image, const struct disk *d, const uint8_t 
 }
 
 uint8_t FAST(compare)(const uint8_t *first, size_t first_len, GEO, const uint8_t *second, size_t second_len, size_t blocks2, size_t units2, size_t start2,
-                      uint16_t open_code2, size_t number, uint8_t *name, size_t name_len, size_t *image, size_t *kind, size_t *position, size_t *flags,
+                      uint16_t open_code2, bool system_disk2, size_t number, uint8_t *name, size_t name_len, size_t *image, size_t *kind, size_t *position, size_t *flags,
                       size_t *fault_slot)
 {
     struct disk d, d2;
@@ -953,10 +955,10 @@ uint8_t FAST(compare)(const uint8_t *first, size_t first_len, GEO, const uint8_t
     (void)open_code, (void)open_code2;
     *kind = *position = *flags = 0;
     *image = 1;
-    uint8_t refusal = examine(first, first_len, blocks, units, start, &d, fault_slot);
+    uint8_t refusal = examine(first, first_len, blocks, units, start, system_disk, &d, fault_slot);
     if (refusal) return refusal;
     *image = 2;
-    refusal = examine(second, second_len, blocks2, units2, start2, &d2, fault_slot);
+    refusal = examine(second, second_len, blocks2, units2, start2, system_disk2, &d2, fault_slot);
     if (refusal) return refusal;
     *image = 0;
     if (name_len < NAME) return GENIE_RANGE;

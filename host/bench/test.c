@@ -150,10 +150,11 @@ static struct geometry g;
 static uint8_t *image, *before;
 static size_t image_len, active; /* files in play: many, or one that grows undisturbed */
 static uint16_t open_code;
+static bool system_disk;
 static size_t fault_slot; /* of the last call */
 static bool reserved[1536];
 
-#define DISK image, image_len, g.blocks, g.units, g.start, open_code
+#define DISK image, image_len, g.blocks, g.units, g.start, open_code, system_disk
 
 static size_t clear_bits(void)
 {
@@ -185,6 +186,7 @@ static void random_disk(void)
     before = realloc(before, image_len);
     if (!image || !before) fail("memory", 0);
     open_code = (uint16_t)below(65536);
+    system_disk = below(2);
     active = below(3) ? FILES : 1;
     for (size_t i = 0; i < image_len; i++) image[i] = (uint8_t)below(256);
     uint8_t *gat = sector_at(image, g, 0), *hit = sector_at(image, g, 1);
@@ -219,12 +221,18 @@ static void random_disk(void)
     }
 }
 
+/* On a system disk rows 0 to 3 with s 0 to 7 are kept, on a data disk slots 00H and 01H. */
+static bool permitted(size_t slot)
+{
+    return system_disk ? slot / 32 > 3 || slot % 32 > 7 : slot > 1;
+}
+
 static size_t free_permitted(void)
 {
     const uint8_t *hit = sector_at(image, g, 1);
     size_t n = 0;
     for (size_t slot = 0; slot < 256; slot++)
-        if (slot % 32 < sectors_of(image, g) - 2 && (slot / 32 > 3 || slot % 32 > 7)) n += hit[slot] == 0;
+        if (slot % 32 < sectors_of(image, g) - 2 && permitted(slot)) n += hit[slot] == 0;
     return n;
 }
 
@@ -276,7 +284,7 @@ static bool take_one(uint8_t *disk, size_t slot)
     uint8_t *pair = e + 22 + 2 * runs;
     if (runs == 4) {
         size_t s = 0;
-        while (s < 256 && (s % 32 >= sectors_of(disk, g) - 2 || (s / 32 < 4 && s % 32 < 8) || hit[s])) s++;
+        while (s < 256 && (s % 32 >= sectors_of(disk, g) - 2 || !permitted(s) || hit[s])) s++;
         if (s == 256) return false;
         e[30] = 0xFE;
         e[31] = (uint8_t)s;
@@ -603,13 +611,13 @@ static void any_arguments(size_t step)
     size_t a = 1, b = 1, c = 1;
     uint8_t handle[19] = { 0 }, name[11];
     memcpy(before, image, image_len);
-    const uint8_t anywhere = fast_check(image, image_len, g.blocks, g.units, ODD, 0, &fault_slot);
+    const uint8_t anywhere = fast_check(image, image_len, g.blocks, g.units, ODD, 0, true, &fault_slot);
     if (anywhere > 1 && (anywhere < GENIE_FAULT_DIRECTORY_LENGTH || anywhere > GENIE_FAULT_DIRECTORY_GRANULE)) fail("geometry", step);
-    (void)fast_check(image, image_len, ODD, ODD, ODD, 0, &fault_slot);
+    (void)fast_check(image, image_len, ODD, ODD, ODD, 0, true, &fault_slot);
     const size_t other = ODD;
-    if (other != g.start && other % 5 && fast_check(image, image_len, g.blocks, g.units, other, 0, &fault_slot) != 1) fail("start", step);
-    if (fast_check(image, image_len - 1, g.blocks, g.units, g.start, 0, &fault_slot) != 1) fail("length", step);
-    if (fast_check(image, SIZE_MAX - 100, SIZE_MAX / 1280, 1, 0, 0, &fault_slot) != 1 || fast_check(image, 0, 0, 8, 0, 0, &fault_slot) != 1) fail("length", step);
+    if (other != g.start && other % 5 && fast_check(image, image_len, g.blocks, g.units, other, 0, true, &fault_slot) != 1) fail("start", step);
+    if (fast_check(image, image_len - 1, g.blocks, g.units, g.start, 0, true, &fault_slot) != 1) fail("length", step);
+    if (fast_check(image, SIZE_MAX - 100, SIZE_MAX / 1280, 1, 0, 0, true, &fault_slot) != 1 || fast_check(image, 0, 0, 8, 0, 0, true, &fault_slot) != 1) fail("length", step);
     random_name(name);
     if (fast_create(DISK, name, 11, 32 + below(9), 0, 0, 1, 0, 0, false, &a, handle, 19, &fault_slot) != 12 || a) fail("day", step);
     if (fast_create(DISK, name, 11, 0, SIZE_MAX, 0, 1, 0, 0, false, &a, handle, 19, &fault_slot) != 12) fail("month", step);

@@ -16,6 +16,9 @@
  *   units                 granules in a block, 1 to 8. Granule number = block x units + unit; a granule is 5 sectors of 256 bytes.
  *   start                 the directory's first sector, a multiple of 5, with at least 10 sectors from there to the end of the disk.
  *   open_code             the 16-bit code that stands for "no password".
+ *   system_disk           true: slots 32 x row + s with row 0 to 3 and s 0 to 7 are kept for system files, and no call gives one to a file.
+ *                         false, a data disk: only slots 00H and 01H are kept, so that a directory of 30 sectors takes 222 files. Nothing on a disk
+ *                         says which it is; only what genie_create and a growing file find free hangs on it, and no refusal but 8.
  *   name, name_len        11 bytes: name of 1 to 8, then type of 0 to 3, each padded right with 20H. Allowed bytes: 30H to 39H, 41H to 5DH.
  *                         A name that comes in must be exactly 11 bytes long.
  *   handle, handle_len    at least GENIE_HANDLE_BYTES bytes, of which only the first 19 are used; const where the call leaves them alone:
@@ -96,78 +99,79 @@ enum genie_refusal {
 
 /* Check: whether the image is a consistent disk. Refusals 1, 21 to 30 with *fault_slot. (Every other call makes this check first and tells the same
  * number and slot, genie_free excepted.) */
-uint8_t genie_check(const uint8_t *image, size_t image_len, size_t blocks, size_t units, size_t start, uint16_t open_code, size_t *fault_slot);
+uint8_t genie_check(const uint8_t *image, size_t image_len, size_t blocks, size_t units, size_t start, uint16_t open_code, bool system_disk,
+                    size_t *fault_slot);
 
 /* Look up: the slot of the file's first entry in *slot; in *compared how many entries were compared, those whose HIT byte is the name's hash, by
  * rising slot number, the found one included. Under refusal 4 *compared counts them all. Refusals 1, 21 to 30 with *fault_slot, 3, 4. */
-uint8_t genie_look_up(const uint8_t *image, size_t image_len, size_t blocks, size_t units, size_t start, uint16_t open_code,
+uint8_t genie_look_up(const uint8_t *image, size_t image_len, size_t blocks, size_t units, size_t start, uint16_t open_code, bool system_disk,
                       const uint8_t *name, size_t name_len, size_t *slot, size_t *compared, size_t *fault_slot);
 
 /* Open: makes a handle with position 0 and the record length given (1 to 256). Its level is 0 if checking is off, the file's main code is
  * open_code, or code is the main code; the file's stored level if code is the worker code only. Refusals 1, 21 to 30 with *fault_slot, 12, 3, 4, 5. */
-uint8_t genie_open(const uint8_t *image, size_t image_len, size_t blocks, size_t units, size_t start, uint16_t open_code,
+uint8_t genie_open(const uint8_t *image, size_t image_len, size_t blocks, size_t units, size_t start, uint16_t open_code, bool system_disk,
                    const uint8_t *name, size_t name_len, size_t length, bool checking, uint16_t code,
                    uint8_t *handle, size_t handle_len, size_t *fault_slot);
 
 /* Create: an empty file with that name, date (day 0 to 31, month 0 to 15, year since 1980 0 to 15), record length (1 to 256) and codes, in the first
  * permitted free slot; *old is 0, the handle has level 0. If the file exists nothing changes on the disk: it is opened as by genie_open with
  * main_code as the code given, and *old is 1. The numbers are tested either way. Refusals 1, 21 to 30 with *fault_slot, 12, 3, 5, 8. */
-uint8_t genie_create(uint8_t *image, size_t image_len, size_t blocks, size_t units, size_t start, uint16_t open_code,
+uint8_t genie_create(uint8_t *image, size_t image_len, size_t blocks, size_t units, size_t start, uint16_t open_code, bool system_disk,
                      const uint8_t *name, size_t name_len, size_t day, size_t month, size_t year, size_t length,
                      uint16_t main_code, uint16_t worker_code, bool checking, size_t *old,
                      uint8_t *handle, size_t handle_len, size_t *fault_slot);
 
 /* Read record: the file's bytes from the handle's position, as many as its record length, go to the start of the buffer; the rest of the buffer is
  * untouched; the handle's position advances by the record length. Refusals 1, 21 to 30 with *fault_slot, 12, 7, 6, 10. */
-uint8_t genie_read_record(const uint8_t *image, size_t image_len, size_t blocks, size_t units, size_t start, uint16_t open_code,
+uint8_t genie_read_record(const uint8_t *image, size_t image_len, size_t blocks, size_t units, size_t start, uint16_t open_code, bool system_disk,
                           uint8_t *handle, size_t handle_len, uint8_t *buffer, size_t buffer_len, size_t *fault_slot);
 
 /* Read sector: where the file's sector k (0 to 7,679) lies. Its bytes are image[*from] up to, not including, image[*to]: 256 of them, or fewer in the
  * file's last sector. Nothing is copied, the position plays no part and does not move. Refusals 1, 21 to 30 with *fault_slot, 12, 7, 6, 10. */
-uint8_t genie_read_sector(const uint8_t *image, size_t image_len, size_t blocks, size_t units, size_t start, uint16_t open_code,
+uint8_t genie_read_sector(const uint8_t *image, size_t image_len, size_t blocks, size_t units, size_t start, uint16_t open_code, bool system_disk,
                           const uint8_t *handle, size_t handle_len, size_t k, size_t *from, size_t *to, size_t *fault_slot);
 
 /* Write record: the first bytes of the buffer, as many as the handle's record length, go to the file at the handle's position, and the position
  * advances by that length. Bytes between the old size and the position become zero. Sequential: the size becomes position + length, even if smaller.
  * Not sequential (random): the larger of that and the old size. Exactly the granules that the new size lacks are taken. The file's flag B (worked
  * on) is set. Refusals 1, 21 to 30 with *fault_slot, 12, 7, 6, 11, 9, 8. */
-uint8_t genie_write_record(uint8_t *image, size_t image_len, size_t blocks, size_t units, size_t start, uint16_t open_code,
+uint8_t genie_write_record(uint8_t *image, size_t image_len, size_t blocks, size_t units, size_t start, uint16_t open_code, bool system_disk,
                            uint8_t *handle, size_t handle_len, bool sequential, const uint8_t *buffer, size_t buffer_len, size_t *fault_slot);
 
 /* Allot: takes granules until the file owns those of its sectors 0 to k (k is 0 to 7,679); none if it does. The size does not change.
  * Refusals 1, 21 to 30 with *fault_slot, 12, 7, 6, 11, 9, 8. */
-uint8_t genie_allot(uint8_t *image, size_t image_len, size_t blocks, size_t units, size_t start, uint16_t open_code,
+uint8_t genie_allot(uint8_t *image, size_t image_len, size_t blocks, size_t units, size_t start, uint16_t open_code, bool system_disk,
                     const uint8_t *handle, size_t handle_len, size_t k, size_t *fault_slot);
 
 /* Trim: gives back the granules that the size does not need, the last ones; with the file's flag F (keep space) set nothing changes.
  * Refusals 1, 21 to 30 with *fault_slot, 12, 7, 6. */
-uint8_t genie_trim(uint8_t *image, size_t image_len, size_t blocks, size_t units, size_t start, uint16_t open_code,
+uint8_t genie_trim(uint8_t *image, size_t image_len, size_t blocks, size_t units, size_t start, uint16_t open_code, bool system_disk,
                    const uint8_t *handle, size_t handle_len, size_t *fault_slot);
 
 /* Kill: the file is gone, its granules and slots are free. The handle stays as it is, and is stale. Refusals 1, 21 to 30 with *fault_slot, 12, 7, 6. */
-uint8_t genie_kill(uint8_t *image, size_t image_len, size_t blocks, size_t units, size_t start, uint16_t open_code,
+uint8_t genie_kill(uint8_t *image, size_t image_len, size_t blocks, size_t units, size_t start, uint16_t open_code, bool system_disk,
                    const uint8_t *handle, size_t handle_len, size_t *fault_slot);
 
 /* Bring back: the killed file whose first entry is in that slot. It can be done as long as its entries are whole, no file has its name and its
  * granules are free. They are in use again then, as many as *slots and *granules say; nothing else changes, so the file has the entries that it had
  * before the kill, and its bytes are what the granules hold now. Refusals 1, 21 to 30 with *fault_slot, 12, 17, 6, 18, 19, 20. */
-uint8_t genie_bring_back(uint8_t *image, size_t image_len, size_t blocks, size_t units, size_t start, uint16_t open_code,
+uint8_t genie_bring_back(uint8_t *image, size_t image_len, size_t blocks, size_t units, size_t start, uint16_t open_code, bool system_disk,
                          size_t slot, size_t *slots, size_t *granules, size_t *fault_slot);
 
 /* List: the file with that number, counted from 0 by rising slot, system files left out. Its name goes to the first 11 bytes of name (a buffer of at
  * least 11 bytes), its size in bytes and the granules it owns to *size and *granules; *more is 1. Past the last file the call is accepted too: *more,
  * *size and *granules are 0, the name buffer is as it stood. Refusals 1, 21 to 30 with *fault_slot, 12. */
-uint8_t genie_list(const uint8_t *image, size_t image_len, size_t blocks, size_t units, size_t start, uint16_t open_code,
+uint8_t genie_list(const uint8_t *image, size_t image_len, size_t blocks, size_t units, size_t start, uint16_t open_code, bool system_disk,
                    size_t number, uint8_t *name, size_t name_len, size_t *size, size_t *granules, size_t *more, size_t *fault_slot);
 
 /* Count: in *files the files that the listing tells, in *free the granules that are free. Refusals 1, 21 to 30 with *fault_slot. */
-uint8_t genie_count(const uint8_t *image, size_t image_len, size_t blocks, size_t units, size_t start, uint16_t open_code,
+uint8_t genie_count(const uint8_t *image, size_t image_len, size_t blocks, size_t units, size_t start, uint16_t open_code, bool system_disk,
                     size_t *files, size_t *free, size_t *fault_slot);
 
 /* Free space: in *free the granules that are free, in *longest how many lie in the longest free stretch, a row of free granules with consecutive
  * numbers, across blocks. Only the GAT sector is looked at, so a disk that is not consistent is answered too: *free then only counts the clear GAT
  * bits of the disk's granules. On a consistent disk it is the number that genie_count gives. Refusal 1. */
-uint8_t genie_free(const uint8_t *image, size_t image_len, size_t blocks, size_t units, size_t start, uint16_t open_code,
+uint8_t genie_free(const uint8_t *image, size_t image_len, size_t blocks, size_t units, size_t start, uint16_t open_code, bool system_disk,
                    size_t *free, size_t *longest);
 
 /* What genie_compare tells in *kind ... */
@@ -191,8 +195,8 @@ enum genie_difference {
  * owns, is no difference; a file that is a system file on either disk is compared by name only. Past the last difference the call is accepted too: *kind
  * is GENIE_NO_MORE, the name buffer is as it stood. *image is 0, or the image that is refused: 1 the first, 2 the second. Refusals 1 and 21 to 30 of
  * the first image, then of the second, then 12; *fault_slot is a slot of the image refused. */
-uint8_t genie_compare(const uint8_t *first, size_t first_len, size_t blocks, size_t units, size_t start, uint16_t open_code,
-                      const uint8_t *second, size_t second_len, size_t blocks2, size_t units2, size_t start2, uint16_t open_code2,
+uint8_t genie_compare(const uint8_t *first, size_t first_len, size_t blocks, size_t units, size_t start, uint16_t open_code, bool system_disk,
+                      const uint8_t *second, size_t second_len, size_t blocks2, size_t units2, size_t start2, uint16_t open_code2, bool system_disk2,
                       size_t number, uint8_t *name, size_t name_len,
                       size_t *image, size_t *kind, size_t *position, size_t *flags, size_t *fault_slot);
 

@@ -12,6 +12,7 @@ fn disk(blocks: usize, units: usize, start: usize) -> Geometry {
         units,
         start,
         anyone: 0,
+        system: true,
     }
 }
 

@@ -1,4 +1,4 @@
-// What a host holds of the library's values: a disk as four numbers, a handle as 19 bytes, a name as 11, flags as numbers.
+// What a host holds of the library's values: a disk as four numbers and a flag, a handle as 19 bytes, a name as 11, flags as numbers.
 use differences::Difference;
 use meaning::Geometry;
 use meaning::Handle;
@@ -16,15 +16,22 @@ pub const HANDLE_BYTES: usize = 19;
 
 pub const NAME_BYTES: usize = 11;
 
-// The disk that a host states by its numbers.
-pub fn geometry(blocks: usize, units: usize, start: usize, open_code: u16) -> Geometry
-    ensures { λ r. ⌜ r ≡ geometry blocks units start open_code ⌝ }
+// The disk that a host states by its numbers and its flag.
+pub fn geometry(
+    blocks: usize,
+    units: usize,
+    start: usize,
+    open_code: u16,
+    system_disk: bool,
+) -> Geometry
+    ensures { λ r. ⌜ r ≡ geometry blocks units start open_code system_disk ⌝ }
 {
     Geometry {
         blocks,
         units,
         start,
         anyone: open_code,
+        system: system_disk,
     }
 }
 

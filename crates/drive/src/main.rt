@@ -15,6 +15,7 @@ fn disk() -> Geometry {
         units: 2,
         start: 0,
         anyone: 0,
+        system: true,
     }
 }
 

@@ -22,11 +22,12 @@ pub extern "C" fn genie_check(
     units: usize,
     start: usize,
     open_code: u16,
+    system_disk: bool,
     fault_slot: &mut usize,
 ) -> u8
-    ensures { λ r. ⌜ (r, now («fault_slot» .exit)) ≡ exportedCheck (geometry blocks units start open_code) (now (image .entry)) ⌝ }
+    ensures { λ r. ⌜ (r, now («fault_slot» .exit)) ≡ exportedCheck (geometry blocks units start open_code system_disk) (now (image .entry)) ⌝ }
 {
-    let g = codec::geometry(blocks, units, start, open_code);
+    let g = codec::geometry(blocks, units, start, open_code, system_disk);
     let f = calls::check(image, g);
     *fault_slot = f.at;
     f.number
@@ -39,15 +40,16 @@ pub extern "C" fn genie_look_up(
     units: usize,
     start: usize,
     open_code: u16,
+    system_disk: bool,
     name: &[u8],
     slot: &mut usize,
     compared: &mut usize,
     fault_slot: &mut usize,
 ) -> u8
     ensures { λ r. ⌜ (r, now («fault_slot» .exit), now (slot .exit), now (compared .exit))
-        ≡ exportedLookUp (geometry blocks units start open_code) (now (image .entry)) (now (name .entry)) ⌝ }
+        ≡ exportedLookUp (geometry blocks units start open_code system_disk) (now (image .entry)) (now (name .entry)) ⌝ }
 {
-    let g = codec::geometry(blocks, units, start, open_code);
+    let g = codec::geometry(blocks, units, start, open_code, system_disk);
     let l = calls::look_up(image, g, name);
     *fault_slot = l.refusal.at;
     *slot = l.slot;
@@ -62,6 +64,7 @@ pub extern "C" fn genie_open(
     units: usize,
     start: usize,
     open_code: u16,
+    system_disk: bool,
     name: &[u8],
     length: usize,
     checking: bool,
@@ -70,9 +73,9 @@ pub extern "C" fn genie_open(
     fault_slot: &mut usize,
 ) -> u8
     ensures { λ r. ⌜ (r, now («fault_slot» .exit), now (handle .exit))
-        ≡ exportedOpen (geometry blocks units start open_code) (now (image .entry)) (now (name .entry)) length checking code (now (handle .entry)) ⌝ }
+        ≡ exportedOpen (geometry blocks units start open_code system_disk) (now (image .entry)) (now (name .entry)) length checking code (now (handle .entry)) ⌝ }
 {
-    let g = codec::geometry(blocks, units, start, open_code);
+    let g = codec::geometry(blocks, units, start, open_code, system_disk);
     if handle.len() < codec::HANDLE_BYTES {
         return short(image, g, fault_slot);
     }
@@ -89,6 +92,7 @@ pub extern "C" fn genie_create(
     units: usize,
     start: usize,
     open_code: u16,
+    system_disk: bool,
     name: &[u8],
     day: usize,
     month: usize,
@@ -102,10 +106,10 @@ pub extern "C" fn genie_create(
     fault_slot: &mut usize,
 ) -> u8
     ensures { λ r. ⌜ (r, now («fault_slot» .exit), now (old .exit), now (handle .exit), now (image .exit))
-        ≡ exportedCreate (geometry blocks units start open_code) (now (image .entry)) (now (name .entry))
+        ≡ exportedCreate (geometry blocks units start open_code system_disk) (now (image .entry)) (now (name .entry))
         (newFile day month year length main worker) checking (now (handle .entry)) ⌝ }
 {
-    let g = codec::geometry(blocks, units, start, open_code);
+    let g = codec::geometry(blocks, units, start, open_code, system_disk);
     if handle.len() < codec::HANDLE_BYTES {
         *old = 0;
         return short(image, g, fault_slot);
@@ -132,14 +136,15 @@ pub extern "C" fn genie_read_record(
     units: usize,
     start: usize,
     open_code: u16,
+    system_disk: bool,
     handle: &mut [u8],
     buffer: &mut [u8],
     fault_slot: &mut usize,
 ) -> u8
     ensures { λ r. ⌜ (r, now («fault_slot» .exit), now (handle .exit), now (buffer .exit))
-        ≡ exportedReadRecord (geometry blocks units start open_code) (now (image .entry)) (now (handle .entry)) (now (buffer .entry)) ⌝ }
+        ≡ exportedReadRecord (geometry blocks units start open_code system_disk) (now (image .entry)) (now (handle .entry)) (now (buffer .entry)) ⌝ }
 {
-    let g = codec::geometry(blocks, units, start, open_code);
+    let g = codec::geometry(blocks, units, start, open_code, system_disk);
     if handle.len() < codec::HANDLE_BYTES {
         return short(image, g, fault_slot);
     }
@@ -160,6 +165,7 @@ pub extern "C" fn genie_read_sector(
     units: usize,
     start: usize,
     open_code: u16,
+    system_disk: bool,
     handle: &[u8],
     k: usize,
     from: &mut usize,
@@ -167,9 +173,9 @@ pub extern "C" fn genie_read_sector(
     fault_slot: &mut usize,
 ) -> u8
     ensures { λ r. ⌜ (r, now («fault_slot» .exit), now (from .exit), now (to .exit))
-        ≡ exportedReadSector (geometry blocks units start open_code) (now (image .entry)) (now (handle .entry)) k ⌝ }
+        ≡ exportedReadSector (geometry blocks units start open_code system_disk) (now (image .entry)) (now (handle .entry)) k ⌝ }
 {
-    let g = codec::geometry(blocks, units, start, open_code);
+    let g = codec::geometry(blocks, units, start, open_code, system_disk);
     if handle.len() < codec::HANDLE_BYTES {
         *from = 0;
         *to = 0;
@@ -190,15 +196,16 @@ pub extern "C" fn genie_write_record(
     units: usize,
     start: usize,
     open_code: u16,
+    system_disk: bool,
     handle: &mut [u8],
     sequential: bool,
     buffer: &[u8],
     fault_slot: &mut usize,
 ) -> u8
     ensures { λ r. ⌜ (r, now («fault_slot» .exit), now (handle .exit), now (image .exit))
-        ≡ exportedWriteRecord (geometry blocks units start open_code) (now (image .entry)) (now (handle .entry)) sequential (now (buffer .entry)) ⌝ }
+        ≡ exportedWriteRecord (geometry blocks units start open_code system_disk) (now (image .entry)) (now (handle .entry)) sequential (now (buffer .entry)) ⌝ }
 {
-    let g = codec::geometry(blocks, units, start, open_code);
+    let g = codec::geometry(blocks, units, start, open_code, system_disk);
     if handle.len() < codec::HANDLE_BYTES {
         return short(image, g, fault_slot);
     }
@@ -220,14 +227,15 @@ pub extern "C" fn genie_allot(
     units: usize,
     start: usize,
     open_code: u16,
+    system_disk: bool,
     handle: &[u8],
     k: usize,
     fault_slot: &mut usize,
 ) -> u8
     ensures { λ r. ⌜ (r, now («fault_slot» .exit), now (image .exit))
-        ≡ exportedAllot (geometry blocks units start open_code) (now (image .entry)) (now (handle .entry)) k ⌝ }
+        ≡ exportedAllot (geometry blocks units start open_code system_disk) (now (image .entry)) (now (handle .entry)) k ⌝ }
 {
-    let g = codec::geometry(blocks, units, start, open_code);
+    let g = codec::geometry(blocks, units, start, open_code, system_disk);
     if handle.len() < codec::HANDLE_BYTES {
         return short(image, g, fault_slot);
     }
@@ -244,13 +252,14 @@ pub extern "C" fn genie_trim(
     units: usize,
     start: usize,
     open_code: u16,
+    system_disk: bool,
     handle: &[u8],
     fault_slot: &mut usize,
 ) -> u8
     ensures { λ r. ⌜ (r, now («fault_slot» .exit), now (image .exit))
-        ≡ exportedTrim (geometry blocks units start open_code) (now (image .entry)) (now (handle .entry)) ⌝ }
+        ≡ exportedTrim (geometry blocks units start open_code system_disk) (now (image .entry)) (now (handle .entry)) ⌝ }
 {
-    let g = codec::geometry(blocks, units, start, open_code);
+    let g = codec::geometry(blocks, units, start, open_code, system_disk);
     if handle.len() < codec::HANDLE_BYTES {
         return short(image, g, fault_slot);
     }
@@ -267,13 +276,14 @@ pub extern "C" fn genie_kill(
     units: usize,
     start: usize,
     open_code: u16,
+    system_disk: bool,
     handle: &[u8],
     fault_slot: &mut usize,
 ) -> u8
     ensures { λ r. ⌜ (r, now («fault_slot» .exit), now (image .exit))
-        ≡ exportedKill (geometry blocks units start open_code) (now (image .entry)) (now (handle .entry)) ⌝ }
+        ≡ exportedKill (geometry blocks units start open_code system_disk) (now (image .entry)) (now (handle .entry)) ⌝ }
 {
-    let g = codec::geometry(blocks, units, start, open_code);
+    let g = codec::geometry(blocks, units, start, open_code, system_disk);
     if handle.len() < codec::HANDLE_BYTES {
         return short(image, g, fault_slot);
     }
@@ -290,15 +300,16 @@ pub extern "C" fn genie_bring_back(
     units: usize,
     start: usize,
     open_code: u16,
+    system_disk: bool,
     slot: usize,
     slots: &mut usize,
     granules: &mut usize,
     fault_slot: &mut usize,
 ) -> u8
     ensures { λ r. ⌜ (r, now («fault_slot» .exit), now (slots .exit), now (granules .exit), now (image .exit))
-        ≡ exportedBringBack (geometry blocks units start open_code) (now (image .entry)) slot ⌝ }
+        ≡ exportedBringBack (geometry blocks units start open_code system_disk) (now (image .entry)) slot ⌝ }
 {
-    let g = codec::geometry(blocks, units, start, open_code);
+    let g = codec::geometry(blocks, units, start, open_code, system_disk);
     let b = calls::bring_back(image, g, slot);
     *fault_slot = b.refusal.at;
     *slots = b.slots;
@@ -313,6 +324,7 @@ pub extern "C" fn genie_list(
     units: usize,
     start: usize,
     open_code: u16,
+    system_disk: bool,
     number: usize,
     name: &mut [u8],
     size: &mut usize,
@@ -321,9 +333,9 @@ pub extern "C" fn genie_list(
     fault_slot: &mut usize,
 ) -> u8
     ensures { λ r. ⌜ (r, now («fault_slot» .exit), now (size .exit), now (granules .exit), now (more .exit), now (name .exit))
-        ≡ exportedList (geometry blocks units start open_code) (now (image .entry)) number (now (name .entry)) ⌝ }
+        ≡ exportedList (geometry blocks units start open_code system_disk) (now (image .entry)) number (now (name .entry)) ⌝ }
 {
-    let g = codec::geometry(blocks, units, start, open_code);
+    let g = codec::geometry(blocks, units, start, open_code, system_disk);
     if name.len() < codec::NAME_BYTES {
         *size = 0;
         *granules = 0;
@@ -351,14 +363,15 @@ pub extern "C" fn genie_count(
     units: usize,
     start: usize,
     open_code: u16,
+    system_disk: bool,
     files: &mut usize,
     free: &mut usize,
     fault_slot: &mut usize,
 ) -> u8
     ensures { λ r. ⌜ (r, now («fault_slot» .exit), now (files .exit), now (free .exit))
-        ≡ exportedCount (geometry blocks units start open_code) (now (image .entry)) ⌝ }
+        ≡ exportedCount (geometry blocks units start open_code system_disk) (now (image .entry)) ⌝ }
 {
-    let g = codec::geometry(blocks, units, start, open_code);
+    let g = codec::geometry(blocks, units, start, open_code, system_disk);
     let c = calls::counts(image, g);
     *fault_slot = c.refusal.at;
     *files = c.files;
@@ -373,12 +386,13 @@ pub extern "C" fn genie_free(
     units: usize,
     start: usize,
     open_code: u16,
+    system_disk: bool,
     free: &mut usize,
     longest: &mut usize,
 ) -> u8
-    ensures { λ r. ⌜ (r, now (free .exit), now (longest .exit)) ≡ exportedFree (geometry blocks units start open_code) (now (image .entry)) ⌝ }
+    ensures { λ r. ⌜ (r, now (free .exit), now (longest .exit)) ≡ exportedFree (geometry blocks units start open_code system_disk) (now (image .entry)) ⌝ }
 {
-    let g = codec::geometry(blocks, units, start, open_code);
+    let g = codec::geometry(blocks, units, start, open_code, system_disk);
     let s = calls::free_space(image, g);
     *free = s.free;
     *longest = s.longest;
@@ -392,11 +406,13 @@ pub extern "C" fn genie_compare(
     units: usize,
     start: usize,
     open_code: u16,
+    system_disk: bool,
     second: &[u8],
     blocks2: usize,
     units2: usize,
     start2: usize,
     open_code2: u16,
+    system_disk2: bool,
     number: usize,
     name: &mut [u8],
     image: &mut usize,
@@ -406,11 +422,11 @@ pub extern "C" fn genie_compare(
     fault_slot: &mut usize,
 ) -> u8
     ensures { λ r. ⌜ (r, now («fault_slot» .exit), now (image .exit), now (kind .exit), now (position .exit), now (flags .exit), now (name .exit))
-        ≡ exportedCompare (geometry blocks units start open_code) (now (first .entry)) (geometry blocks2 units2 start2 open_code2) (now
+        ≡ exportedCompare (geometry blocks units start open_code system_disk) (now (first .entry)) (geometry blocks2 units2 start2 open_code2 system_disk2) (now
         (second .entry)) number (now (name .entry)) ⌝ }
 {
-    let g = codec::geometry(blocks, units, start, open_code);
-    let h = codec::geometry(blocks2, units2, start2, open_code2);
+    let g = codec::geometry(blocks, units, start, open_code, system_disk);
+    let h = codec::geometry(blocks2, units2, start2, open_code2, system_disk2);
     if name.len() < codec::NAME_BYTES {
         *kind = 0;
         *position = 0;

@@ -1,6 +1,6 @@
 -- What is free: granules, and slots for a new entry (01, Calls).
 use Prim.Native.Nat.{ℕ}
-use mathlib.Core.Bool.{Bool, not}
+use mathlib.Core.Bool.{Bool, not, cond}
 use mathlib.Core.List.{List, [], _∷_}
 use lib.Dec.{ltb, eqb}
 use Rattle.meaning.specs.Lists.{count, keep, all}
@@ -12,9 +12,13 @@ module _ (g : Geometry) where
   unfoldable pub freeGranules : List ℕ → List ℕ
   freeGranules d = keep (λ n. not (taken g d n)) (count 0 (granules g))
 
-  -- Rows 0 to 3 with s 0 to 7 are kept for system files and never permitted.
+  -- On a system disk rows 0 to 3 with s 0 to 7 are kept for system files. On a data disk only slots 00H and 01H are kept (02, §4).
+  unfoldable pub kept : ℕ → Bool
+  kept s = cond (g .system) (all (ltb (row s) 4 ∷ ltb (column s) 8 ∷ [])) (ltb s 2)
+
+  -- Kept slots are never permitted.
   unfoldable pub permitted : List ℕ → ℕ → Bool
-  permitted d s = all (isSlot g d s ∷ not (all (ltb (row s) 4 ∷ ltb (column s) 8 ∷ [])) ∷ [])
+  permitted d s = all (isSlot g d s ∷ not (kept s) ∷ [])
 
   -- of those with HIT byte 0
   unfoldable pub freeSlot : List ℕ → ℕ → Bool

@@ -10,7 +10,7 @@ use Rattle.meaning.specs.Names.{wellFormed, hash}
 use Rattle.meaning.specs.Entries.{nameOf, sizeOf, runsFrom, runs, entryGranules}
 use Rattle.meaning.specs.Chain.{chainFrom, chain, owned, files, place}
 use Rattle.meaning.specs.Consistent.{lengthHolds, hitHolds, hashHolds, nameHolds, pairsHold, followsBy, linkHoldsBy, follows, linkHolds, runsHold, gatHolds, sizeHolds, offDirectory, slotHolds, fileHolds, namesDiffer, met, consistent}
-use Rattle.meaning.specs.Free.{freeGranules, permitted, freeSlot, freeSlots}
+use Rattle.meaning.specs.Free.{freeGranules, kept, permitted, freeSlot, freeSlots}
 use Rattle.meaning.specs.Growth.{andThen, fails, diskOr, lengthens, extended, takeOne, grow}
 use Rattle.meaning.specs.Drop.{unhooked, dropOne}
 use Rattle.meaning.specs.Refusals.{first, goodLength, inRange, newInRange, check, fresh}
@@ -60,7 +60,7 @@ leer = 0x4c ∷ 0x45 ∷ 0x45 ∷ 0x52 ∷ 0x20 ∷ 0x20 ∷ 0x20 ∷ 0x20 ∷ 0
 
 -- 4 blocks of 3 units, the directory at the front
 abbrev pub three : Geometry
-three = record { blocks = 4; units = 3; start = 0; anyone = 0x9999 }
+three = record { blocks = 4; units = 3; start = 0; anyone = 0x9999; system = true }
 
 -- where its HIT is, and the entries of slots 80H, 81H, 82H and A3H
 abbrev pub hits : ℕ
@@ -154,7 +154,7 @@ filled =
 
 -- 20 blocks of so many units
 abbrev pub wide : ℕ → Geometry
-wide units = record { blocks = 20; units = units; start = 0; anyone = 0 }
+wide units = record { blocks = 20; units = units; start = 0; anyone = 0; system = true }
 
 -- so long an image whose only file, LEER in slot 80H, has the pair 11H 42H and no bytes; every granule is set in the GAT
 abbrev pub onePair : ℕ → List ℕ
@@ -168,5 +168,5 @@ onePair =
 
 -- Every definition that is shut, opened by one name: `unfolding opened` computes through all of them.
 unfoldable pub opened : Bool
-unfolding all any firstOr lastOr digit putDigit granuleSectors granuleBytes granules fitsGeometry taken takeGranule freeGranule hit directorySectors isSlot slots field setField wellFormed hash nameOf sizeOf runsFrom runs entryGranules chainFrom chain owned files place lengthHolds hitHolds hashHolds nameHolds pairsHold followsBy linkHoldsBy follows linkHolds runsHold gatHolds sizeHolds offDirectory slotHolds fileHolds namesDiffer met consistent usedExtension handsOn ends badEntry walkFrom walk walked metFrom fileOf goodExtension hitFault nameFault duplicateFault chainFault runFault gatFault sharedFault chainWhole sizeFault directoryFault faultAt lowest fault beside freeGranules permitted freeSlot freeSlots andThen fails diskOr lengthens extended takeOne grow unhooked dropOne first goodLength inRange newInRange check fresh candidates carries comparedIn named lookUp full admits open′ create fetch readRecord readSector store sizeAfter writeRecord allot trim killEntry kill whole backEntry bringBack shown listed tellFirst list counts stretch longestIn freeSpace digits slashed line listing fileAt foundIn plain bornAs overwritten writtenTo allottedTo trimmed backAs with′ hush reserved
+unfolding all any firstOr lastOr digit putDigit granuleSectors granuleBytes granules fitsGeometry taken takeGranule freeGranule hit directorySectors isSlot slots field setField wellFormed hash nameOf sizeOf runsFrom runs entryGranules chainFrom chain owned files place lengthHolds hitHolds hashHolds nameHolds pairsHold followsBy linkHoldsBy follows linkHolds runsHold gatHolds sizeHolds offDirectory slotHolds fileHolds namesDiffer met consistent usedExtension handsOn ends badEntry walkFrom walk walked metFrom fileOf goodExtension hitFault nameFault duplicateFault chainFault runFault gatFault sharedFault chainWhole sizeFault directoryFault faultAt lowest fault beside freeGranules kept permitted freeSlot freeSlots andThen fails diskOr lengthens extended takeOne grow unhooked dropOne first goodLength inRange newInRange check fresh candidates carries comparedIn named lookUp full admits open′ create fetch readRecord readSector store sizeAfter writeRecord allot trim killEntry kill whole backEntry bringBack shown listed tellFirst list counts stretch longestIn freeSpace digits slashed line listing fileAt foundIn plain bornAs overwritten writtenTo allottedTo trimmed backAs with′ hush reserved
 opened = true

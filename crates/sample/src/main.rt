@@ -13,6 +13,7 @@ fn disk() -> Geometry {
         units: 2,
         start: 80,
         anyone: 0,
+        system: true,
     }
 }
 

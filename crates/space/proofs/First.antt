@@ -10,10 +10,11 @@ use borrow.Author.Tests.{lt-ltb, le-ltb, eq-eqb, ne-eqb}
 use lib.Dec.{ltb, eqb}
 use Rattle.meaning.specs.Lists.{count, keep, all, firstOr}
 use Rattle.meaning.specs.Layout.{directorySectors, isSlot, hit}
-use Rattle.meaning.specs.Free.{freeSlots, freeSlot, permitted}
+use Rattle.meaning.specs.Free.{freeSlots, freeSlot, permitted, kept}
 use Rattle.meaning.specs.declared.Geometry.{Geometry}
-use Rattle.layout.proofs.Lists.{keep-yes, keep-no, all-yes, all-no, all-none, le-or-lt}
+use Rattle.layout.proofs.Lists.{keep-yes, keep-no, all-yes, all-no, all-none, all-one, le-or-lt}
 use Rattle.layout.proofs.Sound.{slot-yes, slot-no}
+use Rattle.space.specs.Keeps.{Keeps}
 
 -- none of the numbers below m passes the test
 abbrev pub NoneBelow : (ℕ → Bool) → ℕ → Type 0
@@ -36,24 +37,51 @@ pub keep-none : (p : ℕ → Bool) (n i : ℕ) → NoneBelow p (i + n) → keep 
 keep-none p zero i none = refl
 keep-none p (suc n) i none = keep-no p {x = i} (none i (omega arith)) (count (i + 1) n) ∙ keep-none p n (i + 1) (λ k h. none k (omega arith))
 
+-- a slot of a row, against the number of those that it keeps
+pub keeps-yes : {g : Geometry} {row c : ℕ} → Keeps g row c → (s : ℕ) → s / 32 ≡ row → s % 32 < c → kept g s ≡ true
+keeps-yes w s e h = w .first s e ∙ lt-ltb _ _ h
+
+pub keeps-no : {g : Geometry} {row c : ℕ} → Keeps g row c → (s : ℕ) → s / 32 ≡ row → c ≤ s % 32 → kept g s ≡ false
+keeps-no w s e h = w .first s e ∙ le-ltb _ _ h
+
+-- how many that are: eight of rows 0 to 3 on a system disk, slots 00H and 01H on a data disk
+module _ (g : Geometry) (row : ℕ) where
+  pub keeps-eight : g .system ≡ true → row < 4 → Keeps g row 8
+  unfolding kept
+  keeps-eight y h = record {
+    few = omega arith;
+    first = λ s e. rw y (all-yes (lt-ltb _ _ (let q : s / 32 < 4 = omega arith in q)) _ ∙ all-one (ltb (s % 32) 8));
+  }
+
+  pub keeps-system : g .system ≡ true → 4 ≤ row → Keeps g row 0
+  unfolding kept
+  keeps-system y h = record {
+    few = omega arith;
+    first = λ s e. rw y (all-no (le-ltb _ _ (let q : 4 ≤ s / 32 = omega arith in q)) _ ∙ sym (le-ltb (s % 32) 0 (omega arith)));
+  }
+
+  pub keeps-two : g .system ≡ false → row < 1 → Keeps g row 2
+  unfolding kept
+  keeps-two y h = record {
+    few = omega arith;
+    first = λ s e. rw y (ap (λ (n : ℕ). ltb n 2) (let q : s ≡ s % 32 = omega arith in q));
+  }
+
+  pub keeps-data : g .system ≡ false → 1 ≤ row → Keeps g row 0
+  unfolding kept
+  keeps-data y h = record {
+    few = omega arith;
+    first = λ s e. rw y (le-ltb s 2 (omega arith) ∙ sym (le-ltb (s % 32) 0 (omega arith)));
+  }
+
 module _ (g : Geometry) (d : List ℕ) where
   -- the tests of a slot
-  pub slot-open : (s : ℕ) → s < 256 → s % 32 + 2 < directorySectors g d → (4 ≤ s / 32) ⊎ (8 ≤ s % 32) → hit g d s ≡ 0 → freeSlot g d s ≡ true
+  pub slot-open : (s : ℕ) → s < 256 → s % 32 + 2 < directorySectors g d → kept g s ≡ false → hit g d s ≡ 0 → freeSlot g d s ≡ true
   unfolding freeSlot permitted
-  slot-open s h l o z = all-yes (all-yes (slot-yes g d s h l) _ ∙ all-yes (ap not (kept o)) _ ∙ all-none) _ ∙ all-yes (eq-eqb _ _ z) _ ∙ all-none
-    where
-      either : (b : Bool) → 8 ≤ s % 32 → all (b ∷ ltb (s % 32) 8 ∷ []) ≡ false
-      either true q = all-yes refl _ ∙ all-no (le-ltb _ _ q) _
-      either false q = all-no refl _
+  slot-open s h l o z = all-yes (all-yes (slot-yes g d s h l) _ ∙ all-yes (ap not o) _ ∙ all-none) _ ∙ all-yes (eq-eqb _ _ z) _ ∙ all-none
 
-      kept : (4 ≤ s / 32) ⊎ (8 ≤ s % 32) → all (ltb (s / 32) 4 ∷ ltb (s % 32) 8 ∷ []) ≡ false
-      kept (inl q) = all-no (le-ltb _ _ q) _
-      kept (inr q) = either (ltb (s / 32) 4) q
-
-  pub slot-free : (row s : ℕ) → row < 8 → s + 2 < directorySectors g d → directorySectors g d ≤ 30 → (row < 4 → 8 ≤ s) → hit g d (32 * row + s) ≡ 0 → freeSlot g d (32 * row + s) ≡ true
-  slot-free row s h l m k z =
-      slot-open (32 * row + s) (omega arith) (omega arith)
-      (⊎-elim (λ (q : 4 ≤ row). inl (omega arith)) (λ (q : row < 4). let w = k q in inr (omega arith)) (le-or-lt 4 row)) z
+  pub slot-free : (row s : ℕ) {c : ℕ} → Keeps g row c → row < 8 → s + 2 < directorySectors g d → directorySectors g d ≤ 30 → c ≤ s → hit g d (32 * row + s) ≡ 0 → freeSlot g d (32 * row + s) ≡ true
+  slot-free row s k h l m b z = slot-open (32 * row + s) (omega arith) (omega arith) (keeps-no k (32 * row + s) (omega arith) (omega arith)) z
 
   pub slot-used : (s : ℕ) → (hit g d s ≡ 0 → ⊥) → freeSlot g d s ≡ false
   unfolding freeSlot
@@ -67,24 +95,19 @@ module _ (g : Geometry) (d : List ℕ) where
   unfolding freeSlot permitted
   slot-past s h l = all-no (all-no (slot-no g d s h l) _) _
 
-  pub slot-kept : (s : ℕ) → s / 32 < 4 → s % 32 < 8 → freeSlot g d s ≡ false
+  pub slot-kept : (s : ℕ) → kept g s ≡ true → freeSlot g d s ≡ false
   unfolding freeSlot permitted
-  slot-kept s a b = by (isSlot g d s)
+  slot-kept s k = by (isSlot g d s)
     where
-      shut : all (ltb (s / 32) 4 ∷ ltb (s % 32) 8 ∷ []) ≡ true
-      shut = all-yes (lt-ltb _ _ a) _ ∙ all-yes (lt-ltb _ _ b) _ ∙ all-none
-
-      by : (t : Bool) → all (all (t ∷ not (all (ltb (s / 32) 4 ∷ ltb (s % 32) 8 ∷ [])) ∷ []) ∷ eqb (hit g d s) 0 ∷ []) ≡ false
-      by true = all-no (all-yes refl _ ∙ all-no (ap not shut) _) _
+      by : (t : Bool) → all (all (t ∷ not (kept g s) ∷ []) ∷ eqb (hit g d s) 0 ∷ []) ≡ false
+      by true = all-no (all-yes refl _ ∙ all-no (ap not k) _) _
       by false = all-no (all-no refl _) _
 
   -- at the start of a row behind its kept slots, and past its last slot
-  pub none-kept : {row s : ℕ} → row < 8 → NoneBelow (freeSlot g d) (32 * row) → (4 ≤ row → s ≡ 0) → (row < 4 → s ≡ 8) → NoneBelow (freeSlot g d) (32 * row + s)
-  none-kept {row} {s} l none a b k h =
+  pub none-kept : {row c : ℕ} → NoneBelow (freeSlot g d) (32 * row) → Keeps g row c → NoneBelow (freeSlot g d) (32 * row + c)
+  none-kept {row} {c} none w k h =
       ⊎-elim
-      (λ (q : 32 * row ≤ k). ⊎-elim
-      (λ (w : 4 ≤ row). absurd (let e = a w in let z : ⊥ = omega arith in z))
-      (λ (w : row < 4). let e = b w in slot-kept k (omega arith) (omega arith)) (le-or-lt 4 row))
+      (λ (q : 32 * row ≤ k). let f = w .few in slot-kept k (keeps-yes w k (omega arith) (omega arith)))
       (λ (q : k < 32 * row). none k q) (le-or-lt (32 * row) k)
 
   pub none-row : {row s n m : ℕ} → row < 8 → n ≡ directorySectors g d - 2 → n ≤ s → m ≡ 32 * (row + 1) → NoneBelow (freeSlot g d) (32 * row + s) → NoneBelow (freeSlot g d) m

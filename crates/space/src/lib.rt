@@ -15,6 +15,7 @@ ghost use Rattle.meaning.specs.Chain.{chainFrom, chain, owned};
 ghost use Rattle.layout.specs.Room.{Room, Slot};
 ghost use Rattle.seek.specs.Seek.{Sound, Used};
 ghost use Rattle.space.specs.Clear.{clearBits};
+ghost use Rattle.space.specs.Keeps.{Keeps};
 
 pub fn without_bit(b: u8, u: usize) -> u8
     requires { ⌜ u < 8 ⌝ }
@@ -131,8 +132,24 @@ pub fn kill_file(image: &mut [u8], g: Geometry, s: usize)
     kill_chain(image, g, s, most);
 }
 
-// The first permitted slot with HIT byte 0, by rising slot number; 256 where there is none. Rows 0 to 3 begin behind the slots kept
-// for system files.
+// How many slots of a row are kept, and never permitted: they are its first ones. On a system disk eight each in rows 0 to 3, on a data disk
+// slots 00H and 01H. Whoever wants a slot for an entry asks this function.
+pub fn kept_columns(g: Geometry, row: usize) -> usize
+    ensures { λ r. ⌜ Keeps g row r ⌝ }
+{
+    if g.system {
+        if row < 4 {
+            return 8;
+        }
+        return 0;
+    }
+    if row < 1 {
+        return 2;
+    }
+    0
+}
+
+// The first permitted slot with HIT byte 0, by rising slot number; 256 where there is none. A row begins behind its kept slots.
 pub fn first_free_slot(image: &[u8], g: Geometry) -> usize
     requires { ⌜ Room g (now image) ⌝ }
     ensures { λ r. ⌜ r ≡ firstOr 256 (freeSlots g (now (image .entry))) ⌝ }
@@ -141,10 +158,7 @@ pub fn first_free_slot(image: &[u8], g: Geometry) -> usize
     let mut found = 256;
     let mut row = 0;
     'rows: while row < 8 {
-        let mut s = 0;
-        if row < 4 {
-            s = 8;
-        }
+        let mut s = kept_columns(g, row);
         while s < n {
             let slot = 32 * row + s;
             if layout::hit(image, g, slot) == 0 {

@@ -15,7 +15,7 @@ use Rattle.meaning.specs.Layout.{isSlot, taken, takeGranule, field, setField, g
 use Rattle.meaning.specs.Entries.{system, block, runs, runStart, runLength}
 use Rattle.meaning.specs.Chain.{chain}
 use Rattle.meaning.specs.Growth.{tail, after, lengthens, lengthened, withPair, withExtension, takeOne, grown, noSlot, extended}
-use Rattle.meaning.specs.Free.{freeGranules, freeSlots, freeSlot, permitted}
+use Rattle.meaning.specs.Free.{freeGranules, freeSlots, freeSlot, permitted, kept}
 use Rattle.meaning.specs.declared.Geometry.{Geometry}
 use Rattle.laws.specs.Members
 use Rattle.laws.specs.Members.{In}
@@ -140,7 +140,7 @@ module _ (g : Geometry) (p : ℕ) where
   unfolding freeSlot permitted
   slots-eq d d′ a x h = rw (Frame.slot-eq g d d′ a x) (go (isSlot g d x) (λ q. h (Members.true-T q)))
     where
-      go : (b : Bool) → (b ≡ true → hit g d′ x ≡ hit g d x) → all (all (b ∷ not (all (ltb (x / 32) 4 ∷ ltb (x % 32) 8 ∷ [])) ∷ []) ∷ eqb (hit g d′ x) 0 ∷ []) ≡ all (all (b ∷ not (all (ltb (x / 32) 4 ∷ ltb (x % 32) 8 ∷ [])) ∷ []) ∷ eqb (hit g d x) 0 ∷ [])
+      go : (b : Bool) → (b ≡ true → hit g d′ x ≡ hit g d x) → all (all (b ∷ not (kept g x) ∷ []) ∷ eqb (hit g d′ x) 0 ∷ []) ≡ all (all (b ∷ not (kept g x) ∷ []) ∷ eqb (hit g d x) 0 ∷ [])
       go true f = rw (f refl)
       go false f = all-no (all-no refl _) _ ∙ sym (all-no (all-no refl _) _)
 

@@ -76,10 +76,7 @@ pub fn next_slot(image: &[u8], g: Geometry, from: usize) -> usize
     while s < 256 {
         if layout::hit(image, g, s) == 0 {
             if s % 32 < n {
-                if 4 <= s / 32 {
-                    return s;
-                }
-                if 8 <= s % 32 {
+                if space::kept_columns(g, s / 32) <= s % 32 {
                     return s;
                 }
             }

@@ -69,7 +69,7 @@ const SERIES: [(&str, usize); 5] =
 
 /// An older format with its directory at sector 5, files of the same names, and the newer one in the middle.
 fn older_format() -> Made {
-    let old = Geometry { start: 5, ..DD40 };
+    let old = DD40.with_start(5);
     let mut older = blank(old, 10, &[0]);
     put(&mut older, &[("PULS01/DAT", 9000), ("PULS02/DAT", 9000), ("ALT/DAT", 700)], 0x11);
     let mut disk = formatted_anew(&older, DD40, 10, &[0, 1, 2]);
@@ -79,7 +79,7 @@ fn older_format() -> Made {
 
 /// A directory of another disk kept as a file, which comes to lie where it would be one.
 fn copy_kept_as_a_file() -> Made {
-    let old = Geometry { start: 5, ..DD40 };
+    let old = DD40.with_start(5);
     let mut older = blank(old, 10, &[0]);
     put(&mut older, &[("PULS01/DAT", 9000)], 0x11);
     let mut disk = blank(DD40, 10, &[0]);
@@ -94,7 +94,7 @@ fn copy_kept_as_a_file() -> Made {
 
 /// Directories of other lengths: the true one's files stand in slots that a shorter one has not.
 fn another_length(sectors: usize, older_sectors: usize) -> Made {
-    let old = Geometry { start: 600, ..DD40 };
+    let old = DD40.with_start(600);
     let mut older = blank(old, older_sectors, &[0]);
     put(&mut older, &[("PULS01/DAT", 2000), ("PULS02/DAT", 3000)], 0x11);
     let reserved: Vec<usize> = (0..1).chain(120..120 + older_sectors / 5).collect();
@@ -105,7 +105,7 @@ fn another_length(sectors: usize, older_sectors: usize) -> Made {
 
 /// The disk was formatted anew and is empty: no file of it can be read, and none of the older disk's.
 fn formatted_and_empty() -> Made {
-    let old = Geometry { start: 5, ..DD40 };
+    let old = DD40.with_start(5);
     let mut older = blank(old, 10, &[0]);
     put(&mut older, &[("PULS01/DAT", 9000), ("PULS02/DAT", 9000), ("ALT/DAT", 700)], 0x11);
     let disk = formatted_anew(&older, DD40, 10, &[0]);
@@ -114,7 +114,7 @@ fn formatted_and_empty() -> Made {
 
 /// The older directory is the stronger by far, and one of its files lies over the newer directory, which has one file.
 fn over_the_newer() -> Made {
-    let old = Geometry { start: 5, ..DD40 };
+    let old = DD40.with_start(5);
     let mut older = blank(old, 10, &[0]);
     let names: Vec<String> = (0..20).map(|i| format!("PULS{i:02}/DAT")).collect();
     let files: Vec<(&str, usize)> = names.iter().map(|name| (name.as_str(), 8000)).collect();
@@ -129,7 +129,7 @@ fn over_the_newer() -> Made {
 
 /// The true disk has a file of five runs, so an extension, and one file more.
 fn with_an_extension() -> Made {
-    let old = Geometry { start: 600, ..DD40 };
+    let old = DD40.with_start(600);
     let mut older = blank(old, 10, &[0]);
     put(&mut older, &[("PULS01/DAT", 5000)], 0x11);
     let mut disk = formatted_anew(&older, DD40, 10, &[0, 2, 4, 6, 8, 120, 121]);
@@ -142,7 +142,7 @@ fn with_an_extension() -> Made {
 /// the disk is consistent with 4 units a block too, and the second file lies elsewhere then.
 fn other_units() -> Made {
     let truth = Geometry::new(16, 2, 80, CODE);
-    let other = Geometry { blocks: 8, units: 4, ..truth };
+    let other = truth.with_blocks(8).with_units(4);
     let mut disk = blank(truth, 10, &[0]);
     put(&mut disk, &[("PULS01/DAT", 12 * 1280), ("PULS02/DAT", 900)], 0x22);
     let mut image = disk.into_image();

@@ -37,6 +37,11 @@ fn undelete() {
 }
 
 #[test]
+fn data_disk() {
+    play("data-disk");
+}
+
+#[test]
 fn full_disk() {
     play("full-disk");
 }

@@ -35,7 +35,18 @@ mod bound {
             super::LINKED
         }
         fn check(&self, image: &[u8], g: &Geometry, fault_slot: &mut usize) -> Number {
-            unsafe { genie_check(image.as_ptr(), image.len(), g.blocks, g.units, g.start, g.open_code, fault_slot) }
+            unsafe {
+                genie_check(
+                    image.as_ptr(),
+                    image.len(),
+                    g.blocks,
+                    g.units,
+                    g.start,
+                    g.open_code,
+                    g.system_disk,
+                    fault_slot,
+                )
+            }
         }
         fn look_up(
             &self,
@@ -54,6 +65,7 @@ mod bound {
                     g.units,
                     g.start,
                     g.open_code,
+                    g.system_disk,
                     name.as_ptr(),
                     name.len(),
                     slot,
@@ -81,6 +93,7 @@ mod bound {
                     g.units,
                     g.start,
                     g.open_code,
+                    g.system_disk,
                     name.as_ptr(),
                     name.len(),
                     length,
@@ -110,6 +123,7 @@ mod bound {
                     g.units,
                     g.start,
                     g.open_code,
+                    g.system_disk,
                     name.as_ptr(),
                     name.len(),
                     birth.day,
@@ -142,6 +156,7 @@ mod bound {
                     g.units,
                     g.start,
                     g.open_code,
+                    g.system_disk,
                     handle.as_mut_ptr(),
                     handle.len(),
                     buffer.as_mut_ptr(),
@@ -168,6 +183,7 @@ mod bound {
                     g.units,
                     g.start,
                     g.open_code,
+                    g.system_disk,
                     handle.as_ptr(),
                     handle.len(),
                     k,
@@ -194,6 +210,7 @@ mod bound {
                     g.units,
                     g.start,
                     g.open_code,
+                    g.system_disk,
                     handle.as_mut_ptr(),
                     handle.len(),
                     sequential,
@@ -212,6 +229,7 @@ mod bound {
                     g.units,
                     g.start,
                     g.open_code,
+                    g.system_disk,
                     handle.as_ptr(),
                     handle.len(),
                     k,
@@ -228,6 +246,7 @@ mod bound {
                     g.units,
                     g.start,
                     g.open_code,
+                    g.system_disk,
                     handle.as_ptr(),
                     handle.len(),
                     fault_slot,
@@ -243,6 +262,7 @@ mod bound {
                     g.units,
                     g.start,
                     g.open_code,
+                    g.system_disk,
                     handle.as_ptr(),
                     handle.len(),
                     fault_slot,
@@ -266,6 +286,7 @@ mod bound {
                     g.units,
                     g.start,
                     g.open_code,
+                    g.system_disk,
                     slot,
                     slots,
                     granules,
@@ -292,6 +313,7 @@ mod bound {
                     g.units,
                     g.start,
                     g.open_code,
+                    g.system_disk,
                     which,
                     name.as_mut_ptr(),
                     name.len(),
@@ -318,6 +340,7 @@ mod bound {
                     g.units,
                     g.start,
                     g.open_code,
+                    g.system_disk,
                     files,
                     free,
                     fault_slot,
@@ -326,7 +349,17 @@ mod bound {
         }
         fn free(&self, image: &[u8], g: &Geometry, free: &mut usize, longest: &mut usize) -> Number {
             unsafe {
-                genie_free(image.as_ptr(), image.len(), g.blocks, g.units, g.start, g.open_code, free, longest)
+                genie_free(
+                    image.as_ptr(),
+                    image.len(),
+                    g.blocks,
+                    g.units,
+                    g.start,
+                    g.open_code,
+                    g.system_disk,
+                    free,
+                    longest,
+                )
             }
         }
         fn compare(
@@ -351,12 +384,14 @@ mod bound {
                     g.units,
                     g.start,
                     g.open_code,
+                    g.system_disk,
                     second.as_ptr(),
                     second.len(),
                     h.blocks,
                     h.units,
                     h.start,
                     h.open_code,
+                    h.system_disk,
                     number,
                     name.as_mut_ptr(),
                     name.len(),

@@ -61,9 +61,10 @@ fn plan(random: &mut Random) -> Plan {
         _ => random.within(0, last_start),
     };
     let open_code = if random.percent(30) { 0xFFFF } else { random.draw() as u16 };
+    let system_disk = random.percent(60);
     let d = d_granules * GRANULE_SECTORS;
     Plan {
-        g: Geometry { blocks, units, start: start * GRANULE_SECTORS, open_code },
+        g: Geometry { blocks, units, start: start * GRANULE_SECTORS, open_code, system_disk },
         d,
         files: match random.within(0, 5) {
             0 => random.within(0, 3),
@@ -143,7 +144,8 @@ impl Builder<'_> {
     }
 
     fn take_slot(&mut self, kept: bool) -> Option<u8> {
-        let wanted = |slot: &u8| permitted(*slot) != kept;
+        let g = self.g();
+        let wanted = |slot: &u8| permitted(&g, *slot) != kept;
         let at =
             self.free_slots.iter().position(wanted).or(if self.free_slots.is_empty() { None } else { Some(0) })?;
         Some(self.free_slots.remove(at))
@@ -333,8 +335,9 @@ impl Builder<'_> {
             }
         }
         if let Some(left) = self.plan.slots_left {
-            while self.free_slots.iter().filter(|&&slot| permitted(slot)).count() > left {
-                let at = self.free_slots.iter().position(|&slot| permitted(slot)).expect("counted");
+            let g = self.g();
+            while self.free_slots.iter().filter(|&&slot| permitted(&g, slot)).count() > left {
+                let at = self.free_slots.iter().position(|&slot| permitted(&g, slot)).expect("counted");
                 self.free_slots.swap(0, at);
                 let only = vec![self.free_slots.remove(0)];
                 let others = std::mem::replace(&mut self.free_slots, only);

@@ -21,6 +21,8 @@ pub struct Geometry {
     pub units: usize,
     pub start: usize,
     pub open_code: u16,
+    /// 02 §4: "The geometry gains "system disk" yes or no."
+    pub system_disk: bool,
 }
 
 impl Geometry {

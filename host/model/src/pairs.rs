@@ -115,7 +115,7 @@ fn try_holding(random: &mut Random, files: &Files) -> Option<Disk> {
         return None;
     }
     let start = random.within(0, blocks * units - directory) * GRANULE_SECTORS;
-    let g = Geometry { blocks, units, start, open_code: random.draw() as u16 };
+    let g = Geometry { blocks, units, start, open_code: random.draw() as u16, system_disk: random.percent(60) };
     let d = directory * GRANULE_SECTORS;
 
     let mut image = vec![0; g.granules() * GRANULE_BYTES];

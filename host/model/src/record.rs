@@ -47,8 +47,8 @@ fn kept(place: usize, slice: &[u8]) -> Argument<'_> {
     Slice(place, slice, slice)
 }
 
-fn stated(g: &Geometry) -> [Argument<'static>; 4] {
-    [number(g.blocks), number(g.units), number(g.start), number(g.open_code.into())]
+fn stated(g: &Geometry) -> [Argument<'static>; 5] {
+    [number(g.blocks), number(g.units), number(g.start), number(g.open_code.into()), number(g.system_disk.into())]
 }
 
 /// The model, which writes down every call that is made of it.

@@ -10,14 +10,18 @@ use crate::names::hash;
 /// "A run is 1 to 32 granules".
 pub const LONGEST_RUN: usize = 32;
 
-/// "Rows 0 to 3 with s 0 to 7 are kept for system files and never permitted."
-pub fn permitted(slot: u8) -> bool {
-    !(row(slot) <= 3 && s(slot) <= 7)
+/// "Rows 0 to 3 with s 0 to 7 are kept for system files and never permitted." 02 §4: "On a data disk
+/// only slots 00H and 01H are kept."
+pub fn permitted(g: &Geometry, slot: u8) -> bool {
+    match g.system_disk {
+        true => !(row(slot) <= 3 && s(slot) <= 7),
+        false => slot != 0x00 && slot != 0x01,
+    }
 }
 
 /// "the first permitted slot is taken, by rising slot number, of those with HIT byte 0."
 pub fn first_permitted_slot(image: &[u8], g: &Geometry, d: usize) -> Option<u8> {
-    slots(d).find(|&slot| permitted(slot) && hit(image, g, slot) == 0)
+    slots(d).find(|&slot| permitted(g, slot) && hit(image, g, slot) == 0)
 }
 
 /// The clear GAT bits in range, by rising granule number.

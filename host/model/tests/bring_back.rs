@@ -19,7 +19,7 @@ const OTHER: u8 = 0x60;
 
 /// 10 blocks of 4 units, the directory on granules 8 and 9, granule 0 reserved.
 fn blank() -> Disk {
-    empty_disk(Geometry { blocks: 10, units: 4, start: 40, open_code: 0 }, 10, &[0])
+    empty_disk(Geometry { blocks: 10, units: 4, start: 40, open_code: 0, system_disk: true }, 10, &[0])
 }
 
 fn run(g: &Geometry, first: usize, length: usize) -> Pair {

@@ -21,7 +21,7 @@ fn random_disks_are_consistent_and_of_all_kinds() {
         blocks.insert(disk.g.blocks);
         for slot in slots(d) {
             let e = entry(&disk.image, &disk.g, slot);
-            let kept = !genie_model::space::permitted(slot);
+            let kept = !genie_model::space::permitted(&disk.g, slot);
             let mut note = |what, holds| *seen.entry(what).or_default() += usize::from(holds);
             if e.in_use() && e.is_extension() {
                 note("extension", true);

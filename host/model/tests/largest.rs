@@ -13,7 +13,7 @@ const SLOT: u8 = 0x00;
 
 /// One file that owns the granules from `first` on, in runs of 32, in the slots 00H, 01H, 20H, 21H, ...
 fn disk_of_one_file(start: usize, first: usize, system: bool) -> Disk {
-    let g = Geometry { blocks: 192, units: 8, start, open_code: 0 };
+    let g = Geometry { blocks: 192, units: 8, start, open_code: 0, system_disk: true };
     let mut disk = empty_disk(g, 10, &[]);
     for (i, byte) in disk.image.iter_mut().enumerate() {
         let sector = i / 256;
@@ -102,7 +102,7 @@ fn another_file_of_1963520_bytes() {
 
 #[test]
 fn the_whole_disk_taken_at_once() {
-    let g = Geometry { blocks: 192, units: 8, start: 0, open_code: 0 };
+    let g = Geometry { blocks: 192, units: 8, start: 0, open_code: 0, system_disk: true };
     for library in libraries() {
         let mut image = empty_disk(g, 10, &[]).image;
         let mut lent = [0; 19];

@@ -27,7 +27,7 @@ const BLOCKS: [usize; 6] = [60, LAST_EIGHT - 1, LAST_EIGHT, LAST_EIGHT + 1, MOST
 const TWO_SLOTS: [(u8, u8); 2] = [(0x02, 0x83), (0x07, 0x20)];
 
 fn geometry(blocks: usize, units: usize, first: usize) -> Geometry {
-    Geometry { blocks, units, start: first * GRANULE_SECTORS, open_code: 0 }
+    Geometry { blocks, units, start: first * GRANULE_SECTORS, open_code: 0, system_disk: true }
 }
 
 /// An empty disk with every granule set in the GAT: whether a run may have one hangs on the other runs and on the directory.

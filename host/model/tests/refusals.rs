@@ -52,7 +52,8 @@ fn place(disk: &mut Disk, slot: u8, flags: u8, day: u8, granule: Option<usize>, 
 
 /// 16 blocks of 2 units; 26 granules free.
 fn disk() -> Disk {
-    let mut disk = empty_disk(Geometry { blocks: 16, units: 2, start: 80, open_code: OPEN }, 10, &[0]);
+    let mut disk =
+        empty_disk(Geometry { blocks: 16, units: 2, start: 80, open_code: OPEN, system_disk: true }, 10, &[0]);
     place(&mut disk, DATA, 0, 0, Some(5), 300);
     place(&mut disk, EMPTY, 0, 0, None, 0);
     place(&mut disk, FIXED, 0, 0x40, Some(7), 300);
@@ -185,7 +186,13 @@ fn row_1_geometry() {
         wrong.push(Geometry { start, ..good });
     }
     wrong.push(Geometry { blocks: 4, units: 9, ..good });
-    wrong.push(Geometry { blocks: usize::MAX, units: usize::MAX, start: usize::MAX, open_code: 0 });
+    wrong.push(Geometry {
+        blocks: usize::MAX,
+        units: usize::MAX,
+        start: usize::MAX,
+        open_code: 0,
+        system_disk: true,
+    });
     for g in wrong {
         for call in all_calls() {
             gives_under(&disk, &g, &call, 1);
@@ -220,7 +227,8 @@ fn row_2_consistency() {
     let told = gives(&broken, &Call::Free, 0);
     assert_eq!(told.numbers, gives(&disk(), &Call::Free, 0).numbers);
     // A directory length that passes the end is inconsistent, no matter of geometry.
-    let mut last = empty_disk(Geometry { blocks: 16, units: 2, start: 150, open_code: OPEN }, 10, &[]);
+    let mut last =
+        empty_disk(Geometry { blocks: 16, units: 2, start: 150, open_code: OPEN, system_disk: true }, 10, &[]);
     gives(&last, &Call::Check, 0);
     let place = hit_place(&last.g, 0x1F);
     last.image[place] = 5;
@@ -509,9 +517,10 @@ fn row_9_granules() {
 /// Every second granule free, so many permitted slots free.
 fn scattered(slots_free: usize) -> Disk {
     let reserved: Vec<usize> = (0..60).filter(|granule| granule % 2 == 0).collect();
-    let mut disk = empty_disk(Geometry { blocks: 30, units: 2, start: 80, open_code: OPEN }, 10, &reserved);
+    let mut disk =
+        empty_disk(Geometry { blocks: 30, units: 2, start: 80, open_code: OPEN, system_disk: true }, 10, &reserved);
     place(&mut disk, DATA, 0, 0, None, 0);
-    let others: Vec<u8> = slots(10).filter(|&slot| permitted(slot) && slot != DATA).collect();
+    let others: Vec<u8> = slots(10).filter(|&slot| permitted(&disk.g, slot) && slot != DATA).collect();
     for (i, &slot) in others[slots_free..].iter().enumerate() {
         let text = format!("F{i}");
         let mut e = Entry([0; 32]);

@@ -68,11 +68,11 @@ fn disk(g: Geometry, files: &[Laid]) -> Disk {
 }
 
 fn small() -> Geometry {
-    Geometry { blocks: 16, units: 2, start: 80, open_code: 0x4296 }
+    Geometry { blocks: 16, units: 2, start: 80, open_code: 0x4296, system_disk: true }
 }
 
 fn other() -> Geometry {
-    Geometry { blocks: 9, units: 5, start: 60, open_code: 0 }
+    Geometry { blocks: 9, units: 5, start: 60, open_code: 0, system_disk: true }
 }
 
 /// Changes bytes of a file's entry.
@@ -237,7 +237,7 @@ fn where_contents_part() {
 
 #[test]
 fn the_largest_disk() {
-    let g = Geometry { blocks: 192, units: 8, start: 0, open_code: 0 };
+    let g = Geometry { blocks: 192, units: 8, start: 0, open_code: 0, system_disk: true };
     let mut first = empty_disk(g, 10, &[]);
     let size = 1534 * GRANULE_BYTES;
     let mut random = Random::new(11);

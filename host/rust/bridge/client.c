@@ -113,7 +113,8 @@ static size_t least(size_t a, size_t b)
     return a < b ? a : b;
 }
 
-static void begin(enum call call, const uint8_t *image, size_t len, size_t blocks, size_t units, size_t start, uint16_t open_code)
+static void begin(enum call call, const uint8_t *image, size_t len, size_t blocks, size_t units, size_t start, uint16_t open_code,
+                  bool system_disk)
 {
     pthread_mutex_lock(&turn);
     if (owner != getpid())
@@ -124,6 +125,7 @@ static void begin(enum call call, const uint8_t *image, size_t len, size_t block
     w->units = units;
     w->start = start;
     w->open_code = open_code;
+    w->system_disk = system_disk;
     memcpy(w->image, image, w->image_len);
 }
 
@@ -150,8 +152,8 @@ static uint8_t end(void)
 }
 
 /* A call's body is written between these; what is lent goes over, what may have changed comes back. */
-#define IMAGE uint8_t *image, size_t image_len, size_t blocks, size_t units, size_t start, uint16_t open_code
-#define BEGIN(call) begin(call, image, image_len, blocks, units, start, open_code)
+#define IMAGE uint8_t *image, size_t image_len, size_t blocks, size_t units, size_t start, uint16_t open_code, bool system_disk
+#define BEGIN(call) begin(call, image, image_len, blocks, units, start, open_code, system_disk)
 #define TAKE(part, most) (w->part##_len = least(part##_len, most), memcpy(w->part, part, w->part##_len))
 #define BACK(part) memcpy(part, w->part, w->part##_len)
 #define TAKE_NAME TAKE(name, NAME_MOST)
@@ -326,16 +328,17 @@ uint8_t genie_free(const IMAGE, size_t *free, size_t *longest)
     return end();
 }
 
-uint8_t genie_compare(const uint8_t *first, size_t first_len, size_t blocks, size_t units, size_t start, uint16_t open_code,
-                      const uint8_t *second, size_t second_len, size_t blocks2, size_t units2, size_t start2, uint16_t open_code2,
+uint8_t genie_compare(const uint8_t *first, size_t first_len, size_t blocks, size_t units, size_t start, uint16_t open_code, bool system_disk,
+                      const uint8_t *second, size_t second_len, size_t blocks2, size_t units2, size_t start2, uint16_t open_code2, bool system_disk2,
                       size_t number, uint8_t *name, size_t name_len, size_t *image, size_t *kind, size_t *position, size_t *flags, size_t *fault_slot)
 {
-    begin(COMPARE, first, first_len, blocks, units, start, open_code);
+    begin(COMPARE, first, first_len, blocks, units, start, open_code, system_disk);
     TAKE(second, IMAGE_MOST);
     w->blocks2 = blocks2;
     w->units2 = units2;
     w->start2 = start2;
     w->open_code2 = open_code2;
+    w->system_disk2 = system_disk2;
     TAKE_NAME;
     w->in[0] = number;
     go();

@@ -231,7 +231,16 @@ impl<B: AsRef<[u8]>> Disk<B> {
         let (image, g) = (self.image.as_ref(), self.geometry);
         // SAFETY: the slice is a live reference.
         accepted(|fault_slot| unsafe {
-            sys::genie_check(image.as_ptr(), image.len(), g.blocks, g.units, g.start, g.open_code, fault_slot)
+            sys::genie_check(
+                image.as_ptr(),
+                image.len(),
+                g.blocks,
+                g.units,
+                g.start,
+                g.open_code,
+                g.system_disk,
+                fault_slot,
+            )
         })
     }
 
@@ -256,6 +265,7 @@ impl<B: AsRef<[u8]>> Disk<B> {
                 g.units,
                 g.start,
                 g.open_code,
+                g.system_disk,
                 name.as_ptr(),
                 name.len(),
                 &mut slot,
@@ -300,6 +310,7 @@ impl<B: AsRef<[u8]>> Disk<B> {
                 g.units,
                 g.start,
                 g.open_code,
+                g.system_disk,
                 name.as_ptr(),
                 name.len(),
                 length,
@@ -343,6 +354,7 @@ impl<B: AsRef<[u8]>> Disk<B> {
                 g.units,
                 g.start,
                 g.open_code,
+                g.system_disk,
                 lent.as_mut_ptr(),
                 lent.len(),
                 buffer.as_mut_ptr(),
@@ -378,6 +390,7 @@ impl<B: AsRef<[u8]>> Disk<B> {
                 g.units,
                 g.start,
                 g.open_code,
+                g.system_disk,
                 lent.as_ptr(),
                 lent.len(),
                 k,
@@ -414,6 +427,7 @@ impl<B: AsRef<[u8]>> Disk<B> {
                 g.units,
                 g.start,
                 g.open_code,
+                g.system_disk,
                 number,
                 name.as_mut_ptr(),
                 name.len(),
@@ -439,6 +453,7 @@ impl<B: AsRef<[u8]>> Disk<B> {
                 g.units,
                 g.start,
                 g.open_code,
+                g.system_disk,
                 &mut files,
                 &mut free,
                 fault_slot,
@@ -470,6 +485,7 @@ impl<B: AsRef<[u8]>> Disk<B> {
                 g.units,
                 g.start,
                 g.open_code,
+                g.system_disk,
                 &mut free,
                 &mut longest,
             )
@@ -574,6 +590,7 @@ impl<B: AsMut<[u8]>> Disk<B> {
                 g.units,
                 g.start,
                 g.open_code,
+                g.system_disk,
                 name.as_ptr(),
                 name.len(),
                 new.date.day,
@@ -624,6 +641,7 @@ impl<B: AsMut<[u8]>> Disk<B> {
                 g.units,
                 g.start,
                 g.open_code,
+                g.system_disk,
                 lent.as_mut_ptr(),
                 lent.len(),
                 kind == Kind::Sequential,
@@ -658,6 +676,7 @@ impl<B: AsMut<[u8]>> Disk<B> {
                 g.units,
                 g.start,
                 g.open_code,
+                g.system_disk,
                 lent.as_ptr(),
                 lent.len(),
                 k,
@@ -679,6 +698,7 @@ impl<B: AsMut<[u8]>> Disk<B> {
                 g.units,
                 g.start,
                 g.open_code,
+                g.system_disk,
                 lent.as_ptr(),
                 lent.len(),
                 fault_slot,
@@ -708,6 +728,7 @@ impl<B: AsMut<[u8]>> Disk<B> {
                 g.units,
                 g.start,
                 g.open_code,
+                g.system_disk,
                 lent.as_ptr(),
                 lent.len(),
                 fault_slot,
@@ -743,6 +764,7 @@ impl<B: AsMut<[u8]>> Disk<B> {
                 g.units,
                 g.start,
                 g.open_code,
+                g.system_disk,
                 slot,
                 &mut slots,
                 &mut granules,

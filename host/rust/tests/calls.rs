@@ -128,10 +128,7 @@ fn open_follows_the_codes() {
     assert_eq!(level(Password::Code(0)), Err(Refusal::Password));
     assert_eq!(level(Password::Code(GEOMETRY.open_code)), Err(Refusal::Password));
     assert_eq!(
-        Disk::new(disk.image(), Geometry { open_code: 1, ..GEOMETRY })
-            .open(&name("A"), 3, Password::Code(9))
-            .unwrap()
-            .level(),
+        Disk::new(disk.image(), GEOMETRY.with_open_code(1)).open(&name("A"), 3, Password::Code(9)).unwrap().level(),
         0
     );
     assert_eq!(disk.open(&name("A"), 256, Password::Unchecked).unwrap().record_length(), 256);
@@ -275,8 +272,8 @@ fn every_refusal_by_its_number() {
     let fault = |kind, slot| Refusal::Inconsistent(Fault { kind, slot });
     for (bad, told) in [
         (Disk::new(disk.image()[1..].to_vec(), GEOMETRY), Refusal::Geometry),
-        (Disk::new(disk.image().to_vec(), Geometry { start: 61, ..GEOMETRY }), Refusal::Geometry),
-        (Disk::new(disk.image().to_vec(), Geometry { blocks: usize::MAX, ..GEOMETRY }), Refusal::Geometry),
+        (Disk::new(disk.image().to_vec(), GEOMETRY.with_start(61)), Refusal::Geometry),
+        (Disk::new(disk.image().to_vec(), GEOMETRY.with_blocks(usize::MAX)), Refusal::Geometry),
         (Disk::new(Vec::new(), GEOMETRY), Refusal::Geometry),
         (edited(at + 5, 0xff), fault(FaultKind::HitAgainstEntry, Some(slot))),
         (edited(at, 0x20), fault(FaultKind::Name, Some(slot))),
@@ -425,10 +422,10 @@ fn blank_disks() {
         assert_eq!(blank(small, sectors, &[]), no_length);
     }
     assert_eq!(blank(small, 10, &[2]), Refusal::Range);
-    assert_eq!(blank(Geometry { start: 5, ..small }, 10, &[]), Refusal::Geometry);
-    assert_eq!(blank(Geometry { start: usize::MAX, ..small }, 10, &[]), Refusal::Geometry);
-    assert_eq!(blank(Geometry { blocks: 0, ..small }, 10, &[]), Refusal::Geometry);
-    assert_eq!(blank(Geometry { units: 9, ..small }, 10, &[]), Refusal::Geometry);
+    assert_eq!(blank(small.with_start(5), 10, &[]), Refusal::Geometry);
+    assert_eq!(blank(small.with_start(usize::MAX), 10, &[]), Refusal::Geometry);
+    assert_eq!(blank(small.with_blocks(0), 10, &[]), Refusal::Geometry);
+    assert_eq!(blank(small.with_units(9), 10, &[]), Refusal::Geometry);
 }
 
 #[test]

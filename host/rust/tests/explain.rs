@@ -73,10 +73,10 @@ fn of_the_directory() {
         "",
         "granule 16 is the directory's, but free in the GAT (byte 8, bit 0; image byte 20488)",
     );
-    let short = Disk::new(vec![0; 40_960], Geometry { start: 150, ..GEOMETRY });
+    let short = Disk::new(vec![0; 40_960], GEOMETRY.with_start(150));
     let mut image = short.into_image();
     image[151 * 256 + 0x1f] = 5;
-    let short = Disk::new(image, Geometry { start: 150, ..GEOMETRY });
+    let short = Disk::new(image, GEOMETRY.with_start(150));
     let fault = short.check().unwrap_err().fault().unwrap();
     assert_eq!(
         short.explain(fault).to_string(),

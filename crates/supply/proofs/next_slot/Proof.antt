@@ -1,8 +1,8 @@
 use Rattle.supply.proofs.Search.{Looking, looking-start, looking-step, looking-found, looking-end}
-use Rattle.space.proofs.First.{slot-open, slot-past, slot-kept, slot-used}
+use Rattle.space.proofs.First.{slot-open, slot-past, slot-kept, slot-used, keeps-yes, keeps-no}
 use Prim.Native.Nat.{_-_}
-use mathlib.Core.Path.{sym, _∙_}
-use mathlib.Core.Logic.{⊎-elim, inl, inr}
+use mathlib.Core.Path.{refl, sym, _∙_}
+use mathlib.Core.Logic.{⊎-elim}
 use native.Mathlib.Omega.{arith}
 use borrow.Author.Needs.{needs}
 use Rattle.supply.proofs.next_slot.Statement.{statement}
@@ -30,11 +30,11 @@ loop-holds c = looking-start _ _ (c .before .before .pre .1)
 hit-requires : tie.Need-hit-requires Inv-loop μ-loop
 hit-requires c κs = search needs
 
-returns : tie.Need-returns Inv-loop μ-loop
-returns c = let e = c .before .before .before .before .before .before .directory-sectors .ensures in looking-found _ _ (c .before .before .before .before .before .loop .inv) (slot-open _ _ _ (c .before .before .before .before .loop-test .taken) (let w = c .before .if2 .taken in omega arith) (inl (c .if3 .taken)) (sym (c .before .before .before .hit .ensures .is) ∙ c .before .before .if1 .taken))
+kept-columns-requires : tie.Need-kept-columns-requires Inv-loop μ-loop
+kept-columns-requires c κs = search needs
 
-returns-2 : tie.Need-returns-2 Inv-loop μ-loop
-returns-2 c = let e = c .before .before .before .before .before .before .before .directory-sectors .ensures in looking-found _ _ (c .before .before .before .before .before .before .loop .inv) (slot-open _ _ _ (c .before .before .before .before .before .loop-test .taken) (let w = c .before .before .if2 .taken in omega arith) (inr (c .if4 .taken)) (sym (c .before .before .before .before .hit .ensures .is) ∙ c .before .before .before .if1 .taken))
+returns : tie.Need-returns Inv-loop μ-loop
+returns c = let e = c .before .before .before .before .before .before .before .directory-sectors .ensures in looking-found _ _ (c .before .before .before .before .before .before .loop .inv) (slot-open _ _ _ (c .before .before .before .before .before .loop-test .taken) (let w = c .before .before .if2 .taken in omega arith) (keeps-no (c .before .kept-columns .ensures) _ refl (c .if3 .taken)) (sym (c .before .before .before .before .hit .ensures .is) ∙ c .before .before .before .if1 .taken))
 
 add-s : tie.Need-add-s Inv-loop μ-loop
 add-s c = search needs
@@ -45,12 +45,12 @@ loop-less c = search needs
 loop-again : tie.Need-loop-again Inv-loop μ-loop
 loop-again c = let e = c .before .before .before .before .directory-sectors .ensures in
     looking-step _ _ (c .before .before .before .loop .inv) (c .before .before .loop-test .taken) (⊎-elim
-    (λ w. let a = w .2 .left in let b = w .3 .left in slot-kept _ _ _ (omega arith) (omega arith))
+    (λ w. slot-kept _ _ _ (keeps-yes (w .2 .ensures) _ refl (w .3 .left)))
     (λ v. ⊎-elim (λ w. let a = w .1 .left in slot-past _ _ _ (c .before .before .loop-test .taken) (omega arith)) (λ w. slot-used _ _ _ (λ q. w .left (c .before .hit .ensures .is ∙ q))) v)
     (c .if1 .came))
 
-returns-3 : tie.Need-returns-3 Inv-loop μ-loop
-returns-3 c = looking-end _ _ (c .before .loop .inv) (c .loop-test .left)
+returns-2 : tie.Need-returns-2 Inv-loop μ-loop
+returns-2 c = looking-end _ _ (c .before .loop .inv) (c .loop-test .left)
 
 pub next-slot-spec : {M : Type 1} → statement M
 next-slot-spec =
@@ -62,9 +62,9 @@ next-slot-spec =
     sub-n
     loop-holds
     hit-requires
+    kept-columns-requires
     returns
-    returns-2
     add-s
     loop-less
     loop-again
-    returns-3)
+    returns-2)

@@ -1,7 +1,9 @@
 //! `gdos free`.
 
 use super::choose::only_image;
+use super::info::more_told;
 use super::opened::Opened;
+use super::room::files_more;
 use super::{Command, Output, JSON};
 use crate::args::Args;
 use crate::failure::Failure;
@@ -17,7 +19,8 @@ pub const COMMAND: Command = Command {
     usage: "[OPTIONS] IMAGE",
     about: "\
 Tells the free granules and the longest free stretch (granules with consecutive numbers), and the bytes that fit into
-them. A file takes whole granules of 1,280 bytes.
+them. A file takes whole granules of 1,280 bytes. Of a consistent disk also how many files more its directory
+takes, as a system disk and as a data disk.
 
 Only the disk's map of granules is looked at. So a disk that is not consistent is answered too, if its geometry is
 stated: what is marked free is counted, and a note says what is wrong with the disk (`gdos check` tells more).
@@ -35,6 +38,8 @@ fn run(args: &Args) -> Result<Output, Failure> {
     let fault = disk.check().err().and_then(Refusal::fault).map(|fault| disk.explain(fault));
     let total = disk.image().len() / Geometry::GRANULE_BYTES;
     let (bytes, longest_bytes) = (free * Geometry::GRANULE_BYTES, longest * Geometry::GRANULE_BYTES);
+    // A disk that is not consistent takes no file.
+    let more = if fault.is_none() { files_more(disk) } else { None };
     let mut json = opened.head();
     json.extend([
         ("free", free.into()),
@@ -42,14 +47,17 @@ fn run(args: &Args) -> Result<Output, Failure> {
         ("longest", longest.into()),
         ("longest_bytes", longest_bytes.into()),
         ("granules", total.into()),
+        ("files_more_system_disk", more.map(|more| more.0).into()),
+        ("files_more_data_disk", more.map(|more| more.1).into()),
         ("consistent", fault.is_none().into()),
         ("fault", fault.as_ref().map(fault::json).into()),
     ]);
-    let text = format!(
+    let mut text = format!(
         "{free} of {} free, {bytes} bytes\nlongest stretch {}, {longest_bytes} bytes\n",
         counted(total, "granule"),
         counted(longest, "granule"),
     );
+    text.extend(more.map(|more| format!("files: {}\n", more_told(more, opened.geometry()))));
     let note = |fault: Explained| {
         let kind = fault.fault.kind;
         let place = fault.fault.slot.map(|slot| format!(", slot {slot:02X}H")).unwrap_or_default();

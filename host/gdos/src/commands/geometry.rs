@@ -26,9 +26,9 @@ under it. With --set it is kept in a file beside the image, IMAGE.gdos, which ev
 replaced. A geometry that does not have the image's length is refused; a disk that is not consistent is not, but a
 note tells its fault.
 
-IMAGE.gdos has a line for each of blocks, units, start and open_code, as `blocks = 48`; a preset's name will do too,
-and # begins a remark. A key that is not known is an error. GDOS_GEOMETRY is written likewise: `dd40`, or
-`blocks=48 units=3 start=360`.
+IMAGE.gdos has a line for each of blocks, units, start and open_code, as `blocks = 48`, and of a data disk
+`system_disk = no`; a preset's name will do too, and # begins a remark. A key that is not known is an error.
+GDOS_GEOMETRY is written likewise: `dd40`, or `blocks=48 units=3 start=360`.
 ",
     groups: &[("Options", &[SET, SEARCH, JSON]), (shape::TITLE, shape::OPTIONS)],
     examples: &["gdos geometry disk.img", "gdos geometry disk.img --set --preset dd40"],

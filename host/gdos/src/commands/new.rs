@@ -34,9 +34,9 @@ pub const COMMAND: Command = Command {
     about: "\
 Makes a consistent disk without files. State its geometry, by --preset or by --blocks, --units and --start; it is
 kept in IMAGE.gdos beside the image, so that no later command has to be told it (see gdos geometry). A directory of
-10, 15, 20, 25 or 30 sectors has room for 32, 72, 112, 152 or 192 files; a badly scattered file takes more than one
-place. Outside the directory every byte is E5H, as formatting leaves it; there is neither a system nor a label on
-the disk.
+10, 15, 20, 25 or 30 sectors has room for 32, 72, 112, 152 or 192 files, and with --data-disk for 30 more; a badly
+scattered file takes more than one place. Outside the directory every byte is E5H, as formatting leaves it; there is
+neither a system nor a label on the disk.
 ",
     groups: &[
         ("Options", &[DIRECTORY, RESERVE, Spec { help: "replace an image that is there", ..FORCE }, JSON]),
@@ -45,6 +45,7 @@ the disk.
     examples: &[
         "gdos new --preset dd80ds --directory 30 disk.img",
         "gdos new --blocks 16 --units 2 --start 80 small.img",
+        "gdos new --preset dd80ds --directory 30 --data-disk archive.img",
     ],
     run,
 };

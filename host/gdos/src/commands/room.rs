@@ -4,11 +4,21 @@ use genie_dos::{Disk, Geometry};
 
 /// Slots that files may have, and how many of them are free.
 pub fn slots(disk: &Disk) -> Option<(usize, usize)> {
+    slots_as(disk, disk.geometry().system_disk)
+}
+
+/// How many files more the directory takes as that of a system disk, and as that of a data disk.
+pub fn files_more(disk: &Disk) -> Option<(usize, usize)> {
+    Some((slots_as(disk, true)?.1, slots_as(disk, false)?.1))
+}
+
+fn slots_as(disk: &Disk, system_disk: bool) -> Option<(usize, usize)> {
     let sectors = disk.directory_sectors().ok()?;
     let hit = (disk.geometry().start + 1) * Geometry::SECTOR_BYTES;
     let hit = disk.image().get(hit..hit + Geometry::SECTOR_BYTES)?;
-    // Rows 0 to 3 with s 0 to 7 are kept for system files.
-    let permitted = (0..256).filter(|slot| slot % 32 + 2 < sectors && (slot / 32 > 3 || slot % 32 > 7));
+    // On a system disk rows 0 to 3 with s 0 to 7 are kept for system files, on a data disk slots 00H and 01H alone.
+    let kept = |slot: usize| if system_disk { slot / 32 <= 3 && slot % 32 <= 7 } else { slot <= 1 };
+    let permitted = (0..256).filter(|&slot| slot % 32 + 2 < sectors && !kept(slot));
     let permitted: Vec<usize> = permitted.collect();
     Some((permitted.len(), permitted.iter().filter(|&&slot| hit[slot] == 0).count()))
 }
@@ -27,6 +37,7 @@ mod tests {
             let new = NewFile::open(geometry, Date::new(1983, 10, 9));
             disk.create(&"A".parse().unwrap(), &new).unwrap();
             assert_eq!(slots(&disk), Some((all, all - 1)));
+            assert_eq!(files_more(&disk), Some((all - 1, all + 30 - 1)));
         }
     }
 }

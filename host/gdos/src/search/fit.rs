@@ -113,7 +113,7 @@ mod tests {
     }
 
     fn fit(image: &[u8], blocks: usize, units: usize) -> Fit {
-        Fit::of(image, Geometry { blocks, units, ..GEOMETRY }, 10)
+        Fit::of(image, GEOMETRY.with_blocks(blocks).with_units(units), 10)
     }
 
     #[test]

@@ -9,23 +9,38 @@ use genie_dos::Geometry;
 
 /// How a geometry is written, a line a key.
 pub fn written(geometry: Geometry) -> String {
-    let Geometry { blocks, units, start, open_code } = geometry;
-    format!("blocks = {blocks}\nunits = {units}\nstart = {start}\nopen_code = {open_code:04X}H\n")
+    let Geometry { blocks, units, start, open_code, system_disk, .. } = geometry;
+    // What a system disk's file says is what it said before there were data disks.
+    let data_disk = if system_disk { "" } else { "system_disk = no\n" };
+    format!("blocks = {blocks}\nunits = {units}\nstart = {start}\nopen_code = {open_code:04X}H\n{data_disk}")
 }
 
-/// Keys that state a number, with what it is called.
+/// Keys that state a number.
 const KEYS: [&str; 4] = ["blocks", "units", "start", "open_code"];
+
+/// The key that states whether it is a system disk, `yes` or `no`; without it, it is.
+const SYSTEM_DISK: &str = "system_disk";
 
 /// The geometry that is written here, or what is wrong.
 pub fn parse(text: &str) -> Result<Geometry, String> {
     let mut preset = None;
     let mut numbers = [None; KEYS.len()];
+    let mut system_disk = None;
     let mut unknown = Vec::new();
     for (key, value) in pairs(text)? {
         let place = match key.as_str() {
             "preset" if preset.is_some() => return Err("it states the preset twice".to_string()),
             "preset" => {
                 preset = Some(named(&value)?);
+                continue;
+            }
+            SYSTEM_DISK if system_disk.is_some() => return Err(format!("it states {SYSTEM_DISK} twice")),
+            SYSTEM_DISK => {
+                system_disk = Some(match value.as_str() {
+                    "yes" => true,
+                    "no" => false,
+                    _ => return Err(format!("{SYSTEM_DISK} is yes or, of a data disk, no, not {value:?}")),
+                });
                 continue;
             }
             key => KEYS.iter().position(|known| *known == key),
@@ -41,7 +56,10 @@ pub fn parse(text: &str) -> Result<Geometry, String> {
     }
     if !unknown.is_empty() {
         let known = KEYS.join(", ");
-        return Err(format!("this program does not know {}; it knows {known} and preset", unknown.join(", ")));
+        return Err(format!(
+            "this program does not know {}; it knows {known}, {SYSTEM_DISK} and preset",
+            unknown.join(", ")
+        ));
     }
     let [blocks, units, start, open_code] = numbers;
     let missing = |key: &str| format!("it does not state {key}");
@@ -49,12 +67,13 @@ pub fn parse(text: &str) -> Result<Geometry, String> {
         None => OPEN_CODE,
         Some(code) => u16::try_from(code).map_err(|_| "open_code has 16 bits, at most FFFFH".to_string())?,
     };
-    Ok(Geometry::new(
+    let geometry = Geometry::new(
         blocks.or(preset.map(|p| p.blocks)).ok_or_else(|| missing("blocks"))?,
         units.or(preset.map(|p| p.units)).ok_or_else(|| missing("units"))?,
         start.or(preset.map(|p| p.start)).ok_or_else(|| missing("start"))?,
         open_code,
-    ))
+    );
+    Ok(geometry.with_system_disk(system_disk.unwrap_or(true)))
 }
 
 /// Keys and values as they stand there.
@@ -87,6 +106,10 @@ mod tests {
         for geometry in [Geometry::new(48, 3, 360, 0x4296), Geometry::new(1, 2, 0, 0), Geometry::new(192, 8, 3840, 7)] {
             assert_eq!(parse(&written(geometry)), Ok(geometry));
         }
+        let data = Geometry::new(48, 3, 360, 7).with_system_disk(false);
+        assert_eq!(parse(&written(data)), Ok(data));
+        assert!(written(data).ends_with("\nsystem_disk = no\n"));
+        assert_eq!(parse("dd40 system_disk=yes"), parse("dd40"));
         assert_eq!(written(Geometry::new(48, 3, 360, 7)), "blocks = 48\nunits = 3\nstart = 360\nopen_code = 0007H\n");
     }
 
@@ -113,8 +136,13 @@ mod tests {
             ("", "it does not state blocks"),
             ("blocks=48 start=5", "it does not state units"),
             ("blocks=48 units=3", "it does not state start"),
-            ("dd40 system_disk=yes granule_sectors=10", "this program does not know system_disk, granule_sectors; "),
-            ("dd40 Blocks=4", "this program does not know Blocks; it knows blocks, units, start, open_code and preset"),
+            ("dd40 color=5 granule_sectors=10", "this program does not know color, granule_sectors; "),
+            ("dd40 system_disk=0", "system_disk is yes or, of a data disk, no, not \"0\""),
+            ("dd40 system_disk=no system_disk=no", "it states system_disk twice"),
+            (
+                "dd40 Blocks=4",
+                "this program does not know Blocks; it knows blocks, units, start, open_code, system_disk and preset",
+            ),
             ("dd40 sd40", "it states the preset twice"),
             ("blocks=1 blocks=1", "it states blocks twice"),
             ("blocks=x", "blocks wants a number, as 1440 or 5A0H, not \"x\""),

@@ -24,6 +24,12 @@ pub const OPTIONS: &[Spec] = &[
         value: Some("CODE"),
         help: "the password code that stands for \"no password\" (4296H)",
     },
+    Spec {
+        long: "data-disk",
+        short: None,
+        value: None,
+        help: "a data disk: only slots 00H and 01H are kept, so that it takes 30 files more",
+    },
 ];
 
 /// The same for two images: the second's own options end in 2.
@@ -33,6 +39,7 @@ pub const OPTIONS_OF_TWO: &[Spec] = &[
     OPTIONS[2],
     OPTIONS[3],
     OPTIONS[4],
+    OPTIONS[5],
     Spec {
         long: "preset2",
         short: None,
@@ -43,6 +50,7 @@ pub const OPTIONS_OF_TWO: &[Spec] = &[
     Spec { long: "units2", short: None, value: Some("N"), help: "of the second image" },
     Spec { long: "start2", short: None, value: Some("SECTOR"), help: "of the second image" },
     Spec { long: "open-code2", short: None, value: Some("CODE"), help: "of the second image" },
+    Spec { long: "data-disk2", short: None, value: None, help: "of the second image" },
 ];
 
 /// The option of those commands that change an image.
@@ -56,12 +64,14 @@ pub struct Wanted {
     units: Option<usize>,
     start: Option<usize>,
     open_code: Option<u16>,
+    /// A data disk; where it is not, nothing is said.
+    data_disk: bool,
     /// What the options that state it end in.
     suffix: &'static str,
 }
 
 /// Nothing is said.
-const ANY: Wanted = Wanted { blocks: None, units: None, start: None, open_code: None, suffix: "" };
+const ANY: Wanted = Wanted { blocks: None, units: None, start: None, open_code: None, data_disk: false, suffix: "" };
 
 impl Wanted {
     /// From the options. A single option goes before the preset's number.
@@ -86,6 +96,7 @@ impl Wanted {
             units: args.number(&option("units"))?.or(preset.map(|p| p.units)).or(otherwise.units),
             start: args.number(&option("start"))?.or(preset.map(|p| p.start)).or(otherwise.start),
             open_code: args.code(&option("open-code"))?.or(otherwise.open_code),
+            data_disk: args.has(&option("data-disk")) || otherwise.data_disk,
             suffix: otherwise.suffix,
         })
     }
@@ -107,18 +118,18 @@ impl Wanted {
 
     /// The geometry, if all of it is said.
     pub fn whole(&self) -> Option<Geometry> {
-        Some(Geometry::new(self.blocks?, self.units?, self.start?, self.open_code.unwrap_or(OPEN_CODE)))
+        Some(self.completed(Geometry::new(self.blocks?, self.units?, self.start?, OPEN_CODE)))
     }
 
-    /// A geometry that is stated elsewhere, with the open code if that is said.
-    pub fn with_open_code(&self, stated: Geometry) -> Geometry {
-        Geometry { open_code: self.open_code.unwrap_or(stated.open_code), ..stated }
+    /// A geometry that is stated elsewhere, with the open code and the data disk if they are said.
+    pub fn completed(&self, stated: Geometry) -> Geometry {
+        let open_code = self.open_code.unwrap_or(stated.open_code);
+        stated.with_open_code(open_code).with_system_disk(stated.system_disk && !self.data_disk)
     }
 
     /// Every geometry that agrees with what is said and fits an image of this length.
     pub fn fitting(&self, image_len: usize) -> Vec<Geometry> {
         let may = |said: Option<usize>, number: usize| said.is_none_or(|said| said == number);
-        let open_code = self.open_code.unwrap_or(OPEN_CODE);
         let mut fitting = Vec::new();
         for units in (1..=Geometry::MOST_UNITS).filter(|&units| may(self.units, units)) {
             for blocks in (1..=Geometry::MOST_BLOCKS).filter(|&blocks| may(self.blocks, blocks)) {
@@ -126,7 +137,7 @@ impl Wanted {
                     continue;
                 }
                 let starts = starts(image_len).filter(|&start| may(self.start, start));
-                fitting.extend(starts.map(|start| Geometry::new(blocks, units, start, open_code)));
+                fitting.extend(starts.map(|start| self.completed(Geometry::new(blocks, units, start, OPEN_CODE))));
             }
         }
         fitting

@@ -8,9 +8,10 @@ use genie_dos::Geometry;
 /// The options that state a geometry, with the preset that it is of: `--blocks 48 --units 3 --start 360 (preset dd40)`.
 /// Those of a second image end in a suffix.
 pub fn options(geometry: Geometry, suffix: &str) -> String {
-    let Geometry { blocks, units, start, .. } = geometry;
+    let Geometry { blocks, units, start, system_disk, .. } = geometry;
     let preset = preset_of(geometry).map(|name| format!(" (preset {name})")).unwrap_or_default();
-    format!("--blocks{suffix} {blocks} --units{suffix} {units} --start{suffix} {start}{preset}")
+    let data = if system_disk { String::new() } else { format!(" --data-disk{suffix}") };
+    format!("--blocks{suffix} {blocks} --units{suffix} {units} --start{suffix} {start}{data}{preset}")
 }
 
 /// A geometry for `--json`.
@@ -20,6 +21,7 @@ pub fn json(geometry: Geometry) -> Json {
         ("units", geometry.units.into()),
         ("start", geometry.start.into()),
         ("open_code", geometry.open_code.into()),
+        ("system_disk", geometry.system_disk.into()),
         ("preset", preset_of(geometry).into()),
     ])
 }

@@ -67,11 +67,11 @@ fn stated(wanted: &Wanted, image: &OsStr, image_len: usize) -> Result<Option<Fou
     if let Some(text) = std::env::var_os(VARIABLE).filter(|text| !text.is_empty()) {
         let wrong = |why| Failure::Wrong(format!("{VARIABLE} states no geometry: {why}"));
         let geometry = shape::parse(&text.to_string_lossy()).map_err(wrong)?;
-        return found(wanted.with_open_code(geometry), Source::Environment);
+        return found(wanted.completed(geometry), Source::Environment);
     }
     let sidecar = Sidecar::of(Path::new(image));
     match sidecar.read()? {
-        Some(geometry) => found(wanted.with_open_code(geometry), Source::Beside(sidecar.shown().to_string())),
+        Some(geometry) => found(wanted.completed(geometry), Source::Beside(sidecar.shown().to_string())),
         None => Ok(None),
     }
 }
