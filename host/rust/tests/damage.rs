@@ -122,6 +122,17 @@ fn untouched(file: &Known, before: &[u8], after: &[u8], g: Geometry) -> bool {
         && before[length_at(g)] == after[length_at(g)]
 }
 
+/// Whether a fault names an entry of the file or a granule.
+fn names(found: &FaultFound, file: &Known) -> bool {
+    let entry = |slot: &u8| file.slots.contains(slot);
+    found.fault.slot.as_ref().is_some_and(entry)
+        || match &found.detail {
+            Detail::AlsoIn { granules, .. } => granules.iter().any(|granule| file.granules.contains(granule)),
+            Detail::SameName { lower } => entry(lower),
+            _ => false,
+        }
+}
+
 /// One damaged image, with everything that is promised of it.
 fn one(sound: &Sound, random: &mut Random, flips: usize, used: bool) -> Figures {
     let (g, before) = (sound.disk.geometry(), sound.disk.image());
@@ -170,17 +181,8 @@ fn one(sound: &Sound, random: &mut Random, flips: usize, used: bool) -> Figures 
                 figures.untouched_doubtful += usize::from(!had.doubts.is_empty());
             }
             None => {
-                let names = |found: &&FaultFound| {
-                    let entry = found.fault.slot.is_some_and(|slot| file.slots.contains(&slot));
-                    entry
-                        || matches!(&found.detail, Detail::AlsoIn { granules, .. } if granules.iter().any(|granule| file.granules.contains(granule)))
-                        || matches!(&found.detail, Detail::SameName { lower } if *lower == slot)
-                };
-                assert!(
-                    faults.found.iter().any(|found| names(&found)),
-                    "{} lost without a fault that names it",
-                    file.name
-                );
+                let named = faults.found.iter().any(|found| names(found, file));
+                assert!(named, "{} is lost, and no fault names it", file.name);
                 assert!(mended.dropped.iter().any(|dropped| dropped.slot == slot));
                 figures.untouched_lost += 1;
             }

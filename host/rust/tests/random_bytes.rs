@@ -69,7 +69,8 @@ fn directory(image: &mut [u8], g: Geometry, random: &mut Random) {
 }
 
 fn geometry(random: &mut Random) -> (Geometry, usize) {
-    let (blocks, units) = (1 + random.below(if random.one_in(6) { 192 } else { 30 }), 1 + random.below(8));
+    let most = if random.one_in(6) { Geometry::MOST_BLOCKS } else { 30 };
+    let (blocks, units) = (1 + random.below(most), 1 + random.below(8));
     let granules = blocks * units;
     let start = 5 * random.below(granules);
     let odd = |random: &mut Random| *random.pick(&[0, 1, 5, 7, 193, 9999, usize::MAX, usize::MAX / 256, 1 << 60]);
