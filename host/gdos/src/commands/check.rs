@@ -1,10 +1,12 @@
 //! `gdos check`.
 
-use super::{counted, disk_of, failures_json, json_head, shown, Command, Output, JSON};
+use super::opened::Opened;
+use super::{failures_json, Command, Output, JSON};
 use crate::args::Args;
 use crate::failure::Failure;
 use crate::json::Json;
 use crate::shape;
+use crate::text::counted;
 use std::ffi::OsStr;
 
 pub const COMMAND: Command = Command {
@@ -15,9 +17,9 @@ pub const COMMAND: Command = Command {
 Tests the directory, every file's chain and runs, and that no granule belongs to two files. An image that passes
 may be worked on; one that does not is refused with 1 (length or geometry), or with 21 to 30 (not consistent) and what
 is wrong and where:
-  slot 25H, directory sector 7, byte 32 (PULS01/DAT): granule 53 is also in slot 04H (EICH01/DAT)
-Directory sectors are counted from 0, the GAT; bytes within the sector. Of several faults the one in the lowest slot
-is told; mend it and check again. The status is that of the worst image.
+  slot 25H, directory sector 7, byte 32, image byte 24864 (PULS01/DAT): granule 53 is also in slot 04H (EICH01/DAT)
+Directory sectors are counted from 0, the GAT; bytes within the sector, and from the image's start. Of several faults
+the one in the lowest slot is told; mend it and check again. The status is that of the worst image.
 ",
     groups: &[("Options", &[JSON]), (shape::TITLE, shape::OPTIONS)],
     examples: &["gdos check disk.img", "gdos check --preset dd80ds week1.img week2.img"],
@@ -32,8 +34,9 @@ fn run(args: &Args) -> Result<Output, Failure> {
     let mut images = Vec::new();
     for image in &args.words {
         match check(args, image) {
-            Ok((line, json)) => {
+            Ok((line, json, notes)) => {
                 output.text.extend(line.into_bytes());
+                output.notes.extend(notes);
                 images.push(json);
             }
             Err(failure) => output.failures.push(failure),
@@ -43,10 +46,10 @@ fn run(args: &Args) -> Result<Output, Failure> {
     Ok(output)
 }
 
-fn check(args: &Args, image: &OsStr) -> Result<(String, Json), Failure> {
-    let disk = disk_of(args, image)?;
-    let path = shown(image);
-    let (geometry, counts) = (disk.geometry(), disk.count().map_err(Failure::image(&path))?);
+fn check(args: &Args, image: &OsStr) -> Result<(String, Json, Vec<String>), Failure> {
+    let opened = Opened::look(args, image)?;
+    let path = &opened.path;
+    let (geometry, counts) = (opened.geometry(), opened.disk.count().map_err(Failure::image(path))?);
     let line = format!(
         "{path}: consistent: {} of {}, directory at sector {}, {}, {} free\n",
         counted(geometry.blocks, "block"),
@@ -55,7 +58,7 @@ fn check(args: &Args, image: &OsStr) -> Result<(String, Json), Failure> {
         counted(counts.files, "file"),
         counted(counts.free, "granule"),
     );
-    let mut json = json_head(&path, geometry);
+    let mut json = opened.head();
     json.extend([("consistent", true.into()), ("files", counts.files.into()), ("free", counts.free.into())]);
-    Ok((line, Json::Object(json)))
+    Ok((line, Json::Object(json), opened.notes()))
 }
