@@ -61,14 +61,13 @@ impl<B: AsRef<[u8]>> Disk<B> {
     /// ```
     pub fn explain(&self, fault: Fault) -> Explained {
         let (image, g) = (self.image(), self.geometry());
-        let (sector, byte) = fault.slot.map(place).unzip();
-        // Under another geometry, or where there is no such fault, its kind alone can be told.
-        let found = first(image, g, fault);
-        let reading = Reading::of(image, g);
-        let entry_byte = reading.as_ref().zip(fault.slot).map(|(reading, slot)| reading.entry_at(slot));
-        let name = reading.as_ref().zip(fault.slot).and_then(|(reading, slot)| reading.name_of(slot));
-        let image_byte = found.as_ref().map(|found| found.image_byte).or(entry_byte);
-        let message = found.map_or_else(|| fault.kind.words().to_string(), |found| found.message);
-        Explained { fault, sector, byte, image_byte, name, message }
+        first(image, g, fault).map(|found| found.told).unwrap_or_else(|| {
+            // Under another geometry, or where there is no such fault, its kind alone can be told.
+            let (sector, byte) = fault.slot.map(place).unzip();
+            let reading = Reading::of(image, g);
+            let image_byte = reading.as_ref().zip(fault.slot).map(|(reading, slot)| reading.entry_at(slot));
+            let name = reading.zip(fault.slot).and_then(|(reading, slot)| reading.name_of(slot));
+            Explained { fault, sector, byte, image_byte, name, message: fault.kind.words().to_string() }
+        })
     }
 }

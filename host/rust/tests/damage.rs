@@ -125,7 +125,7 @@ fn untouched(file: &Known, before: &[u8], after: &[u8], g: Geometry) -> bool {
 /// Whether a fault names an entry of the file or a granule.
 fn names(found: &FaultFound, file: &Known) -> bool {
     let entry = |slot: &u8| file.slots.contains(slot);
-    found.fault.slot.as_ref().is_some_and(entry)
+    found.told.fault.slot.as_ref().is_some_and(entry)
         || match &found.detail {
             Detail::AlsoIn { granules, .. } => granules.iter().any(|granule| file.granules.contains(granule)),
             Detail::SameName { lower } => entry(lower),
@@ -147,7 +147,7 @@ fn one(sound: &Sound, random: &mut Random, flips: usize, used: bool) -> Figures 
     // The first fault found is the library's.
     let faults = damaged.faults().unwrap();
     let told = damaged.check().err().map(|refusal| refusal.fault().unwrap());
-    assert_eq!(faults.found.first().map(|found| found.fault), told);
+    assert_eq!(faults.found.first().map(|found| found.told.fault), told);
 
     let mended = damaged.mend().unwrap();
     assert_eq!(damaged.image(), as_damaged, "the image is as it was");

@@ -101,7 +101,7 @@ fn feed(image: &[u8], g: Geometry, random: &mut Random) -> bool {
         assert_eq!((told, mended.err()), (Err(Refusal::Geometry), Some(Unmended::Refused(Refusal::Geometry))));
         return false;
     };
-    let first = faults.found.first().map(|found| found.fault);
+    let first = faults.found.first().map(|found| found.told.fault);
     assert_eq!(first, told.err().map(|refusal| refusal.fault().expect("a fault")));
     let mended = mended.expect("mended");
     assert_eq!(mended.disk.check(), Ok(()));

@@ -1,8 +1,8 @@
 use super::detail::Detail;
+use super::entry::RawEntry;
 use super::faults::{at, found};
 use super::walks::bad_entry;
 use super::Reading;
-use crate::entry::Entry;
 use crate::{FaultKind, Geometry};
 use std::collections::BTreeSet;
 
@@ -20,14 +20,14 @@ impl Evidence {
         let mut kinds: BTreeSet<(u8, FaultKind)> = BTreeSet::new();
         let mut sharing: BTreeSet<(u8, u8)> = BTreeSet::new();
         for found in found(original) {
-            let Some(slot) = found.fault.slot else { continue };
+            let Some(slot) = found.told.fault.slot else { continue };
             match found.detail {
                 Detail::AlsoIn { lower, .. } => {
                     sharing.extend([(whose(slot), whose(lower)), (whose(lower), whose(slot))]);
                 }
                 Detail::SameName { .. } | Detail::TwiceHere { .. } => {}
                 _ => {
-                    kinds.insert((whose(slot), found.fault.kind));
+                    kinds.insert((whose(slot), found.told.fault.kind));
                 }
             }
         }
@@ -111,12 +111,12 @@ pub(super) fn put_back(reading: &Reading, slot: u8) -> Option<Vec<u8>> {
     let mut chain = vec![slot];
     let mut last = slot;
     while bad_entry(reading, last).is_none() {
-        if reading.entry(last).marker() == super::entry::RawEntry::LAST {
+        if reading.entry(last).marker() == RawEntry::LAST {
             return granules_are_its_own(reading, &chain).then_some(chain);
         }
         let next = reading.entry(last).link();
         let entry = reading.entry(next);
-        let well_formed = entry.flags() == super::entry::RawEntry::EXTENSION_FLAGS
+        let well_formed = entry.flags() == RawEntry::EXTENSION_FLAGS
             && entry.back() == last
             && entry.runs_counted() > 0
             && reading.walks.meetings(next).next().is_none();
@@ -146,5 +146,3 @@ fn granules_are_its_own(reading: &Reading, chain: &[u8]) -> bool {
     let size = chain.first().and_then(|&slot| reading.entry(slot).size());
     size.is_some_and(|size| size <= seen.len() * Geometry::GRANULE_BYTES)
 }
-
-const _: () = assert!(Entry::LEN == super::entry::RawEntry::LEN);

@@ -1,23 +1,17 @@
 use super::detail::Detail;
 use super::length::presumed;
 use super::walks::{bad_entry, bad_extension};
-use super::Reading;
-use crate::{Disk, Fault, FaultKind, Geometry, Name, Refusal};
+use super::{place, Reading};
+use crate::{Disk, Explained, Fault, FaultKind, Geometry, Name, Refusal};
 
 /// One fault of a disk, as [`Disk::faults`] finds it.
 #[derive(Clone, Debug, PartialEq, Eq)]
 #[non_exhaustive]
 pub struct FaultFound {
-    /// Kind and slot.
-    pub fault: Fault,
+    /// Kind and slot, the place, the name of the file that the entry belongs to, and what is wrong in words.
+    pub told: Explained,
     /// What exactly is wrong.
     pub detail: Detail,
-    /// Where in the image: the first byte of the entry at fault, or of HIT or GAT where the fault has no slot.
-    pub image_byte: usize,
-    /// The name of the file that the entry belongs to, where it has a well-formed one.
-    pub name: Option<Name>,
-    /// What is wrong, in words.
-    pub message: String,
     /// The slots of the files that it touches, rising: whose entry it is, and whose granule, name or extension is named by it.
     pub touches: Vec<u8>,
 }
@@ -66,7 +60,7 @@ impl<B: AsRef<[u8]>> Disk<B> {
     /// image[82 * 256 + 128 + 0x1E] = 7; // the marker of slot 80H
     ///
     /// let faults = Disk::new(image, geometry).faults()?;
-    /// let told: Vec<_> = faults.found.iter().map(|found| (found.fault.kind.number(), found.fault.slot)).collect();
+    /// let told: Vec<_> = faults.found.iter().map(|found| (found.told.fault.kind.number(), found.told.fault.slot)).collect();
     /// assert_eq!(told, [(25, Some(0x80)), (22, Some(0x81))]);
     /// let touched: Vec<_> = faults.files.iter().map(|file| file.touched).collect();
     /// assert_eq!(touched, [true, true, false]);
@@ -92,7 +86,7 @@ fn of_image(image: &[u8], g: Geometry) -> Option<Faults> {
     let mut all: Vec<FaultFound> = length.into_iter().collect();
     all.extend(found(&reading));
     let files = reading.files().map(|slot| {
-        let touched = all.iter().any(|fault| fault.fault.slot.is_some() && fault.touches.contains(&slot));
+        let touched = all.iter().any(|found| found.told.fault.slot.is_some() && found.touches.contains(&slot));
         FileFound { slot, name: reading.entry(slot).name(), touched }
     });
     let files = files.collect();
@@ -123,14 +117,17 @@ pub(crate) fn found(reading: &Reading) -> Vec<FaultFound> {
 }
 
 fn told(reading: &Reading, slot: Option<u8>, detail: Detail) -> FaultFound {
-    FaultFound {
+    let (sector, byte) = slot.map(place).unzip();
+    let told = Explained {
         fault: Fault { kind: detail.kind(), slot },
-        image_byte: detail.image_byte(reading, slot),
+        sector,
+        byte,
+        image_byte: Some(detail.image_byte(reading, slot)),
         name: slot.and_then(|slot| reading.name_of(slot)),
         message: detail.words(reading, slot),
-        touches: slot.map(|slot| touched(reading, slot, &detail)).unwrap_or_default(),
-        detail,
-    }
+    };
+    let touches = slot.map(|slot| touched(reading, slot, &detail)).unwrap_or_default();
+    FaultFound { told, detail, touches }
 }
 
 /// The files that a fault of a slot touches, rising.
