@@ -64,7 +64,9 @@ pub fn faults_json(faults: &Faults) -> Vec<(&'static str, Json)> {
     });
     let files = |touched: bool| {
         let these = faults.files.iter().filter(move |file| file.touched == touched);
-        Json::list(these.map(|file| Json::object([("name", text::name(&file.name).into()), ("slot", file.slot.into())])))
+        Json::list(
+            these.map(|file| Json::object([("name", text::name(&file.name).into()), ("slot", file.slot.into())])),
+        )
     };
     vec![
         ("directory_sectors", faults.directory_sectors.into()),

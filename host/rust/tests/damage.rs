@@ -21,6 +21,7 @@ struct Figures {
     files: usize,
     untouched: usize,
     untouched_lost: usize,
+    untouched_elsewhere: usize,
     untouched_doubtful: usize,
     rescued: usize,
     as_before: usize,
@@ -32,7 +33,7 @@ struct Figures {
     dropped_had_otherwise: usize,
 }
 
-const ROWS: [(&str, fn(&Figures) -> usize); 17] = [
+const ROWS: [(&str, fn(&Figures) -> usize); 18] = [
     ("images", |f| f.images),
     ("of these consistent by the rules", |f| f.consistent),
     ("faults found", |f| f.faults),
@@ -41,6 +42,7 @@ const ROWS: [(&str, fn(&Figures) -> usize); 17] = [
     ("files before the damage", |f| f.files),
     ("of these with no byte of theirs changed", |f| f.untouched),
     ("... lost, a fault naming entry or granules", |f| f.untouched_lost),
+    ("... ... but rescued from another copy, as doubtful", |f| f.untouched_elsewhere),
     ("... kept as doubtful", |f| f.untouched_doubtful),
     ("rescued without doubt", |f| f.rescued),
     ("... name and bytes as before", |f| f.as_before),
@@ -62,6 +64,7 @@ impl Figures {
         self.files += other.files;
         self.untouched += other.untouched;
         self.untouched_lost += other.untouched_lost;
+        self.untouched_elsewhere += other.untouched_elsewhere;
         self.untouched_doubtful += other.untouched_doubtful;
         self.rescued += other.rescued;
         self.as_before += other.as_before;
@@ -225,8 +228,17 @@ fn one(sound: &Sound, random: &mut Random, flips: usize, used: bool) -> Figures 
         figures.silent += 1;
     }
     for dropped in &mended.dropped {
-        let other = Mended::with(&damaged, dropped).unwrap();
-        figures.dropped_had_otherwise += usize::from(other.is_some());
+        let Some(other) = Mended::with(&damaged, dropped).unwrap() else { continue };
+        figures.dropped_had_otherwise += 1;
+        assert_eq!(other.disk.check(), Ok(()));
+        let doubtful = other.doubtful.iter().any(|doubtful| doubtful.slot == dropped.slot);
+        assert!(doubtful, "{} was dropped for another file, and stays without a doubt", dropped.name);
+        let file = sound.files.iter().find(|file| file.slots[0] == dropped.slot);
+        if file.is_some_and(|file| untouched(file, before, &as_damaged, g)) {
+            let had = other.rescue().unwrap().into_iter().find(|had| had.entry.slot() == dropped.slot).unwrap();
+            assert_eq!(Some(&had.bytes), file.map(|file| &file.bytes));
+            figures.untouched_elsewhere += 1;
+        }
     }
     figures
 }

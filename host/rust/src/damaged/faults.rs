@@ -268,7 +268,7 @@ pub(crate) fn first(image: &[u8], g: Geometry, fault: Fault) -> Option<FaultFoun
     }
     let reading = match (Reading::of(image, g), fault.kind) {
         (Some(reading), _) => reading,
-        (None, FaultKind::DirectoryLength) => {
+        (None, FaultKind::DirectoryLength) if fault.slot.is_none() => {
             let reading = Reading::with_length(image, g, Reading::LEAST_SECTORS);
             return Some(bad_length(&reading, Reading::length_byte(image, g)));
         }
