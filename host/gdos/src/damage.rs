@@ -79,7 +79,8 @@ pub fn faults_json(faults: &Faults) -> Vec<(&'static str, Json)> {
 /// A step of mending for people: the fault, what was done, the bytes.
 pub fn step_text(step: &Step) -> String {
     let changes = step.changes.iter().map(|change| format!("    {change}\n"));
-    format!("{}\n  {}\n{}", line(&step.told), step.remedy, changes.collect::<String>())
+    let because = step.because.as_ref().map(|because| format!("  {}\n", line(because))).unwrap_or_default();
+    format!("{}\n{because}  {}\n{}", line(&step.told), step.remedy, changes.collect::<String>())
 }
 
 /// The same for `--json`.
@@ -93,6 +94,7 @@ pub fn step_json(step: &Step) -> Json {
     };
     Json::object([
         ("fault", fault::json(&step.told)),
+        ("because", step.because.as_ref().map(fault::json).into()),
         ("done", step.remedy.to_string().into()),
         ("changes", Json::list(step.changes.iter().map(change))),
     ])

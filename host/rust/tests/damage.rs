@@ -33,7 +33,9 @@ struct Figures {
     dropped_had_otherwise: usize,
 }
 
-const ROWS: [(&str, fn(&Figures) -> usize); 18] = [
+type Row = (&'static str, fn(&Figures) -> usize);
+
+const ROWS: [Row; 18] = [
     ("images", |f| f.images),
     ("of these consistent by the rules", |f| f.consistent),
     ("faults found", |f| f.faults),

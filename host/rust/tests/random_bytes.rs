@@ -125,7 +125,7 @@ fn any_bytes_are_read_and_mended() {
     let seed = std::env::var("GENIE_RANDOM_SEED").ok().and_then(|seed| seed.parse().ok()).unwrap_or(1);
     let mut random = Random::new(seed);
     let (mut images, mut mended) = (0usize, 0usize);
-    while images < 1_000 || Instant::now() < end {
+    while images < 300 || Instant::now() < end {
         let (g, length) = geometry(&mut random);
         let mut image = match random.below(4) {
             0 => random.bytes(length),

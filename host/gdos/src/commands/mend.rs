@@ -85,7 +85,7 @@ fn same_file(one: &OsStr, other: &OsStr) -> bool {
 fn report(opened: &Opened, mended: &Mended, copy: Option<&OsStr>) -> String {
     let mut report: String = mended.steps.iter().map(damage::step_text).collect();
     for dropped in &mended.dropped {
-        let why = mended.steps.get(dropped.step).map(|step| damage::line(&step.told)).unwrap_or_default();
+        let why = mended.steps.get(dropped.step).map(|step| damage::line(step.decisive())).unwrap_or_default();
         report += &format!("dropped: {}: {why}\n", damage::named(&dropped.name, dropped.slot));
     }
     for doubtful in &mended.doubtful {
@@ -117,7 +117,7 @@ fn sure(mended: &Mended) -> usize {
 fn json(opened: &Opened, mended: &Mended, copy: Option<&OsStr>) -> Json {
     let dropped = mended.dropped.iter().filter_map(|dropped| {
         let step = mended.steps.get(dropped.step)?;
-        Some(damage::dropped_json(&dropped.name, dropped.slot, &step.told))
+        Some(damage::dropped_json(&dropped.name, dropped.slot, step.decisive()))
     });
     let doubtful = mended.doubtful.iter().map(|doubtful| {
         Json::object([

@@ -96,8 +96,8 @@ fn run(args: &Args) -> Result<Output, Failure> {
     for dropped in &missing {
         if let Some(step) = mended.steps.get(dropped.step) {
             let named = damage::named(&dropped.name, dropped.slot);
-            output.text.extend(format!("missing: {named}: {}\n", damage::line(&step.told)).into_bytes());
-            lost.push(damage::dropped_json(&dropped.name, dropped.slot, &step.told));
+            output.text.extend(format!("missing: {named}: {}\n", damage::line(step.decisive())).into_bytes());
+            lost.push(damage::dropped_json(&dropped.name, dropped.slot, step.decisive()));
         }
     }
     let doubtful = had.iter().filter(|had| !had.file.doubts.is_empty()).count();

@@ -1,5 +1,5 @@
 use super::detail::Detail;
-use super::evidence::{cannot_stay, file_cannot_stay, own_entries, put_back, wrong_link, Evidence};
+use super::evidence::{own_entries, put_back, why_not, why_not_file, wrong_link, Evidence};
 use super::faults::at;
 use super::remedy::Remedy;
 use super::Reading;
@@ -13,6 +13,11 @@ pub(super) struct Grounds {
     pub(super) preferred: Option<u8>,
     /// Slots whose HIT byte was put to a hash already. It is not done twice, so that mending ends.
     pub(super) hits_put: Vec<u8>,
+}
+
+/// Why the file of a slot in use cannot stay, if it cannot.
+pub(super) fn why_out(now: &Reading, slot: u8) -> Option<(u8, Detail)> {
+    why_not(now, slot).or_else(|| now.file_of(slot).and_then(|file| why_not_file(now, file)))
 }
 
 /// The smallest change that takes away a fault which the library told of a copy with an allowed directory length.
@@ -37,7 +42,7 @@ pub(super) fn choose(now: &Reading, grounds: &Grounds, fault: Fault) -> Remedy {
         return take_out(now, wrong);
     }
     let file = now.file_of(slot);
-    if cannot_stay(now, slot) || file.is_some_and(|file| file_cannot_stay(now, file)) {
+    if why_out(now, slot).is_some() {
         return take_out(now, slot);
     }
     match (fault.kind, detail) {
@@ -61,7 +66,7 @@ pub(super) fn choose(now: &Reading, grounds: &Grounds, fault: Fault) -> Remedy {
 fn goes(now: &Reading, grounds: &Grounds, slot: u8, lower: u8) -> u8 {
     let against = |slot: u8| {
         let file = now.file_of(slot).unwrap_or(slot);
-        let lost = now.file_of(slot).is_none_or(|file| file_cannot_stay(now, file));
+        let lost = now.file_of(slot).is_none_or(|file| why_not_file(now, file).is_some());
         (lost, grounds.preferred != Some(file), grounds.evidence.strikes(file), slot)
     };
     std::cmp::max_by_key(slot, lower, |&slot| against(slot))

@@ -122,10 +122,10 @@ pub enum Detail {
         /// Its last granule.
         last: usize,
     },
-    /// 27: a granule of a run is free in the GAT.
+    /// 27: granules of a run are free in the GAT.
     Free {
-        /// The granule.
-        granule: usize,
+        /// The granules, rising.
+        granules: Vec<usize>,
         /// The run's number in its entry, from 1.
         run: usize,
     },
@@ -157,10 +157,10 @@ pub enum Detail {
         /// Granules of the file's runs.
         granules: usize,
     },
-    /// 30: a granule of the directory is in a run of a file without the system flag.
+    /// 30: granules of the directory are in a run of a file without the system flag.
     OnDirectory {
-        /// The granule.
-        granule: usize,
+        /// The granules, rising.
+        granules: Vec<usize>,
         /// The run's number in its entry, from 1.
         run: usize,
     },
@@ -281,24 +281,26 @@ impl Detail {
                 let end = reading.granules() - 1;
                 format!("run {run} has granules {first} to {last}, but the disk's last is {end}")
             }
-            Detail::Free { granule, run } => {
-                format!("granule {granule} of run {run} is free in the GAT ({})", gat(granule))
+            Detail::Free { ref granules, run } => {
+                let place = granules.first().map(|&granule| gat(granule)).unwrap_or_default();
+                let from = if granules.len() == 1 { "" } else { "from " };
+                format!("{} of run {run} {} free in the GAT ({from}{place})", listed(granules), is(granules))
             }
             Detail::TwiceHere { granule, first, second } => {
                 format!("granule {granule} is in run {first} and in run {second} of this entry")
             }
             Detail::AlsoIn { ref granules, lower } => {
                 let whose = reading.name_of(lower).map(|name| format!(" ({name})")).unwrap_or_default();
-                let verb = if granules.len() == 1 { "is" } else { "are" };
-                format!("{} {verb} also in slot {lower:02X}H{whose}", listed(granules))
+                format!("{} {} also in slot {lower:02X}H{whose}", listed(granules), is(granules))
             }
             Detail::NoSectors { end } => format!("the sector count is 0, but the end byte {end}"),
             Detail::TooLarge { size, granules } => {
                 let needed = counted(size.div_ceil(Geometry::GRANULE_BYTES), "granule");
                 format!("a size of {size} bytes needs {needed}, the runs have {granules}")
             }
-            Detail::OnDirectory { granule, run } => {
-                format!("granule {granule} of run {run} is the directory's, but the file has no system flag")
+            Detail::OnDirectory { ref granules, run } => {
+                let these = listed(granules);
+                format!("{these} of run {run} {} the directory's, but the file has no system flag", is(granules))
             }
             Detail::DirectoryFree { granule } => {
                 format!("granule {granule} is the directory's, but free in the GAT ({})", gat(granule))
@@ -309,6 +311,13 @@ impl Detail {
 
 fn counted(number: usize, thing: &str) -> String {
     format!("{number} {thing}{}", if number == 1 { "" } else { "s" })
+}
+
+fn is(granules: &[usize]) -> &'static str {
+    match granules {
+        [_] => "is",
+        _ => "are",
+    }
 }
 
 /// `granule 3`, `granules 3 to 5 and 9`.

@@ -74,23 +74,29 @@ pub(super) fn wrong_link(reading: &Reading, extension: u8) -> Option<u8> {
     wrong.filter(|_| from.contains(&back))
 }
 
-/// Whether an entry in use cannot stay: it has a fault for which its kind allows no smaller change.
-pub(super) fn cannot_stay(reading: &Reading, slot: u8) -> bool {
-    let doom = at(reading, slot).into_iter().any(|detail| match detail {
+/// Why an entry in use cannot stay: a fault for which its kind allows no smaller change, with the slot that it is told of.
+pub(super) fn why_not(reading: &Reading, slot: u8) -> Option<(u8, Detail)> {
+    let doom = at(reading, slot).into_iter().find(|detail| match detail {
         Detail::MetTwice { .. } => wrong_link(reading, slot).is_none(),
         Detail::HitZero | Detail::HitOfUnused { .. } | Detail::HitNotHash { .. } => false,
         Detail::BitFive { .. } | Detail::SameName { .. } => false,
         Detail::Free { .. } | Detail::AlsoIn { .. } | Detail::DirectoryFree { .. } => false,
         _ => true,
     });
+    // Its link may lead to an extension that is another's.
     let link = reading.entry(slot).link();
-    let next = reading.walks.meetings(link).any(|meeting| meeting.before == slot);
-    doom || next && wrong_link(reading, link).is_some() && reading.entry(link).back() != slot
+    let wrong = || {
+        let next = reading.walks.meetings(link).any(|meeting| meeting.before == slot);
+        let others = next && wrong_link(reading, link).is_some() && reading.entry(link).back() != slot;
+        let twice = |detail: &Detail| matches!(detail, Detail::MetTwice { .. });
+        others.then(|| at(reading, link).into_iter().find(twice)).flatten()
+    };
+    doom.map(|detail| (slot, detail)).or_else(|| wrong().map(|detail| (link, detail)))
 }
 
-/// Whether a file cannot stay: one of its entries cannot.
-pub(super) fn file_cannot_stay(reading: &Reading, file: u8) -> bool {
-    own_entries(reading, file).into_iter().any(|slot| cannot_stay(reading, slot))
+/// Why a file cannot stay: one of its entries cannot.
+pub(super) fn why_not_file(reading: &Reading, file: u8) -> Option<(u8, Detail)> {
+    own_entries(reading, file).into_iter().find_map(|slot| why_not(reading, slot))
 }
 
 /// Whether an entry's HIT byte says that it is a file, though byte 00 says that it is not in use, or an extension (then one that

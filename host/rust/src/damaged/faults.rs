@@ -1,4 +1,5 @@
 use super::detail::Detail;
+use super::evidence::lost_by_flags;
 use super::length::presumed;
 use super::walks::{bad_entry, bad_extension};
 use super::{place, Reading};
@@ -16,7 +17,8 @@ pub struct FaultFound {
     pub touches: Vec<u8>,
 }
 
-/// A file of a disk that may not be consistent: an entry that is in use and primary, whatever else it is.
+/// A file of a disk that may not be consistent: an entry that is in use and primary, whatever else it is; or one of which only byte
+/// 00 says that it is not, while its HIT byte bears out its name.
 #[derive(Clone, Copy, Debug, PartialEq, Eq)]
 #[non_exhaustive]
 pub struct FileFound {
@@ -85,7 +87,8 @@ fn of_image(image: &[u8], g: Geometry) -> Option<Faults> {
     };
     let mut all: Vec<FaultFound> = length.into_iter().collect();
     all.extend(found(&reading));
-    let files = reading.files().map(|slot| {
+    let files = reading.slots().filter(|&slot| reading.entry(slot).is_file() || lost_by_flags(&reading, slot));
+    let files = files.map(|slot| {
         let touched = all.iter().any(|found| found.told.fault.slot.is_some() && found.touches.contains(&slot));
         FileFound { slot, name: reading.entry(slot).name(), touched }
     });
@@ -116,7 +119,7 @@ pub(crate) fn found(reading: &Reading) -> Vec<FaultFound> {
     all
 }
 
-fn told(reading: &Reading, slot: Option<u8>, detail: Detail) -> FaultFound {
+pub(super) fn told(reading: &Reading, slot: Option<u8>, detail: Detail) -> FaultFound {
     let (sector, byte) = slot.map(place).unzip();
     let told = Explained {
         fault: Fault { kind: detail.kind(), slot },
@@ -133,7 +136,8 @@ fn told(reading: &Reading, slot: Option<u8>, detail: Detail) -> FaultFound {
 /// The files that a fault of a slot touches, rising.
 fn touched(reading: &Reading, slot: u8, detail: &Detail) -> Vec<u8> {
     let met = reading.walks.meetings(slot).map(|meeting| meeting.file);
-    let mut files: Vec<u8> = met.chain(reading.file_of(slot)).collect();
+    let lost = lost_by_flags(reading, slot).then_some(slot);
+    let mut files: Vec<u8> = met.chain(reading.file_of(slot)).chain(lost).collect();
     match detail {
         Detail::SameName { lower } | Detail::AlsoIn { lower, .. } => files.extend(reading.file_of(*lower)),
         _ => {}
@@ -206,11 +210,21 @@ fn numbered(reading: &Reading, slot: u8) -> Vec<(usize, usize)> {
     all.filter(|&(granule, _)| granule < reading.granules()).collect()
 }
 
+/// Granules with the numbers of their runs, put together by run.
+fn by_run(numbered: impl Iterator<Item = (usize, usize)>) -> Vec<(usize, Vec<usize>)> {
+    let mut runs: Vec<(usize, Vec<usize>)> = Vec::new();
+    for (granule, run) in numbered {
+        match runs.last_mut() {
+            Some((last, granules)) if *last == run => granules.push(granule),
+            _ => runs.push((run, vec![granule])),
+        }
+    }
+    runs
+}
+
 fn free(reading: &Reading, slot: u8, found: &mut Vec<Detail>) {
-    let own = numbered(reading, slot).into_iter();
-    found.extend(
-        own.filter(|&(granule, _)| !reading.taken(granule)).map(|(granule, run)| Detail::Free { granule, run }),
-    );
+    let own = numbered(reading, slot).into_iter().filter(|&(granule, _)| !reading.taken(granule));
+    found.extend(by_run(own).into_iter().map(|(run, granules)| Detail::Free { granules, run }));
 }
 
 fn shared(reading: &Reading, slot: u8, found: &mut Vec<Detail>) {
@@ -258,7 +272,7 @@ fn on_directory(reading: &Reading, slot: u8, found: &mut Vec<Detail>) {
     }
     let directory = reading.directory_granules();
     let own = numbered(reading, slot).into_iter().filter(|(granule, _)| directory.contains(granule));
-    found.extend(own.map(|(granule, run)| Detail::OnDirectory { granule, run }));
+    found.extend(by_run(own).into_iter().map(|(run, granules)| Detail::OnDirectory { granules, run }));
 }
 
 /// The first fault of a kind at a slot that is found, for [`Disk::explain`].

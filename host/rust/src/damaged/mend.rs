@@ -1,6 +1,7 @@
-use super::choice::{choose, Grounds};
+use super::choice::{choose, why_out, Grounds};
 use super::doubt::{doubtful, Doubtful};
 use super::evidence::{lost_by_flags, Evidence};
+use super::faults::told;
 use super::length::presumed;
 use super::remedy::{ByteChange, Remedy};
 use super::Reading;
@@ -13,10 +14,19 @@ use std::fmt;
 pub struct Step {
     /// The fault that the library told of the copy as it then stood, in words.
     pub told: Explained,
+    /// Where an entry was taken out at its first fault because of another: that one, for which it cannot stay.
+    pub because: Option<Explained>,
     /// What was done.
     pub remedy: Remedy,
     /// The bytes that it changed; at least one.
     pub changes: Vec<ByteChange>,
+}
+
+impl Step {
+    /// The fault that decided what was done.
+    pub fn decisive(&self) -> &Explained {
+        self.because.as_ref().unwrap_or(&self.told)
+    }
 }
 
 /// A file of the damaged disk that the copy does not have.
@@ -94,7 +104,7 @@ impl<B: AsRef<[u8]>> Disk<B> {
     /// let mended = Disk::new(image, geometry).mend()?;
     /// assert_eq!(mended.disk.check(), Ok(()));
     /// let done: Vec<_> = mended.steps.iter().map(|step| step.remedy.to_string()).collect();
-    /// assert_eq!(done, ["slot 80H taken out of the directory", "the HIT byte of slot 81H is put to the hash, C7H"]);
+    /// assert_eq!(done, ["slot 80H taken out of the directory", "the HIT byte of slot 81H is put to the hash, 01H"]);
     /// assert_eq!(mended.dropped[0].name.to_string(), "PULS01/DAT");
     /// assert_eq!(mended.doubtful[0].name.to_string(), "PULS02/DAT");
     /// # Ok::<(), Box<dyn std::error::Error>>(())
@@ -131,12 +141,12 @@ pub(super) fn mend(image: &[u8], g: Geometry, preferred: Option<u8>) -> Result<M
             return Err(gave_up);
         }
         let reading = Reading::of(disk.image(), g);
-        let (remedy, changes) = match (fault.kind, &reading) {
+        let (remedy, changes, because) = match (fault.kind, &reading) {
             (FaultKind::DirectoryLength, _) => {
                 let reading = presumed(disk.image(), g).ok_or(gave_up.clone())?;
                 let remedy = Remedy::Length { sectors: reading.sectors };
                 let changes = remedy.changes(&reading, disk.image());
-                (remedy, changes)
+                (remedy, changes, None)
             }
             (_, Some(now)) => {
                 let grounds = grounds.get_or_insert_with(|| Grounds {
@@ -149,7 +159,8 @@ pub(super) fn mend(image: &[u8], g: Geometry, preferred: Option<u8>) -> Result<M
                     grounds.hits_put.push(slot);
                 }
                 let changes = remedy.changes(now, disk.image());
-                (remedy, changes)
+                let because = because(now, fault, &remedy);
+                (remedy, changes, because)
             }
             (_, None) => return Err(gave_up),
         };
@@ -163,11 +174,19 @@ pub(super) fn mend(image: &[u8], g: Geometry, preferred: Option<u8>) -> Result<M
             copy[change.image_byte] = change.after;
         }
         disk = Disk::new(copy, g);
-        steps.push(Step { told, remedy, changes });
+        steps.push(Step { told, because, remedy, changes });
     }
     let dropped = dropped(image, &disk, &steps);
     let doubtful = doubtful(image, &disk, &steps);
     Ok(Mended { disk, steps, dropped, doubtful })
+}
+
+/// The fault for which a slot was taken out, if it is another than the one that the library told.
+fn because(now: &Reading, fault: Fault, remedy: &Remedy) -> Option<Explained> {
+    let slot = fault.slot.filter(|slot| matches!(remedy, Remedy::TakenOut { slots } if slots.contains(slot)))?;
+    let (slot, detail) = why_out(now, slot)?;
+    let told = told(now, Some(slot), detail).told;
+    (told.fault != fault).then_some(told)
 }
 
 /// The reading of the damaged image under the directory length of the copy.

@@ -31,7 +31,7 @@ impl<'a> Reading<'a> {
         let sectors = image.len() / Geometry::SECTOR_BYTES;
         let room = sectors.checked_sub(g.start);
         g.image_len() == Some(image.len())
-            && g.start % Geometry::GRANULE_SECTORS == 0
+            && g.start.is_multiple_of(Geometry::GRANULE_SECTORS)
             && room.is_some_and(|room| room >= Self::LEAST_SECTORS)
     }
 
