@@ -25,14 +25,14 @@ pub const COMMAND: Command = Command {
     summary: "make a consistent copy of a damaged disk",
     usage: "[OPTIONS] IMAGE -o COPY",
     about: "\
-Writes a copy of the image in which every fault is mended by the smallest change that takes it away: a HIT byte is
-put to its hash or to 0, a missing GAT bit is set, bit 5 is cleared, the directory's length is put to the one for which most
-speaks. A file whose chain is broken, whose name or runs cannot be, whose size is too large, or whose granule or name is
-another's too, is taken out of the directory; its bytes stay where they are, and nothing can overwrite them. Of two files
-that cannot both stay, the one goes against which more speaks; else the one in the higher slot. The library checks the copy
-after each change, until it is consistent.
-Told are each fault and each byte changed, the files that were dropped, and those that are doubtful. The image itself is
-never written. Its geometry should be stated: a damaged disk is seldom found by search.
+Writes a copy of the image in which every fault is mended by the smallest change that takes it away: a HIT byte is put
+to its hash or to 0, a missing GAT bit is set, bit 5 of byte 00 is cleared, the directory gets the length for which
+most speaks, an entry of which only byte 00 says that it is no file is put back. A file whose chain is broken, whose
+name or run cannot be, or whose size is too large is taken out of the directory; its bytes stay where they are, and its
+granules stay taken. Of two files with one granule or one name the one goes against which more speaks, else the one in
+the higher slot. The library checks the copy after each change, until it is consistent.
+Told are each fault, each byte changed, the files that were dropped, and those that are doubtful. The image itself is
+never written. State its geometry: a damaged disk is seldom found by search.
 ",
     groups: &[
         ("Options", &[OUTPUT, DRY_RUN, Spec { help: "replace a copy that is there", ..FORCE }, JSON]),

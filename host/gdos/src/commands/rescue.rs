@@ -34,17 +34,20 @@ pub const COMMAND: Command = Command {
     about: "\
 Mends a copy of the disk in memory (see gdos mend) and reads its files from there, system files too, without asking for
 passwords: PULS01/DAT goes to FOLDER/PULS01.DAT. Files about which there is doubt are written only with --doubtful, to
-FOLDER/doubtful: those whose granules or name another entry had too, whose granules the GAT marked as free, whose
-HIT byte does not bear out their name, or that may have been killed. Of two files that have one granule, both are doubtful,
-and both are written. A line tells of each file, and of each that could not be had.
-What no rule can tell is not told: a size, a run or a date that was changed so that the disk is still consistent.
-The image is never written. Its geometry should be stated: a damaged disk is seldom found by search.
+FOLDER/doubtful: those of which a granule or the name stood in another entry too, a granule was free in the GAT, the
+HIT byte did not bear out the name, or byte 00 said that they were killed. Of two files that stand against each other
+both are read. A line tells of each file, and of each that could not be had.
+What no rule can tell is not told: an end, a run or a name that was changed so that the disk is still consistent.
+The image is never written. State its geometry: a damaged disk is seldom found by search.
 ",
     groups: &[
         ("Options", &[OUTPUT, DOUBTFUL, Spec { help: "overwrite files of the host", ..FORCE }, JSON]),
         (shape::TITLE, shape::OPTIONS),
     ],
-    examples: &["gdos rescue --preset dd40 disk.img -o series", "gdos rescue --preset dd40 disk.img -o series --doubtful"],
+    examples: &[
+        "gdos rescue --preset dd40 disk.img -o series",
+        "gdos rescue --preset dd40 disk.img -o series --doubtful",
+    ],
     run,
 };
 
@@ -68,7 +71,6 @@ fn run(args: &Args) -> Result<Output, Failure> {
     let mut output = opened.output();
     let mut told = Vec::new();
     let mut used: Vec<PathBuf> = Vec::new();
-    make(&folder)?;
     for Had { file, elsewhere } in &had {
         let doubtful = !file.doubts.is_empty();
         let wanted = !doubtful || args.has(DOUBTFUL.long);
@@ -80,7 +82,7 @@ fn run(args: &Args) -> Result<Output, Failure> {
         }
         used.push(host.clone());
         let written = match wanted {
-            true => write(&host, &file.bytes, args.has("force")).map(|()| true),
+            true => write(&folder, &host, &file.bytes, args.has("force")).map(|()| true),
             false => Ok(false),
         };
         match written {
@@ -147,7 +149,8 @@ fn make(folder: &Path) -> Result<(), Failure> {
     }
 }
 
-fn write(host: &Path, bytes: &[u8], force: bool) -> Result<(), Failure> {
+fn write(folder: &Path, host: &Path, bytes: &[u8], force: bool) -> Result<(), Failure> {
+    make(folder)?;
     host.parent().map_or(Ok(()), make)?;
     host::write(host, bytes, force)
 }

@@ -40,6 +40,33 @@ impl Random {
     }
 }
 
+/// What is promised of any image at all: the first fault found is the library's, mending ends with a copy that the library's check
+/// accepts, and its files can be read. Answers whether there was anything to mend.
+pub fn feed(disk: &Disk<&[u8]>, read: bool) -> bool {
+    let told = disk.check();
+    let faults = disk.faults();
+    let mended = disk.mend();
+    let Ok(faults) = faults else {
+        assert_eq!((told, mended.err()), (Err(Refusal::Geometry), Some(Unmended::Refused(Refusal::Geometry))));
+        return false;
+    };
+    let first = faults.found.first().map(|found| found.told.fault);
+    assert_eq!(first, told.err().map(|refusal| refusal.fault().expect("a fault")));
+    let mended = mended.expect("mended");
+    assert_eq!(mended.disk.check(), Ok(()));
+    assert_eq!(mended.steps.is_empty(), first.is_none());
+    if read {
+        let rescued = mended.rescue().expect("read");
+        assert_eq!(rescued.len(), mended.disk.entries().unwrap().len());
+    }
+    if let Some(dropped) = mended.dropped.first() {
+        if let Some(other) = Mended::with(disk, dropped).expect("mended") {
+            assert_eq!(other.disk.check(), Ok(()));
+        }
+    }
+    !mended.steps.is_empty()
+}
+
 /// Where a slot's entry begins in the image.
 pub fn entry_at(g: Geometry, slot: u8) -> usize {
     (g.start + usize::from(slot % 32) + 2) * 256 + 32 * usize::from(slot / 32)
