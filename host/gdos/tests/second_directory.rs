@@ -1,6 +1,6 @@
 //! Never the wrong disk: images with a second directory (of an older format, of a copy kept as a file, of another length),
-//! and the true one damaged in one byte, at each place in use, or in one sector. Nobody states a geometry. A read that ends with status 0 has
-//! handed out the file's own bytes, and no image is changed.
+//! and the true one damaged in one byte, at each place in use, or in one sector. Nobody states a geometry. A read that ends
+//! with status 0 has handed out the file's own bytes, and no image is changed.
 //!
 //! The program runs within the test, word for word as from the command line; every hundredth image also as a process.
 
@@ -77,7 +77,7 @@ fn older_format() -> Made {
     Made { kind: "an older format", image: disk.into_image(), truth: DD40, other: Some(old) }
 }
 
-/// A directory of another disk kept as a file, which comes to lie where it would be one; as in the review.
+/// A directory of another disk kept as a file, which comes to lie where it would be one.
 fn copy_kept_as_a_file() -> Made {
     let old = Geometry { start: 5, ..DD40 };
     let mut older = blank(old, 10, &[0]);
@@ -101,6 +101,15 @@ fn another_length(sectors: usize, older_sectors: usize) -> Made {
     let mut disk = formatted_anew(&older, DD40, sectors, &reserved);
     put(&mut disk, &SERIES, 0x22);
     Made { kind: "a directory of another length", image: disk.into_image(), truth: DD40, other: Some(old) }
+}
+
+/// The disk was formatted anew and is empty: no file of it can be read, and none of the older disk's.
+fn formatted_and_empty() -> Made {
+    let old = Geometry { start: 5, ..DD40 };
+    let mut older = blank(old, 10, &[0]);
+    put(&mut older, &[("PULS01/DAT", 9000), ("PULS02/DAT", 9000), ("ALT/DAT", 700)], 0x11);
+    let disk = formatted_anew(&older, DD40, 10, &[0]);
+    Made { kind: "formatted anew and empty", image: disk.into_image(), truth: DD40, other: Some(old) }
 }
 
 /// The older directory is the stronger by far, and one of its files lies over the newer directory, which has one file.
@@ -282,8 +291,8 @@ fn attacked(made: Made) -> Tally {
     assert!(made.other.is_none() || traps > 0, "{}: no trap", made.kind);
     let _ = writeln!(
         std::io::stderr(),
-        "{}: {images} images tried, in {traps} of them the other directory is the only intact one; {reads} reads ({done} with status 0, none of them wrong), {changes} changes refused or \
-         rightly made, {spawned} images by a process too",
+        "{}: {images} images tried, in {traps} of them the other directory is the only intact one; {reads} reads ({done} \
+         with status 0, none of them wrong), {changes} changes refused or rightly made, {spawned} images by a process too",
         made.kind
     );
     tally
@@ -292,6 +301,11 @@ fn attacked(made: Made) -> Tally {
 #[test]
 fn an_older_format() {
     assert_eq!(attacked(older_format()).done, 0);
+}
+
+#[test]
+fn formatted_anew_and_empty() {
+    assert_eq!(attacked(formatted_and_empty()).done, 0);
 }
 
 #[test]

@@ -7,6 +7,7 @@
 //!   poke FILE AT BYTES     other bytes into a file; numbers are decimal or as 4CH
 //!   cmp FILE FILE          both must be the same
 //!   cut FILE FROM BYTES TO a part of a file as another one
+//!   lay FILE AT OTHER      the bytes of another file into it
 //!   drop FILE              removes it
 //!   write FILE WORDS       a file of one line
 //!   with NAME=VALUE gdos   the program with a variable of the environment
@@ -248,6 +249,10 @@ fn run(folder: &Folder, words: &[String]) -> Done {
         ["cut", from, at, bytes, to] => {
             let (at, bytes) = (number(at), number(bytes));
             folder.write(to, &folder.read(from)[at..at + bytes]);
+            nothing
+        }
+        ["lay", file, at, other] => {
+            folder.poke(file, number(at), &folder.read(other));
             nothing
         }
         ["drop", file] => {

@@ -79,6 +79,10 @@ fn told(search: &Search) -> String {
         Verdict::NoName => "no file speaks for the only consistent reading",
         Verdict::AnotherPlace => "another directory speaks against the only consistent reading",
         Verdict::Longer => "names beyond its length speak against the only consistent reading",
+        Verdict::Blank(blank) => {
+            let blank = shape::options(blank, "");
+            return format!("none taken: a directory without files seems to be there too: {blank}");
+        }
         Verdict::OtherUnits(rival) => {
             let rival = shape::options(rival, "");
             return format!("none taken: with one byte damaged {rival} would fit as well");

@@ -30,6 +30,8 @@ pub struct Evidence {
 struct Sign {
     sector: usize,
     whole: bool,
+    /// The entry is in use.
+    used: bool,
 }
 
 impl Evidence {
@@ -48,7 +50,8 @@ impl Evidence {
                 _ if seen.contains(&slots.name(slot)) => against[number] += 1,
                 says => {
                     seen.push(slots.name(slot));
-                    signs.push(Sign { sector: start + number, whole: says == Says::Name });
+                    let (whole, used) = (says == Says::Name, slots.is_used(slot));
+                    signs.push(Sign { sector: start + number, whole, used });
                 }
             }
         }
@@ -65,9 +68,12 @@ impl Evidence {
         Evidence { names, nearly, beyond: signs.len() - names - nearly, signs, ..self }
     }
 
-    /// The same without the entries that stand in these sectors, which are another directory's own.
+    /// The same without the entries that stand in these sectors, which are another directory's own. What is not in use
+    /// there is no file of that one; it is left out too, as a removed file's, unless next to nothing speaks against this
+    /// place: seen from the wrong sector a directory contradicts itself in many slots.
     pub fn without(&self, sectors: &Range<usize>) -> Evidence {
-        let signs = self.signs.iter().filter(|sign| !sectors.contains(&sign.sector)).copied().collect();
+        let own = |sign: &Sign| sectors.contains(&sign.sector) && (sign.used || self.against > 1);
+        let signs = self.signs.iter().filter(|sign| !own(sign)).copied().collect();
         self.clone().with(signs)
     }
 

@@ -1,6 +1,7 @@
 //! The search for an image's geometry. It judges by evidence: where a directory may begin, what speaks for it and what
 //! against it; and it takes a geometry by itself only where nothing speaks for another.
 
+mod blank;
 mod evidence;
 mod fit;
 mod ranking;

@@ -45,6 +45,16 @@ impl<'a> Slots<'a> {
         10 + usize::from(self.hit(0x1f))
     }
 
+    /// Whether a slot is in use by its entry.
+    pub fn is_used(&self, slot: usize) -> bool {
+        self.entry(slot, 0x00) & 0x10 != 0
+    }
+
+    /// Whether a slot is not in use, by HIT and entry.
+    pub fn is_blank(&self, slot: usize) -> bool {
+        self.hit(slot) == 0 && !self.is_used(slot)
+    }
+
     /// The name in a slot, well formed or not.
     pub fn name(&self, slot: usize) -> [u8; Name::LEN] {
         std::array::from_fn(|i| self.entry(slot, 0x05 + i))

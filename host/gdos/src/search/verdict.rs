@@ -1,8 +1,10 @@
 //! What the search makes of the evidence. It takes a geometry only if it is consistent, if a name speaks for its
 //! directory, and if nothing speaks for another: neither for a directory at another place, nor for slots beyond its own
-//! length, nor for other blocks and units that one damaged byte would account for. That a file lies over another directory
+//! length, nor for other blocks and units that one damaged byte would account for; nor does a known kind of disk seem to
+//! have its directory there without files, as a disk has that was formatted anew. That a file lies over another directory
 //! explains nothing: an older disk's file may lie over the newer directory just so.
 
+use super::blank::blank_elsewhere;
 use super::evidence::Evidence;
 use super::fit::Fit;
 use super::ranking::{consistent, everywhere, ranked, Candidate, Reading};
@@ -38,6 +40,8 @@ pub enum Verdict {
     AnotherPlace,
     /// The same, but its HIT says that the directory is shorter than names speak for.
     Longer,
+    /// The same, but at the place of this known kind of disk there seems to be a directory without files.
+    Blank(Geometry),
     /// The same, but these blocks and units would fit as well if one byte of run or GAT were damaged.
     OtherUnits(Geometry),
 }
@@ -75,6 +79,9 @@ fn verdict(image: &[u8], wanted: &Wanted, tried: &[Geometry], intact: &[Reading]
         }
         if here.names == 0 {
             return Verdict::NoName;
+        }
+        if let Some(blank) = blank_elsewhere(image, &own) {
+            return Verdict::Blank(blank);
         }
     }
     match rival(image, geometry, sectors, tried) {
@@ -140,6 +147,45 @@ mod tests {
         let gat = geometry.start * Geometry::SECTOR_BYTES;
         image[gat..gat + geometry.blocks].iter_mut().for_each(|byte| *byte |= spare << geometry.units);
         image
+    }
+
+    /// The newer directory lies within the older, longer one, and its only file's flag byte is damaged: to the older one
+    /// that is a removed file's entry.
+    #[test]
+    fn a_directory_within_another() {
+        let (old, new) = (Geometry::new(48, 3, 345, 0x4296), Geometry::new(48, 3, 360, 0x4296));
+        let mut tried = 0;
+        for number in 0..40 {
+            let mut image = disk(old, 30, 3, 0);
+            let mut newer = Disk::blank(new, 10, &[0]).unwrap();
+            let name = format!("NEU{number}").parse().unwrap();
+            newer.create(&name, &NewFile::open(new, Date::new(1983, 10, 9))).unwrap();
+            image[360 * 256..370 * 256].copy_from_slice(&newer.image()[360 * 256..370 * 256]);
+            image[362 * 256 + 128] = 0;
+            // Where the new HIT byte read as an older entry's flags is not in use, the older one is consistent.
+            if Disk::new(image.as_slice(), old).check().is_ok() {
+                tried += 1;
+                assert!(!matches!(search(&image, &anything()).verdict, Verdict::Taken(_)), "{number}");
+            }
+        }
+        assert!(tried > 5, "{tried}");
+    }
+
+    /// A disk with removed files is found like any other.
+    #[test]
+    fn removed_files_do_not_speak() {
+        for geometry in PRESETS.iter().map(|preset| preset.geometry).filter(|g| g.blocks * g.units > 100) {
+            for sectors in [10, 20, 30] {
+                let mut disk = Disk::new(disk(geometry, sectors, 28, 0), geometry);
+                for number in (0..28).filter(|number| number % 4 > 0) {
+                    let name = format!("P{number:03}/DAT").parse().unwrap();
+                    let handle = disk.open(&name, 256, Password::Unchecked).unwrap();
+                    disk.kill(&handle).unwrap();
+                }
+                let found = search(disk.image(), &anything());
+                assert_eq!(found.verdict, Verdict::Taken(geometry), "{:?}", found.ranking);
+            }
+        }
     }
 
     /// Whatever the bytes are, an answer comes, and what is taken is consistent: directories cut up and laid anywhere.

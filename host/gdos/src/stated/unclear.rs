@@ -26,6 +26,10 @@ pub fn failure(search: &Search, wanted: &Wanted, image: &[u8], path: &str) -> Fa
             let why = "by its HIT the directory is shorter than the names that are there";
             to_state(search, wanted, path, why, Vec::new())
         }
+        Verdict::Blank(blank) => {
+            let also = format!("  also, without files: {}", shape::options(blank, wanted.suffix()));
+            to_state(search, wanted, path, "the disk may have been formatted anew and be empty", vec![also])
+        }
         Verdict::OtherUnits(rival) => {
             let also = format!("  also, with one byte damaged: {}", shape::options(rival, wanted.suffix()));
             to_state(search, wanted, path, "other blocks and units fit nearly as well", vec![also])
