@@ -3,7 +3,7 @@
 use crate::fault;
 use crate::json::Json;
 use crate::text;
-use genie_dos::{ByteChange, Doubt, Explained, FaultFound, Faults, FileFound, Name, Step};
+use genie_dos::{ByteChange, Doubt, Explained, FaultFound, FaultKind, Faults, FileFound, Name, Step};
 
 /// A fault as a line: `27 (GAT bit missing): slot 80H, ...: granule 1 of run 1 is free in the GAT`.
 pub fn line(told: &Explained) -> String {
@@ -28,6 +28,12 @@ pub fn faults_text(faults: &Faults) -> String {
     };
     let mut text: String =
         faults.found.iter().map(|found| format!("  {}\n", found_line(found, &faults.files))).collect();
+    if faults.found.first().is_some_and(|found| found.told.fault.kind == FaultKind::DirectoryLength) {
+        text += &format!(
+            "  all but the first as of a directory of {} sectors, for which most speaks\n",
+            faults.directory_sectors
+        );
+    }
     for (title, files) in [("touched", files(true)), ("not touched", files(false))] {
         text += &match files.as_slice() {
             [] => format!("  {title}: no file\n"),

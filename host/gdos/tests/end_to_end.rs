@@ -285,6 +285,13 @@ fn a_damaged_image_is_never_written() {
     assert_eq!(folder.gdos(&["mend", "d.img", "-n"]).status, 0);
     assert!(folder.everything() == before);
 
+    // Nor is an image that has the name of one of its files.
+    folder.write("LEER", folder.read("d.img"));
+    let image = folder.read("LEER");
+    let done = folder.gdos(&["rescue", "LEER", "--preset", "sample", "-o", ".", "--force"]);
+    assert_eq!((done.status, done.err.contains("never written")), (2, true), "{}", done.err);
+    assert!(folder.read("LEER") == image);
+
     // The copy is whole or not there, also where the file beside it is in the way.
     folder.write("copy.img.gdos", "mine\n");
     assert_eq!(folder.gdos(&["mend", "d.img", "-o", "copy.img"]).status, 2);

@@ -7,13 +7,12 @@ use super::{Command, Output, FORCE, JSON};
 use crate::args::{Args, Spec};
 use crate::damage;
 use crate::failure::Failure;
+use crate::host;
 use crate::json::Json;
 use crate::shape::{self, Wanted};
 use crate::text::{self, counted};
 use genie_dos::{Mended, Unmended};
 use std::ffi::OsStr;
-use std::fs;
-use std::os::unix::fs::MetadataExt;
 use std::path::Path;
 
 const OUTPUT: Spec = Spec { long: "output", short: Some(b'o'), value: Some("COPY"), help: "the image to write" };
@@ -50,11 +49,8 @@ fn run(args: &Args) -> Result<Output, Failure> {
         (Some(_), true) => return Err(Failure::Wrong("--dry-run writes nothing, so -o has no use".to_string())),
         (None, false) => return Err(Failure::Wrong("which copy? -o COPY names it; or --dry-run".to_string())),
     };
-    if copy.is_some_and(|copy| same_file(image, copy)) {
-        return Err(Failure::Wrong(format!(
-            "{} is the image itself, which is never written",
-            shown(copy.unwrap_or(image))
-        )));
+    if let Some(copy) = copy.filter(|copy| host::same_file(Path::new(image), Path::new(copy))) {
+        return Err(Failure::Wrong(format!("{} is the image itself, which is never written", shown(copy))));
     }
     let opened = Opened::unchecked(&Wanted::from_args(args)?, image)?;
     let mended = mended(&opened)?;
@@ -74,12 +70,6 @@ pub fn mended(opened: &Opened) -> Result<Mended, Failure> {
         Unmended::Refused(refusal) => opened.refused(refusal),
         gave_up => Failure::Wrong(format!("{}: {gave_up}", opened.path)),
     })
-}
-
-/// Whether two names lead to one file of the host.
-fn same_file(one: &OsStr, other: &OsStr) -> bool {
-    let identity = |path: &OsStr| fs::metadata(Path::new(path)).map(|data| (data.dev(), data.ino()));
-    matches!((identity(one), identity(other)), (Ok(one), Ok(other)) if one == other)
 }
 
 fn report(opened: &Opened, mended: &Mended, copy: Option<&OsStr>) -> String {

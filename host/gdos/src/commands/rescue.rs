@@ -74,22 +74,26 @@ fn run(args: &Args) -> Result<Output, Failure> {
     for Had { file, elsewhere } in &had {
         let doubtful = !file.doubts.is_empty();
         let wanted = !doubtful || args.has(DOUBTFUL.long);
-        let mut host = if doubtful { folder.join(DOUBTFUL_FOLDER) } else { folder.clone() };
-        host.push(host_name(&file.entry.name()));
+        let mut path = if doubtful { folder.join(DOUBTFUL_FOLDER) } else { folder.clone() };
+        path.push(host_name(&file.entry.name()));
         // Two doubtful files of one name are told apart by their slots.
-        if used.contains(&host) {
-            host.as_mut_os_string().push(format!("-slot{}", text::slot(file.entry.slot().into())));
+        if used.contains(&path) {
+            path.as_mut_os_string().push(format!("-slot{}", text::slot(file.entry.slot().into())));
         }
-        used.push(host.clone());
+        used.push(path.clone());
         let written = match wanted {
-            true => write(&folder, &host, &file.bytes, args.has("force")).map(|()| true),
+            true if host::same_file(Path::new(image), &path) => Err(Failure::Wrong(format!(
+                "{} is the image itself, which is never written; choose another folder",
+                path.display()
+            ))),
+            true => write(&folder, &path, &file.bytes, args.has("force")).map(|()| true),
             false => Ok(false),
         };
         match written {
             Ok(written) => {
                 output.changed |= written;
-                output.text.extend(line(file, written.then_some(host.as_path())).into_bytes());
-                told.push(json(file, written.then_some(host.as_path()), *elsewhere));
+                output.text.extend(line(file, written.then_some(path.as_path())).into_bytes());
+                told.push(json(file, written.then_some(path.as_path()), *elsewhere));
             }
             Err(failure) => output.failures.push(failure),
         }
