@@ -157,11 +157,16 @@ fn one(sound: &Sound, random: &mut Random, flips: usize, used: bool) -> Figures 
     let mended = damaged.mend().unwrap();
     assert_eq!(damaged.image(), as_damaged, "the image is as it was");
     assert_eq!(mended.disk.check(), Ok(()));
-    // The report has every byte that was changed, and the copy is the image with these changes.
+    // The report has every byte that was changed, and the copy is the image with these changes. Before each step the first fault
+    // found was the one that the library told: so the faults behind the first are held against the library too.
     let mut replayed = as_damaged.clone();
-    for change in mended.steps.iter().flat_map(|step| &step.changes) {
-        assert_eq!(replayed[change.image_byte], change.before);
-        replayed[change.image_byte] = change.after;
+    for step in &mended.steps {
+        let now = Disk::new(replayed.as_slice(), g).faults().unwrap();
+        assert_eq!(now.found.first().map(|found| &found.told), Some(&step.told));
+        for change in &step.changes {
+            assert_eq!(replayed[change.image_byte], change.before);
+            replayed[change.image_byte] = change.after;
+        }
     }
     assert!(replayed == mended.disk.image(), "the copy is the image with the changes told");
     assert_eq!(mended.steps.is_empty(), told.is_none());
