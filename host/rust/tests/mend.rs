@@ -114,8 +114,19 @@ fn hit_bytes() {
 #[test]
 fn names() {
     mends(&[(at(LEER, 0), 0x30)], &["bit 5 of byte 00 of slot 85H is cleared"], &[], &[]);
-    mends(&[(at(LEER, 5), b'l')], &["slot 85H taken out of the directory"], &[LEER], &[]);
-    mends(&[(at(A, 5), b'l')], &["slots 80H, 82H taken out of the directory"], &[A], &[]);
+    // One byte that no name can have: the HIT byte gives it back.
+    let leer = "byte 05H of the name of slot 85H is put to 4CH, as its HIT byte demands";
+    let was = "its name was \"lEER       \", mended by its HIT byte: it may have had another";
+    mends(&[(at(LEER, 5), b'l')], &[leer], &[], &[(LEER, was)]);
+    let puls = "byte 0AH of the name of slot 80H is put to 31H, as its HIT byte demands";
+    let was = "its name was \"PULS0\\x00  DAT\", mended by its HIT byte: it may have had another";
+    mends(&[(at(A, 10), 0)], &[puls], &[], &[(A, was)]);
+    let blank = "byte 07H of the name of slot 80H is put to 4CH, as its HIT byte demands";
+    let was = "its name was \"PU S01  DAT\", mended by its HIT byte: it may have had another";
+    mends(&[(at(A, 7), b' ')], &[blank], &[], &[(A, was)]);
+    // Not two bytes, nor one where the HIT byte was changed as well, unless that makes another name.
+    mends(&[(at(LEER, 5), b'l'), (at(LEER, 6), b'e')], &["slot 85H taken out of the directory"], &[LEER], &[]);
+    mends(&[(at(A, 5), b'l'), (hit(A), 0)], &["slots 80H, 82H taken out of the directory"], &[A], &[]);
     // PULS01 becomes PULS02; its HIT byte speaks against it, and not against the other.
     mends(
         &[(at(A, 10), b'2')],

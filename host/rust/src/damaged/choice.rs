@@ -1,5 +1,5 @@
 use super::detail::Detail;
-use super::evidence::{own_entries, put_back, why_not, why_not_file, wrong_link, Evidence};
+use super::evidence::{name_by_hit, own_entries, put_back, why_not, why_not_file, wrong_link, Evidence};
 use super::faults::at;
 use super::remedy::Remedy;
 use super::Reading;
@@ -44,6 +44,10 @@ pub(super) fn choose(now: &Reading, grounds: &Grounds, fault: Fault) -> Remedy {
     let file = now.file_of(slot);
     if why_out(now, slot).is_some() {
         return take_out(now, slot);
+    }
+    // Its HIT byte, and its extensions', may be right and the name wrong.
+    if let Some((file, (place, byte))) = file.and_then(|file| Some((file, name_by_hit(now, file)?))) {
+        return Remedy::NamePut { slot: file, place, byte };
     }
     match (fault.kind, detail) {
         (FaultKind::HitAgainstEntry, Some(_)) if !grounds.hits_put.contains(&slot) => match file {

@@ -29,6 +29,11 @@ pub enum Doubt {
         /// The HIT byte.
         hit: u8,
     },
+    /// A byte of its name was damaged and was put to what its HIT byte demands: it may have had another name.
+    NameMended {
+        /// The bytes as they were.
+        was: Name,
+    },
     /// Another entry had its name: it may be that one's, or have had another name.
     SameName {
         /// The other entry's slot.
@@ -57,6 +62,13 @@ impl fmt::Display for Doubt {
             Doubt::HitWasZero => f.write_str("its HIT byte was 0: it may have been killed, or have had another name"),
             Doubt::NameNotBorneOut { hit } => {
                 write!(f, "its HIT byte was {hit:02X}H, not the hash of its name: it may have had another name")
+            }
+            Doubt::NameMended { was } => {
+                write!(
+                    f,
+                    "its name was \"{}\", mended by its HIT byte: it may have had another",
+                    was.as_bytes().escape_ascii()
+                )
             }
             Doubt::SameName { slot } => write!(f, "slot {slot:02X}H had the same name"),
             Doubt::WasNotInUse { flags } => {
@@ -126,6 +138,9 @@ fn doubts(before: &Reading, after: &Reading, steps: &[Step], file: u8) -> Vec<Do
         0 if !borne_out => doubts.push(Doubt::HitWasZero),
         hit if hit != name.hash() && !borne_out => doubts.push(Doubt::NameNotBorneOut { hit }),
         _ => {}
+    }
+    if before.entry(file).name() != name {
+        doubts.push(Doubt::NameMended { was: before.entry(file).name() });
     }
     let flags = before.entry(file).flags();
     if steps.iter().any(|step| step.remedy == Remedy::PutBack { slot: file }) {

@@ -3,7 +3,7 @@ use super::entry::RawEntry;
 use super::faults::{at, found};
 use super::walks::bad_entry;
 use super::Reading;
-use crate::{FaultKind, Geometry};
+use crate::{FaultKind, Geometry, Name};
 use std::collections::BTreeSet;
 
 /// How much speaks against each file of the damaged image, before anything was changed.
@@ -74,11 +74,34 @@ pub(super) fn wrong_link(reading: &Reading, extension: u8) -> Option<u8> {
     wrong.filter(|_| from.contains(&back))
 }
 
+/// The one byte, as its place in the name and its value, with which the name of a file that is none becomes a name whose hash is
+/// the file's HIT byte. None where no byte does it, or more than one, or where another file has that name.
+pub(super) fn name_by_hit(reading: &Reading, file: u8) -> Option<(usize, u8)> {
+    let (entry, hit) = (reading.entry(file), reading.hit(file));
+    if !entry.is_file() || entry.name().is_well_formed() || hit == 0 {
+        return None;
+    }
+    let with = |place: usize, byte: u8| {
+        let mut bytes = *entry.name().as_bytes();
+        bytes[place] = byte;
+        Name::from_bytes(bytes)
+    };
+    let all = (0..Name::LEN).flat_map(|place| (0..=u8::MAX).map(move |byte| (place, byte)));
+    let mut fitting = all.filter(|&(place, byte)| {
+        let name = with(place, byte);
+        name.is_well_formed() && name.hash() == hit
+    });
+    let (place, byte) = fitting.next()?;
+    let taken = reading.files().any(|other| reading.entry(other).name() == with(place, byte));
+    (fitting.next().is_none() && !taken).then_some((place, byte))
+}
+
 /// Why an entry in use cannot stay: a fault for which its kind allows no smaller change, with the slot that it is told of.
 pub(super) fn why_not(reading: &Reading, slot: u8) -> Option<(u8, Detail)> {
     let doom = at(reading, slot).into_iter().find(|detail| match detail {
         Detail::MetTwice { .. } => wrong_link(reading, slot).is_none(),
         Detail::HitZero | Detail::HitOfUnused { .. } | Detail::HitNotHash { .. } => false,
+        Detail::NameByte { .. } => name_by_hit(reading, slot).is_none(),
         Detail::BitFive { .. } | Detail::SameName { .. } => false,
         Detail::Free { .. } | Detail::AlsoIn { .. } | Detail::DirectoryFree { .. } => false,
         _ => true,

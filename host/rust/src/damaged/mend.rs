@@ -117,11 +117,11 @@ impl<B: AsRef<[u8]>> Disk<B> {
 /// Most steps that mending can take on a disk of so many granules.
 ///
 /// Each step lowers a number that cannot fall below 0. The number has one for a directory length that is not allowed, one for each
-/// clear GAT bit of the disk, and for each slot as many as there are steps left to it: put back, bit 5 cleared, HIT byte put to a
-/// hash, and taken out or HIT byte cleared; each is done once to a slot, and after the last one the slot is not in use with a HIT
-/// byte of 0, which no step changes. No step clears a GAT bit, and only the first touches the length.
+/// clear GAT bit of the disk, and for each slot as many as there are steps left to it: put back, name put, bit 5 cleared, HIT byte
+/// put to a hash, and taken out or HIT byte cleared. Each is done once to a slot, and after the last one the slot is not in use with
+/// a HIT byte of 0, which no step changes. No step clears a GAT bit, and only the first touches the length.
 fn most_steps(granules: usize) -> usize {
-    const STEPS_OF_A_SLOT: usize = 4;
+    const STEPS_OF_A_SLOT: usize = 5;
     1 + granules + STEPS_OF_A_SLOT * 256
 }
 

@@ -42,6 +42,15 @@ pub enum Remedy {
         /// The slot.
         slot: u8,
     },
+    /// A name that is none is given the one byte with which it is one, and its hash the HIT byte.
+    NamePut {
+        /// The slot.
+        slot: u8,
+        /// The byte's place in the name, 0 to 10.
+        place: usize,
+        /// The byte.
+        byte: u8,
+    },
     /// Bit 5 of byte 00 is cleared.
     BitFiveCleared {
         /// The slot.
@@ -73,6 +82,13 @@ impl fmt::Display for Remedy {
                 write!(f, "the HIT byte of slot {slot:02X}H is put to the hash, {hash:02X}H")
             }
             Remedy::HitCleared { slot } => write!(f, "the HIT byte of slot {slot:02X}H is put to 0"),
+            Remedy::NamePut { slot, place, byte } => {
+                let at = 0x05 + place;
+                write!(
+                    f,
+                    "byte {at:02X}H of the name of slot {slot:02X}H is put to {byte:02X}H, as its HIT byte demands"
+                )
+            }
             Remedy::BitFiveCleared { slot } => write!(f, "bit 5 of byte 00 of slot {slot:02X}H is cleared"),
             Remedy::GatBitsSet { granules } => write!(f, "{} set in the GAT", listed(granules)),
             Remedy::PutBack { slot } => write!(f, "slot {slot:02X}H is in use again, as a file"),
@@ -103,6 +119,7 @@ impl Remedy {
             }
             Remedy::HitPut { slot, hash } => put(reading.hit_at(*slot), &|_| *hash),
             Remedy::HitCleared { slot } => put(reading.hit_at(*slot), &|_| 0),
+            Remedy::NamePut { slot, place, byte } => put(reading.entry_at(*slot) + 0x05 + place, &|_| *byte),
             Remedy::BitFiveCleared { slot } => put(reading.entry_at(*slot), &|flags| flags & !RawEntry::BIT_FIVE),
             Remedy::GatBitsSet { granules } => {
                 for &granule in granules {
