@@ -35,8 +35,8 @@ pub const COMMAND: Command = Command {
 Mends a copy of the disk in memory (see gdos mend) and reads its files from there, system files too, without asking for
 passwords: PULS01/DAT goes to FOLDER/PULS01.DAT. Files about which there is doubt are written only with --doubtful, to
 FOLDER/doubtful: those of which a granule or the name stood in another entry too, a granule was free in the GAT, the
-HIT byte did not bear out the name, or byte 00 said that they were killed. Of two files that stand against each other
-both are read. A line tells of each file, and of each that could not be had.
+HIT byte did not bear out the name or gave a byte of it back, or byte 00 said that they were killed. Of two files that
+stand against each other both are read. A line tells of each file, and of each that could not be had.
 What no rule can tell is not told: an end, a run or a name that was changed so that the disk is still consistent.
 The image is never written. State its geometry: a damaged disk is seldom found by search.
 ",
