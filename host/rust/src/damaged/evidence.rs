@@ -86,7 +86,14 @@ pub(super) fn name_by_hit(reading: &Reading, file: u8) -> Option<(usize, u8)> {
         bytes[place] = byte;
         Name::from_bytes(bytes)
     };
-    let all = (0..Name::LEN).flat_map(|place| (0..=u8::MAX).map(move |byte| (place, byte)));
+    // The byte at a place goes into the hash turned by as many bits as bytes stand from there on, so it can be told from the others
+    // and the hash. A hash of 1 may have been 0.
+    let sums = [Some(hit), (hit == 1).then_some(0)].into_iter().flatten();
+    let all = sums.flat_map(|sum| (0..Name::LEN).map(move |place| (sum, place)));
+    let all = all.map(|(sum, place)| {
+        let others = with(place, 0).as_bytes().iter().fold(0u8, |sum, byte| (sum ^ byte).rotate_left(1));
+        (place, (sum ^ others).rotate_right((Name::LEN - place) as u32))
+    });
     let mut fitting = all.filter(|&(place, byte)| {
         let name = with(place, byte);
         name.is_well_formed() && name.hash() == hit
