@@ -25,12 +25,12 @@ pub const COMMAND: Command = Command {
     usage: "[OPTIONS] IMAGE -o COPY",
     about: "\
 Writes a copy of the image in which every fault is mended by the smallest change that takes it away: a HIT byte is put
-to its hash or to 0, a missing GAT bit is set, bit 5 of byte 00 is cleared, one damaged byte of a name is put to what the
-HIT byte demands, the directory gets the length for which most speaks, an entry of which only byte 00 says that it is
-no file is put back. A file whose chain is broken, whose name is none, whose run is off the disk or whose size is too
-large is taken out of the directory; its bytes stay where they are, and its granules stay taken. Of two files with one
-granule or one name the one goes against which more speaks, else the one in the higher slot. The library checks the
-copy after each change, until it is consistent.
+to its hash or to 0, a missing GAT bit is set, bit 5 of byte 00 is cleared, one damaged byte of a name is put to what
+the HIT byte demands, the directory gets the length for which most speaks, an entry of which only byte 00 says that it
+is no file is put back. A file whose chain is broken, whose name is none, whose run is off the disk or whose size is
+too large is taken out of the directory; its bytes stay where they are, and its granules stay taken. Of two files with
+one granule or one name the one goes against which more speaks, else the one in the higher slot. The library checks
+the copy after each change, until it is consistent.
 Told are each fault, each byte changed, the files that were dropped, and those that are doubtful. The image itself is
 never written. State its geometry: a damaged disk is seldom found by search.
 ",
