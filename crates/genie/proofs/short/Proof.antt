@@ -24,8 +24,11 @@ returns : tie.Need-returns
 returns c =
     let the-short = c .short in
     let the-check = c .before .check in
-    let e = the-short .ensures ∙ ap short (the-check .ensures) ∙ sym (short-is _ _) in (ap {B = ℕ} (λ (c : Refusal). c .number) e, ap {B = ℕ} (λ
-    (c : Refusal). c .at) e)
+    let e = the-short .ensures ∙ ap short (the-check .ensures) ∙ sym (short-is _ _) in (
+      ap {B = ℕ} (λ (c : Refusal). c .number) e,
+      ap {B = ℕ} (λ
+          (c : Refusal). c .at) e,
+    )
 
 pub short-spec : {M : Type 1} → statement M
 short-spec = tie.close (tie.spec check-requires short-requires returns)
