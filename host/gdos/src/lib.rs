@@ -4,6 +4,7 @@
 
 mod args;
 mod commands;
+mod damage;
 mod date;
 mod failure;
 mod fault;

@@ -11,8 +11,10 @@ use std::process::{Command, Stdio};
 use std::time::{Duration, SystemTime};
 
 const DATE: [&str; 2] = ["--date", "1983-10-09"];
-const COMMANDS: [&str; 14] =
-    ["check", "ls", "cat", "get", "put", "rm", "undelete", "trim", "free", "info", "new", "probe", "geometry", "diff"];
+const COMMANDS: [&str; 16] = [
+    "check", "mend", "rescue", "ls", "cat", "get", "put", "rm", "undelete", "trim", "free", "info", "new", "probe",
+    "geometry", "diff",
+];
 
 /// A folder with the small disk of the examples, PULS01/DAT (257 bytes) and LEER on it.
 fn sample(name: &str) -> Folder {
@@ -251,6 +253,9 @@ fn refused_and_idle_commands_leave_the_time() {
         (&["ls", "d.img"], 0),
         (&["get", "d.img", "*"], 0),
         (&["check", "d.img"], 0),
+        (&["check", "--all", "d.img"], 0),
+        (&["mend", "d.img", "-o", "copy.img"], 0),
+        (&["rescue", "d.img", "-o", "rescued"], 0),
         (&["probe", "d.img"], 0),
     ] {
         assert_eq!(folder.gdos(words).status, status, "{words:?}");
@@ -259,6 +264,41 @@ fn refused_and_idle_commands_leave_the_time() {
     }
     folder.done(&["rm", "d.img", "LEER"]);
     assert_ne!(fs::metadata(folder.path("d.img")).unwrap().modified().unwrap(), long_ago);
+}
+
+/// No name of the image is taken for a copy, whatever leads to it.
+#[test]
+fn a_damaged_image_is_never_written() {
+    let folder = sample("never-written");
+    folder.poke("d.img", 0x529e, &[7]);
+    std::os::unix::fs::symlink("d.img", folder.path("link.img")).unwrap();
+    fs::hard_link(folder.path("d.img"), folder.path("hard.img")).unwrap();
+    let before = folder.everything();
+    for copy in ["d.img", "./d.img", "link.img", "hard.img"] {
+        for words in [&["mend", "d.img", "-o", copy][..], &["mend", "d.img", "-o", copy, "--force"]] {
+            let done = folder.gdos(words);
+            assert_eq!((done.status, done.err.contains("never written")), (2, true), "{words:?}: {}", done.err);
+        }
+    }
+    let done = folder.gdos(&["mend", "link.img", "-o", "hard.img", "--force"]);
+    assert_eq!((done.status, done.err.contains("never written")), (2, true), "{}", done.err);
+    assert_eq!(folder.gdos(&["mend", "d.img", "-n"]).status, 0);
+    assert!(folder.everything() == before);
+
+    // Nor is an image that has the name of one of its files.
+    folder.write("LEER", folder.read("d.img"));
+    let image = folder.read("LEER");
+    let done = folder.gdos(&["rescue", "LEER", "--preset", "sample", "-o", ".", "--force"]);
+    assert_eq!((done.status, done.err.contains("never written")), (2, true), "{}", done.err);
+    assert!(folder.read("LEER") == image);
+
+    // The copy is whole or not there, also where the file beside it is in the way.
+    folder.write("copy.img.gdos", "mine\n");
+    assert_eq!(folder.gdos(&["mend", "d.img", "-o", "copy.img"]).status, 2);
+    assert!(!folder.path("copy.img").exists());
+    assert_eq!(folder.read("copy.img.gdos"), b"mine\n");
+    assert_eq!(folder.gdos(&["mend", "d.img", "-o", "copy.img", "--force"]).status, 0);
+    folder.done(&["check", "copy.img"]);
 }
 
 #[test]

@@ -11,8 +11,8 @@
 //!   drop FILE              removes it
 //!   write FILE WORDS       a file of one line
 //!   with NAME=VALUE gdos   the program with a variable of the environment
-//! After every command that fails all files must be as they were, their times too (`get` may have written some, but no
-//! image); none of the program's own are left. With GDOS_SESSIONS=write in the environment the files are written anew with
+//! After every command that fails all files must be as they were, their times too (`get` and `rescue` may have written some,
+//! but no image); none of the program's own are left. With GDOS_SESSIONS=write in the environment the files are written anew with
 //! what came, to be read before it is kept.
 
 mod common;
@@ -107,6 +107,16 @@ fn system_files() {
 }
 
 #[test]
+fn mending() {
+    play("mend");
+}
+
+#[test]
+fn rescuing() {
+    play("rescue");
+}
+
+#[test]
 fn every_case_is_played() {
     let here = include_str!("sessions.rs");
     for case in fs::read_dir(cases()).unwrap() {
@@ -144,7 +154,8 @@ fn play(case: &str) {
     for step in steps {
         let kept = |folder: &Folder| {
             let mut all = folder.everything();
-            all.retain(|(path, ..)| step.words[1] != "get" || path.extension().is_some_and(|e| e == "img"));
+            let writes = ["get", "rescue"].contains(&step.words[1].as_str());
+            all.retain(|(path, ..)| !writes || path.extension().is_some_and(|e| e == "img"));
             all
         };
         let before = kept(&folder);

@@ -32,6 +32,7 @@
 #[cfg(not(genie_archive))]
 extern crate genie_source as _;
 
+mod damaged;
 mod difference;
 mod disk;
 mod entry;
@@ -43,6 +44,10 @@ mod name;
 mod refusal;
 mod sys;
 
+pub use damaged::{
+    ByteChange, Detail, Doubt, Doubtful, Dropped, FaultFound, Faults, FileFound, Mended, Remedy, Rescued, Step,
+    Unmended,
+};
 pub use difference::{Difference, Differences, RefusedImage, Which};
 pub use disk::{BroughtBack, Counts, Created, Disk, FreeSpace, Kind, Listed, LookUp, NewFile, Password};
 pub use entry::{Date, Entry, Run};

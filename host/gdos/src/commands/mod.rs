@@ -10,10 +10,12 @@ mod get;
 mod info;
 mod leftovers;
 mod ls;
+mod mend;
 mod new;
 mod opened;
 mod probe;
 mod put;
+mod rescue;
 mod rm;
 mod room;
 mod trim;
@@ -53,6 +55,7 @@ impl Command {
     pub fn status(&self) -> &'static str {
         match self.name {
             diff::NAME => diff::STATUS,
+            name if name == rescue::COMMAND.name => rescue::STATUS,
             _ => "0 done, 1 refused, 2 wrong usage or I/O",
         }
     }
@@ -61,6 +64,8 @@ impl Command {
 /// All commands, in the order of the help.
 pub const COMMANDS: &[Command] = &[
     check::COMMAND,
+    mend::COMMAND,
+    rescue::COMMAND,
     ls::COMMAND,
     get::CAT,
     get::COMMAND,

@@ -87,7 +87,7 @@ fn run(args: &Args) -> Result<Output, Failure> {
 }
 
 /// Writes the image and the file beside it: both are written before either is put in its place.
-fn place(image: &OsStr, disk: &Disk, geometry: Geometry, force: bool) -> Result<Vec<String>, Failure> {
+pub(super) fn place(image: &OsStr, disk: &Disk, geometry: Geometry, force: bool) -> Result<Vec<String>, Failure> {
     let prepared = Prepared::new(Path::new(image), disk.image(), force)?;
     let sidecar = Sidecar::of(Path::new(image));
     if !sidecar.can_be() {

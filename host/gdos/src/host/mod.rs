@@ -4,8 +4,10 @@
 mod copy;
 mod lock;
 mod read;
+mod same;
 mod write;
 
 pub use lock::Locked;
 pub use read::{read, read_standard_input, read_text};
+pub use same::same_file;
 pub use write::{write, Prepared};
