@@ -229,7 +229,7 @@ fn put_back() {
 
 #[test]
 fn a_refused_geometry() {
-    let odd = Disk::new(disk().into_image(), Geometry { start: 81, ..GEOMETRY });
+    let odd = Disk::new(disk().into_image(), GEOMETRY.with_start(81));
     assert_eq!(odd.mend().unwrap_err(), Unmended::Refused(Refusal::Geometry));
     assert_eq!(odd.faults().unwrap_err(), Refusal::Geometry);
 }
