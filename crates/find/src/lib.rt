@@ -80,14 +80,15 @@ pub fn look_up_checked(image: &[u8], g: Geometry, name: &[u8], checked: u8) -> L
             compared: 0,
         };
     }
-    if !spelling::well_formed(name) {
+    let n = spelling::incoming(name);
+    if n.place != spelling::NO_PLACE {
         return LookedUp {
             number: 3,
             slot: 0,
             compared: 0,
         };
     }
-    let f = find(image, g, name);
+    let f = find(image, g, &n.name);
     if !f.is {
         return LookedUp {
             number: 4,
@@ -211,13 +212,14 @@ pub fn open_checked(
             handle: no_handle(),
         };
     }
-    if !spelling::well_formed(name) {
+    let n = spelling::incoming(name);
+    if n.place != spelling::NO_PLACE {
         return Answer {
             number: 3,
             handle: no_handle(),
         };
     }
-    let f = find(image, g, name);
+    let f = find(image, g, &n.name);
     if !f.is {
         return Answer {
             number: 4,
@@ -232,6 +234,6 @@ pub fn open_checked(
     }
     Answer {
         number: 0,
-        handle: opened_at(image, g, f.slot, name, len, checking, code),
+        handle: opened_at(image, g, f.slot, &n.name, len, checking, code),
     }
 }

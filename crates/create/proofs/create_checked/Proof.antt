@@ -1,10 +1,17 @@
-use Rattle.layout.proofs.Sound.{entry-fits}
-use Rattle.create.proofs.Laws.{told, opened, made, by-check, by-range, by-name, by-code, is-old, by-slot, is-new, slot-none, slot-some}
-use Rattle.layout.proofs.Laws.{well-length}
-use Rattle.find.proofs.Laws.{finds-none, finds-one}
-use Rattle.handle.proofs.Laws.{checked, checked-room}
-use Rattle.layout.proofs.Lists.{is-yes, is-no, not-yes, not-no}
 use native.Mathlib.Omega.{arith}
+use Rattle.layout.proofs.Lists.{is-yes, is-no, not-yes, not-no}
+use Rattle.handle.proofs.Laws.{checked, checked-room}
+use Rattle.find.proofs.Laws.{finds-as, finds-none, finds-one}
+use Rattle.layout.proofs.Laws.{well-length}
+use Rattle.create.proofs.Laws.{told, opened, made, by-check, by-range, by-name, by-code, is-old, by-slot, is-new, slot-none, slot-some}
+use Rattle.layout.proofs.Sound.{entry-fits}
+use Rattle.meaning.specs.Create.{withEntry}
+use Rattle.meaning.specs.Open.{openedAt}
+use Rattle.spelling.proofs.Comes.{hands-good, hands-name, hands-bad}
+use lib.ListN.{length}
+use Prim.Native.Nat.{ℕ}
+use mathlib.Core.List.{List}
+use mathlib.Core.Path.{ap, _∙_}
 use borrow.Author.Needs.{needs}
 use Rattle.create.proofs.create_checked.Statement.{statement}
 use Rattle.create.proofs.create_checked.Tie as tie
@@ -15,10 +22,9 @@ use Rattle.create.proofs.put_entry.Reads as put-entry-reads
 use Rattle.create.proofs.refused.Reads as refused-reads
 use Rattle.find.proofs.admits.Reads as admits-reads
 use Rattle.find.proofs.find.Reads as find-reads
-use Rattle.find.proofs.name_array.Reads as name-array-reads
 use Rattle.find.proofs.opened_at.Reads as opened-at-reads
-use Rattle.spelling.proofs.well_formed.Reads as well-formed-reads
 use Rattle.space.proofs.first_free_slot.Reads as first-free-slot-reads
+use Rattle.spelling.proofs.incoming.Reads as incoming-reads
 
 refused-requires : tie.Need-refused-requires
 refused-requires c κs = search needs
@@ -35,20 +41,20 @@ refused-requires-2 c κs = search needs
 returns-2 : tie.Need-returns-2
 returns-2 c = told _ _ _ _ _ (c .refused2 .ensures) (by-range _ _ _ _ _ (c .before .before .before .before .before .before .pre) (c .before .before .before .if1 .left) (is-no (c .before .before .in-range .ensures) (c .before .if2 .taken))) (λ z. omega arith)
 
-well-formed-requires : tie.Need-well-formed-requires
-well-formed-requires c κs = search needs
+incoming-requires : tie.Need-incoming-requires
+incoming-requires c κs = search needs
 
 refused-requires-3 : tie.Need-refused-requires-3
 refused-requires-3 c κs = search needs
 
 returns-3 : tie.Need-returns-3
-returns-3 c = told _ _ _ _ _ (c .refused3 .ensures) (by-name _ _ _ _ _ (c .before .before .before .before .before .before .before .before .pre) (c .before .before .before .before .before .if1 .left) (is-yes (c .before .before .before .before .in-range .ensures) (c .before .before .before .if2 .left)) (is-no (c .before .before .well-formed .ensures) (c .before .if3 .taken))) (λ z. omega arith)
+returns-3 c = told _ _ _ _ _ (c .refused3 .ensures) (by-name _ _ _ _ _ (c .before .before .before .before .before .before .before .before .pre) (c .before .before .before .before .before .if1 .left) (is-yes (c .before .before .before .before .in-range .ensures) (c .before .before .before .if2 .left)) (hands-bad (c .before .before .incoming .ensures) (c .before .if3 .taken))) (λ z. omega arith)
 
 find-requires : tie.Need-find-requires
-find-requires c κs = (checked-room _ _ (checked _ _ (c .before .before .before .before .before .before .before .before .pre) (c .before .before .before .before .before .if1 .left)), well-length _ (is-yes (c .before .before .well-formed .ensures) (c .before .if3 .left)))
+find-requires c κs = (checked-room _ _ (checked _ _ (c .before .before .before .before .before .before .before .before .before .before .before .pre) (c .before .before .before .before .before .before .before .before .if1 .left)), (ap length (hands-name (c .before .before .before .before .before .incoming .ensures) (c .before .before .before .before .if3 .left)) ∙ well-length _ (hands-good (c .before .before .before .before .before .incoming .ensures) (c .before .before .before .before .if3 .left))))
 
 admits-requires : tie.Need-admits-requires
-admits-requires c κs = (checked-room _ _ (checked _ _ (c .before .before .before .before .before .before .before .before .before .before .before .pre) (c .before .before .before .before .before .before .before .before .if1 .left)), (c .before .before .find .ensures .held) (c .before .if4 .taken))
+admits-requires c κs = (checked-room _ _ (checked _ _ (c .before .before .before .before .before .before .before .before .before .before .before .before .before .before .pre) (c .before .before .before .before .before .before .before .before .before .before .before .if1 .left)), (c .before .before .find .ensures .held) (c .before .if4 .taken))
 
 refused-requires-4 : tie.Need-refused-requires-4
 refused-requires-4 c κs = search needs
@@ -57,20 +63,20 @@ same-length : tie.Need-same-length
 same-length c = search needs
 
 returns-4 : tie.Need-returns-4
-returns-4 c = told _ _ _ _ _ (c .refused4 .ensures) (by-code _ _ _ _ _ (c .before .before .before .before .before .before .before .before .before .before .before .before .before .before .pre) (c .before .before .before .before .before .before .before .before .before .before .before .if1 .left) (is-yes (c .before .before .before .before .before .before .before .before .before .before .in-range .ensures) (c .before .before .before .before .before .before .before .before .before .if2 .left)) (is-yes (c .before .before .before .before .before .before .before .before .well-formed .ensures) (c .before .before .before .before .before .before .before .if3 .left)) (finds-one _ _ _ (c .before .before .before .before .before .find .ensures) (not-yes (c .before .before .before .before .if4 .taken))) (is-no (c .before .before .admits .ensures) (c .before .if5 .taken))) (λ z. omega arith)
+returns-4 c = told _ _ _ _ _ (c .refused4 .ensures) (by-code _ _ _ _ _ (c .before .before .before .before .before .before .before .before .before .before .before .before .before .before .before .before .before .pre) (c .before .before .before .before .before .before .before .before .before .before .before .before .before .before .if1 .left) (is-yes (c .before .before .before .before .before .before .before .before .before .before .before .before .before .in-range .ensures) (c .before .before .before .before .before .before .before .before .before .before .before .before .if2 .left)) (hands-good (c .before .before .before .before .before .before .before .before .before .before .before .incoming .ensures) (c .before .before .before .before .before .before .before .before .before .before .if3 .left)) (finds-one _ _ _ (finds-as _ _ _ (hands-name (c .before .before .before .before .before .before .before .before .before .before .before .incoming .ensures) (c .before .before .before .before .before .before .before .before .before .before .if3 .left)) (c .before .before .before .before .before .find .ensures)) (not-yes (c .before .before .before .before .if4 .taken))) (is-no (c .before .before .admits .ensures) (c .before .if5 .taken))) (λ z. omega arith)
 
 opened-at-requires : tie.Need-opened-at-requires
-opened-at-requires c κs = (checked-room _ _ (checked _ _ (c .before .before .before .before .before .before .before .before .before .before .before .before .before .before .pre) (c .before .before .before .before .before .before .before .before .before .before .before .if1 .left)), (c .before .before .before .before .before .find .ensures .held) (c .before .before .before .before .if4 .taken), well-length _ (is-yes (c .before .before .before .before .before .before .before .before .well-formed .ensures) (c .before .before .before .before .before .before .before .if3 .left)))
+opened-at-requires c κs = (checked-room _ _ (checked _ _ (c .before .before .before .before .before .before .before .before .before .before .before .before .before .before .before .before .before .before .before .before .pre) (c .before .before .before .before .before .before .before .before .before .before .before .before .before .before .before .before .before .if1 .left)), (c .before .before .before .before .before .before .before .before .find .ensures .held) (c .before .before .before .before .before .before .before .if4 .taken), (ap length (hands-name (c .before .before .before .before .before .before .before .before .before .before .before .before .before .before .incoming .ensures) (c .before .before .before .before .before .before .before .before .before .before .before .before .before .if3 .left)) ∙ well-length _ (hands-good (c .before .before .before .before .before .before .before .before .before .before .before .before .before .before .incoming .ensures) (c .before .before .before .before .before .before .before .before .before .before .before .before .before .if3 .left))))
 
 same-length-2 : tie.Need-same-length-2
 same-length-2 c = search needs
 
 returns-5 : tie.Need-returns-5
-returns-5 c = let e = finds-one _ _ _ (c .before .before .before .before .before .before .find .ensures) (not-yes (c .before .before .before .before .before .if4 .taken)) in
-    opened _ _ _ _ _ (is-old _ _ _ _ _ (c .before .before .before .before .before .before .before .before .before .before .before .before .before .before .before .pre) (c .before .before .before .before .before .before .before .before .before .before .before .before .if1 .left) (is-yes (c .before .before .before .before .before .before .before .before .before .before .before .in-range .ensures) (c .before .before .before .before .before .before .before .before .before .before .if2 .left)) (is-yes (c .before .before .before .before .before .before .before .before .before .well-formed .ensures) (c .before .before .before .before .before .before .before .before .if3 .left)) e (is-yes (c .before .before .before .admits .ensures) (c .before .before .if5 .left))) e (c .opened-at .ensures)
+returns-5 c = let e = finds-one _ _ _ (finds-as _ _ _ (hands-name (c .before .before .before .before .before .before .before .before .before .before .before .before .before .before .before .incoming .ensures) (c .before .before .before .before .before .before .before .before .before .before .before .before .before .before .if3 .left)) (c .before .before .before .before .before .before .before .before .before .find .ensures)) (not-yes (c .before .before .before .before .before .before .before .before .if4 .taken)) in
+    opened _ _ _ _ _ (is-old _ _ _ _ _ (c .before .before .before .before .before .before .before .before .before .before .before .before .before .before .before .before .before .before .before .before .before .pre) (c .before .before .before .before .before .before .before .before .before .before .before .before .before .before .before .before .before .before .if1 .left) (is-yes (c .before .before .before .before .before .before .before .before .before .before .before .before .before .before .before .before .before .in-range .ensures) (c .before .before .before .before .before .before .before .before .before .before .before .before .before .before .before .before .if2 .left)) (hands-good (c .before .before .before .before .before .before .before .before .before .before .before .before .before .before .before .incoming .ensures) (c .before .before .before .before .before .before .before .before .before .before .before .before .before .before .if3 .left)) e (is-yes (c .before .before .before .before .before .before .admits .ensures) (c .before .before .before .before .before .if5 .left))) e (c .opened-at .ensures ∙ ap (λ (m : List ℕ). openedAt (c .before .before .before .before .before .before .before .before .before .before .before .before .before .before .before .before .before .before .before .before .before .args .g) (c .before .before .before .before .before .before .before .before .before .before .before .before .before .before .before .before .before .before .before .before .before .args .image .now) (c .before .before .before .before .before .before .before .before .before .find .result .slot) m (c .before .before .before .before .before .before .before .before .before .before .before .before .before .before .before .before .before .before .before .before .before .args .f .len) (c .before .before .before .before .before .before .before .before .before .before .before .before .before .before .before .before .before .before .before .before .before .args .checking) (c .before .before .before .before .before .before .before .before .before .before .before .before .before .before .before .before .before .before .before .before .before .args .f .main)) (hands-name (c .before .before .before .before .before .before .before .before .before .before .before .before .before .before .before .incoming .ensures) (c .before .before .before .before .before .before .before .before .before .before .before .before .before .before .if3 .left)))
 
 first-free-slot-requires : tie.Need-first-free-slot-requires
-first-free-slot-requires c κs = checked-room _ _ (checked _ _ (c .before .before .before .before .before .before .before .before .before .before .before .pre) (c .before .before .before .before .before .before .before .before .if1 .left))
+first-free-slot-requires c κs = checked-room _ _ (checked _ _ (c .before .before .before .before .before .before .before .before .before .before .before .before .before .before .pre) (c .before .before .before .before .before .before .before .before .before .before .before .if1 .left))
 
 refused-requires-5 : tie.Need-refused-requires-5
 refused-requires-5 c κs = search needs
@@ -79,21 +85,18 @@ same-length-3 : tie.Need-same-length-3
 same-length-3 c = search needs
 
 returns-6 : tie.Need-returns-6
-returns-6 c = told _ _ _ _ _ (c .refused5 .ensures) (by-slot _ _ _ _ _ (c .before .before .before .before .before .before .before .before .before .before .before .before .before .before .pre) (c .before .before .before .before .before .before .before .before .before .before .before .if1 .left) (is-yes (c .before .before .before .before .before .before .before .before .before .before .in-range .ensures) (c .before .before .before .before .before .before .before .before .before .if2 .left)) (is-yes (c .before .before .before .before .before .before .before .before .well-formed .ensures) (c .before .before .before .before .before .before .before .if3 .left)) (finds-none _ _ _ (c .before .before .before .before .before .find .ensures) (not-no (c .before .before .before .before .if4 .left))) (slot-none _ _ (c .before .before .first-free-slot .ensures) (c .before .if6 .taken))) (λ z. omega arith)
+returns-6 c = told _ _ _ _ _ (c .refused5 .ensures) (by-slot _ _ _ _ _ (c .before .before .before .before .before .before .before .before .before .before .before .before .before .before .before .before .before .pre) (c .before .before .before .before .before .before .before .before .before .before .before .before .before .before .if1 .left) (is-yes (c .before .before .before .before .before .before .before .before .before .before .before .before .before .in-range .ensures) (c .before .before .before .before .before .before .before .before .before .before .before .before .if2 .left)) (hands-good (c .before .before .before .before .before .before .before .before .before .before .before .incoming .ensures) (c .before .before .before .before .before .before .before .before .before .before .if3 .left)) (finds-none _ _ _ (finds-as _ _ _ (hands-name (c .before .before .before .before .before .before .before .before .before .before .before .incoming .ensures) (c .before .before .before .before .before .before .before .before .before .before .if3 .left)) (c .before .before .before .before .before .find .ensures)) (not-no (c .before .before .before .before .if4 .left))) (slot-none _ _ (c .before .before .first-free-slot .ensures) (c .before .if6 .taken))) (λ z. omega arith)
 
 put-entry-requires : tie.Need-put-entry-requires
-put-entry-requires c κs = let a = c .before .before .before .before .before .before .before .before .before .before .before .before .before .before .args in let w = slot-some (a .g) (a .image .now) (c .before .before .first-free-slot .ensures) (c .before .if6 .left) in
-    (entry-fits (a .g) (a .image .now) (c .before .before .first-free-slot .result) (checked-room (a .g) (a .image .now) (checked (a .g) (a .image .now) (c .before .before .before .before .before .before .before .before .before .before .before .before .before .before .pre) (c .before .before .before .before .before .before .before .before .before .before .before .if1 .left))) (w .2), w .2 .low, well-length _ (is-yes (c .before .before .before .before .before .before .before .before .well-formed .ensures) (c .before .before .before .before .before .before .before .if3 .left)), is-yes (c .before .before .before .before .before .before .before .before .before .before .in-range .ensures) (c .before .before .before .before .before .before .before .before .before .if2 .left))
-
-name-array-requires : tie.Need-name-array-requires
-name-array-requires c κs = well-length _ (is-yes (c .before .before .before .before .before .before .before .before .before .before .before .well-formed .ensures) (c .before .before .before .before .before .before .before .before .before .before .if3 .left))
+put-entry-requires c κs = let a = c .before .before .before .before .before .before .before .before .before .before .before .before .before .before .before .before .before .before .before .before .args in let w = slot-some (a .g) (a .image .now) (c .before .before .before .before .before .first-free-slot .ensures) (c .before .before .before .before .if6 .left) in
+    (entry-fits (a .g) (a .image .now) (c .before .before .before .before .before .first-free-slot .result) (checked-room (a .g) (a .image .now) (checked (a .g) (a .image .now) (c .before .before .before .before .before .before .before .before .before .before .before .before .before .before .before .before .before .before .before .before .pre) (c .before .before .before .before .before .before .before .before .before .before .before .before .before .before .before .before .before .if1 .left))) (w .2), w .2 .low, (ap length (hands-name (c .before .before .before .before .before .before .before .before .before .before .before .before .before .before .incoming .ensures) (c .before .before .before .before .before .before .before .before .before .before .before .before .before .if3 .left)) ∙ well-length _ (hands-good (c .before .before .before .before .before .before .before .before .before .before .before .before .before .before .incoming .ensures) (c .before .before .before .before .before .before .before .before .before .before .before .before .before .if3 .left))), is-yes (c .before .before .before .before .before .before .before .before .before .before .before .before .before .before .before .before .in-range .ensures) (c .before .before .before .before .before .before .before .before .before .before .before .before .before .before .before .if2 .left))
 
 same-length-4 : tie.Need-same-length-4
 same-length-4 c = search needs
 
 returns-7 : tie.Need-returns-7
-returns-7 c = let a = c .before .before .before .before .before .before .before .before .before .before .before .before .before .before .before .before .before .before .args in let w = slot-some (a .g) (a .image .now) (c .before .before .before .before .before .before .first-free-slot .ensures) (c .before .before .before .before .before .if6 .left) in let e = finds-none _ _ _ (c .before .before .before .before .before .before .before .before .before .find .ensures) (not-no (c .before .before .before .before .before .before .before .before .if4 .left)) in
-    made _ _ _ _ _ (is-new _ _ _ _ _ (c .before .before .before .before .before .before .before .before .before .before .before .before .before .before .before .before .before .before .pre) (c .before .before .before .before .before .before .before .before .before .before .before .before .before .before .before .if1 .left) (is-yes (c .before .before .before .before .before .before .before .before .before .before .before .before .before .before .in-range .ensures) (c .before .before .before .before .before .before .before .before .before .before .before .before .before .if2 .left)) (is-yes (c .before .before .before .before .before .before .before .before .before .before .before .before .well-formed .ensures) (c .before .before .before .before .before .before .before .before .before .before .before .if3 .left)) e (w .1)) e (w .0) (c .name-array .ensures) (c .before .before .before .put-entry .ensures)
+returns-7 c = let a = c .before .before .before .before .before .before .before .before .before .before .before .before .before .before .before .before .before .before .before .before .before .before .before .before .args in let w = slot-some (a .g) (a .image .now) (c .before .before .before .before .before .before .before .before .before .first-free-slot .ensures) (c .before .before .before .before .before .before .before .before .if6 .left) in let e = finds-none _ _ _ (finds-as _ _ _ (hands-name (c .before .before .before .before .before .before .before .before .before .before .before .before .before .before .before .before .before .before .incoming .ensures) (c .before .before .before .before .before .before .before .before .before .before .before .before .before .before .before .before .before .if3 .left)) (c .before .before .before .before .before .before .before .before .before .before .before .before .find .ensures)) (not-no (c .before .before .before .before .before .before .before .before .before .before .before .if4 .left)) in
+    made _ _ _ _ _ (is-new _ _ _ _ _ (c .before .before .before .before .before .before .before .before .before .before .before .before .before .before .before .before .before .before .before .before .before .before .before .before .pre) (c .before .before .before .before .before .before .before .before .before .before .before .before .before .before .before .before .before .before .before .before .before .if1 .left) (is-yes (c .before .before .before .before .before .before .before .before .before .before .before .before .before .before .before .before .before .before .before .before .in-range .ensures) (c .before .before .before .before .before .before .before .before .before .before .before .before .before .before .before .before .before .before .before .if2 .left)) (hands-good (c .before .before .before .before .before .before .before .before .before .before .before .before .before .before .before .before .before .before .incoming .ensures) (c .before .before .before .before .before .before .before .before .before .before .before .before .before .before .before .before .before .if3 .left)) e (w .1)) e (w .0) (hands-name (c .before .before .before .before .before .before .before .before .before .before .before .before .before .before .before .before .before .before .incoming .ensures) (c .before .before .before .before .before .before .before .before .before .before .before .before .before .before .before .before .before .if3 .left)) (c .before .before .before .put-entry .ensures ∙ ap (λ (m : List ℕ). withEntry (c .before .before .before .before .before .before .before .before .before .before .before .before .before .before .before .before .before .before .before .before .before .before .before .before .args .g) (c .before .before .before .before .before .before .before .before .before .before .before .before .before .before .before .before .before .before .before .before .before .before .before .before .args .image .now) (c .before .before .before .before .before .before .before .before .before .first-free-slot .result) m (c .before .before .before .before .before .before .before .before .before .before .before .before .before .before .before .before .before .before .before .before .before .before .before .before .args .f)) (hands-name (c .before .before .before .before .before .before .before .before .before .before .before .before .before .before .before .before .before .before .incoming .ensures) (c .before .before .before .before .before .before .before .before .before .before .before .before .before .before .before .before .before .if3 .left)))
 
 pub create-checked-spec : {M : Type 1} → statement M
 create-checked-spec =
@@ -104,7 +107,7 @@ create-checked-spec =
     in-range-requires
     refused-requires-2
     returns-2
-    well-formed-requires
+    incoming-requires
     refused-requires-3
     returns-3
     find-requires
@@ -120,6 +123,5 @@ create-checked-spec =
     same-length-3
     returns-6
     put-entry-requires
-    name-array-requires
     same-length-4
     returns-7)
