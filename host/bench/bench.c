@@ -66,8 +66,11 @@ static const struct library libraries[] = {
     { "none", LIBRARY_CALLS(NOTHING) },
 };
 
-/* What is measured. The last four are for the cost of a byte; they are no calls of their own. */
-enum what { CHECK, LOOK_UP, OPEN, CREATE, READ, SECTOR, WRITE, APPEND, ALLOT, TRIM, KILL, LIST, COUNT, COMPARE, READ_1, WRITE_1, FILL_0, FILL_1000, WHATS };
+/* What is measured. The last six are no calls of their own: four are for the cost of a byte, two for a disk with a fault. */
+enum what {
+    CHECK, LOOK_UP, OPEN, CREATE, READ, SECTOR, WRITE, APPEND, ALLOT, TRIM, KILL, LIST, COUNT, COMPARE,
+    READ_1, WRITE_1, FILL_0, FILL_1000, CHECK_FAULT, LOOK_UP_FAULT, WHATS
+};
 
 static const struct {
     const char *name, *title;
@@ -91,6 +94,8 @@ static const struct {
     [WRITE_1] = { "write_1", "write 1 byte", true },
     [FILL_0] = { "fill_0", "write 1 byte at the size", true },
     [FILL_1000] = { "fill_1000", "write 1 byte 1,000 past the size", true },
+    [CHECK_FAULT] = { "check_fault", "check, the disk has a fault", false },
+    [LOOK_UP_FAULT] = { "look_up_fault", "look up, refused for a fault", false },
 };
 
 enum { SECTOR_BYTES = 256, LONGEST_DIRECTORY = 30 * SECTOR_BYTES };
@@ -122,6 +127,15 @@ static void set_size(struct work *w, size_t size)
     e[21] = (uint8_t)(n >> 8);
 }
 
+/* A fault in the highest slot in use, so that all below it are looked at: its HIT byte is another. */
+static void damage(struct bench_disk *d)
+{
+    uint8_t *const hit = d->image + (d->start + 1) * SECTOR_BYTES;
+    size_t slot = 255;
+    while (slot > 0 && !hit[slot]) slot--;
+    hit[slot] = hit[slot] == 1 ? 2 : 1;
+}
+
 static void prepare(struct work *w, enum what what, size_t disk)
 {
     memset(w, 0, sizeof *w);
@@ -143,6 +157,8 @@ static void prepare(struct work *w, enum what what, size_t disk)
         length = 1;
         position = what == FILL_0 ? middle : middle + 1000;
         break;
+    case CHECK_FAULT:
+    case LOOK_UP_FAULT: damage(d); break;
     default: break;
     }
     w->fresh[0] = (uint8_t)d->subject_slot;
@@ -163,8 +179,10 @@ static void once(struct work *w, const struct library *lib)
     if (whats[w->what].changes) memcpy(d->image + d->start * SECTOR_BYTES, w->directory, w->directory_len);
     memcpy(w->handle, w->fresh, sizeof w->handle);
     switch (w->what) {
-    case CHECK: w->answer = lib->check(DISK, &w->fault_slot); break;
-    case LOOK_UP: w->answer = lib->look_up(DISK, d->subject, sizeof d->subject, &w->numbers[0], &w->numbers[1], &w->fault_slot); break;
+    case CHECK:
+    case CHECK_FAULT: w->answer = lib->check(DISK, &w->fault_slot); break;
+    case LOOK_UP:
+    case LOOK_UP_FAULT: w->answer = lib->look_up(DISK, d->subject, sizeof d->subject, &w->numbers[0], &w->numbers[1], &w->fault_slot); break;
     case OPEN: w->answer = lib->open(DISK, d->subject, sizeof d->subject, 256, true, 0, HANDLE, &w->fault_slot); break;
     case CREATE:
         w->answer = lib->create(DISK, (const uint8_t *)"FRISCH  NEU", GENIE_NAME_BYTES, 9, 10, 3, 256, 0x1234, 0x5678, true, &w->numbers[0], HANDLE, &w->fault_slot);

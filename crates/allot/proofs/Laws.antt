@@ -8,28 +8,29 @@ use borrow.Author.Tests.{ne-eqb}
 use Rattle.meaning.specs.Lists.{all}
 use Rattle.meaning.specs.Layout.{sectorNumbers}
 use Rattle.meaning.specs.Sizes
-use Rattle.meaning.specs.Refusals.{first, accepted, inRange, handleRefusals, protected, cannotGrow, larger, lacking}
+use Rattle.meaning.specs.Refusals.{first, accepted, refusal, inRange, handleRefusals, protected, cannotGrow, larger, lacking}
 use Rattle.meaning.specs.Allot.{allotRefusals, toAllot, allot}
 use Rattle.meaning.specs.declared.Geometry.{Geometry}
 use Rattle.meaning.specs.declared.Handle.{Handle}
 use Rattle.meaning.specs.declared.Answer.{Answer}
+use Rattle.meaning.specs.declared.Refusal.{Refusal}
 use Rattle.handle.proofs.Laws.{handle-stop, handle-then}
 
 module _ (g : Geometry) (d : List ℕ) (h : Handle) (k : ℕ) {ranged : Bool} (r : ranged ≡ all (inRange g h ∷ ltb k (sectorNumbers g) ∷ [])) where
-  pub refused : {n : ℕ} → n ≡ first (handleRefusals g d h ranged (protected g d 4 h ∷ [])) → (n ≡ 0 → ⊥) → _≡_ {A = Answer × List ℕ} (record { number = n; handle = h }, d) (allot g d h k)
+  pub refused : {n : ℕ} {c : Refusal} → c ≡ refusal g d n → n ≡ first (handleRefusals g d h ranged (protected g d 4 h ∷ [])) → (n ≡ 0 → ⊥) → _≡_ {A = Answer × List ℕ} (record { refusal = c; handle = h }, d) (allot g d h k)
   unfolding allot
-  refused {n} e z =
+  refused {n} y e z =
       let q : n ≡ first (allotRefusals g d h k)
       = handle-stop g d h ranged (protected g d 4 h ∷ []) (cannotGrow g d (h .slot) (toAllot g d h k)) e z
       ∙ ap (λ (t : Bool). first (handleRefusals g d h t (protected g d 4 h ∷ cannotGrow g d (h .slot) (toAllot g d h k)))) r in
-      rw (← q, ne-eqb n 0 z)
+      rw (← q, ne-eqb n 0 z, y)
 
-  pub grew : {n m : ℕ} {d′ : List ℕ} → n ≡ first (handleRefusals g d h ranged (protected g d 4 h ∷ [])) → n ≡ 0 → m ≡ first (cannotGrow g d (h .slot) (lacking g d (h .slot) (k / 5 + 1)))
-      → d′ ≡ cond (accepted m) (larger g d (h .slot) (lacking g d (h .slot) (k / 5 + 1))) d → _≡_ {A = Answer × List ℕ} (record { number = m; handle = h }, d′) (allot g d h k)
+  pub grew : {n m : ℕ} {d′ : List ℕ} {c : Refusal} → c ≡ refusal g d m → n ≡ first (handleRefusals g d h ranged (protected g d 4 h ∷ [])) → n ≡ 0 → m ≡ first (cannotGrow g d (h .slot) (lacking g d (h .slot) (k / 5 + 1)))
+      → d′ ≡ cond (accepted m) (larger g d (h .slot) (lacking g d (h .slot) (k / 5 + 1))) d → _≡_ {A = Answer × List ℕ} (record { refusal = c; handle = h }, d′) (allot g d h k)
   unfolding allot
-  grew {n} {m} {d′} e z f w =
+  grew {n} {m} {d′} y e z f w =
       let u : lacking g d (h .slot) (k / 5 + 1) ≡ toAllot g d h k = ap (λ (s : ℕ). lacking g d (h .slot) (k / s + 1)) (sym (Sizes.code-sectors g)) in
       let q : m ≡ first (allotRefusals g d h k)
       = f ∙ ap (λ (x : ℕ). first (cannotGrow g d (h .slot) x)) u ∙ sym (handle-then g d h ranged (protected g d 4 h ∷ []) (cannotGrow g d (h .slot) (toAllot g d h k)) refl e z)
       ∙ ap (λ (t : Bool). first (handleRefusals g d h t (protected g d 4 h ∷ cannotGrow g d (h .slot) (toAllot g d h k)))) r in
-      rw (← q, w ∙ ap (λ (x : ℕ). cond (accepted m) (larger g d (h .slot) x) d) u)
+      rw (← q, w ∙ ap (λ (x : ℕ). cond (accepted m) (larger g d (h .slot) x) d) u, y)

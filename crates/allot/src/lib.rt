@@ -2,12 +2,13 @@
 use meaning::Answer;
 use meaning::Geometry;
 use meaning::Handle;
+use meaning::Refusal;
 ghost use mathlib.Core.Path.{_≡_};
 ghost use Rattle.meaning.specs.Refusals.{check};
 ghost use Rattle.meaning.specs.Allot.{allot};
 
 // Allot to sector k, on a disk whose check answered `checked`.
-pub fn allot_checked(image: &mut [u8], g: Geometry, h: Handle, k: usize, checked: u8) -> Answer
+pub fn allot_checked(image: &mut [u8], g: Geometry, h: Handle, k: usize, checked: Refusal) -> Answer
     requires { ⌜ checked ≡ check g (now image) ⌝ }
     ensures { λ r. ⌜ (r, now (image .exit)) ≡ allot g (now (image .entry)) h k ⌝ }
 {
@@ -15,10 +16,13 @@ pub fn allot_checked(image: &mut [u8], g: Geometry, h: Handle, k: usize, checked
     let refused = handle::changing_number(image, g, h, ranged, 4, checked);
     if refused != 0 {
         return Answer {
-            number: refused,
+            refusal: refusal::carried(checked, refused),
             handle: h,
         };
     }
     let number = growth::grow(image, g, h.slot, k / layout::GRANULE_SECTORS + 1);
-    Answer { number, handle: h }
+    Answer {
+        refusal: refusal::carried(checked, number),
+        handle: h,
+    }
 }

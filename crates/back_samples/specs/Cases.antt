@@ -4,6 +4,7 @@ use Prim.Native.Nat.{ℕ, _+_}
 use mathlib.Core.Path.{_≡_, refl}
 use mathlib.Core.List.{List, [], _∷_, _++_}
 use lib.ListN.{replicate}
+use Rattle.meaning.specs.Refusal.{unplaced}
 use Rattle.meaning.specs.Kill.{kill}
 use Rattle.meaning.specs.BringBack.{bringBack}
 use Rattle.meaning.specs.Samples.{changed, written, held, puls, leer, three, sample, gaps, hits, e80, e81, e82, eA3, opened}
@@ -20,10 +21,10 @@ again =
     (0x10 ∷ 0x09 ∷ 0x3a ∷ 0x00 ∷ 0x00 ∷ 0x4e ∷ 0x45 ∷ 0x55 ∷ replicate 8 0x20 ++ (replicate 6 0x00 ++ replicate 10 0xff))
 
 abbrev pub refused : ℕ → BroughtBack
-refused number = record { number = number; slots = 0; granules = 0 }
+refused number = record { refusal = unplaced number; slots = 0; granules = 0 }
 
 abbrev pub back : ℕ → ℕ → BroughtBack
-back slots granules = record { number = 0; slots = slots; granules = granules }
+back slots granules = record { refusal = unplaced 0; slots = slots; granules = granules }
 
 killed-so : kill three sample (held 0xa3 puls 0 256 1) .1 ≡ gone
 unfolding opened

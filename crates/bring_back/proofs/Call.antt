@@ -11,11 +11,12 @@ use Rattle.meaning.specs.Layout.{isSlot, entryAt, taken, takeGranule, slots}
 use Rattle.meaning.specs.Names.{hash}
 use Rattle.meaning.specs.Entries.{inUse, system, nameOf, entryGranules}
 use Rattle.meaning.specs.Chain.{chain, owned}
-use Rattle.meaning.specs.Refusals.{first, check}
+use Rattle.meaning.specs.Refusals.{refusal, first, check}
 use Rattle.meaning.specs.BringBack
 use Rattle.meaning.specs.BringBack.{whole, backEntry, bringBack}
 use Rattle.meaning.specs.declared.Geometry.{Geometry}
 use Rattle.meaning.specs.declared.BroughtBack.{BroughtBack}
+use Rattle.meaning.specs.declared.Refusal.{Refusal}
 use Rattle.layout.specs.Room.{Room, Slot}
 use Rattle.layout.proofs.Lists.{not-yes, not-no, first-hit, first-skip, first-none}
 use Rattle.handle.proofs.Laws.{check-stop, check-then}
@@ -42,10 +43,10 @@ module _ (g : Geometry) (d : List ℕ) (s : ℕ) where
   refused-plan e q z =
       rw e (record { number-is = q; room = λ w. absurd (z w); written = λ w. absurd (z w); hash-is = λ w. absurd (z w); small = λ w. absurd (z w) })
 
-  pub at-check : {n : ℕ} → n ≡ check g d → (n ≡ 0 → ⊥) → n ≡ first (BringBack.bringBackRefusals g d s)
+  pub at-check : {k : Refusal} → k ≡ check g d → (k .number ≡ 0 → ⊥) → k .number ≡ first (BringBack.bringBackRefusals g d s)
   at-check e z = check-stop g d _ e z
 
-  module _ {n : ℕ} (e : n ≡ check g d) (z : n ≡ 0) where
+  module _ {k : Refusal} (e : k ≡ check g d) (z : k .number ≡ 0) where
     pub at-slot : isSlot g d s ≡ false → 12 ≡ first (BringBack.bringBackRefusals g d s)
     at-slot a = sym (check-then g d _ e z ∙ first-hit (not-no a) 12 _)
 
@@ -87,9 +88,10 @@ module _ (g : Geometry) (d : List ℕ) (s : ℕ) where
 
   -- Answer and image ---------------------------------------------------------------------------------------------------------
 
-  pub refused : {n : ℕ} → n ≡ first (BringBack.bringBackRefusals g d s) → (n ≡ 0 → ⊥) → _≡_ {A = BroughtBack × List ℕ} (record { number = n; slots = 0; granules = 0 }, d) (bringBack g d s)
+  pub refused : {n : ℕ} {c : Refusal} → c ≡ refusal g d n → n ≡ first (BringBack.bringBackRefusals g d s) → (n ≡ 0 → ⊥)
+      → _≡_ {A = BroughtBack × List ℕ} (record { refusal = c; slots = 0; granules = 0 }, d) (bringBack g d s)
   unfolding bringBack
-  refused {n} e z = rw (← e, ne-eqb n 0 z)
+  refused {n} q e z = rw (← e, ne-eqb n 0 z, q)
 
   pub listed-then : {es d′ : List ℕ} {n size : ℕ} → Room g d → Written g d (chain g d s) es n size → Same g d d′ → Listed g d′ es n
   listed-then r w e = record { few = w .listed .few; entry = λ j l. same-on-disk g r e (w .listed .entry j l) }
@@ -114,12 +116,12 @@ module _ (g : Geometry) (d : List ℕ) (s : ℕ) where
   unfolding owned
   own-are w = w .granules-are
 
-  pub accepted : {es d′ d″ : List ℕ} {p : Planned} → Plans g d s es p → p .number ≡ 0 → d′ ≡ through (takeGranule g) d (each (entryGranules g d) (firstOf es (p .slots)))
+  pub accepted : {es d′ d″ : List ℕ} {p : Planned} {c : Refusal} → c ≡ refusal g d 0 → Plans g d s es p → p .number ≡ 0 → d′ ≡ through (takeGranule g) d (each (entryGranules g d) (firstOf es (p .slots)))
       → d″ ≡ through (backEntry g (p .hash)) d′ (firstOf es (p .slots))
-      → _≡_ {A = BroughtBack × List ℕ} (record { number = 0; slots = p .slots; granules = p .granules }, d″) (bringBack g d s)
+      → _≡_ {A = BroughtBack × List ℕ} (record { refusal = c; slots = p .slots; granules = p .granules }, d″) (bringBack g d s)
   unfolding bringBack
-  accepted {es} {d′} {d″} {p} k z e f =
+  accepted {es} {d′} {d″} {p} y k z e f =
       let w = k .written z in
       let q : 0 ≡ first (BringBack.bringBackRefusals g d s) = sym z ∙ k .number-is in
       let a = slots-are w in let b = own-are w in
-      rw (← q, ← a, ← b, back-is w (k .hash-is z) e f)
+      rw (← q, ← a, ← b, back-is w (k .hash-is z) e f, y)

@@ -2,6 +2,7 @@
 // call is tested before anything is written.
 use meaning::BroughtBack;
 use meaning::Geometry;
+use meaning::Refusal;
 ghost use mathlib.Core.Path.{_≡_};
 ghost use lib.ListN.{length};
 ghost use Rattle.meaning.specs.Layout.{granules};
@@ -29,12 +30,18 @@ fn refused(number: u8) -> Planned
 }
 
 // Every test of the call. Nothing is written but, to `entries`, the slots of the killed file.
-fn plan(image: &[u8], g: Geometry, s: usize, checked: u8, entries: &mut [usize; 256]) -> Planned
+fn plan(
+    image: &[u8],
+    g: Geometry,
+    s: usize,
+    checked: Refusal,
+    entries: &mut [usize; 256],
+) -> Planned
     requires { ⌜ (checked ≡ check g (now image)) × (length (now entries) ≡ 256) ⌝ }
     ensures { λ r. ⌜ Plans g (now (image .entry)) s (now (entries .exit)) r ⌝ }
 {
-    if checked != 0 {
-        return refused(checked);
+    if checked.number != 0 {
+        return refused(checked.number);
     }
     if !layout::is_slot(image, g, s) {
         return refused(12);
@@ -68,7 +75,7 @@ fn plan(image: &[u8], g: Geometry, s: usize, checked: u8, entries: &mut [usize; 
 }
 
 // Bring back, of a disk whose check answered `checked`.
-pub fn bring_back_checked(image: &mut [u8], g: Geometry, s: usize, checked: u8) -> BroughtBack
+pub fn bring_back_checked(image: &mut [u8], g: Geometry, s: usize, checked: Refusal) -> BroughtBack
     requires { ⌜ checked ≡ check g (now image) ⌝ }
     ensures { λ r. ⌜ (r, now (image .exit)) ≡ bringBack g (now (image .entry)) s ⌝ }
 {
@@ -76,7 +83,7 @@ pub fn bring_back_checked(image: &mut [u8], g: Geometry, s: usize, checked: u8) 
     let p = plan(image, g, s, checked, &mut entries);
     if p.number != 0 {
         return BroughtBack {
-            number: p.number,
+            refusal: refusal::carried(checked, p.number),
             slots: 0,
             granules: 0,
         };
@@ -84,7 +91,7 @@ pub fn bring_back_checked(image: &mut [u8], g: Geometry, s: usize, checked: u8) 
     restore::take_all(image, g, &entries, p.slots);
     restore::back_all(image, g, &entries, p.slots, p.hash);
     BroughtBack {
-        number: 0,
+        refusal: refusal::carried(checked, 0),
         slots: p.slots,
         granules: p.granules,
     }

@@ -12,6 +12,7 @@ use meaning::LookedUp;
 use meaning::Mode;
 use meaning::NewFile;
 use meaning::Part;
+use meaning::Refusal;
 use meaning::Space;
 ghost use mathlib.Core.Path.{_≡_};
 ghost use Prim.Native.Nat.{_+_};
@@ -32,18 +33,18 @@ ghost use Rattle.meaning.specs.FreeSpace.{freeSpace};
 ghost use Rattle.read.specs.Part.{partOf, Lies};
 ghost use Rattle.differences.specs.Compare.{compare};
 
-// Check: 0, refusal 1, or a fault, 21 to 30.
-pub fn check(image: &[u8], g: Geometry) -> u8
+// Check: 0, refusal 1, or a fault, 21 to 30, and with a fault its slot.
+pub fn check(image: &[u8], g: Geometry) -> Refusal
     ensures { λ r. ⌜ r ≡ check g (now (image .entry)) ⌝ }
 {
-    diagnosis::checked(image, g)
+    diagnosis::check(image, g)
 }
 
 // Look up: the slot of the file of that name, and how many entries were compared.
 pub fn look_up(image: &[u8], g: Geometry, name: &[u8]) -> LookedUp
     ensures { λ r. ⌜ r ≡ lookUp g (now (image .entry)) (now (name .entry)) ⌝ }
 {
-    let checked = diagnosis::checked(image, g);
+    let checked = diagnosis::check(image, g);
     find::look_up_checked(image, g, name, checked)
 }
 
@@ -58,7 +59,7 @@ pub fn open_file(
 ) -> Answer
     ensures { λ r. ⌜ r ≡ open′ g (now (image .entry)) (now (name .entry)) len checking code ⌝ }
 {
-    let checked = diagnosis::checked(image, g);
+    let checked = diagnosis::check(image, g);
     find::open_checked(image, g, name, len, checking, code, checked)
 }
 
@@ -66,7 +67,7 @@ pub fn open_file(
 pub fn create(image: &mut [u8], g: Geometry, name: &[u8], f: NewFile, checking: bool) -> Created
     ensures { λ r. ⌜ (r, now (image .exit)) ≡ create g (now (image .entry)) (now (name .entry)) f checking ⌝ }
 {
-    let checked = diagnosis::checked(image, g);
+    let checked = diagnosis::check(image, g);
     create::create_checked(image, g, name, f, checking, checked)
 }
 
@@ -74,7 +75,7 @@ pub fn create(image: &mut [u8], g: Geometry, name: &[u8], f: NewFile, checking: 
 pub fn read_record(image: &[u8], g: Geometry, h: Handle, buffer: &mut [u8]) -> Answer
     ensures { λ r. ⌜ (r, now (buffer .exit)) ≡ readRecord g (now (image .entry)) h (now (buffer .entry)) ⌝ }
 {
-    let checked = diagnosis::checked(image, g);
+    let checked = diagnosis::check(image, g);
     read::record_checked(image, g, h, buffer, checked)
 }
 
@@ -83,30 +84,31 @@ pub fn sector_part(image: &[u8], g: Geometry, h: Handle, k: usize) -> Part
     ensures is { λ r. ⌜ r ≡ readSector g (now (image .entry)) h k ⌝ }
     ensures lies { λ r. ⌜ Lies r (length (now (image .entry))) ⌝ }
 {
-    let checked = diagnosis::checked(image, g);
+    let checked = diagnosis::check(image, g);
     read::sector_checked(image, g, h, k, checked)
 }
 
-// Read sector: the file's bytes in sector k, handed back as a part of the lent image; the refusal number goes out beside it.
+// Read sector: the file's bytes in sector k, handed back as a part of the lent image; the refusal's number and what goes with it go out beside it.
 pub fn read_sector<'a>(
     image: &'a [u8],
     g: Geometry,
     h: Handle,
     k: usize,
     number: &mut u8,
+    at: &mut usize,
 ) -> &'a [u8]
-    ensures what { λ r. ⌜ (now (number .exit), now r) ≡ partOf (now (image .entry)) (readSector g (now (image .entry)) h k) ⌝ }
+    ensures what { λ r. ⌜ (now (number .exit), now (at .exit), now r) ≡ partOf (now (image .entry)) (readSector g (now (image .entry)) h k) ⌝ }
     ensures place_at { λ r. ⌜ ptr r ≡ (ptr (image .entry) .0, ptr (image .entry) .1 + readSector g (now (image .entry)) h k .from) ⌝ }
 {
-    let checked = diagnosis::checked(image, g);
-    read::part_checked(image, g, h, k, checked, number)
+    let checked = diagnosis::check(image, g);
+    read::part_checked(image, g, h, k, checked, number, at)
 }
 
 // Write record: the record at the buffer's start goes to the file at the handle's position.
 pub fn write_record(image: &mut [u8], g: Geometry, mode: Mode, h: Handle, buffer: &[u8]) -> Answer
     ensures { λ r. ⌜ (r, now (image .exit)) ≡ writeRecord g (now (image .entry)) mode h (now (buffer .entry)) ⌝ }
 {
-    let checked = diagnosis::checked(image, g);
+    let checked = diagnosis::check(image, g);
     write::write_checked(image, g, mode, h, buffer, checked)
 }
 
@@ -114,7 +116,7 @@ pub fn write_record(image: &mut [u8], g: Geometry, mode: Mode, h: Handle, buffer
 pub fn allot(image: &mut [u8], g: Geometry, h: Handle, k: usize) -> Answer
     ensures { λ r. ⌜ (r, now (image .exit)) ≡ allot g (now (image .entry)) h k ⌝ }
 {
-    let checked = diagnosis::checked(image, g);
+    let checked = diagnosis::check(image, g);
     allot::allot_checked(image, g, h, k, checked)
 }
 
@@ -122,7 +124,7 @@ pub fn allot(image: &mut [u8], g: Geometry, h: Handle, k: usize) -> Answer
 pub fn trim(image: &mut [u8], g: Geometry, h: Handle) -> Answer
     ensures { λ r. ⌜ (r, now (image .exit)) ≡ trim g (now (image .entry)) h ⌝ }
 {
-    let checked = diagnosis::checked(image, g);
+    let checked = diagnosis::check(image, g);
     trim::trim_checked(image, g, h, checked)
 }
 
@@ -130,7 +132,7 @@ pub fn trim(image: &mut [u8], g: Geometry, h: Handle) -> Answer
 pub fn kill(image: &mut [u8], g: Geometry, h: Handle) -> Answer
     ensures { λ r. ⌜ (r, now (image .exit)) ≡ kill g (now (image .entry)) h ⌝ }
 {
-    let checked = diagnosis::checked(image, g);
+    let checked = diagnosis::check(image, g);
     kill::kill_checked(image, g, h, checked)
 }
 
@@ -138,7 +140,7 @@ pub fn kill(image: &mut [u8], g: Geometry, h: Handle) -> Answer
 pub fn bring_back(image: &mut [u8], g: Geometry, s: usize) -> BroughtBack
     ensures { λ r. ⌜ (r, now (image .exit)) ≡ bringBack g (now (image .entry)) s ⌝ }
 {
-    let checked = diagnosis::checked(image, g);
+    let checked = diagnosis::check(image, g);
     bring_back::bring_back_checked(image, g, s, checked)
 }
 
@@ -146,7 +148,7 @@ pub fn bring_back(image: &mut [u8], g: Geometry, s: usize) -> BroughtBack
 pub fn list(image: &[u8], g: Geometry, number: usize) -> Listed
     ensures { λ r. ⌜ r ≡ list g (now (image .entry)) number ⌝ }
 {
-    let checked = diagnosis::checked(image, g);
+    let checked = diagnosis::check(image, g);
     listing::list_checked(image, g, number, checked)
 }
 
@@ -154,7 +156,7 @@ pub fn list(image: &[u8], g: Geometry, number: usize) -> Listed
 pub fn counts(image: &[u8], g: Geometry) -> Counts
     ensures { λ r. ⌜ r ≡ counts g (now (image .entry)) ⌝ }
 {
-    let checked = diagnosis::checked(image, g);
+    let checked = diagnosis::check(image, g);
     listing::counts_checked(image, g, checked)
 }
 
@@ -169,7 +171,7 @@ pub fn free_space(image: &[u8], g: Geometry) -> Space
 pub fn compare(first: &[u8], g: Geometry, second: &[u8], h: Geometry, number: usize) -> Difference
     ensures { λ r. ⌜ r ≡ compare g (now (first .entry)) h (now (second .entry)) number ⌝ }
 {
-    let checked = diagnosis::checked(first, g);
-    let checked2 = diagnosis::checked(second, h);
+    let checked = diagnosis::check(first, g);
+    let checked2 = diagnosis::check(second, h);
     compare::compare_checked(first, g, second, h, number, checked, checked2)
 }

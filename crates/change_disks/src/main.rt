@@ -5,24 +5,24 @@ use meaning::Handle;
 use meaning::Mode;
 use meaning::NewFile;
 
-// 12 blocks of 2 units, directory of 10 sectors at sector 0.
-fn disk() -> Geometry {
+// A disk of so many blocks and units, its directory at a sector; code 0 stands for "no password".
+fn disk(blocks: usize, units: usize, start: usize) -> Geometry {
     Geometry {
-        blocks: 12,
-        units: 2,
-        start: 0,
+        blocks,
+        units,
+        start,
         anyone: 0,
     }
 }
 
+// 12 blocks of 2 units, directory of 10 sectors at sector 0.
+fn small() -> Geometry {
+    disk(12, 2, 0)
+}
+
 // Not the geometry of a disk of 30,720 bytes.
 fn other() -> Geometry {
-    Geometry {
-        blocks: 13,
-        units: 2,
-        start: 0,
-        anyone: 0,
-    }
+    disk(13, 2, 0)
 }
 
 // Granules 0 and 1 hold the directory, every other odd one is reserved, so that each granule taken starts a run; 11 are free.
@@ -97,7 +97,7 @@ fn created(
     should: u8,
 ) {
     let c = calls::create(image, g, name, f, true);
-    told(words, c.number, should);
+    told(words, c.refusal.number, should);
 }
 
 fn creates(image: &mut [u8; 30720]) {
@@ -113,7 +113,7 @@ fn creates(image: &mut [u8; 30720]) {
     damage(image);
     created(
         image,
-        disk(),
+        small(),
         b"PULS01  DAT",
         f,
         b"create, disk not consistent",
@@ -122,7 +122,7 @@ fn creates(image: &mut [u8; 30720]) {
     repair(image);
     created(
         image,
-        disk(),
+        small(),
         b"PULS01  DAT",
         new_file(257, 0),
         b"create, length 257",
@@ -130,7 +130,7 @@ fn creates(image: &mut [u8; 30720]) {
     );
     created(
         image,
-        disk(),
+        small(),
         b"PULS 01 DAT",
         f,
         b"create, a blank inside the name",
@@ -141,7 +141,7 @@ fn creates(image: &mut [u8; 30720]) {
 fn creates_old(image: &mut [u8; 30720]) {
     created(
         image,
-        disk(),
+        small(),
         b"PULS01  DAT",
         new_file(16, 0x1112),
         b"create, old file, wrong code",
@@ -149,7 +149,7 @@ fn creates_old(image: &mut [u8; 30720]) {
     );
     created(
         image,
-        disk(),
+        small(),
         b"PULS01  DAT",
         new_file(16, 0x1111),
         b"create, old file",
@@ -158,8 +158,8 @@ fn creates_old(image: &mut [u8; 30720]) {
 }
 
 fn first_file(image: &mut [u8; 30720]) -> Handle {
-    let c = calls::create(image, disk(), b"PULS01  DAT", new_file(16, 0x1111), true);
-    told(b"create", c.number, 0);
+    let c = calls::create(image, small(), b"PULS01  DAT", new_file(16, 0x1111), true);
+    told(b"create", c.refusal.number, 0);
     c.handle
 }
 
@@ -168,22 +168,22 @@ fn first_file(image: &mut [u8; 30720]) -> Handle {
 fn written(image: &mut [u8; 30720], g: Geometry, h: Handle, words: &[u8], should: u8) {
     let record = [0x55u8; 16];
     let a = calls::write_record(image, g, Mode::Random, h, &record);
-    told(words, a.number, should);
+    told(words, a.refusal.number, should);
 }
 
 fn writes(image: &mut [u8; 30720], h: Handle) {
     written(image, other(), h, b"write, image length not as stated", 1);
     damage(image);
-    written(image, disk(), h, b"write, disk not consistent", 22);
+    written(image, small(), h, b"write, disk not consistent", 22);
     repair(image);
     written(
         image,
-        disk(),
+        small(),
         placed(h, 1966065),
         b"write, past the highest position",
         12,
     );
-    written(image, disk(), elsewhere(h), b"write, handle stale", 7);
+    written(image, small(), elsewhere(h), b"write, handle stale", 7);
 }
 
 // No growth (E) set in the entry, and clear again.
@@ -196,23 +196,23 @@ fn growth(image: &mut [u8; 30720]) {
 }
 
 fn writes_more(image: &mut [u8; 30720], h: Handle) {
-    written(image, disk(), levelled(h, 5), b"write, level 5", 6);
+    written(image, small(), levelled(h, 5), b"write, level 5", 6);
     no_growth(image);
-    written(image, disk(), h, b"write, E set", 11);
+    written(image, small(), h, b"write, E set", 11);
     growth(image);
     written(
         image,
-        disk(),
+        small(),
         placed(h, 14080),
         b"write, a twelfth granule of 11",
         9,
     );
-    written(image, disk(), h, b"write", 0);
+    written(image, small(), h, b"write", 0);
 }
 
 fn allotted(image: &mut [u8; 30720], g: Geometry, h: Handle, k: usize, words: &[u8], should: u8) {
     let a = calls::allot(image, g, h, k);
-    told(words, a.number, should);
+    told(words, a.refusal.number, should);
 }
 
 fn allots(image: &mut [u8; 30720], h: Handle) {
@@ -225,33 +225,33 @@ fn allots(image: &mut [u8; 30720], h: Handle) {
         1,
     );
     damage(image);
-    allotted(image, disk(), h, 0, b"allot, disk not consistent", 22);
+    allotted(image, small(), h, 0, b"allot, disk not consistent", 22);
     repair(image);
     allotted(
         image,
-        disk(),
+        small(),
         h,
         layout::SECTOR_NUMBERS,
         b"allot, sector 7,680",
         12,
     );
-    allotted(image, disk(), elsewhere(h), 0, b"allot, handle stale", 7);
+    allotted(image, small(), elsewhere(h), 0, b"allot, handle stale", 7);
 }
 
 fn allots_more(image: &mut [u8; 30720], h: Handle) {
-    allotted(image, disk(), levelled(h, 5), 0, b"allot, level 5", 6);
+    allotted(image, small(), levelled(h, 5), 0, b"allot, level 5", 6);
     no_growth(image);
-    allotted(image, disk(), h, 5, b"allot, E set", 11);
+    allotted(image, small(), h, 5, b"allot, E set", 11);
     growth(image);
     allotted(
         image,
-        disk(),
+        small(),
         h,
         layout::SECTOR_NUMBERS - 1,
         b"allot, sector 7,679",
         9,
     );
-    allotted(image, disk(), h, 19, b"allot, four granules", 0);
+    allotted(image, small(), h, 19, b"allot, four granules", 0);
 }
 
 // No slot left -----------------------------------------------------------------------------------------------------------
@@ -260,8 +260,8 @@ fn allots_more(image: &mut [u8; 30720], h: Handle) {
 fn one_letter(image: &mut [u8; 30720], letter: u8) -> u8 {
     let mut name = [0x20u8; 11];
     name[0] = letter;
-    let c = calls::create(image, disk(), &name, new_file(16, 0), true);
-    c.number
+    let c = calls::create(image, small(), &name, new_file(16, 0), true);
+    c.refusal.number
 }
 
 // A file for each letter that a name may have.
@@ -284,10 +284,10 @@ fn fill_slots(image: &mut [u8; 30720]) {
 fn without_slots(image: &mut [u8; 30720], h: Handle) {
     let more = one_letter(image, 0x32);
     told(b"create, no slot left", more, 8);
-    allotted(image, disk(), h, 20, b"allot, a fifth run and no slot", 8);
+    allotted(image, small(), h, 20, b"allot, a fifth run and no slot", 8);
     written(
         image,
-        disk(),
+        small(),
         placed(h, 5120),
         b"write, a fifth run and no slot",
         8,
@@ -298,22 +298,22 @@ fn without_slots(image: &mut [u8; 30720], h: Handle) {
 
 fn trimmed(image: &mut [u8; 30720], g: Geometry, h: Handle, words: &[u8], should: u8) {
     let a = calls::trim(image, g, h);
-    told(words, a.number, should);
+    told(words, a.refusal.number, should);
 }
 
 fn trims(image: &mut [u8; 30720], h: Handle) {
     trimmed(image, other(), h, b"trim, image length not as stated", 1);
     damage(image);
-    trimmed(image, disk(), h, b"trim, disk not consistent", 22);
+    trimmed(image, small(), h, b"trim, disk not consistent", 22);
     repair(image);
     trimmed(
         image,
-        disk(),
+        small(),
         placed(h, 1966081),
         b"trim, position out of range",
         12,
     );
-    trimmed(image, disk(), elsewhere(h), b"trim, handle stale", 7);
+    trimmed(image, small(), elsewhere(h), b"trim, handle stale", 7);
 }
 
 // The system flag set in the entry, and clear again.
@@ -327,36 +327,36 @@ fn plain(image: &mut [u8; 30720]) {
 
 fn trims_more(image: &mut [u8; 30720], h: Handle) {
     system(image);
-    trimmed(image, disk(), h, b"trim, system file", 6);
+    trimmed(image, small(), h, b"trim, system file", 6);
     plain(image);
-    trimmed(image, disk(), h, b"trim", 0);
+    trimmed(image, small(), h, b"trim", 0);
 }
 
 fn killed(image: &mut [u8; 30720], g: Geometry, h: Handle, words: &[u8], should: u8) {
     let a = calls::kill(image, g, h);
-    told(words, a.number, should);
+    told(words, a.refusal.number, should);
 }
 
 fn kills(image: &mut [u8; 30720], h: Handle) {
     killed(image, other(), h, b"kill, image length not as stated", 1);
     damage(image);
-    killed(image, disk(), h, b"kill, disk not consistent", 22);
+    killed(image, small(), h, b"kill, disk not consistent", 22);
     repair(image);
-    killed(image, disk(), levelled(h, 8), b"kill, level 8", 12);
-    killed(image, disk(), elsewhere(h), b"kill, handle stale", 7);
+    killed(image, small(), levelled(h, 8), b"kill, level 8", 12);
+    killed(image, small(), elsewhere(h), b"kill, handle stale", 7);
 }
 
 fn kills_more(image: &mut [u8; 30720], h: Handle) {
-    killed(image, disk(), levelled(h, 2), b"kill, level 2", 6);
-    killed(image, disk(), levelled(h, 1), b"kill, level 1", 0);
-    killed(image, disk(), h, b"kill, handle stale since", 7);
+    killed(image, small(), levelled(h, 2), b"kill, level 2", 6);
+    killed(image, small(), levelled(h, 1), b"kill, level 1", 0);
+    killed(image, small(), h, b"kill, handle stale since", 7);
 }
 
 // Bring back -------------------------------------------------------------------------------------------------------------
 
 fn brought(image: &mut [u8; 30720], g: Geometry, s: usize, words: &[u8], should: u8) {
     let b = calls::bring_back(image, g, s);
-    told(words, b.number, should);
+    told(words, b.refusal.number, should);
 }
 
 // PULS01/DAT was killed in slot 80H, whose entry is at byte 640; the files of one letter are there.
@@ -369,22 +369,22 @@ fn brings(image: &mut [u8; 30720]) {
         1,
     );
     damage(image);
-    brought(image, disk(), 0x80, b"bring back, disk not consistent", 22);
+    brought(image, small(), 0x80, b"bring back, disk not consistent", 22);
     repair(image);
-    brought(image, disk(), 0x1f, b"bring back, no slot", 12);
-    brought(image, disk(), 0x81, b"bring back, slot in use", 17);
+    brought(image, small(), 0x1f, b"bring back, no slot", 12);
+    brought(image, small(), 0x81, b"bring back, slot in use", 17);
     image[640] = 0x40;
-    brought(image, disk(), 0x80, b"bring back, system file", 6);
+    brought(image, small(), 0x80, b"bring back, system file", 6);
     image[640] = 0x20;
-    brought(image, disk(), 0x80, b"bring back, bit 5", 18);
+    brought(image, small(), 0x80, b"bring back, bit 5", 18);
     image[640] = 0;
-    brought(image, disk(), 0, b"bring back, nothing there", 18);
+    brought(image, small(), 0, b"bring back, nothing there", 18);
 }
 
 // Its name in use, then all granules taken, then neither.
 fn brings_more(image: &mut [u8; 30720]) {
     copy::put_part(image, 645, b"A          ", 0, 11);
-    brought(image, disk(), 0x80, b"bring back, name in use", 19);
+    brought(image, small(), 0x80, b"bring back, name in use", 19);
     copy::put_part(image, 645, b"PULS01  DAT", 0, 11);
     copy::put_part(
         image,
@@ -393,10 +393,10 @@ fn brings_more(image: &mut [u8; 30720]) {
         0,
         12,
     );
-    brought(image, disk(), 0x80, b"bring back, granules taken", 20);
+    brought(image, small(), 0x80, b"bring back, granules taken", 20);
     reserve(image);
-    brought(image, disk(), 0x80, b"bring back", 0);
-    brought(image, disk(), 0x80, b"bring back, slot in use again", 17);
+    brought(image, small(), 0x80, b"bring back", 0);
+    brought(image, small(), 0x80, b"bring back, slot in use again", 17);
 }
 
 fn bytes(image: &mut [u8; 30720], h: Handle) {

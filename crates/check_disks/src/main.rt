@@ -6,14 +6,19 @@ ghost use Prim.Native.Nat.{_<_};
 // Where the entry of slot 3 stands: in directory sector 2 + 3, and the directory starts at sector 0.
 const SLOT_3: usize = 256 * (2 + 3);
 
-// 8 blocks of 2 units, directory of 10 sectors at sector 0.
-fn small() -> Geometry {
+// A disk of so many blocks and units, its directory at a sector; code 0 stands for "no password".
+fn disk(blocks: usize, units: usize, start: usize) -> Geometry {
     Geometry {
-        blocks: 8,
-        units: 2,
-        start: 0,
+        blocks,
+        units,
+        start,
         anyone: 0,
     }
+}
+
+// 8 blocks of 2 units, directory of 10 sectors at sector 0.
+fn small() -> Geometry {
+    disk(8, 2, 0)
 }
 
 // The number and the slot that the check should tell; slot 256 is none.
@@ -22,14 +27,14 @@ fn told(image: &[u8], g: Geometry, words: &[u8], number: u8, slot: usize) {
     io::write_all(1, words);
     io::write_all(1, b": ");
     io::print_decimal(1, f.number as u64);
-    if f.slot < diagnosis::NO_SLOT {
+    if f.at < refusal::NOWHERE {
         io::write_all(1, b" slot ");
-        io::print_decimal(1, f.slot as u64);
+        io::print_decimal(1, f.at as u64);
     }
     if f.number != number {
         io::write_all(1, b" WRONG");
     }
-    if f.slot != slot {
+    if f.at != slot {
         io::write_all(1, b" WRONG SLOT");
     }
     io::write_all(1, b"\n");
@@ -123,76 +128,38 @@ fn geometries(image: &[u8]) {
         small(),
         b"an image one byte short",
         1,
-        diagnosis::NO_SLOT,
+        refusal::NOWHERE,
     );
+    told(image, disk(0, 2, 0), b"no block", 1, refusal::NOWHERE);
+    told(image, disk(2, 9, 0), b"9 units", 1, refusal::NOWHERE);
     told(
         image,
-        Geometry {
-            blocks: 0,
-            units: 2,
-            start: 0,
-            anyone: 0,
-        },
-        b"no block",
-        1,
-        diagnosis::NO_SLOT,
-    );
-    told(
-        image,
-        Geometry {
-            blocks: 2,
-            units: 9,
-            start: 0,
-            anyone: 0,
-        },
-        b"9 units",
-        1,
-        diagnosis::NO_SLOT,
-    );
-    told(
-        image,
-        Geometry {
-            blocks: 18446744073709551615,
-            units: 18446744073709551615,
-            start: 18446744073709551615,
-            anyone: 0,
-        },
+        disk(
+            18446744073709551615,
+            18446744073709551615,
+            18446744073709551615,
+        ),
         b"the largest numbers",
         1,
-        diagnosis::NO_SLOT,
+        refusal::NOWHERE,
     );
     told(
         image,
-        Geometry {
-            blocks: 8,
-            units: 2,
-            start: 4,
-            anyone: 0,
-        },
+        disk(8, 2, 4),
         b"a start that is no multiple of 5",
         1,
-        diagnosis::NO_SLOT,
+        refusal::NOWHERE,
     );
     told(
         image,
-        Geometry {
-            blocks: 8,
-            units: 2,
-            start: 75,
-            anyone: 0,
-        },
+        disk(8, 2, 75),
         b"5 sectors behind the start",
         1,
-        diagnosis::NO_SLOT,
+        refusal::NOWHERE,
     );
     told(
         image,
-        Geometry {
-            blocks: 16,
-            units: 1,
-            start: 0,
-            anyone: 0,
-        },
+        disk(16, 1, 0),
         b"one unit a block on the same disk",
         26,
         0,
@@ -201,8 +168,8 @@ fn geometries(image: &[u8]) {
 
 // Damages to the HIT and the GAT.
 fn maps(image: &mut [u8; 20480]) {
-    with_byte(image, 287, 3, b"length byte 3", 21, diagnosis::NO_SLOT);
-    with_byte(image, 287, 25, b"length byte 25", 21, diagnosis::NO_SLOT);
+    with_byte(image, 287, 3, b"length byte 3", 21, refusal::NOWHERE);
+    with_byte(image, 287, 25, b"length byte 25", 21, refusal::NOWHERE);
     with_byte(image, 260, 7, b"a HIT byte without an entry", 22, 4);
     with_byte(image, 259, 0, b"an entry without a HIT byte", 22, 3);
     with_byte(image, 259, 0x71, b"a HIT byte that is not the hash", 22, 3);
@@ -351,14 +318,14 @@ fn chains(image: &mut [u8; 20480]) {
 
 // What is not tested.
 fn untested(image: &mut [u8; 20480]) {
-    with_byte(image, 3, 0x03, b"a granule reserved", 0, diagnosis::NO_SLOT);
+    with_byte(image, 3, 0x03, b"a granule reserved", 0, refusal::NOWHERE);
     with_byte(
         image,
         2,
         0xff,
         b"GAT bits past the last unit",
         0,
-        diagnosis::NO_SLOT,
+        refusal::NOWHERE,
     );
     with_byte(
         image,
@@ -366,7 +333,7 @@ fn untested(image: &mut [u8; 20480]) {
         0xff,
         b"a GAT byte past the last block",
         0,
-        diagnosis::NO_SLOT,
+        refusal::NOWHERE,
     );
     with_byte(
         image,
@@ -374,7 +341,7 @@ fn untested(image: &mut [u8; 20480]) {
         9,
         b"a HIT place that is no slot",
         0,
-        diagnosis::NO_SLOT,
+        refusal::NOWHERE,
     );
     with_byte(
         image,
@@ -382,16 +349,16 @@ fn untested(image: &mut [u8; 20480]) {
         0x8f,
         b"an entry not in use",
         0,
-        diagnosis::NO_SLOT,
+        refusal::NOWHERE,
     );
-    with_byte(image, 799, 9, b"a link behind FFH", 0, diagnosis::NO_SLOT);
+    with_byte(image, 799, 9, b"a link behind FFH", 0, refusal::NOWHERE);
     with_byte(
         image,
         793,
         9,
         b"the second byte of a pair that is none",
         0,
-        diagnosis::NO_SLOT,
+        refusal::NOWHERE,
     );
     with_byte(
         image,
@@ -399,7 +366,7 @@ fn untested(image: &mut [u8; 20480]) {
         9,
         b"an extension's byte 02",
         0,
-        diagnosis::NO_SLOT,
+        refusal::NOWHERE,
     );
     with_byte(
         image,
@@ -407,7 +374,7 @@ fn untested(image: &mut [u8; 20480]) {
         0x1f,
         b"invisible, level 7",
         0,
-        diagnosis::NO_SLOT,
+        refusal::NOWHERE,
     );
     with_byte(
         image,
@@ -415,16 +382,16 @@ fn untested(image: &mut [u8; 20480]) {
         0xff,
         b"F, E, B and the day",
         0,
-        diagnosis::NO_SLOT,
+        refusal::NOWHERE,
     );
-    with_byte(image, 1300, 0, b"n = 0 with e = 0", 0, diagnosis::NO_SLOT);
+    with_byte(image, 1300, 0, b"n = 0 with e = 0", 0, refusal::NOWHERE);
     with_byte(
         image,
         532,
         25,
         b"a size that fills the granules owned",
         0,
-        diagnosis::NO_SLOT,
+        refusal::NOWHERE,
     );
 }
 
@@ -446,7 +413,7 @@ fn twice(image: &mut [u8; 20480]) {
         0xc0,
         b"two files of two names",
         0,
-        diagnosis::NO_SLOT,
+        refusal::NOWHERE,
     );
 }
 
@@ -466,9 +433,9 @@ fn ring(image: &mut [u8; 20480]) {
 
 fn main() {
     let mut image = [0u8; 20480];
-    whole(&image, b"an empty image", 30, diagnosis::NO_SLOT);
+    whole(&image, b"an empty image", 30, refusal::NOWHERE);
     fill(&mut image);
-    whole(&image, b"the good disk", 0, diagnosis::NO_SLOT);
+    whole(&image, b"the good disk", 0, refusal::NOWHERE);
     other_geometries(&image);
     maps(&mut image);
     files(&mut image);

@@ -1,9 +1,14 @@
 -- Words of a call as the numbers that a host gives and gets.
 use Prim.Native.Nat.{ℕ, _+_}
 use mathlib.Core.Bool.{Bool, cond}
+use Rattle.meaning.specs.declared.Geometry.{Geometry}
 use Rattle.meaning.specs.declared.Mode.{Mode}
 use Rattle.meaning.specs.declared.Mode.the-variants.{Sequential, Random}
 use Rattle.differences.specs.declared.Difference.{Difference}
+
+-- the four numbers that state a disk
+abbrev pub geometry : ℕ → ℕ → ℕ → ℕ → Geometry
+geometry blocks units start code = record { blocks = blocks; units = units; start = start; anyone = code }
 
 -- the flag that a host gives for a write
 unfoldable pub modeOf : Bool → Mode

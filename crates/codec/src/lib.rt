@@ -1,5 +1,6 @@
-// What a host holds of the library's values: a handle as 19 bytes, a name as 11, flags as numbers.
+// What a host holds of the library's values: a disk as four numbers, a handle as 19 bytes, a name as 11, flags as numbers.
 use differences::Difference;
+use meaning::Geometry;
 use meaning::Handle;
 use meaning::Mode;
 ghost use mathlib.Core.Path.{_≡_};
@@ -9,11 +10,23 @@ ghost use lib.ListN.{length};
 ghost use lib.Seq.{sets};
 ghost use Rattle.layout.specs.Room.{Below};
 ghost use Rattle.codec.specs.Codec.{two, handleOf, stored};
-ghost use Rattle.codec.specs.Words.{modeOf, told, flagsOf};
+ghost use Rattle.codec.specs.Words.{geometry, modeOf, told, flagsOf};
 
 pub const HANDLE_BYTES: usize = 19;
 
 pub const NAME_BYTES: usize = 11;
+
+// The disk that a host states by its numbers.
+pub fn geometry(blocks: usize, units: usize, start: usize, open_code: u16) -> Geometry
+    ensures { λ r. ⌜ r ≡ geometry blocks units start open_code ⌝ }
+{
+    Geometry {
+        blocks,
+        units,
+        start,
+        anyone: open_code,
+    }
+}
 
 // Two bytes as a number, low byte first.
 fn two(b: &[u8], i: usize) -> usize

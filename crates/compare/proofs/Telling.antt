@@ -9,6 +9,8 @@ use lib.ListN.{length, replicate, drop, length-map, length-append}
 use lib.Seq.{drop-nil}
 use lib.Dec.{T, eqb, leb, leb→le}
 use borrow.Author.Tests.{ne-eqb, eq-eqb}
+use Rattle.meaning.specs.Refusal.{unplaced, naming}
+use Rattle.meaning.specs.declared.Refusal.{Refusal}
 use Rattle.meaning.specs.Lists.{count, length-count, keep, all}
 use Rattle.meaning.specs.Layout.{slots, isSlot, field}
 use Rattle.meaning.specs.Names.{letter, wellFormed}
@@ -30,7 +32,7 @@ use Rattle.rising.specs.declared.Pair.{Pair}
 use Rattle.rising.proofs.Pairs.{starts-file, merged-in}
 
 -- a disk whose check answered 0 is whole
-pub whole : (g : Geometry) (d : List ℕ) {no : ℕ} → no ≡ check g d → no ≡ 0 → Whole g d
+pub whole : (g : Geometry) (d : List ℕ) {c : Refusal} → c ≡ check g d → c .number ≡ 0 → Whole g d
 whole g d e z = let k = checked g d e z in record { sound = sound g d (k .fits) (k .sound); holds = facts.sound g d (k .sound) }
 
 -- so many names at the most
@@ -140,7 +142,7 @@ module _ (g : Geometry) (d : List ℕ) (h : Geometry) (e : List ℕ) where
         dropped zero z = absurd (z refl)
         dropped (suc m) z = let q : m ≡ suc m - 1 = omega arith in ap (drop (suc m)) (one f) ∙ ap (λ (j : ℕ). drop j (told-later n)) q
 
-  pub going-end : (i left : ℕ) (last : List ℕ) (k : ℕ) → later g d h e last ≡ [] → Going i left last k → tellsNone 0 0 ≡ tellFirst (drop i (differences g d h e))
+  pub going-end : (i left : ℕ) (last : List ℕ) (k : ℕ) → later g d h e last ≡ [] → Going i left last k → tellsNone (unplaced 0) ≡ tellFirst (drop i (differences g d h e))
   unfolding tellFirst told-later
   going-end i left last k a t =
       sym (ap tellFirst (t .ahead ∙ ap (λ (l : List (List ℕ)). drop left (keep isOne (map (at′ g d h e) l))) a ∙ drop-nil left))
@@ -168,14 +170,16 @@ module _ (g : Geometry) (d : List ℕ) (h : Geometry) (e : List ℕ) where
   is-none {x} q z = ap (λ (w : Difference). not (eqb (w .kind) 0)) (sym q) ∙ ap not (eq-eqb (x .kind) 0 z)
 
   -- refused and accepted
-  pub first-refused : (i : ℕ) {no : ℕ} {r : Difference} → r ≡ tellsNone no 1 → no ≡ check g d → (no ≡ 0 → ⊥) → r ≡ compare g d h e i
+  pub first-refused : (i : ℕ) {c : Refusal} {r : Difference} → r ≡ tellsNone (naming 1 c) → c ≡ check g d → (c .number ≡ 0 → ⊥) → r ≡ compare g d h e i
   unfolding compare
-  first-refused i {no} f q z = f ∙ (rw (← q, ne-eqb no 0 z))
+  first-refused i {c} f q z = f ∙ (rw (← q, ne-eqb (c .number) 0 z))
 
-  pub second-refused : (i : ℕ) {no no′ : ℕ} {r : Difference} → r ≡ tellsNone no′ 2 → no ≡ check g d → no ≡ 0 → no′ ≡ check h e → (no′ ≡ 0 → ⊥) → r ≡ compare g d h e i
+  pub second-refused : (i : ℕ) {c c′ : Refusal} {r : Difference} → r ≡ tellsNone (naming 2 c′) → c ≡ check g d → c .number ≡ 0 → c′ ≡ check h e
+      → (c′ .number ≡ 0 → ⊥) → r ≡ compare g d h e i
   unfolding compare
-  second-refused i {no} {no′} f q z q′ z′ = f ∙ (rw (← q, z, ← q′, ne-eqb no′ 0 z′))
+  second-refused i {c} {c′} f q z q′ z′ = f ∙ (rw (← q, z, ← q′, ne-eqb (c′ .number) 0 z′))
 
-  pub accepted′ : (i : ℕ) {no no′ : ℕ} {r : Difference} → r ≡ tellFirst (drop i (differences g d h e)) → no ≡ check g d → no ≡ 0 → no′ ≡ check h e → no′ ≡ 0 → r ≡ compare g d h e i
+  pub accepted′ : (i : ℕ) {c c′ : Refusal} {r : Difference} → r ≡ tellFirst (drop i (differences g d h e)) → c ≡ check g d → c .number ≡ 0
+      → c′ ≡ check h e → c′ .number ≡ 0 → r ≡ compare g d h e i
   unfolding compare
   accepted′ i f q z q′ z′ = f ∙ (rw (← q, z, ← q′, z′))

@@ -6,6 +6,8 @@ use Prim.Native.Nat.{ℕ}
 use lib.ListN.{length}
 use lib.Dec.{eqb}
 use borrow.Author.Tests.{ne-eqb}
+use Rattle.meaning.specs.Refusal.{unplaced}
+use Rattle.meaning.specs.declared.Refusal.{Refusal}
 use Rattle.meaning.specs.Lists.{same, all, any}
 use Rattle.meaning.specs.Entries.{nameOf, sizeOf, system}
 use Rattle.meaning.specs.Read.{fetch}
@@ -28,12 +30,12 @@ any-none = refl
 module _ (g : Geometry) (d : List ℕ) (h : Geometry) (e : List ℕ) where
   module _ (s t : ℕ) where
     -- two files, all tests made
-    pub unlike-is : {name : List ℕ} {n m at kind : ℕ} {contents size date other : Bool} → name ≡ nameOf g d s → n ≡ sizeOf g d s → m ≡ sizeOf h e t
+    pub unlike-is : {name : List ℕ} {n m at kind : ℕ} {contents size date other : Bool} {r : Refusal} → r ≡ unplaced 0 → name ≡ nameOf g d s → n ≡ sizeOf g d s → m ≡ sizeOf h e t
         → at ≡ parting (fetch g d s 0 n) (fetch h e t 0 m) → contents ≡ contentsDiffer at n m → size ≡ not (eqb n m) → date ≡ datesDiffer g d h e s t → other ≡ othersDiffer g d h e s t
         → kind ≡ kindOf contents size date other
-        → _≡_ {A = Difference} (record { number = 0; image = 0; kind = kind; name = name; at = at; contents = contents; size = size; date = date; other = other }) (unlike (nameOf g d s) (fileAt g d s) (fileAt h e t))
+        → _≡_ {A = Difference} (record { refusal = r; kind = kind; name = name; at = at; contents = contents; size = size; date = date; other = other }) (unlike (nameOf g d s) (fileAt g d s) (fileAt h e t))
     unfolding unlike fileAt datesDiffer othersDiffer kindOf contentsDiffer
-    unlike-is {name} {n} {m} {at} {kind} {contents} {size} {date} {other} a b c k f i j l o =
+    unlike-is {name} {n} {m} {at} {kind} {contents} {size} {date} {other} y a b c k f i j l o =
         let xs : List ℕ = fetch g d s 0 (sizeOf g d s) in let ys : List ℕ = fetch h e t 0 (sizeOf h e t) in
         let p : length xs ≡ sizeOf g d s = length-fetch g d s 0 (sizeOf g d s) in
         let q : length ys ≡ sizeOf h e t = length-fetch h e t 0 (sizeOf h e t) in
@@ -42,8 +44,7 @@ module _ (g : Geometry) (d : List ℕ) (h : Geometry) (e : List ℕ) where
         let contents′ : contents ≡ not (same xs ys) = f ∙ (λ u. not (all (eqb (n′ u) (m′ u) ∷ eqb (at′ u) (n′ u) ∷ []))) ∙ ap not (sym (same-parting xs ys)) in
         let size′ : size ≡ not (eqb (length xs) (length ys)) = i ∙ (λ u. not (eqb (n′ u) (m′ u))) in
         λ u. record {
-          number = 0;
-          image = 0;
+          refusal = y u;
           kind = (o ∙ (λ v. cond (any (contents′ v ∷ size′ v ∷ j v ∷ l v ∷ [])) 3 0)) u;
           name = a u;
           at = at′ u;

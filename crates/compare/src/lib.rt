@@ -1,6 +1,7 @@
 // Compare: the differences of two disks by rising names, one told a call.
 use differences::Difference;
 use meaning::Geometry;
+use meaning::Refusal;
 use rising::Pair;
 ghost use mathlib.Core.Path.{_≡_};
 ghost use lib.ListN.{drop};
@@ -51,8 +52,7 @@ fn name_only(image: &[u8], g: Geometry, s: usize, kind: u8) -> Difference
 {
     let p = rising::name_place(image, g, s);
     Difference {
-        number: 0,
-        image: 0,
+        refusal: refusal::unplaced(0),
         kind,
         name: find::name_at(image, p),
         at: 0,
@@ -78,8 +78,7 @@ fn unlike(first: &[u8], g: Geometry, second: &[u8], h: Geometry, s: usize, t: us
     let kind = kind_of(contents, size, date, other);
     let p = rising::name_place(first, g, s);
     Difference {
-        number: 0,
-        image: 0,
+        refusal: refusal::unplaced(0),
         kind,
         name: find::name_at(first, p),
         at,
@@ -111,12 +110,11 @@ fn difference_at(first: &[u8], g: Geometry, second: &[u8], h: Geometry, p: Pair)
 }
 
 // Nothing told: a refusal with the image it names, or "no more".
-pub fn tells_none(number: u8, image: u8) -> Difference
-    ensures { λ r. ⌜ r ≡ tellsNone number image ⌝ }
+pub fn tells_none(c: Refusal) -> Difference
+    ensures { λ r. ⌜ r ≡ tellsNone c ⌝ }
 {
     Difference {
-        number,
-        image,
+        refusal: c,
         kind: 0,
         name: [0u8; 11],
         at: 0,
@@ -138,7 +136,7 @@ fn told(first: &[u8], g: Geometry, second: &[u8], h: Geometry, number: usize) ->
     while k < MOST_NAMES {
         let p = rising::next_pair(first, g, second, h, &last);
         if p.kind == 0 {
-            return tells_none(0, 0);
+            return tells_none(refusal::unplaced(0));
         }
         let x = difference_at(first, g, second, h, p);
         if x.kind != 0 {
@@ -150,7 +148,7 @@ fn told(first: &[u8], g: Geometry, second: &[u8], h: Geometry, number: usize) ->
         last = x.name;
         k += 1;
     }
-    tells_none(0, 0)
+    tells_none(refusal::unplaced(0))
 }
 
 // Compare, of two disks whose checks answered `checked` and `checked2`.
@@ -160,17 +158,17 @@ pub fn compare_checked(
     second: &[u8],
     h: Geometry,
     number: usize,
-    checked: u8,
-    checked2: u8,
+    checked: Refusal,
+    checked2: Refusal,
 ) -> Difference
     requires { ⌜ (checked ≡ check g (now first)) × (checked2 ≡ check h (now second)) ⌝ }
     ensures { λ r. ⌜ r ≡ compare g (now (first .entry)) h (now (second .entry)) number ⌝ }
 {
-    if checked != 0 {
-        return tells_none(checked, 1);
+    if checked.number != 0 {
+        return tells_none(refusal::naming(1, checked));
     }
-    if checked2 != 0 {
-        return tells_none(checked2, 2);
+    if checked2.number != 0 {
+        return tells_none(refusal::naming(2, checked2));
     }
     told(first, g, second, h, number)
 }

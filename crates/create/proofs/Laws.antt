@@ -13,7 +13,8 @@ use Rattle.meaning.specs.Layout.{entryAt, hitAt}
 use Rattle.meaning.specs.Names.{hash, wellFormed}
 use Rattle.meaning.specs.Entries.{dateByte}
 use Rattle.meaning.specs.Free.{freeSlots, freeSlot, permitted}
-use Rattle.meaning.specs.Refusals.{first, check, newInRange, noHandle}
+use Rattle.meaning.specs.Refusal.{carried}
+use Rattle.meaning.specs.Refusals.{refusal, first, check, newInRange, noHandle}
 use Rattle.meaning.specs.LookUp.{named, missing, slotOf}
 use Rattle.meaning.specs.Open.{admits, openedAt}
 use Rattle.meaning.specs.Create.{newEntry, newSlot, withEntry, createRefusals, create}
@@ -21,6 +22,7 @@ use Rattle.meaning.specs.declared.Geometry.{Geometry}
 use Rattle.meaning.specs.declared.Handle.{Handle}
 use Rattle.meaning.specs.declared.NewFile.{NewFile}
 use Rattle.meaning.specs.declared.Created.{Created}
+use Rattle.meaning.specs.declared.Refusal.{Refusal}
 use Rattle.laws.specs.Members
 use Rattle.laws.specs.Members.{In}
 use Rattle.layout.specs.Room.{Slot}
@@ -85,10 +87,10 @@ module _ (g : Geometry) (d : List ℕ) where
 
 -- the answers
 module _ (g : Geometry) (d n : List ℕ) (f : NewFile) (checking : Bool) where
-  pub told : {no : ℕ} {r : Created} → r ≡ record { number = no; old = false; handle = noHandle } → no ≡ first (createRefusals g d n f checking) → (no ≡ 0 → ⊥)
-      → _≡_ {A = Created × List ℕ} (r, d) (create g d n f checking)
+  pub told : {no : ℕ} {c : Refusal} {r : Created} → c ≡ check g d → r ≡ record { refusal = carried c no; old = false; handle = noHandle }
+      → no ≡ first (createRefusals g d n f checking) → (no ≡ 0 → ⊥) → _≡_ {A = Created × List ℕ} (r, d) (create g d n f checking)
   unfolding create
-  told {no} q e z = rw (q, ← e, ne-eqb no 0 z)
+  told {no} p q e z = rw (← e, ne-eqb no 0 z, q, p)
 
   absent : named g d n ≡ [] → missing g d n ≡ true
   absent e = ap (λ (l : List ℕ). eqb (length l) 0) e
@@ -96,24 +98,24 @@ module _ (g : Geometry) (d n : List ℕ) (f : NewFile) (checking : Bool) where
   there : {s : ℕ} → named g d n ≡ s ∷ [] → missing g d n ≡ false
   there e = ap (λ (l : List ℕ). eqb (length l) 0) e
 
-  pub opened : {s : ℕ} {h : Handle} → first (createRefusals g d n f checking) ≡ 0 → named g d n ≡ s ∷ [] → h ≡ openedAt g d s n (f .len) checking (f .main)
-      → _≡_ {A = Created × List ℕ} (record { number = 0; old = true; handle = h }, d) (create g d n f checking)
+  pub opened : {s : ℕ} {h : Handle} {c : Refusal} → c ≡ refusal g d 0 → first (createRefusals g d n f checking) ≡ 0 → named g d n ≡ s ∷ [] → h ≡ openedAt g d s n (f .len) checking (f .main)
+      → _≡_ {A = Created × List ℕ} (record { refusal = c; old = true; handle = h }, d) (create g d n f checking)
   unfolding create
-  opened {s} e m q = rw (e, there m, q, slot-found g d n (f .len) checking (f .main) m)
+  opened {s} y e m q = rw (e, there m, q, slot-found g d n (f .len) checking (f .main) m, y)
 
-  pub made : {x : ℕ} {m d′ : List ℕ} → first (createRefusals g d n f checking) ≡ 0 → named g d n ≡ [] → x ≡ newSlot g d → m ≡ n → d′ ≡ withEntry g d x n f
-      → _≡_ {A = Created × List ℕ} (record { number = 0; old = false; handle = record { slot = x; name = m; at = 0; len = f .len; level = 0 } }, d′) (create g d n f checking)
+  pub made : {x : ℕ} {m d′ : List ℕ} {c : Refusal} → c ≡ refusal g d 0 → first (createRefusals g d n f checking) ≡ 0 → named g d n ≡ [] → x ≡ newSlot g d → m ≡ n → d′ ≡ withEntry g d x n f
+      → _≡_ {A = Created × List ℕ} (record { refusal = c; old = false; handle = record { slot = x; name = m; at = 0; len = f .len; level = 0 } }, d′) (create g d n f checking)
   unfolding create
-  made e m q v w = rw (w, v, q, e, absent m)
+  made y e m q v w = rw (w, v, q, e, absent m, y)
 
   -- the number, test after test
-  pub by-check : {c : ℕ} → c ≡ check g d → (c ≡ 0 → ⊥) → c ≡ first (createRefusals g d n f checking)
+  pub by-check : {c : Refusal} → c ≡ check g d → (c .number ≡ 0 → ⊥) → c .number ≡ first (createRefusals g d n f checking)
   by-check e z = check-stop g d _ e z
 
-  pub by-range : {c : ℕ} → c ≡ check g d → c ≡ 0 → newInRange f ≡ false → 12 ≡ first (createRefusals g d n f checking)
+  pub by-range : {c : Refusal} → c ≡ check g d → c .number ≡ 0 → newInRange f ≡ false → 12 ≡ first (createRefusals g d n f checking)
   by-range e z r = sym (check-then g d _ e z ∙ first-hit (not-no r) 12 _)
 
-  pub by-name : {c : ℕ} → c ≡ check g d → c ≡ 0 → newInRange f ≡ true → wellFormed n ≡ false → 3 ≡ first (createRefusals g d n f checking)
+  pub by-name : {c : Refusal} → c ≡ check g d → c .number ≡ 0 → newInRange f ≡ true → wellFormed n ≡ false → 3 ≡ first (createRefusals g d n f checking)
   by-name e z r w = sym (check-then g d _ e z ∙ first-skip (not-yes r) 12 _ ∙ first-hit (not-no w) 3 _)
 
   abbrev code : Bool
@@ -122,26 +124,26 @@ module _ (g : Geometry) (d n : List ℕ) (f : NewFile) (checking : Bool) where
   abbrev full : Bool
   full = all (missing g d n ∷ eqb (length (freeSlots g d)) 0 ∷ [])
 
-  named-first : {c : ℕ} → c ≡ check g d → c ≡ 0 → newInRange f ≡ true → wellFormed n ≡ true → first (createRefusals g d n f checking) ≡ first ((5, code) ∷ (8, full) ∷ [])
+  named-first : {c : Refusal} → c ≡ check g d → c .number ≡ 0 → newInRange f ≡ true → wellFormed n ≡ true → first (createRefusals g d n f checking) ≡ first ((5, code) ∷ (8, full) ∷ [])
   named-first e z r w = check-then g d _ e z ∙ first-skip (not-yes r) 12 _ ∙ first-skip (not-yes w) 3 _
 
   -- where the file is there: 5, or it is opened
-  pub by-code : {c s : ℕ} → c ≡ check g d → c ≡ 0 → newInRange f ≡ true → wellFormed n ≡ true → named g d n ≡ s ∷ [] → admits g d s checking (f .main) ≡ false
+  pub by-code : {c : Refusal} {s : ℕ} → c ≡ check g d → c .number ≡ 0 → newInRange f ≡ true → wellFormed n ≡ true → named g d n ≡ s ∷ [] → admits g d s checking (f .main) ≡ false
       → 5 ≡ first (createRefusals g d n f checking)
   by-code e z r w m a =
       sym (named-first e z r w ∙ first-hit (all-yes (not-no (there m)) _ ∙ all-yes (not-no (ap (λ (s : ℕ). admits g d s checking (f .main)) (slot-found g d n (f .len) checking (f .main) m) ∙ a)) _ ∙ all-none) 5 _)
 
-  pub is-old : {c s : ℕ} → c ≡ check g d → c ≡ 0 → newInRange f ≡ true → wellFormed n ≡ true → named g d n ≡ s ∷ [] → admits g d s checking (f .main) ≡ true
+  pub is-old : {c : Refusal} {s : ℕ} → c ≡ check g d → c .number ≡ 0 → newInRange f ≡ true → wellFormed n ≡ true → named g d n ≡ s ∷ [] → admits g d s checking (f .main) ≡ true
       → first (createRefusals g d n f checking) ≡ 0
   is-old e z r w m a =
       named-first e z r w ∙ first-skip (all-yes (not-no (there m)) _ ∙ all-no (not-yes (ap (λ (s : ℕ). admits g d s checking (f .main)) (slot-found g d n (f .len) checking (f .main) m) ∙ a)) _) 5 _
       ∙ first-skip (all-no (there m) _) 8 _ ∙ first-none
 
   -- where it is not: 8, or it is made
-  pub by-slot : {c : ℕ} → c ≡ check g d → c ≡ 0 → newInRange f ≡ true → wellFormed n ≡ true → named g d n ≡ [] → eqb (length (freeSlots g d)) 0 ≡ true
+  pub by-slot : {c : Refusal} → c ≡ check g d → c .number ≡ 0 → newInRange f ≡ true → wellFormed n ≡ true → named g d n ≡ [] → eqb (length (freeSlots g d)) 0 ≡ true
       → 8 ≡ first (createRefusals g d n f checking)
   by-slot e z r w m a = sym (named-first e z r w ∙ first-skip (all-no (not-yes (absent m)) _) 5 _ ∙ first-hit (all-yes (absent m) _ ∙ all-yes a _ ∙ all-none) 8 _)
 
-  pub is-new : {c : ℕ} → c ≡ check g d → c ≡ 0 → newInRange f ≡ true → wellFormed n ≡ true → named g d n ≡ [] → eqb (length (freeSlots g d)) 0 ≡ false
+  pub is-new : {c : Refusal} → c ≡ check g d → c .number ≡ 0 → newInRange f ≡ true → wellFormed n ≡ true → named g d n ≡ [] → eqb (length (freeSlots g d)) 0 ≡ false
       → first (createRefusals g d n f checking) ≡ 0
   is-new e z r w m a = named-first e z r w ∙ first-skip (all-no (not-yes (absent m)) _) 5 _ ∙ first-skip (all-yes (absent m) _ ∙ all-no a _) 8 _ ∙ first-none

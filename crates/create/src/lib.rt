@@ -3,11 +3,13 @@ use meaning::Created;
 use meaning::Geometry;
 use meaning::Handle;
 use meaning::NewFile;
+use meaning::Refusal;
 ghost use mathlib.Core.Path.{_≡_};
 ghost use mathlib.Core.Bool.{false, true};
 ghost use Prim.Native.Nat.{_+_, _*_, _<_, _≤_};
 ghost use lib.ListN.{length};
 ghost use Rattle.meaning.specs.Layout.{entryAt};
+ghost use Rattle.meaning.specs.Refusal.{carried};
 ghost use Rattle.meaning.specs.Refusals.{check, newInRange, noHandle};
 ghost use Rattle.meaning.specs.Create.{create, withEntry};
 
@@ -60,11 +62,11 @@ fn put_entry(image: &mut [u8], g: Geometry, x: usize, name: &[u8], f: NewFile)
 }
 
 // A refused create hands back a handle of zeros.
-fn refused(number: u8) -> Created
-    ensures { λ r. ⌜ r ≡ record { number = number; old = false; handle = noHandle } ⌝ }
+fn refused(checked: Refusal, number: u8) -> Created
+    ensures { λ r. ⌜ r ≡ record { refusal = carried checked number; old = false; handle = noHandle } ⌝ }
 {
     Created {
-        number,
+        refusal: refusal::carried(checked, number),
         old: false,
         handle: find::no_handle(),
     }
@@ -77,39 +79,39 @@ pub fn create_checked(
     name: &[u8],
     f: NewFile,
     checking: bool,
-    checked: u8,
+    checked: Refusal,
 ) -> Created
     requires { ⌜ checked ≡ check g (now image) ⌝ }
     ensures { λ r. ⌜ (r, now (image .exit)) ≡ create g (now (image .entry)) (now (name .entry)) f checking ⌝ }
 {
-    if checked != 0 {
-        return refused(checked);
+    if checked.number != 0 {
+        return refused(checked, checked.number);
     }
     if !in_range(f) {
-        return refused(12);
+        return refused(checked, 12);
     }
     let n = spelling::incoming(name);
     if n.place != spelling::NO_PLACE {
-        return refused(3);
+        return refused(checked, 3);
     }
     let found = find::find(image, g, &n.name);
     if found.is {
         if !find::admits(image, g, found.slot, checking, f.main) {
-            return refused(5);
+            return refused(checked, 5);
         }
         return Created {
-            number: 0,
+            refusal: refusal::carried(checked, 0),
             old: true,
             handle: find::opened_at(image, g, found.slot, &n.name, f.len, checking, f.main),
         };
     }
     let x = space::first_free_slot(image, g);
     if x == 256 {
-        return refused(8);
+        return refused(checked, 8);
     }
     put_entry(image, g, x, &n.name, f);
     Created {
-        number: 0,
+        refusal: refusal::carried(checked, 0),
         old: false,
         handle: Handle {
             slot: x,

@@ -13,20 +13,18 @@ use Rattle.meaning.specs.Sizes
 use Rattle.meaning.specs.Entries.{primary, nameOf}
 use Rattle.meaning.specs.Chain.{files}
 use Rattle.meaning.specs.Consistent.{lengthHolds, directoryTaken, consistent}
-use Rattle.meaning.specs.Fault.{faultAt, lowest, fault, unplaced}
-use Rattle.meaning.specs.Refusals.{check, faultRefusals}
+use Rattle.meaning.specs.Refusal.{unplaced, placed}
+use Rattle.meaning.specs.Fault.{faultAt, lowest, fault}
 use Rattle.meaning.specs.declared.Geometry.{Geometry}
-use Rattle.meaning.specs.declared.Fault.{Fault}
+use Rattle.meaning.specs.declared.Refusal.{Refusal}
 use Rattle.layout.specs.Room.{Room, Slot}
 use Rattle.layout.proofs.Laws.{name-part}
-use Rattle.layout.proofs.Lists.{keep-yes, keep-no, first-hit}
+use Rattle.layout.proofs.Lists.{keep-yes, keep-no}
 use Rattle.laws.specs.Members
 use Rattle.laws.specs.Facts
 use Rattle.laws.specs.Kinds
-use Rattle.laws.specs.Fault as FaultLaws
-use Rattle.laws.specs.Passed.{check-number}
 use Rattle.kinds.proofs.Laws.{count-more, count-none}
-use Rattle.diagnosis.specs.Told.{sameFile, faultIn, afterSlots, told}
+use Rattle.diagnosis.specs.Told.{sameFile, faultIn, afterSlots}
 
 pub beq-off : (a b : Bool) → a ≡ true → not b ≡ Bool·beq (not a) b
 beq-off true true h = refl
@@ -37,10 +35,6 @@ pub beq-on : (a b : Bool) → a ≡ false → b ≡ Bool·beq (not a) b
 beq-on false true h = refl
 beq-on false false h = refl
 beq-on true b h = absurd (let z : _≡_ {A = ℕ} 0 1 = cc in let q : ⊥ = omega arith in q)
-
--- a fault at a slot
-abbrev placed : ℕ → ℕ → Fault
-placed n s = record { number = n; slot = s }
 
 module _ (g : Geometry) (d : List ℕ) where
   place-low : (s : ℕ) → Room g d → Slot g d s → entryAt g s + 32 ≤ length d
@@ -92,7 +86,7 @@ module _ (g : Geometry) (d : List ℕ) where
   unfolding faultIn
   one-in s h = sym (ap {B = ℕ} (λ (b : Bool). cond b (faultAt g d s) 0) h)
 
-  pub all-slots : (after : Fault) → lowest g d after (slots g d) ≡ lowest g d after (keep (isSlot g d) (count 0 (256 - 0)))
+  pub all-slots : (after : Refusal) → lowest g d after (slots g d) ≡ lowest g d after (keep (isSlot g d) (count 0 (256 - 0)))
   unfolding slots
   all-slots after = refl
 
@@ -100,7 +94,7 @@ module _ (g : Geometry) (d : List ℕ) where
   abbrev pub later : ℕ → List ℕ
   later s = keep (isSlot g d) (count (s + 1) (256 - (s + 1)))
 
-  module _ (after : Fault) (s n : ℕ) (i : lowest g d after (slots g d) ≡ lowest g d after (keep (isSlot g d) (count s (256 - s)))) (e : n ≡ faultIn g d s) where
+  module _ (after : Refusal) (s n : ℕ) (i : lowest g d after (slots g d) ≡ lowest g d after (keep (isSlot g d) (count s (256 - s)))) (e : n ≡ faultIn g d s) where
     here : s < 256 → isSlot g d s ≡ true → keep (isSlot g d) (count s (256 - s)) ≡ s ∷ (later s)
     here h t = ap (keep (isSlot g d)) (count-more h) ∙ keep-yes (isSlot g d) t (count (s + 1) (256 - (s + 1)))
 
@@ -118,8 +112,8 @@ module _ (g : Geometry) (d : List ℕ) where
         by true t =
             let q : n ≡ faultAt g d s = e ∙ sym (one-in s t) in
             sym (i ∙ ap (lowest g d after) (here h t) ∙ lowest-more
-            ∙ ap {B = Fault} (λ (b : Bool). cond b (lowest g d after (later s)) (placed (faultAt g d s) s)) (ne-eqb (faultAt g d s) 0 (λ w. z (q ∙ w)))
-            ∙ ap {B = Fault} (λ (k : ℕ). placed k s) (sym q))
+            ∙ ap {B = Refusal} (λ (b : Bool). cond b (lowest g d after (later s)) (placed (faultAt g d s) s)) (ne-eqb (faultAt g d s) 0 (λ w. z (q ∙ w)))
+            ∙ ap {B = Refusal} (λ (k : ℕ). placed k s) (sym q))
         by false t = absurd (z (e ∙ sym (none-in s t)))
 
     pub slot-clear : s < 256 → n ≡ 0 → lowest g d after (slots g d) ≡ lowest g d after (later s)
@@ -129,10 +123,10 @@ module _ (g : Geometry) (d : List ℕ) where
         by true t =
             let q : faultAt g d s ≡ 0 = one-in s t ∙ sym e ∙ z in
             i ∙ ap (lowest g d after) (here h t) ∙ lowest-more
-            ∙ ap {B = Fault} (λ (b : Bool). cond b (lowest g d after (later s)) (placed (faultAt g d s) s)) (eq-eqb (faultAt g d s) 0 q)
+            ∙ ap {B = Refusal} (λ (b : Bool). cond b (lowest g d after (later s)) (placed (faultAt g d s) s)) (eq-eqb (faultAt g d s) 0 q)
         by false t = i ∙ ap (lowest g d after) (gone h t)
 
-  pub slots-done : (after : Fault) (s : ℕ) → lowest g d after (slots g d) ≡ lowest g d after (keep (isSlot g d) (count s (256 - s))) → 256 ≤ s → after ≡ lowest g d after (slots g d)
+  pub slots-done : (after : Refusal) (s : ℕ) → lowest g d after (slots g d) ≡ lowest g d after (keep (isSlot g d) (count s (256 - s))) → 256 ≤ s → after ≡ lowest g d after (slots g d)
   unfolding lowest
   slots-done after s i h = sym (i ∙ ap (λ (l : List ℕ). lowest g d after (keep (isSlot g d) l)) (count-none h))
 
@@ -146,40 +140,18 @@ module _ (g : Geometry) (d : List ℕ) where
 
   pub clear-no : {a n : ℕ} → a ≡ g .start / granuleSectors g → n ≡ roundUp (directorySectors g d) (granuleSectors g) → every (taken g d) (count a n) ≡ false → unplaced 30 ≡ afterSlots g d
   unfolding afterSlots
-  clear-no e f h = sym (ap {B = Fault} (λ (b : Bool). cond b (unplaced 0) (unplaced 30)) (taken-by e f h))
+  clear-no e f h = sym (ap {B = Refusal} (λ (b : Bool). cond b (unplaced 0) (unplaced 30)) (taken-by e f h))
 
   pub clear-yes : {a n : ℕ} → a ≡ g .start / granuleSectors g → n ≡ roundUp (directorySectors g d) (granuleSectors g) → every (taken g d) (count a n) ≡ true → unplaced 0 ≡ afterSlots g d
   unfolding afterSlots
-  clear-yes e f h = sym (ap {B = Fault} (λ (b : Bool). cond b (unplaced 0) (unplaced 30)) (taken-by e f h))
+  clear-yes e f h = sym (ap {B = Refusal} (λ (b : Bool). cond b (unplaced 0) (unplaced 30)) (taken-by e f h))
 
   -- The disk -----------------------------------------------------------------------------------------------------------------------
 
   pub length-no : lengthHolds g d ≡ false → unplaced 21 ≡ fault g d
   unfolding fault afterSlots
-  length-no h = sym (ap {B = Fault} (λ (b : Bool). cond b (lowest g d (afterSlots g d) (slots g d)) (unplaced 21)) h)
+  length-no h = sym (ap {B = Refusal} (λ (b : Bool). cond b (lowest g d (afterSlots g d) (slots g d)) (unplaced 21)) h)
 
   pub length-yes : lengthHolds g d ≡ true → lowest g d (afterSlots g d) (slots g d) ≡ fault g d
   unfolding fault afterSlots
-  length-yes h = sym (ap {B = Fault} (λ (b : Bool). cond b (lowest g d (afterSlots g d) (slots g d)) (unplaced 21)) h)
-
-  pub told-one : fitsGeometry g d ≡ false → unplaced 1 ≡ told g d
-  unfolding told
-  told-one h = sym (ap {B = Fault} (λ (b : Bool). cond b (fault g d) (unplaced 1)) h)
-
-  pub told-fault : fitsGeometry g d ≡ true → fault g d ≡ told g d
-  unfolding told
-  told-fault h = sym (ap {B = Fault} (λ (b : Bool). cond b (fault g d) (unplaced 1)) h)
-
-  pub told-none : fitsGeometry g d ≡ true → consistent g d ≡ true → unplaced 0 ≡ told g d
-  told-none h c = sym (FaultLaws.no-fault g d .1 c) ∙ told-fault h
-
-  check-one : fitsGeometry g d ≡ false → check g d ≡ 1
-  unfolding check
-  check-one e = first-hit (ap not e) 1 (faultRefusals g d ++ [])
-
-  pub told-number : told g d .number ≡ check g d
-  told-number = by (fitsGeometry g d) refl
-    where
-      by : (b : Bool) → fitsGeometry g d ≡ b → told g d .number ≡ check g d
-      by true e = ap {B = ℕ} (λ (f : Fault). f .number) (sym (told-fault e)) ∙ sym (check-number g d e)
-      by false e = ap {B = ℕ} (λ (f : Fault). f .number) (sym (told-one e)) ∙ sym (check-one e)
+  length-yes h = sym (ap {B = Refusal} (λ (b : Bool). cond b (lowest g d (afterSlots g d) (slots g d)) (unplaced 21)) h)

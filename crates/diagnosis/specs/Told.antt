@@ -1,16 +1,17 @@
--- What the check of a whole disk tells: number and slot.
+-- What is told slot by slot, and after the slots.
 use mathlib.Core.Bool.{Bool, not, cond}
 use mathlib.Core.List.{List, [], _∷_}
 use Prim.Native.Nat.{ℕ}
 use lib.Dec.{eqb}
 use Rattle.meaning.specs.Lists.{same, all}
-use Rattle.meaning.specs.Layout.{fitsGeometry, isSlot, hit}
+use Rattle.meaning.specs.Layout.{isSlot, hit}
 use Rattle.meaning.specs.Names.{hash}
 use Rattle.meaning.specs.Entries.{primary, nameOf}
 use Rattle.meaning.specs.Consistent.{directoryTaken}
-use Rattle.meaning.specs.Fault.{fault, fileOf, faultAt, unplaced}
+use Rattle.meaning.specs.Refusal.{unplaced}
+use Rattle.meaning.specs.Fault.{fileOf, faultAt}
 use Rattle.meaning.specs.declared.Geometry.{Geometry}
-use Rattle.meaning.specs.declared.Fault.{Fault}
+use Rattle.meaning.specs.declared.Refusal.{Refusal}
 
 module _ (g : Geometry) (d : List ℕ) where
   -- the HIT byte is not the hash of the file's name
@@ -26,9 +27,5 @@ module _ (g : Geometry) (d : List ℕ) where
   faultIn s = cond (isSlot g d s) (faultAt g d s) 0
 
   -- after all slots: a clear directory granule
-  unfoldable pub afterSlots : Fault
+  unfoldable pub afterSlots : Refusal
   afterSlots = cond (directoryTaken g d) (unplaced 0) (unplaced 30)
-
-  -- 1 where geometry or image length is not as 01 has it, else the fault; 256 where there is no slot
-  unfoldable pub told : Fault
-  told = cond (fitsGeometry g d) (fault g d) (unplaced 1)

@@ -1,6 +1,6 @@
 // The fault of a disk (02): what is inconsistent, and where. It is looked for only where the fast check says no.
-use meaning::Fault;
 use meaning::Geometry;
+use meaning::Refusal;
 ghost use mathlib.Core.Path.{_≡_};
 ghost use mathlib.Core.Bool.{true};
 ghost use Prim.Native.Nat.{_+_, _*_, _<_};
@@ -11,10 +11,7 @@ ghost use Rattle.meaning.specs.Fault.{hitFault, nameFault, duplicateFault, faul
 ghost use Rattle.meaning.specs.Refusals.{check};
 ghost use Rattle.layout.specs.Room.{Room, Slot};
 ghost use Rattle.consistency.specs.Slots.{Fits};
-ghost use Rattle.diagnosis.specs.Told.{hashDiffers, sameFile, faultIn, afterSlots, told};
-
-// told where a fault has no slot, and where there is no fault
-pub const NO_SLOT: usize = 256;
+ghost use Rattle.diagnosis.specs.Told.{hashDiffers, sameFile, faultIn, afterSlots};
 
 // A slot's HIT byte is nonzero exactly if its entry is in use.
 fn hit_holds(image: &[u8], g: Geometry, s: usize) -> bool
@@ -159,26 +156,20 @@ fn fault_in(image: &[u8], g: Geometry, s: usize) -> u8
 }
 
 // What is told where no slot is at fault.
-fn after_slots(image: &[u8], g: Geometry) -> Fault
+fn after_slots(image: &[u8], g: Geometry) -> Refusal
     requires { ⌜ Room g (now image) ⌝ }
     ensures { λ r. ⌜ r ≡ afterSlots g (now (image .entry)) ⌝ }
 {
     let a = g.start / layout::GRANULE_SECTORS;
     let n = layout::directory_granules(image, g);
     if !kinds::all_taken(image, g, a, n) {
-        return Fault {
-            number: 30,
-            slot: NO_SLOT,
-        };
+        return refusal::unplaced(30);
     }
-    Fault {
-        number: 0,
-        slot: NO_SLOT,
-    }
+    refusal::unplaced(0)
 }
 
 // The lowest slot at fault, and what is told after the slots.
-fn slots_fault(image: &[u8], g: Geometry) -> Fault
+fn slots_fault(image: &[u8], g: Geometry) -> Refusal
     requires { ⌜ Room g (now image) ⌝ }
     ensures { λ r. ⌜ r ≡ lowest g (now (image .entry)) (afterSlots g (now (image .entry))) (slots g (now (image .entry))) ⌝ }
 {
@@ -186,7 +177,11 @@ fn slots_fault(image: &[u8], g: Geometry) -> Fault
     while s < 256 {
         let n = fault_in(image, g, s);
         if n != 0 {
-            return Fault { number: n, slot: s };
+            return Refusal {
+                number: n,
+                image: 0,
+                at: s,
+            };
         }
         s += 1;
     }
@@ -194,42 +189,25 @@ fn slots_fault(image: &[u8], g: Geometry) -> Fault
 }
 
 // The fault of a disk whose geometry and image length fit.
-pub fn fault_of(image: &[u8], g: Geometry) -> Fault
+pub fn fault_of(image: &[u8], g: Geometry) -> Refusal
     requires { ⌜ Fits g (now image) ⌝ }
     ensures { λ r. ⌜ r ≡ fault g (now (image .entry)) ⌝ }
 {
     if !consistency::length_holds(image, g) {
-        return Fault {
-            number: 21,
-            slot: NO_SLOT,
-        };
+        return refusal::unplaced(21);
     }
     slots_fault(image, g)
 }
 
-// The check of a whole disk: number 1 where the geometry or the image's length does not fit, else the fault; slot 256 where there is
-// none.
-pub fn check(image: &[u8], g: Geometry) -> Fault
-    ensures { λ r. ⌜ r ≡ told g (now (image .entry)) ⌝ }
-{
-    if !layout::fits_geometry(image, g) {
-        return Fault {
-            number: 1,
-            slot: NO_SLOT,
-        };
-    }
-    if consistency::consistent(image, g) {
-        return Fault {
-            number: 0,
-            slot: NO_SLOT,
-        };
-    }
-    fault_of(image, g)
-}
-
-// The number alone, as every call tests it.
-pub fn checked(image: &[u8], g: Geometry) -> u8
+// The check of a whole disk: 1 where the geometry or the image's length does not fit, else the fault with its slot.
+pub fn check(image: &[u8], g: Geometry) -> Refusal
     ensures { λ r. ⌜ r ≡ check g (now (image .entry)) ⌝ }
 {
-    check(image, g).number
+    if !layout::fits_geometry(image, g) {
+        return refusal::unplaced(1);
+    }
+    if consistency::consistent(image, g) {
+        return refusal::unplaced(0);
+    }
+    fault_of(image, g)
 }

@@ -7,9 +7,11 @@ use lib.ListN.{length, getD, replicate, drop}
 use Rattle.meaning.specs.Lists.{keep, same, any}
 use Rattle.meaning.specs.Entries.{nameOf}
 use Rattle.meaning.specs.Chain.{files}
+use Rattle.meaning.specs.Refusal.{unplaced, naming}
 use Rattle.meaning.specs.Refusals.{check, accepted}
 use Rattle.meaning.specs.Plain.{File, Found, found, nothing, isSystem, plain}
 use Rattle.meaning.specs.declared.Geometry.{Geometry}
+use Rattle.meaning.specs.declared.Refusal.{Refusal}
 use Rattle.differences.specs.declared.Difference.{Difference}
 
 -- Order: by name and type bytes, rising ------------------------------------------------------------------------------------
@@ -54,7 +56,7 @@ othersOf f = attribute f 0 ∷ attribute f 1 / 32 ∷ drop 3 (f .attributes)
 -- only the name counts: files only in the first (kind 1), only in the second (2), or no difference (0)
 abbrev pub nameOnly : List ℕ → ℕ → Difference
 nameOnly n kind =
-    record { number = 0; image = 0; kind = kind; name = n; at = 0; contents = false; size = false; date = false; other = false }
+    record { refusal = unplaced 0; kind = kind; name = n; at = 0; contents = false; size = false; date = false; other = false }
 
 -- in both: unlike (kind 3), with which of size, date and other attributes differ, or no difference (0). Where the files stand on their
 -- disks, and how many granules they own, is not asked: placement on disk is no difference.
@@ -65,8 +67,7 @@ unlike n f f′ =
     let date = not (same (dateOf f) (dateOf f′)) in
     let other = not (same (othersOf f) (othersOf f′)) in
     record {
-      number = 0;
-      image = 0;
+      refusal = unplaced 0;
       kind = cond (any (contents ∷ size ∷ date ∷ other ∷ [])) 3 0;
       name = n;
       at = parting (f .bytes) (f′ .bytes);
@@ -88,12 +89,12 @@ unfoldable pub isOne : Difference → Bool
 isOne x = not (eqb (x .kind) 0)
 
 -- nothing is told: a refusal, naming the image, or "no more", which is accepted and names none
-abbrev pub tellsNone : ℕ → ℕ → Difference
-tellsNone number image =
-    record { number = number; image = image; kind = 0; name = replicate 11 0; at = 0; contents = false; size = false; date = false; other = false }
+abbrev pub tellsNone : Refusal → Difference
+tellsNone c =
+    record { refusal = c; kind = 0; name = replicate 11 0; at = 0; contents = false; size = false; date = false; other = false }
 
 unfoldable pub tellFirst : List Difference → Difference
-tellFirst [] = tellsNone 0 0
+tellFirst [] = tellsNone (unplaced 0)
 tellFirst (x ∷ xs) = x
 
 -- the names of a disk's files
@@ -117,5 +118,6 @@ module _ (g : Geometry) (d : List ℕ) (g′ : Geometry) (d′ : List ℕ) where
   -- 30, §2), each naming the image, the first's before the second's.
   unfoldable pub compare : ℕ → Difference
   compare i =
-      let no = check g d in let no′ = check g′ d′ in
-      cond (accepted no) (cond (accepted no′) (tellFirst (drop i differences)) (tellsNone no′ 2)) (tellsNone no 1)
+      let c = check g d in let c′ = check g′ d′ in
+      cond (accepted (c .number)) (cond (accepted (c′ .number)) (tellFirst (drop i differences)) (tellsNone (naming 2 c′)))
+      (tellsNone (naming 1 c))

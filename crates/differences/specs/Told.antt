@@ -18,13 +18,13 @@ difference-name n (found f) (found f′) = by (any (isSystem f ∷ isSystem f′
     by true = refl
     by false = refl
 
-pub difference-number : (n : List ℕ) (a b : Found) → difference n a b .number ≡ 0
+pub difference-number : (n : List ℕ) (a b : Found) → difference n a b .refusal .number ≡ 0
 unfolding difference unlike
 difference-number n nothing nothing = refl
 difference-number n (found f) nothing = refl
 difference-number n nothing (found f) = refl
 difference-number n (found f) (found f′) = by (any (isSystem f ∷ isSystem f′ ∷ []))
   where
-    by : (t : Bool) → cond t (nameOnly n 0) (unlike n f f′) .number ≡ 0
+    by : (t : Bool) → cond t (nameOnly n 0) (unlike n f f′) .refusal .number ≡ 0
     by true = refl
     by false = refl

@@ -4,6 +4,7 @@ use mathlib.Core.Path.{_≡_, refl}
 use mathlib.Core.Bool.{true, false}
 use mathlib.Core.List.{List, [], _∷_, _++_}
 use lib.ListN.{replicate}
+use Rattle.meaning.specs.Refusal.{unplaced, placed, naming}
 use Rattle.meaning.specs.Samples.{laid, puls, leer, three, hits, e80, e81, gaps, filled, opened}
 use Rattle.meaning.specs.declared.Geometry.{Geometry}
 use Rattle.differences.specs.Compare.{before, put, rising, parting, unlike, difference, isOne, tellFirst, names, merged, differences, compare, nameOnly, tellsNone}
@@ -70,42 +71,42 @@ unfolding opened before put rising parting unlike difference isOne tellFirst nam
 seen = 0
 
 -- Placement on disk is no difference: another granule, another geometry, five granules for none.
-same-elsewhere : compare three abc three moved 0 ≡ tellsNone 0 0
+same-elsewhere : compare three abc three moved 0 ≡ tellsNone (unplaced 0)
 unfolding seen
 same-elsewhere = refl
 
-other-geometry : compare three abc two halved 0 ≡ tellsNone 0 0
+other-geometry : compare three abc two halved 0 ≡ tellsNone (unplaced 0)
 unfolding seen
 other-geometry = refl
 
-more-granules : compare three gaps three filled 0 ≡ tellsNone 0 0
+more-granules : compare three gaps three filled 0 ≡ tellsNone (unplaced 0)
 unfolding seen
 more-granules = refl
 
 -- the first byte position where contents part, or the smaller size if one is a beginning of the other
 part-at-two : compare three abc three abd 0
-    ≡ record { number = 0; image = 0; kind = 3; name = leer; at = 2; contents = true; size = false; date = false; other = false }
+    ≡ record { refusal = unplaced 0; kind = 3; name = leer; at = 2; contents = true; size = false; date = false; other = false }
 unfolding seen
 part-at-two = refl
 
 beginning : compare three abc three ab 0
-    ≡ record { number = 0; image = 0; kind = 3; name = leer; at = 2; contents = true; size = true; date = false; other = false }
+    ≡ record { refusal = unplaced 0; kind = 3; name = leer; at = 2; contents = true; size = true; date = false; other = false }
 unfolding seen
 beginning = refl
 
 -- date and other attributes, contents alike: the position is their size
 other-date : compare three abc three later 0
-    ≡ record { number = 0; image = 0; kind = 3; name = leer; at = 3; contents = false; size = false; date = true; other = false }
+    ≡ record { refusal = unplaced 0; kind = 3; name = leer; at = 3; contents = false; size = false; date = true; other = false }
 unfolding seen
 other-date = refl
 
 other-flag : compare three abc three hidden 0
-    ≡ record { number = 0; image = 0; kind = 3; name = leer; at = 3; contents = false; size = false; date = false; other = true }
+    ≡ record { refusal = unplaced 0; kind = 3; name = leer; at = 3; contents = false; size = false; date = false; other = true }
 unfolding seen
 other-flag = refl
 
 -- A file that is a system file on either is compared by name only.
-system-file : compare three abc three kept 0 ≡ tellsNone 0 0
+system-file : compare three abc three kept 0 ≡ tellsNone (unplaced 0)
 unfolding seen
 system-file = refl
 
@@ -114,16 +115,16 @@ unfolding seen
 only-a-system-file = refl
 
 -- by name, rising, not by slot; then "no more"
-by-name : (compare three pair three empty 0 ≡ nameOnly leer 1) × (compare three pair three empty 1 ≡ nameOnly puls 1) × (compare three pair three empty 2 ≡ tellsNone 0 0)
+by-name : (compare three pair three empty 0 ≡ nameOnly leer 1) × (compare three pair three empty 1 ≡ nameOnly puls 1) × (compare three pair three empty 2 ≡ tellsNone (unplaced 0))
 unfolding seen
 by-name = (refl, refl, refl)
 
-second-only : (compare three abc three pair 0 ≡ nameOnly puls 2) × (compare three abc three pair 1 ≡ tellsNone 0 0)
+second-only : (compare three abc three pair 0 ≡ nameOnly puls 2) × (compare three abc three pair 1 ≡ tellsNone (unplaced 0))
 unfolding seen
 second-only = (refl, refl)
 
 -- Refusals name the image, the first's before the second's: 22, a HIT byte without an entry, and 1.
-refused : (compare three bad three bad 0 ≡ tellsNone 22 1) × (compare three abc three bad 0 ≡ tellsNone 22 2) × (compare three bad two abc 0 ≡ tellsNone 22 1)
-    × (compare three (0 ∷ []) three bad 0 ≡ tellsNone 1 1) × (compare three abc three (0 ∷ []) 0 ≡ tellsNone 1 2)
+refused : (compare three bad three bad 0 ≡ tellsNone (naming 1 (placed 22 0x80))) × (compare three abc three bad 0 ≡ tellsNone (naming 2 (placed 22 0x80))) × (compare three bad two abc 0 ≡ tellsNone (naming 1 (placed 22 0x80)))
+    × (compare three (0 ∷ []) three bad 0 ≡ tellsNone (naming 1 (unplaced 1))) × (compare three abc three (0 ∷ []) 0 ≡ tellsNone (naming 2 (unplaced 1)))
 unfolding seen
 refused = (refl, refl, refl, refl, refl)

@@ -105,7 +105,7 @@ fn create_pulses(image: &mut [u8; 30720], should: &mut [u8; 2560]) -> Handle {
         0,
         32,
     );
-    told(image, should, b"create PULS01/DAT", c.number);
+    told(image, should, b"create PULS01/DAT", c.refusal.number);
     c.handle
 }
 
@@ -128,7 +128,7 @@ fn create_empty(image: &mut [u8; 30720], should: &mut [u8; 2560]) -> Handle {
         0,
         32,
     );
-    told(image, should, b"create LEER", c.number);
+    told(image, should, b"create LEER", c.refusal.number);
     c.handle
 }
 
@@ -137,11 +137,16 @@ fn first_granules(image: &mut [u8; 30720], should: &mut [u8; 2560], pulses: Hand
     let a = calls::allot(image, disk(), pulses, 0);
     should[1] = 0x03;
     copy::put_part(should, 640 + 0x16, b"\x01\x00", 0, 2);
-    told(image, should, b"allot PULS01/DAT to sector 0", a.number);
+    told(
+        image,
+        should,
+        b"allot PULS01/DAT to sector 0",
+        a.refusal.number,
+    );
     let b = calls::allot(image, disk(), empty, 4);
     should[2] = 0x03;
     copy::put_part(should, 896 + 0x16, b"\x02\x00", 0, 2);
-    told(image, should, b"allot LEER to sector 4", b.number);
+    told(image, should, b"allot LEER to sector 4", b.refusal.number);
 }
 
 // Four runs, then a fifth in an extension at slot 82H.
@@ -149,13 +154,23 @@ fn first_extension(image: &mut [u8; 30720], should: &mut [u8; 2560], pulses: Han
     let a = calls::allot(image, disk(), pulses, 19);
     copy::put_part(should, 3, b"\x03\x03\x03", 0, 3);
     copy::put_part(should, 640 + 0x18, b"\x03\x00\x04\x00\x05\x00", 0, 6);
-    told(image, should, b"allot PULS01/DAT to sector 19", a.number);
+    told(
+        image,
+        should,
+        b"allot PULS01/DAT to sector 19",
+        a.refusal.number,
+    );
     let b = calls::allot(image, disk(), pulses, 20);
     should[6] = 0x03;
     should[386] = 0xc1;
     copy::put_part(should, 640 + 0x1e, b"\xfe\x82", 0, 2);
     put_extension(should);
-    told(image, should, b"allot PULS01/DAT to sector 20", b.number);
+    told(
+        image,
+        should,
+        b"allot PULS01/DAT to sector 20",
+        b.refusal.number,
+    );
 }
 
 // The extension at slot 82H as it is made, with granule 12.
@@ -193,13 +208,28 @@ fn put_second(should: &mut [u8; 2560]) {
 fn second_extension(image: &mut [u8; 30720], should: &mut [u8; 2560], pulses: Handle) {
     let a = calls::allot(image, disk(), pulses, 40);
     put_second(should);
-    told(image, should, b"allot PULS01/DAT to sector 40", a.number);
+    told(
+        image,
+        should,
+        b"allot PULS01/DAT to sector 40",
+        a.refusal.number,
+    );
     let b = calls::allot(image, disk(), pulses, 54);
     should[11] = 0x03;
     copy::put_part(should, 1408 + 0x18, b"\x0b\x01", 0, 2);
-    told(image, should, b"allot PULS01/DAT to sector 54", b.number);
+    told(
+        image,
+        should,
+        b"allot PULS01/DAT to sector 54",
+        b.refusal.number,
+    );
     let c = calls::allot(image, disk(), pulses, 55);
-    told(image, should, b"allot PULS01/DAT to sector 55", c.number);
+    told(
+        image,
+        should,
+        b"allot PULS01/DAT to sector 55",
+        c.refusal.number,
+    );
 }
 
 // Of the size 0 no granule is kept: both extensions go.
@@ -218,7 +248,7 @@ fn trim_to_none(image: &mut [u8; 30720], should: &mut [u8; 2560], pulses: Handle
     put_unused(should, 1152 + 0x16);
     should[1408] = 0x80;
     put_unused(should, 1408 + 0x16);
-    told(image, should, b"trim PULS01/DAT", a.number);
+    told(image, should, b"trim PULS01/DAT", a.refusal.number);
 }
 
 // Pairs, marker and link unused.
@@ -253,10 +283,20 @@ fn write_far(image: &mut [u8; 30720], should: &mut [u8; 2560], pulses: Handle) {
         10,
     );
     put_extension(should);
-    told(image, should, b"write PULS01/DAT at 5120, random", a.number);
+    told(
+        image,
+        should,
+        b"write PULS01/DAT at 5120, random",
+        a.refusal.number,
+    );
     let b = calls::allot(image, disk(), pulses, 40);
     put_second(should);
-    told(image, should, b"allot PULS01/DAT to sector 40", b.number);
+    told(
+        image,
+        should,
+        b"allot PULS01/DAT to sector 40",
+        b.refusal.number,
+    );
 }
 
 // Trim keeps 5 granules, and one extension. A write at the start makes the size 256; trim keeps one granule, and no extension.
@@ -273,7 +313,7 @@ fn trim_to_one(image: &mut [u8; 30720], should: &mut [u8; 2560], pulses: Handle)
     );
     should[1408] = 0x80;
     put_unused(should, 1408 + 0x16);
-    told(image, should, b"trim PULS01/DAT", a.number);
+    told(image, should, b"trim PULS01/DAT", a.refusal.number);
     let record = [0x66u8; 256];
     let b = calls::write_record(image, disk(), Mode::Sequential, pulses, &record);
     should[640 + 0x14] = 0x01;
@@ -281,7 +321,7 @@ fn trim_to_one(image: &mut [u8; 30720], should: &mut [u8; 2560], pulses: Handle)
         image,
         should,
         b"write PULS01/DAT at 0, sequential",
-        b.number,
+        b.refusal.number,
     );
     let c = calls::trim(image, disk(), pulses);
     copy::put_part(should, 3, b"\x02\x02\x02\x02", 0, 4);
@@ -290,7 +330,7 @@ fn trim_to_one(image: &mut [u8; 30720], should: &mut [u8; 2560], pulses: Handle)
     copy::put_part(should, 640 + 0x16, b"\x01\x00", 0, 2);
     should[1152] = 0x80;
     put_unused(should, 1152 + 0x16);
-    told(image, should, b"trim PULS01/DAT", c.number);
+    told(image, should, b"trim PULS01/DAT", c.refusal.number);
 }
 
 // Kill; the handle is stale then. LEER has stood untouched all the while, and goes last.
@@ -299,14 +339,14 @@ fn kill_both(image: &mut [u8; 30720], should: &mut [u8; 2560], pulses: Handle, e
     should[1] = 0x02;
     should[384] = 0;
     should[640] = 0;
-    told(image, should, b"kill PULS01/DAT", a.number);
+    told(image, should, b"kill PULS01/DAT", a.refusal.number);
     let b = calls::kill(image, disk(), pulses);
-    told(image, should, b"kill PULS01/DAT", b.number);
+    told(image, should, b"kill PULS01/DAT", b.refusal.number);
     let c = calls::kill(image, disk(), empty);
     should[2] = 0x02;
     should[385] = 0;
     should[896] = 0;
-    told(image, should, b"kill LEER", c.number);
+    told(image, should, b"kill LEER", c.refusal.number);
 }
 
 fn main() {

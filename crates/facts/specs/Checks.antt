@@ -2,6 +2,7 @@
 use mathlib.Core.Path.{_≡_, refl}
 use mathlib.Core.List.{[], _∷_}
 use Rattle.meaning.specs.Layout
+use Rattle.meaning.specs.Refusal.{unplaced}
 use Rattle.meaning.specs.Refusals.{check}
 use Rattle.meaning.specs.Samples.{laid, sample, opened}
 use Rattle.meaning.specs.declared.Geometry.{Geometry}
@@ -17,32 +18,32 @@ unfolding opened
 highest-sector g = refl
 
 -- "blocks 1 to 192, units per block 1 to 8"
-most-units : check (disk 1 8 0) (laid 0 ((0, 0x03 ∷ []) ∷ []) 10240) ≡ 0
+most-units : check (disk 1 8 0) (laid 0 ((0, 0x03 ∷ []) ∷ []) 10240) ≡ unplaced 0
 unfolding opened
 most-units = refl
 
-too-many-units : check (disk 1 9 0) (laid 0 ((0, 0x03 ∷ []) ∷ []) 11520) ≡ 1
+too-many-units : check (disk 1 9 0) (laid 0 ((0, 0x03 ∷ []) ∷ []) 11520) ≡ unplaced 1
 unfolding opened
 too-many-units = refl
 
-no-block : check (disk 0 1 0) [] ≡ 1
+no-block : check (disk 0 1 0) [] ≡ unplaced 1
 unfolding opened
 no-block = refl
 
 -- "The image length must be blocks × units × 1,280 bytes exactly"
-other-length : check (disk 3 4 0) (0 ∷ sample) ≡ 1
+other-length : check (disk 3 4 0) (0 ∷ sample) ≡ unplaced 1
 unfolding opened
 other-length = refl
 
 -- "directory start (a sector number, multiple of 5)", "at least 10 sectors must lie from the directory start to the end"
-start-inside-a-granule : check (disk 4 3 3) sample ≡ 1
+start-inside-a-granule : check (disk 4 3 3) sample ≡ unplaced 1
 unfolding opened
 start-inside-a-granule = refl
 
-start-too-late : check (disk 4 3 55) sample ≡ 1
+start-too-late : check (disk 4 3 55) sample ≡ unplaced 1
 unfolding opened
 start-too-late = refl
 
-last-start : check (disk 4 3 50) sample ≡ 30
+last-start : check (disk 4 3 50) sample ≡ unplaced 30
 unfolding opened
 last-start = refl

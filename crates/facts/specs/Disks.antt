@@ -5,6 +5,7 @@ use mathlib.Core.Bool.{cond}
 use lib.Dec.{eqb}
 use lib.ListN.{replicate}
 use Rattle.meaning.specs.Lists.{count, each}
+use Rattle.meaning.specs.Refusal.{unplaced}
 use Rattle.meaning.specs.Samples.{laid, changed, leer, sample, hits, e80, eA3}
 use Rattle.meaning.specs.declared.Geometry.{Geometry}
 use Rattle.meaning.specs.declared.Handle.{Handle}
@@ -35,7 +36,7 @@ kept = changed sample ((eA3 + 1, 0x89) ∷ [])
 
 -- a call with a handle that gives this number and leaves the handle alone
 abbrev pub answered : ℕ → Handle → Answer
-answered number h = record { number = number; handle = h }
+answered number h = record { refusal = unplaced number; handle = h }
 
 -- a geometry: blocks, units per block, directory start
 abbrev pub disk : ℕ → ℕ → ℕ → Geometry

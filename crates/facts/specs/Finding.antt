@@ -4,6 +4,7 @@ use mathlib.Core.Path.{_≡_, refl}
 use mathlib.Core.Bool.{true, false}
 use mathlib.Core.List.{[], _∷_, _++_}
 use lib.ListN.{replicate}
+use Rattle.meaning.specs.Refusal.{unplaced, placed}
 use Rattle.meaning.specs.Refusals.{noHandle}
 use Rattle.meaning.specs.Names.{hash}
 use Rattle.meaning.specs.LookUp.{lookUp}
@@ -21,24 +22,24 @@ unfolding opened
 final-zero = refl
 
 -- the extension in slot 81H counts; it bears the name, and does not match
-look-up-finds : lookUp three sample puls ≡ record { number = 0; slot = 0xa3; compared = 2 }
+look-up-finds : lookUp three sample puls ≡ record { refusal = unplaced 0; slot = 0xa3; compared = 2 }
 unfolding opened
 look-up-finds = refl
 
 -- "look up returns its count as well under 4, and 0 under 1, 2 and 3"
-look-up-misses : lookUp three sample puls13 ≡ record { number = 4; slot = 0; compared = 2 }
+look-up-misses : lookUp three sample puls13 ≡ record { refusal = unplaced 4; slot = 0; compared = 2 }
 unfolding opened
 look-up-misses = refl
 
-look-up-of-no-name : lookUp three sample (0x70 ∷ replicate 10 0x20) ≡ record { number = 3; slot = 0; compared = 0 }
+look-up-of-no-name : lookUp three sample (0x70 ∷ replicate 10 0x20) ≡ record { refusal = unplaced 3; slot = 0; compared = 0 }
 unfolding opened
 look-up-of-no-name = refl
 
-look-up-of-a-short-name : lookUp three sample (0x50 ∷ replicate 9 0x20) ≡ record { number = 3; slot = 0; compared = 0 }
+look-up-of-a-short-name : lookUp three sample (0x50 ∷ replicate 9 0x20) ≡ record { refusal = unplaced 3; slot = 0; compared = 0 }
 unfolding opened
 look-up-of-a-short-name = refl
 
-look-up-refused : lookUp three broken puls ≡ record { number = 22; slot = 0; compared = 0 }
+look-up-refused : lookUp three broken puls ≡ record { refusal = placed 22 0x80; slot = 0; compared = 0 }
 unfolding opened
 look-up-refused = refl
 
@@ -77,26 +78,26 @@ new day main = record { day = day; month = 12; year = 15; len = 256; main = main
 
 -- the killed entry in slot 82H goes
 create-makes : create three sample neu (new 31 0xabcd) true ≡ (
-  record { number = 0; old = false; handle = held 0x82 neu 0 256 0 },
+  record { refusal = unplaced 0; old = false; handle = held 0x82 neu 0 256 0 },
   changed (written sample e82 (0x10 ∷ 0x1f ∷ 0xfc ∷ 0x00 ∷ 0x00 ∷ (neu ++ (0xcd ∷ 0xab ∷ 0x02 ∷ 0x01 ∷ 0x00 ∷ 0x00 ∷ replicate 10 0xff))))
       ((hits + 0x82, 0x32) ∷ []),
 )
 unfolding opened
 create-makes = refl
 
-create-opens : create three sample puls (new 31 0x5678) true ≡ (record { number = 0; old = true; handle = held 0xa3 puls 0 256 5 }, sample)
+create-opens : create three sample puls (new 31 0x5678) true ≡ (record { refusal = unplaced 0; old = true; handle = held 0xa3 puls 0 256 5 }, sample)
 unfolding opened
 create-opens = refl
 
-create-by-wrong-code : create three sample puls (new 31 0x0102) true ≡ (record { number = 5; old = false; handle = noHandle }, sample)
+create-by-wrong-code : create three sample puls (new 31 0x0102) true ≡ (record { refusal = unplaced 5; old = false; handle = noHandle }, sample)
 unfolding opened
 create-by-wrong-code = refl
 
-create-on-day-32 : create three sample puls (new 32 0x5678) true ≡ (record { number = 12; old = false; handle = noHandle }, sample)
+create-on-day-32 : create three sample puls (new 32 0x5678) true ≡ (record { refusal = unplaced 12; old = false; handle = noHandle }, sample)
 unfolding opened
 create-on-day-32 = refl
 
 -- no permitted slot is free, though 32 kept ones are
-create-without-slot : create crowd crowded neu (new 31 0) true ≡ (record { number = 8; old = false; handle = noHandle }, crowded)
+create-without-slot : create crowd crowded neu (new 31 0) true ≡ (record { refusal = unplaced 8; old = false; handle = noHandle }, crowded)
 unfolding opened
 create-without-slot = refl

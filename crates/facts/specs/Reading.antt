@@ -2,6 +2,7 @@
 use Prim.Native.Nat.{_+_}
 use mathlib.Core.Path.{_≡_, refl}
 use mathlib.Core.List.{[], _∷_}
+use Rattle.meaning.specs.Refusal.{unplaced}
 use Rattle.meaning.specs.Read.{readRecord, readSector}
 use Rattle.meaning.specs.Samples.{changed, held, puls, three, sample, eA3, opened}
 use Rattle.facts.specs.Disks.{answered}
@@ -41,19 +42,19 @@ read-into-short-buffer = refl
 
 -- Read sector -------------------------------------------------------------------------------------------------------------
 
-read-last-sector : readSector three sample (held 0xa3 puls 0 1 5) 1 ≡ record { number = 0; from = 4096; to = 4097 }
+read-last-sector : readSector three sample (held 0xa3 puls 0 1 5) 1 ≡ record { refusal = unplaced 0; from = 4096; to = 4097 }
 unfolding opened
 read-last-sector = refl
 
 -- with 2,817 bytes sector 10 is the first of the third granule owned, granule 2
-read-third-granule : readSector three (changed sample ((eA3 + 0x14, 12) ∷ [])) (held 0xa3 puls 0 1 5) 10 ≡ record { number = 0; from = 2560; to = 2816 }
+read-third-granule : readSector three (changed sample ((eA3 + 0x14, 12) ∷ [])) (held 0xa3 puls 0 1 5) 10 ≡ record { refusal = unplaced 0; from = 2560; to = 2816 }
 unfolding opened
 read-third-granule = refl
 
-read-no-sector : readSector three sample (held 0xa3 puls 0 1 5) 2 ≡ record { number = 10; from = 0; to = 0 }
+read-no-sector : readSector three sample (held 0xa3 puls 0 1 5) 2 ≡ record { refusal = unplaced 10; from = 0; to = 0 }
 unfolding opened
 read-no-sector = refl
 
-no-sector-number : readSector three sample (held 0xa3 puls 0 1 5) 7680 ≡ record { number = 12; from = 0; to = 0 }
+no-sector-number : readSector three sample (held 0xa3 puls 0 1 5) 7680 ≡ record { refusal = unplaced 12; from = 0; to = 0 }
 unfolding opened
 no-sector-number = refl

@@ -4,6 +4,7 @@ use mathlib.Core.Path.{_≡_, refl}
 use mathlib.Core.Bool.{true}
 use mathlib.Core.List.{List, [], _∷_, _++_}
 use lib.ListN.{replicate}
+use Rattle.meaning.specs.Refusal.{unplaced, placed}
 use Rattle.meaning.specs.Listing.{list, counts, listing, noFile}
 use Rattle.meaning.specs.FreeSpace.{freeSpace}
 use Rattle.meaning.specs.Plain.{reserved, overwritten}
@@ -13,47 +14,47 @@ use Rattle.facts.specs.Disks.{broken, flagged, disk}
 
 -- Listing -----------------------------------------------------------------------------------------------------------------
 
-list-first : list three sample 0 ≡ record { number = 0; more = true; name = leer; size = 1278; granules = 1 }
+list-first : list three sample 0 ≡ record { refusal = unplaced 0; more = true; name = leer; size = 1278; granules = 1 }
 unfolding opened
 list-first = refl
 
 -- invisible ones are listed
-list-second : list three sample 1 ≡ record { number = 0; more = true; name = puls; size = 257; granules = 7 }
+list-second : list three sample 1 ≡ record { refusal = unplaced 0; more = true; name = puls; size = 257; granules = 7 }
 unfolding opened
 list-second = refl
 
-no-more : list three sample 2 ≡ noFile 0
+no-more : list three sample 2 ≡ noFile (unplaced 0)
 unfolding opened
 no-more = refl
 
-list-refused : list three broken 0 ≡ noFile 22
+list-refused : list three broken 0 ≡ noFile (placed 22 0x80)
 unfolding opened
 list-refused = refl
 
-counts-of-sample : counts three sample ≡ record { number = 0; files = 2; free = 2 }
+counts-of-sample : counts three sample ≡ record { refusal = unplaced 0; files = 2; free = 2 }
 unfolding opened
 counts-of-sample = refl
 
 -- "System files aren't listed or counted"
-counts-of-flagged : counts three flagged ≡ record { number = 0; files = 1; free = 2 }
+counts-of-flagged : counts three flagged ≡ record { refusal = unplaced 0; files = 1; free = 2 }
 unfolding opened
 counts-of-flagged = refl
 
-counts-refused : counts three broken ≡ record { number = 22; files = 0; free = 0 }
+counts-refused : counts three broken ≡ record { refusal = placed 22 0x80; files = 0; free = 0 }
 unfolding opened
 counts-refused = refl
 
 -- free space: granules 7 and 9, which do not touch
-space-of-sample : freeSpace three sample ≡ record { number = 0; free = 2; longest = 1 }
+space-of-sample : freeSpace three sample ≡ record { refusal = unplaced 0; free = 2; longest = 1 }
 unfolding opened
 space-of-sample = refl
 
 -- a disk that is not consistent: block 2 is marked free, so granules 6 to 9 lie in a row, across blocks; the bits of no unit do not count
-space-of-broken : freeSpace three (changed sample ((2, 0xf8) ∷ [])) ≡ record { number = 0; free = 4; longest = 4 }
+space-of-broken : freeSpace three (changed sample ((2, 0xf8) ∷ [])) ≡ record { refusal = unplaced 0; free = 4; longest = 4 }
 unfolding opened
 space-of-broken = refl
 
-space-refused : freeSpace (disk 4 9 0) sample ≡ record { number = 1; free = 0; longest = 0 }
+space-refused : freeSpace (disk 4 9 0) sample ≡ record { refusal = unplaced 1; free = 0; longest = 0 }
 unfolding opened
 space-refused = refl
 

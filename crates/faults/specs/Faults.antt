@@ -6,11 +6,12 @@ use mathlib.Core.List.{List, [], _∷_}
 use Rattle.meaning.specs.Fault.{fault}
 use Rattle.meaning.specs.Samples.{laid, changed, three, sample, hits, e80, e81, eA3, opened}
 use Rattle.meaning.specs.declared.Geometry.{Geometry}
-use Rattle.meaning.specs.declared.Fault.{Fault}
+use Rattle.meaning.specs.Refusal.{placed}
+use Rattle.meaning.specs.declared.Refusal.{Refusal}
 
 -- the fault of a disk, and its slot. Where the geometry fits, this number is the check's answer (`laws: Passed.check-number`).
 abbrev Judged : Geometry → List ℕ → ℕ → ℕ → Type 0
-Judged g d number slot = _≡_ {A = Fault} (fault g d) (record { number = number; slot = slot })
+Judged g d number slot = _≡_ {A = Refusal} (fault g d) (placed number slot)
 
 -- the sample disk with these bytes in these places is consistent; is not
 abbrev Good : List (ℕ × ℕ) → Type 0

@@ -4,11 +4,12 @@ use mathlib.Core.Path.{_≡_, refl}
 use mathlib.Core.List.{List, [], _∷_}
 use Rattle.meaning.specs.Fault.{fault}
 use Rattle.meaning.specs.Samples.{changed, written, three, sample, filled, hits, e80, e81, e82, eA3, opened}
-use Rattle.meaning.specs.declared.Fault.{Fault}
+use Rattle.meaning.specs.Refusal.{placed}
+use Rattle.meaning.specs.declared.Refusal.{Refusal}
 
 -- the fault of a disk of this geometry, and its slot
 abbrev Told : List ℕ → ℕ → ℕ → Type 0
-Told d number slot = _≡_ {A = Fault} (fault three d) (record { number = number; slot = slot })
+Told d number slot = _≡_ {A = Refusal} (fault three d) (placed number slot)
 
 -- Walks ---------------------------------------------------------------------------------------------------------------------
 

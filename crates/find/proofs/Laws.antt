@@ -13,13 +13,14 @@ use Rattle.meaning.specs.Lists.{keep, has, firstOr}
 use Rattle.meaning.specs.Layout.{hit, directorySectors}
 use Rattle.meaning.specs.Names.{hash}
 use Rattle.meaning.specs.LookUp.{candidates, carries, comparedIn, named, lookUp, lookUpRefusals}
-use Rattle.meaning.specs.Refusals.{first, accepted, check, faultNumbers, diskRefusals}
+use Rattle.meaning.specs.Refusals.{refusal, first, accepted, check, faultNumbers, diskRefusals}
 use Rattle.meaning.specs.declared.LookedUp.{LookedUp}
+use Rattle.meaning.specs.declared.Refusal.{Refusal}
 use Rattle.meaning.specs.declared.Geometry.{Geometry}
 use Rattle.laws.specs.Members
 use Rattle.laws.specs.First.{first-in}
 use Rattle.layout.proofs.Lists.{keep-yes, keep-no}
-use Rattle.handle.proofs.Laws.{check-stop}
+use Rattle.handle.proofs.Laws.{check-stop, handed-on}
 use Rattle.find.specs.Found.{Finds}
 use Rattle.find.specs.declared.Found.{Found}
 use Rattle.find.proofs.Pass.{slotsFrom, slots-start, slots-here, slots-past, slots-end}
@@ -112,12 +113,12 @@ module _ (g : Geometry) (d n : List ℕ) where
   finding-count e f = rw e f
 
   -- the refusals of look up, one after the other
-  pub told : {no slot compared : ℕ} → no ≡ first (lookUpRefusals g d n)
+  pub told : {no slot compared : ℕ} {c : Refusal} → c ≡ refusal g d no → no ≡ first (lookUpRefusals g d n)
       → cond (accepted no) (firstOr 0 (named g d n)) 0 ≡ slot
       → cond (has (0 ∷ 4 ∷ []) no) (comparedIn g d n (candidates g d n)) 0 ≡ compared
-      → _≡_ {A = LookedUp} (record { number = no; slot = slot; compared = compared }) (lookUp g d n)
+      → _≡_ {A = LookedUp} (record { refusal = c; slot = slot; compared = compared }) (lookUp g d n)
   unfolding lookUp
-  told e f h = rw (← e, f, h)
+  told q e f h = rw (← e, f, h, q)
 
   -- of the name that came in
   pub finds-as : {m : List ℕ} {r : Found} → m ≡ n → Finds g d m r → Finds g d n r
@@ -131,21 +132,22 @@ module _ (g : Geometry) (d n : List ℕ) where
 
 module _ (g : Geometry) (d : List ℕ) where
   -- the check answers 0, 1 or 21 to 30
-  not-missing : check g d ≡ 4 → ⊥
+  not-missing : check g d .number ≡ 4 → ⊥
   unfolding check
   not-missing e = zero-or (Members.in-cons (first-in (diskRefusals g d [])))
     where
-      one-or : (check g d ≡ 1) ⊎ Members.In (check g d) faultNumbers → ⊥
+      one-or : (check g d .number ≡ 1) ⊎ Members.In (check g d .number) faultNumbers → ⊥
       one-or (inl q) = omega (arith, e, q)
-      one-or (inr i) = let k = Members.count-in (check g d) 21 10 i in omega (arith, e, k)
+      one-or (inr i) = let k = Members.count-in (check g d .number) 21 10 i in omega (arith, e, k)
 
-      zero-or : (check g d ≡ 0) ⊎ Members.In (check g d) (1 ∷ faultNumbers) → ⊥
+      zero-or : (check g d .number ≡ 0) ⊎ Members.In (check g d .number) (1 ∷ faultNumbers) → ⊥
       zero-or (inl q) = omega (arith, e, q)
       zero-or (inr i) = one-or (Members.in-cons i)
 
   -- refused under 1 or 21 to 30: no slot, no count
-  pub told-stop : (n : List ℕ) {no : ℕ} → no ≡ check g d → (no ≡ 0 → ⊥)
-      → _≡_ {A = LookedUp} (record { number = no; slot = 0; compared = 0 }) (lookUp g d n)
-  told-stop n {no} e z =
-      told g d n (check-stop g d _ e z) (ap (λ (b : Bool). cond b (firstOr 0 (named g d n)) 0) (ne-eqb no 0 z))
-      (simp (ne-eqb no 0 z, ne-eqb no 4 (λ q. not-missing (sym e ∙ q))))
+  pub told-stop : (n : List ℕ) {c : Refusal} → c ≡ check g d → (c .number ≡ 0 → ⊥)
+      → _≡_ {A = LookedUp} (record { refusal = c; slot = 0; compared = 0 }) (lookUp g d n)
+  told-stop n {c} e z =
+      let no = c .number in
+      told g d n (handed-on g d e) (check-stop g d _ e z) (ap (λ (b : Bool). cond b (firstOr 0 (named g d n)) 0) (ne-eqb no 0 z))
+      (simp (ne-eqb no 0 z, ne-eqb no 4 (λ q. not-missing (sym (ap {B = ℕ} (λ (x : Refusal). x .number) e) ∙ q))))

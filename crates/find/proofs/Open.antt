@@ -6,12 +6,14 @@ use Prim.Native.Nat.{ℕ}
 use borrow.Author.Tests.{ne-eqb}
 use Rattle.meaning.specs.Lists.{firstOr}
 use Rattle.meaning.specs.Entries.{accessLevel}
-use Rattle.meaning.specs.Refusals.{first, noHandle}
+use Rattle.meaning.specs.Refusal.{carried}
+use Rattle.meaning.specs.Refusals.{first, check, refusal, noHandle}
 use Rattle.meaning.specs.LookUp.{named, slotOf}
 use Rattle.meaning.specs.Open.{full, admits, openedAt, openRefusals, open′}
 use Rattle.meaning.specs.declared.Geometry.{Geometry}
 use Rattle.meaning.specs.declared.Handle.{Handle}
 use Rattle.meaning.specs.declared.Answer.{Answer}
+use Rattle.meaning.specs.declared.Refusal.{Refusal}
 
 module _ (g : Geometry) (d n : List ℕ) (len : ℕ) (checking : Bool) (code : ℕ) where
   pub level-full : (s : ℕ) {level : ℕ} → level ≡ 0 → full g d s checking code ≡ true → level ≡ cond (full g d s checking code) 0 (accessLevel g d s)
@@ -32,12 +34,12 @@ module _ (g : Geometry) (d n : List ℕ) (len : ℕ) (checking : Bool) (code : �
   pub admitted : {s : ℕ} {b : Bool} → named g d n ≡ s ∷ [] → admits g d s checking code ≡ b → not (admits g d (slotOf g d n) checking code) ≡ not b
   admitted e h = ap (λ (t : ℕ). not (admits g d t checking code)) (slot-found e) ∙ ap not h
 
-  pub open-refused : {no : ℕ} {h : Handle} → h ≡ noHandle → no ≡ first (openRefusals g d n len checking code) → (no ≡ 0 → ⊥)
-      → _≡_ {A = Answer} (record { number = no; handle = h }) (open′ g d n len checking code)
+  pub open-refused : {no : ℕ} {c : Refusal} {r : Answer} → c ≡ check g d → r ≡ record { refusal = carried c no; handle = noHandle }
+      → no ≡ first (openRefusals g d n len checking code) → (no ≡ 0 → ⊥) → r ≡ open′ g d n len checking code
   unfolding open′
-  open-refused {no} f e z = rw (← e, ne-eqb no 0 z, f)
+  open-refused {no} q f e z = rw (← e, ne-eqb no 0 z, f, q)
 
-  pub open-accepted : {s : ℕ} {h : Handle} → h ≡ openedAt g d s n len checking code → 0 ≡ first (openRefusals g d n len checking code) → named g d n ≡ s ∷ []
-      → _≡_ {A = Answer} (record { number = 0; handle = h }) (open′ g d n len checking code)
+  pub open-accepted : {s : ℕ} {h : Handle} {c : Refusal} → c ≡ refusal g d 0 → h ≡ openedAt g d s n len checking code → 0 ≡ first (openRefusals g d n len checking code) → named g d n ≡ s ∷ []
+      → _≡_ {A = Answer} (record { refusal = c; handle = h }) (open′ g d n len checking code)
   unfolding open′
-  open-accepted f e q = rw (← e, slot-found q, f)
+  open-accepted y f e q = rw (← e, slot-found q, f, y)

@@ -3,9 +3,11 @@ use meaning::Answer;
 use meaning::Geometry;
 use meaning::Handle;
 use meaning::LookedUp;
+use meaning::Refusal;
 ghost use mathlib.Core.Path.{_≡_};
 ghost use Prim.Native.Nat.{_+_, _*_, _<_, _≤_};
 ghost use lib.ListN.{length, take, drop};
+ghost use Rattle.meaning.specs.Refusal.{carried};
 ghost use Rattle.meaning.specs.Refusals.{check, noHandle};
 ghost use Rattle.meaning.specs.LookUp.{carries, lookUp};
 ghost use Rattle.meaning.specs.Open.{full, admits, openedAt, open′};
@@ -69,13 +71,13 @@ pub fn find(image: &[u8], g: Geometry, name: &[u8]) -> Found
 }
 
 // Look up, of a disk whose check answered `checked`.
-pub fn look_up_checked(image: &[u8], g: Geometry, name: &[u8], checked: u8) -> LookedUp
+pub fn look_up_checked(image: &[u8], g: Geometry, name: &[u8], checked: Refusal) -> LookedUp
     requires { ⌜ checked ≡ check g (now image) ⌝ }
     ensures { λ r. ⌜ r ≡ lookUp g (now (image .entry)) (now (name .entry)) ⌝ }
 {
-    if checked != 0 {
+    if checked.number != 0 {
         return LookedUp {
-            number: checked,
+            refusal: checked,
             slot: 0,
             compared: 0,
         };
@@ -83,7 +85,7 @@ pub fn look_up_checked(image: &[u8], g: Geometry, name: &[u8], checked: u8) -> L
     let n = spelling::incoming(name);
     if n.place != spelling::NO_PLACE {
         return LookedUp {
-            number: 3,
+            refusal: refusal::carried(checked, 3),
             slot: 0,
             compared: 0,
         };
@@ -91,13 +93,13 @@ pub fn look_up_checked(image: &[u8], g: Geometry, name: &[u8], checked: u8) -> L
     let f = find(image, g, &n.name);
     if !f.is {
         return LookedUp {
-            number: 4,
+            refusal: refusal::carried(checked, 4),
             slot: 0,
             compared: f.compared,
         };
     }
     LookedUp {
-        number: 0,
+        refusal: refusal::carried(checked, 0),
         slot: f.slot,
         compared: f.compared,
     }
@@ -187,6 +189,16 @@ pub fn no_handle() -> Handle
     }
 }
 
+// A refused open hands back a handle of zeros.
+fn refused(checked: Refusal, number: u8) -> Answer
+    ensures { λ r. ⌜ r ≡ record { refusal = carried checked number; handle = noHandle } ⌝ }
+{
+    Answer {
+        refusal: refusal::carried(checked, number),
+        handle: no_handle(),
+    }
+}
+
 // Open, of a disk whose check answered `checked`.
 pub fn open_checked(
     image: &[u8],
@@ -195,45 +207,30 @@ pub fn open_checked(
     len: usize,
     checking: bool,
     code: u16,
-    checked: u8,
+    checked: Refusal,
 ) -> Answer
     requires { ⌜ checked ≡ check g (now image) ⌝ }
     ensures { λ r. ⌜ r ≡ open′ g (now (image .entry)) (now (name .entry)) len checking code ⌝ }
 {
-    if checked != 0 {
-        return Answer {
-            number: checked,
-            handle: no_handle(),
-        };
+    if checked.number != 0 {
+        return refused(checked, checked.number);
     }
     if !handle::good_length(len) {
-        return Answer {
-            number: 12,
-            handle: no_handle(),
-        };
+        return refused(checked, 12);
     }
     let n = spelling::incoming(name);
     if n.place != spelling::NO_PLACE {
-        return Answer {
-            number: 3,
-            handle: no_handle(),
-        };
+        return refused(checked, 3);
     }
     let f = find(image, g, &n.name);
     if !f.is {
-        return Answer {
-            number: 4,
-            handle: no_handle(),
-        };
+        return refused(checked, 4);
     }
     if !admits(image, g, f.slot, checking, code) {
-        return Answer {
-            number: 5,
-            handle: no_handle(),
-        };
+        return refused(checked, 5);
     }
     Answer {
-        number: 0,
+        refusal: refusal::carried(checked, 0),
         handle: opened_at(image, g, f.slot, &n.name, len, checking, code),
     }
 }

@@ -15,6 +15,8 @@ use Rattle.meaning.specs.Free.{freeGranules}
 use Rattle.meaning.specs.FreeSpace.{stretch, longestIn, longest, freeSpace}
 use Rattle.meaning.specs.declared.Geometry.{Geometry}
 use Rattle.meaning.specs.declared.Space.{Space}
+use Rattle.meaning.specs.declared.Refusal.{Refusal}
+use Rattle.meaning.specs.Refusal.{unplaced}
 use Rattle.laws.specs.Stretches.{stretch-taken, stretch-free, stretch-le}
 use Rattle.layout.proofs.Laws.{left-none}
 use Rattle.layout.proofs.Lists.{keep-yes, keep-no, all-at, first-hit, first-skip, first-none, not-yes, not-no}
@@ -200,11 +202,12 @@ gat-fits g d f =
 
 -- Refused and accepted ----------------------------------------------------------------------------------------------------
 
-pub space-refused : (g : Geometry) (d : List ℕ) → fitsGeometry g d ≡ false → _≡_ {A = Space} (record { number = 1; free = 0; longest = 0 }) (freeSpace g d)
+pub space-refused : (g : Geometry) (d : List ℕ) {c : Refusal} → c ≡ unplaced 1 → fitsGeometry g d ≡ false
+    → _≡_ {A = Space} (record { refusal = c; free = 0; longest = 0 }) (freeSpace g d)
 unfolding freeSpace
-space-refused g d f = rw (first-hit {b = not (fitsGeometry g d)} (not-no f) 1 []) refl
+space-refused g d y f = rw (first-hit {b = not (fitsGeometry g d)} (not-no f) 1 [], y) refl
 
-pub space-accepted : (g : Geometry) (d : List ℕ) {n m : ℕ} → fitsGeometry g d ≡ true → n ≡ length (freeGranules g d) → m ≡ longest g d
-    → _≡_ {A = Space} (record { number = 0; free = n; longest = m }) (freeSpace g d)
+pub space-accepted : (g : Geometry) (d : List ℕ) {n m : ℕ} {c : Refusal} → c ≡ unplaced 0 → fitsGeometry g d ≡ true → n ≡ length (freeGranules g d) → m ≡ longest g d
+    → _≡_ {A = Space} (record { refusal = c; free = n; longest = m }) (freeSpace g d)
 unfolding freeSpace
-space-accepted g d f p q = rw (first-skip {b = not (fitsGeometry g d)} (not-yes f) 1 [] ∙ first-none, p, q) refl
+space-accepted g d y f p q = rw (first-skip {b = not (fitsGeometry g d)} (not-yes f) 1 [] ∙ first-none, p, q, y) refl

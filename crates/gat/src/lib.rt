@@ -90,14 +90,14 @@ pub fn free_space(image: &[u8], g: Geometry) -> Space
 {
     if !layout::fits_geometry(image, g) {
         return Space {
-            number: 1,
+            refusal: refusal::unplaced(1),
             free: 0,
             longest: 0,
         };
     }
     let seen = pass(image, g);
     Space {
-        number: 0,
+        refusal: refusal::unplaced(0),
         free: seen.free,
         longest: seen.longest,
     }

@@ -2,10 +2,18 @@
 use meaning::Geometry;
 use meaning::NewFile;
 ghost use mathlib.Core.Path.{_≡_};
-ghost use Rattle.meaning.specs.Refusals.{check};
-ghost use Rattle.refusal.specs.Slot.{checkSlot, faultSlot, comparedSlot};
-ghost use Rattle.genie.specs.Exports.{geometry, newFile, exportedLookUp, exportedOpen, exportedCreate, exportedReadRecord, exportedReadSector, exportedWriteRecord, exportedAllot, exportedTrim, exportedKill, exportedBringBack, exportedList, exportedCount, exportedFree};
+ghost use Rattle.codec.specs.Words.{geometry};
+ghost use Rattle.genie.specs.Exports.{newFile, tooShort, exportedCheck, exportedLookUp, exportedOpen, exportedCreate, exportedReadRecord, exportedReadSector, exportedWriteRecord, exportedAllot, exportedTrim, exportedKill, exportedBringBack, exportedList, exportedCount, exportedFree};
 ghost use Rattle.genie.specs.Compared.{exportedCompare};
+
+// What goes out where a slice is lent too short: 12, after 1 and the faults.
+fn short(image: &[u8], g: Geometry, fault_slot: &mut usize) -> u8
+    ensures { λ r. ⌜ (r ≡ tooShort g (now (image .entry)) .number) × (now («fault_slot» .exit) ≡ tooShort g (now (image .entry)) .at) ⌝ }
+{
+    let c = refusal::short(calls::check(image, g));
+    *fault_slot = c.at;
+    c.number
+}
 
 #[no_mangle]
 pub extern "C" fn genie_check(
@@ -16,16 +24,11 @@ pub extern "C" fn genie_check(
     open_code: u16,
     fault_slot: &mut usize,
 ) -> u8
-    ensures { λ r. ⌜ (r ≡ check (geometry blocks units start open_code) (now (image .entry))) × (now («fault_slot» .exit) ≡ checkSlot (geometry blocks units start open_code) (now (image .entry))) ⌝ }
+    ensures { λ r. ⌜ (r, now («fault_slot» .exit)) ≡ exportedCheck (geometry blocks units start open_code) (now (image .entry)) ⌝ }
 {
-    let g = Geometry {
-        blocks,
-        units,
-        start,
-        anyone: open_code,
-    };
-    let f = diagnosis::check(image, g);
-    *fault_slot = f.slot;
+    let g = codec::geometry(blocks, units, start, open_code);
+    let f = calls::check(image, g);
+    *fault_slot = f.at;
     f.number
 }
 
@@ -41,19 +44,15 @@ pub extern "C" fn genie_look_up(
     compared: &mut usize,
     fault_slot: &mut usize,
 ) -> u8
-    ensures { λ r. ⌜ ((r, now (slot .exit), now (compared .exit)) ≡ exportedLookUp (geometry blocks units start open_code) (now (image .entry)) (now (name .entry))) × (now («fault_slot» .exit) ≡ faultSlot r (geometry blocks units start open_code) (now (image .entry))) ⌝ }
+    ensures { λ r. ⌜ (r, now («fault_slot» .exit), now (slot .exit), now (compared .exit))
+        ≡ exportedLookUp (geometry blocks units start open_code) (now (image .entry)) (now (name .entry)) ⌝ }
 {
-    let g = Geometry {
-        blocks,
-        units,
-        start,
-        anyone: open_code,
-    };
+    let g = codec::geometry(blocks, units, start, open_code);
     let l = calls::look_up(image, g, name);
-    *fault_slot = refusal::slot_of(image, g, l.number);
+    *fault_slot = l.refusal.at;
     *slot = l.slot;
     *compared = l.compared;
-    l.number
+    l.refusal.number
 }
 
 #[no_mangle]
@@ -70,21 +69,17 @@ pub extern "C" fn genie_open(
     handle: &mut [u8],
     fault_slot: &mut usize,
 ) -> u8
-    ensures { λ r. ⌜ ((r, now (handle .exit)) ≡ exportedOpen (geometry blocks units start open_code) (now (image .entry)) (now (name .entry)) length checking code (now (handle .entry))) × (now («fault_slot» .exit) ≡ faultSlot r (geometry blocks units start open_code) (now (image .entry))) ⌝ }
+    ensures { λ r. ⌜ (r, now («fault_slot» .exit), now (handle .exit))
+        ≡ exportedOpen (geometry blocks units start open_code) (now (image .entry)) (now (name .entry)) length checking code (now (handle .entry)) ⌝ }
 {
-    let g = Geometry {
-        blocks,
-        units,
-        start,
-        anyone: open_code,
-    };
+    let g = codec::geometry(blocks, units, start, open_code);
     if handle.len() < codec::HANDLE_BYTES {
-        return refusal::short_number(image, g, fault_slot);
+        return short(image, g, fault_slot);
     }
     let a = calls::open_file(image, g, name, length, checking, code);
-    *fault_slot = refusal::slot_of(image, g, a.number);
+    *fault_slot = a.refusal.at;
     codec::put_handle(handle, a.handle);
-    a.number
+    a.refusal.number
 }
 
 #[no_mangle]
@@ -106,17 +101,14 @@ pub extern "C" fn genie_create(
     handle: &mut [u8],
     fault_slot: &mut usize,
 ) -> u8
-    ensures { λ r. ⌜ ((r, now (old .exit), now (handle .exit), now (image .exit)) ≡ exportedCreate (geometry blocks units start open_code) (now (image .entry)) (now (name .entry)) (newFile day month year length main worker) checking (now (handle .entry))) × (now («fault_slot» .exit) ≡ faultSlot r (geometry blocks units start open_code) (now (image .entry))) ⌝ }
+    ensures { λ r. ⌜ (r, now («fault_slot» .exit), now (old .exit), now (handle .exit), now (image .exit))
+        ≡ exportedCreate (geometry blocks units start open_code) (now (image .entry)) (now (name .entry))
+        (newFile day month year length main worker) checking (now (handle .entry)) ⌝ }
 {
-    let g = Geometry {
-        blocks,
-        units,
-        start,
-        anyone: open_code,
-    };
+    let g = codec::geometry(blocks, units, start, open_code);
     if handle.len() < codec::HANDLE_BYTES {
         *old = 0;
-        return refusal::short_number(image, g, fault_slot);
+        return short(image, g, fault_slot);
     }
     let f = NewFile {
         day,
@@ -127,10 +119,10 @@ pub extern "C" fn genie_create(
         worker,
     };
     let c = calls::create(image, g, name, f, checking);
-    *fault_slot = refusal::slot_of(image, g, c.number);
+    *fault_slot = c.refusal.at;
     *old = codec::told(c.old);
     codec::put_handle(handle, c.handle);
-    c.number
+    c.refusal.number
 }
 
 #[no_mangle]
@@ -144,22 +136,18 @@ pub extern "C" fn genie_read_record(
     buffer: &mut [u8],
     fault_slot: &mut usize,
 ) -> u8
-    ensures { λ r. ⌜ ((r, now (handle .exit), now (buffer .exit)) ≡ exportedReadRecord (geometry blocks units start open_code) (now (image .entry)) (now (handle .entry)) (now (buffer .entry))) × (now («fault_slot» .exit) ≡ faultSlot r (geometry blocks units start open_code) (now (image .entry))) ⌝ }
+    ensures { λ r. ⌜ (r, now («fault_slot» .exit), now (handle .exit), now (buffer .exit))
+        ≡ exportedReadRecord (geometry blocks units start open_code) (now (image .entry)) (now (handle .entry)) (now (buffer .entry)) ⌝ }
 {
-    let g = Geometry {
-        blocks,
-        units,
-        start,
-        anyone: open_code,
-    };
+    let g = codec::geometry(blocks, units, start, open_code);
     if handle.len() < codec::HANDLE_BYTES {
-        return refusal::short_number(image, g, fault_slot);
+        return short(image, g, fault_slot);
     }
     let h = codec::handle_of(handle);
     let a = calls::read_record(image, g, h, buffer);
-    *fault_slot = refusal::slot_of(image, g, a.number);
-    if a.number != 0 {
-        return a.number;
+    *fault_slot = a.refusal.at;
+    if a.refusal.number != 0 {
+        return a.refusal.number;
     }
     codec::put_handle(handle, a.handle);
     0
@@ -178,25 +166,21 @@ pub extern "C" fn genie_read_sector(
     to: &mut usize,
     fault_slot: &mut usize,
 ) -> u8
-    ensures { λ r. ⌜ ((r, now (from .exit), now (to .exit)) ≡ exportedReadSector (geometry blocks units start open_code) (now (image .entry)) (now (handle .entry)) k) × (now («fault_slot» .exit) ≡ faultSlot r (geometry blocks units start open_code) (now (image .entry))) ⌝ }
+    ensures { λ r. ⌜ (r, now («fault_slot» .exit), now (from .exit), now (to .exit))
+        ≡ exportedReadSector (geometry blocks units start open_code) (now (image .entry)) (now (handle .entry)) k ⌝ }
 {
-    let g = Geometry {
-        blocks,
-        units,
-        start,
-        anyone: open_code,
-    };
+    let g = codec::geometry(blocks, units, start, open_code);
     if handle.len() < codec::HANDLE_BYTES {
         *from = 0;
         *to = 0;
-        return refusal::short_number(image, g, fault_slot);
+        return short(image, g, fault_slot);
     }
     let h = codec::handle_of(handle);
     let p = calls::sector_part(image, g, h, k);
-    *fault_slot = refusal::slot_of(image, g, p.number);
+    *fault_slot = p.refusal.at;
     *from = p.from;
     *to = p.to;
-    p.number
+    p.refusal.number
 }
 
 #[no_mangle]
@@ -211,23 +195,19 @@ pub extern "C" fn genie_write_record(
     buffer: &[u8],
     fault_slot: &mut usize,
 ) -> u8
-    ensures { λ r. ⌜ ((r, now (handle .exit), now (image .exit)) ≡ exportedWriteRecord (geometry blocks units start open_code) (now (image .entry)) (now (handle .entry)) sequential (now (buffer .entry))) × (now («fault_slot» .exit) ≡ faultSlot r (geometry blocks units start open_code) (now (image .entry))) ⌝ }
+    ensures { λ r. ⌜ (r, now («fault_slot» .exit), now (handle .exit), now (image .exit))
+        ≡ exportedWriteRecord (geometry blocks units start open_code) (now (image .entry)) (now (handle .entry)) sequential (now (buffer .entry)) ⌝ }
 {
-    let g = Geometry {
-        blocks,
-        units,
-        start,
-        anyone: open_code,
-    };
+    let g = codec::geometry(blocks, units, start, open_code);
     if handle.len() < codec::HANDLE_BYTES {
-        return refusal::short_number(image, g, fault_slot);
+        return short(image, g, fault_slot);
     }
     let h = codec::handle_of(handle);
     let m = codec::mode_of(sequential);
     let a = calls::write_record(image, g, m, h, buffer);
-    *fault_slot = refusal::slot_of(image, g, a.number);
-    if a.number != 0 {
-        return a.number;
+    *fault_slot = a.refusal.at;
+    if a.refusal.number != 0 {
+        return a.refusal.number;
     }
     codec::put_handle(handle, a.handle);
     0
@@ -244,21 +224,17 @@ pub extern "C" fn genie_allot(
     k: usize,
     fault_slot: &mut usize,
 ) -> u8
-    ensures { λ r. ⌜ ((r, now (image .exit)) ≡ exportedAllot (geometry blocks units start open_code) (now (image .entry)) (now (handle .entry)) k) × (now («fault_slot» .exit) ≡ faultSlot r (geometry blocks units start open_code) (now (image .entry))) ⌝ }
+    ensures { λ r. ⌜ (r, now («fault_slot» .exit), now (image .exit))
+        ≡ exportedAllot (geometry blocks units start open_code) (now (image .entry)) (now (handle .entry)) k ⌝ }
 {
-    let g = Geometry {
-        blocks,
-        units,
-        start,
-        anyone: open_code,
-    };
+    let g = codec::geometry(blocks, units, start, open_code);
     if handle.len() < codec::HANDLE_BYTES {
-        return refusal::short_number(image, g, fault_slot);
+        return short(image, g, fault_slot);
     }
     let h = codec::handle_of(handle);
     let a = calls::allot(image, g, h, k);
-    *fault_slot = refusal::slot_of(image, g, a.number);
-    a.number
+    *fault_slot = a.refusal.at;
+    a.refusal.number
 }
 
 #[no_mangle]
@@ -271,21 +247,17 @@ pub extern "C" fn genie_trim(
     handle: &[u8],
     fault_slot: &mut usize,
 ) -> u8
-    ensures { λ r. ⌜ ((r, now (image .exit)) ≡ exportedTrim (geometry blocks units start open_code) (now (image .entry)) (now (handle .entry))) × (now («fault_slot» .exit) ≡ faultSlot r (geometry blocks units start open_code) (now (image .entry))) ⌝ }
+    ensures { λ r. ⌜ (r, now («fault_slot» .exit), now (image .exit))
+        ≡ exportedTrim (geometry blocks units start open_code) (now (image .entry)) (now (handle .entry)) ⌝ }
 {
-    let g = Geometry {
-        blocks,
-        units,
-        start,
-        anyone: open_code,
-    };
+    let g = codec::geometry(blocks, units, start, open_code);
     if handle.len() < codec::HANDLE_BYTES {
-        return refusal::short_number(image, g, fault_slot);
+        return short(image, g, fault_slot);
     }
     let h = codec::handle_of(handle);
     let a = calls::trim(image, g, h);
-    *fault_slot = refusal::slot_of(image, g, a.number);
-    a.number
+    *fault_slot = a.refusal.at;
+    a.refusal.number
 }
 
 #[no_mangle]
@@ -298,21 +270,17 @@ pub extern "C" fn genie_kill(
     handle: &[u8],
     fault_slot: &mut usize,
 ) -> u8
-    ensures { λ r. ⌜ ((r, now (image .exit)) ≡ exportedKill (geometry blocks units start open_code) (now (image .entry)) (now (handle .entry))) × (now («fault_slot» .exit) ≡ faultSlot r (geometry blocks units start open_code) (now (image .entry))) ⌝ }
+    ensures { λ r. ⌜ (r, now («fault_slot» .exit), now (image .exit))
+        ≡ exportedKill (geometry blocks units start open_code) (now (image .entry)) (now (handle .entry)) ⌝ }
 {
-    let g = Geometry {
-        blocks,
-        units,
-        start,
-        anyone: open_code,
-    };
+    let g = codec::geometry(blocks, units, start, open_code);
     if handle.len() < codec::HANDLE_BYTES {
-        return refusal::short_number(image, g, fault_slot);
+        return short(image, g, fault_slot);
     }
     let h = codec::handle_of(handle);
     let a = calls::kill(image, g, h);
-    *fault_slot = refusal::slot_of(image, g, a.number);
-    a.number
+    *fault_slot = a.refusal.at;
+    a.refusal.number
 }
 
 #[no_mangle]
@@ -327,19 +295,15 @@ pub extern "C" fn genie_bring_back(
     granules: &mut usize,
     fault_slot: &mut usize,
 ) -> u8
-    ensures { λ r. ⌜ ((r, now (slots .exit), now (granules .exit), now (image .exit)) ≡ exportedBringBack (geometry blocks units start open_code) (now (image .entry)) slot) × (now («fault_slot» .exit) ≡ faultSlot r (geometry blocks units start open_code) (now (image .entry))) ⌝ }
+    ensures { λ r. ⌜ (r, now («fault_slot» .exit), now (slots .exit), now (granules .exit), now (image .exit))
+        ≡ exportedBringBack (geometry blocks units start open_code) (now (image .entry)) slot ⌝ }
 {
-    let g = Geometry {
-        blocks,
-        units,
-        start,
-        anyone: open_code,
-    };
+    let g = codec::geometry(blocks, units, start, open_code);
     let b = calls::bring_back(image, g, slot);
-    *fault_slot = refusal::slot_of(image, g, b.number);
+    *fault_slot = b.refusal.at;
     *slots = b.slots;
     *granules = b.granules;
-    b.number
+    b.refusal.number
 }
 
 #[no_mangle]
@@ -356,32 +320,28 @@ pub extern "C" fn genie_list(
     more: &mut usize,
     fault_slot: &mut usize,
 ) -> u8
-    ensures { λ r. ⌜ ((r, now (size .exit), now (granules .exit), now (more .exit), now (name .exit)) ≡ exportedList (geometry blocks units start open_code) (now (image .entry)) number (now (name .entry))) × (now («fault_slot» .exit) ≡ faultSlot r (geometry blocks units start open_code) (now (image .entry))) ⌝ }
+    ensures { λ r. ⌜ (r, now («fault_slot» .exit), now (size .exit), now (granules .exit), now (more .exit), now (name .exit))
+        ≡ exportedList (geometry blocks units start open_code) (now (image .entry)) number (now (name .entry)) ⌝ }
 {
-    let g = Geometry {
-        blocks,
-        units,
-        start,
-        anyone: open_code,
-    };
+    let g = codec::geometry(blocks, units, start, open_code);
     if name.len() < codec::NAME_BYTES {
         *size = 0;
         *granules = 0;
         *more = 0;
-        return refusal::short_number(image, g, fault_slot);
+        return short(image, g, fault_slot);
     }
     let l = calls::list(image, g, number);
-    *fault_slot = refusal::slot_of(image, g, l.number);
+    *fault_slot = l.refusal.at;
     *size = l.size;
     *granules = l.granules;
     if !l.more {
         *more = 0;
-        return l.number;
+        return l.refusal.number;
     }
     *more = 1;
     let file = l.name;
     codec::put_name(name, 0, file);
-    l.number
+    l.refusal.number
 }
 
 #[no_mangle]
@@ -395,19 +355,15 @@ pub extern "C" fn genie_count(
     free: &mut usize,
     fault_slot: &mut usize,
 ) -> u8
-    ensures { λ r. ⌜ ((r, now (files .exit), now (free .exit)) ≡ exportedCount (geometry blocks units start open_code) (now (image .entry))) × (now («fault_slot» .exit) ≡ faultSlot r (geometry blocks units start open_code) (now (image .entry))) ⌝ }
+    ensures { λ r. ⌜ (r, now («fault_slot» .exit), now (files .exit), now (free .exit))
+        ≡ exportedCount (geometry blocks units start open_code) (now (image .entry)) ⌝ }
 {
-    let g = Geometry {
-        blocks,
-        units,
-        start,
-        anyone: open_code,
-    };
+    let g = codec::geometry(blocks, units, start, open_code);
     let c = calls::counts(image, g);
-    *fault_slot = refusal::slot_of(image, g, c.number);
+    *fault_slot = c.refusal.at;
     *files = c.files;
     *free = c.free;
-    c.number
+    c.refusal.number
 }
 
 #[no_mangle]
@@ -422,16 +378,11 @@ pub extern "C" fn genie_free(
 ) -> u8
     ensures { λ r. ⌜ (r, now (free .exit), now (longest .exit)) ≡ exportedFree (geometry blocks units start open_code) (now (image .entry)) ⌝ }
 {
-    let g = Geometry {
-        blocks,
-        units,
-        start,
-        anyone: open_code,
-    };
+    let g = codec::geometry(blocks, units, start, open_code);
     let s = calls::free_space(image, g);
     *free = s.free;
     *longest = s.longest;
-    s.number
+    s.refusal.number
 }
 
 #[no_mangle]
@@ -454,37 +405,31 @@ pub extern "C" fn genie_compare(
     flags: &mut usize,
     fault_slot: &mut usize,
 ) -> u8
-    ensures { λ r. ⌜ ((r, now (image .exit), now (kind .exit), now (position .exit), now (flags .exit), now (name .exit)) ≡ exportedCompare (geometry blocks units start open_code) (now (first .entry)) (geometry blocks2 units2 start2 open_code2) (now (second .entry)) number (now (name .entry))) × (now («fault_slot» .exit) ≡ comparedSlot (now (image .exit)) r (geometry blocks units start open_code) (now (first .entry)) (geometry blocks2 units2 start2 open_code2) (now (second .entry))) ⌝ }
+    ensures { λ r. ⌜ (r, now («fault_slot» .exit), now (image .exit), now (kind .exit), now (position .exit), now (flags .exit), now (name .exit))
+        ≡ exportedCompare (geometry blocks units start open_code) (now (first .entry)) (geometry blocks2 units2 start2 open_code2) (now
+        (second .entry)) number (now (name .entry)) ⌝ }
 {
-    let g = Geometry {
-        blocks,
-        units,
-        start,
-        anyone: open_code,
-    };
-    let h = Geometry {
-        blocks: blocks2,
-        units: units2,
-        start: start2,
-        anyone: open_code2,
-    };
+    let g = codec::geometry(blocks, units, start, open_code);
+    let h = codec::geometry(blocks2, units2, start2, open_code2);
     if name.len() < codec::NAME_BYTES {
         *kind = 0;
         *position = 0;
         *flags = 0;
-        return refusal::short_of_two(first, g, second, h, image, fault_slot);
+        let c = refusal::short_of_two(calls::check(first, g), calls::check(second, h));
+        *image = layout::wide(c.image);
+        *fault_slot = c.at;
+        return c.number;
     }
     let x = calls::compare(first, g, second, h, number);
-    let named = layout::wide(x.image);
-    *image = named;
-    *fault_slot = refusal::compared_slot(first, g, second, h, named, x.number);
+    *image = layout::wide(x.refusal.image);
+    *fault_slot = x.refusal.at;
     *kind = layout::wide(x.kind);
     *position = x.at;
     *flags = codec::flags_of(x);
     if x.kind == 0 {
-        return x.number;
+        return x.refusal.number;
     }
     let file = x.name;
     codec::put_name(name, 0, file);
-    x.number
+    x.refusal.number
 }

@@ -12,11 +12,14 @@ use Rattle.meaning.specs.Layout.{fitsGeometry, highest}
 use Rattle.meaning.specs.Sizes
 use Rattle.meaning.specs.Consistent.{consistent}
 use Rattle.meaning.specs.Entries.{inUse, extension, primary, system}
-use Rattle.meaning.specs.Refusals.{first, check, faultNumbers, diskRefusals, inRange, fresh, staleHandle, handleRefusals, protected, goodLength}
+use Rattle.meaning.specs.Refusal.{carried}
+use Rattle.meaning.specs.Refusals.{first, check, refusal, faultNumbers, diskRefusals, inRange, fresh, staleHandle, handleRefusals, protected, goodLength}
 use Rattle.meaning.specs.declared.Geometry.{Geometry}
 use Rattle.meaning.specs.declared.Handle.{Handle}
+use Rattle.meaning.specs.declared.Refusal.{Refusal}
 use Rattle.laws.specs.Members
 use Rattle.laws.specs.Facts
+use Rattle.laws.specs.Carried.{carried-own}
 use Rattle.laws.specs.Passed.{Served, disk-passed, check-passed}
 use Rattle.layout.specs.Room.{Room, Slot}
 use Rattle.layout.proofs.Lists.{first-at, first-hit, first-skip, first-none, and-l, and-r, any-skip, all-at}
@@ -63,16 +66,27 @@ module _ (g : Geometry) (d : List ℕ) where
   of-served : Served g d → Checked
   of-served w = record { fits = Members.T-true (w .fits); sound = Facts.back g d (w .sound) }
 
-  pub checked : {n : ℕ} → n ≡ check g d → n ≡ 0 → Checked
-  checked e z = of-served (check-passed g d (sym e ∙ z))
+  number-is : {c : Refusal} → c ≡ check g d → c .number ≡ check g d .number
+  number-is e = ap {B = ℕ} (λ (c : Refusal). c .number) e
 
-  pub check-stop : (rest : List (ℕ × Bool)) {n : ℕ} → n ≡ check g d → (n ≡ 0 → ⊥) → n ≡ first (diskRefusals g d rest)
-  unfolding check
-  check-stop rest e z = first-stop (diskRefusals g d []) rest e z
+  pub checked : {c : Refusal} → c ≡ check g d → c .number ≡ 0 → Checked
+  checked e z = of-served (check-passed g d (sym (number-is e) ∙ z))
 
-  pub check-then : (rest : List (ℕ × Bool)) {n : ℕ} → n ≡ check g d → n ≡ 0 → first (diskRefusals g d rest) ≡ first rest
+  pub check-stop : (rest : List (ℕ × Bool)) {c : Refusal} → c ≡ check g d → (c .number ≡ 0 → ⊥) → c .number ≡ first (diskRefusals g d rest)
   unfolding check
-  check-then rest e z = first-then (diskRefusals g d []) rest (sym e ∙ z) refl
+  check-stop rest e z = first-stop (diskRefusals g d []) rest (number-is e) z
+
+  pub check-then : (rest : List (ℕ × Bool)) {c : Refusal} → c ≡ check g d → c .number ≡ 0 → first (diskRefusals g d rest) ≡ first rest
+  unfolding check
+  check-then rest e z = first-then (diskRefusals g d []) rest (sym (number-is e) ∙ z) refl
+
+  -- what goes out beside a number, on a disk whose check answered c
+  pub handed : {c r : Refusal} (n : ℕ) → c ≡ check g d → r ≡ carried c n → r ≡ refusal g d n
+  handed n p e = e ∙ ap (λ (c : Refusal). carried c n) p
+
+  -- the check's own refusal
+  pub handed-on : {c : Refusal} → c ≡ check g d → c ≡ refusal g d (c .number)
+  handed-on {c} p = p ∙ sym (carried-own (check g d) (number-is p))
 
   pub checked-room : Checked → Room g d
   checked-room c = room g d (c .fits) (c .sound)

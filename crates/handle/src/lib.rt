@@ -2,6 +2,7 @@
 // `checked` is the answer of the check of the whole disk; `ranged` is the call's own test 12.
 use meaning::Geometry;
 use meaning::Handle;
+use meaning::Refusal;
 ghost use mathlib.Core.Path.{_≡_};
 ghost use mathlib.Core.List.{[], _∷_};
 ghost use Rattle.meaning.specs.Entries.{system};
@@ -58,12 +59,12 @@ pub fn system(image: &[u8], g: Geometry, s: usize) -> bool
     (layout::field(image, g, s, 0) >> 6) % 2 == 1
 }
 
-pub fn handle_number(image: &[u8], g: Geometry, h: Handle, ranged: bool, checked: u8) -> u8
+pub fn handle_number(image: &[u8], g: Geometry, h: Handle, ranged: bool, checked: Refusal) -> u8
     requires { ⌜ checked ≡ check g (now image) ⌝ }
     ensures { λ r. ⌜ r ≡ first (handleRefusals g (now (image .entry)) h ranged []) ⌝ }
 {
-    if checked != 0 {
-        return checked;
+    if checked.number != 0 {
+        return checked.number;
     }
     if !ranged {
         return 12;
@@ -75,7 +76,7 @@ pub fn handle_number(image: &[u8], g: Geometry, h: Handle, ranged: bool, checked
 }
 
 // The same, then 6 for a call that reads.
-pub fn reading_number(image: &[u8], g: Geometry, h: Handle, ranged: bool, checked: u8) -> u8
+pub fn reading_number(image: &[u8], g: Geometry, h: Handle, ranged: bool, checked: Refusal) -> u8
     requires { ⌜ checked ≡ check g (now image) ⌝ }
     ensures { λ r. ⌜ r ≡ first (handleRefusals g (now (image .entry)) h ranged (notForReading h ∷ [])) ⌝ }
 {
@@ -96,7 +97,7 @@ pub fn changing_number(
     h: Handle,
     ranged: bool,
     most: usize,
-    checked: u8,
+    checked: Refusal,
 ) -> u8
     requires { ⌜ checked ≡ check g (now image) ⌝ }
     ensures { λ r. ⌜ r ≡ first (handleRefusals g (now (image .entry)) h ranged (protected g (now (image .entry)) most h ∷ [])) ⌝ }

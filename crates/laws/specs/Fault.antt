@@ -8,10 +8,11 @@ use native.Mathlib.Omega.{arith}
 use lib.Dec.{eqb}
 use Rattle.meaning.specs.Layout.{slots}
 use Rattle.meaning.specs.Consistent.{lengthHolds, directoryTaken, consistent}
-use Rattle.meaning.specs.Fault.{kindsAt, faultAt, lowest, fault, unplaced}
+use Rattle.meaning.specs.Fault.{kindsAt, faultAt, lowest, fault}
+use Rattle.meaning.specs.Refusal.{unplaced, placed}
 use Rattle.meaning.specs.Refusals.{faultNumbers}
 use Rattle.meaning.specs.declared.Geometry.{Geometry}
-use Rattle.meaning.specs.declared.Fault.{Fault}
+use Rattle.meaning.specs.declared.Refusal.{Refusal}
 use Rattle.laws.specs.Members
 use Rattle.laws.specs.Members.{In}
 use Rattle.laws.specs.First.{numbersOf, first-in}
@@ -28,11 +29,11 @@ module _ (g : Geometry) (d : List ℕ) where
   sound-none e = none-of g d (sound-faultless g d (Facts.sound g d e))
 
   pub no-fault : (fault g d ≡ unplaced 0) ↔ (consistent g d ≡ true)
-  no-fault = (λ e. none-sound (ap {B = ℕ} (λ (f : Fault). f .number) e), sound-none)
+  no-fault = (λ e. none-sound (ap {B = ℕ} (λ (f : Refusal). f .number) e), sound-none)
 
   -- the number alone says it
   pub no-number : (fault g d .number ≡ 0) ↔ (consistent g d ≡ true)
-  no-number = (none-sound, λ e. ap {B = ℕ} (λ (f : Fault). f .number) (sound-none e))
+  no-number = (none-sound, λ e. ap {B = ℕ} (λ (f : Refusal). f .number) (sound-none e))
 
   at-numbered : (s : ℕ) → In (faultAt g d s) (0 ∷ faultNumbers)
   unfolding faultAt
@@ -42,13 +43,13 @@ module _ (g : Geometry) (d : List ℕ) where
       go (inl e) = Members.head-in faultNumbers e
       go (inr i) = Members.In.there (Members.In.there i)
 
-  lowest-numbered : (after : Fault) (ss : List ℕ) → In (after .number) (0 ∷ faultNumbers) → In (lowest g d after ss .number) (0 ∷ faultNumbers)
+  lowest-numbered : (after : Refusal) (ss : List ℕ) → In (after .number) (0 ∷ faultNumbers) → In (lowest g d after ss .number) (0 ∷ faultNumbers)
   unfolding lowest
   lowest-numbered after [] i = i
   lowest-numbered after (s ∷ ss) i = go (eqb (faultAt g d s) 0) (lowest-numbered after ss i)
     where
       go : (b : Bool) → In (lowest g d after ss .number) (0 ∷ faultNumbers)
-          → In (cond b (lowest g d after ss) (record { number = faultAt g d s; slot = s }) .number) (0 ∷ faultNumbers)
+          → In (cond b (lowest g d after ss) (placed (faultAt g d s) s) .number) (0 ∷ faultNumbers)
       go true j = j
       go false j = at-numbered s
 
@@ -57,7 +58,7 @@ module _ (g : Geometry) (d : List ℕ) where
   unfolding fault
   numbered = go (lengthHolds g d) (directoryTaken g d)
     where
-      after : Bool → Fault
+      after : Bool → Refusal
       after b = cond b (unplaced 0) (unplaced 30)
 
       clear : (b : Bool) → In (after b .number) (0 ∷ faultNumbers)

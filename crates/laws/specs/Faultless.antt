@@ -9,9 +9,10 @@ use lib.Dec.{T, eqb, eqb→eq}
 use Rattle.meaning.specs.Layout.{isSlot, slots}
 use Rattle.meaning.specs.Consistent.{lengthHolds, directoryTaken}
 use Rattle.meaning.specs.Refusals.{first}
-use Rattle.meaning.specs.Fault.{hitFault, nameFault, duplicateFault, chainFault, runFault, gatFault, sharedFault, sizeFault, directoryFault, faultAt, lowest, unplaced, fault}
+use Rattle.meaning.specs.Fault.{hitFault, nameFault, duplicateFault, chainFault, runFault, gatFault, sharedFault, sizeFault, directoryFault, faultAt, lowest, fault}
+use Rattle.meaning.specs.Refusal.{unplaced}
 use Rattle.meaning.specs.declared.Geometry.{Geometry}
-use Rattle.meaning.specs.declared.Fault.{Fault}
+use Rattle.meaning.specs.declared.Refusal.{Refusal}
 use Rattle.laws.specs.Members
 use Rattle.laws.specs.Members.{In}
 use Rattle.laws.specs.Facts
@@ -65,12 +66,12 @@ module _ (g : Geometry) (d : List ℕ) where
         Members.no-false {b = directoryFault g d s} (c .directory),
       )
 
-  lowest-none : (after : Fault) (ss : List ℕ) → lowest g d after ss .number ≡ 0 → ((s : ℕ) → In s ss → faultAt g d s ≡ 0) × (after .number ≡ 0)
+  lowest-none : (after : Refusal) (ss : List ℕ) → lowest g d after ss .number ≡ 0 → ((s : ℕ) → In s ss → faultAt g d s ≡ 0) × (after .number ≡ 0)
   unfolding lowest
   lowest-none after [] e = (λ s i. Members.none-in i, e)
   lowest-none after (s ∷ ss) e = go (Members.decide (eqb (faultAt g d s) 0)) (lowest-none after ss)
     where
-      rest : Fault
+      rest : Refusal
       rest = lowest g d after ss
 
       go : Members.Test (eqb (faultAt g d s) 0) → (rest .number ≡ 0 → ((s : ℕ) → In s ss → faultAt g d s ≡ 0) × (after .number ≡ 0))
@@ -84,7 +85,7 @@ module _ (g : Geometry) (d : List ℕ) where
           one x (inr j) h = h x j
       go (Members.Test.fails t) r = absurd (t (Members.eq-T (rw (Members.no-false {b = eqb (faultAt g d s) 0} t) at e)))
 
-  none-lowest : (after : Fault) (ss : List ℕ) → ((s : ℕ) → In s ss → faultAt g d s ≡ 0) → lowest g d after ss ≡ after
+  none-lowest : (after : Refusal) (ss : List ℕ) → ((s : ℕ) → In s ss → faultAt g d s ≡ 0) → lowest g d after ss ≡ after
   unfolding lowest
   none-lowest after [] f = refl
   none-lowest after (s ∷ ss) f = rw (f s Members.In.here) (none-lowest after ss (λ x i. f x (Members.In.there i)))
@@ -93,7 +94,7 @@ module _ (g : Geometry) (d : List ℕ) where
   unfolding fault
   faultless e = go (Members.decide (lengthHolds g d)) (Members.decide (directoryTaken g d))
     where
-      after : Fault
+      after : Refusal
       after = cond (directoryTaken g d) (unplaced 0) (unplaced 30)
 
       go : Members.Test (lengthHolds g d) → Members.Test (directoryTaken g d) → Faultless g d

@@ -1,7 +1,7 @@
 -- What a call that was accepted has passed
-use mathlib.Core.Path.{_≡_, sym, _∙_}
+use mathlib.Core.Path.{_≡_, refl, sym, _∙_}
 use mathlib.Core.Logic.{_⊎_, inl, inr}
-use mathlib.Core.Bool.{Bool, true, not}
+use mathlib.Core.Bool.{Bool, true, false, not}
 use mathlib.Core.List.{List, [], _∷_, _++_}
 use Prim.Native.Nat.{ℕ}
 use native.Mathlib.Omega.{arith}
@@ -10,6 +10,7 @@ use Rattle.meaning.specs.Lists.{same, all}
 use Rattle.meaning.specs.Layout.{fitsGeometry, isSlot}
 use Rattle.meaning.specs.Entries.{system, primary, nameOf}
 use Rattle.meaning.specs.Consistent.{consistent}
+use Rattle.meaning.specs.Refusal.{unplaced, carried}
 use Rattle.meaning.specs.Fault.{fault}
 use Rattle.meaning.specs.Refusals.{first, check, faultNumbers, faultRefusals, diskRefusals, fresh, staleHandle, protected}
 use Rattle.meaning.specs.declared.Geometry.{Geometry}
@@ -19,6 +20,7 @@ use Rattle.laws.specs.Members.{In}
 use Rattle.laws.specs.First
 use Rattle.laws.specs.Facts
 use Rattle.laws.specs.Fault
+use Rattle.laws.specs.Carried.{carried-own, carried-other}
 use Rattle.laws.specs.Places
 use Rattle.laws.specs.Words.{words}
 pub use Rattle.laws.specs.First.{passed, yes-T}
@@ -41,7 +43,7 @@ disk-passed g d cs e = go (passed 1 _ _ (omega arith) e) (Members.in-cons (Fault
     )
     go p (inr i) = let k = Members.count-in n 21 10 i in absurd (omega (arith, k, sym (First.number-hit n faultNumbers cs i) ∙ p .1))
 
-pub check-passed : (g : Geometry) (d : List ℕ) → check g d ≡ 0 → Served g d
+pub check-passed : (g : Geometry) (d : List ℕ) → check g d .number ≡ 0 → Served g d
 unfolding check
 check-passed g d e = disk-passed g d [] e .0
 
@@ -51,12 +53,25 @@ unfolding first
 disk-passes g d cs f c = rw f (First.number-miss (fault g d .number) faultNumbers cs (λ i.
     let k = Members.count-in (fault g d .number) 21 10 i in omega (arith, k, Fault.no-number g d .1 c)))
 
-pub check-none : (g : Geometry) (d : List ℕ) → fitsGeometry g d ≡ true → consistent g d ≡ true → check g d ≡ 0
+pub check-none : (g : Geometry) (d : List ℕ) → fitsGeometry g d ≡ true → consistent g d ≡ true → check g d ≡ unplaced 0
 unfolding check first
-check-none g d f c = disk-passes g d [] f c
+check-none g d f c = rw (disk-passes g d [] f c, Fault.no-fault g d .1 c) (carried-own (unplaced 0) refl)
 
--- where the geometry fits, the check answers the fault's number
-pub check-number : (g : Geometry) (d : List ℕ) → fitsGeometry g d ≡ true → check g d ≡ fault g d .number
+-- what has passed the check leaves nothing to tell
+pub served-check : (g : Geometry) (d : List ℕ) → Served g d → check g d ≡ unplaced 0
+served-check g d w = check-none g d (Members.T-true (w .fits)) (Facts.back g d (w .sound))
+
+-- Where the geometry or the length does not fit, the check answers 1, and no slot with it.
+pub check-one : (g : Geometry) (d : List ℕ) → fitsGeometry g d ≡ false → check g d ≡ unplaced 1
+unfolding check first
+check-one g d f = rw f (carried-other (fault g d) (λ e. go e (Members.in-cons (Fault.numbered g d))))
+  where
+    go : 1 ≡ fault g d .number → (fault g d .number ≡ 0) ⊎ In (fault g d .number) faultNumbers → ⊥
+    go e (inl z) = omega (arith, e, z)
+    go e (inr i) = let k = Members.count-in (fault g d .number) 21 10 i in omega (arith, e, k)
+
+-- where they do, the check answers the fault's number
+pub check-number : (g : Geometry) (d : List ℕ) → fitsGeometry g d ≡ true → check g d .number ≡ fault g d .number
 unfolding check first
 check-number g d f = rw f (go (Members.in-cons (Fault.numbered g d)))
   where
@@ -66,6 +81,11 @@ check-number g d f = rw f (go (Members.in-cons (Fault.numbered g d)))
     go : (n ≡ 0) ⊎ In n faultNumbers → first (faultRefusals g d ++ []) ≡ n
     go (inl z) = First.number-miss n faultNumbers [] (λ i. let k = Members.count-in n 21 10 i in omega (arith, k, z)) ∙ sym z
     go (inr i) = First.number-hit n faultNumbers [] i
+
+-- and the fault's slot with it
+pub check-fault : (g : Geometry) (d : List ℕ) → fitsGeometry g d ≡ true → check g d ≡ fault g d
+unfolding check
+check-fault g d f = carried-own (fault g d) (check-number g d f)
 
 -- a handle that is not stale, and may write
 pub record Holds (g : Geometry) (d : List ℕ) (h : Handle) : Type 0 where

@@ -14,11 +14,13 @@ use Rattle.meaning.specs.Layout.{directorySectors, entryAt}
 use Rattle.meaning.specs.Entries.{inUse, extension, primary, nameOf, sizeOf}
 use Rattle.meaning.specs.Chain.{files, owned}
 use Rattle.meaning.specs.Free.{freeGranules}
+use Rattle.meaning.specs.Refusal.{unplaced}
 use Rattle.meaning.specs.Refusals.{check}
 use Rattle.meaning.specs.Listing.{noFile, shown, listed, tellFirst, list, counts}
 use Rattle.meaning.specs.declared.Geometry.{Geometry}
 use Rattle.meaning.specs.declared.Listed.{Listed}
 use Rattle.meaning.specs.declared.Counts.{Counts}
+use Rattle.meaning.specs.declared.Refusal.{Refusal}
 use Rattle.laws.specs.Members.{same-eq, same-refl}
 use Rattle.layout.proofs.Laws.{name-at}
 use Rattle.layout.proofs.Lists.{all-at, and-l}
@@ -30,10 +32,10 @@ module _ (g : Geometry) (d : List ℕ) where
   pub name-is : (s : ℕ) → entryAt g s + 16 ≤ length d → take 11 (drop (entryAt g s + 5) d) ≡ nameOf g d s
   name-is s h = same-eq _ _ (subst (λ (b : Bool). T b) (name-at g d (nameOf g d s) s h) (same-refl (nameOf g d s)))
 
-  pub told-is : (s : ℕ) {size granules : ℕ} {name : List ℕ} → name ≡ nameOf g d s → size ≡ sizeOf g d s → granules ≡ length (owned g d s)
-      → _≡_ {A = Listed} (record { number = 0; more = true; name = name; size = size; granules = granules }) (tellFirst g d (s ∷ []))
+  pub told-is : (s : ℕ) {size granules : ℕ} {name : List ℕ} {c : Refusal} → c ≡ unplaced 0 → name ≡ nameOf g d s → size ≡ sizeOf g d s → granules ≡ length (owned g d s)
+      → _≡_ {A = Listed} (record { refusal = c; more = true; name = name; size = size; granules = granules }) (tellFirst g d (s ∷ []))
   unfolding tellFirst
-  told-is s e f h = rw (e, f, h)
+  told-is s q e f h = rw (e, f, h, q)
 
   -- a listed file starts at slot s
   abbrev pub Tells : ℕ → Bool
@@ -123,7 +125,7 @@ module _ (g : Geometry) (d : List ℕ) where
         let z : n + suc (length (rest (s + 1))) ≡ n + 1 + length (rest (s + 1)) = omega arith in
         record { ahead = t .ahead ∙ ap (λ (r : List ℕ). n + length r) (rest-yes l e h k) ∙ z ∙ ap (λ (j : ℕ). j + length (rest (s + 1))) (sym q) }
 
-  pub telling-end : {i left s : ℕ} → 256 ≤ s → Telling i left s → noFile 0 ≡ tellFirst g d (drop i (listed g d))
+  pub telling-end : {i left s : ℕ} → 256 ≤ s → Telling i left s → noFile (unplaced 0) ≡ tellFirst g d (drop i (listed g d))
   unfolding tellFirst
   telling-end {i} {left} h t = sym (ap (tellFirst g d) (t .ahead ∙ ap (drop left) (rest-end h) ∙ drop-nil left))
 
@@ -131,19 +133,19 @@ module _ (g : Geometry) (d : List ℕ) where
   counting-end {n} h t = sym (t .ahead ∙ ap (λ (r : List ℕ). n + length r) (rest-end h) ∙ add-zero n)
 
   -- refused and accepted
-  pub list-refused : (i : ℕ) {no : ℕ} {r : Listed} → r ≡ noFile no → no ≡ check g d → (no ≡ 0 → ⊥) → r ≡ list g d i
+  pub list-refused : (i : ℕ) {c : Refusal} {r : Listed} → r ≡ noFile c → c ≡ check g d → (c .number ≡ 0 → ⊥) → r ≡ list g d i
   unfolding list
-  list-refused i {no} f e z = f ∙ (rw (← e, ne-eqb no 0 z))
+  list-refused i {c} f e z = f ∙ (rw (← e, ne-eqb (c .number) 0 z))
 
-  pub list-accepted : (i : ℕ) {no : ℕ} {r : Listed} → r ≡ tellFirst g d (drop i (listed g d)) → no ≡ check g d → no ≡ 0 → r ≡ list g d i
+  pub list-accepted : (i : ℕ) {c : Refusal} {r : Listed} → r ≡ tellFirst g d (drop i (listed g d)) → c ≡ check g d → c .number ≡ 0 → r ≡ list g d i
   unfolding list
   list-accepted i f e z = f ∙ (rw (← e, z))
 
-  pub counts-refused : {no : ℕ} → no ≡ check g d → (no ≡ 0 → ⊥) → _≡_ {A = Counts} (record { number = no; files = 0; free = 0 }) (counts g d)
+  pub counts-refused : {c : Refusal} → c ≡ check g d → (c .number ≡ 0 → ⊥) → _≡_ {A = Counts} (record { refusal = c; files = 0; free = 0 }) (counts g d)
   unfolding counts
-  counts-refused {no} e z = rw (← e, ne-eqb no 0 z)
+  counts-refused {c} e z = rw (← e, ne-eqb (c .number) 0 z)
 
-  pub counts-accepted : {no n m : ℕ} → no ≡ check g d → no ≡ 0 → n ≡ length (listed g d) → m ≡ length (freeGranules g d)
-      → _≡_ {A = Counts} (record { number = 0; files = n; free = m }) (counts g d)
+  pub counts-accepted : {n m : ℕ} {c : Refusal} → c ≡ check g d → c .number ≡ 0 → n ≡ length (listed g d) → m ≡ length (freeGranules g d)
+      → _≡_ {A = Counts} (record { refusal = c; files = n; free = m }) (counts g d)
   unfolding counts
   counts-accepted e z p q = rw (← e, z, p, q)

@@ -2,6 +2,7 @@
 use meaning::Counts;
 use meaning::Geometry;
 use meaning::Listed;
+use meaning::Refusal;
 ghost use mathlib.Core.Path.{_≡_};
 ghost use mathlib.Core.List.{[], _∷_};
 ghost use Prim.Native.Nat.{_+_, _*_, _<_};
@@ -30,11 +31,11 @@ fn tells(image: &[u8], g: Geometry, s: usize, at: usize) -> bool
 }
 
 // Nothing told of a file: a refusal, or "no more".
-fn no_file(number: u8) -> Listed
-    ensures { λ r. ⌜ r ≡ noFile number ⌝ }
+fn no_file(c: Refusal) -> Listed
+    ensures { λ r. ⌜ r ≡ noFile c ⌝ }
 {
     Listed {
-        number,
+        refusal: c,
         more: false,
         name: [0u8; 11],
         size: 0,
@@ -48,7 +49,7 @@ fn tell(image: &[u8], g: Geometry, s: usize) -> Listed
     ensures { λ r. ⌜ r ≡ tellFirst g (now (image .entry)) (s ∷ []) ⌝ }
 {
     Listed {
-        number: 0,
+        refusal: refusal::unplaced(0),
         more: true,
         name: find::name_at(image, 256 * (g.start + 2 + s % 32) + 32 * (s / 32) + 5),
         size: layout::size_of(image, g, s),
@@ -80,15 +81,15 @@ fn told(image: &[u8], g: Geometry, number: usize) -> Listed
         }
         row += 1;
     }
-    no_file(0)
+    no_file(refusal::unplaced(0))
 }
 
 // List, of a disk whose check answered `checked`.
-pub fn list_checked(image: &[u8], g: Geometry, number: usize, checked: u8) -> Listed
+pub fn list_checked(image: &[u8], g: Geometry, number: usize, checked: Refusal) -> Listed
     requires { ⌜ checked ≡ check g (now image) ⌝ }
     ensures { λ r. ⌜ r ≡ list g (now (image .entry)) number ⌝ }
 {
-    if checked != 0 {
+    if checked.number != 0 {
         return no_file(checked);
     }
     told(image, g, number)
@@ -119,19 +120,19 @@ fn files_count(image: &[u8], g: Geometry) -> usize
 }
 
 // The counts FILES and FREE, of a disk whose check answered `checked`.
-pub fn counts_checked(image: &[u8], g: Geometry, checked: u8) -> Counts
+pub fn counts_checked(image: &[u8], g: Geometry, checked: Refusal) -> Counts
     requires { ⌜ checked ≡ check g (now image) ⌝ }
     ensures { λ r. ⌜ r ≡ counts g (now (image .entry)) ⌝ }
 {
-    if checked != 0 {
+    if checked.number != 0 {
         return Counts {
-            number: checked,
+            refusal: checked,
             files: 0,
             free: 0,
         };
     }
     Counts {
-        number: 0,
+        refusal: checked,
         files: files_count(image, g),
         free: space::free_count(image, g),
     }

@@ -6,34 +6,29 @@ use meaning::Handle;
 // Where the entry of slot 3 stands: in directory sector 2 + 3, and the directory starts at sector 0.
 const SLOT_3: usize = 256 * (2 + 3);
 
-// 8 blocks of 2 units, directory of 10 sectors at sector 0; code 0 stands for "no password".
-fn small() -> Geometry {
+// A disk of so many blocks and units, its directory at a sector; code 0 stands for "no password".
+fn disk(blocks: usize, units: usize, start: usize) -> Geometry {
     Geometry {
-        blocks: 8,
-        units: 2,
-        start: 0,
+        blocks,
+        units,
+        start,
         anyone: 0,
     }
+}
+
+// 8 blocks of 2 units, directory of 10 sectors at sector 0.
+fn small() -> Geometry {
+    disk(8, 2, 0)
 }
 
 // 9 units a block: no geometry.
 fn nine_units() -> Geometry {
-    Geometry {
-        blocks: 8,
-        units: 9,
-        start: 0,
-        anyone: 0,
-    }
+    disk(8, 9, 0)
 }
 
 // 9 blocks: not the geometry of a disk of 20,480 bytes.
 fn nine_blocks() -> Geometry {
-    Geometry {
-        blocks: 9,
-        units: 2,
-        start: 0,
-        anyone: 0,
-    }
+    disk(9, 2, 0)
 }
 
 // GAT: granules 0 to 6, 8 and 15 are taken, the last one reserved; bits past the last unit are set in block 5. HIT: four slots.
@@ -149,7 +144,7 @@ fn handle_told(h: Handle) {
 
 fn look_up(image: &[u8], g: Geometry, words: &[u8], name: &[u8]) {
     let r = calls::look_up(image, g, name);
-    said(words, r.number);
+    said(words, r.refusal.number);
     told(b"slot", r.slot);
     told(b"compared", r.compared);
     ended();
@@ -165,7 +160,7 @@ fn open_file(
     code: u16,
 ) -> Handle {
     let r = calls::open_file(image, g, name, len, checking, code);
-    said(words, r.number);
+    said(words, r.refusal.number);
     handle_told(r.handle);
     ended();
     r.handle
@@ -173,7 +168,7 @@ fn open_file(
 
 fn read_into(image: &[u8], g: Geometry, words: &[u8], h: Handle, buffer: &mut [u8]) {
     let r = calls::read_record(image, g, h, buffer);
-    said(words, r.number);
+    said(words, r.refusal.number);
     handle_told(r.handle);
     io::write_all(1, b" buffer");
     shown(buffer);
@@ -194,7 +189,8 @@ fn read_short(image: &[u8], g: Geometry, words: &[u8], h: Handle) {
 
 fn read_sector(image: &[u8], g: Geometry, words: &[u8], h: Handle, k: usize) {
     let mut number = 0u8;
-    let part = calls::read_sector(image, g, h, k, &mut number);
+    let mut at = 0usize;
+    let part = calls::read_sector(image, g, h, k, &mut number, &mut at);
     said(words, number);
     let place = calls::sector_part(image, g, h, k);
     told(b"from", place.from);
@@ -206,7 +202,7 @@ fn read_sector(image: &[u8], g: Geometry, words: &[u8], h: Handle, k: usize) {
 
 fn list(image: &[u8], g: Geometry, words: &[u8], number: usize) {
     let r = calls::list(image, g, number);
-    said(words, r.number);
+    said(words, r.refusal.number);
     if r.more {
         io::write_all(1, b" a file");
     } else {
@@ -221,7 +217,7 @@ fn list(image: &[u8], g: Geometry, words: &[u8], number: usize) {
 
 fn counts(image: &[u8], g: Geometry, words: &[u8]) {
     let r = calls::counts(image, g);
-    said(words, r.number);
+    said(words, r.refusal.number);
     told(b"FILES", r.files);
     told(b"FREE", r.free);
     ended();
@@ -229,7 +225,7 @@ fn counts(image: &[u8], g: Geometry, words: &[u8]) {
 
 fn free_space(image: &[u8], g: Geometry, words: &[u8]) {
     let r = calls::free_space(image, g);
-    said(words, r.number);
+    said(words, r.refusal.number);
     told(b"free", r.free);
     told(b"longest", r.longest);
     ended();

@@ -28,6 +28,6 @@ module _ (g : Geometry) (d : List ℕ) where
   unfoldable pub allot : Handle → ℕ → Answer × List ℕ
   allot h k =
       let no = Refusals.first (allotRefusals h k) in (
-        record { number = no; handle = h },
+        record { refusal = Refusals.refusal g d no; handle = h },
         cond (Refusals.accepted no) (Refusals.larger g d (h .slot) (toAllot h k)) d,
       )

@@ -60,7 +60,7 @@ module _ (g : Geometry) (d : List ℕ) where
   bringBack s =
       let no = Refusals.first (bringBackRefusals s) in (
         record {
-          number = no;
+          refusal = Refusals.refusal g d no;
           slots = cond (Refusals.accepted no) (length (Chain.chain g d s)) 0;
           granules = cond (Refusals.accepted no) (length (Chain.owned g d s)) 0;
         },

@@ -37,19 +37,19 @@ pub data Call : Type 0 where
 
 -- the number that it answers, 0 where it is accepted
 unfoldable pub number : Geometry → List ℕ → Call → ℕ
-number g d checks = check g d
-number g d (looksUp n) = lookUp g d n .number
-number g d (opens n len checking code) = open′ g d n len checking code .number
-number g d (creates n f checking) = create g d n f checking .0 .number
-number g d (reads h b) = readRecord g d h b .0 .number
-number g d (readsSector h k) = readSector g d h k .number
-number g d (writes m h b) = writeRecord g d m h b .0 .number
-number g d (allots h k) = allot g d h k .0 .number
-number g d (trims h) = trim g d h .0 .number
-number g d (kills h) = kill g d h .0 .number
-number g d (lists i) = Listing.list g d i .number
-number g d counts = Listing.counts g d .number
-number g d measures = freeSpace g d .number
+number g d checks = check g d .number
+number g d (looksUp n) = lookUp g d n .refusal .number
+number g d (opens n len checking code) = open′ g d n len checking code .refusal .number
+number g d (creates n f checking) = create g d n f checking .0 .refusal .number
+number g d (reads h b) = readRecord g d h b .0 .refusal .number
+number g d (readsSector h k) = readSector g d h k .refusal .number
+number g d (writes m h b) = writeRecord g d m h b .0 .refusal .number
+number g d (allots h k) = allot g d h k .0 .refusal .number
+number g d (trims h) = trim g d h .0 .refusal .number
+number g d (kills h) = kill g d h .0 .refusal .number
+number g d (lists i) = Listing.list g d i .refusal .number
+number g d counts = Listing.counts g d .refusal .number
+number g d measures = freeSpace g d .refusal .number
 
 -- the image that it leaves
 unfoldable pub leaves : Geometry → List ℕ → Call → List ℕ

@@ -4,18 +4,19 @@ use mathlib.Core.Path.{_≡_, refl}
 use mathlib.Core.List.{List, [], _∷_}
 use Rattle.meaning.specs.Allot.{allot}
 use Rattle.meaning.specs.Kill.{kill}
-use Rattle.meaning.specs.Fault.{fault}
+use Rattle.meaning.specs.Refusal.{unplaced, placed}
+use Rattle.meaning.specs.Refusals.{check}
 use Rattle.meaning.specs.Samples.{changed, held, puls, leer, three, sample, gaps, filled, hits, e80, e81, e82, eA3, opened}
-use Rattle.meaning.specs.declared.Fault.{Fault}
+use Rattle.meaning.specs.declared.Refusal.{Refusal}
 
 -- A run beyond the fourth starts an extension in the first permitted slot: the fifth pair does not reach marker and link.
-fifth-run : allot three gaps (held 0x80 leer 0 256 4) 24 ≡ (record { number = 0; handle = held 0x80 leer 0 256 4 }, filled)
+fifth-run : allot three gaps (held 0x80 leer 0 256 4) 24 ≡ (record { refusal = unplaced 0; handle = held 0x80 leer 0 256 4 }, filled)
 unfolding opened
 fifth-run = refl
 
 -- Kill: bit 4 of the entry and its extension, their HIT bytes and their GAT bits, nothing else.
 both-entries : kill three sample (held 0xa3 puls 0 256 1) ≡ (
-  record { number = 0; handle = held 0xa3 puls 0 256 1 },
+  record { refusal = unplaced 0; handle = held 0xa3 puls 0 256 1 },
   changed sample ((0, 0x03) ∷ (1, 0x00) ∷ (2, 0xa4) ∷ (3, 0x00) ∷ (hits + 0x81, 0x00) ∷ (hits + 0xa3, 0x00) ∷ (e81, 0x80) ∷ (eA3, 0x0d) ∷ []),
 )
 unfolding opened
@@ -25,7 +26,7 @@ both-entries = refl
 
 -- the fault of a disk like the sample, and its slot
 abbrev Told : List (ℕ × ℕ) → ℕ → ℕ → Type 0
-Told cs number slot = _≡_ {A = Fault} (fault three (changed sample cs)) (record { number = number; slot = slot })
+Told cs number slot = _≡_ {A = Refusal} (check three (changed sample cs)) (placed number slot)
 
 -- For a pair of slots the higher one: LEER in slot 80H is called PULS01/DAT too.
 higher-slot : Told ((hits + 0x80, 0xc1) ∷ (e80 + 5, 0x50) ∷ (e80 + 6, 0x55) ∷ (e80 + 7, 0x4c) ∷ (e80 + 8, 0x53) ∷ (e80 + 9, 0x30) ∷ (e80 + 10, 0x31)

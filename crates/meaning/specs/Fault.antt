@@ -12,12 +12,9 @@ use Rattle.meaning.specs.Names
 use Rattle.meaning.specs.Entries
 use Rattle.meaning.specs.Chain
 use Rattle.meaning.specs.Consistent
+use Rattle.meaning.specs.Refusal.{unplaced, placed}
 use Rattle.meaning.specs.declared.Geometry.{Geometry}
-use Rattle.meaning.specs.declared.Fault.{Fault}
-
--- a fault without a slot
-abbrev pub unplaced : ℕ → Fault
-unplaced n = record { number = n; slot = 256 }
+use Rattle.meaning.specs.declared.Refusal.{Refusal}
 
 module _ (g : Geometry) (d : List ℕ) where
   -- Walks -----------------------------------------------------------------------------------------------------------------
@@ -136,14 +133,14 @@ module _ (g : Geometry) (d : List ℕ) where
   faultAt s = first (kindsAt s)
 
   -- the lowest slot at fault; where there is none, `after`
-  unfoldable pub lowest : Fault → List ℕ → Fault
+  unfoldable pub lowest : Refusal → List ℕ → Refusal
   lowest after [] = after
   lowest after (s ∷ ss) =
       let rest = lowest after ss in
-      let n = faultAt s in cond (eqb n 0) rest (record { number = n; slot = s })
+      let n = faultAt s in cond (eqb n 0) rest (placed n s)
 
   -- Directory length comes before all slots, a clear directory granule after them, both without a slot. 0: there is no fault.
-  unfoldable pub fault : Fault
+  unfoldable pub fault : Refusal
   fault =
       let clear = cond (Consistent.directoryTaken g d) (unplaced 0) (unplaced 30) in
       cond (Consistent.lengthHolds g d) (lowest clear (Layout.slots g d)) (unplaced 21)

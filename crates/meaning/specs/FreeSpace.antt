@@ -6,6 +6,7 @@ use lib.ListN.{length}
 use Rattle.meaning.specs.Lists.{count}
 use Rattle.meaning.specs.Layout.{taken, granules}
 use Rattle.meaning.specs.Free.{freeGranules}
+use Rattle.meaning.specs.Refusal.{unplaced}
 use Rattle.meaning.specs.Refusals
 use Rattle.meaning.specs.declared.Geometry.{Geometry}
 use Rattle.meaning.specs.declared.Space.{Space}
@@ -34,7 +35,7 @@ module _ (g : Geometry) (d : List ℕ) where
   freeSpace =
       let no = Refusals.first spaceRefusals in
       record {
-        number = no;
+        refusal = unplaced no;
         free = cond (Refusals.accepted no) (length (freeGranules g d)) 0;
         longest = cond (Refusals.accepted no) longest 0;
       }

@@ -28,6 +28,6 @@ module _ (g : Geometry) (d : List ℕ) where
   unfoldable pub kill : Handle → Answer × List ℕ
   kill h =
       let no = Refusals.first (killRefusals h) in (
-        record { number = no; handle = h },
+        record { refusal = Refusals.refusal g d no; handle = h },
         cond (Refusals.accepted no) (killed g d (h .slot)) d,
       )

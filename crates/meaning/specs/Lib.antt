@@ -6,6 +6,7 @@ pub mod Names
 pub mod Entries
 pub mod Chain
 pub mod Consistent
+pub mod Refusal
 pub mod Fault
 pub mod Free
 pub mod Growth

@@ -8,14 +8,16 @@ use Rattle.meaning.specs.Lists.{keep, each}
 use Rattle.meaning.specs.Entries
 use Rattle.meaning.specs.Chain
 use Rattle.meaning.specs.Free
+use Rattle.meaning.specs.Refusal.{unplaced}
 use Rattle.meaning.specs.Refusals
 use Rattle.meaning.specs.declared.Geometry.{Geometry}
 use Rattle.meaning.specs.declared.Listed.{Listed}
 use Rattle.meaning.specs.declared.Counts.{Counts}
+use Rattle.meaning.specs.declared.Refusal.{Refusal}
 
 -- nothing is told of a file: a refusal, or "no more", which is accepted
-abbrev pub noFile : ℕ → Listed
-noFile number = record { number = number; more = false; name = replicate 11 0; size = 0; granules = 0 }
+abbrev pub noFile : Refusal → Listed
+noFile c = record { refusal = c; more = false; name = replicate 11 0; size = 0; granules = 0 }
 
 module _ (g : Geometry) (d : List ℕ) where
   -- System files aren't listed or counted, invisible ones are.
@@ -28,22 +30,22 @@ module _ (g : Geometry) (d : List ℕ) where
 
   -- the first of these files: name, size, granules owned
   unfoldable pub tellFirst : List ℕ → Listed
-  tellFirst [] = noFile 0
+  tellFirst [] = noFile (unplaced 0)
   tellFirst (p ∷ ps) =
-      record { number = 0; more = true; name = Entries.nameOf g d p; size = Entries.sizeOf g d p; granules = length (Chain.owned g d p) }
+      record { refusal = unplaced 0; more = true; name = Entries.nameOf g d p; size = Entries.sizeOf g d p; granules = length (Chain.owned g d p) }
 
   -- The library tells one file a call, by number from 0, then "no more".
   unfoldable pub list : ℕ → Listed
-  list i = let no = Refusals.check g d in cond (Refusals.accepted no) (tellFirst (drop i listed)) (noFile no)
+  list i = let c = Refusals.check g d in cond (Refusals.accepted (c .number)) (tellFirst (drop i listed)) (noFile c)
 
   -- FILES, and FREE: the number of clear GAT bits in range
   unfoldable pub counts : Counts
   counts =
-      let no = Refusals.check g d in
+      let c = Refusals.check g d in
       record {
-        number = no;
-        files = cond (Refusals.accepted no) (length listed) 0;
-        free = cond (Refusals.accepted no) (length (Free.freeGranules g d)) 0;
+        refusal = c;
+        files = cond (Refusals.accepted (c .number)) (length listed) 0;
+        free = cond (Refusals.accepted (c .number)) (length (Free.freeGranules g d)) 0;
       }
 
 -- The text ----------------------------------------------------------------------------------------------------------------

@@ -29,7 +29,7 @@ module _ (g : Geometry) (d : List ℕ) where
   unfoldable pub readRecord : Handle → List ℕ → Answer × List ℕ
   readRecord h b =
       let no = Refusals.first (readRefusals h (length b)) in (
-        record { number = no; handle = cond (Refusals.accepted no) (Refusals.movedTo h (h .at + h .len)) h },
+        record { refusal = Refusals.refusal g d no; handle = cond (Refusals.accepted no) (Refusals.movedTo h (h .at + h .len)) h },
         cond (Refusals.accepted no) (fetch (h .slot) (h .at) (h .len) ++ drop (h .len) b) b,
       )
 
@@ -50,7 +50,7 @@ module _ (g : Geometry) (d : List ℕ) where
       let s = h .slot in let no = Refusals.first (sectorRefusals h k) in
       let from = Chain.place g d s (256 * k) in
       record {
-        number = no;
+        refusal = Refusals.refusal g d no;
         from = cond (Refusals.accepted no) from 0;
         to = cond (Refusals.accepted no) (from + sectorBytes s k) 0;
       }

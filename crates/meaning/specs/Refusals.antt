@@ -9,12 +9,14 @@ use Rattle.meaning.specs.Layout
 use Rattle.meaning.specs.Names
 use Rattle.meaning.specs.Entries
 use Rattle.meaning.specs.Chain
+use Rattle.meaning.specs.Refusal.{carried}
 use Rattle.meaning.specs.Fault
 use Rattle.meaning.specs.Free
 use Rattle.meaning.specs.Growth
 use Rattle.meaning.specs.declared.Geometry.{Geometry}
 use Rattle.meaning.specs.declared.Handle.{Handle}
 use Rattle.meaning.specs.declared.NewFile.{NewFile}
+use Rattle.meaning.specs.declared.Refusal.{Refusal}
 -- Where several apply, the first in the table is returned and no other; 0 where none does: the call is accepted.
 unfoldable pub use Rattle.meaning.specs.Lists.{first}
 
@@ -72,9 +74,13 @@ module _ (g : Geometry) (d : List ℕ) where
   abbrev pub diskRefusals : List (ℕ × Bool) → List (ℕ × Bool)
   diskRefusals rest = badGeometry ∷ (faultRefusals ++ rest)
 
-  -- Check as a call answers 0, 1 or 21 to 30.
-  unfoldable pub check : ℕ
-  check = first (diskRefusals [])
+  -- Check as a call answers 0, 1 or 21 to 30, and with a fault's number its slot (02 §2).
+  unfoldable pub check : Refusal
+  check = carried (Fault.fault g d) (first (diskRefusals []))
+
+  -- What a call answers whose number is n: what the check found is handed on.
+  abbrev pub refusal : ℕ → Refusal
+  refusal n = carried check n
 
   -- A handle is stale unless its slot is one the directory has, in use, primary and carries its name.
   unfoldable pub fresh : Handle → Bool

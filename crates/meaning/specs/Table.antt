@@ -19,6 +19,7 @@ use Rattle.meaning.specs.Consistent
 use Rattle.meaning.specs.Growth
 use Rattle.meaning.specs.Growth.{lengthens}
 use Rattle.meaning.specs.Create
+use Rattle.meaning.specs.Refusal.{unplaced, placed}
 use Rattle.meaning.specs.Refusals.{check}
 use Rattle.meaning.specs.Samples.{wide, onePair, opened}
 use Rattle.meaning.specs.declared.Geometry.{Geometry}
@@ -52,8 +53,8 @@ pub record Rows : Type 0 where
   -- first unit is 2: 26, run off the disk).
   pub pair : (count (Entries.pairStart 3 0x11 0x42) (Entries.pairLength 0x42) ≡ 53 ∷ 54 ∷ 55 ∷ [])
       × ((g : Geometry) → each (Layout.granuleSectorsOf g) (53 ∷ 54 ∷ 55 ∷ []) ≡ count 265 15)
-      × (Chain.owned (wide 3) (onePair 76800) 0x80 ≡ 53 ∷ 54 ∷ 55 ∷ []) × (check (wide 3) (onePair 76800) ≡ 0)
-      × (Consistent.runsHold (wide 2) (onePair 51200) 0x80 ≡ false) × (check (wide 2) (onePair 51200) ≡ 26)
+      × (Chain.owned (wide 3) (onePair 76800) 0x80 ≡ 53 ∷ 54 ∷ 55 ∷ []) × (check (wide 3) (onePair 76800) ≡ unplaced 0)
+      × (Consistent.runsHold (wide 2) (onePair 51200) 0x80 ≡ false) × (check (wide 2) (onePair 51200) ≡ placed 26 0x80)
   -- 4. Sizes 0, 255, 256, 257 are (n, e) = (0, 0), (1, 255), (1, 0), (2, 1).
   pub sizes : Size 0 0 0 × Size 255 1 255 × Size 256 1 0 × Size 257 2 1
   -- 5. Byte 1,280 is in the second granule owned.

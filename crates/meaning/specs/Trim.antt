@@ -26,6 +26,6 @@ module _ (g : Geometry) (d : List ℕ) where
   trim h =
       let s = h .slot in
       let no = Refusals.first (trimRefusals h) in (
-        record { number = no; handle = h },
+        record { refusal = Refusals.refusal g d no; handle = h },
         cond (Refusals.accepted no && not (Entries.keepsSpace g d s)) (times (surplus s) (Drop.dropOne g s) d) d,
       )

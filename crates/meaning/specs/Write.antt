@@ -54,6 +54,6 @@ module _ (g : Geometry) (d : List ℕ) where
       let f = Chain.place g d₁ s in
       let d₂ = store f d₁ old (replicate (h .at - old) 0) in
       let d₃ = store f d₂ (h .at) (take (h .len) b) in (
-        record { number = no; handle = cond (Refusals.accepted no) (Refusals.movedTo h end) h },
+        record { refusal = Refusals.refusal g d no; handle = cond (Refusals.accepted no) (Refusals.movedTo h end) h },
         cond (Refusals.accepted no) (withSize d₃ s (sizeAfter m old end)) d,
       )

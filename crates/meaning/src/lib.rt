@@ -40,38 +40,46 @@ pub enum Mode {
     Random,
 }
 
-// In every answer `number` is the refusal number of 01's table, 0 where the call was accepted.
+// What a call says of a refusal. `number` is that of 01's table and of 02, 0 where the call was accepted. `at` is what goes with it: under 21 to
+// 30 the slot of the fault; 256 where there is none. `image` is the image that it names, 1 or 2, where a call is given two; else 0.
+pub struct Refusal {
+    pub number: u8,
+    pub image: u8,
+    pub at: usize,
+}
+
+// Every answer holds one.
 
 // What look up answers: the slot, and how many entries were compared.
 pub struct LookedUp {
-    pub number: u8,
+    pub refusal: Refusal,
     pub slot: usize,
     pub compared: usize,
 }
 
 // What open answers, and every call with a handle but read sector: the handle as the call leaves it.
 pub struct Answer {
-    pub number: u8,
+    pub refusal: Refusal,
     pub handle: Handle,
 }
 
 // What create answers. `old`: a file of that name was there.
 pub struct Created {
-    pub number: u8,
+    pub refusal: Refusal,
     pub old: bool,
     pub handle: Handle,
 }
 
 // What read sector answers: a part of the image, from a place up to another, which it does not hold.
 pub struct Part {
-    pub number: u8,
+    pub refusal: Refusal,
     pub from: usize,
     pub to: usize,
 }
 
 // What the listing answers: one file, or, where `more` is false, "no more".
 pub struct Listed {
-    pub number: u8,
+    pub refusal: Refusal,
     pub more: bool,
     pub name: [u8; 11],
     pub size: usize,
@@ -80,27 +88,21 @@ pub struct Listed {
 
 // What the counts answer: FILES and FREE.
 pub struct Counts {
-    pub number: u8,
+    pub refusal: Refusal,
     pub files: usize,
     pub free: usize,
 }
 
 // What free space answers: how many granules are free, and how long the longest free stretch is.
 pub struct Space {
-    pub number: u8,
+    pub refusal: Refusal,
     pub free: usize,
     pub longest: usize,
 }
 
 // What bring back answers (02, §11): how many slots and granules the file has.
 pub struct BroughtBack {
-    pub number: u8,
+    pub refusal: Refusal,
     pub slots: usize,
     pub granules: usize,
-}
-
-// What is inconsistent, and where (02): one of the numbers 21 to 30, 0 where there is no fault, and a slot, 256 where there is none.
-pub struct Fault {
-    pub number: u8,
-    pub slot: usize,
 }

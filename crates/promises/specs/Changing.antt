@@ -125,7 +125,7 @@ owns : (g : Geometry) (d : List ℕ) (p : ℕ) → length (owned g d p) ≡ file
 unfolding fileAt
 owns g d p = refl
 
-pub kill-serves : (g : Geometry) (d : List ℕ) (h : Handle) → kill g d h .0 .number ≡ 0 → Serves g d (Call.kills h)
+pub kill-serves : (g : Geometry) (d : List ℕ) (h : Handle) → kill g d h .0 .refusal .number ≡ 0 → Serves g d (Call.kills h)
 unfolding kill
 kill-serves g d h e =
     let w = Passed.holds g d h _ 1 [] e .0 in let x = KillMeans.kill-means g d h e in
@@ -138,7 +138,7 @@ kill-serves g d h e =
       ranged = Refusing.range-iff g h .0 (Passing.handle-passed g d h (inRange g h) (protected g d 1 h ∷ []) e .1);
     }
 
-pub allot-serves : (g : Geometry) (d : List ℕ) (h : Handle) (k : ℕ) → allot g d h k .0 .number ≡ 0 → Serves g d (Call.allots h k)
+pub allot-serves : (g : Geometry) (d : List ℕ) (h : Handle) (k : ℕ) → allot g d h k .0 .refusal .number ≡ 0 → Serves g d (Call.allots h k)
 unfolding allot allottedTo fileAt
 allot-serves g d h k e =
     let w = Passed.holds g d h _ 4 _ e .0 in let x = Grow.allot-means g d h k e in
@@ -153,7 +153,7 @@ allot-serves g d h k e =
           (Passing.handle-passed g d h (all (inRange g h ∷ ltb k (sectorNumbers g) ∷ [])) (protected g d 4 h ∷ cannotGrow g d (h .slot) (toAllot g d h k)) e .1));
     }
 
-pub trim-serves : (g : Geometry) (d : List ℕ) (h : Handle) → trim g d h .0 .number ≡ 0 → Serves g d (Call.trims h)
+pub trim-serves : (g : Geometry) (d : List ℕ) (h : Handle) → trim g d h .0 .refusal .number ≡ 0 → Serves g d (Call.trims h)
 unfolding trim
 trim-serves g d h e =
     let w = Passed.holds g d h _ 4 [] e .0 in let x = Trim.trim-means g d h e in
@@ -174,7 +174,7 @@ gat-in : (g : Geometry) (d : List ℕ) → Facts.Sound g d → Places.Fits g d �
 unfolding words
 gat-in g d c k b h = Write.in-directory g d (256 * g .start + b) (k .start-at) (Places.dir g d (c .dir)) (omega arith) (omega (arith, k .blocks-hi))
 
-write-range : (g : Geometry) (d : List ℕ) (m : Mode) (h : Handle) (b : List ℕ) → writeRecord g d m h b .0 .number ≡ 0 → InRange g (movedTo h (h .at + h .len))
+write-range : (g : Geometry) (d : List ℕ) (m : Mode) (h : Handle) (b : List ℕ) → writeRecord g d m h b .0 .refusal .number ≡ 0 → InRange g (movedTo h (h .at + h .len))
 unfolding writeRecord all
 write-range g d m h b e =
     let far = leb (h .at + h .len) (highest g) in let room = leb (h .len) (length b) in
@@ -182,7 +182,7 @@ write-range g d m h b e =
     let u = Members.and-r (inRange g h) (far && (room && true)) t in
     Passing.further g h (h .at + h .len) (Refusing.range-iff g h .0 (Members.and-l (inRange g h) (far && (room && true)) t)) (leb→le (h .at + h .len) (highest g) (Members.and-l far (room && true) u))
 
-pub write-serves : (g : Geometry) (d : List ℕ) (m : Mode) (h : Handle) (b : List ℕ) → writeRecord g d m h b .0 .number ≡ 0 → Serves g d (Call.writes m h b)
+pub write-serves : (g : Geometry) (d : List ℕ) (m : Mode) (h : Handle) (b : List ℕ) → writeRecord g d m h b .0 .refusal .number ≡ 0 → Serves g d (Call.writes m h b)
 write-serves g d m h b e =
     let w = WriteMeans.write-wrote g d m h b e .0 in let x = WriteMeans.write-wrote g d m h b e .1 in
     let d′ = writeRecord g d m h b .1 in let p = h .slot in
@@ -201,11 +201,11 @@ write-serves g d m h b e =
       ranged = subst (InRange g) (sym (moved e)) (write-range g d m h b e);
     }
   where
-    moved : writeRecord g d m h b .0 .number ≡ 0 → writeRecord g d m h b .0 .handle ≡ movedTo h (h .at + h .len)
+    moved : writeRecord g d m h b .0 .refusal .number ≡ 0 → writeRecord g d m h b .0 .handle ≡ movedTo h (h .at + h .len)
     moved e = unfold writeRecord in rw e
 
 -- a file born
-pub create-becomes : (g : Geometry) (d n : List ℕ) (f : NewFile) (checking : Bool) → create g d n f checking .0 .number ≡ 0 → create g d n f checking .0 .old ≡ false
+pub create-becomes : (g : Geometry) (d n : List ℕ) (f : NewFile) (checking : Bool) → create g d n f checking .0 .refusal .number ≡ 0 → create g d n f checking .0 .old ≡ false
     → Becomes g d (create g d n f checking .1) n nothing (found (bornAs f))
 unfolding bornAs
 create-becomes g d n f checking e o =

@@ -77,7 +77,7 @@ pub record Placed (g : Geometry) (d d′ n : List ℕ) (x : ℕ) : Type 0 where
   pub name′ : nameOf g d′ x ≡ n
   pub touch : Touch.Touch g (chain g d′ x) [] d d′
 
-create-both : (g : Geometry) (d n : List ℕ) (f : NewFile) (checking : Bool) → create g d n f checking .0 .number ≡ 0 → create g d n f checking .0 .old ≡ false
+create-both : (g : Geometry) (d n : List ℕ) (f : NewFile) (checking : Bool) → create g d n f checking .0 .refusal .number ≡ 0 → create g d n f checking .0 .old ≡ false
     → CreateMeans g d (create g d n f checking .1) n f × Placed g d (create g d n f checking .1) n (newSlot g d)
 unfolding create Create.made Create.withEntry
 create-both g d n f checking e o =
@@ -96,15 +96,15 @@ create-both g d n f checking e o =
     let free = none-missing g d c n new in
     rw (e, Members.T-true {b = missing g d n} new) (create-made g d c k x (y .0) (y .1) n w f free, record { file = Create.made-file g d c k x (y .0) (y .1) n w f free; name′ = Create.made-name g d c k x (y .0) (y .1) n w f free; touch = Create.made-touch g d c k x (y .0) (y .1) n w f free })
 
-pub create-means : (g : Geometry) (d n : List ℕ) (f : NewFile) (checking : Bool) → create g d n f checking .0 .number ≡ 0 → create g d n f checking .0 .old ≡ false
+pub create-means : (g : Geometry) (d n : List ℕ) (f : NewFile) (checking : Bool) → create g d n f checking .0 .refusal .number ≡ 0 → create g d n f checking .0 .old ≡ false
     → CreateMeans g d (create g d n f checking .1) n f
 create-means g d n f checking e o = create-both g d n f checking e o .0
 
-pub create-placed : (g : Geometry) (d n : List ℕ) (f : NewFile) (checking : Bool) → create g d n f checking .0 .number ≡ 0 → create g d n f checking .0 .old ≡ false
+pub create-placed : (g : Geometry) (d n : List ℕ) (f : NewFile) (checking : Bool) → create g d n f checking .0 .refusal .number ≡ 0 → create g d n f checking .0 .old ≡ false
     → Placed g d (create g d n f checking .1) n (newSlot g d)
 create-placed g d n f checking e o = create-both g d n f checking e o .1
 
 -- refusal 1 was passed
-pub create-fits : (g : Geometry) (d n : List ℕ) (f : NewFile) (checking : Bool) → create g d n f checking .0 .number ≡ 0 → Places.Fits g d
+pub create-fits : (g : Geometry) (d n : List ℕ) (f : NewFile) (checking : Bool) → create g d n f checking .0 .refusal .number ≡ 0 → Places.Fits g d
 unfolding create
 create-fits g d n f checking e = let p₁ = Passed.passed 1 _ _ (omega arith) e in Places.fits g d (Passed.yes-T (fitsGeometry g d) (p₁ .0))

@@ -112,7 +112,7 @@ none-carries g d n t = go (keep (carries g d n) (candidates g d n)) t
 
 -- Look up -----------------------------------------------------------------------------------------------------------------------------
 
-pub look-serves : (g : Geometry) (d n : List ℕ) → lookUp g d n .number ≡ 0 → LooksUp g d n
+pub look-serves : (g : Geometry) (d n : List ℕ) → lookUp g d n .refusal .number ≡ 0 → LooksUp g d n
 look-serves g d n e =
     let w = disk e in let c = w .0 in let v = whose g d c n (w .1) in let p = v .0 in let z = v .1 in
     let s : lookUp g d n .slot ≡ p = slot e ∙ slot-is g d c n p z in
@@ -122,18 +122,18 @@ look-serves g d n e =
       compared = compared e ∙ compared-is g d c n p z ∙ ap (matching g d n) (sym s);
     }
   where
-    disk : lookUp g d n .number ≡ 0 → Sound g d × (T (missing g d n) → ⊥)
+    disk : lookUp g d n .refusal .number ≡ 0 → Sound g d × (T (missing g d n) → ⊥)
     disk e = unfold lookUp in
         let w = Passing.disk-passed g d _ e in let p₃ = passed 3 _ _ (omega arith) (w .1) in let p₄ = passed 4 _ _ (omega arith) (p₃ .1) in
         (w .0 .sound, p₄ .0)
 
-    slot : lookUp g d n .number ≡ 0 → lookUp g d n .slot ≡ slotOf g d n
+    slot : lookUp g d n .refusal .number ≡ 0 → lookUp g d n .slot ≡ slotOf g d n
     slot e = unfold lookUp in rw e
 
-    compared : lookUp g d n .number ≡ 0 → lookUp g d n .compared ≡ comparedIn g d n (candidates g d n)
+    compared : lookUp g d n .refusal .number ≡ 0 → lookUp g d n .compared ≡ comparedIn g d n (candidates g d n)
     compared e = unfold lookUp in rw e
 
-pub look-refuses : (g : Geometry) (d n : List ℕ) → lookUp g d n .number ≢ 0 → NotFound g d n
+pub look-refuses : (g : Geometry) (d n : List ℕ) → lookUp g d n .refusal .number ≢ 0 → NotFound g d n
 look-refuses g d n k = record {
   slot = slot;
   all′ = λ e. all e;
@@ -141,37 +141,37 @@ look-refuses g d n k = record {
 }
   where
     slot : lookUp g d n .slot ≡ 0
-    slot = unfold lookUp in Passing.other-case (lookUp g d n .number) (slotOf g d n) 0 k
+    slot = unfold lookUp in Passing.other-case (lookUp g d n .refusal .number) (slotOf g d n) 0 k
 
-    lost : lookUp g d n .number ≡ 4 → T (missing g d n)
+    lost : lookUp g d n .refusal .number ≡ 4 → T (missing g d n)
     lost e = Refusing.missing-iff g d n .1 (rows .1 .0 .0 (known e) .1)
       where
         rows : Promises.Rows (number g d (Call.looksUp n)) (Refusing.Checked g d) (Refusing.ownCases (Promises.table g d (Call.looksUp n)))
         rows = Refusing.own-rows g d (Refusing.ownCases (Promises.table g d (Call.looksUp n))) (number g d (Call.looksUp n)) (Refusing.numbers g d (Call.looksUp n))
 
-        known : lookUp g d n .number ≡ 4 → number g d (Call.looksUp n) ≡ 4
+        known : lookUp g d n .refusal .number ≡ 4 → number g d (Call.looksUp n) ≡ 4
         known e = unfold number in e
 
-    all : lookUp g d n .number ≡ 4 → lookUp g d n .compared ≡ length (keep (λ x. eqb (hit g d x) (hash n)) (slots g d))
+    all : lookUp g d n .refusal .number ≡ 4 → lookUp g d n .compared ≡ length (keep (λ x. eqb (hit g d x) (hash n)) (slots g d))
     all e = count e ∙ counted (lost e)
       where
-        count : lookUp g d n .number ≡ 4 → lookUp g d n .compared ≡ comparedIn g d n (candidates g d n)
+        count : lookUp g d n .refusal .number ≡ 4 → lookUp g d n .compared ≡ comparedIn g d n (candidates g d n)
         count e = unfold lookUp in rw e
 
         counted : T (missing g d n) → comparedIn g d n (candidates g d n) ≡ length (keep (λ x. eqb (hit g d x) (hash n)) (slots g d))
         counted t = compared-all g d n (candidates g d n) (none-carries g d n t) ∙ ap length (candidates-are g d n)
 
-    none : lookUp g d n .number ≢ 4 → lookUp g d n .compared ≡ 0
-    none m = unfold lookUp in rw (Members.no-false {b = has (0 ∷ 4 ∷ []) (lookUp g d n .number)} (λ t. which (Members.has-in (lookUp g d n .number) (0 ∷ 4 ∷ []) t)))
+    none : lookUp g d n .refusal .number ≢ 4 → lookUp g d n .compared ≡ 0
+    none m = unfold lookUp in rw (Members.no-false {b = has (0 ∷ 4 ∷ []) (lookUp g d n .refusal .number)} (λ t. which (Members.has-in (lookUp g d n .refusal .number) (0 ∷ 4 ∷ []) t)))
       where
-        which : In (lookUp g d n .number) (0 ∷ 4 ∷ []) → ⊥
+        which : In (lookUp g d n .refusal .number) (0 ∷ 4 ∷ []) → ⊥
         which i = go (Members.in-cons i)
           where
-            one : (lookUp g d n .number ≡ 4) ⊎ In (lookUp g d n .number) [] → ⊥
+            one : (lookUp g d n .refusal .number ≡ 4) ⊎ In (lookUp g d n .refusal .number) [] → ⊥
             one (inl e) = m e
             one (inr j) = Members.none-in j
 
-            go : (lookUp g d n .number ≡ 0) ⊎ In (lookUp g d n .number) (4 ∷ []) → ⊥
+            go : (lookUp g d n .refusal .number ≡ 0) ⊎ In (lookUp g d n .refusal .number) (4 ∷ []) → ⊥
             go (inl e) = k e
             go (inr j) = one (Members.in-cons j)
 
@@ -203,7 +203,7 @@ opened g d c n len checking code r k t =
     only x (inl a) = absurd (x a)
     only x (inr b) = b
 
-pub open-serves : (g : Geometry) (d n : List ℕ) (len : ℕ) (checking : Bool) (code : ℕ) → open′ g d n len checking code .number ≡ 0
+pub open-serves : (g : Geometry) (d n : List ℕ) (len : ℕ) (checking : Bool) (code : ℕ) → open′ g d n len checking code .refusal .number ≡ 0
     → Opened g d n len checking code (open′ g d n len checking code .handle)
 unfolding open′
 open-serves g d n len checking code e =
@@ -222,18 +222,18 @@ fresh-of : (b : Bool) → not b ≡ false → T b
 fresh-of true q = tt
 fresh-of false q = Members.false-no q tt
 
-in-range : (g : Geometry) (d n : List ℕ) (f : NewFile) (checking : Bool) → create g d n f checking .0 .number ≡ 0 → NewInRange f
+in-range : (g : Geometry) (d n : List ℕ) (f : NewFile) (checking : Bool) → create g d n f checking .0 .refusal .number ≡ 0 → NewInRange f
 unfolding create
 in-range g d n f checking e =
     let w = Passing.disk-passed g d _ e in let p₃ = passed 12 _ _ (omega arith) (w .1) in
     Refusing.new-iff f .0 (yes-T (newInRange f) (p₃ .0))
 
-made : (g : Geometry) (d n : List ℕ) (f : NewFile) (checking : Bool) → create g d n f checking .0 .number ≡ 0 → create g d n f checking .0 .old ≡ false
+made : (g : Geometry) (d n : List ℕ) (f : NewFile) (checking : Bool) → create g d n f checking .0 .refusal .number ≡ 0 → create g d n f checking .0 .old ≡ false
     → create g d n f checking .0 .handle ≡ record { slot = newSlot g d; name = n; at = 0; len = f .len; level = 0 }
 unfolding create
 made g d n f checking e o = rw (e, Members.T-true {b = missing g d n} (fresh-of (missing g d n) (rw e at o)))
 
-pub create-serves : (g : Geometry) (d n : List ℕ) (f : NewFile) (checking : Bool) → create g d n f checking .0 .number ≡ 0 → Creates g d n f checking
+pub create-serves : (g : Geometry) (d n : List ℕ) (f : NewFile) (checking : Bool) → create g d n f checking .0 .refusal .number ≡ 0 → Creates g d n f checking
 create-serves g d n f checking e = record {
   old = λ o. (old o, Passing.old-stands g d n f checking o);
   new = λ o. (Changing.create-becomes g d n f checking e o, live o, subst (InRange g) (sym (made g d n f checking e o)) (record { at = omega arith; length′ = range .length′; level = omega arith }));

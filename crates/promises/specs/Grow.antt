@@ -165,7 +165,7 @@ allotted g d d′ p k x = λ i. record {
     many : length (owned g d′ p) ≡ max (length (owned g d p)) (k / granuleSectors g + 1)
     many = ap length (x .owned′) ∙ length-append (owned g d p) (x .new) ∙ omega (arith, x .many)
 
-pub allot-means : (g : Geometry) (d : List ℕ) (h : Handle) (k : ℕ) → allot g d h k .0 .number ≡ 0 → AllotMeans g d (allot g d h k .1) (h .slot) k
+pub allot-means : (g : Geometry) (d : List ℕ) (h : Handle) (k : ℕ) → allot g d h k .0 .refusal .number ≡ 0 → AllotMeans g d (allot g d h k .1) (h .slot) k
 unfolding allot
 allot-means g d h k e =
     let p = h .slot in

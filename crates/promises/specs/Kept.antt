@@ -23,20 +23,20 @@ use Rattle.promises.specs.Measuring
 use Rattle.promises.specs.ReadBack
 
 module _ (g : Geometry) (d : List ℕ) where
-  checked : check g d ≡ 0 → Passing.Served g d
+  checked : check g d .number ≡ 0 → Passing.Served g d
   unfolding check
   checked e = Passing.disk-passed g d [] e .0
 
-  check-serves : check g d ≡ 0 → Serves g d Call.checks
+  check-serves : check g d .number ≡ 0 → Serves g d Call.checks
   check-serves e = let w = checked e in (Members.T-true (w .fits), Facts.back g d (w .sound))
 
-  list-serves : (i : ℕ) → Listing.list g d i .number ≡ 0 → Serves g d (Call.lists i)
+  list-serves : (i : ℕ) → Listing.list g d i .refusal .number ≡ 0 → Serves g d (Call.lists i)
   list-serves i e = Telling.list-serves g d i e (checked (sym (Refusing.list-number g d i) ∙ e) .sound)
 
-  counts-serves : Listing.counts g d .number ≡ 0 → Serves g d Call.counts
+  counts-serves : Listing.counts g d .refusal .number ≡ 0 → Serves g d Call.counts
   counts-serves e = Telling.counts-serves g d e (checked (counted e) .sound)
     where
-      counted : Listing.counts g d .number ≡ 0 → check g d ≡ 0
+      counted : Listing.counts g d .refusal .number ≡ 0 → check g d .number ≡ 0
       counted e = unfold Listing.counts in e
 
   pub serves : (c : Call) → AreBytes d → number g d c ≡ 0 → Serves g d c

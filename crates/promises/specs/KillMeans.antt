@@ -47,7 +47,7 @@ kill-free g d c k p f =
     (λ n i. ap not (Members.no-false {b = taken g (killed g d p) n} (Kill.kill-freed g d c k p f n i)))
     (λ n i o. ap not (Kill.kill-keeps g d c k p f n (omega (arith, Members.count-in n 0 (granules g) i)) o))
 
-pub kill-means : (g : Geometry) (d : List ℕ) (h : Handle) → kill g d h .0 .number ≡ 0 → KillMeans g d (kill g d h .1) (h .slot)
+pub kill-means : (g : Geometry) (d : List ℕ) (h : Handle) → kill g d h .0 .refusal .number ≡ 0 → KillMeans g d (kill g d h .1) (h .slot)
 unfolding kill
 kill-means g d h e =
     let w = Passed.holds g d h _ 1 [] e .0 in

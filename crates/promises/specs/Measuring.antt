@@ -24,7 +24,7 @@ use Rattle.promises.specs.Passing
 
 module _ (g : Geometry) (d : List ℕ) where
   -- accepted: the two numbers
-  module _ (e : freeSpace g d .number ≡ 0) where
+  module _ (e : freeSpace g d .refusal .number ≡ 0) where
     free-is : freeSpace g d .free ≡ length (freeGranules g d)
     unfolding freeSpace
     free-is = rw e
@@ -53,7 +53,7 @@ module _ (g : Geometry) (d : List ℕ) where
           none-longer = λ a n s. omega (arith, Stretches.none-longer g d (granules g) 0 a n (omega arith) (omega (arith, s .inside)) (s .clear), longest-is);
         }
 
-  pub measure-refuses : freeSpace g d .number ≢ 0 → (freeSpace g d .free ≡ 0) × (freeSpace g d .longest ≡ 0)
+  pub measure-refuses : freeSpace g d .refusal .number ≢ 0 → (freeSpace g d .free ≡ 0) × (freeSpace g d .longest ≡ 0)
   unfolding freeSpace
   measure-refuses k = (Passing.other-case (first (spaceRefusals g d)) _ 0 k, Passing.other-case (first (spaceRefusals g d)) _ 0 k)
 

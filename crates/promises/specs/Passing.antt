@@ -24,6 +24,7 @@ use Rattle.meaning.specs.declared.Geometry.{Geometry}
 use Rattle.meaning.specs.declared.Handle.{Handle}
 use Rattle.meaning.specs.declared.NewFile.{NewFile}
 use Rattle.meaning.specs.declared.Mode.{Mode}
+use Rattle.meaning.specs.declared.Listed.{Listed}
 use Rattle.laws.specs.Members
 use Rattle.laws.specs.Facts
 use Rattle.laws.specs.Passed.{passed, yes-T}
@@ -75,13 +76,13 @@ module _ (g : Geometry) (d : List ℕ) where
   as-stood Call.checks k = refl
   as-stood (Call.looksUp n) k = refl
   as-stood (Call.opens n len checking code) k = refl
-  as-stood (Call.creates n f checking) k = other-both (create g d n f checking .0 .number) (missing g d n) _ d k
+  as-stood (Call.creates n f checking) k = other-both (create g d n f checking .0 .refusal .number) (missing g d n) _ d k
   as-stood (Call.reads h b) k = refl
   as-stood (Call.readsSector h i) k = refl
-  as-stood (Call.writes m h b) k = other-case (writeRecord g d m h b .0 .number) _ d k
-  as-stood (Call.allots h i) k = other-case (allot g d h i .0 .number) _ d k
-  as-stood (Call.trims h) k = other-both (trim g d h .0 .number) _ _ d k
-  as-stood (Call.kills h) k = other-case (kill g d h .0 .number) _ d k
+  as-stood (Call.writes m h b) k = other-case (writeRecord g d m h b .0 .refusal .number) _ d k
+  as-stood (Call.allots h i) k = other-case (allot g d h i .0 .refusal .number) _ d k
+  as-stood (Call.trims h) k = other-both (trim g d h .0 .refusal .number) _ _ d k
+  as-stood (Call.kills h) k = other-case (kill g d h .0 .refusal .number) _ d k
   as-stood (Call.lists i) k = refl
   as-stood Call.counts k = refl
   as-stood Call.measures k = refl
@@ -89,34 +90,34 @@ module _ (g : Geometry) (d : List ℕ) where
   -- and so it is where create found an old file
   pub old-stands : (n : List ℕ) (f : NewFile) (checking : Bool) → create g d n f checking .0 .old ≡ true → create g d n f checking .1 ≡ d
   unfolding create
-  old-stands n f checking o = go (eqb (create g d n f checking .0 .number) 0) (missing g d n) _ o
+  old-stands n f checking o = go (eqb (create g d n f checking .0 .refusal .number) 0) (missing g d n) _ o
     where
       go : (a b : Bool) (x : List ℕ) → (a && not b) ≡ true → cond (a && b) x d ≡ d
       go true true x o = absurd (Members.true-T o)
       go true false x o = refl
       go false b x o = absurd (Members.true-T o)
 
-  pub open-refuses : (n : List ℕ) (len : ℕ) (checking : Bool) (code : ℕ) → open′ g d n len checking code .number ≢ 0 → open′ g d n len checking code .handle ≡ noHandle
+  pub open-refuses : (n : List ℕ) (len : ℕ) (checking : Bool) (code : ℕ) → open′ g d n len checking code .refusal .number ≢ 0 → open′ g d n len checking code .handle ≡ noHandle
   unfolding open′
-  open-refuses n len checking code k = other-case (open′ g d n len checking code .number) _ noHandle k
+  open-refuses n len checking code k = other-case (open′ g d n len checking code .refusal .number) _ noHandle k
 
-  pub create-refuses : (n : List ℕ) (f : NewFile) (checking : Bool) → create g d n f checking .0 .number ≢ 0
+  pub create-refuses : (n : List ℕ) (f : NewFile) (checking : Bool) → create g d n f checking .0 .refusal .number ≢ 0
       → (create g d n f checking .0 .handle ≡ noHandle) × (create g d n f checking .0 .old ≡ false)
   unfolding create
   create-refuses n f checking k =
-      (other-case (create g d n f checking .0 .number) _ noHandle k, ap (λ (b : Bool). b && not (missing g d n)) (Members.no-false {b = eqb (create g d n f checking .0 .number) 0} (λ t. k (eqb→eq _ 0 t))))
+      (other-case (create g d n f checking .0 .refusal .number) _ noHandle k, ap (λ (b : Bool). b && not (missing g d n)) (Members.no-false {b = eqb (create g d n f checking .0 .refusal .number) 0} (λ t. k (eqb→eq _ 0 t))))
 
-  pub read-refuses : (h : Handle) (b : List ℕ) → readRecord g d h b .0 .number ≢ 0 → (readRecord g d h b .0 .handle ≡ h) × (readRecord g d h b .1 ≡ b)
+  pub read-refuses : (h : Handle) (b : List ℕ) → readRecord g d h b .0 .refusal .number ≢ 0 → (readRecord g d h b .0 .handle ≡ h) × (readRecord g d h b .1 ≡ b)
   unfolding readRecord
-  read-refuses h b k = (other-case (readRecord g d h b .0 .number) _ h k, other-case (readRecord g d h b .0 .number) _ b k)
+  read-refuses h b k = (other-case (readRecord g d h b .0 .refusal .number) _ h k, other-case (readRecord g d h b .0 .refusal .number) _ b k)
 
-  pub sector-refuses : (h : Handle) (i : ℕ) → readSector g d h i .number ≢ 0 → (readSector g d h i .from ≡ 0) × (readSector g d h i .to ≡ 0)
+  pub sector-refuses : (h : Handle) (i : ℕ) → readSector g d h i .refusal .number ≢ 0 → (readSector g d h i .from ≡ 0) × (readSector g d h i .to ≡ 0)
   unfolding readSector
-  sector-refuses h i k = (other-case (readSector g d h i .number) _ 0 k, other-case (readSector g d h i .number) _ 0 k)
+  sector-refuses h i k = (other-case (readSector g d h i .refusal .number) _ 0 k, other-case (readSector g d h i .refusal .number) _ 0 k)
 
-  pub write-refuses : (m : Mode) (h : Handle) (b : List ℕ) → writeRecord g d m h b .0 .number ≢ 0 → writeRecord g d m h b .0 .handle ≡ h
+  pub write-refuses : (m : Mode) (h : Handle) (b : List ℕ) → writeRecord g d m h b .0 .refusal .number ≢ 0 → writeRecord g d m h b .0 .handle ≡ h
   unfolding writeRecord
-  write-refuses m h b k = other-case (writeRecord g d m h b .0 .number) _ h k
+  write-refuses m h b k = other-case (writeRecord g d m h b .0 .refusal .number) _ h k
 
   pub allot-refuses : (h : Handle) (i : ℕ) → allot g d h i .0 .handle ≡ h
   unfolding allot
@@ -130,12 +131,12 @@ module _ (g : Geometry) (d : List ℕ) where
   unfolding kill
   kill-refuses h = refl
 
-  pub list-refuses : (i : ℕ) → Listing.list g d i .number ≢ 0 → Listing.list g d i ≡ Listing.noFile (Listing.list g d i .number)
+  pub list-refuses : (i : ℕ) → Listing.list g d i .refusal .number ≢ 0 → Listing.list g d i ≡ Listing.noFile (Listing.list g d i .refusal)
   unfolding Listing.list
   list-refuses i k =
-      let n : check g d ≢ 0 = λ e. k (Refusing.list-number g d i ∙ e) in
-      other-case (check g d) _ (Listing.noFile (check g d)) n ∙ ap Listing.noFile (sym (Refusing.list-number g d i))
+      let n : check g d .number ≢ 0 = λ e. k (Refusing.list-number g d i ∙ e) in
+      let q = other-case (check g d .number) _ (Listing.noFile (check g d)) n in q ∙ ap Listing.noFile (sym (ap (λ (l : Listed). l .refusal) q))
 
-  pub counts-refuses : Listing.counts g d .number ≢ 0 → (Listing.counts g d .files ≡ 0) × (Listing.counts g d .free ≡ 0)
+  pub counts-refuses : Listing.counts g d .refusal .number ≢ 0 → (Listing.counts g d .files ≡ 0) × (Listing.counts g d .free ≡ 0)
   unfolding Listing.counts
-  counts-refuses k = (other-case (check g d) _ 0 k, other-case (check g d) _ 0 k)
+  counts-refuses k = (other-case (check g d .number) _ 0 k, other-case (check g d .number) _ 0 k)

@@ -20,7 +20,8 @@ use Rattle.meaning.specs.Chain.{chain, owned, files}
 use Rattle.meaning.specs.Consistent.{consistent}
 use Rattle.meaning.specs.Free.{freeGranules, freeSlots}
 use Rattle.meaning.specs.Growth.{grown, grow, tail, lengthens}
-use Rattle.meaning.specs.Fault.{fault, unplaced}
+use Rattle.meaning.specs.Refusal.{unplaced}
+use Rattle.meaning.specs.Fault.{fault}
 use Rattle.meaning.specs.Refusals.{movedTo, noHandle, faultNumbers}
 use Rattle.meaning.specs.LookUp.{lookUp, named}
 use Rattle.meaning.specs.Open.{open′}
@@ -206,11 +207,11 @@ ith g d i = getD (listed g d) i 0
 -- Listing: number i tells the i-th file by rising slot, name, size and granules owned, and "no more" from FILES on
 pub record Lists (g : Geometry) (d : List ℕ) (i : ℕ) : Type 0 where
   pub tells : i < length (listed g d) → Listing.list g d i
-      ≡ record { number = 0; more = true; name = nameOf g d (ith g d i); size = length (fileAt g d (ith g d i) .bytes); granules = fileAt g d (ith g d i) .granules }
+      ≡ record { refusal = unplaced 0; more = true; name = nameOf g d (ith g d i); size = length (fileAt g d (ith g d i) .bytes); granules = fileAt g d (ith g d i) .granules }
   pub file : i < length (listed g d) → plain g d (nameOf g d (ith g d i)) ≡ found (fileAt g d (ith g d i))
   pub shown : i < length (listed g d) → T (not (isSystem (fileAt g d (ith g d i))))
   pub rising : (j : ℕ) → j < i → i < length (listed g d) → ith g d j < ith g d i
-  pub ends : length (listed g d) ≤ i → Listing.list g d i ≡ noFile 0
+  pub ends : length (listed g d) ≤ i → Listing.list g d i ≡ noFile (unplaced 0)
 
 -- Counts: FILES is how many numbers the listing tells, FREE the number of clear GAT bits in range. Each file that is no system file is
 -- told, under one number only.
@@ -257,8 +258,8 @@ Serves g d measures = Measured g d
 -- look up returns its count as well under 4, and 0 under 1, 2 and 3
 pub record NotFound (g : Geometry) (d n : List ℕ) : Type 0 where
   pub slot : lookUp g d n .slot ≡ 0
-  pub all′ : lookUp g d n .number ≡ 4 → lookUp g d n .compared ≡ length (keep (λ x. eqb (hit g d x) (hash n)) (slots g d))
-  pub none : lookUp g d n .number ≢ 4 → lookUp g d n .compared ≡ 0
+  pub all′ : lookUp g d n .refusal .number ≡ 4 → lookUp g d n .compared ≡ length (keep (λ x. eqb (hit g d x) (hash n)) (slots g d))
+  pub none : lookUp g d n .refusal .number ≢ 4 → lookUp g d n .compared ≡ 0
 
 -- beside the image, which is as it stood: handle and buffer as they stood, a refused open or create a handle of zeros, a refused sector
 -- read an empty part
@@ -273,7 +274,7 @@ Refuses g d (writes m h b) = writeRecord g d m h b .0 .handle ≡ h
 Refuses g d (allots h k) = allot g d h k .0 .handle ≡ h
 Refuses g d (trims h) = trim g d h .0 .handle ≡ h
 Refuses g d (kills h) = kill g d h .0 .handle ≡ h
-Refuses g d (lists i) = Listing.list g d i ≡ noFile (Listing.list g d i .number)
+Refuses g d (lists i) = Listing.list g d i ≡ noFile (Listing.list g d i .refusal)
 Refuses g d counts = (Listing.counts g d .files ≡ 0) × (Listing.counts g d .free ≡ 0)
 Refuses g d measures = (freeSpace g d .free ≡ 0) × (freeSpace g d .longest ≡ 0)
 
@@ -422,7 +423,7 @@ GatAlone = (g : Geometry) (d d′ : List ℕ) → length d′ ≡ length d → (
 -- After an accepted write a read of that length at that position, by the same handle, is accepted and answers the record, whatever the
 -- buffer; and every byte of the file outside the record and the gap is as it was, the gap zero.
 pub record ReadsBack (g : Geometry) (d : List ℕ) (m : Mode) (h : Handle) (b : List ℕ) : Type 0 where
-  pub accepted′ : (b′ : List ℕ) → h .len ≤ length b′ → readRecord g (writeRecord g d m h b .1) h b′ .0 .number ≡ 0
+  pub accepted′ : (b′ : List ℕ) → h .len ≤ length b′ → readRecord g (writeRecord g d m h b .1) h b′ .0 .refusal .number ≡ 0
   pub record′ : (b′ : List ℕ) → h .len ≤ length b′ → readRecord g (writeRecord g d m h b .1) h b′ .1 ≡ take (h .len) b ++ drop (h .len) b′
   pub kept : (j : ℕ) → j < length (fileAt g d (h .slot) .bytes) → j < length (fileAt g (writeRecord g d m h b .1) (h .slot) .bytes) → (j < h .at) ⊎ (h .at + h .len ≤ j)
       → getD (fileAt g (writeRecord g d m h b .1) (h .slot) .bytes) j 0 ≡ getD (fileAt g d (h .slot) .bytes) j 0
@@ -430,4 +431,4 @@ pub record ReadsBack (g : Geometry) (d : List ℕ) (m : Mode) (h : Handle) (b : 
   pub size : length (fileAt g (writeRecord g d m h b .1) (h .slot) .bytes) ≡ sizeAfter m (length (fileAt g d (h .slot) .bytes)) (h .at + h .len)
 
 abbrev pub EveryWrite : Type 0
-EveryWrite = (g : Geometry) (d : List ℕ) (m : Mode) (h : Handle) (b : List ℕ) → writeRecord g d m h b .0 .number ≡ 0 → ReadsBack g d m h b
+EveryWrite = (g : Geometry) (d : List ℕ) (m : Mode) (h : Handle) (b : List ℕ) → writeRecord g d m h b .0 .refusal .number ≡ 0 → ReadsBack g d m h b

@@ -30,7 +30,7 @@ part-of G i n s h = ext-getD 0 (map G (count i n)) (take n (drop i (map G (count
     point : (j : ℕ) → j < n → getD (map G (count i n)) j 0 ≡ getD (take n (drop i (map G (count 0 s)))) j 0
     point j b = Members.map-count G i n j b ∙ sym (getD-take n (drop i (map G (count 0 s))) j 0 b ∙ getD-drop i (map G (count 0 s)) j 0 ∙ Members.map-count G 0 s (i + j) (omega arith) ∙ ap G (omega arith))
 
-pub read-means : (g : Geometry) (d : List ℕ) (h : Handle) (b : List ℕ) → readRecord g d h b .0 .number ≡ 0
+pub read-means : (g : Geometry) (d : List ℕ) (h : Handle) (b : List ℕ) → readRecord g d h b .0 .refusal .number ≡ 0
     → readRecord g d h b .1 ≡ take (h .len) (drop (h .at) (fileAt g d (h .slot) .bytes)) ++ drop (h .len) b
 unfolding readRecord fileAt words
 read-means g d h b e =

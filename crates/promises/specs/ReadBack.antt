@@ -53,7 +53,7 @@ module _ (m : Mode) (O : List ℕ) (at : ℕ) (r : List ℕ) where
   over-gap : (j : ℕ) → length O ≤ j → j < at → getD (overwritten m O at r) j 0 ≡ 0
   over-gap j a b = over-at j (omega (arith, Rewrite.after-end m (length O) (at + length r))) ∙ Over.whole-zero O r at j a b
 
-module _ (g : Geometry) (d : List ℕ) (m : Mode) (h : Handle) (b : List ℕ) (e : writeRecord g d m h b .0 .number ≡ 0) where
+module _ (g : Geometry) (d : List ℕ) (m : Mode) (h : Handle) (b : List ℕ) (e : writeRecord g d m h b .0 .refusal .number ≡ 0) where
   abbrev d′ : List ℕ
   d′ = writeRecord g d m h b .1
 
@@ -129,7 +129,7 @@ module _ (g : Geometry) (d : List ℕ) (m : Mode) (h : Handle) (b : List ℕ) (e
         λ l. omega (arith, size, Rewrite.after-end m (length O) (h .at + h .len)),
       )
 
-  accepted : (b′ : List ℕ) → h .len ≤ length b′ → readRecord g (writeRecord g d m h b .1) h b′ .0 .number ≡ 0
+  accepted : (b′ : List ℕ) → h .len ≤ length b′ → readRecord g (writeRecord g d m h b .1) h b′ .0 .refusal .number ≡ 0
   unfolding number
   accepted b′ room = read-passes b′ room
 

@@ -453,16 +453,16 @@ module _ (g : Geometry) (d : List ℕ) where
   growth-needed : (h : Handle) (k k′ : ℕ) → k ≡ k′ → (E : Type 0) → (E → Writes h) → Reading (cannotGrow g d (h .slot) k) (Promises.growthCases g d h k′) E
   growth-needed h k k′ e E w = subst (λ (n : ℕ). Reading (cannotGrow g d (h .slot) k) (Promises.growthCases g d h n) E) e (growth-reading h k E w)
 
-  check-numbers : Exactly (check g d) (Promises.diskCases g d [])
+  check-numbers : Exactly (check g d .number) (Promises.diskCases g d [])
   unfolding check
   check-numbers = exactly (diskRefusals g d []) (Promises.diskCases g d []) (disk-reading [] [] tt) tt
 
-  look-numbers : (n : List ℕ) → Exactly (lookUp g d n .number) (table g d (Call.looksUp n))
+  look-numbers : (n : List ℕ) → Exactly (lookUp g d n .refusal .number) (table g d (Call.looksUp n))
   unfolding lookUp
   look-numbers n = exactly (lookUpRefusals g d n) (table g d (Call.looksUp n))
       (disk-reading (ownRows (lookUpRefusals g d n)) (ownCases (table g d (Call.looksUp n))) (refl, λ x. false-iff (wellFormed n), (refl, λ x. missing-iff g d n, tt))) tt
 
-  open-numbers : (n : List ℕ) (len : ℕ) (checking : Bool) (code : ℕ) → Exactly (open′ g d n len checking code .number) (table g d (Call.opens n len checking code))
+  open-numbers : (n : List ℕ) (len : ℕ) (checking : Bool) (code : ℕ) → Exactly (open′ g d n len checking code .refusal .number) (table g d (Call.opens n len checking code))
   unfolding open′
   open-numbers n len checking code = exactly (openRefusals g d n len checking code) (table g d (Call.opens n len checking code)) (disk-reading (ownRows (openRefusals g d n len checking code)) (ownCases (table g d (Call.opens n len checking code))) (
     refl,
@@ -478,7 +478,7 @@ module _ (g : Geometry) (d : List ℕ) where
     ),
   )) tt
 
-  create-numbers : (n : List ℕ) (f : NewFile) (checking : Bool) → Exactly (create g d n f checking .0 .number) (table g d (Call.creates n f checking))
+  create-numbers : (n : List ℕ) (f : NewFile) (checking : Bool) → Exactly (create g d n f checking .0 .refusal .number) (table g d (Call.creates n f checking))
   unfolding create
   create-numbers n f checking = exactly (createRefusals g d n f checking) (table g d (Call.creates n f checking)) (disk-reading (ownRows (createRefusals g d n f checking)) (ownCases (table g d (Call.creates n f checking))) (
     refl,
@@ -494,7 +494,7 @@ module _ (g : Geometry) (d : List ℕ) where
     ),
   )) tt
 
-  read-numbers : (h : Handle) (b : List ℕ) → Exactly (readRecord g d h b .0 .number) (table g d (Call.reads h b))
+  read-numbers : (h : Handle) (b : List ℕ) → Exactly (readRecord g d h b .0 .refusal .number) (table g d (Call.reads h b))
   unfolding readRecord
   read-numbers h b = exactly (readRefusals g d h (length b)) (table g d (Call.reads h b)) (disk-reading (ownRows (readRefusals g d h (length b))) (ownCases (table g d (Call.reads h b))) (
     refl,
@@ -506,7 +506,7 @@ module _ (g : Geometry) (d : List ℕ) where
     ),
   )) tt
 
-  sector-numbers : (h : Handle) (k : ℕ) → Exactly (readSector g d h k .number) (table g d (Call.readsSector h k))
+  sector-numbers : (h : Handle) (k : ℕ) → Exactly (readSector g d h k .refusal .number) (table g d (Call.readsSector h k))
   unfolding readSector
   sector-numbers h k = exactly (sectorRefusals g d h k) (table g d (Call.readsSector h k)) (disk-reading (ownRows (sectorRefusals g d h k)) (ownCases (table g d (Call.readsSector h k))) (
     refl,
@@ -525,7 +525,7 @@ module _ (g : Geometry) (d : List ℕ) where
     λ x. Members.and-i a (b && (c && true)) (i .1 (x .0)) (Members.all-two b c (j .1 (x .1)) (k .1 (x .2))),
   )
 
-  write-numbers : (m : Mode) (h : Handle) (b : List ℕ) → Exactly (writeRecord g d m h b .0 .number) (table g d (Call.writes m h b))
+  write-numbers : (m : Mode) (h : Handle) (b : List ℕ) → Exactly (writeRecord g d m h b .0 .refusal .number) (table g d (Call.writes m h b))
   unfolding writeRecord
   write-numbers m h b = exactly (writeRefusals g d m h (length b)) (table g d (Call.writes m h b)) (disk-reading (ownRows (writeRefusals g d m h (length b))) (ownCases (table g d (Call.writes m h b))) (
     refl,
@@ -540,35 +540,39 @@ module _ (g : Geometry) (d : List ℕ) where
       needed : toWrite g d m h ≡ Promises.lacks g d h (granulesFor g (sizeAfter m (length (fileAt g d (h .slot) .bytes)) (h .at + h .len)))
       needed = unfold fileAt in ap (λ (s : ℕ). lacking g d (h .slot) (granulesFor g (sizeAfter m s (h .at + h .len)))) (sym (Others.file-length g d (h .slot)))
 
-  allot-numbers : (h : Handle) (k : ℕ) → Exactly (allot g d h k .0 .number) (table g d (Call.allots h k))
+  allot-numbers : (h : Handle) (k : ℕ) → Exactly (allot g d h k .0 .refusal .number) (table g d (Call.allots h k))
   unfolding allot fileAt
   allot-numbers h k = exactly (allotRefusals g d h k) (table g d (Call.allots h k))
       (disk-reading (ownRows (allotRefusals g d h k)) (ownCases (table g d (Call.allots h k))) (refl, λ x. not-iff (all (inRange g h ∷ ltb k (sectorNumbers g) ∷ [])) (both-iff (inRange g h) (ltb k (sectorNumbers g)) (range-iff g h) (lt-iff k (sectorNumbers g))), (refl, λ x. stale h, (refl, λ x. barred-iff 4 h, growth-reading h (toAllot g d h k) _ (λ x. writes h (x .0 .0 .0) (x .0 .1) (x .1)))))) tt
 
-  trim-numbers : (h : Handle) → Exactly (trim g d h .0 .number) (table g d (Call.trims h))
+  trim-numbers : (h : Handle) → Exactly (trim g d h .0 .refusal .number) (table g d (Call.trims h))
   unfolding trim
   trim-numbers h = exactly (trimRefusals g d h) (table g d (Call.trims h))
       (disk-reading (ownRows (trimRefusals g d h)) (ownCases (table g d (Call.trims h))) (refl, λ x. not-iff (inRange g h) (range-iff g h), (refl, λ x. stale h, (refl, λ x. barred-iff 4 h, tt)))) tt
 
-  kill-numbers : (h : Handle) → Exactly (kill g d h .0 .number) (table g d (Call.kills h))
+  kill-numbers : (h : Handle) → Exactly (kill g d h .0 .refusal .number) (table g d (Call.kills h))
   unfolding kill
   kill-numbers h = exactly (killRefusals g d h) (table g d (Call.kills h))
       (disk-reading (ownRows (killRefusals g d h)) (ownCases (table g d (Call.kills h))) (refl, λ x. not-iff (inRange g h) (range-iff g h), (refl, λ x. stale h, (refl, λ x. barred-iff 1 h, tt)))) tt
 
   -- the listing answers check's number
-  pub list-number : (i : ℕ) → Listing.list g d i .number ≡ check g d
+  pub list-number : (i : ℕ) → Listing.list g d i .refusal .number ≡ check g d .number
   unfolding Listing.list
-  list-number i = go (check g d) (Members.decide (eqb (check g d) 0))
+  list-number i = go (Members.decide (eqb (check g d .number) 0))
     where
-      first-number : (xs : List ℕ) → Listing.tellFirst g d xs .number ≡ 0
+      first-number : (xs : List ℕ) → Listing.tellFirst g d xs .refusal .number ≡ 0
       first-number [] = unfold Listing.tellFirst in refl
       first-number (x ∷ xs) = unfold Listing.tellFirst in refl
 
-      go : (n : ℕ) → Members.Test (eqb n 0) → cond (eqb n 0) (Listing.tellFirst g d (lib.ListN.drop i (Listing.listed g d))) (Listing.noFile n) .number ≡ n
-      go n (Members.Test.holds t) = rw (Members.T-true {b = eqb n 0} t) (first-number (lib.ListN.drop i (Listing.listed g d)) ∙ sym (eqb→eq n 0 t))
-      go n (Members.Test.fails t) = rw (Members.no-false {b = eqb n 0} t)
+      n : ℕ
+      n = check g d .number
 
-  measure-numbers : Exactly (freeSpace g d .number) (table g d Call.measures)
+      go : Members.Test (eqb n 0)
+          → cond (eqb n 0) (Listing.tellFirst g d (lib.ListN.drop i (Listing.listed g d))) (Listing.noFile (check g d)) .refusal .number ≡ n
+      go (Members.Test.holds t) = rw (Members.T-true {b = eqb n 0} t) (first-number (lib.ListN.drop i (Listing.listed g d)) ∙ sym (eqb→eq n 0 t))
+      go (Members.Test.fails t) = rw (Members.no-false {b = eqb n 0} t)
+
+  measure-numbers : Exactly (freeSpace g d .refusal .number) (table g d Call.measures)
   unfolding freeSpace
   measure-numbers = exactly (spaceRefusals g d) (table g d Call.measures) (refl, λ x. no-fit, tt) tt
 

@@ -43,14 +43,14 @@ byte-at g d p j h = Members.map-count (λ j. byte d (place g d p j)) 0 (sizeOf g
 called : (g : Geometry) (d : List ℕ) (h : Handle) → Has g d h → Rattle.meaning.specs.Plain.plain g d (h .name) ≡ Rattle.meaning.specs.Plain.found (fileAt g d (h .slot))
 called g d h w = Named.plain-is g d (w .sound) (h .slot) (h .name) (Passing.live-file g d h (w .live)) (w .live .name′)
 
-read-has : (g : Geometry) (d : List ℕ) (h : Handle) (b : List ℕ) → readRecord g d h b .0 .number ≡ 0 → Has g d h × (h .at + h .len ≤ sizeOf g d (h .slot)) × InRange g h
+read-has : (g : Geometry) (d : List ℕ) (h : Handle) (b : List ℕ) → readRecord g d h b .0 .refusal .number ≡ 0 → Has g d h × (h .at + h .len ≤ sizeOf g d (h .slot)) × InRange g h
 unfolding readRecord
 read-has g d h b e =
     let w = Passing.handle-passed g d h (all (inRange g h ∷ leb (h .len) (length b) ∷ [])) (notForReading h ∷ (10, ltb (sizeOf g d (h .slot)) (h .at + h .len)) ∷ []) e in
     let p₅ = passed 6 _ _ (omega arith) (w .2) in let p₆ = passed 10 _ _ (omega arith) (p₅ .1) in
     (w .0, nltb→le (sizeOf g d (h .slot)) (h .at + h .len) (not-T (ltb (sizeOf g d (h .slot)) (h .at + h .len)) (p₆ .0)), Refusing.range-iff g h .0 (Passing.first-of (inRange g h) (leb (h .len) (length b)) (w .1)))
 
-pub read-serves : (g : Geometry) (d : List ℕ) (h : Handle) (b : List ℕ) → readRecord g d h b .0 .number ≡ 0 → Reads g d h b
+pub read-serves : (g : Geometry) (d : List ℕ) (h : Handle) (b : List ℕ) → readRecord g d h b .0 .refusal .number ≡ 0 → Reads g d h b
 read-serves g d h b e =
     let w = read-has g d h b e in
     record {
@@ -64,7 +64,7 @@ read-serves g d h b e =
           subst (InRange g) (sym (moved e)) (Passing.further g h (h .at + h .len) (w .2) (omega (arith, w .1)));
     }
   where
-    moved : readRecord g d h b .0 .number ≡ 0 → readRecord g d h b .0 .handle ≡ movedTo h (h .at + h .len)
+    moved : readRecord g d h b .0 .refusal .number ≡ 0 → readRecord g d h b .0 .handle ≡ movedTo h (h .at + h .len)
     moved e = unfold readRecord in rw e
 
 -- the bytes of one sector lie one after the other
@@ -138,7 +138,7 @@ record Handed (g : Geometry) (d : List ℕ) (h : Handle) (k : ℕ) : Type 0 wher
   from′ : readSector g d h k .from ≡ place g d (h .slot) (256 * k)
   to′ : readSector g d h k .to ≡ place g d (h .slot) (256 * k) + sectorBytes g d (h .slot) k
 
-handed : (g : Geometry) (d : List ℕ) (h : Handle) (k : ℕ) → readSector g d h k .number ≡ 0 → Handed g d h k
+handed : (g : Geometry) (d : List ℕ) (h : Handle) (k : ℕ) → readSector g d h k .refusal .number ≡ 0 → Handed g d h k
 unfolding readSector
 handed g d h k e =
     let w = Passing.handle-passed g d h (all (inRange g h ∷ ltb k (sectorNumbers g) ∷ [])) (notForReading h ∷ (10, leb (sectorCount g d (h .slot)) k) ∷ []) e in
@@ -150,7 +150,7 @@ handed g d h k e =
       to′ = rw e;
     }
 
-pub sector-serves : (g : Geometry) (d : List ℕ) → AreBytes d → (h : Handle) (k : ℕ) → readSector g d h k .number ≡ 0 → ReadsSector g d h k
+pub sector-serves : (g : Geometry) (d : List ℕ) → AreBytes d → (h : Handle) (k : ℕ) → readSector g d h k .refusal .number ≡ 0 → ReadsSector g d h k
 sector-serves g d b h k e =
     let w = handed g d h k e in
     let p = h .slot in let c = w .has .sound in let f = Passing.live-file g d h (w .has .live) in let fit = Places.fits g d (w .has .fits) in

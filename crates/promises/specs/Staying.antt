@@ -65,19 +65,19 @@ module _ (g : Geometry) (d : List ℕ) (k : Good g d) where
   fit : Places.Fits g d
   fit = Places.fits g d (Members.true-T (k .fits))
 
-  kill-stays : (h : Handle) → kill g d h .0 .number ≡ 0 → Stays g d (kill g d h .1)
+  kill-stays : (h : Handle) → kill g d h .0 .refusal .number ≡ 0 → Stays g d (kill g d h .1)
   kill-stays h e = let x = KillMeans.kill-means g d h e in stays-by (kill g d h .1) (x .long) (x .consistent′) (x .reserved′) (small e)
     where
-      small : kill g d h .0 .number ≡ 0 → Small (kill g d h .1)
+      small : kill g d h .0 .refusal .number ≡ 0 → Small (kill g d h .1)
       small e = unfold kill in rw e (Bytes.small-killed g d fit (h .slot) s)
 
-  allot-stays : (h : Handle) (n : ℕ) → allot g d h n .0 .number ≡ 0 → Stays g d (allot g d h n .1)
+  allot-stays : (h : Handle) (n : ℕ) → allot g d h n .0 .refusal .number ≡ 0 → Stays g d (allot g d h n .1)
   allot-stays h n e = let x = Grow.allot-means g d h n e in stays-by (allot g d h n .1) (x .long) (x .consistent′) (x .reserved′) (x .small s)
 
-  trim-stays : (h : Handle) → trim g d h .0 .number ≡ 0 → Stays g d (trim g d h .1)
+  trim-stays : (h : Handle) → trim g d h .0 .refusal .number ≡ 0 → Stays g d (trim g d h .1)
   trim-stays h e = let x = Trim.trim-means g d h e in stays-by (trim g d h .1) (x .long) (x .consistent′) (x .reserved′) (x .small s)
 
-  write-small : (m : Mode) (h : Handle) (b : List ℕ) → AreBytes b → writeRecord g d m h b .0 .number ≡ 0 → Small (writeRecord g d m h b .1)
+  write-small : (m : Mode) (h : Handle) (b : List ℕ) → AreBytes b → writeRecord g d m h b .0 .refusal .number ≡ 0 → Small (writeRecord g d m h b .1)
   unfolding writeRecord words
   write-small m h b ab e =
       let p = h .slot in let more = toWrite g d m h in
@@ -98,11 +98,11 @@ module _ (g : Geometry) (d : List ℕ) (k : Good g d) where
       (Bytes.small-store F (replicate (h .at - old) 0) old (x .kept .small s) (Bytes.small-replicate (h .at - old) (omega arith)))
       (Bytes.small-take (h .len) b (Bytes.bytes-small b ab))) two)
 
-  write-stays : (m : Mode) (h : Handle) (b : List ℕ) → AreBytes b → writeRecord g d m h b .0 .number ≡ 0 → Stays g d (writeRecord g d m h b .1)
+  write-stays : (m : Mode) (h : Handle) (b : List ℕ) → AreBytes b → writeRecord g d m h b .0 .refusal .number ≡ 0 → Stays g d (writeRecord g d m h b .1)
   write-stays m h b ab e =
       let x = WriteMeans.write-wrote g d m h b e .1 in stays-by (writeRecord g d m h b .1) (x .long) (x .consistent′) (x .reserved′) (write-small m h b ab e)
 
-  create-small : (n : List ℕ) (f : NewFile) (checking : Bool) → f .main < 65536 → f .worker < 65536 → create g d n f checking .0 .number ≡ 0 → Small (create g d n f checking .1)
+  create-small : (n : List ℕ) (f : NewFile) (checking : Bool) → f .main < 65536 → f .worker < 65536 → create g d n f checking .0 .refusal .number ≡ 0 → Small (create g d n f checking .1)
   unfolding create
   create-small n f checking a b e =
       let p₂ = Passed.disk-passed g d _ e in
@@ -115,7 +115,7 @@ module _ (g : Geometry) (d : List ℕ) (k : Good g d) where
       go true x = x
       go false x = s
 
-  create-stays : (n : List ℕ) (f : NewFile) (checking : Bool) → f .main < 65536 → f .worker < 65536 → create g d n f checking .0 .number ≡ 0 → Stays g d (create g d n f checking .1)
+  create-stays : (n : List ℕ) (f : NewFile) (checking : Bool) → f .main < 65536 → f .worker < 65536 → create g d n f checking .0 .refusal .number ≡ 0 → Stays g d (create g d n f checking .1)
   create-stays n f checking a b e = go (create g d n f checking .0 .old) refl
     where
       go : (o : Bool) → create g d n f checking .0 .old ≡ o → Stays g d (create g d n f checking .1)

@@ -11,6 +11,7 @@ use lib.Dec.{T}
 use Rattle.meaning.specs.Layout.{isSlot, slots}
 use Rattle.meaning.specs.Entries.{primary, system, nameOf}
 use Rattle.meaning.specs.Chain.{owned, files}
+use Rattle.meaning.specs.Refusal.{unplaced}
 use Rattle.meaning.specs.Refusals.{check}
 use Rattle.meaning.specs.Listing
 use Rattle.meaning.specs.Listing.{shown, listed, tellFirst, noFile}
@@ -49,18 +50,18 @@ module _ (g : Geometry) (d : List ℕ) where
   ith-in : (i : ℕ) → i < length (listed g d) → File g d (ith g d i) × T (not (system g d (ith g d i)))
   ith-in i h = listed-in (ith g d i) (Others.getD-in (listed g d) i h)
 
-  tell : (p : ℕ) (ps : List ℕ) → tellFirst g d (p ∷ ps) ≡ record { number = 0; more = true; name = nameOf g d p; size = length (fileAt g d p .bytes); granules = fileAt g d p .granules }
+  tell : (p : ℕ) (ps : List ℕ) → tellFirst g d (p ∷ ps) ≡ record { refusal = unplaced 0; more = true; name = nameOf g d p; size = length (fileAt g d p .bytes); granules = fileAt g d p .granules }
   unfolding tellFirst fileAt
-  tell p ps = λ i. record { number = 0; more = true; name = nameOf g d p; size = sym (Others.file-length g d p) i; granules = length (owned g d p) }
+  tell p ps = λ i. record { refusal = unplaced 0; more = true; name = nameOf g d p; size = sym (Others.file-length g d p) i; granules = length (owned g d p) }
 
-  no-more : tellFirst g d [] ≡ noFile 0
+  no-more : tellFirst g d [] ≡ noFile (unplaced 0)
   unfolding tellFirst
   no-more = refl
 
-  pub list-serves : (i : ℕ) → Listing.list g d i .number ≡ 0 → Sound g d → Lists g d i
+  pub list-serves : (i : ℕ) → Listing.list g d i .refusal .number ≡ 0 → Sound g d → Lists g d i
   unfolding Listing.list
   list-serves i e c =
-      let n : check g d ≡ 0 = sym (Refusing.list-number g d i) ∙ e in
+      let n : check g d .number ≡ 0 = sym (Refusing.list-number g d i) ∙ e in
       record {
         tells = λ h. rw n (ap (tellFirst g d) (drop-cons (listed g d) i 0 h) ∙ tell (ith g d i) (drop (suc i) (listed g d)));
         file = λ h. Named.plain-is g d c (ith g d i) (nameOf g d (ith g d i)) (ith-in i h .0) refl;
@@ -96,6 +97,6 @@ module _ (g : Geometry) (d : List ℕ) where
           lost : found f ≡ nothing → ⊥
           lost q = let z : _≡_ {A = ℕ} 0 1 = cc in omega arith
 
-  pub counts-serves : Listing.counts g d .number ≡ 0 → Sound g d → Counted g d
+  pub counts-serves : Listing.counts g d .refusal .number ≡ 0 → Sound g d → Counted g d
   unfolding Listing.counts
   counts-serves e c = record { files′ = rw e; free = rw e; told = told c }

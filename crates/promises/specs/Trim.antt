@@ -127,7 +127,7 @@ trim-done g d d′ p t h x = λ i. record { attributes = x .kept .attributes i; 
     many : length (owned g d′ p) ≡ cond (keepsSpace g d p) (length (owned g d p)) (granulesFor g (length (fileAt g d p .bytes)))
     many = rw (Members.no-false {b = keepsSpace g d p} t, Others.file-length g d p) (omega (arith, h, x .many, ap length (x .owned′) ∙ length-append (owned g d′ p) (x .old)))
 
-pub trim-means : (g : Geometry) (d : List ℕ) (h : Handle) → trim g d h .0 .number ≡ 0 → TrimMeans g d (trim g d h .1) (h .slot)
+pub trim-means : (g : Geometry) (d : List ℕ) (h : Handle) → trim g d h .0 .refusal .number ≡ 0 → TrimMeans g d (trim g d h .1) (h .slot)
 unfolding trim
 trim-means g d h e =
     let p = h .slot in

@@ -221,7 +221,7 @@ module _ (g : Geometry) (d d₁ : List ℕ) (p : ℕ) (m : Mode) (at : ℕ) (r :
 pub fits-after : (g : Geometry) (d d′ : List ℕ) → Places.Fits g d → length d′ ≡ length d → Places.Fits g d′
 fits-after g d d′ k l = Places.as-long k l
 
-pub write-wrote : (g : Geometry) (d : List ℕ) (m : Mode) (h : Handle) (b : List ℕ) → writeRecord g d m h b .0 .number ≡ 0
+pub write-wrote : (g : Geometry) (d : List ℕ) (m : Mode) (h : Handle) (b : List ℕ) → writeRecord g d m h b .0 .refusal .number ≡ 0
     → Passed.Holds g d h × Wrote g d (writeRecord g d m h b .1) (h .slot) (writtenTo g m (h .at) (take (h .len) b) (fileAt g d (h .slot)))
 unfolding writeRecord words
 write-wrote g d m h b e =

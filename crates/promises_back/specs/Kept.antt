@@ -7,6 +7,7 @@ use Prim.Native.Nat.{ℕ}
 use native.Mathlib.Decide.{ℕ-discrete}
 use lib.ListN.{length}
 use lib.Dec.{T}
+use Rattle.meaning.specs.Refusal.{unplaced}
 use Rattle.meaning.specs.Layout.{fitsGeometry}
 use Rattle.meaning.specs.Entries.{system}
 use Rattle.meaning.specs.Chain.{chain, owned}
@@ -34,14 +35,14 @@ use Rattle.promises_back.specs.Serving
 use Rattle.promises_back.specs.Passing as Back
 
 module _ (g : Geometry) (d : List ℕ) (s : ℕ) where
-  refuses : bringBack g d s .0 .number ≢ 0 → (bringBack g d s .1 ≡ d) × (bringBack g d s .0 .slots ≡ 0) × (bringBack g d s .0 .granules ≡ 0)
+  refuses : bringBack g d s .0 .refusal .number ≢ 0 → (bringBack g d s .1 ≡ d) × (bringBack g d s .0 .slots ≡ 0) × (bringBack g d s .0 .granules ≡ 0)
   unfolding bringBack
-  refuses k = (Passing.other-case (bringBack g d s .0 .number) _ d k, Passing.other-case (bringBack g d s .0 .number) _ 0 k, Passing.other-case (bringBack g d s .0 .number) _ 0 k)
+  refuses k = (Passing.other-case (bringBack g d s .0 .refusal .number) _ d k, Passing.other-case (bringBack g d s .0 .refusal .number) _ 0 k, Passing.other-case (bringBack g d s .0 .refusal .number) _ 0 k)
 
   stays : Good g d → Stays g d (bringBack g d s .1)
-  stays o = go (ℕ-discrete (bringBack g d s .0 .number) 0)
+  stays o = go (ℕ-discrete (bringBack g d s .0 .refusal .number) 0)
     where
-      go : Dec (bringBack g d s .0 .number ≡ 0) → Stays g d (bringBack g d s .1)
+      go : Dec (bringBack g d s .0 .refusal .number ≡ 0) → Stays g d (bringBack g d s .1)
       go (yes e) = Serving.back-stays g d s e o
       go (no n) = subst (Stays g d) (sym (refuses n .0)) (Staying.stays-same g d o)
 
@@ -62,13 +63,13 @@ every-state g d k cs b = along g d d (Staying.stays-same g d k) cs b
 -- Kill and bring back -----------------------------------------------------------------------------------------------------------------
 
 undo : (g : Geometry) (d : List ℕ) (c : Sound g d) (k : Places.Fits g d) (p : ℕ) (f : File g d p) → T (not (system g d p)) → T (fitsGeometry g d)
-    → bringBack g (killed g d p) p ≡ (record { number = 0; slots = length (chain g d p); granules = length (owned g d p) }, d)
+    → bringBack g (killed g d p) p ≡ (record { refusal = unplaced 0; slots = length (chain g d p); granules = length (owned g d p) }, d)
 undo g d c k p f u t =
     let fits = Members.true-T (Steps.fits-long g d (killed g d p) (Kill.kill-length g d c k p f) ∙ Members.T-true t) in
     let sound = Members.true-T (Facts.back g (killed g d p) (Change.changed g d (killed g d p) c p (Kill.kill-change g d c k p f u))) in
     Back.answers g (killed g d p) p (Back.accepts g (killed g d p) p fits sound (Undo.killed-back g d c k p f u))
     ∙ λ i. (
-      record { number = 0; slots = ap length (Undo.killed-chain g d c k p f) i; granules = ap length (Undo.killed-owned g d c k p f) i },
+      record { refusal = unplaced 0; slots = ap length (Undo.killed-chain g d c k p f) i; granules = ap length (Undo.killed-owned g d c k p f) i },
       Undo.undone g d c k p f i,
     )
 

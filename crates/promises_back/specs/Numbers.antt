@@ -40,7 +40,7 @@ module _ (g : Geometry) (d : List ℕ) (s : ℕ) where
   some-iff : T (some (taken g d) (owned g d s)) ↔ ((n : ℕ) × In n (owned g d s) × T (taken g d n))
   some-iff = (Kinds.some-in (taken g d) (owned g d s), λ k. Kinds.in-some (taken g d) (k .1) (k .2))
 
-  pub back-numbers : Exactly (bringBack g d s .0 .number) (backTable g d s)
+  pub back-numbers : Exactly (bringBack g d s .0 .refusal .number) (backTable g d s)
   unfolding bringBack
   back-numbers = Refusing.exactly (bringBackRefusals g d s) (backTable g d s) (Refusing.disk-reading g d (Refusing.ownRows (bringBackRefusals g d s)) (Refusing.ownCases (backTable g d s)) (
     refl,

@@ -6,6 +6,7 @@ use Prim.Native.Nat.{ℕ}
 use native.Mathlib.Omega.{arith}
 use lib.ListN.{length}
 use lib.Dec.{T, T-not, not-T}
+use Rattle.meaning.specs.Refusal.{unplaced, beside}
 use Rattle.meaning.specs.Lists.{some}
 use Rattle.meaning.specs.Layout.{fitsGeometry, isSlot, taken}
 use Rattle.meaning.specs.Entries.{inUse, system, nameOf}
@@ -20,7 +21,7 @@ use Rattle.laws.specs.Members
 use Rattle.laws.specs.Facts.{Sound}
 use Rattle.laws.specs.Places
 use Rattle.laws.specs.Named
-use Rattle.laws.specs.Passed.{passed, yes-T, disk-passed, disk-passes}
+use Rattle.laws.specs.Passed.{passed, yes-T, disk-passed, disk-passes, served-check}
 use Rattle.laws.specs.BringBack
 use Rattle.laws.specs.BringBack.{Back}
 use Rattle.promises.specs.CreateMeans
@@ -55,7 +56,7 @@ module _ (g : Geometry) (d : List ℕ) (s : ℕ) where
         };
       }
 
-  pub back-accepted : bringBack g d s .0 .number ≡ 0 → Accepted g d s
+  pub back-accepted : bringBack g d s .0 .refusal .number ≡ 0 → Accepted g d s
   unfolding bringBack
   back-accepted e = accepted e
 
@@ -83,6 +84,6 @@ module _ (g : Geometry) (d : List ℕ) (s : ℕ) where
 
   -- the whole answer, where nothing is refused
   pub answers : first (bringBackRefusals g d s) ≡ 0
-      → bringBack g d s ≡ (record { number = 0; slots = length (chain g d s); granules = length (owned g d s) }, broughtBack g d s)
-  unfolding bringBack
-  answers e = rw e
+      → bringBack g d s ≡ (record { refusal = unplaced 0; slots = length (chain g d s); granules = length (owned g d s) }, broughtBack g d s)
+  unfolding bringBack beside
+  answers e = rw (e, served-check g d (disk-passed g d _ e .0)) refl

@@ -105,7 +105,7 @@ module _ (g : Geometry) (d : List ℕ) (c : Sound g d) (k : Places.Fits g d) (s 
       (Bytes.hash-small (nameOf g d s) (Bytes.name-small (nameOf g d s) (w .whole′ .name))) (Bytes.bytes-small d (o .bytes)))
 
 -- the same of what the call answers
-module _ (g : Geometry) (d : List ℕ) (s : ℕ) (e : bringBack g d s .0 .number ≡ 0) where
+module _ (g : Geometry) (d : List ℕ) (s : ℕ) (e : bringBack g d s .0 .refusal .number ≡ 0) where
   pub back-serves : BringsBack g d (bringBack g d s .1) s (bringBack g d s .0 .slots) (bringBack g d s .0 .granules)
   unfolding bringBack Marking.marking words
   back-serves = let w = Passing.back-accepted g d s e in rw e (served g d (w .sound) (w .fits) s (w .back))

@@ -8,6 +8,7 @@ use mathlib.Core.List.{List, [], _∷_}
 use Prim.Native.Nat.{ℕ, _/_, _≤_, _<_}
 use lib.Dec.{T}
 use lib.ListN.{length}
+use Rattle.meaning.specs.Refusal.{unplaced}
 use Rattle.meaning.specs.Bits.{withBit}
 use Rattle.meaning.specs.Layout.{byte, field, hit, isSlot, taken, granules, granuleBytes, directoryGranules}
 use Rattle.meaning.specs.Names.{hash}
@@ -60,9 +61,9 @@ backTable g d s =
 
 pub record BackPromise (g : Geometry) (d : List ℕ) (s : ℕ) : Type 0 where
   pub stays : Good g d → Stays g d (bringBack g d s .1)
-  pub serves : bringBack g d s .0 .number ≡ 0 → BringsBack g d (bringBack g d s .1) s (bringBack g d s .0 .slots) (bringBack g d s .0 .granules)
-  pub refuses : bringBack g d s .0 .number ≢ 0 → (bringBack g d s .1 ≡ d) × (bringBack g d s .0 .slots ≡ 0) × (bringBack g d s .0 .granules ≡ 0)
-  pub numbers : Exactly (bringBack g d s .0 .number) (backTable g d s)
+  pub serves : bringBack g d s .0 .refusal .number ≡ 0 → BringsBack g d (bringBack g d s .1) s (bringBack g d s .0 .slots) (bringBack g d s .0 .granules)
+  pub refuses : bringBack g d s .0 .refusal .number ≢ 0 → (bringBack g d s .1 ≡ d) × (bringBack g d s .0 .slots ≡ 0) × (bringBack g d s .0 .granules ≡ 0)
+  pub numbers : Exactly (bringBack g d s .0 .refusal .number) (backTable g d s)
 
 -- whatever the disk, whatever the slot
 abbrev pub EveryBack : Type 0
@@ -100,12 +101,12 @@ EveryState = (g : Geometry) (d : List ℕ) → Good g d → (cs : List Step) →
 
 -- Nothing written in between: it is accepted, tells the slots and granules that the file had, and leaves the very image.
 abbrev pub KillUndone : Type 0
-KillUndone = (g : Geometry) (d : List ℕ) (h : Handle) → kill g d h .0 .number ≡ 0
-    → bringBack g (kill g d h .1) (h .slot) ≡ (record { number = 0; slots = length (chain g d (h .slot)); granules = length (owned g d (h .slot)) }, d)
+KillUndone = (g : Geometry) (d : List ℕ) (h : Handle) → kill g d h .0 .refusal .number ≡ 0
+    → bringBack g (kill g d h .1) (h .slot) ≡ (record { refusal = unplaced 0; slots = length (chain g d (h .slot)); granules = length (owned g d (h .slot)) }, d)
 
 -- "If none of its slots was written since the kill, a brought-back file has the entry bytes it had before": e is any disk on which the
 -- entries of the killed file stand as the kill left them, and on which bring back is accepted.
 abbrev pub EntriesBack : Type 0
-EntriesBack = (g : Geometry) (d : List ℕ) (h : Handle) → kill g d h .0 .number ≡ 0
+EntriesBack = (g : Geometry) (d : List ℕ) (h : Handle) → kill g d h .0 .refusal .number ≡ 0
     → (e : List ℕ) → ((x : ℕ) → In x (chain g d (h .slot)) → Agree g (kill g d h .1) e x)
-    → bringBack g e (h .slot) .0 .number ≡ 0 → AsBefore g d (bringBack g e (h .slot) .1) (h .slot)
+    → bringBack g e (h .slot) .0 .refusal .number ≡ 0 → AsBefore g d (bringBack g e (h .slot) .1) (h .slot)

@@ -8,6 +8,7 @@ use native.Mathlib.Omega.{arith}
 use lib.Dec.{T, eqb}
 use lib.ListN.{length, getD, drop}
 use borrow.Author.Tests.{eqb-true, eqb-false, eq-eqb, ne-eqb}
+use Rattle.meaning.specs.Refusal.{unplaced}
 use Rattle.meaning.specs.Lists.{same, any}
 use Rattle.meaning.specs.LookUp.{named}
 use Rattle.meaning.specs.Plain.{isSystem, File, Found, found, nothing, fileAt, foundIn, plain}
@@ -279,8 +280,7 @@ unlike-swap n f f′ =
     let c = same-swap (f′ .bytes) (f .bytes) in let s = eqb-swap (length (f′ .bytes)) (length (f .bytes)) in
     let t = same-swap (dateOf f′) (dateOf f) in let o = same-swap (othersOf f′) (othersOf f) in
     λ i. record {
-      number = 0;
-      image = 0;
+      refusal = unplaced 0;
       kind = ((λ j. cond (any (not (c j) ∷ not (s j) ∷ not (t j) ∷ not (o j) ∷ [])) 3 0) ∙ turned-three (any (tests n f f′))) i;
       name = n;
       at = parting-swap (f′ .bytes) (f .bytes) i;

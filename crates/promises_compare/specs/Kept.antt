@@ -10,9 +10,11 @@ use lib.Dec.{eqb, ltb, not-T}
 use lib.ListN.{getD, drop}
 use borrow.Author.Tests.{eqb-true, ne-eqb, ltb-true, ltb-false}
 use Rattle.meaning.specs.Lists.{keep}
+use Rattle.meaning.specs.Refusal.{unplaced, naming}
 use Rattle.meaning.specs.Refusals.{check}
 use Rattle.meaning.specs.Plain.{isSystem, Found, found, nothing, plain}
 use Rattle.meaning.specs.declared.Geometry.{Geometry}
+use Rattle.meaning.specs.declared.Refusal.{Refusal}
 use Rattle.laws.specs.Facts as facts
 use Rattle.laws.specs.Members
 use Rattle.laws.specs.Passed.{check-passed}
@@ -26,10 +28,10 @@ use Rattle.promises_compare.specs.Agreement.{plain-told, agree-none, non
 use Rattle.promises_compare.specs.Telling.{getD-in, in-getD, getD-rises, differing, many-are, differing-rises, differing-in, in-differing, told-is, told-none, merged-swap, map-swap, tell-swap}
 
 -- a disk whose check answers 0 is consistent
-sound : (g : Geometry) (d : List ℕ) → check g d ≡ 0 → facts.Sound g d
+sound : (g : Geometry) (d : List ℕ) → check g d .number ≡ 0 → facts.Sound g d
 sound g d e = check-passed g d e .sound
 
-nothing-one : isOne (tellsNone 0 0) ≡ false
+nothing-one : isOne (tellsNone (unplaced 0)) ≡ false
 unfolding isOne
 nothing-one = refl
 
@@ -54,7 +56,7 @@ module _ (g : Geometry) (d : List ℕ) (g′ : Geometry) (d′ : List ℕ) where
     unfolding named
     one i l = differing-in g d g′ d′ (getD-in (differing g d g′ d′) i (subst (λ (n : ℕ). i < n) (many-are g d g′ d′) l))
 
-    ends : (i : ℕ) → many g d g′ d′ ≤ i → compare g d g′ d′ i ≡ tellsNone 0 0
+    ends : (i : ℕ) → many g d g′ d′ ≤ i → compare g d g′ d′ i ≡ tellsNone (unplaced 0)
     ends i l = accepted-is b i ∙ told-none g d g′ d′ i l
 
     tells : (i : ℕ) → i < many g d g′ d′ → Says (compare g d g′ d′ i) (plain g d (compare g d g′ d′ i .name)) (plain g′ d′ (compare g d g′ d′ i .name))
@@ -102,14 +104,14 @@ module _ (g : Geometry) (d : List ℕ) (g′ : Geometry) (d′ : List ℕ) where
         by (inr j) = at-number n j
 
     -- where the lists agree, nothing is told
-    pub agreed : ((n : List ℕ) → Agree (plain g d n) (plain g′ d′ n)) → (i : ℕ) → compare g d g′ d′ i ≡ tellsNone 0 0
+    pub agreed : ((n : List ℕ) → Agree (plain g d n) (plain g′ d′ n)) → (i : ℕ) → compare g d g′ d′ i ≡ tellsNone (unplaced 0)
     agreed f i = ends i (by (ltb i (many g d g′ d′)) refl)
       where
         by : (t : Bool) → ltb i (many g d g′ d′) ≡ t → many g d g′ d′ ≤ i
         by true e = absurd (not-agreed i (ltb-true i (many g d g′ d′) e) (f (compare g d g′ d′ i .name)))
         by false e = ltb-false i (many g d g′ d′) e
 
-    none-told : compare g d g′ d′ 0 ≡ tellsNone 0 0 → (n : List ℕ) → Agree (plain g d n) (plain g′ d′ n)
+    none-told : compare g d g′ d′ 0 ≡ tellsNone (unplaced 0) → (n : List ℕ) → Agree (plain g d n) (plain g′ d′ n)
     none-told e n = by (look n)
       where
         by : Agree (plain g d n) (plain g′ d′ n) ⊎ In n (differing g d g′ d′) → Agree (plain g d n) (plain g′ d′ n)
@@ -124,25 +126,25 @@ module _ (g : Geometry) (d : List ℕ) (g′ : Geometry) (d′ : List ℕ) where
           none = (none-told, λ f. agreed f 0);
           ends = ends;
           tells = tells;
-          isOne′ = λ i l. (ap (λ (x : Difference). x .number) (told i l) ∙ difference-number (named i) (plain g d (named i)) (plain g′ d′ (named i)), not-agreed i l);
+          isOne′ = λ i l. (ap (λ (x : Difference). x .refusal .number) (told i l) ∙ difference-number (named i) (plain g d (named i)) (plain g′ d′ (named i)), not-agreed i l);
           rises = rises;
           every′ = every′;
           once = once;
         }
 
-  number-of : Both g d g′ d′ → (i : ℕ) → compare g d g′ d′ i .number ≡ 0
+  number-of : Both g d g′ d′ → (i : ℕ) → compare g d g′ d′ i .refusal .number ≡ 0
   number-of b i = by (ltb i (many g d g′ d′)) refl
     where
-      by : (t : Bool) → ltb i (many g d g′ d′) ≡ t → compare g d g′ d′ i .number ≡ 0
+      by : (t : Bool) → ltb i (many g d g′ d′) ≡ t → compare g d g′ d′ i .refusal .number ≡ 0
       by true e = compares b .isOne′ i (ltb-true i (many g d g′ d′) e) .0
-      by false e = ap (λ (x : Difference). x .number) (ends b i (ltb-false i (many g d g′ d′) e))
+      by false e = ap (λ (x : Difference). x .refusal .number) (ends b i (ltb-false i (many g d g′ d′) e))
 
   pub refuses : Refuses g d g′ d′
   unfolding compare
   refuses =
       record {
-        first = λ i z. rw (ne-eqb (check g d) 0 z);
-        second = λ i e z. rw (e, ne-eqb (check g′ d′) 0 z);
+        first = λ i z. rw (ne-eqb (check g d .number) 0 z);
+        second = λ i e z. rw (e, ne-eqb (check g′ d′ .number) 0 z);
         neither = λ i e f. number-of (record { first = e; second = f }) i;
       }
 
@@ -169,9 +171,9 @@ differences-swap g d g′ d′ =
     ap (λ (ns : List (List ℕ)). keep isOne (map (at′ g′ d′ g d) ns)) (merged-swap g d g′ d′)
     ∙ map-swap (at′ g d g′ d′) (at′ g′ d′ g d) (λ n. swap-difference n (plain g d n) (plain g′ d′ n)) one-swapped (merged g d g′ d′)
 
-none-swapped : (number image : ℕ) → swapped (tellsNone number image) ≡ tellsNone number (turned image)
+none-swapped : (c : Refusal) (image : ℕ) → swapped (tellsNone (naming image c)) ≡ tellsNone (naming (turned image) c)
 unfolding swapped turned
-none-swapped number image = refl
+none-swapped c image = refl
 
 turned-1 : turned 1 ≡ 2
 unfolding turned
@@ -182,16 +184,16 @@ unfolding turned
 turned-2 = refl
 
 pub swaps : Swaps
-swaps g d g′ d′ w i = by (ℕ-discrete (check g d) 0) (ℕ-discrete (check g′ d′) 0) w
+swaps g d g′ d′ w i = by (ℕ-discrete (check g d .number) 0) (ℕ-discrete (check g′ d′ .number) 0) w
   where
-    by : Dec (check g d ≡ 0) → Dec (check g′ d′ ≡ 0) → (check g d ≡ 0) ⊎ (check g′ d′ ≡ 0) → compare g′ d′ g d i ≡ swapped (compare g d g′ d′ i)
+    by : Dec (check g d .number ≡ 0) → Dec (check g′ d′ .number ≡ 0) → (check g d .number ≡ 0) ⊎ (check g′ d′ .number ≡ 0) → compare g′ d′ g d i ≡ swapped (compare g d g′ d′ i)
     by (yes e) (yes f) v =
         accepted-is g′ d′ g d (record { first = f; second = e }) i ∙ ap (λ (xs : List Difference). tellFirst (drop i xs)) (differences-swap g d g′ d′)
         ∙ tell-swap (differences g d g′ d′) i ∙ ap swapped (sym (accepted-is g d g′ d′ (record { first = e; second = f }) i))
     by (yes e) (no f) v =
-        refuses g′ d′ g d .first i f ∙ ap (tellsNone (check g′ d′)) (sym turned-2) ∙ sym (none-swapped (check g′ d′) 2) ∙ ap swapped (sym (refuses g d g′ d′ .second i e f))
+        refuses g′ d′ g d .first i f ∙ ap (λ (i : ℕ). tellsNone (naming i (check g′ d′))) (sym turned-2) ∙ sym (none-swapped (check g′ d′) 2) ∙ ap swapped (sym (refuses g d g′ d′ .second i e f))
     by (no e) (yes f) v =
-        refuses g′ d′ g d .second i f e ∙ ap (tellsNone (check g d)) (sym turned-1) ∙ sym (none-swapped (check g d) 1) ∙ ap swapped (sym (refuses g d g′ d′ .first i e))
+        refuses g′ d′ g d .second i f e ∙ ap (λ (i : ℕ). tellsNone (naming i (check g d))) (sym turned-1) ∙ sym (none-swapped (check g d) 1) ∙ ap swapped (sym (refuses g d g′ d′ .first i e))
     by (no e) (no f) (inl v) = absurd (e v)
     by (no e) (no f) (inr v) = absurd (f v)
 

@@ -7,6 +7,7 @@ use mathlib.Core.List.{List}
 use Prim.Native.Nat.{ℕ, _<_, _≤_}
 use lib.Dec.{eqb}
 use lib.ListN.{length, getD}
+use Rattle.meaning.specs.Refusal.{unplaced, naming}
 use Rattle.meaning.specs.Refusals.{check}
 use Rattle.meaning.specs.Plain.{isSystem, File, Found, found, nothing, plain}
 use Rattle.meaning.specs.declared.Geometry.{Geometry}
@@ -52,8 +53,8 @@ pub data Says (x : Difference) : Found → Found → Type 0 where
 
 -- 1 and 2 (21 to 30) are given to neither image
 pub record Both (g : Geometry) (d : List ℕ) (g′ : Geometry) (d′ : List ℕ) : Type 0 where
-  pub first : check g d ≡ 0
-  pub second : check g′ d′ ≡ 0
+  pub first : check g d .number ≡ 0
+  pub second : check g′ d′ .number ≡ 0
 
 module _ (g : Geometry) (d : List ℕ) (g′ : Geometry) (d′ : List ℕ) where
   -- so many are told
@@ -62,12 +63,12 @@ module _ (g : Geometry) (d : List ℕ) (g′ : Geometry) (d′ : List ℕ) where
 
   pub record Compares : Type 0 where
     -- "no more" at number 0 exactly if the two plain lists agree, system files by name only
-    pub none : (compare g d g′ d′ 0 ≡ tellsNone 0 0) ↔ ((n : List ℕ) → Agree (plain g d n) (plain g′ d′ n))
+    pub none : (compare g d g′ d′ 0 ≡ tellsNone (unplaced 0)) ↔ ((n : List ℕ) → Agree (plain g d n) (plain g′ d′ n))
     -- past the last the answer is "no more"
-    pub ends : (i : ℕ) → many ≤ i → compare g d g′ d′ i ≡ tellsNone 0 0
+    pub ends : (i : ℕ) → many ≤ i → compare g d g′ d′ i ≡ tellsNone (unplaced 0)
     -- every difference told is one, and says what stands under its name
     pub tells : (i : ℕ) → i < many → let x = compare g d g′ d′ i in Says x (plain g d (x .name)) (plain g′ d′ (x .name))
-    pub isOne′ : (i : ℕ) → i < many → let x = compare g d g′ d′ i in (x .number ≡ 0) × (Agree (plain g d (x .name)) (plain g′ d′ (x .name)) → ⊥)
+    pub isOne′ : (i : ℕ) → i < many → let x = compare g d g′ d′ i in (x .refusal .number ≡ 0) × (Agree (plain g d (x .name)) (plain g′ d′ (x .name)) → ⊥)
     -- by name and type bytes, rising
     pub rises : (i j : ℕ) → i < j → j < many → before (compare g d g′ d′ i .name) (compare g d g′ d′ j .name) ≡ true
     -- every one is told, and once
@@ -76,9 +77,9 @@ module _ (g : Geometry) (d : List ℕ) (g′ : Geometry) (d′ : List ℕ) where
 
   -- Refusals: 1 and 2 (21 to 30), each naming the image, the first's before the second's
   pub record Refuses : Type 0 where
-    pub first : (i : ℕ) → check g d ≢ 0 → compare g d g′ d′ i ≡ tellsNone (check g d) 1
-    pub second : (i : ℕ) → check g d ≡ 0 → check g′ d′ ≢ 0 → compare g d g′ d′ i ≡ tellsNone (check g′ d′) 2
-    pub neither : (i : ℕ) → check g d ≡ 0 → check g′ d′ ≡ 0 → compare g d g′ d′ i .number ≡ 0
+    pub first : (i : ℕ) → check g d .number ≢ 0 → compare g d g′ d′ i ≡ tellsNone (naming 1 (check g d))
+    pub second : (i : ℕ) → check g d .number ≡ 0 → check g′ d′ .number ≢ 0 → compare g d g′ d′ i ≡ tellsNone (naming 2 (check g′ d′))
+    pub neither : (i : ℕ) → check g d .number ≡ 0 → check g′ d′ .number ≡ 0 → compare g d g′ d′ i .refusal .number ≡ 0
 
 -- 3. Sides, and disks alike ----------------------------------------------------------------------------------------------------
 
@@ -89,8 +90,7 @@ turned k = cond (eqb k 1) 2 (cond (eqb k 2) 1 k)
 unfoldable pub swapped : Difference → Difference
 swapped x =
     record {
-      number = x .number;
-      image = turned (x .image);
+      refusal = naming (turned (x .refusal .image)) (x .refusal);
       kind = turned (x .kind);
       name = x .name;
       at = x .at;
@@ -110,14 +110,14 @@ EveryRefusal = (g : Geometry) (d : List ℕ) (g′ : Geometry) (d′ : List ℕ)
 -- Swapping the images swaps the sides. Where both images are refused, each order names the one that comes first.
 abbrev pub Swaps : Type 0
 Swaps =
-    (g : Geometry) (d : List ℕ) (g′ : Geometry) (d′ : List ℕ) → (check g d ≡ 0) ⊎ (check g′ d′ ≡ 0) → (i : ℕ)
+    (g : Geometry) (d : List ℕ) (g′ : Geometry) (d′ : List ℕ) → (check g d .number ≡ 0) ⊎ (check g′ d′ .number ≡ 0) → (i : ℕ)
     → compare g′ d′ g d i ≡ swapped (compare g d g′ d′ i)
 
 -- A disk compared with itself has no difference.
 abbrev pub Itself : Type 0
-Itself = (g : Geometry) (d : List ℕ) → check g d ≡ 0 → (i : ℕ) → compare g d g d i ≡ tellsNone 0 0
+Itself = (g : Geometry) (d : List ℕ) → check g d .number ≡ 0 → (i : ℕ) → compare g d g d i ≡ tellsNone (unplaced 0)
 
 -- Two disks that hold the same named files, as demand 3 says it of two interleavings, have none.
 abbrev pub Interleaved : Type 0
 Interleaved =
-    (g : Geometry) (d d′ : List ℕ) → check g d ≡ 0 → check g d′ ≡ 0 → SameFiles g d d′ → (i : ℕ) → compare g d g d′ i ≡ tellsNone 0 0
+    (g : Geometry) (d d′ : List ℕ) → check g d .number ≡ 0 → check g d′ .number ≡ 0 → SameFiles g d d′ → (i : ℕ) → compare g d g d′ i ≡ tellsNone (unplaced 0)

@@ -6,6 +6,7 @@ use mathlib.Core.List.{List, [], _∷_, _++_, map}
 use Prim.Native.Nat.{ℕ, zero, suc, _<_, _≤_}
 use native.Mathlib.Omega.{arith}
 use lib.ListN.{length, getD, drop, length-map}
+use Rattle.meaning.specs.Refusal.{unplaced}
 use Rattle.meaning.specs.Lists.{keep}
 use Rattle.meaning.specs.Entries.{nameOf}
 use Rattle.meaning.specs.Chain.{files}
@@ -97,7 +98,7 @@ told-at f [] i l = absurd (let q : ⊥ = omega arith in q)
 told-at f (n ∷ ns) zero l = refl
 told-at f (n ∷ ns) (suc i) l = told-at f ns i (omega arith)
 
-told-past : (xs : List Difference) (i : ℕ) → length xs ≤ i → tellFirst (drop i xs) ≡ tellsNone 0 0
+told-past : (xs : List Difference) (i : ℕ) → length xs ≤ i → tellFirst (drop i xs) ≡ tellsNone (unplaced 0)
 unfolding tellFirst
 told-past [] zero l = refl
 told-past [] (suc i) l = refl
@@ -155,7 +156,7 @@ module _ (g : Geometry) (d : List ℕ) (g′ : Geometry) (d′ : List ℕ) where
   pub told-is : (i : ℕ) → i < length differing → tellFirst (drop i (differences g d g′ d′)) ≡ at′ g d g′ d′ (getD differing i [])
   told-is i l = ap (λ (xs : List Difference). tellFirst (drop i xs)) differences-are ∙ told-at (at′ g d g′ d′) differing i l
 
-  pub told-none : (i : ℕ) → length (differences g d g′ d′) ≤ i → tellFirst (drop i (differences g d g′ d′)) ≡ tellsNone 0 0
+  pub told-none : (i : ℕ) → length (differences g d g′ d′) ≤ i → tellFirst (drop i (differences g d g′ d′)) ≡ tellsNone (unplaced 0)
   told-none i l = told-past (differences g d g′ d′) i l
 
 -- The other way round --------------------------------------------------------------------------------------------------------------

@@ -16,11 +16,12 @@ use Rattle.meaning.specs.Sizes
 use Rattle.meaning.specs.Chain.{owned, place}
 use Rattle.meaning.specs.Entries.{sizeOf, sectorCount, endByte}
 use Rattle.meaning.specs.Read.{fetch, readRefusals, readRecord, sectorRefusals, sectorBytes, readSector}
-use Rattle.meaning.specs.Refusals.{first, inRange, movedTo, handleRefusals, notForReading}
+use Rattle.meaning.specs.Refusals.{first, refusal, inRange, movedTo, handleRefusals, notForReading}
 use Rattle.meaning.specs.declared.Geometry.{Geometry}
 use Rattle.meaning.specs.declared.Handle.{Handle}
 use Rattle.meaning.specs.declared.Answer.{Answer}
 use Rattle.meaning.specs.declared.Part.{Part}
+use Rattle.meaning.specs.declared.Refusal.{Refusal}
 use native.Mathlib.Decide.{ℕ-discrete}
 use Rattle.layout.proofs.Lists.{all-at, first-at, count-append}
 use Rattle.handle.proofs.Laws.{ownRow, passed, walks, ranges, handle-stop, handle-then}
@@ -117,16 +118,16 @@ module _ (g : Geometry) (d : List ℕ) where
       handle-then g d h q (notForReading h ∷ []) rest refl (e ∙ ap (λ (t : Bool). first (handleRefusals g d h t (notForReading h ∷ []))) r) z
 
   -- refused and accepted
-  pub refused : (h : Handle) (b : List ℕ) {no : ℕ} → no ≡ first (readRefusals g d h (length b)) → (no ≡ 0 → ⊥)
-      → _≡_ {A = Answer × List ℕ} (record { number = no; handle = h }, b) (readRecord g d h b)
+  pub refused : (h : Handle) (b : List ℕ) {no : ℕ} {c : Refusal} → c ≡ refusal g d no → no ≡ first (readRefusals g d h (length b)) → (no ≡ 0 → ⊥)
+      → _≡_ {A = Answer × List ℕ} (record { refusal = c; handle = h }, b) (readRecord g d h b)
   unfolding readRecord
-  refused h b {no} e n = rw (← e, ne-eqb no 0 n)
+  refused h b {no} q e n = rw (← e, ne-eqb no 0 n, q)
 
-  pub accepted : (h : Handle) (b : List ℕ) {b′ : List ℕ} {no : ℕ} → no ≡ first (readRefusals g d h (length b)) → no ≡ 0
+  pub accepted : (h : Handle) (b : List ℕ) {b′ : List ℕ} {no : ℕ} {c : Refusal} → c ≡ refusal g d 0 → no ≡ first (readRefusals g d h (length b)) → no ≡ 0
       → b′ ≡ fetch g d (h .slot) (h .at) (h .len) ++ drop (h .len) b
-      → _≡_ {A = Answer × List ℕ} (record { number = 0; handle = movedTo h (h .at + h .len) }, b′) (readRecord g d h b)
+      → _≡_ {A = Answer × List ℕ} (record { refusal = c; handle = movedTo h (h .at + h .len) }, b′) (readRecord g d h b)
   unfolding readRecord
-  accepted h b {b′} {no} e n f = rw (← e, n, f)
+  accepted h b {b′} {no} q e n f = rw (← e, n, f, q)
 
   pub record Allowed (h : Handle) (room : ℕ) : Type 0 where
     pub file : File g d (h .slot)
@@ -217,20 +218,20 @@ module _ (g : Geometry) (d : List ℕ) where
         low = omega (arith, l, Sizes.sectors-most g);
       }
 
-  pub sector-refused : (h : Handle) (k : ℕ) {n : ℕ} → n ≡ first (sectorRefusals g d h k) → (n ≡ 0 → ⊥)
-      → _≡_ {A = Part} (record { number = n; from = 0; to = 0 }) (readSector g d h k)
+  pub sector-refused : (h : Handle) (k : ℕ) {n : ℕ} {c : Refusal} → c ≡ refusal g d n → n ≡ first (sectorRefusals g d h k) → (n ≡ 0 → ⊥)
+      → _≡_ {A = Part} (record { refusal = c; from = 0; to = 0 }) (readSector g d h k)
   unfolding readSector
-  sector-refused h k {n} e z = rw (← e, ne-eqb n 0 z)
+  sector-refused h k {n} q e z = rw (← e, ne-eqb n 0 z, q)
 
-  pub sector-accepted : (h : Handle) (k : ℕ) {n from bytes : ℕ} → n ≡ first (sectorRefusals g d h k) → n ≡ 0
+  pub sector-accepted : (h : Handle) (k : ℕ) {n from bytes : ℕ} {c : Refusal} → c ≡ refusal g d 0 → n ≡ first (sectorRefusals g d h k) → n ≡ 0
       → from ≡ place g d (h .slot) (256 * k) → bytes ≡ sectorBytes g d (h .slot) k
-      → _≡_ {A = Part} (record { number = 0; from = from; to = from + bytes }) (readSector g d h k)
+      → _≡_ {A = Part} (record { refusal = c; from = from; to = from + bytes }) (readSector g d h k)
   unfolding readSector
-  sector-accepted h k e z f b = rw (← e, z, f, b)
+  sector-accepted h k q e z f b = rw (← e, z, f, b, q)
 
   -- the part that is handed back: its bytes, and its place
   pub part-is : (h : Handle) (k : ℕ) {p : Part} → p ≡ readSector g d h k
-      → _≡_ {A = ℕ × List ℕ} (p .number, take (p .to - p .from) (drop (p .from) d)) (partOf d (readSector g d h k))
+      → _≡_ {A = ℕ × ℕ × List ℕ} (p .refusal .number, p .refusal .at, take (p .to - p .from) (drop (p .from) d)) (partOf d (readSector g d h k))
   unfolding partOf
   part-is h k e = ap (partOf d) e
 

@@ -22,9 +22,9 @@ pub record Owned (g : Geometry) (d : List ℕ) (s i n : ℕ) : Type 0 where
 pub record InGranule (g : Geometry) (i n : ℕ) : Type 0 where
   pub inside : i % granuleBytes g + n ≤ granuleBytes g
 
--- what a part of an image is: the number beside it, and its bytes
-unfoldable pub partOf : List ℕ → Part → ℕ × List ℕ
-partOf d p = (p .number, take (p .to - p .from) (drop (p .from) d))
+-- what a part of an image is: the refusal's number and what goes with it, and its bytes
+unfoldable pub partOf : List ℕ → Part → ℕ × ℕ × List ℕ
+partOf d p = (p .refusal .number, p .refusal .at, take (p .to - p .from) (drop (p .from) d))
 
 -- the part lies inside an image of that length
 pub record Lies (p : Part) (n : ℕ) : Type 0 where

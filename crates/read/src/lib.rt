@@ -3,6 +3,7 @@ use meaning::Answer;
 use meaning::Geometry;
 use meaning::Handle;
 use meaning::Part;
+use meaning::Refusal;
 ghost use mathlib.Core.Path.{_≡_};
 ghost use mathlib.Core.List.{[], _∷_, _++_};
 ghost use Prim.Native.Nat.{_+_, _-_, _*_, _<_, _≤_};
@@ -60,7 +61,7 @@ pub fn record_ranged(g: Geometry, h: Handle, room: usize) -> bool
 }
 
 // The refusal number of a read, 0 where there is none.
-pub fn record_number(image: &[u8], g: Geometry, h: Handle, room: usize, checked: u8) -> u8
+pub fn record_number(image: &[u8], g: Geometry, h: Handle, room: usize, checked: Refusal) -> u8
     requires { ⌜ checked ≡ check g (now image) ⌝ }
     ensures { λ r. ⌜ r ≡ first (readRefusals g (now (image .entry)) h room) ⌝ }
 {
@@ -81,20 +82,23 @@ pub fn record_checked(
     g: Geometry,
     h: Handle,
     buffer: &mut [u8],
-    checked: u8,
+    checked: Refusal,
 ) -> Answer
     requires { ⌜ checked ≡ check g (now image) ⌝ }
     ensures { λ r. ⌜ (r, now (buffer .exit)) ≡ readRecord g (now (image .entry)) h (now (buffer .entry)) ⌝ }
 {
     let number = record_number(image, g, h, buffer.len(), checked);
     if number != 0 {
-        return Answer { number, handle: h };
+        return Answer {
+            refusal: refusal::carried(checked, number),
+            handle: h,
+        };
     }
     read_bytes(image, g, h.slot, h.at, h.len, buffer);
     let mut moved = h;
     moved.at = h.at + h.len;
     Answer {
-        number: 0,
+        refusal: refusal::carried(checked, 0),
         handle: moved,
     }
 }
@@ -109,7 +113,7 @@ pub fn sector_ranged(g: Geometry, h: Handle, k: usize) -> bool
     k < layout::SECTOR_NUMBERS
 }
 
-pub fn sector_number(image: &[u8], g: Geometry, h: Handle, k: usize, checked: u8) -> u8
+pub fn sector_number(image: &[u8], g: Geometry, h: Handle, k: usize, checked: Refusal) -> u8
     requires { ⌜ checked ≡ check g (now image) ⌝ }
     ensures { λ r. ⌜ r ≡ first (sectorRefusals g (now (image .entry)) h k) ⌝ }
 {
@@ -140,7 +144,7 @@ pub fn sector_bytes(image: &[u8], g: Geometry, s: usize, k: usize) -> usize
 }
 
 // Where the file's bytes in sector k lie, of a disk whose check answered `checked`.
-pub fn sector_checked(image: &[u8], g: Geometry, h: Handle, k: usize, checked: u8) -> Part
+pub fn sector_checked(image: &[u8], g: Geometry, h: Handle, k: usize, checked: Refusal) -> Part
     requires { ⌜ checked ≡ check g (now image) ⌝ }
     ensures is { λ r. ⌜ r ≡ readSector g (now (image .entry)) h k ⌝ }
     ensures lies { λ r. ⌜ Lies r (length (now (image .entry))) ⌝ }
@@ -148,35 +152,38 @@ pub fn sector_checked(image: &[u8], g: Geometry, h: Handle, k: usize, checked: u
     let number = sector_number(image, g, h, k, checked);
     if number != 0 {
         return Part {
-            number,
+            refusal: refusal::carried(checked, number),
             from: 0,
             to: 0,
         };
     }
     let from = seek::place(image, g, h.slot, 256 * k);
     let n = sector_bytes(image, g, h.slot, k);
+    let to = from + n;
     Part {
-        number: 0,
+        refusal: refusal::carried(checked, 0),
         from,
-        to: from + n,
+        to,
     }
 }
 
-// Read sector: the file's bytes in sector k, handed back as a part of the lent image.
+// Read sector: the file's bytes in sector k, handed back as a part of the lent image; the refusal's number and what goes with it go out beside it.
 pub fn part_checked<'a>(
     image: &'a [u8],
     g: Geometry,
     h: Handle,
     k: usize,
-    checked: u8,
+    checked: Refusal,
     number: &mut u8,
+    at: &mut usize,
 ) -> &'a [u8]
     requires { ⌜ checked ≡ check g (now image) ⌝ }
-    ensures what { λ r. ⌜ (now (number .exit), now r) ≡ partOf (now (image .entry)) (readSector g (now (image .entry)) h k) ⌝ }
+    ensures what { λ r. ⌜ (now (number .exit), now (at .exit), now r) ≡ partOf (now (image .entry)) (readSector g (now (image .entry)) h k) ⌝ }
     ensures place_at { λ r. ⌜ ptr r ≡ (ptr (image .entry) .0, ptr (image .entry) .1 + readSector g (now (image .entry)) h k .from) ⌝ }
 {
     let p = sector_checked(image, g, h, k, checked);
-    *number = p.number;
+    *number = p.refusal.number;
+    *at = p.refusal.at;
     let from = p.from;
     let to = p.to;
     &image[from..to]

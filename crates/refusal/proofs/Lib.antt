@@ -1,1 +1,1 @@
-mod Short
+pub mod Lent

@@ -1,14 +1,12 @@
--- What is lent too short.
-use Prim.Native.Nat.{ℕ}
-use mathlib.Core.Bool.{true, cond}
-use mathlib.Core.List.{List, [], _∷_}
-use Rattle.meaning.specs.Refusals.{first, accepted, diskRefusals}
-use Rattle.meaning.specs.declared.Geometry.{Geometry}
+-- What is lent too short: 12, after 1 and the faults. c is what the check answered.
+use mathlib.Core.Bool.{cond}
+use Rattle.meaning.specs.Refusal.{unplaced, naming}
+use Rattle.meaning.specs.Refusals.{accepted}
+use Rattle.meaning.specs.declared.Refusal.{Refusal}
 
--- "A handle under 19 bytes is 12; so is the listing's outgoing name buffer under 11 bytes", in the table's order.
-unfoldable pub tooShort : Geometry → List ℕ → ℕ
-tooShort g d = first (diskRefusals g d ((12, true) ∷ []))
+unfoldable pub short : Refusal → Refusal
+short c = cond (accepted (c .number)) (unplaced 12) c
 
--- compare: 12 after 1 and the faults of both images, m and n their checks' numbers; beside it the image that the refusal names, 0 for neither
-unfoldable pub shortOfTwo : ℕ → ℕ → ℕ × ℕ
-shortOfTwo m n = cond (accepted m) (cond (accepted n) (12, 0) (n, 2)) (m, 1)
+-- compare: 12 after 1 and the faults of both images; it names neither
+unfoldable pub shortOfTwo : Refusal → Refusal → Refusal
+shortOfTwo c c′ = cond (accepted (c .number)) (cond (accepted (c′ .number)) (unplaced 12) (naming 2 c′)) (naming 1 c)

@@ -1,77 +1,63 @@
-// What goes out beside a refusal: the slot of the fault that it names; and 12 for what is lent too short.
-use meaning::Geometry;
+// A refusal as a value: made, handed on, naming an image; and 12 for what is lent too short.
+use meaning::Refusal;
 ghost use mathlib.Core.Path.{_≡_};
-ghost use Rattle.meaning.specs.Refusals.{check};
-ghost use Rattle.refusal.specs.Short.{tooShort, shortOfTwo};
-ghost use Rattle.refusal.specs.Slot.{faultSlot, comparedSlot};
+ghost use Rattle.meaning.specs.Refusal.{unplaced, naming, carried};
+ghost use Rattle.refusal.specs.Short.{short, shortOfTwo};
 
-// The slot that goes out beside a number: the fault's, where the number is a fault's. A disk without one is not looked at again. A refused
-// call leaves its image as it stood, so this may come after the call.
-pub fn slot_of(image: &[u8], g: Geometry, number: u8) -> usize
-    ensures { λ r. ⌜ r ≡ faultSlot number g (now (image .entry)) ⌝ }
+// told where nothing goes with a number
+pub const NOWHERE: usize = 256;
+
+// A number with nothing beside it; 0 for acceptance.
+pub fn unplaced(number: u8) -> Refusal
+    ensures { λ r. ⌜ r ≡ unplaced number ⌝ }
 {
-    if number < 21 {
-        return diagnosis::NO_SLOT;
+    Refusal {
+        number,
+        image: 0,
+        at: NOWHERE,
     }
-    if 30 < number {
-        return diagnosis::NO_SLOT;
+}
+
+// The same refusal, naming an image.
+pub fn naming(image: u8, c: Refusal) -> Refusal
+    ensures { λ r. ⌜ r ≡ naming image c ⌝ }
+{
+    Refusal {
+        number: c.number,
+        image,
+        at: c.at,
     }
-    diagnosis::check(image, g).slot
+}
+
+// The refusal of a call whose number is `number`, on a disk whose check answered `checked`: what the check found is handed on.
+pub fn carried(checked: Refusal, number: u8) -> Refusal
+    ensures { λ r. ⌜ r ≡ carried checked number ⌝ }
+{
+    if number == checked.number {
+        return checked;
+    }
+    unplaced(number)
 }
 
 // 12 for what is lent too short, after 1 and the faults.
-pub fn short_number(image: &[u8], g: Geometry, fault_slot: &mut usize) -> u8
-    ensures { λ r. ⌜ (r ≡ tooShort g (now (image .entry))) × (now («fault_slot» .exit) ≡ faultSlot r g (now (image .entry))) ⌝ }
+pub fn short(checked: Refusal) -> Refusal
+    ensures { λ r. ⌜ r ≡ short checked ⌝ }
 {
-    let number = diagnosis::checked(image, g);
-    *fault_slot = slot_of(image, g, number);
-    if number != 0 {
-        return number;
-    }
-    12
-}
-
-// The slot that goes out beside compare's number: of the image that the refusal names.
-pub fn compared_slot(
-    first: &[u8],
-    g: Geometry,
-    second: &[u8],
-    h: Geometry,
-    image: usize,
-    number: u8,
-) -> usize
-    ensures { λ r. ⌜ r ≡ comparedSlot image number g (now (first .entry)) h (now (second .entry)) ⌝ }
-{
-    if image == 2 {
-        return slot_of(second, h, number);
-    }
-    slot_of(first, g, number)
-}
-
-// The same for compare, after 1 and the faults of both images. `image` is the one that the refusal names, 0 where it names neither.
-pub fn short_of_two(
-    first: &[u8],
-    g: Geometry,
-    second: &[u8],
-    h: Geometry,
-    image: &mut usize,
-    fault_slot: &mut usize,
-) -> u8
-    ensures { λ r. ⌜ ((r, now (image .exit)) ≡ shortOfTwo (check g (now (first .entry))) (check h (now (second .entry)))) × (now («fault_slot» .exit) ≡ comparedSlot (now (image .exit)) r g (now (first .entry)) h (now (second .entry))) ⌝ }
-{
-    let checked = diagnosis::checked(first, g);
-    if checked != 0 {
-        *image = 1;
-        *fault_slot = slot_of(first, g, checked);
+    if checked.number != 0 {
         return checked;
     }
-    let checked2 = diagnosis::checked(second, h);
-    if checked2 != 0 {
-        *image = 2;
-        *fault_slot = slot_of(second, h, checked2);
-        return checked2;
+    unplaced(12)
+}
+
+// The same for compare, after 1 and the faults of both images: 12 names neither.
+pub fn short_of_two(checked: Refusal, checked2: Refusal) -> Refusal
+    ensures { λ r. ⌜ r ≡ shortOfTwo checked checked2 ⌝ }
+{
+    if checked.number != 0 {
+        return naming(1, checked);
     }
-    *image = 0;
-    *fault_slot = diagnosis::NO_SLOT;
-    12
+    if checked2.number != 0 {
+        return naming(2, checked2);
+    }
+    unplaced(12)
 }

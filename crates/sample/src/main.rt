@@ -50,21 +50,21 @@ fn write_at(image: &mut [u8; 40960], h: Handle, at: usize, record: &[u8; 256]) -
     let mut there = h;
     there.at = at;
     let a = calls::write_record(image, disk(), Mode::Sequential, there, record);
-    accepted(a.number)
+    accepted(a.refusal.number)
 }
 
 // PULS01/DAT: 257 bytes, a record of 256 and, opened anew, one of a byte.
 fn make_pulses(image: &mut [u8; 40960]) -> bool {
     let record = [0x55u8; 256];
     let c = calls::create(image, disk(), b"PULS01  DAT", new_file(256), true);
-    if !accepted(c.number) {
+    if !accepted(c.refusal.number) {
         return false;
     }
     if !write_at(image, c.handle, 0, &record) {
         return false;
     }
     let a = calls::open_file(image, disk(), b"PULS01  DAT", 1, true, 0);
-    if !accepted(a.number) {
+    if !accepted(a.refusal.number) {
         return false;
     }
     write_at(image, a.handle, 256, &record)
@@ -73,7 +73,7 @@ fn make_pulses(image: &mut [u8; 40960]) -> bool {
 // LEER: no byte.
 fn make_empty(image: &mut [u8; 40960]) -> bool {
     let c = calls::create(image, disk(), b"LEER       ", new_file(256), true);
-    accepted(c.number)
+    accepted(c.refusal.number)
 }
 
 // The first n bytes of a text.
@@ -92,7 +92,7 @@ fn show_count(files: usize) {
 // The line of one file.
 fn show_file(image: &[u8; 40960], number: usize) -> bool {
     let f = calls::list(image, disk(), number);
-    if !accepted(f.number) {
+    if !accepted(f.refusal.number) {
         return false;
     }
     let mut text = [0u8; 55];
@@ -122,7 +122,7 @@ fn show_free(free: usize) {
 // The whole listing.
 fn show(image: &[u8; 40960]) {
     let c = calls::counts(image, disk());
-    if !accepted(c.number) {
+    if !accepted(c.refusal.number) {
         return;
     }
     show_count(c.files);

@@ -17,6 +17,7 @@ use Rattle.meaning.specs.FreeSpace.{freeSpace}
 use Rattle.meaning.specs.Calls.{Call, number, leaves}
 use Rattle.meaning.specs.declared.Geometry.{Geometry}
 use Rattle.meaning.specs.declared.Handle.{Handle}
+use Rattle.meaning.specs.declared.Refusal.{Refusal}
 use Rattle.meaning.specs.declared.LookedUp.{LookedUp}
 use Rattle.meaning.specs.declared.Answer.{Answer}
 use Rattle.meaning.specs.declared.Created.{Created}
@@ -26,9 +27,9 @@ use Rattle.meaning.specs.declared.Counts.{Counts}
 use Rattle.meaning.specs.declared.Space.{Space}
 use Rattle.meaning.specs.Calls.Call.{checks, looksUp, opens, creates, reads, readsSector, writes, allots, trims, kills, lists, counts, measures}
 
--- what a call hands back, whole: its number, and with it slot and count, handle, "old", the part, the file told, the counts, the free space
+-- what a call hands back, whole: its refusal, number and slot of the fault, and with it slot and count, handle, "old", the part, the file told, the counts, the free space
 pub data Answers : Type 0 where
-  checked : ℕ → Answers
+  checked : Refusal → Answers
   looked : LookedUp → Answers
   answered : Answer → Answers
   created : Created → Answers

@@ -66,7 +66,7 @@ still g n d s (kills i) h t e q = absurd (Quiet.kill-never g d n (handleAt (s .h
 
 -- The same call on two disks that agree on its file's region ------------------------------------------------------------------
 
-open-handle : (g : Geometry) (d : List ℕ) (n : Name) (len : ℕ) (checking : Bool) (code : ℕ) → open′ g d n len checking code .number ≡ 0
+open-handle : (g : Geometry) (d : List ℕ) (n : Name) (len : ℕ) (checking : Bool) (code : ℕ) → open′ g d n len checking code .refusal .number ≡ 0
     → (open′ g d n len checking code .handle ≡ openedAt g d (firstOr 0 (named g d n)) n len checking code) × (T (missing g d n) → ⊥)
 unfolding open′
 open-handle g d n len checking code e =
@@ -76,11 +76,11 @@ open-handle g d n len checking code e =
     let p₅ = Passed.passed 4 _ _ (omega arith) (p₄ .1) in
     (rw e refl, p₅ .0)
 
-read-handle : (g : Geometry) (d : List ℕ) (h : Handle) (b : List ℕ) → readRecord g d h b .0 .number ≡ 0 → readRecord g d h b .0 .handle ≡ movedTo h (h .at + h .len)
+read-handle : (g : Geometry) (d : List ℕ) (h : Handle) (b : List ℕ) → readRecord g d h b .0 .refusal .number ≡ 0 → readRecord g d h b .0 .handle ≡ movedTo h (h .at + h .len)
 unfolding readRecord
 read-handle g d h b e = rw e
 
-write-handle : (g : Geometry) (d : List ℕ) (m : Mode) (h : Handle) (b : List ℕ) → writeRecord g d m h b .0 .number ≡ 0 → writeRecord g d m h b .0 .handle ≡ movedTo h (h .at + h .len)
+write-handle : (g : Geometry) (d : List ℕ) (m : Mode) (h : Handle) (b : List ℕ) → writeRecord g d m h b .0 .refusal .number ≡ 0 → writeRecord g d m h b .0 .handle ≡ movedTo h (h .at + h .len)
 unfolding writeRecord
 write-handle g d m h b e = rw e
 

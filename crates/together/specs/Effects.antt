@@ -151,11 +151,11 @@ module _ (g : Geometry) (n : Name) (d : List ℕ) (hs : List Handle) (k : Good g
   stands-same : (m : Name) → m ≢ n → stands g d m ≡ stands g d m
   stands-same m q = refl
 
-  look-effect : lookUp g d n .number ≡ 0 → Effect g n d hs looksUp d hs
+  look-effect : lookUp g d n .refusal .number ≡ 0 → Effect g n d hs looksUp d hs
   unfolding effect
   look-effect e = record { good = k; held = held; file = refl; grips = refl; spares = stands-same }
 
-  open-effect : (len : ℕ) (checking : Bool) (code : ℕ) → open′ g d n len checking code .number ≡ 0
+  open-effect : (len : ℕ) (checking : Bool) (code : ℕ) → open′ g d n len checking code .refusal .number ≡ 0
       → Effect g n d hs (opens len checking code) d (hs ++ (open′ g d n len checking code .handle ∷ []))
   unfolding effect open′
   open-effect len checking code e =
@@ -185,7 +185,7 @@ module _ (g : Geometry) (n : Name) (d : List ℕ) (hs : List Handle) (k : Good g
       ≡ set (map grip hs) i (atPlace (getD (map grip hs) i (grip noHandle)) (getD (map grip hs) i (grip noHandle) .at + getD (map grip hs) i (grip noHandle) .len))
   moved i = map-set hs i _ ∙ ap (λ (x : Grip). set (map grip hs) i (atPlace x (x .at + x .len))) (sym (grip-at i))
 
-  read-effect : (i : ℕ) (b : List ℕ) → T (ltb i (length hs)) → readRecord g d (handleAt hs i) b .0 .number ≡ 0
+  read-effect : (i : ℕ) (b : List ℕ) → T (ltb i (length hs)) → readRecord g d (handleAt hs i) b .0 .refusal .number ≡ 0
       → Effect g n d hs (reads i b) d (set hs i (readRecord g d (handleAt hs i) b .0 .handle))
   unfolding effect readRecord
   read-effect i b t e = rw e (record {
@@ -200,7 +200,7 @@ module _ (g : Geometry) (n : Name) (d : List ℕ) (hs : List Handle) (k : Good g
   unfolding effect
   sector-effect i j = record { good = k; held = held; file = refl; grips = refl; spares = stands-same }
 
-  write-effect : (m : Mode) (i : ℕ) (b : List ℕ) → T (ltb i (length hs)) → writeRecord g d m (handleAt hs i) b .0 .number ≡ 0
+  write-effect : (m : Mode) (i : ℕ) (b : List ℕ) → T (ltb i (length hs)) → writeRecord g d m (handleAt hs i) b .0 .refusal .number ≡ 0
       → Effect g n d hs (writes m i b) (writeRecord g d m (handleAt hs i) b .1) (set hs i (writeRecord g d m (handleAt hs i) b .0 .handle))
   unfolding effect
   write-effect m i b t e =
@@ -224,7 +224,7 @@ module _ (g : Geometry) (n : Name) (d : List ℕ) (hs : List Handle) (k : Good g
           ≡ set (map grip hs) i (atPlace (getD (map grip hs) i (grip noHandle)) (getD (map grip hs) i (grip noHandle) .at + getD (map grip hs) i (grip noHandle) .len))
       handle-moved = unfold writeRecord in rw e (moved i)
 
-  allot-effect : (i j : ℕ) → T (ltb i (length hs)) → allot g d (handleAt hs i) j .0 .number ≡ 0
+  allot-effect : (i j : ℕ) → T (ltb i (length hs)) → allot g d (handleAt hs i) j .0 .refusal .number ≡ 0
       → Effect g n d hs (allots i j) (allot g d (handleAt hs i) j .1) hs
   unfolding effect
   allot-effect i j t e =
@@ -241,7 +241,7 @@ module _ (g : Geometry) (n : Name) (d : List ℕ) (hs : List Handle) (k : Good g
         spares = stands-others g d n h w q d′ (x .others);
       }
 
-  trim-effect : (i : ℕ) → T (ltb i (length hs)) → trim g d (handleAt hs i) .0 .number ≡ 0
+  trim-effect : (i : ℕ) → T (ltb i (length hs)) → trim g d (handleAt hs i) .0 .refusal .number ≡ 0
       → Effect g n d hs (trims i) (trim g d (handleAt hs i) .1) hs
   unfolding effect
   trim-effect i t e =
@@ -258,7 +258,7 @@ module _ (g : Geometry) (n : Name) (d : List ℕ) (hs : List Handle) (k : Good g
         spares = stands-others g d n h w q d′ (x .others);
       }
 
-  kill-effect : (i : ℕ) → T (ltb i (length hs)) → kill g d (handleAt hs i) .0 .number ≡ 0
+  kill-effect : (i : ℕ) → T (ltb i (length hs)) → kill g d (handleAt hs i) .0 .refusal .number ≡ 0
       → Effect g n d hs (kills i) (kill g d (handleAt hs i) .1) hs
   unfolding effect
   kill-effect i t e =
@@ -275,7 +275,7 @@ module _ (g : Geometry) (n : Name) (d : List ℕ) (hs : List Handle) (k : Good g
         spares = stands-others g d n h w q d′ (x .others);
       }
 
-  create-old : (f : NewFile) (checking : Bool) → create g d n f checking .0 .number ≡ 0 → (T (missing g d n) → ⊥)
+  create-old : (f : NewFile) (checking : Bool) → create g d n f checking .0 .refusal .number ≡ 0 → (T (missing g d n) → ⊥)
       → Effect g n d hs (creates f checking) (create g d n f checking .1) (hs ++ (create g d n f checking .0 .handle ∷ []))
   unfolding create effect
   create-old f checking e t = rw (e, Members.no-false {b = missing g d n} t) (record {
@@ -286,7 +286,7 @@ module _ (g : Geometry) (n : Name) (d : List ℕ) (hs : List Handle) (k : Good g
     spares = stands-same;
   })
 
-  new-handle : (f : NewFile) (checking : Bool) → create g d n f checking .0 .number ≡ 0 → T (missing g d n)
+  new-handle : (f : NewFile) (checking : Bool) → create g d n f checking .0 .refusal .number ≡ 0 → T (missing g d n)
       → (create g d n f checking .0 .old ≡ false) × (create g d n f checking .0 .handle ≡ record { slot = firstOr 0 (freeSlots g d); name = n; at = 0; len = f .len; level = 0 })
   unfolding create
   new-handle f checking e t = rw (e, Members.T-true {b = missing g d n} t) (refl, refl)
@@ -298,7 +298,7 @@ module _ (g : Geometry) (n : Name) (d : List ℕ) (hs : List Handle) (k : Good g
       told : stands g d′ n ≡ hush (found (bornAs f))
       told = unfold stands in ap hush e
 
-  create-new : (f : NewFile) (checking : Bool) → create g d n f checking .0 .number ≡ 0 → T (missing g d n)
+  create-new : (f : NewFile) (checking : Bool) → create g d n f checking .0 .refusal .number ≡ 0 → T (missing g d n)
       → Effect g n d hs (creates f checking) (create g d n f checking .1) (hs ++ (create g d n f checking .0 .handle ∷ []))
   unfolding effect stands
   create-new f checking e t =
@@ -314,7 +314,7 @@ module _ (g : Geometry) (n : Name) (d : List ℕ) (hs : List Handle) (k : Good g
         spares = x .others;
       }
 
-  create-effect : (f : NewFile) (checking : Bool) → create g d n f checking .0 .number ≡ 0
+  create-effect : (f : NewFile) (checking : Bool) → create g d n f checking .0 .refusal .number ≡ 0
       → Effect g n d hs (creates f checking) (create g d n f checking .1) (hs ++ (create g d n f checking .0 .handle ∷ []))
   create-effect f checking e = go (Members.decide (missing g d n))
     where

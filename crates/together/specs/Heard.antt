@@ -65,7 +65,7 @@ module _ (g : Geometry) (n : Name) (d : List ℕ) (s : Side) (held : Held n (s .
   abbrev hs : List Handle
   hs = s .handles
 
-  read-kept : (i : ℕ) (b : List ℕ) → T (ltb i (length hs)) → readRecord g d (handleAt hs i) b .0 .number ≡ 0
+  read-kept : (i : ℕ) (b : List ℕ) → T (ltb i (length hs)) → readRecord g d (handleAt hs i) b .0 .refusal .number ≡ 0
       → kept (plain g d n) (readRecord g d (handleAt hs i) b .1) ≡ partOf (recordOf (getD (map grip hs) i (grip noHandle)) b) (stands g d n)
   unfolding stands
   read-kept i b t e =
@@ -75,7 +75,7 @@ module _ (g : Geometry) (n : Name) (d : List ℕ) (s : Side) (held : Held n (s .
       ∙ part-kept (recordOf (grip (handleAt hs i)) b) (r .file) (readRecord g d (handleAt hs i) b .1) (r .buffer)
       ∙ ap₂ (λ (k : Grip) (x : Found). partOf (recordOf k b) (hush x)) (sym (List·getD-map grip hs i noHandle)) (sym c)
 
-  sector-kept : AreBytes d → (i k : ℕ) → T (ltb i (length hs)) → readSector g d (handleAt hs i) k .number ≡ 0
+  sector-kept : AreBytes d → (i k : ℕ) → T (ltb i (length hs)) → readSector g d (handleAt hs i) k .refusal .number ≡ 0
       → kept (plain g d n) (slice (readSector g d (handleAt hs i) k .from) (readSector g d (handleAt hs i) k .to) d) ≡ partOf (sectorOf k) (stands g d n)
   unfolding stands
   sector-kept u i k t e =

@@ -120,14 +120,14 @@ module _ (g : Geometry) (d : List ℕ) (n : Name) (h : Handle) (e : h .name ≡ 
   same-granules d′ f w q o =
       let z : suc (f .granules) ≡ suc (length (owned g d (h .slot))) = sym (ap tally (ap (plain g d′) (sym (w .name′ ∙ e)) ∙ o)) ∙ q ∙ ap tally (here w) in omega arith
 
-  pub kill-never : kill g d h .0 .number ≡ 0 → Even g n d (kill g d h .1) → ⊥
+  pub kill-never : kill g d h .0 .refusal .number ≡ 0 → Even g n d (kill g d h .1) → ⊥
   unfolding tally
   kill-never t q =
       let x = KillMeans.kill-means g d h t in
       let w : Holds g d h = unfold kill in (Passed.holds g d h _ 1 [] t .0) in
       let z : 0 ≡ suc (fileAt g d (h .slot) .granules) = sym (ap tally (ap (plain g (kill g d h .1)) (sym (w .name′ ∙ e)) ∙ x .gone)) ∙ q ∙ ap tally (here w) in omega arith
 
-  pub allot-still : (k : ℕ) → allot g d h k .0 .number ≡ 0 → Even g n d (allot g d h k .1) → allot g d h k .1 ≡ d
+  pub allot-still : (k : ℕ) → allot g d h k .0 .refusal .number ≡ 0 → Even g n d (allot g d h k .1) → allot g d h k .1 ≡ d
   allot-still k t q =
       let x = Grow.allot-means g d h k t in
       let w : Holds g d h = unfold allot in (Passed.holds g d h _ 4 _ t .0) in
@@ -140,7 +140,7 @@ module _ (g : Geometry) (d : List ℕ) (n : Name) (h : Handle) (e : h .name ≡ 
       image : lacking g d (h .slot) (k / granuleSectors g + 1) ≡ 0 → allot g d h k .1 ≡ d
       image z = unfold allot growBy diskOr in rw t (ap (larger g d (h .slot)) z)
 
-  pub trim-still : trim g d h .0 .number ≡ 0 → Even g n d (trim g d h .1) → trim g d h .1 ≡ d
+  pub trim-still : trim g d h .0 .refusal .number ≡ 0 → Even g n d (trim g d h .1) → trim g d h .1 ≡ d
   trim-still t q =
       let x = Trim.trim-means g d h t in
       let w : Holds g d h = unfold trim in (Passed.holds g d h _ 4 [] t .0) in
@@ -173,7 +173,7 @@ pub record QuietWrite (g : Geometry) (d : List ℕ) (m : Mode) (h : Handle) (b d
   pub len : length (take (h .len) b) ≡ h .len
   pub fit : sizeAfter m (sizeOf g d (h .slot)) (h .at + h .len) ≤ granuleBytes g * length (owned g d (h .slot))
 
-pub write-quiet : (g : Geometry) (d : List ℕ) (n : Name) (m : Mode) (h : Handle) (b : List ℕ) → h .name ≡ n → writeRecord g d m h b .0 .number ≡ 0 → Even g n d (writeRecord g d m h b .1)
+pub write-quiet : (g : Geometry) (d : List ℕ) (n : Name) (m : Mode) (h : Handle) (b : List ℕ) → h .name ≡ n → writeRecord g d m h b .0 .refusal .number ≡ 0 → Even g n d (writeRecord g d m h b .1)
     → QuietWrite g d m h b (writeRecord g d m h b .1)
 write-quiet g d n m h b e t q =
     let x = WriteMeans.write-wrote g d m h b t in
@@ -185,7 +185,7 @@ write-quiet g d n m h b e t q =
     subst (λ (y : ℕ). max (length (owned g d p)) (granulesFor g (sizeAfter m (sizeOf g d p) (h .at + y))) ≡ length (owned g d p)) l k in
     record { holds = x .0; image = still (omega arith); len = l; fit = Sizes.round-fits (Sizes.bytes-pos g) _ _ (omega arith) }
   where
-    length-b : writeRecord g d m h b .0 .number ≡ 0 → length (take (h .len) b) ≡ h .len
+    length-b : writeRecord g d m h b .0 .refusal .number ≡ 0 → length (take (h .len) b) ≡ h .len
     length-b t = unfold writeRecord all in (
         let p₂ = Passed.disk-passed g d _ t in
         let p₃ = Passed.passed 12 _ _ (omega arith) (p₂ .1) in
@@ -216,7 +216,7 @@ pub record QuietCreate (g : Geometry) (d : List ℕ) (n : Name) (f : NewFile) (c
   pub handle : create g d n f checking .0 .handle ≡ openedAt g d (firstOr 0 (named g d n)) n (f .len) checking (f .main)
   pub old : T (missing g d n) → ⊥
 
-pub create-quiet : (g : Geometry) (d : List ℕ) (n : Name) (f : NewFile) (checking : Bool) → create g d n f checking .0 .number ≡ 0 → Even g n d (create g d n f checking .1) → QuietCreate g d n f checking
+pub create-quiet : (g : Geometry) (d : List ℕ) (n : Name) (f : NewFile) (checking : Bool) → create g d n f checking .0 .refusal .number ≡ 0 → Even g n d (create g d n f checking .1) → QuietCreate g d n f checking
 create-quiet g d n f checking e q = go (Members.decide (missing g d n))
   where
     told-old : T (missing g d n) → create g d n f checking .0 .old ≡ false

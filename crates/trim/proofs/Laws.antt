@@ -16,11 +16,12 @@ use Rattle.meaning.specs.Entries.{extension, runs, runStart, runLength, sizeOf,
 use Rattle.meaning.specs.Chain.{owned}
 use Rattle.meaning.specs.Growth.{tail}
 use Rattle.meaning.specs.Drop.{unhooked, dropOne}
-use Rattle.meaning.specs.Refusals.{first, inRange, handleRefusals, protected}
+use Rattle.meaning.specs.Refusals.{first, refusal, inRange, handleRefusals, protected}
 use Rattle.meaning.specs.Trim.{trimRefusals, trim}
 use Rattle.meaning.specs.declared.Geometry.{Geometry}
 use Rattle.meaning.specs.declared.Handle.{Handle}
 use Rattle.meaning.specs.declared.Answer.{Answer}
+use Rattle.meaning.specs.declared.Refusal.{Refusal}
 use Rattle.laws.specs.Members
 use Rattle.laws.specs.Entry.{runs-le}
 use Rattle.laws.specs.Shorter
@@ -184,17 +185,18 @@ module _ (g : Geometry) (d : List ℕ) (h : Handle) where
       let f = w .0 .size (h .slot) (w .1 .slot) (r .first) in
       record { ready = r; last = q; room = omega (arith, Sizes.surplus-fits (Sizes.bytes-pos g) _ _ f, ap₂ (λ (x y : ℕ). granuleBytes g * (x - y)) a (c ∙ ap (granulesFor g) b)) }
 
-  pub refused : {n : ℕ} → n ≡ first (trimRefusals g d h) → (n ≡ 0 → ⊥) → _≡_ {A = Answer × List ℕ} (record { number = n; handle = h }, d) (trim g d h)
+  pub refused : {n : ℕ} {c : Refusal} → c ≡ refusal g d n → n ≡ first (trimRefusals g d h) → (n ≡ 0 → ⊥)
+      → _≡_ {A = Answer × List ℕ} (record { refusal = c; handle = h }, d) (trim g d h)
   unfolding trim
-  refused {n} e z = rw (← e, ne-eqb n 0 z)
+  refused {n} y e z = rw (← e, ne-eqb n 0 z, y)
 
-  pub kept : {n x : ℕ} → n ≡ first (trimRefusals g d h) → n ≡ 0 → x ≡ field g d (h .slot) 1 → x / 2 ^ 7 % 2 ≡ 1
-      → _≡_ {A = Answer × List ℕ} (record { number = 0; handle = h }, d) (trim g d h)
+  pub kept : {n x : ℕ} {c : Refusal} → c ≡ refusal g d 0 → n ≡ first (trimRefusals g d h) → n ≡ 0 → x ≡ field g d (h .slot) 1 → x / 2 ^ 7 % 2 ≡ 1
+      → _≡_ {A = Answer × List ℕ} (record { refusal = c; handle = h }, d) (trim g d h)
   unfolding trim
-  kept e z q f = rw (← e, z, bit-yes 7 q f)
+  kept y e z q f = rw (← e, z, bit-yes 7 q f, y)
 
-  pub trimmed : {n x m size k : ℕ} {d′ : List ℕ} → n ≡ first (trimRefusals g d h) → n ≡ 0 → x ≡ field g d (h .slot) 1 → (x / 2 ^ 7 % 2 ≡ 1 → ⊥)
+  pub trimmed : {n x m size k : ℕ} {d′ : List ℕ} {c : Refusal} → c ≡ refusal g d 0 → n ≡ first (trimRefusals g d h) → n ≡ 0 → x ≡ field g d (h .slot) 1 → (x / 2 ^ 7 % 2 ≡ 1 → ⊥)
       → m ≡ length (owned g d (h .slot)) → size ≡ sizeOf g d (h .slot) → k ≡ granulesFor g size → d′ ≡ times (m - k) (dropOne g (h .slot)) d
-      → _≡_ {A = Answer × List ℕ} (record { number = 0; handle = h }, d′) (trim g d h)
+      → _≡_ {A = Answer × List ℕ} (record { refusal = c; handle = h }, d′) (trim g d h)
   unfolding trim
-  trimmed e z q f a b c w = rw (← e, z, bit-no 7 q f, w, a, c, b)
+  trimmed y e z q f a b c w = rw (← e, z, bit-no 7 q f, w, a, c, b, y)

@@ -2,6 +2,7 @@
 use meaning::Answer;
 use meaning::Geometry;
 use meaning::Handle;
+use meaning::Refusal;
 ghost use mathlib.Core.Path.{_≡_};
 ghost use Prim.Native.Nat.{_+_, _-_, _*_, _/_, _<_, _≤_};
 ghost use lib.ListN.{length};
@@ -98,19 +99,22 @@ fn drop_last(image: &mut [u8], g: Geometry, p: usize, e: usize, n: usize)
 }
 
 // Trim of a disk whose check answered `checked`.
-pub fn trim_checked(image: &mut [u8], g: Geometry, h: Handle, checked: u8) -> Answer
+pub fn trim_checked(image: &mut [u8], g: Geometry, h: Handle, checked: Refusal) -> Answer
     requires { ⌜ checked ≡ check g (now image) ⌝ }
     ensures { λ r. ⌜ (r, now (image .exit)) ≡ trim g (now (image .entry)) h ⌝ }
 {
     let ranged = handle::in_range(g, h);
     let number = handle::changing_number(image, g, h, ranged, 4, checked);
     if number != 0 {
-        return Answer { number, handle: h };
+        return Answer {
+            refusal: refusal::carried(checked, number),
+            handle: h,
+        };
     }
     let keeps = layout::field(image, g, h.slot, 1);
     if (keeps >> 7) % 2 == 1 {
         return Answer {
-            number: 0,
+            refusal: refusal::carried(checked, 0),
             handle: h,
         };
     }
@@ -119,7 +123,7 @@ pub fn trim_checked(image: &mut [u8], g: Geometry, h: Handle, checked: u8) -> An
     let extent = extent::measure(image, g, h.slot);
     drop_last(image, g, h.slot, extent.last, extent.owned - needed);
     Answer {
-        number: 0,
+        refusal: refusal::carried(checked, 0),
         handle: h,
     }
 }

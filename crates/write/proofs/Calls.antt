@@ -13,11 +13,12 @@ use Rattle.meaning.specs.Layout.{highest, granulesFor, entryAt, granuleBytes}
 use Rattle.meaning.specs.Sizes
 use Rattle.meaning.specs.Entries.{sizeOf}
 use Rattle.meaning.specs.Chain.{owned, place}
-use Rattle.meaning.specs.Refusals.{first, accepted, inRange, movedTo, handleRefusals, protected, cannotGrow, larger, lacking}
+use Rattle.meaning.specs.Refusals.{first, accepted, refusal, inRange, movedTo, handleRefusals, protected, cannotGrow, larger, lacking}
 use Rattle.meaning.specs.Write.{store, sizeAfter, withSize, toWrite, writeRefusals, writeRecord}
 use Rattle.meaning.specs.declared.Geometry.{Geometry}
 use Rattle.meaning.specs.declared.Handle.{Handle}
 use Rattle.meaning.specs.declared.Answer.{Answer}
+use Rattle.meaning.specs.declared.Refusal.{Refusal}
 use Rattle.meaning.specs.declared.Mode.{Mode}
 use Rattle.meaning.specs.declared.Mode.the-variants.{Sequential, Random}
 use Rattle.laws.specs.Steps.{Ready}
@@ -78,25 +79,25 @@ module _ (g : Geometry) (d : List ℕ) (m : Mode) (h : Handle) (b : List ℕ) {r
       f ∙ sym (handle-then g d h ranged (protected g d 4 h ∷ []) (cannotGrow g d (h .slot) (toWrite g d m h)) refl e z)
       ∙ ap (λ (t : Bool). first (handleRefusals g d h t (protected g d 4 h ∷ cannotGrow g d (h .slot) (toWrite g d m h)))) r
 
-  pub refused : {n : ℕ} → n ≡ first (handleRefusals g d h ranged (protected g d 4 h ∷ [])) → (n ≡ 0 → ⊥) → _≡_ {A = Answer × List ℕ} (record { number = n; handle = h }, d) (writeRecord g d m h b)
+  pub refused : {n : ℕ} {c : Refusal} → c ≡ refusal g d n → n ≡ first (handleRefusals g d h ranged (protected g d 4 h ∷ [])) → (n ≡ 0 → ⊥) → _≡_ {A = Answer × List ℕ} (record { refusal = c; handle = h }, d) (writeRecord g d m h b)
   unfolding writeRecord
-  refused {n} e z = rw (← by-handle e z, ne-eqb n 0 z)
+  refused {n} x e z = rw (← by-handle e z, ne-eqb n 0 z, x)
 
-  pub not-grown : {n k : ℕ} {d′ : List ℕ} → n ≡ first (handleRefusals g d h ranged (protected g d 4 h ∷ [])) → n ≡ 0 → k ≡ first (cannotGrow g d (h .slot) (toWrite g d m h))
-      → (k ≡ 0 → ⊥) → d′ ≡ cond (accepted k) (larger g d (h .slot) (toWrite g d m h)) d → _≡_ {A = Answer × List ℕ} (record { number = k; handle = h }, d′) (writeRecord g d m h b)
+  pub not-grown : {n k : ℕ} {d′ : List ℕ} {c : Refusal} → c ≡ refusal g d k → n ≡ first (handleRefusals g d h ranged (protected g d 4 h ∷ [])) → n ≡ 0 → k ≡ first (cannotGrow g d (h .slot) (toWrite g d m h))
+      → (k ≡ 0 → ⊥) → d′ ≡ cond (accepted k) (larger g d (h .slot) (toWrite g d m h)) d → _≡_ {A = Answer × List ℕ} (record { refusal = c; handle = h }, d′) (writeRecord g d m h b)
   unfolding writeRecord
-  not-grown {n} {k} e z f y q = rw (← by-growth e z f, q, ne-eqb k 0 y)
+  not-grown {n} {k} x e z f y q = rw (← by-growth e z f, q, ne-eqb k 0 y, x)
 
-  pub written : {n k old size : ℕ} {d₁ d₃ d₄ : List ℕ} → old ≡ sizeOf g d (h .slot) → n ≡ first (handleRefusals g d h ranged (protected g d 4 h ∷ [])) → n ≡ 0 → k ≡ first (cannotGrow g d (h .slot) (toWrite g d m h)) → k ≡ 0
+  pub written : {n k old size : ℕ} {d₁ d₃ d₄ : List ℕ} {c : Refusal} → c ≡ refusal g d 0 → old ≡ sizeOf g d (h .slot) → n ≡ first (handleRefusals g d h ranged (protected g d 4 h ∷ [])) → n ≡ 0 → k ≡ first (cannotGrow g d (h .slot) (toWrite g d m h)) → k ≡ 0
       → d₁ ≡ cond (accepted k) (larger g d (h .slot) (toWrite g d m h)) d → size ≡ sizeAfter m (sizeOf g d (h .slot)) (h .at + h .len)
       → d₃ ≡ store (place g d₁ (h .slot)) (store (place g d₁ (h .slot)) d₁ old (replicate (h .at - old) 0)) (h .at) (take (h .len) b)
       → d₄ ≡ withSize g d d₃ (h .slot) size
-      → _≡_ {A = Answer × List ℕ} (record { number = 0; handle = movedTo h (h .at + h .len) }, d₄) (writeRecord g d m h b)
+      → _≡_ {A = Answer × List ℕ} (record { refusal = c; handle = movedTo h (h .at + h .len) }, d₄) (writeRecord g d m h b)
   unfolding writeRecord
-  written {n} {k} {old} {size} {d₁} {d₃} {d₄} o e z f y q s w v =
+  written {n} {k} {old} {size} {d₁} {d₃} {d₄} t o e z f y q s w v =
       let x : d₁ ≡ larger g d (h .slot) (toWrite g d m h) = q ∙ ap (λ (j : ℕ). cond (accepted j) (larger g d (h .slot) (toWrite g d m h)) d) y in
       let u : 0 ≡ first (writeRefusals g d m h (length b)) = sym y ∙ by-growth e z f in
-      rw (← u, v, w, o, s, x)
+      rw (← u, v, w, o, s, x, t)
 
   -- the size, the growth's number and image in the words of the call
   pub size-is : {old size : ℕ} → old ≡ sizeOf g d (h .slot) → size ≡ sizeAfter m old (h .at + h .len) → size ≡ sizeAfter m (sizeOf g d (h .slot)) (h .at + h .len)

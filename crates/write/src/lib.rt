@@ -3,6 +3,7 @@ use meaning::Answer;
 use meaning::Geometry;
 use meaning::Handle;
 use meaning::Mode;
+use meaning::Refusal;
 ghost use mathlib.Core.Path.{_≡_};
 ghost use mathlib.Core.Bool.{cond};
 ghost use mathlib.Core.List.{[], _∷_};
@@ -134,7 +135,7 @@ pub fn write_checked(
     mode: Mode,
     h: Handle,
     buffer: &[u8],
-    checked: u8,
+    checked: Refusal,
 ) -> Answer
     requires { ⌜ checked ≡ check g (now image) ⌝ }
     ensures { λ r. ⌜ (r, now (image .exit)) ≡ writeRecord g (now (image .entry)) mode h (now (buffer .entry)) ⌝ }
@@ -143,7 +144,7 @@ pub fn write_checked(
     let refused = handle::changing_number(image, g, h, ranged, 4, checked);
     if refused != 0 {
         return Answer {
-            number: refused,
+            refusal: refusal::carried(checked, refused),
             handle: h,
         };
     }
@@ -152,14 +153,17 @@ pub fn write_checked(
     let size = size_after(mode, old, end);
     let number = grow_to(image, g, h.slot, old, size);
     if number != 0 {
-        return Answer { number, handle: h };
+        return Answer {
+            refusal: refusal::carried(checked, number),
+            handle: h,
+        };
     }
     put_record(image, g, h.slot, old, h.at, buffer, h.len);
     put_size(image, g, h.slot, size);
     let mut moved = h;
     moved.at = end;
     Answer {
-        number: 0,
+        refusal: refusal::carried(checked, 0),
         handle: moved,
     }
 }

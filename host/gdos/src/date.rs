@@ -13,6 +13,14 @@ pub fn parse(typed: &str) -> Option<Date> {
     (parts.next().is_none() && date.year >= Date::FIRST_YEAR).then_some(date)
 }
 
+/// Whether the directory could hold a date that the calendar does not have. Month and day 0 are a date that is not stated.
+pub fn is_no_day(date: Date) -> bool {
+    let Date { year, month, day } = date;
+    let held = month <= 15 && day <= 31;
+    let stated = (month, day) != (0, 0);
+    held && stated && !((1..=12).contains(&month) && (1..=months(year)[month - 1]).contains(&day))
+}
+
 /// Today by the host's clock, in UTC.
 pub fn today() -> Date {
     let since = SystemTime::now().duration_since(UNIX_EPOCH).unwrap_or_default();
@@ -27,13 +35,18 @@ fn from_days(days: u64) -> Date {
         left -= 365 + leap(year);
         year += 1;
     }
-    let months = [31, 28 + leap(year), 31, 30, 31, 30, 31, 31, 30, 31, 30, 31];
+    let months = months(year);
     let mut month = 0;
     while left >= months[month] {
         left -= months[month];
         month += 1;
     }
     Date::new(year, month + 1, left + 1)
+}
+
+/// Days of each month.
+fn months(year: usize) -> [usize; 12] {
+    [31, 28 + leap(year), 31, 30, 31, 30, 31, 31, 30, 31, 30, 31]
 }
 
 fn leap(year: usize) -> usize {
@@ -60,6 +73,27 @@ mod tests {
             ["", "1983", "1983-10", "1983-10-09-1", "1979-12-31", "1983-+1-09", "09.10.1983", "1983--9", "x-1-1"]
         {
             assert_eq!(parse(wrong), None, "{wrong}");
+        }
+    }
+
+    #[test]
+    fn days_that_are_none() {
+        for (date, none) in [
+            ("1983-02-28", false),
+            ("1983-02-29", true),
+            ("1983-02-31", true),
+            ("1984-02-29", false),
+            ("1983-04-31", true),
+            ("1983-12-31", false),
+            ("1983-13-01", true),
+            ("1983-00-09", true),
+            ("1983-10-00", true),
+            ("1983-00-00", false),
+            // The directory cannot hold these: the library says so.
+            ("1983-16-01", false),
+            ("1983-10-32", false),
+        ] {
+            assert_eq!(is_no_day(parse(date).unwrap()), none, "{date}");
         }
     }
 

@@ -1,5 +1,6 @@
 //! What goes wrong, as people and programs are told it.
 
+use crate::fault;
 use crate::json::Json;
 use genie_dos::{Disk, Explained, Refusal};
 use std::fmt;
@@ -10,45 +11,79 @@ use std::path::Path;
 #[derive(Debug)]
 pub enum Failure {
     /// The library refused. Exit status 1.
-    Refused {
-        refusal: Refusal,
+    Refused(Box<Refused>),
+    /// The library refused the image under every geometry that could be its own, for not being consistent. Exit status 1.
+    NoGeometry {
         image: String,
-        file: Option<String>,
-        detail: Option<String>,
-        /// What is wrong with the disk and where, if it is not consistent.
+        detail: String,
+        /// The fault under the only known kind of disk that has the image's length.
         fault: Option<Box<Explained>>,
     },
-    /// The library refused the image under every geometry that could be its own, for not being consistent. Exit status 1.
-    NoGeometry { image: String, detail: String },
+    /// The geometry is to be stated. Exit status 2.
+    Unclear { message: String, ranking: Ranking },
     /// Wrong usage, or the host's files are not as they should be. Exit status 2.
     Wrong(String),
 }
 
-impl Failure {
-    /// The image as a whole was refused.
-    pub fn image(image: &str) -> impl Fn(Refusal) -> Failure + '_ {
-        move |refusal| Failure::Refused { refusal, image: image.to_string(), file: None, detail: None, fault: None }
-    }
+/// A refusal with all that is known about it.
+#[derive(Debug)]
+pub struct Refused {
+    refusal: Refusal,
+    image: String,
+    file: Option<String>,
+    detail: Option<String>,
+    /// What is wrong with the disk and where, if it is not consistent.
+    fault: Option<Explained>,
+    /// Where the geometry is from: for programs, and for people unless they stated it on the command line.
+    source: Option<(&'static str, Option<String>)>,
+    /// What the search found, if the geometry was searched.
+    ranking: Ranking,
+}
 
-    /// The disk as a whole was refused: what is wrong with it is told in words.
-    pub fn disk<'a, B: AsRef<[u8]>>(image: &'a str, disk: &'a Disk<B>) -> impl Fn(Refusal) -> Failure + 'a {
-        move |refusal| Failure::Refused {
+/// What a search found: lines for people, a list for programs.
+#[derive(Debug, Default)]
+pub struct Ranking {
+    pub lines: Vec<String>,
+    pub json: Vec<Json>,
+}
+
+impl Ranking {
+    fn members(&self) -> Option<(&'static str, Json)> {
+        (!self.json.is_empty()).then(|| ("ranking", Json::List(self.json.clone())))
+    }
+}
+
+impl Failure {
+    fn refused(refusal: Refusal, image: &str) -> Refused {
+        Refused {
             refusal,
             image: image.to_string(),
             file: None,
             detail: None,
-            fault: refusal.fault().map(|fault| Box::new(disk.explain(fault))),
+            fault: None,
+            source: None,
+            ranking: Ranking::default(),
+        }
+    }
+
+    /// The image as a whole was refused.
+    pub fn image(image: &str) -> impl Fn(Refusal) -> Failure + '_ {
+        move |refusal| Failure::Refused(Box::new(Failure::refused(refusal, image)))
+    }
+
+    /// The disk as a whole was refused: what is wrong with it is told in words.
+    pub fn disk<'a, B: AsRef<[u8]>>(image: &'a str, disk: &'a Disk<B>) -> impl Fn(Refusal) -> Failure + 'a {
+        move |refusal| {
+            let fault = refusal.fault().map(|fault| disk.explain(fault));
+            Failure::Refused(Box::new(Refused { fault, ..Failure::refused(refusal, image) }))
         }
     }
 
     /// A call on a file of the image was refused.
     pub fn file<'a>(image: &'a str, file: &'a str) -> impl Fn(Refusal) -> Failure + 'a {
-        move |refusal| Failure::Refused {
-            refusal,
-            image: image.to_string(),
-            file: Some(file.to_string()),
-            detail: None,
-            fault: None,
+        move |refusal| {
+            let file = Some(file.to_string());
+            Failure::Refused(Box::new(Refused { file, ..Failure::refused(refusal, image) }))
         }
     }
 
@@ -57,69 +92,87 @@ impl Failure {
         move |error| Failure::Wrong(format!("cannot {what} {}: {error}", path.display()))
     }
 
+    fn refused_with(mut self, change: impl FnOnce(&mut Refused)) -> Failure {
+        if let Failure::Refused(refused) = &mut self {
+            change(refused);
+        }
+        self
+    }
+
     /// Adds what the number alone does not tell.
     pub fn because(self, why: impl fmt::Display) -> Failure {
-        match self {
-            Failure::Refused { refusal, image, file, fault, .. } => {
-                Failure::Refused { refusal, image, file, detail: Some(why.to_string()), fault }
-            }
-            other => other,
-        }
+        self.refused_with(|refused| refused.detail = Some(why.to_string()))
+    }
+
+    /// Adds where the geometry is from, for programs and for people.
+    pub fn by(self, word: &'static str, told: Option<String>) -> Failure {
+        self.refused_with(|refused| refused.source = Some((word, told)))
+    }
+
+    /// Adds what the search found.
+    pub fn ranked(self, ranking: Ranking) -> Failure {
+        self.refused_with(|refused| refused.ranking = ranking)
+    }
+
+    /// The same without what the search found, for who tells that anyway.
+    pub fn brief(self) -> Failure {
+        self.ranked(Ranking::default())
     }
 
     /// The exit status that it leads to.
     pub fn status(&self) -> u8 {
         match self {
-            Failure::Refused { .. } | Failure::NoGeometry { .. } => 1,
-            Failure::Wrong(_) => 2,
+            Failure::Refused(_) | Failure::NoGeometry { .. } => 1,
+            Failure::Unclear { .. } | Failure::Wrong(_) => 2,
         }
     }
 
     /// For `--json`.
     pub fn json(&self) -> Json {
-        let refused = |number: Json, meaning: &str, image: &str, file: Option<&str>, detail: Option<&str>, fault| {
-            let members = [
-                ("number", number),
-                ("meaning", meaning.into()),
-                ("image", image.into()),
-                ("file", file.into()),
-                ("detail", detail.into()),
-                ("fault", fault),
-            ];
-            Json::object([("refused", Json::object(members))])
-        };
         match self {
-            Failure::Refused { refusal, image, file, detail, fault } => refused(
-                refusal.number().into(),
-                refusal.meaning(),
-                image,
-                file.as_deref(),
-                detail.as_deref(),
-                fault.as_deref().map(fault_json).into(),
-            ),
-            Failure::NoGeometry { image, detail } => {
-                refused(Json::Null, NOT_CONSISTENT, image, None, Some(detail), Json::Null)
+            Failure::Refused(refused) => refused.json(),
+            Failure::NoGeometry { image, detail, fault } => {
+                let number = fault.as_ref().map(|fault| fault.fault.kind.number());
+                let meaning =
+                    fault.as_ref().map_or(NOT_CONSISTENT, |fault| Refusal::Inconsistent(fault.fault).meaning());
+                let members = vec![
+                    ("number", number.into()),
+                    ("meaning", meaning.into()),
+                    ("image", image.as_str().into()),
+                    ("file", Json::Null),
+                    ("detail", detail.as_str().into()),
+                    ("fault", fault.as_deref().map(fault::json).into()),
+                ];
+                Json::object([("refused", Json::Object(members))])
+            }
+            Failure::Unclear { message, ranking } => {
+                let mut members = vec![("error", message.as_str().into())];
+                members.extend(ranking.members());
+                Json::Object(members)
             }
             Failure::Wrong(message) => Json::object([("error", message.as_str().into())]),
         }
     }
 }
 
+impl Refused {
+    fn json(&self) -> Json {
+        let mut members = vec![
+            ("number", self.refusal.number().into()),
+            ("meaning", self.refusal.meaning().into()),
+            ("image", self.image.as_str().into()),
+            ("file", self.file.as_deref().into()),
+            ("detail", self.detail.as_deref().into()),
+            ("fault", self.fault.as_ref().map(fault::json).into()),
+        ];
+        members.extend(self.source.as_ref().map(|(word, _)| ("geometry_from", (*word).into())));
+        members.extend(self.ranking.members());
+        Json::object([("refused", Json::Object(members))])
+    }
+}
+
 /// What a disk is that no one number can be told of.
 const NOT_CONSISTENT: &str = "disk not consistent";
-
-/// A fault for `--json`.
-pub fn fault_json(fault: &Explained) -> Json {
-    Json::object([
-        ("number", fault.fault.kind.number().into()),
-        ("kind", fault.fault.kind.words().into()),
-        ("slot", fault.fault.slot.into()),
-        ("sector", fault.sector.into()),
-        ("byte", fault.byte.into()),
-        ("name", fault.name.map(|name| name.to_string()).into()),
-        ("message", fault.message.as_str().into()),
-    ])
-}
 
 impl From<String> for Failure {
     fn from(message: String) -> Failure {
@@ -127,26 +180,43 @@ impl From<String> for Failure {
     }
 }
 
-/// `refused: 5 (wrong password code): PULS01/DAT on disk.img`.
+/// `refused: 5 (wrong password code): PULS01/DAT on disk.img`. What a search found stands in lines of its own.
 impl fmt::Display for Failure {
     fn fmt(&self, f: &mut fmt::Formatter<'_>) -> fmt::Result {
-        match self {
-            Failure::Refused { refusal, image, file, detail, fault } => {
-                match fault {
-                    // Its slot is told below, with its place.
-                    Some(_) => write!(f, "refused: {} ({}): ", refusal.number(), refusal.meaning())?,
-                    None => write!(f, "refused: {refusal}: ")?,
-                }
-                if let Some(file) = file {
-                    write!(f, "{file} on ")?;
-                }
-                write!(f, "{image}")?;
-                fault.as_ref().map_or(Ok(()), |fault| write!(f, ": {fault}"))?;
-                detail.as_ref().map_or(Ok(()), |detail| write!(f, ": {detail}"))
+        let lines = match self {
+            Failure::Refused(refused) => {
+                write!(f, "{refused}")?;
+                &refused.ranking.lines
             }
-            Failure::NoGeometry { image, detail } => write!(f, "refused: {NOT_CONSISTENT}: {image}: {detail}"),
-            Failure::Wrong(message) => f.write_str(message),
+            Failure::NoGeometry { image, detail, .. } => {
+                return write!(f, "refused: {NOT_CONSISTENT}: {image}: {detail}");
+            }
+            Failure::Unclear { message, ranking } => {
+                f.write_str(message)?;
+                &ranking.lines
+            }
+            Failure::Wrong(message) => return f.write_str(message),
+        };
+        lines.iter().try_for_each(|line| write!(f, "\n{line}"))
+    }
+}
+
+impl fmt::Display for Refused {
+    fn fmt(&self, f: &mut fmt::Formatter<'_>) -> fmt::Result {
+        let Refused { refusal, image, file, detail, fault, source, .. } = self;
+        match fault {
+            // Its slot is told below, with its place.
+            Some(_) => write!(f, "refused: {} ({}): ", refusal.number(), refusal.meaning())?,
+            None => write!(f, "refused: {refusal}: ")?,
         }
+        if let Some(file) = file {
+            write!(f, "{file} on ")?;
+        }
+        write!(f, "{image}")?;
+        fault.as_ref().map_or(Ok(()), |fault| write!(f, ": {fault}"))?;
+        detail.as_ref().map_or(Ok(()), |detail| write!(f, ": {detail}"))?;
+        let told = source.as_ref().and_then(|(_, told)| told.as_ref());
+        told.map_or(Ok(()), |told| write!(f, " (the geometry is from {told})"))
     }
 }
 
@@ -165,15 +235,16 @@ mod tests {
         let refused = Failure::disk("disk.img", &disk)(hit);
         assert_eq!(
             refused.to_string(),
-            "refused: 22 (disk not consistent: HIT against entry): disk.img: slot 25H, directory sector 7, byte 32: \
-             the entry is not in use, but its HIT byte is A2H"
+            "refused: 22 (disk not consistent: HIT against entry): disk.img: slot 25H, directory sector 7, byte 32, \
+             image byte 22304: the entry is not in use, but its HIT byte (image byte 20773) is A2H"
         );
         assert_eq!(
             refused.json().to_string(),
             concat!(
                 r#"{"refused":{"number":22,"meaning":"disk not consistent: HIT against entry","image":"disk.img","#,
                 r#""file":null,"detail":null,"fault":{"number":22,"kind":"HIT against entry","slot":37,"sector":7,"#,
-                r#""byte":32,"name":null,"message":"the entry is not in use, but its HIT byte is A2H"}}}"#
+                r#""byte":32,"image_byte":22304,"name":null,"#,
+                r#""message":"the entry is not in use, but its HIT byte (image byte 20773) is A2H"}}}"#
             )
         );
         // Where there is no disk to look at, kind and slot are told all the same.
@@ -198,7 +269,7 @@ mod tests {
             refused.json().to_string(),
             r#"{"refused":{"number":9,"meaning":"too few granules free","image":"disk.img","file":null,"detail":"and why","fault":null}}"#
         );
-        let none = Failure::NoGeometry { image: "disk.img".into(), detail: "under none".into() };
+        let none = Failure::NoGeometry { image: "disk.img".into(), detail: "under none".into(), fault: None };
         assert_eq!(
             (none.to_string().as_str(), none.status()),
             ("refused: disk not consistent: disk.img: under none", 1)
@@ -207,6 +278,19 @@ mod tests {
             none.json().to_string(),
             r#"{"refused":{"number":null,"meaning":"disk not consistent","image":"disk.img","file":null,"detail":"under none","fault":null}}"#
         );
+        let refused = Failure::image("disk.img")(Refusal::Geometry).by("file", Some("disk.img.gdos".into()));
+        assert_eq!(
+            refused.to_string(),
+            "refused: 1 (geometry or image length not allowed): disk.img (the geometry is from disk.img.gdos)"
+        );
+        assert!(refused.json().to_string().ends_with(r#""fault":null,"geometry_from":"file"}}"#));
+        let ranking = || Ranking { lines: vec!["  1. a".into(), "  2. b".into()], json: vec![Json::Null, Json::Null] };
+        let unclear = Failure::Unclear { message: "say it".into(), ranking: ranking() };
+        assert_eq!((unclear.to_string().as_str(), unclear.status()), ("say it\n  1. a\n  2. b", 2));
+        assert_eq!(unclear.json().to_string(), r#"{"error":"say it","ranking":[null,null]}"#);
+        let refused = Failure::image("disk.img")(Refusal::Geometry).ranked(ranking());
+        assert!(refused.to_string().ends_with("disk.img\n  1. a\n  2. b"));
+        assert!(refused.json().to_string().ends_with(r#""fault":null,"ranking":[null,null]}}"#));
         let wrong = Failure::from("no".to_string());
         assert_eq!((wrong.to_string().as_str(), wrong.status()), ("no", 2));
     }

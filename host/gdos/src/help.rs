@@ -14,9 +14,16 @@ Usage: gdos COMMAND [OPTIONS] IMAGE [ARGUMENTS]
 const GEOMETRY: &str = "\
 The geometry
   An image is raw: the disk's sectors of 256 bytes in order, which is also the JV1 container. It does not say
-  how its disk is organized. State it by --preset, or by --blocks, --units and --start (these go before the
-  preset's numbers); numbers are typed as 1440, 5A0H or 0x5A0. What you leave open is searched: if exactly one
-  geometry makes the disk consistent, that one is taken. `gdos probe` shows what would be found.
+  how its disk is organized. The first of these that says anything of it is heeded:
+    1. options: --preset, or --blocks, --units and --start (these go before the preset's numbers)
+    2. GDOS_GEOMETRY in the environment: a preset's name, or as blocks=48 units=3 start=360
+    3. IMAGE.gdos beside the image: gdos new makes it, and gdos geometry IMAGE --set
+    4. a search
+  Numbers are typed as 1440, 5A0H or 0x5A0. Options that leave one geometry state it; what they leave open is
+  searched. The search takes a geometry only if the disk is consistent under it, a file's name speaks for its
+  directory, and nothing speaks for another; otherwise nothing is read, and what was found is told with the options
+  to type. Commands that only read tell on standard error what they found. Those that change a disk (put, rm, trim,
+  undelete) want a geometry that is stated; --search lets them use what is found. `gdos probe` shows the evidence.
 ";
 
 const NAMES: &str = "\
@@ -30,7 +37,7 @@ const STATUS: &str = "\
 Exit status
   0  done
   1  refused by the disk's rules; the message has the number, what it means and the file
-  2  wrong usage, or a file of the host that cannot be read or written
+  2  wrong usage, a geometry that is to be stated, or a file of the host that cannot be read or written
   diff alone has that of the host's diff: 0 alike, 1 different, 2 trouble, a refusal too.
   Where a command was refused or failed no image was changed. An image is never left half written: a change is
   made to a copy beside it, which is then put in its place.

@@ -11,8 +11,10 @@ use std::process::{Command, Stdio};
 use std::time::{Duration, SystemTime};
 
 const DATE: [&str; 2] = ["--date", "1983-10-09"];
-const COMMANDS: [&str; 13] =
-    ["check", "ls", "cat", "get", "put", "rm", "undelete", "trim", "free", "info", "new", "probe", "diff"];
+const COMMANDS: [&str; 16] = [
+    "check", "mend", "rescue", "ls", "cat", "get", "put", "rm", "undelete", "trim", "free", "info", "new", "probe",
+    "geometry", "diff",
+];
 
 /// A folder with the small disk of the examples, PULS01/DAT (257 bytes) and LEER on it.
 fn sample(name: &str) -> Folder {
@@ -169,6 +171,10 @@ fn json_of_every_command() {
     let (status, probe) = json(&["probe", "d.img"]);
     assert_eq!((status, probe.at("geometries").len(), probe.at("tried").number()), (0, 1, 124));
     assert_eq!(probe.at("geometries.0.geometry.start").number(), 80);
+    assert_eq!((probe.at("ranking").len(), probe.at("ranking.0.names").number()), (1, 2));
+    assert_eq!(probe.at("taken.preset").text(), "sample");
+    let (status, geometry) = json(&["geometry", "d.img"]);
+    assert_eq!((status, geometry.at("geometry_from").text(), geometry.at("kept")), (0, "file", &Json::Bool(false)));
 
     let (status, get) = json(&["get", "d.img", "PULS01/DAT", "NICHT/DA"]);
     assert_eq!((status, get.at("files").len(), get.at("failures").len()), (1, 1, 1));
@@ -247,6 +253,9 @@ fn refused_and_idle_commands_leave_the_time() {
         (&["ls", "d.img"], 0),
         (&["get", "d.img", "*"], 0),
         (&["check", "d.img"], 0),
+        (&["check", "--all", "d.img"], 0),
+        (&["mend", "d.img", "-o", "copy.img"], 0),
+        (&["rescue", "d.img", "-o", "rescued"], 0),
         (&["probe", "d.img"], 0),
     ] {
         assert_eq!(folder.gdos(words).status, status, "{words:?}");
@@ -255,6 +264,41 @@ fn refused_and_idle_commands_leave_the_time() {
     }
     folder.done(&["rm", "d.img", "LEER"]);
     assert_ne!(fs::metadata(folder.path("d.img")).unwrap().modified().unwrap(), long_ago);
+}
+
+/// No name of the image is taken for a copy, whatever leads to it.
+#[test]
+fn a_damaged_image_is_never_written() {
+    let folder = sample("never-written");
+    folder.poke("d.img", 0x529e, &[7]);
+    std::os::unix::fs::symlink("d.img", folder.path("link.img")).unwrap();
+    fs::hard_link(folder.path("d.img"), folder.path("hard.img")).unwrap();
+    let before = folder.everything();
+    for copy in ["d.img", "./d.img", "link.img", "hard.img"] {
+        for words in [&["mend", "d.img", "-o", copy][..], &["mend", "d.img", "-o", copy, "--force"]] {
+            let done = folder.gdos(words);
+            assert_eq!((done.status, done.err.contains("never written")), (2, true), "{words:?}: {}", done.err);
+        }
+    }
+    let done = folder.gdos(&["mend", "link.img", "-o", "hard.img", "--force"]);
+    assert_eq!((done.status, done.err.contains("never written")), (2, true), "{}", done.err);
+    assert_eq!(folder.gdos(&["mend", "d.img", "-n"]).status, 0);
+    assert!(folder.everything() == before);
+
+    // Nor is an image that has the name of one of its files.
+    folder.write("LEER", folder.read("d.img"));
+    let image = folder.read("LEER");
+    let done = folder.gdos(&["rescue", "LEER", "--preset", "sample", "-o", ".", "--force"]);
+    assert_eq!((done.status, done.err.contains("never written")), (2, true), "{}", done.err);
+    assert!(folder.read("LEER") == image);
+
+    // The copy is whole or not there, also where the file beside it is in the way.
+    folder.write("copy.img.gdos", "mine\n");
+    assert_eq!(folder.gdos(&["mend", "d.img", "-o", "copy.img"]).status, 2);
+    assert!(!folder.path("copy.img").exists());
+    assert_eq!(folder.read("copy.img.gdos"), b"mine\n");
+    assert_eq!(folder.gdos(&["mend", "d.img", "-o", "copy.img", "--force"]).status, 0);
+    folder.done(&["check", "copy.img"]);
 }
 
 #[test]
@@ -295,6 +339,7 @@ fn a_folder_that_cannot_be_written() {
         match unprivileged(&folder, words) {
             Ok(done) => {
                 assert_eq!(done.status, 2, "{words:?}: {}", done.err);
+                assert!(done.err.contains("no copy can be made in its folder"), "{words:?}: {}", done.err);
                 assert!(done.err.contains("ermission"), "{words:?}: {}", done.err);
             }
             // Where the user cannot be changed, root can still not make files inside a file: see the session `usage`.
@@ -395,18 +440,177 @@ fn a_reader_that_stops_is_no_fault() {
     assert_eq!((done.status, done.err.as_str()), (0, ""));
 }
 
+/// Whether the command was carried out is told of those only that did more than to write.
 #[test]
 fn output_that_cannot_be_written() {
-    let Ok(full) = File::options().write(true).open("/dev/full") else {
+    let full = || File::options().write(true).open("/dev/full");
+    if full().is_err() {
         println!("skipped: no /dev/full here");
         return;
-    };
+    }
     let folder = sample("full");
-    let output = folder.command(&["ls", "d.img"]).stdout(full).output().unwrap();
-    let done =
-        Done { status: output.status.code().unwrap(), out: Vec::new(), err: String::from_utf8(output.stderr).unwrap() };
-    assert_eq!(done.status, 2);
-    assert!(done.err.contains("cannot write to standard output"), "{}", done.err);
+    for (words, did_more) in [
+        (&["ls", "d.img"][..], false),
+        (&["cat", "d.img", "PULS01/DAT"], false),
+        (&["get", "d.img", "PULS01/DAT", "-o", "-"], false),
+        (&["geometry", "d.img"], false),
+        (&["undelete", "d.img"], false),
+        (&["get", "d.img", "PULS01/DAT"], true),
+        (&["geometry", "d.img", "--set", "--preset", "sample"], true),
+        (&["new", "n.img", "--preset", "sample"], true),
+        (&["rm", "d.img", "LEER"], true),
+    ] {
+        let output = folder.command(words).stdout(full().unwrap()).output().unwrap();
+        let err = String::from_utf8(output.stderr).unwrap();
+        assert_eq!(output.status.code(), Some(2), "{words:?}");
+        assert!(err.contains("cannot write to standard output"), "{err}");
+        assert_eq!(err.contains("apart from its report the command was carried out"), did_more, "{words:?}: {err}");
+    }
+    assert!(folder.path("PULS01.DAT").exists() && folder.path("n.img").exists());
+}
+
+/// A device or a pipe is no place for a file, whatever --force says.
+#[test]
+fn only_regular_files_are_replaced() {
+    let folder = sample("devices");
+    fs::create_dir(folder.path("out")).unwrap();
+    let made = |program: &str, words: &[&str]| {
+        let status = Command::new(program).args(words).current_dir(folder.root()).stderr(Stdio::null()).status();
+        status.is_ok_and(|status| status.success())
+    };
+    let mut nodes = Vec::new();
+    if made("mkfifo", &["pipe", "out/PULS01.DAT", "d.img.pipe"]) {
+        nodes.push("pipe");
+    }
+    if made("mknod", &["null", "c", "1", "3"]) {
+        nodes.push("null");
+    }
+    assert!(!nodes.is_empty() || !is_root(), "root can make them");
+    for node in nodes {
+        let before = fs::symlink_metadata(folder.path(node)).unwrap();
+        for words in [
+            &["new", node, "--preset", "sample", "--force"][..],
+            &["put", node, "leer", "--preset", "sample"],
+            &["rm", node, "LEER", "--preset", "sample"],
+        ] {
+            let done = folder.gdos(words);
+            assert_eq!((done.status, done.err.contains("not a regular file")), (2, true), "{words:?}: {}", done.err);
+        }
+        let now = fs::symlink_metadata(folder.path(node)).unwrap();
+        assert_eq!((now.ino(), now.mode(), now.rdev()), (before.ino(), before.mode(), before.rdev()));
+    }
+    if folder.path("out/PULS01.DAT").exists() {
+        let done = folder.gdos(&["get", "d.img", "PULS01/DAT", "-o", "out", "--force"]);
+        assert_eq!((done.status, done.err.contains("not a regular file")), (2, true), "{}", done.err);
+        assert!(!fs::symlink_metadata(folder.path("out/PULS01.DAT")).unwrap().is_file());
+    }
+}
+
+/// Another name of the same file keeps the old disk, and that is said.
+#[test]
+fn hard_links_are_told() {
+    let folder = sample("hard");
+    fs::hard_link(folder.path("d.img"), folder.path("h.img")).unwrap();
+    let before = folder.read("h.img");
+    let done = folder.gdos(&["rm", "d.img", "LEER"]);
+    assert_eq!(done.status, 0);
+    assert!(done.err.contains("d.img had 1 other name (hard links): the disk there is as it was"), "{}", done.err);
+    assert!(folder.read("h.img") == before && folder.read("d.img") != before);
+    assert_eq!(folder.gdos(&["put", "d.img", "leer", DATE[0], DATE[1]]).err, "", "one name is left");
+}
+
+#[test]
+fn a_file_longer_than_any_image() {
+    let folder = Folder::new("long");
+    File::create(folder.path("long.img")).unwrap().set_len(5_000_000_000).unwrap();
+    let done = folder.gdos(&["check", "long.img"]);
+    assert_eq!(done.status, 1);
+    assert!(done.err.contains("no geometry fits its length of more than 1966080 bytes"), "{}", done.err);
+    let done = folder.gdos(&["check", "long.img", "--preset", "dd40"]);
+    assert!(done.err.contains("has 184320 bytes, the image more than 1966080"), "{}", done.err);
+    folder.done(&["new", "d.img", "--preset", "largest"]);
+    let done = folder.gdos(&["put", "d.img", "long.img", "--as", "LANG"]);
+    assert!(done.err.contains("it has more than 1966080 bytes, which no disk can hold"), "{}", done.err);
+}
+
+/// A file of the host that is overwritten keeps its owner.
+#[test]
+fn an_overwritten_file_keeps_its_owner() {
+    if !is_root() {
+        println!("skipped: only root can give files away");
+        return;
+    }
+    let folder = sample("owner");
+    folder.write("PULS01.DAT", "old");
+    chown(folder.path("PULS01.DAT"), Some(65534), Some(65534)).unwrap();
+    folder.done(&["get", "d.img", "PULS01/DAT", "--force"]);
+    let now = fs::metadata(folder.path("PULS01.DAT")).unwrap();
+    assert_eq!((now.uid(), now.gid(), now.len()), (65534, 65534, 257));
+}
+
+/// The copy's name is cut where the image's is long.
+#[test]
+fn long_names() {
+    let folder = sample("names");
+    for length in [230, 250, 255] {
+        let image = "i".repeat(length - 4) + ".img";
+        let done = folder.gdos(&["new", &image, "--preset", "sample"]);
+        assert_eq!(done.status, 0, "{length}: {}", done.err);
+        assert_eq!(done.err.contains("too long for a file beside it"), length > 250, "{length}: {}", done.err);
+        folder.done(&["put", &image, "puls01.dat", "--preset", "sample", DATE[0], DATE[1]]);
+        assert_eq!(folder.gdos(&["cat", &image, "PULS01/DAT"]).out, [0x55; 257], "{length}");
+        assert!(folder.left_over().is_empty());
+    }
+}
+
+/// Who replaces an image waits for who changes it.
+#[test]
+fn a_new_image_waits_for_the_lock() {
+    let folder = sample("lock");
+    let held = File::open(folder.path("d.img")).unwrap();
+    held.lock().unwrap();
+    let mut child =
+        folder.command(&["new", "d.img", "--preset", "sample", "--force"]).stdout(Stdio::null()).spawn().unwrap();
+    std::thread::sleep(Duration::from_millis(300));
+    assert!(child.try_wait().unwrap().is_none(), "it did not wait");
+    held.unlock().unwrap();
+    assert!(child.wait().unwrap().success());
+}
+
+/// The file beside the image belongs to the file itself, whatever link it is reached by; it is whole or not written.
+#[test]
+fn the_geometry_beside_an_image() {
+    let folder = sample("beside");
+    assert_eq!(
+        String::from_utf8(folder.read("d.img.gdos")).unwrap(),
+        "# The geometry of d.img, as gdos heeds it.\nblocks = 16\nunits = 2\nstart = 80\nopen_code = 4296H\n"
+    );
+    symlink("d.img", folder.path("link.img")).unwrap();
+    let told = folder.gdos(&["geometry", "link.img", "--json"]).json();
+    assert_eq!((told.at("geometry_from").text(), told.at("geometry.start").number()), ("file", 80));
+    // Through the link it is replaced where it stands.
+    folder.done(&["geometry", "link.img", "--set", "--preset", "sample", "--open-code", "7"]);
+    assert!(!folder.path("link.img.gdos").exists());
+    assert!(String::from_utf8(folder.read("d.img.gdos")).unwrap().ends_with("open_code = 0007H\n"));
+    // What is no file is neither read nor replaced; what is no text states nothing.
+    fs::remove_file(folder.path("d.img.gdos")).unwrap();
+    fs::create_dir(folder.path("d.img.gdos")).unwrap();
+    assert_eq!(folder.gdos(&["ls", "d.img"]).status, 2);
+    assert_eq!(folder.gdos(&["geometry", "d.img", "--set", "--preset", "sample"]).status, 2);
+    assert_eq!(folder.gdos(&["ls", "d.img", "--preset", "sample"]).status, 0);
+    fs::remove_dir(folder.path("d.img.gdos")).unwrap();
+    for (bytes, why) in [(vec![0xff; 10], "is no text"), (vec![b'#'; 5000], "is too long")] {
+        folder.write("d.img.gdos", bytes);
+        let done = folder.gdos(&["ls", "d.img"]);
+        assert_eq!((done.status, done.err.contains(why)), (2, true), "{}", done.err);
+    }
+    // Where the copy breaks off, the old one stays.
+    folder.write("d.img.gdos", "sample");
+    let before = folder.everything();
+    let script = format!("trap '' XFSZ; ulimit -S -f 0; exec '{GDOS}' geometry d.img --set --preset sample");
+    let output = Command::new("sh").args(["-c", &script]).current_dir(folder.root()).output().unwrap();
+    assert_eq!(output.status.code(), Some(2));
+    assert!(folder.everything() == before && folder.left_over().is_empty());
 }
 
 #[test]

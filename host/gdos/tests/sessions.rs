@@ -6,8 +6,14 @@
 //!   make FILE BYTES        a file of so many bytes, no two sectors alike
 //!   poke FILE AT BYTES     other bytes into a file; numbers are decimal or as 4CH
 //!   cmp FILE FILE          both must be the same
-//! After every command that fails all files must be as they were, their times too (`get` may have written some, but no
-//! image); none of the program's own are left.
+//!   cut FILE FROM BYTES TO a part of a file as another one
+//!   lay FILE AT OTHER      the bytes of another file into it
+//!   drop FILE              removes it
+//!   write FILE WORDS       a file of one line
+//!   with NAME=VALUE gdos   the program with a variable of the environment
+//! After every command that fails all files must be as they were, their times too (`get` and `rescue` may have written some,
+//! but no image); none of the program's own are left. With GDOS_SESSIONS=write in the environment the files are written anew with
+//! what came, to be read before it is kept.
 
 mod common;
 
@@ -76,6 +82,36 @@ fn two_images() {
 }
 
 #[test]
+fn a_second_directory() {
+    play("second-directory");
+}
+
+#[test]
+fn the_search() {
+    play("search");
+}
+
+#[test]
+fn stated_geometries() {
+    play("stated");
+}
+
+#[test]
+fn system_files() {
+    play("system-files");
+}
+
+#[test]
+fn mending() {
+    play("mend");
+}
+
+#[test]
+fn rescuing() {
+    play("rescue");
+}
+
+#[test]
 fn every_case_is_played() {
     let here = include_str!("sessions.rs");
     for case in fs::read_dir(cases()).unwrap() {
@@ -108,15 +144,22 @@ fn play(case: &str) {
     let session = fs::read_to_string(from.join("session.txt")).unwrap();
     let steps = steps(&session);
     assert!(!steps.is_empty());
+    let writing = std::env::var_os("GDOS_SESSIONS").is_some_and(|what| what == "write");
+    let mut came = Vec::new();
     for step in steps {
         let kept = |folder: &Folder| {
             let mut all = folder.everything();
-            all.retain(|(path, ..)| step.words[1] != "get" || path.extension().is_some_and(|e| e == "img"));
+            let writes = ["get", "rescue"].contains(&step.words[1].as_str());
+            all.retain(|(path, ..)| !writes || path.extension().is_some_and(|e| e == "img"));
             all
         };
         let before = kept(&folder);
         let done = run(&folder, &step.words);
         let place = format!("{case}/session.txt:{}: {}", step.line, step.words.join(" "));
+        if writing {
+            came.push((step.line, written(&done)));
+            continue;
+        }
         assert_eq!(
             (String::from_utf8_lossy(&done.out), done.err.as_str(), done.status),
             (step.out.as_str().into(), step.err.as_str(), step.status),
@@ -126,6 +169,22 @@ fn play(case: &str) {
             assert!(kept(&folder) == before, "{place} changed something");
         }
         assert!(folder.left_over().is_empty(), "{place} left {:?}", folder.left_over());
+    }
+    if writing {
+        let kept = session.lines().zip(1..).filter(|(line, _)| line.starts_with(['$', '#']));
+        let of = |number| came.iter().find(|(line, _)| *line == number).map_or("", |(_, text)| text);
+        let text: String = kept.map(|(line, number)| format!("{line}\n{}", of(number))).collect();
+        fs::write(from.join("session.txt"), text).unwrap();
+    }
+}
+
+/// What a command did, as a session has it.
+fn written(done: &Done) -> String {
+    let mut text = String::from_utf8_lossy(&done.out).into_owned();
+    text.extend(done.err.lines().map(|line| format!("! {line}\n")));
+    match done.status {
+        0 => text,
+        status => text + &format!("[{status}]\n"),
     }
 }
 
@@ -186,6 +245,27 @@ fn run(folder: &Folder, words: &[String]) -> Done {
             let bytes: Vec<u8> = bytes.iter().map(|byte| number(byte) as u8).collect();
             folder.poke(file, number(at), &bytes);
             nothing
+        }
+        ["cut", from, at, bytes, to] => {
+            let (at, bytes) = (number(at), number(bytes));
+            folder.write(to, &folder.read(from)[at..at + bytes]);
+            nothing
+        }
+        ["lay", file, at, other] => {
+            folder.poke(file, number(at), &folder.read(other));
+            nothing
+        }
+        ["drop", file] => {
+            fs::remove_file(folder.path(file)).unwrap();
+            nothing
+        }
+        ["write", file, words @ ..] => {
+            folder.write(file, words.join(" ") + "\n");
+            nothing
+        }
+        ["with", variable, "gdos", words @ ..] => {
+            let (name, value) = variable.split_once('=').unwrap();
+            Done::from(folder.command(words).env(name, value).output().unwrap())
         }
         ["cmp", one, other] => {
             assert!(folder.read(one) == folder.read(other), "{one} and {other} differ");

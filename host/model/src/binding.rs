@@ -1,27 +1,25 @@
-//! The exported functions of `libgenie.a`, and the one place in this crate where they are called.
+//! The library's exported functions, and the one place in this crate where they are called.
 
 use crate::library::Library;
 use std::rc::Rc;
 
-/// The library; None if the crate was built without one (see build.rs).
-pub fn linked() -> Option<Rc<dyn Library>> {
-    #[cfg(genie_linked)]
-    return Some(Rc::new(bound::Linked));
-    #[cfg(not(genie_linked))]
-    None
-}
+// The library: the source compiled by rustc, unless the archive is asked for (see build.rs).
+#[cfg(not(genie_archive))]
+extern crate genie_source as _;
 
-/// The library, for tests that are nothing without it.
-pub fn linked_or_fail() -> Rc<dyn Library> {
-    linked().expect("built without libgenie.a: build the library first, or name its directory in GENIE_LIB_DIR")
+/// Which of the two is linked.
+pub const LINKED: &str =
+    if cfg!(genie_archive) { "the archive made by Rattle" } else { "the source compiled by rustc" };
+
+/// The library under test.
+pub fn linked() -> Rc<dyn Library> {
+    Rc::new(bound::Linked)
 }
 
 // The declarations are the wrapper's; its tests/header.rs holds them against genie.h.
-#[cfg(genie_linked)]
 #[path = "../../rust/src/sys.rs"]
 mod sys;
 
-#[cfg(genie_linked)]
 mod bound {
     use super::sys::*;
     use crate::calls::{Birth, Number};
@@ -34,7 +32,7 @@ mod bound {
     // reference, so no pointer is null, none overlaps another that is written, and all outlive the call.
     impl Library for Linked {
         fn title(&self) -> &'static str {
-            "library"
+            super::LINKED
         }
         fn check(&self, image: &[u8], g: &Geometry, fault_slot: &mut usize) -> Number {
             unsafe { genie_check(image.as_ptr(), image.len(), g.blocks, g.units, g.start, g.open_code, fault_slot) }

@@ -286,9 +286,7 @@ impl Library for Model {
     }
 }
 
-/// The model, and the linked library if there is one: hand-written cases run on each.
+/// The model, and the linked library: hand-written cases run on each.
 pub fn libraries() -> Vec<Rc<dyn Library>> {
-    let mut all: Vec<Rc<dyn Library>> = vec![Rc::new(Model)];
-    all.extend(crate::binding::linked());
-    all
+    vec![Rc::new(Model), crate::binding::linked()]
 }

@@ -1,6 +1,6 @@
 //! The linked library against the model, and demand 3 on the linked library.
 
-use genie_model::binding::linked_or_fail;
+use genie_model::binding::linked;
 use genie_model::compare::{run, what_is, Bounds, Seen};
 use genie_model::directory::{directory_sectors, entry, slots};
 use genie_model::disks::{random_disk, Disk};
@@ -24,7 +24,7 @@ fn random_calls_reach_everything() {
 
 #[test]
 fn library_and_model_agree() {
-    let library = linked_or_fail();
+    let library = linked();
     let mut seen = Seen::default();
     println!("seed {}", SEED + 1);
     run(&*library, &Bounds { seed: SEED + 1, ..BOUNDS }, &mut seen).unwrap_or_else(|text| panic!("{text}"));
@@ -33,7 +33,7 @@ fn library_and_model_agree() {
 
 #[test]
 fn interleavings_agree_on_the_library() {
-    let library = linked_or_fail();
+    let library = linked();
     let (mut seeds, mut tally) = (Random::new(SEED), Tally::default());
     println!("seed {SEED}");
     for _ in 0..200 {
@@ -60,7 +60,7 @@ fn rich_disk(random: &mut Random) -> Disk {
 /// Each byte of a directory changed alone, in turn: each bit of it, and values that mean something.
 #[test]
 fn every_byte_of_a_directory_changed() {
-    let library = linked_or_fail();
+    let library = linked();
     let mut random = Random::new(SEED);
     println!("seed {SEED}");
     let (mut kept, mut broken) = (0, 0);

@@ -2,7 +2,7 @@
 //! By hand, on the model and on the linked library: each kind at each place where it can stand, several faults at once, and
 //! every call. And the library against the model on damaged disks.
 
-use genie_model::binding::linked_or_fail;
+use genie_model::binding::linked;
 use genie_model::by_hand::{change, is_consistent, put_extension, put_file, tells, with_runs};
 use genie_model::call::{perform, Call, FAULT_SLOT};
 use genie_model::calls::{Birth, Number};
@@ -622,7 +622,7 @@ fn every_call_tells_every_kind() {
 /// Damages one after the other and random changes, on small disks: the library tells what the model tells.
 #[test]
 fn library_and_model_tell_the_same_fault() {
-    let library = linked_or_fail();
+    let library = linked();
     let mut random = Random::new(13);
     let (mut tried, mut told): (usize, BTreeMap<u8, usize>) = (0, BTreeMap::new());
     while tried < 20_000 {

@@ -3,7 +3,7 @@
 //! it can lie, the disk's end. And the library against the model on disks of every number of units per block, with changes aimed at
 //! what the map sees.
 
-use genie_model::binding::linked_or_fail;
+use genie_model::binding::linked;
 use genie_model::by_hand::{change, is_consistent, put_extension, put_file, tells, Run};
 use genie_model::calls::{Number, ACCEPTED};
 use genie_model::compare::what_is;
@@ -428,7 +428,7 @@ fn library_and_model_tell_the_same_of_every_map() {
     const CHANGES: usize = 25;
     /// All answers that are frequent. 24 is not: no change touches a name, but an extension may hold its file's and become one.
     const ANSWERS: [Number; 10] = [0, 21, 22, 23, 25, 26, 27, 28, 29, 30];
-    let library = linked_or_fail();
+    let library = linked();
     let mut random = Random::new(SEED);
     let (mut disks, mut told): (usize, BTreeMap<Number, usize>) = (0, BTreeMap::new());
     for units in 1..=MOST_UNITS {

@@ -715,8 +715,8 @@ impl<B: AsMut<[u8]>> Disk<B> {
         })
     }
 
-    /// Brings back the killed file whose primary entry is in a slot, if nothing of it was overwritten: its entries are
-    /// whole, its name is not in use and its granules are free. Its bytes are what those granules hold now.
+    /// Brings back the killed file whose primary entry is in a slot, if its entries are whole, its name is not in use and
+    /// its granules are free. Its bytes are what those granules hold now, which another file may have written since.
     ///
     /// ```
     /// # use genie_dos::*;

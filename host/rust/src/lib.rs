@@ -1,4 +1,4 @@
-//! Genie-DOS disks (TRSDOS family, 1983) for Rust programs: a safe wrapper over the proved library `libgenie.a`.
+//! Genie-DOS disks (TRSDOS family, 1983) for Rust programs: a safe wrapper over the proved library.
 //!
 //! A [`Disk`] is the bytes of an image together with its [`Geometry`]. Each call answers as the library does: done, or
 //! refused with a [`Refusal`], and a refused call has changed nothing. Any bytes and any numbers may be given; the
@@ -28,6 +28,11 @@
 
 #![warn(missing_docs)]
 
+// What `sys` declares, where the archive is not asked for (build.rs).
+#[cfg(not(genie_archive))]
+extern crate genie_source as _;
+
+mod damaged;
 mod difference;
 mod disk;
 mod entry;
@@ -39,6 +44,10 @@ mod name;
 mod refusal;
 mod sys;
 
+pub use damaged::{
+    ByteChange, Detail, Doubt, Doubtful, Dropped, FaultFound, Faults, FileFound, Mended, Remedy, Rescued, Step,
+    Unmended,
+};
 pub use difference::{Difference, Differences, RefusedImage, Which};
 pub use disk::{BroughtBack, Counts, Created, Disk, FreeSpace, Kind, Listed, LookUp, NewFile, Password};
 pub use entry::{Date, Entry, Run};

@@ -48,6 +48,45 @@ impl Name {
     pub fn as_bytes(&self) -> &[u8; Name::LEN] {
         &self.0
     }
+
+    /// Whether the bytes are a name: allowed ones, at least one before the type, and blanks only behind them.
+    ///
+    /// ```
+    /// use genie_dos::Name;
+    ///
+    /// assert!(Name::from_bytes(*b"PULS01  DAT").is_well_formed());
+    /// assert!(!Name::from_bytes(*b"PULS 01 DAT").is_well_formed());
+    /// assert!(!Name::from_bytes(*b"        DAT").is_well_formed());
+    /// ```
+    pub fn is_well_formed(&self) -> bool {
+        self.bad_place().is_none()
+    }
+
+    /// The hash that the HIT holds for a file of this name, never 0.
+    ///
+    /// ```
+    /// use genie_dos::Name;
+    ///
+    /// assert_eq!("BOOT/SYS".parse::<Name>()?.hash(), 0xA2);
+    /// # Ok::<(), genie_dos::BadName>(())
+    /// ```
+    pub fn hash(&self) -> u8 {
+        let turned = self.0.iter().fold(0u8, |hash, byte| (hash ^ byte).rotate_left(1));
+        turned.max(1)
+    }
+
+    /// The place, 0 to 10, of the first byte that cannot stand where it does.
+    pub(crate) fn bad_place(&self) -> Option<usize> {
+        (0..Name::LEN).find(|&at| match self.0[at] {
+            b' ' => at == 0,
+            byte => !Name::allows(byte) || at % Name::BODY > 0 && self.0[at - 1] == b' ',
+        })
+    }
+
+    /// Whether names can have a byte, other than as a blank behind them.
+    pub(crate) fn allows(byte: u8) -> bool {
+        allowed(byte.into())
+    }
 }
 
 fn allowed(c: char) -> bool {

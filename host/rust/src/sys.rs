@@ -1,4 +1,4 @@
-//! The exported functions of libgenie.a, as `host/include/genie.h` declares them.
+//! The library's exported functions, as `host/include/genie.h` declares them.
 //!
 //! A slice is a pointer and a length. Every function answers the refusal number, 0 if it accepts, and all but
 //! `genie_free` set the slot of the disk's fault, 256 where there is none to tell. It tests whatever it is lent: its only

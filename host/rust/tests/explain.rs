@@ -45,13 +45,14 @@ fn told(changes: &[(usize, u8)]) -> String {
     if let Some(slot) = refusal.slot() {
         assert_eq!(explained.sector, Some(usize::from(slot % 32) + 2));
         assert_eq!(explained.byte, Some(32 * usize::from(slot / 32)));
+        assert_eq!(explained.image_byte, Some(entry_at(slot)));
     }
     format!("{} {explained}", refusal.number())
 }
 
-const A: &str = "slot 80H, directory sector 2, byte 128 (PULS01/DAT): ";
-const B: &str = "slot 81H, directory sector 3, byte 128 (LEER): ";
-const EXTENSION: &str = "slot 82H, directory sector 4, byte 128 (PULS01/DAT): ";
+const A: &str = "slot 80H, directory sector 2, byte 128, image byte 21120 (PULS01/DAT): ";
+const B: &str = "slot 81H, directory sector 3, byte 128, image byte 21376 (LEER): ";
+const EXTENSION: &str = "slot 82H, directory sector 4, byte 128, image byte 21632 (PULS01/DAT): ";
 
 #[track_caller]
 fn tells(changes: &[(usize, u8)], number: u8, place: &str, words: &str) {
@@ -60,8 +61,18 @@ fn tells(changes: &[(usize, u8)], number: u8, place: &str, words: &str) {
 
 #[test]
 fn of_the_directory() {
-    tells(&[(hit_at(0x1f), 3)], 21, "", "HIT byte 1FH (directory sectors above 10) is 3, not 0, 5, 10, 15 or 20");
-    tells(&[(80 * 256 + 8, 2)], 30, "", "granule 16 is the directory's, but free in the GAT (byte 8, bit 0)");
+    tells(
+        &[(hit_at(0x1f), 3)],
+        21,
+        "",
+        "HIT byte 1FH (directory sectors above 10; image byte 20767) is 3, not 0, 5, 10, 15 or 20",
+    );
+    tells(
+        &[(80 * 256 + 8, 2)],
+        30,
+        "",
+        "granule 16 is the directory's, but free in the GAT (byte 8, bit 0; image byte 20488)",
+    );
     let short = Disk::new(vec![0; 40_960], Geometry { start: 150, ..GEOMETRY });
     let mut image = short.into_image();
     image[151 * 256 + 0x1f] = 5;
@@ -75,14 +86,19 @@ fn of_the_directory() {
 
 #[test]
 fn of_hit_bytes_and_names() {
-    tells(&[(hit_at(0x80), 0)], 22, A, "the entry is in use, but its HIT byte is 0");
-    tells(&[(hit_at(0x80), 1)], 22, A, "the HIT byte is 01H, the hash of its name C1H");
-    tells(&[(hit_at(0x82), 1)], 22, EXTENSION, "the HIT byte is 01H, the hash of its file's name (slot 80H) C1H");
-    let empty = "slot 25H, directory sector 7, byte 32: ";
-    tells(&[(hit_at(0x25), 0xa2)], 22, empty, "the entry is not in use, but its HIT byte is A2H");
+    tells(&[(hit_at(0x80), 0)], 22, A, "the entry is in use, but its HIT byte (image byte 20864) is 0");
+    tells(&[(hit_at(0x80), 1)], 22, A, "the HIT byte (image byte 20864) is 01H, the hash of its name C1H");
+    tells(
+        &[(hit_at(0x82), 1)],
+        22,
+        EXTENSION,
+        "the HIT byte (image byte 20866) is 01H, the hash of its file's name (slot 80H) C1H",
+    );
+    let empty = "slot 25H, directory sector 7, byte 32, image byte 22304: ";
+    tells(&[(hit_at(0x25), 0xa2)], 22, empty, "the entry is not in use, but its HIT byte (image byte 20773) is A2H");
 
     let name = entry_at(0x80) + 5;
-    let unnamed = "slot 80H, directory sector 2, byte 128: ";
+    let unnamed = "slot 80H, directory sector 2, byte 128, image byte 21120: ";
     let hash = |name: &[u8; 11]| name.iter().fold(0u8, |h, byte| (h ^ byte).rotate_left(1));
     let renamed = |to: &[u8; 11]| {
         let mut changes: Vec<_> = (name..).zip(*to).collect();
@@ -95,7 +111,7 @@ fn of_hit_bytes_and_names() {
     tells(&renamed(b"PULS01  D T"), 23, unnamed, "in the name a blank stands before byte 0FH (54H)");
     tells(&renamed(b"        DAT"), 23, unnamed, "the name begins with a blank");
     tells(&[(entry_at(0x80), 0x30)], 23, A, "bit 5 of byte 00 (30H) is set");
-    let twice = "slot 81H, directory sector 3, byte 128 (PULS01/DAT): ";
+    let twice = "slot 81H, directory sector 3, byte 128, image byte 21376 (PULS01/DAT): ";
     let mut same: Vec<_> = (entry_at(0x81) + 5..).zip(*b"PULS01  DAT").collect();
     same.push((hit_at(0x81), 0xc1));
     tells(&same, 24, twice, "slot 80H has the same name");
@@ -113,7 +129,7 @@ fn of_chains() {
     tells(&[(x, 0x91)], 25, EXTENSION, "byte 00 of the extension is 91H, not 90H");
     tells(&[(x + 1, 0x81)], 25, EXTENSION, "the extension points back (byte 01) to 81H, but the link is slot 80H's");
     tells(&[(x + 0x16, 0xff)], 25, EXTENSION, "the extension has no run");
-    let alone = "slot 82H, directory sector 4, byte 128: ";
+    let alone = "slot 82H, directory sector 4, byte 128, image byte 21632: ";
     tells(&[(a + 0x1e, 0xff), (a + 0x14, 0), (a + 3, 0)], 25, alone, "the extension is in no file's chain");
     let two = "two links lead to the extension, from slots 80H and 81H";
     tells(&[(b + 0x1e, 0xfe), (b + 0x1f, 0x82)], 25, EXTENSION, two);
@@ -124,7 +140,12 @@ fn of_runs_and_sizes() {
     let (a, b, x) = (entry_at(0x80), entry_at(0x81), entry_at(0x82));
     tells(&[(b + 0x18, 16)], 26, B, "run 2 has granules 32 to 32, but the disk's last is 31");
     tells(&[(b + 0x1b, 0x40)], 26, B, "run 3 begins at unit 2 of block 3, but a block has units 0 to 1");
-    tells(&[(80 * 256 + 4, 0x01)], 27, EXTENSION, "granule 9 of run 1 is free in the GAT (byte 4, bit 1)");
+    tells(
+        &[(80 * 256 + 4, 0x01)],
+        27,
+        EXTENSION,
+        "granule 9 of run 1 is free in the GAT (byte 4, bit 1; image byte 20484)",
+    );
     tells(&[(b + 0x16, 0), (b + 0x17, 0x20)], 28, B, "granule 1 is also in slot 80H (PULS01/DAT)");
     tells(&[(b + 0x1c, 1), (b + 0x1d, 0)], 28, B, "granule 2 is in run 1 and in run 4 of this entry");
     tells(&[(x + 0x16, 1), (x + 0x17, 0)], 28, EXTENSION, "granule 2 is also in slot 81H (LEER)");

@@ -1,5 +1,6 @@
 use Rattle.growth.proofs.Handed.{ready}
 use Rattle.allot.proofs.Laws.{refused, grew}
+use Rattle.handle.proofs.Laws.{handed}
 use borrow.Author.Needs.{needs}
 use Rattle.allot.proofs.allot_checked.Statement.{statement}
 use Rattle.allot.proofs.allot_checked.Tie as tie
@@ -8,6 +9,7 @@ use Rattle.allot.proofs.allot_checked.Lts as lts
 use Rattle.growth.proofs.grow.Reads as grow-reads
 use Rattle.handle.proofs.changing_number.Reads as changing-number-reads
 use Rattle.read.proofs.sector_ranged.Reads as sector-ranged-reads
+use Rattle.refusal.proofs.carried.Reads as carried-reads
 
 sector-ranged-requires : tie.Need-sector-ranged-requires
 sector-ranged-requires c κs = search needs
@@ -15,11 +17,14 @@ sector-ranged-requires c κs = search needs
 changing-number-requires : tie.Need-changing-number-requires
 changing-number-requires c κs = search needs
 
+carried-requires : tie.Need-carried-requires
+carried-requires c κs = search needs
+
 same-length : tie.Need-same-length
 same-length c = search needs
 
 returns : tie.Need-returns
-returns c = refused _ _ _ _ (c .before .before .before .sector-ranged .ensures) (c .before .changing-number .ensures) (c .if1 .taken)
+returns c = refused _ _ _ _ (c .before .before .before .before .sector-ranged .ensures) (handed _ _ _ (c .before .before .before .before .before .before .pre) (c .carried .ensures)) (c .before .before .changing-number .ensures) (c .before .if1 .taken)
 
 add-grow : tie.Need-add-grow
 add-grow c = search needs
@@ -27,11 +32,14 @@ add-grow c = search needs
 grow-requires : tie.Need-grow-requires
 grow-requires c κs = let a = c .before .before .before .before .before .before .args in ready (a .g) (a .image .now) (a .h) (c .before .before .before .before .sector-ranged .result) 4 (c .before .before .changing-number .ensures) (c .before .if1 .left)
 
+carried-requires-2 : tie.Need-carried-requires-2
+carried-requires-2 c κs = search needs
+
 same-length-2 : tie.Need-same-length-2
 same-length-2 c = search needs
 
 returns-2 : tie.Need-returns-2
-returns-2 c = grew _ _ _ _ (c .before .before .before .before .before .before .before .sector-ranged .ensures) (c .before .before .before .before .before .changing-number .ensures) (c .before .before .before .before .if1 .left) (c .before .before .grow .ensures .0) (c .before .before .grow .ensures .1)
+returns-2 c = grew _ _ _ _ (c .before .before .before .before .before .before .before .before .sector-ranged .ensures) (handed _ _ _ (c .before .before .before .before .before .before .before .before .before .before .pre) (c .carried2 .ensures)) (c .before .before .before .before .before .before .changing-number .ensures) (c .before .before .before .before .before .if1 .left) (c .before .before .before .grow .ensures .0) (c .before .before .before .grow .ensures .1)
 
 pub allot-checked-spec : {M : Type 1} → statement M
 allot-checked-spec =
@@ -39,9 +47,9 @@ allot-checked-spec =
     (tie.spec
     sector-ranged-requires
     changing-number-requires
-    same-length
+    carried-requires same-length
     returns
     add-grow
     grow-requires
-    same-length-2
+    carried-requires-2 same-length-2
     returns-2)

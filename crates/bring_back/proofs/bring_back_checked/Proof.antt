@@ -2,6 +2,7 @@ use Prim.Native.Nat.{ℕ}
 use lib.ListN.{length-replicate}
 use Rattle.bring_back.proofs.Call.{refused, accepted, listed-then, taken-same}
 use Rattle.seek.proofs.Frame.{same-room}
+use Rattle.handle.proofs.Laws.{handed}
 use borrow.Author.Needs.{needs}
 use Rattle.bring_back.proofs.bring_back_checked.Statement.{statement}
 use Rattle.bring_back.proofs.bring_back_checked.Tie as tie
@@ -10,15 +11,19 @@ use Rattle.bring_back.proofs.bring_back_checked.Lts as lts
 use Rattle.restore.proofs.back_all.Reads as back-all-reads
 use Rattle.bring_back.proofs.plan.Reads as plan-reads
 use Rattle.restore.proofs.take_all.Reads as take-all-reads
+use Rattle.refusal.proofs.carried.Reads as carried-reads
 
 plan-requires : tie.Need-plan-requires
 plan-requires c κs = (c .before .before .before .pre, length-replicate {A = ℕ} 256 0)
+
+carried-requires : tie.Need-carried-requires
+carried-requires c κs = search needs
 
 same-length : tie.Need-same-length
 same-length c = search needs
 
 returns : tie.Need-returns
-returns c = refused _ _ _ (c .before .before .plan .ensures .number-is) (c .if1 .taken)
+returns c = refused _ _ _ (handed _ _ _ (c .before .before .before .before .before .before .before .pre) (c .carried .ensures)) (c .before .before .before .plan .ensures .number-is) (c .before .if1 .taken)
 
 take-all-requires : tie.Need-take-all-requires
 take-all-requires c κs = (c .before .before .before .before .plan .ensures .room (c .before .before .if1 .left), c .before .before .before .before .plan .ensures .written (c .before .before .if1 .left) .listed)
@@ -26,20 +31,23 @@ take-all-requires c κs = (c .before .before .before .before .plan .ensures .roo
 back-all-requires : tie.Need-back-all-requires
 back-all-requires c κs = let p = c .before .before .before .before .before .before .before .before .before .plan .ensures in let z = c .before .before .before .before .before .before .before .if1 .left in let e = taken-same _ _ _ (p .room z) (p .written z) (c .before .before .before .before .take-all .ensures) in (same-room _ _ _ (p .room z) e, listed-then _ _ _ (p .room z) (p .written z) e, p .small z)
 
+carried-requires-2 : tie.Need-carried-requires-2
+carried-requires-2 c κs = search needs
+
 same-length-2 : tie.Need-same-length-2
 same-length-2 c = search needs
 
 returns-2 : tie.Need-returns-2
-returns-2 c = accepted _ _ _ (c .before .before .before .before .before .before .before .before .before .before .before .before .plan .ensures) (c .before .before .before .before .before .before .before .before .before .before .if1 .left) (c .before .before .before .before .before .before .before .take-all .ensures) (c .before .before .back-all .ensures)
+returns-2 c = accepted _ _ _ (handed _ _ 0 (c .before .before .before .before .before .before .before .before .before .before .before .before .before .before .before .before .before .pre) (c .carried2 .ensures)) (c .before .before .before .before .before .before .before .before .before .before .before .before .before .plan .ensures) (c .before .before .before .before .before .before .before .before .before .before .before .if1 .left) (c .before .before .before .before .before .before .before .before .take-all .ensures) (c .before .before .before .back-all .ensures)
 
 pub bring-back-checked-spec : {M : Type 1} → statement M
 bring-back-checked-spec =
     tie.close
     (tie.spec
     plan-requires
-    same-length
+    carried-requires same-length
     returns
     take-all-requires
     back-all-requires
-    same-length-2
+    carried-requires-2 same-length-2
     returns-2)

@@ -26,64 +26,64 @@ refused-requires : tie.Need-refused-requires
 refused-requires c κs = search needs
 
 returns : tie.Need-returns
-returns c = refused-plan _ _ _ (c .refused .ensures) (at-check _ _ _ (c .before .before .before .pre .0) (c .before .if1 .taken)) (c .before .if1 .taken)
+returns c = refused-plan _ _ _ (c .refused .ensures) (at-check _ _ _ (c .before .before .before .before .pre .0) (c .before .if1 .taken)) (c .before .if1 .taken)
 
 is-slot-requires : tie.Need-is-slot-requires
-is-slot-requires c κs = checked-room _ _ (checked _ _ (c .before .before .pre .0) (c .if1 .left))
+is-slot-requires c κs = checked-room _ _ (checked _ _ (c .before .before .before .pre .0) (c .if1 .left))
 
 refused-requires-2 : tie.Need-refused-requires-2
 refused-requires-2 c κs = search needs
 
 returns-2 : tie.Need-returns-2
-returns-2 c = refused-plan _ _ _ (c .refused2 .ensures) (at-slot _ _ _ (c .before .before .before .before .before .pre .0) (c .before .before .before .if1 .left) (is-no (c .before .before .is-slot .ensures) (c .before .if2 .taken))) (λ z. omega arith)
+returns-2 c = refused-plan _ _ _ (c .refused2 .ensures) (at-slot _ _ _ (c .before .before .before .before .before .before .pre .0) (c .before .before .before .if1 .left) (is-no (c .before .before .is-slot .ensures) (c .before .if2 .taken))) (λ z. omega arith)
 
 flag-requires : tie.Need-flag-requires
-flag-requires c κs = (checked-room _ _ (checked _ _ (c .before .before .before .before .pre .0) (c .before .before .if1 .left)), slot-of _ _ _ (is-yes (c .before .is-slot .ensures) (c .if2 .left)), omega arith)
+flag-requires c κs = (checked-room _ _ (checked _ _ (c .before .before .before .before .before .pre .0) (c .before .before .if1 .left)), slot-of _ _ _ (is-yes (c .before .is-slot .ensures) (c .if2 .left)), omega arith)
 
 refused-requires-3 : tie.Need-refused-requires-3
 refused-requires-3 c κs = search needs
 
 returns-3 : tie.Need-returns-3
-returns-3 c = refused-plan _ _ _ (c .refused3 .ensures) (at-use _ _ _ (c .before .before .before .before .before .before .before .pre .0) (c .before .before .before .before .before .if1 .left) (is-yes (c .before .before .before .before .is-slot .ensures) (c .before .before .before .if2 .left)) (sym (c .before .before .flag .ensures) ∙ c .before .if3 .taken)) (λ z. omega arith)
+returns-3 c = refused-plan _ _ _ (c .refused3 .ensures) (at-use _ _ _ (c .before .before .before .before .before .before .before .before .pre .0) (c .before .before .before .before .before .if1 .left) (is-yes (c .before .before .before .before .is-slot .ensures) (c .before .before .before .if2 .left)) (sym (c .before .before .flag .ensures) ∙ c .before .if3 .taken)) (λ z. omega arith)
 
 flag-requires-2 : tie.Need-flag-requires-2
-flag-requires-2 c κs = (checked-room _ _ (checked _ _ (c .before .before .before .before .before .before .pre .0) (c .before .before .before .before .if1 .left)), slot-of _ _ _ (is-yes (c .before .before .before .is-slot .ensures) (c .before .before .if2 .left)), omega arith)
+flag-requires-2 c κs = (checked-room _ _ (checked _ _ (c .before .before .before .before .before .before .before .pre .0) (c .before .before .before .before .if1 .left)), slot-of _ _ _ (is-yes (c .before .before .before .is-slot .ensures) (c .before .before .if2 .left)), omega arith)
 
 refused-requires-4 : tie.Need-refused-requires-4
 refused-requires-4 c κs = search needs
 
 returns-4 : tie.Need-returns-4
-returns-4 c = refused-plan _ _ _ (c .refused4 .ensures) (at-system _ _ _ (c .before .before .before .before .before .before .before .before .before .pre .0) (c .before .before .before .before .before .before .before .if1 .left) (is-yes (c .before .before .before .before .before .before .is-slot .ensures) (c .before .before .before .before .before .if2 .left)) (sym (c .before .before .before .before .flag .ensures) ∙ c .before .before .before .if3 .left) (sym (c .before .before .flag2 .ensures) ∙ c .before .if4 .taken)) (λ z. omega arith)
+returns-4 c = refused-plan _ _ _ (c .refused4 .ensures) (at-system _ _ _ (c .before .before .before .before .before .before .before .before .before .before .pre .0) (c .before .before .before .before .before .before .before .if1 .left) (is-yes (c .before .before .before .before .before .before .is-slot .ensures) (c .before .before .before .before .before .if2 .left)) (sym (c .before .before .before .before .flag .ensures) ∙ c .before .before .before .if3 .left) (sym (c .before .before .flag2 .ensures) ∙ c .before .if4 .taken)) (λ z. omega arith)
 
 whole-requires : tie.Need-whole-requires
-whole-requires c κs = (checked-room _ _ (checked _ _ (c .before .before .before .before .before .before .before .before .before .pre .0) (c .before .before .before .before .before .before .before .if1 .left)), slot-of _ _ _ (is-yes (c .before .before .before .before .before .before .is-slot .ensures) (c .before .before .before .before .before .if2 .left)), c .before .before .before .before .before .before .before .before .before .pre .1)
+whole-requires c κs = (checked-room _ _ (checked _ _ (c .before .before .before .before .before .before .before .before .before .before .pre .0) (c .before .before .before .before .before .before .before .if1 .left)), slot-of _ _ _ (is-yes (c .before .before .before .before .before .before .is-slot .ensures) (c .before .before .before .before .before .if2 .left)), c .before .before .before .before .before .before .before .before .before .before .pre .1)
 
 refused-requires-5 : tie.Need-refused-requires-5
 refused-requires-5 c κs = search needs
 
 returns-5 : tie.Need-returns-5
-returns-5 c = refused-plan _ _ _ (c .refused5 .ensures) (at-whole _ _ _ (c .before .before .before .before .before .before .before .before .before .before .before .before .before .pre .0) (c .before .before .before .before .before .before .before .before .before .before .before .if1 .left) (is-yes (c .before .before .before .before .before .before .before .before .before .before .is-slot .ensures) (c .before .before .before .before .before .before .before .before .before .if2 .left)) (sym (c .before .before .before .before .before .before .before .before .flag .ensures) ∙ c .before .before .before .before .before .before .before .if3 .left) (sym (c .before .before .before .before .before .before .flag2 .ensures) ∙ c .before .before .before .before .before .if4 .left) (is-no (c .before .before .before .whole .ensures .answer) (c .before .if5 .taken))) (λ z. omega arith)
+returns-5 c = refused-plan _ _ _ (c .refused5 .ensures) (at-whole _ _ _ (c .before .before .before .before .before .before .before .before .before .before .before .before .before .before .pre .0) (c .before .before .before .before .before .before .before .before .before .before .before .if1 .left) (is-yes (c .before .before .before .before .before .before .before .before .before .before .is-slot .ensures) (c .before .before .before .before .before .before .before .before .before .if2 .left)) (sym (c .before .before .before .before .before .before .before .before .flag .ensures) ∙ c .before .before .before .before .before .before .before .if3 .left) (sym (c .before .before .before .before .before .before .flag2 .ensures) ∙ c .before .before .before .before .before .if4 .left) (is-no (c .before .before .before .whole .ensures .answer) (c .before .if5 .taken))) (λ z. omega arith)
 
 add-a : tie.Need-add-a
-add-a c = let r = checked-room _ _ (checked _ _ (c .before .before .before .before .before .before .before .before .before .before .before .before .before .pre .0) (c .before .before .before .before .before .before .before .before .before .before .before .if1 .left)) in let t = r .directory in let m = r .most in omega arith
+add-a c = let r = checked-room _ _ (checked _ _ (c .before .before .before .before .before .before .before .before .before .before .before .before .before .before .pre .0) (c .before .before .before .before .before .before .before .before .before .before .before .if1 .left)) in let t = r .directory in let m = r .most in omega arith
 
 add-a-2 : tie.Need-add-a-2
-add-a-2 c = let r = checked-room _ _ (checked _ _ (c .before .before .before .before .before .before .before .before .before .before .before .before .before .pre .0) (c .before .before .before .before .before .before .before .before .before .before .before .if1 .left)) in let t = r .directory in let m = r .most in omega arith
+add-a-2 c = let r = checked-room _ _ (checked _ _ (c .before .before .before .before .before .before .before .before .before .before .before .before .before .before .pre .0) (c .before .before .before .before .before .before .before .before .before .before .before .if1 .left)) in let t = r .directory in let m = r .most in omega arith
 
 mul-a : tie.Need-mul-a
-mul-a c = let r = checked-room _ _ (checked _ _ (c .before .before .before .before .before .before .before .before .before .before .before .before .before .pre .0) (c .before .before .before .before .before .before .before .before .before .before .before .if1 .left)) in let t = r .directory in let m = r .most in omega arith
+mul-a c = let r = checked-room _ _ (checked _ _ (c .before .before .before .before .before .before .before .before .before .before .before .before .before .before .pre .0) (c .before .before .before .before .before .before .before .before .before .before .before .if1 .left)) in let t = r .directory in let m = r .most in omega arith
 
 mul-a-2 : tie.Need-mul-a-2
 mul-a-2 c = search needs
 
 add-a-3 : tie.Need-add-a-3
-add-a-3 c = let r = checked-room _ _ (checked _ _ (c .before .before .before .before .before .before .before .before .before .before .before .before .before .pre .0) (c .before .before .before .before .before .before .before .before .before .before .before .if1 .left)) in let t = r .directory in let m = r .most in let l = slot-of _ _ _ (is-yes (c .before .before .before .before .before .before .before .before .before .before .is-slot .ensures) (c .before .before .before .before .before .before .before .before .before .if2 .left)) .low in omega arith
+add-a-3 c = let r = checked-room _ _ (checked _ _ (c .before .before .before .before .before .before .before .before .before .before .before .before .before .before .pre .0) (c .before .before .before .before .before .before .before .before .before .before .before .if1 .left)) in let t = r .directory in let m = r .most in let l = slot-of _ _ _ (is-yes (c .before .before .before .before .before .before .before .before .before .before .is-slot .ensures) (c .before .before .before .before .before .before .before .before .before .if2 .left)) .low in omega arith
 
 add-a-4 : tie.Need-add-a-4
-add-a-4 c = let r = checked-room _ _ (checked _ _ (c .before .before .before .before .before .before .before .before .before .before .before .before .before .pre .0) (c .before .before .before .before .before .before .before .before .before .before .before .if1 .left)) in let t = r .directory in let m = r .most in let l = slot-of _ _ _ (is-yes (c .before .before .before .before .before .before .before .before .before .before .is-slot .ensures) (c .before .before .before .before .before .before .before .before .before .if2 .left)) .low in omega arith
+add-a-4 c = let r = checked-room _ _ (checked _ _ (c .before .before .before .before .before .before .before .before .before .before .before .before .before .before .pre .0) (c .before .before .before .before .before .before .before .before .before .before .before .if1 .left)) in let t = r .directory in let m = r .most in let l = slot-of _ _ _ (is-yes (c .before .before .before .before .before .before .before .before .before .before .is-slot .ensures) (c .before .before .before .before .before .before .before .before .before .if2 .left)) .low in omega arith
 
 add-e : tie.Need-add-e
-add-e c = let r = checked-room _ _ (checked _ _ (c .before .before .before .before .before .before .before .before .before .before .before .before .before .pre .0) (c .before .before .before .before .before .before .before .before .before .before .before .if1 .left)) in let t = r .directory in let m = r .most in let l = slot-of _ _ _ (is-yes (c .before .before .before .before .before .before .before .before .before .before .is-slot .ensures) (c .before .before .before .before .before .before .before .before .before .if2 .left)) .low in omega arith
+add-e c = let r = checked-room _ _ (checked _ _ (c .before .before .before .before .before .before .before .before .before .before .before .before .before .before .pre .0) (c .before .before .before .before .before .before .before .before .before .before .before .if1 .left)) in let t = r .directory in let m = r .most in let l = slot-of _ _ _ (is-yes (c .before .before .before .before .before .before .before .before .before .before .is-slot .ensures) (c .before .before .before .before .before .before .before .before .before .if2 .left)) .low in omega arith
 
 sub-name : tie.Need-sub-name
 sub-name c = search needs
@@ -92,36 +92,36 @@ part-name-start : tie.Need-part-name-start
 part-name-start c = search needs
 
 part-name-end : tie.Need-part-name-end
-part-name-end c = let w = name-ends _ _ _ (checked-room _ _ (checked _ _ (c .before .before .before .before .before .before .before .before .before .before .before .before .before .pre .0) (c .before .before .before .before .before .before .before .before .before .before .before .if1 .left))) (slot-of _ _ _ (is-yes (c .before .before .before .before .before .before .before .before .before .before .is-slot .ensures) (c .before .before .before .before .before .before .before .before .before .if2 .left))) in omega arith
+part-name-end c = let w = name-ends _ _ _ (checked-room _ _ (checked _ _ (c .before .before .before .before .before .before .before .before .before .before .before .before .before .before .pre .0) (c .before .before .before .before .before .before .before .before .before .before .before .if1 .left))) (slot-of _ _ _ (is-yes (c .before .before .before .before .before .before .before .before .before .before .is-slot .ensures) (c .before .before .before .before .before .before .before .before .before .if2 .left))) in omega arith
 
 find-requires : tie.Need-find-requires
-find-requires c κs = let r = checked-room _ _ (checked _ _ (c .before .before .before .before .before .before .before .before .before .before .before .before .before .before .pre .0) (c .before .before .before .before .before .before .before .before .before .before .before .before .if1 .left)) in (r, name-long _ _ _ r (slot-of _ _ _ (is-yes (c .before .before .before .before .before .before .before .before .before .before .before .is-slot .ensures) (c .before .before .before .before .before .before .before .before .before .before .if2 .left))) (cut (entryAt (c .before .before .before .before .before .before .before .before .before .before .before .before .before .before .args .g) (c .before .before .before .before .before .before .before .before .before .before .before .before .before .before .args .s) + 5)))
+find-requires c κs = let r = checked-room _ _ (checked _ _ (c .before .before .before .before .before .before .before .before .before .before .before .before .before .before .before .pre .0) (c .before .before .before .before .before .before .before .before .before .before .before .before .if1 .left)) in (r, name-long _ _ _ r (slot-of _ _ _ (is-yes (c .before .before .before .before .before .before .before .before .before .before .before .is-slot .ensures) (c .before .before .before .before .before .before .before .before .before .before .if2 .left))) (cut (entryAt (c .before .before .before .before .before .before .before .before .before .before .before .before .before .before .before .args .g) (c .before .before .before .before .before .before .before .before .before .before .before .before .before .before .before .args .s) + 5)))
 
 refused-requires-6 : tie.Need-refused-requires-6
 refused-requires-6 c κs = search needs
 
 returns-6 : tie.Need-returns-6
-returns-6 c = refused-plan _ _ _ (c .refused6 .ensures) (at-name _ _ _ (c .before .before .before .before .before .before .before .before .before .before .before .before .before .before .before .before .before .pre .0) (c .before .before .before .before .before .before .before .before .before .before .before .before .before .before .before .if1 .left) (is-yes (c .before .before .before .before .before .before .before .before .before .before .before .before .before .before .is-slot .ensures) (c .before .before .before .before .before .before .before .before .before .before .before .before .before .if2 .left)) (sym (c .before .before .before .before .before .before .before .before .before .before .before .before .flag .ensures) ∙ c .before .before .before .before .before .before .before .before .before .before .before .if3 .left) (sym (c .before .before .before .before .before .before .before .before .before .before .flag2 .ensures) ∙ c .before .before .before .before .before .before .before .before .before .if4 .left) (is-yes (c .before .before .before .before .before .before .before .whole .ensures .answer) (c .before .before .before .before .before .if5 .left)) (name-used _ _ _ (checked-room _ _ (checked _ _ (c .before .before .before .before .before .before .before .before .before .before .before .before .before .before .before .before .before .pre .0) (c .before .before .before .before .before .before .before .before .before .before .before .before .before .before .before .if1 .left))) (slot-of _ _ _ (is-yes (c .before .before .before .before .before .before .before .before .before .before .before .before .before .before .is-slot .ensures) (c .before .before .before .before .before .before .before .before .before .before .before .before .before .if2 .left))) (cut (entryAt (c .before .before .before .before .before .before .before .before .before .before .before .before .before .before .before .before .before .args .g) (c .before .before .before .before .before .before .before .before .before .before .before .before .before .before .before .before .before .args .s) + 5)) (c .before .before .find .ensures) (c .before .if6 .taken))) (λ z. omega arith)
+returns-6 c = refused-plan _ _ _ (c .refused6 .ensures) (at-name _ _ _ (c .before .before .before .before .before .before .before .before .before .before .before .before .before .before .before .before .before .before .pre .0) (c .before .before .before .before .before .before .before .before .before .before .before .before .before .before .before .if1 .left) (is-yes (c .before .before .before .before .before .before .before .before .before .before .before .before .before .before .is-slot .ensures) (c .before .before .before .before .before .before .before .before .before .before .before .before .before .if2 .left)) (sym (c .before .before .before .before .before .before .before .before .before .before .before .before .flag .ensures) ∙ c .before .before .before .before .before .before .before .before .before .before .before .if3 .left) (sym (c .before .before .before .before .before .before .before .before .before .before .flag2 .ensures) ∙ c .before .before .before .before .before .before .before .before .before .if4 .left) (is-yes (c .before .before .before .before .before .before .before .whole .ensures .answer) (c .before .before .before .before .before .if5 .left)) (name-used _ _ _ (checked-room _ _ (checked _ _ (c .before .before .before .before .before .before .before .before .before .before .before .before .before .before .before .before .before .before .pre .0) (c .before .before .before .before .before .before .before .before .before .before .before .before .before .before .before .if1 .left))) (slot-of _ _ _ (is-yes (c .before .before .before .before .before .before .before .before .before .before .before .before .before .before .is-slot .ensures) (c .before .before .before .before .before .before .before .before .before .before .before .before .before .if2 .left))) (cut (entryAt (c .before .before .before .before .before .before .before .before .before .before .before .before .before .before .before .before .before .before .args .g) (c .before .before .before .before .before .before .before .before .before .before .before .before .before .before .before .before .before .before .args .s) + 5)) (c .before .before .find .ensures) (c .before .if6 .taken))) (λ z. omega arith)
 
 any-taken-requires : tie.Need-any-taken-requires
-any-taken-requires c κs = (checked-room _ _ (checked _ _ (c .before .before .before .before .before .before .before .before .before .before .before .before .before .before .before .before .before .pre .0) (c .before .before .before .before .before .before .before .before .before .before .before .before .before .before .before .if1 .left)), c .before .before .before .before .before .before .before .whole .ensures .written (not-false _ (c .before .before .before .before .before .if5 .left)) .listed)
+any-taken-requires c κs = (checked-room _ _ (checked _ _ (c .before .before .before .before .before .before .before .before .before .before .before .before .before .before .before .before .before .before .pre .0) (c .before .before .before .before .before .before .before .before .before .before .before .before .before .before .before .if1 .left)), c .before .before .before .before .before .before .before .whole .ensures .written (not-false _ (c .before .before .before .before .before .if5 .left)) .listed)
 
 refused-requires-7 : tie.Need-refused-requires-7
 refused-requires-7 c κs = search needs
 
 returns-7 : tie.Need-returns-7
-returns-7 c = refused-plan _ _ _ (c .refused7 .ensures) (at-taken _ _ _ (c .before .before .before .before .before .before .before .before .before .before .before .before .before .before .before .before .before .before .before .before .pre .0) (c .before .before .before .before .before .before .before .before .before .before .before .before .before .before .before .before .before .before .if1 .left) (is-yes (c .before .before .before .before .before .before .before .before .before .before .before .before .before .before .before .before .before .is-slot .ensures) (c .before .before .before .before .before .before .before .before .before .before .before .before .before .before .before .before .if2 .left)) (sym (c .before .before .before .before .before .before .before .before .before .before .before .before .before .before .before .flag .ensures) ∙ c .before .before .before .before .before .before .before .before .before .before .before .before .before .before .if3 .left) (sym (c .before .before .before .before .before .before .before .before .before .before .before .before .before .flag2 .ensures) ∙ c .before .before .before .before .before .before .before .before .before .before .before .before .if4 .left) (is-yes (c .before .before .before .before .before .before .before .before .before .before .whole .ensures .answer) (c .before .before .before .before .before .before .before .before .if5 .left)) (name-free _ _ _ (checked-room _ _ (checked _ _ (c .before .before .before .before .before .before .before .before .before .before .before .before .before .before .before .before .before .before .before .before .pre .0) (c .before .before .before .before .before .before .before .before .before .before .before .before .before .before .before .before .before .before .if1 .left))) (slot-of _ _ _ (is-yes (c .before .before .before .before .before .before .before .before .before .before .before .before .before .before .before .before .before .is-slot .ensures) (c .before .before .before .before .before .before .before .before .before .before .before .before .before .before .before .before .if2 .left))) (cut (entryAt (c .before .before .before .before .before .before .before .before .before .before .before .before .before .before .before .before .before .before .before .before .args .g) (c .before .before .before .before .before .before .before .before .before .before .before .before .before .before .before .before .before .before .before .before .args .s) + 5)) (c .before .before .before .before .before .find .ensures) (c .before .before .before .before .if6 .left)) (sym (taken-is _ _ _ (c .before .before .before .before .before .before .before .before .before .before .whole .ensures .written (not-false _ (c .before .before .before .before .before .before .before .before .if5 .left)))) ∙ sym (c .before .before .any-taken .ensures) ∙ c .before .if7 .taken)) (λ z. omega arith)
+returns-7 c = refused-plan _ _ _ (c .refused7 .ensures) (at-taken _ _ _ (c .before .before .before .before .before .before .before .before .before .before .before .before .before .before .before .before .before .before .before .before .before .pre .0) (c .before .before .before .before .before .before .before .before .before .before .before .before .before .before .before .before .before .before .if1 .left) (is-yes (c .before .before .before .before .before .before .before .before .before .before .before .before .before .before .before .before .before .is-slot .ensures) (c .before .before .before .before .before .before .before .before .before .before .before .before .before .before .before .before .if2 .left)) (sym (c .before .before .before .before .before .before .before .before .before .before .before .before .before .before .before .flag .ensures) ∙ c .before .before .before .before .before .before .before .before .before .before .before .before .before .before .if3 .left) (sym (c .before .before .before .before .before .before .before .before .before .before .before .before .before .flag2 .ensures) ∙ c .before .before .before .before .before .before .before .before .before .before .before .before .if4 .left) (is-yes (c .before .before .before .before .before .before .before .before .before .before .whole .ensures .answer) (c .before .before .before .before .before .before .before .before .if5 .left)) (name-free _ _ _ (checked-room _ _ (checked _ _ (c .before .before .before .before .before .before .before .before .before .before .before .before .before .before .before .before .before .before .before .before .before .pre .0) (c .before .before .before .before .before .before .before .before .before .before .before .before .before .before .before .before .before .before .if1 .left))) (slot-of _ _ _ (is-yes (c .before .before .before .before .before .before .before .before .before .before .before .before .before .before .before .before .before .is-slot .ensures) (c .before .before .before .before .before .before .before .before .before .before .before .before .before .before .before .before .if2 .left))) (cut (entryAt (c .before .before .before .before .before .before .before .before .before .before .before .before .before .before .before .before .before .before .before .before .before .args .g) (c .before .before .before .before .before .before .before .before .before .before .before .before .before .before .before .before .before .before .before .before .before .args .s) + 5)) (c .before .before .before .before .before .find .ensures) (c .before .before .before .before .if6 .left)) (sym (taken-is _ _ _ (c .before .before .before .before .before .before .before .before .before .before .whole .ensures .written (not-false _ (c .before .before .before .before .before .before .before .before .if5 .left)))) ∙ sym (c .before .before .any-taken .ensures) ∙ c .before .if7 .taken)) (λ z. omega arith)
 
 hash-requires : tie.Need-hash-requires
 hash-requires c κs = search needs
 
 returns-8 : tie.Need-returns-8
-returns-8 c = let r = checked-room _ _ (checked _ _ (c .before .before .before .before .before .before .before .before .before .before .before .before .before .before .before .before .before .before .before .before .pre .0) (c .before .before .before .before .before .before .before .before .before .before .before .before .before .before .before .before .before .before .if1 .left)) in let sl = slot-of _ _ _ (is-yes (c .before .before .before .before .before .before .before .before .before .before .before .before .before .before .before .before .before .is-slot .ensures) (c .before .before .before .before .before .before .before .before .before .before .before .before .before .before .before .before .if2 .left)) in let w = c .before .before .before .before .before .before .before .before .before .before .whole .ensures .written (not-false _ (c .before .before .before .before .before .before .before .before .if5 .left)) in
+returns-8 c = let r = checked-room _ _ (checked _ _ (c .before .before .before .before .before .before .before .before .before .before .before .before .before .before .before .before .before .before .before .before .before .pre .0) (c .before .before .before .before .before .before .before .before .before .before .before .before .before .before .before .before .before .before .if1 .left)) in let sl = slot-of _ _ _ (is-yes (c .before .before .before .before .before .before .before .before .before .before .before .before .before .before .before .before .before .is-slot .ensures) (c .before .before .before .before .before .before .before .before .before .before .before .before .before .before .before .before .if2 .left)) in let w = c .before .before .before .before .before .before .before .before .before .before .whole .ensures .written (not-false _ (c .before .before .before .before .before .before .before .before .if5 .left)) in
     record {
-      number-is = at-none _ _ _ (c .before .before .before .before .before .before .before .before .before .before .before .before .before .before .before .before .before .before .before .before .pre .0) (c .before .before .before .before .before .before .before .before .before .before .before .before .before .before .before .before .before .before .if1 .left) (is-yes (c .before .before .before .before .before .before .before .before .before .before .before .before .before .before .before .before .before .is-slot .ensures) (c .before .before .before .before .before .before .before .before .before .before .before .before .before .before .before .before .if2 .left)) (sym (c .before .before .before .before .before .before .before .before .before .before .before .before .before .before .before .flag .ensures) ∙ c .before .before .before .before .before .before .before .before .before .before .before .before .before .before .if3 .left) (sym (c .before .before .before .before .before .before .before .before .before .before .before .before .before .flag2 .ensures) ∙ c .before .before .before .before .before .before .before .before .before .before .before .before .if4 .left) (is-yes (c .before .before .before .before .before .before .before .before .before .before .whole .ensures .answer) (c .before .before .before .before .before .before .before .before .if5 .left)) (name-free _ _ _ r sl (cut (entryAt (c .before .before .before .before .before .before .before .before .before .before .before .before .before .before .before .before .before .before .before .before .args .g) (c .before .before .before .before .before .before .before .before .before .before .before .before .before .before .before .before .before .before .before .before .args .s) + 5)) (c .before .before .before .before .before .find .ensures) (c .before .before .before .before .if6 .left)) (sym (taken-is _ _ _ w) ∙ sym (c .before .before .any-taken .ensures) ∙ c .before .if7 .left);
+      number-is = at-none _ _ _ (c .before .before .before .before .before .before .before .before .before .before .before .before .before .before .before .before .before .before .before .before .before .pre .0) (c .before .before .before .before .before .before .before .before .before .before .before .before .before .before .before .before .before .before .if1 .left) (is-yes (c .before .before .before .before .before .before .before .before .before .before .before .before .before .before .before .before .before .is-slot .ensures) (c .before .before .before .before .before .before .before .before .before .before .before .before .before .before .before .before .if2 .left)) (sym (c .before .before .before .before .before .before .before .before .before .before .before .before .before .before .before .flag .ensures) ∙ c .before .before .before .before .before .before .before .before .before .before .before .before .before .before .if3 .left) (sym (c .before .before .before .before .before .before .before .before .before .before .before .before .before .flag2 .ensures) ∙ c .before .before .before .before .before .before .before .before .before .before .before .before .if4 .left) (is-yes (c .before .before .before .before .before .before .before .before .before .before .whole .ensures .answer) (c .before .before .before .before .before .before .before .before .if5 .left)) (name-free _ _ _ r sl (cut (entryAt (c .before .before .before .before .before .before .before .before .before .before .before .before .before .before .before .before .before .before .before .before .before .args .g) (c .before .before .before .before .before .before .before .before .before .before .before .before .before .before .before .before .before .before .before .before .before .args .s) + 5)) (c .before .before .before .before .before .find .ensures) (c .before .before .before .before .if6 .left)) (sym (taken-is _ _ _ w) ∙ sym (c .before .before .any-taken .ensures) ∙ c .before .if7 .left);
       room = λ z. r;
       written = λ z. w;
-      hash-is = λ z. c .hash .ensures .is ∙ ap hash (name-is _ _ _ r sl (cut (entryAt (c .before .before .before .before .before .before .before .before .before .before .before .before .before .before .before .before .before .before .before .before .args .g) (c .before .before .before .before .before .before .before .before .before .before .before .before .before .before .before .before .before .before .before .before .args .s) + 5)));
+      hash-is = λ z. c .hash .ensures .is ∙ ap hash (name-is _ _ _ r sl (cut (entryAt (c .before .before .before .before .before .before .before .before .before .before .before .before .before .before .before .before .before .before .before .before .before .args .g) (c .before .before .before .before .before .before .before .before .before .before .before .before .before .before .before .before .before .before .before .before .before .args .s) + 5)));
       small = λ z. c .hash .ensures .small;
     }
 

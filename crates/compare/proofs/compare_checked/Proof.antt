@@ -1,3 +1,5 @@
+use mathlib.Core.Path.{ap, _∙_}
+use Rattle.differences.specs.Compare.{tellsNone}
 use Rattle.compare.proofs.Telling.{whole, first-refused, second-refused, accepted′}
 use borrow.Author.Needs.{needs}
 use Rattle.compare.proofs.compare_checked.Statement.{statement}
@@ -6,26 +8,33 @@ use Rattle.compare.proofs.compare_checked.Reads as reads
 use Rattle.compare.proofs.compare_checked.Lts as lts
 use Rattle.compare.proofs.tells_none.Reads as tells-none-reads
 use Rattle.compare.proofs.told.Reads as told-reads
+use Rattle.refusal.proofs.naming.Reads as naming-reads
+
+naming-requires : tie.Need-naming-requires
+naming-requires c κs = search needs
 
 tells-none-requires : tie.Need-tells-none-requires
 tells-none-requires c κs = search needs
 
 returns : tie.Need-returns
-returns c = first-refused _ _ _ _ _ (c .tells-none .ensures) (c .before .before .before .before .pre .0) (c .before .if1 .taken)
+returns c = first-refused _ _ _ _ _ (c .tells-none .ensures ∙ ap tellsNone (c .before .naming .ensures)) (c .before .before .before .before .before .before .pre .0) (c .before .before .if1 .taken)
+
+naming-requires-2 : tie.Need-naming-requires-2
+naming-requires-2 c κs = search needs
 
 tells-none-requires-2 : tie.Need-tells-none-requires-2
 tells-none-requires-2 c κs = search needs
 
 returns-2 : tie.Need-returns-2
-returns-2 c = second-refused _ _ _ _ _ (c .tells-none2 .ensures) (c .before .before .before .before .before .pre .0) (c .before .before .if1 .left) (c .before .before .before .before .before .pre .1) (c .before .if2 .taken)
+returns-2 c = second-refused _ _ _ _ _ (c .tells-none2 .ensures ∙ ap tellsNone (c .before .naming2 .ensures)) (c .before .before .before .before .before .before .before .before .pre .0) (c .before .before .before .before .if1 .left) (c .before .before .before .before .before .before .before .before .pre .1) (c .before .before .if2 .taken)
 
 told-requires : tie.Need-told-requires
-told-requires c κs = (whole _ _ (c .before .before .before .before .pre .0) (c .before .if1 .left), whole _ _ (c .before .before .before .before .pre .1) (c .if2 .left))
+told-requires c κs = (whole _ _ (c .before .before .before .before .before .before .pre .0) (c .before .before .if1 .left), whole _ _ (c .before .before .before .before .before .before .pre .1) (c .if2 .left))
 
 returns-3 : tie.Need-returns-3
-returns-3 c = accepted′ _ _ _ _ _ (c .told .ensures) (c .before .before .before .before .before .pre .0) (c .before .before .if1 .left) (c .before .before .before .before .before .pre .1) (c .before .if2 .left)
+returns-3 c = accepted′ _ _ _ _ _ (c .told .ensures) (c .before .before .before .before .before .before .before .pre .0) (c .before .before .before .if1 .left) (c .before .before .before .before .before .before .before .pre .1) (c .before .if2 .left)
 
 pub compare-checked-spec : {M : Type 1} → statement M
 compare-checked-spec =
     tie.close
-    (tie.spec tells-none-requires returns tells-none-requires-2 returns-2 told-requires returns-3)
+    (tie.spec naming-requires tells-none-requires returns naming-requires-2 tells-none-requires-2 returns-2 told-requires returns-3)

@@ -1,7 +1,5 @@
-use Prim.Native.Nat.{ℕ}
-use mathlib.Core.List.{List}
-use mathlib.Core.Path.{ap, _∙_}
-use Rattle.differences.specs.Compare.{nameOnly}
+use mathlib.Core.Bool.{false}
+use mathlib.Core.Path.{_∙_}
 use Rattle.rising.proofs.Names.{placed-name}
 use borrow.Author.Needs.{needs}
 use Rattle.compare.proofs.name_only.Statement.{statement}
@@ -10,15 +8,19 @@ use Rattle.compare.proofs.name_only.Reads as reads
 use Rattle.compare.proofs.name_only.Lts as lts
 use Rattle.rising.proofs.name_place.Reads as name-place-reads
 use Rattle.find.proofs.name_at.Reads as name-at-reads
+use Rattle.refusal.proofs.unplaced.Reads as unplaced-reads
 
 name-place-requires : tie.Need-name-place-requires
 name-place-requires c κs = search needs
+
+unplaced-requires : tie.Need-unplaced-requires
+unplaced-requires c κs = search needs
 
 name-at-requires : tie.Need-name-at-requires
 name-at-requires c κs = search needs
 
 returns : tie.Need-returns
-returns c = let a = c .before .before .before .args in ap (λ (n : List ℕ). nameOnly n (a .kind)) (c .name-at .ensures ∙ placed-name (a .g) (a .image .now) (a .s) _ (c .before .name-place .ensures))
+returns c = let a = c .before .before .before .before .args in (λ i. record { refusal = c .before .unplaced .ensures i; kind = a .kind; name = (c .name-at .ensures ∙ placed-name (a .g) (a .image .now) (a .s) _ (c .before .before .name-place .ensures)) i; at = 0; contents = false; size = false; date = false; other = false })
 
 pub name-only-spec : {M : Type 1} → statement M
-name-only-spec = tie.close (tie.spec name-place-requires name-at-requires returns)
+name-only-spec = tie.close (tie.spec name-place-requires unplaced-requires name-at-requires returns)

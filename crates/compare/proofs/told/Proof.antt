@@ -1,3 +1,4 @@
+use Rattle.differences.specs.Compare.{tellsNone}
 use Rattle.differences.specs.Told.{difference-name}
 use Prim.Native.Nat.{_-_}
 use mathlib.Core.Logic.{⊎-elim}
@@ -12,6 +13,7 @@ use Rattle.compare.proofs.told.Lts as lts
 use Rattle.compare.proofs.difference_at.Reads as difference-at-reads
 use Rattle.rising.proofs.next_pair.Reads as next-pair-reads
 use Rattle.compare.proofs.tells_none.Reads as tells-none-reads
+use Rattle.refusal.proofs.unplaced.Reads as unplaced-reads
 
 abbrev Inv-loop : tie.InvT-loop
 Inv-loop first g second h number last₀ left₀ k₀ last left k = Going g first h second number left last k
@@ -28,11 +30,14 @@ slice-aggregate-next-pair c = search needs
 next-pair-requires : tie.Need-next-pair-requires Inv-loop μ-loop
 next-pair-requires c κs = search needs
 
+unplaced-requires : tie.Need-unplaced-requires Inv-loop μ-loop
+unplaced-requires c κs = search needs
+
 tells-none-requires : tie.Need-tells-none-requires Inv-loop μ-loop
 tells-none-requires c κs = search needs
 
 returns : tie.Need-returns Inv-loop μ-loop
-returns c = c .tells-none .ensures ∙ going-end _ _ _ _ _ _ _ _ (c .before .before .before .next-pair .ensures .ended (c .before .if1 .taken)) (c .before .before .before .before .before .before .loop .inv)
+returns c = c .tells-none .ensures ∙ ap tellsNone (c .before .unplaced .ensures) ∙ going-end _ _ _ _ _ _ _ _ (c .before .before .before .before .next-pair .ensures .ended (c .before .before .if1 .taken)) (c .before .before .before .before .before .before .before .loop .inv)
 
 difference-at-requires : tie.Need-difference-at-requires Inv-loop μ-loop
 difference-at-requires c κs = (c .before .before .before .before .before .before .before .before .pre .0, c .before .before .before .before .before .before .before .before .pre .1, c .before .before .next-pair .ensures .files (c .if1 .left))
@@ -58,11 +63,14 @@ loop-again c =
     (λ w. going-same _ _ _ _ (w .1) n (going-no (a .g) (a .first .now) (a .h) (a .second .now) _ _ _ _ _ (c .before .before .before .before .before .before .next-pair .ensures .ahead (c .before .before .before .before .if1 .left)) (name-sized (a .g) (a .first .now) (a .h) (a .second .now) _) (c .before .before .before .before .before .before .before .before .before .loop .inv) (is-none (a .g) (a .first .now) (a .h) (a .second .now) x (w .0 .left))))
     (c .before .if2 .came)
 
+unplaced-requires-2 : tie.Need-unplaced-requires-2 Inv-loop μ-loop
+unplaced-requires-2 c κs = search needs
+
 tells-none-requires-2 : tie.Need-tells-none-requires-2 Inv-loop μ-loop
 tells-none-requires-2 c κs = search needs
 
 returns-3 : tie.Need-returns-3 Inv-loop μ-loop
-returns-3 c = c .tells-none2 .ensures ∙ going-end _ _ _ _ _ _ _ _ (going-out _ _ _ _ _ _ _ _ (c .before .loop-test .left) (c .before .before .loop .inv)) (c .before .before .loop .inv)
+returns-3 c = c .tells-none2 .ensures ∙ ap tellsNone (c .before .unplaced2 .ensures) ∙ going-end _ _ _ _ _ _ _ _ (going-out _ _ _ _ _ _ _ _ (c .before .before .loop-test .left) (c .before .before .before .loop .inv)) (c .before .before .before .loop .inv)
 
 pub told-spec : {M : Type 1} → statement M
 told-spec =
@@ -73,6 +81,7 @@ told-spec =
     loop-holds
     slice-aggregate-next-pair
     next-pair-requires
+    unplaced-requires
     tells-none-requires
     returns
     difference-at-requires
@@ -81,5 +90,6 @@ told-spec =
     add-k
     loop-less
     loop-again
+    unplaced-requires-2
     tells-none-requires-2
     returns-3)

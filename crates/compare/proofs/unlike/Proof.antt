@@ -14,6 +14,7 @@ use Rattle.attributes.proofs.others_differ.Reads as others-differ-reads
 use Rattle.parting.proofs.parting_at.Reads as parting-at-reads
 use Rattle.find.proofs.name_at.Reads as name-at-reads
 use Rattle.layout.proofs.size_of.Reads as size-of-reads
+use Rattle.refusal.proofs.unplaced.Reads as unplaced-reads
 
 size-of-requires : tie.Need-size-of-requires
 size-of-requires c κs = search needs
@@ -39,11 +40,14 @@ kind-of-requires c κs = search needs
 name-place-requires : tie.Need-name-place-requires
 name-place-requires c κs = search needs
 
+unplaced-requires : tie.Need-unplaced-requires
+unplaced-requires c κs = search needs
+
 name-at-requires : tie.Need-name-at-requires
 name-at-requires c κs = search needs
 
 returns : tie.Need-returns
-returns c = let a = c .before .before .before .before .before .before .before .before .before .before .before .args in unlike-is (a .g) (a .first .now) (a .h) (a .second .now) (a .s) (a .t) (c .name-at .ensures ∙ placed-name (a .g) (a .first .now) (a .s) _ (c .before .name-place .ensures)) (c .before .before .before .before .before .before .before .before .size-of .ensures .is) (c .before .before .before .before .before .before .before .size-of2 .ensures .is) (c .before .before .before .before .before .before .parting-at .ensures) (c .before .before .before .before .before .contents-differ .ensures) refl (c .before .before .before .before .dates-differ .ensures) (c .before .before .before .others-differ .ensures) (c .before .before .kind-of .ensures)
+returns c = let a = c .before .before .before .before .before .before .before .before .before .before .before .before .args in unlike-is (a .g) (a .first .now) (a .h) (a .second .now) (a .s) (a .t) (c .before .unplaced .ensures) (c .name-at .ensures ∙ placed-name (a .g) (a .first .now) (a .s) _ (c .before .before .name-place .ensures)) (c .before .before .before .before .before .before .before .before .before .size-of .ensures .is) (c .before .before .before .before .before .before .before .before .size-of2 .ensures .is) (c .before .before .before .before .before .before .before .parting-at .ensures) (c .before .before .before .before .before .before .contents-differ .ensures) refl (c .before .before .before .before .before .dates-differ .ensures) (c .before .before .before .before .others-differ .ensures) (c .before .before .before .kind-of .ensures)
 
 pub unlike-spec : {M : Type 1} → statement M
 unlike-spec =
@@ -57,5 +61,5 @@ unlike-spec =
     others-differ-requires
     kind-of-requires
     name-place-requires
-    name-at-requires
+    unplaced-requires name-at-requires
     returns)

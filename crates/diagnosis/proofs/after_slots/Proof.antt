@@ -1,10 +1,11 @@
-use mathlib.Core.Path.{refl}
+use mathlib.Core.Path.{refl, _∙_}
 use Rattle.meaning.specs.Sizes.{code-sectors}
 use Rattle.layout.proofs.Lists.{is-no, is-yes}
 use Rattle.diagnosis.proofs.Laws.{directory-in, clear-no, clear-yes}
 use borrow.Author.Needs.{needs}
 use Rattle.diagnosis.proofs.after_slots.Statement.{statement}
 use Rattle.diagnosis.proofs.after_slots.Tie as tie
+use Rattle.refusal.proofs.unplaced.Reads as unplaced-reads
 
 directory-granules-requires : tie.Need-directory-granules-requires
 directory-granules-requires c κs = search needs
@@ -12,11 +13,17 @@ directory-granules-requires c κs = search needs
 all-taken-requires : tie.Need-all-taken-requires
 all-taken-requires c κs = (c .before .before .before .pre, directory-in _ _ (rw code-sectors refl) (c .directory-granules .ensures .is) (c .before .before .before .pre))
 
+unplaced-requires : tie.Need-unplaced-requires
+unplaced-requires c κs = search needs
+
 returns : tie.Need-returns
-returns c = clear-no _ _ (rw code-sectors refl) (c .before .before .directory-granules .ensures .is) (is-no (c .before .all-taken .ensures) (c .if1 .taken))
+returns c = c .unplaced .ensures ∙ clear-no _ _ (rw code-sectors refl) (c .before .before .before .directory-granules .ensures .is) (is-no (c .before .before .all-taken .ensures) (c .before .if1 .taken))
+
+unplaced-requires-2 : tie.Need-unplaced-requires-2
+unplaced-requires-2 c κs = search needs
 
 returns-2 : tie.Need-returns-2
-returns-2 c = clear-yes _ _ (rw code-sectors refl) (c .before .before .directory-granules .ensures .is) (is-yes (c .before .all-taken .ensures) (c .if1 .left))
+returns-2 c = c .unplaced2 .ensures ∙ clear-yes _ _ (rw code-sectors refl) (c .before .before .before .directory-granules .ensures .is) (is-yes (c .before .before .all-taken .ensures) (c .before .if1 .left))
 
 pub after-slots-spec : {M : Type 1} → statement M
-after-slots-spec = tie.close (tie.spec directory-granules-requires all-taken-requires returns returns-2)
+after-slots-spec = tie.close (tie.spec directory-granules-requires all-taken-requires unplaced-requires returns unplaced-requires-2 returns-2)

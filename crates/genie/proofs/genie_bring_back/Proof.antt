@@ -1,27 +1,35 @@
-use Rattle.meaning.specs.declared.BroughtBack.{BroughtBack}
-use Rattle.genie.proofs.Slot.{after, back-kept}
 use mathlib.Core.Path.{ap}
-use Rattle.genie.specs.Exports.{brings, geometry}
+use Rattle.meaning.specs.declared.Geometry.{Geometry}
+use Rattle.genie.specs.Exports.{brings, exportedBringBack}
+use Rattle.genie.proofs.Laws.{at-disk}
 use borrow.Author.Needs.{needs}
 use Rattle.genie.proofs.genie_bring_back.Statement.{statement}
 use Rattle.genie.proofs.genie_bring_back.Tie as tie
 use Rattle.genie.proofs.genie_bring_back.Reads as reads
 use Rattle.genie.proofs.genie_bring_back.Lts as lts
 use Rattle.calls.proofs.bring_back.Reads as bring-back-reads
-use Rattle.refusal.proofs.slot_of.Reads as slot-of-reads
+use Rattle.codec.proofs.geometry.Reads as geometry-reads
 
+-- src/lib.rt:290:9
+geometry-requires : tie.Need-geometry-requires
+geometry-requires c κs = search needs
+
+-- src/lib.rt:291:9
 bring-back-requires : tie.Need-bring-back-requires
 bring-back-requires c κs = search needs
 
-slot-of-requires : tie.Need-slot-of-requires
-slot-of-requires c κs = search needs
-
+-- src/lib.rt:276:1
 same-length : tie.Need-same-length
 same-length c = search needs
 
+-- src/lib.rt:276:1
 returns : tie.Need-returns
-returns c = (ap brings (c .before .before .before .before .bring-back .ensures), after (λ (a : BroughtBack). a .number) (geometry (c .before .before .before .before .before .before .before .args .blocks) (c .before .before .before .before .before .before .before .args .units) (c .before .before .before .before .before .before .before .args .start) (c .before .before .before .before .before .before .before .args .open-code)) (c .before .before .before .before .before .before .before .args .image .now) _ (c .before .before .before .before .bring-back .ensures) (back-kept _ _ _) (c .slot-of .ensures))
+returns c =
+    let a = c .before .before .before .before .before .before .args in
+    let the-geometry = c .before .before .before .before .geometry in
+    let the-bring-back = c .before .before .bring-back in
+    at-disk (λ (g : Geometry). exportedBringBack g (a .image .now) (a .slot)) (the-geometry .ensures) (ap brings (the-bring-back .ensures))
 
 pub genie-bring-back-spec : {M : Type 1} → statement M
 genie-bring-back-spec =
-    tie.close (tie.spec bring-back-requires slot-of-requires same-length returns)
+    tie.close (tie.spec geometry-requires bring-back-requires same-length returns)

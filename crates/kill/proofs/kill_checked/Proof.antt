@@ -1,6 +1,6 @@
 use Rattle.kill.proofs.Laws.{by-range, refused, accepted}
 use Rattle.meaning.specs.Refusals.{protected}
-use Rattle.handle.proofs.Laws.{passed, walks}
+use Rattle.handle.proofs.Laws.{passed, walks, handed}
 use mathlib.Core.Path.{refl}
 use mathlib.Core.List.{[], _∷_}
 use borrow.Author.Needs.{needs}
@@ -11,6 +11,7 @@ use Rattle.kill.proofs.kill_checked.Lts as lts
 use Rattle.handle.proofs.changing_number.Reads as changing-number-reads
 use Rattle.handle.proofs.in_range.Reads as in-range-reads
 use Rattle.space.proofs.kill_file.Reads as kill-file-reads
+use Rattle.refusal.proofs.carried.Reads as carried-reads
 
 in-range-requires : tie.Need-in-range-requires
 in-range-requires c κs = search needs
@@ -18,21 +19,27 @@ in-range-requires c κs = search needs
 changing-number-requires : tie.Need-changing-number-requires
 changing-number-requires c κs = search needs
 
+carried-requires : tie.Need-carried-requires
+carried-requires c κs = search needs
+
 same-length : tie.Need-same-length
 same-length c = search needs
 
 returns : tie.Need-returns
-returns c = refused _ _ _ (by-range _ _ _ (c .before .before .before .in-range .ensures) (c .before .changing-number .ensures)) (c .if1 .taken)
+returns c = refused _ _ _ (handed _ _ _ (c .before .before .before .before .before .before .pre) (c .carried .ensures)) (by-range _ _ _ (c .before .before .before .before .in-range .ensures) (c .before .before .changing-number .ensures)) (c .before .if1 .taken)
 
 kill-file-requires : tie.Need-kill-file-requires
 kill-file-requires c κs = let a = c .before .before .before .before .before .before .args in
     walks (a .g) (a .image .now) (a .h) (c .before .before .before .before .in-range .result) (passed (a .g) (a .image .now) (a .h) (c .before .before .before .before .in-range .result) (protected (a .g) (a .image .now) 1 (a .h) ∷ []) refl (c .before .before .changing-number .ensures) (c .before .if1 .left))
 
+carried-requires-2 : tie.Need-carried-requires-2
+carried-requires-2 c κs = search needs
+
 same-length-2 : tie.Need-same-length-2
 same-length-2 c = search needs
 
 returns-2 : tie.Need-returns-2
-returns-2 c = accepted _ _ _ (by-range _ _ _ (c .before .before .before .before .before .before .before .in-range .ensures) (c .before .before .before .before .before .changing-number .ensures)) (c .before .before .before .before .if1 .left) (c .before .before .kill-file .ensures)
+returns-2 c = accepted _ _ _ (handed _ _ 0 (c .before .before .before .before .before .before .before .before .before .before .pre) (c .carried2 .ensures)) (by-range _ _ _ (c .before .before .before .before .before .before .before .before .in-range .ensures) (c .before .before .before .before .before .before .changing-number .ensures)) (c .before .before .before .before .before .if1 .left) (c .before .before .before .kill-file .ensures)
 
 pub kill-checked-spec : {M : Type 1} → statement M
 kill-checked-spec =
@@ -40,8 +47,8 @@ kill-checked-spec =
     (tie.spec
     in-range-requires
     changing-number-requires
-    same-length
+    carried-requires same-length
     returns
     kill-file-requires
-    same-length-2
+    carried-requires-2 same-length-2
     returns-2)

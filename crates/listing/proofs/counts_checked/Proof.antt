@@ -8,16 +8,16 @@ use Rattle.listing.proofs.files_count.Reads as files-count-reads
 use Rattle.space.proofs.free_count.Reads as free-count-reads
 
 returns : tie.Need-returns
-returns c = counts-refused _ _ (c .before .before .pre) (c .if1 .taken)
+returns c = counts-refused _ _ (c .before .before .before .pre) (c .if1 .taken)
 
 files-count-requires : tie.Need-files-count-requires
-files-count-requires c κs = checked-room _ _ (checked _ _ (c .before .before .pre) (c .if1 .left))
+files-count-requires c κs = checked-room _ _ (checked _ _ (c .before .before .before .pre) (c .if1 .left))
 
 free-count-requires : tie.Need-free-count-requires
-free-count-requires c κs = checked-room _ _ (checked _ _ (c .before .before .before .pre) (c .before .if1 .left))
+free-count-requires c κs = checked-room _ _ (checked _ _ (c .before .before .before .before .pre) (c .before .if1 .left))
 
 returns-2 : tie.Need-returns-2
-returns-2 c = counts-accepted _ _ (c .before .before .before .before .pre) (c .before .before .if1 .left) (c .before .files-count .ensures) (c .free-count .ensures)
+returns-2 c = counts-accepted _ _ (c .before .before .before .before .before .pre) (c .before .before .if1 .left) (c .before .files-count .ensures) (c .free-count .ensures)
 
 pub counts-checked-spec : {M : Type 1} → statement M
 counts-checked-spec =

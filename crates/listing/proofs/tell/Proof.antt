@@ -9,6 +9,10 @@ use Rattle.listing.proofs.tell.Lts as lts
 use Rattle.find.proofs.name_at.Reads as name-at-reads
 use Rattle.extent.proofs.measure.Reads as measure-reads
 use Rattle.layout.proofs.size_of.Reads as size-of-reads
+use Rattle.refusal.proofs.unplaced.Reads as unplaced-reads
+
+unplaced-requires : tie.Need-unplaced-requires
+unplaced-requires c κs = search needs
 
 add-name-at : tie.Need-add-name-at
 add-name-at c = search needs
@@ -38,13 +42,13 @@ measure-requires : tie.Need-measure-requires
 measure-requires c κs = search needs
 
 returns : tie.Need-returns
-returns c = told-is _ _ (c .before .before .before .before .before .args .s) (c .before .before .name-at .ensures ∙ name-is (c .before .before .before .before .before .args .g) (c .before .before .before .before .before .args .image .now) (c .before .before .before .before .before .args .s) (let r = (c .before .before .before .before .before .pre .0 .room) in let u = (c .before .before .before .before .before .pre .1 .slot) in omega arith)) (c .before .size-of .ensures .is) (c .measure .ensures .many)
+returns c = told-is _ _ (c .before .before .before .before .before .before .args .s) (c .before .before .before .before .unplaced .ensures) (c .before .before .name-at .ensures ∙ name-is (c .before .before .before .before .before .before .args .g) (c .before .before .before .before .before .before .args .image .now) (c .before .before .before .before .before .before .args .s) (let r = (c .before .before .before .before .before .before .pre .0 .room) in let u = (c .before .before .before .before .before .before .pre .1 .slot) in omega arith)) (c .before .size-of .ensures .is) (c .measure .ensures .many)
 
 pub tell-spec : {M : Type 1} → statement M
 tell-spec =
     tie.close
     (tie.spec
-    add-name-at
+    unplaced-requires add-name-at
     add-name-at-2
     mul-name-at
     mul-name-at-2

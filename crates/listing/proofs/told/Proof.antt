@@ -1,3 +1,4 @@
+use Rattle.meaning.specs.Listing.{noFile}
 use mathlib.Core.Logic.{⊎-elim}
 use native.Mathlib.Omega.{arith}
 use borrow.Author.Needs.{needs}
@@ -13,6 +14,7 @@ use Rattle.layout.proofs.directory_sectors.Reads as directory-sectors-reads
 use Rattle.listing.proofs.no_file.Reads as no-file-reads
 use Rattle.listing.proofs.tell.Reads as tell-reads
 use Rattle.listing.proofs.tells.Reads as tells-reads
+use Rattle.refusal.proofs.unplaced.Reads as unplaced-reads
 
 abbrev Inv-loop2 : tie.InvT-loop2
 Inv-loop2 image g number columns left₀ row s₀ end at₀ left s at = InRow row columns s × (at ≡ 256 * (g .start + 2) + 32 * row + 256 * (s - 32 * row)) × Telling g image number left s
@@ -93,11 +95,15 @@ loop-less c = let z = c .before .before .before .loop-test .taken in omega arith
 loop-again : tie.Need-loop-again Inv-loop2 μ-loop2 Inv-loop μ-loop
 loop-again c = let i = c .before .loop2 .inv .0 in let a = i .ends in let b = i .few in let r = c .before .before .before .loop-test .taken in (omega arith, subst (Telling (c .before .before .before .before .before .before .before .args .g) (c .before .before .before .before .before .before .before .args .image .now) (c .before .before .before .before .before .before .before .args .number) (c .before .loop2 .left)) (row-after i (c .loop2-test .left)) (telling-past _ _ (row-slot i a) (ap (λ (k : ℕ). k - 2) (c .before .before .before .before .before .directory-sectors .ensures)) (row-past i (c .loop2-test .left)) (c .before .loop2 .inv .2)))
 
+unplaced-requires : tie.Need-unplaced-requires Inv-loop2 μ-loop2 Inv-loop μ-loop
+unplaced-requires c κs = search needs
+
 no-file-requires : tie.Need-no-file-requires Inv-loop2 μ-loop2 Inv-loop μ-loop
 no-file-requires c κs = search needs
 
 returns-2 : tie.Need-returns-2 Inv-loop2 μ-loop2 Inv-loop μ-loop
-returns-2 c = (c .no-file .ensures) ∙ telling-end _ _ (let z = c .before .loop-test .left in omega arith) (c .before .before .loop .inv .1)
+returns-2 c = (c .no-file .ensures) ∙ ap noFile (c .before .unplaced .ensures)
+    ∙ telling-end _ _ (let z = c .before .before .loop-test .left in omega arith) (c .before .before .before .loop .inv .1)
 
 pub told-spec : {M : Type 1} → statement M
 told-spec =
@@ -128,5 +134,6 @@ told-spec =
     add-row
     loop-less
     loop-again
+    unplaced-requires
     no-file-requires
     returns-2)

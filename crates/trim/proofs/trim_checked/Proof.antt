@@ -1,5 +1,6 @@
 use native.Mathlib.Omega.{arith}
 use Rattle.joint.proofs.Ready.{walks}
+use Rattle.handle.proofs.Laws.{handed}
 use Rattle.trim.proofs.Laws.{by-range, trim-ready, trim-reads, needs-owned, trim-last, refused, kept, trimmed}
 use borrow.Author.Needs.{needs}
 use Rattle.trim.proofs.trim_checked.Statement.{statement}
@@ -13,6 +14,7 @@ use Rattle.handle.proofs.in_range.Reads as in-range-reads
 use Rattle.layout.proofs.field.Reads as field-reads
 use Rattle.layout.proofs.size_of.Reads as size-of-reads
 use Rattle.trim.proofs.drop_last.Reads as drop-last-reads
+use Rattle.refusal.proofs.carried.Reads as carried-reads
 
 in-range-requires : tie.Need-in-range-requires
 in-range-requires c κs = search needs
@@ -20,20 +22,26 @@ in-range-requires c κs = search needs
 changing-number-requires : tie.Need-changing-number-requires
 changing-number-requires c κs = search needs
 
+carried-requires : tie.Need-carried-requires
+carried-requires c κs = search needs
+
 same-length : tie.Need-same-length
 same-length c = search needs
 
 returns : tie.Need-returns
-returns c = refused _ _ _ (by-range _ _ _ (c .before .before .before .in-range .ensures) (c .before .changing-number .ensures)) (c .if1 .taken)
+returns c = refused _ _ _ (handed _ _ _ (c .before .before .before .before .before .before .pre) (c .carried .ensures)) (by-range _ _ _ (c .before .before .before .before .in-range .ensures) (c .before .before .changing-number .ensures)) (c .before .if1 .taken)
 
 field-requires : tie.Need-field-requires
 field-requires c κs = let a = c .before .before .before .before .before .before .args in let r = trim-reads (a .g) (a .image .now) (a .h) (trim-ready (a .g) (a .image .now) (a .h) (c .before .before .before .before .in-range .result) (c .before .before .changing-number .ensures) (c .before .if1 .left)) in (r .0, r .1, omega arith)
+
+carried-requires-2 : tie.Need-carried-requires-2
+carried-requires-2 c κs = search needs
 
 same-length-2 : tie.Need-same-length-2
 same-length-2 c = search needs
 
 returns-2 : tie.Need-returns-2
-returns-2 c = kept _ _ _ (by-range _ _ _ (c .before .before .before .before .before .before .in-range .ensures) (c .before .before .before .before .changing-number .ensures)) (c .before .before .before .if1 .left) (c .before .field .ensures .is) (c .if2 .taken)
+returns-2 c = kept _ _ _ (handed _ _ 0 (c .before .before .before .before .before .before .before .before .before .pre) (c .carried2 .ensures)) (by-range _ _ _ (c .before .before .before .before .before .before .before .in-range .ensures) (c .before .before .before .before .before .changing-number .ensures)) (c .before .before .before .before .if1 .left) (c .before .before .field .ensures .is) (c .before .if2 .taken)
 
 size-of-requires : tie.Need-size-of-requires
 size-of-requires c κs = let a = c .before .before .before .before .before .before .before .before .before .args in trim-reads (a .g) (a .image .now) (a .h) (trim-ready (a .g) (a .image .now) (a .h) (c .before .before .before .before .before .before .before .in-range .result) (c .before .before .before .before .before .changing-number .ensures) (c .before .before .before .before .if1 .left))
@@ -50,11 +58,14 @@ sub-drop-last c = let a = c .before .before .before .before .before .before .bef
 drop-last-requires : tie.Need-drop-last-requires
 drop-last-requires c κs = let a = c .before .before .before .before .before .before .before .before .before .before .before .before .before .before .before .args in trim-last (a .g) (a .image .now) (a .h) (trim-ready (a .g) (a .image .now) (a .h) (c .before .before .before .before .before .before .before .before .before .before .before .before .before .in-range .result) (c .before .before .before .before .before .before .before .before .before .before .before .changing-number .ensures) (c .before .before .before .before .before .before .before .before .before .before .if1 .left)) (c .before .before .measure .ensures .last) (c .before .before .measure .ensures .many) (c .before .before .before .before .before .size-of .ensures .is) (c .before .before .before .before .granules-for .ensures)
 
+carried-requires-3 : tie.Need-carried-requires-3
+carried-requires-3 c κs = search needs
+
 same-length-3 : tie.Need-same-length-3
 same-length-3 c = search needs
 
 returns-3 : tie.Need-returns-3
-returns-3 c = trimmed _ _ _ (by-range _ _ _ (c .before .before .before .before .before .before .before .before .before .before .before .before .before .before .before .before .in-range .ensures) (c .before .before .before .before .before .before .before .before .before .before .before .before .before .before .changing-number .ensures)) (c .before .before .before .before .before .before .before .before .before .before .before .before .before .if1 .left) (c .before .before .before .before .before .before .before .before .before .before .before .field .ensures .is) (c .before .before .before .before .before .before .before .before .before .before .if2 .left) (c .before .before .before .before .before .measure .ensures .many) (c .before .before .before .before .before .before .before .before .size-of .ensures .is) (c .before .before .before .before .before .before .before .granules-for .ensures) (c .before .before .drop-last .ensures)
+returns-3 c = trimmed _ _ _ (handed _ _ 0 (c .before .before .before .before .before .before .before .before .before .before .before .before .before .before .before .before .before .before .before .pre) (c .carried3 .ensures)) (by-range _ _ _ (c .before .before .before .before .before .before .before .before .before .before .before .before .before .before .before .before .before .in-range .ensures) (c .before .before .before .before .before .before .before .before .before .before .before .before .before .before .before .changing-number .ensures)) (c .before .before .before .before .before .before .before .before .before .before .before .before .before .before .if1 .left) (c .before .before .before .before .before .before .before .before .before .before .before .before .field .ensures .is) (c .before .before .before .before .before .before .before .before .before .before .before .if2 .left) (c .before .before .before .before .before .before .measure .ensures .many) (c .before .before .before .before .before .before .before .before .before .size-of .ensures .is) (c .before .before .before .before .before .before .before .before .granules-for .ensures) (c .before .before .before .drop-last .ensures)
 
 pub trim-checked-spec : {M : Type 1} → statement M
 trim-checked-spec =
@@ -62,15 +73,15 @@ trim-checked-spec =
     (tie.spec
     in-range-requires
     changing-number-requires
-    same-length
+    carried-requires same-length
     returns
     field-requires
-    same-length-2
+    carried-requires-2 same-length-2
     returns-2
     size-of-requires
     granules-for-requires
     measure-requires
     sub-drop-last
     drop-last-requires
-    same-length-3
+    carried-requires-3 same-length-3
     returns-3)

@@ -1,12 +1,13 @@
 //! `gdos diff`.
 
 use super::ls::{attributes, file_json};
-use super::{disk_as, json_head, shown, Command, Output, JSON};
+use super::opened::Opened;
+use super::{Command, Output, JSON};
 use crate::args::Args;
 use crate::failure::Failure;
 use crate::json::Json;
 use crate::shape::{self, Wanted};
-use genie_dos::{Difference, Disk, Entry, Geometry, Name, Which};
+use genie_dos::{Difference, Entry, Geometry, Name, Which};
 use std::fmt::Display;
 
 pub const NAME: &str = "diff";
@@ -44,15 +45,14 @@ fn run(args: &Args) -> Result<Output, Failure> {
 
 /// A disk as the lines need it: its name, its geometry and its files.
 struct Side {
-    path: String,
-    geometry: Geometry,
+    opened: Opened,
     entries: Vec<Entry>,
 }
 
 impl Side {
-    fn new(path: String, disk: &Disk) -> Result<Side, Failure> {
-        let entries = disk.entries().map_err(Failure::image(&path))?;
-        Ok(Side { path, geometry: disk.geometry(), entries })
+    fn new(opened: Opened) -> Result<Side, Failure> {
+        let entries = opened.disk.entries().map_err(Failure::image(&opened.path))?;
+        Ok(Side { opened, entries })
     }
 
     fn file(&self, name: Name) -> Option<&Entry> {
@@ -60,7 +60,7 @@ impl Side {
     }
 
     fn json(&self) -> Json {
-        Json::Object(json_head(&self.path, self.geometry))
+        Json::Object(self.opened.head())
     }
 }
 
@@ -74,19 +74,21 @@ fn compare(args: &Args) -> Result<Output, Failure> {
         }
     };
     let (wanted, wanted_of_second) = (Wanted::from_args(args)?, Wanted::second_from_args(args)?);
-    let first = disk_as(wanted, one)?;
-    let second = disk_as(wanted_of_second, two)?;
-    let sides = [Side::new(shown(one), &first)?, Side::new(shown(two), &second)?];
+    let (first, second) = (Opened::look_as(&wanted, one)?, Opened::look_as(&wanted_of_second, two)?);
+    let sides = [Side::new(first)?, Side::new(second)?];
+    let [of_first, of_second] = &sides;
     let refused = |refused: genie_dos::RefusedImage| {
         let image = match refused.image {
-            Which::First => &sides[0].path,
-            Which::Second => &sides[1].path,
+            Which::First => &of_first.opened,
+            Which::Second => &of_second.opened,
         };
-        Failure::image(image)(refused.refusal)
+        Failure::image(&image.path)(refused.refusal)
     };
-    let differences: Vec<Difference> = first.differences(&second).map_err(refused)?.collect();
+    let found = of_first.opened.disk.differences(&of_second.opened.disk).map_err(refused)?;
+    let differences: Vec<Difference> = found.collect();
     let text: String = differences.iter().map(|difference| line(difference, &sides)).collect();
-    let [of_first, of_second] = &sides;
+    let mut notes = of_first.opened.notes();
+    notes.extend(of_second.opened.notes());
     Ok(Output {
         text: text.into_bytes(),
         json: Json::object([
@@ -95,6 +97,7 @@ fn compare(args: &Args) -> Result<Output, Failure> {
             ("alike", differences.is_empty().into()),
             ("differences", Json::list(differences.iter().map(|difference| json(difference, &sides)))),
         ]),
+        notes,
         status: u8::from(!differences.is_empty()),
         ..Output::default()
     })
@@ -104,7 +107,7 @@ fn line(difference: &Difference, [first, second]: &[Side; 2]) -> String {
     let name = difference.name();
     let Difference::Unlike { position, size, date, attributes, .. } = *difference else {
         let only = if matches!(difference, Difference::OnlyInFirst { .. }) { first } else { second };
-        return format!("{name}: only in {}\n", only.path);
+        return format!("{name}: only in {}\n", only.opened.path);
     };
     let mut words = Vec::new();
     words.extend(position.map(|at| format!("differs from byte {at}")));
@@ -117,7 +120,7 @@ fn line(difference: &Difference, [first, second]: &[Side; 2]) -> String {
             words.push(format!("date ({} and {})", one.date(), two.date()));
         }
         if attributes {
-            let others = others((one, first.geometry), (two, second.geometry));
+            let others = others((one, first.opened.geometry()), (two, second.opened.geometry()));
             words.push(format!("attributes ({})", others.join(", ")));
         }
     }
@@ -152,7 +155,7 @@ fn json(difference: &Difference, [first, second]: &[Side; 2]) -> Json {
         Difference::OnlyInSecond { .. } => ("only_in_second", None, false, false, false),
         Difference::Unlike { position, size, date, attributes, .. } => ("unlike", position, size, date, attributes),
     };
-    let file = |side: &Side| side.file(name).map(|entry| file_json(entry, side.geometry));
+    let file = |side: &Side| side.file(name).map(|entry| file_json(entry, side.opened.geometry()));
     Json::object([
         ("name", name.to_string().into()),
         ("kind", kind.into()),

@@ -1,10 +1,14 @@
 //! `gdos free`.
 
-use super::{counted, json_head, only_image, shown, unchecked_disk_of, Command, Output, JSON};
+use super::choose::only_image;
+use super::opened::Opened;
+use super::{Command, Output, JSON};
 use crate::args::Args;
-use crate::failure::{fault_json, Failure};
+use crate::failure::Failure;
+use crate::fault;
 use crate::json::Json;
-use crate::shape;
+use crate::shape::{self, Wanted};
+use crate::text::counted;
 use genie_dos::{Explained, FreeSpace, Geometry, Refusal};
 
 pub const COMMAND: Command = Command {
@@ -25,13 +29,13 @@ stated: what is marked free is counted, and a note says what is wrong with the d
 
 fn run(args: &Args) -> Result<Output, Failure> {
     let image = only_image(args)?;
-    let disk = unchecked_disk_of(args, image)?;
-    let path = shown(image);
-    let FreeSpace { free, longest } = disk.free_space().map_err(Failure::image(&path))?;
+    let opened = Opened::unchecked(&Wanted::from_args(args)?, image)?;
+    let (disk, path) = (&opened.disk, &opened.path);
+    let FreeSpace { free, longest } = disk.free_space().map_err(Failure::image(path))?;
     let fault = disk.check().err().and_then(Refusal::fault).map(|fault| disk.explain(fault));
     let total = disk.image().len() / Geometry::GRANULE_BYTES;
     let (bytes, longest_bytes) = (free * Geometry::GRANULE_BYTES, longest * Geometry::GRANULE_BYTES);
-    let mut json = json_head(&path, disk.geometry());
+    let mut json = opened.head();
     json.extend([
         ("free", free.into()),
         ("free_bytes", bytes.into()),
@@ -39,7 +43,7 @@ fn run(args: &Args) -> Result<Output, Failure> {
         ("longest_bytes", longest_bytes.into()),
         ("granules", total.into()),
         ("consistent", fault.is_none().into()),
-        ("fault", fault.as_ref().map(fault_json).into()),
+        ("fault", fault.as_ref().map(fault::json).into()),
     ]);
     let text = format!(
         "{free} of {} free, {bytes} bytes\nlongest stretch {}, {longest_bytes} bytes\n",
@@ -51,6 +55,7 @@ fn run(args: &Args) -> Result<Output, Failure> {
         let place = fault.fault.slot.map(|slot| format!(", slot {slot:02X}H")).unwrap_or_default();
         format!("{path} is not consistent ({kind}{place}): this is what its GAT marks as free, not what may be taken")
     };
-    let notes = fault.map(note).into_iter().collect();
+    let mut notes = opened.notes();
+    notes.extend(fault.map(note));
     Ok(Output { text: text.into_bytes(), json: Json::Object(json), notes, ..Output::default() })
 }

@@ -1,16 +1,16 @@
 //! `gdos get` and `gdos cat`.
 
-use super::{
-    chosen, counted, disk_of, failures_json, image_and_files, json_head, open, password, shown, Command, Output,
-};
-use super::{CODE, FORCE, JSON, UNLOCK};
+use super::choose::{chosen, image_and_files, open, password};
+use super::opened::Opened;
+use super::{failures_json, Command, Output, ALL, CODE, FORCE, JSON, UNLOCK};
 use crate::args::{Args, Spec};
 use crate::failure::Failure;
-use crate::image;
+use crate::host;
 use crate::json::Json;
 use crate::names::{host_name, Typed};
 use crate::shape;
-use genie_dos::{Disk, Password};
+use crate::text::counted;
+use genie_dos::Password;
 use std::ffi::{OsStr, OsString};
 use std::path::{Path, PathBuf};
 
@@ -20,7 +20,6 @@ const OUTPUT: Spec = Spec {
     value: Some("DIR"),
     help: "the folder to write to, made if need be (the present one); - for standard output",
 };
-const ALL: Spec = Spec { long: "all", short: Some(b'a'), value: None, help: "patterns find system files too" };
 
 pub const COMMAND: Command = Command {
     name: "get",
@@ -51,7 +50,7 @@ pub const CAT: Command = Command {
 Writes the bytes of each named file, one file after the other, and nothing else. A file that is refused is left out
 and told on standard error.
 ",
-    groups: &[("Options", &[CODE, UNLOCK]), (shape::TITLE, shape::OPTIONS)],
+    groups: &[("Options", &[ALL, CODE, UNLOCK]), (shape::TITLE, shape::OPTIONS)],
     examples: &["gdos cat disk.img PULS01/DAT | xxd | less"],
     run: |args| {
         let (image, words) = image_and_files(args)?;
@@ -69,39 +68,39 @@ fn run(args: &Args) -> Result<Output, Failure> {
         Some(folder) => PathBuf::from(folder),
         None => PathBuf::new(),
     };
-    let disk = disk_of(args, image)?;
-    let (path, password) = (shown(image), password(args, disk.geometry())?);
+    let opened = Opened::look(args, image)?;
+    let password = password(args, opened.geometry())?;
     if !folder.as_os_str().is_empty() && !folder.is_dir() {
         std::fs::create_dir(&folder).map_err(Failure::io("make the folder", &folder))?;
     }
-    let mut output = Output::default();
+    let mut output = opened.output();
     let mut told = Vec::new();
-    for choice in chosen(&disk, &path, words, args.has("all"))? {
-        match choice.and_then(|typed| get_one(&disk, &path, &typed, password, &folder, args.has("force"))) {
+    for choice in chosen(&opened, words, args.has("all"))? {
+        match choice.and_then(|typed| get_one(&opened, &typed, password, &folder, args.has("force"))) {
             Ok((line, json)) => {
                 output.text.extend(line.into_bytes());
+                output.changed = true;
                 told.push(json);
             }
             Err(failure) => output.failures.push(failure),
         }
     }
-    let mut json = json_head(&path, disk.geometry());
+    let mut json = opened.head();
     json.extend([("files", Json::List(told)), ("failures", failures_json(&output.failures))]);
     output.json = Json::Object(json);
     Ok(output)
 }
 
 fn get_one(
-    disk: &Disk,
-    path: &str,
+    opened: &Opened,
     typed: &Typed,
     password: Password,
     folder: &Path,
     force: bool,
 ) -> Result<(String, Json), Failure> {
-    let bytes = contents(disk, path, typed, password)?;
+    let bytes = contents(opened, typed, password)?;
     let host = folder.join(host_name(&typed.name));
-    image::write_new(&host, &bytes, force)?;
+    host::write(&host, &bytes, force)?;
     let line = format!("{} to {}, {}\n", typed.text, host.display(), counted(bytes.len(), "byte"));
     let json = Json::object([
         ("name", typed.text.as_str().into()),
@@ -112,11 +111,11 @@ fn get_one(
 }
 
 fn to_standard_output(args: &Args, image: &OsStr, words: &[OsString]) -> Result<Output, Failure> {
-    let disk = disk_of(args, image)?;
-    let (path, password) = (shown(image), password(args, disk.geometry())?);
-    let mut output = Output::default();
-    for choice in chosen(&disk, &path, words, args.has("all"))? {
-        match choice.and_then(|typed| contents(&disk, &path, &typed, password)) {
+    let opened = Opened::look(args, image)?;
+    let password = password(args, opened.geometry())?;
+    let mut output = opened.output();
+    for choice in chosen(&opened, words, args.has("all"))? {
+        match choice.and_then(|typed| contents(&opened, &typed, password)) {
             Ok(bytes) => output.text.extend(bytes),
             Err(failure) => output.failures.push(failure),
         }
@@ -124,7 +123,7 @@ fn to_standard_output(args: &Args, image: &OsStr, words: &[OsString]) -> Result<
     Ok(output)
 }
 
-fn contents(disk: &Disk, path: &str, typed: &Typed, password: Password) -> Result<Vec<u8>, Failure> {
-    let handle = open(disk, path, typed, password)?;
-    disk.contents(&handle).map_err(Failure::file(path, &typed.text))
+fn contents(opened: &Opened, typed: &Typed, password: Password) -> Result<Vec<u8>, Failure> {
+    let handle = open(opened, typed, password)?;
+    opened.disk.contents(&handle).map_err(Failure::file(&opened.path, &typed.text))
 }

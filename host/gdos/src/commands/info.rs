@@ -1,14 +1,15 @@
 //! `gdos info`.
 
+use super::choose::{chosen, image_and_rest, refused};
 use super::ls::{attributes, file_json};
-use super::{
-    chosen, counted, disk_of, failures_json, image_and_rest, json_head, refused, shown, Command, Output, JSON,
-};
+use super::opened::Opened;
+use super::{failures_json, Command, Output, ALL, JSON};
 use crate::args::Args;
 use crate::failure::Failure;
 use crate::json::Json;
 use crate::shape;
-use genie_dos::{Disk, Entry, Geometry, Run};
+use crate::text::counted;
+use genie_dos::{Entry, Geometry, Run};
 
 pub const COMMAND: Command = Command {
     name: "info",
@@ -18,23 +19,23 @@ pub const COMMAND: Command = Command {
 Without names: the disk's geometry, its directory, and how its granules are used. Reserved granules are taken and
 belong to no file. With names or patterns: each file's entry and the granules and sectors it lies in, in its order.
 ",
-    groups: &[("Options", &[JSON]), (shape::TITLE, shape::OPTIONS)],
+    groups: &[("Options", &[ALL, JSON]), (shape::TITLE, shape::OPTIONS)],
     examples: &["gdos info disk.img", "gdos info disk.img PULS01/DAT"],
     run,
 };
 
 fn run(args: &Args) -> Result<Output, Failure> {
     let (image, words) = image_and_rest(args)?;
-    let disk = disk_of(args, image)?;
-    let path = shown(image);
+    let opened = Opened::look(args, image)?;
+    let (disk, path) = (&opened.disk, &opened.path);
     if words.is_empty() {
-        return about_disk(&disk, &path);
+        return about_disk(&opened);
     }
-    let entries = disk.entries().map_err(Failure::image(&path))?;
-    let mut output = Output::default();
+    let entries = disk.entries().map_err(Failure::image(path))?;
+    let mut output = opened.output();
     let mut told = Vec::new();
-    for choice in chosen(&disk, &path, words, false)? {
-        let slot = choice.and_then(|typed| disk.look_up(&typed.name).slot.map_err(refused(&path, &typed)));
+    for choice in chosen(&opened, words, args.has("all"))? {
+        let slot = choice.and_then(|typed| disk.look_up(&typed.name).slot.map_err(refused(path, &typed)));
         match slot {
             Ok(slot) => {
                 for entry in entries.iter().filter(|entry| entry.slot() == slot) {
@@ -45,14 +46,14 @@ fn run(args: &Args) -> Result<Output, Failure> {
             Err(failure) => output.failures.push(failure),
         }
     }
-    let mut json = json_head(&path, disk.geometry());
+    let mut json = opened.head();
     json.extend([("files", Json::List(told)), ("failures", failures_json(&output.failures))]);
     output.json = Json::Object(json);
     Ok(output)
 }
 
-fn about_disk(disk: &Disk, path: &str) -> Result<Output, Failure> {
-    let geometry = disk.geometry();
+fn about_disk(opened: &Opened) -> Result<Output, Failure> {
+    let (disk, path, geometry) = (&opened.disk, &opened.path, opened.geometry());
     let entries = disk.entries().map_err(Failure::image(path))?;
     let counts = disk.count().map_err(Failure::image(path))?;
     let sectors = disk.directory_sectors().map_err(Failure::image(path))?;
@@ -82,7 +83,7 @@ fn about_disk(disk: &Disk, path: &str) -> Result<Output, Failure> {
         counts.free,
         geometry.open_code,
     );
-    let mut json = json_head(path, geometry);
+    let mut json = opened.head();
     json.extend([
         ("bytes", disk.image().len().into()),
         ("granules", total.into()),
@@ -95,7 +96,7 @@ fn about_disk(disk: &Disk, path: &str) -> Result<Output, Failure> {
         ("files", counts.files.into()),
         ("system_files", system.into()),
     ]);
-    Ok(Output { text: text.into_bytes(), json: Json::Object(json), ..Output::default() })
+    Ok(Output { text: text.into_bytes(), json: Json::Object(json), ..opened.output() })
 }
 
 fn about_file(entry: &Entry, geometry: Geometry) -> String {

@@ -1,14 +1,15 @@
 //! `gdos ls`.
 
-use super::{
-    chosen, counted, disk_of, failures_json, image_and_rest, json_head, refused, shown, Command, Output, JSON,
-};
+use super::choose::{chosen, image_and_rest, refused};
+use super::opened::Opened;
+use super::{failures_json, Command, Output, JSON};
 use crate::args::{Args, Spec};
 use crate::failure::Failure;
 use crate::json::Json;
 use crate::names::Typed;
 use crate::shape;
-use genie_dos::{Date, Disk, Entry, Geometry};
+use crate::text::counted;
+use genie_dos::{Date, Entry, Geometry};
 use std::ffi::OsString;
 
 const LISTING: Spec = Spec {
@@ -17,7 +18,7 @@ const LISTING: Spec = Spec {
     value: None,
     help: "the system's listing and nothing else: FILES, name size granules, FREE",
 };
-const ALL: Spec = Spec { long: "all", short: Some(b'a'), value: None, help: "system files too" };
+const ALL: Spec = Spec { help: "system files too", ..super::ALL };
 
 pub const COMMAND: Command = Command {
     name: "ls",
@@ -48,44 +49,38 @@ fn run(args: &Args) -> Result<Output, Failure> {
     if args.has("listing") && (args.has("json") || args.has("all") || !words.is_empty()) {
         return Err(Failure::Wrong("--listing goes with neither names, --all nor --json".to_string()));
     }
-    let disk = disk_of(args, image)?;
-    let path = shown(image);
+    let opened = Opened::look(args, image)?;
+    let (disk, geometry) = (&opened.disk, opened.geometry());
     if args.has("listing") {
-        let text = disk.listing().map_err(Failure::image(&path))?.into_bytes();
-        return Ok(Output { text, ..Output::default() });
+        let text = disk.listing().map_err(Failure::image(&opened.path))?.into_bytes();
+        return Ok(Output { text, ..opened.output() });
     }
     let mut failures = Vec::new();
-    let files = files(&disk, &path, words, args.has("all"), &mut failures)?;
-    let free = disk.count().map_err(Failure::image(&path))?.free;
-    let mut json = json_head(&path, disk.geometry());
+    let files = files(&opened, words, args.has("all"), &mut failures)?;
+    let free = disk.count().map_err(Failure::image(&opened.path))?.free;
+    let mut json = opened.head();
     json.extend([
-        ("files", Json::list(files.iter().map(|file| file_json(file, disk.geometry())))),
+        ("files", Json::list(files.iter().map(|file| file_json(file, geometry)))),
         ("free", free.into()),
         ("failures", failures_json(&failures)),
     ]);
     Ok(Output {
-        text: table(&files, disk.geometry(), free).into_bytes(),
+        text: table(&files, geometry, free).into_bytes(),
         json: Json::Object(json),
         failures,
-        ..Output::default()
+        ..opened.output()
     })
 }
 
 /// The entries to show, in the directory's order.
-fn files(
-    disk: &Disk,
-    path: &str,
-    words: &[OsString],
-    all: bool,
-    failures: &mut Vec<Failure>,
-) -> Result<Vec<Entry>, Failure> {
-    let entries = disk.entries().map_err(Failure::image(path))?;
+fn files(opened: &Opened, words: &[OsString], all: bool, failures: &mut Vec<Failure>) -> Result<Vec<Entry>, Failure> {
+    let entries = opened.disk.entries().map_err(Failure::image(&opened.path))?;
     if words.is_empty() {
         return Ok(entries.into_iter().filter(|entry| all || !entry.is_system()).collect());
     }
     let mut slots = Vec::new();
-    for choice in chosen(disk, path, words, all)? {
-        match choice.and_then(|typed| slot(disk, path, &typed)) {
+    for choice in chosen(opened, words, all)? {
+        match choice.and_then(|typed| slot(opened, &typed)) {
             Ok(slot) => slots.push(slot),
             Err(failure) => failures.push(failure),
         }
@@ -93,8 +88,8 @@ fn files(
     Ok(entries.into_iter().filter(|entry| slots.contains(&entry.slot())).collect())
 }
 
-fn slot(disk: &Disk, path: &str, typed: &Typed) -> Result<u8, Failure> {
-    disk.look_up(&typed.name).slot.map_err(refused(path, typed))
+fn slot(opened: &Opened, typed: &Typed) -> Result<u8, Failure> {
+    opened.disk.look_up(&typed.name).slot.map_err(refused(&opened.path, typed))
 }
 
 fn table(files: &[Entry], geometry: Geometry, free: usize) -> String {

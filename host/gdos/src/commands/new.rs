@@ -1,12 +1,17 @@
 //! `gdos new`.
 
-use super::{counted, json_head, only_image, shown, Command, Output, FORCE, JSON};
+use super::choose::only_image;
+use super::opened::shown;
+use super::{Command, Output, FORCE, JSON};
 use crate::args::{number, Args, Spec};
 use crate::failure::Failure;
-use crate::image;
+use crate::host::Prepared;
 use crate::json::Json;
 use crate::shape::{self, Wanted};
-use genie_dos::{Disk, Refusal};
+use crate::stated::{Sidecar, Source};
+use crate::text::counted;
+use genie_dos::{Disk, Geometry, Refusal};
+use std::ffi::OsStr;
 use std::path::Path;
 
 const DIRECTORY: Spec = Spec {
@@ -27,10 +32,11 @@ pub const COMMAND: Command = Command {
     summary: "make an image of an empty disk",
     usage: "[OPTIONS] IMAGE",
     about: "\
-Makes a consistent disk without files. State its geometry, by --preset or by --blocks, --units and --start. A
-directory of 10, 15, 20, 25 or 30 sectors has room for 32, 72, 112, 152 or 192 files; a badly scattered file takes
-more than one place. Outside the directory every byte is E5H, as formatting leaves it; there is neither a system nor
-a label on the disk.
+Makes a consistent disk without files. State its geometry, by --preset or by --blocks, --units and --start; it is
+kept in IMAGE.gdos beside the image, so that no later command has to be told it (see gdos geometry). A directory of
+10, 15, 20, 25 or 30 sectors has room for 32, 72, 112, 152 or 192 files; a badly scattered file takes more than one
+place. Outside the directory every byte is E5H, as formatting leaves it; there is neither a system nor a label on
+the disk.
 ",
     groups: &[
         ("Options", &[DIRECTORY, RESERVE, Spec { help: "replace an image that is there", ..FORCE }, JSON]),
@@ -65,12 +71,32 @@ fn run(args: &Args) -> Result<Output, Failure> {
             .because(format!("a directory of {sectors} sectors from sector {} on does not fit", geometry.start)),
         _ => Failure::image(&path)(refusal),
     })?;
-    image::write_new(Path::new(image), disk.image(), args.has("force"))?;
     let free = disk.count().map_err(Failure::image(&path))?.free;
-    let mut json = json_head(&path, geometry);
-    json.extend([("bytes", disk.image().len().into()), ("directory_sectors", sectors.into()), ("free", free.into())]);
+    let notes = place(image, &disk, geometry, args.has("force"))?;
+    let json = Json::object([
+        ("image", path.as_str().into()),
+        ("geometry", shape::json(geometry)),
+        ("geometry_from", Source::Options.word().into()),
+        ("bytes", disk.image().len().into()),
+        ("directory_sectors", sectors.into()),
+        ("free", free.into()),
+    ]);
     let text = format!("{path}: {} bytes, {} free\n", disk.image().len(), counted(free, "granule"));
-    Ok(Output { text: text.into_bytes(), json: Json::Object(json), ..Output::default() })
+    Ok(Output { text: text.into_bytes(), json, notes, changed: true, ..Output::default() })
+}
+
+/// Writes the image and the file beside it: both are written before either is put in its place.
+pub(super) fn place(image: &OsStr, disk: &Disk, geometry: Geometry, force: bool) -> Result<Vec<String>, Failure> {
+    let prepared = Prepared::new(Path::new(image), disk.image(), force)?;
+    let sidecar = Sidecar::of(Path::new(image));
+    if !sidecar.can_be() {
+        prepared.place()?;
+        return Ok(vec!["the image's name is too long for a file beside it that keeps the geometry".to_string()]);
+    }
+    let beside = sidecar.prepare(&shown(image), geometry, force)?;
+    prepared.place()?;
+    beside.place()?;
+    Ok(Vec::new())
 }
 
 fn reserved(args: &Args) -> Result<Vec<usize>, Failure> {

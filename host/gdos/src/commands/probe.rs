@@ -1,22 +1,29 @@
 //! `gdos probe`.
 
-use super::{only_image, shown, Command, Output, JSON};
+use super::choose::only_image;
+use super::opened::shown;
+use super::{Command, Output, JSON};
 use crate::args::Args;
 use crate::failure::Failure;
-use crate::image;
+use crate::host;
 use crate::json::Json;
-use crate::shape::{self, Fit, Wanted};
+use crate::search::{candidate_json, candidate_lines, search, Reading, Search, Verdict};
+use crate::shape::{self, Wanted};
+use crate::stated;
 use std::path::Path;
 
 pub const COMMAND: Command = Command {
     name: "probe",
-    summary: "find the geometries under which an image is consistent",
+    summary: "show what an image says of its geometry",
     usage: "[OPTIONS] IMAGE",
     about: "\
-Tries every geometry that fits the image's length, or those that agree with the options given, and lists those
-under which the disk is consistent. The open code cannot be found: no rule of a consistent disk speaks of it.
-Refused with 1 if no geometry has this length, and if the disk is consistent under none: then what is wrong under
-those of the presets that fit is told.
+Looks at every place where a directory may begin, and tries every geometry that fits the image's length, or those
+that agree with the options given. The places are ranked by what speaks for each: names whose entry is in use, whose
+HIT byte is their hash, and whose marker is one; names that one byte parts from that (nearly); and slots in which
+HIT and entry contradict each other (against). For each place: the options to type, then whether the disk is
+consistent, or its first fault. The last line tells which geometry a command takes that only reads. What is stated
+by GDOS_GEOMETRY or beside the image plays no part. The open code cannot be found: nothing on a disk speaks of it.
+Refused with 1 if no geometry has this length, and if the disk is consistent under none.
 ",
     groups: &[("Options", &[JSON]), (shape::TITLE, shape::OPTIONS)],
     examples: &["gdos probe disk.img", "gdos probe --units 6 disk.img"],
@@ -27,37 +34,69 @@ fn run(args: &Args) -> Result<Output, Failure> {
     let image = only_image(args)?;
     let path = shown(image);
     let wanted = Wanted::from_args(args)?;
-    let bytes = image::read(Path::new(image))?;
-    let fits = wanted.consistent(&bytes);
-    if fits.is_empty() {
-        return Err(wanted.none_fits(&bytes, &path));
+    let bytes = host::read(Path::new(image))?;
+    let search = search(&bytes, &wanted);
+    let mut failures = Vec::new();
+    if search.intact.is_empty() {
+        let failure = stated::none_fits(&search, &wanted, &bytes, &path);
+        if search.ranking.is_empty() {
+            return Err(failure);
+        }
+        failures.push(failure.brief());
     }
-    let mut text = String::from("BLOCKS  UNITS  START  DIRECTORY  FILES  FREE  PRESET\n");
-    for Fit { geometry, counts, directory_sectors } in &fits {
-        text += &format!(
-            "{:>6}  {:>5}  {:>5}  {:>9}  {:>5}  {:>4}  {}\n",
-            geometry.blocks,
-            geometry.units,
-            geometry.start,
-            directory_sectors,
-            counts.files,
-            counts.free,
-            shape::preset_of(*geometry).unwrap_or("-"),
-        );
+    let mut text = String::new();
+    for (number, candidate) in (1..).zip(&search.ranking) {
+        for line in candidate_lines(candidate, "") {
+            text += &format!("{number}. {line}\n");
+        }
     }
+    text += &format!("{}\n", told(&search));
     let json = Json::object([
         ("image", path.as_str().into()),
-        ("tried", wanted.fitting(bytes.len()).len().into()),
-        ("geometries", Json::list(fits.iter().map(fit_json))),
+        ("tried", search.tried.into()),
+        ("geometries", Json::list(search.intact.iter().map(fit_json))),
+        ("ranking", Json::list(search.ranking.iter().map(candidate_json))),
+        ("taken", taken(&search).map(shape::json).into()),
+        ("why", told(&search).into()),
+        ("failures", super::failures_json(&failures)),
     ]);
-    Ok(Output { text: text.into_bytes(), json, ..Output::default() })
+    Ok(Output { text: text.into_bytes(), json, failures, ..Output::default() })
 }
 
-fn fit_json(fit: &Fit) -> Json {
+fn taken(search: &Search) -> Option<genie_dos::Geometry> {
+    match search.verdict {
+        Verdict::Taken(geometry) => Some(geometry),
+        _ => None,
+    }
+}
+
+/// What a command does that finds the geometry by itself.
+fn told(search: &Search) -> String {
+    let why = match search.verdict {
+        Verdict::Taken(geometry) => return format!("taken: {}", shape::options(geometry, "")),
+        Verdict::NoLength | Verdict::Damaged => "no reading is consistent",
+        Verdict::Several => "several readings are consistent",
+        Verdict::NoName => "no file speaks for the only consistent reading",
+        Verdict::AnotherPlace => "another directory speaks against the only consistent reading",
+        Verdict::Longer => "names beyond its length speak against the only consistent reading",
+        Verdict::Blank(blank) => {
+            let blank = shape::options(blank, "");
+            return format!("none taken: a directory without files seems to be there too: {blank}");
+        }
+        Verdict::OtherUnits(rival) => {
+            let rival = shape::options(rival, "");
+            return format!("none taken: with one byte damaged {rival} would fit as well");
+        }
+    };
+    format!("none taken: {why}")
+}
+
+/// A consistent reading for `--json`.
+fn fit_json(reading: &Reading) -> Json {
+    let counts = reading.found.as_ref().ok();
     Json::object([
-        ("geometry", shape::json(fit.geometry)),
-        ("directory_sectors", fit.directory_sectors.into()),
-        ("files", fit.counts.files.into()),
-        ("free", fit.counts.free.into()),
+        ("geometry", shape::json(reading.geometry)),
+        ("files", counts.map(|counts| counts.files).into()),
+        ("free", counts.map(|counts| counts.free).into()),
     ])
 }

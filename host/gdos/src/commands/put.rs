@@ -1,15 +1,18 @@
 //! `gdos put`.
 
-use super::{counted, disk_to_change, image_and_rest, json_head, keep, password, refused, shown, Command, Output};
-use super::{CODE, FORCE, JSON, UNLOCK};
+use super::choose::{image_and_rest, password, refused};
+use super::opened::Opened;
+use super::room;
+use super::{failures_json, Command, Output, CODE, FORCE, JSON, UNLOCK};
 use crate::args::{Args, Spec};
 use crate::date;
 use crate::failure::Failure;
-use crate::image;
+use crate::host;
 use crate::json::Json;
 use crate::names::Typed;
 use crate::shape;
-use genie_dos::{Date, Disk, Kind, NewFile, Password, Refusal};
+use crate::text::counted;
+use genie_dos::{Date, Disk, Geometry, Kind, NewFile, Password, Refusal};
 use std::ffi::{OsStr, OsString};
 use std::path::Path;
 
@@ -36,7 +39,8 @@ pub const COMMAND: Command = Command {
     usage: "[OPTIONS] IMAGE FILE...",
     about: "\
 Copies whole files: puls01.dat becomes PULS01/DAT, or what --as says; - is standard input and needs --as. A line
-tells of each. All files are put or none: if one is refused, the image stays as it is.
+tells of each. All files are put or none: if one is refused, the image stays as it is. Every name that is none or is
+there already is told.
 
 A file that is on the disk already is an error unless --force is given. Then its content is replaced and space that
 it no longer needs is given back; its date, codes, record length and flags stay, for no call of the system changes
@@ -56,6 +60,7 @@ says so. Both codes are the open code, that is no password, unless --code says o
                 Spec { help: "main code of new files, and the code to open old ones by (the open code)", ..CODE },
                 WORKER_CODE,
                 Spec { help: "overwrite old files without checking their passwords", ..UNLOCK },
+                shape::SEARCH,
                 JSON,
             ],
         ),
@@ -78,14 +83,13 @@ struct Source {
 
 fn run(args: &Args) -> Result<Output, Failure> {
     let (image, words) = image_and_rest(args)?;
-    let mut output = Output::default();
     let (date, note) = date(args)?;
     let record_length = args.number("record-length")?.unwrap_or(256);
     let (main_code, worker_code) = (args.code("code")?, args.code("worker-code")?);
     let sources = sources(args, words)?;
 
-    let (mut disk, locked) = disk_to_change(args, image)?;
-    let (path, geometry) = (shown(image), disk.geometry());
+    let (mut opened, locked) = Opened::change(args, image)?;
+    let (geometry, output) = (opened.geometry(), opened.output());
     let main_code = main_code.unwrap_or(geometry.open_code);
     let new = NewFile {
         date,
@@ -99,31 +103,57 @@ fn run(args: &Args) -> Result<Output, Failure> {
         true => Password::Unchecked,
         false => password(args, geometry)?,
     };
+    let mut failures = cannot_be(&mut opened, &sources, &new, args.has("force"));
+    match failures.len() {
+        0 => {}
+        1 => return Err(failures.remove(0)),
+        _ => {
+            let json = Json::object([("failures", failures_json(&failures))]);
+            return Ok(Output { json, failures, ..output });
+        }
+    }
     let mut put = Vec::new();
     for source in &sources {
-        put.push((source, put_one(&mut disk, &path, source, &new, password, args.has("force"))?));
+        put.push((source, put_one(&mut opened, source, &new, password, args.has("force"))?));
     }
+    let mut output = Output { changed: true, ..output };
     // Old files keep their date.
     output.notes.extend(note.filter(|_| put.iter().any(|(_, old)| !old)));
     let mut told = Vec::new();
     for (source, old) in put {
-        let (line, json) = report(&disk, &path, source, old)?;
+        let (line, json) = report(&opened, source, old)?;
         output.text.extend(line.into_bytes());
         told.push(json);
     }
-    keep(disk, locked, image)?;
-    let mut json = json_head(&path, geometry);
+    output.notes.extend(opened.keep(locked)?);
+    let mut json = opened.head();
     json.push(("files", Json::List(told)));
     output.json = Json::Object(json);
     Ok(output)
 }
 
+/// Every name under which no file can be put: it is none, or a file has it that may not be overwritten. Create changes
+/// nothing under such a name.
+fn cannot_be(opened: &mut Opened, sources: &[Source], new: &NewFile, force: bool) -> Vec<Failure> {
+    let mut failures = Vec::new();
+    for source in sources {
+        let name = &source.typed.name;
+        if source.typed.wrong.is_some() || opened.disk.look_up(name).slot.is_ok() {
+            failures.extend(create(opened, source, new, force).err());
+        }
+    }
+    failures
+}
+
 /// The date given; or today's as far as the disk can hold it, and a note if it cannot.
 fn date(args: &Args) -> Result<(Date, Option<String>), Failure> {
     if let Some(given) = args.value("date") {
-        let parsed = given.to_str().and_then(date::parse).map(|date| (date, None));
-        return parsed
-            .ok_or_else(|| Failure::Wrong(format!("--date wants a date from 1980 on, as 1983-10-09, not {given:?}")));
+        let wrong = || Failure::Wrong(format!("--date wants a date from 1980 on, as 1983-10-09, not {given:?}"));
+        let date = given.to_str().and_then(date::parse).ok_or_else(wrong)?;
+        return match date::is_no_day(date) {
+            true => Err(Failure::Wrong(format!("--date: the calendar has no {date}"))),
+            false => Ok((date, None)),
+        };
     }
     let today = date::today();
     let clamped = date::clamped(today);
@@ -158,44 +188,86 @@ fn sources(args: &Args, words: &[OsString]) -> Result<Vec<Source>, Failure> {
             return Err(Failure::Wrong(format!("{} and {host} would both become {}", twin.host, typed.text)));
         }
         let bytes = match standard_input {
-            true => image::read_standard_input()?,
-            false => image::read(Path::new(word))?,
+            true => host::read_standard_input()?,
+            false => host::read(Path::new(word))?,
         };
         sources.push(Source { typed, host, bytes });
     }
     Ok(sources)
 }
 
+/// Creates a file, or opens the old one if it may be overwritten; answers whether it was there before.
+fn create(opened: &mut Opened, source: &Source, new: &NewFile, force: bool) -> Result<bool, Failure> {
+    let Source { typed, .. } = source;
+    let (path, disk) = (&opened.path, &mut opened.disk);
+    let created = disk.create(&typed.name, new).map_err(|refusal| {
+        let failure = refused(path, typed)(refusal);
+        match refusal {
+            Refusal::Range => failure.because(format!(
+                "dates go from 1980 to 1995, record lengths from 1 to 256; given are {} and {}",
+                new.date, new.record_length
+            )),
+            Refusal::NoSlot => failure.because(slots_left(disk)),
+            _ => failure,
+        }
+    })?;
+    match created.old && !force {
+        true => Err(Failure::Wrong(format!("{} is on {path} already; --force overwrites it", typed.text))),
+        false => Ok(created.old),
+    }
+}
+
 /// Puts one file on the disk in memory; answers whether it was there before.
 fn put_one(
-    disk: &mut Disk,
-    path: &str,
+    opened: &mut Opened,
     source: &Source,
     new: &NewFile,
     password: Password,
     force: bool,
 ) -> Result<bool, Failure> {
+    let old = create(opened, source, new, force)?;
     let Source { typed, host, bytes } = source;
-    let refused = |refusal| refused(path, typed)(refusal);
-    let created = disk.create(&typed.name, new).map_err(|refusal| match refusal {
-        Refusal::Range => refused(refusal).because(format!(
-            "dates go from 1980 to 1995, record lengths from 1 to 256; given are {} and {}",
-            new.date, new.record_length
-        )),
-        _ => refused(refusal),
+    let (path, disk) = (&opened.path, &mut opened.disk);
+    let space = space_left(disk, typed, bytes.len());
+    write(disk, typed, bytes, password).map_err(|refusal| {
+        let failure = refused(path, typed)(refusal);
+        match refusal {
+            Refusal::NoSpace => failure.because(space),
+            Refusal::NoSlot => failure.because(format!("its fifth run wants a slot more; {}", slots_left(disk))),
+            _ => failure,
+        }
     })?;
-    if created.old && !force {
-        return Err(Failure::Wrong(format!("{} is on {path} already; --force overwrites it", typed.text)));
-    }
-    write(disk, typed, bytes, password).map_err(refused)?;
-    if bytes.is_empty() && disk.read_sector(&created.handle, 0).is_ok() {
+    let handle = disk.open(&typed.name, 256, password).map_err(refused(path, typed))?;
+    if bytes.is_empty() && disk.read_sector(&handle, 0).is_ok() {
         return Err(Failure::Wrong(format!(
             "{host} is empty and {} is not; no call of the system empties a file: remove it first, by gdos rm",
             typed.text
         )));
     }
-    disk.trim(&created.handle).map_err(refused)?;
-    Ok(created.old)
+    disk.trim(&handle).map_err(refused(path, typed))?;
+    Ok(old)
+}
+
+/// How many granules a file wants and how many there are, before it is written.
+fn space_left(disk: &Disk, typed: &Typed, size: usize) -> String {
+    if size > Geometry::MOST_BYTES {
+        return format!("it has more than {} bytes, which no disk can hold", Geometry::MOST_BYTES);
+    }
+    let entries = disk.entries().unwrap_or_default();
+    let owned = entries.iter().find(|entry| entry.name() == typed.name).map_or(0, |entry| entry.granules());
+    let wanted = size.div_ceil(Geometry::GRANULE_BYTES).saturating_sub(owned);
+    let free = disk.count().map_or(0, |counts| counts.free);
+    let more = if owned > 0 { "more " } else { "" };
+    let wanted = format!("{wanted} {more}granule{}", if wanted == 1 { "" } else { "s" });
+    format!("it wants {wanted}, and {free} {} free", if free == 1 { "is" } else { "are" })
+}
+
+/// How many slots there are for files, and how many of them are free.
+fn slots_left(disk: &Disk) -> String {
+    match room::slots(disk) {
+        Some((all, free)) => format!("of {all} slots for files {free} {} free", if free == 1 { "is" } else { "are" }),
+        None => "no slot for files is free".to_string(),
+    }
 }
 
 /// Writes the file from its start: records of 256 bytes, then one of what is left.
@@ -214,9 +286,10 @@ fn write(disk: &mut Disk, typed: &Typed, bytes: &[u8], password: Password) -> Re
     Ok(())
 }
 
-fn report(disk: &Disk, path: &str, source: &Source, old: bool) -> Result<(String, Json), Failure> {
+fn report(opened: &Opened, source: &Source, old: bool) -> Result<(String, Json), Failure> {
     let Source { typed, host, .. } = source;
-    let entries = disk.entries().map_err(Failure::image(path))?;
+    let path = &opened.path;
+    let entries = opened.disk.entries().map_err(Failure::image(path))?;
     let entry = entries.iter().find(|entry| entry.name() == typed.name);
     let entry = entry.ok_or_else(|| Failure::file(path, &typed.text)(Refusal::NotFound))?;
     let (size, granules) = (entry.size(), entry.granules());

@@ -1,6 +1,7 @@
 //! `gdos rm`.
 
-use super::{change_each, Command, CODE, JSON, UNLOCK};
+use super::change::change_each;
+use super::{Command, CODE, JSON, UNLOCK};
 use crate::shape;
 use genie_dos::Disk;
 
@@ -12,7 +13,7 @@ pub const COMMAND: Command = Command {
 Removes each named file, and each that a pattern fits; their granules are free again. A line tells of each. All are
 removed or none: if one is refused (not there, wrong password, a system file), the image stays as it is.
 ",
-    groups: &[("Options", &[CODE, UNLOCK, JSON]), (shape::TITLE, shape::OPTIONS)],
+    groups: &[("Options", &[CODE, UNLOCK, shape::SEARCH, JSON]), (shape::TITLE, shape::OPTIONS)],
     examples: &["gdos rm disk.img PULS01/DAT", "gdos rm disk.img 'PULS*/DAT' LEER"],
     run: |args| change_each(args, "removed", Disk::kill),
 };

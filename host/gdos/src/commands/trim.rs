@@ -1,6 +1,7 @@
 //! `gdos trim`.
 
-use super::{change_each, Command, CODE, JSON, UNLOCK};
+use super::change::change_each;
+use super::{Command, CODE, JSON, UNLOCK};
 use crate::shape;
 use genie_dos::Disk;
 
@@ -13,7 +14,7 @@ Each named file, and each that a pattern fits, keeps the granules that its size 
 file with the flag F (keeps its space) stays as it is. A line tells of each. All are trimmed or none. If there is
 nothing to give back the image is not written at all.
 ",
-    groups: &[("Options", &[CODE, UNLOCK, JSON]), (shape::TITLE, shape::OPTIONS)],
+    groups: &[("Options", &[CODE, UNLOCK, shape::SEARCH, JSON]), (shape::TITLE, shape::OPTIONS)],
     examples: &["gdos trim disk.img PULS01/DAT", "gdos trim disk.img '*'"],
     run: |args| change_each(args, "trimmed", Disk::trim),
 };

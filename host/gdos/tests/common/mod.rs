@@ -49,7 +49,7 @@ impl Folder {
     /// The program in this folder, not yet run.
     pub fn command(&self, words: &[&str]) -> Command {
         let mut command = Command::new(GDOS);
-        command.args(words).current_dir(&self.0).stdin(Stdio::null());
+        command.args(words).current_dir(&self.0).stdin(Stdio::null()).env_remove("GDOS_GEOMETRY");
         command
     }
 

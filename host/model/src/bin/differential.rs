@@ -2,7 +2,7 @@
 //! interleavings on it. Ends with status 0 only if nothing differed and every refusal of every call
 //! occurred. The same seed and number of calls give the same run; a disk's seed gives that disk's part.
 
-use genie_model::binding::linked;
+use genie_model::binding::{linked, LINKED};
 use genie_model::compare::{disk_run, run, Bounds, Seen};
 use genie_model::interleave::{demand_three, Tally};
 use genie_model::random::Random;
@@ -38,12 +38,11 @@ fn asked() -> Result<(Bounds, Option<u64>), String> {
 }
 
 fn compare(bounds: &Bounds, disk: Option<u64>) -> Result<(), String> {
-    let library =
-        linked().ok_or("built without libgenie.a: name its directory in GENIE_LIB_DIR and build again")?;
+    let library = linked();
     if let Some(seed) = disk {
         return disk_run(&*library, seed, &mut Seen::default());
     }
-    println!("seed {}, at most {} seconds", bounds.seed, bounds.seconds);
+    println!("{LINKED}; seed {}, at most {} seconds", bounds.seed, bounds.seconds);
 
     let mut seen = Seen::default();
     let calls = Bounds { seconds: bounds.seconds * (1.0 - INTERLEAVING_PART), ..*bounds };
@@ -68,7 +67,7 @@ fn compare(bounds: &Bounds, disk: Option<u64>) -> Result<(), String> {
 fn main() -> ExitCode {
     match asked().and_then(|(bounds, disk)| compare(&bounds, disk)) {
         Ok(()) => {
-            println!("no difference");
+            println!("{LINKED}: no difference");
             ExitCode::SUCCESS
         }
         Err(text) => {

@@ -1,0 +1,29 @@
+-- A refusal as a value: its number, what goes with it, and the image that it names.
+use Prim.Native.Nat.{ℕ}
+use mathlib.Core.Bool.{cond}
+use lib.Dec.{eqb}
+use Rattle.meaning.specs.declared.Refusal.{Refusal}
+
+-- told where nothing goes with a number: no slot has this one
+abbrev pub nowhere : ℕ
+nowhere = 256
+
+-- a number with nothing beside it; 0 with nothing beside it is acceptance
+abbrev pub unplaced : ℕ → Refusal
+unplaced n = record { number = n; image = 0; at = nowhere }
+
+-- a fault's number with its slot (02 §2: "say what is inconsistent, and where")
+abbrev pub placed : ℕ → ℕ → Refusal
+placed n s = record { number = n; image = 0; at = s }
+
+-- the same refusal, naming an image
+abbrev pub naming : ℕ → Refusal → Refusal
+naming i c = record { number = c .number; image = i; at = c .at }
+
+-- what goes with number n where c was found before: c's, if the number is c's own; else nothing
+unfoldable pub beside : Refusal → ℕ → Refusal
+beside c n = cond (eqb n (c .number)) c (unplaced n)
+
+-- the refusal of number n, where c was found before
+abbrev pub carried : Refusal → ℕ → Refusal
+carried c n = record { number = n; image = beside c n .image; at = beside c n .at }

@@ -1,0 +1,13 @@
+//! The host's files. None is ever left half written: a change goes to a copy beside the file, which is synced and then put
+//! in its place by one renaming.
+
+mod copy;
+mod lock;
+mod read;
+mod same;
+mod write;
+
+pub use lock::Locked;
+pub use read::{read, read_standard_input, read_text};
+pub use same::same_file;
+pub use write::{write, Prepared};

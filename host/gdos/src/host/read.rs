@@ -1,0 +1,44 @@
+//! Reading the host's files.
+
+use crate::failure::Failure;
+use genie_dos::Geometry;
+use std::fs::File;
+use std::io::{self, ErrorKind, Read};
+use std::path::Path;
+
+/// Reads a file up to one byte more than any image has, which is enough for the library to refuse its length.
+pub(super) fn read_whole(from: impl Read) -> io::Result<Vec<u8>> {
+    let mut bytes = Vec::new();
+    from.take(Geometry::MOST_BYTES as u64 + 1).read_to_end(&mut bytes)?;
+    Ok(bytes)
+}
+
+/// Reads a file of the host: an image to look at, or what is to be put on one.
+pub fn read(path: &Path) -> Result<Vec<u8>, Failure> {
+    File::open(path).and_then(read_whole).map_err(Failure::io("read", path))
+}
+
+/// Reads what is to be put on an image from standard input.
+pub fn read_standard_input() -> Result<Vec<u8>, Failure> {
+    read_whole(io::stdin().lock()).map_err(|e| Failure::Wrong(format!("cannot read standard input: {e}")))
+}
+
+/// Longest text of a few lines.
+const MOST_TEXT: u64 = 4096;
+
+/// Reads a text of a few lines, if there is such a file.
+pub fn read_text(path: &Path) -> Result<Option<String>, Failure> {
+    let mut text = String::new();
+    let read = File::open(path).and_then(|file| file.take(MOST_TEXT + 1).read_to_string(&mut text));
+    match read {
+        Ok(_) if text.len() as u64 > MOST_TEXT => {
+            Err(Failure::Wrong(format!("{} is too long: it has more than {MOST_TEXT} bytes", path.display())))
+        }
+        Ok(_) => Ok(Some(text)),
+        Err(e) => match e.kind() {
+            ErrorKind::NotFound | ErrorKind::NotADirectory | ErrorKind::InvalidFilename => Ok(None),
+            ErrorKind::InvalidData => Err(Failure::Wrong(format!("{} is no text", path.display()))),
+            _ => Err(Failure::io("read", path)(e)),
+        },
+    }
+}
