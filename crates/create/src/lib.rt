@@ -90,10 +90,11 @@ pub fn create_checked(
     if !in_range(f) {
         return refused(checked, 12);
     }
-    if !spelling::well_formed(name) {
+    let n = spelling::incoming(name);
+    if n.place != spelling::NO_PLACE {
         return refused(checked, 3);
     }
-    let found = find::find(image, g, name);
+    let found = find::find(image, g, &n.name);
     if found.is {
         if !find::admits(image, g, found.slot, checking, f.main) {
             return refused(checked, 5);
@@ -101,20 +102,20 @@ pub fn create_checked(
         return Created {
             refusal: refusal::carried(checked, 0),
             old: true,
-            handle: find::opened_at(image, g, found.slot, name, f.len, checking, f.main),
+            handle: find::opened_at(image, g, found.slot, &n.name, f.len, checking, f.main),
         };
     }
     let x = space::first_free_slot(image, g);
     if x == 256 {
         return refused(checked, 8);
     }
-    put_entry(image, g, x, name, f);
+    put_entry(image, g, x, &n.name, f);
     Created {
         refusal: refusal::carried(checked, 0),
         old: false,
         handle: Handle {
             slot: x,
-            name: find::name_array(name),
+            name: n.name,
             at: 0,
             len: f.len,
             level: 0,

@@ -5,3 +5,4 @@ pub mod Reading
 pub mod Writing
 pub mod Granules
 pub mod Told
+pub mod Places

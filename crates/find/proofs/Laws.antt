@@ -120,6 +120,10 @@ module _ (g : Geometry) (d n : List ℕ) where
   unfolding lookUp
   told q e f h = rw (← e, f, h, q)
 
+  -- of the name that came in
+  pub finds-as : {m : List ℕ} {r : Found} → m ≡ n → Finds g d m r → Finds g d n r
+  finds-as e f = rw e at f
+
   pub finds-none : {r : Found} → Finds g d n r → not (r .is) ≡ true → named g d n ≡ []
   finds-none {r} f h = f .slot ∙ ap (λ (b : Bool). cond b (r .slot ∷ []) []) (not-true (r .is) h)
 

@@ -82,14 +82,15 @@ pub fn look_up_checked(image: &[u8], g: Geometry, name: &[u8], checked: Refusal)
             compared: 0,
         };
     }
-    if !spelling::well_formed(name) {
+    let n = spelling::incoming(name);
+    if n.place != spelling::NO_PLACE {
         return LookedUp {
             refusal: refusal::carried(checked, 3),
             slot: 0,
             compared: 0,
         };
     }
-    let f = find(image, g, name);
+    let f = find(image, g, &n.name);
     if !f.is {
         return LookedUp {
             refusal: refusal::carried(checked, 4),
@@ -217,10 +218,11 @@ pub fn open_checked(
     if !handle::good_length(len) {
         return refused(checked, 12);
     }
-    if !spelling::well_formed(name) {
+    let n = spelling::incoming(name);
+    if n.place != spelling::NO_PLACE {
         return refused(checked, 3);
     }
-    let f = find(image, g, name);
+    let f = find(image, g, &n.name);
     if !f.is {
         return refused(checked, 4);
     }
@@ -229,6 +231,6 @@ pub fn open_checked(
     }
     Answer {
         refusal: refusal::carried(checked, 0),
-        handle: opened_at(image, g, f.slot, name, len, checking, code),
+        handle: opened_at(image, g, f.slot, &n.name, len, checking, code),
     }
 }

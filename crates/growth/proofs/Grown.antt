@@ -10,7 +10,7 @@ use Rattle.meaning.specs.Lists.{count, length-count}
 use Rattle.meaning.specs.Layout.{granules}
 use Rattle.meaning.specs.Chain.{owned}
 use Rattle.meaning.specs.Free.{freeGranules}
-use Rattle.meaning.specs.Growth.{takeOne, Grown, grown, noSlot, grow, andThen, fails, diskOr}
+use Rattle.meaning.specs.Growth.{takeOne, Grown, grown, noSlot, grow, growBy, andThen, fails, diskOr}
 use Rattle.meaning.specs.Refusals.{first, accepted, cannotGrow, larger}
 use Rattle.meaning.specs.declared.Geometry.{Geometry}
 use Rattle.laws.specs.Members
@@ -29,7 +29,7 @@ module _ (g : Geometry) (p : ℕ) where
     pub many : length (owned g d′ p) ≡ length (owned g d p) + k
 
   grow-ready : (k : ℕ) (d d′ : List ℕ) → Ready g d p → k ≤ length (freeGranules g d) → grow g p k d ≡ grown d′ → More d d′ k
-  unfolding grow andThen
+  unfolding growBy takeOne andThen
   grow-ready zero d d′ y h q = let r : d ≡ d′ = cc in subst (λ (l : List ℕ). More d l 0) r (record { ready = y; many = omega arith })
   grow-ready (suc k) d d′ y h q = go (takeOne g p d) refl q (λ d₁ y₁ l. grow-ready k d₁ d′ y₁ l)
     where

@@ -11,14 +11,14 @@ use lib.ListN.{length, set, replicate, take, drop, take-append-drop}
 use lib.Seq.{getD-set-same, getD-set-other, set-out, sets}
 use lib.Bits.{xor-lt}
 use lib.Dec.{T, eqb, leb, ltb, ltb→lt, lt→ltb, leb→le, eqb→eq}
-use Rattle.meaning.specs.Lists.{count, every, through, firstOr}
+use Rattle.meaning.specs.Lists.{count, every, through}
 use Rattle.meaning.specs.Layout.{byte, field, setField, takeGranule, freeGranule, gatAt, hitAt, entryAt, granules, hit}
 use Rattle.meaning.specs.Bits.{putDigit}
 use Rattle.meaning.specs.Names.{letter, padded, wellFormed, hash, mix}
 use Rattle.meaning.specs.Entries.{sizeOf, runs, runStart, runLength, extension, sectorsFor}
 use Rattle.meaning.specs.Chain.{chain, owned}
-use Rattle.meaning.specs.Growth.{tail, after, lengthens, lengthened, withPair, newExtension, withExtension, extended, takeOne, grown}
-use Rattle.meaning.specs.Free.{freeGranules, freeSlot, freeSlots}
+use Rattle.meaning.specs.Growth.{tail, after, lengthens, lengthened, withPair, newExtension, withExtension, extended, takeAt, grown}
+use Rattle.meaning.specs.Free.{freeSlot, freeSlots}
 use Rattle.meaning.specs.Drop.{unhooked, dropOne}
 use Rattle.meaning.specs.Kill.{killed}
 use Rattle.meaning.specs.Create.{newEntry, withEntry}
@@ -246,9 +246,8 @@ module _ (g : Geometry) (d : List ℕ) (c : Sound g d) (k : Places.Fits g d) (p 
   unfolding freeSlots
   slots-small x i = omega (arith, Members.count-in x 0 256 (Members.keep-in (freeSlot g d) x (count 0 256) i .0))
 
-  pub take-small : firstOr 0 (freeGranules g d) < granules g → (d′ : List ℕ) → takeOne g p d ≡ grown d′ → Small d′
-  unfolding takeOne
-  take-small h d′ q = go (Members.decide (lengthens g p d)) (Members.decide (ltb (runs g d e) 4))
+  pub take-small : (n : ℕ) → n < granules g → (d′ : List ℕ) → takeAt g p n d ≡ grown d′ → Small d′
+  take-small n h d′ q = go (Members.decide (lengthens g p d)) (Members.decide (ltb (runs g d e) 4))
     where
       go : Members.Test (lengthens g p d) → Members.Test (ltb (runs g d e) 4) → Small d′
       go (Members.Test.holds t) b =
@@ -256,12 +255,12 @@ module _ (g : Geometry) (d : List ℕ) (c : Sound g d) (k : Places.Fits g d) (p 
           let z : lengthened g p d ≡ d′ = cc in
           subst Small z (longer-small t)
       go (Members.Test.fails a) (Members.Test.holds t) =
-          let r : grown (withPair g p d e (runs g d e) (firstOr 0 (freeGranules g d))) ≡ grown d′ = rw (Members.no-false {b = lengthens g p d} a, Members.T-true {b = ltb (runs g d e) 4} t) at q in
-          let z : withPair g p d e (runs g d e) (firstOr 0 (freeGranules g d)) ≡ d′ = cc in
-          subst Small z (pair-small d e (runs g d e) (firstOr 0 (freeGranules g d)) s h)
+          let r : grown (withPair g p d e (runs g d e) n) ≡ grown d′ = rw (Members.no-false {b = lengthens g p d} a, Members.T-true {b = ltb (runs g d e) 4} t) at q in
+          let z : withPair g p d e (runs g d e) n ≡ d′ = cc in
+          subst Small z (pair-small d e (runs g d e) n s h)
       go (Members.Test.fails a) (Members.Test.fails b) =
-          let r : extended g p (freeSlots g d) d e (firstOr 0 (freeGranules g d)) ≡ grown d′ = rw (Members.no-false {b = lengthens g p d} a, Members.no-false {b = ltb (runs g d e) 4} b) at q in
-          extended-small (firstOr 0 (freeGranules g d)) h (freeSlots g d) slots-small d′ r
+          let r : extended g p (freeSlots g d) d e n ≡ grown d′ = rw (Members.no-false {b = lengthens g p d} a, Members.no-false {b = ltb (runs g d e) 4} b) at q in
+          extended-small n h (freeSlots g d) slots-small d′ r
 
   unhooked-small : (l : List ℕ) (x b : ℕ) → Small l → Small (unhooked g p l x b)
   unfolding unhooked words

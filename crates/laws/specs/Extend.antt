@@ -149,17 +149,17 @@ module _ (g : Geometry) (d d′ : List ℕ) (c : Sound g d) (p : ℕ) (f : Facts
   kept-granules : (y : ℕ) → In y (chain g d p) → entryGranules g d′ y ≡ entryGranules g d y
   kept-granules y i = Frame.entryGranules-pairs g d d′ y (λ j a b. steady y (slot-of y i) (not-in y i) j b)
 
-  runs-new : runs g d′ x ≡ 1
+  pub runs-new : runs g d′ x ≡ 1
   runs-new = Entry.runs-is g d′ x 1 (omega arith) one (λ b. h .ffs 0x18 (omega arith) (omega arith))
     where
       one : (j : ℕ) → j < 1 → block g d′ x j ≢ 0xff
       one zero b = rw (h .first) (omega (arith, h .small))
       one (suc j) b = absurd (omega arith)
 
-  start-new : runStart g d′ x 0 ≡ m
+  pub start-new : runStart g d′ x 0 ≡ m
   start-new = rw (h .first, h .second) (run-start (g .units) m)
 
-  length-new : runLength g d′ x 0 ≡ 1
+  pub length-new : runLength g d′ x 0 ≡ 1
   length-new = rw (h .second) (omega arith)
 
   new-granules : entryGranules g d′ x ≡ m ∷ []

@@ -154,16 +154,16 @@ module _ (g : Geometry) (d : List ℕ) (c : Sound g d) (k : Places.Fits g d) (p 
   changed = put-field 1 (omega arith) g d c k e (member .slot) r r-lt d₁ d₁-length d₁-out (after g p d) inside′ e (0x17 + 2 * r)
       ∙ getD-set-same d (entryAt g e + (0x17 + 2 * r)) (second + 1) 0 (omega (arith, room, r-lt))
 
-  runs′ : runs g d₂ e ≡ suc r
+  pub runs′ : runs g d₂ e ≡ suc r
   runs′ = Frame.runs-blocks g d d₂ e (λ x h. fixed (0x16 + 2 * x) (omega arith)) ∙ runs-r
 
   rg-early : (x : ℕ) → x < r → runGranules g d₂ e x ≡ runGranules g d e x
   rg-early x h = rw (fixed (0x16 + 2 * x) (omega arith), fixed (0x17 + 2 * x) (omega arith))
 
-  start′ : runStart g d₂ e r ≡ runStart g d e r
+  pub start′ : runStart g d₂ e r ≡ runStart g d e r
   start′ = ap₂ (λ (a b : ℕ). a * g .units + b) (fixed (0x16 + 2 * r) (omega arith)) (ap (λ (y : ℕ). y / 32) changed ∙ omega (arith, short))
 
-  length′ : runLength g d₂ e r ≡ suc (runLength g d e r)
+  pub length′ : runLength g d₂ e r ≡ suc (runLength g d e r)
   length′ = ap (λ (y : ℕ). 1 + y % 32) changed ∙ omega (arith, short)
 
   rg-last : runGranules g d₂ e r ≡ runGranules g d e r ++ (after g p d ∷ [])
@@ -285,7 +285,7 @@ module _ (g : Geometry) (d : List ℕ) (c : Sound g d) (k : Places.Fits g d) (p 
   unfolding words
   second₂ = put-field 1 (omega arith) g d c k e₂ (member₂ .slot) r₂ few pair₂ len₂ out₂ n inn e₂ (0x17 + 2 * r₂) ∙ paired-second g d e₂ r₂ (n / g .units) (n % g .units * 32) (omega (arith, room₂))
 
-  runs₂ : runs g d₃ e₂ ≡ suc r₂
+  pub runs₂ : runs g d₃ e₂ ≡ suc r₂
   runs₂ = Entry.runs-is g d₃ e₂ (suc r₂) (omega arith) (λ x h. go x h (ℕ-discrete x r₂)) (λ h. fixed₂ (0x16 + 2 * suc r₂) (omega arith) (omega arith) ∙ entry₂ .pairs (suc r₂) h (omega arith))
     where
       go : (x : ℕ) → x < suc r₂ → Dec (x ≡ r₂) → block g d₃ e₂ x ≢ 0xff
@@ -295,10 +295,10 @@ module _ (g : Geometry) (d : List ℕ) (c : Sound g d) (k : Places.Fits g d) (p 
   rg-early₂ : (x : ℕ) → x < r₂ → runGranules g d₃ e₂ x ≡ runGranules g d e₂ x
   rg-early₂ x h = rw (fixed₂ (0x16 + 2 * x) (omega arith) (omega arith), fixed₂ (0x17 + 2 * x) (omega arith) (omega arith))
 
-  start₂ : runStart g d₃ e₂ r₂ ≡ n
+  pub start₂ : runStart g d₃ e₂ r₂ ≡ n
   start₂ = rw (block₂, second₂) (run-start (g .units) n)
 
-  length₂ : runLength g d₃ e₂ r₂ ≡ 1
+  pub length₂ : runLength g d₃ e₂ r₂ ≡ 1
   length₂ = rw second₂ (omega arith)
 
   rg-last₂ : runGranules g d₃ e₂ r₂ ≡ n ∷ []

@@ -6,12 +6,12 @@ use Prim.Native.Nat.{ℕ, _+_, _-_, _*_, _≤_, _<_}
 use native.Mathlib.Omega.{arith}
 use lib.ListN.{length, length-set, length-append}
 use lib.Dec.{T, ltb, T-not, not-T, eqb→eq, ltb→lt, nltb→le}
-use Rattle.meaning.specs.Lists.{count, firstOr}
+use Rattle.meaning.specs.Lists.{count}
 use Rattle.meaning.specs.Layout.{isSlot, taken, granules, hit}
 use Rattle.meaning.specs.Entries.{system, runs}
 use Rattle.meaning.specs.Chain.{chain}
-use Rattle.meaning.specs.Growth.{tail, after, lengthens, lengthened, withPair, withExtension, takeOne, grown, extended}
-use Rattle.meaning.specs.Free.{freeGranules, freeSlots}
+use Rattle.meaning.specs.Growth.{tail, after, lengthens, lengthened, withPair, withExtension, takeAt, takeOne, grown, extended}
+use Rattle.meaning.specs.Free.{freeGranules, lowestFree, freeSlots}
 use Rattle.meaning.specs.declared.Geometry.{Geometry}
 use Rattle.laws.specs.Members
 use Rattle.laws.specs.Members.{In}
@@ -44,7 +44,7 @@ pub record Took (g : Geometry) (d d′ : List ℕ) (p : ℕ) : Type 0 where
   -- an extension takes one permitted slot, and nothing else does
   pub slots : length (freeSlots g d) + length (chain g d p) ≡ length (freeSlots g d′) + length (chain g d′ p)
 
-free-in : (g : Geometry) (d : List ℕ) → 1 ≤ length (freeGranules g d) → In (firstOr 0 (freeGranules g d)) (freeGranules g d)
+free-in : (g : Geometry) (d : List ℕ) → 1 ≤ length (freeGranules g d) → In (lowestFree g d) (freeGranules g d)
 free-in g d h = Create.first-in (freeGranules g d) (λ t. omega (arith, eqb→eq (length (freeGranules g d)) 0 t))
 
 free-says : (g : Geometry) (d : List ℕ) (n : ℕ) → In n (freeGranules g d) → (n < granules g) × (T (taken g d n) → ⊥)
@@ -54,18 +54,13 @@ free-says g d n i =
     (omega (arith, Members.count-in n 0 (granules g) (a .0)), T-not (taken g d n) (a .1))
 
 -- the lowest free granule, where there is one
-pub first-free : (g : Geometry) (d : List ℕ) → 1 ≤ length (freeGranules g d) → (firstOr 0 (freeGranules g d) < granules g) × (T (taken g d (firstOr 0 (freeGranules g d))) → ⊥)
-first-free g d room = free-says g d (firstOr 0 (freeGranules g d)) (free-in g d room)
+pub first-free : (g : Geometry) (d : List ℕ) → 1 ≤ length (freeGranules g d) → (lowestFree g d < granules g) × (T (taken g d (lowestFree g d)) → ⊥)
+first-free g d room = free-says g d (lowestFree g d) (free-in g d room)
 
-module _ (g : Geometry) (d : List ℕ) (c : Sound g d) (k : Places.Fits g d) (p : ℕ) (f : File g d p) (u : T (not (system g d p))) (room : 1 ≤ length (freeGranules g d)) where
+module _ (g : Geometry) (d : List ℕ) (c : Sound g d) (k : Places.Fits g d) (p : ℕ) (f : File g d p) (u : T (not (system g d p)))
+    (n : ℕ) (is-free : (n < granules g) × (T (taken g d n) → ⊥)) where
   abbrev e : ℕ
   e = tail g p d
-
-  abbrev n : ℕ
-  n = firstOr 0 (freeGranules g d)
-
-  is-free : (n < granules g) × (T (taken g d n) → ⊥)
-  is-free = first-free g d room
 
   by-tail : (d′ : List ℕ) (m : ℕ) → Tail.Grows g d d′ p m → length d′ ≡ length d → Touch.Touch g (chain g d p) [] d d′ → Took g d d′ p
   by-tail d′ m w l t = record {
@@ -129,9 +124,9 @@ module _ (g : Geometry) (d : List ℕ) (c : Sound g d) (k : Places.Fits g d) (p 
       let i = a x Members.In.here in let s = Create.slots-free g d x i in
       subst (λ (l : List ℕ). Took g d l p) r (by-extension x i (s .0) (s .1) full)
 
-  pub take-one : (d′ : List ℕ) → takeOne g p d ≡ grown d′ → Took g d d′ p
-  unfolding takeOne words
-  take-one d′ q = go (Members.decide (lengthens g p d)) (Members.decide (ltb (runs g d e) 4))
+  pub take-at : (d′ : List ℕ) → takeAt g p n d ≡ grown d′ → Took g d d′ p
+  unfolding words
+  take-at d′ q = go (Members.decide (lengthens g p d)) (Members.decide (ltb (runs g d e) 4))
     where
       go : Members.Test (lengthens g p d) → Members.Test (ltb (runs g d e) 4) → Took g d d′ p
       go (Members.Test.holds t) b =
@@ -145,3 +140,8 @@ module _ (g : Geometry) (d : List ℕ) (c : Sound g d) (k : Places.Fits g d) (p 
       go (Members.Test.fails a) (Members.Test.fails b) =
           let r : extended g p (freeSlots g d) d e n ≡ grown d′ = rw (Members.no-false {b = lengthens g p d} a, Members.no-false {b = ltb (runs g d e) 4} b) at q in
           extended-took d′ (freeSlots g d) (λ x i. i) (omega (arith, nltb→le (runs g d e) 4 (not-T (ltb (runs g d e) 4) b), Entry.runs-le g d e)) r
+
+pub take-one : (g : Geometry) (d : List ℕ) (c : Sound g d) (k : Places.Fits g d) (p : ℕ) (f : File g d p) (u : T (not (system g d p))) (room : 1 ≤ length (freeGranules g d))
+    (d′ : List ℕ) → takeOne g p d ≡ grown d′ → Took g d d′ p
+unfolding takeOne
+take-one g d c k p f u room d′ q = take-at g d c k p f u (lowestFree g d) (first-free g d room) d′ q

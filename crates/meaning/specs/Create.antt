@@ -35,23 +35,25 @@ module _ (g : Geometry) (d : List ℕ) where
   -- 5 under open's password rule, the given main code counting; 8 only if the name is not found
   abbrev pub createRefusals : List ℕ → NewFile → Bool → List (ℕ × Bool)
   createRefusals n f checking =
+      let m = Names.comesIn n .name in
       Refusals.diskRefusals g d ((12, not (Refusals.newInRange f)) ∷ Refusals.badName n
-      ∷ (5, all (not (LookUp.missing g d n) ∷ not (Open.admits g d (LookUp.slotOf g d n) checking (f .main)) ∷ []))
-      ∷ (8, all (LookUp.missing g d n ∷ eqb (length (Free.freeSlots g d)) 0 ∷ [])) ∷ [])
+      ∷ (5, all (not (LookUp.missing g d m) ∷ not (Open.admits g d (LookUp.slotOf g d m) checking (f .main)) ∷ []))
+      ∷ (8, all (LookUp.missing g d m ∷ eqb (length (Free.freeSlots g d)) 0 ∷ [])) ∷ [])
 
   -- An existing file is opened and reported as old. Otherwise the first permitted slot is taken. The new handle has level 0.
   unfoldable pub create : List ℕ → NewFile → Bool → Created × List ℕ
   create n f checking =
-      let s = LookUp.slotOf g d n in
+      let m = Names.comesIn n .name in
+      let s = LookUp.slotOf g d m in
       let x = newSlot in
-      let new = LookUp.missing g d n in
+      let new = LookUp.missing g d m in
       let no = Refusals.first (createRefusals n f checking) in (
         record {
           refusal = Refusals.refusal g d no;
           old = Refusals.accepted no && not new;
           handle = cond (Refusals.accepted no)
-              (cond new (record { slot = x; name = n; at = 0; len = f .len; level = 0 })
-              (Open.openedAt g d s n (f .len) checking (f .main))) Refusals.noHandle;
+              (cond new (record { slot = x; name = m; at = 0; len = f .len; level = 0 })
+              (Open.openedAt g d s m (f .len) checking (f .main))) Refusals.noHandle;
         },
-        cond (Refusals.accepted no && new) (withEntry x n f) d,
+        cond (Refusals.accepted no && new) (withEntry x m f) d,
       )

@@ -3,7 +3,7 @@ use Prim.Native.Nat.{ℕ}
 use mathlib.Core.Bool.{Bool, not, cond}
 use mathlib.Core.List.{List, [], _∷_}
 use lib.Dec.{ltb, eqb}
-use Rattle.meaning.specs.Lists.{count, keep, all}
+use Rattle.meaning.specs.Lists.{count, keep, all, firstOr}
 use Rattle.meaning.specs.Layout.{taken, granules, isSlot, row, column, hit}
 use Rattle.meaning.specs.declared.Geometry.{Geometry}
 
@@ -11,6 +11,10 @@ module _ (g : Geometry) where
   -- the free granules, rising: the clear GAT bits in range
   unfoldable pub freeGranules : List ℕ → List ℕ
   freeGranules d = keep (λ n. not (taken g d n)) (count 0 (granules g))
+
+  -- "the lowest free one"; 0 where none is free, and no answer hangs on that
+  abbrev pub lowestFree : List ℕ → ℕ
+  lowestFree d = firstOr 0 (freeGranules d)
 
   -- On a system disk rows 0 to 3 with s 0 to 7 are kept for system files. On a data disk only slots 00H and 01H are kept (02, §4).
   unfoldable pub kept : ℕ → Bool

@@ -1,12 +1,12 @@
--- Granules are taken one at a time (01, Calls). `takeOne` is the choice of a granule and of its place in the directory; a growth is
--- `takeOne` done so many times.
+-- Granules are taken one at a time (01, Calls). `takeAt` is the deed, for any free granule that a new run may start at; which one that is
+-- is a choice that stands beside it, 01's being the lowest free one. A growth is the deed done so many times, each by the choice.
 use Prim.Native.Nat.{ℕ, zero, suc, _+_, _-_, _*_, _/_, _%_}
 use mathlib.Core.Bool.{Bool, true, false, not, cond}
 use mathlib.Core.List.{List, [], _∷_, _++_}
 use lib.Dec.{leb, ltb}
 use lib.ListN.{replicate}
 use lib.Seq.{sets}
-use Rattle.meaning.specs.Lists.{all, firstOr, lastOr}
+use Rattle.meaning.specs.Lists.{all, lastOr}
 use Rattle.meaning.specs.Layout
 use Rattle.meaning.specs.Entries
 use Rattle.meaning.specs.Chain
@@ -81,15 +81,23 @@ module _ (g : Geometry) (p : ℕ) where
   extended [] d e n = noSlot
   extended (x ∷ xs) d e n = grown (withPair (withExtension d e x) x 0 n)
 
-  -- one granule more: the one just after the last run; else the lowest free one, as a new run. (Some granule is free: 9 is tested before.)
-  unfoldable pub takeOne : List ℕ → Grown
-  takeOne d =
-      let e = tail d in let n = firstOr 0 (Free.freeGranules g d) in
+  -- one granule more: the one just after the last run; else granule n, as a new run
+  abbrev pub takeAt : ℕ → List ℕ → Grown
+  takeAt n d =
+      let e = tail d in
       cond (lengthens d) (grown (lengthened d))
       (cond (ltb (Entries.runs g d e) 4) (grown (withPair d e (Entries.runs g d e) n))
       (extended (Free.freeSlots g d) d e n))
 
-  -- k granules more
-  unfoldable pub grow : ℕ → List ℕ → Grown
-  grow zero d = grown d
-  grow (suc k) d = andThen (takeOne d) (grow k)
+  -- k granules more, each new run at the granule chosen
+  unfoldable pub growBy : (List ℕ → ℕ) → ℕ → List ℕ → Grown
+  growBy choice zero d = grown d
+  growBy choice (suc k) d = andThen (takeAt (choice d) d) (growBy choice k)
+
+  -- 01's: the one just after the last run; else the lowest free one, as a new run. (Some granule is free: 9 is tested before.)
+  unfoldable pub takeOne : List ℕ → Grown
+  takeOne d = takeAt (Free.lowestFree g d) d
+
+  -- k granules more by 01's choice
+  abbrev pub grow : ℕ → List ℕ → Grown
+  grow = growBy (Free.lowestFree g)

@@ -23,6 +23,7 @@ pub mod Kill
 pub mod BringBack
 pub mod Listing
 pub mod FreeSpace
+pub mod Calls
 pub mod Plain
 pub mod Samples
 pub mod Table

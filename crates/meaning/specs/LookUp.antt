@@ -39,14 +39,14 @@ module _ (g : Geometry) (d : List ℕ) where
   slotOf n = firstOr 0 (named n)
 
   abbrev pub lookUpRefusals : List ℕ → List (ℕ × Bool)
-  lookUpRefusals n = Refusals.diskRefusals g d (Refusals.badName n ∷ (4, missing n) ∷ [])
+  lookUpRefusals n = Refusals.diskRefusals g d (Refusals.badName n ∷ (4, missing (Names.comesIn n .name)) ∷ [])
 
   -- look up returns its count as well under 4, and 0 under 1, 2 (now 21 to 30) and 3
   unfoldable pub lookUp : List ℕ → LookedUp
   lookUp n =
-      let no = Refusals.first (lookUpRefusals n) in
+      let no = Refusals.first (lookUpRefusals n) in let m = Names.comesIn n .name in
       record {
         refusal = Refusals.refusal g d no;
-        slot = cond (Refusals.accepted no) (slotOf n) 0;
-        compared = cond (has (0 ∷ 4 ∷ []) no) (comparedIn n (candidates n)) 0;
+        slot = cond (Refusals.accepted no) (slotOf m) 0;
+        compared = cond (has (0 ∷ 4 ∷ []) no) (comparedIn m (candidates m)) 0;
       }

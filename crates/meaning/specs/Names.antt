@@ -3,9 +3,10 @@ use Prim.Native.Nat.{ℕ, _+_, _*_, _/_, _%_}
 use mathlib.Core.Bool.{Bool, true, cond, _&&_, _||_}
 use mathlib.Core.List.{List, [], _∷_}
 use lib.Bits.{bitXor}
-use lib.Dec.{leb, eqb}
+use lib.Dec.{leb, ltb, eqb}
 use lib.ListN.{length, getD, take, drop}
 use Rattle.meaning.specs.Lists.{every, through, all}
+use Rattle.meaning.specs.declared.Incoming.{Incoming}
 
 -- allowed bytes 30H to 39H and 41H to 5DH
 abbrev pub letter : ℕ → Bool
@@ -20,9 +21,35 @@ padded (x ∷ xs) = cond (letter x) (padded xs) (every (eqb 0x20) (x ∷ xs))
 unfoldable pub wellFormed : List ℕ → Bool
 wellFormed n = all (eqb (length n) 11 ∷ letter (getD n 0 0) ∷ padded (take 8 n) ∷ padded (drop 8 n) ∷ [])
 
--- the test of a name that comes in with a call: the same
-abbrev pub nameComesIn : List ℕ → Bool
-nameComesIn n = wellFormed n
+-- A name that comes in ----------------------------------------------------------------------------------------------------
+
+-- the name that a call goes on with: byte for byte the one that came in
+abbrev pub fold : List ℕ → List ℕ
+fold n = n
+
+-- how many bytes stand before the first that is not 20H
+unfoldable pub blanks : List ℕ → ℕ
+blanks [] = 0
+blanks (x ∷ xs) = cond (eqb 0x20 x) (1 + blanks xs) 0
+
+-- how many bytes of a name, or of its type, stand before the first that keeps it from being padded right with 20H
+unfoldable pub good : List ℕ → ℕ
+good [] = 0
+good (x ∷ xs) = cond (letter x) (1 + good xs) (blanks (x ∷ xs))
+
+-- where no byte is bad
+abbrev pub noPlace : ℕ
+noPlace = 11
+
+-- the place of the first byte that keeps a name from being well formed; 0 where it has not 11 bytes
+unfoldable pub badPlace : List ℕ → ℕ
+badPlace n =
+    let k = good (take 8 n) in
+    cond (eqb (length n) 11 && letter (getD n 0 0)) (cond (ltb k 8) k (8 + good (drop 8 n))) 0
+
+-- what a name that comes in with a call is taken for: a name, or the place of its first bad byte. The calls by name go on with the name.
+abbrev pub comesIn : List ℕ → Incoming
+comesIn n = record { place = badPlace (fold n); name = fold n }
 
 -- rotate left by one within 8 bits
 abbrev pub rotate : ℕ → ℕ

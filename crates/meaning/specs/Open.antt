@@ -4,6 +4,7 @@ use mathlib.Core.Bool.{Bool, not, cond}
 use mathlib.Core.List.{List, [], _∷_}
 use lib.Dec.{eqb}
 use Rattle.meaning.specs.Lists.{any}
+use Rattle.meaning.specs.Names
 use Rattle.meaning.specs.Entries
 use Rattle.meaning.specs.Refusals
 use Rattle.meaning.specs.LookUp
@@ -28,13 +29,14 @@ module _ (g : Geometry) (d : List ℕ) where
   -- 5: wrong password code
   abbrev pub openRefusals : List ℕ → ℕ → Bool → ℕ → List (ℕ × Bool)
   openRefusals n len checking code =
+      let m = Names.comesIn n .name in
       Refusals.diskRefusals g d ((12, not (Refusals.goodLength len)) ∷ Refusals.badName n
-      ∷ (4, LookUp.missing g d n) ∷ (5, not (admits (LookUp.slotOf g d n) checking code)) ∷ [])
+      ∷ (4, LookUp.missing g d m) ∷ (5, not (admits (LookUp.slotOf g d m) checking code)) ∷ [])
 
   unfoldable pub open′ : List ℕ → ℕ → Bool → ℕ → Answer
   open′ n len checking code =
-      let no = Refusals.first (openRefusals n len checking code) in
+      let no = Refusals.first (openRefusals n len checking code) in let m = Names.comesIn n .name in
       record {
         refusal = Refusals.refusal g d no;
-        handle = cond (Refusals.accepted no) (openedAt (LookUp.slotOf g d n) n len checking code) Refusals.noHandle;
+        handle = cond (Refusals.accepted no) (openedAt (LookUp.slotOf g d m) m len checking code) Refusals.noHandle;
       }

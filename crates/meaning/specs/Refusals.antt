@@ -47,7 +47,7 @@ movedTo h at = record { slot = h .slot; name = h .name; at = at; len = h .len; l
 
 -- 3: name not well formed (calls by name)
 abbrev pub badName : List ℕ → ℕ × Bool
-badName n = (3, not (Names.nameComesIn n))
+badName n = (3, not (Names.wellFormed (Names.comesIn n .name)))
 
 -- 6: level over 5 for reading
 abbrev pub notForReading : Handle → ℕ × Bool

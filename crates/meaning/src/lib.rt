@@ -19,6 +19,12 @@ pub struct Handle {
     pub level: usize,
 }
 
+// What a name that comes in is taken for: the name, or the place of its first bad byte; 11 where none is bad.
+pub struct Incoming {
+    pub place: usize,
+    pub name: [u8; 11],
+}
+
 // What a caller gives for a new file: the date (the year as its offset from 1980), the record length and the two codes.
 pub struct NewFile {
     pub day: usize,

@@ -20,6 +20,7 @@ use Rattle.meaning.specs.Write.{writeRecord, toWrite}
 use Rattle.meaning.specs.Allot.{allot, toAllot}
 use Rattle.meaning.specs.Trim.{trim}
 use Rattle.meaning.specs.Kill.{kill}
+use Rattle.meaning.specs.Calls.{Call}
 use Rattle.meaning.specs.Plain.{File, Found, found, nothing, fileAt, plain, with′, hush, bornAs, writtenTo, allottedTo, trimmed, beyond, Aside}
 use Rattle.meaning.specs.declared.Geometry.{Geometry}
 use Rattle.meaning.specs.declared.Handle.{Handle}
@@ -39,7 +40,7 @@ use Rattle.laws.specs.Passed.{Holds}
 use Rattle.promises.specs.KillMeans
 use Rattle.promises.specs.CreateMeans
 use Rattle.promises.specs.Promises
-use Rattle.promises.specs.Promises.{Becomes, Live, InRange, Serves, Call}
+use Rattle.promises.specs.Promises.{Becomes, Live, InRange, Serves}
 use Rattle.promises.specs.Refusing
 use Rattle.promises.specs.Passing
 use Rattle.promises.specs.Grow

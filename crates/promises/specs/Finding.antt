@@ -15,6 +15,7 @@ use Rattle.meaning.specs.Refusals.{first, goodLength, newInRange}
 use Rattle.meaning.specs.LookUp.{candidates, carries, comparedIn, named, missing, slotOf, lookUp}
 use Rattle.meaning.specs.Open.{full, admits, openedAt, open′}
 use Rattle.meaning.specs.Create.{create, newSlot}
+use Rattle.meaning.specs.Calls.{Call, number}
 use Rattle.meaning.specs.Plain.{File, found, fileAt}
 use Rattle.meaning.specs.declared.Geometry.{Geometry}
 use Rattle.meaning.specs.declared.NewFile.{NewFile}
@@ -145,11 +146,11 @@ look-refuses g d n k = record {
     lost : lookUp g d n .refusal .number ≡ 4 → T (missing g d n)
     lost e = Refusing.missing-iff g d n .1 (rows .1 .0 .0 (known e) .1)
       where
-        rows : Promises.Rows (Promises.number g d (Promises.Call.looksUp n)) (Refusing.Checked g d) (Refusing.ownCases (Promises.table g d (Promises.Call.looksUp n)))
-        rows = Refusing.own-rows g d (Refusing.ownCases (Promises.table g d (Promises.Call.looksUp n))) (Promises.number g d (Promises.Call.looksUp n)) (Refusing.numbers g d (Promises.Call.looksUp n))
+        rows : Promises.Rows (number g d (Call.looksUp n)) (Refusing.Checked g d) (Refusing.ownCases (Promises.table g d (Call.looksUp n)))
+        rows = Refusing.own-rows g d (Refusing.ownCases (Promises.table g d (Call.looksUp n))) (number g d (Call.looksUp n)) (Refusing.numbers g d (Call.looksUp n))
 
-        known : lookUp g d n .refusal .number ≡ 4 → Promises.number g d (Promises.Call.looksUp n) ≡ 4
-        known e = unfold Promises.number in e
+        known : lookUp g d n .refusal .number ≡ 4 → number g d (Call.looksUp n) ≡ 4
+        known e = unfold number in e
 
     all : lookUp g d n .refusal .number ≡ 4 → lookUp g d n .compared ≡ length (keep (λ x. eqb (hit g d x) (hash n)) (slots g d))
     all e = count e ∙ counted (lost e)

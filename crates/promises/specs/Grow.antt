@@ -8,12 +8,12 @@ use native.Mathlib.Omega.{arith}
 use lib.ListN.{length, length-append}
 use lib.Dec.{T, ltb, not-T, nltb→le}
 use Rattle.meaning.specs.Lists.{count}
-use Rattle.meaning.specs.Layout.{granules, byte, field, directoryGranules, granuleBytes, granuleSectors, aboveTen, roundUp}
+use Rattle.meaning.specs.Layout.{granules, taken, byte, field, directoryGranules, granuleBytes, granuleSectors, aboveTen, roundUp}
 use Rattle.meaning.specs.Entries.{system, nameOf}
 use Rattle.meaning.specs.Chain.{chain, owned}
 use Rattle.meaning.specs.Consistent.{consistent}
-use Rattle.meaning.specs.Growth.{takeOne, Grown, grown, noSlot, grow, andThen, fails, diskOr}
-use Rattle.meaning.specs.Free.{freeGranules, freeSlots}
+use Rattle.meaning.specs.Growth.{takeAt, Grown, grown, noSlot, grow, growBy, andThen, fails, diskOr}
+use Rattle.meaning.specs.Free.{freeGranules, lowestFree, freeSlots}
 use Rattle.meaning.specs.Plain.{fileAt, plain, hush, reserved, Found, found, allottedTo, beyond}
 use Rattle.meaning.specs.LookUp.{named}
 use Rattle.meaning.specs.Allot.{allot}
@@ -104,17 +104,27 @@ module _ (g : Geometry) where
     same = λ i o. y .same i (λ z. o (subst (λ (v : ℕ). In (i / granuleBytes g) (count (g .start / granuleSectors g) (roundUp (10 + v) (granuleSectors g)))) (x .above) z)) ∙ x .same i o;
   }
 
-  pub grow-grew : (k : ℕ) (d d′ : List ℕ) (p : ℕ) → Sound g d → Places.Fits g d → File g d p → T (not (system g d p)) → k ≤ length (freeGranules g d)
-      → grow g p k d ≡ grown d′ → Grew g d d′ p k
-  unfolding grow andThen
-  grow-grew zero d d′ p c w f u room q = let r : d ≡ d′ = cc in subst (λ (l : List ℕ). Grew g d l p 0) r (grew-none d p c w f u)
-  grow-grew (suc k) d d′ p c w f u room q = go (takeOne g p d) refl q (λ d₁ x. grow-grew k d₁ d′ p (x .kept .sound) (x .kept .fits) (x .kept .file) (x .kept .user) (omega (arith, x .free)))
+  -- the choice is free wherever some granule is
+  abbrev pub Chooses : (List ℕ → ℕ) → Type 0
+  Chooses choice = (d : List ℕ) → 1 ≤ length (freeGranules g d) → (choice d < granules g) × (T (taken g d (choice d)) → ⊥)
+
+  pub growBy-grew : (choice : List ℕ → ℕ) → Chooses choice → (k : ℕ) (d d′ : List ℕ) (p : ℕ) → Sound g d → Places.Fits g d → File g d p → T (not (system g d p)) → k ≤ length (freeGranules g d)
+      → growBy g p choice k d ≡ grown d′ → Grew g d d′ p k
+  unfolding growBy andThen
+  growBy-grew choice h zero d d′ p c w f u room q = let r : d ≡ d′ = cc in subst (λ (l : List ℕ). Grew g d l p 0) r (grew-none d p c w f u)
+  growBy-grew choice h (suc k) d d′ p c w f u room q =
+      go (takeAt g p (choice d) d) refl q (λ d₁ x. growBy-grew choice h k d₁ d′ p (x .kept .sound) (x .kept .fits) (x .kept .file) (x .kept .user) (omega (arith, x .free)))
     where
-      go : (t : Grown) → takeOne g p d ≡ t → andThen t (grow g p k) ≡ grown d′ → ((d₁ : List ℕ) → Grew g d d₁ p 1 → grow g p k d₁ ≡ grown d′ → Grew g d₁ d′ p k) → Grew g d d′ p (suc k)
+      go : (t : Grown) → takeAt g p (choice d) d ≡ t → andThen t (growBy g p choice k) ≡ grown d′ → ((d₁ : List ℕ) → Grew g d d₁ p 1 → growBy g p choice k d₁ ≡ grown d′ → Grew g d₁ d′ p k) → Grew g d d′ p (suc k)
       go (grown d₁) e q ih =
-          let x = grew-one d d₁ p c w f u (λ b. Bytes.take-small g d c w p f b (TakeOne.first-free g d (omega arith) .0) d₁ e) (TakeOne.take-one g d c w p f u (omega arith) d₁ e) in
+          let n = h d (omega arith) in
+          let x = grew-one d d₁ p c w f u (λ b. Bytes.take-small g d c w p f b (choice d) (n .0) d₁ e) (TakeOne.take-at g d c w p f u (choice d) n d₁ e) in
           subst (λ (j : ℕ). Grew g d d′ p j) (omega arith) (grew-trans d d₁ d′ p 1 k x (ih d₁ x q))
       go noSlot e q ih = absurd (let z : _≡_ {A = ℕ} 0 1 = cc in omega arith)
+
+  pub grow-grew : (k : ℕ) (d d′ : List ℕ) (p : ℕ) → Sound g d → Places.Fits g d → File g d p → T (not (system g d p)) → k ≤ length (freeGranules g d)
+      → grow g p k d ≡ grown d′ → Grew g d d′ p k
+  grow-grew = growBy-grew (lowestFree g) (TakeOne.first-free g)
 
 not-fails : (z : List ℕ) (t : Grown) → (T (fails t) → ⊥) → t ≡ grown (diskOr z t)
 unfolding fails diskOr

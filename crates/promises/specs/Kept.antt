@@ -5,12 +5,13 @@ use mathlib.Core.List.{List, [], _∷_}
 use Prim.Native.Nat.{ℕ}
 use Rattle.meaning.specs.Refusals.{check}
 use Rattle.meaning.specs.Listing
+use Rattle.meaning.specs.Calls.{Call, number, leaves}
 use Rattle.meaning.specs.Plain.{AreBytes}
 use Rattle.meaning.specs.declared.Geometry.{Geometry}
 use Rattle.laws.specs.Members
 use Rattle.laws.specs.Facts
 use Rattle.laws.specs.Fault
-use Rattle.promises.specs.Promises.{Call, number, leaves, AllBring, Stays, Serves, Refuses, EveryCall, Along, EveryState, GatAlone, EveryWrite, OldTwo}
+use Rattle.promises.specs.Promises.{AllBring, Stays, Serves, Refuses, EveryCall, Along, EveryState, GatAlone, EveryWrite, OldTwo}
 use Rattle.promises.specs.Refusing
 use Rattle.promises.specs.Passing
 use Rattle.promises.specs.Staying

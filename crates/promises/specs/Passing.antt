@@ -19,6 +19,7 @@ use Rattle.meaning.specs.Allot.{allot}
 use Rattle.meaning.specs.Trim.{trim}
 use Rattle.meaning.specs.Kill.{kill}
 use Rattle.meaning.specs.Listing
+use Rattle.meaning.specs.Calls.{Call, number, leaves}
 use Rattle.meaning.specs.declared.Geometry.{Geometry}
 use Rattle.meaning.specs.declared.Handle.{Handle}
 use Rattle.meaning.specs.declared.NewFile.{NewFile}
@@ -27,7 +28,7 @@ use Rattle.meaning.specs.declared.Listed.{Listed}
 use Rattle.laws.specs.Members
 use Rattle.laws.specs.Facts
 use Rattle.laws.specs.Passed.{passed, yes-T}
-use Rattle.promises.specs.Promises.{Call, number, leaves, Live, InRange}
+use Rattle.promises.specs.Promises.{Live, InRange}
 use Rattle.promises.specs.Refusing
 -- Accepted --------------------------------------------------------------------------------------------------------------------------
 

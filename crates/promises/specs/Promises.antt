@@ -22,7 +22,7 @@ use Rattle.meaning.specs.Free.{freeGranules, freeSlots}
 use Rattle.meaning.specs.Growth.{grown, grow, tail, lengthens}
 use Rattle.meaning.specs.Refusal.{unplaced}
 use Rattle.meaning.specs.Fault.{fault}
-use Rattle.meaning.specs.Refusals.{check, movedTo, noHandle, faultNumbers}
+use Rattle.meaning.specs.Refusals.{movedTo, noHandle, faultNumbers}
 use Rattle.meaning.specs.LookUp.{lookUp, named}
 use Rattle.meaning.specs.Open.{open′}
 use Rattle.meaning.specs.Create.{create}
@@ -34,6 +34,8 @@ use Rattle.meaning.specs.Kill.{kill}
 use Rattle.meaning.specs.Listing
 use Rattle.meaning.specs.Listing.{listed, noFile}
 use Rattle.meaning.specs.FreeSpace.{freeSpace}
+use Rattle.meaning.specs.Calls.{Call, number, leaves}
+use Rattle.meaning.specs.Calls.Call.{checks, looksUp, opens, creates, reads, readsSector, writes, allots, trims, kills, lists, counts, measures}
 use Rattle.meaning.specs.Plain.{File, Found, found, nothing, fileAt, plain, with′, isSystem, hush, beyond, Aside, bornAs, writtenTo, allottedTo, trimmed, AreBytes, CodesFit, reserved}
 use Rattle.meaning.specs.declared.Geometry.{Geometry}
 use Rattle.meaning.specs.declared.Handle.{Handle}
@@ -41,54 +43,6 @@ use Rattle.meaning.specs.declared.NewFile.{NewFile}
 use Rattle.meaning.specs.declared.Mode.{Mode}
 
 -- Calls -----------------------------------------------------------------------------------------------------------------------------
-
--- a call with all that the caller brings: any handle, any buffer, any numbers
-pub data Call : Type 0 where
-  checks : Call
-  looksUp : (name : List ℕ) → Call
-  opens : (name : List ℕ) (len : ℕ) (checking : Bool) (code : ℕ) → Call
-  creates : (name : List ℕ) (f : NewFile) (checking : Bool) → Call
-  reads : (h : Handle) (buffer : List ℕ) → Call
-  readsSector : (h : Handle) (k : ℕ) → Call
-  writes : (m : Mode) (h : Handle) (buffer : List ℕ) → Call
-  allots : (h : Handle) (k : ℕ) → Call
-  trims : (h : Handle) → Call
-  kills : (h : Handle) → Call
-  lists : (i : ℕ) → Call
-  counts : Call
-  measures : Call
-
--- the number that it answers, 0 where it is accepted
-unfoldable pub number : Geometry → List ℕ → Call → ℕ
-number g d checks = check g d .number
-number g d (looksUp n) = lookUp g d n .refusal .number
-number g d (opens n len checking code) = open′ g d n len checking code .refusal .number
-number g d (creates n f checking) = create g d n f checking .0 .refusal .number
-number g d (reads h b) = readRecord g d h b .0 .refusal .number
-number g d (readsSector h k) = readSector g d h k .refusal .number
-number g d (writes m h b) = writeRecord g d m h b .0 .refusal .number
-number g d (allots h k) = allot g d h k .0 .refusal .number
-number g d (trims h) = trim g d h .0 .refusal .number
-number g d (kills h) = kill g d h .0 .refusal .number
-number g d (lists i) = Listing.list g d i .refusal .number
-number g d counts = Listing.counts g d .refusal .number
-number g d measures = freeSpace g d .refusal .number
-
--- the image that it leaves
-unfoldable pub leaves : Geometry → List ℕ → Call → List ℕ
-leaves g d checks = d
-leaves g d (looksUp n) = d
-leaves g d (opens n len checking code) = d
-leaves g d (creates n f checking) = create g d n f checking .1
-leaves g d (reads h b) = d
-leaves g d (readsSector h k) = d
-leaves g d (writes m h b) = writeRecord g d m h b .1
-leaves g d (allots h k) = allot g d h k .1
-leaves g d (trims h) = trim g d h .1
-leaves g d (kills h) = kill g d h .1
-leaves g d (lists i) = d
-leaves g d counts = d
-leaves g d measures = d
 
 -- what a caller's types see to: a record to be written is of bytes, the codes of a new file have 16 bits
 abbrev pub Brings : Call → Type 0

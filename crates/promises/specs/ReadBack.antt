@@ -9,6 +9,7 @@ use lib.ListN.{length, getD, take, drop, length-take, length-drop}
 use lib.Seq.{getD-take, getD-drop, ext-getD}
 use Rattle.meaning.specs.Read.{readRecord}
 use Rattle.meaning.specs.Write.{writeRecord, sizeAfter}
+use Rattle.meaning.specs.Calls.{Call, number}
 use Rattle.meaning.specs.Plain
 use Rattle.meaning.specs.Plain.{fileAt, writtenTo, overwritten}
 use Rattle.meaning.specs.declared.Geometry.{Geometry}
@@ -17,7 +18,7 @@ use Rattle.meaning.specs.declared.Mode.{Mode}
 use Rattle.laws.specs.Members
 use Rattle.laws.specs.Facts
 use Rattle.laws.specs.Rewrite
-use Rattle.promises.specs.Promises.{ReadsBack, Call, Rows, number, table, Fits, Live}
+use Rattle.promises.specs.Promises.{ReadsBack, Rows, table, Fits, Live}
 use Rattle.promises.specs.Refusing
 use Rattle.promises.specs.Over
 use Rattle.promises.specs.Read

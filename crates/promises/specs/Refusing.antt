@@ -26,6 +26,7 @@ use Rattle.meaning.specs.Trim.{trim, trimRefusals}
 use Rattle.meaning.specs.Kill.{kill, killRefusals}
 use Rattle.meaning.specs.Listing
 use Rattle.meaning.specs.FreeSpace.{spaceRefusals, freeSpace}
+use Rattle.meaning.specs.Calls.{Call, number}
 use Rattle.meaning.specs.Plain.{File, found, nothing, fileAt, foundIn, plain, isSystem}
 use Rattle.meaning.specs.declared.Geometry.{Geometry}
 use Rattle.meaning.specs.declared.Handle.{Handle}
@@ -43,7 +44,7 @@ use Rattle.laws.specs.Words.{words}
 use Rattle.laws.specs.Named
 use Rattle.promises.specs.Sticking
 use Rattle.promises.specs.Promises
-use Rattle.promises.specs.Promises.{Table, Rows, Exactly, Call, number, table, Fits, InRange, NewInRange, Live, Full, LengthInRange}
+use Rattle.promises.specs.Promises.{Table, Rows, Exactly, table, Fits, InRange, NewInRange, Live, Full, LengthInRange}
 
 -- Any list of refusals ------------------------------------------------------------------------------------------------------------
 

@@ -7,7 +7,7 @@ use native.Mathlib.Omega.{arith}
 use lib.ListN.{length, getD, take, drop, length-take, length-drop}
 use lib.Seq.{getD-take, getD-drop, ext-getD, slice, length-slice}
 use lib.Dec.{eqb, leb, ltb, not-T, nltb→le, nleb→lt, eqb→eq}
-use Rattle.meaning.specs.Layout.{byte, entryAt, sectorNumbers, granuleBytes}
+use Rattle.meaning.specs.Layout.{byte, entryAt, sectorNumbers}
 use Rattle.meaning.specs.Sizes
 use Rattle.meaning.specs.Entries.{sizeOf, sectorCount, endByte}
 use Rattle.meaning.specs.Chain.{place}

@@ -21,6 +21,7 @@ use Rattle.meaning.specs.Write.{writeRecord, sizeAfter, toWrite}
 use Rattle.meaning.specs.Allot.{allot}
 use Rattle.meaning.specs.Trim.{trim}
 use Rattle.meaning.specs.Kill.{kill}
+use Rattle.meaning.specs.Calls.{Call, number, leaves}
 use Rattle.meaning.specs.Plain.{AreBytes, reserved}
 use Rattle.meaning.specs.declared.Geometry.{Geometry}
 use Rattle.meaning.specs.declared.Handle.{Handle}
@@ -38,7 +39,7 @@ use Rattle.laws.specs.Passed.{passed, yes-T}
 use Rattle.laws.specs.Words.{words}
 use Rattle.promises.specs.KillMeans
 use Rattle.promises.specs.CreateMeans
-use Rattle.promises.specs.Promises.{Good, Stays, Call, number, leaves, Brings}
+use Rattle.promises.specs.Promises.{Good, Stays, Brings}
 use Rattle.promises.specs.Refusing
 use Rattle.promises.specs.Passing
 use Rattle.promises.specs.Grow

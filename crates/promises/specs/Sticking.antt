@@ -7,10 +7,9 @@ use Prim.Native.Nat.{ℕ, zero, suc, _≤_, _<_}
 use native.Mathlib.Omega.{arith}
 use lib.ListN.{length}
 use lib.Dec.{T, ltb, ltb→lt, nltb→le, not-T}
-use Rattle.meaning.specs.Lists.{firstOr}
 use Rattle.meaning.specs.Entries.{runs, system}
-use Rattle.meaning.specs.Free.{freeGranules, freeSlots}
-use Rattle.meaning.specs.Growth.{Grown, grown, noSlot, andThen, tail, lengthens, lengthened, withPair, extended, takeOne, grow}
+use Rattle.meaning.specs.Free.{freeGranules, lowestFree, freeSlots}
+use Rattle.meaning.specs.Growth.{Grown, grown, noSlot, andThen, tail, lengthens, lengthened, withPair, extended, takeOne, grow, growBy}
 use Rattle.meaning.specs.declared.Geometry.{Geometry}
 use Rattle.laws.specs.Members
 use Rattle.laws.specs.Facts
@@ -41,13 +40,13 @@ module _ (g : Geometry) (p : ℕ) where
       go (Members.Test.holds t) b =
           let r : grown (lengthened g p d) ≡ noSlot = rw (Members.T-true {b = lengthens g p d} t) at q in absurd (apart (lengthened g p d) r)
       go (Members.Test.fails a) (Members.Test.holds t) =
-          let r : grown (withPair g p d (tail g p d) (runs g d (tail g p d)) (firstOr 0 (freeGranules g d))) ≡ noSlot =
+          let r : grown (withPair g p d (tail g p d) (runs g d (tail g p d)) (lowestFree g d)) ≡ noSlot =
           rw (Members.no-false {b = lengthens g p d} a, Members.T-true {b = ltb (runs g d (tail g p d)) 4} t) at q in absurd (apart _ r)
       go (Members.Test.fails a) (Members.Test.fails b) =
-          let r : extended g p (freeSlots g d) d (tail g p d) (firstOr 0 (freeGranules g d)) ≡ noSlot =
+          let r : extended g p (freeSlots g d) d (tail g p d) (lowestFree g d) ≡ noSlot =
           rw (Members.no-false {b = lengthens g p d} a, Members.no-false {b = ltb (runs g d (tail g p d)) 4} b) at q in
           record {
-            none-left = out (freeSlots g d) d (tail g p d) (firstOr 0 (freeGranules g d)) r;
+            none-left = out (freeSlots g d) d (tail g p d) (lowestFree g d) r;
             no-longer = Members.no-false a;
             four = nltb→le (runs g d (tail g p d)) 4 (not-T (ltb (runs g d (tail g p d)) 4) b);
           }
@@ -65,7 +64,7 @@ module _ (g : Geometry) (p : ℕ) where
     last′ : Last disk
 
   came : (k : ℕ) (d : List ℕ) → grow g p k d ≡ noSlot → Came d k
-  unfolding grow andThen
+  unfolding growBy takeOne andThen
   came zero d q = absurd (apart d q)
   came (suc k) d q = go (takeOne g p d) refl q (came k)
     where
@@ -74,7 +73,7 @@ module _ (g : Geometry) (p : ℕ) where
       go noSlot e q ih = record { took = 0; fewer = omega arith; disk = d; so-far = refl; last′ = last d e }
 
   goes : (j k : ℕ) (d disk : List ℕ) → j < k → grow g p j d ≡ grown disk → Last disk → grow g p k d ≡ noSlot
-  unfolding grow andThen
+  unfolding growBy takeOne andThen
   goes j zero d disk l q w = absurd (omega arith)
   goes zero (suc k) d disk l q w = let e : d ≡ disk = cc in rw (then-none d (subst Last (sym e) w))
   goes (suc j) (suc k) d disk l q w = go (takeOne g p d) q (λ d₁ r. goes j k d₁ disk (omega arith) r w)

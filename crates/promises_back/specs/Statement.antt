@@ -17,6 +17,7 @@ use Rattle.meaning.specs.Chain.{chain, owned}
 use Rattle.meaning.specs.LookUp.{named}
 use Rattle.meaning.specs.Kill.{kill}
 use Rattle.meaning.specs.BringBack.{bringBack}
+use Rattle.meaning.specs.Calls.{Call, leaves}
 use Rattle.meaning.specs.Plain.{File, found, nothing, plain, backAs}
 use Rattle.meaning.specs.declared.Geometry.{Geometry}
 use Rattle.meaning.specs.declared.Handle.{Handle}
@@ -25,7 +26,7 @@ use Rattle.laws.specs.Frame.{Agree}
 use Rattle.laws.specs.BringBack.{Whole}
 use Rattle.laws.specs.Undo.{AsBefore}
 use Rattle.promises.specs.Promises
-use Rattle.promises.specs.Promises.{Good, Stays, Becomes, Table, Exactly, Call, Promise, leaves, Brings}
+use Rattle.promises.specs.Promises.{Good, Stays, Becomes, Table, Exactly, Promise, Brings}
 
 -- One call --------------------------------------------------------------------------------------------------------------------------
 

@@ -8,12 +8,13 @@ use native.Mathlib.Omega.{arith}
 use lib.ListN.{replicate}
 use Rattle.meaning.specs.Layout.{fitsGeometry}
 use Rattle.meaning.specs.Consistent.{consistent}
+use Rattle.meaning.specs.Calls.{Call, number}
 use Rattle.meaning.specs.Plain.{AreBytes}
 use Rattle.meaning.specs.Samples.{opened, three, sample, puls, leer, held}
 use Rattle.meaning.specs.declared.NewFile.{NewFile}
 use Rattle.meaning.specs.declared.Mode.the-variants.{Sequential, Random}
-use Rattle.promises.specs.Promises.{Call, number, Good, Along}
-use Rattle.promises.specs.Promises.Call.{checks, looksUp, opens, creates, reads, readsSector, writes, allots, trims, kills, lists, counts, measures}
+use Rattle.promises.specs.Promises.{Good, Along}
+use Rattle.meaning.specs.Calls.Call.{checks, looksUp, opens, creates, reads, readsSector, writes, allots, trims, kills, lists, counts, measures}
 use Rattle.promises.specs.Kept
 
 -- `stays`, `EveryState`: a good disk

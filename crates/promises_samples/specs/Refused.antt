@@ -5,9 +5,9 @@ use mathlib.Core.Path.{_≡_, refl}
 use mathlib.Core.Bool.{true}
 use mathlib.Core.List.{[], _∷_}
 use lib.ListN.{set}
+use Rattle.meaning.specs.Calls.{number}
 use Rattle.meaning.specs.Samples.{opened, three, gaps, puls, leer, held}
-use Rattle.promises.specs.Promises.{number}
-use Rattle.promises.specs.Promises.Call.{checks, looksUp, opens, reads, allots, kills}
+use Rattle.meaning.specs.Calls.Call.{checks, looksUp, opens, reads, allots, kills}
 
 -- no image at all
 row-1 : number three [] checks ≡ 1

@@ -1,2 +1,3 @@
 mod Name
 mod Padded
+pub mod Comes

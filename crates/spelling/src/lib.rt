@@ -1,12 +1,17 @@
-// Whether a name is well formed.
+// Whether a name is well formed, and what a name that comes in is taken for.
+use meaning::Incoming;
 ghost use mathlib.Core.Path.{_≡_};
 ghost use mathlib.Core.Bool.{true, _&&_};
-ghost use Prim.Native.Nat.{_-_, _≤_};
+ghost use Prim.Native.Nat.{_+_, _-_, _≤_};
 ghost use lib.Dec.{eqb};
 ghost use lib.ListN.{length, getD, take, drop};
 ghost use Rattle.meaning.specs.Lists.{every};
-ghost use Rattle.meaning.specs.Names.{letter, padded, wellFormed};
+ghost use Rattle.meaning.specs.Names.{letter, padded, wellFormed, blanks, good, badPlace};
 ghost use Rattle.spelling.specs.Plain.{plain};
+ghost use Rattle.spelling.specs.Hands.{Hands};
+
+// told where no byte of a name is bad
+pub const NO_PLACE: usize = 11;
 
 // Allowed bytes 30H to 39H and 41H to 5DH. It branches nowhere, so that eight bytes can be looked at together.
 fn letter(x: u8) -> bool
@@ -91,4 +96,70 @@ pub fn well_formed(name: &[u8]) -> bool
         return false;
     }
     type_padded(name)
+}
+
+// The place of the first byte from one place up to another that is not 20H; the end where there is none.
+fn past_blanks(name: &[u8], from: usize, to: usize) -> usize
+    requires { ⌜ (from ≤ to) × (to ≤ length (now name)) ⌝ }
+    ensures { λ r. ⌜ r ≡ from + blanks (take (to - from) (drop from (now (name .entry)))) ⌝ }
+{
+    let mut i = from;
+    while i < to {
+        if name[i] != 0x20 {
+            return i;
+        }
+        i += 1;
+    }
+    i
+}
+
+// The place of the first byte from one place up to another that keeps that part from being padded right with 20H; the end where there
+// is none.
+fn past_good(name: &[u8], from: usize, to: usize) -> usize
+    requires { ⌜ (from ≤ to) × (to ≤ length (now name)) ⌝ }
+    ensures { λ r. ⌜ r ≡ from + good (take (to - from) (drop from (now (name .entry)))) ⌝ }
+{
+    let mut i = from;
+    while i < to {
+        if !letter(name[i]) {
+            return past_blanks(name, i, to);
+        }
+        i += 1;
+    }
+    i
+}
+
+// The place of the first bad byte of a name.
+fn bad_place(name: &[u8]) -> usize
+    ensures { λ r. ⌜ r ≡ badPlace (now (name .entry)) ⌝ }
+{
+    if name.len() != 11 {
+        return 0;
+    }
+    if !letter(name[0]) {
+        return 0;
+    }
+    let k = past_good(name, 0, 8);
+    if k < 8 {
+        return k;
+    }
+    past_good(name, 8, 11)
+}
+
+// What a name that comes in is taken for: the name, or the place of its first bad byte. The place is looked for only where there is one.
+pub fn incoming(name: &[u8]) -> Incoming
+    ensures { λ r. ⌜ Hands (now (name .entry)) r ⌝ }
+{
+    let mut taken = [0u8; 11];
+    if !well_formed(name) {
+        return Incoming {
+            place: bad_place(name),
+            name: taken,
+        };
+    }
+    copy::copy_into(&mut taken, name, 0);
+    Incoming {
+        place: NO_PLACE,
+        name: taken,
+    }
 }

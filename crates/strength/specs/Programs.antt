@@ -14,6 +14,7 @@ use Rattle.meaning.specs.Trim.{trim}
 use Rattle.meaning.specs.Kill.{kill}
 use Rattle.meaning.specs.Listing
 use Rattle.meaning.specs.FreeSpace.{freeSpace}
+use Rattle.meaning.specs.Calls.{Call, number, leaves}
 use Rattle.meaning.specs.declared.Geometry.{Geometry}
 use Rattle.meaning.specs.declared.Handle.{Handle}
 use Rattle.meaning.specs.declared.Refusal.{Refusal}
@@ -24,8 +25,7 @@ use Rattle.meaning.specs.declared.Part.{Part}
 use Rattle.meaning.specs.declared.Listed.{Listed}
 use Rattle.meaning.specs.declared.Counts.{Counts}
 use Rattle.meaning.specs.declared.Space.{Space}
-use Rattle.promises.specs.Promises.{Call, number, leaves}
-use Rattle.promises.specs.Promises.Call.{checks, looksUp, opens, creates, reads, readsSector, writes, allots, trims, kills, lists, counts, measures}
+use Rattle.meaning.specs.Calls.Call.{checks, looksUp, opens, creates, reads, readsSector, writes, allots, trims, kills, lists, counts, measures}
 
 -- what a call hands back, whole: its refusal, number and slot of the fault, and with it slot and count, handle, "old", the part, the file told, the counts, the free space
 pub data Answers : Type 0 where

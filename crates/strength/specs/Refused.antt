@@ -6,11 +6,11 @@ use native.Mathlib.Omega.{arith}
 use lib.ListN.{getD}
 use Rattle.meaning.specs.Layout.{byte}
 use Rattle.meaning.specs.LookUp.{lookUp}
+use Rattle.meaning.specs.Calls.{Call, number, leaves}
 use Rattle.meaning.specs.Samples.{opened, three, sample, puls, held, hits}
-use Rattle.promises.specs.Promises.{Call, number, leaves}
 use Rattle.meaning.specs.declared.Geometry.{Geometry}
 use Rattle.meaning.specs.declared.Handle.{Handle}
-use Rattle.promises.specs.Promises.Call.{checks, looksUp, reads, kills}
+use Rattle.meaning.specs.Calls.Call.{checks, looksUp, reads, kills}
 use Rattle.strength.specs.Programs.{Answers, checked, looked, answered, created, part, told, counted, measured, Said, Program, Meets, says, right, answerOf, bufferOf, RefusesAll, AlwaysAlike, ChangesNothing, Faked, FirstOnly}
 
 -- what a program that meets the statements says of one call, and of two

@@ -9,7 +9,7 @@ use native.Mathlib.Decide.{ℕ-discrete}
 use lib.ListN.{length}
 use Rattle.meaning.specs.Layout.{taken, takeGranule, field, setField, granules}
 use Rattle.meaning.specs.Entries.{runs}
-use Rattle.meaning.specs.Growth.{tail, lengthens, withPair, withExtension, takeOne, grown, noSlot, grow, andThen, fails}
+use Rattle.meaning.specs.Growth.{tail, lengthens, withPair, withExtension, takeOne, grown, noSlot, grow, growBy, andThen, fails}
 use Rattle.meaning.specs.Free.{freeGranules, freeSlot}
 use Rattle.meaning.specs.declared.Geometry.{Geometry}
 use Rattle.laws.specs.Members
@@ -27,17 +27,17 @@ use Rattle.supply.proofs.Step
 module _ (g : Geometry) (p : ℕ) where
   -- one turn of the growth
   pub grow-more : (left : ℕ) (d d′ : List ℕ) → 0 < left → takeOne g p d ≡ grown d′ → grow g p left d ≡ grow g p (left - 1) d′
-  unfolding grow andThen
+  unfolding growBy takeOne andThen
   grow-more zero d d′ h e = absurd (let z : ⊥ = omega arith in z)
   grow-more (suc left) d d′ h e = let q : suc left - 1 ≡ left = omega arith in rw (e, q)
 
   pub grow-stuck : (left : ℕ) (d : List ℕ) → 0 < left → takeOne g p d ≡ noSlot → fails (grow g p left d) ≡ true
-  unfolding grow andThen fails
+  unfolding growBy takeOne andThen fails
   grow-stuck zero d h e = absurd (let z : ⊥ = omega arith in z)
   grow-stuck (suc left) d h e = rw e
 
   pub grow-done : (left : ℕ) (d : List ℕ) → left ≤ 0 → grow g p left d ≡ grown d
-  unfolding grow
+  unfolding growBy
   grow-done zero d h = refl
   grow-done (suc left) d h = absurd (let z : ⊥ = omega arith in z)
 

@@ -15,7 +15,7 @@ use Rattle.meaning.specs.Layout.{isSlot, taken, takeGranule, field, setField, g
 use Rattle.meaning.specs.Entries.{system, block, runs, runStart, runLength}
 use Rattle.meaning.specs.Chain.{chain}
 use Rattle.meaning.specs.Growth.{tail, after, lengthens, lengthened, withPair, withExtension, takeOne, grown, noSlot, extended}
-use Rattle.meaning.specs.Free.{freeGranules, freeSlots, freeSlot, permitted, kept}
+use Rattle.meaning.specs.Free.{freeGranules, lowestFree, freeSlots, freeSlot, permitted, kept}
 use Rattle.meaning.specs.declared.Geometry.{Geometry}
 use Rattle.laws.specs.Members
 use Rattle.laws.specs.Members.{In}
@@ -67,7 +67,7 @@ module _ (g : Geometry) (d : List ℕ) (p : ℕ) (r : Ready g d p) where
 -- The lowest free granule ------------------------------------------------------------------------------------------------
 
 module _ (g : Geometry) (d : List ℕ) where
-  pub lowest : {n : ℕ} → NoneBelow (free g d) n → n < granules g → taken g d n ≡ false → firstOr 0 (freeGranules g d) ≡ n
+  pub lowest : {n : ℕ} → NoneBelow (free g d) n → n < granules g → taken g d n ≡ false → lowestFree g d ≡ n
   unfolding freeGranules
   lowest {n} none h f = first-at (free g d) 0 (granules g) 0 n (omega arith) (omega arith) none (ap not f)
 
@@ -178,17 +178,17 @@ module _ (g : Geometry) (p : ℕ) where
   unfolding takeOne
   one-long d h = rw h
 
-  one-pair : (d : List ℕ) → lengthens g p d ≡ false → runs g d (tail g p d) < 4 → takeOne g p d ≡ grown (withPair g p d (tail g p d) (runs g d (tail g p d)) (firstOr 0 (freeGranules g d)))
+  one-pair : (d : List ℕ) → lengthens g p d ≡ false → runs g d (tail g p d) < 4 → takeOne g p d ≡ grown (withPair g p d (tail g p d) (runs g d (tail g p d)) (lowestFree g d))
   unfolding takeOne
   one-pair d h l = rw (h, lt-ltb (runs g d (tail g p d)) 4 l)
 
-  one-new : (d : List ℕ) → lengthens g p d ≡ false → 4 ≤ runs g d (tail g p d) → takeOne g p d ≡ extended g p (freeSlots g d) d (tail g p d) (firstOr 0 (freeGranules g d))
+  one-new : (d : List ℕ) → lengthens g p d ≡ false → 4 ≤ runs g d (tail g p d) → takeOne g p d ≡ extended g p (freeSlots g d) d (tail g p d) (lowestFree g d)
   unfolding takeOne
   one-new d h l = rw (h, le-ltb (runs g d (tail g p d)) 4 l)
 
   pub one-none : (d : List ℕ) → lengthens g p d ≡ false → 4 ≤ runs g d (tail g p d) → NoneBelow (freeSlot g d) 256 → takeOne g p d ≡ noSlot
   unfolding extended freeSlots
-  one-none d h l none = one-new d h l ∙ ap (λ (xs : List ℕ). extended g p xs d (tail g p d) (firstOr 0 (freeGranules g d))) (keep-none (freeSlot g d) 256 0 none)
+  one-none d h l none = one-new d h l ∙ ap (λ (xs : List ℕ). extended g p xs d (tail g p d) (lowestFree g d)) (keep-none (freeSlot g d) 256 0 none)
 
   taken-by : (d d′ : List ℕ) (m : ℕ) → Ready g d p → takeOne g p d ≡ grown d′ → Longer.Longer g d d′ p m → length d′ ≡ length d → Taken g p d d′ m
   taken-by d d′ m y q w l = record {
@@ -279,7 +279,7 @@ module _ (g : Geometry) (p : ℕ) where
     unfoldable pub d₂ : List ℕ
     d₂ = withPair g p d e r n
 
-    is₂ : withPair g p d (tail g p d) (runs g d (tail g p d)) (firstOr 0 (freeGranules g d)) ≡ d₂
+    is₂ : withPair g p d (tail g p d) (runs g d (tail g p d)) (lowestFree g d) ≡ d₂
     unfolding d₂
     is₂ = rw (s .last, s .many, lowest g d none inn f)
 

@@ -5,46 +5,27 @@ use Prim.Native.Nat.{ℕ}
 use mathlib.Core.Path.{_≡_, refl}
 use mathlib.Core.List.{List, [], _∷_, _++_}
 use Rattle.meaning.specs.declared.Geometry.{Geometry}
-use Rattle.meaning.specs.declared.Handle.{Handle}
-use Rattle.promises.specs.Promises
-use Rattle.promises.specs.Promises.{number, leaves}
-use Rattle.together.specs.Statement.{Name, Call, looksUp, opens, creates, moves, reads, readsSector, writes, allots, trims, kills, Side, answer, handleAt, Turn, one, two, World, next, after, Accepted}
-
--- to set a position is no call
-unfoldable pub asked : Name → List Handle → Call → List Promises.Call
-asked n hs looksUp = Promises.Call.looksUp n ∷ []
-asked n hs (opens len checking code) = Promises.Call.opens n len checking code ∷ []
-asked n hs (creates f checking) = Promises.Call.creates n f checking ∷ []
-asked n hs (moves i at) = []
-asked n hs (reads i buffer) = Promises.Call.reads (handleAt hs i) buffer ∷ []
-asked n hs (readsSector i k) = Promises.Call.readsSector (handleAt hs i) k ∷ []
-asked n hs (writes m i bytes) = Promises.Call.writes m (handleAt hs i) bytes ∷ []
-asked n hs (allots i k) = Promises.Call.allots (handleAt hs i) k ∷ []
-asked n hs (trims i) = Promises.Call.trims (handleAt hs i) ∷ []
-asked n hs (kills i) = Promises.Call.kills (handleAt hs i) ∷ []
+use Rattle.meaning.specs.Calls.{Call, number, leaves}
+use Rattle.together.specs.Statement.{Name, Step, asked, leavesAll, looksUp, opens, creates, moves, reads, readsSector, writes, allots, trims, kills, Side, answer, Turn, one, two, World, next, after, Accepted}
 
 -- the calls of an interleaving
-abbrev pub askedIn : Geometry → Name → Name → World → List Turn → List Promises.Call
+abbrev pub askedIn : Geometry → Name → Name → World → List Turn → List Call
 askedIn g a b w [] = []
 askedIn g a b w (one c ∷ zs) = asked a (w .first .handles) c ++ askedIn g a b (next g a b w (one c)) zs
 askedIn g a b w (two c ∷ zs) = asked b (w .second .handles) c ++ askedIn g a b (next g a b w (two c)) zs
 
--- each is accepted on the disk that those before it left; the disk at the end
-abbrev pub Served : Geometry → List ℕ → List Promises.Call → Type 0
+-- each is accepted on the disk that those before it left
+abbrev pub Served : Geometry → List ℕ → List Call → Type 0
 Served g d [] = Unit {0}
 Served g d (c ∷ cs) = (number g d c ≡ 0) × Served g (leaves g d c) cs
 
-abbrev pub leavesAll : Geometry → List ℕ → List Promises.Call → List ℕ
-leavesAll g d [] = d
-leavesAll g d (c ∷ cs) = leavesAll g (leaves g d c) cs
-
 -- that calls cs are served from d on and end with the disk e
-abbrev Ends : Geometry → List ℕ → List Promises.Call → List ℕ → Type 0
+abbrev Ends : Geometry → List ℕ → List Call → List ℕ → Type 0
 Ends g d cs e = Served g d cs × (leavesAll g d cs ≡ e)
 
-call-asked : (g : Geometry) (n : Name) (d : List ℕ) (s : Side) (c : Call) → answer g n d s c .number ≡ 0 → (cs : List Promises.Call) (e : List ℕ)
+call-asked : (g : Geometry) (n : Name) (d : List ℕ) (s : Side) (c : Step) → answer g n d s c .number ≡ 0 → (cs : List Call) (e : List ℕ)
     → Ends g (answer g n d s c .disk) cs e → Ends g d (asked n (s .handles) c ++ cs) e
-unfolding answer asked number leaves
+unfolding answer number leaves
 call-asked g n d s looksUp z cs e r = ((z, r .0), r .1)
 call-asked g n d s (opens len checking code) z cs e r = ((z, r .0), r .1)
 call-asked g n d s (creates f checking) z cs e r = ((z, r .0), r .1)

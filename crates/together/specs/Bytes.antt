@@ -16,6 +16,7 @@ use Rattle.meaning.specs.Open.{open′, openedAt}
 use Rattle.meaning.specs.Read.{readRecord}
 use Rattle.meaning.specs.Write.{writeRecord}
 use Rattle.meaning.specs.LookUp.{named, missing}
+use Rattle.meaning.specs.Calls.{number, leaves}
 use Rattle.meaning.specs.declared.Geometry.{Geometry}
 use Rattle.meaning.specs.declared.Handle.{Handle}
 use Rattle.meaning.specs.declared.Mode.{Mode}
@@ -25,7 +26,7 @@ use Rattle.laws.specs.Facts.{Sound}
 use Rattle.laws.specs.Places
 use Rattle.laws.specs.Passed
 use Rattle.laws.specs.Named
-use Rattle.together.specs.Statement.{Name, Call, looksUp, opens, creates, moves, reads, readsSector, writes, allots, trims, kills, Side, known, answer, handleAt, Turn, one, two, Interleaving, none, left, right, World, start, next, after, Taken}
+use Rattle.together.specs.Statement.{Name, Step, looksUp, opens, creates, moves, reads, readsSector, writes, allots, trims, kills, Side, known, answer, handleAt, Turn, one, two, Interleaving, none, left, right, World, start, next, after, Taken}
 use Rattle.together.specs.State.{Held, Good}
 use Rattle.together.specs.Effects
 use Rattle.together.specs.Interleavings
@@ -48,9 +49,9 @@ good-long g d e k l = good-fits g d k .size ∙ sym (good-fits g e l .size)
 
 -- One call on one disk -----------------------------------------------------------------------------------------------------
 
-still : (g : Geometry) (n : Name) (d : List ℕ) (s : Side) (c : Call) → Held n (s .handles) → T (known (s .handles) c) → answer g n d s c .number ≡ 0
+still : (g : Geometry) (n : Name) (d : List ℕ) (s : Side) (c : Step) → Held n (s .handles) → T (known (s .handles) c) → answer g n d s c .number ≡ 0
     → Even g n d (answer g n d s c .disk) → Still g n d (answer g n d s c .disk)
-unfolding answer known
+unfolding answer number leaves known
 still g n d s looksUp h t e q = Still.still-same g n d d refl
 still g n d s (opens len checking code) h t e q = Still.still-same g n d d refl
 still g n d s (creates f checking) h t e q = Still.still-same g n d _ (Quiet.create-quiet g d n f checking e q .image)
@@ -121,7 +122,7 @@ module _ (g : Geometry) (d₀ : List ℕ) (c₀ : Sound g d₀) (n : Name) where
     snoc h h′ q = ap (λ (x : Handle). hs ++ (x ∷ [])) q
 
     -- what the lists were handed back plays no part
-    Alike : (o o′ : List (List ℕ)) → Call → Type 0
+    Alike : (o o′ : List (List ℕ)) → Step → Type 0
     Alike o o′ c = Agreed (region g d₀ n) (answer g n d (record { handles = hs; heard = o }) c .disk) (answer g n e (record { handles = hs; heard = o′ }) c .disk) × (answer g n d (record { handles = hs; heard = o }) c .side .handles ≡ answer g n e (record { handles = hs; heard = o′ }) c .side .handles)
 
     agreed-eq : (x y : List ℕ) → x ≡ d → y ≡ e → Agreed (region g d₀ n) x y
@@ -134,9 +135,9 @@ module _ (g : Geometry) (d₀ : List ℕ) (c₀ : Sound g d₀) (n : Name) where
         subst (λ (r : List ℕ). Agreed (region g d₀ n) r y) (sym (v .image)) (subst (λ (r : List ℕ). Agreed (region g d₀ n) (written g d p m (h .at) (h .len) (take (h .len) b)) r) (sym (w .image))
         (Still.agreed-write (region g d₀ n) g d e p m (h .at) (h .len) (take (h .len) b) (entry-region p (k .0) (k .1)) (ld .owns p (k .0) ∙ sym (le .owns p (k .0))) a))
 
-    alike : (o o′ : List (List ℕ)) (c : Call) → T (known hs c) → answer g n d (record { handles = hs; heard = o }) c .number ≡ 0 → answer g n e (record { handles = hs; heard = o′ }) c .number ≡ 0
+    alike : (o o′ : List (List ℕ)) (c : Step) → T (known hs c) → answer g n d (record { handles = hs; heard = o }) c .number ≡ 0 → answer g n e (record { handles = hs; heard = o′ }) c .number ≡ 0
         → Even g n d (answer g n d (record { handles = hs; heard = o }) c .disk) → Even g n e (answer g n e (record { handles = hs; heard = o′ }) c .disk) → Alike o o′ c
-    unfolding answer known Alike
+    unfolding answer number leaves known Alike
     alike o o′ looksUp t x y q r = (a, refl)
     alike o o′ (opens len checking code) t x y q r =
         let u = open-handle g d n len checking code x in let v = open-handle g e n len checking code y in
@@ -161,7 +162,7 @@ module _ (g : Geometry) (d₀ : List ℕ) (c₀ : Sound g d₀) (n : Name) where
     alike o o′ (kills i) t x y q r = absurd (Quiet.kill-never g d n (handleAt hs i) (Effects.held-at n hs i held t) x q)
 
 sides-alike : (g : Geometry) (d₀ : List ℕ) (c₀ : Sound g d₀) (n : Name) (d e : List ℕ) → Laid g d₀ d → Laid g d₀ e → Sound g d → Sound g e → Agreed (region g d₀ n) d e
-    → (s s′ : Side) → Held n (s .handles) → s .handles ≡ s′ .handles → (c : Call) → T (known (s .handles) c) → answer g n d s c .number ≡ 0 → answer g n e s′ c .number ≡ 0
+    → (s s′ : Side) → Held n (s .handles) → s .handles ≡ s′ .handles → (c : Step) → T (known (s .handles) c) → answer g n d s c .number ≡ 0 → answer g n e s′ c .number ≡ 0
     → Even g n d (answer g n d s c .disk) → Even g n e (answer g n e s′ c .disk)
     → Agreed (region g d₀ n) (answer g n d s c .disk) (answer g n e s′ c .disk) × (answer g n d s c .side .handles ≡ answer g n e s′ c .side .handles)
 sides-alike g d₀ c₀ n d e ld le cd ce a s s′ held q c t x y u v =
@@ -200,10 +201,10 @@ swap-steady : (g : Geometry) (a b : Name) (d₀ : List ℕ) (w : World) → Stea
 swap-steady g a b d₀ w k = record { fine = Interleavings.swap-fine g a b w (k .fine); laid = k .laid }
 
 module _ (g : Geometry) (a b : Name) (d₀ : List ℕ) where
-  first-still : (w : World) (c : Call) → Steady g a b d₀ w → EvenTurn g a b w (one c) → Still g a (w .disk) (next g a b w (one c) .disk)
+  first-still : (w : World) (c : Step) → Steady g a b d₀ w → EvenTurn g a b w (one c) → Still g a (w .disk) (next g a b w (one c) .disk)
   first-still w c k t = still g a (w .disk) (w .first) c (k .fine .first′) (t .0 .0) (t .0 .1) (t .1)
 
-second-still : (g : Geometry) (a b : Name) (d₀ : List ℕ) (w : World) (c : Call) → Steady g a b d₀ w → EvenTurn g a b w (two c) → Still g b (w .disk) (next g a b w (two c) .disk)
+second-still : (g : Geometry) (a b : Name) (d₀ : List ℕ) (w : World) (c : Step) → Steady g a b d₀ w → EvenTurn g a b w (two c) → Still g b (w .disk) (next g a b w (two c) .disk)
 second-still g a b d₀ w c k t = first-still g b a d₀ (swap w) c (swap-steady g a b d₀ w k) t
 
 module _ (g : Geometry) (a b : Name) (d₀ : List ℕ) (k₀ : Good g d₀) where
@@ -229,7 +230,7 @@ module _ (g : Geometry) (a b : Name) (d₀ : List ℕ) (k₀ : Good g d₀) wher
   spared n w d′ k s i o = s .outside i (λ t. o (rw (Quiet.region-laid g d₀ c₀ (w .disk) (k .laid) n i) at t))
 
   -- the same turn of the first list, in two worlds
-  own-meets : (w w′ : World) (c : Call) → Steady g a b d₀ w → Steady g a b d₀ w′ → EvenTurn g a b w (one c) → EvenTurn g a b w′ (one c) → Meets g a d₀ w w′
+  own-meets : (w w′ : World) (c : Step) → Steady g a b d₀ w → Steady g a b d₀ w′ → EvenTurn g a b w (one c) → EvenTurn g a b w′ (one c) → Meets g a d₀ w w′
       → Meets g a d₀ (next g a b w (one c)) (next g a b w′ (one c))
   own-meets w w′ c k k′ t t′ m =
       let x = sides-alike g d₀ c₀ a (w .disk) (w′ .disk) (k .laid) (k′ .laid) (good-sound g (w .disk) (k .fine .good)) (good-sound g (w′ .disk) (k′ .fine .good)) (m .bytes)
@@ -237,7 +238,7 @@ module _ (g : Geometry) (a b : Name) (d₀ : List ℕ) (k₀ : Good g d₀) wher
       record { bytes = x .0; handles′ = x .1 }
 
   -- a turn of the second list leaves the first list's part
-  other-meets : a ≢ b → (w : World) (c : Call) → Steady g a b d₀ w → EvenTurn g a b w (two c) → Meets g a d₀ (next g a b w (two c)) w
+  other-meets : a ≢ b → (w : World) (c : Step) → Steady g a b d₀ w → EvenTurn g a b w (two c) → Meets g a d₀ (next g a b w (two c)) w
   other-meets ab w c k t = record {
     bytes = record {
       long = good-long g (next g a b w (two c) .disk) (w .disk) (steady w (two c) k t .fine .good) (k .fine .good);
@@ -256,14 +257,14 @@ module _ (g : Geometry) (a b : Name) (d₀ : List ℕ) (k₀ : Good g d₀) wher
   meets-sym w w′ m = record { bytes = record { long = sym (m .bytes .long); bytes = λ i t. sym (m .bytes .bytes i t) }; handles′ = sym (m .handles′) }
 
   -- the first list has no further turn
-  no-turn : a ≢ b → {ys : List Call} {zs : List Turn} → Interleaving [] ys zs → (w v : World) → Steady g a b d₀ v → Evenly g a b v zs → Meets g a d₀ w v → Meets g a d₀ w (after g a b v zs)
+  no-turn : a ≢ b → {ys : List Step} {zs : List Turn} → Interleaving [] ys zs → (w v : World) → Steady g a b d₀ v → Evenly g a b v zs → Meets g a d₀ w v → Meets g a d₀ w (after g a b v zs)
   no-turn ab none w v k t m = m
   no-turn ab (right {y = c} i) w v k t m =
       let u = next g a b v (two c) in no-turn ab i w u (steady v (two c) k (t .0)) (t .1) (meets-trans w v u m (meets-sym u v (other-meets ab v c k (t .0))))
 
   -- the turns up to the first list's next one, and then the rest
-  next-turn : a ≢ b → {x : Call} {xs ys : List Call} {zs : List Turn} → Interleaving (x ∷ xs) ys zs → (w v end : World) → Steady g a b d₀ v → Evenly g a b v zs → Meets g a d₀ w v
-      → ((ys′ : List Call) (zs′ : List Turn) → Interleaving xs ys′ zs′ → (u : World) → Steady g a b d₀ u → EvenTurn g a b u (one x) → Evenly g a b (next g a b u (one x)) zs′ → Meets g a d₀ w u
+  next-turn : a ≢ b → {x : Step} {xs ys : List Step} {zs : List Turn} → Interleaving (x ∷ xs) ys zs → (w v end : World) → Steady g a b d₀ v → Evenly g a b v zs → Meets g a d₀ w v
+      → ((ys′ : List Step) (zs′ : List Turn) → Interleaving xs ys′ zs′ → (u : World) → Steady g a b d₀ u → EvenTurn g a b u (one x) → Evenly g a b (next g a b u (one x)) zs′ → Meets g a d₀ w u
       → Meets g a d₀ end (after g a b (next g a b u (one x)) zs′))
       → Meets g a d₀ end (after g a b v zs)
   next-turn ab (left i) w v end k t m f = f _ _ i v k (t .0) (t .1) m
@@ -271,7 +272,7 @@ module _ (g : Geometry) (a b : Name) (d₀ : List ℕ) (k₀ : Good g d₀) wher
       let u = next g a b v (two c) in next-turn ab i w u end (steady v (two c) k (t .0)) (t .1) (meets-trans w v u m (meets-sym u v (other-meets ab v c k (t .0)))) f
 
   -- so the first list's part is the same at the end of two interleavings
-  end-meets : a ≢ b → {xs ys ys′ : List Call} {zs zs′ : List Turn} → Interleaving xs ys zs → Interleaving xs ys′ zs′ → (w v : World) → Steady g a b d₀ w → Steady g a b d₀ v
+  end-meets : a ≢ b → {xs ys ys′ : List Step} {zs zs′ : List Turn} → Interleaving xs ys zs → Interleaving xs ys′ zs′ → (w v : World) → Steady g a b d₀ w → Steady g a b d₀ v
       → Evenly g a b w zs → Evenly g a b v zs′ → Meets g a d₀ w v → Meets g a d₀ (after g a b w zs) (after g a b v zs′)
   end-meets ab none j w v k l t s m = no-turn ab j w v l s m
   end-meets ab (left {x = c} {zs = zs} i) j w v k l t s m =
@@ -295,7 +296,7 @@ module _ (g : Geometry) (a b : Name) (d₀ : List ℕ) (k₀ : Good g d₀) wher
   start-meets : Meets g a d₀ (start d₀) (start d₀)
   start-meets = record { bytes = record { long = refl; bytes = λ i t. refl }; handles′ = refl }
 
-pub same-disks : (g : Geometry) (a b : Name) → a ≢ b → (d : List ℕ) → Good g d → {xs ys : List Call} {zs zs′ : List Turn} → Interleaving xs ys zs → Interleaving xs ys zs′
+pub same-disks : (g : Geometry) (a b : Name) → a ≢ b → (d : List ℕ) → Good g d → {xs ys : List Step} {zs zs′ : List Turn} → Interleaving xs ys zs → Interleaving xs ys zs′
     → Evenly g a b (start d) zs → Evenly g a b (start d) zs′ → after g a b (start d) zs .disk ≡ after g a b (start d) zs′ .disk
 same-disks g a b ab d k {zs = zs} {zs′ = zs′} i i′ t t′ =
     let w = after g a b (start d) zs in let w′ = after g a b (start d) zs′ in

@@ -7,7 +7,7 @@ use native.Mathlib.Decide.{ℕ-discrete}
 use Rattle.meaning.specs.Plain.{Found, found, nothing, plain, hush, AreBytes}
 use Rattle.meaning.specs.declared.Geometry.{Geometry}
 use Rattle.laws.specs.Facts
-use Rattle.together.specs.Statement.{Name, Call, Turn, one, two, Interleaving, none, left, right, AllBring, World, start, next, after, Taken, Accepted, Quiet, AllQuiet, Same, Demand3}
+use Rattle.together.specs.Statement.{Name, Step, Turn, one, two, Interleaving, none, left, right, AllBring, World, start, next, after, Taken, Accepted, Quiet, AllQuiet, Same, Demand3}
 use Rattle.together.specs.State.{State, stands, effect, Good}
 use Rattle.together.specs.Interleavings
 use Rattle.together.specs.Interleavings.{Fine, swap, stateIn}
@@ -21,7 +21,7 @@ use Rattle.together.specs.Bytes.{Evenly}
 -- Whether a call takes or gives back something hangs on its own list alone ---------------------------------------------------
 
 -- no call of the list, from that state on, changes whether there is a file and how many granules it owns
-unfoldable Evens : Geometry → Name → List Call → State → Type 0
+unfoldable Evens : Geometry → Name → List Step → State → Type 0
 Evens g n [] o = Unit {0}
 Evens g n (c ∷ cs) o = (tally (effect g n c o .file) ≡ tally (o .file)) × Evens g n cs (effect g n c o)
 
@@ -53,7 +53,7 @@ module _ (g : Geometry) (a b : Name) where
       let v = next g a b w (two c) in let h = Interleavings.fine-next g a b w (two c) k (t .0) in
       ((t .0, Quiet.quiet-even g b (w .disk) (v .disk) (fine-sound g a b w k) (fine-sound g a b v h) (q .0)), quiet-evenly zs v h (t .1) (q .1))
 
-  evenly-list : a ≢ b → {xs ys : List Call} {zs : List Turn} → Interleaving xs ys zs → (w : World) → Fine g a b w → Evenly g a b w zs → Evens g a xs (stateIn g a w)
+  evenly-list : a ≢ b → {xs ys : List Step} {zs : List Turn} → Interleaving xs ys zs → (w : World) → Fine g a b w → Evenly g a b w zs → Evens g a xs (stateIn g a w)
   unfolding Evens
   evenly-list ab none w k t = tt
   evenly-list ab (left {x = c} {xs = xs} i) w k t =
@@ -65,14 +65,14 @@ module _ (g : Geometry) (a b : Name) where
       subst (Evens g a xs) (Interleavings.other-turn g a b ab w c k (t .0 .0)) (evenly-list ab i (next g a b w (two c)) (Interleavings.fine-next g a b w (two c) k (t .0 .0)) (t .1))
 
 -- a turn of the first list is even if its list is from here on
-list-turn : (g : Geometry) (a b : Name) (w : World) (c : Call) (xs : List Call) → Fine g a b w → Taken g a b w (one c) → Evens g a (c ∷ xs) (stateIn g a w)
+list-turn : (g : Geometry) (a b : Name) (w : World) (c : Step) (xs : List Step) → Fine g a b w → Taken g a b w (one c) → Evens g a (c ∷ xs) (stateIn g a w)
     → Even g a (w .disk) (next g a b w (one c) .disk) × Evens g a xs (stateIn g a (next g a b w (one c)))
 unfolding Evens
 list-turn g a b w c xs k t x =
     let e = Interleavings.own-turn g a b w c k t in
     (stands-even g a (w .disk) (next g a b w (one c) .disk) (effect g a c (stateIn g a w) .file) (ap (λ (o : State). o .file) e) (x .0), subst (Evens g a xs) (sym e) (x .1))
 
-lists-evenly : (g : Geometry) (a b : Name) → a ≢ b → {xs ys : List Call} {zs : List Turn} → Interleaving xs ys zs → (w : World) → Fine g a b w → Accepted g a b w zs
+lists-evenly : (g : Geometry) (a b : Name) → a ≢ b → {xs ys : List Step} {zs : List Turn} → Interleaving xs ys zs → (w : World) → Fine g a b w → Accepted g a b w zs
     → Evens g a xs (stateIn g a w) → Evens g b ys (stateIn g b (swap w)) → Evenly g a b w zs
 lists-evenly g a b ab none w k t x y = tt
 lists-evenly g a b ab (left {x = c} {xs = xs} {ys = ys} i) w k t x y =
@@ -90,7 +90,7 @@ lists-evenly g a b ab (right {y = c} {xs = xs} {ys = ys} i) w k t x y =
 
 -- Demand 3 ---------------------------------------------------------------------------------------------------------------
 
-module _ (g : Geometry) (a b : Name) (ab : a ≢ b) (d : List ℕ) (k : Good g d) {xs ys : List Call} {zs zs′ : List Turn}
+module _ (g : Geometry) (a b : Name) (ab : a ≢ b) (d : List ℕ) (k : Good g d) {xs ys : List Step} {zs zs′ : List Turn}
     (i : Interleaving xs ys zs) (i′ : Interleaving xs ys zs′) (t : Accepted g a b (start d) zs) (t′ : Accepted g a b (start d) zs′) where
   abbrev w : World
   w = after g a b (start d) zs
@@ -114,20 +114,20 @@ module _ (g : Geometry) (a b : Name) (ab : a ≢ b) (d : List ℕ) (k : Good g d
       let y = evenly-list g b a (λ p. ab (sym p)) (Interleavings.swap-lists i) (start d) (Interleavings.start-fine g b a d k) (Bytes.swap-evenly g a b zs (start d) e) in
       Bytes.same-disks g a b ab d k i i′ e (lists-evenly g a b ab i′ (start d) fine t′ x y)
 
-second-same : (g : Geometry) (a b : Name) → a ≢ b → (d : List ℕ) → Good g d → {xs ys : List Call} {zs zs′ : List Turn} → Interleaving xs ys zs → Interleaving xs ys zs′
+second-same : (g : Geometry) (a b : Name) → a ≢ b → (d : List ℕ) → Good g d → {xs ys : List Step} {zs zs′ : List Turn} → Interleaving xs ys zs → Interleaving xs ys zs′
     → Accepted g a b (start d) zs → Accepted g a b (start d) zs′ → stateIn g b (swap (after g a b (start d) zs)) ≡ stateIn g b (swap (after g a b (start d) zs′))
 second-same g a b ab d k {zs = zs} {zs′ = zs′} i i′ t t′ =
     ap (stateIn g b) (sym (Interleavings.swap-after g a b zs (start d)))
     ∙ first-same g b a (λ q. ab (sym q)) d k (Interleavings.swap-lists i) (Interleavings.swap-lists i′) (Interleavings.swap-accepted g a b zs (start d) t) (Interleavings.swap-accepted g a b zs′ (start d) t′)
     ∙ ap (stateIn g b) (Interleavings.swap-after g a b zs′ (start d))
 
-first-heard : (g : Geometry) (a b : Name) → a ≢ b → (d : List ℕ) → Good g d → {xs ys : List Call} {zs zs′ : List Turn} → Interleaving xs ys zs → Interleaving xs ys zs′
+first-heard : (g : Geometry) (a b : Name) → a ≢ b → (d : List ℕ) → Good g d → {xs ys : List Step} {zs zs′ : List Turn} → Interleaving xs ys zs → Interleaving xs ys zs′
     → Accepted g a b (start d) zs → Accepted g a b (start d) zs′ → AreBytes d → AllBring xs → AllBring ys → after g a b (start d) zs .first .heard ≡ after g a b (start d) zs′ .first .heard
 first-heard g a b ab d k i i′ t t′ u p q =
     let f = Interleavings.start-fine g a b d k in
     Heard.end-heard g a b ab i (start d) f t u p q ∙ sym (Heard.end-heard g a b ab i′ (start d) f t′ u p q)
 
-second-heard : (g : Geometry) (a b : Name) → a ≢ b → (d : List ℕ) → Good g d → {xs ys : List Call} {zs zs′ : List Turn} → Interleaving xs ys zs → Interleaving xs ys zs′
+second-heard : (g : Geometry) (a b : Name) → a ≢ b → (d : List ℕ) → Good g d → {xs ys : List Step} {zs zs′ : List Turn} → Interleaving xs ys zs → Interleaving xs ys zs′
     → Accepted g a b (start d) zs → Accepted g a b (start d) zs′ → AreBytes d → AllBring xs → AllBring ys → after g a b (start d) zs .second .heard ≡ after g a b (start d) zs′ .second .heard
 second-heard g a b ab d k {zs = zs} {zs′ = zs′} i i′ t t′ u p q =
     ap (λ (w : World). w .first .heard) (sym (Interleavings.swap-after g a b zs (start d)))

@@ -21,6 +21,7 @@ use Rattle.meaning.specs.Write.{writeRecord}
 use Rattle.meaning.specs.Allot.{allot}
 use Rattle.meaning.specs.Trim.{trim}
 use Rattle.meaning.specs.Kill.{kill}
+use Rattle.meaning.specs.Calls.{number, leaves}
 use Rattle.meaning.specs.Plain.{File, Found, found, nothing, fileAt, foundIn, plain, hush, bornAs, writtenTo, allottedTo, trimmed}
 use Rattle.meaning.specs.declared.Geometry.{Geometry}
 use Rattle.meaning.specs.declared.Handle.{Handle}
@@ -35,7 +36,7 @@ use Rattle.promises.specs.CreateMeans
 use Rattle.promises.specs.Grow
 use Rattle.promises.specs.Trim
 use Rattle.promises.specs.WriteMeans
-use Rattle.together.specs.Statement.{Name, Call, looksUp, opens, creates, moves, reads, readsSector, writes, allots, trims, kills, Side, known, answer, handleAt, Grip, grip}
+use Rattle.together.specs.Statement.{Name, Step, looksUp, opens, creates, moves, reads, readsSector, writes, allots, trims, kills, Side, known, answer, handleAt, Grip, grip}
 use Rattle.together.specs.State.{stateOf, stands, changed, born, levelOf, effect, Held, Good, atPlace}
 
 -- Lists of handles -------------------------------------------------------------------------------------------------------
@@ -136,7 +137,7 @@ stands-old g d n f t = go (named g d n) t
 
 -- Each call --------------------------------------------------------------------------------------------------------------
 
-pub record Effect (g : Geometry) (n : Name) (d : List ℕ) (hs : List Handle) (c : Call) (d′ : List ℕ) (hs′ : List Handle) : Type 0 where
+pub record Effect (g : Geometry) (n : Name) (d : List ℕ) (hs : List Handle) (c : Step) (d′ : List ℕ) (hs′ : List Handle) : Type 0 where
   pub good : Good g d′
   pub held : Held n hs′
   pub file : stands g d′ n ≡ effect g n c (stateOf g n d hs) .file
@@ -322,9 +323,9 @@ module _ (g : Geometry) (n : Name) (d : List ℕ) (hs : List Handle) (k : Good g
       go (Members.Test.holds t) = create-new f checking e t
 
 -- the call as one of the list
-pub has-effect : (g : Geometry) (n : Name) (d : List ℕ) (s : Side) (c : Call) → Good g d → Held n (s .handles) → T (known (s .handles) c) → answer g n d s c .number ≡ 0
+pub has-effect : (g : Geometry) (n : Name) (d : List ℕ) (s : Side) (c : Step) → Good g d → Held n (s .handles) → T (known (s .handles) c) → answer g n d s c .number ≡ 0
     → Effect g n d (s .handles) c (answer g n d s c .disk) (answer g n d s c .side .handles)
-unfolding answer known
+unfolding answer number leaves known
 has-effect g n d s looksUp k h t e = look-effect g n d (s .handles) k h e
 has-effect g n d s (opens len checking code) k h t e = open-effect g n d (s .handles) k h len checking code e
 has-effect g n d s (creates f checking) k h t e = create-effect g n d (s .handles) k h f checking e

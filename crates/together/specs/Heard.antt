@@ -8,15 +8,15 @@ use lib.Dec.{T, ltb}
 use lib.ListN.{length, getD, take, drop, replicate, List·getD-map}
 use lib.Seq.{slice}
 use Rattle.meaning.specs.Refusals.{noHandle}
+use Rattle.meaning.specs.Calls.{Call, number, leaves}
 use Rattle.meaning.specs.Read.{readRecord, readSector}
 use Rattle.meaning.specs.Plain.{File, Found, found, nothing, plain, isSystem, hush, AreBytes}
 use Rattle.meaning.specs.declared.Geometry.{Geometry}
 use Rattle.meaning.specs.declared.Handle.{Handle}
 use Rattle.promises.specs.Promises
-use Rattle.promises.specs.Promises.{leaves}
 use Rattle.promises.specs.Sector
 use Rattle.promises.specs.Staying
-use Rattle.together.specs.Statement.{Name, Call, looksUp, opens, creates, moves, reads, readsSector, writes, allots, trims, kills, Side, Brings, AllBring, known, answer, kept, handleAt, Grip, grip, Turn, one, two, Interleaving, none, left, right, World, next, after, Accepted}
+use Rattle.together.specs.Statement.{Name, Step, looksUp, opens, creates, moves, reads, readsSector, writes, allots, trims, kills, Side, Brings, AllBring, known, answer, kept, handleAt, Grip, grip, Turn, one, two, Interleaving, none, left, right, World, next, after, Accepted}
 use Rattle.together.specs.State.{State, stateOf, gripAt, stands, effect, Held, Good}
 use Rattle.together.specs.Effects
 use Rattle.together.specs.Interleavings
@@ -44,7 +44,7 @@ abbrev sectorOf : ℕ → List ℕ → List ℕ
 sectorOf k bytes = take 256 (drop (256 * k) bytes)
 
 -- what a call hands back
-pub hears : Call → State → List (List ℕ)
+pub hears : Step → State → List (List ℕ)
 hears looksUp o = []
 hears (opens len checking code) o = []
 hears (creates f checking) o = []
@@ -57,7 +57,7 @@ hears (trims i) o = []
 hears (kills i) o = []
 
 -- what the calls of a list hand back, one after another
-abbrev pub hearsAll : Geometry → Name → List Call → State → List (List ℕ)
+abbrev pub hearsAll : Geometry → Name → List Step → State → List (List ℕ)
 hearsAll g n [] o = []
 hearsAll g n (c ∷ cs) o = hears c o ++ hearsAll g n cs (effect g n c o)
 
@@ -85,9 +85,9 @@ module _ (g : Geometry) (n : Name) (d : List ℕ) (s : Side) (held : Held n (s .
       ∙ part-kept (sectorOf k) (r .file) (slice (readSector g d (handleAt hs i) k .from) (readSector g d (handleAt hs i) k .to) d) (r .part)
       ∙ ap (λ (x : Found). partOf (sectorOf k) (hush x)) (sym c)
 
-call-heard : (g : Geometry) (n : Name) (d : List ℕ) (s : Side) (c : Call) → Held n (s .handles) → AreBytes d → T (known (s .handles) c) → answer g n d s c .number ≡ 0
+call-heard : (g : Geometry) (n : Name) (d : List ℕ) (s : Side) (c : Step) → Held n (s .handles) → AreBytes d → T (known (s .handles) c) → answer g n d s c .number ≡ 0
     → answer g n d s c .side .heard ≡ s .heard ++ hears c (stateOf g n d (s .handles))
-unfolding answer known hears
+unfolding answer number leaves known hears
 call-heard g n d s looksUp h u t e = sym (append-nil (s .heard))
 call-heard g n d s (opens len checking code) h u t e = sym (append-nil (s .heard))
 call-heard g n d s (creates f checking) h u t e = sym (append-nil (s .heard))
@@ -100,25 +100,25 @@ call-heard g n d s (trims i) h u t e = sym (append-nil (s .heard))
 call-heard g n d s (kills i) h u t e = sym (append-nil (s .heard))
 
 -- bytes stay bytes
-bytes-stay : (g : Geometry) (d : List ℕ) → Good g d → AreBytes d → (c : Promises.Call) → Promises.Brings c → AreBytes (leaves g d c)
+bytes-stay : (g : Geometry) (d : List ℕ) → Good g d → AreBytes d → (c : Call) → Promises.Brings c → AreBytes (leaves g d c)
 unfolding Good
 bytes-stay g d k u c b = Staying.stays g d (record { fits = k .0; sound = k .1; bytes = u }) c b .good .bytes
 
-call-bytes : (g : Geometry) (n : Name) (d : List ℕ) (s : Side) (c : Call) → Good g d → AreBytes d → Brings c → AreBytes (answer g n d s c .disk)
-unfolding answer leaves
+call-bytes : (g : Geometry) (n : Name) (d : List ℕ) (s : Side) (c : Step) → Good g d → AreBytes d → Brings c → AreBytes (answer g n d s c .disk)
+unfolding answer number leaves
 call-bytes g n d s looksUp k u b = u
 call-bytes g n d s (opens len checking code) k u b = u
-call-bytes g n d s (creates f checking) k u b = bytes-stay g d k u (Promises.Call.creates n f checking) b
+call-bytes g n d s (creates f checking) k u b = bytes-stay g d k u (Call.creates n f checking) b
 call-bytes g n d s (moves i at) k u b = u
 call-bytes g n d s (reads i x) k u b = u
 call-bytes g n d s (readsSector i j) k u b = u
-call-bytes g n d s (writes m i x) k u b = bytes-stay g d k u (Promises.Call.writes m (handleAt (s .handles) i) x) b
-call-bytes g n d s (allots i j) k u b = bytes-stay g d k u (Promises.Call.allots (handleAt (s .handles) i) j) tt
-call-bytes g n d s (trims i) k u b = bytes-stay g d k u (Promises.Call.trims (handleAt (s .handles) i)) tt
-call-bytes g n d s (kills i) k u b = bytes-stay g d k u (Promises.Call.kills (handleAt (s .handles) i)) tt
+call-bytes g n d s (writes m i x) k u b = bytes-stay g d k u (Call.writes m (handleAt (s .handles) i) x) b
+call-bytes g n d s (allots i j) k u b = bytes-stay g d k u (Call.allots (handleAt (s .handles) i) j) tt
+call-bytes g n d s (trims i) k u b = bytes-stay g d k u (Call.trims (handleAt (s .handles) i)) tt
+call-bytes g n d s (kills i) k u b = bytes-stay g d k u (Call.kills (handleAt (s .handles) i)) tt
 
 -- by its own list alone
-pub end-heard : (g : Geometry) (a b : Name) → a ≢ b → {xs ys : List Call} {zs : List Turn} → Interleaving xs ys zs → (w : World) → Fine g a b w → Accepted g a b w zs
+pub end-heard : (g : Geometry) (a b : Name) → a ≢ b → {xs ys : List Step} {zs : List Turn} → Interleaving xs ys zs → (w : World) → Fine g a b w → Accepted g a b w zs
     → AreBytes (w .disk) → AllBring xs → AllBring ys → after g a b w zs .first .heard ≡ w .first .heard ++ hearsAll g a xs (stateIn g a w)
 end-heard g a b ab none w k t u p q = sym (append-nil (w .first .heard))
 end-heard g a b ab (left {x = c} {xs = xs} i) w k t u p q =

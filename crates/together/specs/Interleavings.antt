@@ -4,7 +4,7 @@ use mathlib.Core.Logic.{_≢_}
 use mathlib.Core.List.{List, [], _∷_}
 use Prim.Native.Nat.{ℕ}
 use Rattle.meaning.specs.declared.Geometry.{Geometry}
-use Rattle.together.specs.Statement.{Name, Call, Turn, one, two, Interleaving, none, left, right, World, start, next, after, Taken, Accepted}
+use Rattle.together.specs.Statement.{Name, Step, Turn, one, two, Interleaving, none, left, right, World, start, next, after, Taken, Accepted}
 use Rattle.together.specs.State.{State, stateOf, stands, effect, effects, Held, Good}
 use Rattle.together.specs.Effects
 use Rattle.together.specs.Effects.{Effect}
@@ -19,7 +19,7 @@ swapped [] = []
 swapped (one c ∷ zs) = two c ∷ swapped zs
 swapped (two c ∷ zs) = one c ∷ swapped zs
 
-pub swap-lists : {xs ys : List Call} {zs : List Turn} → Interleaving xs ys zs → Interleaving ys xs (swapped zs)
+pub swap-lists : {xs ys : List Step} {zs : List Turn} → Interleaving xs ys zs → Interleaving ys xs (swapped zs)
 swap-lists none = none
 swap-lists (left i) = right (swap-lists i)
 swap-lists (right i) = left (swap-lists i)
@@ -55,11 +55,11 @@ abbrev pub stateIn : Geometry → Name → World → State
 stateIn g a w = stateOf g a (w .disk) (w .first .handles)
 
 -- a turn, by the list whose it is
-by-first : (g : Geometry) (a b : Name) (w : World) (c : Call) → Fine g a b w → Taken g a b w (one c)
+by-first : (g : Geometry) (a b : Name) (w : World) (c : Step) → Fine g a b w → Taken g a b w (one c)
     → Effect g a (w .disk) (w .first .handles) c (next g a b w (one c) .disk) (next g a b w (one c) .first .handles)
 by-first g a b w c k t = Effects.has-effect g a (w .disk) (w .first) c (k .good) (k .first′) (t .0) (t .1)
 
-by-second : (g : Geometry) (a b : Name) (w : World) (c : Call) → Fine g a b w → Taken g a b w (two c)
+by-second : (g : Geometry) (a b : Name) (w : World) (c : Step) → Fine g a b w → Taken g a b w (two c)
     → Effect g b (w .disk) (w .second .handles) c (next g a b w (two c) .disk) (next g a b w (two c) .second .handles)
 by-second g a b w c k t = by-first g b a (swap w) c (swap-fine g a b w k) t
 
@@ -68,10 +68,10 @@ module _ (g : Geometry) (a b : Name) where
   fine-next w (one c) k t = let e = by-first g a b w c k t in record { good = e .good; first′ = e .held; second′ = k .second′ }
   fine-next w (two c) k t = let e = by-second g a b w c k t in record { good = e .good; first′ = k .first′; second′ = e .held }
 
-  pub own-turn : (w : World) (c : Call) → Fine g a b w → Taken g a b w (one c) → stateIn g a (next g a b w (one c)) ≡ effect g a c (stateIn g a w)
+  pub own-turn : (w : World) (c : Step) → Fine g a b w → Taken g a b w (one c) → stateIn g a (next g a b w (one c)) ≡ effect g a c (stateIn g a w)
   own-turn w c k t = let e = by-first g a b w c k t in λ i. record { file = e .file i; grips = e .grips i }
 
-  pub other-turn : a ≢ b → (w : World) (c : Call) → Fine g a b w → Taken g a b w (two c) → stateIn g a (next g a b w (two c)) ≡ stateIn g a w
+  pub other-turn : a ≢ b → (w : World) (c : Step) → Fine g a b w → Taken g a b w (two c) → stateIn g a (next g a b w (two c)) ≡ stateIn g a w
   other-turn ab w c k t = let e = by-second g a b w c k t in λ i. record { file = e .spares a ab i; grips = stateIn g a w .grips }
 
   third-turn : (n : Name) → n ≢ a → n ≢ b → (w : World) (t : Turn) → Fine g a b w → Taken g a b w t → stands g (next g a b w t .disk) n ≡ stands g (w .disk) n
@@ -85,7 +85,7 @@ module _ (g : Geometry) (a b : Name) where
   end-fine (z ∷ zs) w k t = end-fine zs (next g a b w z) (fine-next w z k (t .0)) (t .1)
 
   -- by its own list alone
-  pub end-first : a ≢ b → {xs ys : List Call} {zs : List Turn} → Interleaving xs ys zs → (w : World) → Fine g a b w → Accepted g a b w zs
+  pub end-first : a ≢ b → {xs ys : List Step} {zs : List Turn} → Interleaving xs ys zs → (w : World) → Fine g a b w → Accepted g a b w zs
       → stateIn g a (after g a b w zs) ≡ effects g a xs (stateIn g a w)
   end-first ab none w k t = refl
   end-first ab (left {x = c} {xs = xs} i) w k t = end-first ab i (next g a b w (one c)) (fine-next w (one c) k (t .0)) (t .1) ∙ ap (effects g a xs) (own-turn w c k (t .0))

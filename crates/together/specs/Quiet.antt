@@ -13,7 +13,7 @@ use Rattle.meaning.specs.Sizes
 use Rattle.meaning.specs.Entries.{nameOf, sizeOf, keepsSpace}
 use Rattle.meaning.specs.Chain.{chain, owned, place}
 use Rattle.meaning.specs.Lists.{firstOr}
-use Rattle.meaning.specs.Growth.{grow, diskOr}
+use Rattle.meaning.specs.Growth.{growBy, diskOr}
 use Rattle.meaning.specs.Drop.{dropOne}
 use Rattle.meaning.specs.Refusals.{lacking, larger, inRange}
 use Rattle.meaning.specs.Create.{create}
@@ -138,7 +138,7 @@ module _ (g : Geometry) (d : List ℕ) (n : Name) (h : Handle) (e : h .name ≡ 
       many m = unfold allottedTo fileAt in m
 
       image : lacking g d (h .slot) (k / granuleSectors g + 1) ≡ 0 → allot g d h k .1 ≡ d
-      image z = unfold allot grow diskOr in rw t (ap (larger g d (h .slot)) z)
+      image z = unfold allot growBy diskOr in rw t (ap (larger g d (h .slot)) z)
 
   pub trim-still : trim g d h .0 .refusal .number ≡ 0 → Even g n d (trim g d h .1) → trim g d h .1 ≡ d
   trim-still t q =
@@ -206,7 +206,7 @@ write-quiet g d n m h b e t q =
 
     still : lacking g d (h .slot) (granulesFor g (sizeAfter m (sizeOf g d (h .slot)) (h .at + h .len))) ≡ 0
         → writeRecord g d m h b .1 ≡ written g d (h .slot) m (h .at) (h .len) (take (h .len) b)
-    still z = unfold writeRecord written grow diskOr in rw t (ap (λ (y : ℕ).
+    still z = unfold writeRecord written growBy diskOr in rw t (ap (λ (y : ℕ).
         let d₁ = larger g d (h .slot) y in
         withSize g d (store (place g d₁ (h .slot)) (store (place g d₁ (h .slot)) d₁ (sizeOf g d (h .slot)) (replicate (h .at - sizeOf g d (h .slot)) 0)) (h .at) (take (h .len) b)) (h .slot)
         (sizeAfter m (sizeOf g d (h .slot)) (h .at + h .len))) z)

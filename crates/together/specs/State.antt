@@ -14,7 +14,7 @@ use Rattle.meaning.specs.Plain.{File, Found, found, nothing, plain, hush, bornA
 use Rattle.meaning.specs.declared.Geometry.{Geometry}
 use Rattle.meaning.specs.declared.Handle.{Handle}
 use Rattle.meaning.specs.declared.NewFile.{NewFile}
-use Rattle.together.specs.Statement.{Name, Call, looksUp, opens, creates, moves, reads, readsSector, writes, allots, trims, kills, Grip, grip}
+use Rattle.together.specs.Statement.{Name, Step, looksUp, opens, creates, moves, reads, readsSector, writes, allots, trims, kills, Grip, grip}
 
 -- a list's file, a system file's bytes apart, and its handles, slots apart
 pub record State : Type 0 where
@@ -55,7 +55,7 @@ levelOf g checking code (found f) =
 abbrev pub opened : State → Name → ℕ → ℕ → List Grip
 opened o n len level = o .grips ++ (record { name = n; at = 0; len = len; level = level } ∷ [])
 
-unfoldable pub effect : Geometry → Name → Call → State → State
+unfoldable pub effect : Geometry → Name → Step → State → State
 effect g n looksUp o = o
 effect g n (opens len checking code) o =
     record { file = o .file; grips = opened o n len (levelOf g checking code (o .file)) }
@@ -72,7 +72,7 @@ effect g n (trims i) o = record { file = changed (trimmed g) (o .file); grips = 
 effect g n (kills i) o = record { file = nothing; grips = o .grips }
 
 -- the calls of a list, one after another
-abbrev pub effects : Geometry → Name → List Call → State → State
+abbrev pub effects : Geometry → Name → List Step → State → State
 effects g n [] o = o
 effects g n (c ∷ cs) o = effects g n cs (effect g n c o)
 

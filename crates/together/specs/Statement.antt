@@ -2,7 +2,7 @@
 -- which every call is accepted agree in what `Agree` says, at the end of this page. The proof is in Demand3.antt.
 --
 -- `answer` is all that this page knows of the calls, and it only names those of `meaning`, which answer as the program does: each
--- function's contract says so. The files are those that demand 2 speaks of, `plain`.
+-- function's contract says so. Number and disk are those of the one `Call` that demand 2 speaks of too. The files are those that demand 2 speaks of, `plain`.
 use Prim.Native.Nat.{ℕ}
 use mathlib.Core.Path.{_≡_}
 use mathlib.Core.Logic.{_≢_}
@@ -16,14 +16,12 @@ use Rattle.meaning.specs.Layout.{fitsGeometry}
 use Rattle.meaning.specs.Chain.{chain, owned}
 use Rattle.meaning.specs.Consistent.{consistent}
 use Rattle.meaning.specs.Refusals.{movedTo, noHandle}
-use Rattle.meaning.specs.LookUp.{lookUp, named}
+use Rattle.meaning.specs.LookUp.{named}
 use Rattle.meaning.specs.Open.{open′}
 use Rattle.meaning.specs.Create.{create}
 use Rattle.meaning.specs.Read.{readRecord, readSector}
 use Rattle.meaning.specs.Write.{writeRecord}
-use Rattle.meaning.specs.Allot.{allot}
-use Rattle.meaning.specs.Trim.{trim}
-use Rattle.meaning.specs.Kill.{kill}
+use Rattle.meaning.specs.Calls.{Call, number, leaves}
 use Rattle.meaning.specs.Plain.{File, Found, found, nothing, plain, isSystem, AreBytes, CodesFit}
 use Rattle.meaning.specs.declared.Geometry.{Geometry}
 use Rattle.meaning.specs.declared.Handle.{Handle}
@@ -37,23 +35,24 @@ Name = List ℕ
 
 -- In a list of calls on one file each call uses a handle that the same list opened or created earlier: the first number of a call by a
 -- handle is that handle's place among them, from 0. Its positions and the bytes it writes are the list's own, fixed beforehand. The name
--- is the list's, and no call repeats it; the geometry is the same for all. Bring back (02, §11) is not among them: "Demand 3's interleavings
--- leave this call out." What it finds hangs on what the other list has written since the kill.
-pub data Call : Type 0 where
-  looksUp : Call
+-- is the list's, and no call repeats it; the geometry is the same for all. So a list is of steps, and `asked` makes of each the call of
+-- `meaning` that it is. Bring back (02, §11) is not among them: "Demand 3's interleavings leave this call out." What it finds hangs on what
+-- the other list has written since the kill.
+pub data Step : Type 0 where
+  looksUp : Step
   -- record length, whether codes are checked, the code
-  opens : ℕ → Bool → ℕ → Call
-  creates : NewFile → Bool → Call
+  opens : ℕ → Bool → ℕ → Step
+  creates : NewFile → Bool → Step
   -- Between calls the caller may set the position; where it does not, the handle stays where its last call put it.
-  moves : ℕ → ℕ → Call
+  moves : ℕ → ℕ → Step
   -- into a buffer that holds these bytes
-  reads : ℕ → List ℕ → Call
-  readsSector : ℕ → ℕ → Call
+  reads : ℕ → List ℕ → Step
+  readsSector : ℕ → ℕ → Step
   -- from the start of these bytes
-  writes : Mode → ℕ → List ℕ → Call
-  allots : ℕ → ℕ → Call
-  trims : ℕ → Call
-  kills : ℕ → Call
+  writes : Mode → ℕ → List ℕ → Step
+  allots : ℕ → ℕ → Step
+  trims : ℕ → Step
+  kills : ℕ → Step
 
 -- what a list has by now: its handles in the order in which it opened or created them, and what its reads handed back, in their order
 pub record Side : Type 0 where
@@ -77,7 +76,7 @@ abbrev pub hearing : Side → List ℕ → Side
 hearing s bytes = record { handles = s .handles; heard = s .heard ++ (bytes ∷ []) }
 
 -- the list has the handle that the call names
-unfoldable pub known : List Handle → Call → Bool
+unfoldable pub known : List Handle → Step → Bool
 known hs looksUp = true
 known hs (opens len checking code) = true
 known hs (creates f checking) = true
@@ -94,43 +93,66 @@ unfoldable pub kept : Found → List ℕ → List ℕ
 kept nothing bytes = []
 kept (found f) bytes = cond (isSystem f) [] bytes
 
--- the number that a call answers, and the disk and the list's side that it leaves
+-- the call that a step asks for, with the list's name and its handle; to set a position is no call
+abbrev pub asked : Name → List Handle → Step → List Call
+asked n hs looksUp = Call.looksUp n ∷ []
+asked n hs (opens len checking code) = Call.opens n len checking code ∷ []
+asked n hs (creates f checking) = Call.creates n f checking ∷ []
+asked n hs (moves i at) = []
+asked n hs (reads i buffer) = Call.reads (handleAt hs i) buffer ∷ []
+asked n hs (readsSector i k) = Call.readsSector (handleAt hs i) k ∷ []
+asked n hs (writes m i bytes) = Call.writes m (handleAt hs i) bytes ∷ []
+asked n hs (allots i k) = Call.allots (handleAt hs i) k ∷ []
+asked n hs (trims i) = Call.trims (handleAt hs i) ∷ []
+asked n hs (kills i) = Call.kills (handleAt hs i) ∷ []
+
+-- what the list has after a step: its handles and what it heard
+abbrev pub leftWith : Geometry → Name → List ℕ → Side → Step → Side
+leftWith g n d s looksUp = s
+leftWith g n d s (opens len checking code) = withNew s (open′ g d n len checking code .handle)
+leftWith g n d s (creates f checking) = withNew s (create g d n f checking .0 .handle)
+leftWith g n d s (moves i at) = withMoved s i (movedTo (handleAt (s .handles) i) at)
+leftWith g n d s (reads i buffer) =
+    let r = readRecord g d (handleAt (s .handles) i) buffer in hearing (withMoved s i (r .0 .handle)) (kept (plain g d n) (r .1))
+leftWith g n d s (readsSector i k) =
+    let r = readSector g d (handleAt (s .handles) i) k in hearing s (kept (plain g d n) (slice (r .from) (r .to) d))
+leftWith g n d s (writes m i bytes) = withMoved s i (writeRecord g d m (handleAt (s .handles) i) bytes .0 .handle)
+leftWith g n d s (allots i k) = s
+leftWith g n d s (trims i) = s
+leftWith g n d s (kills i) = s
+
+-- the number that a step answers, and the disk and the list's side that it leaves
 pub record Answered : Type 0 where
   pub number : ℕ
   pub disk : List ℕ
   pub side : Side
 
-unfoldable pub answer : Geometry → Name → List ℕ → Side → Call → Answered
-answer g n d s looksUp = record { number = lookUp g d n .refusal .number; disk = d; side = s }
-answer g n d s (opens len checking code) =
-    let r = open′ g d n len checking code in record { number = r .refusal .number; disk = d; side = withNew s (r .handle) }
-answer g n d s (creates f checking) =
-    let r = create g d n f checking in record { number = r .0 .refusal .number; disk = r .1; side = withNew s (r .0 .handle) }
-answer g n d s (moves i at) = record { number = 0; disk = d; side = withMoved s i (movedTo (handleAt (s .handles) i) at) }
-answer g n d s (reads i buffer) =
-    let h = handleAt (s .handles) i in let r = readRecord g d h buffer in
-    record { number = r .0 .refusal .number; disk = d; side = hearing (withMoved s i (r .0 .handle)) (kept (plain g d n) (r .1)) }
-answer g n d s (readsSector i k) =
-    let h = handleAt (s .handles) i in let r = readSector g d h k in
-    record { number = r .refusal .number; disk = d; side = hearing s (kept (plain g d n) (slice (r .from) (r .to) d)) }
-answer g n d s (writes m i bytes) =
-    let r = writeRecord g d m (handleAt (s .handles) i) bytes in record { number = r .0 .refusal .number; disk = r .1; side = withMoved s i (r .0 .handle) }
-answer g n d s (allots i k) = let r = allot g d (handleAt (s .handles) i) k in record { number = r .0 .refusal .number; disk = r .1; side = s }
-answer g n d s (trims i) = let r = trim g d (handleAt (s .handles) i) in record { number = r .0 .refusal .number; disk = r .1; side = s }
-answer g n d s (kills i) = let r = kill g d (handleAt (s .handles) i) in record { number = r .0 .refusal .number; disk = r .1; side = s }
+-- of no call: accepted, and the disk as it is
+abbrev pub numberOf : Geometry → List ℕ → List Call → ℕ
+numberOf g d [] = 0
+numberOf g d (c ∷ cs) = number g d c
+
+abbrev pub leavesAll : Geometry → List ℕ → List Call → List ℕ
+leavesAll g d [] = d
+leavesAll g d (c ∷ cs) = leavesAll g (leaves g d c) cs
+
+unfoldable pub answer : Geometry → Name → List ℕ → Side → Step → Answered
+answer g n d s c =
+    let asks = asked n (s .handles) c in
+    record { number = numberOf g d asks; disk = leavesAll g d asks; side = leftWith g n d s c }
 
 -- 2. Two lists, interleaved ---------------------------------------------------------------------------------------------------
 
 -- a call of the first list, or of the second
 pub data Turn : Type 0 where
-  one : Call → Turn
-  two : Call → Turn
+  one : Step → Turn
+  two : Step → Turn
 
 -- the two lists, each in its own order, laid into one
-pub data Interleaving : List Call → List Call → List Turn → Type 0 where
+pub data Interleaving : List Step → List Step → List Turn → Type 0 where
   none : Interleaving [] [] []
-  left : {x : Call} {xs ys : List Call} {zs : List Turn} → Interleaving xs ys zs → Interleaving (x ∷ xs) ys (one x ∷ zs)
-  right : {y : Call} {xs ys : List Call} {zs : List Turn} → Interleaving xs ys zs → Interleaving xs (y ∷ ys) (two y ∷ zs)
+  left : {x : Step} {xs ys : List Step} {zs : List Turn} → Interleaving xs ys zs → Interleaving (x ∷ xs) ys (one x ∷ zs)
+  right : {y : Step} {xs ys : List Step} {zs : List Turn} → Interleaving xs ys zs → Interleaving xs (y ∷ ys) (two y ∷ zs)
 
 -- the disk, and what each list has
 pub record World : Type 0 where
@@ -213,7 +235,7 @@ abbrev pub grip : Handle → Grip
 grip h = record { name = h .name; at = h .at; len = h .len; level = h .level }
 
 -- what a caller's types see to: a record to be written is of bytes, the codes of a new file have 16 bits
-abbrev pub Brings : Call → Type 0
+abbrev pub Brings : Step → Type 0
 Brings looksUp = Unit {0}
 Brings (opens len checking code) = Unit {0}
 Brings (creates f checking) = CodesFit f
@@ -225,12 +247,12 @@ Brings (allots i k) = Unit {0}
 Brings (trims i) = Unit {0}
 Brings (kills i) = Unit {0}
 
-abbrev pub AllBring : List Call → Type 0
+abbrev pub AllBring : List Step → Type 0
 AllBring [] = Unit {0}
 AllBring (c ∷ cs) = Brings c × AllBring cs
 
 -- of the worlds w and w′ at the end of two interleavings of xs and ys, the first of them zs, from the disk d
-pub record Agree (g : Geometry) (a b : Name) (d : List ℕ) (xs ys : List Call) (zs : List Turn) (w w′ : World) : Type 0 where
+pub record Agree (g : Geometry) (a b : Name) (d : List ℕ) (xs ys : List Step) (zs : List Turn) (w w′ : World) : Type 0 where
   -- Both disks hold the same named files with the same attributes, sizes and granule counts and, system files apart, the same bytes.
   pub files : SameFiles g (w .disk) (w′ .disk)
   -- Every third file that is no system file is as it was; of a third system file all but its bytes, and no third name comes or goes.
@@ -253,6 +275,6 @@ pub record Agree (g : Geometry) (a b : Name) (d : List ℕ) (xs ys : List Call) 
 abbrev pub Demand3 : Type 0
 Demand3 =
     (g : Geometry) (a b : Name) → a ≢ b → (d : List ℕ) → fitsGeometry g d ≡ true → consistent g d ≡ true
-    → (xs ys : List Call) (zs zs′ : List Turn) → Interleaving xs ys zs → Interleaving xs ys zs′
+    → (xs ys : List Step) (zs zs′ : List Turn) → Interleaving xs ys zs → Interleaving xs ys zs′
     → Accepted g a b (start d) zs → Accepted g a b (start d) zs′
     → Agree g a b d xs ys zs (after g a b (start d) zs) (after g a b (start d) zs′)

@@ -8,10 +8,11 @@ use Rattle.meaning.specs.Layout.{fitsGeometry}
 use Rattle.meaning.specs.Chain.{chain, owned}
 use Rattle.meaning.specs.Consistent.{consistent}
 use Rattle.meaning.specs.LookUp.{named}
+use Rattle.meaning.specs.Calls.{number, leaves}
 use Rattle.meaning.specs.Samples.{opened, puls, leer, laid}
 use lib.ListN.{replicate}
 use Rattle.meaning.specs.declared.Mode.the-variants.{Sequential, Random}
-use Rattle.together.specs.Statement.{Name, Call, opens, moves, writes, known, answer, Turn, one, two, none, left, right, start, after, Accepted, Quiet, AllQuiet}
+use Rattle.together.specs.Statement.{Name, Step, opens, moves, writes, known, answer, Turn, one, two, none, left, right, start, after, Accepted, Quiet, AllQuiet}
 use Rattle.together.specs.Demand3.{demand3}
 use Rattle.together_samples.specs.Slots.{differ, tiny}
 
@@ -28,10 +29,10 @@ owning =
     ∷ []) 5120
 
 -- two bytes behind a gap; three bytes over the two
-abbrev mine : List Call
+abbrev mine : List Step
 mine = opens 2 true 0 ∷ moves 0 9 ∷ writes Random 0 (7 ∷ 8 ∷ []) ∷ []
 
-abbrev theirs : List Call
+abbrev theirs : List Step
 theirs = opens 3 true 0 ∷ writes Sequential 0 (9 ∷ 9 ∷ 9 ∷ []) ∷ []
 
 abbrev mineFirst : List Turn
@@ -45,11 +46,11 @@ inTurn =
     ∷ one (writes Random 0 (7 ∷ 8 ∷ [])) ∷ []
 
 pub accepted : Accepted tiny puls leer (start owning) mineFirst
-unfolding opened known answer
+unfolding opened known answer number leaves
 accepted = ((tt, refl), ((tt, refl), ((tt, refl), ((tt, refl), ((tt, refl), tt)))))
 
 pub accepted′ : Accepted tiny puls leer (start owning) inTurn
-unfolding opened known answer
+unfolding opened known answer number leaves
 accepted′ = ((tt, refl), ((tt, refl), ((tt, refl), ((tt, refl), ((tt, refl), tt)))))
 
 fits : fitsGeometry tiny owning ≡ true
@@ -76,15 +77,15 @@ unfolding opened
 mine₀ = refl
 
 mine₁ : liesAt d₁ puls ≡ (0x80 ∷ [], 2 ∷ [])
-unfolding opened answer
+unfolding opened answer number leaves
 mine₁ = refl
 
 theirs₁ : liesAt d₁ leer ≡ (0x81 ∷ [], 3 ∷ [])
-unfolding opened answer
+unfolding opened answer number leaves
 theirs₁ = refl
 
 theirs₂ : liesAt d₂ leer ≡ (0x81 ∷ [], 3 ∷ [])
-unfolding opened answer
+unfolding opened answer number leaves
 theirs₂ = refl
 
 same : (n : Name) (d d′ : List ℕ) (at : List ℕ × List ℕ) → liesAt d n ≡ at → liesAt d′ n ≡ at → Quiet tiny n d d′
@@ -94,7 +95,7 @@ still : (n : Name) (d : List ℕ) → Quiet tiny n d d
 still n d = record { entries = refl; granules = refl }
 
 quiet : AllQuiet tiny puls leer (start owning) mineFirst
-unfolding answer
+unfolding answer number leaves
 quiet = (still puls owning, (still puls owning, (same puls owning d₁ _ mine₀ mine₁, (still leer d₁, (same leer d₁ d₂ _ theirs₁ theirs₂, tt)))))
 
 pub equal : d₂ ≡ after tiny puls leer (start owning) inTurn .disk

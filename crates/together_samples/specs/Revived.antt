@@ -3,15 +3,16 @@
 use mathlib.Core.Path.{_≡_, refl}
 use mathlib.Core.Bool.{true}
 use mathlib.Core.List.{List, [], _∷_}
+use Rattle.meaning.specs.Calls.{number, leaves}
 use Rattle.meaning.specs.Samples.{opened, puls, leer}
-use Rattle.together.specs.Statement.{Call, creates, trims, kills, known, answer, Turn, one, two, Interleaving, none, left, right, start, answered, after, Accepted}
+use Rattle.together.specs.Statement.{Step, creates, trims, kills, known, answer, Turn, one, two, Interleaving, none, left, right, start, answered, after, Accepted}
 use Rattle.together_samples.specs.Slots.{tiny, blank, new}
 
 -- PULS01/DAT is created, killed and created again, and then trimmed by its first handle; LEER is created
-abbrev mine : List Call
+abbrev mine : List Step
 mine = creates new true ∷ kills 0 ∷ creates new true ∷ trims 0 ∷ []
 
-abbrev theirs : List Call
+abbrev theirs : List Step
 theirs = creates new true ∷ []
 
 -- theirs last: the slot is PULS01/DAT's again, and every call is accepted
@@ -22,7 +23,7 @@ last : Interleaving mine theirs theirsLast
 last = left (left (left (left (right none))))
 
 pub accepted : Accepted tiny puls leer (start blank) theirsLast
-unfolding opened known answer
+unfolding opened known answer number leaves
 accepted = ((tt, refl), ((tt, refl), ((tt, refl), ((tt, refl), ((tt, refl), tt)))))
 
 -- theirs after the kill: LEER has the slot, and the first handle of PULS01/DAT is stale
@@ -33,5 +34,5 @@ between : Interleaving mine theirs (one (creates new true) ∷ one (kills 0) ∷
 between = left (left (right (left (left none))))
 
 pub stale : answered tiny puls leer (after tiny puls leer (start blank) untilTrim) (one (trims 0)) .number ≡ 7
-unfolding opened answer
+unfolding opened answer number leaves
 stale = refl

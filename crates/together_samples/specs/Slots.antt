@@ -8,11 +8,12 @@ use lib.ListN.{getD, replicate}
 use native.Mathlib.Omega.{arith}
 use Rattle.meaning.specs.Layout.{fitsGeometry}
 use Rattle.meaning.specs.Consistent.{consistent}
+use Rattle.meaning.specs.Calls.{number, leaves}
 use Rattle.meaning.specs.Samples.{opened, puls, leer}
 use Rattle.meaning.specs.declared.Geometry.{Geometry}
 use Rattle.meaning.specs.declared.NewFile.{NewFile}
 use Rattle.meaning.specs.declared.Mode.the-variants.{Sequential}
-use Rattle.together.specs.Statement.{Call, creates, moves, writes, known, answer, handleAt, Turn, one, two, none, left, right, World, start, after, Accepted, Agree}
+use Rattle.together.specs.Statement.{Step, creates, moves, writes, known, answer, handleAt, Turn, one, two, none, left, right, World, start, after, Accepted, Agree}
 use Rattle.together.specs.Demand3.{demand3}
 
 -- 2 blocks of 2 units, the directory at the front in granules 0 and 1, no file
@@ -26,10 +27,10 @@ abbrev pub new : NewFile
 new = record { day = 9; month = 10; year = 3; len = 2; main = 0; worker = 0 }
 
 -- a new PULS01/DAT, and two bytes behind a gap; a new LEER
-abbrev mine : List Call
+abbrev mine : List Step
 mine = creates new true ∷ moves 0 3 ∷ writes Sequential 0 (7 ∷ 8 ∷ []) ∷ []
 
-abbrev theirs : List Call
+abbrev theirs : List Step
 theirs = creates new true ∷ []
 
 abbrev mineFirst : List Turn
@@ -39,11 +40,11 @@ abbrev theirsFirst : List Turn
 theirsFirst = two (creates new true) ∷ one (creates new true) ∷ one (moves 0 3) ∷ one (writes Sequential 0 (7 ∷ 8 ∷ [])) ∷ []
 
 pub accepted : Accepted tiny puls leer (start blank) mineFirst
-unfolding opened known answer
+unfolding opened known answer number leaves
 accepted = ((tt, refl), ((tt, refl), ((tt, refl), ((tt, refl), tt))))
 
 pub accepted′ : Accepted tiny puls leer (start blank) theirsFirst
-unfolding opened known answer
+unfolding opened known answer number leaves
 accepted′ = ((tt, refl), ((tt, refl), ((tt, refl), ((tt, refl), tt))))
 
 fits : fitsGeometry tiny blank ≡ true
@@ -68,9 +69,9 @@ agree = demand3 tiny puls leer differ blank fits sound mine theirs mineFirst the
 
 -- the slots in the handles are others
 pub slot : handleAt (w .first .handles) 0 .slot ≡ 0x80
-unfolding opened answer
+unfolding opened answer number leaves
 slot = refl
 
 pub slot′ : handleAt (w′ .first .handles) 0 .slot ≡ 0x81
-unfolding opened answer
+unfolding opened answer number leaves
 slot′ = refl
