@@ -1,1 +1,5 @@
 pub mod Slots
+pub mod Alike
+pub mod Flag
+pub mod Kept
+pub mod Compared
