@@ -1,7 +1,7 @@
 -- Which slots are permitted (02, §4): "On a data disk only slots 00H and 01H are kept." On a system disk it is 01's rule.
 use mathlib.Core.Path.{_≡_, refl, ap, ap₂, _∙_}
 use mathlib.Core.Bool.{Bool, true, false, not, cond}
-use mathlib.Core.List.{List, [], _∷_}
+use mathlib.Core.List.{List, [], _∷_, map}
 use Prim.Native.Nat.{ℕ, _+_, _<_, _≤_}
 use lib.ListN.{length}
 use lib.Dec.{ltb}
@@ -30,31 +30,43 @@ unfolding all
 and-no true = refl
 and-no false = refl
 
-counted-data-30 : length (keep (permittedBy false 30) (count 0 256)) ≡ 222
-unfolding all
-counted-data-30 = refl
+-- how many slots are permitted, by the flag and the directory's length
+abbrev pub roomBy : Bool → ℕ → ℕ
+roomBy system sectors = length (keep (permittedBy system sectors) (count 0 256))
 
-counted-data-10 : length (keep (permittedBy false 10) (count 0 256)) ≡ 62
-unfolding all
-counted-data-10 = refl
+-- the lengths that a directory may have
+abbrev pub lengths : List ℕ
+lengths = 10 ∷ 15 ∷ 20 ∷ 25 ∷ 30 ∷ []
 
-counted-system-30 : length (keep (permittedBy true 30) (count 0 256)) ≡ 192
+pub data-rooms : map (roomBy false) lengths ≡ 62 ∷ 102 ∷ 142 ∷ 182 ∷ 222 ∷ []
 unfolding all
-counted-system-30 = refl
+data-rooms = refl
 
-counted-system-10 : length (keep (permittedBy true 10) (count 0 256)) ≡ 32
+pub system-rooms : map (roomBy true) lengths ≡ 32 ∷ 72 ∷ 112 ∷ 152 ∷ 192 ∷ []
 unfolding all
-counted-system-10 = refl
+system-rooms = refl
+
+counted-222 : roomBy false 30 ≡ 222
+unfolding all
+counted-222 = refl
 
 module _ (g : Geometry) (d : List ℕ) where
+  kept-system : g .system ≡ true → (s : ℕ) → kept g s ≡ keptForSystem s
+  unfolding kept
+  kept-system h s = rw (kept, h) refl
+
+  kept-data : g .system ≡ false → (s : ℕ) → kept g s ≡ ltb s 2
+  unfolding kept
+  kept-data h s = rw (kept, h) refl
+
   -- On a system disk: "Rows 0 to 3 with s 0 to 7 are kept for system files and never permitted", 01's text as it stood.
   pub on-a-system-disk : g .system ≡ true → (s : ℕ) → permitted g d s ≡ all (isSlot g d s ∷ not (keptForSystem s) ∷ [])
-  unfolding permitted kept
-  on-a-system-disk h s = ap (λ (b : Bool). all (isSlot g d s ∷ not (cond b (keptForSystem s) (ltb s 2)) ∷ [])) h
+  unfolding permitted
+  on-a-system-disk h s = ap (λ (k : Bool). all (isSlot g d s ∷ not k ∷ [])) (kept-system h s)
 
   by-number : g .system ≡ false → (s : ℕ) → permitted g d s ≡ all (isSlot g d s ∷ not (ltb s 2) ∷ [])
-  unfolding permitted kept
-  by-number h s = ap (λ (b : Bool). all (isSlot g d s ∷ not (cond b (keptForSystem s) (ltb s 2)) ∷ [])) h
+  unfolding permitted
+  by-number h s = ap (λ (k : Bool). all (isSlot g d s ∷ not k ∷ [])) (kept-data h s)
 
   -- On a data disk: every slot of the directory but these two.
   pub on-a-data-disk : g .system ≡ false → (s : ℕ) → 2 ≤ s → permitted g d s ≡ isSlot g d s
@@ -67,24 +79,13 @@ module _ (g : Geometry) (d : List ℕ) where
   unfolding permitted kept isSlot
   permitted-by s = refl
 
-  -- how many slots below n are permitted
-  abbrev pub room : ℕ → ℕ
-  room n = length (keep (permitted g d) (count 0 n))
+  -- how many slots are permitted on this disk
+  abbrev pub room : ℕ
+  room = length (keep (permitted g d) (count 0 256))
 
-  room-by : {b : Bool} {k : ℕ} → g .system ≡ b → directorySectors g d ≡ k → (n : ℕ) → room n ≡ length (keep (permittedBy b k) (count 0 n))
-  room-by {b} {k} h e n =
-      ap length (Members.keep-eq (permitted g d) (permittedBy b k) (count 0 n)
-      (λ s i. permitted-by s ∙ ap₂ (λ (x : Bool) (y : ℕ). permittedBy x y s) h e))
+  pub room-is : room ≡ roomBy (g .system) (directorySectors g d)
+  room-is = ap length (Members.keep-eq (permitted g d) (permittedBy (g .system) (directorySectors g d)) (count 0 256) (λ s i. permitted-by s))
 
   -- "lets data disks hold 222 files, 224 less the two every disk has"
-  pub data-30 : g .system ≡ false → directorySectors g d ≡ 30 → room 256 ≡ 222
-  data-30 h e = room-by h e 256 ∙ counted-data-30
-
-  pub data-10 : g .system ≡ false → directorySectors g d ≡ 10 → room 256 ≡ 62
-  data-10 h e = room-by h e 256 ∙ counted-data-10
-
-  pub system-30 : g .system ≡ true → directorySectors g d ≡ 30 → room 256 ≡ 192
-  system-30 h e = room-by h e 256 ∙ counted-system-30
-
-  pub system-10 : g .system ≡ true → directorySectors g d ≡ 10 → room 256 ≡ 32
-  system-10 h e = room-by h e 256 ∙ counted-system-10
+  pub files-222 : g .system ≡ false → directorySectors g d ≡ 30 → room ≡ 222
+  files-222 h e = room-is ∙ ap₂ roomBy h e ∙ counted-222

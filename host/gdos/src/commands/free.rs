@@ -1,9 +1,8 @@
 //! `gdos free`.
 
 use super::choose::only_image;
-use super::info::more_told;
 use super::opened::Opened;
-use super::room::files_more;
+use super::room::More;
 use super::{Command, Output, JSON};
 use crate::args::Args;
 use crate::failure::Failure;
@@ -39,7 +38,7 @@ fn run(args: &Args) -> Result<Output, Failure> {
     let total = disk.image().len() / Geometry::GRANULE_BYTES;
     let (bytes, longest_bytes) = (free * Geometry::GRANULE_BYTES, longest * Geometry::GRANULE_BYTES);
     // A disk that is not consistent takes no file.
-    let more = if fault.is_none() { files_more(disk) } else { None };
+    let more = if fault.is_none() { Some(More::of(disk).map_err(Failure::image(path))?) } else { None };
     let mut json = opened.head();
     json.extend([
         ("free", free.into()),
@@ -47,8 +46,8 @@ fn run(args: &Args) -> Result<Output, Failure> {
         ("longest", longest.into()),
         ("longest_bytes", longest_bytes.into()),
         ("granules", total.into()),
-        ("files_more_system_disk", more.map(|more| more.0).into()),
-        ("files_more_data_disk", more.map(|more| more.1).into()),
+        ("files_more_system_disk", more.map(|more| more.system).into()),
+        ("files_more_data_disk", more.map(|more| more.data).into()),
         ("consistent", fault.is_none().into()),
         ("fault", fault.as_ref().map(fault::json).into()),
     ]);
@@ -57,7 +56,7 @@ fn run(args: &Args) -> Result<Output, Failure> {
         counted(total, "granule"),
         counted(longest, "granule"),
     );
-    text.extend(more.map(|more| format!("files: {}\n", more_told(more, opened.geometry()))));
+    text.extend(more.map(|more| format!("files: {}\n", more.told(opened.geometry()))));
     let note = |fault: Explained| {
         let kind = fault.fault.kind;
         let place = fault.fault.slot.map(|slot| format!(", slot {slot:02X}H")).unwrap_or_default();

@@ -3,7 +3,7 @@
 use super::choose::{chosen, image_and_rest, refused};
 use super::ls::{attributes, file_json};
 use super::opened::Opened;
-use super::room::files_more;
+use super::room::More;
 use super::{failures_json, Command, Output, ALL, JSON};
 use crate::args::Args;
 use crate::failure::Failure;
@@ -65,10 +65,10 @@ fn about_disk(opened: &Opened) -> Result<Output, Failure> {
     // An entry has room for four runs; each further four have an extension.
     let used: usize = entries.iter().map(|entry| entry.runs().len().div_ceil(4).max(1)).sum();
     let system = entries.len() - counts.files;
-    let more = files_more(disk).unwrap_or_default();
+    let more = More::of(disk).map_err(Failure::image(path))?;
     let text = format!(
         "image      {path}, {} bytes\n\
-         geometry   {} of {}, {} in all, preset {}\n\
+         geometry   {} of {}, {} in all, {} disk, preset {}\n\
          directory  sectors {} to {}, {slots} slots, {used} in use\n\
          files      {}, and {}; {}\n\
          granules   {owned} owned, {} free, {reserved} reserved\n\
@@ -77,12 +77,13 @@ fn about_disk(opened: &Opened) -> Result<Output, Failure> {
         counted(geometry.blocks, "block"),
         counted(geometry.units, "unit"),
         counted(total, "granule"),
+        if geometry.system_disk { "system" } else { "data" },
         shape::preset_of(geometry).unwrap_or("none"),
         geometry.start,
         geometry.start + sectors - 1,
         counted(counts.files, "file"),
         counted(system, "system file"),
-        more_told(more, geometry),
+        more.told(geometry),
         counts.free,
         geometry.open_code,
     );
@@ -98,18 +99,10 @@ fn about_disk(opened: &Opened) -> Result<Output, Failure> {
         ("slots_used", used.into()),
         ("files", counts.files.into()),
         ("system_files", system.into()),
-        ("files_more_system_disk", more.0.into()),
-        ("files_more_data_disk", more.1.into()),
+        ("files_more_system_disk", more.system.into()),
+        ("files_more_data_disk", more.data.into()),
     ]);
     Ok(Output { text: text.into_bytes(), json: Json::Object(json), ..opened.output() })
-}
-
-/// How many files more the directory takes: under the geometry stated first, then as the other kind of disk.
-pub fn more_told((system, data): (usize, usize), geometry: Geometry) -> String {
-    match geometry.system_disk {
-        true => format!("room for {system} more (as a data disk {data})"),
-        false => format!("room for {data} more (as a system disk {system})"),
-    }
 }
 
 fn about_file(entry: &Entry, geometry: Geometry) -> String {

@@ -2,7 +2,7 @@
 
 use super::choose::{image_and_rest, password, refused};
 use super::opened::Opened;
-use super::room;
+use super::room::slots_left;
 use super::{failures_json, Command, Output, CODE, FORCE, JSON, UNLOCK};
 use crate::args::{Args, Spec};
 use crate::date;
@@ -260,14 +260,6 @@ fn space_left(disk: &Disk, typed: &Typed, size: usize) -> String {
     let more = if owned > 0 { "more " } else { "" };
     let wanted = format!("{wanted} {more}granule{}", if wanted == 1 { "" } else { "s" });
     format!("it wants {wanted}, and {free} {} free", if free == 1 { "is" } else { "are" })
-}
-
-/// How many slots there are for files, and how many of them are free.
-fn slots_left(disk: &Disk) -> String {
-    match room::slots(disk) {
-        Some((all, free)) => format!("of {all} slots for files {free} {} free", if free == 1 { "is" } else { "are" }),
-        None => "no slot for files is free".to_string(),
-    }
 }
 
 /// Writes the file from its start: records of 256 bytes, then one of what is left.
