@@ -24,7 +24,7 @@ pub fn geometry(
     open_code: u16,
     system_disk: bool,
 ) -> Geometry
-    ensures { λ r. ⌜ r ≡ geometry blocks units start open_code system_disk ⌝ }
+    ensures { λ r. ⌜ r ≡ geometry blocks units start open_code «system_disk» ⌝ }
 {
     Geometry {
         blocks,

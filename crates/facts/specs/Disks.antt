@@ -1,7 +1,7 @@
 -- More disks and names on which the facts compute, and short words for their answers.
 use Prim.Native.Nat.{ℕ, _+_, _-_, _*_, _/_, _%_}
 use mathlib.Core.List.{List, [], _∷_, _++_, map}
-use mathlib.Core.Bool.{cond}
+use mathlib.Core.Bool.{true, cond}
 use lib.Dec.{eqb}
 use lib.ListN.{replicate}
 use Rattle.meaning.specs.Lists.{count, each}

@@ -2,6 +2,7 @@
 -- own sentence and no other, so that a definition without that sentence would let it pass.
 use Prim.Native.Nat.{ℕ, _+_}
 use mathlib.Core.Path.{_≡_, refl}
+use mathlib.Core.Bool.{true}
 use mathlib.Core.List.{List, [], _∷_}
 use Rattle.meaning.specs.Fault.{fault}
 use Rattle.meaning.specs.Samples.{laid, changed, three, sample, hits, e80, e81, eA3, opened}

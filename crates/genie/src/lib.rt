@@ -25,7 +25,7 @@ pub extern "C" fn genie_check(
     system_disk: bool,
     fault_slot: &mut usize,
 ) -> u8
-    ensures { λ r. ⌜ (r, now («fault_slot» .exit)) ≡ exportedCheck (geometry blocks units start open_code system_disk) (now (image .entry)) ⌝ }
+    ensures { λ r. ⌜ (r, now («fault_slot» .exit)) ≡ exportedCheck (geometry blocks units start open_code «system_disk») (now (image .entry)) ⌝ }
 {
     let g = codec::geometry(blocks, units, start, open_code, system_disk);
     let f = calls::check(image, g);
@@ -47,7 +47,7 @@ pub extern "C" fn genie_look_up(
     fault_slot: &mut usize,
 ) -> u8
     ensures { λ r. ⌜ (r, now («fault_slot» .exit), now (slot .exit), now (compared .exit))
-        ≡ exportedLookUp (geometry blocks units start open_code system_disk) (now (image .entry)) (now (name .entry)) ⌝ }
+        ≡ exportedLookUp (geometry blocks units start open_code «system_disk») (now (image .entry)) (now (name .entry)) ⌝ }
 {
     let g = codec::geometry(blocks, units, start, open_code, system_disk);
     let l = calls::look_up(image, g, name);
@@ -73,7 +73,8 @@ pub extern "C" fn genie_open(
     fault_slot: &mut usize,
 ) -> u8
     ensures { λ r. ⌜ (r, now («fault_slot» .exit), now (handle .exit))
-        ≡ exportedOpen (geometry blocks units start open_code system_disk) (now (image .entry)) (now (name .entry)) length checking code (now (handle .entry)) ⌝ }
+        ≡ exportedOpen (geometry blocks units start open_code «system_disk») (now (image .entry)) (now (name .entry)) length checking code
+        (now (handle .entry)) ⌝ }
 {
     let g = codec::geometry(blocks, units, start, open_code, system_disk);
     if handle.len() < codec::HANDLE_BYTES {
@@ -106,7 +107,7 @@ pub extern "C" fn genie_create(
     fault_slot: &mut usize,
 ) -> u8
     ensures { λ r. ⌜ (r, now («fault_slot» .exit), now (old .exit), now (handle .exit), now (image .exit))
-        ≡ exportedCreate (geometry blocks units start open_code system_disk) (now (image .entry)) (now (name .entry))
+        ≡ exportedCreate (geometry blocks units start open_code «system_disk») (now (image .entry)) (now (name .entry))
         (newFile day month year length main worker) checking (now (handle .entry)) ⌝ }
 {
     let g = codec::geometry(blocks, units, start, open_code, system_disk);
@@ -142,7 +143,7 @@ pub extern "C" fn genie_read_record(
     fault_slot: &mut usize,
 ) -> u8
     ensures { λ r. ⌜ (r, now («fault_slot» .exit), now (handle .exit), now (buffer .exit))
-        ≡ exportedReadRecord (geometry blocks units start open_code system_disk) (now (image .entry)) (now (handle .entry)) (now (buffer .entry)) ⌝ }
+        ≡ exportedReadRecord (geometry blocks units start open_code «system_disk») (now (image .entry)) (now (handle .entry)) (now (buffer .entry)) ⌝ }
 {
     let g = codec::geometry(blocks, units, start, open_code, system_disk);
     if handle.len() < codec::HANDLE_BYTES {
@@ -173,7 +174,7 @@ pub extern "C" fn genie_read_sector(
     fault_slot: &mut usize,
 ) -> u8
     ensures { λ r. ⌜ (r, now («fault_slot» .exit), now (from .exit), now (to .exit))
-        ≡ exportedReadSector (geometry blocks units start open_code system_disk) (now (image .entry)) (now (handle .entry)) k ⌝ }
+        ≡ exportedReadSector (geometry blocks units start open_code «system_disk») (now (image .entry)) (now (handle .entry)) k ⌝ }
 {
     let g = codec::geometry(blocks, units, start, open_code, system_disk);
     if handle.len() < codec::HANDLE_BYTES {
@@ -203,7 +204,8 @@ pub extern "C" fn genie_write_record(
     fault_slot: &mut usize,
 ) -> u8
     ensures { λ r. ⌜ (r, now («fault_slot» .exit), now (handle .exit), now (image .exit))
-        ≡ exportedWriteRecord (geometry blocks units start open_code system_disk) (now (image .entry)) (now (handle .entry)) sequential (now (buffer .entry)) ⌝ }
+        ≡ exportedWriteRecord (geometry blocks units start open_code «system_disk») (now (image .entry)) (now (handle .entry)) sequential
+        (now (buffer .entry)) ⌝ }
 {
     let g = codec::geometry(blocks, units, start, open_code, system_disk);
     if handle.len() < codec::HANDLE_BYTES {
@@ -233,7 +235,7 @@ pub extern "C" fn genie_allot(
     fault_slot: &mut usize,
 ) -> u8
     ensures { λ r. ⌜ (r, now («fault_slot» .exit), now (image .exit))
-        ≡ exportedAllot (geometry blocks units start open_code system_disk) (now (image .entry)) (now (handle .entry)) k ⌝ }
+        ≡ exportedAllot (geometry blocks units start open_code «system_disk») (now (image .entry)) (now (handle .entry)) k ⌝ }
 {
     let g = codec::geometry(blocks, units, start, open_code, system_disk);
     if handle.len() < codec::HANDLE_BYTES {
@@ -257,7 +259,7 @@ pub extern "C" fn genie_trim(
     fault_slot: &mut usize,
 ) -> u8
     ensures { λ r. ⌜ (r, now («fault_slot» .exit), now (image .exit))
-        ≡ exportedTrim (geometry blocks units start open_code system_disk) (now (image .entry)) (now (handle .entry)) ⌝ }
+        ≡ exportedTrim (geometry blocks units start open_code «system_disk») (now (image .entry)) (now (handle .entry)) ⌝ }
 {
     let g = codec::geometry(blocks, units, start, open_code, system_disk);
     if handle.len() < codec::HANDLE_BYTES {
@@ -281,7 +283,7 @@ pub extern "C" fn genie_kill(
     fault_slot: &mut usize,
 ) -> u8
     ensures { λ r. ⌜ (r, now («fault_slot» .exit), now (image .exit))
-        ≡ exportedKill (geometry blocks units start open_code system_disk) (now (image .entry)) (now (handle .entry)) ⌝ }
+        ≡ exportedKill (geometry blocks units start open_code «system_disk») (now (image .entry)) (now (handle .entry)) ⌝ }
 {
     let g = codec::geometry(blocks, units, start, open_code, system_disk);
     if handle.len() < codec::HANDLE_BYTES {
@@ -307,7 +309,7 @@ pub extern "C" fn genie_bring_back(
     fault_slot: &mut usize,
 ) -> u8
     ensures { λ r. ⌜ (r, now («fault_slot» .exit), now (slots .exit), now (granules .exit), now (image .exit))
-        ≡ exportedBringBack (geometry blocks units start open_code system_disk) (now (image .entry)) slot ⌝ }
+        ≡ exportedBringBack (geometry blocks units start open_code «system_disk») (now (image .entry)) slot ⌝ }
 {
     let g = codec::geometry(blocks, units, start, open_code, system_disk);
     let b = calls::bring_back(image, g, slot);
@@ -333,7 +335,7 @@ pub extern "C" fn genie_list(
     fault_slot: &mut usize,
 ) -> u8
     ensures { λ r. ⌜ (r, now («fault_slot» .exit), now (size .exit), now (granules .exit), now (more .exit), now (name .exit))
-        ≡ exportedList (geometry blocks units start open_code system_disk) (now (image .entry)) number (now (name .entry)) ⌝ }
+        ≡ exportedList (geometry blocks units start open_code «system_disk») (now (image .entry)) number (now (name .entry)) ⌝ }
 {
     let g = codec::geometry(blocks, units, start, open_code, system_disk);
     if name.len() < codec::NAME_BYTES {
@@ -369,7 +371,7 @@ pub extern "C" fn genie_count(
     fault_slot: &mut usize,
 ) -> u8
     ensures { λ r. ⌜ (r, now («fault_slot» .exit), now (files .exit), now (free .exit))
-        ≡ exportedCount (geometry blocks units start open_code system_disk) (now (image .entry)) ⌝ }
+        ≡ exportedCount (geometry blocks units start open_code «system_disk») (now (image .entry)) ⌝ }
 {
     let g = codec::geometry(blocks, units, start, open_code, system_disk);
     let c = calls::counts(image, g);
@@ -390,7 +392,7 @@ pub extern "C" fn genie_free(
     free: &mut usize,
     longest: &mut usize,
 ) -> u8
-    ensures { λ r. ⌜ (r, now (free .exit), now (longest .exit)) ≡ exportedFree (geometry blocks units start open_code system_disk) (now (image .entry)) ⌝ }
+    ensures { λ r. ⌜ (r, now (free .exit), now (longest .exit)) ≡ exportedFree (geometry blocks units start open_code «system_disk») (now (image .entry)) ⌝ }
 {
     let g = codec::geometry(blocks, units, start, open_code, system_disk);
     let s = calls::free_space(image, g);
@@ -422,8 +424,8 @@ pub extern "C" fn genie_compare(
     fault_slot: &mut usize,
 ) -> u8
     ensures { λ r. ⌜ (r, now («fault_slot» .exit), now (image .exit), now (kind .exit), now (position .exit), now (flags .exit), now (name .exit))
-        ≡ exportedCompare (geometry blocks units start open_code system_disk) (now (first .entry)) (geometry blocks2 units2 start2 open_code2 system_disk2) (now
-        (second .entry)) number (now (name .entry)) ⌝ }
+        ≡ exportedCompare (geometry blocks units start open_code «system_disk») (now (first .entry))
+        (geometry blocks2 units2 start2 open_code2 «system_disk2») (now (second .entry)) number (now (name .entry)) ⌝ }
 {
     let g = codec::geometry(blocks, units, start, open_code, system_disk);
     let h = codec::geometry(blocks2, units2, start2, open_code2, system_disk2);
