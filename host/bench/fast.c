@@ -424,7 +424,8 @@ static size_t free_slot(const uint8_t *image, const struct disk *d, size_t from)
 {
     const uint8_t *const hit = hit_of(image, d);
     for (size_t row = from / 32; row < 8; row++) {
-        const size_t kept = d->system ? (row < 4 ? 8 : 0) : (row < 1 ? 2 : 0), begun = row == from / 32 ? from % 32 : 0, s = begun > kept ? begun : kept;
+        const size_t kept = d->system ? (row < 4 ? 8 : 0) : (row < 1 ? 2 : 0);
+        const size_t begun = row == from / 32 ? from % 32 : 0, s = begun > kept ? begun : kept;
         if (s >= d->columns) continue;
         const uint8_t *const at = memchr(hit + 32 * row + s, 0, d->columns - s);
         if (at) return (size_t)(at - hit);
@@ -947,8 +948,8 @@ static size_t parting(const uint8_t *image, const struct disk *d, const uint8_t 
 }
 
 uint8_t FAST(compare)(const uint8_t *first, size_t first_len, GEO, const uint8_t *second, size_t second_len, size_t blocks2, size_t units2, size_t start2,
-                      uint16_t open_code2, bool system_disk2, size_t number, uint8_t *name, size_t name_len, size_t *image, size_t *kind, size_t *position, size_t *flags,
-                      size_t *fault_slot)
+                      uint16_t open_code2, bool system_disk2, size_t number, uint8_t *name, size_t name_len, size_t *image,
+                      size_t *kind, size_t *position, size_t *flags, size_t *fault_slot)
 {
     struct disk d, d2;
     const uint8_t *ours[MAX_SLOTS], *theirs[MAX_SLOTS];

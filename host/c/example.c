@@ -9,7 +9,10 @@
 /* The largest disk: 192 blocks of 8 units, the directory of 10 sectors in its middle. */
 enum { BLOCKS = 192, UNITS = 8, START = 3840, DIRECTORY_SECTORS = 10, OPEN_CODE = 0x9642 };
 enum { IMAGE_BYTES = BLOCKS * UNITS * GENIE_GRANULE_BYTES };
-#define DISK image, (size_t)IMAGE_BYTES, BLOCKS, UNITS, START, OPEN_CODE, true /* a system disk */
+#define SYSTEM_DISK BLOCKS, UNITS, START, OPEN_CODE, true
+#define DISK image, (size_t)IMAGE_BYTES, SYSTEM_DISK
+#define BEFORE before, (size_t)IMAGE_BYTES, SYSTEM_DISK
+#define AS_DATA_DISK image, (size_t)IMAGE_BYTES, BLOCKS, UNITS, START, OPEN_CODE, false
 
 static uint8_t *image;
 static int wrong;
@@ -60,7 +63,8 @@ int main(void)
     make_disk();
     uint8_t answer = genie_check(DISK, &fault);
     step("check an empty disk of 1,966,080 bytes: no slot is at fault", answer, GENIE_DONE, fault == GENIE_NO_SLOT);
-    step("check it with a wrong number of blocks", genie_check(image, IMAGE_BYTES, BLOCKS - 1, UNITS, START, OPEN_CODE, true, &fault), GENIE_GEOMETRY, 1);
+    answer = genie_check(image, IMAGE_BYTES, BLOCKS - 1, UNITS, START, OPEN_CODE, true, &fault);
+    step("check it with a wrong number of blocks", answer, GENIE_GEOMETRY, 1);
     answer = genie_count(DISK, &files, &left, &fault);
     step("count: no file, 1,533 granules free", answer, GENIE_DONE, files == 0 && left == BLOCKS * UNITS - 3);
     answer = genie_free(DISK, &left, &longest);
@@ -118,10 +122,10 @@ int main(void)
     answer = genie_allot(DISK, handle, sizeof handle, 7679, &fault);
     step("allot it the whole disk: more than is free", answer, GENIE_DISK_FULL, 1);
 
-    answer = genie_compare(before, IMAGE_BYTES, BLOCKS, UNITS, START, OPEN_CODE, true, DISK, 0, told, sizeof told, &which, &kind, &position, &flags, &fault);
+    answer = genie_compare(BEFORE, DISK, 0, told, sizeof told, &which, &kind, &position, &flags, &fault);
     step("compare with the disk before: PULS01/DAT from byte 0 on, and its size", answer, GENIE_DONE,
          kind == GENIE_UNLIKE && position == 0 && flags == (GENIE_SIZE_DIFFERS | GENIE_CONTENTS_DIFFER) && !memcmp(told, name, sizeof told));
-    answer = genie_compare(before, IMAGE_BYTES, BLOCKS, UNITS, START, OPEN_CODE, true, DISK, 1, told, sizeof told, &which, &kind, &position, &flags, &fault);
+    answer = genie_compare(BEFORE, DISK, 1, told, sizeof told, &which, &kind, &position, &flags, &fault);
     step("compare on: no more", answer, GENIE_DONE, kind == GENIE_NO_MORE && which == 0 && position == 0 && flags == 0);
 
     answer = genie_kill(DISK, handle, sizeof handle, &fault);
@@ -134,6 +138,12 @@ int main(void)
     step("bring it back once more: its slot is in use", answer, GENIE_SLOT_IN_USE, slots == 0 && granules == 0);
     answer = genie_kill(DISK, handle, sizeof handle, &fault);
     step("kill it again: its handle is good once more", answer, GENIE_DONE, 1);
+    answer = genie_create(AS_DATA_DISK, name, GENIE_NAME_BYTES, 9, 10, 3, 256, OPEN_CODE, OPEN_CODE, true, &old, handle, sizeof handle, &fault);
+    step("create it as on a data disk: slot 02H, the first that is not kept", answer, GENIE_DONE, old == 0 && handle[0] == 0x02);
+    answer = genie_check(DISK, &fault);
+    step("check it as a system disk", answer, GENIE_DONE, fault == GENIE_NO_SLOT);
+    answer = genie_kill(DISK, handle, sizeof handle, &fault);
+    step("kill it there", answer, GENIE_DONE, 1);
     answer = genie_count(DISK, &files, &left, &fault);
     step("count: no file, 1,533 granules free", answer, GENIE_DONE, files == 0 && left == BLOCKS * UNITS - 3);
     image[START * GENIE_SECTOR_BYTES + GENIE_SECTOR_BYTES + 0x80] = 0xA2; /* slot 80H is not in use */
@@ -141,7 +151,7 @@ int main(void)
     step("check after a byte of the HIT was damaged: slot 80H is at fault", answer, GENIE_FAULT_HIT, fault == 0x80);
     answer = genie_free(DISK, &left, &longest);
     step("free space is told all the same", answer, GENIE_DONE, left == BLOCKS * UNITS - 3 && longest > 0);
-    answer = genie_compare(before, IMAGE_BYTES, BLOCKS, UNITS, START, OPEN_CODE, true, DISK, 0, told, sizeof told, &which, &kind, &position, &flags, &fault);
+    answer = genie_compare(BEFORE, DISK, 0, told, sizeof told, &which, &kind, &position, &flags, &fault);
     step("compare with it: the second image is refused, by that slot", answer, GENIE_FAULT_HIT, which == 2 && kind == GENIE_NO_MORE && fault == 0x80);
     image[START * GENIE_SECTOR_BYTES + GENIE_SECTOR_BYTES + 0x80] = 0;
     image[START * GENIE_SECTOR_BYTES + START / 5 / UNITS] = 0;

@@ -17,8 +17,9 @@
  *   start                 the directory's first sector, a multiple of 5, with at least 10 sectors from there to the end of the disk.
  *   open_code             the 16-bit code that stands for "no password".
  *   system_disk           true: slots 32 x row + s with row 0 to 3 and s 0 to 7 are kept for system files, and no call gives one to a file.
- *                         false, a data disk: only slots 00H and 01H are kept, so that a directory of 30 sectors takes 222 files. Nothing on a disk
- *                         says which it is; only what genie_create and a growing file find free hangs on it, and no refusal but 8.
+ *                         false, a data disk: only slots 00H and 01H are kept, so that a directory of 30 sectors takes 222 files.
+ *                         Nothing on a disk says which it is; only what genie_create and a growing file find free hangs on it, and no
+ *                         refusal but 8.
  *   name, name_len        11 bytes: name of 1 to 8, then type of 0 to 3, each padded right with 20H. Allowed bytes: 30H to 39H, 41H to 5DH.
  *                         A name that comes in must be exactly 11 bytes long.
  *   handle, handle_len    at least GENIE_HANDLE_BYTES bytes, of which only the first 19 are used; const where the call leaves them alone:
@@ -104,8 +105,8 @@ uint8_t genie_check(const uint8_t *image, size_t image_len, size_t blocks, size_
 
 /* Look up: the slot of the file's first entry in *slot; in *compared how many entries were compared, those whose HIT byte is the name's hash, by
  * rising slot number, the found one included. Under refusal 4 *compared counts them all. Refusals 1, 21 to 30 with *fault_slot, 3, 4. */
-uint8_t genie_look_up(const uint8_t *image, size_t image_len, size_t blocks, size_t units, size_t start, uint16_t open_code, bool system_disk,
-                      const uint8_t *name, size_t name_len, size_t *slot, size_t *compared, size_t *fault_slot);
+uint8_t genie_look_up(const uint8_t *image, size_t image_len, size_t blocks, size_t units, size_t start, uint16_t open_code,
+                      bool system_disk, const uint8_t *name, size_t name_len, size_t *slot, size_t *compared, size_t *fault_slot);
 
 /* Open: makes a handle with position 0 and the record length given (1 to 256). Its level is 0 if checking is off, the file's main code is
  * open_code, or code is the main code; the file's stored level if code is the worker code only. Refusals 1, 21 to 30 with *fault_slot, 12, 3, 4, 5. */
@@ -123,20 +124,21 @@ uint8_t genie_create(uint8_t *image, size_t image_len, size_t blocks, size_t uni
 
 /* Read record: the file's bytes from the handle's position, as many as its record length, go to the start of the buffer; the rest of the buffer is
  * untouched; the handle's position advances by the record length. Refusals 1, 21 to 30 with *fault_slot, 12, 7, 6, 10. */
-uint8_t genie_read_record(const uint8_t *image, size_t image_len, size_t blocks, size_t units, size_t start, uint16_t open_code, bool system_disk,
-                          uint8_t *handle, size_t handle_len, uint8_t *buffer, size_t buffer_len, size_t *fault_slot);
+uint8_t genie_read_record(const uint8_t *image, size_t image_len, size_t blocks, size_t units, size_t start, uint16_t open_code,
+                          bool system_disk, uint8_t *handle, size_t handle_len, uint8_t *buffer, size_t buffer_len, size_t *fault_slot);
 
 /* Read sector: where the file's sector k (0 to 7,679) lies. Its bytes are image[*from] up to, not including, image[*to]: 256 of them, or fewer in the
  * file's last sector. Nothing is copied, the position plays no part and does not move. Refusals 1, 21 to 30 with *fault_slot, 12, 7, 6, 10. */
-uint8_t genie_read_sector(const uint8_t *image, size_t image_len, size_t blocks, size_t units, size_t start, uint16_t open_code, bool system_disk,
-                          const uint8_t *handle, size_t handle_len, size_t k, size_t *from, size_t *to, size_t *fault_slot);
+uint8_t genie_read_sector(const uint8_t *image, size_t image_len, size_t blocks, size_t units, size_t start, uint16_t open_code,
+                          bool system_disk, const uint8_t *handle, size_t handle_len, size_t k, size_t *from, size_t *to, size_t *fault_slot);
 
 /* Write record: the first bytes of the buffer, as many as the handle's record length, go to the file at the handle's position, and the position
  * advances by that length. Bytes between the old size and the position become zero. Sequential: the size becomes position + length, even if smaller.
  * Not sequential (random): the larger of that and the old size. Exactly the granules that the new size lacks are taken. The file's flag B (worked
  * on) is set. Refusals 1, 21 to 30 with *fault_slot, 12, 7, 6, 11, 9, 8. */
-uint8_t genie_write_record(uint8_t *image, size_t image_len, size_t blocks, size_t units, size_t start, uint16_t open_code, bool system_disk,
-                           uint8_t *handle, size_t handle_len, bool sequential, const uint8_t *buffer, size_t buffer_len, size_t *fault_slot);
+uint8_t genie_write_record(uint8_t *image, size_t image_len, size_t blocks, size_t units, size_t start, uint16_t open_code,
+                           bool system_disk, uint8_t *handle, size_t handle_len, bool sequential, const uint8_t *buffer,
+                           size_t buffer_len, size_t *fault_slot);
 
 /* Allot: takes granules until the file owns those of its sectors 0 to k (k is 0 to 7,679); none if it does. The size does not change.
  * Refusals 1, 21 to 30 with *fault_slot, 12, 7, 6, 11, 9, 8. */
@@ -195,9 +197,9 @@ enum genie_difference {
  * owns, is no difference; a file that is a system file on either disk is compared by name only. Past the last difference the call is accepted too: *kind
  * is GENIE_NO_MORE, the name buffer is as it stood. *image is 0, or the image that is refused: 1 the first, 2 the second. Refusals 1 and 21 to 30 of
  * the first image, then of the second, then 12; *fault_slot is a slot of the image refused. */
-uint8_t genie_compare(const uint8_t *first, size_t first_len, size_t blocks, size_t units, size_t start, uint16_t open_code, bool system_disk,
-                      const uint8_t *second, size_t second_len, size_t blocks2, size_t units2, size_t start2, uint16_t open_code2, bool system_disk2,
-                      size_t number, uint8_t *name, size_t name_len,
+uint8_t genie_compare(const uint8_t *first, size_t first_len, size_t blocks, size_t units, size_t start, uint16_t open_code,
+                      bool system_disk, const uint8_t *second, size_t second_len, size_t blocks2, size_t units2, size_t start2,
+                      uint16_t open_code2, bool system_disk2, size_t number, uint8_t *name, size_t name_len,
                       size_t *image, size_t *kind, size_t *position, size_t *flags, size_t *fault_slot);
 
 #ifdef __cplusplus

@@ -328,9 +328,10 @@ uint8_t genie_free(const IMAGE, size_t *free, size_t *longest)
     return end();
 }
 
-uint8_t genie_compare(const uint8_t *first, size_t first_len, size_t blocks, size_t units, size_t start, uint16_t open_code, bool system_disk,
-                      const uint8_t *second, size_t second_len, size_t blocks2, size_t units2, size_t start2, uint16_t open_code2, bool system_disk2,
-                      size_t number, uint8_t *name, size_t name_len, size_t *image, size_t *kind, size_t *position, size_t *flags, size_t *fault_slot)
+uint8_t genie_compare(const uint8_t *first, size_t first_len, size_t blocks, size_t units, size_t start, uint16_t open_code,
+                      bool system_disk, const uint8_t *second, size_t second_len, size_t blocks2, size_t units2, size_t start2,
+                      uint16_t open_code2, bool system_disk2, size_t number, uint8_t *name, size_t name_len, size_t *image, size_t *kind,
+                      size_t *position, size_t *flags, size_t *fault_slot)
 {
     begin(COMPARE, first, first_len, blocks, units, start, open_code, system_disk);
     TAKE(second, IMAGE_MOST);

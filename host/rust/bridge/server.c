@@ -102,8 +102,8 @@ static uint8_t serve(struct wire *w, size_t out[4], size_t *fault_slot)
     case LIST:
         return genie_list(IMAGE, in[0], NAME, &out[0], &out[1], &out[2], fault_slot);
     case COMPARE:
-        return genie_compare(IMAGE, w->second, w->second_len, w->blocks2, w->units2, w->start2, (uint16_t)w->open_code2, (bool)w->system_disk2, in[0], NAME,
-                             &out[0], &out[1], &out[2], &out[3], fault_slot);
+        return genie_compare(IMAGE, w->second, w->second_len, w->blocks2, w->units2, w->start2, (uint16_t)w->open_code2,
+                             (bool)w->system_disk2, in[0], NAME, &out[0], &out[1], &out[2], &out[3], fault_slot);
     case COUNT:
         return genie_count(IMAGE, &out[0], &out[1], fault_slot);
     default:
