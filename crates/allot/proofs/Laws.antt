@@ -6,8 +6,7 @@ use Prim.Native.Nat.{ℕ, _+_, _/_}
 use lib.Dec.{ltb}
 use borrow.Author.Tests.{ne-eqb}
 use Rattle.meaning.specs.Lists.{all}
-use Rattle.meaning.specs.Layout.{sectorNumbers}
-use Rattle.meaning.specs.Sizes
+use Rattle.meaning.specs.Layout.{granuleSectors, sectorNumbers}
 use Rattle.meaning.specs.Refusals.{first, accepted, refusal, inRange, handleRefusals, protected, cannotGrow, larger, lacking}
 use Rattle.meaning.specs.Allot.{allotRefusals, toAllot, allot}
 use Rattle.meaning.specs.declared.Geometry.{Geometry}
@@ -25,12 +24,12 @@ module _ (g : Geometry) (d : List ℕ) (h : Handle) (k : ℕ) {ranged : Bool} (r
       ∙ ap (λ (t : Bool). first (handleRefusals g d h t (protected g d 4 h ∷ cannotGrow g d (h .slot) (toAllot g d h k)))) r in
       rw (← q, ne-eqb n 0 z, y)
 
-  pub grew : {n m : ℕ} {d′ : List ℕ} {c : Refusal} → c ≡ refusal g d m → n ≡ first (handleRefusals g d h ranged (protected g d 4 h ∷ [])) → n ≡ 0 → m ≡ first (cannotGrow g d (h .slot) (lacking g d (h .slot) (k / 5 + 1)))
-      → d′ ≡ cond (accepted m) (larger g d (h .slot) (lacking g d (h .slot) (k / 5 + 1))) d → _≡_ {A = Answer × List ℕ} (record { refusal = c; handle = h }, d′) (allot g d h k)
+  pub grew : {n m w : ℕ} {d′ : List ℕ} {c : Refusal} → w ≡ granuleSectors g → c ≡ refusal g d m → n ≡ first (handleRefusals g d h ranged (protected g d 4 h ∷ [])) → n ≡ 0 → m ≡ first (cannotGrow g d (h .slot) (lacking g d (h .slot) (k / w + 1)))
+      → d′ ≡ cond (accepted m) (larger g d (h .slot) (lacking g d (h .slot) (k / w + 1))) d → _≡_ {A = Answer × List ℕ} (record { refusal = c; handle = h }, d′) (allot g d h k)
   unfolding allot
-  grew {n} {m} {d′} y e z f w =
-      let u : lacking g d (h .slot) (k / 5 + 1) ≡ toAllot g d h k = ap (λ (s : ℕ). lacking g d (h .slot) (k / s + 1)) (sym (Sizes.code-sectors g)) in
+  grew {n} {m} {w} {d′} p y e z f v =
+      let u : lacking g d (h .slot) (k / w + 1) ≡ toAllot g d h k = ap (λ (s : ℕ). lacking g d (h .slot) (k / s + 1)) p in
       let q : m ≡ first (allotRefusals g d h k)
       = f ∙ ap (λ (x : ℕ). first (cannotGrow g d (h .slot) x)) u ∙ sym (handle-then g d h ranged (protected g d 4 h ∷ []) (cannotGrow g d (h .slot) (toAllot g d h k)) refl e z)
       ∙ ap (λ (t : Bool). first (handleRefusals g d h t (protected g d 4 h ∷ cannotGrow g d (h .slot) (toAllot g d h k)))) r in
-      rw (← q, w ∙ ap (λ (x : ℕ). cond (accepted m) (larger g d (h .slot) x) d) u, y)
+      rw (← q, v ∙ ap (λ (x : ℕ). cond (accepted m) (larger g d (h .slot) x) d) u, y)

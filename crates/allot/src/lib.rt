@@ -20,7 +20,8 @@ pub fn allot_checked(image: &mut [u8], g: Geometry, h: Handle, k: usize, checked
             handle: h,
         };
     }
-    let number = growth::grow(image, g, h.slot, k / layout::GRANULE_SECTORS + 1);
+    let w = layout::granule_sectors(g);
+    let number = growth::grow(image, g, h.slot, k / w + 1);
     Answer {
         refusal: refusal::carried(checked, number),
         handle: h,

@@ -232,7 +232,7 @@ fn allots(image: &mut [u8; 30720], h: Handle) {
         image,
         small(),
         h,
-        layout::SECTOR_NUMBERS,
+        layout::sector_numbers(small()),
         b"allot, sector 7,680",
         12,
     );
@@ -248,7 +248,7 @@ fn allots_more(image: &mut [u8; 30720], h: Handle) {
         image,
         small(),
         h,
-        layout::SECTOR_NUMBERS - 1,
+        layout::sector_numbers(small()) - 1,
         b"allot, sector 7,679",
         9,
     );

@@ -86,12 +86,12 @@ module _ (g : Geometry) (d : List ℕ) where
   unfolding lengthHolds
   length-odd {x} e h n = sym (all-no (ap (has fives) (sym e) ∙ five-at x h ∙ ne-eqb _ _ n) _)
 
-  pub length-rest : {x w : ℕ} → x ≡ aboveTen g d → x ≤ 20 → x % 5 ≡ 0 → w ≡ granules g → leb (g .start + (10 + x)) (w * 5) ≡ lengthHolds g d
+  pub length-rest : {x n w : ℕ} → x ≡ aboveTen g d → x ≤ 20 → x % 5 ≡ 0 → n ≡ granules g → w ≡ granuleSectors g → leb (g .start + (10 + x)) (n * w) ≡ lengthHolds g d
   unfolding lengthHolds directorySectors
-  length-rest {x} {w} e h n q =
-      ap (λ (s : ℕ). leb (g .start + (10 + x)) (w * s)) (sym (Sizes.code-sectors g))
-      ∙ ap (λ (k : ℕ). leb (g .start + (10 + k)) (w * granuleSectors g)) e ∙ ap (λ (k : ℕ). leb (g .start + (10 + aboveTen g d)) (k * granuleSectors g)) q
-      ∙ sym (all-yes (ap (has fives) (sym e) ∙ five-at x h ∙ eq-eqb _ _ n) _ ∙ all-one _)
+  length-rest {x} {n} {w} e h f q p =
+      ap (λ (s : ℕ). leb (g .start + (10 + x)) (n * s)) p
+      ∙ ap (λ (k : ℕ). leb (g .start + (10 + k)) (n * granuleSectors g)) e ∙ ap (λ (k : ℕ). leb (g .start + (10 + aboveTen g d)) (k * granuleSectors g)) q
+      ∙ sym (all-yes (ap (has fives) (sym e) ∙ five-at x h ∙ eq-eqb _ _ f) _ ∙ all-one _)
 
 -- Slot after slot -------------------------------------------------------------------------------------------------------------
 

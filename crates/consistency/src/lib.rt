@@ -22,7 +22,7 @@ pub fn length_holds(image: &[u8], g: Geometry) -> bool
     if above % 5 != 0 {
         return false;
     }
-    g.start + (10 + above) <= layout::granules(g) * layout::GRANULE_SECTORS
+    g.start + (10 + above) <= layout::granules(g) * layout::granule_sectors(g)
 }
 
 // The slots of one sector of the directory, which stand below each other in a column of the HIT.
@@ -78,7 +78,7 @@ fn directory_from(image: &[u8], g: Geometry) -> usize
     requires { ⌜ Room g (now image) ⌝ }
     ensures { λ r. ⌜ Spans (g .units) (g .start / granuleSectors g) (roundUp (directorySectors g (now (image .entry))) (granuleSectors g)) r ⌝ }
 {
-    let block = g.start / layout::GRANULE_SECTORS / g.units;
+    let block = g.start / layout::granule_sectors(g) / g.units;
     if block < marks::LAST_EIGHT {
         block
     } else {
@@ -93,7 +93,7 @@ fn directory_bits(image: &[u8], g: Geometry, from: usize) -> u64
 {
     marks::directory_bits(
         g.units,
-        g.start / layout::GRANULE_SECTORS,
+        g.start / layout::granule_sectors(g),
         layout::directory_granules(image, g),
         from,
     )

@@ -160,7 +160,7 @@ fn after_slots(image: &[u8], g: Geometry) -> Refusal
     requires { ⌜ Room g (now image) ⌝ }
     ensures { λ r. ⌜ r ≡ afterSlots g (now (image .entry)) ⌝ }
 {
-    let a = g.start / layout::GRANULE_SECTORS;
+    let a = g.start / layout::granule_sectors(g);
     let n = layout::directory_granules(image, g);
     if !kinds::all_taken(image, g, a, n) {
         return refusal::unplaced(30);

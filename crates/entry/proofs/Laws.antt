@@ -51,6 +51,6 @@ module _ (g : Geometry) (d : List ℕ) (s : ℕ) where
   unfolding sizeHolds countHolds
   size-bad w t = sym (all-no (is-no w t) _)
 
-  pub size-good : {f : Bool} {k n : ℕ} → f ≡ countHolds (sectorCount g d s) (endByte g d s) → not f ≡ false → k ≡ sizeOf g d s → n ≡ length (owned g d s) → leb k (1280 * n) ≡ sizeHolds g d s
+  pub size-good : {f : Bool} {k w n : ℕ} → f ≡ countHolds (sectorCount g d s) (endByte g d s) → not f ≡ false → k ≡ sizeOf g d s → w ≡ granuleBytes g → n ≡ length (owned g d s) → leb k (w * n) ≡ sizeHolds g d s
   unfolding sizeHolds countHolds
-  size-good {f} {k} {n} w t p q = ap (λ (z : ℕ). leb k (z * n)) (sym (Sizes.code-bytes g)) ∙ ap (λ (z : ℕ). leb z (granuleBytes g * n)) p ∙ ap (λ (z : ℕ). leb (sizeOf g d s) (granuleBytes g * z)) q ∙ sym (all-yes (is-yes w t) _ ∙ all-one _)
+  size-good {f} {k} {w} {n} u t p v q = ap (λ (z : ℕ). leb k (z * n)) v ∙ ap (λ (z : ℕ). leb z (granuleBytes g * n)) p ∙ ap (λ (z : ℕ). leb (sizeOf g d s) (granuleBytes g * z)) q ∙ sym (all-yes (is-yes u t) _ ∙ all-one _)

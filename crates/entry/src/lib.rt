@@ -68,5 +68,5 @@ pub fn size_holds(image: &[u8], g: Geometry, s: usize, granules: usize) -> bool
     if !count_holds(image, g, s) {
         return false;
     }
-    layout::size_of(image, g, s) <= layout::GRANULE_BYTES * granules
+    layout::size_of(image, g, s) <= layout::granule_bytes(g) * granules
 }

@@ -20,7 +20,8 @@ pub fn granules_for(g: Geometry, n: usize) -> usize
     requires { ⌜ n ≤ 33554432 ⌝ }
     ensures { λ r. ⌜ r ≡ granulesFor g n ⌝ }
 {
-    (n + (layout::GRANULE_BYTES - 1)) / layout::GRANULE_BYTES
+    let w = layout::granule_bytes(g);
+    (n + (w - 1)) / w
 }
 
 // How many granules the runs of an entry hold.

@@ -23,7 +23,7 @@ pub fn good_length(len: usize) -> bool
 pub fn in_range(g: Geometry, h: Handle) -> bool
     ensures { λ r. ⌜ r ≡ inRange g h ⌝ }
 {
-    if layout::HIGHEST < h.at {
+    if layout::highest(g) < h.at {
         return false;
     }
     if !good_length(h.len) {

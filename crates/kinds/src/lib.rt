@@ -565,7 +565,7 @@ pub fn directory_fault(image: &[u8], g: Geometry, s: usize) -> bool
     if entry::flag(image, g, p, 6) {
         return false;
     }
-    let b = g.start / layout::GRANULE_SECTORS;
+    let b = g.start / layout::granule_sectors(g);
     let m = layout::directory_granules(image, g);
     entry_in(image, g, s, b, m)
 }

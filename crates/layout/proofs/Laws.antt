@@ -1,16 +1,16 @@
 -- One step of each recursion at the code's numbers, and two bounds.
 use mathlib.Core.Path.{_≡_, refl, sym, ap, _∙_}
 use mathlib.Core.List.{List, map}
-use mathlib.Core.Bool.{true, cond, and-true}
+use mathlib.Core.Bool.{true, false, cond, and-true}
 use Prim.Native.Nat.{ℕ, zero, suc, _+_, _-_, _*_, _/_, _%_, _^_, _≤_, _<_}
 use native.Mathlib.Omega.{arith}
-use native.Mathlib.Nat.{add-zero, mul-le-mul, div-lt-iff-lt-mul, div-one, div-div-eq-div-mul, pow-succ'}
+use native.Mathlib.Nat.{add-zero, mul-le-mul, mul-le-mul-right, div-lt-iff-lt-mul, div-one, div-div-eq-div-mul, pow-succ'}
 use lib.ListN.{length, getD, take, drop}
 use lib.Seq.{drop-cons}
 use lib.Dec.{eqb, leb}
-use borrow.Author.Tests.{le-leb, eq-eqb, eqb-true}
+use borrow.Author.Tests.{le-leb, lt-leb, eq-eqb, ne-eqb, eqb-true}
 use Rattle.meaning.specs.Lists.{same, all, count}
-use Rattle.meaning.specs.Layout.{granules, fitsGeometry, field, entryAt, granuleBytes, granuleSectors, sectors, mostBlocks, mostUnits}
+use Rattle.meaning.specs.Layout.{granules, fitsGeometry, field, entryAt, granuleBytes, granuleSectors, sectors, mostBlocks, mostUnits, mostGranules}
 use Rattle.meaning.specs.Sizes
 use Rattle.meaning.specs.Bits.{digit}
 use Rattle.meaning.specs.Entries.{runsFrom, block, nameOf}
@@ -71,8 +71,20 @@ pub well-length : (n : List ℕ) → wellFormed n ≡ true → length n ≡ 11
 unfolding wellFormed
 well-length n h = eqb-true _ _ (all-at _ h 0)
 
--- the geometry's first six tests passed, with the code's numbers
-pub fits-rest : (g : Geometry) (d : List ℕ) → 1 ≤ g .blocks → g .blocks ≤ mostBlocks → 1 ≤ g .units → g .units ≤ mostUnits → g .start % 5 ≡ 0 → length d ≡ granules g * 1280
-    → fitsGeometry g d ≡ leb (g .start + 10) (granules g * 5)
-unfolding fitsGeometry all
-fits-rest g d a b c e f h = simp (Sizes.code-sectors, Sizes.code-bytes, le-leb _ _ a, le-leb _ _ b, le-leb _ _ c, le-leb _ _ e, eq-eqb _ _ f, eq-eqb _ _ h, and-true)
+-- The geometry's tests where those of blocks and units passed, over numbers that are the geometry's own.
+module _ (g : Geometry) (d : List ℕ) (a : 1 ≤ g .blocks) (b : g .blocks ≤ mostBlocks) (c : 1 ≤ g .units) (e : g .units ≤ mostUnits) {w : ℕ} (p : w ≡ granuleSectors g) where
+  pub fits-start : (g .start % w ≡ 0 → ⊥) → false ≡ fitsGeometry g d
+  unfolding fitsGeometry all
+  fits-start f = simp (sym p, le-leb _ _ a, le-leb _ _ b, le-leb _ _ c, le-leb _ _ e, ne-eqb _ _ f)
+
+  module _ (f : g .start % w ≡ 0) {n v : ℕ} (q : n ≡ granules g) (r : v ≡ granuleBytes g) where
+    pub fits-length : (length d ≡ n * v → ⊥) → false ≡ fitsGeometry g d
+    unfolding fitsGeometry all
+    fits-length h = simp (sym p, sym q, sym r, le-leb _ _ a, le-leb _ _ b, le-leb _ _ c, le-leb _ _ e, eq-eqb _ _ f, ne-eqb _ _ h)
+
+    pub fits-rest : length d ≡ n * v → leb (g .start + 10) (n * w) ≡ fitsGeometry g d
+    unfolding fitsGeometry all
+    fits-rest h = simp (sym p, sym q, sym r, le-leb _ _ a, le-leb _ _ b, le-leb _ _ c, le-leb _ _ e, eq-eqb _ _ f, eq-eqb _ _ h, and-true)
+
+    pub fits-beyond : length d ≡ n * v → n ≤ mostGranules → mostGranules * w < g .start → false ≡ fitsGeometry g d
+    fits-beyond h k l = sym (lt-leb (g .start + 10) (n * w) (let z = mul-le-mul-right w k in omega arith)) ∙ fits-rest h

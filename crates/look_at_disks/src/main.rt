@@ -368,7 +368,7 @@ fn records(image: &[u8], h: Handle) {
         image,
         small(),
         b"record at the last position",
-        placed(h, layout::HIGHEST),
+        placed(h, layout::highest(small())),
     );
     read_record(image, small(), b"record out of range", placed(h, 1966081));
     read_record(image, small(), b"record at level 8", levelled(h, 8));
@@ -394,9 +394,15 @@ fn sectors(image: &[u8], h: Handle) {
         small(),
         b"sector 7679",
         h,
-        layout::SECTOR_NUMBERS - 1,
+        layout::sector_numbers(small()) - 1,
     );
-    read_sector(image, small(), b"sector 7680", h, layout::SECTOR_NUMBERS);
+    read_sector(
+        image,
+        small(),
+        b"sector 7680",
+        h,
+        layout::sector_numbers(small()),
+    );
     read_sector(image, small(), b"sector 0, slot of LEER", slotted(h, 3), 0);
 }
 

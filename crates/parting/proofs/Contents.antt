@@ -2,7 +2,7 @@
 use mathlib.Core.Path.{_≡_, refl, sym, ap, _∙_}
 use mathlib.Core.Logic.{⊎-elim}
 use mathlib.Core.List.{List, _∷_, _++_}
-use Prim.Native.Nat.{ℕ, suc, _+_, _-_, _%_, _≤_, _<_}
+use Prim.Native.Nat.{ℕ, suc, _+_, _-_, _≤_, _<_}
 use native.Mathlib.Omega.{arith}
 use native.Mathlib.Nat.{zero-add, add-zero}
 use native.Mathlib.Numerals.{add-one}
@@ -15,7 +15,7 @@ use Rattle.meaning.specs.declared.Geometry.{Geometry}
 use Rattle.layout.proofs.Lists.{and-l, le-or-lt}
 use Rattle.seek.specs.Seek.{Used}
 use Rattle.read.specs.Part.{File, Owned, InGranule}
-use Rattle.read.proofs.Laws.{in-part, place-fits, fetch-part, fetch-append, length-fetch}
+use Rattle.read.proofs.Laws.{place-fits, fetch-part, fetch-append, length-fetch}
 use Rattle.differences.specs.Compare.{parting}
 use Rattle.differences.specs.Parting.{parting-none, parting-nothing, parting-on, parting-here, parting-past, parting-in}
 use Rattle.rising.specs.Whole.{Whole, Starts}
@@ -55,15 +55,12 @@ module _ (g : Geometry) (d : List ℕ) (s : ℕ) (w : Whole g d) (st : Starts g 
   pub used : Used g d s
   used = record { slot = st .slot; used = and-l (inUse g d s) _ (st .first′) }
 
-  module _ (i n : ℕ) (b : 1 ≤ n) (x : i % 1280 + n ≤ 1280) (y : i + n ≤ sizeOf g d s) (z : i + n ≤ 16777215) where
+  module _ (i n : ℕ) (b : 1 ≤ n) (inside : InGranule g i n) (y : i + n ≤ sizeOf g d s) (z : i + n ≤ 16777215) where
     file : File g d s
     file = record { sound = w .sound; used = used }
 
     held : Owned g d s i n
     held = let q = w .sound .size s (st .slot) (st .first′) in record { some = b; owned = omega arith; high = z }
-
-    inside : InGranule g i n
-    inside = in-part x
 
     pub granule-fits : place g d s i + n ≤ length d
     granule-fits = place-fits g d s i n file held inside
@@ -73,17 +70,37 @@ module _ (g : Geometry) (d : List ℕ) (s : ℕ) (w : Whole g d) (st : Starts g 
         let q : r + n - r ≡ n = omega arith in
         ap (λ (k : ℕ). take k (drop r d)) q ∙ ap (λ (k : ℕ). take n (drop k d)) e ∙ sym (fetch-part g d s i n file held inside)
 
+-- What one turn compares: len bytes of either file from byte i on, each in one granule.
+module _ (g : Geometry) (d : List ℕ) (h : Geometry) (e : List ℕ) (s t i len : ℕ) where
+  pub record Turn : Type 0 where
+    pub fits : place g d s i + len ≤ length d
+    pub fits′ : place h e t i + len ≤ length e
+    pub part : {r : ℕ} → r ≡ place g d s i → take (r + len - r) (drop r d) ≡ fetch g d s i len
+    pub part′ : {r : ℕ} → r ≡ place h e t i → take (r + len - r) (drop r e) ≡ fetch h e t i len
+
+  pub turn : {n m end : ℕ} → Whole g d × Whole h e × Starts g d s × Starts h e t × (n ≡ sizeOf g d s) × (m ≡ sizeOf h e t) × (n < 16777216) × (m < 16777216)
+      → end ≤ n → end ≤ m → InGranule g i len × InGranule h i len × (1 ≤ len) × (len ≤ end - i) → Turn
+  turn {n} {m} {end} p a b x =
+      let k = x .3 in let o = x .2 in
+      let y : i + len ≤ sizeOf g d s = omega (arith, p .4) in let z : i + len ≤ 16777215 = omega (arith, p .6) in
+      let y′ : i + len ≤ sizeOf h e t = omega (arith, p .5) in let z′ : i + len ≤ 16777215 = omega (arith, p .7) in
+      record {
+        fits = granule-fits g d s (p .0) (p .2) i len o (x .0) y z;
+        fits′ = granule-fits h e t (p .1) (p .3) i len o (x .1) y′ z′;
+        part = part-is g d s (p .0) (p .2) i len o (x .0) y z;
+        part′ = part-is h e t (p .1) (p .3) i len o (x .1) y′ z′;
+      }
+
 -- two files are alike in the first i bytes
 module _ (g : Geometry) (d : List ℕ) (h : Geometry) (e : List ℕ) (s t n m end : ℕ) where
   pub record Matches (i : ℕ) : Type 0 where
     pub low : i ≤ end
-    pub start : i < end → i % 1280 ≡ 0
     pub rest : parting (fetch g d s 0 n) (fetch h e t 0 m) ≡ i + parting (fetch g d s i (n - i)) (fetch h e t i (m - i))
 
   pub matches-start : Matches 0
   matches-start =
       let x : n ≡ n - 0 = omega arith in let y : m ≡ m - 0 = omega arith in
-      record { low = omega arith; start = λ l. refl; rest = sym (zero-add (parting (fetch g d s 0 n) (fetch h e t 0 m))) ∙ (λ u. 0 + parting (fetch g d s 0 (x u)) (fetch h e t 0 (y u))) }
+      record { low = omega arith; rest = sym (zero-add (parting (fetch g d s 0 n) (fetch h e t 0 m))) ∙ (λ u. 0 + parting (fetch g d s 0 (x u)) (fetch h e t 0 (y u))) }
 
   module _ (i len : ℕ) (f : end ≤ n) (k : end ≤ m) (l : i + len ≤ end) {a b : List ℕ} (p : a ≡ fetch g d s i len) (q : b ≡ fetch h e t i len) where
     sized : length a ≡ len
@@ -101,14 +118,12 @@ module _ (g : Geometry) (d : List ℕ) (h : Geometry) (e : List ℕ) (s t n m en
         = ap (fetch h e t i) y ∙ fetch-append h e t i len (m - (i + len)) ∙ ap (λ (z : List ℕ). z ++ fetch h e t (i + len) (m - (i + len))) (sym q) in
         λ j. parting (u j) (v j)
 
-    pub matches-on : {c : ℕ} → c ≡ parting a b → c ≡ len → (i + len < end → len ≡ 1280) → i < end → Matches i → Matches (i + len)
-    matches-on r z g′ o k′ =
-        let u = k′ .start o in
+    pub matches-on : {c : ℕ} → c ≡ parting a b → c ≡ len → Matches i → Matches (i + len)
+    matches-on r z k′ =
         let y : i + (length a + parting (fetch g d s (i + len) (n - (i + len))) (fetch h e t (i + len) (m - (i + len)))) ≡ i + len + parting (fetch g d s (i + len) (n - (i + len))) (fetch h e t (i + len) (m - (i + len)))
         = let v = sized in omega arith in
         record {
           low = l;
-          start = λ x. let v = g′ x in omega arith;
           rest = k′ .rest
               ∙ ap (λ (x : ℕ). i + x) (cut-off ∙ parting-past a b (fetch g d s (i + len) (n - (i + len))) (fetch h e t (i + len) (m - (i + len))) (sized ∙ sym sized′) (sym r ∙ z ∙ sym sized))
               ∙ y;

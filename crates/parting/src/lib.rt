@@ -6,6 +6,7 @@ ghost use lib.ListN.{length};
 ghost use Rattle.meaning.specs.Entries.{sizeOf};
 ghost use Rattle.meaning.specs.Read.{fetch};
 ghost use Rattle.differences.specs.Compare.{parting};
+ghost use Rattle.read.specs.Part.{InGranule};
 ghost use Rattle.rising.specs.Whole.{Whole, Starts};
 
 // How many bytes at the start of two parts are alike.
@@ -23,15 +24,12 @@ fn alike(a: &[u8], b: &[u8]) -> usize
     i
 }
 
-// So many of the bytes from i up to `end` lie in the granule of byte i, which starts it.
-fn in_granule(i: usize, end: usize) -> usize
-    requires { ⌜ i < end ⌝ }
-    ensures { λ r. ⌜ (i + r ≤ end) × (1 ≤ r) × (r ≤ 1280) × (((i + r) < end) → r ≡ 1280) ⌝ }
+// How many of n bytes from byte i on lie in one granule on either disk.
+fn in_both(g: Geometry, h: Geometry, i: usize, n: usize) -> usize
+    requires { ⌜ 1 ≤ n ⌝ }
+    ensures { λ r. ⌜ InGranule g i r × InGranule h i r × (1 ≤ r) × (r ≤ n) ⌝ }
 {
-    if end - i < layout::GRANULE_BYTES {
-        return end - i;
-    }
-    layout::GRANULE_BYTES
+    read::part_of(h, i, read::part_of(g, i, n))
 }
 
 fn least(n: usize, m: usize) -> usize
@@ -43,7 +41,7 @@ fn least(n: usize, m: usize) -> usize
     m
 }
 
-// The first position where the contents of two files part, or the smaller size: granule by granule.
+// The first position where the contents of two files part, or the smaller size: by as many bytes as lie in one granule of both.
 pub fn parting_at(
     first: &[u8],
     g: Geometry,
@@ -60,7 +58,7 @@ pub fn parting_at(
     let end = least(n, m);
     let mut i = 0;
     while i < end {
-        let len = in_granule(i, end);
+        let len = in_both(g, h, i, end - i);
         let p = seek::place(first, g, s, i);
         let q = seek::place(second, h, t, i);
         let pe = p + len;

@@ -27,7 +27,7 @@ use Rattle.layout.proofs.Lists.{all-at, first-at, count-append}
 use Rattle.handle.proofs.Laws.{ownRow, passed, walks, ranges, handle-stop, handle-then}
 use Rattle.seek.proofs.Sound.{owned-low}
 use Rattle.copy.proofs.Laws.{sets-append}
-use Rattle.read.specs.Part.{File, Owned, InGranule, partOf}
+use Rattle.read.specs.Part.{File, Owned, Rest, InGranule, partOf}
 use borrow.Rule.Slice.Shared.{byByte}
 
 -- bytes whose places follow one another
@@ -48,9 +48,16 @@ map-both : (f : ℕ → ℕ) (xs ys : List ℕ) → map f (xs ++ ys) ≡ map f x
 map-both f [] ys = refl
 map-both f (x ∷ xs) ys = ap (λ (r : List ℕ). f x ∷ r) (map-both f xs ys)
 
--- in one granule, as the code's own number has it
-pub in-part : {g : Geometry} {i n : ℕ} → i % 1280 + n ≤ 1280 → InGranule g i n
-in-part h = record { inside = rw Sizes.code-bytes h }
+-- what is left of a granule lies in it, and behind it the next one starts, which holds a sector and more
+pub rest-holds : {g : Geometry} {i r n : ℕ} → Rest g i r → n ≤ r → InGranule g i n
+rest-holds h k = record { inside = omega (arith, h .is, k) }
+
+pub rest-next : {g : Geometry} {i r n : ℕ} → Rest g i r → n ≤ 256 → InGranule g (i + r) n
+rest-next {g} {i} {r} {n} h k =
+    let w = granuleBytes g in
+    let q : i + r ≡ granuleBytes g * (i / granuleBytes g + 1) + 0 = omega (arith, h .is, Sizes.split (Sizes.bytes-pos g) i .is) in
+    let e : (i + r) % granuleBytes g ≡ 0 = ap (λ (j : ℕ). j % granuleBytes g) q ∙ Sizes.at-rest _ 0 (Sizes.bytes-pos g) in
+    record { inside = omega (arith, e, k, Sizes.bytes-are g, Sizes.sectors-pos g) }
 
 module _ (g : Geometry) (d : List ℕ) where
   pub place-next : (s i t : ℕ) → i % granuleBytes g + t < granuleBytes g → place g d s (i + t) ≡ place g d s i + t

@@ -1,4 +1,5 @@
 -- Parts of a file and of an image.
+use mathlib.Core.Path.{_≡_}
 use mathlib.Core.List.{List}
 use Prim.Native.Nat.{ℕ, _+_, _-_, _*_, _%_, _≤_}
 use lib.ListN.{length, take, drop}
@@ -6,6 +7,7 @@ use Rattle.meaning.specs.Layout.{granuleBytes}
 use Rattle.meaning.specs.Chain.{owned}
 use Rattle.meaning.specs.declared.Geometry.{Geometry}
 use Rattle.meaning.specs.declared.Part.{Part}
+use Rattle.layout.specs.Granule.{mostSectors}
 use Rattle.seek.specs.Seek.{Sound, Used}
 
 pub record File (g : Geometry) (d : List ℕ) (s : ℕ) : Type 0 where
@@ -18,7 +20,13 @@ pub record Owned (g : Geometry) (d : List ℕ) (s i n : ℕ) : Type 0 where
   pub owned : i + n ≤ granuleBytes g * length (owned g d s)
   pub high : i + n ≤ 16777215
 
--- they lie in one granule, so they stand beside one another
+-- from byte i on r bytes are left of its granule
+pub record Rest (g : Geometry) (i r : ℕ) : Type 0 where
+  pub is : i % granuleBytes g + r ≡ granuleBytes g
+  pub some : 1 ≤ r
+  pub few : r ≤ 256 * mostSectors
+
+-- bytes i to i + n lie in one granule, so they stand beside one another
 pub record InGranule (g : Geometry) (i n : ℕ) : Type 0 where
   pub inside : i % granuleBytes g + n ≤ granuleBytes g
 

@@ -17,7 +17,7 @@ ghost use Rattle.meaning.specs.Read.{fetch, readRefusals, readRecord, sectorRef
 ghost use Rattle.meaning.specs.Entries.{sectorCount};
 ghost use Rattle.layout.specs.Room.{Room, Slot};
 ghost use Rattle.meaning.specs.Refusals.{first, check, inRange};
-ghost use Rattle.read.specs.Part.{File, Owned, InGranule, partOf, Lies};
+ghost use Rattle.read.specs.Part.{Rest, File, Owned, InGranule, partOf, Lies};
 
 // n bytes of the file from byte i on, all in one granule, go to the buffer at `to`: one walk along the chain, one copy.
 pub fn read_part(
@@ -36,12 +36,29 @@ pub fn read_part(
     copy::put_part(buffer, to, image, p, n);
 }
 
+// How many bytes, from byte i on, are left of its granule.
+pub fn rest_of(g: Geometry, i: usize) -> usize
+    ensures { λ r. ⌜ Rest g i r ⌝ }
+{
+    let w = layout::granule_bytes(g);
+    w - i % w
+}
+
+// How many of n bytes from byte i on lie in its granule.
+pub fn part_of(g: Geometry, i: usize, n: usize) -> usize
+    requires { ⌜ 1 ≤ n ⌝ }
+    ensures { λ r. ⌜ InGranule g i r × (1 ≤ r) × (r ≤ n) ⌝ }
+{
+    let room = rest_of(g, i);
+    if n < room { n } else { room }
+}
+
 // n bytes, at most 256, of the file from byte i on go to the buffer's start: granule by granule, so two parts at the most.
 pub fn read_bytes(image: &[u8], g: Geometry, s: usize, i: usize, n: usize, buffer: &mut [u8])
     requires { ⌜ File g (now image) s × Owned g (now image) s i n × (n ≤ 256) × (n ≤ length (now buffer)) ⌝ }
     ensures { λ _. ⌜ now (buffer .exit) ≡ fetch g (now (image .entry)) s i n ++ drop n (now (buffer .entry)) ⌝ }
 {
-    let first = layout::GRANULE_BYTES - i % layout::GRANULE_BYTES;
+    let first = rest_of(g, i);
     if n <= first {
         read_part(image, g, s, i, n, buffer, 0);
         return;
@@ -110,7 +127,7 @@ pub fn sector_ranged(g: Geometry, h: Handle, k: usize) -> bool
     if !handle::in_range(g, h) {
         return false;
     }
-    k < layout::SECTOR_NUMBERS
+    k < layout::sector_numbers(g)
 }
 
 pub fn sector_number(image: &[u8], g: Geometry, h: Handle, k: usize, checked: Refusal) -> u8

@@ -81,6 +81,6 @@ pub fn place(image: &[u8], g: Geometry, s: usize, i: usize) -> usize
     requires { ⌜ Sound g (now image) × Used g (now image) s × (i < 16777216) ⌝ }
     ensures { λ r. ⌜ r ≡ place g (now (image .entry)) s i ⌝ }
 {
-    layout::GRANULE_BYTES * owned_at(image, g, s, i / layout::GRANULE_BYTES)
-        + i % layout::GRANULE_BYTES
+    let w = layout::granule_bytes(g);
+    w * owned_at(image, g, s, i / w) + i % w
 }

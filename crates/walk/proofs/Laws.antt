@@ -350,13 +350,13 @@ module _ (g : Geometry) (d : List ℕ) where
   walked-first h s {p = p} n l w t k = walked-entry h s n l w t (rw (zero-add (p .granules)) k)
 
   -- the marker is FFH
-  pub walked-end : {least sectors owned : ℕ} (h s : ℕ) (rest : Bool) (cs : List ℕ) {x : ℕ} {m met : List ℕ} → x ≡ marker g d s → x ≡ 0xff
-      → Walked g d least sectors owned (markerHolds g d h s rest) (onward g d s cs) m m met met (leb sectors (5 * owned))
+  pub walked-end : {least sectors owned w : ℕ} (h s : ℕ) (rest : Bool) (cs : List ℕ) {x : ℕ} {m met : List ℕ} → w ≡ granuleSectors g → x ≡ marker g d s → x ≡ 0xff
+      → Walked g d least sectors owned (markerHolds g d h s rest) (onward g d s cs) m m met met (leb sectors (w * owned))
   unfolding markerHolds onward allows marked all any
-  walked-end {least} {sectors} {owned} h s rest cs {x} {m} {met} e f =
+  walked-end {least} {sectors} {owned} {w} h s rest cs {x} {m} {met} v e f =
       let q : marker g d s ≡ 0xff = sym e ∙ f in
       let z : owned + 0 ≡ owned = omega arith in
-      record { answer = rw (Sizes.code-sectors g, q, z, and-true); map = λ t. rw q; meets = λ t. rw q }
+      record { answer = rw (v, q, z, and-true); map = λ t. rw q; meets = λ t. rw q }
 
   -- the marker is not FFH, and does not lead on
   pub walked-stop : {least sectors owned : ℕ} (h s : ℕ) (rest : Bool) {x : ℕ} {cs m m′ met met′ : List ℕ} → x ≡ marker g d s → (x ≡ 0xff → ⊥) → goesOn g d h s ≡ false

@@ -180,7 +180,7 @@ pub fn file_walk(
         return false;
     }
     if field_at(image, g, s, at, 0x1e) == 0xff {
-        return sectors <= layout::GRANULE_SECTORS * p.granules;
+        return sectors <= layout::granule_sectors(g) * p.granules;
     }
     marker_walk(
         image,
@@ -227,7 +227,7 @@ fn entry_walk(
         return false;
     }
     if field_at(image, g, s, at, 0x1e) == 0xff {
-        return sectors <= layout::GRANULE_SECTORS * (owned + p.granules);
+        return sectors <= layout::granule_sectors(g) * (owned + p.granules);
     }
     marker_walk(
         image,

@@ -25,7 +25,7 @@ pub fn write_bytes(image: &mut [u8], g: Geometry, s: usize, i: usize, src: &[u8]
     requires { ⌜ File g (now image) s × Owned g (now image) s i n × (n ≤ 256) × (n ≤ length (now src)) ⌝ }
     ensures { λ _. ⌜ now (image .exit) ≡ store (place g (now (image .entry)) s) (now (image .entry)) i (take n (now (src .entry))) ⌝ }
 {
-    let first = layout::GRANULE_BYTES - i % layout::GRANULE_BYTES;
+    let first = read::rest_of(g, i);
     let p = seek::place(image, g, s, i);
     if n <= first {
         copy::put_part(image, p, src, 0, n);
@@ -44,21 +44,12 @@ pub fn clear_bytes(image: &mut [u8], g: Geometry, s: usize, i: usize, n: usize)
     let mut at = i;
     let mut left = n;
     while 0 < left {
-        let m = part_of(g, at, left);
+        let m = read::part_of(g, at, left);
         let p = seek::place(image, g, s, at);
         copy::clear_part(image, p, m);
         at += m;
         left -= m;
     }
-}
-
-// How many of n bytes from byte i on lie in its granule.
-fn part_of(g: Geometry, i: usize, n: usize) -> usize
-    requires { ⌜ 1 ≤ n ⌝ }
-    ensures { λ r. ⌜ InGranule g i r × (1 ≤ r) × (r ≤ n) ⌝ }
-{
-    let room = layout::GRANULE_BYTES - i % layout::GRANULE_BYTES;
-    if n < room { n } else { room }
 }
 
 // Test 12 of a write; `room` is the buffer's length.
@@ -68,7 +59,7 @@ fn write_ranged(g: Geometry, h: Handle, room: usize) -> bool
     if !handle::in_range(g, h) {
         return false;
     }
-    if layout::HIGHEST < h.at + h.len {
+    if layout::highest(g) < h.at + h.len {
         return false;
     }
     h.len <= room

@@ -1,3 +1,6 @@
+use Prim.Native.Nat.{_<_, _/_, _^_}
+use Rattle.meaning.specs.Sizes.{width-lt}
+use native.Mathlib.Omega.{arith}
 use Rattle.growth.proofs.Handed.{ready}
 use Rattle.allot.proofs.Laws.{refused, grew}
 use Rattle.handle.proofs.Laws.{handed}
@@ -8,6 +11,7 @@ use Rattle.allot.proofs.allot_checked.Reads as reads
 use Rattle.allot.proofs.allot_checked.Lts as lts
 use Rattle.growth.proofs.grow.Reads as grow-reads
 use Rattle.handle.proofs.changing_number.Reads as changing-number-reads
+use Rattle.layout.proofs.granule_sectors.Reads as granule-sectors-reads
 use Rattle.read.proofs.sector_ranged.Reads as sector-ranged-reads
 use Rattle.refusal.proofs.carried.Reads as carried-reads
 
@@ -26,11 +30,17 @@ same-length c = search needs
 returns : tie.Need-returns
 returns c = refused _ _ _ _ (c .before .before .before .before .sector-ranged .ensures) (handed _ _ _ (c .before .before .before .before .before .before .pre) (c .carried .ensures)) (c .before .before .changing-number .ensures) (c .before .if1 .taken)
 
+granule-sectors-requires : tie.Need-granule-sectors-requires
+granule-sectors-requires c κs = search needs
+
+div-grow : tie.Need-div-grow
+div-grow c = search needs
+
 add-grow : tie.Need-add-grow
-add-grow c = search needs
+add-grow c = let w = c .before .granule-sectors in let q : c .before .before .before .before .before .before .before .args .k / w .result < 2 ^ 63 = width-lt (omega (arith, w .ensures .some)) (c .before .before .before .before .before .before .before .args .k) (2 ^ 63) (omega (arith, w .ensures .some)) in omega arith
 
 grow-requires : tie.Need-grow-requires
-grow-requires c κs = let a = c .before .before .before .before .before .before .args in ready (a .g) (a .image .now) (a .h) (c .before .before .before .before .sector-ranged .result) 4 (c .before .before .changing-number .ensures) (c .before .if1 .left)
+grow-requires c κs = let a = c .before .before .before .before .before .before .before .args in ready (a .g) (a .image .now) (a .h) (c .before .before .before .before .before .sector-ranged .result) 4 (c .before .before .before .changing-number .ensures) (c .before .before .if1 .left)
 
 carried-requires-2 : tie.Need-carried-requires-2
 carried-requires-2 c κs = search needs
@@ -39,7 +49,7 @@ same-length-2 : tie.Need-same-length-2
 same-length-2 c = search needs
 
 returns-2 : tie.Need-returns-2
-returns-2 c = grew _ _ _ _ (c .before .before .before .before .before .before .before .before .sector-ranged .ensures) (handed _ _ _ (c .before .before .before .before .before .before .before .before .before .before .pre) (c .carried2 .ensures)) (c .before .before .before .before .before .before .changing-number .ensures) (c .before .before .before .before .before .if1 .left) (c .before .before .before .grow .ensures .0) (c .before .before .before .grow .ensures .1)
+returns-2 c = grew _ _ _ _ (c .before .before .before .before .before .before .before .before .before .sector-ranged .ensures) (c .before .before .before .before .before .granule-sectors .ensures .is) (handed _ _ _ (c .before .before .before .before .before .before .before .before .before .before .before .pre) (c .carried2 .ensures)) (c .before .before .before .before .before .before .before .changing-number .ensures) (c .before .before .before .before .before .before .if1 .left) (c .before .before .before .grow .ensures .0) (c .before .before .before .grow .ensures .1)
 
 pub allot-checked-spec : {M : Type 1} → statement M
 allot-checked-spec =
@@ -47,9 +57,13 @@ allot-checked-spec =
     (tie.spec
     sector-ranged-requires
     changing-number-requires
-    carried-requires same-length
+    carried-requires
+    same-length
     returns
+    granule-sectors-requires
+    div-grow
     add-grow
     grow-requires
-    carried-requires-2 same-length-2
+    carried-requires-2
+    same-length-2
     returns-2)

@@ -1,9 +1,12 @@
+use native.Mathlib.Nat.{mul-le-mul}
+use native.Mathlib.Omega.{arith}
 use Rattle.consistency.proofs.Laws.{length-far, length-odd, length-rest}
 use borrow.Author.Needs.{needs}
 use Rattle.consistency.proofs.length_holds.Statement.{statement}
 use Rattle.consistency.proofs.length_holds.Tie as tie
 use Rattle.consistency.proofs.length_holds.Reads as reads
 use Rattle.consistency.proofs.length_holds.Lts as lts
+use Rattle.layout.proofs.granule_sectors.Reads as granule-sectors-reads
 use Rattle.layout.proofs.granules.Reads as granules-reads
 use Rattle.layout.proofs.wide.Reads as wide-reads
 
@@ -37,11 +40,14 @@ add-result-2 c = search needs
 granules-requires : tie.Need-granules-requires
 granules-requires c κs = search needs
 
+granule-sectors-requires : tie.Need-granule-sectors-requires
+granule-sectors-requires c κs = search needs
+
 mul-result : tie.Need-mul-result
-mul-result c = search needs
+mul-result c = omega (arith, mul-le-mul (c .before .granules .ensures .1) (c .granule-sectors .ensures .few))
 
 returns-3 : tie.Need-returns-3
-returns-3 c = length-rest _ _ (c .before .before .before .before .wide .ensures .is) (c .before .before .before .if1 .left) (c .before .before .if2 .left) (c .granules .ensures .0)
+returns-3 c = length-rest _ _ (c .before .before .before .before .before .wide .ensures .is) (c .before .before .before .before .if1 .left) (c .before .before .before .if2 .left) (c .before .granules .ensures .0) (c .granule-sectors .ensures .is)
 
 pub length-holds-spec : {M : Type 1} → statement M
 length-holds-spec =
@@ -57,5 +63,6 @@ length-holds-spec =
     add-result
     add-result-2
     granules-requires
+    granule-sectors-requires
     mul-result
     returns-3)

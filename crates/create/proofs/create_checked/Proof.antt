@@ -27,105 +27,80 @@ use Rattle.refusal.proofs.carried.Reads as carried-reads
 use Rattle.space.proofs.first_free_slot.Reads as first-free-slot-reads
 use Rattle.spelling.proofs.incoming.Reads as incoming-reads
 
--- src/lib.rt:88:9
 refused-requires : tie.Need-refused-requires
 refused-requires c κs = search needs
 
--- src/lib.rt:88:9
 returns : tie.Need-returns
 returns c = told _ _ _ _ _ (c .before .before .before .before .before .pre) (c .refused .ensures) (by-check _ _ _ _ _ (c .before .before .before .before .before .pre) (c .before .if1 .taken)) (c .before .if1 .taken)
 
--- src/lib.rt:90:9
 in-range-requires : tie.Need-in-range-requires
 in-range-requires c κs = search needs
 
--- src/lib.rt:91:9
 refused-requires-2 : tie.Need-refused-requires-2
 refused-requires-2 c κs = search needs
 
--- src/lib.rt:91:9
 returns-2 : tie.Need-returns-2
 returns-2 c = told _ _ _ _ _ (c .before .before .before .before .before .before .before .pre) (c .refused2 .ensures) (by-range _ _ _ _ _ (c .before .before .before .before .before .before .before .pre) (c .before .before .before .if1 .left) (is-no (c .before .before .in-range .ensures) (c .before .if2 .taken))) (λ z. omega arith)
 
--- src/lib.rt:93:13
 incoming-requires : tie.Need-incoming-requires
 incoming-requires c κs = search needs
 
--- src/lib.rt:95:9
 refused-requires-3 : tie.Need-refused-requires-3
 refused-requires-3 c κs = search needs
 
--- src/lib.rt:95:9
 returns-3 : tie.Need-returns-3
 returns-3 c = told _ _ _ _ _ (c .before .before .before .before .before .before .before .before .before .pre) (c .refused3 .ensures) (by-name _ _ _ _ _ (c .before .before .before .before .before .before .before .before .before .pre) (c .before .before .before .before .before .if1 .left) (is-yes (c .before .before .before .before .in-range .ensures) (c .before .before .before .if2 .left)) (hands-bad (c .before .before .incoming .ensures) (c .before .if3 .taken))) (λ z. omega arith)
 
--- src/lib.rt:97:9
 find-requires : tie.Need-find-requires
 find-requires c κs = (checked-room _ _ (checked _ _ (c .before .before .before .before .before .before .before .before .before .before .before .before .pre) (c .before .before .before .before .before .before .before .before .if1 .left)), (ap length (hands-name (c .before .before .before .before .before .incoming .ensures) (c .before .before .before .before .if3 .left)) ∙ well-length _ (hands-good (c .before .before .before .before .before .incoming .ensures) (c .before .before .before .before .if3 .left))))
 
--- src/lib.rt:99:13
 admits-requires : tie.Need-admits-requires
 admits-requires c κs = (checked-room _ _ (checked _ _ (c .before .before .before .before .before .before .before .before .before .before .before .before .before .before .before .pre) (c .before .before .before .before .before .before .before .before .before .before .before .if1 .left)), (c .before .before .find .ensures .held) (c .before .if4 .taken))
 
--- src/lib.rt:100:13
 refused-requires-4 : tie.Need-refused-requires-4
 refused-requires-4 c κs = search needs
 
--- src/lib.rt:100:13
 same-length : tie.Need-same-length
 same-length c = search needs
 
--- src/lib.rt:100:13
 returns-4 : tie.Need-returns-4
 returns-4 c = told _ _ _ _ _ (c .before .before .before .before .before .before .before .before .before .before .before .before .before .before .before .before .before .before .pre) (c .refused4 .ensures) (by-code _ _ _ _ _ (c .before .before .before .before .before .before .before .before .before .before .before .before .before .before .before .before .before .before .pre) (c .before .before .before .before .before .before .before .before .before .before .before .before .before .before .if1 .left) (is-yes (c .before .before .before .before .before .before .before .before .before .before .before .before .before .in-range .ensures) (c .before .before .before .before .before .before .before .before .before .before .before .before .if2 .left)) (hands-good (c .before .before .before .before .before .before .before .before .before .before .before .incoming .ensures) (c .before .before .before .before .before .before .before .before .before .before .if3 .left)) (finds-one _ _ _ (finds-as _ _ _ (hands-name (c .before .before .before .before .before .before .before .before .before .before .before .incoming .ensures) (c .before .before .before .before .before .before .before .before .before .before .if3 .left)) (c .before .before .before .before .before .find .ensures)) (not-yes (c .before .before .before .before .if4 .taken))) (is-no (c .before .before .admits .ensures) (c .before .if5 .taken))) (λ z. omega arith)
 
--- src/lib.rt:103:22
 carried-requires : tie.Need-carried-requires
 carried-requires c κs = search needs
 
--- src/lib.rt:105:21
 opened-at-requires : tie.Need-opened-at-requires
 opened-at-requires c κs = (checked-room _ _ (checked _ _ (c .before .before .before .before .before .before .before .before .before .before .before .before .before .before .before .before .before .before .before .before .before .before .pre) (c .before .before .before .before .before .before .before .before .before .before .before .before .before .before .before .before .before .before .if1 .left)), (c .before .before .before .before .before .before .before .before .before .find .ensures .held) (c .before .before .before .before .before .before .before .before .if4 .taken), (ap length (hands-name (c .before .before .before .before .before .before .before .before .before .before .before .before .before .before .before .incoming .ensures) (c .before .before .before .before .before .before .before .before .before .before .before .before .before .before .if3 .left)) ∙ well-length _ (hands-good (c .before .before .before .before .before .before .before .before .before .before .before .before .before .before .before .incoming .ensures) (c .before .before .before .before .before .before .before .before .before .before .before .before .before .before .if3 .left))))
 
--- src/lib.rt:102:9
 same-length-2 : tie.Need-same-length-2
 same-length-2 c = search needs
 
--- src/lib.rt:102:9
 returns-5 : tie.Need-returns-5
 returns-5 c = let e = finds-one _ _ _ (finds-as _ _ _ (hands-name (c .before .before .before .before .before .before .before .before .before .before .before .before .before .before .before .before .incoming .ensures) (c .before .before .before .before .before .before .before .before .before .before .before .before .before .before .before .if3 .left)) (c .before .before .before .before .before .before .before .before .before .before .find .ensures)) (not-yes (c .before .before .before .before .before .before .before .before .before .if4 .taken)) in
     opened _ _ _ _ _ (handed _ _ 0 (c .before .before .before .before .before .before .before .before .before .before .before .before .before .before .before .before .before .before .before .before .before .before .before .pre) (c .before .before .before .before .before .carried .ensures)) (is-old _ _ _ _ _ (c .before .before .before .before .before .before .before .before .before .before .before .before .before .before .before .before .before .before .before .before .before .before .before .pre) (c .before .before .before .before .before .before .before .before .before .before .before .before .before .before .before .before .before .before .before .if1 .left) (is-yes (c .before .before .before .before .before .before .before .before .before .before .before .before .before .before .before .before .before .before .in-range .ensures) (c .before .before .before .before .before .before .before .before .before .before .before .before .before .before .before .before .before .if2 .left)) (hands-good (c .before .before .before .before .before .before .before .before .before .before .before .before .before .before .before .before .incoming .ensures) (c .before .before .before .before .before .before .before .before .before .before .before .before .before .before .before .if3 .left)) e (is-yes (c .before .before .before .before .before .before .before .admits .ensures) (c .before .before .before .before .before .before .if5 .left))) e (c .opened-at .ensures ∙ ap (λ (m : List ℕ). openedAt (c .before .before .before .before .before .before .before .before .before .before .before .before .before .before .before .before .before .before .before .before .before .before .before .args .g) (c .before .before .before .before .before .before .before .before .before .before .before .before .before .before .before .before .before .before .before .before .before .before .before .args .image .now) (c .before .before .before .before .before .before .before .before .before .before .find .result .slot) m (c .before .before .before .before .before .before .before .before .before .before .before .before .before .before .before .before .before .before .before .before .before .before .before .args .f .len) (c .before .before .before .before .before .before .before .before .before .before .before .before .before .before .before .before .before .before .before .before .before .before .before .args .checking) (c .before .before .before .before .before .before .before .before .before .before .before .before .before .before .before .before .before .before .before .before .before .before .before .args .f .main)) (hands-name (c .before .before .before .before .before .before .before .before .before .before .before .before .before .before .before .before .incoming .ensures) (c .before .before .before .before .before .before .before .before .before .before .before .before .before .before .before .if3 .left)))
 
--- src/lib.rt:108:9
 first-free-slot-requires : tie.Need-first-free-slot-requires
 first-free-slot-requires c κs = checked-room _ _ (checked _ _ (c .before .before .before .before .before .before .before .before .before .before .before .before .before .before .before .pre) (c .before .before .before .before .before .before .before .before .before .before .before .if1 .left))
 
--- src/lib.rt:110:9
 refused-requires-5 : tie.Need-refused-requires-5
 refused-requires-5 c κs = search needs
 
--- src/lib.rt:110:9
 same-length-3 : tie.Need-same-length-3
 same-length-3 c = search needs
 
--- src/lib.rt:110:9
 returns-6 : tie.Need-returns-6
 returns-6 c = told _ _ _ _ _ (c .before .before .before .before .before .before .before .before .before .before .before .before .before .before .before .before .before .before .pre) (c .refused5 .ensures) (by-slot _ _ _ _ _ (c .before .before .before .before .before .before .before .before .before .before .before .before .before .before .before .before .before .before .pre) (c .before .before .before .before .before .before .before .before .before .before .before .before .before .before .if1 .left) (is-yes (c .before .before .before .before .before .before .before .before .before .before .before .before .before .in-range .ensures) (c .before .before .before .before .before .before .before .before .before .before .before .before .if2 .left)) (hands-good (c .before .before .before .before .before .before .before .before .before .before .before .incoming .ensures) (c .before .before .before .before .before .before .before .before .before .before .if3 .left)) (finds-none _ _ _ (finds-as _ _ _ (hands-name (c .before .before .before .before .before .before .before .before .before .before .before .incoming .ensures) (c .before .before .before .before .before .before .before .before .before .before .if3 .left)) (c .before .before .before .before .before .find .ensures)) (not-no (c .before .before .before .before .if4 .left))) (slot-none _ _ (c .before .before .first-free-slot .ensures) (c .before .if6 .taken))) (λ z. omega arith)
 
--- src/lib.rt:112:5
 put-entry-requires : tie.Need-put-entry-requires
 put-entry-requires c κs = let a = c .before .before .before .before .before .before .before .before .before .before .before .before .before .before .before .before .before .before .before .before .before .args in let w = slot-some (a .g) (a .image .now) (c .before .before .before .before .before .first-free-slot .ensures) (c .before .before .before .before .if6 .left) in
     (entry-fits (a .g) (a .image .now) (c .before .before .before .before .before .first-free-slot .result) (checked-room (a .g) (a .image .now) (checked (a .g) (a .image .now) (c .before .before .before .before .before .before .before .before .before .before .before .before .before .before .before .before .before .before .before .before .before .pre) (c .before .before .before .before .before .before .before .before .before .before .before .before .before .before .before .before .before .if1 .left))) (w .2), w .2 .low, (ap length (hands-name (c .before .before .before .before .before .before .before .before .before .before .before .before .before .before .incoming .ensures) (c .before .before .before .before .before .before .before .before .before .before .before .before .before .if3 .left)) ∙ well-length _ (hands-good (c .before .before .before .before .before .before .before .before .before .before .before .before .before .before .incoming .ensures) (c .before .before .before .before .before .before .before .before .before .before .before .before .before .if3 .left))), is-yes (c .before .before .before .before .before .before .before .before .before .before .before .before .before .before .before .before .in-range .ensures) (c .before .before .before .before .before .before .before .before .before .before .before .before .before .before .before .if2 .left))
 
--- src/lib.rt:114:18
 carried-requires-2 : tie.Need-carried-requires-2
 carried-requires-2 c κs = search needs
 
--- src/lib.rt:76:1
 same-length-4 : tie.Need-same-length-4
 same-length-4 c = search needs
 
--- src/lib.rt:76:1
 returns-7 : tie.Need-returns-7
 returns-7 c = let a = c .before .before .before .before .before .before .before .before .before .before .before .before .before .before .before .before .before .before .before .before .before .before .before .before .before .before .args in let w = slot-some (a .g) (a .image .now) (c .before .before .before .before .before .before .before .before .before .before .first-free-slot .ensures) (c .before .before .before .before .before .before .before .before .before .if6 .left) in let e = finds-none _ _ _ (finds-as _ _ _ (hands-name (c .before .before .before .before .before .before .before .before .before .before .before .before .before .before .before .before .before .before .before .incoming .ensures) (c .before .before .before .before .before .before .before .before .before .before .before .before .before .before .before .before .before .before .if3 .left)) (c .before .before .before .before .before .before .before .before .before .before .before .before .before .find .ensures)) (not-no (c .before .before .before .before .before .before .before .before .before .before .before .before .if4 .left)) in
     made _ _ _ _ _ (handed _ _ 0 (c .before .before .before .before .before .before .before .before .before .before .before .before .before .before .before .before .before .before .before .before .before .before .before .before .before .before .pre) (c .before .carried2 .ensures)) (is-new _ _ _ _ _ (c .before .before .before .before .before .before .before .before .before .before .before .before .before .before .before .before .before .before .before .before .before .before .before .before .before .before .pre) (c .before .before .before .before .before .before .before .before .before .before .before .before .before .before .before .before .before .before .before .before .before .before .if1 .left) (is-yes (c .before .before .before .before .before .before .before .before .before .before .before .before .before .before .before .before .before .before .before .before .before .in-range .ensures) (c .before .before .before .before .before .before .before .before .before .before .before .before .before .before .before .before .before .before .before .before .if2 .left)) (hands-good (c .before .before .before .before .before .before .before .before .before .before .before .before .before .before .before .before .before .before .before .incoming .ensures) (c .before .before .before .before .before .before .before .before .before .before .before .before .before .before .before .before .before .before .if3 .left)) e (w .1)) e (w .0) (hands-name (c .before .before .before .before .before .before .before .before .before .before .before .before .before .before .before .before .before .before .before .incoming .ensures) (c .before .before .before .before .before .before .before .before .before .before .before .before .before .before .before .before .before .before .if3 .left)) (c .before .before .before .before .put-entry .ensures ∙ ap (λ (m : List ℕ). withEntry (c .before .before .before .before .before .before .before .before .before .before .before .before .before .before .before .before .before .before .before .before .before .before .before .before .before .before .args .g) (c .before .before .before .before .before .before .before .before .before .before .before .before .before .before .before .before .before .before .before .before .before .before .before .before .before .before .args .image .now) (c .before .before .before .before .before .before .before .before .before .before .first-free-slot .result) m (c .before .before .before .before .before .before .before .before .before .before .before .before .before .before .before .before .before .before .before .before .before .before .before .before .before .before .args .f)) (hands-name (c .before .before .before .before .before .before .before .before .before .before .before .before .before .before .before .before .before .before .before .incoming .ensures) (c .before .before .before .before .before .before .before .before .before .before .before .before .before .before .before .before .before .before .if3 .left)))

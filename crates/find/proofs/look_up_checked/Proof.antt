@@ -18,40 +18,31 @@ use Rattle.find.proofs.find.Reads as find-reads
 use Rattle.refusal.proofs.carried.Reads as carried-reads
 use Rattle.spelling.proofs.incoming.Reads as incoming-reads
 
--- src/lib.rt:79:9
 returns : tie.Need-returns
 returns c = told-stop _ _ _ (c .before .before .before .before .pre) (c .if1 .taken)
 
--- src/lib.rt:85:13
 incoming-requires : tie.Need-incoming-requires
 incoming-requires c κs = search needs
 
--- src/lib.rt:88:22
 carried-requires : tie.Need-carried-requires
 carried-requires c κs = search needs
 
--- src/lib.rt:87:9
 returns-2 : tie.Need-returns-2
 returns-2 c = told _ _ _ (handed _ _ 3 (c .before .before .before .before .before .before .before .pre) (c .carried .ensures)) (sym (check-then _ _ _ (c .before .before .before .before .before .before .before .pre) (c .before .before .before .if1 .left) ∙ first-hit (not-no (hands-bad (c .before .before .incoming .ensures) (c .before .if2 .taken))) _ _)) refl refl
 
--- src/lib.rt:93:9
 find-requires : tie.Need-find-requires
 find-requires c κs = (checked-room _ _ (checked _ _ (c .before .before .before .before .before .before .before .before .before .pre) (c .before .before .before .before .before .if1 .left)), (ap length (hands-name (c .before .before .before .before .incoming .ensures) (c .before .before .before .if2 .left)) ∙ well-length _ (hands-good (c .before .before .before .before .incoming .ensures) (c .before .before .before .if2 .left))))
 
--- src/lib.rt:96:22
 carried-requires-2 : tie.Need-carried-requires-2
 carried-requires-2 c κs = search needs
 
--- src/lib.rt:95:9
 returns-3 : tie.Need-returns-3
 returns-3 c = let e = finds-none _ _ _ (finds-as _ _ _ (hands-name (c .before .before .before .before .before .before .before .before .incoming .ensures) (c .before .before .before .before .before .before .before .if2 .left)) (c .before .before .before .find .ensures)) (c .before .if3 .taken) in
     told _ _ _ (handed _ _ 4 (c .before .before .before .before .before .before .before .before .before .before .before .before .before .pre) (c .carried2 .ensures)) (sym (check-then _ _ _ (c .before .before .before .before .before .before .before .before .before .before .before .before .before .pre) (c .before .before .before .before .before .before .before .before .before .if1 .left) ∙ first-skip (not-yes (hands-good (c .before .before .before .before .before .before .before .before .incoming .ensures) (c .before .before .before .before .before .before .before .if2 .left))) _ _ ∙ first-hit (ap (λ (l : List ℕ). eqb (length l) 0) e) _ _)) refl (sym ((finds-as _ _ _ (hands-name (c .before .before .before .before .before .before .before .before .incoming .ensures) (c .before .before .before .before .before .before .before .if2 .left)) (c .before .before .before .find .ensures)) .compared))
 
--- src/lib.rt:102:18
 carried-requires-3 : tie.Need-carried-requires-3
 carried-requires-3 c κs = search needs
 
--- src/lib.rt:74:1
 returns-4 : tie.Need-returns-4
 unfolding firstOr
 returns-4 c = let e = finds-one _ _ _ (finds-as _ _ _ (hands-name (c .before .before .before .before .before .before .before .before .incoming .ensures) (c .before .before .before .before .before .before .before .if2 .left)) (c .before .before .before .find .ensures)) (c .before .if3 .left) in

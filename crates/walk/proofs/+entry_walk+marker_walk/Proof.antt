@@ -1,4 +1,5 @@
-use Prim.Native.Nat.{_<_, _+_, _*_}
+use Prim.Native.Nat.{_<_, _+_, _*_, _≤_}
+use native.Mathlib.Nat.{mul-le-mul}
 use Rattle.layout.proofs.Lists.{is-no, is-yes}
 use Rattle.layout.proofs.Sound.{slot-of}
 use mathlib.Core.Path.{refl, ap, _∙_}
@@ -8,6 +9,7 @@ use borrow.Author.Needs.{needs}
 use native.Mathlib.Omega.{arith}
 use borrow.Author.Tests.{not-false}
 use Prim.Native.Nat.{ℕ}
+use Prim.Native.Nat.{ℕ, _<_}
 use borrow.Fn.Kinds.{In}
 use borrow.Fn.PlainCycle.{Measures, is, falls, and}
 use Rattle.walk.proofs.entry_walk.Reads as entry-walk
@@ -16,6 +18,7 @@ use Rattle.walk.proofs.+entry_walk+marker_walk.Lts-entry_walk as entry-
 use Rattle.walk.proofs.marker_walk.Reads as marker-walk
 use Rattle.walk.proofs.marker_walk.Kinds as marker-walk-kinds
 use Rattle.walk.proofs.+entry_walk+marker_walk.Lts-marker_walk as marker-walk-lts
+use Rattle.layout.proofs.granule_sectors.Reads as granule-sectors-reads
 use Rattle.walk.proofs.entry_at.Reads as entry-at-reads
 use Rattle.walk.proofs.field_at.Reads as field-at-reads
 use Rattle.walk.proofs.goes_on.Reads as goes-on-reads
@@ -50,6 +53,8 @@ entry-walk-returns : (t : ℕ) → entry-walk-lts.Need-returns (
   take-runs-reads.Learnt,
   field-at-reads.Asked,
   field-at-reads.Learnt,
+  granule-sectors-reads.Asked,
+  granule-sectors-reads.Learnt,
   marker-walk-below t,
   marker-walk.Post,
 ) (entry-walk-at t) entry-walk.Post
@@ -60,6 +65,8 @@ entry-walk-element-copy-out-if2 : (t : ℕ) → entry-walk-lts.Need-element-copy
   take-runs-reads.Learnt,
   field-at-reads.Asked,
   field-at-reads.Learnt,
+  granule-sectors-reads.Asked,
+  granule-sectors-reads.Learnt,
   marker-walk-below t,
   marker-walk.Post,
 ) (entry-walk-at t) entry-walk.Post
@@ -70,6 +77,8 @@ entry-walk-returns-2 : (t : ℕ) → entry-walk-lts.Need-returns-2 (
   take-runs-reads.Learnt,
   field-at-reads.Asked,
   field-at-reads.Learnt,
+  granule-sectors-reads.Asked,
+  granule-sectors-reads.Learnt,
   marker-walk-below t,
   marker-walk.Post,
 ) (entry-walk-at t) entry-walk.Post
@@ -80,6 +89,8 @@ entry-walk-element-write-met : (t : ℕ) → entry-walk-lts.Need-element-write-m
   take-runs-reads.Learnt,
   field-at-reads.Asked,
   field-at-reads.Learnt,
+  granule-sectors-reads.Asked,
+  granule-sectors-reads.Learnt,
   marker-walk-below t,
   marker-walk.Post,
 ) (entry-walk-at t) entry-walk.Post
@@ -90,6 +101,8 @@ entry-walk-take-runs-requires : (t : ℕ) → entry-walk-lts.Need-take-runs-requ
   take-runs-reads.Learnt,
   field-at-reads.Asked,
   field-at-reads.Learnt,
+  granule-sectors-reads.Asked,
+  granule-sectors-reads.Learnt,
   marker-walk-below t,
   marker-walk.Post,
 ) (entry-walk-at t) entry-walk.Post
@@ -100,6 +113,8 @@ entry-walk-returns-3 : (t : ℕ) → entry-walk-lts.Need-returns-3 (
   take-runs-reads.Learnt,
   field-at-reads.Asked,
   field-at-reads.Learnt,
+  granule-sectors-reads.Asked,
+  granule-sectors-reads.Learnt,
   marker-walk-below t,
   marker-walk.Post,
 ) (entry-walk-at t) entry-walk.Post
@@ -110,16 +125,32 @@ entry-walk-field-at-requires : (t : ℕ) → entry-walk-lts.Need-field-at-requir
   take-runs-reads.Learnt,
   field-at-reads.Asked,
   field-at-reads.Learnt,
+  granule-sectors-reads.Asked,
+  granule-sectors-reads.Learnt,
   marker-walk-below t,
   marker-walk.Post,
 ) (entry-walk-at t) entry-walk.Post
 entry-walk-field-at-requires t c κs = search needs
+
+entry-walk-granule-sectors-requires : (t : ℕ) → entry-walk-lts.Need-granule-sectors-requires (
+  take-runs-reads.Asked,
+  take-runs-reads.Learnt,
+  field-at-reads.Asked,
+  field-at-reads.Learnt,
+  granule-sectors-reads.Asked,
+  granule-sectors-reads.Learnt,
+  marker-walk-below t,
+  marker-walk.Post,
+) (entry-walk-at t) entry-walk.Post
+entry-walk-granule-sectors-requires t c κs = search needs
 
 entry-walk-add-result : (t : ℕ) → entry-walk-lts.Need-add-result (
   take-runs-reads.Asked,
   take-runs-reads.Learnt,
   field-at-reads.Asked,
   field-at-reads.Learnt,
+  granule-sectors-reads.Asked,
+  granule-sectors-reads.Learnt,
   marker-walk-below t,
   marker-walk.Post,
 ) (entry-walk-at t) entry-walk.Post
@@ -130,26 +161,35 @@ entry-walk-mul-result : (t : ℕ) → entry-walk-lts.Need-mul-result (
   take-runs-reads.Learnt,
   field-at-reads.Asked,
   field-at-reads.Learnt,
+  granule-sectors-reads.Asked,
+  granule-sectors-reads.Learnt,
   marker-walk-below t,
   marker-walk.Post,
 ) (entry-walk-at t) entry-walk.Post
-entry-walk-mul-result t c = search needs
+entry-walk-mul-result t c =
+    let a = c .before .before .before .before .before .before .before .before .before .before .before .before .args in let p = c .before .before .before .before .before .before .take-runs in
+    let h : a .owned + p .result .granules ≤ 65536 = omega (arith, p .ensures .few, c .before .before .before .before .before .before .before .before .before .before .before .before .pre .1 .2, c .before .before .before .before .before .before .before .before .before .before .if1 .left) in
+    omega (arith, mul-le-mul (c .before .granule-sectors .ensures .few) h)
 
 entry-walk-returns-4 : (t : ℕ) → entry-walk-lts.Need-returns-4 (
   take-runs-reads.Asked,
   take-runs-reads.Learnt,
   field-at-reads.Asked,
   field-at-reads.Learnt,
+  granule-sectors-reads.Asked,
+  granule-sectors-reads.Learnt,
   marker-walk-below t,
   marker-walk.Post,
 ) (entry-walk-at t) entry-walk.Post
-entry-walk-returns-4 t c = walked-entry _ _ _ _ (c .before .before .before .before .before .before .before .before .before .if1 .left) (c .before .before .before .before .before .before .before .if2 .left) (c .before .before .before .before .before .take-runs .ensures) (c .before .before .before .if3 .left) (walked-end _ _ _ _ _ _ (c .before .before .field-at .ensures .is) (c .before .if4 .taken))
+entry-walk-returns-4 t c = walked-entry _ _ _ _ (c .before .before .before .before .before .before .before .before .before .before .if1 .left) (c .before .before .before .before .before .before .before .before .if2 .left) (c .before .before .before .before .before .before .take-runs .ensures) (c .before .before .before .before .if3 .left) (walked-end _ _ _ _ _ _ (c .before .granule-sectors .ensures .is) (c .before .before .before .field-at .ensures .is) (c .before .before .if4 .taken))
 
 entry-walk-sub-marker-walk : (t : ℕ) → entry-walk-lts.Need-sub-marker-walk (
   take-runs-reads.Asked,
   take-runs-reads.Learnt,
   field-at-reads.Asked,
   field-at-reads.Learnt,
+  granule-sectors-reads.Asked,
+  granule-sectors-reads.Learnt,
   marker-walk-below t,
   marker-walk.Post,
 ) (entry-walk-at t) entry-walk.Post
@@ -160,6 +200,8 @@ entry-walk-add-marker-walk : (t : ℕ) → entry-walk-lts.Need-add-marker-walk (
   take-runs-reads.Learnt,
   field-at-reads.Asked,
   field-at-reads.Learnt,
+  granule-sectors-reads.Asked,
+  granule-sectors-reads.Learnt,
   marker-walk-below t,
   marker-walk.Post,
 ) (entry-walk-at t) entry-walk.Post
@@ -170,6 +212,8 @@ entry-walk-marker-walk-requires : (t : ℕ) → entry-walk-lts.Need-marker-walk-
   take-runs-reads.Learnt,
   field-at-reads.Asked,
   field-at-reads.Learnt,
+  granule-sectors-reads.Asked,
+  granule-sectors-reads.Learnt,
   marker-walk-below t,
   marker-walk.Post,
 ) (entry-walk-at t) entry-walk.Post
@@ -180,6 +224,8 @@ entry-walk-returns-5 : (t : ℕ) → entry-walk-lts.Need-returns-5 (
   take-runs-reads.Learnt,
   field-at-reads.Asked,
   field-at-reads.Learnt,
+  granule-sectors-reads.Asked,
+  granule-sectors-reads.Learnt,
   marker-walk-below t,
   marker-walk.Post,
 ) (entry-walk-at t) entry-walk.Post
@@ -263,6 +309,8 @@ pub +entry-walk+marker-walk-spec : {M : Type 1} → statement M
   take-runs-reads.Learnt,
   field-at-reads.Asked,
   field-at-reads.Learnt,
+  granule-sectors-reads.Asked,
+  granule-sectors-reads.Learnt,
   marker-walk-below t,
   marker-walk.Post,
 )
@@ -275,6 +323,7 @@ pub +entry-walk+marker-walk-spec : {M : Type 1} → statement M
     (entry-walk-take-runs-requires t)
     (entry-walk-returns-3 t)
     (entry-walk-field-at-requires t)
+    (entry-walk-granule-sectors-requires t)
     (entry-walk-add-result t)
     (entry-walk-mul-result t)
     (entry-walk-returns-4 t)

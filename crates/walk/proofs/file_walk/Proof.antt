@@ -1,3 +1,4 @@
+use native.Mathlib.Nat.{mul-le-mul}
 use mathlib.Core.Path.{_∙_}
 use Rattle.walk.proofs.Laws.{walked-again, walked-entry-no, walked-end, walked-first}
 use native.Mathlib.Omega.{arith}
@@ -7,6 +8,7 @@ use Rattle.walk.proofs.file_walk.Statement.{statement}
 use Rattle.walk.proofs.file_walk.Tie as tie
 use Rattle.walk.proofs.file_walk.Reads as reads
 use Rattle.walk.proofs.file_walk.Lts as lts
+use Rattle.layout.proofs.granule_sectors.Reads as granule-sectors-reads
 use Rattle.walk.proofs.field_at.Reads as field-at-reads
 use Rattle.walk.proofs.marker_walk.Reads as marker-walk-reads
 use Rattle.walk.proofs.take_runs.Reads as take-runs-reads
@@ -29,11 +31,14 @@ returns-2 c = walked-entry-no _ _ _ _ (c .before .before .before .before .before
 field-at-requires : tie.Need-field-at-requires
 field-at-requires c κs = search needs
 
+granule-sectors-requires : tie.Need-granule-sectors-requires
+granule-sectors-requires c κs = search needs
+
 mul-result : tie.Need-mul-result
-mul-result c = search needs
+mul-result c = omega (arith, mul-le-mul (c .before .granule-sectors .ensures .few) (c .before .before .before .before .before .before .take-runs .ensures .few))
 
 returns-3 : tie.Need-returns-3
-returns-3 c = walked-first _ _ _ _ (c .before .before .before .before .before .before .before .before .before .before .pre .2) (c .before .before .before .before .before .before .before .if1 .left) (c .before .before .before .before .before .take-runs .ensures) (c .before .before .before .if2 .left) (walked-end _ _ _ _ _ _ (c .before .before .field-at .ensures .is) (c .before .if3 .taken))
+returns-3 c = walked-first _ _ _ _ (c .before .before .before .before .before .before .before .before .before .before .before .pre .2) (c .before .before .before .before .before .before .before .before .if1 .left) (c .before .before .before .before .before .before .take-runs .ensures) (c .before .before .before .before .if2 .left) (walked-end _ _ _ _ _ _ (c .before .granule-sectors .ensures .is) (c .before .before .before .field-at .ensures .is) (c .before .before .if3 .taken))
 
 sub-marker-walk : tie.Need-sub-marker-walk
 sub-marker-walk c = search needs
@@ -54,6 +59,7 @@ file-walk-spec =
     take-runs-requires
     returns-2
     field-at-requires
+    granule-sectors-requires
     mul-result
     returns-3
     sub-marker-walk
