@@ -21,7 +21,7 @@ use Rattle.laws.specs.Longer
 use Rattle.laws.specs.TakeOne
 use Rattle.laws.specs.Steps.{Ready, take-ready}
 use Rattle.layout.proofs.Lists.{first-at}
-use Rattle.supply.proofs.Step
+use Rattle.growth.proofs.Step
 
 module _ (g : Geometry) (p : ℕ) where
   pub record More (d d′ : List ℕ) (k : ℕ) : Type 0 where

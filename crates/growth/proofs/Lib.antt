@@ -1,5 +1,9 @@
 pub mod Put
-pub mod Disk
+pub mod Stand
+pub mod Step
+pub mod Growing
+pub mod Paper
+pub mod Turns
 pub mod Whole
 pub mod Grown
 pub mod Handed

@@ -11,11 +11,13 @@ use Rattle.meaning.specs.Lists.{all}
 use Rattle.meaning.specs.Entries.{noGrowth}
 use Rattle.meaning.specs.Chain.{owned}
 use Rattle.meaning.specs.Free.{freeGranules}
-use Rattle.meaning.specs.Growth.{grow, grown, fails, diskOr}
+use Rattle.meaning.specs.Growth.{tail, grow, grown, fails, diskOr}
 use Rattle.meaning.specs.Refusals.{first, accepted, cannotGrow, larger, lacking}
 use Rattle.meaning.specs.declared.Geometry.{Geometry}
+use Rattle.laws.specs.Members
+use Rattle.laws.specs.Steps.{Ready}
 use Rattle.layout.proofs.Lists.{first-hit, first-skip, first-none, all-yes, all-no, all-none}
-use Rattle.supply.proofs.Growing.{grow-done, not-stuck}
+use Rattle.growth.proofs.Growing.{grow-done, not-stuck}
 
 module _ (g : Geometry) (d : List ℕ) (p : ℕ) where
   -- the number r and the disk d′ of a growth by k granules
@@ -47,8 +49,19 @@ module _ (g : Geometry) (d : List ℕ) (p : ℕ) where
   pub whole-eight : (k : ℕ) → noGrowth g d p ≡ false → ltb (length (freeGranules g d)) k ≡ false → fails (grow g p k d) ≡ true → Whole k 8 d
   whole-eight k e f w = (sym (first-skip (no-eleven k e) 11 _ ∙ first-skip f 9 _ ∙ first-hit w 8 []), refl)
 
-  pub whole-grown : (k : ℕ) {d′ : List ℕ} → noGrowth g d p ≡ false → ltb (length (freeGranules g d)) k ≡ false → fails (grow g p k d) ≡ false → grown d′ ≡ grow g p k d → Whole k 0 d′
-  whole-grown k {d′} e f w q = (sym (first-skip (no-eleven k e) 11 _ ∙ first-skip f 9 _ ∙ first-skip w 8 [] ∙ first-none), sym (larger-is k d′ (sym q)))
+  pub whole-grown : (k : ℕ) {d₁ d′ : List ℕ} → noGrowth g d p ≡ false → ltb (length (freeGranules g d)) k ≡ false
+      → fails (grow g p k d) ≡ false → d₁ ≡ d → d′ ≡ diskOr d₁ (grow g p k d₁) → Whole k 0 d′
+  whole-grown k e f w o q =
+      (sym (first-skip (no-eleven k e) 11 _ ∙ first-skip f 9 _ ∙ first-skip w 8 [] ∙ first-none), q ∙ ap (λ (m : List ℕ). diskOr m (grow g p k m)) o)
+
+  -- what the growth on paper asks, and the one on the disk after it
+  pub on-paper : {e k : ℕ} → Ready g d p → e ≡ tail g p d → k ≤ length (freeGranules g d)
+      → Ready g d p × (e ≡ tail g p d) × (k ≤ length (freeGranules g d)) × (_≡_ {A = Bool} false true → fails (grow g p k d) ≡ false)
+  on-paper y e h = (y, e, h, λ b. absurd (Members.false-no (sym b) (Members.true-T {b = true} refl)))
+
+  pub after-paper : {e k : ℕ} {d₁ : List ℕ} → d₁ ≡ d → Ready g d p → e ≡ tail g p d → k ≤ length (freeGranules g d) → fails (grow g p k d) ≡ false
+      → Ready g d₁ p × (e ≡ tail g p d₁) × (k ≤ length (freeGranules g d₁)) × (_≡_ {A = Bool} true true → fails (grow g p k d₁) ≡ false)
+  after-paper o y e h f = rw o (y, e, h, λ _. f)
 
   -- what is lacking, from the number of granules counted
   pub lacks : {n : ℕ} (wanted : ℕ) → n ≡ length (owned g d p) → wanted - n ≡ lacking g d p wanted

@@ -1,23 +1,33 @@
-// A file grows: granules are taken one at a time, first on paper (crate supply), then on the disk.
+// A file grows: granules are taken one at a time, first on paper, then on the disk.
 use meaning::Geometry;
 ghost use mathlib.Core.Path.{_≡_};
-ghost use mathlib.Core.Bool.{false, cond};
+ghost use mathlib.Core.Bool.{true, false, cond};
 ghost use Prim.Native.Nat.{_+_, _*_, _%_, _<_, _≤_};
 ghost use lib.ListN.{length};
 ghost use Rattle.meaning.specs.Layout.{field, setField, takeGranule, entryAt};
 ghost use Rattle.meaning.specs.Entries.{noGrowth};
 ghost use Rattle.meaning.specs.Free.{freeGranules};
-ghost use Rattle.meaning.specs.Growth.{withPair, withExtension, tail, grow, grown, fails};
+ghost use Rattle.meaning.specs.Growth.{withPair, withExtension, tail, grow, fails, diskOr};
 ghost use Rattle.meaning.specs.Refusals.{first, accepted, cannotGrow, larger, lacking};
 ghost use Rattle.laws.specs.Steps.{Ready};
 ghost use Rattle.layout.specs.Room.{Room, Slot};
 ghost use Rattle.growth.specs.Inside.{Inside};
 
+// A run is 1 to 32 granules.
+const MOST_RUN: usize = 32;
+
+// An entry has four pairs.
+const PAIRS: usize = 4;
+
 // One further granule, m, in pair k of the entry at slot e.
-fn put_longer(image: &mut [u8], g: Geometry, e: usize, k: usize, m: usize)
-    requires { ⌜ Inside g (length (now image)) e m × (k < 4) × (field g (now image) e (0x17 + 2 * k) % 32 < 31) ⌝ }
-    ensures { λ _. ⌜ now (image .exit) ≡ takeGranule g (setField g (now (image .entry)) e (0x17 + 2 * k) (field g (now (image .entry)) e (0x17 + 2 * k) + 1)) m ⌝ }
+fn put_longer(image: &mut [u8], g: Geometry, e: usize, k: usize, m: usize, writes: bool)
+    requires { ⌜ Inside g (length (now image)) e m × (k < 4) × (writes ≡ true → field g (now image) e (0x17 + 2 * k) % 32 < 31) ⌝ }
+    ensures { λ _. ⌜ now (image .exit) ≡ cond writes
+        (takeGranule g (setField g (now (image .entry)) e (0x17 + 2 * k) (field g (now (image .entry)) e (0x17 + 2 * k) + 1)) m) (now (image .entry)) ⌝ }
 {
+    if !writes {
+        return;
+    }
     let at = 256 * (g.start + 2 + e % 32) + 32 * (e / 32) + (0x17 + 2 * k);
     image[at] = image[at] + 1;
     let gat = 256 * g.start + m / g.units;
@@ -25,10 +35,13 @@ fn put_longer(image: &mut [u8], g: Geometry, e: usize, k: usize, m: usize)
 }
 
 // Granule n as a run of its own, pair k of the entry at slot e.
-fn put_pair(image: &mut [u8], g: Geometry, p: usize, e: usize, k: usize, n: usize)
+fn put_pair(image: &mut [u8], g: Geometry, p: usize, e: usize, k: usize, n: usize, writes: bool)
     requires { ⌜ Inside g (length (now image)) e n × (k < 4) ⌝ }
-    ensures { λ _. ⌜ now (image .exit) ≡ withPair g p (now (image .entry)) e k n ⌝ }
+    ensures { λ _. ⌜ now (image .exit) ≡ cond writes (withPair g p (now (image .entry)) e k n) (now (image .entry)) ⌝ }
 {
+    if !writes {
+        return;
+    }
     let at = 256 * (g.start + 2 + e % 32) + 32 * (e / 32);
     image[at + (0x16 + 2 * k)] = (n / g.units) as u8;
     image[at + (0x17 + 2 * k)] = (n % g.units * 32) as u8;
@@ -37,10 +50,13 @@ fn put_pair(image: &mut [u8], g: Geometry, p: usize, e: usize, k: usize, n: usiz
 }
 
 // Slot x as an extension after the entry at slot e of the file at slot p.
-fn put_extension(image: &mut [u8], g: Geometry, p: usize, e: usize, x: usize)
+fn put_extension(image: &mut [u8], g: Geometry, p: usize, e: usize, x: usize, writes: bool)
     requires { ⌜ (entryAt g e + 32 ≤ length (now image)) × (entryAt g x + 32 ≤ length (now image)) × (p < 256) × (e < 256) × (x < 256) ⌝ }
-    ensures { λ _. ⌜ now (image .exit) ≡ withExtension g p (now (image .entry)) e x ⌝ }
+    ensures { λ _. ⌜ now (image .exit) ≡ cond writes (withExtension g p (now (image .entry)) e x) (now (image .entry)) ⌝ }
 {
+    if !writes {
+        return;
+    }
     let hash = image[256 * (g.start + 1) + p];
     let before = 256 * (g.start + 2 + e % 32) + 32 * (e / 32);
     image[before + 0x1e] = 0xfe;
@@ -89,45 +105,61 @@ fn put_extension(image: &mut [u8], g: Geometry, p: usize, e: usize, x: usize)
     image[256 * (g.start + 1) + x] = hash;
 }
 
-// The growth on the disk, granule by granule as `supply::too_few_slots` goes through it on paper.
-fn take_granules(image: &mut [u8], g: Geometry, p: usize, e: usize, k: usize)
-    requires { ⌜ Ready g (now image) p × (e ≡ tail g p (now image)) × (k ≤ length (freeGranules g (now image))) × (fails (grow g p k (now image)) ≡ false) ⌝ }
-    ensures { λ _. ⌜ grown (now (image .exit)) ≡ grow g p k (now (image .entry)) ⌝ }
+// k further granules for the file at slot p, whose last entry is at slot e, one at a time; whether that finds too few slots. The growth on
+// paper and the one on the disk are this one loop: nothing is stored unless it writes. On paper the granules from lo to hi lengthen the run
+// that was the last; every granule below `next` is taken, every slot below `slot` is not free.
+fn take_granules(image: &mut [u8], g: Geometry, p: usize, e: usize, k: usize, writes: bool) -> bool
+    requires { ⌜ Ready g (now image) p × (e ≡ tail g p (now image)) × (k ≤ length (freeGranules g (now image)))
+        × (writes ≡ true → fails (grow g p k (now image)) ≡ false) ⌝ }
+    ensures { λ r. ⌜ (r ≡ fails (grow g p k (now (image .entry))))
+        × (now (image .exit) ≡ cond writes (diskOr (now (image .entry)) (grow g p k (now (image .entry)))) (now (image .entry))) ⌝ }
 {
     let end = supply::last_run(image, g, e);
     let mut last = e;
     let mut runs = end.runs;
     let mut after = end.after;
     let mut long = end.long;
+    let lo = after;
+    let mut hi = after;
     let mut next = 0;
     let mut slot = 0;
     let mut left = k;
     while 0 < left {
         left -= 1;
-        if long < supply::MOST_RUN {
-            if supply::is_clear(image, g, after, 0, 0) {
-                put_longer(image, g, last, runs - 1, after);
-                after += 1;
+        if long < MOST_RUN {
+            if supply::is_clear(image, g, after, lo, hi) {
+                let m = after;
+                put_longer(image, g, last, runs - 1, m, writes);
+                after = m + 1;
                 long += 1;
+                if m == next {
+                    next = m + 1;
+                    continue;
+                }
+                hi = m + 1;
                 continue;
             }
         }
-        let n = supply::next_free(image, g, next, 0, 0);
+        let n = supply::next_free(image, g, next, lo, hi);
         next = n + 1;
         after = n + 1;
         long = 1;
-        if runs < supply::PAIRS {
-            put_pair(image, g, p, last, runs, n);
+        if runs < PAIRS {
+            put_pair(image, g, p, last, runs, n, writes);
             runs += 1;
             continue;
         }
         let x = supply::next_slot(image, g, slot);
-        put_extension(image, g, p, last, x);
-        put_pair(image, g, p, x, 0, n);
+        if x == 256 {
+            return true;
+        }
+        put_extension(image, g, p, last, x, writes);
+        put_pair(image, g, p, x, 0, n, writes);
         last = x;
         slot = x + 1;
         runs = 1;
     }
+    false
 }
 
 // E: no growth.
@@ -155,9 +187,9 @@ pub fn grow(image: &mut [u8], g: Geometry, p: usize, wanted: usize) -> u8
     if supply::too_few(image, g, k) {
         return 9;
     }
-    if supply::too_few_slots(image, g, p, x.last, k) {
+    if take_granules(image, g, p, x.last, k, false) {
         return 8;
     }
-    take_granules(image, g, p, x.last, k);
+    take_granules(image, g, p, x.last, k, true);
     0
 }

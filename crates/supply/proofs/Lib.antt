@@ -1,4 +1,1 @@
-pub mod Step
 pub mod Search
-pub mod Growing
-pub mod Paper

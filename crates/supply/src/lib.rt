@@ -6,16 +6,8 @@ ghost use lib.ListN.{length};
 ghost use lib.Dec.{ltb};
 ghost use Rattle.meaning.specs.Layout.{granules};
 ghost use Rattle.meaning.specs.Free.{freeGranules};
-ghost use Rattle.meaning.specs.Growth.{tail, grow, fails};
-ghost use Rattle.laws.specs.Steps.{Ready};
 ghost use Rattle.layout.specs.Room.{Room, Slot};
 ghost use Rattle.supply.specs.Search.{Ends, Clear, NextFree, NextSlot};
-
-// A run is 1 to 32 granules.
-pub const MOST_RUN: usize = 32;
-
-// An entry has four pairs.
-pub const PAIRS: usize = 4;
 
 // The runs of an entry; the granule after the last of them, and how long that one is. `long` is 32 where there is none.
 pub struct Ending {
@@ -122,52 +114,4 @@ pub fn is_clear(image: &[u8], g: Geometry, n: usize, lo: usize, hi: usize) -> bo
         return true;
     }
     hi <= n
-}
-
-// Whether k further granules for the file at slot p find too few slots: the growth on paper. The granules from lo to hi lengthen the run
-// that was the last; every granule below `next` is taken, every slot below `slot` is not free.
-pub fn too_few_slots(image: &[u8], g: Geometry, p: usize, e: usize, k: usize) -> bool
-    requires { ⌜ Ready g (now image) p × (e ≡ tail g p (now image)) × (k ≤ length (freeGranules g (now image))) ⌝ }
-    ensures { λ r. ⌜ r ≡ fails (grow g p k (now (image .entry))) ⌝ }
-{
-    let end = last_run(image, g, e);
-    let mut runs = end.runs;
-    let mut after = end.after;
-    let mut long = end.long;
-    let lo = after;
-    let mut hi = after;
-    let mut next = 0;
-    let mut slot = 0;
-    let mut left = k;
-    while 0 < left {
-        left -= 1;
-        if long < MOST_RUN {
-            if is_clear(image, g, after, lo, hi) {
-                let m = after;
-                after = m + 1;
-                long += 1;
-                if m == next {
-                    next = m + 1;
-                    continue;
-                }
-                hi = m + 1;
-                continue;
-            }
-        }
-        let n = next_free(image, g, next, lo, hi);
-        next = n + 1;
-        after = n + 1;
-        long = 1;
-        if runs < PAIRS {
-            runs += 1;
-            continue;
-        }
-        let x = next_slot(image, g, slot);
-        if x == 256 {
-            return true;
-        }
-        slot = x + 1;
-        runs = 1;
-    }
-    false
 }

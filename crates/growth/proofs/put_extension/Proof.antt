@@ -1,7 +1,7 @@
-use Rattle.growth.proofs.Put.{extension-put, extension-long}
-use lib.Seq.{length-sets}
 use lib.ListN.{length-set}
+use lib.Seq.{length-sets}
 use native.Mathlib.Omega.{arith}
+use Rattle.growth.proofs.Put.{extension-put, extension-long, stored, not-stored}
 use borrow.Author.Needs.{needs}
 use Rattle.growth.proofs.put_extension.Statement.{statement}
 use Rattle.growth.proofs.put_extension.Tie as tie
@@ -9,94 +9,98 @@ use Rattle.growth.proofs.put_extension.Reads as reads
 use Rattle.growth.proofs.put_extension.Lts as lts
 use Rattle.copy.proofs.put_part.Reads as put-part-reads
 
+returns : tie.Need-returns
+returns c = not-stored (c .before .before .args .writes) _ _ (c .if1 .taken)
+
 add-hash : tie.Need-add-hash
-add-hash c = omega arith
+add-hash c = search needs
 
 mul-hash : tie.Need-mul-hash
-mul-hash c = omega arith
+mul-hash c = search needs
 
 add-hash-2 : tie.Need-add-hash-2
-add-hash-2 c = omega arith
+add-hash-2 c = search needs
 
 slice-read-hash : tie.Need-slice-read-hash
-slice-read-hash c = omega arith
+slice-read-hash c = search needs
 
 add-before : tie.Need-add-before
-add-before c = omega arith
+add-before c = search needs
 
 add-before-2 : tie.Need-add-before-2
-add-before-2 c = omega arith
+add-before-2 c = search needs
 
 mul-before : tie.Need-mul-before
-mul-before c = omega arith
+mul-before c = search needs
 
 mul-before-2 : tie.Need-mul-before-2
-mul-before-2 c = omega arith
+mul-before-2 c = search needs
 
 add-before-3 : tie.Need-add-before-3
-add-before-3 c = omega arith
+add-before-3 c = search needs
 
 add-image : tie.Need-add-image
-add-image c = omega arith
+add-image c = search needs
 
 slice-write-image : tie.Need-slice-write-image
-slice-write-image c = omega arith
+slice-write-image c = search needs
 
 cast-image : tie.Need-cast-image
-cast-image c = omega arith
+cast-image c = search needs
 
 add-image-2 : tie.Need-add-image-2
-add-image-2 c = omega arith
+add-image-2 c = search needs
 
 slice-write-image-2 : tie.Need-slice-write-image-2
-slice-write-image-2 c = let b = c .before .before .before .before .pre .0 in simp length-set (omega arith)
+slice-write-image-2 c = let b = c .before .before .before .before .before .pre .0 in simp length-set (omega arith)
 
-cast-t13 : tie.Need-cast-t13
-cast-t13 c = omega arith
+cast-t15 : tie.Need-cast-t15
+cast-t15 c = search needs
 
 add-put-part : tie.Need-add-put-part
-add-put-part c = omega arith
+add-put-part c = search needs
 
 add-put-part-2 : tie.Need-add-put-part-2
-add-put-part-2 c = omega arith
+add-put-part-2 c = search needs
 
 mul-put-part : tie.Need-mul-put-part
-mul-put-part c = omega arith
+mul-put-part c = search needs
 
 mul-put-part-2 : tie.Need-mul-put-part-2
-mul-put-part-2 c = omega arith
+mul-put-part-2 c = search needs
 
 add-put-part-3 : tie.Need-add-put-part-3
-add-put-part-3 c = omega arith
+add-put-part-3 c = search needs
 
 slice-aggregate-put-part : tie.Need-slice-aggregate-put-part
-slice-aggregate-put-part c = omega arith
+slice-aggregate-put-part c = search needs
 
 put-part-requires : tie.Need-put-part-requires
-put-part-requires c κs = search needs
+put-part-requires c κs = let b = c .before .before .before .before .before .before .before .before .pre .1 in (simp length-set (omega arith), omega arith)
 
 add-image-3 : tie.Need-add-image-3
-add-image-3 c = omega arith
+add-image-3 c = search needs
 
 mul-image : tie.Need-mul-image
-mul-image c = omega arith
+mul-image c = search needs
 
 add-image-4 : tie.Need-add-image-4
-add-image-4 c = omega arith
+add-image-4 c = search needs
 
 slice-write-image-3 : tie.Need-slice-write-image-3
-slice-write-image-3 c = let b = c .before .before .before .before .before .before .before .before .before .before .before .pre .0 in let e = c .before .before .before .put-part .ensures in rw e (simp (length-sets, length-set) (omega arith))
+slice-write-image-3 c = let b = c .before .before .before .before .before .before .before .before .before .before .before .before .pre .0 in let e = c .before .before .before .put-part .ensures in rw e (simp (length-sets, length-set) (omega arith))
 
 same-length : tie.Need-same-length
-same-length c = extension-long (c .before .before .before .before .before .before .before .before .before .before .before .args .g) (c .before .before .before .before .before .before .before .before .before .before .before .args .p) (c .before .before .before .before .before .before .before .before .before .before .before .args .image .now) (c .before .before .before .before .before .before .before .before .before .before .before .args .e) (c .before .before .before .before .before .before .before .before .before .before .before .args .x) (c .before .before .before .put-part .ensures)
+same-length c = extension-long (c .before .before .before .before .before .before .before .before .before .before .before .before .args .g) (c .before .before .before .before .before .before .before .before .before .before .before .before .args .p) (c .before .before .before .before .before .before .before .before .before .before .before .before .args .image .now) (c .before .before .before .before .before .before .before .before .before .before .before .before .args .e) (c .before .before .before .before .before .before .before .before .before .before .before .before .args .x) (c .before .before .before .put-part .ensures)
 
-returns : tie.Need-returns
-returns c = extension-put (c .before .before .before .before .before .before .before .before .before .before .before .args .g) (c .before .before .before .before .before .before .before .before .before .before .before .args .p) (c .before .before .before .before .before .before .before .before .before .before .before .args .image .now) (c .before .before .before .before .before .before .before .before .before .before .before .args .e) (c .before .before .before .before .before .before .before .before .before .before .before .args .x) (c .before .before .before .put-part .ensures)
+returns-2 : tie.Need-returns-2
+returns-2 c = stored (c .before .before .before .before .before .before .before .before .before .before .before .before .args .writes) _ _ _ (c .before .before .before .before .before .before .before .before .before .before .if1 .left) (extension-put (c .before .before .before .before .before .before .before .before .before .before .before .before .args .g) (c .before .before .before .before .before .before .before .before .before .before .before .before .args .p) (c .before .before .before .before .before .before .before .before .before .before .before .before .args .image .now) (c .before .before .before .before .before .before .before .before .before .before .before .before .args .e) (c .before .before .before .before .before .before .before .before .before .before .before .before .args .x) (c .before .before .before .put-part .ensures))
 
 pub put-extension-spec : {M : Type 1} → statement M
 put-extension-spec =
     tie.close
     (tie.spec
+    returns
     add-hash
     mul-hash
     add-hash-2
@@ -111,7 +115,7 @@ put-extension-spec =
     cast-image
     add-image-2
     slice-write-image-2
-    cast-t13
+    cast-t15
     add-put-part
     add-put-part-2
     mul-put-part
@@ -124,4 +128,4 @@ put-extension-spec =
     add-image-4
     slice-write-image-3
     same-length
-    returns)
+    returns-2)

@@ -19,10 +19,10 @@ use Rattle.layout.proofs.Lists.{le-or-lt}
 use Rattle.layout.proofs.Sound.{slot-of}
 use Rattle.joint.proofs.Ready.{walks}
 use Rattle.space.proofs.First.{NoneBelow}
-use Rattle.supply.specs.Stand.{Stand}
+use Rattle.growth.proofs.Stand.{Stand}
 use Rattle.supply.specs.Search.{Ends}
 use Rattle.supply.specs.declared.Ending.{Ending}
-use Rattle.supply.proofs.Step
+use Rattle.growth.proofs.Step
 
 module _ (g : Geometry) (p : ℕ) where
   -- one turn of the growth

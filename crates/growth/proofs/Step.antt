@@ -35,7 +35,7 @@ use Rattle.laws.specs.Steps.{Ready, take-ready}
 use Rattle.laws.specs.Words.{words}
 use Rattle.layout.proofs.Lists.{all-yes, all-no, all-none, le-or-lt}
 use Rattle.space.proofs.First.{NoneBelow, first-at, keep-none}
-use Rattle.supply.specs.Stand.{Stand}
+use Rattle.growth.proofs.Stand.{Stand}
 
 -- a granule that is clear in the GAT
 abbrev pub free : Geometry → List ℕ → ℕ → Bool
