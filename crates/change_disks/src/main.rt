@@ -228,14 +228,7 @@ fn allots(image: &mut [u8; 30720], h: Handle) {
     damage(image);
     allotted(image, small(), h, 0, b"allot, disk not consistent", 22);
     repair(image);
-    allotted(
-        image,
-        small(),
-        h,
-        layout::sector_numbers(small()),
-        b"allot, sector 7,680",
-        12,
-    );
+    allotted(image, small(), h, 7680, b"allot, sector 7,680", 12);
     allotted(image, small(), elsewhere(h), 0, b"allot, handle stale", 7);
 }
 
@@ -244,14 +237,7 @@ fn allots_more(image: &mut [u8; 30720], h: Handle) {
     no_growth(image);
     allotted(image, small(), h, 5, b"allot, E set", 11);
     growth(image);
-    allotted(
-        image,
-        small(),
-        h,
-        layout::sector_numbers(small()) - 1,
-        b"allot, sector 7,679",
-        9,
-    );
+    allotted(image, small(), h, 7679, b"allot, sector 7,679", 9);
     allotted(image, small(), h, 19, b"allot, four granules", 0);
 }
 

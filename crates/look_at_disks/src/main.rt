@@ -368,7 +368,7 @@ fn records(image: &[u8], h: Handle) {
         image,
         small(),
         b"record at the last position",
-        placed(h, layout::highest(small())),
+        placed(h, 1966080),
     );
     read_record(image, small(), b"record out of range", placed(h, 1966081));
     read_record(image, small(), b"record at level 8", levelled(h, 8));
@@ -389,20 +389,8 @@ fn sectors(image: &[u8], h: Handle) {
     read_sector(image, small(), b"sector 14", h, 14);
     read_sector(image, small(), b"sector 15", h, 15);
     read_sector(image, small(), b"sector 26", h, 26);
-    read_sector(
-        image,
-        small(),
-        b"sector 7679",
-        h,
-        layout::sector_numbers(small()) - 1,
-    );
-    read_sector(
-        image,
-        small(),
-        b"sector 7680",
-        h,
-        layout::sector_numbers(small()),
-    );
+    read_sector(image, small(), b"sector 7679", h, 7679);
+    read_sector(image, small(), b"sector 7680", h, 7680);
     read_sector(image, small(), b"sector 0, slot of LEER", slotted(h, 3), 0);
 }
 
