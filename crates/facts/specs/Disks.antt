@@ -1,7 +1,7 @@
 -- More disks and names on which the facts compute, and short words for their answers.
 use Prim.Native.Nat.{ℕ, _+_, _-_, _*_, _/_, _%_}
 use mathlib.Core.List.{List, [], _∷_, _++_, map}
-use mathlib.Core.Bool.{true, cond}
+use mathlib.Core.Bool.{true, false, cond}
 use lib.Dec.{eqb}
 use lib.ListN.{replicate}
 use Rattle.meaning.specs.Lists.{count, each}
@@ -47,6 +47,10 @@ disk blocks units start = record { blocks = blocks; units = units; start = start
 -- 17 blocks of 8 units
 abbrev pub crowd : Geometry
 crowd = record { blocks = 17; units = 8; start = 0; anyone = 0; system = true }
+
+-- the same, stated as a data disk (02 §4)
+abbrev pub crowdOfData : Geometry
+crowdOfData = record { blocks = 17; units = 8; start = 0; anyone = 0; system = false }
 
 -- the slot of entry i of a chain through all 32 permitted slots, row by row
 abbrev slotOf : ℕ → ℕ

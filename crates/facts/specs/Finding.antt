@@ -12,7 +12,7 @@ use Rattle.meaning.specs.Open.{open′}
 use Rattle.meaning.specs.Create.{create}
 use Rattle.meaning.specs.Samples.{changed, written, held, puls, leer, three, sample, hits, e82, opened}
 use Rattle.meaning.specs.declared.NewFile.{NewFile}
-use Rattle.facts.specs.Disks.{broken, answered, puls13, neu, crowd, crowded}
+use Rattle.facts.specs.Disks.{broken, answered, puls13, neu, crowd, crowdOfData, crowded}
 
 -- Look up -----------------------------------------------------------------------------------------------------------------
 
@@ -101,3 +101,8 @@ create-on-day-32 = refl
 create-without-slot : create crowd crowded neu (new 31 0) true ≡ (record { refusal = unplaced 8; old = false; handle = noHandle }, crowded)
 unfolding opened
 create-without-slot = refl
+
+-- 02 §4: "On a data disk only slots 00H and 01H are kept."
+create-on-a-data-disk : create crowdOfData crowded neu (new 31 0) true .0 ≡ record { refusal = unplaced 0; old = false; handle = held 0x02 neu 0 256 0 }
+unfolding opened
+create-on-a-data-disk = refl

@@ -4,11 +4,13 @@ use Prim.Native.Nat.{_+_}
 use mathlib.Core.Path.{_≡_, refl}
 use mathlib.Core.List.{[], _∷_}
 use lib.ListN.{replicate}
+use Rattle.meaning.specs.Layout.{hit}
+use Rattle.meaning.specs.Names.{hash}
 use Rattle.meaning.specs.Allot.{allot}
 use Rattle.meaning.specs.Trim.{trim}
 use Rattle.meaning.specs.Kill.{kill}
 use Rattle.meaning.specs.Samples.{changed, written, held, puls, leer, three, sample, gaps, filled, hits, e80, e81, eA3, opened}
-use Rattle.facts.specs.Disks.{fixed, kept, answered, crowd, crowded}
+use Rattle.facts.specs.Disks.{fixed, kept, answered, crowd, crowdOfData, crowded}
 
 -- Allot -------------------------------------------------------------------------------------------------------------------
 
@@ -46,6 +48,15 @@ allot-too-many = refl
 allot-without-slot : allot crowd crowded (held 0x80 leer 0 1 4) 640 ≡ (answered 8 (held 0x80 leer 0 1 4), crowded)
 unfolding opened
 allot-without-slot = refl
+
+-- stated as a data disk (02 §4), the extension goes to slot 02H
+allot-on-a-data-disk : allot crowdOfData crowded (held 0x80 leer 0 1 4) 640 .0 ≡ answered 0 (held 0x80 leer 0 1 4)
+unfolding opened
+allot-on-a-data-disk = refl
+
+extension-of-a-data-disk : hit crowdOfData (allot crowdOfData crowded (held 0x80 leer 0 1 4) 640 .1) 0x02 ≡ hash leer
+unfolding opened
+extension-of-a-data-disk = refl
 
 -- Trim --------------------------------------------------------------------------------------------------------------------
 
