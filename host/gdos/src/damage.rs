@@ -28,7 +28,7 @@ pub fn faults_text(faults: &Faults) -> String {
     };
     let mut text: String =
         faults.found.iter().map(|found| format!("  {}\n", found_line(found, &faults.files))).collect();
-    if faults.found.first().is_some_and(|found| found.told.fault.kind == FaultKind::DirectoryLength) {
+    if faults.found.first().map_or(false, |found| found.told.fault.kind == FaultKind::DirectoryLength) {
         text += &format!(
             "  all but the first as of a directory of {} sectors, for which most speaks\n",
             faults.directory_sectors

@@ -123,10 +123,13 @@ impl FromStr for Name {
 impl fmt::Display for Name {
     fn fmt(&self, f: &mut fmt::Formatter<'_>) -> fmt::Result {
         let (body, kind) = self.0.split_at(Name::BODY);
-        let mut typed = String::from_utf8_lossy(body.trim_ascii_end()).into_owned();
-        if !kind.trim_ascii_end().is_empty() {
+        let (body, kind) = (String::from_utf8_lossy(body), String::from_utf8_lossy(kind));
+        let ascii_space = |c: char| c.is_ascii_whitespace();
+        let mut typed = body.trim_end_matches(ascii_space).to_string();
+        let kind = kind.trim_end_matches(ascii_space);
+        if !kind.is_empty() {
             typed.push('/');
-            typed.push_str(&String::from_utf8_lossy(kind.trim_ascii_end()));
+            typed.push_str(kind);
         }
         f.pad(&typed)
     }

@@ -78,7 +78,9 @@ fn run(args: &Args) -> Result<Output, Failure> {
         path.push(host_name(&file.entry.name()));
         // Two doubtful files of one name are told apart by their slots.
         if used.contains(&path) {
-            path.as_mut_os_string().push(format!("-slot{}", text::slot(file.entry.slot().into())));
+            let mut apart = path.into_os_string();
+            apart.push(format!("-slot{}", text::slot(file.entry.slot().into())));
+            path = PathBuf::from(apart);
         }
         used.push(path.clone());
         let written = match wanted {
@@ -146,17 +148,10 @@ fn all<'a>(opened: &Opened, mended: &'a Mended) -> Result<(Vec<Had>, Vec<&'a gen
     Ok((had, missing))
 }
 
-fn make(folder: &Path) -> Result<(), Failure> {
-    match folder.is_dir() || folder.as_os_str().is_empty() {
-        true => Ok(()),
-        false => std::fs::create_dir(folder).map_err(Failure::io("make the folder", folder)),
-    }
-}
-
-fn write(folder: &Path, host: &Path, bytes: &[u8], force: bool) -> Result<(), Failure> {
-    make(folder)?;
-    host.parent().map_or(Ok(()), make)?;
-    host::write(host, bytes, force)
+fn write(folder: &Path, path: &Path, bytes: &[u8], force: bool) -> Result<(), Failure> {
+    host::make_folder(folder)?;
+    path.parent().map_or(Ok(()), host::make_folder)?;
+    host::write(path, bytes, force)
 }
 
 fn line(file: &Rescued, host: Option<&Path>) -> String {

@@ -117,7 +117,7 @@ impl Wanted {
 
     /// Every geometry that agrees with what is said and fits an image of this length.
     pub fn fitting(&self, image_len: usize) -> Vec<Geometry> {
-        let may = |said: Option<usize>, number: usize| said.is_none_or(|said| said == number);
+        let may = |said: Option<usize>, number: usize| said.map_or(true, |said| said == number);
         let open_code = self.open_code.unwrap_or(OPEN_CODE);
         let mut fitting = Vec::new();
         for units in (1..=Geometry::MOST_UNITS).filter(|&units| may(self.units, units)) {

@@ -295,7 +295,7 @@ impl Detail {
             }
             Detail::NoSectors { end } => format!("the sector count is 0, but the end byte {end}"),
             Detail::TooLarge { size, granules } => {
-                let needed = counted(size.div_ceil(Geometry::GRANULE_BYTES), "granule");
+                let needed = counted(Geometry::granules_for(size), "granule");
                 format!("a size of {size} bytes needs {needed}, the runs have {granules}")
             }
             Detail::OnDirectory { ref granules, run } => {

@@ -120,11 +120,11 @@ pub(crate) fn found(reading: &Reading) -> Vec<FaultFound> {
 }
 
 pub(super) fn told(reading: &Reading, slot: Option<u8>, detail: Detail) -> FaultFound {
-    let (sector, byte) = slot.map(place).unzip();
+    let at = slot.map(place);
     let told = Explained {
         fault: Fault { kind: detail.kind(), slot },
-        sector,
-        byte,
+        sector: at.map(|(sector, _)| sector),
+        byte: at.map(|(_, byte)| byte),
         image_byte: Some(detail.image_byte(reading, slot)),
         name: slot.and_then(|slot| reading.name_of(slot)),
         message: detail.words(reading, slot),
@@ -267,7 +267,7 @@ fn size(reading: &Reading, file: u8) -> Option<Detail> {
 }
 
 fn on_directory(reading: &Reading, slot: u8, found: &mut Vec<Detail>) {
-    if reading.file_of(slot).is_some_and(|file| reading.entry(file).is_system()) {
+    if reading.file_of(slot).map_or(false, |file| reading.entry(file).is_system()) {
         return;
     }
     let directory = reading.directory_granules();
