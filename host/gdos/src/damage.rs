@@ -12,7 +12,7 @@ pub fn line(told: &Explained) -> String {
 
 /// A file with its slot: `PULS01/DAT (slot 80H)`.
 pub fn named(name: &Name, slot: u8) -> String {
-    format!("{} (slot {})", text::name(name), text::slot(slot.into()))
+    format!("{} (slot {})", name.shown(), text::slot(slot.into()))
 }
 
 /// The doubts about a file, one behind the other.
@@ -70,9 +70,7 @@ pub fn faults_json(faults: &Faults) -> Vec<(&'static str, Json)> {
     });
     let files = |touched: bool| {
         let these = faults.files.iter().filter(move |file| file.touched == touched);
-        Json::list(
-            these.map(|file| Json::object([("name", text::name(&file.name).into()), ("slot", file.slot.into())])),
-        )
+        Json::list(these.map(|file| Json::object([("name", file.name.shown().into()), ("slot", file.slot.into())])))
     };
     vec![
         ("directory_sectors", faults.directory_sectors.into()),
@@ -108,7 +106,7 @@ pub fn step_json(step: &Step) -> Json {
 
 /// A file that could not be had, for `--json`.
 pub fn dropped_json(name: &Name, slot: u8, told: &Explained) -> Json {
-    Json::object([("name", text::name(name).into()), ("slot", slot.into()), ("fault", fault::json(told))])
+    Json::object([("name", name.shown().into()), ("slot", slot.into()), ("fault", fault::json(told))])
 }
 
 /// The doubts about a file, for `--json`.

@@ -155,7 +155,7 @@ fn write(folder: &Path, path: &Path, bytes: &[u8], force: bool) -> Result<(), Fa
 }
 
 fn line(file: &Rescued, host: Option<&Path>) -> String {
-    let (name, size) = (text::name(&file.entry.name()), counted(file.bytes.len(), "byte"));
+    let (name, size) = (file.entry.name().shown(), counted(file.bytes.len(), "byte"));
     match (file.doubts.is_empty(), host) {
         (true, Some(host)) => format!("{name} to {}, {size}\n", host.display()),
         (true, None) => format!("{name}, {size}, not written\n"),
@@ -168,7 +168,7 @@ fn line(file: &Rescued, host: Option<&Path>) -> String {
 
 fn json(file: &Rescued, host: Option<&Path>, elsewhere: bool) -> Json {
     Json::object([
-        ("name", text::name(&file.entry.name()).into()),
+        ("name", file.entry.name().shown().into()),
         ("slot", file.entry.slot().into()),
         ("size", file.bytes.len().into()),
         ("host", host.map(|host| host.to_string_lossy().into_owned()).into()),
