@@ -69,7 +69,7 @@ impl Layout {
     fn of(map: &Map) -> Layout {
         let units = map.geometry.units;
         let across = ((WIDTH - 2 * MARGIN + GAP) / (units * CELL.0 + GAP)).clamp(1, map.geometry.blocks);
-        Layout { across, rows: map.geometry.blocks.div_ceil(across), units }
+        Layout { across, rows: (map.geometry.blocks + across - 1) / across, units }
     }
 
     /// The upper left corner of a block's cells.
@@ -108,7 +108,7 @@ impl Map {
         let id = if id.is_empty() { "map".to_string() } else { id };
         for lines in [self.meanings(), self.tags(drawing)] {
             // Down the columns, as lists are read.
-            let rows = lines.len().div_ceil(LEGEND_COLUMNS);
+            let rows = (lines.len() + LEGEND_COLUMNS - 1) / LEGEND_COLUMNS;
             for (number, line) in lines.iter().enumerate() {
                 let width = (WIDTH - 2 * MARGIN) / LEGEND_COLUMNS;
                 legend += &line.drawn(&id, MARGIN + number / rows * width, height + number % rows * LEGEND_ROW, width);
@@ -164,7 +164,7 @@ impl Map {
             true => String::new(),
             false => format!(" data-fault=\"{}\"", numbers.join(" ")),
         };
-        let faint = drawing.way.is_some_and(|slot| cell.parts.iter().all(|part| part.file != Some(slot)));
+        let faint = drawing.way.map_or(false, |slot| cell.parts.iter().all(|part| part.file != Some(slot)));
         let swatch = Swatch { label: self.label(cell), look: self.look(cell), marked: !numbers.is_empty(), faint };
         format!(
             "<g class=\"cell\" data-granule=\"{}\" data-holds=\"{}\"{fault}><title>{}</title>{}</g>\n",
@@ -202,8 +202,10 @@ impl Map {
                 format!("{},{}", x + CELL.0 / 2, y + CELL.1 - 3)
             })
             .collect();
-        let Some(first) = points.first() else { return String::new() };
-        let (x, y) = first.split_once(',').unwrap_or_default();
+        let (x, y) = match points.first().and_then(|first| first.split_once(',')) {
+            Some(place) => place,
+            None => return String::new(),
+        };
         format!(
             "<g class=\"way\" fill=\"none\" stroke=\"#0b3d91\"><circle cx=\"{x}\" cy=\"{y}\" r=\"2.5\" fill=\"#0b3d91\"/>\
              <polyline points=\"{}\" stroke-width=\"1.4\" marker-end=\"url(#{id}-end)\"/></g>\n",
@@ -250,7 +252,7 @@ impl Map {
             let text =
                 format!("{} (slot {:02X}H), {granules} in {} run", file.name.shown(), file.slot, file.runs.len());
             let text = if file.runs.len() == 1 { text } else { text + "s" };
-            let faint = drawing.way.is_some_and(|slot| slot != file.slot);
+            let faint = drawing.way.map_or(false, |slot| slot != file.slot);
             let look = Look::Plain(self.colour(Some(file.slot)));
             Line { swatch: Swatch { label: file.tag.clone(), look, marked: file.touched, faint }, text }
         };

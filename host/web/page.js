@@ -1,0 +1,371 @@
+"use strict";
+
+// ---- gdos: one call. Words and files go in; status, text and files come out. src/lib.rs says how they are packed. ----
+
+const compiled = WebAssembly.compile(Uint8Array.from(atob(byId("wasm").textContent), (c) => c.charCodeAt(0)));
+const fromText = (text) => new TextEncoder().encode(text);
+const toText = (bytes) => new TextDecoder().decode(bytes);
+
+function packed(parts) {
+  const all = new Uint8Array(parts.reduce((sum, part) => sum + 4 + part.length, 0));
+  let at = 0;
+  for (const part of parts) {
+    new DataView(all.buffer).setUint32(at, part.length, true);
+    all.set(part, at + 4);
+    at += 4 + part.length;
+  }
+  return all;
+}
+
+function unpacked(all) {
+  const parts = [];
+  for (let at = 0; at < all.length; ) {
+    const end = at + 4 + new DataView(all.buffer).getUint32(at, true);
+    parts.push(all.slice(at + 4, end));
+    at = end;
+  }
+  return parts;
+}
+
+// Runs a command on files, each {name, bytes}. Each run has a memory of its own, so the files lent stay as they are.
+async function gdos(words, files) {
+  const { exports } = await WebAssembly.instantiate(await compiled);
+  const lent = files.flatMap(({ name, bytes }) => [fromText(name), bytes]);
+  const question = packed([String(words.length), ...words].map(fromText).concat(lent));
+  const at = exports.room(question.length);
+  new Uint8Array(exports.memory.buffer, at, question.length).set(question);
+  const answer = exports.run(at, question.length);
+  const length = new DataView(exports.memory.buffer).getUint32(answer, true);
+  const [status, out, err, ...rest] = unpacked(new Uint8Array(exports.memory.buffer, answer + 4, length).slice());
+  const written = new Map();
+  for (let i = 0; i < rest.length; i += 2) written.set(toText(rest[i]), rest[i + 1]);
+  return { status: Number(toText(status)), out, lines: toText(err).trimEnd().split("\n").filter(Boolean), written };
+}
+
+// The same for commands that answer in JSON; `json` is their answer, whatever their status.
+async function asked(words, files) {
+  const answer = await gdos([words[0], "--json", ...words.slice(1)], files);
+  return { ...answer, json: JSON.parse(toText(answer.out)) };
+}
+
+// ---- The document ----
+
+function byId(id) {
+  return document.getElementById(id);
+}
+
+function element(tag, attributes = {}, ...children) {
+  const made = document.createElement(tag);
+  for (const [name, value] of Object.entries(attributes)) made.setAttribute(name, value);
+  made.append(...children);
+  return made;
+}
+
+function section(id, title, ...children) {
+  const heading = element("h2", { id: `${id}-title`, tabindex: "-1" }, title);
+  return element("section", { id, "aria-labelledby": `${id}-title` }, heading, ...children);
+}
+
+function button(label, act, attributes = {}) {
+  const made = element("button", { type: "button", ...attributes }, label);
+  made.addEventListener("click", guarded(act));
+  return made;
+}
+
+// A table that scrolls by itself where it is too wide. A column is [title, class]; a cell is text or an element.
+function table(caption, columns, rows) {
+  const head = columns.map(([title, kind]) => element("th", { scope: "col", class: kind }, title));
+  const body = rows.map((row) => element("tr", {}, ...row.map((cell, i) =>
+    i === 0 ? element("th", { scope: "row", class: columns[i][1] }, cell) : element("td", { class: columns[i][1] }, cell))));
+  return element("div", { class: "wide", tabindex: "0", role: "region", "aria-label": caption },
+    element("table", {}, element("caption", {}, caption), element("thead", {}, element("tr", {}, ...head)), element("tbody", {}, ...body)));
+}
+
+function list(items, attributes = {}) {
+  return element("ul", attributes, ...items.map((item) => element("li", {}, item)));
+}
+
+function tell(text) {
+  byId("told").textContent = text;
+}
+
+// What gdos says of itself, without its name.
+const said = (line) => line.replace(/^gdos: (note: )?/, "");
+
+function complain(lines) {
+  byId("trouble").replaceChildren(...(lines.length ? [element("p", {}, lines.map(said).join(" "))] : []));
+}
+
+// A handler of events that tells what goes wrong.
+function guarded(act) {
+  return async (event) => {
+    try {
+      await act(event);
+    } catch (error) {
+      complain([`The page's program stopped: ${error}. Nothing was changed.`]);
+    }
+  };
+}
+
+function download(name, bytes) {
+  const link = element("a", { download: name, href: URL.createObjectURL(new Blob([bytes])) });
+  link.click();
+  setTimeout(() => URL.revokeObjectURL(link.href), 10000);
+}
+
+const slotText = (slot) => `${slot.toString(16).toUpperCase().padStart(2, "0")}H`;
+const counted = (number, noun) => `${number} ${noun}${number === 1 ? "" : "s"}`;
+const hostName = (name) => name.replace("/", ".");
+
+// disk.img and "mended" make disk-mended.img.
+function copyName(name, word) {
+  const dot = name.lastIndexOf(".");
+  return dot > 0 ? `${name.slice(0, dot)}-${word}${name.slice(dot)}` : `${name}-${word}`;
+}
+
+// ---- The disk that is looked at: {name, bytes}, and the options that state its geometry ----
+
+const MOST_BYTES = 192 * 8 * 1280;
+let disk = null;
+let stated = [];
+
+// One byte more than any image has is enough to be refused.
+async function fileOf(file) {
+  return { name: file.name.replace(/^-/, "_"), bytes: new Uint8Array(await file.slice(0, MOST_BYTES + 1).arrayBuffer()) };
+}
+
+const onDisk = (command, ...options) => asked([command, ...options, ...stated, "--", disk.name], [disk]);
+
+function optionsOf({ blocks, units, start, open_code: code }) {
+  return ["--blocks", blocks, "--units", units, "--start", start, "--open-code", code].map(String);
+}
+
+const inWords = ({ blocks, units, start, open_code: code, preset }) =>
+  `${counted(blocks, "block")} of ${counted(units, "unit")}, directory at sector ${start}${preset ? ` (preset ${preset})` : ""}, ` +
+  `open code ${code.toString(16).toUpperCase().padStart(4, "0")}H`;
+
+const evidence = ({ names, nearly, against, beyond }) =>
+  `${counted(names, "name")} for it, ${nearly} nearly${beyond ? `, ${beyond} beyond its length` : ""}, ${counted(against, "slot")} against`;
+
+const faultWords = ({ number, kind, slot, sector, byte, image_byte: at, name, message }) =>
+  `${number} (${kind}): ` + (slot === null ? message
+    : `slot ${slotText(slot)}, directory sector ${sector}, byte ${byte}, image byte ${at}${name ? ` (${name})` : ""}: ${message}`);
+
+// Reads the disk anew, under what the form states or what is found, and shows all of it.
+async function look(image, options) {
+  [disk, stated] = [image, options];
+  complain([]);
+  byId("differences").replaceChildren();
+  byId("disk").replaceChildren();
+  byId("comparing").hidden = true;
+  const found = await onDisk("geometry");
+  const { json: probed } = await asked(["probe", "--", disk.name], [disk]);
+  const ranking = probed.ranking ?? [];
+  if (!found.json.geometry) {
+    byId("stating").open = true;
+    complain([found.lines[0]]);
+    tell(`${disk.name} is not read: its geometry is to be stated.`);
+    byId("disk").replaceChildren(choices(ranking));
+    return;
+  }
+  stated = optionsOf(found.json.geometry);
+  const [checked, drawn] = [await onDisk("check", "--all"), await map()];
+  const state = checked.json.images[0];
+  const notes = found.lines.map(said).filter((line) => !line.includes("not consistent under it"));
+  const parts = [geometrySection(found.json, ranking, notes), checkSection(state), mapSection(drawn)];
+  if (state.consistent) parts.push(await filesSection(), await removedSection());
+  else parts.push(await rescueSection(), await mendSection());
+  byId("disk").replaceChildren(...parts);
+  byId("comparing").hidden = !state.consistent;
+  tell(state.consistent ? `${disk.name}: consistent, ${counted(state.files, "file")}, ${counted(state.free, "granule")} free.`
+    : `${disk.name}: not consistent, ${counted(state.faults.length, "fault")}.`);
+}
+
+// Where the search takes nothing: what speaks for each place, and a button that states it.
+function choices(ranking) {
+  const readings = ranking.flatMap((place) => place.readings.map((reading) => ({ place, reading })));
+  if (!readings.length) return section("choices", "Nothing speaks for any directory", element("p", {}, "State the geometry above."));
+  return section("choices", "What speaks for each directory",
+    element("p", {}, "Nothing is guessed. If you know that one of these is right, say so:"),
+    table("Readings, the strongest first", [["Geometry"], ["Evidence"], ["The disk so read"], ["Say so"]], readings.map(({ place, reading }) => [
+      inWords(reading.geometry), evidence(place),
+      reading.consistent ? `consistent, ${counted(reading.files, "file")}, ${counted(reading.free, "granule")} free` : faultWords(reading.fault),
+      button("Read it so", () => look(disk, optionsOf(reading.geometry)), { "aria-label": `Read it with ${inWords(reading.geometry)}` })])));
+}
+
+function geometrySection({ geometry, geometry_from: from }, ranking, notes) {
+  const place = ranking.find((candidate) => candidate.start === geometry.start);
+  const how = from === "search" ? "Found by evidence, nothing speaks for another" : "Stated by you";
+  return section("how", "Geometry", element("p", {}, inWords(geometry)),
+    element("p", {}, `${how}${place ? `: ${evidence(place)}.` : ": no name speaks for it."}`),
+    ...notes.filter(() => from !== "search").map((note) => element("p", { class: "trouble" }, note)));
+}
+
+function checkSection(state) {
+  if (state.consistent) return section("check", "Check", element("p", { class: "well" }, "The disk is consistent."));
+  const named = (files) => files.map(({ name, slot }) => `${name} (slot ${slotText(slot)})`).join(", ") || "no file";
+  return section("check", "Check", element("p", { class: "ill" }, `The disk is not consistent: ${counted(state.faults.length, "fault")}.`),
+    list(state.faults.map(faultWords), { id: "faults" }),
+    element("p", {}, `Touched: ${named(state.touched)}.`), element("p", {}, `Not touched: ${named(state.not_touched)}.`));
+}
+
+// ---- The map ----
+
+async function map() {
+  const answer = await gdos(["map", ...stated, "--svg", "map.svg", "--", disk.name], [disk]);
+  return new DOMParser().parseFromString(toText(answer.written.get("map.svg")), "image/svg+xml").documentElement;
+}
+
+function mapSection(svg) {
+  const cells = [...svg.querySelectorAll(".cell")];
+  const words = (cell) => cell.querySelector("title").textContent;
+  const marked = cells.filter((cell) => cell.dataset.fault);
+  const told = element("p", { id: "cell", role: "status" });
+  const choose = (cell) => {
+    cells.forEach((other) => other.classList.toggle("chosen", other === cell));
+    told.textContent = cell ? words(cell) : "The disk has no such granule.";
+  };
+  svg.addEventListener("click", (event) => choose(event.target.closest(".cell") ?? undefined));
+  const number = element("input", { id: "granule", inputmode: "numeric", size: "5", autocomplete: "off" });
+  const form = element("form", { class: "row" }, element("label", { for: "granule" }, "Granule"), number, element("button", { class: "second" }, "Tell"));
+  form.addEventListener("submit", (event) => {
+    event.preventDefault();
+    choose(cells.find((cell) => cell.dataset.granule === number.value.trim()));
+  });
+  return section("map", "Map", element("p", {}, "One cell is a granule. Tap a cell, or type its number, and it is told."), form, told,
+    element("div", { class: "wide map", tabindex: "0", role: "region", "aria-label": "Map of the granules" }, document.adoptNode(svg)),
+    ...(marked.length ? [element("p", {}, "Marked by a fault:"), list(marked.map(words), { id: "marked" })] : []));
+}
+
+// ---- Files, and what was removed ----
+
+const attributes = (file) => ["system", "invisible", "keeps_space", "may_not_grow", "worked_on", "password"]
+  .filter((word) => file[word]).map((word) => word.replaceAll("_", " ")).join(", ");
+
+async function filesSection() {
+  const { json } = await onDisk("ls", "--all");
+  const unlock = element("input", { type: "checkbox", id: "unlock" });
+  const take = async (name) => {
+    const answer = await gdos(["cat", ...stated, ...(unlock.checked ? ["--unlock"] : []), "--", disk.name, name], [disk]);
+    complain(answer.status ? answer.lines : []);
+    if (answer.status) return;
+    download(hostName(name), answer.out);
+    tell(`${name}: ${counted(answer.out.length, "byte")}, as ${hostName(name)}.`);
+  };
+  const columns = [["Name", "name"], ["Size", "number"], ["Granules", "number"], ["Date"], ["Level", "number"], ["Attributes"], ["Slot"], ["Take out"]];
+  return section("files", "Files",
+    table(`${counted(json.files.length, "file")}, ${counted(json.free, "granule")} free`, columns, json.files.map((file) => [file.name,
+      String(file.size), String(file.granules), file.date ?? "–", String(file.level), attributes(file), slotText(file.slot),
+      button("Download", () => take(file.name), { "aria-label": `Download ${file.name}` })])),
+    element("p", {}, unlock, " ", element("label", { for: "unlock" }, "Open files without checking their passwords")));
+}
+
+async function removedSection() {
+  const { json } = await onDisk("undelete");
+  const verdict = ({ refused, also_in: also }) => refused ? `no: ${refused.number} (${refused.meaning})`
+    : also.length ? `yes, but ${also.map(({ slot, name, granules }) =>
+      `granules ${granules.join(", ")} are also in slot ${slotText(slot)}${name ? ` (${name})` : ""}`).join("; ")}: contents may be that file's` : "yes";
+  const back = (file) => changed("undelete", ["--slot", String(file.slot)], copyName(disk.name, "brought-back"), `${file.name} brought back`);
+  const rows = json.removed.map((file) => [file.name, String(file.size), slotText(file.slot), verdict(file), file.refused ? ""
+    : button("Bring back", () => back(file), { "aria-label": `Bring back ${file.name} in a copy` })]);
+  return section("removed", "Removed files", rows.length
+    ? table("What removed files left", [["Name", "name"], ["Size", "number"], ["Slot"], ["Can be brought back"], ["In a copy"]], rows)
+    : element("p", {}, "No removed file left anything."),
+    element("p", {}, "What comes back are the bytes that are there now, which another file may have written since: look at them."));
+}
+
+// Changes a copy of the disk, downloads it, and offers to look at it.
+async function changed(command, options, name, words) {
+  const copy = { name, bytes: disk.bytes };
+  const answer = await asked([command, ...options, ...stated, "--", name], [copy]);
+  complain(answer.status ? answer.lines : []);
+  if (!answer.status) offer({ name, bytes: answer.written.get(name) }, words);
+}
+
+function offer(copy, words) {
+  download(copy.name, copy.bytes);
+  tell(`${words}, in the copy ${copy.name}, which was downloaded. ${disk.name} is as it was. `);
+  byId("told").append(button("Look at the copy", () => look(copy, stated), { class: "second" }));
+}
+
+// ---- A damaged disk ----
+
+async function rescueSection() {
+  const answer = await onDisk("rescue", "-o", "rescued", "--doubtful");
+  const { files, missing } = answer.json;
+  if (!files) return section("rescue", "What can be had", element("p", { class: "ill" }, said(answer.lines[0] ?? "Nothing.")));
+  const rows = files.map((file) => [file.name, String(file.size), slotText(file.slot), file.doubts.join("; ") || "none",
+    button("Download", () => download(file.host.split("/").pop(), answer.written.get(file.host)), { "aria-label": `Download ${file.name}, slot ${slotText(file.slot)}` })]);
+  return section("rescue", "What can be had",
+    element("p", {}, "Read from a mended copy in memory. What no rule can tell is not told: an end, a run or a name changed so that the disk is still consistent."),
+    table(counted(files.length, "file"), [["Name", "name"], ["Size", "number"], ["Slot"], ["Doubts"], ["Take out"]], rows),
+    ...missing.map(({ name, slot, fault }) => element("p", { class: "ill" }, `Missing: ${name} (slot ${slotText(slot)}): ${faultWords(fault)}`)));
+}
+
+async function mendSection() {
+  const name = copyName(disk.name, "mended");
+  const answer = await onDisk("mend", "-o", name);
+  const { steps, dropped, doubtful, sure } = answer.json;
+  if (!steps) return section("mend", "A mended copy", element("p", { class: "ill" }, said(answer.lines[0] ?? "None.")));
+  const hex = (byte) => slotText(byte);
+  return section("mend", "A mended copy",
+    element("p", {}, `${counted(sure, "file")} without doubt, ${doubtful.length} doubtful, ${dropped.length} dropped. What is changed:`),
+    list(steps.map(({ done, changes }) => `${done} (${changes.map((c) => `image byte ${c.image_byte}: ${hex(c.before)} becomes ${hex(c.after)}`).join(", ")})`), { id: "steps" }),
+    button("Download the mended copy", () => offer({ name, bytes: answer.written.get(name) }, "Mended")));
+}
+
+// ---- Two disks ----
+
+function difference({ kind, position, contents, first, second, ...differs }) {
+  if (kind !== "unlike") return `only in the ${kind === "only_in_first" ? "first" : "second"}`;
+  const words = contents ? [`differs from byte ${position}`] : [];
+  if (differs.size) words.push(`size (${first.size} and ${second.size})`);
+  if (differs.date) words.push(`date (${first.date ?? "–"} and ${second.date ?? "–"})`);
+  if (differs.attributes) words.push(`attributes (${attributes(first) || "none"}, level ${first.level} and ${attributes(second) || "none"}, level ${second.level})`);
+  return words.join("; ");
+}
+
+// The second disk's own options end in 2. Where nothing is stated of it, it is searched by itself: what is stated of the first does not
+// hold for it.
+async function compare(file) {
+  const [first, second] = [{ ...disk, name: `first/${disk.name}` }, await fileOf(file)];
+  second.name = `second/${second.name}`;
+  const found = await asked(["geometry", ...(byId("second-preset").value ? ["--preset", byId("second-preset").value] : []), "--", second.name], [second]);
+  const shown = byId("differences");
+  if (!found.json.geometry) return shown.replaceChildren(element("p", { class: "ill" }, said(found.lines[0])));
+  const ofSecond = optionsOf(found.json.geometry).map((word) => word.replace(/^--.*/, "$&2"));
+  const { json, lines } = await asked(["diff", ...stated, ...ofSecond, "--", first.name, second.name], [first, second]);
+  if (!json.differences) return shown.replaceChildren(element("p", { class: "ill" }, said(lines[0])));
+  const how = `${second.name}: ${inWords(found.json.geometry)}, ${found.json.geometry_from === "search" ? "found by evidence" : "stated by you"}.`;
+  shown.replaceChildren(element("p", {}, how), json.alike ? element("p", { class: "well" }, "The disks are alike, file by file.")
+    : table(counted(json.differences.length, "difference"), [["Name", "name"], ["Difference"]], json.differences.map((found) => [found.name, difference(found)])));
+}
+
+// ---- What people do ----
+
+const inForm = () => ["preset", "blocks", "units", "start", "open-code"]
+  .map((id) => [`--${id}`, byId(id).value.trim()]).filter(([, value]) => value).flat();
+
+async function open(file) {
+  if (!file) return;
+  tell(`Reading ${file.name} …`);
+  await look(await fileOf(file), inForm());
+}
+
+byId("image").addEventListener("change", guarded((event) => open(event.target.files[0])));
+byId("second").addEventListener("change", guarded((event) => event.target.files[0] && compare(event.target.files[0])));
+byId("geometry").addEventListener("submit", guarded(async (event) => {
+  event.preventDefault();
+  if (disk) await look(disk, inForm());
+  else tell("Choose an image first.");
+}));
+addEventListener("dragover", (event) => {
+  event.preventDefault();
+  document.body.classList.add("over");
+});
+addEventListener("dragleave", () => document.body.classList.remove("over"));
+addEventListener("drop", guarded((event) => {
+  event.preventDefault();
+  document.body.classList.remove("over");
+  return open(event.dataTransfer.files[0]);
+}));
