@@ -75,18 +75,20 @@ function button(label, act, attributes = {}) {
 // A table that scrolls by itself where it is too wide. A column is [title, class]; a cell is text or an element.
 function table(caption, columns, rows) {
   const head = columns.map(([title, kind]) => element("th", { scope: "col", class: kind }, title));
-  const body = rows.map((row) => element("tr", {}, ...row.map((cell, i) =>
-    i === 0 ? element("th", { scope: "row", class: columns[i][1] }, cell) : element("td", { class: columns[i][1] }, cell))));
-  return element("div", { class: "wide", tabindex: "0", role: "region", "aria-label": caption },
-    element("table", {}, element("caption", {}, caption), element("thead", {}, element("tr", {}, ...head)), element("tbody", {}, ...body)));
+  const cell = (content, i) => element(i ? "td" : "th", { ...(i ? {} : { scope: "row" }), class: columns[i][1] }, content);
+  const body = rows.map((row) => element("tr", {}, ...row.map(cell)));
+  const whole = element("table", {}, element("caption", {}, caption),
+    element("thead", {}, element("tr", {}, ...head)), element("tbody", {}, ...body));
+  return element("div", { class: "wide", tabindex: "0", role: "region", "aria-label": caption }, whole);
 }
 
 function list(items, attributes = {}) {
   return element("ul", attributes, ...items.map((item) => element("li", {}, item)));
 }
 
-function tell(text) {
+function tell(text, ill = false) {
   byId("told").textContent = text;
+  byId("told").classList.toggle("trouble", ill);
 }
 
 // What gdos says of itself, without its name.
@@ -114,6 +116,7 @@ function download(name, bytes) {
 }
 
 const slotText = (slot) => `${slot.toString(16).toUpperCase().padStart(2, "0")}H`;
+const codeText = (code) => `${code.toString(16).toUpperCase().padStart(4, "0")}H`;
 const counted = (number, noun) => `${number} ${noun}${number === 1 ? "" : "s"}`;
 const hostName = (name) => name.replace("/", ".");
 
@@ -123,7 +126,7 @@ function copyName(name, word) {
   return dot > 0 ? `${name.slice(0, dot)}-${word}${name.slice(dot)}` : `${name}-${word}`;
 }
 
-// ---- The disk that is looked at: {name, bytes}, and the options that state its geometry ----
+// ---- The disk that is looked at: {name, bytes, beside}, and the options that state its geometry ----
 
 const MOST_BYTES = 192 * 8 * 1280;
 let disk = null;
@@ -134,7 +137,9 @@ async function fileOf(file) {
   return { name: file.name.replace(/^-/, "_"), bytes: new Uint8Array(await file.slice(0, MOST_BYTES + 1).arrayBuffer()) };
 }
 
-const onDisk = (command, ...options) => asked([command, ...options, ...stated, "--", disk.name], [disk]);
+// The disk's file, and the one beside it that states its geometry, if that came too.
+const lent = () => [disk, ...(disk.beside ?? [])];
+const onDisk = (command, ...options) => asked([command, ...options, ...stated, "--", disk.name], lent());
 
 function optionsOf({ blocks, units, start, open_code: code }) {
   return ["--blocks", blocks, "--units", units, "--start", start, "--open-code", code].map(String);
@@ -142,7 +147,7 @@ function optionsOf({ blocks, units, start, open_code: code }) {
 
 const inWords = ({ blocks, units, start, open_code: code, preset }) =>
   `${counted(blocks, "block")} of ${counted(units, "unit")}, directory at sector ${start}${preset ? ` (preset ${preset})` : ""}, ` +
-  `open code ${code.toString(16).toUpperCase().padStart(4, "0")}H`;
+  `open code ${codeText(code)}`;
 
 const evidence = ({ names, nearly, against, beyond }) =>
   `${counted(names, "name")} for it, ${nearly} nearly${beyond ? `, ${beyond} beyond its length` : ""}, ${counted(against, "slot")} against`;
@@ -164,7 +169,7 @@ async function look(image, options) {
   if (!found.json.geometry) {
     byId("stating").open = true;
     complain([found.lines[0]]);
-    tell(`${disk.name} is not read: its geometry is to be stated.`);
+    tell(`${disk.name} is not read: its geometry is to be stated.`, true);
     byId("disk").replaceChildren(choices(ranking));
     return;
   }
@@ -177,25 +182,27 @@ async function look(image, options) {
   else parts.push(await rescueSection(), await mendSection());
   byId("disk").replaceChildren(...parts);
   byId("comparing").hidden = !state.consistent;
-  tell(state.consistent ? `${disk.name}: consistent, ${counted(state.files, "file")}, ${counted(state.free, "granule")} free.`
-    : `${disk.name}: not consistent, ${counted(state.faults.length, "fault")}.`);
+  if (state.consistent) tell(`${disk.name}: consistent, ${counted(state.files, "file")}, ${counted(state.free, "granule")} free.`);
+  else tell(`${disk.name}: not consistent, ${counted(state.faults.length, "fault")}.`, true);
 }
 
 // Where the search takes nothing: what speaks for each place, and a button that states it.
 function choices(ranking) {
-  const readings = ranking.flatMap((place) => place.readings.map((reading) => ({ place, reading })));
-  if (!readings.length) return section("choices", "Nothing speaks for any directory", element("p", {}, "State the geometry above."));
+  const rows = ranking.flatMap((place) => place.readings.map((reading) => {
+    const { geometry, consistent, files, free, fault } = reading;
+    const state = consistent ? `consistent, ${counted(files, "file")}, ${counted(free, "granule")} free` : faultWords(fault);
+    const say = button("Read it so", () => look(disk, optionsOf(geometry)), { "aria-label": `Read it with ${inWords(geometry)}` });
+    return [inWords(geometry), say, evidence(place), state];
+  }));
+  if (!rows.length) return section("choices", "Nothing speaks for any directory", element("p", {}, "State the geometry above."));
   return section("choices", "What speaks for each directory",
     element("p", {}, "Nothing is guessed. If you know that one of these is right, say so:"),
-    table("Readings, the strongest first", [["Geometry"], ["Evidence"], ["The disk so read"], ["Say so"]], readings.map(({ place, reading }) => [
-      inWords(reading.geometry), evidence(place),
-      reading.consistent ? `consistent, ${counted(reading.files, "file")}, ${counted(reading.free, "granule")} free` : faultWords(reading.fault),
-      button("Read it so", () => look(disk, optionsOf(reading.geometry)), { "aria-label": `Read it with ${inWords(reading.geometry)}` })])));
+    table("Readings, the strongest first", [["Geometry"], ["Say so"], ["Evidence"], ["The disk so read"]], rows));
 }
 
 function geometrySection({ geometry, geometry_from: from }, ranking, notes) {
   const place = ranking.find((candidate) => candidate.start === geometry.start);
-  const how = from === "search" ? "Found by evidence, nothing speaks for another" : "Stated by you";
+  const how = { search: "Found by evidence, nothing speaks for another", file: `Stated by ${disk.name}.gdos`, options: "Stated by you" }[from];
   return section("how", "Geometry", element("p", {}, inWords(geometry)),
     element("p", {}, `${how}${place ? `: ${evidence(place)}.` : ": no name speaks for it."}`),
     ...notes.filter(() => from !== "search").map((note) => element("p", { class: "trouble" }, note)));
@@ -227,7 +234,8 @@ function mapSection(svg) {
   };
   svg.addEventListener("click", (event) => choose(event.target.closest(".cell") ?? undefined));
   const number = element("input", { id: "granule", inputmode: "numeric", size: "5", autocomplete: "off" });
-  const form = element("form", { class: "row" }, element("label", { for: "granule" }, "Granule"), number, element("button", { class: "second" }, "Tell"));
+  const form = element("form", { class: "row" },
+    element("label", { for: "granule" }, "Granule"), number, element("button", { class: "second" }, "Tell"));
   form.addEventListener("submit", (event) => {
     event.preventDefault();
     choose(cells.find((cell) => cell.dataset.granule === number.value.trim()));
@@ -240,7 +248,7 @@ function mapSection(svg) {
 // ---- Files, and what was removed ----
 
 const attributes = (file) => ["system", "invisible", "keeps_space", "may_not_grow", "worked_on", "password"]
-  .filter((word) => file[word]).map((word) => word.replaceAll("_", " ")).join(", ");
+  .filter((word) => file[word]).map((word) => word.replaceAll("_", " "));
 
 async function filesSection() {
   const { json } = await onDisk("ls", "--all");
@@ -252,25 +260,30 @@ async function filesSection() {
     download(hostName(name), answer.out);
     tell(`${name}: ${counted(answer.out.length, "byte")}, as ${hostName(name)}.`);
   };
-  const columns = [["Name", "name"], ["Size", "number"], ["Granules", "number"], ["Date"], ["Level", "number"], ["Attributes"], ["Slot"], ["Take out"]];
-  return section("files", "Files",
-    table(`${counted(json.files.length, "file")}, ${counted(json.free, "granule")} free`, columns, json.files.map((file) => [file.name,
-      String(file.size), String(file.granules), file.date ?? "–", String(file.level), attributes(file), slotText(file.slot),
-      button("Download", () => take(file.name), { "aria-label": `Download ${file.name}` })])),
+  const columns = [["Name", "name"], ["Take out"], ["Size", "number"], ["Granules", "number"], ["Date", "date"], ["Level", "number"],
+    ["Attributes"], ["Slot"]];
+  const rows = json.files.map((file) => [file.name, button("Download", () => take(file.name), { "aria-label": `Download ${file.name}` }),
+    String(file.size), String(file.granules), file.date ?? "–", String(file.level), attributes(file).join(", "), slotText(file.slot)]);
+  return section("files", "Files", table(`${counted(json.files.length, "file")}, ${counted(json.free, "granule")} free`, columns, rows),
     element("p", {}, unlock, " ", element("label", { for: "unlock" }, "Open files without checking their passwords")));
 }
 
 async function removedSection() {
   const { json } = await onDisk("undelete");
-  const verdict = ({ refused, also_in: also }) => refused ? `no: ${refused.number} (${refused.meaning})`
-    : also.length ? `yes, but ${also.map(({ slot, name, granules }) =>
-      `granules ${granules.join(", ")} are also in slot ${slotText(slot)}${name ? ` (${name})` : ""}`).join("; ")}: contents may be that file's` : "yes";
-  const back = (file) => changed("undelete", ["--slot", String(file.slot)], copyName(disk.name, "brought-back"), `${file.name} brought back`);
-  const rows = json.removed.map((file) => [file.name, String(file.size), slotText(file.slot), verdict(file), file.refused ? ""
-    : button("Bring back", () => back(file), { "aria-label": `Bring back ${file.name} in a copy` })]);
-  return section("removed", "Removed files", rows.length
-    ? table("What removed files left", [["Name", "name"], ["Size", "number"], ["Slot"], ["Can be brought back"], ["In a copy"]], rows)
-    : element("p", {}, "No removed file left anything."),
+  const alsoIn = ({ slot, name, granules }) =>
+    `${granules.length === 1 ? "granule" : "granules"} ${granules.join(", ")} also in slot ${slotText(slot)}${name ? ` (${name})` : ""}`;
+  const verdict = ({ refused, also_in: also }) => {
+    if (refused) return `no: ${refused.number} (${refused.meaning})`;
+    return also.length ? `yes, but ${also.map(alsoIn).join("; ")}: contents may be that file's` : "yes";
+  };
+  const copy = copyName(disk.name, "brought-back");
+  const back = (file) => changed("undelete", ["--slot", String(file.slot)], copy, `${file.name} brought back`);
+  const rows = json.removed.map((file) => [file.name,
+    file.refused ? "" : button("Bring back", () => back(file), { "aria-label": `Bring back ${file.name} in a copy` }),
+    verdict(file), String(file.size), slotText(file.slot)]);
+  if (!rows.length) return section("removed", "Removed files", element("p", {}, "No removed file left anything."));
+  return section("removed", "Removed files",
+    table("What removed files left", [["Name", "name"], ["In a copy"], ["Can be brought back"], ["Size", "number"], ["Slot"]], rows),
     element("p", {}, "What comes back are the bytes that are there now, which another file may have written since: look at them."));
 }
 
@@ -294,12 +307,15 @@ async function rescueSection() {
   const answer = await onDisk("rescue", "-o", "rescued", "--doubtful");
   const { files, missing } = answer.json;
   if (!files) return section("rescue", "What can be had", element("p", { class: "ill" }, said(answer.lines[0] ?? "Nothing.")));
-  const rows = files.map((file) => [file.name, String(file.size), slotText(file.slot), file.doubts.join("; ") || "none",
-    button("Download", () => download(file.host.split("/").pop(), answer.written.get(file.host)), { "aria-label": `Download ${file.name}, slot ${slotText(file.slot)}` })]);
-  return section("rescue", "What can be had",
-    element("p", {}, "Read from a mended copy in memory. What no rule can tell is not told: an end, a run or a name changed so that the disk is still consistent."),
-    table(counted(files.length, "file"), [["Name", "name"], ["Size", "number"], ["Slot"], ["Doubts"], ["Take out"]], rows),
-    ...missing.map(({ name, slot, fault }) => element("p", { class: "ill" }, `Missing: ${name} (slot ${slotText(slot)}): ${faultWords(fault)}`)));
+  const take = ({ host }) => download(host.split("/").pop(), answer.written.get(host));
+  const rows = files.map((file) => [file.name,
+    button("Download", () => take(file), { "aria-label": `Download ${file.name}, slot ${slotText(file.slot)}` }),
+    file.doubts.join("; ") || "none", String(file.size), slotText(file.slot)]);
+  const lost = ({ name, slot, fault }) => element("p", { class: "ill" }, `Missing: ${name} (slot ${slotText(slot)}): ${faultWords(fault)}`);
+  return section("rescue", "What can be had", element("p", {}, "Read from a mended copy in memory. What no rule can tell is not told: " +
+    "an end, a run or a name changed so that the disk is still consistent."),
+  table(counted(files.length, "file"), [["Name", "name"], ["Take out"], ["Doubts"], ["Size", "number"], ["Slot"]], rows),
+  ...missing.map(lost));
 }
 
 async function mendSection() {
@@ -307,10 +323,10 @@ async function mendSection() {
   const answer = await onDisk("mend", "-o", name);
   const { steps, dropped, doubtful, sure } = answer.json;
   if (!steps) return section("mend", "A mended copy", element("p", { class: "ill" }, said(answer.lines[0] ?? "None.")));
-  const hex = (byte) => slotText(byte);
+  const change = ({ image_byte: at, before, after }) => `image byte ${at}: ${slotText(before)} becomes ${slotText(after)}`;
   return section("mend", "A mended copy",
     element("p", {}, `${counted(sure, "file")} without doubt, ${doubtful.length} doubtful, ${dropped.length} dropped. What is changed:`),
-    list(steps.map(({ done, changes }) => `${done} (${changes.map((c) => `image byte ${c.image_byte}: ${hex(c.before)} becomes ${hex(c.after)}`).join(", ")})`), { id: "steps" }),
+    list(steps.map(({ done, changes }) => `${done} (${changes.map(change).join(", ")})`), { id: "steps" }),
     button("Download the mended copy", () => offer({ name, bytes: answer.written.get(name) }, "Mended")));
 }
 
@@ -321,24 +337,32 @@ function difference({ kind, position, contents, first, second, ...differs }) {
   const words = contents ? [`differs from byte ${position}`] : [];
   if (differs.size) words.push(`size (${first.size} and ${second.size})`);
   if (differs.date) words.push(`date (${first.date ?? "–"} and ${second.date ?? "–"})`);
-  if (differs.attributes) words.push(`attributes (${attributes(first) || "none"}, level ${first.level} and ${attributes(second) || "none"}, level ${second.level})`);
+  const pair = (noun, one, two) => (one === two ? [] : [`${noun}${one} and ${two}`]);
+  const flags = (file) => [...attributes(file), `level ${file.level}`].join(", ");
+  const others = [...pair("", flags(first), flags(second)), ...pair("record length ", first.record_length, second.record_length),
+    ...pair("main code ", codeText(first.main_code), codeText(second.main_code)),
+    ...pair("worker code ", codeText(first.worker_code), codeText(second.worker_code))];
+  if (differs.attributes) words.push(`attributes (${others.join("; ")})`);
   return words.join("; ");
 }
 
 // The second disk's own options end in 2. Where nothing is stated of it, it is searched by itself: what is stated of the first does not
 // hold for it.
 async function compare(file) {
-  const [first, second] = [{ ...disk, name: `first/${disk.name}` }, await fileOf(file)];
-  second.name = `second/${second.name}`;
-  const found = await asked(["geometry", ...(byId("second-preset").value ? ["--preset", byId("second-preset").value] : []), "--", second.name], [second]);
+  const preset = byId("second-preset").value;
   const shown = byId("differences");
+  const second = await fileOf(file);
+  const found = await asked(["geometry", ...(preset ? ["--preset", preset] : []), "--", second.name], [second]);
   if (!found.json.geometry) return shown.replaceChildren(element("p", { class: "ill" }, said(found.lines[0])));
   const ofSecond = optionsOf(found.json.geometry).map((word) => word.replace(/^--.*/, "$&2"));
-  const { json, lines } = await asked(["diff", ...stated, ...ofSecond, "--", first.name, second.name], [first, second]);
+  const both = [disk, second].map(({ name, bytes }, i) => ({ name: `${i + 1}/${name}`, bytes }));
+  const { json, lines } = await asked(["diff", ...stated, ...ofSecond, "--", ...both.map(({ name }) => name)], both);
   if (!json.differences) return shown.replaceChildren(element("p", { class: "ill" }, said(lines[0])));
-  const how = `${second.name}: ${inWords(found.json.geometry)}, ${found.json.geometry_from === "search" ? "found by evidence" : "stated by you"}.`;
-  shown.replaceChildren(element("p", {}, how), json.alike ? element("p", { class: "well" }, "The disks are alike, file by file.")
-    : table(counted(json.differences.length, "difference"), [["Name", "name"], ["Difference"]], json.differences.map((found) => [found.name, difference(found)])));
+  const rows = json.differences.map((found) => [found.name, difference(found)]);
+  const from = found.json.geometry_from === "search" ? "found by evidence" : "stated by you";
+  shown.replaceChildren(element("p", {}, `${disk.name} and ${second.name} (${inWords(found.json.geometry)}, ${from}):`),
+    json.alike ? element("p", { class: "well" }, "The disks are alike, file by file.")
+      : table(counted(rows.length, "difference"), [["Name", "name"], ["Difference"]], rows));
 }
 
 // ---- What people do ----
@@ -346,13 +370,18 @@ async function compare(file) {
 const inForm = () => ["preset", "blocks", "units", "start", "open-code"]
   .map((id) => [`--${id}`, byId(id).value.trim()]).filter(([, value]) => value).flat();
 
-async function open(file) {
-  if (!file) return;
-  tell(`Reading ${file.name} …`);
-  await look(await fileOf(file), inForm());
+async function open(files) {
+  const image = [...files].find(({ name }) => !name.endsWith(".gdos")) ?? files[0];
+  if (!image) return;
+  const others = [...files].filter((file) => file !== image);
+  const beside = others.filter(({ name }) => name === `${image.name}.gdos`);
+  tell(`Reading ${image.name} …`);
+  await look({ ...(await fileOf(image)), beside: await Promise.all(beside.map(fileOf)) }, inForm());
+  const surplus = others.filter((other) => !beside.includes(other)).map(({ name }) => name);
+  if (surplus.length) byId("trouble").append(element("p", {}, `One image is read at a time. Left: ${surplus.join(", ")}.`));
 }
 
-byId("image").addEventListener("change", guarded((event) => open(event.target.files[0])));
+byId("image").addEventListener("change", guarded((event) => open(event.target.files)));
 byId("second").addEventListener("change", guarded((event) => event.target.files[0] && compare(event.target.files[0])));
 byId("geometry").addEventListener("submit", guarded(async (event) => {
   event.preventDefault();
@@ -367,5 +396,6 @@ addEventListener("dragleave", () => document.body.classList.remove("over"));
 addEventListener("drop", guarded((event) => {
   event.preventDefault();
   document.body.classList.remove("over");
-  return open(event.dataTransfer.files[0]);
+  byId("image").files = event.dataTransfer.files;
+  return open(event.dataTransfer.files);
 }));

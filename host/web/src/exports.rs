@@ -1,7 +1,8 @@
-//! What the page calls: three functions over numbers. A string of bytes is passed by its place and its length.
+//! What the page calls: two functions over numbers. A string of bytes is passed by its place and its length. No room is given back: the
+//! page has an instance of the module, and its memory, for one run.
 
 use crate::{asked, packed};
-use std::alloc::{alloc, dealloc, Layout};
+use std::alloc::{alloc, Layout};
 
 /// Room for so many bytes, which the page then writes and hands to [`run`].
 #[no_mangle]
@@ -10,18 +11,6 @@ pub extern "C" fn room(length: usize) -> *mut u8 {
         // SAFETY: the layout has at least one byte.
         Ok(layout) => unsafe { alloc(layout) },
         Err(_) => std::ptr::null_mut(),
-    }
-}
-
-/// Gives room back.
-///
-/// # Safety
-///
-/// `at` and `length` are of one call of [`room`], or of the answer of one call of [`run`], and are given back once.
-#[no_mangle]
-pub unsafe extern "C" fn give_back(at: *mut u8, length: usize) {
-    if let Ok(layout) = Layout::array::<u8>(length.max(1)) {
-        dealloc(at, layout);
     }
 }
 
