@@ -156,8 +156,13 @@ const faultWords = ({ number, kind, slot, sector, byte, image_byte: at, name, me
   `${number} (${kind}): ` + (slot === null ? message
     : `slot ${slotText(slot)}, directory sector ${sector}, byte ${byte}, image byte ${at}${name ? ` (${name})` : ""}: ${message}`);
 
-// Reads the disk anew, under what the form states or what is found, and shows all of it.
+// Reads the disk anew, under these options or what is found, and shows all of it. The focus goes there if what had it is gone.
 async function look(image, options) {
+  await show(image, options);
+  if (document.activeElement === document.body) byId("disk").querySelector("h2")?.focus({ preventScroll: true });
+}
+
+async function show(image, options) {
   [disk, stated] = [image, options];
   complain([]);
   byId("differences").replaceChildren();
@@ -180,7 +185,7 @@ async function look(image, options) {
   const parts = [geometrySection(found.json, ranking, notes), checkSection(state), mapSection(drawn)];
   if (state.consistent) parts.push(await filesSection(), await removedSection());
   else parts.push(await rescueSection(), await mendSection());
-  byId("disk").replaceChildren(...parts);
+  byId("disk").replaceChildren(...parts, reportSection());
   byId("comparing").hidden = !state.consistent;
   if (state.consistent) tell(`${disk.name}: consistent, ${counted(state.files, "file")}, ${counted(state.free, "granule")} free.`);
   else tell(`${disk.name}: not consistent, ${counted(state.faults.length, "fault")}.`, true);
@@ -328,6 +333,19 @@ async function mendSection() {
     element("p", {}, `${counted(sure, "file")} without doubt, ${doubtful.length} doubtful, ${dropped.length} dropped. What is changed:`),
     list(steps.map(({ done, changes }) => `${done} (${changes.map(change).join(", ")})`), { id: "steps" }),
     button("Download the mended copy", () => offer({ name, bytes: answer.written.get(name) }, "Mended")));
+}
+
+// ---- A page about the disk, to be mailed ----
+
+function reportSection() {
+  const write = async () => {
+    const name = `${disk.name}.html`;
+    const answer = await onDisk("report", "-o", name);
+    download(name, answer.written.get(name));
+    tell(`The report on ${disk.name} was downloaded as ${name}.`);
+  };
+  return section("report", "Report", element("p", {}, "One page with all of this, to be mailed or printed; it needs nothing else."),
+    button("Download the report", write));
 }
 
 // ---- Two disks ----
