@@ -68,7 +68,7 @@ function section(id, title, ...children) {
 
 function button(label, act, attributes = {}) {
   const made = element("button", { type: "button", ...attributes }, label);
-  made.addEventListener("click", guarded(act));
+  made.addEventListener("click", () => inTurn(act));
   return made;
 }
 
@@ -98,15 +98,10 @@ function complain(lines) {
   byId("trouble").replaceChildren(...(lines.length ? [element("p", {}, lines.map(said).join(" "))] : []));
 }
 
-// A handler of events that tells what goes wrong.
-function guarded(act) {
-  return async (event) => {
-    try {
-      await act(event);
-    } catch (error) {
-      complain([`The page's program stopped: ${error}. Nothing was changed.`]);
-    }
-  };
+// What people ask for is done one after the other, so that nothing of one disk is shown with another's. What goes wrong is told.
+let last = Promise.resolve();
+function inTurn(act) {
+  last = last.then(act).catch((error) => complain([`The page's program stopped: ${error}. Nothing was changed.`]));
 }
 
 function download(name, bytes) {
@@ -126,15 +121,16 @@ function copyName(name, word) {
   return dot > 0 ? `${name.slice(0, dot)}-${word}${name.slice(dot)}` : `${name}-${word}`;
 }
 
-// ---- The disk that is looked at: {name, bytes, beside}, and the options that state its geometry ----
+// ---- The disk that is looked at: {name, bytes, beside}, the options that were stated for it, and the geometry that it is read by ----
 
 const MOST_BYTES = 192 * 8 * 1280;
 let disk = null;
 let stated = [];
+let geometry = null;
 
 // One byte more than any image has is enough to be refused.
 async function fileOf(file) {
-  return { name: file.name.replace(/^-/, "_"), bytes: new Uint8Array(await file.slice(0, MOST_BYTES + 1).arrayBuffer()) };
+  return { name: file.name, bytes: new Uint8Array(await file.slice(0, MOST_BYTES + 1).arrayBuffer()) };
 }
 
 // The disk's file, and the one beside it that states its geometry, if that came too.
@@ -163,7 +159,7 @@ async function look(image, options) {
 }
 
 async function show(image, options) {
-  [disk, stated] = [image, options];
+  [disk, stated, geometry] = [image, options, null];
   complain([]);
   byId("differences").replaceChildren();
   byId("disk").replaceChildren();
@@ -178,11 +174,11 @@ async function show(image, options) {
     byId("disk").replaceChildren(choices(ranking));
     return;
   }
-  stated = optionsOf(found.json.geometry);
+  geometry = found.json.geometry;
   const [checked, drawn] = [await onDisk("check", "--all"), await map()];
   const state = checked.json.images[0];
   const notes = found.lines.map(said).filter((line) => !line.includes("not consistent under it"));
-  const parts = [geometrySection(found.json, ranking, notes), checkSection(state), mapSection(drawn)];
+  const parts = [geometrySection(found.json.geometry_from, ranking, notes), checkSection(state), mapSection(drawn)];
   if (state.consistent) parts.push(await filesSection(), await removedSection());
   else parts.push(await rescueSection(), await mendSection());
   byId("disk").replaceChildren(...parts, reportSection());
@@ -194,10 +190,10 @@ async function show(image, options) {
 // Where the search takes nothing: what speaks for each place, and a button that states it.
 function choices(ranking) {
   const rows = ranking.flatMap((place) => place.readings.map((reading) => {
-    const { geometry, consistent, files, free, fault } = reading;
+    const { geometry: read, consistent, files, free, fault } = reading;
     const state = consistent ? `consistent, ${counted(files, "file")}, ${counted(free, "granule")} free` : faultWords(fault);
-    const say = button("Read it so", () => look(disk, optionsOf(geometry)), { "aria-label": `Read it with ${inWords(geometry)}` });
-    return [inWords(geometry), say, evidence(place), state];
+    const say = button("Read it so", () => look(disk, optionsOf(read)), { "aria-label": `Read it with ${inWords(read)}` });
+    return [inWords(read), say, evidence(place), state];
   }));
   if (!rows.length) return section("choices", "Nothing speaks for any directory", element("p", {}, "State the geometry above."));
   return section("choices", "What speaks for each directory",
@@ -205,11 +201,12 @@ function choices(ranking) {
     table("Readings, the strongest first", [["Geometry"], ["Say so"], ["Evidence"], ["The disk so read"]], rows));
 }
 
-function geometrySection({ geometry, geometry_from: from }, ranking, notes) {
+function geometrySection(from, ranking, notes) {
   const place = ranking.find((candidate) => candidate.start === geometry.start);
-  const how = { search: "Found by evidence, nothing speaks for another", file: `Stated by ${disk.name}.gdos`, options: "Stated by you" }[from];
+  const found = "Found by evidence, nothing speaks for another";
+  const sources = { search: found, file: `Stated by ${disk.name}.gdos`, options: "Stated by you" };
   return section("how", "Geometry", element("p", {}, inWords(geometry)),
-    element("p", {}, `${how}${place ? `: ${evidence(place)}.` : ": no name speaks for it."}`),
+    element("p", {}, `${sources[from]}${place ? `: ${evidence(place)}.` : ": no name speaks for it."}`),
     ...notes.filter(() => from !== "search").map((note) => element("p", { class: "trouble" }, note)));
 }
 
@@ -224,7 +221,7 @@ function checkSection(state) {
 // ---- The map ----
 
 async function map() {
-  const answer = await gdos(["map", ...stated, "--svg", "map.svg", "--", disk.name], [disk]);
+  const answer = await onDisk("map", "--svg", "map.svg");
   return new DOMParser().parseFromString(toText(answer.written.get("map.svg")), "image/svg+xml").documentElement;
 }
 
@@ -259,7 +256,7 @@ async function filesSection() {
   const { json } = await onDisk("ls", "--all");
   const unlock = element("input", { type: "checkbox", id: "unlock" });
   const take = async (name) => {
-    const answer = await gdos(["cat", ...stated, ...(unlock.checked ? ["--unlock"] : []), "--", disk.name, name], [disk]);
+    const answer = await gdos(["cat", ...stated, ...(unlock.checked ? ["--unlock"] : []), "--", disk.name, name], lent());
     complain(answer.status ? answer.lines : []);
     if (answer.status) return;
     download(hostName(name), answer.out);
@@ -281,8 +278,11 @@ async function removedSection() {
     if (refused) return `no: ${refused.number} (${refused.meaning})`;
     return also.length ? `yes, but ${also.map(alsoIn).join("; ")}: contents may be that file's` : "yes";
   };
-  const copy = copyName(disk.name, "brought-back");
-  const back = (file) => changed("undelete", ["--slot", String(file.slot)], copy, `${file.name} brought back`);
+  const back = async (file) => {
+    const answer = await onDisk("undelete", "--search", "--slot", String(file.slot));
+    complain(answer.status ? answer.lines : []);
+    if (!answer.status) offer(copyName(disk.name, "brought-back"), answer.written.get(disk.name), `${file.name} brought back`);
+  };
   const rows = json.removed.map((file) => [file.name,
     file.refused ? "" : button("Bring back", () => back(file), { "aria-label": `Bring back ${file.name} in a copy` }),
     verdict(file), String(file.size), slotText(file.slot)]);
@@ -292,18 +292,12 @@ async function removedSection() {
     element("p", {}, "What comes back are the bytes that are there now, which another file may have written since: look at them."));
 }
 
-// Changes a copy of the disk, downloads it, and offers to look at it.
-async function changed(command, options, name, words) {
-  const copy = { name, bytes: disk.bytes };
-  const answer = await asked([command, ...options, ...stated, "--", name], [copy]);
-  complain(answer.status ? answer.lines : []);
-  if (!answer.status) offer({ name, bytes: answer.written.get(name) }, words);
-}
-
-function offer(copy, words) {
-  download(copy.name, copy.bytes);
-  tell(`${words}, in the copy ${copy.name}, which was downloaded. ${disk.name} is as it was. `);
-  byId("told").append(button("Look at the copy", () => look(copy, stated), { class: "second" }));
+// Downloads a copy that was changed, and offers to look at it under the same geometry.
+function offer(name, bytes, words) {
+  const options = optionsOf(geometry);
+  download(name, bytes);
+  tell(`${words}, in the copy ${name}, which was downloaded. ${disk.name} is as it was. `);
+  byId("told").append(button("Look at the copy", () => look({ name, bytes }, options), { class: "second" }));
 }
 
 // ---- A damaged disk ----
@@ -332,7 +326,7 @@ async function mendSection() {
   return section("mend", "A mended copy",
     element("p", {}, `${counted(sure, "file")} without doubt, ${doubtful.length} doubtful, ${dropped.length} dropped. What is changed:`),
     list(steps.map(({ done, changes }) => `${done} (${changes.map(change).join(", ")})`), { id: "steps" }),
-    button("Download the mended copy", () => offer({ name, bytes: answer.written.get(name) }, "Mended")));
+    button("Download the mended copy", () => offer(name, answer.written.get(name), "Mended")));
 }
 
 // ---- A page about the disk, to be mailed ----
@@ -374,7 +368,7 @@ async function compare(file) {
   if (!found.json.geometry) return shown.replaceChildren(element("p", { class: "ill" }, said(found.lines[0])));
   const ofSecond = optionsOf(found.json.geometry).map((word) => word.replace(/^--.*/, "$&2"));
   const both = [disk, second].map(({ name, bytes }, i) => ({ name: `${i + 1}/${name}`, bytes }));
-  const { json, lines } = await asked(["diff", ...stated, ...ofSecond, "--", ...both.map(({ name }) => name)], both);
+  const { json, lines } = await asked(["diff", ...optionsOf(geometry), ...ofSecond, "--", ...both.map(({ name }) => name)], both);
   if (!json.differences) return shown.replaceChildren(element("p", { class: "ill" }, said(lines[0])));
   const rows = json.differences.map((found) => [found.name, difference(found)]);
   const from = found.json.geometry_from === "search" ? "found by evidence" : "stated by you";
@@ -389,9 +383,9 @@ const inForm = () => ["preset", "blocks", "units", "start", "open-code"]
   .map((id) => [`--${id}`, byId(id).value.trim()]).filter(([, value]) => value).flat();
 
 async function open(files) {
-  const image = [...files].find(({ name }) => !name.endsWith(".gdos")) ?? files[0];
+  const image = files.find(({ name }) => !name.endsWith(".gdos")) ?? files[0];
   if (!image) return;
-  const others = [...files].filter((file) => file !== image);
+  const others = files.filter((file) => file !== image);
   const beside = others.filter(({ name }) => name === `${image.name}.gdos`);
   tell(`Reading ${image.name} …`);
   await look({ ...(await fileOf(image)), beside: await Promise.all(beside.map(fileOf)) }, inForm());
@@ -399,21 +393,27 @@ async function open(files) {
   if (surplus.length) byId("trouble").append(element("p", {}, `One image is read at a time. Left: ${surplus.join(", ")}.`));
 }
 
-byId("image").addEventListener("change", guarded((event) => open(event.target.files)));
-byId("second").addEventListener("change", guarded((event) => event.target.files[0] && compare(event.target.files[0])));
-byId("geometry").addEventListener("submit", guarded(async (event) => {
+byId("image").addEventListener("change", (event) => {
+  const files = [...event.target.files];
+  inTurn(() => open(files));
+});
+byId("second").addEventListener("change", (event) => {
+  const [file] = event.target.files;
+  if (file) inTurn(() => compare(file));
+});
+byId("geometry").addEventListener("submit", (event) => {
   event.preventDefault();
-  if (disk) await look(disk, inForm());
-  else tell("Choose an image first.");
-}));
+  inTurn(() => (disk ? look(disk, inForm()) : tell("Choose an image first.")));
+});
 addEventListener("dragover", (event) => {
   event.preventDefault();
   document.body.classList.add("over");
 });
 addEventListener("dragleave", () => document.body.classList.remove("over"));
-addEventListener("drop", guarded((event) => {
+addEventListener("drop", (event) => {
   event.preventDefault();
   document.body.classList.remove("over");
-  byId("image").files = event.dataTransfer.files;
-  return open(event.dataTransfer.files);
-}));
+  const files = [...event.dataTransfer.files];
+  if (files.length) byId("image").files = event.dataTransfer.files;
+  inTurn(() => open(files));
+});

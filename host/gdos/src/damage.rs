@@ -43,7 +43,8 @@ pub fn faults_text(faults: &Faults) -> String {
     text
 }
 
-fn found_line(found: &FaultFound, files: &[FileFound]) -> String {
+/// A fault as a line, with the other files that it touches.
+pub fn found_line(found: &FaultFound, files: &[FileFound]) -> String {
     let others =
         files.iter().filter(|file| found.touches.contains(&file.slot) && Some(file.slot) != found.told.fault.slot);
     let others: Vec<String> = others.map(|file| named(&file.name, file.slot)).collect();
@@ -56,25 +57,27 @@ fn found_line(found: &FaultFound, files: &[FileFound]) -> String {
     }
 }
 
+/// A fault and the slots of the files that it touches, for `--json`.
+pub fn fault_json(found: &FaultFound) -> Json {
+    let slots = found.touches.iter().map(|&slot| slot.into());
+    match fault::json(&found.told) {
+        Json::Object(mut members) => {
+            members.push(("touches", Json::list(slots)));
+            Json::Object(members)
+        }
+        other => other,
+    }
+}
+
 /// Every fault and the files, for `--json`.
 pub fn faults_json(faults: &Faults) -> Vec<(&'static str, Json)> {
-    let found = faults.found.iter().map(|found| {
-        let slots = found.touches.iter().map(|&slot| slot.into());
-        match fault::json(&found.told) {
-            Json::Object(mut members) => {
-                members.push(("touches", Json::list(slots)));
-                Json::Object(members)
-            }
-            other => other,
-        }
-    });
     let files = |touched: bool| {
         let these = faults.files.iter().filter(move |file| file.touched == touched);
         Json::list(these.map(|file| Json::object([("name", file.name.shown().into()), ("slot", file.slot.into())])))
     };
     vec![
         ("directory_sectors", faults.directory_sectors.into()),
-        ("faults", Json::list(found)),
+        ("faults", Json::list(faults.found.iter().map(fault_json))),
         ("touched", files(true)),
         ("not_touched", files(false)),
     ]

@@ -4,9 +4,11 @@
 //! browser, `run_on` hands it its files too (`host/web`). That build is by rustc 1.63, so what is not in `host` keeps to it.
 
 mod args;
+mod colour;
 mod commands;
 mod damage;
 mod date;
+mod dump;
 mod failure;
 mod fault;
 mod help;
@@ -16,6 +18,8 @@ mod json;
 #[cfg(any(test, not(unix)))]
 mod memory;
 mod names;
+mod page;
+mod places;
 mod program;
 mod search;
 mod shape;

@@ -75,6 +75,11 @@ pub fn read_text(path: &Path) -> Result<Option<String>, Failure> {
     text.map_err(|_| Failure::Wrong(format!("{} is no text", path.display())))
 }
 
+/// What is written goes to the caller.
+pub fn is_terminal() -> bool {
+    false
+}
+
 /// Whether two names are of one file.
 pub fn same_file(one: &Path, other: &Path) -> bool {
     one == other && bytes_at(one).is_some()

@@ -2,6 +2,7 @@
 //! other's. What is in no entry any more cannot be seen.
 
 use crate::json::Json;
+use crate::places::{entry, has_slot};
 use crate::text::{self, counted};
 use genie_dos::{Disk, Entry, Geometry, Name};
 
@@ -23,8 +24,10 @@ pub fn also_in(disk: &Disk, slot: usize) -> Vec<Also> {
         Ok(sectors) => sectors,
         Err(_) => return Vec::new(),
     };
-    let slots = || (0..256).filter(|slot| slot % 32 + 2 < sectors);
-    let dead = |slot: usize| entry(disk, slot).filter(|bytes| bytes[0] & 0x10 == 0 && !is_blank(bytes));
+    let slots = || (0..256).filter(|&slot| has_slot(sectors, slot));
+    let dead = |slot: usize| {
+        entry(disk.image(), disk.geometry(), slot).filter(|bytes| bytes[0] & 0x10 == 0 && !is_blank(bytes))
+    };
     let is_primary = |bytes: &Bytes| bytes[0] & 0x80 == 0;
     let own = chain(slot, dead);
     let granules = granules(disk, &own, dead);
@@ -48,13 +51,6 @@ pub fn also_in(disk: &Disk, slot: usize) -> Vec<Also> {
     }
     found.sort_by_key(|also| also.slot);
     found
-}
-
-/// An entry of the directory.
-fn entry(disk: &Disk, slot: usize) -> Option<Bytes> {
-    let sector = disk.geometry().start + slot % 32 + 2;
-    let from = sector * Geometry::SECTOR_BYTES + Entry::LEN * (slot / 32);
-    disk.image().get(from..from + Entry::LEN)?.try_into().ok()
 }
 
 fn is_blank(bytes: &Bytes) -> bool {

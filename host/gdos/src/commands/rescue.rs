@@ -12,7 +12,7 @@ use crate::json::Json;
 use crate::names::host_name;
 use crate::shape::{self, Wanted};
 use crate::text::{self, counted};
-use genie_dos::{Mended, Rescued};
+use genie_dos::{Dropped, Mended, Rescued};
 use std::path::{Path, PathBuf};
 
 const OUTPUT: Spec =
@@ -55,8 +55,8 @@ The image is never written. State its geometry: a damaged disk is seldom found b
 pub const STATUS: &str = "0 all files, 1 refused, or a file is missing or doubtful, 2 wrong usage or I/O";
 
 /// A file, and whether it was read from the copy or from another one in which it could stay.
-struct Had {
-    file: Rescued,
+pub struct Had {
+    pub file: Rescued,
     elsewhere: bool,
 }
 
@@ -66,7 +66,7 @@ fn run(args: &Args) -> Result<Output, Failure> {
     let folder = folder.ok_or_else(|| Failure::Wrong("which folder? -o FOLDER names it".to_string()))?;
     let opened = Opened::unchecked(&Wanted::from_args(args)?, image)?;
     let mended = mended(&opened)?;
-    let (had, missing) = all(&opened, &mended)?;
+    let (had, missing) = had_and_missing(&opened, &mended)?;
 
     let mut output = opened.output();
     let mut told = Vec::new();
@@ -131,7 +131,7 @@ fn run(args: &Args) -> Result<Output, Failure> {
 
 /// The files of the mended copy; those that it does not have, but another one in which they could stay; and those that cannot be
 /// had.
-fn all<'a>(opened: &Opened, mended: &'a Mended) -> Result<(Vec<Had>, Vec<&'a genie_dos::Dropped>), Failure> {
+pub fn had_and_missing<'a>(opened: &Opened, mended: &'a Mended) -> Result<(Vec<Had>, Vec<&'a Dropped>), Failure> {
     let read = |mended: &Mended| mended.rescue().map_err(Failure::image(&opened.path));
     let mut had: Vec<Had> = read(mended)?.into_iter().map(|file| Had { file, elsewhere: false }).collect();
     let mut missing = Vec::new();

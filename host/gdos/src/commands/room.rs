@@ -1,14 +1,15 @@
 //! What is left on a disk for files, to say it where a file does not fit.
 
+use crate::places::{has_slot, hit_at};
 use genie_dos::{Disk, Geometry};
 
 /// Slots that files may have, and how many of them are free.
 pub fn slots(disk: &Disk) -> Option<(usize, usize)> {
     let sectors = disk.directory_sectors().ok()?;
-    let hit = (disk.geometry().start + 1) * Geometry::SECTOR_BYTES;
+    let hit = hit_at(disk.geometry(), 0);
     let hit = disk.image().get(hit..hit + Geometry::SECTOR_BYTES)?;
     // Rows 0 to 3 with s 0 to 7 are kept for system files.
-    let permitted = (0..256).filter(|slot| slot % 32 + 2 < sectors && (slot / 32 > 3 || slot % 32 > 7));
+    let permitted = (0..256).filter(|&slot| has_slot(sectors, slot) && (slot / 32 > 3 || slot % 32 > 7));
     let permitted: Vec<usize> = permitted.collect();
     Some((permitted.len(), permitted.iter().filter(|&&slot| hit[slot] == 0).count()))
 }

@@ -83,7 +83,9 @@ pub struct MappedFile {
     pub tag: String,
     /// Whether a fault touches it.
     pub touched: bool,
-    /// Its runs in its own order, on the disk or not, as far as its chain can be walked.
+    /// The slots of its entries: its own, then its extensions' as far as its chain can be walked.
+    pub slots: Vec<u8>,
+    /// Their runs, on the disk or not.
     pub runs: Vec<Run>,
 }
 
@@ -128,14 +130,20 @@ impl<B: AsRef<[u8]>> Disk<B> {
         let mut files: Vec<MappedFile> = Vec::new();
         for slot in reading.files() {
             let touched = faults.files.iter().any(|file| file.slot == slot && file.touched);
-            let runs = runs_of(&reading, slot, &mut parts);
-            files.push(MappedFile { slot, name: reading.entry(slot).name(), tag: tag(files.len()), touched, runs });
+            let slots = chain(&reading, slot);
+            let mut runs = Vec::new();
+            for &own in &slots {
+                runs.extend(name_granules(&reading, Some(slot), own, runs.len(), &mut parts));
+            }
+            let name = reading.entry(slot).name();
+            files.push(MappedFile { slot, name, tag: tag(files.len()), touched, slots, runs });
         }
         for slot in reading.slots().filter(|&slot| reading.entry(slot).in_use() && reading.file_of(slot).is_none()) {
             name_granules(&reading, None, slot, 0, &mut parts);
         }
+        let marks = marks(&faults.found, reading.granules());
         let directory = reading.directory_granules();
-        let cells = parts.into_iter().enumerate().map(|(granule, mut parts)| {
+        let cells = parts.into_iter().zip(marks).enumerate().map(|(granule, (mut parts, faults))| {
             parts.sort_by_key(|part| part.slot);
             let taken = reading.taken(granule);
             let holds = match parts.as_slice() {
@@ -146,34 +154,38 @@ impl<B: AsRef<[u8]>> Disk<B> {
                 [_] => Holds::Nobody,
                 _ => Holds::Shared,
             };
-            let marks = |fault: &FaultFound| {
-                let holds_byte = |&byte: &usize| byte / Geometry::GRANULE_BYTES == granule;
-                fault.granules.contains(&granule) || fault.bytes.iter().any(holds_byte)
-            };
-            let marked = (0..faults.found.len()).filter(|&place| marks(&faults.found[place])).collect();
             let (block, unit) = (granule / geometry.units, granule % geometry.units);
-            Cell { granule, block, unit, taken, holds, parts, faults: marked }
+            Cell { granule, block, unit, taken, holds, parts, faults }
         });
         let cells = cells.collect();
         Ok(Map { geometry, directory_sectors: faults.directory_sectors, cells, files, faults: faults.found })
     }
 }
 
-/// The runs of a file along its chain; each granule of them gets its part.
-fn runs_of(reading: &Reading, file: u8, parts: &mut [Vec<Part>]) -> Vec<Run> {
-    let mut runs = Vec::new();
-    // An extension that two walks meet is the first one's, and one that a walk meets twice is numbered once.
-    let own = |&slot: &u8| slot != file && reading.file_of(slot) == Some(file);
-    let mut chain = vec![file];
-    for slot in reading.walks.of_file(file).map(|meeting| meeting.slot).filter(own) {
-        if !chain.contains(&slot) {
-            chain.push(slot);
+/// The faults that mark each granule.
+fn marks(faults: &[FaultFound], granules: usize) -> Vec<Vec<usize>> {
+    let mut marks: Vec<Vec<usize>> = vec![Vec::new(); granules];
+    for (place, fault) in faults.iter().enumerate() {
+        let of_bytes = fault.bytes.iter().map(|byte| byte / Geometry::GRANULE_BYTES);
+        for granule in fault.granules.iter().copied().chain(of_bytes) {
+            if let Some(marks) = marks.get_mut(granule).filter(|marks| marks.last() != Some(&place)) {
+                marks.push(place);
+            }
         }
     }
-    for slot in chain {
-        runs.extend(name_granules(reading, Some(file), slot, runs.len(), parts));
+    marks
+}
+
+/// The slots of a file's entries, in its order.
+fn chain(reading: &Reading, file: u8) -> Vec<u8> {
+    let mut slots = vec![file];
+    for slot in reading.walks.of_file(file).map(|meeting| meeting.slot) {
+        // An extension that two walks meet is the first one's, and one that a walk meets twice stands there once.
+        if reading.file_of(slot) == Some(file) && !slots.contains(&slot) {
+            slots.push(slot);
+        }
     }
-    runs
+    slots
 }
 
 /// Gives each granule of an entry's runs that the disk has its part; `before` runs stand before them.

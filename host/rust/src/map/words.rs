@@ -7,6 +7,11 @@ impl Map {
         self.files.iter().find(|file| file.slot == slot)
     }
 
+    /// The file that an entry belongs to.
+    pub fn file_with(&self, slot: u8) -> Option<&MappedFile> {
+        self.files.iter().find(|file| file.slots.contains(&slot))
+    }
+
     /// What stands in a cell, at most nine characters: `.`, `#`, `DIR`, `A1`, `A*B`, `?1`. That a fault marks it is not in it.
     pub fn label(&self, cell: &Cell) -> String {
         let tag = |part: &Part| part.file.and_then(|slot| self.file(slot)).map_or("?", |file| file.tag.as_str());
