@@ -4,11 +4,16 @@
 target=wasm32-unknown-unknown
 feature='feature="no-proof-covers-32-bits"'
 rustc=
+tried=$(mktemp -d)
 for candidate in rustc /usr/bin/rustc; do
-    folder=$("$candidate" --print target-libdir --target "$target" 2>/dev/null) || continue
-    if [ -n "$(find "$folder" -name 'libcore-*.rlib' 2>/dev/null)" ]; then rustc=$candidate; break; fi
+    # An empty library shows whether standard library and linker are there.
+    if echo | "$candidate" --target "$target" --crate-type cdylib --crate-name empty --out-dir "$tried" - 2>/dev/null; then
+        rustc=$candidate
+        break
+    fi
 done
-no_rustc="no rustc with the target $target (Debian: rustc, libstd-rust-dev-wasm32)"
+rm -rf "$tried"
+no_rustc="no rustc with the target $target (Debian: rustc, libstd-rust-dev-wasm32, lld)"
 source_for() {
     "$rustc" --edition 2021 -o "$1/build" "$source/build.rs"
     mkdir "$1/source"
