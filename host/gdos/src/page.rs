@@ -9,9 +9,10 @@ body { font: 11pt/1.45 'DejaVu Sans', Verdana, sans-serif; color: #111; backgrou
 h1 { font-size: 1.5em; margin: 0 0 .3em; overflow-wrap: anywhere }
 h2 { font-size: 1.15em; margin: 1.6em 0 .5em; border-bottom: 1px solid #999 }
 table { border-collapse: collapse; width: 100%; font-size: .92em }
-th, td { text-align: left; vertical-align: top; padding: .25em .6em .25em 0; border-bottom: 1px solid #ddd; overflow-wrap: anywhere }
-td.number, th.number { text-align: right; white-space: nowrap }
-td.code { font-family: 'DejaVu Sans Mono', monospace; white-space: pre-wrap }
+th, td { text-align: left; vertical-align: top; padding: .25em .8em .25em 0; border-bottom: 1px solid #ddd; overflow-wrap: break-word }
+th, td.number, td.code { white-space: nowrap }
+td.number, th.number { text-align: right }
+td.code { font-family: 'DejaVu Sans Mono', monospace; white-space: pre }
 .verdict { font-weight: bold; border: 2px solid; padding: .5em .8em; border-radius: .3em }
 .good { border-color: #1b6e3c }
 .bad { border-color: #b00020 }

@@ -97,7 +97,7 @@ const COLUMNS: usize = 80;
 /// The picture for the terminal.
 fn picture(shown: &Shown, file: Option<&MappedFile>, colours: bool) -> String {
     let map = &shown.map;
-    let mut text = format!("{}: {}\n", title(shown, file), map.summary());
+    let mut text = format!("{}\n{}\n", title(shown, file), map.summary());
     if let Some(file) = file {
         text += &way(file);
     }
@@ -111,6 +111,7 @@ fn picture(shown: &Shown, file: Option<&MappedFile>, colours: bool) -> String {
     let width = map.cells.iter().map(|cell| label(cell).len()).max().unwrap_or_default() + 1;
     let across = blocks_across(map.geometry, width);
     let blocks: Vec<&[Cell]> = map.cells.chunks(map.geometry.units).collect();
+    text += "\nblock";
     for (row, blocks) in blocks.chunks(across).enumerate() {
         text += &format!("\n{:>4} |", row * across);
         for block in blocks {
@@ -126,11 +127,13 @@ fn picture(shown: &Shown, file: Option<&MappedFile>, colours: bool) -> String {
     text + "\n\n" + &legend(map, file, colours)
 }
 
-/// Blocks side by side: a number that is easily counted on from.
+/// Blocks side by side: of those that fit a number by which the blocks are divided without a rest, or else one that is easily
+/// counted on from.
 fn blocks_across(geometry: Geometry, width: usize) -> usize {
-    let fitting = (COLUMNS - 6) / (geometry.units * (width + 1) + 1);
+    let fitting = ((COLUMNS - 6) / (geometry.units * (width + 1) + 1)).max(1);
+    let whole = ((fitting + 1) / 2..=fitting).rev().find(|&across| geometry.blocks % across == 0);
     let even = [1, 2, 4, 5, 8, 10, 12, 16, 20].into_iter().rev().find(|&across| across <= fitting);
-    even.unwrap_or(1)
+    whole.or(even).unwrap_or(1)
 }
 
 fn painted_cell(map: &Map, file: Option<&MappedFile>, cell: &Cell, shown: &str, colours: bool) -> String {

@@ -63,7 +63,7 @@ fn run(args: &Args) -> Result<Output, Failure> {
 
 fn page(shown: &Shown) -> Result<String, Failure> {
     let path = &shown.opened.path;
-    let mut page = Page::new(path);
+    let mut page = Page::new(&format!("Report on {path}"));
     match shown.map.faults.len() {
         0 => page.verdict(true, "The disk is consistent."),
         faults => page.verdict(false, &format!("The disk is not consistent: {}.", counted(faults, "fault"))),
@@ -75,7 +75,7 @@ fn page(shown: &Shown) -> Result<String, Failure> {
     }
     page.heading("Map of the granules");
     page.picture(&shown.map.svg(&Drawing { title: path, id: "map", ..Drawing::default() }));
-    Ok(page.finished(&format!("{path}: report"), &format!("Written by {}", help::version().trim_end())))
+    Ok(page.finished(&format!("Report on {path}"), &format!("Written by {}", help::version().trim_end())))
 }
 
 fn about_disk(page: &mut Page, shown: &Shown) -> Result<(), Failure> {
@@ -113,7 +113,7 @@ const COLUMNS: [(&str, Column); 6] = [
     ("Slot", Column::Code),
     ("Size", Column::Number),
     ("Granules", Column::Number),
-    ("Date", Column::Text),
+    ("Date", Column::Code),
     ("Attributes", Column::Code),
 ];
 
@@ -181,7 +181,7 @@ fn damaged(page: &mut Page, shown: &Shown) -> Result<(), Failure> {
     page.heading("Faults");
     let lines: Vec<String> = faults.found.iter().map(|found| damage::found_line(found, &faults.files)).collect();
     page.list(&lines);
-    page.heading("What can be brought back");
+    page.heading("Files, and what can be brought back");
     let mended = match mended(opened) {
         Ok(mended) => mended,
         Err(failure) => {

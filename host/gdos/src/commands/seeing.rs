@@ -62,7 +62,7 @@ fn not_consistent(path: &str, map: &Map) -> Option<String> {
         0 => return None,
         faults => counted(faults, "fault"),
     };
-    Some(format!("{path} is not consistent: {faults}, which `gdos check --all` tells; what they mark has a !"))
+    Some(format!("{path} is not consistent: {faults}; what is marked by one has a !"))
 }
 
 /// That the directory's length is a fault, so that another is gone by.

@@ -23,6 +23,11 @@ pub fn section(seen: Seen, slot: usize) -> Section {
         text::slot(slot),
         at + Entry::LEN - 1
     );
+    if is_blank(seen, at, &bytes) {
+        let meaning = format!("not in use, every byte is {:02X}H", bytes[0]);
+        let field = Field { at, place: "00".to_string(), bytes: bytes.to_vec(), name: "blank", meaning };
+        return Section { title, fields: vec![field] };
+    }
     // Slots are below 256.
     let read = Entry::from_bytes(slot as u8, bytes, seen.geometry());
     let mut fields = match bytes[0x00] & 0x80 {
@@ -38,6 +43,13 @@ pub fn section(seen: Seen, slot: usize) -> Section {
         meaning,
     });
     Section { title, fields: fields.collect() }
+}
+
+/// Whether nothing was ever entered: not in use, all bytes alike, and none of them marked.
+fn is_blank(seen: Seen, at: usize, bytes: &[u8; Entry::LEN]) -> bool {
+    let marked = |byte: &usize| (at..at + Entry::LEN).contains(byte);
+    let alike = bytes.iter().all(|&byte| byte == bytes[0]);
+    alike && bytes[0] & 0x10 == 0 && !seen.map.faults.iter().any(|fault| fault.bytes.iter().any(marked))
 }
 
 /// A field of an entry: bytes from and to, the end not included.

@@ -33,7 +33,7 @@ pub fn file(seen: Seen, file: &MappedFile) -> Vec<Section> {
             None => {
                 let which =
                     if k + 1 == sectors { format!("sector {k}") } else { format!("sectors {k} to {}", sectors - 1) };
-                let title = format!("{which} of the file: no run has a granule for it");
+                let title = format!("{which} of the file: in no run");
                 sections.push(Section { title, fields: Vec::new() });
                 break;
             }

@@ -83,7 +83,7 @@ pub fn hit_field(seen: Seen, slot: usize) -> Field {
 
 fn hash_words(byte: u8, name: &Name, whose: &str) -> String {
     match name.hash() {
-        hash if hash == byte => format!("of {whose}"),
+        hash if hash == byte => format!("that of {whose}"),
         hash => format!("not that of {whose}, which is {hash:02X}H"),
     }
 }
