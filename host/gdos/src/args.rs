@@ -1,7 +1,7 @@
 //! Options and words of a command line.
 
+use crate::host::{bytes_of, word_of};
 use std::ffi::{OsStr, OsString};
-use std::os::unix::ffi::{OsStrExt, OsStringExt};
 
 /// An option that a command knows.
 #[derive(Clone, Copy, Debug)]
@@ -38,13 +38,13 @@ impl Args {
         let mut args = Args::default();
         let mut given = given;
         while let Some(word) = given.next() {
-            let bytes = word.as_bytes();
+            let bytes = bytes_of(&word);
             if bytes == b"--" {
                 args.words.extend(given);
                 break;
             } else if let Some(long) = bytes.strip_prefix(b"--") {
                 let (name, value) = match long.iter().position(|&b| b == b'=') {
-                    Some(at) => (&long[..at], Some(OsString::from_vec(long[at + 1..].to_vec()))),
+                    Some(at) => (&long[..at], Some(word_of(&long[at + 1..]))),
                     None => (long, None),
                 };
                 match name {
@@ -53,7 +53,7 @@ impl Args {
                     _ => {}
                 }
                 let spec = specs.iter().find(|spec| spec.long.as_bytes() == name);
-                let spec = spec.ok_or_else(|| format!("there is no option {}", word.display()))?;
+                let spec = spec.ok_or_else(|| format!("there is no option {}", word.to_string_lossy()))?;
                 args.add(spec, value, &mut given)?;
             } else if bytes.len() > 1 && bytes[0] == b'-' {
                 let mut letters = &bytes[1..];
@@ -64,9 +64,9 @@ impl Args {
                         _ => {}
                     }
                     let spec = specs.iter().find(|spec| spec.short == Some(*letter));
-                    let spec = spec.ok_or_else(|| format!("there is no option {}", word.display()))?;
+                    let spec = spec.ok_or_else(|| format!("there is no option {}", word.to_string_lossy()))?;
                     let takes_rest = spec.value.is_some() && !rest.is_empty();
-                    args.add(spec, takes_rest.then(|| OsString::from_vec(rest.to_vec())), &mut given)?;
+                    args.add(spec, takes_rest.then(|| word_of(rest)), &mut given)?;
                     letters = if takes_rest { &[] } else { rest };
                 }
             } else {
@@ -108,17 +108,19 @@ impl Args {
 
     /// The option's value as a number: 1440, 5A0H or 0x5A0.
     pub fn number(&self, long: &str) -> Result<Option<usize>, String> {
-        let Some(value) = self.value(long) else { return Ok(None) };
-        let number = value.to_str().and_then(number);
-        number.map(Some).ok_or_else(|| format!("--{long} wants a number, as 1440 or 5A0H, not {value:?}"))
+        match self.value(long) {
+            Some(value) => match value.to_str().and_then(number) {
+                Some(number) => Ok(Some(number)),
+                None => Err(format!("--{long} wants a number, as 1440 or 5A0H, not {value:?}")),
+            },
+            None => Ok(None),
+        }
     }
 
     /// The option's value as a password code: a number of 16 bits.
     pub fn code(&self, long: &str) -> Result<Option<u16>, String> {
-        let Some(number) = self.number(long)? else {
-            return Ok(None);
-        };
-        u16::try_from(number).map(Some).map_err(|_| format!("--{long} wants a code of 16 bits, at most FFFFH"))
+        let too_large = |_| format!("--{long} wants a code of 16 bits, at most FFFFH");
+        self.number(long)?.map(|number| u16::try_from(number).map_err(too_large)).transpose()
     }
 }
 

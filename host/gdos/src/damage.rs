@@ -12,7 +12,7 @@ pub fn line(told: &Explained) -> String {
 
 /// A file with its slot: `PULS01/DAT (slot 80H)`.
 pub fn named(name: &Name, slot: u8) -> String {
-    format!("{} (slot {})", text::name(name), text::slot(slot.into()))
+    format!("{} (slot {})", name.shown(), text::slot(slot.into()))
 }
 
 /// The doubts about a file, one behind the other.
@@ -28,7 +28,7 @@ pub fn faults_text(faults: &Faults) -> String {
     };
     let mut text: String =
         faults.found.iter().map(|found| format!("  {}\n", found_line(found, &faults.files))).collect();
-    if faults.found.first().is_some_and(|found| found.told.fault.kind == FaultKind::DirectoryLength) {
+    if faults.found.first().map_or(false, |found| found.told.fault.kind == FaultKind::DirectoryLength) {
         text += &format!(
             "  all but the first as of a directory of {} sectors, for which most speaks\n",
             faults.directory_sectors
@@ -43,7 +43,8 @@ pub fn faults_text(faults: &Faults) -> String {
     text
 }
 
-fn found_line(found: &FaultFound, files: &[FileFound]) -> String {
+/// A fault as a line, with the other files that it touches.
+pub fn found_line(found: &FaultFound, files: &[FileFound]) -> String {
     let others =
         files.iter().filter(|file| found.touches.contains(&file.slot) && Some(file.slot) != found.told.fault.slot);
     let others: Vec<String> = others.map(|file| named(&file.name, file.slot)).collect();
@@ -56,27 +57,27 @@ fn found_line(found: &FaultFound, files: &[FileFound]) -> String {
     }
 }
 
+/// A fault and the slots of the files that it touches, for `--json`.
+pub fn fault_json(found: &FaultFound) -> Json {
+    let slots = found.touches.iter().map(|&slot| slot.into());
+    match fault::json(&found.told) {
+        Json::Object(mut members) => {
+            members.push(("touches", Json::list(slots)));
+            Json::Object(members)
+        }
+        other => other,
+    }
+}
+
 /// Every fault and the files, for `--json`.
 pub fn faults_json(faults: &Faults) -> Vec<(&'static str, Json)> {
-    let found = faults.found.iter().map(|found| {
-        let slots = found.touches.iter().map(|&slot| slot.into());
-        match fault::json(&found.told) {
-            Json::Object(mut members) => {
-                members.push(("touches", Json::list(slots)));
-                Json::Object(members)
-            }
-            other => other,
-        }
-    });
     let files = |touched: bool| {
         let these = faults.files.iter().filter(move |file| file.touched == touched);
-        Json::list(
-            these.map(|file| Json::object([("name", text::name(&file.name).into()), ("slot", file.slot.into())])),
-        )
+        Json::list(these.map(|file| Json::object([("name", file.name.shown().into()), ("slot", file.slot.into())])))
     };
     vec![
         ("directory_sectors", faults.directory_sectors.into()),
-        ("faults", Json::list(found)),
+        ("faults", Json::list(faults.found.iter().map(fault_json))),
         ("touched", files(true)),
         ("not_touched", files(false)),
     ]
@@ -108,7 +109,7 @@ pub fn step_json(step: &Step) -> Json {
 
 /// A file that could not be had, for `--json`.
 pub fn dropped_json(name: &Name, slot: u8, told: &Explained) -> Json {
-    Json::object([("name", text::name(name).into()), ("slot", slot.into()), ("fault", fault::json(told))])
+    Json::object([("name", name.shown().into()), ("slot", slot.into()), ("fault", fault::json(told))])
 }
 
 /// The doubts about a file, for `--json`.

@@ -50,7 +50,7 @@ fn months(year: usize) -> [usize; 12] {
 }
 
 fn leap(year: usize) -> usize {
-    usize::from(year.is_multiple_of(4) && !year.is_multiple_of(100) || year.is_multiple_of(400))
+    usize::from(year % 4 == 0 && year % 100 != 0 || year % 400 == 0)
 }
 
 /// The nearest date that the directory can hold: the same day of its first or last year, or the day before if that

@@ -4,6 +4,7 @@ use crate::fault;
 use crate::json::Json;
 use genie_dos::{Disk, Explained, Refusal};
 use std::fmt;
+#[cfg(unix)]
 use std::io;
 use std::path::Path;
 
@@ -88,8 +89,14 @@ impl Failure {
     }
 
     /// The host's system did not do it.
+    #[cfg(unix)]
     pub fn io<'a>(what: &'a str, path: &'a Path) -> impl Fn(io::Error) -> Failure + 'a {
         move |error| Failure::Wrong(format!("cannot {what} {}: {error}", path.display()))
+    }
+
+    /// A file of the host is where one is to be written.
+    pub fn there_already(path: &Path) -> Failure {
+        Failure::Wrong(format!("{} is there already; --force overwrites it", path.display()))
     }
 
     fn refused_with(mut self, change: impl FnOnce(&mut Refused)) -> Failure {

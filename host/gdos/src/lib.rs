@@ -1,21 +1,33 @@
 //! `gdos`: Genie-DOS disk images on the command line, over the proved library.
 //!
-//! [`run`] is the whole program; the binary hands it its words and its two streams.
+//! [`run`] is the whole program; the binary hands it its words and its two streams. Where there is no file system, as in a
+//! browser, `run_on` hands it its files too (`host/web`). That build is by rustc 1.63, so what is not in `host` keeps to it.
 
 mod args;
+mod colour;
 mod commands;
 mod damage;
 mod date;
+mod dump;
 mod failure;
 mod fault;
 mod help;
+#[cfg(unix)]
 mod host;
 mod json;
+#[cfg(any(test, not(unix)))]
+mod memory;
 mod names;
+mod page;
+mod places;
 mod program;
 mod search;
 mod shape;
 mod stated;
 mod text;
 
+#[cfg(not(unix))]
+use memory as host;
+#[cfg(not(unix))]
+pub use memory::{run_on, Answer};
 pub use program::run;

@@ -4,16 +4,19 @@ use crate::args::{Args, Asked};
 use crate::commands::{self, Command, Output};
 use crate::failure::Failure;
 use crate::help;
-use std::ffi::OsString;
+use std::ffi::{OsStr, OsString};
 use std::io::{ErrorKind, Write};
 
 /// Runs one command and answers its exit status: 0 done, 1 refused, 2 wrong usage or I/O (of `diff`: 0 alike, 1 different,
 /// 2 trouble). What it tells goes to `out`, remarks and what goes wrong to `err`.
 pub fn run(mut words: impl Iterator<Item = OsString>, out: &mut dyn Write, err: &mut dyn Write) -> u8 {
     let mut streams = Streams { out, err };
-    let Some(first) = words.next() else {
-        streams.complain(help::overview().trim_end());
-        return 2;
+    let first = match words.next() {
+        Some(first) => first,
+        None => {
+            streams.complain(help::overview().trim_end());
+            return 2;
+        }
     };
     match first.to_str() {
         Some("--help" | "-h") => return streams.print(help::overview().as_bytes()),
@@ -21,9 +24,9 @@ pub fn run(mut words: impl Iterator<Item = OsString>, out: &mut dyn Write, err: 
         Some("help") => return streams.help_on(words.next()),
         _ => {}
     }
-    let Some(command) = commands::find(&first) else {
-        streams.complain(&format!("gdos: there is no command {first:?}; `gdos --help` lists them"));
-        return 2;
+    let command = match commands::find(&first) {
+        Some(command) => command,
+        None => return streams.no_command(&first),
     };
     let words: Vec<OsString> = words.collect();
     match Args::parse(&command.options(), words.iter().cloned()) {
@@ -51,14 +54,16 @@ struct Streams<'a> {
 impl Streams<'_> {
     /// `gdos help` and `gdos help COMMAND`.
     fn help_on(&mut self, word: Option<OsString>) -> u8 {
-        let Some(word) = word else { return self.print(help::overview().as_bytes()) };
-        match commands::find(&word) {
-            Some(command) => self.print(help::on(command).as_bytes()),
-            None => {
-                self.complain(&format!("gdos: there is no command {word:?}; `gdos --help` lists them"));
-                2
-            }
+        match word.as_ref().map(|word| (word, commands::find(word))) {
+            None => self.print(help::overview().as_bytes()),
+            Some((_, Some(command))) => self.print(help::on(command).as_bytes()),
+            Some((word, None)) => self.no_command(word),
         }
+    }
+
+    fn no_command(&mut self, word: &OsStr) -> u8 {
+        self.complain(&format!("gdos: there is no command {word:?}; `gdos --help` lists them"));
+        2
     }
 
     fn perform(&mut self, command: &Command, args: &Args) -> u8 {

@@ -117,6 +117,21 @@ fn rescuing() {
 }
 
 #[test]
+fn dumping() {
+    play("dump");
+}
+
+#[test]
+fn mapping() {
+    play("map");
+}
+
+#[test]
+fn reporting() {
+    play("report");
+}
+
+#[test]
 fn every_case_is_played() {
     let here = include_str!("sessions.rs");
     for case in fs::read_dir(cases()).unwrap() {

@@ -59,6 +59,21 @@ impl Entry {
     /// Bytes of an entry.
     pub const LEN: usize = 32;
 
+    /// An entry of any 32 bytes by itself: its accessors tell what the bytes say, whatever they are, and its runs are those of its
+    /// own pairs, up to a block FFH.
+    ///
+    /// ```
+    /// use genie_dos::{Entry, Geometry, Run};
+    ///
+    /// let mut bytes = [0xff; Entry::LEN];
+    /// bytes[0x16..0x18].copy_from_slice(&[0x11, 0x42]);
+    /// let entry = Entry::from_bytes(0x25, bytes, Geometry::new(40, 3, 90, 0x4296));
+    /// assert_eq!(entry.runs(), [Run { first: 53, granules: 3 }]);
+    /// ```
+    pub fn from_bytes(slot: u8, bytes: [u8; Entry::LEN], geometry: Geometry) -> Entry {
+        Entry { slot, bytes, runs: own_runs(&bytes, geometry).collect() }
+    }
+
     /// The slot of the primary entry.
     pub fn slot(&self) -> u8 {
         self.slot
@@ -154,6 +169,15 @@ impl Entry {
     }
 }
 
+/// The runs of an entry's own pairs, up to a block FFH.
+fn own_runs(bytes: &[u8; Entry::LEN], geometry: Geometry) -> impl Iterator<Item = Run> + '_ {
+    let pairs = bytes[0x16..0x1e].chunks_exact(2).take_while(|pair| pair[0] != 0xff);
+    pairs.map(move |pair| Run {
+        first: usize::from(pair[0]) * geometry.units + usize::from(pair[1] >> 5),
+        granules: usize::from(pair[1] & 0x1f) + 1,
+    })
+}
+
 /// The directory of a disk that was found consistent, read plainly. Every place is looked up safely, so that a
 /// mistake here could answer wrongly and no more.
 pub(crate) struct Directory<'a> {
@@ -211,11 +235,7 @@ impl<'a> Directory<'a> {
         let mut runs = Vec::new();
         let mut bytes = primary;
         for _ in 0..=u8::MAX {
-            let pairs = bytes[0x16..0x1e].chunks_exact(2).take_while(|pair| pair[0] != 0xff);
-            runs.extend(pairs.map(|pair| Run {
-                first: usize::from(pair[0]) * self.geometry.units + usize::from(pair[1] >> 5),
-                granules: usize::from(pair[1] & 0x1f) + 1,
-            }));
+            runs.extend(own_runs(&bytes, self.geometry));
             match (bytes[0x1e], self.bytes(bytes[0x1f])) {
                 (0xfe, Some(next)) => bytes = next,
                 _ => break,

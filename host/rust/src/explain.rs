@@ -63,11 +63,18 @@ impl<B: AsRef<[u8]>> Disk<B> {
         let (image, g) = (self.image(), self.geometry());
         first(image, g, fault).map(|found| found.told).unwrap_or_else(|| {
             // Under another geometry, or where there is no such fault, its kind alone can be told.
-            let (sector, byte) = fault.slot.map(place).unzip();
+            let at = fault.slot.map(place);
             let reading = Reading::of(image, g);
             let image_byte = reading.as_ref().zip(fault.slot).map(|(reading, slot)| reading.entry_at(slot));
             let name = reading.zip(fault.slot).and_then(|(reading, slot)| reading.name_of(slot));
-            Explained { fault, sector, byte, image_byte, name, message: fault.kind.words().to_string() }
+            Explained {
+                fault,
+                sector: at.map(|(sector, _)| sector),
+                byte: at.map(|(_, byte)| byte),
+                image_byte,
+                name,
+                message: fault.kind.words().to_string(),
+            }
         })
     }
 }

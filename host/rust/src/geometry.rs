@@ -86,6 +86,11 @@ impl Geometry {
         in_range.then(|| self.blocks * self.units)
     }
 
+    /// Granules that so many bytes need.
+    pub const fn granules_for(bytes: usize) -> usize {
+        bytes / Self::GRANULE_BYTES + (bytes % Self::GRANULE_BYTES != 0) as usize
+    }
+
     /// Bytes that an image of such a disk must have, if blocks and units are in range.
     pub fn image_len(&self) -> Option<usize> {
         self.granules().map(|granules| granules * Self::GRANULE_BYTES)

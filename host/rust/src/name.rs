@@ -75,6 +75,26 @@ impl Name {
         turned.max(1)
     }
 
+    /// The name for people, whatever its bytes are: a well-formed one as [`Display`](fmt::Display) has it, any other in quotes, with
+    /// the bytes that no name can have by their numbers. So nothing of a damaged disk reaches a terminal or a page as it is.
+    ///
+    /// ```
+    /// use genie_dos::Name;
+    ///
+    /// assert_eq!(Name::from_bytes(*b"PULS01  DAT").shown(), "PULS01/DAT");
+    /// assert_eq!(Name::from_bytes(*b"\x1b[2J    DAT").shown(), r#""\x1B[2J    DAT""#);
+    /// ```
+    pub fn shown(&self) -> String {
+        if self.is_well_formed() {
+            return self.to_string();
+        }
+        let shown = |&byte: &u8| match byte {
+            b' '..=b'~' if byte != b'\\' && byte != b'"' => char::from(byte).to_string(),
+            byte => format!("\\x{byte:02X}"),
+        };
+        format!("\"{}\"", self.0.iter().map(shown).collect::<String>())
+    }
+
     /// The place, 0 to 10, of the first byte that cannot stand where it does.
     pub(crate) fn bad_place(&self) -> Option<usize> {
         (0..Name::LEN).find(|&at| match self.0[at] {
@@ -123,10 +143,13 @@ impl FromStr for Name {
 impl fmt::Display for Name {
     fn fmt(&self, f: &mut fmt::Formatter<'_>) -> fmt::Result {
         let (body, kind) = self.0.split_at(Name::BODY);
-        let mut typed = String::from_utf8_lossy(body.trim_ascii_end()).into_owned();
-        if !kind.trim_ascii_end().is_empty() {
+        let (body, kind) = (String::from_utf8_lossy(body), String::from_utf8_lossy(kind));
+        let ascii_space = |c: char| c.is_ascii_whitespace();
+        let mut typed = body.trim_end_matches(ascii_space).to_string();
+        let kind = kind.trim_end_matches(ascii_space);
+        if !kind.is_empty() {
             typed.push('/');
-            typed.push_str(&String::from_utf8_lossy(kind.trim_ascii_end()));
+            typed.push_str(kind);
         }
         f.pad(&typed)
     }
@@ -180,6 +203,13 @@ mod tests {
         assert_eq!(bytes("A^"), Err(BadName::Character('^')));
         assert_eq!(bytes("A@"), Err(BadName::Character('@')));
         assert_eq!(bytes("A:"), Err(BadName::Character(':')));
+    }
+
+    #[test]
+    fn names_of_any_bytes() {
+        assert_eq!(Name::from_bytes(*b"PULS01  DAT").shown(), "PULS01/DAT");
+        assert_eq!(Name::from_bytes(*b"puls 1  DAT").shown(), "\"puls 1  DAT\"");
+        assert_eq!(Name::from_bytes(*b"\x1b[2J\"\\\x00\xff   ").shown(), "\"\\x1B[2J\\x22\\x5C\\x00\\xFF   \"");
     }
 
     #[test]

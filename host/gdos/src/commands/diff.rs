@@ -105,9 +105,10 @@ fn compare(args: &Args) -> Result<Output, Failure> {
 
 fn line(difference: &Difference, [first, second]: &[Side; 2]) -> String {
     let name = difference.name();
-    let Difference::Unlike { position, size, date, attributes, .. } = *difference else {
-        let only = if matches!(difference, Difference::OnlyInFirst { .. }) { first } else { second };
-        return format!("{name}: only in {}\n", only.opened.path);
+    let (position, size, date, attributes) = match *difference {
+        Difference::OnlyInFirst { .. } => return format!("{name}: only in {}\n", first.opened.path),
+        Difference::OnlyInSecond { .. } => return format!("{name}: only in {}\n", second.opened.path),
+        Difference::Unlike { position, size, date, attributes, .. } => (position, size, date, attributes),
     };
     let mut words = Vec::new();
     words.extend(position.map(|at| format!("differs from byte {at}")));

@@ -63,10 +63,7 @@ fn run(args: &Args) -> Result<Output, Failure> {
 }
 
 fn output(opened: &Opened, told: Option<String>) -> Output {
-    let from = match &opened.source {
-        Source::Options => "the options".to_string(),
-        other => other.told().unwrap_or_default(),
-    };
+    let from = opened.source.words();
     let geometry = opened.geometry();
     let options = shape::options(geometry, "");
     let told_of_code = format!("open code {:04X}H", geometry.open_code);

@@ -70,9 +70,7 @@ fn run(args: &Args) -> Result<Output, Failure> {
     };
     let opened = Opened::look(args, image)?;
     let password = password(args, opened.geometry())?;
-    if !folder.as_os_str().is_empty() && !folder.is_dir() {
-        std::fs::create_dir(&folder).map_err(Failure::io("make the folder", &folder))?;
-    }
+    host::make_folder(&folder)?;
     let mut output = opened.output();
     let mut told = Vec::new();
     for choice in chosen(&opened, words, args.has("all"))? {

@@ -63,7 +63,7 @@ fn about_disk(opened: &Opened) -> Result<Output, Failure> {
     let reserved = total - counts.free - owned;
     let slots = 8 * (sectors - 2);
     // An entry has room for four runs; each further four have an extension.
-    let used: usize = entries.iter().map(|entry| entry.runs().len().div_ceil(4).max(1)).sum();
+    let used: usize = entries.iter().map(|entry| entry.runs().len().saturating_sub(1) / 4 + 1).sum();
     let system = entries.len() - counts.files;
     let more = More::of(disk).map_err(Failure::image(path))?;
     let text = format!(

@@ -2,6 +2,7 @@
 //! other's. What is in no entry any more cannot be seen.
 
 use crate::json::Json;
+use crate::places::{entry, has_slot};
 use crate::text::{self, counted};
 use genie_dos::{Disk, Entry, Geometry, Name};
 
@@ -19,9 +20,14 @@ type Bytes = [u8; Entry::LEN];
 
 /// The other removed entries that name granules of the removed file in a slot.
 pub fn also_in(disk: &Disk, slot: usize) -> Vec<Also> {
-    let Ok(sectors) = disk.directory_sectors() else { return Vec::new() };
-    let slots = || (0..256).filter(|slot| slot % 32 + 2 < sectors);
-    let dead = |slot: usize| entry(disk, slot).filter(|bytes| bytes[0] & 0x10 == 0 && !is_blank(bytes));
+    let sectors = match disk.directory_sectors() {
+        Ok(sectors) => sectors,
+        Err(_) => return Vec::new(),
+    };
+    let slots = || (0..256).filter(|&slot| has_slot(sectors, slot));
+    let dead = |slot: usize| {
+        entry(disk.image(), disk.geometry(), slot).filter(|bytes| bytes[0] & 0x10 == 0 && !is_blank(bytes))
+    };
     let is_primary = |bytes: &Bytes| bytes[0] & 0x80 == 0;
     let own = chain(slot, dead);
     let granules = granules(disk, &own, dead);
@@ -29,7 +35,7 @@ pub fn also_in(disk: &Disk, slot: usize) -> Vec<Also> {
     let mut found = Vec::new();
     // Files first, so that an extension in one's chain is told under its name.
     let (files, extensions): (Vec<usize>, Vec<usize>) =
-        slots().filter(|&other| dead(other).is_some()).partition(|&other| dead(other).is_some_and(|e| is_primary(&e)));
+        slots().filter(|&other| dead(other).is_some()).partition(|&other| dead(other).filter(is_primary).is_some());
     for other in files.into_iter().chain(extensions) {
         if met.contains(&other) {
             continue;
@@ -47,13 +53,6 @@ pub fn also_in(disk: &Disk, slot: usize) -> Vec<Also> {
     found
 }
 
-/// An entry of the directory.
-fn entry(disk: &Disk, slot: usize) -> Option<Bytes> {
-    let sector = disk.geometry().start + slot % 32 + 2;
-    let from = sector * Geometry::SECTOR_BYTES + Entry::LEN * (slot / 32);
-    disk.image().get(from..from + Entry::LEN)?.try_into().ok()
-}
-
 fn is_blank(bytes: &Bytes) -> bool {
     bytes.iter().all(|&byte| byte == bytes[0])
 }
@@ -63,7 +62,7 @@ fn chain(slot: usize, dead: impl Fn(usize) -> Option<Bytes>) -> Vec<usize> {
     let mut slots = vec![slot];
     while let Some(bytes) = slots.last().and_then(|&last| dead(last)) {
         let next = usize::from(bytes[0x1f]);
-        let extends = bytes[0x1e] == 0xfe && dead(next).is_some_and(|next| next[0] & 0x80 != 0);
+        let extends = bytes[0x1e] == 0xfe && dead(next).map_or(false, |next| next[0] & 0x80 != 0);
         if !extends || slots.contains(&next) {
             break;
         }

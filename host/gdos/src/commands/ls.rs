@@ -106,7 +106,7 @@ fn table(files: &[Entry], geometry: Geometry, free: usize) -> String {
 }
 
 /// The date as people read it; a dash where the entry has none.
-fn date(file: &Entry) -> String {
+pub(super) fn date(file: &Entry) -> String {
     let date = file.date();
     match (date.day, date.month) {
         (0, 0) => "-".to_string(),

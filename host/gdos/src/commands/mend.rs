@@ -10,7 +10,7 @@ use crate::failure::Failure;
 use crate::host;
 use crate::json::Json;
 use crate::shape::{self, Wanted};
-use crate::text::{self, counted};
+use crate::text::counted;
 use genie_dos::{Mended, Unmended};
 use std::ffi::OsStr;
 use std::path::Path;
@@ -112,7 +112,7 @@ fn json(opened: &Opened, mended: &Mended, copy: Option<&OsStr>) -> Json {
     });
     let doubtful = mended.doubtful.iter().map(|doubtful| {
         Json::object([
-            ("name", text::name(&doubtful.name).into()),
+            ("name", doubtful.name.shown().into()),
             ("slot", doubtful.slot.into()),
             ("doubts", damage::doubts_json(&doubtful.doubts)),
         ])

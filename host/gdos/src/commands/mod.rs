@@ -4,20 +4,24 @@ mod change;
 mod check;
 mod choose;
 mod diff;
+mod dump;
 mod free;
 mod geometry;
 mod get;
 mod info;
 mod leftovers;
 mod ls;
+mod map;
 mod mend;
 mod new;
 mod opened;
 mod probe;
 mod put;
+mod report;
 mod rescue;
 mod rm;
 mod room;
+mod seeing;
 mod trim;
 mod undelete;
 
@@ -75,6 +79,9 @@ pub const COMMANDS: &[Command] = &[
     trim::COMMAND,
     free::COMMAND,
     info::COMMAND,
+    map::COMMAND,
+    dump::COMMAND,
+    report::COMMAND,
     new::COMMAND,
     probe::COMMAND,
     geometry::COMMAND,

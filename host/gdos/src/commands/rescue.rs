@@ -12,7 +12,7 @@ use crate::json::Json;
 use crate::names::host_name;
 use crate::shape::{self, Wanted};
 use crate::text::{self, counted};
-use genie_dos::{Mended, Rescued};
+use genie_dos::{Dropped, Mended, Rescued};
 use std::path::{Path, PathBuf};
 
 const OUTPUT: Spec =
@@ -55,8 +55,8 @@ The image is never written. State its geometry: a damaged disk is seldom found b
 pub const STATUS: &str = "0 all files, 1 refused, or a file is missing or doubtful, 2 wrong usage or I/O";
 
 /// A file, and whether it was read from the copy or from another one in which it could stay.
-struct Had {
-    file: Rescued,
+pub struct Had {
+    pub file: Rescued,
     elsewhere: bool,
 }
 
@@ -66,7 +66,7 @@ fn run(args: &Args) -> Result<Output, Failure> {
     let folder = folder.ok_or_else(|| Failure::Wrong("which folder? -o FOLDER names it".to_string()))?;
     let opened = Opened::unchecked(&Wanted::from_args(args)?, image)?;
     let mended = mended(&opened)?;
-    let (had, missing) = all(&opened, &mended)?;
+    let (had, missing) = had_and_missing(&opened, &mended)?;
 
     let mut output = opened.output();
     let mut told = Vec::new();
@@ -78,7 +78,9 @@ fn run(args: &Args) -> Result<Output, Failure> {
         path.push(host_name(&file.entry.name()));
         // Two doubtful files of one name are told apart by their slots.
         if used.contains(&path) {
-            path.as_mut_os_string().push(format!("-slot{}", text::slot(file.entry.slot().into())));
+            let mut apart = path.into_os_string();
+            apart.push(format!("-slot{}", text::slot(file.entry.slot().into())));
+            path = PathBuf::from(apart);
         }
         used.push(path.clone());
         let written = match wanted {
@@ -129,7 +131,7 @@ fn run(args: &Args) -> Result<Output, Failure> {
 
 /// The files of the mended copy; those that it does not have, but another one in which they could stay; and those that cannot be
 /// had.
-fn all<'a>(opened: &Opened, mended: &'a Mended) -> Result<(Vec<Had>, Vec<&'a genie_dos::Dropped>), Failure> {
+pub fn had_and_missing<'a>(opened: &Opened, mended: &'a Mended) -> Result<(Vec<Had>, Vec<&'a Dropped>), Failure> {
     let read = |mended: &Mended| mended.rescue().map_err(Failure::image(&opened.path));
     let mut had: Vec<Had> = read(mended)?.into_iter().map(|file| Had { file, elsewhere: false }).collect();
     let mut missing = Vec::new();
@@ -146,21 +148,14 @@ fn all<'a>(opened: &Opened, mended: &'a Mended) -> Result<(Vec<Had>, Vec<&'a gen
     Ok((had, missing))
 }
 
-fn make(folder: &Path) -> Result<(), Failure> {
-    match folder.is_dir() || folder.as_os_str().is_empty() {
-        true => Ok(()),
-        false => std::fs::create_dir(folder).map_err(Failure::io("make the folder", folder)),
-    }
-}
-
-fn write(folder: &Path, host: &Path, bytes: &[u8], force: bool) -> Result<(), Failure> {
-    make(folder)?;
-    host.parent().map_or(Ok(()), make)?;
-    host::write(host, bytes, force)
+fn write(folder: &Path, path: &Path, bytes: &[u8], force: bool) -> Result<(), Failure> {
+    host::make_folder(folder)?;
+    path.parent().map_or(Ok(()), host::make_folder)?;
+    host::write(path, bytes, force)
 }
 
 fn line(file: &Rescued, host: Option<&Path>) -> String {
-    let (name, size) = (text::name(&file.entry.name()), counted(file.bytes.len(), "byte"));
+    let (name, size) = (file.entry.name().shown(), counted(file.bytes.len(), "byte"));
     match (file.doubts.is_empty(), host) {
         (true, Some(host)) => format!("{name} to {}, {size}\n", host.display()),
         (true, None) => format!("{name}, {size}, not written\n"),
@@ -173,7 +168,7 @@ fn line(file: &Rescued, host: Option<&Path>) -> String {
 
 fn json(file: &Rescued, host: Option<&Path>, elsewhere: bool) -> Json {
     Json::object([
-        ("name", text::name(&file.entry.name()).into()),
+        ("name", file.entry.name().shown().into()),
         ("slot", file.entry.slot().into()),
         ("size", file.bytes.len().into()),
         ("host", host.map(|host| host.to_string_lossy().into_owned()).into()),

@@ -1,5 +1,6 @@
 //! What is left on a disk for files: how many more its directory takes, and why one does not fit.
 
+use crate::places::{has_slot, hit_at};
 use genie_dos::{Disk, Geometry, Refusal};
 
 /// How many files more a directory takes.
@@ -30,8 +31,9 @@ impl More {
 /// How many slots there are for files and how many of them are free, where a file found none.
 pub fn slots_left(disk: &Disk) -> String {
     let system_disk = disk.geometry().system_disk;
-    let (Ok((all, free)), Ok(More { data, .. })) = (slots_as(disk, system_disk), More::of(disk)) else {
-        return "no slot for files is free".to_string();
+    let ((all, free), More { data, .. }) = match (slots_as(disk, system_disk), More::of(disk)) {
+        (Ok(slots), Ok(more)) => (slots, more),
+        _ => return "no slot for files is free".to_string(),
     };
     let left = format!("of {all} slots for files {free} {} free", if free == 1 { "is" } else { "are" });
     match system_disk && free < data {
@@ -43,11 +45,11 @@ pub fn slots_left(disk: &Disk) -> String {
 /// Slots that files may have, and how many of them are free.
 fn slots_as(disk: &Disk, system_disk: bool) -> Result<(usize, usize), Refusal> {
     let sectors = disk.directory_sectors()?;
-    let hit = (disk.geometry().start + 1) * Geometry::SECTOR_BYTES;
+    let hit = hit_at(disk.geometry(), 0);
     let hit = disk.image().get(hit..hit + Geometry::SECTOR_BYTES).ok_or(Refusal::Geometry)?;
     // On a system disk rows 0 to 3 with s 0 to 7 are kept for system files, on a data disk slots 00H and 01H alone.
     let kept = |slot: usize| if system_disk { slot / 32 <= 3 && slot % 32 <= 7 } else { slot <= 1 };
-    let permitted = (0..256).filter(|&slot| slot % 32 + 2 < sectors && !kept(slot));
+    let permitted = (0..256).filter(|&slot| has_slot(sectors, slot) && !kept(slot));
     let permitted: Vec<usize> = permitted.collect();
     Ok((permitted.len(), permitted.iter().filter(|&&slot| hit[slot] == 0).count()))
 }

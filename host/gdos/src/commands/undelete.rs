@@ -49,22 +49,41 @@ fn run(args: &Args) -> Result<Output, Failure> {
 }
 
 /// A removed file: whether it can be brought back, and who else names its granules.
-struct Removed {
-    entry: Entry,
+pub struct Removed {
+    pub entry: Entry,
     answer: Result<BroughtBack, Refusal>,
     also: Vec<Also>,
 }
 
+impl Removed {
+    pub fn name(&self) -> String {
+        name_text(&self.entry)
+    }
+
+    /// Whether it can be brought back, in words.
+    pub fn answer_words(&self) -> String {
+        match self.answer {
+            Err(refusal) => format!("no: {refusal}"),
+            Ok(_) if self.also.is_empty() => "yes".to_string(),
+            Ok(_) => format!("yes, but {}: contents may be that file's", leftovers::told(&self.also)),
+        }
+    }
+}
+
 /// What removed files left, and whether each can be brought back: the call is tried on a copy of the disk.
-fn list(args: &Args, image: &OsStr) -> Result<Output, Failure> {
-    let opened = Opened::look(args, image)?;
+pub fn removed_files(opened: &Opened) -> Result<Vec<Removed>, Failure> {
     let disk = &opened.disk;
     let dead = disk.dead_entries().map_err(Failure::image(&opened.path))?;
     let tried = |entry: Entry| {
         let slot = usize::from(entry.slot());
         Removed { entry, answer: disk.clone().bring_back(slot), also: also_in(disk, slot) }
     };
-    let removed: Vec<Removed> = dead.into_iter().map(tried).collect();
+    Ok(dead.into_iter().map(tried).collect())
+}
+
+fn list(args: &Args, image: &OsStr) -> Result<Output, Failure> {
+    let opened = Opened::look(args, image)?;
+    let removed = removed_files(&opened)?;
     let mut json = opened.head();
     json.push(("removed", Json::list(removed.iter().map(entry_json))));
     Ok(Output { text: table(&removed).into_bytes(), json: Json::Object(json), ..opened.output() })
@@ -75,13 +94,10 @@ fn table(tried: &[Removed]) -> String {
     if !tried.is_empty() {
         text += "SLOT  NAME/TYPE        SIZE  CAN BE BROUGHT BACK\n";
     }
-    for Removed { entry, answer, also } in tried {
-        let (slot, name, size) = (text::slot(entry.slot().into()), name_text(entry), entry.size());
-        let answer = match answer {
-            Err(refusal) => format!("no: {refusal}"),
-            Ok(_) if also.is_empty() => "yes".to_string(),
-            Ok(_) => format!("yes, but {}: contents may be that file's", leftovers::told(also)),
-        };
+    for removed in tried {
+        let entry = &removed.entry;
+        let (slot, name, size) = (text::slot(entry.slot().into()), removed.name(), entry.size());
+        let answer = removed.answer_words();
         text += &format!("{slot:>4}  {name:<12}  {size:>7}  {answer}\n");
     }
     let possible = tried.iter().filter(|removed| removed.answer.is_ok()).count();

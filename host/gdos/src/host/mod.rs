@@ -5,9 +5,13 @@ mod copy;
 mod lock;
 mod read;
 mod same;
+mod terminal;
+mod words;
 mod write;
 
 pub use lock::Locked;
 pub use read::{read, read_standard_input, read_text};
 pub use same::same_file;
-pub use write::{write, Prepared};
+pub use terminal::is_terminal;
+pub use words::{bytes_of, word_of};
+pub use write::{make_folder, write, Prepared};

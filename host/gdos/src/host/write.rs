@@ -25,7 +25,7 @@ impl Prepared {
     pub fn new(path: &Path, bytes: &[u8], force: bool) -> Result<Prepared, Failure> {
         let refused = |why: &str| Failure::Wrong(format!("cannot write {}: {why}", path.display()));
         if !force && fs::symlink_metadata(path).is_ok() && path.file_name().is_some() {
-            return Err(there_already(path));
+            return Err(Failure::there_already(path));
         }
         let there = fs::metadata(path).ok().filter(|_| force);
         if let Some(there) = &there {
@@ -63,17 +63,21 @@ impl Prepared {
             false => self.copy.link_to(&self.real),
         };
         placed.map_err(|e| match e.kind() {
-            ErrorKind::AlreadyExists => there_already(&self.path),
+            ErrorKind::AlreadyExists => Failure::there_already(&self.path),
             _ => Failure::io("write", &self.path)(e),
         })
     }
 }
 
-fn there_already(path: &Path) -> Failure {
-    Failure::Wrong(format!("{} is there already; --force overwrites it", path.display()))
-}
-
 /// Writes a file of the host, whole or not at all.
 pub fn write(path: &Path, bytes: &[u8], force: bool) -> Result<(), Failure> {
     Prepared::new(path, bytes, force)?.place()
+}
+
+/// Makes a folder unless it is there. No name is the present one.
+pub fn make_folder(folder: &Path) -> Result<(), Failure> {
+    match folder.is_dir() || folder.as_os_str().is_empty() {
+        true => Ok(()),
+        false => fs::create_dir(folder).map_err(Failure::io("make the folder", folder)),
+    }
 }

@@ -29,7 +29,7 @@ impl Fit {
         let granules = g.blocks * g.units;
         let taken = |granule: usize| byte(0, granule / g.units) >> (granule % g.units) & 1 == 1;
         let first = g.start / Geometry::GRANULE_SECTORS;
-        let directory = first..first + sectors.div_ceil(Geometry::GRANULE_SECTORS);
+        let directory = first..first + Geometry::granules_for(sectors * Geometry::SECTOR_BYTES);
         let mut fit = Fit { faults: Vec::new(), reserved: 0, runs: Vec::new() };
         let mut owner = vec![None; granules];
         for (sector, at) in (2..sectors).flat_map(|sector| (0..256).step_by(32).map(move |at| (sector, at))) {
@@ -78,7 +78,10 @@ impl Fit {
 
     /// Whether something does not fit, and one run or one byte of the GAT is all that is at fault.
     pub fn is_one_byte_away(&self) -> bool {
-        let Some(one) = self.faults.first() else { return false };
+        let one = match self.faults.first() {
+            Some(one) => one,
+            None => return false,
+        };
         let by_run = one.runs.iter().any(|run| self.faults.iter().all(|fault| fault.runs.contains(run)));
         let by_byte = one.gat_byte.is_some() && self.faults.iter().all(|fault| fault.gat_byte == one.gat_byte);
         by_run || by_byte

@@ -67,8 +67,9 @@ fn verdict(image: &[u8], wanted: &Wanted, tried: &[Geometry], intact: &[Reading]
     let own = geometry.start..geometry.start + sectors;
     // Whoever says where the directory begins is believed.
     if wanted.start().is_none() {
-        let Some(here) = everywhere.iter().find(|place| place.start == geometry.start) else {
-            return Verdict::NoName;
+        let here = match everywhere.iter().find(|place| place.start == geometry.start) {
+            Some(here) => here,
+            None => return Verdict::NoName,
         };
         if here.beyond > 0 {
             return Verdict::Longer;

@@ -129,7 +129,7 @@ impl Wanted {
 
     /// Every geometry that agrees with what is said and fits an image of this length.
     pub fn fitting(&self, image_len: usize) -> Vec<Geometry> {
-        let may = |said: Option<usize>, number: usize| said.is_none_or(|said| said == number);
+        let may = |said: Option<usize>, number: usize| said.map_or(true, |said| said == number);
         let mut fitting = Vec::new();
         for units in (1..=Geometry::MOST_UNITS).filter(|&units| may(self.units, units)) {
             for blocks in (1..=Geometry::MOST_BLOCKS).filter(|&blocks| may(self.blocks, blocks)) {

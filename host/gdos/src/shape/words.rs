@@ -37,9 +37,12 @@ pub fn length(image_len: usize) -> String {
 /// What is wrong with a geometry that the library refuses for an image of this length.
 pub fn fault(geometry: Geometry, image_len: usize) -> String {
     let Geometry { blocks, units, start, .. } = geometry;
-    let Some(needed) = geometry.image_len() else {
-        let (most_blocks, most_units) = (Geometry::MOST_BLOCKS, Geometry::MOST_UNITS);
-        return format!("a disk has 1 to {most_blocks} blocks of 1 to {most_units} units, not {blocks} of {units}");
+    let needed = match geometry.image_len() {
+        Some(needed) => needed,
+        None => {
+            let (most_blocks, most_units) = (Geometry::MOST_BLOCKS, Geometry::MOST_UNITS);
+            return format!("a disk has 1 to {most_blocks} blocks of 1 to {most_units} units, not {blocks} of {units}");
+        }
     };
     let disk = format!("a disk of {} of {}", counted(blocks, "block"), counted(units, "unit"));
     match (needed / Geometry::SECTOR_BYTES).checked_sub(10) {

@@ -43,14 +43,13 @@ impl Sidecar {
 
     /// Whether the host allows a name of that length.
     pub fn can_be(&self) -> bool {
-        self.path.file_name().is_some_and(|name| name.len() <= MOST_NAME)
+        self.path.file_name().map_or(false, |name| name.len() <= MOST_NAME)
     }
 
     /// The geometry that it states, if it is there.
     pub fn read(&self) -> Result<Option<Geometry>, Failure> {
-        let Some(text) = host::read_text(&self.path)? else { return Ok(None) };
         let wrong = |why| Failure::Wrong(format!("{} states no geometry: {why}", self.shown));
-        shape::parse(&text).map(Some).map_err(wrong)
+        host::read_text(&self.path)?.map(|text| shape::parse(&text).map_err(wrong)).transpose()
     }
 
     /// What it is to be, written but not yet in its place.

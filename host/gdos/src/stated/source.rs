@@ -36,6 +36,11 @@ impl Source {
         }
     }
 
+    /// Where it is from, in words.
+    pub fn words(&self) -> String {
+        self.told().unwrap_or_else(|| "the options".to_string())
+    }
+
     /// What a refusal says of it; whoever typed options knows.
     pub fn told(&self) -> Option<String> {
         match self {

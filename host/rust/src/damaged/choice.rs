@@ -22,9 +22,12 @@ pub(super) fn why_out(now: &Reading, slot: u8) -> Option<(u8, Detail)> {
 
 /// The smallest change that takes away a fault which the library told of a copy with an allowed directory length.
 pub(super) fn choose(now: &Reading, grounds: &Grounds, fault: Fault) -> Remedy {
-    let Some(slot) = fault.slot else {
-        let clear = now.directory_granules().filter(|&granule| !now.taken(granule));
-        return Remedy::GatBitsSet { granules: clear.collect() };
+    let slot = match fault.slot {
+        Some(slot) => slot,
+        None => {
+            let clear = now.directory_granules().filter(|&granule| !now.taken(granule));
+            return Remedy::GatBitsSet { granules: clear.collect() };
+        }
     };
     if !now.entry(slot).in_use() {
         return match put_back(now, slot) {
@@ -34,7 +37,7 @@ pub(super) fn choose(now: &Reading, grounds: &Grounds, fault: Fault) -> Remedy {
     }
     let detail = at(now, slot).into_iter().find(|detail| detail.kind() == fault.kind);
     if detail == Some(Detail::InNoChain) {
-        if let Some(lost) = now.slots().find(|&lost| put_back(now, lost).is_some_and(|chain| chain.contains(&slot))) {
+        if let Some(lost) = now.slots().find(|&lost| put_back(now, lost).map_or(false, |chain| chain.contains(&slot))) {
             return Remedy::PutBack { slot: lost };
         }
     }
@@ -70,7 +73,7 @@ pub(super) fn choose(now: &Reading, grounds: &Grounds, fault: Fault) -> Remedy {
 fn goes(now: &Reading, grounds: &Grounds, slot: u8, lower: u8) -> u8 {
     let against = |slot: u8| {
         let file = now.file_of(slot).unwrap_or(slot);
-        let lost = now.file_of(slot).is_none_or(|file| why_not_file(now, file).is_some());
+        let lost = now.file_of(slot).map_or(true, |file| why_not_file(now, file).is_some());
         (lost, grounds.preferred != Some(file), grounds.evidence.strikes(file), slot)
     };
     std::cmp::max_by_key(slot, lower, |&slot| against(slot))

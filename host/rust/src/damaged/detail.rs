@@ -208,6 +208,71 @@ impl Detail {
         }
     }
 
+    /// The bytes of the image that break the rule or contradict each other, rising; `slot` is the entry's.
+    pub(super) fn bytes(&self, reading: &Reading, slot: Option<u8>) -> Vec<usize> {
+        let slot = slot.unwrap_or_default();
+        let in_entry = |slot: u8, from: usize, to: usize| -> Vec<usize> {
+            (reading.entry_at(slot) + from..=reading.entry_at(slot) + to).collect()
+        };
+        let own = |from: usize, to: usize| in_entry(slot, from, to);
+        // Pairs are numbered from 1.
+        let pair = |slot: u8, number: usize| in_entry(slot, 0x14 + 2 * number, 0x15 + 2 * number);
+        // The pairs of an entry that name one of these granules.
+        let naming = |slot: u8, granules: &[usize]| -> Vec<usize> {
+            let runs = reading.entry(slot).runs(reading.g);
+            let these = runs.filter(|run| granules.iter().any(|granule| run.granules().contains(granule)));
+            these.flat_map(|run| pair(slot, run.number)).collect()
+        };
+        let mut bytes = match self {
+            Detail::Length { .. } | Detail::PastEnd { .. } => vec![reading.at(1, Reading::LENGTH)],
+            Detail::HitZero | Detail::HitOfUnused { .. } | Detail::HitNotHash { .. } => vec![reading.hit_at(slot)],
+            Detail::NameByte { place, .. } => own(0x05 + place, 0x05 + place),
+            Detail::BitFive { .. } | Detail::InNoChain | Detail::ExtensionFlags { .. } => own(0x00, 0x00),
+            Detail::SameName { lower } => [own(0x05, 0x0f), in_entry(*lower, 0x05, 0x0f)].concat(),
+            Detail::PairBehindEnd { pair: number } => pair(slot, *number),
+            Detail::Marker { .. } | Detail::TooFewRuns { .. } => own(0x1e, 0x1e),
+            Detail::LinkToNoSlot { .. } | Detail::LinkToUnused { .. } | Detail::LinkToNoExtension { .. } => {
+                own(0x1f, 0x1f)
+            }
+            Detail::MetTwice { first, second } => {
+                [in_entry(*first, 0x1f, 0x1f), in_entry(*second, 0x1f, 0x1f)].concat()
+            }
+            Detail::BackLink { .. } => own(0x01, 0x01),
+            Detail::NoRun => pair(slot, 1),
+            Detail::UnitTooHigh { run, .. } | Detail::RunPastEnd { run, .. } | Detail::OnDirectory { run, .. } => {
+                pair(slot, *run)
+            }
+            Detail::Free { granules, .. } => granules.iter().map(|&granule| reading.gat_at(granule).0).collect(),
+            Detail::TwiceHere { first, second, .. } => [pair(slot, *first), pair(slot, *second)].concat(),
+            Detail::AlsoIn { granules, lower } => [naming(slot, granules), naming(*lower, granules)].concat(),
+            Detail::NoSectors { .. } | Detail::TooLarge { .. } => [own(0x03, 0x03), own(0x14, 0x15)].concat(),
+            Detail::DirectoryFree { granule } => vec![reading.gat_at(*granule).0],
+        };
+        bytes.sort_unstable();
+        bytes.dedup();
+        bytes
+    }
+
+    /// The granules that it names and the disk has, rising; `slot` is the entry's.
+    pub(super) fn granules(&self, reading: &Reading, slot: Option<u8>) -> Vec<usize> {
+        let of_run = |number: usize| -> Vec<usize> {
+            let runs = reading.entry(slot.unwrap_or_default()).runs(reading.g);
+            runs.filter(|run| run.number == number).flat_map(|run| run.granules()).collect()
+        };
+        let mut granules = match self {
+            Detail::Free { granules, .. } | Detail::AlsoIn { granules, .. } | Detail::OnDirectory { granules, .. } => {
+                granules.clone()
+            }
+            Detail::TwiceHere { granule, .. } | Detail::DirectoryFree { granule } => vec![*granule],
+            Detail::UnitTooHigh { run, .. } | Detail::RunPastEnd { run, .. } => of_run(*run),
+            _ => Vec::new(),
+        };
+        granules.retain(|&granule| granule < reading.granules());
+        granules.sort_unstable();
+        granules.dedup();
+        granules
+    }
+
     /// In words; `slot` is the entry's.
     pub(super) fn words(&self, reading: &Reading, slot: Option<u8>) -> String {
         let hit_at = slot.map_or(0, |slot| reading.hit_at(slot));
@@ -295,7 +360,7 @@ impl Detail {
             }
             Detail::NoSectors { end } => format!("the sector count is 0, but the end byte {end}"),
             Detail::TooLarge { size, granules } => {
-                let needed = counted(size.div_ceil(Geometry::GRANULE_BYTES), "granule");
+                let needed = counted(Geometry::granules_for(size), "granule");
                 format!("a size of {size} bytes needs {needed}, the runs have {granules}")
             }
             Detail::OnDirectory { ref granules, run } => {

@@ -94,7 +94,10 @@ pub struct Doubtful {
 /// The doubtful files of a copy, by rising slot.
 pub(super) fn doubtful(image: &[u8], copy: &Disk, steps: &[Step]) -> Vec<Doubtful> {
     let after = Reading::of(copy.image(), copy.geometry());
-    let (Some(before), Some(after)) = (original(image, copy), after) else { return Vec::new() };
+    let (before, after) = match (original(image, copy), after) {
+        (Some(before), Some(after)) => (before, after),
+        _ => return Vec::new(),
+    };
     // A disk that was consistent has nothing doubtful.
     if steps.is_empty() {
         return Vec::new();

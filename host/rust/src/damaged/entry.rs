@@ -99,7 +99,7 @@ impl RawEntry {
     }
 
     /// The runs, as far as the first block FFH.
-    pub(crate) fn runs(&self, g: Geometry) -> impl Iterator<Item = NamedRun> + use<> {
+    pub(crate) fn runs(&self, g: Geometry) -> impl Iterator<Item = NamedRun> {
         let bytes = self.0;
         let pairs = (0..Self::PAIRS).map(move |pair| (pair, bytes[0x16 + 2 * pair], bytes[0x17 + 2 * pair]));
         pairs.take_while(|&(_, block, _)| block != Self::NO_BLOCK).map(move |(pair, block, second)| {

@@ -20,7 +20,10 @@ impl Evidence {
         let mut kinds: BTreeSet<(u8, FaultKind)> = BTreeSet::new();
         let mut sharing: BTreeSet<(u8, u8)> = BTreeSet::new();
         for found in found(original) {
-            let Some(slot) = found.told.fault.slot else { continue };
+            let slot = match found.told.fault.slot {
+                Some(slot) => slot,
+                None => continue,
+            };
             match found.detail {
                 Detail::AlsoIn { lower, .. } => {
                     sharing.extend([(whose(slot), whose(lower)), (whose(lower), whose(slot))]);
@@ -50,7 +53,7 @@ impl Evidence {
 fn fits_exactly(reading: &Reading, file: u8) -> bool {
     let named = |slot: u8| reading.entry(slot).granules_named(reading.g);
     let owned = named(file) + reading.walks.of_file(file).map(|meeting| named(meeting.slot)).sum::<usize>();
-    reading.entry(file).size().is_some_and(|size| size.div_ceil(Geometry::GRANULE_BYTES) == owned)
+    reading.entry(file).size().map(Geometry::granules_for) == Some(owned)
 }
 
 /// The entries that are a file's own: the primary one, and of its chain those that point back to where the link stands, or that
@@ -180,5 +183,5 @@ fn granules_are_its_own(reading: &Reading, chain: &[u8]) -> bool {
         }
     }
     let size = chain.first().and_then(|&slot| reading.entry(slot).size());
-    size.is_some_and(|size| size <= seen.len() * Geometry::GRANULE_BYTES)
+    size.map_or(false, |size| size <= seen.len() * Geometry::GRANULE_BYTES)
 }

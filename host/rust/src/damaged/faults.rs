@@ -15,6 +15,10 @@ pub struct FaultFound {
     pub detail: Detail,
     /// The slots of the files that it touches, rising: whose entry it is, and whose granule, name or extension is named by it.
     pub touches: Vec<u8>,
+    /// The bytes of the image that break the rule or contradict each other, rising: what a dump marks.
+    pub bytes: Vec<usize>,
+    /// The granules that it names and the disk has, rising.
+    pub granules: Vec<usize>,
 }
 
 /// A file of a disk that may not be consistent: an entry that is in use and primary, whatever else it is; or one of which only byte
@@ -70,13 +74,15 @@ impl<B: AsRef<[u8]>> Disk<B> {
     /// ```
     pub fn faults(&self) -> Result<Faults, Refusal> {
         let (image, g) = (self.image(), self.geometry());
-        let faults = Reading::fits(image, g).then(|| of_image(image, g)).flatten();
-        faults.ok_or(Refusal::Geometry)
+        read(image, g).map(|(_, faults)| faults).ok_or(Refusal::Geometry)
     }
 }
 
-/// Every fault of an image; the geometry must fit.
-fn of_image(image: &[u8], g: Geometry) -> Option<Faults> {
+/// What stands in an image, and every fault of it; none where the geometry does not fit.
+pub(crate) fn read(image: &[u8], g: Geometry) -> Option<(Reading<'_>, Faults)> {
+    if !Reading::fits(image, g) {
+        return None;
+    }
     let (reading, length) = match Reading::of(image, g) {
         Some(reading) => (reading, None),
         None => {
@@ -93,7 +99,8 @@ fn of_image(image: &[u8], g: Geometry) -> Option<Faults> {
         FileFound { slot, name: reading.entry(slot).name(), touched }
     });
     let files = files.collect();
-    Some(Faults { found: all, files, directory_sectors: reading.sectors })
+    let directory_sectors = reading.sectors;
+    Some((reading, Faults { found: all, files, directory_sectors }))
 }
 
 /// The fault of the directory's length; it touches every file, since which slots there are hangs on it.
@@ -120,17 +127,18 @@ pub(crate) fn found(reading: &Reading) -> Vec<FaultFound> {
 }
 
 pub(super) fn told(reading: &Reading, slot: Option<u8>, detail: Detail) -> FaultFound {
-    let (sector, byte) = slot.map(place).unzip();
+    let at = slot.map(place);
     let told = Explained {
         fault: Fault { kind: detail.kind(), slot },
-        sector,
-        byte,
+        sector: at.map(|(sector, _)| sector),
+        byte: at.map(|(_, byte)| byte),
         image_byte: Some(detail.image_byte(reading, slot)),
         name: slot.and_then(|slot| reading.name_of(slot)),
         message: detail.words(reading, slot),
     };
     let touches = slot.map(|slot| touched(reading, slot, &detail)).unwrap_or_default();
-    FaultFound { told, detail, touches }
+    let (bytes, granules) = (detail.bytes(reading, slot), detail.granules(reading, slot));
+    FaultFound { told, detail, touches, bytes, granules }
 }
 
 /// The files that a fault of a slot touches, rising.
@@ -267,7 +275,7 @@ fn size(reading: &Reading, file: u8) -> Option<Detail> {
 }
 
 fn on_directory(reading: &Reading, slot: u8, found: &mut Vec<Detail>) {
-    if reading.file_of(slot).is_some_and(|file| reading.entry(file).is_system()) {
+    if reading.file_of(slot).map_or(false, |file| reading.entry(file).is_system()) {
         return;
     }
     let directory = reading.directory_granules();

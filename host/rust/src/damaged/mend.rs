@@ -197,7 +197,10 @@ pub(super) fn original<'a>(image: &'a [u8], copy: &Disk) -> Option<Reading<'a>> 
 
 fn dropped(image: &[u8], copy: &Disk, steps: &[Step]) -> Vec<Dropped> {
     let g = copy.geometry();
-    let (Some(before), Some(after)) = (original(image, copy), Reading::of(copy.image(), g)) else { return Vec::new() };
+    let (before, after) = match (original(image, copy), Reading::of(copy.image(), g)) {
+        (Some(before), Some(after)) => (before, after),
+        _ => return Vec::new(),
+    };
     let was_file = |&slot: &u8| before.entry(slot).is_file() || lost_by_flags(&before, slot);
     let gone = before.slots().filter(was_file).filter(|&slot| !after.entry(slot).is_file());
     let gone = gone.filter_map(|slot| {

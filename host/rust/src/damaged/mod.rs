@@ -27,5 +27,5 @@ pub use mend::{Dropped, Mended, Step, Unmended};
 pub use remedy::{ByteChange, Remedy};
 pub use rescue::Rescued;
 
-pub(crate) use faults::first;
+pub(crate) use faults::{first, read};
 pub(crate) use reading::{place, Reading};

@@ -31,8 +31,8 @@ impl<'a> Reading<'a> {
         let sectors = image.len() / Geometry::SECTOR_BYTES;
         let room = sectors.checked_sub(g.start);
         g.image_len() == Some(image.len())
-            && g.start.is_multiple_of(Geometry::GRANULE_SECTORS)
-            && room.is_some_and(|room| room >= Self::LEAST_SECTORS)
+            && g.start % Geometry::GRANULE_SECTORS == 0
+            && room >= Some(Self::LEAST_SECTORS)
     }
 
     /// The byte that tells the directory's length; the geometry must fit.
@@ -127,18 +127,18 @@ impl<'a> Reading<'a> {
     }
 
     /// The directory's slots, rising.
-    pub(crate) fn slots(&self) -> impl Iterator<Item = u8> + use<> {
+    pub(crate) fn slots(&self) -> impl Iterator<Item = u8> {
         let sectors = self.sectors;
         (0..=u8::MAX).filter(move |&slot| place(slot).0 < sectors)
     }
 
     /// The slots of the files, rising: in use and primary.
-    pub(crate) fn files(&self) -> impl Iterator<Item = u8> + use<'a, '_> {
+    pub(crate) fn files(&self) -> impl Iterator<Item = u8> + '_ {
         self.slots().filter(|&slot| self.entry(slot).is_file())
     }
 
     /// The granules of an entry's runs that the disk has; nothing where it is not in use.
-    pub(crate) fn on_disk(&self, slot: u8) -> impl Iterator<Item = usize> + use<> {
+    pub(crate) fn on_disk(&self, slot: u8) -> impl Iterator<Item = usize> {
         let (entry, granules) = (self.entry(slot), self.granules());
         let runs = entry.in_use().then(|| entry.runs(self.g)).into_iter().flatten();
         runs.flat_map(|run| run.granules()).filter(move |&granule| granule < granules)

@@ -50,6 +50,8 @@ pub fn feed(disk: &Disk<&[u8]>, read: bool) -> bool {
         assert_eq!((told, mended.err()), (Err(Refusal::Geometry), Some(Unmended::Refused(Refusal::Geometry))));
         return false;
     };
+    let map = disk.map().expect("a map");
+    assert_eq!((map.cells.len() * Geometry::GRANULE_BYTES, &map.faults), (disk.image().len(), &faults.found));
     let first = faults.found.first().map(|found| found.told.fault);
     assert_eq!(first, told.err().map(|refusal| refusal.fault().expect("a fault")));
     let mended = mended.expect("mended");
