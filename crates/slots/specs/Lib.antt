@@ -7,5 +7,6 @@ pub mod Stretches
 pub mod Theorem
 pub mod Rules
 pub mod Room
+pub mod View
 pub mod Sentence
 pub mod Samples

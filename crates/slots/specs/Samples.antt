@@ -7,7 +7,7 @@ use native.Mathlib.Omega.{arith}
 use lib.Dec.{eqb}
 use Rattle.meaning.specs.Lists.{count, keep, firstOr}
 use Rattle.slots.specs.Words.{State, Last, noRun, lastRun, Choice}
-use Rattle.slots.specs.Stretches.{stretch, longestIn, lowEnd}
+use Rattle.meaning.specs.Stretch.{stretch, longestIn, lowEnd}
 use Rattle.slots.specs.Theorem.{Grown, grown, noSlot, grow, andThen, orElse, growth}
 use Rattle.slots.specs.Rules
 use Rattle.slots.specs.Rules.{firstRule, secondRule, takeOne}

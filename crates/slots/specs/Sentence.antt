@@ -10,7 +10,8 @@ use borrow.Author.Tests.{ltb-true, lt-ltb, le-ltb, ne-eqb}
 use Rattle.meaning.specs.Lists.{count}
 use Rattle.slots.specs.Words.{State, Last, noRun, lastRun, after, spare, Free}
 use Rattle.slots.specs.Stretches
-use Rattle.slots.specs.Stretches.{stretch, longestIn, longestLow}
+use Rattle.meaning.specs.Stretch.{stretch, longestIn}
+use Rattle.slots.specs.Stretches.{longestLow}
 use Rattle.slots.specs.Theorem.{Grown, grown, noSlot, andThen, grow}
 use Rattle.slots.specs.Rules
 use Rattle.slots.specs.Rules.{also, longerLast, isFree, canLengthen, lengthened, started, takeOne, secondRule}

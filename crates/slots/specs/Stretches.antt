@@ -8,23 +8,8 @@ use native.Mathlib.Decide.{decLt, ℕ-discrete}
 use lib.Dec.{leb}
 use borrow.Author.Tests.{le-leb, lt-leb}
 use Rattle.meaning.specs.Lists.{count}
+use Rattle.meaning.specs.Stretch.{stretch, longestIn, lowEnd}
 use Rattle.slots.specs.Words.{State, Free, Stretch, LowEnd}
-
-module _ (taken : ℕ → Bool) where
-  -- how many granules at the front of a list are free, up to the first that is taken
-  unfoldable pub stretch : List ℕ → ℕ
-  stretch [] = 0
-  stretch (n ∷ ns) = cond (taken n) 0 (suc (stretch ns))
-
-  -- the longest of the stretches that start at some member of a list
-  unfoldable pub longestIn : List ℕ → ℕ
-  longestIn [] = 0
-  longestIn (n ∷ ns) = max (stretch (n ∷ ns)) (longestIn ns)
-
-  -- the first member at which so long a stretch starts
-  unfoldable pub lowEnd : List ℕ → ℕ
-  lowEnd [] = 0
-  lowEnd (n ∷ ns) = cond (leb (longestIn ns) (stretch (n ∷ ns))) n (lowEnd ns)
 
 module _ (taken : ℕ → Bool) where
   -- k is free, for every k from a up to a + n

@@ -1,4 +1,4 @@
--- Number 8, of the product's disks: no growth exactly where no choice fits
+-- Number 8 (02 §13): a growth finds no slot exactly where no choice fits.
 use mathlib.Core.Path.{_≡_, refl, ap, sym, _∙_, subst}
 use mathlib.Core.Logic.{_↔_, _⊎_, inl}
 use mathlib.Core.Bool.{Bool, not}
@@ -7,13 +7,12 @@ use Prim.Native.Nat.{ℕ, zero, suc, _≤_}
 use native.Mathlib.Omega.{arith}
 use lib.ListN.{length}
 use lib.Dec.{T}
-use Rattle.meaning.specs.Lists.{firstOr}
 use Rattle.meaning.specs.Layout.{granules}
 use Rattle.meaning.specs.Bits.{bit}
 use Rattle.meaning.specs.Entries.{system}
-use Rattle.meaning.specs.Free.{freeGranules}
+use Rattle.meaning.specs.Free.{freeGranules, lowestFree, longestFree}
 use Rattle.meaning.specs.Growth
-use Rattle.meaning.specs.Growth.{takeAt, grow, growBy}
+use Rattle.meaning.specs.Growth.{takeAt, grow, growBy, growth}
 use Rattle.meaning.specs.declared.Geometry.{Geometry}
 use Rattle.laws.specs.Members
 use Rattle.laws.specs.Facts.{Sound, File}
@@ -21,16 +20,15 @@ use Rattle.laws.specs.Places
 use Rattle.laws.specs.Change
 use Rattle.laws.specs.Longer
 use Rattle.laws.specs.TakeOne
 use Rattle.promises.specs.Grow
-use Rattle.promises.specs.Grow.{Grew, Chooses}
+use Rattle.promises.specs.Grow.{Chooses}
 use Rattle.slots.specs.Words
 use Rattle.slots.specs.Words.{Free, Choice, Step, Second, CanLengthen}
 use Rattle.slots.specs.Stretches
-use Rattle.slots.specs.Stretches.{longestLow}
 use Rattle.slots.specs.Theorem
 use Rattle.slots.specs.Theorem.{AnyRule, SecondRule}
-use Rattle.slots_disk.specs.View
-use Rattle.slots_disk.specs.View.{view}
+use Rattle.slots.specs.View
+use Rattle.slots.specs.View.{view}
 
 -- `Theorem` has a `Grown` of its own, over any kind of disk. (Where the product's takes its place, this goes.)
 conv : Growth.Grown → Theorem.Grown (List ℕ)
@@ -56,20 +54,17 @@ module _ (g : Geometry) (p : ℕ) where
     pub user : T (not (system g d p))
     pub enough : k ≤ length (freeGranules g d)
 
-  abbrev pub lowest : List ℕ → ℕ
-  lowest d = firstOr 0 (freeGranules g d)
+  abbrev lowest : List ℕ → ℕ
+  lowest = lowestFree g
 
-  abbrev pub longest : List ℕ → ℕ
-  longest d = longestLow (granules g) (view g p d)
+  abbrev longest : List ℕ → ℕ
+  longest = longestFree g
 
   lowest-chooses : Chooses g lowest
   lowest-chooses = TakeOne.first-free g
 
   longest-chooses : Chooses g longest
-  longest-chooses d h =
-      let a = TakeOne.first-free g d h in
-      let b = Stretches.low-free (granules g) (view g p d) (lowest d) (record { inside = a .0; clear = Members.no-false (a .1) }) in
-      (b .inside, λ t. Members.false-no (b .clear) t)
+  longest-chooses = Grow.longest-chooses g
 
   module _ (choice : List ℕ → ℕ) (chooses : Chooses g choice) where
     abbrev one : List ℕ → Theorem.Grown (List ℕ)
@@ -139,14 +134,6 @@ module _ (g : Geometry) (p : ℕ) where
         (View.took g d (o .sound) (o .fits) p (o .file) (longest d) (h .0) (h .1));
   }
 
-  -- 01's growth where it fits, else the second
-  unfoldable pub growth : ℕ → List ℕ → Growth.Grown
-  growth k d = orElse (grow g p k d) (growBy g p longest k d)
-    where
-      orElse : Growth.Grown → Growth.Grown → Growth.Grown
-      orElse (Growth.grown d) e = Growth.grown d
-      orElse Growth.noSlot e = e
-
 -- The theorems -----------------------------------------------------------------------------------------------------------
 
 module _ (g : Geometry) (p k : ℕ) (d : List ℕ) (o : Known g p k d) where
@@ -176,11 +163,11 @@ module _ (g : Geometry) (p k : ℕ) (d : List ℕ) (o : Known g p k d) where
 
   -- (a) where 01's growth succeeds, this is it
   pub keeps-first : (d′ : List ℕ) → grow g p k d ≡ Growth.grown d′ → growth g p k d ≡ Growth.grown d′
-  unfolding growth
+  unfolding growth Growth.orElse
   keeps-first d′ e = rw e
 
   else-second : grow g p k d ≡ Growth.noSlot → growth g p k d ≡ growBy g p (longest g p) k d
-  unfolding growth
+  unfolding growth Growth.orElse
   else-second e = rw e
 
   -- (b) 8 means that no choice fits
@@ -194,16 +181,3 @@ module _ (g : Geometry) (p k : ℕ) (d : List ℕ) (o : Known g p k d) where
       back : (t : Growth.Grown) → grow g p k d ≡ t → (Fitting → ⊥) → growth g p k d ≡ Growth.noSlot
       back (Growth.grown d′) q n = absurd (n (first-choice d′ q))
       back Growth.noSlot q n = else-second q ∙ second-iff .1 n
-
-  -- and what it does to the file and to others is what each growth does
-  pub growth-grew : (d′ : List ℕ) → growth g p k d ≡ Growth.grown d′ → Grew g d d′ p k
-  growth-grew d′ e = go (grow g p k d) refl
-    where
-      go : (t : Growth.Grown) → grow g p k d ≡ t → Grew g d d′ p k
-      go (Growth.grown d₁) q =
-          let z : d₁ ≡ d′ = same (sym (keeps-first d₁ q) ∙ e) in
-          subst (λ (x : List ℕ). Grew g d x p k) z (Grow.grow-grew g k d d₁ p (o .sound) (o .fits) (o .file) (o .user) (o .enough) q)
-        where
-          same : {x y : List ℕ} → Growth.grown x ≡ Growth.grown y → x ≡ y
-          same h = cc
-      go Growth.noSlot q = Grow.growBy-grew g (longest g p) (longest-chooses g p) k d d′ p (o .sound) (o .fits) (o .file) (o .user) (o .enough) (sym (else-second q) ∙ e)
