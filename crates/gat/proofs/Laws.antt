@@ -12,6 +12,7 @@ use Rattle.meaning.specs.Lists.{count}
 use Rattle.meaning.specs.Layout.{byte, granules, granuleBytes, granuleSectors, taken, fitsGeometry}
 use Rattle.meaning.specs.Sizes
 use Rattle.meaning.specs.Free.{freeGranules}
+use Rattle.meaning.specs.Stretch
 use Rattle.meaning.specs.FreeSpace.{stretch, longestIn, longest, freeSpace}
 use Rattle.meaning.specs.declared.Geometry.{Geometry}
 use Rattle.meaning.specs.declared.Space.{Space}
@@ -111,7 +112,7 @@ module _ (g : Geometry) (d : List ℕ) where
 
   ends-longest : (n i : ℕ) (p : Seen)
       → ended (over i n p) .longest ≡ max (p .longest) (max (p .here + stretch g d (count i n)) (longestIn g d (count i n)))
-  unfolding over ended met stretch longestIn
+  unfolding over ended met Stretch.stretch Stretch.longestIn
   ends-longest zero i p = omega arith
   ends-longest (suc n) i p = go (taken g d i) refl (ends-longest n (i + 1))
     where

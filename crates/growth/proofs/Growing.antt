@@ -1,7 +1,7 @@
 -- A growth turn by turn.
 use mathlib.Core.Path.{_≡_, refl, ap, sym, _∙_, subst}
 use mathlib.Core.Logic.{_≢_, _⊎_, ⊎-elim}
-use mathlib.Core.Bool.{true, false, not}
+use mathlib.Core.Bool.{Bool, true, false, not}
 use mathlib.Core.List.{List}
 use Prim.Native.Nat.{ℕ, zero, suc, _+_, _-_, _*_, _≤_, _<_}
 use native.Mathlib.Omega.{arith}
@@ -9,34 +9,50 @@ use native.Mathlib.Decide.{ℕ-discrete}
 use lib.ListN.{length}
 use Rattle.meaning.specs.Layout.{taken, takeGranule, field, setField, granules}
 use Rattle.meaning.specs.Entries.{runs}
-use Rattle.meaning.specs.Growth.{tail, lengthens, withPair, withExtension, takeOne, grown, noSlot, grow, growBy, andThen, fails}
-use Rattle.meaning.specs.Free.{freeGranules, freeSlot}
+use Rattle.meaning.specs.Growth.{tail, lengthens, withPair, withExtension, takeAt, grown, noSlot, growBy, andThen, fails}
+use Rattle.meaning.specs.Free.{freeGranules, lowestFree, freeSlot}
 use Rattle.meaning.specs.declared.Geometry.{Geometry}
 use Rattle.laws.specs.Members
 use Rattle.laws.specs.Steps.{Ready}
+use Rattle.laws.specs.TakeOne
+use Rattle.slots.specs.Stretches
+use Rattle.slots.specs.View.{view}
 use Rattle.layout.specs.Room.{Room, Slot}
 use Rattle.layout.proofs.Lists.{le-or-lt}
 use Rattle.layout.proofs.Sound.{slot-of}
 use Rattle.joint.proofs.Ready.{walks}
 use Rattle.space.proofs.First.{NoneBelow}
+use Rattle.growth.specs.Choose.{choiceBy, Picked}
+use Rattle.growth.specs.declared.Chosen.{Chosen}
 use Rattle.growth.proofs.Stand.{Stand}
-use Rattle.supply.specs.Search.{Ends}
+use Rattle.supply.specs.Search.{Ends, NextFree}
 use Rattle.supply.specs.declared.Ending.{Ending}
 use Rattle.growth.proofs.Step
 
-module _ (g : Geometry) (p : ℕ) where
+-- each choice gives a free granule where there is one
+pub chooses : (g : Geometry) (p : ℕ) (lowest : Bool) (d : List ℕ) → 1 ≤ length (freeGranules g d) → Step.Free′ g p (choiceBy g lowest) d
+chooses g p true d h = TakeOne.first-free g d h
+chooses g p false d h =
+    let a = TakeOne.first-free g d h in
+    let b = Stretches.low-free (granules g) (view g 0 d) (lowestFree g d) (record { inside = a .0; clear = Members.no-false (a .1) }) in
+    (b .inside, λ t. Members.false-no (b .clear) t)
+
+module _ (g : Geometry) (p : ℕ) (lowest : Bool) where
+  abbrev choice : List ℕ → ℕ
+  choice = choiceBy g lowest
+
   -- one turn of the growth
-  pub grow-more : (left : ℕ) (d d′ : List ℕ) → 0 < left → takeOne g p d ≡ grown d′ → grow g p left d ≡ grow g p (left - 1) d′
-  unfolding growBy takeOne andThen
+  pub grow-more : (left : ℕ) (d d′ : List ℕ) → 0 < left → takeAt g p (choice d) d ≡ grown d′ → growBy g p choice left d ≡ growBy g p choice (left - 1) d′
+  unfolding growBy andThen
   grow-more zero d d′ h e = absurd (let z : ⊥ = omega arith in z)
   grow-more (suc left) d d′ h e = let q : suc left - 1 ≡ left = omega arith in rw (e, q)
 
-  pub grow-stuck : (left : ℕ) (d : List ℕ) → 0 < left → takeOne g p d ≡ noSlot → fails (grow g p left d) ≡ true
-  unfolding growBy takeOne andThen fails
+  pub grow-stuck : (left : ℕ) (d : List ℕ) → 0 < left → takeAt g p (choice d) d ≡ noSlot → fails (growBy g p choice left d) ≡ true
+  unfolding growBy andThen fails
   grow-stuck zero d h e = absurd (let z : ⊥ = omega arith in z)
   grow-stuck (suc left) d h e = rw e
 
-  pub grow-done : (left : ℕ) (d : List ℕ) → left ≤ 0 → grow g p left d ≡ grown d
+  pub grow-done : (left : ℕ) (d : List ℕ) → left ≤ 0 → growBy g p choice left d ≡ grown d
   unfolding growBy
   grow-done zero d h = refl
   grow-done (suc left) d h = absurd (let z : ⊥ = omega arith in z)
@@ -47,7 +63,7 @@ module _ (g : Geometry) (p : ℕ) where
 
   -- `left` granules are to come on disk d; none below `next` is free, and no slot below `slot`
   pub record Growing (k : ℕ) (d₀ d : List ℕ) (e runs after long next slot left : ℕ) : Type 0 where
-    pub rest : grow g p k d₀ ≡ grow g p left d
+    pub rest : growBy g p choice k d₀ ≡ growBy g p choice left d
     pub stand : Stand g p d e runs after long
     pub room : left ≤ length (freeGranules g d)
     pub none : NoneBelow (Step.free g d) next
@@ -73,8 +89,8 @@ module _ (g : Geometry) (p : ℕ) where
 
   pub stand-start : {d : List ℕ} {e : ℕ} {r : Ending} → Ready g d p → e ≡ tail g p d → Ends g d e r → Stand g p d e (r .runs) (r .after) (r .long)
   stand-start {d} {e} {r} y q w = ⊎-elim
-      (λ (h : r .runs ≤ 0). Step.stand-none g p y (sym q) (w .many) (omega arith) (w .none (omega arith)))
-      (λ (h : 0 < r .runs). Step.stand-run g p y (sym q) (w .many) h (w .after h .0) (w .after h .1)) (le-or-lt (r .runs) 0)
+      (λ (h : r .runs ≤ 0). Step.stand-none g p choice y (sym q) (w .many) (omega arith) (w .none (omega arith)))
+      (λ (h : 0 < r .runs). Step.stand-run g p choice y (sym q) (w .many) h (w .after h .0) (w .after h .1)) (le-or-lt (r .runs) 0)
 
   pub growing-start : {k : ℕ} {d : List ℕ} {e : ℕ} {r : Ending} → Ready g d p → e ≡ tail g p d → k ≤ length (freeGranules g d) → Ends g d e r
       → Growing k d d e (r .runs) (r .after) (r .long) 0 0 k
@@ -92,14 +108,14 @@ module _ (g : Geometry) (p : ℕ) where
   }
 
   -- a granule taken: none is free below where none was, nor below it where it was the lowest
-  none-after : {d d′ : List ℕ} {m c : ℕ} → Step.Taken g p d d′ m → NoneBelow (Step.free g d) c → c ≤ granules g → NoneBelow (Step.free g d′) c
+  none-after : {d d′ : List ℕ} {m c : ℕ} → Step.Taken g p choice d d′ m → NoneBelow (Step.free g d) c → c ≤ granules g → NoneBelow (Step.free g d′) c
   none-after {d} {d′} {m} {c} t none h n l = go (ℕ-discrete n m)
     where
       go : Dec (n ≡ m) → not (taken g d′ n) ≡ false
       go (yes q) = ap not (ap (taken g d′) q ∙ t .set′)
       go (no q) = ap not (t .keeps n (omega arith) q) ∙ none n l
 
-  none-past : {d d′ : List ℕ} {m : ℕ} → Step.Taken g p d d′ m → NoneBelow (Step.free g d) m → m < granules g → NoneBelow (Step.free g d′) (m + 1)
+  none-past : {d d′ : List ℕ} {m : ℕ} → Step.Taken g p choice d d′ m → NoneBelow (Step.free g d) m → m < granules g → NoneBelow (Step.free g d′) (m + 1)
   none-past {d} {d′} {m} t none h n l = go (ℕ-discrete n m)
     where
       go : Dec (n ≡ m) → not (taken g d′ n) ≡ false
@@ -107,28 +123,26 @@ module _ (g : Geometry) (p : ℕ) where
       go (no q) = ap not (t .keeps n (omega arith) q) ∙ none n (omega arith)
 
   module _ {k : ℕ} {d₀ d : List ℕ} {e r a l next slot left : ℕ} (c : Growing k d₀ d e r a l next slot left) (h : 0 < left) where
-    some-room : 1 ≤ length (freeGranules g d)
-    some-room = omega (arith, c .room)
+    some-room : Step.Free′ g p choice d
+    some-room = chooses g p lowest d (omega (arith, c .room))
 
     -- 1. the last run grows
-    pub growing-longer : l < 32 → (i : a < granules g) → taken g d a ≡ false → {d′ : List ℕ} {next′ : ℕ} → d′ ≡ takeGranule g (setField g d e (0x17 + 2 * (r - 1)) (field g d e (0x17 + 2 * (r - 1)) + 1)) a
-        → ((next′ ≡ next) ⊎ ((next′ ≡ a + 1) × (next ≡ a))) → Step.Taken g p d d′ a × ((x : ℕ) → freeSlot g d′ x ≡ freeSlot g d x) × Growing k d₀ d′ e r (a + 1) (l + 1) next′ slot (left - 1)
+    pub growing-longer : l < 32 → (i : a < granules g) → taken g d a ≡ false → {d′ : List ℕ}
+        → d′ ≡ takeGranule g (setField g d e (0x17 + 2 * (r - 1)) (field g d e (0x17 + 2 * (r - 1)) + 1)) a
+        → Step.Taken g p choice d d′ a × ((x : ℕ) → freeSlot g d′ x ≡ freeSlot g d x) × Growing k d₀ d′ e r (a + 1) (l + 1) next slot (left - 1)
     unfolding Step.d₁
-    growing-longer u i f {d′} {next′} q w =
-        let t : Step.Taken g p d d′ a = rw q (Step.longer-taken g p (c .stand) u i f) in
-        let s : (x : ℕ) → freeSlot g d′ x ≡ freeSlot g d x = rw q (Step.longer-slots g p (c .stand) u i f) in
-        let low : next′ ≤ granules g = ⊎-elim (λ (z : next′ ≡ next). let y = c .next-low in omega arith) (λ (z : (next′ ≡ a + 1) × (next ≡ a)). let y = z .0 in omega arith) w in (
+    growing-longer u i f {d′} q =
+        let t : Step.Taken g p choice d d′ a = rw q (Step.longer-taken g p choice (c .stand) u i f) in
+        let s : (x : ℕ) → freeSlot g d′ x ≡ freeSlot g d x = rw q (Step.longer-slots g p choice (c .stand) u i f) in (
           t,
           s,
           record {
             rest = c .rest ∙ grow-more left d d′ h (t .one);
-            stand = rw q (Step.longer-stand g p (c .stand) u i f some-room);
+            stand = rw q (Step.longer-stand g p choice (c .stand) u i f some-room);
             room = omega (arith, c .room, t .fewer);
-            none = ⊎-elim
-                (λ (z : next′ ≡ next). rw z (none-after t (c .none) (c .next-low)))
-                (λ (z : (next′ ≡ a + 1) × (next ≡ a)). rw (z .0) (none-past t (subst (NoneBelow (Step.free g d)) (z .1) (c .none)) i)) w;
+            none = none-after t (c .none) (c .next-low);
             slots = λ x y. s x ∙ c .slots x y;
-            next-low = low;
+            next-low = c .next-low;
             slot-low = c .slot-low;
             few = c .few;
             short = omega arith;
@@ -136,22 +150,64 @@ module _ (g : Geometry) (p : ℕ) where
           },
         )
 
+    -- the granule picked, and what is known of those below it once it is taken
+    pub record Pick (n next′ : ℕ) : Type 0 where
+      pub is : choice d ≡ n
+      pub inside : n < granules g
+      pub free : taken g d n ≡ false
+      pub low : next′ ≤ granules g
+      pub none : (d′ : List ℕ) → Step.Taken g p choice d d′ n → NoneBelow (Step.free g d′) next′
+
+    pub picked : {q : Chosen} → Picked g d lowest next q → Pick (q .at) (q .next)
+    picked {q} w = go lowest refl
+      where
+        below : NextFree g d next 0 0 (q .at) → NoneBelow (Step.free g d) (q .at)
+        below v m b = ⊎-elim (λ (z : next ≤ m). ap not (⊎-elim (λ y. y) (λ y. absurd (let x = y .1 in let u : ⊥ = omega arith in u)) (v .passed m z b))) (λ (z : m < next). c .none m z) (le-or-lt next m)
+
+        inn : NextFree g d next 0 0 (q .at) → q .at < granules g
+        inn v = ⊎-elim
+            (λ (z : granules g ≤ q .at). absurd (Step.some-free g d (omega (arith, c .room)) (λ m b. below v m (omega arith))))
+            (λ (z : q .at < granules g). z) (le-or-lt (granules g) (q .at))
+
+        go : (b : Bool) → lowest ≡ b → Pick (q .at) (q .next)
+        go true e =
+            let v = w .first e .0 in let n = w .first e .1 in let i = inn v in
+            record {
+              is = ap (λ (x : Bool). choiceBy g x d) e ∙ Step.lowest g d (below v) i (v .found i .0);
+              inside = i;
+              free = v .found i .0;
+              low = omega arith;
+              none = λ d′ t. rw n (none-past t (below v) i);
+            }
+        go false e =
+            let s = w .second e in
+            let h : Step.Free′ g p choice d = some-room in
+            let is′ : choice d ≡ q .at = ap (λ (x : Bool). choiceBy g x d) e ∙ sym (s .0) in
+            record {
+              is = is′;
+              inside = subst (λ (n : ℕ). n < granules g) is′ (h .0);
+              free = subst (λ (n : ℕ). taken g d n ≡ false) is′ (Members.no-false (h .1));
+              low = let z = s .1 in omega arith;
+              none = λ d′ t m b. absurd (let z = s .1 in let u : ⊥ = omega arith in u);
+            }
+
     -- 2. a new run in the last entry
-    pub growing-pair : lengthens g p d ≡ false → r < 4 → {n : ℕ} → NoneBelow (Step.free g d) n → n < granules g → taken g d n ≡ false → {d′ : List ℕ} → d′ ≡ withPair g p d e r n
-        → Step.Taken g p d d′ n × ((x : ℕ) → freeSlot g d′ x ≡ freeSlot g d x) × Growing k d₀ d′ e (r + 1) (n + 1) 1 (n + 1) slot (left - 1)
+    pub growing-pair : lengthens g p d ≡ false → r < 4 → {n next′ : ℕ} → Pick n next′ → {d′ : List ℕ} → d′ ≡ withPair g p d e r n
+        → Step.Taken g p choice d d′ n × ((x : ℕ) → freeSlot g d′ x ≡ freeSlot g d x) × Growing k d₀ d′ e (r + 1) (n + 1) 1 next′ slot (left - 1)
     unfolding Step.d₂
-    growing-pair u v {n} none i f {d′} q =
-        let t : Step.Taken g p d d′ n = rw q (Step.pair-taken g p (c .stand) u v none i f) in
-        let s : (x : ℕ) → freeSlot g d′ x ≡ freeSlot g d x = rw q (Step.pair-slots g p (c .stand) u v none i f) in (
+    growing-pair u v {n} o {d′} q =
+        let i = o .inside in
+        let t : Step.Taken g p choice d d′ n = rw q (Step.pair-taken g p choice (c .stand) u v (o .is) i (o .free)) in
+        let s : (x : ℕ) → freeSlot g d′ x ≡ freeSlot g d x = rw q (Step.pair-slots g p choice (c .stand) u v (o .is) i (o .free)) in (
           t,
           s,
           record {
             rest = c .rest ∙ grow-more left d d′ h (t .one);
-            stand = rw q (Step.pair-stand g p (c .stand) u v none i f some-room);
+            stand = rw q (Step.pair-stand g p choice (c .stand) u v (o .is) i (o .free) some-room);
             room = omega (arith, c .room, t .fewer);
-            none = none-past t none i;
+            none = o .none d′ t;
             slots = λ x y. s x ∙ c .slots x y;
-            next-low = omega arith;
+            next-low = o .low;
             slot-low = c .slot-low;
             few = omega arith;
             short = omega arith;
@@ -160,23 +216,24 @@ module _ (g : Geometry) (p : ℕ) where
         )
 
     -- 3. a run in a new extension
-    pub growing-new : lengthens g p d ≡ false → 4 ≤ r → {n x : ℕ} → NoneBelow (Step.free g d) n → n < granules g → taken g d n ≡ false → x < 256 → NoneBelow (freeSlot g d) x → freeSlot g d x ≡ true
+    pub growing-new : lengthens g p d ≡ false → 4 ≤ r → {n x next′ : ℕ} → Pick n next′ → x < 256 → NoneBelow (freeSlot g d) x → freeSlot g d x ≡ true
         → {d′ : List ℕ} → d′ ≡ withPair g p (withExtension g p d e x) x 0 n
-        → Step.Taken g p d d′ n × ((y : ℕ) → y ≢ x → freeSlot g d′ y ≡ freeSlot g d y) × Growing k d₀ d′ x 1 (n + 1) 1 (n + 1) (x + 1) (left - 1)
+        → Step.Taken g p choice d d′ n × ((y : ℕ) → y ≢ x → freeSlot g d′ y ≡ freeSlot g d y) × Growing k d₀ d′ x 1 (n + 1) 1 next′ (x + 1) (left - 1)
     unfolding Step.d₃
-    growing-new u v {n} {x} none i f b slots o {d′} q =
-        let t : Step.Taken g p d d′ n = rw q (Step.new-taken g p (c .stand) u v none i f b slots o) in
-        let s : (y : ℕ) → y ≢ x → freeSlot g d′ y ≡ freeSlot g d y = rw q (Step.new-slots g p (c .stand) u v none i f b slots o) in
-        let z : freeSlot g d′ x ≡ false = rw q (Step.new-slot g p (c .stand) u v none i f b slots o) in (
+    growing-new u v {n} {x} pk b slots o {d′} q =
+        let i = pk .inside in
+        let t : Step.Taken g p choice d d′ n = rw q (Step.new-taken g p choice (c .stand) u v (pk .is) i (pk .free) b slots o) in
+        let s : (y : ℕ) → y ≢ x → freeSlot g d′ y ≡ freeSlot g d y = rw q (Step.new-slots g p choice (c .stand) u v (pk .is) i (pk .free) b slots o) in
+        let z : freeSlot g d′ x ≡ false = rw q (Step.new-slot g p choice (c .stand) u v (pk .is) i (pk .free) b slots o) in (
           t,
           s,
           record {
             rest = c .rest ∙ grow-more left d d′ h (t .one);
-            stand = rw q (Step.new-stand g p (c .stand) u v none i f b slots o some-room);
+            stand = rw q (Step.new-stand g p choice (c .stand) u v (pk .is) i (pk .free) b slots o some-room);
             room = omega (arith, c .room, t .fewer);
-            none = none-past t none i;
+            none = pk .none d′ t;
             slots = λ y w. last s z y w (ℕ-discrete y x);
-            next-low = omega arith;
+            next-low = pk .low;
             slot-low = omega arith;
             few = omega arith;
             short = omega arith;
@@ -189,9 +246,9 @@ module _ (g : Geometry) (p : ℕ) where
         last s z y w (no e) = s y e ∙ slots y (omega arith)
 
     -- no slot is left
-    pub growing-stuck : lengthens g p d ≡ false → 4 ≤ r → NoneBelow (freeSlot g d) 256 → fails (grow g p k d₀) ≡ true
+    pub growing-stuck : lengthens g p d ≡ false → 4 ≤ r → NoneBelow (freeSlot g d) 256 → fails (growBy g p choice k d₀) ≡ true
     growing-stuck u v none =
-        ap fails (c .rest) ∙ grow-stuck left d h (Step.one-none g p d u (rw (c .stand .last, c .stand .many) v) none)
+        ap fails (c .rest) ∙ grow-stuck left d h (Step.one-none g p choice d u (rw (c .stand .last, c .stand .many) v) none)
 
-  pub growing-end : {k : ℕ} {d₀ d : List ℕ} {e r a l next slot left : ℕ} → Growing k d₀ d e r a l next slot left → left ≤ 0 → grown d ≡ grow g p k d₀
+  pub growing-end : {k : ℕ} {d₀ d : List ℕ} {e r a l next slot left : ℕ} → Growing k d₀ d e r a l next slot left → left ≤ 0 → grown d ≡ growBy g p choice k d₀
   growing-end {left = left} c h = sym (c .rest ∙ grow-done left _ h)

@@ -2,7 +2,6 @@ pub mod Put
 pub mod Stand
 pub mod Step
 pub mod Growing
-pub mod Paper
 pub mod Turns
 pub mod Whole
 pub mod Grown

@@ -1,14 +1,20 @@
 -- What the stores of a growth leave.
-use mathlib.Core.Path.{_≡_, refl, ap, sym, _∙_}
+use mathlib.Core.Path.{_≡_, refl, ap, ap₂, sym, _∙_}
+use mathlib.Core.Logic.{_≢_}
 use mathlib.Core.Bool.{Bool, true, false, not, cond}
-use mathlib.Core.List.{List}
-use Prim.Native.Nat.{ℕ, _+_}
+use mathlib.Core.List.{List, [], _∷_, _++_, append-assoc, append-nil}
+use Prim.Native.Nat.{ℕ, _+_, _*_, _/_, _%_, _≤_}
 use native.Mathlib.Omega.{arith}
-use lib.ListN.{length, getD, set, length-set}
-use lib.Seq.{sets, length-sets}
-use Rattle.meaning.specs.Layout.{entryAt, hitAt, hit, setField}
+use lib.ListN.{length, getD, set, take, drop, length-set, length-drop, take-append-drop}
+use lib.Seq.{sets, length-sets, sets-eq, getD-set-other, set-comm, length-take-le, drop-length, take-all, drop-drop}
+use Rattle.meaning.specs.Bits.{withBit}
+use Rattle.meaning.specs.Layout.{byte, gatAt, entryAt, hitAt, hit, field, setField, takeGranule}
+use Rattle.meaning.specs.Free.{longestFree}
 use Rattle.meaning.specs.Growth.{newExtension, withExtension}
 use Rattle.meaning.specs.declared.Geometry.{Geometry}
+use Rattle.supply.specs.Search.{NextFree}
+use Rattle.growth.specs.Inside.{Inside}
+use Rattle.growth.specs.Choose.{Picked, OnlyGat}
 
 module _ (g : Geometry) (p : ℕ) (d : List ℕ) (e x : ℕ) {d₁ : List ℕ} (q : d₁ ≡ sets (set (set d (entryAt g e + 0x1e) 0xfe) (entryAt g e + 0x1f) x) (entryAt g x) (newExtension g p e)) where
   pub extension-put : set d₁ (hitAt g x) (getD d (hitAt g p) 0) ≡ withExtension g p d e x
@@ -25,14 +31,68 @@ unfolding setField
 extended-long g p d e x = simp (length-sets, length-set)
 
 -- a store that is made, and one that is not
-pub stored : (b : Bool) (x y d : List ℕ) → not b ≡ false → x ≡ y → x ≡ cond b y d
-stored true x y d e q = q
-stored false x y d e q = absurd (let z : _≡_ {A = ℕ} 0 1 = ap (λ (b : Bool). cond b 1 0) (sym e) in let w : ⊥ = omega arith in w)
+pub stored : (f : List ℕ → List ℕ) (b : Bool) (x y d : List ℕ) → not b ≡ false → x ≡ f y → x ≡ f (cond b y d)
+stored f true x y d e q = q
+stored f false x y d e q = absurd (let z : _≡_ {A = ℕ} 0 1 = ap (λ (b : Bool). cond b 1 0) (sym e) in let w : ⊥ = omega arith in w)
 
-pub not-stored : (b : Bool) (x d : List ℕ) → not b ≡ true → d ≡ cond b x d
-not-stored false x d e = refl
-not-stored true x d e = absurd (let z : _≡_ {A = ℕ} 0 1 = ap (λ (b : Bool). cond b 1 0) e in let w : ⊥ = omega arith in w)
+pub not-stored : (f : List ℕ → List ℕ) (b : Bool) (x y d : List ℕ) → not b ≡ true → x ≡ f d → x ≡ f (cond b y d)
+not-stored f false x y d e q = q
+not-stored f true x y d e q = absurd (let z : _≡_ {A = ℕ} 0 1 = ap (λ (b : Bool). cond b 1 0) e in let w : ⊥ = omega arith in w)
 
 pub writes-yes : (b : Bool) → not b ≡ false → b ≡ true
 writes-yes true e = refl
 writes-yes false e = sym e
+
+-- The granule first and the entry after it, or the other way round
+module _ (g : Geometry) (d : List ℕ) (e m : ℕ) {w : ℕ} (i : Inside g (length d) e m) (q : w ≡ withBit (m % g .units) (byte d (gatAt g m))) where
+  apart : (k : ℕ) → gatAt g m ≢ entryAt g e + k
+  apart k z = let b = i .block in let y : ⊥ = omega arith in y
+
+  apart′ : (k : ℕ) → entryAt g e + k ≢ gatAt g m
+  apart′ k z = let b = i .block in let y : ⊥ = omega arith in y
+
+  pub marked-is : set d (gatAt g m) w ≡ takeGranule g d m
+  unfolding takeGranule
+  marked-is = ap (λ (x : ℕ). set d (gatAt g m) x) q
+
+  pub longer-swap : (k : ℕ) → set (set d (gatAt g m) w) (entryAt g e + k) (getD (set d (gatAt g m) w) (entryAt g e + k) 0 + 1) ≡ takeGranule g (setField g d e k (field g d e k + 1)) m
+  unfolding takeGranule setField field
+  longer-swap k =
+      ap (λ (x : ℕ). set (set d (gatAt g m) w) (entryAt g e + k) (x + 1)) (getD-set-other d (gatAt g m) (entryAt g e + k) w 0 (apart′ k))
+      ∙ set-comm d (gatAt g m) (entryAt g e + k) w (getD d (entryAt g e + k) 0 + 1) (apart k)
+      ∙ ap (λ (x : ℕ). set (set d (entryAt g e + k) (getD d (entryAt g e + k) 0 + 1)) (gatAt g m) x)
+      (q ∙ ap (withBit (m % g .units)) (sym (getD-set-other d (entryAt g e + k) (gatAt g m) (getD d (entryAt g e + k) 0 + 1) 0 (apart k))))
+
+  pub pair-swap : (k l u v : ℕ) → set (set (set d (gatAt g m) w) (entryAt g e + k) u) (entryAt g e + l) v ≡ takeGranule g (setField g (setField g d e k u) e l v) m
+  unfolding takeGranule setField
+  pair-swap k l u v =
+      ap (λ (x : List ℕ). set x (entryAt g e + l) v) (set-comm d (gatAt g m) (entryAt g e + k) w u (apart k))
+      ∙ set-comm (set d (entryAt g e + k) u) (gatAt g m) (entryAt g e + l) w v (apart l)
+      ∙ ap (λ (x : ℕ). set (set (set d (entryAt g e + k) u) (entryAt g e + l) v) (gatAt g m) x)
+      (q ∙ ap (withBit (m % g .units)) (sym (getD-set-other (set d (entryAt g e + k) u) (entryAt g e + l) (gatAt g m) v 0 (apart l) ∙ getD-set-other d (entryAt g e + k) (gatAt g m) u 0 (apart k))))
+
+-- The GAT put back as it was
+pub put-back : (g : Geometry) (d d₂ z : List ℕ) {d₃ s : List ℕ} → OnlyGat g d d₂ → 256 * g .start + 192 ≤ length d → length z ≡ 192
+    → s ≡ sets z 0 (take 192 (drop (256 * g .start) d)) → d₃ ≡ sets d₂ (256 * g .start) (take 192 (drop 0 s)) → d₃ ≡ d
+put-back g d d₂ z {d₃} {s} o h lz e q =
+    let A = 256 * g .start in
+    let W : List ℕ = take 192 (drop A d) in
+    let lv : length W ≡ 192 = length-take-le 192 (drop A d) (omega (arith, length-drop A d)) in
+    let s₁ : sets z 0 W ≡ W ++ drop (0 + length W) z = sets-eq W z 0 (omega arith) in
+    let s₂ : drop (0 + length W) z ≡ [] = ap (λ (n : ℕ). drop n z) (let y : 0 + length W ≡ length z = omega arith in y) ∙ drop-length z in
+    let s₃ : s ≡ W = e ∙ s₁ ∙ ap (λ (x : List ℕ). W ++ x) s₂ ∙ append-nil W in
+    let s₄ : take 192 (drop 0 s) ≡ W = ap (λ (x : List ℕ). take 192 x) s₃ ∙ take-all 192 W (omega arith) in
+    let c₁ : sets d₂ A W ≡ take A d₂ ++ W ++ drop (A + length W) d₂ = sets-eq W d₂ A (omega (arith, o .long)) in
+    let c₂ : drop (A + length W) d₂ ≡ drop (A + 192) d = ap (λ (n : ℕ). drop (A + n) d₂) lv ∙ o .behind in
+    let c₃ : take A d₂ ++ W ++ drop (A + length W) d₂ ≡ take A d ++ W ++ drop (A + 192) d = ap₂ (λ (x y : List ℕ). x ++ W ++ y) (o .below) c₂ in
+    let c₄ : W ++ drop (A + 192) d ≡ drop A d = ap (λ (x : List ℕ). W ++ x) (sym (drop-drop 192 A d)) ∙ take-append-drop 192 (drop A d) in
+    q ∙ ap (λ (x : List ℕ). sets d₂ A x) s₄ ∙ c₁ ∙ c₃ ∙ append-assoc (take A d) W (drop (A + 192) d) ∙ ap (λ (x : List ℕ). take A d ++ x) c₄ ∙ take-append-drop A d
+
+-- Where a new run starts
+pub picked-first : (g : Geometry) (d : List ℕ) (b : Bool) {next n : ℕ} → b ≡ true → NextFree g d next 0 0 n → Picked g d b next (record { at = n; next = n + 1 })
+picked-first g d true e w = record { first = λ _. (w, refl); second = λ z. absurd (let y : _≡_ {A = ℕ} 0 1 = ap (λ (b : Bool). cond b 1 0) (sym z) in let x : ⊥ = omega arith in x) }
+picked-first g d false e w = absurd (let y : _≡_ {A = ℕ} 0 1 = ap (λ (b : Bool). cond b 1 0) e in let x : ⊥ = omega arith in x)
+
+pub picked-second : (g : Geometry) (d : List ℕ) (b : Bool) {next n : ℕ} → b ≡ false → n ≡ longestFree g d → Picked g d b next (record { at = n; next = 0 })
+picked-second g d false e w = record { first = λ z. absurd (let y : _≡_ {A = ℕ} 0 1 = ap (λ (b : Bool). cond b 1 0) z in let x : ⊥ = omega arith in x); second = λ _. (w, refl) }
+picked-second g d true e w = absurd (let y : _≡_ {A = ℕ} 0 1 = ap (λ (b : Bool). cond b 1 0) (sym e) in let x : ⊥ = omega arith in x)

@@ -14,7 +14,7 @@ use Rattle.meaning.specs.Lists.{all, firstOr, lastOr}
 use Rattle.meaning.specs.Layout.{isSlot, taken, takeGranule, field, setField, gatAt, entryAt, granules, hit, aboveTen}
 use Rattle.meaning.specs.Entries.{system, block, runs, runStart, runLength}
 use Rattle.meaning.specs.Chain.{chain}
-use Rattle.meaning.specs.Growth.{tail, after, lengthens, lengthened, withPair, withExtension, takeOne, grown, noSlot, extended}
+use Rattle.meaning.specs.Growth.{tail, after, lengthens, lengthened, withPair, withExtension, takeAt, grown, noSlot, extended}
 use Rattle.meaning.specs.Free.{freeGranules, lowestFree, freeSlots, freeSlot, permitted, kept}
 use Rattle.meaning.specs.declared.Geometry.{Geometry}
 use Rattle.laws.specs.Members
@@ -78,14 +78,18 @@ module _ (g : Geometry) (d : List ℕ) where
 -- What a step leaves ------------------------------------------------------------------------------------------------------
 
 -- granule m is taken, and no other
-pub record Taken (g : Geometry) (p : ℕ) (d d′ : List ℕ) (m : ℕ) : Type 0 where
-  pub one : takeOne g p d ≡ grown d′
+pub record Taken (g : Geometry) (p : ℕ) (choice : List ℕ → ℕ) (d d′ : List ℕ) (m : ℕ) : Type 0 where
+  pub one : takeAt g p (choice d) d ≡ grown d′
   pub set′ : taken g d′ m ≡ true
   pub keeps : (n : ℕ) → n < granules g → n ≢ m → taken g d′ n ≡ taken g d n
   pub fewer : length (freeGranules g d) ≡ suc (length (freeGranules g d′))
   pub long : length d′ ≡ length d
 
-module _ (g : Geometry) (p : ℕ) where
+module _ (g : Geometry) (p : ℕ) (choice : List ℕ → ℕ) where
+  -- the granule chosen is free
+  abbrev pub Free′ : List ℕ → Type 0
+  Free′ d = (choice d < granules g) × (T (taken g d (choice d)) → ⊥)
+
   lengthens-is : (d : List ℕ) {e r : ℕ} → tail g p d ≡ e → runs g d e ≡ r → lengthens g p d ≡ all (leb 1 r ∷ ltb (runStart g d e (r - 1) + runLength g d e (r - 1)) (granules g)
       ∷ not (taken g d (runStart g d e (r - 1) + runLength g d e (r - 1))) ∷ ltb (runLength g d e (r - 1)) 32 ∷ [])
   unfolding lengthens
@@ -174,23 +178,20 @@ module _ (g : Geometry) (p : ℕ) where
         gat-field (setField g d e k v) m e j (same-fits d (setField g d e k v) (length-set d (entryAt g e + k) v) w) h
         ∙ getD-set-other d (entryAt g e + k) (entryAt g e + j) v 0 (λ q. n (omega arith))
 
-  one-long : (d : List ℕ) → lengthens g p d ≡ true → takeOne g p d ≡ grown (lengthened g p d)
-  unfolding takeOne
+  one-long : (d : List ℕ) → lengthens g p d ≡ true → takeAt g p (choice d) d ≡ grown (lengthened g p d)
   one-long d h = rw h
 
-  one-pair : (d : List ℕ) → lengthens g p d ≡ false → runs g d (tail g p d) < 4 → takeOne g p d ≡ grown (withPair g p d (tail g p d) (runs g d (tail g p d)) (lowestFree g d))
-  unfolding takeOne
+  one-pair : (d : List ℕ) → lengthens g p d ≡ false → runs g d (tail g p d) < 4 → takeAt g p (choice d) d ≡ grown (withPair g p d (tail g p d) (runs g d (tail g p d)) (choice d))
   one-pair d h l = rw (h, lt-ltb (runs g d (tail g p d)) 4 l)
 
-  one-new : (d : List ℕ) → lengthens g p d ≡ false → 4 ≤ runs g d (tail g p d) → takeOne g p d ≡ extended g p (freeSlots g d) d (tail g p d) (lowestFree g d)
-  unfolding takeOne
+  one-new : (d : List ℕ) → lengthens g p d ≡ false → 4 ≤ runs g d (tail g p d) → takeAt g p (choice d) d ≡ extended g p (freeSlots g d) d (tail g p d) (choice d)
   one-new d h l = rw (h, le-ltb (runs g d (tail g p d)) 4 l)
 
-  pub one-none : (d : List ℕ) → lengthens g p d ≡ false → 4 ≤ runs g d (tail g p d) → NoneBelow (freeSlot g d) 256 → takeOne g p d ≡ noSlot
+  pub one-none : (d : List ℕ) → lengthens g p d ≡ false → 4 ≤ runs g d (tail g p d) → NoneBelow (freeSlot g d) 256 → takeAt g p (choice d) d ≡ noSlot
   unfolding extended freeSlots
-  one-none d h l none = one-new d h l ∙ ap (λ (xs : List ℕ). extended g p xs d (tail g p d) (lowestFree g d)) (keep-none (freeSlot g d) 256 0 none)
+  one-none d h l none = one-new d h l ∙ ap (λ (xs : List ℕ). extended g p xs d (tail g p d) (choice d)) (keep-none (freeSlot g d) 256 0 none)
 
-  taken-by : (d d′ : List ℕ) (m : ℕ) → Ready g d p → takeOne g p d ≡ grown d′ → Longer.Longer g d d′ p m → length d′ ≡ length d → Taken g p d d′ m
+  taken-by : (d d′ : List ℕ) (m : ℕ) → Ready g d p → takeAt g p (choice d) d ≡ grown d′ → Longer.Longer g d d′ p m → length d′ ≡ length d → Taken g p choice d d′ m
   taken-by d d′ m y q w l = record {
     one = q;
     set′ = Members.T-true (w .set′);
@@ -248,7 +249,7 @@ module _ (g : Geometry) (p : ℕ) where
     length₁ : runLength g d₁ e (r - 1) ≡ l + 1
     length₁ = ap (λ (z : ℕ). 1 + z % 32) second₁ ∙ omega (arith, short₁)
 
-    one₁ : takeOne g p d ≡ grown d₁
+    one₁ : takeAt g p (choice d) d ≡ grown d₁
     one₁ = one-long d yes₁ ∙ ap grown is₁
 
     grows₁ : Tail.Grows g d d₁ p a
@@ -258,32 +259,32 @@ module _ (g : Geometry) (p : ℕ) where
     unfolding d₁
     long₁ = longer-long d e (0x17 + 2 * (r - 1)) (field g d e (0x17 + 2 * (r - 1)) + 1) a
 
-    pub longer-taken : Taken g p d d₁ a
+    pub longer-taken : Taken g p choice d d₁ a
     longer-taken = taken-by d d₁ a y₁ one₁ (Tail.grows-longer g d d₁ (sound′ g d p y₁) p (file′ g d p y₁) a grows₁) long₁
 
     pub longer-slots : (x : ℕ) → freeSlot g d₁ x ≡ freeSlot g d x
     longer-slots x = slots-eq d d₁ (grows₁ .at .above) x (λ t. grows₁ .at .hits x t)
 
-    pub longer-stand : 1 ≤ length (freeGranules g d) → Stand g p d₁ e r (a + 1) (l + 1)
+    pub longer-stand : Free′ d → Stand g p d₁ e r (a + 1) (l + 1)
     longer-stand room =
-        stand-run (take-ready g d p y₁ room d₁ one₁ .0) (grows-tail y₁ grows₁ ∙ s .last) runs₁ some₁
+        stand-run (take-ready g d p y₁ (choice d) room d₁ one₁ .0) (grows-tail y₁ grows₁ ∙ s .last) runs₁ some₁
         (let u = s .after h in let v : a + 1 ≡ runStart g d e (r - 1) + (l + 1) = omega arith in v ∙ ap₂ (λ (x z : ℕ). x + z) (sym start₁) (sym length₁)) (sym length₁)
 
   -- 2. A new run in the last entry --------------------------------------------------------------------------------------------
 
   module _ {d : List ℕ} {e r a l n : ℕ} (s : Stand g p d e r a l) (shut : lengthens g p d ≡ false) (few : r < 4)
-      (none : NoneBelow (free g d) n) (inn : n < granules g) (f : taken g d n ≡ false) where
+      (pick : choice d ≡ n) (inn : n < granules g) (f : taken g d n ≡ false) where
     y₂ : Ready g d p
     y₂ = s .ready
 
     unfoldable pub d₂ : List ℕ
     d₂ = withPair g p d e r n
 
-    is₂ : withPair g p d (tail g p d) (runs g d (tail g p d)) (lowestFree g d) ≡ d₂
+    is₂ : withPair g p d (tail g p d) (runs g d (tail g p d)) (choice d) ≡ d₂
     unfolding d₂
-    is₂ = rw (s .last, s .many, lowest g d none inn f)
+    is₂ = rw (s .last, s .many, pick)
 
-    one₂ : takeOne g p d ≡ grown d₂
+    one₂ : takeAt g p (choice d) d ≡ grown d₂
     one₂ = one-pair d shut (rw (s .last, s .many) few) ∙ ap grown is₂
 
     grows₂ : Tail.Grows g d d₂ p n
@@ -333,22 +334,22 @@ module _ (g : Geometry) (p : ℕ) where
     unfolding d₂ words
     long₂ = simp length-set
 
-    pub pair-taken : Taken g p d d₂ n
+    pub pair-taken : Taken g p choice d d₂ n
     pair-taken = taken-by d d₂ n y₂ one₂ (Tail.grows-longer g d d₂ (sound′ g d p y₂) p (file′ g d p y₂) n grows₂) long₂
 
     pub pair-slots : (x : ℕ) → freeSlot g d₂ x ≡ freeSlot g d x
     pair-slots x = slots-eq d d₂ (grows₂ .at .above) x (λ t. grows₂ .at .hits x t)
 
-    pub pair-stand : 1 ≤ length (freeGranules g d) → Stand g p d₂ e (r + 1) (n + 1) 1
+    pub pair-stand : Free′ d → Stand g p d₂ e (r + 1) (n + 1) 1
     pair-stand room =
         let k : r + 1 - 1 ≡ r = omega arith in
-        stand-run (take-ready g d p y₂ room d₂ one₂ .0) (grows-tail y₂ grows₂ ∙ s .last) runs₂ (omega arith)
+        stand-run (take-ready g d p y₂ (choice d) room d₂ one₂ .0) (grows-tail y₂ grows₂ ∙ s .last) runs₂ (omega arith)
         (rw k (ap₂ (λ (x z : ℕ). x + z) (sym start₂) (sym length₂))) (rw k (sym length₂))
 
   -- 3. A run in a new extension, at slot x --------------------------------------------------------------------------------------
 
   module _ {d : List ℕ} {e r a l n x : ℕ} (s : Stand g p d e r a l) (shut : lengthens g p d ≡ false) (many : 4 ≤ r)
-      (none : NoneBelow (free g d) n) (inn : n < granules g) (f : taken g d n ≡ false)
+      (pick : choice d ≡ n) (inn : n < granules g) (f : taken g d n ≡ false)
       (low : x < 256) (taken-below : NoneBelow (freeSlot g d) x) (open′ : freeSlot g d x ≡ true) where
     y₃ : Ready g d p
     y₃ = s .ready
@@ -365,10 +366,10 @@ module _ (g : Geometry) (p : ℕ) where
     extended-first [] q = absurd (let z : ⊥ = omega arith in z)
     extended-first (z ∷ zs) q = rw q
 
-    one₃ : takeOne g p d ≡ grown d₃
+    one₃ : takeAt g p (choice d) d ≡ grown d₃
     one₃ =
         one-new d shut (rw (s .last, s .many) many)
-        ∙ ap₂ (λ (u v : ℕ). extended g p (freeSlots g d) d u v) (s .last) (lowest g d none inn f) ∙ extended-first (freeSlots g d) slots-x
+        ∙ ap₂ (λ (u v : ℕ). extended g p (freeSlots g d) d u v) (s .last) (pick) ∙ extended-first (freeSlots g d) slots-x
 
     is-slot : T (isSlot g d x) × (hit g d x ≡ 0)
     unfolding words
@@ -404,7 +405,7 @@ module _ (g : Geometry) (p : ℕ) where
         go zero h = rw (extends₃ .first) (omega (arith, extends₃ .small))
         go (suc j) h = absurd (let z : ⊥ = omega arith in z)
 
-    pub new-taken : Taken g p d d₃ n
+    pub new-taken : Taken g p choice d d₃ n
     new-taken = taken-by d d₃ n y₃ one₃ (Extend.extends-longer g d d₃ (sound′ g d p y₃) p (file′ g d p y₃) x n extends₃) long₃
 
     -- the new slot is free no more, and every other as it was
@@ -423,8 +424,8 @@ module _ (g : Geometry) (p : ℕ) where
     pub new-slots : (z : ℕ) → z ≢ x → freeSlot g d₃ z ≡ freeSlot g d z
     new-slots z q = slots-eq d d₃ (extends₃ .above) z (λ t. extends₃ .hits z t q)
 
-    pub new-stand : 1 ≤ length (freeGranules g d) → Stand g p d₃ x 1 (n + 1) 1
+    pub new-stand : Free′ d → Stand g p d₃ x 1 (n + 1) 1
     new-stand room =
-        stand-run (take-ready g d p y₃ room d₃ one₃ .0) tail₃ runs₃ (omega arith)
+        stand-run (take-ready g d p y₃ (choice d) room d₃ one₃ .0) tail₃ runs₃ (omega arith)
         (rw (extends₃ .first, extends₃ .second) (ap₂ (λ (u v : ℕ). u + v) (sym (Take.run-start (g .units) n)) (omega arith)))
         (rw (extends₃ .second) (omega arith))

@@ -2,16 +2,23 @@
 use meaning::Geometry;
 ghost use mathlib.Core.Path.{_≡_};
 ghost use mathlib.Core.Bool.{true, false, cond};
-ghost use Prim.Native.Nat.{_+_, _*_, _%_, _<_, _≤_};
+ghost use Prim.Native.Nat.{_+_, _*_, _/_, _%_, _<_, _≤_};
 ghost use lib.ListN.{length};
-ghost use Rattle.meaning.specs.Layout.{field, setField, takeGranule, entryAt};
+ghost use Rattle.meaning.specs.Layout.{granules, field, setField, takeGranule, entryAt};
 ghost use Rattle.meaning.specs.Entries.{noGrowth};
 ghost use Rattle.meaning.specs.Free.{freeGranules};
-ghost use Rattle.meaning.specs.Growth.{withPair, withExtension, tail, grow, fails, diskOr};
+ghost use Rattle.meaning.specs.Growth.{withExtension, tail, growBy, fails};
 ghost use Rattle.meaning.specs.Refusals.{first, accepted, cannotGrow, larger, lacking};
 ghost use Rattle.laws.specs.Steps.{Ready};
 ghost use Rattle.layout.specs.Room.{Room, Slot};
 ghost use Rattle.growth.specs.Inside.{Inside};
+ghost use Rattle.growth.specs.Choose.{choiceBy, Picked, Leaves};
+
+// Where a new run starts, and below which granule none is free then.
+pub struct Chosen {
+    pub at: usize,
+    pub next: usize,
+}
 
 // A run is 1 to 32 granules.
 const MOST_RUN: usize = 32;
@@ -19,34 +26,35 @@ const MOST_RUN: usize = 32;
 // An entry has four pairs.
 const PAIRS: usize = 4;
 
-// One further granule, m, in pair k of the entry at slot e.
+// One further granule, m, in pair k of the entry at slot e: in the GAT, and in the entry where it writes.
 fn put_longer(image: &mut [u8], g: Geometry, e: usize, k: usize, m: usize, writes: bool)
     requires { ⌜ Inside g (length (now image)) e m × (k < 4) × (writes ≡ true → field g (now image) e (0x17 + 2 * k) % 32 < 31) ⌝ }
-    ensures { λ _. ⌜ now (image .exit) ≡ cond writes
-        (takeGranule g (setField g (now (image .entry)) e (0x17 + 2 * k) (field g (now (image .entry)) e (0x17 + 2 * k) + 1)) m) (now (image .entry)) ⌝ }
+    ensures { λ _. ⌜ now (image .exit) ≡ takeGranule g
+        (cond writes (setField g (now (image .entry)) e (0x17 + 2 * k) (field g (now (image .entry)) e (0x17 + 2 * k) + 1)) (now (image .entry))) m ⌝ }
 {
+    let gat = 256 * g.start + m / g.units;
+    image[gat] = space::with_bit(image[gat], m % g.units);
     if !writes {
         return;
     }
     let at = 256 * (g.start + 2 + e % 32) + 32 * (e / 32) + (0x17 + 2 * k);
     image[at] = image[at] + 1;
-    let gat = 256 * g.start + m / g.units;
-    image[gat] = space::with_bit(image[gat], m % g.units);
 }
 
-// Granule n as a run of its own, pair k of the entry at slot e.
-fn put_pair(image: &mut [u8], g: Geometry, p: usize, e: usize, k: usize, n: usize, writes: bool)
+// Granule n as a run of its own, pair k of the entry at slot e: in the GAT, and in the entry where it writes.
+fn put_pair(image: &mut [u8], g: Geometry, e: usize, k: usize, n: usize, writes: bool)
     requires { ⌜ Inside g (length (now image)) e n × (k < 4) ⌝ }
-    ensures { λ _. ⌜ now (image .exit) ≡ cond writes (withPair g p (now (image .entry)) e k n) (now (image .entry)) ⌝ }
+    ensures { λ _. ⌜ now (image .exit) ≡ takeGranule g
+        (cond writes (setField g (setField g (now (image .entry)) e (0x16 + 2 * k) (n / g .units)) e (0x17 + 2 * k) (n % g .units * 32)) (now (image .entry))) n ⌝ }
 {
+    let gat = 256 * g.start + n / g.units;
+    image[gat] = space::with_bit(image[gat], n % g.units);
     if !writes {
         return;
     }
     let at = 256 * (g.start + 2 + e % 32) + 32 * (e / 32);
     image[at + (0x16 + 2 * k)] = (n / g.units) as u8;
     image[at + (0x17 + 2 * k)] = (n % g.units * 32) as u8;
-    let gat = 256 * g.start + n / g.units;
-    image[gat] = space::with_bit(image[gat], n % g.units);
 }
 
 // Slot x as an extension after the entry at slot e of the file at slot p.
@@ -105,47 +113,61 @@ fn put_extension(image: &mut [u8], g: Geometry, p: usize, e: usize, x: usize, wr
     image[256 * (g.start + 1) + x] = hash;
 }
 
-// k further granules for the file at slot p, whose last entry is at slot e, one at a time; whether that finds too few slots. The growth on
-// paper and the one on the disk are this one loop: nothing is stored unless it writes. On paper the granules from lo to hi lengthen the run
-// that was the last; every granule below `next` is taken, every slot below `slot` is not free.
-fn take_granules(image: &mut [u8], g: Geometry, p: usize, e: usize, k: usize, writes: bool) -> bool
+// Where a new run starts: at the lowest free granule, of which none is below `next`, or at the low end of the longest free stretch.
+fn choose(image: &[u8], g: Geometry, next: usize, lowest: bool) -> Chosen
+    requires { ⌜ Room g (now image) × (next ≤ granules g) ⌝ }
+    ensures { λ r. ⌜ Picked g (now (image .entry)) lowest next r ⌝ }
+{
+    if lowest {
+        let n = supply::next_free(image, g, next, 0, 0);
+        return Chosen { at: n, next: n + 1 };
+    }
+    Chosen {
+        at: supply::longest_low(image, g),
+        next: 0,
+    }
+}
+
+// k further granules for the file at slot p, whose last entry is at slot e, one at a time by 01's choice or by the second; whether that finds
+// too few slots. The growth on paper and the one on the disk are this one loop: where it does not write, only the GAT shows what it took.
+fn take_granules(
+    image: &mut [u8],
+    g: Geometry,
+    p: usize,
+    e: usize,
+    k: usize,
+    lowest: bool,
+    writes: bool,
+) -> bool
     requires { ⌜ Ready g (now image) p × (e ≡ tail g p (now image)) × (k ≤ length (freeGranules g (now image)))
-        × (writes ≡ true → fails (grow g p k (now image)) ≡ false) ⌝ }
-    ensures { λ r. ⌜ (r ≡ fails (grow g p k (now (image .entry))))
-        × (now (image .exit) ≡ cond writes (diskOr (now (image .entry)) (grow g p k (now (image .entry)))) (now (image .entry))) ⌝ }
+        × (writes ≡ true → fails (growBy g p (choiceBy g lowest) k (now image)) ≡ false) ⌝ }
+    ensures { λ r. ⌜ Leaves g p k lowest writes (now (image .entry)) r (now (image .exit)) ⌝ }
 {
     let end = supply::last_run(image, g, e);
     let mut last = e;
     let mut runs = end.runs;
     let mut after = end.after;
     let mut long = end.long;
-    let lo = after;
-    let mut hi = after;
     let mut next = 0;
     let mut slot = 0;
     let mut left = k;
     while 0 < left {
         left -= 1;
         if long < MOST_RUN {
-            if supply::is_clear(image, g, after, lo, hi) {
-                let m = after;
-                put_longer(image, g, last, runs - 1, m, writes);
-                after = m + 1;
+            if supply::is_clear(image, g, after, 0, 0) {
+                put_longer(image, g, last, runs - 1, after, writes);
+                after += 1;
                 long += 1;
-                if m == next {
-                    next = m + 1;
-                    continue;
-                }
-                hi = m + 1;
                 continue;
             }
         }
-        let n = supply::next_free(image, g, next, lo, hi);
-        next = n + 1;
+        let c = choose(image, g, next, lowest);
+        let n = c.at;
+        next = c.next;
         after = n + 1;
         long = 1;
         if runs < PAIRS {
-            put_pair(image, g, p, last, runs, n, writes);
+            put_pair(image, g, last, runs, n, writes);
             runs += 1;
             continue;
         }
@@ -154,12 +176,24 @@ fn take_granules(image: &mut [u8], g: Geometry, p: usize, e: usize, k: usize, wr
             return true;
         }
         put_extension(image, g, p, last, x, writes);
-        put_pair(image, g, p, x, 0, n, writes);
+        put_pair(image, g, x, 0, n, writes);
         last = x;
         slot = x + 1;
         runs = 1;
     }
     false
+}
+
+// Whether k further granules find too few slots by that choice: the growth on paper. The GAT is put back as it was.
+fn too_few_slots(image: &mut [u8], g: Geometry, p: usize, e: usize, k: usize, lowest: bool) -> bool
+    requires { ⌜ Ready g (now image) p × (e ≡ tail g p (now image)) × (k ≤ length (freeGranules g (now image))) ⌝ }
+    ensures { λ r. ⌜ (r ≡ fails (growBy g p (choiceBy g lowest) k (now (image .entry)))) × (now (image .exit) ≡ now (image .entry)) ⌝ }
+{
+    let mut gat = [0u8; 192];
+    copy::put_part(&mut gat, 0, image, 256 * g.start, 192);
+    let r = take_granules(image, g, p, e, k, lowest, false);
+    copy::put_part(image, 256 * g.start, &gat, 0, 192);
+    r
 }
 
 // E: no growth.
@@ -187,9 +221,13 @@ pub fn grow(image: &mut [u8], g: Geometry, p: usize, wanted: usize) -> u8
     if supply::too_few(image, g, k) {
         return 9;
     }
-    if take_granules(image, g, p, x.last, k, false) {
+    if !too_few_slots(image, g, p, x.last, k, true) {
+        take_granules(image, g, p, x.last, k, true, true);
+        return 0;
+    }
+    if too_few_slots(image, g, p, x.last, k, false) {
         return 8;
     }
-    take_granules(image, g, p, x.last, k, true);
+    take_granules(image, g, p, x.last, k, false, true);
     0
 }

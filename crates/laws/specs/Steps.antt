@@ -3,17 +3,16 @@
 use mathlib.Core.Path.{_≡_, ap, _∙_}
 use mathlib.Core.Bool.{true, false, not}
 use mathlib.Core.List.{List, [], _∷_, _++_}
-use Prim.Native.Nat.{ℕ, _+_, _*_, _≤_}
+use Prim.Native.Nat.{ℕ, _+_, _*_, _≤_, _<_}
 use native.Mathlib.Omega.{arith}
 use lib.ListN.{length}
 use lib.Dec.{T, not-T}
-use Rattle.meaning.specs.Layout.{fitsGeometry, isSlot, field, granuleBytes}
+use Rattle.meaning.specs.Layout.{fitsGeometry, granules, taken, isSlot, field, granuleBytes}
 use Rattle.meaning.specs.Bits.{bit}
 use Rattle.meaning.specs.Entries.{primary, system, sizeOf}
 use Rattle.meaning.specs.Chain.{owned}
 use Rattle.meaning.specs.Consistent.{consistent}
-use Rattle.meaning.specs.Free.{freeGranules}
-use Rattle.meaning.specs.Growth.{takeOne, grown}
+use Rattle.meaning.specs.Growth.{takeAt, grown}
 use Rattle.meaning.specs.Drop.{dropOne}
 use Rattle.meaning.specs.declared.Geometry.{Geometry}
 use Rattle.laws.specs.Members
@@ -57,10 +56,10 @@ module _ (g : Geometry) (d : List ℕ) (p : ℕ) (r : Ready g d p) where
     user = ap (bit 6) e ∙ r .user;
   }
 
-  pub take-ready : 1 ≤ length (freeGranules g d) → (d′ : List ℕ) → takeOne g p d ≡ grown d′
+  pub take-ready : (n : ℕ) → (n < granules g) × (T (taken g d n) → ⊥) → (d′ : List ℕ) → takeAt g p n d ≡ grown d′
       → Ready g d′ p × ((m : ℕ) × (owned g d′ p ≡ owned g d p ++ (m ∷ [])))
-  take-ready room d′ e =
-      let w = TakeOne.take-one g d c k p f u room d′ e in
+  take-ready n free d′ e =
+      let w = TakeOne.take-at g d c k p f u n free d′ e in
       (ready d′ (w .change) (w .long) (w .file) (w .longer .low 0 (omega arith)), (w .which, w .longer .more))
 
   pub drop-ready : sizeOf g d p + granuleBytes g ≤ granuleBytes g * length (owned g d p)

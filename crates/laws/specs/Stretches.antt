@@ -7,6 +7,7 @@ use native.Mathlib.Omega.{arith}
 use native.Mathlib.Decide.{decLt, ℕ-discrete}
 use Rattle.meaning.specs.Lists.{count}
 use Rattle.meaning.specs.Layout.{taken}
+use Rattle.meaning.specs.Stretch
 use Rattle.meaning.specs.FreeSpace.{stretch, longestIn}
 use Rattle.meaning.specs.declared.Geometry.{Geometry}
 
@@ -16,28 +17,28 @@ module _ (g : Geometry) (d : List ℕ) where
   Free a n = (k : ℕ) → a ≤ k → k < a + n → taken g d k ≡ false
 
   pub stretch-taken : (i : ℕ) (ns : List ℕ) → taken g d i ≡ true → stretch g d (i ∷ ns) ≡ 0
-  unfolding stretch
+  unfolding Stretch.stretch
   stretch-taken i ns e = rw e refl
 
   pub stretch-free : (i : ℕ) (ns : List ℕ) → taken g d i ≡ false → stretch g d (i ∷ ns) ≡ suc (stretch g d ns)
-  unfolding stretch
+  unfolding Stretch.stretch
   stretch-free i ns e = rw e refl
 
   pub stretch-le : (ns : List ℕ) → stretch g d ns ≤ longestIn g d ns
-  unfolding stretch longestIn
+  unfolding Stretch.stretch Stretch.longestIn
   stretch-le [] = omega arith
   stretch-le (n ∷ ns) = omega arith
 
   longest-cons : (n : ℕ) (ns : List ℕ) → longestIn g d (n ∷ ns) ≡ max (stretch g d (n ∷ ns)) (longestIn g d ns)
-  unfolding longestIn
+  unfolding Stretch.longestIn
   longest-cons n ns = refl
 
   longest-none : longestIn g d [] ≡ 0
-  unfolding longestIn
+  unfolding Stretch.longestIn
   longest-none = refl
 
   stretch-none : stretch g d [] ≡ 0
-  unfolding stretch
+  unfolding Stretch.stretch
   stretch-none = refl
 
   -- the stretch at the front is of free granules, and no longer than the list
@@ -93,11 +94,11 @@ module _ (g : Geometry) (d : List ℕ) where
 -- two disks whose granules are taken alike have the same stretches
 module _ (g : Geometry) (d d′ : List ℕ) where
   stretch-same : (n i m : ℕ) → i + n ≤ m → ((k : ℕ) → k < m → taken g d′ k ≡ taken g d k) → stretch g d′ (count i n) ≡ stretch g d (count i n)
-  unfolding stretch
+  unfolding Stretch.stretch
   stretch-same zero i m h s = refl
   stretch-same (suc n) i m h s = rw (s i (omega arith), stretch-same n (i + 1) m (omega arith) s) refl
 
   pub longest-same : (n i m : ℕ) → i + n ≤ m → ((k : ℕ) → k < m → taken g d′ k ≡ taken g d k) → longestIn g d′ (count i n) ≡ longestIn g d (count i n)
-  unfolding longestIn
+  unfolding Stretch.longestIn
   longest-same zero i m h s = refl
   longest-same (suc n) i m h s = rw (stretch-same (suc n) i m h s, longest-same n (i + 1) m (omega arith) s) refl

@@ -4,6 +4,7 @@ use mathlib.Core.Bool.{Bool, not, cond}
 use mathlib.Core.List.{List, [], _∷_}
 use lib.Dec.{ltb, eqb}
 use Rattle.meaning.specs.Lists.{count, keep, all, firstOr}
+use Rattle.meaning.specs.Stretch.{lowEnd}
 use Rattle.meaning.specs.Layout.{taken, granules, isSlot, row, column, hit}
 use Rattle.meaning.specs.declared.Geometry.{Geometry}
 
@@ -15,6 +16,10 @@ module _ (g : Geometry) where
   -- "the lowest free one"; 0 where none is free, and no answer hangs on that
   abbrev pub lowestFree : List ℕ → ℕ
   lowestFree d = firstOr 0 (freeGranules d)
+
+  -- the lowest one of the longest free stretch, the lower of two as long (02 §13); 0 where none is free, and no answer hangs on that
+  abbrev pub longestFree : List ℕ → ℕ
+  longestFree d = lowEnd (taken g d) (count 0 (granules g))
 
   -- On a system disk rows 0 to 3 with s 0 to 7 are kept for system files. On a data disk only slots 00H and 01H are kept (02, §4).
   unfoldable pub kept : ℕ → Bool

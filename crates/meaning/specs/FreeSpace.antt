@@ -1,10 +1,11 @@
 -- Free space without walking the directory (02 §5): "Give the number, and the longest free stretch, from the GAT sector alone."
-use Prim.Native.Nat.{ℕ, suc, max}
+use Prim.Native.Nat.{ℕ}
 use mathlib.Core.Bool.{Bool, cond}
 use mathlib.Core.List.{List, [], _∷_}
 use lib.ListN.{length}
 use Rattle.meaning.specs.Lists.{count}
 use Rattle.meaning.specs.Layout.{taken, granules}
+use Rattle.meaning.specs.Stretch
 use Rattle.meaning.specs.Free.{freeGranules}
 use Rattle.meaning.specs.Refusal.{unplaced}
 use Rattle.meaning.specs.Refusals
@@ -12,15 +13,12 @@ use Rattle.meaning.specs.declared.Geometry.{Geometry}
 use Rattle.meaning.specs.declared.Space.{Space}
 
 module _ (g : Geometry) (d : List ℕ) where
-  -- how many granules at the front of a list are free, up to the first that is taken
-  unfoldable pub stretch : List ℕ → ℕ
-  stretch [] = 0
-  stretch (n ∷ ns) = cond (taken g d n) 0 (suc (stretch ns))
+  -- the stretches of this disk
+  abbrev pub stretch : List ℕ → ℕ
+  stretch = Stretch.stretch (taken g d)
 
-  -- the longest of the stretches that start at some member of a list
-  unfoldable pub longestIn : List ℕ → ℕ
-  longestIn [] = 0
-  longestIn (n ∷ ns) = max (stretch (n ∷ ns)) (longestIn ns)
+  abbrev pub longestIn : List ℕ → ℕ
+  longestIn = Stretch.longestIn (taken g d)
 
   -- the longest free stretch: free granules with consecutive numbers, across blocks
   abbrev pub longest : ℕ

@@ -23,6 +23,11 @@ unfoldable pub andThen : Grown → (List ℕ → Grown) → Grown
 andThen (grown d) f = f d
 andThen noSlot f = noSlot
 
+-- the one growth, or the other where it found no slot
+unfoldable pub orElse : Grown → Grown → Grown
+orElse (grown d) e = grown d
+orElse noSlot e = e
+
 -- the growth found no slot
 unfoldable pub fails : Grown → Bool
 fails (grown d) = false
@@ -101,3 +106,8 @@ module _ (g : Geometry) (p : ℕ) where
   -- k granules more by 01's choice
   abbrev pub grow : ℕ → List ℕ → Grown
   grow = growBy (Free.lowestFree g)
+
+  -- 02 §13: "Keep 01's choice where it fits. Where it doesn't, lengthen the last run as far as free granules and the 32 allow, then take the
+  -- longest remaining stretch, at most 32 at a time from its low end, the lower on a tie": one granule at a time, from the disk as it stood
+  unfoldable pub growth : ℕ → List ℕ → Grown
+  growth k d = orElse (grow k d) (growBy (Free.longestFree g) k d)

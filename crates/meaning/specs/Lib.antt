@@ -8,6 +8,7 @@ pub mod Chain
 pub mod Consistent
 pub mod Refusal
 pub mod Fault
+pub mod Stretch
 pub mod Free
 pub mod Growth
 pub mod Drop

@@ -102,13 +102,13 @@ module _ (g : Geometry) (d : List ℕ) where
   abbrev pub lacking : ℕ → ℕ → ℕ
   lacking s wanted = wanted - length (Chain.owned g d s)
 
-  -- 11: E set and more granules needed than owned. 9: more further granules needed than are free. 8: fewer permitted slots free than the
-  -- rule needs: the growth finds no slot. Here k further granules are needed.
+  -- 11: E set and more granules needed than owned. 9: more further granules needed than are free. 8: the growth finds no
+  -- slot, which is to say that no choice of free granules fits the pairs and permitted slots left (02 §13; promises: Fitting). Here k further granules are needed.
   abbrev pub cannotGrow : ℕ → ℕ → List (ℕ × Bool)
   cannotGrow s k =
       (11, all (Entries.noGrowth g d s ∷ ltb 0 k ∷ [])) ∷ (9, ltb (length (Free.freeGranules g d)) k)
-      ∷ (8, Growth.fails (Growth.grow g s k d)) ∷ []
+      ∷ (8, Growth.fails (Growth.growth g s k d)) ∷ []
 
   -- Growth is whole or refused: the disk with k granules more for the file at slot s.
   abbrev pub larger : ℕ → ℕ → List ℕ
-  larger s k = Growth.diskOr d (Growth.grow g s k d)
+  larger s k = Growth.diskOr d (Growth.growth g s k d)

@@ -11,7 +11,7 @@ use Rattle.meaning.specs.Entries.{nameOf, sizeOf, runsFrom, runs, entryG
 use Rattle.meaning.specs.Chain.{chainFrom, chain, owned, files, place}
 use Rattle.meaning.specs.Consistent.{lengthHolds, hitHolds, hashHolds, nameHolds, pairsHold, followsBy, linkHoldsBy, follows, linkHolds, runsHold, gatHolds, sizeHolds, offDirectory, slotHolds, fileHolds, namesDiffer, met, consistent}
 use Rattle.meaning.specs.Free.{freeGranules, kept, permitted, freeSlot, freeSlots}
-use Rattle.meaning.specs.Growth.{andThen, fails, diskOr, lengthens, extended, takeOne, growBy}
+use Rattle.meaning.specs.Growth.{andThen, orElse, fails, diskOr, lengthens, extended, takeOne, growBy, growth}
 use Rattle.meaning.specs.Drop.{unhooked, dropOne}
 use Rattle.meaning.specs.Refusals.{first, goodLength, inRange, newInRange, check, fresh}
 use Rattle.meaning.specs.Refusal.{beside}
@@ -26,7 +26,8 @@ use Rattle.meaning.specs.Trim.{trim}
 use Rattle.meaning.specs.Kill.{killEntry, kill}
 use Rattle.meaning.specs.BringBack.{whole, backEntry, bringBack}
 use Rattle.meaning.specs.Listing.{shown, listed, tellFirst, list, counts, digits, slashed, line, listing}
-use Rattle.meaning.specs.FreeSpace.{stretch, longestIn, freeSpace}
+use Rattle.meaning.specs.Stretch.{stretch, longestIn, lowEnd}
+use Rattle.meaning.specs.FreeSpace.{freeSpace}
 use Rattle.meaning.specs.Plain.{fileAt, foundIn, plain, bornAs, overwritten, writtenTo, allottedTo, trimmed, backAs, with′, hush, reserved}
 use Rattle.meaning.specs.declared.Geometry.{Geometry}
 use Rattle.meaning.specs.declared.Handle.{Handle}
@@ -168,5 +169,5 @@ onePair =
 
 -- Every definition that is shut, opened by one name: `unfolding opened` computes through all of them.
 unfoldable pub opened : Bool
-unfolding all any firstOr lastOr digit putDigit granuleSectors granuleBytes granules fitsGeometry taken takeGranule freeGranule hit directorySectors isSlot slots field setField wellFormed hash nameOf sizeOf runsFrom runs entryGranules chainFrom chain owned files place lengthHolds hitHolds hashHolds nameHolds pairsHold followsBy linkHoldsBy follows linkHolds runsHold gatHolds sizeHolds offDirectory slotHolds fileHolds namesDiffer met consistent usedExtension handsOn ends badEntry walkFrom walk walked metFrom fileOf goodExtension hitFault nameFault duplicateFault chainFault runFault gatFault sharedFault chainWhole sizeFault directoryFault faultAt lowest fault beside freeGranules kept permitted freeSlot freeSlots andThen fails diskOr lengthens extended takeOne growBy unhooked dropOne first goodLength inRange newInRange check fresh candidates carries comparedIn named lookUp full admits open′ create fetch readRecord readSector store sizeAfter writeRecord allot trim killEntry kill whole backEntry bringBack shown listed tellFirst list counts stretch longestIn freeSpace digits slashed line listing fileAt foundIn plain bornAs overwritten writtenTo allottedTo trimmed backAs with′ hush reserved
+unfolding all any firstOr lastOr digit putDigit granuleSectors granuleBytes granules fitsGeometry taken takeGranule freeGranule hit directorySectors isSlot slots field setField wellFormed hash nameOf sizeOf runsFrom runs entryGranules chainFrom chain owned files place lengthHolds hitHolds hashHolds nameHolds pairsHold followsBy linkHoldsBy follows linkHolds runsHold gatHolds sizeHolds offDirectory slotHolds fileHolds namesDiffer met consistent usedExtension handsOn ends badEntry walkFrom walk walked metFrom fileOf goodExtension hitFault nameFault duplicateFault chainFault runFault gatFault sharedFault chainWhole sizeFault directoryFault faultAt lowest fault beside freeGranules kept permitted freeSlot freeSlots andThen orElse fails diskOr lengthens extended takeOne growBy growth unhooked dropOne first goodLength inRange newInRange check fresh candidates carries comparedIn named lookUp full admits open′ create fetch readRecord readSector store sizeAfter writeRecord allot trim killEntry kill whole backEntry bringBack shown listed tellFirst list counts stretch longestIn lowEnd freeSpace digits slashed line listing fileAt foundIn plain bornAs overwritten writtenTo allottedTo trimmed backAs with′ hush reserved
 opened = true

@@ -148,16 +148,6 @@ surplus-fits {w} p size n h =
     let a = mul-le-mul-left w (round-least p size n h) in
     omega (arith, a, round-holds p size, mul-sub w n (roundUp size w))
 
--- The numbers that the constants of the code have ---------------------------------------------------------------------------------
-
--- Used where a function's own constant meets its definition, and nowhere else: once the code asks the geometry, these two go.
-pub code-sectors : (g : Geometry) → granuleSectors g ≡ 5
-unfolding granuleSectors
-code-sectors g = refl
-
-pub code-bytes : (g : Geometry) → granuleBytes g ≡ 1280
-code-bytes g = omega (arith, bytes-are g, code-sectors g)
-
 -- room for the numbers: the sectors of the largest disk
 pub sectors-low : (g : Geometry) → granules g ≤ mostGranules → sectors g ≤ 30720
 sectors-low g h = omega (arith, mul-le-mul h (sectors-most g))

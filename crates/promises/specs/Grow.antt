@@ -12,8 +12,8 @@ use Rattle.meaning.specs.Layout.{granules, taken, byte, field, directoryGranule
 use Rattle.meaning.specs.Entries.{system, nameOf}
 use Rattle.meaning.specs.Chain.{chain, owned}
 use Rattle.meaning.specs.Consistent.{consistent}
-use Rattle.meaning.specs.Growth.{takeAt, Grown, grown, noSlot, grow, growBy, andThen, fails, diskOr}
-use Rattle.meaning.specs.Free.{freeGranules, lowestFree, freeSlots}
+use Rattle.meaning.specs.Growth.{takeAt, Grown, grown, noSlot, grow, growBy, growth, andThen, orElse, fails, diskOr}
+use Rattle.meaning.specs.Free.{freeGranules, lowestFree, longestFree, freeSlots}
 use Rattle.meaning.specs.Plain.{fileAt, plain, hush, reserved, Found, found, allottedTo, beyond}
 use Rattle.meaning.specs.LookUp.{named}
 use Rattle.meaning.specs.Allot.{allot}
@@ -37,6 +37,8 @@ use Rattle.laws.specs.TakeOne.{Took}
 use Rattle.laws.specs.Named
 use Rattle.laws.specs.Passed
 use Rattle.laws.specs.Words.{words}
+use Rattle.slots.specs.Stretches
+use Rattle.slots.specs.View.{view}
 use Rattle.promises.specs.Resized.{Resized, resized-none, resized-one, resized-trans}
 
 -- the file at p has k granules more, and all else is as it was
@@ -126,6 +128,22 @@ module _ (g : Geometry) where
       → grow g p k d ≡ grown d′ → Grew g d d′ p k
   grow-grew = growBy-grew (lowestFree g) (TakeOne.first-free g)
 
+  pub longest-chooses : Chooses (longestFree g)
+  longest-chooses d h =
+      let a = TakeOne.first-free g d h in
+      let b = Stretches.low-free (granules g) (view g 0 d) (lowestFree g d) (record { inside = a .0; clear = Members.no-false (a .1) }) in
+      (b .inside, λ t. Members.false-no (b .clear) t)
+
+  -- 01's growth, or the second where that found no slot
+  pub growth-grew : (k : ℕ) (d d′ : List ℕ) (p : ℕ) → Sound g d → Places.Fits g d → File g d p → T (not (system g d p)) → k ≤ length (freeGranules g d)
+      → growth g p k d ≡ grown d′ → Grew g d d′ p k
+  unfolding growth orElse
+  growth-grew k d d′ p c w f u room e = go (grow g p k d) refl e
+    where
+      go : (t : Grown) → grow g p k d ≡ t → orElse t (growBy g p (longestFree g) k d) ≡ grown d′ → Grew g d d′ p k
+      go (grown d₁) q e = grow-grew k d d′ p c w f u room (q ∙ e)
+      go noSlot q e = growBy-grew (longestFree g) longest-chooses k d d′ p c w f u room e
+
 not-fails : (z : List ℕ) (t : Grown) → (T (fails t) → ⊥) → t ≡ grown (diskOr z t)
 unfolding fails diskOr
 not-fails z (grown d) f = refl
@@ -137,8 +155,8 @@ larger-grew g d h k w e =
     let p₁ = Passed.passed 11 _ _ (omega arith) e in
     let p₂ = Passed.passed 9 _ _ (omega arith) (p₁ .1) in
     let p₃ = Passed.passed 8 _ _ (omega arith) (p₂ .1) in
-    grow-grew g k d (larger g d (h .slot) k) (h .slot) (w .sound) (w .fits) (w .file) (w .user)
-    (nltb→le (length (freeGranules g d)) k (not-T (ltb (length (freeGranules g d)) k) (p₂ .0))) (not-fails d (grow g (h .slot) k d) (p₃ .0))
+    growth-grew g k d (larger g d (h .slot) k) (h .slot) (w .sound) (w .fits) (w .file) (w .user)
+    (nltb→le (length (freeGranules g d)) k (not-T (ltb (length (freeGranules g d)) k) (p₂ .0))) (not-fails d (growth g (h .slot) k d) (p₃ .0))
 
 pub record AllotMeans (g : Geometry) (d d′ : List ℕ) (p k : ℕ) : Type 0 where
   pub long : length d′ ≡ length d

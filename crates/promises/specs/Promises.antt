@@ -15,11 +15,10 @@ use Rattle.meaning.specs.Lists.{keep, each, firstOr}
 use Rattle.meaning.specs.Bits.{bit, digit}
 use Rattle.meaning.specs.Layout.{fitsGeometry, granules, granuleBytes, granuleSectors, sectors, highest, sectorNumbers, mostBlocks, mostUnits, slots, isSlot, hit, byte, taken, granulesFor}
 use Rattle.meaning.specs.Names.{hash, wellFormed}
-use Rattle.meaning.specs.Entries.{inUse, extension, nameOf, sectorCount, runs}
+use Rattle.meaning.specs.Entries.{inUse, extension, nameOf, sectorCount}
 use Rattle.meaning.specs.Chain.{chain, owned, files}
 use Rattle.meaning.specs.Consistent.{consistent}
 use Rattle.meaning.specs.Free.{freeGranules, freeSlots}
-use Rattle.meaning.specs.Growth.{grown, grow, tail, lengthens}
 use Rattle.meaning.specs.Refusal.{unplaced}
 use Rattle.meaning.specs.Fault.{fault}
 use Rattle.meaning.specs.Refusals.{movedTo, noHandle, faultNumbers}
@@ -41,6 +40,8 @@ use Rattle.meaning.specs.declared.Geometry.{Geometry}
 use Rattle.meaning.specs.declared.Handle.{Handle}
 use Rattle.meaning.specs.declared.NewFile.{NewFile}
 use Rattle.meaning.specs.declared.Mode.{Mode}
+use Rattle.slots.specs.Words.{Choice}
+use Rattle.slots.specs.View.{view}
 
 -- Calls -----------------------------------------------------------------------------------------------------------------------------
 
@@ -310,17 +311,11 @@ pub record NewInRange (f : NewFile) : Type 0 where
   pub year : f .year ≤ 15
   pub length′ : LengthInRange (f .len)
 
--- Fewer permitted slots are free than the rule needs: taking the granules one at a time, the file at slot p has put an extension into each
--- slot that was free, and then comes to a granule that is a run beyond the fourth of its last entry.
-pub record Stuck (g : Geometry) (d : List ℕ) (p more : ℕ) : Type 0 where
-  pub took : ℕ
-  pub fewer : took < more
-  pub disk : List ℕ
-  pub so-far : grow g p took d ≡ grown disk
-  pub all-used : length (chain g disk p) ≡ length (chain g d p) + length (freeSlots g d)
-  pub none-left : freeSlots g disk ≡ []
-  pub no-longer : lengthens g p disk ≡ false
-  pub four : 4 ≤ runs g disk (tail g p disk)
+-- 8 (02 §13): "no choice of free granules whatever, taken in runs after the file's present runs (the last of which may be lengthened), fits
+-- the pairs and permitted slots left". What is seen of the disk and the file at slot p is `view`, what a choice of so many granules is
+-- `Choice`; a run has 32 granules at the most.
+abbrev pub NothingFits : Geometry → List ℕ → ℕ → ℕ → Type 0
+NothingFits g d p more = Choice 32 (granules g) (view g p d) more → ⊥
 
 module _ (g : Geometry) (d : List ℕ) where
   -- 21 to 30, in 2's place (02 §2): the disk's fault has that number. It has one exactly if it is not consistent.
@@ -348,11 +343,11 @@ module _ (g : Geometry) (d : List ℕ) where
   abbrev pub barred : ℕ → Handle → ℕ × Type 0
   barred most h = (6, (most < h .level) ⊎ T (isSystem (fileOf h)))
 
-  -- 11 E set and more granules needed than owned; 9 more further granules needed than are free; 8 fewer permitted slots free than the
-  -- rule needs
+  -- 11 E set and more granules needed than owned; 9 more further granules needed than are free; 8 no choice of so many granules
+  -- fits
   abbrev pub growthCases : Handle → ℕ → Table
   growthCases h more =
-      (11, T (mayNotGrow (fileOf h)) × (0 < more)) ∷ (9, length (freeGranules g d) < more) ∷ (8, Stuck g d (h .slot) more) ∷ []
+      (11, T (mayNotGrow (fileOf h)) × (0 < more)) ∷ (9, length (freeGranules g d) < more) ∷ (8, NothingFits g d (h .slot) more) ∷ []
 
   -- 4 name not found
   abbrev pub NoFile : List ℕ → Type 0

@@ -14,7 +14,7 @@ use Rattle.meaning.specs.Entries.{inUse, extension, primary, nameOf, sizeOf, sy
 use Rattle.meaning.specs.Consistent.{consistent}
 use Rattle.meaning.specs.Fault.{fault}
 use Rattle.meaning.specs.Free.{freeGranules, freeSlots}
-use Rattle.meaning.specs.Growth.{Grown, grown, noSlot, fails, grow}
+use Rattle.meaning.specs.Growth.{Grown, grown, noSlot, fails, growth}
 use Rattle.meaning.specs.Refusals.{first, inRange, goodLength, newInRange, fresh, cannotGrow, lacking, check, faultNumbers, byNumber, diskRefusals}
 use Rattle.meaning.specs.LookUp.{named, missing, slotOf, lookUp, lookUpRefusals}
 use Rattle.meaning.specs.Open.{full, admits, open′, openRefusals}
@@ -42,7 +42,7 @@ use Rattle.laws.specs.Fault
 use Rattle.laws.specs.Others
 use Rattle.laws.specs.Words.{words}
 use Rattle.laws.specs.Named
-use Rattle.promises.specs.Sticking
+use Rattle.promises.specs.Fitting
 use Rattle.promises.specs.Promises
 use Rattle.promises.specs.Promises.{Table, Rows, Exactly, table, Fits, InRange, NewInRange, Live, Full, LengthInRange}
 
@@ -436,10 +436,10 @@ module _ (g : Geometry) (d : List ℕ) where
         user = not-T (system g d (h .slot)) (λ t. u (inr t));
       }
 
-  stuck : (h : Handle) (k : ℕ) → Writes h → (length (freeGranules g d) < k → ⊥) → T (fails (grow g (h .slot) k d)) ↔ Promises.Stuck g d (h .slot) k
+  stuck : (h : Handle) (k : ℕ) → Writes h → (length (freeGranules g d) < k → ⊥) → T (fails (growth g (h .slot) k d)) ↔ Promises.NothingFits g d (h .slot) k
   stuck h k w n =
-      let i = Sticking.stuck-iff g d (h .slot) k (w .sound) (w .fits) (w .file) (w .user) (nltb→le (length (freeGranules g d)) k (not-T (ltb (length (freeGranules g d)) k) (λ t. n (ltb→lt (length (freeGranules g d)) k t)))) in
-      let j = fails-iff (grow g (h .slot) k d) in
+      let i = Fitting.growth-iff g (h .slot) k d (record { sound = w .sound; fits = w .fits; file = w .file; user = w .user; enough = nltb→le (length (freeGranules g d)) k (not-T (ltb (length (freeGranules g d)) k) (λ t. n (ltb→lt (length (freeGranules g d)) k t))) }) in
+      let j = fails-iff (growth g (h .slot) k d) in
       (λ t. i .0 (j .0 t), λ s. j .1 (i .1 s))
 
   growth-reading : (h : Handle) (k : ℕ) (E : Type 0) → (E → Writes h) → Reading (cannotGrow g d (h .slot) k) (Promises.growthCases g d h k) E

@@ -8,7 +8,7 @@ use Prim.Native.Nat.{ℕ}
 use Rattle.meaning.specs.Names.{comesIn}
 use Rattle.meaning.specs.Consistent.{consistent}
 use Rattle.meaning.specs.Free.{freeSlots}
-use Rattle.meaning.specs.Growth.{grow}
+use Rattle.meaning.specs.Growth.{growth}
 use Rattle.meaning.specs.Refusals.{check}
 use Rattle.meaning.specs.LookUp.{lookUp, missing}
 use Rattle.meaning.specs.Open.{open′}
@@ -39,7 +39,7 @@ pub record Alike (g h : Geometry) : Type 0 where
 
 -- the file of that handle grows alike: to k granules more, or to the word that no slot is left
 abbrev pub GrowsAlike : Geometry → Geometry → List ℕ → Handle → ℕ → Type 0
-GrowsAlike g h d x k = grow g (x .slot) k d ≡ grow h (x .slot) k d
+GrowsAlike g h d x k = growth g (x .slot) k d ≡ growth h (x .slot) k d
 
 -- The whole answer is the same: number, slot, handle, buffer, and the image left. Of a create that is said where the file is there already or
 -- the free slots are the same; of write and allot where the growth that they need is the same, as it is where none is needed.

@@ -13,7 +13,7 @@ use Rattle.meaning.specs.Entries.{nameOf, sizeOf, runsFrom, runs, sectorCount, 
 use Rattle.meaning.specs.Chain.{files}
 use Rattle.meaning.specs.Consistent.{nameHolds, pairsHold, followsBy, linkHoldsBy, runsHold, consistent}
 use Rattle.meaning.specs.Free.{freeGranules, freeSlots}
-use Rattle.meaning.specs.Growth.{Grown, fails, diskOr, grow, growBy}
+use Rattle.meaning.specs.Growth.{Grown, fails, diskOr, growth}
 use Rattle.meaning.specs.Drop.{unhooked, dropOne}
 use Rattle.meaning.specs.Refusal.{unplaced, carried}
 use Rattle.meaning.specs.Refusals.{badGeometry, byNumber, faultNumbers, diskRefusals, refusal, accepted, badName, goodLength, newInRange, inRange, fresh, staleHandle, handleRefusals, notForReading, protected, lacking, noHandle, movedTo}
@@ -305,8 +305,8 @@ module _ (g : Geometry) (b : Bool) (d : List ℕ) where
   cannot i s k w =
       (11, all (noGrowth g d s ∷ ltb 0 k ∷ [])) ∷ (9, ltb (length (freeGranules-same g b d i)) k) ∷ (8, fails w) ∷ []
 
-  grows : (x : Handle) (k k′ : ℕ) → k ≡ k′ → GrowsAlike g (stated b g) d x k → grow g (x .slot) k d ≡ grow (stated b g) (x .slot) k′ d
-  grows x k k′ e w = w ∙ ap (λ (n : ℕ). grow (stated b g) (x .slot) n d) e
+  grows : (x : Handle) (k k′ : ℕ) → k ≡ k′ → GrowsAlike g (stated b g) d x k → growth g (x .slot) k d ≡ growth (stated b g) (x .slot) k′ d
+  grows x k k′ e w = w ∙ ap (λ (n : ℕ). growth (stated b g) (x .slot) n d) e
 
   write-record : (m : Mode) (x : Handle) (buffer : List ℕ) → GrowsAlike g (stated b g) d x (toWrite g d m x)
       → writeRecord g d m x buffer ≡ writeRecord (stated b g) d m x buffer

@@ -1,11 +1,12 @@
 // What a growth looks for: the granule and the slot that come next, and whether there are enough of both. The disk stays as it is.
 use meaning::Geometry;
 ghost use mathlib.Core.Path.{_≡_};
-ghost use Prim.Native.Nat.{_≤_};
+ghost use mathlib.Core.Bool.{cond};
+ghost use Prim.Native.Nat.{_+_, _≤_, _<_};
 ghost use lib.ListN.{length};
 ghost use lib.Dec.{ltb};
-ghost use Rattle.meaning.specs.Layout.{granules};
-ghost use Rattle.meaning.specs.Free.{freeGranules};
+ghost use Rattle.meaning.specs.Layout.{granules, mostGranules};
+ghost use Rattle.meaning.specs.Free.{freeGranules, longestFree};
 ghost use Rattle.layout.specs.Room.{Room, Slot};
 ghost use Rattle.supply.specs.Search.{Ends, Clear, NextFree, NextSlot};
 
@@ -56,6 +57,38 @@ pub fn next_free(image: &[u8], g: Geometry, from: usize, lo: usize, hi: usize) -
         n += 1;
     }
     n
+}
+
+// The stretch of free granules that starts at a granule, from the one that starts at the next.
+fn stretch_from(taken: bool, next: usize) -> usize
+    requires { ⌜ next < mostGranules ⌝ }
+    ensures { λ r. ⌜ r ≡ cond taken 0 (next + 1) ⌝ }
+{
+    if taken {
+        return 0;
+    }
+    next + 1
+}
+
+// The lowest granule of the longest free stretch, the lower of two as long. From the last granule down, as the definition goes.
+pub fn longest_low(image: &[u8], g: Geometry) -> usize
+    requires { ⌜ Room g (now image) ⌝ }
+    ensures { λ r. ⌜ r ≡ longestFree g (now (image .entry)) ⌝ }
+{
+    let mut n = layout::granules(g);
+    let mut here = 0;
+    let mut longest = 0;
+    let mut low = 0;
+    while 0 < n {
+        n -= 1;
+        here = stretch_from(layout::taken(image, g, n), here);
+        if here < longest {
+            continue;
+        }
+        longest = here;
+        low = n;
+    }
+    low
 }
 
 // The first free permitted slot from `from` on.

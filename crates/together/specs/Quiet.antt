@@ -13,7 +13,7 @@ use Rattle.meaning.specs.Sizes
 use Rattle.meaning.specs.Entries.{nameOf, sizeOf, keepsSpace}
 use Rattle.meaning.specs.Chain.{chain, owned, place}
 use Rattle.meaning.specs.Lists.{firstOr}
-use Rattle.meaning.specs.Growth.{growBy, diskOr}
+use Rattle.meaning.specs.Growth.{growBy, growth, orElse, diskOr}
 use Rattle.meaning.specs.Drop.{dropOne}
 use Rattle.meaning.specs.Refusals.{lacking, larger, inRange}
 use Rattle.meaning.specs.Create.{create}
@@ -138,7 +138,7 @@ module _ (g : Geometry) (d : List ℕ) (n : Name) (h : Handle) (e : h .name ≡ 
       many m = unfold allottedTo fileAt in m
 
       image : lacking g d (h .slot) (k / granuleSectors g + 1) ≡ 0 → allot g d h k .1 ≡ d
-      image z = unfold allot growBy diskOr in rw t (ap (larger g d (h .slot)) z)
+      image z = unfold allot growBy growth orElse diskOr in rw t (ap (larger g d (h .slot)) z)
 
   pub trim-still : trim g d h .0 .refusal .number ≡ 0 → Even g n d (trim g d h .1) → trim g d h .1 ≡ d
   trim-still t q =
@@ -175,6 +175,7 @@ pub record QuietWrite (g : Geometry) (d : List ℕ) (m : Mode) (h : Handle) (b d
 
 pub write-quiet : (g : Geometry) (d : List ℕ) (n : Name) (m : Mode) (h : Handle) (b : List ℕ) → h .name ≡ n → writeRecord g d m h b .0 .refusal .number ≡ 0 → Even g n d (writeRecord g d m h b .1)
     → QuietWrite g d m h b (writeRecord g d m h b .1)
+unfolding growth orElse
 write-quiet g d n m h b e t q =
     let x = WriteMeans.write-wrote g d m h b t in
     let p = h .slot in

@@ -1,14 +1,16 @@
 use native.Mathlib.Omega.{arith}
-use mathlib.Core.Path.{ap, sym, _∙_}
-use mathlib.Core.List.{List}
+use mathlib.Core.Path.{refl, ap, sym, _∙_}
+use mathlib.Core.Bool.{true, false}
 use Prim.Native.Nat.{ℕ}
 use borrow.Author.Tests.{ltb-false}
 use Rattle.joint.proofs.Ready.{walks}
-use Rattle.growth.proofs.Whole.{whole-none, whole-eleven, whole-nine, whole-eight, whole-grown, on-paper, after-paper, lacks}
+use Rattle.layout.proofs.Lists.{is-no}
+use Rattle.growth.proofs.Whole.{whole-none, whole-eleven, whole-nine, whole-eight, whole-first, whole-second, again, again-fails, lacks, is-yes, second-number}
 use lib.ListN.{length}
 use lib.Dec.{ltb}
+use Rattle.growth.specs.Choose.{choiceBy}
 use Rattle.meaning.specs.Free.{freeGranules}
-use Rattle.meaning.specs.Growth.{fails, grow, diskOr}
+use Rattle.meaning.specs.Growth.{fails, growBy, diskOr}
 use Rattle.meaning.specs.Refusals.{lacking}
 use borrow.Author.Needs.{needs}
 use Rattle.growth.proofs.grow.Statement.{statement}
@@ -18,6 +20,7 @@ use Rattle.growth.proofs.grow.Lts as lts
 use Rattle.extent.proofs.measure.Reads as measure-reads
 use Rattle.growth.proofs.no_growth.Reads as no-growth-reads
 use Rattle.growth.proofs.take_granules.Reads as take-granules-reads
+use Rattle.growth.proofs.too_few_slots.Reads as too-few-slots-reads
 use Rattle.supply.proofs.too_few.Reads as too-few-reads
 
 measure-requires : tie.Need-measure-requires
@@ -51,30 +54,47 @@ returns-3 : tie.Need-returns-3
 returns-3 c = let a = c .before .before .before .before .before .before .before .before .before .before .before .before .args in let e = lacks (a .g) (a .image .now) (a .p) (a .wanted) (c .before .before .before .before .before .before .before .before .before .measure .ensures .many) in
     whole-nine _ _ _ _ (sym (c .before .before .before .before .no-growth .ensures) ∙ c .before .before .before .if2 .left) (ap (λ (k : ℕ). ltb (length (freeGranules (a .g) (a .image .now))) k) (sym e) ∙ sym (c .before .too-few .ensures) ∙ c .if3 .taken)
 
+too-few-slots-requires : tie.Need-too-few-slots-requires
+too-few-slots-requires c κs = (c .before .before .before .before .before .before .before .before .before .before .before .before .before .pre, c .before .before .before .before .before .before .before .before .before .before .measure .ensures .last, ltb-false _ _ (sym (c .before .before .too-few .ensures) ∙ c .before .if3 .left))
+
 take-granules-requires : tie.Need-take-granules-requires
-take-granules-requires c κs = on-paper _ _ _ (c .before .before .before .before .before .before .before .before .before .before .before .before .before .pre) (c .before .before .before .before .before .before .before .before .before .before .measure .ensures .last) (ltb-false _ _ (sym (c .before .before .too-few .ensures) ∙ c .before .if3 .left))
+take-granules-requires c κs = let w = again _ _ _ (c .before .before .before .before .too-few-slots .ensures .1) (c .before .before .before .before .before .before .before .before .before .before .before .before .before .before .before .before .before .before .pre) (c .before .before .before .before .before .before .before .before .before .before .before .before .before .before .before .measure .ensures .last) (ltb-false _ _ (sym (c .before .before .before .before .before .before .before .too-few .ensures) ∙ c .before .before .before .before .before .before .if3 .left)) in (w .0, w .1, w .2, again-fails _ _ _ true _ (c .before .before .before .before .too-few-slots .ensures .1) (is-no (c .before .before .before .before .too-few-slots .ensures .0) (c .before .if4 .taken)))
 
 same-length-4 : tie.Need-same-length-4
 same-length-4 c = search needs
 
 returns-4 : tie.Need-returns-4
-returns-4 c = let a = c .before .before .before .before .before .before .before .before .before .before .before .before .before .before .before .before .before .args in let e = lacks (a .g) (a .image .now) (a .p) (a .wanted) (c .before .before .before .before .before .before .before .before .before .before .before .before .before .before .measure .ensures .many) in (
-  whole-eight _ _ _ _ (sym (c .before .before .before .before .before .before .before .before .before .no-growth .ensures) ∙ c .before .before .before .before .before .before .before .before .if2 .left) (ap (λ (k : ℕ). ltb (length (freeGranules (a .g) (a .image .now))) k) (sym e) ∙ sym (c .before .before .before .before .before .before .too-few .ensures) ∙ c .before .before .before .before .before .if3 .left)
-      (ap (λ (k : ℕ). fails (grow (a .g) (a .p) k (a .image .now))) (sym e) ∙ sym (c .before .before .before .take-granules .ensures .0) ∙ c .if4 .taken) .0,
-  c .before .before .before .take-granules .ensures .1,
-)
+returns-4 c = let a = c .before .before .before .before .before .before .before .before .before .before .before .before .before .before .before .before .before .before .before .before .before .args in let e = lacks (a .g) (a .image .now) (a .p) (a .wanted) (c .before .before .before .before .before .before .before .before .before .before .before .before .before .before .before .before .before .before .measure .ensures .many) in
+    whole-first _ _ _ _ (sym (c .before .before .before .before .before .before .before .before .before .before .before .before .before .no-growth .ensures) ∙ c .before .before .before .before .before .before .before .before .before .before .before .before .if2 .left) (ap (λ (k : ℕ). ltb (length (freeGranules (a .g) (a .image .now))) k) (sym e) ∙ sym (c .before .before .before .before .before .before .before .before .before .before .too-few .ensures) ∙ c .before .before .before .before .before .before .before .before .before .if3 .left)
+    (ap (λ (k : ℕ). fails (growBy (a .g) (a .p) (choiceBy (a .g) true) k (a .image .now))) (sym e) ∙ is-no (c .before .before .before .before .before .before .before .too-few-slots .ensures .0) (c .before .before .before .before .if4 .taken)) (c .before .before .before .before .before .before .before .too-few-slots .ensures .1)
+    (c .before .before .take-granules .ensures .wrote refl ∙ ap (λ (k : ℕ). diskOr (c .before .before .before .before .before .before .before .too-few-slots .last .0) (growBy (a .g) (a .p) (choiceBy (a .g) true) k (c .before .before .before .before .before .before .before .too-few-slots .last .0))) e)
 
-take-granules-requires-2 : tie.Need-take-granules-requires-2
-take-granules-requires-2 c κs = after-paper _ _ _ (c .before .before .before .before .take-granules .ensures .1) (c .before .before .before .before .before .before .before .before .before .before .before .before .before .before .before .before .before .before .pre) (c .before .before .before .before .before .before .before .before .before .before .before .before .before .before .before .measure .ensures .last) (ltb-false _ _ (sym (c .before .before .before .before .before .before .before .too-few .ensures) ∙ c .before .before .before .before .before .before .if3 .left)) (sym (c .before .before .before .before .take-granules .ensures .0) ∙ c .before .if4 .left)
+too-few-slots-requires-2 : tie.Need-too-few-slots-requires-2
+too-few-slots-requires-2 c κs = again _ _ _ (c .before .before .before .before .too-few-slots .ensures .1) (c .before .before .before .before .before .before .before .before .before .before .before .before .before .before .before .before .before .before .pre) (c .before .before .before .before .before .before .before .before .before .before .before .before .before .before .before .measure .ensures .last) (ltb-false _ _ (sym (c .before .before .before .before .before .before .before .too-few .ensures) ∙ c .before .before .before .before .before .before .if3 .left))
 
 same-length-5 : tie.Need-same-length-5
 same-length-5 c = search needs
 
 returns-5 : tie.Need-returns-5
-returns-5 c = let a = c .before .before .before .before .before .before .before .before .before .before .before .before .before .before .before .before .before .before .before .before .before .args in let e = lacks (a .g) (a .image .now) (a .p) (a .wanted) (c .before .before .before .before .before .before .before .before .before .before .before .before .before .before .before .before .before .before .measure .ensures .many) in
-    whole-grown _ _ _ _ (sym (c .before .before .before .before .before .before .before .before .before .before .before .before .before .no-growth .ensures) ∙ c .before .before .before .before .before .before .before .before .before .before .before .before .if2 .left) (ap (λ (k : ℕ). ltb (length (freeGranules (a .g) (a .image .now))) k) (sym e) ∙ sym (c .before .before .before .before .before .before .before .before .before .before .too-few .ensures) ∙ c .before .before .before .before .before .before .before .before .before .if3 .left)
-    (ap (λ (k : ℕ). fails (grow (a .g) (a .p) k (a .image .now))) (sym e) ∙ sym (c .before .before .before .before .before .before .before .take-granules .ensures .0) ∙ c .before .before .before .before .if4 .left) (c .before .before .before .before .before .before .before .take-granules .ensures .1)
-    (c .before .before .take-granules2 .ensures .1 ∙ ap (λ (k : ℕ). diskOr (c .before .before .before .before .before .before .before .take-granules .last .0) (grow (a .g) (a .p) k (c .before .before .before .before .before .before .before .take-granules .last .0))) e)
+returns-5 c = let a = c .before .before .before .before .before .before .before .before .before .before .before .before .before .before .before .before .before .before .before .before .before .before .args in let e = lacks (a .g) (a .image .now) (a .p) (a .wanted) (c .before .before .before .before .before .before .before .before .before .before .before .before .before .before .before .before .before .before .before .measure .ensures .many) in (
+  whole-eight _ _ _ _ (sym (c .before .before .before .before .before .before .before .before .before .before .before .before .before .before .no-growth .ensures) ∙ c .before .before .before .before .before .before .before .before .before .before .before .before .before .if2 .left) (ap (λ (k : ℕ). ltb (length (freeGranules (a .g) (a .image .now))) k) (sym e) ∙ sym (c .before .before .before .before .before .before .before .before .before .before .before .too-few .ensures) ∙ c .before .before .before .before .before .before .before .before .before .before .if3 .left)
+      (ap (λ (k : ℕ). fails (growBy (a .g) (a .p) (choiceBy (a .g) true) k (a .image .now))) (sym e) ∙ is-yes (c .before .before .before .before .before .before .before .before .too-few-slots .ensures .0) (c .before .before .before .before .before .if4 .left))
+      (ap (λ (k : ℕ). fails (growBy (a .g) (a .p) (choiceBy (a .g) false) k (a .image .now))) (sym e) ∙ second-number _ _ _ _ (c .before .before .before .before .before .before .before .before .too-few-slots .ensures .1) (c .before .before .before .too-few-slots2 .ensures .0) (c .if5 .taken)) .0,
+  c .before .before .before .too-few-slots2 .ensures .1 ∙ c .before .before .before .before .before .before .before .before .too-few-slots .ensures .1,
+)
+
+take-granules-requires-2 : tie.Need-take-granules-requires-2
+take-granules-requires-2 c κs = let o = c .before .before .before .before .too-few-slots2 .ensures .1 ∙ c .before .before .before .before .before .before .before .before .before .too-few-slots .ensures .1 in let w = again _ _ _ o (c .before .before .before .before .before .before .before .before .before .before .before .before .before .before .before .before .before .before .before .before .before .before .before .pre) (c .before .before .before .before .before .before .before .before .before .before .before .before .before .before .before .before .before .before .before .before .measure .ensures .last) (ltb-false _ _ (sym (c .before .before .before .before .before .before .before .before .before .before .before .before .too-few .ensures) ∙ c .before .before .before .before .before .before .before .before .before .before .before .if3 .left)) in (w .0, w .1, w .2, again-fails _ _ _ false _ o (second-number _ _ _ _ (c .before .before .before .before .before .before .before .before .before .too-few-slots .ensures .1) (c .before .before .before .before .too-few-slots2 .ensures .0) (c .before .if5 .left)))
+
+same-length-6 : tie.Need-same-length-6
+same-length-6 c = search needs
+
+returns-6 : tie.Need-returns-6
+returns-6 c = let a = c .before .before .before .before .before .before .before .before .before .before .before .before .before .before .before .before .before .before .before .before .before .before .before .before .before .before .args in let e = lacks (a .g) (a .image .now) (a .p) (a .wanted) (c .before .before .before .before .before .before .before .before .before .before .before .before .before .before .before .before .before .before .before .before .before .before .before .measure .ensures .many) in
+    whole-second _ _ _ _ (sym (c .before .before .before .before .before .before .before .before .before .before .before .before .before .before .before .before .before .before .no-growth .ensures) ∙ c .before .before .before .before .before .before .before .before .before .before .before .before .before .before .before .before .before .if2 .left) (ap (λ (k : ℕ). ltb (length (freeGranules (a .g) (a .image .now))) k) (sym e) ∙ sym (c .before .before .before .before .before .before .before .before .before .before .before .before .before .before .before .too-few .ensures) ∙ c .before .before .before .before .before .before .before .before .before .before .before .before .before .before .if3 .left)
+    (ap (λ (k : ℕ). fails (growBy (a .g) (a .p) (choiceBy (a .g) true) k (a .image .now))) (sym e) ∙ is-yes (c .before .before .before .before .before .before .before .before .before .before .before .before .too-few-slots .ensures .0) (c .before .before .before .before .before .before .before .before .before .if4 .left))
+    (ap (λ (k : ℕ). fails (growBy (a .g) (a .p) (choiceBy (a .g) false) k (a .image .now))) (sym e) ∙ second-number _ _ _ _ (c .before .before .before .before .before .before .before .before .before .before .before .before .too-few-slots .ensures .1) (c .before .before .before .before .before .before .before .too-few-slots2 .ensures .0) (c .before .before .before .before .if5 .left)) (c .before .before .before .before .before .before .before .too-few-slots2 .ensures .1 ∙ c .before .before .before .before .before .before .before .before .before .before .before .before .too-few-slots .ensures .1)
+    (c .before .before .take-granules2 .ensures .wrote refl ∙ ap (λ (k : ℕ). diskOr (c .before .before .before .before .before .before .before .too-few-slots2 .last .0) (growBy (a .g) (a .p) (choiceBy (a .g) false) k (c .before .before .before .before .before .before .before .too-few-slots2 .last .0))) e)
 
 pub grow-spec : {M : Type 1} → statement M
 grow-spec =
@@ -90,9 +110,13 @@ grow-spec =
     too-few-requires
     same-length-3
     returns-3
+    too-few-slots-requires
     take-granules-requires
     same-length-4
     returns-4
-    take-granules-requires-2
+    too-few-slots-requires-2
     same-length-5
-    returns-5)
+    returns-5
+    take-granules-requires-2
+    same-length-6
+    returns-6)

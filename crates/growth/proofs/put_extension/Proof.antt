@@ -2,6 +2,7 @@ use lib.ListN.{length-set}
 use lib.Seq.{length-sets}
 use native.Mathlib.Omega.{arith}
 use Rattle.growth.proofs.Put.{extension-put, extension-long, stored, not-stored}
+use mathlib.Core.Path.{refl}
 use borrow.Author.Needs.{needs}
 use Rattle.growth.proofs.put_extension.Statement.{statement}
 use Rattle.growth.proofs.put_extension.Tie as tie
@@ -10,7 +11,7 @@ use Rattle.growth.proofs.put_extension.Lts as lts
 use Rattle.copy.proofs.put_part.Reads as put-part-reads
 
 returns : tie.Need-returns
-returns c = not-stored (c .before .before .args .writes) _ _ (c .if1 .taken)
+returns c = not-stored (λ l. l) (c .before .before .args .writes) _ _ _ (c .if1 .taken) refl
 
 add-hash : tie.Need-add-hash
 add-hash c = search needs
@@ -94,7 +95,7 @@ same-length : tie.Need-same-length
 same-length c = extension-long (c .before .before .before .before .before .before .before .before .before .before .before .before .args .g) (c .before .before .before .before .before .before .before .before .before .before .before .before .args .p) (c .before .before .before .before .before .before .before .before .before .before .before .before .args .image .now) (c .before .before .before .before .before .before .before .before .before .before .before .before .args .e) (c .before .before .before .before .before .before .before .before .before .before .before .before .args .x) (c .before .before .before .put-part .ensures)
 
 returns-2 : tie.Need-returns-2
-returns-2 c = stored (c .before .before .before .before .before .before .before .before .before .before .before .before .args .writes) _ _ _ (c .before .before .before .before .before .before .before .before .before .before .if1 .left) (extension-put (c .before .before .before .before .before .before .before .before .before .before .before .before .args .g) (c .before .before .before .before .before .before .before .before .before .before .before .before .args .p) (c .before .before .before .before .before .before .before .before .before .before .before .before .args .image .now) (c .before .before .before .before .before .before .before .before .before .before .before .before .args .e) (c .before .before .before .before .before .before .before .before .before .before .before .before .args .x) (c .before .before .before .put-part .ensures))
+returns-2 c = stored (λ l. l) (c .before .before .before .before .before .before .before .before .before .before .before .before .args .writes) _ _ _ (c .before .before .before .before .before .before .before .before .before .before .if1 .left) (extension-put (c .before .before .before .before .before .before .before .before .before .before .before .before .args .g) (c .before .before .before .before .before .before .before .before .before .before .before .before .args .p) (c .before .before .before .before .before .before .before .before .before .before .before .before .args .image .now) (c .before .before .before .before .before .before .before .before .before .before .before .before .args .e) (c .before .before .before .before .before .before .before .before .before .before .before .before .args .x) (c .before .before .before .put-part .ensures))
 
 pub put-extension-spec : {M : Type 1} → statement M
 put-extension-spec =

@@ -1,0 +1,12 @@
+pub mod Parts
+pub mod Words
+pub mod Moves
+pub mod Back
+pub mod Ahead
+pub mod Stretches
+pub mod Theorem
+pub mod Rules
+pub mod Room
+pub mod View
+pub mod Sentence
+pub mod Samples
