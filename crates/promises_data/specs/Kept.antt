@@ -13,7 +13,7 @@ use Rattle.meaning.specs.Entries.{nameOf, sizeOf, runsFrom, runs, sectorCount, 
 use Rattle.meaning.specs.Chain.{files}
 use Rattle.meaning.specs.Consistent.{nameHolds, pairsHold, followsBy, linkHoldsBy, runsHold, consistent}
 use Rattle.meaning.specs.Free.{freeGranules, freeSlots}
-use Rattle.meaning.specs.Growth.{Grown, fails, diskOr, growth}
+use Rattle.meaning.specs.Growth.{Grown, fails, diskOr, orElse, growBy, growth}
 use Rattle.meaning.specs.Drop.{unhooked, dropOne}
 use Rattle.meaning.specs.Refusal.{unplaced, carried}
 use Rattle.meaning.specs.Refusals.{badGeometry, byNumber, faultNumbers, diskRefusals, refusal, accepted, badName, goodLength, newInRange, inRange, fresh, staleHandle, handleRefusals, notForReading, protected, lacking, noHandle, movedTo}
@@ -371,5 +371,5 @@ every-call g h e d c = subst (λ (x : Geometry). Agrees g x d c) (alike-is g h e
 
 -- a file that needs no granule grows alike
 pub none-needed : (g h : Geometry) (d : List ℕ) (x : Handle) (k : ℕ) → k ≡ 0 → GrowsAlike g h d x k
-unfolding growBy
+unfolding growBy orElse growth
 none-needed g h d x k e = rw e
