@@ -154,8 +154,9 @@ const faultWords = ({ number, kind, slot, sector, byte, image_byte: at, name, me
 
 // Reads the disk anew, under these options or what is found, and shows all of it. The focus goes there if what had it is gone.
 async function look(image, options) {
+  const goes = ["disk", "told"].some((id) => byId(id).contains(document.activeElement));
   await show(image, options);
-  if (document.activeElement === document.body) byId("disk").querySelector("h2")?.focus({ preventScroll: true });
+  if (goes) byId("disk").querySelector("h2")?.focus({ preventScroll: true });
 }
 
 async function show(image, options) {

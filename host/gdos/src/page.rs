@@ -5,7 +5,8 @@ use genie_dos::markup_text;
 
 /// Colours that print; tables whose rows are not torn.
 const STYLE: &str = "\
-body { font: 11pt/1.45 'DejaVu Sans', Verdana, sans-serif; color: #111; background: #fff; max-width: 50em; margin: 2em auto; padding: 0 1em }
+body { font: 11pt/1.45 'DejaVu Sans', Verdana, sans-serif; color: #111; background: #fff }
+body { max-width: 50em; margin: 2em auto; padding: 0 1em }
 h1 { font-size: 1.5em; margin: 0 0 .3em; overflow-wrap: anywhere }
 h2 { font-size: 1.15em; margin: 1.6em 0 .5em; border-bottom: 1px solid #999 }
 table { border-collapse: collapse; width: 100%; font-size: .92em }

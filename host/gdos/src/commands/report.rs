@@ -118,8 +118,8 @@ const COLUMNS: [(&str, Column); 6] = [
 ];
 
 /// What the letters of the attributes mean.
-const LETTERS: &str = "Attributes: S system file, I invisible, F keeps its space, E may not grow, B was worked on, P has a password; then the \
-     level of the worker code.";
+const LETTERS: &str = "Attributes: S system file, I invisible, F keeps its space, E may not grow, B was worked on, \
+     P has a password; then the level of the worker code.";
 
 fn row(entry: &Entry, geometry: Geometry) -> Vec<String> {
     vec![
