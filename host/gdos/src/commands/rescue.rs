@@ -12,7 +12,7 @@ use crate::json::Json;
 use crate::names::host_name;
 use crate::shape::{self, Wanted};
 use crate::text::{self, counted};
-use genie_dos::{Dropped, Mended, Rescued};
+use genie_dos::{Dropped, Holds, Mended, Rescued};
 use std::path::{Path, PathBuf};
 
 const OUTPUT: Spec =
@@ -69,6 +69,7 @@ fn run(args: &Args) -> Result<Output, Failure> {
     let (had, missing) = had_and_missing(&opened, &mended)?;
 
     let mut output = opened.output();
+    output.notes.extend(untold(&mended));
     let mut told = Vec::new();
     let mut used: Vec<PathBuf> = Vec::new();
     for Had { file, elsewhere } in &had {
@@ -127,6 +128,18 @@ fn run(args: &Args) -> Result<Output, Failure> {
     ]);
     output.json = Json::Object(members);
     Ok(output)
+}
+
+/// Of a damaged disk with reserved granules: what no rule tells, so that a file called undoubted is not taken for more than that.
+fn untold(mended: &Mended) -> Option<String> {
+    let reserved = match mended.disk.map() {
+        Ok(map) if !mended.steps.is_empty() => map.cells.iter().filter(|cell| cell.holds == Holds::Reserved).count(),
+        _ => 0,
+    };
+    let (noun, them) = if reserved == 1 { ("granule is", "it") } else { ("granules are", "them") };
+    (reserved > 0).then(|| {
+        format!("{reserved} {noun} taken and in no file: if the damage turned a file's run to {them}, no rule of the disk tells")
+    })
 }
 
 /// The files of the mended copy; those that it does not have, but another one in which they could stay; and those that cannot be
