@@ -60,7 +60,7 @@ fn run(args: &Args) -> Result<Output, Failure> {
     let here = faults_of(&shown, args.number(SLOT.long)?, &sections);
     let mut text: String = sections.iter().map(|section| section.text(&shown.map)).collect();
     for fault in &here {
-        text += &format!("! {}\n", damage::line(&fault.told));
+        text += &format!("fault {}\n", damage::line(&fault.told));
     }
     let mut json = shown.opened.head();
     json.extend([
