@@ -28,7 +28,8 @@ use Rattle.meaning.specs.Kill.{killEntry, kill}
 use Rattle.meaning.specs.BringBack.{whole, backEntry, killedEntryHolds, bringBack}
 use Rattle.meaning.specs.Listing
 use Rattle.meaning.specs.Listing.{shown, listed, tellFirst, noFile}
-use Rattle.meaning.specs.FreeSpace.{stretch, longestIn, freeSpace}
+use Rattle.meaning.specs.Stretch
+use Rattle.meaning.specs.FreeSpace.{longestIn, freeSpace}
 use Rattle.meaning.specs.Calls.{Call, checks, looksUp, opens, creates, reads, readsSector, writes, allots, trims, kills, lists, counts, measures}
 use Rattle.meaning.specs.declared.Geometry.{Geometry}
 use Rattle.meaning.specs.declared.Handle.{Handle}
@@ -221,15 +222,12 @@ module _ (g : Geometry) (b : Bool) (d : List ℕ) where
         free = cond (accepted (c .number)) (length (freeGranules-same i)) 0;
       }
 
-  stretch-same : (ns : List ℕ) → stretch g d ns ≡ stretch (stated b g) d ns
-  unfolding stretch taken
-  stretch-same [] = refl
-  stretch-same (n ∷ ns) = λ i. cond (taken g d n) 0 (suc (stretch-same ns i))
+  taken-same : (n : ℕ) → taken g d n ≡ taken (stated b g) d n
+  unfolding taken
+  taken-same n = refl
 
   longestIn-same : (ns : List ℕ) → longestIn g d ns ≡ longestIn (stated b g) d ns
-  unfolding longestIn
-  longestIn-same [] = refl
-  longestIn-same (n ∷ ns) = λ i. max (stretch-same (n ∷ ns) i) (longestIn-same ns i)
+  longestIn-same ns = λ i. Stretch.longestIn (λ n. taken-same n i) ns
 
   free-space : freeSpace g d ≡ freeSpace (stated b g) d
   unfolding freeSpace fitsGeometry granules granuleBytes granuleSectors
