@@ -6,6 +6,7 @@ use crate::directory::{
 };
 use crate::geometry::Geometry;
 use crate::names::hash;
+use std::ops::Range;
 
 /// "A run is 1 to 32 granules".
 pub const LONGEST_RUN: usize = 32;
@@ -30,7 +31,7 @@ pub fn free_granules<'a>(image: &'a [u8], g: &'a Geometry) -> impl Iterator<Item
 }
 
 /// The free stretches, rising: the granules between one that is taken and the next.
-pub fn free_stretches(image: &[u8], g: &Geometry) -> Vec<std::ops::Range<usize>> {
+pub fn free_stretches(image: &[u8], g: &Geometry) -> Vec<Range<usize>> {
     let mut stretches = Vec::new();
     let mut first = 0;
     for granule in 0..=g.granules() {
@@ -84,9 +85,18 @@ pub fn take_one(image: &mut [u8], g: &Geometry, d: usize, file: u8) -> Result<()
     }
 
     let lowest = free_granules(image, g).next().ok_or(Short::Granule)?;
-    let run = Pair::of_granule(g, lowest);
-    if pairs.len() < PAIRS {
-        last.set_pair(pairs.len(), run);
+    start_run(image, g, d, file, lowest..lowest + 1)
+}
+
+/// Free granules with consecutive numbers as a new run of the file. "A run beyond the fourth starts an extension in the first
+/// permitted slot."
+fn start_run(image: &mut [u8], g: &Geometry, d: usize, file: u8, granules: Range<usize>) -> Result<(), Short> {
+    let last_slot = *chain(image, g, d, file).last().expect("the file's own slot");
+    let mut last = entry(image, g, last_slot);
+    let pairs = last.pairs().len();
+    let run = Pair { further: (granules.len() - 1) as u8, ..Pair::of_granule(g, granules.start) };
+    if pairs < PAIRS {
+        last.set_pair(pairs, run);
         put_entry(image, g, last_slot, &last);
     } else {
         let slot = first_permitted_slot(image, g, d).ok_or(Short::Slot)?;
@@ -95,7 +105,7 @@ pub fn take_one(image: &mut [u8], g: &Geometry, d: usize, file: u8) -> Result<()
         put_entry(image, g, slot, &extension(last_slot, run));
         image[hit_place(g, slot)] = hash(&entry(image, g, file).name());
     }
-    set_taken(image, g, lowest, true);
+    granules.for_each(|granule| set_taken(image, g, granule, true));
     Ok(())
 }
 
@@ -137,15 +147,46 @@ pub fn drop_one(image: &mut [u8], g: &Geometry, d: usize, file: u8) {
     put_entry(image, g, last_slot, &last);
 }
 
-/// A growth by so many granules: "Growth is whole or refused." None changed if it is refused.
+/// 02 §13, where 01's choice does not fit: "lengthen the last run as far as free granules and the 32 allow, then take the longest
+/// remaining stretch, at most 32 at a time from its low end, the lower on a tie." By whole runs, as the sentence goes.
+fn take_longest(image: &mut [u8], g: &Geometry, d: usize, file: u8, further: usize) -> Result<(), Short> {
+    let mut wanted = further;
+    let last_slot = *chain(image, g, d, file).last().expect("the file's own slot");
+    let mut last = entry(image, g, last_slot);
+    let pairs = last.pairs();
+    if let Some(&pair) = pairs.last() {
+        let run = pair.run(g);
+        let behind = (run.end..g.granules()).take_while(|&granule| !taken(image, g, granule)).count();
+        let longer = behind.min(LONGEST_RUN - run.len()).min(wanted);
+        last.set_pair(pairs.len() - 1, Pair { further: pair.further + longer as u8, ..pair });
+        put_entry(image, g, last_slot, &last);
+        (run.end..run.end + longer).for_each(|granule| set_taken(image, g, granule, true));
+        wanted -= longer;
+    }
+    while wanted > 0 {
+        let longest = longest_stretch(image, g);
+        let stretch = free_stretches(image, g).into_iter().find(|stretch| stretch.len() == longest);
+        let first = stretch.filter(|stretch| !stretch.is_empty()).ok_or(Short::Granule)?.start;
+        let many = longest.min(LONGEST_RUN).min(wanted);
+        start_run(image, g, d, file, first..first + many)?;
+        wanted -= many;
+    }
+    Ok(())
+}
+
+/// A growth by so many granules: "Growth is whole or refused." None changed if it is refused. "Keep 01's choice where it fits"; where
+/// it does not, the growth starts again from the disk as it stood.
 pub fn grow(image: &mut [u8], g: &Geometry, d: usize, file: u8, further: usize) -> Result<(), Short> {
     if further == 0 {
         return Ok(());
     }
     let mut trial = image.to_vec();
-    for _ in 0..further {
-        take_one(&mut trial, g, d, file)?;
+    if (0..further).all(|_| take_one(&mut trial, g, d, file).is_ok()) {
+        image.copy_from_slice(&trial);
+        return Ok(());
     }
+    let mut trial = image.to_vec();
+    take_longest(&mut trial, g, d, file, further)?;
     image.copy_from_slice(&trial);
     Ok(())
 }
