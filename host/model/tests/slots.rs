@@ -17,13 +17,13 @@ const D: usize = 10;
 /// A disk with the directory at its start, these granules free and no others, the file "A" of these runs, and every other slot that a
 /// growth could take in use by an empty file.
 fn disk(blocks: usize, units: usize, free: &[usize], runs: &[(usize, usize)]) -> Disk {
-    let g = Geometry { blocks, units, start: 0, open_code: 0 };
+    let g = Geometry { blocks, units, start: 0, open_code: 0, system_disk: true };
     let reserved: Vec<usize> = (2..g.granules())
         .filter(|n| !free.contains(n) && !runs.iter().any(|&(first, many)| (first..first + many).contains(n)))
         .collect();
     let mut disk = empty_disk(g, D, &reserved);
     put_file(&mut disk, FILE, "A", runs);
-    for slot in slots(D).filter(|&slot| permitted(slot) && slot != FILE) {
+    for slot in slots(D).filter(|&slot| permitted(&g, slot) && slot != FILE) {
         put_file(&mut disk, slot, &format!("B{slot}"), &[]);
     }
     is_consistent(&disk, "the case");
