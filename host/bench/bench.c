@@ -26,9 +26,9 @@ struct library {
 };
 
 /* No library: what the driver costs by itself. */
-#define I const uint8_t *i, size_t il, size_t b, size_t u, size_t s, uint16_t c
-#define IO uint8_t *i, size_t il, size_t b, size_t u, size_t s, uint16_t c
-#define USE (void)i, (void)il, (void)b, (void)u, (void)s, (void)c
+#define I const uint8_t *i, size_t il, size_t b, size_t u, size_t s, uint16_t c, bool sd
+#define IO uint8_t *i, size_t il, size_t b, size_t u, size_t s, uint16_t c, bool sd
+#define USE (void)i, (void)il, (void)b, (void)u, (void)s, (void)c, (void)sd
 #define NONE __attribute__((noinline)) static uint8_t
 NONE none_check(I, size_t *fs) { USE, (void)fs; return 0; }
 NONE none_look_up(I, const uint8_t *n, size_t nl, size_t *o, size_t *p, size_t *fs) { USE, (void)n, (void)nl, (void)o, (void)p, (void)fs; return 0; }
@@ -50,10 +50,10 @@ NONE none_trim(IO, const uint8_t *h, size_t hl, size_t *fs) { USE, (void)h, (voi
 NONE none_kill(IO, const uint8_t *h, size_t hl, size_t *fs) { USE, (void)h, (void)hl, (void)fs; return 0; }
 NONE none_list(I, size_t n, uint8_t *m, size_t ml, size_t *z, size_t *g, size_t *o, size_t *fs) { USE, (void)n, (void)m, (void)ml, (void)z, (void)g, (void)o, (void)fs; return 0; }
 NONE none_count(I, size_t *f, size_t *r, size_t *fs) { USE, (void)f, (void)r, (void)fs; return 0; }
-NONE none_compare(I, const uint8_t *j, size_t jl, size_t b2, size_t u2, size_t s2, uint16_t c2, size_t n, uint8_t *m, size_t ml, size_t *o, size_t *k,
-                  size_t *p, size_t *f, size_t *fs)
+NONE none_compare(I, const uint8_t *j, size_t jl, size_t b2, size_t u2, size_t s2, uint16_t c2, bool sd2, size_t n, uint8_t *m, size_t ml,
+                  size_t *o, size_t *k, size_t *p, size_t *f, size_t *fs)
 {
-    USE, (void)j, (void)jl, (void)b2, (void)u2, (void)s2, (void)c2, (void)n, (void)m, (void)ml, (void)o, (void)k, (void)p, (void)f, (void)fs;
+    USE, (void)j, (void)jl, (void)b2, (void)u2, (void)s2, (void)c2, (void)sd2, (void)n, (void)m, (void)ml, (void)o, (void)k, (void)p, (void)f, (void)fs;
     return 0;
 }
 
