@@ -84,7 +84,7 @@ fn the_marked_byte_is_the_one_that_check_names() {
     let in_gat = (0..16).map(|block| 80 * 256 + block);
     let mut damages: Vec<Vec<(usize, u8)>> = Vec::new();
     for at in in_entries.chain(in_hit).chain(in_gat) {
-        let values = [0x00, 0x07, 0x21, 0x81, 0xfe, 0xff, sound[at] ^ 0x20];
+        let values = [0x00, 0x07, 0xfe, sound[at] ^ 0x20];
         damages.extend(values.map(|value| vec![(at, value)]));
     }
     // D/DAT becomes a second B/DAT.
@@ -110,8 +110,10 @@ fn the_marked_byte_is_the_one_that_check_names() {
         };
         let entry = slot.map(|_| fault.at("image_byte").number() as usize);
         let mut shown = slot.map(|slot| marked(image, &["--slot", &slot.to_string()])).unwrap_or_default();
-        shown.extend(marked(image, &["--gat"]));
-        shown.extend(marked(image, &["--hit"]));
+        if number == 27 || slot.is_none() {
+            shown.extend(marked(image, &["--gat"]));
+            shown.extend(marked(image, &["--hit"]));
+        }
         let what = format!("{damage:?}: {number}: {message}: {shown:?}");
         for byte in named(message, entry) {
             assert!(shown.contains(&byte), "{what}");

@@ -34,8 +34,8 @@ pub const COMMAND: Command = Command {
     about: "\
 Shows one thing of the disk byte by byte: where in the image, its place there, the bytes in hex, and what they are
 called and say. A byte that a fault marks has a ! behind it, and the faults are told below, as gdos check tells them.
-The place is the byte of an entry or of the GAT, the slot in the HIT, the byte of the file in a file; elsewhere the byte
-of the sector. Nothing is asked for a password: it is the image's bytes that are shown.
+The place is the byte of an entry or of the GAT, the slot in the HIT, the byte of the file in a file; elsewhere the
+byte of the sector. No password is asked for: it is the image's bytes that are shown.
 A disk that is not consistent is shown too, if its geometry is stated. Nothing of it is guessed: a file has the
 sectors that its entries name, and where they name none, that is told.
 ",
@@ -60,7 +60,7 @@ fn run(args: &Args) -> Result<Output, Failure> {
     let here = faults_of(&shown, args.number(SLOT.long)?, &sections);
     let mut text: String = sections.iter().map(|section| section.text(&shown.map)).collect();
     for fault in &here {
-        text += &format!("! {}\n", damage::line(&fault.told));
+        text += &format!("fault {}\n", damage::line(&fault.told));
     }
     let mut json = shown.opened.head();
     json.extend([

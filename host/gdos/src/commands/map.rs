@@ -160,7 +160,7 @@ fn way(file: &MappedFile) -> String {
 fn legend(map: &Map, file: Option<&MappedFile>, colours: bool) -> String {
     let mut text = String::new();
     let mut line = |label: &str, look: Look, words: &str| {
-        text += &format!("{}{} {words}\n", painted(label, look, colours), " ".repeat(4 - label.len().min(4)));
+        text += &format!("  {}{} {words}\n", painted(label, look, colours), " ".repeat(4 - label.len().min(4)));
     };
     line(".", Look::Faint, "free");
     line("#", Look::Faint, "reserved: taken, and in no run");
@@ -190,7 +190,7 @@ fn legend(map: &Map, file: Option<&MappedFile>, colours: bool) -> String {
         line(&mapped.tag, Look::File(number), &words);
     }
     for fault in &map.faults {
-        text += &format!("! {}\n", damage::line(&fault.told));
+        text += &format!("fault {}\n", damage::line(&fault.told));
     }
     text
 }

@@ -25,10 +25,11 @@ pub const COMMAND: Command = Command {
     summary: "write a page about a disk, to be mailed or printed",
     usage: "[OPTIONS] IMAGE -o FILE.html",
     about: "\
-Writes one page of HTML that needs nothing else: no script, no picture from elsewhere. It has the geometry and where that
-is from, the files, the free space, every fault in words, what can be brought back, and the map of the granules
-(gdos map). On a consistent disk that is which removed files can be brought back (gdos undelete); on one that is not,
-which files can be had of a mended copy (gdos rescue), and why not the others. The image is never written.
+Writes one page of HTML that needs nothing else: no script, no picture from elsewhere. It has the geometry and where
+that is from, the files, the free space, every fault in words, what can be brought back, and the map of the granules
+(gdos map). What can be brought back are, on a consistent disk, removed files (gdos undelete); on one that is not,
+the files that can be had of a mended copy (gdos rescue), and it is told why not the others. The image is never
+written.
 A disk that is not consistent is reported too, if its geometry is stated.
 ",
     groups: &[

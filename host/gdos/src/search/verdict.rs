@@ -146,7 +146,9 @@ mod tests {
         }
         let mut image = disk.into_image();
         let gat = geometry.start * Geometry::SECTOR_BYTES;
-        image[gat..gat + geometry.blocks].iter_mut().for_each(|byte| *byte |= spare << geometry.units);
+        // With eight units there are no spare bits.
+        let spare = spare.checked_shl(geometry.units as u32).unwrap_or(0);
+        image[gat..gat + geometry.blocks].iter_mut().for_each(|byte| *byte |= spare);
         image
     }
 
