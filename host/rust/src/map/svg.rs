@@ -134,7 +134,7 @@ impl Map {
         svg += &format!(
             "<text x=\"{MARGIN}\" y=\"{}\" text-anchor=\"start\"{}>{summary}</text>\n",
             MARGIN + 32,
-            squeezed(&summary, 7, WIDTH - 2 * MARGIN)
+            squeezed(&summary, 6, WIDTH - 2 * MARGIN)
         );
         for block in 0..self.geometry.blocks {
             let (x, y) = layout.block(block);
