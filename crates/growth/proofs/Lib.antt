@@ -6,3 +6,4 @@ pub mod Turns
 pub mod Whole
 pub mod Grown
 pub mod Handed
+pub mod Roomy
