@@ -185,7 +185,7 @@ fn take_granules(
 }
 
 // Whether k further granules find too few slots by that choice: the growth on paper. The GAT is put back as it was. Where the last entry has
-// a pair for each of them nothing is tried: that is most growths.
+// a pair for each of them nothing is tried.
 fn too_few_slots(image: &mut [u8], g: Geometry, p: usize, e: usize, k: usize, lowest: bool) -> bool
     requires { ⌜ Ready g (now image) p × (e ≡ tail g p (now image)) × (k ≤ length (freeGranules g (now image))) ⌝ }
     ensures { λ r. ⌜ (r ≡ fails (growBy g p (choiceBy g lowest) k (now (image .entry)))) × (now (image .exit) ≡ now (image .entry)) ⌝ }

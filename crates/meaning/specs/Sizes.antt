@@ -1,5 +1,5 @@
 -- What is known of the size of a granule. First the laws of any width w above 0: nothing here knows how many sectors a granule has. Then
--- the three facts of a geometry's granule by which these laws are used; they are the only ones that open its definition.
+-- the facts of a geometry's granule by which these laws are used: no other law of a disk opens its definition.
 use Prim.Native.Nat.{ℕ, _+_, _-_, _*_, _/_, _%_, _≤_, _<_}
 use mathlib.Core.Path.{_≡_, refl, ap, sym, _∙_}
 use native.Mathlib.Omega.{arith}
