@@ -2,7 +2,7 @@
  *                                driver itself costs)
  * bench time CALL DISK LIBRARY   wall time of one call in nanoseconds, the driver's own work included
  * bench same                     whether genie and fast answer alike and leave image, handle, buffer and numbers alike, for each call on each disk, and
- *                                tell the same fault of damaged disks
+ *                                tell the same fault of damaged disks; and that genie serves what fast has not
  * bench names                    the calls, then the disks, a line each: name and title
  * bench image DISK FILE          writes the disk to a file and says its geometry
  */
@@ -66,10 +66,11 @@ static const struct library libraries[] = {
     { "none", LIBRARY_CALLS(NOTHING) },
 };
 
-/* What is measured. The last six are no calls of their own: four are for the cost of a byte, two for a disk with a fault. */
+/* What is measured. The last ten are no calls of their own: four are for the cost of a byte, two for a disk with a fault, four for a growth by the second
+ * choice (02 §13), which the C does not have. */
 enum what {
     CHECK, LOOK_UP, OPEN, CREATE, READ, SECTOR, WRITE, APPEND, ALLOT, TRIM, KILL, LIST, COUNT, COMPARE,
-    READ_1, WRITE_1, FILL_0, FILL_1000, CHECK_FAULT, LOOK_UP_FAULT, WHATS
+    READ_1, WRITE_1, FILL_0, FILL_1000, CHECK_FAULT, LOOK_UP_FAULT, CHECK_SECOND, ALLOT_SECOND, CHECK_MOST, ALLOT_MOST, WHATS
 };
 
 static const struct {
@@ -96,6 +97,10 @@ static const struct {
     [FILL_1000] = { "fill_1000", "write 1 byte 1,000 past the size", true },
     [CHECK_FAULT] = { "check_fault", "check, the disk has a fault", false },
     [LOOK_UP_FAULT] = { "look_up_fault", "look up, refused for a fault", false },
+    [CHECK_SECOND] = { "check_second", "check, the file has 150 entries", false },
+    [ALLOT_SECOND] = { "allot_second", "allot 170 granules by the second choice", true },
+    [CHECK_MOST] = { "check_most", "check, the file has two entries", false },
+    [ALLOT_MOST] = { "allot_most", "allot 762 granules by the second choice", true },
 };
 
 enum { SECTOR_BYTES = 256, LONGEST_DIRECTORY = 30 * SECTOR_BYTES };
@@ -136,6 +141,30 @@ static void damage(struct bench_disk *d)
     hit[slot] = hit[slot] == 1 ? 2 : 1;
 }
 
+/* The scattered disk with every second granule taken up to its end, those behind the file by no file; only the last two granules are free side by side.
+ * The file keeps its first entries. What is wanted is one granule more than 01's choice finds place for: one lengthens the last run, each other starts a
+ * run of its own, four in each permitted slot left. The second choice takes the two at the end first. */
+static void splinter(struct work *w, size_t entries)
+{
+    enum { PERMITTED = 192, LINKED = 0xFE, MARKER = 30, LINK = 31 };
+    struct bench_disk *const d = &w->disk;
+    uint8_t *const gat = d->image + d->start * SECTOR_BYTES, *const hit = gat + SECTOR_BYTES;
+    for (size_t n = 1; n + 1 < d->blocks * d->units; n += 2) gat[n / d->units] |= (uint8_t)(1u << n % d->units);
+#define ENTRY(slot) (d->image + (d->start + (slot) % 32 + 2) * SECTOR_BYTES + (slot) / 32 * 32)
+    uint8_t *last = ENTRY(d->subject_slot);
+    for (size_t i = 1; i < entries; i++) last = ENTRY((size_t)last[LINK]);
+    while (last[MARKER] == LINKED) {
+        const size_t slot = last[LINK];
+        memcpy(last + MARKER, ENTRY(slot) + MARKER, 2);
+        memset(ENTRY(slot), 0, 32);
+        hit[slot] = 0;
+    }
+#undef ENTRY
+    d->subject_size = 4 * entries * GENIE_GRANULE_BYTES - 100;
+    set_size(w, d->subject_size);
+    w->k = 5 * (4 * entries + 4 * (PERMITTED - entries) + 2) - 1;
+}
+
 static void prepare(struct work *w, enum what what, size_t disk)
 {
     memset(w, 0, sizeof *w);
@@ -159,6 +188,10 @@ static void prepare(struct work *w, enum what what, size_t disk)
         break;
     case CHECK_FAULT:
     case LOOK_UP_FAULT: damage(d); break;
+    case CHECK_SECOND:
+    case ALLOT_SECOND: splinter(w, 150); break;
+    case CHECK_MOST:
+    case ALLOT_MOST: splinter(w, 2); break;
     default: break;
     }
     w->fresh[0] = (uint8_t)d->subject_slot;
@@ -180,6 +213,8 @@ static void once(struct work *w, const struct library *lib)
     memcpy(w->handle, w->fresh, sizeof w->handle);
     switch (w->what) {
     case CHECK:
+    case CHECK_SECOND:
+    case CHECK_MOST:
     case CHECK_FAULT: w->answer = lib->check(DISK, &w->fault_slot); break;
     case LOOK_UP:
     case LOOK_UP_FAULT: w->answer = lib->look_up(DISK, d->subject, sizeof d->subject, &w->numbers[0], &w->numbers[1], &w->fault_slot); break;
@@ -195,7 +230,9 @@ static void once(struct work *w, const struct library *lib)
     case FILL_0:
     case FILL_1000: w->answer = lib->write_record(DISK, HANDLE, false, w->buffer, sizeof w->buffer, &w->fault_slot); break;
     case APPEND: w->answer = lib->write_record(DISK, HANDLE, true, w->buffer, sizeof w->buffer, &w->fault_slot); break;
-    case ALLOT: w->answer = lib->allot(DISK, HANDLE, w->k, &w->fault_slot); break;
+    case ALLOT:
+    case ALLOT_SECOND:
+    case ALLOT_MOST: w->answer = lib->allot(DISK, HANDLE, w->k, &w->fault_slot); break;
     case TRIM: w->answer = lib->trim(DISK, HANDLE, &w->fault_slot); break;
     case KILL: w->answer = lib->kill(DISK, HANDLE, &w->fault_slot); break;
     case LIST: w->answer = lib->list(DISK, d->files - 1, w->name, sizeof w->name, &w->numbers[0], &w->numbers[1], &w->numbers[2], &w->fault_slot); break;
@@ -248,6 +285,15 @@ static int same(void)
     int unlike = 0;
     for (size_t disk = 0; disk < BENCH_DISKS; disk++)
         for (enum what what = 0; what < WHATS; what++) {
+            if (what >= CHECK_SECOND) {
+                if (disk != BENCH_DISKS - 1) continue;
+                prepare(&a, what, disk);
+                once(&a, &libraries[0]);
+                printf("%s %s: %d%s\n", bench_disk_names[disk], whats[what].name, a.answer, a.answer ? " UNLIKE: refused" : "");
+                unlike += a.answer != 0;
+                free(a.disk.image);
+                continue;
+            }
             prepare(&a, what, disk);
             prepare(&b, what, disk);
             for (size_t i = 0; i < sizeof a.buffer; i++) a.buffer[i] = b.buffer[i] = (uint8_t)(i * 5 + 1);

@@ -7,7 +7,7 @@ use Prim.Native.Nat.{ℕ, zero, suc, _+_, _-_, _*_, _≤_, _<_}
 use native.Mathlib.Omega.{arith}
 use native.Mathlib.Decide.{ℕ-discrete}
 use lib.ListN.{length}
-use Rattle.meaning.specs.Layout.{taken, takeGranule, field, setField, granules}
+use Rattle.meaning.specs.Layout.{taken, takeGranule, field, setField, granules, mostGranules}
 use Rattle.meaning.specs.Entries.{runs}
 use Rattle.meaning.specs.Growth.{tail, lengthens, withPair, withExtension, takeAt, grown, noSlot, growBy, andThen, fails}
 use Rattle.meaning.specs.Free.{freeGranules, lowestFree, freeSlot}
@@ -22,10 +22,11 @@ use Rattle.layout.proofs.Lists.{le-or-lt}
 use Rattle.layout.proofs.Sound.{slot-of}
 use Rattle.joint.proofs.Ready.{walks}
 use Rattle.space.proofs.First.{NoneBelow}
-use Rattle.growth.specs.Choose.{choiceBy, Picked}
+use Rattle.growth.specs.Choose.{choiceBy, Known, Picked}
 use Rattle.growth.specs.declared.Chosen.{Chosen}
+use Rattle.growth.proofs.Known.{differ, known-start, known-less}
 use Rattle.growth.proofs.Stand.{Stand}
-use Rattle.supply.specs.Search.{Ends, NextFree}
+use Rattle.supply.specs.Search.{Ends}
 use Rattle.supply.specs.declared.Ending.{Ending}
 use Rattle.growth.proofs.Step
 
@@ -61,14 +62,13 @@ module _ (g : Geometry) (p : ℕ) (lowest : Bool) where
   unfolding fails
   not-stuck d = refl
 
-  -- `left` granules are to come on disk d; none below `next` is free, and no slot below `slot`
-  pub record Growing (k : ℕ) (d₀ d : List ℕ) (e runs after long next slot left : ℕ) : Type 0 where
+  -- `left` granules are to come on disk d; `next` and `most` say what is known of free ones, and no slot below `slot` is free
+  pub record Growing (k : ℕ) (d₀ d : List ℕ) (e runs after long next most slot left : ℕ) : Type 0 where
     pub rest : growBy g p choice k d₀ ≡ growBy g p choice left d
     pub stand : Stand g p d e runs after long
     pub room : left ≤ length (freeGranules g d)
-    pub none : NoneBelow (Step.free g d) next
+    pub known : Known g d lowest next most
     pub slots : NoneBelow (freeSlot g d) slot
-    pub next-low : next ≤ granules g
     pub slot-low : slot ≤ 256
     pub few : runs ≤ 4
     pub short : long ≤ 32
@@ -93,43 +93,35 @@ module _ (g : Geometry) (p : ℕ) (lowest : Bool) where
       (λ (h : 0 < r .runs). Step.stand-run g p choice y (sym q) (w .many) h (w .after h .0) (w .after h .1)) (le-or-lt (r .runs) 0)
 
   pub growing-start : {k : ℕ} {d : List ℕ} {e : ℕ} {r : Ending} → Ready g d p → e ≡ tail g p d → k ≤ length (freeGranules g d) → Ends g d e r
-      → Growing k d d e (r .runs) (r .after) (r .long) 0 0 k
-  growing-start y q h w = record {
+      → Growing k d d e (r .runs) (r .after) (r .long) 0 mostGranules 0 k
+  growing-start {d = d} y q h w = record {
     rest = refl;
     stand = stand-start y q w;
     room = h;
-    none = λ n l. absurd (let z : ⊥ = omega arith in z);
+    known = known-start g d lowest (walks g d p y .0 .room .most);
     slots = λ n l. absurd (let z : ⊥ = omega arith in z);
-    next-low = omega arith;
     slot-low = omega arith;
     few = w .few;
     short = w .small;
     same-long = refl;
   }
 
-  -- a granule taken: none is free below where none was, nor below it where it was the lowest
-  none-after : {d d′ : List ℕ} {m c : ℕ} → Step.Taken g p choice d d′ m → NoneBelow (Step.free g d) c → c ≤ granules g → NoneBelow (Step.free g d′) c
-  none-after {d} {d′} {m} {c} t none h n l = go (ℕ-discrete n m)
+  -- a granule taken: no more is free
+  known-after : {d d′ : List ℕ} {m next most : ℕ} → Step.Taken g p choice d d′ m → Known g d lowest next most → Known g d′ lowest next most
+  known-after {d} {d′} {m} t = known-less g d d′ (λ n h e. was n h e (ℕ-discrete n m))
     where
-      go : Dec (n ≡ m) → not (taken g d′ n) ≡ false
-      go (yes q) = ap not (ap (taken g d′) q ∙ t .set′)
-      go (no q) = ap not (t .keeps n (omega arith) q) ∙ none n l
+      was : (n : ℕ) → n < granules g → taken g d′ n ≡ false → Dec (n ≡ m) → taken g d n ≡ false
+      was n h e (yes q) = absurd (differ (ap (taken g d′) q ∙ t .set′) e)
+      was n h e (no q) = sym (t .keeps n h q) ∙ e
 
-  none-past : {d d′ : List ℕ} {m : ℕ} → Step.Taken g p choice d d′ m → NoneBelow (Step.free g d) m → m < granules g → NoneBelow (Step.free g d′) (m + 1)
-  none-past {d} {d′} {m} t none h n l = go (ℕ-discrete n m)
-    where
-      go : Dec (n ≡ m) → not (taken g d′ n) ≡ false
-      go (yes q) = ap not (ap (taken g d′) q ∙ t .set′)
-      go (no q) = ap not (t .keeps n (omega arith) q) ∙ none n (omega arith)
-
-  module _ {k : ℕ} {d₀ d : List ℕ} {e r a l next slot left : ℕ} (c : Growing k d₀ d e r a l next slot left) (h : 0 < left) where
+  module _ {k : ℕ} {d₀ d : List ℕ} {e r a l next most slot left : ℕ} (c : Growing k d₀ d e r a l next most slot left) (h : 0 < left) where
     some-room : Step.Free′ g p choice d
     some-room = chooses g p lowest d (omega (arith, c .room))
 
     -- 1. the last run grows
     pub growing-longer : l < 32 → (i : a < granules g) → taken g d a ≡ false → {d′ : List ℕ}
         → d′ ≡ takeGranule g (setField g d e (0x17 + 2 * (r - 1)) (field g d e (0x17 + 2 * (r - 1)) + 1)) a
-        → Step.Taken g p choice d d′ a × ((x : ℕ) → freeSlot g d′ x ≡ freeSlot g d x) × Growing k d₀ d′ e r (a + 1) (l + 1) next slot (left - 1)
+        → Step.Taken g p choice d d′ a × ((x : ℕ) → freeSlot g d′ x ≡ freeSlot g d x) × Growing k d₀ d′ e r (a + 1) (l + 1) next most slot (left - 1)
     unfolding Step.d₁
     growing-longer u i f {d′} q =
         let t : Step.Taken g p choice d d′ a = rw q (Step.longer-taken g p choice (c .stand) u i f) in
@@ -140,9 +132,8 @@ module _ (g : Geometry) (p : ℕ) (lowest : Bool) where
             rest = c .rest ∙ grow-more left d d′ h (t .one);
             stand = rw q (Step.longer-stand g p choice (c .stand) u i f some-room);
             room = omega (arith, c .room, t .fewer);
-            none = none-after t (c .none) (c .next-low);
+            known = known-after t (c .known);
             slots = λ x y. s x ∙ c .slots x y;
-            next-low = c .next-low;
             slot-low = c .slot-low;
             few = c .few;
             short = omega arith;
@@ -150,50 +141,26 @@ module _ (g : Geometry) (p : ℕ) (lowest : Bool) where
           },
         )
 
-    -- the granule picked, and what is known of those below it once it is taken
-    pub record Pick (n next′ : ℕ) : Type 0 where
+    -- the granule picked, and what is known with it
+    pub record Pick (n most′ : ℕ) : Type 0 where
       pub is : choice d ≡ n
       pub inside : n < granules g
       pub free : taken g d n ≡ false
-      pub low : next′ ≤ granules g
-      pub none : (d′ : List ℕ) → Step.Taken g p choice d d′ n → NoneBelow (Step.free g d′) next′
+      pub known : Known g d lowest n most′
 
-    pub picked : {q : Chosen} → Picked g d lowest next q → Pick (q .at) (q .next)
-    picked {q} w = go lowest refl
-      where
-        below : NextFree g d next 0 0 (q .at) → NoneBelow (Step.free g d) (q .at)
-        below v m b = ⊎-elim (λ (z : next ≤ m). ap not (⊎-elim (λ y. y) (λ y. absurd (let x = y .1 in let u : ⊥ = omega arith in u)) (v .passed m z b))) (λ (z : m < next). c .none m z) (le-or-lt next m)
-
-        inn : NextFree g d next 0 0 (q .at) → q .at < granules g
-        inn v = ⊎-elim
-            (λ (z : granules g ≤ q .at). absurd (Step.some-free g d (omega (arith, c .room)) (λ m b. below v m (omega arith))))
-            (λ (z : q .at < granules g). z) (le-or-lt (granules g) (q .at))
-
-        go : (b : Bool) → lowest ≡ b → Pick (q .at) (q .next)
-        go true e =
-            let v = w .first e .0 in let n = w .first e .1 in let i = inn v in
-            record {
-              is = ap (λ (x : Bool). choiceBy g x d) e ∙ Step.lowest g d (below v) i (v .found i .0);
-              inside = i;
-              free = v .found i .0;
-              low = omega arith;
-              none = λ d′ t. rw n (none-past t (below v) i);
-            }
-        go false e =
-            let s = w .second e in
-            let h : Step.Free′ g p choice d = some-room in
-            let is′ : choice d ≡ q .at = ap (λ (x : Bool). choiceBy g x d) e ∙ sym (s .0) in
-            record {
-              is = is′;
-              inside = subst (λ (n : ℕ). n < granules g) is′ (h .0);
-              free = subst (λ (n : ℕ). taken g d n ≡ false) is′ (Members.no-false (h .1));
-              low = let z = s .1 in omega arith;
-              none = λ d′ t m b. absurd (let z = s .1 in let u : ⊥ = omega arith in u);
-            }
+    pub picked : {q : Chosen} → Picked g d lowest q → Pick (q .at) (q .most)
+    picked {q} w =
+        let h : Step.Free′ g p choice d = some-room in
+        record {
+          is = w .is;
+          inside = subst (λ (n : ℕ). n < granules g) (w .is) (h .0);
+          free = subst (λ (n : ℕ). taken g d n ≡ false) (w .is) (Members.no-false (h .1));
+          known = w .known;
+        }
 
     -- 2. a new run in the last entry
-    pub growing-pair : lengthens g p d ≡ false → r < 4 → {n next′ : ℕ} → Pick n next′ → {d′ : List ℕ} → d′ ≡ withPair g p d e r n
-        → Step.Taken g p choice d d′ n × ((x : ℕ) → freeSlot g d′ x ≡ freeSlot g d x) × Growing k d₀ d′ e (r + 1) (n + 1) 1 next′ slot (left - 1)
+    pub growing-pair : lengthens g p d ≡ false → r < 4 → {n most′ : ℕ} → Pick n most′ → {d′ : List ℕ} → d′ ≡ withPair g p d e r n
+        → Step.Taken g p choice d d′ n × ((x : ℕ) → freeSlot g d′ x ≡ freeSlot g d x) × Growing k d₀ d′ e (r + 1) (n + 1) 1 n most′ slot (left - 1)
     unfolding Step.d₂
     growing-pair u v {n} o {d′} q =
         let i = o .inside in
@@ -205,9 +172,8 @@ module _ (g : Geometry) (p : ℕ) (lowest : Bool) where
             rest = c .rest ∙ grow-more left d d′ h (t .one);
             stand = rw q (Step.pair-stand g p choice (c .stand) u v (o .is) i (o .free) some-room);
             room = omega (arith, c .room, t .fewer);
-            none = o .none d′ t;
+            known = known-after t (o .known);
             slots = λ x y. s x ∙ c .slots x y;
-            next-low = o .low;
             slot-low = c .slot-low;
             few = omega arith;
             short = omega arith;
@@ -216,9 +182,9 @@ module _ (g : Geometry) (p : ℕ) (lowest : Bool) where
         )
 
     -- 3. a run in a new extension
-    pub growing-new : lengthens g p d ≡ false → 4 ≤ r → {n x next′ : ℕ} → Pick n next′ → x < 256 → NoneBelow (freeSlot g d) x → freeSlot g d x ≡ true
+    pub growing-new : lengthens g p d ≡ false → 4 ≤ r → {n x most′ : ℕ} → Pick n most′ → x < 256 → NoneBelow (freeSlot g d) x → freeSlot g d x ≡ true
         → {d′ : List ℕ} → d′ ≡ withPair g p (withExtension g p d e x) x 0 n
-        → Step.Taken g p choice d d′ n × ((y : ℕ) → y ≢ x → freeSlot g d′ y ≡ freeSlot g d y) × Growing k d₀ d′ x 1 (n + 1) 1 next′ (x + 1) (left - 1)
+        → Step.Taken g p choice d d′ n × ((y : ℕ) → y ≢ x → freeSlot g d′ y ≡ freeSlot g d y) × Growing k d₀ d′ x 1 (n + 1) 1 n most′ (x + 1) (left - 1)
     unfolding Step.d₃
     growing-new u v {n} {x} pk b slots o {d′} q =
         let i = pk .inside in
@@ -231,9 +197,8 @@ module _ (g : Geometry) (p : ℕ) (lowest : Bool) where
             rest = c .rest ∙ grow-more left d d′ h (t .one);
             stand = rw q (Step.new-stand g p choice (c .stand) u v (pk .is) i (pk .free) b slots o some-room);
             room = omega (arith, c .room, t .fewer);
-            none = pk .none d′ t;
+            known = known-after t (pk .known);
             slots = λ y w. last s z y w (ℕ-discrete y x);
-            next-low = pk .low;
             slot-low = omega arith;
             few = omega arith;
             short = omega arith;
@@ -250,5 +215,5 @@ module _ (g : Geometry) (p : ℕ) (lowest : Bool) where
     growing-stuck u v none =
         ap fails (c .rest) ∙ grow-stuck left d h (Step.one-none g p choice d u (rw (c .stand .last, c .stand .many) v) none)
 
-  pub growing-end : {k : ℕ} {d₀ d : List ℕ} {e r a l next slot left : ℕ} → Growing k d₀ d e r a l next slot left → left ≤ 0 → grown d ≡ growBy g p choice k d₀
+  pub growing-end : {k : ℕ} {d₀ d : List ℕ} {e r a l next most slot left : ℕ} → Growing k d₀ d e r a l next most slot left → left ≤ 0 → grown d ≡ growBy g p choice k d₀
   growing-end {left = left} c h = sym (c .rest ∙ grow-done left _ h)

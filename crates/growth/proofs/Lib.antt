@@ -1,7 +1,9 @@
 pub mod Put
 pub mod Stand
 pub mod Step
+pub mod Known
 pub mod Growing
+pub mod Choosing
 pub mod Turns
 pub mod Whole
 pub mod Grown

@@ -9,12 +9,10 @@ use lib.ListN.{length, getD, set, take, drop, length-set, length-drop, take-appe
 use lib.Seq.{sets, length-sets, sets-eq, getD-set-other, set-comm, length-take-le, drop-length, take-all, drop-drop}
 use Rattle.meaning.specs.Bits.{withBit}
 use Rattle.meaning.specs.Layout.{byte, gatAt, entryAt, hitAt, hit, field, setField, takeGranule}
-use Rattle.meaning.specs.Free.{longestFree}
 use Rattle.meaning.specs.Growth.{newExtension, withExtension}
 use Rattle.meaning.specs.declared.Geometry.{Geometry}
-use Rattle.supply.specs.Search.{NextFree}
 use Rattle.growth.specs.Inside.{Inside}
-use Rattle.growth.specs.Choose.{Picked, OnlyGat}
+use Rattle.growth.specs.Choose.{OnlyGat}
 
 module _ (g : Geometry) (p : ℕ) (d : List ℕ) (e x : ℕ) {d₁ : List ℕ} (q : d₁ ≡ sets (set (set d (entryAt g e + 0x1e) 0xfe) (entryAt g e + 0x1f) x) (entryAt g x) (newExtension g p e)) where
   pub extension-put : set d₁ (hitAt g x) (getD d (hitAt g p) 0) ≡ withExtension g p d e x
@@ -87,12 +85,3 @@ put-back g d d₂ z {d₃} {s} o h lz e q =
     let c₃ : take A d₂ ++ W ++ drop (A + length W) d₂ ≡ take A d ++ W ++ drop (A + 192) d = ap₂ (λ (x y : List ℕ). x ++ W ++ y) (o .below) c₂ in
     let c₄ : W ++ drop (A + 192) d ≡ drop A d = ap (λ (x : List ℕ). W ++ x) (sym (drop-drop 192 A d)) ∙ take-append-drop 192 (drop A d) in
     q ∙ ap (λ (x : List ℕ). sets d₂ A x) s₄ ∙ c₁ ∙ c₃ ∙ append-assoc (take A d) W (drop (A + 192) d) ∙ ap (λ (x : List ℕ). take A d ++ x) c₄ ∙ take-append-drop A d
-
--- Where a new run starts
-pub picked-first : (g : Geometry) (d : List ℕ) (b : Bool) {next n : ℕ} → b ≡ true → NextFree g d next 0 0 n → Picked g d b next (record { at = n; next = n + 1 })
-picked-first g d true e w = record { first = λ _. (w, refl); second = λ z. absurd (let y : _≡_ {A = ℕ} 0 1 = ap (λ (b : Bool). cond b 1 0) (sym z) in let x : ⊥ = omega arith in x) }
-picked-first g d false e w = absurd (let y : _≡_ {A = ℕ} 0 1 = ap (λ (b : Bool). cond b 1 0) e in let x : ⊥ = omega arith in x)
-
-pub picked-second : (g : Geometry) (d : List ℕ) (b : Bool) {next n : ℕ} → b ≡ false → n ≡ longestFree g d → Picked g d b next (record { at = n; next = 0 })
-picked-second g d false e w = record { first = λ z. absurd (let y : _≡_ {A = ℕ} 0 1 = ap (λ (b : Bool). cond b 1 0) z in let x : ⊥ = omega arith in x); second = λ _. (w, refl) }
-picked-second g d true e w = absurd (let y : _≡_ {A = ℕ} 0 1 = ap (λ (b : Bool). cond b 1 0) (sym e) in let x : ⊥ = omega arith in x)

@@ -9,9 +9,9 @@ use native.Mathlib.Decide.{ℕ-discrete}
 use lib.ListN.{length, length-set, set, getD, take, drop}
 use lib.Dec.{eqb}
 use lib.Seq.{getD-set-other, take-set-le, drop-set-lt}
-use Rattle.meaning.specs.Lists.{count}
+use Rattle.meaning.specs.Lists.{count, firstOr}
 use Rattle.meaning.specs.Stretch.{stretch, longestIn, lowEnd}
-use Rattle.meaning.specs.Layout.{taken, takeGranule, field, setField, granules, gatAt, entryAt, isSlot, hit, aboveTen, directorySectors, mostBlocks}
+use Rattle.meaning.specs.Layout.{taken, takeGranule, field, setField, granules, gatAt, entryAt, isSlot, hit, aboveTen, directorySectors, mostBlocks, mostGranules}
 use Rattle.meaning.specs.Growth.{tail, lengthens, growBy, grown, fails, diskOr, withPair, withExtension}
 use Rattle.meaning.specs.Free.{freeGranules, freeSlot, permitted}
 use Rattle.meaning.specs.declared.Geometry.{Geometry}
@@ -29,8 +29,9 @@ use Rattle.space.proofs.First.{NoneBelow}
 use Rattle.supply.specs.Search.{Ends, NextSlot}
 use Rattle.supply.specs.declared.Ending.{Ending}
 use Rattle.growth.specs.Inside.{Inside}
-use Rattle.growth.specs.Choose.{choiceBy, OnlyGat, Leaves, Picked}
+use Rattle.growth.specs.Choose.{choiceBy, OnlyGat, Leaves, Known, Picked}
 use Rattle.growth.specs.declared.Chosen.{Chosen}
+use Rattle.growth.proofs.Known.{known-less}
 use Rattle.growth.proofs.Stand.{Stand}
 use Rattle.growth.proofs.Step
 use Rattle.growth.proofs.Growing.{Growing, growing-start, growing-longer, growing-pair, growing-new, growing-stuck, growing-end, Pick, picked, stand-room, stand-slot, ready-slot, not-stuck}
@@ -110,11 +111,21 @@ module _ (t u : ℕ → Bool) where
   low-eq [] h = refl
   low-eq (n ∷ ns) h = rw (stretch-eq (n ∷ ns) h, longest-eq ns (λ m i. h m (Members.In.there i)), low-eq ns (λ m i. h m (Members.In.there i)))
 
+-- and the same choice
+module _ (g : Geometry) (d d′ : List ℕ) where
+  free-eq : ((n : ℕ) → n < granules g → taken g d n ≡ taken g d′ n) → freeGranules g d ≡ freeGranules g d′
+  unfolding freeGranules
+  free-eq h = Members.keep-eq _ _ (count 0 (granules g)) (λ n i. ap not (h n (omega (arith, Members.count-in n 0 (granules g) i))))
+
+  choice-eq : (lowest : Bool) → ((n : ℕ) → n < granules g → taken g d n ≡ taken g d′ n) → choiceBy g lowest d ≡ choiceBy g lowest d′
+  choice-eq true h = ap (firstOr 0) (free-eq h)
+  choice-eq false h = low-eq (taken g d) (taken g d′) (count 0 (granules g)) (λ n i. h n (omega (arith, Members.count-in n 0 (granules g) i)))
+
 module _ (g : Geometry) (p : ℕ) (lowest : Bool) where
   -- the disk d by then: the growth's where the loop writes, else only the GAT is
-  pub record Turning (writes : Bool) (k : ℕ) (d₀ d : List ℕ) (last r a l next slot left : ℕ) : Type 0 where
+  pub record Turning (writes : Bool) (k : ℕ) (d₀ d : List ℕ) (last r a l next most slot left : ℕ) : Type 0 where
     pub now : List ℕ
-    pub growing : Growing g p lowest k d₀ now last r a l next slot left
+    pub growing : Growing g p lowest k d₀ now last r a l next most slot left
     pub alike : (n : ℕ) → n < granules g → taken g d n ≡ taken g now n
     pub beyond : (x : ℕ) → slot ≤ x → freeSlot g d x ≡ freeSlot g now x
     pub room : Room g d
@@ -123,7 +134,7 @@ module _ (g : Geometry) (p : ℕ) (lowest : Bool) where
     pub marked : writes ≡ false → OnlyGat g d₀ d
 
   pub turning-start : {writes : Bool} {k : ℕ} {d : List ℕ} {e : ℕ} {r : Ending} → Ready g d p → e ≡ tail g p d → k ≤ length (freeGranules g d) → Ends g d e r
-      → Turning writes k d d e (r .runs) (r .after) (r .long) 0 0 k
+      → Turning writes k d d e (r .runs) (r .after) (r .long) 0 mostGranules 0 k
   turning-start {d = d} y q h w = record {
     now = d;
     growing = growing-start g p lowest y q h w;
@@ -136,11 +147,11 @@ module _ (g : Geometry) (p : ℕ) (lowest : Bool) where
   }
 
   -- a turn that takes granule m, and stores f in the entries
-  turned : (b : Bool) {k : ℕ} {d₀ d d′ now′ : List ℕ} {last r a l next slot left last′ r′ a′ l′ next′ slot′ left′ m : ℕ}
-      (c : Turning b k d₀ d last r a l next slot left) → Growing g p lowest k d₀ now′ last′ r′ a′ l′ next′ slot′ left′
+  turned : (b : Bool) {k : ℕ} {d₀ d d′ now′ : List ℕ} {last r a l next most slot left last′ r′ a′ l′ next′ most′ slot′ left′ m : ℕ}
+      (c : Turning b k d₀ d last r a l next most slot left) → Growing g p lowest k d₀ now′ last′ r′ a′ l′ next′ most′ slot′ left′
       → Step.Taken g p (choiceBy g lowest) (c .now) now′ m → m < granules g
       → ((x : ℕ) → slot′ ≤ x → freeSlot g now′ x ≡ freeSlot g (c .now) x) → slot ≤ slot′ → (f : List ℕ → List ℕ) → now′ ≡ takeGranule g (f (c .now)) m
-      → d′ ≡ takeGranule g (cond b (f d) d) m → Turning b k d₀ d′ last′ r′ a′ l′ next′ slot′ left′
+      → d′ ≡ takeGranule g (cond b (f d) d) m → Turning b k d₀ d′ last′ r′ a′ l′ next′ most′ slot′ left′
   turned true {d′ = d′} {now′ = now′} {m = m} c y t i s o f e q =
       let z : d′ ≡ now′ = q ∙ ap (λ (x : List ℕ). takeGranule g (f x) m) (c .wrote refl) ∙ sym e in
       record {
@@ -186,7 +197,7 @@ module _ (g : Geometry) (p : ℕ) (lowest : Bool) where
   free-slot-is {d} x q =
       slot-of g d x (Members.T-true (Members.and-l (isSlot g d x) _ (Members.and-l (permitted g d x) _ (Members.true-T {b = freeSlot g d x} q))))
 
-  module _ {writes : Bool} {k : ℕ} {d₀ d : List ℕ} {last r a l next slot left : ℕ} (c : Turning writes k d₀ d last r a l next slot left) where
+  module _ {writes : Bool} {k : ℕ} {d₀ d : List ℕ} {last r a l next most slot left : ℕ} (c : Turning writes k d₀ d last r a l next most slot left) where
     as-long : length (c .now) ≡ length d
     as-long = c .growing .same-long ∙ sym (c .same-long)
 
@@ -224,41 +235,38 @@ module _ (g : Geometry) (p : ℕ) (lowest : Bool) where
 
     -- A turn -------------------------------------------------------------------------------------------------------------------
 
-    pub turn-shut : (32 ≤ l) ⊎ ((granules g ≤ a) ⊎ ((taken g d a ≡ true) ⊎ ((0 ≤ a) × (a < 0)))) → lengthens g p (c .now) ≡ false
+    pub turn-shut : (32 ≤ l) ⊎ ((granules g ≤ a) ⊎ (taken g d a ≡ true)) → lengthens g p (c .now) ≡ false
     turn-shut (inl z) = c .growing .stand .full z
     turn-shut (inr (inl z)) = Step.shut-past g p (choiceBy g lowest) (c .growing .stand) z
-    turn-shut (inr (inr (inl z))) = ⊎-elim
+    turn-shut (inr (inr z)) = ⊎-elim
         (λ (y : granules g ≤ a). Step.shut-past g p (choiceBy g lowest) (c .growing .stand) y)
         (λ (y : a < granules g). Step.shut-taken g p (choiceBy g lowest) (c .growing .stand) (sym (c .alike a y) ∙ z)) (le-or-lt (granules g) a)
-    turn-shut (inr (inr (inr z))) = absurd (let y = z .1 in let w : ⊥ = omega arith in w)
 
     module _ (h : 0 < left) where
-      pub turn-picked : {q : Chosen} → Picked g d lowest next q → Pick g p lowest (c .growing) h (q .at) (q .next)
-      turn-picked {q} w = picked g p lowest (c .growing) h (record {
-        first = λ e.
-            let v = w .first e .0 in (
-              record {
-                low = v .low;
-                high = v .high;
-                passed = λ n i j. ⊎-elim (λ y. inl (sym (c .alike n (let z = v .high in omega arith)) ∙ y)) (λ y. inr y) (v .passed n i j);
-                found = λ i. (sym (c .alike (q .at) i) ∙ v .found i .0, v .found i .1);
-              },
-              w .first e .1,
-            );
-        second = λ e. (w .second e .0 ∙ low-eq (taken g d) (taken g (c .now)) (count 0 (granules g)) (λ n i. c .alike n (omega (arith, Members.count-in n 0 (granules g) i))), w .second e .1);
+      pub turn-picked : {q : Chosen} → Picked g d lowest q → Pick g p lowest (c .growing) h (q .at) (q .most)
+      turn-picked w = picked g p lowest (c .growing) h (record {
+        is = sym (choice-eq g d (c .now) lowest (c .alike)) ∙ w .is;
+        known = known-less g d (c .now) (λ n i e. c .alike n i ∙ e) (w .known);
       })
+
+      pub turn-asks : Room g d × (1 ≤ length (freeGranules g d)) × Known g d lowest next most
+      turn-asks = (
+        c .room,
+        omega (arith, c .growing .room, ap {B = ℕ} length (free-eq g d (c .now) (c .alike))),
+        known-less g (c .now) d (λ n i e. sym (c .alike n i) ∙ e) (c .growing .known),
+      )
 
       pub turn-longer : l < 32 → a < granules g → taken g d a ≡ false → {d′ : List ℕ}
           → d′ ≡ takeGranule g (cond writes (setField g d last (0x17 + 2 * (r - 1)) (field g d last (0x17 + 2 * (r - 1)) + 1)) d) a
-          → Turning writes k d₀ d′ last r (a + 1) (l + 1) next slot (left - 1)
+          → Turning writes k d₀ d′ last r (a + 1) (l + 1) next most slot (left - 1)
       turn-longer u i f q =
           let w = growing-longer g p lowest (c .growing) h u i (sym (c .alike a i) ∙ f) refl in
           turned writes c (w .2) (w .0) i (λ x y. w .1 x) (omega arith)
           (λ x. setField g x last (0x17 + 2 * (r - 1)) (field g x last (0x17 + 2 * (r - 1)) + 1)) refl q
 
-      pub turn-pair : lengthens g p (c .now) ≡ false → r < 4 → {n next′ : ℕ} → Pick g p lowest (c .growing) h n next′ → {d′ : List ℕ}
+      pub turn-pair : lengthens g p (c .now) ≡ false → r < 4 → {n most′ : ℕ} → Pick g p lowest (c .growing) h n most′ → {d′ : List ℕ}
           → d′ ≡ takeGranule g (cond writes (setField g (setField g d last (0x16 + 2 * r) (n / g .units)) last (0x17 + 2 * r) (n % g .units * 32)) d) n
-          → Turning writes k d₀ d′ last (r + 1) (n + 1) 1 next′ slot (left - 1)
+          → Turning writes k d₀ d′ last (r + 1) (n + 1) 1 n most′ slot (left - 1)
       turn-pair u v {n} o q =
           let w = growing-pair g p lowest (c .growing) h u v o refl in
           turned writes c (w .2) (w .0) (o .inside) (λ x y. w .1 x) (omega arith)
@@ -267,11 +275,11 @@ module _ (g : Geometry) (p : ℕ) (lowest : Bool) where
       slots-below : {x : ℕ} → NextSlot g d slot x → NoneBelow (freeSlot g (c .now)) x
       slots-below w m b = ⊎-elim (λ (z : slot ≤ m). sym (c .beyond m z) ∙ w .passed m z b) (λ (z : m < slot). c .growing .slots m z) (le-or-lt slot m)
 
-      pub turn-new : lengthens g p (c .now) ≡ false → 4 ≤ r → {n next′ x : ℕ} → Pick g p lowest (c .growing) h n next′ → NextSlot g d slot x → (x ≡ 256 → ⊥)
+      pub turn-new : lengthens g p (c .now) ≡ false → 4 ≤ r → {n most′ x : ℕ} → Pick g p lowest (c .growing) h n most′ → NextSlot g d slot x → (x ≡ 256 → ⊥)
           → {d₁ d₂ : List ℕ} → d₁ ≡ cond writes (withExtension g p d last x) d
           → d₂ ≡ takeGranule g (cond writes (setField g (setField g d₁ x (0x16 + 2 * 0) (n / g .units)) x (0x17 + 2 * 0) (n % g .units * 32)) d₁) n
-          → Turning writes k d₀ d₂ x 1 (n + 1) 1 next′ (x + 1) (left - 1)
-      turn-new u v {n} {next′} {x} o s ne q₁ q₂ =
+          → Turning writes k d₀ d₂ x 1 (n + 1) 1 n most′ (x + 1) (left - 1)
+      turn-new u v {n} {most′} {x} o s ne q₁ q₂ =
           let hx = s .high in let lx = s .low in
           let i : x < 256 = omega arith in
           let w = growing-new g p lowest (c .growing) h u v o i (slots-below s) (sym (c .beyond x (s .low)) ∙ s .found i) refl in

@@ -12,12 +12,12 @@ ghost use Rattle.meaning.specs.Refusals.{first, accepted, cannotGrow, larger, l
 ghost use Rattle.laws.specs.Steps.{Ready};
 ghost use Rattle.layout.specs.Room.{Room, Slot};
 ghost use Rattle.growth.specs.Inside.{Inside};
-ghost use Rattle.growth.specs.Choose.{choiceBy, Picked, Leaves};
+ghost use Rattle.growth.specs.Choose.{choiceBy, Known, Picked, Leaves};
 
-// Where a new run starts, and below which granule none is free then.
+// Where a new run starts; by the second choice, how long the stretch there is.
 pub struct Chosen {
     pub at: usize,
-    pub next: usize,
+    pub most: usize,
 }
 
 // A run is 1 to 32 granules.
@@ -25,6 +25,9 @@ const MOST_RUN: usize = 32;
 
 // An entry has four pairs.
 const PAIRS: usize = 4;
+
+// No free stretch has more granules than the largest disk.
+const MOST_GRANULES: usize = 1536;
 
 // One further granule, m, in pair k of the entry at slot e: in the GAT, and in the entry where it writes.
 fn put_longer(image: &mut [u8], g: Geometry, e: usize, k: usize, m: usize, writes: bool)
@@ -113,18 +116,30 @@ fn put_extension(image: &mut [u8], g: Geometry, p: usize, e: usize, x: usize, wr
     image[256 * (g.start + 1) + x] = hash;
 }
 
-// Where a new run starts: at the lowest free granule, of which none is below `next`, or at the low end of the longest free stretch.
-fn choose(image: &[u8], g: Geometry, next: usize, lowest: bool) -> Chosen
-    requires { ⌜ Room g (now image) × (next ≤ granules g) ⌝ }
-    ensures { λ r. ⌜ Picked g (now (image .entry)) lowest next r ⌝ }
+// Where a new run starts: at the lowest free granule, of which none is below `next`; or at the low end of the longest free stretch, of which none
+// has more than `most` granules, and none of so many starts below `next`. No stretch gets longer as granules are taken: so the next one as long
+// is looked for upwards, and all of the disk only where there is none.
+fn choose(image: &[u8], g: Geometry, next: usize, most: usize, lowest: bool) -> Chosen
+    requires { ⌜ Room g (now image) × (1 ≤ length (freeGranules g (now image))) × Known g (now image) lowest next most ⌝ }
+    ensures { λ r. ⌜ Picked g (now (image .entry)) lowest r ⌝ }
 {
     if lowest {
-        let n = supply::next_free(image, g, next, 0, 0);
-        return Chosen { at: n, next: n + 1 };
+        return Chosen {
+            at: supply::next_free(image, g, next),
+            most,
+        };
     }
+    let s = supply::longest_from(image, g, next, most);
+    if most <= s.long {
+        return Chosen {
+            at: s.low,
+            most: s.long,
+        };
+    }
+    let t = supply::longest_from(image, g, 0, most);
     Chosen {
-        at: supply::longest_low(image, g),
-        next: 0,
+        at: t.low,
+        most: t.long,
     }
 }
 
@@ -149,21 +164,23 @@ fn take_granules(
     let mut after = end.after;
     let mut long = end.long;
     let mut next = 0;
+    let mut most = MOST_GRANULES;
     let mut slot = 0;
     let mut left = k;
     while 0 < left {
         left -= 1;
         if long < MOST_RUN {
-            if supply::is_clear(image, g, after, 0, 0) {
+            if supply::is_clear(image, g, after) {
                 put_longer(image, g, last, runs - 1, after, writes);
                 after += 1;
                 long += 1;
                 continue;
             }
         }
-        let c = choose(image, g, next, lowest);
+        let c = choose(image, g, next, most, lowest);
         let n = c.at;
-        next = c.next;
+        next = n;
+        most = c.most;
         after = n + 1;
         long = 1;
         if runs < PAIRS {
@@ -184,14 +201,21 @@ fn take_granules(
     false
 }
 
-// Whether k further granules find too few slots by that choice: the growth on paper. The GAT is put back as it was. Where the last entry has
-// a pair for each of them nothing is tried.
+// Whether k further granules find too few slots by that choice: the growth on paper. The GAT is put back as it was. Nothing is tried where the
+// last entry has a pair for each of them, but for those that lengthen the last run.
 fn too_few_slots(image: &mut [u8], g: Geometry, p: usize, e: usize, k: usize, lowest: bool) -> bool
     requires { ⌜ Ready g (now image) p × (e ≡ tail g p (now image)) × (k ≤ length (freeGranules g (now image))) ⌝ }
     ensures { λ r. ⌜ (r ≡ fails (growBy g p (choiceBy g lowest) k (now (image .entry)))) × (now (image .exit) ≡ now (image .entry)) ⌝ }
 {
-    if k <= PAIRS - layout::runs(image, g, e) {
+    let pairs = PAIRS - layout::runs(image, g, e);
+    if k <= pairs {
         return false;
+    }
+    let end = supply::last_run(image, g, e);
+    if k - pairs <= MOST_RUN - end.long {
+        if supply::all_clear(image, g, end.after, k - pairs) {
+            return false;
+        }
     }
     let mut gat = [0u8; 192];
     copy::put_part(&mut gat, 0, image, 256 * g.start, 192);

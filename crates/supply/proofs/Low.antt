@@ -1,92 +1,174 @@
--- The low end of the longest free stretch, from the last granule down.
-use mathlib.Core.Path.{_≡_, refl, ap, ap₂, sym, _∙_, subst}
-use mathlib.Core.Bool.{Bool, true, false, cond}
-use mathlib.Core.List.{List, [], _∷_}
-use Prim.Native.Nat.{ℕ, suc, _+_, _-_, _≤_, _<_, max}
+-- The longest free stretch, from a granule upwards; and whether so many granules are free.
+use mathlib.Core.Path.{_≡_, refl, ap, sym, _∙_}
+use mathlib.Core.Logic.{_⊎_, inl, inr, ⊎-elim}
+use mathlib.Core.Bool.{Bool, true, false, not, cond}
+use mathlib.Core.List.{List}
+use Prim.Native.Nat.{ℕ, zero, suc, _+_, _-_, _≤_, _<_}
 use native.Mathlib.Omega.{arith}
-use lib.Dec.{leb}
-use borrow.Author.Tests.{le-leb, lt-leb}
-use Rattle.meaning.specs.Lists.{count}
-use Rattle.meaning.specs.Stretch.{stretch, longestIn, lowEnd}
+use native.Mathlib.Decide.{ℕ-discrete}
+use Rattle.meaning.specs.Layout.{granules, taken}
+use Rattle.meaning.specs.declared.Geometry.{Geometry}
+use Rattle.layout.proofs.Lists.{le-or-lt}
+use Rattle.supply.specs.Search.{Clear, Stretch, AllClear, LongestFrom}
+use Rattle.supply.specs.declared.Found.{Found}
 
-module _ (taken : ℕ → Bool) where
-  step-stretch : (n : ℕ) (ns : List ℕ) → stretch taken (n ∷ ns) ≡ cond (taken n) 0 (suc (stretch taken ns))
-  unfolding stretch
-  step-stretch n ns = refl
+differ : {b : Bool} → b ≡ true → b ≡ false → ⊥
+differ e q = let z : _≡_ {A = ℕ} 0 1 = ap (λ (b : Bool). cond b 0 1) (sym e ∙ q) in omega arith
 
-  step-longest : (n : ℕ) (ns : List ℕ) → longestIn taken (n ∷ ns) ≡ max (stretch taken (n ∷ ns)) (longestIn taken ns)
-  unfolding longestIn
-  step-longest n ns = refl
+module _ (g : Geometry) (d : List ℕ) where
+  -- a granule of a free stretch that is taken, or off the disk
+  within : (i n : ℕ) → Stretch g d i n → (m : ℕ) → i ≤ m → m < i + n → taken g d m ≡ true → ⊥
+  within i n s m a b t = differ t (s m a b .1)
 
-  step-low : (n : ℕ) (ns : List ℕ) → lowEnd taken (n ∷ ns) ≡ cond (leb (longestIn taken ns) (stretch taken (n ∷ ns))) n (lowEnd taken ns)
-  unfolding lowEnd
-  step-low n ns = refl
+  ends : (i n : ℕ) → Stretch g d i n → 0 < n → i + n ≤ granules g
+  ends i n s h = let q = s (i + n - 1) (omega arith) (omega arith) .0 in omega arith
 
-  -- the granules from n up to total
-  pub record Low (total n here longest low : ℕ) : Type 0 where
-    pub inside : n ≤ total
-    pub here-is : stretch taken (count n (total - n)) ≡ here
-    pub longest-is : longestIn taken (count n (total - n)) ≡ longest
-    pub low-is : lowEnd taken (count n (total - n)) ≡ low
-    pub small : here ≤ total - n
+  part : (i n j m : ℕ) → Stretch g d i n → i ≤ j → j + m ≤ i + n → Stretch g d j m
+  part i n j m s a b k x y = s k (omega arith) (omega arith)
 
-  pub low-start : {total : ℕ} → Low total total 0 0 0
-  unfolding stretch longestIn lowEnd
-  low-start {total} =
-      let e : total - total ≡ 0 = omega arith in
-      record {
-        inside = omega arith;
-        here-is = ap (λ (k : ℕ). stretch taken (count total k)) e;
-        longest-is = ap (λ (k : ℕ). longestIn taken (count total k)) e;
-        low-is = ap (λ (k : ℕ). lowEnd taken (count total k)) e;
-        small = omega arith;
+  -- The granules from `from` up to n are looked at. The last `here` of them are free, and no more; `long` from `low` on are the longest stretch.
+  pub record Low (from n here low long : ℕ) : Type 0 where
+    pub start : from + here ≤ n
+    pub high : n ≤ granules g
+    pub last : Stretch g d (n - here) here
+    pub edge : (i : ℕ) → from ≤ i → i ≤ n → Stretch g d i (n - i) → n - here ≤ i
+    pub best : Stretch g d low long
+    pub inside : low + long ≤ n
+    pub longest : (i k : ℕ) → from ≤ i → i + k ≤ n → Stretch g d i k → k ≤ long
+    pub lower : (i : ℕ) → from ≤ i → i + long ≤ n → Stretch g d i long → low ≤ i
+    pub short : here ≤ long
+
+  pub low-start : {from : ℕ} → from ≤ granules g → Low from from 0 from 0
+  low-start h = record {
+    start = omega arith;
+    high = h;
+    last = λ k a b. absurd (let z : ⊥ = omega arith in z);
+    edge = λ i a b s. omega arith;
+    best = λ k a b. absurd (let z : ⊥ = omega arith in z);
+    inside = omega arith;
+    longest = λ i k a b s. omega arith;
+    lower = λ i a b s. a;
+    short = omega arith;
+  }
+
+  module _ {from n here low long : ℕ} (c : Low from n here low long) (h : n < granules g) where
+    pub low-taken : taken g d n ≡ true → Low from (n + 1) 0 low long
+    low-taken t = record {
+      start = omega (arith, c .start);
+      high = omega arith;
+      last = λ k a b. absurd (let z : ⊥ = omega arith in z);
+      edge = λ i a b s. ⊎-elim (λ (q : i ≤ n). absurd (within i (n + 1 - i) s n q (omega arith) t)) (λ (q : n < i). omega arith) (le-or-lt i n);
+      best = c .best;
+      inside = omega (arith, c .inside);
+      longest = λ i k a b s. ⊎-elim (λ (q : i + k ≤ n). c .longest i k a q s) (λ (q : n < i + k). one i k b q s) (le-or-lt (i + k) n);
+      lower = λ i a b s. ⊎-elim (λ (q : i + long ≤ n). c .lower i a q s) (λ (q : n < i + long). omega (arith, c .inside)) (le-or-lt (i + long) n);
+      short = omega arith;
+    }
+      where
+        one : (i k : ℕ) → i + k ≤ n + 1 → n < i + k → Stretch g d i k → k ≤ long
+        one i zero b q s = omega arith
+        one i (suc k) b q s = absurd (within i (suc k) s n (omega arith) q t)
+
+    module _ (t : taken g d n ≡ false) where
+      last′ : Stretch g d (n + 1 - (here + 1)) (here + 1)
+      last′ k a b = go (ℕ-discrete k n)
+        where
+          go : Dec (k ≡ n) → (k < granules g) × (taken g d k ≡ false)
+          go (yes q) = rw q (h, t)
+          go (no q) = let z = c .start in c .last k (omega arith) (omega arith)
+
+      -- a stretch that ends with granule n
+      back : (i : ℕ) → from ≤ i → i ≤ n → Stretch g d i (n + 1 - i) → n - here ≤ i
+      back i a b s = c .edge i a b (part i (n + 1 - i) i (n - i) s (omega arith) (omega arith))
+
+      edge′ : (i : ℕ) → from ≤ i → i ≤ n + 1 → Stretch g d i (n + 1 - i) → n + 1 - (here + 1) ≤ i
+      edge′ i a b s = ⊎-elim (λ (q : i ≤ n). omega (arith, back i a q s)) (λ (q : n < i). omega arith) (le-or-lt i n)
+
+      -- none from `from` on that ends by then is longer than both
+      most′ : (i k : ℕ) → from ≤ i → i + k ≤ n + 1 → Stretch g d i k → (k ≤ long) ⊎ ((k ≤ here + 1) × (n < i + k))
+      most′ i k a b s = ⊎-elim (λ (q : i + k ≤ n). inl (c .longest i k a q s)) (λ (q : n < i + k). go k b q s) (le-or-lt (i + k) n)
+        where
+          go : (k : ℕ) → i + k ≤ n + 1 → n < i + k → Stretch g d i k → (k ≤ long) ⊎ ((k ≤ here + 1) × (n < i + k))
+          go zero b q s = inl (omega arith)
+          go (suc k) b q s = let z = back i a (omega arith) (part i (suc k) i (n + 1 - i) s (omega arith) (omega arith)) in let w = c .start in inr (omega arith, q)
+
+      pub low-shorter : here + 1 ≤ long → Low from (n + 1) (here + 1) low long
+      low-shorter l = record {
+        start = omega (arith, c .start);
+        high = omega arith;
+        last = last′;
+        edge = edge′;
+        best = c .best;
+        inside = omega (arith, c .inside);
+        longest = λ i k a b s. ⊎-elim (λ (q : k ≤ long). q) (λ q. let z = q .0 in omega arith) (most′ i k a b s);
+        lower = λ i a b s. ⊎-elim (λ (q : i + long ≤ n). c .lower i a q s) (λ (q : n < i + long). omega (arith, c .inside)) (le-or-lt (i + long) n);
+        short = l;
       }
 
-  module _ {total n here longest low : ℕ} (c : Low total n here longest low) (h : 0 < n) {t : Bool} {here′ : ℕ} (e : t ≡ taken (n - 1)) (q : here′ ≡ cond t 0 (here + 1)) where
-    more : count (n - 1) (total - (n - 1)) ≡ (n - 1) ∷ count n (total - n)
-    more =
-        let i = c .inside in
-        let u : total - (n - 1) ≡ suc (total - n) = omega arith in let v : n - 1 + 1 ≡ n = omega arith in
-        ap (λ (k : ℕ). count (n - 1) k) u ∙ ap (λ (k : ℕ). (n - 1) ∷ count k (total - n)) v
+      pub low-longer : long < here + 1 → Low from (n + 1) (here + 1) (n + 1 - (here + 1)) (here + 1)
+      low-longer l =
+          let w = c .start in let v = c .short in
+          record {
+            start = omega arith;
+            high = omega arith;
+            last = last′;
+            edge = edge′;
+            best = last′;
+            inside = omega arith;
+            longest = λ i k a b s. ⊎-elim (λ (q : k ≤ long). omega arith) (λ q. q .0) (most′ i k a b s);
+            lower = λ i a b s. ⊎-elim (λ (q : here + 1 ≤ long). absurd (let z : ⊥ = omega arith in z)) (λ q. let z = q .1 in omega arith) (most′ i (here + 1) a b s);
+            short = omega arith;
+          }
 
-    here-next : stretch taken (count (n - 1) (total - (n - 1))) ≡ here′
-    here-next =
-        let s : suc here ≡ here + 1 = omega arith in
-        ap (stretch taken) more ∙ step-stretch (n - 1) (count n (total - n))
-        ∙ ap₂ (λ (b : Bool) (k : ℕ). cond b 0 k) (sym e) (ap suc (c .here-is) ∙ s) ∙ sym q
+  -- all that starts behind is higher, and ends behind
+  higher : {from n here low long : ℕ} → Low from n here low long → (i : ℕ) → from ≤ i → Stretch g d i long → low ≤ i
+  higher {from} {n} {here} {low} {long} c i a s = ⊎-elim (λ (q : i + long ≤ n). c .lower i a q s) (λ (q : n < i + long). omega (arith, c .inside)) (le-or-lt (i + long) n)
 
-    small-next : (b : Bool) → t ≡ b → here′ ≤ total - (n - 1)
-    small-next true f = let z : here′ ≡ 0 = q ∙ ap (λ (b : Bool). cond b 0 (here + 1)) f in omega arith
-    small-next false f = let z : here′ ≡ here + 1 = q ∙ ap (λ (b : Bool). cond b 0 (here + 1)) f in let s = c .small in let i = c .inside in omega arith
+  pub low-found : {from n here low long most : ℕ} → Low from n here low long → most ≤ long → LongestFrom g d from most (record { low = low; long = long })
+  low-found c h = record { free = c .best; longest = λ i n a s. inr h; lower = higher c }
 
-    here-cons : stretch taken ((n - 1) ∷ count n (total - n)) ≡ here′
-    here-cons = sym (ap (stretch taken) more) ∙ here-next
+  pub low-done : {from n here low long most : ℕ} → Low from n here low long → granules g ≤ n → LongestFrom g d from most (record { low = low; long = long })
+  low-done {from} {n} {here} {low} {long} c h = record { free = c .best; longest = λ i k a s. inl (go i k a s); lower = higher c }
+    where
+      go : (i k : ℕ) → from ≤ i → Stretch g d i k → k ≤ long
+      go i zero a s = omega arith
+      go i (suc k) a s = let z = ends i (suc k) s (omega arith) in c .longest i (suc k) a (omega arith) s
 
-    longest-next : longestIn taken (count (n - 1) (total - (n - 1))) ≡ max here′ longest
-    longest-next = ap (longestIn taken) more ∙ step-longest (n - 1) (count n (total - n)) ∙ ap₂ max here-cons (c .longest-is)
+  -- So many granules free: those from n up to i are ---------------------------------------------------------------------------------
 
-    low-next : lowEnd taken (count (n - 1) (total - (n - 1))) ≡ cond (leb longest here′) (n - 1) low
-    low-next =
-        ap (lowEnd taken) more ∙ step-low (n - 1) (count n (total - n))
-        ∙ ap₂ (λ (b : Bool) (k : ℕ). cond b (n - 1) k) (ap₂ leb (c .longest-is) here-cons) (c .low-is)
+  pub record Clearing (n many i left : ℕ) : Type 0 where
+    pub sum : i + left ≡ n + many
+    pub low : n ≤ i
+    pub passed : Stretch g d n (i - n)
 
-    pub low-stays : here′ < longest → Low total (n - 1) here′ longest low
-    low-stays l = record {
-      inside = let i = c .inside in omega arith;
-      here-is = here-next;
-      longest-is = longest-next ∙ omega arith;
-      low-is = low-next ∙ ap (λ (b : Bool). cond b (n - 1) low) (lt-leb longest here′ l);
-      small = small-next t refl;
-    }
+  pub clear-inside : {i : ℕ} {r : Bool} → Clear g d i r → not r ≡ false → i < granules g
+  clear-inside {r = true} w e = w .yes refl .0
+  clear-inside {r = false} w e = absurd (differ refl e)
 
-    pub low-here : longest ≤ here′ → Low total (n - 1) here′ here′ (n - 1)
-    low-here l = record {
-      inside = let i = c .inside in omega arith;
-      here-is = here-next;
-      longest-is = longest-next ∙ omega arith;
-      low-is = low-next ∙ ap (λ (b : Bool). cond b (n - 1) low) (le-leb longest here′ l);
-      small = small-next t refl;
-    }
+  pub clearing-start : {n many : ℕ} → Clearing n many n many
+  clearing-start = record { sum = omega arith; low = omega arith; passed = λ k a b. absurd (let z : ⊥ = omega arith in z) }
 
-  pub low-done : {total n here longest low : ℕ} → Low total n here longest low → n ≤ 0 → low ≡ lowEnd taken (count 0 total)
-  low-done {total} {n} c h = let z : n ≡ 0 = omega arith in let y : total - 0 ≡ total = omega arith in sym (c .low-is) ∙ ap (λ (k : ℕ). lowEnd taken (count k (total - k))) z ∙ ap (λ (k : ℕ). lowEnd taken (count 0 k)) y
+  pub clearing-step : {n many i left : ℕ} {r : Bool} → Clearing n many i left → 0 < left → Clear g d i r → not r ≡ false → Clearing n many (i + 1) (left - 1)
+  clearing-step {n = n} {many = many} {i = i} {left = left} {r = true} c h w e = record {
+    sum = omega (arith, c .sum);
+    low = omega (arith, c .low);
+    passed = λ k a b. go k a b (ℕ-discrete k i);
+  }
+    where
+      go : (k : ℕ) → n ≤ k → k < n + (i + 1 - n) → Dec (k ≡ i) → (k < granules g) × (taken g d k ≡ false)
+      go k a b (yes q) = rw q (w .yes refl)
+      go k a b (no q) = let z = c .low in c .passed k a (omega arith)
+  clearing-step {r = false} c h w e = absurd (differ refl e)
+
+  pub clearing-stop : {n many i left : ℕ} {r : Bool} → Clearing n many i left → 0 < left → Clear g d i r → not r ≡ true → AllClear g d n many false
+  clearing-stop {r = true} c h w e = absurd (differ e refl)
+  clearing-stop {n = n} {many = many} {i = i} {left = left} {r = false} c h w e = record {
+    yes = λ q. absurd (differ q refl);
+    no = λ q s. let z = s i (c .low) (omega (arith, c .sum)) in ⊎-elim (λ (y : granules g ≤ i). let x = z .0 in omega arith) (λ y. differ y (z .1)) (w .no refl);
+  }
+
+  pub clearing-end : {n many i left : ℕ} → Clearing n many i left → left ≤ 0 → AllClear g d n many true
+  clearing-end {n} {many} {i} {left} c h = record {
+    yes = λ q k a b. c .passed k a (omega (arith, c .sum, c .low));
+    no = λ q. absurd (differ refl q);
+  }

@@ -1,14 +1,14 @@
 -- The searches of a growth, one element a turn.
 use mathlib.Core.Path.{_≡_, ap, sym, _∙_}
-use mathlib.Core.Logic.{_⊎_, inl, inr, ⊎-elim}
-use mathlib.Core.Bool.{true, false}
+use mathlib.Core.Logic.{inl, inr, ⊎-elim}
+use mathlib.Core.Bool.{Bool, true, false, not}
 use mathlib.Core.List.{List, [], _∷_}
 use Prim.Native.Nat.{ℕ, _+_, _*_, _/_, _%_, _≤_, _<_}
 use native.Mathlib.Omega.{arith}
 use native.Mathlib.Nat.{add-zero, add-mul, one-mul, div-add-mod', div-lt-iff-lt-mul, mul-le-mul-right}
 use native.Mathlib.Decide.{ℕ-discrete}
-use lib.Dec.{eqb, leb}
-use borrow.Author.Tests.{eqb-true, leb-true, leb-false}
+use lib.Dec.{eqb}
+use borrow.Author.Tests.{eqb-true}
 use Rattle.meaning.specs.Lists.{count, every, all}
 use Rattle.meaning.specs.Layout.{granules, taken}
 use Rattle.meaning.specs.Free.{freeSlot}
@@ -19,30 +19,30 @@ use Rattle.supply.specs.Search.{Clear, NextFree, NextSlot}
 module _ (g : Geometry) (d : List ℕ) where
   -- The next free granule: all from `from` up to n passed -------------------------------------------------------------------------
 
-  pub record Passing (from lo hi n total : ℕ) : Type 0 where
+  pub record Passing (from n total : ℕ) : Type 0 where
     pub low : from ≤ n
     pub high : n ≤ total
-    pub passed : (m : ℕ) → from ≤ m → m < n → (taken g d m ≡ true) ⊎ ((lo ≤ m) × (m < hi))
+    pub passed : (m : ℕ) → from ≤ m → m < n → taken g d m ≡ true
 
-  pub passing-start : {from lo hi total : ℕ} → from ≤ total → Passing from lo hi from total
+  pub passing-start : {from total : ℕ} → from ≤ total → Passing from from total
   passing-start h = record { low = omega arith; high = h; passed = λ m a b. absurd (let z : ⊥ = omega arith in z) }
 
-  pub passing-step : {from lo hi n total : ℕ} → Passing from lo hi n total → n < total → (taken g d n ≡ true) ⊎ ((lo ≤ n) × (n < hi)) → Passing from lo hi (n + 1) total
-  passing-step {from} {lo} {hi} {n} {total} w h t = record {
+  pub passing-step : {from n total : ℕ} → Passing from n total → n < total → taken g d n ≡ true → Passing from (n + 1) total
+  passing-step {from} {n} {total} w h t = record {
     low = omega (arith, w .low);
     high = omega arith;
     passed = λ m a b. go m a b (ℕ-discrete m n);
   }
     where
-      go : (m : ℕ) → from ≤ m → m < n + 1 → Dec (m ≡ n) → (taken g d m ≡ true) ⊎ ((lo ≤ m) × (m < hi))
+      go : (m : ℕ) → from ≤ m → m < n + 1 → Dec (m ≡ n) → taken g d m ≡ true
       go m a b (yes q) = rw q t
       go m a b (no q) = w .passed m a (omega arith)
 
   -- a block that begins with n and is taken
-  pub passing-block : {from lo hi n total : ℕ} → 0 < g .units → Passing from lo hi n total → n < total → total ≡ granules g
-      → all (eqb (n % g .units) 0 ∷ every (taken g d) (count n (g .units)) ∷ []) ≡ true → Passing from lo hi (n + g .units) total
+  pub passing-block : {from n total : ℕ} → 0 < g .units → Passing from n total → n < total → total ≡ granules g
+      → all (eqb (n % g .units) 0 ∷ every (taken g d) (count n (g .units)) ∷ []) ≡ true → Passing from (n + g .units) total
   unfolding granules
-  passing-block {from} {lo} {hi} {n} {total} some w h e t =
+  passing-block {from} {n} {total} some w h e t =
       let z = eqb-true (n % g .units) 0 (all-at _ t 0) in
       let q : n / g .units * g .units ≡ n = sym (add-zero _) ∙ ap (λ (k : ℕ). n / g .units * g .units + k) (sym z) ∙ div-add-mod' n (g .units) in
       let b : n / g .units < g .blocks = div-lt-iff-lt-mul some .1 (omega arith) in
@@ -51,13 +51,13 @@ module _ (g : Geometry) (d : List ℕ) where
       record {
         low = omega (arith, w .low);
         high = omega arith;
-        passed = λ m a b. ⊎-elim (λ l. inl (every-count (taken g d) n (g .units) m (all-at _ t 1) l b)) (λ l. w .passed m a l) (le-or-lt n m);
+        passed = λ m a b. ⊎-elim (λ l. every-count (taken g d) n (g .units) m (all-at _ t 1) l b) (λ l. w .passed m a l) (le-or-lt n m);
       }
 
-  pub passing-found : {from lo hi n total : ℕ} → Passing from lo hi n total → total ≡ granules g → taken g d n ≡ false → (n < lo) ⊎ (hi ≤ n) → NextFree g d from lo hi n
-  passing-found w e t o = record { low = w .low; high = rw e at (w .high); passed = w .passed; found = λ h. (t, o) }
+  pub passing-found : {from n total : ℕ} → Passing from n total → total ≡ granules g → taken g d n ≡ false → NextFree g d from n
+  passing-found w e t = record { low = w .low; high = rw e at (w .high); passed = w .passed; found = λ h. t }
 
-  pub passing-end : {from lo hi n total : ℕ} → Passing from lo hi n total → total ≡ granules g → total ≤ n → NextFree g d from lo hi n
+  pub passing-end : {from n total : ℕ} → Passing from n total → total ≡ granules g → total ≤ n → NextFree g d from n
   passing-end w e h = record { low = w .low; high = rw e at (w .high); passed = w .passed; found = λ q. absurd (let z : ⊥ = omega arith in z) }
 
   -- The next free slot ----------------------------------------------------------------------------------------------------------
@@ -92,14 +92,9 @@ module _ (g : Geometry) (d : List ℕ) where
   differ : true ≡ false → ⊥
   differ q = let z : _≡_ {A = ℕ} 0 1 = cc in omega arith
 
-  pub clear-off : {n lo hi total : ℕ} → total ≡ granules g → total ≤ n → Clear g d n lo hi false
+  pub clear-off : {n total : ℕ} → total ≡ granules g → total ≤ n → Clear g d n false
   clear-off e h = record { yes = λ q. absurd (differ (sym q)); no = λ q. inl (omega arith) }
 
-  pub clear-taken : {n lo hi : ℕ} → taken g d n ≡ true → Clear g d n lo hi false
-  clear-taken t = record { yes = λ q. absurd (differ (sym q)); no = λ q. inr (inl t) }
-
-  pub clear-below : {n lo hi total : ℕ} → total ≡ granules g → n < total → taken g d n ≡ false → n < lo → Clear g d n lo hi true
-  clear-below e h t l = record { yes = λ q. (omega arith, t, inl l); no = λ q. absurd (differ q) }
-
-  pub clear-from : {n lo hi total : ℕ} → total ≡ granules g → n < total → taken g d n ≡ false → lo ≤ n → Clear g d n lo hi (leb hi n)
-  clear-from {n} {lo} {hi} e h t l = record { yes = λ q. (omega arith, t, inr (leb-true hi n q)); no = λ q. inr (inr (l, leb-false hi n q)) }
+  pub clear-at : {n total : ℕ} {t : Bool} → total ≡ granules g → n < total → t ≡ taken g d n → Clear g d n (not t)
+  clear-at {t = true} e h q = record { yes = λ z. absurd (differ (sym z)); no = λ z. inr (sym q) }
+  clear-at {t = false} e h q = record { yes = λ z. (omega arith, sym q); no = λ z. absurd (differ z) }

@@ -1,19 +1,24 @@
 // What a growth looks for: the granule and the slot that come next, and whether there are enough of both. The disk stays as it is.
 use meaning::Geometry;
 ghost use mathlib.Core.Path.{_≡_};
-ghost use mathlib.Core.Bool.{cond};
-ghost use Prim.Native.Nat.{_+_, _≤_, _<_};
+ghost use Prim.Native.Nat.{_≤_};
 ghost use lib.ListN.{length};
 ghost use lib.Dec.{ltb};
-ghost use Rattle.meaning.specs.Layout.{granules, mostGranules};
-ghost use Rattle.meaning.specs.Free.{freeGranules, longestFree};
+ghost use Rattle.meaning.specs.Layout.{granules};
+ghost use Rattle.meaning.specs.Free.{freeGranules};
 ghost use Rattle.layout.specs.Room.{Room, Slot};
-ghost use Rattle.supply.specs.Search.{Ends, Clear, NextFree, NextSlot};
+ghost use Rattle.supply.specs.Search.{Ends, Clear, AllClear, NextFree, LongestFrom, NextSlot};
 
 // The runs of an entry; the granule after the last of them, and how long that one is. `long` is 32 where there is none.
 pub struct Ending {
     pub runs: usize,
     pub after: usize,
+    pub long: usize,
+}
+
+// A free stretch: its lowest granule, and how many it has.
+pub struct Found {
+    pub low: usize,
     pub long: usize,
 }
 
@@ -34,10 +39,10 @@ pub fn too_few(image: &[u8], g: Geometry, k: usize) -> bool
     n < k
 }
 
-// The lowest granule from `from` on that is clear in the GAT and is none of lo to hi. A block that is taken is one step.
-pub fn next_free(image: &[u8], g: Geometry, from: usize, lo: usize, hi: usize) -> usize
+// The lowest granule from `from` on that is clear in the GAT. A block that is taken is one step.
+pub fn next_free(image: &[u8], g: Geometry, from: usize) -> usize
     requires { ⌜ Room g (now image) × (from ≤ granules g) ⌝ }
-    ensures { λ r. ⌜ NextFree g (now (image .entry)) from lo hi r ⌝ }
+    ensures { λ r. ⌜ NextFree g (now (image .entry)) from r ⌝ }
 {
     let total = layout::granules(g);
     let mut n = from;
@@ -47,48 +52,41 @@ pub fn next_free(image: &[u8], g: Geometry, from: usize, lo: usize, hi: usize) -
             continue;
         }
         if !layout::taken(image, g, n) {
-            if n < lo {
-                return n;
-            }
-            if hi <= n {
-                return n;
-            }
+            return n;
         }
         n += 1;
     }
     n
 }
 
-// The stretch of free granules that starts at a granule, from the one that starts at the next.
-fn stretch_from(taken: bool, next: usize) -> usize
-    requires { ⌜ next < mostGranules ⌝ }
-    ensures { λ r. ⌜ r ≡ cond taken 0 (next + 1) ⌝ }
+// The longest free stretch from `from` on, the lower of two as long. The first of `most` granules ends the search.
+pub fn longest_from(image: &[u8], g: Geometry, from: usize, most: usize) -> Found
+    requires { ⌜ Room g (now image) × (from ≤ granules g) ⌝ }
+    ensures { λ r. ⌜ LongestFrom g (now (image .entry)) from most r ⌝ }
 {
-    if taken {
-        return 0;
-    }
-    next + 1
-}
-
-// The lowest granule of the longest free stretch, the lower of two as long. From the last granule down, as the definition goes.
-pub fn longest_low(image: &[u8], g: Geometry) -> usize
-    requires { ⌜ Room g (now image) ⌝ }
-    ensures { λ r. ⌜ r ≡ longestFree g (now (image .entry)) ⌝ }
-{
-    let mut n = layout::granules(g);
+    let total = layout::granules(g);
+    let mut n = from;
     let mut here = 0;
-    let mut longest = 0;
-    let mut low = 0;
-    while 0 < n {
-        n -= 1;
-        here = stretch_from(layout::taken(image, g, n), here);
-        if here < longest {
+    let mut low = from;
+    let mut long = 0;
+    while n < total {
+        if layout::taken(image, g, n) {
+            n += 1;
+            here = 0;
             continue;
         }
-        longest = here;
-        low = n;
+        n += 1;
+        here += 1;
+        if here <= long {
+            continue;
+        }
+        long = here;
+        low = n - here;
+        if most <= long {
+            return Found { low, long };
+        }
     }
-    low
+    Found { low, long }
 }
 
 // The first free permitted slot from `from` on.
@@ -132,19 +130,30 @@ pub fn last_run(image: &[u8], g: Geometry, e: usize) -> Ending
     }
 }
 
-// Whether granule n is on the disk, clear in the GAT and none of lo to hi.
-pub fn is_clear(image: &[u8], g: Geometry, n: usize, lo: usize, hi: usize) -> bool
+// Whether granule n is on the disk and clear in the GAT.
+pub fn is_clear(image: &[u8], g: Geometry, n: usize) -> bool
     requires { ⌜ Room g (now image) ⌝ }
-    ensures { λ r. ⌜ Clear g (now (image .entry)) n lo hi r ⌝ }
+    ensures { λ r. ⌜ Clear g (now (image .entry)) n r ⌝ }
 {
     if layout::granules(g) <= n {
         return false;
     }
-    if layout::taken(image, g, n) {
-        return false;
+    !layout::taken(image, g, n)
+}
+
+// Whether granules n to n + many - 1 are on the disk and clear in the GAT.
+pub fn all_clear(image: &[u8], g: Geometry, n: usize, many: usize) -> bool
+    requires { ⌜ Room g (now image) ⌝ }
+    ensures { λ r. ⌜ AllClear g (now (image .entry)) n many r ⌝ }
+{
+    let mut i = n;
+    let mut left = many;
+    while 0 < left {
+        if !is_clear(image, g, i) {
+            return false;
+        }
+        i += 1;
+        left -= 1;
     }
-    if n < lo {
-        return true;
-    }
-    hi <= n
+    true
 }

@@ -1,7 +1,7 @@
 use borrow.Author.Needs.{needs}
 use native.Mathlib.Omega.{arith}
 use Rattle.joint.proofs.Ready.{walks}
-use Rattle.growth.proofs.Turns.{Turning, turning-start, turn-shut, turn-picked, turn-longer, turn-pair, turn-new, turn-stuck, turn-end, at-last, longer-fits, some-runs, new-places, at-new}
+use Rattle.growth.proofs.Turns.{Turning, turning-start, turn-shut, turn-picked, turn-asks, turn-longer, turn-pair, turn-new, turn-stuck, turn-end, at-last, longer-fits, some-runs, new-places, at-new}
 use Rattle.growth.proofs.Growing.{tail-slot}
 use mathlib.Core.Logic.{⊎-elim, inl, inr}
 use Rattle.growth.proofs.take_granules.Statement.{statement}
@@ -17,10 +17,10 @@ use Rattle.supply.proofs.last_run.Reads as last-run-reads
 use Rattle.supply.proofs.next_slot.Reads as next-slot-reads
 
 abbrev Inv-loop : tie.InvT-loop
-Inv-loop image₀ g p e k lowest writes last₀ runs₀ after₀ long₀ next₀ slot₀ left₀ image last runs after long next slot left = Turning g p lowest writes k image₀ image last runs after long next slot left
+Inv-loop image₀ g p e k lowest writes last₀ runs₀ after₀ long₀ next₀ most₀ slot₀ left₀ image last runs after long next most slot left = Turning g p lowest writes k image₀ image last runs after long next most slot left
 
 abbrev μ-loop : tie.MeasureT-loop
-μ-loop image₀ g p e k lowest writes last₀ runs₀ after₀ long₀ next₀ slot₀ left₀ image last runs after long next slot left = left
+μ-loop image₀ g p e k lowest writes last₀ runs₀ after₀ long₀ next₀ most₀ slot₀ left₀ image last runs after long next most slot left = left
 
 last-run-requires : tie.Need-last-run-requires Inv-loop μ-loop
 last-run-requires c κs = (walks _ _ _ (c .before .before .pre .0) .0 .room, tail-slot _ _ (c .before .before .args .lowest) (c .before .before .pre .0) (c .before .before .pre .1))
@@ -53,7 +53,7 @@ loop-again : tie.Need-loop-again Inv-loop μ-loop
 loop-again c = let f = c .before .before .before .before .before .is-clear .ensures .yes (c .before .before .before .before .if2 .taken) in turn-longer _ _ _ (c .before .before .before .before .before .before .before .before .before .loop .inv) (c .before .before .before .before .before .before .before .before .loop-test .taken) (c .before .before .before .before .before .before .before .if1 .taken) (f .0) (f .1) (c .before .before .put-longer .ensures)
 
 choose-requires : tie.Need-choose-requires Inv-loop μ-loop
-choose-requires c κs = (c .before .before .before .loop .inv .room, c .before .before .before .loop .inv .growing .next-low)
+choose-requires c κs = turn-asks _ _ _ (c .before .before .before .loop .inv) (c .before .before .loop-test .taken)
 
 add-after-2 : tie.Need-add-after-2 Inv-loop μ-loop
 add-after-2 c = let b = c .before .before .before .before .loop .inv .room .most in let q = turn-picked _ _ _ (c .before .before .before .before .loop .inv) (c .before .before .before .loop-test .taken) (c .choose .ensures) .inside in omega arith

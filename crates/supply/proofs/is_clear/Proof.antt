@@ -1,5 +1,4 @@
-use Rattle.supply.proofs.Search.{clear-off, clear-taken, clear-below, clear-from}
-use mathlib.Core.Path.{sym, _∙_}
+use Rattle.supply.proofs.Search.{clear-off, clear-at}
 use borrow.Author.Needs.{needs}
 use Rattle.supply.proofs.is_clear.Statement.{statement}
 use Rattle.supply.proofs.is_clear.Tie as tie
@@ -18,14 +17,7 @@ taken-requires : tie.Need-taken-requires
 taken-requires c κs = search needs
 
 returns-2 : tie.Need-returns-2
-returns-2 c = clear-taken _ _ (sym (c .before .taken .ensures) ∙ c .if2 .taken)
-
-returns-3 : tie.Need-returns-3
-returns-3 c = clear-below _ _ (c .before .before .before .before .granules .ensures .0) (c .before .before .before .if1 .left) (sym (c .before .before .taken .ensures) ∙ c .before .if2 .left) (c .if3 .taken)
-
-returns-4 : tie.Need-returns-4
-returns-4 c = clear-from _ _ (c .before .before .before .before .granules .ensures .0) (c .before .before .before .if1 .left) (sym (c .before .before .taken .ensures) ∙ c .before .if2 .left) (c .if3 .left)
+returns-2 c = clear-at _ _ (c .before .before .granules .ensures .0) (c .before .if1 .left) (c .taken .ensures)
 
 pub is-clear-spec : {M : Type 1} → statement M
-is-clear-spec =
-    tie.close (tie.spec granules-requires returns taken-requires returns-2 returns-3 returns-4)
+is-clear-spec = tie.close (tie.spec granules-requires returns taken-requires returns-2)

@@ -1,10 +1,9 @@
-use borrow.Author.Needs.{needs}
-use native.Mathlib.Omega.{arith}
-use mathlib.Core.Logic.{⊎-elim, inl, inr}
-use mathlib.Core.Path.{sym, _∙_}
-use Prim.Native.Nat.{_-_}
-use Rattle.layout.proofs.Lists.{is-no, is-yes}
 use Rattle.supply.proofs.Search.{Passing, passing-start, passing-step, passing-block, passing-found, passing-end}
+use Rattle.layout.proofs.Lists.{is-no, is-yes}
+use Prim.Native.Nat.{_-_}
+use mathlib.Core.Path.{sym, _∙_}
+use native.Mathlib.Omega.{arith}
+use borrow.Author.Needs.{needs}
 use Rattle.supply.proofs.next_free.Statement.{statement}
 use Rattle.supply.proofs.next_free.Tie as tie
 use Rattle.supply.proofs.next_free.Reads as reads
@@ -14,10 +13,10 @@ use Rattle.layout.proofs.taken.Reads as taken-reads
 use Rattle.space.proofs.block_taken.Reads as block-taken-reads
 
 abbrev Inv-loop : tie.InvT-loop
-Inv-loop image g from lo hi total n₀ n = Passing g image from lo hi n total
+Inv-loop image g from total n₀ n = Passing g image from n total
 
 abbrev μ-loop : tie.MeasureT-loop
-μ-loop image g from lo hi total n₀ n = total - n
+μ-loop image g from total n₀ n = total - n
 
 granules-requires : tie.Need-granules-requires Inv-loop μ-loop
 granules-requires c κs = search needs
@@ -41,10 +40,7 @@ taken-requires : tie.Need-taken-requires Inv-loop μ-loop
 taken-requires c κs = (c .before .before .before .before .before .before .pre .0, let e = c .before .before .before .before .granules .ensures .0 in omega arith)
 
 returns : tie.Need-returns Inv-loop μ-loop
-returns c = passing-found _ _ (c .before .before .before .before .before .before .loop .inv) (c .before .before .before .before .before .before .before .granules .ensures .0) (is-no (c .before .before .taken .ensures) (c .before .if2 .taken)) (inl (c .if3 .taken))
-
-returns-2 : tie.Need-returns-2 Inv-loop μ-loop
-returns-2 c = passing-found _ _ (c .before .before .before .before .before .before .before .loop .inv) (c .before .before .before .before .before .before .before .before .granules .ensures .0) (is-no (c .before .before .before .taken .ensures) (c .before .before .if2 .taken)) (inr (c .if4 .taken))
+returns c = passing-found _ _ (c .before .before .before .before .before .loop .inv) (c .before .before .before .before .before .before .granules .ensures .0) (is-no (c .before .taken .ensures) (c .if2 .taken))
 
 add-n-2 : tie.Need-add-n-2 Inv-loop μ-loop
 add-n-2 c = search needs
@@ -53,13 +49,10 @@ loop-less-2 : tie.Need-loop-less-2 Inv-loop μ-loop
 loop-less-2 c = search needs
 
 loop-again-2 : tie.Need-loop-again-2 Inv-loop μ-loop
-loop-again-2 c = ⊎-elim
-    (λ w. passing-step _ _ (c .before .before .before .before .before .loop .inv) (c .before .before .before .before .loop-test .taken) (let a = w .1 .left in let b = w .2 .left in inr (omega arith, omega arith)))
-    (λ w. passing-step _ _ (c .before .before .before .before .before .loop .inv) (c .before .before .before .before .loop-test .taken) (inl (is-yes (c .before .taken .ensures) (w .left))))
-    (c .if2 .came)
+loop-again-2 c = passing-step _ _ (c .before .before .before .before .before .loop .inv) (c .before .before .before .before .loop-test .taken) (is-yes (c .before .taken .ensures) (c .if2 .left))
 
-returns-3 : tie.Need-returns-3 Inv-loop μ-loop
-returns-3 c = passing-end _ _ (c .before .loop .inv) (c .before .before .granules .ensures .0) (c .loop-test .left)
+returns-2 : tie.Need-returns-2 Inv-loop μ-loop
+returns-2 c = passing-end _ _ (c .before .loop .inv) (c .before .before .granules .ensures .0) (c .loop-test .left)
 
 pub next-free-spec : {M : Type 1} → statement M
 next-free-spec =
@@ -75,8 +68,7 @@ next-free-spec =
     loop-again
     taken-requires
     returns
-    returns-2
     add-n-2
     loop-less-2
     loop-again-2
-    returns-3)
+    returns-2)
