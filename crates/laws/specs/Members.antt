@@ -10,6 +10,9 @@ use native.Mathlib.Decide.{ℕ-discrete}
 use lib.Dec.{T, eqb, eqb→eq, eqb-refl, T-not, not-T}
 use lib.ListN.{getD}
 use Rattle.meaning.specs.Lists.{count, every, keep, each, has, distinct, same, all, any, lastOr}
+use Rattle.meaning.specs.Lists.In.{here, there}
+use Rattle.meaning.specs.Lists.Distinct.{done, fresh}
+pub use Rattle.meaning.specs.Lists.{In, Distinct}
 
 -- Tests ------------------------------------------------------------------------------------------------------------------
 
@@ -114,10 +117,6 @@ decide true = holds tt
 decide false = fails (λ t. t)
 
 -- Members ----------------------------------------------------------------------------------------------------------------
-
-pub data In (x : ℕ) : List ℕ → Type 0 where
-  here : {xs : List ℕ} → In x (x ∷ xs)
-  there : {y : ℕ} {xs : List ℕ} → In x xs → In x (y ∷ xs)
 
 pub head-in : {x y : ℕ} (xs : List ℕ) → x ≡ y → In x (y ∷ xs)
 head-in xs e = rw e here
@@ -243,10 +242,6 @@ every-eq p q [] e = refl
 every-eq p q (x ∷ xs) e = rw (e x here, every-eq p q xs (λ y i. e y (there i)))
 
 -- No number twice --------------------------------------------------------------------------------------------------------
-
-pub data Distinct : List ℕ → Type 0 where
-  done : Distinct []
-  fresh : {x : ℕ} {xs : List ℕ} → (In x xs → ⊥) → Distinct xs → Distinct (x ∷ xs)
 
 pub distinct-says : (xs : List ℕ) → T (distinct xs) → Distinct xs
 distinct-says [] t = done

@@ -4,7 +4,7 @@ use mathlib.Core.Bool.{cond}
 use mathlib.Core.List.{List, [], _∷_}
 use lib.Dec.{eqb}
 use lib.ListN.{length, getD}
-use Rattle.meaning.specs.Lists.{each, keep}
+use Rattle.meaning.specs.Lists.{each, keep, lastOr}
 use Rattle.meaning.specs.Layout.{slots, granuleBytes}
 use Rattle.meaning.specs.Entries.{marker, link, entryGranules, primary}
 use Rattle.meaning.specs.declared.Geometry.{Geometry}
@@ -34,3 +34,7 @@ module _ (g : Geometry) (d : List ℕ) where
   -- where byte i of the file at slot s lies in the image
   unfoldable pub place : ℕ → ℕ → ℕ
   place s i = granuleBytes g * getD (owned s) (granuleOf g i) 0 + i % granuleBytes g
+
+-- the last entry of the file at slot p
+abbrev pub tail : Geometry → ℕ → List ℕ → ℕ
+tail g p d = lastOr p (chain g d p)

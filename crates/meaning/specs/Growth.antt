@@ -6,10 +6,10 @@ use mathlib.Core.List.{List, [], _∷_, _++_}
 use lib.Dec.{leb, ltb}
 use lib.ListN.{replicate}
 use lib.Seq.{sets}
-use Rattle.meaning.specs.Lists.{all, lastOr}
+use Rattle.meaning.specs.Lists.{all}
 use Rattle.meaning.specs.Layout
 use Rattle.meaning.specs.Entries
-use Rattle.meaning.specs.Chain
+pub use Rattle.meaning.specs.Chain.{tail}
 use Rattle.meaning.specs.Free
 use Rattle.meaning.specs.declared.Geometry.{Geometry}
 
@@ -40,27 +40,23 @@ diskOr z noSlot = z
 
 -- the file at slot p grows
 module _ (g : Geometry) (p : ℕ) where
-  -- the last entry of the file
-  abbrev pub tail : List ℕ → ℕ
-  tail d = lastOr p (Chain.chain g d p)
-
   -- the granule just after the last run, where there is a run
   abbrev pub after : List ℕ → ℕ
   after d =
-      let e = tail d in let k = Entries.runs g d e - 1 in
+      let e = tail g p d in let k = Entries.runs g d e - 1 in
       Entries.runStart g d e k + Entries.runLength g d e k
 
   -- the one just after the last run, if it exists, is free and the run has fewer than 32 (and there is a run at all)
   unfoldable pub lengthens : List ℕ → Bool
   lengthens d =
-      let e = tail d in let k = Entries.runs g d e - 1 in
+      let e = tail g p d in let k = Entries.runs g d e - 1 in
       all (leb 1 (Entries.runs g d e) ∷ ltb (after d) (Layout.granules g) ∷ not (Layout.taken g d (after d))
       ∷ ltb (Entries.runLength g d e k) 32 ∷ [])
 
   -- the last run longer by one: one further granule in the low five bits of its pair
   abbrev pub lengthened : List ℕ → List ℕ
   lengthened d =
-      let e = tail d in let k = Entries.runs g d e - 1 in
+      let e = tail g p d in let k = Entries.runs g d e - 1 in
       let at = 0x17 + 2 * k in
       Layout.takeGranule g (Layout.setField g d e at (Layout.field g d e at + 1)) (after d)
 
@@ -89,7 +85,7 @@ module _ (g : Geometry) (p : ℕ) where
   -- one granule more: the one just after the last run; else granule n, as a new run
   abbrev pub takeAt : ℕ → List ℕ → Grown
   takeAt n d =
-      let e = tail d in
+      let e = tail g p d in
       cond (lengthens d) (grown (lengthened d))
       (cond (ltb (Entries.runs g d e) 4) (grown (withPair d e (Entries.runs g d e) n))
       (extended (Free.freeSlots g d) d e n))

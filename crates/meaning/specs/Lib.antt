@@ -11,6 +11,7 @@ pub mod Fault
 pub mod Stretch
 pub mod Free
 pub mod Growth
+pub mod Choice
 pub mod Drop
 pub mod Refusals
 pub mod LookUp

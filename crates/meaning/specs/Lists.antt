@@ -84,3 +84,15 @@ firstOr z (x ∷ xs) = x
 unfoldable pub lastOr : ℕ → List ℕ → ℕ
 lastOr z [] = z
 lastOr z (x ∷ xs) = lastOr x xs
+
+-- Statements, whose tests are `has` and `distinct` (laws: Members) ------------------------------------------------------------
+
+-- x is one of them
+pub data In (x : ℕ) : List ℕ → Type 0 where
+  here : {xs : List ℕ} → In x (x ∷ xs)
+  there : {y : ℕ} {xs : List ℕ} → In x xs → In x (y ∷ xs)
+
+-- none stands twice
+pub data Distinct : List ℕ → Type 0 where
+  done : Distinct []
+  fresh : {x : ℕ} {xs : List ℕ} → (In x xs → ⊥) → Distinct xs → Distinct (x ∷ xs)

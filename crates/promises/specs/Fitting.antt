@@ -13,6 +13,7 @@ use Rattle.meaning.specs.Entries.{system}
 use Rattle.meaning.specs.Free.{freeGranules, lowestFree, longestFree}
 use Rattle.meaning.specs.Growth
 use Rattle.meaning.specs.Growth.{takeAt, grow, growBy, growth}
+use Rattle.meaning.specs.Choice.{Free, Choice, view, NothingFits}
 use Rattle.meaning.specs.declared.Geometry.{Geometry}
 use Rattle.laws.specs.Members
 use Rattle.laws.specs.Facts.{Sound, File}
@@ -23,12 +24,11 @@ use Rattle.laws.specs.TakeOne
 use Rattle.promises.specs.Grow
 use Rattle.promises.specs.Grow.{Chooses}
 use Rattle.slots.specs.Words
-use Rattle.slots.specs.Words.{Free, Choice, Step, Second, CanLengthen}
+use Rattle.slots.specs.Words.{Step, Second, CanLengthen}
 use Rattle.slots.specs.Stretches
 use Rattle.slots.specs.Theorem
 use Rattle.slots.specs.Theorem.{AnyRule, SecondRule}
 use Rattle.slots.specs.View
-use Rattle.slots.specs.View.{view}
 
 -- `Theorem` has a `Grown` of its own, over any kind of disk. (Where the product's takes its place, this goes.)
 conv : Growth.Grown → Theorem.Grown (List ℕ)
@@ -148,7 +148,7 @@ module _ (g : Geometry) (p k : ℕ) (d : List ℕ) (o : Known g p k d) where
       (sym (conv-grow g p (lowest g p) (lowest-chooses g p) k d) ∙ ap conv e)
 
   -- the second finds no slot exactly if no choice fits
-  pub second-iff : (growBy g p (longest g p) k d ≡ Growth.noSlot) ↔ (Fitting → ⊥)
+  pub second-iff : (growBy g p (longest g p) k d ≡ Growth.noSlot) ↔ NothingFits g d p k
   unfolding conv
   second-iff = (
     λ e. both .0 (sym (conv-grow g p (longest g p) (longest-chooses g p) k d) ∙ ap conv e),
@@ -171,7 +171,7 @@ module _ (g : Geometry) (p k : ℕ) (d : List ℕ) (o : Known g p k d) where
   else-second e = rw e
 
   -- (b) 8 means that no choice fits
-  pub growth-iff : (growth g p k d ≡ Growth.noSlot) ↔ (Fitting → ⊥)
+  pub growth-iff : (growth g p k d ≡ Growth.noSlot) ↔ NothingFits g d p k
   growth-iff = (λ e. fore (grow g p k d) refl e, λ n. back (grow g p k d) refl n)
     where
       fore : (t : Growth.Grown) → grow g p k d ≡ t → growth g p k d ≡ Growth.noSlot → Fitting → ⊥

@@ -18,6 +18,7 @@ use Rattle.meaning.specs.Plain.{fileAt, plain, hush, reserved, Found, found, al
 use Rattle.meaning.specs.LookUp.{named}
 use Rattle.meaning.specs.Allot.{allot}
 use Rattle.meaning.specs.Refusals.{first, cannotGrow, larger, lacking}
+use Rattle.meaning.specs.Choice.{view}
 use Rattle.meaning.specs.declared.Geometry.{Geometry}
 use Rattle.meaning.specs.declared.Handle.{Handle}
 use Rattle.laws.specs.Members
@@ -38,7 +39,6 @@ use Rattle.laws.specs.Named
 use Rattle.laws.specs.Passed
 use Rattle.laws.specs.Words.{words}
 use Rattle.slots.specs.Stretches
-use Rattle.slots.specs.View.{view}
 use Rattle.promises.specs.Resized.{Resized, resized-none, resized-one, resized-trans}
 
 -- the file at p has k granules more, and all else is as it was

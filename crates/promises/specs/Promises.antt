@@ -19,6 +19,7 @@ use Rattle.meaning.specs.Entries.{inUse, extension, nameOf, sectorCount}
 use Rattle.meaning.specs.Chain.{chain, owned, files}
 use Rattle.meaning.specs.Consistent.{consistent}
 use Rattle.meaning.specs.Free.{freeGranules, freeSlots}
+use Rattle.meaning.specs.Choice.{NothingFits}
 use Rattle.meaning.specs.Refusal.{unplaced}
 use Rattle.meaning.specs.Fault.{fault}
 use Rattle.meaning.specs.Refusals.{movedTo, noHandle, faultNumbers}
@@ -40,8 +41,6 @@ use Rattle.meaning.specs.declared.Geometry.{Geometry}
 use Rattle.meaning.specs.declared.Handle.{Handle}
 use Rattle.meaning.specs.declared.NewFile.{NewFile}
 use Rattle.meaning.specs.declared.Mode.{Mode}
-use Rattle.slots.specs.Words.{Choice}
-use Rattle.slots.specs.View.{view}
 
 -- Calls -----------------------------------------------------------------------------------------------------------------------------
 
@@ -311,12 +310,6 @@ pub record NewInRange (f : NewFile) : Type 0 where
   pub year : f .year ≤ 15
   pub length′ : LengthInRange (f .len)
 
--- 8 (02 §13): "no choice of free granules whatever, taken in runs after the file's present runs (the last of which may be lengthened), fits
--- the pairs and permitted slots left". What is seen of the disk and the file at slot p is `view`, what a choice of so many granules is
--- `Choice`; a run has 32 granules at the most.
-abbrev pub NothingFits : Geometry → List ℕ → ℕ → ℕ → Type 0
-NothingFits g d p more = Choice 32 (granules g) (view g p d) more → ⊥
-
 module _ (g : Geometry) (d : List ℕ) where
   -- 21 to 30, in 2's place (02 §2): the disk's fault has that number. It has one exactly if it is not consistent.
   abbrev pub faultCases : List ℕ → Table → Table
@@ -343,8 +336,8 @@ module _ (g : Geometry) (d : List ℕ) where
   abbrev pub barred : ℕ → Handle → ℕ × Type 0
   barred most h = (6, (most < h .level) ⊎ T (isSystem (fileOf h)))
 
-  -- 11 E set and more granules needed than owned; 9 more further granules needed than are free; 8 no choice of so many granules
-  -- fits
+  -- 11 E set and more granules needed than owned; 9 more further granules needed than are free; 8 (02 §13) "no choice of free granules
+  -- whatever" fits
   abbrev pub growthCases : Handle → ℕ → Table
   growthCases h more =
       (11, T (mayNotGrow (fileOf h)) × (0 < more)) ∷ (9, length (freeGranules g d) < more) ∷ (8, NothingFits g d (h .slot) more) ∷ []

@@ -15,6 +15,7 @@ use Rattle.meaning.specs.Consistent.{consistent}
 use Rattle.meaning.specs.Fault.{fault}
 use Rattle.meaning.specs.Free.{freeGranules, freeSlots}
 use Rattle.meaning.specs.Growth.{Grown, grown, noSlot, fails, growth}
+use Rattle.meaning.specs.Choice.{NothingFits}
 use Rattle.meaning.specs.Refusals.{first, inRange, goodLength, newInRange, fresh, cannotGrow, lacking, check, faultNumbers, byNumber, diskRefusals}
 use Rattle.meaning.specs.LookUp.{named, missing, slotOf, lookUp, lookUpRefusals}
 use Rattle.meaning.specs.Open.{full, admits, open′, openRefusals}
@@ -436,7 +437,7 @@ module _ (g : Geometry) (d : List ℕ) where
         user = not-T (system g d (h .slot)) (λ t. u (inr t));
       }
 
-  stuck : (h : Handle) (k : ℕ) → Writes h → (length (freeGranules g d) < k → ⊥) → T (fails (growth g (h .slot) k d)) ↔ Promises.NothingFits g d (h .slot) k
+  stuck : (h : Handle) (k : ℕ) → Writes h → (length (freeGranules g d) < k → ⊥) → T (fails (growth g (h .slot) k d)) ↔ NothingFits g d (h .slot) k
   stuck h k w n =
       let i = Fitting.growth-iff g (h .slot) k d (record { sound = w .sound; fits = w .fits; file = w .file; user = w .user; enough = nltb→le (length (freeGranules g d)) k (not-T (ltb (length (freeGranules g d)) k) (λ t. n (ltb→lt (length (freeGranules g d)) k t))) }) in
       let j = fails-iff (growth g (h .slot) k d) in

@@ -10,7 +10,8 @@ use Rattle.meaning.specs.Lists.{count, length-count}
 use Rattle.laws.specs.Members
 use Rattle.laws.specs.Members.{In}
 use Rattle.slots.specs.Parts
-use Rattle.slots.specs.Words.{State, Run, spare, granulesOf, Sized, Free, Granules, Fits, Choice, Lengthens, Starts, CanLengthen, LowEnd}
+use Rattle.meaning.specs.Choice.{State, Run, spare, granulesOf, Sized, Free, Granules, Fits, Choice}
+use Rattle.slots.specs.Words.{Lengthens, Starts, CanLengthen, LowEnd}
 use Rattle.slots.specs.Moves
 use Rattle.slots.specs.Moves.{Pick}
 use Rattle.slots.specs.Back

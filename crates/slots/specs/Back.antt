@@ -6,7 +6,8 @@ use native.Mathlib.Omega.{arith}
 use Rattle.meaning.specs.Lists.{count}
 use Rattle.laws.specs.Members
 use Rattle.slots.specs.Words
-use Rattle.slots.specs.Words.{State, Run, after, spare, granulesOf, Granules, Fits, Choice, Lengthens, Starts, Step}
+use Rattle.meaning.specs.Choice.{State, Run, after, spare, granulesOf, Granules, Fits, Choice}
+use Rattle.slots.specs.Words.{Lengthens, Starts, Step}
 use Rattle.slots.specs.Moves
 
 module _ (limit granules : ℕ) {v v′ : State} where

@@ -10,7 +10,8 @@ use Rattle.meaning.specs.Lists.{count}
 use Rattle.laws.specs.Members
 use Rattle.laws.specs.Members.{In, Distinct}
 use Rattle.slots.specs.Parts
-use Rattle.slots.specs.Words.{State, Run, granulesOf, Sized, Free, Granules, Takes}
+use Rattle.meaning.specs.Choice.{State, Run, granulesOf, Sized, Free, Granules}
+use Rattle.slots.specs.Words.{Takes}
 
 -- One granule taken ------------------------------------------------------------------------------------------------------
 

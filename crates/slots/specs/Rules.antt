@@ -8,7 +8,8 @@ use lib.Dec.{eqb, ltb}
 use borrow.Author.Tests.{ltb-true, ltb-false, lt-ltb, eq-eqb, ne-eqb, not-true}
 use Rattle.meaning.specs.Lists.{count, keep, firstOr}
 use Rattle.slots.specs.Words
-use Rattle.slots.specs.Words.{State, Run, Last, noRun, lastRun, after, spare, Free, Choice, Takes, Lengthens, Starts, Step, CanLengthen, Stands, Second}
+use Rattle.meaning.specs.Choice.{State, Run, Last, noRun, lastRun, after, spare, Free, Choice}
+use Rattle.slots.specs.Words.{Takes, Lengthens, Starts, Step, CanLengthen, Stands, Second}
 use Rattle.slots.specs.Moves
 use Rattle.slots.specs.Stretches
 use Rattle.slots.specs.Stretches.{longestLow}

@@ -6,7 +6,7 @@ use Prim.Native.Nat.{ℕ}
 use native.Mathlib.Omega.{arith}
 use lib.Dec.{eqb}
 use Rattle.meaning.specs.Lists.{count, keep, firstOr}
-use Rattle.slots.specs.Words.{State, Last, noRun, lastRun, Choice}
+use Rattle.meaning.specs.Choice.{State, Last, noRun, lastRun, Choice}
 use Rattle.meaning.specs.Stretch.{stretch, longestIn, lowEnd}
 use Rattle.slots.specs.Theorem.{Grown, grown, noSlot, grow, andThen, orElse, growth}
 use Rattle.slots.specs.Rules

@@ -8,7 +8,7 @@ use native.Mathlib.Decide.{decLt, ℕ-discrete}
 use lib.Dec.{ltb}
 use borrow.Author.Tests.{ltb-true, lt-ltb, le-ltb, ne-eqb}
 use Rattle.meaning.specs.Lists.{count}
-use Rattle.slots.specs.Words.{State, Last, noRun, lastRun, after, spare, Free}
+use Rattle.meaning.specs.Choice.{State, Last, noRun, lastRun, after, spare, Free}
 use Rattle.slots.specs.Stretches
 use Rattle.meaning.specs.Stretch.{stretch, longestIn}
 use Rattle.slots.specs.Stretches.{longestLow}

@@ -9,7 +9,8 @@ use lib.Dec.{leb}
 use borrow.Author.Tests.{le-leb, lt-leb}
 use Rattle.meaning.specs.Lists.{count}
 use Rattle.meaning.specs.Stretch.{stretch, longestIn, lowEnd}
-use Rattle.slots.specs.Words.{State, Free, Stretch, LowEnd}
+use Rattle.meaning.specs.Choice.{State, Free}
+use Rattle.slots.specs.Words.{Stretch, LowEnd}
 
 module _ (taken : ℕ → Bool) where
   -- k is free, for every k from a up to a + n

@@ -8,7 +8,8 @@ use lib.ListN.{length}
 use Rattle.laws.specs.Members
 use Rattle.laws.specs.Members.{In}
 use Rattle.slots.specs.Words
-use Rattle.slots.specs.Words.{State, Run, Free, Fits, Choice, Step, CanLengthen, Stands, Second}
+use Rattle.meaning.specs.Choice.{State, Run, Free, Fits, Choice}
+use Rattle.slots.specs.Words.{Step, CanLengthen, Stands, Second}
 use Rattle.slots.specs.Back
 use Rattle.slots.specs.Ahead
 

@@ -1,4 +1,4 @@
--- What the choice of granules sees of a disk and the file at slot p, and what one granule more does to it
+-- What one granule more does to what a choice sees of a disk and the file at slot p (meaning: Choice.view)
 use mathlib.Core.Path.{_≡_, refl, ap, ap₂, sym, _∙_, subst}
 use mathlib.Core.Logic.{_≢_}
 use mathlib.Core.Bool.{not}
@@ -28,24 +28,10 @@ use Rattle.laws.specs.TakeNew
 use Rattle.laws.specs.Extend
 use Rattle.laws.specs.FreeSlots
 use Rattle.laws.specs.Words.{words}
-use Rattle.slots.specs.Words
-use Rattle.slots.specs.Words.{State, Run, Last, noRun, lastRun, spare, Free, Takes, Lengthens, Starts, CanLengthen, Stands}
-use Rattle.slots.specs.Room.{roomOf}
-
--- the last run, of so many
-abbrev pub lastOf : ℕ → ℕ → ℕ → Last
-lastOf zero first many = noRun
-lastOf (suc k) first many = lastRun (record { first = first; many = many })
-
--- the GAT bits; the last run; the pairs left in the last entry, and four for each free permitted slot
-abbrev pub view : Geometry → ℕ → List ℕ → State
-view g p d =
-    let e = tail g p d in let k = runs g d e - 1 in
-    record {
-      taken = taken g d;
-      last = lastOf (runs g d e) (runStart g d e k) (runLength g d e k);
-      room = roomOf (runs g d e) (length (freeSlots g d));
-    }
+use Rattle.meaning.specs.Choice
+use Rattle.meaning.specs.Choice.{Run, lastRun, lastOf, roomOf, spare, Free}
+pub use Rattle.meaning.specs.Choice.{view}
+use Rattle.slots.specs.Words.{Takes, Lengthens, Starts, CanLengthen, Stands}
 
 last-some : (n first many : ℕ) → 1 ≤ n → lastOf n first many ≡ lastRun (record { first = first; many = many })
 last-some zero first many h = absurd (omega arith)
@@ -104,7 +90,7 @@ module _ (g : Geometry) (p : ℕ) (d : List ℕ) where
   can-says c =
       let e = tail g p d in let k = runs g d e - 1 in
       let s = spare-none (runs g d e) (runStart g d e k) (runLength g d e k) (c .fewer) in
-      let f : Free (granules g) (view g p d) (after g p d) = subst (Free (granules g) (view g p d)) (ap Words.after (last-run (s .0))) (c .free) in
+      let f : Free (granules g) (view g p d) (after g p d) = subst (Free (granules g) (view g p d)) (ap Choice.after (last-run (s .0))) (c .free) in
       says-longer (record { some′ = s .0; inside = f .inside; free = λ t. Members.false-no (f .clear) t; short = s .1 })
 
   -- the granules of the last run are taken

@@ -1,81 +1,10 @@
--- Number 8 (02 §13): "no choice of free granules whatever, taken in runs after the file's present runs (the last of which may be lengthened),
--- fits the pairs and permitted slots left". What a choice is, and the two rules that take granules one at a time.
--- A disk is here what the choice sees of it: which granules are taken, the file's last run, and how many further runs there is place for.
--- `limit` is the most granules that a run may have (32), `granules` how many the disk has. No definition here knows of an algorithm but
--- `Second`, the last one.
+-- The rules that take granules one at a time, over what a choice sees of a disk (meaning: Choice): which granules are taken, the file's last
+-- run, and how many further runs there is place for. `limit` is the most granules that a run may have (32), `granules` how many the disk has.
+-- No definition here knows of an algorithm but `Second`, the last one.
 use mathlib.Core.Path.{_≡_}
-use mathlib.Core.Bool.{Bool, true, false}
-use mathlib.Core.List.{List, [], _∷_, _++_}
-use Prim.Native.Nat.{ℕ, _+_, _-_, _≤_, _<_}
-use lib.ListN.{length}
-use Rattle.meaning.specs.Lists.{count}
-use Rattle.laws.specs.Members.{In, Distinct}
-
--- What is seen of a disk -------------------------------------------------------------------------------------------------
-
--- granules with consecutive numbers: the first of them, and how many
-pub record Run : Type 0 where
-  pub first : ℕ
-  pub many : ℕ
-
--- the last of the file's present runs
-pub data Last : Type 0 where
-  noRun : Last
-  lastRun : Run → Last
-
-pub record State : Type 0 where
-  pub taken : ℕ → Bool
-  pub last : Last
-  -- the pairs left in the file's last entry, and four for each free permitted slot
-  pub room : ℕ
-
--- the granule just after the last run, where there is a run
-abbrev pub after : Last → ℕ
-after noRun = 0
-after (lastRun r) = r .first + r .many
-
--- how many granules the last run may be lengthened by: up to the limit, and by none without a run
-abbrev pub spare : ℕ → Last → ℕ
-spare limit noRun = 0
-spare limit (lastRun r) = limit - r .many
-
--- A choice ---------------------------------------------------------------------------------------------------------------
-
--- all granules of some runs
-abbrev pub granulesOf : List Run → List ℕ
-granulesOf [] = []
-granulesOf (r ∷ rs) = count (r .first) (r .many) ++ granulesOf rs
-
-module _ (granules : ℕ) where
-  -- the granule exists and is free
-  pub record Free (v : State) (n : ℕ) : Type 0 where
-    pub inside : n < granules
-    pub clear : v .taken n ≡ false
-
-  -- these are k granules: all free, none twice
-  pub record Granules (v : State) (ns : List ℕ) (k : ℕ) : Type 0 where
-    pub free : (n : ℕ) → In n ns → Free v n
-    pub once : Distinct ns
-    pub many : length ns ≡ k
-
--- each run has from 1 to limit granules
-abbrev pub Sized : ℕ → List Run → Type 0
-Sized limit [] = Unit {0}
-Sized limit (r ∷ rs) = (1 ≤ r .many) × (r .many ≤ limit) × Sized limit rs
-
-module _ (limit granules : ℕ) where
-  -- the last run lengthened by x granules, and further runs: k granules in all
-  pub record Fits (v : State) (x : ℕ) (rs : List Run) (k : ℕ) : Type 0 where
-    pub within : x ≤ spare limit (v .last)
-    pub sized : Sized limit rs
-    pub few : length rs ≤ v .room
-    pub chosen : Granules granules v (count (after (v .last)) x ++ granulesOf rs) k
-
-  -- a choice of k granules that fits
-  pub record Choice (v : State) (k : ℕ) : Type 0 where
-    pub longer : ℕ
-    pub runs : List Run
-    pub fits : Fits v longer runs k
+use mathlib.Core.Bool.{true, false}
+use Prim.Native.Nat.{ℕ, _+_, _≤_, _<_}
+use Rattle.meaning.specs.Choice.{Run, State, lastRun, after, spare, Free}
 
 -- One granule at a time --------------------------------------------------------------------------------------------------
 
