@@ -6,9 +6,9 @@ use Rattle.meaning.specs.declared.Mode.{Mode}
 use Rattle.meaning.specs.declared.Mode.the-variants.{Sequential, Random}
 use Rattle.differences.specs.declared.Difference.{Difference}
 
--- the four numbers and the flag that state a disk
-abbrev pub geometry : ℕ → ℕ → ℕ → ℕ → Bool → Geometry
-geometry blocks units start code system = record { blocks = blocks; units = units; start = start; anyone = code; system = system }
+-- the five numbers and the flag that state a disk
+abbrev pub geometry : ℕ → ℕ → ℕ → ℕ → Bool → ℕ → Geometry
+geometry blocks units start code system granule = record { blocks = blocks; units = units; start = start; anyone = code; system = system; granule = granule }
 
 -- the flag that a host gives for a write
 unfoldable pub modeOf : Bool → Mode

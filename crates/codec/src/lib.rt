@@ -1,4 +1,4 @@
-// What a host holds of the library's values: a disk as four numbers and a flag, a handle as 19 bytes, a name as 11, flags as numbers.
+// What a host holds of the library's values: a disk as five numbers and a flag, a handle as 19 bytes, a name as 11, flags as numbers.
 use differences::Difference;
 use meaning::Geometry;
 use meaning::Handle;
@@ -23,8 +23,9 @@ pub fn geometry(
     start: usize,
     open_code: u16,
     system_disk: bool,
+    granule_sectors: usize,
 ) -> Geometry
-    ensures { λ r. ⌜ r ≡ geometry blocks units start open_code «system_disk» ⌝ }
+    ensures { λ r. ⌜ r ≡ geometry blocks units start open_code «system_disk» «granule_sectors» ⌝ }
 {
     Geometry {
         blocks,
@@ -32,6 +33,7 @@ pub fn geometry(
         start,
         anyone: open_code,
         system: system_disk,
+        granule: granule_sectors,
     }
 }
 

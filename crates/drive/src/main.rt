@@ -16,6 +16,7 @@ fn disk() -> Geometry {
         start: 0,
         anyone: 0,
         system: true,
+        granule: 5,
     }
 }
 

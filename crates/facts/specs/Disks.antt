@@ -40,17 +40,17 @@ answered number h = record { refusal = unplaced number; handle = h }
 
 -- a geometry: blocks, units per block, directory start
 abbrev pub disk : ℕ → ℕ → ℕ → Geometry
-disk blocks units start = record { blocks = blocks; units = units; start = start; anyone = 0; system = true }
+disk blocks units start = record { blocks = blocks; units = units; start = start; anyone = 0; system = true; granule = 5 }
 
 -- A crowded disk --------------------------------------------------------------------------------------------------------------
 
 -- 17 blocks of 8 units
 abbrev pub crowd : Geometry
-crowd = record { blocks = 17; units = 8; start = 0; anyone = 0; system = true }
+crowd = record { blocks = 17; units = 8; start = 0; anyone = 0; system = true; granule = 5 }
 
 -- the same, stated as a data disk (02 §4)
 abbrev pub crowdOfData : Geometry
-crowdOfData = record { blocks = 17; units = 8; start = 0; anyone = 0; system = false }
+crowdOfData = record { blocks = 17; units = 8; start = 0; anyone = 0; system = false; granule = 5 }
 
 -- the slot of entry i of a chain through all 32 permitted slots, row by row
 abbrev slotOf : ℕ → ℕ

@@ -35,7 +35,7 @@ abbrev whole : ℕ → List ℕ
 whole above = laid 0 ((0, 0x0f ∷ 0x01 ∷ []) ∷ (hits + 0x1f, above ∷ []) ∷ []) 5120
 
 abbrev four : Geometry
-four = record { blocks = 1; units = 4; start = 0; anyone = 0; system = true }
+four = record { blocks = 1; units = 4; start = 0; anyone = 0; system = true; granule = 5 }
 
 directory-fits : Judged four (whole 10) 0 256
 unfolding opened

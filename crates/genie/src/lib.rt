@@ -23,11 +23,20 @@ pub extern "C" fn genie_check(
     start: usize,
     open_code: u16,
     system_disk: bool,
+    granule_sectors: usize,
     fault_slot: &mut usize,
 ) -> u8
-    ensures { λ r. ⌜ (r, now («fault_slot» .exit)) ≡ exportedCheck (geometry blocks units start open_code «system_disk») (now (image .entry)) ⌝ }
+    ensures { λ r. ⌜ (r, now («fault_slot» .exit))
+        ≡ exportedCheck (geometry blocks units start open_code «system_disk» «granule_sectors») (now (image .entry)) ⌝ }
 {
-    let g = codec::geometry(blocks, units, start, open_code, system_disk);
+    let g = codec::geometry(
+        blocks,
+        units,
+        start,
+        open_code,
+        system_disk,
+        granule_sectors,
+    );
     let f = calls::check(image, g);
     *fault_slot = f.at;
     f.number
@@ -41,15 +50,23 @@ pub extern "C" fn genie_look_up(
     start: usize,
     open_code: u16,
     system_disk: bool,
+    granule_sectors: usize,
     name: &[u8],
     slot: &mut usize,
     compared: &mut usize,
     fault_slot: &mut usize,
 ) -> u8
     ensures { λ r. ⌜ (r, now («fault_slot» .exit), now (slot .exit), now (compared .exit))
-        ≡ exportedLookUp (geometry blocks units start open_code «system_disk») (now (image .entry)) (now (name .entry)) ⌝ }
+        ≡ exportedLookUp (geometry blocks units start open_code «system_disk» «granule_sectors») (now (image .entry)) (now (name .entry)) ⌝ }
 {
-    let g = codec::geometry(blocks, units, start, open_code, system_disk);
+    let g = codec::geometry(
+        blocks,
+        units,
+        start,
+        open_code,
+        system_disk,
+        granule_sectors,
+    );
     let l = calls::look_up(image, g, name);
     *fault_slot = l.refusal.at;
     *slot = l.slot;
@@ -65,6 +82,7 @@ pub extern "C" fn genie_open(
     start: usize,
     open_code: u16,
     system_disk: bool,
+    granule_sectors: usize,
     name: &[u8],
     length: usize,
     checking: bool,
@@ -73,10 +91,17 @@ pub extern "C" fn genie_open(
     fault_slot: &mut usize,
 ) -> u8
     ensures { λ r. ⌜ (r, now («fault_slot» .exit), now (handle .exit))
-        ≡ exportedOpen (geometry blocks units start open_code «system_disk») (now (image .entry)) (now (name .entry)) length checking code
+        ≡ exportedOpen (geometry blocks units start open_code «system_disk» «granule_sectors») (now (image .entry)) (now (name .entry)) length checking code
         (now (handle .entry)) ⌝ }
 {
-    let g = codec::geometry(blocks, units, start, open_code, system_disk);
+    let g = codec::geometry(
+        blocks,
+        units,
+        start,
+        open_code,
+        system_disk,
+        granule_sectors,
+    );
     if handle.len() < codec::HANDLE_BYTES {
         return short(image, g, fault_slot);
     }
@@ -94,6 +119,7 @@ pub extern "C" fn genie_create(
     start: usize,
     open_code: u16,
     system_disk: bool,
+    granule_sectors: usize,
     name: &[u8],
     day: usize,
     month: usize,
@@ -107,10 +133,17 @@ pub extern "C" fn genie_create(
     fault_slot: &mut usize,
 ) -> u8
     ensures { λ r. ⌜ (r, now («fault_slot» .exit), now (old .exit), now (handle .exit), now (image .exit))
-        ≡ exportedCreate (geometry blocks units start open_code «system_disk») (now (image .entry)) (now (name .entry))
+        ≡ exportedCreate (geometry blocks units start open_code «system_disk» «granule_sectors») (now (image .entry)) (now (name .entry))
         (newFile day month year length main worker) checking (now (handle .entry)) ⌝ }
 {
-    let g = codec::geometry(blocks, units, start, open_code, system_disk);
+    let g = codec::geometry(
+        blocks,
+        units,
+        start,
+        open_code,
+        system_disk,
+        granule_sectors,
+    );
     if handle.len() < codec::HANDLE_BYTES {
         *old = 0;
         return short(image, g, fault_slot);
@@ -138,14 +171,23 @@ pub extern "C" fn genie_read_record(
     start: usize,
     open_code: u16,
     system_disk: bool,
+    granule_sectors: usize,
     handle: &mut [u8],
     buffer: &mut [u8],
     fault_slot: &mut usize,
 ) -> u8
     ensures { λ r. ⌜ (r, now («fault_slot» .exit), now (handle .exit), now (buffer .exit))
-        ≡ exportedReadRecord (geometry blocks units start open_code «system_disk») (now (image .entry)) (now (handle .entry)) (now (buffer .entry)) ⌝ }
+        ≡ exportedReadRecord (geometry blocks units start open_code «system_disk» «granule_sectors») (now (image .entry)) (now (handle .entry))
+        (now (buffer .entry)) ⌝ }
 {
-    let g = codec::geometry(blocks, units, start, open_code, system_disk);
+    let g = codec::geometry(
+        blocks,
+        units,
+        start,
+        open_code,
+        system_disk,
+        granule_sectors,
+    );
     if handle.len() < codec::HANDLE_BYTES {
         return short(image, g, fault_slot);
     }
@@ -167,6 +209,7 @@ pub extern "C" fn genie_read_sector(
     start: usize,
     open_code: u16,
     system_disk: bool,
+    granule_sectors: usize,
     handle: &[u8],
     k: usize,
     from: &mut usize,
@@ -174,9 +217,16 @@ pub extern "C" fn genie_read_sector(
     fault_slot: &mut usize,
 ) -> u8
     ensures { λ r. ⌜ (r, now («fault_slot» .exit), now (from .exit), now (to .exit))
-        ≡ exportedReadSector (geometry blocks units start open_code «system_disk») (now (image .entry)) (now (handle .entry)) k ⌝ }
+        ≡ exportedReadSector (geometry blocks units start open_code «system_disk» «granule_sectors») (now (image .entry)) (now (handle .entry)) k ⌝ }
 {
-    let g = codec::geometry(blocks, units, start, open_code, system_disk);
+    let g = codec::geometry(
+        blocks,
+        units,
+        start,
+        open_code,
+        system_disk,
+        granule_sectors,
+    );
     if handle.len() < codec::HANDLE_BYTES {
         *from = 0;
         *to = 0;
@@ -198,16 +248,24 @@ pub extern "C" fn genie_write_record(
     start: usize,
     open_code: u16,
     system_disk: bool,
+    granule_sectors: usize,
     handle: &mut [u8],
     sequential: bool,
     buffer: &[u8],
     fault_slot: &mut usize,
 ) -> u8
     ensures { λ r. ⌜ (r, now («fault_slot» .exit), now (handle .exit), now (image .exit))
-        ≡ exportedWriteRecord (geometry blocks units start open_code «system_disk») (now (image .entry)) (now (handle .entry)) sequential
+        ≡ exportedWriteRecord (geometry blocks units start open_code «system_disk» «granule_sectors») (now (image .entry)) (now (handle .entry)) sequential
         (now (buffer .entry)) ⌝ }
 {
-    let g = codec::geometry(blocks, units, start, open_code, system_disk);
+    let g = codec::geometry(
+        blocks,
+        units,
+        start,
+        open_code,
+        system_disk,
+        granule_sectors,
+    );
     if handle.len() < codec::HANDLE_BYTES {
         return short(image, g, fault_slot);
     }
@@ -230,14 +288,22 @@ pub extern "C" fn genie_allot(
     start: usize,
     open_code: u16,
     system_disk: bool,
+    granule_sectors: usize,
     handle: &[u8],
     k: usize,
     fault_slot: &mut usize,
 ) -> u8
     ensures { λ r. ⌜ (r, now («fault_slot» .exit), now (image .exit))
-        ≡ exportedAllot (geometry blocks units start open_code «system_disk») (now (image .entry)) (now (handle .entry)) k ⌝ }
+        ≡ exportedAllot (geometry blocks units start open_code «system_disk» «granule_sectors») (now (image .entry)) (now (handle .entry)) k ⌝ }
 {
-    let g = codec::geometry(blocks, units, start, open_code, system_disk);
+    let g = codec::geometry(
+        blocks,
+        units,
+        start,
+        open_code,
+        system_disk,
+        granule_sectors,
+    );
     if handle.len() < codec::HANDLE_BYTES {
         return short(image, g, fault_slot);
     }
@@ -255,13 +321,21 @@ pub extern "C" fn genie_trim(
     start: usize,
     open_code: u16,
     system_disk: bool,
+    granule_sectors: usize,
     handle: &[u8],
     fault_slot: &mut usize,
 ) -> u8
     ensures { λ r. ⌜ (r, now («fault_slot» .exit), now (image .exit))
-        ≡ exportedTrim (geometry blocks units start open_code «system_disk») (now (image .entry)) (now (handle .entry)) ⌝ }
+        ≡ exportedTrim (geometry blocks units start open_code «system_disk» «granule_sectors») (now (image .entry)) (now (handle .entry)) ⌝ }
 {
-    let g = codec::geometry(blocks, units, start, open_code, system_disk);
+    let g = codec::geometry(
+        blocks,
+        units,
+        start,
+        open_code,
+        system_disk,
+        granule_sectors,
+    );
     if handle.len() < codec::HANDLE_BYTES {
         return short(image, g, fault_slot);
     }
@@ -279,13 +353,21 @@ pub extern "C" fn genie_kill(
     start: usize,
     open_code: u16,
     system_disk: bool,
+    granule_sectors: usize,
     handle: &[u8],
     fault_slot: &mut usize,
 ) -> u8
     ensures { λ r. ⌜ (r, now («fault_slot» .exit), now (image .exit))
-        ≡ exportedKill (geometry blocks units start open_code «system_disk») (now (image .entry)) (now (handle .entry)) ⌝ }
+        ≡ exportedKill (geometry blocks units start open_code «system_disk» «granule_sectors») (now (image .entry)) (now (handle .entry)) ⌝ }
 {
-    let g = codec::geometry(blocks, units, start, open_code, system_disk);
+    let g = codec::geometry(
+        blocks,
+        units,
+        start,
+        open_code,
+        system_disk,
+        granule_sectors,
+    );
     if handle.len() < codec::HANDLE_BYTES {
         return short(image, g, fault_slot);
     }
@@ -303,15 +385,23 @@ pub extern "C" fn genie_bring_back(
     start: usize,
     open_code: u16,
     system_disk: bool,
+    granule_sectors: usize,
     slot: usize,
     slots: &mut usize,
     granules: &mut usize,
     fault_slot: &mut usize,
 ) -> u8
     ensures { λ r. ⌜ (r, now («fault_slot» .exit), now (slots .exit), now (granules .exit), now (image .exit))
-        ≡ exportedBringBack (geometry blocks units start open_code «system_disk») (now (image .entry)) slot ⌝ }
+        ≡ exportedBringBack (geometry blocks units start open_code «system_disk» «granule_sectors») (now (image .entry)) slot ⌝ }
 {
-    let g = codec::geometry(blocks, units, start, open_code, system_disk);
+    let g = codec::geometry(
+        blocks,
+        units,
+        start,
+        open_code,
+        system_disk,
+        granule_sectors,
+    );
     let b = calls::bring_back(image, g, slot);
     *fault_slot = b.refusal.at;
     *slots = b.slots;
@@ -327,6 +417,7 @@ pub extern "C" fn genie_list(
     start: usize,
     open_code: u16,
     system_disk: bool,
+    granule_sectors: usize,
     number: usize,
     name: &mut [u8],
     size: &mut usize,
@@ -335,9 +426,16 @@ pub extern "C" fn genie_list(
     fault_slot: &mut usize,
 ) -> u8
     ensures { λ r. ⌜ (r, now («fault_slot» .exit), now (size .exit), now (granules .exit), now (more .exit), now (name .exit))
-        ≡ exportedList (geometry blocks units start open_code «system_disk») (now (image .entry)) number (now (name .entry)) ⌝ }
+        ≡ exportedList (geometry blocks units start open_code «system_disk» «granule_sectors») (now (image .entry)) number (now (name .entry)) ⌝ }
 {
-    let g = codec::geometry(blocks, units, start, open_code, system_disk);
+    let g = codec::geometry(
+        blocks,
+        units,
+        start,
+        open_code,
+        system_disk,
+        granule_sectors,
+    );
     if name.len() < codec::NAME_BYTES {
         *size = 0;
         *granules = 0;
@@ -366,14 +464,22 @@ pub extern "C" fn genie_count(
     start: usize,
     open_code: u16,
     system_disk: bool,
+    granule_sectors: usize,
     files: &mut usize,
     free: &mut usize,
     fault_slot: &mut usize,
 ) -> u8
     ensures { λ r. ⌜ (r, now («fault_slot» .exit), now (files .exit), now (free .exit))
-        ≡ exportedCount (geometry blocks units start open_code «system_disk») (now (image .entry)) ⌝ }
+        ≡ exportedCount (geometry blocks units start open_code «system_disk» «granule_sectors») (now (image .entry)) ⌝ }
 {
-    let g = codec::geometry(blocks, units, start, open_code, system_disk);
+    let g = codec::geometry(
+        blocks,
+        units,
+        start,
+        open_code,
+        system_disk,
+        granule_sectors,
+    );
     let c = calls::counts(image, g);
     *fault_slot = c.refusal.at;
     *files = c.files;
@@ -389,12 +495,21 @@ pub extern "C" fn genie_free(
     start: usize,
     open_code: u16,
     system_disk: bool,
+    granule_sectors: usize,
     free: &mut usize,
     longest: &mut usize,
 ) -> u8
-    ensures { λ r. ⌜ (r, now (free .exit), now (longest .exit)) ≡ exportedFree (geometry blocks units start open_code «system_disk») (now (image .entry)) ⌝ }
+    ensures { λ r. ⌜ (r, now (free .exit), now (longest .exit))
+        ≡ exportedFree (geometry blocks units start open_code «system_disk» «granule_sectors») (now (image .entry)) ⌝ }
 {
-    let g = codec::geometry(blocks, units, start, open_code, system_disk);
+    let g = codec::geometry(
+        blocks,
+        units,
+        start,
+        open_code,
+        system_disk,
+        granule_sectors,
+    );
     let s = calls::free_space(image, g);
     *free = s.free;
     *longest = s.longest;
@@ -409,12 +524,14 @@ pub extern "C" fn genie_compare(
     start: usize,
     open_code: u16,
     system_disk: bool,
+    granule_sectors: usize,
     second: &[u8],
     blocks2: usize,
     units2: usize,
     start2: usize,
     open_code2: u16,
     system_disk2: bool,
+    granule_sectors2: usize,
     number: usize,
     name: &mut [u8],
     image: &mut usize,
@@ -424,11 +541,25 @@ pub extern "C" fn genie_compare(
     fault_slot: &mut usize,
 ) -> u8
     ensures { λ r. ⌜ (r, now («fault_slot» .exit), now (image .exit), now (kind .exit), now (position .exit), now (flags .exit), now (name .exit))
-        ≡ exportedCompare (geometry blocks units start open_code «system_disk») (now (first .entry))
-        (geometry blocks2 units2 start2 open_code2 «system_disk2») (now (second .entry)) number (now (name .entry)) ⌝ }
+        ≡ exportedCompare (geometry blocks units start open_code «system_disk» «granule_sectors») (now (first .entry))
+        (geometry blocks2 units2 start2 open_code2 «system_disk2» «granule_sectors2») (now (second .entry)) number (now (name .entry)) ⌝ }
 {
-    let g = codec::geometry(blocks, units, start, open_code, system_disk);
-    let h = codec::geometry(blocks2, units2, start2, open_code2, system_disk2);
+    let g = codec::geometry(
+        blocks,
+        units,
+        start,
+        open_code,
+        system_disk,
+        granule_sectors,
+    );
+    let h = codec::geometry(
+        blocks2,
+        units2,
+        start2,
+        open_code2,
+        system_disk2,
+        granule_sectors2,
+    );
     if name.len() < codec::NAME_BYTES {
         *kind = 0;
         *position = 0;

@@ -1,7 +1,7 @@
 -- One step of each recursion at the code's numbers, and two bounds.
 use mathlib.Core.Path.{_≡_, refl, sym, ap, _∙_}
 use mathlib.Core.List.{List, map}
-use mathlib.Core.Bool.{true, false, cond, and-true}
+use mathlib.Core.Bool.{Bool, true, false, cond, and-true}
 use Prim.Native.Nat.{ℕ, zero, suc, _+_, _-_, _*_, _/_, _%_, _^_, _≤_, _<_}
 use native.Mathlib.Omega.{arith}
 use native.Mathlib.Nat.{add-zero, mul-le-mul, mul-le-mul-right, div-lt-iff-lt-mul, div-one, div-div-eq-div-mul, pow-succ'}
@@ -9,14 +9,14 @@ use lib.ListN.{length, getD, take, drop}
 use lib.Seq.{drop-cons}
 use lib.Dec.{eqb, leb}
 use borrow.Author.Tests.{le-leb, lt-leb, eq-eqb, ne-eqb, eqb-true}
-use Rattle.meaning.specs.Lists.{same, all, count}
-use Rattle.meaning.specs.Layout.{granules, fitsGeometry, field, entryAt, granuleBytes, granuleSectors, sectors, mostBlocks, mostUnits, mostGranules}
+use Rattle.meaning.specs.Lists.{same, all, count, has}
+use Rattle.meaning.specs.Layout.{granuleSizes, granules, fitsGeometry, field, entryAt, granuleBytes, granuleSectors, sectors, mostBlocks, mostUnits, mostGranules}
 use Rattle.meaning.specs.Sizes
 use Rattle.meaning.specs.Bits.{digit}
 use Rattle.meaning.specs.Entries.{runsFrom, block, nameOf}
 use Rattle.meaning.specs.Names.{wellFormed}
 use Rattle.meaning.specs.declared.Geometry.{Geometry}
-use Rattle.layout.proofs.Lists.{all-at}
+use Rattle.layout.proofs.Lists.{all-at, all-out}
 
 pub below : (a b m n : ℕ) → a ≤ m → b ≤ n → a * b ≤ m * n
 below a b m n p q = mul-le-mul {n₁ = a} {m₁ = b} {n₂ = m} {m₂ = n} p q
@@ -71,20 +71,34 @@ pub well-length : (n : List ℕ) → wellFormed n ≡ true → length n ≡ 11
 unfolding wellFormed
 well-length n h = eqb-true _ _ (all-at _ h 0)
 
--- The geometry's tests where those of blocks and units passed, over numbers that are the geometry's own.
-module _ (g : Geometry) (d : List ℕ) (a : 1 ≤ g .blocks) (b : g .blocks ≤ mostBlocks) (c : 1 ≤ g .units) (e : g .units ≤ mostUnits) {w : ℕ} (p : w ≡ granuleSectors g) where
+-- A size that is none fails the whole test.
+pub fits-size : (g : Geometry) (d : List ℕ) → has granuleSizes (g .granule) ≡ false → false ≡ fitsGeometry g d
+unfolding fitsGeometry
+fits-size g d f = sym (all-out _ 7 f)
+
+-- a size that is neither 10 nor 20
+pub fives : {n : ℕ} → (n ≡ 10 → ⊥) → (n ≡ 20 → ⊥) → 5 ≡ cond (has granuleSizes n) n 5
+fives {n} a b = go (eqb n 5) refl
+  where
+    go : (t : Bool) → eqb n 5 ≡ t → 5 ≡ cond (has granuleSizes n) n 5
+    go true e = let q : n ≡ 5 = eqb-true _ _ e in rw q refl
+    go false e = rw (e, ne-eqb _ _ a, ne-eqb _ _ b) refl
+
+-- The geometry's tests where those of the size, of blocks and units passed, over numbers that are the geometry's own.
+module _ (g : Geometry) (d : List ℕ) (z : has granuleSizes (g .granule) ≡ true) (a : 1 ≤ g .blocks) (b : g .blocks ≤ mostBlocks) (c : 1 ≤ g .units) (e : g .units ≤ mostUnits)
+    {w : ℕ} (p : w ≡ granuleSectors g) where
   pub fits-start : (g .start % w ≡ 0 → ⊥) → false ≡ fitsGeometry g d
   unfolding fitsGeometry all
-  fits-start f = simp (sym p, le-leb _ _ a, le-leb _ _ b, le-leb _ _ c, le-leb _ _ e, ne-eqb _ _ f)
+  fits-start f = simp (z, sym p, le-leb _ _ a, le-leb _ _ b, le-leb _ _ c, le-leb _ _ e, ne-eqb _ _ f)
 
   module _ (f : g .start % w ≡ 0) {n v : ℕ} (q : n ≡ granules g) (r : v ≡ granuleBytes g) where
     pub fits-length : (length d ≡ n * v → ⊥) → false ≡ fitsGeometry g d
     unfolding fitsGeometry all
-    fits-length h = simp (sym p, sym q, sym r, le-leb _ _ a, le-leb _ _ b, le-leb _ _ c, le-leb _ _ e, eq-eqb _ _ f, ne-eqb _ _ h)
+    fits-length h = simp (z, sym p, sym q, sym r, le-leb _ _ a, le-leb _ _ b, le-leb _ _ c, le-leb _ _ e, eq-eqb _ _ f, ne-eqb _ _ h)
 
     pub fits-rest : length d ≡ n * v → leb (g .start + 10) (n * w) ≡ fitsGeometry g d
     unfolding fitsGeometry all
-    fits-rest h = simp (sym p, sym q, sym r, le-leb _ _ a, le-leb _ _ b, le-leb _ _ c, le-leb _ _ e, eq-eqb _ _ f, eq-eqb _ _ h, and-true)
+    fits-rest h = simp (z, sym p, sym q, sym r, le-leb _ _ a, le-leb _ _ b, le-leb _ _ c, le-leb _ _ e, eq-eqb _ _ f, eq-eqb _ _ h, and-true)
 
     pub fits-beyond : length d ≡ n * v → n ≤ mostGranules → mostGranules * w < g .start → false ≡ fitsGeometry g d
     fits-beyond h k l = sym (lt-leb (g .start + 10) (n * w) (let z = mul-le-mul-right w k in omega arith)) ∙ fits-rest h

@@ -14,6 +14,7 @@ fn disk(blocks: usize, units: usize, start: usize) -> Geometry {
         start,
         anyone: 0,
         system: true,
+        granule: 5,
     }
 }
 

@@ -1,19 +1,24 @@
 -- Where things are on a disk (01, Geometry and Directory layout). An image is the list of its bytes; a sector is 256 of them.
 use Prim.Native.Nat.{ℕ, _+_, _-_, _*_, _/_, _%_}
-use mathlib.Core.Bool.{Bool}
+use mathlib.Core.Bool.{Bool, cond}
 use mathlib.Core.List.{List, [], _∷_}
 use lib.Dec.{leb, ltb, eqb}
 use lib.ListN.{length, getD, set}
-use Rattle.meaning.specs.Lists.{count, keep, all}
+use Rattle.meaning.specs.Lists.{count, keep, all, has}
 use Rattle.meaning.specs.Bits.{bit, withBit, withoutBit}
 use Rattle.meaning.specs.declared.Geometry.{Geometry}
 
 -- Geometry ----------------------------------------------------------------------------------------------------------------
 
--- A granule is 5 sectors of 256 bytes. This is the only place where that 5 stands. Both are shut: what is proved of them is proved
+-- Let the geometry state sectors per granule: 5, 10 or 20 (02, §10; 01: 5).
+abbrev pub granuleSizes : List ℕ
+granuleSizes = 5 ∷ 10 ∷ 20 ∷ []
+
+-- How many sectors a granule has: as many as the geometry states. Where it states a size that is none, every call but one without a disk
+-- is refused with 1; only so that no sum divides by 0 a granule has 5 there. Shut, as the next one is: what is proved of them is proved
 -- from the laws of Sizes alone, which hold of any number of sectors above 0.
 unfoldable pub granuleSectors : Geometry → ℕ
-granuleSectors g = 5
+granuleSectors g = cond (has granuleSizes (g .granule)) (g .granule) 5
 
 unfoldable pub granuleBytes : Geometry → ℕ
 granuleBytes g = granuleSectors g * 256
@@ -28,11 +33,11 @@ mostUnits = 8
 abbrev pub mostGranules : ℕ
 mostGranules = mostBlocks * mostUnits
 
--- position 0 to 1,966,080: the bytes of the largest disk
+-- The highest position becomes 393,216 times that number, on every image: the bytes of the largest disk (01: 1,966,080)
 abbrev pub highest : Geometry → ℕ
 highest g = mostGranules * granuleBytes g
 
--- sector 0 to 7,679: a sector number is below this
+-- and the highest sector 1,536 times it less one: a sector number is below this (01: 0 to 7,679)
 abbrev pub sectorNumbers : Geometry → ℕ
 sectorNumbers g = mostGranules * granuleSectors g
 
@@ -43,14 +48,15 @@ granules g = g .blocks * g .units
 abbrev pub sectors : Geometry → ℕ
 sectors g = granules g * granuleSectors g
 
--- Directory start: a sector number, multiple of 5. The image length must be blocks × units × 1,280 bytes exactly, and at least 10
--- sectors must lie from the directory start to the end. Refusal 1 is given exactly where this is false.
+-- Directory start: a sector number, multiple of a granule's sectors. The image length must be blocks × units × the bytes of a granule
+-- exactly, and at least 10 sectors must lie from the directory start to the end; 1 covers any other size of a granule (02, §10). Refusal 1
+-- is given exactly where this is false.
 unfoldable pub fitsGeometry : Geometry → List ℕ → Bool
 fitsGeometry g d =
     all (leb 1 (g .blocks) ∷ leb (g .blocks) mostBlocks ∷ leb 1 (g .units) ∷ leb (g .units) mostUnits
     ∷ eqb (g .start % granuleSectors g) 0
     ∷ eqb (length d) (granules g * granuleBytes g)
-    ∷ leb (g .start + 10) (sectors g) ∷ [])
+    ∷ leb (g .start + 10) (sectors g) ∷ has granuleSizes (g .granule) ∷ [])
 
 -- the sectors of a granule
 abbrev pub granuleSectorsOf : Geometry → ℕ → List ℕ
@@ -60,7 +66,7 @@ granuleSectorsOf g n = count (n * granuleSectors g) (granuleSectors g)
 abbrev pub roundUp : ℕ → ℕ → ℕ
 roundUp size k = (size + (k - 1)) / k
 
--- the granules that a size needs: ⌈size/1280⌉
+-- the granules that a size needs: ⌈size / bytes of a granule⌉ (01: ⌈size/1280⌉)
 abbrev pub granulesFor : Geometry → ℕ → ℕ
 granulesFor g size = roundUp size (granuleBytes g)
 

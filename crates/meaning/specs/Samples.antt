@@ -61,7 +61,7 @@ leer = 0x4c ∷ 0x45 ∷ 0x45 ∷ 0x52 ∷ 0x20 ∷ 0x20 ∷ 0x20 ∷ 0x20 ∷ 0
 
 -- 4 blocks of 3 units, the directory at the front
 abbrev pub three : Geometry
-three = record { blocks = 4; units = 3; start = 0; anyone = 0x9999; system = true }
+three = record { blocks = 4; units = 3; start = 0; anyone = 0x9999; system = true; granule = 5 }
 
 -- where its HIT is, and the entries of slots 80H, 81H, 82H and A3H
 abbrev pub hits : ℕ
@@ -155,7 +155,7 @@ filled =
 
 -- 20 blocks of so many units
 abbrev pub wide : ℕ → Geometry
-wide units = record { blocks = 20; units = units; start = 0; anyone = 0; system = true }
+wide units = record { blocks = 20; units = units; start = 0; anyone = 0; system = true; granule = 5 }
 
 -- so long an image whose only file, LEER in slot 80H, has the pair 11H 42H and no bytes; every granule is set in the GAT
 abbrev pub onePair : ℕ → List ℕ

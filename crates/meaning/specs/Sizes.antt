@@ -2,9 +2,14 @@
 -- the facts of a geometry's granule by which these laws are used: no other law of a disk opens its definition.
 use Prim.Native.Nat.{ℕ, _+_, _-_, _*_, _/_, _%_, _≤_, _<_}
 use mathlib.Core.Path.{_≡_, refl, ap, sym, _∙_}
+use mathlib.Core.Logic.{_⊎_, inl, inr}
+use mathlib.Core.Bool.{Bool, true, false, cond}
+use lib.Dec.{eqb}
+use borrow.Author.Tests.{eqb-true}
 use native.Mathlib.Omega.{arith}
 use native.Mathlib.Nat.{add-zero, div-add-mod, mod-lt, div-lt-iff-lt-mul, le-div-iff-mul-le, mul-add-div, mul-add-mod-self-left, div-eq-of-lt, mod-eq-of-lt, mul-sub, div-le-of-le-mul, mul-le-mul, mul-le-mul-left, le-of-mul-le-mul-left, lt-of-mul-lt-mul-left, mul-pos}
-use Rattle.meaning.specs.Layout.{granuleSectors, granuleBytes, granules, sectors, mostGranules, highest, sectorNumbers, roundUp, granulesFor}
+use Rattle.meaning.specs.Lists.{has}
+use Rattle.meaning.specs.Layout.{granuleSizes, granuleSectors, granuleBytes, granules, sectors, mostGranules, highest, sectorNumbers, roundUp, granulesFor}
 use Rattle.meaning.specs.declared.Geometry.{Geometry}
 
 -- Any width ---------------------------------------------------------------------------------------------------------------
@@ -62,17 +67,36 @@ round-more {w} p size n h =
 
 -- The granule of a geometry -----------------------------------------------------------------------------------------------
 
-pub sectors-pos : (g : Geometry) → 0 < granuleSectors g
+-- the three sizes; every fact of a granule's sectors that is not a law of any width is seen here, case by case
+pub sectors-are : (g : Geometry) → (granuleSectors g ≡ 5) ⊎ ((granuleSectors g ≡ 10) ⊎ (granuleSectors g ≡ 20))
 unfolding granuleSectors
-sectors-pos g = omega arith
-
-pub sectors-most : (g : Geometry) → granuleSectors g ≤ 20
-unfolding granuleSectors
-sectors-most g = omega arith
+sectors-are g = go (g .granule) (eqb (g .granule) 5) (eqb (g .granule) 10) (eqb (g .granule) 20) refl refl refl
+  where
+    go : (n : ℕ) (a b c : Bool) → eqb n 5 ≡ a → eqb n 10 ≡ b → eqb n 20 ≡ c
+        → (cond (has granuleSizes n) n 5 ≡ 5) ⊎ ((cond (has granuleSizes n) n 5 ≡ 10) ⊎ (cond (has granuleSizes n) n 5 ≡ 20))
+    go n true b c p q r = let e : n ≡ 5 = eqb-true _ _ p in inl (rw e refl)
+    go n false true c p q r = let e : n ≡ 10 = eqb-true _ _ q in inr (inl (rw e refl))
+    go n false false true p q r = let e : n ≡ 20 = eqb-true _ _ r in inr (inr (rw e refl))
+    go n false false false p q r = inl (rw (p, q, r) refl)
 
 pub sectors-least : (g : Geometry) → 5 ≤ granuleSectors g
-unfolding granuleSectors
-sectors-least g = omega arith
+sectors-least g = go (sectors-are g)
+  where
+    go : (granuleSectors g ≡ 5) ⊎ ((granuleSectors g ≡ 10) ⊎ (granuleSectors g ≡ 20)) → 5 ≤ granuleSectors g
+    go (inl e) = omega arith
+    go (inr (inl e)) = omega arith
+    go (inr (inr e)) = omega arith
+
+pub sectors-pos : (g : Geometry) → 0 < granuleSectors g
+sectors-pos g = omega (arith, sectors-least g)
+
+pub sectors-most : (g : Geometry) → granuleSectors g ≤ 20
+sectors-most g = go (sectors-are g)
+  where
+    go : (granuleSectors g ≡ 5) ⊎ ((granuleSectors g ≡ 10) ⊎ (granuleSectors g ≡ 20)) → granuleSectors g ≤ 20
+    go (inl e) = omega arith
+    go (inr (inl e)) = omega arith
+    go (inr (inr e)) = omega arith
 
 pub bytes-are : (g : Geometry) → granuleBytes g ≡ 256 * granuleSectors g
 unfolding granuleBytes
@@ -80,6 +104,18 @@ bytes-are g = omega arith
 
 pub bytes-pos : (g : Geometry) → 0 < granuleBytes g
 bytes-pos g = omega (arith, bytes-are g, sectors-pos g)
+
+-- a granule has the sectors that the geometry states, where it states a size that is one; 5 is 01's
+pub sectors-stated : (g : Geometry) → has granuleSizes (g .granule) ≡ true → granuleSectors g ≡ g .granule
+unfolding granuleSectors
+sectors-stated g h = rw h refl
+
+pub sectors-01 : (g : Geometry) → g .granule ≡ 5 → granuleSectors g ≡ 5
+unfolding granuleSectors
+sectors-01 g e = rw e refl
+
+pub bytes-01 : (g : Geometry) → g .granule ≡ 5 → granuleBytes g ≡ 1280
+bytes-01 g e = omega (arith, bytes-are g, sectors-01 g e)
 
 -- a disk by its sectors
 pub bytes-sectors : (g : Geometry) → granules g * granuleBytes g ≡ 256 * sectors g

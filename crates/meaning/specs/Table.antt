@@ -6,10 +6,12 @@ use mathlib.Core.Path.{_≡_, refl, ap, _∙_}
 use mathlib.Core.Bool.{Bool, true, false, _&&_}
 use mathlib.Core.List.{List, [], _∷_}
 use native.Mathlib.Omega.{arith}
+use native.Mathlib.Nat.{add-zero}
 use lib.Dec.{ltb}
 use lib.ListN.{length, getD}
 use Rattle.meaning.specs.Lists.{count, each, keep, all}
 use Rattle.meaning.specs.Layout
+use Rattle.meaning.specs.Sizes
 use Rattle.meaning.specs.Layout.{directorySectors, isSlot, slots}
 use Rattle.meaning.specs.Names.{hash}
 use Rattle.meaning.specs.Entries
@@ -52,14 +54,14 @@ pub record Rows : Type 0 where
   -- 3. Pair 11H 42H, 3 units per block: granules 53 to 55, sectors 265 to 279. With 2 units: inconsistent (the
   -- first unit is 2: 26, run off the disk).
   pub pair : (count (Entries.pairStart 3 0x11 0x42) (Entries.pairLength 0x42) ≡ 53 ∷ 54 ∷ 55 ∷ [])
-      × ((g : Geometry) → each (Layout.granuleSectorsOf g) (53 ∷ 54 ∷ 55 ∷ []) ≡ count 265 15)
+      × ((g : Geometry) → g .granule ≡ 5 → each (Layout.granuleSectorsOf g) (53 ∷ 54 ∷ 55 ∷ []) ≡ count 265 15)
       × (Chain.owned (wide 3) (onePair 76800) 0x80 ≡ 53 ∷ 54 ∷ 55 ∷ []) × (check (wide 3) (onePair 76800) ≡ unplaced 0)
       × (Consistent.runsHold (wide 2) (onePair 51200) 0x80 ≡ false) × (check (wide 2) (onePair 51200) ≡ placed 26 0x80)
   -- 4. Sizes 0, 255, 256, 257 are (n, e) = (0, 0), (1, 255), (1, 0), (2, 1).
   pub sizes : Size 0 0 0 × Size 255 1 255 × Size 256 1 0 × Size 257 2 1
   -- 5. Byte 1,280 is in the second granule owned.
-  pub granule : ((g : Geometry) → Chain.granuleOf g 1279 ≡ 0) × ((g : Geometry) → Chain.granuleOf g 1280 ≡ 1)
-      × ((g : Geometry) (d : List ℕ) (s : ℕ) → place g d s 1280 ≡ 1280 * getD (Chain.owned g d s) 1 0)
+  pub granule : ((g : Geometry) → g .granule ≡ 5 → Chain.granuleOf g 1279 ≡ 0) × ((g : Geometry) → g .granule ≡ 5 → Chain.granuleOf g 1280 ≡ 1)
+      × ((g : Geometry) → g .granule ≡ 5 → (d : List ℕ) (s : ℕ) → place g d s 1280 ≡ 1280 * getD (Chain.owned g d s) 1 0)
   -- 6. A 32-granule run has low bits 1FH; the 33rd granule needs a new pair.
   pub run : (Entries.pairLength 0x1f ≡ 32) × ((second : ℕ) → Entries.pairLength second ≡ 32 → second % 32 ≡ 0x1f)
       × ((g : Geometry) (p : ℕ) (d : List ℕ) → Entries.runLength g d (Growth.tail g p d) (Entries.runs g d (Growth.tail g p d) - 1) ≡ 32
@@ -92,18 +94,18 @@ full-run : (g : Geometry) (p : ℕ) (d : List ℕ) → Entries.runLength g d (Gr
 unfolding lengthens
 full-run g p d e = last-fails _ _ _ (ap (λ n. ltb n 32) e)
 
-second-granule : (g : Geometry) (d : List ℕ) (s : ℕ) → place g d s 1280 ≡ 1280 * getD (Chain.owned g d s) 1 0
-unfolding place Layout.granuleBytes Layout.granuleSectors
-second-granule g d s = omega arith
+second-granule : (g : Geometry) → g .granule ≡ 5 → (d : List ℕ) (s : ℕ) → place g d s 1280 ≡ 1280 * getD (Chain.owned g d s) 1 0
+unfolding place
+second-granule g e d s = rw (Sizes.bytes-01 g e) (add-zero _)
 
 pub table : Rows
 unfolding opened slotsOf
 table = record {
   hashes = (refl, refl, refl);
   slot = (refl, refl, λ g. omega arith);
-  pair = (refl, (λ g. refl), refl, refl, refl, refl);
+  pair = (refl, (λ g e. rw (Sizes.sectors-01 g e) refl), refl, refl, refl, refl);
   sizes = ((refl, refl, refl), (refl, refl, refl), (refl, refl, refl), (refl, refl, refl));
-  granule = ((λ g. refl), (λ g. refl), second-granule);
+  granule = ((λ g e. rw (Sizes.bytes-01 g e) refl), (λ g e. rw (Sizes.bytes-01 g e) refl), second-granule);
   run = (refl, (λ second e. omega arith), full-run);
   date = λ n len main worker. (refl, refl);
   directory = λ g d e. (ap (10 +_) e, ap length (slots-of g d ∙ ap (λ n. slotsOf (10 + n)) e));

@@ -1,13 +1,14 @@
 // The shapes that document 01 speaks of. What they mean is in specs/.
 
 // What the caller states of a disk: blocks, units per block, the sector where the directory starts, the code that stands for "no
-// password", and whether it is a system disk (02, §4): nothing on the disk says so.
+// password", whether it is a system disk (02, §4) and how many sectors a granule has (02, §10): nothing on the disk says so.
 pub struct Geometry {
     pub blocks: usize,
     pub units: usize,
     pub start: usize,
     pub anyone: u16,
     pub system: bool,
+    pub granule: usize,
 }
 
 // What a caller holds of an open file: slot, name, position, record length and level.

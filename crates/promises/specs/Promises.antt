@@ -115,7 +115,7 @@ pub record Live (g : Geometry) (d : List ℕ) (h : Handle) : Type 0 where
 abbrev pub LengthInRange : ℕ → Type 0
 LengthInRange len = (1 ≤ len) × (len ≤ 256)
 
--- position 0 to 1,966,080, level 0 to 7
+-- position 0 to the highest one (01: 1,966,080), level 0 to 7
 pub record InRange (g : Geometry) (h : Handle) : Type 0 where
   pub at : h .at ≤ highest g
   pub length′ : LengthInRange (h .len)
@@ -292,8 +292,8 @@ Rows answer earlier (r ∷ rs) = ((answer ≡ r .0) ↔ (earlier × r .1)) × Ro
 abbrev pub Exactly : ℕ → Table → Type 0
 Exactly answer rs = Rows answer (Unit {0}) rs
 
--- blocks 1 to 192, units per block 1 to 8, directory start a multiple of 5; the image length is blocks × units × 1,280 bytes exactly, and
--- at least 10 sectors lie from the directory start to the end
+-- blocks 1 to 192, units per block 1 to 8, 5, 10 or 20 sectors per granule, directory start a multiple of these; the image length is blocks ×
+-- units × the bytes of a granule exactly, and at least 10 sectors lie from the directory start to the end
 pub record Fits (g : Geometry) (d : List ℕ) : Type 0 where
   pub blocks-lo : 1 ≤ g .blocks
   pub blocks-hi : g .blocks ≤ mostBlocks
@@ -302,6 +302,7 @@ pub record Fits (g : Geometry) (d : List ℕ) : Type 0 where
   pub start-at : g .start % granuleSectors g ≡ 0
   pub long : length d ≡ granules g * granuleBytes g
   pub ten : g .start + 10 ≤ sectors g
+  pub sized : (g .granule ≡ 5) ⊎ ((g .granule ≡ 10) ⊎ (g .granule ≡ 20))
 
 -- day 0 to 31, month and year offset 0 to 15
 pub record NewInRange (f : NewFile) : Type 0 where

@@ -7,8 +7,8 @@ use Prim.Native.Nat.{ℕ, zero, suc, _+_, _*_, _%_, _≤_, _<_}
 use native.Mathlib.Omega.{arith}
 use lib.ListN.{length, drop}
 use lib.Dec.{T, eqb, leb, ltb, T-not, not-T, eqb→eq, leb→le, le→leb, ltb→lt, lt→ltb, nltb→le}
-use Rattle.meaning.specs.Lists.{all, any, distinct, same, firstOr}
-use Rattle.meaning.specs.Layout.{fitsGeometry, granules, granuleBytes, granuleSectors, sectors, highest, mostBlocks, mostUnits, isSlot, granulesFor, sectorNumbers}
+use Rattle.meaning.specs.Lists.{all, any, distinct, same, firstOr, has}
+use Rattle.meaning.specs.Layout.{fitsGeometry, granuleSizes, granules, granuleBytes, granuleSectors, sectors, highest, mostBlocks, mostUnits, isSlot, granulesFor, sectorNumbers}
 use Rattle.meaning.specs.Names.{wellFormed}
 use Rattle.meaning.specs.Entries.{inUse, extension, primary, nameOf, sizeOf, system, noGrowth, mainCode, workerCode, sectorCount}
 use Rattle.meaning.specs.Consistent.{consistent}
@@ -166,6 +166,29 @@ fits-iff : (g : Geometry) (d : List ℕ) → T (fitsGeometry g d) ↔ Fits g d
 unfolding fitsGeometry words
 fits-iff g d = (fore, back)
   where
+    Sized : Type 0
+    Sized = (g .granule ≡ 5) ⊎ ((g .granule ≡ 10) ⊎ (g .granule ≡ 20))
+
+    size-of : T (has granuleSizes (g .granule)) → Sized
+    size-of t = go (Members.or-e (eqb (g .granule) 5) (eqb (g .granule) 10 || (eqb (g .granule) 20 || false)) t)
+      where
+        go : T (eqb (g .granule) 5) ⊎ T (eqb (g .granule) 10 || (eqb (g .granule) 20 || false)) → Sized
+        go (inl x) = inl (eqb→eq _ _ x)
+        go (inr x) = more (Members.or-e (eqb (g .granule) 10) (eqb (g .granule) 20 || false) x)
+          where
+            last : T (eqb (g .granule) 20) ⊎ T false → Sized
+            last (inl y) = inr (inr (eqb→eq _ _ y))
+            last (inr y) = absurd y
+
+            more : T (eqb (g .granule) 10) ⊎ T (eqb (g .granule) 20 || false) → Sized
+            more (inl y) = inr (inl (eqb→eq _ _ y))
+            more (inr y) = last (Members.or-e (eqb (g .granule) 20) false y)
+
+    of-size : Sized → T (has granuleSizes (g .granule))
+    of-size (inl e) = subst (λ (n : ℕ). T (has granuleSizes n)) (sym e) tt
+    of-size (inr (inl e)) = subst (λ (n : ℕ). T (has granuleSizes n)) (sym e) tt
+    of-size (inr (inr e)) = subst (λ (n : ℕ). T (has granuleSizes n)) (sym e) tt
+
     fore : T (fitsGeometry g d) → Fits g d
     fore t =
         let a : T (leb 1 (g .blocks)) = search parts depth 9 in
@@ -175,7 +198,8 @@ fits-iff g d = (fore, back)
         let f : T (eqb (g .start % granuleSectors g) 0) = search parts depth 9 in
         let h : T (eqb (length d) (granules g * granuleBytes g)) = search parts depth 9 in
         let i : T (leb (g .start + 10) (sectors g)) = search parts depth 9 in
-        record { blocks-lo = leb→le _ _ a; blocks-hi = leb→le _ _ b; units-lo = leb→le _ _ c; units-hi = leb→le _ _ e; start-at = eqb→eq _ _ f; long = eqb→eq _ _ h; ten = leb→le _ _ i }
+        let j : T (has granuleSizes (g .granule)) = search parts depth 9 in
+        record { blocks-lo = leb→le _ _ a; blocks-hi = leb→le _ _ b; units-lo = leb→le _ _ c; units-hi = leb→le _ _ e; start-at = eqb→eq _ _ f; long = eqb→eq _ _ h; ten = leb→le _ _ i; sized = size-of j }
 
     back : Fits g d → T (fitsGeometry g d)
     back k =
@@ -186,6 +210,7 @@ fits-iff g d = (fore, back)
         let f : T (eqb (g .start % granuleSectors g) 0) = Members.eq-T (k .start-at) in
         let h : T (eqb (length d) (granules g * granuleBytes g)) = Members.eq-T (k .long) in
         let i : T (leb (g .start + 10) (sectors g)) = le→leb _ _ (k .ten) in
+        let j : T (has granuleSizes (g .granule)) = of-size (k .sized) in
         search Members.and-i depth 9
 
 pub length-iff : (len : ℕ) → T (goodLength len) ↔ LengthInRange len

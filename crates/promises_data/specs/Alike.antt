@@ -28,7 +28,7 @@ use Rattle.differences.specs.Compare.{compare}
 
 -- the same disk, stated as a system disk (true) or as a data disk (false)
 abbrev pub stated : Bool → Geometry → Geometry
-stated b g = record { blocks = g .blocks; units = g .units; start = g .start; anyone = g .anyone; system = b }
+stated b g = record { blocks = g .blocks; units = g .units; start = g .start; anyone = g .anyone; system = b; granule = g .granule }
 
 -- alike but for the flag
 pub record Alike (g h : Geometry) : Type 0 where
@@ -36,6 +36,7 @@ pub record Alike (g h : Geometry) : Type 0 where
   pub units : g .units ≡ h .units
   pub start : g .start ≡ h .start
   pub anyone : g .anyone ≡ h .anyone
+  pub granule : g .granule ≡ h .granule
 
 -- the file of that handle grows alike: to k granules more, or to the word that no slot is left
 abbrev pub GrowsAlike : Geometry → Geometry → List ℕ → Handle → ℕ → Type 0

@@ -356,7 +356,7 @@ module _ (g : Geometry) (b : Bool) (d : List ℕ) where
 -- a geometry alike but for the flag is this one, stated by that one's flag
 pub alike-is : (g h : Geometry) → Alike g h → stated (h .system) g ≡ h
 alike-is g h e =
-    λ i. record { blocks = e .blocks i; units = e .units i; start = e .start i; anyone = e .anyone i; system = h .system }
+    λ i. record { blocks = e .blocks i; units = e .units i; start = e .start i; anyone = e .anyone i; system = h .system; granule = e .granule i }
 
 pub every-disk : EveryDisk
 every-disk g h e d = subst (λ (x : Geometry). consistent g d ≡ consistent x d) (alike-is g h e) (consistent-same g (h .system) d)

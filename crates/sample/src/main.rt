@@ -14,6 +14,7 @@ fn disk() -> Geometry {
         start: 80,
         anyone: 0,
         system: true,
+        granule: 5,
     }
 }
 

@@ -18,7 +18,7 @@ use Rattle.together.specs.Demand3.{demand3}
 
 -- 2 blocks of 2 units, the directory at the front in granules 0 and 1, no file
 abbrev pub tiny : Geometry
-tiny = record { blocks = 2; units = 2; start = 0; anyone = 0; system = true }
+tiny = record { blocks = 2; units = 2; start = 0; anyone = 0; system = true; granule = 5 }
 
 abbrev pub blank : List ℕ
 blank = 3 ∷ replicate 5119 0
