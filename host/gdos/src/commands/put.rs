@@ -255,7 +255,7 @@ fn space_left(disk: &Disk, typed: &Typed, size: usize) -> String {
     }
     let entries = disk.entries().unwrap_or_default();
     let owned = entries.iter().find(|entry| entry.name() == typed.name).map_or(0, |entry| entry.granules());
-    let wanted = Geometry::granules_for(size).saturating_sub(owned);
+    let wanted = disk.geometry().granules_for(size).saturating_sub(owned);
     let free = disk.count().map_or(0, |counts| counts.free);
     let more = if owned > 0 { "more " } else { "" };
     let wanted = format!("{wanted} {more}granule{}", if wanted == 1 { "" } else { "s" });
