@@ -1,6 +1,6 @@
 /* genie.h: Genie-DOS disks (TRSDOS family, 1983) for hosts in C and C++.
  *
- * A disk is an image that the caller lends for one call: blocks x units x 1,280 bytes, at most 1,966,080. The library keeps nothing between calls.
+ * A disk is an image that the caller lends for one call: blocks x units granules, at most 7,864,320 bytes. The library keeps nothing between calls.
  * Every call tests all that it is given, whatever the numbers and whatever the image holds, and answers with one number: 0 if it was done, else
  * the first refusal of the table below whose case holds. A refused call changes nothing; what it hands back is said at "Answers under a refusal".
  *
@@ -13,20 +13,23 @@
  * ARGUMENTS THAT MANY CALLS SHARE
  *   image, image_len      the disk; const where the call only reads it.
  *   blocks                1 to 192.
- *   units                 granules in a block, 1 to 8. Granule number = block x units + unit; a granule is 5 sectors of 256 bytes.
- *   start                 the directory's first sector, a multiple of 5, with at least 10 sectors from there to the end of the disk.
+ *   units                 granules in a block, 1 to 8. Granule number = block x units + unit.
+ *   start                 the directory's first sector, a multiple of granule_sectors, with at least 10 sectors from there to the end of the disk.
  *   open_code             the 16-bit code that stands for "no password".
  *   system_disk           true: slots 32 x row + s with row 0 to 3 and s 0 to 7 are kept for system files, and no call gives one to a file.
  *                         false, a data disk: only slots 00H and 01H are kept, so that a directory of 30 sectors takes 222 files.
  *                         Nothing on a disk says which it is; only what genie_create and a growing file find free hangs on it, and no
  *                         refusal but 8.
+ *   granule_sectors       sectors of 256 bytes in a granule: 5, or 10 or 20 on a hard disk. The image has blocks x units x
+ *                         GENIE_GRANULE_BYTES(granule_sectors) bytes. The directory has 10, 15, 20, 25 or 30 sectors whatever the size; every
+ *                         granule that it touches is the directory's, to its end. Nothing on a disk says how large its granules are.
  *   name, name_len        11 bytes: name of 1 to 8, then type of 0 to 3, each padded right with 20H. Allowed bytes: 30H to 39H, 41H to 5DH.
  *                         A name that comes in must be exactly 11 bytes long.
  *   handle, handle_len    at least GENIE_HANDLE_BYTES bytes, of which only the first 19 are used; const where the call leaves them alone:
  *                           0        slot of the file's first entry
  *                           1        level, 0 (everything) to 7 (nothing)
  *                           2, 3     record length, 1 to 256, low byte first
- *                           4 to 7   position, 0 to 1,966,080, low byte first
+ *                           4 to 7   position, 0 to GENIE_HIGHEST_POSITION(granule_sectors), low byte first
  *                           8 to 18  name, 11 bytes
  *                         Between calls the caller may set the position (bytes 4 to 7).
  *   checking              whether password codes are tested.
@@ -50,7 +53,7 @@ extern "C" {
 
 enum genie_refusal {
     GENIE_DONE = 0,         /* accepted */
-    GENIE_GEOMETRY = 1,     /* blocks, units, start or the image's length is not as said above */
+    GENIE_GEOMETRY = 1,     /* blocks, units, start, granule_sectors or the image's length is not as said above */
     /* 21 to 30: the disk is not consistent; never by genie_free. With the slot of the entry at fault, except where it says "no slot". */
     GENIE_FAULT_DIRECTORY_LENGTH = 21, /* HIT byte 1FH is not 0, 5, 10, 15 or 20, or the directory passes the end of the disk; no slot */
     GENIE_FAULT_HIT = 22,   /* the slot's HIT byte is not 0 though its entry is not in use, or is 0 though it is, or is not the hash of its file's name
@@ -67,10 +70,11 @@ enum genie_refusal {
                                file's chain is whole */
     GENIE_FAULT_DIRECTORY_GRANULE = 30, /* a granule of the directory is in the entry's runs, and its file has no system flag; or, with no slot and after
                                all slots, a granule of the directory is free in the GAT */
-    GENIE_RANGE = 12,       /* a position, record length, level, date or sector (0 to 7,679) is out of range; position + length passes 1,966,080 in
-                               a write; the buffer is shorter than the record length; the handle is under 19 bytes; the name buffer of list
+    GENIE_RANGE = 12,       /* a position, record length, level, date or sector is out of range; position + length passes the highest position
+                               in a write; the buffer is shorter than the record length; the handle is under 19 bytes; the name buffer of list
                                or compare is under 11 bytes; bring back is given a slot that the directory has not. A handle's three numbers
-                               are tested in every call that takes one, used or not. */
+                               are tested in every call that takes one, used or not. The highest position and the highest sector go by
+                               granule_sectors alone, however small the image. */
     GENIE_NAME = 3,         /* the name is not well formed, or not 11 bytes long (calls by name) */
     GENIE_STALE = 7,        /* the handle's slot is none that the directory has, or is not in use, or an extension, or has another name */
     GENIE_NOT_FOUND = 4,    /* no file has that name (look up, open) */
@@ -94,87 +98,95 @@ enum genie_refusal {
 #define GENIE_HANDLE_BYTES 19
 #define GENIE_NAME_BYTES 11
 #define GENIE_SECTOR_BYTES 256
-#define GENIE_GRANULE_BYTES 1280
-#define GENIE_HIGHEST_POSITION 1966080
+/* Of granules of s sectors (5, 10 or 20), as numbers of type size_t: their bytes, 1,280, 2,560 or 5,120; the highest position in a file, 1,966,080,
+ * 3,932,160 or 7,864,320, which is also the length of the largest image; and a file's highest sector, 7,679, 15,359 or 30,719. */
+#define GENIE_GRANULE_BYTES(s) ((size_t)GENIE_SECTOR_BYTES * (s))
+#define GENIE_HIGHEST_POSITION(s) ((size_t)192 * 8 * GENIE_GRANULE_BYTES(s))
+#define GENIE_HIGHEST_SECTOR(s) (GENIE_HIGHEST_POSITION(s) / GENIE_SECTOR_BYTES - 1)
 #define GENIE_NO_SLOT 256
 
 /* Check: whether the image is a consistent disk. Refusals 1, 21 to 30 with *fault_slot. (Every other call makes this check first and tells the same
  * number and slot, genie_free excepted.) */
 uint8_t genie_check(const uint8_t *image, size_t image_len, size_t blocks, size_t units, size_t start, uint16_t open_code, bool system_disk,
-                    size_t *fault_slot);
+                    size_t granule_sectors, size_t *fault_slot);
 
 /* Look up: the slot of the file's first entry in *slot; in *compared how many entries were compared, those whose HIT byte is the name's hash, by
  * rising slot number, the found one included. Under refusal 4 *compared counts them all. Refusals 1, 21 to 30 with *fault_slot, 3, 4. */
 uint8_t genie_look_up(const uint8_t *image, size_t image_len, size_t blocks, size_t units, size_t start, uint16_t open_code,
-                      bool system_disk, const uint8_t *name, size_t name_len, size_t *slot, size_t *compared, size_t *fault_slot);
+                      bool system_disk, size_t granule_sectors, const uint8_t *name, size_t name_len, size_t *slot, size_t *compared,
+                      size_t *fault_slot);
 
 /* Open: makes a handle with position 0 and the record length given (1 to 256). Its level is 0 if checking is off, the file's main code is
  * open_code, or code is the main code; the file's stored level if code is the worker code only. Refusals 1, 21 to 30 with *fault_slot, 12, 3, 4, 5. */
 uint8_t genie_open(const uint8_t *image, size_t image_len, size_t blocks, size_t units, size_t start, uint16_t open_code, bool system_disk,
-                   const uint8_t *name, size_t name_len, size_t length, bool checking, uint16_t code,
+                   size_t granule_sectors, const uint8_t *name, size_t name_len, size_t length, bool checking, uint16_t code,
                    uint8_t *handle, size_t handle_len, size_t *fault_slot);
 
 /* Create: an empty file with that name, date (day 0 to 31, month 0 to 15, year since 1980 0 to 15), record length (1 to 256) and codes, in the first
  * permitted free slot; *old is 0, the handle has level 0. If the file exists nothing changes on the disk: it is opened as by genie_open with
  * main_code as the code given, and *old is 1. The numbers are tested either way. Refusals 1, 21 to 30 with *fault_slot, 12, 3, 5, 8. */
 uint8_t genie_create(uint8_t *image, size_t image_len, size_t blocks, size_t units, size_t start, uint16_t open_code, bool system_disk,
-                     const uint8_t *name, size_t name_len, size_t day, size_t month, size_t year, size_t length,
-                     uint16_t main_code, uint16_t worker_code, bool checking, size_t *old,
-                     uint8_t *handle, size_t handle_len, size_t *fault_slot);
+                     size_t granule_sectors, const uint8_t *name, size_t name_len, size_t day, size_t month, size_t year, size_t length,
+                     uint16_t main_code, uint16_t worker_code, bool checking, size_t *old, uint8_t *handle, size_t handle_len,
+                     size_t *fault_slot);
 
 /* Read record: the file's bytes from the handle's position, as many as its record length, go to the start of the buffer; the rest of the buffer is
  * untouched; the handle's position advances by the record length. Refusals 1, 21 to 30 with *fault_slot, 12, 7, 6, 10. */
 uint8_t genie_read_record(const uint8_t *image, size_t image_len, size_t blocks, size_t units, size_t start, uint16_t open_code,
-                          bool system_disk, uint8_t *handle, size_t handle_len, uint8_t *buffer, size_t buffer_len, size_t *fault_slot);
+                          bool system_disk, size_t granule_sectors, uint8_t *handle, size_t handle_len, uint8_t *buffer, size_t buffer_len,
+                          size_t *fault_slot);
 
-/* Read sector: where the file's sector k (0 to 7,679) lies. Its bytes are image[*from] up to, not including, image[*to]: 256 of them, or fewer in the
- * file's last sector. Nothing is copied, the position plays no part and does not move. Refusals 1, 21 to 30 with *fault_slot, 12, 7, 6, 10. */
+/* Read sector: where the file's sector k (0 to GENIE_HIGHEST_SECTOR(granule_sectors)) lies. Its bytes are image[*from] up to, not including,
+ * image[*to]: 256 of them, or fewer in the file's last sector. Nothing is copied, the position plays no part and does not move.
+ * Refusals 1, 21 to 30 with *fault_slot, 12, 7, 6, 10. */
 uint8_t genie_read_sector(const uint8_t *image, size_t image_len, size_t blocks, size_t units, size_t start, uint16_t open_code,
-                          bool system_disk, const uint8_t *handle, size_t handle_len, size_t k, size_t *from, size_t *to, size_t *fault_slot);
+                          bool system_disk, size_t granule_sectors, const uint8_t *handle, size_t handle_len, size_t k, size_t *from,
+                          size_t *to, size_t *fault_slot);
 
 /* Write record: the first bytes of the buffer, as many as the handle's record length, go to the file at the handle's position, and the position
  * advances by that length. Bytes between the old size and the position become zero. Sequential: the size becomes position + length, even if smaller.
  * Not sequential (random): the larger of that and the old size. Exactly the granules that the new size lacks are taken. The file's flag B (worked
  * on) is set. Refusals 1, 21 to 30 with *fault_slot, 12, 7, 6, 11, 9, 8. */
 uint8_t genie_write_record(uint8_t *image, size_t image_len, size_t blocks, size_t units, size_t start, uint16_t open_code,
-                           bool system_disk, uint8_t *handle, size_t handle_len, bool sequential, const uint8_t *buffer,
-                           size_t buffer_len, size_t *fault_slot);
+                           bool system_disk, size_t granule_sectors, uint8_t *handle, size_t handle_len, bool sequential,
+                           const uint8_t *buffer, size_t buffer_len, size_t *fault_slot);
 
-/* Allot: takes granules until the file owns those of its sectors 0 to k (k is 0 to 7,679); none if it does. The size does not change.
- * Refusals 1, 21 to 30 with *fault_slot, 12, 7, 6, 11, 9, 8. */
+/* Allot: takes granules until the file owns those of its sectors 0 to k (k is 0 to GENIE_HIGHEST_SECTOR(granule_sectors)); none if it does.
+ * The size does not change. Refusals 1, 21 to 30 with *fault_slot, 12, 7, 6, 11, 9, 8. */
 uint8_t genie_allot(uint8_t *image, size_t image_len, size_t blocks, size_t units, size_t start, uint16_t open_code, bool system_disk,
-                    const uint8_t *handle, size_t handle_len, size_t k, size_t *fault_slot);
+                    size_t granule_sectors, const uint8_t *handle, size_t handle_len, size_t k, size_t *fault_slot);
 
 /* Trim: gives back the granules that the size does not need, the last ones; with the file's flag F (keep space) set nothing changes.
  * Refusals 1, 21 to 30 with *fault_slot, 12, 7, 6. */
 uint8_t genie_trim(uint8_t *image, size_t image_len, size_t blocks, size_t units, size_t start, uint16_t open_code, bool system_disk,
-                   const uint8_t *handle, size_t handle_len, size_t *fault_slot);
+                   size_t granule_sectors, const uint8_t *handle, size_t handle_len, size_t *fault_slot);
 
 /* Kill: the file is gone, its granules and slots are free. The handle stays as it is, and is stale. Refusals 1, 21 to 30 with *fault_slot, 12, 7, 6. */
 uint8_t genie_kill(uint8_t *image, size_t image_len, size_t blocks, size_t units, size_t start, uint16_t open_code, bool system_disk,
-                   const uint8_t *handle, size_t handle_len, size_t *fault_slot);
+                   size_t granule_sectors, const uint8_t *handle, size_t handle_len, size_t *fault_slot);
 
 /* Bring back: the killed file whose first entry is in that slot. It can be done as long as its entries are whole, no file has its name and its
  * granules are free. They are in use again then, as many as *slots and *granules say; nothing else changes, so the file has the entries that it had
  * before the kill, and its bytes are what the granules hold now. Refusals 1, 21 to 30 with *fault_slot, 12, 17, 6, 18, 19, 20. */
 uint8_t genie_bring_back(uint8_t *image, size_t image_len, size_t blocks, size_t units, size_t start, uint16_t open_code, bool system_disk,
-                         size_t slot, size_t *slots, size_t *granules, size_t *fault_slot);
+                         size_t granule_sectors, size_t slot, size_t *slots, size_t *granules, size_t *fault_slot);
 
 /* List: the file with that number, counted from 0 by rising slot, system files left out. Its name goes to the first 11 bytes of name (a buffer of at
  * least 11 bytes), its size in bytes and the granules it owns to *size and *granules; *more is 1. Past the last file the call is accepted too: *more,
  * *size and *granules are 0, the name buffer is as it stood. Refusals 1, 21 to 30 with *fault_slot, 12. */
 uint8_t genie_list(const uint8_t *image, size_t image_len, size_t blocks, size_t units, size_t start, uint16_t open_code, bool system_disk,
-                   size_t number, uint8_t *name, size_t name_len, size_t *size, size_t *granules, size_t *more, size_t *fault_slot);
+                   size_t granule_sectors, size_t number, uint8_t *name, size_t name_len, size_t *size, size_t *granules, size_t *more,
+                   size_t *fault_slot);
 
 /* Count: in *files the files that the listing tells, in *free the granules that are free. Refusals 1, 21 to 30 with *fault_slot. */
 uint8_t genie_count(const uint8_t *image, size_t image_len, size_t blocks, size_t units, size_t start, uint16_t open_code, bool system_disk,
-                    size_t *files, size_t *free, size_t *fault_slot);
+                    size_t granule_sectors, size_t *files, size_t *free, size_t *fault_slot);
 
 /* Free space: in *free the granules that are free, in *longest how many lie in the longest free stretch, a row of free granules with consecutive
  * numbers, across blocks. Only the GAT sector is looked at, so a disk that is not consistent is answered too: *free then only counts the clear GAT
  * bits of the disk's granules. On a consistent disk it is the number that genie_count gives. Refusal 1. */
 uint8_t genie_free(const uint8_t *image, size_t image_len, size_t blocks, size_t units, size_t start, uint16_t open_code, bool system_disk,
-                   size_t *free, size_t *longest);
+                   size_t granule_sectors, size_t *free, size_t *longest);
 
 /* What genie_compare tells in *kind ... */
 enum genie_difference {
@@ -198,9 +210,9 @@ enum genie_difference {
  * is GENIE_NO_MORE, the name buffer is as it stood. *image is 0, or the image that is refused: 1 the first, 2 the second. Refusals 1 and 21 to 30 of
  * the first image, then of the second, then 12; *fault_slot is a slot of the image refused. */
 uint8_t genie_compare(const uint8_t *first, size_t first_len, size_t blocks, size_t units, size_t start, uint16_t open_code,
-                      bool system_disk, const uint8_t *second, size_t second_len, size_t blocks2, size_t units2, size_t start2,
-                      uint16_t open_code2, bool system_disk2, size_t number, uint8_t *name, size_t name_len,
-                      size_t *image, size_t *kind, size_t *position, size_t *flags, size_t *fault_slot);
+                      bool system_disk, size_t granule_sectors, const uint8_t *second, size_t second_len, size_t blocks2, size_t units2,
+                      size_t start2, uint16_t open_code2, bool system_disk2, size_t granule_sectors2, size_t number, uint8_t *name,
+                      size_t name_len, size_t *image, size_t *kind, size_t *position, size_t *flags, size_t *fault_slot);
 
 #ifdef __cplusplus
 }

@@ -15,14 +15,16 @@ const GEOMETRY: &str = "\
 The geometry
   An image is raw: the disk's sectors of 256 bytes in order, which is also the JV1 container. It does not say
   how its disk is organized. The first of these that says anything of it is heeded:
-    1. options: --preset, or --blocks, --units and --start (these go before the preset's numbers)
+    1. options: --preset, or --blocks, --units and --start, and --granule where a granule has not 5 sectors (these go
+       before the preset's numbers)
     2. GDOS_GEOMETRY in the environment: a preset's name, or as blocks=48 units=3 start=360
     3. IMAGE.gdos beside the image: gdos new makes it, and gdos geometry IMAGE --set
     4. a search
   Numbers are typed as 1440, 5A0H or 0x5A0. Options that leave one geometry state it; what they leave open is
   searched. The search takes a geometry only if the disk is consistent under it, a file's name speaks for its
   directory, and nothing speaks for another; otherwise nothing is read, and what was found is told with the options
-  to type. Commands that only read tell on standard error what they found. Those that change a disk (put, rm, trim,
+  to type. It tries granules of 5 sectors, and only where none of these readings is consistent 10 and 20, which it
+  says. Commands that only read tell on standard error what they found. Those that change a disk (put, rm, trim,
   undelete) want a geometry that is stated; --search lets them use what is found. `gdos probe` shows the evidence.
 ";
 
@@ -89,7 +91,7 @@ fn presets() -> String {
     for preset in shape::PRESETS {
         let g = preset.geometry;
         text += &format!(
-            "  {:<9}{:>3} blocks of {} units, directory at sector {:>4}: {}\n",
+            "  {:<9}{:>3} blocks of {} units, directory at sector {:>5}: {}\n",
             preset.name, g.blocks, g.units, g.start, preset.about
         );
     }

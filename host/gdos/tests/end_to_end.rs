@@ -525,12 +525,12 @@ fn a_file_longer_than_any_image() {
     File::create(folder.path("long.img")).unwrap().set_len(5_000_000_000).unwrap();
     let done = folder.gdos(&["check", "long.img"]);
     assert_eq!(done.status, 1);
-    assert!(done.err.contains("no geometry fits its length of more than 1966080 bytes"), "{}", done.err);
+    assert!(done.err.contains("no geometry fits its length of more than 7864320 bytes"), "{}", done.err);
     let done = folder.gdos(&["check", "long.img", "--preset", "dd40"]);
-    assert!(done.err.contains("has 184320 bytes, the image more than 1966080"), "{}", done.err);
+    assert!(done.err.contains("has 184320 bytes, the image more than 7864320"), "{}", done.err);
     folder.done(&["new", "d.img", "--preset", "largest"]);
     let done = folder.gdos(&["put", "d.img", "long.img", "--as", "LANG"]);
-    assert!(done.err.contains("it has more than 1966080 bytes, which no disk can hold"), "{}", done.err);
+    assert!(done.err.contains("it has more than 7864320 bytes, which no disk can hold"), "{}", done.err);
 }
 
 /// A file of the host that is overwritten keeps its owner.
@@ -724,7 +724,7 @@ fn probing_is_quick() {
     // The largest image, and one whose length has the most geometries, filled so that no check can stop early on the
     // directory's length.
     let folder = Folder::new("quick");
-    for (name, bytes) in [("large.img", 1_966_080), ("many.img", 168 * 8 * 1280)] {
+    for (name, bytes) in [("large.img", 1_966_080), ("many.img", 168 * 8 * 1280), ("hard.img", 7_864_320)] {
         for filler in [0, 0xff, 5] {
             folder.write(name, vec![filler; bytes]);
             let begun = SystemTime::now();

@@ -6,7 +6,7 @@ use crate::calls::{number, tested, Number, LEVEL, RANGE};
 use crate::directory::{
     entry, files, has_slot, hit_place, put_entry, set_taken, slots, taken, MARKER_LAST, MARKER_LINK, PAIRS,
 };
-use crate::geometry::{Geometry, GRANULE_BYTES};
+use crate::geometry::Geometry;
 use crate::names::{hash, well_formed};
 
 /// "17 slot in use"
@@ -81,7 +81,7 @@ fn killed(image: &[u8], g: &Geometry, d: usize, slot: u8) -> Option<Killed> {
     let mut once = granules.clone();
     once.sort_unstable();
     once.dedup();
-    let fits = this.size().is_some_and(|size| size <= granules.len() * GRANULE_BYTES);
+    let fits = this.size().is_some_and(|size| size <= granules.len() * g.granule_bytes());
     (once.len() == granules.len() && fits).then_some(Killed { slots: walked, granules })
 }
 

@@ -5,7 +5,7 @@ use crate::call::{Call, Outcome};
 use crate::calls::{Birth, ACCEPTED};
 use crate::directory::{directory_sectors, entry, files, owned, slots};
 use crate::disks::{random_name, random_name_like, Disk};
-use crate::geometry::{Geometry, GRANULE_BYTES, GRANULE_SECTORS, HIGHEST_POSITION, HIGHEST_SECTOR};
+use crate::geometry::{Geometry, GRANULE_SIZES, MOST_UNITS};
 use crate::handle::{Handle, HANDLE_BYTES};
 use crate::names::{well_formed, Name, BLANK, FULL_NAME_BYTES};
 use crate::random::Random;
@@ -40,7 +40,7 @@ pub fn wild(random: &mut Random) -> usize {
 pub fn odd_geometry(random: &mut Random, g: &Geometry, image_len: usize) -> (Geometry, usize) {
     let mut odd = *g;
     let mut length = image_len;
-    match random.within(0, 9) {
+    match random.within(0, 12) {
         0 => odd.blocks = wild(random),
         1 => odd.units = wild(random),
         2 => odd.start = wild(random),
@@ -49,10 +49,14 @@ pub fn odd_geometry(random: &mut Random, g: &Geometry, image_len: usize) -> (Geo
         4 if g.units.is_multiple_of(2) => (odd.blocks, odd.units) = (g.blocks * 2, g.units / 2),
         4 if g.blocks.is_multiple_of(2) => (odd.blocks, odd.units) = (g.blocks / 2, g.units * 2),
         4 => odd.blocks = 0,
-        5 => odd.start = random.within(0, g.sectors() / GRANULE_SECTORS + 1) * GRANULE_SECTORS,
+        5 => odd.start = random.within(0, g.sectors() / g.granule_sectors + 1) * g.granule_sectors,
         6 => odd.start = g.start + random.within(1, 4),
-        7 => length = *random.pick(&[0, 1, GRANULE_BYTES, image_len - 1, image_len - GRANULE_BYTES]),
+        7 => length = *random.pick(&[0, 1, g.granule_bytes(), image_len - 1, image_len - g.granule_bytes()]),
         8 => odd.start = g.sectors() - *random.pick(&[0, 5, 10]),
+        9 => odd.granule_sectors = wild(random),
+        10 => odd.granule_sectors = *random.pick(&[0, 1, 4, 6, 15, 25, 40]),
+        // The same length by granules of another size: consistent or not, refused or not.
+        11 => retold(random, &mut odd),
         _ => {
             // Sums and products that wrap around to the right length.
             odd.blocks = g.blocks.wrapping_add(1 << random.within(56, 63));
@@ -62,6 +66,16 @@ pub fn odd_geometry(random: &mut Random, g: &Geometry, image_len: usize) -> (Geo
         }
     }
     (odd, length)
+}
+
+/// States the same length with granules of another size, if blocks or units can make up for it.
+fn retold(random: &mut Random, odd: &mut Geometry) {
+    let size = *random.pick(&GRANULE_SIZES);
+    let granules = odd.sectors() / size;
+    odd.granule_sectors = size;
+    let units = (1..=MOST_UNITS).rev().find(|units| granules.is_multiple_of(*units)).expect("1 divides");
+    (odd.blocks, odd.units) = (granules / units, units);
+    odd.start -= odd.start % size;
 }
 
 impl Caller {
@@ -161,7 +175,15 @@ impl Caller {
         (0..length).map(|_| random.byte()).collect()
     }
 
-    fn position(random: &mut Random, size: usize, granules: usize, free: usize, length: usize) -> u32 {
+    fn position(
+        random: &mut Random,
+        g: &Geometry,
+        size: usize,
+        granules: usize,
+        free: usize,
+        length: usize,
+    ) -> u32 {
+        let (width, highest) = (g.granule_bytes(), g.highest_position());
         let around =
             |random: &mut Random, at: usize| (at + random.within(0, 3)).saturating_sub(random.within(0, 2));
         let position = match random.within(0, 29) {
@@ -169,15 +191,15 @@ impl Caller {
             6 | 7 => size,
             8..=10 => around(random, size.saturating_sub(length)),
             11 | 12 => around(random, size),
-            13..=15 => around(random, (granules * GRANULE_BYTES).saturating_sub(length)),
-            16..=18 => random.within(0, (granules + 2) * GRANULE_BYTES),
-            19 => around(random, ((granules + free) * GRANULE_BYTES).saturating_sub(length)),
-            20 => random.within(0, (granules + free + 1) * GRANULE_BYTES),
-            21 => around(random, HIGHEST_POSITION - 256),
-            22 => around(random, HIGHEST_POSITION.saturating_sub(length)),
-            23 => *random.pick(&[HIGHEST_POSITION, HIGHEST_POSITION + 1, u32::MAX as usize, 1 << 31]),
+            13..=15 => around(random, (granules * width).saturating_sub(length)),
+            16..=18 => random.within(0, (granules + 2) * width),
+            19 => around(random, ((granules + free) * width).saturating_sub(length)),
+            20 => random.within(0, (granules + free + 1) * width),
+            21 => around(random, highest - 256),
+            22 => around(random, highest.saturating_sub(length)),
+            23 => *random.pick(&[highest, highest + 1, u32::MAX as usize, 1 << 31]),
             24 => random.draw() as usize,
-            25..=27 => (granules + random.within(2, 12)) * GRANULE_BYTES,
+            25..=27 => (granules + random.within(2, 12)) * width,
             _ => 0,
         };
         position as u32
@@ -223,7 +245,7 @@ impl Caller {
         handle.position = match self.sober {
             true if kind == "read" => random.within(0, size.saturating_sub(length)) as u32,
             true if random.percent(50) => size as u32,
-            _ => Self::position(random, size, granules, free, length),
+            _ => Self::position(random, g, size, granules, free, length),
         };
         handle
     }
@@ -252,18 +274,18 @@ impl Caller {
 
     fn sector(random: &mut Random, image: &[u8], g: &Geometry, handle: &Handle, growth: bool) -> usize {
         let (size, granules) = Self::extent(image, g, handle);
-        let (n, owned) = (size.div_ceil(256), granules * GRANULE_SECTORS);
+        let (n, owned) = (size.div_ceil(256), granules * g.granule_sectors);
         let around = |random: &mut Random, at: usize| (at + random.within(0, 2)).saturating_sub(1);
         match random.within(0, 19) {
-            0 => *random.pick(&[HIGHEST_SECTOR, HIGHEST_SECTOR + 1]),
+            0 => *random.pick(&[g.highest_sector(), g.highest_sector() + 1]),
             1 => wild(random),
-            2 if growth => around(random, owned + free_granules(image, g).count() * GRANULE_SECTORS),
+            2 if growth => around(random, owned + free_granules(image, g).count() * g.granule_sectors),
             3 if growth => random.within(0, g.sectors()),
             4..=8 if growth => {
                 let further = random.within(0, 4);
-                around(random, owned + GRANULE_SECTORS * further)
+                around(random, owned + g.granule_sectors * further)
             }
-            9..=11 if growth => owned + GRANULE_SECTORS * random.within(0, 24),
+            9..=11 if growth => owned + g.granule_sectors * random.within(0, 24),
             4..=8 => around(random, n),
             _ => random.within(0, n),
         }

@@ -6,7 +6,7 @@ use crate::directory::{
     chain, directory_sectors, entry, files, hit, hit_place, owned, put_entry, set_taken, slots, Entry, ENTRY_BYTES,
 };
 use crate::fault::fault;
-use crate::geometry::{Geometry, GRANULE_BYTES, GRANULE_SECTORS, HIGHEST_POSITION, HIGHEST_SECTOR, SECTOR_BYTES};
+use crate::geometry::{Geometry, SECTOR_BYTES};
 use crate::handle::{good_length, Handle, HANDLE_BYTES};
 use crate::names::{hash, well_formed, Name, FULL_NAME_BYTES};
 use crate::space::{drop_one, first_permitted_slot, free_granules, grow, longest_stretch, Short};
@@ -17,7 +17,7 @@ pub const ACCEPTED: Number = 0;
 /// "geometry or image length not as above"
 pub const GEOMETRY: Number = 1;
 /// "position, length, level, date or sector out of range (sector 0 to 7,679), position + length over
-/// 1,966,080 in a write, buffer shorter than the record length"
+/// 1,966,080 in a write, buffer shorter than the record length"; 02 §10 has both numbers go by the granule's size
 pub const RANGE: Number = 12;
 /// "name not well formed (calls by name)"
 pub const NAME: Number = 3;
@@ -68,8 +68,9 @@ fn size_of(image: &[u8], g: &Geometry, file: u8) -> usize {
 }
 
 /// Place in the image of byte `i` of a file that owns these granules.
-fn place(granules: &[usize], i: usize) -> usize {
-    granules[i / GRANULE_BYTES] * GRANULE_BYTES + i % GRANULE_BYTES
+fn place(g: &Geometry, granules: &[usize], i: usize) -> usize {
+    let width = g.granule_bytes();
+    granules[i / width] * width + i % width
 }
 
 /// Check: 0, 1, or 21 to 30.
@@ -240,7 +241,7 @@ fn by_handle(
 ) -> Result<(usize, Handle), Number> {
     let d = tested(image, g)?;
     let h = Handle::read(handle).ok_or(RANGE)?;
-    if !h.in_range() || !more_good(&h) {
+    if !h.in_range(g) || !more_good(&h) {
         return Err(RANGE);
     }
     if h.is_stale(image, g, d) {
@@ -262,7 +263,7 @@ pub fn read_record(image: &[u8], g: &Geometry, handle: &mut [u8], buffer: &mut [
         }
         let granules = owned(image, g, d, h.slot);
         for i in 0..h.length() {
-            buffer[i] = image[place(&granules, h.position() + i)];
+            buffer[i] = image[place(g, &granules, h.position() + i)];
         }
         h.advanced().store(handle);
         Ok(())
@@ -282,7 +283,7 @@ pub fn read_sector(
 ) -> Number {
     (*from, *to) = (0, 0);
     number((|| {
-        let (d, h) = by_handle(image, g, handle, |_| k <= HIGHEST_SECTOR)?;
+        let (d, h) = by_handle(image, g, handle, |_| k <= g.highest_sector())?;
         if h.level > READING_LEVEL {
             return Err(LEVEL);
         }
@@ -290,7 +291,7 @@ pub fn read_sector(
             return Err(PAST_SIZE);
         }
         let bytes = (size_of(image, g, h.slot) - k * SECTOR_BYTES).min(SECTOR_BYTES);
-        *from = place(&owned(image, g, d, h.slot), k * SECTOR_BYTES);
+        *from = place(g, &owned(image, g, d, h.slot), k * SECTOR_BYTES);
         *to = *from + bytes;
         Ok(())
     })())
@@ -326,20 +327,20 @@ fn grow_to(image: &mut [u8], g: &Geometry, d: usize, file: u8, needed: usize) ->
 pub fn write_record(image: &mut [u8], g: &Geometry, handle: &mut [u8], sequential: bool, buffer: &[u8]) -> Number {
     number((|| {
         let (d, h) = by_handle(image, g, handle, |h| {
-            h.position() + h.length() <= HIGHEST_POSITION && buffer.len() >= h.length()
+            h.position() + h.length() <= g.highest_position() && buffer.len() >= h.length()
         })?;
         changeable(image, g, &h, WRITING_LEVEL)?;
         let old_size = size_of(image, g, h.slot);
         let end = h.position() + h.length();
         let new_size = if sequential { end } else { end.max(old_size) };
-        grow_to(image, g, d, h.slot, new_size.div_ceil(GRANULE_BYTES))?;
+        grow_to(image, g, d, h.slot, new_size.div_ceil(g.granule_bytes()))?;
 
         let granules = owned(image, g, d, h.slot);
         for i in old_size..h.position() {
-            image[place(&granules, i)] = 0;
+            image[place(g, &granules, i)] = 0;
         }
         for i in 0..h.length() {
-            image[place(&granules, h.position() + i)] = buffer[i];
+            image[place(g, &granules, h.position() + i)] = buffer[i];
         }
         let mut this = entry(image, g, h.slot);
         this.set_size(new_size);
@@ -354,9 +355,9 @@ pub fn write_record(image: &mut [u8], g: &Geometry, handle: &mut [u8], sequentia
 /// unchanged."
 pub fn allot(image: &mut [u8], g: &Geometry, handle: &[u8], k: usize) -> Number {
     number((|| {
-        let (d, h) = by_handle(image, g, handle, |_| k <= HIGHEST_SECTOR)?;
+        let (d, h) = by_handle(image, g, handle, |_| k <= g.highest_sector())?;
         changeable(image, g, &h, WRITING_LEVEL)?;
-        grow_to(image, g, d, h.slot, k / GRANULE_SECTORS + 1)
+        grow_to(image, g, d, h.slot, k / g.granule_sectors + 1)
     })())
 }
 
@@ -367,7 +368,7 @@ pub fn trim(image: &mut [u8], g: &Geometry, handle: &[u8]) -> Number {
         let (d, h) = by_handle(image, g, handle, |_| true)?;
         changeable(image, g, &h, WRITING_LEVEL)?;
         if !entry(image, g, h.slot).keeps_space() {
-            let kept = size_of(image, g, h.slot).div_ceil(GRANULE_BYTES);
+            let kept = size_of(image, g, h.slot).div_ceil(g.granule_bytes());
             for _ in kept..owned(image, g, d, h.slot).len() {
                 drop_one(image, g, d, h.slot);
             }

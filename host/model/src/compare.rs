@@ -13,7 +13,7 @@ use crate::directory::{
     chain, directory_sectors, entry, gat_place, hit_place, owned, slots, ENTRY_BYTES, LENGTH_PLACE,
 };
 use crate::disks::{random_disk, Disk};
-use crate::geometry::{Geometry, GRANULE_BYTES, SECTOR_BYTES};
+use crate::geometry::{Geometry, SECTOR_BYTES};
 use crate::handle::Handle;
 use crate::library::{Library, Model};
 use crate::names::{written, FULL_NAME_BYTES};
@@ -156,14 +156,14 @@ pub fn what_is(image: &[u8], g: &Geometry, place: usize) -> String {
         let slot = byte / ENTRY_BYTES * 32 + sector - 2;
         return format!("entry byte {:02X}H of slot {slot:02X}H", byte % ENTRY_BYTES);
     }
-    let granule = place / GRANULE_BYTES;
+    let granule = place / g.granule_bytes();
     let (byte, bit) = gat_place(g, granule);
-    let mut text = format!("byte {} of granule {granule}", place % GRANULE_BYTES);
+    let mut text = format!("byte {} of granule {granule}", place % g.granule_bytes());
     if consistent(image, g) {
         for slot in crate::directory::files(image, g, d) {
             if let Some(at) = owned(image, g, d, slot).iter().position(|&own| own == granule) {
                 let name = written(&entry(image, g, slot).name());
-                text += &format!(", byte {} of {name}", at * GRANULE_BYTES + place % GRANULE_BYTES);
+                text += &format!(", byte {} of {name}", at * g.granule_bytes() + place % g.granule_bytes());
             }
         }
     }
@@ -365,7 +365,7 @@ impl Before {
         }
         let Some(was) = &self.0 else { return };
         let (position, length) = (was.handle.position(), was.handle.length());
-        let crosses = position / GRANULE_BYTES != (position + length - 1) / GRANULE_BYTES;
+        let crosses = position / g.granule_bytes() != (position + length - 1) / g.granule_bytes();
         match call {
             Call::ReadRecord { buffer, .. } => {
                 seen.event("read of a system file", was.entry.is_system());
@@ -404,7 +404,7 @@ impl Before {
             seen.event("trim empties an extension", emptied == 1);
             seen.event("trim empties several extensions", emptied > 1);
             seen.event("trim gives back all", given_back && is.granules == 0);
-            let too_many = was.granules > was.size.div_ceil(GRANULE_BYTES);
+            let too_many = was.granules > was.size.div_ceil(g.granule_bytes());
             seen.event("trim under F", was.entry.keeps_space() && too_many);
         }
     }

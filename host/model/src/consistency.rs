@@ -5,7 +5,7 @@ use crate::directory::{
     chain, directory_granules, directory_sectors, entry, files, has_slot, hit, owned, slots, taken,
     EXTENSION_FLAGS, MARKER_LAST, MARKER_LINK, PAIRS,
 };
-use crate::geometry::{Geometry, GRANULE_BYTES};
+use crate::geometry::Geometry;
 use crate::names::{hash, well_formed};
 
 /// What a sentence of the paragraph forbids.
@@ -191,7 +191,7 @@ pub fn faults(image: &[u8], g: &Geometry) -> Vec<Clause> {
     for &file in &all_files {
         let granules = owned(image, g, d, file);
         if let Some(size) = entry(image, g, file).size() {
-            hold(Clause::SizeFits, size <= granules.len() * GRANULE_BYTES);
+            hold(Clause::SizeFits, size <= granules.len() * g.granule_bytes());
         }
         if !entry(image, g, file).is_system() {
             let of_directory = granules.iter().any(|granule| directory_granules(g, d).contains(granule));

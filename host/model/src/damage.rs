@@ -6,7 +6,7 @@ use crate::directory::{
     taken, Entry, Pair, ENTRY_BYTES, EXTENSION_FLAGS, LENGTH_PLACE, MARKER_LAST, MARKER_LINK, PAIRS,
 };
 use crate::disks::Disk;
-use crate::geometry::{Geometry, GRANULE_BYTES};
+use crate::geometry::Geometry;
 use crate::names::{hash, Name, BLANK};
 use crate::random::Random;
 use crate::space::{free_granules, reserved_granules};
@@ -596,7 +596,7 @@ pub const DAMAGES: &[Damage] = &[
         breaks: Clause::SizeFits,
         way: |v| {
             let file = v.file()?;
-            let fits = owned(&v.image, &v.g, v.d, file).len() * GRANULE_BYTES;
+            let fits = owned(&v.image, &v.g, v.d, file).len() * v.g.granule_bytes();
             let size = if v.random.percent(60) { fits + 1 } else { v.random.within(fits + 1, 65535 * 256) };
             v.set_size(file, size);
             Some(())

@@ -1,6 +1,6 @@
 //! The directory's layout: GAT, HIT, slots and entries; reading and setting single bytes.
 
-use crate::geometry::{Geometry, GRANULE_SECTORS, LEAST_DIRECTORY_SECTORS, SECTOR_BYTES};
+use crate::geometry::{Geometry, LEAST_DIRECTORY_SECTORS, SECTOR_BYTES};
 use crate::names::Name;
 
 pub const ROWS: usize = 8;
@@ -52,9 +52,11 @@ pub fn directory_sectors(image: &[u8], g: &Geometry) -> Option<usize> {
     }
 }
 
-/// The granules on which the directory lies.
+/// The granules on which the directory lies. 02 §10: "every granule that the directory touches counts as a directory granule":
+/// from that of its first sector to that of its last.
 pub fn directory_granules(g: &Geometry, d: usize) -> std::ops::Range<usize> {
-    g.start / GRANULE_SECTORS..(g.start + d) / GRANULE_SECTORS
+    let last_sector = g.start + d - 1;
+    g.start / g.granule_sectors..last_sector / g.granule_sectors + 1
 }
 
 /// "slot number = 32 × row + s, row 0 to 7."

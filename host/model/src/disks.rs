@@ -6,7 +6,7 @@ use crate::directory::{
     chain, directory_granules, entry, entry_place, files, hit_place, owned, put_entry, set_taken, slots, Entry,
     Pair, ENTRY_BYTES, EXTENSION_FLAGS, LENGTH_PLACE, MARKER_LAST, MARKER_LINK, PAIRS,
 };
-use crate::geometry::{Geometry, GRANULE_BYTES, GRANULE_SECTORS, MOST_BLOCKS, MOST_UNITS, SECTOR_BYTES};
+use crate::geometry::{Geometry, GRANULE_SIZES, LEAST_DIRECTORY_SECTORS, MOST_BLOCKS, MOST_UNITS, SECTOR_BYTES};
 use crate::names::{hash, Name, BLANK, FULL_NAME_BYTES, NAME_BYTES};
 use crate::random::Random;
 use crate::space::{permitted, LONGEST_RUN};
@@ -39,7 +39,22 @@ struct Plan {
     odd: usize,
 }
 
+/// The size of granules: mostly 5 sectors.
+pub fn random_granule_sectors(random: &mut Random) -> usize {
+    if random.percent(60) {
+        5
+    } else {
+        *random.pick(&GRANULE_SIZES)
+    }
+}
+
+/// The lengths that a directory can have on so many sectors.
+pub fn directory_lengths(sectors: usize) -> Vec<usize> {
+    [0, 5, 10, 15, 20].map(|above| LEAST_DIRECTORY_SECTORS + above).into_iter().filter(|&d| d <= sectors).collect()
+}
+
 fn plan(random: &mut Random) -> Plan {
+    let granule_sectors = random_granule_sectors(random);
     let (blocks, units) = loop {
         let (blocks, units) = match random.within(0, 9) {
             0 => (MOST_BLOCKS, random.within(1, MOST_UNITS)),
@@ -48,13 +63,16 @@ fn plan(random: &mut Random) -> Plan {
             4 => (random.within(1, 3), random.within(1, MOST_UNITS)),
             _ => (random.within(4, 40), random.within(1, MOST_UNITS)),
         };
-        if blocks * units >= 2 {
+        // Large images of large granules are few: they take their time.
+        let large = blocks * units * granule_sectors > MOST_BLOCKS * MOST_UNITS * 5;
+        if blocks * units * granule_sectors >= LEAST_DIRECTORY_SECTORS && (!large || random.percent(10)) {
             break (blocks, units);
         }
     };
-    let most = (blocks * units).min(6);
-    let d_granules = if random.percent(40) { most } else { random.within(2, most) };
-    let last_start = blocks * units - d_granules;
+    let sectors = blocks * units * granule_sectors;
+    let lengths = directory_lengths(sectors);
+    let d = if random.percent(40) { lengths[lengths.len() - 1] } else { *random.pick(&lengths) };
+    let last_start = (sectors - d) / granule_sectors;
     let start = match random.within(0, 4) {
         0 => 0,
         1 => last_start,
@@ -62,9 +80,8 @@ fn plan(random: &mut Random) -> Plan {
     };
     let open_code = if random.percent(30) { 0xFFFF } else { random.draw() as u16 };
     let system_disk = random.percent(60);
-    let d = d_granules * GRANULE_SECTORS;
     Plan {
-        g: Geometry { blocks, units, start: start * GRANULE_SECTORS, open_code, system_disk },
+        g: Geometry { blocks, units, start: start * granule_sectors, open_code, system_disk, granule_sectors },
         d,
         files: match random.within(0, 5) {
             0 => random.within(0, 3),
@@ -111,8 +128,8 @@ pub fn random_name_like(random: &mut Random, like: &Name) -> Name {
 }
 
 /// A size for a file with so many granules; often at the edges of sectors and granules.
-fn random_size(random: &mut Random, granules: usize) -> usize {
-    let most = granules * GRANULE_BYTES;
+fn random_size(random: &mut Random, g: &Geometry, granules: usize) -> usize {
+    let most = granules * g.granule_bytes();
     let near = |random: &mut Random, step: usize| {
         let edge = random.within(0, most / step) * step;
         (edge + random.within(0, 2)).saturating_sub(1)
@@ -121,7 +138,7 @@ fn random_size(random: &mut Random, granules: usize) -> usize {
         0 => 0,
         1 => most,
         2 => near(random, SECTOR_BYTES),
-        3 => near(random, GRANULE_BYTES),
+        3 => near(random, g.granule_bytes()),
         _ => random.within(0, most),
     };
     size.min(most)
@@ -226,7 +243,7 @@ impl Builder<'_> {
                 let worker = *self.random.pick(&self.codes);
                 bytes.0[0x10..0x12].copy_from_slice(&main.to_le_bytes());
                 bytes.0[0x12..0x14].copy_from_slice(&worker.to_le_bytes());
-                bytes.set_size(random_size(self.random, granules));
+                bytes.set_size(random_size(self.random, &self.plan.g, granules));
             } else {
                 match self.random.within(0, 3) {
                     0 => self.random.fill(&mut bytes.0[0x02..0x16]),
@@ -398,7 +415,7 @@ pub fn random_disk_of(random: &mut Random, g: Geometry, d: usize) -> Disk {
 
 fn filled(random: &mut Random, plan: Plan) -> Disk {
     let (g, d) = (plan.g, plan.d);
-    let mut image = vec![0; g.granules() * GRANULE_BYTES];
+    let mut image = vec![0; g.granules() * g.granule_bytes()];
     // Whatever is not set below holds anything: data, GAT and HIT places out of range, dead entries.
     random.fill(&mut image);
     image[hit_place(&g, LENGTH_PLACE as u8)] = (d - 10) as u8;
@@ -431,7 +448,7 @@ fn filled(random: &mut Random, plan: Plan) -> Disk {
 
 /// An empty disk: zeros, but for the directory's length and its reserved granules.
 pub fn empty_disk(g: Geometry, d: usize, reserved: &[usize]) -> Disk {
-    let mut image = vec![0; g.granules() * GRANULE_BYTES];
+    let mut image = vec![0; g.granules() * g.granule_bytes()];
     image[hit_place(&g, LENGTH_PLACE as u8)] = (d - 10) as u8;
     for granule in directory_granules(&g, d).chain(reserved.iter().copied()) {
         set_taken(&mut image, &g, granule, true);

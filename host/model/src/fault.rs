@@ -6,7 +6,7 @@ use crate::directory::{
     directory_granules, directory_sectors, entry, files, has_slot, hit, slots, taken, Entry, EXTENSION_FLAGS,
     MARKER_LAST, MARKER_LINK, PAIRS,
 };
-use crate::geometry::{Geometry, GRANULE_BYTES};
+use crate::geometry::Geometry;
 use crate::names::{hash, well_formed};
 
 /// "Refusals: 21 to 30 in this order, in 2's place."
@@ -241,6 +241,6 @@ impl<'a> Seen<'a> {
             return false;
         }
         let granules: usize = walked.iter().map(|&slot| self.granules(slot).len()).sum();
-        self.entry(file).size().is_none_or(|size| size > granules * GRANULE_BYTES)
+        self.entry(file).size().is_none_or(|size| size > granules * self.g.granule_bytes())
     }
 }

@@ -1,9 +1,9 @@
 //! Handles: "A handle holds slot, name, position (0 to 1,966,080), record length (1 to 256) and level
-//! (0 to 7)." At the boundary they are 19 bytes: slot, level, record length (2, low byte first),
+//! (0 to 7)"; the highest position goes by the granule's size (02 §10). At the boundary they are 19 bytes: slot, level, record length (2, low byte first),
 //! position (4, low byte first), name (11).
 
 use crate::directory::{entry, has_slot};
-use crate::geometry::{Geometry, HIGHEST_POSITION};
+use crate::geometry::Geometry;
 use crate::names::Name;
 
 pub const HANDLE_BYTES: usize = 19;
@@ -47,8 +47,8 @@ impl Handle {
     }
 
     /// The three ranges of the sentence above.
-    pub fn in_range(&self) -> bool {
-        self.position() <= HIGHEST_POSITION && good_length(self.length()) && self.level <= HIGHEST_LEVEL
+    pub fn in_range(&self, g: &Geometry) -> bool {
+        self.position() <= g.highest_position() && good_length(self.length()) && self.level <= HIGHEST_LEVEL
     }
 
     /// "A handle is stale unless its slot is one the directory has, in use, primary and carries its

@@ -5,7 +5,7 @@
 use crate::calls::{Birth, Number, ACCEPTED};
 use crate::directory::{directory_sectors, entry, files};
 use crate::disks::{random_name, Disk};
-use crate::geometry::{Geometry, GRANULE_BYTES, SECTOR_BYTES};
+use crate::geometry::{Geometry, SECTOR_BYTES};
 use crate::handle::{Handle, HANDLE_BYTES};
 use crate::library::{Library, Model};
 use crate::names::Name;
@@ -220,7 +220,7 @@ fn random_step(random: &mut Random, image: &[u8], g: &Geometry, disk: &Disk, pro
         2 => Step::ReadSector { by, k: random.within(0, size / SECTOR_BYTES) },
         3..=6 => Step::Write {
             by,
-            at: at(random, size + 2 * GRANULE_BYTES),
+            at: at(random, size + 2 * g.granule_bytes()),
             sequential: random.percent(50),
             bytes: (0..handle.length()).map(|_| random.byte()).collect(),
         },

@@ -8,8 +8,8 @@ use crate::directory::{
     directory_granules, entry_place, hit_place, put_entry, set_taken, slots, Entry, Pair, ENTRY_BYTES,
     EXTENSION_FLAGS, LENGTH_PLACE, MARKER_LAST, MARKER_LINK, PAIRS,
 };
-use crate::disks::{random_name, Disk};
-use crate::geometry::{Geometry, GRANULE_BYTES, GRANULE_SECTORS, LEAST_DIRECTORY_SECTORS, MOST_BLOCKS, MOST_UNITS};
+use crate::disks::{directory_lengths, random_granule_sectors, random_name, Disk};
+use crate::geometry::{Geometry, LEAST_DIRECTORY_SECTORS, MOST_BLOCKS, MOST_UNITS, SECTOR_BYTES};
 use crate::library::Library;
 use crate::names::{hash, Name, FULL_NAME_BYTES};
 use crate::plain::{File, Files};
@@ -106,19 +106,22 @@ pub fn holding(random: &mut Random, files: &Files) -> Option<Disk> {
 }
 
 fn try_holding(random: &mut Random, files: &Files) -> Option<Disk> {
-    let needed: usize = files.values().map(|file| file.bytes.len().div_ceil(GRANULE_BYTES)).sum();
-    let directory = random.within(2, 6);
+    let granule_sectors = random_granule_sectors(random);
+    let width = granule_sectors * SECTOR_BYTES;
+    let needed: usize = files.values().map(|file| file.bytes.len().div_ceil(width)).sum();
+    let d = *random.pick(&directory_lengths(usize::MAX));
+    let directory = d.div_ceil(granule_sectors);
     let least = needed + directory;
     let units = if least > MOST_BLOCKS { MOST_UNITS } else { random.within(1, MOST_UNITS) };
     let blocks = (least + random.within(0, least / 2 + 8)).div_ceil(units).min(MOST_BLOCKS);
     if blocks * units < least {
         return None;
     }
-    let start = random.within(0, blocks * units - directory) * GRANULE_SECTORS;
-    let g = Geometry { blocks, units, start, open_code: random.draw() as u16, system_disk: random.percent(60) };
-    let d = directory * GRANULE_SECTORS;
+    let start = random.within(0, blocks * units - directory) * granule_sectors;
+    let (open_code, system_disk) = (random.draw() as u16, random.percent(60));
+    let g = Geometry { blocks, units, start, open_code, system_disk, granule_sectors };
 
-    let mut image = vec![0; g.granules() * GRANULE_BYTES];
+    let mut image = vec![0; g.granules() * width];
     random.fill(&mut image);
     image[hit_place(&g, LENGTH_PLACE as u8)] = (d - LEAST_DIRECTORY_SECTORS) as u8;
     let mut free_slots: Vec<u8> = slots(d).collect();
@@ -151,9 +154,9 @@ fn try_holding(random: &mut Random, files: &Files) -> Option<Disk> {
         let file = &files[name];
         let more = if random.percent(30) { random.within(0, surplus.min(3)) } else { 0 };
         surplus -= more;
-        let own: Vec<usize> = taken.by_ref().take(file.bytes.len().div_ceil(GRANULE_BYTES) + more).collect();
-        for (part, &granule) in file.bytes.chunks(GRANULE_BYTES).zip(&own) {
-            image[granule * GRANULE_BYTES..][..part.len()].copy_from_slice(part);
+        let own: Vec<usize> = taken.by_ref().take(file.bytes.len().div_ceil(width) + more).collect();
+        for (part, &granule) in file.bytes.chunks(width).zip(&own) {
+            image[granule * width..][..part.len()].copy_from_slice(part);
         }
         for &granule in &own {
             set_taken(&mut image, &g, granule, true);
@@ -276,8 +279,8 @@ impl Change {
                 let mut attributes = [0; 8];
                 random.fill(&mut attributes);
                 attributes[0] = 0x10 | attributes[0] & 0x4F;
-                let granules = bytes.len().div_ceil(GRANULE_BYTES);
-                files.insert(name, File { attributes, bytes, granules });
+                // How many granules it gets is for the disk to say that it is put on.
+                files.insert(name, File { attributes, bytes, granules: 0 });
                 return Some(vec![told(name, ONLY_IN_SECOND)]);
             }
             _ if good.is_empty() => return None,

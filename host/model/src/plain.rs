@@ -3,7 +3,7 @@
 use crate::call::Call;
 use crate::calls::Birth;
 use crate::directory::{directory_granules, directory_sectors, entry, files, owned};
-use crate::geometry::{Geometry, GRANULE_BYTES, GRANULE_SECTORS};
+use crate::geometry::Geometry;
 use crate::handle::Handle;
 use crate::names::Name;
 use std::collections::BTreeMap;
@@ -28,12 +28,13 @@ pub type Files = BTreeMap<Name, File>;
 /// that owns directory granules are left out, since every call that writes the directory changes them.
 pub fn files_of(image: &[u8], g: &Geometry) -> Files {
     let d = directory_sectors(image, g).expect("a consistent disk");
+    let width = g.granule_bytes();
     let mut all = Files::new();
     for slot in files(image, g, d) {
         let e = entry(image, g, slot);
         let granules = owned(image, g, d, slot);
         let mut bytes: Vec<u8> =
-            granules.iter().flat_map(|&at| &image[at * GRANULE_BYTES..(at + 1) * GRANULE_BYTES]).copied().collect();
+            granules.iter().flat_map(|&at| &image[at * width..(at + 1) * width]).copied().collect();
         bytes.truncate(e.size().expect("a consistent disk"));
         if granules.iter().any(|granule| directory_granules(g, d).contains(granule)) {
             bytes.fill(0);
@@ -59,8 +60,8 @@ fn born(birth: &Birth) -> File {
     File { attributes, bytes: Vec::new(), granules: 0 }
 }
 
-/// What an accepted call does to the list. The handle, where there is one, is a good one.
-pub fn effect(all: &mut Files, call: &Call) {
+/// What an accepted call does to the list of a disk of this geometry. The handle, where there is one, is a good one.
+pub fn effect(all: &mut Files, g: &Geometry, call: &Call) {
     let handled = |handle: &Vec<u8>| Handle::read(handle).expect("an accepted call");
     match call {
         Call::Create { name, birth, .. } => {
@@ -76,16 +77,16 @@ pub fn effect(all: &mut Files, call: &Call) {
             file.bytes.resize(size, 0);
             file.bytes[position..end].copy_from_slice(&buffer[..h.length()]);
             file.attributes[DAY_BYTE] |= WORKED_ON;
-            file.granules = file.granules.max(size.div_ceil(GRANULE_BYTES));
+            file.granules = file.granules.max(size.div_ceil(g.granule_bytes()));
         }
         Call::Allot { handle, k } => {
             let file = all.get_mut(&handled(handle).name).expect("no stale handle");
-            file.granules = file.granules.max(k / GRANULE_SECTORS + 1);
+            file.granules = file.granules.max(k / g.granule_sectors + 1);
         }
         Call::Trim { handle } => {
             let file = all.get_mut(&handled(handle).name).expect("no stale handle");
             if file.attributes[DAY_BYTE] & KEEPS_SPACE == 0 {
-                file.granules = file.bytes.len().div_ceil(GRANULE_BYTES);
+                file.granules = file.bytes.len().div_ceil(g.granule_bytes());
             }
         }
         Call::Kill { handle } => {

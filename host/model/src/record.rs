@@ -47,8 +47,15 @@ fn kept(place: usize, slice: &[u8]) -> Argument<'_> {
     Slice(place, slice, slice)
 }
 
-fn stated(g: &Geometry) -> [Argument<'static>; 5] {
-    [number(g.blocks), number(g.units), number(g.start), number(g.open_code.into()), number(g.system_disk.into())]
+fn stated(g: &Geometry) -> [Argument<'static>; 6] {
+    [
+        number(g.blocks),
+        number(g.units),
+        number(g.start),
+        number(g.open_code.into()),
+        number(g.system_disk.into()),
+        number(g.granule_sectors),
+    ]
 }
 
 /// The model, which writes down every call that is made of it.

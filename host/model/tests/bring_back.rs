@@ -7,11 +7,14 @@ use genie_model::consistency::consistent;
 use genie_model::directory::{entry_place, gat_place, hit_place, put_entry, set_taken, Entry, Pair};
 use genie_model::disks::{empty_disk, Disk};
 use genie_model::fault::Kind;
-use genie_model::geometry::{Geometry, GRANULE_BYTES};
+use genie_model::geometry::Geometry;
 use genie_model::handle::Handle;
 use genie_model::library::{libraries, Library};
 use genie_model::names::{hash, name, written};
 use genie_model::plain::files_of;
+
+/// "A granule is 5 sectors of 256 bytes."
+const GRANULE_BYTES: usize = 1280;
 
 const FILE: u8 = 0xA0;
 const SECOND: u8 = 0x85;
@@ -19,7 +22,11 @@ const OTHER: u8 = 0x60;
 
 /// 10 blocks of 4 units, the directory on granules 8 and 9, granule 0 reserved.
 fn blank() -> Disk {
-    empty_disk(Geometry { blocks: 10, units: 4, start: 40, open_code: 0, system_disk: true }, 10, &[0])
+    empty_disk(
+        Geometry { blocks: 10, units: 4, start: 40, open_code: 0, system_disk: true, granule_sectors: 5 },
+        10,
+        &[0],
+    )
 }
 
 fn run(g: &Geometry, first: usize, length: usize) -> Pair {

@@ -13,7 +13,7 @@ use genie_model::space::permitted;
 const NO_SLOTS: Number = 8;
 
 fn geometry(system_disk: bool) -> Geometry {
-    Geometry { blocks: 16, units: 2, start: 80, open_code: 0, system_disk }
+    Geometry { blocks: 16, units: 2, start: 80, open_code: 0, system_disk, granule_sectors: 5 }
 }
 
 /// Creates a file: the number, and the slot of its handle.

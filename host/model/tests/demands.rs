@@ -135,7 +135,7 @@ fn calls_do_what_a_plain_list_of_files_would() {
 
             // The list afterwards is the list with the call's own file changed.
             let files_before = plain.len();
-            effect(&mut plain, &call);
+            effect(&mut plain, &g, &call);
             let after = files_of(&image, &g);
             assert!(after == plain, "other files than a plain list: {at}");
             if let Call::Create { .. } = call {

@@ -11,7 +11,7 @@ use genie_model::names::{hash, name};
 
 /// 8 blocks of 3 units, the directory on granules 0 and 1; bytes that no call may read or write are odd.
 fn disk() -> Disk {
-    let g = Geometry { blocks: 8, units: 3, start: 0, open_code: 0, system_disk: true };
+    let g = Geometry { blocks: 8, units: 3, start: 0, open_code: 0, system_disk: true, granule_sectors: 5 };
     let mut disk = empty_disk(g, 10, &[]);
     disk.image[2560..].fill(0xDA);
     for block in 0..8 {

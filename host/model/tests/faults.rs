@@ -123,7 +123,8 @@ fn random_flips_give_a_fault_exactly_where_a_clause_is_broken() {
 // ---- By hand: one damage at each place where it can stand ----
 
 /// 20 blocks of 3 units: 60 granules, the directory from granule 30 on.
-const G: Geometry = Geometry { blocks: 20, units: 3, start: 150, open_code: 0x4296, system_disk: true };
+const G: Geometry =
+    Geometry { blocks: 20, units: 3, start: 150, open_code: 0x4296, system_disk: true, granule_sectors: 5 };
 const NAME: &str = "PULS01/DAT";
 /// The granules of the file under test: its first entry's four runs, its extension's. The last runs are of two granules.
 const RUNS: [(usize, usize); 4] = [(3, 1), (5, 1), (7, 1), (9, 2)];

@@ -25,16 +25,31 @@ fn told(g: &Geometry, gat: &[u8], free: usize, longest: usize) {
 }
 
 fn three() -> Geometry {
-    Geometry { blocks: 4, units: 3, start: 5, open_code: 0, system_disk: true }
+    Geometry { blocks: 4, units: 3, start: 5, open_code: 0, system_disk: true, granule_sectors: 5 }
 }
 
 #[test]
 fn all_and_nothing() {
     told(&three(), &[0, 0, 0, 0], 12, 12);
     told(&three(), &[7, 7, 7, 7], 0, 0);
-    told(&Geometry { blocks: 192, units: 8, start: 0, open_code: 0, system_disk: true }, &[0], 1536, 1536);
-    told(&Geometry { blocks: 192, units: 8, start: 7670, open_code: 0, system_disk: true }, &[0xFF; 192], 0, 0);
-    told(&Geometry { blocks: 192, units: 1, start: 0, open_code: 0, system_disk: true }, &[0xFE; 192], 192, 192);
+    told(
+        &Geometry { blocks: 192, units: 8, start: 0, open_code: 0, system_disk: true, granule_sectors: 5 },
+        &[0],
+        1536,
+        1536,
+    );
+    told(
+        &Geometry { blocks: 192, units: 8, start: 7670, open_code: 0, system_disk: true, granule_sectors: 5 },
+        &[0xFF; 192],
+        0,
+        0,
+    );
+    told(
+        &Geometry { blocks: 192, units: 1, start: 0, open_code: 0, system_disk: true, granule_sectors: 5 },
+        &[0xFE; 192],
+        192,
+        192,
+    );
 }
 
 #[test]
@@ -74,7 +89,7 @@ fn the_first_and_the_last_stretch() {
 fn every_place_and_length() {
     // One stretch, wherever it lies, for every number of units.
     for units in 1..=8 {
-        let g = Geometry { blocks: 16, units, start: 0, open_code: 0, system_disk: true };
+        let g = Geometry { blocks: 16, units, start: 0, open_code: 0, system_disk: true, granule_sectors: 5 };
         for first in 0..16 * units {
             for end in first..=16 * units {
                 let mut gat = [0xFF; 16];
@@ -101,7 +116,7 @@ fn refused() {
             [(3, 3, 5), (4, 3, 6), (4, 3, 55), (0, 3, 5), (4, 0, 5), (4, 9, 5), (6, 2, 60)]
         {
             let (mut a, mut b) = (7, 7);
-            let g = Geometry { blocks, units, start, open_code: 0, system_disk: true };
+            let g = Geometry { blocks, units, start, open_code: 0, system_disk: true, granule_sectors: 5 };
             assert_eq!(library.free(&image, &g, &mut a, &mut b), 1, "{}: {g:?}", library.title());
             assert_eq!((a, b), (0, 0));
         }

@@ -4,16 +4,20 @@
 use genie_model::calls::ACCEPTED;
 use genie_model::directory::{hit_place, owned, put_entry, set_taken, Entry, Pair};
 use genie_model::disks::{empty_disk, Disk};
-use genie_model::geometry::{Geometry, HIGHEST_POSITION, HIGHEST_SECTOR};
+use genie_model::geometry::Geometry;
 use genie_model::handle::Handle;
 use genie_model::library::libraries;
 use genie_model::names::{hash, name};
 
 const SLOT: u8 = 0x00;
+/// "position (0 to 1,966,080)"
+const HIGHEST_POSITION: usize = 1_966_080;
+/// "sector 0 to 7,679"
+const HIGHEST_SECTOR: usize = 7_679;
 
 /// One file that owns the granules from `first` on, in runs of 32, in the slots 00H, 01H, 20H, 21H, ...
 fn disk_of_one_file(start: usize, first: usize, system: bool) -> Disk {
-    let g = Geometry { blocks: 192, units: 8, start, open_code: 0, system_disk: true };
+    let g = Geometry { blocks: 192, units: 8, start, open_code: 0, system_disk: true, granule_sectors: 5 };
     let mut disk = empty_disk(g, 10, &[]);
     for (i, byte) in disk.image.iter_mut().enumerate() {
         let sector = i / 256;
@@ -102,7 +106,7 @@ fn another_file_of_1963520_bytes() {
 
 #[test]
 fn the_whole_disk_taken_at_once() {
-    let g = Geometry { blocks: 192, units: 8, start: 0, open_code: 0, system_disk: true };
+    let g = Geometry { blocks: 192, units: 8, start: 0, open_code: 0, system_disk: true, granule_sectors: 5 };
     for library in libraries() {
         let mut image = empty_disk(g, 10, &[]).image;
         let mut lent = [0; 19];

@@ -10,8 +10,11 @@ use genie_model::names::name;
 
 /// 2 blocks of 2 units, directory of 10 sectors at sector 10, granule 0 full of 11H, granule 1 of 22H.
 fn minimal() -> Disk {
-    let mut disk =
-        empty_disk(Geometry { blocks: 2, units: 2, start: 10, open_code: 0, system_disk: true }, 10, &[]);
+    let mut disk = empty_disk(
+        Geometry { blocks: 2, units: 2, start: 10, open_code: 0, system_disk: true, granule_sectors: 5 },
+        10,
+        &[],
+    );
     disk.image[..1280].fill(0x11);
     disk.image[1280..2560].fill(0x22);
     disk

@@ -13,12 +13,14 @@ use genie_model::directory::{
 };
 use genie_model::disks::{empty_disk, random_disk_of, Disk};
 use genie_model::fault::{fault, Kind};
-use genie_model::geometry::{Geometry, GRANULE_SECTORS, MOST_BLOCKS, MOST_UNITS};
+use genie_model::geometry::{Geometry, MOST_BLOCKS, MOST_UNITS};
 use genie_model::library::{Library, NO_SLOT};
 use genie_model::random::Random;
 use genie_model::space::LONGEST_RUN;
 use std::collections::{BTreeMap, BTreeSet};
 
+/// "A granule is 5 sectors of 256 bytes."
+const GRANULE_SECTORS: usize = 5;
 /// From this block on the eight bytes in which a run or the directory is looked for are the map's last.
 const LAST_EIGHT: usize = MOST_BLOCKS - 8;
 /// Blocks to stand for all: one in the middle, those about the first of the last eight, the disk's last.
@@ -27,7 +29,14 @@ const BLOCKS: [usize; 6] = [60, LAST_EIGHT - 1, LAST_EIGHT, LAST_EIGHT + 1, MOST
 const TWO_SLOTS: [(u8, u8); 2] = [(0x02, 0x83), (0x07, 0x20)];
 
 fn geometry(blocks: usize, units: usize, first: usize) -> Geometry {
-    Geometry { blocks, units, start: first * GRANULE_SECTORS, open_code: 0, system_disk: true }
+    Geometry {
+        blocks,
+        units,
+        start: first * GRANULE_SECTORS,
+        open_code: 0,
+        system_disk: true,
+        granule_sectors: GRANULE_SECTORS,
+    }
 }
 
 /// An empty disk with every granule set in the GAT: whether a run may have one hangs on the other runs and on the directory.

@@ -6,11 +6,16 @@ use genie_model::calls::Birth;
 use genie_model::directory::{entry_place, hit_place, put_entry, set_taken, slots, Entry, Pair};
 use genie_model::disks::{empty_disk, Disk};
 use genie_model::fault::{self, Kind};
-use genie_model::geometry::{Geometry, HIGHEST_POSITION, HIGHEST_SECTOR};
+use genie_model::geometry::Geometry;
 use genie_model::handle::{Handle, HANDLE_BYTES};
 use genie_model::library::{libraries, NO_SLOT};
 use genie_model::names::{hash, name};
 use genie_model::space::permitted;
+
+/// "position (0 to 1,966,080)"
+const HIGHEST_POSITION: usize = 1_966_080;
+/// "sector 0 to 7,679"
+const HIGHEST_SECTOR: usize = 7_679;
 
 const OPEN: u16 = 0x9642;
 const MAIN: u16 = 0x1234;
@@ -52,8 +57,11 @@ fn place(disk: &mut Disk, slot: u8, flags: u8, day: u8, granule: Option<usize>, 
 
 /// 16 blocks of 2 units; 26 granules free.
 fn disk() -> Disk {
-    let mut disk =
-        empty_disk(Geometry { blocks: 16, units: 2, start: 80, open_code: OPEN, system_disk: true }, 10, &[0]);
+    let mut disk = empty_disk(
+        Geometry { blocks: 16, units: 2, start: 80, open_code: OPEN, system_disk: true, granule_sectors: 5 },
+        10,
+        &[0],
+    );
     place(&mut disk, DATA, 0, 0, Some(5), 300);
     place(&mut disk, EMPTY, 0, 0, None, 0);
     place(&mut disk, FIXED, 0, 0x40, Some(7), 300);
@@ -192,7 +200,12 @@ fn row_1_geometry() {
         start: usize::MAX,
         open_code: 0,
         system_disk: true,
+        granule_sectors: usize::MAX,
     });
+    // Sizes of granules that are none, and those that are, but not this image's.
+    for granule_sectors in [0, 1, 4, 6, 10, 15, 20, 40, 1 << 32, 1 << 63, usize::MAX] {
+        wrong.push(Geometry { granule_sectors, ..good });
+    }
     for g in wrong {
         for call in all_calls() {
             gives_under(&disk, &g, &call, 1);
@@ -227,8 +240,11 @@ fn row_2_consistency() {
     let told = gives(&broken, &Call::Free, 0);
     assert_eq!(told.numbers, gives(&disk(), &Call::Free, 0).numbers);
     // A directory length that passes the end is inconsistent, no matter of geometry.
-    let mut last =
-        empty_disk(Geometry { blocks: 16, units: 2, start: 150, open_code: OPEN, system_disk: true }, 10, &[]);
+    let mut last = empty_disk(
+        Geometry { blocks: 16, units: 2, start: 150, open_code: OPEN, system_disk: true, granule_sectors: 5 },
+        10,
+        &[],
+    );
     gives(&last, &Call::Check, 0);
     let place = hit_place(&last.g, 0x1F);
     last.image[place] = 5;
@@ -517,8 +533,11 @@ fn row_9_granules() {
 /// Every second granule free, so many permitted slots free.
 fn scattered(slots_free: usize) -> Disk {
     let reserved: Vec<usize> = (0..60).filter(|granule| granule % 2 == 0).collect();
-    let mut disk =
-        empty_disk(Geometry { blocks: 30, units: 2, start: 80, open_code: OPEN, system_disk: true }, 10, &reserved);
+    let mut disk = empty_disk(
+        Geometry { blocks: 30, units: 2, start: 80, open_code: OPEN, system_disk: true, granule_sectors: 5 },
+        10,
+        &reserved,
+    );
     place(&mut disk, DATA, 0, 0, None, 0);
     let others: Vec<u8> = slots(10).filter(|&slot| permitted(&disk.g, slot) && slot != DATA).collect();
     for (i, &slot) in others[slots_free..].iter().enumerate() {

@@ -17,7 +17,7 @@ const D: usize = 10;
 /// A disk with the directory at its start, these granules free and no others, the file "A" of these runs, and every other slot that a
 /// growth could take in use by an empty file.
 fn disk(blocks: usize, units: usize, free: &[usize], runs: &[(usize, usize)]) -> Disk {
-    let g = Geometry { blocks, units, start: 0, open_code: 0, system_disk: true };
+    let g = Geometry { blocks, units, start: 0, open_code: 0, system_disk: true, granule_sectors: 5 };
     let reserved: Vec<usize> = (2..g.granules())
         .filter(|n| !free.contains(n) && !runs.iter().any(|&(first, many)| (first..first + many).contains(n)))
         .collect();

@@ -10,7 +10,7 @@ use genie_model::differences::{
 use genie_model::directory::{entry_place, put_entry, set_taken, Entry, Pair};
 use genie_model::disks::{empty_disk, random_disk, Disk};
 use genie_model::fault::Kind;
-use genie_model::geometry::{Geometry, GRANULE_BYTES};
+use genie_model::geometry::Geometry;
 use genie_model::handle::Handle;
 use genie_model::interleave::{demand_three, Tally};
 use genie_model::library::{libraries, Library, NO_SLOT};
@@ -19,6 +19,9 @@ use genie_model::pairs::{holding, side, swapped, tell, tell_all, Change, CHANGES
 use genie_model::plain::files_of;
 use genie_model::random::Random;
 use std::collections::BTreeMap;
+
+/// "A granule is 5 sectors of 256 bytes."
+const GRANULE_BYTES: usize = 1280;
 
 fn told(text: &str, kind: usize, position: usize, flags: usize) -> Difference {
     Difference { name: name(text), kind, position, flags }
@@ -68,11 +71,11 @@ fn disk(g: Geometry, files: &[Laid]) -> Disk {
 }
 
 fn small() -> Geometry {
-    Geometry { blocks: 16, units: 2, start: 80, open_code: 0x4296, system_disk: true }
+    Geometry { blocks: 16, units: 2, start: 80, open_code: 0x4296, system_disk: true, granule_sectors: 5 }
 }
 
 fn other() -> Geometry {
-    Geometry { blocks: 9, units: 5, start: 60, open_code: 0, system_disk: true }
+    Geometry { blocks: 9, units: 5, start: 60, open_code: 0, system_disk: true, granule_sectors: 5 }
 }
 
 /// Changes bytes of a file's entry.
@@ -237,7 +240,7 @@ fn where_contents_part() {
 
 #[test]
 fn the_largest_disk() {
-    let g = Geometry { blocks: 192, units: 8, start: 0, open_code: 0, system_disk: true };
+    let g = Geometry { blocks: 192, units: 8, start: 0, open_code: 0, system_disk: true, granule_sectors: 5 };
     let mut first = empty_disk(g, 10, &[]);
     let size = 1534 * GRANULE_BYTES;
     let mut random = Random::new(11);

@@ -14,7 +14,11 @@ fn birth(length: usize) -> Birth {
 }
 
 fn sixteen_by_two() -> Disk {
-    empty_disk(Geometry { blocks: 16, units: 2, start: 80, open_code: 0, system_disk: true }, 10, &[0])
+    empty_disk(
+        Geometry { blocks: 16, units: 2, start: 80, open_code: 0, system_disk: true, granule_sectors: 5 },
+        10,
+        &[0],
+    )
 }
 
 fn create(library: &dyn Library, disk: &mut Disk, text: &str, length: usize) -> [u8; HANDLE_BYTES] {
@@ -83,8 +87,11 @@ fn row_2_slot_25() {
 fn row_3_pair_11_42() {
     let pair = Pair { block: 0x11, unit: 0x42 >> 5, further: 0x42 & 0x1F };
     for library in libraries() {
-        let mut disk =
-            empty_disk(Geometry { blocks: 40, units: 3, start: 80, open_code: 0, system_disk: true }, 10, &[]);
+        let mut disk = empty_disk(
+            Geometry { blocks: 40, units: 3, start: 80, open_code: 0, system_disk: true, granule_sectors: 5 },
+            10,
+            &[],
+        );
         assert_eq!(pair.run(&disk.g), 53..56);
         place(&mut disk, 0x80, "A", &[pair], 3 * 1280);
         assert_eq!(library.check(&disk.image, &disk.g, &mut 0), ACCEPTED);
@@ -95,8 +102,11 @@ fn row_3_pair_11_42() {
             assert_eq!((from, to), ((265 + k) * 256, (266 + k) * 256));
         }
         // With 2 units the first unit, 2, is too high.
-        let mut disk =
-            empty_disk(Geometry { blocks: 40, units: 2, start: 80, open_code: 0, system_disk: true }, 10, &[]);
+        let mut disk = empty_disk(
+            Geometry { blocks: 40, units: 2, start: 80, open_code: 0, system_disk: true, granule_sectors: 5 },
+            10,
+            &[],
+        );
         place(&mut disk, 0x80, "A", &[pair], 0);
         let mut slot = 0;
         let number = library.check(&disk.image, &disk.g, &mut slot);
@@ -148,8 +158,11 @@ fn row_5_byte_1280() {
 #[test]
 fn row_6_runs_of_32() {
     for library in libraries() {
-        let mut disk =
-            empty_disk(Geometry { blocks: 40, units: 2, start: 0, open_code: 0, system_disk: true }, 10, &[]);
+        let mut disk = empty_disk(
+            Geometry { blocks: 40, units: 2, start: 0, open_code: 0, system_disk: true, granule_sectors: 5 },
+            10,
+            &[],
+        );
         let handle = create(&*library, &mut disk, "A", 1);
         let entry_of = |disk: &Disk| genie_model::directory::entry(&disk.image, &disk.g, handle[0]);
         assert_eq!(library.allot(&mut disk.image, &disk.g, &handle, 32 * 5 - 1, &mut 0), ACCEPTED);
@@ -172,8 +185,11 @@ fn row_7_date() {
 
 #[test]
 fn row_8_longest_directory() {
-    let mut disk =
-        empty_disk(Geometry { blocks: 16, units: 2, start: 80, open_code: 0, system_disk: true }, 30, &[]);
+    let mut disk = empty_disk(
+        Geometry { blocks: 16, units: 2, start: 80, open_code: 0, system_disk: true, granule_sectors: 5 },
+        30,
+        &[],
+    );
     assert_eq!(disk.image[hit_place(&disk.g, 0x1F)], 0x14);
     assert_eq!(directory_sectors(&disk.image, &disk.g), Some(30));
     assert_eq!(slots(30).count(), 224);

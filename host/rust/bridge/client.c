@@ -114,7 +114,7 @@ static size_t least(size_t a, size_t b)
 }
 
 static void begin(enum call call, const uint8_t *image, size_t len, size_t blocks, size_t units, size_t start, uint16_t open_code,
-                  bool system_disk)
+                  bool system_disk, size_t granule_sectors)
 {
     pthread_mutex_lock(&turn);
     if (owner != getpid())
@@ -126,6 +126,7 @@ static void begin(enum call call, const uint8_t *image, size_t len, size_t block
     w->start = start;
     w->open_code = open_code;
     w->system_disk = system_disk;
+    w->granule_sectors = granule_sectors;
     memcpy(w->image, image, w->image_len);
 }
 
@@ -152,8 +153,9 @@ static uint8_t end(void)
 }
 
 /* A call's body is written between these; what is lent goes over, what may have changed comes back. */
-#define IMAGE uint8_t *image, size_t image_len, size_t blocks, size_t units, size_t start, uint16_t open_code, bool system_disk
-#define BEGIN(call) begin(call, image, image_len, blocks, units, start, open_code, system_disk)
+#define IMAGE uint8_t *image, size_t image_len, size_t blocks, size_t units, size_t start, uint16_t open_code, bool system_disk, \
+              size_t granule_sectors
+#define BEGIN(call) begin(call, image, image_len, blocks, units, start, open_code, system_disk, granule_sectors)
 #define TAKE(part, most) (w->part##_len = least(part##_len, most), memcpy(w->part, part, w->part##_len))
 #define BACK(part) memcpy(part, w->part, w->part##_len)
 #define TAKE_NAME TAKE(name, NAME_MOST)
@@ -329,17 +331,18 @@ uint8_t genie_free(const IMAGE, size_t *free, size_t *longest)
 }
 
 uint8_t genie_compare(const uint8_t *first, size_t first_len, size_t blocks, size_t units, size_t start, uint16_t open_code,
-                      bool system_disk, const uint8_t *second, size_t second_len, size_t blocks2, size_t units2, size_t start2,
-                      uint16_t open_code2, bool system_disk2, size_t number, uint8_t *name, size_t name_len, size_t *image, size_t *kind,
-                      size_t *position, size_t *flags, size_t *fault_slot)
+                      bool system_disk, size_t granule_sectors, const uint8_t *second, size_t second_len, size_t blocks2, size_t units2,
+                      size_t start2, uint16_t open_code2, bool system_disk2, size_t granule_sectors2, size_t number, uint8_t *name,
+                      size_t name_len, size_t *image, size_t *kind, size_t *position, size_t *flags, size_t *fault_slot)
 {
-    begin(COMPARE, first, first_len, blocks, units, start, open_code, system_disk);
+    begin(COMPARE, first, first_len, blocks, units, start, open_code, system_disk, granule_sectors);
     TAKE(second, IMAGE_MOST);
     w->blocks2 = blocks2;
     w->units2 = units2;
     w->start2 = start2;
     w->open_code2 = open_code2;
     w->system_disk2 = system_disk2;
+    w->granule_sectors2 = granule_sectors2;
     TAKE_NAME;
     w->in[0] = number;
     go();

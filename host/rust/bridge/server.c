@@ -68,7 +68,7 @@ void *memchr(const void *from, int byte, size_t n)
     return 0;
 }
 
-#define IMAGE w->image, w->image_len, w->blocks, w->units, w->start, (uint16_t)w->open_code, (bool)w->system_disk
+#define IMAGE w->image, w->image_len, w->blocks, w->units, w->start, (uint16_t)w->open_code, (bool)w->system_disk, w->granule_sectors
 #define NAME w->name, w->name_len
 #define HANDLE w->handle, w->handle_len
 #define BUFFER w->buffer, w->buffer_len
@@ -103,7 +103,7 @@ static uint8_t serve(struct wire *w, size_t out[4], size_t *fault_slot)
         return genie_list(IMAGE, in[0], NAME, &out[0], &out[1], &out[2], fault_slot);
     case COMPARE:
         return genie_compare(IMAGE, w->second, w->second_len, w->blocks2, w->units2, w->start2, (uint16_t)w->open_code2,
-                             (bool)w->system_disk2, in[0], NAME, &out[0], &out[1], &out[2], &out[3], fault_slot);
+                             (bool)w->system_disk2, w->granule_sectors2, in[0], NAME, &out[0], &out[1], &out[2], &out[3], fault_slot);
     case COUNT:
         return genie_count(IMAGE, &out[0], &out[1], fault_slot);
     default:

@@ -11,16 +11,16 @@ enum call {
 
 /* The client keeps these to itself: of a longer part no call looks at more than its beginning and its length, and every image of
  * IMAGE_MOST bytes is too long for any geometry. */
-enum { NAME_MOST = 4096, HANDLE_MOST = 4096, BUFFER_MOST = 65536, IMAGE_MOST = 4194304 };
+enum { NAME_MOST = 4096, HANDLE_MOST = 4096, BUFFER_MOST = 65536, IMAGE_MOST = 8388608 };
 
 struct wire {
     uint64_t call, answer;
-    uint64_t image_len, blocks, units, start, open_code, system_disk;
+    uint64_t image_len, blocks, units, start, open_code, system_disk, granule_sectors;
     uint64_t name_len, handle_len, buffer_len;
     uint64_t in[7];  /* the call's own numbers, in the order of its arguments */
     uint64_t out[4]; /* its outgoing numbers, likewise */
     uint64_t fault_slot; /* the last of them, of every call but free */
-    uint64_t second_len, blocks2, units2, start2, open_code2, system_disk2; /* of compare */
+    uint64_t second_len, blocks2, units2, start2, open_code2, system_disk2, granule_sectors2; /* of compare */
     uint8_t name[NAME_MOST], handle[HANDLE_MOST], buffer[BUFFER_MOST], image[IMAGE_MOST], second[IMAGE_MOST];
 };
 

@@ -24,12 +24,12 @@ fn main() {
 
 fn one(input: &[u8]) {
     let Some((&shape, directory)) = input.split_first() else { return };
-    let (blocks, units, start, _) = SHAPES[usize::from(shape) % SHAPES.len()];
-    let mut image = vec![0; blocks * units * Geometry::GRANULE_BYTES];
-    let place = &mut image[start * Geometry::SECTOR_BYTES..];
+    let (geometry, _) = SHAPES[usize::from(shape) % SHAPES.len()];
+    let mut image = vec![0; geometry.image_len().expect("a good geometry")];
+    let place = &mut image[geometry.start * Geometry::SECTOR_BYTES..];
     let length = directory.len().min(place.len());
     place[..length].copy_from_slice(&directory[..length]);
-    feed(&Disk::new(image.as_slice(), Geometry::new(blocks, units, start, 0x4296)), true);
+    feed(&Disk::new(image.as_slice(), geometry), true);
 }
 
 /// Sound directories, as they are and with a few bytes changed.
@@ -38,7 +38,7 @@ fn seeds(folder: &Path) {
         for damage in 0..4 {
             let mut random = Random::new((4 * number + damage) as u64);
             let sound = Sound::new(shape, &mut random);
-            let from = shape.2 * Geometry::SECTOR_BYTES;
+            let from = shape.0.start * Geometry::SECTOR_BYTES;
             let mut input = vec![number as u8];
             input.extend(&sound.disk.image()[from..from + sound.sectors * Geometry::SECTOR_BYTES]);
             for _ in 0..4 * damage {

@@ -175,12 +175,12 @@ impl Disk<Vec<u8>> {
     /// # Ok::<(), Refusal>(())
     /// ```
     pub fn blank(geometry: Geometry, directory_sectors: usize, reserved: &[usize]) -> Result<Disk, Refusal> {
-        let granules = geometry.granules().ok_or(Refusal::Geometry)?;
-        let mut disk = Disk::new(vec![0xe5; granules * Geometry::GRANULE_BYTES], geometry);
+        let bytes = geometry.image_len().ok_or(Refusal::Geometry)?;
+        let mut disk = Disk::new(vec![0xe5; bytes], geometry);
         if disk.check() == Err(Refusal::Geometry) {
             return Err(Refusal::Geometry);
         }
-        // From here on the start is a multiple of 5 with two granules behind it, so GAT and HIT are on the disk.
+        // From here on ten sectors are behind the start, so GAT and HIT are on the disk.
         let gat = geometry.start * Geometry::SECTOR_BYTES;
         let hit = gat + Geometry::SECTOR_BYTES;
         let above_ten = directory_sectors.checked_sub(10).and_then(|above| u8::try_from(above).ok());
@@ -189,10 +189,8 @@ impl Disk<Vec<u8>> {
         let end = gat + directory_sectors * Geometry::SECTOR_BYTES;
         disk.image.get_mut(gat..end).ok_or(no_length)?.fill(0);
         disk.image[hit + 0x1f] = above_ten;
-        let first = geometry.start / Geometry::GRANULE_SECTORS;
-        let directory = first..first + directory_sectors / Geometry::GRANULE_SECTORS;
-        for granule in directory.chain(reserved.iter().copied()) {
-            if granule >= granules {
+        for granule in geometry.directory_granules(directory_sectors).chain(reserved.iter().copied()) {
+            if granule * geometry.granule_bytes() >= bytes {
                 return Err(Refusal::Range);
             }
             disk.image[gat + granule / geometry.units] |= 1 << (granule % geometry.units);
@@ -239,6 +237,7 @@ impl<B: AsRef<[u8]>> Disk<B> {
                 g.start,
                 g.open_code,
                 g.system_disk,
+                g.granule_sectors,
                 fault_slot,
             )
         })
@@ -266,6 +265,7 @@ impl<B: AsRef<[u8]>> Disk<B> {
                 g.start,
                 g.open_code,
                 g.system_disk,
+                g.granule_sectors,
                 name.as_ptr(),
                 name.len(),
                 &mut slot,
@@ -311,6 +311,7 @@ impl<B: AsRef<[u8]>> Disk<B> {
                 g.start,
                 g.open_code,
                 g.system_disk,
+                g.granule_sectors,
                 name.as_ptr(),
                 name.len(),
                 length,
@@ -355,6 +356,7 @@ impl<B: AsRef<[u8]>> Disk<B> {
                 g.start,
                 g.open_code,
                 g.system_disk,
+                g.granule_sectors,
                 lent.as_mut_ptr(),
                 lent.len(),
                 buffer.as_mut_ptr(),
@@ -391,6 +393,7 @@ impl<B: AsRef<[u8]>> Disk<B> {
                 g.start,
                 g.open_code,
                 g.system_disk,
+                g.granule_sectors,
                 lent.as_ptr(),
                 lent.len(),
                 k,
@@ -428,6 +431,7 @@ impl<B: AsRef<[u8]>> Disk<B> {
                 g.start,
                 g.open_code,
                 g.system_disk,
+                g.granule_sectors,
                 number,
                 name.as_mut_ptr(),
                 name.len(),
@@ -454,6 +458,7 @@ impl<B: AsRef<[u8]>> Disk<B> {
                 g.start,
                 g.open_code,
                 g.system_disk,
+                g.granule_sectors,
                 &mut files,
                 &mut free,
                 fault_slot,
@@ -486,6 +491,7 @@ impl<B: AsRef<[u8]>> Disk<B> {
                 g.start,
                 g.open_code,
                 g.system_disk,
+                g.granule_sectors,
                 &mut free,
                 &mut longest,
             )
@@ -521,7 +527,7 @@ impl<B: AsRef<[u8]>> Disk<B> {
                 Ok(part) => bytes.extend_from_slice(part),
                 Err(Refusal::PastEnd) => break,
                 // Only a file of the largest size: there is no sector number past its last one.
-                Err(Refusal::Range) if k * Geometry::SECTOR_BYTES == Geometry::MOST_BYTES => break,
+                Err(Refusal::Range) if k * Geometry::SECTOR_BYTES == self.geometry.highest_position() => break,
                 Err(refusal) => return Err(refusal),
             }
         }
@@ -591,6 +597,7 @@ impl<B: AsMut<[u8]>> Disk<B> {
                 g.start,
                 g.open_code,
                 g.system_disk,
+                g.granule_sectors,
                 name.as_ptr(),
                 name.len(),
                 new.date.day,
@@ -642,6 +649,7 @@ impl<B: AsMut<[u8]>> Disk<B> {
                 g.start,
                 g.open_code,
                 g.system_disk,
+                g.granule_sectors,
                 lent.as_mut_ptr(),
                 lent.len(),
                 kind == Kind::Sequential,
@@ -677,6 +685,7 @@ impl<B: AsMut<[u8]>> Disk<B> {
                 g.start,
                 g.open_code,
                 g.system_disk,
+                g.granule_sectors,
                 lent.as_ptr(),
                 lent.len(),
                 k,
@@ -699,6 +708,7 @@ impl<B: AsMut<[u8]>> Disk<B> {
                 g.start,
                 g.open_code,
                 g.system_disk,
+                g.granule_sectors,
                 lent.as_ptr(),
                 lent.len(),
                 fault_slot,
@@ -729,6 +739,7 @@ impl<B: AsMut<[u8]>> Disk<B> {
                 g.start,
                 g.open_code,
                 g.system_disk,
+                g.granule_sectors,
                 lent.as_ptr(),
                 lent.len(),
                 fault_slot,
@@ -765,6 +776,7 @@ impl<B: AsMut<[u8]>> Disk<B> {
                 g.start,
                 g.open_code,
                 g.system_disk,
+                g.granule_sectors,
                 slot,
                 &mut slots,
                 &mut granules,

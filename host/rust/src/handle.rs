@@ -65,7 +65,7 @@ impl Handle {
         u32::from_le_bytes([self.0[4], self.0[5], self.0[6], self.0[7]])
     }
 
-    /// Sets the position. Over 1,966,080 the next call is refused.
+    /// Sets the position. Over [`Geometry::highest_position`](crate::Geometry::highest_position) the next call is refused.
     pub fn set_position(&mut self, position: u32) {
         self.0[4..8].copy_from_slice(&position.to_le_bytes());
     }

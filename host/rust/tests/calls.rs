@@ -180,13 +180,20 @@ fn writes_of_both_kinds() {
 #[test]
 fn the_largest_file_is_read_whole() {
     // Only a system file can be of the largest size: one that owns every granule, the directory's too.
-    let geometry = Geometry::new(192, 8, 3840, 0);
+    for (granule_sectors, sectors) in [(5, 0x1e00_u16), (10, 0x3c00), (20, 0x7800)] {
+        the_largest_file_by_granules_of(granule_sectors, sectors);
+    }
+}
+
+fn the_largest_file_by_granules_of(granule_sectors: usize, sectors: u16) {
+    let geometry = Geometry::new(192, 8, 3840, 0).with_granule_sectors(granule_sectors);
     let mut disk = Disk::blank(geometry, 30, &[]).unwrap();
     let owner = name("ALL/SYS");
     let mut entry = [0xff; 32];
     entry[..5].copy_from_slice(&[0x50, 0, 0, 0, 0]);
     entry[5..16].copy_from_slice(owner.as_bytes());
-    entry[16..22].copy_from_slice(&[0, 0, 0, 0, 0x00, 0x1e]);
+    entry[16..20].copy_from_slice(&[0; 4]);
+    entry[20..22].copy_from_slice(&sectors.to_le_bytes());
     // 48 runs of 32 granules: four blocks each, four runs an entry; the entries of row 0, slots 0 to 11.
     let hash = owner.as_bytes().iter().fold(0u8, |h, byte| (h ^ byte).rotate_left(1));
     let mut image = disk.into_image();
@@ -212,7 +219,8 @@ fn the_largest_file_is_read_whole() {
     let handle = disk.open(&owner, 256, Password::Unchecked).unwrap();
     assert!(disk.contents(&handle).unwrap() == disk.image());
     let entry = &disk.entries().unwrap()[0];
-    assert_eq!((entry.size(), entry.granules(), entry.runs().len(), entry.is_system()), (1_966_080, 1536, 48, true));
+    assert_eq!(entry.size(), geometry.highest_position());
+    assert_eq!((entry.granules(), entry.runs().len(), entry.is_system()), (1536, 48, true));
 }
 
 #[test]
@@ -408,6 +416,11 @@ fn blank_disks() {
     for (sectors, slots) in [(10, 32), (15, 72), (20, 112), (25, 152), (30, 192)] {
         let mut disk = Disk::blank(Geometry::new(192, 8, 0, 0), sectors, &[]).unwrap();
         assert_eq!(disk.count().unwrap().free, 1536 - sectors / 5);
+        // Of larger granules the directory takes those that it touches.
+        for (granule_sectors, granules) in [(5, sectors / 5), (10, (sectors + 5) / 10), (20, (sectors + 15) / 20)] {
+            let geometry = Geometry::new(40, 3, 40, 0).with_granule_sectors(granule_sectors);
+            assert_eq!(Disk::blank(geometry, sectors, &[]).unwrap().count().unwrap().free, 120 - granules);
+        }
         for i in 0..slots {
             disk.create(&name(&format!("F{i}")), &plain()).unwrap();
         }
@@ -426,6 +439,9 @@ fn blank_disks() {
     assert_eq!(blank(small.with_start(usize::MAX), 10, &[]), Refusal::Geometry);
     assert_eq!(blank(small.with_blocks(0), 10, &[]), Refusal::Geometry);
     assert_eq!(blank(small.with_units(9), 10, &[]), Refusal::Geometry);
+    for no_size in [0, 1, 6, 15, 40, usize::MAX] {
+        assert_eq!(blank(small.with_granule_sectors(no_size), 10, &[]), Refusal::Geometry);
+    }
 }
 
 #[test]

@@ -17,7 +17,7 @@ use std::io::Write;
 const DISKS: usize = 300;
 
 fn geometry(g: &genie_model::geometry::Geometry) -> Geometry {
-    Geometry::new(g.blocks, g.units, g.start, g.open_code)
+    Geometry::new(g.blocks, g.units, g.start, g.open_code).with_granule_sectors(g.granule_sectors)
 }
 
 /// What the library's own calls tell of a consistent disk's granules: which file's each is, by its place in that file. The
@@ -32,11 +32,11 @@ fn told(disk: &Disk<&[u8]>) -> BTreeMap<usize, (u8, usize, usize)> {
         for (number, run) in (1..).zip(entry.runs()) {
             for index in 0..run.granules {
                 let granule = run.first + index;
-                let k = nth * Geometry::GRANULE_SECTORS;
+                let k = nth * disk.geometry().granule_sectors;
                 if k < sectors {
                     let part = disk.read_sector(&handle, k).unwrap();
                     let at = part.as_ptr() as usize - disk.image().as_ptr() as usize;
-                    assert_eq!(at, granule * Geometry::GRANULE_BYTES, "sector {k} of {}", entry.name());
+                    assert_eq!(at, granule * disk.geometry().granule_bytes(), "sector {k} of {}", entry.name());
                 }
                 assert_eq!(told.insert(granule, (entry.slot(), number, index)), None);
                 nth += 1;
@@ -96,18 +96,19 @@ fn every_granule_of_consistent_disks() {
 
 /// What must hold of any map.
 fn marks(map: &Map, len: usize, what: &str) {
+    let width = map.geometry.granule_bytes();
     for (place, fault) in map.faults.iter().enumerate() {
         assert!(!fault.bytes.is_empty(), "{what}: {} has no byte", fault.told);
         let directory = map.geometry.start * 256..(map.geometry.start + 30) * 256;
         assert!(fault.bytes.iter().all(|byte| directory.contains(byte) && *byte < len), "{what}: {}", fault.told);
-        for granule in fault.granules.iter().copied().chain(fault.bytes.iter().map(|byte| byte / 1280)) {
+        for granule in fault.granules.iter().copied().chain(fault.bytes.iter().map(|byte| byte / width)) {
             assert!(map.cells[granule].faults.contains(&place), "{what}: granule {granule} of {}", fault.told);
         }
     }
     for cell in &map.cells {
         let own = |&place: &usize| {
             let fault = &map.faults[place];
-            fault.granules.contains(&cell.granule) || fault.bytes.iter().any(|byte| byte / 1280 == cell.granule)
+            fault.granules.contains(&cell.granule) || fault.bytes.iter().any(|byte| byte / width == cell.granule)
         };
         assert!(cell.faults.iter().all(own), "{what}: granule {}", cell.granule);
         let shared = map

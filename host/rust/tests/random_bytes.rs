@@ -38,7 +38,7 @@ fn directory(image: &mut [u8], g: Geometry, random: &mut Random) {
             entry[0x17 + 2 * pair] =
                 ((granule % g.units) << 5) as u8 | if random.one_in(4) { random.byte() & 3 } else { 0 };
         }
-        entry[0x14] = random.below(5 * pairs + 2) as u8;
+        entry[0x14] = random.below((g.granule_sectors * pairs + 2).min(256)) as u8;
         entry[0x15] = 0;
         entry[0x03] = if entry[0x14] > 0 { random.byte() } else { 0 };
         let link = *random.pick(&slots(sectors).collect::<Vec<u8>>());
@@ -72,12 +72,14 @@ fn geometry(random: &mut Random) -> (Geometry, usize) {
     let most = if random.one_in(6) { Geometry::MOST_BLOCKS } else { 30 };
     let (blocks, units) = (1 + random.below(most), 1 + random.below(8));
     let granules = blocks * units;
-    let start = 5 * random.below(granules);
+    let size = if random.one_in(2) { 5 } else { *random.pick(&Geometry::GRANULE_SIZES) };
+    let start = size * random.below(granules);
     let odd = |random: &mut Random| *random.pick(&[0, 1, 5, 7, 193, 9999, usize::MAX, usize::MAX / 256, 1 << 60]);
-    let mut g = Geometry::new(blocks, units, start, 0x4296);
-    let mut length = granules * 1280;
+    let mut g = Geometry::new(blocks, units, start, 0x4296).with_granule_sectors(size);
+    let mut length = granules * size * 256;
     if random.one_in(20) {
-        match random.below(4) {
+        match random.below(5) {
+            4 => g.granule_sectors = odd(random),
             0 => g.blocks = odd(random),
             1 => g.units = odd(random),
             2 => g.start = odd(random),

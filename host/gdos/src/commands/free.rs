@@ -10,7 +10,7 @@ use crate::fault;
 use crate::json::Json;
 use crate::shape::{self, Wanted};
 use crate::text::counted;
-use genie_dos::{Explained, FreeSpace, Geometry, Refusal};
+use genie_dos::{Explained, FreeSpace, Refusal};
 
 pub const COMMAND: Command = Command {
     name: "free",
@@ -18,8 +18,8 @@ pub const COMMAND: Command = Command {
     usage: "[OPTIONS] IMAGE",
     about: "\
 Tells the free granules and the longest free stretch (granules with consecutive numbers), and the bytes that fit into
-them. A file takes whole granules of 1,280 bytes. Of a consistent disk also how many files more its directory
-takes, as a system disk and as a data disk.
+them. A file takes whole granules: of 1,280 bytes, unless --granule says 10 or 20 sectors. Of a consistent disk also how
+many files more its directory takes, as a system disk and as a data disk.
 
 Only the disk's map of granules is looked at. So a disk that is not consistent is answered too, if its geometry is
 stated: what is marked free is counted, and a note says what is wrong with the disk (`gdos check` tells more).
@@ -35,8 +35,8 @@ fn run(args: &Args) -> Result<Output, Failure> {
     let (disk, path) = (&opened.disk, &opened.path);
     let FreeSpace { free, longest } = disk.free_space().map_err(Failure::image(path))?;
     let fault = disk.check().err().and_then(Refusal::fault).map(|fault| disk.explain(fault));
-    let total = disk.image().len() / Geometry::GRANULE_BYTES;
-    let (bytes, longest_bytes) = (free * Geometry::GRANULE_BYTES, longest * Geometry::GRANULE_BYTES);
+    let width = opened.geometry().granule_bytes();
+    let (total, bytes, longest_bytes) = (disk.image().len() / width, free * width, longest * width);
     // A disk that is not consistent takes no file.
     let more = if fault.is_none() { Some(More::of(disk).map_err(Failure::image(path))?) } else { None };
     let mut json = opened.head();
@@ -53,7 +53,7 @@ fn run(args: &Args) -> Result<Output, Failure> {
     ]);
     let mut text = format!(
         "{free} of {} free, {bytes} bytes\nlongest stretch {}, {longest_bytes} bytes\n",
-        counted(total, "granule"),
+        shape::granules(opened.geometry(), total),
         counted(longest, "granule"),
     );
     text.extend(more.map(|more| format!("files: {}\n", more.told(opened.geometry()))));

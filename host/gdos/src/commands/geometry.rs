@@ -7,6 +7,7 @@ use crate::args::{Args, Spec};
 use crate::failure::Failure;
 use crate::fault;
 use crate::json::Json;
+use crate::search;
 use crate::shape::{self, Wanted};
 use crate::stated::{Sidecar, Source};
 use genie_dos::Refusal;
@@ -26,8 +27,9 @@ under it. With --set it is kept in a file beside the image, IMAGE.gdos, which ev
 replaced. A geometry that does not have the image's length is refused; a disk that is not consistent is not, but a
 note tells its fault.
 
-IMAGE.gdos has a line for each of blocks, units, start and open_code, as `blocks = 48`, and of a data disk
-`system_disk = no`; a preset's name will do too, and # begins a remark. A key that is not known is an error.
+IMAGE.gdos has a line for each of blocks, units, start and open_code, as `blocks = 48`, of a data disk
+`system_disk = no`, and of granules that have not 5 sectors `granule_sectors = 20`; a preset's name will do too, and #
+begins a remark. A key that is not known is an error.
 GDOS_GEOMETRY is written likewise: `dd40`, or `blocks=48 units=3 start=360`.
 ",
     groups: &[("Options", &[SET, SEARCH, JSON]), (shape::TITLE, shape::OPTIONS)],
@@ -50,7 +52,7 @@ fn run(args: &Args) -> Result<Output, Failure> {
                 true => Opened::unchecked(&wanted, image)?,
                 false => Opened::searched(&wanted, image)?,
             };
-            if opened.source == Source::Search && !args.has("search") {
+            if opened.source.is_search() && !args.has("search") {
                 return Err(crate::stated::not_stated(opened.geometry(), &wanted, &opened.path));
             }
             let sidecar = Sidecar::of(Path::new(image));
@@ -67,7 +69,9 @@ fn output(opened: &Opened, told: Option<String>) -> Output {
     let geometry = opened.geometry();
     let options = shape::options(geometry, "");
     let told_of_code = format!("open code {:04X}H", geometry.open_code);
-    let text = format!("{}: {options}, {told_of_code}, from {from}\n", opened.path) + &told.clone().unwrap_or_default();
+    let on = if opened.source == (Source::Search { went_on: true }) { search::WENT_ON } else { "" };
+    let text =
+        format!("{}: {options}, {told_of_code}, from {from}{on}\n", opened.path) + &told.clone().unwrap_or_default();
     let fault = opened.disk.check().err().and_then(Refusal::fault).map(|fault| opened.disk.explain(fault));
     let mut json = opened.head();
     json.extend([
@@ -81,7 +85,7 @@ fn output(opened: &Opened, told: Option<String>) -> Output {
     });
     let mut output = Output { text: text.into_bytes(), json: Json::Object(json), ..Output::default() };
     // That it was searched stands in the text.
-    output.notes.extend(opened.notes().into_iter().filter(|_| opened.source != Source::Search));
+    output.notes.extend(opened.notes().into_iter().filter(|_| !opened.source.is_search()));
     output.notes.extend(notes);
     output
 }

@@ -58,7 +58,7 @@ fn about_disk(opened: &Opened) -> Result<Output, Failure> {
     let entries = disk.entries().map_err(Failure::image(path))?;
     let counts = disk.count().map_err(Failure::image(path))?;
     let sectors = disk.directory_sectors().map_err(Failure::image(path))?;
-    let total = disk.image().len() / Geometry::GRANULE_BYTES;
+    let total = disk.image().len() / geometry.granule_bytes();
     let owned: usize = entries.iter().map(Entry::granules).sum();
     let reserved = total - counts.free - owned;
     let slots = 8 * (sectors - 2);
@@ -76,7 +76,7 @@ fn about_disk(opened: &Opened) -> Result<Output, Failure> {
         disk.image().len(),
         counted(geometry.blocks, "block"),
         counted(geometry.units, "unit"),
-        counted(total, "granule"),
+        shape::granules(geometry, total),
         if geometry.system_disk { "system" } else { "data" },
         shape::preset_of(geometry).unwrap_or("none"),
         geometry.start,
@@ -124,7 +124,7 @@ fn about_file(entry: &Entry, geometry: Geometry) -> String {
         entry.slot(),
     );
     for run in entry.runs() {
-        let (first, last) = sectors(run);
+        let (first, last) = sectors(run, geometry);
         text += &format!(
             "  run            {} from {}, sectors {first} to {last}\n",
             counted(run.granules, "granule"),
@@ -135,14 +135,14 @@ fn about_file(entry: &Entry, geometry: Geometry) -> String {
 }
 
 /// First and last sector of a run.
-fn sectors(run: &Run) -> (usize, usize) {
-    let first = run.first * Geometry::GRANULE_SECTORS;
-    (first, first + run.granules * Geometry::GRANULE_SECTORS - 1)
+fn sectors(run: &Run, geometry: Geometry) -> (usize, usize) {
+    let first = run.first * geometry.granule_sectors;
+    (first, first + run.granules * geometry.granule_sectors - 1)
 }
 
 fn json_of(entry: &Entry, geometry: Geometry) -> Json {
     let runs = entry.runs().iter().map(|run| {
-        let (first, last) = sectors(run);
+        let (first, last) = sectors(run, geometry);
         Json::object([
             ("first", run.first.into()),
             ("granules", run.granules.into()),

@@ -4,7 +4,7 @@
 use crate::json::Json;
 use crate::places::{entry, has_slot};
 use crate::text::{self, counted};
-use genie_dos::{Disk, Entry, Geometry, Name};
+use genie_dos::{Disk, Entry, Name};
 
 /// A removed file's entry that names granules of another's.
 #[derive(Clone, Debug, PartialEq, Eq)]
@@ -73,7 +73,7 @@ fn chain(slot: usize, dead: impl Fn(usize) -> Option<Bytes>) -> Vec<usize> {
 
 /// The granules that the entries in these slots name, as far as the disk has them, rising.
 fn granules(disk: &Disk, slots: &[usize], dead: impl Fn(usize) -> Option<Bytes>) -> Vec<usize> {
-    let (units, all) = (disk.geometry().units, disk.image().len() / Geometry::GRANULE_BYTES);
+    let (units, all) = (disk.geometry().units, disk.geometry().granules().unwrap_or(0));
     let mut granules = Vec::new();
     for bytes in slots.iter().filter_map(|&slot| dead(slot)) {
         for pair in bytes[0x16..0x1e].chunks_exact(2).take_while(|pair| pair[0] != 0xff) {
@@ -122,7 +122,7 @@ pub fn json(also: &[Also]) -> Json {
 #[cfg(test)]
 mod tests {
     use super::*;
-    use genie_dos::{Date, Kind, NewFile, Password};
+    use genie_dos::{Date, Geometry, Kind, NewFile, Password};
 
     const GEOMETRY: Geometry = Geometry::new(16, 2, 80, 0);
 

@@ -99,7 +99,7 @@ fn picture(shown: &Shown, file: Option<&MappedFile>, colours: bool) -> String {
     let map = &shown.map;
     let mut text = format!("{}\n{}\n", title(shown, file), map.summary());
     if let Some(file) = file {
-        text += &way(file);
+        text += &way(map, file);
     }
     let label = |cell: &Cell| match file {
         Some(file) if cell.holds == Holds::File && cell.parts.iter().all(|part| part.file != Some(file.slot)) => {
@@ -150,8 +150,8 @@ fn painted_cell(map: &Map, file: Option<&MappedFile>, cell: &Cell, shown: &str, 
 }
 
 /// A file's runs in their order.
-fn way(file: &MappedFile) -> String {
-    let line = |(number, run): (usize, &Run)| format!("  run {number}: {}\n", run_words(run));
+fn way(map: &Map, file: &MappedFile) -> String {
+    let line = |(number, run): (usize, &Run)| format!("  run {number}: {}\n", run_words(run, map.geometry));
     let slots: Vec<String> = file.slots.iter().map(|&slot| text::slot(slot.into())).collect();
     let entries = if slots.len() == 1 { "entry in slot" } else { "entries in slots" };
     format!("  {entries} {}\n", slots.join(", ")) + &(1..).zip(&file.runs).map(line).collect::<String>()

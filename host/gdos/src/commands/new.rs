@@ -32,8 +32,9 @@ pub const COMMAND: Command = Command {
     summary: "make an image of an empty disk",
     usage: "[OPTIONS] IMAGE",
     about: "\
-Makes a consistent disk without files. State its geometry, by --preset or by --blocks, --units and --start; it is
-kept in IMAGE.gdos beside the image, so that no later command has to be told it (see gdos geometry). A directory of
+Makes a consistent disk without files. State its geometry, by --preset or by --blocks, --units and --start, and if its
+granules have 10 or 20 sectors by --granule; it is kept in IMAGE.gdos beside the image, so that no later command has to
+be told it (see gdos geometry). A directory of
 10, 15, 20, 25 or 30 sectors has room for 32, 72, 112, 152 or 192 files, and with --data-disk for 30 more; a badly
 scattered file takes more than one place. Outside the directory every byte is E5H, as formatting leaves it; there is
 neither a system nor a label on the disk.

@@ -5,7 +5,7 @@ use crate::args::Args;
 use crate::failure::Failure;
 use crate::host::{self, Locked};
 use crate::json::Json;
-use crate::search::{evidence_words, stronger_elsewhere};
+use crate::search::{self, evidence_words, stronger_elsewhere};
 use crate::shape::{self, Wanted};
 use crate::stated::{self, Found, Source};
 use genie_dos::{Disk, Geometry, Refusal};
@@ -101,8 +101,9 @@ impl Opened {
     /// What is to be remarked: which geometry a search found; or that more speaks for another than for the stated one.
     pub fn notes(&self) -> Vec<String> {
         let path = &self.path;
-        if self.source == Source::Search {
-            return vec![format!("{path}: geometry found by search: {}", shape::options(self.geometry(), ""))];
+        if let Source::Search { went_on } = self.source {
+            let on = if went_on { search::WENT_ON } else { "" };
+            return vec![format!("{path}: geometry found by search: {}{on}", shape::options(self.geometry(), ""))];
         }
         self.stronger().map(|stronger| format!("{path}: {stronger}")).into_iter().collect()
     }

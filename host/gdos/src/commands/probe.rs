@@ -7,7 +7,7 @@ use crate::args::Args;
 use crate::failure::Failure;
 use crate::host;
 use crate::json::Json;
-use crate::search::{candidate_json, candidate_lines, search, Reading, Search, Verdict};
+use crate::search::{candidate_json, candidate_lines, search, Reading, Search, Verdict, WENT_ON};
 use crate::shape::{self, Wanted};
 use crate::stated;
 use std::path::Path;
@@ -22,7 +22,8 @@ that agree with the options given. The places are ranked by what speaks for each
 HIT byte is their hash, and whose marker is one; names that one byte parts from that (nearly); and slots in which
 HIT and entry contradict each other (against). For each place: the options to type, then whether the disk is
 consistent, or its first fault. The last line tells which geometry a command takes that only reads. What is stated
-by GDOS_GEOMETRY or beside the image plays no part. The open code cannot be found: nothing on a disk speaks of it.
+by GDOS_GEOMETRY or beside the image plays no part. Granules of 10 and 20 sectors are tried only where no reading with 5
+is consistent; the last line says so. The open code cannot be found: nothing on a disk speaks of it.
 Refused with 1 if no geometry has this length, and if the disk is consistent under none.
 ",
     groups: &[("Options", &[JSON]), (shape::TITLE, shape::OPTIONS)],
@@ -54,6 +55,7 @@ fn run(args: &Args) -> Result<Output, Failure> {
     let json = Json::object([
         ("image", path.as_str().into()),
         ("tried", search.tried.into()),
+        ("went_on", search.went_on.into()),
         ("geometries", Json::list(search.intact.iter().map(fit_json))),
         ("ranking", Json::list(search.ranking.iter().map(candidate_json))),
         ("taken", taken(&search).map(shape::json).into()),
@@ -72,6 +74,14 @@ fn taken(search: &Search) -> Option<genie_dos::Geometry> {
 
 /// What a command does that finds the geometry by itself.
 fn told(search: &Search) -> String {
+    match (search.went_on, search.intact.is_empty()) {
+        (false, _) => judged(search),
+        (true, true) => judged(search) + ", with granules of 5, 10 or 20 sectors",
+        (true, false) => judged(search) + WENT_ON,
+    }
+}
+
+fn judged(search: &Search) -> String {
     let why = match search.verdict {
         Verdict::Taken(geometry) => return format!("taken: {}", shape::options(geometry, "")),
         Verdict::NoLength | Verdict::Damaged => "no reading is consistent",

@@ -264,7 +264,7 @@ impl Wants {
     fn of(disk: &Disk, typed: &Typed, size: usize) -> Wants {
         let entries = disk.entries().unwrap_or_default();
         let owned = entries.iter().find(|entry| entry.name() == typed.name).map_or(0, |entry| entry.granules());
-        let granules = Geometry::granules_for(size).saturating_sub(owned);
+        let granules = disk.geometry().granules_for(size).saturating_sub(owned);
         Wants { size, owned, granules, free: disk.count().map_or(0, |counts| counts.free) }
     }
 }

@@ -83,13 +83,14 @@ fn about_disk(page: &mut Page, shown: &Shown) -> Result<(), Failure> {
     let (opened, map) = (&shown.opened, &shown.map);
     let geometry = opened.geometry();
     let FreeSpace { free, longest } = opened.disk.free_space().map_err(Failure::image(&opened.path))?;
+    let sized = shape::sized(geometry);
     let preset = shape::preset_of(geometry).map(|name| format!(" (preset {name})")).unwrap_or_default();
     let granules = counted(map.cells.len(), "granule");
     let free_words = format!(
         "{free} of {granules}, {} bytes; the longest stretch {}, {} bytes",
-        free * Geometry::GRANULE_BYTES,
+        free * geometry.granule_bytes(),
         counted(longest, "granule"),
-        longest * Geometry::GRANULE_BYTES
+        longest * geometry.granule_bytes()
     );
     let free_words = match map.faults.is_empty() {
         true => free_words,
@@ -98,7 +99,10 @@ fn about_disk(page: &mut Page, shown: &Shown) -> Result<(), Failure> {
     page.heading("The disk");
     page.terms(&[
         ("Image", format!("{}, {} bytes", opened.path, opened.disk.image().len())),
-        ("Geometry", format!("{} of {}{preset}", counted(geometry.blocks, "block"), counted(geometry.units, "unit"))),
+        (
+            "Geometry",
+            format!("{} of {}{sized}{preset}", counted(geometry.blocks, "block"), counted(geometry.units, "unit")),
+        ),
         ("Geometry from", opened.source.words()),
         ("Directory", format!("sectors {} to {}", geometry.start, geometry.start + map.directory_sectors - 1)),
         ("Open code", format!("{:04X}H, which stands for no password", geometry.open_code)),

@@ -151,7 +151,7 @@ fn pair_words(seen: Seen, block: u8, second: u8) -> String {
     let (unit, further) = (usize::from(second >> 5), usize::from(second & 0x1f));
     let units = seen.geometry().units;
     let run = Run { first: usize::from(block) * units + unit, granules: further + 1 };
-    let words = format!("block {block}, first unit {unit}, {further} further: {}", run_words(&run));
+    let words = format!("block {block}, first unit {unit}, {further} further: {}", run_words(&run, seen.geometry()));
     let last = seen.map.cells.len() - 1;
     match (unit >= units, run.first + run.granules > last + 1) {
         (true, _) => format!("{words}; but a block has units 0 to {}", units - 1),
@@ -161,9 +161,9 @@ fn pair_words(seen: Seen, block: u8, second: u8) -> String {
 }
 
 /// `granules 53 to 55, sectors 265 to 279`.
-pub fn run_words(run: &Run) -> String {
-    let first = run.first * Geometry::GRANULE_SECTORS;
-    let last = first + run.granules * Geometry::GRANULE_SECTORS - 1;
+pub fn run_words(run: &Run, geometry: Geometry) -> String {
+    let first = run.first * geometry.granule_sectors;
+    let last = first + run.granules * geometry.granule_sectors - 1;
     let granules = match run.granules {
         1 => format!("granule {}", run.first),
         granules => format!("granules {} to {}", run.first, run.first + granules - 1),

@@ -27,8 +27,9 @@ pub fn file(seen: Seen, file: &MappedFile) -> Vec<Section> {
         counted(file.runs.len(), "run"),
     );
     let mut sections = vec![Section { title, fields: Vec::new() }];
+    let in_granule = seen.geometry().granule_sectors;
     for k in 0..sectors {
-        let (run, granule) = match granules.get(k / Geometry::GRANULE_SECTORS) {
+        let (run, granule) = match granules.get(k / in_granule) {
             Some(&place) => place,
             None => {
                 let which =
@@ -38,7 +39,7 @@ pub fn file(seen: Seen, file: &MappedFile) -> Vec<Section> {
                 break;
             }
         };
-        let sector = granule * Geometry::GRANULE_SECTORS + k % Geometry::GRANULE_SECTORS;
+        let sector = granule * in_granule + k % in_granule;
         let from = sector * Geometry::SECTOR_BYTES;
         let own = (size - k * Geometry::SECTOR_BYTES).min(Geometry::SECTOR_BYTES);
         let place = format!("sector {k} of the file: sector {sector}, granule {granule} of run {run}");

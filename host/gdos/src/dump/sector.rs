@@ -28,16 +28,17 @@ pub fn sector(seen: Seen, number: usize) -> Vec<Section> {
 
 /// What a sector holds: of a file its own number there.
 fn whose(seen: Seen, number: usize) -> String {
-    let cell = match seen.map.cells.get(number / Geometry::GRANULE_SECTORS) {
+    let in_granule = seen.geometry().granule_sectors;
+    let cell = match seen.map.cells.get(number / in_granule) {
         Some(cell) => cell,
         None => return String::new(),
     };
-    let nth = number % Geometry::GRANULE_SECTORS;
+    let nth = number % in_granule;
     let words = seen.map.words(cell);
     let of_file = cell.parts.iter().filter(|_| cell.holds != Holds::Directory).filter_map(|part| {
         let file = seen.map.file(part.file?)?;
         let before: usize = file.runs[..part.run - 1].iter().map(|run| run.granules).sum();
-        let own = (before + part.index) * Geometry::GRANULE_SECTORS + nth;
+        let own = (before + part.index) * in_granule + nth;
         Some(format!("; sector {own} of {} (slot {})", file.name.shown(), text::slot(file.slot.into())))
     });
     words + &of_file.collect::<String>()

@@ -11,6 +11,7 @@ pub struct Fit {
     reserved: usize,
     /// First and last granule of each run, in the order of the slots.
     runs: Vec<(usize, usize)>,
+    granule_sectors: usize,
 }
 
 /// What does not fit, with all that could be at fault: a run (or two), or a byte of the GAT.
@@ -28,9 +29,8 @@ impl Fit {
         };
         let granules = g.blocks * g.units;
         let taken = |granule: usize| byte(0, granule / g.units) >> (granule % g.units) & 1 == 1;
-        let first = g.start / Geometry::GRANULE_SECTORS;
-        let directory = first..first + Geometry::granules_for(sectors * Geometry::SECTOR_BYTES);
-        let mut fit = Fit { faults: Vec::new(), reserved: 0, runs: Vec::new() };
+        let directory = g.directory_granules(sectors);
+        let mut fit = Fit { faults: Vec::new(), reserved: 0, runs: Vec::new(), granule_sectors: g.granule_sectors };
         let mut owner = vec![None; granules];
         for (sector, at) in (2..sectors).flat_map(|sector| (0..256).step_by(32).map(move |at| (sector, at))) {
             let flags = byte(sector, at);
@@ -94,7 +94,7 @@ impl Fit {
 
     /// Whether every run lies in the same granules under both, so that every file has the same bytes.
     pub fn same_granules(&self, other: &Fit) -> bool {
-        self.runs == other.runs
+        self.runs == other.runs && (self.granule_sectors == other.granule_sectors || self.runs.is_empty())
     }
 }
 

@@ -11,4 +11,4 @@ mod words;
 
 pub use ranking::{Candidate, Reading};
 pub use verdict::{search, stronger_elsewhere, Search, Verdict};
-pub use words::{candidate_brief, candidate_json, candidate_lines, evidence_words};
+pub use words::{candidate_brief, candidate_json, candidate_lines, evidence_words, WENT_ON};

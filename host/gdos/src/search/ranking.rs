@@ -28,9 +28,10 @@ pub struct Reading {
     pub found: Result<Counts, Box<Explained>>,
 }
 
-/// What the image shows at every place where a directory may begin.
+/// What the image shows at every place where a directory may begin, whatever the size of a granule: all are multiples of the
+/// smallest.
 pub fn everywhere(image: &[u8]) -> Vec<Evidence> {
-    starts(image.len()).map(|start| Evidence::at(image, start)).collect()
+    starts(image.len(), Geometry::GRANULE_SIZES[0]).map(|start| Evidence::at(image, start)).collect()
 }
 
 /// The places that something speaks for and those with a consistent reading, the strongest first. An entry counts for the

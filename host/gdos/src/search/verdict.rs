@@ -3,6 +3,9 @@
 //! length, nor for other blocks and units that one damaged byte would account for; nor does a known kind of disk seem to
 //! have its directory there without files, as a disk has that was formatted anew. That a file lies over another directory
 //! explains nothing: an older disk's file may lie over the newer directory just so.
+//!
+//! Granules of 5 sectors come first. Only where the disk is consistent under no geometry with these are 10 and 20 tried, and that
+//! is told.
 
 use super::blank::blank_elsewhere;
 use super::evidence::Evidence;
@@ -14,8 +17,10 @@ use genie_dos::{Disk, Geometry};
 /// All that the search found.
 #[derive(Clone, Debug)]
 pub struct Search {
-    /// How many geometries fit the image's length and the options.
+    /// How many geometries that fit the image's length and the options were tried.
     pub tried: usize,
+    /// Whether none with granules of 5 sectors was consistent, so that 10 and 20 were tried though nobody said so.
+    pub went_on: bool,
     /// The geometries under which the disk is consistent.
     pub intact: Vec<Reading>,
     /// The places, the strongest first.
@@ -48,12 +53,33 @@ pub enum Verdict {
 
 /// Searches an image for its geometry, as far as the options leave it open.
 pub fn search(image: &[u8], wanted: &Wanted) -> Search {
-    let tried = wanted.fitting(image.len());
     let everywhere = everywhere(image);
-    let intact = consistent(image, &everywhere, &tried);
-    let ranking = ranked(image, &everywhere, &tried, &intact);
-    let verdict = verdict(image, wanted, &tried, &intact, &everywhere);
-    Search { tried: tried.len(), intact, ranking, verdict }
+    let first = wanted.fitting(image.len());
+    let intact = consistent(image, &everywhere, &first);
+    let all = wanted.fitting_any_granule(image.len());
+    let larger = &all[first.len()..];
+    if !intact.is_empty() || larger.is_empty() {
+        return judged(image, wanted, &everywhere, &first, &first, intact, false);
+    }
+    let intact = consistent(image, &everywhere, larger);
+    // Where none is consistent, what is ranked are the usual readings, if the image has the length of one.
+    let told = if intact.is_empty() && !first.is_empty() { &first } else { larger };
+    judged(image, wanted, &everywhere, told, &all, intact, true)
+}
+
+/// What is made of the geometries under which the disk is consistent. Those told of are ranked; any of those tried may be a rival.
+fn judged(
+    image: &[u8],
+    wanted: &Wanted,
+    everywhere: &[Evidence],
+    told: &[Geometry],
+    tried: &[Geometry],
+    intact: Vec<Reading>,
+    went_on: bool,
+) -> Search {
+    let ranking = ranked(image, everywhere, told, &intact);
+    let verdict = verdict(image, wanted, tried, &intact, everywhere);
+    Search { tried: tried.len(), went_on, intact, ranking, verdict }
 }
 
 fn verdict(image: &[u8], wanted: &Wanted, tried: &[Geometry], intact: &[Reading], everywhere: &[Evidence]) -> Verdict {
@@ -100,8 +126,9 @@ pub fn stronger_elsewhere(image: &[u8], geometry: Geometry) -> Option<(Evidence,
     (strongest.speaks() && strongest.weight() > own.weight()).then_some((strongest, own))
 }
 
-/// Blocks and units that the same directory would have, were one byte of a run or of the GAT not damaged; that put some
-/// file elsewhere; and that leave no more unexplained, or are those of a known kind of disk where the geometry is not.
+/// Blocks and units that the same directory would have, were one byte of a run or of the GAT not damaged, or with granules of
+/// another size one byte elsewhere, as a size's; that put some file elsewhere; and that leave no more unexplained, or are those of
+/// a known kind of disk where the geometry is not.
 fn rival(image: &[u8], geometry: Geometry, sectors: usize, tried: &[Geometry]) -> Option<Geometry> {
     let own = Fit::of(image, geometry, sectors);
     let others = tried.iter().copied().filter(|other| other.start == geometry.start && *other != geometry);
@@ -109,7 +136,8 @@ fn rival(image: &[u8], geometry: Geometry, sectors: usize, tried: &[Geometry]) -
         let fit = Fit::of(image, other, sectors);
         let likelier =
             fit.unexplained() <= own.unexplained() || preset_of(other).is_some() && preset_of(geometry).is_none();
-        fit.is_one_byte_away() && !fit.same_granules(&own) && likelier
+        let otherwise_damaged = fit.faults() == 0 && other.granule_sectors != geometry.granule_sectors;
+        (fit.is_one_byte_away() || otherwise_damaged) && !fit.same_granules(&own) && likelier
     })
 }
 
@@ -223,11 +251,35 @@ mod tests {
         }
     }
 
+    /// One damaged byte does not make granules of 10 or 20 sectors of those of 5. With the directory in the first granule of all
+    /// sizes a file too large for its granules would do it.
+    #[test]
+    fn a_damaged_disk_is_not_taken_for_a_hard_disk() {
+        for start in [0, 20, 80] {
+            let geometry = Geometry::new(16, 2, start, 0x4296);
+            let image = disk(geometry, 10, 3, 0);
+            for at in start * 256..(start + 10) * 256 {
+                for damage in [0x01, 0x02, 0x10, 0xff] {
+                    let mut image = image.clone();
+                    image[at] ^= damage;
+                    if let Verdict::Taken(taken) = search(&image, &anything()).verdict {
+                        assert_eq!(taken.granule_sectors, 5, "start {start}, byte {at}, {damage:02X}H");
+                    }
+                }
+            }
+        }
+    }
+
     /// The plain disk of every day, one directory and files: its geometry is taken, or told among those that fit as well.
     #[test]
     fn everyday_disks_are_found() {
         let mut several = 0;
-        let others = [Geometry::new(20, 3, 150, 0x4296), Geometry::new(77, 5, 960, 0x4296)];
+        let others = [
+            Geometry::new(20, 3, 150, 0x4296),
+            Geometry::new(77, 5, 960, 0x4296),
+            Geometry::new(60, 4, 1200, 0x4296).with_granule_sectors(10),
+            Geometry::new(40, 6, 2400, 0x4296).with_granule_sectors(20),
+        ];
         for geometry in PRESETS.iter().map(|preset| preset.geometry).chain(others) {
             for (sectors, files) in [(10, 1), (10, 3), (10, 20), (15, 8), (30, 60)] {
                 for spare in [0, 0xff] {
@@ -236,7 +288,9 @@ mod tests {
                     let told = format!("{geometry:?} {sectors} {files} {spare:02X}H: {:?}", found.ranking);
                     assert_eq!(found.ranking.len(), 1, "{told}");
                     match found.verdict {
-                        Verdict::Taken(taken) => assert_eq!(taken, geometry, "{told}"),
+                        Verdict::Taken(taken) => {
+                            assert_eq!((taken, found.went_on), (geometry, geometry.granule_sectors != 5), "{told}");
+                        }
                         Verdict::Several => {
                             assert!(found.intact.iter().any(|reading| reading.geometry == geometry), "{told}");
                             several += 1;

@@ -9,14 +9,21 @@ use genie_dos::Geometry;
 
 /// How a geometry is written, a line a key.
 pub fn written(geometry: Geometry) -> String {
-    let Geometry { blocks, units, start, open_code, system_disk, .. } = geometry;
-    // What a system disk's file says is what it said before there were data disks.
+    let Geometry { blocks, units, start, open_code, system_disk, granule_sectors, .. } = geometry;
+    // What a system disk's file says is what it said before there were data disks; and so of granules of 5 sectors.
     let data_disk = if system_disk { "" } else { "system_disk = no\n" };
-    format!("blocks = {blocks}\nunits = {units}\nstart = {start}\nopen_code = {open_code:04X}H\n{data_disk}")
+    let granule = match granule_sectors == Geometry::GRANULE_SIZES[0] {
+        true => String::new(),
+        false => format!("{GRANULE} = {granule_sectors}\n"),
+    };
+    format!("blocks = {blocks}\nunits = {units}\nstart = {start}\nopen_code = {open_code:04X}H\n{data_disk}{granule}")
 }
 
 /// Keys that state a number.
-const KEYS: [&str; 4] = ["blocks", "units", "start", "open_code"];
+const KEYS: [&str; 5] = ["blocks", "units", "start", "open_code", GRANULE];
+
+/// The key that states how many sectors a granule has; without it, they are the preset's or 5.
+const GRANULE: &str = "granule_sectors";
 
 /// The key that states whether it is a system disk, `yes` or `no`; without it, it is.
 const SYSTEM_DISK: &str = "system_disk";
@@ -61,7 +68,7 @@ pub fn parse(text: &str) -> Result<Geometry, String> {
             unknown.join(", ")
         ));
     }
-    let [blocks, units, start, open_code] = numbers;
+    let [blocks, units, start, open_code, granule] = numbers;
     let missing = |key: &str| format!("it does not state {key}");
     let open_code = match open_code {
         None => OPEN_CODE,
@@ -73,7 +80,8 @@ pub fn parse(text: &str) -> Result<Geometry, String> {
         start.or(preset.map(|p| p.start)).ok_or_else(|| missing("start"))?,
         open_code,
     );
-    Ok(geometry.with_system_disk(system_disk.unwrap_or(true)))
+    let granule = granule.or(preset.map(|p| p.granule_sectors)).unwrap_or(geometry.granule_sectors);
+    Ok(geometry.with_system_disk(system_disk.unwrap_or(true)).with_granule_sectors(granule))
 }
 
 /// Keys and values as they stand there.
@@ -110,6 +118,12 @@ mod tests {
         assert_eq!(parse(&written(data)), Ok(data));
         assert!(written(data).ends_with("\nsystem_disk = no\n"));
         assert_eq!(parse("dd40 system_disk=yes"), parse("dd40"));
+        let hard = data.with_granule_sectors(20);
+        assert_eq!(parse(&written(hard)), Ok(hard));
+        assert!(written(hard).ends_with("\nsystem_disk = no\ngranule_sectors = 20\n"));
+        assert_eq!(parse("dd40 granule_sectors=5"), parse("dd40"));
+        assert_eq!(parse("hd20").map(|g| (g.start, g.granule_sectors)), Ok((15360, 20)));
+        assert_eq!(parse("hd20 granule_sectors=10 start=0").map(|g| (g.start, g.granule_sectors)), Ok((0, 10)));
         assert_eq!(written(Geometry::new(48, 3, 360, 7)), "blocks = 48\nunits = 3\nstart = 360\nopen_code = 0007H\n");
     }
 
@@ -136,15 +150,16 @@ mod tests {
             ("", "it does not state blocks"),
             ("blocks=48 start=5", "it does not state units"),
             ("blocks=48 units=3", "it does not state start"),
-            ("dd40 color=5 granule_sectors=10", "this program does not know color, granule_sectors; "),
+            ("dd40 color=5 granules=10", "this program does not know color, granules; "),
             ("dd40 system_disk=0", "system_disk is yes or, of a data disk, no, not \"0\""),
             ("dd40 system_disk=no system_disk=no", "it states system_disk twice"),
             (
                 "dd40 Blocks=4",
-                "this program does not know Blocks; it knows blocks, units, start, open_code, system_disk and preset",
+                "this program does not know Blocks; it knows blocks, units, start, open_code, granule_sectors, system_disk and preset",
             ),
             ("dd40 sd40", "it states the preset twice"),
             ("blocks=1 blocks=1", "it states blocks twice"),
+            ("dd40 granule_sectors=5 granule_sectors=5", "it states granule_sectors twice"),
             ("blocks=x", "blocks wants a number, as 1440 or 5A0H, not \"x\""),
             ("blocks=", "blocks has no value"),
             ("blocks = = 5", "blocks has no value"),

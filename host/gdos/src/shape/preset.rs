@@ -16,6 +16,13 @@ const fn preset(name: &'static str, blocks: usize, units: usize, start: usize, a
     Preset { name, geometry: Geometry::new(blocks, units, start, OPEN_CODE), about }
 }
 
+/// A hard disk of as many granules as there can be, the directory in the middle.
+const fn hard(name: &'static str, granule_sectors: usize, about: &'static str) -> Preset {
+    let (blocks, units) = (Geometry::MOST_BLOCKS, Geometry::MOST_UNITS);
+    let middle = Geometry::new(blocks, units, blocks * units / 2 * granule_sectors, OPEN_CODE);
+    Preset { name, geometry: middle.with_granule_sectors(granule_sectors), about }
+}
+
 /// The system's description gives the units of a block for each density, and the directory's place for 35 tracks (track
 /// 17) and for 80 double-density ones (sector 1440); the others follow its rule that the directory lies in the middle.
 pub const PRESETS: &[Preset] = &[
@@ -29,13 +36,15 @@ pub const PRESETS: &[Preset] = &[
     preset("dd80", 96, 3, 720, "5 inch, double density, one side, 80 tracks"),
     preset("dd40ds", 48, 6, 720, "5 inch, double density, two sides, 40 tracks"),
     preset("dd80ds", 96, 6, 1440, "5 inch, double density, two sides, 80 tracks"),
-    preset("largest", 192, 8, 3840, "the largest disk that a directory can organize"),
+    preset("largest", 192, 8, 3840, "the largest disk of granules of 5 sectors"),
+    hard("hd10", 10, "a hard disk of granules of 10 sectors"),
+    hard("hd20", 20, "a hard disk of granules of 20 sectors, the largest image"),
 ];
 
 /// The preset that a geometry is of.
 pub fn preset_of(geometry: Geometry) -> Option<&'static str> {
-    let same = |g: Geometry| (g.blocks, g.units, g.start) == (geometry.blocks, geometry.units, geometry.start);
-    PRESETS.iter().find(|preset| same(preset.geometry)).map(|preset| preset.name)
+    let shape = |g: Geometry| (g.blocks, g.units, g.start, g.granule_sectors);
+    PRESETS.iter().find(|preset| shape(preset.geometry) == shape(geometry)).map(|preset| preset.name)
 }
 
 /// The geometry of a preset's name.

@@ -17,7 +17,12 @@ pub const OPTIONS: &[Spec] = &[
     },
     Spec { long: "blocks", short: None, value: Some("N"), help: "blocks of the disk, 1 to 192" },
     Spec { long: "units", short: None, value: Some("N"), help: "units (granules) in a block, 1 to 8" },
-    Spec { long: "start", short: None, value: Some("SECTOR"), help: "the directory's first sector, a multiple of 5" },
+    Spec {
+        long: "start",
+        short: None,
+        value: Some("SECTOR"),
+        help: "the directory's first sector, a multiple of a granule's sectors",
+    },
     Spec {
         long: "open-code",
         short: None,
@@ -30,6 +35,12 @@ pub const OPTIONS: &[Spec] = &[
         value: None,
         help: "a data disk: only slots 00H and 01H are kept, so that it takes 30 files more",
     },
+    Spec {
+        long: "granule",
+        short: None,
+        value: Some("SECTORS"),
+        help: "sectors in a granule, 5, 10 or 20 (5; of a hard disk 10 or 20)",
+    },
 ];
 
 /// The same for two images: the second's own options end in 2.
@@ -40,6 +51,7 @@ pub const OPTIONS_OF_TWO: &[Spec] = &[
     OPTIONS[3],
     OPTIONS[4],
     OPTIONS[5],
+    OPTIONS[6],
     Spec {
         long: "preset2",
         short: None,
@@ -51,6 +63,7 @@ pub const OPTIONS_OF_TWO: &[Spec] = &[
     Spec { long: "start2", short: None, value: Some("SECTOR"), help: "of the second image" },
     Spec { long: "open-code2", short: None, value: Some("CODE"), help: "of the second image" },
     Spec { long: "data-disk2", short: None, value: None, help: "of the second image" },
+    Spec { long: "granule2", short: None, value: Some("SECTORS"), help: "of the second image" },
 ];
 
 /// The option of those commands that change an image.
@@ -66,12 +79,15 @@ pub struct Wanted {
     open_code: Option<u16>,
     /// A data disk; where it is not, nothing is said.
     data_disk: bool,
+    /// Sectors in a granule.
+    granule: Option<usize>,
     /// What the options that state it end in.
     suffix: &'static str,
 }
 
 /// Nothing is said.
-const ANY: Wanted = Wanted { blocks: None, units: None, start: None, open_code: None, data_disk: false, suffix: "" };
+const ANY: Wanted =
+    Wanted { blocks: None, units: None, start: None, open_code: None, data_disk: false, granule: None, suffix: "" };
 
 impl Wanted {
     /// From the options. A single option goes before the preset's number.
@@ -97,6 +113,7 @@ impl Wanted {
             start: args.number(&option("start"))?.or(preset.map(|p| p.start)).or(otherwise.start),
             open_code: args.code(&option("open-code"))?.or(otherwise.open_code),
             data_disk: args.has(&option("data-disk")) || otherwise.data_disk,
+            granule: args.number(&option("granule"))?.or(preset.map(|p| p.granule_sectors)).or(otherwise.granule),
             suffix: otherwise.suffix,
         })
     }
@@ -106,9 +123,14 @@ impl Wanted {
         self.suffix
     }
 
-    /// Whether anything is said of blocks, units or start.
+    /// Whether anything is said of blocks, units, start or the size of a granule.
     pub fn says_anything(&self) -> bool {
-        self.blocks.or(self.units).or(self.start).is_some()
+        self.blocks.or(self.units).or(self.start).or(self.granule).is_some()
+    }
+
+    /// Whether the size of a granule is said.
+    pub fn says_granule(&self) -> bool {
+        self.granule.is_some()
     }
 
     /// The directory's first sector, if it is said.
@@ -116,9 +138,20 @@ impl Wanted {
         self.start
     }
 
-    /// The geometry, if all of it is said.
+    /// The geometry, if all of it is said; a granule has 5 sectors unless it is said otherwise.
     pub fn whole(&self) -> Option<Geometry> {
-        Some(self.completed(Geometry::new(self.blocks?, self.units?, self.start?, OPEN_CODE)))
+        Some(self.completed(self.shaped(self.blocks?, self.units?, self.start?)))
+    }
+
+    /// A geometry of these numbers with granules of the size that is said.
+    fn shaped(&self, blocks: usize, units: usize, start: usize) -> Geometry {
+        let geometry = Geometry::new(blocks, units, start, OPEN_CODE);
+        geometry.with_granule_sectors(self.granule.unwrap_or(geometry.granule_sectors))
+    }
+
+    /// The same where the size of a granule is said, if nothing is said of it yet.
+    pub fn with_granule(self, sectors: usize) -> Wanted {
+        Wanted { granule: self.granule.or(Some(sectors)), ..self }
     }
 
     /// A geometry that is stated elsewhere, with the open code and the data disk if they are said.
@@ -127,20 +160,31 @@ impl Wanted {
         stated.with_open_code(open_code).with_system_disk(stated.system_disk && !self.data_disk)
     }
 
-    /// Every geometry that agrees with what is said and fits an image of this length.
+    /// Every geometry that agrees with what is said and fits an image of this length. Where nothing is said of it, a granule
+    /// has 5 sectors.
     pub fn fitting(&self, image_len: usize) -> Vec<Geometry> {
         let may = |said: Option<usize>, number: usize| said.map_or(true, |said| said == number);
         let mut fitting = Vec::new();
         for units in (1..=Geometry::MOST_UNITS).filter(|&units| may(self.units, units)) {
             for blocks in (1..=Geometry::MOST_BLOCKS).filter(|&blocks| may(self.blocks, blocks)) {
-                if Geometry::new(blocks, units, 0, 0).image_len() != Some(image_len) {
+                let shape = self.shaped(blocks, units, 0);
+                if shape.image_len() != Some(image_len) {
                     continue;
                 }
-                let starts = starts(image_len).filter(|&start| may(self.start, start));
-                fitting.extend(starts.map(|start| self.completed(Geometry::new(blocks, units, start, OPEN_CODE))));
+                let starts = starts(image_len, shape.granule_sectors).filter(|&start| may(self.start, start));
+                fitting.extend(starts.map(|start| self.completed(shape.with_start(start))));
             }
         }
         fitting
+    }
+}
+
+impl Wanted {
+    /// The same by every size of a granule that may be meant, the usual one first.
+    pub fn fitting_any_granule(&self, image_len: usize) -> Vec<Geometry> {
+        let sizes = if self.says_granule() { 1 } else { Geometry::GRANULE_SIZES.len() };
+        let by_size = |&size: &usize| self.with_granule(size).fitting(image_len);
+        Geometry::GRANULE_SIZES[..sizes].iter().flat_map(by_size).collect()
     }
 }
 
@@ -150,10 +194,11 @@ pub fn anything() -> Wanted {
     ANY
 }
 
-/// Where the directory of an image of this length may begin: with a granule, ten sectors before the end at the latest.
-pub fn starts(image_len: usize) -> impl Iterator<Item = usize> {
+/// Where the directory of an image of this length may begin: with a granule of so many sectors, ten sectors before the end at
+/// the latest.
+pub fn starts(image_len: usize, granule_sectors: usize) -> impl Iterator<Item = usize> {
     let sectors = image_len / Geometry::SECTOR_BYTES;
-    (0..(sectors + 1).saturating_sub(10)).step_by(Geometry::GRANULE_SECTORS)
+    (0..(sectors + 1).saturating_sub(10)).step_by(granule_sectors.max(1))
 }
 
 #[cfg(test)]
@@ -174,5 +219,13 @@ mod tests {
         }
         assert_eq!(Wanted { units: Some(2), start: Some(80), ..ANY }.fitting(40_960).len(), 1);
         assert!(Wanted { start: Some(81), ..ANY }.fitting(40_960).is_empty());
+        // Granules of 20 sectors: one holds a directory, and the largest disk has four times the bytes.
+        let twenty = ANY.with_granule(20);
+        assert_eq!(twenty.fitting(5120).len(), 1);
+        assert_eq!(twenty.fitting(7_864_320).len(), 1536);
+        assert_eq!(twenty.fitting(7_864_320).last().map(|g| (g.start, g.granule_sectors)), Some((30_700, 20)));
+        assert!(twenty.fitting(7_864_320 / 2).iter().all(|g| g.start % 20 == 0 && g.blocks * g.units == 768));
+        assert!(twenty.fitting(40_961).is_empty() && ANY.with_granule(15).fitting(3840).is_empty());
+        assert_eq!(twenty.with_granule(10).granule, Some(20));
     }
 }

@@ -8,10 +8,36 @@ use genie_dos::Geometry;
 /// The options that state a geometry, with the preset that it is of: `--blocks 48 --units 3 --start 360 (preset dd40)`.
 /// Those of a second image end in a suffix.
 pub fn options(geometry: Geometry, suffix: &str) -> String {
-    let Geometry { blocks, units, start, system_disk, .. } = geometry;
+    let Geometry { blocks, units, start, system_disk, granule_sectors, .. } = geometry;
     let preset = preset_of(geometry).map(|name| format!(" (preset {name})")).unwrap_or_default();
     let data = if system_disk { String::new() } else { format!(" --data-disk{suffix}") };
-    format!("--blocks{suffix} {blocks} --units{suffix} {units} --start{suffix} {start}{data}{preset}")
+    let granule = match is_usual(geometry) {
+        true => String::new(),
+        false => format!(" --granule{suffix} {granule_sectors}"),
+    };
+    format!("--blocks{suffix} {blocks} --units{suffix} {units} --start{suffix} {start}{granule}{data}{preset}")
+}
+
+/// Whether a granule has 5 sectors, which nobody has to say.
+fn is_usual(geometry: Geometry) -> bool {
+    geometry.granule_sectors == Geometry::GRANULE_SIZES[0]
+}
+
+/// What has to be said of its granules where they have not 5 sectors: ` with granules of 20 sectors`.
+pub fn sized(geometry: Geometry) -> String {
+    match is_usual(geometry) {
+        true => String::new(),
+        false => format!(" with granules of {} sectors", geometry.granule_sectors),
+    }
+}
+
+/// So many granules in words; where they have not 5 sectors, how many they have: `1536 granules of 20 sectors`.
+pub fn granules(geometry: Geometry, number: usize) -> String {
+    let sized = match is_usual(geometry) {
+        true => String::new(),
+        false => format!(" of {} sectors", geometry.granule_sectors),
+    };
+    counted(number, "granule") + &sized
 }
 
 /// A geometry for `--json`.
@@ -22,6 +48,7 @@ pub fn json(geometry: Geometry) -> Json {
         ("start", geometry.start.into()),
         ("open_code", geometry.open_code.into()),
         ("system_disk", geometry.system_disk.into()),
+        ("granule_sectors", geometry.granule_sectors.into()),
         ("preset", preset_of(geometry).into()),
     ])
 }
@@ -36,23 +63,32 @@ pub fn length(image_len: usize) -> String {
 
 /// What is wrong with a geometry that the library refuses for an image of this length.
 pub fn fault(geometry: Geometry, image_len: usize) -> String {
-    let Geometry { blocks, units, start, .. } = geometry;
+    let Geometry { blocks, units, start, granule_sectors, .. } = geometry;
     let needed = match geometry.image_len() {
         Some(needed) => needed,
+        None if !Geometry::GRANULE_SIZES.contains(&granule_sectors) => {
+            return format!("a granule has 5, 10 or 20 sectors, not {granule_sectors}");
+        }
         None => {
             let (most_blocks, most_units) = (Geometry::MOST_BLOCKS, Geometry::MOST_UNITS);
             return format!("a disk has 1 to {most_blocks} blocks of 1 to {most_units} units, not {blocks} of {units}");
         }
     };
-    let disk = format!("a disk of {} of {}", counted(blocks, "block"), counted(units, "unit"));
+    let disk = format!("a disk of {} of {}{}", counted(blocks, "block"), counted(units, "unit"), sized(geometry));
     match (needed / Geometry::SECTOR_BYTES).checked_sub(10) {
         None => format!("{disk} has no room for a directory of 10 sectors"),
-        Some(last) if start % Geometry::GRANULE_SECTORS != 0 || start > last => {
+        Some(last) if start % granule_sectors != 0 || start > last => {
             format!(
-                "the directory of {disk} begins at a sector from 0 to {last} that is a multiple of 5, not at {start}"
+                "the directory of {disk} begins at a sector from 0 to {last} that is a multiple of {granule_sectors}, \
+                 not at {start}"
             )
         }
-        Some(_) => format!("{disk} has {needed} bytes, the image {}", length(image_len)),
+        Some(_) => {
+            let fits = |&size: &usize| geometry.with_granule_sectors(size).image_len() == Some(image_len);
+            let other = Geometry::GRANULE_SIZES.into_iter().find(fits);
+            let hint = other.map(|size| format!("; granules of {size} sectors would fit (--granule {size})"));
+            format!("{disk} has {needed} bytes, the image {}{}", length(image_len), hint.unwrap_or_default())
+        }
     }
 }
 
@@ -70,18 +106,37 @@ mod tests {
         assert_eq!(fault(16, 2, 81), format!("{start}, not at 81"));
         assert_eq!(fault(16, 2, 155), format!("{start}, not at 155"));
         assert_eq!(fault(16, 3, 80), "a disk of 16 blocks of 3 units has 61440 bytes, the image 40960");
+        let hint = "; granules of 10 sectors would fit (--granule 10)";
+        assert_eq!(fault(8, 2, 40), format!("a disk of 8 blocks of 2 units has 20480 bytes, the image 40960{hint}"));
+    }
+
+    #[test]
+    fn says_what_is_wrong_with_larger_granules() {
+        let fault = |start, size| fault(Geometry::new(8, 2, start, 0).with_granule_sectors(size), 40_960);
+        assert_eq!(fault(40, 15), "a granule has 5, 10 or 20 sectors, not 15");
+        assert_eq!(fault(40, 0), "a granule has 5, 10 or 20 sectors, not 0");
+        let disk = "a disk of 8 blocks of 2 units with granules of 10 sectors";
+        let start = format!("the directory of {disk} begins at a sector from 0 to 150 that is a multiple of 10");
+        assert_eq!(fault(45, 10), format!("{start}, not at 45"));
+        let disk = "a disk of 8 blocks of 2 units with granules of 20 sectors";
+        let hint = "granules of 10 sectors would fit (--granule 10)";
+        assert_eq!(fault(40, 20), format!("{disk} has 81920 bytes, the image 40960; {hint}"));
     }
 
     #[test]
     fn no_length_is_told_that_was_not_read() {
         let fault = |len| fault(Geometry::new(16, 2, 80, 0), len);
-        assert_eq!(fault(1_966_080), "a disk of 16 blocks of 2 units has 40960 bytes, the image 1966080");
-        assert_eq!(fault(1_966_081), "a disk of 16 blocks of 2 units has 40960 bytes, the image more than 1966080");
+        assert_eq!(fault(7_864_320), "a disk of 16 blocks of 2 units has 40960 bytes, the image 7864320");
+        assert_eq!(fault(7_864_321), "a disk of 16 blocks of 2 units has 40960 bytes, the image more than 7864320");
     }
 
     #[test]
     fn as_typed() {
         assert_eq!(options(Geometry::new(48, 3, 360, 0), ""), "--blocks 48 --units 3 --start 360 (preset dd40)");
         assert_eq!(options(Geometry::new(48, 3, 5, 0), "2"), "--blocks2 48 --units2 3 --start2 5");
+        let hard = Geometry::new(192, 8, 15_360, 0).with_granule_sectors(20);
+        assert_eq!(options(hard, ""), "--blocks 192 --units 8 --start 15360 --granule 20 (preset hd20)");
+        let data = hard.with_granule_sectors(10).with_system_disk(false);
+        assert_eq!(options(data, "2"), "--blocks2 192 --units2 8 --start2 15360 --granule2 10 --data-disk2");
     }
 }

@@ -21,8 +21,8 @@ pub enum Source {
     Environment,
     /// The file of this name beside the image.
     Beside(String),
-    /// The search.
-    Search,
+    /// The search; whether it went on to granules of 10 and 20 sectors, none of 5 being consistent.
+    Search { went_on: bool },
 }
 
 impl Source {
@@ -32,8 +32,13 @@ impl Source {
             Source::Options => "options",
             Source::Environment => "environment",
             Source::Beside(_) => "file",
-            Source::Search => "search",
+            Source::Search { .. } => "search",
         }
+    }
+
+    /// Whether it was searched.
+    pub fn is_search(&self) -> bool {
+        matches!(self, Source::Search { .. })
     }
 
     /// Where it is from, in words.
@@ -47,7 +52,7 @@ impl Source {
             Source::Options => None,
             Source::Environment => Some(VARIABLE.to_string()),
             Source::Beside(file) => Some(file.clone()),
-            Source::Search => Some("a search".to_string()),
+            Source::Search { .. } => Some("a search".to_string()),
         }
     }
 }
@@ -94,7 +99,7 @@ pub fn find(wanted: &Wanted, image: &OsStr, bytes: &[u8]) -> Result<Found, Failu
 pub fn searched(wanted: &Wanted, path: &str, bytes: &[u8]) -> Result<Found, Failure> {
     let search = search(bytes, wanted);
     match search.verdict {
-        Verdict::Taken(geometry) => Ok(Found { geometry, source: Source::Search }),
+        Verdict::Taken(geometry) => Ok(Found { geometry, source: Source::Search { went_on: search.went_on } }),
         _ => Err(unclear::failure(&search, wanted, bytes, path)),
     }
 }
@@ -103,7 +108,9 @@ pub fn searched(wanted: &Wanted, path: &str, bytes: &[u8]) -> Result<Found, Fail
 pub fn find_for_change(wanted: &Wanted, searched: bool, image: &OsStr, bytes: &[u8]) -> Result<Found, Failure> {
     let found = find(wanted, image, bytes)?;
     match found.source {
-        Source::Search if !searched => Err(unclear::not_stated(found.geometry, wanted, &image.to_string_lossy())),
+        Source::Search { .. } if !searched => {
+            Err(unclear::not_stated(found.geometry, wanted, &image.to_string_lossy()))
+        }
         _ => Ok(found),
     }
 }

@@ -64,7 +64,7 @@ pub fn none_fits(search: &Search, wanted: &Wanted, image: &[u8], path: &str) -> 
     }
     let mut detail = format!("under none of the {} geometries that fit its length{and_options}", search.tried);
     let known: Vec<(&str, Explained)> =
-        wanted.fitting(image.len()).into_iter().filter_map(known_fault(image)).collect();
+        wanted.fitting_any_granule(image.len()).into_iter().filter_map(known_fault(image)).collect();
     for (name, fault) in &known {
         detail += &format!("; by --preset {name}: {} ({}): {fault}", fault.fault.kind.number(), fault.fault.kind);
     }

@@ -1,6 +1,6 @@
 use super::entry::RawEntry;
 use super::Reading;
-use crate::{FaultKind, Geometry};
+use crate::FaultKind;
 
 /// What exactly is wrong where a fault is, as the image's bytes say it.
 #[derive(Clone, Debug, PartialEq, Eq)]
@@ -360,7 +360,7 @@ impl Detail {
             }
             Detail::NoSectors { end } => format!("the sector count is 0, but the end byte {end}"),
             Detail::TooLarge { size, granules } => {
-                let needed = counted(Geometry::granules_for(size), "granule");
+                let needed = counted(reading.g.granules_for(size), "granule");
                 format!("a size of {size} bytes needs {needed}, the runs have {granules}")
             }
             Detail::OnDirectory { ref granules, run } => {

@@ -3,7 +3,7 @@ use super::entry::RawEntry;
 use super::faults::{at, found};
 use super::walks::bad_entry;
 use super::Reading;
-use crate::{FaultKind, Geometry, Name};
+use crate::{FaultKind, Name};
 use std::collections::BTreeSet;
 
 /// How much speaks against each file of the damaged image, before anything was changed.
@@ -53,7 +53,7 @@ impl Evidence {
 fn fits_exactly(reading: &Reading, file: u8) -> bool {
     let named = |slot: u8| reading.entry(slot).granules_named(reading.g);
     let owned = named(file) + reading.walks.of_file(file).map(|meeting| named(meeting.slot)).sum::<usize>();
-    reading.entry(file).size().map(Geometry::granules_for) == Some(owned)
+    reading.entry(file).size().map(|size| reading.g.granules_for(size)) == Some(owned)
 }
 
 /// The entries that are a file's own: the primary one, and of its chain those that point back to where the link stands, or that
@@ -183,5 +183,5 @@ fn granules_are_its_own(reading: &Reading, chain: &[u8]) -> bool {
         }
     }
     let size = chain.first().and_then(|&slot| reading.entry(slot).size());
-    size.map_or(false, |size| size <= seen.len() * Geometry::GRANULE_BYTES)
+    size.map_or(false, |size| size <= seen.len() * reading.g.granule_bytes())
 }

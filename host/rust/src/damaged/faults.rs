@@ -107,7 +107,7 @@ pub(crate) fn read(image: &[u8], g: Geometry) -> Option<(Reading<'_>, Faults)> {
 fn bad_length(reading: &Reading, above: u8) -> FaultFound {
     let sectors = Reading::LEAST_SECTORS + usize::from(above);
     let detail = match Reading::LENGTHS.contains(&above) {
-        true => Detail::PastEnd { sectors, room: reading.granules() * Geometry::GRANULE_SECTORS - reading.g.start },
+        true => Detail::PastEnd { sectors, room: reading.granules() * reading.g.granule_sectors - reading.g.start },
         false => Detail::Length { above },
     };
     let mut fault = told(reading, None, detail);
@@ -269,7 +269,7 @@ fn size(reading: &Reading, file: u8) -> Option<Detail> {
     let entry = reading.entry(file);
     match entry.size() {
         None => Some(Detail::NoSectors { end: entry.end_byte() }),
-        Some(size) if size > granules * Geometry::GRANULE_BYTES => Some(Detail::TooLarge { size, granules }),
+        Some(size) if size > granules * reading.g.granule_bytes() => Some(Detail::TooLarge { size, granules }),
         Some(_) => None,
     }
 }

@@ -137,7 +137,7 @@ pub(super) fn mend(image: &[u8], g: Geometry, preferred: Option<u8>) -> Result<M
             Err(refusal) => return Err(Unmended::Refused(refusal)),
         };
         let gave_up = Unmended::GaveUp { fault, steps: steps.len() };
-        if steps.len() >= most_steps(disk.image().len() / Geometry::GRANULE_BYTES) {
+        if steps.len() >= most_steps(g.granules().unwrap_or(0)) {
             return Err(gave_up);
         }
         let reading = Reading::of(disk.image(), g);

@@ -30,9 +30,7 @@ impl<'a> Reading<'a> {
     pub(crate) fn fits(image: &[u8], g: Geometry) -> bool {
         let sectors = image.len() / Geometry::SECTOR_BYTES;
         let room = sectors.checked_sub(g.start);
-        g.image_len() == Some(image.len())
-            && g.start % Geometry::GRANULE_SECTORS == 0
-            && room >= Some(Self::LEAST_SECTORS)
+        g.image_len() == Some(image.len()) && g.start % g.granule_sectors == 0 && room >= Some(Self::LEAST_SECTORS)
     }
 
     /// The byte that tells the directory's length; the geometry must fit.
@@ -114,12 +112,11 @@ impl<'a> Reading<'a> {
 
     /// Granules of the disk.
     pub(crate) fn granules(&self) -> usize {
-        self.image.len() / Geometry::GRANULE_BYTES
+        self.image.len() / self.g.granule_bytes()
     }
 
     pub(crate) fn directory_granules(&self) -> std::ops::Range<usize> {
-        let first = self.g.start / Geometry::GRANULE_SECTORS;
-        first..first + self.sectors / Geometry::GRANULE_SECTORS
+        self.g.directory_granules(self.sectors)
     }
 
     pub(crate) fn has_slot(&self, slot: u8) -> bool {

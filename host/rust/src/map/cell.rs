@@ -141,7 +141,7 @@ impl<B: AsRef<[u8]>> Disk<B> {
         for slot in reading.slots().filter(|&slot| reading.entry(slot).in_use() && reading.file_of(slot).is_none()) {
             name_granules(&reading, None, slot, 0, &mut parts);
         }
-        let marks = marks(&faults.found, reading.granules());
+        let marks = marks(&faults.found, geometry, reading.granules());
         let directory = reading.directory_granules();
         let cells = parts.into_iter().zip(marks).enumerate().map(|(granule, (mut parts, faults))| {
             parts.sort_by_key(|part| part.slot);
@@ -163,10 +163,10 @@ impl<B: AsRef<[u8]>> Disk<B> {
 }
 
 /// The faults that mark each granule.
-fn marks(faults: &[FaultFound], granules: usize) -> Vec<Vec<usize>> {
+fn marks(faults: &[FaultFound], g: Geometry, granules: usize) -> Vec<Vec<usize>> {
     let mut marks: Vec<Vec<usize>> = vec![Vec::new(); granules];
     for (place, fault) in faults.iter().enumerate() {
-        let of_bytes = fault.bytes.iter().map(|byte| byte / Geometry::GRANULE_BYTES);
+        let of_bytes = fault.bytes.iter().map(|byte| byte / g.granule_bytes());
         for granule in fault.granules.iter().copied().chain(of_bytes) {
             if let Some(marks) = marks.get_mut(granule).filter(|marks| marks.last() != Some(&place)) {
                 marks.push(place);

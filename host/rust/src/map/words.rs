@@ -28,8 +28,8 @@ impl Map {
     /// A cell in a sentence: where it is, what it holds, and the faults that mark it.
     pub fn words(&self, cell: &Cell) -> String {
         let Cell { granule, block, unit, .. } = *cell;
-        let first = granule * Geometry::GRANULE_SECTORS;
-        let last = first + Geometry::GRANULE_SECTORS - 1;
+        let sectors = self.geometry.granule_sectors;
+        let (first, last) = (granule * sectors, (granule + 1) * sectors - 1);
         let parts: Vec<String> = cell.parts.iter().map(|part| self.part_words(part)).collect();
         let parts = parts.join(", and ");
         let holds = match (cell.holds, cell.parts.is_empty()) {

@@ -51,7 +51,7 @@ pub fn feed(disk: &Disk<&[u8]>, read: bool) -> bool {
         return false;
     };
     let map = disk.map().expect("a map");
-    assert_eq!((map.cells.len() * Geometry::GRANULE_BYTES, &map.faults), (disk.image().len(), &faults.found));
+    assert_eq!((map.cells.len() * disk.geometry().granule_bytes(), &map.faults), (disk.image().len(), &faults.found));
     let first = faults.found.first().map(|found| found.told.fault);
     assert_eq!(first, told.err().map(|refusal| refusal.fault().expect("a fault")));
     let mended = mended.expect("mended");
@@ -106,21 +106,26 @@ pub struct Sound {
     pub files: Vec<Known>,
 }
 
-/// Blocks, units, start, directory sectors.
-pub const SHAPES: [(usize, usize, usize, usize); 5] =
-    [(16, 2, 80, 10), (48, 3, 360, 15), (24, 4, 240, 20), (20, 6, 300, 30), (14, 8, 0, 25)];
+/// Geometry and directory sectors.
+pub const SHAPES: [(Geometry, usize); 7] = [
+    (Geometry::new(16, 2, 80, 0x4296), 10),
+    (Geometry::new(48, 3, 360, 0x4296), 15),
+    (Geometry::new(24, 4, 240, 0x4296), 20),
+    (Geometry::new(20, 6, 300, 0x4296), 30),
+    (Geometry::new(14, 8, 0, 0x4296), 25),
+    (Geometry::new(20, 4, 400, 0x4296).with_granule_sectors(10), 25),
+    (Geometry::new(12, 8, 0, 0x4296).with_granule_sectors(20), 30),
+];
 
 impl Sound {
     /// A disk with files of all sizes up to some granules, scattered ones with extensions among them, empty ones, dead entries and
     /// some reserved granules.
-    pub fn new(shape: (usize, usize, usize, usize), random: &mut Random) -> Sound {
-        let (blocks, units, start, sectors) = shape;
-        let g = Geometry::new(blocks, units, start, 0x4296);
-        let first = start / 5;
-        let boot = if start == 0 { blocks * units - 1 } else { 0 };
+    pub fn new((g, sectors): (Geometry, usize), random: &mut Random) -> Sound {
+        let granules = g.granules().unwrap();
+        let boot = if g.start == 0 { granules - 1 } else { 0 };
         let mut reserved = vec![boot];
         if random.one_in(3) {
-            reserved.push((first + sectors / 5 + 1) % (blocks * units));
+            reserved.push((g.directory_granules(sectors).end + 1) % granules);
         }
         let mut disk = Disk::blank(g, sectors, &reserved).unwrap();
         let files = 6 + random.below(11);
@@ -167,17 +172,17 @@ impl Sound {
 fn grow(disk: &mut Disk, name: &Name, random: &mut Random, large: bool) {
     let entries = disk.entries().unwrap();
     let entry = entries.iter().find(|entry| entry.name() == *name).unwrap();
-    let size = entry.size();
-    let most = if large { 9 * 1280 } else { 1400 };
+    let (size, width) = (entry.size(), disk.geometry().granule_bytes());
+    let most = if large { 9 * width } else { width + 120 };
     if size >= most || entry.granules() > 10 {
         return;
     }
     if random.one_in(12) {
         let handle = disk.open(name, 1, Password::Unchecked).unwrap();
-        let _ = disk.allot(&handle, size / 256 + random.below(6));
+        let _ = disk.allot(&handle, size / 256 + random.below(disk.geometry().granule_sectors + 1));
         return;
     }
-    let step = if large { 1280 } else { 300 };
+    let step = if large { width } else { 300 };
     let length = 1 + random.below(256);
     let mut handle = disk.open(name, length, Password::Unchecked).unwrap();
     handle.set_position((size + if large { step - length } else { 0 }) as u32);
