@@ -92,7 +92,11 @@ pub fn create_checked(
     }
     let n = spelling::incoming(name);
     if n.place != spelling::NO_PLACE {
-        return refused(checked, 3);
+        return Created {
+            refusal: refusal::placed(3, n.place),
+            old: false,
+            handle: find::no_handle(),
+        };
     }
     let found = find::find(image, g, &n.name);
     if found.is {

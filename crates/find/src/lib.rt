@@ -85,7 +85,7 @@ pub fn look_up_checked(image: &[u8], g: Geometry, name: &[u8], checked: Refusal)
     let n = spelling::incoming(name);
     if n.place != spelling::NO_PLACE {
         return LookedUp {
-            refusal: refusal::carried(checked, 3),
+            refusal: refusal::placed(3, n.place),
             slot: 0,
             compared: 0,
         };
@@ -220,7 +220,10 @@ pub fn open_checked(
     }
     let n = spelling::incoming(name);
     if n.place != spelling::NO_PLACE {
-        return refused(checked, 3);
+        return Answer {
+            refusal: refusal::placed(3, n.place),
+            handle: no_handle(),
+        };
     }
     let f = find(image, g, &n.name);
     if !f.is {

@@ -1,11 +1,13 @@
--- What each exported function hands back: its number first and the slot of a fault (02 §2), then the other numbers that go out, then the bytes
--- of what it was lent.
+-- What each exported function hands back: its number first and the slot of a fault (02 §2), in calls by name the place of a bad byte (02 §7), then
+-- the other numbers that go out, then the bytes of what it was lent.
 use Prim.Native.Nat.{ℕ}
 use mathlib.Core.Bool.{Bool, true, cond}
 use mathlib.Core.List.{List, [], _∷_}
 use lib.Dec.{ltb}
 use lib.ListN.{length}
 use lib.Seq.{sets}
+use Rattle.meaning.specs.Names.{wellFormed, comesIn, noPlace}
+use Rattle.meaning.specs.Refusal.{placeOf, slotTold}
 use Rattle.meaning.specs.Refusals.{first, accepted, diskRefusals, check, refusal}
 use Rattle.meaning.specs.LookUp.{lookUp}
 use Rattle.meaning.specs.Open.{open′}
@@ -50,17 +52,17 @@ abbrev pub leaves : Answer × List ℕ → ℕ × ℕ × List ℕ
 leaves p = (p .0 .refusal .number, p .0 .refusal .at, p .1)
 
 -- "a refused open or create leaves a handle of zeros": meaning's open and create hand it back
-abbrev pub opens : List ℕ → Answer → ℕ × ℕ × List ℕ
-opens b a = (a .refusal .number, a .refusal .at, stored b (a .handle))
+abbrev pub opens : List ℕ → Answer → ℕ × ℕ × ℕ × List ℕ
+opens b a = (a .refusal .number, slotTold (a .refusal), placeOf (a .refusal), stored b (a .handle))
 
-abbrev pub creates : List ℕ → Created × List ℕ → ℕ × ℕ × ℕ × List ℕ × List ℕ
-creates b p = (p .0 .refusal .number, p .0 .refusal .at, told (p .0 .old), stored b (p .0 .handle), p .1)
+abbrev pub creates : List ℕ → Created × List ℕ → ℕ × ℕ × ℕ × ℕ × List ℕ × List ℕ
+creates b p = (p .0 .refusal .number, slotTold (p .0 .refusal), placeOf (p .0 .refusal), told (p .0 .old), stored b (p .0 .handle), p .1)
 
 abbrev pub brings : BroughtBack × List ℕ → ℕ × ℕ × ℕ × ℕ × List ℕ
 brings p = (p .0 .refusal .number, p .0 .refusal .at, p .0 .slots, p .0 .granules, p .1)
 
-abbrev pub looks : LookedUp → ℕ × ℕ × ℕ × ℕ
-looks l = (l .refusal .number, l .refusal .at, l .slot, l .compared)
+abbrev pub looks : LookedUp → ℕ × ℕ × ℕ × ℕ × ℕ
+looks l = (l .refusal .number, slotTold (l .refusal), placeOf (l .refusal), l .slot, l .compared)
 
 abbrev pub lies : Part → ℕ × ℕ × ℕ × ℕ
 lies p = (p .refusal .number, p .refusal .at, p .from, p .to)
@@ -76,6 +78,14 @@ numbers c = (c .refusal .number, c .refusal .at, c .files, c .free)
 abbrev pub spaces : Space → ℕ × ℕ × ℕ
 spaces s = (s .refusal .number, s .free, s .longest)
 
+-- "the name check now hands back the folded name, or the place of the first bad byte" (02 §7): the name is stored where it is accepted
+unfoldable pub names : List ℕ → List ℕ → ℕ × ℕ × List ℕ
+names b n = cond (wellFormed (comesIn n .name)) (0, noPlace, sets b 0 (comesIn n .name)) (3, comesIn n .place, b)
+
+-- the place, the buffer of the folded name: 12 where it is under 11 bytes. No disk is looked at, so there is no 1 and no fault.
+abbrev pub exportedName : List ℕ → List ℕ → ℕ × ℕ × List ℕ
+exportedName n b = long nameBytes b (12, noPlace, b) (names b n)
+
 module _ (g : Geometry) (d : List ℕ) where
   -- "A handle under 19 bytes is 12; so is the listing's outgoing name buffer under 11 bytes", in the table's order.
   unfoldable pub tooShort : Refusal
@@ -84,17 +94,17 @@ module _ (g : Geometry) (d : List ℕ) where
   abbrev pub exportedCheck : ℕ × ℕ
   exportedCheck = (check g d .number, check g d .at)
 
-  -- slot, compared. "look up's count apart": under 4 it is told, and 0 under 1, 2 (21 to 30) and 3.
-  abbrev pub exportedLookUp : List ℕ → ℕ × ℕ × ℕ × ℕ
+  -- the place, slot, compared. "look up's count apart": under 4 it is told, and 0 under 1, 2 (21 to 30) and 3.
+  abbrev pub exportedLookUp : List ℕ → ℕ × ℕ × ℕ × ℕ × ℕ
   exportedLookUp n = looks (lookUp g d n)
 
-  -- the handle's bytes
-  abbrev pub exportedOpen : List ℕ → ℕ → Bool → ℕ → List ℕ → ℕ × ℕ × List ℕ
-  exportedOpen n len checking code b = long handleBytes b (tooShort .number, tooShort .at, b) (opens b (open′ g d n len checking code))
+  -- the place, the handle's bytes
+  abbrev pub exportedOpen : List ℕ → ℕ → Bool → ℕ → List ℕ → ℕ × ℕ × ℕ × List ℕ
+  exportedOpen n len checking code b = long handleBytes b (tooShort .number, tooShort .at, noPlace, b) (opens b (open′ g d n len checking code))
 
-  -- old, the handle's bytes, the image
-  abbrev pub exportedCreate : List ℕ → NewFile → Bool → List ℕ → ℕ × ℕ × ℕ × List ℕ × List ℕ
-  exportedCreate n f checking b = long handleBytes b (tooShort .number, tooShort .at, 0, b, d) (creates b (create g d n f checking))
+  -- the place, old, the handle's bytes, the image
+  abbrev pub exportedCreate : List ℕ → NewFile → Bool → List ℕ → ℕ × ℕ × ℕ × ℕ × List ℕ × List ℕ
+  exportedCreate n f checking b = long handleBytes b (tooShort .number, tooShort .at, noPlace, 0, b, d) (creates b (create g d n f checking))
 
   -- the handle's bytes, the buffer
   abbrev pub exportedReadRecord : List ℕ → List ℕ → ℕ × ℕ × List ℕ × List ℕ

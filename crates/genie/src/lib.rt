@@ -3,7 +3,7 @@ use meaning::Geometry;
 use meaning::NewFile;
 ghost use mathlib.Core.Path.{_≡_};
 ghost use Rattle.codec.specs.Words.{geometry};
-ghost use Rattle.genie.specs.Exports.{newFile, tooShort, exportedCheck, exportedLookUp, exportedOpen, exportedCreate, exportedReadRecord, exportedReadSector, exportedWriteRecord, exportedAllot, exportedTrim, exportedKill, exportedBringBack, exportedList, exportedCount, exportedFree};
+ghost use Rattle.genie.specs.Exports.{newFile, tooShort, exportedName, exportedCheck, exportedLookUp, exportedOpen, exportedCreate, exportedReadRecord, exportedReadSector, exportedWriteRecord, exportedAllot, exportedTrim, exportedKill, exportedBringBack, exportedList, exportedCount, exportedFree};
 ghost use Rattle.genie.specs.Compared.{exportedCompare};
 
 // What goes out where a slice is lent too short: 12, after 1 and the faults.
@@ -13,6 +13,25 @@ fn short(image: &[u8], g: Geometry, fault_slot: &mut usize) -> u8
     let c = refusal::short(calls::check(image, g));
     *fault_slot = c.at;
     c.number
+}
+
+// The check of a name, without a disk.
+#[no_mangle]
+pub extern "C" fn genie_name(name: &[u8], folded: &mut [u8], place: &mut usize) -> u8
+    ensures { λ r. ⌜ (r, now (place .exit), now (folded .exit)) ≡ exportedName (now (name .entry)) (now (folded .entry)) ⌝ }
+{
+    if folded.len() < codec::NAME_BYTES {
+        *place = spelling::NO_PLACE;
+        return 12;
+    }
+    let n = spelling::incoming(name);
+    *place = n.place;
+    if n.place != spelling::NO_PLACE {
+        return 3;
+    }
+    let taken = n.name;
+    codec::put_name(folded, 0, taken);
+    0
 }
 
 #[no_mangle]
@@ -54,9 +73,10 @@ pub extern "C" fn genie_look_up(
     name: &[u8],
     slot: &mut usize,
     compared: &mut usize,
+    place: &mut usize,
     fault_slot: &mut usize,
 ) -> u8
-    ensures { λ r. ⌜ (r, now («fault_slot» .exit), now (slot .exit), now (compared .exit))
+    ensures { λ r. ⌜ (r, now («fault_slot» .exit), now (place .exit), now (slot .exit), now (compared .exit))
         ≡ exportedLookUp (geometry blocks units start open_code «system_disk» «granule_sectors») (now (image .entry)) (now (name .entry)) ⌝ }
 {
     let g = codec::geometry(
@@ -68,7 +88,8 @@ pub extern "C" fn genie_look_up(
         granule_sectors,
     );
     let l = calls::look_up(image, g, name);
-    *fault_slot = l.refusal.at;
+    *fault_slot = refusal::slot_told(l.refusal);
+    *place = spelling::place_of(l.refusal);
     *slot = l.slot;
     *compared = l.compared;
     l.refusal.number
@@ -88,9 +109,10 @@ pub extern "C" fn genie_open(
     checking: bool,
     code: u16,
     handle: &mut [u8],
+    place: &mut usize,
     fault_slot: &mut usize,
 ) -> u8
-    ensures { λ r. ⌜ (r, now («fault_slot» .exit), now (handle .exit))
+    ensures { λ r. ⌜ (r, now («fault_slot» .exit), now (place .exit), now (handle .exit))
         ≡ exportedOpen (geometry blocks units start open_code «system_disk» «granule_sectors») (now (image .entry)) (now (name .entry)) length checking code
         (now (handle .entry)) ⌝ }
 {
@@ -103,10 +125,12 @@ pub extern "C" fn genie_open(
         granule_sectors,
     );
     if handle.len() < codec::HANDLE_BYTES {
+        *place = spelling::NO_PLACE;
         return short(image, g, fault_slot);
     }
     let a = calls::open_file(image, g, name, length, checking, code);
-    *fault_slot = a.refusal.at;
+    *fault_slot = refusal::slot_told(a.refusal);
+    *place = spelling::place_of(a.refusal);
     codec::put_handle(handle, a.handle);
     a.refusal.number
 }
@@ -130,9 +154,10 @@ pub extern "C" fn genie_create(
     checking: bool,
     old: &mut usize,
     handle: &mut [u8],
+    place: &mut usize,
     fault_slot: &mut usize,
 ) -> u8
-    ensures { λ r. ⌜ (r, now («fault_slot» .exit), now (old .exit), now (handle .exit), now (image .exit))
+    ensures { λ r. ⌜ (r, now («fault_slot» .exit), now (place .exit), now (old .exit), now (handle .exit), now (image .exit))
         ≡ exportedCreate (geometry blocks units start open_code «system_disk» «granule_sectors») (now (image .entry)) (now (name .entry))
         (newFile day month year length main worker) checking (now (handle .entry)) ⌝ }
 {
@@ -146,6 +171,7 @@ pub extern "C" fn genie_create(
     );
     if handle.len() < codec::HANDLE_BYTES {
         *old = 0;
+        *place = spelling::NO_PLACE;
         return short(image, g, fault_slot);
     }
     let f = NewFile {
@@ -157,7 +183,8 @@ pub extern "C" fn genie_create(
         worker,
     };
     let c = calls::create(image, g, name, f, checking);
-    *fault_slot = c.refusal.at;
+    *fault_slot = refusal::slot_told(c.refusal);
+    *place = spelling::place_of(c.refusal);
     *old = codec::told(c.old);
     codec::put_handle(handle, c.handle);
     c.refusal.number

@@ -13,6 +13,7 @@ pub mod Others
 pub mod Marking
 pub mod Kill
 pub mod First
+pub mod Spelling
 pub mod Carried
 pub mod Passed
 pub mod Create

@@ -49,7 +49,7 @@ module _ (g : Geometry) (d : List ℕ) where
       let new = LookUp.missing g d m in
       let no = Refusals.first (createRefusals n f checking) in (
         record {
-          refusal = Refusals.refusal g d no;
+          refusal = Refusals.nameRefusal g d n no;
           old = Refusals.accepted no && not new;
           handle = cond (Refusals.accepted no)
               (cond new (record { slot = x; name = m; at = 0; len = f .len; level = 0 })

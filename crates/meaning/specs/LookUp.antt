@@ -46,7 +46,7 @@ module _ (g : Geometry) (d : List ℕ) where
   lookUp n =
       let no = Refusals.first (lookUpRefusals n) in let m = Names.comesIn n .name in
       record {
-        refusal = Refusals.refusal g d no;
+        refusal = Refusals.nameRefusal g d n no;
         slot = cond (Refusals.accepted no) (slotOf m) 0;
         compared = cond (has (0 ∷ 4 ∷ []) no) (comparedIn m (candidates m)) 0;
       }

@@ -1,7 +1,7 @@
 -- Names and their hash (01, Directory layout). A name is 11 bytes: 8 of name, 3 of type.
-use Prim.Native.Nat.{ℕ, _+_, _*_, _/_, _%_}
+use Prim.Native.Nat.{ℕ, _+_, _-_, _*_, _/_, _%_}
 use mathlib.Core.Bool.{Bool, true, cond, _&&_, _||_}
-use mathlib.Core.List.{List, [], _∷_}
+use mathlib.Core.List.{List, [], _∷_, map}
 use lib.Bits.{bitXor}
 use lib.Dec.{leb, ltb, eqb}
 use lib.ListN.{length, getD, take, drop}
@@ -17,15 +17,20 @@ abbrev pub padded : List ℕ → Bool
 padded [] = true
 padded (x ∷ xs) = cond (letter x) (padded xs) (every (eqb 0x20) (x ∷ xs))
 
--- Names, given as 11 bytes: 1 to 8, type 0 to 3. This is the test of a name on disk.
+-- Names, given as 11 bytes: 1 to 8, type 0 to 3. This is the test of a name on disk, where nothing is folded: "a small letter in an entry on
+-- disk is still inconsistent" (02 §7).
 unfoldable pub wellFormed : List ℕ → Bool
 wellFormed n = all (eqb (length n) 11 ∷ letter (getD n 0 0) ∷ padded (take 8 n) ∷ padded (drop 8 n) ∷ [])
 
 -- A name that comes in ----------------------------------------------------------------------------------------------------
 
--- the name that a call goes on with: byte for byte the one that came in
-abbrev pub fold : List ℕ → List ℕ
-fold n = n
+-- "Codes 61H to 7DH are taken as 41H to 5DH when a name comes in" (02 §7): 29 codes, the last three of them { | }
+abbrev pub foldByte : ℕ → ℕ
+foldByte x = cond (leb 0x61 x && leb x 0x7d) (x - 0x20) x
+
+-- the name that a call goes on with: nothing after it knows the bytes that came in
+unfoldable pub fold : List ℕ → List ℕ
+fold n = map foldByte n
 
 -- how many bytes stand before the first that is not 20H
 unfoldable pub blanks : List ℕ → ℕ
@@ -41,13 +46,14 @@ good (x ∷ xs) = cond (letter x) (1 + good xs) (blanks (x ∷ xs))
 abbrev pub noPlace : ℕ
 noPlace = 11
 
--- the place of the first byte that keeps a name from being well formed; 0 where it has not 11 bytes
+-- the place of the first byte that keeps a name from being well formed ("a blank at place 0 is bad, and a non-blank after a blank in name or
+-- type"); 0 where it has not 11 bytes
 unfoldable pub badPlace : List ℕ → ℕ
 badPlace n =
     let k = good (take 8 n) in
     cond (eqb (length n) 11 && letter (getD n 0 0)) (cond (ltb k 8) k (8 + good (drop 8 n))) 0
 
--- what a name that comes in with a call is taken for: a name, or the place of its first bad byte. The calls by name go on with the name.
+-- "the name check now hands back the folded name, or the place of the first bad byte" (02 §7). Look up, open and create go on with the name.
 abbrev pub comesIn : List ℕ → Incoming
 comesIn n = record { place = badPlace (fold n); name = fold n }
 

@@ -37,6 +37,6 @@ module _ (g : Geometry) (d : List ℕ) where
   open′ n len checking code =
       let no = Refusals.first (openRefusals n len checking code) in let m = Names.comesIn n .name in
       record {
-        refusal = Refusals.refusal g d no;
+        refusal = Refusals.nameRefusal g d n no;
         handle = cond (Refusals.accepted no) (openedAt (LookUp.slotOf g d m) m len checking code) Refusals.noHandle;
       }

@@ -9,7 +9,7 @@ use Rattle.meaning.specs.Layout
 use Rattle.meaning.specs.Names
 use Rattle.meaning.specs.Entries
 use Rattle.meaning.specs.Chain
-use Rattle.meaning.specs.Refusal.{carried}
+use Rattle.meaning.specs.Refusal.{placed, carried, carriedTwo}
 use Rattle.meaning.specs.Fault
 use Rattle.meaning.specs.Free
 use Rattle.meaning.specs.Growth
@@ -49,6 +49,10 @@ movedTo h at = record { slot = h .slot; name = h .name; at = at; len = h .len; l
 abbrev pub badName : List ℕ → ℕ × Bool
 badName n = (3, not (Names.wellFormed (Names.comesIn n .name)))
 
+-- "Refusals: 3 now carries a place, 0 to 10" (02 §7): that of the name's first bad byte
+abbrev pub badAt : List ℕ → Refusal
+badAt n = placed 3 (Names.comesIn n .place)
+
 -- 6: level over 5 for reading
 abbrev pub notForReading : Handle → ℕ × Bool
 notForReading h = (6, ltb 5 (h .level))
@@ -81,6 +85,10 @@ module _ (g : Geometry) (d : List ℕ) where
   -- What a call answers whose number is n: what the check found is handed on.
   abbrev pub refusal : ℕ → Refusal
   refusal n = carried check n
+
+  -- What a call by name answers whose number is k: that, and the place of the name's first bad byte under 3.
+  abbrev pub nameRefusal : List ℕ → ℕ → Refusal
+  nameRefusal n k = carriedTwo check (badAt n) k
 
   -- A handle is stale unless its slot is one the directory has, in use, primary and carries its name.
   unfoldable pub fresh : Handle → Bool

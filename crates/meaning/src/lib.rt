@@ -20,7 +20,7 @@ pub struct Handle {
     pub level: usize,
 }
 
-// What a name that comes in is taken for: the name, or the place of its first bad byte; 11 where none is bad.
+// What a name that comes in is taken for: the name, its small letters as capital ones, or the place of its first bad byte; 11 where none is bad.
 pub struct Incoming {
     pub place: usize,
     pub name: [u8; 11],
@@ -43,7 +43,8 @@ pub enum Mode {
 }
 
 // What a call says of a refusal. `number` is that of 01's table and of 02, 0 where the call was accepted. `at` is what goes with it: under 21 to
-// 30 the slot of the fault; 256 where there is none. `image` is the image that it names, 1 or 2, where a call is given two; else 0.
+// 30 the slot of the fault, under 3 the place of the name's first bad byte, 0 to 10; 256 where there is nothing. `image` is the image that it
+// names, 1 or 2, where a call is given two; else 0.
 pub struct Refusal {
     pub number: u8,
     pub image: u8,

@@ -1,7 +1,7 @@
-// A refusal as a value: made, handed on, naming an image; and 12 for what is lent too short.
+// A refusal as a value: made, handed on, naming an image; the slot that it tells of; and 12 for what is lent too short.
 use meaning::Refusal;
 ghost use mathlib.Core.Path.{_≡_};
-ghost use Rattle.meaning.specs.Refusal.{unplaced, naming, carried};
+ghost use Rattle.meaning.specs.Refusal.{unplaced, placed, naming, carried, slotTold};
 ghost use Rattle.refusal.specs.Short.{short, shortOfTwo};
 
 // told where nothing goes with a number
@@ -15,6 +15,17 @@ pub fn unplaced(number: u8) -> Refusal
         number,
         image: 0,
         at: NOWHERE,
+    }
+}
+
+// A number with what goes with it.
+pub fn placed(number: u8, at: usize) -> Refusal
+    ensures { λ r. ⌜ r ≡ placed number at ⌝ }
+{
+    Refusal {
+        number,
+        image: 0,
+        at,
     }
 }
 
@@ -37,6 +48,16 @@ pub fn carried(checked: Refusal, number: u8) -> Refusal
         return checked;
     }
     unplaced(number)
+}
+
+// The slot that a refusal tells of: what goes with 3 is no slot.
+pub fn slot_told(c: Refusal) -> usize
+    ensures { λ r. ⌜ r ≡ slotTold c ⌝ }
+{
+    if c.number == 3 {
+        return NOWHERE;
+    }
+    c.at
 }
 
 // 12 for what is lent too short, after 1 and the faults.

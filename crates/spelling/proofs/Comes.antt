@@ -1,125 +1,38 @@
--- The place of a name's first bad byte is 11 exactly where the name is well formed.
+-- What is handed back of a name that comes in, and the loops that look for its first bad byte.
 use mathlib.Core.Path.{_≡_, refl, sym, ap, _∙_}
-use mathlib.Core.List.{List, [], _∷_}
-use mathlib.Core.Bool.{Bool, true, false, cond, _&&_, true≢false}
-use Prim.Native.Nat.{ℕ, suc, _+_, _-_, _≤_, _<_}
+use mathlib.Core.List.{List, [], _∷_, map}
+use mathlib.Core.Bool.{Bool, true, false, cond, _&&_}
+use Prim.Native.Nat.{ℕ, _+_, _-_, _≤_, _<_}
 use native.Mathlib.Omega.{arith}
 use native.Mathlib.Nat.{zero-add}
-use lib.ListN.{length, getD, take, drop, replicate, length-drop}
-use lib.Seq.{length-take-le}
-use lib.Dec.{eqb, ltb}
-use borrow.Author.Tests.{eq-eqb, eqb-true, ltb-true, ltb-false, lt-ltb, le-ltb}
-use Rattle.meaning.specs.Lists.{every}
-use Rattle.meaning.specs.Names.{letter, padded, wellFormed, blanks, good, badPlace, noPlace}
+use lib.ListN.{length, getD, take, drop, replicate}
+use lib.Seq.{ext-getD}
+use lib.Dec.{eqb, leb, ltb}
+use borrow.Author.Tests.{eq-eqb, ne-eqb, lt-ltb, le-ltb, lt-leb, le-leb}
+use Rattle.meaning.specs.Lists.{count}
+use Rattle.meaning.specs.Names.{letter, wellFormed, foldByte, fold, blanks, good, badPlace, noPlace}
+use Rattle.meaning.specs.Refusal.{placeOf}
 use Rattle.meaning.specs.declared.Incoming.{Incoming}
-use Rattle.layout.proofs.Lists.{all-at, all-yes, all-none, and-l, and-r}
+use Rattle.meaning.specs.declared.Refusal.{Refusal}
+use Rattle.laws.specs.Members
+use Rattle.laws.specs.Spelling.{fold-well, fold-length, well-place, place-well}
 use Rattle.spelling.specs.Hands.{Hands}
 use Rattle.spelling.proofs.Name.{part-more, part-none, type-part}
-
--- One part --------------------------------------------------------------------------------------------------------------------
-
-blanks-le : (xs : List ℕ) → blanks xs ≤ length xs
-unfolding blanks
-blanks-le [] = omega arith
-blanks-le (x ∷ xs) = by (eqb 0x20 x) (blanks-le xs)
-  where
-    by : (b : Bool) → blanks xs ≤ length xs → cond b (1 + blanks xs) 0 ≤ suc (length xs)
-    by true h = omega arith
-    by false h = omega arith
-
-blanks-all : (xs : List ℕ) → every (eqb 0x20) xs ≡ true → blanks xs ≡ length xs
-unfolding blanks
-blanks-all [] e = refl
-blanks-all (x ∷ xs) e =
-    let h = blanks-all xs (and-r (eqb 0x20 x) (every (eqb 0x20) xs) e) in
-    ap (λ (b : Bool). cond b (1 + blanks xs) 0) (and-l (eqb 0x20 x) (every (eqb 0x20) xs) e) ∙ omega (arith, h)
-
-all-blanks : (xs : List ℕ) → blanks xs ≡ length xs → every (eqb 0x20) xs ≡ true
-unfolding blanks
-all-blanks [] e = refl
-all-blanks (x ∷ xs) e = by (eqb 0x20 x) e (all-blanks xs)
-  where
-    by : (b : Bool) → cond b (1 + blanks xs) 0 ≡ suc (length xs) → (blanks xs ≡ length xs → every (eqb 0x20) xs ≡ true) → (b && every (eqb 0x20) xs) ≡ true
-    by true q ih = ih (omega arith)
-    by false q ih = absurd (let z : ⊥ = omega arith in z)
-
-good-le : (xs : List ℕ) → good xs ≤ length xs
-unfolding good
-good-le [] = omega arith
-good-le (x ∷ xs) = by (letter x) (good-le xs) (blanks-le (x ∷ xs))
-  where
-    by : (b : Bool) → good xs ≤ length xs → blanks (x ∷ xs) ≤ suc (length xs) → cond b (1 + good xs) (blanks (x ∷ xs)) ≤ suc (length xs)
-    by true h k = omega arith
-    by false h k = k
-
-padded-good : (xs : List ℕ) → padded xs ≡ true → good xs ≡ length xs
-unfolding good
-padded-good [] e = refl
-padded-good (x ∷ xs) e = by (letter x) e (padded-good xs)
-  where
-    by : (b : Bool) → cond b (padded xs) (every (eqb 0x20) (x ∷ xs)) ≡ true → (padded xs ≡ true → good xs ≡ length xs)
-        → cond b (1 + good xs) (blanks (x ∷ xs)) ≡ suc (length xs)
-    by true q ih = let h = ih q in omega arith
-    by false q ih = blanks-all (x ∷ xs) q
-
-good-padded : (xs : List ℕ) → good xs ≡ length xs → padded xs ≡ true
-unfolding good
-good-padded [] e = refl
-good-padded (x ∷ xs) e = by (letter x) e (good-padded xs)
-  where
-    by : (b : Bool) → cond b (1 + good xs) (blanks (x ∷ xs)) ≡ suc (length xs) → (good xs ≡ length xs → padded xs ≡ true)
-        → cond b (padded xs) (every (eqb 0x20) (x ∷ xs)) ≡ true
-    by true q ih = ih (omega arith)
-    by false q ih = all-blanks (x ∷ xs) q
-
--- The whole name --------------------------------------------------------------------------------------------------------------
-
-module _ (n : List ℕ) (l : length n ≡ 11) where
-  first-eight : length (take 8 n) ≡ 8
-  first-eight = length-take-le 8 n (omega arith)
-
-  last-three : length (drop 8 n) ≡ 3
-  last-three = length-drop 8 n ∙ omega arith
-
-pub well-place : (n : List ℕ) → wellFormed n ≡ true → badPlace n ≡ noPlace
-unfolding wellFormed badPlace
-well-place n h =
-    let l = eqb-true (length n) 11 (all-at _ h 0) in
-    let p = padded-good (take 8 n) (all-at _ h 2) ∙ first-eight n l in
-    let q = padded-good (drop 8 n) (all-at _ h 3) ∙ last-three n l in
-    rw (all-at _ h 0, all-at _ h 1, le-ltb (good (take 8 n)) 8 (omega (arith, p))) (omega (arith, q))
-
-pub place-well : (n : List ℕ) → badPlace n ≡ noPlace → wellFormed n ≡ true
-unfolding wellFormed badPlace
-place-well n e = by (eqb (length n) 11) refl (letter (getD n 0 0)) refl (ltb (good (take 8 n)) 8) refl e
-  where
-    by : (a : Bool) → eqb (length n) 11 ≡ a → (b : Bool) → letter (getD n 0 0) ≡ b → (c : Bool) → ltb (good (take 8 n)) 8 ≡ c
-        → cond (a && b) (cond c (good (take 8 n)) (8 + good (drop 8 n))) 0 ≡ 11 → wellFormed n ≡ true
-    by false p b q c r z = absurd (let w : ⊥ = omega arith in w)
-    by true p false q c r z = absurd (let w : ⊥ = omega arith in w)
-    by true p true q true r z = absurd (let w = ltb-true (good (take 8 n)) 8 r in let v : ⊥ = omega arith in v)
-    by true p true q false r z =
-        let l = eqb-true (length n) 11 p in
-        let w = ltb-false (good (take 8 n)) 8 r in
-        let v = good-le (take 8 n) in
-        let a : good (take 8 n) ≡ length (take 8 n) = omega (arith, first-eight n l) in
-        let b : good (drop 8 n) ≡ length (drop 8 n) = omega (arith, last-three n l) in
-        all-yes p _ ∙ all-yes q _ ∙ all-yes (good-padded (take 8 n) a) _ ∙ all-yes (good-padded (drop 8 n) b) _ ∙ all-none
 
 -- What is handed back ---------------------------------------------------------------------------------------------------------
 
 module _ {n : List ℕ} {r : Incoming} (h : Hands n r) where
-  pub hands-good : r .place ≡ noPlace → wellFormed n ≡ true
-  hands-good e = place-well n (sym (h .place) ∙ e)
+  pub hands-good : r .place ≡ noPlace → wellFormed (fold n) ≡ true
+  hands-good e = place-well (fold n) (sym (h .place) ∙ e)
 
-  pub hands-name : r .place ≡ noPlace → r .name ≡ n
+  pub hands-name : r .place ≡ noPlace → r .name ≡ fold n
   hands-name e = h .name (sym (h .place) ∙ e)
 
-  pub hands-bad : (r .place ≡ noPlace → ⊥) → wellFormed n ≡ false
-  hands-bad f = by (wellFormed n) refl
+  pub hands-bad : (r .place ≡ noPlace → ⊥) → wellFormed (fold n) ≡ false
+  hands-bad f = by (wellFormed (fold n)) refl
     where
-      by : (b : Bool) → wellFormed n ≡ b → wellFormed n ≡ false
-      by true e = absurd (f (h .place ∙ well-place n e))
+      by : (b : Bool) → wellFormed (fold n) ≡ b → wellFormed (fold n) ≡ false
+      by true e = absurd (f (h .place ∙ well-place (fold n) e))
       by false e = e
 
 -- The loops -------------------------------------------------------------------------------------------------------------------
@@ -188,8 +101,56 @@ module _ (n : List ℕ) where
       w ∙ ap (λ (xs : List ℕ). 8 + good xs) (type-part n l)
       ∙ sym (started l e ∙ ap (λ (b : Bool). cond b (good (take 8 n)) (8 + good (drop 8 n))) (le-ltb (good (take 8 n)) 8 (omega arith)))
 
-pub hands-place : {n m : List ℕ} {k : ℕ} → k ≡ badPlace n → wellFormed n ≡ false → m ≡ replicate 11 0 → Hands n (record { place = k; name = m })
-hands-place {n} e w q = record { place = e; name = λ z. absurd (true≢false (sym (place-well n z) ∙ w)); none = λ z. q }
+-- a well-formed name is its own fold
+pub hands-well : (n : List ℕ) {m : List ℕ} → wellFormed n ≡ true → m ≡ n → Hands n (record { place = noPlace; name = m })
+hands-well n w q =
+    let f = fold-well n w in let e = ap badPlace f ∙ well-place n w in
+    record { place = sym e; name = λ z. q ∙ sym f; none = λ z. absurd (z e) }
 
-pub hands-all : (n : List ℕ) {m : List ℕ} → wellFormed n ≡ true → m ≡ n → Hands n (record { place = 11; name = m })
-hands-all n w q = record { place = sym (well-place n w); name = λ z. q; none = λ z. absurd (z (well-place n w)) }
+-- one that has not eleven bytes is bad at 0
+pub hands-short : (n : List ℕ) {m : List ℕ} → (length n ≡ 11 → ⊥) → m ≡ replicate 11 0 → Hands n (record { place = 0; name = m })
+hands-short n f q =
+    let e = place-short (fold n) (ne-eqb (length (fold n)) 11 (λ z. f (sym (fold-length n) ∙ z))) in
+    record { place = e; name = λ z. absurd (let w : ⊥ = omega (arith, e, z) in w); none = λ z. q }
+
+module _ (n : List ℕ) {x : List ℕ} {k : ℕ} (f : x ≡ fold n) (e : k ≡ badPlace x) where
+  its-place : k ≡ badPlace (fold n)
+  its-place = e ∙ ap badPlace f
+
+  -- one that is bad after the fold
+  pub hands-place : {m : List ℕ} → (k ≡ noPlace → ⊥) → m ≡ replicate 11 0 → Hands n (record { place = k; name = m })
+  hands-place z q = record { place = its-place; name = λ w. absurd (z (its-place ∙ w)); none = λ w. q }
+
+  -- and one that is not
+  pub hands-folded : k ≡ noPlace → Hands n (record { place = k; name = x })
+  hands-folded z = record { place = its-place; name = λ w. f; none = λ w. absurd (w (sym its-place ∙ z)) }
+
+-- The fold --------------------------------------------------------------------------------------------------------------------
+
+module _ (x : ℕ) where
+  pub byte-low : x < 0x61 → x ≡ foldByte x
+  byte-low h = sym (ap (λ (b : Bool). cond (b && leb x 0x7d) (x - 0x20) x) (lt-leb 0x61 x h))
+
+  pub byte-high : 0x61 ≤ x → 0x7d < x → x ≡ foldByte x
+  byte-high h k = rw (le-leb 0x61 x h, lt-leb x 0x7d k) refl
+
+  pub byte-folds : 0x61 ≤ x → x ≤ 0x7d → x - 0x20 ≡ foldByte x
+  byte-folds h k = rw (le-leb 0x61 x h, le-leb x 0x7d k) refl
+
+-- a name of eleven bytes, byte by byte
+pub eleven : (n : List ℕ) → length n ≡ 11 → map foldByte (map (λ i. getD n i 0) (count 0 11)) ≡ fold n
+unfolding fold
+eleven n l =
+    ap (map foldByte)
+    (sym (ext-getD 0 n (map (λ i. getD n i 0) (count 0 11)) l (λ i h. sym (Members.map-count (λ i. getD n i 0) 0 11 i (omega (arith, h, l)) ∙ ap (λ (j : ℕ). getD n j 0) (zero-add i)))))
+
+-- The place that a refusal tells of ----------------------------------------------------------------------------------------------
+
+module _ (c : Refusal) where
+  pub tells-place : c .number ≡ 3 → c .at ≡ placeOf c
+  unfolding placeOf
+  tells-place e = rw e
+
+  pub tells-no-place : (c .number ≡ 3 → ⊥) → noPlace ≡ placeOf c
+  unfolding placeOf
+  tells-no-place z = rw (ne-eqb (c .number) 3 z)

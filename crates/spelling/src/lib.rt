@@ -1,12 +1,14 @@
 // Whether a name is well formed, and what a name that comes in is taken for.
 use meaning::Incoming;
+use meaning::Refusal;
 ghost use mathlib.Core.Path.{_≡_};
 ghost use mathlib.Core.Bool.{true, _&&_};
 ghost use Prim.Native.Nat.{_+_, _-_, _≤_};
 ghost use lib.Dec.{eqb};
 ghost use lib.ListN.{length, getD, take, drop};
 ghost use Rattle.meaning.specs.Lists.{every};
-ghost use Rattle.meaning.specs.Names.{letter, padded, wellFormed, blanks, good, badPlace};
+ghost use Rattle.meaning.specs.Names.{letter, padded, wellFormed, foldByte, fold, blanks, good, badPlace};
+ghost use Rattle.meaning.specs.Refusal.{placeOf};
 ghost use Rattle.spelling.specs.Plain.{plain};
 ghost use Rattle.spelling.specs.Hands.{Hands};
 
@@ -146,20 +148,75 @@ fn bad_place(name: &[u8]) -> usize
     past_good(name, 8, 11)
 }
 
-// What a name that comes in is taken for: the name, or the place of its first bad byte. The place is looked for only where there is one.
+// A byte of a name that comes in: 61H to 7DH are taken as 41H to 5DH.
+fn fold_byte(x: u8) -> u8
+    ensures { λ r. ⌜ r ≡ foldByte x ⌝ }
+{
+    if x < 0x61 {
+        return x;
+    }
+    if 0x7d < x {
+        return x;
+    }
+    x - 0x20
+}
+
+// A name of eleven bytes that comes in, folded.
+fn fold(name: &[u8]) -> [u8; 11]
+    requires { ⌜ length (now name) ≡ 11 ⌝ }
+    ensures { λ r. ⌜ r ≡ fold (now (name .entry)) ⌝ }
+{
+    [
+        fold_byte(name[0]),
+        fold_byte(name[1]),
+        fold_byte(name[2]),
+        fold_byte(name[3]),
+        fold_byte(name[4]),
+        fold_byte(name[5]),
+        fold_byte(name[6]),
+        fold_byte(name[7]),
+        fold_byte(name[8]),
+        fold_byte(name[9]),
+        fold_byte(name[10]),
+    ]
+}
+
+// What a name that comes in is taken for: the folded name, or the place of its first bad byte. A well-formed name folds to itself, so only
+// another is folded, and only there a bad byte is looked for.
 pub fn incoming(name: &[u8]) -> Incoming
     ensures { λ r. ⌜ Hands (now (name .entry)) r ⌝ }
 {
     let mut taken = [0u8; 11];
-    if !well_formed(name) {
+    if well_formed(name) {
+        copy::copy_into(&mut taken, name, 0);
         return Incoming {
-            place: bad_place(name),
+            place: NO_PLACE,
             name: taken,
         };
     }
-    copy::copy_into(&mut taken, name, 0);
-    Incoming {
-        place: NO_PLACE,
-        name: taken,
+    if name.len() != 11 {
+        return Incoming {
+            place: 0,
+            name: taken,
+        };
     }
+    let folded = fold(name);
+    let place = bad_place(&folded);
+    if place != NO_PLACE {
+        return Incoming { place, name: taken };
+    }
+    Incoming {
+        place,
+        name: folded,
+    }
+}
+
+// The place that a refusal tells of: under 3 alone there is one.
+pub fn place_of(c: Refusal) -> usize
+    ensures { λ r. ⌜ r ≡ placeOf c ⌝ }
+{
+    if c.number == 3 {
+        return c.at;
+    }
+    NO_PLACE
 }
