@@ -11,18 +11,19 @@ use lib.Dec.{eqb}
 use borrow.Author.Tests.{not-true, not-false, ne-eqb}
 use Rattle.meaning.specs.Lists.{keep, has, firstOr}
 use Rattle.meaning.specs.Layout.{hit, directorySectors}
-use Rattle.meaning.specs.Names.{hash}
+use Rattle.meaning.specs.Names.{hash, fold}
 use Rattle.meaning.specs.LookUp.{candidates, carries, comparedIn, named, lookUp, lookUpRefusals}
-use Rattle.meaning.specs.Refusals.{refusal, first, accepted, check, faultNumbers, diskRefusals}
+use Rattle.meaning.specs.Refusals.{nameRefusal, first, accepted, check, faultNumbers, diskRefusals}
 use Rattle.meaning.specs.declared.LookedUp.{LookedUp}
 use Rattle.meaning.specs.declared.Refusal.{Refusal}
 use Rattle.meaning.specs.declared.Geometry.{Geometry}
 use Rattle.laws.specs.Members
 use Rattle.laws.specs.First.{first-in}
 use Rattle.layout.proofs.Lists.{keep-yes, keep-no}
-use Rattle.handle.proofs.Laws.{check-stop, handed-on}
+use Rattle.handle.proofs.Laws.{check-stop}
 use Rattle.find.specs.Found.{Finds}
 use Rattle.find.specs.declared.Found.{Found}
+use Rattle.find.proofs.Named.{by-check}
 use Rattle.find.proofs.Pass.{slotsFrom, slots-start, slots-here, slots-past, slots-end}
 
 module _ (g : Geometry) (d n : List ℕ) where
@@ -113,9 +114,9 @@ module _ (g : Geometry) (d n : List ℕ) where
   finding-count e f = rw e f
 
   -- the refusals of look up, one after the other
-  pub told : {no slot compared : ℕ} {c : Refusal} → c ≡ refusal g d no → no ≡ first (lookUpRefusals g d n)
-      → cond (accepted no) (firstOr 0 (named g d n)) 0 ≡ slot
-      → cond (has (0 ∷ 4 ∷ []) no) (comparedIn g d n (candidates g d n)) 0 ≡ compared
+  pub told : {no slot compared : ℕ} {c : Refusal} → c ≡ nameRefusal g d n no → no ≡ first (lookUpRefusals g d n)
+      → cond (accepted no) (firstOr 0 (named g d (fold n))) 0 ≡ slot
+      → cond (has (0 ∷ 4 ∷ []) no) (comparedIn g d (fold n) (candidates g d (fold n))) 0 ≡ compared
       → _≡_ {A = LookedUp} (record { refusal = c; slot = slot; compared = compared }) (lookUp g d n)
   unfolding lookUp
   told q e f h = rw (← e, f, h, q)
@@ -149,5 +150,5 @@ module _ (g : Geometry) (d : List ℕ) where
       → _≡_ {A = LookedUp} (record { refusal = c; slot = 0; compared = 0 }) (lookUp g d n)
   told-stop n {c} e z =
       let no = c .number in
-      told g d n (handed-on g d e) (check-stop g d _ e z) (ap (λ (b : Bool). cond b (firstOr 0 (named g d n)) 0) (ne-eqb no 0 z))
+      told g d n (by-check g d n e) (check-stop g d _ e z) (ap (λ (b : Bool). cond b (firstOr 0 (named g d (fold n))) 0) (ne-eqb no 0 z))
       (simp (ne-eqb no 0 z, ne-eqb no 4 (λ q. not-missing (sym (ap {B = ℕ} (λ (x : Refusal). x .number) e) ∙ q))))

@@ -5,9 +5,9 @@ use mathlib.Core.Bool.{Bool, true, false, not, cond}
 use Prim.Native.Nat.{ℕ}
 use borrow.Author.Tests.{ne-eqb}
 use Rattle.meaning.specs.Lists.{firstOr}
+use Rattle.meaning.specs.Names.{fold}
 use Rattle.meaning.specs.Entries.{accessLevel}
-use Rattle.meaning.specs.Refusal.{carried}
-use Rattle.meaning.specs.Refusals.{first, check, refusal, noHandle}
+use Rattle.meaning.specs.Refusals.{first, nameRefusal, noHandle}
 use Rattle.meaning.specs.LookUp.{named, slotOf}
 use Rattle.meaning.specs.Open.{full, admits, openedAt, openRefusals, open′}
 use Rattle.meaning.specs.declared.Geometry.{Geometry}
@@ -34,12 +34,15 @@ module _ (g : Geometry) (d n : List ℕ) (len : ℕ) (checking : Bool) (code : �
   pub admitted : {s : ℕ} {b : Bool} → named g d n ≡ s ∷ [] → admits g d s checking code ≡ b → not (admits g d (slotOf g d n) checking code) ≡ not b
   admitted e h = ap (λ (t : ℕ). not (admits g d t checking code)) (slot-found e) ∙ ap not h
 
-  pub open-refused : {no : ℕ} {c : Refusal} {r : Answer} → c ≡ check g d → r ≡ record { refusal = carried c no; handle = noHandle }
+-- of the name that came in: the file is that of its fold
+module _ (g : Geometry) (d n : List ℕ) (len : ℕ) (checking : Bool) (code : ℕ) where
+  pub open-refused : {no : ℕ} {c : Refusal} {r : Answer} → c ≡ nameRefusal g d n no → r ≡ record { refusal = c; handle = noHandle }
       → no ≡ first (openRefusals g d n len checking code) → (no ≡ 0 → ⊥) → r ≡ open′ g d n len checking code
   unfolding open′
   open-refused {no} q f e z = rw (← e, ne-eqb no 0 z, f, q)
 
-  pub open-accepted : {s : ℕ} {h : Handle} {c : Refusal} → c ≡ refusal g d 0 → h ≡ openedAt g d s n len checking code → 0 ≡ first (openRefusals g d n len checking code) → named g d n ≡ s ∷ []
+  pub open-accepted : {s : ℕ} {h : Handle} {c : Refusal} → c ≡ nameRefusal g d n 0 → h ≡ openedAt g d s (fold n) len checking code
+      → 0 ≡ first (openRefusals g d n len checking code) → named g d (fold n) ≡ s ∷ []
       → _≡_ {A = Answer} (record { refusal = c; handle = h }) (open′ g d n len checking code)
   unfolding open′
-  open-accepted y f e q = rw (← e, slot-found q, f, y)
+  open-accepted y f e q = rw (← e, slot-found g d (fold n) len checking code q, f, y)

@@ -15,6 +15,7 @@ use Rattle.meaning.specs.Chain.{chain, owned}
 use Rattle.meaning.specs.Free.{freeGranules}
 use Rattle.meaning.specs.LookUp.{named}
 use Rattle.meaning.specs.Refusals.{movedTo, inRange, protected, cannotGrow, first}
+use Rattle.meaning.specs.Names.{fold}
 use Rattle.meaning.specs.Create.{create, newSlot}
 use Rattle.meaning.specs.Write.{writeRecord, toWrite}
 use Rattle.meaning.specs.Allot.{allot, toAllot}
@@ -206,16 +207,16 @@ write-serves g d m h b e =
 
 -- a file born
 pub create-becomes : (g : Geometry) (d n : List ℕ) (f : NewFile) (checking : Bool) → create g d n f checking .0 .refusal .number ≡ 0 → create g d n f checking .0 .old ≡ false
-    → Becomes g d (create g d n f checking .1) n nothing (found (bornAs f))
+    → Becomes g d (create g d n f checking .1) (fold n) nothing (found (bornAs f))
 unfolding bornAs
 create-becomes g d n f checking e o =
     let x = CreateMeans.create-means g d n f checking e o in let z = CreateMeans.create-placed g d n f checking e o in
     let d′ = create g d n f checking .1 in
-    let l = left-after g d d′ n (CreateMeans.create-fits g d n f checking e) (newSlot g d) (Named.named-at g d′ (Facts.sound g d′ (x .consistent′)) (newSlot g d) n (z .file) (z .name′)) (z .touch) in
+    let l = left-after g d d′ (fold n) (CreateMeans.create-fits g d n f checking e) (newSlot g d) (Named.named-at g d′ (Facts.sound g d′ (x .consistent′)) (newSlot g d) (fold n) (z .file) (z .name′)) (z .touch) in
     record {
       before = x .was;
       after = x .born;
-      list = one-list g d (create g d n f checking .1) n (found (bornAs f)) (x .born) (x .others);
+      list = one-list g d (create g d n f checking .1) (fold n) (found (bornAs f)) (x .born) (x .others);
       others = x .beyond′;
       slots′ = x .names′;
       untouched = l .untouched;

@@ -9,7 +9,7 @@ use lib.ListN.{length}
 use lib.Dec.{T, eqb}
 use Rattle.meaning.specs.Lists.{firstOr}
 use Rattle.meaning.specs.Layout.{fitsGeometry, isSlot, hit}
-use Rattle.meaning.specs.Names.{wellFormed}
+use Rattle.meaning.specs.Names.{wellFormed, fold}
 use Rattle.meaning.specs.Entries.{nameOf}
 use Rattle.meaning.specs.Chain.{chain}
 use Rattle.meaning.specs.Consistent.{consistent}
@@ -78,7 +78,7 @@ pub record Placed (g : Geometry) (d d′ n : List ℕ) (x : ℕ) : Type 0 where
   pub touch : Touch.Touch g (chain g d′ x) [] d d′
 
 create-both : (g : Geometry) (d n : List ℕ) (f : NewFile) (checking : Bool) → create g d n f checking .0 .refusal .number ≡ 0 → create g d n f checking .0 .old ≡ false
-    → CreateMeans g d (create g d n f checking .1) n f × Placed g d (create g d n f checking .1) n (newSlot g d)
+    → CreateMeans g d (create g d n f checking .1) (fold n) f × Placed g d (create g d n f checking .1) (fold n) (newSlot g d)
 unfolding create Create.made Create.withEntry
 create-both g d n f checking e o =
     let p₂ = Passed.disk-passed g d _ e in
@@ -88,20 +88,20 @@ create-both g d n f checking e o =
     let p₆ = Passed.passed 8 _ _ (omega arith) (p₅ .1) in
     let c = p₂ .0 .sound in
     let k = Places.fits g d (p₂ .0 .fits) in
-    let new : T (missing g d n) = new-of true (missing g d n) tt (rw e at o) in
-    let i = Create.first-in (freeSlots g d) (λ t. p₆ .0 (Members.all-two (missing g d n) (eqb (length (freeSlots g d)) 0) new t)) in
+    let new : T (missing g d (fold n)) = new-of true (missing g d (fold n)) tt (rw e at o) in
+    let i = Create.first-in (freeSlots g d) (λ t. p₆ .0 (Members.all-two (missing g d (fold n)) (eqb (length (freeSlots g d)) 0) new t)) in
     let x = firstOr 0 (freeSlots g d) in
     let y = Create.slots-free g d x i in
-    let w = Passed.yes-T (wellFormed n) (p₄ .0) in
-    let free = none-missing g d c n new in
-    rw (e, Members.T-true {b = missing g d n} new) (create-made g d c k x (y .0) (y .1) n w f free, record { file = Create.made-file g d c k x (y .0) (y .1) n w f free; name′ = Create.made-name g d c k x (y .0) (y .1) n w f free; touch = Create.made-touch g d c k x (y .0) (y .1) n w f free })
+    let w = Passed.yes-T (wellFormed (fold n)) (p₄ .0) in
+    let free = none-missing g d c (fold n) new in
+    rw (e, Members.T-true {b = missing g d (fold n)} new) (create-made g d c k x (y .0) (y .1) (fold n) w f free, record { file = Create.made-file g d c k x (y .0) (y .1) (fold n) w f free; name′ = Create.made-name g d c k x (y .0) (y .1) (fold n) w f free; touch = Create.made-touch g d c k x (y .0) (y .1) (fold n) w f free })
 
 pub create-means : (g : Geometry) (d n : List ℕ) (f : NewFile) (checking : Bool) → create g d n f checking .0 .refusal .number ≡ 0 → create g d n f checking .0 .old ≡ false
-    → CreateMeans g d (create g d n f checking .1) n f
+    → CreateMeans g d (create g d n f checking .1) (fold n) f
 create-means g d n f checking e o = create-both g d n f checking e o .0
 
 pub create-placed : (g : Geometry) (d n : List ℕ) (f : NewFile) (checking : Bool) → create g d n f checking .0 .refusal .number ≡ 0 → create g d n f checking .0 .old ≡ false
-    → Placed g d (create g d n f checking .1) n (newSlot g d)
+    → Placed g d (create g d n f checking .1) (fold n) (newSlot g d)
 create-placed g d n f checking e o = create-both g d n f checking e o .1
 
 -- refusal 1 was passed

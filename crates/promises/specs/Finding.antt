@@ -9,7 +9,7 @@ use lib.ListN.{length, take}
 use lib.Dec.{T, eqb, leb, not-T, eqb→eq, leb→le, le→leb}
 use Rattle.meaning.specs.Lists.{count, keep, all, has, firstOr}
 use Rattle.meaning.specs.Layout.{slots, isSlot, hit}
-use Rattle.meaning.specs.Names.{hash}
+use Rattle.meaning.specs.Names.{hash, fold}
 use Rattle.meaning.specs.Entries.{nameOf, accessLevel}
 use Rattle.meaning.specs.Refusals.{first, goodLength, newInRange}
 use Rattle.meaning.specs.LookUp.{candidates, carries, comparedIn, named, missing, slotOf, lookUp}
@@ -114,23 +114,23 @@ none-carries g d n t = go (keep (carries g d n) (candidates g d n)) t
 
 pub look-serves : (g : Geometry) (d n : List ℕ) → lookUp g d n .refusal .number ≡ 0 → LooksUp g d n
 look-serves g d n e =
-    let w = disk e in let c = w .0 in let v = whose g d c n (w .1) in let p = v .0 in let z = v .1 in
-    let s : lookUp g d n .slot ≡ p = slot e ∙ slot-is g d c n p z in
+    let w = disk e in let c = w .0 in let v = whose g d c (fold n) (w .1) in let p = v .0 in let z = v .1 in
+    let s : lookUp g d n .slot ≡ p = slot e ∙ slot-is g d c (fold n) p z in
     record {
-      file = Named.plain-is g d c p n (z .file) (z .name′) ∙ ap (λ (q : ℕ). found (fileAt g d q)) (sym s);
+      file = Named.plain-is g d c p (fold n) (z .file) (z .name′) ∙ ap (λ (q : ℕ). found (fileAt g d q)) (sym s);
       name′ = ap (nameOf g d) s ∙ z .name′;
-      compared = compared e ∙ compared-is g d c n p z ∙ ap (matching g d n) (sym s);
+      compared = compared e ∙ compared-is g d c (fold n) p z ∙ ap (matching g d (fold n)) (sym s);
     }
   where
-    disk : lookUp g d n .refusal .number ≡ 0 → Sound g d × (T (missing g d n) → ⊥)
+    disk : lookUp g d n .refusal .number ≡ 0 → Sound g d × (T (missing g d (fold n)) → ⊥)
     disk e = unfold lookUp in
         let w = Passing.disk-passed g d _ e in let p₃ = passed 3 _ _ (omega arith) (w .1) in let p₄ = passed 4 _ _ (omega arith) (p₃ .1) in
         (w .0 .sound, p₄ .0)
 
-    slot : lookUp g d n .refusal .number ≡ 0 → lookUp g d n .slot ≡ slotOf g d n
+    slot : lookUp g d n .refusal .number ≡ 0 → lookUp g d n .slot ≡ slotOf g d (fold n)
     slot e = unfold lookUp in rw e
 
-    compared : lookUp g d n .refusal .number ≡ 0 → lookUp g d n .compared ≡ comparedIn g d n (candidates g d n)
+    compared : lookUp g d n .refusal .number ≡ 0 → lookUp g d n .compared ≡ comparedIn g d (fold n) (candidates g d (fold n))
     compared e = unfold lookUp in rw e
 
 pub look-refuses : (g : Geometry) (d n : List ℕ) → lookUp g d n .refusal .number ≢ 0 → NotFound g d n
@@ -141,10 +141,10 @@ look-refuses g d n k = record {
 }
   where
     slot : lookUp g d n .slot ≡ 0
-    slot = unfold lookUp in Passing.other-case (lookUp g d n .refusal .number) (slotOf g d n) 0 k
+    slot = unfold lookUp in Passing.other-case (lookUp g d n .refusal .number) (slotOf g d (fold n)) 0 k
 
-    lost : lookUp g d n .refusal .number ≡ 4 → T (missing g d n)
-    lost e = Refusing.missing-iff g d n .1 (rows .1 .0 .0 (known e) .1)
+    lost : lookUp g d n .refusal .number ≡ 4 → T (missing g d (fold n))
+    lost e = Refusing.missing-iff g d (fold n) .1 (rows .1 .0 .0 (known e) .1)
       where
         rows : Promises.Rows (number g d (Call.looksUp n)) (Refusing.Checked g d) (Refusing.ownCases (Promises.table g d (Call.looksUp n)))
         rows = Refusing.own-rows g d (Refusing.ownCases (Promises.table g d (Call.looksUp n))) (number g d (Call.looksUp n)) (Refusing.numbers g d (Call.looksUp n))
@@ -152,14 +152,14 @@ look-refuses g d n k = record {
         known : lookUp g d n .refusal .number ≡ 4 → number g d (Call.looksUp n) ≡ 4
         known e = unfold number in e
 
-    all : lookUp g d n .refusal .number ≡ 4 → lookUp g d n .compared ≡ length (keep (λ x. eqb (hit g d x) (hash n)) (slots g d))
+    all : lookUp g d n .refusal .number ≡ 4 → lookUp g d n .compared ≡ length (keep (λ x. eqb (hit g d x) (hash (fold n))) (slots g d))
     all e = count e ∙ counted (lost e)
       where
-        count : lookUp g d n .refusal .number ≡ 4 → lookUp g d n .compared ≡ comparedIn g d n (candidates g d n)
+        count : lookUp g d n .refusal .number ≡ 4 → lookUp g d n .compared ≡ comparedIn g d (fold n) (candidates g d (fold n))
         count e = unfold lookUp in rw e
 
-        counted : T (missing g d n) → comparedIn g d n (candidates g d n) ≡ length (keep (λ x. eqb (hit g d x) (hash n)) (slots g d))
-        counted t = compared-all g d n (candidates g d n) (none-carries g d n t) ∙ ap length (candidates-are g d n)
+        counted : T (missing g d (fold n)) → comparedIn g d (fold n) (candidates g d (fold n)) ≡ length (keep (λ x. eqb (hit g d x) (hash (fold n))) (slots g d))
+        counted t = compared-all g d (fold n) (candidates g d (fold n)) (none-carries g d (fold n) t) ∙ ap length (candidates-are g d (fold n))
 
     none : lookUp g d n .refusal .number ≢ 4 → lookUp g d n .compared ≡ 0
     none m = unfold lookUp in rw (Members.no-false {b = has (0 ∷ 4 ∷ []) (lookUp g d n .refusal .number)} (λ t. which (Members.has-in (lookUp g d n .refusal .number) (0 ∷ 4 ∷ []) t)))
@@ -204,13 +204,13 @@ opened g d c n len checking code r k t =
     only x (inr b) = b
 
 pub open-serves : (g : Geometry) (d n : List ℕ) (len : ℕ) (checking : Bool) (code : ℕ) → open′ g d n len checking code .refusal .number ≡ 0
-    → Opened g d n len checking code (open′ g d n len checking code .handle)
+    → Opened g d (fold n) len checking code (open′ g d n len checking code .handle)
 unfolding open′
 open-serves g d n len checking code e =
     let w = Passing.disk-passed g d _ e in
     let p₃ = passed 12 _ _ (omega arith) (w .1) in let p₄ = passed 3 _ _ (omega arith) (p₃ .1) in
     let p₅ = passed 4 _ _ (omega arith) (p₄ .1) in let p₆ = passed 5 _ _ (omega arith) (p₅ .1) in
-    rw e (opened g d (w .0 .sound) n len checking code (Refusing.length-iff len .0 (yes-T (goodLength len) (p₃ .0))) (p₅ .0) (yes-T (admits g d (slotOf g d n) checking code) (p₆ .0)))
+    rw e (opened g d (w .0 .sound) (fold n) len checking code (Refusing.length-iff len .0 (yes-T (goodLength len) (p₃ .0))) (p₅ .0) (yes-T (admits g d (slotOf g d (fold n)) checking code) (p₆ .0)))
 
 -- Create ------------------------------------------------------------------------------------------------------------------------------
 
@@ -229,9 +229,9 @@ in-range g d n f checking e =
     Refusing.new-iff f .0 (yes-T (newInRange f) (p₃ .0))
 
 made : (g : Geometry) (d n : List ℕ) (f : NewFile) (checking : Bool) → create g d n f checking .0 .refusal .number ≡ 0 → create g d n f checking .0 .old ≡ false
-    → create g d n f checking .0 .handle ≡ record { slot = newSlot g d; name = n; at = 0; len = f .len; level = 0 }
+    → create g d n f checking .0 .handle ≡ record { slot = newSlot g d; name = fold n; at = 0; len = f .len; level = 0 }
 unfolding create
-made g d n f checking e o = rw (e, Members.T-true {b = missing g d n} (fresh-of (missing g d n) (rw e at o)))
+made g d n f checking e o = rw (e, Members.T-true {b = missing g d (fold n)} (fresh-of (missing g d (fold n)) (rw e at o)))
 
 pub create-serves : (g : Geometry) (d n : List ℕ) (f : NewFile) (checking : Bool) → create g d n f checking .0 .refusal .number ≡ 0 → Creates g d n f checking
 create-serves g d n f checking e = record {
@@ -243,15 +243,15 @@ create-serves g d n f checking e = record {
     range : NewInRange f
     range = in-range g d n f checking e
 
-    old : create g d n f checking .0 .old ≡ true → Opened g d n (f .len) checking (f .main) (create g d n f checking .0 .handle)
+    old : create g d n f checking .0 .old ≡ true → Opened g d (fold n) (f .len) checking (f .main) (create g d n f checking .0 .handle)
     old o = unfold create in
         let w = Passing.disk-passed g d _ e in
         let p₃ = passed 12 _ _ (omega arith) (w .1) in let p₄ = passed 3 _ _ (omega arith) (p₃ .1) in
         let p₅ = passed 5 _ _ (omega arith) (p₄ .1) in
-        let found′ : T (missing g d n) → ⊥ = old-says (missing g d n) (rw e at o) in
-        let admitted : T (admits g d (slotOf g d n) checking (f .main)) = yes-T (admits g d (slotOf g d n) checking (f .main)) (λ t.
-        p₅ .0 (Members.all-two (not (missing g d n)) (not (admits g d (slotOf g d n) checking (f .main))) (not-T (missing g d n) found′) t)) in
-        rw (e, Members.no-false {b = missing g d n} found′) (opened g d (w .0 .sound) n (f .len) checking (f .main) (range .length′) found′ admitted)
+        let found′ : T (missing g d (fold n)) → ⊥ = old-says (missing g d (fold n)) (rw e at o) in
+        let admitted : T (admits g d (slotOf g d (fold n)) checking (f .main)) = yes-T (admits g d (slotOf g d (fold n)) checking (f .main)) (λ t.
+        p₅ .0 (Members.all-two (not (missing g d (fold n))) (not (admits g d (slotOf g d (fold n)) checking (f .main))) (not-T (missing g d (fold n)) found′) t)) in
+        rw (e, Members.no-false {b = missing g d (fold n)} found′) (opened g d (w .0 .sound) (fold n) (f .len) checking (f .main) (range .length′) found′ admitted)
 
     live : create g d n f checking .0 .old ≡ false → Live g (create g d n f checking .1) (create g d n f checking .0 .handle)
     live o =

@@ -11,7 +11,7 @@ use Rattle.meaning.specs.declared.Geometry.{Geometry}
 use Rattle.laws.specs.Members
 use Rattle.laws.specs.Facts
 use Rattle.laws.specs.Fault
-use Rattle.promises.specs.Promises.{AllBring, Stays, Serves, Refuses, EveryCall, Along, EveryState, GatAlone, EveryWrite, OldTwo}
+use Rattle.promises.specs.Promises.{AllBring, Stays, Serves, Refuses, EveryCall, Along, EveryState, GatAlone, EveryWrite, OldTwo, EveryName}
 use Rattle.promises.specs.Refusing
 use Rattle.promises.specs.Passing
 use Rattle.promises.specs.Staying
@@ -21,6 +21,7 @@ use Rattle.promises.specs.Sector
 use Rattle.promises.specs.Telling
 use Rattle.promises.specs.Measuring
 use Rattle.promises.specs.ReadBack
+use Rattle.promises.specs.Spelling
 
 module _ (g : Geometry) (d : List ℕ) where
   checked : check g d .number ≡ 0 → Passing.Served g d
@@ -103,3 +104,7 @@ every-write g d m h b e = ReadBack.reads-back g d m h b e
 -- the numbers 21 to 30 and the old 2
 pub old-two : OldTwo
 old-two = Fault.no-fault
+
+-- names in small letters
+pub every-name : EveryName
+every-name n = (Spelling.comes-in n, λ g d. Spelling.by-name g d n)

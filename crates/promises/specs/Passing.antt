@@ -10,6 +10,7 @@ use Rattle.meaning.specs.Lists.{all}
 use Rattle.meaning.specs.Layout.{fitsGeometry, highest}
 use Rattle.meaning.specs.Entries.{inUse, extension}
 use Rattle.meaning.specs.Refusals.{movedTo, first, handleRefusals, fresh, check, noHandle}
+use Rattle.meaning.specs.Names.{fold}
 use Rattle.meaning.specs.LookUp.{missing}
 use Rattle.meaning.specs.Open.{open′}
 use Rattle.meaning.specs.Create.{create}
@@ -76,7 +77,7 @@ module _ (g : Geometry) (d : List ℕ) where
   as-stood Call.checks k = refl
   as-stood (Call.looksUp n) k = refl
   as-stood (Call.opens n len checking code) k = refl
-  as-stood (Call.creates n f checking) k = other-both (create g d n f checking .0 .refusal .number) (missing g d n) _ d k
+  as-stood (Call.creates n f checking) k = other-both (create g d n f checking .0 .refusal .number) (missing g d (fold n)) _ d k
   as-stood (Call.reads h b) k = refl
   as-stood (Call.readsSector h i) k = refl
   as-stood (Call.writes m h b) k = other-case (writeRecord g d m h b .0 .refusal .number) _ d k
@@ -90,7 +91,7 @@ module _ (g : Geometry) (d : List ℕ) where
   -- and so it is where create found an old file
   pub old-stands : (n : List ℕ) (f : NewFile) (checking : Bool) → create g d n f checking .0 .old ≡ true → create g d n f checking .1 ≡ d
   unfolding create
-  old-stands n f checking o = go (eqb (create g d n f checking .0 .refusal .number) 0) (missing g d n) _ o
+  old-stands n f checking o = go (eqb (create g d n f checking .0 .refusal .number) 0) (missing g d (fold n)) _ o
     where
       go : (a b : Bool) (x : List ℕ) → (a && not b) ≡ true → cond (a && b) x d ≡ d
       go true true x o = absurd (Members.true-T o)
@@ -105,7 +106,7 @@ module _ (g : Geometry) (d : List ℕ) where
       → (create g d n f checking .0 .handle ≡ noHandle) × (create g d n f checking .0 .old ≡ false)
   unfolding create
   create-refuses n f checking k =
-      (other-case (create g d n f checking .0 .refusal .number) _ noHandle k, ap (λ (b : Bool). b && not (missing g d n)) (Members.no-false {b = eqb (create g d n f checking .0 .refusal .number) 0} (λ t. k (eqb→eq _ 0 t))))
+      (other-case (create g d n f checking .0 .refusal .number) _ noHandle k, ap (λ (b : Bool). b && not (missing g d (fold n))) (Members.no-false {b = eqb (create g d n f checking .0 .refusal .number) 0} (λ t. k (eqb→eq _ 0 t))))
 
   pub read-refuses : (h : Handle) (b : List ℕ) → readRecord g d h b .0 .refusal .number ≢ 0 → (readRecord g d h b .0 .handle ≡ h) × (readRecord g d h b .1 ≡ b)
   unfolding readRecord

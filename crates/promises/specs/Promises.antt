@@ -14,7 +14,7 @@ use lib.Seq.{slice}
 use Rattle.meaning.specs.Lists.{keep, each, firstOr}
 use Rattle.meaning.specs.Bits.{bit, digit}
 use Rattle.meaning.specs.Layout.{fitsGeometry, granules, granuleBytes, granuleSectors, sectors, highest, sectorNumbers, mostBlocks, mostUnits, slots, isSlot, hit, byte, taken, granulesFor}
-use Rattle.meaning.specs.Names.{hash, wellFormed}
+use Rattle.meaning.specs.Names.{hash, letter, wellFormed, fold, noPlace, comesIn}
 use Rattle.meaning.specs.Entries.{inUse, extension, nameOf, sectorCount}
 use Rattle.meaning.specs.Chain.{chain, owned, files}
 use Rattle.meaning.specs.Consistent.{consistent}
@@ -41,6 +41,7 @@ use Rattle.meaning.specs.declared.Geometry.{Geometry}
 use Rattle.meaning.specs.declared.Handle.{Handle}
 use Rattle.meaning.specs.declared.NewFile.{NewFile}
 use Rattle.meaning.specs.declared.Mode.{Mode}
+use Rattle.meaning.specs.declared.Refusal.{Refusal}
 
 -- Calls -----------------------------------------------------------------------------------------------------------------------------
 
@@ -150,17 +151,19 @@ workerCode f = getD (f .attributes) 6 0 + 256 * getD (f .attributes) 7 0
 abbrev pub matching : Geometry → List ℕ → List ℕ → ℕ → ℕ
 matching g d n s = length (keep (λ x. eqb (hit g d x) (hash n) && leb x s) (slots g d))
 
+-- A call by name is on the file called `fold n`, where n is the name as the caller gives it (02 §7).
+
 -- Look up: the slot of the file of that name, and how many HIT bytes up to it are the hash
 pub record LooksUp (g : Geometry) (d n : List ℕ) : Type 0 where
-  pub file : plain g d n ≡ found (fileAt g d (lookUp g d n .slot))
-  pub name′ : nameOf g d (lookUp g d n .slot) ≡ n
-  pub compared : lookUp g d n .compared ≡ matching g d n (lookUp g d n .slot)
+  pub file : plain g d (fold n) ≡ found (fileAt g d (lookUp g d n .slot))
+  pub name′ : nameOf g d (lookUp g d n .slot) ≡ fold n
+  pub compared : lookUp g d n .compared ≡ matching g d (fold n) (lookUp g d n .slot)
 
 -- level 0 if checking is off, the main code is the "no password" code, or the given code equals the main code
 abbrev pub Full : Geometry → File → Bool → ℕ → Type 0
 Full g f checking code = (checking ≡ false) ⊎ ((mainCode f ≡ g .anyone) ⊎ (code ≡ mainCode f))
 
--- Open: a live handle, in range, at position 0, the record length as given; the level as the plain file's codes say
+-- Open: a live handle of the file called n, in range, at position 0, the record length as given; the level as the plain file's codes say
 pub record Opened (g : Geometry) (d n : List ℕ) (len : ℕ) (checking : Bool) (code : ℕ) (h : Handle) : Type 0 where
   pub file : File
   pub called : plain g d n ≡ found file
@@ -175,12 +178,12 @@ pub record Opened (g : Geometry) (d n : List ℕ) (len : ℕ) (checking : Bool) 
 -- Create: an existing file is opened and reported as old; otherwise the file is born, in the first permitted slot, and its handle has level 0
 pub record Creates (g : Geometry) (d n : List ℕ) (f : NewFile) (checking : Bool) : Type 0 where
   pub old : create g d n f checking .0 .old ≡ true
-      → Opened g d n (f .len) checking (f .main) (create g d n f checking .0 .handle) × (create g d n f checking .1 ≡ d)
+      → Opened g d (fold n) (f .len) checking (f .main) (create g d n f checking .0 .handle) × (create g d n f checking .1 ≡ d)
   pub new : create g d n f checking .0 .old ≡ false
-      → Becomes g d (create g d n f checking .1) n nothing (found (bornAs f))
+      → Becomes g d (create g d n f checking .1) (fold n) nothing (found (bornAs f))
       × Live g (create g d n f checking .1) (create g d n f checking .0 .handle) × InRange g (create g d n f checking .0 .handle)
   pub handle′ : create g d n f checking .0 .old ≡ false
-      → create g d n f checking .0 .handle ≡ record { slot = firstOr 0 (freeSlots g d); name = n; at = 0; len = f .len; level = 0 }
+      → create g d n f checking .0 .handle ≡ record { slot = firstOr 0 (freeSlots g d); name = fold n; at = 0; len = f .len; level = 0 }
 
 -- Read record: the plain file's bytes at the position, to the start of the buffer; the rest of it is untouched, the position advances
 pub record Reads (g : Geometry) (d : List ℕ) (h : Handle) (b : List ℕ) : Type 0 where
@@ -240,7 +243,7 @@ pub record Measured (g : Geometry) (d : List ℕ) : Type 0 where
 abbrev pub Serves : Geometry → List ℕ → Call → Type 0
 Serves g d checks = (fitsGeometry g d ≡ true) × (consistent g d ≡ true)
 Serves g d (looksUp n) = LooksUp g d n
-Serves g d (opens n len checking code) = Opened g d n len checking code (open′ g d n len checking code .handle)
+Serves g d (opens n len checking code) = Opened g d (fold n) len checking code (open′ g d n len checking code .handle)
 Serves g d (creates n f checking) = Creates g d n f checking
 Serves g d (reads h b) = Reads g d h b
 Serves g d (readsSector h k) = ReadsSector g d h k
@@ -258,7 +261,7 @@ Serves g d measures = Measured g d
 -- look up returns its count as well under 4, and 0 under 1, 2 and 3
 pub record NotFound (g : Geometry) (d n : List ℕ) : Type 0 where
   pub slot : lookUp g d n .slot ≡ 0
-  pub all′ : lookUp g d n .refusal .number ≡ 4 → lookUp g d n .compared ≡ length (keep (λ x. eqb (hit g d x) (hash n)) (slots g d))
+  pub all′ : lookUp g d n .refusal .number ≡ 4 → lookUp g d n .compared ≡ length (keep (λ x. eqb (hit g d x) (hash (fold n))) (slots g d))
   pub none : lookUp g d n .refusal .number ≢ 4 → lookUp g d n .compared ≡ 0
 
 -- beside the image, which is as it stood: handle and buffer as they stood, a refused open or create a handle of zeros, a refused sector
@@ -311,6 +314,10 @@ pub record NewInRange (f : NewFile) : Type 0 where
   pub year : f .year ≤ 15
   pub length′ : LengthInRange (f .len)
 
+-- 3 the folded name is not well formed (02 §7); its place is in `SaysPlace`
+abbrev pub badName : List ℕ → ℕ × Type 0
+badName n = (3, wellFormed (fold n) ≡ false)
+
 module _ (g : Geometry) (d : List ℕ) where
   -- 21 to 30, in 2's place (02 §2): the disk's fault has that number. It has one exactly if it is not consistent.
   abbrev pub faultCases : List ℕ → Table → Table
@@ -353,11 +360,11 @@ module _ (g : Geometry) (d : List ℕ) where
 
   abbrev pub table : Call → Table
   table checks = diskCases []
-  table (looksUp n) = diskCases ((3, wellFormed n ≡ false) ∷ (4, NoFile n) ∷ [])
+  table (looksUp n) = diskCases (badName n ∷ (4, NoFile (fold n)) ∷ [])
   table (opens n len checking code) =
-      diskCases ((12, (LengthInRange len → ⊥)) ∷ (3, wellFormed n ≡ false) ∷ (4, NoFile n) ∷ (5, WrongCode n checking code) ∷ [])
+      diskCases ((12, (LengthInRange len → ⊥)) ∷ badName n ∷ (4, NoFile (fold n)) ∷ (5, WrongCode (fold n) checking code) ∷ [])
   table (creates n f checking) =
-      diskCases ((12, (NewInRange f → ⊥)) ∷ (3, wellFormed n ≡ false) ∷ (5, WrongCode n checking (f .main)) ∷ (8, NoFile n × (freeSlots g d ≡ [])) ∷ [])
+      diskCases ((12, (NewInRange f → ⊥)) ∷ badName n ∷ (5, WrongCode (fold n) checking (f .main)) ∷ (8, NoFile (fold n) × (freeSlots g d ≡ [])) ∷ [])
   table (reads h b) =
       handleCases h (InRange g h × (h .len ≤ length b)) ((6, 5 < h .level) ∷ (10, length (fileOf h .bytes) < h .at + h .len) ∷ [])
   table (readsSector h k) =
@@ -421,3 +428,47 @@ pub record ReadsBack (g : Geometry) (d : List ℕ) (m : Mode) (h : Handle) (b : 
 
 abbrev pub EveryWrite : Type 0
 EveryWrite = (g : Geometry) (d : List ℕ) (m : Mode) (h : Handle) (b : List ℕ) → writeRecord g d m h b .0 .refusal .number ≡ 0 → ReadsBack g d m h b
+
+-- 9. A name that comes in (02 §7) -----------------------------------------------------------------------------------------------------------
+
+-- a byte of the name, or of the type, is good where it is allowed and no blank stands before it there, or where it is a blank
+abbrev pub GoodIn : List ℕ → ℕ → Type 0
+GoodIn xs i = (T (letter (getD xs i 0)) × ((j : ℕ) → j < i → getD xs j 0 ≢ 0x20)) ⊎ (getD xs i 0 ≡ 0x20)
+
+-- "a blank at place 0 is bad, and a non-blank after a blank in name or type"; the type begins at 8
+pub record GoodAt (m : List ℕ) (i : ℕ) : Type 0 where
+  pub start : i ≡ 0 → T (letter (getD m 0 0))
+  pub name′ : i < 8 → GoodIn (take 8 m) i
+  pub type′ : 8 ≤ i → GoodIn (drop 8 m) (i - 8)
+
+-- i is "the place of the first bad byte", 0 to 10; all before it are good. Of what has not 11 bytes it is 0.
+pub record BadAt (m : List ℕ) (i : ℕ) : Type 0 where
+  pub inside : i < noPlace
+  pub bad : length m ≡ 11 → GoodAt m i → ⊥
+  pub before : length m ≡ 11 → (j : ℕ) → j < i → GoodAt m j
+  pub short : length m ≢ 11 → i ≡ 0
+
+-- "3 now carries a place, 0 to 10"
+abbrev pub SaysPlace : List ℕ → Refusal → Type 0
+SaysPlace n r = r .number ≡ 3 → BadAt (fold n) (r .at)
+
+-- "The name check now hands back the folded name, or the place of the first bad byte": no place exactly if the folded name is well formed, and
+-- the first bad one else. Folding twice is folding once. A well-formed name folds to itself, so it is answered as before.
+pub record ComesIn (n : List ℕ) : Type 0 where
+  pub name′ : comesIn n .name ≡ fold n
+  pub good : (comesIn n .place ≡ noPlace) ↔ (wellFormed (fold n) ≡ true)
+  pub bad : wellFormed (fold n) ≡ false → BadAt (fold n) (comesIn n .place)
+  pub once : fold (fold n) ≡ fold n
+  pub old : wellFormed n ≡ true → fold n ≡ n
+
+-- A call by a name is the call by its fold, and says the place under 3.
+pub record ByName (g : Geometry) (d n : List ℕ) : Type 0 where
+  pub look : lookUp g d n ≡ lookUp g d (fold n)
+  pub open″ : (len : ℕ) (checking : Bool) (code : ℕ) → open′ g d n len checking code ≡ open′ g d (fold n) len checking code
+  pub create′ : (f : NewFile) (checking : Bool) → create g d n f checking ≡ create g d (fold n) f checking
+  pub look-place : SaysPlace n (lookUp g d n .refusal)
+  pub open-place : (len : ℕ) (checking : Bool) (code : ℕ) → SaysPlace n (open′ g d n len checking code .refusal)
+  pub create-place : (f : NewFile) (checking : Bool) → SaysPlace n (create g d n f checking .0 .refusal)
+
+abbrev pub EveryName : Type 0
+EveryName = (n : List ℕ) → ComesIn n × ((g : Geometry) (d : List ℕ) → ByName g d n)

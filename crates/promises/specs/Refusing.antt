@@ -9,7 +9,7 @@ use lib.ListN.{length, drop}
 use lib.Dec.{T, eqb, leb, ltb, T-not, not-T, eqb→eq, leb→le, le→leb, ltb→lt, lt→ltb, nltb→le}
 use Rattle.meaning.specs.Lists.{all, any, distinct, same, firstOr, has}
 use Rattle.meaning.specs.Layout.{fitsGeometry, granuleSizes, granules, granuleBytes, granuleSectors, sectors, highest, mostBlocks, mostUnits, isSlot, granulesFor, sectorNumbers}
-use Rattle.meaning.specs.Names.{wellFormed}
+use Rattle.meaning.specs.Names.{wellFormed, fold}
 use Rattle.meaning.specs.Entries.{inUse, extension, primary, nameOf, sizeOf, system, noGrowth, mainCode, workerCode, sectorCount}
 use Rattle.meaning.specs.Consistent.{consistent}
 use Rattle.meaning.specs.Fault.{fault}
@@ -483,10 +483,14 @@ module _ (g : Geometry) (d : List ℕ) where
   unfolding check
   check-numbers = exactly (diskRefusals g d []) (Promises.diskCases g d []) (disk-reading [] [] tt) tt
 
+  -- what has passed them has nothing to tell
+  pub checked-none : Checked → check g d .number ≡ 0
+  checked-none = own-rows [] (check g d .number) check-numbers .1
+
   look-numbers : (n : List ℕ) → Exactly (lookUp g d n .refusal .number) (table g d (Call.looksUp n))
   unfolding lookUp
   look-numbers n = exactly (lookUpRefusals g d n) (table g d (Call.looksUp n))
-      (disk-reading (ownRows (lookUpRefusals g d n)) (ownCases (table g d (Call.looksUp n))) (refl, λ x. false-iff (wellFormed n), (refl, λ x. missing-iff g d n, tt))) tt
+      (disk-reading (ownRows (lookUpRefusals g d n)) (ownCases (table g d (Call.looksUp n))) (refl, λ x. false-iff (wellFormed (fold n)), (refl, λ x. missing-iff g d (fold n), tt))) tt
 
   open-numbers : (n : List ℕ) (len : ℕ) (checking : Bool) (code : ℕ) → Exactly (open′ g d n len checking code .refusal .number) (table g d (Call.opens n len checking code))
   unfolding open′
@@ -495,11 +499,11 @@ module _ (g : Geometry) (d : List ℕ) where
     λ x. not-iff (goodLength len) (length-iff len),
     (
       refl,
-      λ x. false-iff (wellFormed n),
+      λ x. false-iff (wellFormed (fold n)),
       (
         refl,
-        λ x. missing-iff g d n,
-        (refl, λ x. wrong-iff g d n checking code (λ t. x .1 (missing-iff g d n .0 t)), tt),
+        λ x. missing-iff g d (fold n),
+        (refl, λ x. wrong-iff g d (fold n) checking code (λ t. x .1 (missing-iff g d (fold n) .0 t)), tt),
       ),
     ),
   )) tt
@@ -511,11 +515,11 @@ module _ (g : Geometry) (d : List ℕ) where
     λ x. not-iff (newInRange f) (new-iff f),
     (
       refl,
-      λ x. false-iff (wellFormed n),
+      λ x. false-iff (wellFormed (fold n)),
       (
         refl,
-        λ x. wrong-created g d n checking (f .main),
-        (refl, λ x. both-iff (missing g d n) (eqb (length (freeSlots g d)) 0) (missing-iff g d n) (none-iff (freeSlots g d)), tt),
+        λ x. wrong-created g d (fold n) checking (f .main),
+        (refl, λ x. both-iff (missing g d (fold n)) (eqb (length (freeSlots g d)) 0) (missing-iff g d (fold n)) (none-iff (freeSlots g d)), tt),
       ),
     ),
   )) tt

@@ -10,7 +10,7 @@ use lib.Dec.{T, leb, leb→le}
 use Rattle.meaning.specs.Lists.{all}
 use Rattle.meaning.specs.Layout.{highest}
 use Rattle.meaning.specs.Sizes
-use Rattle.meaning.specs.Names.{wellFormed}
+use Rattle.meaning.specs.Names.{wellFormed, fold}
 use Rattle.meaning.specs.Entries.{sizeOf, sectorsFor}
 use Rattle.meaning.specs.Chain.{place}
 use Rattle.meaning.specs.Consistent.{consistent}
@@ -109,9 +109,9 @@ module _ (g : Geometry) (d : List ℕ) (k : Good g d) where
       let p₃ = passed 12 _ _ (omega arith) (p₂ .1) in
       let p₄ = passed 3 _ _ (omega arith) (p₃ .1) in
       let r = Refusing.new-iff f .0 (yes-T (newInRange f) (p₃ .0)) in
-      rw e (go (missing g d n) (Bytes.small-born g d fit (newSlot g d) n f s (yes-T (wellFormed n) (p₄ .0)) (r .day) (r .month) (r .year) a b))
+      rw e (go (missing g d (fold n)) (Bytes.small-born g d fit (newSlot g d) (fold n) f s (yes-T (wellFormed (fold n)) (p₄ .0)) (r .day) (r .month) (r .year) a b))
     where
-      go : (t : Bool) → Small (withEntry g d (newSlot g d) n f) → Small (cond t (withEntry g d (newSlot g d) n f) d)
+      go : (t : Bool) → Small (withEntry g d (newSlot g d) (fold n) f) → Small (cond t (withEntry g d (newSlot g d) (fold n) f) d)
       go true x = x
       go false x = s
 
