@@ -4,5 +4,6 @@ pub mod Finding
 pub mod Reading
 pub mod Writing
 pub mod Granules
+pub mod Choices
 pub mod Told
 pub mod Places

@@ -33,6 +33,8 @@ pub struct Refused {
     image: String,
     file: Option<String>,
     detail: Option<String>,
+    /// How many runs a growth wants and how many there is room for, where slots are wanting.
+    runs: Option<(usize, usize)>,
     /// What is wrong with the disk and where, if it is not consistent.
     fault: Option<Explained>,
     /// Where the geometry is from: for programs, and for people unless they stated it on the command line.
@@ -61,6 +63,7 @@ impl Failure {
             image: image.to_string(),
             file: None,
             detail: None,
+            runs: None,
             fault: None,
             source: None,
             ranking: Ranking::default(),
@@ -109,6 +112,11 @@ impl Failure {
     /// Adds what the number alone does not tell.
     pub fn because(self, why: impl fmt::Display) -> Failure {
         self.refused_with(|refused| refused.detail = Some(why.to_string()))
+    }
+
+    /// Adds, for programs, how many runs a growth wants and how many there is room for.
+    pub fn in_runs(self, needed: usize, room: usize) -> Failure {
+        self.refused_with(|refused| refused.runs = Some((needed, room)))
     }
 
     /// Adds where the geometry is from, for programs and for people.
@@ -172,6 +180,9 @@ impl Refused {
             ("detail", self.detail.as_deref().into()),
             ("fault", self.fault.as_ref().map(fault::json).into()),
         ];
+        members.extend(
+            self.runs.iter().flat_map(|&(needed, room)| [("runs_needed", needed.into()), ("runs_left", room.into())]),
+        );
         members.extend(self.source.as_ref().map(|(word, _)| ("geometry_from", (*word).into())));
         members.extend(self.ranking.members());
         Json::object([("refused", Json::Object(members))])

@@ -47,6 +47,11 @@ fn full_disk() {
 }
 
 #[test]
+fn scattered_disk() {
+    play("scattered");
+}
+
+#[test]
 fn damaged_images() {
     play("damaged");
 }

@@ -195,6 +195,20 @@ impl<'a> Directory<'a> {
         10 + usize::from(self.sector(1).get(0x1f).copied().unwrap_or(0))
     }
 
+    pub(crate) fn geometry(&self) -> Geometry {
+        self.geometry
+    }
+
+    /// The GAT byte of a block.
+    pub(crate) fn gat(&self, block: usize) -> u8 {
+        self.sector(0).get(block).copied().unwrap_or(0xff)
+    }
+
+    /// The HIT byte of a slot.
+    pub(crate) fn hit(&self, slot: u8) -> u8 {
+        self.sector(1).get(usize::from(slot)).copied().unwrap_or(0)
+    }
+
     fn sector(&self, number: usize) -> &'a [u8] {
         let from = (self.geometry.start + number) * Geometry::SECTOR_BYTES;
         self.image.get(from..from + Geometry::SECTOR_BYTES).unwrap_or(&[])
@@ -230,18 +244,29 @@ impl<'a> Directory<'a> {
         found.map(|(slot, bytes)| Entry { slot, bytes, runs: self.runs(bytes) }).collect()
     }
 
-    /// The runs of an entry and of its extensions. No chain is longer than the number of slots.
+    /// The last entry of the file at a slot, by itself.
+    pub(crate) fn last_entry_of(&self, slot: u8) -> Option<Entry> {
+        let last = self.chain(self.bytes(slot)?).pop()?;
+        Some(Entry::from_bytes(slot, last, self.geometry))
+    }
+
+    /// The runs of an entry and of its extensions.
     fn runs(&self, primary: [u8; Entry::LEN]) -> Vec<Run> {
-        let mut runs = Vec::new();
-        let mut bytes = primary;
-        for _ in 0..=u8::MAX {
-            runs.extend(own_runs(&bytes, self.geometry));
-            match (bytes[0x1e], self.bytes(bytes[0x1f])) {
-                (0xfe, Some(next)) => bytes = next,
+        self.chain(primary).iter().flat_map(|bytes| own_runs(bytes, self.geometry)).collect()
+    }
+
+    /// An entry and its extensions. No chain is longer than the number of slots.
+    fn chain(&self, primary: [u8; Entry::LEN]) -> Vec<[u8; Entry::LEN]> {
+        let mut entries = vec![primary];
+        let mut last = primary;
+        while entries.len() <= usize::from(u8::MAX) {
+            match (last[0x1e], self.bytes(last[0x1f])) {
+                (0xfe, Some(next)) => last = next,
                 _ => break,
             }
+            entries.push(last);
         }
-        runs
+        entries
     }
 }
 

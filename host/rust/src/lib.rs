@@ -43,6 +43,7 @@ mod handle;
 mod map;
 mod name;
 mod refusal;
+mod room;
 mod sys;
 
 pub use damaged::{
@@ -59,3 +60,4 @@ pub use handle::Handle;
 pub use map::{markup_text, Cell, Drawing, Holds, Map, MappedFile, Part};
 pub use name::{BadName, Name};
 pub use refusal::Refusal;
+pub use room::{Growth, Slots};

@@ -2,7 +2,7 @@
 
 use super::choose::{image_and_rest, password, refused};
 use super::opened::Opened;
-use super::room::slots_left;
+use super::room::{slots_left, Runs};
 use super::{failures_json, Command, Output, CODE, FORCE, JSON, UNLOCK};
 use crate::args::{Args, Spec};
 use crate::date;
@@ -14,6 +14,7 @@ use crate::shape;
 use crate::text::counted;
 use genie_dos::{Date, Disk, Geometry, Kind, NewFile, Password, Refusal};
 use std::ffi::{OsStr, OsString};
+use std::fmt;
 use std::path::Path;
 
 const AS: Spec =
@@ -228,12 +229,14 @@ fn put_one(
     let old = create(opened, source, new, force)?;
     let Source { typed, host, bytes } = source;
     let (path, disk) = (&opened.path, &mut opened.disk);
-    let space = space_left(disk, typed, bytes.len());
+    let wants = Wants::of(disk, typed, bytes.len());
     write(disk, typed, bytes, password).map_err(|refusal| {
         let failure = refused(path, typed)(refusal);
-        match refusal {
-            Refusal::NoSpace => failure.because(space),
-            Refusal::NoSlot => failure.because(format!("its fifth run wants a slot more; {}", slots_left(disk))),
+        match (refusal, Runs::of(disk, &typed.name, wants.granules)) {
+            (Refusal::NoSpace, _) => failure.because(wants),
+            (Refusal::NoSlot, Some(runs)) => {
+                failure.because(format!("{runs}; {}", slots_left(disk))).in_runs(runs.needed, runs.room)
+            }
             _ => failure,
         }
     })?;
@@ -248,23 +251,43 @@ fn put_one(
     Ok(old)
 }
 
-/// How many granules a file wants and how many there are, before it is written.
-fn space_left(disk: &Disk, typed: &Typed, size: usize) -> String {
-    if size > Geometry::MOST_BYTES {
-        return format!("it has more than {} bytes, which no disk can hold", Geometry::MOST_BYTES);
-    }
-    let entries = disk.entries().unwrap_or_default();
-    let owned = entries.iter().find(|entry| entry.name() == typed.name).map_or(0, |entry| entry.granules());
-    let wanted = Geometry::granules_for(size).saturating_sub(owned);
-    let free = disk.count().map_or(0, |counts| counts.free);
-    let more = if owned > 0 { "more " } else { "" };
-    let wanted = format!("{wanted} {more}granule{}", if wanted == 1 { "" } else { "s" });
-    format!("it wants {wanted}, and {free} {} free", if free == 1 { "is" } else { "are" })
+/// What a file wants of a disk, before it is written.
+struct Wants {
+    size: usize,
+    /// Granules that it has already, those that it wants more, and those that are free.
+    owned: usize,
+    granules: usize,
+    free: usize,
 }
 
-/// Writes the file from its start: records of 256 bytes, then one of what is left.
+impl Wants {
+    fn of(disk: &Disk, typed: &Typed, size: usize) -> Wants {
+        let entries = disk.entries().unwrap_or_default();
+        let owned = entries.iter().find(|entry| entry.name() == typed.name).map_or(0, |entry| entry.granules());
+        let granules = Geometry::granules_for(size).saturating_sub(owned);
+        Wants { size, owned, granules, free: disk.count().map_or(0, |counts| counts.free) }
+    }
+}
+
+impl fmt::Display for Wants {
+    fn fmt(&self, f: &mut fmt::Formatter<'_>) -> fmt::Result {
+        if self.size > Geometry::MOST_BYTES {
+            return write!(f, "it has more than {} bytes, which no disk can hold", Geometry::MOST_BYTES);
+        }
+        let what = if self.owned > 0 { "more granule" } else { "granule" };
+        let are = if self.free == 1 { "is" } else { "are" };
+        write!(f, "it wants {}, and {} {are} free", counted(self.granules, what), self.free)
+    }
+}
+
+/// Writes the file from its start: records of 256 bytes, then one of what is left. All its granules are taken first, in one
+/// call: so where the lowest free ones would be too scattered for the slots that are left, longer stretches are taken.
 fn write(disk: &mut Disk, typed: &Typed, bytes: &[u8], password: Password) -> Result<(), Refusal> {
     let mut position = 0;
+    if let Some(last) = bytes.len().min(Geometry::MOST_BYTES).checked_sub(1) {
+        let handle = disk.open(&typed.name, 1, password)?;
+        disk.allot(&handle, last / Geometry::SECTOR_BYTES)?;
+    }
     let (records, rest) = bytes.split_at(bytes.len() / 256 * 256);
     for part in [records, rest].into_iter().filter(|part| !part.is_empty()) {
         let length = part.len().min(256);

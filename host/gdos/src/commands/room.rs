@@ -1,7 +1,8 @@
 //! What is left on a disk for files: how many more its directory takes, and why one does not fit.
 
-use crate::places::{has_slot, hit_at};
-use genie_dos::{Disk, Geometry, Refusal};
+use crate::text::counted;
+use genie_dos::{Disk, Geometry, Name, Refusal, Slots};
+use std::fmt;
 
 /// How many files more a directory takes.
 #[derive(Clone, Copy, Debug, PartialEq, Eq)]
@@ -15,7 +16,7 @@ pub struct More {
 impl More {
     /// Of a consistent disk.
     pub fn of(disk: &Disk) -> Result<More, Refusal> {
-        Ok(More { system: slots_as(disk, true)?.1, data: slots_as(disk, false)?.1 })
+        Ok(More { system: slots_as(disk, true)?.free, data: slots_as(disk, false)?.free })
     }
 
     /// Under the geometry stated first, then as the other kind of disk.
@@ -31,7 +32,7 @@ impl More {
 /// How many slots there are for files and how many of them are free, where a file found none.
 pub fn slots_left(disk: &Disk) -> String {
     let system_disk = disk.geometry().system_disk;
-    let ((all, free), More { data, .. }) = match (slots_as(disk, system_disk), More::of(disk)) {
+    let (Slots { all, free }, More { data, .. }) = match (disk.slots(), More::of(disk)) {
         (Ok(slots), Ok(more)) => (slots, more),
         _ => return "no slot for files is free".to_string(),
     };
@@ -42,16 +43,34 @@ pub fn slots_left(disk: &Disk) -> String {
     }
 }
 
-/// Slots that files may have, and how many of them are free.
-fn slots_as(disk: &Disk, system_disk: bool) -> Result<(usize, usize), Refusal> {
-    let sectors = disk.directory_sectors()?;
-    let hit = hit_at(disk.geometry(), 0);
-    let hit = disk.image().get(hit..hit + Geometry::SECTOR_BYTES).ok_or(Refusal::Geometry)?;
-    // On a system disk rows 0 to 3 with s 0 to 7 are kept for system files, on a data disk slots 00H and 01H alone.
-    let kept = |slot: usize| if system_disk { slot / 32 <= 3 && slot % 32 <= 7 } else { slot <= 1 };
-    let permitted = (0..256).filter(|&slot| has_slot(sectors, slot) && !kept(slot));
-    let permitted: Vec<usize> = permitted.collect();
-    Ok((permitted.len(), permitted.iter().filter(|&&slot| hit[slot] == 0).count()))
+/// Slots that files may have on that kind of disk.
+fn slots_as(disk: &Disk, system_disk: bool) -> Result<Slots, Refusal> {
+    Disk::new(disk.image(), disk.geometry().with_system_disk(system_disk)).slots()
+}
+
+/// A growth that was refused for want of slots: how many runs it wants and how many there is room for.
+#[derive(Clone, Copy, Debug, PartialEq, Eq)]
+pub struct Runs {
+    pub needed: usize,
+    pub room: usize,
+    /// The file has runs already.
+    more: bool,
+}
+
+impl Runs {
+    /// Of a file that wants so many granules more; none where fewer are free.
+    pub fn of(disk: &Disk, name: &Name, granules: usize) -> Option<Runs> {
+        let growth = disk.growth(name).ok()?;
+        let more = disk.entries().ok()?.iter().any(|entry| entry.name() == *name && entry.granules() > 0);
+        Some(Runs { needed: growth.runs_needed(granules)?, room: growth.room, more })
+    }
+}
+
+impl fmt::Display for Runs {
+    fn fmt(&self, f: &mut fmt::Formatter<'_>) -> fmt::Result {
+        let what = if self.more { "more run" } else { "run" };
+        write!(f, "it wants {} at least, and there is room for {}", counted(self.needed, what), self.room)
+    }
 }
 
 #[cfg(test)]
@@ -64,11 +83,11 @@ mod tests {
         let geometry = Geometry::new(40, 2, 200, 0);
         for (sectors, all) in [(10, 32), (15, 72), (20, 112), (25, 152), (30, 192)] {
             let mut disk = Disk::blank(geometry, sectors, &[0]).unwrap();
-            assert_eq!(slots_as(&disk, true), Ok((all, all)));
-            assert_eq!(slots_as(&disk, false), Ok((all + 30, all + 30)));
+            assert_eq!(slots_as(&disk, true), Ok(Slots { all, free: all }));
+            assert_eq!(slots_as(&disk, false), Ok(Slots { all: all + 30, free: all + 30 }));
             let new = NewFile::open(geometry, Date::new(1983, 10, 9));
             disk.create(&"A".parse().unwrap(), &new).unwrap();
-            assert_eq!(slots_as(&disk, true), Ok((all, all - 1)));
+            assert_eq!(slots_as(&disk, true), Ok(Slots { all, free: all - 1 }));
             assert_eq!(More::of(&disk), Ok(More { system: all - 1, data: all + 30 - 1 }));
         }
     }
