@@ -93,7 +93,8 @@ handle-folded = refl
 
 entry-folded : create three gaps small (record { day = 9; month = 10; year = 3; len = 256; main = 0x1234; worker = 0x5678 }) true ≡ (
   record { refusal = unplaced 0; old = false; handle = held 0x81 puls 0 256 0 },
-  changed (written gaps e81 (0x10 ∷ 0x09 ∷ 0x3a ∷ 0x00 ∷ 0x00 ∷ (puls ++ (0x34 ∷ 0x12 ∷ 0x78 ∷ 0x56 ∷ 0x00 ∷ 0x00 ∷ replicate 10 0xff)))) ((hits + 0x81, 0xc1) ∷ []),
+  changed (written gaps e81 (0x10 ∷ 0x09 ∷ 0x3a ∷ 0x00 ∷ 0x00 ∷ (puls ++ (0x34 ∷ 0x12 ∷ 0x78 ∷ 0x56 ∷ 0x00 ∷ 0x00 ∷ replicate 10 0xff))))
+      ((hits + 0x81, 0xc1) ∷ []),
 )
 unfolding opened
 entry-folded = refl

@@ -36,9 +36,9 @@ Name = List ℕ
 
 -- In a list of calls on one file each call uses a handle that the same list opened or created earlier: the first number of a call by a
 -- handle is that handle's place among them, from 0. Its positions and the bytes it writes are the list's own, fixed beforehand. The name
--- is the list's, as the caller gives it, and no call repeats it; the list's file is the one under the folded name (02 §7). The geometry is the same for all. So a list is of steps, and `asked` makes of each the call of
--- `meaning` that it is. Bring back (02, §11) is not among them: "Demand 3's interleavings leave this call out." What it finds hangs on what
--- the other list has written since the kill.
+-- is the list's, as the caller gives it, and no call repeats it; the list's file is the one under the folded name (02 §7). The geometry is
+-- the same for all. So a list is of steps, and `asked` makes of each the call of `meaning` that it is. Bring back (02, §11) is not among
+-- them: "Demand 3's interleavings leave this call out." What it finds hangs on what the other list has written since the kill.
 pub data Step : Type 0 where
   looksUp : Step
   -- record length, whether codes are checked, the code
