@@ -8,7 +8,7 @@ use lib.Dec.{ltb, eqb}
 use lib.ListN.{length, take, getD}
 use borrow.Author.Tests.{ltb-true, leb-true, eqb-true, not-false}
 use Rattle.meaning.specs.Lists.{count, every, keep, firstOr}
-use Rattle.meaning.specs.Names.{wellFormed, hash}
+use Rattle.meaning.specs.Names.{wellFormed, hash, fold}
 use Rattle.meaning.specs.Layout.{slots, isSlot, hit, highest}
 use Rattle.meaning.specs.Sizes
 use Rattle.meaning.specs.Entries.{accessLevel}
@@ -86,32 +86,32 @@ module _ (g : Geometry) (d : List ℕ) where
   open-fits n len checking code = by (eqb (first (openRefusals g d n len checking code)) 0) refl
     where
       by : (t : Bool) → eqb (first (openRefusals g d n len checking code)) 0 ≡ t
-          → Fits (cond t (openedAt g d (slotOf g d n) n len checking code) noHandle)
+          → Fits (cond t (openedAt g d (slotOf g d (fold n)) (fold n) len checking code) noHandle)
       by true e =
           let t : (k : ℕ) → getD (openRefusals g d n len checking code) k (0, false) .1 ≡ false
           = λ k. first-at (openRefusals g d n len checking code) (eqb-true _ 0 e) refl k in
-          opened-fits n len checking code (not-false _ (t (ownRow 1))) (length-range len (not-false _ (t (ownRow 0))) .1)
+          opened-fits (fold n) len checking code (not-false _ (t (ownRow 1))) (length-range len (not-false _ (t (ownRow 0))) .1)
       by false e = zeros-fit
 
   -- create, refused or accepted
   pub create-fits : (n : List ℕ) (f : NewFile) (checking : Bool) → Fits (create g d n f checking .0 .handle)
   unfolding create newInRange
-  create-fits n f checking = by (eqb (first (createRefusals g d n f checking)) 0) refl (missing g d n)
+  create-fits n f checking = by (eqb (first (createRefusals g d n f checking)) 0) refl (missing g d (fold n))
     where
       by : (t : Bool) → eqb (first (createRefusals g d n f checking)) 0 ≡ t → (new : Bool)
-          → Fits (cond t (cond new (record { slot = newSlot g d; name = n; at = 0; len = f .len; level = 0 })
-          (openedAt g d (slotOf g d n) n (f .len) checking (f .main))) noHandle)
+          → Fits (cond t (cond new (record { slot = newSlot g d; name = fold n; at = 0; len = f .len; level = 0 })
+          (openedAt g d (slotOf g d (fold n)) (fold n) (f .len) checking (f .main))) noHandle)
       by true e new =
           let t : (k : ℕ) → getD (createRefusals g d n f checking) k (0, false) .1 ≡ false
           = λ k. first-at (createRefusals g d n f checking) (eqb-true _ 0 e) refl k in
           let l = length-range (f .len) (all-at _ (not-false _ (t (ownRow 0))) 3) .1 in
           either new (not-false _ (t (ownRow 1))) l
         where
-          either : (new : Bool) → wellFormed n ≡ true → f .len ≤ 256
-              → Fits (cond new (record { slot = newSlot g d; name = n; at = 0; len = f .len; level = 0 })
-              (openedAt g d (slotOf g d n) n (f .len) checking (f .main)))
-          either true h l = record { slot = free-low; level = omega arith; len = omega arith; at = omega arith; name = well-length n h }
-          either false h l = opened-fits n (f .len) checking (f .main) h l
+          either : (new : Bool) → wellFormed (fold n) ≡ true → f .len ≤ 256
+              → Fits (cond new (record { slot = newSlot g d; name = fold n; at = 0; len = f .len; level = 0 })
+              (openedAt g d (slotOf g d (fold n)) (fold n) (f .len) checking (f .main)))
+          either true h l = record { slot = free-low; level = omega arith; len = omega arith; at = omega arith; name = well-length (fold n) h }
+          either false h l = opened-fits (fold n) (f .len) checking (f .main) h l
       by false e new = zeros-fit
 
   -- a position that advances is in range still, as bytes go

@@ -10,11 +10,10 @@ use lib.Dec.{eqb}
 use borrow.Author.Tests.{ne-eqb, leb-true}
 use Rattle.meaning.specs.Lists.{count, all, firstOr}
 use Rattle.meaning.specs.Layout.{entryAt, hitAt}
-use Rattle.meaning.specs.Names.{hash, wellFormed}
+use Rattle.meaning.specs.Names.{hash, wellFormed, fold}
 use Rattle.meaning.specs.Entries.{dateByte}
 use Rattle.meaning.specs.Free.{freeSlots, freeSlot, permitted}
-use Rattle.meaning.specs.Refusal.{carried}
-use Rattle.meaning.specs.Refusals.{refusal, first, check, newInRange, noHandle}
+use Rattle.meaning.specs.Refusals.{nameRefusal, first, check, newInRange, noHandle}
 use Rattle.meaning.specs.LookUp.{named, missing, slotOf}
 use Rattle.meaning.specs.Open.{admits, openedAt}
 use Rattle.meaning.specs.Create.{newEntry, newSlot, withEntry, createRefusals, create}
@@ -85,25 +84,25 @@ module _ (g : Geometry) (d : List ℕ) where
       by [] m q = absurd (z (q ∙ first-empty 256))
       by (y ∷ ys) m q = let v : x ≡ y = q ∙ first-is 256 y ys in (v ∙ sym (first-is 0 y ys), ne-eqb (suc (length ys)) 0 (λ q. omega arith), rw v (m y Members.In.here))
 
--- the answers
+-- the answers, of the name n that came in: the file is that of its fold
 module _ (g : Geometry) (d n : List ℕ) (f : NewFile) (checking : Bool) where
-  pub told : {no : ℕ} {c : Refusal} {r : Created} → c ≡ check g d → r ≡ record { refusal = carried c no; old = false; handle = noHandle }
+  pub told : {no : ℕ} {c : Refusal} {r : Created} → c ≡ nameRefusal g d n no → r ≡ record { refusal = c; old = false; handle = noHandle }
       → no ≡ first (createRefusals g d n f checking) → (no ≡ 0 → ⊥) → _≡_ {A = Created × List ℕ} (r, d) (create g d n f checking)
   unfolding create
   told {no} p q e z = rw (← e, ne-eqb no 0 z, q, p)
 
-  absent : named g d n ≡ [] → missing g d n ≡ true
+  absent : named g d (fold n) ≡ [] → missing g d (fold n) ≡ true
   absent e = ap (λ (l : List ℕ). eqb (length l) 0) e
 
-  there : {s : ℕ} → named g d n ≡ s ∷ [] → missing g d n ≡ false
+  there : {s : ℕ} → named g d (fold n) ≡ s ∷ [] → missing g d (fold n) ≡ false
   there e = ap (λ (l : List ℕ). eqb (length l) 0) e
 
-  pub opened : {s : ℕ} {h : Handle} {c : Refusal} → c ≡ refusal g d 0 → first (createRefusals g d n f checking) ≡ 0 → named g d n ≡ s ∷ [] → h ≡ openedAt g d s n (f .len) checking (f .main)
+  pub opened : {s : ℕ} {h : Handle} {c : Refusal} → c ≡ nameRefusal g d n 0 → first (createRefusals g d n f checking) ≡ 0 → named g d (fold n) ≡ s ∷ [] → h ≡ openedAt g d s (fold n) (f .len) checking (f .main)
       → _≡_ {A = Created × List ℕ} (record { refusal = c; old = true; handle = h }, d) (create g d n f checking)
   unfolding create
-  opened {s} y e m q = rw (e, there m, q, slot-found g d n (f .len) checking (f .main) m, y)
+  opened {s} y e m q = rw (e, there m, q, slot-found g d (fold n) (f .len) checking (f .main) m, y)
 
-  pub made : {x : ℕ} {m d′ : List ℕ} {c : Refusal} → c ≡ refusal g d 0 → first (createRefusals g d n f checking) ≡ 0 → named g d n ≡ [] → x ≡ newSlot g d → m ≡ n → d′ ≡ withEntry g d x n f
+  pub made : {x : ℕ} {m d′ : List ℕ} {c : Refusal} → c ≡ nameRefusal g d n 0 → first (createRefusals g d n f checking) ≡ 0 → named g d (fold n) ≡ [] → x ≡ newSlot g d → m ≡ fold n → d′ ≡ withEntry g d x (fold n) f
       → _≡_ {A = Created × List ℕ} (record { refusal = c; old = false; handle = record { slot = x; name = m; at = 0; len = f .len; level = 0 } }, d′) (create g d n f checking)
   unfolding create
   made y e m q v w = rw (w, v, q, e, absent m, y)
@@ -115,35 +114,35 @@ module _ (g : Geometry) (d n : List ℕ) (f : NewFile) (checking : Bool) where
   pub by-range : {c : Refusal} → c ≡ check g d → c .number ≡ 0 → newInRange f ≡ false → 12 ≡ first (createRefusals g d n f checking)
   by-range e z r = sym (check-then g d _ e z ∙ first-hit (not-no r) 12 _)
 
-  pub by-name : {c : Refusal} → c ≡ check g d → c .number ≡ 0 → newInRange f ≡ true → wellFormed n ≡ false → 3 ≡ first (createRefusals g d n f checking)
+  pub by-name : {c : Refusal} → c ≡ check g d → c .number ≡ 0 → newInRange f ≡ true → wellFormed (fold n) ≡ false → 3 ≡ first (createRefusals g d n f checking)
   by-name e z r w = sym (check-then g d _ e z ∙ first-skip (not-yes r) 12 _ ∙ first-hit (not-no w) 3 _)
 
   abbrev code : Bool
-  code = all (not (missing g d n) ∷ not (admits g d (slotOf g d n) checking (f .main)) ∷ [])
+  code = all (not (missing g d (fold n)) ∷ not (admits g d (slotOf g d (fold n)) checking (f .main)) ∷ [])
 
   abbrev full : Bool
-  full = all (missing g d n ∷ eqb (length (freeSlots g d)) 0 ∷ [])
+  full = all (missing g d (fold n) ∷ eqb (length (freeSlots g d)) 0 ∷ [])
 
-  named-first : {c : Refusal} → c ≡ check g d → c .number ≡ 0 → newInRange f ≡ true → wellFormed n ≡ true → first (createRefusals g d n f checking) ≡ first ((5, code) ∷ (8, full) ∷ [])
+  named-first : {c : Refusal} → c ≡ check g d → c .number ≡ 0 → newInRange f ≡ true → wellFormed (fold n) ≡ true → first (createRefusals g d n f checking) ≡ first ((5, code) ∷ (8, full) ∷ [])
   named-first e z r w = check-then g d _ e z ∙ first-skip (not-yes r) 12 _ ∙ first-skip (not-yes w) 3 _
 
   -- where the file is there: 5, or it is opened
-  pub by-code : {c : Refusal} {s : ℕ} → c ≡ check g d → c .number ≡ 0 → newInRange f ≡ true → wellFormed n ≡ true → named g d n ≡ s ∷ [] → admits g d s checking (f .main) ≡ false
+  pub by-code : {c : Refusal} {s : ℕ} → c ≡ check g d → c .number ≡ 0 → newInRange f ≡ true → wellFormed (fold n) ≡ true → named g d (fold n) ≡ s ∷ [] → admits g d s checking (f .main) ≡ false
       → 5 ≡ first (createRefusals g d n f checking)
   by-code e z r w m a =
-      sym (named-first e z r w ∙ first-hit (all-yes (not-no (there m)) _ ∙ all-yes (not-no (ap (λ (s : ℕ). admits g d s checking (f .main)) (slot-found g d n (f .len) checking (f .main) m) ∙ a)) _ ∙ all-none) 5 _)
+      sym (named-first e z r w ∙ first-hit (all-yes (not-no (there m)) _ ∙ all-yes (not-no (ap (λ (s : ℕ). admits g d s checking (f .main)) (slot-found g d (fold n) (f .len) checking (f .main) m) ∙ a)) _ ∙ all-none) 5 _)
 
-  pub is-old : {c : Refusal} {s : ℕ} → c ≡ check g d → c .number ≡ 0 → newInRange f ≡ true → wellFormed n ≡ true → named g d n ≡ s ∷ [] → admits g d s checking (f .main) ≡ true
+  pub is-old : {c : Refusal} {s : ℕ} → c ≡ check g d → c .number ≡ 0 → newInRange f ≡ true → wellFormed (fold n) ≡ true → named g d (fold n) ≡ s ∷ [] → admits g d s checking (f .main) ≡ true
       → first (createRefusals g d n f checking) ≡ 0
   is-old e z r w m a =
-      named-first e z r w ∙ first-skip (all-yes (not-no (there m)) _ ∙ all-no (not-yes (ap (λ (s : ℕ). admits g d s checking (f .main)) (slot-found g d n (f .len) checking (f .main) m) ∙ a)) _) 5 _
+      named-first e z r w ∙ first-skip (all-yes (not-no (there m)) _ ∙ all-no (not-yes (ap (λ (s : ℕ). admits g d s checking (f .main)) (slot-found g d (fold n) (f .len) checking (f .main) m) ∙ a)) _) 5 _
       ∙ first-skip (all-no (there m) _) 8 _ ∙ first-none
 
   -- where it is not: 8, or it is made
-  pub by-slot : {c : Refusal} → c ≡ check g d → c .number ≡ 0 → newInRange f ≡ true → wellFormed n ≡ true → named g d n ≡ [] → eqb (length (freeSlots g d)) 0 ≡ true
+  pub by-slot : {c : Refusal} → c ≡ check g d → c .number ≡ 0 → newInRange f ≡ true → wellFormed (fold n) ≡ true → named g d (fold n) ≡ [] → eqb (length (freeSlots g d)) 0 ≡ true
       → 8 ≡ first (createRefusals g d n f checking)
   by-slot e z r w m a = sym (named-first e z r w ∙ first-skip (all-no (not-yes (absent m)) _) 5 _ ∙ first-hit (all-yes (absent m) _ ∙ all-yes a _ ∙ all-none) 8 _)
 
-  pub is-new : {c : Refusal} → c ≡ check g d → c .number ≡ 0 → newInRange f ≡ true → wellFormed n ≡ true → named g d n ≡ [] → eqb (length (freeSlots g d)) 0 ≡ false
+  pub is-new : {c : Refusal} → c ≡ check g d → c .number ≡ 0 → newInRange f ≡ true → wellFormed (fold n) ≡ true → named g d (fold n) ≡ [] → eqb (length (freeSlots g d)) 0 ≡ false
       → first (createRefusals g d n f checking) ≡ 0
   is-new e z r w m a = named-first e z r w ∙ first-skip (all-no (not-yes (absent m)) _) 5 _ ∙ first-skip (all-yes (absent m) _ ∙ all-no a _) 8 _ ∙ first-none

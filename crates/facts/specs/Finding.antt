@@ -10,9 +10,10 @@ use Rattle.meaning.specs.Names.{hash}
 use Rattle.meaning.specs.LookUp.{lookUp}
 use Rattle.meaning.specs.Open.{open′}
 use Rattle.meaning.specs.Create.{create}
-use Rattle.meaning.specs.Samples.{changed, written, held, puls, leer, three, sample, hits, e82, opened}
+use Rattle.meaning.specs.Trim.{trim}
+use Rattle.meaning.specs.Samples.{changed, written, held, puls, small, leer, three, sample, hits, e82, opened}
 use Rattle.meaning.specs.declared.NewFile.{NewFile}
-use Rattle.facts.specs.Disks.{broken, answered, puls13, neu, crowd, crowdOfData, crowded}
+use Rattle.facts.specs.Disks.{broken, answered, mixed, puls13, neu, neu′, crowd, crowdOfData, crowded}
 
 -- Look up -----------------------------------------------------------------------------------------------------------------
 
@@ -31,13 +32,18 @@ look-up-misses : lookUp three sample puls13 ≡ record { refusal = unplaced 4; s
 unfolding opened
 look-up-misses = refl
 
-look-up-of-no-name : lookUp three sample (0x70 ∷ replicate 10 0x20) ≡ record { refusal = unplaced 3; slot = 0; compared = 0 }
+look-up-of-no-name : lookUp three sample (0x40 ∷ replicate 10 0x20) ≡ record { refusal = placed 3 0; slot = 0; compared = 0 }
 unfolding opened
 look-up-of-no-name = refl
 
-look-up-of-a-short-name : lookUp three sample (0x50 ∷ replicate 9 0x20) ≡ record { refusal = unplaced 3; slot = 0; compared = 0 }
+look-up-of-a-short-name : lookUp three sample (0x50 ∷ replicate 9 0x20) ≡ record { refusal = placed 3 0; slot = 0; compared = 0 }
 unfolding opened
 look-up-of-a-short-name = refl
+
+-- 02 §7: puls01/dat is PULS01/DAT, and so is Puls01/Dat
+look-up-in-small-letters : (lookUp three sample small ≡ lookUp three sample puls) × (lookUp three sample mixed ≡ lookUp three sample puls)
+unfolding opened
+look-up-in-small-letters = (refl, refl)
 
 look-up-refused : lookUp three broken puls ≡ record { refusal = placed 22 0x80; slot = 0; compared = 0 }
 unfolding opened
@@ -88,6 +94,17 @@ create-makes = refl
 create-opens : create three sample puls (new 31 0x5678) true ≡ (record { refusal = unplaced 0; old = true; handle = held 0xa3 puls 0 256 5 }, sample)
 unfolding opened
 create-opens = refl
+
+-- created in small letters, then with capitals among them: the file is there
+create-then-again : create three (create three sample neu′ (new 31 0xabcd) true .1) neu (new 31 0xabcd) true
+    ≡ (record { refusal = unplaced 0; old = true; handle = held 0x82 neu 0 256 0 }, create three sample neu (new 31 0xabcd) true .1)
+unfolding opened
+create-then-again = refl
+
+-- a handle in small letters, made up by the caller, is stale
+trim-by-small-letters : trim three sample (held 0xa3 small 0 256 0) ≡ (answered 7 (held 0xa3 small 0 256 0), sample)
+unfolding opened
+trim-by-small-letters = refl
 
 create-by-wrong-code : create three sample puls (new 31 0x0102) true ≡ (record { refusal = unplaced 5; old = false; handle = noHandle }, sample)
 unfolding opened

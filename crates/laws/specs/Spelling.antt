@@ -53,7 +53,8 @@ blank-stays : (xs : List ℕ) → every (eqb 0x20) xs ≡ true → map foldByte 
 blank-stays [] e = refl
 blank-stays (x ∷ xs) e = by (eqb 0x20 x) refl e (blank-stays xs)
   where
-    by : (b : Bool) → eqb 0x20 x ≡ b → (b && every (eqb 0x20) xs) ≡ true → (every (eqb 0x20) xs ≡ true → map foldByte xs ≡ xs) → foldByte x ∷ map foldByte xs ≡ x ∷ xs
+    by : (b : Bool) → eqb 0x20 x ≡ b → (b && every (eqb 0x20) xs) ≡ true → (every (eqb 0x20) xs ≡ true → map foldByte xs ≡ xs)
+        → foldByte x ∷ map foldByte xs ≡ x ∷ xs
     by true q r ih = let z = eqb-true 0x20 x q in let s = low-stays x (omega arith) in let h = ih r in λ i. s i ∷ h i
     by false q r ih = absurd (Members.true-T r)
 
@@ -61,7 +62,8 @@ padded-stays : (xs : List ℕ) → padded xs ≡ true → map foldByte xs ≡ xs
 padded-stays [] e = refl
 padded-stays (x ∷ xs) e = by (letter x) refl e (padded-stays xs)
   where
-    by : (b : Bool) → letter x ≡ b → cond b (padded xs) (every (eqb 0x20) (x ∷ xs)) ≡ true → (padded xs ≡ true → map foldByte xs ≡ xs) → foldByte x ∷ map foldByte xs ≡ x ∷ xs
+    by : (b : Bool) → letter x ≡ b → cond b (padded xs) (every (eqb 0x20) (x ∷ xs)) ≡ true → (padded xs ≡ true → map foldByte xs ≡ xs)
+        → foldByte x ∷ map foldByte xs ≡ x ∷ xs
     by true q r ih = let s = letter-stays x q in let h = ih r in λ i. s i ∷ h i
     by false q r ih = blank-stays (x ∷ xs) r
 
@@ -190,7 +192,8 @@ pub place-inside : (n : List ℕ) → wellFormed n ≡ false → badPlace n < no
 unfolding badPlace
 place-inside n e = by (eqb (length n) 11) refl (letter (getD n 0 0)) (ltb (good (take 8 n)) 8) refl (λ z. Members.false-no e (Members.true-T (place-well n z)))
   where
-    by : (a : Bool) → eqb (length n) 11 ≡ a → (b c : Bool) → ltb (good (take 8 n)) 8 ≡ c → (cond (a && b) (cond c (good (take 8 n)) (8 + good (drop 8 n))) 0 ≢ 11)
+    by : (a : Bool) → eqb (length n) 11 ≡ a → (b c : Bool) → ltb (good (take 8 n)) 8 ≡ c
+        → (cond (a && b) (cond c (good (take 8 n)) (8 + good (drop 8 n))) 0 ≢ 11)
         → cond (a && b) (cond c (good (take 8 n)) (8 + good (drop 8 n))) 0 < 11
     by false p b c r z = omega arith
     by true p false c r z = omega arith

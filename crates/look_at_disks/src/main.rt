@@ -345,8 +345,8 @@ fn opens(image: &[u8]) {
     open_file(
         image,
         small(),
-        b"open puls01/dat",
-        b"puls01  dat",
+        b"open PULS.01/DAT",
+        b"PULS.01 DAT",
         5,
         true,
         0x1234,

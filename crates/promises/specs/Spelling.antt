@@ -157,27 +157,47 @@ module _ (g : Geometry) (d n : List ℕ) where
   create-fold f checking = rw (fold-twice n)
 
   -- 3 carries the place
-  says : (no : ℕ) → no ≡ 3 → Refusing.Checked g d → wellFormed (fold n) ≡ false → BadAt (fold n) (nameRefusal g d n no .at)
-  says no e c w =
+  says : (k : ℕ) → k ≡ 3 → Refusing.Checked g d → wellFormed (fold n) ≡ false → BadAt (fold n) (nameRefusal g d n k .at)
+  says k e c w =
       let z = Refusing.checked-none g d c in
       let own = ap (nameRefusal g d n) e ∙ carried-second (check g d) (badAt n) (λ q. omega (arith, q, z)) ∙ carried-own (badAt n) refl in
       subst (BadAt (fold n)) (sym (ap {B = ℕ} (λ (r : Refusal). r .at) own)) (bad-at (fold n) w)
 
-  rows : (c : Call) (rs : Promises.Table) → Promises.Exactly (number g d c) (Promises.diskCases g d rs) → Promises.Rows (number g d c) (Refusing.Checked g d) rs
-  rows c rs x = Refusing.own-rows g d rs (number g d c) x
-
   look-place : SaysPlace n (lookUp g d n .refusal)
-  unfolding lookUp number
-  look-place e = let r = rows (Call.looksUp n) _ (Refusing.numbers g d (Call.looksUp n)) .0 .0 e in says _ e (r .0) (r .1)
+  look-place e = go (rows .0 .0 (known e))
+    where
+      rows : Promises.Rows (number g d (Call.looksUp n)) (Refusing.Checked g d) (Refusing.ownCases (Promises.table g d (Call.looksUp n)))
+      rows = Refusing.own-rows g d (Refusing.ownCases (Promises.table g d (Call.looksUp n))) (number g d (Call.looksUp n)) (Refusing.numbers g d (Call.looksUp n))
+
+      known : lookUp g d n .refusal .number ≡ 3 → number g d (Call.looksUp n) ≡ 3
+      known e = unfold number in e
+
+      go : Refusing.Checked g d × (wellFormed (fold n) ≡ false) → BadAt (fold n) (lookUp g d n .refusal .at)
+      go r = unfold lookUp in says _ e (r .0) (r .1)
 
   open-place : (len : ℕ) (checking : Bool) (code : ℕ) → SaysPlace n (open′ g d n len checking code .refusal)
-  unfolding open′ number
-  open-place len checking code e =
-      let r = rows (Call.opens n len checking code) _ (Refusing.numbers g d (Call.opens n len checking code)) .1 .0 .0 e in says _ e (r .0 .0) (r .1)
+  open-place len checking code e = let r = rows .1 .0 .0 (known e) in go (r .0 .0) (r .1)
+    where
+      rows : Promises.Rows (number g d (Call.opens n len checking code)) (Refusing.Checked g d) (Refusing.ownCases (Promises.table g d (Call.opens n len checking code)))
+      rows = Refusing.own-rows g d (Refusing.ownCases (Promises.table g d (Call.opens n len checking code))) (number g d (Call.opens n len checking code)) (Refusing.numbers g d (Call.opens n len checking code))
+
+      known : open′ g d n len checking code .refusal .number ≡ 3 → number g d (Call.opens n len checking code) ≡ 3
+      known e = unfold number in e
+
+      go : Refusing.Checked g d → wellFormed (fold n) ≡ false → BadAt (fold n) (open′ g d n len checking code .refusal .at)
+      go c w = unfold open′ in says _ e c w
 
   create-place : (f : NewFile) (checking : Bool) → SaysPlace n (create g d n f checking .0 .refusal)
-  unfolding create number
-  create-place f checking e = let r = rows (Call.creates n f checking) _ (Refusing.numbers g d (Call.creates n f checking)) .1 .0 .0 e in says _ e (r .0 .0) (r .1)
+  create-place f checking e = let r = rows .1 .0 .0 (known e) in go (r .0 .0) (r .1)
+    where
+      rows : Promises.Rows (number g d (Call.creates n f checking)) (Refusing.Checked g d) (Refusing.ownCases (Promises.table g d (Call.creates n f checking)))
+      rows = Refusing.own-rows g d (Refusing.ownCases (Promises.table g d (Call.creates n f checking))) (number g d (Call.creates n f checking)) (Refusing.numbers g d (Call.creates n f checking))
+
+      known : create g d n f checking .0 .refusal .number ≡ 3 → number g d (Call.creates n f checking) ≡ 3
+      known e = unfold number in e
+
+      go : Refusing.Checked g d → wellFormed (fold n) ≡ false → BadAt (fold n) (create g d n f checking .0 .refusal .at)
+      go c w = unfold create in says _ e c w
 
   pub by-name : ByName g d n
   by-name = record {

@@ -15,8 +15,8 @@ use Rattle.meaning.specs.Consistent.{nameHolds, pairsHold, followsBy, linkHolds
 use Rattle.meaning.specs.Free.{freeGranules, freeSlots}
 use Rattle.meaning.specs.Growth.{Grown, fails, diskOr, orElse, growBy, growth}
 use Rattle.meaning.specs.Drop.{unhooked, dropOne}
-use Rattle.meaning.specs.Refusal.{unplaced, carried}
-use Rattle.meaning.specs.Refusals.{badGeometry, byNumber, faultNumbers, diskRefusals, refusal, accepted, badName, goodLength, newInRange, inRange, fresh, staleHandle, handleRefusals, notForReading, protected, lacking, noHandle, movedTo}
+use Rattle.meaning.specs.Refusal.{unplaced, carried, carriedTwo}
+use Rattle.meaning.specs.Refusals.{badGeometry, byNumber, faultNumbers, diskRefusals, refusal, accepted, badName, goodLength, newInRange, inRange, fresh, staleHandle, handleRefusals, notForReading, protected, lacking, noHandle, movedTo, badAt, nameRefusal}
 use Rattle.meaning.specs.LookUp.{candidates, carries, comparedIn, named, lookUp, missing}
 use Rattle.meaning.specs.Open.{full, admits, open′, openedAt}
 use Rattle.meaning.specs.Create.{create, withEntry}
@@ -49,6 +49,9 @@ module _ (g : Geometry) (b : Bool) (d : List ℕ) where
   refusal-same : refusal g d ≡ refusal (stated b g) d
   refusal-same = λ i n. carried (check-same g b d i) n
 
+  name-refusal-same : nameRefusal g d ≡ nameRefusal (stated b g) d
+  name-refusal-same = λ i n k. carriedTwo (check-same g b d i) (badAt n) k
+
   handleRefusals-same : handleRefusals g d ≡ handleRefusals (stated b g) d
   unfolding fresh isSlot directorySectors nameOf field
   handleRefusals-same = λ i x ranged rest. diskRefusals-same i ((12, not ranged) ∷ staleHandle g d x ∷ rest)
@@ -78,7 +81,7 @@ module _ (g : Geometry) (b : Bool) (d : List ℕ) where
       λ i. let m = comesIn n .name in
       let no = first (diskRefusals-same i (badName n ∷ (4, eqb (length (named-same i m)) 0) ∷ [])) in
       record {
-        refusal = refusal-same i no;
+        refusal = name-refusal-same i n no;
         slot = cond (accepted no) (firstOr 0 (named-same i m)) 0;
         compared = cond (has (0 ∷ 4 ∷ []) no) (comparedIn-same m (candidates-same i m) i) 0;
       }
@@ -98,7 +101,7 @@ module _ (g : Geometry) (b : Bool) (d : List ℕ) where
       let no = first (diskRefusals-same i ((12, not (goodLength len)) ∷ badName n ∷ (4, eqb (length (named-same i m)) 0)
       ∷ (5, not (admits-same i (firstOr 0 (named-same i m)) checking code)) ∷ [])) in
       record {
-        refusal = refusal-same i no;
+        refusal = name-refusal-same i n no;
         handle = cond (accepted no) (openedAt-same i (firstOr 0 (named-same i m)) m len checking code) noHandle;
       }
 
@@ -115,7 +118,7 @@ module _ (g : Geometry) (b : Bool) (d : List ℕ) where
       ∷ (5, all (not new ∷ not (admits-same i s checking (f .main)) ∷ []))
       ∷ (8, all (new ∷ eqb (length slots′) 0 ∷ [])) ∷ [])) in (
         record {
-          refusal = refusal-same i no;
+          refusal = name-refusal-same i n no;
           old = accepted no && not new;
           handle = cond (accepted no)
               (cond new (record { slot = x; name = m; at = 0; len = f .len; level = 0 })

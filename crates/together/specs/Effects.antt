@@ -13,6 +13,7 @@ use Rattle.meaning.specs.Consistent.{consistent}
 use Rattle.meaning.specs.Lists.{firstOr}
 use Rattle.meaning.specs.Free.{freeSlots}
 use Rattle.meaning.specs.Refusals.{movedTo, noHandle}
+use Rattle.meaning.specs.Names.{fold}
 use Rattle.meaning.specs.LookUp.{lookUp, named, missing}
 use Rattle.meaning.specs.Open.{open′, full, openedAt}
 use Rattle.meaning.specs.Create.{create}
@@ -151,26 +152,6 @@ module _ (g : Geometry) (n : Name) (d : List ℕ) (hs : List Handle) (k : Good g
   stands-same : (m : Name) → m ≢ n → stands g d m ≡ stands g d m
   stands-same m q = refl
 
-  look-effect : lookUp g d n .refusal .number ≡ 0 → Effect g n d hs looksUp d hs
-  unfolding effect
-  look-effect e = record { good = k; held = held; file = refl; grips = refl; spares = stands-same }
-
-  open-effect : (len : ℕ) (checking : Bool) (code : ℕ) → open′ g d n len checking code .refusal .number ≡ 0
-      → Effect g n d hs (opens len checking code) d (hs ++ (open′ g d n len checking code .handle ∷ []))
-  unfolding effect open′
-  open-effect len checking code e =
-      let p₂ = Passed.disk-passed g d _ e in
-      let p₃ = Passed.passed 12 _ _ (omega arith) (p₂ .1) in
-      let p₄ = Passed.passed 3 _ _ (omega arith) (p₃ .1) in
-      let p₅ = Passed.passed 4 _ _ (omega arith) (p₄ .1) in
-      rw e (record {
-        good = k;
-        held = held-snoc n hs (openedAt g d (firstOr 0 (named g d n)) n len checking code) held refl;
-        file = refl;
-        grips = map-snoc hs _ ∙ ap (λ (l : ℕ). map grip hs ++ (record { name = n; at = 0; len = len; level = l } ∷ [])) (open-level g d n checking code (p₅ .0));
-        spares = stands-same;
-      })
-
   place-effect : (i at : ℕ) → T (ltb i (length hs)) → Effect g n d hs (moves i at) d (set hs i (movedTo (handleAt hs i) at))
   unfolding effect
   place-effect i at t = record {
@@ -275,31 +256,53 @@ module _ (g : Geometry) (n : Name) (d : List ℕ) (hs : List Handle) (k : Good g
         spares = stands-others g d n h w q d′ (x .others);
       }
 
-  create-old : (f : NewFile) (checking : Bool) → create g d n f checking .0 .refusal .number ≡ 0 → (T (missing g d n) → ⊥)
-      → Effect g n d hs (creates f checking) (create g d n f checking .1) (hs ++ (create g d n f checking .0 .handle ∷ []))
+-- by name: n is the name as the caller gives it
+module _ (g : Geometry) (n : Name) (d : List ℕ) (hs : List Handle) (k : Good g d) (held : Held (fold n) hs) where
+  look-effect : lookUp g d n .refusal .number ≡ 0 → Effect g (fold n) d hs looksUp d hs
+  unfolding effect
+  look-effect e = record { good = k; held = held; file = refl; grips = refl; spares = stands-same g (fold n) d hs k held }
+
+  open-effect : (len : ℕ) (checking : Bool) (code : ℕ) → open′ g d n len checking code .refusal .number ≡ 0
+      → Effect g (fold n) d hs (opens len checking code) d (hs ++ (open′ g d n len checking code .handle ∷ []))
+  unfolding effect open′
+  open-effect len checking code e =
+      let p₂ = Passed.disk-passed g d _ e in
+      let p₃ = Passed.passed 12 _ _ (omega arith) (p₂ .1) in
+      let p₄ = Passed.passed 3 _ _ (omega arith) (p₃ .1) in
+      let p₅ = Passed.passed 4 _ _ (omega arith) (p₄ .1) in
+      rw e (record {
+        good = k;
+        held = held-snoc (fold n) hs (openedAt g d (firstOr 0 (named g d (fold n))) (fold n) len checking code) held refl;
+        file = refl;
+        grips = map-snoc hs _ ∙ ap (λ (l : ℕ). map grip hs ++ (record { name = fold n; at = 0; len = len; level = l } ∷ [])) (open-level g d (fold n) checking code (p₅ .0));
+        spares = stands-same g (fold n) d hs k held;
+      })
+
+  create-old : (f : NewFile) (checking : Bool) → create g d n f checking .0 .refusal .number ≡ 0 → (T (missing g d (fold n)) → ⊥)
+      → Effect g (fold n) d hs (creates f checking) (create g d n f checking .1) (hs ++ (create g d n f checking .0 .handle ∷ []))
   unfolding create effect
-  create-old f checking e t = rw (e, Members.no-false {b = missing g d n} t) (record {
+  create-old f checking e t = rw (e, Members.no-false {b = missing g d (fold n)} t) (record {
     good = k;
-    held = held-snoc n hs (openedAt g d (firstOr 0 (named g d n)) n (f .len) checking (f .main)) held refl;
-    file = stands-old g d n f t;
-    grips = map-snoc hs _ ∙ ap (λ (l : ℕ). map grip hs ++ (record { name = n; at = 0; len = f .len; level = l } ∷ [])) (open-level g d n checking (f .main) t);
-    spares = stands-same;
+    held = held-snoc (fold n) hs (openedAt g d (firstOr 0 (named g d (fold n))) (fold n) (f .len) checking (f .main)) held refl;
+    file = stands-old g d (fold n) f t;
+    grips = map-snoc hs _ ∙ ap (λ (l : ℕ). map grip hs ++ (record { name = fold n; at = 0; len = f .len; level = l } ∷ [])) (open-level g d (fold n) checking (f .main) t);
+    spares = stands-same g (fold n) d hs k held;
   })
 
-  new-handle : (f : NewFile) (checking : Bool) → create g d n f checking .0 .refusal .number ≡ 0 → T (missing g d n)
-      → (create g d n f checking .0 .old ≡ false) × (create g d n f checking .0 .handle ≡ record { slot = firstOr 0 (freeSlots g d); name = n; at = 0; len = f .len; level = 0 })
+  new-handle : (f : NewFile) (checking : Bool) → create g d n f checking .0 .refusal .number ≡ 0 → T (missing g d (fold n))
+      → (create g d n f checking .0 .old ≡ false) × (create g d n f checking .0 .handle ≡ record { slot = firstOr 0 (freeSlots g d); name = fold n; at = 0; len = f .len; level = 0 })
   unfolding create
-  new-handle f checking e t = rw (e, Members.T-true {b = missing g d n} t) (refl, refl)
+  new-handle f checking e t = rw (e, Members.T-true {b = missing g d (fold n)} t) (refl, refl)
 
-  new-file : (f : NewFile) (d′ : List ℕ) → T (missing g d n) → plain g d′ n ≡ found (bornAs f) → stands g d′ n ≡ born f (stands g d n)
+  new-file : (f : NewFile) (d′ : List ℕ) → T (missing g d (fold n)) → plain g d′ (fold n) ≡ found (bornAs f) → stands g d′ (fold n) ≡ born f (stands g d (fold n))
   unfolding born
-  new-file f d′ t e = told ∙ sym (ap (born f) (stands-missing g d n t))
+  new-file f d′ t e = told ∙ sym (ap (born f) (stands-missing g d (fold n) t))
     where
-      told : stands g d′ n ≡ hush (found (bornAs f))
+      told : stands g d′ (fold n) ≡ hush (found (bornAs f))
       told = unfold stands in ap hush e
 
-  create-new : (f : NewFile) (checking : Bool) → create g d n f checking .0 .refusal .number ≡ 0 → T (missing g d n)
-      → Effect g n d hs (creates f checking) (create g d n f checking .1) (hs ++ (create g d n f checking .0 .handle ∷ []))
+  create-new : (f : NewFile) (checking : Bool) → create g d n f checking .0 .refusal .number ≡ 0 → T (missing g d (fold n))
+      → Effect g (fold n) d hs (creates f checking) (create g d n f checking .1) (hs ++ (create g d n f checking .0 .handle ∷ []))
   unfolding effect stands
   create-new f checking e t =
       let h = new-handle f checking e t in
@@ -307,32 +310,32 @@ module _ (g : Geometry) (n : Name) (d : List ℕ) (hs : List Handle) (k : Good g
       let d′ = create g d n f checking .1 in
       record {
         good = good-after g d d′ k (x .long) (x .consistent′);
-        held = held-snoc n hs _ held (ap (λ (y : Handle). y .name) (h .1));
+        held = held-snoc (fold n) hs _ held (ap (λ (y : Handle). y .name) (h .1));
         file = new-file f d′ t (x .born);
         grips = map-snoc hs _ ∙ ap (λ (y : Handle). map grip hs ++ (grip y ∷ [])) (h .1)
-            ∙ ap (λ (l : ℕ). map grip hs ++ (record { name = n; at = 0; len = f .len; level = l } ∷ [])) (new-level g checking (f .main) (stands g d n) (stands-missing g d n t));
+            ∙ ap (λ (l : ℕ). map grip hs ++ (record { name = fold n; at = 0; len = f .len; level = l } ∷ [])) (new-level g checking (f .main) (stands g d (fold n)) (stands-missing g d (fold n) t));
         spares = x .others;
       }
 
   create-effect : (f : NewFile) (checking : Bool) → create g d n f checking .0 .refusal .number ≡ 0
-      → Effect g n d hs (creates f checking) (create g d n f checking .1) (hs ++ (create g d n f checking .0 .handle ∷ []))
-  create-effect f checking e = go (Members.decide (missing g d n))
+      → Effect g (fold n) d hs (creates f checking) (create g d n f checking .1) (hs ++ (create g d n f checking .0 .handle ∷ []))
+  create-effect f checking e = go (Members.decide (missing g d (fold n)))
     where
-      go : Members.Test (missing g d n) → Effect g n d hs (creates f checking) (create g d n f checking .1) (hs ++ (create g d n f checking .0 .handle ∷ []))
+      go : Members.Test (missing g d (fold n)) → Effect g (fold n) d hs (creates f checking) (create g d n f checking .1) (hs ++ (create g d n f checking .0 .handle ∷ []))
       go (Members.Test.fails t) = create-old f checking e t
       go (Members.Test.holds t) = create-new f checking e t
 
 -- the call as one of the list
-pub has-effect : (g : Geometry) (n : Name) (d : List ℕ) (s : Side) (c : Step) → Good g d → Held n (s .handles) → T (known (s .handles) c) → answer g n d s c .number ≡ 0
-    → Effect g n d (s .handles) c (answer g n d s c .disk) (answer g n d s c .side .handles)
+pub has-effect : (g : Geometry) (n : Name) (d : List ℕ) (s : Side) (c : Step) → Good g d → Held (fold n) (s .handles) → T (known (s .handles) c) → answer g n d s c .number ≡ 0
+    → Effect g (fold n) d (s .handles) c (answer g n d s c .disk) (answer g n d s c .side .handles)
 unfolding answer number leaves known
 has-effect g n d s looksUp k h t e = look-effect g n d (s .handles) k h e
 has-effect g n d s (opens len checking code) k h t e = open-effect g n d (s .handles) k h len checking code e
 has-effect g n d s (creates f checking) k h t e = create-effect g n d (s .handles) k h f checking e
-has-effect g n d s (moves i at) k h t e = place-effect g n d (s .handles) k h i at t
-has-effect g n d s (reads i b) k h t e = read-effect g n d (s .handles) k h i b t e
-has-effect g n d s (readsSector i j) k h t e = sector-effect g n d (s .handles) k h i j
-has-effect g n d s (writes m i b) k h t e = write-effect g n d (s .handles) k h m i b t e
-has-effect g n d s (allots i j) k h t e = allot-effect g n d (s .handles) k h i j t e
-has-effect g n d s (trims i) k h t e = trim-effect g n d (s .handles) k h i t e
-has-effect g n d s (kills i) k h t e = kill-effect g n d (s .handles) k h i t e
+has-effect g n d s (moves i at) k h t e = place-effect g (fold n) d (s .handles) k h i at t
+has-effect g n d s (reads i b) k h t e = read-effect g (fold n) d (s .handles) k h i b t e
+has-effect g n d s (readsSector i j) k h t e = sector-effect g (fold n) d (s .handles) k h i j
+has-effect g n d s (writes m i b) k h t e = write-effect g (fold n) d (s .handles) k h m i b t e
+has-effect g n d s (allots i j) k h t e = allot-effect g (fold n) d (s .handles) k h i j t e
+has-effect g n d s (trims i) k h t e = trim-effect g (fold n) d (s .handles) k h i t e
+has-effect g n d s (kills i) k h t e = kill-effect g (fold n) d (s .handles) k h i t e

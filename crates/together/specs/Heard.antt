@@ -7,6 +7,7 @@ use mathlib.Core.List.{List, [], _∷_, _++_, map, append-nil, append-assoc}
 use lib.Dec.{T, ltb}
 use lib.ListN.{length, getD, take, drop, replicate, List·getD-map}
 use lib.Seq.{slice}
+use Rattle.meaning.specs.Names.{fold}
 use Rattle.meaning.specs.Refusals.{noHandle}
 use Rattle.meaning.specs.Calls.{Call, number, leaves}
 use Rattle.meaning.specs.Read.{readRecord, readSector}
@@ -85,15 +86,15 @@ module _ (g : Geometry) (n : Name) (d : List ℕ) (s : Side) (held : Held n (s .
       ∙ part-kept (sectorOf k) (r .file) (slice (readSector g d (handleAt hs i) k .from) (readSector g d (handleAt hs i) k .to) d) (r .part)
       ∙ ap (λ (x : Found). partOf (sectorOf k) (hush x)) (sym c)
 
-call-heard : (g : Geometry) (n : Name) (d : List ℕ) (s : Side) (c : Step) → Held n (s .handles) → AreBytes d → T (known (s .handles) c) → answer g n d s c .number ≡ 0
-    → answer g n d s c .side .heard ≡ s .heard ++ hears c (stateOf g n d (s .handles))
+call-heard : (g : Geometry) (n : Name) (d : List ℕ) (s : Side) (c : Step) → Held (fold n) (s .handles) → AreBytes d → T (known (s .handles) c) → answer g n d s c .number ≡ 0
+    → answer g n d s c .side .heard ≡ s .heard ++ hears c (stateOf g (fold n) d (s .handles))
 unfolding answer number leaves known hears
 call-heard g n d s looksUp h u t e = sym (append-nil (s .heard))
 call-heard g n d s (opens len checking code) h u t e = sym (append-nil (s .heard))
 call-heard g n d s (creates f checking) h u t e = sym (append-nil (s .heard))
 call-heard g n d s (moves i at) h u t e = sym (append-nil (s .heard))
-call-heard g n d s (reads i b) h u t e = ap (λ (x : List ℕ). s .heard ++ (x ∷ [])) (read-kept g n d s h i b t e)
-call-heard g n d s (readsSector i k) h u t e = ap (λ (x : List ℕ). s .heard ++ (x ∷ [])) (sector-kept g n d s h u i k t e)
+call-heard g n d s (reads i b) h u t e = ap (λ (x : List ℕ). s .heard ++ (x ∷ [])) (read-kept g (fold n) d s h i b t e)
+call-heard g n d s (readsSector i k) h u t e = ap (λ (x : List ℕ). s .heard ++ (x ∷ [])) (sector-kept g (fold n) d s h u i k t e)
 call-heard g n d s (writes m i b) h u t e = sym (append-nil (s .heard))
 call-heard g n d s (allots i k) h u t e = sym (append-nil (s .heard))
 call-heard g n d s (trims i) h u t e = sym (append-nil (s .heard))
@@ -118,15 +119,15 @@ call-bytes g n d s (trims i) k u b = bytes-stay g d k u (Call.trims (handleAt (s
 call-bytes g n d s (kills i) k u b = bytes-stay g d k u (Call.kills (handleAt (s .handles) i)) tt
 
 -- by its own list alone
-pub end-heard : (g : Geometry) (a b : Name) → a ≢ b → {xs ys : List Step} {zs : List Turn} → Interleaving xs ys zs → (w : World) → Fine g a b w → Accepted g a b w zs
-    → AreBytes (w .disk) → AllBring xs → AllBring ys → after g a b w zs .first .heard ≡ w .first .heard ++ hearsAll g a xs (stateIn g a w)
+pub end-heard : (g : Geometry) (a b : Name) → fold a ≢ fold b → {xs ys : List Step} {zs : List Turn} → Interleaving xs ys zs → (w : World) → Fine g a b w → Accepted g a b w zs
+    → AreBytes (w .disk) → AllBring xs → AllBring ys → after g a b w zs .first .heard ≡ w .first .heard ++ hearsAll g (fold a) xs (stateIn g a w)
 end-heard g a b ab none w k t u p q = sym (append-nil (w .first .heard))
 end-heard g a b ab (left {x = c} {xs = xs} i) w k t u p q =
     let v = next g a b w (one c) in
     end-heard g a b ab i v (Interleavings.fine-next g a b w (one c) k (t .0)) (t .1) (call-bytes g a (w .disk) (w .first) c (k .good) u (p .0)) (p .1) q
-    ∙ ap₂ (λ (x : List (List ℕ)) (o : State). x ++ hearsAll g a xs o) (call-heard g a (w .disk) (w .first) c (k .first′) u (t .0 .0) (t .0 .1)) (Interleavings.own-turn g a b w c k (t .0))
-    ∙ append-assoc (w .first .heard) (hears c (stateIn g a w)) (hearsAll g a xs (effect g a c (stateIn g a w)))
+    ∙ ap₂ (λ (x : List (List ℕ)) (o : State). x ++ hearsAll g (fold a) xs o) (call-heard g a (w .disk) (w .first) c (k .first′) u (t .0 .0) (t .0 .1)) (Interleavings.own-turn g a b w c k (t .0))
+    ∙ append-assoc (w .first .heard) (hears c (stateIn g a w)) (hearsAll g (fold a) xs (effect g (fold a) c (stateIn g a w)))
 end-heard g a b ab (right {y = c} {xs = xs} i) w k t u p q =
     let v = next g a b w (two c) in
     end-heard g a b ab i v (Interleavings.fine-next g a b w (two c) k (t .0)) (t .1) (call-bytes g b (w .disk) (w .second) c (k .good) u (q .0)) p (q .1)
-    ∙ ap (λ (o : State). w .first .heard ++ hearsAll g a xs o) (Interleavings.other-turn g a b ab w c k (t .0))
+    ∙ ap (λ (o : State). w .first .heard ++ hearsAll g (fold a) xs o) (Interleavings.other-turn g a b ab w c k (t .0))

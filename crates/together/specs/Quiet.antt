@@ -16,6 +16,7 @@ use Rattle.meaning.specs.Lists.{firstOr}
 use Rattle.meaning.specs.Growth.{growBy, growth, orElse, diskOr}
 use Rattle.meaning.specs.Drop.{dropOne}
 use Rattle.meaning.specs.Refusals.{lacking, larger, inRange}
+use Rattle.meaning.specs.Names.{fold}
 use Rattle.meaning.specs.Create.{create}
 use Rattle.meaning.specs.Write.{writeRecord, sizeAfter, withSize, store}
 use Rattle.meaning.specs.Allot.{allot, granulesTo}
@@ -214,33 +215,33 @@ write-quiet g d n m h b e t q =
 
 pub record QuietCreate (g : Geometry) (d : List ℕ) (n : Name) (f : NewFile) (checking : Bool) : Type 0 where
   pub image : create g d n f checking .1 ≡ d
-  pub handle : create g d n f checking .0 .handle ≡ openedAt g d (firstOr 0 (named g d n)) n (f .len) checking (f .main)
-  pub old : T (missing g d n) → ⊥
+  pub handle : create g d n f checking .0 .handle ≡ openedAt g d (firstOr 0 (named g d (fold n))) (fold n) (f .len) checking (f .main)
+  pub old : T (missing g d (fold n)) → ⊥
 
-pub create-quiet : (g : Geometry) (d : List ℕ) (n : Name) (f : NewFile) (checking : Bool) → create g d n f checking .0 .refusal .number ≡ 0 → Even g n d (create g d n f checking .1) → QuietCreate g d n f checking
-create-quiet g d n f checking e q = go (Members.decide (missing g d n))
+pub create-quiet : (g : Geometry) (d : List ℕ) (n : Name) (f : NewFile) (checking : Bool) → create g d n f checking .0 .refusal .number ≡ 0 → Even g (fold n) d (create g d n f checking .1) → QuietCreate g d n f checking
+create-quiet g d n f checking e q = go (Members.decide (missing g d (fold n)))
   where
-    told-old : T (missing g d n) → create g d n f checking .0 .old ≡ false
-    told-old t = unfold create in rw (e, Members.T-true {b = missing g d n} t)
+    told-old : T (missing g d (fold n)) → create g d n f checking .0 .old ≡ false
+    told-old t = unfold create in rw (e, Members.T-true {b = missing g d (fold n)} t)
 
-    none : T (missing g d n) → plain g d n ≡ nothing
-    none t = unfold plain foundIn in at (named g d n) t
+    none : T (missing g d (fold n)) → plain g d (fold n) ≡ nothing
+    none t = unfold plain foundIn in at (named g d (fold n)) t
       where
         at : (xs : List ℕ) → T (eqb (length xs) 0) → foundIn g d xs ≡ nothing
         at [] t = unfold foundIn in refl
         at (x ∷ xs) t = let e = eqb→eq (length (x ∷ xs)) 0 t in absurd (omega arith)
 
-    go : Members.Test (missing g d n) → QuietCreate g d n f checking
+    go : Members.Test (missing g d (fold n)) → QuietCreate g d n f checking
     go (Members.Test.fails t) = record {
-      image = unfold create in rw (e, Members.no-false {b = missing g d n} t);
-      handle = unfold create in rw (e, Members.no-false {b = missing g d n} t);
+      image = unfold create in rw (e, Members.no-false {b = missing g d (fold n)} t);
+      handle = unfold create in rw (e, Members.no-false {b = missing g d (fold n)} t);
       old = t;
     }
     go (Members.Test.holds t) =
         let x = CreateMeans.create-means g d n f checking e (told-old t) in
         absurd (not-born (x .born) (none t))
       where
-        not-born : plain g (create g d n f checking .1) n ≡ found (bornAs f) → plain g d n ≡ nothing → ⊥
+        not-born : plain g (create g d n f checking .1) (fold n) ≡ found (bornAs f) → plain g d (fold n) ≡ nothing → ⊥
         not-born o v = unfold tally in (let z : suc (bornAs f .granules) ≡ 0 = sym (ap tally o) ∙ q ∙ ap tally v in omega arith)
 
 -- Where the files lie --------------------------------------------------------------------------------------------------------

@@ -13,6 +13,7 @@ use lib.ListN.{length, getD, set}
 use lib.Seq.{slice}
 use Rattle.meaning.specs.Lists.{each}
 use Rattle.meaning.specs.Layout.{fitsGeometry}
+use Rattle.meaning.specs.Names.{fold}
 use Rattle.meaning.specs.Chain.{chain, owned}
 use Rattle.meaning.specs.Consistent.{consistent}
 use Rattle.meaning.specs.Refusals.{movedTo, noHandle}
@@ -35,9 +36,9 @@ Name = List ℕ
 
 -- In a list of calls on one file each call uses a handle that the same list opened or created earlier: the first number of a call by a
 -- handle is that handle's place among them, from 0. Its positions and the bytes it writes are the list's own, fixed beforehand. The name
--- is the list's, and no call repeats it; the geometry is the same for all. So a list is of steps, and `asked` makes of each the call of
--- `meaning` that it is. Bring back (02, §11) is not among them: "Demand 3's interleavings leave this call out." What it finds hangs on what
--- the other list has written since the kill.
+-- is the list's, as the caller gives it, and no call repeats it; the list's file is the one under the folded name (02 §7). The geometry is
+-- the same for all. So a list is of steps, and `asked` makes of each the call of `meaning` that it is. Bring back (02, §11) is not among
+-- them: "Demand 3's interleavings leave this call out." What it finds hangs on what the other list has written since the kill.
 pub data Step : Type 0 where
   looksUp : Step
   -- record length, whether codes are checked, the code
@@ -113,9 +114,9 @@ leftWith g n d s (opens len checking code) = withNew s (open′ g d n len checki
 leftWith g n d s (creates f checking) = withNew s (create g d n f checking .0 .handle)
 leftWith g n d s (moves i at) = withMoved s i (movedTo (handleAt (s .handles) i) at)
 leftWith g n d s (reads i buffer) =
-    let r = readRecord g d (handleAt (s .handles) i) buffer in hearing (withMoved s i (r .0 .handle)) (kept (plain g d n) (r .1))
+    let r = readRecord g d (handleAt (s .handles) i) buffer in hearing (withMoved s i (r .0 .handle)) (kept (plain g d (fold n)) (r .1))
 leftWith g n d s (readsSector i k) =
-    let r = readSector g d (handleAt (s .handles) i) k in hearing s (kept (plain g d n) (slice (r .from) (r .to) d))
+    let r = readSector g d (handleAt (s .handles) i) k in hearing s (kept (plain g d (fold n)) (slice (r .from) (r .to) d))
 leftWith g n d s (writes m i bytes) = withMoved s i (writeRecord g d m (handleAt (s .handles) i) bytes .0 .handle)
 leftWith g n d s (allots i k) = s
 leftWith g n d s (trims i) = s
@@ -169,7 +170,7 @@ pub record Quiet (g : Geometry) (n : Name) (d d′ : List ℕ) : Type 0 where
   pub entries : each (chain g d′) (named g d′ n) ≡ each (chain g d) (named g d n)
   pub granules : each (owned g d′) (named g d′ n) ≡ each (owned g d) (named g d n)
 
--- the first list is on the file a, the second on b
+-- the first list gives the name a, the second b
 module _ (g : Geometry) (a b : Name) where
   abbrev pub answered : World → Turn → Answered
   answered w (one c) = answer g a (w .disk) (w .first) c
@@ -197,8 +198,8 @@ module _ (g : Geometry) (a b : Name) where
   -- no call takes or gives back a granule or an entry
   abbrev pub AllQuiet : World → List Turn → Type 0
   AllQuiet w [] = Unit {0}
-  AllQuiet w (one c ∷ ts) = Quiet g a (w .disk) (next w (one c) .disk) × AllQuiet (next w (one c)) ts
-  AllQuiet w (two c ∷ ts) = Quiet g b (w .disk) (next w (two c) .disk) × AllQuiet (next w (two c)) ts
+  AllQuiet w (one c ∷ ts) = Quiet g (fold a) (w .disk) (next w (one c) .disk) × AllQuiet (next w (one c)) ts
+  AllQuiet w (two c ∷ ts) = Quiet g (fold b) (w .disk) (next w (two c) .disk) × AllQuiet (next w (two c)) ts
 
 -- 3. The same named files -----------------------------------------------------------------------------------------------------
 
@@ -256,7 +257,7 @@ pub record Agree (g : Geometry) (a b : Name) (d : List ℕ) (xs ys : List Step) 
   -- Both disks hold the same named files with the same attributes, sizes and granule counts and, system files apart, the same bytes.
   pub files : SameFiles g (w .disk) (w′ .disk)
   -- Every third file that is no system file is as it was; of a third system file all but its bytes, and no third name comes or goes.
-  pub third : (n : Name) → n ≢ a → n ≢ b → AsItWas g n d (w .disk) × Same (plain g d n) (plain g (w .disk) n)
+  pub third : (n : Name) → n ≢ fold a → n ≢ fold b → AsItWas g n d (w .disk) × Same (plain g d n) (plain g (w .disk) n)
   -- If no call takes or gives back a granule or an entry, in one of the two interleavings, the images are equal byte for byte.
   pub image : AllQuiet g a b (start d) zs → w .disk ≡ w′ .disk
   -- Both disks are consistent.
@@ -267,6 +268,7 @@ pub record Agree (g : Geometry) (a b : Name) (d : List ℕ) (xs ys : List Step) 
   pub heard : AreBytes d → AllBring xs → AllBring ys → (w .first .heard ≡ w′ .first .heard) × (w .second .heard ≡ w′ .second .heard)
 
 -- Two lists of calls on two files whose names differ, one consistent disk, and any two interleavings in which every call is accepted.
+-- "'Different names' in the third demand means different after folding" (02 §7).
 --
 -- That neither file is a system file is no premise: it is not needed. The calls that write refuse a system file, so in an accepted list
 -- on one there is none of them, and `Same` and `kept` leave a system file's bytes out by themselves.
@@ -274,7 +276,7 @@ pub record Agree (g : Geometry) (a b : Name) (d : List ℕ) (xs ys : List Step) 
 -- order of the calls is accepted because another one is; that the handle of a killed file stays dead.
 abbrev pub Demand3 : Type 0
 Demand3 =
-    (g : Geometry) (a b : Name) → a ≢ b → (d : List ℕ) → fitsGeometry g d ≡ true → consistent g d ≡ true
+    (g : Geometry) (a b : Name) → fold a ≢ fold b → (d : List ℕ) → fitsGeometry g d ≡ true → consistent g d ≡ true
     → (xs ys : List Step) (zs zs′ : List Turn) → Interleaving xs ys zs → Interleaving xs ys zs′
     → Accepted g a b (start d) zs → Accepted g a b (start d) zs′
     → Agree g a b d xs ys zs (after g a b (start d) zs) (after g a b (start d) zs′)

@@ -5,6 +5,7 @@ use mathlib.Core.Bool.{true}
 use mathlib.Core.List.{List, [], _∷_}
 use Rattle.meaning.specs.Lists.{each}
 use Rattle.meaning.specs.Layout.{fitsGeometry}
+use Rattle.meaning.specs.Names.{fold}
 use Rattle.meaning.specs.Chain.{chain, owned}
 use Rattle.meaning.specs.Consistent.{consistent}
 use Rattle.meaning.specs.LookUp.{named}
@@ -95,7 +96,7 @@ still : (n : Name) (d : List ℕ) → Quiet tiny n d d
 still n d = record { entries = refl; granules = refl }
 
 quiet : AllQuiet tiny puls leer (start owning) mineFirst
-unfolding answer number leaves
+unfolding fold answer number leaves
 quiet = (still puls owning, (still puls owning, (same puls owning d₁ _ mine₀ mine₁, (still leer d₁, (same leer d₁ d₂ _ theirs₁ theirs₂, tt)))))
 
 pub equal : d₂ ≡ after tiny puls leer (start owning) inTurn .disk

@@ -9,7 +9,8 @@ use native.Mathlib.Omega.{arith}
 use Rattle.meaning.specs.Layout.{fitsGeometry}
 use Rattle.meaning.specs.Consistent.{consistent}
 use Rattle.meaning.specs.Calls.{number, leaves}
-use Rattle.meaning.specs.Samples.{opened, puls, leer}
+use Rattle.meaning.specs.Names.{fold}
+use Rattle.meaning.specs.Samples.{opened, puls, small, leer}
 use Rattle.meaning.specs.declared.Geometry.{Geometry}
 use Rattle.meaning.specs.declared.NewFile.{NewFile}
 use Rattle.meaning.specs.declared.Mode.the-variants.{Sequential}
@@ -26,7 +27,7 @@ blank = 3 ∷ replicate 5119 0
 abbrev pub new : NewFile
 new = record { day = 9; month = 10; year = 3; len = 2; main = 0; worker = 0 }
 
--- a new PULS01/DAT, and two bytes behind a gap; a new LEER
+-- a new PULS01/DAT, its name given in small letters (02 §7), and two bytes behind a gap; a new LEER
 abbrev mine : List Step
 mine = creates new true ∷ moves 0 3 ∷ writes Sequential 0 (7 ∷ 8 ∷ []) ∷ []
 
@@ -39,11 +40,11 @@ mineFirst = one (creates new true) ∷ one (moves 0 3) ∷ one (writes Sequentia
 abbrev theirsFirst : List Turn
 theirsFirst = two (creates new true) ∷ one (creates new true) ∷ one (moves 0 3) ∷ one (writes Sequential 0 (7 ∷ 8 ∷ [])) ∷ []
 
-pub accepted : Accepted tiny puls leer (start blank) mineFirst
+pub accepted : Accepted tiny small leer (start blank) mineFirst
 unfolding opened known answer number leaves
 accepted = ((tt, refl), ((tt, refl), ((tt, refl), ((tt, refl), tt))))
 
-pub accepted′ : Accepted tiny puls leer (start blank) theirsFirst
+pub accepted′ : Accepted tiny small leer (start blank) theirsFirst
 unfolding opened known answer number leaves
 accepted′ = ((tt, refl), ((tt, refl), ((tt, refl), ((tt, refl), tt))))
 
@@ -55,17 +56,23 @@ sound : consistent tiny blank ≡ true
 unfolding opened
 sound = refl
 
-pub differ : puls ≢ leer
+-- the names differ after folding
+pub differ : fold puls ≢ fold leer
+unfolding fold
 differ e = let z : _≡_ {A = ℕ} 0x50 0x4c = ap (λ (l : List ℕ). getD l 0 0) e in omega arith
 
+differ-small : fold small ≢ fold leer
+unfolding fold
+differ-small e = differ e
+
 abbrev w : World
-w = after tiny puls leer (start blank) mineFirst
+w = after tiny small leer (start blank) mineFirst
 
 abbrev w′ : World
-w′ = after tiny puls leer (start blank) theirsFirst
+w′ = after tiny small leer (start blank) theirsFirst
 
-pub agree : Agree tiny puls leer blank mine theirs mineFirst w w′
-agree = demand3 tiny puls leer differ blank fits sound mine theirs mineFirst theirsFirst (left (left (left (right none)))) (right (left (left (left none)))) accepted accepted′
+pub agree : Agree tiny small leer blank mine theirs mineFirst w w′
+agree = demand3 tiny small leer differ-small blank fits sound mine theirs mineFirst theirsFirst (left (left (left (right none)))) (right (left (left (left none)))) accepted accepted′
 
 -- the slots in the handles are others
 pub slot : handleAt (w .first .handles) 0 .slot ≡ 0x80

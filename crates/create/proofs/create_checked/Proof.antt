@@ -1,5 +1,6 @@
 use native.Mathlib.Omega.{arith}
-use mathlib.Core.Path.{_∙_, ap}
+use mathlib.Core.Path.{_∙_, ap, refl}
+use mathlib.Core.Bool.{false}
 use mathlib.Core.List.{List}
 use lib.ListN.{length}
 use Rattle.spelling.proofs.Comes.{hands-bad, hands-good, hands-name}
@@ -8,7 +9,8 @@ use Rattle.meaning.specs.Create.{withEntry}
 use Rattle.layout.proofs.Sound.{entry-fits}
 use Rattle.layout.proofs.Lists.{is-no, is-yes, not-no, not-yes}
 use Rattle.layout.proofs.Laws.{well-length}
-use Rattle.handle.proofs.Laws.{checked, checked-room, handed}
+use Rattle.handle.proofs.Laws.{checked, checked-room}
+use Rattle.find.proofs.Named.{by-own, by-place, by-number}
 use Rattle.find.proofs.Laws.{finds-as, finds-none, finds-one}
 use Rattle.create.proofs.Laws.{by-check, by-code, by-name, by-range, by-slot, is-new, is-old, made, opened, slot-none, slot-some, told}
 use Prim.Native.Nat.{ℕ}
@@ -22,8 +24,10 @@ use Rattle.create.proofs.put_entry.Reads as put-entry-reads
 use Rattle.create.proofs.refused.Reads as refused-reads
 use Rattle.find.proofs.admits.Reads as admits-reads
 use Rattle.find.proofs.find.Reads as find-reads
+use Rattle.find.proofs.no_handle.Reads as no-handle-reads
 use Rattle.find.proofs.opened_at.Reads as opened-at-reads
 use Rattle.refusal.proofs.carried.Reads as carried-reads
+use Rattle.refusal.proofs.placed.Reads as placed-reads
 use Rattle.space.proofs.first_free_slot.Reads as first-free-slot-reads
 use Rattle.spelling.proofs.incoming.Reads as incoming-reads
 
@@ -31,7 +35,7 @@ refused-requires : tie.Need-refused-requires
 refused-requires c κs = search needs
 
 returns : tie.Need-returns
-returns c = told _ _ _ _ _ (c .before .before .before .before .before .pre) (c .refused .ensures) (by-check _ _ _ _ _ (c .before .before .before .before .before .pre) (c .before .if1 .taken)) (c .before .if1 .taken)
+returns c = told _ _ _ _ _ (by-own _ _ _ (c .before .before .before .before .before .pre) refl) (c .refused .ensures) (by-check _ _ _ _ _ (c .before .before .before .before .before .pre) (c .before .if1 .taken)) (c .before .if1 .taken)
 
 in-range-requires : tie.Need-in-range-requires
 in-range-requires c κs = search needs
@@ -40,16 +44,19 @@ refused-requires-2 : tie.Need-refused-requires-2
 refused-requires-2 c κs = search needs
 
 returns-2 : tie.Need-returns-2
-returns-2 c = told _ _ _ _ _ (c .before .before .before .before .before .before .before .pre) (c .refused2 .ensures) (by-range _ _ _ _ _ (c .before .before .before .before .before .before .before .pre) (c .before .before .before .if1 .left) (is-no (c .before .before .in-range .ensures) (c .before .if2 .taken))) (λ z. omega arith)
+returns-2 c = told _ _ _ _ _ (by-number _ _ _ (c .before .before .before .before .before .before .before .pre) 12 (λ z. omega arith) refl) (c .refused2 .ensures) (by-range _ _ _ _ _ (c .before .before .before .before .before .before .before .pre) (c .before .before .before .if1 .left) (is-no (c .before .before .in-range .ensures) (c .before .if2 .taken))) (λ z. omega arith)
 
 incoming-requires : tie.Need-incoming-requires
 incoming-requires c κs = search needs
 
-refused-requires-3 : tie.Need-refused-requires-3
-refused-requires-3 c κs = search needs
+placed-requires : tie.Need-placed-requires
+placed-requires c κs = search needs
+
+no-handle-requires : tie.Need-no-handle-requires
+no-handle-requires c κs = search needs
 
 returns-3 : tie.Need-returns-3
-returns-3 c = told _ _ _ _ _ (c .before .before .before .before .before .before .before .before .before .pre) (c .refused3 .ensures) (by-name _ _ _ _ _ (c .before .before .before .before .before .before .before .before .before .pre) (c .before .before .before .before .before .if1 .left) (is-yes (c .before .before .before .before .in-range .ensures) (c .before .before .before .if2 .left)) (hands-bad (c .before .before .incoming .ensures) (c .before .if3 .taken))) (λ z. omega arith)
+returns-3 c = told _ _ _ _ _ (by-place _ _ _ (c .before .before .before .before .before .before .before .before .before .before .pre) (c .before .before .before .before .before .before .if1 .left) (c .before .placed .ensures) (c .before .before .before .incoming .ensures .place)) (λ i. record { refusal = c .before .placed .result; old = false; handle = c .no-handle .ensures i }) (by-name _ _ _ _ _ (c .before .before .before .before .before .before .before .before .before .before .pre) (c .before .before .before .before .before .before .if1 .left) (is-yes (c .before .before .before .before .before .in-range .ensures) (c .before .before .before .before .if2 .left)) (hands-bad (c .before .before .before .incoming .ensures) (c .before .before .if3 .taken))) (λ z. omega arith)
 
 find-requires : tie.Need-find-requires
 find-requires c κs = (checked-room _ _ (checked _ _ (c .before .before .before .before .before .before .before .before .before .before .before .before .pre) (c .before .before .before .before .before .before .before .before .if1 .left)), (ap length (hands-name (c .before .before .before .before .before .incoming .ensures) (c .before .before .before .before .if3 .left)) ∙ well-length _ (hands-good (c .before .before .before .before .before .incoming .ensures) (c .before .before .before .before .if3 .left))))
@@ -57,14 +64,14 @@ find-requires c κs = (checked-room _ _ (checked _ _ (c .before .before .before 
 admits-requires : tie.Need-admits-requires
 admits-requires c κs = (checked-room _ _ (checked _ _ (c .before .before .before .before .before .before .before .before .before .before .before .before .before .before .before .pre) (c .before .before .before .before .before .before .before .before .before .before .before .if1 .left)), (c .before .before .find .ensures .held) (c .before .if4 .taken))
 
-refused-requires-4 : tie.Need-refused-requires-4
-refused-requires-4 c κs = search needs
+refused-requires-3 : tie.Need-refused-requires-3
+refused-requires-3 c κs = search needs
 
 same-length : tie.Need-same-length
 same-length c = search needs
 
 returns-4 : tie.Need-returns-4
-returns-4 c = told _ _ _ _ _ (c .before .before .before .before .before .before .before .before .before .before .before .before .before .before .before .before .before .before .pre) (c .refused4 .ensures) (by-code _ _ _ _ _ (c .before .before .before .before .before .before .before .before .before .before .before .before .before .before .before .before .before .before .pre) (c .before .before .before .before .before .before .before .before .before .before .before .before .before .before .if1 .left) (is-yes (c .before .before .before .before .before .before .before .before .before .before .before .before .before .in-range .ensures) (c .before .before .before .before .before .before .before .before .before .before .before .before .if2 .left)) (hands-good (c .before .before .before .before .before .before .before .before .before .before .before .incoming .ensures) (c .before .before .before .before .before .before .before .before .before .before .if3 .left)) (finds-one _ _ _ (finds-as _ _ _ (hands-name (c .before .before .before .before .before .before .before .before .before .before .before .incoming .ensures) (c .before .before .before .before .before .before .before .before .before .before .if3 .left)) (c .before .before .before .before .before .find .ensures)) (not-yes (c .before .before .before .before .if4 .taken))) (is-no (c .before .before .admits .ensures) (c .before .if5 .taken))) (λ z. omega arith)
+returns-4 c = told _ _ _ _ _ (by-number _ _ _ (c .before .before .before .before .before .before .before .before .before .before .before .before .before .before .before .before .before .before .pre) 5 (λ z. omega arith) refl) (c .refused3 .ensures) (by-code _ _ _ _ _ (c .before .before .before .before .before .before .before .before .before .before .before .before .before .before .before .before .before .before .pre) (c .before .before .before .before .before .before .before .before .before .before .before .before .before .before .if1 .left) (is-yes (c .before .before .before .before .before .before .before .before .before .before .before .before .before .in-range .ensures) (c .before .before .before .before .before .before .before .before .before .before .before .before .if2 .left)) (hands-good (c .before .before .before .before .before .before .before .before .before .before .before .incoming .ensures) (c .before .before .before .before .before .before .before .before .before .before .if3 .left)) (finds-one _ _ _ (finds-as _ _ _ (hands-name (c .before .before .before .before .before .before .before .before .before .before .before .incoming .ensures) (c .before .before .before .before .before .before .before .before .before .before .if3 .left)) (c .before .before .before .before .before .find .ensures)) (not-yes (c .before .before .before .before .if4 .taken))) (is-no (c .before .before .admits .ensures) (c .before .if5 .taken))) (λ z. omega arith)
 
 carried-requires : tie.Need-carried-requires
 carried-requires c κs = search needs
@@ -77,19 +84,19 @@ same-length-2 c = search needs
 
 returns-5 : tie.Need-returns-5
 returns-5 c = let e = finds-one _ _ _ (finds-as _ _ _ (hands-name (c .before .before .before .before .before .before .before .before .before .before .before .before .before .before .before .before .incoming .ensures) (c .before .before .before .before .before .before .before .before .before .before .before .before .before .before .before .if3 .left)) (c .before .before .before .before .before .before .before .before .before .before .find .ensures)) (not-yes (c .before .before .before .before .before .before .before .before .before .if4 .taken)) in
-    opened _ _ _ _ _ (handed _ _ 0 (c .before .before .before .before .before .before .before .before .before .before .before .before .before .before .before .before .before .before .before .before .before .before .before .pre) (c .before .before .before .before .before .carried .ensures)) (is-old _ _ _ _ _ (c .before .before .before .before .before .before .before .before .before .before .before .before .before .before .before .before .before .before .before .before .before .before .before .pre) (c .before .before .before .before .before .before .before .before .before .before .before .before .before .before .before .before .before .before .before .if1 .left) (is-yes (c .before .before .before .before .before .before .before .before .before .before .before .before .before .before .before .before .before .before .in-range .ensures) (c .before .before .before .before .before .before .before .before .before .before .before .before .before .before .before .before .before .if2 .left)) (hands-good (c .before .before .before .before .before .before .before .before .before .before .before .before .before .before .before .before .incoming .ensures) (c .before .before .before .before .before .before .before .before .before .before .before .before .before .before .before .if3 .left)) e (is-yes (c .before .before .before .before .before .before .before .admits .ensures) (c .before .before .before .before .before .before .if5 .left))) e (c .opened-at .ensures ∙ ap (λ (m : List ℕ). openedAt (c .before .before .before .before .before .before .before .before .before .before .before .before .before .before .before .before .before .before .before .before .before .before .before .args .g) (c .before .before .before .before .before .before .before .before .before .before .before .before .before .before .before .before .before .before .before .before .before .before .before .args .image .now) (c .before .before .before .before .before .before .before .before .before .before .find .result .slot) m (c .before .before .before .before .before .before .before .before .before .before .before .before .before .before .before .before .before .before .before .before .before .before .before .args .f .len) (c .before .before .before .before .before .before .before .before .before .before .before .before .before .before .before .before .before .before .before .before .before .before .before .args .checking) (c .before .before .before .before .before .before .before .before .before .before .before .before .before .before .before .before .before .before .before .before .before .before .before .args .f .main)) (hands-name (c .before .before .before .before .before .before .before .before .before .before .before .before .before .before .before .before .incoming .ensures) (c .before .before .before .before .before .before .before .before .before .before .before .before .before .before .before .if3 .left)))
+    opened _ _ _ _ _ (by-number _ _ _ (c .before .before .before .before .before .before .before .before .before .before .before .before .before .before .before .before .before .before .before .before .before .before .before .pre) 0 (λ z. omega arith) (c .before .before .before .before .before .carried .ensures)) (is-old _ _ _ _ _ (c .before .before .before .before .before .before .before .before .before .before .before .before .before .before .before .before .before .before .before .before .before .before .before .pre) (c .before .before .before .before .before .before .before .before .before .before .before .before .before .before .before .before .before .before .before .if1 .left) (is-yes (c .before .before .before .before .before .before .before .before .before .before .before .before .before .before .before .before .before .before .in-range .ensures) (c .before .before .before .before .before .before .before .before .before .before .before .before .before .before .before .before .before .if2 .left)) (hands-good (c .before .before .before .before .before .before .before .before .before .before .before .before .before .before .before .before .incoming .ensures) (c .before .before .before .before .before .before .before .before .before .before .before .before .before .before .before .if3 .left)) e (is-yes (c .before .before .before .before .before .before .before .admits .ensures) (c .before .before .before .before .before .before .if5 .left))) e (c .opened-at .ensures ∙ ap (λ (m : List ℕ). openedAt (c .before .before .before .before .before .before .before .before .before .before .before .before .before .before .before .before .before .before .before .before .before .before .before .args .g) (c .before .before .before .before .before .before .before .before .before .before .before .before .before .before .before .before .before .before .before .before .before .before .before .args .image .now) (c .before .before .before .before .before .before .before .before .before .before .find .result .slot) m (c .before .before .before .before .before .before .before .before .before .before .before .before .before .before .before .before .before .before .before .before .before .before .before .args .f .len) (c .before .before .before .before .before .before .before .before .before .before .before .before .before .before .before .before .before .before .before .before .before .before .before .args .checking) (c .before .before .before .before .before .before .before .before .before .before .before .before .before .before .before .before .before .before .before .before .before .before .before .args .f .main)) (hands-name (c .before .before .before .before .before .before .before .before .before .before .before .before .before .before .before .before .incoming .ensures) (c .before .before .before .before .before .before .before .before .before .before .before .before .before .before .before .if3 .left)))
 
 first-free-slot-requires : tie.Need-first-free-slot-requires
 first-free-slot-requires c κs = checked-room _ _ (checked _ _ (c .before .before .before .before .before .before .before .before .before .before .before .before .before .before .before .pre) (c .before .before .before .before .before .before .before .before .before .before .before .if1 .left))
 
-refused-requires-5 : tie.Need-refused-requires-5
-refused-requires-5 c κs = search needs
+refused-requires-4 : tie.Need-refused-requires-4
+refused-requires-4 c κs = search needs
 
 same-length-3 : tie.Need-same-length-3
 same-length-3 c = search needs
 
 returns-6 : tie.Need-returns-6
-returns-6 c = told _ _ _ _ _ (c .before .before .before .before .before .before .before .before .before .before .before .before .before .before .before .before .before .before .pre) (c .refused5 .ensures) (by-slot _ _ _ _ _ (c .before .before .before .before .before .before .before .before .before .before .before .before .before .before .before .before .before .before .pre) (c .before .before .before .before .before .before .before .before .before .before .before .before .before .before .if1 .left) (is-yes (c .before .before .before .before .before .before .before .before .before .before .before .before .before .in-range .ensures) (c .before .before .before .before .before .before .before .before .before .before .before .before .if2 .left)) (hands-good (c .before .before .before .before .before .before .before .before .before .before .before .incoming .ensures) (c .before .before .before .before .before .before .before .before .before .before .if3 .left)) (finds-none _ _ _ (finds-as _ _ _ (hands-name (c .before .before .before .before .before .before .before .before .before .before .before .incoming .ensures) (c .before .before .before .before .before .before .before .before .before .before .if3 .left)) (c .before .before .before .before .before .find .ensures)) (not-no (c .before .before .before .before .if4 .left))) (slot-none _ _ (c .before .before .first-free-slot .ensures) (c .before .if6 .taken))) (λ z. omega arith)
+returns-6 c = told _ _ _ _ _ (by-number _ _ _ (c .before .before .before .before .before .before .before .before .before .before .before .before .before .before .before .before .before .before .pre) 8 (λ z. omega arith) refl) (c .refused4 .ensures) (by-slot _ _ _ _ _ (c .before .before .before .before .before .before .before .before .before .before .before .before .before .before .before .before .before .before .pre) (c .before .before .before .before .before .before .before .before .before .before .before .before .before .before .if1 .left) (is-yes (c .before .before .before .before .before .before .before .before .before .before .before .before .before .in-range .ensures) (c .before .before .before .before .before .before .before .before .before .before .before .before .if2 .left)) (hands-good (c .before .before .before .before .before .before .before .before .before .before .before .incoming .ensures) (c .before .before .before .before .before .before .before .before .before .before .if3 .left)) (finds-none _ _ _ (finds-as _ _ _ (hands-name (c .before .before .before .before .before .before .before .before .before .before .before .incoming .ensures) (c .before .before .before .before .before .before .before .before .before .before .if3 .left)) (c .before .before .before .before .before .find .ensures)) (not-no (c .before .before .before .before .if4 .left))) (slot-none _ _ (c .before .before .first-free-slot .ensures) (c .before .if6 .taken))) (λ z. omega arith)
 
 put-entry-requires : tie.Need-put-entry-requires
 put-entry-requires c κs = let a = c .before .before .before .before .before .before .before .before .before .before .before .before .before .before .before .before .before .before .before .before .before .args in let w = slot-some (a .g) (a .image .now) (c .before .before .before .before .before .first-free-slot .ensures) (c .before .before .before .before .if6 .left) in
@@ -103,7 +110,7 @@ same-length-4 c = search needs
 
 returns-7 : tie.Need-returns-7
 returns-7 c = let a = c .before .before .before .before .before .before .before .before .before .before .before .before .before .before .before .before .before .before .before .before .before .before .before .before .before .before .args in let w = slot-some (a .g) (a .image .now) (c .before .before .before .before .before .before .before .before .before .before .first-free-slot .ensures) (c .before .before .before .before .before .before .before .before .before .if6 .left) in let e = finds-none _ _ _ (finds-as _ _ _ (hands-name (c .before .before .before .before .before .before .before .before .before .before .before .before .before .before .before .before .before .before .before .incoming .ensures) (c .before .before .before .before .before .before .before .before .before .before .before .before .before .before .before .before .before .before .if3 .left)) (c .before .before .before .before .before .before .before .before .before .before .before .before .before .find .ensures)) (not-no (c .before .before .before .before .before .before .before .before .before .before .before .before .if4 .left)) in
-    made _ _ _ _ _ (handed _ _ 0 (c .before .before .before .before .before .before .before .before .before .before .before .before .before .before .before .before .before .before .before .before .before .before .before .before .before .before .pre) (c .before .carried2 .ensures)) (is-new _ _ _ _ _ (c .before .before .before .before .before .before .before .before .before .before .before .before .before .before .before .before .before .before .before .before .before .before .before .before .before .before .pre) (c .before .before .before .before .before .before .before .before .before .before .before .before .before .before .before .before .before .before .before .before .before .before .if1 .left) (is-yes (c .before .before .before .before .before .before .before .before .before .before .before .before .before .before .before .before .before .before .before .before .before .in-range .ensures) (c .before .before .before .before .before .before .before .before .before .before .before .before .before .before .before .before .before .before .before .before .if2 .left)) (hands-good (c .before .before .before .before .before .before .before .before .before .before .before .before .before .before .before .before .before .before .before .incoming .ensures) (c .before .before .before .before .before .before .before .before .before .before .before .before .before .before .before .before .before .before .if3 .left)) e (w .1)) e (w .0) (hands-name (c .before .before .before .before .before .before .before .before .before .before .before .before .before .before .before .before .before .before .before .incoming .ensures) (c .before .before .before .before .before .before .before .before .before .before .before .before .before .before .before .before .before .before .if3 .left)) (c .before .before .before .before .put-entry .ensures ∙ ap (λ (m : List ℕ). withEntry (c .before .before .before .before .before .before .before .before .before .before .before .before .before .before .before .before .before .before .before .before .before .before .before .before .before .before .args .g) (c .before .before .before .before .before .before .before .before .before .before .before .before .before .before .before .before .before .before .before .before .before .before .before .before .before .before .args .image .now) (c .before .before .before .before .before .before .before .before .before .before .first-free-slot .result) m (c .before .before .before .before .before .before .before .before .before .before .before .before .before .before .before .before .before .before .before .before .before .before .before .before .before .before .args .f)) (hands-name (c .before .before .before .before .before .before .before .before .before .before .before .before .before .before .before .before .before .before .before .incoming .ensures) (c .before .before .before .before .before .before .before .before .before .before .before .before .before .before .before .before .before .before .if3 .left)))
+    made _ _ _ _ _ (by-number _ _ _ (c .before .before .before .before .before .before .before .before .before .before .before .before .before .before .before .before .before .before .before .before .before .before .before .before .before .before .pre) 0 (λ z. omega arith) (c .before .carried2 .ensures)) (is-new _ _ _ _ _ (c .before .before .before .before .before .before .before .before .before .before .before .before .before .before .before .before .before .before .before .before .before .before .before .before .before .before .pre) (c .before .before .before .before .before .before .before .before .before .before .before .before .before .before .before .before .before .before .before .before .before .before .if1 .left) (is-yes (c .before .before .before .before .before .before .before .before .before .before .before .before .before .before .before .before .before .before .before .before .before .in-range .ensures) (c .before .before .before .before .before .before .before .before .before .before .before .before .before .before .before .before .before .before .before .before .if2 .left)) (hands-good (c .before .before .before .before .before .before .before .before .before .before .before .before .before .before .before .before .before .before .before .incoming .ensures) (c .before .before .before .before .before .before .before .before .before .before .before .before .before .before .before .before .before .before .if3 .left)) e (w .1)) e (w .0) (hands-name (c .before .before .before .before .before .before .before .before .before .before .before .before .before .before .before .before .before .before .before .incoming .ensures) (c .before .before .before .before .before .before .before .before .before .before .before .before .before .before .before .before .before .before .if3 .left)) (c .before .before .before .before .put-entry .ensures ∙ ap (λ (m : List ℕ). withEntry (c .before .before .before .before .before .before .before .before .before .before .before .before .before .before .before .before .before .before .before .before .before .before .before .before .before .before .args .g) (c .before .before .before .before .before .before .before .before .before .before .before .before .before .before .before .before .before .before .before .before .before .before .before .before .before .before .args .image .now) (c .before .before .before .before .before .before .before .before .before .before .first-free-slot .result) m (c .before .before .before .before .before .before .before .before .before .before .before .before .before .before .before .before .before .before .before .before .before .before .before .before .before .before .args .f)) (hands-name (c .before .before .before .before .before .before .before .before .before .before .before .before .before .before .before .before .before .before .before .incoming .ensures) (c .before .before .before .before .before .before .before .before .before .before .before .before .before .before .before .before .before .before .if3 .left)))
 
 pub create-checked-spec : {M : Type 1} → statement M
 create-checked-spec =
@@ -115,11 +122,12 @@ create-checked-spec =
     refused-requires-2
     returns-2
     incoming-requires
-    refused-requires-3
+    placed-requires
+    no-handle-requires
     returns-3
     find-requires
     admits-requires
-    refused-requires-4
+    refused-requires-3
     same-length
     returns-4
     carried-requires
@@ -127,7 +135,7 @@ create-checked-spec =
     same-length-2
     returns-5
     first-free-slot-requires
-    refused-requires-5
+    refused-requires-4
     same-length-3
     returns-6
     put-entry-requires
