@@ -37,7 +37,9 @@ module _ (g : Geometry) (d : List ℕ) (some : 1 ≤ length (freeGranules g d)) 
       below m h = ap not (taken-below m h)
 
       inn : n < granules g
-      inn = ⊎-elim (λ (z : granules g ≤ n). absurd (Step.some-free g d some (λ m h. below m (omega arith)))) (λ (z : n < granules g). z) (le-or-lt (granules g) n)
+      inn = ⊎-elim
+          (λ (z : granules g ≤ n). absurd (Step.some-free g d some (λ m h. below m (omega arith))))
+          (λ (z : n < granules g). z) (le-or-lt (granules g) n)
 
   abbrev seen : Words.State
   seen = view g 0 d

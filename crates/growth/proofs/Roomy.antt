@@ -62,7 +62,8 @@ module _ (g : Geometry) (p : ℕ) (lowest : Bool) where
   unfolding growBy andThen fails
   roomy zero x d y h w = refl
   roomy (suc k) x d y h w =
-      go x w (takeAt g p (choice d) d) refl (View.took g d (Step.sound′ g d p y) (Step.fits′ g d p y) p (Step.file′ g d p y) (choice d) (n .0) (n .1)) (λ x₁ d₁ y₁ l m. roomy k x₁ d₁ y₁ l m)
+      let t = View.took g d (Step.sound′ g d p y) (Step.fits′ g d p y) p (Step.file′ g d p y) (choice d) (n .0) (n .1) in
+      go x w (takeAt g p (choice d) d) refl t (λ x₁ d₁ y₁ l m. roomy k x₁ d₁ y₁ l m)
     where
       n : Step.Free′ g p choice d
       n = chooses g p lowest d (omega arith)
@@ -86,7 +87,8 @@ module _ (g : Geometry) (p : ℕ) (lowest : Bool) where
       go (suc x) w (grown d₁) e (Took.starts a s) ih = absurd (a (View.can-says g p d (can d w)))
       go (suc x) w noSlot e (Took.none a z) ih = absurd (a (View.can-says g p d (can d w)))
 
-  pub pairs-left : {e k r : ℕ} {d : List ℕ} → Ready g d p → e ≡ tail g p d → k ≤ length (freeGranules g d) → r ≡ runs g d e → k + r ≤ 4 → false ≡ fails (growBy g p choice k d)
+  pub pairs-left : {e k r : ℕ} {d : List ℕ} → Ready g d p → e ≡ tail g p d → k ≤ length (freeGranules g d) → r ≡ runs g d e → k + r ≤ 4
+      → false ≡ fails (growBy g p choice k d)
   pairs-left {e} {k} {r} {d} y q h s l =
       let z : r ≡ runs g d (tail g p d) = s ∙ ap (runs g d) q in
       sym (roomy k 0 d y h (none-behind d (omega (arith, z))))
@@ -99,15 +101,16 @@ module _ (g : Geometry) (p : ℕ) (lowest : Bool) where
   last-is : (e : ℕ) (d : List ℕ) (r : Ending) → e ≡ tail g p d → Ends g d e r → 1 ≤ r .runs
       → (after (view g p d .last) ≡ r .after) × (spare 32 (view g p d .last) ≡ 32 - r .long)
   last-is e d r q w h =
-      let t : tail g p d ≡ e = sym q in
-      let m : runs g d (tail g p d) ≡ r .runs = ap (runs g d) t ∙ w .many in
-      let j : runs g d (tail g p d) - 1 ≡ r .runs - 1 = ap (λ (n : ℕ). n - 1) m in
-      let s = some-last (runs g d (tail g p d)) (runStart g d (tail g p d) (runs g d (tail g p d) - 1)) (runLength g d (tail g p d) (runs g d (tail g p d) - 1)) (omega arith) in
-      let a : runStart g d (tail g p d) (runs g d (tail g p d) - 1) ≡ runStart g d e (r .runs - 1) = ap (λ (n : ℕ). runStart g d (tail g p d) n) j ∙ ap (λ (x : ℕ). runStart g d x (r .runs - 1)) t in
-      let b : runLength g d (tail g p d) (runs g d (tail g p d) - 1) ≡ runLength g d e (r .runs - 1) = ap (λ (n : ℕ). runLength g d (tail g p d) n) j ∙ ap (λ (x : ℕ). runLength g d x (r .runs - 1)) t in
+      let x = tail g p d in let n = runs g d x - 1 in let m = r .runs - 1 in
+      let t : x ≡ e = sym q in
+      let many : runs g d x ≡ r .runs = ap (runs g d) t ∙ w .many in
+      let j : n ≡ m = ap (λ (i : ℕ). i - 1) many in
+      let s = some-last (runs g d x) (runStart g d x n) (runLength g d x n) (omega arith) in
+      let a : runStart g d x n ≡ runStart g d e m = ap (λ (i : ℕ). runStart g d x i) j ∙ ap (λ (i : ℕ). runStart g d i m) t in
+      let b : runLength g d x n ≡ runLength g d e m = ap (λ (i : ℕ). runLength g d x i) j ∙ ap (λ (i : ℕ). runLength g d i m) t in
       let u = w .after h in (
-        ap after s ∙ ap (λ (n : ℕ). n + runLength g d (tail g p d) (runs g d (tail g p d) - 1)) a ∙ ap (λ (n : ℕ). runStart g d e (r .runs - 1) + n) b ∙ sym (u .0),
-        ap (spare 32) s ∙ ap (λ (n : ℕ). 32 - n) b ∙ ap (λ (n : ℕ). 32 - n) (sym (u .1)),
+        ap after s ∙ ap (λ (i : ℕ). i + runLength g d x n) a ∙ ap (λ (i : ℕ). runStart g d e m + i) b ∙ sym (u .0),
+        ap (spare 32) s ∙ ap (λ (i : ℕ). 32 - i) b ∙ ap (λ (i : ℕ). 32 - i) (sym (u .1)),
       )
 
   -- all but as many as there are pairs left lie behind the last run

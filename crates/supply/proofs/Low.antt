@@ -90,7 +90,9 @@ module _ (g : Geometry) (d : List ℕ) where
         where
           go : (k : ℕ) → i + k ≤ n + 1 → n < i + k → Stretch g d i k → (k ≤ long) ⊎ ((k ≤ here + 1) × (n < i + k))
           go zero b q s = inl (omega arith)
-          go (suc k) b q s = let z = back i a (omega arith) (part i (suc k) i (n + 1 - i) s (omega arith) (omega arith)) in let w = c .start in inr (omega arith, q)
+          go (suc k) b q s =
+              let z = back i a (omega arith) (part i (suc k) i (n + 1 - i) s (omega arith) (omega arith)) in let w = c .start in
+              inr (omega arith, q)
 
       pub low-shorter : here + 1 ≤ long → Low from (n + 1) (here + 1) low long
       low-shorter l = record {
@@ -116,13 +118,17 @@ module _ (g : Geometry) (d : List ℕ) where
             best = last′;
             inside = omega arith;
             longest = λ i k a b s. ⊎-elim (λ (q : k ≤ long). omega arith) (λ q. q .0) (most′ i k a b s);
-            lower = λ i a b s. ⊎-elim (λ (q : here + 1 ≤ long). absurd (let z : ⊥ = omega arith in z)) (λ q. let z = q .1 in omega arith) (most′ i (here + 1) a b s);
+            lower = λ i a b s. ⊎-elim
+                (λ (q : here + 1 ≤ long). absurd (let z : ⊥ = omega arith in z))
+                (λ q. let z = q .1 in omega arith) (most′ i (here + 1) a b s);
             short = omega arith;
           }
 
   -- all that starts behind is higher, and ends behind
   higher : {from n here low long : ℕ} → Low from n here low long → (i : ℕ) → from ≤ i → Stretch g d i long → low ≤ i
-  higher {from} {n} {here} {low} {long} c i a s = ⊎-elim (λ (q : i + long ≤ n). c .lower i a q s) (λ (q : n < i + long). omega (arith, c .inside)) (le-or-lt (i + long) n)
+  higher {from} {n} {here} {low} {long} c i a s = ⊎-elim
+      (λ (q : i + long ≤ n). c .lower i a q s)
+      (λ (q : n < i + long). omega (arith, c .inside)) (le-or-lt (i + long) n)
 
   pub low-found : {from n here low long most : ℕ} → Low from n here low long → most ≤ long → LongestFrom g d from most (record { low = low; long = long })
   low-found c h = record { free = c .best; longest = λ i n a s. inr h; lower = higher c }
