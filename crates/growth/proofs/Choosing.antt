@@ -10,6 +10,7 @@ use Rattle.meaning.specs.Layout.{granules, taken}
 use Rattle.meaning.specs.Free.{freeGranules, longestFree}
 use Rattle.meaning.specs.declared.Geometry.{Geometry}
 use Rattle.layout.proofs.Lists.{le-or-lt}
+use Rattle.meaning.specs.Choice.{State}
 use Rattle.slots.specs.Words
 use Rattle.slots.specs.Stretches
 use Rattle.slots.specs.View.{view}
@@ -41,7 +42,7 @@ module _ (g : Geometry) (d : List ℕ) (some : 1 ≤ length (freeGranules g d)) 
           (λ (z : granules g ≤ n). absurd (Step.some-free g d some (λ m h. below m (omega arith))))
           (λ (z : n < granules g). z) (le-or-lt (granules g) n)
 
-  abbrev seen : Words.State
+  abbrev seen : State
   seen = view g 0 d
 
   back : (i n : ℕ) → Words.Stretch (granules g) seen i n → Stretch g d i n

@@ -17,9 +17,10 @@ use Rattle.laws.specs.TakeOne
 use Rattle.laws.specs.Steps.{Ready, take-ready}
 use Rattle.layout.proofs.Lists.{le-or-lt}
 use Rattle.slots.specs.Words
-use Rattle.slots.specs.Words.{lastRun, spare, after, Lengthens}
+use Rattle.meaning.specs.Choice.{lastRun, lastOf, spare, after}
+use Rattle.slots.specs.Words.{Lengthens}
 use Rattle.slots.specs.View
-use Rattle.slots.specs.View.{view, lastOf, Took}
+use Rattle.slots.specs.View.{view, Took}
 use Rattle.supply.specs.Search.{Ends, Stretch}
 use Rattle.supply.specs.declared.Ending.{Ending}
 use Rattle.growth.specs.Choose.{choiceBy}
