@@ -34,6 +34,9 @@ mod bound {
         fn title(&self) -> &'static str {
             super::LINKED
         }
+        fn name(&self, name: &[u8], folded: &mut [u8], place: &mut usize) -> Number {
+            unsafe { genie_name(name.as_ptr(), name.len(), folded.as_mut_ptr(), folded.len(), place) }
+        }
         fn check(&self, image: &[u8], g: &Geometry, fault_slot: &mut usize) -> Number {
             unsafe {
                 genie_check(
@@ -55,6 +58,7 @@ mod bound {
             name: &[u8],
             slot: &mut usize,
             compared: &mut usize,
+            place: &mut usize,
             fault_slot: &mut usize,
         ) -> Number {
             unsafe {
@@ -70,6 +74,7 @@ mod bound {
                     name.len(),
                     slot,
                     compared,
+                    place,
                     fault_slot,
                 )
             }
@@ -83,6 +88,7 @@ mod bound {
             checking: bool,
             code: u16,
             handle: &mut [u8],
+            place: &mut usize,
             fault_slot: &mut usize,
         ) -> Number {
             unsafe {
@@ -101,6 +107,7 @@ mod bound {
                     code,
                     handle.as_mut_ptr(),
                     handle.len(),
+                    place,
                     fault_slot,
                 )
             }
@@ -113,6 +120,7 @@ mod bound {
             birth: &Birth,
             old: &mut usize,
             handle: &mut [u8],
+            place: &mut usize,
             fault_slot: &mut usize,
         ) -> Number {
             unsafe {
@@ -136,6 +144,7 @@ mod bound {
                     old,
                     handle.as_mut_ptr(),
                     handle.len(),
+                    place,
                     fault_slot,
                 )
             }
