@@ -125,6 +125,43 @@ static inline bool well_formed(struct name n)
     return first != 0 && first != BAD_NAME && type != BAD_NAME;
 }
 
+/* Bytes 61H to 7DH as 41H to 5DH, eight at once. */
+static inline uint64_t folded(uint64_t v)
+{
+    const uint64_t top = EACH(0x80), low = v & ~top;
+    const uint64_t small = (low + EACH(0x80 - 0x61)) & ~(low + EACH(0x80 - 0x7E)) & ~v & top;
+    return v - (small >> 2); /* a quarter of 80H is 20H */
+}
+
+/* The place of the first bad byte, of 11 that are not well formed. */
+static size_t first_bad(const uint8_t *name)
+{
+    size_t i = 0;
+    while (i < NAME) {
+        const uint8_t b = name[i];
+        const bool allowed = (b >= 0x30 && b <= 0x39) || (b >= 0x41 && b <= 0x5D);
+        if (b == 0x20 ? i == 0 : !allowed || (i % 8 && name[i - 1] == 0x20)) break;
+        i++;
+    }
+    return i;
+}
+
+/* A name as it comes in, folded, to own; or false, with the place of its first bad byte. */
+static inline bool comes_in(const uint8_t *name, size_t name_len, uint8_t own[NAME], size_t *place)
+{
+    if (name_len != NAME) {
+        *place = 0;
+        return false;
+    }
+    const struct name n = { folded(load8(name)), (uint32_t)folded(load4(name + 7) >> 8) };
+    store8(own, n.first);
+    memcpy(own + 8, &n.type, NAME - 8);
+    *place = GENIE_NO_PLACE;
+    if (well_formed(n)) return true;
+    *place = first_bad(own);
+    return false;
+}
+
 /* ---- The check ---- */
 
 /* GAT bytes, of which `units` bits count, to one bit a granule: eight blocks at a time. */
@@ -642,55 +679,62 @@ uint8_t FAST(check)(IMAGE, GEO, size_t *fault_slot)
     return EXAMINE(&d);
 }
 
-uint8_t FAST(look_up)(IMAGE, GEO, const uint8_t *name, size_t name_len, size_t *slot, size_t *compared, size_t *fault_slot)
+uint8_t FAST(look_up)(IMAGE, GEO, const uint8_t *name, size_t name_len, size_t *slot, size_t *compared, size_t *place, size_t *fault_slot)
 {
     struct disk d;
+    uint8_t own[NAME];
     (void)open_code;
     *slot = *compared = 0;
+    *place = GENIE_NO_PLACE;
     const uint8_t refusal = EXAMINE(&d);
     if (refusal) return refusal;
-    if (name_len != NAME || !well_formed(name_at(name))) return GENIE_NAME;
-    const size_t found = find(image, &d, name, compared);
+    if (!comes_in(name, name_len, own, place)) return GENIE_NAME;
+    const size_t found = find(image, &d, own, compared);
     if (found == NO_SLOT) return GENIE_NOT_FOUND;
     *slot = found;
     return GENIE_DONE;
 }
 
 uint8_t FAST(open)(IMAGE, GEO, const uint8_t *name, size_t name_len, size_t length, bool checking, uint16_t code, uint8_t *handle, size_t handle_len,
-                   size_t *fault_slot)
+                   size_t *place, size_t *fault_slot)
 {
     struct disk d;
     size_t compared;
+    uint8_t own[NAME];
+    *place = GENIE_NO_PLACE;
     if (handle_len >= HANDLE) memset(handle, 0, HANDLE);
     const uint8_t refusal = EXAMINE(&d);
     if (refusal) return refusal;
     if (length < 1 || length > 256 || handle_len < HANDLE) return GENIE_RANGE;
-    if (name_len != NAME || !well_formed(name_at(name))) return GENIE_NAME;
-    const size_t slot = find(image, &d, name, &compared);
+    if (!comes_in(name, name_len, own, place)) return GENIE_NAME;
+    const size_t slot = find(image, &d, own, &compared);
     if (slot == NO_SLOT) return GENIE_NOT_FOUND;
     const size_t level = level_of(entry_of(image, &d, slot), open_code, checking, code);
     if (level > 7) return GENIE_PASSWORD;
-    put_handle(handle, slot, level, length, name);
+    put_handle(handle, slot, level, length, own);
     return GENIE_DONE;
 }
 
 uint8_t FAST(create)(IMAGE_OUT, GEO, const uint8_t *name, size_t name_len, size_t day, size_t month, size_t year, size_t length, uint16_t main_code,
-                     uint16_t worker_code, bool checking, size_t *old, uint8_t *handle, size_t handle_len, size_t *fault_slot)
+                     uint16_t worker_code, bool checking, size_t *old, uint8_t *handle, size_t handle_len, size_t *place,
+                     size_t *fault_slot)
 {
     struct disk d;
     size_t compared;
+    uint8_t own[NAME];
     *old = 0;
+    *place = GENIE_NO_PLACE;
     if (handle_len >= HANDLE) memset(handle, 0, HANDLE);
     const uint8_t refusal = EXAMINE(&d);
     if (refusal) return refusal;
     if (day > 31 || month > 15 || year > 15 || length < 1 || length > 256 || handle_len < HANDLE) return GENIE_RANGE;
-    if (name_len != NAME || !well_formed(name_at(name))) return GENIE_NAME;
-    size_t slot = find(image, &d, name, &compared);
+    if (!comes_in(name, name_len, own, place)) return GENIE_NAME;
+    size_t slot = find(image, &d, own, &compared);
     if (slot != NO_SLOT) {
         const size_t level = level_of(entry_of(image, &d, slot), open_code, checking, main_code);
         if (level > 7) return GENIE_PASSWORD;
         *old = 1;
-        put_handle(handle, slot, level, length, name);
+        put_handle(handle, slot, level, length, own);
         return GENIE_DONE;
     }
     slot = free_slot(image, &d, 0);
@@ -702,11 +746,11 @@ uint8_t FAST(create)(IMAGE_OUT, GEO, const uint8_t *name, size_t name_len, size_
     e[E_DAY] = (uint8_t)day;
     e[E_MONTH] = (uint8_t)(year << 4 | month);
     e[E_LENGTH] = (uint8_t)length;
-    memcpy(e + E_NAME, name, NAME);
+    memcpy(e + E_NAME, own, NAME);
     store2(e + E_MAIN, main_code);
     store2(e + E_WORKER, worker_code);
-    image[d.directory + SECTOR + slot] = hash(name_at(name));
-    put_handle(handle, slot, 0, length, name);
+    image[d.directory + SECTOR + slot] = hash(name_at(own));
+    put_handle(handle, slot, 0, length, own);
     return GENIE_DONE;
 }
 

@@ -151,7 +151,7 @@ static uint8_t *image, *before;
 static size_t image_len, active; /* files in play: many, or one that grows undisturbed */
 static uint16_t open_code;
 static bool system_disk;
-static size_t fault_slot; /* of the last call */
+static size_t fault_slot, place; /* of the last call */
 static bool reserved[1536];
 
 #define DISK image, image_len, g.blocks, g.units, g.start, open_code, system_disk
@@ -170,6 +170,12 @@ static void random_name(uint8_t *name)
     memset(name, 0x20, 11);
     for (size_t i = 0; i < first; i++) name[i] = (uint8_t)letters[below(7)];
     for (size_t i = 0; i < type; i++) name[8 + i] = (uint8_t)letters[below(7)];
+}
+
+/* The same name as a caller may give it: some of the bytes 41H to 5DH are 61H to 7DH. */
+static void in_small_letters(const uint8_t *name, uint8_t *given)
+{
+    for (size_t i = 0; i < 11; i++) given[i] = (uint8_t)(name[i] + (name[i] >= 0x41 && below(2) ? 0x20 : 0));
 }
 
 static void random_disk(void)
@@ -355,11 +361,15 @@ static void one_call(size_t step)
         for (size_t i = 0; i < FILES; i++)
             if (files[i].there && !memcmp(files[i].name, name, 11)) f = &files[i];
         const size_t length = 1 + below(256), room = free_permitted();
-        const uint8_t r = fast_create(DISK, name, 11, below(32), below(16), below(16), length, 1, 2, false, &old, handle, 19, &fault_slot);
+        uint8_t given[11];
+        in_small_letters(name, given);
+        const uint8_t r = fast_create(DISK, given, 11, below(32), below(16), below(16), length, 1, 2, false, &old, handle, 19, &place, &fault_slot);
         answers[r]++;
         if (f->there ? r != 0 || old != 1 : r != (room ? 0 : 8) || old != 0) fail("create", step);
         if (r || old) refused_changes_nothing(step);
+        if (place != GENIE_NO_PLACE) fail("a place without a bad byte", step);
         if (r) return;
+        if (memcmp(handle + 8, name, 11)) fail("the folded name", step);
         memcpy(f->name, name, 11);
         memcpy(f->handle, handle, 19);
         if (old) return;
@@ -446,10 +456,12 @@ static void one_call(size_t step)
         break;
     case 10: {
         size_t slot = 99, compared = 0;
-        r = fast_look_up(DISK, f->name, 11, &slot, &compared, &fault_slot);
+        uint8_t given[11];
+        in_small_letters(f->name, given);
+        r = fast_look_up(DISK, given, 11, &slot, &compared, &place, &fault_slot);
         if (r || slot != f->handle[0] || !compared) fail("look up", step);
         uint8_t opened[20] = { 0 };
-        if (fast_open(DISK, f->name, 11, length, true, 1, opened, 20, &fault_slot) || memcmp(opened + 8, f->name, 11) || opened[0] != slot) fail("open", step);
+        if (fast_open(DISK, given, 11, length, true, 1, opened, 20, &place, &fault_slot) || memcmp(opened + 8, f->name, 11) || opened[0] != slot) fail("open", step);
         refused_changes_nothing(step);
         break;
     }
@@ -597,7 +609,7 @@ static void damage(size_t step)
             uint8_t handle[19];
             size_t old;
             if (fast_list(DISK, i, name, 11, &size, &granules, &more, &fault_slot) || more != (i < files_told)) fail("list", step);
-            if (more && (fast_create(DISK, name, 11, 0, 0, 0, 256, 0, 0, false, &old, handle, 19, &fault_slot) || !old)) fail("create of an old file", step);
+            if (more && (fast_create(DISK, name, 11, 0, 0, 0, 256, 0, 0, false, &old, handle, 19, &place, &fault_slot) || !old)) fail("create of an old file", step);
         }
         memcpy(image, before, image_len);
     }
@@ -621,12 +633,12 @@ static void any_arguments(size_t step)
     if (fast_check(image, SIZE_MAX - 100, SIZE_MAX / 1280, 1, 0, 0, true, &fault_slot) != 1) fail("length", step);
     if (fast_check(image, 0, 0, 8, 0, 0, true, &fault_slot) != 1) fail("length", step);
     random_name(name);
-    if (fast_create(DISK, name, 11, 32 + below(9), 0, 0, 1, 0, 0, false, &a, handle, 19, &fault_slot) != 12 || a) fail("day", step);
-    if (fast_create(DISK, name, 11, 0, SIZE_MAX, 0, 1, 0, 0, false, &a, handle, 19, &fault_slot) != 12) fail("month", step);
-    if (fast_create(DISK, name, 11, 0, 0, 16, 1, 0, 0, false, &a, handle, 19, &fault_slot) != 12) fail("year", step);
-    if (fast_create(DISK, name, 11, 0, 0, 0, below(2) ? 0 : 257, 0, 0, false, &a, handle, 19, &fault_slot) != 12) fail("record length", step);
-    if (fast_create(DISK, name, 11, 0, 0, 0, 1, 0, 0, false, &a, handle, below(19), &fault_slot) != 12) fail("short handle", step);
-    if (fast_look_up(DISK, name, below(11), &a, &b, &fault_slot) != 3 || a || b) fail("short name", step);
+    if (fast_create(DISK, name, 11, 32 + below(9), 0, 0, 1, 0, 0, false, &a, handle, 19, &place, &fault_slot) != 12 || a) fail("day", step);
+    if (fast_create(DISK, name, 11, 0, SIZE_MAX, 0, 1, 0, 0, false, &a, handle, 19, &place, &fault_slot) != 12) fail("month", step);
+    if (fast_create(DISK, name, 11, 0, 0, 16, 1, 0, 0, false, &a, handle, 19, &place, &fault_slot) != 12) fail("year", step);
+    if (fast_create(DISK, name, 11, 0, 0, 0, below(2) ? 0 : 257, 0, 0, false, &a, handle, 19, &place, &fault_slot) != 12) fail("record length", step);
+    if (fast_create(DISK, name, 11, 0, 0, 0, 1, 0, 0, false, &a, handle, below(19), &place, &fault_slot) != 12) fail("short handle", step);
+    if (fast_look_up(DISK, name, below(11), &a, &b, &place, &fault_slot) != 3 || a || b || place) fail("short name", step);
     if (fast_kill(DISK, handle, 19, &fault_slot) != 12) fail("the handle of zeros", step);
     if (fast_list(DISK, ODD, name, below(11), &a, &b, &c, &fault_slot) != 12 || a || b || c) fail("short name buffer", step);
     if (fast_list(DISK, ODD, name, 11, &a, &b, &c, &fault_slot)) fail("any listing number", step);

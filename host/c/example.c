@@ -50,9 +50,10 @@ static uint32_t position_of(const uint8_t *handle)
 int main(void)
 {
     const uint8_t *const name = (const uint8_t *)"PULS01  DAT"; /* PULS01/DAT, 11 bytes */
+    const uint8_t *const small = (const uint8_t *)"puls01  dat";
     const uint8_t zeros[GENIE_HANDLE_BYTES] = { 0 };
     uint8_t handle[GENIE_HANDLE_BYTES], record[256], back[256], told[GENIE_NAME_BYTES];
-    size_t old, slot, compared, from, to, size, slots, granules, more, files, left, longest, which, kind, position, flags, fault;
+    size_t old, slot, compared, from, to, size, slots, granules, more, files, left, longest, which, kind, position, flags, place, fault;
 
     image = malloc(IMAGE_BYTES);
     uint8_t *const before = malloc(IMAGE_BYTES);
@@ -71,12 +72,18 @@ int main(void)
     step("free space: the same, 767 of them in a row", answer, GENIE_DONE, left == BLOCKS * UNITS - 3 && longest == START / 5 - 1);
 
     memset(handle, 0xFF, sizeof handle);
-    answer = genie_open(DISK, name, GENIE_NAME_BYTES, 256, true, 0, handle, sizeof handle, &fault);
+    answer = genie_open(DISK, name, GENIE_NAME_BYTES, 256, true, 0, handle, sizeof handle, &place, &fault);
     step("open PULS01/DAT before it is there: a handle of zeros", answer, GENIE_NOT_FOUND, !memcmp(handle, zeros, sizeof zeros));
-    answer = genie_create(DISK, name, GENIE_NAME_BYTES, 9, 10, 3, 256, OPEN_CODE, OPEN_CODE, true, &old, handle, sizeof handle, &fault);
+    answer = genie_create(DISK, name, GENIE_NAME_BYTES, 9, 10, 3, 256, OPEN_CODE, OPEN_CODE, true, &old, handle, sizeof handle, &place, &fault);
     step("create it, dated 9 October 1983, records of 256 bytes", answer, GENIE_DONE, old == 0 && handle[1] == 0 && position_of(handle) == 0);
-    answer = genie_look_up(DISK, name, GENIE_NAME_BYTES, &slot, &compared, &fault);
+    answer = genie_look_up(DISK, name, GENIE_NAME_BYTES, &slot, &compared, &place, &fault);
     step("look it up: slot 80H, the first that is not kept; one compared", answer, GENIE_DONE, slot == 0x80 && slot == handle[0] && compared == 1);
+    answer = genie_look_up(DISK, small, GENIE_NAME_BYTES, &slot, &compared, &place, &fault);
+    step("look it up in small letters: the same", answer, GENIE_DONE, slot == handle[0] && place == GENIE_NO_PLACE);
+    answer = genie_name(small, GENIE_NAME_BYTES, told, sizeof told, &place);
+    step("ask what the small letters are taken for", answer, GENIE_DONE, !memcmp(told, name, sizeof told) && place == GENIE_NO_PLACE);
+    answer = genie_open(DISK, (const uint8_t *)"puls_1  dat", GENIE_NAME_BYTES, 256, true, 0, back, GENIE_HANDLE_BYTES, &place, &fault);
+    step("open puls_1/dat: the byte at place 4 is none that a name can have", answer, GENIE_NAME, place == 4 && fault == GENIE_NO_SLOT);
 
     unsigned written = 0;
     for (unsigned i = 0; i < 20 && !written; i++) {
@@ -138,7 +145,7 @@ int main(void)
     step("bring it back once more: its slot is in use", answer, GENIE_SLOT_IN_USE, slots == 0 && granules == 0);
     answer = genie_kill(DISK, handle, sizeof handle, &fault);
     step("kill it again: its handle is good once more", answer, GENIE_DONE, 1);
-    answer = genie_create(AS_DATA_DISK, name, GENIE_NAME_BYTES, 9, 10, 3, 256, OPEN_CODE, OPEN_CODE, true, &old, handle, sizeof handle, &fault);
+    answer = genie_create(AS_DATA_DISK, name, GENIE_NAME_BYTES, 9, 10, 3, 256, OPEN_CODE, OPEN_CODE, true, &old, handle, sizeof handle, &place, &fault);
     step("create it as on a data disk: slot 02H, the first that is not kept", answer, GENIE_DONE, old == 0 && handle[0] == 0x02);
     answer = genie_check(DISK, &fault);
     step("check it as a system disk", answer, GENIE_DONE, fault == GENIE_NO_SLOT);

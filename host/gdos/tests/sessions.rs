@@ -67,6 +67,11 @@ fn patterns() {
 }
 
 #[test]
+fn small_letters() {
+    play("small-letters");
+}
+
+#[test]
 fn geometry() {
     play("geometry");
 }
