@@ -61,7 +61,7 @@ const BAD: [(&str, usize); 18] = [
 ];
 
 fn geometry() -> Geometry {
-    Geometry { blocks: 16, units: 2, start: 80, open_code: 0, system_disk: true }
+    Geometry { blocks: 16, units: 2, start: 80, open_code: 0, system_disk: true, granule_sectors: 5 }
 }
 
 fn birth() -> Birth {
