@@ -387,6 +387,83 @@ fn brings_more(image: &mut [u8; 30720]) {
     brought(image, small(), 0x80, b"bring back, slot in use again", 17);
 }
 
+// Larger granules --------------------------------------------------------------------------------------------------------
+
+// The same image as 6 blocks of 2 units with so many sectors to a granule (02 §10): 10 is its length.
+fn larger(start: usize, granule: usize) -> Geometry {
+    Geometry {
+        blocks: 6,
+        units: 2,
+        start,
+        anyone: 0,
+        system: true,
+        granule,
+    }
+}
+
+// PULS01/DAT owns granule 2, which is so under both geometries; granules 4, 6, 8 and 10 are free.
+fn larger_granules(image: &mut [u8; 30720], h: Handle) {
+    allotted(image, larger(0, 15), h, 0, b"15 sectors to a granule", 1);
+    allotted(image, larger(0, 0), h, 0, b"no sector to a granule", 1);
+    allotted(
+        image,
+        larger(5, 10),
+        h,
+        0,
+        b"10 sectors to a granule, directory at sector 5",
+        1,
+    );
+    allotted(
+        image,
+        larger(0, 10),
+        h,
+        15360,
+        b"allot, sector 15,360 of granules of 10",
+        12,
+    );
+    allotted(
+        image,
+        larger(0, 10),
+        h,
+        15359,
+        b"allot, sector 15,359 of granules of 10",
+        9,
+    );
+}
+
+fn larger_sizes(image: &mut [u8; 30720], h: Handle) {
+    allotted(
+        image,
+        larger(0, 10),
+        h,
+        39,
+        b"allot, the fourth granule of 10",
+        0,
+    );
+    allotted(
+        image,
+        larger(0, 10),
+        h,
+        40,
+        b"allot, a fifth granule of 10 and no slot",
+        8,
+    );
+    trimmed(
+        image,
+        larger(0, 10),
+        placed(h, 3932161),
+        b"trim, position over 3,932,160",
+        12,
+    );
+    trimmed(
+        image,
+        larger(0, 10),
+        placed(h, 3932160),
+        b"trim, granules of 10 sectors",
+        0,
+    );
+}
+
 fn bytes(image: &mut [u8; 30720], h: Handle) {
     writes(image, h);
     writes_more(image, h);
@@ -413,4 +490,6 @@ fn main() {
     kills_more(&mut image, h);
     brings(&mut image);
     brings_more(&mut image);
+    larger_granules(&mut image, h);
+    larger_sizes(&mut image, h);
 }

@@ -1,21 +1,21 @@
 -- Check: the geometry.
 use mathlib.Core.Path.{_≡_, refl}
 use mathlib.Core.List.{[], _∷_}
+use Prim.Native.Nat.{ℕ}
 use Rattle.meaning.specs.Layout
 use Rattle.meaning.specs.Refusal.{unplaced}
 use Rattle.meaning.specs.Refusals.{check}
 use Rattle.meaning.specs.Samples.{laid, sample, opened}
-use Rattle.meaning.specs.declared.Geometry.{Geometry}
 use Rattle.facts.specs.Disks.{disk}
 
 -- position 0 to 1,966,080, sector 0 to 7,679: what 192 blocks of 8 units hold
-highest-position : (g : Geometry) → Layout.highest g ≡ 1966080
+highest-position : (blocks units start : ℕ) → Layout.highest (disk blocks units start) ≡ 1966080
 unfolding opened
-highest-position g = refl
+highest-position blocks units start = refl
 
-highest-sector : (g : Geometry) → Layout.sectorNumbers g ≡ 7680
+highest-sector : (blocks units start : ℕ) → Layout.sectorNumbers (disk blocks units start) ≡ 7680
 unfolding opened
-highest-sector g = refl
+highest-sector blocks units start = refl
 
 -- "blocks 1 to 192, units per block 1 to 8"
 most-units : check (disk 1 8 0) (laid 0 ((0, 0x03 ∷ []) ∷ []) 10240) ≡ unplaced 0

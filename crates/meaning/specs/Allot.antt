@@ -10,12 +10,12 @@ use Rattle.meaning.specs.declared.Geometry.{Geometry}
 use Rattle.meaning.specs.declared.Handle.{Handle}
 use Rattle.meaning.specs.declared.Answer.{Answer}
 
--- ⌊k/5⌋ + 1: so many granules hold sector k
+-- ⌊k / sectors of a granule⌋ + 1 (01: ⌊k/5⌋ + 1): so many granules hold sector k
 abbrev pub granulesTo : Geometry → ℕ → ℕ
 granulesTo g k = k / Layout.granuleSectors g + 1
 
 module _ (g : Geometry) (d : List ℕ) where
-  -- until ⌊k/5⌋ + 1 are owned, none if they are already
+  -- until so many are owned, none if they are already
   abbrev pub toAllot : Handle → ℕ → ℕ
   toAllot h k = Refusals.lacking g d (h .slot) (granulesTo g k)
 

@@ -77,7 +77,7 @@ writtenTo g m i r f =
       bytes = bs;
     }
 
--- allot: ⌊k/5⌋ + 1 granules, if there were fewer
+-- allot: the granules that hold sector k, if there were fewer
 unfoldable pub allottedTo : Geometry → ℕ → File → File
 allottedTo g k f =
     record { attributes = f .attributes; granules = max (f .granules) (Allot.granulesTo g k); bytes = f .bytes }

@@ -33,7 +33,7 @@ module _ (g : Geometry) (d : List ℕ) where
         cond (Refusals.accepted no) (fetch (h .slot) (h .at) (h .len) ++ drop (h .len) b) b,
       )
 
-  -- 12 also where the sector is out of range (0 to 7,679). 10: sector k not below n.
+  -- 12 also where the sector is out of range (01: 0 to 7,679). 10: sector k not below n.
   abbrev pub sectorRefusals : Handle → ℕ → List (ℕ × Bool)
   sectorRefusals h k =
       Refusals.handleRefusals g d h (all (Refusals.inRange g h ∷ ltb k (Layout.sectorNumbers g) ∷ []))

@@ -29,7 +29,7 @@ accepted n = eqb n 0
 unfoldable pub goodLength : ℕ → Bool
 goodLength len = all (leb 1 len ∷ leb len 256 ∷ [])
 
--- position (0 to 1,966,080), record length and level (0 to 7): tested by each call that is given a handle
+-- position (0 to the highest one; 01: 1,966,080), record length and level (0 to 7): tested by each call that is given a handle
 unfoldable pub inRange : Geometry → Handle → Bool
 inRange g h = all (leb (h .at) (Layout.highest g) ∷ goodLength (h .len) ∷ leb (h .level) 7 ∷ [])
 

@@ -14,14 +14,14 @@ use Rattle.meaning.specs.declared.Handle.{Handle}
 use Rattle.meaning.specs.declared.Answer.{Answer}
 
 module _ (g : Geometry) (d : List ℕ) where
-  -- keeps ⌈size/1280⌉ granules, dropping the last ones: so many
+  -- keeps ⌈size / bytes of a granule⌉ granules (01: ⌈size/1280⌉), dropping the last ones: so many
   abbrev pub surplus : ℕ → ℕ
   surplus s = length (Chain.owned g d s) - Layout.granulesFor g (Entries.sizeOf g d s)
 
   abbrev pub trimRefusals : Handle → List (ℕ × Bool)
   trimRefusals h = Refusals.handleRefusals g d h (Refusals.inRange g h) (Refusals.protected g d 4 h ∷ [])
 
-  -- Trim: if F is clear, keeps ⌈size/1280⌉ granules. With F set nothing changes.
+  -- Trim: if F is clear, keeps the granules that its size needs. With F set nothing changes.
   unfoldable pub trim : Handle → Answer × List ℕ
   trim h =
       let s = h .slot in

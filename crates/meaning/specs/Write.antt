@@ -34,11 +34,12 @@ module _ (g : Geometry) (d : List ℕ) where
       Layout.setField g (Layout.setField g (Layout.setField g (Layout.setField g d′ s 3 (Entries.endByteFor size)) s 0x14 (n % 256)) s 0x15 (n / 256))
       s 1 (withBit 5 (Layout.field g d′ s 1))
 
-  -- A write takes exactly what the file lacks of ⌈new size/1280⌉ granules.
+  -- A write takes exactly what the file lacks of ⌈new size / bytes of a granule⌉ granules (01: ⌈new size/1280⌉).
   abbrev pub toWrite : Mode → Handle → ℕ
   toWrite m h = Refusals.lacking g d (h .slot) (Layout.granulesFor g (sizeAfter m (Entries.sizeOf g d (h .slot)) (h .at + h .len)))
 
-  -- 12 also where position + length is over 1,966,080 or the buffer shorter than the record length; `room` is the buffer's length
+  -- 12 also where position + length is over the highest position (01: 1,966,080) or the buffer shorter than the record length; `room` is the
+  -- buffer's length
   abbrev pub writeRefusals : Mode → Handle → ℕ → List (ℕ × Bool)
   writeRefusals m h room =
       Refusals.handleRefusals g d h (all (Refusals.inRange g h ∷ leb (h .at + h .len) (Layout.highest g) ∷ leb (h .len) room ∷ []))

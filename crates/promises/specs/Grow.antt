@@ -16,7 +16,7 @@ use Rattle.meaning.specs.Growth.{takeAt, Grown, grown, noSlot, grow, growBy, gr
 use Rattle.meaning.specs.Free.{freeGranules, lowestFree, longestFree, freeSlots}
 use Rattle.meaning.specs.Plain.{fileAt, plain, hush, reserved, Found, found, allottedTo, beyond}
 use Rattle.meaning.specs.LookUp.{named}
-use Rattle.meaning.specs.Allot.{allot}
+use Rattle.meaning.specs.Allot.{allot, granulesTo}
 use Rattle.meaning.specs.Refusals.{first, cannotGrow, larger, lacking}
 use Rattle.meaning.specs.declared.Geometry.{Geometry}
 use Rattle.meaning.specs.declared.Handle.{Handle}
@@ -170,9 +170,9 @@ pub record AllotMeans (g : Geometry) (d d′ : List ℕ) (p k : ℕ) : Type 0 wh
   pub file′ : File g d′ p
   pub name′ : nameOf g d′ p ≡ nameOf g d p
   pub small : Small d → Small d′
-  pub free : length (freeGranules g d) ≡ length (freeGranules g d′) + lacking g d p (k / granuleSectors g + 1)
+  pub free : length (freeGranules g d) ≡ length (freeGranules g d′) + lacking g d p (granulesTo g k)
 
-allotted : (g : Geometry) (d d′ : List ℕ) (p k : ℕ) → Grew g d d′ p (lacking g d p (k / granuleSectors g + 1)) → fileAt g d′ p ≡ allottedTo g k (fileAt g d p)
+allotted : (g : Geometry) (d d′ : List ℕ) (p k : ℕ) → Grew g d d′ p (lacking g d p (granulesTo g k)) → fileAt g d′ p ≡ allottedTo g k (fileAt g d p)
 unfolding fileAt allottedTo
 allotted g d d′ p k x = λ i. record {
   attributes = x .kept .attributes i;
@@ -180,16 +180,16 @@ allotted g d d′ p k x = λ i. record {
   bytes = x .kept .bytes i;
 }
   where
-    many : length (owned g d′ p) ≡ max (length (owned g d p)) (k / granuleSectors g + 1)
+    many : length (owned g d′ p) ≡ max (length (owned g d p)) (granulesTo g k)
     many = ap length (x .owned′) ∙ length-append (owned g d p) (x .new) ∙ omega (arith, x .many)
 
 pub allot-means : (g : Geometry) (d : List ℕ) (h : Handle) (k : ℕ) → allot g d h k .0 .refusal .number ≡ 0 → AllotMeans g d (allot g d h k .1) (h .slot) k
 unfolding allot
 allot-means g d h k e =
     let p = h .slot in
-    let w = Passed.holds g d h _ 4 (cannotGrow g d p (lacking g d p (k / granuleSectors g + 1))) e in
-    let x = larger-grew g d h (lacking g d p (k / granuleSectors g + 1)) (w .0) (w .1) in
-    let d′ = larger g d p (lacking g d p (k / granuleSectors g + 1)) in
+    let w = Passed.holds g d h _ 4 (cannotGrow g d p (lacking g d p (granulesTo g k))) e in
+    let x = larger-grew g d h (lacking g d p (granulesTo g k)) (w .0) (w .1) in
+    let d′ = larger g d p (lacking g d p (granulesTo g k)) in
     rw e (record {
       long = x .kept .long;
       consistent′ = Facts.back g d′ (x .kept .sound);

@@ -116,7 +116,7 @@ pub record Live (g : Geometry) (d : List ℕ) (h : Handle) : Type 0 where
 abbrev pub LengthInRange : ℕ → Type 0
 LengthInRange len = (1 ≤ len) × (len ≤ 256)
 
--- position 0 to 1,966,080, level 0 to 7
+-- position 0 to the highest one (01: 1,966,080), level 0 to 7
 pub record InRange (g : Geometry) (h : Handle) : Type 0 where
   pub at : h .at ≤ highest g
   pub length′ : LengthInRange (h .len)

@@ -113,6 +113,7 @@ module _ (g : Geometry) (d : List ℕ) (m : Mode) (h : Handle) (b : List ℕ) (e
     start-at = k .start-at;
     long = wrote .long ∙ k .long;
     ten = k .ten;
+    sized = k .sized;
   }
 
   -- none of the read's table does either

@@ -8,7 +8,7 @@ use native.Mathlib.Omega.{arith}
 use lib.ListN.{length, take, replicate, length-take}
 use lib.Dec.{T, eqb, eqb→eq, ltb, leb, T-not, ltb→lt, leb→le}
 use Rattle.meaning.specs.Lists.{keep, each, has, times, all}
-use Rattle.meaning.specs.Layout.{entryAt, granuleBytes, granuleSectors, directoryGranules, aboveTen}
+use Rattle.meaning.specs.Layout.{entryAt, granuleBytes, directoryGranules, aboveTen}
 use Rattle.meaning.specs.Sizes
 use Rattle.meaning.specs.Entries.{nameOf, sizeOf, keepsSpace}
 use Rattle.meaning.specs.Chain.{chain, owned, place}
@@ -18,7 +18,7 @@ use Rattle.meaning.specs.Drop.{dropOne}
 use Rattle.meaning.specs.Refusals.{lacking, larger, inRange}
 use Rattle.meaning.specs.Create.{create}
 use Rattle.meaning.specs.Write.{writeRecord, sizeAfter, withSize, store}
-use Rattle.meaning.specs.Allot.{allot}
+use Rattle.meaning.specs.Allot.{allot, granulesTo}
 use Rattle.meaning.specs.Trim.{trim}
 use Rattle.meaning.specs.Kill.{kill}
 use Rattle.meaning.specs.LookUp.{named, missing, candidates, carries}
@@ -131,13 +131,13 @@ module _ (g : Geometry) (d : List ℕ) (n : Name) (h : Handle) (e : h .name ≡ 
   allot-still k t q =
       let x = Grow.allot-means g d h k t in
       let w : Holds g d h = unfold allot in (Passed.holds g d h _ 4 _ t .0) in
-      let m : max (length (owned g d (h .slot))) (k / granuleSectors g + 1) ≡ length (owned g d (h .slot)) = many (same-granules (allot g d h k .1) (allottedTo g k (fileAt g d (h .slot))) w q (x .own)) in
+      let m : max (length (owned g d (h .slot))) (granulesTo g k) ≡ length (owned g d (h .slot)) = many (same-granules (allot g d h k .1) (allottedTo g k (fileAt g d (h .slot))) w q (x .own)) in
       image (omega arith)
     where
-      many : allottedTo g k (fileAt g d (h .slot)) .granules ≡ length (owned g d (h .slot)) → max (length (owned g d (h .slot))) (k / granuleSectors g + 1) ≡ length (owned g d (h .slot))
+      many : allottedTo g k (fileAt g d (h .slot)) .granules ≡ length (owned g d (h .slot)) → max (length (owned g d (h .slot))) (granulesTo g k) ≡ length (owned g d (h .slot))
       many m = unfold allottedTo fileAt in m
 
-      image : lacking g d (h .slot) (k / granuleSectors g + 1) ≡ 0 → allot g d h k .1 ≡ d
+      image : lacking g d (h .slot) (granulesTo g k) ≡ 0 → allot g d h k .1 ≡ d
       image z = unfold allot growBy growth orElse diskOr in rw t (ap (larger g d (h .slot)) z)
 
   pub trim-still : trim g d h .0 .refusal .number ≡ 0 → Even g n d (trim g d h .1) → trim g d h .1 ≡ d
