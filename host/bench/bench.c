@@ -27,9 +27,9 @@ struct library {
 };
 
 /* No library: what the driver costs by itself. */
-#define I const uint8_t *i, size_t il, size_t b, size_t u, size_t s, uint16_t c, bool sd
-#define IO uint8_t *i, size_t il, size_t b, size_t u, size_t s, uint16_t c, bool sd
-#define USE (void)i, (void)il, (void)b, (void)u, (void)s, (void)c, (void)sd
+#define I const uint8_t *i, size_t il, size_t b, size_t u, size_t s, uint16_t c, bool sd, size_t gs
+#define IO uint8_t *i, size_t il, size_t b, size_t u, size_t s, uint16_t c, bool sd, size_t gs
+#define USE (void)i, (void)il, (void)b, (void)u, (void)s, (void)c, (void)sd, (void)gs
 #define NONE __attribute__((noinline)) static uint8_t
 NONE none_check(I, size_t *fs) { USE, (void)fs; return 0; }
 NONE none_look_up(I, const uint8_t *n, size_t nl, size_t *o, size_t *p, size_t *pl, size_t *fs)
@@ -56,10 +56,10 @@ NONE none_trim(IO, const uint8_t *h, size_t hl, size_t *fs) { USE, (void)h, (voi
 NONE none_kill(IO, const uint8_t *h, size_t hl, size_t *fs) { USE, (void)h, (void)hl, (void)fs; return 0; }
 NONE none_list(I, size_t n, uint8_t *m, size_t ml, size_t *z, size_t *g, size_t *o, size_t *fs) { USE, (void)n, (void)m, (void)ml, (void)z, (void)g, (void)o, (void)fs; return 0; }
 NONE none_count(I, size_t *f, size_t *r, size_t *fs) { USE, (void)f, (void)r, (void)fs; return 0; }
-NONE none_compare(I, const uint8_t *j, size_t jl, size_t b2, size_t u2, size_t s2, uint16_t c2, bool sd2, size_t n, uint8_t *m, size_t ml,
+NONE none_compare(I, const uint8_t *j, size_t jl, size_t b2, size_t u2, size_t s2, uint16_t c2, bool sd2, size_t gs2, size_t n, uint8_t *m, size_t ml,
                   size_t *o, size_t *k, size_t *p, size_t *f, size_t *fs)
 {
-    USE, (void)j, (void)jl, (void)b2, (void)u2, (void)s2, (void)c2, (void)sd2, (void)n, (void)m, (void)ml, (void)o, (void)k, (void)p, (void)f, (void)fs;
+    USE, (void)j, (void)jl, (void)b2, (void)u2, (void)s2, (void)c2, (void)sd2, (void)gs2, (void)n, (void)m, (void)ml, (void)o, (void)k, (void)p, (void)f, (void)fs;
     return 0;
 }
 
@@ -177,11 +177,11 @@ static void prepare(struct work *w, enum what what, size_t disk)
     w->what = what;
     if (!bench_disk_make(disk, &w->disk)) stop("no memory for the disk");
     struct bench_disk *const d = &w->disk;
-    const size_t middle = d->subject_size / 2 / GENIE_GRANULE_BYTES * GENIE_GRANULE_BYTES;
+    const size_t width = GENIE_GRANULE_BYTES(d->granule_sectors), middle = d->subject_size / 2 / width * width;
     size_t length = 256, position = middle;
     switch (what) {
     case APPEND: position = d->subject_size; break;
-    case ALLOT: w->k = (d->subject_size + GENIE_GRANULE_BYTES - 1) / GENIE_GRANULE_BYTES * 5 + 49; break;
+    case ALLOT: w->k = ((d->subject_size + width - 1) / width + 10) * d->granule_sectors - 1; break;
     case SECTOR: w->k = middle / SECTOR_BYTES; break;
     case TRIM: set_size(w, middle); break;
     case READ_1:
@@ -212,7 +212,7 @@ static void prepare(struct work *w, enum what what, size_t disk)
 /* One call, on the disk as it stood at first. (What a write puts into the file's sectors is the same each time.) */
 static void once(struct work *w, const struct library *lib)
 {
-#define DISK d->image, d->image_len, d->blocks, d->units, d->start, d->open_code, true
+#define DISK d->image, d->image_len, d->blocks, d->units, d->start, d->open_code, true, d->granule_sectors
 #define HANDLE w->handle, sizeof w->handle
     struct bench_disk *const d = &w->disk;
     if (whats[w->what].changes) memcpy(d->image + d->start * SECTOR_BYTES, w->directory, w->directory_len);
@@ -392,7 +392,7 @@ static int write_image(const char *disk, const char *path)
     if (!bench_disk_make(named(disk, bench_disk_names, BENCH_DISKS, "disk"), &d)) stop("no memory for the disk");
     FILE *const f = fopen(path, "wb");
     if (!f || fwrite(d.image, 1, d.image_len, f) != d.image_len || fclose(f)) stop("the image cannot be written");
-    printf("blocks %zu units %zu start %zu open_code %u\n", d.blocks, d.units, d.start, d.open_code);
+    printf("blocks %zu units %zu start %zu open_code %u granule_sectors %zu\n", d.blocks, d.units, d.start, d.open_code, d.granule_sectors);
     free(d.image);
     return 0;
 }

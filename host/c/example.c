@@ -6,13 +6,13 @@
 #include <stdlib.h>
 #include <string.h>
 
-/* The largest disk: 192 blocks of 8 units, the directory of 10 sectors in its middle. */
-enum { BLOCKS = 192, UNITS = 8, START = 3840, DIRECTORY_SECTORS = 10, OPEN_CODE = 0x9642 };
-enum { IMAGE_BYTES = BLOCKS * UNITS * GENIE_GRANULE_BYTES };
-#define SYSTEM_DISK BLOCKS, UNITS, START, OPEN_CODE, true
+/* The largest disk of granules of 5 sectors: 192 blocks of 8 units, the directory of 10 sectors in its middle. */
+enum { BLOCKS = 192, UNITS = 8, GRANULE_SECTORS = 5, START = 3840, DIRECTORY_SECTORS = 10, OPEN_CODE = 0x9642 };
+enum { IMAGE_BYTES = BLOCKS * UNITS * GENIE_GRANULE_BYTES(GRANULE_SECTORS) };
+#define SYSTEM_DISK BLOCKS, UNITS, START, OPEN_CODE, true, GRANULE_SECTORS
 #define DISK image, (size_t)IMAGE_BYTES, SYSTEM_DISK
 #define BEFORE before, (size_t)IMAGE_BYTES, SYSTEM_DISK
-#define AS_DATA_DISK image, (size_t)IMAGE_BYTES, BLOCKS, UNITS, START, OPEN_CODE, false
+#define AS_DATA_DISK image, (size_t)IMAGE_BYTES, BLOCKS, UNITS, START, OPEN_CODE, false, GRANULE_SECTORS
 
 static uint8_t *image;
 static int wrong;
@@ -32,7 +32,8 @@ static void make_disk(void)
     memset(image, 0xE5, IMAGE_BYTES); /* what a formatted sector holds */
     memset(gat, 0, DIRECTORY_SECTORS * GENIE_SECTOR_BYTES);
     gat[0] = 1;
-    for (size_t granule = START / 5; granule < (START + DIRECTORY_SECTORS) / 5; granule++) gat[granule / UNITS] |= (uint8_t)(1u << granule % UNITS);
+    for (size_t granule = START / GRANULE_SECTORS; granule * GRANULE_SECTORS < START + DIRECTORY_SECTORS; granule++)
+        gat[granule / UNITS] |= (uint8_t)(1u << granule % UNITS);
 }
 
 static void set_position(uint8_t *handle, uint32_t position)
@@ -64,12 +65,16 @@ int main(void)
     make_disk();
     uint8_t answer = genie_check(DISK, &fault);
     step("check an empty disk of 1,966,080 bytes: no slot is at fault", answer, GENIE_DONE, fault == GENIE_NO_SLOT);
-    answer = genie_check(image, IMAGE_BYTES, BLOCKS - 1, UNITS, START, OPEN_CODE, true, &fault);
+    answer = genie_check(image, IMAGE_BYTES, BLOCKS - 1, UNITS, START, OPEN_CODE, true, GRANULE_SECTORS, &fault);
     step("check it with a wrong number of blocks", answer, GENIE_GEOMETRY, 1);
+    answer = genie_check(image, IMAGE_BYTES, BLOCKS / 2, UNITS, START, OPEN_CODE, true, 10, &fault);
+    step("check it as 96 blocks with granules of 10 sectors: the directory's is free", answer, GENIE_FAULT_DIRECTORY_GRANULE, fault == GENIE_NO_SLOT);
+    answer = genie_check(image, IMAGE_BYTES, BLOCKS / 3, UNITS, START, OPEN_CODE, true, 15, &fault);
+    step("check it with granules of 15 sectors: there are none", answer, GENIE_GEOMETRY, 1);
     answer = genie_count(DISK, &files, &left, &fault);
     step("count: no file, 1,533 granules free", answer, GENIE_DONE, files == 0 && left == BLOCKS * UNITS - 3);
     answer = genie_free(DISK, &left, &longest);
-    step("free space: the same, 767 of them in a row", answer, GENIE_DONE, left == BLOCKS * UNITS - 3 && longest == START / 5 - 1);
+    step("free space: the same, 767 of them in a row", answer, GENIE_DONE, left == BLOCKS * UNITS - 3 && longest == START / GRANULE_SECTORS - 1);
 
     memset(handle, 0xFF, sizeof handle);
     answer = genie_open(DISK, name, GENIE_NAME_BYTES, 256, true, 0, handle, sizeof handle, &place, &fault);
@@ -126,7 +131,7 @@ int main(void)
     step("list: 256 bytes, 20 granules", answer, GENIE_DONE, more == 1 && size == 256 && granules == 20);
     answer = genie_list(DISK, 1, told, sizeof told, &size, &granules, &more, &fault);
     step("list on: no more", answer, GENIE_DONE, more == 0 && size == 0 && granules == 0);
-    answer = genie_allot(DISK, handle, sizeof handle, 7679, &fault);
+    answer = genie_allot(DISK, handle, sizeof handle, GENIE_HIGHEST_SECTOR(GRANULE_SECTORS), &fault);
     step("allot it the whole disk: more than is free", answer, GENIE_DISK_FULL, 1);
 
     answer = genie_compare(BEFORE, DISK, 0, told, sizeof told, &which, &kind, &position, &flags, &fault);
@@ -161,7 +166,7 @@ int main(void)
     answer = genie_compare(BEFORE, DISK, 0, told, sizeof told, &which, &kind, &position, &flags, &fault);
     step("compare with it: the second image is refused, by that slot", answer, GENIE_FAULT_HIT, which == 2 && kind == GENIE_NO_MORE && fault == 0x80);
     image[START * GENIE_SECTOR_BYTES + GENIE_SECTOR_BYTES + 0x80] = 0;
-    image[START * GENIE_SECTOR_BYTES + START / 5 / UNITS] = 0;
+    image[START * GENIE_SECTOR_BYTES + START / GRANULE_SECTORS / UNITS] = 0;
     answer = genie_count(DISK, &files, &left, &fault);
     step("count where the GAT marks the directory as free: no slot is at fault", answer, GENIE_FAULT_DIRECTORY_GRANULE, fault == GENIE_NO_SLOT);
 

@@ -42,6 +42,16 @@ fn data_disk() {
 }
 
 #[test]
+fn granules_of_ten_sectors() {
+    play("granules");
+}
+
+#[test]
+fn a_hard_disk() {
+    play("hard-disk");
+}
+
+#[test]
 fn full_disk() {
     play("full-disk");
 }
