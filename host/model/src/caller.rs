@@ -3,7 +3,7 @@
 
 use crate::call::{Call, Outcome};
 use crate::calls::{Birth, ACCEPTED};
-use crate::directory::{directory_sectors, entry, files, owned, slots};
+use crate::directory::{directory_sectors, entry, files, owned, slots, MARKER_LINK};
 use crate::disks::{in_small_letters, random_name, random_name_like, Disk};
 use crate::geometry::{Geometry, GRANULE_SIZES, MOST_UNITS};
 use crate::handle::{Handle, HANDLE_BYTES};
@@ -321,10 +321,6 @@ impl Caller {
     /// Some call.
     pub fn make(&self, random: &mut Random, image: &[u8], g: &Geometry) -> Call {
         match random.within(0, 110) {
-            107.. => {
-                let (name, room) = (self.name(random, image, g), Self::name_room(random));
-                Call::Name { name: if random.percent(30) { Self::bad_name(random) } else { name }, folded: room }
-            }
             0..=2 => Call::Check,
             3..=9 => Call::LookUp { name: self.name(random, image, g) },
             10..=19 => Call::Open {
@@ -377,7 +373,11 @@ impl Caller {
             }
             97 | 98 => Call::Count,
             99 => Call::Free,
-            _ => Call::BringBack { slot: self.killed_slot(random, image, g) },
+            100..=106 => Call::BringBack { slot: self.killed_slot(random, image, g) },
+            _ => {
+                let name = if random.percent(30) { Self::bad_name(random) } else { self.name(random, image, g) };
+                Call::Name { name, folded: Self::name_room(random) }
+            }
         }
     }
 
@@ -392,9 +392,13 @@ impl Caller {
             well_formed(&this.name()) && !this.is_extension()
         };
         let killed: Vec<u8> = dead.iter().copied().filter(looks_killed).collect();
+        // A chain to be whole in: seldom there, so asked for often.
+        let long: Vec<u8> =
+            killed.iter().copied().filter(|&slot| entry(image, g, slot).marker() == MARKER_LINK).collect();
         match random.within(if self.sober { 2 } else { 0 }, 19) {
             0 => wild(random),
             1 | 2 => random.byte() as usize,
+            5..=9 if !long.is_empty() => *random.pick(&long) as usize,
             3 if !dead.is_empty() => *random.pick(&dead) as usize,
             4 => Self::some_file(random, image, g).unwrap_or(0) as usize,
             _ if !killed.is_empty() => *random.pick(&killed) as usize,
