@@ -1,3 +1,4 @@
 pub mod Slots
 pub mod Quiet
 pub mod Revived
+pub mod Second
