@@ -1,9 +1,9 @@
 /* bench CALL DISK LIBRARY N      makes the call N times on the disk, by that library: genie (proved), fast (C for speed) or none (no library: what the
  *                                driver itself costs)
  * bench time CALL DISK LIBRARY   wall time of one call in nanoseconds, the driver's own work included
- * bench same                     whether genie and fast answer alike and leave image, handle, buffer and numbers alike, for each call on each disk,
- *                                take the same bytes for the same names, and tell the same fault of damaged disks; and that genie serves what fast
- *                                has not
+ * bench same                     whether genie and fast answer alike and leave image, handle, buffer and numbers alike, for each call
+ *                                on each disk, take the same bytes for the same names, and tell the same fault of damaged disks; and
+ *                                that genie serves what fast has not
  * bench names                    the calls, then the disks, a line each: name and title
  * bench image DISK FILE          writes the disk to a file and says its geometry
  */
@@ -42,8 +42,8 @@ NONE none_open(I, const uint8_t *n, size_t nl, size_t l, bool k, uint16_t w, uin
     USE, (void)n, (void)nl, (void)l, (void)k, (void)w, (void)h, (void)hl, (void)pl, (void)fs;
     return 0;
 }
-NONE none_create(IO, const uint8_t *n, size_t nl, size_t d, size_t m, size_t y, size_t l, uint16_t w, uint16_t v, bool k, size_t *o, uint8_t *h, size_t hl,
-                 size_t *pl, size_t *fs)
+NONE none_create(IO, const uint8_t *n, size_t nl, size_t d, size_t m, size_t y, size_t l, uint16_t w, uint16_t v, bool k, size_t *o,
+                 uint8_t *h, size_t hl, size_t *pl, size_t *fs)
 {
     USE, (void)n, (void)nl, (void)d, (void)m, (void)y, (void)l, (void)w, (void)v, (void)k, (void)o, (void)h, (void)hl, (void)pl, (void)fs;
     return 0;
@@ -223,11 +223,13 @@ static void once(struct work *w, const struct library *lib)
     case CHECK_MOST:
     case CHECK_FAULT: w->answer = lib->check(DISK, &w->fault_slot); break;
     case LOOK_UP:
-    case LOOK_UP_FAULT: w->answer = lib->look_up(DISK, d->subject, sizeof d->subject, &w->numbers[0], &w->numbers[1], &w->place, &w->fault_slot); break;
+    case LOOK_UP_FAULT:
+        w->answer = lib->look_up(DISK, d->subject, sizeof d->subject, &w->numbers[0], &w->numbers[1], &w->place, &w->fault_slot);
+        break;
     case OPEN: w->answer = lib->open(DISK, d->subject, sizeof d->subject, 256, true, 0, HANDLE, &w->place, &w->fault_slot); break;
     case CREATE:
-        w->answer = lib->create(DISK, (const uint8_t *)"FRISCH  NEU", GENIE_NAME_BYTES, 9, 10, 3, 256, 0x1234, 0x5678, true, &w->numbers[0], HANDLE, &w->place,
-                                &w->fault_slot);
+        w->answer = lib->create(DISK, (const uint8_t *)"FRISCH  NEU", GENIE_NAME_BYTES, 9, 10, 3, 256, 0x1234, 0x5678, true,
+                                &w->numbers[0], HANDLE, &w->place, &w->fault_slot);
         break;
     case READ:
     case READ_1: w->answer = lib->read_record(DISK, HANDLE, w->buffer, sizeof w->buffer, &w->fault_slot); break;
@@ -286,6 +288,15 @@ static double nanoseconds(struct work *w, const struct library *lib)
     return best;
 }
 
+/* Whether two answered alike and left alike what they were lent. */
+static bool alike(const struct work *a, const struct work *b)
+{
+    return a->answer == b->answer && !memcmp(a->disk.image, b->disk.image, a->disk.image_len) &&
+           !memcmp(a->handle, b->handle, sizeof a->handle) && !memcmp(a->buffer, b->buffer, sizeof a->buffer) &&
+           !memcmp(a->name, b->name, sizeof a->name) && !memcmp(a->numbers, b->numbers, sizeof a->numbers) &&
+           a->place == b->place && a->fault_slot == b->fault_slot;
+}
+
 static int same(void)
 {
     static struct work a, b;
@@ -306,25 +317,30 @@ static int same(void)
             for (size_t i = 0; i < sizeof a.buffer; i++) a.buffer[i] = b.buffer[i] = (uint8_t)(i * 5 + 1);
             once(&a, &libraries[0]);
             once(&b, &libraries[1]);
-            const bool alike = a.answer == b.answer && !memcmp(a.disk.image, b.disk.image, a.disk.image_len) &&
-                               !memcmp(a.handle, b.handle, sizeof a.handle) && !memcmp(a.buffer, b.buffer, sizeof a.buffer) &&
-                               !memcmp(a.name, b.name, sizeof a.name) && !memcmp(a.numbers, b.numbers, sizeof a.numbers) && a.place == b.place &&
-                               a.fault_slot == b.fault_slot;
-            printf("%s %s: %d %d%s\n", bench_disk_names[disk], whats[what].name, a.answer, b.answer, alike ? "" : " UNLIKE");
-            unlike += !alike;
+            printf("%s %s: %d %d%s\n", bench_disk_names[disk], whats[what].name, a.answer, b.answer, alike(&a, &b) ? "" : " UNLIKE");
+            unlike += !alike(&a, &b);
             free(a.disk.image);
             free(b.disk.image);
         }
     return unlike ? 1 : 0;
 }
 
+/* Creates a file of that name on the disk as it stood, and looks it up. */
+static void take(struct work *w, const struct library *lib, const uint8_t *name)
+{
+    struct bench_disk *const d = &w->disk;
+    memcpy(d->image + d->start * SECTOR_BYTES, w->directory, w->directory_len);
+    w->answer = lib->create(DISK, name, GENIE_NAME_BYTES, 9, 10, 3, 256, 1, 2, true, &w->numbers[0], HANDLE, &w->place, &w->fault_slot);
+    if (!w->answer) w->answer = lib->look_up(DISK, name, GENIE_NAME_BYTES, &w->numbers[1], &w->numbers[2], &w->place, &w->fault_slot);
+}
+
 /* Whether the two take the same bytes for the same name: each byte at each place of names given in letters of either size. */
 static int same_names(void)
 {
     static struct work a, b;
+    static const char given[][GENIE_NAME_BYTES + 1] = { "FRISCH  NEU", "frisch  neu", "ABCDEFGHXYZ", "a          ", "a b     c d" };
     int unlike = 0;
     size_t taken = 0;
-    static const char given[][GENIE_NAME_BYTES + 1] = { "FRISCH  NEU", "frisch  neu", "ABCDEFGHXYZ", "a          ", "a b     c d" };
     prepare(&a, CREATE, 1);
     prepare(&b, CREATE, 1);
     for (size_t i = 0; i < sizeof given / sizeof *given; i++)
@@ -333,19 +349,13 @@ static int same_names(void)
                 uint8_t name[GENIE_NAME_BYTES];
                 memcpy(name, given[i], sizeof name);
                 name[place] = (uint8_t)byte;
-                size_t first[5] = { 1, 1, 1, 1, 1 }, second[5] = { 2, 2, 2, 2, 2 };
-                struct bench_disk *d = &a.disk;
-                memcpy(d->image + d->start * SECTOR_BYTES, a.directory, a.directory_len);
-                const uint8_t number = genie_create(DISK, name, sizeof name, 9, 10, 3, 256, 1, 2, true, &first[0], a.handle, sizeof a.handle, &first[1], &first[2]);
-                genie_look_up(DISK, name, sizeof name, &first[3], &first[4], &first[1], &first[2]);
-                d = &b.disk;
-                memcpy(d->image + d->start * SECTOR_BYTES, b.directory, b.directory_len);
-                const uint8_t number2 = fast_create(DISK, name, sizeof name, 9, 10, 3, 256, 1, 2, true, &second[0], b.handle, sizeof b.handle, &second[1], &second[2]);
-                fast_look_up(DISK, name, sizeof name, &second[3], &second[4], &second[1], &second[2]);
-                if (number != number2 || memcmp(first, second, sizeof first) || memcmp(a.handle, b.handle, sizeof a.handle) ||
-                    memcmp(a.disk.image, b.disk.image, a.disk.image_len))
-                    printf("\"%s\" with %02XH at %zu: %d place %zu, %d place %zu UNLIKE\n", given[i], byte, place, number, first[1], number2, second[1]), unlike++;
-                taken += number == GENIE_DONE;
+                take(&a, &libraries[0], name);
+                take(&b, &libraries[1], name);
+                taken += a.answer == GENIE_DONE;
+                if (alike(&a, &b)) continue;
+                printf("\"%s\" with %02XH at %zu: %d place %zu, ", given[i], byte, place, a.answer, a.place);
+                printf("%d place %zu UNLIKE\n", b.answer, b.place);
+                unlike++;
             }
     printf("names: %zu taken\n", taken);
     free(a.disk.image);

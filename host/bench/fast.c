@@ -681,7 +681,8 @@ uint8_t FAST(check)(IMAGE, GEO, size_t *fault_slot)
     return EXAMINE(&d);
 }
 
-uint8_t FAST(look_up)(IMAGE, GEO, const uint8_t *name, size_t name_len, size_t *slot, size_t *compared, size_t *place, size_t *fault_slot)
+uint8_t FAST(look_up)(IMAGE, GEO, const uint8_t *name, size_t name_len, size_t *slot, size_t *compared, size_t *place,
+                      size_t *fault_slot)
 {
     struct disk d;
     uint8_t own[NAME];

@@ -370,7 +370,8 @@ static void one_call(size_t step)
         const size_t length = 1 + below(256), room = free_permitted();
         uint8_t given[11];
         in_small_letters(name, given);
-        const uint8_t r = fast_create(DISK, given, 11, below(32), below(16), below(16), length, 1, 2, false, &old, handle, 19, &place, &fault_slot);
+        const uint8_t r = fast_create(DISK, given, 11, below(32), below(16), below(16), length, 1, 2, false, &old, handle, 19, &place,
+                                      &fault_slot);
         answers[r]++;
         if (f->there ? r != 0 || old != 1 : r != (room ? 0 : 8) || old != 0) fail("create", step);
         if (r || old) refused_changes_nothing(step);
@@ -469,7 +470,8 @@ static void one_call(size_t step)
         r = fast_look_up(DISK, given, 11, &slot, &compared, &place, &fault_slot);
         if (r || slot != f->handle[0] || !compared) fail("look up", step);
         uint8_t opened[20] = { 0 };
-        if (fast_open(DISK, given, 11, length, true, 1, opened, 20, &place, &fault_slot) || memcmp(opened + 8, f->name, 11) || opened[0] != slot) fail("open", step);
+        r = fast_open(DISK, given, 11, length, true, 1, opened, 20, &place, &fault_slot);
+        if (r || memcmp(opened + 8, f->name, 11) || opened[0] != slot) fail("open", step);
         refused_changes_nothing(step);
         break;
     }
@@ -617,7 +619,8 @@ static void damage(size_t step)
             uint8_t handle[19];
             size_t old;
             if (fast_list(DISK, i, name, 11, &size, &granules, &more, &fault_slot) || more != (i < files_told)) fail("list", step);
-            if (more && (fast_create(DISK, name, 11, 0, 0, 0, 256, 0, 0, false, &old, handle, 19, &place, &fault_slot) || !old)) fail("create of an old file", step);
+            if (more && (fast_create(DISK, name, 11, 0, 0, 0, 256, 0, 0, false, &old, handle, 19, &place, &fault_slot) || !old))
+                fail("create of an old file", step);
         }
         memcpy(image, before, image_len);
     }
@@ -646,7 +649,8 @@ static void any_arguments(size_t step)
     if (fast_create(DISK, name, 11, 32 + below(9), 0, 0, 1, 0, 0, false, &a, handle, 19, &place, &fault_slot) != 12 || a) fail("day", step);
     if (fast_create(DISK, name, 11, 0, SIZE_MAX, 0, 1, 0, 0, false, &a, handle, 19, &place, &fault_slot) != 12) fail("month", step);
     if (fast_create(DISK, name, 11, 0, 0, 16, 1, 0, 0, false, &a, handle, 19, &place, &fault_slot) != 12) fail("year", step);
-    if (fast_create(DISK, name, 11, 0, 0, 0, below(2) ? 0 : 257, 0, 0, false, &a, handle, 19, &place, &fault_slot) != 12) fail("record length", step);
+    if (fast_create(DISK, name, 11, 0, 0, 0, below(2) ? 0 : 257, 0, 0, false, &a, handle, 19, &place, &fault_slot) != 12)
+        fail("record length", step);
     if (fast_create(DISK, name, 11, 0, 0, 0, 1, 0, 0, false, &a, handle, below(19), &place, &fault_slot) != 12) fail("short handle", step);
     if (fast_look_up(DISK, name, below(11), &a, &b, &place, &fault_slot) != 3 || a || b || place) fail("short name", step);
     if (fast_kill(DISK, handle, 19, &fault_slot) != 12) fail("the handle of zeros", step);

@@ -79,7 +79,8 @@ int main(void)
     memset(handle, 0xFF, sizeof handle);
     answer = genie_open(DISK, name, GENIE_NAME_BYTES, 256, true, 0, handle, sizeof handle, &place, &fault);
     step("open PULS01/DAT before it is there: a handle of zeros", answer, GENIE_NOT_FOUND, !memcmp(handle, zeros, sizeof zeros));
-    answer = genie_create(DISK, name, GENIE_NAME_BYTES, 9, 10, 3, 256, OPEN_CODE, OPEN_CODE, true, &old, handle, sizeof handle, &place, &fault);
+    answer = genie_create(DISK, name, GENIE_NAME_BYTES, 9, 10, 3, 256, OPEN_CODE, OPEN_CODE, true, &old, handle, sizeof handle, &place,
+                          &fault);
     step("create it, dated 9 October 1983, records of 256 bytes", answer, GENIE_DONE, old == 0 && handle[1] == 0 && position_of(handle) == 0);
     answer = genie_look_up(DISK, name, GENIE_NAME_BYTES, &slot, &compared, &place, &fault);
     step("look it up: slot 80H, the first that is not kept; one compared", answer, GENIE_DONE, slot == 0x80 && slot == handle[0] && compared == 1);
@@ -150,7 +151,8 @@ int main(void)
     step("bring it back once more: its slot is in use", answer, GENIE_SLOT_IN_USE, slots == 0 && granules == 0);
     answer = genie_kill(DISK, handle, sizeof handle, &fault);
     step("kill it again: its handle is good once more", answer, GENIE_DONE, 1);
-    answer = genie_create(AS_DATA_DISK, name, GENIE_NAME_BYTES, 9, 10, 3, 256, OPEN_CODE, OPEN_CODE, true, &old, handle, sizeof handle, &place, &fault);
+    answer = genie_create(AS_DATA_DISK, name, GENIE_NAME_BYTES, 9, 10, 3, 256, OPEN_CODE, OPEN_CODE, true, &old, handle, sizeof handle, &place,
+                          &fault);
     step("create it as on a data disk: slot 02H, the first that is not kept", answer, GENIE_DONE, old == 0 && handle[0] == 0x02);
     answer = genie_check(DISK, &fault);
     step("check it as a system disk", answer, GENIE_DONE, fault == GENIE_NO_SLOT);
