@@ -1,8 +1,9 @@
 /* bench CALL DISK LIBRARY N      makes the call N times on the disk, by that library: genie (proved), fast (C for speed) or none (no library: what the
  *                                driver itself costs)
  * bench time CALL DISK LIBRARY   wall time of one call in nanoseconds, the driver's own work included
- * bench same                     whether genie and fast answer alike and leave image, handle, buffer and numbers alike, for each call on each disk, and
- *                                tell the same fault of damaged disks; and that genie serves what fast has not
+ * bench same                     whether genie and fast answer alike and leave image, handle, buffer and numbers alike, for each call
+ *                                on each disk, take the same bytes for the same names, and tell the same fault of damaged disks; and
+ *                                that genie serves what fast has not
  * bench names                    the calls, then the disks, a line each: name and title
  * bench image DISK FILE          writes the disk to a file and says its geometry
  */
@@ -26,20 +27,25 @@ struct library {
 };
 
 /* No library: what the driver costs by itself. */
-#define I const uint8_t *i, size_t il, size_t b, size_t u, size_t s, uint16_t c, bool sd
-#define IO uint8_t *i, size_t il, size_t b, size_t u, size_t s, uint16_t c, bool sd
-#define USE (void)i, (void)il, (void)b, (void)u, (void)s, (void)c, (void)sd
+#define I const uint8_t *i, size_t il, size_t b, size_t u, size_t s, uint16_t c, bool sd, size_t gs
+#define IO uint8_t *i, size_t il, size_t b, size_t u, size_t s, uint16_t c, bool sd, size_t gs
+#define USE (void)i, (void)il, (void)b, (void)u, (void)s, (void)c, (void)sd, (void)gs
 #define NONE __attribute__((noinline)) static uint8_t
 NONE none_check(I, size_t *fs) { USE, (void)fs; return 0; }
-NONE none_look_up(I, const uint8_t *n, size_t nl, size_t *o, size_t *p, size_t *fs) { USE, (void)n, (void)nl, (void)o, (void)p, (void)fs; return 0; }
-NONE none_open(I, const uint8_t *n, size_t nl, size_t l, bool k, uint16_t w, uint8_t *h, size_t hl, size_t *fs)
+NONE none_look_up(I, const uint8_t *n, size_t nl, size_t *o, size_t *p, size_t *pl, size_t *fs)
 {
-    USE, (void)n, (void)nl, (void)l, (void)k, (void)w, (void)h, (void)hl, (void)fs;
+    USE, (void)n, (void)nl, (void)o, (void)p, (void)pl, (void)fs;
     return 0;
 }
-NONE none_create(IO, const uint8_t *n, size_t nl, size_t d, size_t m, size_t y, size_t l, uint16_t w, uint16_t v, bool k, size_t *o, uint8_t *h, size_t hl, size_t *fs)
+NONE none_open(I, const uint8_t *n, size_t nl, size_t l, bool k, uint16_t w, uint8_t *h, size_t hl, size_t *pl, size_t *fs)
 {
-    USE, (void)n, (void)nl, (void)d, (void)m, (void)y, (void)l, (void)w, (void)v, (void)k, (void)o, (void)h, (void)hl, (void)fs;
+    USE, (void)n, (void)nl, (void)l, (void)k, (void)w, (void)h, (void)hl, (void)pl, (void)fs;
+    return 0;
+}
+NONE none_create(IO, const uint8_t *n, size_t nl, size_t d, size_t m, size_t y, size_t l, uint16_t w, uint16_t v, bool k, size_t *o,
+                 uint8_t *h, size_t hl, size_t *pl, size_t *fs)
+{
+    USE, (void)n, (void)nl, (void)d, (void)m, (void)y, (void)l, (void)w, (void)v, (void)k, (void)o, (void)h, (void)hl, (void)pl, (void)fs;
     return 0;
 }
 NONE none_read_record(I, uint8_t *h, size_t hl, uint8_t *f, size_t fl, size_t *fs) { USE, (void)h, (void)hl, (void)f, (void)fl, (void)fs; return 0; }
@@ -50,10 +56,10 @@ NONE none_trim(IO, const uint8_t *h, size_t hl, size_t *fs) { USE, (void)h, (voi
 NONE none_kill(IO, const uint8_t *h, size_t hl, size_t *fs) { USE, (void)h, (void)hl, (void)fs; return 0; }
 NONE none_list(I, size_t n, uint8_t *m, size_t ml, size_t *z, size_t *g, size_t *o, size_t *fs) { USE, (void)n, (void)m, (void)ml, (void)z, (void)g, (void)o, (void)fs; return 0; }
 NONE none_count(I, size_t *f, size_t *r, size_t *fs) { USE, (void)f, (void)r, (void)fs; return 0; }
-NONE none_compare(I, const uint8_t *j, size_t jl, size_t b2, size_t u2, size_t s2, uint16_t c2, bool sd2, size_t n, uint8_t *m, size_t ml,
+NONE none_compare(I, const uint8_t *j, size_t jl, size_t b2, size_t u2, size_t s2, uint16_t c2, bool sd2, size_t gs2, size_t n, uint8_t *m, size_t ml,
                   size_t *o, size_t *k, size_t *p, size_t *f, size_t *fs)
 {
-    USE, (void)j, (void)jl, (void)b2, (void)u2, (void)s2, (void)c2, (void)sd2, (void)n, (void)m, (void)ml, (void)o, (void)k, (void)p, (void)f, (void)fs;
+    USE, (void)j, (void)jl, (void)b2, (void)u2, (void)s2, (void)c2, (void)sd2, (void)gs2, (void)n, (void)m, (void)ml, (void)o, (void)k, (void)p, (void)f, (void)fs;
     return 0;
 }
 
@@ -114,7 +120,7 @@ struct work {
     size_t k;
     /* What a call leaves. */
     uint8_t answer, handle[GENIE_HANDLE_BYTES], buffer[256], name[GENIE_NAME_BYTES];
-    size_t numbers[4], fault_slot;
+    size_t numbers[4], place, fault_slot;
 };
 
 static void stop(const char *why)
@@ -171,11 +177,11 @@ static void prepare(struct work *w, enum what what, size_t disk)
     w->what = what;
     if (!bench_disk_make(disk, &w->disk)) stop("no memory for the disk");
     struct bench_disk *const d = &w->disk;
-    const size_t middle = d->subject_size / 2 / GENIE_GRANULE_BYTES * GENIE_GRANULE_BYTES;
+    const size_t width = GENIE_GRANULE_BYTES(d->granule_sectors), middle = d->subject_size / 2 / width * width;
     size_t length = 256, position = middle;
     switch (what) {
     case APPEND: position = d->subject_size; break;
-    case ALLOT: w->k = (d->subject_size + GENIE_GRANULE_BYTES - 1) / GENIE_GRANULE_BYTES * 5 + 49; break;
+    case ALLOT: w->k = ((d->subject_size + width - 1) / width + 10) * d->granule_sectors - 1; break;
     case SECTOR: w->k = middle / SECTOR_BYTES; break;
     case TRIM: set_size(w, middle); break;
     case READ_1:
@@ -206,7 +212,7 @@ static void prepare(struct work *w, enum what what, size_t disk)
 /* One call, on the disk as it stood at first. (What a write puts into the file's sectors is the same each time.) */
 static void once(struct work *w, const struct library *lib)
 {
-#define DISK d->image, d->image_len, d->blocks, d->units, d->start, d->open_code, true
+#define DISK d->image, d->image_len, d->blocks, d->units, d->start, d->open_code, true, d->granule_sectors
 #define HANDLE w->handle, sizeof w->handle
     struct bench_disk *const d = &w->disk;
     if (whats[w->what].changes) memcpy(d->image + d->start * SECTOR_BYTES, w->directory, w->directory_len);
@@ -217,10 +223,13 @@ static void once(struct work *w, const struct library *lib)
     case CHECK_MOST:
     case CHECK_FAULT: w->answer = lib->check(DISK, &w->fault_slot); break;
     case LOOK_UP:
-    case LOOK_UP_FAULT: w->answer = lib->look_up(DISK, d->subject, sizeof d->subject, &w->numbers[0], &w->numbers[1], &w->fault_slot); break;
-    case OPEN: w->answer = lib->open(DISK, d->subject, sizeof d->subject, 256, true, 0, HANDLE, &w->fault_slot); break;
+    case LOOK_UP_FAULT:
+        w->answer = lib->look_up(DISK, d->subject, sizeof d->subject, &w->numbers[0], &w->numbers[1], &w->place, &w->fault_slot);
+        break;
+    case OPEN: w->answer = lib->open(DISK, d->subject, sizeof d->subject, 256, true, 0, HANDLE, &w->place, &w->fault_slot); break;
     case CREATE:
-        w->answer = lib->create(DISK, (const uint8_t *)"FRISCH  NEU", GENIE_NAME_BYTES, 9, 10, 3, 256, 0x1234, 0x5678, true, &w->numbers[0], HANDLE, &w->fault_slot);
+        w->answer = lib->create(DISK, (const uint8_t *)"FRISCH  NEU", GENIE_NAME_BYTES, 9, 10, 3, 256, 0x1234, 0x5678, true,
+                                &w->numbers[0], HANDLE, &w->place, &w->fault_slot);
         break;
     case READ:
     case READ_1: w->answer = lib->read_record(DISK, HANDLE, w->buffer, sizeof w->buffer, &w->fault_slot); break;
@@ -279,6 +288,15 @@ static double nanoseconds(struct work *w, const struct library *lib)
     return best;
 }
 
+/* Whether two answered alike and left alike what they were lent. */
+static bool alike(const struct work *a, const struct work *b)
+{
+    return a->answer == b->answer && !memcmp(a->disk.image, b->disk.image, a->disk.image_len) &&
+           !memcmp(a->handle, b->handle, sizeof a->handle) && !memcmp(a->buffer, b->buffer, sizeof a->buffer) &&
+           !memcmp(a->name, b->name, sizeof a->name) && !memcmp(a->numbers, b->numbers, sizeof a->numbers) &&
+           a->place == b->place && a->fault_slot == b->fault_slot;
+}
+
 static int same(void)
 {
     static struct work a, b;
@@ -299,14 +317,49 @@ static int same(void)
             for (size_t i = 0; i < sizeof a.buffer; i++) a.buffer[i] = b.buffer[i] = (uint8_t)(i * 5 + 1);
             once(&a, &libraries[0]);
             once(&b, &libraries[1]);
-            const bool alike = a.answer == b.answer && !memcmp(a.disk.image, b.disk.image, a.disk.image_len) &&
-                               !memcmp(a.handle, b.handle, sizeof a.handle) && !memcmp(a.buffer, b.buffer, sizeof a.buffer) &&
-                               !memcmp(a.name, b.name, sizeof a.name) && !memcmp(a.numbers, b.numbers, sizeof a.numbers) && a.fault_slot == b.fault_slot;
-            printf("%s %s: %d %d%s\n", bench_disk_names[disk], whats[what].name, a.answer, b.answer, alike ? "" : " UNLIKE");
-            unlike += !alike;
+            printf("%s %s: %d %d%s\n", bench_disk_names[disk], whats[what].name, a.answer, b.answer, alike(&a, &b) ? "" : " UNLIKE");
+            unlike += !alike(&a, &b);
             free(a.disk.image);
             free(b.disk.image);
         }
+    return unlike ? 1 : 0;
+}
+
+/* Creates a file of that name on the disk as it stood, and looks it up. */
+static void take(struct work *w, const struct library *lib, const uint8_t *name)
+{
+    struct bench_disk *const d = &w->disk;
+    memcpy(d->image + d->start * SECTOR_BYTES, w->directory, w->directory_len);
+    w->answer = lib->create(DISK, name, GENIE_NAME_BYTES, 9, 10, 3, 256, 1, 2, true, &w->numbers[0], HANDLE, &w->place, &w->fault_slot);
+    if (!w->answer) w->answer = lib->look_up(DISK, name, GENIE_NAME_BYTES, &w->numbers[1], &w->numbers[2], &w->place, &w->fault_slot);
+}
+
+/* Whether the two take the same bytes for the same name: each byte at each place of names given in letters of either size. */
+static int same_names(void)
+{
+    static struct work a, b;
+    static const char given[][GENIE_NAME_BYTES + 1] = { "FRISCH  NEU", "frisch  neu", "ABCDEFGHXYZ", "a          ", "a b     c d" };
+    int unlike = 0;
+    size_t taken = 0;
+    prepare(&a, CREATE, 1);
+    prepare(&b, CREATE, 1);
+    for (size_t i = 0; i < sizeof given / sizeof *given; i++)
+        for (size_t place = 0; place < GENIE_NAME_BYTES; place++)
+            for (unsigned byte = 0; byte < 256; byte++) {
+                uint8_t name[GENIE_NAME_BYTES];
+                memcpy(name, given[i], sizeof name);
+                name[place] = (uint8_t)byte;
+                take(&a, &libraries[0], name);
+                take(&b, &libraries[1], name);
+                taken += a.answer == GENIE_DONE;
+                if (alike(&a, &b)) continue;
+                printf("\"%s\" with %02XH at %zu: %d place %zu, ", given[i], byte, place, a.answer, a.place);
+                printf("%d place %zu UNLIKE\n", b.answer, b.place);
+                unlike++;
+            }
+    printf("names: %zu taken\n", taken);
+    free(a.disk.image);
+    free(b.disk.image);
     return unlike ? 1 : 0;
 }
 
@@ -349,7 +402,7 @@ static int write_image(const char *disk, const char *path)
     if (!bench_disk_make(named(disk, bench_disk_names, BENCH_DISKS, "disk"), &d)) stop("no memory for the disk");
     FILE *const f = fopen(path, "wb");
     if (!f || fwrite(d.image, 1, d.image_len, f) != d.image_len || fclose(f)) stop("the image cannot be written");
-    printf("blocks %zu units %zu start %zu open_code %u\n", d.blocks, d.units, d.start, d.open_code);
+    printf("blocks %zu units %zu start %zu open_code %u granule_sectors %zu\n", d.blocks, d.units, d.start, d.open_code, d.granule_sectors);
     free(d.image);
     return 0;
 }
@@ -361,7 +414,7 @@ int main(int argc, char **argv)
     for (size_t i = 0; i < WHATS; i++) what_names[i] = whats[i].name;
     for (size_t i = 0; i < 3; i++) library_names[i] = libraries[i].name;
 
-    if (argc == 2 && !strcmp(argv[1], "same")) return same() | same_faults();
+    if (argc == 2 && !strcmp(argv[1], "same")) return same() | same_names() | same_faults();
     if (argc == 2 && !strcmp(argv[1], "names")) {
         for (size_t i = 0; i < WHATS; i++) printf("call %s %s\n", whats[i].name, whats[i].title);
         for (size_t i = 0; i < BENCH_DISKS; i++) printf("disk %s %s\n", bench_disk_names[i], bench_disk_titles[i]);

@@ -3,15 +3,16 @@
 #include <stdlib.h>
 #include <string.h>
 
-const char *const bench_disk_names[BENCH_DISKS] = { "full", "typical", "largest", "scattered" };
+const char *const bench_disk_names[BENCH_DISKS] = { "full", "typical", "largest", "scattered", "hard" };
 const char *const bench_disk_titles[BENCH_DISKS] = {
     "full: directory of 224 entries, 224 files",
     "typical: 40 files",
     "largest: one file of 1.9 MB",
     "scattered: one file of 150 entries",
+    "hard: granules of 20 sectors, one file of 7.6 MB",
 };
 
-enum { SECTOR = 256, GRANULE_SECTORS = 5, GRANULE = SECTOR * GRANULE_SECTORS, SYSTEM = 0x40, IN_USE = 0x10 };
+enum { SECTOR = 256, SYSTEM = 0x40, IN_USE = 0x10 };
 
 static uint8_t *entry_at(struct bench_disk *d, size_t slot) { return d->image + d->start * SECTOR + (slot % 32 + 2) * SECTOR + slot / 32 * 32; }
 
@@ -28,14 +29,15 @@ static uint8_t hash(const uint8_t *name)
 static void take(struct bench_disk *d, size_t granule) { d->image[d->start * SECTOR + granule / d->units] |= (uint8_t)(1u << granule % d->units); }
 
 /* A blank disk, each data sector beginning with its number; the directory's granules are taken. */
-static int blank(struct bench_disk *d, size_t blocks, size_t units, size_t start, size_t sectors)
+static int blank(struct bench_disk *d, size_t blocks, size_t units, size_t start, size_t sectors, size_t granule_sectors)
 {
     memset(d, 0, sizeof *d);
     d->blocks = blocks;
     d->units = units;
     d->start = start;
     d->open_code = 0x9642;
-    d->image_len = blocks * units * GRANULE;
+    d->granule_sectors = granule_sectors;
+    d->image_len = blocks * units * granule_sectors * SECTOR;
     d->image = calloc(d->image_len, 1);
     if (!d->image) return 0;
     for (size_t k = 0; k < d->image_len / SECTOR; k++) {
@@ -44,7 +46,7 @@ static int blank(struct bench_disk *d, size_t blocks, size_t units, size_t start
     }
     memset(d->image + start * SECTOR, 0, sectors * SECTOR);
     d->image[start * SECTOR + SECTOR + 0x1F] = (uint8_t)(sectors - 10);
-    for (size_t g = start / GRANULE_SECTORS; g < (start + sectors) / GRANULE_SECTORS; g++) take(d, g);
+    for (size_t g = start / granule_sectors; g * granule_sectors < start + sectors; g++) take(d, g);
     return 1;
 }
 
@@ -77,7 +79,7 @@ static void put_file(struct bench_disk *d, const size_t *slots, const char *name
         }
     }
     uint8_t *const e = entry_at(d, slots[0]);
-    const size_t size = owned * GRANULE - spare, n = (size + SECTOR - 1) / SECTOR;
+    const size_t size = owned * d->granule_sectors * SECTOR - spare, n = (size + SECTOR - 1) / SECTOR;
     e[1] = 9;
     e[2] = 0x3A;
     e[3] = (uint8_t)size;
@@ -117,7 +119,7 @@ static void series_name(char *name, size_t number)
 /* 224 files in 224 slots: two system files, of which one is the directory itself, and 222 others of three granules, each third one in two runs. */
 static int full(struct bench_disk *d)
 {
-    if (!blank(d, 192, 8, 3840, 30)) return 0;
+    if (!blank(d, 192, 8, 3840, 30, 5)) return 0;
     const size_t zero = 0, one = 1;
     put_file(d, &zero, "BOOT    SYS", SYSTEM, &(struct run){ 0, 1 }, 1, 0);
     put_file(d, &one, "DIR     SYS", SYSTEM, &(struct run){ 768, 6 }, 1, 0);
@@ -138,7 +140,7 @@ static int full(struct bench_disk *d)
 static int typical(struct bench_disk *d)
 {
     static const char *const system[6] = { "BOOT    SYS", "DIR     SYS", "GDOS    SYS", "SYS1    SYS", "SYS2    SYS", "SYS3    SYS" };
-    if (!blank(d, 80, 7, 1400, 15)) return 0;
+    if (!blank(d, 80, 7, 1400, 15, 5)) return 0;
     size_t granule = 1;
     for (size_t i = 0; i < 6; i++) {
         put_file(d, &i, system[i], SYSTEM, &(struct run){ i == 0 ? 0 : i == 1 ? 280 : granule, i == 0 ? 1 : 3 }, 1, 0);
@@ -170,10 +172,10 @@ static int typical(struct bench_disk *d)
     return granule <= d->blocks * d->units;
 }
 
-/* One file of 1,900,700 bytes, 1,485 granules in runs of 32, on the largest disk. */
-static int largest(struct bench_disk *d)
+/* One file of 1,485 granules less 100 bytes, in runs of 32, on a disk of as many granules as there can be; the directory at its end. */
+static int one_large_file(struct bench_disk *d, size_t granule_sectors)
 {
-    if (!blank(d, 192, 8, 7670, 10)) return 0;
+    if (!blank(d, 192, 8, 1534 * granule_sectors, 10, granule_sectors)) return 0;
     struct run runs[47];
     size_t slots[12];
     for (size_t j = 0; j < 47; j++) runs[j] = (struct run){ 1 + 32 * j, j == 46 ? 1485 - 46 * 32 : 32 };
@@ -183,10 +185,14 @@ static int largest(struct bench_disk *d)
     return 1;
 }
 
+/* The largest disk of granules of 5 sectors, the file has 1,900,700 bytes; and of granules of 20, the file has 7,603,100. */
+static int largest(struct bench_disk *d) { return one_large_file(d, 5); }
+static int hard(struct bench_disk *d) { return one_large_file(d, 20); }
+
 /* One file of 600 runs of one granule, every second one, in 150 entries. */
 static int scattered(struct bench_disk *d)
 {
-    if (!blank(d, 192, 8, 3840, 30)) return 0;
+    if (!blank(d, 192, 8, 3840, 30, 5)) return 0;
     struct run runs[600];
     size_t slots[150], slot = 8;
     for (size_t j = 0; j < 600; j++) runs[j] = (struct run){ j < 380 ? 1 + 2 * j : 15 + 2 * j, 1 };
@@ -201,6 +207,6 @@ static int scattered(struct bench_disk *d)
 
 int bench_disk_make(size_t number, struct bench_disk *disk)
 {
-    static int (*const make[BENCH_DISKS])(struct bench_disk *) = { full, typical, largest, scattered };
+    static int (*const make[BENCH_DISKS])(struct bench_disk *) = { full, typical, largest, scattered, hard };
     return make[number](disk);
 }

@@ -11,10 +11,6 @@
 
 enum {
     SECTOR = GENIE_SECTOR_BYTES,
-    GRANULE_SECTORS = 5,
-    GRANULE = GENIE_GRANULE_BYTES,
-    HIGHEST_POSITION = GENIE_HIGHEST_POSITION,
-    HIGHEST_SECTOR = 7679,
     MAX_GRANULES = 192 * 8,
     MAX_SLOTS = 8 * 28,
     NAME = GENIE_NAME_BYTES,
@@ -56,14 +52,16 @@ struct disk {
     size_t granules;
     size_t units;
     size_t columns; /* s runs from 0 to columns - 1 */
+    size_t sectors; /* of a granule */
+    size_t width;   /* its bytes */
     bool system;    /* a system disk keeps rows 0 to 3 with s 0 to 7, a data disk slots 00H and 01H */
     uint64_t taken[MAP_WORDS];
 };
 
 #define IMAGE const uint8_t *image, size_t image_len
 #define IMAGE_OUT uint8_t *image, size_t image_len
-#define GEO size_t blocks, size_t units, size_t start, uint16_t open_code, bool system_disk
-#define EXAMINE(d) examine(image, image_len, blocks, units, start, system_disk, (d), fault_slot)
+#define GEO size_t blocks, size_t units, size_t start, uint16_t open_code, bool system_disk, size_t granule_sectors
+#define EXAMINE(d) examine(image, image_len, blocks, units, start, system_disk, granule_sectors, (d), fault_slot)
 
 static inline uint64_t load8(const void *p) { uint64_t v; memcpy(&v, p, 8); return v; }
 static inline void store8(void *p, uint64_t v) { memcpy(p, &v, 8); }
@@ -125,6 +123,43 @@ static inline bool well_formed(struct name n)
     return first != 0 && first != BAD_NAME && type != BAD_NAME;
 }
 
+/* Bytes 61H to 7DH as 41H to 5DH, eight at once. */
+static inline uint64_t folded(uint64_t v)
+{
+    const uint64_t top = EACH(0x80), low = v & ~top;
+    const uint64_t small = (low + EACH(0x80 - 0x61)) & ~(low + EACH(0x80 - 0x7E)) & ~v & top;
+    return v - (small >> 2); /* a quarter of 80H is 20H */
+}
+
+/* The place of the first bad byte, of 11 that are not well formed. */
+static size_t first_bad(const uint8_t *name)
+{
+    size_t i = 0;
+    while (i < NAME) {
+        const uint8_t b = name[i];
+        const bool allowed = (b >= 0x30 && b <= 0x39) || (b >= 0x41 && b <= 0x5D);
+        if (b == 0x20 ? i == 0 : !allowed || (i % 8 && name[i - 1] == 0x20)) break;
+        i++;
+    }
+    return i;
+}
+
+/* A name as it comes in, folded, to own; or false, with the place of its first bad byte. */
+static inline bool comes_in(const uint8_t *name, size_t name_len, uint8_t own[NAME], size_t *place)
+{
+    if (name_len != NAME) {
+        *place = 0;
+        return false;
+    }
+    const struct name n = { folded(load8(name)), (uint32_t)folded(load4(name + 7) >> 8) };
+    store8(own, n.first);
+    memcpy(own + 8, &n.type, NAME - 8);
+    *place = GENIE_NO_PLACE;
+    if (well_formed(n)) return true;
+    *place = first_bad(own);
+    return false;
+}
+
 /* ---- The check ---- */
 
 /* GAT bytes, of which `units` bits count, to one bit a granule: eight blocks at a time. */
@@ -155,15 +190,15 @@ static bool consistent(const uint8_t *image, size_t start, struct disk *d)
     const size_t extra = hit[DIRECTORY_LENGTH], units = d->units;
     if (extra > 20 || extra % 5) return false;
     const size_t sectors = 10 + extra;
-    if (start + sectors > d->granules * GRANULE_SECTORS) return false;
+    if (start + sectors > d->granules * d->sectors) return false;
     const size_t columns = d->columns = sectors - 2;
 
     /* `left`: granules that are taken, lie in no run so far and are open to any file; `directory`: those open to system files only. */
     uint64_t left[MAP_WORDS], directory[MAP_WORDS] = { 0 };
     memcpy(left, d->taken, sizeof left);
     {
-        const size_t first = start / GRANULE_SECTORS;
-        const uint64_t mask = run_mask(first, sectors / GRANULE_SECTORS);
+        const size_t first = start / d->sectors;
+        const uint64_t mask = run_mask(first, (sectors + d->sectors - 1) / d->sectors);
         uint8_t *at = (uint8_t *)left + first / 8;
         if ((load8(at) & mask) != mask) return false;
         store8(at, load8(at) & ~mask);
@@ -239,7 +274,7 @@ static bool consistent(const uint8_t *image, size_t start, struct disk *d)
                 met++;
             }
             const size_t n = load2(entry + E_COUNT);
-            if ((n == 0 && entry[E_END] != 0) || n > owned * GRANULE_SECTORS) return false;
+            if ((n == 0 && entry[E_END] != 0) || n > owned * d->sectors) return false;
         }
     }
     return extensions == met;
@@ -340,7 +375,7 @@ static uint8_t fault_at(const uint8_t *image, const struct disk *d, const struct
 
     /* The kinds that a run can have: each is told before the next, whichever run it is of. */
     bool missing = false, shared = false, of_directory = false;
-    const size_t first = d->directory / GRANULE, behind = first + (d->columns + 2) / GRANULE_SECTORS;
+    const size_t first = d->directory / d->width, behind = first + (d->columns + 2 + d->sectors - 1) / d->sectors;
     for (size_t i = 0; i < runs_of(e); i++) {
         const uint8_t *const pair = e + E_PAIRS + 2 * i;
         const size_t unit = pair[1] >> 5, granule = pair[0] * d->units + unit, end = granule + (pair[1] & 31) + 1;
@@ -356,7 +391,7 @@ static uint8_t fault_at(const uint8_t *image, const struct disk *d, const struct
     if (shared) return GENIE_FAULT_GRANULE_SHARED;
     if (!extension) {
         const size_t n = load2(e + E_COUNT), granules = whole(image, d, w, slot);
-        if (granules != SIZE_MAX && ((n == 0 && e[E_END] != 0) || n > granules * GRANULE_SECTORS)) return GENIE_FAULT_SIZE;
+        if (granules != SIZE_MAX && ((n == 0 && e[E_END] != 0) || n > granules * d->sectors)) return GENIE_FAULT_SIZE;
     }
     return of_directory && !(file[E_FLAGS] & SYSTEM) ? GENIE_FAULT_DIRECTORY_GRANULE : 0;
 }
@@ -364,7 +399,7 @@ static uint8_t fault_at(const uint8_t *image, const struct disk *d, const struct
 __attribute__((noinline)) static uint8_t fault_of(const uint8_t *image, size_t start, struct disk *d, size_t *fault_slot)
 {
     const size_t extra = hit_of(image, d)[DIRECTORY_LENGTH];
-    if (extra > 20 || extra % 5 || start + 10 + extra > d->granules * GRANULE_SECTORS) return GENIE_FAULT_DIRECTORY_LENGTH;
+    if (extra > 20 || extra % 5 || start + 10 + extra > d->granules * d->sectors) return GENIE_FAULT_DIRECTORY_LENGTH;
     d->columns = 8 + extra;
     struct walks w;
     uint64_t owned[MAP_WORDS] = { 0 };
@@ -380,15 +415,19 @@ __attribute__((noinline)) static uint8_t fault_of(const uint8_t *image, size_t s
 }
 
 /* Refusals 1 and 21 to 30. */
-static uint8_t examine(IMAGE, size_t blocks, size_t units, size_t start, bool system_disk, struct disk *d, size_t *fault_slot)
+static uint8_t examine(IMAGE, size_t blocks, size_t units, size_t start, bool system_disk, size_t granule_sectors, struct disk *d,
+                       size_t *fault_slot)
 {
     *fault_slot = GENIE_NO_SLOT;
+    if (granule_sectors != 5 && granule_sectors != 10 && granule_sectors != 20) return GENIE_GEOMETRY;
     if (blocks < 1 || blocks > 192 || units < 1 || units > 8) return GENIE_GEOMETRY;
     d->granules = blocks * units;
     d->units = units;
     d->system = system_disk;
-    if (image_len != d->granules * GRANULE || start % GRANULE_SECTORS) return GENIE_GEOMETRY;
-    if (start > d->granules * GRANULE_SECTORS || d->granules * GRANULE_SECTORS - start < 10) return GENIE_GEOMETRY;
+    d->sectors = granule_sectors;
+    d->width = GENIE_GRANULE_BYTES(granule_sectors);
+    if (image_len != d->granules * d->width || start % granule_sectors) return GENIE_GEOMETRY;
+    if (start > d->granules * granule_sectors || d->granules * granule_sectors - start < 10) return GENIE_GEOMETRY;
     d->directory = start * SECTOR;
     pack(d->taken, gat_of(image, d), blocks, units);
     return consistent(image, start, d) ? GENIE_DONE : fault_of(image, start, d, fault_slot);
@@ -456,14 +495,14 @@ static void put_handle(uint8_t *handle, size_t slot, size_t level, size_t length
     memcpy(handle + 8, name, NAME);
 }
 
-static inline bool in_range(const uint8_t *handle, size_t handle_len, struct held *h)
+static inline bool in_range(const uint8_t *handle, size_t handle_len, const struct disk *d, struct held *h)
 {
     if (handle_len < HANDLE) return false;
     h->slot = handle[0];
     h->level = handle[1];
     h->length = load2(handle + 2);
     h->position = load4(handle + 4);
-    return h->level <= 7 && h->length >= 1 && h->length <= 256 && h->position <= HIGHEST_POSITION;
+    return h->level <= 7 && h->length >= 1 && h->length <= 256 && h->position <= GENIE_HIGHEST_POSITION(d->sectors);
 }
 
 static inline bool stale(const uint8_t *image, const struct disk *d, const uint8_t *handle)
@@ -507,10 +546,10 @@ static size_t seek(const uint8_t *image, const struct disk *d, struct cursor *c,
             c->pair = 0;
         }
         const uint8_t *const pair = c->entry + E_PAIRS + 2 * c->pair;
-        const size_t bytes = run_count(pair) * GRANULE;
+        const size_t bytes = run_count(pair) * d->width;
         if (position < c->base + bytes) {
             *room = c->base + bytes - position;
-            return run_granule(pair, d) * GRANULE + (position - c->base);
+            return run_granule(pair, d) * d->width + (position - c->base);
         }
         c->base += bytes;
         c->pair++;
@@ -642,55 +681,63 @@ uint8_t FAST(check)(IMAGE, GEO, size_t *fault_slot)
     return EXAMINE(&d);
 }
 
-uint8_t FAST(look_up)(IMAGE, GEO, const uint8_t *name, size_t name_len, size_t *slot, size_t *compared, size_t *fault_slot)
+uint8_t FAST(look_up)(IMAGE, GEO, const uint8_t *name, size_t name_len, size_t *slot, size_t *compared, size_t *place,
+                      size_t *fault_slot)
 {
     struct disk d;
+    uint8_t own[NAME];
     (void)open_code;
     *slot = *compared = 0;
+    *place = GENIE_NO_PLACE;
     const uint8_t refusal = EXAMINE(&d);
     if (refusal) return refusal;
-    if (name_len != NAME || !well_formed(name_at(name))) return GENIE_NAME;
-    const size_t found = find(image, &d, name, compared);
+    if (!comes_in(name, name_len, own, place)) return GENIE_NAME;
+    const size_t found = find(image, &d, own, compared);
     if (found == NO_SLOT) return GENIE_NOT_FOUND;
     *slot = found;
     return GENIE_DONE;
 }
 
 uint8_t FAST(open)(IMAGE, GEO, const uint8_t *name, size_t name_len, size_t length, bool checking, uint16_t code, uint8_t *handle, size_t handle_len,
-                   size_t *fault_slot)
+                   size_t *place, size_t *fault_slot)
 {
     struct disk d;
     size_t compared;
+    uint8_t own[NAME];
+    *place = GENIE_NO_PLACE;
     if (handle_len >= HANDLE) memset(handle, 0, HANDLE);
     const uint8_t refusal = EXAMINE(&d);
     if (refusal) return refusal;
     if (length < 1 || length > 256 || handle_len < HANDLE) return GENIE_RANGE;
-    if (name_len != NAME || !well_formed(name_at(name))) return GENIE_NAME;
-    const size_t slot = find(image, &d, name, &compared);
+    if (!comes_in(name, name_len, own, place)) return GENIE_NAME;
+    const size_t slot = find(image, &d, own, &compared);
     if (slot == NO_SLOT) return GENIE_NOT_FOUND;
     const size_t level = level_of(entry_of(image, &d, slot), open_code, checking, code);
     if (level > 7) return GENIE_PASSWORD;
-    put_handle(handle, slot, level, length, name);
+    put_handle(handle, slot, level, length, own);
     return GENIE_DONE;
 }
 
 uint8_t FAST(create)(IMAGE_OUT, GEO, const uint8_t *name, size_t name_len, size_t day, size_t month, size_t year, size_t length, uint16_t main_code,
-                     uint16_t worker_code, bool checking, size_t *old, uint8_t *handle, size_t handle_len, size_t *fault_slot)
+                     uint16_t worker_code, bool checking, size_t *old, uint8_t *handle, size_t handle_len, size_t *place,
+                     size_t *fault_slot)
 {
     struct disk d;
     size_t compared;
+    uint8_t own[NAME];
     *old = 0;
+    *place = GENIE_NO_PLACE;
     if (handle_len >= HANDLE) memset(handle, 0, HANDLE);
     const uint8_t refusal = EXAMINE(&d);
     if (refusal) return refusal;
     if (day > 31 || month > 15 || year > 15 || length < 1 || length > 256 || handle_len < HANDLE) return GENIE_RANGE;
-    if (name_len != NAME || !well_formed(name_at(name))) return GENIE_NAME;
-    size_t slot = find(image, &d, name, &compared);
+    if (!comes_in(name, name_len, own, place)) return GENIE_NAME;
+    size_t slot = find(image, &d, own, &compared);
     if (slot != NO_SLOT) {
         const size_t level = level_of(entry_of(image, &d, slot), open_code, checking, main_code);
         if (level > 7) return GENIE_PASSWORD;
         *old = 1;
-        put_handle(handle, slot, level, length, name);
+        put_handle(handle, slot, level, length, own);
         return GENIE_DONE;
     }
     slot = free_slot(image, &d, 0);
@@ -702,11 +749,11 @@ uint8_t FAST(create)(IMAGE_OUT, GEO, const uint8_t *name, size_t name_len, size_
     e[E_DAY] = (uint8_t)day;
     e[E_MONTH] = (uint8_t)(year << 4 | month);
     e[E_LENGTH] = (uint8_t)length;
-    memcpy(e + E_NAME, name, NAME);
+    memcpy(e + E_NAME, own, NAME);
     store2(e + E_MAIN, main_code);
     store2(e + E_WORKER, worker_code);
-    image[d.directory + SECTOR + slot] = hash(name_at(name));
-    put_handle(handle, slot, 0, length, name);
+    image[d.directory + SECTOR + slot] = hash(name_at(own));
+    put_handle(handle, slot, 0, length, own);
     return GENIE_DONE;
 }
 
@@ -717,7 +764,7 @@ uint8_t FAST(read_record)(IMAGE, GEO, uint8_t *handle, size_t handle_len, uint8_
     (void)open_code;
     const uint8_t refusal = EXAMINE(&d);
     if (refusal) return refusal;
-    if (!in_range(handle, handle_len, &h) || buffer_len < h.length) return GENIE_RANGE;
+    if (!in_range(handle, handle_len, &d, &h) || buffer_len < h.length) return GENIE_RANGE;
     if (stale(image, &d, handle)) return GENIE_STALE;
     if (h.level > 5) return GENIE_LEVEL;
     const uint8_t *const e = entry_of(image, &d, h.slot);
@@ -741,7 +788,7 @@ uint8_t FAST(read_sector)(IMAGE, GEO, const uint8_t *handle, size_t handle_len, 
     *from = *to = 0;
     const uint8_t refusal = EXAMINE(&d);
     if (refusal) return refusal;
-    if (!in_range(handle, handle_len, &h) || k > HIGHEST_SECTOR) return GENIE_RANGE;
+    if (!in_range(handle, handle_len, &d, &h) || k > GENIE_HIGHEST_SECTOR(granule_sectors)) return GENIE_RANGE;
     if (stale(image, &d, handle)) return GENIE_STALE;
     if (h.level > 5) return GENIE_LEVEL;
     const uint8_t *const e = entry_of(image, &d, h.slot);
@@ -761,14 +808,14 @@ uint8_t FAST(write_record)(IMAGE_OUT, GEO, uint8_t *handle, size_t handle_len, b
     (void)open_code;
     const uint8_t refusal = EXAMINE(&d);
     if (refusal) return refusal;
-    if (!in_range(handle, handle_len, &h) || buffer_len < h.length || h.position + h.length > HIGHEST_POSITION) return GENIE_RANGE;
+    if (!in_range(handle, handle_len, &d, &h) || buffer_len < h.length || h.position + h.length > GENIE_HIGHEST_POSITION(granule_sectors)) return GENIE_RANGE;
     if (stale(image, &d, handle)) return GENIE_STALE;
     uint8_t *const e = entry_out(image, &d, h.slot);
     if (h.level > 4 || (e[E_FLAGS] & SYSTEM)) return GENIE_LEVEL;
     const size_t size = size_of(e), end = h.position + h.length, new_size = sequential || end > size ? end : size;
     if (new_size > size) {
         const struct extent x = measure(image, &d, h.slot);
-        const size_t wanted = (new_size + GRANULE - 1) / GRANULE;
+        const size_t wanted = (new_size + d.width - 1) / d.width;
         if (wanted > x.owned) {
             if (e[E_DAY] & NO_GROWTH) return GENIE_NO_GROWTH;
             const uint8_t refused = grow(image, &d, h.slot, &x, wanted - x.owned);
@@ -802,12 +849,12 @@ uint8_t FAST(allot)(IMAGE_OUT, GEO, const uint8_t *handle, size_t handle_len, si
     (void)open_code;
     const uint8_t refusal = EXAMINE(&d);
     if (refusal) return refusal;
-    if (!in_range(handle, handle_len, &h) || k > HIGHEST_SECTOR) return GENIE_RANGE;
+    if (!in_range(handle, handle_len, &d, &h) || k > GENIE_HIGHEST_SECTOR(granule_sectors)) return GENIE_RANGE;
     if (stale(image, &d, handle)) return GENIE_STALE;
     const uint8_t *const e = entry_of(image, &d, h.slot);
     if (h.level > 4 || (e[E_FLAGS] & SYSTEM)) return GENIE_LEVEL;
     const struct extent x = measure(image, &d, h.slot);
-    const size_t wanted = k / GRANULE_SECTORS + 1;
+    const size_t wanted = k / granule_sectors + 1;
     if (wanted <= x.owned) return GENIE_DONE;
     if (e[E_DAY] & NO_GROWTH) return GENIE_NO_GROWTH;
     return grow(image, &d, h.slot, &x, wanted - x.owned);
@@ -820,13 +867,13 @@ uint8_t FAST(trim)(IMAGE_OUT, GEO, const uint8_t *handle, size_t handle_len, siz
     (void)open_code;
     const uint8_t refusal = EXAMINE(&d);
     if (refusal) return refusal;
-    if (!in_range(handle, handle_len, &h)) return GENIE_RANGE;
+    if (!in_range(handle, handle_len, &d, &h)) return GENIE_RANGE;
     if (stale(image, &d, handle)) return GENIE_STALE;
     uint8_t *e = entry_out(image, &d, h.slot), *previous = NULL;
     if (h.level > 4 || (e[E_FLAGS] & SYSTEM)) return GENIE_LEVEL;
     if (e[E_DAY] & KEEP_SPACE) return GENIE_DONE;
     uint8_t *const hit = image + d.directory + SECTOR;
-    const size_t keep = (size_of(e) + GRANULE - 1) / GRANULE;
+    const size_t keep = (size_of(e) + d.width - 1) / d.width;
     for (size_t slot = h.slot, owned = 0;;) {
         const bool emptied = previous != NULL && owned >= keep;
         size_t runs;
@@ -860,7 +907,7 @@ uint8_t FAST(kill)(IMAGE_OUT, GEO, const uint8_t *handle, size_t handle_len, siz
     (void)open_code;
     const uint8_t refusal = EXAMINE(&d);
     if (refusal) return refusal;
-    if (!in_range(handle, handle_len, &h)) return GENIE_RANGE;
+    if (!in_range(handle, handle_len, &d, &h)) return GENIE_RANGE;
     if (stale(image, &d, handle)) return GENIE_STALE;
     uint8_t *e = entry_out(image, &d, h.slot);
     if (h.level > 1 || (e[E_FLAGS] & SYSTEM)) return GENIE_LEVEL;
@@ -948,18 +995,18 @@ static size_t parting(const uint8_t *image, const struct disk *d, const uint8_t 
 }
 
 uint8_t FAST(compare)(const uint8_t *first, size_t first_len, GEO, const uint8_t *second, size_t second_len, size_t blocks2, size_t units2, size_t start2,
-                      uint16_t open_code2, bool system_disk2, size_t number, uint8_t *name, size_t name_len, size_t *image,
-                      size_t *kind, size_t *position, size_t *flags, size_t *fault_slot)
+                      uint16_t open_code2, bool system_disk2, size_t granule_sectors2, size_t number, uint8_t *name, size_t name_len,
+                      size_t *image, size_t *kind, size_t *position, size_t *flags, size_t *fault_slot)
 {
     struct disk d, d2;
     const uint8_t *ours[MAX_SLOTS], *theirs[MAX_SLOTS];
     (void)open_code, (void)open_code2;
     *kind = *position = *flags = 0;
     *image = 1;
-    uint8_t refusal = examine(first, first_len, blocks, units, start, system_disk, &d, fault_slot);
+    uint8_t refusal = examine(first, first_len, blocks, units, start, system_disk, granule_sectors, &d, fault_slot);
     if (refusal) return refusal;
     *image = 2;
-    refusal = examine(second, second_len, blocks2, units2, start2, system_disk2, &d2, fault_slot);
+    refusal = examine(second, second_len, blocks2, units2, start2, system_disk2, granule_sectors2, &d2, fault_slot);
     if (refusal) return refusal;
     *image = 0;
     if (name_len < NAME) return GENIE_RANGE;

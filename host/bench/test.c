@@ -27,10 +27,16 @@ static size_t below(size_t limit)
 /* ---- A disk, and the plain check ---- */
 
 struct geometry {
-    size_t blocks, units, start;
+    size_t blocks, units, start, granule; /* the last in sectors: 5, 10 or 20 */
 };
 
 static size_t granules_of(struct geometry g) { return g.blocks * g.units; }
+static size_t width_of(struct geometry g) { return g.granule * 256; }
+/* Whether a directory of so many sectors touches a granule. */
+static bool of_directory(struct geometry g, size_t sectors, size_t granule)
+{
+    return (granule + 1) * g.granule > g.start && granule * g.granule < g.start + sectors;
+}
 static uint8_t *sector_at(uint8_t *image, struct geometry g, size_t k) { return image + (g.start + k) * 256; }
 static uint8_t *entry_at(uint8_t *image, struct geometry g, size_t slot) { return sector_at(image, g, slot % 32 + 2) + slot / 32 * 32; }
 static bool gat_bit(uint8_t *image, struct geometry g, size_t granule) { return sector_at(image, g, 0)[granule / g.units] >> granule % g.units & 1; }
@@ -74,7 +80,7 @@ static bool plainly_consistent(uint8_t *image, struct geometry g)
     const size_t extra = hit[0x1F];
     if (extra != 0 && extra != 5 && extra != 10 && extra != 15 && extra != 20) return false;
     const size_t sectors = 10 + extra;
-    if (g.start + sectors > granules_of(g) * 5) return false;
+    if (g.start + sectors > granules_of(g) * g.granule) return false;
     memset(owners, 0, sizeof owners);
     memset(chains, 0, sizeof chains);
 #define EACH_SLOT(slot) \
@@ -108,8 +114,7 @@ static bool plainly_consistent(uint8_t *image, struct geometry g)
                 for (size_t j = 0; j < count; j++) {
                     const size_t granule = block * g.units + unit + j;
                     if (granule >= granules_of(g) || !gat_bit(image, g, granule) || owners[granule]++) return false;
-                    const bool directory = granule >= g.start / 5 && granule < (g.start + sectors) / 5;
-                    if (directory && !(e[0] & 0x40)) return false;
+                    if (of_directory(g, sectors, granule) && !(e[0] & 0x40)) return false;
                 }
                 owned += count;
             }
@@ -124,14 +129,14 @@ static bool plainly_consistent(uint8_t *image, struct geometry g)
         const size_t n = e[20] + 256u * e[21];
         if (n == 0 && e[3] != 0) return false;
         const size_t size = e[3] == 0 ? 256 * n : 256 * (n - 1) + e[3];
-        if (size > owned * 1280) return false;
+        if (size > owned * width_of(g)) return false;
     }
     EACH_SLOT(slot)
     {
         if ((entry_at(image, g, slot)[0] & 0x90) == 0x90 && chains[slot] != 1) return false;
     }
-    for (size_t granule = g.start / 5; granule < (g.start + sectors) / 5; granule++)
-        if (!gat_bit(image, g, granule)) return false;
+    for (size_t granule = 0; granule < granules_of(g); granule++)
+        if (of_directory(g, sectors, granule) && !gat_bit(image, g, granule)) return false;
     return true;
 }
 
@@ -151,10 +156,10 @@ static uint8_t *image, *before;
 static size_t image_len, active; /* files in play: many, or one that grows undisturbed */
 static uint16_t open_code;
 static bool system_disk;
-static size_t fault_slot; /* of the last call */
+static size_t fault_slot, place; /* of the last call */
 static bool reserved[1536];
 
-#define DISK image, image_len, g.blocks, g.units, g.start, open_code, system_disk
+#define DISK image, image_len, g.blocks, g.units, g.start, open_code, system_disk, g.granule
 
 static size_t clear_bits(void)
 {
@@ -172,16 +177,24 @@ static void random_name(uint8_t *name)
     for (size_t i = 0; i < type; i++) name[8 + i] = (uint8_t)letters[below(7)];
 }
 
+/* The same name as a caller may give it: some of the bytes 41H to 5DH are 61H to 7DH. */
+static void in_small_letters(const uint8_t *name, uint8_t *given)
+{
+    for (size_t i = 0; i < 11; i++) given[i] = (uint8_t)(name[i] + (name[i] >= 0x41 && below(2) ? 0x20 : 0));
+}
+
 static void random_disk(void)
 {
     size_t sectors;
+    g.granule = below(2) ? 5 : below(2) ? 10 : 20;
     do {
-        g.blocks = below(3) ? 1 + below(192) : 1 + below(20);
+        /* Images of large granules stay small: they take their time. */
+        g.blocks = g.granule > 5 ? 1 + below(30) : below(3) ? 1 + below(192) : 1 + below(20);
         g.units = 1 + below(8);
         sectors = 10 + 5 * below(5);
-    } while (granules_of(g) * 5 < sectors);
-    g.start = 5 * below(granules_of(g) - sectors / 5 + 1);
-    image_len = granules_of(g) * 1280;
+    } while (granules_of(g) * g.granule < sectors);
+    g.start = g.granule * below((granules_of(g) * g.granule - sectors) / g.granule + 1);
+    image_len = granules_of(g) * width_of(g);
     image = realloc(image, image_len);
     before = realloc(before, image_len);
     if (!image || !before) fail("memory", 0);
@@ -199,8 +212,7 @@ static void random_disk(void)
         }
     for (size_t granule = 0; granule < granules_of(g); granule++) {
         const size_t b = granule / g.units, u = granule % g.units;
-        const bool directory = granule >= g.start / 5 && granule < (g.start + sectors) / 5;
-        reserved[granule] = directory || !below(density);
+        reserved[granule] = of_directory(g, sectors, granule) || !below(density);
         gat[b] = (uint8_t)((gat[b] & ~(1u << u)) | (unsigned)reserved[granule] << u);
     }
     /* Now and then the directory is a system file's own. */
@@ -210,8 +222,9 @@ static void random_disk(void)
         memset(e + 22, 0xFF, 10);
         e[0] = 0x50;
         memcpy(e + 5, "DIR     SYS", 11);
-        e[22] = (uint8_t)(g.start / 5 / g.units);
-        e[23] = (uint8_t)(g.start / 5 % g.units << 5 | (sectors / 5 - 1));
+        const size_t own = g.start / g.granule;
+        e[22] = (uint8_t)(own / g.units);
+        e[23] = (uint8_t)(own % g.units << 5 | ((sectors - 1) / g.granule));
         e[20] = (uint8_t)sectors;
         hit[1] = hash_of(e + 5);
     }
@@ -249,8 +262,8 @@ static size_t plain_bytes(const uint8_t *name, uint8_t *bytes, size_t *owned)
         for (;;) {
             for (size_t i = 0; i < runs_of(x); i++)
                 for (size_t j = 0; j <= x[23 + 2 * i] % 32u; j++) {
-                    const uint8_t *from = image + (x[22 + 2 * i] * g.units + x[23 + 2 * i] / 32 + j) * 1280;
-                    for (size_t k = 0; k < 1280 && done < size; k++) bytes[done++] = from[k];
+                    const uint8_t *from = image + (x[22 + 2 * i] * g.units + x[23 + 2 * i] / 32 + j) * width_of(g);
+                    for (size_t k = 0; k < width_of(g) && done < size; k++) bytes[done++] = from[k];
                     ++*owned;
                 }
             if (x[30] != 0xFE) return size;
@@ -316,7 +329,7 @@ static uint8_t plain_growth(const struct file *f, size_t need, size_t left)
 
 static void look_over(size_t step)
 {
-    static uint8_t bytes[1966080], owned_map[1536];
+    static uint8_t bytes[GENIE_HIGHEST_POSITION(20)], owned_map[1536];
     if (!plainly_consistent(image, g) || fast_check(DISK, &fault_slot) != 0) fail("consistent after a call", step);
     memset(owned_map, 0, sizeof owned_map);
     size_t all = 0, told = 0;
@@ -355,23 +368,28 @@ static void one_call(size_t step)
         for (size_t i = 0; i < FILES; i++)
             if (files[i].there && !memcmp(files[i].name, name, 11)) f = &files[i];
         const size_t length = 1 + below(256), room = free_permitted();
-        const uint8_t r = fast_create(DISK, name, 11, below(32), below(16), below(16), length, 1, 2, false, &old, handle, 19, &fault_slot);
+        uint8_t given[11];
+        in_small_letters(name, given);
+        const uint8_t r = fast_create(DISK, given, 11, below(32), below(16), below(16), length, 1, 2, false, &old, handle, 19, &place,
+                                      &fault_slot);
         answers[r]++;
         if (f->there ? r != 0 || old != 1 : r != (room ? 0 : 8) || old != 0) fail("create", step);
         if (r || old) refused_changes_nothing(step);
+        if (place != GENIE_NO_PLACE) fail("a place without a bad byte", step);
         if (r) return;
+        if (memcmp(handle + 8, name, 11)) fail("the folded name", step);
         memcpy(f->name, name, 11);
         memcpy(f->handle, handle, 19);
         if (old) return;
         f->there = true;
         f->size = f->granules = 0;
-        if (!f->bytes && !(f->bytes = malloc(1966080))) fail("memory", step);
+        if (!f->bytes && !(f->bytes = malloc(GENIE_HIGHEST_POSITION(g.granule)))) fail("memory", step);
         return;
     }
     memcpy(handle, f->handle, 19);
-    const size_t length = 1 + below(256);
-    size_t position = below(3) ? below(f->size + 1) : below(4) ? below(f->size + 6000) : below(1966081);
-    if (position > 1966080) position = 1966080;
+    const size_t length = 1 + below(256), highest = GENIE_HIGHEST_POSITION(g.granule), width = width_of(g);
+    size_t position = below(3) ? below(f->size + 1) : below(4) ? below(f->size + 6000) : below(highest + 1);
+    if (position > highest) position = highest;
     handle[2] = (uint8_t)length;
     handle[3] = (uint8_t)(length >> 8);
     for (size_t i = 0; i < 4; i++) handle[4 + i] = (uint8_t)(position >> 8 * i);
@@ -394,7 +412,7 @@ static void one_call(size_t step)
         break;
     }
     case 2: {
-        const size_t k = below(2) ? below(f->size / 256 + 2) : below(7680);
+        const size_t k = below(2) ? below(f->size / 256 + 2) : below(highest / 256);
         size_t from = 1, to = 2;
         r = fast_read_sector(DISK, handle, 19, k, &from, &to, &fault_slot);
         if (r != (k * 256 >= f->size ? 10 : 0)) fail("read sector", step);
@@ -409,8 +427,8 @@ static void one_call(size_t step)
     case 6:
     case 7: {
         const bool sequential = below(2);
-        const size_t size = sequential || position + length > f->size ? position + length : f->size, need = (size + 1279) / 1280;
-        const uint8_t expected = position + length > 1966080 ? 12 : plain_growth(f, need, left);
+        const size_t size = sequential || position + length > f->size ? position + length : f->size, need = (size + width - 1) / width;
+        const uint8_t expected = position + length > highest ? 12 : plain_growth(f, need, left);
         r = fast_write_record(DISK, handle, 19, sequential, buffer, sizeof buffer, &fault_slot);
         if (r != expected) fail("write record", step);
         if (r) {
@@ -431,7 +449,8 @@ static void one_call(size_t step)
         break;
     }
     case 8: {
-        const size_t k = below(3) ? below(f->granules * 5 + (below(2) ? 60 : 500)) % 7680 : below(7680), need = k / 5 + 1;
+        const size_t near = f->granules * g.granule + (below(2) ? 60 : 500), sectors = highest / 256;
+        const size_t k = below(3) ? below(near) % sectors : below(sectors), need = k / g.granule + 1;
         const uint8_t expected = plain_growth(f, need, left);
         r = fast_allot(DISK, handle, 19, k, &fault_slot);
         if (r != expected) fail("allot", step);
@@ -442,14 +461,17 @@ static void one_call(size_t step)
     case 9:
         r = fast_trim(DISK, handle, 19, &fault_slot);
         if (r) fail("trim", step);
-        f->granules = (f->size + 1279) / 1280;
+        f->granules = (f->size + width - 1) / width;
         break;
     case 10: {
         size_t slot = 99, compared = 0;
-        r = fast_look_up(DISK, f->name, 11, &slot, &compared, &fault_slot);
+        uint8_t given[11];
+        in_small_letters(f->name, given);
+        r = fast_look_up(DISK, given, 11, &slot, &compared, &place, &fault_slot);
         if (r || slot != f->handle[0] || !compared) fail("look up", step);
         uint8_t opened[20] = { 0 };
-        if (fast_open(DISK, f->name, 11, length, true, 1, opened, 20, &fault_slot) || memcmp(opened + 8, f->name, 11) || opened[0] != slot) fail("open", step);
+        r = fast_open(DISK, given, 11, length, true, 1, opened, 20, &place, &fault_slot);
+        if (r || memcmp(opened + 8, f->name, 11) || opened[0] != slot) fail("open", step);
         refused_changes_nothing(step);
         break;
     }
@@ -491,7 +513,7 @@ static void hash_again(size_t slot)
 static void spoil(void)
 {
     static const uint8_t odd[] = { 0, 1, 0x10, 0x1F, 0x20, 0x2F, 0x30, 0x3A, 0x40, 0x41, 0x50, 0x5D, 0x5E, 0x80, 0x90, 0xD0, 0xFE, 0xFF };
-    const size_t sectors = sectors_of(image, g), first = g.start / 5;
+    const size_t sectors = sectors_of(image, g), first = g.start / g.granule, own = (sectors - 1) / g.granule + 1;
     uint8_t *hit = sector_at(image, g, 1), *at = sector_at(image, g, 0) + below(sectors * 256);
     const size_t file = some_slot(0x10), extension = some_slot(0x90), empty = below(2) ? some_slot(0) : some_slot(0x80);
     switch (below(16)) {
@@ -514,7 +536,7 @@ static void spoil(void)
         hash_again(file);
         return;
     case 5: { /* a run in or beside the directory, or anywhere */
-        const size_t slot = extension < 256 && below(2) ? extension : file, granule = below(2) ? below(granules_of(g)) : first + below(sectors / 5 + 1);
+        const size_t slot = extension < 256 && below(2) ? extension : file, granule = below(2) ? below(granules_of(g)) : first + below(own + 1);
         if (slot == 256) return;
         uint8_t *pair = entry_at(image, g, slot) + 22 + 2 * below(4);
         pair[0] = (uint8_t)(granule / g.units);
@@ -547,7 +569,7 @@ static void spoil(void)
         random_name(e + 5);
         hit[empty] = hash_of(e + 5);
         if (below(3)) {
-            const size_t granule = first + below(sectors / 5);
+            const size_t granule = first + below(own);
             e[22] = (uint8_t)(granule / g.units);
             e[23] = (uint8_t)(granule % g.units << 5 | below(2));
         }
@@ -597,7 +619,8 @@ static void damage(size_t step)
             uint8_t handle[19];
             size_t old;
             if (fast_list(DISK, i, name, 11, &size, &granules, &more, &fault_slot) || more != (i < files_told)) fail("list", step);
-            if (more && (fast_create(DISK, name, 11, 0, 0, 0, 256, 0, 0, false, &old, handle, 19, &fault_slot) || !old)) fail("create of an old file", step);
+            if (more && (fast_create(DISK, name, 11, 0, 0, 0, 256, 0, 0, false, &old, handle, 19, &place, &fault_slot) || !old))
+                fail("create of an old file", step);
         }
         memcpy(image, before, image_len);
     }
@@ -606,27 +629,30 @@ static void damage(size_t step)
 /* Arguments of any size, on a sound disk: refused by their number, nothing changed. */
 static void any_arguments(size_t step)
 {
-    static const size_t odd[] = { 0, 1, 2, 5, 8, 9, 10, 18, 192, 193, 256, 257, 7679, 7680, 1966080, 1966081, SIZE_MAX, SIZE_MAX / 2, SIZE_MAX / 2 + 1, SIZE_MAX - 4 };
+    static const size_t odd[] = { 0, 1, 2, 5, 8, 9, 10, 18, 20, 192, 193, 256, 257, 7679, 7680, 15360, 30719, 30720, 1966080, 7864320, 7864321,
+                                  SIZE_MAX, SIZE_MAX / 2, SIZE_MAX / 2 + 1, SIZE_MAX - 4 };
 #define ODD odd[below(sizeof odd / sizeof *odd)]
     size_t a = 1, b = 1, c = 1;
     uint8_t handle[19] = { 0 }, name[11];
     memcpy(before, image, image_len);
-    const uint8_t anywhere = fast_check(image, image_len, g.blocks, g.units, ODD, 0, true, &fault_slot);
+    const uint8_t anywhere = fast_check(image, image_len, g.blocks, g.units, ODD, 0, true, g.granule, &fault_slot);
     if (anywhere > 1 && (anywhere < GENIE_FAULT_DIRECTORY_LENGTH || anywhere > GENIE_FAULT_DIRECTORY_GRANULE)) fail("geometry", step);
-    (void)fast_check(image, image_len, ODD, ODD, ODD, 0, true, &fault_slot);
+    (void)fast_check(image, image_len, ODD, ODD, ODD, 0, true, ODD, &fault_slot);
     const size_t other = ODD;
-    if (other != g.start && other % 5 && fast_check(image, image_len, g.blocks, g.units, other, 0, true, &fault_slot) != 1)
+    if (other != g.start && other % g.granule && fast_check(image, image_len, g.blocks, g.units, other, 0, true, g.granule, &fault_slot) != 1)
         fail("start", step);
-    if (fast_check(image, image_len - 1, g.blocks, g.units, g.start, 0, true, &fault_slot) != 1) fail("length", step);
-    if (fast_check(image, SIZE_MAX - 100, SIZE_MAX / 1280, 1, 0, 0, true, &fault_slot) != 1) fail("length", step);
-    if (fast_check(image, 0, 0, 8, 0, 0, true, &fault_slot) != 1) fail("length", step);
+    if (other != g.granule && fast_check(image, image_len, g.blocks, g.units, g.start, 0, true, other, &fault_slot) != 1) fail("size", step);
+    if (fast_check(image, image_len - 1, g.blocks, g.units, g.start, 0, true, g.granule, &fault_slot) != 1) fail("length", step);
+    if (fast_check(image, SIZE_MAX - 100, SIZE_MAX / 1280, 1, 0, 0, true, 5, &fault_slot) != 1) fail("length", step);
+    if (fast_check(image, 0, 0, 8, 0, 0, true, 5, &fault_slot) != 1) fail("length", step);
     random_name(name);
-    if (fast_create(DISK, name, 11, 32 + below(9), 0, 0, 1, 0, 0, false, &a, handle, 19, &fault_slot) != 12 || a) fail("day", step);
-    if (fast_create(DISK, name, 11, 0, SIZE_MAX, 0, 1, 0, 0, false, &a, handle, 19, &fault_slot) != 12) fail("month", step);
-    if (fast_create(DISK, name, 11, 0, 0, 16, 1, 0, 0, false, &a, handle, 19, &fault_slot) != 12) fail("year", step);
-    if (fast_create(DISK, name, 11, 0, 0, 0, below(2) ? 0 : 257, 0, 0, false, &a, handle, 19, &fault_slot) != 12) fail("record length", step);
-    if (fast_create(DISK, name, 11, 0, 0, 0, 1, 0, 0, false, &a, handle, below(19), &fault_slot) != 12) fail("short handle", step);
-    if (fast_look_up(DISK, name, below(11), &a, &b, &fault_slot) != 3 || a || b) fail("short name", step);
+    if (fast_create(DISK, name, 11, 32 + below(9), 0, 0, 1, 0, 0, false, &a, handle, 19, &place, &fault_slot) != 12 || a) fail("day", step);
+    if (fast_create(DISK, name, 11, 0, SIZE_MAX, 0, 1, 0, 0, false, &a, handle, 19, &place, &fault_slot) != 12) fail("month", step);
+    if (fast_create(DISK, name, 11, 0, 0, 16, 1, 0, 0, false, &a, handle, 19, &place, &fault_slot) != 12) fail("year", step);
+    if (fast_create(DISK, name, 11, 0, 0, 0, below(2) ? 0 : 257, 0, 0, false, &a, handle, 19, &place, &fault_slot) != 12)
+        fail("record length", step);
+    if (fast_create(DISK, name, 11, 0, 0, 0, 1, 0, 0, false, &a, handle, below(19), &place, &fault_slot) != 12) fail("short handle", step);
+    if (fast_look_up(DISK, name, below(11), &a, &b, &place, &fault_slot) != 3 || a || b || place) fail("short name", step);
     if (fast_kill(DISK, handle, 19, &fault_slot) != 12) fail("the handle of zeros", step);
     if (fast_list(DISK, ODD, name, below(11), &a, &b, &c, &fault_slot) != 12 || a || b || c) fail("short name buffer", step);
     if (fast_list(DISK, ODD, name, 11, &a, &b, &c, &fault_slot)) fail("any listing number", step);
@@ -636,8 +662,9 @@ static void any_arguments(size_t step)
             memcpy(h, files[i].handle, 19);
             const size_t k = ODD;
             const uint8_t r = fast_read_sector(DISK, h, 19, k, &a, &b, &fault_slot);
-            if (r != (k > 7679 ? 12 : k * 256 >= files[i].size ? 10 : 0)) fail("any sector", step);
-            if (k > 7679 && fast_allot(DISK, h, 19, k, &fault_slot) != 12) fail("any sector to allot", step);
+            const bool past = k > GENIE_HIGHEST_SECTOR(g.granule);
+            if (r != (past ? 12 : k * 256 >= files[i].size ? 10 : 0)) fail("any sector", step);
+            if (past && fast_allot(DISK, h, 19, k, &fault_slot) != 12) fail("any sector to allot", step);
             h[1] = (uint8_t)below(256);
             if (fast_kill(DISK, h, 19, &fault_slot) != (h[1] > 7 ? 12 : h[1] > 1 ? 6 : 0)) fail("level", step);
             if (h[1] <= 1) {

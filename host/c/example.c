@@ -6,13 +6,13 @@
 #include <stdlib.h>
 #include <string.h>
 
-/* The largest disk: 192 blocks of 8 units, the directory of 10 sectors in its middle. */
-enum { BLOCKS = 192, UNITS = 8, START = 3840, DIRECTORY_SECTORS = 10, OPEN_CODE = 0x9642 };
-enum { IMAGE_BYTES = BLOCKS * UNITS * GENIE_GRANULE_BYTES };
-#define SYSTEM_DISK BLOCKS, UNITS, START, OPEN_CODE, true
+/* The largest disk of granules of 5 sectors: 192 blocks of 8 units, the directory of 10 sectors in its middle. */
+enum { BLOCKS = 192, UNITS = 8, GRANULE_SECTORS = 5, START = 3840, DIRECTORY_SECTORS = 10, OPEN_CODE = 0x9642 };
+enum { IMAGE_BYTES = BLOCKS * UNITS * GENIE_GRANULE_BYTES(GRANULE_SECTORS) };
+#define SYSTEM_DISK BLOCKS, UNITS, START, OPEN_CODE, true, GRANULE_SECTORS
 #define DISK image, (size_t)IMAGE_BYTES, SYSTEM_DISK
 #define BEFORE before, (size_t)IMAGE_BYTES, SYSTEM_DISK
-#define AS_DATA_DISK image, (size_t)IMAGE_BYTES, BLOCKS, UNITS, START, OPEN_CODE, false
+#define AS_DATA_DISK image, (size_t)IMAGE_BYTES, BLOCKS, UNITS, START, OPEN_CODE, false, GRANULE_SECTORS
 
 static uint8_t *image;
 static int wrong;
@@ -32,7 +32,8 @@ static void make_disk(void)
     memset(image, 0xE5, IMAGE_BYTES); /* what a formatted sector holds */
     memset(gat, 0, DIRECTORY_SECTORS * GENIE_SECTOR_BYTES);
     gat[0] = 1;
-    for (size_t granule = START / 5; granule < (START + DIRECTORY_SECTORS) / 5; granule++) gat[granule / UNITS] |= (uint8_t)(1u << granule % UNITS);
+    for (size_t granule = START / GRANULE_SECTORS; granule * GRANULE_SECTORS < START + DIRECTORY_SECTORS; granule++)
+        gat[granule / UNITS] |= (uint8_t)(1u << granule % UNITS);
 }
 
 static void set_position(uint8_t *handle, uint32_t position)
@@ -50,9 +51,10 @@ static uint32_t position_of(const uint8_t *handle)
 int main(void)
 {
     const uint8_t *const name = (const uint8_t *)"PULS01  DAT"; /* PULS01/DAT, 11 bytes */
+    const uint8_t *const small = (const uint8_t *)"puls01  dat";
     const uint8_t zeros[GENIE_HANDLE_BYTES] = { 0 };
     uint8_t handle[GENIE_HANDLE_BYTES], record[256], back[256], told[GENIE_NAME_BYTES];
-    size_t old, slot, compared, from, to, size, slots, granules, more, files, left, longest, which, kind, position, flags, fault;
+    size_t old, slot, compared, from, to, size, slots, granules, more, files, left, longest, which, kind, position, flags, place, fault;
 
     image = malloc(IMAGE_BYTES);
     uint8_t *const before = malloc(IMAGE_BYTES);
@@ -63,20 +65,31 @@ int main(void)
     make_disk();
     uint8_t answer = genie_check(DISK, &fault);
     step("check an empty disk of 1,966,080 bytes: no slot is at fault", answer, GENIE_DONE, fault == GENIE_NO_SLOT);
-    answer = genie_check(image, IMAGE_BYTES, BLOCKS - 1, UNITS, START, OPEN_CODE, true, &fault);
+    answer = genie_check(image, IMAGE_BYTES, BLOCKS - 1, UNITS, START, OPEN_CODE, true, GRANULE_SECTORS, &fault);
     step("check it with a wrong number of blocks", answer, GENIE_GEOMETRY, 1);
+    answer = genie_check(image, IMAGE_BYTES, BLOCKS / 2, UNITS, START, OPEN_CODE, true, 10, &fault);
+    step("check it as 96 blocks with granules of 10 sectors: the directory's is free", answer, GENIE_FAULT_DIRECTORY_GRANULE, fault == GENIE_NO_SLOT);
+    answer = genie_check(image, IMAGE_BYTES, BLOCKS / 3, UNITS, START, OPEN_CODE, true, 15, &fault);
+    step("check it with granules of 15 sectors: there are none", answer, GENIE_GEOMETRY, 1);
     answer = genie_count(DISK, &files, &left, &fault);
     step("count: no file, 1,533 granules free", answer, GENIE_DONE, files == 0 && left == BLOCKS * UNITS - 3);
     answer = genie_free(DISK, &left, &longest);
-    step("free space: the same, 767 of them in a row", answer, GENIE_DONE, left == BLOCKS * UNITS - 3 && longest == START / 5 - 1);
+    step("free space: the same, 767 of them in a row", answer, GENIE_DONE, left == BLOCKS * UNITS - 3 && longest == START / GRANULE_SECTORS - 1);
 
     memset(handle, 0xFF, sizeof handle);
-    answer = genie_open(DISK, name, GENIE_NAME_BYTES, 256, true, 0, handle, sizeof handle, &fault);
+    answer = genie_open(DISK, name, GENIE_NAME_BYTES, 256, true, 0, handle, sizeof handle, &place, &fault);
     step("open PULS01/DAT before it is there: a handle of zeros", answer, GENIE_NOT_FOUND, !memcmp(handle, zeros, sizeof zeros));
-    answer = genie_create(DISK, name, GENIE_NAME_BYTES, 9, 10, 3, 256, OPEN_CODE, OPEN_CODE, true, &old, handle, sizeof handle, &fault);
+    answer = genie_create(DISK, name, GENIE_NAME_BYTES, 9, 10, 3, 256, OPEN_CODE, OPEN_CODE, true, &old, handle, sizeof handle, &place,
+                          &fault);
     step("create it, dated 9 October 1983, records of 256 bytes", answer, GENIE_DONE, old == 0 && handle[1] == 0 && position_of(handle) == 0);
-    answer = genie_look_up(DISK, name, GENIE_NAME_BYTES, &slot, &compared, &fault);
+    answer = genie_look_up(DISK, name, GENIE_NAME_BYTES, &slot, &compared, &place, &fault);
     step("look it up: slot 80H, the first that is not kept; one compared", answer, GENIE_DONE, slot == 0x80 && slot == handle[0] && compared == 1);
+    answer = genie_look_up(DISK, small, GENIE_NAME_BYTES, &slot, &compared, &place, &fault);
+    step("look it up in small letters: the same", answer, GENIE_DONE, slot == handle[0] && place == GENIE_NO_PLACE);
+    answer = genie_name(small, GENIE_NAME_BYTES, told, sizeof told, &place);
+    step("ask what the small letters are taken for", answer, GENIE_DONE, !memcmp(told, name, sizeof told) && place == GENIE_NO_PLACE);
+    answer = genie_open(DISK, (const uint8_t *)"puls_1  dat", GENIE_NAME_BYTES, 256, true, 0, back, GENIE_HANDLE_BYTES, &place, &fault);
+    step("open puls_1/dat: the byte at place 4 is none that a name can have", answer, GENIE_NAME, place == 4 && fault == GENIE_NO_SLOT);
 
     unsigned written = 0;
     for (unsigned i = 0; i < 20 && !written; i++) {
@@ -119,7 +132,7 @@ int main(void)
     step("list: 256 bytes, 20 granules", answer, GENIE_DONE, more == 1 && size == 256 && granules == 20);
     answer = genie_list(DISK, 1, told, sizeof told, &size, &granules, &more, &fault);
     step("list on: no more", answer, GENIE_DONE, more == 0 && size == 0 && granules == 0);
-    answer = genie_allot(DISK, handle, sizeof handle, 7679, &fault);
+    answer = genie_allot(DISK, handle, sizeof handle, GENIE_HIGHEST_SECTOR(GRANULE_SECTORS), &fault);
     step("allot it the whole disk: more than is free", answer, GENIE_DISK_FULL, 1);
 
     answer = genie_compare(BEFORE, DISK, 0, told, sizeof told, &which, &kind, &position, &flags, &fault);
@@ -138,7 +151,8 @@ int main(void)
     step("bring it back once more: its slot is in use", answer, GENIE_SLOT_IN_USE, slots == 0 && granules == 0);
     answer = genie_kill(DISK, handle, sizeof handle, &fault);
     step("kill it again: its handle is good once more", answer, GENIE_DONE, 1);
-    answer = genie_create(AS_DATA_DISK, name, GENIE_NAME_BYTES, 9, 10, 3, 256, OPEN_CODE, OPEN_CODE, true, &old, handle, sizeof handle, &fault);
+    answer = genie_create(AS_DATA_DISK, name, GENIE_NAME_BYTES, 9, 10, 3, 256, OPEN_CODE, OPEN_CODE, true, &old, handle, sizeof handle, &place,
+                          &fault);
     step("create it as on a data disk: slot 02H, the first that is not kept", answer, GENIE_DONE, old == 0 && handle[0] == 0x02);
     answer = genie_check(DISK, &fault);
     step("check it as a system disk", answer, GENIE_DONE, fault == GENIE_NO_SLOT);
@@ -154,7 +168,7 @@ int main(void)
     answer = genie_compare(BEFORE, DISK, 0, told, sizeof told, &which, &kind, &position, &flags, &fault);
     step("compare with it: the second image is refused, by that slot", answer, GENIE_FAULT_HIT, which == 2 && kind == GENIE_NO_MORE && fault == 0x80);
     image[START * GENIE_SECTOR_BYTES + GENIE_SECTOR_BYTES + 0x80] = 0;
-    image[START * GENIE_SECTOR_BYTES + START / 5 / UNITS] = 0;
+    image[START * GENIE_SECTOR_BYTES + START / GRANULE_SECTORS / UNITS] = 0;
     answer = genie_count(DISK, &files, &left, &fault);
     step("count where the GAT marks the directory as free: no slot is at fault", answer, GENIE_FAULT_DIRECTORY_GRANULE, fault == GENIE_NO_SLOT);
 

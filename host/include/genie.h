@@ -24,7 +24,12 @@
  *                         GENIE_GRANULE_BYTES(granule_sectors) bytes. The directory has 10, 15, 20, 25 or 30 sectors whatever the size; every
  *                         granule that it touches is the directory's, to its end. Nothing on a disk says how large its granules are.
  *   name, name_len        11 bytes: name of 1 to 8, then type of 0 to 3, each padded right with 20H. Allowed bytes: 30H to 39H, 41H to 5DH.
- *                         A name that comes in must be exactly 11 bytes long.
+ *                         A name that comes in (genie_name, genie_look_up, genie_open, genie_create) must be exactly 11 bytes long, and
+ *                         may have 61H to 7DH in place of 41H to 5DH: it is folded to these, and what is hashed, searched, put into
+ *                         entries and handles is the folded name. No other name is folded: not a handle's, not one on the disk.
+ *   place                 under refusal 3 the place, 0 to 10, of the name's first bad byte: one that is neither allowed once it is
+ *                         folded nor 20H; 20H at place 0; any other than 20H behind a 20H of the name (places 0 to 7) or of the type
+ *                         (8 to 10). 0 where the name is not 11 bytes long. Otherwise GENIE_NO_PLACE (11).
  *   handle, handle_len    at least GENIE_HANDLE_BYTES bytes, of which only the first 19 are used; const where the call leaves them alone:
  *                           0        slot of the file's first entry
  *                           1        level, 0 (everything) to 7 (nothing)
@@ -34,9 +39,10 @@
  *                         Between calls the caller may set the position (bytes 4 to 7).
  *   checking              whether password codes are tested.
  *   code                  the password code given; any 16-bit number is good.
- *   fault_slot            every call but genie_free sets it: where the answer is one of 21 to 30 and an entry is at fault, *fault_slot is the entry's
- *                         slot, 0 to 255; otherwise GENIE_NO_SLOT (256). The entry of slot 32 x row + s is in directory sector s + 2 (counted from the
- *                         GAT, sector 0) at byte 32 x row. Of several faults the one in the lowest slot is told, and at that slot the first number.
+ *   fault_slot            every call but genie_free and genie_name sets it: where the answer is one of 21 to 30 and an entry is at
+ *                         fault, *fault_slot is the entry's slot, 0 to 255; otherwise GENIE_NO_SLOT (256). The entry of slot
+ *                         32 x row + s is in directory sector s + 2 (counted from the GAT, sector 0) at byte 32 x row. Of several
+ *                         faults the one in the lowest slot is told, and at that slot the first number.
  *
  * REFUSALS, in the order in which they are tested
  */
@@ -54,11 +60,12 @@ extern "C" {
 enum genie_refusal {
     GENIE_DONE = 0,         /* accepted */
     GENIE_GEOMETRY = 1,     /* blocks, units, start, granule_sectors or the image's length is not as said above */
-    /* 21 to 30: the disk is not consistent; never by genie_free. With the slot of the entry at fault, except where it says "no slot". */
+    /* 21 to 30: the disk is not consistent; never by genie_free and genie_name. With the slot of the entry at fault, except where it
+       says "no slot". */
     GENIE_FAULT_DIRECTORY_LENGTH = 21, /* HIT byte 1FH is not 0, 5, 10, 15 or 20, or the directory passes the end of the disk; no slot */
     GENIE_FAULT_HIT = 22,   /* the slot's HIT byte is not 0 though its entry is not in use, or is 0 though it is, or is not the hash of its file's name
                                (not tested of an extension under 25 for being met in no chain, met twice or badly formed) */
-    GENIE_FAULT_NAME = 23,  /* the file's name is not well formed, or bit 5 of the entry's byte 00 is set */
+    GENIE_FAULT_NAME = 23,  /* the file's name is not well formed, a small letter in it is bad too; or bit 5 of the entry's byte 00 is set */
     GENIE_FAULT_DUPLICATE_NAME = 24, /* a file in a lower slot has the same name */
     GENIE_FAULT_CHAIN = 25, /* the entry's marker is neither FEH nor FFH, a pair stands behind a block FFH, fewer than four runs stand before a marker
                                FEH, or the link leads to no extension in use; or the entry is an extension that is met in no file's chain, met twice, or
@@ -71,11 +78,11 @@ enum genie_refusal {
     GENIE_FAULT_DIRECTORY_GRANULE = 30, /* a granule of the directory is in the entry's runs, and its file has no system flag; or, with no slot and after
                                all slots, a granule of the directory is free in the GAT */
     GENIE_RANGE = 12,       /* a position, record length, level, date or sector is out of range; position + length passes the highest position
-                               in a write; the buffer is shorter than the record length; the handle is under 19 bytes; the name buffer of list
-                               or compare is under 11 bytes; bring back is given a slot that the directory has not. A handle's three numbers
+                               in a write; the buffer is shorter than the record length; the handle is under 19 bytes; the name buffer of list,
+                               compare or genie_name is under 11 bytes; bring back is given a slot that the directory has not. A handle's three numbers
                                are tested in every call that takes one, used or not. The highest position and the highest sector go by
                                granule_sectors alone, however small the image. */
-    GENIE_NAME = 3,         /* the name is not well formed, or not 11 bytes long (calls by name) */
+    GENIE_NAME = 3,         /* the name is not well formed once it is folded, or not 11 bytes long (calls by name), with *place */
     GENIE_STALE = 7,        /* the handle's slot is none that the directory has, or is not in use, or an extension, or has another name */
     GENIE_NOT_FOUND = 4,    /* no file has that name (look up, open) */
     GENIE_PASSWORD = 5,     /* wrong password code (open; create of a file that exists) */
@@ -91,9 +98,10 @@ enum genie_refusal {
     GENIE_DIRECTORY_FULL = 8 /* fewer permitted slots are free than the call needs */
 };
 
-/* Answers under a refusal: every outgoing number is 0, every lent buffer and the image are as they stood. Four exceptions: look up tells its
- * count under refusal 4; a refused open or create leaves 19 zeros in a handle buffer of at least 19 bytes (using that handle is refusal 12);
- * compare says which image it refuses; *fault_slot is the slot at fault, or GENIE_NO_SLOT. */
+/* Answers under a refusal: every outgoing number is 0, every lent buffer and the image are as they stood. Five exceptions: look up tells its
+ * count under refusal 4; *place is that of the bad byte, or GENIE_NO_PLACE; a refused open or create leaves 19 zeros in a handle buffer of
+ * at least 19 bytes (using that handle is refusal 12); compare says which image it refuses; *fault_slot is the slot at fault, or
+ * GENIE_NO_SLOT. */
 
 #define GENIE_HANDLE_BYTES 19
 #define GENIE_NAME_BYTES 11
@@ -104,31 +112,39 @@ enum genie_refusal {
 #define GENIE_HIGHEST_POSITION(s) ((size_t)192 * 8 * GENIE_GRANULE_BYTES(s))
 #define GENIE_HIGHEST_SECTOR(s) (GENIE_HIGHEST_POSITION(s) / GENIE_SECTOR_BYTES - 1)
 #define GENIE_NO_SLOT 256
+#define GENIE_NO_PLACE 11
+
+/* Name: the check that the calls by name make of theirs, by itself, of no disk. The folded name goes to the first 11 bytes of folded (a buffer of at
+ * least 11 bytes). Refusals 12, 3 with *place. */
+uint8_t genie_name(const uint8_t *name, size_t name_len, uint8_t *folded, size_t folded_len, size_t *place);
 
 /* Check: whether the image is a consistent disk. Refusals 1, 21 to 30 with *fault_slot. (Every other call makes this check first and tells the same
- * number and slot, genie_free excepted.) */
+ * number and slot, genie_free and genie_name excepted.) */
 uint8_t genie_check(const uint8_t *image, size_t image_len, size_t blocks, size_t units, size_t start, uint16_t open_code, bool system_disk,
                     size_t granule_sectors, size_t *fault_slot);
 
 /* Look up: the slot of the file's first entry in *slot; in *compared how many entries were compared, those whose HIT byte is the name's hash, by
- * rising slot number, the found one included. Under refusal 4 *compared counts them all. Refusals 1, 21 to 30 with *fault_slot, 3, 4. */
+ * rising slot number, the found one included. Under refusal 4 *compared counts them all. Refusals 1, 21 to 30 with *fault_slot, 3
+ * with *place, 4. */
 uint8_t genie_look_up(const uint8_t *image, size_t image_len, size_t blocks, size_t units, size_t start, uint16_t open_code,
                       bool system_disk, size_t granule_sectors, const uint8_t *name, size_t name_len, size_t *slot, size_t *compared,
-                      size_t *fault_slot);
+                      size_t *place, size_t *fault_slot);
 
 /* Open: makes a handle with position 0 and the record length given (1 to 256). Its level is 0 if checking is off, the file's main code is
- * open_code, or code is the main code; the file's stored level if code is the worker code only. Refusals 1, 21 to 30 with *fault_slot, 12, 3, 4, 5. */
+ * open_code, or code is the main code; the file's stored level if code is the worker code only. Refusals 1, 21 to 30 with *fault_slot, 12, 3
+ * with *place, 4, 5. */
 uint8_t genie_open(const uint8_t *image, size_t image_len, size_t blocks, size_t units, size_t start, uint16_t open_code, bool system_disk,
                    size_t granule_sectors, const uint8_t *name, size_t name_len, size_t length, bool checking, uint16_t code,
-                   uint8_t *handle, size_t handle_len, size_t *fault_slot);
+                   uint8_t *handle, size_t handle_len, size_t *place, size_t *fault_slot);
 
 /* Create: an empty file with that name, date (day 0 to 31, month 0 to 15, year since 1980 0 to 15), record length (1 to 256) and codes, in the first
  * permitted free slot; *old is 0, the handle has level 0. If the file exists nothing changes on the disk: it is opened as by genie_open with
- * main_code as the code given, and *old is 1. The numbers are tested either way. Refusals 1, 21 to 30 with *fault_slot, 12, 3, 5, 8. */
+ * main_code as the code given, and *old is 1. The numbers are tested either way. Refusals 1, 21 to 30 with *fault_slot, 12, 3 with
+ * *place, 5, 8. */
 uint8_t genie_create(uint8_t *image, size_t image_len, size_t blocks, size_t units, size_t start, uint16_t open_code, bool system_disk,
                      size_t granule_sectors, const uint8_t *name, size_t name_len, size_t day, size_t month, size_t year, size_t length,
                      uint16_t main_code, uint16_t worker_code, bool checking, size_t *old, uint8_t *handle, size_t handle_len,
-                     size_t *fault_slot);
+                     size_t *place, size_t *fault_slot);
 
 /* Read record: the file's bytes from the handle's position, as many as its record length, go to the start of the buffer; the rest of the buffer is
  * untouched; the handle's position advances by the record length. Refusals 1, 21 to 30 with *fault_slot, 12, 7, 6, 10. */

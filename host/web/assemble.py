@@ -22,8 +22,8 @@ def allowed(text):
 
 
 style, script = read("page.css"), read("page.js")
-# preset("sd40", 40, 2, 200, "5 inch, ..."): the list that gdos has.
-presets = re.findall(r'^    preset\("(\w+)", \d+, \d+, \d+, "([^"]*)"\),$', read("../gdos/src/shape/preset.rs"), re.MULTILINE)
+# preset("sd40", 40, 2, 200, "5 inch, ..."), hard("hd10", 10, "a hard disk ..."): the list that gdos has.
+presets = re.findall(r'^    (?:preset|hard)\("(\w+)",(?: \d+,)+ "([^"]*)"\),$', read("../gdos/src/shape/preset.rs"), re.MULTILINE)
 assert presets, "gdos has no presets"
 parts = {
     "policy": f"default-src 'none'; script-src {allowed(script)} 'wasm-unsafe-eval'; style-src {allowed(style)}; img-src data:; "

@@ -123,7 +123,7 @@ function copyName(name, word) {
 
 // ---- The disk that is looked at: {name, bytes, beside}, the options that were stated for it, and the geometry that it is read by ----
 
-const MOST_BYTES = 192 * 8 * 1280;
+const MOST_BYTES = 192 * 8 * 20 * 256;
 let disk = null;
 let stated = [];
 let geometry = null;
@@ -137,13 +137,14 @@ async function fileOf(file) {
 const lent = () => [disk, ...(disk.beside ?? [])];
 const onDisk = (command, ...options) => asked([command, ...options, ...stated, "--", disk.name], lent());
 
-function optionsOf({ blocks, units, start, open_code: code }) {
-  return ["--blocks", blocks, "--units", units, "--start", start, "--open-code", code].map(String);
+function optionsOf({ blocks, units, start, granule_sectors: granule, open_code: code }) {
+  return ["--blocks", blocks, "--units", units, "--start", start, "--granule", granule, "--open-code", code].map(String);
 }
 
-const inWords = ({ blocks, units, start, open_code: code, preset }) =>
-  `${counted(blocks, "block")} of ${counted(units, "unit")}, directory at sector ${start}${preset ? ` (preset ${preset})` : ""}, ` +
-  `open code ${codeText(code)}`;
+// That a granule has 5 sectors nobody has to be told.
+const inWords = ({ blocks, units, start, granule_sectors: granule, open_code: code, preset }) =>
+  `${counted(blocks, "block")} of ${counted(units, "unit")}${granule === 5 ? "" : ` with granules of ${granule} sectors`}, ` +
+  `directory at sector ${start}${preset ? ` (preset ${preset})` : ""}, open code ${codeText(code)}`;
 
 const evidence = ({ names, nearly, against, beyond }) =>
   `${counted(names, "name")} for it, ${nearly} nearly${beyond ? `, ${beyond} beyond its length` : ""}, ${counted(against, "slot")} against`;
@@ -380,8 +381,8 @@ async function compare(file) {
 
 // ---- What people do ----
 
-const inForm = () => ["preset", "blocks", "units", "start", "open-code"]
-  .map((id) => [`--${id}`, byId(id).value.trim()]).filter(([, value]) => value).flat();
+const inForm = () => [["preset"], ["blocks"], ["units"], ["start"], ["granule", "granule-sectors"], ["open-code"]]
+  .map(([option, id = option]) => [`--${option}`, byId(id).value.trim()]).filter(([, value]) => value).flat();
 
 async function open(files) {
   const image = files.find(({ name }) => !name.endsWith(".gdos")) ?? files[0];

@@ -161,23 +161,14 @@ module _ (g : Geometry) (p k : ℕ) (d : List ℕ) (o : Known g p k d) where
   apart : (x : List ℕ) → Growth.grown x ≡ Growth.noSlot → ⊥
   apart x e = let z : _≡_ {A = ℕ} 0 1 = cc in omega arith
 
-  -- (a) where 01's growth succeeds, this is it
-  pub keeps-first : (d′ : List ℕ) → grow g p k d ≡ Growth.grown d′ → growth g p k d ≡ Growth.grown d′
-  unfolding growth Growth.orElse
-  keeps-first d′ e = rw e
-
-  else-second : grow g p k d ≡ Growth.noSlot → growth g p k d ≡ growBy g p (longest g p) k d
-  unfolding growth Growth.orElse
-  else-second e = rw e
-
-  -- (b) 8 means that no choice fits
+  -- 8 means that no choice fits
   pub growth-iff : (growth g p k d ≡ Growth.noSlot) ↔ NothingFits g d p k
   growth-iff = (λ e. fore (grow g p k d) refl e, λ n. back (grow g p k d) refl n)
     where
       fore : (t : Growth.Grown) → grow g p k d ≡ t → growth g p k d ≡ Growth.noSlot → Fitting → ⊥
-      fore (Growth.grown d′) q e = absurd (apart d′ (sym (keeps-first d′ q) ∙ e))
-      fore Growth.noSlot q e = second-iff .0 (sym (else-second q) ∙ e)
+      fore (Growth.grown d′) q e = absurd (apart d′ (sym (Grow.keeps-first g k d d′ p q) ∙ e))
+      fore Growth.noSlot q e = second-iff .0 (sym (Grow.else-second g k d p q) ∙ e)
 
       back : (t : Growth.Grown) → grow g p k d ≡ t → (Fitting → ⊥) → growth g p k d ≡ Growth.noSlot
       back (Growth.grown d′) q n = absurd (n (first-choice d′ q))
-      back Growth.noSlot q n = else-second q ∙ second-iff .1 n
+      back Growth.noSlot q n = Grow.else-second g k d p q ∙ second-iff .1 n

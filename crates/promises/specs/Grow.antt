@@ -134,15 +134,24 @@ module _ (g : Geometry) where
       let b = Stretches.low-free (granules g) (view g 0 d) (lowestFree g d) (record { inside = a .0; clear = Members.no-false (a .1) }) in
       (b .inside, λ t. Members.false-no (b .clear) t)
 
+  -- "Keep 01's choice where it fits."
+  pub keeps-first : (k : ℕ) (d d′ : List ℕ) (p : ℕ) → grow g p k d ≡ grown d′ → growth g p k d ≡ grown d′
+  unfolding growth orElse
+  keeps-first k d d′ p e = rw e
+
+  -- Where it doesn't, the second, from the disk as it stood.
+  pub else-second : (k : ℕ) (d : List ℕ) (p : ℕ) → grow g p k d ≡ noSlot → growth g p k d ≡ growBy g p (longestFree g) k d
+  unfolding growth orElse
+  else-second k d p e = rw e
+
   -- 01's growth, or the second where that found no slot
   pub growth-grew : (k : ℕ) (d d′ : List ℕ) (p : ℕ) → Sound g d → Places.Fits g d → File g d p → T (not (system g d p)) → k ≤ length (freeGranules g d)
       → growth g p k d ≡ grown d′ → Grew g d d′ p k
-  unfolding growth orElse
-  growth-grew k d d′ p c w f u room e = go (grow g p k d) refl e
+  growth-grew k d d′ p c w f u room e = go (grow g p k d) refl
     where
-      go : (t : Grown) → grow g p k d ≡ t → orElse t (growBy g p (longestFree g) k d) ≡ grown d′ → Grew g d d′ p k
-      go (grown d₁) q e = grow-grew k d d′ p c w f u room (q ∙ e)
-      go noSlot q e = growBy-grew (longestFree g) longest-chooses k d d′ p c w f u room e
+      go : (t : Grown) → grow g p k d ≡ t → Grew g d d′ p k
+      go (grown d₁) q = grow-grew k d d′ p c w f u room (q ∙ sym (keeps-first k d d₁ p q) ∙ e)
+      go noSlot q = growBy-grew (longestFree g) longest-chooses k d d′ p c w f u room (sym (else-second k d p q) ∙ e)
 
 not-fails : (z : List ℕ) (t : Grown) → (T (fails t) → ⊥) → t ≡ grown (diskOr z t)
 unfolding fails diskOr

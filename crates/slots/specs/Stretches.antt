@@ -43,11 +43,11 @@ module _ (taken : ℕ → Bool) where
 
   low-here : (n : ℕ) (ns : List ℕ) → longestIn taken ns ≤ stretch taken (n ∷ ns) → lowEnd taken (n ∷ ns) ≡ n
   unfolding lowEnd
-  low-here n ns h = rw (le-leb (longestIn taken ns) (stretch taken (n ∷ ns)) h) refl
+  low-here n ns h = ap (λ (b : Bool). cond b n (lowEnd taken ns)) (le-leb (longestIn taken ns) (stretch taken (n ∷ ns)) h)
 
   low-later : (n : ℕ) (ns : List ℕ) → stretch taken (n ∷ ns) < longestIn taken ns → lowEnd taken (n ∷ ns) ≡ lowEnd taken ns
   unfolding lowEnd
-  low-later n ns h = rw (lt-leb (longestIn taken ns) (stretch taken (n ∷ ns)) h) refl
+  low-later n ns h = ap (λ (b : Bool). cond b n (lowEnd taken ns)) (lt-leb (longestIn taken ns) (stretch taken (n ∷ ns)) h)
 
   -- the stretch at the front is of free granules, and no longer than the list
   pub stretch-clear : (n i : ℕ) → (stretch taken (count i n) ≤ n) × Clear i (stretch taken (count i n))

@@ -2,7 +2,7 @@
 
 use crate::fault;
 use crate::json::Json;
-use genie_dos::{Disk, Explained, Refusal};
+use genie_dos::{BadName, Disk, Explained, Refusal};
 use std::fmt;
 #[cfg(unix)]
 use std::io;
@@ -35,6 +35,8 @@ pub struct Refused {
     detail: Option<String>,
     /// How many runs a growth wants and how many there is room for, where slots are wanting.
     runs: Option<(usize, usize)>,
+    /// What is wrong with the file's name, if it is none.
+    bad_name: Option<BadName>,
     /// What is wrong with the disk and where, if it is not consistent.
     fault: Option<Explained>,
     /// Where the geometry is from: for programs, and for people unless they stated it on the command line.
@@ -64,6 +66,7 @@ impl Failure {
             file: None,
             detail: None,
             runs: None,
+            bad_name: None,
             fault: None,
             source: None,
             ranking: Ranking::default(),
@@ -119,6 +122,11 @@ impl Failure {
         self.refused_with(|refused| refused.runs = Some((needed, room)))
     }
 
+    /// Adds what is wrong with the file's name, as it was typed.
+    pub fn bad_name(self, wrong: BadName) -> Failure {
+        self.refused_with(|refused| refused.bad_name = Some(wrong)).because(wrong)
+    }
+
     /// Adds where the geometry is from, for programs and for people.
     pub fn by(self, word: &'static str, told: Option<String>) -> Failure {
         self.refused_with(|refused| refused.source = Some((word, told)))
@@ -171,6 +179,12 @@ impl Failure {
 }
 
 impl Refused {
+    /// What is wrong with the name, and the column of the text as typed where it is.
+    fn bad_byte(&self) -> Option<(BadName, usize)> {
+        let typed = self.file.as_deref()?;
+        self.bad_name.map(|bad| (bad, bad.offset(typed)))
+    }
+
     fn json(&self) -> Json {
         let mut members = vec![
             ("number", self.refusal.number().into()),
@@ -183,6 +197,9 @@ impl Refused {
         members.extend(
             self.runs.iter().flat_map(|&(needed, room)| [("runs_needed", needed.into()), ("runs_left", room.into())]),
         );
+        if let Some((bad, column)) = self.bad_byte() {
+            members.extend([("place", bad.place().into()), ("column", column.into())]);
+        }
         members.extend(self.source.as_ref().map(|(word, _)| ("geometry_from", (*word).into())));
         members.extend(self.ranking.members());
         Json::object([("refused", Json::Object(members))])
@@ -198,7 +215,8 @@ impl From<String> for Failure {
     }
 }
 
-/// `refused: 5 (wrong password code): PULS01/DAT on disk.img`. What a search found stands in lines of its own.
+/// `refused: 5 (wrong password code): PULS01/DAT on disk.img`. What a search found stands in lines of its own, and so does a name
+/// that is none, with a mark under what is wrong first.
 impl fmt::Display for Failure {
     fn fmt(&self, f: &mut fmt::Formatter<'_>) -> fmt::Result {
         let lines = match self {
@@ -221,11 +239,11 @@ impl fmt::Display for Failure {
 
 impl fmt::Display for Refused {
     fn fmt(&self, f: &mut fmt::Formatter<'_>) -> fmt::Result {
-        let Refused { refusal, image, file, detail, fault, source, .. } = self;
-        match fault {
-            // Its slot is told below, with its place.
-            Some(_) => write!(f, "refused: {} ({}): ", refusal.number(), refusal.meaning())?,
-            None => write!(f, "refused: {refusal}: ")?,
+        let Refused { refusal, image, file, detail, bad_name, fault, source, .. } = self;
+        match (fault, bad_name) {
+            (None, None) => write!(f, "refused: {refusal}: ")?,
+            // The fault's slot and the bad byte's place are told below.
+            _ => write!(f, "refused: {} ({}): ", refusal.number(), refusal.meaning())?,
         }
         if let Some(file) = file {
             write!(f, "{file} on ")?;
@@ -234,7 +252,14 @@ impl fmt::Display for Refused {
         fault.as_ref().map_or(Ok(()), |fault| write!(f, ": {fault}"))?;
         detail.as_ref().map_or(Ok(()), |detail| write!(f, ": {detail}"))?;
         let told = source.as_ref().and_then(|(_, told)| told.as_ref());
-        told.map_or(Ok(()), |told| write!(f, " (the geometry is from {told})"))
+        told.map_or(Ok(()), |told| write!(f, " (the geometry is from {told})"))?;
+        let typed = file.as_ref().filter(|typed| !typed.is_empty());
+        if let (Some(typed), Some((_, column))) = (typed, self.bad_byte()) {
+            // What could move the mark stands behind it.
+            let typed: String = typed.chars().map(|c| if c.is_control() { '\u{fffd}' } else { c }).collect();
+            write!(f, "\n    {typed}\n    {:column$}^", "")?;
+        }
+        Ok(())
     }
 }
 
@@ -274,6 +299,30 @@ mod tests {
         // Another refusal of a disk has no fault.
         let refused = Failure::disk("disk.img", &disk)(Refusal::Geometry);
         assert_eq!(refused.to_string(), "refused: 1 (geometry or image length not allowed): disk.img");
+    }
+
+    #[test]
+    fn a_bad_name_is_shown_with_a_mark() {
+        let refused = |typed: &str| {
+            let wrong = typed.parse::<genie_dos::Name>().unwrap_err();
+            Failure::file("disk.img", typed)(Refusal::Name { place: wrong.place() }).bad_name(wrong)
+        };
+        assert_eq!(
+            refused("puls01/d~t").to_string(),
+            "refused: 3 (name not well formed): puls01/d~t on disk.img: '~' (byte 9) is none that a name can have\n    \
+             puls01/d~t\n            ^"
+        );
+        assert_eq!(
+            refused("puls01/d~t").json().to_string(),
+            concat!(
+                r#"{"refused":{"number":3,"meaning":"name not well formed","image":"disk.img","file":"puls01/d~t","#,
+                r#""detail":"'~' (byte 9) is none that a name can have","fault":null,"place":9,"column":8}}"#
+            )
+        );
+        assert!(refused("abcdefghi").to_string().ends_with("8 characters\n    abcdefghi\n            ^"));
+        assert!(refused("abcdefghi").json().to_string().ends_with(r#""place":null,"column":8}}"#));
+        assert!(refused("").to_string().ends_with("(byte 0 is a blank)"));
+        assert!(refused("A\u{1b}[2J").to_string().ends_with("have\n    A\u{fffd}[2J\n     ^"));
     }
 
     #[test]

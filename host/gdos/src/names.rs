@@ -6,7 +6,7 @@ use std::path::Path;
 /// A file of the disk as the user named it.
 #[derive(Clone, Debug)]
 pub struct Typed {
-    /// The name in capital letters, as it is shown.
+    /// The name as it is shown; what was typed, where that is none.
     pub text: String,
     /// The name for the library. If what was typed is no name, then neither are these bytes, and the library says so.
     pub name: Name,
@@ -15,14 +15,18 @@ pub struct Typed {
 }
 
 impl Typed {
-    /// A name as typed; small letters count as capital ones.
+    /// A name as typed. The library takes small letters for capital ones.
     pub fn new(typed: &str) -> Typed {
-        let text = typed.to_ascii_uppercase();
-        let (name, wrong) = match text.parse() {
-            Ok(name) => (name, None),
-            Err(wrong) => (Name::from_bytes([b' '; Name::LEN]), Some(wrong)),
-        };
-        Typed { text, name, wrong }
+        match typed.parse::<Name>() {
+            Ok(name) => Typed::from(name),
+            Err(wrong) => {
+                let bytes = match wrong {
+                    BadName::Byte { bytes, .. } => bytes,
+                    _ => [b' '; Name::LEN],
+                };
+                Typed { text: typed.to_string(), name: Name::from_bytes(bytes), wrong: Some(wrong) }
+            }
+        }
     }
 
     /// The name for a host's file: `puls01.dat` goes to PULS01/DAT. Only the last part of the path counts.
@@ -53,9 +57,9 @@ pub fn is_pattern(word: &str) -> bool {
 }
 
 /// Whether a pattern fits a name as shown, `PULS01/DAT`: `*` stands for any characters, the slash too, or none; `?` for
-/// one character that is no slash. Small letters count as capital ones.
+/// one character that is no slash. Other characters count as in names: small letters for capital ones.
 pub fn matches(pattern: &str, name: &Name) -> bool {
-    let pattern = pattern.to_ascii_uppercase().into_bytes();
+    let pattern: Vec<u8> = pattern.bytes().map(|c| Name::byte(c).unwrap_or(c)).collect();
     let text = name.to_string().into_bytes();
     let (mut p, mut t) = (0, 0);
     // Where to go on if the characters behind the last star do not fit: the star takes one more.
@@ -105,26 +109,29 @@ mod tests {
         }
         assert!(fits("*", "LEER") && fits("L??R", "LEER") && !fits("*/*", "LEER") && !fits("LEER?", "LEER"));
         assert!(fits("*A*A*B", "AAAAAAAA/AAB") && !fits("*A*A*B*B", "AAAAAAAA/AAB"));
-        assert!(fits("*\\]", "A[\\]"));
+        assert!(fits("*\\]", "A[\\]") && fits("a{|}", "A[\\]") && !fits("A^", "A]") && !fits("A\u{c1}", "AA"));
     }
 
     #[test]
     fn between_host_and_disk() {
         let disk = |path: &str| {
             let typed = Typed::for_host(Path::new(path));
-            (typed.text, typed.wrong)
+            let column = typed.wrong.map(|wrong| wrong.offset(&typed.text));
+            (typed.text, column)
         };
-        assert_eq!(disk("out/puls01.dat"), ("PULS01/DAT".to_string(), None));
-        assert_eq!(disk("LEER"), ("LEER".to_string(), None));
-        assert_eq!(disk("a.d/leer"), ("LEER".to_string(), None));
-        assert_eq!(disk("LEER."), ("LEER/".to_string(), None));
-        assert_eq!(disk("a.b.c").1, Some(BadName::Character('.')));
-        assert_eq!(disk(".profile").1, Some(BadName::TypeTooLong));
-        assert_eq!(disk(".dat").1, Some(BadName::Empty));
-        assert_eq!(disk("series.data").1, Some(BadName::TypeTooLong));
-        assert_eq!(disk("long_name.dat").1, Some(BadName::Character('_')));
-        assert_eq!(disk("verylongname.dat").1, Some(BadName::NameTooLong));
-        assert_eq!(disk("..").1, Some(BadName::Empty));
+        let good = |text: &str| (text.to_string(), None);
+        assert_eq!(disk("out/puls01.dat"), good("PULS01/DAT"));
+        assert_eq!(disk("LEER"), good("LEER"));
+        assert_eq!(disk("a.d/leer"), good("LEER"));
+        assert_eq!(disk("LEER."), good("LEER"));
+        let bad = |text: &str, column: usize| (text.to_string(), Some(column));
+        assert_eq!(disk("a.b.c"), bad("a.b/c", 1));
+        assert_eq!(disk(".profile"), bad("/profile", 0));
+        assert_eq!(disk(".dat"), bad("/dat", 0));
+        assert_eq!(disk("series.data"), bad("series/data", 10));
+        assert_eq!(disk("long_name.dat"), bad("long_name/dat", 4));
+        assert_eq!(disk("verylongname.dat"), bad("verylongname/dat", 8));
+        assert_eq!(disk(".."), bad("", 0));
         for name in ["PULS01/DAT", "LEER", "[\\]/]"] {
             let typed = Typed::new(name);
             assert_eq!(Typed::for_host(Path::new(&host_name(&typed.name))).name, typed.name);

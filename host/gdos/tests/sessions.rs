@@ -42,6 +42,16 @@ fn data_disk() {
 }
 
 #[test]
+fn granules_of_ten_sectors() {
+    play("granules");
+}
+
+#[test]
+fn a_hard_disk() {
+    play("hard-disk");
+}
+
+#[test]
 fn full_disk() {
     play("full-disk");
 }
@@ -64,6 +74,11 @@ fn faults() {
 #[test]
 fn patterns() {
     play("patterns");
+}
+
+#[test]
+fn small_letters() {
+    play("small-letters");
 }
 
 #[test]

@@ -34,6 +34,9 @@ mod bound {
         fn title(&self) -> &'static str {
             super::LINKED
         }
+        fn name(&self, name: &[u8], folded: &mut [u8], place: &mut usize) -> Number {
+            unsafe { genie_name(name.as_ptr(), name.len(), folded.as_mut_ptr(), folded.len(), place) }
+        }
         fn check(&self, image: &[u8], g: &Geometry, fault_slot: &mut usize) -> Number {
             unsafe {
                 genie_check(
@@ -56,6 +59,7 @@ mod bound {
             name: &[u8],
             slot: &mut usize,
             compared: &mut usize,
+            place: &mut usize,
             fault_slot: &mut usize,
         ) -> Number {
             unsafe {
@@ -72,6 +76,7 @@ mod bound {
                     name.len(),
                     slot,
                     compared,
+                    place,
                     fault_slot,
                 )
             }
@@ -85,6 +90,7 @@ mod bound {
             checking: bool,
             code: u16,
             handle: &mut [u8],
+            place: &mut usize,
             fault_slot: &mut usize,
         ) -> Number {
             unsafe {
@@ -104,6 +110,7 @@ mod bound {
                     code,
                     handle.as_mut_ptr(),
                     handle.len(),
+                    place,
                     fault_slot,
                 )
             }
@@ -116,6 +123,7 @@ mod bound {
             birth: &Birth,
             old: &mut usize,
             handle: &mut [u8],
+            place: &mut usize,
             fault_slot: &mut usize,
         ) -> Number {
             unsafe {
@@ -140,6 +148,7 @@ mod bound {
                     old,
                     handle.as_mut_ptr(),
                     handle.len(),
+                    place,
                     fault_slot,
                 )
             }

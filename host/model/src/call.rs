@@ -8,18 +8,57 @@ use crate::library::Library;
 /// A call with all it is given. Handles, buffers and names are what the caller lends, of any length.
 #[derive(Clone, Debug)]
 pub enum Call {
+    /// The check of a name by itself, with the room for the folded one.
+    Name {
+        name: Vec<u8>,
+        folded: Vec<u8>,
+    },
     Check,
-    LookUp { name: Vec<u8> },
-    Open { name: Vec<u8>, length: usize, checking: bool, code: u16, handle: Vec<u8> },
-    Create { name: Vec<u8>, birth: Birth, handle: Vec<u8> },
-    ReadRecord { handle: Vec<u8>, buffer: Vec<u8> },
-    ReadSector { handle: Vec<u8>, k: usize },
-    WriteRecord { handle: Vec<u8>, sequential: bool, buffer: Vec<u8> },
-    Allot { handle: Vec<u8>, k: usize },
-    Trim { handle: Vec<u8> },
-    Kill { handle: Vec<u8> },
-    BringBack { slot: usize },
-    List { which: usize, name: Vec<u8> },
+    LookUp {
+        name: Vec<u8>,
+    },
+    Open {
+        name: Vec<u8>,
+        length: usize,
+        checking: bool,
+        code: u16,
+        handle: Vec<u8>,
+    },
+    Create {
+        name: Vec<u8>,
+        birth: Birth,
+        handle: Vec<u8>,
+    },
+    ReadRecord {
+        handle: Vec<u8>,
+        buffer: Vec<u8>,
+    },
+    ReadSector {
+        handle: Vec<u8>,
+        k: usize,
+    },
+    WriteRecord {
+        handle: Vec<u8>,
+        sequential: bool,
+        buffer: Vec<u8>,
+    },
+    Allot {
+        handle: Vec<u8>,
+        k: usize,
+    },
+    Trim {
+        handle: Vec<u8>,
+    },
+    Kill {
+        handle: Vec<u8>,
+    },
+    BringBack {
+        slot: usize,
+    },
+    List {
+        which: usize,
+        name: Vec<u8>,
+    },
     Count,
     Free,
 }
@@ -27,6 +66,7 @@ pub enum Call {
 impl Call {
     pub fn title(&self) -> &'static str {
         match self {
+            Call::Name { .. } => "name",
             Call::Check => "check",
             Call::LookUp { .. } => "look up",
             Call::Open { .. } => "open",
@@ -44,10 +84,16 @@ impl Call {
             Call::Free => "free",
         }
     }
+
+    /// Whether it looks for the disk's fault: free space looks at the GAT alone, the check of a name at no disk.
+    pub fn looks_for_faults(&self) -> bool {
+        !matches!(self, Call::Free | Call::Name { .. })
+    }
 }
 
 /// The numbers that each call can give, 0 included; a 2 stands for all of 21 to 30.
-const ROWS: [(&str, &[Number]); 16] = [
+const ROWS: [(&str, &[Number]); 17] = [
+    ("name", &[0, 12, 3]),
     ("check", &[0, 1, 2]),
     ("look up", &[0, 1, 2, 3, 4]),
     ("open", &[0, 1, 2, 12, 3, 4, 5]),
@@ -97,6 +143,7 @@ impl Outcome {
 }
 
 pub const FAULT_SLOT: &str = "fault slot";
+pub const PLACE: &str = "place";
 
 const EDGE: usize = 64;
 const EDGE_BYTE: u8 = 0xA7;
@@ -141,6 +188,7 @@ pub fn perform(library: &dyn Library, image: &mut [u8], g: &Geometry, call: &Cal
     let (handle, buffer, name) = match call {
         Call::Open { handle, name, .. } | Call::Create { handle, name, .. } => (handle, &nothing, name),
         Call::LookUp { name } | Call::List { name, .. } => (&nothing, &nothing, name),
+        Call::Name { name, folded } => (&nothing, folded, name),
         Call::ReadRecord { handle, buffer } | Call::WriteRecord { handle, buffer, .. } => {
             (handle, buffer, &nothing)
         }
@@ -150,21 +198,31 @@ pub fn perform(library: &dyn Library, image: &mut [u8], g: &Geometry, call: &Cal
     };
     let (mut handle, mut buffer, mut name) = (Lent::new(handle), Lent::new(buffer), Lent::new(name));
     let (mut one, mut two, mut three) = (UNSET, UNSET, UNSET);
-    let mut fault_slot = UNSET;
+    let (mut place, mut fault_slot) = (UNSET, UNSET);
     let mut numbers = Vec::new();
     let number = match call {
+        Call::Name { .. } => {
+            let number = library.name(name.lend(), buffer.lend(), &mut place);
+            numbers = vec![(PLACE, place)];
+            number
+        }
         Call::Check => library.check(image, g, &mut fault_slot),
         Call::LookUp { .. } => {
-            let number = library.look_up(image, g, name.lend(), &mut one, &mut two, &mut fault_slot);
-            numbers = vec![("slot", one), ("compared", two)];
+            let number = library.look_up(image, g, name.lend(), &mut one, &mut two, &mut place, &mut fault_slot);
+            numbers = vec![("slot", one), ("compared", two), (PLACE, place)];
             number
         }
         Call::Open { length, checking, code, .. } => {
-            library.open(image, g, name.lend(), *length, *checking, *code, handle.lend(), &mut fault_slot)
+            let (name, handle) = (name.lend(), handle.lend());
+            let number =
+                library.open(image, g, name, *length, *checking, *code, handle, &mut place, &mut fault_slot);
+            numbers = vec![(PLACE, place)];
+            number
         }
         Call::Create { birth, .. } => {
-            let number = library.create(image, g, name.lend(), birth, &mut one, handle.lend(), &mut fault_slot);
-            numbers = vec![("old", one)];
+            let (name, handle) = (name.lend(), handle.lend());
+            let number = library.create(image, g, name, birth, &mut one, handle, &mut place, &mut fault_slot);
+            numbers = vec![("old", one), (PLACE, place)];
             number
         }
         Call::ReadRecord { .. } => library.read_record(image, g, handle.lend(), buffer.lend(), &mut fault_slot),
@@ -201,8 +259,7 @@ pub fn perform(library: &dyn Library, image: &mut [u8], g: &Geometry, call: &Cal
             number
         }
     };
-    // Free space has no such number: it looks for no fault.
-    if !matches!(call, Call::Free) {
+    if call.looks_for_faults() {
         numbers.push((FAULT_SLOT, fault_slot));
     }
     Outcome {

@@ -3,8 +3,8 @@
 
 use crate::call::{Call, Outcome};
 use crate::calls::{Birth, ACCEPTED};
-use crate::directory::{directory_sectors, entry, files, owned, slots};
-use crate::disks::{random_name, random_name_like, Disk};
+use crate::directory::{directory_sectors, entry, files, owned, slots, MARKER_LINK};
+use crate::disks::{in_small_letters, random_name, random_name_like, Disk};
 use crate::geometry::{Geometry, GRANULE_SIZES, MOST_UNITS};
 use crate::handle::{Handle, HANDLE_BYTES};
 use crate::names::{well_formed, Name, BLANK, FULL_NAME_BYTES};
@@ -111,7 +111,16 @@ impl Caller {
         (!all.is_empty()).then(|| *random.pick(&all))
     }
 
+    /// A name as a caller gives it, often with small letters.
     fn name(&self, random: &mut Random, image: &[u8], g: &Geometry) -> Vec<u8> {
+        let mut bytes = self.capital_name(random, image, g);
+        if random.percent(40) {
+            in_small_letters(random, &mut bytes);
+        }
+        bytes
+    }
+
+    fn capital_name(&self, random: &mut Random, image: &[u8], g: &Geometry) -> Vec<u8> {
         let there = Self::some_file(random, image, g).map(|slot| entry(image, g, slot).name());
         match (random.within(0, 19), there) {
             (0..=10, Some(name)) => name.to_vec(),
@@ -133,12 +142,18 @@ impl Caller {
         }
     }
 
+    /// A name with a bad byte at any place, or with two; seldom it is good all the same.
     fn bad_name(random: &mut Random) -> Vec<u8> {
-        let mut bytes = random_name(random);
-        match random.within(0, 2) {
-            0 => bytes[0] = BLANK,
-            1 => bytes[random.within(0, 10)] = *random.pick(&[0, 0x2F, 0x3A, 0x40, 0x5E, 0x61, 0x7D, 0xC1, 0xFF]),
-            _ => (bytes[1], bytes[2]) = (BLANK, b'A'),
+        const BAD: [u8; 14] = [0, 0x1F, 0x21, 0x2F, 0x3A, 0x40, 0x5E, 0x60, 0x7E, 0x7F, 0x80, 0xA0, 0xC1, 0xE1];
+        let mut bytes = if random.percent(50) { [b'A'; FULL_NAME_BYTES] } else { random_name(random) };
+        for _ in 0..random.within(1, 2) {
+            let at = random.within(0, FULL_NAME_BYTES - 1);
+            match random.within(0, 3) {
+                0 => bytes[0] = BLANK,
+                1 => bytes[at] = BLANK,
+                2 => bytes[at] = random.byte(),
+                _ => bytes[at] = *random.pick(&BAD),
+            }
         }
         bytes.to_vec()
     }
@@ -171,6 +186,16 @@ impl Caller {
             0 => random.within(0, HANDLE_BYTES - 1),
             1..=3 => random.within(HANDLE_BYTES, 40),
             _ => HANDLE_BYTES,
+        };
+        (0..length).map(|_| random.byte()).collect()
+    }
+
+    /// A place for a name to come.
+    fn name_room(random: &mut Random) -> Vec<u8> {
+        let length = match random.within(0, 9) {
+            0 => random.within(0, FULL_NAME_BYTES - 1),
+            1 => random.within(FULL_NAME_BYTES, 20),
+            _ => FULL_NAME_BYTES,
         };
         (0..length).map(|_| random.byte()).collect()
     }
@@ -237,6 +262,8 @@ impl Caller {
                 }
             }
             7 => handle = Handle { slot: 0, level: 0, length: 0, position: 0, name: [0; 11] },
+            // The library puts no small letter into a handle.
+            8 => in_small_letters(random, &mut handle.name),
             _ => {}
         }
         let (size, granules) = Self::extent(image, g, &handle);
@@ -293,7 +320,7 @@ impl Caller {
 
     /// Some call.
     pub fn make(&self, random: &mut Random, image: &[u8], g: &Geometry) -> Call {
-        match random.within(0, 106) {
+        match random.within(0, 110) {
             0..=2 => Call::Check,
             3..=9 => Call::LookUp { name: self.name(random, image, g) },
             10..=19 => Call::Open {
@@ -342,16 +369,15 @@ impl Caller {
             }
             92..=96 => {
                 let which = if random.percent(20) { wild(random) } else { random.within(0, 30) };
-                let room = match random.within(0, 9) {
-                    0 => random.within(0, FULL_NAME_BYTES - 1),
-                    1 => random.within(FULL_NAME_BYTES, 20),
-                    _ => FULL_NAME_BYTES,
-                };
-                Call::List { which, name: (0..room).map(|_| random.byte()).collect() }
+                Call::List { which, name: Self::name_room(random) }
             }
             97 | 98 => Call::Count,
             99 => Call::Free,
-            _ => Call::BringBack { slot: self.killed_slot(random, image, g) },
+            100..=106 => Call::BringBack { slot: self.killed_slot(random, image, g) },
+            _ => {
+                let name = if random.percent(30) { Self::bad_name(random) } else { self.name(random, image, g) };
+                Call::Name { name, folded: Self::name_room(random) }
+            }
         }
     }
 
@@ -366,9 +392,13 @@ impl Caller {
             well_formed(&this.name()) && !this.is_extension()
         };
         let killed: Vec<u8> = dead.iter().copied().filter(looks_killed).collect();
+        // A chain to be whole in: seldom there, so asked for often.
+        let long: Vec<u8> =
+            killed.iter().copied().filter(|&slot| entry(image, g, slot).marker() == MARKER_LINK).collect();
         match random.within(if self.sober { 2 } else { 0 }, 19) {
             0 => wild(random),
             1 | 2 => random.byte() as usize,
+            5..=9 if !long.is_empty() => *random.pick(&long) as usize,
             3 if !dead.is_empty() => *random.pick(&dead) as usize,
             4 => Self::some_file(random, image, g).unwrap_or(0) as usize,
             _ if !killed.is_empty() => *random.pick(&killed) as usize,

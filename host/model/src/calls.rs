@@ -8,7 +8,7 @@ use crate::directory::{
 use crate::fault::fault;
 use crate::geometry::{Geometry, SECTOR_BYTES};
 use crate::handle::{good_length, Handle, HANDLE_BYTES};
-use crate::names::{hash, well_formed, Name, FULL_NAME_BYTES};
+use crate::names::{comes_in, hash, Name, FULL_NAME_BYTES};
 use crate::space::{drop_one, first_permitted_slot, free_granules, grow, longest_stretch, Short};
 
 /// A refusal's number; 0 is no refusal.
@@ -19,8 +19,10 @@ pub const GEOMETRY: Number = 1;
 /// "position, length, level, date or sector out of range (sector 0 to 7,679), position + length over
 /// 1,966,080 in a write, buffer shorter than the record length"; 02 §10 has both numbers go by the granule's size
 pub const RANGE: Number = 12;
-/// "name not well formed (calls by name)"
+/// "name not well formed (calls by name)"; "3 now carries a place, 0 to 10" (02 §7)
 pub const NAME: Number = 3;
+/// What the place is where there is none to tell: of an accepted call, and under every number but 3.
+pub const NO_PLACE: usize = FULL_NAME_BYTES;
 /// "handle stale"
 pub const STALE: Number = 7;
 /// "name not found (open, look up)"
@@ -63,6 +65,25 @@ pub(crate) fn number(answer: Result<(), Number>) -> Number {
     answer.err().unwrap_or(ACCEPTED)
 }
 
+/// Row 3 of a call by name: the name as it comes in, or 3 and its place.
+fn by_name(given: &[u8], place: &mut usize) -> Result<Name, Number> {
+    comes_in(given).map_err(|bad| {
+        *place = bad;
+        NAME
+    })
+}
+
+/// "the name check now hands back the folded name, or the place of the first bad byte" (02 §7), for itself: of no disk. A room
+/// for the name of under 11 bytes is 12, which the table has before 3.
+pub fn name(given: &[u8], folded: &mut [u8], place: &mut usize) -> Number {
+    *place = NO_PLACE;
+    number((|| {
+        let room = folded.get_mut(..FULL_NAME_BYTES).ok_or(RANGE)?;
+        room.copy_from_slice(&by_name(given, place)?);
+        Ok(())
+    })())
+}
+
 fn size_of(image: &[u8], g: &Geometry, file: u8) -> usize {
     entry(image, g, file).size().expect("a size on a consistent disk")
 }
@@ -95,25 +116,23 @@ fn find(image: &[u8], g: &Geometry, d: usize, name: &Name) -> (Option<u8>, usize
     (None, compared)
 }
 
-pub fn look_up(image: &[u8], g: &Geometry, name: &[u8], slot: &mut usize, compared: &mut usize) -> Number {
+pub fn look_up(
+    image: &[u8],
+    g: &Geometry,
+    name: &[u8],
+    slot: &mut usize,
+    compared: &mut usize,
+    place: &mut usize,
+) -> Number {
     // "look up returns its count as well under 4, and 0 under 1, 2 and 3" (2 is 21 to 30 now)
-    (*slot, *compared) = (0, 0);
-    let d = match tested(image, g) {
-        Ok(d) => d,
-        Err(refusal) => return refusal,
-    };
-    if !well_formed(name) {
-        return NAME;
-    }
-    let (found, count) = find(image, g, d, name.try_into().expect("11 bytes"));
-    *compared = count;
-    match found {
-        Some(there) => {
-            *slot = there as usize;
-            ACCEPTED
-        }
-        None => NOT_FOUND,
-    }
+    (*slot, *compared, *place) = (0, 0, NO_PLACE);
+    number((|| {
+        let d = tested(image, g)?;
+        let (found, count) = find(image, g, d, &by_name(name, place)?);
+        *compared = count;
+        *slot = found.ok_or(NOT_FOUND)? as usize;
+        Ok(())
+    })())
 }
 
 /// Open's password rule: "level 0 if checking is off, the main code is the "no password" code, or the
@@ -145,6 +164,7 @@ fn hand_back(handle: &mut [u8], answer: Result<Handle, Number>) -> Number {
 }
 
 /// "Open: ... Position 0, record length as given."
+#[allow(clippy::too_many_arguments)]
 pub fn open(
     image: &[u8],
     g: &Geometry,
@@ -153,16 +173,15 @@ pub fn open(
     checking: bool,
     code: u16,
     handle: &mut [u8],
+    place: &mut usize,
 ) -> Number {
+    *place = NO_PLACE;
     let answer = (|| {
         let d = tested(image, g)?;
         if !good_length(length) || handle.len() < HANDLE_BYTES {
             return Err(RANGE);
         }
-        if !well_formed(name) {
-            return Err(NAME);
-        }
-        let name: Name = name.try_into().expect("11 bytes");
+        let name = by_name(name, place)?;
         let slot = find(image, g, d, &name).0.ok_or(NOT_FOUND)?;
         let level = granted_level(&entry(image, g, slot), g, checking, code)?;
         Ok(Handle { slot, level, length: length as u16, position: 0, name })
@@ -206,18 +225,16 @@ pub fn create(
     birth: &Birth,
     old: &mut usize,
     handle: &mut [u8],
+    place: &mut usize,
 ) -> Number {
-    *old = 0;
+    (*old, *place) = (0, NO_PLACE);
     let answer = (|| {
         let d = tested(image, g)?;
         let date_good = birth.day <= HIGHEST_DAY && birth.month <= HIGHEST_MONTH && birth.year <= HIGHEST_YEAR;
         if !good_length(birth.length) || !date_good || handle.len() < HANDLE_BYTES {
             return Err(RANGE);
         }
-        if !well_formed(name) {
-            return Err(NAME);
-        }
-        let name: Name = name.try_into().expect("11 bytes");
+        let name = by_name(name, place)?;
         let new = |slot, level| Handle { slot, level, length: birth.length as u16, position: 0, name };
         if let Some(slot) = find(image, g, d, &name).0 {
             let level = granted_level(&entry(image, g, slot), g, birth.checking, birth.main_code)?;

@@ -1,9 +1,9 @@
 //! The comparison: each call is performed on the model and on the library under test, each with an
 //! image of its own, and all they answer and leave must be alike.
 
-use crate::call::{perform, possible, Call, Lent, Outcome};
+use crate::call::{perform, possible, Call, Lent, Outcome, PLACE};
 use crate::caller::{odd_geometry, Caller};
-use crate::calls::{Number, ACCEPTED, LEVEL};
+use crate::calls::{Number, ACCEPTED, LEVEL, NAME, STALE};
 use crate::consistency::consistent;
 use crate::damage::{random_flips, DAMAGES};
 use crate::differences::{
@@ -14,9 +14,9 @@ use crate::directory::{
 };
 use crate::disks::{random_disk, Disk};
 use crate::geometry::{Geometry, SECTOR_BYTES};
-use crate::handle::Handle;
+use crate::handle::{Handle, HANDLE_BYTES};
 use crate::library::{Library, Model};
-use crate::names::{written, FULL_NAME_BYTES};
+use crate::names::{fold, written, FULL_NAME_BYTES};
 use crate::pairs::{holding, side, tell, Side, Told, CHANGES};
 use crate::plain::files_of;
 use crate::random::Random;
@@ -36,8 +36,13 @@ pub struct Seen {
 pub const EVENTS: &[&str] = &[
     "look up compared several",
     "look up compared several and found none",
+    "look up finds a name in small letters",
+    "open of a name in small letters",
     "open grants the stored level",
     "create finds an old file",
+    "create finds a name in small letters",
+    "create makes a file of a name in small letters",
+    "a handle with small letters is stale",
     "create opens a system file",
     "read of a system file",
     "read crosses granules",
@@ -69,6 +74,17 @@ pub const EVENTS: &[&str] = &[
     "longest stretch to the end",
     "bits past the last unit clear",
     "level refused on a system file",
+    "a bad byte at place 0",
+    "a bad byte at place 1",
+    "a bad byte at place 2",
+    "a bad byte at place 3",
+    "a bad byte at place 4",
+    "a bad byte at place 5",
+    "a bad byte at place 6",
+    "a bad byte at place 7",
+    "a bad byte at place 8",
+    "a bad byte at place 9",
+    "a bad byte at place 10",
     "a long buffer's rest is untouched",
     "still consistent after flips",
     "compare tells only in the first",
@@ -224,6 +240,16 @@ impl<'a> SideBySide<'a> {
             "level refused on a system file",
             mine.number == LEVEL && before.is_some_and(|b| b.entry.is_system() && b.handle.level <= 1),
         );
+        if mine.number == NAME {
+            let told = format!("a bad byte at place {}", mine.numbered(PLACE));
+            seen.event(EVENTS.iter().find(|event| **event == told).expect("a place of a name"), true);
+        }
+        if mine.number == STALE {
+            let held = Handle::read(&mine.handle).expect("a handle of 19 bytes");
+            let folded = Handle { name: held.name.map(fold), ..held };
+            let d = directory_sectors(self.mine.bytes(), g).expect("a consistent disk");
+            seen.event("a handle with small letters is stale", !folded.is_stale(self.mine.bytes(), g, d));
+        }
         let mut wrong = Vec::new();
         if mine.number != theirs.number {
             wrong.push(format!("number: model {}, library {}", mine.number, theirs.number));
@@ -273,7 +299,7 @@ impl<'a> SideBySide<'a> {
     fn refused_step(&mut self, number: Number, random: &mut Random, seen: &mut Seen) -> Result<Outcome, String> {
         let some: Vec<Call> = (0..20).map(|_| self.caller.make(random, self.mine.bytes(), &self.g)).collect();
         let met = |call: &&Call| seen.numbers.get(&(call.title(), number)).copied().unwrap_or(0);
-        let rarest = some.iter().filter(|call| !matches!(call, Call::Free)).min_by_key(met).expect("some call");
+        let rarest = some.iter().filter(|call| call.looks_for_faults()).min_by_key(met).expect("some call");
         self.both(&self.g.clone(), self.mine.bytes().len(), rarest, seen)
     }
 }
@@ -326,11 +352,21 @@ impl Before {
     /// Notes what an accepted call did.
     fn note(&self, image: &[u8], g: &Geometry, call: &Call, outcome: &Outcome, seen: &mut Seen) {
         match call {
-            Call::LookUp { .. } => seen.event("look up compared several", outcome.numbered("compared") > 1),
-            Call::Open { .. } => seen.event("open grants the stored level", outcome.handle[1] > 0),
-            Call::Create { .. } => {
+            Call::LookUp { name } => {
+                seen.event("look up compared several", outcome.numbered("compared") > 1);
+                let there = entry(image, g, outcome.numbered("slot") as u8).name();
+                seen.event("look up finds a name in small letters", there[..] != name[..]);
+            }
+            Call::Open { name, .. } => {
+                seen.event("open grants the stored level", outcome.handle[1] > 0);
+                seen.event("open of a name in small letters", outcome.handle[8..HANDLE_BYTES] != name[..]);
+            }
+            Call::Create { name, .. } => {
                 let old = outcome.numbered("old") == 1;
                 seen.event("create finds an old file", old);
+                let small = outcome.handle[8..HANDLE_BYTES] != name[..];
+                seen.event("create finds a name in small letters", old && small);
+                seen.event("create makes a file of a name in small letters", !old && small);
                 let slot = outcome.handle[0];
                 seen.event("create opens a system file", old && entry(image, g, slot).is_system());
             }

@@ -116,6 +116,16 @@ pub fn random_name(random: &mut Random) -> Name {
     bytes
 }
 
+/// The same name as another caller might give it (02 §7): some of the bytes 41H to 5DH are 61H to 7DH. Bytes of all kinds may be
+/// given; those stay.
+pub fn in_small_letters(random: &mut Random, bytes: &mut [u8]) {
+    for byte in bytes {
+        if (0x41..=0x5D).contains(byte) && random.percent(60) {
+            *byte += 0x20;
+        }
+    }
+}
+
 /// A well-formed name with the hash of another one, if a few hundred trials find one.
 pub fn random_name_like(random: &mut Random, like: &Name) -> Name {
     for _ in 0..700 {

@@ -4,7 +4,7 @@
 
 use crate::calls::{Birth, Number, ACCEPTED};
 use crate::directory::{directory_sectors, entry, files};
-use crate::disks::{random_name, Disk};
+use crate::disks::{in_small_letters, random_name, Disk};
 use crate::geometry::{Geometry, SECTOR_BYTES};
 use crate::handle::{Handle, HANDLE_BYTES};
 use crate::library::{Library, Model};
@@ -55,6 +55,7 @@ pub enum Step {
 
 #[derive(Clone, Debug)]
 pub struct List {
+    /// As the caller gives it: "'Different names' in the third demand means different after folding" (02 §7).
     pub name: Name,
     pub steps: Vec<Step>,
 }
@@ -81,19 +82,19 @@ impl Progress {
         let number = match step {
             Step::Open { length, checking, code } => {
                 let mut handle = [0; HANDLE_BYTES];
-                let number = library.open(image, g, name, *length, *checking, *code, &mut handle, &mut 0);
+                let number = library.open(image, g, name, *length, *checking, *code, &mut handle, &mut 0, &mut 0);
                 told.push(handle[1]);
                 self.handles.push(handle);
                 number
             }
             Step::Create { birth } => {
                 let (mut handle, mut old) = ([0; HANDLE_BYTES], 0);
-                let number = library.create(image, g, name, birth, &mut old, &mut handle, &mut 0);
+                let number = library.create(image, g, name, birth, &mut old, &mut handle, &mut 0, &mut 0);
                 told.extend([handle[1], old as u8]);
                 self.handles.push(handle);
                 number
             }
-            Step::LookUp => library.look_up(image, g, name, &mut 0, &mut 0, &mut 0),
+            Step::LookUp => library.look_up(image, g, name, &mut 0, &mut 0, &mut 0, &mut 0),
             Step::Read { by, at } => {
                 let handle = self.handle(*by, *at);
                 told = vec![0; Handle::read(handle).expect("19 bytes").length()];
@@ -276,6 +277,10 @@ pub fn demand_three(library: &dyn Library, seed: u64, tally: &mut Tally) -> Resu
         if !names.contains(&name) && !system(&name) {
             names.push(name);
         }
+    }
+    // The files are those of the names above, however the lists give them.
+    for name in &mut names {
+        in_small_letters(&mut random, name);
     }
     let quiet = random.percent(30);
     let (first_steps, second_steps) = (random.within(1, 12), random.within(1, 12));

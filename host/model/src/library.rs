@@ -1,6 +1,7 @@
 //! The exported interface as a trait, so that the same tests run on the model and on the library.
 //! Whoever implements it sets every outgoing number, also under a refusal: `fault_slot` last, the slot of the disk's fault
-//! (02 §2) where one was told, else 256.
+//! (02 §2) where one was told, else 256; before it, in calls by name, the `place` of the first bad byte (02 §7) under 3, else
+//! 11.
 
 use crate::bring_back;
 use crate::calls::{self, Birth, Number};
@@ -12,6 +13,7 @@ use std::rc::Rc;
 #[allow(clippy::too_many_arguments)]
 pub trait Library {
     fn title(&self) -> &'static str;
+    fn name(&self, name: &[u8], folded: &mut [u8], place: &mut usize) -> Number;
     fn check(&self, image: &[u8], g: &Geometry, fault_slot: &mut usize) -> Number;
     fn look_up(
         &self,
@@ -20,6 +22,7 @@ pub trait Library {
         name: &[u8],
         slot: &mut usize,
         compared: &mut usize,
+        place: &mut usize,
         fault_slot: &mut usize,
     ) -> Number;
     fn open(
@@ -31,6 +34,7 @@ pub trait Library {
         checking: bool,
         code: u16,
         handle: &mut [u8],
+        place: &mut usize,
         fault_slot: &mut usize,
     ) -> Number;
     fn create(
@@ -41,6 +45,7 @@ pub trait Library {
         birth: &Birth,
         old: &mut usize,
         handle: &mut [u8],
+        place: &mut usize,
         fault_slot: &mut usize,
     ) -> Number;
     fn read_record(
@@ -135,6 +140,9 @@ impl Library for Model {
     fn title(&self) -> &'static str {
         "model"
     }
+    fn name(&self, name: &[u8], folded: &mut [u8], place: &mut usize) -> Number {
+        calls::name(name, folded, place)
+    }
     fn check(&self, image: &[u8], g: &Geometry, fault_slot: &mut usize) -> Number {
         let number = calls::check(image, g);
         with_slot(number, image, g, fault_slot)
@@ -146,9 +154,10 @@ impl Library for Model {
         name: &[u8],
         slot: &mut usize,
         compared: &mut usize,
+        place: &mut usize,
         fault_slot: &mut usize,
     ) -> Number {
-        let number = calls::look_up(image, g, name, slot, compared);
+        let number = calls::look_up(image, g, name, slot, compared, place);
         with_slot(number, image, g, fault_slot)
     }
     fn open(
@@ -160,9 +169,10 @@ impl Library for Model {
         checking: bool,
         code: u16,
         handle: &mut [u8],
+        place: &mut usize,
         fault_slot: &mut usize,
     ) -> Number {
-        let number = calls::open(image, g, name, length, checking, code, handle);
+        let number = calls::open(image, g, name, length, checking, code, handle, place);
         with_slot(number, image, g, fault_slot)
     }
     fn create(
@@ -173,9 +183,10 @@ impl Library for Model {
         birth: &Birth,
         old: &mut usize,
         handle: &mut [u8],
+        place: &mut usize,
         fault_slot: &mut usize,
     ) -> Number {
-        let number = calls::create(image, g, name, birth, old, handle);
+        let number = calls::create(image, g, name, birth, old, handle, place);
         with_slot(number, image, g, fault_slot)
     }
     fn read_record(

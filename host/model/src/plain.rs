@@ -5,7 +5,7 @@ use crate::calls::Birth;
 use crate::directory::{directory_granules, directory_sectors, entry, files, owned};
 use crate::geometry::Geometry;
 use crate::handle::Handle;
-use crate::names::Name;
+use crate::names::{comes_in, Name};
 use std::collections::BTreeMap;
 
 /// "A file's attributes are its entry bytes 00, 01, 02, 04 and 10 to 13."
@@ -65,7 +65,7 @@ pub fn effect(all: &mut Files, g: &Geometry, call: &Call) {
     let handled = |handle: &Vec<u8>| Handle::read(handle).expect("an accepted call");
     match call {
         Call::Create { name, birth, .. } => {
-            let name: Name = name[..].try_into().expect("an accepted call");
+            let name = comes_in(name).expect("an accepted call");
             all.entry(name).or_insert_with(|| born(birth));
         }
         Call::WriteRecord { handle, sequential, buffer } => {

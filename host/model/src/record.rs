@@ -140,6 +140,12 @@ impl<W: Write> Library for Recorder<W> {
     fn title(&self) -> &'static str {
         "recorder"
     }
+    fn name(&self, name: &[u8], folded: &mut [u8], place: &mut usize) -> Number {
+        let lent = folded.to_vec();
+        let answer = Model.name(name, folded, place);
+        let told = [kept(NAME, name), Slice(BUFFER, &lent, folded), Outgoing(*place)];
+        self.call("genie_name", answer, told)
+    }
     fn check(&self, image: &[u8], g: &Geometry, fault_slot: &mut usize) -> Number {
         let answer = Model.check(image, g, fault_slot);
         self.call("genie_check", answer, row![kept(IMAGE, image), g, Outgoing(*fault_slot)])
@@ -151,10 +157,11 @@ impl<W: Write> Library for Recorder<W> {
         name: &[u8],
         slot: &mut usize,
         compared: &mut usize,
+        place: &mut usize,
         fault_slot: &mut usize,
     ) -> Number {
-        let answer = Model.look_up(image, g, name, slot, compared, fault_slot);
-        let told = [Outgoing(*slot), Outgoing(*compared), Outgoing(*fault_slot)];
+        let answer = Model.look_up(image, g, name, slot, compared, place, fault_slot);
+        let told = [Outgoing(*slot), Outgoing(*compared), Outgoing(*place), Outgoing(*fault_slot)];
         self.call("genie_look_up", answer, row![kept(IMAGE, image), g, kept(NAME, name)].chain(told))
     }
     fn open(
@@ -166,12 +173,13 @@ impl<W: Write> Library for Recorder<W> {
         checking: bool,
         code: u16,
         handle: &mut [u8],
+        place: &mut usize,
         fault_slot: &mut usize,
     ) -> Number {
         let lent = handle.to_vec();
-        let answer = Model.open(image, g, name, length, checking, code, handle, fault_slot);
+        let answer = Model.open(image, g, name, length, checking, code, handle, place, fault_slot);
         let given = [kept(NAME, name), number(length), number(checking.into()), number(code.into())];
-        let told = [Slice(HANDLE, &lent, handle), Outgoing(*fault_slot)];
+        let told = [Slice(HANDLE, &lent, handle), Outgoing(*place), Outgoing(*fault_slot)];
         self.call("genie_open", answer, row![kept(IMAGE, image), g].chain(given).chain(told))
     }
     fn create(
@@ -182,10 +190,11 @@ impl<W: Write> Library for Recorder<W> {
         birth: &Birth,
         old: &mut usize,
         handle: &mut [u8],
+        place: &mut usize,
         fault_slot: &mut usize,
     ) -> Number {
         let (was, lent) = (image.to_vec(), handle.to_vec());
-        let answer = Model.create(image, g, name, birth, old, handle, fault_slot);
+        let answer = Model.create(image, g, name, birth, old, handle, place, fault_slot);
         let given = [
             kept(NAME, name),
             number(birth.day),
@@ -196,7 +205,7 @@ impl<W: Write> Library for Recorder<W> {
             number(birth.worker_code.into()),
             number(birth.checking.into()),
         ];
-        let told = [Outgoing(*old), Slice(HANDLE, &lent, handle), Outgoing(*fault_slot)];
+        let told = [Outgoing(*old), Slice(HANDLE, &lent, handle), Outgoing(*place), Outgoing(*fault_slot)];
         self.call("genie_create", answer, row![Slice(IMAGE, &was, image), g].chain(given).chain(told))
     }
     fn read_record(

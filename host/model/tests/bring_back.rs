@@ -347,7 +347,7 @@ fn a_slot_written_since() {
         for i in 0..6 {
             let given = name(&format!("N{i}"));
             assert_eq!(
-                library.create(&mut disk.image, &disk.g, &given, &birth, &mut 0, &mut [0; 19], &mut 0),
+                library.create(&mut disk.image, &disk.g, &given, &birth, &mut 0, &mut [0; 19], &mut 0, &mut 0),
                 ACCEPTED
             );
         }

@@ -20,7 +20,7 @@ fn geometry(system_disk: bool) -> Geometry {
 fn create(library: &dyn Library, disk: &mut Disk, text: &str) -> (Number, u8) {
     let birth = Birth { day: 9, month: 10, year: 3, length: 256, main_code: 0, worker_code: 0, checking: false };
     let mut handle = [0; HANDLE_BYTES];
-    let number = library.create(&mut disk.image, &disk.g, &name(text), &birth, &mut 9, &mut handle, &mut 0);
+    let number = library.create(&mut disk.image, &disk.g, &name(text), &birth, &mut 9, &mut handle, &mut 0, &mut 0);
     (number, handle[0])
 }
 
@@ -91,7 +91,7 @@ fn an_extension() {
             put_entry(&mut disk.image, &disk.g, slot, &e);
             disk.image[hit_place(&disk.g, slot)] = hash(&name(&text));
         }
-        let open = library.open(&disk.image, &disk.g, &name("F2"), 256, false, 0, &mut handle, &mut 0);
+        let open = library.open(&disk.image, &disk.g, &name("F2"), 256, false, 0, &mut handle, &mut 0, &mut 0);
         assert_eq!((open, handle[0]), (ACCEPTED, 0x02), "{}", library.title());
         let mut refused = disk.image.clone();
         assert_eq!(

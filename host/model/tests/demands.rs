@@ -1,9 +1,9 @@
 //! The model against demands 1 and 2: it refuses without a trace, and accepted calls do to the disk
 //! what they would do to a plain list of named files.
 
-use genie_model::call::{perform, Call, FAULT_SLOT};
+use genie_model::call::{perform, Call, FAULT_SLOT, PLACE};
 use genie_model::caller::Caller;
-use genie_model::calls::ACCEPTED;
+use genie_model::calls::{ACCEPTED, NAME, NO_PLACE};
 use genie_model::consistency::consistent;
 use genie_model::directory::{directory_sectors, entry, files, owned, slots};
 use genie_model::disks::random_disk;
@@ -11,7 +11,7 @@ use genie_model::geometry::SECTOR_BYTES;
 use genie_model::handle::{Handle, HANDLE_BYTES};
 use genie_model::interleave::{demand_three, Tally};
 use genie_model::library::{Model, NO_SLOT};
-use genie_model::names::{hash, Name};
+use genie_model::names::{comes_in, hash};
 use genie_model::plain::{effect, files_of};
 use genie_model::random::Random;
 use genie_model::space::{free_granules, reserved_granules};
@@ -57,6 +57,7 @@ fn calls_do_what_a_plain_list_of_files_would() {
                 for (title, told) in &outcome.numbers {
                     let good = match *title {
                         FAULT_SLOT => *told == NO_SLOT,
+                        PLACE => (*told < NO_PLACE) == (outcome.number == NAME),
                         title => *told == 0 || title == "compared" && outcome.number == 4,
                     };
                     assert!(good, "{title} = {told}: {at}");
@@ -93,7 +94,7 @@ fn calls_do_what_a_plain_list_of_files_would() {
                     }
                 }
                 Call::LookUp { name } => {
-                    let name: Name = name[..].try_into().expect("accepted");
+                    let name = comes_in(name).expect("accepted");
                     let slot = outcome.numbered("slot") as u8;
                     let up_to_hit = slots(d)
                         .filter(|&other| other <= slot)
@@ -155,6 +156,7 @@ fn lent(call: &Call) -> (Vec<u8>, Vec<u8>, Vec<u8>) {
     let none = Vec::new;
     match call.clone() {
         Call::Check | Call::BringBack { .. } | Call::Count | Call::Free => (none(), none(), none()),
+        Call::Name { name, folded } => (none(), folded, name),
         Call::LookUp { name } | Call::List { name, .. } => (none(), none(), name),
         Call::Open { name, handle, .. } | Call::Create { name, handle, .. } => (handle, none(), name),
         Call::ReadRecord { handle, buffer } | Call::WriteRecord { handle, buffer, .. } => (handle, buffer, none()),

@@ -12,7 +12,7 @@ use genie_model::random::Random;
 const SEED: u64 = 2026;
 /// Enough for every refusal and event to occur. The seconds are for a machine that hangs only: the number
 /// of calls ends the run, so that it is the same everywhere.
-const BOUNDS: Bounds = Bounds { seed: SEED, seconds: 600.0, calls: 25_000 };
+const BOUNDS: Bounds = Bounds { seed: SEED, seconds: 600.0, calls: 40_000 };
 
 /// The random calls are worth something: they reach every refusal of every call and every event.
 #[test]

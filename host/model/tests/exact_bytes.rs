@@ -106,7 +106,7 @@ fn create_writes_an_entry_and_its_hit_byte() {
     });
     leaves(&before, &wanted, |library, image, g| {
         let mut handle = [0xEE; 19];
-        let number = library.create(image, g, &name("AB/C"), &birth, &mut 7, &mut handle, &mut 0);
+        let number = library.create(image, g, &name("AB/C"), &birth, &mut 7, &mut handle, &mut 0, &mut 0);
         assert_eq!(handle, *b"\x80\x00\x00\x01\x00\x00\x00\x00AB      C  ");
         number
     });
@@ -115,7 +115,7 @@ fn create_writes_an_entry_and_its_hit_byte() {
     put_file(&mut there, &[], 0);
     leaves(&there, &there, |library, image, g| {
         let birth = Birth { checking: false, ..birth };
-        library.create(image, g, &name("A"), &birth, &mut 7, &mut [0; 19], &mut 0)
+        library.create(image, g, &name("A"), &birth, &mut 7, &mut [0; 19], &mut 0, &mut 0)
     });
 }
 
@@ -284,10 +284,10 @@ fn reads_and_listings_touch_nothing() {
     leaves(&before, &before, |library, image, g| {
         let (mut a, mut b, mut c) = (0, 0, 0);
         let mut room = [0; 19];
-        assert_eq!(library.look_up(image, g, &name("A"), &mut a, &mut b, &mut 0), ACCEPTED);
+        assert_eq!(library.look_up(image, g, &name("A"), &mut a, &mut b, &mut 0, &mut 0), ACCEPTED);
         // The extension bears the same hash, but lies behind.
         assert_eq!((a, b), (FILE as usize, 1));
-        assert_eq!(library.open(image, g, &name("A"), 1, true, 0x1234, &mut room, &mut 0), ACCEPTED);
+        assert_eq!(library.open(image, g, &name("A"), 1, true, 0x1234, &mut room, &mut 0, &mut 0), ACCEPTED);
         assert_eq!(library.list(image, g, 0, &mut room, &mut a, &mut b, &mut c, &mut 0), ACCEPTED);
         assert_eq!((a, b, c), (0, 7, 1));
         library.count(image, g, &mut a, &mut b, &mut 0)

@@ -305,7 +305,7 @@ fn the_largest_file_of_the_largest_disk() {
     for library in libraries() {
         let mut image = blank.image.clone();
         let mut lent = [0; HANDLE_BYTES];
-        assert_eq!(library.create(&mut image, &g, &name("A"), &birth, &mut 0, &mut lent, &mut 0), ACCEPTED);
+        assert_eq!(library.create(&mut image, &g, &name("A"), &birth, &mut 0, &mut lent, &mut 0, &mut 0), ACCEPTED);
         assert_eq!(lent[0], FILE);
         // The directory has one granule of 1,536. One byte more than the others hold is 9, and the last position there is 9 too.
         let mut one_more = handle(7_859_200, 1);
@@ -351,7 +351,7 @@ fn the_sectors_behind_the_directory_stay() {
     for library in libraries() {
         let mut image = disk.image.clone();
         let mut lent = [0; HANDLE_BYTES];
-        assert_eq!(library.create(&mut image, &g, &name("A"), &birth, &mut 0, &mut lent, &mut 0), ACCEPTED);
+        assert_eq!(library.create(&mut image, &g, &name("A"), &birth, &mut 0, &mut lent, &mut 0, &mut 0), ACCEPTED);
         // All ten granules that are free, filled.
         for _ in 0..10 * 20 {
             assert_eq!(library.write_record(&mut image, &g, &mut lent, true, &[0x11; 256], &mut 0), ACCEPTED);

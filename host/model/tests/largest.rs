@@ -119,7 +119,10 @@ fn the_whole_disk_taken_at_once() {
             worker_code: 0,
             checking: true,
         };
-        assert_eq!(library.create(&mut image, &g, &name("ALL"), &birth, &mut 0, &mut lent, &mut 0), ACCEPTED);
+        assert_eq!(
+            library.create(&mut image, &g, &name("ALL"), &birth, &mut 0, &mut lent, &mut 0, &mut 0),
+            ACCEPTED
+        );
         lent[4..8].copy_from_slice(&(1_963_519u32).to_le_bytes());
         assert_eq!(library.write_record(&mut image, &g, &mut lent, true, &[9], &mut 0), ACCEPTED);
         assert_eq!(library.check(&image, &g, &mut 0), ACCEPTED);

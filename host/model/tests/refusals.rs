@@ -1,8 +1,8 @@
 //! Each row of the table of refusals, for each call that can give it and for each of its reasons, and
 //! the order of the rows; on the model and on the linked library.
 
-use genie_model::call::{perform, Call, Outcome, FAULT_SLOT};
-use genie_model::calls::Birth;
+use genie_model::call::{perform, Call, Outcome, FAULT_SLOT, PLACE};
+use genie_model::calls::{Birth, NO_PLACE};
 use genie_model::directory::{entry_place, hit_place, put_entry, set_taken, slots, Entry, Pair};
 use genie_model::disks::{empty_disk, Disk};
 use genie_model::fault::{self, Kind};
@@ -128,7 +128,7 @@ fn all_calls() -> Vec<Call> {
 }
 
 /// The call on a copy of the disk, by every library: the number, and if it is a refusal that nothing
-/// is changed and every outgoing number is 0.
+/// is changed and every outgoing number is 0, or says that there is nothing to tell.
 fn gives_under(disk: &Disk, g: &Geometry, call: &Call, wanted: u8) -> Outcome {
     let mut outcomes = Vec::new();
     for library in libraries() {
@@ -143,6 +143,8 @@ fn gives_under(disk: &Disk, g: &Geometry, call: &Call, wanted: u8) -> Outcome {
                 // The fault's slot is looked at in tests/faults.rs; where there is no fault, there is none.
                 let good = match *title {
                     FAULT_SLOT => fault::numbers().contains(&wanted) || *told == NO_SLOT,
+                    // Which one it is, tests/small_letters.rs says.
+                    PLACE => (*told < NO_PLACE) == (wanted == 3) && *told <= NO_PLACE,
                     title => *told == 0 || count_stands && title == "compared",
                 };
                 assert!(good, "{title} = {told} of {at}");
@@ -360,7 +362,7 @@ fn row_3_names() {
         b"DATA      T".to_vec(),
         b"DATA   XDAT".to_vec(),
     ];
-    for bad in [0x00, 0x1F, 0x21, 0x2F, 0x3A, 0x40, 0x5E, 0x60, 0x61, 0x7D, 0x80, 0xA0, 0xC1, 0xFF] {
+    for bad in [0x00, 0x1F, 0x21, 0x2F, 0x3A, 0x40, 0x5E, 0x60, 0x7E, 0x7F, 0x80, 0xA0, 0xC1, 0xE1, 0xFF] {
         for at in [0, 3, 8, 10] {
             let mut bytes = name("DATA/DAT");
             bytes[at] = bad;
@@ -374,7 +376,7 @@ fn row_3_names() {
         gives(&disk, &Call::Create { name: bytes, birth: birth(), handle: vec![0xEE; 19] }, 3);
     }
     // The edges of what is allowed.
-    for text in ["0", "9", "A", "]", "[\\]", "A2345678/123", "A/B", "Z"] {
+    for text in ["0", "9", "A", "]", "[\\]", "A2345678/123", "A/B", "Z", "a", "z", "{|}", "neu/txt"] {
         gives(&disk, &look_up(text), 4);
         gives(&disk, &create(text), 0);
     }

@@ -23,7 +23,8 @@ fn sixteen_by_two() -> Disk {
 
 fn create(library: &dyn Library, disk: &mut Disk, text: &str, length: usize) -> [u8; HANDLE_BYTES] {
     let mut handle = [0; HANDLE_BYTES];
-    let number = library.create(&mut disk.image, &disk.g, &name(text), &birth(length), &mut 9, &mut handle, &mut 0);
+    let number =
+        library.create(&mut disk.image, &disk.g, &name(text), &birth(length), &mut 9, &mut handle, &mut 0, &mut 0);
     assert_eq!(number, ACCEPTED, "{}: create {text}", library.title());
     handle
 }
@@ -78,7 +79,8 @@ fn row_2_slot_25() {
         let mut disk = sixteen_by_two();
         place(&mut disk, 0x25, "PULS01/DAT", &[], 0);
         let (mut slot, mut compared) = (0, 0);
-        let number = library.look_up(&disk.image, &disk.g, &name("PULS01/DAT"), &mut slot, &mut compared, &mut 0);
+        let number =
+            library.look_up(&disk.image, &disk.g, &name("PULS01/DAT"), &mut slot, &mut compared, &mut 0, &mut 0);
         assert_eq!((number, slot, compared), (ACCEPTED, 0x25, 1), "{}", library.title());
     }
 }
@@ -198,7 +200,10 @@ fn row_8_longest_directory() {
     disk.image[hit_place(&disk.g, 0xFC)] = 0x77;
     for library in libraries() {
         let (mut slot, mut compared) = (0, 0);
-        assert_eq!(library.look_up(&disk.image, &disk.g, &name("A"), &mut slot, &mut compared, &mut 0), ACCEPTED);
+        assert_eq!(
+            library.look_up(&disk.image, &disk.g, &name("A"), &mut slot, &mut compared, &mut 0, &mut 0),
+            ACCEPTED
+        );
         assert_eq!((slot, compared), (0xFB, 1), "{}", library.title());
     }
 }

@@ -113,13 +113,18 @@ static size_t least(size_t a, size_t b)
     return a < b ? a : b;
 }
 
-static void begin(enum call call, const uint8_t *image, size_t len, size_t blocks, size_t units, size_t start, uint16_t open_code,
-                  bool system_disk, size_t granule_sectors)
+static void take_turn(enum call call)
 {
     pthread_mutex_lock(&turn);
     if (owner != getpid())
         start_server();
     w->call = call;
+}
+
+static void begin(enum call call, const uint8_t *image, size_t len, size_t blocks, size_t units, size_t start, uint16_t open_code,
+                  bool system_disk, size_t granule_sectors)
+{
+    take_turn(call);
     w->image_len = least(len, IMAGE_MOST);
     w->blocks = blocks;
     w->units = units;
@@ -162,6 +167,19 @@ static uint8_t end(void)
 #define TAKE_HANDLE TAKE(handle, HANDLE_MOST)
 #define TAKE_BUFFER TAKE(buffer, BUFFER_MOST)
 
+/* Of no disk. The folded name goes by way of the buffer. */
+uint8_t genie_name(const uint8_t *name, size_t name_len, uint8_t *folded, size_t folded_len, size_t *place)
+{
+    take_turn(FOLD);
+    TAKE_NAME;
+    w->buffer_len = least(folded_len, BUFFER_MOST);
+    memcpy(w->buffer, folded, w->buffer_len);
+    go();
+    memcpy(folded, w->buffer, w->buffer_len);
+    *place = w->place;
+    return end();
+}
+
 uint8_t genie_check(const IMAGE, size_t *fault_slot)
 {
     BEGIN(CHECK);
@@ -170,19 +188,21 @@ uint8_t genie_check(const IMAGE, size_t *fault_slot)
     return end();
 }
 
-uint8_t genie_look_up(const IMAGE, const uint8_t *name, size_t name_len, size_t *slot, size_t *compared, size_t *fault_slot)
+uint8_t genie_look_up(const IMAGE, const uint8_t *name, size_t name_len, size_t *slot, size_t *compared, size_t *place,
+                      size_t *fault_slot)
 {
     BEGIN(LOOK_UP);
     TAKE_NAME;
     go();
     *slot = w->out[0];
     *compared = w->out[1];
+    *place = w->place;
     *fault_slot = w->fault_slot;
     return end();
 }
 
 uint8_t genie_open(const IMAGE, const uint8_t *name, size_t name_len, size_t length, bool checking, uint16_t code,
-                   uint8_t *handle, size_t handle_len, size_t *fault_slot)
+                   uint8_t *handle, size_t handle_len, size_t *place, size_t *fault_slot)
 {
     BEGIN(OPEN);
     TAKE_NAME;
@@ -192,12 +212,14 @@ uint8_t genie_open(const IMAGE, const uint8_t *name, size_t name_len, size_t len
     w->in[2] = code;
     go();
     BACK(handle);
+    *place = w->place;
     *fault_slot = w->fault_slot;
     return end();
 }
 
 uint8_t genie_create(IMAGE, const uint8_t *name, size_t name_len, size_t day, size_t month, size_t year, size_t length,
-                     uint16_t main_code, uint16_t worker_code, bool checking, size_t *old, uint8_t *handle, size_t handle_len, size_t *fault_slot)
+                     uint16_t main_code, uint16_t worker_code, bool checking, size_t *old, uint8_t *handle, size_t handle_len, size_t *place,
+                     size_t *fault_slot)
 {
     BEGIN(CREATE);
     TAKE_NAME;
@@ -213,6 +235,7 @@ uint8_t genie_create(IMAGE, const uint8_t *name, size_t name_len, size_t day, si
     *old = w->out[0];
     BACK(handle);
     BACK(image);
+    *place = w->place;
     *fault_slot = w->fault_slot;
     return end();
 }

@@ -73,18 +73,20 @@ void *memchr(const void *from, int byte, size_t n)
 #define HANDLE w->handle, w->handle_len
 #define BUFFER w->buffer, w->buffer_len
 
-static uint8_t serve(struct wire *w, size_t out[4], size_t *fault_slot)
+static uint8_t serve(struct wire *w, size_t out[4], size_t *place, size_t *fault_slot)
 {
     const uint64_t *in = w->in;
     switch (w->call) {
+    case FOLD:
+        return genie_name(NAME, BUFFER, place);
     case CHECK:
         return genie_check(IMAGE, fault_slot);
     case LOOK_UP:
-        return genie_look_up(IMAGE, NAME, &out[0], &out[1], fault_slot);
+        return genie_look_up(IMAGE, NAME, &out[0], &out[1], place, fault_slot);
     case OPEN:
-        return genie_open(IMAGE, NAME, in[0], in[1], (uint16_t)in[2], HANDLE, fault_slot);
+        return genie_open(IMAGE, NAME, in[0], in[1], (uint16_t)in[2], HANDLE, place, fault_slot);
     case CREATE:
-        return genie_create(IMAGE, NAME, in[0], in[1], in[2], in[3], (uint16_t)in[4], (uint16_t)in[5], in[6], &out[0], HANDLE, fault_slot);
+        return genie_create(IMAGE, NAME, in[0], in[1], in[2], in[3], (uint16_t)in[4], (uint16_t)in[5], in[6], &out[0], HANDLE, place, fault_slot);
     case READ_RECORD:
         return genie_read_record(IMAGE, HANDLE, BUFFER, fault_slot);
     case READ_SECTOR:
@@ -118,8 +120,9 @@ __attribute__((used)) static void begin(void)
     char byte = 0;
     while (at > 0 && kernel(READ, SOCKET_FD, (long)&byte, 1, 0, 0, 0) == 1) {
         size_t out[4] = {w->out[0], w->out[1], w->out[2], w->out[3]};
-        size_t fault_slot = w->fault_slot;
-        w->answer = serve(w, out, &fault_slot);
+        size_t place = w->place, fault_slot = w->fault_slot;
+        w->answer = serve(w, out, &place, &fault_slot);
+        w->place = place;
         w->fault_slot = fault_slot;
         for (int i = 0; i < 4; i++)
             w->out[i] = out[i];

@@ -6,7 +6,8 @@
 #include <stdint.h>
 
 enum call {
-    CHECK, LOOK_UP, OPEN, CREATE, READ_RECORD, READ_SECTOR, WRITE_RECORD, ALLOT, TRIM, KILL, BRING_BACK, LIST, COUNT, FREE, COMPARE
+    CHECK, LOOK_UP, OPEN, CREATE, READ_RECORD, READ_SECTOR, WRITE_RECORD, ALLOT, TRIM, KILL, BRING_BACK, LIST, COUNT, FREE, COMPARE,
+    FOLD
 };
 
 /* The client keeps these to itself: of a longer part no call looks at more than its beginning and its length, and every image of
@@ -19,7 +20,8 @@ struct wire {
     uint64_t name_len, handle_len, buffer_len;
     uint64_t in[7];  /* the call's own numbers, in the order of its arguments */
     uint64_t out[4]; /* its outgoing numbers, likewise */
-    uint64_t fault_slot; /* the last of them, of every call but free */
+    uint64_t fault_slot; /* the last of them, of every call but free and the name's */
+    uint64_t place;      /* before it, of calls by name */
     uint64_t second_len, blocks2, units2, start2, open_code2, system_disk2, granule_sectors2; /* of compare */
     uint8_t name[NAME_MOST], handle[HANDLE_MOST], buffer[BUFFER_MOST], image[IMAGE_MOST], second[IMAGE_MOST];
 };

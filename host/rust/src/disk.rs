@@ -142,6 +142,12 @@ fn accepted(call: impl FnOnce(&mut usize) -> u8) -> Result<(), Refusal> {
     Refusal::from_answer(number, fault_slot).map_or(Ok(()), Err)
 }
 
+/// Likewise of a call by name, which sets the place of the name's first bad byte too.
+fn accepted_by_name(call: impl FnOnce(&mut usize, &mut usize) -> u8) -> Result<(), Refusal> {
+    let mut place = 0;
+    accepted(|fault_slot| call(&mut place, fault_slot)).map_err(|refusal| refusal.with_place(place))
+}
+
 impl<B> Disk<B> {
     /// A disk of these bytes. Nothing is tested yet: each call does so.
     pub const fn new(image: B, geometry: Geometry) -> Disk<B> {
@@ -256,7 +262,7 @@ impl<B: AsRef<[u8]>> Disk<B> {
         let (image, g, name) = (self.image.as_ref(), self.geometry, name.as_bytes());
         let (mut slot, mut compared) = (0, 0);
         // SAFETY: the slices are live references; the outgoing numbers are locals.
-        let answer = accepted(|fault_slot| unsafe {
+        let answer = accepted_by_name(|place, fault_slot| unsafe {
             sys::genie_look_up(
                 image.as_ptr(),
                 image.len(),
@@ -270,6 +276,7 @@ impl<B: AsRef<[u8]>> Disk<B> {
                 name.len(),
                 &mut slot,
                 &mut compared,
+                place,
                 fault_slot,
             )
         });
@@ -302,7 +309,7 @@ impl<B: AsRef<[u8]>> Disk<B> {
         let mut handle = Handle::zeros();
         let lent = handle.as_mut_bytes();
         // SAFETY: the slices are live references, the handle's a local.
-        accepted(|fault_slot| unsafe {
+        accepted_by_name(|place, fault_slot| unsafe {
             sys::genie_open(
                 image.as_ptr(),
                 image.len(),
@@ -319,6 +326,7 @@ impl<B: AsRef<[u8]>> Disk<B> {
                 code,
                 lent.as_mut_ptr(),
                 lent.len(),
+                place,
                 fault_slot,
             )
         })?;
@@ -588,7 +596,7 @@ impl<B: AsMut<[u8]>> Disk<B> {
         let lent = handle.as_mut_bytes();
         let mut old = 0;
         // SAFETY: the slices are live references, the image's is exclusive; the others written to are locals.
-        accepted(|fault_slot| unsafe {
+        accepted_by_name(|place, fault_slot| unsafe {
             sys::genie_create(
                 image.as_mut_ptr(),
                 image.len(),
@@ -611,6 +619,7 @@ impl<B: AsMut<[u8]>> Disk<B> {
                 &mut old,
                 lent.as_mut_ptr(),
                 lent.len(),
+                place,
                 fault_slot,
             )
         })?;

@@ -1,4 +1,4 @@
-use crate::{Fault, FaultKind};
+use crate::{Fault, FaultKind, Name};
 use std::fmt;
 
 /// Why the library refused a call. A refused call has changed nothing.
@@ -26,6 +26,18 @@ use std::fmt;
 /// assert_eq!(refusal.to_string(), "28 (disk not consistent: granule shared; slot 25H)");
 /// assert_eq!(Refusal::from_answer(21, 256).unwrap().slot(), None); // 256 is "no slot"
 /// ```
+///
+/// A name that is none is refused with the place of its first bad byte, 0 to 10:
+///
+/// ```
+/// use genie_dos::{Disk, Geometry, Name, Password, Refusal};
+///
+/// let disk = Disk::blank(Geometry::new(16, 2, 80, 0x4296), 10, &[0])?;
+/// let refusal = disk.open(&Name::from_bytes(*b"PULS 01~   "), 256, Password::Unchecked).unwrap_err();
+/// assert_eq!(refusal, Refusal::Name { place: Some(5) });
+/// assert_eq!(refusal.to_string(), "3 (name not well formed; place 5)");
+/// # Ok::<(), Refusal>(())
+/// ```
 #[derive(Clone, Copy, Debug, PartialEq, Eq, Hash)]
 #[non_exhaustive]
 pub enum Refusal {
@@ -37,7 +49,10 @@ pub enum Refusal {
     /// directory has not.
     Range,
     /// 3: the name is not well formed (calls by name).
-    Name,
+    Name {
+        /// The place of its first bad byte, 0 to 10; none where only the number is known.
+        place: Option<u8>,
+    },
     /// 7: the handle is stale: its slot does not hold a file of its name.
     Stale,
     /// 4: there is no file of this name.
@@ -67,7 +82,8 @@ pub enum Refusal {
 }
 
 impl Refusal {
-    /// The numbers that the library gives today, in the order in which it tests; those of faults without their slots.
+    /// The numbers that the library gives today, in the order in which it tests; those of faults without their slots, a name's
+    /// without its place.
     pub const ALL: [Refusal; 25] = [
         Refusal::Geometry,
         Refusal::Inconsistent(Fault::of_disk(FaultKind::DirectoryLength)),
@@ -81,7 +97,7 @@ impl Refusal {
         Refusal::Inconsistent(Fault::of_disk(FaultKind::Size)),
         Refusal::Inconsistent(Fault::of_disk(FaultKind::DirectoryGranule)),
         Refusal::Range,
-        Refusal::Name,
+        Refusal::Name { place: None },
         Refusal::Stale,
         Refusal::NotFound,
         Refusal::Password,
@@ -101,7 +117,7 @@ impl Refusal {
         match self {
             Refusal::Geometry => 1,
             Refusal::Inconsistent(fault) => fault.kind.number(),
-            Refusal::Name => 3,
+            Refusal::Name { .. } => 3,
             Refusal::NotFound => 4,
             Refusal::Password => 5,
             Refusal::Access => 6,
@@ -124,6 +140,14 @@ impl Refusal {
         self.fault().and_then(|fault| fault.slot)
     }
 
+    /// The place of a name's first bad byte, 0 to 10; none of every other refusal.
+    pub fn place(self) -> Option<u8> {
+        match self {
+            Refusal::Name { place } => place,
+            _ => None,
+        }
+    }
+
     /// The fault of a disk that is not consistent; none of every other refusal.
     pub fn fault(self) -> Option<Fault> {
         match self {
@@ -141,7 +165,17 @@ impl Refusal {
         })
     }
 
-    /// The refusal of a number, without a slot; none for 0, which stands for "accepted".
+    /// The same with the place that a call by name sets, of which 11 stands for none; of another refusal than 3 there is none.
+    pub fn with_place(self, place: usize) -> Refusal {
+        match self {
+            Refusal::Name { .. } => {
+                Refusal::Name { place: u8::try_from(place).ok().filter(|&place| usize::from(place) < Name::LEN) }
+            }
+            other => other,
+        }
+    }
+
+    /// The refusal of a number, without a slot or a place; none for 0, which stands for "accepted".
     pub fn from_number(number: u8) -> Option<Refusal> {
         if number == 0 {
             return None;
@@ -155,7 +189,7 @@ impl Refusal {
         match self {
             Refusal::Geometry => "geometry or image length not allowed",
             Refusal::Inconsistent(fault) => fault.kind.meaning(),
-            Refusal::Name => "name not well formed",
+            Refusal::Name { .. } => "name not well formed",
             Refusal::NotFound => "name not found",
             Refusal::Password => "wrong password code",
             Refusal::Access => "not allowed at this access level, or a system file",
@@ -174,12 +208,15 @@ impl Refusal {
     }
 }
 
-/// The number, what it means and the slot at fault: `5 (wrong password code)`.
+/// The number, what it means, the slot at fault and the place of a bad byte: `5 (wrong password code)`.
 impl fmt::Display for Refusal {
     fn fmt(&self, f: &mut fmt::Formatter<'_>) -> fmt::Result {
         write!(f, "{} ({}", self.number(), self.meaning())?;
         if let Some(slot) = self.slot() {
             write!(f, "; slot {slot:02X}H")?;
+        }
+        if let Some(place) = self.place() {
+            write!(f, "; place {place}")?;
         }
         f.write_str(")")
     }
@@ -216,6 +253,16 @@ mod tests {
             assert_eq!(Refusal::from_answer(refusal.number(), 256), Some(refusal));
         }
         assert_eq!(Refusal::from_answer(0, 256), None);
+    }
+
+    #[test]
+    fn places_belong_to_names() {
+        for refusal in Refusal::ALL {
+            let is_name = refusal == Refusal::Name { place: None };
+            assert_eq!(refusal.with_place(10).place(), is_name.then_some(10));
+            assert_eq!(refusal.with_place(11), refusal);
+            assert_eq!(refusal.with_place(256 + 3), refusal);
+        }
     }
 
     #[test]

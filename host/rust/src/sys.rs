@@ -1,11 +1,14 @@
 //! The library's exported functions, as `host/include/genie.h` declares them.
 //!
 //! A slice is a pointer and a length. Every function answers the refusal number, 0 if it accepts, and all but
-//! `genie_free` set the slot of the disk's fault, 256 where there is none to tell. It tests whatever it is lent: its only
-//! demands are those of any C function, that the pointers are not null, that the lent parts are there for their whole
-//! length and do not overlap. References and slices of safe Rust meet them, so each call in `disk.rs` passes nothing else.
+//! `genie_free` and `genie_name` set the slot of the disk's fault, 256 where there is none to tell; those that take a name
+//! set the place of its first bad byte, 11 where there is none. It tests whatever it is lent: its only demands are those
+//! of any C function, that the pointers are not null, that the lent parts are there for their whole length and do not
+//! overlap. References and slices of safe Rust meet them, so the calls in this crate pass nothing else.
 
 extern "C" {
+    pub fn genie_name(name: *const u8, name_len: usize, folded: *mut u8, folded_len: usize, place: *mut usize) -> u8;
+
     pub fn genie_check(
         image: *const u8,
         image_len: usize,
@@ -31,6 +34,7 @@ extern "C" {
         name_len: usize,
         slot: *mut usize,
         compared: *mut usize,
+        place: *mut usize,
         fault_slot: *mut usize,
     ) -> u8;
 
@@ -50,6 +54,7 @@ extern "C" {
         code: u16,
         handle: *mut u8,
         handle_len: usize,
+        place: *mut usize,
         fault_slot: *mut usize,
     ) -> u8;
 
@@ -74,6 +79,7 @@ extern "C" {
         old: *mut usize,
         handle: *mut u8,
         handle_len: usize,
+        place: *mut usize,
         fault_slot: *mut usize,
     ) -> u8;
 

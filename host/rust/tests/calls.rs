@@ -110,7 +110,22 @@ fn look_up_tells_slot_and_count() {
     // Slots 8 to 12 of row 0: a directory of 15 sectors has s up to 12.
     assert_eq!(answers, [(8, 1), (9, 2), (10, 3)].map(|(slot, compared)| LookUp { slot: Ok(slot), compared }));
     assert_eq!(disk.look_up(alike[3]), LookUp { slot: Err(Refusal::NotFound), compared: 3 });
-    assert_eq!(disk.look_up(&Name::from_bytes([b' '; 11])), LookUp { slot: Err(Refusal::Name), compared: 0 });
+    let blank = Refusal::Name { place: Some(0) };
+    assert_eq!(disk.look_up(&Name::from_bytes([b' '; 11])), LookUp { slot: Err(blank), compared: 0 });
+}
+
+#[test]
+fn names_in_small_letters() {
+    let mut disk = blank();
+    let small = Name::from_bytes(*b"puls01  dat");
+    let new = disk.create(&small, &plain()).unwrap();
+    assert_eq!((new.old, new.handle.name()), (false, name("PULS01/DAT")));
+    for given in [small, Name::from_bytes(*b"Puls01  Dat"), name("PULS01/DAT"), name("puls01/dat")] {
+        assert_eq!(disk.create(&given, &plain()), Ok(Created { old: true, ..new }));
+        assert_eq!(disk.look_up(&given), LookUp { slot: Ok(new.handle.slot()), compared: 1 });
+        assert_eq!(disk.open(&given, 256, Password::Unchecked), Ok(new.handle));
+    }
+    assert_eq!(disk.listing().unwrap().lines().nth(1), Some("PULS01/DAT 0 0"));
 }
 
 #[test]
@@ -330,10 +345,17 @@ fn every_refusal_by_its_number() {
     assert_eq!(refused(&disk, |d| d.kill(&Handle::from_bytes([0; 19]))), 12);
     assert_eq!(refused(&disk, |d| d.allot(&handle, 7680)), 12);
     // 3, 7, 4.
-    assert_eq!(refused(&disk, |d| d.create(&Name::from_bytes(*b"a          "), &plain())), 3);
-    let mut stale = *handle.as_bytes();
-    stale[8] = b'B';
-    assert_eq!(refused(&disk, |d| d.trim(&Handle::from_bytes(stale))), 7);
+    for (bytes, place) in [(*b"~          ", 0), (*b"PULS01  D T", 10), (*b"PULS_01~   ", 4), (*b"a/dat      ", 1)] {
+        let bad = Name::from_bytes(bytes);
+        assert_eq!(refusal(&disk, |d| d.create(&bad, &plain())), Refusal::Name { place: Some(place) });
+        assert_eq!(refusal(&disk, |d| d.open(&bad, 1, Password::Unchecked)), Refusal::Name { place: Some(place) });
+        assert_eq!(disk.look_up(&bad).slot, Err(Refusal::Name { place: Some(place) }));
+    }
+    for letter in [b'B', b'a'] {
+        let mut stale = *handle.as_bytes();
+        stale[8] = letter;
+        assert_eq!(refused(&disk, |d| d.trim(&Handle::from_bytes(stale))), 7);
+    }
     assert_eq!(refused(&disk, |d| d.open(&name("B"), 1, Password::Unchecked)), 4);
     // 5 stands in `open_follows_the_codes`. 6: a system file, and a level.
     assert_eq!(refused(&edited(at, 0x40), |d| d.kill(&handle)), 6);

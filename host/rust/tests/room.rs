@@ -27,7 +27,7 @@ fn a_growth_fits_exactly_where_the_library_takes_it() {
             for granules in [1, free / 2, free, free + 1].into_iter().chain(some).filter(|&granules| granules > 0) {
                 let what = format!("disk {number} of seed 13, {} and {granules} granules: {growth:?}", entry.name());
                 let mut copy = disk.clone();
-                let answer = copy.allot(&handle, Geometry::GRANULE_SECTORS * (entry.granules() + granules) - 1);
+                let answer = copy.allot(&handle, copy.geometry().granule_sectors * (entry.granules() + granules) - 1);
                 let wanted = match growth.runs_needed(granules) {
                     None => Err(Refusal::NoSpace),
                     Some(runs) if runs > growth.room => Err(Refusal::NoSlot),

@@ -77,9 +77,10 @@ fn consistent(opened: &Opened) -> Result<Told, Failure> {
     let path = &opened.path;
     let (geometry, counts) = (opened.geometry(), opened.disk.count().map_err(Failure::image(path))?);
     let text = format!(
-        "{path}: consistent: {} of {}, directory at sector {}, {}, {} free\n",
+        "{path}: consistent: {} of {}{}, directory at sector {}, {}, {} free\n",
         counted(geometry.blocks, "block"),
         counted(geometry.units, "unit"),
+        shape::sized(geometry),
         geometry.start,
         counted(counts.files, "file"),
         counted(counts.free, "granule"),

@@ -73,10 +73,15 @@ pub fn refused<'a>(image: &'a str, typed: &'a Typed) -> impl Fn(Refusal) -> Fail
     move |refusal| {
         let failure = Failure::file(image, &typed.text)(refusal);
         match (refusal, typed.wrong) {
-            (Refusal::Name, Some(wrong)) => failure.because(wrong),
+            (Refusal::Name { .. }, Some(wrong)) => failure.bad_name(wrong),
             _ => failure,
         }
     }
+}
+
+/// The refusal of what was typed where it is no name, for commands that find the file themselves.
+pub fn no_name(image: &str, typed: &Typed) -> Option<Failure> {
+    typed.wrong.map(|wrong| refused(image, typed)(Refusal::Name { place: wrong.place() }))
 }
 
 /// Opens a file as it was typed.

@@ -69,7 +69,10 @@ fn output(opened: &Opened, told: Option<String>) -> Output {
     let geometry = opened.geometry();
     let options = shape::options(geometry, "");
     let told_of_code = format!("open code {:04X}H", geometry.open_code);
-    let on = if opened.source == (Source::Search { went_on: true }) { search::WENT_ON } else { "" };
+    let on = match opened.source {
+        Source::Search { went_on: true } => format!(", which{}", search::WENT_ON),
+        _ => String::new(),
+    };
     let text =
         format!("{}: {options}, {told_of_code}, from {from}{on}\n", opened.path) + &told.clone().unwrap_or_default();
     let fault = opened.disk.check().err().and_then(Refusal::fault).map(|fault| opened.disk.explain(fault));

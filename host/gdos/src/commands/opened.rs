@@ -102,7 +102,7 @@ impl Opened {
     pub fn notes(&self) -> Vec<String> {
         let path = &self.path;
         if let Source::Search { went_on } = self.source {
-            let on = if went_on { search::WENT_ON } else { "" };
+            let on = if went_on { format!("; it{}", search::WENT_ON) } else { String::new() };
             return vec![format!("{path}: geometry found by search: {}{on}", shape::options(self.geometry(), ""))];
         }
         self.stronger().map(|stronger| format!("{path}: {stronger}")).into_iter().collect()

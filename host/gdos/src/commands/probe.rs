@@ -77,7 +77,7 @@ fn told(search: &Search) -> String {
     match (search.went_on, search.intact.is_empty()) {
         (false, _) => judged(search),
         (true, true) => judged(search) + ", with granules of 5, 10 or 20 sectors",
-        (true, false) => judged(search) + WENT_ON,
+        (true, false) => format!("{}; the search{WENT_ON}", judged(search)),
     }
 }
 

@@ -1,5 +1,6 @@
 //! What the commands that show a disk share: they take one that is not consistent too.
 
+use super::choose;
 use super::opened::Opened;
 use crate::args::Args;
 use crate::failure::Failure;
@@ -36,13 +37,12 @@ impl Shown {
     /// The files of a name: one, or where the disk is not consistent perhaps several.
     pub fn files(&self, name: &OsStr) -> Result<Vec<&MappedFile>, Failure> {
         let typed = Typed::new(&name.to_string_lossy());
-        let refused = |refusal| super::choose::refused(&self.opened.path, &typed)(refusal);
-        if typed.wrong.is_some() {
-            return Err(refused(Refusal::Name));
+        if let Some(failure) = choose::no_name(&self.opened.path, &typed) {
+            return Err(failure);
         }
         let files: Vec<&MappedFile> = self.map.files.iter().filter(|file| file.name == typed.name).collect();
         if files.is_empty() {
-            return Err(refused(Refusal::NotFound));
+            return Err(choose::refused(&self.opened.path, &typed)(Refusal::NotFound));
         }
         Ok(files)
     }

@@ -1,6 +1,6 @@
 //! `gdos undelete`.
 
-use super::choose::{image_and_rest, refused};
+use super::choose::{image_and_rest, no_name};
 use super::leftovers::{self, also_in, Also};
 use super::opened::Opened;
 use super::{Command, Output, JSON};
@@ -128,8 +128,8 @@ fn name_text(entry: &Entry) -> String {
 fn slot_of(opened: &Opened, name: &OsString) -> Result<usize, Failure> {
     let path = &opened.path;
     let typed = Typed::new(&name.to_string_lossy());
-    if typed.wrong.is_some() {
-        return Err(refused(path, &typed)(Refusal::Name));
+    if let Some(failure) = no_name(path, &typed) {
+        return Err(failure);
     }
     let mut dead = opened.disk.dead_entries().map_err(Failure::image(path))?;
     dead.retain(|entry| entry.name() == typed.name);

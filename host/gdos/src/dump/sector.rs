@@ -34,7 +34,11 @@ fn whose(seen: Seen, number: usize) -> String {
         None => return String::new(),
     };
     let nth = number % in_granule;
-    let words = seen.map.words(cell);
+    let mut words = seen.map.words(cell);
+    if cell.holds == Holds::Directory {
+        // A larger granule of the directory reaches further than it does.
+        words += "; past the directory's last sector";
+    }
     let of_file = cell.parts.iter().filter(|_| cell.holds != Holds::Directory).filter_map(|part| {
         let file = seen.map.file(part.file?)?;
         let before: usize = file.runs[..part.run - 1].iter().map(|run| run.granules).sum();

@@ -257,7 +257,7 @@ mod tests {
     fn a_damaged_disk_is_not_taken_for_a_hard_disk() {
         for start in [0, 20, 80] {
             let geometry = Geometry::new(16, 2, start, 0x4296);
-            let image = disk(geometry, 10, 3, 0);
+            let image = disk(geometry, 10, 4, 0);
             for at in start * 256..(start + 10) * 256 {
                 for damage in [0x01, 0x02, 0x10, 0xff] {
                     let mut image = image.clone();

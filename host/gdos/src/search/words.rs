@@ -9,7 +9,7 @@ use crate::text::counted;
 use genie_dos::Counts;
 
 /// What is said where the search went on.
-pub const WENT_ON: &str = "; it went on to granules of 10 and 20 sectors, since with 5 no reading is consistent";
+pub const WENT_ON: &str = " went on to granules of 10 and 20 sectors, since with 5 no reading is consistent";
 
 /// `2 names for it, 1 nearly, 0 slots against`.
 pub fn evidence_words(evidence: &Evidence) -> String {

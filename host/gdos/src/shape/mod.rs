@@ -10,4 +10,4 @@ pub use preset::{preset_of, PRESETS};
 #[cfg(test)]
 pub use wanted::anything;
 pub use wanted::{starts, Wanted, OPTIONS, OPTIONS_OF_TWO, SEARCH, TITLE};
-pub use words::{fault, granules, json, length, options, sized};
+pub use words::{fault, granules, json, length, options, options_alone, sized};

@@ -8,14 +8,19 @@ use genie_dos::Geometry;
 /// The options that state a geometry, with the preset that it is of: `--blocks 48 --units 3 --start 360 (preset dd40)`.
 /// Those of a second image end in a suffix.
 pub fn options(geometry: Geometry, suffix: &str) -> String {
-    let Geometry { blocks, units, start, system_disk, granule_sectors, .. } = geometry;
     let preset = preset_of(geometry).map(|name| format!(" (preset {name})")).unwrap_or_default();
+    options_alone(geometry, suffix) + &preset
+}
+
+/// The options alone.
+pub fn options_alone(geometry: Geometry, suffix: &str) -> String {
+    let Geometry { blocks, units, start, system_disk, granule_sectors, .. } = geometry;
     let data = if system_disk { String::new() } else { format!(" --data-disk{suffix}") };
     let granule = match is_usual(geometry) {
         true => String::new(),
         false => format!(" --granule{suffix} {granule_sectors}"),
     };
-    format!("--blocks{suffix} {blocks} --units{suffix} {units} --start{suffix} {start}{granule}{data}{preset}")
+    format!("--blocks{suffix} {blocks} --units{suffix} {units} --start{suffix} {start}{granule}{data}")
 }
 
 /// Whether a granule has 5 sectors, which nobody has to say.

@@ -1,7 +1,7 @@
 //! What is said where no geometry is stated and the search takes none.
 
 use crate::failure::{Failure, Ranking};
-use crate::search::{candidate_brief, candidate_json, candidate_lines, Candidate, Reading, Search, Verdict};
+use crate::search::{candidate_brief, candidate_json, candidate_lines, Candidate, Reading, Search, Verdict, WENT_ON};
 use crate::shape::{self, preset_of, Wanted};
 use crate::text::counted;
 use genie_dos::{Counts, Disk, Explained, Geometry, Refusal};
@@ -129,7 +129,13 @@ fn to_state(search: &Search, wanted: &Wanted, path: &str, why: &str, more: Vec<S
     );
     let mut lines = ranked_lines(search, |candidate| candidate_lines(candidate, wanted.suffix()));
     lines.extend(more);
+    lines.extend(went_on(search));
     Failure::Unclear { message, ranking: Ranking { lines, json: ranked_json(search) } }
+}
+
+/// That granules of 10 and 20 sectors were tried, where what is told is of them.
+fn went_on(search: &Search) -> Option<String> {
+    search.went_on.then(|| format!("the search{WENT_ON}"))
 }
 
 /// The message where several geometries make the disk consistent.
@@ -148,19 +154,17 @@ fn chosen_by_options(search: &Search, wanted: &Wanted, message: String) -> Failu
     let suffix = wanted.suffix();
     let mut lines: Vec<String> = search.intact.iter().map(|reading| format!("  {}", fit(reading, suffix))).collect();
     lines.push(format!("by its options or, if it has one, by --preset{suffix}"));
+    lines.extend(went_on(search));
     Failure::Unclear { message, ranking: Ranking { lines, json: ranked_json(search) } }
 }
 
 /// The options that state a geometry, and what it would mean.
 fn fit(reading: &Reading, suffix: &str) -> String {
-    let Geometry { blocks, units, start, .. } = reading.geometry;
     let preset = preset_of(reading.geometry).map(|name| format!(", preset {name}")).unwrap_or_default();
     let (files, free) = match &reading.found {
         Ok(Counts { files, free }) => (*files, *free),
         Err(_) => (0, 0),
     };
-    format!(
-        "--blocks{suffix} {blocks} --units{suffix} {units} --start{suffix} {start}  \
-         ({files} files, {free} granules free{preset})"
-    )
+    let options = shape::options_alone(reading.geometry, suffix);
+    format!("{options}  ({files} files, {free} granules free{preset})")
 }
