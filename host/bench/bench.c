@@ -66,8 +66,8 @@ static const struct library libraries[] = {
     { "none", LIBRARY_CALLS(NOTHING) },
 };
 
-/* What is measured. The last ten are no calls of their own: four are for the cost of a byte, two for a disk with a fault, four for a growth by the second
- * choice (02 §13), which the C does not have. */
+/* What is measured. The last ten are no calls of their own: four are for the cost of a byte, two for a disk with a fault, four for a
+ * growth by the second choice (02 §13), which the C does not have. */
 enum what {
     CHECK, LOOK_UP, OPEN, CREATE, READ, SECTOR, WRITE, APPEND, ALLOT, TRIM, KILL, LIST, COUNT, COMPARE,
     READ_1, WRITE_1, FILL_0, FILL_1000, CHECK_FAULT, LOOK_UP_FAULT, CHECK_SECOND, ALLOT_SECOND, CHECK_MOST, ALLOT_MOST, WHATS
@@ -141,9 +141,9 @@ static void damage(struct bench_disk *d)
     hit[slot] = hit[slot] == 1 ? 2 : 1;
 }
 
-/* The scattered disk with every second granule taken up to its end, those behind the file by no file; only the last two granules are free side by side.
- * The file keeps its first entries. What is wanted is one granule more than 01's choice finds place for: one lengthens the last run, each other starts a
- * run of its own, four in each permitted slot left. The second choice takes the two at the end first. */
+/* The scattered disk with every second granule taken up to its end, those behind the file by no file; only the last two granules are
+ * free side by side. The file keeps its first entries. What is wanted is one granule more than 01's choice finds place for: one lengthens
+ * the last run, each other starts a run of its own, four in each permitted slot left. The second choice takes the two at the end first. */
 static void splinter(struct work *w, size_t entries)
 {
     enum { PERMITTED = 192, LINKED = 0xFE, MARKER = 30, LINK = 31 };
