@@ -2,7 +2,8 @@
  *                                driver itself costs)
  * bench time CALL DISK LIBRARY   wall time of one call in nanoseconds, the driver's own work included
  * bench same                     whether genie and fast answer alike and leave image, handle, buffer and numbers alike, for each call on each disk, and
- *                                tell the same fault of damaged disks; and that genie serves what fast has not
+ *                                tell the same fault of damaged disks
+ * bench second                   whether genie serves the growths by the second choice, which fast has not
  * bench names                    the calls, then the disks, a line each: name and title
  * bench image DISK FILE          writes the disk to a file and says its geometry
  */
@@ -284,16 +285,7 @@ static int same(void)
     static struct work a, b;
     int unlike = 0;
     for (size_t disk = 0; disk < BENCH_DISKS; disk++)
-        for (enum what what = 0; what < WHATS; what++) {
-            if (what >= CHECK_SECOND) {
-                if (disk != BENCH_DISKS - 1) continue;
-                prepare(&a, what, disk);
-                once(&a, &libraries[0]);
-                printf("%s %s: %d%s\n", bench_disk_names[disk], whats[what].name, a.answer, a.answer ? " UNLIKE: refused" : "");
-                unlike += a.answer != 0;
-                free(a.disk.image);
-                continue;
-            }
+        for (enum what what = 0; what < CHECK_SECOND; what++) {
             prepare(&a, what, disk);
             prepare(&b, what, disk);
             for (size_t i = 0; i < sizeof a.buffer; i++) a.buffer[i] = b.buffer[i] = (uint8_t)(i * 5 + 1);
@@ -308,6 +300,21 @@ static int same(void)
             free(b.disk.image);
         }
     return unlike ? 1 : 0;
+}
+
+/* Whether the library serves what is measured of it alone: the growths by the second choice, and the checks of their disks. */
+static int second(void)
+{
+    static struct work w;
+    int refused = 0;
+    for (enum what what = CHECK_SECOND; what < WHATS; what++) {
+        prepare(&w, what, BENCH_DISKS - 1);
+        once(&w, &libraries[0]);
+        printf("%s: %d\n", whats[what].name, w.answer);
+        refused |= w.answer != 0;
+        free(w.disk.image);
+    }
+    return refused;
 }
 
 /* Whether the two tell the same fault of damaged disks: random bytes of the directory are changed, a few at a time. */
@@ -362,13 +369,14 @@ int main(int argc, char **argv)
     for (size_t i = 0; i < 3; i++) library_names[i] = libraries[i].name;
 
     if (argc == 2 && !strcmp(argv[1], "same")) return same() | same_faults();
+    if (argc == 2 && !strcmp(argv[1], "second")) return second();
     if (argc == 2 && !strcmp(argv[1], "names")) {
         for (size_t i = 0; i < WHATS; i++) printf("call %s %s\n", whats[i].name, whats[i].title);
         for (size_t i = 0; i < BENCH_DISKS; i++) printf("disk %s %s\n", bench_disk_names[i], bench_disk_titles[i]);
         return 0;
     }
     if (argc == 4 && !strcmp(argv[1], "image")) return write_image(argv[2], argv[3]);
-    if (argc != 5) stop("CALL DISK LIBRARY N, or: time CALL DISK LIBRARY, or: same, or: names, or: image DISK FILE");
+    if (argc != 5) stop("CALL DISK LIBRARY N, or: time CALL DISK LIBRARY, or: same, or: second, or: names, or: image DISK FILE");
     const bool timed = !strcmp(argv[1], "time");
     char **const words = argv + 1 + timed;
     const enum what what = (enum what)named(words[0], what_names, WHATS, "call");
