@@ -2,8 +2,8 @@
  *                                driver itself costs)
  * bench time CALL DISK LIBRARY   wall time of one call in nanoseconds, the driver's own work included
  * bench same                     whether genie and fast answer alike and leave image, handle, buffer and numbers alike, for each call
- *                                on each disk, take the same bytes for the same names, and tell the same fault of damaged disks; and
- *                                that genie serves what fast has not
+ *                                on each disk, take the same bytes for the same names, and tell the same fault of damaged disks
+ * bench second                   whether genie serves the growths by the second choice, which fast has not
  * bench names                    the calls, then the disks, a line each: name and title
  * bench image DISK FILE          writes the disk to a file and says its geometry
  */
@@ -72,8 +72,8 @@ static const struct library libraries[] = {
     { "none", LIBRARY_CALLS(NOTHING) },
 };
 
-/* What is measured. The last ten are no calls of their own: four are for the cost of a byte, two for a disk with a fault, four for a growth by the second
- * choice (02 §13), which the C does not have. */
+/* What is measured. The last ten are no calls of their own: four are for the cost of a byte, two for a disk with a fault, four for a
+ * growth by the second choice (02 §13), which the C does not have. */
 enum what {
     CHECK, LOOK_UP, OPEN, CREATE, READ, SECTOR, WRITE, APPEND, ALLOT, TRIM, KILL, LIST, COUNT, COMPARE,
     READ_1, WRITE_1, FILL_0, FILL_1000, CHECK_FAULT, LOOK_UP_FAULT, CHECK_SECOND, ALLOT_SECOND, CHECK_MOST, ALLOT_MOST, WHATS
@@ -147,9 +147,9 @@ static void damage(struct bench_disk *d)
     hit[slot] = hit[slot] == 1 ? 2 : 1;
 }
 
-/* The scattered disk with every second granule taken up to its end, those behind the file by no file; only the last two granules are free side by side.
- * The file keeps its first entries. What is wanted is one granule more than 01's choice finds place for: one lengthens the last run, each other starts a
- * run of its own, four in each permitted slot left. The second choice takes the two at the end first. */
+/* The scattered disk with every second granule taken up to its end, those behind the file by no file; only the last two granules are
+ * free side by side. The file keeps its first entries. What is wanted is one granule more than 01's choice finds place for: one lengthens
+ * the last run, each other starts a run of its own, four in each permitted slot left. The second choice takes the two at the end first. */
 static void splinter(struct work *w, size_t entries)
 {
     enum { PERMITTED = 192, LINKED = 0xFE, MARKER = 30, LINK = 31 };
@@ -302,16 +302,7 @@ static int same(void)
     static struct work a, b;
     int unlike = 0;
     for (size_t disk = 0; disk < BENCH_DISKS; disk++)
-        for (enum what what = 0; what < WHATS; what++) {
-            if (what >= CHECK_SECOND) {
-                if (disk != BENCH_DISKS - 1) continue;
-                prepare(&a, what, disk);
-                once(&a, &libraries[0]);
-                printf("%s %s: %d%s\n", bench_disk_names[disk], whats[what].name, a.answer, a.answer ? " UNLIKE: refused" : "");
-                unlike += a.answer != 0;
-                free(a.disk.image);
-                continue;
-            }
+        for (enum what what = 0; what < CHECK_SECOND; what++) {
             prepare(&a, what, disk);
             prepare(&b, what, disk);
             for (size_t i = 0; i < sizeof a.buffer; i++) a.buffer[i] = b.buffer[i] = (uint8_t)(i * 5 + 1);
@@ -361,6 +352,21 @@ static int same_names(void)
     free(a.disk.image);
     free(b.disk.image);
     return unlike ? 1 : 0;
+}
+
+/* Whether the library serves what is measured of it alone: the growths by the second choice, and the checks of their disks. */
+static int second(void)
+{
+    static struct work w;
+    int refused = 0;
+    for (enum what what = CHECK_SECOND; what < WHATS; what++) {
+        prepare(&w, what, named("scattered", bench_disk_names, BENCH_DISKS, "disk"));
+        once(&w, &libraries[0]);
+        printf("%s: %d\n", whats[what].name, w.answer);
+        refused |= w.answer != 0;
+        free(w.disk.image);
+    }
+    return refused;
 }
 
 /* Whether the two tell the same fault of damaged disks: random bytes of the directory are changed, a few at a time. */
@@ -415,13 +421,14 @@ int main(int argc, char **argv)
     for (size_t i = 0; i < 3; i++) library_names[i] = libraries[i].name;
 
     if (argc == 2 && !strcmp(argv[1], "same")) return same() | same_names() | same_faults();
+    if (argc == 2 && !strcmp(argv[1], "second")) return second();
     if (argc == 2 && !strcmp(argv[1], "names")) {
         for (size_t i = 0; i < WHATS; i++) printf("call %s %s\n", whats[i].name, whats[i].title);
         for (size_t i = 0; i < BENCH_DISKS; i++) printf("disk %s %s\n", bench_disk_names[i], bench_disk_titles[i]);
         return 0;
     }
     if (argc == 4 && !strcmp(argv[1], "image")) return write_image(argv[2], argv[3]);
-    if (argc != 5) stop("CALL DISK LIBRARY N, or: time CALL DISK LIBRARY, or: same, or: names, or: image DISK FILE");
+    if (argc != 5) stop("CALL DISK LIBRARY N, or: time CALL DISK LIBRARY, or: same, or: second, or: names, or: image DISK FILE");
     const bool timed = !strcmp(argv[1], "time");
     char **const words = argv + 1 + timed;
     const enum what what = (enum what)named(words[0], what_names, WHATS, "call");
