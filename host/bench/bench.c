@@ -166,9 +166,9 @@ static void splinter(struct work *w, size_t entries)
         hit[slot] = 0;
     }
 #undef ENTRY
-    d->subject_size = 4 * entries * GENIE_GRANULE_BYTES - 100;
+    d->subject_size = 4 * entries * GENIE_GRANULE_BYTES(d->granule_sectors) - 100;
     set_size(w, d->subject_size);
-    w->k = 5 * (4 * entries + 4 * (PERMITTED - entries) + 2) - 1;
+    w->k = d->granule_sectors * (4 * entries + 4 * (PERMITTED - entries) + 2) - 1;
 }
 
 static void prepare(struct work *w, enum what what, size_t disk)
