@@ -53,7 +53,7 @@ slice-aggregate-put-part : tie.Need-slice-aggregate-put-part
 slice-aggregate-put-part c = search needs
 
 mul-put-part : tie.Need-mul-put-part
-mul-put-part c = let b = gat-inside _ _ (walks _ _ _ (c .before .before .before .before .before .before .before .before .before .before .before .pre .0) .0 .room) in omega arith
+mul-put-part c = let r = walks _ _ _ (c .before .before .before .before .before .before .before .before .before .before .before .pre .0) .0 .room in omega (arith, r .directory, r .far)
 
 put-part-requires : tie.Need-put-part-requires
 put-part-requires c κs = (omega arith, gat-inside _ _ (walks _ _ _ (c .before .before .before .before .before .before .before .before .before .before .before .pre .0) .0 .room))
@@ -62,7 +62,7 @@ take-granules-requires : tie.Need-take-granules-requires
 take-granules-requires c κs = on-paper _ _ _ (c .before .before .before .before .before .before .before .before .before .before .before .before .before .before .args .lowest) (c .before .before .before .before .before .before .before .before .before .before .before .before .before .before .pre .0) (c .before .before .before .before .before .before .before .before .before .before .before .before .before .before .pre .1) (c .before .before .before .before .before .before .before .before .before .before .before .before .before .before .pre .2)
 
 mul-put-part-2 : tie.Need-mul-put-part-2
-mul-put-part-2 c = let b = gat-inside _ _ (walks _ _ _ (c .before .before .before .before .before .before .before .before .before .before .before .before .before .before .before .before .before .before .before .pre .0) .0 .room) in omega arith
+mul-put-part-2 c = let r = walks _ _ _ (c .before .before .before .before .before .before .before .before .before .before .before .before .before .before .before .before .before .before .before .pre .0) .0 .room in omega (arith, r .directory, r .far)
 
 slice-aggregate-put-part-2 : tie.Need-slice-aggregate-put-part-2
 slice-aggregate-put-part-2 c = search needs
