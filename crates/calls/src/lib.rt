@@ -1,6 +1,7 @@
 // The calls of the library, one function a call. Each checks the whole disk first, whatever it is given, so none asks anything of its
 // caller. (Free space is told of any disk whose geometry fits, and tests that alone.)
 use differences::Difference;
+use load::Loaded;
 use meaning::Answer;
 use meaning::BroughtBack;
 use meaning::Counts;
@@ -32,6 +33,7 @@ ghost use Rattle.meaning.specs.Listing.{list, counts};
 ghost use Rattle.meaning.specs.FreeSpace.{freeSpace};
 ghost use Rattle.read.specs.Part.{partOf, Lies};
 ghost use Rattle.differences.specs.Compare.{compare};
+ghost use Rattle.load.specs.Load.{loadRecord};
 
 // Check: 0, refusal 1, or a fault, 21 to 30, and with a fault its slot.
 pub fn check(image: &[u8], g: Geometry) -> Refusal
@@ -174,4 +176,12 @@ pub fn compare(first: &[u8], g: Geometry, second: &[u8], h: Geometry, number: us
     let checked = diagnosis::check(first, g);
     let checked2 = diagnosis::check(second, h);
     compare::compare_checked(first, g, second, h, number, checked, checked2)
+}
+
+// Load record: the next record of a program file from the handle's position on, its bytes to the start of the buffer.
+pub fn load_record(image: &[u8], g: Geometry, h: Handle, buffer: &mut [u8]) -> Loaded
+    ensures { λ r. ⌜ (r, now (buffer .exit)) ≡ loadRecord g (now (image .entry)) h (now (buffer .entry)) ⌝ }
+{
+    let checked = diagnosis::check(image, g);
+    load_record::load_checked(image, g, h, buffer, checked)
 }

@@ -1,0 +1,4 @@
+pub mod Records
+pub mod Cut
+pub mod Load
+pub mod Cases
