@@ -186,19 +186,19 @@ room d t e =
     let r = sound (bits d) (bits-bits d) t e in
     omega (arith, length-bits d, ap length (r .begins), length-append (packBits t) (r .later), length-packBits t (r .inRange))
 
--- every step's file has a name: what `name_at` asks of a step's file number
-file-in : (n i : ℕ) (ss : List Step) → StepsFit n ss → i < length ss → getD ss i noStep .file < n
-file-in n i [] h l = absurd (let q : ⊥ = omega arith in q)
-file-in n zero (s ∷ ss) h l = h .0 .file
-file-in n (suc i) (s ∷ ss) h l = file-in n i ss (h .1) (omega arith)
+-- each step of a reading fits: its numbers their fields, and its file number is that of a name
+step-in : (n i : ℕ) (ss : List Step) → StepsFit n ss → i < length ss → StepFits n (getD ss i noStep)
+step-in n i [] h l = absurd (let q : ⊥ = omega arith in q)
+step-in n zero (s ∷ ss) h l = h .0
+step-in n (suc i) (s ∷ ss) h l = step-in n i ss (h .1) (omega arith)
 
-in-bits : (d : List ℕ) (t : Trace) → readTrace d ≡ reads t → IsReading (bits d) t
+pub in-range : (d : List ℕ) (t : Trace) → readTrace d ≡ reads t → InRange t
 unfolding readTrace
-in-bits d t e = sound (bits d) (bits-bits d) t e
+in-range d t e = sound (bits d) (bits-bits d) t e .inRange
 
-pub file-named : (d : List ℕ) (i : ℕ) → i < length (stepsOf (readTrace d)) → getD (stepsOf (readTrace d)) i noStep .file < length (namesOf (readTrace d))
-file-named d i h = by (readTrace d) refl h
+pub step-fits : (d : List ℕ) (i : ℕ) → i < length (stepsOf (readTrace d)) → StepFits (length (namesOf (readTrace d))) (getD (stepsOf (readTrace d)) i noStep)
+step-fits d i h = by (readTrace d) refl h
   where
-    by : (r : Reading Trace) → readTrace d ≡ r → i < length (stepsOf r) → getD (stepsOf r) i noStep .file < length (namesOf r)
+    by : (r : Reading Trace) → readTrace d ≡ r → i < length (stepsOf r) → StepFits (length (namesOf r)) (getD (stepsOf r) i noStep)
     by (badAt p) e h = absurd (let q : ⊥ = omega arith in q)
-    by (reads t) e h = let r = in-bits d t e in file-in (length (t .names)) i (t .steps) (r .inRange .steps) h
+    by (reads t) e h = step-in (length (t .names)) i (t .steps) (in-range d t e .steps) h

@@ -4,7 +4,8 @@
 -- lists one result number a call, 0 for accepted, none for the end mark; a refused call doesn't stop the playback. The final image equals that of the
 -- single calls. .. A trace that is bad, or ends without operation 0, is refused before anything runs .. Refusals: 14, trace malformed, with the
 -- position .. after 2; 15, no room for the results, after 14."
-use Prim.Native.Nat.{ℕ}
+use Prim.Native.Nat.{ℕ, suc}
+use mathlib.Core.Path.{_≡_, refl, ap}
 use mathlib.Core.Bool.{Bool, false, not, cond}
 use mathlib.Core.List.{List, [], _∷_, _++_}
 use lib.Dec.{eqb, ltb}
@@ -38,20 +39,20 @@ module _ (g : Geometry) (d : List ℕ) where
   single c = (Single.number g d c, Single.leaves g d c)
 
   -- a fresh open, checking off, then the call by its handle; a refused open is the result
-  unfoldable pub opened : List ℕ → ℕ → (Handle → Single.Call) → ℕ × List ℕ
-  opened n len c =
+  unfoldable pub afterOpen : List ℕ → ℕ → (Handle → Single.Call) → ℕ × List ℕ
+  afterOpen n len c =
       let a = open′ g d n len false 0 in
       cond (Refusals.accepted (a .refusal .number)) (single (c (a .handle))) (a .refusal .number, d)
 
   -- Each of the seven on the file called n. A write is lent a buffer full of its fill byte; a read's buffer is looked at by nobody.
   unfoldable pub made : List ℕ → Call → ℕ × List ℕ
   made n (Create a) = single (creates n (undated (a .length)) false)
-  made n (SequentialWrite a) = opened n (a .length) (λ h. writes Sequential (Refusals.movedTo h (a .position)) (replicate longest (a .fill)))
-  made n (RandomWrite a) = opened n (a .length) (λ h. writes Random (Refusals.movedTo h (a .position)) (replicate longest (a .fill)))
-  made n (Allot a) = opened n longest (λ h. allots h (a .sector))
-  made n Trim = opened n longest trims
-  made n Kill = opened n longest kills
-  made n (Read a) = opened n (a .length) (λ h. Single.Call.reads (Refusals.movedTo h (a .position)) (replicate longest 0))
+  made n (SequentialWrite a) = afterOpen n (a .length) (λ h. writes Sequential (Refusals.movedTo h (a .position)) (replicate longest (a .fill)))
+  made n (RandomWrite a) = afterOpen n (a .length) (λ h. writes Random (Refusals.movedTo h (a .position)) (replicate longest (a .fill)))
+  made n (Allot a) = afterOpen n longest (λ h. allots h (a .sector))
+  made n Trim = afterOpen n longest trims
+  made n Kill = afterOpen n longest kills
+  made n (Read a) = afterOpen n (a .length) (λ h. Single.Call.reads (Refusals.movedTo h (a .position)) (replicate longest 0))
 
 module _ (g : Geometry) (ns : List (List ℕ)) where
   -- a step: its call on the file whose name has its number
@@ -65,6 +66,12 @@ module _ (g : Geometry) (ns : List (List ℕ)) where
       let a = stepped d s in
       let b = played ss (a .1) in
       (a .0 ∷ b .0, b .1)
+
+  -- "one result number a call"
+  pub one-each : (ss : List Step) (d : List ℕ) → length (played ss d .0) ≡ length ss
+  unfolding played
+  one-each [] d = refl
+  one-each (s ∷ ss) d = ap suc (one-each ss (stepped d s .1))
 
 -- 14: trace malformed. 15: no room for the results, one byte a call; `room` is the buffer's length.
 abbrev pub playRefusals : Geometry → List ℕ → Checked → ℕ → List (ℕ × Bool)
