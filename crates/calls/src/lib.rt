@@ -15,6 +15,7 @@ use meaning::NewFile;
 use meaning::Part;
 use meaning::Refusal;
 use meaning::Space;
+use session::Played;
 ghost use mathlib.Core.Path.{_≡_};
 ghost use Prim.Native.Nat.{_+_};
 ghost use lib.ListN.{length};
@@ -31,6 +32,7 @@ ghost use Rattle.meaning.specs.Kill.{kill};
 ghost use Rattle.meaning.specs.BringBack.{bringBack};
 ghost use Rattle.meaning.specs.Listing.{list, counts};
 ghost use Rattle.meaning.specs.FreeSpace.{freeSpace};
+ghost use Rattle.session.specs.Playing.{play};
 ghost use Rattle.read.specs.Part.{partOf, Lies};
 ghost use Rattle.differences.specs.Compare.{compare};
 ghost use Rattle.load.specs.Load.{loadRecord};
@@ -144,6 +146,14 @@ pub fn bring_back(image: &mut [u8], g: Geometry, s: usize) -> BroughtBack
 {
     let checked = diagnosis::check(image, g);
     bring_back::bring_back_checked(image, g, s, checked)
+}
+
+// Play back: the calls of a recorded session, one after the other, each with its result. The trace is `bytes`.
+pub fn play(image: &mut [u8], g: Geometry, bytes: &[u8], results: &mut [u8]) -> Played
+    ensures { λ r. ⌜ (r, now (image .exit), now (results .exit)) ≡ play g (now (image .entry)) (now (bytes .entry)) (now (results .entry)) ⌝ }
+{
+    let checked = diagnosis::check(image, g);
+    playback::play_checked(image, g, bytes, results, checked)
 }
 
 // The listing: one file, by number from 0, then "no more".

@@ -1,0 +1,1 @@
+// Traces and sessions on whole disks, computed (specs/).
