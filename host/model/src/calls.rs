@@ -42,7 +42,7 @@ pub const NO_SLOTS: Number = 8;
 const HIGHEST_DAY: usize = 31;
 const HIGHEST_MONTH: usize = 15;
 const HIGHEST_YEAR: usize = 15;
-const READING_LEVEL: u8 = 5;
+pub(crate) const READING_LEVEL: u8 = 5;
 const WRITING_LEVEL: u8 = 4;
 const KILLING_LEVEL: u8 = 1;
 
@@ -70,6 +70,12 @@ fn size_of(image: &[u8], g: &Geometry, file: u8) -> usize {
 /// Place in the image of byte `i` of a file that owns these granules.
 fn place(granules: &[usize], i: usize) -> usize {
     granules[i / GRANULE_BYTES] * GRANULE_BYTES + i % GRANULE_BYTES
+}
+
+/// All bytes of a file.
+pub(crate) fn contents(image: &[u8], g: &Geometry, d: usize, file: u8) -> Vec<u8> {
+    let granules = owned(image, g, d, file);
+    (0..size_of(image, g, file)).map(|i| image[place(&granules, i)]).collect()
 }
 
 /// Check: 0, 1, or 21 to 30.
@@ -232,7 +238,7 @@ pub fn create(
 }
 
 /// The rows 1, 2, 12 and 7 of a call by handle. `more_good` is what else row 12 asks of the call.
-fn by_handle(
+pub(crate) fn by_handle(
     image: &[u8],
     g: &Geometry,
     handle: &[u8],

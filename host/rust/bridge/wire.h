@@ -6,7 +6,8 @@
 #include <stdint.h>
 
 enum call {
-    CHECK, LOOK_UP, OPEN, CREATE, READ_RECORD, READ_SECTOR, WRITE_RECORD, ALLOT, TRIM, KILL, BRING_BACK, LIST, COUNT, FREE, COMPARE
+    CHECK, LOOK_UP, OPEN, CREATE, READ_RECORD, READ_SECTOR, WRITE_RECORD, ALLOT, TRIM, KILL, BRING_BACK, LIST, COUNT, FREE, COMPARE,
+    LOAD_RECORD
 };
 
 /* The client keeps these to itself: of a longer part no call looks at more than its beginning and its length, and every image of

@@ -42,6 +42,7 @@ mod geometry;
 mod handle;
 mod map;
 mod name;
+mod program;
 mod refusal;
 mod sys;
 
@@ -58,4 +59,5 @@ pub use geometry::Geometry;
 pub use handle::Handle;
 pub use map::{markup_text, Cell, Drawing, Holds, Map, MappedFile, Part};
 pub use name::{BadName, Name};
+pub use program::{Loaded, Piece, Program, RefusedLoad, LOAD_BYTES};
 pub use refusal::Refusal;
