@@ -78,10 +78,10 @@ enum genie_refusal {
     GENIE_FAULT_DIRECTORY_GRANULE = 30, /* a granule of the directory is in the entry's runs, and its file has no system flag; or, with no slot and after
                                all slots, a granule of the directory is free in the GAT */
     GENIE_RANGE = 12,       /* a position, record length, level, date or sector is out of range; position + length passes the highest position
-                               in a write; the buffer is shorter than the record length; the handle is under 19 bytes; the name buffer of list,
-                               compare or genie_name is under 11 bytes; bring back is given a slot that the directory has not. A handle's three numbers
-                               are tested in every call that takes one, used or not. The highest position and the highest sector go by
-                               granule_sectors alone, however small the image. */
+                               in a write; the buffer is shorter than the record length, or that of load record is under 255 bytes; the handle is under
+                               19 bytes; the name buffer of list, compare or genie_name is under 11 bytes; bring back is given a slot that the
+                               directory has not. A handle's three numbers are tested in every call that takes one, used or not. The highest
+                               position and the highest sector go by granule_sectors alone, however small the image. */
     GENIE_NAME = 3,         /* the name is not well formed once it is folded, or not 11 bytes long (calls by name), with *place */
     GENIE_STALE = 7,        /* the handle's slot is none that the directory has, or is not in use, or an extension, or has another name */
     GENIE_NOT_FOUND = 4,    /* no file has that name (look up, open) */
@@ -92,6 +92,10 @@ enum genie_refusal {
     GENIE_NOTHING_WHOLE = 18, /* the slot holds no killed file that is still whole, or an extension (bring back) */
     GENIE_NAME_IN_USE = 19, /* another file has the killed file's name (bring back) */
     GENIE_GRANULE_TAKEN = 20, /* a granule of the killed file is taken again (bring back) */
+    /* 31 to 33: what the program file has first that is no record (load record), with the byte position. */
+    GENIE_LOAD_CODE = 31,   /* a code that is not 01, 02 or 05; the position is the code's */
+    GENIE_LOAD_END = 32,    /* the file ends inside a record or comment, or before a start address; the position is the file's size */
+    GENIE_LOAD_COUNT = 33,  /* code 02 with a count that is not 2; the position is the count's */
     GENIE_PAST_END = 10,    /* a read passes the file's size; the sector read is not one of the file's */
     GENIE_NO_GROWTH = 11,   /* the file may not grow (flag E) and more granules are needed than it owns */
     GENIE_DISK_FULL = 9,    /* more further granules are needed than are free */
@@ -100,8 +104,8 @@ enum genie_refusal {
 
 /* Answers under a refusal: every outgoing number is 0, every lent buffer and the image are as they stood. Five exceptions: look up tells its
  * count under refusal 4; *place is that of the bad byte, or GENIE_NO_PLACE; a refused open or create leaves 19 zeros in a handle buffer of
- * at least 19 bytes (using that handle is refusal 12); compare says which image it refuses; *fault_slot is the slot at fault, or
- * GENIE_NO_SLOT. */
+ * at least 19 bytes (using that handle is refusal 12); compare says which image it refuses; load record tells the position under 31, 32
+ * and 33; *fault_slot is the slot at fault, or GENIE_NO_SLOT. */
 
 #define GENIE_HANDLE_BYTES 19
 #define GENIE_NAME_BYTES 11
@@ -113,6 +117,7 @@ enum genie_refusal {
 #define GENIE_HIGHEST_SECTOR(s) (GENIE_HIGHEST_POSITION(s) / GENIE_SECTOR_BYTES - 1)
 #define GENIE_NO_SLOT 256
 #define GENIE_NO_PLACE 11
+#define GENIE_LOAD_BYTES 255
 
 /* Name: the check that the calls by name make of theirs, by itself, of no disk. The folded name goes to the first 11 bytes of folded (a buffer of at
  * least 11 bytes). Refusals 12, 3 with *place. */
@@ -151,6 +156,24 @@ uint8_t genie_create(uint8_t *image, size_t image_len, size_t blocks, size_t uni
 uint8_t genie_read_record(const uint8_t *image, size_t image_len, size_t blocks, size_t units, size_t start, uint16_t open_code,
                           bool system_disk, size_t granule_sectors, uint8_t *handle, size_t handle_len, uint8_t *buffer, size_t buffer_len,
                           size_t *fault_slot);
+
+/* What genie_load_record tells in *kind: the record's code. */
+enum genie_record {
+    GENIE_NO_RECORD = 0,   /* under a refusal */
+    GENIE_DATA = 1,        /* *count bytes for the address */
+    GENIE_START_ADDRESS = 2 /* the program's start: behind it nothing is looked at */
+};
+
+/* Load record: the next record of a program file from the handle's position on. A program file is records of a code, a count and what they count: code
+ * 01 has a two-byte address, low byte first, and data bytes, the count less two, where counts 0 and 1 mean 254 and 255; code 02, count 2, is the start
+ * address, which ends the program; code 05 is a comment of as many bytes as its count says, and is passed over. Kind and address go to *kind and
+ * *address; a data record's bytes to the start of the buffer (at least GENIE_LOAD_BYTES bytes), how many, 0 to 255, to *count, and the handle's
+ * position to just behind it. A start address and a refusal leave handle and buffer as they stood. One call looks at one record and the comments before
+ * it, no further; what it finds first is told, *position with it under 31, 32 and 33, else 0. The record length plays no part.
+ * Refusals 1, 21 to 30 with *fault_slot, 12, 7, 6, then 31, 32 or 33. */
+uint8_t genie_load_record(const uint8_t *image, size_t image_len, size_t blocks, size_t units, size_t start, uint16_t open_code,
+                          bool system_disk, size_t granule_sectors, uint8_t *handle, size_t handle_len, uint8_t *buffer,
+                          size_t buffer_len, size_t *kind, size_t *address, size_t *count, size_t *position, size_t *fault_slot);
 
 /* Read sector: where the file's sector k (0 to GENIE_HIGHEST_SECTOR(granule_sectors)) lies. Its bytes are image[*from] up to, not including,
  * image[*to]: 256 of them, or fewer in the file's last sector. Nothing is copied, the position plays no part and does not move.

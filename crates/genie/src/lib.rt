@@ -5,6 +5,7 @@ ghost use mathlib.Core.Path.{_≡_};
 ghost use Rattle.codec.specs.Words.{geometry};
 ghost use Rattle.genie.specs.Exports.{newFile, tooShort, exportedName, exportedCheck, exportedLookUp, exportedOpen, exportedCreate, exportedReadRecord, exportedReadSector, exportedWriteRecord, exportedAllot, exportedTrim, exportedKill, exportedBringBack, exportedList, exportedCount, exportedFree};
 ghost use Rattle.genie.specs.Compared.{exportedCompare};
+ghost use Rattle.genie.specs.Program.{exportedLoadRecord};
 
 // What goes out where a slice is lent too short: 12, after 1 and the faults.
 fn short(image: &[u8], g: Geometry, fault_slot: &mut usize) -> u8
@@ -608,4 +609,53 @@ pub extern "C" fn genie_compare(
     let file = x.name;
     codec::put_name(name, 0, file);
     x.refusal.number
+}
+
+#[no_mangle]
+pub extern "C" fn genie_load_record(
+    image: &[u8],
+    blocks: usize,
+    units: usize,
+    start: usize,
+    open_code: u16,
+    system_disk: bool,
+    granule_sectors: usize,
+    handle: &mut [u8],
+    buffer: &mut [u8],
+    kind: &mut usize,
+    address: &mut usize,
+    count: &mut usize,
+    position: &mut usize,
+    fault_slot: &mut usize,
+) -> u8
+    ensures { λ r. ⌜ (r, now («fault_slot» .exit), now (kind .exit), now (address .exit), now (count .exit), now (position .exit), now (handle .exit), now (buffer .exit))
+        ≡ exportedLoadRecord (geometry blocks units start open_code «system_disk» «granule_sectors») (now (image .entry)) (now (handle .entry)) (now (buffer .entry)) ⌝ }
+{
+    let g = codec::geometry(
+        blocks,
+        units,
+        start,
+        open_code,
+        system_disk,
+        granule_sectors,
+    );
+    if handle.len() < codec::HANDLE_BYTES {
+        *kind = 0;
+        *address = 0;
+        *count = 0;
+        *position = 0;
+        return short(image, g, fault_slot);
+    }
+    let h = codec::handle_of(handle);
+    let a = calls::load_record(image, g, h, buffer);
+    *fault_slot = a.refusal.at;
+    *kind = a.kind;
+    *address = a.address;
+    *count = a.count;
+    *position = a.position;
+    if a.kind != 1 {
+        return a.refusal.number;
+    }
+    codec::put_handle(handle, a.handle);
+    a.refusal.number
 }

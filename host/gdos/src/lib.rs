@@ -17,6 +17,7 @@ mod host;
 mod json;
 #[cfg(any(test, not(unix)))]
 mod memory;
+mod memory_image;
 mod names;
 mod page;
 mod places;

@@ -37,6 +37,11 @@ fn undelete() {
 }
 
 #[test]
+fn program_files() {
+    play("load");
+}
+
+#[test]
 fn data_disk() {
     play("data-disk");
 }

@@ -179,6 +179,39 @@ mod bound {
                 )
             }
         }
+        fn load_record(
+            &self,
+            image: &[u8],
+            g: &Geometry,
+            handle: &mut [u8],
+            buffer: &mut [u8],
+            kind: &mut usize,
+            address: &mut usize,
+            count: &mut usize,
+            position: &mut usize,
+            fault_slot: &mut usize,
+        ) -> Number {
+            unsafe {
+                genie_load_record(
+                    image.as_ptr(),
+                    image.len(),
+                    g.blocks,
+                    g.units,
+                    g.start,
+                    g.open_code,
+                    g.system_disk,
+                    handle.as_mut_ptr(),
+                    handle.len(),
+                    buffer.as_mut_ptr(),
+                    buffer.len(),
+                    kind,
+                    address,
+                    count,
+                    position,
+                    fault_slot,
+                )
+            }
+        }
         fn read_sector(
             &self,
             image: &[u8],

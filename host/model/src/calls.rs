@@ -44,7 +44,7 @@ pub const NO_SLOTS: Number = 8;
 const HIGHEST_DAY: usize = 31;
 const HIGHEST_MONTH: usize = 15;
 const HIGHEST_YEAR: usize = 15;
-const READING_LEVEL: u8 = 5;
+pub(crate) const READING_LEVEL: u8 = 5;
 const WRITING_LEVEL: u8 = 4;
 const KILLING_LEVEL: u8 = 1;
 
@@ -92,6 +92,12 @@ fn size_of(image: &[u8], g: &Geometry, file: u8) -> usize {
 fn place(g: &Geometry, granules: &[usize], i: usize) -> usize {
     let width = g.granule_bytes();
     granules[i / width] * width + i % width
+}
+
+/// All bytes of a file.
+pub(crate) fn contents(image: &[u8], g: &Geometry, d: usize, file: u8) -> Vec<u8> {
+    let granules = owned(image, g, d, file);
+    (0..size_of(image, g, file)).map(|i| image[place(&granules, i)]).collect()
 }
 
 /// Check: 0, 1, or 21 to 30.
@@ -250,7 +256,7 @@ pub fn create(
 }
 
 /// The rows 1, 2, 12 and 7 of a call by handle. `more_good` is what else row 12 asks of the call.
-fn by_handle(
+pub(crate) fn by_handle(
     image: &[u8],
     g: &Geometry,
     handle: &[u8],

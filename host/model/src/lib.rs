@@ -21,6 +21,7 @@ pub mod differences;
 // The library under test.
 pub mod binding;
 pub mod library;
+pub mod load;
 pub mod record;
 
 // Disks made by hand; disks and calls made up at random, and the comparison.

@@ -8,6 +8,7 @@ use crate::calls::{self, Birth, Number};
 use crate::differences;
 use crate::fault::{self, fault};
 use crate::geometry::Geometry;
+use crate::load;
 use std::rc::Rc;
 
 #[allow(clippy::too_many_arguments)]
@@ -54,6 +55,18 @@ pub trait Library {
         g: &Geometry,
         handle: &mut [u8],
         buffer: &mut [u8],
+        fault_slot: &mut usize,
+    ) -> Number;
+    fn load_record(
+        &self,
+        image: &[u8],
+        g: &Geometry,
+        handle: &mut [u8],
+        buffer: &mut [u8],
+        kind: &mut usize,
+        address: &mut usize,
+        count: &mut usize,
+        position: &mut usize,
         fault_slot: &mut usize,
     ) -> Number;
     fn read_sector(
@@ -198,6 +211,21 @@ impl Library for Model {
         fault_slot: &mut usize,
     ) -> Number {
         let number = calls::read_record(image, g, handle, buffer);
+        with_slot(number, image, g, fault_slot)
+    }
+    fn load_record(
+        &self,
+        image: &[u8],
+        g: &Geometry,
+        handle: &mut [u8],
+        buffer: &mut [u8],
+        kind: &mut usize,
+        address: &mut usize,
+        count: &mut usize,
+        position: &mut usize,
+        fault_slot: &mut usize,
+    ) -> Number {
+        let number = load::load_record(image, g, handle, buffer, [kind, address, count, position]);
         with_slot(number, image, g, fault_slot)
     }
     fn read_sector(

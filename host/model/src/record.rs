@@ -221,6 +221,24 @@ impl<W: Write> Library for Recorder<W> {
         let told = [Slice(HANDLE, &held, handle), Slice(BUFFER, &lent, buffer), Outgoing(*fault_slot)];
         self.call("genie_read_record", answer, row![kept(IMAGE, image), g].chain(told))
     }
+    fn load_record(
+        &self,
+        image: &[u8],
+        g: &Geometry,
+        handle: &mut [u8],
+        buffer: &mut [u8],
+        kind: &mut usize,
+        address: &mut usize,
+        count: &mut usize,
+        position: &mut usize,
+        fault_slot: &mut usize,
+    ) -> Number {
+        let (held, lent) = (handle.to_vec(), buffer.to_vec());
+        let answer = Model.load_record(image, g, handle, buffer, kind, address, count, position, fault_slot);
+        let lent = [Slice(HANDLE, &held, handle), Slice(BUFFER, &lent, buffer)];
+        let told = [kind, address, count, position, fault_slot].map(|number| Outgoing(*number));
+        self.call("genie_load_record", answer, row![kept(IMAGE, image), g].chain(lent).chain(told))
+    }
     fn read_sector(
         &self,
         image: &[u8],

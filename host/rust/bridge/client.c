@@ -252,6 +252,23 @@ uint8_t genie_read_record(const IMAGE, uint8_t *handle, size_t handle_len, uint8
     return end();
 }
 
+uint8_t genie_load_record(const IMAGE, uint8_t *handle, size_t handle_len, uint8_t *buffer, size_t buffer_len, size_t *kind, size_t *address,
+                          size_t *count, size_t *position, size_t *fault_slot)
+{
+    BEGIN(LOAD_RECORD);
+    TAKE_HANDLE;
+    TAKE_BUFFER;
+    go();
+    BACK(handle);
+    BACK(buffer);
+    *kind = w->out[0];
+    *address = w->out[1];
+    *count = w->out[2];
+    *position = w->out[3];
+    *fault_slot = w->fault_slot;
+    return end();
+}
+
 uint8_t genie_read_sector(const IMAGE, const uint8_t *handle, size_t handle_len, size_t k, size_t *from, size_t *to, size_t *fault_slot)
 {
     BEGIN(READ_SECTOR);

@@ -89,6 +89,8 @@ static uint8_t serve(struct wire *w, size_t out[4], size_t *place, size_t *fault
         return genie_create(IMAGE, NAME, in[0], in[1], in[2], in[3], (uint16_t)in[4], (uint16_t)in[5], in[6], &out[0], HANDLE, place, fault_slot);
     case READ_RECORD:
         return genie_read_record(IMAGE, HANDLE, BUFFER, fault_slot);
+    case LOAD_RECORD:
+        return genie_load_record(IMAGE, HANDLE, BUFFER, &out[0], &out[1], &out[2], &out[3], fault_slot);
     case READ_SECTOR:
         return genie_read_sector(IMAGE, HANDLE, in[0], &out[0], &out[1], fault_slot);
     case WRITE_RECORD:

@@ -7,7 +7,8 @@
 
 enum call {
     CHECK, LOOK_UP, OPEN, CREATE, READ_RECORD, READ_SECTOR, WRITE_RECORD, ALLOT, TRIM, KILL, BRING_BACK, LIST, COUNT, FREE, COMPARE,
-    FOLD
+    FOLD,
+    LOAD_RECORD
 };
 
 /* The client keeps these to itself: of a longer part no call looks at more than its beginning and its length, and every image of

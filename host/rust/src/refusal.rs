@@ -63,6 +63,12 @@ pub enum Refusal {
     SlotInUse,
     /// 6: the handle's level does not allow it, or it would change a system file.
     Access,
+    /// 31: a program file has a code that is not 01, 02 or 05 (load record).
+    LoadCode,
+    /// 32: a program file ends inside a record or comment, or before a start address (load record).
+    LoadEnd,
+    /// 33: a program file's code 02 has a count that is not 2 (load record).
+    LoadCount,
     /// 10: a read past the file's size.
     PastEnd,
     /// 11: the file may not grow (E) and owns too few granules.
@@ -84,7 +90,7 @@ pub enum Refusal {
 impl Refusal {
     /// The numbers that the library gives today, in the order in which it tests; those of faults without their slots, a name's
     /// without its place.
-    pub const ALL: [Refusal; 25] = [
+    pub const ALL: [Refusal; 28] = [
         Refusal::Geometry,
         Refusal::Inconsistent(Fault::of_disk(FaultKind::DirectoryLength)),
         Refusal::Inconsistent(Fault::of_disk(FaultKind::HitAgainstEntry)),
@@ -103,6 +109,9 @@ impl Refusal {
         Refusal::Password,
         Refusal::SlotInUse,
         Refusal::Access,
+        Refusal::LoadCode,
+        Refusal::LoadEnd,
+        Refusal::LoadCount,
         Refusal::PastEnd,
         Refusal::NoGrowth,
         Refusal::NoSpace,
@@ -131,6 +140,9 @@ impl Refusal {
             Refusal::NothingWhole => 18,
             Refusal::NameInUse => 19,
             Refusal::GranuleTaken => 20,
+            Refusal::LoadCode => 31,
+            Refusal::LoadEnd => 32,
+            Refusal::LoadCount => 33,
             Refusal::Other(number) => number,
         }
     }
@@ -203,6 +215,9 @@ impl Refusal {
             Refusal::NothingWhole => "nothing whole to bring back",
             Refusal::NameInUse => "name in use",
             Refusal::GranuleTaken => "a granule is taken again",
+            Refusal::LoadCode => "no program file: unknown code",
+            Refusal::LoadEnd => "program file ends inside a record or before a start address",
+            Refusal::LoadCount => "program file with a bad count",
             Refusal::Other(_) => "refused by a newer library",
         }
     }
@@ -231,7 +246,7 @@ mod tests {
     #[test]
     fn every_number_has_its_refusal_and_its_own_text() {
         let mut texts = Vec::new();
-        for number in [1].into_iter().chain(3..=12).chain(17..=30) {
+        for number in [1].into_iter().chain(3..=12).chain(17..=33) {
             let refusal = Refusal::from_number(number).unwrap();
             assert_ne!(refusal, Refusal::Other(number));
             assert_eq!(refusal.number(), number);
@@ -270,7 +285,7 @@ mod tests {
         let numbers: Vec<u8> = Refusal::ALL.iter().map(|r| r.number()).collect();
         assert_eq!(
             numbers,
-            [1, 21, 22, 23, 24, 25, 26, 27, 28, 29, 30, 12, 3, 7, 4, 5, 17, 6, 10, 11, 9, 8, 18, 19, 20]
+            [1, 21, 22, 23, 24, 25, 26, 27, 28, 29, 30, 12, 3, 7, 4, 5, 17, 6, 31, 32, 33, 10, 11, 9, 8, 18, 19, 20]
         );
     }
 }

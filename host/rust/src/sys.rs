@@ -99,6 +99,26 @@ extern "C" {
         fault_slot: *mut usize,
     ) -> u8;
 
+    pub fn genie_load_record(
+        image: *const u8,
+        image_len: usize,
+        blocks: usize,
+        units: usize,
+        start: usize,
+        open_code: u16,
+        system_disk: bool,
+        granule_sectors: usize,
+        handle: *mut u8,
+        handle_len: usize,
+        buffer: *mut u8,
+        buffer_len: usize,
+        kind: *mut usize,
+        address: *mut usize,
+        count: *mut usize,
+        position: *mut usize,
+        fault_slot: *mut usize,
+    ) -> u8;
+
     pub fn genie_read_sector(
         image: *const u8,
         image_len: usize,

@@ -10,6 +10,7 @@ mod geometry;
 mod get;
 mod info;
 mod leftovers;
+mod load;
 mod ls;
 mod map;
 mod mend;
@@ -73,6 +74,7 @@ pub const COMMANDS: &[Command] = &[
     ls::COMMAND,
     get::CAT,
     get::COMMAND,
+    load::COMMAND,
     put::COMMAND,
     rm::COMMAND,
     undelete::COMMAND,
