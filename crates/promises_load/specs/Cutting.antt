@@ -79,7 +79,12 @@ module _ (bs : List ℕ) where
 
   item-is : (i n : ℕ) → first (itemRefusals bs i) ≡ n
       → itemAt bs i
-      ≡ record { number = n; position = positionOf bs i n; code = cond (accepted n) (codeAt bs i) 0; rest = cond (accepted n) (follows (codeAt bs i) (countAt bs i)) 0 }
+      ≡ record {
+        number = n;
+        position = positionOf bs i n;
+        code = cond (accepted n) (codeAt bs i) 0;
+        rest = cond (accepted n) (follows (codeAt bs i) (countAt bs i)) 0;
+      }
   unfolding itemAt
   item-is i n e = rw e
 
@@ -97,7 +102,8 @@ module _ (bs : List ℕ) where
       by (strange h k) = rw (item-is i 31 (rw (lt-leb _ _ h, k) refl)) (broken {n = 31} tt (λ (q : _≡_ {A = ℕ} 31 0). omega arith))
       by (lacksCount h k l) = rw (item-is i 32 (rw (lt-leb _ _ h, k, le-leb _ _ l) refl)) (broken {n = 32} tt (λ (q : _≡_ {A = ℕ} 32 0). omega arith))
       by (badly h k l b) = rw (item-is i 33 (rw (lt-leb _ _ h, k, lt-leb _ _ l, b) refl)) (broken {n = 33} tt (λ (q : _≡_ {A = ℕ} 33 0). omega arith))
-      by (shortly h k l b o) = rw (item-is i 32 (rw (lt-leb _ _ h, k, lt-leb _ _ l, b, lt-ltb _ _ o) refl)) (broken {n = 32} tt (λ (q : _≡_ {A = ℕ} 32 0). omega arith))
+      by (shortly h k l b o) =
+          rw (item-is i 32 (rw (lt-leb _ _ h, k, lt-leb _ _ l, b, lt-ltb _ _ o) refl)) (broken {n = 32} tt (λ (q : _≡_ {A = ℕ} 32 0). omega arith))
       by (wholly h k l b o) = rw (item-is i 0 (rw (lt-leb _ _ h, k, lt-leb _ _ l, b, le-ltb _ _ o) refl)) (stands k o (data-two (codeAt bs i) (countAt bs i)))
 
   one-byte : (i : ℕ) → i < length bs → drop i bs ≡ codeAt bs i ∷ drop (i + 1) bs
@@ -160,7 +166,8 @@ module _ (bs : List ℕ) where
             address-is : getD (drop (i + 2) bs) 0 0 + 256 * getD (drop (i + 2) bs) 1 0 ≡ addressAt bs i
             address-is =
                 let a : i + 2 + 0 ≡ i + 2 = omega arith in let z : i + 2 + 1 ≡ i + 3 = omega arith in
-                ap₂ (λ (x y : ℕ). x + 256 * y) (getD-drop (i + 2) bs 0 0 ∙ ap (λ (j : ℕ). getD bs j 0) a) (getD-drop (i + 2) bs 1 0 ∙ ap (λ (j : ℕ). getD bs j 0) z)
+                ap₂ (λ (x y : ℕ). x + 256 * y) (getD-drop (i + 2) bs 0 0 ∙ ap (λ (j : ℕ). getD bs j 0) a)
+                (getD-drop (i + 2) bs 1 0 ∙ ap (λ (j : ℕ). getD bs j 0) z)
 
             on : drop rest (drop (i + 2) bs) ≡ drop (i + 2 + rest) bs
             on = drop-drop rest (i + 2) bs

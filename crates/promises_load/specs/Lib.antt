@@ -4,3 +4,4 @@ pub mod Asking
 pub mod Reading
 pub mod Mixed
 pub mod Interleaved
+pub mod Samples
