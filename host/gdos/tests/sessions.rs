@@ -37,6 +37,11 @@ fn undelete() {
 }
 
 #[test]
+fn playing_back() {
+    play("play");
+}
+
+#[test]
 fn data_disk() {
     play("data-disk");
 }

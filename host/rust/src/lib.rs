@@ -44,6 +44,7 @@ mod map;
 mod name;
 mod refusal;
 mod sys;
+mod trace;
 
 pub use damaged::{
     ByteChange, Detail, Doubt, Doubtful, Dropped, FaultFound, Faults, FileFound, Mended, Remedy, Rescued, Step,
@@ -58,4 +59,5 @@ pub use geometry::Geometry;
 pub use handle::Handle;
 pub use map::{markup_text, Cell, Drawing, Holds, Map, MappedFile, Part};
 pub use name::{BadName, Name};
-pub use refusal::Refusal;
+pub use refusal::{Refusal, TracePlace};
+pub use trace::{Call, Recorded, Trace, Unpackable};

@@ -1,6 +1,30 @@
 use crate::{Fault, FaultKind};
 use std::fmt;
 
+/// Where a trace is bad: the first bit of its first bad field, or its end where it breaks off; so many whole bytes, and so
+/// many bits, 0 to 7, behind its beginning.
+#[derive(Clone, Copy, Debug, PartialEq, Eq, Hash)]
+pub struct TracePlace {
+    /// Whole bytes.
+    pub byte: usize,
+    /// Bits behind them.
+    pub bit: u8,
+}
+
+impl TracePlace {
+    /// The number of the bit, counted from 0.
+    pub fn position(self) -> u128 {
+        8 * self.byte as u128 + u128::from(self.bit)
+    }
+}
+
+/// `bit 99`.
+impl fmt::Display for TracePlace {
+    fn fmt(&self, f: &mut fmt::Formatter<'_>) -> fmt::Result {
+        write!(f, "bit {}", self.position())
+    }
+}
+
 /// Why the library refused a call. A refused call has changed nothing.
 ///
 /// Where several reasons apply the library gives the first in the order of test, which is the order of [`Refusal::ALL`].
@@ -33,6 +57,10 @@ pub enum Refusal {
     Geometry,
     /// 21 to 30: the disk is not consistent, by this fault.
     Inconsistent(Fault),
+    /// 14: the trace is malformed, at this place (play back).
+    Trace(TracePlace),
+    /// 15: fewer bytes for results than the trace has calls (play back).
+    NoRoom,
     /// 12: a position, length, level, date or sector out of range, a buffer shorter than the record, or a slot that the
     /// directory has not.
     Range,
@@ -68,7 +96,7 @@ pub enum Refusal {
 
 impl Refusal {
     /// The numbers that the library gives today, in the order in which it tests; those of faults without their slots.
-    pub const ALL: [Refusal; 25] = [
+    pub const ALL: [Refusal; 27] = [
         Refusal::Geometry,
         Refusal::Inconsistent(Fault::of_disk(FaultKind::DirectoryLength)),
         Refusal::Inconsistent(Fault::of_disk(FaultKind::HitAgainstEntry)),
@@ -80,6 +108,8 @@ impl Refusal {
         Refusal::Inconsistent(Fault::of_disk(FaultKind::GranuleShared)),
         Refusal::Inconsistent(Fault::of_disk(FaultKind::Size)),
         Refusal::Inconsistent(Fault::of_disk(FaultKind::DirectoryGranule)),
+        Refusal::Trace(TracePlace { byte: 0, bit: 0 }),
+        Refusal::NoRoom,
         Refusal::Range,
         Refusal::Name,
         Refusal::Stale,
@@ -111,6 +141,8 @@ impl Refusal {
             Refusal::PastEnd => 10,
             Refusal::NoGrowth => 11,
             Refusal::Range => 12,
+            Refusal::Trace(_) => 14,
+            Refusal::NoRoom => 15,
             Refusal::SlotInUse => 17,
             Refusal::NothingWhole => 18,
             Refusal::NameInUse => 19,
@@ -165,6 +197,8 @@ impl Refusal {
             Refusal::PastEnd => "read past the end of the file",
             Refusal::NoGrowth => "file may not grow: its flag E is set",
             Refusal::Range => "position, length, level, date or sector out of range",
+            Refusal::Trace(_) => "trace malformed",
+            Refusal::NoRoom => "no room for the results",
             Refusal::SlotInUse => "slot in use",
             Refusal::NothingWhole => "nothing whole to bring back",
             Refusal::NameInUse => "name in use",
@@ -181,6 +215,9 @@ impl fmt::Display for Refusal {
         if let Some(slot) = self.slot() {
             write!(f, "; slot {slot:02X}H")?;
         }
+        if let Refusal::Trace(place) = self {
+            write!(f, "; {place}")?;
+        }
         f.write_str(")")
     }
 }
@@ -194,7 +231,7 @@ mod tests {
     #[test]
     fn every_number_has_its_refusal_and_its_own_text() {
         let mut texts = Vec::new();
-        for number in [1].into_iter().chain(3..=12).chain(17..=30) {
+        for number in [1].into_iter().chain(3..=12).chain(14..=15).chain(17..=30) {
             let refusal = Refusal::from_number(number).unwrap();
             assert_ne!(refusal, Refusal::Other(number));
             assert_eq!(refusal.number(), number);
@@ -223,7 +260,7 @@ mod tests {
         let numbers: Vec<u8> = Refusal::ALL.iter().map(|r| r.number()).collect();
         assert_eq!(
             numbers,
-            [1, 21, 22, 23, 24, 25, 26, 27, 28, 29, 30, 12, 3, 7, 4, 5, 17, 6, 10, 11, 9, 8, 18, 19, 20]
+            [1, 21, 22, 23, 24, 25, 26, 27, 28, 29, 30, 14, 15, 12, 3, 7, 4, 5, 17, 6, 10, 11, 9, 8, 18, 19, 20]
         );
     }
 }

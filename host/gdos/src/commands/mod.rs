@@ -15,6 +15,7 @@ mod map;
 mod mend;
 mod new;
 mod opened;
+mod play;
 mod probe;
 mod put;
 mod report;
@@ -77,6 +78,8 @@ pub const COMMANDS: &[Command] = &[
     rm::COMMAND,
     undelete::COMMAND,
     trim::COMMAND,
+    play::COMMAND,
+    play::RECORD,
     free::COMMAND,
     info::COMMAND,
     map::COMMAND,
