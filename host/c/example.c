@@ -48,6 +48,12 @@ static uint32_t position_of(const uint8_t *handle)
     return position;
 }
 
+/* A recorded session: one name; create it with record length 256, write the byte 41H three times at position 0, kill it, kill it; the end. */
+static const uint8_t SESSION[] = {
+    1, 'A', ' ', ' ', ' ', ' ', ' ', ' ', ' ', ' ', ' ', ' ',
+    0x20, 0, 0, 0, 0x80, 0, 0,  0x40, 0, 0, 0, 0x01, 0xA0, 0x80,  0xC0, 0, 0, 0, 0, 0, 0,  0xC0, 0, 0, 0, 0, 0, 0,  0, 0, 0, 0, 0, 0, 0
+};
+
 int main(void)
 {
     const uint8_t *const name = (const uint8_t *)"PULS01  DAT"; /* PULS01/DAT, 11 bytes */
@@ -55,6 +61,8 @@ int main(void)
     const uint8_t zeros[GENIE_HANDLE_BYTES] = { 0 };
     uint8_t handle[GENIE_HANDLE_BYTES], record[256], back[256], told[GENIE_NAME_BYTES];
     size_t old, slot, compared, from, to, size, slots, granules, more, files, left, longest, which, kind, position, flags, place, fault;
+    size_t calls, byte, bit;
+    uint8_t results[4];
 
     image = malloc(IMAGE_BYTES);
     uint8_t *const before = malloc(IMAGE_BYTES);
@@ -71,6 +79,11 @@ int main(void)
     step("check it as 96 blocks with granules of 10 sectors: the directory's is free", answer, GENIE_FAULT_DIRECTORY_GRANULE, fault == GENIE_NO_SLOT);
     answer = genie_check(image, IMAGE_BYTES, BLOCKS / 3, UNITS, START, OPEN_CODE, true, 15, &fault);
     step("check it with granules of 15 sectors: there are none", answer, GENIE_GEOMETRY, 1);
+    answer = genie_play(DISK, SESSION, sizeof SESSION - 7, results, sizeof results, &calls, &byte, &bit, &fault);
+    step("play back a session that breaks off", answer, GENIE_TRACE, calls == 0 && byte == sizeof SESSION - 7 && bit == 0);
+    answer = genie_play(DISK, SESSION, sizeof SESSION, results, sizeof results, &calls, &byte, &bit, &fault);
+    step("play it back: create A, write AAA, kill A twice: it is not found", answer, GENIE_DONE,
+         calls == 4 && byte == 0 && !memcmp(results, ((const uint8_t[]){0, 0, 0, GENIE_NOT_FOUND}), sizeof results));
     answer = genie_count(DISK, &files, &left, &fault);
     step("count: no file, 1,533 granules free", answer, GENIE_DONE, files == 0 && left == BLOCKS * UNITS - 3);
     answer = genie_free(DISK, &left, &longest);

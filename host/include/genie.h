@@ -77,6 +77,8 @@ enum genie_refusal {
                                file's chain is whole */
     GENIE_FAULT_DIRECTORY_GRANULE = 30, /* a granule of the directory is in the entry's runs, and its file has no system flag; or, with no slot and after
                                all slots, a granule of the directory is free in the GAT */
+    GENIE_TRACE = 14,       /* the trace is malformed (play back): *byte and *bit say where */
+    GENIE_NO_ROOM = 15,     /* fewer bytes for results than the trace has calls (play back) */
     GENIE_RANGE = 12,       /* a position, record length, level, date or sector is out of range; position + length passes the highest position
                                in a write; the buffer is shorter than the record length, or that of load record is under 255 bytes; the handle is under
                                19 bytes; the name buffer of list, compare or genie_name is under 11 bytes; bring back is given a slot that the
@@ -105,7 +107,7 @@ enum genie_refusal {
 /* Answers under a refusal: every outgoing number is 0, every lent buffer and the image are as they stood. Five exceptions: look up tells its
  * count under refusal 4; *place is that of the bad byte, or GENIE_NO_PLACE; a refused open or create leaves 19 zeros in a handle buffer of
  * at least 19 bytes (using that handle is refusal 12); compare says which image it refuses; load record tells the position under 31, 32
- * and 33; *fault_slot is the slot at fault, or GENIE_NO_SLOT. */
+ * and 33; play back says where under refusal 14; *fault_slot is the slot at fault, or GENIE_NO_SLOT. */
 
 #define GENIE_HANDLE_BYTES 19
 #define GENIE_NAME_BYTES 11
@@ -209,6 +211,32 @@ uint8_t genie_kill(uint8_t *image, size_t image_len, size_t blocks, size_t units
  * before the kill, and its bytes are what the granules hold now. Refusals 1, 21 to 30 with *fault_slot, 12, 17, 6, 18, 19, 20. */
 uint8_t genie_bring_back(uint8_t *image, size_t image_len, size_t blocks, size_t units, size_t start, uint16_t open_code, bool system_disk,
                          size_t granule_sectors, size_t slot, size_t *slots, size_t *granules, size_t *fault_slot);
+
+/* Play back: the calls of a recorded session, one after the other, each on the disk that the one before it left.
+ *
+ * The trace is packed in bits, most significant first: 8 bits, the number of names, 1 to 32; 11 bytes for each name; then calls of 56 bits: operation 3,
+ * file number 5, position 24, length 9, fill byte 8, zero 7. The file number counts the names from 0.
+ *
+ *   operation                      uses
+ *   1  create                      file number, length
+ *   2  sequential write            file number, position, length, fill byte: a record full of it
+ *   3  random write                the same
+ *   4  allot                       file number, position (the sector)
+ *   5  trim, 6  kill               file number
+ *   7  read                        file number, position, length; the bytes are told nowhere
+ *   0  the end; what follows is    nothing
+ *      not read
+ *
+ * A field that is not used must be zero, and a file number below the number of names. Create has date and codes 0; every other call opens its file first,
+ * with the call's length, or 256 where it uses none, and codes are not tested. A refused open is the call's result, and a refused call stops nothing.
+ *
+ * The trace is read through before anything runs. Then *calls says how many calls it has; the result of each, 0 or a refusal number, is a byte of results,
+ * in turn; bytes behind them are as they stood. trace_len / 7 bytes are always enough. Under GENIE_TRACE 8 x *byte + *bit is the first bit of the first
+ * bad field, counted from 0, or the trace's length in bits where it breaks off (*byte whole bytes, and *bit, 0 to 7, bits); else both are 0. The disk is
+ * checked once. Refusals 1, 21 to 30 with *fault_slot, 14, 15. */
+uint8_t genie_play(uint8_t *image, size_t image_len, size_t blocks, size_t units, size_t start, uint16_t open_code, bool system_disk,
+                   size_t granule_sectors, const uint8_t *trace, size_t trace_len, uint8_t *results, size_t results_len, size_t *calls,
+                   size_t *byte, size_t *bit, size_t *fault_slot);
 
 /* List: the file with that number, counted from 0 by rising slot, system files left out. Its name goes to the first 11 bytes of name (a buffer of at
  * least 11 bytes), its size in bytes and the granules it owns to *size and *granules; *more is 1. Past the last file the call is accepted too: *more,

@@ -31,6 +31,8 @@ use Rattle.meaning.specs.declared.Part.{Part}
 use Rattle.meaning.specs.declared.Listed.{Listed}
 use Rattle.meaning.specs.declared.Counts.{Counts}
 use Rattle.meaning.specs.declared.Space.{Space}
+use Rattle.session.specs.Playing.{play}
+use Rattle.session.specs.declared.Played.{Played}
 use Rattle.codec.specs.Codec.{handleBytes, nameBytes, handleOf, stored}
 use Rattle.codec.specs.Words.{modeOf, told}
 
@@ -60,6 +62,9 @@ creates b p = (p .0 .refusal .number, slotTold (p .0 .refusal), placeOf (p .0 .r
 
 abbrev pub brings : BroughtBack × List ℕ → ℕ × ℕ × ℕ × ℕ × List ℕ
 brings p = (p .0 .refusal .number, p .0 .refusal .at, p .0 .slots, p .0 .granules, p .1)
+
+abbrev pub plays : Played × List ℕ × List ℕ → ℕ × ℕ × ℕ × ℕ × ℕ × List ℕ × List ℕ
+plays p = (p .0 .refusal .number, p .0 .refusal .at, p .0 .calls, p .0 .byte, p .0 .bit, p .2, p .1)
 
 abbrev pub looks : LookedUp → ℕ × ℕ × ℕ × ℕ × ℕ
 looks l = (l .refusal .number, slotTold (l .refusal), placeOf (l .refusal), l .slot, l .compared)
@@ -132,6 +137,10 @@ module _ (g : Geometry) (d : List ℕ) where
   -- slots, granules, the image
   abbrev pub exportedBringBack : ℕ → ℕ × ℕ × ℕ × ℕ × List ℕ
   exportedBringBack s = brings (bringBack g d s)
+
+  -- calls, byte, bit, the results, the image
+  abbrev pub exportedPlay : List ℕ → List ℕ → ℕ × ℕ × ℕ × ℕ × ℕ × List ℕ × List ℕ
+  exportedPlay t rs = plays (play g d t rs)
 
   -- size, granules, more, the name buffer
   abbrev pub exportedList : ℕ → List ℕ → ℕ × ℕ × ℕ × ℕ × ℕ × List ℕ

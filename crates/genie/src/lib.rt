@@ -3,7 +3,7 @@ use meaning::Geometry;
 use meaning::NewFile;
 ghost use mathlib.Core.Path.{_≡_};
 ghost use Rattle.codec.specs.Words.{geometry};
-ghost use Rattle.genie.specs.Exports.{newFile, tooShort, exportedName, exportedCheck, exportedLookUp, exportedOpen, exportedCreate, exportedReadRecord, exportedReadSector, exportedWriteRecord, exportedAllot, exportedTrim, exportedKill, exportedBringBack, exportedList, exportedCount, exportedFree};
+ghost use Rattle.genie.specs.Exports.{newFile, tooShort, exportedName, exportedCheck, exportedLookUp, exportedOpen, exportedCreate, exportedReadRecord, exportedReadSector, exportedWriteRecord, exportedAllot, exportedTrim, exportedKill, exportedBringBack, exportedPlay, exportedList, exportedCount, exportedFree};
 ghost use Rattle.genie.specs.Compared.{exportedCompare};
 ghost use Rattle.genie.specs.Program.{exportedLoadRecord};
 
@@ -435,6 +435,41 @@ pub extern "C" fn genie_bring_back(
     *slots = b.slots;
     *granules = b.granules;
     b.refusal.number
+}
+
+#[no_mangle]
+pub extern "C" fn genie_play(
+    image: &mut [u8],
+    blocks: usize,
+    units: usize,
+    start: usize,
+    open_code: u16,
+    system_disk: bool,
+    granule_sectors: usize,
+    trace: &[u8],
+    results: &mut [u8],
+    calls: &mut usize,
+    byte: &mut usize,
+    bit: &mut usize,
+    fault_slot: &mut usize,
+) -> u8
+    ensures { λ r. ⌜ (r, now («fault_slot» .exit), now (calls .exit), now (byte .exit), now (bit .exit), now (results .exit), now (image .exit))
+        ≡ exportedPlay (geometry blocks units start open_code «system_disk» «granule_sectors») (now (image .entry)) (now (trace .entry)) (now (results .entry)) ⌝ }
+{
+    let g = codec::geometry(
+        blocks,
+        units,
+        start,
+        open_code,
+        system_disk,
+        granule_sectors,
+    );
+    let p = calls::play(image, g, trace, results);
+    *fault_slot = p.refusal.at;
+    *calls = p.calls;
+    *byte = p.byte;
+    *bit = p.bit;
+    p.refusal.number
 }
 
 #[no_mangle]

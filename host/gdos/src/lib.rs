@@ -22,6 +22,7 @@ mod names;
 mod page;
 mod places;
 mod program;
+mod recording;
 mod search;
 mod shape;
 mod stated;

@@ -42,6 +42,11 @@ fn program_files() {
 }
 
 #[test]
+fn playing_back() {
+    play("play");
+}
+
+#[test]
 fn data_disk() {
     play("data-disk");
 }

@@ -347,6 +347,37 @@ mod bound {
                 )
             }
         }
+        fn play(
+            &self,
+            image: &mut [u8],
+            g: &Geometry,
+            trace: &[u8],
+            results: &mut [u8],
+            calls: &mut usize,
+            byte: &mut usize,
+            bit: &mut usize,
+            fault_slot: &mut usize,
+        ) -> Number {
+            unsafe {
+                genie_play(
+                    image.as_mut_ptr(),
+                    image.len(),
+                    g.blocks,
+                    g.units,
+                    g.start,
+                    g.open_code,
+                    g.system_disk,
+                    trace.as_ptr(),
+                    trace.len(),
+                    results.as_mut_ptr(),
+                    results.len(),
+                    calls,
+                    byte,
+                    bit,
+                    fault_slot,
+                )
+            }
+        }
         fn list(
             &self,
             image: &[u8],

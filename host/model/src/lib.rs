@@ -17,6 +17,7 @@ pub mod space;
 
 // The model: request 02.
 pub mod differences;
+pub mod play;
 
 // The library under test.
 pub mod binding;

@@ -9,6 +9,7 @@ use crate::differences;
 use crate::fault::{self, fault};
 use crate::geometry::Geometry;
 use crate::load;
+use crate::play;
 use std::rc::Rc;
 
 #[allow(clippy::too_many_arguments)]
@@ -98,6 +99,17 @@ pub trait Library {
         slot: usize,
         slots: &mut usize,
         granules: &mut usize,
+        fault_slot: &mut usize,
+    ) -> Number;
+    fn play(
+        &self,
+        image: &mut [u8],
+        g: &Geometry,
+        trace: &[u8],
+        results: &mut [u8],
+        calls: &mut usize,
+        byte: &mut usize,
+        bit: &mut usize,
         fault_slot: &mut usize,
     ) -> Number;
     fn list(
@@ -275,6 +287,20 @@ impl Library for Model {
         fault_slot: &mut usize,
     ) -> Number {
         let number = bring_back::bring_back(image, g, slot, slots, granules);
+        with_slot(number, image, g, fault_slot)
+    }
+    fn play(
+        &self,
+        image: &mut [u8],
+        g: &Geometry,
+        trace: &[u8],
+        results: &mut [u8],
+        calls: &mut usize,
+        byte: &mut usize,
+        bit: &mut usize,
+        fault_slot: &mut usize,
+    ) -> Number {
+        let number = play::play(image, g, trace, results, calls, byte, bit);
         with_slot(number, image, g, fault_slot)
     }
     fn list(

@@ -300,6 +300,23 @@ impl<W: Write> Library for Recorder<W> {
         let told = [number(slot), Outgoing(*slots), Outgoing(*granules), Outgoing(*fault_slot)];
         self.call("genie_bring_back", answer, row![Slice(IMAGE, &was, image), g].chain(told))
     }
+    fn play(
+        &self,
+        image: &mut [u8],
+        g: &Geometry,
+        trace: &[u8],
+        results: &mut [u8],
+        calls: &mut usize,
+        byte: &mut usize,
+        bit: &mut usize,
+        fault_slot: &mut usize,
+    ) -> Number {
+        let (was, before) = (image.to_vec(), results.to_vec());
+        let answer = Model.play(image, g, trace, results, calls, byte, bit, fault_slot);
+        let lent = [kept(SECOND, trace), Slice(BUFFER, &before, results)];
+        let told = [Outgoing(*calls), Outgoing(*byte), Outgoing(*bit), Outgoing(*fault_slot)];
+        self.call("genie_play", answer, row![Slice(IMAGE, &was, image), g].chain(lent).chain(told))
+    }
     fn list(
         &self,
         image: &[u8],

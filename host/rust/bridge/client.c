@@ -337,6 +337,25 @@ uint8_t genie_bring_back(IMAGE, size_t slot, size_t *slots, size_t *granules, si
     return end();
 }
 
+uint8_t genie_play(IMAGE, const uint8_t *trace, size_t trace_len, uint8_t *results, size_t results_len, size_t *calls, size_t *byte, size_t *bit,
+                   size_t *fault_slot)
+{
+    const uint8_t *second = trace;
+    size_t second_len = trace_len, buffer_len = results_len;
+    uint8_t *buffer = results;
+    BEGIN(PLAY);
+    TAKE(second, IMAGE_MOST);
+    TAKE_BUFFER;
+    go();
+    BACK(image);
+    BACK(buffer);
+    *calls = w->out[0];
+    *byte = w->out[1];
+    *bit = w->out[2];
+    *fault_slot = w->fault_slot;
+    return end();
+}
+
 uint8_t genie_list(const IMAGE, size_t number, uint8_t *name, size_t name_len, size_t *size, size_t *granules, size_t *more, size_t *fault_slot)
 {
     BEGIN(LIST);

@@ -103,6 +103,8 @@ static uint8_t serve(struct wire *w, size_t out[4], size_t *place, size_t *fault
         return genie_kill(IMAGE, HANDLE, fault_slot);
     case BRING_BACK:
         return genie_bring_back(IMAGE, in[0], &out[0], &out[1], fault_slot);
+    case PLAY:
+        return genie_play(IMAGE, w->second, w->second_len, BUFFER, &out[0], &out[1], &out[2], fault_slot);
     case LIST:
         return genie_list(IMAGE, in[0], NAME, &out[0], &out[1], &out[2], fault_slot);
     case COMPARE:

@@ -6,14 +6,15 @@
 #include <stdint.h>
 
 enum call {
-    CHECK, LOOK_UP, OPEN, CREATE, READ_RECORD, READ_SECTOR, WRITE_RECORD, ALLOT, TRIM, KILL, BRING_BACK, LIST, COUNT, FREE, COMPARE,
+    CHECK, LOOK_UP, OPEN, CREATE, READ_RECORD, READ_SECTOR, WRITE_RECORD, ALLOT, TRIM, KILL, BRING_BACK, PLAY, LIST, COUNT, FREE, COMPARE,
     FOLD,
     LOAD_RECORD
 };
 
 /* The client keeps these to itself: of a longer part no call looks at more than its beginning and its length, and every image of
- * IMAGE_MOST bytes is too long for any geometry. */
-enum { NAME_MOST = 4096, HANDLE_MOST = 4096, BUFFER_MOST = 65536, IMAGE_MOST = 8388608 };
+ * IMAGE_MOST bytes is too long for any geometry. A trace goes as a second image, its results as a buffer: of a trace of IMAGE_MOST bytes and
+ * more only the beginning is read, which has no more calls than the buffer has room for. */
+enum { NAME_MOST = 4096, HANDLE_MOST = 4096, BUFFER_MOST = 1310720, IMAGE_MOST = 8388608 };
 
 struct wire {
     uint64_t call, answer;

@@ -1,5 +1,5 @@
 use crate::entry::Directory;
-use crate::{sys, Date, Entry, Fault, FaultKind, Geometry, Handle, Name, Refusal};
+use crate::{sys, Date, Entry, Fault, FaultKind, Geometry, Handle, Name, Refusal, TracePlace};
 
 /// A disk: the bytes of its image and the geometry that the caller states for it.
 ///
@@ -793,5 +793,57 @@ impl<B: AsMut<[u8]>> Disk<B> {
             )
         })?;
         Ok(BroughtBack { slots, granules })
+    }
+    /// Plays back a recorded session: the calls of a trace, one after the other, with the result of each (none where it was
+    /// accepted). The trace is read through before anything runs, and the disk is checked once. [`Trace`](crate::Trace)
+    /// packs one.
+    ///
+    /// ```
+    /// # use genie_dos::*;
+    /// # let mut disk = Disk::blank(Geometry::new(16, 2, 80, 0x4296), 10, &[0])?;
+    /// let mut trace = vec![1];
+    /// trace.extend_from_slice(b"A          "); // one name
+    /// trace.extend_from_slice(&[0x20, 0, 0, 0, 0x80, 0, 0]); // create it, with record length 256
+    /// trace.extend_from_slice(&[0xE0, 0, 0, 0, 0x80, 0, 0]); // read a record
+    /// assert_eq!(disk.play(&trace), Err(Refusal::Trace(TracePlace { byte: 26, bit: 0 }))); // it breaks off
+    /// trace.extend_from_slice(&[0; 7]);
+    /// assert_eq!(disk.play(&trace)?, [None, Some(Refusal::PastEnd)]);
+    /// # Ok::<(), Refusal>(())
+    /// ```
+    pub fn play(&mut self, trace: &[u8]) -> Result<Vec<Option<Refusal>>, Refusal> {
+        let mut results = vec![0; trace.len() / 7];
+        let calls = self.play_into(trace, &mut results)?;
+        Ok(results[..calls].iter().map(|&number| Refusal::from_number(number)).collect())
+    }
+
+    /// The same into a lent buffer, a byte a call: 0, or the call's refusal number. Answers how many calls there are; what
+    /// stands behind them in the buffer stays.
+    pub fn play_into(&mut self, trace: &[u8], results: &mut [u8]) -> Result<usize, Refusal> {
+        let (image, g) = (self.image.as_mut(), self.geometry);
+        let (mut calls, mut byte, mut bit) = (0, 0, 0);
+        // SAFETY: the slices are live references, those written to exclusive; the outgoing numbers are locals.
+        let played = accepted(|fault_slot| unsafe {
+            sys::genie_play(
+                image.as_mut_ptr(),
+                image.len(),
+                g.blocks,
+                g.units,
+                g.start,
+                g.open_code,
+                g.system_disk,
+                trace.as_ptr(),
+                trace.len(),
+                results.as_mut_ptr(),
+                results.len(),
+                &mut calls,
+                &mut byte,
+                &mut bit,
+                fault_slot,
+            )
+        });
+        match played {
+            Err(Refusal::Trace(_)) => Err(Refusal::Trace(TracePlace { byte, bit: bit as u8 })),
+            played => played.map(|()| calls),
+        }
     }
 }

@@ -46,6 +46,7 @@ mod program;
 mod refusal;
 mod room;
 mod sys;
+mod trace;
 
 pub use damaged::{
     ByteChange, Detail, Doubt, Doubtful, Dropped, FaultFound, Faults, FileFound, Mended, Remedy, Rescued, Step,
@@ -61,5 +62,6 @@ pub use handle::Handle;
 pub use map::{markup_text, Cell, Drawing, Holds, Map, MappedFile, Part};
 pub use name::{BadName, Name};
 pub use program::{Loaded, Piece, Program, RefusedLoad, LOAD_BYTES};
-pub use refusal::Refusal;
+pub use refusal::{Refusal, TracePlace};
 pub use room::{Growth, Slots};
+pub use trace::{Call, Recorded, Trace, Unpackable};

@@ -1,6 +1,30 @@
 use crate::{Fault, FaultKind, Name};
 use std::fmt;
 
+/// Where a trace is bad: the first bit of its first bad field, or its end where it breaks off; so many whole bytes, and so
+/// many bits, 0 to 7, behind its beginning.
+#[derive(Clone, Copy, Debug, PartialEq, Eq, Hash)]
+pub struct TracePlace {
+    /// Whole bytes.
+    pub byte: usize,
+    /// Bits behind them.
+    pub bit: u8,
+}
+
+impl TracePlace {
+    /// The number of the bit, counted from 0.
+    pub fn position(self) -> u128 {
+        8 * self.byte as u128 + u128::from(self.bit)
+    }
+}
+
+/// `bit 99`.
+impl fmt::Display for TracePlace {
+    fn fmt(&self, f: &mut fmt::Formatter<'_>) -> fmt::Result {
+        write!(f, "bit {}", self.position())
+    }
+}
+
 /// Why the library refused a call. A refused call has changed nothing.
 ///
 /// Where several reasons apply the library gives the first in the order of test, which is the order of [`Refusal::ALL`].
@@ -45,6 +69,10 @@ pub enum Refusal {
     Geometry,
     /// 21 to 30: the disk is not consistent, by this fault.
     Inconsistent(Fault),
+    /// 14: the trace is malformed, at this place (play back).
+    Trace(TracePlace),
+    /// 15: fewer bytes for results than the trace has calls (play back).
+    NoRoom,
     /// 12: a position, length, level, date or sector out of range, a buffer shorter than the record, or a slot that the
     /// directory has not.
     Range,
@@ -90,7 +118,7 @@ pub enum Refusal {
 impl Refusal {
     /// The numbers that the library gives today, in the order in which it tests; those of faults without their slots, a name's
     /// without its place.
-    pub const ALL: [Refusal; 28] = [
+    pub const ALL: [Refusal; 30] = [
         Refusal::Geometry,
         Refusal::Inconsistent(Fault::of_disk(FaultKind::DirectoryLength)),
         Refusal::Inconsistent(Fault::of_disk(FaultKind::HitAgainstEntry)),
@@ -102,6 +130,8 @@ impl Refusal {
         Refusal::Inconsistent(Fault::of_disk(FaultKind::GranuleShared)),
         Refusal::Inconsistent(Fault::of_disk(FaultKind::Size)),
         Refusal::Inconsistent(Fault::of_disk(FaultKind::DirectoryGranule)),
+        Refusal::Trace(TracePlace { byte: 0, bit: 0 }),
+        Refusal::NoRoom,
         Refusal::Range,
         Refusal::Name { place: None },
         Refusal::Stale,
@@ -136,6 +166,8 @@ impl Refusal {
             Refusal::PastEnd => 10,
             Refusal::NoGrowth => 11,
             Refusal::Range => 12,
+            Refusal::Trace(_) => 14,
+            Refusal::NoRoom => 15,
             Refusal::SlotInUse => 17,
             Refusal::NothingWhole => 18,
             Refusal::NameInUse => 19,
@@ -211,6 +243,8 @@ impl Refusal {
             Refusal::PastEnd => "read past the end of the file",
             Refusal::NoGrowth => "file may not grow: its flag E is set",
             Refusal::Range => "position, length, level, date or sector out of range",
+            Refusal::Trace(_) => "trace malformed",
+            Refusal::NoRoom => "no room for the results",
             Refusal::SlotInUse => "slot in use",
             Refusal::NothingWhole => "nothing whole to bring back",
             Refusal::NameInUse => "name in use",
@@ -233,6 +267,9 @@ impl fmt::Display for Refusal {
         if let Some(place) = self.place() {
             write!(f, "; place {place}")?;
         }
+        if let Refusal::Trace(place) = self {
+            write!(f, "; {place}")?;
+        }
         f.write_str(")")
     }
 }
@@ -246,7 +283,7 @@ mod tests {
     #[test]
     fn every_number_has_its_refusal_and_its_own_text() {
         let mut texts = Vec::new();
-        for number in [1].into_iter().chain(3..=12).chain(17..=33) {
+        for number in [1].into_iter().chain(3..=12).chain(14..=15).chain(17..=33) {
             let refusal = Refusal::from_number(number).unwrap();
             assert_ne!(refusal, Refusal::Other(number));
             assert_eq!(refusal.number(), number);
@@ -285,7 +322,7 @@ mod tests {
         let numbers: Vec<u8> = Refusal::ALL.iter().map(|r| r.number()).collect();
         assert_eq!(
             numbers,
-            [1, 21, 22, 23, 24, 25, 26, 27, 28, 29, 30, 12, 3, 7, 4, 5, 17, 6, 31, 32, 33, 10, 11, 9, 8, 18, 19, 20]
+            [1, 21, 22, 23, 24, 25, 26, 27, 28, 29, 30, 14, 15, 12, 3, 7, 4, 5, 17, 6, 31, 32, 33, 10, 11, 9, 8, 18, 19, 20]
         );
     }
 }

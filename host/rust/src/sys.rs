@@ -211,6 +211,25 @@ extern "C" {
         fault_slot: *mut usize,
     ) -> u8;
 
+    pub fn genie_play(
+        image: *mut u8,
+        image_len: usize,
+        blocks: usize,
+        units: usize,
+        start: usize,
+        open_code: u16,
+        system_disk: bool,
+        granule_sectors: usize,
+        trace: *const u8,
+        trace_len: usize,
+        results: *mut u8,
+        results_len: usize,
+        calls: *mut usize,
+        byte: *mut usize,
+        bit: *mut usize,
+        fault_slot: *mut usize,
+    ) -> u8;
+
     pub fn genie_list(
         image: *const u8,
         image_len: usize,

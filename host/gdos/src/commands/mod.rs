@@ -16,6 +16,7 @@ mod map;
 mod mend;
 mod new;
 mod opened;
+mod play;
 mod probe;
 mod put;
 mod report;
@@ -79,6 +80,8 @@ pub const COMMANDS: &[Command] = &[
     rm::COMMAND,
     undelete::COMMAND,
     trim::COMMAND,
+    play::COMMAND,
+    play::RECORD,
     free::COMMAND,
     info::COMMAND,
     map::COMMAND,
