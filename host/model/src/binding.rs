@@ -17,6 +17,8 @@ pub fn linked() -> Rc<dyn Library> {
 }
 
 // The declarations are the wrapper's; its tests/header.rs holds them against genie.h.
+// They are laid out there, under that crate's width of lines.
+#[rustfmt::skip]
 #[path = "../../rust/src/sys.rs"]
 mod sys;
 
