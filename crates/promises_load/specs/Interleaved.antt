@@ -8,6 +8,7 @@ use Prim.Native.Nat.{ℕ}
 use lib.Dec.{T, T-not, leb}
 use lib.ListN.{length, getD, take, drop, set, replicate, List·getD-map}
 use Rattle.meaning.specs.Lists.{all}
+use Rattle.meaning.specs.Names.{fold}
 use Rattle.meaning.specs.Refusals.{first, noHandle, movedTo, inRange, notForReading, byNumber}
 use Rattle.meaning.specs.Plain.{File, Found, found, nothing, plain, fileAt, isSystem, hush}
 use Rattle.meaning.specs.declared.Geometry.{Geometry}
@@ -43,7 +44,7 @@ tellsOne o (Mixed.loads i b) = taleIn (o .file) (gripAt o i) b ∷ []
 
 abbrev tellsAll : Geometry → Name → List Mixed.Asks → State → List Mixed.Tale
 tellsAll g n [] o = []
-tellsAll g n (x ∷ xs) o = tellsOne o x ++ tellsAll g n xs (effect g n (Mixed.without o x) o)
+tellsAll g n (x ∷ xs) o = tellsOne o x ++ tellsAll g n xs (effect g (fold n) (Mixed.without o x) o)
 
 hush-user : (f : File) → T (not (isSystem f)) → hush (found f) ≡ found f
 unfolding hush
@@ -51,37 +52,37 @@ hush-user f t = rw (Members.no-false {b = isSystem f} (λ u. T-not (isSystem f) 
 
 -- One load read --------------------------------------------------------------------------------------------------------------
 
-module _ (g : Geometry) (n : Name) (d : List ℕ) (s : Side) (held : Held n (s .handles)) (i : ℕ) (b : List ℕ) (l : Mixed.Loads g n d s i b) where
+module _ (g : Geometry) (n : Name) (d : List ℕ) (s : Side) (held : Held (fold n) (s .handles)) (i : ℕ) (b : List ℕ) (l : Mixed.Loads g n d s i b) where
   abbrev h : Handle
   h = handleAt (s .handles) i
 
   passes : first (loadRefusals g d h (length b)) ≡ 0
   passes = unfold loadRecord in l .1
 
-  called : plain g d n ≡ found (fileAt g d (h .slot))
+  called : plain g d (fold n) ≡ found (fileAt g d (h .slot))
   called =
       let own = notForReading h ∷ byNumber (asked g d h .number) loadNumbers in
       let w = Passing.handle-passed g d h (all (inRange g h ∷ leb mostBytes (length b) ∷ [])) own passes .0 in
-      ap (plain g d) (sym (Effects.held-at n (s .handles) i held (l .0)))
+      ap (plain g d) (sym (Effects.held-at (fold n) (s .handles) i held (l .0)))
       ∙ Named.plain-is g d (w .sound) (h .slot) (h .name) (Passing.live-file g d h (w .live)) (w .live .name′)
 
-  file-is : stands g d n ≡ found (fileAt g d (h .slot))
+  file-is : stands g d (fold n) ≡ found (fileAt g d (h .slot))
   unfolding stands
   file-is = ap hush called ∙ hush-user (fileAt g d (h .slot)) (l .2 (fileAt g d (h .slot)) called)
 
-  grip-is : gripAt (stateOf g n d (s .handles)) i ≡ grip h
+  grip-is : gripAt (stateOf g (fold n) d (s .handles)) i ≡ grip h
   grip-is = List·getD-map grip (s .handles) i noHandle
 
-  next-is : Mixed.nextIn (stands g d n) (gripAt (stateOf g n d (s .handles)) i) ≡ asked g d h
+  next-is : Mixed.nextIn (stands g d (fold n)) (gripAt (stateOf g (fold n) d (s .handles)) i) ≡ asked g d h
   next-is = ap₂ Mixed.nextIn file-is grip-is ∙ (unfold Mixed.nextIn in refl)
 
-  pub moved-is : Mixed.loading g d s i b .0 .handle ≡ movedTo h (Mixed.nextIn (stands g d n) (gripAt (stateOf g n d (s .handles)) i) .next)
+  pub moved-is : Mixed.loading g d s i b .0 .handle ≡ movedTo h (Mixed.nextIn (stands g d (fold n)) (gripAt (stateOf g (fold n) d (s .handles)) i) .next)
   moved-is = told ∙ ap (λ (r : NextRecord). movedTo h (r .next)) (sym next-is)
     where
       told : Mixed.loading g d s i b .0 .handle ≡ movedTo h (asked g d h .next)
       told = unfold loadRecord in rw passes refl
 
-  pub tale-is : Mixed.taleOf (Mixed.loading g d s i b) ≡ taleIn (stands g d n) (gripAt (stateOf g n d (s .handles)) i) b
+  pub tale-is : Mixed.taleOf (Mixed.loading g d s i b) ≡ taleIn (stands g d (fold n)) (gripAt (stateOf g (fold n) d (s .handles)) i) b
   tale-is = told ∙ sym (ap₂ (λ (x : Found) (k : Grip). taleIn x k b) file-is grip-is ∙ (unfold Mixed.nextIn in refl))
     where
       told : Mixed.taleOf (Mixed.loading g d s i b)
@@ -132,7 +133,7 @@ record Runs (g : Geometry) (a b : Name) (w : World) (p q : List Mixed.Tale) (xs 
   pub first′ : Mixed.atEnd g a b (reading w p q) zs .first ≡ p ++ tellsAll g a xs (stateIn g a w)
   pub second′ : Mixed.atEnd g a b (reading w p q) zs .second ≡ q ++ tellsAll g b ys (stateIn g b (swap w))
 
-runs : (g : Geometry) (a b : Name) → a ≢ b → {xs ys : List Mixed.Asks} {zs : List Mixed.Move} → Mixed.Mixed xs ys zs
+runs : (g : Geometry) (a b : Name) → fold a ≢ fold b → {xs ys : List Mixed.Asks} {zs : List Mixed.Move} → Mixed.Mixed xs ys zs
     → (w : World) (p q : List Mixed.Tale) → Fine g a b w → Mixed.AllAdmitted g a b (reading w p q) zs → Runs g a b w p q xs ys zs
 runs g a b ab Mixed.Mixed.none w p q k t =
     record { laid = Interleaving.none; accepted = tt; world = refl; first′ = sym (append-nil p); second′ = sym (append-nil q) }

@@ -10,6 +10,7 @@ use mathlib.Core.Bool.{not, true}
 use mathlib.Core.List.{List, [], _∷_, _++_}
 use lib.Dec.{T, ltb}
 use lib.ListN.{length, take, drop}
+use Rattle.meaning.specs.Names.{fold}
 use Rattle.meaning.specs.Layout.{fitsGeometry}
 use Rattle.meaning.specs.Consistent.{consistent}
 use Rattle.meaning.specs.Plain.{File, Found, found, nothing, plain, isSystem}
@@ -58,9 +59,9 @@ begin d = record { world = start d; first = []; second = [] }
 abbrev pub loading : Geometry → List ℕ → Side → ℕ → List ℕ → Loaded × List ℕ
 loading g d s i b = loadRecord g d (handleAt (s .handles) i) b
 
--- the file of that name is no system file
+-- the file of that name, folded as it comes in, is no system file
 abbrev pub User : Geometry → Name → List ℕ → Type 0
-User g n d = (f : File) → plain g d n ≡ found f → T (not (isSystem f))
+User g n d = (f : File) → plain g d (fold n) ≡ found f → T (not (isSystem f))
 
 -- a load read names a handle that its list has, is accepted, and is of no system file
 abbrev pub Loads : Geometry → Name → List ℕ → Side → ℕ → List ℕ → Type 0
@@ -112,7 +113,7 @@ without o (loads i x) = moves i (nextIn (o .file) (gripAt o i) .next)
 -- a list without its load reads
 abbrev pub stripped : Geometry → Name → List Asks → State → List Step
 stripped g n [] o = []
-stripped g n (x ∷ xs) o = without o x ∷ stripped g n xs (effect g n (without o x) o)
+stripped g n (x ∷ xs) o = without o x ∷ stripped g n xs (effect g (fold n) (without o x) o)
 
 -- an interleaving without its load reads
 module _ (g : Geometry) (a b : Name) where
@@ -133,7 +134,7 @@ pub record AgreeLoading (g : Geometry) (a b : Name) (d : List ℕ) (xs ys : List
 
 abbrev pub Demand3Loading : Type 0
 Demand3Loading =
-    (g : Geometry) (a b : Name) → a ≢ b → (d : List ℕ) → fitsGeometry g d ≡ true → consistent g d ≡ true
+    (g : Geometry) (a b : Name) → fold a ≢ fold b → (d : List ℕ) → fitsGeometry g d ≡ true → consistent g d ≡ true
     → (xs ys : List Asks) (zs zs′ : List Move) → Mixed xs ys zs → Mixed xs ys zs′
     → AllAdmitted g a b (begin d) zs → AllAdmitted g a b (begin d) zs′
     → AgreeLoading g a b d xs ys zs (atEnd g a b (begin d) zs) (atEnd g a b (begin d) zs′)

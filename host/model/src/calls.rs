@@ -97,7 +97,7 @@ fn place(g: &Geometry, granules: &[usize], i: usize) -> usize {
 /// All bytes of a file.
 pub(crate) fn contents(image: &[u8], g: &Geometry, d: usize, file: u8) -> Vec<u8> {
     let granules = owned(image, g, d, file);
-    (0..size_of(image, g, file)).map(|i| image[place(&granules, i)]).collect()
+    (0..size_of(image, g, file)).map(|i| image[place(g, &granules, i)]).collect()
 }
 
 /// Check: 0, 1, or 21 to 30.

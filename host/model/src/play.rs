@@ -128,11 +128,11 @@ fn made(image: &mut [u8], g: &Geometry, name: &[u8], call: &Recorded) -> Number 
     if call.operation == 1 {
         let birth =
             Birth { day: 0, month: 0, year: 0, length: call.length, main_code: 0, worker_code: 0, checking: false };
-        return calls::create(image, g, name, &birth, &mut 0, &mut handle);
+        return calls::create(image, g, name, &birth, &mut 0, &mut handle, &mut 0);
     }
     // "handles come from a fresh open before each call but create, with the call's length, or 256 where it uses none"
     let length = if uses(call.operation, 3) { call.length } else { 256 };
-    let opened = calls::open(image, g, name, length, false, 0, &mut handle);
+    let opened = calls::open(image, g, name, length, false, 0, &mut handle, &mut 0);
     // "a refused open is that call's result"
     if opened != 0 {
         return opened;

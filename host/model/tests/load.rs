@@ -3,7 +3,7 @@
 use genie_model::by_hand::{change, put_extension, put_file};
 use genie_model::calls::{Number, ACCEPTED, LEVEL, RANGE, STALE};
 use genie_model::disks::{empty_disk, Disk};
-use genie_model::geometry::{Geometry, GRANULE_BYTES};
+use genie_model::geometry::Geometry;
 use genie_model::handle::{Handle, HANDLE_BYTES};
 use genie_model::library::{libraries, Library};
 use genie_model::load::{cut, told, Told};
@@ -12,12 +12,15 @@ use genie_model::random::Random;
 
 const SLOT: u8 = 0x80;
 
+/// Bytes of a granule of five sectors.
+const GRANULE_BYTES: usize = 1280;
+
 /// The file's granules, scattered; the last two are an extension's.
 const GRANULES: [usize; 6] = [31, 2, 20, 5, 9, 12];
 
 /// A disk with one file of these bytes.
 fn disk_with(bytes: &[u8]) -> Disk {
-    let g = Geometry { blocks: 16, units: 2, start: 80, open_code: 0, system_disk: true };
+    let g = Geometry { blocks: 16, units: 2, start: 80, open_code: 0, system_disk: true, granule_sectors: 5 };
     let mut disk = empty_disk(g, 10, &[0]);
     let runs = GRANULES.map(|granule| (granule, 1));
     put_file(&mut disk, SLOT, "PULS/CMD", &runs[..4]);

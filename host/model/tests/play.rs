@@ -14,7 +14,11 @@ use genie_model::random::Random;
 use std::time::Instant;
 
 fn blank() -> Disk {
-    empty_disk(Geometry { blocks: 16, units: 2, start: 80, open_code: 0, system_disk: true }, 10, &[0])
+    empty_disk(
+        Geometry { blocks: 16, units: 2, start: 80, open_code: 0, system_disk: true, granule_sectors: 5 },
+        10,
+        &[0],
+    )
 }
 
 /// All that the call tells and leaves.
@@ -211,10 +215,10 @@ fn singly(library: &dyn Library, image: &mut [u8], g: &Geometry, name: &[u8], on
     if one.operation == 1 {
         let birth =
             Birth { day: 0, month: 0, year: 0, length: one.length, main_code: 0, worker_code: 0, checking: false };
-        return library.create(image, g, name, &birth, &mut old, &mut handle, &mut slot);
+        return library.create(image, g, name, &birth, &mut old, &mut handle, &mut 0, &mut slot);
     }
     let length = if matches!(one.operation, 2 | 3 | 7) { one.length } else { 256 };
-    let opened = library.open(image, g, name, length, false, 0, &mut handle, &mut slot);
+    let opened = library.open(image, g, name, length, false, 0, &mut handle, &mut 0, &mut slot);
     if opened != 0 {
         return opened;
     }
@@ -237,7 +241,7 @@ fn singly(library: &dyn Library, image: &mut [u8], g: &Geometry, name: &[u8], on
 fn a_thousand_calls() {
     let linked = genie_model::binding::linked();
     let mut random = Random::new(66);
-    let g = Geometry { blocks: 80, units: 4, start: 160, open_code: 0, system_disk: true };
+    let g = Geometry { blocks: 80, units: 4, start: 160, open_code: 0, system_disk: true, granule_sectors: 5 };
     let disk = random_disk_of(&mut random, g, 30);
     let there: Vec<Vec<u8>> = files_of(&disk.image, &g).keys().map(|n| n.to_vec()).collect();
     let names: Vec<Vec<u8>> = there.iter().take(32).cloned().collect();

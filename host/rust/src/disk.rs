@@ -831,6 +831,7 @@ impl<B: AsMut<[u8]>> Disk<B> {
                 g.start,
                 g.open_code,
                 g.system_disk,
+                g.granule_sectors,
                 trace.as_ptr(),
                 trace.len(),
                 results.as_mut_ptr(),

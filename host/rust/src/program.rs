@@ -101,6 +101,7 @@ impl<B: AsRef<[u8]>> Disk<B> {
                 g.start,
                 g.open_code,
                 g.system_disk,
+                g.granule_sectors,
                 lent.as_mut_ptr(),
                 lent.len(),
                 buffer.as_mut_ptr(),
