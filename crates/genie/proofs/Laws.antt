@@ -56,12 +56,15 @@ moved b a x h e q =
     ∙ ap (λ (t : Bool). (a .refusal .number, a .refusal .at, cond t (stored b (a .handle)) b, x)) (sym (eq-eqb (a .refusal .number) 0 h)) ∙ ap (moves b) q
 
 -- the slot and the place that go out with a refusal of a call by name
-pub opened : (b : List ℕ) (a : Answer) {a′ : Answer} {s p : ℕ} {b′ : List ℕ} → s ≡ slotTold (a .refusal) → p ≡ placeOf (a .refusal) → b′ ≡ stored b (a .handle) → a ≡ a′
+pub opened : (b : List ℕ) (a : Answer) {a′ : Answer} {s p : ℕ} {b′ : List ℕ} → s ≡ slotTold (a .refusal) → p ≡ placeOf (a .refusal)
+    → b′ ≡ stored b (a .handle) → a ≡ a′
     → _≡_ {A = ℕ × ℕ × ℕ × List ℕ} (a .refusal .number, s, p, b′) (opens b a′)
 opened b a e f h q = (λ i. (a .refusal .number, e i, f i, h i)) ∙ ap (opens b) q
 
-pub created : (b d′ : List ℕ) (c : Created) {p : Created × List ℕ} {s k n : ℕ} {b′ : List ℕ} → s ≡ slotTold (c .refusal) → k ≡ placeOf (c .refusal) → n ≡ told (c .old)
-    → b′ ≡ stored b (c .handle) → _≡_ {A = Created × List ℕ} (c, d′) p → _≡_ {A = ℕ × ℕ × ℕ × ℕ × List ℕ × List ℕ} (c .refusal .number, s, k, n, b′, d′) (creates b p)
+pub created : (b d′ : List ℕ) (c : Created) {p : Created × List ℕ} {s k n : ℕ} {b′ : List ℕ} → s ≡ slotTold (c .refusal) → k ≡ placeOf (c .refusal)
+    → n ≡ told (c .old)
+    → b′ ≡ stored b (c .handle) → _≡_ {A = Created × List ℕ} (c, d′) p
+    → _≡_ {A = ℕ × ℕ × ℕ × ℕ × List ℕ × List ℕ} (c .refusal .number, s, k, n, b′, d′) (creates b p)
 created b d′ c e f h m q = (λ i. (c .refusal .number, e i, f i, h i, m i, d′)) ∙ ap (creates b) q
 
 pub looked : (l : LookedUp) {l′ : LookedUp} {s p : ℕ} → s ≡ slotTold (l .refusal) → p ≡ placeOf (l .refusal) → l ≡ l′

@@ -21,7 +21,7 @@ use Rattle.together_samples.specs.Slots.{differ}
 
 -- 16 blocks of 2 units, the directory at the front in granules 0 and 1
 abbrev sixteen : Geometry
-sixteen = record { blocks = 16; units = 2; start = 0; anyone = 0; system = true }
+sixteen = record { blocks = 16; units = 2; start = 0; anyone = 0; system = true; granule = 5 }
 
 -- the files of the 32 permitted slots, by column and row: PULS01/DAT in slot 80H, LEER in slot 81H, and C0, D0 and so on
 abbrev nameIn : ℕ → ℕ → List ℕ
