@@ -177,7 +177,9 @@ impl Wanted {
         }
         fitting
     }
+}
 
+impl Wanted {
     /// The same by every size of a granule that may be meant, the usual one first.
     pub fn fitting_any_granule(&self, image_len: usize) -> Vec<Geometry> {
         let sizes = if self.says_granule() { 1 } else { Geometry::GRANULE_SIZES.len() };
