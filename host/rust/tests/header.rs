@@ -54,6 +54,6 @@ fn the_same_functions_with_the_same_arguments() {
     let (mut ours, mut theirs) = (rust(), c());
     ours.sort();
     theirs.sort();
-    assert_eq!(ours.len(), 16);
+    assert_eq!(ours.len(), 18);
     assert_eq!(ours, theirs);
 }

@@ -15,7 +15,9 @@ fn a_growth_fits_exactly_where_the_library_takes_it() {
     for number in 0..DISKS {
         let made = random_disk(&mut random);
         let g = made.g;
-        let geometry = Geometry::new(g.blocks, g.units, g.start, g.open_code).with_system_disk(g.system_disk);
+        let geometry = Geometry::new(g.blocks, g.units, g.start, g.open_code)
+            .with_system_disk(g.system_disk)
+            .with_granule_sectors(g.granule_sectors);
         let disk = Disk::new(made.image, geometry);
         let free = disk.free_space().unwrap().free;
         for entry in disk.entries().unwrap().iter().filter(|entry| !entry.is_system() && !entry.may_not_grow()).take(6)

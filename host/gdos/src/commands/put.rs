@@ -284,7 +284,7 @@ impl fmt::Display for Wants {
 /// call: so where the lowest free ones would be too scattered for the slots that are left, longer stretches are taken.
 fn write(disk: &mut Disk, typed: &Typed, bytes: &[u8], password: Password) -> Result<(), Refusal> {
     let mut position = 0;
-    if let Some(last) = bytes.len().min(Geometry::MOST_BYTES).checked_sub(1) {
+    if let Some(last) = bytes.len().min(disk.geometry().highest_position()).checked_sub(1) {
         let handle = disk.open(&typed.name, 1, password)?;
         disk.allot(&handle, last / Geometry::SECTOR_BYTES)?;
     }
