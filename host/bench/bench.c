@@ -4,6 +4,7 @@
  * bench same                     whether genie and fast answer alike and leave image, handle, buffer and numbers alike, for each call
  *                                on each disk, take the same bytes for the same names, and tell the same fault of damaged disks
  * bench second                   whether genie serves the growths by the second choice, which fast has not
+ * bench played                   whether genie plays a session back as it makes its calls one by one; fast has no such call
  * bench names                    the calls, then the disks, a line each: name and title
  * bench image DISK FILE          writes the disk to a file and says its geometry
  */
@@ -72,11 +73,12 @@ static const struct library libraries[] = {
     { "none", LIBRARY_CALLS(NOTHING) },
 };
 
-/* What is measured. The last ten are no calls of their own: four are for the cost of a byte, two for a disk with a fault, four for a
- * growth by the second choice (02 §13), which the C does not have. */
+/* What is measured. The last twelve are no rows of their own: four are for the cost of a byte, two for a disk with a fault, four for a
+ * growth by the second choice (02 §13) and two for a session played back (02 §6), which the C does not have. */
 enum what {
     CHECK, LOOK_UP, OPEN, CREATE, READ, SECTOR, WRITE, APPEND, ALLOT, TRIM, KILL, LIST, COUNT, COMPARE,
-    READ_1, WRITE_1, FILL_0, FILL_1000, CHECK_FAULT, LOOK_UP_FAULT, CHECK_SECOND, ALLOT_SECOND, CHECK_MOST, ALLOT_MOST, WHATS
+    READ_1, WRITE_1, FILL_0, FILL_1000, CHECK_FAULT, LOOK_UP_FAULT, CHECK_SECOND, ALLOT_SECOND, CHECK_MOST, ALLOT_MOST,
+    PLAY, SINGLY, WHATS
 };
 
 static const struct {
@@ -107,6 +109,8 @@ static const struct {
     [ALLOT_SECOND] = { "allot_second", "allot 170 granules by the second choice", true },
     [CHECK_MOST] = { "check_most", "check, the file has two entries", false },
     [ALLOT_MOST] = { "allot_most", "allot 762 granules by the second choice", true },
+    [PLAY] = { "play", "play back 1,000 calls", true },
+    [SINGLY] = { "singly", "the same calls, one by one, each opened anew", true },
 };
 
 enum { SECTOR_BYTES = 256, LONGEST_DIRECTORY = 30 * SECTOR_BYTES };
@@ -122,6 +126,11 @@ struct work {
     uint8_t answer, handle[GENIE_HANDLE_BYTES], buffer[256], name[GENIE_NAME_BYTES];
     size_t numbers[4], place, fault_slot;
 };
+
+/* A session of reads of 256 bytes and random writes of 16, in turn, along one file: as a trace, and one by one. */
+enum { CALLS = 1000, READ_BYTES = 256, WRITTEN = 16, TRACE_CALL = 7, TRACE_WRITE = 3, TRACE_READ = 7 };
+static uint8_t session[1 + GENIE_NAME_BYTES + TRACE_CALL * (CALLS + 1)], results[CALLS];
+extern __typeof__(genie_play) genie_play __attribute__((weak)); /* a stand-in has none */
 
 static void stop(const char *why)
 {
@@ -171,6 +180,31 @@ static void splinter(struct work *w, size_t entries)
     w->k = d->granule_sectors * (4 * entries + 4 * (PERMITTED - entries) + 2) - 1;
 }
 
+static bool writes(size_t call)
+{
+    return call % 2;
+}
+
+static size_t position_of(const struct bench_disk *d, size_t call)
+{
+    return call * WRITTEN % (d->subject_size - READ_BYTES);
+}
+
+static void record(const struct bench_disk *d)
+{
+    uint8_t *at = session;
+    memset(session, 0, sizeof session); /* so the last call is the end mark */
+    *at++ = 1;
+    memcpy(at, d->subject, GENIE_NAME_BYTES);
+    at += GENIE_NAME_BYTES;
+    for (size_t i = 0; i < CALLS; i++, at += TRACE_CALL) {
+        const size_t position = position_of(d, i), length = writes(i) ? WRITTEN : READ_BYTES, fill = writes(i) ? i % 256 : 0;
+        const size_t rest = length << 15 | fill << 7;
+        at[0] = (uint8_t)((writes(i) ? TRACE_WRITE : TRACE_READ) << 5);
+        for (size_t k = 0; k < 3; k++) at[1 + k] = (uint8_t)(position >> (16 - 8 * k)), at[4 + k] = (uint8_t)(rest >> (16 - 8 * k));
+    }
+}
+
 static void prepare(struct work *w, enum what what, size_t disk)
 {
     memset(w, 0, sizeof *w);
@@ -198,6 +232,8 @@ static void prepare(struct work *w, enum what what, size_t disk)
     case ALLOT_SECOND: splinter(w, 150); break;
     case CHECK_MOST:
     case ALLOT_MOST: splinter(w, 2); break;
+    case PLAY:
+    case SINGLY: record(d); break;
     default: break;
     }
     w->fresh[0] = (uint8_t)d->subject_slot;
@@ -209,11 +245,31 @@ static void prepare(struct work *w, enum what what, size_t disk)
     memcpy(w->directory, d->image + d->start * SECTOR_BYTES, w->directory_len);
 }
 
-/* One call, on the disk as it stood at first. (What a write puts into the file's sectors is the same each time.) */
-static void once(struct work *w, const struct library *lib)
+/* The session's calls, one by one: each opens the file, sets the position and reads or writes. The first refusal ends it. */
+static uint8_t singly(struct work *w, const struct library *lib)
 {
 #define DISK d->image, d->image_len, d->blocks, d->units, d->start, d->open_code, true, d->granule_sectors
 #define HANDLE w->handle, sizeof w->handle
+    struct bench_disk *const d = &w->disk;
+    uint8_t answer = 0;
+    for (size_t i = 0; i < CALLS && !answer; i++) {
+        const size_t position = position_of(d, i), length = writes(i) ? WRITTEN : READ_BYTES;
+        answer = lib->open(DISK, d->subject, sizeof d->subject, length, false, 0, HANDLE, &w->place, &w->fault_slot);
+        if (answer) break;
+        for (size_t k = 0; k < 4; k++) w->handle[4 + k] = (uint8_t)(position >> 8 * k);
+        if (writes(i)) {
+            memset(w->buffer, (int)(i % 256), WRITTEN);
+            answer = lib->write_record(DISK, HANDLE, false, w->buffer, sizeof w->buffer, &w->fault_slot);
+        } else {
+            answer = lib->read_record(DISK, HANDLE, w->buffer, sizeof w->buffer, &w->fault_slot);
+        }
+    }
+    return answer;
+}
+
+/* One call, on the disk as it stood at first. (What a write puts into the file's sectors is the same each time.) */
+static void once(struct work *w, const struct library *lib)
+{
     struct bench_disk *const d = &w->disk;
     if (whats[w->what].changes) memcpy(d->image + d->start * SECTOR_BYTES, w->directory, w->directory_len);
     memcpy(w->handle, w->fresh, sizeof w->handle);
@@ -249,6 +305,12 @@ static void once(struct work *w, const struct library *lib)
     case COMPARE:
         w->answer = lib->compare(DISK, DISK, 0, w->name, sizeof w->name, &w->numbers[0], &w->numbers[1], &w->numbers[2], &w->numbers[3], &w->fault_slot);
         break;
+    case PLAY:
+        if (lib != &libraries[0]) break;
+        if (!genie_play) stop("this library plays nothing back");
+        w->answer = genie_play(DISK, session, sizeof session, results, sizeof results, &w->numbers[0], &w->numbers[1], &w->numbers[2], &w->fault_slot);
+        break;
+    case SINGLY: w->answer = singly(w, lib); break;
     case WHATS: break;
     }
 }
@@ -359,7 +421,7 @@ static int second(void)
 {
     static struct work w;
     int refused = 0;
-    for (enum what what = CHECK_SECOND; what < WHATS; what++) {
+    for (enum what what = CHECK_SECOND; what < PLAY; what++) {
         prepare(&w, what, named("scattered", bench_disk_names, BENCH_DISKS, "disk"));
         once(&w, &libraries[0]);
         printf("%s: %d\n", whats[what].name, w.answer);
@@ -367,6 +429,24 @@ static int second(void)
         free(w.disk.image);
     }
     return refused;
+}
+
+/* Whether a session played back leaves what its calls leave one by one, each of them accepted. */
+static int played(void)
+{
+    static struct work a, b;
+    const size_t disk = named("typical", bench_disk_names, BENCH_DISKS, "disk");
+    prepare(&a, PLAY, disk);
+    prepare(&b, SINGLY, disk);
+    once(&a, &libraries[0]);
+    once(&b, &libraries[0]);
+    size_t refused = 0;
+    for (size_t i = 0; i < CALLS; i++) refused += results[i] != 0;
+    const bool alike = a.disk.image_len == b.disk.image_len && !memcmp(a.disk.image, b.disk.image, a.disk.image_len);
+    printf("played back: %d, %zu calls, %zu refused; one by one: %d; images %s\n", a.answer, a.numbers[0], refused, b.answer, alike ? "alike" : "UNLIKE");
+    free(a.disk.image);
+    free(b.disk.image);
+    return a.answer || b.answer || refused || a.numbers[0] != CALLS || !alike;
 }
 
 /* Whether the two tell the same fault of damaged disks: random bytes of the directory are changed, a few at a time. */
@@ -422,6 +502,7 @@ int main(int argc, char **argv)
 
     if (argc == 2 && !strcmp(argv[1], "same")) return same() | same_names() | same_faults();
     if (argc == 2 && !strcmp(argv[1], "second")) return second();
+    if (argc == 2 && !strcmp(argv[1], "played")) return played();
     if (argc == 2 && !strcmp(argv[1], "names")) {
         for (size_t i = 0; i < WHATS; i++) printf("call %s %s\n", whats[i].name, whats[i].title);
         for (size_t i = 0; i < BENCH_DISKS; i++) printf("disk %s %s\n", bench_disk_names[i], bench_disk_titles[i]);
