@@ -21,16 +21,16 @@ use Rattle.layout.specs.Room.{Room, Slot}
 use Rattle.layout.proofs.Lists.{not-yes, not-no, first-hit, first-skip, first-none}
 use Rattle.handle.proofs.Laws.{check-stop, check-then}
 use Rattle.seek.proofs.Frame.{Same}
-use Rattle.find.specs.Found.{Finds}
-use Rattle.find.specs.declared.Found.{Found}
-use Rattle.find.proofs.Laws.{finds-none, finds-one}
-use Rattle.taken.specs.Listed.{firstOf, Listed}
-use Rattle.killed.specs.Line.{Written}
+use Rattle.look_up.specs.Found.{Finds}
+use Rattle.look_up.specs.declared.Found.{Found}
+use Rattle.look_up.proofs.Laws.{finds-none, finds-one}
+use Rattle.back_taken.specs.Listed.{firstOf, Listed}
+use Rattle.back_chain.specs.Line.{Written}
 use Rattle.bring_back.specs.Plan.{Plans}
 use Rattle.bring_back.specs.declared.Planned.{Planned}
-use Rattle.killed.proofs.First.{first-length}
-use Rattle.restore.proofs.Frame.{same-taken}
-use Rattle.taken.proofs.OnDisk.{same-on-disk, under-each, listed-in}
+use Rattle.back_chain.proofs.First.{first-length}
+use Rattle.back_write.proofs.Frame.{same-taken}
+use Rattle.back_taken.proofs.OnDisk.{same-on-disk, under-each, listed-in}
 use Rattle.entry.proofs.Laws.{name-is}
 
 module _ (g : Geometry) (d : List ℕ) (s : ℕ) where

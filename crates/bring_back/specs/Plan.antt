@@ -11,7 +11,7 @@ use Rattle.meaning.specs.BringBack
 use Rattle.meaning.specs.declared.Geometry.{Geometry}
 use Rattle.layout.specs.Room.{Room}
 use Rattle.bring_back.specs.declared.Planned.{Planned}
-use Rattle.killed.specs.Line.{Written}
+use Rattle.back_chain.specs.Line.{Written}
 
 -- The number of the call, and where it is accepted all that it writes.
 pub record Plans (g : Geometry) (d : List ℕ) (s : ℕ) (es : List ℕ) (r : Planned) : Type 0 where

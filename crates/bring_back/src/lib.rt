@@ -52,25 +52,25 @@ fn plan(
     if entry::flag(image, g, s, 6) {
         return refused(6);
     }
-    let l = killed::whole(image, g, s, entries);
+    let l = back_chain::whole(image, g, s, entries);
     if !l.ok {
         return refused(18);
     }
     let a = 256 * (g.start + 2 + s % 32) + 32 * (s / 32) + 5;
     let e = a + 11;
     let name = &image[a..e];
-    let f = find::find(image, g, name);
+    let f = look_up::find(image, g, name);
     if f.is {
         return refused(19);
     }
-    if taken::any_taken(image, g, entries, l.slots) {
+    if back_taken::any_taken(image, g, entries, l.slots) {
         return refused(20);
     }
     Planned {
         number: 0,
         slots: l.slots,
         granules: l.granules,
-        hash: hash::hash(name),
+        hash: name_hash::hash(name),
     }
 }
 
@@ -88,8 +88,8 @@ pub fn bring_back_checked(image: &mut [u8], g: Geometry, s: usize, checked: Refu
             granules: 0,
         };
     }
-    restore::take_all(image, g, &entries, p.slots);
-    restore::back_all(image, g, &entries, p.slots, p.hash);
+    back_write::take_all(image, g, &entries, p.slots);
+    back_write::back_all(image, g, &entries, p.slots, p.hash);
     BroughtBack {
         refusal: refusal::carried(checked, 0),
         slots: p.slots,

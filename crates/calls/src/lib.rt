@@ -15,7 +15,7 @@ use meaning::NewFile;
 use meaning::Part;
 use meaning::Refusal;
 use meaning::Space;
-use session::Played;
+use play_session::Played;
 ghost use mathlib.Core.Path.{_≡_};
 ghost use Prim.Native.Nat.{_+_};
 ghost use lib.ListN.{length};
@@ -32,7 +32,7 @@ ghost use Rattle.meaning.specs.Kill.{kill};
 ghost use Rattle.meaning.specs.BringBack.{bringBack};
 ghost use Rattle.meaning.specs.Listing.{list, counts};
 ghost use Rattle.meaning.specs.FreeSpace.{freeSpace};
-ghost use Rattle.session.specs.Playing.{play};
+ghost use Rattle.play_session.specs.Playing.{play};
 ghost use Rattle.read.specs.Part.{partOf, Lies};
 ghost use Rattle.differences.specs.Compare.{compare};
 ghost use Rattle.load.specs.Load.{loadRecord};
@@ -41,15 +41,15 @@ ghost use Rattle.load.specs.Load.{loadRecord};
 pub fn check(image: &[u8], g: Geometry) -> Refusal
     ensures { λ r. ⌜ r ≡ check g (now (image .entry)) ⌝ }
 {
-    diagnosis::check(image, g)
+    fault_diagnosis::check(image, g)
 }
 
 // Look up: the slot of the file of that name, and how many entries were compared.
 pub fn look_up(image: &[u8], g: Geometry, name: &[u8]) -> LookedUp
     ensures { λ r. ⌜ r ≡ lookUp g (now (image .entry)) (now (name .entry)) ⌝ }
 {
-    let checked = diagnosis::check(image, g);
-    find::look_up_checked(image, g, name, checked)
+    let checked = fault_diagnosis::check(image, g);
+    look_up::look_up_checked(image, g, name, checked)
 }
 
 // Open: a handle of the file of that name.
@@ -63,15 +63,15 @@ pub fn open_file(
 ) -> Answer
     ensures { λ r. ⌜ r ≡ open′ g (now (image .entry)) (now (name .entry)) len checking code ⌝ }
 {
-    let checked = diagnosis::check(image, g);
-    find::open_checked(image, g, name, len, checking, code, checked)
+    let checked = fault_diagnosis::check(image, g);
+    look_up::open_checked(image, g, name, len, checking, code, checked)
 }
 
 // Create: an existing file is opened, else an empty one is made.
 pub fn create(image: &mut [u8], g: Geometry, name: &[u8], f: NewFile, checking: bool) -> Created
     ensures { λ r. ⌜ (r, now (image .exit)) ≡ create g (now (image .entry)) (now (name .entry)) f checking ⌝ }
 {
-    let checked = diagnosis::check(image, g);
+    let checked = fault_diagnosis::check(image, g);
     create::create_checked(image, g, name, f, checking, checked)
 }
 
@@ -79,7 +79,7 @@ pub fn create(image: &mut [u8], g: Geometry, name: &[u8], f: NewFile, checking: 
 pub fn read_record(image: &[u8], g: Geometry, h: Handle, buffer: &mut [u8]) -> Answer
     ensures { λ r. ⌜ (r, now (buffer .exit)) ≡ readRecord g (now (image .entry)) h (now (buffer .entry)) ⌝ }
 {
-    let checked = diagnosis::check(image, g);
+    let checked = fault_diagnosis::check(image, g);
     read::record_checked(image, g, h, buffer, checked)
 }
 
@@ -88,7 +88,7 @@ pub fn sector_part(image: &[u8], g: Geometry, h: Handle, k: usize) -> Part
     ensures is { λ r. ⌜ r ≡ readSector g (now (image .entry)) h k ⌝ }
     ensures lies { λ r. ⌜ Lies r (length (now (image .entry))) ⌝ }
 {
-    let checked = diagnosis::check(image, g);
+    let checked = fault_diagnosis::check(image, g);
     read::sector_checked(image, g, h, k, checked)
 }
 
@@ -104,7 +104,7 @@ pub fn read_sector<'a>(
     ensures what { λ r. ⌜ (now (number .exit), now (at .exit), now r) ≡ partOf (now (image .entry)) (readSector g (now (image .entry)) h k) ⌝ }
     ensures place_at { λ r. ⌜ ptr r ≡ (ptr (image .entry) .0, ptr (image .entry) .1 + readSector g (now (image .entry)) h k .from) ⌝ }
 {
-    let checked = diagnosis::check(image, g);
+    let checked = fault_diagnosis::check(image, g);
     read::part_checked(image, g, h, k, checked, number, at)
 }
 
@@ -112,7 +112,7 @@ pub fn read_sector<'a>(
 pub fn write_record(image: &mut [u8], g: Geometry, mode: Mode, h: Handle, buffer: &[u8]) -> Answer
     ensures { λ r. ⌜ (r, now (image .exit)) ≡ writeRecord g (now (image .entry)) mode h (now (buffer .entry)) ⌝ }
 {
-    let checked = diagnosis::check(image, g);
+    let checked = fault_diagnosis::check(image, g);
     write::write_checked(image, g, mode, h, buffer, checked)
 }
 
@@ -120,7 +120,7 @@ pub fn write_record(image: &mut [u8], g: Geometry, mode: Mode, h: Handle, buffer
 pub fn allot(image: &mut [u8], g: Geometry, h: Handle, k: usize) -> Answer
     ensures { λ r. ⌜ (r, now (image .exit)) ≡ allot g (now (image .entry)) h k ⌝ }
 {
-    let checked = diagnosis::check(image, g);
+    let checked = fault_diagnosis::check(image, g);
     allot::allot_checked(image, g, h, k, checked)
 }
 
@@ -128,7 +128,7 @@ pub fn allot(image: &mut [u8], g: Geometry, h: Handle, k: usize) -> Answer
 pub fn trim(image: &mut [u8], g: Geometry, h: Handle) -> Answer
     ensures { λ r. ⌜ (r, now (image .exit)) ≡ trim g (now (image .entry)) h ⌝ }
 {
-    let checked = diagnosis::check(image, g);
+    let checked = fault_diagnosis::check(image, g);
     trim::trim_checked(image, g, h, checked)
 }
 
@@ -136,7 +136,7 @@ pub fn trim(image: &mut [u8], g: Geometry, h: Handle) -> Answer
 pub fn kill(image: &mut [u8], g: Geometry, h: Handle) -> Answer
     ensures { λ r. ⌜ (r, now (image .exit)) ≡ kill g (now (image .entry)) h ⌝ }
 {
-    let checked = diagnosis::check(image, g);
+    let checked = fault_diagnosis::check(image, g);
     kill::kill_checked(image, g, h, checked)
 }
 
@@ -144,7 +144,7 @@ pub fn kill(image: &mut [u8], g: Geometry, h: Handle) -> Answer
 pub fn bring_back(image: &mut [u8], g: Geometry, s: usize) -> BroughtBack
     ensures { λ r. ⌜ (r, now (image .exit)) ≡ bringBack g (now (image .entry)) s ⌝ }
 {
-    let checked = diagnosis::check(image, g);
+    let checked = fault_diagnosis::check(image, g);
     bring_back::bring_back_checked(image, g, s, checked)
 }
 
@@ -152,15 +152,15 @@ pub fn bring_back(image: &mut [u8], g: Geometry, s: usize) -> BroughtBack
 pub fn play(image: &mut [u8], g: Geometry, bytes: &[u8], results: &mut [u8]) -> Played
     ensures { λ r. ⌜ (r, now (image .exit), now (results .exit)) ≡ play g (now (image .entry)) (now (bytes .entry)) (now (results .entry)) ⌝ }
 {
-    let checked = diagnosis::check(image, g);
-    playback::play_checked(image, g, bytes, results, checked)
+    let checked = fault_diagnosis::check(image, g);
+    play::play_checked(image, g, bytes, results, checked)
 }
 
 // The listing: one file, by number from 0, then "no more".
 pub fn list(image: &[u8], g: Geometry, number: usize) -> Listed
     ensures { λ r. ⌜ r ≡ list g (now (image .entry)) number ⌝ }
 {
-    let checked = diagnosis::check(image, g);
+    let checked = fault_diagnosis::check(image, g);
     listing::list_checked(image, g, number, checked)
 }
 
@@ -168,7 +168,7 @@ pub fn list(image: &[u8], g: Geometry, number: usize) -> Listed
 pub fn counts(image: &[u8], g: Geometry) -> Counts
     ensures { λ r. ⌜ r ≡ counts g (now (image .entry)) ⌝ }
 {
-    let checked = diagnosis::check(image, g);
+    let checked = fault_diagnosis::check(image, g);
     listing::counts_checked(image, g, checked)
 }
 
@@ -176,15 +176,15 @@ pub fn counts(image: &[u8], g: Geometry) -> Counts
 pub fn free_space(image: &[u8], g: Geometry) -> Space
     ensures { λ r. ⌜ r ≡ freeSpace g (now (image .entry)) ⌝ }
 {
-    gat::free_space(image, g)
+    free_space::free_space(image, g)
 }
 
 // Compare: one difference of two disks, by its running number from 0, then "no more".
 pub fn compare(first: &[u8], g: Geometry, second: &[u8], h: Geometry, number: usize) -> Difference
     ensures { λ r. ⌜ r ≡ compare g (now (first .entry)) h (now (second .entry)) number ⌝ }
 {
-    let checked = diagnosis::check(first, g);
-    let checked2 = diagnosis::check(second, h);
+    let checked = fault_diagnosis::check(first, g);
+    let checked2 = fault_diagnosis::check(second, h);
     compare::compare_checked(first, g, second, h, number, checked, checked2)
 }
 
@@ -192,6 +192,6 @@ pub fn compare(first: &[u8], g: Geometry, second: &[u8], h: Geometry, number: us
 pub fn load_record(image: &[u8], g: Geometry, h: Handle, buffer: &mut [u8]) -> Loaded
     ensures { λ r. ⌜ (r, now (buffer .exit)) ≡ loadRecord g (now (image .entry)) h (now (buffer .entry)) ⌝ }
 {
-    let checked = diagnosis::check(image, g);
+    let checked = fault_diagnosis::check(image, g);
     load_record::load_checked(image, g, h, buffer, checked)
 }

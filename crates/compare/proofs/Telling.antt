@@ -26,10 +26,10 @@ use Rattle.seek.proofs.Sound.{sound}
 use Rattle.differences.specs.Compare.{before, difference, isOne, tellsNone, tellFirst, names, merged, at′, differences, compare}
 use Rattle.differences.specs.Order.{before-less, rising-length, keep-yes, keep-no, keep-whole}
 use Rattle.differences.specs.declared.Difference.{Difference}
-use Rattle.rising.specs.Whole.{Whole, Starts}
-use Rattle.rising.specs.Walk.{later, nameAt, onFirst, onSecond, Next}
-use Rattle.rising.specs.declared.Pair.{Pair}
-use Rattle.rising.proofs.Pairs.{starts-file, merged-in}
+use Rattle.compare_order.specs.Whole.{Whole, Starts}
+use Rattle.compare_order.specs.Walk.{later, nameAt, onFirst, onSecond, Next}
+use Rattle.compare_order.specs.declared.Pair.{Pair}
+use Rattle.compare_order.proofs.Pairs.{starts-file, merged-in}
 
 -- a disk whose check answered 0 is whole
 pub whole : (g : Geometry) (d : List ℕ) {c : Refusal} → c ≡ check g d → c .number ≡ 0 → Whole g d

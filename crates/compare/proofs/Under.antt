@@ -18,10 +18,10 @@ use Rattle.read.proofs.Laws.{length-fetch}
 use Rattle.differences.specs.Compare.{parting, nameOnly, unlike, difference}
 use Rattle.differences.specs.Parting.{same-parting}
 use Rattle.differences.specs.declared.Difference.{Difference}
-use Rattle.rising.specs.Walk.{nameAt, onFirst, onSecond}
-use Rattle.attributes.specs.Attributes.{datesDiffer, othersDiffer}
+use Rattle.compare_order.specs.Walk.{nameAt, onFirst, onSecond}
+use Rattle.compare_attributes.specs.Attributes.{datesDiffer, othersDiffer}
 use Rattle.compare.specs.Kind.{contentsDiffer, kindOf}
-use Rattle.rising.specs.declared.Pair.{Pair}
+use Rattle.compare_order.specs.declared.Pair.{Pair}
 
 any-none : any [] ≡ false
 unfolding any

@@ -1,8 +1,8 @@
 // Compare: the differences of two disks by rising names, one told a call.
+use compare_order::Pair;
 use differences::Difference;
 use meaning::Geometry;
 use meaning::Refusal;
-use rising::Pair;
 ghost use mathlib.Core.Path.{_≡_};
 ghost use lib.ListN.{drop};
 ghost use Rattle.meaning.specs.Entries.{nameOf};
@@ -10,8 +10,8 @@ ghost use Rattle.meaning.specs.Refusals.{check};
 ghost use Rattle.meaning.specs.Plain.{fileAt};
 ghost use Rattle.layout.specs.Room.{Room, Slot};
 ghost use Rattle.differences.specs.Compare.{nameOnly, unlike, difference, tellsNone, tellFirst, differences, compare};
-ghost use Rattle.rising.specs.Whole.{Whole, Starts};
-ghost use Rattle.rising.specs.Walk.{Files, nameAt, onFirst, onSecond};
+ghost use Rattle.compare_order.specs.Whole.{Whole, Starts};
+ghost use Rattle.compare_order.specs.Walk.{Files, nameAt, onFirst, onSecond};
 ghost use Rattle.compare.specs.Kind.{contentsDiffer, kindOf};
 
 // So many names at the most: each directory has fewer than 256 slots.
@@ -50,11 +50,11 @@ fn name_only(image: &[u8], g: Geometry, s: usize, kind: u8) -> Difference
     requires { ⌜ Room g (now image) × Slot g (now image) s ⌝ }
     ensures { λ r. ⌜ r ≡ nameOnly (nameOf g (now (image .entry)) s) kind ⌝ }
 {
-    let p = rising::name_place(image, g, s);
+    let p = compare_order::name_place(image, g, s);
     Difference {
         refusal: refusal::unplaced(0),
         kind,
-        name: find::name_at(image, p),
+        name: look_up::name_at(image, p),
         at: 0,
         contents: false,
         size: false,
@@ -70,17 +70,17 @@ fn unlike(first: &[u8], g: Geometry, second: &[u8], h: Geometry, s: usize, t: us
 {
     let n = layout::size_of(first, g, s);
     let m = layout::size_of(second, h, t);
-    let at = parting::parting_at(first, g, second, h, s, t, n, m);
+    let at = compare_bytes::parting_at(first, g, second, h, s, t, n, m);
     let contents = contents_differ(at, n, m);
     let size = n != m;
-    let date = attributes::dates_differ(first, g, second, h, s, t);
-    let other = attributes::others_differ(first, g, second, h, s, t);
+    let date = compare_attributes::dates_differ(first, g, second, h, s, t);
+    let other = compare_attributes::others_differ(first, g, second, h, s, t);
     let kind = kind_of(contents, size, date, other);
-    let p = rising::name_place(first, g, s);
+    let p = compare_order::name_place(first, g, s);
     Difference {
         refusal: refusal::unplaced(0),
         kind,
-        name: find::name_at(first, p),
+        name: look_up::name_at(first, p),
         at,
         contents,
         size,
@@ -100,10 +100,10 @@ fn difference_at(first: &[u8], g: Geometry, second: &[u8], h: Geometry, p: Pair)
     if p.kind == 2 {
         return name_only(second, h, p.second, 2);
     }
-    if attributes::is_system(first, g, p.first) {
+    if compare_attributes::is_system(first, g, p.first) {
         return name_only(first, g, p.first, 0);
     }
-    if attributes::is_system(second, h, p.second) {
+    if compare_attributes::is_system(second, h, p.second) {
         return name_only(first, g, p.first, 0);
     }
     unlike(first, g, second, h, p.first, p.second)
@@ -134,7 +134,7 @@ fn told(first: &[u8], g: Geometry, second: &[u8], h: Geometry, number: usize) ->
     let mut left = number;
     let mut k = 0;
     while k < MOST_NAMES {
-        let p = rising::next_pair(first, g, second, h, &last);
+        let p = compare_order::next_pair(first, g, second, h, &last);
         if p.kind == 0 {
             return tells_none(refusal::unplaced(0));
         }

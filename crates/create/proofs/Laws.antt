@@ -29,7 +29,7 @@ use Rattle.layout.proofs.Lists.{all-at, all-yes, all-no, all-none, first-hit, f
 use Rattle.layout.proofs.Sound.{slot-of}
 use Rattle.handle.proofs.Laws.{check-stop, check-then, length-range}
 use Rattle.copy.proofs.Laws.{sets-append}
-use Rattle.find.proofs.Open.{slot-found}
+use Rattle.look_up.proofs.Open.{slot-found}
 
 -- day, month, year and record length as the entry can hold them
 pub ranges : (f : NewFile) → newInRange f ≡ true → (f .day ≤ 31) × (f .month ≤ 15) × (f .year ≤ 15) × ((1 ≤ f .len) × (f .len ≤ 256))

@@ -58,7 +58,7 @@ fn put_entry(image: &mut [u8], g: Geometry, x: usize, name: &[u8], f: NewFile)
         0xff,
     ];
     copy::put_part(image, at + 16, &rest, 0, 16);
-    image[256 * (g.start + 1) + x] = hash::hash(name) as u8;
+    image[256 * (g.start + 1) + x] = name_hash::hash(name) as u8;
 }
 
 // A refused create hands back a handle of zeros.
@@ -68,7 +68,7 @@ fn refused(checked: Refusal, number: u8) -> Created
     Created {
         refusal: refusal::carried(checked, number),
         old: false,
-        handle: find::no_handle(),
+        handle: look_up::no_handle(),
     }
 }
 
@@ -90,23 +90,23 @@ pub fn create_checked(
     if !in_range(f) {
         return refused(checked, 12);
     }
-    let n = spelling::incoming(name);
-    if n.place != spelling::NO_PLACE {
+    let n = name_spelling::incoming(name);
+    if n.place != name_spelling::NO_PLACE {
         return Created {
             refusal: refusal::placed(3, n.place),
             old: false,
-            handle: find::no_handle(),
+            handle: look_up::no_handle(),
         };
     }
-    let found = find::find(image, g, &n.name);
+    let found = look_up::find(image, g, &n.name);
     if found.is {
-        if !find::admits(image, g, found.slot, checking, f.main) {
+        if !look_up::admits(image, g, found.slot, checking, f.main) {
             return refused(checked, 5);
         }
         return Created {
             refusal: refusal::carried(checked, 0),
             old: true,
-            handle: find::opened_at(image, g, found.slot, &n.name, f.len, checking, f.main),
+            handle: look_up::opened_at(image, g, found.slot, &n.name, f.len, checking, f.main),
         };
     }
     let x = space::first_free_slot(image, g);

@@ -43,7 +43,7 @@ pub fn name_holds(image: &[u8], g: Geometry, s: usize) -> bool
 {
     let a = 256 * (g.start + 2 + s % 32) + 32 * (s / 32) + 5;
     let e = a + 11;
-    if !spelling::well_formed(&image[a..e]) {
+    if !name_spelling::well_formed(&image[a..e]) {
         return false;
     }
     !flag(image, g, s, 5)

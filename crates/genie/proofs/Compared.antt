@@ -7,7 +7,7 @@ use lib.Seq.{sets}
 use borrow.Author.Tests.{eq-eqb, ne-eqb}
 use Rattle.meaning.specs.declared.Refusal.{Refusal}
 use Rattle.differences.specs.declared.Difference.{Difference}
-use Rattle.codec.specs.Words.{flagsOf}
+use Rattle.genie_codec.specs.Words.{flagsOf}
 use Rattle.genie.specs.Compared.{tellsDifference, shortOf}
 
 abbrev pub Out : Type 0

@@ -20,11 +20,11 @@ use Rattle.laws.specs.Carried.{carried-own, carried-other}
 use Rattle.layout.proofs.Lists.{first-hit}
 use Rattle.handle.proofs.Laws.{check-stop, check-then}
 use Rattle.refusal.specs.Short.{short}
-use Rattle.spelling.specs.Hands.{Hands}
-use Rattle.spelling.proofs.Comes.{hands-bad, hands-good, hands-name}
+use Rattle.name_spelling.specs.Hands.{Hands}
+use Rattle.name_spelling.proofs.Comes.{hands-bad, hands-good, hands-name}
 use Rattle.refusal.proofs.Lent.{stops, is-short}
-use Rattle.codec.specs.Codec.{stored}
-use Rattle.codec.specs.Words.{told}
+use Rattle.genie_codec.specs.Codec.{stored}
+use Rattle.genie_codec.specs.Words.{told}
 use Rattle.genie.specs.Exports.{tooShort, moves, opens, creates, looks, names, tells}
 
 -- what an export answers of the disk that its numbers state

@@ -6,7 +6,7 @@ use Prim.Native.Nat.{ℕ}
 use borrow.Author.Tests.{eq-eqb, ne-eqb}
 use Rattle.load.specs.Records.{dataCode}
 use Rattle.load.specs.declared.Loaded.{Loaded}
-use Rattle.codec.specs.Codec.{stored}
+use Rattle.genie_codec.specs.Codec.{stored}
 use Rattle.genie.specs.Program.{tellsRecord}
 
 abbrev Told : Type 0

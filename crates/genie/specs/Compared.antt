@@ -9,8 +9,8 @@ use Rattle.meaning.specs.declared.Geometry.{Geometry}
 use Rattle.meaning.specs.declared.Refusal.{Refusal}
 use Rattle.differences.specs.Compare.{compare}
 use Rattle.differences.specs.declared.Difference.{Difference}
-use Rattle.codec.specs.Codec.{nameBytes}
-use Rattle.codec.specs.Words.{flagsOf}
+use Rattle.genie_codec.specs.Codec.{nameBytes}
+use Rattle.genie_codec.specs.Words.{flagsOf}
 use Rattle.refusal.specs.Short.{shortOfTwo}
 use Rattle.genie.specs.Exports.{long}
 

@@ -31,10 +31,10 @@ use Rattle.meaning.specs.declared.Part.{Part}
 use Rattle.meaning.specs.declared.Listed.{Listed}
 use Rattle.meaning.specs.declared.Counts.{Counts}
 use Rattle.meaning.specs.declared.Space.{Space}
-use Rattle.session.specs.Playing.{play}
-use Rattle.session.specs.declared.Played.{Played}
-use Rattle.codec.specs.Codec.{handleBytes, nameBytes, handleOf, stored}
-use Rattle.codec.specs.Words.{modeOf, told}
+use Rattle.play_session.specs.Playing.{play}
+use Rattle.play_session.specs.declared.Played.{Played}
+use Rattle.genie_codec.specs.Codec.{handleBytes, nameBytes, handleOf, stored}
+use Rattle.genie_codec.specs.Words.{modeOf, told}
 
 -- the six numbers that state a new file
 abbrev pub newFile : ℕ → ℕ → ℕ → ℕ → ℕ → ℕ → NewFile

@@ -8,7 +8,7 @@ use Rattle.meaning.specs.declared.Geometry.{Geometry}
 use Rattle.load.specs.Records.{dataCode}
 use Rattle.load.specs.Load.{loadRecord}
 use Rattle.load.specs.declared.Loaded.{Loaded}
-use Rattle.codec.specs.Codec.{handleBytes, handleOf, stored}
+use Rattle.genie_codec.specs.Codec.{handleBytes, handleOf, stored}
 use Rattle.genie.specs.Exports.{long, tooShort}
 
 -- kind, address, count, position, the handle's bytes and the buffer. The handle's bytes change where a data record is told; they are as they stood

@@ -2,7 +2,7 @@
 use meaning::Geometry;
 use meaning::NewFile;
 ghost use mathlib.Core.Path.{_≡_};
-ghost use Rattle.codec.specs.Words.{geometry};
+ghost use Rattle.genie_codec.specs.Words.{geometry};
 ghost use Rattle.genie.specs.Exports.{newFile, tooShort, exportedName, exportedCheck, exportedLookUp, exportedOpen, exportedCreate, exportedReadRecord, exportedReadSector, exportedWriteRecord, exportedAllot, exportedTrim, exportedKill, exportedBringBack, exportedPlay, exportedList, exportedCount, exportedFree};
 ghost use Rattle.genie.specs.Compared.{exportedCompare};
 ghost use Rattle.genie.specs.Program.{exportedLoadRecord};
@@ -21,17 +21,17 @@ fn short(image: &[u8], g: Geometry, fault_slot: &mut usize) -> u8
 pub extern "C" fn genie_name(name: &[u8], folded: &mut [u8], place: &mut usize) -> u8
     ensures { λ r. ⌜ (r, now (place .exit), now (folded .exit)) ≡ exportedName (now (name .entry)) (now (folded .entry)) ⌝ }
 {
-    if folded.len() < codec::NAME_BYTES {
-        *place = spelling::NO_PLACE;
+    if folded.len() < genie_codec::NAME_BYTES {
+        *place = name_spelling::NO_PLACE;
         return 12;
     }
-    let n = spelling::incoming(name);
+    let n = name_spelling::incoming(name);
     *place = n.place;
-    if n.place != spelling::NO_PLACE {
+    if n.place != name_spelling::NO_PLACE {
         return 3;
     }
     let taken = n.name;
-    codec::put_name(folded, 0, taken);
+    genie_codec::put_name(folded, 0, taken);
     0
 }
 
@@ -49,7 +49,7 @@ pub extern "C" fn genie_check(
     ensures { λ r. ⌜ (r, now («fault_slot» .exit))
         ≡ exportedCheck (geometry blocks units start open_code «system_disk» «granule_sectors») (now (image .entry)) ⌝ }
 {
-    let g = codec::geometry(
+    let g = genie_codec::geometry(
         blocks,
         units,
         start,
@@ -80,7 +80,7 @@ pub extern "C" fn genie_look_up(
     ensures { λ r. ⌜ (r, now («fault_slot» .exit), now (place .exit), now (slot .exit), now (compared .exit))
         ≡ exportedLookUp (geometry blocks units start open_code «system_disk» «granule_sectors») (now (image .entry)) (now (name .entry)) ⌝ }
 {
-    let g = codec::geometry(
+    let g = genie_codec::geometry(
         blocks,
         units,
         start,
@@ -90,7 +90,7 @@ pub extern "C" fn genie_look_up(
     );
     let l = calls::look_up(image, g, name);
     *fault_slot = refusal::slot_told(l.refusal);
-    *place = spelling::place_of(l.refusal);
+    *place = name_spelling::place_of(l.refusal);
     *slot = l.slot;
     *compared = l.compared;
     l.refusal.number
@@ -117,7 +117,7 @@ pub extern "C" fn genie_open(
         ≡ exportedOpen (geometry blocks units start open_code «system_disk» «granule_sectors») (now (image .entry)) (now (name .entry)) length checking code
         (now (handle .entry)) ⌝ }
 {
-    let g = codec::geometry(
+    let g = genie_codec::geometry(
         blocks,
         units,
         start,
@@ -125,14 +125,14 @@ pub extern "C" fn genie_open(
         system_disk,
         granule_sectors,
     );
-    if handle.len() < codec::HANDLE_BYTES {
-        *place = spelling::NO_PLACE;
+    if handle.len() < genie_codec::HANDLE_BYTES {
+        *place = name_spelling::NO_PLACE;
         return short(image, g, fault_slot);
     }
     let a = calls::open_file(image, g, name, length, checking, code);
     *fault_slot = refusal::slot_told(a.refusal);
-    *place = spelling::place_of(a.refusal);
-    codec::put_handle(handle, a.handle);
+    *place = name_spelling::place_of(a.refusal);
+    genie_codec::put_handle(handle, a.handle);
     a.refusal.number
 }
 
@@ -162,7 +162,7 @@ pub extern "C" fn genie_create(
         ≡ exportedCreate (geometry blocks units start open_code «system_disk» «granule_sectors») (now (image .entry)) (now (name .entry))
         (newFile day month year length main worker) checking (now (handle .entry)) ⌝ }
 {
-    let g = codec::geometry(
+    let g = genie_codec::geometry(
         blocks,
         units,
         start,
@@ -170,9 +170,9 @@ pub extern "C" fn genie_create(
         system_disk,
         granule_sectors,
     );
-    if handle.len() < codec::HANDLE_BYTES {
+    if handle.len() < genie_codec::HANDLE_BYTES {
         *old = 0;
-        *place = spelling::NO_PLACE;
+        *place = name_spelling::NO_PLACE;
         return short(image, g, fault_slot);
     }
     let f = NewFile {
@@ -185,9 +185,9 @@ pub extern "C" fn genie_create(
     };
     let c = calls::create(image, g, name, f, checking);
     *fault_slot = refusal::slot_told(c.refusal);
-    *place = spelling::place_of(c.refusal);
-    *old = codec::told(c.old);
-    codec::put_handle(handle, c.handle);
+    *place = name_spelling::place_of(c.refusal);
+    *old = genie_codec::told(c.old);
+    genie_codec::put_handle(handle, c.handle);
     c.refusal.number
 }
 
@@ -208,7 +208,7 @@ pub extern "C" fn genie_read_record(
         ≡ exportedReadRecord (geometry blocks units start open_code «system_disk» «granule_sectors») (now (image .entry)) (now (handle .entry))
         (now (buffer .entry)) ⌝ }
 {
-    let g = codec::geometry(
+    let g = genie_codec::geometry(
         blocks,
         units,
         start,
@@ -216,16 +216,16 @@ pub extern "C" fn genie_read_record(
         system_disk,
         granule_sectors,
     );
-    if handle.len() < codec::HANDLE_BYTES {
+    if handle.len() < genie_codec::HANDLE_BYTES {
         return short(image, g, fault_slot);
     }
-    let h = codec::handle_of(handle);
+    let h = genie_codec::handle_of(handle);
     let a = calls::read_record(image, g, h, buffer);
     *fault_slot = a.refusal.at;
     if a.refusal.number != 0 {
         return a.refusal.number;
     }
-    codec::put_handle(handle, a.handle);
+    genie_codec::put_handle(handle, a.handle);
     0
 }
 
@@ -247,7 +247,7 @@ pub extern "C" fn genie_read_sector(
     ensures { λ r. ⌜ (r, now («fault_slot» .exit), now (from .exit), now (to .exit))
         ≡ exportedReadSector (geometry blocks units start open_code «system_disk» «granule_sectors») (now (image .entry)) (now (handle .entry)) k ⌝ }
 {
-    let g = codec::geometry(
+    let g = genie_codec::geometry(
         blocks,
         units,
         start,
@@ -255,12 +255,12 @@ pub extern "C" fn genie_read_sector(
         system_disk,
         granule_sectors,
     );
-    if handle.len() < codec::HANDLE_BYTES {
+    if handle.len() < genie_codec::HANDLE_BYTES {
         *from = 0;
         *to = 0;
         return short(image, g, fault_slot);
     }
-    let h = codec::handle_of(handle);
+    let h = genie_codec::handle_of(handle);
     let p = calls::sector_part(image, g, h, k);
     *fault_slot = p.refusal.at;
     *from = p.from;
@@ -286,7 +286,7 @@ pub extern "C" fn genie_write_record(
         ≡ exportedWriteRecord (geometry blocks units start open_code «system_disk» «granule_sectors») (now (image .entry)) (now (handle .entry)) sequential
         (now (buffer .entry)) ⌝ }
 {
-    let g = codec::geometry(
+    let g = genie_codec::geometry(
         blocks,
         units,
         start,
@@ -294,17 +294,17 @@ pub extern "C" fn genie_write_record(
         system_disk,
         granule_sectors,
     );
-    if handle.len() < codec::HANDLE_BYTES {
+    if handle.len() < genie_codec::HANDLE_BYTES {
         return short(image, g, fault_slot);
     }
-    let h = codec::handle_of(handle);
-    let m = codec::mode_of(sequential);
+    let h = genie_codec::handle_of(handle);
+    let m = genie_codec::mode_of(sequential);
     let a = calls::write_record(image, g, m, h, buffer);
     *fault_slot = a.refusal.at;
     if a.refusal.number != 0 {
         return a.refusal.number;
     }
-    codec::put_handle(handle, a.handle);
+    genie_codec::put_handle(handle, a.handle);
     0
 }
 
@@ -324,7 +324,7 @@ pub extern "C" fn genie_allot(
     ensures { λ r. ⌜ (r, now («fault_slot» .exit), now (image .exit))
         ≡ exportedAllot (geometry blocks units start open_code «system_disk» «granule_sectors») (now (image .entry)) (now (handle .entry)) k ⌝ }
 {
-    let g = codec::geometry(
+    let g = genie_codec::geometry(
         blocks,
         units,
         start,
@@ -332,10 +332,10 @@ pub extern "C" fn genie_allot(
         system_disk,
         granule_sectors,
     );
-    if handle.len() < codec::HANDLE_BYTES {
+    if handle.len() < genie_codec::HANDLE_BYTES {
         return short(image, g, fault_slot);
     }
-    let h = codec::handle_of(handle);
+    let h = genie_codec::handle_of(handle);
     let a = calls::allot(image, g, h, k);
     *fault_slot = a.refusal.at;
     a.refusal.number
@@ -356,7 +356,7 @@ pub extern "C" fn genie_trim(
     ensures { λ r. ⌜ (r, now («fault_slot» .exit), now (image .exit))
         ≡ exportedTrim (geometry blocks units start open_code «system_disk» «granule_sectors») (now (image .entry)) (now (handle .entry)) ⌝ }
 {
-    let g = codec::geometry(
+    let g = genie_codec::geometry(
         blocks,
         units,
         start,
@@ -364,10 +364,10 @@ pub extern "C" fn genie_trim(
         system_disk,
         granule_sectors,
     );
-    if handle.len() < codec::HANDLE_BYTES {
+    if handle.len() < genie_codec::HANDLE_BYTES {
         return short(image, g, fault_slot);
     }
-    let h = codec::handle_of(handle);
+    let h = genie_codec::handle_of(handle);
     let a = calls::trim(image, g, h);
     *fault_slot = a.refusal.at;
     a.refusal.number
@@ -388,7 +388,7 @@ pub extern "C" fn genie_kill(
     ensures { λ r. ⌜ (r, now («fault_slot» .exit), now (image .exit))
         ≡ exportedKill (geometry blocks units start open_code «system_disk» «granule_sectors») (now (image .entry)) (now (handle .entry)) ⌝ }
 {
-    let g = codec::geometry(
+    let g = genie_codec::geometry(
         blocks,
         units,
         start,
@@ -396,10 +396,10 @@ pub extern "C" fn genie_kill(
         system_disk,
         granule_sectors,
     );
-    if handle.len() < codec::HANDLE_BYTES {
+    if handle.len() < genie_codec::HANDLE_BYTES {
         return short(image, g, fault_slot);
     }
-    let h = codec::handle_of(handle);
+    let h = genie_codec::handle_of(handle);
     let a = calls::kill(image, g, h);
     *fault_slot = a.refusal.at;
     a.refusal.number
@@ -422,7 +422,7 @@ pub extern "C" fn genie_bring_back(
     ensures { λ r. ⌜ (r, now («fault_slot» .exit), now (slots .exit), now (granules .exit), now (image .exit))
         ≡ exportedBringBack (geometry blocks units start open_code «system_disk» «granule_sectors») (now (image .entry)) slot ⌝ }
 {
-    let g = codec::geometry(
+    let g = genie_codec::geometry(
         blocks,
         units,
         start,
@@ -456,7 +456,7 @@ pub extern "C" fn genie_play(
     ensures { λ r. ⌜ (r, now («fault_slot» .exit), now (calls .exit), now (byte .exit), now (bit .exit), now (results .exit), now (image .exit))
         ≡ exportedPlay (geometry blocks units start open_code «system_disk» «granule_sectors») (now (image .entry)) (now (trace .entry)) (now (results .entry)) ⌝ }
 {
-    let g = codec::geometry(
+    let g = genie_codec::geometry(
         blocks,
         units,
         start,
@@ -491,7 +491,7 @@ pub extern "C" fn genie_list(
     ensures { λ r. ⌜ (r, now («fault_slot» .exit), now (size .exit), now (granules .exit), now (more .exit), now (name .exit))
         ≡ exportedList (geometry blocks units start open_code «system_disk» «granule_sectors») (now (image .entry)) number (now (name .entry)) ⌝ }
 {
-    let g = codec::geometry(
+    let g = genie_codec::geometry(
         blocks,
         units,
         start,
@@ -499,7 +499,7 @@ pub extern "C" fn genie_list(
         system_disk,
         granule_sectors,
     );
-    if name.len() < codec::NAME_BYTES {
+    if name.len() < genie_codec::NAME_BYTES {
         *size = 0;
         *granules = 0;
         *more = 0;
@@ -515,7 +515,7 @@ pub extern "C" fn genie_list(
     }
     *more = 1;
     let file = l.name;
-    codec::put_name(name, 0, file);
+    genie_codec::put_name(name, 0, file);
     l.refusal.number
 }
 
@@ -535,7 +535,7 @@ pub extern "C" fn genie_count(
     ensures { λ r. ⌜ (r, now («fault_slot» .exit), now (files .exit), now (free .exit))
         ≡ exportedCount (geometry blocks units start open_code «system_disk» «granule_sectors») (now (image .entry)) ⌝ }
 {
-    let g = codec::geometry(
+    let g = genie_codec::geometry(
         blocks,
         units,
         start,
@@ -565,7 +565,7 @@ pub extern "C" fn genie_free(
     ensures { λ r. ⌜ (r, now (free .exit), now (longest .exit))
         ≡ exportedFree (geometry blocks units start open_code «system_disk» «granule_sectors») (now (image .entry)) ⌝ }
 {
-    let g = codec::geometry(
+    let g = genie_codec::geometry(
         blocks,
         units,
         start,
@@ -607,7 +607,7 @@ pub extern "C" fn genie_compare(
         ≡ exportedCompare (geometry blocks units start open_code «system_disk» «granule_sectors») (now (first .entry))
         (geometry blocks2 units2 start2 open_code2 «system_disk2» «granule_sectors2») (now (second .entry)) number (now (name .entry)) ⌝ }
 {
-    let g = codec::geometry(
+    let g = genie_codec::geometry(
         blocks,
         units,
         start,
@@ -615,7 +615,7 @@ pub extern "C" fn genie_compare(
         system_disk,
         granule_sectors,
     );
-    let h = codec::geometry(
+    let h = genie_codec::geometry(
         blocks2,
         units2,
         start2,
@@ -623,7 +623,7 @@ pub extern "C" fn genie_compare(
         system_disk2,
         granule_sectors2,
     );
-    if name.len() < codec::NAME_BYTES {
+    if name.len() < genie_codec::NAME_BYTES {
         *kind = 0;
         *position = 0;
         *flags = 0;
@@ -637,12 +637,12 @@ pub extern "C" fn genie_compare(
     *fault_slot = x.refusal.at;
     *kind = layout::wide(x.kind);
     *position = x.at;
-    *flags = codec::flags_of(x);
+    *flags = genie_codec::flags_of(x);
     if x.kind == 0 {
         return x.refusal.number;
     }
     let file = x.name;
-    codec::put_name(name, 0, file);
+    genie_codec::put_name(name, 0, file);
     x.refusal.number
 }
 
@@ -666,7 +666,7 @@ pub extern "C" fn genie_load_record(
     ensures { λ r. ⌜ (r, now («fault_slot» .exit), now (kind .exit), now (address .exit), now (count .exit), now (position .exit), now (handle .exit), now (buffer .exit))
         ≡ exportedLoadRecord (geometry blocks units start open_code «system_disk» «granule_sectors») (now (image .entry)) (now (handle .entry)) (now (buffer .entry)) ⌝ }
 {
-    let g = codec::geometry(
+    let g = genie_codec::geometry(
         blocks,
         units,
         start,
@@ -674,14 +674,14 @@ pub extern "C" fn genie_load_record(
         system_disk,
         granule_sectors,
     );
-    if handle.len() < codec::HANDLE_BYTES {
+    if handle.len() < genie_codec::HANDLE_BYTES {
         *kind = 0;
         *address = 0;
         *count = 0;
         *position = 0;
         return short(image, g, fault_slot);
     }
-    let h = codec::handle_of(handle);
+    let h = genie_codec::handle_of(handle);
     let a = calls::load_record(image, g, h, buffer);
     *fault_slot = a.refusal.at;
     *kind = a.kind;
@@ -691,6 +691,6 @@ pub extern "C" fn genie_load_record(
     if a.kind != 1 {
         return a.refusal.number;
     }
-    codec::put_handle(handle, a.handle);
+    genie_codec::put_handle(handle, a.handle);
     a.refusal.number
 }

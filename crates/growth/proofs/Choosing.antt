@@ -11,12 +11,12 @@ use Rattle.meaning.specs.Free.{freeGranules, longestFree}
 use Rattle.meaning.specs.declared.Geometry.{Geometry}
 use Rattle.layout.proofs.Lists.{le-or-lt}
 use Rattle.meaning.specs.Choice.{State}
-use Rattle.slots.specs.Words
-use Rattle.slots.specs.Stretches
-use Rattle.slots.specs.View.{view}
+use Rattle.laws_choice.specs.Words
+use Rattle.laws_choice.specs.Stretches
+use Rattle.laws_choice.specs.View.{view}
 use Rattle.space.proofs.First.{NoneBelow}
-use Rattle.supply.specs.Search.{Stretch, NextFree, LongestFrom}
-use Rattle.supply.specs.declared.Found.{Found}
+use Rattle.growth_search.specs.Search.{Stretch, NextFree, LongestFrom}
+use Rattle.growth_search.specs.declared.Found.{Found}
 use Rattle.growth.specs.Choose.{Known, Picked}
 use Rattle.growth.proofs.Step
 use Rattle.growth.proofs.Known.{differ}

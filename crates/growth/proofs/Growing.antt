@@ -15,19 +15,19 @@ use Rattle.meaning.specs.declared.Geometry.{Geometry}
 use Rattle.laws.specs.Members
 use Rattle.laws.specs.Steps.{Ready}
 use Rattle.laws.specs.TakeOne
-use Rattle.slots.specs.Stretches
-use Rattle.slots.specs.View.{view}
+use Rattle.laws_choice.specs.Stretches
+use Rattle.laws_choice.specs.View.{view}
 use Rattle.layout.specs.Room.{Room, Slot}
 use Rattle.layout.proofs.Lists.{le-or-lt}
 use Rattle.layout.proofs.Sound.{slot-of}
-use Rattle.joint.proofs.Ready.{walks}
+use Rattle.passed.proofs.Ready.{walks}
 use Rattle.space.proofs.First.{NoneBelow}
 use Rattle.growth.specs.Choose.{choiceBy, Known, Picked}
 use Rattle.growth.specs.declared.Chosen.{Chosen}
 use Rattle.growth.proofs.Known.{differ, known-start, known-less}
 use Rattle.growth.proofs.Stand.{Stand}
-use Rattle.supply.specs.Search.{Ends}
-use Rattle.supply.specs.declared.Ending.{Ending}
+use Rattle.growth_search.specs.Search.{Ends}
+use Rattle.growth_search.specs.declared.Ending.{Ending}
 use Rattle.growth.proofs.Step
 
 -- each choice gives a free granule where there is one

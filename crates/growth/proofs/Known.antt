@@ -7,7 +7,7 @@ use Prim.Native.Nat.{ℕ, zero, suc, _+_, _-_, _≤_, _<_}
 use native.Mathlib.Omega.{arith}
 use Rattle.meaning.specs.Layout.{granules, taken, mostGranules}
 use Rattle.meaning.specs.declared.Geometry.{Geometry}
-use Rattle.supply.specs.Search.{Stretch}
+use Rattle.growth_search.specs.Search.{Stretch}
 use Rattle.growth.specs.Choose.{Known}
 
 pub differ : {b : Bool} → b ≡ true → b ≡ false → ⊥

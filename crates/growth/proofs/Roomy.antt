@@ -16,13 +16,13 @@ use Rattle.laws.specs.Longer
 use Rattle.laws.specs.TakeOne
 use Rattle.laws.specs.Steps.{Ready, take-ready}
 use Rattle.layout.proofs.Lists.{le-or-lt}
-use Rattle.slots.specs.Words
+use Rattle.laws_choice.specs.Words
 use Rattle.meaning.specs.Choice.{lastRun, lastOf, spare, after}
-use Rattle.slots.specs.Words.{Lengthens}
-use Rattle.slots.specs.View
-use Rattle.slots.specs.View.{view, Took}
-use Rattle.supply.specs.Search.{Ends, Stretch}
-use Rattle.supply.specs.declared.Ending.{Ending}
+use Rattle.laws_choice.specs.Words.{Lengthens}
+use Rattle.laws_choice.specs.View
+use Rattle.laws_choice.specs.View.{view, Took}
+use Rattle.growth_search.specs.Search.{Ends, Stretch}
+use Rattle.growth_search.specs.declared.Ending.{Ending}
 use Rattle.growth.specs.Choose.{choiceBy}
 use Rattle.growth.proofs.Step
 use Rattle.growth.proofs.Growing.{chooses}

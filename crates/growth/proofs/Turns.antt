@@ -24,10 +24,10 @@ use Rattle.layout.specs.Room.{Room, Slot}
 use Rattle.layout.proofs.Laws.{gat-low}
 use Rattle.layout.proofs.Lists.{le-or-lt}
 use Rattle.layout.proofs.Sound.{slot-of}
-use Rattle.joint.proofs.Ready.{walks}
+use Rattle.passed.proofs.Ready.{walks}
 use Rattle.space.proofs.First.{NoneBelow}
-use Rattle.supply.specs.Search.{Ends, NextSlot}
-use Rattle.supply.specs.declared.Ending.{Ending}
+use Rattle.growth_search.specs.Search.{Ends, NextSlot}
+use Rattle.growth_search.specs.declared.Ending.{Ending}
 use Rattle.growth.specs.Inside.{Inside}
 use Rattle.growth.specs.Choose.{choiceBy, OnlyGat, Leaves, Known, Picked}
 use Rattle.growth.specs.declared.Chosen.{Chosen}

@@ -8,7 +8,7 @@ use Rattle.meaning.specs.Free.{lowestFree, longestFree}
 use Rattle.meaning.specs.Growth.{growBy, fails, diskOr}
 use Rattle.meaning.specs.Layout.{granules, taken, mostBlocks}
 use Rattle.meaning.specs.declared.Geometry.{Geometry}
-use Rattle.supply.specs.Search.{Stretch}
+use Rattle.growth_search.specs.Search.{Stretch}
 use Rattle.growth.specs.declared.Chosen.{Chosen}
 
 -- the lowest free granule, or the low end of the longest free stretch

@@ -125,18 +125,18 @@ fn choose(image: &[u8], g: Geometry, next: usize, most: usize, lowest: bool) -> 
 {
     if lowest {
         return Chosen {
-            at: supply::next_free(image, g, next),
+            at: growth_search::next_free(image, g, next),
             most,
         };
     }
-    let s = supply::longest_from(image, g, next, most);
+    let s = growth_search::longest_from(image, g, next, most);
     if most <= s.long {
         return Chosen {
             at: s.low,
             most: s.long,
         };
     }
-    let t = supply::longest_from(image, g, 0, most);
+    let t = growth_search::longest_from(image, g, 0, most);
     Chosen {
         at: t.low,
         most: t.long,
@@ -158,7 +158,7 @@ fn take_granules(
         × (writes ≡ true → fails (growBy g p (choiceBy g lowest) k (now image)) ≡ false) ⌝ }
     ensures { λ r. ⌜ Leaves g p k lowest writes (now (image .entry)) r (now (image .exit)) ⌝ }
 {
-    let end = supply::last_run(image, g, e);
+    let end = growth_search::last_run(image, g, e);
     let mut last = e;
     let mut runs = end.runs;
     let mut after = end.after;
@@ -170,7 +170,7 @@ fn take_granules(
     while 0 < left {
         left -= 1;
         if long < MOST_RUN {
-            if supply::is_clear(image, g, after) {
+            if growth_search::is_clear(image, g, after) {
                 put_longer(image, g, last, runs - 1, after, writes);
                 after += 1;
                 long += 1;
@@ -188,7 +188,7 @@ fn take_granules(
             runs += 1;
             continue;
         }
-        let x = supply::next_slot(image, g, slot);
+        let x = growth_search::next_slot(image, g, slot);
         if x == 256 {
             return true;
         }
@@ -211,9 +211,9 @@ fn too_few_slots(image: &mut [u8], g: Geometry, p: usize, e: usize, k: usize, lo
     if k <= pairs {
         return false;
     }
-    let end = supply::last_run(image, g, e);
+    let end = growth_search::last_run(image, g, e);
     if k - pairs <= MOST_RUN - end.long {
-        if supply::all_clear(image, g, end.after, k - pairs) {
+        if growth_search::all_clear(image, g, end.after, k - pairs) {
             return false;
         }
     }
@@ -246,7 +246,7 @@ pub fn grow(image: &mut [u8], g: Geometry, p: usize, wanted: usize) -> u8
     if no_growth(image, g, p) {
         return 11;
     }
-    if supply::too_few(image, g, k) {
+    if growth_search::too_few(image, g, k) {
         return 9;
     }
     if !too_few_slots(image, g, p, x.last, k, true) {

@@ -25,7 +25,7 @@ use Rattle.laws.specs.Members.{same-eq, same-refl}
 use Rattle.layout.proofs.Laws.{name-at}
 use Rattle.layout.proofs.Lists.{all-at, and-l}
 use Rattle.seek.specs.Seek.{Used}
-use Rattle.find.proofs.Pass.{slotsFrom, slots-start, slots-here, slots-past, slots-end}
+use Rattle.look_up.proofs.Pass.{slotsFrom, slots-start, slots-here, slots-past, slots-end}
 
 module _ (g : Geometry) (d : List ℕ) where
   -- the name as a part of the image

@@ -51,7 +51,7 @@ fn tell(image: &[u8], g: Geometry, s: usize) -> Listed
     Listed {
         refusal: refusal::unplaced(0),
         more: true,
-        name: find::name_at(image, 256 * (g.start + 2 + s % 32) + 32 * (s / 32) + 5),
+        name: look_up::name_at(image, 256 * (g.start + 2 + s % 32) + 32 * (s / 32) + 5),
         size: layout::size_of(image, g, s),
         granules: extent::measure(image, g, s).owned,
     }

@@ -23,12 +23,12 @@ use Rattle.laws.specs.Longer
 use Rattle.laws.specs.TakeOne
 use Rattle.promises.specs.Grow
 use Rattle.promises.specs.Grow.{Chooses}
-use Rattle.slots.specs.Words
-use Rattle.slots.specs.Words.{Step, Second, CanLengthen}
-use Rattle.slots.specs.Stretches
-use Rattle.slots.specs.Theorem
-use Rattle.slots.specs.Theorem.{AnyRule, SecondRule}
-use Rattle.slots.specs.View
+use Rattle.laws_choice.specs.Words
+use Rattle.laws_choice.specs.Words.{Step, Second, CanLengthen}
+use Rattle.laws_choice.specs.Stretches
+use Rattle.laws_choice.specs.Theorem
+use Rattle.laws_choice.specs.Theorem.{AnyRule, SecondRule}
+use Rattle.laws_choice.specs.View
 
 -- `Theorem` has a `Grown` of its own, over any kind of disk. (Where the product's takes its place, this goes.)
 conv : Growth.Grown → Theorem.Grown (List ℕ)

@@ -38,7 +38,7 @@ use Rattle.laws.specs.TakeOne.{Took}
 use Rattle.laws.specs.Named
 use Rattle.laws.specs.Passed
 use Rattle.laws.specs.Words.{words}
-use Rattle.slots.specs.Stretches
+use Rattle.laws_choice.specs.Stretches
 use Rattle.promises.specs.Resized.{Resized, resized-none, resized-one, resized-trans}
 
 -- the file at p has k granules more, and all else is as it was

@@ -18,12 +18,12 @@ use Rattle.promises.specs.Promises.{Good, Stays, Exactly}
 use Rattle.promises.specs.Passing
 use Rattle.promises.specs.Refusing
 use Rattle.promises.specs.Staying as Every
-use Rattle.trace.specs.Bits.{bits}
-use Rattle.trace.specs.Reading.{Trace, Reading, reads, badAt, readTrace, tell, stepsOf, namesOf}
-use Rattle.trace.specs.declared.Checked.{Checked}
+use Rattle.play_trace.specs.Bits.{bits}
+use Rattle.play_trace.specs.Reading.{Trace, Reading, reads, badAt, readTrace, tell, stepsOf, namesOf}
+use Rattle.play_trace.specs.declared.Checked.{Checked}
 use Rattle.promises_trace.specs.First.{FirstFault}
 use Rattle.promises_trace.specs.Promises.{Reads, reads-if, reads-only-if, refused-if, refused-only-if, place-only-if, calls-told, in-range}
-use Rattle.session.specs.Playing.{played, playRefusals, play}
+use Rattle.play_session.specs.Playing.{played, playRefusals, play}
 use Rattle.promises_session.specs.Statement.{playTable, Plays, Placed, EveryPlay, EveryState}
 use Rattle.promises_session.specs.Staying.{played-stays, fit-take}
 

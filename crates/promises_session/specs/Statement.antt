@@ -12,12 +12,12 @@ use Rattle.meaning.specs.Plain.{AreBytes}
 use Rattle.meaning.specs.declared.Geometry.{Geometry}
 use Rattle.promises.specs.Promises
 use Rattle.promises.specs.Promises.{Good, Stays, Table, Exactly}
-use Rattle.trace.specs.Bits.{bits}
-use Rattle.trace.specs.Reading.{Trace}
-use Rattle.trace.specs.Packing.{InRange}
+use Rattle.play_trace.specs.Bits.{bits}
+use Rattle.play_trace.specs.Reading.{Trace}
+use Rattle.play_trace.specs.Packing.{InRange}
 use Rattle.promises_trace.specs.First.{FirstFault}
 use Rattle.promises_trace.specs.Promises.{Reads}
-use Rattle.session.specs.Playing.{played, play}
+use Rattle.play_session.specs.Playing.{played, play}
 
 -- 14 trace malformed: it has no reading. 15 no room for the results: fewer bytes than its reading has steps. After 1 and 21 to 30
 abbrev pub playTable : Geometry → List ℕ → List ℕ → ℕ → Table

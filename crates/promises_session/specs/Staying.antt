@@ -15,12 +15,12 @@ use Rattle.laws.specs.Bytes.{small-bytes, small-replicate}
 use Rattle.promises.specs.Promises.{Good, Stays, Brings}
 use Rattle.promises.specs.Kept.{every-call, stays-after}
 use Rattle.promises.specs.Staying
-use Rattle.trace.specs.Steps.{Field, theFill, widthOf, valueOf, numbersFor}
-use Rattle.trace.specs.Packing.{StepFits, StepsFit}
-use Rattle.trace.specs.declared.Call.{Call}
-use Rattle.trace.specs.declared.Call.the-variants.{Create, SequentialWrite, RandomWrite, Allot, Trim, Kill, Read}
-use Rattle.trace.specs.declared.Step.{Step}
-use Rattle.session.specs.Playing.{longest, undated, single, afterOpen, made, stepped, played}
+use Rattle.play_trace.specs.Steps.{Field, theFill, widthOf, valueOf, numbersFor}
+use Rattle.play_trace.specs.Packing.{StepFits, StepsFit}
+use Rattle.play_trace.specs.declared.Call.{Call}
+use Rattle.play_trace.specs.declared.Call.the-variants.{Create, SequentialWrite, RandomWrite, Allot, Trim, Kill, Read}
+use Rattle.play_trace.specs.declared.Step.{Step}
+use Rattle.play_session.specs.Playing.{longest, undated, single, afterOpen, made, stepped, played}
 
 module _ (g : Geometry) (d : List ℕ) (o : Good g d) where
   open-stays : (n : List ℕ) (len : ℕ) (c : Handle → Single.Call) → ((h : Handle) → Brings (c h)) → Stays g d (afterOpen g d n len c .1)

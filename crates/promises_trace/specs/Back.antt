@@ -7,15 +7,15 @@ use native.Mathlib.Omega.{arith}
 use lib.ListN.{length, take, drop, length-append, take-append-drop}
 use lib.Seq.{take-add, drop-drop}
 use Rattle.laws.specs.Bytes.{Small, small-none, small-cons, small-bytes}
-use Rattle.trace.specs.Bits.{bitsOf, bits, field, AreBits, field-small, field-bits}
-use Rattle.trace.specs.Steps.{Field, theOperation, theFile, thePosition, theLength, theFill, theZero, fields, widthOf, startOf, valueOf, good, firstBad, numbersOf, endMark, stepOf}
-use Rattle.trace.specs.Reading.{Trace, Reading, reads, badAt, onRead, fieldsFrom, namesFrom, callStart, numbersAt, readCalls, readBits, wholeCalls}
-use Rattle.trace.specs.Packing.{callBits, stepsBits, namesBits, packBits, AreNames, StepFits, StepsFit, InRange, IsReading}
-use Rattle.trace.specs.declared.Step.{Step}
-use Rattle.trace.specs.declared.Numbers.{Numbers}
-use Rattle.trace.proofs.Calls.{calls-none}
-use Rattle.trace.proofs.Front.{Opens, withNames, Front, none, few, many, cut, calls, front, Turn, bad, end, on, turn}
-use Rattle.trace.proofs.Found.{bad-reads, length-names}
+use Rattle.play_trace.specs.Bits.{bitsOf, bits, field, AreBits, field-small, field-bits}
+use Rattle.play_trace.specs.Steps.{Field, theOperation, theFile, thePosition, theLength, theFill, theZero, fields, widthOf, startOf, valueOf, good, firstBad, numbersOf, endMark, stepOf}
+use Rattle.play_trace.specs.Reading.{Trace, Reading, reads, badAt, onRead, fieldsFrom, namesFrom, callStart, numbersAt, readCalls, readBits, wholeCalls}
+use Rattle.play_trace.specs.Packing.{callBits, stepsBits, namesBits, packBits, AreNames, StepFits, StepsFit, InRange, IsReading}
+use Rattle.play_trace.specs.declared.Step.{Step}
+use Rattle.play_trace.specs.declared.Numbers.{Numbers}
+use Rattle.play_trace.proofs.Calls.{calls-none}
+use Rattle.play_trace.proofs.Front.{Opens, withNames, Front, none, few, many, cut, calls, front, Turn, bad, end, on, turn}
+use Rattle.play_trace.proofs.Found.{bad-reads, length-names}
 use Rattle.promises_trace.specs.Call.{Fits, are-those, all-good, file-below, end-only, numbers-back}
 
 -- the numbers that are read fit their fields

@@ -8,16 +8,16 @@ use lib.Dec.{eqb, ltb}
 use lib.ListN.{length, take, drop, length-append}
 use lib.Seq.{take-add, drop-drop}
 use borrow.Author.Tests.{eqb-true, eqb-false, ltb-true, lt-ltb, ne-eqb}
-use Rattle.trace.specs.Bits.{bitsOf, number, field, AreBits, length-bitsOf, there-and-back, field-front, field-past, field-small, field-bits}
-use Rattle.trace.specs.Steps.{Field, theOperation, theFile, thePosition, theLength, theFill, theZero, fields, widthOf, startOf, valueOf, uses, allowed, good, firstBad, numbersFor, numbersOf, endMark, callOf, stepOf}
-use Rattle.trace.specs.Reading.{numbersAt}
-use Rattle.trace.specs.Packing.{fieldBits, callBits}
-use Rattle.trace.specs.declared.Call.{Call}
-use Rattle.trace.specs.declared.Call.the-variants.{Create, SequentialWrite, RandomWrite, Allot, Trim, Kill, Read}
-use Rattle.trace.specs.declared.Step.{Step}
-use Rattle.trace.specs.declared.Numbers.{Numbers}
-use Rattle.trace.proofs.Laws.{operation-is, pass, stop, step-1, step-2, step-3, step-4, step-5, step-6, step-7}
-use Rattle.trace.proofs.Front.{Alike, alike, unlike, look}
+use Rattle.play_trace.specs.Bits.{bitsOf, number, field, AreBits, length-bitsOf, there-and-back, field-front, field-past, field-small, field-bits}
+use Rattle.play_trace.specs.Steps.{Field, theOperation, theFile, thePosition, theLength, theFill, theZero, fields, widthOf, startOf, valueOf, uses, allowed, good, firstBad, numbersFor, numbersOf, endMark, callOf, stepOf}
+use Rattle.play_trace.specs.Reading.{numbersAt}
+use Rattle.play_trace.specs.Packing.{fieldBits, callBits}
+use Rattle.play_trace.specs.declared.Call.{Call}
+use Rattle.play_trace.specs.declared.Call.the-variants.{Create, SequentialWrite, RandomWrite, Allot, Trim, Kill, Read}
+use Rattle.play_trace.specs.declared.Step.{Step}
+use Rattle.play_trace.specs.declared.Numbers.{Numbers}
+use Rattle.play_trace.proofs.Laws.{operation-is, pass, stop, step-1, step-2, step-3, step-4, step-5, step-6, step-7}
+use Rattle.play_trace.proofs.Front.{Alike, alike, unlike, look}
 
 -- each number fits its field
 abbrev pub Fits : Numbers → Type 0

@@ -15,13 +15,13 @@ use lib.ListN.{length, take, drop, getD, length-append, length-drop, take-append
 use lib.Seq.{take-at, drop-at, take-append-le, drop-append-le}
 use Rattle.meaning.specs.Plain.{AreBytes}
 use Rattle.laws.specs.Bytes.{Small, bytes-small, small-rest}
-use Rattle.trace.specs.Bits.{bitsOf, number, bits, bytesOf, AreBits, length-bitsOf, length-bits, bits-append, bits-bits, bits-join, bits-bitsOf, bits-bytesOf, there-and-back}
-use Rattle.trace.specs.Steps.{Field, fields, widthOf, valueOf, numbersOf, endMark, noStep}
-use Rattle.trace.specs.Reading.{Trace, Reading, reads, badAt, readBits, readTrace, wellWith, faultAt, tell, stepsOf, namesOf}
-use Rattle.trace.specs.Packing.{fieldBits, callBits, stepsBits, namesBits, packBits, pack, AreNames, StepFits, StepsFit, InRange, IsReading}
-use Rattle.trace.specs.declared.Step.{Step}
-use Rattle.trace.specs.declared.Numbers.{Numbers}
-use Rattle.trace.proofs.Found.{bad-reads}
+use Rattle.play_trace.specs.Bits.{bitsOf, number, bits, bytesOf, AreBits, length-bitsOf, length-bits, bits-append, bits-bits, bits-join, bits-bitsOf, bits-bytesOf, there-and-back}
+use Rattle.play_trace.specs.Steps.{Field, fields, widthOf, valueOf, numbersOf, endMark, noStep}
+use Rattle.play_trace.specs.Reading.{Trace, Reading, reads, badAt, readBits, readTrace, wellWith, faultAt, tell, stepsOf, namesOf}
+use Rattle.play_trace.specs.Packing.{fieldBits, callBits, stepsBits, namesBits, packBits, pack, AreNames, StepFits, StepsFit, InRange, IsReading}
+use Rattle.play_trace.specs.declared.Step.{Step}
+use Rattle.play_trace.specs.declared.Numbers.{Numbers}
+use Rattle.play_trace.proofs.Found.{bad-reads}
 use Rattle.promises_trace.specs.Call.{length-callBits}
 use Rattle.promises_trace.specs.There.{length-steps, length-namesBits, complete}
 use Rattle.promises_trace.specs.Back.{sound}

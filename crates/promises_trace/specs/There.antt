@@ -5,14 +5,14 @@ use Prim.Native.Nat.{ℕ, zero, suc, _+_, _*_, _-_, _/_, _^_, _≤_, _<_}
 use native.Mathlib.Omega.{arith}
 use lib.ListN.{length, length-append}
 use Rattle.laws.specs.Bytes.{Small, bytes-small, small-rest}
-use Rattle.trace.specs.Bits.{bitsOf, bits, field, length-bitsOf, length-bits, there-and-back, field-front, field-past}
-use Rattle.trace.specs.Steps.{Field, theOperation, theFile, thePosition, theLength, theFill, theZero, fields, widthOf, valueOf, firstBad, numbersFor, numbersOf, endMark, stepOf}
-use Rattle.trace.specs.Reading.{Trace, Reading, reads, badAt, onRead, fieldsFrom, namesFrom, callStart, numbersAt, readCalls, readBits, wholeCalls}
-use Rattle.trace.specs.Packing.{callBits, stepsBits, namesBits, packBits, AreNames, StepFits, StepsFit, InRange, IsReading}
-use Rattle.trace.specs.declared.Step.{Step}
-use Rattle.trace.specs.declared.Numbers.{Numbers}
-use Rattle.trace.proofs.Calls.{calls-end, calls-on}
-use Rattle.trace.proofs.Front.{Opens, withNames, bits-calls}
+use Rattle.play_trace.specs.Bits.{bitsOf, bits, field, length-bitsOf, length-bits, there-and-back, field-front, field-past}
+use Rattle.play_trace.specs.Steps.{Field, theOperation, theFile, thePosition, theLength, theFill, theZero, fields, widthOf, valueOf, firstBad, numbersFor, numbersOf, endMark, stepOf}
+use Rattle.play_trace.specs.Reading.{Trace, Reading, reads, badAt, onRead, fieldsFrom, namesFrom, callStart, numbersAt, readCalls, readBits, wholeCalls}
+use Rattle.play_trace.specs.Packing.{callBits, stepsBits, namesBits, packBits, AreNames, StepFits, StepsFit, InRange, IsReading}
+use Rattle.play_trace.specs.declared.Step.{Step}
+use Rattle.play_trace.specs.declared.Numbers.{Numbers}
+use Rattle.play_trace.proofs.Calls.{calls-end, calls-on}
+use Rattle.play_trace.proofs.Front.{Opens, withNames, bits-calls}
 use Rattle.promises_trace.specs.Call.{length-callBits, found-again, step-back, step-good, step-no-end, end-good, end-fits}
 
 -- the calls

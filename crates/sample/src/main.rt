@@ -87,7 +87,7 @@ fn write_text(text: &[u8], n: usize)
 
 fn show_count(files: usize) {
     let mut text = [0u8; 55];
-    let n = text::put_files(&mut text, 0, files);
+    let n = listing_text::put_files(&mut text, 0, files);
     write_text(&text, n);
 }
 
@@ -99,7 +99,7 @@ fn show_file(image: &[u8; 40960], number: usize) -> bool {
     }
     let mut text = [0u8; 55];
     let name = f.name;
-    let n = text::put_line(&mut text, 0, &name, f.size, f.granules);
+    let n = listing_text::put_line(&mut text, 0, &name, f.size, f.granules);
     write_text(&text, n);
     true
 }
@@ -117,7 +117,7 @@ fn show_files(image: &[u8; 40960], files: usize) -> bool {
 
 fn show_free(free: usize) {
     let mut text = [0u8; 55];
-    let n = text::put_free(&mut text, 0, free);
+    let n = listing_text::put_free(&mut text, 0, free);
     write_text(&text, n);
 }
 

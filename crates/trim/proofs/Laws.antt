@@ -32,7 +32,7 @@ use Rattle.layout.proofs.Laws.{gat-low, digit-at}
 use Rattle.layout.proofs.Sound.{slot-yes}
 use Rattle.handle.proofs.Laws.{passed, passed-user}
 use Rattle.seek.specs.Seek.{Sound, Used}
-use Rattle.joint.proofs.Ready.{walks}
+use Rattle.passed.proofs.Ready.{walks}
 use Rattle.trim.specs.Last.{Last, Bit}
 use Rattle.trim.proofs.Step
 

@@ -25,7 +25,7 @@ use Rattle.laws.specs.Steps.{Ready}
 use Rattle.layout.proofs.Lists.{all-at}
 use Rattle.layout.proofs.Sound.{slot-of}
 use Rattle.handle.proofs.Laws.{handle-stop, handle-then, passed, ranges, length-range}
-use Rattle.joint.proofs.Ready.{walks}
+use Rattle.passed.proofs.Ready.{walks}
 use Rattle.read.specs.Part.{File, Owned}
 use Rattle.growth.proofs.Grown.{larger-ready, owned-most}
 use Rattle.write.specs.Apart.{Apart}

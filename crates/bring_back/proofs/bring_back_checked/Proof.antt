@@ -8,9 +8,9 @@ use Rattle.bring_back.proofs.bring_back_checked.Statement.{statement}
 use Rattle.bring_back.proofs.bring_back_checked.Tie as tie
 use Rattle.bring_back.proofs.bring_back_checked.Reads as reads
 use Rattle.bring_back.proofs.bring_back_checked.Lts as lts
-use Rattle.restore.proofs.back_all.Reads as back-all-reads
+use Rattle.back_write.proofs.back_all.Reads as back-all-reads
 use Rattle.bring_back.proofs.plan.Reads as plan-reads
-use Rattle.restore.proofs.take_all.Reads as take-all-reads
+use Rattle.back_write.proofs.take_all.Reads as take-all-reads
 use Rattle.refusal.proofs.carried.Reads as carried-reads
 
 plan-requires : tie.Need-plan-requires

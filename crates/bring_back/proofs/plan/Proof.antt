@@ -14,13 +14,13 @@ use Rattle.bring_back.proofs.plan.Statement.{statement}
 use Rattle.bring_back.proofs.plan.Tie as tie
 use Rattle.bring_back.proofs.plan.Reads as reads
 use Rattle.bring_back.proofs.plan.Lts as lts
-use Rattle.taken.proofs.any_taken.Reads as any-taken-reads
+use Rattle.back_taken.proofs.any_taken.Reads as any-taken-reads
 use Rattle.entry.proofs.flag.Reads as flag-reads
 use Rattle.bring_back.proofs.refused.Reads as refused-reads
-use Rattle.killed.proofs.whole.Reads as whole-reads
-use Rattle.find.proofs.find.Reads as find-reads
+use Rattle.back_chain.proofs.whole.Reads as whole-reads
+use Rattle.look_up.proofs.find.Reads as find-reads
 use Rattle.layout.proofs.is_slot.Reads as is-slot-reads
-use Rattle.hash.proofs.hash.Reads as hash-reads
+use Rattle.name_hash.proofs.hash.Reads as hash-reads
 
 refused-requires : tie.Need-refused-requires
 refused-requires c κs = search needs

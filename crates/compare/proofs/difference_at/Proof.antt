@@ -5,7 +5,7 @@ use Rattle.compare.proofs.difference_at.Statement.{statement}
 use Rattle.compare.proofs.difference_at.Tie as tie
 use Rattle.compare.proofs.difference_at.Reads as reads
 use Rattle.compare.proofs.difference_at.Lts as lts
-use Rattle.attributes.proofs.is_system.Reads as is-system-reads
+use Rattle.compare_attributes.proofs.is_system.Reads as is-system-reads
 use Rattle.compare.proofs.name_only.Reads as name-only-reads
 use Rattle.compare.proofs.unlike.Reads as unlike-reads
 

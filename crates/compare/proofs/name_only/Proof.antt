@@ -1,13 +1,13 @@
 use mathlib.Core.Bool.{false}
 use mathlib.Core.Path.{_∙_}
-use Rattle.rising.proofs.Names.{placed-name}
+use Rattle.compare_order.proofs.Names.{placed-name}
 use borrow.Author.Needs.{needs}
 use Rattle.compare.proofs.name_only.Statement.{statement}
 use Rattle.compare.proofs.name_only.Tie as tie
 use Rattle.compare.proofs.name_only.Reads as reads
 use Rattle.compare.proofs.name_only.Lts as lts
-use Rattle.rising.proofs.name_place.Reads as name-place-reads
-use Rattle.find.proofs.name_at.Reads as name-at-reads
+use Rattle.compare_order.proofs.name_place.Reads as name-place-reads
+use Rattle.look_up.proofs.name_at.Reads as name-at-reads
 use Rattle.refusal.proofs.unplaced.Reads as unplaced-reads
 
 name-place-requires : tie.Need-name-place-requires

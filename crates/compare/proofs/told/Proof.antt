@@ -11,7 +11,7 @@ use Rattle.compare.proofs.told.Tie as tie
 use Rattle.compare.proofs.told.Reads as reads
 use Rattle.compare.proofs.told.Lts as lts
 use Rattle.compare.proofs.difference_at.Reads as difference-at-reads
-use Rattle.rising.proofs.next_pair.Reads as next-pair-reads
+use Rattle.compare_order.proofs.next_pair.Reads as next-pair-reads
 use Rattle.compare.proofs.tells_none.Reads as tells-none-reads
 use Rattle.refusal.proofs.unplaced.Reads as unplaced-reads
 

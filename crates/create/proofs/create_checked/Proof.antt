@@ -3,15 +3,15 @@ use mathlib.Core.Path.{_∙_, ap, refl}
 use mathlib.Core.Bool.{false}
 use mathlib.Core.List.{List}
 use lib.ListN.{length}
-use Rattle.spelling.proofs.Comes.{hands-bad, hands-good, hands-name}
+use Rattle.name_spelling.proofs.Comes.{hands-bad, hands-good, hands-name}
 use Rattle.meaning.specs.Open.{openedAt}
 use Rattle.meaning.specs.Create.{withEntry}
 use Rattle.layout.proofs.Sound.{entry-fits}
 use Rattle.layout.proofs.Lists.{is-no, is-yes, not-no, not-yes}
 use Rattle.layout.proofs.Laws.{well-length}
 use Rattle.handle.proofs.Laws.{checked, checked-room}
-use Rattle.find.proofs.Named.{by-own, by-place, by-number}
-use Rattle.find.proofs.Laws.{finds-as, finds-none, finds-one}
+use Rattle.look_up.proofs.Named.{by-own, by-place, by-number}
+use Rattle.look_up.proofs.Laws.{finds-as, finds-none, finds-one}
 use Rattle.create.proofs.Laws.{by-check, by-code, by-name, by-range, by-slot, is-new, is-old, made, opened, slot-none, slot-some, told}
 use Prim.Native.Nat.{ℕ}
 use borrow.Author.Needs.{needs}
@@ -22,14 +22,14 @@ use Rattle.create.proofs.create_checked.Lts as lts
 use Rattle.create.proofs.in_range.Reads as in-range-reads
 use Rattle.create.proofs.put_entry.Reads as put-entry-reads
 use Rattle.create.proofs.refused.Reads as refused-reads
-use Rattle.find.proofs.admits.Reads as admits-reads
-use Rattle.find.proofs.find.Reads as find-reads
-use Rattle.find.proofs.no_handle.Reads as no-handle-reads
-use Rattle.find.proofs.opened_at.Reads as opened-at-reads
+use Rattle.look_up.proofs.admits.Reads as admits-reads
+use Rattle.look_up.proofs.find.Reads as find-reads
+use Rattle.look_up.proofs.no_handle.Reads as no-handle-reads
+use Rattle.look_up.proofs.opened_at.Reads as opened-at-reads
 use Rattle.refusal.proofs.carried.Reads as carried-reads
 use Rattle.refusal.proofs.placed.Reads as placed-reads
 use Rattle.space.proofs.first_free_slot.Reads as first-free-slot-reads
-use Rattle.spelling.proofs.incoming.Reads as incoming-reads
+use Rattle.name_spelling.proofs.incoming.Reads as incoming-reads
 
 refused-requires : tie.Need-refused-requires
 refused-requires c κs = search needs

@@ -9,7 +9,7 @@ use Rattle.create.proofs.put_entry.Tie as tie
 use Rattle.create.proofs.put_entry.Reads as reads
 use Rattle.create.proofs.put_entry.Lts as lts
 use Rattle.copy.proofs.put_part.Reads as put-part-reads
-use Rattle.hash.proofs.hash.Reads as hash-reads
+use Rattle.name_hash.proofs.hash.Reads as hash-reads
 
 add-at : tie.Need-add-at
 add-at c = search needs

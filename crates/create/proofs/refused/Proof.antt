@@ -4,7 +4,7 @@ use Rattle.create.proofs.refused.Statement.{statement}
 use Rattle.create.proofs.refused.Tie as tie
 use Rattle.create.proofs.refused.Reads as reads
 use Rattle.create.proofs.refused.Lts as lts
-use Rattle.find.proofs.no_handle.Reads as no-handle-reads
+use Rattle.look_up.proofs.no_handle.Reads as no-handle-reads
 use Rattle.refusal.proofs.carried.Reads as carried-reads
 
 carried-requires : tie.Need-carried-requires

@@ -11,8 +11,8 @@ use Rattle.genie.proofs.genie_allot.Tie as tie
 use Rattle.genie.proofs.genie_allot.Reads as reads
 use Rattle.genie.proofs.genie_allot.Lts as lts
 use Rattle.calls.proofs.allot.Reads as allot-reads
-use Rattle.codec.proofs.geometry.Reads as geometry-reads
-use Rattle.codec.proofs.handle_of.Reads as handle-of-reads
+use Rattle.genie_codec.proofs.geometry.Reads as geometry-reads
+use Rattle.genie_codec.proofs.handle_of.Reads as handle-of-reads
 use Rattle.genie.proofs.short.Reads as short-reads
 
 -- src/lib.rt:222:9

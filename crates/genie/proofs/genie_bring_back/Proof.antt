@@ -8,7 +8,7 @@ use Rattle.genie.proofs.genie_bring_back.Tie as tie
 use Rattle.genie.proofs.genie_bring_back.Reads as reads
 use Rattle.genie.proofs.genie_bring_back.Lts as lts
 use Rattle.calls.proofs.bring_back.Reads as bring-back-reads
-use Rattle.codec.proofs.geometry.Reads as geometry-reads
+use Rattle.genie_codec.proofs.geometry.Reads as geometry-reads
 
 -- src/lib.rt:290:9
 geometry-requires : tie.Need-geometry-requires

@@ -10,7 +10,7 @@ use Rattle.genie.proofs.genie_check.Tie as tie
 use Rattle.genie.proofs.genie_check.Reads as reads
 use Rattle.genie.proofs.genie_check.Lts as lts
 use Rattle.calls.proofs.check.Reads as check-reads
-use Rattle.codec.proofs.geometry.Reads as geometry-reads
+use Rattle.genie_codec.proofs.geometry.Reads as geometry-reads
 
 -- src/lib.rt:29:9
 geometry-requires : tie.Need-geometry-requires

@@ -2,7 +2,7 @@ use borrow.Author.Tests.{lt-ltb, le-ltb}
 use mathlib.Core.Path.{_∙_}
 use Rattle.meaning.specs.declared.Geometry.{Geometry}
 use Rattle.refusal.specs.Short.{shortOfTwo}
-use Rattle.codec.specs.Words.{geometry}
+use Rattle.genie_codec.specs.Words.{geometry}
 use Rattle.genie.specs.Compared.{exportedCompare}
 use Rattle.genie.proofs.Compared.{short-told, none-told, one-told}
 use Rattle.genie.proofs.Laws.{at-disk}
@@ -13,9 +13,9 @@ use Rattle.genie.proofs.genie_compare.Reads as reads
 use Rattle.genie.proofs.genie_compare.Lts as lts
 use Rattle.calls.proofs.check.Reads as check-reads
 use Rattle.calls.proofs.compare.Reads as compare-reads
-use Rattle.codec.proofs.flags_of.Reads as flags-of-reads
-use Rattle.codec.proofs.geometry.Reads as geometry-reads
-use Rattle.codec.proofs.put_name.Reads as put-name-reads
+use Rattle.genie_codec.proofs.flags_of.Reads as flags-of-reads
+use Rattle.genie_codec.proofs.geometry.Reads as geometry-reads
+use Rattle.genie_codec.proofs.put_name.Reads as put-name-reads
 use Rattle.layout.proofs.wide.Reads as wide-reads
 use Rattle.refusal.proofs.short_of_two.Reads as short-of-two-reads
 

@@ -8,7 +8,7 @@ use Rattle.genie.proofs.genie_count.Tie as tie
 use Rattle.genie.proofs.genie_count.Reads as reads
 use Rattle.genie.proofs.genie_count.Lts as lts
 use Rattle.calls.proofs.counts.Reads as counts-reads
-use Rattle.codec.proofs.geometry.Reads as geometry-reads
+use Rattle.genie_codec.proofs.geometry.Reads as geometry-reads
 
 -- src/lib.rt:348:9
 geometry-requires : tie.Need-geometry-requires

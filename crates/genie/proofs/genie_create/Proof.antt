@@ -9,12 +9,12 @@ use Rattle.genie.proofs.genie_create.Tie as tie
 use Rattle.genie.proofs.genie_create.Reads as reads
 use Rattle.genie.proofs.genie_create.Lts as lts
 use Rattle.calls.proofs.create.Reads as create-reads
-use Rattle.codec.proofs.geometry.Reads as geometry-reads
-use Rattle.codec.proofs.put_handle.Reads as put-handle-reads
-use Rattle.codec.proofs.told.Reads as told-reads
+use Rattle.genie_codec.proofs.geometry.Reads as geometry-reads
+use Rattle.genie_codec.proofs.put_handle.Reads as put-handle-reads
+use Rattle.genie_codec.proofs.told.Reads as told-reads
 use Rattle.genie.proofs.short.Reads as short-reads
 use Rattle.refusal.proofs.slot_told.Reads as slot-told-reads
-use Rattle.spelling.proofs.place_of.Reads as place-of-reads
+use Rattle.name_spelling.proofs.place_of.Reads as place-of-reads
 
 -- src/lib.rt:164:9
 geometry-requires : tie.Need-geometry-requires

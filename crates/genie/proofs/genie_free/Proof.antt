@@ -8,7 +8,7 @@ use Rattle.genie.proofs.genie_free.Tie as tie
 use Rattle.genie.proofs.genie_free.Reads as reads
 use Rattle.genie.proofs.genie_free.Lts as lts
 use Rattle.calls.proofs.free_space.Reads as free-space-reads
-use Rattle.codec.proofs.geometry.Reads as geometry-reads
+use Rattle.genie_codec.proofs.geometry.Reads as geometry-reads
 
 -- src/lib.rt:368:9
 geometry-requires : tie.Need-geometry-requires

@@ -11,8 +11,8 @@ use Rattle.genie.proofs.genie_kill.Tie as tie
 use Rattle.genie.proofs.genie_kill.Reads as reads
 use Rattle.genie.proofs.genie_kill.Lts as lts
 use Rattle.calls.proofs.kill.Reads as kill-reads
-use Rattle.codec.proofs.geometry.Reads as geometry-reads
-use Rattle.codec.proofs.handle_of.Reads as handle-of-reads
+use Rattle.genie_codec.proofs.geometry.Reads as geometry-reads
+use Rattle.genie_codec.proofs.handle_of.Reads as handle-of-reads
 use Rattle.genie.proofs.short.Reads as short-reads
 
 -- src/lib.rt:266:9

@@ -8,8 +8,8 @@ use Rattle.genie.proofs.genie_list.Tie as tie
 use Rattle.genie.proofs.genie_list.Reads as reads
 use Rattle.genie.proofs.genie_list.Lts as lts
 use Rattle.calls.proofs.list.Reads as list-reads
-use Rattle.codec.proofs.geometry.Reads as geometry-reads
-use Rattle.codec.proofs.put_name.Reads as put-name-reads
+use Rattle.genie_codec.proofs.geometry.Reads as geometry-reads
+use Rattle.genie_codec.proofs.put_name.Reads as put-name-reads
 use Rattle.genie.proofs.short.Reads as short-reads
 
 -- src/lib.rt:314:9

@@ -7,9 +7,9 @@ use Rattle.genie.proofs.genie_look_up.Tie as tie
 use Rattle.genie.proofs.genie_look_up.Reads as reads
 use Rattle.genie.proofs.genie_look_up.Lts as lts
 use Rattle.calls.proofs.look_up.Reads as look-up-reads
-use Rattle.codec.proofs.geometry.Reads as geometry-reads
+use Rattle.genie_codec.proofs.geometry.Reads as geometry-reads
 use Rattle.refusal.proofs.slot_told.Reads as slot-told-reads
-use Rattle.spelling.proofs.place_of.Reads as place-of-reads
+use Rattle.name_spelling.proofs.place_of.Reads as place-of-reads
 
 -- src/lib.rt:82:9
 geometry-requires : tie.Need-geometry-requires

@@ -6,8 +6,8 @@ use Rattle.genie.proofs.genie_name.Statement.{statement}
 use Rattle.genie.proofs.genie_name.Tie as tie
 use Rattle.genie.proofs.genie_name.Reads as reads
 use Rattle.genie.proofs.genie_name.Lts as lts
-use Rattle.codec.proofs.put_name.Reads as put-name-reads
-use Rattle.spelling.proofs.incoming.Reads as incoming-reads
+use Rattle.genie_codec.proofs.put_name.Reads as put-name-reads
+use Rattle.name_spelling.proofs.incoming.Reads as incoming-reads
 
 -- src/lib.rt:25:9
 returns : tie.Need-returns

@@ -9,11 +9,11 @@ use Rattle.genie.proofs.genie_open.Tie as tie
 use Rattle.genie.proofs.genie_open.Reads as reads
 use Rattle.genie.proofs.genie_open.Lts as lts
 use Rattle.calls.proofs.open_file.Reads as open-file-reads
-use Rattle.codec.proofs.geometry.Reads as geometry-reads
-use Rattle.codec.proofs.put_handle.Reads as put-handle-reads
+use Rattle.genie_codec.proofs.geometry.Reads as geometry-reads
+use Rattle.genie_codec.proofs.put_handle.Reads as put-handle-reads
 use Rattle.genie.proofs.short.Reads as short-reads
 use Rattle.refusal.proofs.slot_told.Reads as slot-told-reads
-use Rattle.spelling.proofs.place_of.Reads as place-of-reads
+use Rattle.name_spelling.proofs.place_of.Reads as place-of-reads
 
 -- src/lib.rt:119:9
 geometry-requires : tie.Need-geometry-requires

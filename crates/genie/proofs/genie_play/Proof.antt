@@ -8,7 +8,7 @@ use Rattle.genie.proofs.genie_play.Tie as tie
 use Rattle.genie.proofs.genie_play.Reads as reads
 use Rattle.genie.proofs.genie_play.Lts as lts
 use Rattle.calls.proofs.play.Reads as play-reads
-use Rattle.codec.proofs.geometry.Reads as geometry-reads
+use Rattle.genie_codec.proofs.geometry.Reads as geometry-reads
 
 -- src/lib.rt:340:9
 geometry-requires : tie.Need-geometry-requires

@@ -11,9 +11,9 @@ use Rattle.genie.proofs.genie_read_record.Tie as tie
 use Rattle.genie.proofs.genie_read_record.Reads as reads
 use Rattle.genie.proofs.genie_read_record.Lts as lts
 use Rattle.calls.proofs.read_record.Reads as read-record-reads
-use Rattle.codec.proofs.geometry.Reads as geometry-reads
-use Rattle.codec.proofs.handle_of.Reads as handle-of-reads
-use Rattle.codec.proofs.put_handle.Reads as put-handle-reads
+use Rattle.genie_codec.proofs.geometry.Reads as geometry-reads
+use Rattle.genie_codec.proofs.handle_of.Reads as handle-of-reads
+use Rattle.genie_codec.proofs.put_handle.Reads as put-handle-reads
 use Rattle.genie.proofs.short.Reads as short-reads
 
 -- src/lib.rt:137:9

@@ -4,7 +4,7 @@ use Rattle.meaning.specs.declared.Mode.{Mode}
 use Rattle.meaning.specs.declared.Handle.{Handle}
 use Rattle.meaning.specs.declared.Geometry.{Geometry}
 use Rattle.meaning.specs.Write.{writeRecord}
-use Rattle.codec.specs.Words.{modeOf}
+use Rattle.genie_codec.specs.Words.{modeOf}
 use Rattle.genie.specs.Exports.{exportedWriteRecord}
 use Rattle.genie.proofs.Laws.{at-disk, stays, moved}
 use borrow.Author.Needs.{needs}
@@ -13,10 +13,10 @@ use Rattle.genie.proofs.genie_write_record.Tie as tie
 use Rattle.genie.proofs.genie_write_record.Reads as reads
 use Rattle.genie.proofs.genie_write_record.Lts as lts
 use Rattle.calls.proofs.write_record.Reads as write-record-reads
-use Rattle.codec.proofs.geometry.Reads as geometry-reads
-use Rattle.codec.proofs.handle_of.Reads as handle-of-reads
-use Rattle.codec.proofs.mode_of.Reads as mode-of-reads
-use Rattle.codec.proofs.put_handle.Reads as put-handle-reads
+use Rattle.genie_codec.proofs.geometry.Reads as geometry-reads
+use Rattle.genie_codec.proofs.handle_of.Reads as handle-of-reads
+use Rattle.genie_codec.proofs.mode_of.Reads as mode-of-reads
+use Rattle.genie_codec.proofs.put_handle.Reads as put-handle-reads
 use Rattle.genie.proofs.short.Reads as short-reads
 
 -- src/lib.rt:194:9

@@ -5,8 +5,8 @@ use Rattle.growth.proofs.choose.Statement.{statement}
 use Rattle.growth.proofs.choose.Tie as tie
 use Rattle.growth.proofs.choose.Reads as reads
 use Rattle.growth.proofs.choose.Lts as lts
-use Rattle.supply.proofs.longest_from.Reads as longest-from-reads
-use Rattle.supply.proofs.next_free.Reads as next-free-reads
+use Rattle.growth_search.proofs.longest_from.Reads as longest-from-reads
+use Rattle.growth_search.proofs.next_free.Reads as next-free-reads
 
 next-free-requires : tie.Need-next-free-requires
 next-free-requires c κs = (c .before .before .pre .0, c .before .before .pre .2 .inside)

@@ -3,7 +3,7 @@ use mathlib.Core.Path.{refl, ap, sym, _∙_}
 use mathlib.Core.Bool.{true, false}
 use Prim.Native.Nat.{ℕ}
 use borrow.Author.Tests.{ltb-false}
-use Rattle.joint.proofs.Ready.{walks}
+use Rattle.passed.proofs.Ready.{walks}
 use Rattle.layout.proofs.Lists.{is-no}
 use Rattle.growth.proofs.Whole.{whole-none, whole-eleven, whole-nine, whole-eight, whole-first, whole-second, again, again-fails, lacks, is-yes, second-number}
 use lib.ListN.{length}
@@ -21,7 +21,7 @@ use Rattle.extent.proofs.measure.Reads as measure-reads
 use Rattle.growth.proofs.no_growth.Reads as no-growth-reads
 use Rattle.growth.proofs.take_granules.Reads as take-granules-reads
 use Rattle.growth.proofs.too_few_slots.Reads as too-few-slots-reads
-use Rattle.supply.proofs.too_few.Reads as too-few-reads
+use Rattle.growth_search.proofs.too_few.Reads as too-few-reads
 
 measure-requires : tie.Need-measure-requires
 measure-requires c κs = walks _ _ _ (c .before .before .pre)

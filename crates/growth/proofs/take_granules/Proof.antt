@@ -1,6 +1,6 @@
 use borrow.Author.Needs.{needs}
 use native.Mathlib.Omega.{arith}
-use Rattle.joint.proofs.Ready.{walks}
+use Rattle.passed.proofs.Ready.{walks}
 use Rattle.growth.proofs.Turns.{Turning, turning-start, turn-shut, turn-picked, turn-asks, turn-longer, turn-pair, turn-new, turn-stuck, turn-end, at-last, longer-fits, some-runs, new-places, at-new}
 use Rattle.growth.proofs.Growing.{tail-slot}
 use mathlib.Core.Logic.{⊎-elim, inl, inr}
@@ -12,9 +12,9 @@ use Rattle.growth.proofs.choose.Reads as choose-reads
 use Rattle.growth.proofs.put_extension.Reads as put-extension-reads
 use Rattle.growth.proofs.put_longer.Reads as put-longer-reads
 use Rattle.growth.proofs.put_pair.Reads as put-pair-reads
-use Rattle.supply.proofs.is_clear.Reads as is-clear-reads
-use Rattle.supply.proofs.last_run.Reads as last-run-reads
-use Rattle.supply.proofs.next_slot.Reads as next-slot-reads
+use Rattle.growth_search.proofs.is_clear.Reads as is-clear-reads
+use Rattle.growth_search.proofs.last_run.Reads as last-run-reads
+use Rattle.growth_search.proofs.next_slot.Reads as next-slot-reads
 
 abbrev Inv-loop : tie.InvT-loop
 Inv-loop image₀ g p e k lowest writes last₀ runs₀ after₀ long₀ next₀ most₀ slot₀ left₀ image last runs after long next most slot left = Turning g p lowest writes k image₀ image last runs after long next most slot left

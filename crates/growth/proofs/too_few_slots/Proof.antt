@@ -2,7 +2,7 @@ use Rattle.growth.proofs.Put.{put-back}
 use Rattle.growth.proofs.Whole.{on-paper, gat-inside}
 use Rattle.growth.proofs.Growing.{tail-slot}
 use Rattle.growth.proofs.Roomy.{pairs-left, lengthening}
-use Rattle.joint.proofs.Ready.{walks}
+use Rattle.passed.proofs.Ready.{walks}
 use mathlib.Core.Path.{refl, sym, _∙_}
 use native.Mathlib.Omega.{arith}
 use borrow.Author.Needs.{needs}
@@ -13,8 +13,8 @@ use Rattle.growth.proofs.too_few_slots.Lts as lts
 use Rattle.copy.proofs.put_part.Reads as put-part-reads
 use Rattle.growth.proofs.take_granules.Reads as take-granules-reads
 use Rattle.layout.proofs.runs.Reads as runs-reads
-use Rattle.supply.proofs.all_clear.Reads as all-clear-reads
-use Rattle.supply.proofs.last_run.Reads as last-run-reads
+use Rattle.growth_search.proofs.all_clear.Reads as all-clear-reads
+use Rattle.growth_search.proofs.last_run.Reads as last-run-reads
 
 runs-requires : tie.Need-runs-requires
 runs-requires c κs = (walks _ _ _ (c .before .before .pre .0) .0 .room, tail-slot _ _ (c .before .before .args .lowest) (c .before .before .pre .0) (c .before .before .pre .1))

@@ -6,7 +6,7 @@ use Rattle.listing.proofs.tell.Statement.{statement}
 use Rattle.listing.proofs.tell.Tie as tie
 use Rattle.listing.proofs.tell.Reads as reads
 use Rattle.listing.proofs.tell.Lts as lts
-use Rattle.find.proofs.name_at.Reads as name-at-reads
+use Rattle.look_up.proofs.name_at.Reads as name-at-reads
 use Rattle.extent.proofs.measure.Reads as measure-reads
 use Rattle.layout.proofs.size_of.Reads as size-of-reads
 use Rattle.refusal.proofs.unplaced.Reads as unplaced-reads

@@ -4,7 +4,7 @@ use native.Mathlib.Omega.{arith}
 use borrow.Author.Needs.{needs}
 use Prim.Native.Nat.{ℕ, _-_, _≤_, _+_, _*_}
 use mathlib.Core.Path.{_≡_, ap, sym, _∙_, subst}
-use Rattle.find.proofs.Pass.{InRow, row-start, row-slot, row-here, row-next, row-past, row-after}
+use Rattle.look_up.proofs.Pass.{InRow, row-start, row-slot, row-here, row-next, row-past, row-after}
 use Rattle.listing.proofs.Files.{Telling, telling-start, telling-past, telling-no, telling-more, telling-here, telling-end, telling-same, tells-used}
 use Rattle.listing.proofs.told.Statement.{statement}
 use Rattle.listing.proofs.told.Tie as tie

@@ -1,5 +1,5 @@
 use native.Mathlib.Omega.{arith}
-use Rattle.joint.proofs.Ready.{walks}
+use Rattle.passed.proofs.Ready.{walks}
 use Rattle.handle.proofs.Laws.{handed}
 use Rattle.trim.proofs.Laws.{by-range, trim-ready, trim-reads, needs-owned, trim-last, refused, kept, trimmed}
 use borrow.Author.Needs.{needs}

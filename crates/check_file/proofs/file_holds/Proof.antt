@@ -1,0 +1,93 @@
+use borrow.Author.Tests.{not-true, not-false}
+use mathlib.Core.Path.{refl}
+use Rattle.layout.proofs.Lists.{is-no, is-yes}
+use Rattle.check_file.proofs.Directory.{file-refused, file-system, file-other}
+use Rattle.check_file.proofs.Laws.{file-bit, file-name, file-count, file-walk, two}
+use borrow.Author.Needs.{needs}
+use Rattle.check_file.proofs.file_holds.Statement.{statement}
+use Rattle.check_file.proofs.file_holds.Tie as tie
+use Rattle.check_file.proofs.file_holds.Reads as reads
+use Rattle.check_file.proofs.file_holds.Lts as lts
+use Rattle.check_file.proofs.count_holds.Reads as count-holds-reads
+use Rattle.check_file.proofs.name_holds.Reads as name-holds-reads
+use Rattle.layout.proofs.directory_sectors.Reads as directory-sectors-reads
+use Rattle.check_map.proofs.among.Reads as among-reads
+use Rattle.check_walk.proofs.field_at.Reads as field-at-reads
+use Rattle.check_walk.proofs.file_walk.Reads as file-walk-reads
+
+returns : tie.Need-returns
+returns c = file-bit _ _ _ ((c .before .before .pre) .2) (c .if1 .taken)
+
+name-holds-requires : tie.Need-name-holds-requires
+name-holds-requires c κs = search needs
+
+returns-2 : tie.Need-returns-2
+returns-2 c = file-name _ _ _ ((c .before .before .before .before .pre) .3) (is-no (c .before .name-holds .ensures) (c .if2 .taken))
+
+field-at-requires : tie.Need-field-at-requires
+field-at-requires c κs = search needs
+
+field-at-requires-2 : tie.Need-field-at-requires-2
+field-at-requires-2 c κs = search needs
+
+mul-n : tie.Need-mul-n
+mul-n c = search needs
+
+add-n : tie.Need-add-n
+add-n c = search needs
+
+count-holds-requires : tie.Need-count-holds-requires
+count-holds-requires c κs = search needs
+
+returns-3 : tie.Need-returns-3
+returns-3 c = file-count _ _ _ (two _ _ _ (c .before .before .before .field-at .ensures .is) (c .before .before .field-at2 .ensures .is)) (is-no (c .before .count-holds .ensures) (c .if3 .taken))
+
+directory-sectors-requires : tie.Need-directory-sectors-requires
+directory-sectors-requires c κs = search needs
+
+sub-left : tie.Need-sub-left
+sub-left c = search needs
+
+mul-left : tie.Need-mul-left
+mul-left c = search needs
+
+among-requires : tie.Need-among-requires
+among-requires c κs = (c .before .before .before .before .before .before .before .before .before .before .pre) .4 .spans .room
+
+file-walk-requires : tie.Need-file-walk-requires
+file-walk-requires c κs = search needs
+
+returns-4 : tie.Need-returns-4
+returns-4 c = file-refused _ _ _ (file-walk _ _ _ ((c .before .before .before .before .before .before .before .before .before .before .before .before .before .before .before .pre) .0) ((c .before .before .before .before .before .before .before .before .before .before .before .before .before .before .before .pre) .2) (c .before .before .before .before .before .before .before .before .before .before .before .before .before .if1 .left) ((c .before .before .before .before .before .before .before .before .before .before .before .before .before .before .before .pre) .3) (is-yes (c .before .before .before .before .before .before .before .before .before .before .before .before .name-holds .ensures) (c .before .before .before .before .before .before .before .before .before .before .before .if2 .left)) (two _ _ _ (c .before .before .before .before .before .before .before .before .before .before .field-at .ensures .is) (c .before .before .before .before .before .before .before .before .before .field-at2 .ensures .is)) (is-yes (c .before .before .before .before .before .before .before .before .count-holds .ensures) (c .before .before .before .before .before .before .before .if3 .left)) (c .before .before .before .before .before .before .directory-sectors .ensures) refl (c .before .file-walk .ensures)) (not-true _ (c .if4 .taken))
+
+returns-5 : tie.Need-returns-5
+returns-5 c = file-system _ _ _ ((c .before .before .before .before .before .before .before .before .before .before .before .before .before .before .before .before .pre) .2) (c .if5 .taken) (file-walk _ _ _ ((c .before .before .before .before .before .before .before .before .before .before .before .before .before .before .before .before .pre) .0) ((c .before .before .before .before .before .before .before .before .before .before .before .before .before .before .before .before .pre) .2) (c .before .before .before .before .before .before .before .before .before .before .before .before .before .before .if1 .left) ((c .before .before .before .before .before .before .before .before .before .before .before .before .before .before .before .before .pre) .3) (is-yes (c .before .before .before .before .before .before .before .before .before .before .before .before .before .name-holds .ensures) (c .before .before .before .before .before .before .before .before .before .before .before .before .if2 .left)) (two _ _ _ (c .before .before .before .before .before .before .before .before .before .before .before .field-at .ensures .is) (c .before .before .before .before .before .before .before .before .before .before .field-at2 .ensures .is)) (is-yes (c .before .before .before .before .before .before .before .before .before .count-holds .ensures) (c .before .before .before .before .before .before .before .before .if3 .left)) (c .before .before .before .before .before .before .before .directory-sectors .ensures) refl (c .before .before .file-walk .ensures)) (not-false _ (c .before .if4 .left))
+
+among-requires-2 : tie.Need-among-requires-2
+among-requires-2 c κs = (c .before .before .before .before .before .before .before .before .before .before .before .before .before .before .before .before .before .pre) .4 .spans .room
+
+returns-6 : tie.Need-returns-6
+returns-6 c = file-other _ _ _ ((c .before .before .before .before .before .before .before .before .before .before .before .before .before .before .before .before .before .before .pre) .0) ((c .before .before .before .before .before .before .before .before .before .before .before .before .before .before .before .before .before .before .pre) .4) ((c .before .before .before .before .before .before .before .before .before .before .before .before .before .before .before .before .before .before .pre) .2) (c .before .before .if5 .left) (file-walk _ _ _ ((c .before .before .before .before .before .before .before .before .before .before .before .before .before .before .before .before .before .before .pre) .0) ((c .before .before .before .before .before .before .before .before .before .before .before .before .before .before .before .before .before .before .pre) .2) (c .before .before .before .before .before .before .before .before .before .before .before .before .before .before .before .before .if1 .left) ((c .before .before .before .before .before .before .before .before .before .before .before .before .before .before .before .before .before .before .pre) .3) (is-yes (c .before .before .before .before .before .before .before .before .before .before .before .before .before .before .before .name-holds .ensures) (c .before .before .before .before .before .before .before .before .before .before .before .before .before .before .if2 .left)) (two _ _ _ (c .before .before .before .before .before .before .before .before .before .before .before .before .before .field-at .ensures .is) (c .before .before .before .before .before .before .before .before .before .before .before .before .field-at2 .ensures .is)) (is-yes (c .before .before .before .before .before .before .before .before .before .before .before .count-holds .ensures) (c .before .before .before .before .before .before .before .before .before .before .if3 .left)) (c .before .before .before .before .before .before .before .before .before .directory-sectors .ensures) refl (c .before .before .before .before .file-walk .ensures)) (not-false _ (c .before .before .before .if4 .left)) (c .before .before .before .before .before .before .before .among .ensures) (c .among2 .ensures)
+
+pub file-holds-spec : {M : Type 1} → statement M
+file-holds-spec =
+    tie.close
+    (tie.spec
+    returns
+    name-holds-requires
+    returns-2
+    field-at-requires
+    field-at-requires-2
+    mul-n
+    add-n
+    count-holds-requires
+    returns-3
+    directory-sectors-requires
+    sub-left
+    mul-left
+    among-requires
+    file-walk-requires
+    returns-4
+    returns-5
+    among-requires-2
+    returns-6)

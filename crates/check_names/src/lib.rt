@@ -1,0 +1,114 @@
+// Names: that no two files have the same one.
+use meaning::Geometry;
+ghost use mathlib.Core.Path.{_≡_};
+ghost use mathlib.Core.Bool.{true};
+ghost use Prim.Native.Nat.{_+_, _*_, _<_, _≤_};
+ghost use lib.ListN.{length, getD};
+ghost use Rattle.meaning.specs.Lists.{every};
+ghost use Rattle.meaning.specs.Layout.{hit, entryAt};
+ghost use Rattle.meaning.specs.Entries.{primary};
+ghost use Rattle.meaning.specs.Chain.{files};
+ghost use Rattle.meaning.specs.Consistent.{namesDiffer};
+ghost use Rattle.layout.specs.Room.{Room, Slot};
+ghost use Rattle.check_names.specs.Buckets.{Hashed, Buckets, Linked, bucket, unlike, Joined, Differing, Visited};
+
+// Whether the entry of slot s, which is at `at`, starts a file.
+fn starts_file(image: &[u8], g: Geometry, s: usize, at: usize) -> bool
+    requires { ⌜ Room g (now image) × Slot g (now image) s × (at ≡ entryAt g s) ⌝ }
+    ensures { λ r. ⌜ r ≡ primary g (now (image .entry)) s ⌝ }
+{
+    let f = layout::wide(image[at]);
+    if (f >> 4) % 2 != 1 {
+        return false;
+    }
+    (f >> 7) % 2 != 1
+}
+
+// Whether no entry of a list has the name of slot s, whose entry is at `at`. The list starts at `first`: a slot's number plus 1, or 0 where
+// it ends; `next` tells what follows a slot.
+fn alone(image: &[u8], g: Geometry, s: usize, at: usize, first: usize, next: &[u16]) -> bool
+    requires { ⌜ Room g (now image) × Slot g (now image) s × (at ≡ entryAt g s)
+        × Linked g (now image) (now next) first (bucket g (now image) (hit g (now image) s) s)
+        × (length (now next) ≡ 256) × ((k : _) → getD (now next) k 0 ≤ k) ⌝ }
+    ensures { λ r. ⌜ r ≡ every (unlike g (now (image .entry)) s) (bucket g (now (image .entry)) (hit g (now (image .entry)) s) s) ⌝ }
+{
+    let a = at + 5;
+    let e = a + 11;
+    let mut x = first;
+    while 0 < x {
+        let q = x - 1;
+        if layout::same_name(
+            image,
+            256 * (g.start + 2 + q % 32) + 32 * (q / 32) + 5,
+            &image[a..e],
+        ) {
+            return false;
+        }
+        x = next[q] as usize;
+    }
+    true
+}
+
+// Puts slot s into the list of its HIT byte, unless an entry with its name is there. A slot's number plus 1 is a byte: no row has all 32 slots.
+fn joins(image: &[u8], g: Geometry, s: usize, at: usize, head: &mut [u8], next: &mut [u16]) -> bool
+    requires { ⌜ Room g (now image) × Slot g (now image) s × (at ≡ entryAt g s) × (primary g (now image) s ≡ true)
+        × Buckets g (now image) s (now head) (now next) ⌝ }
+    ensures { λ r. ⌜ Joined g (now (image .entry)) s (now (head .exit)) (now (next .exit)) r ⌝ }
+{
+    let b = layout::hit(image, g, s);
+    let first = layout::wide(head[b]);
+    if !alone(image, g, s, at, first, next) {
+        return false;
+    }
+    next[s] = first as u16;
+    head[b] = (s + 1) as u8;
+    true
+}
+
+// Slot s, after all slots below it: false if it is a file whose name one of those has.
+fn visit(image: &[u8], g: Geometry, s: usize, at: usize, head: &mut [u8], next: &mut [u16]) -> bool
+    requires { ⌜ Room g (now image) × Hashed g (now image) × Slot g (now image) s × (at ≡ entryAt g s)
+        × Differing g (now image) s (now head) (now next) ⌝ }
+    ensures { λ r. ⌜ Visited g (now (image .entry)) (s + 1) (now (head .exit)) (now (next .exit)) r ⌝ }
+{
+    if !starts_file(image, g, s, at) {
+        return true;
+    }
+    joins(image, g, s, at, head, next)
+}
+
+// The slots of one row, after those of all rows before it.
+fn row_differs(image: &[u8], g: Geometry, row: usize, head: &mut [u8], next: &mut [u16]) -> bool
+    requires { ⌜ Room g (now image) × Hashed g (now image) × (row < 8) × Differing g (now image) (32 * row) (now head) (now next) ⌝ }
+    ensures { λ r. ⌜ Visited g (now (image .entry)) (32 * (row + 1)) (now (head .exit)) (now (next .exit)) r ⌝ }
+{
+    let first = 32 * row;
+    let end = first + (layout::directory_sectors(image, g) - 2);
+    let mut at = 256 * (g.start + 2) + 32 * row;
+    let mut s = first;
+    while s < end {
+        if !visit(image, g, s, at, head, next) {
+            return false;
+        }
+        at += 256;
+        s += 1;
+    }
+    true
+}
+
+// Whether no two files have the same name. Names are compared only where HIT bytes agree.
+pub fn names_differ(image: &[u8], g: Geometry) -> bool
+    requires { ⌜ Room g (now image) × Hashed g (now image) ⌝ }
+    ensures { λ r. ⌜ r ≡ namesDiffer g (now (image .entry)) (files g (now (image .entry))) ⌝ }
+{
+    let mut head = [0u8; 256];
+    let mut next = [0u16; 256];
+    let mut row = 0;
+    while row < 8 {
+        if !row_differs(image, g, row, &mut head, &mut next) {
+            return false;
+        }
+        row += 1;
+    }
+    true
+}

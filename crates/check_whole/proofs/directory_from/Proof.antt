@@ -1,0 +1,29 @@
+use Rattle.check_whole.proofs.Directory.{directory-on-map}
+use Rattle.check_map.proofs.Window.{base-own, base-last, base-spans}
+use Rattle.meaning.specs.Sizes.{touched-few}
+use mathlib.Core.Path.{refl}
+use borrow.Author.Needs.{needs}
+use Rattle.check_whole.proofs.directory_from.Statement.{statement}
+use Rattle.check_whole.proofs.directory_from.Tie as tie
+use Rattle.check_whole.proofs.directory_from.Reads as reads
+use Rattle.check_whole.proofs.directory_from.Lts as lts
+use Rattle.layout.proofs.granule_sectors.Reads as granule-sectors-reads
+
+granule-sectors-requires : tie.Need-granule-sectors-requires
+granule-sectors-requires c κs = search needs
+
+div-block : tie.Need-div-block
+div-block c = search needs
+
+div-block-2 : tie.Need-div-block-2
+div-block-2 c = search needs
+
+returns : tie.Need-returns
+returns c = base-spans (c .before .before .before .before .before .args .g .units) _ _ (base-own (rw (← c .before .before .before .granule-sectors .ensures .is) (c .if1 .taken)) (rw (← c .before .before .before .granule-sectors .ensures .is) refl)) ((c .before .before .before .before .before .pre) .units-low) (touched-few _ _ (c .before .before .before .before .before .pre .thirty)) (directory-on-map _ _ (c .before .before .before .before .before .pre))
+
+returns-2 : tie.Need-returns-2
+returns-2 c = base-spans (c .before .before .before .before .before .args .g .units) _ _ (base-last (rw (← c .before .before .before .granule-sectors .ensures .is) (c .if1 .left)) refl) ((c .before .before .before .before .before .pre) .units-low) (touched-few _ _ (c .before .before .before .before .before .pre .thirty)) (directory-on-map _ _ (c .before .before .before .before .before .pre))
+
+pub directory-from-spec : {M : Type 1} → statement M
+directory-from-spec =
+    tie.close (tie.spec granule-sectors-requires div-block div-block-2 returns returns-2)

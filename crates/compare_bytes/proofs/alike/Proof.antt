@@ -1,0 +1,53 @@
+use Prim.Native.Nat.{_-_}
+use lib.ListN.{length}
+use Rattle.compare_bytes.proofs.Contents.{Agree, agree-start, agree-on, agree-stop, agree-end}
+use borrow.Author.Needs.{needs}
+use Rattle.compare_bytes.proofs.alike.Statement.{statement}
+use Rattle.compare_bytes.proofs.alike.Tie as tie
+use Rattle.compare_bytes.proofs.alike.Reads as reads
+use Rattle.compare_bytes.proofs.alike.Lts as lts
+
+abbrev Inv-loop : tie.InvT-loop
+Inv-loop a b i₀ i = Agree a b i
+
+abbrev μ-loop : tie.MeasureT-loop
+μ-loop a b i₀ i = length a - i
+
+loop-holds : tie.Need-loop-holds Inv-loop μ-loop
+loop-holds c = agree-start _ _
+
+shared-slice-read-if1 : tie.Need-shared-slice-read-if1 Inv-loop μ-loop
+shared-slice-read-if1 c = search needs
+
+shared-slice-read-if1-2 : tie.Need-shared-slice-read-if1-2 Inv-loop μ-loop
+shared-slice-read-if1-2 c = search needs
+
+returns : tie.Need-returns Inv-loop μ-loop
+returns c = agree-stop _ _ (c .before .before .before .before .before .pre) (c .before .before .before .loop-test .taken) (c .before .before .before .before .loop .inv) (c .if1 .taken)
+
+add-i : tie.Need-add-i Inv-loop μ-loop
+add-i c = search needs
+
+loop-less : tie.Need-loop-less Inv-loop μ-loop
+loop-less c = search needs
+
+loop-again : tie.Need-loop-again Inv-loop μ-loop
+loop-again c = agree-on _ _ (c .before .before .before .before .before .pre) (c .before .before .before .loop-test .taken) (c .before .before .before .before .loop .inv) (c .if1 .left)
+
+returns-2 : tie.Need-returns-2 Inv-loop μ-loop
+returns-2 c = agree-end _ _ (c .loop-test .left) (c .before .loop .inv)
+
+pub alike-spec : {M : Type 1} → statement M
+alike-spec =
+    tie.close
+    (tie.spec
+    Inv-loop
+    μ-loop
+    loop-holds
+    shared-slice-read-if1
+    shared-slice-read-if1-2
+    returns
+    add-i
+    loop-less
+    loop-again
+    returns-2)

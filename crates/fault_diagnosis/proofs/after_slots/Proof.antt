@@ -1,0 +1,49 @@
+use mathlib.Core.Path.{refl, _∙_}
+use Rattle.layout.proofs.Lists.{is-no, is-yes}
+use Rattle.fault_diagnosis.proofs.Laws.{directory-in, clear-no, clear-yes}
+use borrow.Author.Needs.{needs}
+use Rattle.fault_diagnosis.proofs.after_slots.Statement.{statement}
+use Rattle.fault_diagnosis.proofs.after_slots.Tie as tie
+use Rattle.fault_diagnosis.proofs.after_slots.Reads as reads
+use Rattle.fault_diagnosis.proofs.after_slots.Lts as lts
+use Rattle.fault_kinds.proofs.all_taken.Reads as all-taken-reads
+use Rattle.layout.proofs.directory_granules.Reads as directory-granules-reads
+use Rattle.layout.proofs.granule_sectors.Reads as granule-sectors-reads
+use Rattle.refusal.proofs.unplaced.Reads as unplaced-reads
+
+granule-sectors-requires : tie.Need-granule-sectors-requires
+granule-sectors-requires c κs = search needs
+
+div-a : tie.Need-div-a
+div-a c = search needs
+
+directory-granules-requires : tie.Need-directory-granules-requires
+directory-granules-requires c κs = search needs
+
+all-taken-requires : tie.Need-all-taken-requires
+all-taken-requires c κs = (c .before .before .before .before .pre, directory-in _ _ (rw (← c .before .before .granule-sectors .ensures .is) refl) (c .directory-granules .ensures .is) (c .before .before .before .before .pre))
+
+unplaced-requires : tie.Need-unplaced-requires
+unplaced-requires c κs = search needs
+
+returns : tie.Need-returns
+returns c = c .unplaced .ensures ∙ clear-no _ _ (rw (← c .before .before .before .before .before .granule-sectors .ensures .is) refl) (c .before .before .before .directory-granules .ensures .is) (is-no (c .before .before .all-taken .ensures) (c .before .if1 .taken))
+
+unplaced-requires-2 : tie.Need-unplaced-requires-2
+unplaced-requires-2 c κs = search needs
+
+returns-2 : tie.Need-returns-2
+returns-2 c = c .unplaced2 .ensures ∙ clear-yes _ _ (rw (← c .before .before .before .before .before .granule-sectors .ensures .is) refl) (c .before .before .before .directory-granules .ensures .is) (is-yes (c .before .before .all-taken .ensures) (c .before .if1 .left))
+
+pub after-slots-spec : {M : Type 1} → statement M
+after-slots-spec =
+    tie.close
+    (tie.spec
+    granule-sectors-requires
+    div-a
+    directory-granules-requires
+    all-taken-requires
+    unplaced-requires
+    returns
+    unplaced-requires-2
+    returns-2)

@@ -1,0 +1,24 @@
+use mathlib.Core.Path.{sym, _∙_}
+use Rattle.meaning.specs.Fault.{duplicateFault}
+use Rattle.layout.proofs.Lists.{all-no, all-yes, all-one, is-no, is-yes}
+use Rattle.fault_diagnosis.proofs.Laws.{below-is}
+use borrow.Author.Needs.{needs}
+use Rattle.fault_diagnosis.proofs.duplicate_fault.Statement.{statement}
+use Rattle.fault_diagnosis.proofs.duplicate_fault.Tie as tie
+
+primary-requires : tie.Need-primary-requires
+primary-requires c κs = search needs
+
+returns : tie.Need-returns
+unfolding duplicateFault
+returns c = sym (all-no (is-no (c .before .primary .ensures) (c .if1 .taken)) _)
+
+name-below-requires : tie.Need-name-below-requires
+name-below-requires c κs = search needs
+
+returns-2 : tie.Need-returns-2
+unfolding duplicateFault
+returns-2 c = let a = c .before .before .before .before .args in c .name-below .ensures ∙ sym (all-yes (is-yes (c .before .before .primary .ensures) (c .before .if1 .left)) _ ∙ all-one _ ∙ below-is (a .g) (a .image .now) (a .p) (c .before .before .before .before .pre .1 .low))
+
+pub duplicate-fault-spec : {M : Type 1} → statement M
+duplicate-fault-spec = tie.close (tie.spec primary-requires returns name-below-requires returns-2)

@@ -1,0 +1,22 @@
+use mathlib.Core.Path.{_∙_}
+use Rattle.layout.proofs.Lists.{is-no, is-yes}
+use Rattle.layout.proofs.Sound.{slot-of}
+use Rattle.fault_diagnosis.proofs.Laws.{none-in, one-in}
+use borrow.Author.Needs.{needs}
+use Rattle.fault_diagnosis.proofs.fault_in.Statement.{statement}
+use Rattle.fault_diagnosis.proofs.fault_in.Tie as tie
+
+is-slot-requires : tie.Need-is-slot-requires
+is-slot-requires c κs = search needs
+
+returns : tie.Need-returns
+returns c = none-in _ _ _ (is-no (c .before .is-slot .ensures) (c .if1 .taken))
+
+fault-at-requires : tie.Need-fault-at-requires
+fault-at-requires c κs = (c .before .before .before .pre, slot-of _ _ _ (is-yes (c .before .is-slot .ensures) (c .if1 .left)))
+
+returns-2 : tie.Need-returns-2
+returns-2 c = c .fault-at .ensures ∙ one-in _ _ _ (is-yes (c .before .before .is-slot .ensures) (c .before .if1 .left))
+
+pub fault-in-spec : {M : Type 1} → statement M
+fault-in-spec = tie.close (tie.spec is-slot-requires returns fault-at-requires returns-2)

@@ -1,0 +1,38 @@
+use mathlib.Core.Path.{sym, _∙_}
+use Rattle.meaning.specs.Fault.{hitFault}
+use Rattle.layout.proofs.Lists.{all-no, all-yes, all-one, is-no, is-yes, not-no, not-yes, any-skip, any-hit}
+use Rattle.fault_kinds.proofs.Laws.{any-one}
+use borrow.Author.Needs.{needs}
+use Rattle.fault_diagnosis.proofs.hit_fault.Statement.{statement}
+use Rattle.fault_diagnosis.proofs.hit_fault.Tie as tie
+
+hit-holds-requires : tie.Need-hit-holds-requires
+hit-holds-requires c κs = search needs
+
+returns : tie.Need-returns
+unfolding hitFault
+returns c = sym (any-hit (not-no (is-no (c .before .hit-holds .ensures) (c .if1 .taken))) _)
+
+flag-requires : tie.Need-flag-requires
+flag-requires c κs = search needs
+
+returns-2 : tie.Need-returns-2
+unfolding hitFault
+returns-2 c = sym (any-skip (not-yes (is-yes (c .before .before .before .hit-holds .ensures) (c .before .before .if1 .left))) _ ∙ any-one _ ∙ all-no (is-no (c .before .flag .ensures) (c .if2 .taken)) _)
+
+linked-requires : tie.Need-linked-requires
+linked-requires c κs = search needs
+
+returns-3 : tie.Need-returns-3
+unfolding hitFault
+returns-3 c = sym (any-skip (not-yes (is-yes (c .before .before .before .before .before .hit-holds .ensures) (c .before .before .before .before .if1 .left))) _ ∙ any-one _ ∙ all-yes (is-yes (c .before .before .before .flag .ensures) (c .before .before .if2 .left)) _ ∙ all-no (is-no (c .before .linked .ensures) (c .if3 .taken)) _)
+
+hash-differs-requires : tie.Need-hash-differs-requires
+hash-differs-requires c κs = search needs
+
+returns-4 : tie.Need-returns-4
+unfolding hitFault
+returns-4 c = c .hash-differs .ensures ∙ sym (any-skip (not-yes (is-yes (c .before .before .before .before .before .before .hit-holds .ensures) (c .before .before .before .before .before .if1 .left))) _ ∙ any-one _ ∙ all-yes (is-yes (c .before .before .before .before .flag .ensures) (c .before .before .before .if2 .left)) _ ∙ all-yes (is-yes (c .before .before .linked .ensures) (c .before .if3 .left)) _ ∙ all-one _)
+
+pub hit-fault-spec : {M : Type 1} → statement M
+hit-fault-spec = tie.close (tie.spec hit-holds-requires returns flag-requires returns-2 linked-requires returns-3 hash-differs-requires returns-4)

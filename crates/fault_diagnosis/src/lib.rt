@@ -1,0 +1,213 @@
+// The fault of a disk (02): what is inconsistent, and where. It is looked for only where the fast check says no.
+use meaning::Geometry;
+use meaning::Refusal;
+ghost use mathlib.Core.Path.{_≡_};
+ghost use mathlib.Core.Bool.{true};
+ghost use Prim.Native.Nat.{_+_, _*_, _<_};
+ghost use Rattle.meaning.specs.Lists.{count, some};
+ghost use Rattle.meaning.specs.Layout.{slots};
+ghost use Rattle.meaning.specs.Consistent.{hitHolds};
+ghost use Rattle.meaning.specs.Fault.{hitFault, nameFault, duplicateFault, faultAt, lowest, fault};
+ghost use Rattle.meaning.specs.Refusals.{check};
+ghost use Rattle.layout.specs.Room.{Room, Slot};
+ghost use Rattle.check_whole.specs.Slots.{Fits};
+ghost use Rattle.fault_diagnosis.specs.Told.{hashDiffers, sameFile, faultIn, afterSlots};
+
+// A slot's HIT byte is nonzero exactly if its entry is in use.
+fn hit_holds(image: &[u8], g: Geometry, s: usize) -> bool
+    requires { ⌜ Room g (now image) × Slot g (now image) s ⌝ }
+    ensures { λ r. ⌜ r ≡ hitHolds g (now (image .entry)) s ⌝ }
+{
+    let h = layout::hit(image, g, s);
+    let used = entry::flag(image, g, s, 4);
+    if h == 0 {
+        return !used;
+    }
+    used
+}
+
+// Whether the HIT byte is not the hash of the name of the entry's file.
+fn hash_differs(image: &[u8], g: Geometry, s: usize) -> bool
+    requires { ⌜ Room g (now image) × Slot g (now image) s ⌝ }
+    ensures { λ r. ⌜ r ≡ hashDiffers g (now (image .entry)) s ⌝ }
+{
+    let p = fault_kinds::file_of(image, g, s);
+    let a = 256 * (g.start + 2 + p % 32) + 32 * (p / 32) + 5;
+    let e = a + 11;
+    let h = name_hash::hash(&image[a..e]);
+    layout::hit(image, g, s) != h
+}
+
+fn hit_fault(image: &[u8], g: Geometry, s: usize) -> bool
+    requires { ⌜ Room g (now image) × Slot g (now image) s ⌝ }
+    ensures { λ r. ⌜ r ≡ hitFault g (now (image .entry)) s ⌝ }
+{
+    if !hit_holds(image, g, s) {
+        return true;
+    }
+    if !entry::flag(image, g, s, 4) {
+        return false;
+    }
+    if !fault_kinds::linked(image, g, s) {
+        return false;
+    }
+    hash_differs(image, g, s)
+}
+
+fn name_fault(image: &[u8], g: Geometry, p: usize) -> bool
+    requires { ⌜ Room g (now image) × Slot g (now image) p ⌝ }
+    ensures { λ r. ⌜ r ≡ nameFault g (now (image .entry)) p ⌝ }
+{
+    if !layout::primary(image, g, p) {
+        return false;
+    }
+    !entry::name_holds(image, g, p)
+}
+
+// Whether a file starts at slot q with the name of that at p.
+fn same_file(image: &[u8], g: Geometry, p: usize, q: usize) -> bool
+    requires { ⌜ Room g (now image) × Slot g (now image) p ⌝ }
+    ensures { λ r. ⌜ r ≡ sameFile g (now (image .entry)) p q ⌝ }
+{
+    if !layout::is_slot(image, g, q) {
+        return false;
+    }
+    if !layout::primary(image, g, q) {
+        return false;
+    }
+    let a = 256 * (g.start + 2 + p % 32) + 32 * (p / 32) + 5;
+    let e = a + 11;
+    layout::same_name(
+        image,
+        256 * (g.start + 2 + q % 32) + 32 * (q / 32) + 5,
+        &image[a..e],
+    )
+}
+
+// Whether a file in a lower slot has the name of that at p.
+fn name_below(image: &[u8], g: Geometry, p: usize) -> bool
+    requires { ⌜ Room g (now image) × Slot g (now image) p ⌝ }
+    ensures { λ r. ⌜ r ≡ some (sameFile g (now (image .entry)) p) (count 0 p) ⌝ }
+{
+    let mut q = 0;
+    while q < p {
+        if same_file(image, g, p, q) {
+            return true;
+        }
+        q += 1;
+    }
+    false
+}
+
+fn duplicate_fault(image: &[u8], g: Geometry, p: usize) -> bool
+    requires { ⌜ Room g (now image) × Slot g (now image) p ⌝ }
+    ensures { λ r. ⌜ r ≡ duplicateFault g (now (image .entry)) p ⌝ }
+{
+    if !layout::primary(image, g, p) {
+        return false;
+    }
+    name_below(image, g, p)
+}
+
+// The first kind at a slot, in 02's order; 0 where there is none.
+fn fault_at(image: &[u8], g: Geometry, s: usize) -> u8
+    requires { ⌜ Room g (now image) × Slot g (now image) s ⌝ }
+    ensures { λ r. ⌜ r ≡ faultAt g (now (image .entry)) s ⌝ }
+{
+    if hit_fault(image, g, s) {
+        return 22;
+    }
+    if name_fault(image, g, s) {
+        return 23;
+    }
+    if duplicate_fault(image, g, s) {
+        return 24;
+    }
+    if fault_kinds::chain_fault(image, g, s) {
+        return 25;
+    }
+    if fault_kinds::run_fault(image, g, s) {
+        return 26;
+    }
+    if fault_kinds::gat_fault(image, g, s) {
+        return 27;
+    }
+    if fault_kinds::shared_fault(image, g, s) {
+        return 28;
+    }
+    if fault_kinds::size_fault(image, g, s) {
+        return 29;
+    }
+    if fault_kinds::directory_fault(image, g, s) {
+        return 30;
+    }
+    0
+}
+
+// The same, 0 where the directory has no slot s.
+fn fault_in(image: &[u8], g: Geometry, s: usize) -> u8
+    requires { ⌜ Room g (now image) ⌝ }
+    ensures { λ r. ⌜ r ≡ faultIn g (now (image .entry)) s ⌝ }
+{
+    if !layout::is_slot(image, g, s) {
+        return 0;
+    }
+    fault_at(image, g, s)
+}
+
+// What is told where no slot is at fault.
+fn after_slots(image: &[u8], g: Geometry) -> Refusal
+    requires { ⌜ Room g (now image) ⌝ }
+    ensures { λ r. ⌜ r ≡ afterSlots g (now (image .entry)) ⌝ }
+{
+    let a = g.start / layout::granule_sectors(g);
+    let n = layout::directory_granules(image, g);
+    if !fault_kinds::all_taken(image, g, a, n) {
+        return refusal::unplaced(30);
+    }
+    refusal::unplaced(0)
+}
+
+// The lowest slot at fault, and what is told after the slots.
+fn slots_fault(image: &[u8], g: Geometry) -> Refusal
+    requires { ⌜ Room g (now image) ⌝ }
+    ensures { λ r. ⌜ r ≡ lowest g (now (image .entry)) (afterSlots g (now (image .entry))) (slots g (now (image .entry))) ⌝ }
+{
+    let mut s = 0;
+    while s < 256 {
+        let n = fault_in(image, g, s);
+        if n != 0 {
+            return Refusal {
+                number: n,
+                image: 0,
+                at: s,
+            };
+        }
+        s += 1;
+    }
+    after_slots(image, g)
+}
+
+// The fault of a disk whose geometry and image length fit.
+pub fn fault_of(image: &[u8], g: Geometry) -> Refusal
+    requires { ⌜ Fits g (now image) ⌝ }
+    ensures { λ r. ⌜ r ≡ fault g (now (image .entry)) ⌝ }
+{
+    if !check_whole::length_holds(image, g) {
+        return refusal::unplaced(21);
+    }
+    slots_fault(image, g)
+}
+
+// The check of a whole disk: 1 where the geometry or the image's length does not fit, else the fault with its slot.
+pub fn check(image: &[u8], g: Geometry) -> Refusal
+    ensures { λ r. ⌜ r ≡ check g (now (image .entry)) ⌝ }
+{
+    if !layout::fits_geometry(image, g) {
+        return refusal::unplaced(1);
+    }
+    if check_whole::consistent(image, g) {
+        return refusal::unplaced(0);
+    }
+    fault_of(image, g)
+}

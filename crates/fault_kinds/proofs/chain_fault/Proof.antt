@@ -1,0 +1,32 @@
+use borrow.Author.Needs.{needs}
+use Rattle.fault_kinds.proofs.Laws.{so, not-so, any-one, unlinked}
+use Rattle.layout.proofs.Lists.{all-no, all-yes, all-one, is-no, is-yes, any-skip, any-hit}
+use Rattle.meaning.specs.Fault.{chainFault}
+use mathlib.Core.Bool.{not}
+use mathlib.Core.Path.{sym, ap, _∙_}
+use Rattle.fault_kinds.proofs.chain_fault.Statement.{statement}
+use Rattle.fault_kinds.proofs.chain_fault.Tie as tie
+
+flag-requires : tie.Need-flag-requires
+flag-requires c κs = search needs
+
+returns : tie.Need-returns
+unfolding chainFault
+returns c = sym (all-no (is-no (c .before .flag .ensures) (c .if1 .taken)) _)
+
+bad-entry-requires : tie.Need-bad-entry-requires
+bad-entry-requires c κs = search needs
+
+returns-2 : tie.Need-returns-2
+unfolding chainFault
+returns-2 c = sym (all-yes (is-yes (c .before .before .before .flag .ensures) (c .before .before .if1 .left)) _ ∙ all-one _ ∙ any-hit (so (c .before .bad-entry .ensures) (c .if2 .taken)) _)
+
+linked-requires : tie.Need-linked-requires
+linked-requires c κs = search needs
+
+returns-3 : tie.Need-returns-3
+unfolding chainFault
+returns-3 c = ap not (c .linked .ensures) ∙ unlinked _ _ ∙ sym (all-yes (is-yes (c .before .before .before .before .flag .ensures) (c .before .before .before .if1 .left)) _ ∙ all-one _ ∙ any-skip (not-so (c .before .before .bad-entry .ensures) (c .before .if2 .left)) _ ∙ any-one _)
+
+pub chain-fault-spec : {M : Type 1} → statement M
+chain-fault-spec = tie.close (tie.spec flag-requires returns bad-entry-requires returns-2 linked-requires returns-3)

@@ -1,0 +1,32 @@
+use native.Mathlib.Omega.{arith}
+use borrow.Author.Needs.{needs}
+use Rattle.layout.proofs.Sound.{slot-of}
+use Rattle.layout.proofs.Lists.{all-no, all-yes, all-one, is-no, is-yes}
+use Rattle.fault_kinds.specs.Tests.{shares}
+use mathlib.Core.Path.{sym, _∙_}
+use Rattle.fault_kinds.proofs.shares.Statement.{statement}
+use Rattle.fault_kinds.proofs.shares.Tie as tie
+
+is-slot-requires : tie.Need-is-slot-requires
+is-slot-requires c κs = search needs
+
+returns : tie.Need-returns
+unfolding shares
+returns c = sym (all-no (is-no (c .before .is-slot .ensures) (c .if1 .taken)) _)
+
+flag-requires : tie.Need-flag-requires
+flag-requires c κs = (c .before .before .before .pre .0, slot-of _ _ _ (is-yes (c .before .is-slot .ensures) (c .if1 .left)), omega arith)
+
+returns-2 : tie.Need-returns-2
+unfolding shares
+returns-2 c = sym (all-yes (is-yes (c .before .before .before .is-slot .ensures) (c .before .before .if1 .left)) _ ∙ all-no (is-no (c .before .flag .ensures) (c .if2 .taken)) _)
+
+entries-meet-requires : tie.Need-entries-meet-requires
+entries-meet-requires c κs = (c .before .before .before .before .before .pre .0, c .before .before .before .before .before .pre .1, slot-of _ _ _ (is-yes (c .before .before .before .is-slot .ensures) (c .before .before .if1 .left)))
+
+returns-3 : tie.Need-returns-3
+unfolding shares
+returns-3 c = c .entries-meet .ensures ∙ sym (all-yes (is-yes (c .before .before .before .before .is-slot .ensures) (c .before .before .before .if1 .left)) _ ∙ all-yes (is-yes (c .before .before .flag .ensures) (c .before .if2 .left)) _ ∙ all-one _)
+
+pub shares-spec : {M : Type 1} → statement M
+shares-spec = tie.close (tie.spec is-slot-requires returns flag-requires returns-2 entries-meet-requires returns-3)

@@ -1,0 +1,571 @@
+// The kinds of fault at one slot (02), but for those of its HIT byte and its name. Plain: what a test needs of other slots it finds anew.
+use meaning::Geometry;
+ghost use mathlib.Core.Path.{_≡_};
+ghost use mathlib.Core.Bool.{true, false, not};
+ghost use mathlib.Core.List.{[], _∷_};
+ghost use Prim.Native.Nat.{_+_, _-_, _*_, _<_, _≤_};
+ghost use lib.ListN.{length};
+ghost use Rattle.meaning.specs.Lists.{count, every, some, each, has, any};
+ghost use Rattle.meaning.specs.Layout.{granules, taken, slots};
+ghost use Rattle.meaning.specs.Entries.{runs, entryGranules, extension};
+ghost use Rattle.meaning.specs.Chain.{chain};
+ghost use Rattle.meaning.specs.Consistent.{pairsHold, runsHold, gatHolds, sizeHolds};
+ghost use Rattle.meaning.specs.Fault.{usedExtension, handsOn, ends, badEntry, walked, fileOf, goodExtension, chainFault, runFault, gatFault, sharedFault, sizeFault, directoryFault};
+ghost use Rattle.layout.specs.Room.{Room, Slot, Below};
+ghost use Rattle.fault_kinds.specs.Reach.{reach};
+ghost use Rattle.fault_kinds.specs.Overlap.{runsMeet, runMeets, entriesMeet, meetsEarlier};
+ghost use Rattle.fault_kinds.specs.Tests.{pairHolds, startsTo, firstFile, leads, tally, runHolds, runIn, earlier, shares};
+
+fn pair_holds(image: &[u8], g: Geometry, s: usize, n: usize, k: usize) -> bool
+    requires { ⌜ Room g (now image) × Slot g (now image) s × (n ≡ runs g (now image) s) × (k < 4) ⌝ }
+    ensures { λ r. ⌜ r ≡ pairHolds g (now (image .entry)) s k ⌝ }
+{
+    if k < n {
+        return true;
+    }
+    layout::field(image, g, s, 0x16 + 2 * k) == 0xff
+}
+
+// After an FFH block every later pair starts with FFH.
+fn pairs_hold(image: &[u8], g: Geometry, s: usize) -> bool
+    requires { ⌜ Room g (now image) × Slot g (now image) s ⌝ }
+    ensures { λ r. ⌜ r ≡ pairsHold g (now (image .entry)) s ⌝ }
+{
+    let n = layout::runs(image, g, s);
+    let mut k = 0;
+    while k < 4 {
+        if !pair_holds(image, g, s, n, k) {
+            return false;
+        }
+        k += 1;
+    }
+    true
+}
+
+// Whether an extension in use is at x.
+fn used_extension(image: &[u8], g: Geometry, x: usize) -> bool
+    requires { ⌜ Room g (now image) ⌝ }
+    ensures { λ r. ⌜ r ≡ usedExtension g (now (image .entry)) x ⌝ }
+{
+    if !layout::is_slot(image, g, x) {
+        return false;
+    }
+    if !entry::flag(image, g, x, 4) {
+        return false;
+    }
+    entry::flag(image, g, x, 7)
+}
+
+// Whether an entry hands on to the next of its chain.
+fn hands_on(image: &[u8], g: Geometry, s: usize) -> bool
+    requires { ⌜ Room g (now image) × Slot g (now image) s ⌝ }
+    ensures { λ r. ⌜ r ≡ handsOn g (now (image .entry)) s ⌝ }
+{
+    if layout::field(image, g, s, 0x1e) != 0xfe {
+        return false;
+    }
+    if layout::runs(image, g, s) != 4 {
+        return false;
+    }
+    let x = layout::field(image, g, s, 0x1f);
+    if !used_extension(image, g, x) {
+        return false;
+    }
+    pairs_hold(image, g, s)
+}
+
+// Whether an entry is the last of its chain.
+fn ends(image: &[u8], g: Geometry, s: usize) -> bool
+    requires { ⌜ Room g (now image) × Slot g (now image) s ⌝ }
+    ensures { λ r. ⌜ r ≡ ends g (now (image .entry)) s ⌝ }
+{
+    if layout::field(image, g, s, 0x1e) != 0xff {
+        return false;
+    }
+    pairs_hold(image, g, s)
+}
+
+// Whether an entry has a bad marker, pairs or link.
+fn bad_entry(image: &[u8], g: Geometry, s: usize) -> bool
+    requires { ⌜ Room g (now image) × Slot g (now image) s ⌝ }
+    ensures { λ r. ⌜ r ≡ badEntry g (now (image .entry)) s ⌝ }
+{
+    if ends(image, g, s) {
+        return false;
+    }
+    !hands_on(image, g, s)
+}
+
+// Whether x is among the entries from slot p on, at most n of them.
+fn comes_to(image: &[u8], g: Geometry, p: usize, n: usize, x: usize) -> bool
+    requires { ⌜ Room g (now image) × Slot g (now image) p ⌝ }
+    ensures { λ r. ⌜ r ≡ has (reach g (now (image .entry)) n p) x ⌝ }
+{
+    let mut s = p;
+    let mut left = n;
+    while 0 < left {
+        if x == s {
+            return true;
+        }
+        if !hands_on(image, g, s) {
+            return false;
+        }
+        s = layout::field(image, g, s, 0x1f);
+        left -= 1;
+    }
+    false
+}
+
+// How many slots the directory has.
+fn slots(image: &[u8], g: Geometry) -> usize
+    requires { ⌜ Room g (now image) ⌝ }
+    ensures { λ r. ⌜ Below 257 (length (slots g (now (image .entry)))) r ⌝ }
+{
+    8 * (layout::directory_sectors(image, g) - 2)
+}
+
+// Whether a file starts at slot p and its walk meets x.
+fn starts_to(image: &[u8], g: Geometry, x: usize, p: usize) -> bool
+    requires { ⌜ Room g (now image) ⌝ }
+    ensures { λ r. ⌜ r ≡ startsTo g (now (image .entry)) x p ⌝ }
+{
+    if !layout::is_slot(image, g, p) {
+        return false;
+    }
+    if !layout::primary(image, g, p) {
+        return false;
+    }
+    let n = slots(image, g);
+    comes_to(image, g, p, n, x)
+}
+
+// The first file whose walk meets x; 256 where there is none.
+fn first_file(image: &[u8], g: Geometry, x: usize) -> usize
+    requires { ⌜ Room g (now image) ⌝ }
+    ensures { λ r. ⌜ r ≡ firstFile g (now (image .entry)) x ⌝ }
+{
+    let mut p = 0;
+    while p < 256 {
+        if starts_to(image, g, x, p) {
+            return p;
+        }
+        p += 1;
+    }
+    256
+}
+
+// Whether some file's walk meets x.
+fn walked(image: &[u8], g: Geometry, x: usize) -> bool
+    requires { ⌜ Room g (now image) ⌝ }
+    ensures { λ r. ⌜ r ≡ has (walked g (now (image .entry))) x ⌝ }
+{
+    first_file(image, g, x) < 256
+}
+
+// The file that an entry in use belongs to; s itself where no walk meets it.
+pub fn file_of(image: &[u8], g: Geometry, s: usize) -> usize
+    requires { ⌜ Room g (now image) × Slot g (now image) s ⌝ }
+    ensures { λ r. ⌜ (r ≡ fileOf g (now (image .entry)) s) × Slot g (now (image .entry)) r ⌝ }
+{
+    let p = first_file(image, g, s);
+    if p < 256 {
+        return p;
+    }
+    s
+}
+
+// Whether a walk comes from slot b to x.
+fn leads(image: &[u8], g: Geometry, x: usize, b: usize) -> bool
+    requires { ⌜ Room g (now image) ⌝ }
+    ensures { λ r. ⌜ r ≡ leads g (now (image .entry)) x b ⌝ }
+{
+    if !layout::is_slot(image, g, b) {
+        return false;
+    }
+    if layout::field(image, g, b, 0x1f) != x {
+        return false;
+    }
+    if !hands_on(image, g, b) {
+        return false;
+    }
+    walked(image, g, b)
+}
+
+// 0 where no walk comes from slot b to x; else 1 where x follows b, 2 where it does not.
+fn tally(image: &[u8], g: Geometry, x: usize, b: usize) -> usize
+    requires { ⌜ Room g (now image) ⌝ }
+    ensures { λ r. ⌜ Below 3 (tally g (now (image .entry)) x b) r ⌝ }
+{
+    if !leads(image, g, x, b) {
+        return 0;
+    }
+    if !entry::follows(image, g, 0x90, b, x) {
+        return 2;
+    }
+    1
+}
+
+// Whether an extension is met in some file's chain, not twice, and well formed.
+pub fn good_extension(image: &[u8], g: Geometry, x: usize) -> bool
+    requires { ⌜ Room g (now image) ⌝ }
+    ensures { λ r. ⌜ r ≡ goodExtension g (now (image .entry)) x ⌝ }
+{
+    let mut n = 0;
+    let mut b = 0;
+    while b < 256 {
+        let t = tally(image, g, x, b);
+        if t == 2 {
+            return false;
+        }
+        n += t;
+        b += 1;
+    }
+    n == 1
+}
+
+// Chain -----------------------------------------------------------------------------------------------------------------
+
+// Whether an entry is primary, or an extension that is in order.
+pub fn linked(image: &[u8], g: Geometry, s: usize) -> bool
+    requires { ⌜ Room g (now image) × Slot g (now image) s ⌝ }
+    ensures { λ r. ⌜ r ≡ any (not (extension g (now (image .entry)) s) ∷ goodExtension g (now (image .entry)) s ∷ []) ⌝ }
+{
+    if !entry::flag(image, g, s, 7) {
+        return true;
+    }
+    good_extension(image, g, s)
+}
+
+pub fn chain_fault(image: &[u8], g: Geometry, s: usize) -> bool
+    requires { ⌜ Room g (now image) × Slot g (now image) s ⌝ }
+    ensures { λ r. ⌜ r ≡ chainFault g (now (image .entry)) s ⌝ }
+{
+    if !entry::flag(image, g, s, 4) {
+        return false;
+    }
+    if bad_entry(image, g, s) {
+        return true;
+    }
+    !linked(image, g, s)
+}
+
+// Runs ------------------------------------------------------------------------------------------------------------------
+
+// Whether run k lies on the disk, its first unit below units per block.
+fn run_holds(image: &[u8], g: Geometry, s: usize, k: usize) -> bool
+    requires { ⌜ Room g (now image) × Slot g (now image) s × (k < 4) ⌝ }
+    ensures { λ r. ⌜ r ≡ runHolds g (now (image .entry)) s k ⌝ }
+{
+    if g.units <= layout::field(image, g, s, 0x17 + 2 * k) / 32 {
+        return false;
+    }
+    layout::run_start(image, g, s, k) + layout::run_length(image, g, s, k) <= layout::granules(g)
+}
+
+fn runs_hold(image: &[u8], g: Geometry, s: usize) -> bool
+    requires { ⌜ Room g (now image) × Slot g (now image) s ⌝ }
+    ensures { λ r. ⌜ r ≡ runsHold g (now (image .entry)) s ⌝ }
+{
+    let n = layout::runs(image, g, s);
+    let mut k = 0;
+    while k < n {
+        if !run_holds(image, g, s, k) {
+            return false;
+        }
+        k += 1;
+    }
+    true
+}
+
+pub fn run_fault(image: &[u8], g: Geometry, s: usize) -> bool
+    requires { ⌜ Room g (now image) × Slot g (now image) s ⌝ }
+    ensures { λ r. ⌜ r ≡ runFault g (now (image .entry)) s ⌝ }
+{
+    if !entry::flag(image, g, s, 4) {
+        return false;
+    }
+    !runs_hold(image, g, s)
+}
+
+// Whether the GAT bits of n granules from a on are set.
+pub fn all_taken(image: &[u8], g: Geometry, a: usize, n: usize) -> bool
+    requires { ⌜ Room g (now image) × (a + n ≤ granules g) ⌝ }
+    ensures { λ r. ⌜ r ≡ every (taken g (now (image .entry))) (count a n) ⌝ }
+{
+    let end = a + n;
+    let mut i = a;
+    while i < end {
+        if !layout::taken(image, g, i) {
+            return false;
+        }
+        i += 1;
+    }
+    true
+}
+
+fn gat_holds(image: &[u8], g: Geometry, s: usize) -> bool
+    requires { ⌜ Room g (now image) × Slot g (now image) s × (runsHold g (now image) s ≡ true) ⌝ }
+    ensures { λ r. ⌜ r ≡ gatHolds g (now (image .entry)) s ⌝ }
+{
+    let n = layout::runs(image, g, s);
+    let mut k = 0;
+    while k < n {
+        let a = layout::run_start(image, g, s, k);
+        let m = layout::run_length(image, g, s, k);
+        if !all_taken(image, g, a, m) {
+            return false;
+        }
+        k += 1;
+    }
+    true
+}
+
+// Of an entry whose runs lie on the disk.
+pub fn gat_fault(image: &[u8], g: Geometry, s: usize) -> bool
+    requires { ⌜ Room g (now image) × Slot g (now image) s × (runFault g (now image) s ≡ false) ⌝ }
+    ensures { λ r. ⌜ r ≡ gatFault g (now (image .entry)) s ⌝ }
+{
+    if !entry::flag(image, g, s, 4) {
+        return false;
+    }
+    !gat_holds(image, g, s)
+}
+
+// Shared granules -------------------------------------------------------------------------------------------------------
+
+// Whether run k has a granule among the m from b on.
+fn run_in(image: &[u8], g: Geometry, s: usize, k: usize, b: usize, m: usize) -> bool
+    requires { ⌜ Room g (now image) × Slot g (now image) s × (k < 4) × (b < 65536) × (m < 65536) ⌝ }
+    ensures { λ r. ⌜ r ≡ runIn g (now (image .entry)) b m s k ⌝ }
+{
+    let a = layout::run_start(image, g, s, k);
+    if b + m <= a {
+        return false;
+    }
+    b < a + layout::run_length(image, g, s, k)
+}
+
+// Whether an entry has a granule among the m from b on.
+fn entry_in(image: &[u8], g: Geometry, s: usize, b: usize, m: usize) -> bool
+    requires { ⌜ Room g (now image) × Slot g (now image) s × (b < 65536) × (m < 65536) ⌝ }
+    ensures { λ r. ⌜ r ≡ some (runIn g (now (image .entry)) b m s) (count 0 (runs g (now (image .entry)) s)) ⌝ }
+{
+    let n = layout::runs(image, g, s);
+    let mut k = 0;
+    while k < n {
+        if run_in(image, g, s, k, b, m) {
+            return true;
+        }
+        k += 1;
+    }
+    false
+}
+
+// Whether run k of s and run l of t have a granule in common.
+fn runs_meet(image: &[u8], g: Geometry, s: usize, k: usize, t: usize, l: usize) -> bool
+    requires { ⌜ Room g (now image) × Slot g (now image) s × (k < 4) × Slot g (now image) t × (l < 4) ⌝ }
+    ensures { λ r. ⌜ r ≡ runsMeet g (now (image .entry)) s k t l ⌝ }
+{
+    let b = layout::run_start(image, g, t, l);
+    let m = layout::run_length(image, g, t, l);
+    run_in(image, g, s, k, b, m)
+}
+
+// Whether run k of s has a granule in common with some run of t.
+fn run_meets(image: &[u8], g: Geometry, s: usize, t: usize, k: usize) -> bool
+    requires { ⌜ Room g (now image) × Slot g (now image) s × Slot g (now image) t × (k < 4) ⌝ }
+    ensures { λ r. ⌜ r ≡ runMeets g (now (image .entry)) s t k ⌝ }
+{
+    let n = layout::runs(image, g, t);
+    let mut l = 0;
+    while l < n {
+        if runs_meet(image, g, s, k, t, l) {
+            return true;
+        }
+        l += 1;
+    }
+    false
+}
+
+// Whether the entries of two slots have a granule in common.
+fn entries_meet(image: &[u8], g: Geometry, s: usize, t: usize) -> bool
+    requires { ⌜ Room g (now image) × Slot g (now image) s × Slot g (now image) t ⌝ }
+    ensures { λ r. ⌜ r ≡ entriesMeet g (now (image .entry)) s t ⌝ }
+{
+    let n = layout::runs(image, g, s);
+    let mut k = 0;
+    while k < n {
+        if run_meets(image, g, s, t, k) {
+            return true;
+        }
+        k += 1;
+    }
+    false
+}
+
+// Whether run l of an entry comes before run k and has a granule in common with it.
+fn earlier(image: &[u8], g: Geometry, s: usize, k: usize, l: usize) -> bool
+    requires { ⌜ Room g (now image) × Slot g (now image) s × (k < 4) × (l < 4) ⌝ }
+    ensures { λ r. ⌜ r ≡ earlier g (now (image .entry)) s k l ⌝ }
+{
+    if k <= l {
+        return false;
+    }
+    runs_meet(image, g, s, k, s, l)
+}
+
+// Whether run k has a granule in common with an earlier run of its entry.
+fn meets_earlier(image: &[u8], g: Geometry, s: usize, k: usize) -> bool
+    requires { ⌜ Room g (now image) × Slot g (now image) s × (k < 4) ⌝ }
+    ensures { λ r. ⌜ r ≡ meetsEarlier g (now (image .entry)) s k ⌝ }
+{
+    let n = layout::runs(image, g, s);
+    let mut l = 0;
+    while l < n {
+        if earlier(image, g, s, k, l) {
+            return true;
+        }
+        l += 1;
+    }
+    false
+}
+
+// Whether two runs of an entry have a granule in common.
+fn twice(image: &[u8], g: Geometry, s: usize) -> bool
+    requires { ⌜ Room g (now image) × Slot g (now image) s ⌝ }
+    ensures { λ r. ⌜ r ≡ some (meetsEarlier g (now (image .entry)) s) (count 0 (runs g (now (image .entry)) s)) ⌝ }
+{
+    let n = layout::runs(image, g, s);
+    let mut k = 0;
+    while k < n {
+        if meets_earlier(image, g, s, k) {
+            return true;
+        }
+        k += 1;
+    }
+    false
+}
+
+// Whether the entry of slot t, in use, has a granule with that of s.
+fn shares(image: &[u8], g: Geometry, s: usize, t: usize) -> bool
+    requires { ⌜ Room g (now image) × Slot g (now image) s ⌝ }
+    ensures { λ r. ⌜ r ≡ shares g (now (image .entry)) s t ⌝ }
+{
+    if !layout::is_slot(image, g, t) {
+        return false;
+    }
+    if !entry::flag(image, g, t, 4) {
+        return false;
+    }
+    entries_meet(image, g, s, t)
+}
+
+// Whether an entry in a lower slot has a granule of that of s.
+fn shared_below(image: &[u8], g: Geometry, s: usize) -> bool
+    requires { ⌜ Room g (now image) × Slot g (now image) s ⌝ }
+    ensures { λ r. ⌜ r ≡ some (shares g (now (image .entry)) s) (count 0 s) ⌝ }
+{
+    let mut t = 0;
+    while t < s {
+        if shares(image, g, s, t) {
+            return true;
+        }
+        t += 1;
+    }
+    false
+}
+
+pub fn shared_fault(image: &[u8], g: Geometry, s: usize) -> bool
+    requires { ⌜ Room g (now image) × Slot g (now image) s ⌝ }
+    ensures { λ r. ⌜ r ≡ sharedFault g (now (image .entry)) s ⌝ }
+{
+    if !entry::flag(image, g, s, 4) {
+        return false;
+    }
+    if twice(image, g, s) {
+        return true;
+    }
+    shared_below(image, g, s)
+}
+
+// Size ------------------------------------------------------------------------------------------------------------------
+
+// Whether no entry from slot p on, of at most n, has a chain fault.
+fn whole_from(image: &[u8], g: Geometry, p: usize, n: usize) -> bool
+    requires { ⌜ Room g (now image) × Slot g (now image) p ⌝ }
+    ensures { λ r. ⌜ r ≡ every (λ s. not (chainFault g (now (image .entry)) s)) (reach g (now (image .entry)) n p) ⌝ }
+{
+    let mut s = p;
+    let mut left = n;
+    while 0 < left {
+        if chain_fault(image, g, s) {
+            return false;
+        }
+        if !hands_on(image, g, s) {
+            return true;
+        }
+        s = layout::field(image, g, s, 0x1f);
+        left -= 1;
+    }
+    true
+}
+
+// How many granules the entries from slot p on name, at most n of them.
+fn count_from(image: &[u8], g: Geometry, p: usize, n: usize) -> usize
+    requires { ⌜ Room g (now image) × Slot g (now image) p × (n < 257) ⌝ }
+    ensures { λ r. ⌜ Below 65536 (length (each (entryGranules g (now (image .entry))) (reach g (now (image .entry)) n p))) r ⌝ }
+{
+    let mut s = p;
+    let mut left = n;
+    let mut c = 0;
+    while 0 < left {
+        c += extent::entry_length(image, g, s);
+        if !hands_on(image, g, s) {
+            return c;
+        }
+        s = layout::field(image, g, s, 0x1f);
+        left -= 1;
+    }
+    c
+}
+
+// Of a file whose chain its walk meets: n = 0 only with e = 0; the size fits the granules owned.
+fn size_holds(image: &[u8], g: Geometry, p: usize, n: usize) -> bool
+    requires { ⌜ Room g (now image) × Slot g (now image) p × (n < 257) × (reach g (now image) n p ≡ chain g (now image) p) ⌝ }
+    ensures { λ r. ⌜ r ≡ sizeHolds g (now (image .entry)) p ⌝ }
+{
+    let c = count_from(image, g, p, n);
+    entry::size_holds(image, g, p, c)
+}
+
+pub fn size_fault(image: &[u8], g: Geometry, p: usize) -> bool
+    requires { ⌜ Room g (now image) × Slot g (now image) p ⌝ }
+    ensures { λ r. ⌜ r ≡ sizeFault g (now (image .entry)) p ⌝ }
+{
+    if !layout::primary(image, g, p) {
+        return false;
+    }
+    let n = slots(image, g);
+    if !whole_from(image, g, p, n) {
+        return false;
+    }
+    !size_holds(image, g, p, n)
+}
+
+// Directory -------------------------------------------------------------------------------------------------------------
+
+pub fn directory_fault(image: &[u8], g: Geometry, s: usize) -> bool
+    requires { ⌜ Room g (now image) × Slot g (now image) s ⌝ }
+    ensures { λ r. ⌜ r ≡ directoryFault g (now (image .entry)) s ⌝ }
+{
+    if !entry::flag(image, g, s, 4) {
+        return false;
+    }
+    let p = file_of(image, g, s);
+    if entry::flag(image, g, p, 6) {
+        return false;
+    }
+    let b = g.start / layout::granule_sectors(g);
+    let m = layout::directory_granules(image, g);
+    entry_in(image, g, s, b, m)
+}

@@ -1,0 +1,104 @@
+// Free space from the GAT alone: one pass over the bytes of the disk's blocks, bit by bit. A stretch goes on from block to block, and no
+// granule number is worked out, so nothing is divided. space::free_count counts by whole bytes: it cannot serve here, for the longest
+// stretch hangs on which bits are clear and not on how many.
+use meaning::Geometry;
+use meaning::Space;
+ghost use mathlib.Core.Path.{_≡_};
+ghost use Rattle.meaning.specs.FreeSpace.{freeSpace};
+ghost use Rattle.free_space.specs.Pass.{Gat, Small, Passed, Tells, ended, met};
+
+// What the pass has seen so far: the free granules of the stretches that have ended, those of the stretch that has not, and how long the
+// longest of those that have ended is.
+pub struct Seen {
+    pub free: usize,
+    pub here: usize,
+    pub longest: usize,
+}
+
+// The stretch ends.
+fn ended(p: Seen) -> Seen
+    requires { ⌜ Small 0 p ⌝ }
+    ensures { λ r. ⌜ r ≡ ended p ⌝ }
+{
+    let free = p.free + p.here;
+    if p.longest < p.here {
+        return Seen {
+            free,
+            here: 0,
+            longest: p.here,
+        };
+    }
+    Seen {
+        free,
+        here: 0,
+        longest: p.longest,
+    }
+}
+
+// One granule more, taken or free.
+fn met(taken: bool, p: Seen) -> Seen
+    requires { ⌜ Small 0 p ⌝ }
+    ensures { λ r. ⌜ r ≡ met taken p ⌝ }
+{
+    if taken {
+        return ended(p);
+    }
+    Seen {
+        free: p.free,
+        here: p.here + 1,
+        longest: p.longest,
+    }
+}
+
+// The granules of one block: so many of the lowest bits of its GAT byte.
+fn block(byte: usize, units: usize, p: Seen) -> Seen
+    requires { ⌜ Small units p ⌝ }
+    ensures { λ r. ⌜ Passed units byte p r ⌝ }
+{
+    let mut q = p;
+    let mut x = byte;
+    let mut left = units;
+    while 0 < left {
+        q = met(x % 2 == 1, q);
+        x = x >> 1;
+        left -= 1;
+    }
+    q
+}
+
+// The whole pass. The last stretch ends with the last block.
+fn pass(image: &[u8], g: Geometry) -> Seen
+    requires { ⌜ Gat g (now image) ⌝ }
+    ensures { λ r. ⌜ Tells g (now (image .entry)) r ⌝ }
+{
+    let mut seen = Seen {
+        free: 0,
+        here: 0,
+        longest: 0,
+    };
+    let mut b = 0;
+    while b < g.blocks {
+        seen = block(layout::wide(image[256 * g.start + b]), g.units, seen);
+        b += 1;
+    }
+    ended(seen)
+}
+
+// Free space: the number of free granules and the longest free stretch, on any image whose length fits.
+pub fn free_space(image: &[u8], g: Geometry) -> Space
+    ensures { λ r. ⌜ r ≡ freeSpace g (now (image .entry)) ⌝ }
+{
+    if !layout::fits_geometry(image, g) {
+        return Space {
+            refusal: refusal::unplaced(1),
+            free: 0,
+            longest: 0,
+        };
+    }
+    let seen = pass(image, g);
+    Space {
+        refusal: refusal::unplaced(0),
+        free: seen.free,
+        longest: seen.longest,
+    }
+}

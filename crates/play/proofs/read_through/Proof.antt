@@ -1,0 +1,38 @@
+use Rattle.play.proofs.Laws.{open-refused, open-made, read-is}
+use borrow.Author.Needs.{needs}
+use Rattle.play.proofs.read_through.Statement.{statement}
+use Rattle.play.proofs.read_through.Tie as tie
+use Rattle.play.proofs.read_through.Reads as reads
+use Rattle.play.proofs.read_through.Lts as lts
+use Rattle.look_up.proofs.open_checked.Reads as open-checked-reads
+use Rattle.read.proofs.record_checked.Reads as record-checked-reads
+
+-- src/lib.rt:112:9
+open-checked-requires : tie.Need-open-checked-requires
+open-checked-requires c κs = search needs
+
+-- src/lib.rt:114:9
+returns : tie.Need-returns
+returns c = open-refused _ _ _ _ _ (c .before .before .open-checked .ensures) (c .if1 .taken)
+
+-- src/lib.rt:119:47
+slice-aggregate-record-checked : tie.Need-slice-aggregate-record-checked
+slice-aggregate-record-checked c = search needs
+
+-- src/lib.rt:119:9
+record-checked-requires : tie.Need-record-checked-requires
+record-checked-requires c κs = search needs
+
+-- src/lib.rt:107:1
+returns-2 : tie.Need-returns-2
+returns-2 c = open-made _ _ _ _ _ (c .before .before .before .before .before .before .open-checked .ensures) (c .before .before .before .before .if1 .left) (read-is _ _ _ _ (c .before .record-checked .ensures))
+
+pub read-through-spec : {M : Type 1} → statement M
+read-through-spec =
+    tie.close
+    (tie.spec
+    open-checked-requires
+    returns
+    slice-aggregate-record-checked
+    record-checked-requires
+    returns-2)
