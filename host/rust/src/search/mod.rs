@@ -10,8 +10,8 @@
 //! use genie_dos::search::{Known, Search, Verdict};
 //! use genie_dos::{Date, Disk, NewFile, Preset};
 //!
-//! let preset = Preset::named("dd40").unwrap();
-//! let mut disk = Disk::blank(preset.geometry, 15, &[0])?;
+//! let preset = Preset::named("sample").unwrap();
+//! let mut disk = Disk::blank(preset.geometry, 10, &[0])?;
 //! // An empty disk: nothing speaks for it.
 //! assert_eq!(Search::new(disk.image(), &Known::default()).geometry(), None);
 //!
@@ -22,9 +22,9 @@
 //! assert_eq!(search.geometry(), Some(preset.geometry));
 //! assert_eq!(search.ranking[0].evidence.names, 1);
 //!
-//! // Two bytes of the directory damaged: nothing is guessed.
+//! // A byte of the directory damaged: nothing is guessed.
 //! let mut image = disk.into_image();
-//! image[361 * 256 + 0x80] ^= 0xff;
+//! image[81 * 256 + 0x80] ^= 0xff;
 //! assert_eq!(Search::new(&image, &Known::default()).verdict, Verdict::Damaged);
 //! # Ok::<(), genie_dos::Refusal>(())
 //! ```
