@@ -2,6 +2,8 @@
  * when it is done. For x86-64 Linux, without a C library. It ends when the client does. */
 #include "wire.h"
 #include <stdbool.h>
+/* The calls alone: the structs over them want a C library's header. */
+#define GENIE_DISK_H
 #include "genie.h"
 
 enum { READ = 0, WRITE = 1, MMAP = 9, EXIT_GROUP = 231 };
