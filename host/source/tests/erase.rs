@@ -146,11 +146,14 @@ fn shims() -> Vec<declared::Declared> {
     all
 }
 
-/// The shims take what the header declares, and there is one for each export.
+/// The shims take what the header declares, whatever the names, and there is one for each export.
 #[test]
 fn the_exports_are_those_of_the_header() {
-    let shims = shims();
-    assert_eq!(shims, declared::of_header(&read(&project().join("host/include/genie.h"))));
+    let kinds = |all: Vec<declared::Declared>| -> Vec<(String, Vec<String>)> {
+        all.into_iter().map(|(name, arguments)| (name, arguments.into_iter().map(|(kind, _)| kind).collect())).collect()
+    };
+    let shims = kinds(shims());
+    assert_eq!(shims, kinds(declared::of_header(&read(&project().join("host/include/genie.h")))));
     let marked: usize = crates().iter().map(|name| read(&source(name)).matches("#[no_mangle]").count()).sum();
     assert_eq!(shims.len(), marked);
 }
