@@ -15,6 +15,7 @@ mod help;
 #[cfg(unix)]
 mod host;
 mod json;
+mod manual;
 #[cfg(any(test, not(unix)))]
 mod memory;
 mod memory_image;
@@ -25,7 +26,9 @@ mod program;
 mod recording;
 mod search;
 mod shape;
+mod shells;
 mod stated;
+mod tar;
 mod text;
 
 #[cfg(not(unix))]

@@ -3,6 +3,7 @@
 mod change;
 mod check;
 mod choose;
+mod completion;
 mod diff;
 mod dump;
 mod free;
@@ -24,6 +25,7 @@ mod rescue;
 mod rm;
 mod room;
 mod seeing;
+mod tar;
 mod trim;
 mod undelete;
 
@@ -77,6 +79,7 @@ pub const COMMANDS: &[Command] = &[
     get::COMMAND,
     load::COMMAND,
     put::COMMAND,
+    tar::COMMAND,
     rm::COMMAND,
     undelete::COMMAND,
     trim::COMMAND,
@@ -91,6 +94,8 @@ pub const COMMANDS: &[Command] = &[
     probe::COMMAND,
     geometry::COMMAND,
     diff::COMMAND,
+    completion::COMMAND,
+    completion::MANUAL,
 ];
 
 /// The command of a name.
