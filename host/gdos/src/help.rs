@@ -26,7 +26,8 @@ The geometry
   directory, and nothing speaks for another; otherwise nothing is read, and what was found is told with the options
   to type. It tries granules of 5 sectors, and only where none of these readings is consistent 10 and 20, which it
   says. Commands that only read tell on standard error what they found. Those that change a disk (put, tar --in,
-  rm, trim, undelete) want a geometry that is stated; --search lets them use what is found. `gdos probe` shows the evidence.
+  rm, trim, undelete) want a geometry that is stated; --search lets them use what is found. `gdos probe` shows the
+  evidence.
 ";
 
 pub const NAMES: &str = "\

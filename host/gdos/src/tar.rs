@@ -171,7 +171,7 @@ fn named(header: &[u8]) -> String {
 fn number(bytes: &[u8]) -> Option<u64> {
     match bytes {
         [0x80, rest @ ..] => {
-            rest.iter().try_fold(0u64, |number, &byte| Some(number.checked_mul(256)?.checked_add(byte.into())?))
+            rest.iter().try_fold(0u64, |number, &byte| number.checked_mul(256)?.checked_add(byte.into()))
         }
         _ => {
             let text = text(bytes);
@@ -231,7 +231,7 @@ mod tests {
         let archive = write(&[member("PULS01.DAT", 3, 434_548_800)]);
         assert_eq!(archive.len(), 512 + 512 + 1024);
         assert_eq!(&archive[..11], b"PULS01.DAT\0");
-        assert_eq!(&archive[124..148], b"00000000003\x0003171522000\0".as_slice());
+        assert_eq!(&archive[124..148], b"00000000003\x0003171530100\0".as_slice());
         assert_eq!(&archive[257..265], b"ustar\x0000");
         let sum: u32 =
             archive[..148].iter().chain(&archive[156..512]).map(|&byte| u32::from(byte)).sum::<u32>() + 8 * 32;

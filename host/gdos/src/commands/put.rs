@@ -55,7 +55,8 @@ not, that one is removed and created anew, with the date, codes and record lengt
 an access level or flag F or E, which would be lost, that is not done.
 
 New files get today's date (UTC). The disk's years end with 1995: later days are written as that year's, and a note
-says so. With --date none the directory states no day. Both codes are the open code, that is no password, unless --code says otherwise.
+says so. With --date none the directory states no day. Both codes are the open code, that is no password, unless
+--code says otherwise.
 ",
     groups: &[
         (

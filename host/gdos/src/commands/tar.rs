@@ -42,9 +42,9 @@ pub const COMMAND: Command = Command {
 Out: writes the named files, or all, as one tar archive: PULS01/DAT as PULS01.DAT, its date as its time, noon in UTC.
 System files are among all files only with --all. If a file is refused, no archive is written.
 
-In: puts every regular file of an archive on the disk, as gdos put would: series/puls01.dat becomes PULS01/DAT, with the
-day of its time, in UTC, as its date, or what --date says. All files are put or none. A date that the disk cannot hold is
-written as the nearest that it can, and a note says so. Read are the formats that GNU tar and others write; an
+In: puts every regular file of an archive on the disk, as gdos put would: series/puls01.dat becomes PULS01/DAT, with
+the day of its time, in UTC, as its date, or what --date says. All files are put or none. A date that the disk cannot
+hold is written as the nearest that it can, and a note says so. Read are the formats that GNU tar and others write; an
 archive that is compressed is to be unpacked first, and one with links is refused.
 
 Names, sizes and dates go both ways. Codes, levels and flags do not: no tar knows them. A date that is not stated
