@@ -17,8 +17,8 @@ use Rattle.layout.proofs.Laws.{gat-low}
 use Rattle.seek.proofs.Frame.{Same, opened, same-refl, same-trans, same-before, same-room, same-start, same-len, same-entry}
 use Rattle.space.proofs.Folds.{Kept, kept-room, kept-slot}
 use Rattle.laws.specs.Entry.{runs-le}
-use Rattle.laws.specs.Members
-use Rattle.laws.specs.Members.{In}
+use Rattle.lists.specs.Members
+use Rattle.lists.specs.Members.{In}
 use Rattle.back_taken.specs.Listed.{OnDisk, Listed, firstOf}
 use Rattle.back_taken.proofs.Steps.{Steps, entry-steps, first-steps, all-steps}
 use Rattle.back_write.proofs.Done.{Done, done-start, done-more}

@@ -18,8 +18,8 @@ use Rattle.meaning.specs.declared.Geometry.{Geometry}
 use Rattle.meaning.specs.declared.BroughtBack.{BroughtBack}
 use Rattle.meaning.specs.declared.Refusal.{Refusal}
 use Rattle.layout.specs.Room.{Room, Slot}
-use Rattle.layout.proofs.Lists.{not-yes, not-no, first-hit, first-skip, first-none}
-use Rattle.handle.proofs.Laws.{check-stop, check-then}
+use Rattle.lists.specs.Tests.{not-yes, not-no, first-hit, first-skip, first-none}
+use Rattle.passed.proofs.Checked.{check-stop, check-then}
 use Rattle.seek.proofs.Frame.{Same}
 use Rattle.look_up.specs.Found.{Finds}
 use Rattle.look_up.specs.declared.Found.{Found}

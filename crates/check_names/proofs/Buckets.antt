@@ -14,15 +14,15 @@ use borrow.Author.Tests.{eq-eqb, ne-eqb, not-true, not-false}
 use Rattle.meaning.specs.Lists.{every, same, all}
 use Rattle.meaning.specs.Layout.{isSlot, hit, entryAt, directorySectors}
 use Rattle.meaning.specs.Names.{hash}
-use Rattle.meaning.specs.Entries.{primary, nameOf}
+use Rattle.meaning.specs.Entries.{inUsePrimary, nameOf}
 use Rattle.meaning.specs.Chain.{files}
 use Rattle.meaning.specs.Consistent.{namesDiffer}
 use Rattle.meaning.specs.declared.Geometry.{Geometry}
-use Rattle.laws.specs.Members
-use Rattle.laws.specs.Members.{In}
+use Rattle.lists.specs.Members
+use Rattle.lists.specs.Members.{In}
 use Rattle.laws.specs.Facts
 use Rattle.layout.specs.Room.{Room, Slot}
-use Rattle.layout.proofs.Lists.{all-yes, all-no, all-one, all-at}
+use Rattle.lists.specs.Tests.{all-yes, all-no, all-one, all-at}
 use Rattle.layout.proofs.Sound.{slot-of, slot-yes, slot-no, entry-fits}
 use Rattle.layout.proofs.Laws.{name-part}
 use Rattle.check_names.specs.Buckets.{Hashed, unlike, inBucket, bucket, Linked, Buckets, Joined, Differing, Visited}
@@ -60,20 +60,20 @@ module _ (g : Geometry) (d : List ℕ) where
   slot-true : (s : ℕ) → Slot g d s → isSlot g d s ≡ true
   slot-true s h = slot-yes g d s (h .low) (h .held)
 
-  member : (b s : ℕ) → Slot g d s → primary g d s ≡ true → hit g d s ≡ b → inBucket g d b s ≡ true
+  member : (b s : ℕ) → Slot g d s → inUsePrimary g d s ≡ true → hit g d s ≡ b → inBucket g d b s ≡ true
   unfolding inBucket
   member b s h p e = all-yes (slot-true s h) _ ∙ all-yes p _ ∙ all-one _ ∙ eq-eqb _ _ e
 
   stranger : (b s : ℕ) → (hit g d s ≡ b → ⊥) → inBucket g d b s ≡ false
   unfolding inBucket all
-  stranger b s e = rw (ne-eqb (hit g d s) b e) (none (isSlot g d s) (primary g d s))
+  stranger b s e = rw (ne-eqb (hit g d s) b e) (none (isSlot g d s) (inUsePrimary g d s))
     where
       none : (x y : Bool) → (x && (y && (false && true))) ≡ false
       none true true = refl
       none true false = refl
       none false y = refl
 
-  outsider : (b s : ℕ) → primary g d s ≡ false → inBucket g d b s ≡ false
+  outsider : (b s : ℕ) → inUsePrimary g d s ≡ false → inBucket g d b s ≡ false
   unfolding inBucket all
   outsider b s e = rw e (none (isSlot g d s))
     where
@@ -175,11 +175,11 @@ module _ (g : Geometry) (d : List ℕ) where
   pub skip-slot : (s : ℕ) (head next : List ℕ) → Buckets g d s head next → isSlot g d s ≡ false → Buckets g d (s + 1) head next
   skip-slot s head next w e = buckets-skip s head next w (λ b. no-slot b s e)
 
-  pub skip-entry : (s : ℕ) (head next : List ℕ) → Buckets g d s head next → primary g d s ≡ false → Buckets g d (s + 1) head next
+  pub skip-entry : (s : ℕ) (head next : List ℕ) → Buckets g d s head next → inUsePrimary g d s ≡ false → Buckets g d (s + 1) head next
   skip-entry s head next w e = buckets-skip s head next w (λ b. outsider b s e)
 
   -- slot s joins the list of its HIT byte
-  pub buckets-join : (s : ℕ) (head next : List ℕ) → Buckets g d s head next → Slot g d s → primary g d s ≡ true → hit g d s < 256
+  pub buckets-join : (s : ℕ) (head next : List ℕ) → Buckets g d s head next → Slot g d s → inUsePrimary g d s ≡ true → hit g d s < 256
       → Buckets g d (s + 1) (set head (hit g d s) (s + 1)) (set next s (getD head (hit g d s) 0))
   buckets-join s head next w h p l = record {
     heads = length-set head _ _ ∙ w .heads;
@@ -223,7 +223,7 @@ module _ (g : Geometry) (d : List ℕ) where
   pub joined-no : (s : ℕ) (head next : List ℕ) {f : Bool} → f ≡ every (unlike g d s) (bucket g d (hit g d s) s) → not f ≡ true → Joined g d s head next false
   joined-no s head next {f} e t = record { answer = sym (not-true f t) ∙ e; joined = λ z. absurd (Members.false-no (sym z) tt) }
 
-  pub joined-yes : (s : ℕ) (head next : List ℕ) {b x : ℕ} {f : Bool} → Buckets g d s head next → Slot g d s → primary g d s ≡ true → b ≡ hit g d s → b < 256
+  pub joined-yes : (s : ℕ) (head next : List ℕ) {b x : ℕ} {f : Bool} → Buckets g d s head next → Slot g d s → inUsePrimary g d s ≡ true → b ≡ hit g d s → b < 256
       → x ≡ getD head b 0 → f ≡ every (unlike g d s) (bucket g d (hit g d s) s) → not f ≡ false → Joined g d s (set head b (s + 1)) (set next s x) true
   joined-yes s head next {b} {x} {f} w h p e l r q t =
       record {
@@ -253,7 +253,7 @@ module _ (g : Geometry) (d : List ℕ) where
   filed : (s : ℕ) → Facts.File g d s → isSlot g d s ≡ true
   filed s f = Members.T-true (f .slot)
 
-  firsted : (s : ℕ) → Facts.File g d s → primary g d s ≡ true
+  firsted : (s : ℕ) → Facts.File g d s → inUsePrimary g d s ≡ true
   firsted s f = Members.T-true (f .primary′)
 
   -- one slot further, where that slot is no file
@@ -276,7 +276,7 @@ module _ (g : Geometry) (d : List ℕ) where
         apart = apart-more s (w .apart) (λ q b i j z. Members.false-no e (i .slot));
       }
 
-  pub differing-other : (s : ℕ) (head next : List ℕ) → Differing g d s head next → s < 256 → primary g d s ≡ false → Differing g d (s + 1) head next
+  pub differing-other : (s : ℕ) (head next : List ℕ) → Differing g d s head next → s < 256 → inUsePrimary g d s ≡ false → Differing g d (s + 1) head next
   differing-other s head next w l e =
       record {
         low = omega arith;
@@ -319,12 +319,12 @@ module _ (g : Geometry) (d : List ℕ) where
   unfolding inBucket
   slot-in b q z = all-at _ z 0
 
-  first-in : (b q : ℕ) → inBucket g d b q ≡ true → primary g d q ≡ true
+  first-in : (b q : ℕ) → inBucket g d b q ≡ true → inUsePrimary g d q ≡ true
   unfolding inBucket
   first-in b q z = all-at _ z 1
 
   -- two files with one name
-  pub differing-found : (s : ℕ) (head′ next′ : List ℕ) {r : Bool} → Slot g d s → primary g d s ≡ true → Joined g d s head′ next′ r → r ≡ false
+  pub differing-found : (s : ℕ) (head′ next′ : List ℕ) {r : Bool} → Slot g d s → inUsePrimary g d s ≡ true → Joined g d s head′ next′ r → r ≡ false
       → false ≡ namesDiffer g d (files g d)
   differing-found s head′ next′ h p k e =
       let w = some-false (unlike g d s) (bucket g d (hit g d s) s) (sym (k .answer) ∙ e) in
@@ -364,11 +364,11 @@ module _ (g : Geometry) (d : List ℕ) where
   row-found row {r = r} w t = record { bad = λ z. w .bad (not-true r t); good = λ z. absurd (Members.false-no (sym z) tt) }
 
   -- the two ways through a slot
-  pub visit-other : (s : ℕ) (head next : List ℕ) {f : Bool} → Differing g d s head next → s < 256 → f ≡ primary g d s → not f ≡ true → Visited g d (s + 1) head next true
+  pub visit-other : (s : ℕ) (head next : List ℕ) {f : Bool} → Differing g d s head next → s < 256 → f ≡ inUsePrimary g d s → not f ≡ true → Visited g d (s + 1) head next true
   visit-other s head next {f} w l e t =
       record { bad = λ z. absurd (Members.false-no z tt); good = λ z. differing-other s head next w l (sym e ∙ not-true f t) }
 
-  pub visit-file : Hashed g d → (s : ℕ) (head next head′ next′ : List ℕ) {r f : Bool} → Differing g d s head next → Slot g d s → f ≡ primary g d s → not f ≡ false
+  pub visit-file : Hashed g d → (s : ℕ) (head next head′ next′ : List ℕ) {r f : Bool} → Differing g d s head next → Slot g d s → f ≡ inUsePrimary g d s → not f ≡ false
       → Joined g d s head′ next′ r → Visited g d (s + 1) head′ next′ r
   visit-file h s head next head′ next′ {r} {f} w k e t j =
       record { bad = λ z. differing-found s head′ next′ k (sym e ∙ not-false f t) j z; good = λ z. differing-on h s head next head′ next′ w (k .low) j z }

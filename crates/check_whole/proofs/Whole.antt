@@ -11,21 +11,21 @@ use borrow.Author.Tests.{eq-eqb, ne-eqb, eqb-true, eqb-false, le-leb, leb-true}
 use Rattle.meaning.specs.Lists.{count, every, each, keep, has, distinct, any}
 use Rattle.meaning.specs.Bits.{bit}
 use Rattle.meaning.specs.Layout.{granules, taken, field, hit, slots, isSlot, directoryGranules, granuleBytes, granuleSectors}
-use Rattle.meaning.specs.Sizes
+use Rattle.lists.specs.Sizes
 use Rattle.meaning.specs.Names.{hash}
-use Rattle.meaning.specs.Entries.{inUse, primary, system, runs, runStart, runLength, runGranules, entryGranules, nameOf, sectorCount, endByte, sizeOf}
+use Rattle.meaning.specs.Entries.{inUse, inUsePrimary, system, runs, runStart, runLength, runGranules, entryGranules, nameOf, sectorCount, endByte, sizeOf}
 use Rattle.meaning.specs.Chain.{chain, owned, files}
 use Rattle.meaning.specs.Consistent.{lengthHolds, hitHolds, runsHold, gatHolds, entryHolds, slotHolds, fileHolds, namesDiffer, met, consistent}
 use Rattle.meaning.specs.declared.Geometry.{Geometry}
 use Rattle.layout.specs.Room.{Room, Slot}
 use Rattle.layout.proofs.Sound.{slot-yes}
-use Rattle.layout.proofs.Lists.{all-at, all-yes, all-no, all-none, any-last, not-yes, every-count, not-both}
+use Rattle.lists.specs.Tests.{all-at, all-yes, all-no, all-none, any-last, not-yes, every-count, not-both}
 use Rattle.check_map.specs.Marks.{marked}
 use Rattle.check_map.specs.Owners.{GatMap, standing}
 use Rattle.check_map.specs.Eight.{Among}
 use Rattle.check_walk.specs.Walk.{chainHolds, runHolds}
-use Rattle.laws.specs.Members
-use Rattle.laws.specs.Members.{In}
+use Rattle.lists.specs.Members
+use Rattle.lists.specs.Members.{In}
 use Rattle.laws.specs.Facts
 use Rattle.laws.specs.Facts.{File, Sound}
 use Rattle.laws.specs.Entry
@@ -63,33 +63,33 @@ module _ (g : Geometry) (d : List ℕ) where
   unfolding least
   least-one s e = ap {B = ℕ} (λ (b : Bool). cond b 1 2) e
 
-  owned-of : (p : ℕ) → T (primary g d p) → ownedOf g d p ≡ owned g d p
+  owned-of : (p : ℕ) → T (inUsePrimary g d p) → ownedOf g d p ≡ owned g d p
   unfolding ownedOf
-  owned-of p t = rw (Members.T-true {b = primary g d p} t)
+  owned-of p t = rw (Members.T-true {b = inUsePrimary g d p} t)
 
-  of-chain : (p x : ℕ) → In x (chainOf g d p) → T (primary g d p) × In x (chain g d p)
+  of-chain : (p x : ℕ) → In x (chainOf g d p) → T (inUsePrimary g d p) × In x (chain g d p)
   unfolding chainOf
-  of-chain p x i = go (primary g d p) refl i
+  of-chain p x i = go (inUsePrimary g d p) refl i
     where
-      go : (b : Bool) → primary g d p ≡ b → In x (cond b (chain g d p) []) → T (primary g d p) × In x (chain g d p)
+      go : (b : Bool) → inUsePrimary g d p ≡ b → In x (cond b (chain g d p) []) → T (inUsePrimary g d p) × In x (chain g d p)
       go true e j = (Members.true-T e, j)
       go false e j = Members.none-in j
 
-  of-owned : (p x : ℕ) → In x (ownedOf g d p) → T (primary g d p) × In x (owned g d p)
+  of-owned : (p x : ℕ) → In x (ownedOf g d p) → T (inUsePrimary g d p) × In x (owned g d p)
   unfolding ownedOf
-  of-owned p x i = go (primary g d p) refl i
+  of-owned p x i = go (inUsePrimary g d p) refl i
     where
-      go : (b : Bool) → primary g d p ≡ b → In x (cond b (owned g d p) []) → T (primary g d p) × In x (owned g d p)
+      go : (b : Bool) → inUsePrimary g d p ≡ b → In x (cond b (owned g d p) []) → T (inUsePrimary g d p) × In x (owned g d p)
       go true e j = (Members.true-T e, j)
       go false e j = Members.none-in j
 
   all-chains : met g d ≡ each (chainOf g d) (slots g d)
   unfolding met files chainOf
-  all-chains = Maps.each-keep (primary g d) (chain g d) (slots g d)
+  all-chains = Maps.each-keep (inUsePrimary g d) (chain g d) (slots g d)
 
   all-owned : each (owned g d) (files g d) ≡ each (ownedOf g d) (slots g d)
   unfolding files ownedOf
-  all-owned = Maps.each-keep (primary g d) (owned g d) (slots g d)
+  all-owned = Maps.each-keep (inUsePrimary g d) (owned g d) (slots g d)
 
   entry-lt : (x n : ℕ) → runsHold g d x ≡ true → In n (entryGranules g d x) → n < granules g
   unfolding entryGranules runsHold
@@ -114,7 +114,7 @@ module _ (g : Geometry) (d : List ℕ) where
 
   -- the size fits exactly if the sector count does
   size-le : (p : ℕ) → Bytes d → countHolds (sectorCount g d p) (endByte g d p) ≡ true → sectorCount g d p ≤ granuleSectors g * length (owned g d p) → sizeOf g d p ≤ granuleBytes g * length (owned g d p)
-  unfolding sizeOf countHolds field
+  unfolding sizeOf field
   size-le p b c l = go (eqb (endByte g d p) 0) refl
     where
       go : (t : Bool) → eqb (endByte g d p) 0 ≡ t → cond (eqb (endByte g d p) 0) (256 * sectorCount g d p) (256 * (sectorCount g d p - 1) + endByte g d p) ≤ granuleBytes g * length (owned g d p)
@@ -160,7 +160,7 @@ module _ (g : Geometry) (d : List ℕ) where
 
     file-fits : (p : ℕ) → File g d p → fileFits g d p ≡ true
     unfolding slotFits
-    file-fits p f = any-last _ _ (all-at _ (slot-fits p (f .slot)) 1) (not-yes (Members.T-true {b = primary g d p} (f .primary′)))
+    file-fits p f = any-last _ _ (all-at _ (slot-fits p (f .slot)) 1) (not-yes (Members.T-true {b = inUsePrimary g d p} (f .primary′)))
 
     pub hashed : (p : ℕ) → File g d p → hit g d p ≡ hash (nameOf g d p)
     unfolding fileFits nameFits
@@ -222,7 +222,7 @@ module _ (g : Geometry) (d : List ℕ) where
         (Members.any-if (inUse g d s) (entryHolds g d s) (λ u. Members.true-T (entry-holds s t u)))))
 
     filed : (p : ℕ) → File g d p → Entry.Filed g d p
-    unfolding fileFits nameFits countHolds
+    unfolding fileFits nameFits
     filed p f =
         let e = file-fits p f in
         let n = all-at _ e 1 in
@@ -285,7 +285,7 @@ module _ (g : Geometry) (d : List ℕ) where
         Bridge.says-chain g d (hit g d p) (length (slots g d)) p (Change.in-length (Facts.in-slots g d p (f .slot))) (λ x i. good p x f i) (Change.tail-marker g d c p f)
 
     file-good : (p : ℕ) → File g d p → fileFits g d p ≡ true
-    unfolding fileFits nameFits countHolds
+    unfolding fileFits nameFits
     file-good p f =
         let q = Change.filed-at g d c p f in
         all-yes (Members.T-true (q .zero′)) _
@@ -298,8 +298,8 @@ module _ (g : Geometry) (d : List ℕ) where
     slots-good =
         Members.T-true (Members.all-every (slotFits g d) (slots g d) (λ s i.
         let t = Facts.slots-in g d s i in
-        Members.all-two (hitHolds g d s) (any (not (primary g d s) ∷ fileFits g d s ∷ [])) (c .hits s t)
-        (Members.any-if (primary g d s) (fileFits g d s) (λ u. Members.true-T (file-good s (record { slot = t; primary′ = u }))))))
+        Members.all-two (hitHolds g d s) (any (not (inUsePrimary g d s) ∷ fileFits g d s ∷ [])) (c .hits s t)
+        (Members.any-if (inUsePrimary g d s) (fileFits g d s) (λ u. Members.true-T (file-good s (record { slot = t; primary′ = u }))))))
 
     owned-open : Maps.Opens m (leastOf g d) (ownedOf g d) (slots g d)
     unfolding consistent
@@ -413,7 +413,7 @@ module _ (g : Geometry) (d : List ℕ) (room : Room g d) {m m₂ seen met₂ : L
   pub way-met : {q : Bool} → r ≡ true → q ≡ every (metAt met₂) (slots g d) → q ≡ false → false ≡ consistent g d
   way-met e f n = no-met g d m room w open′ seen copy (sym (met-is e f) ∙ n)
 
-  pub way-hashed : {q : Bool} → r ≡ true → q ≡ every (metAt met₂) (slots g d) → q ≡ true → lengthHolds g d ≡ true → Bytes d → (p : ℕ) → Slot g d p → primary g d p ≡ true
+  pub way-hashed : {q : Bool} → r ≡ true → q ≡ every (metAt met₂) (slots g d) → q ≡ true → lengthHolds g d ≡ true → Bytes d → (p : ℕ) → Slot g d p → inUsePrimary g d p ≡ true
       → hit g d p ≡ hash (nameOf g d p)
   way-hashed e f n l y p sl u =
       hashes g d m room w open′ seen copy l y (sym fit-is ∙ e) (sym (met-is e f) ∙ n) p (record { slot = Members.true-T (slot-yes g d p (sl .low) (sl .held)); primary′ = Members.true-T u })

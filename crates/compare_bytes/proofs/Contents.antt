@@ -12,7 +12,7 @@ use Rattle.meaning.specs.Entries.{sizeOf, inUse}
 use Rattle.meaning.specs.Chain.{owned, place}
 use Rattle.meaning.specs.Read.{fetch}
 use Rattle.meaning.specs.declared.Geometry.{Geometry}
-use Rattle.layout.proofs.Lists.{and-l, le-or-lt}
+use Rattle.lists.specs.Tests.{and-l, le-or-lt}
 use Rattle.seek.specs.Seek.{Used}
 use Rattle.read.specs.Part.{File, Owned, InGranule}
 use Rattle.read.proofs.Laws.{place-fits, fetch-part, fetch-append, length-fetch}

@@ -10,7 +10,7 @@ use Rattle.meaning.specs.Entries.{nameOf}
 use Rattle.meaning.specs.Chain.{files}
 use Rattle.meaning.specs.Plain.{found, nothing, fileAt, plain}
 use Rattle.meaning.specs.declared.Geometry.{Geometry}
-use Rattle.laws.specs.Members.{true-T, T-true}
+use Rattle.lists.specs.Members.{true-T, T-true}
 use Rattle.laws.specs.Facts as facts
 use Rattle.laws.specs.Named as named
 use Rattle.layout.proofs.Sound.{slot-of, slot-yes}

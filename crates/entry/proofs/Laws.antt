@@ -8,7 +8,6 @@ use lib.ListN.{length, take, drop}
 use lib.Dec.{leb}
 use Rattle.meaning.specs.Bits.{bit}
 use Rattle.meaning.specs.Layout.{granuleBytes, field, entryAt}
-use Rattle.meaning.specs.Sizes
 use Rattle.meaning.specs.Names.{wellFormed}
 use Rattle.meaning.specs.Entries.{nameOf, sizeOf, sectorCount, endByte}
 use Rattle.meaning.specs.Chain.{owned}
@@ -16,7 +15,7 @@ use Rattle.meaning.specs.Consistent.{nameHolds, sizeHolds}
 use Rattle.meaning.specs.declared.Geometry.{Geometry}
 use Rattle.layout.specs.Room.{Room, Slot}
 use Rattle.layout.proofs.Laws.{name-part}
-use Rattle.layout.proofs.Lists.{all-yes, all-no, all-one, is-no, is-yes}
+use Rattle.lists.specs.Tests.{all-yes, all-no, all-one, is-no, is-yes}
 use Rattle.entry.specs.Count.{countHolds}
 
 -- a part of eleven bytes
@@ -48,9 +47,9 @@ module _ (g : Geometry) (d : List ℕ) (s : ℕ) where
       ap not q ∙ sym (ap (λ (b : Bool). b && not (bit 5 (field g d s 0))) (ap wellFormed (sym (name-is r sl e)) ∙ is-yes w t))
 
   pub size-bad : {f : Bool} → f ≡ countHolds (sectorCount g d s) (endByte g d s) → not f ≡ true → false ≡ sizeHolds g d s
-  unfolding sizeHolds countHolds
+  unfolding sizeHolds
   size-bad w t = sym (all-no (is-no w t) _)
 
   pub size-good : {f : Bool} {k w n : ℕ} → f ≡ countHolds (sectorCount g d s) (endByte g d s) → not f ≡ false → k ≡ sizeOf g d s → w ≡ granuleBytes g → n ≡ length (owned g d s) → leb k (w * n) ≡ sizeHolds g d s
-  unfolding sizeHolds countHolds
+  unfolding sizeHolds
   size-good {f} {k} {w} {n} u t p v q = ap (λ (z : ℕ). leb k (z * n)) v ∙ ap (λ (z : ℕ). leb z (granuleBytes g * n)) p ∙ ap (λ (z : ℕ). leb (sizeOf g d s) (granuleBytes g * z)) q ∙ sym (all-yes (is-yes u t) _ ∙ all-one _)

@@ -7,14 +7,16 @@ use native.Mathlib.Omega.{arith}
 use native.Mathlib.Numerals.{add-one}
 use lib.ListN.{length, length-append}
 use borrow.Author.Tests.{eq-eqb, ne-eqb}
-use Rattle.meaning.specs.Lists.{count, each, lastOr, length-count}
+use Rattle.meaning.specs.Lists.{count, each, lastOr}
+use Rattle.lists.specs.Members.{length-count}
 use Rattle.meaning.specs.Layout.{slots, directorySectors}
-use Rattle.meaning.specs.Entries.{block, second, runs, runsFrom, runLength, runGranules, entryGranules, marker, link}
+use Rattle.meaning.specs.Entries.{block, pairByte, runs, runsFrom, runLength, runGranules, entryGranules, marker, link}
 use Rattle.meaning.specs.Chain.{chainFrom, chain, owned}
 use Rattle.meaning.specs.declared.Geometry.{Geometry}
-use Rattle.laws.specs.Members
+use Rattle.lists.specs.Members
 use Rattle.layout.specs.Room.{Below}
-use Rattle.layout.proofs.Laws.{left-more, left-none, runs-more, runs-none}
+use Rattle.layout.proofs.Laws.{runs-more, runs-none}
+use Rattle.lists.specs.Ranges.{left-more, left-none}
 use Rattle.seek.specs.Seek.{Sound, Used, onward}
 use Rattle.seek.proofs.Laws.{chain-more, chain-none, slots-length}
 use Rattle.extent.specs.Reach.{Reaches}
@@ -40,7 +42,7 @@ module _ (g : Geometry) (d : List ℕ) where
       ∙ length-append (each (runGranules g d s) (count 0 k)) (each (runGranules g d s) ((0 + k) ∷ []))
       ∙ ap (λ (j : ℕ). length (each (runGranules g d s) (count 0 k)) + j) (ap {B = ℕ} length (Members.each-one (runGranules g d s) (0 + k)) ∙ length-count _ _ ∙ ap (runLength g d s) (omega arith))
 
-  pub counting-step : {s k n m : ℕ} → Counting s k n → k < 4 → (block g d s k ≡ 0xff → ⊥) → m ≡ second g d s k → Counting s (k + 1) (n + (1 + m % 32))
+  pub counting-step : {s k n m : ℕ} → Counting s k n → k < 4 → (block g d s k ≡ 0xff → ⊥) → m ≡ pairByte g d s k → Counting s (k + 1) (n + (1 + m % 32))
   counting-step {s} {k} {n} {m} c h f e = record {
     rest =
         c .rest ∙ ap (λ (j : ℕ). runsFrom g d s j k) (left-more h) ∙ runs-more g d s (4 - (k + 1)) k

@@ -13,9 +13,8 @@ use Rattle.meaning.specs.Entries.{marker, link}
 use Rattle.meaning.specs.Chain.{chain, chainFrom}
 use Rattle.meaning.specs.Fault.{handsOn, ends, walkFrom, walk, chainFault, chainWhole}
 use Rattle.meaning.specs.declared.Geometry.{Geometry}
-use Rattle.laws.specs.Members
-use Rattle.laws.specs.Members.{In}
-use Rattle.laws.specs.Facts
+use Rattle.lists.specs.Members
+use Rattle.lists.specs.Members.{In}
 use Rattle.laws.specs.Facts.{File}
 use Rattle.laws.specs.Walk
 use Rattle.laws.specs.Kinds

@@ -10,10 +10,11 @@ use borrow.Author.Tests.{ltb-true, leb-true, eqb-true, not-false}
 use Rattle.meaning.specs.Lists.{count, every, keep, firstOr}
 use Rattle.meaning.specs.Names.{wellFormed, hash, fold}
 use Rattle.meaning.specs.Layout.{slots, isSlot, hit, highest}
-use Rattle.meaning.specs.Sizes
+use Rattle.lists.specs.Sizes
 use Rattle.meaning.specs.Entries.{accessLevel}
 use Rattle.meaning.specs.Free.{freeSlot, freeSlots}
-use Rattle.meaning.specs.Refusals.{first, newInRange, inRange, noHandle, movedTo}
+use Rattle.meaning.specs.Refusals.{first, newInRange}
+use Rattle.meaning.specs.Handles.{inRange, noHandle, movedTo}
 use Rattle.meaning.specs.LookUp.{carries, candidates, named, slotOf, missing}
 use Rattle.meaning.specs.Open.{full, openedAt, openRefusals, open′}
 use Rattle.meaning.specs.Create.{newSlot, createRefusals, create}
@@ -24,10 +25,10 @@ use Rattle.meaning.specs.declared.Handle.{Handle}
 use Rattle.meaning.specs.declared.NewFile.{NewFile}
 use Rattle.meaning.specs.declared.Mode.{Mode}
 use Rattle.layout.proofs.Laws.{well-length}
-use Rattle.handle.proofs.Laws.{ownRow}
-use Rattle.layout.proofs.Lists.{and-l, and-r, all-at, first-at}
+use Rattle.passed.proofs.Checked.{ownRow}
+use Rattle.lists.specs.Tests.{and-l, and-r, all-at, first-at}
 use Rattle.genie_codec.specs.Codec.{Fits}
-use Rattle.handle.proofs.Laws.{length-range}
+use Rattle.passed.proofs.Checked.{length-range}
 
 -- all of these are below 256
 low : List ℕ → Bool

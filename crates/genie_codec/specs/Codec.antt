@@ -6,7 +6,7 @@ use native.Mathlib.Omega.{arith}
 use lib.ListN.{length, take, drop, replicate}
 use lib.Seq.{sets, take-all}
 use Rattle.meaning.specs.Layout.{byte}
-use Rattle.meaning.specs.Refusals.{noHandle}
+use Rattle.meaning.specs.Handles.{noHandle}
 use Rattle.meaning.specs.declared.Handle.{Handle}
 
 -- so many bytes are a handle; of a longer slice only the first 19 are used

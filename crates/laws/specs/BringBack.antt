@@ -19,8 +19,8 @@ use Rattle.meaning.specs.BringBack.{killedEntryHolds, whole}
 use Rattle.meaning.specs.Read.{fetch}
 use Rattle.meaning.specs.Plain.{fileAt, backAs}
 use Rattle.meaning.specs.declared.Geometry.{Geometry}
-use Rattle.laws.specs.Members
-use Rattle.laws.specs.Members.{In, Distinct}
+use Rattle.lists.specs.Members
+use Rattle.lists.specs.Members.{In, Distinct}
 use Rattle.laws.specs.Bits
 use Rattle.laws.specs.Facts
 use Rattle.laws.specs.Facts.{File, Sound}

@@ -11,14 +11,14 @@ use lib.ListN.{length}
 use lib.Dec.{T, eqb, T-not, eqb→eq}
 use Rattle.meaning.specs.Layout.{isSlot, slots, taken, field, granules, hit, directoryGranules, aboveTen}
 use Rattle.meaning.specs.Bits.{bit, digit}
-use Rattle.meaning.specs.Entries.{inUse, extension, primary, marker, link, entryGranules, nameOf}
+use Rattle.meaning.specs.Entries.{inUse, extension, inUsePrimary, marker, link, entryGranules, nameOf}
 use Rattle.meaning.specs.Chain.{chain, chainFrom, owned}
 use Rattle.meaning.specs.Consistent.{hitHolds, entryHolds, fileHolds}
 use Rattle.meaning.specs.Growth.{tail}
 use Rattle.meaning.specs.declared.Geometry.{Geometry}
-use Rattle.laws.specs.Members
-use Rattle.laws.specs.Members.{In, Distinct}
-use Rattle.laws.specs.Counting
+use Rattle.lists.specs.Members
+use Rattle.lists.specs.Members.{In, Distinct}
+use Rattle.lists.specs.Counting
 use Rattle.laws.specs.Facts
 use Rattle.laws.specs.Facts.{File, Sound}
 use Rattle.laws.specs.Entry
@@ -29,40 +29,40 @@ use Rattle.laws.specs.Words.{words}
 
 -- the entries, and the granules, of the file at slot p; none if there is no file at p
 unfoldable pub entriesOf : Geometry → List ℕ → ℕ → List ℕ
-entriesOf g d p = cond (isSlot g d p && primary g d p) (chain g d p) []
+entriesOf g d p = cond (isSlot g d p && inUsePrimary g d p) (chain g d p) []
 
 unfoldable pub granulesOf : Geometry → List ℕ → ℕ → List ℕ
-granulesOf g d p = cond (isSlot g d p && primary g d p) (owned g d p) []
+granulesOf g d p = cond (isSlot g d p && inUsePrimary g d p) (owned g d p) []
 
 module _ (g : Geometry) (d : List ℕ) (p : ℕ) where
-  file-test : File g d p → T (isSlot g d p && primary g d p)
-  file-test f = Members.and-i (isSlot g d p) (primary g d p) (f .slot) (f .primary′)
+  file-test : File g d p → T (isSlot g d p && inUsePrimary g d p)
+  file-test f = Members.and-i (isSlot g d p) (inUsePrimary g d p) (f .slot) (f .primary′)
 
-  test-file : T (isSlot g d p && primary g d p) → File g d p
-  test-file t = record { slot = Members.and-l (isSlot g d p) (primary g d p) t; primary′ = Members.and-r (isSlot g d p) (primary g d p) t }
+  test-file : T (isSlot g d p && inUsePrimary g d p) → File g d p
+  test-file t = record { slot = Members.and-l (isSlot g d p) (inUsePrimary g d p) t; primary′ = Members.and-r (isSlot g d p) (inUsePrimary g d p) t }
 
   pub file? : File g d p ⊎ (File g d p → ⊥)
-  file? = go (Members.decide (isSlot g d p && primary g d p))
+  file? = go (Members.decide (isSlot g d p && inUsePrimary g d p))
     where
-      go : Members.Test (isSlot g d p && primary g d p) → File g d p ⊎ (File g d p → ⊥)
+      go : Members.Test (isSlot g d p && inUsePrimary g d p) → File g d p ⊎ (File g d p → ⊥)
       go (Members.Test.holds t) = inl (test-file t)
       go (Members.Test.fails f) = inr (λ h. f (file-test h))
 
   pub entriesOf-is : File g d p → entriesOf g d p ≡ chain g d p
   unfolding entriesOf
-  entriesOf-is f = rw (Members.T-true {b = isSlot g d p && primary g d p} (file-test f))
+  entriesOf-is f = rw (Members.T-true {b = isSlot g d p && inUsePrimary g d p} (file-test f))
 
   pub granulesOf-is : File g d p → granulesOf g d p ≡ owned g d p
   unfolding granulesOf
-  granulesOf-is f = rw (Members.T-true {b = isSlot g d p && primary g d p} (file-test f))
+  granulesOf-is f = rw (Members.T-true {b = isSlot g d p && inUsePrimary g d p} (file-test f))
 
   pub entriesOf-none : (File g d p → ⊥) → entriesOf g d p ≡ []
   unfolding entriesOf
-  entriesOf-none f = rw (Members.no-false {b = isSlot g d p && primary g d p} (λ t. f (test-file t)))
+  entriesOf-none f = rw (Members.no-false {b = isSlot g d p && inUsePrimary g d p} (λ t. f (test-file t)))
 
   pub granulesOf-none : (File g d p → ⊥) → granulesOf g d p ≡ []
   unfolding granulesOf
-  granulesOf-none f = rw (Members.no-false {b = isSlot g d p && primary g d p} (λ t. f (test-file t)))
+  granulesOf-none f = rw (Members.no-false {b = isSlot g d p && inUsePrimary g d p} (λ t. f (test-file t)))
 
   pub entries-in : (x : ℕ) → In x (entriesOf g d p) → File g d p × In x (chain g d p)
   entries-in x i = go file? i

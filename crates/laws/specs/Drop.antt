@@ -17,8 +17,8 @@ use Rattle.meaning.specs.Chain.{chain, owned}
 use Rattle.meaning.specs.Growth.{tail}
 use Rattle.meaning.specs.Entries
 use Rattle.meaning.specs.declared.Geometry.{Geometry}
-use Rattle.laws.specs.Members
-use Rattle.laws.specs.Members.{In}
+use Rattle.lists.specs.Members
+use Rattle.lists.specs.Members.{In}
 use Rattle.laws.specs.Facts.{Sound, File}
 use Rattle.laws.specs.Entry
 use Rattle.laws.specs.Frame

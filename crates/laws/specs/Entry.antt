@@ -14,9 +14,9 @@ use Rattle.meaning.specs.Bits.{bit}
 use Rattle.meaning.specs.Names.{hash, wellFormed}
 use Rattle.meaning.specs.Entries.{system, block, marker, link, runs, runsFrom, firstUnit, runStart, runLength, entryGranules, nameOf, sizeOf, sectorCount, endByte}
 use Rattle.meaning.specs.Chain.{chain, chainFrom, owned}
-use Rattle.meaning.specs.Consistent.{pairsHold, followsBy, linkHoldsBy, linkHolds, runsHold, gatHolds, entryHolds, hashHolds, offDirectory, fileHolds}
+use Rattle.meaning.specs.Consistent.{pairsHold, followsBy, linkHoldsBy, runsHold, gatHolds, entryHolds, hashHolds, offDirectory, fileHolds}
 use Rattle.meaning.specs.declared.Geometry.{Geometry}
-use Rattle.laws.specs.Members
+use Rattle.lists.specs.Members
 use Rattle.laws.specs.Words.{words}
 
 -- x follows s as an extension whose byte 00 is this
@@ -179,7 +179,7 @@ module _ (g : Geometry) (d : List ℕ) where
   unfolding words
   entry s t =
       let ps : T (pairsHold g d s) = search parts depth 5 in
-      let ls : T (linkHolds g d s) = search parts depth 5 in
+      let ls : T (linkHoldsBy g d 0x90 s) = search parts depth 5 in
       let rs : T (runsHold g d s) = search parts depth 5 in
       let gs : T (gatHolds g d s) = search parts depth 5 in
       record { pairs = pairs-say s ps; linked = links-say 0x90 s ls; run = runs-say s rs; gat = λ n i. Members.every-all (taken g d) gs i }
@@ -188,7 +188,7 @@ module _ (g : Geometry) (d : List ℕ) where
   unfolding words
   says-entry s e =
       let ps : T (pairsHold g d s) = say-pairs s (e .pairs) in
-      let ls : T (linkHolds g d s) = say-links 0x90 s (e .linked) in
+      let ls : T (linkHoldsBy g d 0x90 s) = say-links 0x90 s (e .linked) in
       let rs : T (runsHold g d s) = say-runs s (e .run) in
       let gs : T (gatHolds g d s) = Members.all-every (taken g d) (entryGranules g d s) (e .gat) in
       search Members.and-i depth 5

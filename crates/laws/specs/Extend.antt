@@ -16,9 +16,9 @@ use Rattle.meaning.specs.Chain.{chain, owned, chainFrom}
 use Rattle.meaning.specs.Growth.{tail}
 use Rattle.meaning.specs.Plain.{File}
 use Rattle.meaning.specs.declared.Geometry.{Geometry}
-use Rattle.laws.specs.Members
-use Rattle.laws.specs.Members.{In}
-use Rattle.laws.specs.Counting
+use Rattle.lists.specs.Members
+use Rattle.lists.specs.Members.{In}
+use Rattle.lists.specs.Counting
 use Rattle.laws.specs.Facts
 use Rattle.laws.specs.Facts.{Sound}
 use Rattle.laws.specs.Entry

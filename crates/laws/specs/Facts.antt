@@ -7,17 +7,17 @@ use native.Mathlib.Omega.{arith}
 use lib.Dec.{T, T-not, not-T, ltb, ltb→lt}
 use Rattle.meaning.specs.Lists.{count, every, keep, each, has, distinct, same, any}
 use Rattle.meaning.specs.Layout.{isSlot, slots, directoryGranules, taken}
-use Rattle.meaning.specs.Entries.{inUse, primary, extension, nameOf}
+use Rattle.meaning.specs.Entries.{inUse, inUsePrimary, extension, nameOf}
 use Rattle.meaning.specs.Chain.{chain, owned, files}
 use Rattle.meaning.specs.Consistent.{lengthHolds, hitHolds, entryHolds, slotHolds, fileHolds, namesDiffer, met, consistent}
 use Rattle.meaning.specs.declared.Geometry.{Geometry}
-use Rattle.laws.specs.Members
+use Rattle.lists.specs.Members
 use Rattle.laws.specs.Words.{words}
 
 -- p is the slot of a file
 pub record File (g : Geometry) (d : List ℕ) (p : ℕ) : Type 0 where
   pub slot : T (isSlot g d p)
-  pub primary′ : T (primary g d p)
+  pub primary′ : T (inUsePrimary g d p)
 
 pub record Sound (g : Geometry) (d : List ℕ) : Type 0 where
   pub dir : T (lengthHolds g d)
@@ -51,15 +51,15 @@ module _ (g : Geometry) (d : List ℕ) where
 
   pub files-in : (p : ℕ) → Members.In p (files g d) → File g d p
   unfolding files
-  files-in p i = let k = Members.keep-in (primary g d) p (slots g d) i in record { slot = slots-in p (k .0); primary′ = k .1 }
+  files-in p i = let k = Members.keep-in (inUsePrimary g d) p (slots g d) i in record { slot = slots-in p (k .0); primary′ = k .1 }
 
   pub in-files : (p : ℕ) → File g d p → Members.In p (files g d)
   unfolding files
-  in-files p f = Members.in-keep (primary g d) (in-slots p (f .slot)) (f .primary′)
+  in-files p f = Members.in-keep (inUsePrimary g d) (in-slots p (f .slot)) (f .primary′)
 
   pub files-distinct : Members.Distinct (files g d)
   unfolding files
-  files-distinct = Members.keep-distinct (primary g d) slots-distinct
+  files-distinct = Members.keep-distinct (inUsePrimary g d) slots-distinct
 
   pub file-in-use : (p : ℕ) → File g d p → T (inUse g d p)
   file-in-use p f = Members.and-l (inUse g d p) _ (f .primary′)

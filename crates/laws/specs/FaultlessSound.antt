@@ -11,13 +11,13 @@ use Rattle.meaning.specs.Lists.{every, some, has, distinct, same, all, any}
 use Rattle.meaning.specs.Bits.{digit}
 use Rattle.meaning.specs.Layout.{isSlot, slots, field, hit, taken, directoryGranules}
 use Rattle.meaning.specs.Names.{hash}
-use Rattle.meaning.specs.Entries.{inUse, extension, primary, system, marker, link, entryGranules, nameOf}
+use Rattle.meaning.specs.Entries.{inUse, extension, inUsePrimary, system, marker, link, entryGranules, nameOf}
 use Rattle.meaning.specs.Chain.{chain, chainFrom, owned, files}
-use Rattle.meaning.specs.Consistent.{hitHolds, pairsHold, linkHolds, runsHold, gatHolds, entryHolds, nameHolds, hashHolds, sizeHolds, offDirectory, fileHolds}
+use Rattle.meaning.specs.Consistent.{hitHolds, pairsHold, linkHoldsBy, runsHold, gatHolds, entryHolds, nameHolds, hashHolds, sizeHolds, offDirectory, fileHolds}
 use Rattle.meaning.specs.Fault.{handsOn, ends, walk, goodExtension, fileOf, chainWhole, hitFault, nameFault, duplicateFault, chainFault, runFault, gatFault, sharedFault, sizeFault, directoryFault}
 use Rattle.meaning.specs.declared.Geometry.{Geometry}
-use Rattle.laws.specs.Members
-use Rattle.laws.specs.Members.{In, Distinct}
+use Rattle.lists.specs.Members
+use Rattle.lists.specs.Members.{In, Distinct}
 use Rattle.laws.specs.Facts
 use Rattle.laws.specs.Facts.{File, Sound}
 use Rattle.laws.specs.Entry
@@ -25,7 +25,7 @@ use Rattle.laws.specs.Entry.{Follows, Linked}
 use Rattle.laws.specs.Clauses.{Used}
 use Rattle.laws.specs.Walk
 use Rattle.laws.specs.Kinds
-use Rattle.laws.specs.First.{yes-T}
+use Rattle.lists.specs.First.{yes-T}
 use Rattle.laws.specs.Faultless.{Faultless}
 
 -- the one of two numbers that is not the lower
@@ -163,8 +163,8 @@ module _ (g : Geometry) (d : List ℕ) (c : Faultless g d) where
       go (inl h) = Walk.hands-says g d s h .pairs
       go (inr e) = Kinds.ends-says g d s e .0
 
-  link-holds : (s : ℕ) → Used g d s → T (linkHolds g d s)
-  unfolding linkHolds
+  link-holds : (s : ℕ) → Used g d s → T (linkHoldsBy g d 0x90 s)
+  unfolding linkHoldsBy
   link-holds s u = Entry.say-links g d 0x90 s (linked s u)
 
   entry-holds : (s : ℕ) → Used g d s → T (entryHolds g d s)
@@ -225,7 +225,7 @@ module _ (g : Geometry) (d : List ℕ) (c : Faultless g d) where
 
   name-holds : (p : ℕ) → File g d p → T (nameHolds g d p)
   unfolding nameFault
-  name-holds p f = yes-T (nameHolds g d p) (λ n. c .clear p (f .slot) .name (Members.all-two (primary g d p) (not (nameHolds g d p)) (f .primary′) n))
+  name-holds p f = yes-T (nameHolds g d p) (λ n. c .clear p (f .slot) .name (Members.all-two (inUsePrimary g d p) (not (nameHolds g d p)) (f .primary′) n))
 
   hit-holds : (s : ℕ) → T (isSlot g d s) → T (hitHolds g d s)
   unfolding hitFault
@@ -252,7 +252,7 @@ module _ (g : Geometry) (d : List ℕ) (c : Faultless g d) where
 
   size-holds : (p : ℕ) → File g d p → T (sizeHolds g d p)
   unfolding sizeFault
-  size-holds p f = yes-T (sizeHolds g d p) (λ n. c .clear p (f .slot) .size (Kinds.all-three (primary g d p) (chainWhole g d p) (not (sizeHolds g d p)) (f .primary′) (whole-is p f) n))
+  size-holds p f = yes-T (sizeHolds g d p) (λ n. c .clear p (f .slot) .size (Kinds.all-three (inUsePrimary g d p) (chainWhole g d p) (not (sizeHolds g d p)) (f .primary′) (whole-is p f) n))
 
   off : (p n : ℕ) → File g d p → T (not (system g d p)) → In n (owned g d p) → In n (directoryGranules g d) → ⊥
   unfolding directoryFault owned
@@ -284,7 +284,7 @@ module _ (g : Geometry) (d : List ℕ) (c : Faultless g d) where
   not-duplicate : (p q : ℕ) → File g d p → File g d q → q < p → nameOf g d q ≡ nameOf g d p → ⊥
   unfolding duplicateFault
   not-duplicate p q f h l e =
-      c .clear p (f .slot) .duplicate (Members.all-two (primary g d p) (some (λ q. ltb q p && same (nameOf g d q) (nameOf g d p)) (files g d)) (f .primary′)
+      c .clear p (f .slot) .duplicate (Members.all-two (inUsePrimary g d p) (some (λ q. ltb q p && same (nameOf g d q) (nameOf g d p)) (files g d)) (f .primary′)
       (Kinds.in-some (λ q. ltb q p && same (nameOf g d q) (nameOf g d p)) (Facts.in-files g d q h)
       (Members.and-i (ltb q p) (same (nameOf g d q) (nameOf g d p)) (lt→ltb q p l) (subst (λ (n : List ℕ). T (same (nameOf g d q) n)) e (Members.same-refl (nameOf g d q))))))
 

@@ -12,7 +12,7 @@ use Rattle.meaning.specs.Layout.{isSlot, slots, taken, field, hit, directoryGra
 use Rattle.meaning.specs.Entries.{block, marker, link, runs, runsFrom, runGranules, entryGranules, nameOf}
 use Rattle.meaning.specs.Chain.{chain, chainFrom, owned}
 use Rattle.meaning.specs.declared.Geometry.{Geometry}
-use Rattle.laws.specs.Members
+use Rattle.lists.specs.Members
 use Rattle.laws.specs.Facts.{File}
 use Rattle.laws.specs.Entry
 use Rattle.laws.specs.Words.{words}

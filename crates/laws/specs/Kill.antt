@@ -11,7 +11,7 @@ use Rattle.meaning.specs.Entries.{inUse, system}
 use Rattle.meaning.specs.Chain.{chain, owned}
 use Rattle.meaning.specs.Kill.{killed}
 use Rattle.meaning.specs.declared.Geometry.{Geometry}
-use Rattle.laws.specs.Members.{In}
+use Rattle.lists.specs.Members.{In}
 use Rattle.laws.specs.Bits
 use Rattle.laws.specs.Facts
 use Rattle.laws.specs.Facts.{File, Sound}

@@ -16,8 +16,8 @@ use Rattle.meaning.specs.Bits.{bit, digit, putDigit}
 use Rattle.meaning.specs.Entries.{link, entryGranules, nameOf, sizeOf}
 use Rattle.meaning.specs.Chain.{chain, owned}
 use Rattle.meaning.specs.declared.Geometry.{Geometry}
-use Rattle.laws.specs.Members
-use Rattle.laws.specs.Members.{In}
+use Rattle.lists.specs.Members
+use Rattle.lists.specs.Members.{In}
 use Rattle.laws.specs.Bits
 use Rattle.laws.specs.Entry
 use Rattle.laws.specs.Frame

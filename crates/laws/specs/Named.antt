@@ -8,13 +8,13 @@ use lib.Dec.{eqb}
 use Rattle.meaning.specs.Lists.{keep, same}
 use Rattle.meaning.specs.Layout.{slots, hit}
 use Rattle.meaning.specs.Names.{hash}
-use Rattle.meaning.specs.Entries.{primary, nameOf}
+use Rattle.meaning.specs.Entries.{inUsePrimary, nameOf}
 use Rattle.meaning.specs.LookUp.{candidates, carries, named}
 use Rattle.meaning.specs.Plain
 use Rattle.meaning.specs.Plain.{found, nothing, fileAt, foundIn, plain}
 use Rattle.meaning.specs.declared.Geometry.{Geometry}
-use Rattle.laws.specs.Members
-use Rattle.laws.specs.Members.{In}
+use Rattle.lists.specs.Members
+use Rattle.lists.specs.Members.{In}
 use Rattle.laws.specs.Facts
 use Rattle.laws.specs.Facts.{File, Sound}
 use Rattle.laws.specs.Change
@@ -37,7 +37,7 @@ module _ (g : Geometry) (d : List ℕ) where
   named-in n x i =
       let a = Members.keep-in (carries g d n) x (candidates g d n) i in
       let b = Members.keep-in (λ s. eqb (hit g d s) (hash n)) x (slots g d) (a .0) in
-      (record { slot = Facts.slots-in g d x (b .0); primary′ = Members.and-l (primary g d x) _ (a .1) }, Members.same-eq _ _ (Members.all-second (primary g d x) (same (nameOf g d x) n) (a .1)))
+      (record { slot = Facts.slots-in g d x (b .0); primary′ = Members.and-l (inUsePrimary g d x) _ (a .1) }, Members.same-eq _ _ (Members.all-second (inUsePrimary g d x) (same (nameOf g d x) n) (a .1)))
 
   pub none-named : (n : List ℕ) → ((p : ℕ) → File g d p → nameOf g d p ≢ n) → named g d n ≡ []
   unfolding words
@@ -49,7 +49,7 @@ module _ (g : Geometry) (d : List ℕ) where
     in-named p f =
         Members.in-keep (carries g d (nameOf g d p))
         (Members.in-keep (λ s. eqb (hit g d s) (hash (nameOf g d p))) (Facts.in-slots g d p (f .slot)) (Members.eq-T (Change.filed-at g d c p f .hashes p (Change.chain-head g d c p (f .slot)))))
-        (Members.all-two (primary g d p) (same (nameOf g d p) (nameOf g d p)) (f .primary′) (Members.same-refl (nameOf g d p)))
+        (Members.all-two (inUsePrimary g d p) (same (nameOf g d p) (nameOf g d p)) (f .primary′) (Members.same-refl (nameOf g d p)))
 
     pub named-is : (p : ℕ) → File g d p → named g d (nameOf g d p) ≡ p ∷ []
     unfolding words

@@ -8,17 +8,18 @@ use native.Mathlib.Omega.{arith}
 use native.Mathlib.Decide.{ℕ-discrete}
 use lib.ListN.{length, getD, replicate, length-map}
 use lib.Dec.{T, ltb, T-not, not-T, ltb→lt}
-use Rattle.meaning.specs.Lists.{count, each, has, length-count}
+use Rattle.meaning.specs.Lists.{count, each, has}
 use Rattle.meaning.specs.Layout.{byte, taken, field, granules, directoryGranules, granuleBytes}
-use Rattle.meaning.specs.Sizes
+use Rattle.lists.specs.Sizes
 use Rattle.meaning.specs.Entries.{system, nameOf, sizeOf}
 use Rattle.meaning.specs.Chain.{owned, files, place}
 use Rattle.meaning.specs.LookUp.{named}
-use Rattle.meaning.specs.Plain
-use Rattle.meaning.specs.Plain.{Found, found, nothing, fileAt, foundIn, plain, hush, beyondAt, beyondIn, beyond, reserved}
+use Rattle.meaning.specs.Plain.{Found, found, nothing, fileAt, foundIn, plain}
+use Rattle.promises_words.specs.Untouched.{hush, beyondAt, beyondIn, beyond}
+use Rattle.meaning.specs.Free.{reserved}
 use Rattle.meaning.specs.declared.Geometry.{Geometry}
-use Rattle.laws.specs.Members
-use Rattle.laws.specs.Members.{In}
+use Rattle.lists.specs.Members
+use Rattle.lists.specs.Members.{In, length-count}
 use Rattle.laws.specs.Facts
 use Rattle.laws.specs.Facts.{File, Sound}
 use Rattle.laws.specs.Frame

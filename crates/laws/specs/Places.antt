@@ -11,13 +11,13 @@ use lib.Seq.{getD-set-same, getD-set-other, set-out, sets}
 use lib.Dec.{T, eqb, leb, ltb, eqb→eq, ltb→lt, leb→le}
 use Rattle.meaning.specs.Lists.{count, has, through}
 use Rattle.meaning.specs.Layout.{fitsGeometry, byte, isSlot, taken, gatAt, granules, directoryGranules, granuleBytes, granuleSectors, aboveTen, directorySectors, sectors, roundUp, mostBlocks, mostUnits}
-use Rattle.meaning.specs.Sizes
+use Rattle.lists.specs.Sizes
 use Rattle.meaning.specs.Bits.{digit, putDigit}
 use Rattle.meaning.specs.Entries.{runs, runStart, runLength, runGranules, entryGranules}
 use Rattle.meaning.specs.Consistent.{lengthHolds}
 use Rattle.meaning.specs.declared.Geometry.{Geometry}
-use Rattle.laws.specs.Members
-use Rattle.laws.specs.Members.{In}
+use Rattle.lists.specs.Members
+use Rattle.lists.specs.Members.{In}
 use Rattle.laws.specs.Bits
 use Rattle.laws.specs.Entry
 use Rattle.laws.specs.Words.{words}

@@ -9,13 +9,13 @@ use lib.Dec.{T, eqb, eqb→eq, ltb, ltb→lt, T-not}
 use Rattle.meaning.specs.Lists.{some, has, distinct, same, all, any}
 use Rattle.meaning.specs.Layout.{isSlot, slots, field, hit, taken, directoryGranules}
 use Rattle.meaning.specs.Names.{hash}
-use Rattle.meaning.specs.Entries.{inUse, extension, primary, system, marker, link, entryGranules, nameOf}
+use Rattle.meaning.specs.Entries.{inUse, extension, inUsePrimary, system, marker, link, entryGranules, nameOf}
 use Rattle.meaning.specs.Chain.{chain, chainFrom, owned, files}
 use Rattle.meaning.specs.Consistent.{hitHolds, pairsHold, runsHold, gatHolds, entryHolds, nameHolds, sizeHolds, fileHolds}
 use Rattle.meaning.specs.Fault.{handsOn, ends, walkFrom, walk, metFrom, goodExtension, fileOf, chainWhole, hitFault, nameFault, duplicateFault, chainFault, runFault, gatFault, sharedFault, sizeFault, directoryFault}
 use Rattle.meaning.specs.declared.Geometry.{Geometry}
-use Rattle.laws.specs.Members
-use Rattle.laws.specs.Members.{In, Distinct}
+use Rattle.lists.specs.Members
+use Rattle.lists.specs.Members.{In, Distinct}
 use Rattle.laws.specs.Facts
 use Rattle.laws.specs.Facts.{File, Sound}
 use Rattle.laws.specs.Entry
@@ -179,13 +179,13 @@ module _ (g : Geometry) (d : List ℕ) (c : Sound g d) where
   no-name : (s : ℕ) → T (isSlot g d s) → T (nameFault g d s) → ⊥
   unfolding nameFault
   no-name s t v =
-      let k = Kinds.two-says (primary g d s) (not (nameHolds g d s)) v in
+      let k = Kinds.two-says (inUsePrimary g d s) (not (nameHolds g d s)) v in
       T-not (nameHolds g d s) (k .1) (own g d s (c .file s (record { slot = t; primary′ = k .0 })) .name)
 
   no-duplicate : (s : ℕ) → T (isSlot g d s) → T (duplicateFault g d s) → ⊥
   unfolding duplicateFault
   no-duplicate s t v =
-      let k = Kinds.two-says (primary g d s) (some (λ q. ltb q s && same (nameOf g d q) (nameOf g d s)) (files g d)) v in
+      let k = Kinds.two-says (inUsePrimary g d s) (some (λ q. ltb q s && same (nameOf g d q) (nameOf g d s)) (files g d)) v in
       let w = Kinds.some-in (λ q. ltb q s && same (nameOf g d q) (nameOf g d s)) (files g d) (k .1) in
       let l = ltb→lt (w .0) s (Members.and-l (ltb (w .0) s) (same (nameOf g d (w .0)) (nameOf g d s)) (w .2)) in
       let e = c .names (w .0) s (Facts.files-in g d (w .0) (w .1)) (record { slot = t; primary′ = k .0 })
@@ -239,7 +239,7 @@ module _ (g : Geometry) (d : List ℕ) (c : Sound g d) where
   no-size : (s : ℕ) → T (isSlot g d s) → T (sizeFault g d s) → ⊥
   unfolding sizeFault
   no-size s t v =
-      let k = Kinds.all-says (primary g d s) (chainWhole g d s) (not (sizeHolds g d s)) v in
+      let k = Kinds.all-says (inUsePrimary g d s) (chainWhole g d s) (not (sizeHolds g d s)) v in
       T-not (sizeHolds g d s) (k .2) (own g d s (c .file s (record { slot = t; primary′ = k .0 })) .size)
 
   no-directory : (s : ℕ) → T (isSlot g d s) → T (directoryFault g d s) → ⊥

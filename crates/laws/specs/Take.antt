@@ -16,8 +16,8 @@ use Rattle.meaning.specs.Bits.{bit, digit}
 use Rattle.meaning.specs.Entries.{block, runStart, runLength, runGranules, runs, entryGranules}
 use Rattle.meaning.specs.Growth.{tail, after, lengthens, lengthened, withPair}
 use Rattle.meaning.specs.declared.Geometry.{Geometry}
-use Rattle.laws.specs.Members
-use Rattle.laws.specs.Members.{In}
+use Rattle.lists.specs.Members
+use Rattle.lists.specs.Members.{In}
 use Rattle.laws.specs.Facts.{Sound, File}
 use Rattle.laws.specs.Entry
 use Rattle.laws.specs.Frame
@@ -323,7 +323,7 @@ module _ (g : Geometry) (d : List ℕ) (c : Sound g d) (k : Places.Fits g d) (p 
             inside = rw (fixed₂ (0x16 + 2 * x) (omega arith) (omega arith), fixed₂ (0x17 + 2 * x) (omega arith) (omega arith)) (w .inside);
           }
 
-  pub paired-grows : Tail.Grows g d (withPair g p d (tail g p d) (runs g d (tail g p d)) n) p n
+  pub paired-grows : Tail.Grows g d (withPair g d (tail g p d) (runs g d (tail g p d)) n) p n
   unfolding words
   paired-grows = record {
     at = record {

@@ -18,8 +18,8 @@ use Rattle.meaning.specs.Chain.{chain, chainFrom, owned}
 use Rattle.meaning.specs.Kill.{killed}
 use Rattle.meaning.specs.BringBack.{broughtBack}
 use Rattle.meaning.specs.declared.Geometry.{Geometry}
-use Rattle.laws.specs.Members
-use Rattle.laws.specs.Members.{In}
+use Rattle.lists.specs.Members
+use Rattle.lists.specs.Members.{In}
 use Rattle.laws.specs.Bits
 use Rattle.laws.specs.Facts
 use Rattle.laws.specs.Facts.{File, Sound}

@@ -14,9 +14,9 @@ use Rattle.meaning.specs.Chain.{chain, chainFrom, files}
 use Rattle.meaning.specs.Consistent.{pairsHold}
 use Rattle.meaning.specs.Fault.{usedExtension, handsOn, walkFrom, walk, walked}
 use Rattle.meaning.specs.declared.Geometry.{Geometry}
-use Rattle.laws.specs.Members
-use Rattle.laws.specs.Members.{In, Distinct}
-use Rattle.laws.specs.Counting
+use Rattle.lists.specs.Members
+use Rattle.lists.specs.Members.{In, Distinct}
+use Rattle.lists.specs.Counting
 use Rattle.laws.specs.Facts
 use Rattle.laws.specs.Facts.{File}
 use Rattle.laws.specs.Clauses.{Used}

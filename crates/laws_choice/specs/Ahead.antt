@@ -6,9 +6,9 @@ use Prim.Native.Nat.{ℕ, zero, suc, _+_, _-_, _≤_, _<_}
 use native.Mathlib.Omega.{arith}
 use native.Mathlib.Decide.{decLt, decLe, ℕ-discrete}
 use lib.ListN.{length, length-append}
-use Rattle.meaning.specs.Lists.{count, length-count}
-use Rattle.laws.specs.Members
-use Rattle.laws.specs.Members.{In}
+use Rattle.meaning.specs.Lists.{count}
+use Rattle.lists.specs.Members
+use Rattle.lists.specs.Members.{In, length-count}
 use Rattle.laws_choice.specs.Parts
 use Rattle.meaning.specs.Choice.{State, Run, spare, granulesOf, Sized, Free, Granules, Fits, Choice}
 use Rattle.laws_choice.specs.Words.{Lengthens, Starts, CanLengthen, LowEnd}

@@ -4,7 +4,7 @@ use mathlib.Core.List.{List, [], _∷_, _++_}
 use Prim.Native.Nat.{ℕ, suc, _+_, _-_, _≤_}
 use native.Mathlib.Omega.{arith}
 use Rattle.meaning.specs.Lists.{count}
-use Rattle.laws.specs.Members
+use Rattle.lists.specs.Members
 use Rattle.laws_choice.specs.Words
 use Rattle.meaning.specs.Choice.{State, Run, after, spare, granulesOf, Granules, Fits, Choice}
 use Rattle.laws_choice.specs.Words.{Lengthens, Starts, Step}

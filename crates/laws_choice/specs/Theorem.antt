@@ -5,8 +5,8 @@ use mathlib.Core.List.{List, [], _∷_}
 use Prim.Native.Nat.{ℕ, zero, suc, _+_, _≤_}
 use native.Mathlib.Omega.{arith}
 use lib.ListN.{length}
-use Rattle.laws.specs.Members
-use Rattle.laws.specs.Members.{In}
+use Rattle.lists.specs.Members
+use Rattle.lists.specs.Members.{In}
 use Rattle.laws_choice.specs.Words
 use Rattle.meaning.specs.Choice.{State, Run, Free, Fits, Choice}
 use Rattle.laws_choice.specs.Words.{Step, CanLengthen, Stands, Second}

@@ -9,7 +9,7 @@ ghost use Prim.Native.Nat.{_+_, _*_, _<_};
 ghost use lib.ListN.{length, drop};
 ghost use Rattle.meaning.specs.Lists.{all};
 ghost use Rattle.meaning.specs.Layout.{entryAt};
-ghost use Rattle.meaning.specs.Entries.{primary};
+ghost use Rattle.meaning.specs.Entries.{inUsePrimary};
 ghost use Rattle.meaning.specs.Listing.{noFile, shown, listed, tellFirst, list, counts};
 ghost use Rattle.meaning.specs.Refusals.{check};
 ghost use Rattle.layout.specs.Room.{Room, Slot};
@@ -18,7 +18,7 @@ ghost use Rattle.seek.specs.Seek.{Sound, Used};
 // Whether a file that is listed starts at slot s, whose entry is at `at`: a primary entry in use, without the system flag. One byte is read.
 fn tells(image: &[u8], g: Geometry, s: usize, at: usize) -> bool
     requires { ⌜ Room g (now image) × Slot g (now image) s × (at ≡ entryAt g s) ⌝ }
-    ensures { λ r. ⌜ r ≡ all (primary g (now (image .entry)) s ∷ shown g (now (image .entry)) s ∷ []) ⌝ }
+    ensures { λ r. ⌜ r ≡ all (inUsePrimary g (now (image .entry)) s ∷ shown g (now (image .entry)) s ∷ []) ⌝ }
 {
     let f = layout::wide(image[at]);
     if (f >> 4) % 2 != 1 {

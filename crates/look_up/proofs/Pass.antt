@@ -8,8 +8,8 @@ use native.Mathlib.Nat.{zero-add}
 use Rattle.meaning.specs.Lists.{count, keep}
 use Rattle.meaning.specs.Layout.{isSlot, slots, directorySectors}
 use Rattle.meaning.specs.declared.Geometry.{Geometry}
-use Rattle.layout.proofs.Laws.{left-more, left-none}
-use Rattle.layout.proofs.Lists.{keep-yes, keep-no}
+use Rattle.lists.specs.Ranges.{left-more, left-none}
+use Rattle.lists.specs.Tests.{keep-yes, keep-no}
 use Rattle.layout.proofs.Sound.{slot-yes, slot-no}
 
 -- k numbers in a row that do not pass

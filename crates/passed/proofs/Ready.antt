@@ -5,7 +5,7 @@ use Prim.Native.Nat.{ℕ}
 use Rattle.meaning.specs.Entries.{inUse}
 use Rattle.meaning.specs.declared.Geometry.{Geometry}
 use Rattle.laws.specs.Steps.{Ready}
-use Rattle.layout.proofs.Lists.{and-l}
+use Rattle.lists.specs.Tests.{and-l}
 use Rattle.layout.proofs.Sound.{slot-of}
 use Rattle.seek.specs.Seek.{Sound, Used}
 use Rattle.seek.proofs.Sound.{sound}

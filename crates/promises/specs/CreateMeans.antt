@@ -13,13 +13,14 @@ use Rattle.meaning.specs.Names.{wellFormed, fold}
 use Rattle.meaning.specs.Entries.{nameOf}
 use Rattle.meaning.specs.Chain.{chain}
 use Rattle.meaning.specs.Consistent.{consistent}
-use Rattle.meaning.specs.Free.{freeSlots, freeGranules}
+use Rattle.meaning.specs.Free.{freeSlots, freeGranules, reserved}
 use Rattle.meaning.specs.Create.{create, newSlot}
 use Rattle.meaning.specs.LookUp.{named, missing}
-use Rattle.meaning.specs.Plain.{Found, found, nothing, plain, hush, reserved, bornAs, beyond}
+use Rattle.meaning.specs.Plain.{Found, found, nothing, plain, bornAs}
+use Rattle.promises_words.specs.Untouched.{hush, beyond}
 use Rattle.meaning.specs.declared.Geometry.{Geometry}
 use Rattle.meaning.specs.declared.NewFile.{NewFile}
-use Rattle.laws.specs.Members
+use Rattle.lists.specs.Members
 use Rattle.laws.specs.Facts
 use Rattle.laws.specs.Facts.{File, Sound}
 use Rattle.laws.specs.Places

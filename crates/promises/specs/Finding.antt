@@ -11,7 +11,8 @@ use Rattle.meaning.specs.Lists.{count, keep, all, has, firstOr}
 use Rattle.meaning.specs.Layout.{slots, isSlot, hit}
 use Rattle.meaning.specs.Names.{hash, fold}
 use Rattle.meaning.specs.Entries.{nameOf, accessLevel}
-use Rattle.meaning.specs.Refusals.{first, goodLength, newInRange}
+use Rattle.meaning.specs.Refusals.{first, newInRange}
+use Rattle.meaning.specs.Handles.{goodLength}
 use Rattle.meaning.specs.LookUp.{candidates, carries, comparedIn, named, missing, slotOf, lookUp}
 use Rattle.meaning.specs.Open.{full, admits, openedAt, open′}
 use Rattle.meaning.specs.Create.{create, newSlot}
@@ -19,8 +20,8 @@ use Rattle.meaning.specs.Calls.{Call, number}
 use Rattle.meaning.specs.Plain.{File, found, fileAt}
 use Rattle.meaning.specs.declared.Geometry.{Geometry}
 use Rattle.meaning.specs.declared.NewFile.{NewFile}
-use Rattle.laws.specs.Members
-use Rattle.laws.specs.Members.{In}
+use Rattle.lists.specs.Members
+use Rattle.lists.specs.Members.{In}
 use Rattle.laws.specs.Facts
 use Rattle.laws.specs.Facts.{Sound}
 use Rattle.laws.specs.Named

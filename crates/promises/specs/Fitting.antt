@@ -15,7 +15,6 @@ use Rattle.meaning.specs.Growth
 use Rattle.meaning.specs.Growth.{takeAt, grow, growBy, growth}
 use Rattle.meaning.specs.Choice.{Free, Choice, view, NothingFits}
 use Rattle.meaning.specs.declared.Geometry.{Geometry}
-use Rattle.laws.specs.Members
 use Rattle.laws.specs.Facts.{Sound, File}
 use Rattle.laws.specs.Places
 use Rattle.laws.specs.Change

@@ -12,22 +12,21 @@ use Rattle.meaning.specs.Layout.{granules, taken, byte, field, directoryGranule
 use Rattle.meaning.specs.Entries.{system, nameOf}
 use Rattle.meaning.specs.Chain.{chain, owned}
 use Rattle.meaning.specs.Consistent.{consistent}
-use Rattle.meaning.specs.Growth.{takeAt, Grown, grown, noSlot, grow, growBy, growth, andThen, orElse, fails, diskOr}
-use Rattle.meaning.specs.Free.{freeGranules, lowestFree, longestFree, freeSlots}
-use Rattle.meaning.specs.Plain.{fileAt, plain, hush, reserved, Found, found, allottedTo, beyond}
+use Rattle.meaning.specs.Growth.{takeAt, Grown, grown, noSlot, grow, growBy, growth, andThen, orElse, fails, diskOr, withGranules, lacking}
+use Rattle.meaning.specs.Free.{freeGranules, lowestFree, longestFree, freeSlots, reserved}
+use Rattle.meaning.specs.Plain.{fileAt, plain, Found, found, allottedTo}
+use Rattle.promises_words.specs.Untouched.{hush, beyond}
 use Rattle.meaning.specs.LookUp.{named}
 use Rattle.meaning.specs.Allot.{allot, granulesTo}
-use Rattle.meaning.specs.Refusals.{first, cannotGrow, larger, lacking}
+use Rattle.meaning.specs.Refusals.{first, cannotGrow}
 use Rattle.meaning.specs.Choice.{view}
 use Rattle.meaning.specs.declared.Geometry.{Geometry}
 use Rattle.meaning.specs.declared.Handle.{Handle}
-use Rattle.laws.specs.Members
-use Rattle.laws.specs.Members.{In}
+use Rattle.lists.specs.Members
+use Rattle.lists.specs.Members.{In}
 use Rattle.laws.specs.Facts
 use Rattle.laws.specs.Facts.{Sound, File}
 use Rattle.laws.specs.Places
-use Rattle.laws.specs.Change
-use Rattle.laws.specs.Others
 use Rattle.laws.specs.Longer
 use Rattle.laws.specs.TakeOne
 use Rattle.laws.specs.Bytes
@@ -159,12 +158,12 @@ not-fails z (grown d) f = refl
 not-fails z noSlot f = absurd (f tt)
 
 -- what a growth that passed its refusals leaves
-pub larger-grew : (g : Geometry) (d : List ℕ) (h : Handle) (k : ℕ) → Passed.Holds g d h → first (cannotGrow g d (h .slot) k) ≡ 0 → Grew g d (larger g d (h .slot) k) (h .slot) k
+pub larger-grew : (g : Geometry) (d : List ℕ) (h : Handle) (k : ℕ) → Passed.Holds g d h → first (cannotGrow g d (h .slot) k) ≡ 0 → Grew g d (withGranules g d (h .slot) k) (h .slot) k
 larger-grew g d h k w e =
     let p₁ = Passed.passed 11 _ _ (omega arith) e in
     let p₂ = Passed.passed 9 _ _ (omega arith) (p₁ .1) in
     let p₃ = Passed.passed 8 _ _ (omega arith) (p₂ .1) in
-    growth-grew g k d (larger g d (h .slot) k) (h .slot) (w .sound) (w .fits) (w .file) (w .user)
+    growth-grew g k d (withGranules g d (h .slot) k) (h .slot) (w .sound) (w .fits) (w .file) (w .user)
     (nltb→le (length (freeGranules g d)) k (not-T (ltb (length (freeGranules g d)) k) (p₂ .0))) (not-fails d (growth g (h .slot) k d) (p₃ .0))
 
 pub record AllotMeans (g : Geometry) (d d′ : List ℕ) (p k : ℕ) : Type 0 where
@@ -198,7 +197,7 @@ allot-means g d h k e =
     let p = h .slot in
     let w = Passed.holds g d h _ 4 (cannotGrow g d p (lacking g d p (granulesTo g k))) e in
     let x = larger-grew g d h (lacking g d p (granulesTo g k)) (w .0) (w .1) in
-    let d′ = larger g d p (lacking g d p (granulesTo g k)) in
+    let d′ = withGranules g d p (lacking g d p (granulesTo g k)) in
     rw e (record {
       long = x .kept .long;
       consistent′ = Facts.back g d′ (x .kept .sound);

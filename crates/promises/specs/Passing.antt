@@ -9,7 +9,8 @@ use lib.Dec.{T, eqb, eqb→eq}
 use Rattle.meaning.specs.Lists.{all}
 use Rattle.meaning.specs.Layout.{fitsGeometry, highest}
 use Rattle.meaning.specs.Entries.{inUse, extension}
-use Rattle.meaning.specs.Refusals.{movedTo, first, handleRefusals, fresh, check, noHandle}
+use Rattle.meaning.specs.Refusals.{first, handleRefusals, check}
+use Rattle.meaning.specs.Handles.{movedTo, fresh, noHandle}
 use Rattle.meaning.specs.Names.{fold}
 use Rattle.meaning.specs.LookUp.{missing}
 use Rattle.meaning.specs.Open.{open′}
@@ -26,7 +27,7 @@ use Rattle.meaning.specs.declared.Handle.{Handle}
 use Rattle.meaning.specs.declared.NewFile.{NewFile}
 use Rattle.meaning.specs.declared.Mode.{Mode}
 use Rattle.meaning.specs.declared.Listed.{Listed}
-use Rattle.laws.specs.Members
+use Rattle.lists.specs.Members
 use Rattle.laws.specs.Facts
 use Rattle.laws.specs.Passed.{passed, yes-T}
 use Rattle.promises.specs.Promises.{Live, InRange}

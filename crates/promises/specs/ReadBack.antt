@@ -15,7 +15,6 @@ use Rattle.meaning.specs.Plain.{fileAt, writtenTo, overwritten}
 use Rattle.meaning.specs.declared.Geometry.{Geometry}
 use Rattle.meaning.specs.declared.Handle.{Handle}
 use Rattle.meaning.specs.declared.Mode.{Mode}
-use Rattle.laws.specs.Members
 use Rattle.laws.specs.Facts
 use Rattle.laws.specs.Rewrite
 use Rattle.promises.specs.Promises.{ReadsBack, Rows, table, Fits, Live}

@@ -10,13 +10,14 @@ use lib.Dec.{T, eqb, leb, ltb, T-not, not-T, eqb→eq, leb→le, le→leb, ltb�
 use Rattle.meaning.specs.Lists.{all, any, distinct, same, firstOr, has}
 use Rattle.meaning.specs.Layout.{fitsGeometry, granuleSizes, granules, granuleBytes, granuleSectors, sectors, highest, mostBlocks, mostUnits, isSlot, granulesFor, sectorNumbers}
 use Rattle.meaning.specs.Names.{wellFormed, fold}
-use Rattle.meaning.specs.Entries.{inUse, extension, primary, nameOf, sizeOf, system, noGrowth, mainCode, workerCode, sectorCount}
+use Rattle.meaning.specs.Entries.{inUse, extension, inUsePrimary, nameOf, sizeOf, system, noGrowth, mainCode, workerCode, sectorCount}
 use Rattle.meaning.specs.Consistent.{consistent}
 use Rattle.meaning.specs.Fault.{fault}
 use Rattle.meaning.specs.Free.{freeGranules, freeSlots}
-use Rattle.meaning.specs.Growth.{Grown, grown, noSlot, fails, growth}
+use Rattle.meaning.specs.Growth.{Grown, grown, noSlot, fails, growth, lacking}
 use Rattle.meaning.specs.Choice.{NothingFits}
-use Rattle.meaning.specs.Refusals.{first, inRange, goodLength, newInRange, fresh, cannotGrow, lacking, check, faultNumbers, byNumber, diskRefusals}
+use Rattle.meaning.specs.Refusals.{first, newInRange, cannotGrow, check, faultNumbers, byNumber, diskRefusals}
+use Rattle.meaning.specs.Handles.{inRange, goodLength, fresh}
 use Rattle.meaning.specs.LookUp.{named, missing, slotOf, lookUp, lookUpRefusals}
 use Rattle.meaning.specs.Open.{full, admits, open′, openRefusals}
 use Rattle.meaning.specs.Create.{create, createRefusals}
@@ -33,11 +34,11 @@ use Rattle.meaning.specs.declared.Geometry.{Geometry}
 use Rattle.meaning.specs.declared.Handle.{Handle}
 use Rattle.meaning.specs.declared.NewFile.{NewFile}
 use Rattle.meaning.specs.declared.Mode.{Mode}
-use Rattle.laws.specs.Members
-use Rattle.laws.specs.Members.{In, Distinct}
+use Rattle.lists.specs.Members
+use Rattle.lists.specs.Members.{In, Distinct}
 use Rattle.laws.specs.Facts
 use Rattle.laws.specs.Places
-use Rattle.laws.specs.First.{numbersOf, first-in}
+use Rattle.lists.specs.First.{numbersOf, first-in}
 use Rattle.laws.specs.Passed
 use Rattle.laws.specs.Fault
 use Rattle.laws.specs.Others
@@ -270,7 +271,7 @@ live-iff g d h = (fore, back)
     back : Live g d h → T (fresh g d h)
     back r =
         let a : T (isSlot g d (h .slot)) = r .slot in
-        let b : T (primary g d (h .slot)) = Members.and-i (inUse g d (h .slot)) (not (extension g d (h .slot))) (r .used) (r .first) in
+        let b : T (inUsePrimary g d (h .slot)) = Members.and-i (inUse g d (h .slot)) (not (extension g d (h .slot))) (r .used) (r .first) in
         let e : T (same (nameOf g d (h .slot)) (h .name)) = subst (λ (l : List ℕ). T (same (nameOf g d (h .slot)) l)) (r .name′) (Members.same-refl (nameOf g d (h .slot))) in
         search Members.and-i depth 6
 
@@ -292,9 +293,9 @@ unfolding fileAt words
 full-iff g d s checking code = (λ t. fore (Members.or-e (not checking) _ t), back)
   where
     two : Bool
-    two = eqb (mainCode g d s) (g .anyone) || (eqb code (mainCode g d s) || false)
+    two = eqb (mainCode g d s) (g .noPassword) || (eqb code (mainCode g d s) || false)
 
-    late : T (eqb (mainCode g d s) (g .anyone)) ⊎ T (eqb code (mainCode g d s) || false) → Full g (fileAt g d s) checking code
+    late : T (eqb (mainCode g d s) (g .noPassword)) ⊎ T (eqb code (mainCode g d s) || false) → Full g (fileAt g d s) checking code
     late (inl t) = inr (inl (eqb→eq _ _ t))
     late (inr t) = inr (inr (eqb→eq _ _ (last (Members.or-e (eqb code (mainCode g d s)) false t))))
       where
@@ -302,14 +303,14 @@ full-iff g d s checking code = (λ t. fore (Members.or-e (not checking) _ t), ba
         last (inl u) = u
         last (inr u) = absurd u
 
-    fore : T (not checking) ⊎ T (eqb (mainCode g d s) (g .anyone) || (eqb code (mainCode g d s) || false)) → Full g (fileAt g d s) checking code
+    fore : T (not checking) ⊎ T (eqb (mainCode g d s) (g .noPassword) || (eqb code (mainCode g d s) || false)) → Full g (fileAt g d s) checking code
     fore (inl t) = inl (false-iff checking .0 t)
-    fore (inr t) = late (Members.or-e (eqb (mainCode g d s) (g .anyone)) (eqb code (mainCode g d s) || false) t)
+    fore (inr t) = late (Members.or-e (eqb (mainCode g d s) (g .noPassword)) (eqb code (mainCode g d s) || false) t)
 
     back : Full g (fileAt g d s) checking code → T (full g d s checking code)
     back (inl e) = Members.or-l (not checking) _ (false-iff checking .1 e)
-    back (inr (inl e)) = Members.or-r (not checking) _ (Members.or-l (eqb (mainCode g d s) (g .anyone)) _ (Members.eq-T e))
-    back (inr (inr e)) = Members.or-r (not checking) _ (Members.or-r (eqb (mainCode g d s) (g .anyone)) _ (Members.or-l (eqb code (mainCode g d s)) false (Members.eq-T e)))
+    back (inr (inl e)) = Members.or-r (not checking) _ (Members.or-l (eqb (mainCode g d s) (g .noPassword)) _ (Members.eq-T e))
+    back (inr (inr e)) = Members.or-r (not checking) _ (Members.or-r (eqb (mainCode g d s) (g .noPassword)) _ (Members.or-l (eqb code (mainCode g d s)) false (Members.eq-T e)))
 
 -- the code gives one of the two levels
 pub admitted-iff : (g : Geometry) (d : List ℕ) (s : ℕ) (checking : Bool) (code : ℕ)

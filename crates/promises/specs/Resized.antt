@@ -9,10 +9,12 @@ use lib.ListN.{length}
 use lib.Dec.{T}
 use Rattle.meaning.specs.Layout.{byte, field, directoryGranules, granuleBytes}
 use Rattle.meaning.specs.Entries.{system, nameOf}
-use Rattle.meaning.specs.Plain.{fileAt, plain, hush, reserved, beyond}
+use Rattle.meaning.specs.Plain.{fileAt, plain}
+use Rattle.promises_words.specs.Untouched.{hush, beyond}
+use Rattle.meaning.specs.Free.{reserved}
 use Rattle.meaning.specs.LookUp.{named}
 use Rattle.meaning.specs.declared.Geometry.{Geometry}
-use Rattle.laws.specs.Members.{In}
+use Rattle.lists.specs.Members.{In}
 use Rattle.laws.specs.Facts.{Sound, File}
 use Rattle.laws.specs.Frame
 use Rattle.laws.specs.Places

@@ -9,7 +9,7 @@ use lib.ListN.{length, drop, drop-of-length-le}
 use lib.Seq.{drop-cons}
 use lib.Dec.{T}
 use Rattle.meaning.specs.Layout.{isSlot, slots}
-use Rattle.meaning.specs.Entries.{primary, system, nameOf}
+use Rattle.meaning.specs.Entries.{inUsePrimary, system, nameOf}
 use Rattle.meaning.specs.Chain.{owned, files}
 use Rattle.meaning.specs.Refusal.{unplaced}
 use Rattle.meaning.specs.Refusals.{check}
@@ -18,8 +18,8 @@ use Rattle.meaning.specs.Listing.{shown, listed, tellFirst, noFile}
 use Rattle.meaning.specs.Plain
 use Rattle.meaning.specs.Plain.{found, nothing, fileAt, plain, isSystem}
 use Rattle.meaning.specs.declared.Geometry.{Geometry}
-use Rattle.laws.specs.Members
-use Rattle.laws.specs.Members.{In, Distinct}
+use Rattle.lists.specs.Members
+use Rattle.lists.specs.Members.{In, Distinct}
 use Rattle.laws.specs.Facts
 use Rattle.laws.specs.Facts.{Sound, File}
 use Rattle.laws.specs.Named
@@ -33,7 +33,7 @@ use Rattle.promises.specs.Refusing
 module _ (g : Geometry) (d : List ℕ) where
   listed-rising : Rising (listed g d)
   unfolding listed files slots
-  listed-rising = Rising.keep-rising (shown g d) (Rising.keep-rising (primary g d) (Rising.keep-rising (isSlot g d) (Rising.count-rising 0 256)))
+  listed-rising = Rising.keep-rising (shown g d) (Rising.keep-rising (inUsePrimary g d) (Rising.keep-rising (isSlot g d) (Rising.count-rising 0 256)))
 
   listed-distinct : Distinct (listed g d)
   unfolding listed

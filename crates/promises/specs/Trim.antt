@@ -9,19 +9,20 @@ use lib.ListN.{length, length-append}
 use lib.Dec.{T}
 use Rattle.meaning.specs.Lists.{times}
 use Rattle.meaning.specs.Layout.{granules, granuleBytes, granulesFor}
-use Rattle.meaning.specs.Sizes
+use Rattle.lists.specs.Sizes
 use Rattle.meaning.specs.Entries.{system, nameOf, sizeOf, keepsSpace}
 use Rattle.meaning.specs.Chain.{chain, owned}
 use Rattle.meaning.specs.Consistent.{consistent}
-use Rattle.meaning.specs.Plain.{fileAt, plain, hush, reserved, Found, found, trimmed, beyond}
+use Rattle.meaning.specs.Plain.{fileAt, plain, Found, found, trimmed}
+use Rattle.promises_words.specs.Untouched.{hush, beyond}
 use Rattle.meaning.specs.LookUp.{named}
 use Rattle.meaning.specs.Drop.{dropOne}
-use Rattle.meaning.specs.Free.{freeGranules}
+use Rattle.meaning.specs.Free.{freeGranules, reserved}
 use Rattle.meaning.specs.Trim.{trim}
 use Rattle.meaning.specs.declared.Geometry.{Geometry}
 use Rattle.meaning.specs.declared.Handle.{Handle}
-use Rattle.laws.specs.Members
-use Rattle.laws.specs.Members.{In}
+use Rattle.lists.specs.Members
+use Rattle.lists.specs.Members.{In}
 use Rattle.laws.specs.Facts
 use Rattle.laws.specs.Facts.{Sound, File}
 use Rattle.laws.specs.Places

@@ -9,14 +9,14 @@ use lib.ListN.{length, getD, length-set, replicate, length-replicate, getD-repli
 use lib.Seq.{getD-set-same, getD-set-other}
 use lib.Dec.{T, eqb, eqb→eq}
 use Rattle.meaning.specs.Layout.{byte, field, setField, gatAt, hitAt, entryAt, directoryGranules, directorySectors, granuleBytes, roundUp, granuleSectors}
-use Rattle.meaning.specs.Sizes
+use Rattle.lists.specs.Sizes
 use Rattle.meaning.specs.Bits.{bit}
 use Rattle.meaning.specs.Entries.{sizeOf, system, sectorCount, endByte}
 use Rattle.meaning.specs.Chain.{owned, place}
 use Rattle.meaning.specs.Write.{store, withSize}
 use Rattle.meaning.specs.declared.Geometry.{Geometry}
-use Rattle.laws.specs.Members
-use Rattle.laws.specs.Members.{In}
+use Rattle.lists.specs.Members
+use Rattle.lists.specs.Members.{In}
 use Rattle.laws.specs.Facts.{Sound, File}
 use Rattle.laws.specs.Places
 use Rattle.laws.specs.Change
@@ -130,7 +130,7 @@ module _ (g : Geometry) (d : List ℕ) (c : Sound g d) (k : Places.Fits g d) (p 
       go (inl h) = d₄-out j (omega arith) (omega arith) (omega arith) (omega arith)
       go (inr h) = let s = sp in d₄-out j (omega arith) (omega arith) (omega arith) (omega arith)
 
-  pub write-rewrites : Rewrite.Rewrites g d (withSize g d d₃ p size) p
+  pub write-rewrites : Rewrite.Rewrites g d (withSize g d₃ p size) p
   unfolding words
   write-rewrites = record {
     above = let a = a10 in d₄-out (hitAt g 31) (omega arith) (omega arith) (omega arith) (omega arith) ∙ d₃-dir (hitAt g 31) (omega arith) (omega arith);

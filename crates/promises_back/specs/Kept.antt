@@ -14,8 +14,8 @@ use Rattle.meaning.specs.Chain.{chain, owned}
 use Rattle.meaning.specs.Kill.{kill, killed}
 use Rattle.meaning.specs.BringBack.{bringBack}
 use Rattle.meaning.specs.declared.Geometry.{Geometry}
-use Rattle.laws.specs.Members
-use Rattle.laws.specs.Members.{In}
+use Rattle.lists.specs.Members
+use Rattle.lists.specs.Members.{In}
 use Rattle.laws.specs.Facts
 use Rattle.laws.specs.Facts.{File, Sound}
 use Rattle.laws.specs.Places

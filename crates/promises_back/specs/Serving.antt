@@ -15,8 +15,8 @@ use Rattle.meaning.specs.LookUp.{named}
 use Rattle.meaning.specs.BringBack.{bringBack}
 use Rattle.meaning.specs.Plain.{Found, found, nothing, plain, backAs}
 use Rattle.meaning.specs.declared.Geometry.{Geometry}
-use Rattle.laws.specs.Members
-use Rattle.laws.specs.Counting
+use Rattle.lists.specs.Members
+use Rattle.lists.specs.Counting
 use Rattle.laws.specs.Facts
 use Rattle.laws.specs.Facts.{File, Sound}
 use Rattle.laws.specs.Places

@@ -10,21 +10,23 @@ use lib.ListN.{length, getD, take, drop, length-map}
 use lib.Seq.{drop-cons, sets, sets-eq}
 use lib.Dec.{ltb, leb}
 use borrow.Author.Tests.{leb-true, leb-false, ltb-true, ltb-false, eq-eqb, ne-eqb}
-use Rattle.meaning.specs.Lists.{count, all, length-count}
+use Rattle.meaning.specs.Lists.{count, all}
+use Rattle.lists.specs.Members.{length-count}
 use Rattle.meaning.specs.Layout.{byte, sectorNumbers, granuleBytes}
-use Rattle.meaning.specs.Sizes
+use Rattle.lists.specs.Sizes
 use Rattle.meaning.specs.Chain.{owned, place}
 use Rattle.meaning.specs.Entries.{sizeOf, sectorCount, endByte}
 use Rattle.meaning.specs.Read.{fetch, readRefusals, readRecord, sectorRefusals, sectorBytes, readSector}
-use Rattle.meaning.specs.Refusals.{first, refusal, inRange, movedTo, handleRefusals, notForReading}
+use Rattle.meaning.specs.Refusals.{first, refusal, handleRefusals, notForReading}
+use Rattle.meaning.specs.Handles.{inRange, movedTo}
 use Rattle.meaning.specs.declared.Geometry.{Geometry}
 use Rattle.meaning.specs.declared.Handle.{Handle}
 use Rattle.meaning.specs.declared.Answer.{Answer}
 use Rattle.meaning.specs.declared.Part.{Part}
 use Rattle.meaning.specs.declared.Refusal.{Refusal}
 use native.Mathlib.Decide.{ℕ-discrete}
-use Rattle.layout.proofs.Lists.{all-at, first-at, count-append}
-use Rattle.handle.proofs.Laws.{ownRow, passed, walks, ranges, handle-stop, handle-then}
+use Rattle.lists.specs.Tests.{all-at, first-at, count-append}
+use Rattle.passed.proofs.Checked.{ownRow, passed, walks, ranges, handle-stop, handle-then}
 use Rattle.seek.proofs.Sound.{owned-low}
 use Rattle.copy.proofs.Laws.{sets-append}
 use Rattle.read.specs.Part.{File, Owned, Rest, InGranule, partOf}

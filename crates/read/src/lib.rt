@@ -16,7 +16,8 @@ ghost use Rattle.meaning.specs.Layout.{sectorNumbers};
 ghost use Rattle.meaning.specs.Read.{fetch, readRefusals, readRecord, sectorRefusals, sectorBytes, readSector};
 ghost use Rattle.meaning.specs.Entries.{sectorCount};
 ghost use Rattle.layout.specs.Room.{Room, Slot};
-ghost use Rattle.meaning.specs.Refusals.{first, check, inRange};
+ghost use Rattle.meaning.specs.Refusals.{first, check};
+ghost use Rattle.meaning.specs.Handles.{inRange};
 ghost use Rattle.read.specs.Part.{Rest, File, Owned, InGranule, partOf, Lies};
 
 // n bytes of the file from byte i on, all in one granule, go to the buffer at `to`: one walk along the chain, one copy.

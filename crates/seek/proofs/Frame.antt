@@ -12,15 +12,15 @@ use borrow.Author.Tests.{eqb-true}
 use Rattle.meaning.specs.Lists.{each, through}
 use Rattle.meaning.specs.Layout.{directorySectors, field, granules, slots, freeGranule, gatAt, byte, granuleBytes}
 use Rattle.meaning.specs.Bits.{bit, withoutBit}
-use Rattle.meaning.specs.Entries.{inUse, extension, primary, marker, link, runs, runStart, runLength, entryGranules, sizeOf}
+use Rattle.meaning.specs.Entries.{inUse, extension, inUsePrimary, marker, link, runs, runStart, runLength, entryGranules, sizeOf}
 use Rattle.meaning.specs.Chain.{chainFrom, chain, owned, place}
 use Rattle.meaning.specs.declared.Geometry.{Geometry}
-use Rattle.laws.specs.Members.{In, none-in, in-cons, each-eq}
+use Rattle.lists.specs.Members.{In, none-in, in-cons, each-eq}
 use Rattle.laws.specs.Entry.{runs-le}
 use Rattle.laws.specs.Frame
 use Rattle.layout.specs.Room.{Room, Slot}
 use Rattle.layout.proofs.Laws.{gat-low}
-use Rattle.layout.proofs.Lists.{and-l}
+use Rattle.lists.specs.Tests.{and-l}
 use Rattle.seek.specs.Seek.{Sound, Used}
 use Rattle.seek.proofs.Laws.{slots-same}
 use Rattle.seek.proofs.Sound.{Low}
@@ -164,7 +164,7 @@ module _ (g : Geometry) (d d′ : List ℕ) (snd : Sound g d) (e : Same g d d′
   f-same : (s k : ℕ) → Slot g d s → k < 32 → field g d′ s k ≡ field g d s k
   f-same = same-field g d d′ (snd .room) e
 
-  primary-same : (s : ℕ) → Slot g d s → primary g d′ s ≡ primary g d s
+  primary-same : (s : ℕ) → Slot g d s → inUsePrimary g d′ s ≡ inUsePrimary g d s
   primary-same s sl = rw (f-same s 0 sl (omega arith))
 
   size-same : (s : ℕ) → Slot g d s → sizeOf g d′ s ≡ sizeOf g d s
@@ -185,7 +185,7 @@ module _ (g : Geometry) (d d′ : List ℕ) (snd : Sound g d) (e : Same g d d′
             rw (same-start g d d′ (snd .room) e s k (w .slot) (omega arith), same-len g d d′ (snd .room) e s k (w .slot) (omega arith)) (snd .run s k w l′);
         size = λ s sl p.
             let w = slot-back sl in
-            let p′ : primary g d s ≡ true = sym (primary-same s w) ∙ p in
+            let p′ : inUsePrimary g d s ≡ true = sym (primary-same s w) ∙ p in
             rw (size-same s w, same-owned g d d′ snd e s (record { slot = w; used = and-l (inUse g d s) (not (extension g d s)) p′ })) (snd .size s w p′);
       }
 

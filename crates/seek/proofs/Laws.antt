@@ -10,14 +10,16 @@ use lib.ListN.{length, getD, length-append, List·getD-append}
 use lib.Seq.{getD-append-add}
 use lib.Dec.{eqb, ltb}
 use borrow.Author.Tests.{lt-ltb, le-ltb, eq-eqb, ne-eqb, ltb-true, ltb-false, eqb-true}
-use Rattle.meaning.specs.Lists.{count, keep, each, all, length-count}
+use Rattle.meaning.specs.Lists.{count, keep, each, all}
+use Rattle.lists.specs.Members.{length-count}
 use Rattle.meaning.specs.Layout.{isSlot, slots, directorySectors}
 use Rattle.meaning.specs.Entries.{block, runs, runsFrom, runStart, runLength, runGranules, entryGranules, marker, link}
 use Rattle.meaning.specs.Chain.{chainFrom}
 use Rattle.meaning.specs.declared.Geometry.{Geometry}
-use Rattle.layout.proofs.Laws.{left-more, left-none, runs-more, runs-none}
-use Rattle.layout.proofs.Lists.{getD-count, le-or-lt}
-use Rattle.seek.proofs.Below.{allBelow, all-below}
+use Rattle.layout.proofs.Laws.{runs-more, runs-none}
+use Rattle.lists.specs.Ranges.{left-more, left-none}
+use Rattle.lists.specs.Tests.{getD-count, le-or-lt}
+use Rattle.lists.specs.Below.{allBelow, all-below}
 use Rattle.seek.specs.Seek.{Sound, Used, Sought, seekIn, onward}
 use Rattle.seek.specs.declared.Seek.{Seek}
 

@@ -16,7 +16,7 @@ use Rattle.meaning.specs.Chain.{chainFrom, chain, owned}
 use Rattle.meaning.specs.Kill.{killEntry}
 use Rattle.meaning.specs.declared.Geometry.{Geometry}
 use Rattle.layout.specs.Room.{Room, Slot}
-use Rattle.layout.proofs.Laws.{left-more, left-none}
+use Rattle.lists.specs.Ranges.{left-more, left-none}
 use Rattle.seek.specs.Seek.{Sound, Used, onward}
 use Rattle.seek.proofs.Laws.{chain-more, chain-none, slots-length}
 use Rattle.seek.proofs.Frame.{opened, room-kept, slot-kept, Same, same-refl, same-trans, same-free, same-room, same-entry, same-sound, same-all, same-used, same-slots-of}

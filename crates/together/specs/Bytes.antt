@@ -11,7 +11,8 @@ use lib.Dec.{T, eqb, leb, lt→ltb, le→leb}
 use Rattle.meaning.specs.Layout.{byte, entryAt}
 use Rattle.meaning.specs.Entries.{nameOf}
 use Rattle.meaning.specs.Lists.{firstOr}
-use Rattle.meaning.specs.Refusals.{first, movedTo}
+use Rattle.meaning.specs.Refusals.{first}
+use Rattle.meaning.specs.Handles.{movedTo}
 use Rattle.meaning.specs.Names.{fold}
 use Rattle.meaning.specs.Open.{open′, openedAt}
 use Rattle.meaning.specs.Read.{readRecord}
@@ -21,7 +22,7 @@ use Rattle.meaning.specs.Calls.{number, leaves}
 use Rattle.meaning.specs.declared.Geometry.{Geometry}
 use Rattle.meaning.specs.declared.Handle.{Handle}
 use Rattle.meaning.specs.declared.Mode.{Mode}
-use Rattle.laws.specs.Members
+use Rattle.lists.specs.Members
 use Rattle.laws.specs.Facts
 use Rattle.laws.specs.Facts.{Sound}
 use Rattle.laws.specs.Places

@@ -9,13 +9,13 @@ use lib.ListN.{length, take, replicate, length-take}
 use lib.Dec.{T, eqb, eqb→eq, ltb, leb, T-not, ltb→lt, leb→le}
 use Rattle.meaning.specs.Lists.{keep, each, has, times, all}
 use Rattle.meaning.specs.Layout.{entryAt, granuleBytes, directoryGranules, aboveTen}
-use Rattle.meaning.specs.Sizes
+use Rattle.lists.specs.Sizes
 use Rattle.meaning.specs.Entries.{nameOf, sizeOf, keepsSpace}
 use Rattle.meaning.specs.Chain.{chain, owned, place}
 use Rattle.meaning.specs.Lists.{firstOr}
-use Rattle.meaning.specs.Growth.{growBy, growth, orElse, diskOr}
+use Rattle.meaning.specs.Growth.{growBy, growth, orElse, diskOr, lacking, withGranules}
 use Rattle.meaning.specs.Drop.{dropOne}
-use Rattle.meaning.specs.Refusals.{lacking, larger, inRange}
+use Rattle.meaning.specs.Handles.{inRange}
 use Rattle.meaning.specs.Names.{fold}
 use Rattle.meaning.specs.Create.{create}
 use Rattle.meaning.specs.Write.{writeRecord, sizeAfter, withSize, store}
@@ -30,8 +30,8 @@ use Rattle.meaning.specs.declared.Geometry.{Geometry}
 use Rattle.meaning.specs.declared.Handle.{Handle}
 use Rattle.meaning.specs.declared.NewFile.{NewFile}
 use Rattle.meaning.specs.declared.Mode.{Mode}
-use Rattle.laws.specs.Members
-use Rattle.laws.specs.Members.{In}
+use Rattle.lists.specs.Members
+use Rattle.lists.specs.Members.{In}
 use Rattle.laws.specs.Facts
 use Rattle.laws.specs.Facts.{Sound}
 use Rattle.laws.specs.Change
@@ -139,7 +139,7 @@ module _ (g : Geometry) (d : List ℕ) (n : Name) (h : Handle) (e : h .name ≡ 
       many m = unfold allottedTo fileAt in m
 
       image : lacking g d (h .slot) (granulesTo g k) ≡ 0 → allot g d h k .1 ≡ d
-      image z = unfold allot growBy growth orElse diskOr in rw t (ap (larger g d (h .slot)) z)
+      image z = unfold allot growBy growth orElse diskOr in rw t (ap (withGranules g d (h .slot)) z)
 
   pub trim-still : trim g d h .0 .refusal .number ≡ 0 → Even g n d (trim g d h .1) → trim g d h .1 ≡ d
   trim-still t q =
@@ -166,7 +166,7 @@ module _ (g : Geometry) (d : List ℕ) (n : Name) (h : Handle) (e : h .name ≡ 
 -- the image after a write that takes nothing
 unfoldable pub written : Geometry → List ℕ → ℕ → Mode → ℕ → ℕ → List ℕ → List ℕ
 written g d p m at len r =
-    withSize g d (store (place g d p) (store (place g d p) d (sizeOf g d p) (replicate (at - sizeOf g d p) 0)) at r) p (sizeAfter m (sizeOf g d p) (at + len))
+    withSize g (store (place g d p) (store (place g d p) d (sizeOf g d p) (replicate (at - sizeOf g d p) 0)) at r) p (sizeAfter m (sizeOf g d p) (at + len))
 
 pub record QuietWrite (g : Geometry) (d : List ℕ) (m : Mode) (h : Handle) (b d′ : List ℕ) : Type 0 where
   pub holds : Holds g d h
@@ -209,8 +209,8 @@ write-quiet g d n m h b e t q =
     still : lacking g d (h .slot) (granulesFor g (sizeAfter m (sizeOf g d (h .slot)) (h .at + h .len))) ≡ 0
         → writeRecord g d m h b .1 ≡ written g d (h .slot) m (h .at) (h .len) (take (h .len) b)
     still z = unfold writeRecord written growBy diskOr in rw t (ap (λ (y : ℕ).
-        let d₁ = larger g d (h .slot) y in
-        withSize g d (store (place g d₁ (h .slot)) (store (place g d₁ (h .slot)) d₁ (sizeOf g d (h .slot)) (replicate (h .at - sizeOf g d (h .slot)) 0)) (h .at) (take (h .len) b)) (h .slot)
+        let d₁ = withGranules g d (h .slot) y in
+        withSize g (store (place g d₁ (h .slot)) (store (place g d₁ (h .slot)) d₁ (sizeOf g d (h .slot)) (replicate (h .at - sizeOf g d (h .slot)) 0)) (h .at) (take (h .len) b)) (h .slot)
         (sizeAfter m (sizeOf g d (h .slot)) (h .at + h .len))) z)
 
 pub record QuietCreate (g : Geometry) (d : List ℕ) (n : Name) (f : NewFile) (checking : Bool) : Type 0 where

@@ -21,15 +21,14 @@ use Rattle.meaning.specs.Layout.{roundUp}
 use Rattle.meaning.specs.declared.Geometry.{Geometry}
 use Rattle.meaning.specs.declared.Handle.{Handle}
 use Rattle.meaning.specs.declared.Mode.{Mode}
-use Rattle.laws.specs.Members
-use Rattle.laws.specs.Members.{In}
+use Rattle.lists.specs.Members
+use Rattle.lists.specs.Members.{In}
 use Rattle.laws.specs.Facts
 use Rattle.laws.specs.Facts.{Sound}
 use Rattle.laws.specs.Change
 use Rattle.laws.specs.Named
 use Rattle.laws.specs.Rewrite
 use Rattle.promises.specs.Write
-use Rattle.promises.specs.Over
 use Rattle.laws.specs.Words.{words}
 use Rattle.together.specs.Statement.{Name}
 use Rattle.together.specs.Quiet
@@ -130,7 +129,7 @@ module _ (P : ℕ → Bool) where
   agreed-store F [] x y i a = a
   agreed-store F (b ∷ bs) x y i a = agreed-store F bs (set x (F i) b) (set y (F i) b) (i + 1) (agreed-set x y (F i) b a)
 
-  agreed-size : (g : Geometry) (d e x y : List ℕ) (p size : ℕ) → T (P (entryAt g p + 1)) → Agreed P x y → Agreed P (withSize g d x p size) (withSize g e y p size)
+  agreed-size : (g : Geometry) (d e x y : List ℕ) (p size : ℕ) → T (P (entryAt g p + 1)) → Agreed P x y → Agreed P (withSize g x p size) (withSize g y p size)
   unfolding words
   agreed-size g d e x y p size t a =
       let n = roundUp size 256 in

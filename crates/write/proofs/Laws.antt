@@ -12,7 +12,7 @@ use Rattle.meaning.specs.Write.{store}
 use Rattle.meaning.specs.declared.Geometry.{Geometry}
 use mathlib.Core.Logic.{⊎-elim, _⊎_, inl, inr}
 use Rattle.meaning.specs.Layout.{directorySectors, granuleBytes}
-use Rattle.meaning.specs.Sizes
+use Rattle.lists.specs.Sizes
 use Rattle.meaning.specs.Chain.{owned}
 use Rattle.layout.specs.Room.{Room}
 use Rattle.seek.proofs.Frame.{Same, same-refl, same-trans, same-before, same-behind, same-sectors, same-place, same-room, same-sound, same-used, same-owned}

@@ -13,7 +13,9 @@ ghost use lib.Dec.{leb};
 ghost use Rattle.meaning.specs.Lists.{all};
 ghost use Rattle.meaning.specs.Layout.{highest, entryAt, granuleBytes, granulesFor};
 ghost use Rattle.meaning.specs.Chain.{owned, place};
-ghost use Rattle.meaning.specs.Refusals.{check, inRange, first, accepted, cannotGrow, larger, lacking};
+ghost use Rattle.meaning.specs.Refusals.{check, first, accepted, cannotGrow};
+ghost use Rattle.meaning.specs.Handles.{inRange};
+ghost use Rattle.meaning.specs.Growth.{withGranules, lacking};
 ghost use Rattle.meaning.specs.Write.{store, sizeAfter, withSize, writeRecord};
 ghost use Rattle.laws.specs.Steps.{Ready};
 ghost use Rattle.read.specs.Part.{File, Owned, InGranule};
@@ -96,7 +98,7 @@ fn put_record(image: &mut [u8], g: Geometry, s: usize, old: usize, at: usize, sr
 fn grow_to(image: &mut [u8], g: Geometry, p: usize, old: usize, size: usize) -> u8
     requires { ⌜ Ready g (now image) p × (old ≤ granuleBytes g * length (owned g (now image) p)) × (old < 16777216) × (size ≤ 33554432) ⌝ }
     ensures { λ r. ⌜ (r ≡ first (cannotGrow g (now (image .entry)) p (lacking g (now (image .entry)) p (granulesFor g size))))
-        × (now (image .exit) ≡ cond (accepted r) (larger g (now (image .entry)) p (lacking g (now (image .entry)) p (granulesFor g size))) (now (image .entry))) ⌝ }
+        × (now (image .exit) ≡ cond (accepted r) (withGranules g (now (image .entry)) p (lacking g (now (image .entry)) p (granulesFor g size))) (now (image .entry))) ⌝ }
 {
     let wanted = extent::granules_for(g, size);
     if wanted <= extent::granules_for(g, old) {

@@ -1,4 +1,4 @@
-use Rattle.layout.proofs.Lists.{is-no, is-yes}
+use Rattle.lists.specs.Tests.{is-no, is-yes}
 use Rattle.meaning.specs.Lists.{every}
 use Rattle.check_met.specs.Met.{metAt}
 use Rattle.check_met.proofs.Laws.{Rows, rows-are, rows-step, rows-stop, rows-end}

@@ -1,6 +1,6 @@
 use Prim.Native.Nat.{_<_, _+_, _*_, _≤_}
 use native.Mathlib.Nat.{mul-le-mul}
-use Rattle.layout.proofs.Lists.{is-no, is-yes}
+use Rattle.lists.specs.Tests.{is-no, is-yes}
 use Rattle.layout.proofs.Sound.{slot-of}
 use mathlib.Core.Path.{refl, ap, _∙_}
 use Rattle.meaning.specs.Layout.{isSlot}

@@ -1,4 +1,4 @@
-use Rattle.layout.proofs.Lists.{on, off, all-out, is-no, is-yes, all-no, all-yes, all-one}
+use Rattle.lists.specs.Tests.{on, off, all-out, is-no, is-yes, all-no, all-yes, all-one}
 use Rattle.layout.proofs.Sound.{slot-of}
 use Rattle.meaning.specs.Consistent.{followsBy}
 use lib.Dec.{leb}

@@ -1,5 +1,5 @@
 use mathlib.Core.Path.{refl, _∙_}
-use Rattle.layout.proofs.Lists.{is-no, is-yes}
+use Rattle.lists.specs.Tests.{is-no, is-yes}
 use Rattle.fault_diagnosis.proofs.Laws.{directory-in, clear-no, clear-yes}
 use borrow.Author.Needs.{needs}
 use Rattle.fault_diagnosis.proofs.after_slots.Statement.{statement}

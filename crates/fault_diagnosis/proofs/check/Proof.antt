@@ -1,5 +1,5 @@
 use mathlib.Core.Path.{sym, _∙_}
-use Rattle.layout.proofs.Lists.{is-no, is-yes}
+use Rattle.lists.specs.Tests.{is-no, is-yes}
 use Rattle.check_whole.proofs.Laws.{fits}
 use Rattle.fault_kinds.proofs.Laws.{so}
 use Rattle.laws.specs.Passed.{check-one, check-none, check-fault}

@@ -1,5 +1,5 @@
 use mathlib.Core.Path.{_∙_}
-use Rattle.layout.proofs.Lists.{is-no, is-yes}
+use Rattle.lists.specs.Tests.{is-no, is-yes}
 use Rattle.layout.proofs.Sound.{slot-of}
 use Rattle.fault_diagnosis.proofs.Laws.{none-in, one-in}
 use borrow.Author.Needs.{needs}

@@ -1,5 +1,5 @@
 use mathlib.Core.Path.{_∙_}
-use Rattle.layout.proofs.Lists.{is-no, is-yes}
+use Rattle.lists.specs.Tests.{is-no, is-yes}
 use Rattle.check_whole.proofs.Laws.{room-of}
 use Rattle.fault_diagnosis.proofs.Laws.{length-no, length-yes}
 use borrow.Author.Needs.{needs}

@@ -1,6 +1,6 @@
 use native.Mathlib.Omega.{arith}
 use borrow.Author.Needs.{needs}
-use Rattle.layout.proofs.Lists.{on, off, all-no, all-yes, all-one, is-no, is-yes}
+use Rattle.lists.specs.Tests.{on, off, all-no, all-yes, all-one, is-no, is-yes}
 use Rattle.layout.proofs.Sound.{slot-of}
 use Rattle.fault_kinds.specs.Tests.{leads}
 use mathlib.Core.Path.{sym, _∙_}

@@ -1,5 +1,5 @@
 use Rattle.space.proofs.Clear.{block-every}
-use Rattle.layout.proofs.Lists.{all-no, all-yes, all-one}
+use Rattle.lists.specs.Tests.{all-no, all-yes, all-one}
 use Rattle.layout.proofs.Laws.{gat-low}
 use borrow.Author.Tests.{eq-eqb, ne-eqb}
 use Prim.Native.Nat.{_%_}
