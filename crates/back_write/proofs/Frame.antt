@@ -13,7 +13,7 @@ use Rattle.meaning.specs.Entries.{runs, runStart, runLength, runGranules, entry
 use Rattle.meaning.specs.BringBack.{backEntry}
 use Rattle.meaning.specs.declared.Geometry.{Geometry}
 use Rattle.layout.specs.Room.{Room, Slot}
-use Rattle.layout.proofs.Laws.{gat-low}
+use Rattle.layout.proofs.OneStep.{gat-low}
 use Rattle.seek.proofs.Frame.{Same, opened, same-refl, same-trans, same-before, same-room, same-start, same-len, same-entry}
 use Rattle.space.proofs.Folds.{Kept, kept-room, kept-slot}
 use Rattle.laws.specs.Entry.{runs-le}

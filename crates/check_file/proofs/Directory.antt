@@ -25,7 +25,7 @@ use Rattle.check_map.proofs.Maps
 use Rattle.check_map.proofs.Standing.{shut-lt, weight-low, weight-in, weight-out, standing-long, standing-open, standing-shut, open-if, shut-if}
 use Rattle.check_map.proofs.Window.{none-shut, shut-none, same-shut, shut-same}
 use Rattle.check_file.specs.Slots.{least, leastOf, fileFits, FileSeen, Directory}
-use Rattle.check_file.proofs.Laws.{bit-on, bit-off}
+use Rattle.check_file.proofs.OneFile.{bit-on, bit-off}
 
 pub directory-lt : (g : Geometry) (d : List ℕ) → Room g d → (n : ℕ) → In n (directoryGranules g d) → n < granules g
 directory-lt g d room n i = let k = Members.count-in n (g .start / granuleSectors g) (roundUp (directorySectors g d) (granuleSectors g)) i in let e = Sizes.touched-inside (Sizes.sectors-pos g) (g .start) (directorySectors g d) (granules g) (room .directory) in omega (arith, k, e)

@@ -23,8 +23,8 @@ use Rattle.lists.specs.Members.{In}
 use Rattle.laws.specs.Facts
 use Rattle.layout.specs.Room.{Room, Slot}
 use Rattle.lists.specs.Tests.{all-yes, all-no, all-one, all-at}
-use Rattle.layout.proofs.Sound.{slot-of, slot-yes, slot-no, entry-fits}
-use Rattle.layout.proofs.Laws.{name-part}
+use Rattle.layout.proofs.HasRoom.{slot-of, slot-yes, slot-no, entry-fits}
+use Rattle.layout.proofs.OneStep.{name-part}
 use Rattle.check_names.specs.Buckets.{Hashed, unlike, inBucket, bucket, Linked, Buckets, Joined, Differing, Visited}
 
 module _ (g : Geometry) (d : List ℕ) where
@@ -250,22 +250,22 @@ module _ (g : Geometry) (d : List ℕ) where
   pub differing-start : Differing g d 0 (replicate 256 0) (replicate 256 0)
   differing-start = record { low = omega arith; lists = buckets-none; apart = λ p q a. absurd (let z : ⊥ = omega arith in z) }
 
-  filed : (s : ℕ) → Facts.File g d s → isSlot g d s ≡ true
+  filed : (s : ℕ) → Facts.IsFile g d s → isSlot g d s ≡ true
   filed s f = Members.T-true (f .slot)
 
-  firsted : (s : ℕ) → Facts.File g d s → inUsePrimary g d s ≡ true
+  firsted : (s : ℕ) → Facts.IsFile g d s → inUsePrimary g d s ≡ true
   firsted s f = Members.T-true (f .primary′)
 
   -- one slot further, where that slot is no file
-  apart-more : (s : ℕ) → ((p q : ℕ) → p < s → q < s → Facts.File g d p → Facts.File g d q → nameOf g d p ≡ nameOf g d q → p ≡ q)
-      → ((q : ℕ) → q < s → Facts.File g d s → Facts.File g d q → nameOf g d q ≡ nameOf g d s → ⊥)
-      → (p q : ℕ) → p < s + 1 → q < s + 1 → Facts.File g d p → Facts.File g d q → nameOf g d p ≡ nameOf g d q → p ≡ q
+  apart-more : (s : ℕ) → ((p q : ℕ) → p < s → q < s → Facts.IsFile g d p → Facts.IsFile g d q → nameOf g d p ≡ nameOf g d q → p ≡ q)
+      → ((q : ℕ) → q < s → Facts.IsFile g d s → Facts.IsFile g d q → nameOf g d q ≡ nameOf g d s → ⊥)
+      → (p q : ℕ) → p < s + 1 → q < s + 1 → Facts.IsFile g d p → Facts.IsFile g d q → nameOf g d p ≡ nameOf g d q → p ≡ q
   apart-more s f h p q a b i j e = by (ℕ-discrete p s) (ℕ-discrete q s)
     where
       by : Dec (p ≡ s) → Dec (q ≡ s) → p ≡ q
       by (yes x) (yes y) = x ∙ sym y
-      by (yes x) (no y) = absurd (h q (omega arith) (subst (Facts.File g d) x i) j (sym e ∙ ap (nameOf g d) x))
-      by (no x) (yes y) = absurd (h p (omega arith) (subst (Facts.File g d) y j) i (e ∙ ap (nameOf g d) y))
+      by (yes x) (no y) = absurd (h q (omega arith) (subst (Facts.IsFile g d) x i) j (sym e ∙ ap (nameOf g d) x))
+      by (no x) (yes y) = absurd (h p (omega arith) (subst (Facts.IsFile g d) y j) i (e ∙ ap (nameOf g d) y))
       by (no x) (no y) = f p q (omega arith) (omega arith) i j e
 
   pub differing-shut : (s : ℕ) (head next : List ℕ) → Differing g d s head next → s < 256 → isSlot g d s ≡ false → Differing g d (s + 1) head next
@@ -285,7 +285,7 @@ module _ (g : Geometry) (d : List ℕ) where
       }
 
   -- where HIT bytes are hashes, a file with the same name stands in the same list
-  listed : Hashed g d → (s q : ℕ) → Facts.File g d s → Facts.File g d q → nameOf g d q ≡ nameOf g d s → inBucket g d (hit g d s) q ≡ true
+  listed : Hashed g d → (s q : ℕ) → Facts.IsFile g d s → Facts.IsFile g d q → nameOf g d q ≡ nameOf g d s → inBucket g d (hit g d s) q ≡ true
   listed h s q i j e =
       let a = slot-of g d s (filed s i) in let b = slot-of g d q (filed q j) in
       member (hit g d s) q b (firsted q j) (h .hashed q b (firsted q j) ∙ ap hash e ∙ sym (h .hashed s a (firsted s i)))
@@ -330,8 +330,8 @@ module _ (g : Geometry) (d : List ℕ) where
       let w = some-false (unlike g d s) (bucket g d (hit g d s) s) (sym (k .answer) ∙ e) in
       let q = w .0 in let m = in-bucket (hit g d s) s q (w .1) in
       let n = same-of s q (w .2) in
-      let fs : Facts.File g d s = record { slot = Members.true-T (slot-true s h); primary′ = Members.true-T p } in
-      let fq : Facts.File g d q = record { slot = Members.true-T (slot-in (hit g d s) q (m .1)); primary′ = Members.true-T (first-in (hit g d s) q (m .1)) } in
+      let fs : Facts.IsFile g d s = record { slot = Members.true-T (slot-true s h); primary′ = Members.true-T p } in
+      let fq : Facts.IsFile g d q = record { slot = Members.true-T (slot-in (hit g d s) q (m .1)); primary′ = Members.true-T (first-in (hit g d s) q (m .1)) } in
       sym (Members.no-false (λ t. let z = Facts.differ-says g d {p = q} {q = s} t (Facts.in-files g d q fq) (Facts.in-files g d s fs) n in let lt = m .0 in omega arith))
 
   pub differing-end : (s : ℕ) (head next : List ℕ) → Differing g d s head next → 256 ≤ s → true ≡ namesDiffer g d (files g d)

@@ -12,7 +12,7 @@ use Rattle.meaning.specs.Entries.{inUsePrimary, nameOf}
 use Rattle.meaning.specs.declared.Geometry.{Geometry}
 use Rattle.meaning.specs.Chain.{files}
 use Rattle.meaning.specs.Consistent.{namesDiffer}
-use Rattle.laws.specs.Facts.{File}
+use Rattle.laws.specs.Facts.{IsFile}
 use Rattle.layout.specs.Room.{Slot}
 
 module _ (g : Geometry) (d : List ℕ) where
@@ -55,7 +55,7 @@ module _ (g : Geometry) (d : List ℕ) where
   pub record Differing (s : ℕ) (head next : List ℕ) : Type 0 where
     pub low : s ≤ 256
     pub lists : Buckets s head next
-    pub apart : (p q : ℕ) → p < s → q < s → File g d p → File g d q → nameOf g d p ≡ nameOf g d q → p ≡ q
+    pub apart : (p q : ℕ) → p < s → q < s → IsFile g d p → IsFile g d q → nameOf g d p ≡ nameOf g d q → p ≡ q
 
   -- what a visit to slots up to n gives: two files with one name, or all names below n different
   pub record Visited (n : ℕ) (head next : List ℕ) (r : Bool) : Type 0 where

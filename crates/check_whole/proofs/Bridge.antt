@@ -19,7 +19,7 @@ use Rattle.lists.specs.Tests.{all-at, all-yes, all-none, not-no}
 use Rattle.check_map.specs.Owners.{shut, GatMap, weight, standing}
 use Rattle.check_map.proofs.Standing.{weight-low, weight-in, weight-out, standing-open, open-if}
 use Rattle.check_walk.specs.Walk.{goesOn, markerHolds, chainHolds}
-use Rattle.check_walk.proofs.Laws.{from-above}
+use Rattle.check_walk.proofs.WalkSteps.{from-above}
 use Rattle.lists.specs.Members
 use Rattle.lists.specs.Members.{In}
 use Rattle.laws.specs.Entry
@@ -155,7 +155,7 @@ module _ (g : Geometry) (d : List ℕ) where
       go (inr j) r = into (eqb (marker g d s) 0xfe) refl j r
 
   -- the other way: every entry is sound and has the file's HIT byte, and the last has no next
-  pub record Good (h x : ℕ) : Type 0 where
+  pub record GoodEntry (h x : ℕ) : Type 0 where
     pub entry : Entry.Entry g d x
     pub hits : hit g d x ≡ h
 
@@ -178,7 +178,7 @@ module _ (g : Geometry) (d : List ℕ) where
   marker-goes h s rest a b =
       Members.T-true (Members.any-r (eqb (marker g d s) 0xff) (all (goesOn g d h s ∷ rest ∷ [])) (Members.true-T (all-yes a _ ∙ all-yes b _ ∙ all-none)))
 
-  pub says-chain : (h left s : ℕ) → 1 ≤ left → ((x : ℕ) → In x (chainFrom g d left s) → Good h x) → marker g d (lastOr s (chainFrom g d left s)) ≡ 0xff
+  pub says-chain : (h left s : ℕ) → 1 ≤ left → ((x : ℕ) → In x (chainFrom g d left s) → GoodEntry h x) → marker g d (lastOr s (chainFrom g d left s)) ≡ 0xff
       → chainHolds g d h left s ≡ true
   unfolding chainHolds chainFrom lastOr
   says-chain h zero s l f m = absurd (let z : ⊥ = omega arith in z)
@@ -187,16 +187,16 @@ module _ (g : Geometry) (d : List ℕ) where
       all-yes (holds-part s 0 e) _ ∙ all-yes (holds-part s 2 e) _ ∙ all-yes (on left (e .linked) f m (says-chain h left (link g d s))) _ ∙ all-none
     where
       Rest : ℕ → Type 0
-      Rest left = 1 ≤ left → ((x : ℕ) → In x (chainFrom g d left (link g d s)) → Good h x) → marker g d (lastOr (link g d s) (chainFrom g d left (link g d s))) ≡ 0xff
+      Rest left = 1 ≤ left → ((x : ℕ) → In x (chainFrom g d left (link g d s)) → GoodEntry h x) → marker g d (lastOr (link g d s) (chainFrom g d left (link g d s))) ≡ 0xff
           → chainHolds g d h left (link g d s) ≡ true
 
       -- the chain goes on at the link
-      next : (left : ℕ) → Entry.Linked g d s → ((x : ℕ) → In x (s ∷ chainFrom g d left (link g d s)) → Good h x) → marker g d (lastOr s (chainFrom g d left (link g d s))) ≡ 0xff → Rest left
+      next : (left : ℕ) → Entry.Linked g d s → ((x : ℕ) → In x (s ∷ chainFrom g d left (link g d s)) → GoodEntry h x) → marker g d (lastOr s (chainFrom g d left (link g d s))) ≡ 0xff → Rest left
           → markerHolds g d h s (chainHolds g d h left (link g d s)) ≡ true
       next zero k f m r = absurd (let q = k .marked in let z : ⊥ = omega arith in z)
       next (suc left) k f m r = marker-goes h s _ (goes h s k (f (link g d s) (In.there In.here) .hits)) (r (omega arith) (λ x i. f x (In.there i)) m)
 
-      on : (left : ℕ) → (marker g d s ≡ 0xff) ⊎ Entry.Linked g d s → ((x : ℕ) → In x (s ∷ cond (eqb (marker g d s) 0xfe) (chainFrom g d left (link g d s)) []) → Good h x)
+      on : (left : ℕ) → (marker g d s ≡ 0xff) ⊎ Entry.Linked g d s → ((x : ℕ) → In x (s ∷ cond (eqb (marker g d s) 0xfe) (chainFrom g d left (link g d s)) []) → GoodEntry h x)
           → marker g d (lastOr s (cond (eqb (marker g d s) 0xfe) (chainFrom g d left (link g d s)) [])) ≡ 0xff → Rest left → markerHolds g d h s (chainHolds g d h left (link g d s)) ≡ true
       on left (inl q) f m r = marker-ends h s _ q
       on left (inr k) f m r = next left k (rw (eq-eqb _ _ (k .marked)) at f) (rw (eq-eqb _ _ (k .marked)) at m) r

@@ -12,7 +12,7 @@ use Rattle.meaning.specs.Layout.{slots, isSlot, directorySectors}
 use Rattle.meaning.specs.declared.Geometry.{Geometry}
 use Rattle.layout.specs.Room.{Room}
 use Rattle.lists.specs.Tests.{all-at, all-yes, all-none, le-or-lt}
-use Rattle.layout.proofs.Sound.{slot-yes, slot-of}
+use Rattle.layout.proofs.HasRoom.{slot-yes, slot-of}
 use Rattle.check_map.specs.Marks.{marked}
 use Rattle.lists.specs.Members
 use Rattle.lists.specs.Members.{In, Distinct}

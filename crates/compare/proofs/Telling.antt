@@ -23,7 +23,7 @@ use Rattle.lists.specs.Members
 use Rattle.laws.specs.Facts as facts
 use Rattle.laws.specs.Change as change
 use Rattle.passed.proofs.Checked.{checked}
-use Rattle.seek.proofs.Sound.{sound}
+use Rattle.seek.proofs.IsWalkable.{sound}
 use Rattle.differences.specs.Compare.{before, difference, isOne, tellsNone, tellFirst, names, merged, at′, differences, compare}
 use Rattle.differences.specs.Order.{before-less, rising-length, keep-yes, keep-no, keep-whole}
 use Rattle.differences.specs.declared.Difference.{Difference}

@@ -7,12 +7,12 @@ use Rattle.meaning.specs.Entries.{inUsePrimary}
 use Rattle.meaning.specs.declared.Geometry.{Geometry}
 use Rattle.laws.specs.Facts as facts
 use Rattle.layout.specs.Room.{Slot}
-use Rattle.seek.specs.Seek.{Sound}
+use Rattle.seek.specs.Seek.{Walkable}
 
 module _ (g : Geometry) (d : List ℕ) where
   -- a disk whose check answered 0
   pub record Whole : Type 0 where
-    pub sound : Sound g d
+    pub sound : Walkable g d
     pub holds : facts.Sound g d
 
   -- a file starts at slot s

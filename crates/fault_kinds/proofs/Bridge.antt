@@ -17,12 +17,12 @@ use Rattle.meaning.specs.Fault.{handsOn, walk, walked, metFrom, fileOf, goodExt
 use Rattle.meaning.specs.declared.Geometry.{Geometry}
 use Rattle.layout.specs.Room.{Room, Slot}
 use Rattle.lists.specs.Tests.{all-at}
-use Rattle.layout.proofs.Sound.{slot-of, slot-yes}
+use Rattle.layout.proofs.HasRoom.{slot-of, slot-yes}
 use Rattle.laws.specs.Rising.{keep-keep}
 use Rattle.lists.specs.Members
 use Rattle.lists.specs.Members.{In}
 use Rattle.laws.specs.Facts
-use Rattle.laws.specs.Facts.{File}
+use Rattle.laws.specs.Facts.{IsFile}
 use Rattle.laws.specs.Walk
 use Rattle.laws.specs.Kinds
 use Rattle.fault_kinds.specs.Reach
@@ -49,7 +49,7 @@ or-some z p ps = refl
 module _ (g : Geometry) (d : List ℕ) where
   -- Files -------------------------------------------------------------------------------------------------------------------------
 
-  file-of : (p : ℕ) → isSlot g d p ≡ true → inUsePrimary g d p ≡ true → File g d p
+  file-of : (p : ℕ) → isSlot g d p ≡ true → inUsePrimary g d p ≡ true → IsFile g d p
   file-of p a b = record { slot = Members.true-T a; primary′ = Members.true-T b }
 
   starts-same : (x p : ℕ) → (isSlot g d p && (inUsePrimary g d p && has (walk g d p) x)) ≡ startsTo g d x p
@@ -64,7 +64,7 @@ module _ (g : Geometry) (d : List ℕ) where
       ∙ keep-keep (isSlot g d) (λ p. inUsePrimary g d p && has (walk g d p) x) (count 0 256)
       ∙ Members.keep-eq (λ p. isSlot g d p && (inUsePrimary g d p && has (walk g d p) x)) (startsTo g d x) (count 0 256) (λ p i. starts-same x p)
 
-  starts-file : (x p : ℕ) → T (startsTo g d x p) → File g d p
+  starts-file : (x p : ℕ) → T (startsTo g d x p) → IsFile g d p
   unfolding startsTo
   starts-file x p t = let e = Members.T-true {b = startsTo g d x p} t in file-of p (all-at _ e 0) (all-at _ e 1)
 
@@ -72,7 +72,7 @@ module _ (g : Geometry) (d : List ℕ) where
   unfolding startsTo
   starts-meets x p t = Members.true-T (all-at _ (Members.T-true {b = startsTo g d x p} t) 2)
 
-  meets-starts : (x p : ℕ) → File g d p → T (has (reach g d (length (slots g d)) p) x) → T (startsTo g d x p)
+  meets-starts : (x p : ℕ) → IsFile g d p → T (has (reach g d (length (slots g d)) p) x) → T (startsTo g d x p)
   unfolding startsTo
   meets-starts x p f h = Kinds.all-three (isSlot g d p) (inUsePrimary g d p) (has (reach g d (length (slots g d)) p) x) (f .slot) (f .primary′) h
 
@@ -133,7 +133,7 @@ module _ (g : Geometry) (d : List ℕ) where
           absurd (nobody (k .0) (k .1) (k .2))
         where
           -- the file that meets x stands in the list
-          nobody : (p : ℕ) → File g d p → In x (walk g d p) → ⊥
+          nobody : (p : ℕ) → IsFile g d p → In x (walk g d p) → ⊥
           nobody p k i =
               let u = meets-starts x p k (rw (← Reach.meets g d p x k) (Members.in-has i)) in
               let j = Members.in-keep (startsTo g d x) (Members.in-count p 0 256 (omega arith) (let h = Facts.slot-lt g d p (k .slot) in omega arith)) u in
@@ -206,7 +206,7 @@ module _ (g : Geometry) (d : List ℕ) where
       (λ t. Members.all-every firm (reach g d (length (slots g d)) p) (λ x i. Members.every-all firm t (Members.has-in x (walk g d p) (rw (Reach.meets g d p x f) (Members.in-has i)))))
       (λ t. Members.all-every firm (walk g d p) (λ x i. Members.every-all firm t (Members.has-in x (reach g d (length (slots g d)) p) (rw (← Reach.meets g d p x f) (Members.in-has i)))))
     where
-      f : File g d p
+      f : IsFile g d p
       f = file-of p a b
 
       firm : ℕ → Bool

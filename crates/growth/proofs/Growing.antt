@@ -19,7 +19,7 @@ use Rattle.laws_choice.specs.Stretches
 use Rattle.laws_choice.specs.View.{view}
 use Rattle.layout.specs.Room.{Room, Slot}
 use Rattle.lists.specs.Tests.{le-or-lt}
-use Rattle.layout.proofs.Sound.{slot-of}
+use Rattle.layout.proofs.HasRoom.{slot-of}
 use Rattle.passed.proofs.Ready.{walks}
 use Rattle.space.proofs.First.{NoneBelow}
 use Rattle.growth.specs.Choose.{choiceBy, Known, Picked}

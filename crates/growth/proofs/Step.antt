@@ -48,7 +48,7 @@ module _ (g : Geometry) (d : List ℕ) (p : ℕ) (r : Ready g d p) where
   pub fits′ : Places.Fits g d
   fits′ = Places.fits g d (Members.true-T (r .fits))
 
-  pub file′ : Facts.File g d p
+  pub file′ : Facts.IsFile g d p
   file′ = record { slot = Members.true-T (r .slot); primary′ = Members.true-T (r .first) }
 
   pub user′ : T (not (system g d p))

@@ -21,9 +21,9 @@ use Rattle.laws.specs.Places
 use Rattle.laws.specs.Steps.{Ready}
 use Rattle.laws.specs.Words.{words}
 use Rattle.layout.specs.Room.{Room, Slot}
-use Rattle.layout.proofs.Laws.{gat-low}
+use Rattle.layout.proofs.OneStep.{gat-low}
 use Rattle.lists.specs.Tests.{le-or-lt}
-use Rattle.layout.proofs.Sound.{slot-of}
+use Rattle.layout.proofs.HasRoom.{slot-of}
 use Rattle.passed.proofs.Ready.{walks}
 use Rattle.space.proofs.First.{NoneBelow}
 use Rattle.growth_search.specs.Search.{Ends, NextSlot}

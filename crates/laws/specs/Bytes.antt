@@ -30,7 +30,7 @@ use Rattle.lists.specs.Members
 use Rattle.lists.specs.Members.{In}
 use Rattle.laws.specs.Bits
 use Rattle.laws.specs.Facts
-use Rattle.laws.specs.Facts.{Sound, File}
+use Rattle.laws.specs.Facts.{Sound, IsFile}
 use Rattle.laws.specs.Places
 use Rattle.laws.specs.Marking
 use Rattle.laws.specs.Change
@@ -205,7 +205,7 @@ module _ (g : Geometry) (d : List ℕ) (k : Places.Fits g d) where
 
 -- One granule taken, one given back ------------------------------------------------------------------------------------------------
 
-module _ (g : Geometry) (d : List ℕ) (c : Sound g d) (k : Places.Fits g d) (p : ℕ) (f : File g d p) (s : Small d) where
+module _ (g : Geometry) (d : List ℕ) (c : Sound g d) (k : Places.Fits g d) (p : ℕ) (f : IsFile g d p) (s : Small d) where
   abbrev e : ℕ
   e = tail g p d
 

@@ -19,7 +19,7 @@ use Rattle.meaning.specs.declared.Geometry.{Geometry}
 use Rattle.lists.specs.Members
 use Rattle.lists.specs.Members.{In}
 use Rattle.laws.specs.Facts
-use Rattle.laws.specs.Facts.{Sound, File}
+use Rattle.laws.specs.Facts.{Sound, IsFile}
 use Rattle.laws.specs.Entry
 use Rattle.laws.specs.Places
 use Rattle.laws.specs.Change
@@ -33,7 +33,7 @@ use Rattle.laws.specs.Touch
 use Rattle.laws.specs.Words.{words}
 
 -- Case 3: an emptied extension
-module _ (g : Geometry) (d : List ℕ) (c : Sound g d) (k : Places.Fits g d) (p : ℕ) (f : File g d p)
+module _ (g : Geometry) (d : List ℕ) (c : Sound g d) (k : Places.Fits g d) (p : ℕ) (f : IsFile g d p)
     (size : sizeOf g d p + granuleBytes g ≤ granuleBytes g * length (owned g d p))
     (later : tail g p d ≢ p) (one : runs g d (tail g p d) ≡ 1) (single : runLength g d (tail g p d) 0 ≡ 1) (b : ℕ) (back : field g d (tail g p d) 1 ≡ b) (tb : T (isSlot g d b)) (b≢e : b ≢ tail g p d) where
   abbrev e : ℕ
@@ -63,10 +63,10 @@ module _ (g : Geometry) (d : List ℕ) (c : Sound g d) (k : Places.Fits g d) (p 
   entry : Entry.Entry g d e
   entry = Change.entry-at g d c e (member .slot) (member .used)
 
-  se : Places.Slot g d e
+  se : Places.IsSlot g d e
   se = Places.slot g d e (member .slot)
 
-  sb : Places.Slot g d b
+  sb : Places.IsSlot g d b
   sb = Places.slot g d b tb
 
   a10 : Places.Dir g d
@@ -172,7 +172,7 @@ module _ (g : Geometry) (d : List ℕ) (c : Sound g d) (k : Places.Fits g d) (p 
   }
 
 -- the entry before the last
-module _ (g : Geometry) (d : List ℕ) (c : Sound g d) (p : ℕ) (f : File g d p) (n : tail g p d ≢ p) where
+module _ (g : Geometry) (d : List ℕ) (c : Sound g d) (p : ℕ) (f : IsFile g d p) (n : tail g p d ≢ p) where
   pub before-tail : In (field g d (tail g p d) 1) (chain g d p) × (field g d (tail g p d) 1 ≢ tail g p d)
   before-tail = go (Entry.chain-pred g d p (tail g p d) (Change.tail-in g d c p f))
     where
@@ -195,12 +195,12 @@ pub record Dropped (g : Geometry) (d d′ : List ℕ) (p : ℕ) : Type 0 where
   pub change : Change.Change g d d′ p
   pub shorter : Shorter.Shorter g d d′ p which
   pub long : length d′ ≡ length d
-  pub file : File g d′ p
+  pub file : IsFile g d′ p
   -- only the file's entries and one bit are stored to, and no entry is new
   pub touch : Touch.Touch g (chain g d p) [] d d′
   pub entries : (x : ℕ) → In x (chain g d′ p) → In x (chain g d p)
 
-module _ (g : Geometry) (d : List ℕ) (c : Sound g d) (k : Places.Fits g d) (p : ℕ) (f : File g d p) (u : T (not (system g d p)))
+module _ (g : Geometry) (d : List ℕ) (c : Sound g d) (k : Places.Fits g d) (p : ℕ) (f : IsFile g d p) (u : T (not (system g d p)))
     (size : sizeOf g d p + granuleBytes g ≤ granuleBytes g * length (owned g d p)) where
   abbrev t : ℕ
   t = tail g p d

@@ -17,7 +17,7 @@ use Rattle.meaning.specs.declared.Geometry.{Geometry}
 use Rattle.lists.specs.Members
 use Rattle.lists.specs.Members.{In}
 use Rattle.laws.specs.Facts
-use Rattle.laws.specs.Facts.{File}
+use Rattle.laws.specs.Facts.{IsFile}
 use Rattle.laws.specs.Entry
 use Rattle.laws.specs.Entry.{Follows}
 use Rattle.lists.specs.First.{yes-T}
@@ -93,11 +93,11 @@ module _ (g : Geometry) (d : List ℕ) where
   met-distinct x = Members.keep-distinct (λ b. all (eqb (link g d b) x ∷ handsOn g d b ∷ has (walked g d) b ∷ [])) (Facts.slots-distinct g d)
 
   -- an extension in order: it is met, and follows whatever it is met from
-  pub record Good (x : ℕ) : Type 0 where
+  pub record GoodExtension (x : ℕ) : Type 0 where
     pub met : (b : ℕ) × In b (metFrom g d x)
     pub follow : (b : ℕ) → In b (metFrom g d x) → Follows g d b x
 
-  pub good-says : (x : ℕ) → T (goodExtension g d x) → Good x
+  pub good-says : (x : ℕ) → T (goodExtension g d x) → GoodExtension x
   unfolding goodExtension followsBy
   good-says x t =
       let k = two-says (eqb (length (metFrom g d x)) 1) (every (λ b. followsBy g d 0x90 b x) (metFrom g d x)) t in
@@ -153,7 +153,7 @@ module _ (g : Geometry) (d : List ℕ) where
   says-ends s p m = Members.all-two (pairsHold g d s) (eqb (marker g d s) 0xff) p (Members.eq-T m)
 
   -- the file of an entry that some walk meets
-  pub fileOf-is : (s p : ℕ) → File g d p → In s (walk g d p) → File g d (fileOf g d s) × In s (walk g d (fileOf g d s))
+  pub fileOf-is : (s p : ℕ) → IsFile g d p → In s (walk g d p) → IsFile g d (fileOf g d s) × In s (walk g d (fileOf g d s))
   unfolding fileOf
   fileOf-is s p f i =
       let j = first-in s (Members.in-keep (λ p. has (walk g d p) s) (Facts.in-files g d p f) (Members.in-has i)) in

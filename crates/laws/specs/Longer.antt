@@ -34,7 +34,7 @@ pub record Longer (g : Geometry) (d d′ : List ℕ) (p m : ℕ) : Type 0 where
   pub keeps : (n : ℕ) → n < granules g → n ≢ m → taken g d′ n ≡ taken g d n
   pub same : (i : ℕ) → (In (i / granuleBytes g) (directoryGranules g d) → ⊥) → byte d′ i ≡ byte d i
 
-module _ (g : Geometry) (d d′ : List ℕ) (c : Sound g d) (p : ℕ) (f : Facts.File g d p) (m : ℕ) (h : Longer g d d′ p m) where
+module _ (g : Geometry) (d d′ : List ℕ) (c : Sound g d) (p : ℕ) (f : Facts.IsFile g d p) (m : ℕ) (h : Longer g d d′ p m) where
   size-same : sizeOf g d′ p ≡ sizeOf g d p
   unfolding words
   size-same = rw (h .low 3 (omega arith), h .low 0x14 (omega arith), h .low 0x15 (omega arith))

@@ -79,7 +79,7 @@ module _ (g : Geometry) (d : List ℕ) (v h : ℕ) (ns xs : List ℕ) (m : Marks
   first : List ℕ
   first = through (Places.marked g v) d ns
 
-  slot-of : (x : ℕ) → In x xs → Places.Slot g d x
+  slot-of : (x : ℕ) → In x xs → Places.IsSlot g d x
   slot-of x i = Places.slot g d x (m .slots′ x i)
 
   block-of : (n : ℕ) → n < granules g → n / g .units < mostBlocks

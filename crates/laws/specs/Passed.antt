@@ -92,7 +92,7 @@ check-fault g d f = carried-own (fault g d) (check-number g d f)
 pub record Holds (g : Geometry) (d : List ℕ) (h : Handle) : Type 0 where
   pub fits : Places.Fits g d
   pub sound : Facts.Sound g d
-  pub file : Facts.File g d (h .slot)
+  pub file : Facts.IsFile g d (h .slot)
   pub name′ : nameOf g d (h .slot) ≡ h .name
   pub user : T (not (system g d (h .slot)))
 

@@ -33,7 +33,7 @@ pub record Shorter (g : Geometry) (d d′ : List ℕ) (p m : ℕ) : Type 0 where
   pub same : (i : ℕ) → (In (i / granuleBytes g) (directoryGranules g d) → ⊥) → byte d′ i ≡ byte d i
   pub room : sizeOf g d p ≤ granuleBytes g * length (owned g d′ p)
 
-module _ (g : Geometry) (d d′ : List ℕ) (c : Sound g d) (p : ℕ) (f : Facts.File g d p) (m : ℕ) (h : Shorter g d d′ p m) where
+module _ (g : Geometry) (d d′ : List ℕ) (c : Sound g d) (p : ℕ) (f : Facts.IsFile g d p) (m : ℕ) (h : Shorter g d d′ p m) where
   pub m-in : In m (owned g d p)
   m-in = rw (h .less) (Members.in-append-r (owned g d′ p) Members.In.here)
 

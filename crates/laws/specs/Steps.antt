@@ -41,13 +41,13 @@ module _ (g : Geometry) (d : List ℕ) (p : ℕ) (r : Ready g d p) where
   k : Places.Fits g d
   k = Places.fits g d (Members.true-T (r .fits))
 
-  f : Facts.File g d p
+  f : Facts.IsFile g d p
   f = record { slot = Members.true-T (r .slot); primary′ = Members.true-T (r .first) }
 
   u : T (not (system g d p))
   u = not-T (system g d p) (λ t. Members.false-no (r .user) t)
 
-  ready : (d′ : List ℕ) → Change.Change g d d′ p → length d′ ≡ length d → Facts.File g d′ p → field g d′ p 0 ≡ field g d p 0 → Ready g d′ p
+  ready : (d′ : List ℕ) → Change.Change g d d′ p → length d′ ≡ length d → Facts.IsFile g d′ p → field g d′ p 0 ≡ field g d p 0 → Ready g d′ p
   ready d′ h l f′ e = record {
     fits = fits-long g d d′ l ∙ r .fits;
     sound = Facts.back g d′ (Change.changed g d d′ c p h);

@@ -16,7 +16,7 @@ use Rattle.meaning.specs.Growth.{tail, withPair, withExtension, newExtension}
 use Rattle.meaning.specs.declared.Geometry.{Geometry}
 use Rattle.lists.specs.Members
 use Rattle.lists.specs.Members.{In}
-use Rattle.laws.specs.Facts.{Sound, File}
+use Rattle.laws.specs.Facts.{Sound, IsFile}
 use Rattle.laws.specs.Places
 use Rattle.laws.specs.Change
 use Rattle.laws.specs.Create
@@ -27,7 +27,7 @@ use Rattle.laws.specs.Words.{words}
 new-ffs : (g : Geometry) (p e k : ℕ) → 0x16 ≤ k → k < 32 → getD (newExtension e) k 0 ≡ 0xff
 new-ffs g p e k a b = eqb→eq _ _ (Members.every-all (λ k. eqb (getD (newExtension e) k 0) 0xff) {xs = count 0x16 10} tt (Members.in-count k 0x16 10 a (omega arith)))
 
-module _ (g : Geometry) (d : List ℕ) (c : Sound g d) (k : Places.Fits g d) (p : ℕ) (f : File g d p) (x : ℕ) (t : T (isSlot g d x)) (z : hit g d x ≡ 0)
+module _ (g : Geometry) (d : List ℕ) (c : Sound g d) (k : Places.Fits g d) (p : ℕ) (f : IsFile g d p) (x : ℕ) (t : T (isSlot g d x)) (z : hit g d x ≡ 0)
     (n : ℕ) (full : runs g d (tail g p d) ≡ 4) (inn : n < granules g) (untaken : T (taken g d n) → ⊥) where
   abbrev e : ℕ
   e = tail g p d
@@ -47,10 +47,10 @@ module _ (g : Geometry) (d : List ℕ) (c : Sound g d) (k : Places.Fits g d) (p 
   member : Change.Member g d p e
   member = Change.members g d c p e f (Change.tail-in g d c p f)
 
-  se : Places.Slot g d e
+  se : Places.IsSlot g d e
   se = Places.slot g d e (member .slot)
 
-  sx : Places.Slot g d x
+  sx : Places.IsSlot g d x
   sx = Places.slot g d x t
 
   a10 : Places.Dir g d
@@ -73,7 +73,7 @@ module _ (g : Geometry) (d : List ℕ) (c : Sound g d) (k : Places.Fits g d) (p 
   L-above : aboveTen g L ≡ aboveTen g d
   L-above = L-byte (hitAt g 31) (omega arith) (omega arith)
 
-  sl : Places.Slot g L x
+  sl : Places.IsSlot g L x
   unfolding words
   sl = record { low = sx .low; sector = rw L-above (sx .sector) }
 

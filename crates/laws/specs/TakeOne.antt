@@ -16,7 +16,7 @@ use Rattle.meaning.specs.declared.Geometry.{Geometry}
 use Rattle.lists.specs.Members
 use Rattle.lists.specs.Members.{In}
 use Rattle.laws.specs.Facts
-use Rattle.laws.specs.Facts.{Sound, File}
+use Rattle.laws.specs.Facts.{Sound, IsFile}
 use Rattle.laws.specs.Entry
 use Rattle.laws.specs.Places
 use Rattle.laws.specs.Change
@@ -37,7 +37,7 @@ pub record Took (g : Geometry) (d d′ : List ℕ) (p : ℕ) : Type 0 where
   pub change : Change.Change g d d′ p
   pub longer : Longer.Longer g d d′ p which
   pub long : length d′ ≡ length d
-  pub file : File g d′ p
+  pub file : IsFile g d′ p
   -- only the file's entries and one bit are stored to, and no entry is lost
   pub touch : Touch.Touch g (chain g d′ p) [] d d′
   pub entries : (x : ℕ) → In x (chain g d p) → In x (chain g d′ p)
@@ -57,7 +57,7 @@ free-says g d n i =
 pub first-free : (g : Geometry) (d : List ℕ) → 1 ≤ length (freeGranules g d) → (lowestFree g d < granules g) × (T (taken g d (lowestFree g d)) → ⊥)
 first-free g d room = free-says g d (lowestFree g d) (free-in g d room)
 
-module _ (g : Geometry) (d : List ℕ) (c : Sound g d) (k : Places.Fits g d) (p : ℕ) (f : File g d p) (u : T (not (system g d p)))
+module _ (g : Geometry) (d : List ℕ) (c : Sound g d) (k : Places.Fits g d) (p : ℕ) (f : IsFile g d p) (u : T (not (system g d p)))
     (n : ℕ) (is-free : (n < granules g) × (T (taken g d n) → ⊥)) where
   abbrev e : ℕ
   e = tail g p d
@@ -141,7 +141,7 @@ module _ (g : Geometry) (d : List ℕ) (c : Sound g d) (k : Places.Fits g d) (p 
           let r : extended g p (freeSlots g d) d e n ≡ grown d′ = rw (Members.no-false {b = lengthens g p d} a, Members.no-false {b = ltb (runs g d e) 4} b) at q in
           extended-took d′ (freeSlots g d) (λ x i. i) (omega (arith, nltb→le (runs g d e) 4 (not-T (ltb (runs g d e) 4) b), Entry.runs-le g d e)) r
 
-pub take-one : (g : Geometry) (d : List ℕ) (c : Sound g d) (k : Places.Fits g d) (p : ℕ) (f : File g d p) (u : T (not (system g d p))) (room : 1 ≤ length (freeGranules g d))
+pub take-one : (g : Geometry) (d : List ℕ) (c : Sound g d) (k : Places.Fits g d) (p : ℕ) (f : IsFile g d p) (u : T (not (system g d p))) (room : 1 ≤ length (freeGranules g d))
     (d′ : List ℕ) → takeOne g p d ≡ grown d′ → Took g d d′ p
 unfolding takeOne
 take-one g d c k p f u room d′ q = take-at g d c k p f u (lowestFree g d) (first-free g d room) d′ q

@@ -17,7 +17,7 @@ use Rattle.lists.specs.Members
 use Rattle.lists.specs.Members.{In, Distinct, length-count}
 use Rattle.lists.specs.Counting
 use Rattle.laws.specs.Facts
-use Rattle.laws.specs.Facts.{Sound, File}
+use Rattle.laws.specs.Facts.{Sound, IsFile}
 use Rattle.laws.specs.Places
 use Rattle.laws.specs.Change
 
@@ -69,7 +69,7 @@ module _ (g : Geometry) (d : List ℕ) (c : Sound g d) where
       omega arith
 
 -- a file owns no more granules than the disk has, so its size is within the largest disk's
-pub owned-le : (g : Geometry) (d : List ℕ) → Sound g d → (p : ℕ) → File g d p → length (owned g d p) ≤ granules g
+pub owned-le : (g : Geometry) (d : List ℕ) → Sound g d → (p : ℕ) → IsFile g d p → length (owned g d p) ≤ granules g
 owned-le g d c p f =
     omega (
       arith,
@@ -78,7 +78,7 @@ owned-le g d c p f =
       length-count 0 (granules g),
     )
 
-pub size-le : (g : Geometry) (d : List ℕ) → Sound g d → Places.Fits g d → (p : ℕ) → File g d p → sizeOf g d p ≤ highest g
+pub size-le : (g : Geometry) (d : List ℕ) → Sound g d → Places.Fits g d → (p : ℕ) → IsFile g d p → sizeOf g d p ≤ highest g
 unfolding granules
 size-le g d c k p f =
     let a = mul-le-mul (k .blocks-hi) (k .units-hi) in

@@ -20,7 +20,7 @@ use Rattle.promises_words.specs.Untouched.{Aside}
 use Rattle.meaning.specs.declared.Geometry.{Geometry}
 use Rattle.lists.specs.Members
 use Rattle.lists.specs.Members.{In}
-use Rattle.laws.specs.Facts.{Sound, File}
+use Rattle.laws.specs.Facts.{Sound, IsFile}
 use Rattle.laws.specs.Places
 use Rattle.laws.specs.Change
 use Rattle.laws.specs.Marking
@@ -134,6 +134,6 @@ touch-marking g v h d ns xs b f =
     (λ e x i t. Touch.hits x h i (Touch.entry x 0 (putDigit (byte e (entryAt g x + 0)) 4 v) i (omega arith) t))
     (Places.through-stays (Touch g xs [] d) (Places.marked g v) ns d (λ e n i t. Touch.gat n v (f n i) b t) Touch.none)
 
-pub touch-killed : (g : Geometry) (d : List ℕ) → Sound g d → (p : ℕ) → File g d p → Touch g (chain g d p) [] d (killed g d p)
+pub touch-killed : (g : Geometry) (d : List ℕ) → Sound g d → (p : ℕ) → IsFile g d p → Touch g (chain g d p) [] d (killed g d p)
 unfolding Marking.marking words
 touch-killed g d c p f = touch-marking g 0 0 d (owned g d p) (chain g d p) (omega arith) (λ n i. Change.owned-lt g d c p n f i)

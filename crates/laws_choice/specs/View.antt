@@ -17,7 +17,7 @@ use Rattle.meaning.specs.declared.Geometry.{Geometry}
 use Rattle.lists.specs.Members
 use Rattle.lists.specs.Members.{In}
 use Rattle.laws.specs.Facts
-use Rattle.laws.specs.Facts.{Sound, File}
+use Rattle.laws.specs.Facts.{Sound, IsFile}
 use Rattle.laws.specs.Entry
 use Rattle.laws.specs.Places
 use Rattle.laws.specs.Change
@@ -94,7 +94,7 @@ module _ (g : Geometry) (p : ℕ) (d : List ℕ) where
       says-longer (record { some′ = s .0; inside = f .inside; free = λ t. Members.false-no (f .clear) t; short = s .1 })
 
   -- the granules of the last run are taken
-  pub stands : Sound g d → File g d p → Stands (granules g) (view g p d)
+  pub stands : Sound g d → IsFile g d p → Stands (granules g) (view g p d)
   unfolding entryGranules
   stands c f = record {
     some′ = λ r q. let w = ap (λ (x : Run). x .many) (is r q) in omega arith;
@@ -133,7 +133,7 @@ unfolding lastOr
 last-snoc z x [] = refl
 last-snoc z x (y ∷ ys) = last-snoc y x ys
 
-module _ (g : Geometry) (d : List ℕ) (c : Sound g d) (k : Places.Fits g d) (p : ℕ) (f : File g d p) where
+module _ (g : Geometry) (d : List ℕ) (c : Sound g d) (k : Places.Fits g d) (p : ℕ) (f : IsFile g d p) where
   abbrev e : ℕ
   e = tail g p d
 

@@ -22,7 +22,7 @@ use Rattle.meaning.specs.declared.Listed.{Listed}
 use Rattle.meaning.specs.declared.Counts.{Counts}
 use Rattle.meaning.specs.declared.Refusal.{Refusal}
 use Rattle.lists.specs.Members.{same-eq, same-refl}
-use Rattle.layout.proofs.Laws.{name-at}
+use Rattle.layout.proofs.OneStep.{name-at}
 use Rattle.lists.specs.Tests.{all-at, and-l}
 use Rattle.seek.specs.Seek.{Used}
 use Rattle.look_up.proofs.Pass.{slotsFrom, slots-start, slots-here, slots-past, slots-end}

@@ -15,7 +15,7 @@ use Rattle.meaning.specs.Plain.{fileAt}
 use Rattle.meaning.specs.declared.Geometry.{Geometry}
 use Rattle.lists.specs.Members
 use Rattle.read.specs.Part.{Owned, InGranule}
-use Rattle.read.proofs.Laws.{fetch-append, length-fetch, place-fits}
+use Rattle.read.proofs.ReadParts.{fetch-append, length-fetch, place-fits}
 use Rattle.load.specs.Load.{bytesOf}
 use Rattle.load_record.specs.Program.{Program}
 

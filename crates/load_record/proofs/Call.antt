@@ -18,7 +18,7 @@ use Rattle.meaning.specs.declared.Refusal.{Refusal}
 use Rattle.layout.specs.Room.{Room, Slot}
 use Rattle.lists.specs.Tests.{first-hit, first-skip, first-none, and-l, and-r, all-at}
 use Rattle.passed.proofs.Checked.{Passed, passed, walks, ranges}
-use Rattle.read.proofs.Laws.{reading-stop, reading-then}
+use Rattle.read.proofs.ReadParts.{reading-stop, reading-then}
 use Rattle.load.specs.Records.{itemRefusals, itemAt, toldAt, recordFrom, past}
 use Rattle.load.specs.Load.{bytesOf, mostBytes, loadNumbers, asked, loadRefusals, loadRecord}
 use Rattle.load.specs.declared.NextRecord.{NextRecord}

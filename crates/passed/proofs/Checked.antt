@@ -24,9 +24,9 @@ use Rattle.laws.specs.Carried.{carried-own}
 use Rattle.laws.specs.Passed.{Served, disk-passed, check-passed}
 use Rattle.layout.specs.Room.{Room, Slot}
 use Rattle.lists.specs.Tests.{first-at, first-hit, first-skip, first-none, and-l, and-r, any-skip, all-at}
-use Rattle.layout.proofs.Sound.{room, slot-of}
-use Rattle.seek.specs.Seek.{Sound, Used}
-use Rattle.seek.proofs.Sound.{sound}
+use Rattle.layout.proofs.HasRoom.{room, slot-of}
+use Rattle.seek.specs.Seek.{Walkable, Used}
+use Rattle.seek.proofs.IsWalkable.{sound}
 
 -- the first part of a list of refusals lets a call through
 pub first-then : (xs ys : List (ℕ × Bool)) → first xs ≡ 0 → every (λ c. not (eqb (c .0) 0)) xs ≡ true → first (xs ++ ys) ≡ first ys
@@ -113,7 +113,7 @@ module _ (g : Geometry) (d : List ℕ) where
   is-primary h r = all-at _ r 1
 
   -- so the file's chain can be walked
-  pub walks : (h : Handle) (ranged : Bool) → Passed h ranged → Sound g d × Used g d (h .slot)
+  pub walks : (h : Handle) (ranged : Bool) → Passed h ranged → Walkable g d × Used g d (h .slot)
   walks h ranged p = (sound g d (p .disk .fits) (p .disk .sound), record { slot = p .slot; used = p .used })
 
   abbrev NonZero : List (ℕ × Bool) → Type 0

@@ -114,7 +114,7 @@ module _ (g : Geometry) (d d′ : List ℕ) (h : Handle) (w : Holds g d h) (is :
   named-here = Named.named-is g d (w .sound) (h .slot) (w .file)
 
 -- the handle of a file that is still there
-alive : (g : Geometry) (d d′ : List ℕ) (h h′ : Handle) → Holds g d h → Facts.File g d′ (h .slot) → nameOf g d′ (h .slot) ≡ nameOf g d (h .slot) → h′ .slot ≡ h .slot → h′ .name ≡ h .name
+alive : (g : Geometry) (d d′ : List ℕ) (h h′ : Handle) → Holds g d h → Facts.IsFile g d′ (h .slot) → nameOf g d′ (h .slot) ≡ nameOf g d (h .slot) → h′ .slot ≡ h .slot → h′ .name ≡ h .name
     → Live g d′ h′
 alive g d d′ h h′ w f n s m = record {
   slot = rw s (f .slot);

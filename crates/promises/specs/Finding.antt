@@ -38,7 +38,7 @@ use Rattle.promises.specs.Changing
 -- the file of a name that is not missing
 pub record Whose (g : Geometry) (d n : List ℕ) (p : ℕ) : Type 0 where
   pub alone : named g d n ≡ p ∷ []
-  pub file : Facts.File g d p
+  pub file : Facts.IsFile g d p
   pub name′ : nameOf g d p ≡ n
 
 -- The count --------------------------------------------------------------------------------------------------------------------------
@@ -87,7 +87,7 @@ module _ (g : Geometry) (d : List ℕ) (c : Sound g d) (n : List ℕ) where
   pub whose : (T (missing g d n) → ⊥) → (p : ℕ) × Whose g d n p
   whose k = go (Named.look g d c n)
     where
-      go : ((p : ℕ) × Facts.File g d p × (nameOf g d p ≡ n)) ⊎ ((p : ℕ) → Facts.File g d p → nameOf g d p ≢ n) → (p : ℕ) × Whose g d n p
+      go : ((p : ℕ) × Facts.IsFile g d p × (nameOf g d p ≡ n)) ⊎ ((p : ℕ) → Facts.IsFile g d p → nameOf g d p ≢ n) → (p : ℕ) × Whose g d n p
       go (inl w) = (w .0, record { alone = Named.named-at g d c (w .0) n (w .1) (w .2); file = w .1; name′ = w .2 })
       go (inr w) = absurd (k (subst (λ (l : List ℕ). T (eqb (length l) 0)) (sym (Named.none-named g d n w)) tt))
 

@@ -25,7 +25,7 @@ use Rattle.meaning.specs.declared.Handle.{Handle}
 use Rattle.lists.specs.Members
 use Rattle.lists.specs.Members.{In}
 use Rattle.laws.specs.Facts
-use Rattle.laws.specs.Facts.{Sound, File}
+use Rattle.laws.specs.Facts.{Sound, IsFile}
 use Rattle.laws.specs.Places
 use Rattle.laws.specs.Longer
 use Rattle.laws.specs.TakeOne
@@ -55,7 +55,7 @@ pub record Grew (g : Geometry) (d d′ : List ℕ) (p k : ℕ) : Type 0 where
   pub same : (i : ℕ) → (In (i / granuleBytes g) (directoryGranules g d) → ⊥) → byte d′ i ≡ byte d i
 
 module _ (g : Geometry) where
-  grew-none : (d : List ℕ) (p : ℕ) → Sound g d → Places.Fits g d → File g d p → T (not (system g d p)) → Grew g d d p 0
+  grew-none : (d : List ℕ) (p : ℕ) → Sound g d → Places.Fits g d → IsFile g d p → T (not (system g d p)) → Grew g d d p 0
   grew-none d p c k f u = record {
     kept = resized-none g d p c k f u;
     above = refl;
@@ -70,7 +70,7 @@ module _ (g : Geometry) where
     same = λ i o. refl;
   }
 
-  grew-one : (d d₁ : List ℕ) (p : ℕ) → Sound g d → Places.Fits g d → File g d p → T (not (system g d p)) → (Small d → Small d₁) → Took g d d₁ p → Grew g d d₁ p 1
+  grew-one : (d d₁ : List ℕ) (p : ℕ) → Sound g d → Places.Fits g d → IsFile g d p → T (not (system g d p)) → (Small d → Small d₁) → Took g d d₁ p → Grew g d d₁ p 1
   grew-one d d₁ p c k f u b w =
       let m = w .which in let h = w .change in let l = w .longer in
       let file′ = Longer.grown-file g d d₁ c p f m l u in
@@ -109,7 +109,7 @@ module _ (g : Geometry) where
   abbrev pub Chooses : (List ℕ → ℕ) → Type 0
   Chooses choice = (d : List ℕ) → 1 ≤ length (freeGranules g d) → (choice d < granules g) × (T (taken g d (choice d)) → ⊥)
 
-  pub growBy-grew : (choice : List ℕ → ℕ) → Chooses choice → (k : ℕ) (d d′ : List ℕ) (p : ℕ) → Sound g d → Places.Fits g d → File g d p → T (not (system g d p)) → k ≤ length (freeGranules g d)
+  pub growBy-grew : (choice : List ℕ → ℕ) → Chooses choice → (k : ℕ) (d d′ : List ℕ) (p : ℕ) → Sound g d → Places.Fits g d → IsFile g d p → T (not (system g d p)) → k ≤ length (freeGranules g d)
       → growBy g p choice k d ≡ grown d′ → Grew g d d′ p k
   unfolding growBy andThen
   growBy-grew choice h zero d d′ p c w f u room q = let r : d ≡ d′ = cc in subst (λ (l : List ℕ). Grew g d l p 0) r (grew-none d p c w f u)
@@ -123,7 +123,7 @@ module _ (g : Geometry) where
           subst (λ (j : ℕ). Grew g d d′ p j) (omega arith) (grew-trans d d₁ d′ p 1 k x (ih d₁ x q))
       go noSlot e q ih = absurd (let z : _≡_ {A = ℕ} 0 1 = cc in omega arith)
 
-  pub grow-grew : (k : ℕ) (d d′ : List ℕ) (p : ℕ) → Sound g d → Places.Fits g d → File g d p → T (not (system g d p)) → k ≤ length (freeGranules g d)
+  pub grow-grew : (k : ℕ) (d d′ : List ℕ) (p : ℕ) → Sound g d → Places.Fits g d → IsFile g d p → T (not (system g d p)) → k ≤ length (freeGranules g d)
       → grow g p k d ≡ grown d′ → Grew g d d′ p k
   grow-grew = growBy-grew (lowestFree g) (TakeOne.first-free g)
 
@@ -144,7 +144,7 @@ module _ (g : Geometry) where
   else-second k d p e = rw e
 
   -- 01's growth, or the second where that found no slot
-  pub growth-grew : (k : ℕ) (d d′ : List ℕ) (p : ℕ) → Sound g d → Places.Fits g d → File g d p → T (not (system g d p)) → k ≤ length (freeGranules g d)
+  pub growth-grew : (k : ℕ) (d d′ : List ℕ) (p : ℕ) → Sound g d → Places.Fits g d → IsFile g d p → T (not (system g d p)) → k ≤ length (freeGranules g d)
       → growth g p k d ≡ grown d′ → Grew g d d′ p k
   growth-grew k d d′ p c w f u room e = go (grow g p k d) refl
     where
@@ -175,7 +175,7 @@ pub record AllotMeans (g : Geometry) (d d′ : List ℕ) (p k : ℕ) : Type 0 wh
   pub beyond′ : (n : List ℕ) → n ≢ nameOf g d p → beyond g d′ n ≡ beyond g d n
   pub names′ : (n : List ℕ) → n ≢ nameOf g d p → named g d′ n ≡ named g d n
   pub touch : Touch g (chain g d′ p) [] d d′
-  pub file′ : File g d′ p
+  pub file′ : IsFile g d′ p
   pub name′ : nameOf g d′ p ≡ nameOf g d p
   pub small : Small d → Small d′
   pub free : length (freeGranules g d) ≡ length (freeGranules g d′) + lacking g d p (granulesTo g k)

@@ -38,7 +38,7 @@ pub record KillMeans (g : Geometry) (d d′ : List ℕ) (p : ℕ) : Type 0 where
   pub names′ : (n : List ℕ) → n ≢ nameOf g d p → named g d′ n ≡ named g d n
   pub touch : Touch.Touch g (chain g d p) [] d d′
 
-kill-free : (g : Geometry) (d : List ℕ) (c : Facts.Sound g d) (k : Places.Fits g d) (p : ℕ) (f : Facts.File g d p)
+kill-free : (g : Geometry) (d : List ℕ) (c : Facts.Sound g d) (k : Places.Fits g d) (p : ℕ) (f : Facts.IsFile g d p)
     → length (freeGranules g (killed g d p)) ≡ length (freeGranules g d) + length (owned g d p)
 unfolding freeGranules
 kill-free g d c k p f =

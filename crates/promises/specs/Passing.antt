@@ -51,7 +51,7 @@ module _ (g : Geometry) (d : List ℕ) (h : Handle) where
       let p₄ = passed 7 _ _ (omega arith) (p₃ .1) in
       (record { fits = w .0 .fits; sound = w .0 .sound; live = Refusing.live-iff g d h .0 (yes-T (fresh g d h) (p₄ .0)) }, yes-T b (p₃ .0), p₄ .1)
 
-  pub live-file : Live g d h → Facts.File g d (h .slot)
+  pub live-file : Live g d h → Facts.IsFile g d (h .slot)
   live-file l = record { slot = l .slot; primary′ = Members.and-i (inUse g d (h .slot)) (not (extension g d (h .slot))) (l .used) (l .first) }
 
 -- the first of two tests

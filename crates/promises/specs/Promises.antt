@@ -300,7 +300,7 @@ Exactly answer rs = Rows answer (Unit {0}) rs
 
 -- blocks 1 to 192, units per block 1 to 8, 5, 10 or 20 sectors per granule, directory start a multiple of these; the image length is blocks ×
 -- units × the bytes of a granule exactly, and at least 10 sectors lie from the directory start to the end
-pub record Fits (g : Geometry) (d : List ℕ) : Type 0 where
+pub record FitsGeometry (g : Geometry) (d : List ℕ) : Type 0 where
   pub blocks-lo : 1 ≤ g .blocks
   pub blocks-hi : g .blocks ≤ mostBlocks
   pub units-lo : 1 ≤ g .units
@@ -329,7 +329,7 @@ module _ (g : Geometry) (d : List ℕ) where
 
   -- 1 geometry or image length not as above, then the faults: every call but free space, which gives 1 only
   abbrev pub diskCases : Table → Table
-  diskCases rest = (1, (Fits g d → ⊥)) ∷ faultCases faultNumbers rest
+  diskCases rest = (1, (FitsGeometry g d → ⊥)) ∷ faultCases faultNumbers rest
 
   -- 12 out of range, 7 handle stale: every call with a handle; `ranged` is what it tests of range
   abbrev pub handleCases : Handle → Type 0 → Table → Table
@@ -380,7 +380,7 @@ module _ (g : Geometry) (d : List ℕ) where
   table (kills h) = handleCases h (InRange g h) (barred 1 h ∷ [])
   table (lists i) = diskCases []
   table counts = diskCases []
-  table measures = (1, (Fits g d → ⊥)) ∷ []
+  table measures = (1, (FitsGeometry g d → ⊥)) ∷ []
 
 -- "The split answers together are exactly the old 2" (02 §2): a disk has no fault exactly if it is consistent.
 abbrev pub OldTwo : Type 0

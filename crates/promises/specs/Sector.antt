@@ -20,7 +20,7 @@ use Rattle.promises_words.specs.Given.{AreBytes}
 use Rattle.meaning.specs.declared.Geometry.{Geometry}
 use Rattle.meaning.specs.declared.Handle.{Handle}
 use Rattle.lists.specs.Members
-use Rattle.laws.specs.Facts.{Sound, File}
+use Rattle.laws.specs.Facts.{Sound, IsFile}
 use Rattle.laws.specs.Places
 use Rattle.laws.specs.Change
 use Rattle.laws.specs.Named
@@ -82,7 +82,7 @@ record Holds (size k n : ℕ) : Type 0 where
   end : 256 * k + n ≤ size
   least : n ≡ min 256 (size - 256 * k)
 
-module _ (g : Geometry) (d : List ℕ) (b : AreBytes d) (c : Sound g d) (fit : Places.Fits g d) (p : ℕ) (f : File g d p) (k : ℕ) (in′ : k < sectorCount g d p) where
+module _ (g : Geometry) (d : List ℕ) (b : AreBytes d) (c : Sound g d) (fit : Places.Fits g d) (p : ℕ) (f : IsFile g d p) (k : ℕ) (in′ : k < sectorCount g d p) where
   abbrev n : ℕ
   n = sectorBytes g d p k
 

@@ -31,7 +31,7 @@ use Rattle.meaning.specs.declared.Mode.{Mode}
 use Rattle.lists.specs.Members
 use Rattle.lists.specs.Members.{In, length-count}
 use Rattle.laws.specs.Facts
-use Rattle.laws.specs.Facts.{Sound, File}
+use Rattle.laws.specs.Facts.{Sound, IsFile}
 use Rattle.laws.specs.Places
 use Rattle.laws.specs.Change
 use Rattle.laws.specs.Others
@@ -49,7 +49,7 @@ use Rattle.promises.specs.Write
 use Rattle.promises.specs.Over
 
 -- the data part, on a disk that is large enough
-module _ (g : Geometry) (d : List ℕ) (c : Sound g d) (k : Places.Fits g d) (p : ℕ) (f : File g d p) (u : T (not (system g d p)))
+module _ (g : Geometry) (d : List ℕ) (c : Sound g d) (k : Places.Fits g d) (p : ℕ) (f : IsFile g d p) (u : T (not (system g d p)))
     (m : Mode) (at : ℕ) (r : List ℕ) (fit : sizeAfter m (sizeOf g d p) (at + length r) ≤ granuleBytes g * length (owned g d p)) where
   abbrev size : ℕ
   size = sizeAfter m (sizeOf g d p) (at + length r)
@@ -129,7 +129,7 @@ pub record Wrote (g : Geometry) (d d′ : List ℕ) (p : ℕ) (w : Plain.File) :
   pub touch : Touch g (chain g d′ p) (owned g d′ p) d d′
   pub apart : (n : ℕ) → In n (owned g d′ p) → In n (directoryGranules g d′) → ⊥
   pub free : length (freeGranules g d) + length (owned g d p) ≡ length (freeGranules g d′) + length (owned g d′ p)
-  pub file′ : File g d′ p
+  pub file′ : IsFile g d′ p
   pub name′ : nameOf g d′ p ≡ nameOf g d p
   pub told : fileAt g d′ p ≡ w
 

@@ -19,11 +19,11 @@ use Rattle.lists.specs.Members.{In, none-in, in-cons, each-eq}
 use Rattle.laws.specs.Entry.{runs-le}
 use Rattle.laws.specs.Frame
 use Rattle.layout.specs.Room.{Room, Slot}
-use Rattle.layout.proofs.Laws.{gat-low}
+use Rattle.layout.proofs.OneStep.{gat-low}
 use Rattle.lists.specs.Tests.{and-l}
-use Rattle.seek.specs.Seek.{Sound, Used}
-use Rattle.seek.proofs.Laws.{slots-same}
-use Rattle.seek.proofs.Sound.{Low}
+use Rattle.seek.specs.Seek.{Walkable, Used}
+use Rattle.seek.proofs.SeekSteps.{slots-same}
+use Rattle.seek.proofs.IsWalkable.{Low}
 
 pub record Same (g : Geometry) (d d′ : List ℕ) : Type 0 where
   pub long : length d′ ≡ length d
@@ -94,7 +94,7 @@ module _ (g : Geometry) (d d′ : List ℕ) (r : Room g d) (e : Same g d d′) w
   same-slots = slots-same g d d′ same-sectors
 
 -- every entry along a chain is in use
-used-along : (g : Geometry) (d : List ℕ) → Sound g d → (left s x : ℕ) → Used g d s → In x (chainFrom g d left s) → Used g d x
+used-along : (g : Geometry) (d : List ℕ) → Walkable g d → (left s x : ℕ) → Used g d s → In x (chainFrom g d left s) → Used g d x
 unfolding chainFrom
 used-along g d snd zero s x u i = none-in i
 used-along g d snd (suc left) s x u i = by (λ w k. used-along g d snd left (link g d s) x w k) (in-cons i)
@@ -109,7 +109,7 @@ used-along g d snd (suc left) s x u i = by (λ w k. used-along g d snd left (lin
     by ih (inl q) = rw q u
     by ih (inr j) = on ih (eqb (marker g d s) 0xfe) refl j
 
-module _ (g : Geometry) (d d′ : List ℕ) (snd : Sound g d) (e : Same g d d′) where
+module _ (g : Geometry) (d d′ : List ℕ) (snd : Walkable g d) (e : Same g d d′) where
   -- the entries of a chain, and their granules
   pub same-slots-of : (left s : ℕ) → Used g d s → chainFrom g d′ left s ≡ chainFrom g d left s
   same-slots-of left s u =
@@ -154,7 +154,7 @@ same-free g d n r h =
     let l = gat-low g n h (r .units-low) in let b = r .blocks-high in
     same-before g d (gatAt g n) (withoutBit (n % g .units) (byte d (gatAt g n))) (omega arith)
 
-module _ (g : Geometry) (d d′ : List ℕ) (snd : Sound g d) (e : Same g d d′) where
+module _ (g : Geometry) (d d′ : List ℕ) (snd : Walkable g d) (e : Same g d d′) where
   slot-back : {s : ℕ} → Slot g d′ s → Slot g d s
   slot-back sl = same-slot g d′ d (same-room g d d′ (snd .room) e) (same-sym g d d′ (snd .room) e) sl
 
@@ -171,7 +171,7 @@ module _ (g : Geometry) (d d′ : List ℕ) (snd : Sound g d) (e : Same g d d′
   unfolding sizeOf
   size-same s sl = rw (f-same s 3 sl (omega arith), f-same s 0x14 sl (omega arith), f-same s 0x15 sl (omega arith))
 
-  pub same-sound : Sound g d′
+  pub same-sound : Walkable g d′
   same-sound =
       record {
         room = same-room g d d′ (snd .room) e;

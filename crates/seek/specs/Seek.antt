@@ -18,7 +18,7 @@ pub record Used (g : Geometry) (d : List ℕ) (s : ℕ) : Type 0 where
   pub used : inUse g d s ≡ true
 
 -- what of a consistent disk the walk uses
-pub record Sound (g : Geometry) (d : List ℕ) : Type 0 where
+pub record Walkable (g : Geometry) (d : List ℕ) : Type 0 where
   pub room : Room g d
   pub next : (s : ℕ) → Used g d s → marker g d s ≡ 0xfe → Used g d (link g d s)
   pub run : (s k : ℕ) → Used g d s → k < runs g d s → runStart g d s k + runLength g d s k ≤ granules g

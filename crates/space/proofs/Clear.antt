@@ -17,7 +17,7 @@ use Rattle.meaning.specs.Layout.{byte, granules, taken}
 use Rattle.meaning.specs.Bits.{digit}
 use Rattle.meaning.specs.Free.{freeGranules}
 use Rattle.meaning.specs.declared.Geometry.{Geometry}
-use Rattle.layout.proofs.Laws.{digit-at}
+use Rattle.layout.proofs.OneStep.{digit-at}
 use Rattle.lists.specs.Tests.{keep-yes, keep-no}
 use Rattle.lists.specs.Below.{allBelow, all-below, alike, alike-eq}
 use Rattle.space.specs.Clear.{clearBits}

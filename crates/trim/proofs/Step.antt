@@ -27,7 +27,7 @@ use Rattle.laws.specs.Drop
 use Rattle.laws.specs.DropLast
 use Rattle.laws.specs.Steps.{Ready}
 use Rattle.layout.specs.Room.{Slot}
-use Rattle.layout.proofs.Sound.{slot-of}
+use Rattle.layout.proofs.HasRoom.{slot-of}
 use Rattle.seek.specs.Seek.{Used}
 
 -- an entry of a chain that hands on to no other is the chain's last
@@ -54,7 +54,7 @@ module _ (g : Geometry) (d : List ℕ) (p : ℕ) (r : Ready g d p) where
   pub fits : Places.Fits g d
   fits = Places.fits g d (Members.true-T (r .fits))
 
-  pub file : Facts.File g d p
+  pub file : Facts.IsFile g d p
   file = record { slot = Members.true-T (r .slot); primary′ = Members.true-T (r .first) }
 
   member-used : (x : ℕ) → In x (chain g d p) → Used g d x

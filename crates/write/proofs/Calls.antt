@@ -25,10 +25,10 @@ use Rattle.meaning.specs.declared.Mode.{Mode}
 use Rattle.meaning.specs.declared.Mode.the-variants.{Sequential, Random}
 use Rattle.laws.specs.Steps.{Ready}
 use Rattle.lists.specs.Tests.{all-at}
-use Rattle.layout.proofs.Sound.{slot-of}
+use Rattle.layout.proofs.HasRoom.{slot-of}
 use Rattle.passed.proofs.Checked.{handle-stop, handle-then, passed, ranges, length-range}
 use Rattle.passed.proofs.Ready.{walks}
-use Rattle.read.specs.Part.{File, Owned}
+use Rattle.read.specs.Part.{Readable, Owned}
 use Rattle.growth.proofs.Grown.{larger-ready, owned-most}
 use Rattle.write.specs.Apart.{Apart}
 use Rattle.write.proofs.Apart.{is-apart}
@@ -128,7 +128,7 @@ module _ (g : Geometry) (d : List ℕ) (m : Mode) (h : Handle) (b : List ℕ) {r
 
   -- what the stores of an accepted write ask for
   pub record Stores (d₁ : List ℕ) (size : ℕ) : Type 0 where
-    pub file : File g d₁ (h .slot)
+    pub file : Readable g d₁ (h .slot)
     pub apart : Apart g d₁ (h .slot)
     pub owns : Owned g d₁ (h .slot) (h .at) (h .len)
     pub old : sizeOf g d (h .slot) ≤ granuleBytes g * length (owned g d₁ (h .slot))

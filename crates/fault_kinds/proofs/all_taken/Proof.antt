@@ -1,4 +1,4 @@
-use Rattle.fault_kinds.proofs.Laws.{all-start, all-failed, all-passed, all-held}
+use Rattle.fault_kinds.proofs.Passes.{all-start, all-failed, all-passed, all-held}
 use Rattle.lists.specs.Tests.{is-no, is-yes}
 use Rattle.meaning.specs.Layout.{taken}
 use Rattle.meaning.specs.Lists.{count, every}

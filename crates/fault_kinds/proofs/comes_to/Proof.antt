@@ -1,4 +1,4 @@
-use Rattle.fault_kinds.proofs.Laws.{come-here, come-stop, come-on, come-none, hands-slot}
+use Rattle.fault_kinds.proofs.Passes.{come-here, come-stop, come-on, come-none, hands-slot}
 use Rattle.fault_kinds.specs.Reach.{reach}
 use Rattle.lists.specs.Tests.{is-no, is-yes}
 use Rattle.layout.specs.Room.{Slot}

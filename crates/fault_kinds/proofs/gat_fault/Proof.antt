@@ -1,5 +1,5 @@
 use borrow.Author.Needs.{needs}
-use Rattle.fault_kinds.proofs.Laws.{runs-lie}
+use Rattle.fault_kinds.proofs.Passes.{runs-lie}
 use Rattle.lists.specs.Tests.{all-no, all-yes, all-one, is-no, is-yes}
 use Rattle.meaning.specs.Fault.{gatFault}
 use mathlib.Core.Bool.{not}

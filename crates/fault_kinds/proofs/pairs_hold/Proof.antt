@@ -1,4 +1,4 @@
-use Rattle.fault_kinds.proofs.Laws.{failed, passed, held}
+use Rattle.fault_kinds.proofs.Passes.{failed, passed, held}
 use Rattle.lists.specs.Tests.{is-no, is-yes}
 use Rattle.fault_kinds.specs.Tests.{pairHolds}
 use Rattle.meaning.specs.Consistent.{pairsHold}

@@ -1,4 +1,4 @@
-use Rattle.fault_kinds.proofs.Laws.{from-zero, failed, passed, held}
+use Rattle.fault_kinds.proofs.Passes.{from-zero, failed, passed, held}
 use Rattle.lists.specs.Tests.{is-no, is-yes}
 use Rattle.fault_kinds.specs.Tests.{runHolds}
 use Rattle.meaning.specs.Consistent.{runsHold}

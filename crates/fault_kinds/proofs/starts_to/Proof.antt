@@ -1,5 +1,5 @@
 use borrow.Author.Needs.{needs}
-use Rattle.layout.proofs.Sound.{slot-of}
+use Rattle.layout.proofs.HasRoom.{slot-of}
 use Rattle.lists.specs.Tests.{all-no, all-yes, all-one, is-no, is-yes}
 use Rattle.fault_kinds.specs.Tests.{startsTo}
 use Rattle.fault_kinds.specs.Reach.{reach}

@@ -1,5 +1,5 @@
 use borrow.Author.Needs.{needs}
-use Rattle.fault_kinds.proofs.Laws.{tally-none, tally-bad, tally-good}
+use Rattle.fault_kinds.proofs.Passes.{tally-none, tally-bad, tally-good}
 use Rattle.lists.specs.Tests.{is-no, is-yes}
 use Rattle.meaning.specs.Consistent.{followsBy}
 use native.Mathlib.Omega.{arith}

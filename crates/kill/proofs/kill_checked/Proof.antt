@@ -1,4 +1,4 @@
-use Rattle.kill.proofs.Laws.{by-range, refused, accepted}
+use Rattle.kill.proofs.Killing.{by-range, refused, accepted}
 use Rattle.meaning.specs.Refusals.{protected}
 use Rattle.passed.proofs.Checked.{passed, walks, handed}
 use mathlib.Core.Path.{refl}

@@ -1,5 +1,5 @@
 use native.Mathlib.Omega.{arith}
-use Rattle.read.proofs.Laws.{refused, accepted, allowed}
+use Rattle.read.proofs.ReadParts.{refused, accepted, allowed}
 use mathlib.Core.Path.{sym, _∙_}
 use Rattle.passed.proofs.Checked.{handed}
 use borrow.Author.Needs.{needs}

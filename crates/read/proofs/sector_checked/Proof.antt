@@ -1,6 +1,6 @@
-use Rattle.read.proofs.Laws.{sector, sector-refused, sector-accepted, sector-lies}
+use Rattle.read.proofs.ReadParts.{sector, sector-refused, sector-accepted, sector-lies}
 use native.Mathlib.Omega.{arith}
-use Rattle.read.proofs.Laws.{sector, sector-refused, sector-accepted}
+use Rattle.read.proofs.ReadParts.{sector, sector-refused, sector-accepted}
 use Rattle.passed.proofs.Checked.{handed}
 use borrow.Author.Needs.{needs}
 use Rattle.read.proofs.sector_checked.Statement.{statement}

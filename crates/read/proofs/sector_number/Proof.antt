@@ -1,5 +1,5 @@
 use native.Mathlib.Omega.{arith}
-use Rattle.read.proofs.Laws.{reading-stop, reading-then}
+use Rattle.read.proofs.ReadParts.{reading-stop, reading-then}
 use Rattle.meaning.specs.Refusals.{notForReading}
 use Rattle.passed.proofs.Checked.{passed, walks}
 use Rattle.lists.specs.Tests.{first-hit, first-skip, first-none}

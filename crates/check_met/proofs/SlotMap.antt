@@ -19,7 +19,7 @@ use Rattle.lists.specs.Tests.{le-or-lt, every-count, not-both}
 use Rattle.lists.specs.Below.{allBelow, all-below}
 use Rattle.lists.specs.Ranges.{every-append, every-true, count-more, count-none}
 use Rattle.lists.specs.Members
-use Rattle.seek.proofs.Laws.{slotsFor, slots-are}
+use Rattle.seek.proofs.SeekSteps.{slotsFor, slots-are}
 use Rattle.check_met.specs.Met.{HitCopied, metAt}
 
 -- Rows ------------------------------------------------------------------------------------------------------------------------

@@ -27,9 +27,9 @@ use Rattle.lists.specs.Members
 use Rattle.lists.specs.Members.{In}
 use Rattle.layout.specs.Room.{Slot}
 use Rattle.lists.specs.Tests.{all-at, all-yes, all-no, all-none, first-hit, first-skip, first-none, not-yes, not-no}
-use Rattle.layout.proofs.Sound.{slot-of}
+use Rattle.layout.proofs.HasRoom.{slot-of}
 use Rattle.passed.proofs.Checked.{check-stop, check-then, length-range}
-use Rattle.copy.proofs.Laws.{sets-append}
+use Rattle.copy.proofs.OneByOne.{sets-append}
 use Rattle.look_up.proofs.Open.{slot-found}
 
 -- day, month, year and record length as the entry can hold them

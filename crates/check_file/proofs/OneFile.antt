@@ -16,9 +16,9 @@ use Rattle.meaning.specs.Chain.{chain, chainFrom, owned}
 use Rattle.meaning.specs.Consistent.{hitHolds}
 use Rattle.meaning.specs.declared.Geometry.{Geometry}
 use Rattle.layout.specs.Room.{Room}
-use Rattle.layout.proofs.Laws.{digit-at, name-part}
+use Rattle.layout.proofs.OneStep.{digit-at, name-part}
 use Rattle.lists.specs.Tests.{all-yes, all-no, all-one, any-skip, not-yes, not-no, any-one, not-both, all-out}
-use Rattle.seek.proofs.Laws.{slots-length}
+use Rattle.seek.proofs.SeekSteps.{slots-length}
 use Rattle.check_map.specs.Marks.{marked, allows}
 use Rattle.check_walk.specs.Walk.{Place, Walked, chainHolds}
 use Rattle.meaning.specs.Names.{hash, wellFormed}

@@ -16,10 +16,10 @@ use Rattle.meaning.specs.Chain.{chainFrom}
 use Rattle.meaning.specs.Consistent.{pairsHold, runsHold}
 use Rattle.meaning.specs.declared.Geometry.{Geometry}
 use Rattle.layout.specs.Room.{Room}
-use Rattle.layout.proofs.Laws.{runs-more, runs-none}
+use Rattle.layout.proofs.OneStep.{runs-more, runs-none}
 use Rattle.lists.specs.Tests.{and-l, and-r, all-at, all-yes, all-no, all-one, all-none, any-skip, every-count, is-no, is-yes, any-one, not-both, on, off, all-out}
 use Rattle.check_map.specs.Marks.{marked, allows, Marks}
-use Rattle.check_map.proofs.Laws.{marked-append, allows-append}
+use Rattle.check_map.proofs.MarkLists.{marked-append, allows-append}
 use Rattle.lists.specs.Members
 use Rattle.check_walk.specs.Walk.{TakesRun, runHolds, unused, entryFits, Entered, Walked, goesOn, markerHolds, chainHolds, onward, granulesOf}
 use Rattle.check_walk.specs.declared.Pairs.{Pairs}

@@ -15,7 +15,7 @@ use Rattle.meaning.specs.Fault.{handsOn, goodExtension, chainFault, runFault}
 use Rattle.meaning.specs.declared.Geometry.{Geometry}
 use Rattle.layout.specs.Room.{Slot}
 use Rattle.lists.specs.Tests.{all-yes, all-one, keep-yes, keep-no, all-out}
-use Rattle.layout.proofs.Sound.{slot-of}
+use Rattle.layout.proofs.HasRoom.{slot-of}
 use Rattle.lists.specs.Ranges.{every-append}
 use Rattle.lists.specs.Members
 use Rattle.laws.specs.Walk

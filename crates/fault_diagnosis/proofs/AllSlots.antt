@@ -18,12 +18,12 @@ use Rattle.meaning.specs.Fault.{faultAt, lowest, fault}
 use Rattle.meaning.specs.declared.Geometry.{Geometry}
 use Rattle.meaning.specs.declared.Refusal.{Refusal}
 use Rattle.layout.specs.Room.{Room, Slot}
-use Rattle.layout.proofs.Laws.{name-part}
+use Rattle.layout.proofs.OneStep.{name-part}
 use Rattle.lists.specs.Tests.{keep-yes, keep-no}
 use Rattle.lists.specs.Members
 use Rattle.laws.specs.Facts
 use Rattle.laws.specs.Kinds
-use Rattle.fault_kinds.proofs.Laws.{count-more, count-none}
+use Rattle.fault_kinds.proofs.Passes.{count-more, count-none}
 use Rattle.fault_diagnosis.specs.Told.{sameFile, faultIn, afterSlots}
 
 pub beq-off : (a b : Bool) → a ≡ true → not b ≡ Bool·beq (not a) b

@@ -29,10 +29,10 @@ use Rattle.laws.specs.Shorter
 use Rattle.laws.specs.DropLast
 use Rattle.laws.specs.Steps.{Ready, drop-ready}
 use Rattle.layout.specs.Room.{Room, Slot}
-use Rattle.layout.proofs.Laws.{gat-low, digit-at}
-use Rattle.layout.proofs.Sound.{slot-yes}
+use Rattle.layout.proofs.OneStep.{gat-low, digit-at}
+use Rattle.layout.proofs.HasRoom.{slot-yes}
 use Rattle.passed.proofs.Checked.{passed, passed-user}
-use Rattle.seek.specs.Seek.{Sound, Used}
+use Rattle.seek.specs.Seek.{Walkable, Used}
 use Rattle.passed.proofs.Ready.{walks}
 use Rattle.trim.specs.Last.{Last, Bit}
 use Rattle.trim.proofs.Step
@@ -47,7 +47,7 @@ module _ (g : Geometry) (d : List ℕ) (p e : ℕ) (l : Last g d p e 1) where
   size : sizeOf g d p + granuleBytes g ≤ granuleBytes g * length (owned g d p)
   size = omega (arith, l .room)
 
-  pub last-sound : Sound g d
+  pub last-sound : Walkable g d
   last-sound = walks g d p (l .ready) .0
 
   pub last-entry : Used g d e

@@ -18,9 +18,9 @@ use Rattle.meaning.specs.Consistent.{consistent, slotHolds, fileHolds, linkHold
 use Rattle.meaning.specs.declared.Geometry.{Geometry}
 use Rattle.layout.specs.Room.{Slot}
 use Rattle.lists.specs.Tests.{all-at, any-last, every-keep, every-count, not-yes, getD-count, le-or-lt}
-use Rattle.layout.proofs.Sound.{room, slot-of, slot-yes}
-use Rattle.seek.specs.Seek.{Sound, Used}
-use Rattle.seek.proofs.Laws.{getD-past}
+use Rattle.layout.proofs.HasRoom.{room, slot-of, slot-yes}
+use Rattle.seek.specs.Seek.{Walkable, Used}
+use Rattle.seek.proofs.SeekSteps.{getD-past}
 
 module _ (g : Geometry) (d : List ℕ) where
   pub at-slot : (p : ℕ → Bool) → every p (slots g d) ≡ true → (s : ℕ) → Slot g d s → p s ≡ true
@@ -63,7 +63,7 @@ module _ (g : Geometry) (d : List ℕ) where
   unfolding sizeHolds
   size-below s h = leb-true _ _ (all-at _ h 1)
 
-  pub sound : fitsGeometry g d ≡ true → consistent g d ≡ true → Sound g d
+  pub sound : fitsGeometry g d ≡ true → consistent g d ≡ true → Walkable g d
   sound f h =
       record {
         room = room g d f h;
@@ -98,7 +98,7 @@ low-each : (m : ℕ) (f : ℕ → List ℕ) (j n : ℕ) → ((k : ℕ) → k < j
 low-each m f j zero h = low-nil m
 low-each m f j (suc n) h = low-append m (f j) (each f (count (j + 1) n)) (h j (omega arith)) (low-each m f (j + 1) n (λ k l. h k (omega arith)))
 
-module _ (g : Geometry) (d : List ℕ) (snd : Sound g d) where
+module _ (g : Geometry) (d : List ℕ) (snd : Walkable g d) where
   pub low-entry : (s : ℕ) → Used g d s → Low (granules g) (entryGranules g d s)
   unfolding entryGranules
   low-entry s u = low-each (granules g) (runGranules g d s) 0 (runs g d s) (λ k l. low-count (granules g) (runStart g d s k) (runLength g d s k) (snd .run s k u (omega arith)))

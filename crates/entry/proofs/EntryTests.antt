@@ -14,7 +14,7 @@ use Rattle.meaning.specs.Chain.{owned}
 use Rattle.meaning.specs.Consistent.{nameHolds, sizeHolds}
 use Rattle.meaning.specs.declared.Geometry.{Geometry}
 use Rattle.layout.specs.Room.{Room, Slot}
-use Rattle.layout.proofs.Laws.{name-part}
+use Rattle.layout.proofs.OneStep.{name-part}
 use Rattle.lists.specs.Tests.{all-yes, all-no, all-one, is-no, is-yes}
 use Rattle.entry.specs.Count.{countHolds}
 
