@@ -13,7 +13,7 @@ use Rattle.meaning.specs.Bits.{bit}
 use Rattle.meaning.specs.Layout.{field, hit, slots, directorySectors, granuleSectors}
 use Rattle.meaning.specs.Entries.{inUse, extension, inUsePrimary, nameOf, sectorCount, endByte}
 use Rattle.meaning.specs.Chain.{chain, chainFrom, owned}
-use Rattle.meaning.specs.Consistent.{hitHolds}
+use Rattle.meaning.specs.Consistent.{hitHolds, countHolds}
 use Rattle.meaning.specs.declared.Geometry.{Geometry}
 use Rattle.layout.specs.Room.{Room}
 use Rattle.layout.proofs.OneStep.{digit-at, name-part}
@@ -24,7 +24,6 @@ use Rattle.check_walk.specs.Walk.{Place, Walked, chainHolds}
 use Rattle.meaning.specs.Names.{hash, wellFormed}
 use Rattle.lists.specs.Members
 use Rattle.check_file.specs.Slots.{leastOf, nameFits, fileFits, slotFits, chainOf, ownedOf, opens, slotsFit, FileSeen, Seen}
-use Rattle.entry.specs.Count.{countHolds}
 
 -- Bits --------------------------------------------------------------------------------------------------------------------
 

@@ -11,9 +11,8 @@ use Rattle.meaning.specs.Layout.{field, hit, slots, directorySectors, granuleSe
 use Rattle.meaning.specs.Names.{hash, wellFormed}
 use Rattle.meaning.specs.Entries.{inUsePrimary, nameOf, sectorCount, endByte}
 use Rattle.meaning.specs.Chain.{chain, owned}
-use Rattle.meaning.specs.Consistent.{hitHolds}
+use Rattle.meaning.specs.Consistent.{hitHolds, countHolds}
 use Rattle.meaning.specs.declared.Geometry.{Geometry}
-use Rattle.entry.specs.Count.{countHolds}
 use Rattle.check_map.specs.Marks.{marked, allows}
 use Rattle.check_map.specs.Owners.{Window}
 use Rattle.check_map.specs.Eight.{Spans}

@@ -15,7 +15,7 @@ use Rattle.lists.specs.Sizes
 use Rattle.meaning.specs.Names.{hash}
 use Rattle.meaning.specs.Entries.{inUse, inUsePrimary, system, runs, runStart, runLength, runGranules, entryGranules, nameOf, sectorCount, endByte, sizeOf}
 use Rattle.meaning.specs.Chain.{chain, owned, files}
-use Rattle.meaning.specs.Consistent.{lengthHolds, hitHolds, runsHold, gatHolds, entryHolds, slotHolds, fileHolds, namesDiffer, met, consistent}
+use Rattle.meaning.specs.Consistent.{lengthHolds, hitHolds, runsHold, gatHolds, entryHolds, slotHolds, fileHolds, namesDiffer, met, consistent, countHolds}
 use Rattle.meaning.specs.declared.Geometry.{Geometry}
 use Rattle.layout.specs.Room.{Room, Slot}
 use Rattle.layout.proofs.HasRoom.{slot-yes}
@@ -31,7 +31,6 @@ use Rattle.laws.specs.Facts.{IsFile, Sound}
 use Rattle.laws.specs.Entry
 use Rattle.laws.specs.Change
 use Rattle.check_file.specs.Slots.{least, leastOf, nameFits, fileFits, slotFits, chainOf, ownedOf, one, slotsFit, Seen, Directory}
-use Rattle.entry.specs.Count.{countHolds}
 use Rattle.check_whole.specs.Slots.{diskSlots}
 use Rattle.check_met.specs.Met.{HitCopied, metAt}
 use Rattle.check_whole.proofs.Maps
