@@ -16,7 +16,7 @@ use Rattle.play_trace.specs.declared.Call.{Call}
 use Rattle.play_trace.specs.declared.Call.the-variants.{Create, SequentialWrite, RandomWrite, Allot, Trim, Kill, Read}
 use Rattle.play_trace.specs.declared.Step.{Step}
 use Rattle.play_trace.specs.declared.Numbers.{Numbers}
-use Rattle.play_trace.proofs.Numbers.{operation-is, pass, stop, step-1, step-2, step-3, step-4, step-5, step-6, step-7}
+use Rattle.play_trace.proofs.NumbersTell.{operation-is, pass, stop, step-1, step-2, step-3, step-4, step-5, step-6, step-7}
 use Rattle.play_trace.proofs.Front.{Alike, alike, unlike, look}
 
 -- each number fits its field
