@@ -110,7 +110,7 @@ fn grow_to(image: &mut [u8], g: Geometry, p: usize, old: usize, size: usize) -> 
 // The directory's end of file: end byte and sector count. B is set.
 fn put_size(image: &mut [u8], g: Geometry, s: usize, size: usize)
     requires { ⌜ (entryAt g s + 32 ≤ length (now image)) × (size ≤ 7864320) ⌝ }
-    ensures { λ _. ⌜ now (image .exit) ≡ withSize g (now (image .entry)) (now (image .entry)) s size ⌝ }
+    ensures { λ _. ⌜ now (image .exit) ≡ withSize g (now (image .entry)) s size ⌝ }
 {
     let at = 256 * (g.start + 2 + s % 32) + 32 * (s / 32);
     let n = (size + 255) / 256;
