@@ -120,7 +120,7 @@ impl Geometry {
     }
 
     /// The granules of a directory of so many sectors, those that it only touches included.
-    pub fn directory_granules(&self, sectors: usize) -> std::ops::Range<usize> {
+    pub fn directory_granules(&self, sectors: usize) -> core::ops::Range<usize> {
         let first = self.start / self.granule_sectors.max(1);
         first..first + self.granules_for(sectors.saturating_mul(Self::SECTOR_BYTES))
     }

@@ -24,7 +24,7 @@ pub fn evidence_words(evidence: &Evidence) -> String {
 /// How the image reads: `consistent, 1 file, 134 granules free`, or the first fault.
 fn reading_words(reading: &Reading) -> String {
     match &reading.found {
-        Ok(Counts { files, free }) => {
+        Ok(Counts { files, free, .. }) => {
             format!("consistent, {}, {} free", counted(*files, "file"), counted(*free, "granule"))
         }
         Err(fault) => format!("{} ({}): {fault}", fault.fault.kind.number(), fault.fault.kind),

@@ -162,7 +162,7 @@ fn chosen_by_options(search: &Search, wanted: &Wanted, message: String) -> Failu
 fn fit(reading: &Reading, suffix: &str) -> String {
     let preset = preset_of(reading.geometry).map(|name| format!(", preset {name}")).unwrap_or_default();
     let (files, free) = match &reading.found {
-        Ok(Counts { files, free }) => (*files, *free),
+        Ok(Counts { files, free, .. }) => (*files, *free),
         Err(_) => (0, 0),
     };
     let options = shape::options_alone(reading.geometry, suffix);
