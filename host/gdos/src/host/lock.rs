@@ -59,6 +59,10 @@ impl Locked {
         if change && held.permissions().readonly() {
             return Err(refused("it is write-protected"));
         }
+        // Who holds it for long is to hear at once, and not with the first change, that none could be saved.
+        if change && !wait {
+            drop(Copy::beside(&real, &[], None).map_err(Failure::io("replace", path))?);
+        }
         Locked::read(path, real, file)
     }
 
