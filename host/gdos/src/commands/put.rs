@@ -20,7 +20,7 @@ use std::path::Path;
 
 const AS: Spec =
     Spec { long: "as", short: None, value: Some("NAME"), help: "the file's name on the disk (one file only)" };
-pub(super) const DATE: Spec = Spec {
+pub const DATE: Spec = Spec {
     long: "date",
     short: None,
     value: Some("DATE"),
@@ -94,10 +94,7 @@ pub(super) struct Source {
 
 fn run(args: &Args) -> Result<Output, Failure> {
     let (image, words) = image_and_rest(args)?;
-    let (date, note) = match stated_date(args)? {
-        Some(date) => (date, None),
-        None => today(),
-    };
+    let (date, note) = date(args)?;
     let sources = sources(args, words, date)?;
     put_all(args, image, &sources, note)
 }
@@ -176,7 +173,14 @@ pub(super) fn stated_date(args: &Args) -> Result<Option<Date>, Failure> {
     }
 }
 
-/// Today's date as far as the disk can hold it, and a note if it cannot.
+/// The date given; or today's as far as the disk can hold it, and a note if it cannot.
+pub fn date(args: &Args) -> Result<(Date, Option<String>), Failure> {
+    Ok(match stated_date(args)? {
+        Some(date) => (date, None),
+        None => today(),
+    })
+}
+
 fn today() -> (Date, Option<String>) {
     let today = date::today();
     let clamped = date::clamped(today);
