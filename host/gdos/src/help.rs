@@ -25,8 +25,8 @@ The geometry
   searched. The search takes a geometry only if the disk is consistent under it, a file's name speaks for its
   directory, and nothing speaks for another; otherwise nothing is read, and what was found is told with the options
   to type. It tries granules of 5 sectors, and only where none of these readings is consistent 10 and 20, which it
-  says. Commands that only read tell on standard error what they found. Those that change a disk (put, tar --in,
-  rm, trim, undelete) want a geometry that is stated; --search lets them use what is found. `gdos probe` shows the
+  says. Commands that only read tell on standard error what they found. Those that change a disk (put, cp, tar
+  --in, rm, trim, undelete) want a geometry that is stated; --search lets them use what is found. `gdos probe` shows the
   evidence.
 ";
 
@@ -50,12 +50,15 @@ Exit status
 pub const CHANGES: &str = "\
 What no command does
   The system has no call that renames a file or changes its attributes (invisible, access level, F, E, codes, date),
-  and gdos writes no byte behind the library's back. So there is no mv and no attr. A file gets another name, date,
-  record length or codes by being put anew:
-    gdos get disk.img PULS01/DAT
-    gdos put disk.img PULS01.DAT --as PULS02/DAT --date 1983-10-09
+  and gdos writes no byte behind the library's back. So there is no mv and no attr. A file gets another name by being
+  copied within its disk, with its date, record length and codes, and then removed under the old one:
+    gdos cp disk.img:PULS01/DAT disk.img:PULS02/DAT
     gdos rm disk.img PULS01/DAT
-  The copy has access level 0 and no flags, as any new file. Only when it is there the old one is removed.
+  It gets another date, record length or codes by being read out, removed and put anew:
+    gdos get disk.img PULS01/DAT
+    gdos rm disk.img PULS01/DAT
+    gdos put disk.img PULS01.DAT --date 1983-10-09 --code 1234H
+  The new file has access level 0 and is not invisible, and F and E are not set, as of every new file.
 ";
 
 /// `gdos --help`.

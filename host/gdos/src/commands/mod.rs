@@ -4,8 +4,10 @@ mod change;
 mod check;
 mod choose;
 mod completion;
+mod cp;
 mod diff;
 mod dump;
+mod find;
 mod free;
 mod geometry;
 mod get;
@@ -86,6 +88,7 @@ pub const COMMANDS: &[Command] = &[
     get::COMMAND,
     load::COMMAND,
     put::COMMAND,
+    cp::COMMAND,
     tar::COMMAND,
     rm::COMMAND,
     undelete::COMMAND,
@@ -101,6 +104,7 @@ pub const COMMANDS: &[Command] = &[
     probe::COMMAND,
     geometry::COMMAND,
     diff::COMMAND,
+    find::COMMAND,
     completion::COMMAND,
     completion::MANUAL,
 ];

@@ -87,6 +87,7 @@ says so. With --date none the directory states no day. Both codes are the open c
 /// A file of the host, read, with its name and its date on the disk.
 pub(super) struct Source {
     pub typed: Typed,
+    /// Where it is from, for messages.
     pub host: String,
     pub bytes: Vec<u8>,
     pub date: Date,
@@ -255,7 +256,7 @@ fn create(opened: &mut Opened, source: &Source, new: &NewFile, force: bool) -> R
 }
 
 /// Puts one file on the disk in memory; answers whether it was there before.
-fn put_one(
+pub(super) fn put_one(
     opened: &mut Opened,
     source: &Source,
     new: &NewFile,

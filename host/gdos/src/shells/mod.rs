@@ -58,7 +58,9 @@ fn words(command: &Command) -> (Place, Place) {
     };
     // What stands behind an option in the usage is its value.
     let mut plain = command.usage.split_whitespace().filter(|word| *word != "[OPTIONS]");
+    // A name that stands before its image cannot be known yet.
     let first = plain.next().map_or(Place::Open, kind);
+    let first = if first == Place::Name { Place::File } else { first };
     let second = plain.next().filter(|word| !word.starts_with('-')).map_or(Place::Open, kind);
     let later = if command.usage.contains("IMAGE...") { Place::File } else { second };
     (first, later)
@@ -101,6 +103,7 @@ mod tests {
         assert_eq!(words("check"), (Place::File, Place::File));
         assert_eq!(words("rescue"), (Place::File, Place::Open));
         assert_eq!(words("free"), (Place::File, Place::Open));
+        assert_eq!((words("cp"), words("find")), ((Place::File, Place::File), (Place::File, Place::File)));
         assert_eq!(words("completion"), (Place::One(vec!["bash", "zsh", "fish"]), Place::Open));
     }
 
