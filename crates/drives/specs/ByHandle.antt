@@ -33,22 +33,43 @@ module _ (p : Pair) where
   abbrev pub changing : DriveHandle → (ℕ → Answer × List ℕ) → DriveAnswer × List ℕ × List ℕ
   changing h call = onDrive (h .drive) (λ n. (answered n (call n .0), leaving p n (call n .1) 0, leaving p n (call n .1) 1)) (unheld h, p .image0, p .image1)
 
+  -- The call on drive n, by what the handle holds -----------------------------------------------------------------------------------
+
+  abbrev pub readOn : DriveHandle → List ℕ → ℕ → Answer × List ℕ
+  readOn h b n = Read.readRecord (geometry p n) (image p n) (h .handle) b
+
+  abbrev pub sectorOn : DriveHandle → ℕ → ℕ → Part
+  sectorOn h k n = Read.readSector (geometry p n) (image p n) (h .handle) k
+
+  abbrev pub writeOn : Mode → DriveHandle → List ℕ → ℕ → Answer × List ℕ
+  writeOn m h b n = Write.writeRecord (geometry p n) (image p n) m (h .handle) b
+
+  abbrev pub allotOn : DriveHandle → ℕ → ℕ → Answer × List ℕ
+  allotOn h k n = Allot.allot (geometry p n) (image p n) (h .handle) k
+
+  abbrev pub trimOn : DriveHandle → ℕ → Answer × List ℕ
+  trimOn h n = Trim.trim (geometry p n) (image p n) (h .handle)
+
+  abbrev pub killOn : DriveHandle → ℕ → Answer × List ℕ
+  killOn h n = Kill.kill (geometry p n) (image p n) (h .handle)
+
+  -- The calls ------------------------------------------------------------------------------------------------------------------------
+
   -- the buffer beside the answer
   unfoldable pub readRecord : DriveHandle → List ℕ → DriveAnswer × List ℕ
-  readRecord h b =
-      onDrive (h .drive) (λ n. let r = Read.readRecord (geometry p n) (image p n) (h .handle) b in (answered n (r .0), r .1)) (unheld h, b)
+  readRecord h b = onDrive (h .drive) (λ n. (answered n (readOn h b n .0), readOn h b n .1)) (unheld h, b)
 
   unfoldable pub readSector : DriveHandle → ℕ → DrivePart
-  readSector h k = onDrive (h .drive) (λ n. partOn n (Read.readSector (geometry p n) (image p n) (h .handle) k)) (noPart noSuchDrive)
+  readSector h k = onDrive (h .drive) (λ n. partOn n (sectorOn h k n)) (noPart noSuchDrive)
 
   unfoldable pub writeRecord : Mode → DriveHandle → List ℕ → DriveAnswer × List ℕ × List ℕ
-  writeRecord m h b = changing h (λ n. Write.writeRecord (geometry p n) (image p n) m (h .handle) b)
+  writeRecord m h b = changing h (writeOn m h b)
 
   unfoldable pub allot : DriveHandle → ℕ → DriveAnswer × List ℕ × List ℕ
-  allot h k = changing h (λ n. Allot.allot (geometry p n) (image p n) (h .handle) k)
+  allot h k = changing h (allotOn h k)
 
   unfoldable pub trim : DriveHandle → DriveAnswer × List ℕ × List ℕ
-  trim h = changing h (λ n. Trim.trim (geometry p n) (image p n) (h .handle))
+  trim h = changing h (trimOn h)
 
   unfoldable pub kill : DriveHandle → DriveAnswer × List ℕ × List ℕ
-  kill h = changing h (λ n. Kill.kill (geometry p n) (image p n) (h .handle))
+  kill h = changing h (killOn h)

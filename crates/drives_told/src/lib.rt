@@ -14,7 +14,7 @@ ghost use mathlib.Core.Path.{_≡_};
 ghost use Prim.Native.Nat.{_≤_};
 ghost use Rattle.drives.specs.Pair.{noSuchDrive, ofDisk, naming′, faultDrive, ofBoth, driveOf, answered};
 ghost use Rattle.drives.specs.ByName.{lookedUpOn, openedOn, createdOn, notLookedUp, notOpened, notCreated};
-ghost use Rattle.drives.specs.ByHandle.{unheld, partOn};
+ghost use Rattle.drives.specs.ByHandle.{unheld, partOn, noPart};
 
 // told where a refusal names no drive
 pub const NO_DRIVE: usize = 2;
@@ -176,6 +176,18 @@ pub fn not_created(c: Refusal) -> DriveCreated
         refusal: c,
         old: false,
         handle: handle_on(0, look_up::no_handle()),
+    }
+}
+
+// The empty part at place 0 of drive 0's image.
+pub fn no_part(c: Refusal) -> DrivePart
+    ensures { λ r. ⌜ r ≡ noPart c ⌝ }
+{
+    DrivePart {
+        refusal: c,
+        drive: 0,
+        from: 0,
+        to: 0,
     }
 }
 
