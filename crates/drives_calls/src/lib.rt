@@ -89,8 +89,8 @@ pub fn open_file(
     if checked.number != 0 {
         return drives_told::not_opened(checked);
     }
-    let l0 = look_up::look_up_checked(image0, g0, name, checked0);
-    if l0.refusal.number != 4 {
+    let found = look_up::look_up_checked(image0, g0, name, checked0);
+    if found.refusal.number != 4 {
         return drives_told::opened_on(
             0,
             look_up::open_checked(image0, g0, name, len, checking, code, checked0),
@@ -116,12 +116,12 @@ fn takes(
     requires { ⌜ («checked0» ≡ check g0 (now image0)) × («checked0» .number ≡ 0) × («checked1» ≡ check g1 (now image1)) ⌝ }
     ensures { λ r. ⌜ r ≡ takes (pair g0 (now (image0 .entry)) g1 (now (image1 .entry))) (now (name .entry)) ⌝ }
 {
-    let l0 = look_up::look_up_checked(image0, g0, name, checked0);
-    if l0.refusal.number != 4 {
+    let first = look_up::look_up_checked(image0, g0, name, checked0);
+    if first.refusal.number != 4 {
         return 0;
     }
-    let l1 = look_up::look_up_checked(image1, g1, name, checked1);
-    if l1.refusal.number != 4 {
+    let second = look_up::look_up_checked(image1, g1, name, checked1);
+    if second.refusal.number != 4 {
         return 1;
     }
     if space::first_free_slot(image0, g0) == 256 {

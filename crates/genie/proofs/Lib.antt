@@ -1,3 +1,4 @@
 pub mod Laws
 pub mod Compared
 pub mod Program
+pub mod Drives
