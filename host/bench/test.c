@@ -637,7 +637,8 @@ static void any_arguments(size_t step)
     memcpy(before, image, image_len);
     const uint8_t anywhere = fast_check(image, image_len, g.blocks, g.units, ODD, 0, true, g.granule, &fault_slot);
     if (anywhere > 1 && (anywhere < GENIE_FAULT_DIRECTORY_LENGTH || anywhere > GENIE_FAULT_DIRECTORY_GRANULE)) fail("geometry", step);
-    (void)fast_check(image, image_len, ODD, ODD, ODD, 0, true, ODD, &fault_slot);
+    const uint8_t any = fast_check(image, image_len, ODD, ODD, ODD, 0, true, ODD, &fault_slot);
+    if (any > 1 && (any < GENIE_FAULT_DIRECTORY_LENGTH || any > GENIE_FAULT_DIRECTORY_GRANULE)) fail("any geometry", step);
     const size_t other = ODD;
     if (other != g.start && other % g.granule && fast_check(image, image_len, g.blocks, g.units, other, 0, true, g.granule, &fault_slot) != 1)
         fail("start", step);

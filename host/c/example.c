@@ -1,4 +1,4 @@
-/* A host in C: a full-size disk in memory, and one file's life on it, by the calls of genie.h.
+/* A host in C: a full-size disk in memory, and one file's life on it, by the calls of genie_disk.h.
  * Prints what it does. Exit status 0 only if every step answers as genie.h says. */
 #include "genie.h"
 
@@ -7,14 +7,11 @@
 #include <string.h>
 
 /* The largest disk of granules of 5 sectors: 192 blocks of 8 units, the directory of 10 sectors in its middle. */
-enum { BLOCKS = 192, UNITS = 8, GRANULE_SECTORS = 5, START = 3840, DIRECTORY_SECTORS = 10, OPEN_CODE = 0x9642 };
-enum { IMAGE_BYTES = BLOCKS * UNITS * GENIE_GRANULE_BYTES(GRANULE_SECTORS) };
-#define SYSTEM_DISK BLOCKS, UNITS, START, OPEN_CODE, true, GRANULE_SECTORS
-#define DISK image, (size_t)IMAGE_BYTES, SYSTEM_DISK
-#define BEFORE before, (size_t)IMAGE_BYTES, SYSTEM_DISK
-#define AS_DATA_DISK image, (size_t)IMAGE_BYTES, BLOCKS, UNITS, START, OPEN_CODE, false, GRANULE_SECTORS
+static const struct genie_geometry LARGEST = {
+    .blocks = 192, .units = 8, .start = 3840, .open_code = 0x9642, .system_disk = true, .granule_sectors = 5
+};
+enum { DIRECTORY_SECTORS = 10, GRANULES = 192 * 8, LOADER = 0 };
 
-static uint8_t *image;
 static int wrong;
 
 /* Says what was done and what came back, and remembers where that is not as it should be. */
@@ -25,30 +22,18 @@ static void step(const char *what, unsigned answer, unsigned expected, int as_do
     wrong += !good;
 }
 
-/* An empty consistent disk: all of the directory zero, its granules and the first one (for the loader) taken. */
-static void make_disk(void)
+/* What a check says of the same bytes under another geometry. */
+static uint8_t checked_as(const struct genie_disk *disk, struct genie_geometry geometry, size_t *fault_slot)
 {
-    uint8_t *const gat = image + START * GENIE_SECTOR_BYTES;
-    memset(image, 0xE5, IMAGE_BYTES); /* what a formatted sector holds */
-    memset(gat, 0, DIRECTORY_SECTORS * GENIE_SECTOR_BYTES);
-    gat[0] = 1;
-    for (size_t granule = START / GRANULE_SECTORS; granule * GRANULE_SECTORS < START + DIRECTORY_SECTORS; granule++)
-        gat[granule / UNITS] |= (uint8_t)(1u << granule % UNITS);
+    struct genie_disk other = *disk;
+    other.geometry = geometry;
+    const uint8_t answer = genie_disk_check(&other);
+    *fault_slot = other.fault_slot;
+    return answer;
 }
 
-static void set_position(uint8_t *handle, uint32_t position)
-{
-    for (unsigned i = 0; i < 4; i++) handle[4 + i] = (uint8_t)(position >> 8 * i);
-}
-
-static uint32_t position_of(const uint8_t *handle)
-{
-    uint32_t position = 0;
-    for (unsigned i = 0; i < 4; i++) position |= (uint32_t)handle[4 + i] << 8 * i;
-    return position;
-}
-
-/* A recorded session: one name; create it with record length 256, write the byte 41H three times at position 0, kill it, kill it; the end. */
+/* A recorded session: one name; create it with record length 256, write the byte 41H three times at position 0, kill it, kill it; the
+ * end. */
 static const uint8_t SESSION[] = {
     1, 'A', ' ', ' ', ' ', ' ', ' ', ' ', ' ', ' ', ' ', ' ',
     0x20, 0, 0, 0, 0x80, 0, 0,  0x40, 0, 0, 0, 0x01, 0xA0, 0x80,  0xC0, 0, 0, 0, 0, 0, 0,  0xC0, 0, 0, 0, 0, 0, 0,  0, 0, 0, 0, 0, 0, 0
@@ -56,137 +41,189 @@ static const uint8_t SESSION[] = {
 
 int main(void)
 {
-    const uint8_t *const name = (const uint8_t *)"PULS01  DAT"; /* PULS01/DAT, 11 bytes */
-    const uint8_t *const small = (const uint8_t *)"puls01  dat";
-    const uint8_t zeros[GENIE_HANDLE_BYTES] = { 0 };
-    uint8_t handle[GENIE_HANDLE_BYTES], record[256], back[256], told[GENIE_NAME_BYTES];
-    size_t old, slot, compared, from, to, size, slots, granules, more, files, left, longest, which, kind, position, flags, place, fault;
-    size_t calls, byte, bit;
-    uint8_t results[4];
+    const struct genie_handle zeros = { { 0 } };
+    const size_t loader[] = { LOADER }, none[] = { GRANULES };
+    struct genie_filename name, small, bad = { "puls_1  dat" };
+    struct genie_disk disk = { .geometry = LARGEST, .image_len = genie_image_bytes(LARGEST) }, before;
+    struct genie_new_file october = genie_new_file_on(LARGEST, 1983, 10, 9);
+    struct genie_handle handle, refused;
+    struct genie_listed listed;
+    struct genie_differing difference;
+    struct genie_played played;
+    struct genie_geometry geometry;
+    uint8_t record[256], back[256], results[4];
+    size_t old, slot, compared, slots, granules, more, files, left, longest, fault, count;
+    const uint8_t *sector;
+    char text[13];
 
-    image = malloc(IMAGE_BYTES);
-    uint8_t *const before = malloc(IMAGE_BYTES);
-    if (!image || !before) {
+    disk.image = malloc(disk.image_len);
+    before = disk;
+    before.image = malloc(before.image_len);
+    if (!disk.image || !before.image) {
         fputs("no memory for the disk\n", stderr);
         return 1;
     }
-    make_disk();
-    uint8_t answer = genie_check(DISK, &fault);
-    step("check an empty disk of 1,966,080 bytes: no slot is at fault", answer, GENIE_DONE, fault == GENIE_NO_SLOT);
-    answer = genie_check(image, IMAGE_BYTES, BLOCKS - 1, UNITS, START, OPEN_CODE, true, GRANULE_SECTORS, &fault);
-    step("check it with a wrong number of blocks", answer, GENIE_GEOMETRY, 1);
-    answer = genie_check(image, IMAGE_BYTES, BLOCKS / 2, UNITS, START, OPEN_CODE, true, 10, &fault);
-    step("check it as 96 blocks with granules of 10 sectors: the directory's is free", answer, GENIE_FAULT_DIRECTORY_GRANULE, fault == GENIE_NO_SLOT);
-    answer = genie_check(image, IMAGE_BYTES, BLOCKS / 3, UNITS, START, OPEN_CODE, true, 15, &fault);
-    step("check it with granules of 15 sectors: there are none", answer, GENIE_GEOMETRY, 1);
-    answer = genie_play(DISK, SESSION, sizeof SESSION - 7, results, sizeof results, &calls, &byte, &bit, &fault);
-    step("play back a session that breaks off", answer, GENIE_TRACE, calls == 0 && byte == sizeof SESSION - 7 && bit == 0);
-    answer = genie_play(DISK, SESSION, sizeof SESSION, results, sizeof results, &calls, &byte, &bit, &fault);
+    memset(disk.image, 0, disk.image_len);
+    uint8_t answer = genie_disk_format(&disk, 12, loader, 1);
+    step("format it with a directory of 12 sectors: there is none such", answer, GENIE_FAULT_DIRECTORY_LENGTH, disk.image[0] == 0);
+    answer = genie_disk_format(&disk, DIRECTORY_SECTORS, none, 1);
+    step("format it with a granule reserved that it has not", answer, GENIE_RANGE, disk.image[0] == 0);
+    answer = genie_disk_format(&disk, DIRECTORY_SECTORS, loader, 1);
+    step("format a disk of 1,966,080 bytes, the first granule kept for the loader", answer, GENIE_DONE, disk.image[0] == 0xE5);
+    answer = genie_disk_check(&disk);
+    step("check it: no slot is at fault", answer, GENIE_DONE, disk.fault_slot == GENIE_NO_SLOT);
+    geometry = LARGEST;
+    geometry.blocks = 191;
+    step("check it with a wrong number of blocks", checked_as(&disk, geometry, &fault), GENIE_GEOMETRY,
+         genie_image_bytes(geometry) == disk.image_len / 192 * 191);
+    geometry.blocks = 96;
+    geometry.granule_sectors = 10;
+    answer = checked_as(&disk, geometry, &fault);
+    step("check it as 96 blocks with granules of 10 sectors: the directory's is free", answer, GENIE_FAULT_DIRECTORY_GRANULE,
+         fault == GENIE_NO_SLOT);
+    geometry.blocks = 64;
+    geometry.granule_sectors = 15;
+    step("check it with granules of 15 sectors: there are none", checked_as(&disk, geometry, &fault), GENIE_GEOMETRY,
+         !genie_image_bytes(geometry));
+    answer = genie_disk_play(&disk, SESSION, sizeof SESSION - 7, results, sizeof results, &played);
+    step("play back a session that breaks off", answer, GENIE_TRACE,
+         played.calls == 0 && played.byte == sizeof SESSION - 7 && played.bit == 0);
+    answer = genie_disk_play(&disk, SESSION, sizeof SESSION, results, sizeof results, &played);
     step("play it back: create A, write AAA, kill A twice: it is not found", answer, GENIE_DONE,
-         calls == 4 && byte == 0 && !memcmp(results, ((const uint8_t[]){0, 0, 0, GENIE_NOT_FOUND}), sizeof results));
-    answer = genie_count(DISK, &files, &left, &fault);
-    step("count: no file, 1,533 granules free", answer, GENIE_DONE, files == 0 && left == BLOCKS * UNITS - 3);
-    answer = genie_free(DISK, &left, &longest);
-    step("free space: the same, 767 of them in a row", answer, GENIE_DONE, left == BLOCKS * UNITS - 3 && longest == START / GRANULE_SECTORS - 1);
+         played.calls == 4 && played.byte == 0 && !memcmp(results, ((const uint8_t[]){0, 0, 0, GENIE_NOT_FOUND}), sizeof results));
+    answer = genie_disk_count(&disk, &files, &left);
+    step("count: no file, 1,533 granules free", answer, GENIE_DONE, files == 0 && left == GRANULES - 3);
+    answer = genie_disk_free(&disk, &left, &longest);
+    step("free space: the same, 767 of them in a row", answer, GENIE_DONE, left == GRANULES - 3 && longest == 767);
 
-    memset(handle, 0xFF, sizeof handle);
-    answer = genie_open(DISK, name, GENIE_NAME_BYTES, 256, true, 0, handle, sizeof handle, &place, &fault);
-    step("open PULS01/DAT before it is there: a handle of zeros", answer, GENIE_NOT_FOUND, !memcmp(handle, zeros, sizeof zeros));
-    answer = genie_create(DISK, name, GENIE_NAME_BYTES, 9, 10, 3, 256, OPEN_CODE, OPEN_CODE, true, &old, handle, sizeof handle, &place,
-                          &fault);
-    step("create it, dated 9 October 1983, records of 256 bytes", answer, GENIE_DONE, old == 0 && handle[1] == 0 && position_of(handle) == 0);
-    answer = genie_look_up(DISK, name, GENIE_NAME_BYTES, &slot, &compared, &place, &fault);
-    step("look it up: slot 80H, the first that is not kept; one compared", answer, GENIE_DONE, slot == 0x80 && slot == handle[0] && compared == 1);
-    answer = genie_look_up(DISK, small, GENIE_NAME_BYTES, &slot, &compared, &place, &fault);
-    step("look it up in small letters: the same", answer, GENIE_DONE, slot == handle[0] && place == GENIE_NO_PLACE);
-    answer = genie_name(small, GENIE_NAME_BYTES, told, sizeof told, &place);
-    step("ask what the small letters are taken for", answer, GENIE_DONE, !memcmp(told, name, sizeof told) && place == GENIE_NO_PLACE);
-    answer = genie_open(DISK, (const uint8_t *)"puls_1  dat", GENIE_NAME_BYTES, 256, true, 0, back, GENIE_HANDLE_BYTES, &place, &fault);
-    step("open puls_1/dat: the byte at place 4 is none that a name can have", answer, GENIE_NAME, place == 4 && fault == GENIE_NO_SLOT);
+    answer = genie_filename_from(&name, "PULS01/DAT");
+    step("the name PULS01/DAT", answer, GENIE_DONE, !memcmp(name.bytes, "PULS01  DAT", sizeof name.bytes));
+    answer = genie_filename_from(&small, "puls01.dat");
+    step("the name puls01.dat: the same", answer, GENIE_DONE, !memcmp(&small, &name, sizeof small));
+    genie_filename_text(&name, '.', text);
+    step("the name as on a host", 0, GENIE_DONE, !strcmp(text, "PULS01.DAT"));
+    answer = genie_filename_from(&small, "puls01/data");
+    step("the name puls01/data: a type has three bytes", answer, GENIE_NAME, !memcmp(&small, &name, sizeof small));
+    memcpy(small.bytes, "puls01  dat", sizeof small.bytes);
+
+    memset(&handle, 0xFF, sizeof handle);
+    answer = genie_disk_open(&disk, &name, 256, genie_code(0), &handle);
+    step("open PULS01/DAT before it is there: a handle of zeros", answer, GENIE_NOT_FOUND, !memcmp(&handle, &zeros, sizeof zeros));
+    answer = genie_disk_create(&disk, &name, &october, &old, &handle);
+    step("create it, dated 9 October 1983, records of 256 bytes", answer, GENIE_DONE,
+         old == 0 && genie_handle_level(&handle) == 0 && genie_handle_position(&handle) == 0 && genie_handle_record_length(&handle) == 256);
+    answer = genie_disk_look_up(&disk, &name, &slot, &compared);
+    step("look it up: slot 80H, the first that is not kept; one compared", answer, GENIE_DONE,
+         slot == 0x80 && slot == genie_handle_slot(&handle) && compared == 1);
+    answer = genie_disk_look_up(&disk, &small, &slot, &compared);
+    step("look it up in small letters: the same", answer, GENIE_DONE, slot == genie_handle_slot(&handle) && disk.place == GENIE_NO_PLACE);
+    answer = genie_disk_open(&disk, &bad, 256, genie_unchecked(), &refused);
+    step("open puls_1/dat: the byte at place 4 is none that a name can have", answer, GENIE_NAME,
+         disk.place == 4 && disk.fault_slot == GENIE_NO_SLOT);
+    october.year = 1979;
+    answer = genie_disk_create(&disk, &name, &october, &old, &refused);
+    step("create it with a date in 1979: out of range", answer, GENIE_RANGE, !memcmp(&refused, &zeros, sizeof zeros));
+    october.year = 1983;
 
     unsigned written = 0;
     for (unsigned i = 0; i < 20 && !written; i++) {
         memset(record, (int)(i + 1), sizeof record);
-        written = genie_write_record(DISK, handle, sizeof handle, true, record, sizeof record, &fault);
+        written = genie_disk_write_record(&disk, &handle, true, record, sizeof record);
     }
-    step("write 20 records one after the other", written, GENIE_DONE, position_of(handle) == 20 * 256);
-    answer = genie_list(DISK, 0, told, sizeof told, &size, &granules, &more, &fault);
-    step("list: PULS01/DAT, 5,120 bytes, 4 granules", answer, GENIE_DONE, more == 1 && size == 5120 && granules == 4 && !memcmp(told, name, sizeof told));
+    step("write 20 records one after the other", written, GENIE_DONE, genie_handle_position(&handle) == 20 * 256);
+    answer = genie_disk_list(&disk, 0, &listed, &more);
+    step("list: PULS01/DAT, 5,120 bytes, 4 granules", answer, GENIE_DONE,
+         more == 1 && listed.size == 5120 && listed.granules == 4 && !memcmp(&listed.name, &name, sizeof name));
 
-    set_position(handle, 1000000);
-    answer = genie_write_record(DISK, handle, sizeof handle, false, record, sizeof record, &fault);
-    step("write one at position 1,000,000", answer, GENIE_DONE, position_of(handle) == 1000256);
-    set_position(handle, 256 * 7);
-    answer = genie_read_record(DISK, handle, sizeof handle, back, sizeof back, &fault);
+    genie_handle_seek(&handle, 1000000);
+    answer = genie_disk_write_record(&disk, &handle, false, record, sizeof record);
+    step("write one at position 1,000,000", answer, GENIE_DONE, genie_handle_position(&handle) == 1000256);
+    genie_handle_seek(&handle, 256 * 7);
+    answer = genie_disk_read_record(&disk, &handle, back, sizeof back);
     memset(record, 8, sizeof record);
-    step("read back the eighth record", answer, GENIE_DONE, !memcmp(back, record, sizeof back) && position_of(handle) == 256 * 8);
-    set_position(handle, 500000);
-    answer = genie_read_record(DISK, handle, sizeof handle, back, sizeof back, &fault);
+    step("read back the eighth record", answer, GENIE_DONE,
+         !memcmp(back, record, sizeof back) && genie_handle_position(&handle) == 256 * 8);
+    genie_handle_seek(&handle, 500000);
+    answer = genie_disk_read_record(&disk, &handle, back, sizeof back);
     memset(record, 0, sizeof record);
     step("read in the gap: zeros", answer, GENIE_DONE, !memcmp(back, record, sizeof back));
-    set_position(handle, 1000001);
+    genie_handle_seek(&handle, 1000001);
     memcpy(record, back, sizeof record);
-    answer = genie_read_record(DISK, handle, sizeof handle, back, sizeof back, &fault);
-    step("read past the size: buffer and position stay", answer, GENIE_PAST_END, !memcmp(back, record, sizeof back) && position_of(handle) == 1000001);
-    answer = genie_read_sector(DISK, handle, sizeof handle, 3907, &from, &to, &fault);
-    step("read the last sector, 64 bytes of it, in place", answer, GENIE_DONE, to - from == 64 && image[from] == 20 && image[to - 1] == 20);
-    answer = genie_check(DISK, &fault);
+    answer = genie_disk_read_record(&disk, &handle, back, sizeof back);
+    step("read past the size: buffer and position stay", answer, GENIE_PAST_END,
+         !memcmp(back, record, sizeof back) && genie_handle_position(&handle) == 1000001);
+    genie_handle_seek(&handle, SIZE_MAX);
+    answer = genie_disk_read_record(&disk, &handle, back, sizeof back);
+    step("read at a position that no file has", answer, GENIE_RANGE, genie_handle_position(&handle) == UINT32_MAX);
+    genie_handle_seek(&handle, 0);
+    answer = genie_disk_read_sector(&disk, &handle, 3907, &sector, &count);
+    step("read the last sector, 64 bytes of it, in place", answer, GENIE_DONE, count == 64 && sector[0] == 20 && sector[63] == 20);
+    answer = genie_disk_check(&disk);
     step("check the disk", answer, GENIE_DONE, 1);
-    memcpy(before, image, IMAGE_BYTES);
+    memcpy(before.image, disk.image, disk.image_len);
 
-    set_position(handle, 0);
-    answer = genie_write_record(DISK, handle, sizeof handle, true, record, sizeof record, &fault);
+    answer = genie_disk_write_record(&disk, &handle, true, record, sizeof record);
     step("a sequential write at 0 shortens it to 256 bytes", answer, GENIE_DONE, 1);
-    answer = genie_trim(DISK, handle, sizeof handle, &fault);
+    answer = genie_disk_trim(&disk, &handle);
     step("trim it", answer, GENIE_DONE, 1);
-    answer = genie_allot(DISK, handle, sizeof handle, 99, &fault);
+    answer = genie_disk_allot(&disk, &handle, 99);
     step("allot it space to sector 99", answer, GENIE_DONE, 1);
-    answer = genie_list(DISK, 0, told, sizeof told, &size, &granules, &more, &fault);
-    step("list: 256 bytes, 20 granules", answer, GENIE_DONE, more == 1 && size == 256 && granules == 20);
-    answer = genie_list(DISK, 1, told, sizeof told, &size, &granules, &more, &fault);
-    step("list on: no more", answer, GENIE_DONE, more == 0 && size == 0 && granules == 0);
-    answer = genie_allot(DISK, handle, sizeof handle, GENIE_HIGHEST_SECTOR(GRANULE_SECTORS), &fault);
-    step("allot it the whole disk: more than is free", answer, GENIE_DISK_FULL, 1);
+    answer = genie_disk_list(&disk, 0, &listed, &more);
+    step("list: 256 bytes, 20 granules", answer, GENIE_DONE, more == 1 && listed.size == 256 && listed.granules == 20);
+    answer = genie_disk_list(&disk, 1, &listed, &more);
+    step("list on: no more", answer, GENIE_DONE, more == 0 && listed.size == 0 && listed.granules == 0);
+    answer = genie_disk_allot(&disk, &handle, GENIE_HIGHEST_SECTOR(LARGEST.granule_sectors));
+    step("allot it the whole disk: more than is free", answer, GENIE_DISK_FULL, !strcmp(genie_message(answer), "too few granules free"));
 
-    answer = genie_compare(BEFORE, DISK, 0, told, sizeof told, &which, &kind, &position, &flags, &fault);
+    answer = genie_disk_compare(&before, &disk, 0, &difference);
     step("compare with the disk before: PULS01/DAT from byte 0 on, and its size", answer, GENIE_DONE,
-         kind == GENIE_UNLIKE && position == 0 && flags == (GENIE_SIZE_DIFFERS | GENIE_CONTENTS_DIFFER) && !memcmp(told, name, sizeof told));
-    answer = genie_compare(BEFORE, DISK, 1, told, sizeof told, &which, &kind, &position, &flags, &fault);
-    step("compare on: no more", answer, GENIE_DONE, kind == GENIE_NO_MORE && which == 0 && position == 0 && flags == 0);
+         difference.kind == GENIE_UNLIKE && difference.position == 0 && difference.flags == (GENIE_SIZE_DIFFERS | GENIE_CONTENTS_DIFFER)
+             && !memcmp(&difference.name, &name, sizeof name));
+    answer = genie_disk_compare(&before, &disk, 1, &difference);
+    step("compare on: no more", answer, GENIE_DONE,
+         difference.kind == GENIE_NO_MORE && difference.image == 0 && difference.position == 0 && difference.flags == 0);
 
-    answer = genie_kill(DISK, handle, sizeof handle, &fault);
+    answer = genie_disk_kill(&disk, &handle);
     step("kill it", answer, GENIE_DONE, 1);
-    answer = genie_kill(DISK, handle, sizeof handle, &fault);
+    answer = genie_disk_kill(&disk, &handle);
     step("kill it once more: the handle is stale", answer, GENIE_STALE, 1);
-    answer = genie_bring_back(DISK, handle[0], &slots, &granules, &fault);
+    answer = genie_disk_bring_back(&disk, genie_handle_slot(&handle), &slots, &granules);
     step("bring it back: 1 slot, 20 granules", answer, GENIE_DONE, slots == 1 && granules == 20);
-    answer = genie_bring_back(DISK, handle[0], &slots, &granules, &fault);
+    answer = genie_disk_bring_back(&disk, genie_handle_slot(&handle), &slots, &granules);
     step("bring it back once more: its slot is in use", answer, GENIE_SLOT_IN_USE, slots == 0 && granules == 0);
-    answer = genie_kill(DISK, handle, sizeof handle, &fault);
+    answer = genie_disk_kill(&disk, &handle);
     step("kill it again: its handle is good once more", answer, GENIE_DONE, 1);
-    answer = genie_create(AS_DATA_DISK, name, GENIE_NAME_BYTES, 9, 10, 3, 256, OPEN_CODE, OPEN_CODE, true, &old, handle, sizeof handle, &place,
-                          &fault);
-    step("create it as on a data disk: slot 02H, the first that is not kept", answer, GENIE_DONE, old == 0 && handle[0] == 0x02);
-    answer = genie_check(DISK, &fault);
-    step("check it as a system disk", answer, GENIE_DONE, fault == GENIE_NO_SLOT);
-    answer = genie_kill(DISK, handle, sizeof handle, &fault);
+    disk.geometry.system_disk = false;
+    answer = genie_disk_create(&disk, &name, &october, &old, &handle);
+    step("create it as on a data disk: slot 02H, the first that is not kept", answer, GENIE_DONE,
+         old == 0 && genie_handle_slot(&handle) == 0x02);
+    disk.geometry.system_disk = true;
+    answer = genie_disk_check(&disk);
+    step("check it as a system disk", answer, GENIE_DONE, disk.fault_slot == GENIE_NO_SLOT);
+    answer = genie_disk_kill(&disk, &handle);
     step("kill it there", answer, GENIE_DONE, 1);
-    answer = genie_count(DISK, &files, &left, &fault);
-    step("count: no file, 1,533 granules free", answer, GENIE_DONE, files == 0 && left == BLOCKS * UNITS - 3);
-    image[START * GENIE_SECTOR_BYTES + GENIE_SECTOR_BYTES + 0x80] = 0xA2; /* slot 80H is not in use */
-    answer = genie_check(DISK, &fault);
-    step("check after a byte of the HIT was damaged: slot 80H is at fault", answer, GENIE_FAULT_HIT, fault == 0x80);
-    answer = genie_free(DISK, &left, &longest);
-    step("free space is told all the same", answer, GENIE_DONE, left == BLOCKS * UNITS - 3 && longest > 0);
-    answer = genie_compare(BEFORE, DISK, 0, told, sizeof told, &which, &kind, &position, &flags, &fault);
-    step("compare with it: the second image is refused, by that slot", answer, GENIE_FAULT_HIT, which == 2 && kind == GENIE_NO_MORE && fault == 0x80);
-    image[START * GENIE_SECTOR_BYTES + GENIE_SECTOR_BYTES + 0x80] = 0;
-    image[START * GENIE_SECTOR_BYTES + START / GRANULE_SECTORS / UNITS] = 0;
-    answer = genie_count(DISK, &files, &left, &fault);
-    step("count where the GAT marks the directory as free: no slot is at fault", answer, GENIE_FAULT_DIRECTORY_GRANULE, fault == GENIE_NO_SLOT);
+    answer = genie_disk_count(&disk, &files, &left);
+    step("count: no file, 1,533 granules free", answer, GENIE_DONE, files == 0 && left == GRANULES - 3);
 
-    free(before);
-    free(image);
+    uint8_t *const gat = disk.image + LARGEST.start * GENIE_SECTOR_BYTES, *const hit = gat + GENIE_SECTOR_BYTES;
+    hit[0x80] = 0xA2; /* slot 80H is not in use */
+    answer = genie_disk_check(&disk);
+    step("check after a byte of the HIT was damaged: slot 80H is at fault", answer, GENIE_FAULT_HIT, disk.fault_slot == 0x80);
+    answer = genie_disk_free(&disk, &left, &longest);
+    step("free space is told all the same", answer, GENIE_DONE, left == GRANULES - 3 && longest > 0);
+    answer = genie_disk_compare(&before, &disk, 0, &difference);
+    step("compare with it: the second image is refused, by that slot", answer, GENIE_FAULT_HIT,
+         difference.image == 2 && difference.kind == GENIE_NO_MORE && disk.fault_slot == 0x80 && before.fault_slot == GENIE_NO_SLOT);
+    hit[0x80] = 0;
+    gat[LARGEST.start / LARGEST.granule_sectors / LARGEST.units] = 0;
+    answer = genie_disk_count(&disk, &files, &left);
+    step("count where the GAT marks the directory as free: no slot is at fault", answer, GENIE_FAULT_DIRECTORY_GRANULE,
+         disk.fault_slot == GENIE_NO_SLOT);
+    answer = genie_check(disk.image, disk.image_len, 192, 8, 3840, 0x9642, true, 5, &fault);
+    step("the same by the call itself, its eight numbers in their order", answer, GENIE_FAULT_DIRECTORY_GRANULE, fault == GENIE_NO_SLOT);
+
+    free(before.image);
+    free(disk.image);
     if (wrong) printf("%d steps not as documented\n", wrong);
     else printf("every step as documented\n");
     return wrong ? 1 : 0;

@@ -5,6 +5,9 @@ mod archive;
 fn main() {
     println!("cargo::rerun-if-changed=build.rs");
     println!("cargo::rerun-if-changed=archive.rs");
+    // For packages with C of their own that stand on this one (DEP_GENIE_INCLUDE): where genie.h is.
+    let folder = std::env::var("CARGO_MANIFEST_DIR").expect("cargo tells the crate's folder");
+    println!("cargo::metadata=include={folder}/../include");
     let Some(dir) = archive::folder() else { return };
     let library = dir.join("libgenie.a");
     let Ok(content) = std::fs::read(&library) else {

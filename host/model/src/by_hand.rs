@@ -1,13 +1,13 @@
 //! Disks made by hand, an entry at a time, and what every library must tell of them.
 
-use crate::calls::{Number, ACCEPTED};
+use crate::binding::libraries;
+use crate::calls::{Number, ACCEPTED, NO_SLOT};
 use crate::directory::{
     entry, hit_place, put_entry, set_taken, Entry, Pair, ENTRY_BYTES, EXTENSION_FLAGS, MARKER_LINK,
 };
 use crate::disks::Disk;
 use crate::fault::Kind;
 use crate::geometry::Geometry;
-use crate::library::{libraries, NO_SLOT};
 use crate::names::{hash, name};
 
 /// A run: its first granule, and how many there are.

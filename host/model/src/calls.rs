@@ -5,7 +5,7 @@ use crate::consistency::consistent;
 use crate::directory::{
     chain, directory_sectors, entry, files, hit, hit_place, owned, put_entry, set_taken, slots, Entry, ENTRY_BYTES,
 };
-use crate::fault::fault;
+use crate::fault::{self, fault};
 use crate::geometry::{Geometry, SECTOR_BYTES};
 use crate::handle::{good_length, Handle, HANDLE_BYTES};
 use crate::names::{comes_in, hash, Name, FULL_NAME_BYTES};
@@ -23,6 +23,8 @@ pub const RANGE: Number = 12;
 pub const NAME: Number = 3;
 /// What the place is where there is none to tell: of an accepted call, and under every number but 3.
 pub const NO_PLACE: usize = FULL_NAME_BYTES;
+/// What the fault's slot is where there is none to tell.
+pub const NO_SLOT: usize = 256;
 /// "handle stale"
 pub const STALE: Number = 7;
 /// "name not found (open, look up)"
@@ -63,6 +65,13 @@ pub(crate) fn tested(image: &[u8], g: &Geometry) -> Result<usize, Number> {
 
 pub(crate) fn number(answer: Result<(), Number>) -> Number {
     answer.err().unwrap_or(ACCEPTED)
+}
+
+/// Beside a number of a fault, its slot (02 §2): a refused call has left the image as it was.
+pub(crate) fn with_slot(number: Number, image: &[u8], g: &Geometry, fault_slot: &mut usize) -> Number {
+    let told = fault::numbers().contains(&number).then(|| fault(image, g).expect("refused for it"));
+    *fault_slot = told.and_then(|fault| fault.slot).map_or(NO_SLOT, usize::from);
+    number
 }
 
 /// Row 3 of a call by name: the name as it comes in, or 3 and its place.

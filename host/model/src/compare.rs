@@ -15,7 +15,8 @@ use crate::directory::{
 use crate::disks::{random_disk, Disk};
 use crate::geometry::{Geometry, SECTOR_BYTES};
 use crate::handle::{Handle, HANDLE_BYTES};
-use crate::library::{Library, Model};
+use crate::library::Library;
+use crate::model::Model;
 use crate::names::{fold, written, FULL_NAME_BYTES};
 use crate::pairs::{holding, side, tell, Side, Told, CHANGES};
 use crate::plain::files_of;

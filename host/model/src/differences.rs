@@ -1,7 +1,7 @@
 //! Request 02, §1: "Compare two images." Written from the request's words and the settled points, slowly: all
 //! differences are worked out and put in order, and the one with the number asked for is told.
 
-use crate::calls::{check, Number, ACCEPTED, RANGE};
+use crate::calls::{check, with_slot, Number, ACCEPTED, RANGE};
 use crate::geometry::Geometry;
 use crate::names::{Name, FULL_NAME_BYTES};
 use crate::plain::{files_of, Attributes, File};
@@ -105,10 +105,11 @@ pub fn compare(
     kind: &mut usize,
     position: &mut usize,
     flags: &mut usize,
+    fault_slot: &mut usize,
 ) -> Number {
     (*image, *kind, *position, *flags) = (NO_IMAGE, NO_MORE, 0, 0);
     for (which, bytes, geometry) in [(FIRST, first, g), (SECOND, second, h)] {
-        let refusal = check(bytes, geometry);
+        let refusal = with_slot(check(bytes, geometry), bytes, geometry, fault_slot);
         if refusal != ACCEPTED {
             *image = which;
             return refusal;

@@ -17,12 +17,20 @@ pub mod space;
 
 // The model: request 02.
 pub mod differences;
+pub mod load;
+pub mod plain;
 pub mod play;
 
-// The library under test.
-pub mod binding;
+// The library under test: the table of its exports, which is the wrapper's and laid out under that crate's width of lines;
+// the interface made of it; the model, the library and a recorder behind that interface.
+#[rustfmt::skip]
+#[macro_use]
+#[path = "../../rust/src/sys.rs"]
+mod sys;
+#[macro_use]
 pub mod library;
-pub mod load;
+pub mod binding;
+pub mod model;
 pub mod record;
 
 // Disks made by hand; disks and calls made up at random, and the comparison.
@@ -32,7 +40,7 @@ pub mod caller;
 pub mod compare;
 pub mod damage;
 pub mod disks;
+pub mod effect;
 pub mod interleave;
 pub mod pairs;
-pub mod plain;
 pub mod random;

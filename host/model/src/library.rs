@@ -1,357 +1,95 @@
-//! The exported interface as a trait, so that the same tests run on the model and on the library.
+//! The exported interface as a trait, made of the table in `sys`, so that the same tests run on the model and on the library.
 //! Whoever implements it sets every outgoing number, also under a refusal: `fault_slot` last, the slot of the disk's fault
 //! (02 §2) where one was told, else 256; before it, in calls by name, the `place` of the first bad byte (02 §7) under 3, else
 //! 11.
 
-use crate::bring_back;
-use crate::calls::{self, Birth, Number};
-use crate::differences;
-use crate::fault::{self, fault};
+use crate::calls::{Birth, Number};
 use crate::geometry::Geometry;
-use crate::load;
-use crate::play;
-use std::rc::Rc;
 
-#[allow(clippy::too_many_arguments)]
-pub trait Library {
-    fn title(&self) -> &'static str;
-    fn name(&self, name: &[u8], folded: &mut [u8], place: &mut usize) -> Number;
-    fn check(&self, image: &[u8], g: &Geometry, fault_slot: &mut usize) -> Number;
-    fn look_up(
-        &self,
-        image: &[u8],
-        g: &Geometry,
-        name: &[u8],
-        slot: &mut usize,
-        compared: &mut usize,
-        place: &mut usize,
-        fault_slot: &mut usize,
-    ) -> Number;
-    fn open(
-        &self,
-        image: &[u8],
-        g: &Geometry,
-        name: &[u8],
-        length: usize,
-        checking: bool,
-        code: u16,
-        handle: &mut [u8],
-        place: &mut usize,
-        fault_slot: &mut usize,
-    ) -> Number;
-    fn create(
-        &self,
-        image: &mut [u8],
-        g: &Geometry,
-        name: &[u8],
-        birth: &Birth,
-        old: &mut usize,
-        handle: &mut [u8],
-        place: &mut usize,
-        fault_slot: &mut usize,
-    ) -> Number;
-    fn read_record(
-        &self,
-        image: &[u8],
-        g: &Geometry,
-        handle: &mut [u8],
-        buffer: &mut [u8],
-        fault_slot: &mut usize,
-    ) -> Number;
-    fn load_record(
-        &self,
-        image: &[u8],
-        g: &Geometry,
-        handle: &mut [u8],
-        buffer: &mut [u8],
-        kind: &mut usize,
-        address: &mut usize,
-        count: &mut usize,
-        position: &mut usize,
-        fault_slot: &mut usize,
-    ) -> Number;
-    fn read_sector(
-        &self,
-        image: &[u8],
-        g: &Geometry,
-        handle: &[u8],
-        k: usize,
-        from: &mut usize,
-        to: &mut usize,
-        fault_slot: &mut usize,
-    ) -> Number;
-    fn write_record(
-        &self,
-        image: &mut [u8],
-        g: &Geometry,
-        handle: &mut [u8],
-        sequential: bool,
-        buffer: &[u8],
-        fault_slot: &mut usize,
-    ) -> Number;
-    fn allot(&self, image: &mut [u8], g: &Geometry, handle: &[u8], k: usize, fault_slot: &mut usize) -> Number;
-    fn trim(&self, image: &mut [u8], g: &Geometry, handle: &[u8], fault_slot: &mut usize) -> Number;
-    fn kill(&self, image: &mut [u8], g: &Geometry, handle: &[u8], fault_slot: &mut usize) -> Number;
-    fn bring_back(
-        &self,
-        image: &mut [u8],
-        g: &Geometry,
-        slot: usize,
-        slots: &mut usize,
-        granules: &mut usize,
-        fault_slot: &mut usize,
-    ) -> Number;
-    fn play(
-        &self,
-        image: &mut [u8],
-        g: &Geometry,
-        trace: &[u8],
-        results: &mut [u8],
-        calls: &mut usize,
-        byte: &mut usize,
-        bit: &mut usize,
-        fault_slot: &mut usize,
-    ) -> Number;
-    fn list(
-        &self,
-        image: &[u8],
-        g: &Geometry,
-        which: usize,
-        name: &mut [u8],
-        size: &mut usize,
-        granules: &mut usize,
-        more: &mut usize,
-        fault_slot: &mut usize,
-    ) -> Number;
-    fn count(
-        &self,
-        image: &[u8],
-        g: &Geometry,
-        files: &mut usize,
-        free: &mut usize,
-        fault_slot: &mut usize,
-    ) -> Number;
-    fn free(&self, image: &[u8], g: &Geometry, free: &mut usize, longest: &mut usize) -> Number;
-    fn compare(
-        &self,
-        first: &[u8],
-        g: &Geometry,
-        second: &[u8],
-        h: &Geometry,
-        number: usize,
-        name: &mut [u8],
-        image: &mut usize,
-        kind: &mut usize,
-        position: &mut usize,
-        flags: &mut usize,
-        fault_slot: &mut usize,
-    ) -> Number;
+/// Goes through the rows of the table, or through those of one call's arguments, and hands to the macro `$make`, for each
+/// call, its two names and its arguments six times over:
+///
+/// - `p`: as the trait's methods take them
+/// - `n`: their names, and `m`: the same without that of `fault`
+/// - `c`: as C takes them
+/// - `w`: those that the call may change, as they stand
+/// - `r`: as the recorder writes them down
+/// - `f`: the image whose fault the last of them tells, its geometry, and where it is told; nothing where it tells none
+macro_rules! spread {
+    ($make:ident $($call:ident = $export:ident($($arguments:tt)*);)*) => {
+        $(spread! { @ [$make $call $export] p[] n[] m[] c[] w[] r[] f[] $($arguments)*, })*
+    };
+    (@ [$make:ident $call:ident $export:ident] $($made:tt)*) => {
+        spread! { # [$make $call $export] $($made)* }
+    };
+    (# [$make:ident $call:ident $export:ident] p $p:tt n $n:tt m $m:tt c $c:tt w $w:tt r $r:tt f $f:tt) => {
+        $make! { $call $export p $p n $n m $m c $c w $w r $r f $f }
+    };
+    (# $to:tt p[$($p:tt)*] n[$($n:tt)*] m[$($m:tt)*] c[$($c:tt)*] w[$($w:tt)*] r[$($r:tt)*] f[$($f:tt)*]
+     disk $x:ident $g:ident, $($rest:tt)*) => {
+        spread! { # $to p[$($p)* $x: &[u8], $g: &Geometry,] n[$($n)* $x, $g,] m[$($m)* $x, $g,]
+            c[$($c)* $x.as_ptr(), $x.len(), $g.blocks, $g.units, $g.start, $g.open_code, $g.system_disk, $g.granule_sectors,]
+            w[$($w)*] r[$($r)* Kept(stringify!($x), $x), Stated($g),] f[$x $g] $($rest)* }
+    };
+    (# $to:tt p[$($p:tt)*] n[$($n:tt)*] m[$($m:tt)*] c[$($c:tt)*] w[$($w:tt)*] r[$($r:tt)*] f[$($f:tt)*]
+     changed $x:ident $g:ident, $($rest:tt)*) => {
+        spread! { # $to p[$($p)* $x: &mut [u8], $g: &Geometry,] n[$($n)* $x, $g,] m[$($m)* $x, $g,]
+            c[$($c)* $x.as_mut_ptr(), $x.len(), $g.blocks, $g.units, $g.start, $g.open_code, $g.system_disk, $g.granule_sectors,]
+            w[$($w)* $x.to_vec(),] r[$($r)* Left(stringify!($x), $x), Stated($g),] f[$x $g] $($rest)* }
+    };
+    (# $to:tt p[$($p:tt)*] n[$($n:tt)*] m[$($m:tt)*] c[$($c:tt)*] w[$($w:tt)*] r[$($r:tt)*] f[$($f:tt)*]
+     birth $x:ident, $($rest:tt)*) => {
+        spread! { # $to p[$($p)* $x: &Birth,] n[$($n)* $x,] m[$($m)* $x,]
+            c[$($c)* $x.day, $x.month, $x.year, $x.length, $x.main_code, $x.worker_code, $x.checking,]
+            w[$($w)*] r[$($r)* Born($x),] f[$($f)*] $($rest)* }
+    };
+    (# $to:tt p[$($p:tt)*] n[$($n:tt)*] m[$($m:tt)*] c[$($c:tt)*] w[$($w:tt)*] r[$($r:tt)*] f[$($f:tt)*]
+     bytes $x:ident, $($rest:tt)*) => {
+        spread! { # $to p[$($p)* $x: &[u8],] n[$($n)* $x,] m[$($m)* $x,] c[$($c)* $x.as_ptr(), $x.len(),]
+            w[$($w)*] r[$($r)* Kept(stringify!($x), $x),] f[$($f)*] $($rest)* }
+    };
+    (# $to:tt p[$($p:tt)*] n[$($n:tt)*] m[$($m:tt)*] c[$($c:tt)*] w[$($w:tt)*] r[$($r:tt)*] f[$($f:tt)*]
+     room $x:ident, $($rest:tt)*) => {
+        spread! { # $to p[$($p)* $x: &mut [u8],] n[$($n)* $x,] m[$($m)* $x,] c[$($c)* $x.as_mut_ptr(), $x.len(),]
+            w[$($w)* $x.to_vec(),] r[$($r)* Left(stringify!($x), $x),] f[$($f)*] $($rest)* }
+    };
+    (# $to:tt p[$($p:tt)*] n[$($n:tt)*] m[$($m:tt)*] c[$($c:tt)*] w[$($w:tt)*] r[$($r:tt)*] f[$($f:tt)*]
+     number $x:ident, $($rest:tt)*) => {
+        spread! { # $to p[$($p)* $x: usize,] n[$($n)* $x,] m[$($m)* $x,] c[$($c)* $x,]
+            w[$($w)*] r[$($r)* Given($x as u64),] f[$($f)*] $($rest)* }
+    };
+    (# $to:tt p[$($p:tt)*] n[$($n:tt)*] m[$($m:tt)*] c[$($c:tt)*] w[$($w:tt)*] r[$($r:tt)*] f[$($f:tt)*]
+     flag $x:ident, $($rest:tt)*) => {
+        spread! { # $to p[$($p)* $x: bool,] n[$($n)* $x,] m[$($m)* $x,] c[$($c)* $x,]
+            w[$($w)*] r[$($r)* Given($x.into()),] f[$($f)*] $($rest)* }
+    };
+    (# $to:tt p[$($p:tt)*] n[$($n:tt)*] m[$($m:tt)*] c[$($c:tt)*] w[$($w:tt)*] r[$($r:tt)*] f[$($f:tt)*]
+     code $x:ident, $($rest:tt)*) => {
+        spread! { # $to p[$($p)* $x: u16,] n[$($n)* $x,] m[$($m)* $x,] c[$($c)* $x,]
+            w[$($w)*] r[$($r)* Given($x.into()),] f[$($f)*] $($rest)* }
+    };
+    (# $to:tt p[$($p:tt)*] n[$($n:tt)*] m[$($m:tt)*] c[$($c:tt)*] w[$($w:tt)*] r[$($r:tt)*] f[$($f:tt)*]
+     out $x:ident, $($rest:tt)*) => {
+        spread! { # $to p[$($p)* $x: &mut usize,] n[$($n)* $x,] m[$($m)* $x,] c[$($c)* $x,]
+            w[$($w)*] r[$($r)* Outgoing(*$x),] f[$($f)*] $($rest)* }
+    };
+    (# $to:tt p[$($p:tt)*] n[$($n:tt)*] m[$($m:tt)*] c[$($c:tt)*] w[$($w:tt)*] r[$($r:tt)*] f[$image:ident $g:ident]
+     fault $x:ident,) => {
+        spread! { # $to p[$($p)* $x: &mut usize,] n[$($n)* $x,] m[$($m)*] c[$($c)* $x,]
+            w[$($w)*] r[$($r)* Outgoing(*$x),] f[$image $g $x] }
+    };
 }
 
-/// The model itself.
-pub struct Model;
-
-/// What the slot is where there is none to tell.
-pub const NO_SLOT: usize = 256;
-
-/// Beside a number of a fault, its slot (02 §2): a refused call has left the image as it was.
-fn with_slot(number: Number, image: &[u8], g: &Geometry, fault_slot: &mut usize) -> Number {
-    let told = fault::numbers().contains(&number).then(|| fault(image, g).expect("refused for it"));
-    *fault_slot = told.and_then(|fault| fault.slot).map_or(NO_SLOT, usize::from);
-    number
+macro_rules! method {
+    ($call:ident $export:ident p[$($p:tt)*] $($rest:tt)*) => { fn $call(&self, $($p)*) -> Number; };
 }
-
-impl Library for Model {
-    fn title(&self) -> &'static str {
-        "model"
-    }
-    fn name(&self, name: &[u8], folded: &mut [u8], place: &mut usize) -> Number {
-        calls::name(name, folded, place)
-    }
-    fn check(&self, image: &[u8], g: &Geometry, fault_slot: &mut usize) -> Number {
-        let number = calls::check(image, g);
-        with_slot(number, image, g, fault_slot)
-    }
-    fn look_up(
-        &self,
-        image: &[u8],
-        g: &Geometry,
-        name: &[u8],
-        slot: &mut usize,
-        compared: &mut usize,
-        place: &mut usize,
-        fault_slot: &mut usize,
-    ) -> Number {
-        let number = calls::look_up(image, g, name, slot, compared, place);
-        with_slot(number, image, g, fault_slot)
-    }
-    fn open(
-        &self,
-        image: &[u8],
-        g: &Geometry,
-        name: &[u8],
-        length: usize,
-        checking: bool,
-        code: u16,
-        handle: &mut [u8],
-        place: &mut usize,
-        fault_slot: &mut usize,
-    ) -> Number {
-        let number = calls::open(image, g, name, length, checking, code, handle, place);
-        with_slot(number, image, g, fault_slot)
-    }
-    fn create(
-        &self,
-        image: &mut [u8],
-        g: &Geometry,
-        name: &[u8],
-        birth: &Birth,
-        old: &mut usize,
-        handle: &mut [u8],
-        place: &mut usize,
-        fault_slot: &mut usize,
-    ) -> Number {
-        let number = calls::create(image, g, name, birth, old, handle, place);
-        with_slot(number, image, g, fault_slot)
-    }
-    fn read_record(
-        &self,
-        image: &[u8],
-        g: &Geometry,
-        handle: &mut [u8],
-        buffer: &mut [u8],
-        fault_slot: &mut usize,
-    ) -> Number {
-        let number = calls::read_record(image, g, handle, buffer);
-        with_slot(number, image, g, fault_slot)
-    }
-    fn load_record(
-        &self,
-        image: &[u8],
-        g: &Geometry,
-        handle: &mut [u8],
-        buffer: &mut [u8],
-        kind: &mut usize,
-        address: &mut usize,
-        count: &mut usize,
-        position: &mut usize,
-        fault_slot: &mut usize,
-    ) -> Number {
-        let number = load::load_record(image, g, handle, buffer, [kind, address, count, position]);
-        with_slot(number, image, g, fault_slot)
-    }
-    fn read_sector(
-        &self,
-        image: &[u8],
-        g: &Geometry,
-        handle: &[u8],
-        k: usize,
-        from: &mut usize,
-        to: &mut usize,
-        fault_slot: &mut usize,
-    ) -> Number {
-        let number = calls::read_sector(image, g, handle, k, from, to);
-        with_slot(number, image, g, fault_slot)
-    }
-    fn write_record(
-        &self,
-        image: &mut [u8],
-        g: &Geometry,
-        handle: &mut [u8],
-        sequential: bool,
-        buffer: &[u8],
-        fault_slot: &mut usize,
-    ) -> Number {
-        let number = calls::write_record(image, g, handle, sequential, buffer);
-        with_slot(number, image, g, fault_slot)
-    }
-    fn allot(&self, image: &mut [u8], g: &Geometry, handle: &[u8], k: usize, fault_slot: &mut usize) -> Number {
-        let number = calls::allot(image, g, handle, k);
-        with_slot(number, image, g, fault_slot)
-    }
-    fn trim(&self, image: &mut [u8], g: &Geometry, handle: &[u8], fault_slot: &mut usize) -> Number {
-        let number = calls::trim(image, g, handle);
-        with_slot(number, image, g, fault_slot)
-    }
-    fn kill(&self, image: &mut [u8], g: &Geometry, handle: &[u8], fault_slot: &mut usize) -> Number {
-        let number = calls::kill(image, g, handle);
-        with_slot(number, image, g, fault_slot)
-    }
-    fn bring_back(
-        &self,
-        image: &mut [u8],
-        g: &Geometry,
-        slot: usize,
-        slots: &mut usize,
-        granules: &mut usize,
-        fault_slot: &mut usize,
-    ) -> Number {
-        let number = bring_back::bring_back(image, g, slot, slots, granules);
-        with_slot(number, image, g, fault_slot)
-    }
-    fn play(
-        &self,
-        image: &mut [u8],
-        g: &Geometry,
-        trace: &[u8],
-        results: &mut [u8],
-        calls: &mut usize,
-        byte: &mut usize,
-        bit: &mut usize,
-        fault_slot: &mut usize,
-    ) -> Number {
-        let number = play::play(image, g, trace, results, calls, byte, bit);
-        with_slot(number, image, g, fault_slot)
-    }
-    fn list(
-        &self,
-        image: &[u8],
-        g: &Geometry,
-        which: usize,
-        name: &mut [u8],
-        size: &mut usize,
-        granules: &mut usize,
-        more: &mut usize,
-        fault_slot: &mut usize,
-    ) -> Number {
-        let number = calls::list(image, g, which, name, size, granules, more);
-        with_slot(number, image, g, fault_slot)
-    }
-    fn count(
-        &self,
-        image: &[u8],
-        g: &Geometry,
-        files: &mut usize,
-        free: &mut usize,
-        fault_slot: &mut usize,
-    ) -> Number {
-        let number = calls::count(image, g, files, free);
-        with_slot(number, image, g, fault_slot)
-    }
-    fn free(&self, image: &[u8], g: &Geometry, free: &mut usize, longest: &mut usize) -> Number {
-        calls::free(image, g, free, longest)
-    }
-    fn compare(
-        &self,
-        first: &[u8],
-        g: &Geometry,
-        second: &[u8],
-        h: &Geometry,
-        number: usize,
-        name: &mut [u8],
-        image: &mut usize,
-        kind: &mut usize,
-        position: &mut usize,
-        flags: &mut usize,
-        fault_slot: &mut usize,
-    ) -> Number {
-        let answer = differences::compare(first, g, second, h, number, name, image, kind, position, flags);
-        let (refused, geometry) = if *image == differences::SECOND { (second, h) } else { (first, g) };
-        with_slot(answer, refused, geometry, fault_slot)
-    }
+macro_rules! methods {
+    ($($rows:tt)*) => {
+        #[allow(clippy::too_many_arguments)]
+        pub trait Library {
+            fn title(&self) -> &'static str;
+            spread! { method $($rows)* }
+        }
+    };
 }
-
-/// The model, and the linked library: hand-written cases run on each.
-pub fn libraries() -> Vec<Rc<dyn Library>> {
-    vec![Rc::new(Model), crate::binding::linked()]
-}
+exports!(methods);

@@ -78,14 +78,17 @@ pub fn cut(file: &[u8]) -> (Vec<(usize, Vec<u8>)>, Told) {
 }
 
 /// Load record: kind, address, count and position go out; 1 is data, 2 a start address.
+#[allow(clippy::too_many_arguments)]
 pub fn load_record(
     image: &[u8],
     g: &Geometry,
     handle: &mut [u8],
     buffer: &mut [u8],
-    outgoing: [&mut usize; 4],
+    kind: &mut usize,
+    address: &mut usize,
+    count: &mut usize,
+    position: &mut usize,
 ) -> Number {
-    let [kind, address, count, position] = outgoing;
     (*kind, *address, *count, *position) = (0, 0, 0, 0);
     let (d, h) = match by_handle(image, g, handle, |_| buffer.len() >= LEAST_BUFFER) {
         Ok(found) => found,

@@ -1,19 +1,13 @@
-//! A disk as a plain list of named files, and what each accepted call does to its own file there.
+//! A disk as a plain list of named files.
 
-use crate::call::Call;
-use crate::calls::Birth;
 use crate::directory::{directory_granules, directory_sectors, entry, files, owned};
 use crate::geometry::Geometry;
-use crate::handle::Handle;
-use crate::names::{comes_in, Name};
+use crate::names::Name;
 use std::collections::BTreeMap;
 
 /// "A file's attributes are its entry bytes 00, 01, 02, 04 and 10 to 13."
 pub type Attributes = [u8; 8];
 const ATTRIBUTE_PLACES: [usize; 8] = [0x00, 0x01, 0x02, 0x04, 0x10, 0x11, 0x12, 0x13];
-const DAY_BYTE: usize = 1;
-const WORKED_ON: u8 = 1 << 5;
-const KEEPS_SPACE: u8 = 1 << 7;
 
 #[derive(Clone, Debug, PartialEq, Eq)]
 pub struct File {
@@ -43,55 +37,4 @@ pub fn files_of(image: &[u8], g: &Geometry) -> Files {
         all.insert(e.name(), file);
     }
     all
-}
-
-fn born(birth: &Birth) -> File {
-    let (main, worker) = (birth.main_code.to_le_bytes(), birth.worker_code.to_le_bytes());
-    let attributes = [
-        0x10,
-        birth.day as u8,
-        (birth.year * 16 + birth.month) as u8,
-        (birth.length % 256) as u8,
-        main[0],
-        main[1],
-        worker[0],
-        worker[1],
-    ];
-    File { attributes, bytes: Vec::new(), granules: 0 }
-}
-
-/// What an accepted call does to the list of a disk of this geometry. The handle, where there is one, is a good one.
-pub fn effect(all: &mut Files, g: &Geometry, call: &Call) {
-    let handled = |handle: &Vec<u8>| Handle::read(handle).expect("an accepted call");
-    match call {
-        Call::Create { name, birth, .. } => {
-            let name = comes_in(name).expect("an accepted call");
-            all.entry(name).or_insert_with(|| born(birth));
-        }
-        Call::WriteRecord { handle, sequential, buffer } => {
-            let h = handled(handle);
-            let file = all.get_mut(&h.name).expect("no stale handle");
-            let (position, end) = (h.position(), h.position() + h.length());
-            let size = if *sequential { end } else { end.max(file.bytes.len()) };
-            // Zeros from the old size to the position, then the record.
-            file.bytes.resize(size, 0);
-            file.bytes[position..end].copy_from_slice(&buffer[..h.length()]);
-            file.attributes[DAY_BYTE] |= WORKED_ON;
-            file.granules = file.granules.max(size.div_ceil(g.granule_bytes()));
-        }
-        Call::Allot { handle, k } => {
-            let file = all.get_mut(&handled(handle).name).expect("no stale handle");
-            file.granules = file.granules.max(k / g.granule_sectors + 1);
-        }
-        Call::Trim { handle } => {
-            let file = all.get_mut(&handled(handle).name).expect("no stale handle");
-            if file.attributes[DAY_BYTE] & KEEPS_SPACE == 0 {
-                file.granules = file.bytes.len().div_ceil(g.granule_bytes());
-            }
-        }
-        Call::Kill { handle } => {
-            all.remove(&handled(handle).name).expect("no stale handle");
-        }
-        _ => {}
-    }
 }

@@ -16,53 +16,40 @@
 
 use crate::calls::{Birth, Number};
 use crate::geometry::Geometry;
-use crate::library::{Library, Model};
+use crate::library::Library;
+use crate::model::Model;
 use std::cell::RefCell;
 use std::io::Write;
 
-/// Where a slice stands: the places that the calls have between them.
-const IMAGE: usize = 0;
-const SECOND: usize = 1;
-const NAME: usize = 2;
-const HANDLE: usize = 3;
-const BUFFER: usize = 4;
-const PLACES: usize = 5;
+/// Where a slice stands: the places that the calls have between them, each with the slices that are lent there.
+const PLACES: [&[&str]; 5] =
+    [&["image", "first"], &["second", "trace"], &["name"], &["handle"], &["buffer", "folded", "results"]];
+
+fn place_of(slice: &str) -> usize {
+    PLACES.iter().position(|here| here.contains(&slice)).expect("a place for every slice")
+}
 
 /// Changes closer together than this are one.
 const NEAR: usize = 16;
 
+/// An argument of a call that was made; the numbers of a geometry or of a birth are one each in a recording.
 enum Argument<'a> {
-    Number(u64),
+    Given(u64),
+    Stated(&'a Geometry),
+    Born(&'a Birth),
     Outgoing(usize),
-    /// A slice as it is lent and as it is left.
-    Slice(usize, &'a [u8], &'a [u8]),
+    /// A slice that is only read.
+    Kept(&'static str, &'a [u8]),
+    /// A slice as it is left.
+    Left(&'static str, &'a [u8]),
 }
-use Argument::{Outgoing, Slice};
-
-fn number(value: usize) -> Argument<'static> {
-    Argument::Number(value as u64)
-}
-
-fn kept(place: usize, slice: &[u8]) -> Argument<'_> {
-    Slice(place, slice, slice)
-}
-
-fn stated(g: &Geometry) -> [Argument<'static>; 6] {
-    [
-        number(g.blocks),
-        number(g.units),
-        number(g.start),
-        number(g.open_code.into()),
-        number(g.system_disk.into()),
-        number(g.granule_sectors),
-    ]
-}
+use Argument::{Born, Given, Kept, Left, Outgoing, Stated};
 
 /// The model, which writes down every call that is made of it.
 pub struct Recorder<W: Write> {
     to: RefCell<W>,
     /// What each place holds after the last call with it.
-    places: RefCell<[Vec<u8>; PLACES]>,
+    places: RefCell<[Vec<u8>; PLACES.len()]>,
 }
 
 impl<W: Write> Recorder<W> {
@@ -96,32 +83,42 @@ impl<W: Write> Recorder<W> {
         }
     }
 
-    fn call<'a>(&self, name: &str, answer: Number, arguments: impl IntoIterator<Item = Argument<'a>>) -> Number {
-        let arguments: Vec<Argument> = arguments.into_iter().collect();
-        self.put(&[u8::try_from(name.len()).expect("a short name")]);
-        self.put(name.as_bytes());
-        self.put(&[u8::try_from(arguments.len()).expect("few arguments")]);
+    fn put_number(&self, value: u64) {
+        self.put(b"n");
+        self.put(&value.to_le_bytes());
+    }
+
+    fn put_slice(&self, name: &str, lent: &[u8], left: &[u8]) {
+        let place = place_of(name);
+        let last = &mut self.places.borrow_mut()[place];
+        if last.len() != lent.len() {
+            *last = vec![0; lent.len()];
+        }
+        self.put(&[b's', place as u8]);
+        self.put_length(lent.len());
+        self.put_changes(last, lent);
+        self.put_changes(lent, left);
+        last.copy_from_slice(left);
+    }
+
+    /// Writes a call down; `before` has what those slices held that it may have changed, in order.
+    fn put_call(&self, export: &str, answer: Number, before: &[Vec<u8>], arguments: &[Argument]) -> Number {
+        self.put(&[u8::try_from(export.len()).expect("a short name")]);
+        self.put(export.as_bytes());
+        let count: usize = arguments.iter().map(|one| one.numbers().len().max(1)).sum();
+        self.put(&[u8::try_from(count).expect("few arguments")]);
+        let mut before = before.iter();
         for argument in arguments {
             match argument {
-                Argument::Number(value) => {
-                    self.put(b"n");
-                    self.put(&value.to_le_bytes());
+                Given(_) | Stated(_) | Born(_) => {
+                    argument.numbers().into_iter().for_each(|value| self.put_number(value))
                 }
                 Outgoing(value) => {
                     self.put(b"o");
-                    self.put(&(value as u64).to_le_bytes());
+                    self.put(&(*value as u64).to_le_bytes());
                 }
-                Slice(place, lent, left) => {
-                    let last = &mut self.places.borrow_mut()[place];
-                    if last.len() != lent.len() {
-                        *last = vec![0; lent.len()];
-                    }
-                    self.put(&[b's', place as u8]);
-                    self.put_length(lent.len());
-                    self.put_changes(last, lent);
-                    self.put_changes(lent, left);
-                    last.copy_from_slice(left);
-                }
+                Kept(name, bytes) => self.put_slice(name, bytes, bytes),
+                Left(name, bytes) => self.put_slice(name, before.next().expect("one for each"), bytes),
             }
         }
         self.put(&[answer]);
@@ -129,246 +126,50 @@ impl<W: Write> Recorder<W> {
     }
 }
 
-/// Arguments one behind the other.
-macro_rules! row {
-    ($first:expr, $g:expr $(, $more:expr)*) => {
-        std::iter::once($first).chain(stated($g)).chain([$($more),*])
-    };
+impl Argument<'_> {
+    /// The incoming numbers that it stands for.
+    fn numbers(&self) -> Vec<u64> {
+        match self {
+            Given(value) => vec![*value],
+            Stated(g) => vec![
+                g.blocks as u64,
+                g.units as u64,
+                g.start as u64,
+                g.open_code.into(),
+                g.system_disk.into(),
+                g.granule_sectors as u64,
+            ],
+            Born(birth) => vec![
+                birth.day as u64,
+                birth.month as u64,
+                birth.year as u64,
+                birth.length as u64,
+                birth.main_code.into(),
+                birth.worker_code.into(),
+                birth.checking.into(),
+            ],
+            Outgoing(_) | Kept(..) | Left(..) => Vec::new(),
+        }
+    }
 }
 
-impl<W: Write> Library for Recorder<W> {
-    fn title(&self) -> &'static str {
-        "recorder"
-    }
-    fn name(&self, name: &[u8], folded: &mut [u8], place: &mut usize) -> Number {
-        let lent = folded.to_vec();
-        let answer = Model.name(name, folded, place);
-        let told = [kept(NAME, name), Slice(BUFFER, &lent, folded), Outgoing(*place)];
-        self.call("genie_name", answer, told)
-    }
-    fn check(&self, image: &[u8], g: &Geometry, fault_slot: &mut usize) -> Number {
-        let answer = Model.check(image, g, fault_slot);
-        self.call("genie_check", answer, row![kept(IMAGE, image), g, Outgoing(*fault_slot)])
-    }
-    fn look_up(
-        &self,
-        image: &[u8],
-        g: &Geometry,
-        name: &[u8],
-        slot: &mut usize,
-        compared: &mut usize,
-        place: &mut usize,
-        fault_slot: &mut usize,
-    ) -> Number {
-        let answer = Model.look_up(image, g, name, slot, compared, place, fault_slot);
-        let told = [Outgoing(*slot), Outgoing(*compared), Outgoing(*place), Outgoing(*fault_slot)];
-        self.call("genie_look_up", answer, row![kept(IMAGE, image), g, kept(NAME, name)].chain(told))
-    }
-    fn open(
-        &self,
-        image: &[u8],
-        g: &Geometry,
-        name: &[u8],
-        length: usize,
-        checking: bool,
-        code: u16,
-        handle: &mut [u8],
-        place: &mut usize,
-        fault_slot: &mut usize,
-    ) -> Number {
-        let lent = handle.to_vec();
-        let answer = Model.open(image, g, name, length, checking, code, handle, place, fault_slot);
-        let given = [kept(NAME, name), number(length), number(checking.into()), number(code.into())];
-        let told = [Slice(HANDLE, &lent, handle), Outgoing(*place), Outgoing(*fault_slot)];
-        self.call("genie_open", answer, row![kept(IMAGE, image), g].chain(given).chain(told))
-    }
-    fn create(
-        &self,
-        image: &mut [u8],
-        g: &Geometry,
-        name: &[u8],
-        birth: &Birth,
-        old: &mut usize,
-        handle: &mut [u8],
-        place: &mut usize,
-        fault_slot: &mut usize,
-    ) -> Number {
-        let (was, lent) = (image.to_vec(), handle.to_vec());
-        let answer = Model.create(image, g, name, birth, old, handle, place, fault_slot);
-        let given = [
-            kept(NAME, name),
-            number(birth.day),
-            number(birth.month),
-            number(birth.year),
-            number(birth.length),
-            number(birth.main_code.into()),
-            number(birth.worker_code.into()),
-            number(birth.checking.into()),
-        ];
-        let told = [Outgoing(*old), Slice(HANDLE, &lent, handle), Outgoing(*place), Outgoing(*fault_slot)];
-        self.call("genie_create", answer, row![Slice(IMAGE, &was, image), g].chain(given).chain(told))
-    }
-    fn read_record(
-        &self,
-        image: &[u8],
-        g: &Geometry,
-        handle: &mut [u8],
-        buffer: &mut [u8],
-        fault_slot: &mut usize,
-    ) -> Number {
-        let (held, lent) = (handle.to_vec(), buffer.to_vec());
-        let answer = Model.read_record(image, g, handle, buffer, fault_slot);
-        let told = [Slice(HANDLE, &held, handle), Slice(BUFFER, &lent, buffer), Outgoing(*fault_slot)];
-        self.call("genie_read_record", answer, row![kept(IMAGE, image), g].chain(told))
-    }
-    fn load_record(
-        &self,
-        image: &[u8],
-        g: &Geometry,
-        handle: &mut [u8],
-        buffer: &mut [u8],
-        kind: &mut usize,
-        address: &mut usize,
-        count: &mut usize,
-        position: &mut usize,
-        fault_slot: &mut usize,
-    ) -> Number {
-        let (held, lent) = (handle.to_vec(), buffer.to_vec());
-        let answer = Model.load_record(image, g, handle, buffer, kind, address, count, position, fault_slot);
-        let lent = [Slice(HANDLE, &held, handle), Slice(BUFFER, &lent, buffer)];
-        let told = [kind, address, count, position, fault_slot].map(|number| Outgoing(*number));
-        self.call("genie_load_record", answer, row![kept(IMAGE, image), g].chain(lent).chain(told))
-    }
-    fn read_sector(
-        &self,
-        image: &[u8],
-        g: &Geometry,
-        handle: &[u8],
-        k: usize,
-        from: &mut usize,
-        to: &mut usize,
-        fault_slot: &mut usize,
-    ) -> Number {
-        let answer = Model.read_sector(image, g, handle, k, from, to, fault_slot);
-        let told = [kept(HANDLE, handle), number(k), Outgoing(*from), Outgoing(*to), Outgoing(*fault_slot)];
-        self.call("genie_read_sector", answer, row![kept(IMAGE, image), g].chain(told))
-    }
-    fn write_record(
-        &self,
-        image: &mut [u8],
-        g: &Geometry,
-        handle: &mut [u8],
-        sequential: bool,
-        buffer: &[u8],
-        fault_slot: &mut usize,
-    ) -> Number {
-        let (was, held) = (image.to_vec(), handle.to_vec());
-        let answer = Model.write_record(image, g, handle, sequential, buffer, fault_slot);
-        let told =
-            [Slice(HANDLE, &held, handle), number(sequential.into()), kept(BUFFER, buffer), Outgoing(*fault_slot)];
-        self.call("genie_write_record", answer, row![Slice(IMAGE, &was, image), g].chain(told))
-    }
-    fn allot(&self, image: &mut [u8], g: &Geometry, handle: &[u8], k: usize, fault_slot: &mut usize) -> Number {
-        let was = image.to_vec();
-        let answer = Model.allot(image, g, handle, k, fault_slot);
-        let told = [kept(HANDLE, handle), number(k), Outgoing(*fault_slot)];
-        self.call("genie_allot", answer, row![Slice(IMAGE, &was, image), g].chain(told))
-    }
-    fn trim(&self, image: &mut [u8], g: &Geometry, handle: &[u8], fault_slot: &mut usize) -> Number {
-        let was = image.to_vec();
-        let answer = Model.trim(image, g, handle, fault_slot);
-        let told = [kept(HANDLE, handle), Outgoing(*fault_slot)];
-        self.call("genie_trim", answer, row![Slice(IMAGE, &was, image), g].chain(told))
-    }
-    fn kill(&self, image: &mut [u8], g: &Geometry, handle: &[u8], fault_slot: &mut usize) -> Number {
-        let was = image.to_vec();
-        let answer = Model.kill(image, g, handle, fault_slot);
-        let told = [kept(HANDLE, handle), Outgoing(*fault_slot)];
-        self.call("genie_kill", answer, row![Slice(IMAGE, &was, image), g].chain(told))
-    }
-    fn bring_back(
-        &self,
-        image: &mut [u8],
-        g: &Geometry,
-        slot: usize,
-        slots: &mut usize,
-        granules: &mut usize,
-        fault_slot: &mut usize,
-    ) -> Number {
-        let was = image.to_vec();
-        let answer = Model.bring_back(image, g, slot, slots, granules, fault_slot);
-        let told = [number(slot), Outgoing(*slots), Outgoing(*granules), Outgoing(*fault_slot)];
-        self.call("genie_bring_back", answer, row![Slice(IMAGE, &was, image), g].chain(told))
-    }
-    fn play(
-        &self,
-        image: &mut [u8],
-        g: &Geometry,
-        trace: &[u8],
-        results: &mut [u8],
-        calls: &mut usize,
-        byte: &mut usize,
-        bit: &mut usize,
-        fault_slot: &mut usize,
-    ) -> Number {
-        let (was, before) = (image.to_vec(), results.to_vec());
-        let answer = Model.play(image, g, trace, results, calls, byte, bit, fault_slot);
-        let lent = [kept(SECOND, trace), Slice(BUFFER, &before, results)];
-        let told = [Outgoing(*calls), Outgoing(*byte), Outgoing(*bit), Outgoing(*fault_slot)];
-        self.call("genie_play", answer, row![Slice(IMAGE, &was, image), g].chain(lent).chain(told))
-    }
-    fn list(
-        &self,
-        image: &[u8],
-        g: &Geometry,
-        which: usize,
-        name: &mut [u8],
-        size: &mut usize,
-        granules: &mut usize,
-        more: &mut usize,
-        fault_slot: &mut usize,
-    ) -> Number {
-        let lent = name.to_vec();
-        let answer = Model.list(image, g, which, name, size, granules, more, fault_slot);
-        let given = [number(which), Slice(NAME, &lent, name)];
-        let told = [Outgoing(*size), Outgoing(*granules), Outgoing(*more), Outgoing(*fault_slot)];
-        self.call("genie_list", answer, row![kept(IMAGE, image), g].chain(given).chain(told))
-    }
-    fn count(
-        &self,
-        image: &[u8],
-        g: &Geometry,
-        files: &mut usize,
-        free: &mut usize,
-        fault_slot: &mut usize,
-    ) -> Number {
-        let answer = Model.count(image, g, files, free, fault_slot);
-        let told = [Outgoing(*files), Outgoing(*free), Outgoing(*fault_slot)];
-        self.call("genie_count", answer, row![kept(IMAGE, image), g].chain(told))
-    }
-    fn free(&self, image: &[u8], g: &Geometry, free: &mut usize, longest: &mut usize) -> Number {
-        let answer = Model.free(image, g, free, longest);
-        self.call("genie_free", answer, row![kept(IMAGE, image), g, Outgoing(*free), Outgoing(*longest)])
-    }
-    fn compare(
-        &self,
-        first: &[u8],
-        g: &Geometry,
-        second: &[u8],
-        h: &Geometry,
-        which: usize,
-        name: &mut [u8],
-        image: &mut usize,
-        kind: &mut usize,
-        position: &mut usize,
-        flags: &mut usize,
-        fault_slot: &mut usize,
-    ) -> Number {
-        let lent = name.to_vec();
-        let answer = Model.compare(first, g, second, h, which, name, image, kind, position, flags, fault_slot);
-        let given = row![kept(SECOND, second), h, number(which), Slice(NAME, &lent, name)];
-        let told =
-            [Outgoing(*image), Outgoing(*kind), Outgoing(*position), Outgoing(*flags), Outgoing(*fault_slot)];
-        self.call("genie_compare", answer, row![kept(IMAGE, first), g].chain(given).chain(told))
-    }
+macro_rules! method {
+    ($call:ident $export:ident p[$($p:tt)*] n[$($n:tt)*] m $m:tt c $c:tt w[$($w:tt)*] r[$($r:tt)*] $($rest:tt)*) => {
+        fn $call(&self, $($p)*) -> Number {
+            let before: &[Vec<u8>] = &[$($w)*];
+            let answer = Model.$call($($n)*);
+            self.put_call(stringify!($export), answer, before, &[$($r)*])
+        }
+    };
 }
+macro_rules! methods {
+    ($($rows:tt)*) => {
+        impl<W: Write> Library for Recorder<W> {
+            fn title(&self) -> &'static str {
+                "recorder"
+            }
+            spread! { method $($rows)* }
+        }
+    };
+}
+exports!(methods);

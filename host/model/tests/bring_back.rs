@@ -1,6 +1,7 @@
 //! Bring back (document 02, §11): each refusal for each of its reasons and their order, which bytes change, and
 //! kill and bring back of files of every build; on the model and on the linked library.
 
+use genie_model::binding::libraries;
 use genie_model::bring_back::{GRANULE_TAKEN, NAME_IN_USE, NOTHING_WHOLE, SLOT_IN_USE};
 use genie_model::calls::{Birth, Number, ACCEPTED, GEOMETRY, LEVEL, RANGE};
 use genie_model::consistency::consistent;
@@ -9,7 +10,7 @@ use genie_model::disks::{empty_disk, Disk};
 use genie_model::fault::Kind;
 use genie_model::geometry::Geometry;
 use genie_model::handle::Handle;
-use genie_model::library::{libraries, Library};
+use genie_model::library::Library;
 use genie_model::names::{hash, name, written};
 use genie_model::plain::files_of;
 

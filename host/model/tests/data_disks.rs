@@ -1,12 +1,13 @@
 //! Data disks (02 §4), on the model and on the linked library: which slots files get, and when there is none.
 
+use genie_model::binding::libraries;
 use genie_model::calls::{Birth, Number, ACCEPTED};
 use genie_model::consistency::faults;
 use genie_model::directory::{hit_place, put_entry, set_taken, slots, taken, Entry};
 use genie_model::disks::{empty_disk, Disk};
 use genie_model::geometry::Geometry;
 use genie_model::handle::HANDLE_BYTES;
-use genie_model::library::{libraries, Library};
+use genie_model::library::Library;
 use genie_model::names::{hash, name};
 use genie_model::space::permitted;
 

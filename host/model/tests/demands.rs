@@ -3,16 +3,17 @@
 
 use genie_model::call::{perform, Call, FAULT_SLOT, PLACE};
 use genie_model::caller::Caller;
-use genie_model::calls::{ACCEPTED, NAME, NO_PLACE};
+use genie_model::calls::{ACCEPTED, NAME, NO_PLACE, NO_SLOT};
 use genie_model::consistency::consistent;
 use genie_model::directory::{directory_sectors, entry, files, owned, slots};
 use genie_model::disks::random_disk;
+use genie_model::effect::effect;
 use genie_model::geometry::SECTOR_BYTES;
 use genie_model::handle::{Handle, HANDLE_BYTES};
 use genie_model::interleave::{demand_three, Tally};
-use genie_model::library::{Model, NO_SLOT};
+use genie_model::model::Model;
 use genie_model::names::{comes_in, hash};
-use genie_model::plain::{effect, files_of};
+use genie_model::plain::files_of;
 use genie_model::random::Random;
 use genie_model::space::{free_granules, reserved_granules};
 

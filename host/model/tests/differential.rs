@@ -6,7 +6,8 @@ use genie_model::directory::{directory_sectors, entry, slots};
 use genie_model::disks::{random_disk, Disk};
 use genie_model::geometry::SECTOR_BYTES;
 use genie_model::interleave::{demand_three, Tally};
-use genie_model::library::{Library, Model};
+use genie_model::library::Library;
+use genie_model::model::Model;
 use genie_model::random::Random;
 
 const SEED: u64 = 2026;

@@ -1,12 +1,13 @@
 //! Which bytes each call writes, and that it writes no other: hand-written cases, on the model and on the
 //! linked library.
 
+use genie_model::binding::libraries;
 use genie_model::calls::{Birth, ACCEPTED};
 use genie_model::directory::{entry, entry_place, gat_place, hit_place, put_entry, set_taken, Entry, Pair};
 use genie_model::disks::{empty_disk, Disk};
 use genie_model::geometry::Geometry;
 use genie_model::handle::Handle;
-use genie_model::library::{libraries, Library};
+use genie_model::library::Library;
 use genie_model::names::{hash, name};
 
 /// 8 blocks of 3 units, the directory on granules 0 and 1; bytes that no call may read or write are odd.

@@ -2,10 +2,10 @@
 //! By hand, on the model and on the linked library: each kind at each place where it can stand, several faults at once, and
 //! every call. And the library against the model on damaged disks.
 
-use genie_model::binding::linked;
+use genie_model::binding::{libraries, linked};
 use genie_model::by_hand::{change, is_consistent, put_extension, put_file, tells, with_runs};
 use genie_model::call::{perform, Call, FAULT_SLOT};
-use genie_model::calls::{Birth, Number};
+use genie_model::calls::{Birth, Number, NO_SLOT};
 use genie_model::consistency::{faults, Clause};
 use genie_model::damage::{random_flips, DAMAGES};
 use genie_model::differences::{FIRST, SECOND};
@@ -16,7 +16,8 @@ use genie_model::disks::{empty_disk, random_disk, Disk};
 use genie_model::fault::{fault, Fault, Kind};
 use genie_model::geometry::Geometry;
 use genie_model::handle::Handle;
-use genie_model::library::{libraries, Library, Model, NO_SLOT};
+use genie_model::library::Library;
+use genie_model::model::Model;
 use genie_model::names::{hash, name};
 use genie_model::pairs::{side, tell};
 use genie_model::random::Random;

@@ -1,9 +1,9 @@
 //! Free space from the GAT alone (02 §5): cases by hand, on the model and on the linked library.
 
+use genie_model::binding::libraries;
 use genie_model::calls::Number;
 use genie_model::fault::Kind;
 use genie_model::geometry::{Geometry, SECTOR_BYTES};
-use genie_model::library::libraries;
 
 /// An image of zeros but for these bytes of the GAT, and a HIT byte of an entry that is not in use: no consistent disk.
 fn with_gat(g: &Geometry, gat: &[u8]) -> Vec<u8> {

@@ -1,6 +1,7 @@
 //! Larger granules (02 §10), on the model and on the linked library: 10 and 20 sectors beside 01's 5. What hangs on the size, by the
 //! numbers that 02 gives for it, and what does not.
 
+use genie_model::binding::libraries;
 use genie_model::by_hand::{change, is_consistent, put_file, tells};
 use genie_model::calls::{Birth, Number, ACCEPTED, GEOMETRY, NO_GRANULES, PAST_SIZE, RANGE};
 use genie_model::directory::{chain, directory_place, entry, hit_place, owned, set_taken, Pair, LENGTH_PLACE};
@@ -8,7 +9,7 @@ use genie_model::disks::{empty_disk, Disk};
 use genie_model::fault::Kind;
 use genie_model::geometry::Geometry;
 use genie_model::handle::{Handle, HANDLE_BYTES};
-use genie_model::library::{libraries, Library};
+use genie_model::library::Library;
 use genie_model::names::name;
 use genie_model::pairs::{side, tell_all};
 

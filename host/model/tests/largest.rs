@@ -1,12 +1,12 @@
 //! The largest disk, 192 blocks of 8 units: the ends of all ranges. On the model and on the linked
 //! library.
 
+use genie_model::binding::libraries;
 use genie_model::calls::ACCEPTED;
 use genie_model::directory::{hit_place, owned, put_entry, set_taken, Entry, Pair};
 use genie_model::disks::{empty_disk, Disk};
 use genie_model::geometry::Geometry;
 use genie_model::handle::Handle;
-use genie_model::library::libraries;
 use genie_model::names::{hash, name};
 
 const SLOT: u8 = 0x00;

@@ -1,11 +1,12 @@
 //! Read program files (02 §12): cases by hand and files at random, on the model and on the linked library.
 
+use genie_model::binding::libraries;
 use genie_model::by_hand::{change, put_extension, put_file};
 use genie_model::calls::{Number, ACCEPTED, LEVEL, RANGE, STALE};
 use genie_model::disks::{empty_disk, Disk};
 use genie_model::geometry::Geometry;
 use genie_model::handle::{Handle, HANDLE_BYTES};
-use genie_model::library::{libraries, Library};
+use genie_model::library::Library;
 use genie_model::load::{cut, told, Told};
 use genie_model::names::name;
 use genie_model::random::Random;

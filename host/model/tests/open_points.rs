@@ -1,11 +1,12 @@
 //! The readings that would break demand 3 (W1, W2, W3), and V1: a dead handle can come back to life.
 //! Each on the model and on the linked library.
 
+use genie_model::binding::libraries;
 use genie_model::calls::{Birth, ACCEPTED, STALE};
 use genie_model::disks::{empty_disk, Disk};
 use genie_model::geometry::Geometry;
 use genie_model::interleave::{interleaved, List, Outcome, Step};
-use genie_model::library::{libraries, Library};
+use genie_model::library::Library;
 use genie_model::names::name;
 
 /// 2 blocks of 2 units, directory of 10 sectors at sector 10, granule 0 full of 11H, granule 1 of 22H.

@@ -5,7 +5,7 @@
 
 use genie_model::binding::linked;
 use genie_model::by_hand::{change, is_consistent, put_extension, put_file, tells, Run};
-use genie_model::calls::{Number, ACCEPTED};
+use genie_model::calls::{Number, ACCEPTED, NO_SLOT};
 use genie_model::compare::what_is;
 use genie_model::directory::{
     directory_granules, directory_place, entry, entry_place, hit_place, set_taken, slots, Entry, Pair,
@@ -14,7 +14,7 @@ use genie_model::directory::{
 use genie_model::disks::{empty_disk, random_disk_of, Disk};
 use genie_model::fault::{fault, Kind};
 use genie_model::geometry::{Geometry, MOST_BLOCKS, MOST_UNITS};
-use genie_model::library::{Library, NO_SLOT};
+use genie_model::library::Library;
 use genie_model::random::Random;
 use genie_model::space::LONGEST_RUN;
 use std::collections::{BTreeMap, BTreeSet};

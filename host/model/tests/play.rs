@@ -1,12 +1,14 @@
 //! Play back (document 02, §6): the place of every fault of a trace, the order of refusals, room, and sessions against
 //! their single calls; on the model and on the linked library, and the one against the other on traces made at random.
 
-use genie_model::calls::{Birth, Number, GEOMETRY};
+use genie_model::binding::libraries;
+use genie_model::calls::{Birth, Number, GEOMETRY, NO_SLOT};
 use genie_model::directory::hit_place;
 use genie_model::disks::{empty_disk, random_disk, random_disk_of, random_name, Disk};
 use genie_model::geometry::Geometry;
 use genie_model::handle::HANDLE_BYTES;
-use genie_model::library::{libraries, Library, Model, NO_SLOT};
+use genie_model::library::Library;
+use genie_model::model::Model;
 use genie_model::names::name;
 use genie_model::plain::files_of;
 use genie_model::play::{pack, read, Recorded, NO_ROOM, TRACE};

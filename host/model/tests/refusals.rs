@@ -1,14 +1,14 @@
 //! Each row of the table of refusals, for each call that can give it and for each of its reasons, and
 //! the order of the rows; on the model and on the linked library.
 
+use genie_model::binding::libraries;
 use genie_model::call::{perform, Call, Outcome, FAULT_SLOT, PLACE};
-use genie_model::calls::{Birth, NO_PLACE};
+use genie_model::calls::{Birth, NO_PLACE, NO_SLOT};
 use genie_model::directory::{entry_place, hit_place, put_entry, set_taken, slots, Entry, Pair};
 use genie_model::disks::{empty_disk, Disk};
 use genie_model::fault::{self, Kind};
 use genie_model::geometry::Geometry;
 use genie_model::handle::{Handle, HANDLE_BYTES};
-use genie_model::library::{libraries, NO_SLOT};
 use genie_model::names::{hash, name};
 use genie_model::space::permitted;
 

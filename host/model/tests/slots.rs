@@ -1,13 +1,13 @@
 //! 02 §13: a growth that 01's choice does not serve takes the longest free stretches, and 8 means that nothing fits. Each case on the
 //! model and on the linked library.
 
+use genie_model::binding::libraries;
 use genie_model::by_hand::{is_consistent, put_file};
 use genie_model::calls::ACCEPTED;
 use genie_model::directory::{chain, entry, slots};
 use genie_model::disks::{empty_disk, Disk};
 use genie_model::geometry::Geometry;
 use genie_model::handle::Handle;
-use genie_model::library::libraries;
 use genie_model::names::name;
 use genie_model::space::permitted;
 

@@ -1,9 +1,10 @@
 //! Names in small letters (02 §7), on the model and on the linked library: what a name comes in as, the place of its first bad
 //! byte, and that nothing behind the fold knows the bytes that were given.
 
+use genie_model::binding::libraries;
 use genie_model::by_hand::{change, put_file, tells};
 use genie_model::call::{perform, Call, Outcome, PLACE};
-use genie_model::calls::{Birth, Number, ACCEPTED, GEOMETRY, NAME, NOT_FOUND, NO_PLACE, RANGE, STALE};
+use genie_model::calls::{Birth, Number, ACCEPTED, GEOMETRY, NAME, NOT_FOUND, NO_PLACE, NO_SLOT, RANGE, STALE};
 use genie_model::consistency::faults;
 use genie_model::directory::{entry, hit};
 use genie_model::disks::{empty_disk, Disk};
@@ -11,7 +12,7 @@ use genie_model::fault::Kind;
 use genie_model::geometry::Geometry;
 use genie_model::handle::{Handle, HANDLE_BYTES};
 use genie_model::interleave::{interleaved, List, Step};
-use genie_model::library::{libraries, Library, NO_SLOT};
+use genie_model::library::Library;
 use genie_model::names::{hash, name, Name, FULL_NAME_BYTES};
 
 const NOTHING_WHOLE: Number = 18;

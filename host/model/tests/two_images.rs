@@ -1,7 +1,8 @@
 //! Request 02, §1, on the model and on the linked library: compare two images. What must be told is worked out here from
 //! how the disks were made, not by comparing them.
 
-use genie_model::calls::{check, Number, GEOMETRY, RANGE};
+use genie_model::binding::libraries;
+use genie_model::calls::{check, Number, GEOMETRY, NO_SLOT, RANGE};
 use genie_model::consistency::consistent;
 use genie_model::damage::DAMAGES;
 use genie_model::differences::{
@@ -13,7 +14,7 @@ use genie_model::fault::Kind;
 use genie_model::geometry::Geometry;
 use genie_model::handle::Handle;
 use genie_model::interleave::{demand_three, Tally};
-use genie_model::library::{libraries, Library, NO_SLOT};
+use genie_model::library::Library;
 use genie_model::names::{hash, name, Name};
 use genie_model::pairs::{holding, side, swapped, tell, tell_all, Change, CHANGES};
 use genie_model::plain::files_of;

@@ -1,12 +1,13 @@
 //! Document 01's worked table and its listing, on the model and on the linked library.
 
+use genie_model::binding::libraries;
 use genie_model::calls::{Birth, Number, ACCEPTED};
 use genie_model::directory::{directory_sectors, entry_place, hit_place, row, s, set_taken, slots, Entry, Pair};
 use genie_model::disks::{empty_disk, Disk};
 use genie_model::fault::Kind;
 use genie_model::geometry::Geometry;
 use genie_model::handle::{Handle, HANDLE_BYTES};
-use genie_model::library::{libraries, Library};
+use genie_model::library::Library;
 use genie_model::names::{hash, name, written};
 
 fn birth(length: usize) -> Birth {

@@ -113,7 +113,7 @@ static size_t least(size_t a, size_t b)
     return a < b ? a : b;
 }
 
-static void take_turn(enum call call)
+static void take_turn(unsigned call)
 {
     pthread_mutex_lock(&turn);
     if (owner != getpid())
@@ -121,18 +121,16 @@ static void take_turn(enum call call)
     w->call = call;
 }
 
-static void begin(enum call call, const uint8_t *image, size_t len, size_t blocks, size_t units, size_t start, uint16_t open_code,
-                  bool system_disk, size_t granule_sectors)
+/* A part that is lent goes over, of a longer one the beginning; what may have changed comes back. */
+static void lend(unsigned part, const uint8_t *from, size_t len)
 {
-    take_turn(call);
-    w->image_len = least(len, IMAGE_MOST);
-    w->blocks = blocks;
-    w->units = units;
-    w->start = start;
-    w->open_code = open_code;
-    w->system_disk = system_disk;
-    w->granule_sectors = granule_sectors;
-    memcpy(w->image, image, w->image_len);
+    w->length[part] = least(len, PART_MOST);
+    memcpy(w->part[part], from, w->length[part]);
+}
+
+static void take_back(unsigned part, uint8_t *to)
+{
+    memcpy(to, w->part[part], w->length[part]);
 }
 
 static void go(void)
@@ -157,259 +155,5 @@ static uint8_t end(void)
     return answer;
 }
 
-/* A call's body is written between these; what is lent goes over, what may have changed comes back. */
-#define IMAGE uint8_t *image, size_t image_len, size_t blocks, size_t units, size_t start, uint16_t open_code, bool system_disk, \
-              size_t granule_sectors
-#define BEGIN(call) begin(call, image, image_len, blocks, units, start, open_code, system_disk, granule_sectors)
-#define TAKE(part, most) (w->part##_len = least(part##_len, most), memcpy(w->part, part, w->part##_len))
-#define BACK(part) memcpy(part, w->part, w->part##_len)
-#define TAKE_NAME TAKE(name, NAME_MOST)
-#define TAKE_HANDLE TAKE(handle, HANDLE_MOST)
-#define TAKE_BUFFER TAKE(buffer, BUFFER_MOST)
-
-/* Of no disk. The folded name goes by way of the buffer. */
-uint8_t genie_name(const uint8_t *name, size_t name_len, uint8_t *folded, size_t folded_len, size_t *place)
-{
-    take_turn(FOLD);
-    TAKE_NAME;
-    w->buffer_len = least(folded_len, BUFFER_MOST);
-    memcpy(w->buffer, folded, w->buffer_len);
-    go();
-    memcpy(folded, w->buffer, w->buffer_len);
-    *place = w->place;
-    return end();
-}
-
-uint8_t genie_check(const IMAGE, size_t *fault_slot)
-{
-    BEGIN(CHECK);
-    go();
-    *fault_slot = w->fault_slot;
-    return end();
-}
-
-uint8_t genie_look_up(const IMAGE, const uint8_t *name, size_t name_len, size_t *slot, size_t *compared, size_t *place,
-                      size_t *fault_slot)
-{
-    BEGIN(LOOK_UP);
-    TAKE_NAME;
-    go();
-    *slot = w->out[0];
-    *compared = w->out[1];
-    *place = w->place;
-    *fault_slot = w->fault_slot;
-    return end();
-}
-
-uint8_t genie_open(const IMAGE, const uint8_t *name, size_t name_len, size_t length, bool checking, uint16_t code,
-                   uint8_t *handle, size_t handle_len, size_t *place, size_t *fault_slot)
-{
-    BEGIN(OPEN);
-    TAKE_NAME;
-    TAKE_HANDLE;
-    w->in[0] = length;
-    w->in[1] = checking;
-    w->in[2] = code;
-    go();
-    BACK(handle);
-    *place = w->place;
-    *fault_slot = w->fault_slot;
-    return end();
-}
-
-uint8_t genie_create(IMAGE, const uint8_t *name, size_t name_len, size_t day, size_t month, size_t year, size_t length,
-                     uint16_t main_code, uint16_t worker_code, bool checking, size_t *old, uint8_t *handle, size_t handle_len, size_t *place,
-                     size_t *fault_slot)
-{
-    BEGIN(CREATE);
-    TAKE_NAME;
-    TAKE_HANDLE;
-    w->in[0] = day;
-    w->in[1] = month;
-    w->in[2] = year;
-    w->in[3] = length;
-    w->in[4] = main_code;
-    w->in[5] = worker_code;
-    w->in[6] = checking;
-    go();
-    *old = w->out[0];
-    BACK(handle);
-    BACK(image);
-    *place = w->place;
-    *fault_slot = w->fault_slot;
-    return end();
-}
-
-uint8_t genie_read_record(const IMAGE, uint8_t *handle, size_t handle_len, uint8_t *buffer, size_t buffer_len, size_t *fault_slot)
-{
-    BEGIN(READ_RECORD);
-    TAKE_HANDLE;
-    TAKE_BUFFER;
-    go();
-    BACK(handle);
-    BACK(buffer);
-    *fault_slot = w->fault_slot;
-    return end();
-}
-
-uint8_t genie_load_record(const IMAGE, uint8_t *handle, size_t handle_len, uint8_t *buffer, size_t buffer_len, size_t *kind, size_t *address,
-                          size_t *count, size_t *position, size_t *fault_slot)
-{
-    BEGIN(LOAD_RECORD);
-    TAKE_HANDLE;
-    TAKE_BUFFER;
-    go();
-    BACK(handle);
-    BACK(buffer);
-    *kind = w->out[0];
-    *address = w->out[1];
-    *count = w->out[2];
-    *position = w->out[3];
-    *fault_slot = w->fault_slot;
-    return end();
-}
-
-uint8_t genie_read_sector(const IMAGE, const uint8_t *handle, size_t handle_len, size_t k, size_t *from, size_t *to, size_t *fault_slot)
-{
-    BEGIN(READ_SECTOR);
-    TAKE_HANDLE;
-    w->in[0] = k;
-    go();
-    *from = w->out[0];
-    *to = w->out[1];
-    *fault_slot = w->fault_slot;
-    return end();
-}
-
-uint8_t genie_write_record(IMAGE, uint8_t *handle, size_t handle_len, bool sequential, const uint8_t *buffer, size_t buffer_len, size_t *fault_slot)
-{
-    BEGIN(WRITE_RECORD);
-    TAKE_HANDLE;
-    TAKE_BUFFER;
-    w->in[0] = sequential;
-    go();
-    BACK(handle);
-    BACK(image);
-    *fault_slot = w->fault_slot;
-    return end();
-}
-
-uint8_t genie_allot(IMAGE, const uint8_t *handle, size_t handle_len, size_t k, size_t *fault_slot)
-{
-    BEGIN(ALLOT);
-    TAKE_HANDLE;
-    w->in[0] = k;
-    go();
-    BACK(image);
-    *fault_slot = w->fault_slot;
-    return end();
-}
-
-uint8_t genie_trim(IMAGE, const uint8_t *handle, size_t handle_len, size_t *fault_slot)
-{
-    BEGIN(TRIM);
-    TAKE_HANDLE;
-    go();
-    BACK(image);
-    *fault_slot = w->fault_slot;
-    return end();
-}
-
-uint8_t genie_kill(IMAGE, const uint8_t *handle, size_t handle_len, size_t *fault_slot)
-{
-    BEGIN(KILL);
-    TAKE_HANDLE;
-    go();
-    BACK(image);
-    *fault_slot = w->fault_slot;
-    return end();
-}
-
-uint8_t genie_bring_back(IMAGE, size_t slot, size_t *slots, size_t *granules, size_t *fault_slot)
-{
-    BEGIN(BRING_BACK);
-    w->in[0] = slot;
-    go();
-    *slots = w->out[0];
-    *granules = w->out[1];
-    BACK(image);
-    *fault_slot = w->fault_slot;
-    return end();
-}
-
-uint8_t genie_play(IMAGE, const uint8_t *trace, size_t trace_len, uint8_t *results, size_t results_len, size_t *calls, size_t *byte, size_t *bit,
-                   size_t *fault_slot)
-{
-    const uint8_t *second = trace;
-    size_t second_len = trace_len, buffer_len = results_len;
-    uint8_t *buffer = results;
-    BEGIN(PLAY);
-    TAKE(second, IMAGE_MOST);
-    TAKE_BUFFER;
-    go();
-    BACK(image);
-    BACK(buffer);
-    *calls = w->out[0];
-    *byte = w->out[1];
-    *bit = w->out[2];
-    *fault_slot = w->fault_slot;
-    return end();
-}
-
-uint8_t genie_list(const IMAGE, size_t number, uint8_t *name, size_t name_len, size_t *size, size_t *granules, size_t *more, size_t *fault_slot)
-{
-    BEGIN(LIST);
-    TAKE_NAME;
-    w->in[0] = number;
-    go();
-    BACK(name);
-    *size = w->out[0];
-    *granules = w->out[1];
-    *more = w->out[2];
-    *fault_slot = w->fault_slot;
-    return end();
-}
-
-uint8_t genie_count(const IMAGE, size_t *files, size_t *free, size_t *fault_slot)
-{
-    BEGIN(COUNT);
-    go();
-    *files = w->out[0];
-    *free = w->out[1];
-    *fault_slot = w->fault_slot;
-    return end();
-}
-
-uint8_t genie_free(const IMAGE, size_t *free, size_t *longest)
-{
-    BEGIN(FREE);
-    go();
-    *free = w->out[0];
-    *longest = w->out[1];
-    return end();
-}
-
-uint8_t genie_compare(const uint8_t *first, size_t first_len, size_t blocks, size_t units, size_t start, uint16_t open_code,
-                      bool system_disk, size_t granule_sectors, const uint8_t *second, size_t second_len, size_t blocks2, size_t units2,
-                      size_t start2, uint16_t open_code2, bool system_disk2, size_t granule_sectors2, size_t number, uint8_t *name,
-                      size_t name_len, size_t *image, size_t *kind, size_t *position, size_t *flags, size_t *fault_slot)
-{
-    begin(COMPARE, first, first_len, blocks, units, start, open_code, system_disk, granule_sectors);
-    TAKE(second, IMAGE_MOST);
-    w->blocks2 = blocks2;
-    w->units2 = units2;
-    w->start2 = start2;
-    w->open_code2 = open_code2;
-    w->system_disk2 = system_disk2;
-    w->granule_sectors2 = granule_sectors2;
-    TAKE_NAME;
-    w->in[0] = number;
-    go();
-    BACK(name);
-    *image = w->out[0];
-    *kind = w->out[1];
-    *position = w->out[2];
-    *flags = w->out[3];
-    *fault_slot = w->fault_slot;
-    return end();
-}
+/* The exported functions, made of genie.h by `calls`. */
+#include "client-calls.h"

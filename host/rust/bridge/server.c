@@ -2,6 +2,8 @@
  * when it is done. For x86-64 Linux, without a C library. It ends when the client does. */
 #include "wire.h"
 #include <stdbool.h>
+/* The calls alone: the structs over them want a C library's header. */
+#define GENIE_DISK_H
 #include "genie.h"
 
 enum { READ = 0, WRITE = 1, MMAP = 9, EXIT_GROUP = 231 };
@@ -68,53 +70,13 @@ void *memchr(const void *from, int byte, size_t n)
     return 0;
 }
 
-#define IMAGE w->image, w->image_len, w->blocks, w->units, w->start, (uint16_t)w->open_code, (bool)w->system_disk, w->granule_sectors
-#define NAME w->name, w->name_len
-#define HANDLE w->handle, w->handle_len
-#define BUFFER w->buffer, w->buffer_len
-
-static uint8_t serve(struct wire *w, size_t out[4], size_t *place, size_t *fault_slot)
+/* The call that stands there, made of genie.h by `calls`. */
+static uint8_t serve(struct wire *w)
 {
-    const uint64_t *in = w->in;
     switch (w->call) {
-    case FOLD:
-        return genie_name(NAME, BUFFER, place);
-    case CHECK:
-        return genie_check(IMAGE, fault_slot);
-    case LOOK_UP:
-        return genie_look_up(IMAGE, NAME, &out[0], &out[1], place, fault_slot);
-    case OPEN:
-        return genie_open(IMAGE, NAME, in[0], in[1], (uint16_t)in[2], HANDLE, place, fault_slot);
-    case CREATE:
-        return genie_create(IMAGE, NAME, in[0], in[1], in[2], in[3], (uint16_t)in[4], (uint16_t)in[5], in[6], &out[0], HANDLE, place, fault_slot);
-    case READ_RECORD:
-        return genie_read_record(IMAGE, HANDLE, BUFFER, fault_slot);
-    case LOAD_RECORD:
-        return genie_load_record(IMAGE, HANDLE, BUFFER, &out[0], &out[1], &out[2], &out[3], fault_slot);
-    case READ_SECTOR:
-        return genie_read_sector(IMAGE, HANDLE, in[0], &out[0], &out[1], fault_slot);
-    case WRITE_RECORD:
-        return genie_write_record(IMAGE, HANDLE, in[0], BUFFER, fault_slot);
-    case ALLOT:
-        return genie_allot(IMAGE, HANDLE, in[0], fault_slot);
-    case TRIM:
-        return genie_trim(IMAGE, HANDLE, fault_slot);
-    case KILL:
-        return genie_kill(IMAGE, HANDLE, fault_slot);
-    case BRING_BACK:
-        return genie_bring_back(IMAGE, in[0], &out[0], &out[1], fault_slot);
-    case PLAY:
-        return genie_play(IMAGE, w->second, w->second_len, BUFFER, &out[0], &out[1], &out[2], fault_slot);
-    case LIST:
-        return genie_list(IMAGE, in[0], NAME, &out[0], &out[1], &out[2], fault_slot);
-    case COMPARE:
-        return genie_compare(IMAGE, w->second, w->second_len, w->blocks2, w->units2, w->start2, (uint16_t)w->open_code2,
-                             (bool)w->system_disk2, w->granule_sectors2, in[0], NAME, &out[0], &out[1], &out[2], &out[3], fault_slot);
-    case COUNT:
-        return genie_count(IMAGE, &out[0], &out[1], fault_slot);
-    default:
-        return genie_free(IMAGE, &out[0], &out[1]);
+#include "server-calls.h"
     }
+    return 255;
 }
 
 __attribute__((used)) static void begin(void)
@@ -123,13 +85,7 @@ __attribute__((used)) static void begin(void)
     struct wire *w = (struct wire *)at;
     char byte = 0;
     while (at > 0 && kernel(READ, SOCKET_FD, (long)&byte, 1, 0, 0, 0) == 1) {
-        size_t out[4] = {w->out[0], w->out[1], w->out[2], w->out[3]};
-        size_t place = w->place, fault_slot = w->fault_slot;
-        w->answer = serve(w, out, &place, &fault_slot);
-        w->place = place;
-        w->fault_slot = fault_slot;
-        for (int i = 0; i < 4; i++)
-            w->out[i] = out[i];
+        w->answer = serve(w);
         if (kernel(WRITE, SOCKET_FD, (long)&byte, 1, 0, 0, 0) != 1)
             break;
     }

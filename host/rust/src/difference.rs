@@ -1,5 +1,5 @@
 use crate::{sys, Disk, Geometry, Name, Refusal};
-use std::fmt;
+use core::fmt;
 
 /// A difference between two disks, as [`Disk::differences`] tells it.
 ///
@@ -54,6 +54,7 @@ pub enum Which {
 
 /// Why two disks could not be compared: one of them was refused. The first's refusal is told before the second's.
 #[derive(Clone, Copy, Debug, PartialEq, Eq)]
+#[non_exhaustive]
 pub struct RefusedImage {
     /// The disk that was refused.
     pub image: Which,
@@ -72,6 +73,7 @@ impl fmt::Display for RefusedImage {
     }
 }
 
+#[cfg(feature = "std")]
 impl std::error::Error for RefusedImage {}
 
 /// The differences of two disks, by name and type bytes, rising. [`Disk::differences`] makes it.
@@ -95,7 +97,7 @@ impl<B: AsRef<[u8]>> Disk<B> {
     /// let geometry = Geometry::new(16, 2, 80, 0x4296);
     /// let mut before = Disk::blank(geometry, 10, &[0])?;
     /// let name: Name = "PULS01/DAT".parse().unwrap();
-    /// let new = NewFile { record_length: 3, ..NewFile::open(geometry, Date::new(1983, 10, 9)) };
+    /// let new = NewFile::open(geometry, Date::new(1983, 10, 9)).with_record_length(3);
     /// let mut handle = before.create(&name, &new)?.handle;
     /// before.write_record(&mut handle, Kind::Sequential, b"ABC")?;
     ///
@@ -120,13 +122,14 @@ impl<B: AsRef<[u8]>> Disk<B> {
     /// A refusal says which disk it is of:
     ///
     /// ```
-    /// use genie_dos::{Disk, Fault, FaultKind, Geometry, Refusal, RefusedImage, Which};
+    /// use genie_dos::{Disk, Fault, FaultKind, Geometry, Refusal, Which};
     ///
     /// let geometry = Geometry::new(16, 2, 80, 0x4296);
     /// let disk = Disk::blank(geometry, 10, &[0])?;
     /// let damaged = Disk::new([0; 40_960], geometry);
     /// let clear = Refusal::Inconsistent(Fault::of_disk(FaultKind::DirectoryGranule));
-    /// assert_eq!(disk.differences(&damaged).err(), Some(RefusedImage { image: Which::Second, refusal: clear }));
+    /// let refused = disk.differences(&damaged).err().unwrap();
+    /// assert_eq!((refused.image, refused.refusal), (Which::Second, clear));
     /// # Ok::<(), Refusal>(())
     /// ```
     pub fn differences<'a, C: AsRef<[u8]>>(&'a self, second: &'a Disk<C>) -> Result<Differences<'a>, RefusedImage> {
@@ -149,7 +152,7 @@ impl Iterator for Differences<'_> {
     }
 }
 
-impl std::iter::FusedIterator for Differences<'_> {}
+impl core::iter::FusedIterator for Differences<'_> {}
 
 /// The difference of a running number, from 0; none past the last.
 fn told(first: &Disk<&[u8]>, second: &Disk<&[u8]>, number: usize) -> Result<Option<Difference>, RefusedImage> {

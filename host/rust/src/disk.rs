@@ -1,5 +1,7 @@
 use crate::entry::Directory;
 use crate::{sys, Date, Entry, Fault, FaultKind, Geometry, Handle, Name, Refusal, TracePlace};
+use alloc::string::String;
+use alloc::vec::Vec;
 
 /// A disk: the bytes of its image and the geometry that the caller states for it.
 ///
@@ -15,7 +17,7 @@ use crate::{sys, Date, Entry, Fault, FaultKind, Geometry, Handle, Name, Refusal,
 /// let mut disk = Disk::blank(geometry, 10, &[0])?;
 ///
 /// let name: Name = "PULS01/DAT".parse().unwrap();
-/// let new = NewFile { record_length: 128, ..NewFile::open(geometry, Date::new(1983, 10, 9)) };
+/// let new = NewFile::open(geometry, Date::new(1983, 10, 9)).with_record_length(128);
 /// let mut handle = disk.create(&name, &new)?.handle;
 /// disk.write_record(&mut handle, Kind::Sequential, &[7; 128])?;
 /// disk.write_record(&mut handle, Kind::Sequential, &[8; 128])?;
@@ -34,6 +36,7 @@ pub struct Disk<B = Vec<u8>> {
 
 /// The answer of [`Disk::look_up`].
 #[derive(Clone, Copy, Debug, PartialEq, Eq)]
+#[non_exhaustive]
 pub struct LookUp {
     /// The slot of the file's primary entry, or why there is none.
     pub slot: Result<u8, Refusal>,
@@ -44,6 +47,7 @@ pub struct LookUp {
 
 /// How [`Disk::open`] is to treat the file's password.
 #[derive(Clone, Copy, Debug, PartialEq, Eq)]
+#[non_exhaustive]
 pub enum Password {
     /// Checking is off: every file opens at level 0.
     Unchecked,
@@ -51,8 +55,9 @@ pub enum Password {
     Code(u16),
 }
 
-/// What [`Disk::create`] puts into a new file's entry.
+/// What [`Disk::create`] puts into a new file's entry: made by [`open`](NewFile::open) and altered by `with_...`.
 #[derive(Clone, Copy, Debug, PartialEq, Eq)]
+#[non_exhaustive]
 pub struct NewFile {
     /// The file's date.
     pub date: Date,
@@ -77,10 +82,31 @@ impl NewFile {
             checking: true,
         }
     }
+
+    /// The same with this date.
+    pub const fn with_date(self, date: Date) -> NewFile {
+        NewFile { date, ..self }
+    }
+
+    /// The same with this record length.
+    pub const fn with_record_length(self, record_length: usize) -> NewFile {
+        NewFile { record_length, ..self }
+    }
+
+    /// The same with these codes, the main one and the worker's.
+    pub const fn with_codes(self, main_code: u16, worker_code: u16) -> NewFile {
+        NewFile { main_code, worker_code, ..self }
+    }
+
+    /// The same with the password of an existing file checked or not.
+    pub const fn with_checking(self, checking: bool) -> NewFile {
+        NewFile { checking, ..self }
+    }
 }
 
 /// The answer of [`Disk::create`].
 #[derive(Clone, Copy, Debug, PartialEq, Eq)]
+#[non_exhaustive]
 pub struct Created {
     /// The file, open at position 0.
     pub handle: Handle,
@@ -90,6 +116,7 @@ pub struct Created {
 
 /// The two kinds of write.
 #[derive(Clone, Copy, Debug, PartialEq, Eq)]
+#[non_exhaustive]
 pub enum Kind {
     /// The file ends behind the record, even if it was longer.
     Sequential,
@@ -99,6 +126,7 @@ pub enum Kind {
 
 /// A file of the listing.
 #[derive(Clone, Copy, Debug, PartialEq, Eq)]
+#[non_exhaustive]
 pub struct Listed {
     /// Its name.
     pub name: Name,
@@ -110,6 +138,7 @@ pub struct Listed {
 
 /// The answer of [`Disk::count`].
 #[derive(Clone, Copy, Debug, PartialEq, Eq)]
+#[non_exhaustive]
 pub struct Counts {
     /// Files, system files left out.
     pub files: usize,
@@ -119,6 +148,7 @@ pub struct Counts {
 
 /// The answer of [`Disk::free_space`], in granules.
 #[derive(Clone, Copy, Debug, PartialEq, Eq)]
+#[non_exhaustive]
 pub struct FreeSpace {
     /// Free granules.
     pub free: usize,
@@ -128,6 +158,7 @@ pub struct FreeSpace {
 
 /// The answer of [`Disk::bring_back`].
 #[derive(Clone, Copy, Debug, PartialEq, Eq)]
+#[non_exhaustive]
 pub struct BroughtBack {
     /// Directory slots that are in use again.
     pub slots: usize,
@@ -255,7 +286,7 @@ impl<B: AsRef<[u8]>> Disk<B> {
     /// # use genie_dos::*;
     /// # let disk = Disk::blank(Geometry::new(16, 2, 80, 0x4296), 10, &[0])?;
     /// let answer = disk.look_up(&"PULS01/DAT".parse().unwrap());
-    /// assert_eq!(answer, LookUp { slot: Err(Refusal::NotFound), compared: 0 });
+    /// assert_eq!((answer.slot, answer.compared), (Err(Refusal::NotFound), 0));
     /// # Ok::<(), Refusal>(())
     /// ```
     pub fn look_up(&self, name: &Name) -> LookUp {
@@ -293,7 +324,7 @@ impl<B: AsRef<[u8]>> Disk<B> {
     /// # use genie_dos::*;
     /// # let mut disk = Disk::blank(Geometry::new(16, 2, 80, 0x4296), 10, &[0])?;
     /// let name = "EICH01/DAT".parse().unwrap();
-    /// let new = NewFile { main_code: 0x1234, ..NewFile::open(disk.geometry(), Date::new(1983, 10, 9)) };
+    /// let new = NewFile::open(disk.geometry(), Date::new(1983, 10, 9)).with_codes(0x1234, disk.geometry().open_code);
     /// disk.create(&name, &new)?;
     /// assert_eq!(disk.open(&name, 256, Password::Code(0x1234))?.level(), 0);
     /// assert_eq!(disk.open(&name, 256, Password::Code(0x4321)), Err(Refusal::Password));
@@ -420,9 +451,11 @@ impl<B: AsRef<[u8]>> Disk<B> {
     /// # let mut disk = Disk::blank(Geometry::new(16, 2, 80, 0x4296), 10, &[0])?;
     /// # let name = "LEER".parse().unwrap();
     /// # disk.create(&name, &NewFile::open(disk.geometry(), Date::new(1983, 10, 9)))?;
-    /// assert_eq!(disk.list(0)?, Some(Listed { name: "LEER".parse().unwrap(), size: 0, granules: 0 }));
+    /// let first = disk.list(0)?.unwrap();
+    /// assert_eq!((first.name.to_string().as_str(), first.size, first.granules), ("LEER", 0, 0));
     /// assert_eq!(disk.list(1)?, None);
-    /// assert_eq!(disk.count()?, Counts { files: 1, free: 29 });
+    /// let counts = disk.count()?;
+    /// assert_eq!((counts.files, counts.free), (1, 29));
     /// # Ok::<(), Refusal>(())
     /// ```
     pub fn list(&self, number: usize) -> Result<Option<Listed>, Refusal> {
@@ -483,7 +516,8 @@ impl<B: AsRef<[u8]>> Disk<B> {
     /// # use genie_dos::*;
     /// // 32 granules, of which 0 and the directory's 16 and 17 are reserved.
     /// let mut disk = Disk::blank(Geometry::new(16, 2, 80, 0x4296), 10, &[0])?;
-    /// assert_eq!(disk.free_space()?, FreeSpace { free: 29, longest: 15 });
+    /// let space = disk.free_space()?;
+    /// assert_eq!((space.free, space.longest), (29, 15));
     /// # Ok::<(), Refusal>(())
     /// ```
     pub fn free_space(&self) -> Result<FreeSpace, Refusal> {
@@ -767,7 +801,8 @@ impl<B: AsMut<[u8]>> Disk<B> {
     /// # disk.write_record(&mut handle, Kind::Sequential, &[7; 256])?;
     /// let before = disk.image().to_vec();
     /// disk.kill(&handle)?;
-    /// assert_eq!(disk.bring_back(handle.slot().into())?, BroughtBack { slots: 1, granules: 1 });
+    /// let back = disk.bring_back(handle.slot().into())?;
+    /// assert_eq!((back.slots, back.granules), (1, 1));
     /// assert_eq!(disk.image(), before);
     /// assert_eq!(disk.bring_back(handle.slot().into()), Err(Refusal::SlotInUse));
     /// # Ok::<(), Refusal>(())

@@ -1,5 +1,6 @@
 use crate::{Geometry, Name};
-use std::fmt;
+use alloc::vec::Vec;
+use core::fmt;
 
 /// A day as the directory keeps it: year 1980 to 1995, month 0 to 15, day 0 to 31.
 ///
@@ -273,6 +274,7 @@ impl<'a> Directory<'a> {
 #[cfg(test)]
 mod tests {
     use super::*;
+    use alloc::string::ToString;
 
     fn entry(bytes: [u8; 32]) -> Entry {
         Entry { slot: 0x25, bytes, runs: vec![Run { first: 53, granules: 3 }, Run { first: 2, granules: 1 }] }

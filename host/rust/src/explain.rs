@@ -1,10 +1,12 @@
 use crate::damaged::{first, place, Reading};
 use crate::{Disk, Fault, Name};
-use std::fmt;
+use alloc::string::{String, ToString};
+use core::fmt;
 
 /// A fault in words, with its place: what a person needs to find it. Kind and slot are the library's word; the rest this
 /// crate reads off the image.
 #[derive(Clone, Debug, PartialEq, Eq)]
+#[non_exhaustive]
 pub struct Explained {
     /// The fault itself.
     pub fault: Fault,

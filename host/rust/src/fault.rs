@@ -1,4 +1,4 @@
-use std::fmt;
+use core::fmt;
 
 /// What contradicts itself on a disk that is not consistent: one of ten kinds, by the rule of a consistent disk that is
 /// broken.
@@ -11,6 +11,7 @@ use std::fmt;
 /// assert_eq!(FaultKind::GranuleShared.to_string(), "granule shared");
 /// ```
 #[derive(Clone, Copy, Debug, PartialEq, Eq, PartialOrd, Ord, Hash)]
+#[non_exhaustive]
 pub enum FaultKind {
     /// 21: the directory's length (HIT byte 1FH) is not allowed, or passes the end of the disk.
     DirectoryLength,
@@ -103,6 +104,7 @@ impl fmt::Display for FaultKind {
 /// The fault of a disk that is not consistent, as the library tells it: of all faults the one in the lowest slot, and at
 /// that slot the first kind. [`Disk::explain`](crate::Disk::explain) says it in words.
 #[derive(Clone, Copy, Debug, PartialEq, Eq, Hash)]
+#[non_exhaustive]
 pub struct Fault {
     /// What is wrong.
     pub kind: FaultKind,
@@ -112,6 +114,11 @@ pub struct Fault {
 }
 
 impl Fault {
+    /// A fault of this kind, of a slot or of none.
+    pub const fn new(kind: FaultKind, slot: Option<u8>) -> Fault {
+        Fault { kind, slot }
+    }
+
     /// A fault of a slot.
     pub const fn at(kind: FaultKind, slot: u8) -> Fault {
         Fault { kind, slot: Some(slot) }
@@ -126,6 +133,7 @@ impl Fault {
 #[cfg(test)]
 mod tests {
     use super::*;
+    use alloc::vec::Vec;
 
     #[test]
     fn numbers_and_words() {

@@ -47,6 +47,8 @@ pub struct Geometry {
 }
 
 impl Geometry {
+    /// The code of "no password" where none is stated: the TRSDOS family's code of a blank password.
+    pub const OPEN_CODE: u16 = 0x4296;
     /// Bytes in a sector.
     pub const SECTOR_BYTES: usize = 256;
     /// Sectors that a granule can have; the first is meant where nothing is stated.
@@ -120,7 +122,7 @@ impl Geometry {
     }
 
     /// The granules of a directory of so many sectors, those that it only touches included.
-    pub fn directory_granules(&self, sectors: usize) -> std::ops::Range<usize> {
+    pub fn directory_granules(&self, sectors: usize) -> core::ops::Range<usize> {
         let first = self.start / self.granule_sectors.max(1);
         first..first + self.granules_for(sectors.saturating_mul(Self::SECTOR_BYTES))
     }

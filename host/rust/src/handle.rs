@@ -1,5 +1,5 @@
 use crate::Name;
-use std::fmt;
+use core::fmt;
 
 /// An open file: 19 bytes that the library fills on open and create, and tests again in each call.
 ///

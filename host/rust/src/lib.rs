@@ -25,8 +25,32 @@
 //! assert_eq!(disk.listing()?, "FILES 2\nPULS01/DAT 257 1\nLEER 0 0\nFREE 28\n");
 //! # Ok::<(), genie_dos::Refusal>(())
 //! ```
+//!
+//! # Threads
+//!
+//! The library keeps nothing between calls and no call touches anything but what it is lent. So every type here is [`Send`] and
+//! [`Sync`] (a `Disk<B>` as far as its bytes are): any number of threads may look at one disk, and change disks of their own. Two
+//! threads that change one disk need a lock, which the compiler asks for: a change borrows the disk mutably.
+//!
+//! # Without the standard library
+//!
+//! The crate needs `core` and `alloc`. The feature `std`, on by default, makes the refusals errors of [`std::error::Error`]; with
+//! `default-features = false` that is left out, and nothing else.
+//!
+//! # What may come
+//!
+//! Structs and enums of answers and refusals are `non_exhaustive`: a later library may tell more. What is handed in is made by a
+//! function and altered by `with_...` ([`Geometry`], [`NewFile`], [`Drawing`]). What the documents close stays as it is: [`Date`], [`Run`],
+//! [`Difference`], the records of a program ([`Loaded`], [`Piece`]) and the calls of a session ([`Trace`], [`Recorded`], [`Call`],
+//! [`TracePlace`]).
 
+#![no_std]
 #![warn(missing_docs)]
+
+#[macro_use]
+extern crate alloc;
+#[cfg(feature = "std")]
+extern crate std;
 
 // What `sys` declares, where the archive is not asked for (build.rs).
 #[cfg(not(genie_archive))]
@@ -42,9 +66,11 @@ mod geometry;
 mod handle;
 mod map;
 mod name;
+mod preset;
 mod program;
 mod refusal;
 mod room;
+pub mod search;
 mod sys;
 mod trace;
 
@@ -61,6 +87,7 @@ pub use geometry::Geometry;
 pub use handle::Handle;
 pub use map::{markup_text, Cell, Drawing, Holds, Map, MappedFile, Part};
 pub use name::{BadName, Name};
+pub use preset::Preset;
 pub use program::{Loaded, Piece, Program, RefusedLoad, LOAD_BYTES};
 pub use refusal::{Refusal, TracePlace};
 pub use room::{Growth, Slots};

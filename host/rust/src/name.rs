@@ -1,6 +1,7 @@
 use crate::{sys, Refusal};
-use std::fmt;
-use std::str::FromStr;
+use alloc::string::{String, ToString};
+use core::fmt;
+use core::str::FromStr;
 
 /// A file's name and type: 11 bytes, 8 for the name and 3 for the type, each padded right with blanks.
 ///
@@ -266,11 +267,12 @@ impl fmt::Display for BadName {
 
 /// The character that bytes begin with, in quotes: one of several bytes whole, as a text has it. None if they begin with none.
 fn character(bytes: &[u8]) -> Option<String> {
-    let text = (1..=4).find_map(|length| std::str::from_utf8(bytes.get(..length)?).ok())?;
+    let text = (1..=4).find_map(|length| core::str::from_utf8(bytes.get(..length)?).ok())?;
     let c = text.chars().next().filter(|c| !c.is_control())?;
     Some(format!("{c:?}"))
 }
 
+#[cfg(feature = "std")]
 impl std::error::Error for BadName {}
 
 #[cfg(test)]

@@ -1,6 +1,7 @@
 //! Program files, read record by record.
 
-use std::fmt;
+use alloc::vec::Vec;
+use core::fmt;
 
 use crate::{sys, Disk, Handle, Refusal};
 
@@ -40,6 +41,7 @@ pub enum Piece {
 
 /// A refused load record: 31, 32 and 33 say where in the file.
 #[derive(Clone, Copy, Debug, PartialEq, Eq)]
+#[non_exhaustive]
 pub struct RefusedLoad {
     /// The refusal.
     pub refusal: Refusal,
@@ -57,6 +59,7 @@ impl fmt::Display for RefusedLoad {
     }
 }
 
+#[cfg(feature = "std")]
 impl std::error::Error for RefusedLoad {}
 
 /// The pieces of a program file: its records, then its start address or a refusal. [`Disk::program`] makes it.
@@ -78,7 +81,7 @@ impl<B: AsRef<[u8]>> Disk<B> {
     /// # use genie_dos::*;
     /// # let mut disk = Disk::blank(Geometry::new(16, 2, 80, 0x4296), 10, &[0])?;
     /// # let name = "PULS/CMD".parse().unwrap();
-    /// # let new = NewFile { record_length: 9, ..NewFile::open(disk.geometry(), Date::new(1983, 10, 9)) };
+    /// # let new = NewFile::open(disk.geometry(), Date::new(1983, 10, 9)).with_record_length(9);
     /// # let mut handle = disk.create(&name, &new)?.handle;
     /// # disk.write_record(&mut handle, Kind::Sequential, &[1, 3, 0, 0x60, 0xC9, 2, 2, 0, 0x60])?;
     /// let mut handle = disk.open(&name, 256, Password::Unchecked)?;
@@ -129,7 +132,7 @@ impl<B: AsRef<[u8]>> Disk<B> {
     /// # use genie_dos::*;
     /// # let mut disk = Disk::blank(Geometry::new(16, 2, 80, 0x4296), 10, &[0])?;
     /// # let name = "PULS/CMD".parse().unwrap();
-    /// # let new = NewFile { record_length: 9, ..NewFile::open(disk.geometry(), Date::new(1983, 10, 9)) };
+    /// # let new = NewFile::open(disk.geometry(), Date::new(1983, 10, 9)).with_record_length(9);
     /// # let mut handle = disk.create(&name, &new)?.handle;
     /// # disk.write_record(&mut handle, Kind::Sequential, &[1, 3, 0, 0x60, 0xC9, 2, 2, 0, 0x60])?;
     /// let handle = disk.open(&name, 256, Password::Unchecked)?;
@@ -158,4 +161,4 @@ impl Iterator for Program<'_> {
     }
 }
 
-impl std::iter::FusedIterator for Program<'_> {}
+impl core::iter::FusedIterator for Program<'_> {}

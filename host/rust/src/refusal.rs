@@ -1,5 +1,5 @@
 use crate::{Fault, FaultKind, Name};
-use std::fmt;
+use core::fmt;
 
 /// Where a trace is bad: the first bit of its first bad field, or its end where it breaks off; so many whole bytes, and so
 /// many bits, 0 to 7, behind its beginning.
@@ -274,11 +274,13 @@ impl fmt::Display for Refusal {
     }
 }
 
+#[cfg(feature = "std")]
 impl std::error::Error for Refusal {}
 
 #[cfg(test)]
 mod tests {
     use super::*;
+    use alloc::vec::Vec;
 
     #[test]
     fn every_number_has_its_refusal_and_its_own_text() {

@@ -1,8 +1,10 @@
 use crate::entry::Directory;
 use crate::{Disk, Geometry, Name, Refusal};
+use alloc::vec::Vec;
 
 /// The slots of a directory that files and their extensions may have, as [`Disk::slots`] counts them.
 #[derive(Clone, Copy, Debug, PartialEq, Eq)]
+#[non_exhaustive]
 pub struct Slots {
     /// How many there are.
     pub all: usize,
@@ -16,6 +18,7 @@ pub struct Slots {
 /// longest free stretch that is left, at most 32 granules at a time. No choice of as many granules has fewer runs: where this one
 /// has more than there is room for, the growth is refused with 8.
 #[derive(Clone, Debug, PartialEq, Eq)]
+#[non_exhaustive]
 pub struct Growth {
     /// Granules that the last run can be lengthened by: those that are free just behind it, up to 32 in the run.
     pub lengthening: usize,
@@ -64,9 +67,9 @@ impl<B: AsRef<[u8]>> Disk<B> {
     ///
     /// let geometry = Geometry::new(16, 2, 80, 0x4296);
     /// let disk = Disk::blank(geometry, 10, &[0])?;
-    /// assert_eq!(disk.slots()?, Slots { all: 32, free: 32 });
+    /// assert_eq!((disk.slots()?.all, disk.slots()?.free), (32, 32));
     /// let data = Disk::new(disk.image(), geometry.with_system_disk(false));
-    /// assert_eq!(data.slots()?, Slots { all: 62, free: 62 });
+    /// assert_eq!((data.slots()?.all, data.slots()?.free), (62, 62));
     /// # Ok::<(), genie_dos::Refusal>(())
     /// ```
     pub fn slots(&self) -> Result<Slots, Refusal> {
@@ -85,7 +88,7 @@ impl<B: AsRef<[u8]>> Disk<B> {
     /// let handle = disk.create(&name, &NewFile::open(geometry, Date::new(1983, 10, 9)))?.handle;
     /// disk.allot(&handle, 0)?; // granule 1; 2 is free behind it, then 4 to 15 and 18 to 31
     /// let growth = disk.growth(&name)?;
-    /// assert_eq!(growth, Growth { lengthening: 1, stretches: vec![12, 14], room: 3 + 4 * 31 });
+    /// assert_eq!((growth.lengthening, growth.stretches.as_slice(), growth.room), (1, &[12, 14][..], 3 + 4 * 31));
     /// assert_eq!([1, 15, 16, 28].map(|granules| growth.runs_needed(granules)), [Some(0), Some(1), Some(2), None]);
     /// # Ok::<(), genie_dos::Refusal>(())
     /// ```

@@ -1,4 +1,5 @@
-//! The library's exported functions, as `host/include/genie.h` declares them.
+//! The library's exported functions, each declared once: the table below is held against `host/include/genie.h` by
+//! `tests/header.rs`, and the crate `genie-model` makes its interface of the same table.
 //!
 //! A slice is a pointer and a length. Every function answers the refusal number, 0 if it accepts, and all but
 //! `genie_free` and `genie_name` set the slot of the disk's fault, 256 where there is none to tell; those that take a name
@@ -6,299 +7,74 @@
 //! of any C function, that the pointers are not null, that the lent parts are there for their whole length and do not
 //! overlap. References and slices of safe Rust meet them, so the calls in this crate pass nothing else.
 
-extern "C" {
-    pub fn genie_name(name: *const u8, name_len: usize, folded: *mut u8, folded_len: usize, place: *mut usize) -> u8;
-
-    pub fn genie_check(
-        image: *const u8,
-        image_len: usize,
-        blocks: usize,
-        units: usize,
-        start: usize,
-        open_code: u16,
-        system_disk: bool,
-        granule_sectors: usize,
-        fault_slot: *mut usize,
-    ) -> u8;
-
-    pub fn genie_look_up(
-        image: *const u8,
-        image_len: usize,
-        blocks: usize,
-        units: usize,
-        start: usize,
-        open_code: u16,
-        system_disk: bool,
-        granule_sectors: usize,
-        name: *const u8,
-        name_len: usize,
-        slot: *mut usize,
-        compared: *mut usize,
-        place: *mut usize,
-        fault_slot: *mut usize,
-    ) -> u8;
-
-    pub fn genie_open(
-        image: *const u8,
-        image_len: usize,
-        blocks: usize,
-        units: usize,
-        start: usize,
-        open_code: u16,
-        system_disk: bool,
-        granule_sectors: usize,
-        name: *const u8,
-        name_len: usize,
-        length: usize,
-        checking: bool,
-        code: u16,
-        handle: *mut u8,
-        handle_len: usize,
-        place: *mut usize,
-        fault_slot: *mut usize,
-    ) -> u8;
-
-    pub fn genie_create(
-        image: *mut u8,
-        image_len: usize,
-        blocks: usize,
-        units: usize,
-        start: usize,
-        open_code: u16,
-        system_disk: bool,
-        granule_sectors: usize,
-        name: *const u8,
-        name_len: usize,
-        day: usize,
-        month: usize,
-        year: usize,
-        length: usize,
-        main_code: u16,
-        worker_code: u16,
-        checking: bool,
-        old: *mut usize,
-        handle: *mut u8,
-        handle_len: usize,
-        place: *mut usize,
-        fault_slot: *mut usize,
-    ) -> u8;
-
-    pub fn genie_read_record(
-        image: *const u8,
-        image_len: usize,
-        blocks: usize,
-        units: usize,
-        start: usize,
-        open_code: u16,
-        system_disk: bool,
-        granule_sectors: usize,
-        handle: *mut u8,
-        handle_len: usize,
-        buffer: *mut u8,
-        buffer_len: usize,
-        fault_slot: *mut usize,
-    ) -> u8;
-
-    pub fn genie_load_record(
-        image: *const u8,
-        image_len: usize,
-        blocks: usize,
-        units: usize,
-        start: usize,
-        open_code: u16,
-        system_disk: bool,
-        granule_sectors: usize,
-        handle: *mut u8,
-        handle_len: usize,
-        buffer: *mut u8,
-        buffer_len: usize,
-        kind: *mut usize,
-        address: *mut usize,
-        count: *mut usize,
-        position: *mut usize,
-        fault_slot: *mut usize,
-    ) -> u8;
-
-    pub fn genie_read_sector(
-        image: *const u8,
-        image_len: usize,
-        blocks: usize,
-        units: usize,
-        start: usize,
-        open_code: u16,
-        system_disk: bool,
-        granule_sectors: usize,
-        handle: *const u8,
-        handle_len: usize,
-        k: usize,
-        from: *mut usize,
-        to: *mut usize,
-        fault_slot: *mut usize,
-    ) -> u8;
-
-    pub fn genie_write_record(
-        image: *mut u8,
-        image_len: usize,
-        blocks: usize,
-        units: usize,
-        start: usize,
-        open_code: u16,
-        system_disk: bool,
-        granule_sectors: usize,
-        handle: *mut u8,
-        handle_len: usize,
-        sequential: bool,
-        buffer: *const u8,
-        buffer_len: usize,
-        fault_slot: *mut usize,
-    ) -> u8;
-
-    pub fn genie_allot(
-        image: *mut u8,
-        image_len: usize,
-        blocks: usize,
-        units: usize,
-        start: usize,
-        open_code: u16,
-        system_disk: bool,
-        granule_sectors: usize,
-        handle: *const u8,
-        handle_len: usize,
-        k: usize,
-        fault_slot: *mut usize,
-    ) -> u8;
-
-    pub fn genie_trim(
-        image: *mut u8,
-        image_len: usize,
-        blocks: usize,
-        units: usize,
-        start: usize,
-        open_code: u16,
-        system_disk: bool,
-        granule_sectors: usize,
-        handle: *const u8,
-        handle_len: usize,
-        fault_slot: *mut usize,
-    ) -> u8;
-
-    pub fn genie_kill(
-        image: *mut u8,
-        image_len: usize,
-        blocks: usize,
-        units: usize,
-        start: usize,
-        open_code: u16,
-        system_disk: bool,
-        granule_sectors: usize,
-        handle: *const u8,
-        handle_len: usize,
-        fault_slot: *mut usize,
-    ) -> u8;
-
-    pub fn genie_bring_back(
-        image: *mut u8,
-        image_len: usize,
-        blocks: usize,
-        units: usize,
-        start: usize,
-        open_code: u16,
-        system_disk: bool,
-        granule_sectors: usize,
-        slot: usize,
-        slots: *mut usize,
-        granules: *mut usize,
-        fault_slot: *mut usize,
-    ) -> u8;
-
-    pub fn genie_play(
-        image: *mut u8,
-        image_len: usize,
-        blocks: usize,
-        units: usize,
-        start: usize,
-        open_code: u16,
-        system_disk: bool,
-        granule_sectors: usize,
-        trace: *const u8,
-        trace_len: usize,
-        results: *mut u8,
-        results_len: usize,
-        calls: *mut usize,
-        byte: *mut usize,
-        bit: *mut usize,
-        fault_slot: *mut usize,
-    ) -> u8;
-
-    pub fn genie_list(
-        image: *const u8,
-        image_len: usize,
-        blocks: usize,
-        units: usize,
-        start: usize,
-        open_code: u16,
-        system_disk: bool,
-        granule_sectors: usize,
-        number: usize,
-        name: *mut u8,
-        name_len: usize,
-        size: *mut usize,
-        granules: *mut usize,
-        more: *mut usize,
-        fault_slot: *mut usize,
-    ) -> u8;
-
-    pub fn genie_count(
-        image: *const u8,
-        image_len: usize,
-        blocks: usize,
-        units: usize,
-        start: usize,
-        open_code: u16,
-        system_disk: bool,
-        granule_sectors: usize,
-        files: *mut usize,
-        free: *mut usize,
-        fault_slot: *mut usize,
-    ) -> u8;
-
-    pub fn genie_free(
-        image: *const u8,
-        image_len: usize,
-        blocks: usize,
-        units: usize,
-        start: usize,
-        open_code: u16,
-        system_disk: bool,
-        granule_sectors: usize,
-        free: *mut usize,
-        longest: *mut usize,
-    ) -> u8;
-
-    pub fn genie_compare(
-        first: *const u8,
-        first_len: usize,
-        blocks: usize,
-        units: usize,
-        start: usize,
-        open_code: u16,
-        system_disk: bool,
-        granule_sectors: usize,
-        second: *const u8,
-        second_len: usize,
-        blocks2: usize,
-        units2: usize,
-        start2: usize,
-        open_code2: u16,
-        system_disk2: bool,
-        granule_sectors2: usize,
-        number: usize,
-        name: *mut u8,
-        name_len: usize,
-        image: *mut usize,
-        kind: *mut usize,
-        position: *mut usize,
-        flags: *mut usize,
-        fault_slot: *mut usize,
-    ) -> u8;
+/// Hands the table to the macro named. A row is a call's short name, its export, and its arguments in order:
+///
+/// | kind | what it is | in C |
+/// |---|---|---|
+/// | `disk IMAGE G` | an image that is only read, and its geometry | pointer, length, six numbers |
+/// | `changed IMAGE G` | an image that the call may change, and its geometry | the same |
+/// | `bytes X` | bytes that are only read | pointer, length |
+/// | `room X` | bytes that the call may change | pointer, length |
+/// | `number X`, `flag X`, `code X` | a number, a truth value, a password code | one argument |
+/// | `birth X` | what create is told beside the name | day, month, year, length, main_code, worker_code, checking |
+/// | `out X` | an outgoing number | pointer |
+/// | `fault X` | the outgoing number that tells the slot of the image's fault | pointer |
+macro_rules! exports {
+    ($make:ident) => {
+        $make! {
+            name = genie_name(bytes name, room folded, out place);
+            check = genie_check(disk image g, fault fault_slot);
+            look_up = genie_look_up(disk image g, bytes name, out slot, out compared, out place, fault fault_slot);
+            open = genie_open(disk image g, bytes name, number length, flag checking, code code, room handle, out place,
+                fault fault_slot);
+            create = genie_create(changed image g, bytes name, birth birth, out old, room handle, out place,
+                fault fault_slot);
+            read_record = genie_read_record(disk image g, room handle, room buffer, fault fault_slot);
+            load_record = genie_load_record(disk image g, room handle, room buffer, out kind, out address, out count,
+                out position, fault fault_slot);
+            read_sector = genie_read_sector(disk image g, bytes handle, number k, out from, out to, fault fault_slot);
+            write_record = genie_write_record(changed image g, room handle, flag sequential, bytes buffer,
+                fault fault_slot);
+            allot = genie_allot(changed image g, bytes handle, number k, fault fault_slot);
+            trim = genie_trim(changed image g, bytes handle, fault fault_slot);
+            kill = genie_kill(changed image g, bytes handle, fault fault_slot);
+            bring_back = genie_bring_back(changed image g, number slot, out slots, out granules, fault fault_slot);
+            play = genie_play(changed image g, bytes trace, room results, out calls, out byte, out bit,
+                fault fault_slot);
+            list = genie_list(disk image g, number number, room name, out size, out granules, out more,
+                fault fault_slot);
+            count = genie_count(disk image g, out files, out free, fault fault_slot);
+            free = genie_free(disk image g, out free, out longest);
+            compare = genie_compare(disk first g, disk second h, number number, room name, out image, out kind,
+                out position, out flags, out fault_slot);
+        }
+    };
 }
+
+/// Declares each row for the linker, one kind of argument after the other.
+macro_rules! declare {
+    ($($call:ident = $export:ident($($arguments:tt)*);)*) => { $(declare! { @ $export [] $($arguments)*, })* };
+    (@ $export:ident [$($done:tt)*]) => { extern "C" { pub fn $export($($done)*) -> u8; } };
+    (@ $export:ident [$($done:tt)*] disk $image:ident $g:ident, $($rest:tt)*) => {
+        declare! { @ $export [$($done)* _: *const u8, _: usize, _: usize, _: usize, _: usize, _: u16, _: bool, _: usize,] $($rest)* }
+    };
+    (@ $export:ident [$($done:tt)*] changed $image:ident $g:ident, $($rest:tt)*) => {
+        declare! { @ $export [$($done)* _: *mut u8, _: usize, _: usize, _: usize, _: usize, _: u16, _: bool, _: usize,] $($rest)* }
+    };
+    (@ $export:ident [$($done:tt)*] birth $birth:ident, $($rest:tt)*) => {
+        declare! { @ $export [$($done)* _: usize, _: usize, _: usize, _: usize, _: u16, _: u16, _: bool,] $($rest)* }
+    };
+    (@ $export:ident [$($done:tt)*] bytes $x:ident, $($rest:tt)*) => {
+        declare! { @ $export [$($done)* _: *const u8, _: usize,] $($rest)* }
+    };
+    (@ $export:ident [$($done:tt)*] room $x:ident, $($rest:tt)*) => {
+        declare! { @ $export [$($done)* _: *mut u8, _: usize,] $($rest)* }
+    };
+    (@ $export:ident [$($done:tt)*] number $x:ident, $($rest:tt)*) => { declare! { @ $export [$($done)* _: usize,] $($rest)* } };
+    (@ $export:ident [$($done:tt)*] flag $x:ident, $($rest:tt)*) => { declare! { @ $export [$($done)* _: bool,] $($rest)* } };
+    (@ $export:ident [$($done:tt)*] code $x:ident, $($rest:tt)*) => { declare! { @ $export [$($done)* _: u16,] $($rest)* } };
+    (@ $export:ident [$($done:tt)*] out $x:ident, $($rest:tt)*) => { declare! { @ $export [$($done)* _: *mut usize,] $($rest)* } };
+    (@ $export:ident [$($done:tt)*] fault $x:ident, $($rest:tt)*) => { declare! { @ $export [$($done)* _: *mut usize,] $($rest)* } };
+}
+
+exports!(declare);

@@ -1,7 +1,8 @@
 //! Recorded sessions as the library plays them back: names and calls, packed in bits.
 
 use crate::TracePlace;
-use std::fmt;
+use alloc::vec::Vec;
+use core::fmt;
 
 /// A recorded session: names of files, and calls on them in turn. [`Disk::play`](crate::Disk::play) plays its bytes back.
 ///
@@ -84,6 +85,7 @@ pub enum Call {
 
 /// Why a session does not go into a trace.
 #[derive(Clone, Copy, Debug, PartialEq, Eq)]
+#[non_exhaustive]
 pub enum Unpackable {
     /// A trace has 1 to 32 names.
     Names(usize),
@@ -103,6 +105,7 @@ impl fmt::Display for Unpackable {
     }
 }
 
+#[cfg(feature = "std")]
 impl std::error::Error for Unpackable {}
 
 /// Bytes of a name, of a call.

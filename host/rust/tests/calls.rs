@@ -63,14 +63,8 @@ fn the_worked_listing() {
 #[test]
 fn create_puts_each_number_in_its_place() {
     let mut disk = blank();
-    let new = NewFile {
-        date: Date::new(1987, 11, 22),
-        record_length: 80,
-        main_code: 0x1234,
-        worker_code: 0x5678,
-        checking: true,
-    };
-    let Created { handle, old } = disk.create(&name("ABC/D"), &new).unwrap();
+    let new = plain().with_date(Date::new(1987, 11, 22)).with_record_length(80).with_codes(0x1234, 0x5678);
+    let Created { handle, old, .. } = disk.create(&name("ABC/D"), &new).unwrap();
     assert!(!old);
     // The first permitted slot: row 0, s 8.
     assert_eq!((handle.slot(), handle.level(), handle.record_length(), handle.position()), (8, 0, 80, 0));
@@ -87,12 +81,17 @@ fn create_puts_each_number_in_its_place() {
     // An old file: opened by the main code if checking is on, and nothing changes.
     assert_eq!(refused(&disk, |d| d.create(&name("ABC/D"), &plain())), 5);
     let before = disk.image().to_vec();
-    for new in [NewFile { record_length: 7, ..new }, NewFile { checking: false, record_length: 7, ..plain() }] {
-        let Created { handle, old } = disk.create(&name("ABC/D"), &new).unwrap();
+    for new in [new.with_record_length(7), plain().with_checking(false).with_record_length(7)] {
+        let Created { handle, old, .. } = disk.create(&name("ABC/D"), &new).unwrap();
         assert!(old);
         assert_eq!((handle.slot(), handle.record_length()), (8, 7));
     }
     assert!(disk.image() == before);
+}
+
+fn looked_up(disk: &Disk, name: &Name) -> (Result<u8, Refusal>, usize) {
+    let answer = disk.look_up(name);
+    (answer.slot, answer.compared)
 }
 
 #[test]
@@ -103,15 +102,15 @@ fn look_up_tells_slot_and_count() {
     let alike: Vec<&Name> = all.iter().filter(|name| hash(name) == hash(&all[0])).take(4).collect();
     let mut disk = blank();
     for (i, name) in alike[..3].iter().enumerate() {
-        assert_eq!(disk.look_up(name), LookUp { slot: Err(Refusal::NotFound), compared: i });
+        assert_eq!(looked_up(&disk, name), (Err(Refusal::NotFound), i));
         disk.create(name, &plain()).unwrap();
     }
-    let answers: Vec<_> = alike[..3].iter().map(|name| disk.look_up(name)).collect();
+    let answers: Vec<_> = alike[..3].iter().map(|name| looked_up(&disk, name)).collect();
     // Slots 8 to 12 of row 0: a directory of 15 sectors has s up to 12.
-    assert_eq!(answers, [(8, 1), (9, 2), (10, 3)].map(|(slot, compared)| LookUp { slot: Ok(slot), compared }));
-    assert_eq!(disk.look_up(alike[3]), LookUp { slot: Err(Refusal::NotFound), compared: 3 });
+    assert_eq!(answers, [(Ok(8), 1), (Ok(9), 2), (Ok(10), 3)]);
+    assert_eq!(looked_up(&disk, alike[3]), (Err(Refusal::NotFound), 3));
     let blank = Refusal::Name { place: Some(0) };
-    assert_eq!(disk.look_up(&Name::from_bytes([b' '; 11])), LookUp { slot: Err(blank), compared: 0 });
+    assert_eq!(looked_up(&disk, &Name::from_bytes([b' '; 11])), (Err(blank), 0));
 }
 
 #[test]
@@ -121,8 +120,9 @@ fn names_in_small_letters() {
     let new = disk.create(&small, &plain()).unwrap();
     assert_eq!((new.old, new.handle.name()), (false, name("PULS01/DAT")));
     for given in [small, Name::from_bytes(*b"Puls01  Dat"), name("PULS01/DAT"), name("puls01/dat")] {
-        assert_eq!(disk.create(&given, &plain()), Ok(Created { old: true, ..new }));
-        assert_eq!(disk.look_up(&given), LookUp { slot: Ok(new.handle.slot()), compared: 1 });
+        let again = disk.create(&given, &plain()).unwrap();
+        assert_eq!((again.old, again.handle), (true, new.handle));
+        assert_eq!(looked_up(&disk, &given), (Ok(new.handle.slot()), 1));
         assert_eq!(disk.open(&given, 256, Password::Unchecked), Ok(new.handle));
     }
     assert_eq!(disk.listing().unwrap().lines().nth(1), Some("PULS01/DAT 0 0"));
@@ -131,7 +131,7 @@ fn names_in_small_letters() {
 #[test]
 fn open_follows_the_codes() {
     let mut disk = blank();
-    let new = NewFile { main_code: 1, worker_code: 2, ..plain() };
+    let new = plain().with_codes(1, 2);
     let slot = disk.create(&name("A"), &new).unwrap().handle.slot();
     let mut image = disk.into_image();
     image[entry_at(slot)] |= 5;
@@ -230,7 +230,7 @@ fn the_largest_file_by_granules_of(granule_sectors: usize, sectors: u16) {
     }
     disk = Disk::new(image, geometry);
     assert_eq!(disk.check(), Ok(()));
-    assert_eq!(disk.count(), Ok(Counts { files: 0, free: 0 }));
+    assert_eq!(disk.count().map(|counts| (counts.files, counts.free)), Ok((0, 0)));
     let handle = disk.open(&owner, 256, Password::Unchecked).unwrap();
     assert!(disk.contents(&handle).unwrap() == disk.image());
     let entry = &disk.entries().unwrap()[0];
@@ -260,7 +260,7 @@ fn entries_agree_with_the_listing() {
         assert!(entry.runs().len() > 8);
         assert_eq!(disk.look_up(&entry.name()).slot, Ok(entry.slot()));
     }
-    assert_eq!(disk.count().unwrap(), Counts { files: 3, free: 45 - 4 - 39 });
+    assert_eq!(disk.count().map(|counts| (counts.files, counts.free)), Ok((3, 45 - 4 - 39)));
     // No granule twice.
     let mut owned: Vec<usize> =
         entries.iter().flat_map(|e| e.runs().iter().flat_map(|run| run.first..run.first + run.granules)).collect();
@@ -274,7 +274,7 @@ fn entries_agree_with_the_listing() {
     assert_eq!(disk.files().unwrap()[1].granules, 0);
     assert_eq!(disk.count().unwrap().free, 2 + 13);
     // The three files took turns, so what one gave back lies scattered; the last two granules were never taken.
-    assert_eq!(disk.free_space(), Ok(FreeSpace { free: 2 + 13, longest: 2 }));
+    assert_eq!(disk.free_space().map(|space| (space.free, space.longest)), Ok((2 + 13, 2)));
     disk.kill(&handle).unwrap();
     assert_eq!(disk.files().unwrap().len(), 2);
 }
@@ -292,7 +292,7 @@ fn every_refusal_by_its_number() {
 
     // 1 and 21 to 30, by every call and with the same slot.
     let (slot, start) = (handle.slot(), GEOMETRY.start * 256);
-    let fault = |kind, slot| Refusal::Inconsistent(Fault { kind, slot });
+    let fault = |kind, slot| Refusal::Inconsistent(Fault::new(kind, slot));
     for (bad, told) in [
         (Disk::new(disk.image()[1..].to_vec(), GEOMETRY), Refusal::Geometry),
         (Disk::new(disk.image().to_vec(), GEOMETRY.with_start(61)), Refusal::Geometry),
@@ -337,7 +337,7 @@ fn every_refusal_by_its_number() {
 
     // 12.
     for date in [Date::new(1996, 1, 1), Date::new(1979, 1, 1), Date::new(1983, 16, 1), Date::new(1983, 1, 32)] {
-        assert_eq!(refused(&disk, |d| d.create(&name("B"), &NewFile { date, ..plain() })), 12);
+        assert_eq!(refused(&disk, |d| d.create(&name("B"), &plain().with_date(date))), 12);
     }
     let mut far = handle;
     far.set_position(1_966_081);
@@ -581,12 +581,13 @@ fn refused_differences_name_the_disk() {
     let inconsistent = Disk::new(image, GEOMETRY);
     let hit = Refusal::Inconsistent(Fault::at(FaultKind::HitAgainstEntry, 0x80));
     let short = Disk::new(&good.image()[1..], GEOMETRY);
-    let refused = |image, refusal| Some(RefusedImage { image, refusal });
-    assert_eq!(good.differences(&inconsistent).err(), refused(Which::Second, hit));
-    assert_eq!(good.differences(&short).err(), refused(Which::Second, Refusal::Geometry));
-    assert_eq!(inconsistent.differences(&good).err(), refused(Which::First, hit));
-    assert_eq!(inconsistent.differences(&short).err(), refused(Which::First, hit));
-    assert_eq!(short.differences(&inconsistent).err(), refused(Which::First, Refusal::Geometry));
+    let refused = |image, refusal| Some((image, refusal));
+    let told = |refused: RefusedImage| (refused.image, refused.refusal);
+    assert_eq!(good.differences(&inconsistent).err().map(told), refused(Which::Second, hit));
+    assert_eq!(good.differences(&short).err().map(told), refused(Which::Second, Refusal::Geometry));
+    assert_eq!(inconsistent.differences(&good).err().map(told), refused(Which::First, hit));
+    assert_eq!(inconsistent.differences(&short).err().map(told), refused(Which::First, hit));
+    assert_eq!(short.differences(&inconsistent).err().map(told), refused(Which::First, Refusal::Geometry));
     let text = good.differences(&inconsistent).err().unwrap().to_string();
     assert_eq!(text, "the second disk: 22 (disk not consistent: HIT against entry; slot 80H)");
 }

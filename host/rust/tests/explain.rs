@@ -167,7 +167,7 @@ fn any_fault_of_any_image() {
             let odd = Disk::new(image.as_slice(), Geometry::new(blocks, units, start, 0));
             for kind in FaultKind::ALL {
                 for slot in [None, Some(0x00), Some(0x1f), Some(0x80), Some(0x82), Some(0xff)] {
-                    let explained = odd.explain(Fault { kind, slot });
+                    let explained = odd.explain(Fault::new(kind, slot));
                     assert!(!explained.message.is_empty());
                     assert_eq!(explained.sector.is_some(), slot.is_some());
                 }

@@ -165,7 +165,10 @@ fn the_picture_is_well_formed_and_tells_what_the_map_does() {
         let map = Disk::new(made.image.as_slice(), geometry(&made.g)).map().unwrap();
         let way = map.files.first().map(|file| file.slot).filter(|_| number % 3 == 0);
         let title = "a<b> & \"c\" \u{1b}";
-        let svg = map.svg(&Drawing { title, id: "p1", standalone: number % 2 == 1, way });
+        let svg = map.svg(&match number % 2 {
+            1 => Drawing::new(title).with_way(way),
+            _ => Drawing::new(title).within_page("p1").with_way(way),
+        });
         assert_eq!(svg.contains("http"), number % 2 == 1);
         assert!(!svg.contains("<script") && !svg.contains("<style") && !svg.contains("href"));
         let all = elements(&svg);

@@ -115,7 +115,7 @@ fn any_bytes_are_read_and_mended() {
         }
         let disk = Disk::new(image.as_slice(), g);
         for _ in 0..4 {
-            let fault = Fault { kind: *random.pick(&FaultKind::ALL), slot: random.one_in(2).then(|| random.byte()) };
+            let fault = Fault::new(*random.pick(&FaultKind::ALL), random.one_in(2).then(|| random.byte()));
             assert!(!disk.explain(fault).to_string().is_empty());
         }
         mended += usize::from(feed(&disk, random.one_in(8)));

@@ -58,6 +58,10 @@ fn create(disk: &mut Disk, typed: &str) -> Result<Created, Refusal> {
     disk.create(&typed.parse().unwrap(), &new)
 }
 
+fn counted(disk: &Disk) -> Result<(usize, usize), Refusal> {
+    disk.slots().map(|slots| (slots.all, slots.free))
+}
+
 #[test]
 fn create_finds_a_slot_exactly_where_one_is_free() {
     for system_disk in [true, false] {
@@ -66,10 +70,10 @@ fn create_finds_a_slot_exactly_where_one_is_free() {
             let all = if system_disk { all } else { all + 30 };
             let mut disk = Disk::blank(geometry, sectors, &[0]).unwrap();
             for used in 0..all {
-                assert_eq!(disk.slots(), Ok(Slots { all, free: all - used }));
+                assert_eq!(counted(&disk), Ok((all, all - used)));
                 create(&mut disk, &format!("A{used}")).unwrap();
             }
-            assert_eq!(disk.slots(), Ok(Slots { all, free: 0 }));
+            assert_eq!(counted(&disk), Ok((all, 0)));
             assert_eq!(create(&mut disk, "B"), Err(Refusal::NoSlot));
         }
     }

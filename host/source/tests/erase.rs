@@ -1,5 +1,8 @@
 //! What the build script left of the proved sources, and that it only left out: from the files that were compiled.
 
+#[path = "../../rust/tests/common/declared.rs"]
+#[allow(dead_code)]
+mod declared;
 #[path = "../erase.rs"]
 mod erase;
 
@@ -121,30 +124,36 @@ fn what_is_added() {
     assert_eq!(modules, crates());
 }
 
-/// A function's name, and the types of its arguments.
-fn functions(text: &str, before: &str) -> Vec<(String, Vec<String>)> {
+/// The exports under their C names, as they were compiled, by name.
+fn shims() -> Vec<declared::Declared> {
+    let text = read(&Path::new(OUT).join("exports.rs"));
     let mut all: Vec<_> = text
-        .split(before)
+        .split("pub unsafe extern \"C\" fn ")
         .skip(1)
         .map(|function| {
             let (name, rest) = function.split_once('(').unwrap();
             let (arguments, answer) = rest.split_once(')').unwrap();
             assert!(answer.trim_start().starts_with("-> u8"), "{name} answers {answer}");
-            let arguments = arguments.split(',').filter(|text| !text.trim().is_empty());
-            let types = arguments.map(|argument| argument.split_once(':').unwrap().1.trim().to_string()).collect();
-            (name.to_string(), types)
+            let argument = |text: &str| {
+                let (name, kind) = text.split_once(':').unwrap();
+                (kind.trim().to_string(), name.trim().to_string())
+            };
+            let arguments = arguments.split(',').filter(|text| !text.trim().is_empty()).map(argument);
+            (name.to_string(), arguments.collect())
         })
         .collect();
     all.sort();
     all
 }
 
-/// The shims take what the wrapper declares, which its own test holds against `genie.h`.
+/// The shims take what the header declares, whatever the names, and there is one for each export.
 #[test]
 fn the_exports_are_those_of_the_header() {
-    let shims = functions(&read(&Path::new(OUT).join("exports.rs")), "pub unsafe extern \"C\" fn ");
-    let declared = functions(&read(&project().join("host/rust/src/sys.rs")), "pub fn ");
-    assert_eq!(shims, declared);
+    let kinds = |all: Vec<declared::Declared>| -> Vec<(String, Vec<String>)> {
+        all.into_iter().map(|(name, arguments)| (name, arguments.into_iter().map(|(kind, _)| kind).collect())).collect()
+    };
+    let shims = kinds(shims());
+    assert_eq!(shims, kinds(declared::of_header(&read(&project().join("host/include/genie.h")))));
     let marked: usize = crates().iter().map(|name| read(&source(name)).matches("#[no_mangle]").count()).sum();
     assert_eq!(shims.len(), marked);
 }

@@ -33,7 +33,7 @@ fn run(args: &Args) -> Result<Output, Failure> {
     let image = only_image(args)?;
     let opened = Opened::unchecked(&Wanted::from_args(args)?, image)?;
     let (disk, path) = (&opened.disk, &opened.path);
-    let FreeSpace { free, longest } = disk.free_space().map_err(Failure::image(path))?;
+    let FreeSpace { free, longest, .. } = disk.free_space().map_err(Failure::image(path))?;
     let fault = disk.check().err().and_then(Refusal::fault).map(|fault| disk.explain(fault));
     let width = opened.geometry().granule_bytes();
     let (total, bytes, longest_bytes) = (disk.image().len() / width, free * width, longest * width);

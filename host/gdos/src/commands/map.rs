@@ -61,8 +61,7 @@ fn run(args: &Args) -> Result<Output, Failure> {
     match args.value(SVG.long) {
         Some(to) => {
             let title = title(&shown, file);
-            let drawing =
-                Drawing { title: &title, standalone: true, way: file.map(|file| file.slot), ..Drawing::default() };
+            let drawing = Drawing::new(&title).with_way(file.map(|file| file.slot));
             shown.write(image, to, shown.map.svg(&drawing).as_bytes(), args.has(FORCE.long))?;
             output.changed = true;
             output.text = format!("{title} to {}\n", to.to_string_lossy()).into_bytes();

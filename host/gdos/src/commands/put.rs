@@ -92,13 +92,10 @@ fn run(args: &Args) -> Result<Output, Failure> {
     let (mut opened, locked) = Opened::change(args, image)?;
     let (geometry, output) = (opened.geometry(), opened.output());
     let main_code = main_code.unwrap_or(geometry.open_code);
-    let new = NewFile {
-        date,
-        record_length,
-        main_code,
-        worker_code: worker_code.unwrap_or(main_code),
-        checking: !args.has("unlock"),
-    };
+    let new = NewFile::open(geometry, date)
+        .with_record_length(record_length)
+        .with_codes(main_code, worker_code.unwrap_or(main_code))
+        .with_checking(!args.has("unlock"));
     // Old files and the parts of new ones are opened as create opens: by the main code.
     let password = match args.has("unlock") {
         true => Password::Unchecked,

@@ -75,14 +75,14 @@ fn page(shown: &Shown) -> Result<String, Failure> {
         false => damaged(&mut page, shown)?,
     }
     page.heading("Map of the granules");
-    page.picture(&shown.map.svg(&Drawing { title: path, id: "map", ..Drawing::default() }));
+    page.picture(&shown.map.svg(&Drawing::new(path).within_page("map")));
     Ok(page.finished(&format!("Report on {path}"), &format!("Written by {}", help::version().trim_end())))
 }
 
 fn about_disk(page: &mut Page, shown: &Shown) -> Result<(), Failure> {
     let (opened, map) = (&shown.opened, &shown.map);
     let geometry = opened.geometry();
-    let FreeSpace { free, longest } = opened.disk.free_space().map_err(Failure::image(&opened.path))?;
+    let FreeSpace { free, longest, .. } = opened.disk.free_space().map_err(Failure::image(&opened.path))?;
     let sized = shape::sized(geometry);
     let preset = shape::preset_of(geometry).map(|name| format!(" (preset {name})")).unwrap_or_default();
     let granules = counted(map.cells.len(), "granule");

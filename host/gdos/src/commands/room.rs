@@ -32,7 +32,7 @@ impl More {
 /// How many slots there are for files and how many of them are free, where a file found none.
 pub fn slots_left(disk: &Disk) -> String {
     let system_disk = disk.geometry().system_disk;
-    let (Slots { all, free }, More { data, .. }) = match (disk.slots(), More::of(disk)) {
+    let (Slots { all, free, .. }, More { data, .. }) = match (disk.slots(), More::of(disk)) {
         (Ok(slots), Ok(more)) => (slots, more),
         _ => return "no slot for files is free".to_string(),
     };
@@ -78,16 +78,20 @@ mod tests {
     use super::*;
     use genie_dos::{Date, NewFile};
 
+    fn counted(disk: &Disk, system: bool) -> Result<(usize, usize), Refusal> {
+        slots_as(disk, system).map(|slots| (slots.all, slots.free))
+    }
+
     #[test]
     fn slots_of_a_directory() {
         let geometry = Geometry::new(40, 2, 200, 0);
         for (sectors, all) in [(10, 32), (15, 72), (20, 112), (25, 152), (30, 192)] {
             let mut disk = Disk::blank(geometry, sectors, &[0]).unwrap();
-            assert_eq!(slots_as(&disk, true), Ok(Slots { all, free: all }));
-            assert_eq!(slots_as(&disk, false), Ok(Slots { all: all + 30, free: all + 30 }));
+            assert_eq!(counted(&disk, true), Ok((all, all)));
+            assert_eq!(counted(&disk, false), Ok((all + 30, all + 30)));
             let new = NewFile::open(geometry, Date::new(1983, 10, 9));
             disk.create(&"A".parse().unwrap(), &new).unwrap();
-            assert_eq!(slots_as(&disk, true), Ok(Slots { all, free: all - 1 }));
+            assert_eq!(counted(&disk, true), Ok((all, all - 1)));
             assert_eq!(More::of(&disk), Ok(More { system: all - 1, data: all + 30 - 1 }));
         }
     }

@@ -4,6 +4,7 @@ use super::faults::at;
 use super::remedy::Remedy;
 use super::Reading;
 use crate::{Fault, FaultKind};
+use alloc::vec::Vec;
 
 /// What a choice goes by, besides the copy as it stands.
 pub(super) struct Grounds {
@@ -76,7 +77,7 @@ fn goes(now: &Reading, grounds: &Grounds, slot: u8, lower: u8) -> u8 {
         let lost = now.file_of(slot).map_or(true, |file| why_not_file(now, file).is_some());
         (lost, grounds.preferred != Some(file), grounds.evidence.strikes(file), slot)
     };
-    std::cmp::max_by_key(slot, lower, |&slot| against(slot))
+    core::cmp::max_by_key(slot, lower, |&slot| against(slot))
 }
 
 /// A slot taken out, and with it the file that it belongs to, which could not stay without it.

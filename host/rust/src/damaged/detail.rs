@@ -1,6 +1,8 @@
 use super::entry::RawEntry;
 use super::Reading;
 use crate::FaultKind;
+use alloc::string::{String, ToString};
+use alloc::vec::Vec;
 
 /// What exactly is wrong where a fault is, as the image's bytes say it.
 #[derive(Clone, Debug, PartialEq, Eq)]

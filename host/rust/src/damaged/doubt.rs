@@ -4,7 +4,8 @@ use super::mend::{original, Step};
 use super::remedy::Remedy;
 use super::Reading;
 use crate::{Disk, Name};
-use std::fmt;
+use alloc::vec::Vec;
+use core::fmt;
 
 /// Why a file of a mended copy may not be what it was.
 #[derive(Clone, Debug, PartialEq, Eq)]
@@ -114,7 +115,7 @@ pub(super) fn doubtful(image: &[u8], copy: &Disk, steps: &[Step]) -> Vec<Doubtfu
 fn doubts(before: &Reading, after: &Reading, steps: &[Step], file: u8) -> Vec<Doubt> {
     let mut doubts = Vec::new();
     let extensions: Vec<u8> = after.walks.of_file(file).map(|meeting| meeting.slot).collect();
-    let entries: Vec<u8> = std::iter::once(file).chain(extensions.iter().copied()).collect();
+    let entries: Vec<u8> = core::iter::once(file).chain(extensions.iter().copied()).collect();
     let granules: Vec<usize> = entries.iter().flat_map(|&slot| after.on_disk(slot)).collect();
 
     // Entries that named a granule: those in use, and those that their HIT byte says are files.

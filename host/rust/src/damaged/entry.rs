@@ -16,7 +16,7 @@ pub(crate) struct NamedRun {
 }
 
 impl NamedRun {
-    pub(crate) fn granules(&self) -> std::ops::RangeInclusive<usize> {
+    pub(crate) fn granules(&self) -> core::ops::RangeInclusive<usize> {
         self.first..=self.last
     }
 

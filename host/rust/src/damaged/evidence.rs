@@ -4,7 +4,8 @@ use super::faults::{at, found};
 use super::walks::bad_entry;
 use super::Reading;
 use crate::{FaultKind, Name};
-use std::collections::BTreeSet;
+use alloc::collections::BTreeSet;
+use alloc::vec::Vec;
 
 /// How much speaks against each file of the damaged image, before anything was changed.
 pub(super) struct Evidence {
@@ -62,7 +63,7 @@ pub(super) fn own_entries(reading: &Reading, file: u8) -> Vec<u8> {
     let own = reading.walks.of_file(file).filter(|meeting| {
         reading.entry(meeting.slot).back() == meeting.before || reading.walks.meetings(meeting.slot).count() == 1
     });
-    let mut slots: Vec<u8> = std::iter::once(file).chain(own.map(|meeting| meeting.slot)).collect();
+    let mut slots: Vec<u8> = core::iter::once(file).chain(own.map(|meeting| meeting.slot)).collect();
     // A chain that runs into itself comes by a slot again.
     let mut seen = BTreeSet::new();
     slots.retain(|&slot| seen.insert(slot));

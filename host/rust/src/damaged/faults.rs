@@ -4,6 +4,7 @@ use super::length::presumed;
 use super::walks::{bad_entry, bad_extension};
 use super::{place, Reading};
 use crate::{Disk, Explained, Fault, FaultKind, Geometry, Name, Refusal};
+use alloc::vec::Vec;
 
 /// One fault of a disk, as [`Disk::faults`] finds it.
 #[derive(Clone, Debug, PartialEq, Eq)]

@@ -11,7 +11,7 @@ pub(crate) fn presumed(image: &[u8], g: Geometry) -> Option<Reading<'_>> {
         let reading = Reading::with_length(image, g, sectors);
         let faults = found(&reading);
         let untouched = reading.files().filter(|file| faults.iter().all(|fault| !fault.touches.contains(file))).count();
-        (std::cmp::Reverse(untouched), faults.len(), sectors, reading)
+        (core::cmp::Reverse(untouched), faults.len(), sectors, reading)
     });
     judged.min_by_key(|&(untouched, faults, sectors, _)| (untouched, faults, sectors)).map(|(.., reading)| reading)
 }

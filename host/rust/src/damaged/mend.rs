@@ -6,7 +6,8 @@ use super::length::presumed;
 use super::remedy::{ByteChange, Remedy};
 use super::Reading;
 use crate::{Disk, Explained, Fault, FaultKind, Geometry, Name, Refusal};
-use std::fmt;
+use alloc::vec::Vec;
+use core::fmt;
 
 /// One fault mended: what the library told, and what was done.
 #[derive(Clone, Debug, PartialEq, Eq)]
@@ -82,6 +83,7 @@ impl fmt::Display for Unmended {
     }
 }
 
+#[cfg(feature = "std")]
 impl std::error::Error for Unmended {}
 
 impl<B: AsRef<[u8]>> Disk<B> {

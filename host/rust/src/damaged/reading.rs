@@ -1,6 +1,7 @@
 use super::entry::RawEntry;
 use super::walks::Walks;
 use crate::{Geometry, Name};
+use alloc::vec::Vec;
 
 /// The directory sector and the byte in it at which a slot's entry begins.
 pub(crate) fn place(slot: u8) -> (usize, usize) {
@@ -115,7 +116,7 @@ impl<'a> Reading<'a> {
         self.image.len() / self.g.granule_bytes()
     }
 
-    pub(crate) fn directory_granules(&self) -> std::ops::Range<usize> {
+    pub(crate) fn directory_granules(&self) -> core::ops::Range<usize> {
         self.g.directory_granules(self.sectors)
     }
 

@@ -1,10 +1,13 @@
 use super::detail::listed;
 use super::entry::RawEntry;
 use super::Reading;
-use std::fmt;
+use alloc::string::String;
+use alloc::vec::Vec;
+use core::fmt;
 
 /// A byte of the copy that was changed.
 #[derive(Clone, Copy, Debug, PartialEq, Eq)]
+#[non_exhaustive]
 pub struct ByteChange {
     /// Its place in the image.
     pub image_byte: usize,

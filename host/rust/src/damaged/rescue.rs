@@ -1,6 +1,7 @@
 use super::mend::{mend, Unmended};
 use super::{Doubt, Dropped, Mended};
 use crate::{Disk, Entry, Password, Refusal};
+use alloc::vec::Vec;
 
 /// A file that could be had of a damaged disk, read by the library from a mended copy.
 #[derive(Clone, Debug, PartialEq, Eq)]
@@ -21,7 +22,7 @@ impl Mended {
     /// # use genie_dos::*;
     /// # let geometry = Geometry::new(16, 2, 80, 0x4296);
     /// # let mut disk = Disk::blank(geometry, 10, &[0])?;
-    /// # let new = NewFile { record_length: 3, ..NewFile::open(geometry, Date::new(1983, 10, 9)) };
+    /// # let new = NewFile::open(geometry, Date::new(1983, 10, 9)).with_record_length(3);
     /// # for name in ["PULS01/DAT", "PULS02/DAT"] {
     /// #     let mut handle = disk.create(&name.parse().unwrap(), &new)?.handle;
     /// #     disk.write_record(&mut handle, Kind::Sequential, b"ABC")?;

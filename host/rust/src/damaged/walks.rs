@@ -1,6 +1,7 @@
 use super::detail::Detail;
 use super::entry::RawEntry;
 use super::Reading;
+use alloc::vec::Vec;
 
 /// An extension met by the walk along a file's chain.
 #[derive(Clone, Copy, Debug, PartialEq, Eq)]
@@ -43,7 +44,7 @@ impl Walks {
                 }
                 let slot = entry.link();
                 walks.steps.push(Meeting { file, slot, before });
-                if std::mem::replace(&mut met[usize::from(slot)], true) {
+                if core::mem::replace(&mut met[usize::from(slot)], true) {
                     walks.broken.push(file);
                     break;
                 }

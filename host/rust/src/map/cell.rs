@@ -1,5 +1,7 @@
 use crate::damaged::{read, Reading};
 use crate::{Disk, FaultFound, Geometry, Name, Refusal, Run};
+use alloc::string::{String, ToString};
+use alloc::vec::Vec;
 
 /// A disk's granules. [`Disk::map`] makes it.
 #[derive(Clone, Debug, PartialEq, Eq)]
@@ -214,6 +216,8 @@ fn tag(number: usize) -> String {
 #[cfg(test)]
 mod tests {
     use super::tag;
+    use alloc::string::String;
+    use alloc::vec::Vec;
 
     #[test]
     fn tags_differ() {

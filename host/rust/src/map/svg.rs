@@ -1,8 +1,11 @@
 use super::cell::{Cell, Holds, Map, MappedFile};
-use std::fmt::Write;
+use alloc::string::{String, ToString};
+use alloc::vec::Vec;
+use core::fmt::Write;
 
 /// How a [`Map`] is to be drawn.
 #[derive(Clone, Copy, Debug, Default)]
+#[non_exhaustive]
 pub struct Drawing<'a> {
     /// The picture's title, as the image's name. It is escaped.
     pub title: &'a str,
@@ -12,6 +15,23 @@ pub struct Drawing<'a> {
     pub standalone: bool,
     /// The slot of a file whose way across the disk is drawn; the others are faint.
     pub way: Option<u8>,
+}
+
+impl<'a> Drawing<'a> {
+    /// A picture with this title, for a file of its own; no way is drawn.
+    pub const fn new(title: &'a str) -> Drawing<'a> {
+        Drawing { title, id: "", standalone: true, way: None }
+    }
+
+    /// The same within a page, where its ids begin so.
+    pub const fn within_page(self, id: &'a str) -> Drawing<'a> {
+        Drawing { id, standalone: false, ..self }
+    }
+
+    /// The same with the way of the file in this slot, if there is one.
+    pub const fn with_way(self, way: Option<u8>) -> Drawing<'a> {
+        Drawing { way, ..self }
+    }
 }
 
 /// Sizes in pixels. A row is as wide as a printed page can show with text that can be read.
@@ -96,7 +116,7 @@ impl Map {
     /// use genie_dos::{Disk, Drawing, Geometry};
     ///
     /// let map = Disk::blank(Geometry::new(16, 2, 80, 0x4296), 10, &[0])?.map()?;
-    /// let svg = map.svg(&Drawing { title: "disk.img", ..Drawing::default() });
+    /// let svg = map.svg(&Drawing::new("disk.img"));
     /// assert!(svg.contains(r#"data-granule="16" data-holds="directory""#));
     /// # Ok::<(), genie_dos::Refusal>(())
     /// ```

@@ -1,5 +1,7 @@
 use super::cell::{Cell, Holds, Map, MappedFile, Part};
 use crate::Geometry;
+use alloc::string::{String, ToString};
+use alloc::vec::Vec;
 
 impl Map {
     /// The file in a slot.

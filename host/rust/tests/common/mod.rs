@@ -137,7 +137,7 @@ impl Sound {
                 kind => format!("PULS{number:02}/{kind}"),
             };
             let name: Name = typed.parse().unwrap();
-            let new = NewFile { record_length: 1 + random.below(256), ..NewFile::open(g, Date::new(1983, 10, 9)) };
+            let new = NewFile::open(g, Date::new(1983, 10, 9)).with_record_length(1 + random.below(256));
             match disk.create(&name, &new) {
                 Ok(_) => names.push(name),
                 Err(Refusal::NoSlot) => break,

@@ -1,11 +1,10 @@
 //! What the search found, in words and for `--json`.
 
-use super::evidence::Evidence;
-use super::ranking::{Candidate, Reading};
 use crate::fault;
 use crate::json::Json;
 use crate::shape;
 use crate::text::counted;
+use genie_dos::search::{Candidate, Evidence, Reading};
 use genie_dos::Counts;
 
 /// What is said where the search went on.
@@ -24,7 +23,7 @@ pub fn evidence_words(evidence: &Evidence) -> String {
 /// How the image reads: `consistent, 1 file, 134 granules free`, or the first fault.
 fn reading_words(reading: &Reading) -> String {
     match &reading.found {
-        Ok(Counts { files, free }) => {
+        Ok(Counts { files, free, .. }) => {
             format!("consistent, {}, {} free", counted(*files, "file"), counted(*free, "granule"))
         }
         Err(fault) => format!("{} ({}): {fault}", fault.fault.kind.number(), fault.fault.kind),
