@@ -1,5 +1,5 @@
 -- Two small disks, a system disk in drive 0 and a data disk in drive 1, on which the calls of two drives compute.
-use Prim.Native.Nat.{ℕ}
+use Prim.Native.Nat.{ℕ, _+_}
 use mathlib.Core.Path.{_≡_, refl}
 use mathlib.Core.Bool.{Bool, true, false}
 use mathlib.Core.List.{List, [], _∷_, _++_}
@@ -24,13 +24,13 @@ opened = true
 abbrev named : ℕ → ℕ → List ℕ
 named x y = x ∷ y ∷ replicate 9 0x20
 
-abbrev aa : List ℕ
+abbrev pub aa : List ℕ
 aa = named 0x41 0x41
 
-abbrev bg : List ℕ
+abbrev pub bg : List ℕ
 bg = named 0x42 0x47
 
-abbrev ce : List ℕ
+abbrev pub ce : List ℕ
 ce = named 0x43 0x45
 
 abbrev dk : List ℕ
@@ -52,7 +52,7 @@ zerothDisk gat above = laid 0 ((0, gat ∷ []) ∷ (256 + 0x1f, above ∷ []) �
 abbrev firstDisk : List ℕ
 firstDisk = laid 0 ((0, 0x03 ∷ []) ∷ (256 + 0x02, hash bg ∷ hash ce ∷ []) ∷ (1024, entry bg) ∷ (1280, entry ce) ∷ []) 3840
 
-abbrev bench : Pair
+abbrev pub bench : Pair
 bench = pair (geometryOf true) (zerothDisk 3 0) (geometryOf false) firstDisk
 
 -- drive 1 of 7 bytes

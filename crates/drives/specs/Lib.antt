@@ -1,4 +1,4 @@
 pub mod Pair
 pub mod ByName
 pub mod ByHandle
-mod Cases
+pub mod Cases

@@ -53,7 +53,8 @@ module _ (h : DriveHandle) (call : ℕ → Answer × List ℕ) (b : List ℕ) wh
   pub read-1 : {r : DriveAnswer} {a : Answer} {b′ : List ℕ} → (h .drive ≡ 0 → ⊥) → h .drive ≡ 1 → r ≡ answered 1 a
       → _≡_ {A = Answer × List ℕ} (a, b′) (call 1) → _≡_ {A = DriveAnswer × List ℕ} (r, b′) reading
   read-1 {b′ = b′} y z e q =
-      (λ i. (e i, b′)) ∙ ap (λ (x : Answer × List ℕ). (answered 1 (x .0), x .1)) q ∙ on-1 (h .drive) (λ n. (answered n (call n .0), call n .1)) (unheld h, b) y z
+      (λ i. (e i, b′)) ∙ ap (λ (x : Answer × List ℕ). (answered 1 (x .0), x .1)) q
+      ∙ on-1 (h .drive) (λ n. (answered n (call n .0), call n .1)) (unheld h, b) y z
 
   pub read-none : {r : DriveAnswer} → (h .drive ≡ 0 → ⊥) → (h .drive ≡ 1 → ⊥) → r ≡ unheld h → _≡_ {A = DriveAnswer × List ℕ} (r, b) reading
   read-none y z e = (λ i. (e i, b)) ∙ on-none (h .drive) (λ n. (answered n (call n .0), call n .1)) (unheld h, b) y z
@@ -120,7 +121,8 @@ module _ (p : Pair) (h : DriveHandle) (k : ℕ) where
       by (yes z) = rw z (l .inside)
       by (no z) =
           rw (ne-eqb (a .refusal .number) 0 z)
-          (let t = ap (λ (x : Part). x .to) q ∙ empty (p .geometry1) (p .image1) (h .handle) k (λ w. z (ap (λ (x : Part). x .refusal .number) q ∙ w)) in omega arith)
+          (let w : (sectorOn p h k 1 .refusal .number ≡ 0 → ⊥) = λ v. z (ap (λ (x : Part). x .refusal .number) q ∙ v) in
+          let t = ap (λ (x : Part). x .to) q ∙ empty (p .geometry1) (p .image1) (h .handle) k w in omega arith)
 
   pub lies-none : {r : DrivePart} {c : Refusal} → r ≡ noPart c → Lies p r
   lies-none e = rw e (record { forward = omega arith; inside = omega arith })

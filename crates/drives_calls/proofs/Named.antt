@@ -28,8 +28,8 @@ use Rattle.layout.proofs.Lists.{all-no, all-yes, all-none}
 use Rattle.handle.proofs.Laws.{checked, checked-room}
 use Rattle.create.proofs.Laws.{slot-none, slot-some}
 use Rattle.drives.specs.Pair.{Pair, image, geometry, noSuchDrive, onDrive, ofDisk, naming′, ofBoth, tested}
-use Rattle.drives.specs.ByName.{byName, lookedUpOn, openedOn, createdOn, notLookedUp, notOpened, notCreated, lookUpOn, openOn, createOn, lacks, searched, passedOver, takes}
-use Rattle.drives.specs.ByName.{lookUp, openFile, create}
+use Rattle.drives.specs.ByName.{byName, lookedUpOn, openedOn, createdOn, notLookedUp, notOpened, notCreated, lookUpOn, openOn, createOn}
+use Rattle.drives.specs.ByName.{lacks, searched, passedOver, takes, lookUp, openFile, create}
 use Rattle.drives.specs.declared.DriveAnswer.{DriveAnswer}
 use Rattle.drives.specs.declared.DriveCreated.{DriveCreated}
 use Rattle.drives.specs.declared.DriveLookedUp.{DriveLookedUp}
@@ -155,7 +155,8 @@ module _ (p : Pair) (n : List ℕ) where
     unfolding takes
     takes-found-0 z =
         search-0 z
-        ∙ sym (ap (λ (t : Bool). cond t (cond (eqb (length (freeSlots (p .geometry0) (p .image0))) 0) 1 0) (searched p n)) (all-no (has-it 0 e₀ z) (lacks p 1 n ∷ [])))
+        ∙ sym (ap (λ (t : Bool). cond t (cond (eqb (length (freeSlots (p .geometry0) (p .image0))) 0) 1 0) (searched p n))
+        (all-no (has-it 0 e₀ z) (lacks p 1 n ∷ [])))
 
     module _ {l₁ : LookedUp} (e₁ : l₁ ≡ lookUpOn p 1 n) (z₀ : l₀ .refusal .number ≡ 4) where
       pub takes-found-1 : (l₁ .refusal .number ≡ 4 → ⊥) → 1 ≡ takes p n
@@ -241,11 +242,13 @@ module _ (p : Pair) (numbered : Bool) (k : ℕ) (n : List ℕ) where
   unfolding lookUp
   look-1 e y z q f = f ∙ ap (lookedUpOn 1 0) q ∙ with-1 p numbered k looksWith looksWithout notLookedUp e y z
 
-  pub look-none : {r : DriveLookedUp} {c : Refusal} → numbered ≡ true → (k ≡ 0 → ⊥) → (k ≡ 1 → ⊥) → c ≡ noSuchDrive → r ≡ notLookedUp c → r ≡ lookUp p numbered k n
+  pub look-none : {r : DriveLookedUp} {c : Refusal} → numbered ≡ true → (k ≡ 0 → ⊥) → (k ≡ 1 → ⊥) → c ≡ noSuchDrive → r ≡ notLookedUp c
+      → r ≡ lookUp p numbered k n
   unfolding lookUp
   look-none e y z q f = f ∙ ap notLookedUp q ∙ with-none p numbered k looksWith looksWithout notLookedUp e y z
 
-  pub look-stopped : {r : DriveLookedUp} {c : Refusal} → numbered ≡ false → c ≡ tested p → (c .number ≡ 0 → ⊥) → r ≡ notLookedUp c → r ≡ lookUp p numbered k n
+  pub look-stopped : {r : DriveLookedUp} {c : Refusal} → numbered ≡ false → c ≡ tested p → (c .number ≡ 0 → ⊥) → r ≡ notLookedUp c
+      → r ≡ lookUp p numbered k n
   unfolding lookUp
   look-stopped e q z f = f ∙ stopped p numbered k looksWith looksWithout notLookedUp e q z
 
@@ -299,7 +302,8 @@ module _ (p : Pair) (numbered : Bool) (k : ℕ) (n : List ℕ) (f : NewFile) (ch
   unfolding create
   create-1 e y z w = w ∙ with-1 p numbered k creates (creates (takes p n)) refuses e y z
 
-  pub create-none : {r : DriveCreated × List ℕ × List ℕ} → numbered ≡ true → (k ≡ 0 → ⊥) → (k ≡ 1 → ⊥) → r ≡ refuses noSuchDrive → r ≡ create p numbered k n f checking
+  pub create-none : {r : DriveCreated × List ℕ × List ℕ} → numbered ≡ true → (k ≡ 0 → ⊥) → (k ≡ 1 → ⊥) → r ≡ refuses noSuchDrive
+      → r ≡ create p numbered k n f checking
   unfolding create
   create-none e y z w = w ∙ with-none p numbered k creates (creates (takes p n)) refuses e y z
 

@@ -23,7 +23,8 @@ use Rattle.together.specs.Demand3 as one-disk
 use Rattle.drives.specs.Pair.{Pair, pair, geometry, image, handleOn}
 use Rattle.drives.specs.declared.DriveHandle.{DriveHandle}
 use Rattle.promises_drives.specs.Statement.{IsDrive, zeroth, first}
-use Rattle.promises_drives.specs.Interleaved.{DriveSide, Answered, answer, World, start, next, after, Taken, Accepted, AllQuiet, DriveGrip, driveGrip, Agree, Demand3, Apart}
+use Rattle.promises_drives.specs.Interleaved.{DriveSide, Answered, answer, World, start, next, after, Taken, Accepted, AllQuiet}
+use Rattle.promises_drives.specs.Interleaved.{DriveGrip, driveGrip, Agree, Demand3, Apart}
 use Rattle.promises_drives.specs.Turns.{lift, bare-lift, number-is, drives-is, side-is}
 
 -- One step, with the drives as a function of the list's own disk ------------------------------------------------------------------------
@@ -140,7 +141,8 @@ abbrev alone : List Step → List Turn
 alone [] = []
 alone (c ∷ cs) = one c ∷ alone cs
 
-module _ (k l : ℕ) (g h : Geometry) (put : List ℕ → List ℕ → Pair) (on-k : (e : List ℕ) → Holds k g (λ d. put d e)) (on-l : (d : List ℕ) → Holds l h (put d)) (a b : Name) where
+module _ (k l : ℕ) (g h : Geometry) (put : List ℕ → List ℕ → Pair) (on-k : (e : List ℕ) → Holds k g (λ d. put d e))
+    (on-l : (d : List ℕ) → Holds l h (put d)) (a b : Name) where
   -- the world of each list's disk, as the world of the drives
   abbrev beside : disk.World → disk.World → World
   beside u v = record { drives = put (u .disk) (v .disk); first = lift k (u .first); second = lift l (v .first) }
@@ -225,7 +227,8 @@ untouched g d n = (λ f e u. e, same-as-itself g d n)
 
 -- both lists on drive k: what demand 3 of one disk gives
 module _ (k : ℕ) (g : Geometry) (put : List ℕ → Pair) (holds : Holds k g put) (a b : Name) (ab : fold a ≢ fold b) (d : List ℕ)
-    (fit : fitsGeometry g d ≡ true) (con : consistent g d ≡ true) {xs ys : List Step} {zs zs′ : List Turn} (i : Interleaving xs ys zs) (i′ : Interleaving xs ys zs′)
+    (fit : fitsGeometry g d ≡ true) (con : consistent g d ≡ true) {xs ys : List Step} {zs zs′ : List Turn}
+    (i : Interleaving xs ys zs) (i′ : Interleaving xs ys zs′)
     (t : Accepted k k a b (start (put d)) zs) (t′ : Accepted k k a b (start (put d)) zs′) where
   abbrev w : disk.World
   w = disk.after g a b (disk.start d) zs
@@ -235,7 +238,8 @@ module _ (k : ℕ) (g : Geometry) (put : List ℕ → Pair) (holds : Holds k g p
 
   on-disk : disk.Agree g a b d xs ys zs w w′
   on-disk =
-      one-disk.demand3 g a b ab d fit con xs ys zs zs′ i i′ (all-taken k g put holds a b zs (disk.start d) t) (all-taken k g put holds a b zs′ (disk.start d) t′)
+      one-disk.demand3 g a b ab d fit con xs ys zs zs′ i i′ (all-taken k g put holds a b zs (disk.start d) t)
+      (all-taken k g put holds a b zs′ (disk.start d) t′)
 
   -- it is enough that the worlds of that disk agree
   from-disk : (p : Pair) → Agree p k k a b xs ys zs (both k g put holds a b w) (both k g put holds a b w′)
@@ -333,7 +337,8 @@ apart-01 p a b sound {xs = xs} {ys = ys} i i′ t t′ =
           (λ n na nb. alone-third g a d (sound 0 zeroth) xs (r .taken) n (na refl)) (λ n na nb. alone-third h b e (sound 1 first) ys (r .taken′) n (nb refl));
       images = λ q. each (λ j. image (put u v) j ≡ image (put u v) j) refl refl;
       consistent′ = each (λ j. (consistent (geometry p j) (image (put u v) j) ≡ true) × (consistent (geometry p j) (image (put u v) j) ≡ true))
-          ((let c = alone-good g a d (sound 0 zeroth) xs (r .taken) in (c .1, c .1))) ((let c = alone-good h b e (sound 1 first) ys (r .taken′) in (c .1, c .1)));
+          (let c = alone-good g a d (sound 0 zeroth) xs (r .taken) in (c .1, c .1))
+          (let c = alone-good h b e (sound 1 first) ys (r .taken′) in (c .1, c .1));
       handles = (refl, refl);
       heard = λ y y′ x x′. (refl, refl);
     })
@@ -355,7 +360,8 @@ apart-10 p a b sound {xs = xs} {ys = ys} i i′ t t′ =
           (λ n na nb. alone-third h b e (sound 0 zeroth) ys (r .taken′) n (nb refl)) (λ n na nb. alone-third g a d (sound 1 first) xs (r .taken) n (na refl));
       images = λ q. each (λ j. image (put u v) j ≡ image (put u v) j) refl refl;
       consistent′ = each (λ j. (consistent (geometry p j) (image (put u v) j) ≡ true) × (consistent (geometry p j) (image (put u v) j) ≡ true))
-          ((let c = alone-good h b e (sound 0 zeroth) ys (r .taken′) in (c .1, c .1))) ((let c = alone-good g a d (sound 1 first) xs (r .taken) in (c .1, c .1)));
+          (let c = alone-good h b e (sound 0 zeroth) ys (r .taken′) in (c .1, c .1))
+          (let c = alone-good g a d (sound 1 first) xs (r .taken) in (c .1, c .1));
       handles = (refl, refl);
       heard = λ y y′ x x′. (refl, refl);
     })

@@ -159,7 +159,8 @@ pub record Agree (p : Pair) (k l : ℕ) (a b : Name) (xs ys : List Step) (zs : L
   -- both disks are consistent
   pub consistent′ : (j : ℕ) → IsDrive j → (consistent (geometry p j) (image (w .drives) j) ≡ true) × (consistent (geometry p j) (image (w′ .drives) j) ≡ true)
   -- each list ends with the same handles, slots apart
-  pub handles : (map driveGrip (w .first .handles) ≡ map driveGrip (w′ .first .handles)) × (map driveGrip (w .second .handles) ≡ map driveGrip (w′ .second .handles))
+  pub handles : (map driveGrip (w .first .handles) ≡ map driveGrip (w′ .first .handles))
+      × (map driveGrip (w .second .handles) ≡ map driveGrip (w′ .second .handles))
   -- each list was handed back the same bytes
   pub heard : AreBytes (image p 0) → AreBytes (image p 1) → AllBring xs → AllBring ys
       → (w .first .heard ≡ w′ .first .heard) × (w .second .heard ≡ w′ .second .heard)

@@ -4,3 +4,4 @@ pub mod Proved
 pub mod Interleaved
 pub mod Turns
 pub mod Demand3
+pub mod Samples

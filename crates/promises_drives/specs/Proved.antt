@@ -14,7 +14,8 @@ use Rattle.drives.specs.Pair.{Pair, onDrive, ofDisk, naming′, faultDrive, noD
 use Rattle.drives.specs.ByName.{byName, notCreated, searched, takes, createOn, openOn, lookUp, openFile, create}
 use Rattle.drives.specs.ByHandle.{readRecord, readSector, writeRecord, allot, trim, kill}
 use Rattle.drives.specs.declared.DriveCreated.{DriveCreated}
-use Rattle.promises_drives.specs.Statement.{IsDrive, zeroth, first, OnOne, EveryNumber, Spares, Without, EverySearch, OneStays, NoDrive, Sixteen, BothTested, EveryTest, Names, EveryName}
+use Rattle.promises_drives.specs.Statement.{IsDrive, zeroth, first, OnOne, EveryNumber, Spares, Without, EverySearch, OneStays}
+use Rattle.promises_drives.specs.Statement.{NoDrive, Sixteen, BothTested, EveryTest, Names, EveryName}
 use Rattle.promises_drives.specs.Drive.{on-drive, on-none, searched-drive, takes-drive, by-name, naming-number}
 
 pub every-number : EveryNumber

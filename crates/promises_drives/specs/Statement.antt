@@ -62,7 +62,8 @@ Spares = (p : Pair) (n k : ℕ) (d : List ℕ) → n ≢ k → leaving p n d k �
 
 -- where neither disk is refused it is the call on the drive that the search names, whatever stands for the number
 pub record Without (p : Pair) : Type 0 where
-  pub looksUp : (k : ℕ) (m : List ℕ) → lookUp p false k m ≡ lookedUpOn (searched p m) (passedOver p m) (LookUp.lookUp (geometry p (searched p m)) (image p (searched p m)) m)
+  pub looksUp : (k : ℕ) (m : List ℕ) → let j = searched p m in
+      lookUp p false k m ≡ lookedUpOn j (passedOver p m) (LookUp.lookUp (geometry p j) (image p j) m)
   pub opens : (k : ℕ) (m : List ℕ) (len : ℕ) (checking : Bool) (code : ℕ)
       → openFile p false k m len checking code ≡ openFile p true (searched p m) m len checking code
   pub creates : (k : ℕ) (m : List ℕ) (f : NewFile) (checking : Bool) → create p false k m f checking ≡ create p true (takes p m) m f checking

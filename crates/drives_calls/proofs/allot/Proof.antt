@@ -25,8 +25,11 @@ same-length c = search needs
 -- src/lib.rt:290:9
 returns : tie.Need-returns
 unfolding allot
-returns c = let a = c .before .before .before .before .before .before .before .before .before .before .args in let p = pair (a .g0) (a .image0 .now) (a .g1) (a .image1 .now) in
-    changed-0 p (a .h) (allotOn p (a .h) (a .k)) (c .before .before .before .before .before .if1 .taken) (c .answered .ensures) (c .before .before .before .allot .ensures)
+returns c =
+    let a = c .before .before .before .before .before .before .before .before .before .before .args in
+    let the-if1 = c .before .before .before .before .before .if1 in let the-allot = c .before .before .before .allot in
+    let p = pair (a .g0) (a .image0 .now) (a .g1) (a .image1 .now) in changed-0 p (a .h) (allotOn p (a .h) (a .k)) (the-if1 .taken)
+    (c .answered .ensures) (the-allot .ensures)
 
 -- src/lib.rt:293:41
 allot-requires-2 : tie.Need-allot-requires-2
@@ -43,8 +46,12 @@ same-length-2 c = search needs
 -- src/lib.rt:293:9
 returns-2 : tie.Need-returns-2
 unfolding allot
-returns-2 c = let a = c .before .before .before .before .before .before .before .before .before .before .before .before .args in let p = pair (a .g0) (a .image0 .now) (a .g1) (a .image1 .now) in
-    changed-1 p (a .h) (allotOn p (a .h) (a .k)) (c .before .before .before .before .before .before .before .if1 .left) (c .before .before .before .before .before .if2 .taken) (c .answered2 .ensures) (c .before .before .before .allot2 .ensures)
+returns-2 c =
+    let a = c .before .before .before .before .before .before .before .before .before .before .before .before .args in
+    let the-if1 = c .before .before .before .before .before .before .before .if1 in
+    let the-if2 = c .before .before .before .before .before .if2 in let the-allot2 = c .before .before .before .allot2 in
+    let p = pair (a .g0) (a .image0 .now) (a .g1) (a .image1 .now) in changed-1 p (a .h) (allotOn p (a .h) (a .k)) (the-if1 .left)
+    (the-if2 .taken) (c .answered2 .ensures) (the-allot2 .ensures)
 
 -- src/lib.rt:295:5
 unheld-requires : tie.Need-unheld-requires
@@ -53,8 +60,10 @@ unheld-requires c κs = search needs
 -- src/lib.rt:277:1
 returns-3 : tie.Need-returns-3
 unfolding allot
-returns-3 c = let a = c .before .before .before .before .before .before .before .before .args in let p = pair (a .g0) (a .image0 .now) (a .g1) (a .image1 .now) in
-    unchanged p (a .h) (allotOn p (a .h) (a .k)) (c .before .before .before .if1 .left) (c .before .if2 .left) (c .unheld .ensures)
+returns-3 c =
+    let a = c .before .before .before .before .before .before .before .before .args in let the-if1 = c .before .before .before .if1 in
+    let p = pair (a .g0) (a .image0 .now) (a .g1) (a .image1 .now) in unchanged p (a .h) (allotOn p (a .h) (a .k)) (the-if1 .left)
+    (c .before .if2 .left) (c .unheld .ensures)
 
 pub allot-spec : {M : Type 1} → statement M
 allot-spec =

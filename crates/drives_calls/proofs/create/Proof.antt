@@ -1,7 +1,8 @@
 use mathlib.Core.Path.{ap, sym, _∙_}
 use Rattle.drives.specs.ByName.{notCreated}
 use Rattle.drives.specs.Pair.{pair}
-use Rattle.drives_calls.proofs.Named.{tested-is, first-passed, takes-1, created-0, created-1, create-0, create-1, create-none, create-stopped, create-passed}
+use Rattle.drives_calls.proofs.Named.{tested-is, first-passed, takes-1, created-0, created-1}
+use Rattle.drives_calls.proofs.Named.{create-0, create-1, create-none, create-stopped, create-passed}
 use borrow.Author.Needs.{needs}
 use Rattle.drives_calls.proofs.create.Statement.{statement}
 use Rattle.drives_calls.proofs.create.Tie as tie
@@ -30,7 +31,12 @@ same-length c = search needs
 
 -- src/lib.rt:150:13
 returns : tie.Need-returns
-returns c = create-0 _ _ _ _ _ _ (c .before .before .before .before .before .before .if1 .taken) (c .before .before .before .before .before .if2 .taken) (created-0 (pair (c .before .before .before .before .before .before .before .before .before .before .args .g0) (c .before .before .before .before .before .before .before .before .before .before .args .image0 .now) (c .before .before .before .before .before .before .before .before .before .before .args .g1) (c .before .before .before .before .before .before .before .before .before .before .args .image1 .now)) _ _ _ (c .created-on .ensures) (c .before .before .before .create .ensures))
+returns c =
+    let a = c .before .before .before .before .before .before .before .before .before .before .args in
+    let the-if1 = c .before .before .before .before .before .before .if1 in let the-if2 = c .before .before .before .before .before .if2 in
+    let the-create = c .before .before .before .create in
+    create-0 _ _ _ _ _ _ (the-if1 .taken) (the-if2 .taken) (created-0 (pair (a .g0) (a .image0 .now) (a .g1) (a .image1 .now)) _ _ _
+    (c .created-on .ensures) (the-create .ensures))
 
 -- src/lib.rt:153:47
 create-requires-2 : tie.Need-create-requires-2
@@ -46,7 +52,13 @@ same-length-2 c = search needs
 
 -- src/lib.rt:153:13
 returns-2 : tie.Need-returns-2
-returns-2 c = create-1 _ _ _ _ _ _ (c .before .before .before .before .before .before .before .if1 .taken) (c .before .before .before .before .before .before .if2 .left) (c .before .before .before .before .before .if3 .taken) (created-1 (pair (c .before .before .before .before .before .before .before .before .before .before .before .args .g0) (c .before .before .before .before .before .before .before .before .before .before .before .args .image0 .now) (c .before .before .before .before .before .before .before .before .before .before .before .args .g1) (c .before .before .before .before .before .before .before .before .before .before .before .args .image1 .now)) _ _ _ (c .created-on2 .ensures) (c .before .before .before .create2 .ensures))
+returns-2 c =
+    let a = c .before .before .before .before .before .before .before .before .before .before .before .args in
+    let the-if1 = c .before .before .before .before .before .before .before .if1 in
+    let the-if2 = c .before .before .before .before .before .before .if2 in let the-if3 = c .before .before .before .before .before .if3 in
+    let the-create2 = c .before .before .before .create2 in
+    create-1 _ _ _ _ _ _ (the-if1 .taken) (the-if2 .left) (the-if3 .taken) (created-1 (pair (a .g0) (a .image0 .now) (a .g1) (a .image1 .now)) _ _
+    _ (c .created-on2 .ensures) (the-create2 .ensures))
 
 -- src/lib.rt:155:41
 no-such-drive-requires : tie.Need-no-such-drive-requires
@@ -58,8 +70,11 @@ not-created-requires c κs = search needs
 
 -- src/lib.rt:155:9
 returns-3 : tie.Need-returns-3
-returns-3 c = let e = c .not-created .ensures ∙ ap notCreated (c .before .no-such-drive .ensures) in
-    create-none _ _ _ _ _ _ (c .before .before .before .before .if1 .taken) (c .before .before .before .if2 .left) (c .before .before .if3 .left) (λ i. (e i, c .before .before .before .before .before .before .before .before .args .image0 .now, c .before .before .before .before .before .before .before .before .args .image1 .now))
+returns-3 c =
+    let a = c .before .before .before .before .before .before .before .before .args in let the-if1 = c .before .before .before .before .if1 in
+    let the-if2 = c .before .before .before .if2 in let the-if3 = c .before .before .if3 in
+    let e = c .not-created .ensures ∙ ap notCreated (c .before .no-such-drive .ensures) in create-none _ _ _ _ _ _ (the-if1 .taken)
+    (the-if2 .left) (the-if3 .left) (λ i. (e i, a .image0 .now, a .image1 .now))
 
 -- src/lib.rt:157:9
 check-requires : tie.Need-check-requires
@@ -87,12 +102,21 @@ same-length-4 c = search needs
 
 -- src/lib.rt:161:9
 returns-4 : tie.Need-returns-4
-returns-4 c = create-stopped _ _ _ _ _ _ (c .before .before .before .before .before .before .before .before .if1 .left) (tested-is _ (c .before .before .before .of-both .ensures) (c .before .before .before .before .before .before .check .ensures) (c .before .before .before .before .check2 .ensures)) (c .before .if4 .taken)
-    (λ i. ((c .not-created2 .ensures) i, c .before .before .before .before .before .before .before .before .before .before .before .before .args .image0 .now, c .before .before .before .before .before .before .before .before .before .before .before .before .args .image1 .now))
+returns-4 c =
+    let a = c .before .before .before .before .before .before .before .before .before .before .before .before .args in
+    let the-if1 = c .before .before .before .before .before .before .before .before .if1 in
+    let the-check = c .before .before .before .before .before .before .check in let the-check2 = c .before .before .before .before .check2 in
+    let the-of-both = c .before .before .before .of-both in
+    create-stopped _ _ _ _ _ _ (the-if1 .left) (tested-is _ (the-of-both .ensures) (the-check .ensures) (the-check2 .ensures))
+    (c .before .if4 .taken) (λ i. ((c .not-created2 .ensures) i, a .image0 .now, a .image1 .now))
 
 -- src/lib.rt:163:8
 takes-requires : tie.Need-takes-requires
-takes-requires c κs = (c .before .before .before .before .before .before .before .check .ensures, first-passed _ _ (c .before .before .before .before .of-both .ensures) (c .before .before .if4 .left), c .before .before .before .before .before .check2 .ensures)
+takes-requires c κs =
+    let the-check = c .before .before .before .before .before .before .before .check in
+    let the-check2 = c .before .before .before .before .before .check2 in let the-of-both = c .before .before .before .before .of-both in
+    let the-if4 = c .before .before .if4 in
+    (the-check .ensures, first-passed _ _ (the-of-both .ensures) (the-if4 .left), the-check2 .ensures)
 
 -- src/lib.rt:166:13
 create-checked-requires : tie.Need-create-checked-requires
@@ -112,8 +136,18 @@ same-length-6 c = search needs
 
 -- src/lib.rt:164:9
 returns-5 : tie.Need-returns-5
-returns-5 c = create-passed _ _ _ _ _ _ (c .before .before .before .before .before .before .before .before .before .before .before .before .before .before .before .before .if1 .left) (tested-is _ (c .before .before .before .before .before .before .before .before .before .before .before .of-both .ensures) (c .before .before .before .before .before .before .before .before .before .before .before .before .before .before .check .ensures) (c .before .before .before .before .before .before .before .before .before .before .before .before .check2 .ensures)) 0 (c .before .before .before .before .before .before .before .before .before .if4 .left)
-    (sym (c .before .before .before .before .before .if5 .taken) ∙ c .before .before .before .before .before .before .takes .ensures) (created-0 (pair (c .before .before .before .before .before .before .before .before .before .before .before .before .before .before .before .before .before .before .before .before .args .g0) (c .before .before .before .before .before .before .before .before .before .before .before .before .before .before .before .before .before .before .before .before .args .image0 .now) (c .before .before .before .before .before .before .before .before .before .before .before .before .before .before .before .before .before .before .before .before .args .g1) (c .before .before .before .before .before .before .before .before .before .before .before .before .before .before .before .before .before .before .before .before .args .image1 .now)) _ _ _ (c .created-on3 .ensures) (c .before .before .before .create-checked .ensures))
+returns-5 c =
+    let far = c .before .before .before .before .before .before .before .before .before .before .before .before in
+    let a = far .before .before .before .before .before .before .before .before .args in let the-if1 = far .before .before .before .before .if1 in
+    let the-check = c .before .before .before .before .before .before .before .before .before .before .before .before .before .before .check in
+    let the-check2 = c .before .before .before .before .before .before .before .before .before .before .before .before .check2 in
+    let the-of-both = c .before .before .before .before .before .before .before .before .before .before .before .of-both in
+    let the-if4 = c .before .before .before .before .before .before .before .before .before .if4 in
+    let the-takes = c .before .before .before .before .before .before .takes in let the-if5 = c .before .before .before .before .before .if5 in
+    let the-create-checked = c .before .before .before .create-checked in
+    create-passed _ _ _ _ _ _ (the-if1 .left) (tested-is _ (the-of-both .ensures) (the-check .ensures) (the-check2 .ensures)) 0 (the-if4 .left)
+    (sym (the-if5 .taken) ∙ the-takes .ensures) (created-0 (pair (a .g0) (a .image0 .now) (a .g1) (a .image1 .now)) _ _ _
+    (c .created-on3 .ensures) (the-create-checked .ensures))
 
 -- src/lib.rt:171:9
 create-checked-requires-2 : tie.Need-create-checked-requires-2
@@ -133,8 +167,18 @@ same-length-8 c = search needs
 
 -- src/lib.rt:134:1
 returns-6 : tie.Need-returns-6
-returns-6 c = create-passed _ _ _ _ _ _ (c .before .before .before .before .before .before .before .before .before .before .before .before .before .before .before .before .if1 .left) (tested-is _ (c .before .before .before .before .before .before .before .before .before .before .before .of-both .ensures) (c .before .before .before .before .before .before .before .before .before .before .before .before .before .before .check .ensures) (c .before .before .before .before .before .before .before .before .before .before .before .before .check2 .ensures)) 1 (c .before .before .before .before .before .before .before .before .before .if4 .left)
-    (sym (takes-1 _ _ (λ w. c .before .before .before .before .before .if5 .left (c .before .before .before .before .before .before .takes .ensures ∙ w)))) (created-1 (pair (c .before .before .before .before .before .before .before .before .before .before .before .before .before .before .before .before .before .before .before .before .args .g0) (c .before .before .before .before .before .before .before .before .before .before .before .before .before .before .before .before .before .before .before .before .args .image0 .now) (c .before .before .before .before .before .before .before .before .before .before .before .before .before .before .before .before .before .before .before .before .args .g1) (c .before .before .before .before .before .before .before .before .before .before .before .before .before .before .before .before .before .before .before .before .args .image1 .now)) _ _ _ (c .created-on4 .ensures) (c .before .before .before .create-checked2 .ensures))
+returns-6 c =
+    let far = c .before .before .before .before .before .before .before .before .before .before .before .before in
+    let a = far .before .before .before .before .before .before .before .before .args in let the-if1 = far .before .before .before .before .if1 in
+    let the-check = c .before .before .before .before .before .before .before .before .before .before .before .before .before .before .check in
+    let the-check2 = c .before .before .before .before .before .before .before .before .before .before .before .before .check2 in
+    let the-of-both = c .before .before .before .before .before .before .before .before .before .before .before .of-both in
+    let the-if4 = c .before .before .before .before .before .before .before .before .before .if4 in
+    let the-takes = c .before .before .before .before .before .before .takes in let the-if5 = c .before .before .before .before .before .if5 in
+    let the-create-checked2 = c .before .before .before .create-checked2 in
+    create-passed _ _ _ _ _ _ (the-if1 .left) (tested-is _ (the-of-both .ensures) (the-check .ensures) (the-check2 .ensures)) 1 (the-if4 .left)
+    (sym (takes-1 _ _ (λ w. the-if5 .left (the-takes .ensures ∙ w)))) (created-1 (pair (a .g0) (a .image0 .now) (a .g1) (a .image1 .now)) _ _ _
+    (c .created-on4 .ensures) (the-create-checked2 .ensures))
 
 pub create-spec : {M : Type 1} → statement M
 create-spec =

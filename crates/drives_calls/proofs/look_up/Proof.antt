@@ -23,7 +23,9 @@ looked-up-on-requires c κs = (omega arith, few _ _ _ (c .look-up .ensures))
 
 -- src/lib.rt:35:13
 returns : tie.Need-returns
-returns c = look-0 _ _ _ _ (c .before .before .before .if1 .taken) (c .before .before .if2 .taken) (c .before .look-up .ensures) (c .looked-up-on .ensures)
+returns c =
+    let the-if1 = c .before .before .before .if1 in let the-if2 = c .before .before .if2 in
+    look-0 _ _ _ _ (the-if1 .taken) (the-if2 .taken) (c .before .look-up .ensures) (c .looked-up-on .ensures)
 
 -- src/lib.rt:38:52
 look-up-requires-2 : tie.Need-look-up-requires-2
@@ -35,7 +37,10 @@ looked-up-on-requires-2 c κs = (omega arith, few _ _ _ (c .look-up2 .ensures))
 
 -- src/lib.rt:38:13
 returns-2 : tie.Need-returns-2
-returns-2 c = look-1 _ _ _ _ (c .before .before .before .before .if1 .taken) (c .before .before .before .if2 .left) (c .before .before .if3 .taken) (c .before .look-up2 .ensures) (c .looked-up-on2 .ensures)
+returns-2 c =
+    let the-if1 = c .before .before .before .before .if1 in let the-if2 = c .before .before .before .if2 in
+    let the-if3 = c .before .before .if3 in
+    look-1 _ _ _ _ (the-if1 .taken) (the-if2 .left) (the-if3 .taken) (c .before .look-up2 .ensures) (c .looked-up-on2 .ensures)
 
 -- src/lib.rt:40:43
 no-such-drive-requires : tie.Need-no-such-drive-requires
@@ -47,7 +52,10 @@ not-looked-up-requires c κs = search needs
 
 -- src/lib.rt:40:9
 returns-3 : tie.Need-returns-3
-returns-3 c = look-none _ _ _ _ (c .before .before .before .before .if1 .taken) (c .before .before .before .if2 .left) (c .before .before .if3 .left) (c .before .no-such-drive .ensures) (c .not-looked-up .ensures)
+returns-3 c =
+    let the-if1 = c .before .before .before .before .if1 in let the-if2 = c .before .before .before .if2 in
+    let the-if3 = c .before .before .if3 in
+    look-none _ _ _ _ (the-if1 .taken) (the-if2 .left) (the-if3 .left) (c .before .no-such-drive .ensures) (c .not-looked-up .ensures)
 
 -- src/lib.rt:42:9
 check-requires : tie.Need-check-requires
@@ -67,7 +75,11 @@ not-looked-up-requires-2 c κs = search needs
 
 -- src/lib.rt:46:9
 returns-4 : tie.Need-returns-4
-returns-4 c = look-stopped _ _ _ _ (c .before .before .before .before .before .before .if1 .left) (tested-is _ (c .before .before .before .of-both .ensures) (c .before .before .before .before .before .check .ensures) (c .before .before .before .before .check2 .ensures)) (c .before .if4 .taken) (c .not-looked-up2 .ensures)
+returns-4 c =
+    let the-if1 = c .before .before .before .before .before .before .if1 in let the-check = c .before .before .before .before .before .check in
+    let the-check2 = c .before .before .before .before .check2 in let the-of-both = c .before .before .before .of-both in
+    look-stopped _ _ _ _ (the-if1 .left) (tested-is _ (the-of-both .ensures) (the-check .ensures) (the-check2 .ensures)) (c .before .if4 .taken)
+    (c .not-looked-up2 .ensures)
 
 -- src/lib.rt:48:9
 look-up-checked-requires : tie.Need-look-up-checked-requires
@@ -79,8 +91,14 @@ looked-up-on-requires-3 c κs = (omega arith, few _ _ _ (c .before .before .look
 
 -- src/lib.rt:50:9
 returns-5 : tie.Need-returns-5
-returns-5 c = look-passed _ _ _ _ (c .before .before .before .before .before .before .before .before .before .if1 .left) (tested-is _ (c .before .before .before .before .before .before .of-both .ensures) (c .before .before .before .before .before .before .before .before .check .ensures) (c .before .before .before .before .before .before .before .check2 .ensures)) (c .before .before .before .before .if4 .left)
-    (sought-0 _ _ (c .before .before .before .look-up-checked .ensures) (c .before .if5 .taken) (c .looked-up-on3 .ensures))
+returns-5 c =
+    let the-if1 = c .before .before .before .before .before .before .before .before .before .if1 in
+    let the-check = c .before .before .before .before .before .before .before .before .check in
+    let the-check2 = c .before .before .before .before .before .before .before .check2 in
+    let the-of-both = c .before .before .before .before .before .before .of-both in let the-if4 = c .before .before .before .before .if4 in
+    let the-look-up-checked = c .before .before .before .look-up-checked in
+    look-passed _ _ _ _ (the-if1 .left) (tested-is _ (the-of-both .ensures) (the-check .ensures) (the-check2 .ensures)) (the-if4 .left) (sought-0
+    _ _ (the-look-up-checked .ensures) (c .before .if5 .taken) (c .looked-up-on3 .ensures))
 
 -- src/lib.rt:52:9
 look-up-checked-requires-2 : tie.Need-look-up-checked-requires-2
@@ -92,8 +110,15 @@ looked-up-on-requires-4 c κs = (few _ _ _ (c .before .before .before .look-up-c
 
 -- src/lib.rt:22:1
 returns-6 : tie.Need-returns-6
-returns-6 c = look-passed _ _ _ _ (c .before .before .before .before .before .before .before .before .before .before .if1 .left) (tested-is _ (c .before .before .before .before .before .before .before .of-both .ensures) (c .before .before .before .before .before .before .before .before .before .check .ensures) (c .before .before .before .before .before .before .before .before .check2 .ensures)) (c .before .before .before .before .before .if4 .left)
-    (sought-1 _ _ (c .before .before .before .before .look-up-checked .ensures) (c .before .before .if5 .left) (c .before .look-up-checked2 .ensures) (c .looked-up-on4 .ensures))
+returns-6 c =
+    let the-if1 = c .before .before .before .before .before .before .before .before .before .before .if1 in
+    let the-check = c .before .before .before .before .before .before .before .before .before .check in
+    let the-check2 = c .before .before .before .before .before .before .before .before .check2 in
+    let the-of-both = c .before .before .before .before .before .before .before .of-both in
+    let the-if4 = c .before .before .before .before .before .if4 in
+    let the-look-up-checked = c .before .before .before .before .look-up-checked in let the-if5 = c .before .before .if5 in
+    look-passed _ _ _ _ (the-if1 .left) (tested-is _ (the-of-both .ensures) (the-check .ensures) (the-check2 .ensures)) (the-if4 .left) (sought-1
+    _ _ (the-look-up-checked .ensures) (the-if5 .left) (c .before .look-up-checked2 .ensures) (c .looked-up-on4 .ensures))
 
 pub look-up-spec : {M : Type 1} → statement M
 look-up-spec =

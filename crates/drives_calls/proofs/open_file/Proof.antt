@@ -23,7 +23,9 @@ opened-on-requires c κs = search needs
 
 -- src/lib.rt:73:13
 returns : tie.Need-returns
-returns c = open-0 _ _ _ _ _ _ _ (c .before .before .before .if1 .taken) (c .before .before .if2 .taken) (c .before .open-file .ensures) (c .opened-on .ensures)
+returns c =
+    let the-if1 = c .before .before .before .if1 in let the-if2 = c .before .before .if2 in
+    open-0 _ _ _ _ _ _ _ (the-if1 .taken) (the-if2 .taken) (c .before .open-file .ensures) (c .opened-on .ensures)
 
 -- src/lib.rt:81:17
 open-file-requires-2 : tie.Need-open-file-requires-2
@@ -35,7 +37,10 @@ opened-on-requires-2 c κs = search needs
 
 -- src/lib.rt:79:13
 returns-2 : tie.Need-returns-2
-returns-2 c = open-1 _ _ _ _ _ _ _ (c .before .before .before .before .if1 .taken) (c .before .before .before .if2 .left) (c .before .before .if3 .taken) (c .before .open-file2 .ensures) (c .opened-on2 .ensures)
+returns-2 c =
+    let the-if1 = c .before .before .before .before .if1 in let the-if2 = c .before .before .before .if2 in
+    let the-if3 = c .before .before .if3 in
+    open-1 _ _ _ _ _ _ _ (the-if1 .taken) (the-if2 .left) (the-if3 .taken) (c .before .open-file2 .ensures) (c .opened-on2 .ensures)
 
 -- src/lib.rt:84:40
 no-such-drive-requires : tie.Need-no-such-drive-requires
@@ -47,7 +52,10 @@ not-opened-requires c κs = search needs
 
 -- src/lib.rt:84:9
 returns-3 : tie.Need-returns-3
-returns-3 c = open-none _ _ _ _ _ _ _ (c .before .before .before .before .if1 .taken) (c .before .before .before .if2 .left) (c .before .before .if3 .left) (c .before .no-such-drive .ensures) (c .not-opened .ensures)
+returns-3 c =
+    let the-if1 = c .before .before .before .before .if1 in let the-if2 = c .before .before .before .if2 in
+    let the-if3 = c .before .before .if3 in
+    open-none _ _ _ _ _ _ _ (the-if1 .taken) (the-if2 .left) (the-if3 .left) (c .before .no-such-drive .ensures) (c .not-opened .ensures)
 
 -- src/lib.rt:86:9
 check-requires : tie.Need-check-requires
@@ -67,7 +75,11 @@ not-opened-requires-2 c κs = search needs
 
 -- src/lib.rt:90:9
 returns-4 : tie.Need-returns-4
-returns-4 c = open-stopped _ _ _ _ _ _ _ (c .before .before .before .before .before .before .if1 .left) (tested-is _ (c .before .before .before .of-both .ensures) (c .before .before .before .before .before .check .ensures) (c .before .before .before .before .check2 .ensures)) (c .before .if4 .taken) (c .not-opened2 .ensures)
+returns-4 c =
+    let the-if1 = c .before .before .before .before .before .before .if1 in let the-check = c .before .before .before .before .before .check in
+    let the-check2 = c .before .before .before .before .check2 in let the-of-both = c .before .before .before .of-both in
+    open-stopped _ _ _ _ _ _ _ (the-if1 .left) (tested-is _ (the-of-both .ensures) (the-check .ensures) (the-check2 .ensures))
+    (c .before .if4 .taken) (c .not-opened2 .ensures)
 
 -- src/lib.rt:92:9
 look-up-checked-requires : tie.Need-look-up-checked-requires
@@ -83,8 +95,15 @@ opened-on-requires-3 c κs = search needs
 
 -- src/lib.rt:94:9
 returns-5 : tie.Need-returns-5
-returns-5 c = open-passed _ _ _ _ _ _ _ (c .before .before .before .before .before .before .before .before .before .before .if1 .left) (tested-is _ (c .before .before .before .before .before .before .before .of-both .ensures) (c .before .before .before .before .before .before .before .before .before .check .ensures) (c .before .before .before .before .before .before .before .before .check2 .ensures)) 0 (c .before .before .before .before .before .if4 .left)
-    (search-0 _ _ (c .before .before .before .before .look-up-checked .ensures) (c .before .before .if5 .taken)) (c .before .open-checked .ensures) (c .opened-on3 .ensures)
+returns-5 c =
+    let the-if1 = c .before .before .before .before .before .before .before .before .before .before .if1 in
+    let the-check = c .before .before .before .before .before .before .before .before .before .check in
+    let the-check2 = c .before .before .before .before .before .before .before .before .check2 in
+    let the-of-both = c .before .before .before .before .before .before .before .of-both in
+    let the-if4 = c .before .before .before .before .before .if4 in
+    let the-look-up-checked = c .before .before .before .before .look-up-checked in let the-if5 = c .before .before .if5 in
+    open-passed _ _ _ _ _ _ _ (the-if1 .left) (tested-is _ (the-of-both .ensures) (the-check .ensures) (the-check2 .ensures)) 0 (the-if4 .left)
+    (search-0 _ _ (the-look-up-checked .ensures) (the-if5 .taken)) (c .before .open-checked .ensures) (c .opened-on3 .ensures)
 
 -- src/lib.rt:101:9
 open-checked-requires-2 : tie.Need-open-checked-requires-2
@@ -96,8 +115,15 @@ opened-on-requires-4 c κs = search needs
 
 -- src/lib.rt:57:1
 returns-6 : tie.Need-returns-6
-returns-6 c = open-passed _ _ _ _ _ _ _ (c .before .before .before .before .before .before .before .before .before .before .if1 .left) (tested-is _ (c .before .before .before .before .before .before .before .of-both .ensures) (c .before .before .before .before .before .before .before .before .before .check .ensures) (c .before .before .before .before .before .before .before .before .check2 .ensures)) 1 (c .before .before .before .before .before .if4 .left)
-    (search-1 _ _ (c .before .before .before .before .look-up-checked .ensures) (c .before .before .if5 .left)) (c .before .open-checked2 .ensures) (c .opened-on4 .ensures)
+returns-6 c =
+    let the-if1 = c .before .before .before .before .before .before .before .before .before .before .if1 in
+    let the-check = c .before .before .before .before .before .before .before .before .before .check in
+    let the-check2 = c .before .before .before .before .before .before .before .before .check2 in
+    let the-of-both = c .before .before .before .before .before .before .before .of-both in
+    let the-if4 = c .before .before .before .before .before .if4 in
+    let the-look-up-checked = c .before .before .before .before .look-up-checked in let the-if5 = c .before .before .if5 in
+    open-passed _ _ _ _ _ _ _ (the-if1 .left) (tested-is _ (the-of-both .ensures) (the-check .ensures) (the-check2 .ensures)) 1 (the-if4 .left)
+    (search-1 _ _ (the-look-up-checked .ensures) (the-if5 .left)) (c .before .open-checked2 .ensures) (c .opened-on4 .ensures)
 
 pub open-file-spec : {M : Type 1} → statement M
 open-file-spec =

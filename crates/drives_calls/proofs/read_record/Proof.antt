@@ -25,8 +25,11 @@ same-length c = search needs
 -- src/lib.rt:188:9
 returns : tie.Need-returns
 unfolding readRecord
-returns c = let a = c .before .before .before .before .before .before .before .before .before .before .before .args in read-0 (a .h) (readOn (pair (a .g0) (a .image0 .now) (a .g1) (a .image1 .now)) (a .h) (a .buffer .now)) (a .buffer .now)
-    (c .before .before .before .before .before .if1 .taken) (c .answered .ensures) (c .before .before .before .read-record .ensures)
+returns c =
+    let a = c .before .before .before .before .before .before .before .before .before .before .before .args in
+    let the-if1 = c .before .before .before .before .before .if1 in let the-read-record = c .before .before .before .read-record in
+    read-0 (a .h) (readOn (pair (a .g0) (a .image0 .now) (a .g1) (a .image1 .now)) (a .h) (a .buffer .now)) (a .buffer .now) (the-if1 .taken)
+    (c .answered .ensures) (the-read-record .ensures)
 
 -- src/lib.rt:191:41
 read-record-requires-2 : tie.Need-read-record-requires-2
@@ -43,8 +46,12 @@ same-length-2 c = search needs
 -- src/lib.rt:191:9
 returns-2 : tie.Need-returns-2
 unfolding readRecord
-returns-2 c = let a = c .before .before .before .before .before .before .before .before .before .before .before .before .before .args in read-1 (a .h) (readOn (pair (a .g0) (a .image0 .now) (a .g1) (a .image1 .now)) (a .h) (a .buffer .now)) (a .buffer .now)
-    (c .before .before .before .before .before .before .before .if1 .left) (c .before .before .before .before .before .if2 .taken) (c .answered2 .ensures) (c .before .before .before .read-record2 .ensures)
+returns-2 c =
+    let a = c .before .before .before .before .before .before .before .before .before .before .before .before .before .args in
+    let the-if1 = c .before .before .before .before .before .before .before .if1 in
+    let the-if2 = c .before .before .before .before .before .if2 in let the-read-record2 = c .before .before .before .read-record2 in
+    read-1 (a .h) (readOn (pair (a .g0) (a .image0 .now) (a .g1) (a .image1 .now)) (a .h) (a .buffer .now)) (a .buffer .now) (the-if1 .left)
+    (the-if2 .taken) (c .answered2 .ensures) (the-read-record2 .ensures)
 
 -- src/lib.rt:193:5
 unheld-requires : tie.Need-unheld-requires
@@ -53,8 +60,10 @@ unheld-requires c κs = search needs
 -- src/lib.rt:176:1
 returns-3 : tie.Need-returns-3
 unfolding readRecord
-returns-3 c = let a = c .before .before .before .before .before .before .before .before .before .args in read-none (a .h) (readOn (pair (a .g0) (a .image0 .now) (a .g1) (a .image1 .now)) (a .h) (a .buffer .now)) (a .buffer .now)
-    (c .before .before .before .if1 .left) (c .before .if2 .left) (c .unheld .ensures)
+returns-3 c =
+    let a = c .before .before .before .before .before .before .before .before .before .args in let the-if1 = c .before .before .before .if1 in
+    read-none (a .h) (readOn (pair (a .g0) (a .image0 .now) (a .g1) (a .image1 .now)) (a .h) (a .buffer .now)) (a .buffer .now) (the-if1 .left)
+    (c .before .if2 .left) (c .unheld .ensures)
 
 pub read-record-spec : {M : Type 1} → statement M
 read-record-spec =

@@ -27,12 +27,17 @@ part-result-start c = search needs
 
 -- src/lib.rt:248:16
 part-result-end : tie.Need-part-result-end
-part-result-end c = let a = c .before .before .before .before .before .before .args in inside-0 (pair (a .g0) (a .image0 .now) (a .g1) (a .image1 .now)) (c .before .before .before .sector-part .ensures .1) (c .if1 .taken)
+part-result-end c =
+    let a = c .before .before .before .before .before .before .args in let the-sector-part = c .before .before .before .sector-part in
+    inside-0 (pair (a .g0) (a .image0 .now) (a .g1) (a .image1 .now)) (the-sector-part .ensures .1) (c .if1 .taken)
 
 -- src/lib.rt:248:9
 returns : tie.Need-returns
-returns c = let a = c .before .before .before .before .before .before .before .args in let p = pair (a .g0) (a .image0 .now) (a .g1) (a .image1 .now) in let e = c .before .before .before .before .sector-part .ensures .0 in
-    (handed-0 p e (c .before .if1 .taken) (c .before .before .before .fault-drive .ensures), place-0 p e (a .image0 .ptr) (a .image1 .ptr) (c .before .if1 .taken))
+returns c =
+    let a = c .before .before .before .before .before .before .before .args in
+    let the-sector-part = c .before .before .before .before .sector-part in let the-fault-drive = c .before .before .before .fault-drive in
+    let p = pair (a .g0) (a .image0 .now) (a .g1) (a .image1 .now) in let e = the-sector-part .ensures .0 in (handed-0 p e (c .before .if1 .taken)
+    (the-fault-drive .ensures), place-0 p e (a .image0 .ptr) (a .image1 .ptr) (c .before .if1 .taken))
 
 -- src/lib.rt:250:5
 sub-result-2 : tie.Need-sub-result-2
@@ -44,12 +49,17 @@ part-result-start-2 c = search needs
 
 -- src/lib.rt:250:5
 part-result-end-2 : tie.Need-part-result-end-2
-part-result-end-2 c = let a = c .before .before .before .before .before .before .args in inside-1 (pair (a .g0) (a .image0 .now) (a .g1) (a .image1 .now)) (c .before .before .before .sector-part .ensures .1) (c .if1 .left)
+part-result-end-2 c =
+    let a = c .before .before .before .before .before .before .args in let the-sector-part = c .before .before .before .sector-part in
+    inside-1 (pair (a .g0) (a .image0 .now) (a .g1) (a .image1 .now)) (the-sector-part .ensures .1) (c .if1 .left)
 
 -- src/lib.rt:220:1
 returns-2 : tie.Need-returns-2
-returns-2 c = let a = c .before .before .before .before .before .before .before .args in let p = pair (a .g0) (a .image0 .now) (a .g1) (a .image1 .now) in let e = c .before .before .before .before .sector-part .ensures .0 in
-    (handed-1 p e (c .before .if1 .left) (c .before .before .before .fault-drive .ensures), place-1 p e (a .image0 .ptr) (a .image1 .ptr) (c .before .if1 .left))
+returns-2 c =
+    let a = c .before .before .before .before .before .before .before .args in
+    let the-sector-part = c .before .before .before .before .sector-part in let the-fault-drive = c .before .before .before .fault-drive in
+    let p = pair (a .g0) (a .image0 .now) (a .g1) (a .image1 .now) in let e = the-sector-part .ensures .0 in (handed-1 p e (c .before .if1 .left)
+    (the-fault-drive .ensures), place-1 p e (a .image0 .ptr) (a .image1 .ptr) (c .before .if1 .left))
 
 pub read-sector-spec : {M : Type 1} → statement M
 read-sector-spec =

@@ -20,8 +20,10 @@ part-on-requires c κs = search needs
 
 -- src/lib.rt:210:9
 returns : tie.Need-returns
-returns c = let a = c .before .before .before .before .before .before .before .args in let p = pair (a .g0) (a .image0 .now) (a .g1) (a .image1 .now) in
-    (part-0 p (a .h) (a .k) (c .before .before .if1 .taken) (c .part-on .ensures) (c .before .sector-part .ensures .0), lies-0 p (a .h) (a .k) (c .part-on .ensures) (c .before .sector-part .ensures .1))
+returns c =
+    let a = c .before .before .before .before .before .before .before .args in let the-if1 = c .before .before .if1 in
+    let p = pair (a .g0) (a .image0 .now) (a .g1) (a .image1 .now) in (part-0 p (a .h) (a .k) (the-if1 .taken) (c .part-on .ensures)
+    (c .before .sector-part .ensures .0), lies-0 p (a .h) (a .k) (c .part-on .ensures) (c .before .sector-part .ensures .1))
 
 -- src/lib.rt:213:40
 sector-part-requires-2 : tie.Need-sector-part-requires-2
@@ -33,9 +35,12 @@ part-on-requires-2 c κs = search needs
 
 -- src/lib.rt:213:9
 returns-2 : tie.Need-returns-2
-returns-2 c = let a = c .before .before .before .before .before .before .before .before .before .args in let p = pair (a .g0) (a .image0 .now) (a .g1) (a .image1 .now) in (
-  part-1 p (a .h) (a .k) (c .before .before .before .before .if1 .left) (c .before .before .if2 .taken) (c .part-on2 .ensures) (c .before .sector-part2 .ensures .0),
-  lies-1 p (a .h) (a .k) (c .part-on2 .ensures) (c .before .sector-part2 .ensures .0) (c .before .sector-part2 .ensures .1),
+returns-2 c =
+    let a = c .before .before .before .before .before .before .before .before .before .args in
+    let the-if1 = c .before .before .before .before .if1 in let the-if2 = c .before .before .if2 in
+    let p = pair (a .g0) (a .image0 .now) (a .g1) (a .image1 .now) in ( part-1 p (a .h) (a .k) (the-if1 .left) (the-if2 .taken)
+    (c .part-on2 .ensures) (c .before .sector-part2 .ensures .0), lies-1 p (a .h) (a .k) (c .part-on2 .ensures)
+    (c .before .sector-part2 .ensures .0) (c .before .sector-part2 .ensures .1),
 )
 
 -- src/lib.rt:215:26
@@ -48,8 +53,11 @@ no-part-requires c κs = search needs
 
 -- src/lib.rt:197:1
 returns-3 : tie.Need-returns-3
-returns-3 c = let a = c .before .before .before .before .before .before .before .before .before .args in let p = pair (a .g0) (a .image0 .now) (a .g1) (a .image1 .now) in
-    (part-none p (a .h) (a .k) (c .before .before .before .before .if1 .left) (c .before .before .if2 .left) (c .no-part .ensures) (c .before .no-such-drive .ensures), lies-none p (a .h) (a .k) (c .no-part .ensures))
+returns-3 c =
+    let a = c .before .before .before .before .before .before .before .before .before .args in
+    let the-if1 = c .before .before .before .before .if1 in let the-if2 = c .before .before .if2 in
+    let p = pair (a .g0) (a .image0 .now) (a .g1) (a .image1 .now) in (part-none p (a .h) (a .k) (the-if1 .left) (the-if2 .left)
+    (c .no-part .ensures) (c .before .no-such-drive .ensures), lies-none p (a .h) (a .k) (c .no-part .ensures))
 
 pub sector-part-spec : {M : Type 1} → statement M
 sector-part-spec =

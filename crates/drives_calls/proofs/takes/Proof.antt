@@ -21,19 +21,34 @@ look-up-checked-requires-2 c κs = search needs
 
 -- src/lib.rt:125:9
 returns-2 : tie.Need-returns-2
-returns-2 c = takes-found-1 _ _ (c .before .before .before .before .before .look-up-checked .ensures) (c .before .before .look-up-checked2 .ensures) (c .before .before .before .if1 .left) (c .if2 .taken)
+returns-2 c =
+    let the-look-up-checked = c .before .before .before .before .before .look-up-checked in let the-if1 = c .before .before .before .if1 in
+    let the-look-up-checked2 = c .before .before .look-up-checked2 in
+    takes-found-1 _ _ (the-look-up-checked .ensures) (the-look-up-checked2 .ensures) (the-if1 .left) (c .if2 .taken)
 
 -- src/lib.rt:127:8
 first-free-slot-requires : tie.Need-first-free-slot-requires
-first-free-slot-requires c κs = room _ _ (c .before .before .before .before .before .before .before .before .before .pre .0) (c .before .before .before .before .before .before .before .before .before .pre .1)
+first-free-slot-requires c κs =
+    let the-pre = c .before .before .before .before .before .before .before .before .before .pre in
+    room _ _ (the-pre .0) (the-pre .1)
 
 -- src/lib.rt:128:9
 returns-3 : tie.Need-returns-3
-returns-3 c = takes-full _ _ (c .before .before .before .before .before .before .before .look-up-checked .ensures) (c .before .before .before .before .look-up-checked2 .ensures) (c .before .before .before .before .before .if1 .left) (c .before .before .if2 .left) (c .before .first-free-slot .ensures) (c .if3 .taken)
+returns-3 c =
+    let the-look-up-checked = c .before .before .before .before .before .before .before .look-up-checked in
+    let the-if1 = c .before .before .before .before .before .if1 in
+    let the-look-up-checked2 = c .before .before .before .before .look-up-checked2 in let the-if2 = c .before .before .if2 in
+    takes-full _ _ (the-look-up-checked .ensures) (the-look-up-checked2 .ensures) (the-if1 .left) (the-if2 .left)
+    (c .before .first-free-slot .ensures) (c .if3 .taken)
 
 -- src/lib.rt:107:1
 returns-4 : tie.Need-returns-4
-returns-4 c = takes-free _ _ (c .before .before .before .before .before .before .before .look-up-checked .ensures) (c .before .before .before .before .look-up-checked2 .ensures) (c .before .before .before .before .before .if1 .left) (c .before .before .if2 .left) (c .before .first-free-slot .ensures) (c .if3 .left)
+returns-4 c =
+    let the-look-up-checked = c .before .before .before .before .before .before .before .look-up-checked in
+    let the-if1 = c .before .before .before .before .before .if1 in
+    let the-look-up-checked2 = c .before .before .before .before .look-up-checked2 in let the-if2 = c .before .before .if2 in
+    takes-free _ _ (the-look-up-checked .ensures) (the-look-up-checked2 .ensures) (the-if1 .left) (the-if2 .left)
+    (c .before .first-free-slot .ensures) (c .if3 .left)
 
 pub takes-spec : {M : Type 1} → statement M
 takes-spec =

@@ -25,8 +25,11 @@ same-length c = search needs
 -- src/lib.rt:311:9
 returns : tie.Need-returns
 unfolding trim
-returns c = let a = c .before .before .before .before .before .before .before .before .before .before .args in let p = pair (a .g0) (a .image0 .now) (a .g1) (a .image1 .now) in
-    changed-0 p (a .h) (trimOn p (a .h)) (c .before .before .before .before .before .if1 .taken) (c .answered .ensures) (c .before .before .before .trim .ensures)
+returns c =
+    let a = c .before .before .before .before .before .before .before .before .before .before .args in
+    let the-if1 = c .before .before .before .before .before .if1 in let the-trim = c .before .before .before .trim in
+    let p = pair (a .g0) (a .image0 .now) (a .g1) (a .image1 .now) in changed-0 p (a .h) (trimOn p (a .h)) (the-if1 .taken) (c .answered .ensures)
+    (the-trim .ensures)
 
 -- src/lib.rt:314:41
 trim-requires-2 : tie.Need-trim-requires-2
@@ -43,8 +46,12 @@ same-length-2 c = search needs
 -- src/lib.rt:314:9
 returns-2 : tie.Need-returns-2
 unfolding trim
-returns-2 c = let a = c .before .before .before .before .before .before .before .before .before .before .before .before .args in let p = pair (a .g0) (a .image0 .now) (a .g1) (a .image1 .now) in
-    changed-1 p (a .h) (trimOn p (a .h)) (c .before .before .before .before .before .before .before .if1 .left) (c .before .before .before .before .before .if2 .taken) (c .answered2 .ensures) (c .before .before .before .trim2 .ensures)
+returns-2 c =
+    let a = c .before .before .before .before .before .before .before .before .before .before .before .before .args in
+    let the-if1 = c .before .before .before .before .before .before .before .if1 in
+    let the-if2 = c .before .before .before .before .before .if2 in let the-trim2 = c .before .before .before .trim2 in
+    let p = pair (a .g0) (a .image0 .now) (a .g1) (a .image1 .now) in changed-1 p (a .h) (trimOn p (a .h)) (the-if1 .left) (the-if2 .taken)
+    (c .answered2 .ensures) (the-trim2 .ensures)
 
 -- src/lib.rt:316:5
 unheld-requires : tie.Need-unheld-requires
@@ -53,8 +60,10 @@ unheld-requires c κs = search needs
 -- src/lib.rt:299:1
 returns-3 : tie.Need-returns-3
 unfolding trim
-returns-3 c = let a = c .before .before .before .before .before .before .before .before .args in let p = pair (a .g0) (a .image0 .now) (a .g1) (a .image1 .now) in
-    unchanged p (a .h) (trimOn p (a .h)) (c .before .before .before .if1 .left) (c .before .if2 .left) (c .unheld .ensures)
+returns-3 c =
+    let a = c .before .before .before .before .before .before .before .before .args in let the-if1 = c .before .before .before .if1 in
+    let p = pair (a .g0) (a .image0 .now) (a .g1) (a .image1 .now) in unchanged p (a .h) (trimOn p (a .h)) (the-if1 .left) (c .before .if2 .left)
+    (c .unheld .ensures)
 
 pub trim-spec : {M : Type 1} → statement M
 trim-spec =

@@ -25,8 +25,11 @@ same-length c = search needs
 -- src/lib.rt:268:9
 returns : tie.Need-returns
 unfolding writeRecord
-returns c = let a = c .before .before .before .before .before .before .before .before .before .before .before .args in let p = pair (a .g0) (a .image0 .now) (a .g1) (a .image1 .now) in
-    changed-0 p (a .h) (writeOn p (a .mode) (a .h) (a .buffer .now)) (c .before .before .before .before .before .if1 .taken) (c .answered .ensures) (c .before .before .before .write-record .ensures)
+returns c =
+    let a = c .before .before .before .before .before .before .before .before .before .before .before .args in
+    let the-if1 = c .before .before .before .before .before .if1 in let the-write-record = c .before .before .before .write-record in
+    let p = pair (a .g0) (a .image0 .now) (a .g1) (a .image1 .now) in changed-0 p (a .h) (writeOn p (a .mode) (a .h) (a .buffer .now))
+    (the-if1 .taken) (c .answered .ensures) (the-write-record .ensures)
 
 -- src/lib.rt:271:41
 write-record-requires-2 : tie.Need-write-record-requires-2
@@ -43,8 +46,12 @@ same-length-2 c = search needs
 -- src/lib.rt:271:9
 returns-2 : tie.Need-returns-2
 unfolding writeRecord
-returns-2 c = let a = c .before .before .before .before .before .before .before .before .before .before .before .before .before .args in let p = pair (a .g0) (a .image0 .now) (a .g1) (a .image1 .now) in
-    changed-1 p (a .h) (writeOn p (a .mode) (a .h) (a .buffer .now)) (c .before .before .before .before .before .before .before .if1 .left) (c .before .before .before .before .before .if2 .taken) (c .answered2 .ensures) (c .before .before .before .write-record2 .ensures)
+returns-2 c =
+    let a = c .before .before .before .before .before .before .before .before .before .before .before .before .before .args in
+    let the-if1 = c .before .before .before .before .before .before .before .if1 in
+    let the-if2 = c .before .before .before .before .before .if2 in let the-write-record2 = c .before .before .before .write-record2 in
+    let p = pair (a .g0) (a .image0 .now) (a .g1) (a .image1 .now) in changed-1 p (a .h) (writeOn p (a .mode) (a .h) (a .buffer .now))
+    (the-if1 .left) (the-if2 .taken) (c .answered2 .ensures) (the-write-record2 .ensures)
 
 -- src/lib.rt:273:5
 unheld-requires : tie.Need-unheld-requires
@@ -53,8 +60,10 @@ unheld-requires c κs = search needs
 -- src/lib.rt:254:1
 returns-3 : tie.Need-returns-3
 unfolding writeRecord
-returns-3 c = let a = c .before .before .before .before .before .before .before .before .before .args in let p = pair (a .g0) (a .image0 .now) (a .g1) (a .image1 .now) in
-    unchanged p (a .h) (writeOn p (a .mode) (a .h) (a .buffer .now)) (c .before .before .before .if1 .left) (c .before .if2 .left) (c .unheld .ensures)
+returns-3 c =
+    let a = c .before .before .before .before .before .before .before .before .before .args in let the-if1 = c .before .before .before .if1 in
+    let p = pair (a .g0) (a .image0 .now) (a .g1) (a .image1 .now) in unchanged p (a .h) (writeOn p (a .mode) (a .h) (a .buffer .now))
+    (the-if1 .left) (c .before .if2 .left) (c .unheld .ensures)
 
 pub write-record-spec : {M : Type 1} → statement M
 write-record-spec =

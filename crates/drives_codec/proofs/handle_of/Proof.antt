@@ -39,7 +39,9 @@ handle-on-requires-2 c κs = search needs
 
 -- src/lib.rt:9:1
 returns-2 : tie.Need-returns-2
-returns-2 c = handle-is _ (c .before .before .before .before .if1 .left) (c .before .before .wide .ensures .is) (c .before .handle-of .ensures) (c .handle-on2 .ensures)
+returns-2 c =
+    let the-if1 = c .before .before .before .before .if1 in let the-wide = c .before .before .wide in
+    handle-is _ (the-if1 .left) (the-wide .ensures .is) (c .before .handle-of .ensures) (c .handle-on2 .ensures)
 
 pub handle-of-spec : {M : Type 1} → statement M
 handle-of-spec =

@@ -21,7 +21,9 @@ naming-requires c κs = search needs
 
 -- src/lib.rt:43:9
 returns-2 : tie.Need-returns-2
-returns-2 c = names-first _ _ (c .before .before .before .of-disk .ensures) (c .before .before .if1 .left) (c .before .if2 .taken) (c .naming .ensures)
+returns-2 c =
+    let the-of-disk = c .before .before .before .of-disk in let the-if1 = c .before .before .if1 in
+    names-first _ _ (the-of-disk .ensures) (the-if1 .left) (c .before .if2 .taken) (c .naming .ensures)
 
 -- src/lib.rt:45:5
 naming-requires-2 : tie.Need-naming-requires-2
@@ -29,7 +31,9 @@ naming-requires-2 c κs = search needs
 
 -- src/lib.rt:36:1
 returns-3 : tie.Need-returns-3
-returns-3 c = names-second _ _ (c .before .before .before .of-disk .ensures) (c .before .before .if1 .left) (c .before .if2 .left) (c .naming2 .ensures)
+returns-3 c =
+    let the-of-disk = c .before .before .before .of-disk in let the-if1 = c .before .before .if1 in
+    names-second _ _ (the-of-disk .ensures) (the-if1 .left) (c .before .if2 .left) (c .naming2 .ensures)
 
 pub naming-spec : {M : Type 1} → statement M
 naming-spec =
