@@ -23,7 +23,7 @@ use Rattle.together.specs.Demand3 as one-disk
 use Rattle.drives.specs.Pair.{Pair, pair, geometry, image, handleOn}
 use Rattle.drives.specs.declared.DriveHandle.{DriveHandle}
 use Rattle.promises_drives.specs.Statement.{IsDrive, zeroth, first}
-use Rattle.promises_drives.specs.Interleaved.{DriveSide, Answered, answer, World, start, next, after, Taken, Accepted, AllQuiet}
+use Rattle.promises_drives.specs.Interleaved.{DriveSide, Answered, answer, World, start, next, after, Taken, Accepted, AllQuiet, bare}
 use Rattle.promises_drives.specs.Interleaved.{DriveGrip, driveGrip, Agree, Demand3, Apart}
 use Rattle.promises_drives.specs.Turns.{lift, bare-lift, number-is, drives-is, side-is}
 
@@ -60,7 +60,7 @@ on-1 g g′ e =
 
 -- a step that is accepted on the drive is accepted on its disk, and leaves what it leaves there
 module _ (k : ℕ) (g : Geometry) (put : List ℕ → Pair) (holds : Holds k g put) (d : List ℕ) (n : Name) (s : Side) (c : Step)
-    (t : T (known (map (λ h. h .handle) (lift k s .handles)) c) × (answer (put d) k n (lift k s) c .number ≡ 0)) where
+    (t : T (known (bare (lift k s .handles)) c) × (answer (put d) k n (lift k s) c .number ≡ 0)) where
   step-taken : T (known (s .handles) c) × (disk.answer g n d s c .number ≡ 0)
   step-taken = (subst (λ (hs : List Handle). T (known hs c)) (bare-lift k (s .handles)) (t .0), sym (holds .number d n s c) ∙ t .1)
 
@@ -127,12 +127,15 @@ module _ (k : ℕ) (g : Geometry) (put : List ℕ → Pair) (holds : Holds k g p
   )
 
 -- handles that are alike on a disk are alike on a drive
-grips : (k : ℕ) (hs : List Handle) → map driveGrip (map (handleOn k) hs) ≡ map (λ (x : Grip). record { drive = k; grip = x }) (map grip hs)
+abbrev gripOn : ℕ → Grip → DriveGrip
+gripOn k x = record { drive = k; grip = x }
+
+grips : (k : ℕ) (hs : List Handle) → map driveGrip (map (handleOn k) hs) ≡ map (gripOn k) (map grip hs)
 grips k [] = refl
 grips k (h ∷ hs) = ap (λ (l : List DriveGrip). driveGrip (handleOn k h) ∷ l) (grips k hs)
 
 same-grips : (k : ℕ) (hs hs′ : List Handle) → map grip hs ≡ map grip hs′ → map driveGrip (map (handleOn k) hs) ≡ map driveGrip (map (handleOn k) hs′)
-same-grips k hs hs′ e = grips k hs ∙ ap (map (λ (x : Grip). record { drive = k; grip = x })) e ∙ sym (grips k hs′)
+same-grips k hs hs′ e = grips k hs ∙ ap (map (gripOn k)) e ∙ sym (grips k hs′)
 
 -- Lists on two drives ----------------------------------------------------------------------------------------------------------------------
 
@@ -196,8 +199,8 @@ module _ (k l : ℕ) (g h : Geometry) (put : List ℕ → List ℕ → Pair) (on
 
 -- what holds of both drives
 each : (P : ℕ → Type 0) → P 0 → P 1 → (j : ℕ) → IsDrive j → P j
-each P x y 0 zeroth = x
-each P x y 1 first = y
+each P x y j zeroth = x
+each P x y j first = y
 
 -- What a list alone leaves -------------------------------------------------------------------------------------------------------------------
 
@@ -268,12 +271,12 @@ module _ (k l : ℕ) (g h : Geometry) (put : List ℕ → List ℕ → Pair) (on
       (subst (λ (v : World). Agree p k l a b xs ys zs v v) (sym (both-run .ends)) x)
 
 pub apart : Apart
-apart p 0 0 zeroth zeroth kl = absurd (kl refl)
-apart p 1 1 first first kl = absurd (kl refl)
-apart p 0 1 zeroth first kl a b xs ys zs zs′ i i′ t t′ =
+apart p k l zeroth zeroth kl = absurd (kl refl)
+apart p k l first first kl = absurd (kl refl)
+apart p k l zeroth first kl a b xs ys zs zs′ i i′ t t′ =
     ends-alike 0 1 (p .geometry0) (p .geometry1) (λ d e. pair (p .geometry0) d (p .geometry1) e) (λ e. on-0 (p .geometry0) (p .geometry1) e)
     (λ d. on-1 (p .geometry0) (p .geometry1) d) a b (p .image0) (p .image1) i i′ t t′
-apart p 1 0 first zeroth kl a b xs ys zs zs′ i i′ t t′ =
+apart p k l first zeroth kl a b xs ys zs zs′ i i′ t t′ =
     ends-alike 1 0 (p .geometry1) (p .geometry0) (λ d e. pair (p .geometry0) e (p .geometry1) d) (λ e. on-1 (p .geometry0) (p .geometry1) e)
     (λ d. on-0 (p .geometry0) (p .geometry1) d) a b (p .image1) (p .image0) i i′ t t′
 
@@ -284,7 +287,7 @@ on-zeroth : (p : Pair) (a b : Name) → fold a ≢ fold b → Sound p → {xs ys
     → Accepted 0 0 a b (start p) zs → Accepted 0 0 a b (start p) zs′
     → Agree p 0 0 a b xs ys zs (after 0 0 a b (start p) zs) (after 0 0 a b (start p) zs′)
 on-zeroth p a b ab sound {zs = zs} {zs′ = zs′} i i′ t t′ =
-    let put = λ (d : List ℕ). pair (p .geometry0) d (p .geometry1) (p .image1) in let holds = on-0 (p .geometry0) (p .geometry1) (p .image1) in
+    let put : (List ℕ → Pair) = λ d. pair (p .geometry0) d (p .geometry1) (p .image1) in let holds = on-0 (p .geometry0) (p .geometry1) (p .image1) in
     let g = p .geometry0 in let d = p .image0 in let s = sound 0 zeroth in
     let x = on-disk 0 g put holds a b ab d (s .0) (s .1) i i′ t t′ in
     let e = disk.after g a b (disk.start d) zs .disk in let e′ = disk.after g a b (disk.start d) zs′ .disk in
@@ -304,7 +307,7 @@ on-first : (p : Pair) (a b : Name) → fold a ≢ fold b → Sound p → {xs ys 
     → Accepted 1 1 a b (start p) zs → Accepted 1 1 a b (start p) zs′
     → Agree p 1 1 a b xs ys zs (after 1 1 a b (start p) zs) (after 1 1 a b (start p) zs′)
 on-first p a b ab sound {zs = zs} {zs′ = zs′} i i′ t t′ =
-    let put = λ (d : List ℕ). pair (p .geometry0) (p .image0) (p .geometry1) d in let holds = on-1 (p .geometry0) (p .geometry1) (p .image0) in
+    let put : (List ℕ → Pair) = λ d. pair (p .geometry0) (p .image0) (p .geometry1) d in let holds = on-1 (p .geometry0) (p .geometry1) (p .image0) in
     let g = p .geometry1 in let d = p .image1 in let s = sound 1 first in
     let x = on-disk 1 g put holds a b ab d (s .0) (s .1) i i′ t t′ in
     let e = disk.after g a b (disk.start d) zs .disk in let e′ = disk.after g a b (disk.start d) zs′ .disk in
@@ -325,8 +328,9 @@ apart-01 : (p : Pair) (a b : Name) → Sound p → {xs ys : List Step} {zs zs′
     → Agree p 0 1 a b xs ys zs (after 0 1 a b (start p) zs) (after 0 1 a b (start p) zs′)
 unfolding Good
 apart-01 p a b sound {xs = xs} {ys = ys} i i′ t t′ =
-    let put = λ (d e : List ℕ). pair (p .geometry0) d (p .geometry1) e in
-    let on-k = λ (e : List ℕ). on-0 (p .geometry0) (p .geometry1) e in let on-l = λ (d : List ℕ). on-1 (p .geometry0) (p .geometry1) d in
+    let put : (List ℕ → List ℕ → Pair) = λ d e. pair (p .geometry0) d (p .geometry1) e in
+    let on-k : ((e : List ℕ) → Holds 0 (p .geometry0) (λ d. pair (p .geometry0) d (p .geometry1) e)) = λ e. on-0 (p .geometry0) (p .geometry1) e in
+    let on-l : ((d : List ℕ) → Holds 1 (p .geometry1) (λ e. pair (p .geometry0) d (p .geometry1) e)) = λ d. on-1 (p .geometry0) (p .geometry1) d in
     let g = p .geometry0 in let h = p .geometry1 in let d = p .image0 in let e = p .image1 in
     let r = both-run 0 1 g h put on-k on-l a b d e i i′ t t′ in
     let u = disk.after g a a (disk.start d) (alone xs) .disk in let v = disk.after h b b (disk.start e) (alone ys) .disk in
@@ -348,8 +352,9 @@ apart-10 : (p : Pair) (a b : Name) → Sound p → {xs ys : List Step} {zs zs′
     → Agree p 1 0 a b xs ys zs (after 1 0 a b (start p) zs) (after 1 0 a b (start p) zs′)
 unfolding Good
 apart-10 p a b sound {xs = xs} {ys = ys} i i′ t t′ =
-    let put = λ (d e : List ℕ). pair (p .geometry0) e (p .geometry1) d in
-    let on-k = λ (e : List ℕ). on-1 (p .geometry0) (p .geometry1) e in let on-l = λ (d : List ℕ). on-0 (p .geometry0) (p .geometry1) d in
+    let put : (List ℕ → List ℕ → Pair) = λ d e. pair (p .geometry0) e (p .geometry1) d in
+    let on-k : ((e : List ℕ) → Holds 1 (p .geometry1) (λ d. pair (p .geometry0) e (p .geometry1) d)) = λ e. on-1 (p .geometry0) (p .geometry1) e in
+    let on-l : ((d : List ℕ) → Holds 0 (p .geometry0) (λ e. pair (p .geometry0) e (p .geometry1) d)) = λ d. on-0 (p .geometry0) (p .geometry1) d in
     let g = p .geometry1 in let h = p .geometry0 in let d = p .image1 in let e = p .image0 in
     let r = both-run 1 0 g h put on-k on-l a b d e i i′ t t′ in
     let u = disk.after g a a (disk.start d) (alone xs) .disk in let v = disk.after h b b (disk.start e) (alone ys) .disk in
@@ -367,7 +372,7 @@ apart-10 p a b sound {xs = xs} {ys = ys} i i′ t t′ =
     })
 
 pub demand3 : Demand3
-demand3 p 0 0 zeroth zeroth a b ab sound xs ys zs zs′ i i′ t t′ = on-zeroth p a b (ab refl) sound i i′ t t′
-demand3 p 1 1 first first a b ab sound xs ys zs zs′ i i′ t t′ = on-first p a b (ab refl) sound i i′ t t′
-demand3 p 0 1 zeroth first a b ab sound xs ys zs zs′ i i′ t t′ = apart-01 p a b sound i i′ t t′
-demand3 p 1 0 first zeroth a b ab sound xs ys zs zs′ i i′ t t′ = apart-10 p a b sound i i′ t t′
+demand3 p k l zeroth zeroth a b ab sound xs ys zs zs′ i i′ t t′ = on-zeroth p a b (ab refl) sound i i′ t t′
+demand3 p k l first first a b ab sound xs ys zs zs′ i i′ t t′ = on-first p a b (ab refl) sound i i′ t t′
+demand3 p k l zeroth first a b ab sound xs ys zs zs′ i i′ t t′ = apart-01 p a b sound i i′ t t′
+demand3 p k l first zeroth a b ab sound xs ys zs zs′ i i′ t t′ = apart-10 p a b sound i i′ t t′

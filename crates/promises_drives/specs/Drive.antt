@@ -19,8 +19,8 @@ use Rattle.promises_drives.specs.Statement.{IsDrive, zeroth, first}
 module _ {A : Type 0} (call : ℕ → A) (none : A) where
   pub on-drive : (n : ℕ) → IsDrive n → onDrive n call none ≡ call n
   unfolding onDrive
-  on-drive 0 zeroth = refl
-  on-drive 1 first = refl
+  on-drive n zeroth = refl
+  on-drive n first = refl
 
   pub on-none : (n : ℕ) → n ≢ 0 → n ≢ 1 → onDrive n call none ≡ none
   unfolding onDrive

@@ -55,8 +55,8 @@ one-stays p numbered k m f checking =
     on (on (takes p m) (takes-drive p m)) (λ c. inl refl)
   where
     on : (j : ℕ) → IsDrive j → Stays p (createOn p m f checking j)
-    on 0 zeroth = inr refl
-    on 1 first = inl refl
+    on j zeroth = inr refl
+    on j first = inl refl
 
 pub sixteen : Sixteen
 unfolding lookUp openFile create readRecord readSector writeRecord allot trim kill byName
@@ -100,5 +100,5 @@ every-name n k c =
     by false = refl
 
     named : (j : ℕ) → IsDrive j → faultDrive (naming (cond (eqb j 0) 1 2) c) ≡ j
-    named 0 zeroth = refl
-    named 1 first = refl
+    named j zeroth = refl
+    named j first = refl

@@ -30,8 +30,8 @@ new = record { day = 9; month = 10; year = 3; len = 2; main = 0; worker = 0 }
 
 sound : (j : ℕ) → IsDrive j → (fitsGeometry (geometry bench j) (image bench j) ≡ true) × (consistent (geometry bench j) (image bench j) ≡ true)
 unfolding opened
-sound 0 zeroth = (refl, refl)
-sound 1 first = (refl, refl)
+sound j zeroth = (refl, refl)
+sound j first = (refl, refl)
 
 -- One name, two drives ---------------------------------------------------------------------------------------------------------------------------
 
@@ -73,7 +73,7 @@ openedLast = two (creates new false) ∷ one (opens 2 false 0) ∷ []
 
 differ : fold aa ≢ fold dk
 unfolding opened
-differ e = let z : 0x41 ≡ 0x44 = ap (λ (l : List ℕ). getD l 0 0) e in omega (arith, z)
+differ e = let z : _≡_ {A = ℕ} 0x41 0x44 = ap (λ (l : List ℕ). getD l 0 0) e in omega (arith, z)
 
 taken : Accepted 0 0 aa dk (start bench) openedFirst
 unfolding opened known answer openFile create

@@ -58,8 +58,8 @@ abbrev pub withDisk : Pair → ℕ → List ℕ → Pair
 withDisk p k d = withImages p (leaving p k d 0) (leaving p k d 1)
 
 same-disk : (p : Pair) (k : ℕ) → IsDrive k → p ≡ withDisk p k (image p k)
-same-disk p 0 zeroth = refl
-same-disk p 1 first = refl
+same-disk p k zeroth = refl
+same-disk p k first = refl
 
 drive-told : (k : ℕ) (c : Refusal) → c .number ≡ 0 → driveOf k c ≡ k
 unfolding driveOf

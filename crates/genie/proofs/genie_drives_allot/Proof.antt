@@ -45,7 +45,7 @@ returns c =
     let the-allot = c .before .before .before .before .before .allot in
     let p = (pair (the-geometry .result) (a .image0 .now) (the-geometry2 .result) (a .image1 .now)) in at-drives (λ (g h : Geometry). drivesAllot
     (pair g (a .image0 .now) h (a .image1 .now)) (a .handle .now) (a .k)) (the-geometry .ensures) (the-geometry2 .ensures) (changing
-    (the-allot .result) (the-allot .last .0) (the-allot .last .1) (c .fault-drive .ensures) (the-allot .ensures ∙ ap (λ (x : DriveHandle). allot p
+    (the-allot .result) (the-allot .last .0) (the-allot .last .1 .1 .0) (c .fault-drive .ensures) (the-allot .ensures ∙ ap (λ (x : DriveHandle). allot p
     x (a .k)) (the-handle-of .ensures)))
 
 pub genie-drives-allot-spec : {M : Type 1} → statement M

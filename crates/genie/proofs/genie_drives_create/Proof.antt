@@ -71,7 +71,7 @@ returns c =
     let p = (pair (the-geometry .result) (a .image0 .now) (the-geometry2 .result) (a .image1 .now)) in at-drives (λ (g h : Geometry). drivesCreate
     (pair g (a .image0 .now) h (a .image1 .now)) (a .numbered) (a .drive) (a .name .now) (newFile (a .day) (a .month) (a .year) (a .length)
     (a .main-code) (a .worker-code)) (a .checking) (a .handle .now)) (the-geometry .ensures) (the-geometry2 .ensures) (created (a .handle .now)
-    (the-create .last .0) (the-create .last .1) (the-create .result) (the-fault-drive .ensures) (the-slot-told .ensures) (the-place-of .ensures)
+    (the-create .last .0) (the-create .last .1 .1 .0) (the-create .result) (the-fault-drive .ensures) (the-slot-told .ensures) (the-place-of .ensures)
     (the-told .ensures) (the-put-handle .ensures) (the-create .ensures ∙ ap (λ (k : ℕ). create p (a .numbered) (a .drive) (a .name .now) (newFile
     (a .day) (a .month) (a .year) k (a .main-code) (a .worker-code)) (a .checking)) (the-length-for .ensures)))
 

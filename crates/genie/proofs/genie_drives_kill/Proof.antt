@@ -45,7 +45,7 @@ returns c =
     let the-kill = c .before .before .before .before .before .kill in
     let p = (pair (the-geometry .result) (a .image0 .now) (the-geometry2 .result) (a .image1 .now)) in at-drives (λ (g h : Geometry). drivesKill
     (pair g (a .image0 .now) h (a .image1 .now)) (a .handle .now)) (the-geometry .ensures) (the-geometry2 .ensures) (changing (the-kill .result)
-    (the-kill .last .0) (the-kill .last .1) (c .fault-drive .ensures) (the-kill .ensures ∙ ap (λ (x : DriveHandle). kill p x)
+    (the-kill .last .0) (the-kill .last .1 .1 .0) (c .fault-drive .ensures) (the-kill .ensures ∙ ap (λ (x : DriveHandle). kill p x)
     (the-handle-of .ensures)))
 
 pub genie-drives-kill-spec : {M : Type 1} → statement M

@@ -47,7 +47,7 @@ returns c =
     let p = (pair (the-geometry .result) (a .image0 .now) (the-geometry2 .result) (a .image1 .now)) in let r = the-read-record .result in
     at-drives (λ (g h : Geometry). drivesReadRecord (pair g (a .image0 .now) h (a .image1 .now)) (a .handle .now) (a .buffer .now))
     (the-geometry .ensures) (the-geometry2 .ensures) (reading (a .handle .now) r refl (the-fault-drive .ensures) (stays (a .handle .now) r
-    (c .if1 .taken)) (the-read-record .last .0) (the-read-record .ensures ∙ ap (λ (x : DriveHandle). readRecord p x (a .buffer .now))
+    (c .if1 .taken)) (the-read-record .last .1 .1 .1 .1 .1 .0) (the-read-record .ensures ∙ ap (λ (x : DriveHandle). readRecord p x (a .buffer .now))
     (the-handle-of .ensures)))
 
 put-handle-requires : tie.Need-put-handle-requires
@@ -72,7 +72,7 @@ returns-2 c =
     let p = (pair (the-geometry .result) (a .image0 .now) (the-geometry2 .result) (a .image1 .now)) in let r = the-read-record .result in
     at-drives (λ (g h : Geometry). drivesReadRecord (pair g (a .image0 .now) h (a .image1 .now)) (a .handle .now) (a .buffer .now))
     (the-geometry .ensures) (the-geometry2 .ensures) (reading (a .handle .now) r (sym (the-if1 .left)) (the-fault-drive .ensures) (moved
-    (a .handle .now) r (the-if1 .left) (the-put-handle .ensures)) (the-read-record .last .0) (the-read-record .ensures ∙ ap (λ (x : DriveHandle).
+    (a .handle .now) r (the-if1 .left) (the-put-handle .ensures)) (the-read-record .last .1 .1 .1 .1 .1 .0) (the-read-record .ensures ∙ ap (λ (x : DriveHandle).
     readRecord p x (a .buffer .now)) (the-handle-of .ensures)))
 
 pub genie-drives-read-record-spec : {M : Type 1} → statement M

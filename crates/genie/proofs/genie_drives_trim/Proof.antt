@@ -45,7 +45,7 @@ returns c =
     let the-trim = c .before .before .before .before .before .trim in
     let p = (pair (the-geometry .result) (a .image0 .now) (the-geometry2 .result) (a .image1 .now)) in at-drives (λ (g h : Geometry). drivesTrim
     (pair g (a .image0 .now) h (a .image1 .now)) (a .handle .now)) (the-geometry .ensures) (the-geometry2 .ensures) (changing (the-trim .result)
-    (the-trim .last .0) (the-trim .last .1) (c .fault-drive .ensures) (the-trim .ensures ∙ ap (λ (x : DriveHandle). trim p x)
+    (the-trim .last .0) (the-trim .last .1 .1 .0) (c .fault-drive .ensures) (the-trim .ensures ∙ ap (λ (x : DriveHandle). trim p x)
     (the-handle-of .ensures)))
 
 pub genie-drives-trim-spec : {M : Type 1} → statement M

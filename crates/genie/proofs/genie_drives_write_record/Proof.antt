@@ -58,7 +58,7 @@ returns c =
     let p = (pair (the-geometry .result) (a .image0 .now) (the-geometry2 .result) (a .image1 .now)) in let r = the-write-record .result in
     at-drives (λ (g h : Geometry). drivesWriteRecord (pair g (a .image0 .now) h (a .image1 .now)) (a .handle .now) (a .sequential)
     (a .buffer .now)) (the-geometry .ensures) (the-geometry2 .ensures) (writing (a .handle .now) r refl (the-fault-drive .ensures) (stays
-    (a .handle .now) r (c .if1 .taken)) (the-write-record .last .0) (the-write-record .last .1) (the-write-record .ensures ∙ (λ i. writeRecord p
+    (a .handle .now) r (c .if1 .taken)) (the-write-record .last .0) (the-write-record .last .1 .1 .0) (the-write-record .ensures ∙ (λ i. writeRecord p
     (the-mode-of .ensures i) (the-handle-of .ensures i) (a .buffer .now))))
 
 put-handle-requires : tie.Need-put-handle-requires
@@ -88,7 +88,7 @@ returns-2 c =
     at-drives (λ (g h : Geometry). drivesWriteRecord (pair g (a .image0 .now) h (a .image1 .now)) (a .handle .now) (a .sequential)
     (a .buffer .now)) (the-geometry .ensures) (the-geometry2 .ensures) (writing (a .handle .now) r (sym (the-if1 .left))
     (the-fault-drive .ensures) (moved (a .handle .now) r (the-if1 .left) (the-put-handle .ensures)) (the-write-record .last .0)
-    (the-write-record .last .1) (the-write-record .ensures ∙ (λ i. writeRecord p (the-mode-of .ensures i) (the-handle-of .ensures i)
+    (the-write-record .last .1 .1 .0) (the-write-record .ensures ∙ (λ i. writeRecord p (the-mode-of .ensures i) (the-handle-of .ensures i)
     (a .buffer .now))))
 
 pub genie-drives-write-record-spec : {M : Type 1} → statement M
