@@ -9,9 +9,9 @@ use native.Mathlib.Nat.{zero-add}
 use lib.Dec.{ltb}
 use borrow.Author.Tests.{lt-ltb}
 use Rattle.meaning.specs.Lists.{count, every, each, all}
-use Rattle.layout.proofs.Lists.{count-append}
-use Rattle.check_map.proofs.Laws.{count-none}
-use Rattle.laws.specs.Members
+use Rattle.lists.specs.Tests.{count-append}
+use Rattle.lists.specs.Ranges.{count-none}
+use Rattle.lists.specs.Members
 
 pub all-four : {a a′ b b′ c c′ e e′ : Bool} → a ≡ a′ → b ≡ b′ → c ≡ c′ → e ≡ e′ → all (a ∷ b ∷ c ∷ e ∷ []) ≡ all (a′ ∷ b′ ∷ c′ ∷ e′ ∷ [])
 all-four p q r s = rw (p, q, r, s)

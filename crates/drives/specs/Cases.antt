@@ -5,9 +5,9 @@ use mathlib.Core.Bool.{Bool, true, false}
 use mathlib.Core.List.{List, [], _∷_, _++_}
 use lib.ListN.{replicate}
 use Rattle.meaning.specs.Names.{hash}
-use Rattle.meaning.specs.Samples as samples
-use Rattle.meaning.specs.Samples.{laid}
-use Rattle.meaning.specs.Refusals.{noHandle}
+use Rattle.meaning_table.specs.Samples as samples
+use Rattle.meaning_table.specs.Samples.{laid}
+use Rattle.meaning.specs.Handles.{noHandle}
 use Rattle.meaning.specs.declared.Geometry.{Geometry}
 use Rattle.meaning.specs.declared.Refusal.{Refusal}
 use Rattle.drives.specs.Pair.{Pair, pair, noSuchDrive, onDrive, ofDisk, naming′, faultDrive, ofBoth, driveOf, handleOn}
@@ -38,7 +38,7 @@ dk = named 0x44 0x4b
 
 -- one block of 3 granules, the directory in the first two; the third is free where the GAT's byte is 03H
 abbrev geometryOf : Bool → Geometry
-geometryOf system = record { blocks = 1; units = 3; start = 0; anyone = 0x9999; system = system; granule = 5 }
+geometryOf system = record { blocks = 1; units = 3; start = 0; noPassword = 0x9999; system = system; granule = 5 }
 
 -- an empty file's entry
 abbrev entry : List ℕ → List ℕ

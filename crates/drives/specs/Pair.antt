@@ -5,7 +5,8 @@ use mathlib.Core.List.{List, [], _∷_}
 use lib.Dec.{eqb, leb}
 use Rattle.meaning.specs.Lists.{all, any}
 use Rattle.meaning.specs.Refusal.{unplaced, naming}
-use Rattle.meaning.specs.Refusals.{check, accepted, noHandle}
+use Rattle.meaning.specs.Refusals.{check, accepted}
+use Rattle.meaning.specs.Handles.{noHandle}
 use Rattle.meaning.specs.declared.Geometry.{Geometry}
 use Rattle.meaning.specs.declared.Handle.{Handle}
 use Rattle.meaning.specs.declared.Refusal.{Refusal}

@@ -9,7 +9,7 @@ use lib.Dec.{eqb}
 use lib.ListN.{length, take, drop}
 use borrow.Author.Tests.{eq-eqb, ne-eqb}
 use borrow.Rule.Slice.Shared.{byByte}
-use Rattle.read.proofs.Laws.{part-ptr}
+use Rattle.read.proofs.ReadParts.{part-ptr}
 use Rattle.meaning.specs.Refusals.{first}
 use Rattle.meaning.specs.Read
 use Rattle.meaning.specs.declared.Geometry.{Geometry}

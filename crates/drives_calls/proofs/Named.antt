@@ -8,7 +8,8 @@ use native.Mathlib.Decide.{ℕ-discrete}
 use lib.Dec.{eqb}
 use lib.ListN.{length}
 use borrow.Author.Tests.{eq-eqb, ne-eqb}
-use Rattle.meaning.specs.Lists.{count, length-count, keep, has, all, firstOr}
+use Rattle.meaning.specs.Lists.{count, keep, has, all, firstOr}
+use Rattle.lists.specs.Members.{length-count}
 use Rattle.meaning.specs.Layout.{slots, isSlot, hit}
 use Rattle.meaning.specs.Names.{comesIn, hash}
 use Rattle.meaning.specs.Free.{freeSlots}
@@ -24,9 +25,9 @@ use Rattle.meaning.specs.declared.LookedUp.{LookedUp}
 use Rattle.meaning.specs.declared.NewFile.{NewFile}
 use Rattle.meaning.specs.declared.Refusal.{Refusal}
 use Rattle.layout.specs.Room.{Room}
-use Rattle.layout.proofs.Lists.{all-no, all-yes, all-none}
-use Rattle.handle.proofs.Laws.{checked, checked-room}
-use Rattle.create.proofs.Laws.{slot-none, slot-some}
+use Rattle.lists.specs.Tests.{all-no, all-yes, all-none}
+use Rattle.passed.proofs.Checked.{checked, checked-room}
+use Rattle.create.proofs.Creating.{slot-none, slot-some}
 use Rattle.drives.specs.Pair.{Pair, image, geometry, noSuchDrive, onDrive, ofDisk, naming′, ofBoth, tested}
 use Rattle.drives.specs.ByName.{byName, lookedUpOn, openedOn, createdOn, notLookedUp, notOpened, notCreated, lookUpOn, openOn, createOn}
 use Rattle.drives.specs.ByName.{lacks, searched, passedOver, takes, lookUp, openFile, create}

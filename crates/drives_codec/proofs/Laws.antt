@@ -7,7 +7,7 @@ use lib.Dec.{ltb}
 use lib.ListN.{length, set}
 use borrow.Author.Tests.{lt-ltb, le-ltb}
 use Rattle.meaning.specs.Layout.{byte}
-use Rattle.meaning.specs.Refusals.{noHandle}
+use Rattle.meaning.specs.Handles.{noHandle}
 use Rattle.meaning.specs.declared.Handle.{Handle}
 use Rattle.genie_codec.specs.Codec as one
 use Rattle.drives.specs.Pair.{noDriveHandle, handleOn}

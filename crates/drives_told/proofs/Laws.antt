@@ -6,7 +6,7 @@ use lib.Dec.{eqb, leb}
 use borrow.Author.Tests.{eq-eqb, ne-eqb, le-leb, lt-leb}
 use Rattle.meaning.specs.Refusal.{unplaced, naming}
 use Rattle.meaning.specs.declared.Refusal.{Refusal}
-use Rattle.layout.proofs.Lists.{any-hit, any-skip, any-one, all-no, all-yes, all-one, is-no, is-yes}
+use Rattle.lists.specs.Tests.{any-hit, any-skip, any-one, all-no, all-yes, all-one, is-no, is-yes}
 use Rattle.drives.specs.Pair.{noDrive, ofDisk, naming′, faultDrive, ofBoth, driveOf}
 
 -- the numbers of a disk

@@ -1,4 +1,4 @@
-pub mod Laws
+pub mod HandsBack
 pub mod Compared
 pub mod Program
 pub mod Drives

@@ -9,23 +9,24 @@ use lib.Dec.{eqb, ltb}
 use borrow.Author.Tests.{not-false, leb-true}
 use Rattle.meaning.specs.Lists.{every, any}
 use Rattle.meaning.specs.Layout.{fitsGeometry, highest}
-use Rattle.meaning.specs.Sizes
+use Rattle.lists.specs.Sizes
 use Rattle.meaning.specs.Consistent.{consistent}
-use Rattle.meaning.specs.Entries.{inUse, extension, primary, system}
+use Rattle.meaning.specs.Entries.{inUse, extension, inUsePrimary, system}
 use Rattle.meaning.specs.Refusal.{carried}
-use Rattle.meaning.specs.Refusals.{first, check, refusal, faultNumbers, diskRefusals, inRange, fresh, staleHandle, handleRefusals, protected, goodLength}
+use Rattle.meaning.specs.Refusals.{first, check, refusal, faultNumbers, diskRefusals, stale, handleRefusals, protected}
+use Rattle.meaning.specs.Handles.{inRange, fresh, goodLength}
 use Rattle.meaning.specs.declared.Geometry.{Geometry}
 use Rattle.meaning.specs.declared.Handle.{Handle}
 use Rattle.meaning.specs.declared.Refusal.{Refusal}
-use Rattle.laws.specs.Members
+use Rattle.lists.specs.Members
 use Rattle.laws.specs.Facts
 use Rattle.laws.specs.Carried.{carried-own}
 use Rattle.laws.specs.Passed.{Served, disk-passed, check-passed}
 use Rattle.layout.specs.Room.{Room, Slot}
-use Rattle.layout.proofs.Lists.{first-at, first-hit, first-skip, first-none, and-l, and-r, any-skip, all-at}
-use Rattle.layout.proofs.Sound.{room, slot-of}
-use Rattle.seek.specs.Seek.{Sound, Used}
-use Rattle.seek.proofs.Sound.{sound}
+use Rattle.lists.specs.Tests.{first-at, first-hit, first-skip, first-none, and-l, and-r, any-skip, all-at}
+use Rattle.layout.proofs.HasRoom.{room, slot-of}
+use Rattle.seek.specs.Seek.{Walkable, Used}
+use Rattle.seek.proofs.IsWalkable.{sound}
 
 -- the first part of a list of refusals lets a call through
 pub first-then : (xs ys : List (ℕ × Bool)) → first xs ≡ 0 → every (λ c. not (eqb (c .0) 0)) xs ≡ true → first (xs ++ ys) ≡ first ys
@@ -96,7 +97,7 @@ module _ (g : Geometry) (d : List ℕ) where
     pub disk : Checked
     pub ranged′ : ranged ≡ true
     pub slot : Slot g d (h .slot)
-    pub first′ : primary g d (h .slot) ≡ true
+    pub first′ : inUsePrimary g d (h .slot) ≡ true
     pub used : inUse g d (h .slot) ≡ true
 
   pub ranges : (h : Handle) → inRange g h ≡ true → (h .at ≤ 7864320) × (1 ≤ h .len) × (h .len ≤ 256) × (h .level ≤ 7)
@@ -107,12 +108,12 @@ module _ (g : Geometry) (d : List ℕ) where
   unfolding fresh
   is-slot h r = slot-of g d (h .slot) (all-at _ r 0)
 
-  pub is-primary : (h : Handle) → fresh g d h ≡ true → primary g d (h .slot) ≡ true
+  pub is-primary : (h : Handle) → fresh g d h ≡ true → inUsePrimary g d (h .slot) ≡ true
   unfolding fresh
   is-primary h r = all-at _ r 1
 
   -- so the file's chain can be walked
-  pub walks : (h : Handle) (ranged : Bool) → Passed h ranged → Sound g d × Used g d (h .slot)
+  pub walks : (h : Handle) (ranged : Bool) → Passed h ranged → Walkable g d × Used g d (h .slot)
   walks h ranged p = (sound g d (p .disk .fits) (p .disk .sound), record { slot = p .slot; used = p .used })
 
   abbrev NonZero : List (ℕ × Bool) → Type 0
@@ -124,7 +125,7 @@ module _ (g : Geometry) (d : List ℕ) where
   passed h ranged rest q e z =
       let t : (k : ℕ) → getD (handleRefusals g d h ranged rest) k (0, false) .1 ≡ false = λ k. first-at (handleRefusals g d h ranged rest) (sym e ∙ z) q k in
       let w = not-false _ (t (ownRow 1)) in
-      let c = disk-passed g d ((12, not ranged) ∷ staleHandle g d h ∷ rest) (sym e ∙ z) in
+      let c = disk-passed g d ((12, not ranged) ∷ stale g d h ∷ rest) (sym e ∙ z) in
       record {
         disk = of-served (c .0);
         ranged′ = not-false _ (t (ownRow 0));

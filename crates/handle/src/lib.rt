@@ -6,7 +6,8 @@ use meaning::Refusal;
 ghost use mathlib.Core.Path.{_≡_};
 ghost use mathlib.Core.List.{[], _∷_};
 ghost use Rattle.meaning.specs.Entries.{system};
-ghost use Rattle.meaning.specs.Refusals.{first, check, goodLength, inRange, fresh, handleRefusals, notForReading, protected};
+ghost use Rattle.meaning.specs.Refusals.{first, check, handleRefusals, notForReading, protected};
+ghost use Rattle.meaning.specs.Handles.{goodLength, inRange, fresh};
 ghost use Rattle.layout.specs.Room.{Room, Slot};
 
 // Record length 1 to 256.

@@ -6,7 +6,7 @@ use lib.Dec.{eqb}
 use lib.ListN.{length, getD}
 use Rattle.meaning.specs.Lists.{each, keep, lastOr}
 use Rattle.meaning.specs.Layout.{slots, granuleBytes}
-use Rattle.meaning.specs.Entries.{marker, link, entryGranules, primary}
+use Rattle.meaning.specs.Entries.{marker, link, entryGranules, inUsePrimary}
 use Rattle.meaning.specs.declared.Geometry.{Geometry}
 
 -- which of the granules owned holds byte i of a file, counted from 0
@@ -29,7 +29,7 @@ module _ (g : Geometry) (d : List ℕ) where
 
   -- the slots of the files, rising
   unfoldable pub files : List ℕ
-  files = keep (primary g d) (slots g d)
+  files = keep (inUsePrimary g d) (slots g d)
 
   -- where byte i of the file at slot s lies in the image
   unfoldable pub place : ℕ → ℕ → ℕ

@@ -87,7 +87,7 @@ Sized limit (r ∷ rs) = (1 ≤ r .many) × (r .many ≤ limit) × Sized limit r
 -- limit is the most granules that a run may have, granules how many the disk has
 module _ (limit granules : ℕ) where
   -- the last run lengthened by x granules, and further runs: k granules in all
-  pub record Fits (v : State) (x : ℕ) (rs : List Run) (k : ℕ) : Type 0 where
+  pub record ChoiceFits (v : State) (x : ℕ) (rs : List Run) (k : ℕ) : Type 0 where
     pub within : x ≤ spare limit (v .last)
     pub sized : Sized limit rs
     pub few : length rs ≤ v .room
@@ -97,7 +97,7 @@ module _ (limit granules : ℕ) where
   pub record Choice (v : State) (k : ℕ) : Type 0 where
     pub longer : ℕ
     pub runs : List Run
-    pub fits : Fits v longer runs k
+    pub fits : ChoiceFits v longer runs k
 
 -- Number 8 -----------------------------------------------------------------------------------------------------------------
 

@@ -10,14 +10,14 @@ use Rattle.meaning.specs.declared.Geometry.{Geometry}
 
 -- A pair by itself: block, then first unit (high three bits) and further granules (low five).
 abbrev pub pairUnit : ℕ → ℕ
-pairUnit second = second / 32
+pairUnit pairByte = pairByte / 32
 
 -- A run is 1 to 32 granules with consecutive numbers and may cross blocks.
 abbrev pub pairLength : ℕ → ℕ
-pairLength second = 1 + second % 32
+pairLength pairByte = 1 + pairByte % 32
 
 abbrev pub pairStart : ℕ → ℕ → ℕ → ℕ
-pairStart units block second = block * units + pairUnit second
+pairStart units block pairByte = block * units + pairUnit pairByte
 
 -- Sector count n, end byte e. If e = 0 it is 256n, else 256(n − 1) + e with n at least 1. (Where n = 0 and e is not, no disk is
 -- consistent: the number is of no account.)
@@ -47,8 +47,8 @@ module _ (g : Geometry) (d : List ℕ) where
   system s = bit 6 (field g d s 0)
 
   -- a primary entry in use: a file starts here
-  abbrev pub primary : ℕ → Bool
-  primary s = inUse s && not (extension s)
+  abbrev pub inUsePrimary : ℕ → Bool
+  inUsePrimary s = inUse s && not (extension s)
 
   abbrev pub accessLevel : ℕ → ℕ
   accessLevel s = field g d s 0 % 8
@@ -88,17 +88,17 @@ module _ (g : Geometry) (d : List ℕ) where
   abbrev pub block : ℕ → ℕ → ℕ
   block s k = field g d s (0x16 + 2 * k)
 
-  abbrev pub second : ℕ → ℕ → ℕ
-  second s k = field g d s (0x17 + 2 * k)
+  abbrev pub pairByte : ℕ → ℕ → ℕ
+  pairByte s k = field g d s (0x17 + 2 * k)
 
   abbrev pub firstUnit : ℕ → ℕ → ℕ
-  firstUnit s k = pairUnit (second s k)
+  firstUnit s k = pairUnit (pairByte s k)
 
   abbrev pub runLength : ℕ → ℕ → ℕ
-  runLength s k = pairLength (second s k)
+  runLength s k = pairLength (pairByte s k)
 
   abbrev pub runStart : ℕ → ℕ → ℕ
-  runStart s k = pairStart (g .units) (block s k) (second s k)
+  runStart s k = pairStart (g .units) (block s k) (pairByte s k)
 
   -- Block FFH ends the list.
   unfoldable pub runsFrom : ℕ → ℕ → ℕ → ℕ

@@ -12,7 +12,7 @@ use Rattle.meaning.specs.Allot.{allot}
 use Rattle.meaning.specs.Kill.{kill}
 use Rattle.meaning.specs.Refusal.{unplaced, placed}
 use Rattle.meaning.specs.Refusals.{check}
-use Rattle.meaning.specs.Samples.{changed, written, held, puls, small, leer, three, sample, gaps, filled, hits, e80, e81, e82, eA3, opened}
+use Rattle.meaning_table.specs.Samples.{changed, written, held, puls, small, leer, three, sample, gaps, filled, hits, e80, e81, e82, eA3, opened}
 use Rattle.meaning.specs.declared.Refusal.{Refusal}
 
 -- A run beyond the fourth starts an extension in the first permitted slot: the fifth pair does not reach marker and link.

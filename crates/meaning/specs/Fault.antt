@@ -76,12 +76,12 @@ module _ (g : Geometry) (d : List ℕ) where
 
   -- 23, name: well formed, and bit 5 is zero.
   unfoldable pub nameFault : ℕ → Bool
-  nameFault p = all (Entries.primary g d p ∷ not (Consistent.nameHolds g d p) ∷ [])
+  nameFault p = all (Entries.inUsePrimary g d p ∷ not (Consistent.nameHolds g d p) ∷ [])
 
   -- 24, duplicate name: names differ. Of two slots the higher is at fault.
   unfoldable pub duplicateFault : ℕ → Bool
   duplicateFault p =
-      all (Entries.primary g d p
+      all (Entries.inUsePrimary g d p
       ∷ some (λ q. ltb q p && same (Entries.nameOf g d q) (Entries.nameOf g d p)) (Chain.files g d) ∷ [])
 
   -- 25, chain: belongs to the entry with the bad marker, pairs or link, or to the extension met in no file's chain, met twice, or badly formed.
@@ -112,7 +112,7 @@ module _ (g : Geometry) (d : List ℕ) where
   -- 29, size: n = 0 only with e = 0; the size fits the granules owned. Belongs to the primary entry, granules counted as the pairs name them, and
   -- only where its chain is whole.
   unfoldable pub sizeFault : ℕ → Bool
-  sizeFault p = all (Entries.primary g d p ∷ chainWhole p ∷ not (Consistent.sizeHolds g d p) ∷ [])
+  sizeFault p = all (Entries.inUsePrimary g d p ∷ chainWhole p ∷ not (Consistent.sizeHolds g d p) ∷ [])
 
   -- 30, directory granule, with a slot: in a run of a file without the system flag
   unfoldable pub directoryFault : ℕ → Bool

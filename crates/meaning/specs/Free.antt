@@ -5,7 +5,7 @@ use mathlib.Core.List.{List, [], _∷_}
 use lib.Dec.{ltb, eqb}
 use Rattle.meaning.specs.Lists.{count, keep, all, firstOr}
 use Rattle.meaning.specs.Stretch.{lowEnd}
-use Rattle.meaning.specs.Layout.{taken, granules, isSlot, row, column, hit}
+use Rattle.meaning.specs.Layout.{taken, granules, isSlot, row, sector, hit}
 use Rattle.meaning.specs.declared.Geometry.{Geometry}
 
 module _ (g : Geometry) where
@@ -23,7 +23,7 @@ module _ (g : Geometry) where
 
   -- On a system disk rows 0 to 3 with s 0 to 7 are kept for system files. On a data disk only slots 00H and 01H are kept (02, §4).
   unfoldable pub kept : ℕ → Bool
-  kept s = cond (g .system) (all (ltb (row s) 4 ∷ ltb (column s) 8 ∷ [])) (ltb s 2)
+  kept s = cond (g .system) (all (ltb (row s) 4 ∷ ltb (sector s) 8 ∷ [])) (ltb s 2)
 
   -- Kept slots are never permitted.
   unfoldable pub permitted : List ℕ → ℕ → Bool

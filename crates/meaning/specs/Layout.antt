@@ -96,8 +96,8 @@ freeGranule g d n = set d (gatAt g n) (withoutBit (n % g .units) (byte d (gatAt 
 abbrev pub row : ℕ → ℕ
 row slot = slot / 32
 
-abbrev pub column : ℕ → ℕ
-column slot = slot % 32
+abbrev pub sector : ℕ → ℕ
+sector slot = slot % 32
 
 abbrev pub hitAt : Geometry → ℕ → ℕ
 hitAt g slot = 256 * (g .start + 1) + slot
@@ -114,7 +114,7 @@ directorySectors g d = 10 + aboveTen g d
 
 -- With d directory sectors, s runs from 0 to d − 3.
 unfoldable pub isSlot : Geometry → List ℕ → ℕ → Bool
-isSlot g d slot = all (ltb slot 256 ∷ ltb (column slot + 2) (directorySectors g d) ∷ [])
+isSlot g d slot = all (ltb slot 256 ∷ ltb (sector slot + 2) (directorySectors g d) ∷ [])
 
 -- the slots of the directory, rising
 unfoldable pub slots : Geometry → List ℕ → List ℕ
@@ -124,7 +124,7 @@ slots g d = keep (isSlot g d) (count 0 256)
 
 -- The entry of a slot is in directory sector s + 2 at byte 32 × row.
 abbrev pub entryAt : Geometry → ℕ → ℕ
-entryAt g slot = 256 * (g .start + 2 + column slot) + 32 * row slot
+entryAt g slot = 256 * (g .start + 2 + sector slot) + 32 * row slot
 
 -- byte k of an entry
 unfoldable pub field : Geometry → List ℕ → ℕ → ℕ → ℕ

@@ -85,7 +85,7 @@ unfoldable pub lastOr : ℕ → List ℕ → ℕ
 lastOr z [] = z
 lastOr z (x ∷ xs) = lastOr x xs
 
--- Statements, whose tests are `has` and `distinct` (laws: Members) ------------------------------------------------------------
+-- Statements, whose tests are `has` and `distinct` (lists: Members) ------------------------------------------------------------
 
 -- x is one of them
 pub data In (x : ℕ) : List ℕ → Type 0 where

@@ -92,15 +92,15 @@ module _ (g : Geometry) (d : List ℕ) where
 
   -- A handle is stale unless its slot is one the directory has, in use, primary and carries its name.
   unfoldable pub fresh : Handle → Bool
-  fresh h = all (Layout.isSlot g d (h .slot) ∷ Entries.primary g d (h .slot) ∷ same (Entries.nameOf g d (h .slot)) (h .name) ∷ [])
+  fresh h = all (Layout.isSlot g d (h .slot) ∷ Entries.inUsePrimary g d (h .slot) ∷ same (Entries.nameOf g d (h .slot)) (h .name) ∷ [])
 
   -- 7: handle stale
-  abbrev pub staleHandle : Handle → ℕ × Bool
-  staleHandle h = (7, not (fresh h))
+  abbrev pub stale : Handle → ℕ × Bool
+  stale h = (7, not (fresh h))
 
   -- what every call with a handle tests first; `ranged` is the call's own test 12, `rest` what it tests after
   abbrev pub handleRefusals : Handle → Bool → List (ℕ × Bool) → List (ℕ × Bool)
-  handleRefusals h ranged rest = diskRefusals ((12, not ranged) ∷ staleHandle h ∷ rest)
+  handleRefusals h ranged rest = diskRefusals ((12, not ranged) ∷ stale h ∷ rest)
 
   -- 6: level over 4 for write, allot, trim, over 1 for kill; or write, allot, trim or kill of a system file
   abbrev pub protected : ℕ → Handle → ℕ × Bool

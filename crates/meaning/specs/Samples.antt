@@ -9,11 +9,12 @@ use Rattle.meaning.specs.Layout.{granuleSectors, granuleBytes, granules,
 use Rattle.meaning.specs.Names.{wellFormed, fold, blanks, good, badPlace, hash}
 use Rattle.meaning.specs.Entries.{nameOf, sizeOf, runsFrom, runs, entryGranules}
 use Rattle.meaning.specs.Chain.{chainFrom, chain, owned, files, place}
-use Rattle.meaning.specs.Consistent.{lengthHolds, hitHolds, hashHolds, nameHolds, pairsHold, followsBy, linkHoldsBy, follows, linkHolds, runsHold, gatHolds, sizeHolds, offDirectory, slotHolds, fileHolds, namesDiffer, met, consistent}
-use Rattle.meaning.specs.Free.{freeGranules, kept, permitted, freeSlot, freeSlots}
+use Rattle.meaning.specs.Consistent.{lengthHolds, hitHolds, hashHolds, nameHolds, pairsHold, followsBy, linkHoldsBy, runsHold, gatHolds, sizeHolds, offDirectory, slotHolds, fileHolds, namesDiffer, met, consistent}
+use Rattle.meaning.specs.Free.{freeGranules, kept, permitted, freeSlot, freeSlots, reserved}
 use Rattle.meaning.specs.Growth.{andThen, orElse, fails, diskOr, lengthens, extended, takeOne, growBy, growth}
 use Rattle.meaning.specs.Drop.{unhooked, dropOne}
-use Rattle.meaning.specs.Refusals.{first, goodLength, inRange, newInRange, check, fresh}
+use Rattle.meaning.specs.Refusals.{first, newInRange, check}
+use Rattle.meaning.specs.Handles.{goodLength, inRange, fresh}
 use Rattle.meaning.specs.Refusal.{beside, besideTwo}
 use Rattle.meaning.specs.Fault.{usedExtension, handsOn, ends, badEntry, walkFrom, walk, walked, metFrom, fileOf, goodExtension, hitFault, nameFault, duplicateFault, chainFault, runFault, gatFault, sharedFault, chainWhole, sizeFault, directoryFault, faultAt, lowest, fault}
 use Rattle.meaning.specs.LookUp.{candidates, carries, comparedIn, named, lookUp}
@@ -28,7 +29,8 @@ use Rattle.meaning.specs.BringBack.{whole, backEntry, bringBack}
 use Rattle.meaning.specs.Listing.{shown, listed, tellFirst, list, counts, digits, slashed, line, listing}
 use Rattle.meaning.specs.Stretch.{stretch, longestIn, lowEnd}
 use Rattle.meaning.specs.FreeSpace.{freeSpace}
-use Rattle.meaning.specs.Plain.{fileAt, foundIn, plain, bornAs, overwritten, writtenTo, allottedTo, trimmed, backAs, with′, hush, reserved}
+use Rattle.meaning.specs.Plain.{fileAt, foundIn, plain, bornAs, overwritten, writtenTo, allottedTo, trimmed, backAs, with′}
+use Rattle.promises_words.specs.Untouched.{hush}
 use Rattle.meaning.specs.declared.Geometry.{Geometry}
 use Rattle.meaning.specs.declared.Handle.{Handle}
 
@@ -65,7 +67,7 @@ small = 0x70 ∷ 0x75 ∷ 0x6c ∷ 0x73 ∷ 0x30 ∷ 0x31 ∷ 0x20 ∷ 0x20 ∷ 
 
 -- 4 blocks of 3 units, the directory at the front
 abbrev pub three : Geometry
-three = record { blocks = 4; units = 3; start = 0; anyone = 0x9999; system = true; granule = 5 }
+three = record { blocks = 4; units = 3; start = 0; noPassword = 0x9999; system = true; granule = 5 }
 
 -- where its HIT is, and the entries of slots 80H, 81H, 82H and A3H
 abbrev pub hits : ℕ
@@ -159,7 +161,7 @@ filled =
 
 -- 20 blocks of so many units
 abbrev pub wide : ℕ → Geometry
-wide units = record { blocks = 20; units = units; start = 0; anyone = 0; system = true; granule = 5 }
+wide units = record { blocks = 20; units = units; start = 0; noPassword = 0; system = true; granule = 5 }
 
 -- so long an image whose only file, LEER in slot 80H, has the pair 11H 42H and no bytes; every granule is set in the GAT
 abbrev pub onePair : ℕ → List ℕ
@@ -173,5 +175,5 @@ onePair =
 
 -- Every definition that is shut, opened by one name: `unfolding opened` computes through all of them.
 unfoldable pub opened : Bool
-unfolding all any firstOr lastOr digit putDigit granuleSectors granuleBytes granules fitsGeometry taken takeGranule freeGranule hit directorySectors isSlot slots field setField wellFormed fold blanks good badPlace hash nameOf sizeOf runsFrom runs entryGranules chainFrom chain owned files place lengthHolds hitHolds hashHolds nameHolds pairsHold followsBy linkHoldsBy follows linkHolds runsHold gatHolds sizeHolds offDirectory slotHolds fileHolds namesDiffer met consistent usedExtension handsOn ends badEntry walkFrom walk walked metFrom fileOf goodExtension hitFault nameFault duplicateFault chainFault runFault gatFault sharedFault chainWhole sizeFault directoryFault faultAt lowest fault beside besideTwo freeGranules kept permitted freeSlot freeSlots andThen orElse fails diskOr lengthens extended takeOne growBy growth unhooked dropOne first goodLength inRange newInRange check fresh candidates carries comparedIn named lookUp full admits open′ create fetch readRecord readSector store sizeAfter writeRecord allot trim killEntry kill whole backEntry bringBack shown listed tellFirst list counts stretch longestIn lowEnd freeSpace digits slashed line listing fileAt foundIn plain bornAs overwritten writtenTo allottedTo trimmed backAs with′ hush reserved
+unfolding all any firstOr lastOr digit putDigit granuleSectors granuleBytes granules fitsGeometry taken takeGranule freeGranule hit directorySectors isSlot slots field setField wellFormed fold blanks good badPlace hash nameOf sizeOf runsFrom runs entryGranules chainFrom chain owned files place lengthHolds hitHolds hashHolds nameHolds pairsHold followsBy linkHoldsBy runsHold gatHolds sizeHolds offDirectory slotHolds fileHolds namesDiffer met consistent usedExtension handsOn ends badEntry walkFrom walk walked metFrom fileOf goodExtension hitFault nameFault duplicateFault chainFault runFault gatFault sharedFault chainWhole sizeFault directoryFault faultAt lowest fault beside besideTwo freeGranules kept permitted freeSlot freeSlots andThen orElse fails diskOr lengthens extended takeOne growBy growth unhooked dropOne first goodLength inRange newInRange check fresh candidates carries comparedIn named lookUp full admits open′ create fetch readRecord readSector store sizeAfter writeRecord allot trim killEntry kill whole backEntry bringBack shown listed tellFirst list counts stretch longestIn lowEnd freeSpace digits slashed line listing fileAt foundIn plain bornAs overwritten writtenTo allottedTo trimmed backAs with′ hush reserved
 opened = true

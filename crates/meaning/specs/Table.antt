@@ -11,7 +11,7 @@ use lib.Dec.{ltb}
 use lib.ListN.{length, getD}
 use Rattle.meaning.specs.Lists.{count, each, keep, all}
 use Rattle.meaning.specs.Layout
-use Rattle.meaning.specs.Sizes
+use Rattle.lists.specs.Sizes
 use Rattle.meaning.specs.Layout.{directorySectors, isSlot, slots}
 use Rattle.meaning.specs.Names.{hash}
 use Rattle.meaning.specs.Entries
@@ -23,7 +23,7 @@ use Rattle.meaning.specs.Growth.{lengthens}
 use Rattle.meaning.specs.Create
 use Rattle.meaning.specs.Refusal.{unplaced, placed}
 use Rattle.meaning.specs.Refusals.{check}
-use Rattle.meaning.specs.Samples.{wide, onePair, opened}
+use Rattle.meaning_table.specs.Samples.{wide, onePair, opened}
 use Rattle.meaning.specs.declared.Geometry.{Geometry}
 use Rattle.meaning.specs.declared.NewFile.{NewFile}
 
@@ -49,7 +49,7 @@ pub record Rows : Type 0 where
   -- 1. BOOT/SYS hashes to A2H, DIR/SYS to C4H, GDOS/SYS to A1H.
   pub hashes : (hash boot ≡ 0xa2) × (hash dir ≡ 0xc4) × (hash gdos ≡ 0xa1)
   -- 2. Slot 25H: row 1, s 5, directory sector 7, byte 32.
-  pub slot : (Layout.row 0x25 ≡ 1) × (Layout.column 0x25 ≡ 5)
+  pub slot : (Layout.row 0x25 ≡ 1) × (Layout.sector 0x25 ≡ 5)
       × ((g : Geometry) → Layout.entryAt g 0x25 ≡ 256 * (g .start + 7) + 32)
   -- 3. Pair 11H 42H, 3 units per block: granules 53 to 55, sectors 265 to 279. With 2 units: inconsistent (the
   -- first unit is 2: 26, run off the disk).
@@ -75,7 +75,7 @@ pub record Rows : Type 0 where
 
 -- the slots of a directory of so many sectors
 slotsOf : ℕ → List ℕ
-slotsOf n = keep (λ s. all (ltb s 256 ∷ ltb (Layout.column s + 2) n ∷ [])) (count 0 256)
+slotsOf n = keep (λ s. all (ltb s 256 ∷ ltb (Layout.sector s + 2) n ∷ [])) (count 0 256)
 
 slots-of : (g : Geometry) (d : List ℕ) → slots g d ≡ slotsOf (directorySectors g d)
 unfolding slots isSlot slotsOf

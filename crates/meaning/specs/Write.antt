@@ -10,6 +10,8 @@ use Rattle.meaning.specs.Layout
 use Rattle.meaning.specs.Entries
 use Rattle.meaning.specs.Chain
 use Rattle.meaning.specs.Refusals
+use Rattle.meaning.specs.Handles
+use Rattle.meaning.specs.Growth
 use Rattle.meaning.specs.declared.Geometry.{Geometry}
 use Rattle.meaning.specs.declared.Handle.{Handle}
 use Rattle.meaning.specs.declared.Answer.{Answer}
@@ -36,13 +38,13 @@ module _ (g : Geometry) (d : List ℕ) where
 
   -- A write takes exactly what the file lacks of ⌈new size / bytes of a granule⌉ granules (01: ⌈new size/1280⌉).
   abbrev pub toWrite : Mode → Handle → ℕ
-  toWrite m h = Refusals.lacking g d (h .slot) (Layout.granulesFor g (sizeAfter m (Entries.sizeOf g d (h .slot)) (h .at + h .len)))
+  toWrite m h = Growth.lacking g d (h .slot) (Layout.granulesFor g (sizeAfter m (Entries.sizeOf g d (h .slot)) (h .at + h .len)))
 
   -- 12 also where position + length is over the highest position (01: 1,966,080) or the buffer shorter than the record length; `room` is the
   -- buffer's length
   abbrev pub writeRefusals : Mode → Handle → ℕ → List (ℕ × Bool)
   writeRefusals m h room =
-      Refusals.handleRefusals g d h (all (Refusals.inRange g h ∷ leb (h .at + h .len) (Layout.highest g) ∷ leb (h .len) room ∷ []))
+      Refusals.handleRefusals g d h (all (Handles.inRange g h ∷ leb (h .at + h .len) (Layout.highest g) ∷ leb (h .len) room ∷ []))
       (Refusals.protected g d 4 h ∷ Refusals.cannotGrow g d (h .slot) (toWrite m h))
 
   -- Write record, from the buffer's start: the file grows; bytes between the old size and the position become zero; the record; the size
@@ -51,10 +53,10 @@ module _ (g : Geometry) (d : List ℕ) where
   writeRecord m h b =
       let s = h .slot in let old = Entries.sizeOf g d s in let end = h .at + h .len in
       let no = Refusals.first (writeRefusals m h (length b)) in
-      let d₁ = Refusals.larger g d s (toWrite m h) in
+      let d₁ = Growth.withGranules g d s (toWrite m h) in
       let f = Chain.place g d₁ s in
       let d₂ = store f d₁ old (replicate (h .at - old) 0) in
       let d₃ = store f d₂ (h .at) (take (h .len) b) in (
-        record { refusal = Refusals.refusal g d no; handle = cond (Refusals.accepted no) (Refusals.movedTo h end) h },
+        record { refusal = Refusals.refusal g d no; handle = cond (Refusals.accepted no) (Handles.movedTo h end) h },
         cond (Refusals.accepted no) (withSize d₃ s (sizeAfter m old end)) d,
       )

@@ -14,8 +14,9 @@ use lib.Seq.{slice}
 use Rattle.meaning.specs.Layout.{fitsGeometry}
 use Rattle.meaning.specs.Names.{fold}
 use Rattle.meaning.specs.Consistent.{consistent}
-use Rattle.meaning.specs.Refusals.{noHandle, movedTo}
-use Rattle.meaning.specs.Plain.{plain, AreBytes}
+use Rattle.meaning.specs.Handles.{noHandle, movedTo}
+use Rattle.meaning.specs.Plain.{plain}
+use Rattle.promises_words.specs.Given.{AreBytes}
 use Rattle.meaning.specs.declared.Handle.{Handle}
 use Rattle.together.specs.Statement.{Name, Step, looksUp, opens, creates, moves, reads, readsSector, writes, allots, trims, kills}
 use Rattle.together.specs.Statement.{known, kept, Turn, one, two, Interleaving, Quiet, Same, SameFiles, AsItWas, Grip, grip, AllBring}

@@ -7,8 +7,7 @@ use lib.Dec.{eqb}
 use lib.ListN.{getD, set, List·getD-map}
 use lib.Seq.{slice}
 use Rattle.meaning.specs.Names.{fold}
-use Rattle.meaning.specs.Refusals.{noHandle, movedTo}
-use Rattle.meaning.specs.LookUp
+use Rattle.meaning.specs.Handles.{noHandle, movedTo}
 use Rattle.meaning.specs.Open
 use Rattle.meaning.specs.Create
 use Rattle.meaning.specs.Read

@@ -16,8 +16,9 @@ ghost use Rattle.meaning.specs.Layout.{sectorNumbers};
 ghost use Rattle.meaning.specs.Read.{fetch, readRefusals, readRecord, sectorRefusals, sectorBytes, readSector};
 ghost use Rattle.meaning.specs.Entries.{sectorCount};
 ghost use Rattle.layout.specs.Room.{Room, Slot};
-ghost use Rattle.meaning.specs.Refusals.{first, check, inRange};
-ghost use Rattle.read.specs.Part.{Rest, File, Owned, InGranule, partOf, Lies};
+ghost use Rattle.meaning.specs.Refusals.{first, check};
+ghost use Rattle.meaning.specs.Handles.{inRange};
+ghost use Rattle.read.specs.Part.{Rest, Readable, Owned, InGranule, partOf, Lies};
 
 // n bytes of the file from byte i on, all in one granule, go to the buffer at `to`: one walk along the chain, one copy.
 pub fn read_part(
@@ -29,7 +30,7 @@ pub fn read_part(
     buffer: &mut [u8],
     to: usize,
 )
-    requires { ⌜ File g (now image) s × Owned g (now image) s i n × InGranule g i n × (to + n ≤ length (now buffer)) ⌝ }
+    requires { ⌜ Readable g (now image) s × Owned g (now image) s i n × InGranule g i n × (to + n ≤ length (now buffer)) ⌝ }
     ensures { λ _. ⌜ now (buffer .exit) ≡ sets (now (buffer .entry)) to (fetch g (now (image .entry)) s i n) ⌝ }
 {
     let p = seek::place(image, g, s, i);
@@ -55,7 +56,7 @@ pub fn part_of(g: Geometry, i: usize, n: usize) -> usize
 
 // n bytes, at most 256, of the file from byte i on go to the buffer's start: granule by granule, so two parts at the most.
 pub fn read_bytes(image: &[u8], g: Geometry, s: usize, i: usize, n: usize, buffer: &mut [u8])
-    requires { ⌜ File g (now image) s × Owned g (now image) s i n × (n ≤ 256) × (n ≤ length (now buffer)) ⌝ }
+    requires { ⌜ Readable g (now image) s × Owned g (now image) s i n × (n ≤ 256) × (n ≤ length (now buffer)) ⌝ }
     ensures { λ _. ⌜ now (buffer .exit) ≡ fetch g (now (image .entry)) s i n ++ drop n (now (buffer .entry)) ⌝ }
 {
     let first = rest_of(g, i);

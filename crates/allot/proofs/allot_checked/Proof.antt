@@ -1,9 +1,9 @@
 use Prim.Native.Nat.{_<_, _/_, _^_}
-use Rattle.meaning.specs.Sizes.{width-lt}
+use Rattle.lists.specs.Sizes.{width-lt}
 use native.Mathlib.Omega.{arith}
 use Rattle.growth.proofs.Handed.{ready}
-use Rattle.allot.proofs.Laws.{refused, grew}
-use Rattle.handle.proofs.Laws.{handed}
+use Rattle.allot.proofs.Allotting.{refused, grew}
+use Rattle.passed.proofs.Checked.{handed}
 use borrow.Author.Needs.{needs}
 use Rattle.allot.proofs.allot_checked.Statement.{statement}
 use Rattle.allot.proofs.allot_checked.Tie as tie

@@ -1,4 +1,4 @@
-use Rattle.entry.specs.Count.{countHolds}
+use Rattle.meaning.specs.Consistent.{countHolds}
 use Rattle.meaning.specs.Entries.{endByte}
 use borrow.Author.Tests.{eq-eqb, ne-eqb}
 use lib.Dec.{eqb}

@@ -1,5 +1,5 @@
-use Rattle.layout.proofs.Lists.{on, off}
-use Rattle.entry.specs.Count.{countHolds}
+use Rattle.lists.specs.Tests.{on, off}
+use Rattle.meaning.specs.Consistent.{countHolds}
 use borrow.Author.Needs.{needs}
 use Rattle.entry.proofs.count_holds.Statement.{statement}
 use Rattle.entry.proofs.count_holds.Tie as tie

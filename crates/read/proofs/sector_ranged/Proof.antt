@@ -1,7 +1,7 @@
 use mathlib.Core.Path.{ap, sym, _∙_}
 use lib.Dec.{ltb}
 use Prim.Native.Nat.{ℕ}
-use Rattle.layout.proofs.Lists.{is-no, is-yes, all-yes, all-no, all-one}
+use Rattle.lists.specs.Tests.{is-no, is-yes, all-yes, all-no, all-one}
 use borrow.Author.Needs.{needs}
 use Rattle.read.proofs.sector_ranged.Statement.{statement}
 use Rattle.read.proofs.sector_ranged.Tie as tie

@@ -15,12 +15,11 @@ use Rattle.meaning.specs.Layout.{hit, slots, directorySectors}
 use Rattle.meaning.specs.declared.Geometry.{Geometry}
 use Rattle.layout.specs.Room.{Room}
 use Rattle.layout.specs.Number.{number}
-use Rattle.layout.proofs.Lists.{le-or-lt, every-count, not-both}
-use Rattle.seek.proofs.Below.{allBelow, all-below}
-use Rattle.check_map.proofs.Laws.{count-more, count-none}
-use Rattle.check_walk.proofs.Lists.{every-append, every-true}
-use Rattle.laws.specs.Members
-use Rattle.seek.proofs.Laws.{slotsFor, slots-are}
+use Rattle.lists.specs.Tests.{le-or-lt, every-count, not-both}
+use Rattle.lists.specs.Below.{allBelow, all-below}
+use Rattle.lists.specs.Ranges.{every-append, every-true, count-more, count-none}
+use Rattle.lists.specs.Members
+use Rattle.seek.proofs.SeekSteps.{slotsFor, slots-are}
 use Rattle.check_met.specs.Met.{HitCopied, metAt}
 
 -- Rows ------------------------------------------------------------------------------------------------------------------------

@@ -8,16 +8,14 @@ use lib.ListN.{length, take, drop}
 use lib.Dec.{leb}
 use Rattle.meaning.specs.Bits.{bit}
 use Rattle.meaning.specs.Layout.{granuleBytes, field, entryAt}
-use Rattle.meaning.specs.Sizes
 use Rattle.meaning.specs.Names.{wellFormed}
 use Rattle.meaning.specs.Entries.{nameOf, sizeOf, sectorCount, endByte}
 use Rattle.meaning.specs.Chain.{owned}
-use Rattle.meaning.specs.Consistent.{nameHolds, sizeHolds}
+use Rattle.meaning.specs.Consistent.{nameHolds, sizeHolds, countHolds}
 use Rattle.meaning.specs.declared.Geometry.{Geometry}
 use Rattle.layout.specs.Room.{Room, Slot}
-use Rattle.layout.proofs.Laws.{name-part}
-use Rattle.layout.proofs.Lists.{all-yes, all-no, all-one, is-no, is-yes}
-use Rattle.entry.specs.Count.{countHolds}
+use Rattle.layout.proofs.OneStep.{name-part}
+use Rattle.lists.specs.Tests.{all-yes, all-no, all-one, is-no, is-yes}
 
 -- a part of eleven bytes
 pub cut : (a : ℕ) → a + 11 - a ≡ 11

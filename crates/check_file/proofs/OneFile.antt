@@ -11,20 +11,19 @@ use borrow.Author.Tests.{eq-eqb, ne-eqb}
 use Rattle.meaning.specs.Lists.{all, any}
 use Rattle.meaning.specs.Bits.{bit}
 use Rattle.meaning.specs.Layout.{field, hit, slots, directorySectors, granuleSectors}
-use Rattle.meaning.specs.Entries.{inUse, extension, primary, nameOf, sectorCount, endByte}
+use Rattle.meaning.specs.Entries.{inUse, extension, inUsePrimary, nameOf, sectorCount, endByte}
 use Rattle.meaning.specs.Chain.{chain, chainFrom, owned}
-use Rattle.meaning.specs.Consistent.{hitHolds}
+use Rattle.meaning.specs.Consistent.{hitHolds, countHolds}
 use Rattle.meaning.specs.declared.Geometry.{Geometry}
 use Rattle.layout.specs.Room.{Room}
-use Rattle.layout.proofs.Laws.{digit-at, name-part}
-use Rattle.layout.proofs.Lists.{all-yes, all-no, all-one, any-skip, not-yes, not-no, any-one, not-both, all-out}
-use Rattle.seek.proofs.Laws.{slots-length}
+use Rattle.layout.proofs.OneStep.{digit-at, name-part}
+use Rattle.lists.specs.Tests.{all-yes, all-no, all-one, any-skip, not-yes, not-no, any-one, not-both, all-out}
+use Rattle.seek.proofs.SeekSteps.{slots-length}
 use Rattle.check_map.specs.Marks.{marked, allows}
 use Rattle.check_walk.specs.Walk.{Place, Walked, chainHolds}
 use Rattle.meaning.specs.Names.{hash, wellFormed}
-use Rattle.laws.specs.Members
+use Rattle.lists.specs.Members
 use Rattle.check_file.specs.Slots.{leastOf, nameFits, fileFits, slotFits, chainOf, ownedOf, opens, slotsFit, FileSeen, Seen}
-use Rattle.entry.specs.Count.{countHolds}
 
 -- Bits --------------------------------------------------------------------------------------------------------------------
 
@@ -95,7 +94,7 @@ module _ (g : Geometry) (d : List ℕ) (s : ℕ) where
       record { answer = sym (all-no (ap (λ (b : Bool). b && true) h) _); map = λ q. not-both q refl; meets = λ q. not-both q refl }
 
   -- no file starts here
-  seen-plain : {m met : List ℕ} {r : Bool} → primary g d s ≡ false → r ≡ hitHolds g d s → Seen g d (s ∷ []) m m met met r
+  seen-plain : {m met : List ℕ} {r : Bool} → inUsePrimary g d s ≡ false → r ≡ hitHolds g d s → Seen g d (s ∷ []) m m met met r
   unfolding slotsFit slotFits opens ownedOf chainOf allows marked all any
   seen-plain h e = record { answer = rw (h, e, and-true, and-true, and-true); map = λ q. rw h; meets = λ q. rw h }
 
@@ -128,7 +127,7 @@ module _ (g : Geometry) (d : List ℕ) (s : ℕ) where
   seen-file {m} {m′} {met} {met′} {h} {f} {r} e z q n x w =
       let u : inUse g d s ≡ true = ap (bit 4) (sym q) ∙ bit-on 4 f n in
       let v : extension g d s ≡ false = ap (bit 7) (sym q) ∙ bit-off 7 f x in
-      let p : primary g d s ≡ true = rw (u, v) in
+      let p : inUsePrimary g d s ≡ true = rw (u, v) in
       let k : slotFits g d s ≡ fileFits g d s = all-yes (hit-is e (ne-eqb _ _ z) u) _ ∙ all-one _ ∙ any-skip (not-yes p) _ ∙ any-one (fileFits g d s) in
       let own : ownedOf g d s ≡ owned g d s = rw p in
       let cha : chainOf g d s ≡ chain g d s = rw p in

@@ -13,7 +13,8 @@ use Rattle.meaning.specs.Layout.{entryAt, hitAt}
 use Rattle.meaning.specs.Names.{hash, wellFormed, fold}
 use Rattle.meaning.specs.Entries.{dateByte}
 use Rattle.meaning.specs.Free.{freeSlots, freeSlot, permitted}
-use Rattle.meaning.specs.Refusals.{nameRefusal, first, check, newInRange, noHandle}
+use Rattle.meaning.specs.Refusals.{nameRefusal, first, check, newInRange}
+use Rattle.meaning.specs.Handles.{noHandle}
 use Rattle.meaning.specs.LookUp.{named, missing, slotOf}
 use Rattle.meaning.specs.Open.{admits, openedAt}
 use Rattle.meaning.specs.Create.{newEntry, newSlot, withEntry, createRefusals, create}
@@ -22,13 +23,13 @@ use Rattle.meaning.specs.declared.Handle.{Handle}
 use Rattle.meaning.specs.declared.NewFile.{NewFile}
 use Rattle.meaning.specs.declared.Created.{Created}
 use Rattle.meaning.specs.declared.Refusal.{Refusal}
-use Rattle.laws.specs.Members
-use Rattle.laws.specs.Members.{In}
+use Rattle.lists.specs.Members
+use Rattle.lists.specs.Members.{In}
 use Rattle.layout.specs.Room.{Slot}
-use Rattle.layout.proofs.Lists.{all-at, all-yes, all-no, all-none, first-hit, first-skip, first-none, not-yes, not-no}
-use Rattle.layout.proofs.Sound.{slot-of}
-use Rattle.handle.proofs.Laws.{check-stop, check-then, length-range}
-use Rattle.copy.proofs.Laws.{sets-append}
+use Rattle.lists.specs.Tests.{all-at, all-yes, all-no, all-none, first-hit, first-skip, first-none, not-yes, not-no}
+use Rattle.layout.proofs.HasRoom.{slot-of}
+use Rattle.passed.proofs.Checked.{check-stop, check-then, length-range}
+use Rattle.copy.proofs.OneByOne.{sets-append}
 use Rattle.look_up.proofs.Open.{slot-found}
 
 -- day, month, year and record length as the entry can hold them

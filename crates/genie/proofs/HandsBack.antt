@@ -17,8 +17,8 @@ use Rattle.meaning.specs.declared.Incoming.{Incoming}
 use Rattle.meaning.specs.declared.LookedUp.{LookedUp}
 use Rattle.meaning.specs.declared.Listed.{Listed}
 use Rattle.laws.specs.Carried.{carried-own, carried-other}
-use Rattle.layout.proofs.Lists.{first-hit}
-use Rattle.handle.proofs.Laws.{check-stop, check-then}
+use Rattle.lists.specs.Tests.{first-hit}
+use Rattle.passed.proofs.Checked.{check-stop, check-then}
 use Rattle.refusal.specs.Short.{short}
 use Rattle.name_spelling.specs.Hands.{Hands}
 use Rattle.name_spelling.proofs.Comes.{hands-bad, hands-good, hands-name}

@@ -6,7 +6,7 @@ use native.Mathlib.Nat.{pow-suc}
 use lib.Bits.{bitAnd, bitOr, and-block, or-block, and-zero-r, or-zero-r}
 use lib.Dec.{eqb}
 use borrow.Author.Tests.{eqb-true}
-use Rattle.seek.proofs.Below.{all-below}
+use Rattle.lists.specs.Below.{all-below}
 use Rattle.meaning.specs.Bits.{putDigit}
 
 pub shl-one : (u : ℕ) → u < 8 → 1 * 2 ^ u % 256 ≡ 2 ^ u

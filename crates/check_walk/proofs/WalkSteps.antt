@@ -8,22 +8,22 @@ use native.Mathlib.Nat.{zero-add, add-mul, one-mul, mul-le-mul}
 use lib.ListN.{length, getD, set, length-append}
 use lib.Dec.{eqb, ltb, leb}
 use borrow.Author.Tests.{le-leb, lt-leb, lt-ltb, le-ltb, eqb-true, not-false}
-use Rattle.meaning.specs.Lists.{count, every, each, all, any, length-count}
+use Rattle.meaning.specs.Lists.{count, every, each, all, any}
+use Rattle.lists.specs.Members.{length-count}
 use Rattle.meaning.specs.Layout.{granules, field, hit, isSlot, granuleSectors, mostBlocks}
-use Rattle.meaning.specs.Sizes
-use Rattle.meaning.specs.Entries.{runs, runsFrom, block, second, runStart, runLength, runGranules, entryGranules, marker, link}
+use Rattle.meaning.specs.Entries.{runs, runsFrom, block, pairByte, runStart, runLength, runGranules, entryGranules, marker, link}
 use Rattle.meaning.specs.Chain.{chainFrom}
 use Rattle.meaning.specs.Consistent.{pairsHold, runsHold}
 use Rattle.meaning.specs.declared.Geometry.{Geometry}
 use Rattle.layout.specs.Room.{Room}
-use Rattle.layout.proofs.Laws.{left-more, runs-more, runs-none}
-use Rattle.layout.proofs.Lists.{and-l, and-r, all-at, all-yes, all-no, all-one, all-none, any-skip, every-count, is-no, is-yes, any-one, not-both, on, off, all-out}
+use Rattle.layout.proofs.OneStep.{runs-more, runs-none}
+use Rattle.lists.specs.Tests.{and-l, and-r, all-at, all-yes, all-no, all-one, all-none, any-skip, every-count, is-no, is-yes, any-one, not-both, on, off, all-out}
 use Rattle.check_map.specs.Marks.{marked, allows, Marks}
-use Rattle.check_map.proofs.Laws.{marked-append, allows-append}
-use Rattle.laws.specs.Members
+use Rattle.check_map.proofs.MarkLists.{marked-append, allows-append}
+use Rattle.lists.specs.Members
 use Rattle.check_walk.specs.Walk.{TakesRun, runHolds, unused, entryFits, Entered, Walked, goesOn, markerHolds, chainHolds, onward, granulesOf}
 use Rattle.check_walk.specs.declared.Pairs.{Pairs}
-use Rattle.check_walk.proofs.Lists.{all-four, every-append, every-alike, every-true, count-cut, each-snoc, every-snoc}
+use Rattle.lists.specs.Ranges.{all-four, every-append, every-alike, every-true, count-cut, each-snoc, every-snoc, left-more}
 
 -- A run ------------------------------------------------------------------------------------------------------------------
 
@@ -48,20 +48,20 @@ module _ (g : Geometry) (d : List ℕ) (s k least : ℕ) where
   taken-not : {m m′ : List ℕ} → all (runHolds g d s k ∷ allows m least 0 (runGranules g d s k) ∷ []) ≡ false → TakesRun g d s k least m m′ 0
   taken-not h = record { small = omega arith; no′ = λ e. h; yes′ = λ n. absurd (n refl) }
 
-  pub takes-unit : {m m′ : List ℕ} {x : ℕ} → x ≡ second g d s k → g .units ≤ x / 32 → TakesRun g d s k least m m′ 0
+  pub takes-unit : {m m′ : List ℕ} {x : ℕ} → x ≡ pairByte g d s k → g .units ≤ x / 32 → TakesRun g d s k least m m′ 0
   takes-unit e h = taken-not (all-no (all-no (le-ltb _ _ (rw e at h)) _) _)
 
-  pub takes-disk : {m m′ : List ℕ} {x y w : ℕ} → x ≡ second g d s k → y ≡ block g d s k → w ≡ granules g → w < y * g .units + x / 32 + (1 + x % 32)
+  pub takes-disk : {m m′ : List ℕ} {x y w : ℕ} → x ≡ pairByte g d s k → y ≡ block g d s k → w ≡ granules g → w < y * g .units + x / 32 + (1 + x % 32)
       → TakesRun g d s k least m m′ 0
   takes-disk e f q h = taken-not (all-no (all-out _ 1 (lt-leb _ _ (rw (e, f, q) at h))) _)
 
-  pub takes-map : {m m′ : List ℕ} {x y : ℕ} {r : Bool} → x ≡ second g d s k → y ≡ block g d s k
+  pub takes-map : {m m′ : List ℕ} {x y : ℕ} {r : Bool} → x ≡ pairByte g d s k → y ≡ block g d s k
       → Marks m least 0 (count (y * g .units + x / 32) (1 + x % 32)) m′ r → not r ≡ true → TakesRun g d s k least m m′ 0
   takes-map {m} {m′} {x} {y} {r} e f w h =
       let w′ : Marks m least 0 (runGranules g d s k) m′ r = rw (e, f) at w in
       taken-not (all-out _ 1 (is-no (w′ .answer) h))
 
-  pub takes-run : {m m′ : List ℕ} {x y w : ℕ} {r : Bool} → x ≡ second g d s k → y ≡ block g d s k → w ≡ granules g → x / 32 < g .units
+  pub takes-run : {m m′ : List ℕ} {x y w : ℕ} {r : Bool} → x ≡ pairByte g d s k → y ≡ block g d s k → w ≡ granules g → x / 32 < g .units
       → y * g .units + x / 32 + (1 + x % 32) ≤ w → Marks m least 0 (count (y * g .units + x / 32) (1 + x % 32)) m′ r → not r ≡ false
       → TakesRun g d s k least m m′ (1 + x % 32)
   takes-run {m} {m′} {x} {y} {w} {r} e f q u l k′ h =

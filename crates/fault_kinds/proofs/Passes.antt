@@ -10,17 +10,17 @@ use borrow.Author.Tests.{eq-eqb, ne-eqb, lt-ltb, le-ltb, not-false}
 use Rattle.meaning.specs.Lists.{count, every, some, each, has, keep, all, any, firstOr}
 use Rattle.meaning.specs.Layout.{taken}
 use Rattle.meaning.specs.Entries.{inUse, runs, link, runStart, runLength, runGranules, entryGranules}
-use Rattle.meaning.specs.Consistent.{follows, runsHold, gatHolds}
+use Rattle.meaning.specs.Consistent.{followsBy, runsHold, gatHolds}
 use Rattle.meaning.specs.Fault.{handsOn, goodExtension, chainFault, runFault}
 use Rattle.meaning.specs.declared.Geometry.{Geometry}
 use Rattle.layout.specs.Room.{Slot}
-use Rattle.layout.proofs.Lists.{all-yes, all-one, keep-yes, keep-no, all-out}
-use Rattle.layout.proofs.Sound.{slot-of}
-use Rattle.check_walk.proofs.Lists.{every-append}
-use Rattle.laws.specs.Members
+use Rattle.lists.specs.Tests.{all-yes, all-one, keep-yes, keep-no, all-out}
+use Rattle.layout.proofs.HasRoom.{slot-of}
+use Rattle.lists.specs.Ranges.{every-append}
+use Rattle.lists.specs.Members
 use Rattle.laws.specs.Walk
-pub use Rattle.layout.proofs.Lists.{any-one}
-pub use Rattle.check_map.proofs.Laws.{count-more, count-none}
+pub use Rattle.lists.specs.Tests.{any-one}
+pub use Rattle.lists.specs.Ranges.{count-more, count-none}
 use Rattle.fault_kinds.specs.Reach.{reach}
 use Rattle.fault_kinds.specs.Tests.{startsTo, firstFile, leads, tally, goodFrom, runIn}
 use Rattle.fault_kinds.specs.Overlap.{overlaps, runsMeet}
@@ -209,21 +209,21 @@ module _ (g : Geometry) (d : List ℕ) where
 
   -- An extension -----------------------------------------------------------------------------------------------------------------
 
-  tally-yes : (x b : ℕ) → leads g d x b ≡ true → tally g d x b ≡ cond (follows g d b x) 1 2
+  tally-yes : (x b : ℕ) → leads g d x b ≡ true → tally g d x b ≡ cond (followsBy g d 0x90 b x) 1 2
   unfolding tally
-  tally-yes x b h = ap {B = ℕ} (λ (t : Bool). cond t (cond (follows g d b x) 1 2) 0) h
+  tally-yes x b h = ap {B = ℕ} (λ (t : Bool). cond t (cond (followsBy g d 0x90 b x) 1 2) 0) h
 
   tally-no : (x b : ℕ) → leads g d x b ≡ false → tally g d x b ≡ 0
   unfolding tally
-  tally-no x b h = ap {B = ℕ} (λ (t : Bool). cond t (cond (follows g d b x) 1 2) 0) h
+  tally-no x b h = ap {B = ℕ} (λ (t : Bool). cond t (cond (followsBy g d 0x90 b x) 1 2) 0) h
 
   pub tally-none : (x b : ℕ) → leads g d x b ≡ false → 0 ≡ tally g d x b
   tally-none x b h = sym (tally-no x b h)
 
-  pub tally-bad : (x b : ℕ) → leads g d x b ≡ true → follows g d b x ≡ false → 2 ≡ tally g d x b
+  pub tally-bad : (x b : ℕ) → leads g d x b ≡ true → followsBy g d 0x90 b x ≡ false → 2 ≡ tally g d x b
   tally-bad x b h f = sym (tally-yes x b h ∙ ap {B = ℕ} (λ (t : Bool). cond t 1 2) f)
 
-  pub tally-good : (x b : ℕ) → leads g d x b ≡ true → follows g d b x ≡ true → 1 ≡ tally g d x b
+  pub tally-good : (x b : ℕ) → leads g d x b ≡ true → followsBy g d 0x90 b x ≡ true → 1 ≡ tally g d x b
   tally-good x b h f = sym (tally-yes x b h ∙ ap {B = ℕ} (λ (t : Bool). cond t 1 2) f)
 
   -- the slots after b from which walks come to x
@@ -234,29 +234,29 @@ module _ (g : Geometry) (d : List ℕ) where
     pub good-bad : {t : ℕ} → b < 256 → t ≡ tally g d x b → t ≡ 2 → false ≡ goodExtension g d x
     good-bad {t} h e q = by (leads g d x b) refl
       where
-        at : leads g d x b ≡ true → (u : Bool) → follows g d b x ≡ u → false ≡ goodExtension g d x
+        at : leads g d x b ≡ true → (u : Bool) → followsBy g d 0x90 b x ≡ u → false ≡ goodExtension g d x
         at l true f = absurd (let z : t ≡ 1 = e ∙ tally-yes x b l ∙ ap {B = ℕ} (λ (t : Bool). cond t 1 2) f in let w : ⊥ = omega arith in w)
         at l false f =
-            sym (i ∙ ap (goodFrom g d x n) (keep-in (leads g d x) h l) ∙ all-out (eqb (n + length (b ∷ (later x b))) 1 ∷ _ ∷ []) 1 (ap (λ (t : Bool). t && every (λ b. follows g d b x) (later x b)) f))
+            sym (i ∙ ap (goodFrom g d x n) (keep-in (leads g d x) h l) ∙ all-out (eqb (n + length (b ∷ (later x b))) 1 ∷ _ ∷ []) 1 (ap (λ (t : Bool). t && every (λ b. followsBy g d 0x90 b x) (later x b)) f))
 
         by : (u : Bool) → leads g d x b ≡ u → false ≡ goodExtension g d x
-        by true l = at l (follows g d b x) refl
+        by true l = at l (followsBy g d 0x90 b x) refl
         by false l = absurd (let z : t ≡ 0 = e ∙ tally-no x b l in let w : ⊥ = omega arith in w)
 
     pub good-on : {t : ℕ} → b < 256 → t ≡ tally g d x b → (t ≡ 2 → ⊥) → goodExtension g d x ≡ goodFrom g d x (n + t) (later x b)
     good-on {t} h e q = by (leads g d x b) refl
       where
-        at : leads g d x b ≡ true → (u : Bool) → follows g d b x ≡ u → goodExtension g d x ≡ goodFrom g d x (n + t) (later x b)
+        at : leads g d x b ≡ true → (u : Bool) → followsBy g d 0x90 b x ≡ u → goodExtension g d x ≡ goodFrom g d x (n + t) (later x b)
         at l false f = absurd (q (e ∙ tally-yes x b l ∙ ap {B = ℕ} (λ (t : Bool). cond t 1 2) f))
         at l true f =
             let z : t ≡ 1 = e ∙ tally-yes x b l ∙ ap {B = ℕ} (λ (t : Bool). cond t 1 2) f in
             let w : n + suc (length (later x b)) ≡ n + t + length (later x b) = omega arith in
             i ∙ ap (goodFrom g d x n) (keep-in (leads g d x) h l)
-            ∙ ap (λ (j : ℕ). all (eqb j 1 ∷ (follows g d b x && every (λ b. follows g d b x) (later x b)) ∷ [])) w
-            ∙ ap (λ (u : Bool). all (eqb (n + t + length (later x b)) 1 ∷ (u && every (λ b. follows g d b x) (later x b)) ∷ [])) f
+            ∙ ap (λ (j : ℕ). all (eqb j 1 ∷ (followsBy g d 0x90 b x && every (λ b. followsBy g d 0x90 b x) (later x b)) ∷ [])) w
+            ∙ ap (λ (u : Bool). all (eqb (n + t + length (later x b)) 1 ∷ (u && every (λ b. followsBy g d 0x90 b x) (later x b)) ∷ [])) f
 
         by : (u : Bool) → leads g d x b ≡ u → goodExtension g d x ≡ goodFrom g d x (n + t) (later x b)
-        by true l = at l (follows g d b x) refl
+        by true l = at l (followsBy g d 0x90 b x) refl
         by false l =
             let z : t ≡ 0 = e ∙ tally-no x b l in
             let w : n ≡ n + t = omega arith in

@@ -9,8 +9,8 @@ use lib.ListN.{length, take, drop}
 use borrow.Author.Tests.{eq-eqb, ne-eqb}
 use Rattle.meaning.specs.Lists.{count, every, some, keep, same}
 use Rattle.meaning.specs.Layout.{granules, fitsGeometry, taken, isSlot, slots, entryAt, directorySectors, granuleSectors, roundUp}
-use Rattle.meaning.specs.Sizes
-use Rattle.meaning.specs.Entries.{primary, nameOf}
+use Rattle.lists.specs.Sizes
+use Rattle.meaning.specs.Entries.{inUsePrimary, nameOf}
 use Rattle.meaning.specs.Chain.{files}
 use Rattle.meaning.specs.Consistent.{lengthHolds, directoryTaken, consistent}
 use Rattle.meaning.specs.Refusal.{unplaced, placed}
@@ -18,12 +18,12 @@ use Rattle.meaning.specs.Fault.{faultAt, lowest, fault}
 use Rattle.meaning.specs.declared.Geometry.{Geometry}
 use Rattle.meaning.specs.declared.Refusal.{Refusal}
 use Rattle.layout.specs.Room.{Room, Slot}
-use Rattle.layout.proofs.Laws.{name-part}
-use Rattle.layout.proofs.Lists.{keep-yes, keep-no}
-use Rattle.laws.specs.Members
+use Rattle.layout.proofs.OneStep.{name-part}
+use Rattle.lists.specs.Tests.{keep-yes, keep-no}
+use Rattle.lists.specs.Members
 use Rattle.laws.specs.Facts
 use Rattle.laws.specs.Kinds
-use Rattle.fault_kinds.proofs.Laws.{count-more, count-none}
+use Rattle.fault_kinds.proofs.Passes.{count-more, count-none}
 use Rattle.fault_diagnosis.specs.Told.{sameFile, faultIn, afterSlots}
 
 pub beq-off : (a b : Bool) → a ≡ true → not b ≡ Bool·beq (not a) b
@@ -65,13 +65,13 @@ module _ (g : Geometry) (d : List ℕ) where
           let f = Facts.files-in g d (k .0) (k .1) in
           let h = ltb→lt (k .0) p (Members.and-l (ltb (k .0) p) (same (nameOf g d (k .0)) (nameOf g d p)) (k .2)) in
           Kinds.in-some (sameFile g d p) (Members.in-count (k .0) 0 p (omega arith) (omega arith))
-          (Kinds.all-three (isSlot g d (k .0)) (primary g d (k .0)) (same (nameOf g d (k .0)) (nameOf g d p)) (f .slot) (f .primary′)
+          (Kinds.all-three (isSlot g d (k .0)) (inUsePrimary g d (k .0)) (same (nameOf g d (k .0)) (nameOf g d p)) (f .slot) (f .primary′)
           (Members.and-r (ltb (k .0) p) (same (nameOf g d (k .0)) (nameOf g d p)) (k .2)))
 
       back : T (some (sameFile g d p) (count 0 p)) → T (some old (files g d))
       back v =
           let k = Kinds.some-in (sameFile g d p) (count 0 p) v in
-          let m = Kinds.all-says (isSlot g d (k .0)) (primary g d (k .0)) (same (nameOf g d (k .0)) (nameOf g d p)) (k .2) in
+          let m = Kinds.all-says (isSlot g d (k .0)) (inUsePrimary g d (k .0)) (same (nameOf g d (k .0)) (nameOf g d p)) (k .2) in
           let h = Members.count-in (k .0) 0 p (k .1) .1 in
           Kinds.in-some old (Facts.in-files g d (k .0) (record { slot = m .0; primary′ = m .1 }))
           (Members.and-i (ltb (k .0) p) (same (nameOf g d (k .0)) (nameOf g d p)) (lt→ltb (k .0) p (omega arith)) (m .2))

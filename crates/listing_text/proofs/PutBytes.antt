@@ -9,7 +9,7 @@ use lib.Dec.{eqb}
 use lib.ListN.{length, take, drop, getD, length-append, length-drop, drop-of-length-le}
 use lib.Seq.{take-suc, take-all, drop-cons, sets}
 use borrow.Author.Tests.{lt-ltb, le-ltb, eq-eqb, ne-eqb}
-use Rattle.copy.proofs.Laws.{sets-append}
+use Rattle.copy.proofs.OneByOne.{sets-append}
 use Rattle.meaning.specs.Listing.{digits, stripped, slashed}
 use Rattle.listing_text.specs.Put.{Put, none}
 

@@ -17,10 +17,10 @@ use Rattle.meaning.specs.Refusals.{nameRefusal, first, accepted, check, faultNu
 use Rattle.meaning.specs.declared.LookedUp.{LookedUp}
 use Rattle.meaning.specs.declared.Refusal.{Refusal}
 use Rattle.meaning.specs.declared.Geometry.{Geometry}
-use Rattle.laws.specs.Members
-use Rattle.laws.specs.First.{first-in}
-use Rattle.layout.proofs.Lists.{keep-yes, keep-no}
-use Rattle.handle.proofs.Laws.{check-stop}
+use Rattle.lists.specs.Members
+use Rattle.lists.specs.First.{first-in}
+use Rattle.lists.specs.Tests.{keep-yes, keep-no}
+use Rattle.passed.proofs.Checked.{check-stop}
 use Rattle.look_up.specs.Found.{Finds}
 use Rattle.look_up.specs.declared.Found.{Found}
 use Rattle.look_up.proofs.Named.{by-check}

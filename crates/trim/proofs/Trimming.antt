@@ -10,28 +10,29 @@ use lib.Dec.{eqb, not-T}
 use borrow.Author.Tests.{ne-eqb, eq-eqb}
 use Rattle.meaning.specs.Lists.{times}
 use Rattle.meaning.specs.Layout.{field, setField, freeGranule, granules, granuleBytes, granulesFor}
-use Rattle.meaning.specs.Sizes
+use Rattle.lists.specs.Sizes
 use Rattle.meaning.specs.Bits.{digit, bit}
 use Rattle.meaning.specs.Entries.{extension, runs, runStart, runLength, sizeOf, system}
 use Rattle.meaning.specs.Chain.{owned}
 use Rattle.meaning.specs.Growth.{tail}
 use Rattle.meaning.specs.Drop.{unhooked, dropOne}
-use Rattle.meaning.specs.Refusals.{first, refusal, inRange, handleRefusals, protected}
+use Rattle.meaning.specs.Refusals.{first, refusal, handleRefusals, protected}
+use Rattle.meaning.specs.Handles.{inRange}
 use Rattle.meaning.specs.Trim.{trimRefusals, trim}
 use Rattle.meaning.specs.declared.Geometry.{Geometry}
 use Rattle.meaning.specs.declared.Handle.{Handle}
 use Rattle.meaning.specs.declared.Answer.{Answer}
 use Rattle.meaning.specs.declared.Refusal.{Refusal}
-use Rattle.laws.specs.Members
+use Rattle.lists.specs.Members
 use Rattle.laws.specs.Entry.{runs-le}
 use Rattle.laws.specs.Shorter
 use Rattle.laws.specs.DropLast
 use Rattle.laws.specs.Steps.{Ready, drop-ready}
 use Rattle.layout.specs.Room.{Room, Slot}
-use Rattle.layout.proofs.Laws.{gat-low, digit-at}
-use Rattle.layout.proofs.Sound.{slot-yes}
-use Rattle.handle.proofs.Laws.{passed, passed-user}
-use Rattle.seek.specs.Seek.{Sound, Used}
+use Rattle.layout.proofs.OneStep.{gat-low, digit-at}
+use Rattle.layout.proofs.HasRoom.{slot-yes}
+use Rattle.passed.proofs.Checked.{passed, passed-user}
+use Rattle.seek.specs.Seek.{Walkable, Used}
 use Rattle.passed.proofs.Ready.{walks}
 use Rattle.trim.specs.Last.{Last, Bit}
 use Rattle.trim.proofs.Step
@@ -46,7 +47,7 @@ module _ (g : Geometry) (d : List ℕ) (p e : ℕ) (l : Last g d p e 1) where
   size : sizeOf g d p + granuleBytes g ≤ granuleBytes g * length (owned g d p)
   size = omega (arith, l .room)
 
-  pub last-sound : Sound g d
+  pub last-sound : Walkable g d
   last-sound = walks g d p (l .ready) .0
 
   pub last-entry : Used g d e
@@ -88,7 +89,7 @@ module _ (g : Geometry) (d : List ℕ) (p e : ℕ) (l : Last g d p e 1) where
 
   pub by-unhooked : {d₁ d₂ d₃ : List ℕ} {x a len b : ℕ} → x ≡ runs g d e → len ≡ runLength g d e (x - 1) → a ≡ runStart g d e (x - 1) → len ≤ 1
       → extension g d e ≡ true → x - 1 ≡ 0 → b ≡ field g d e 1
-      → d₁ ≡ setField g (setField g d e (0x16 + 2 * (x - 1)) 0xff) e (0x17 + 2 * (x - 1)) 0xff → d₂ ≡ unhooked g p d₁ e b → d₃ ≡ freeGranule g d₂ (a + len - 1)
+      → d₁ ≡ setField g (setField g d e (0x16 + 2 * (x - 1)) 0xff) e (0x17 + 2 * (x - 1)) 0xff → d₂ ≡ unhooked g d₁ e b → d₃ ≡ freeGranule g d₂ (a + len - 1)
       → (d₃ ≡ dropOne g p d) × (b ≡ tail g p (dropOne g p d))
   by-unhooked q w v h u i j y f z =
       let h′ : runLength g d (tail g p d) (runs g d (tail g p d) - 1) ≤ 1 = rw (w, q, l .last) at h in

@@ -8,18 +8,19 @@ use native.Mathlib.Omega.{arith}
 use lib.ListN.{length, getD, length-append, List·getD-append}
 use lib.Dec.{eqb}
 use borrow.Author.Tests.{leb-true, eqb-true, ne-eqb}
-use Rattle.meaning.specs.Lists.{count, each, every, any, length-count}
+use Rattle.meaning.specs.Lists.{count, each, every, any}
+use Rattle.lists.specs.Members.{length-count}
 use Rattle.meaning.specs.Layout.{isSlot, slots, fitsGeometry, granules, field, granuleBytes}
 use Rattle.meaning.specs.Bits.{bit, digit}
-use Rattle.meaning.specs.Entries.{inUse, primary, marker, link, runs, runStart, runLength, runGranules, entryGranules, sizeOf}
+use Rattle.meaning.specs.Entries.{inUse, inUsePrimary, marker, link, runs, runStart, runLength, runGranules, entryGranules, sizeOf}
 use Rattle.meaning.specs.Chain.{chainFrom, chain, owned, files}
-use Rattle.meaning.specs.Consistent.{consistent, slotHolds, fileHolds, linkHolds, runsHold, sizeHolds, followsBy, follows}
+use Rattle.meaning.specs.Consistent.{consistent, slotHolds, fileHolds, linkHoldsBy, runsHold, sizeHolds, followsBy}
 use Rattle.meaning.specs.declared.Geometry.{Geometry}
 use Rattle.layout.specs.Room.{Slot}
-use Rattle.layout.proofs.Lists.{all-at, any-last, every-keep, every-count, not-yes, getD-count, le-or-lt}
-use Rattle.layout.proofs.Sound.{room, slot-of, slot-yes}
-use Rattle.seek.specs.Seek.{Sound, Used}
-use Rattle.seek.proofs.Laws.{getD-past}
+use Rattle.lists.specs.Tests.{all-at, any-last, every-keep, every-count, not-yes, getD-count, le-or-lt}
+use Rattle.layout.proofs.HasRoom.{room, slot-of, slot-yes}
+use Rattle.seek.specs.Seek.{Walkable, Used}
+use Rattle.seek.proofs.SeekSteps.{getD-past}
 
 module _ (g : Geometry) (d : List ℕ) where
   pub at-slot : (p : ℕ → Bool) → every p (slots g d) ≡ true → (s : ℕ) → Slot g d s → p s ≡ true
@@ -33,7 +34,7 @@ module _ (g : Geometry) (d : List ℕ) where
   unfolding consistent
   slot-holds h s sl = at-slot (slotHolds g d) (all-at _ h 1) s sl
 
-  link-holds : (s : ℕ) → slotHolds g d s ≡ true → inUse g d s ≡ true → linkHolds g d s ≡ true
+  link-holds : (s : ℕ) → slotHolds g d s ≡ true → inUse g d s ≡ true → linkHoldsBy g d 0x90 s ≡ true
   unfolding slotHolds
   link-holds s h u = all-at _ (any-last _ _ (all-at _ h 1) (not-yes u)) 1
 
@@ -41,28 +42,28 @@ module _ (g : Geometry) (d : List ℕ) where
   unfolding slotHolds
   runs-hold s h u = all-at _ (any-last _ _ (all-at _ h 1) (not-yes u)) 2
 
-  linked : (s : ℕ) → linkHolds g d s ≡ true → marker g d s ≡ 0xfe → follows g d s (link g d s) ≡ true
-  unfolding linkHolds follows followsBy
+  linked : (s : ℕ) → linkHoldsBy g d 0x90 s ≡ true → marker g d s ≡ 0xfe → followsBy g d 0x90 s (link g d s) ≡ true
+  unfolding linkHoldsBy followsBy
   linked s h m = all-at _ (any-last _ _ h (ne-eqb (marker g d s) 0xff (λ q. let z : _≡_ {A = ℕ} 0xfe 0xff = sym m ∙ q in omega arith))) 1
 
-  followed : (s x : ℕ) → follows g d s x ≡ true → Used g d x
-  unfolding follows digit
+  followed : (s x : ℕ) → followsBy g d 0x90 s x ≡ true → Used g d x
+  unfolding followsBy digit
   followed s x h = record { slot = slot-of g d x (all-at _ h 0); used = ap (bit 4) (eqb-true (field g d x 0) 0x90 (all-at _ h 1)) }
 
   pub run-fits : (s k : ℕ) → runsHold g d s ≡ true → k < runs g d s → runStart g d s k + runLength g d s k ≤ granules g
   unfolding runsHold
   run-fits s k h l = leb-true _ _ (all-at _ (every-count _ 0 (runs g d s) k h (omega arith) (omega arith)) 1)
 
-  size-fits : consistent g d ≡ true → (s : ℕ) → Slot g d s → primary g d s ≡ true → sizeHolds g d s ≡ true
+  size-fits : consistent g d ≡ true → (s : ℕ) → Slot g d s → inUsePrimary g d s ≡ true → sizeHolds g d s ≡ true
   unfolding consistent files fileHolds
   size-fits h s sl p =
-      all-at _ (any-last _ _ (at-slot (λ x. any (not (primary g d x) ∷ fileHolds g d x ∷ [])) (every-keep (fileHolds g d) (primary g d) (slots g d) (all-at _ h 2)) s sl) (not-yes p)) 2
+      all-at _ (any-last _ _ (at-slot (λ x. any (not (inUsePrimary g d x) ∷ fileHolds g d x ∷ [])) (every-keep (fileHolds g d) (inUsePrimary g d) (slots g d) (all-at _ h 2)) s sl) (not-yes p)) 2
 
   size-below : (s : ℕ) → sizeHolds g d s ≡ true → sizeOf g d s ≤ granuleBytes g * length (owned g d s)
   unfolding sizeHolds
   size-below s h = leb-true _ _ (all-at _ h 1)
 
-  pub sound : fitsGeometry g d ≡ true → consistent g d ≡ true → Sound g d
+  pub sound : fitsGeometry g d ≡ true → consistent g d ≡ true → Walkable g d
   sound f h =
       record {
         room = room g d f h;
@@ -97,7 +98,7 @@ low-each : (m : ℕ) (f : ℕ → List ℕ) (j n : ℕ) → ((k : ℕ) → k < j
 low-each m f j zero h = low-nil m
 low-each m f j (suc n) h = low-append m (f j) (each f (count (j + 1) n)) (h j (omega arith)) (low-each m f (j + 1) n (λ k l. h k (omega arith)))
 
-module _ (g : Geometry) (d : List ℕ) (snd : Sound g d) where
+module _ (g : Geometry) (d : List ℕ) (snd : Walkable g d) where
   pub low-entry : (s : ℕ) → Used g d s → Low (granules g) (entryGranules g d s)
   unfolding entryGranules
   low-entry s u = low-each (granules g) (runGranules g d s) 0 (runs g d s) (λ k l. low-count (granules g) (runStart g d s k) (runLength g d s k) (snd .run s k u (omega arith)))

@@ -11,12 +11,11 @@ use lib.Dec.{eqb, leb}
 use borrow.Author.Tests.{le-leb, lt-leb, eq-eqb, ne-eqb, eqb-true}
 use Rattle.meaning.specs.Lists.{same, all, count, has}
 use Rattle.meaning.specs.Layout.{granuleSizes, granules, fitsGeometry, field, entryAt, granuleBytes, granuleSectors, sectors, mostBlocks, mostUnits, mostGranules}
-use Rattle.meaning.specs.Sizes
 use Rattle.meaning.specs.Bits.{digit}
 use Rattle.meaning.specs.Entries.{runsFrom, block, nameOf}
 use Rattle.meaning.specs.Names.{wellFormed}
 use Rattle.meaning.specs.declared.Geometry.{Geometry}
-use Rattle.layout.proofs.Lists.{all-at, all-out}
+use Rattle.lists.specs.Tests.{all-at, all-out}
 
 pub below : (a b m n : ℕ) → a ≤ m → b ≤ n → a * b ≤ m * n
 below a b m n p q = mul-le-mul {n₁ = a} {m₁ = b} {n₂ = m} {m₂ = n} p q

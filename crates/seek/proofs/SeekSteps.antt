@@ -10,15 +10,17 @@ use lib.ListN.{length, getD, length-append, List·getD-append}
 use lib.Seq.{getD-append-add}
 use lib.Dec.{eqb, ltb}
 use borrow.Author.Tests.{lt-ltb, le-ltb, eq-eqb, ne-eqb, ltb-true, ltb-false, eqb-true}
-use Rattle.meaning.specs.Lists.{count, keep, each, all, length-count}
+use Rattle.meaning.specs.Lists.{count, keep, each, all}
+use Rattle.lists.specs.Members.{length-count}
 use Rattle.meaning.specs.Layout.{isSlot, slots, directorySectors}
 use Rattle.meaning.specs.Entries.{block, runs, runsFrom, runStart, runLength, runGranules, entryGranules, marker, link}
 use Rattle.meaning.specs.Chain.{chainFrom}
 use Rattle.meaning.specs.declared.Geometry.{Geometry}
-use Rattle.layout.proofs.Laws.{left-more, left-none, runs-more, runs-none}
-use Rattle.layout.proofs.Lists.{getD-count, le-or-lt}
-use Rattle.seek.proofs.Below.{allBelow, all-below}
-use Rattle.seek.specs.Seek.{Sound, Used, Sought, seekIn, onward}
+use Rattle.layout.proofs.OneStep.{runs-more, runs-none}
+use Rattle.lists.specs.Ranges.{left-more, left-none}
+use Rattle.lists.specs.Tests.{getD-count, le-or-lt}
+use Rattle.lists.specs.Below.{allBelow, all-below}
+use Rattle.seek.specs.Seek.{Walkable, Used, Sought, seekIn, onward}
 use Rattle.seek.specs.declared.Seek.{Seek}
 
 pub seek-here : (xs ys : List ℕ) (k : ℕ) → k < length xs → seekIn (xs ++ ys) k ≡ record { here = true; at = getD xs k 0 }
@@ -210,7 +212,7 @@ module _ (g : Geometry) (d : List ℕ) where
       sym (walking-on w h ∙ sought-past _ _ _ (e .is) q .0
       ∙ ap (λ (b : Bool). getD (each (entryGranules g d) (cond b (chainFrom g d (more - 1) (link g d at)) [])) (r .at) 0) (ne-eqb (marker g d at) 0xfe (λ y. z (f ∙ y))))
 
-  pub walking-step : {s k left at seek more m t : ℕ} {r : Seek} → Sound g d → Walking s k left at seek more → 0 < more → Sought (entryGranules g d at) seek r → r .here ≡ false
+  pub walking-step : {s k left at seek more m t : ℕ} {r : Seek} → Walkable g d → Walking s k left at seek more → 0 < more → Sought (entryGranules g d at) seek r → r .here ≡ false
       → m ≡ marker g d at → m ≡ 0xfe → t ≡ link g d at → Walking s k left t (r .at) (more - 1)
   walking-step {at = at} {more = more} {t = t} {r = r} snd w h e q f z y =
       let p = sought-past _ (each (entryGranules g d) (onward g d (more - 1) at)) _ (e .is) q in

@@ -12,13 +12,13 @@ use Rattle.meaning.specs.Write.{store}
 use Rattle.meaning.specs.declared.Geometry.{Geometry}
 use mathlib.Core.Logic.{⊎-elim, _⊎_, inl, inr}
 use Rattle.meaning.specs.Layout.{directorySectors, granuleBytes}
-use Rattle.meaning.specs.Sizes
+use Rattle.lists.specs.Sizes
 use Rattle.meaning.specs.Chain.{owned}
 use Rattle.layout.specs.Room.{Room}
 use Rattle.seek.proofs.Frame.{Same, same-refl, same-trans, same-before, same-behind, same-sectors, same-place, same-room, same-sound, same-used, same-owned}
 use Rattle.write.specs.Apart.{Apart}
-use Rattle.read.specs.Part.{File, Owned, InGranule}
-use Rattle.read.proofs.Laws.{place-next}
+use Rattle.read.specs.Part.{Readable, Owned, InGranule}
+use Rattle.read.proofs.ReadParts.{place-next}
 
 -- places that follow one another
 pub store-run : (f : ℕ → ℕ) (d : List ℕ) (i : ℕ) (bs : List ℕ) → ((t : ℕ) → t < length bs → f (i + t) ≡ f i + t) → store f d i bs ≡ sets d (f i) bs
@@ -93,7 +93,7 @@ module _ (g : Geometry) (d : List ℕ) where
       let y = x .inside in let z = o .owned in let w = o .some in
       ⊎-elim (λ h. inl (omega arith)) (λ h. inr (omega arith)) (a .apart (i / granuleBytes g) (Sizes.width-lt (Sizes.bytes-pos g) i _ (omega arith)))
 
-  pub zeroing-step : {s i n at left m p : ℕ} {d′ d″ : List ℕ} → File g d s → Apart g d s → Zeroing s i n d′ at left → Owned g d s at m → InGranule g at m → m ≤ left
+  pub zeroing-step : {s i n at left m p : ℕ} {d′ d″ : List ℕ} → Readable g d s → Apart g d s → Zeroing s i n d′ at left → Owned g d s at m → InGranule g at m → m ≤ left
       → p ≡ place g d s at → d″ ≡ sets d′ p (replicate m 0) → Zeroing s i n d″ (at + m) (left - m)
   zeroing-step {s} {i} {n} {at} {left} {m} {p} {d′} {d″} f a z o x l e q =
       let r : m + (left - m) ≡ left = omega arith in
@@ -129,7 +129,7 @@ unfolding store
 store-place f f′ d i [] e = refl
 store-place f f′ d i (b ∷ bs) e = ap (λ (k : ℕ). store f (set d k b) (i + 1) bs) (e i) ∙ store-place f f′ (set d (f′ i) b) (i + 1) bs e
 
-module _ (g : Geometry) (d : List ℕ) (s : ℕ) (f : File g d s) (a : Apart g d s) where
+module _ (g : Geometry) (d : List ℕ) (s : ℕ) (f : Readable g d s) (a : Apart g d s) where
   -- bytes of the file stored: HIT and entries are as they were
   store-same : (bs : List ℕ) (i : ℕ) (d′ : List ℕ) → i + length bs ≤ granuleBytes g * length (owned g d s) → i + length bs ≤ 16777215 → Same g d d′ → Same g d (store (place g d s) d′ i bs)
   unfolding store
@@ -155,7 +155,7 @@ module _ (g : Geometry) (d : List ℕ) (s : ℕ) (f : File g d s) (a : Apart g d
     pub gap-same : Same g d d′
     gap-same = rw e (store-same (replicate zeros 0) old d (rw length-replicate gap-owned) (rw length-replicate gap-high) (same-refl g d))
 
-    pub gap-file : File g d′ s
+    pub gap-file : Readable g d′ s
     gap-file = record { sound = same-sound g d d′ (f .sound) gap-same; used = same-used g d d′ (f .sound .room) gap-same (f .used) }
 
     pub gap-then : Owned g d′ s at n

@@ -6,7 +6,7 @@ use Prim.Native.Nat.{ℕ, _+_, _-_, _≤_, _<_}
 use lib.Dec.{leb}
 use lib.ListN.{getD, set}
 use Rattle.meaning.specs.Lists.{count}
-use Rattle.layout.proofs.Laws.{left-more, left-none}
+use Rattle.lists.specs.Ranges.{left-more, left-none}
 use Rattle.check_map.specs.Marks.{marked, allows}
 
 -- One list of places after another

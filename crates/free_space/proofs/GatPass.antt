@@ -10,7 +10,7 @@ use lib.Dec.{eqb}
 use borrow.Author.Tests.{leb-true, eqb-true}
 use Rattle.meaning.specs.Lists.{count}
 use Rattle.meaning.specs.Layout.{byte, granules, granuleBytes, granuleSectors, taken, fitsGeometry}
-use Rattle.meaning.specs.Sizes
+use Rattle.lists.specs.Sizes
 use Rattle.meaning.specs.Free.{freeGranules}
 use Rattle.meaning.specs.Stretch
 use Rattle.meaning.specs.FreeSpace.{stretch, longestIn, longest, freeSpace}
@@ -19,8 +19,8 @@ use Rattle.meaning.specs.declared.Space.{Space}
 use Rattle.meaning.specs.declared.Refusal.{Refusal}
 use Rattle.meaning.specs.Refusal.{unplaced}
 use Rattle.laws.specs.Stretches.{stretch-taken, stretch-free, stretch-le}
-use Rattle.layout.proofs.Laws.{left-none}
-use Rattle.layout.proofs.Lists.{keep-yes, keep-no, all-at, first-hit, first-skip, first-none, not-yes, not-no}
+use Rattle.lists.specs.Ranges.{left-none}
+use Rattle.lists.specs.Tests.{keep-yes, keep-no, all-at, first-hit, first-skip, first-none, not-yes, not-no}
 use Rattle.space.proofs.Clear.{freeIn, gatByte, taken-at, blocks-more, block-next}
 use Rattle.free_space.specs.Pass.{Gat, Tells, ended, met, bits}
 use Rattle.free_space.specs.declared.Seen.{Seen}

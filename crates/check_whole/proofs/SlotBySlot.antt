@@ -8,25 +8,25 @@ use lib.Dec.{eqb, leb}
 use borrow.Author.Tests.{eq-eqb, ne-eqb, leb-true, eqb-true}
 use Rattle.meaning.specs.Lists.{count, every, each, has, all}
 use Rattle.meaning.specs.Layout.{granules, fitsGeometry, directorySectors, aboveTen, granuleSectors, mostBlocks, mostUnits}
-use Rattle.meaning.specs.Sizes
+use Rattle.lists.specs.Sizes
 use Rattle.meaning.specs.Consistent.{lengthHolds}
 use Rattle.meaning.specs.declared.Geometry.{Geometry}
 use Rattle.layout.specs.Room.{Room}
-use Rattle.layout.proofs.Laws.{below}
-use Rattle.layout.proofs.Lists.{all-at, all-yes, all-no, all-one, not-both}
-use Rattle.layout.proofs.Sound.{low-twenty, fits-directory}
-use Rattle.seek.proofs.Below.{allBelow, all-below, alike, alike-eq}
+use Rattle.layout.proofs.OneStep.{below}
+use Rattle.lists.specs.Tests.{all-at, all-yes, all-no, all-one, not-both}
+use Rattle.layout.proofs.HasRoom.{low-twenty, fits-directory}
+use Rattle.lists.specs.Below.{allBelow, all-below, alike, alike-eq}
 use Rattle.check_map.specs.Marks.{marked, allows}
-use Rattle.check_map.proofs.Laws.{marked-append, count-more, count-none}
-use Rattle.check_walk.proofs.Lists.{every-append}
-use Rattle.laws.specs.Members
-use Rattle.check_whole.specs.Slots.{Fits, by32, sectorSlots, diskSlots}
+use Rattle.check_map.proofs.MarkLists.{marked-append}
+use Rattle.lists.specs.Ranges.{every-append, count-more, count-none}
+use Rattle.lists.specs.Members
+use Rattle.check_whole.specs.Slots.{FitsImage, by32, sectorSlots, diskSlots}
 use Rattle.check_file.specs.Slots.{leastOf, slotFits, chainOf, ownedOf, opens, one, slotsFit, Seen}
-use Rattle.check_file.proofs.Laws.{all-three}
+use Rattle.check_file.proofs.OneFile.{all-three}
 
 -- Geometry and the directory's length ---------------------------------------------------------------------------------------
 
-pub fits : (g : Geometry) (d : List ℕ) → fitsGeometry g d ≡ true → Fits g d
+pub fits : (g : Geometry) (d : List ℕ) → fitsGeometry g d ≡ true → FitsImage g d
 unfolding fitsGeometry granules
 fits g d f =
     let a = leb-true (g .blocks) mostBlocks (all-at _ f 1) in
@@ -46,7 +46,7 @@ fits g d f =
       ten = leb-true _ _ (all-at _ f 6);
     }
 
-pub room-of : (g : Geometry) (d : List ℕ) → Fits g d → lengthHolds g d ≡ true → Room g d
+pub room-of : (g : Geometry) (d : List ℕ) → FitsImage g d → lengthHolds g d ≡ true → Room g d
 room-of g d f h =
     let e = fits-directory g d h in
     record {

@@ -10,24 +10,26 @@ use lib.ListN.{length, getD, take, drop, length-map}
 use lib.Seq.{drop-cons, sets, sets-eq}
 use lib.Dec.{ltb, leb}
 use borrow.Author.Tests.{leb-true, leb-false, ltb-true, ltb-false, eq-eqb, ne-eqb}
-use Rattle.meaning.specs.Lists.{count, all, length-count}
+use Rattle.meaning.specs.Lists.{count, all}
+use Rattle.lists.specs.Members.{length-count}
 use Rattle.meaning.specs.Layout.{byte, sectorNumbers, granuleBytes}
-use Rattle.meaning.specs.Sizes
+use Rattle.lists.specs.Sizes
 use Rattle.meaning.specs.Chain.{owned, place}
 use Rattle.meaning.specs.Entries.{sizeOf, sectorCount, endByte}
 use Rattle.meaning.specs.Read.{fetch, readRefusals, readRecord, sectorRefusals, sectorBytes, readSector}
-use Rattle.meaning.specs.Refusals.{first, refusal, inRange, movedTo, handleRefusals, notForReading}
+use Rattle.meaning.specs.Refusals.{first, refusal, handleRefusals, notForReading}
+use Rattle.meaning.specs.Handles.{inRange, movedTo}
 use Rattle.meaning.specs.declared.Geometry.{Geometry}
 use Rattle.meaning.specs.declared.Handle.{Handle}
 use Rattle.meaning.specs.declared.Answer.{Answer}
 use Rattle.meaning.specs.declared.Part.{Part}
 use Rattle.meaning.specs.declared.Refusal.{Refusal}
 use native.Mathlib.Decide.{ℕ-discrete}
-use Rattle.layout.proofs.Lists.{all-at, first-at, count-append}
-use Rattle.handle.proofs.Laws.{ownRow, passed, walks, ranges, handle-stop, handle-then}
-use Rattle.seek.proofs.Sound.{owned-low}
-use Rattle.copy.proofs.Laws.{sets-append}
-use Rattle.read.specs.Part.{File, Owned, Rest, InGranule, partOf}
+use Rattle.lists.specs.Tests.{all-at, first-at, count-append}
+use Rattle.passed.proofs.Checked.{ownRow, passed, walks, ranges, handle-stop, handle-then}
+use Rattle.seek.proofs.IsWalkable.{owned-low}
+use Rattle.copy.proofs.OneByOne.{sets-append}
+use Rattle.read.specs.Part.{Readable, Owned, Rest, InGranule, partOf}
 use borrow.Rule.Slice.Shared.{byByte}
 
 -- bytes whose places follow one another
@@ -68,14 +70,14 @@ module _ (g : Geometry) (d : List ℕ) where
       let f : (i + t) % granuleBytes g ≡ i % granuleBytes g + t = ap (λ (j : ℕ). j % granuleBytes g) q ∙ Sizes.at-rest _ _ h in
       ap (λ (k : ℕ). granuleBytes g * getD (owned g d s) k 0 + (i + t) % granuleBytes g) e ∙ (let z : granuleBytes g * getD (owned g d s) (i / granuleBytes g) 0 + (i + t) % granuleBytes g ≡ granuleBytes g * getD (owned g d s) (i / granuleBytes g) 0 + i % granuleBytes g + t = omega arith in z)
 
-  pub place-fits : (s i n : ℕ) → File g d s → Owned g d s i n → InGranule g i n → place g d s i + n ≤ length d
+  pub place-fits : (s i n : ℕ) → Readable g d s → Owned g d s i n → InGranule g i n → place g d s i + n ≤ length d
   unfolding place
   place-fits s i n f o x =
       let a = o .owned in let b = o .some in let y = x .inside in let w = f .sound .room .whole in
       let l = owned-low g d (f .sound) s (f .used) (i / granuleBytes g) (Sizes.width-lt (Sizes.bytes-pos g) i _ (omega arith)) in
       omega (arith, mul-le-mul-left (granuleBytes g) l)
 
-  pub fetch-part : (s i n : ℕ) → File g d s → Owned g d s i n → InGranule g i n → fetch g d s i n ≡ take n (drop (place g d s i) d)
+  pub fetch-part : (s i n : ℕ) → Readable g d s → Owned g d s i n → InGranule g i n → fetch g d s i n ≡ take n (drop (place g d s i) d)
   unfolding fetch
   fetch-part s i n f o x =
       let y = x .inside in
@@ -137,7 +139,7 @@ module _ (g : Geometry) (d : List ℕ) where
   accepted h b {b′} {no} q e n f = rw (← e, n, f, q)
 
   pub record Allowed (h : Handle) (room : ℕ) : Type 0 where
-    pub file : File g d (h .slot)
+    pub file : Readable g d (h .slot)
     pub owned : Owned g d (h .slot) (h .at) (h .len)
     pub short : h .len ≤ 256
     pub fits : h .len ≤ room
@@ -196,7 +198,7 @@ module _ (g : Geometry) (d : List ℕ) where
 
   -- an accepted sector read
   pub record Sector (h : Handle) (k : ℕ) : Type 0 where
-    pub file : File g d (h .slot)
+    pub file : Readable g d (h .slot)
     pub held : k < sectorCount g d (h .slot)
     pub some : 1 ≤ sectorBytes g d (h .slot) k
     pub owned : 256 * k + sectorBytes g d (h .slot) k ≤ granuleBytes g * length (owned g d (h .slot))

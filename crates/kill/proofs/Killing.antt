@@ -4,7 +4,8 @@ use mathlib.Core.List.{List, [], _∷_}
 use mathlib.Core.Bool.{Bool}
 use Prim.Native.Nat.{ℕ}
 use borrow.Author.Tests.{ne-eqb}
-use Rattle.meaning.specs.Refusals.{first, refusal, inRange, handleRefusals, protected}
+use Rattle.meaning.specs.Refusals.{first, refusal, handleRefusals, protected}
+use Rattle.meaning.specs.Handles.{inRange}
 use Rattle.meaning.specs.Kill.{killRefusals, killed, kill}
 use Rattle.meaning.specs.declared.Geometry.{Geometry}
 use Rattle.meaning.specs.declared.Handle.{Handle}
