@@ -5,8 +5,6 @@ use mathlib.Core.Bool.{Bool, _&&_, and-assoc}
 use Prim.Native.Nat.{ℕ, _+_, _-_, _≤_, _<_}
 use lib.Dec.{leb}
 use lib.ListN.{getD, set}
-use Rattle.meaning.specs.Lists.{count}
-use Rattle.lists.specs.Ranges.{left-more, left-none}
 use Rattle.check_map.specs.Marks.{marked, allows}
 
 -- One list of places after another
@@ -21,9 +19,3 @@ allows-append m least v [] ys = refl
 allows-append m least v (x ∷ xs) ys =
     ap (λ (b : Bool). leb least (getD m x 0) && b) (allows-append (set m x v) least v xs ys)
     ∙ sym (and-assoc (leb least (getD m x 0)) (allows (set m x v) least v xs) (allows (marked (set m x v) v xs) least v ys))
-
-pub count-more : {i n : ℕ} → i < n → count i (n - i) ≡ i ∷ count (i + 1) (n - (i + 1))
-count-more {i} {n} h = ap (count i) (left-more h)
-
-pub count-none : {i n : ℕ} → n ≤ i → count i (n - i) ≡ []
-count-none {i} {n} h = ap (count i) (left-none h)

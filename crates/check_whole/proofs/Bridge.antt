@@ -130,7 +130,7 @@ module _ (g : Geometry) (d : List ℕ) where
           record {
             pairs = ap (pairsHold g d) q ∙ all-at _ e 0;
             runs-hold = ap (runsHold g d) q ∙ all-at _ e 1;
-            linked = ap (linkHoldsBy g d) 0x90 q ∙ marker-links h s (chainHolds g d h left (link g d s)) marks;
+            linked = ap (linkHoldsBy g d 0x90) q ∙ marker-links h s (chainHolds g d h left (link g d s)) marks;
             hits = inl q;
           }
 

@@ -113,7 +113,7 @@ module _ (g : Geometry) (d : List ℕ) where
 
   -- the size fits exactly if the sector count does
   size-le : (p : ℕ) → Bytes d → countHolds (sectorCount g d p) (endByte g d p) ≡ true → sectorCount g d p ≤ granuleSectors g * length (owned g d p) → sizeOf g d p ≤ granuleBytes g * length (owned g d p)
-  unfolding sizeOf countHolds field
+  unfolding sizeOf field
   size-le p b c l = go (eqb (endByte g d p) 0) refl
     where
       go : (t : Bool) → eqb (endByte g d p) 0 ≡ t → cond (eqb (endByte g d p) 0) (256 * sectorCount g d p) (256 * (sectorCount g d p - 1) + endByte g d p) ≤ granuleBytes g * length (owned g d p)
@@ -221,7 +221,7 @@ module _ (g : Geometry) (d : List ℕ) where
         (Members.any-if (inUse g d s) (entryHolds g d s) (λ u. Members.true-T (entry-holds s t u)))))
 
     filed : (p : ℕ) → IsFile g d p → Entry.Filed g d p
-    unfolding fileFits nameFits countHolds
+    unfolding fileFits nameFits
     filed p f =
         let e = file-fits p f in
         let n = all-at _ e 1 in
@@ -284,7 +284,7 @@ module _ (g : Geometry) (d : List ℕ) where
         Bridge.says-chain g d (hit g d p) (length (slots g d)) p (Change.in-length (Facts.in-slots g d p (f .slot))) (λ x i. good p x f i) (Change.tail-marker g d c p f)
 
     file-good : (p : ℕ) → IsFile g d p → fileFits g d p ≡ true
-    unfolding fileFits nameFits countHolds
+    unfolding fileFits nameFits
     file-good p f =
         let q = Change.filed-at g d c p f in
         all-yes (Members.T-true (q .zero′)) _

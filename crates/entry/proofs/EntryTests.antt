@@ -46,9 +46,9 @@ module _ (g : Geometry) (d : List ℕ) (s : ℕ) where
       ap not q ∙ sym (ap (λ (b : Bool). b && not (bit 5 (field g d s 0))) (ap wellFormed (sym (name-is r sl e)) ∙ is-yes w t))
 
   pub size-bad : {f : Bool} → f ≡ countHolds (sectorCount g d s) (endByte g d s) → not f ≡ true → false ≡ sizeHolds g d s
-  unfolding sizeHolds countHolds
+  unfolding sizeHolds
   size-bad w t = sym (all-no (is-no w t) _)
 
   pub size-good : {f : Bool} {k w n : ℕ} → f ≡ countHolds (sectorCount g d s) (endByte g d s) → not f ≡ false → k ≡ sizeOf g d s → w ≡ granuleBytes g → n ≡ length (owned g d s) → leb k (w * n) ≡ sizeHolds g d s
-  unfolding sizeHolds countHolds
+  unfolding sizeHolds
   size-good {f} {k} {w} {n} u t p v q = ap (λ (z : ℕ). leb k (z * n)) v ∙ ap (λ (z : ℕ). leb z (granuleBytes g * n)) p ∙ ap (λ (z : ℕ). leb (sizeOf g d s) (granuleBytes g * z)) q ∙ sym (all-yes (is-yes u t) _ ∙ all-one _)

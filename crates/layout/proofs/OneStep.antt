@@ -20,12 +20,6 @@ use Rattle.lists.specs.Tests.{all-at, all-out}
 pub below : (a b m n : ℕ) → a ≤ m → b ≤ n → a * b ≤ m * n
 below a b m n p q = mul-le-mul {n₁ = a} {m₁ = b} {n₂ = m} {m₂ = n} p q
 
-pub left-more : {n i : ℕ} → i < n → n - i ≡ suc (n - (i + 1))
-left-more h = omega arith
-
-pub left-none : {n i : ℕ} → n ≤ i → n - i ≡ 0
-left-none h = omega arith
-
 -- the GAT byte of a granule that there is
 pub gat-low : (g : Geometry) (n : ℕ) → n < granules g → 1 ≤ g .units → n / g .units < g .blocks
 unfolding granules

@@ -16,7 +16,7 @@ granuleSizes = 5 ∷ 10 ∷ 20 ∷ []
 
 -- How many sectors a granule has: as many as the geometry states. Where it states a size that is none, every call but one without a disk
 -- is refused with 1; only so that no sum divides by 0 a granule has 5 there. Shut, as the next one is: what is proved of them is proved
--- from the laws of Sizes alone, which hold of any number of sectors above 0.
+-- from the laws of `lists: Sizes` alone, which hold of any number of sectors above 0.
 unfoldable pub granuleSectors : Geometry → ℕ
 granuleSectors g = cond (has granuleSizes (g .granule)) (g .granule) 5
 
@@ -41,7 +41,7 @@ highest g = mostGranules * granuleBytes g
 abbrev pub sectorNumbers : Geometry → ℕ
 sectorNumbers g = mostGranules * granuleSectors g
 
--- Granule number = block × units + unit: so many granules are on a disk.
+-- how many granules a disk has: granule number = block × units + unit
 unfoldable pub granules : Geometry → ℕ
 granules g = g .blocks * g .units
 
@@ -62,7 +62,7 @@ fitsGeometry g d =
 abbrev pub granuleSectorsOf : Geometry → ℕ → List ℕ
 granuleSectorsOf g n = count (n * granuleSectors g) (granuleSectors g)
 
--- n things of k each to hold a size: ⌈size / k⌉
+-- how many things of k each hold a size: ⌈size / k⌉
 abbrev pub roundUp : ℕ → ℕ → ℕ
 roundUp size k = (size + (k - 1)) / k
 
@@ -96,6 +96,7 @@ freeGranule g d n = set d (gatAt g n) (withoutBit (n % g .units) (byte d (gatAt 
 abbrev pub row : ℕ → ℕ
 row slot = slot / 32
 
+-- 01's s: the entry stands in directory sector s + 2
 abbrev pub sector : ℕ → ℕ
 sector slot = slot % 32
 

@@ -1,5 +1,5 @@
 -- Write record, sequential and random (01, Calls).
-use Prim.Native.Nat.{ℕ, _+_, _-_, _/_, _%_, max}
+use Prim.Native.Nat.{ℕ, _+_, _-_, max}
 use mathlib.Core.Bool.{Bool, cond}
 use mathlib.Core.List.{List, [], _∷_}
 use lib.Dec.{leb}
@@ -28,14 +28,13 @@ unfoldable pub sizeAfter : Mode → ℕ → ℕ → ℕ
 sizeAfter Sequential old end = end
 sizeAfter Random old end = max old end
 
-module _ (g : Geometry) (d : List ℕ) where
-  -- The directory's end of file is written with each write: end byte and sector count. B is set.
-  abbrev pub withSize : List ℕ → ℕ → ℕ → List ℕ
-  withSize d′ s size =
-      let n = Entries.sectorsFor size in
-      Layout.setField g (Layout.setField g (Layout.setField g (Layout.setField g d′ s 3 (Entries.endByteFor size)) s 0x14 (n % 256)) s 0x15 (n / 256))
-      s 1 (withBit 5 (Layout.field g d′ s 1))
+-- The directory's end of file is written with each write: end byte and sector count. B is set.
+abbrev pub withSize : Geometry → List ℕ → ℕ → ℕ → List ℕ
+withSize g d s size =
+    let ended = Layout.setField g d s 3 (Entries.endByteFor size) in
+    Layout.setField g (Entries.setWord g ended s 0x14 (Entries.sectorsFor size)) s 1 (withBit 5 (Layout.field g d s 1))
 
+module _ (g : Geometry) (d : List ℕ) where
   -- A write takes exactly what the file lacks of ⌈new size / bytes of a granule⌉ granules (01: ⌈new size/1280⌉).
   abbrev pub toWrite : Mode → Handle → ℕ
   toWrite m h = Growth.lacking g d (h .slot) (Layout.granulesFor g (sizeAfter m (Entries.sizeOf g d (h .slot)) (h .at + h .len)))
@@ -58,5 +57,5 @@ module _ (g : Geometry) (d : List ℕ) where
       let d₂ = store f d₁ old (replicate (h .at - old) 0) in
       let d₃ = store f d₂ (h .at) (take (h .len) b) in (
         record { refusal = Refusals.refusal g d no; handle = cond (Refusals.accepted no) (Handles.movedTo h end) h },
-        cond (Refusals.accepted no) (withSize d₃ s (sizeAfter m old end)) d,
+        cond (Refusals.accepted no) (withSize g d₃ s (sizeAfter m old end)) d,
       )

@@ -1,5 +1,5 @@
 -- Where theorems and code meet: what a call by a handle has passed (`Ready`, which laws.Steps keeps through every step of a growth or
--- a trim) gives what the walks ask (`Sound`, `Used` of seek).
+-- a trim) gives what the walks ask (`Walkable`, `Used` of seek).
 use mathlib.Core.List.{List}
 use Prim.Native.Nat.{ℕ}
 use Rattle.meaning.specs.Entries.{inUse}

@@ -10,9 +10,8 @@ ghost use Prim.Native.Nat.{_+_, _-_, _*_, _<_, _≤_};
 ghost use lib.ListN.{length, drop};
 ghost use lib.Seq.{sets};
 ghost use denote.Ref.{ptr};
-ghost use lib.Dec.{leb, ltb};
+ghost use lib.Dec.{leb};
 ghost use Rattle.meaning.specs.Lists.{all};
-ghost use Rattle.meaning.specs.Layout.{sectorNumbers};
 ghost use Rattle.meaning.specs.Read.{fetch, readRefusals, readRecord, sectorRefusals, sectorBytes, readSector};
 ghost use Rattle.meaning.specs.Entries.{sectorCount};
 ghost use Rattle.layout.specs.Room.{Room, Slot};
@@ -121,21 +120,11 @@ pub fn record_checked(
     }
 }
 
-// Test 12 of a call that names a sector.
-pub fn sector_ranged(g: Geometry, h: Handle, k: usize) -> bool
-    ensures { λ r. ⌜ r ≡ all (inRange g h ∷ ltb k (sectorNumbers g) ∷ []) ⌝ }
-{
-    if !handle::in_range(g, h) {
-        return false;
-    }
-    k < layout::sector_numbers(g)
-}
-
 pub fn sector_number(image: &[u8], g: Geometry, h: Handle, k: usize, checked: Refusal) -> u8
     requires { ⌜ checked ≡ check g (now image) ⌝ }
     ensures { λ r. ⌜ r ≡ first (sectorRefusals g (now (image .entry)) h k) ⌝ }
 {
-    let ranged = sector_ranged(g, h, k);
+    let ranged = handle::sector_ranged(g, h, k);
     let number = handle::reading_number(image, g, h, ranged, checked);
     if number != 0 {
         return number;

@@ -33,6 +33,10 @@ pub enum Call {
         handle: Vec<u8>,
         buffer: Vec<u8>,
     },
+    LoadRecord {
+        handle: Vec<u8>,
+        buffer: Vec<u8>,
+    },
     ReadSector {
         handle: Vec<u8>,
         k: usize,
@@ -55,6 +59,10 @@ pub enum Call {
     BringBack {
         slot: usize,
     },
+    Play {
+        trace: Vec<u8>,
+        results: Vec<u8>,
+    },
     List {
         which: usize,
         name: Vec<u8>,
@@ -72,6 +80,7 @@ impl Call {
             Call::Open { .. } => "open",
             Call::Create { .. } => "create",
             Call::ReadRecord { .. } => "read record",
+            Call::LoadRecord { .. } => "load record",
             Call::ReadSector { .. } => "read sector",
             Call::WriteRecord { sequential: true, .. } => "write sequential",
             Call::WriteRecord { sequential: false, .. } => "write random",
@@ -79,9 +88,28 @@ impl Call {
             Call::Trim { .. } => "trim",
             Call::Kill { .. } => "kill",
             Call::BringBack { .. } => "bring back",
+            Call::Play { .. } => "play",
             Call::List { .. } => "list",
             Call::Count => "count",
             Call::Free => "free",
+        }
+    }
+
+    /// The bytes that it lends: handle, buffer and name. Play's trace is lent in the name's place, its results as a buffer.
+    pub fn lends(&self) -> (&[u8], &[u8], &[u8]) {
+        match self {
+            Call::Check | Call::BringBack { .. } | Call::Count | Call::Free => (&[], &[], &[]),
+            Call::Name { name, folded } => (&[], folded, name),
+            Call::LookUp { name } | Call::List { name, .. } => (&[], &[], name),
+            Call::Open { name, handle, .. } | Call::Create { name, handle, .. } => (handle, &[], name),
+            Call::ReadRecord { handle, buffer }
+            | Call::LoadRecord { handle, buffer }
+            | Call::WriteRecord { handle, buffer, .. } => (handle, buffer, &[]),
+            Call::ReadSector { handle, .. }
+            | Call::Allot { handle, .. }
+            | Call::Trim { handle }
+            | Call::Kill { handle } => (handle, &[], &[]),
+            Call::Play { trace, results } => (&[], results, trace),
         }
     }
 
@@ -92,13 +120,14 @@ impl Call {
 }
 
 /// The numbers that each call can give, 0 included; a 2 stands for all of 21 to 30.
-const ROWS: [(&str, &[Number]); 17] = [
+const ROWS: [(&str, &[Number]); 19] = [
     ("name", &[0, 12, 3]),
     ("check", &[0, 1, 2]),
     ("look up", &[0, 1, 2, 3, 4]),
     ("open", &[0, 1, 2, 12, 3, 4, 5]),
     ("create", &[0, 1, 2, 12, 3, 5, 8]),
     ("read record", &[0, 1, 2, 12, 7, 6, 10]),
+    ("load record", &[0, 1, 2, 12, 7, 6, 31, 32, 33]),
     ("read sector", &[0, 1, 2, 12, 7, 6, 10]),
     ("write sequential", &[0, 1, 2, 12, 7, 6, 11, 9, 8]),
     ("write random", &[0, 1, 2, 12, 7, 6, 11, 9, 8]),
@@ -106,6 +135,7 @@ const ROWS: [(&str, &[Number]); 17] = [
     ("trim", &[0, 1, 2, 12, 7, 6]),
     ("kill", &[0, 1, 2, 12, 7, 6]),
     ("bring back", &[0, 1, 2, 12, 17, 6, 18, 19, 20]),
+    ("play", &[0, 1, 2, 14, 15]),
     ("list", &[0, 1, 2, 12]),
     ("count", &[0, 1, 2]),
     ("free", &[0, 1]),
@@ -184,20 +214,9 @@ impl Lent {
 const UNSET: usize = 0x5EED_0B57_AC1E_D00D;
 
 pub fn perform(library: &dyn Library, image: &mut [u8], g: &Geometry, call: &Call) -> Outcome {
-    let nothing = Vec::new();
-    let (handle, buffer, name) = match call {
-        Call::Open { handle, name, .. } | Call::Create { handle, name, .. } => (handle, &nothing, name),
-        Call::LookUp { name } | Call::List { name, .. } => (&nothing, &nothing, name),
-        Call::Name { name, folded } => (&nothing, folded, name),
-        Call::ReadRecord { handle, buffer } | Call::WriteRecord { handle, buffer, .. } => {
-            (handle, buffer, &nothing)
-        }
-        Call::ReadSector { handle, .. } | Call::Allot { handle, .. } => (handle, &nothing, &nothing),
-        Call::Trim { handle } | Call::Kill { handle } => (handle, &nothing, &nothing),
-        Call::Check | Call::BringBack { .. } | Call::Count | Call::Free => (&nothing, &nothing, &nothing),
-    };
+    let (handle, buffer, name) = call.lends();
     let (mut handle, mut buffer, mut name) = (Lent::new(handle), Lent::new(buffer), Lent::new(name));
-    let (mut one, mut two, mut three) = (UNSET, UNSET, UNSET);
+    let (mut one, mut two, mut three, mut four) = (UNSET, UNSET, UNSET, UNSET);
     let (mut place, mut fault_slot) = (UNSET, UNSET);
     let mut numbers = Vec::new();
     let number = match call {
@@ -226,6 +245,22 @@ pub fn perform(library: &dyn Library, image: &mut [u8], g: &Geometry, call: &Cal
             number
         }
         Call::ReadRecord { .. } => library.read_record(image, g, handle.lend(), buffer.lend(), &mut fault_slot),
+        Call::LoadRecord { .. } => {
+            let (handle, buffer) = (handle.lend(), buffer.lend());
+            let number = library.load_record(
+                image,
+                g,
+                handle,
+                buffer,
+                &mut one,
+                &mut two,
+                &mut three,
+                &mut four,
+                &mut fault_slot,
+            );
+            numbers = vec![("kind", one), ("address", two), ("count", three), ("position", four)];
+            number
+        }
         Call::ReadSector { k, .. } => {
             let number = library.read_sector(image, g, handle.lend(), *k, &mut one, &mut two, &mut fault_slot);
             numbers = vec![("from", one), ("to", two)];
@@ -240,6 +275,12 @@ pub fn perform(library: &dyn Library, image: &mut [u8], g: &Geometry, call: &Cal
         Call::BringBack { slot } => {
             let number = library.bring_back(image, g, *slot, &mut one, &mut two, &mut fault_slot);
             numbers = vec![("slots", one), ("granules", two)];
+            number
+        }
+        Call::Play { .. } => {
+            let (trace, results) = (name.lend(), buffer.lend());
+            let number = library.play(image, g, trace, results, &mut one, &mut two, &mut three, &mut fault_slot);
+            numbers = vec![("calls", one), ("byte", two), ("bit", three)];
             number
         }
         Call::List { which, .. } => {

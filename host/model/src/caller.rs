@@ -7,7 +7,9 @@ use crate::directory::{directory_sectors, entry, files, owned, slots, MARKER_LIN
 use crate::disks::{in_small_letters, random_name, random_name_like, Disk};
 use crate::geometry::{Geometry, GRANULE_SIZES, MOST_UNITS};
 use crate::handle::{Handle, HANDLE_BYTES};
+use crate::load::LEAST_BUFFER;
 use crate::names::{well_formed, Name, BLANK, FULL_NAME_BYTES};
+use crate::play::{pack, Recorded};
 use crate::random::Random;
 use crate::space::free_granules;
 
@@ -87,7 +89,11 @@ impl Caller {
     pub fn learn(&mut self, call: &Call, outcome: &Outcome) {
         let gives = matches!(
             call,
-            Call::Open { .. } | Call::Create { .. } | Call::ReadRecord { .. } | Call::WriteRecord { .. }
+            Call::Open { .. }
+                | Call::Create { .. }
+                | Call::ReadRecord { .. }
+                | Call::LoadRecord { .. }
+                | Call::WriteRecord { .. }
         );
         if gives && outcome.number == ACCEPTED {
             self.handles.push(Handle::read(&outcome.handle).expect("19 bytes"));
@@ -320,7 +326,22 @@ impl Caller {
 
     /// Some call.
     pub fn make(&self, random: &mut Random, image: &[u8], g: &Geometry) -> Call {
-        match random.within(0, 110) {
+        match random.within(0, 122) {
+            111..=118 => {
+                let handle = self.loading_handle(random, image, g);
+                let least = LEAST_BUFFER - usize::from(random.percent(4));
+                let buffer = (0..least + random.within(0, 40)).map(|_| random.byte()).collect();
+                Call::LoadRecord { handle: self.lent_handle(random, &handle), buffer }
+            }
+            119..=122 => {
+                let (trace, calls) = self.trace(random, image, g);
+                let room = match random.within(0, 9) {
+                    0 => random.within(0, calls),
+                    1..=3 => calls + random.within(0, 9),
+                    _ => calls,
+                };
+                Call::Play { trace, results: (0..room).map(|_| random.byte()).collect() }
+            }
             0..=2 => Call::Check,
             3..=9 => Call::LookUp { name: self.name(random, image, g) },
             10..=19 => Call::Open {
@@ -347,7 +368,10 @@ impl Caller {
             }
             50..=69 => {
                 let handle = self.handle(random, image, g, "write");
-                let buffer = Self::buffer(random, &handle);
+                let mut buffer = Self::buffer(random, &handle);
+                if random.percent(25) {
+                    Self::program(random, &mut buffer);
+                }
                 Call::WriteRecord {
                     handle: self.lent_handle(random, &handle),
                     sequential: random.percent(50),
@@ -379,6 +403,98 @@ impl Caller {
                 Call::Name { name, folded: Self::name_room(random) }
             }
         }
+    }
+
+    /// Fills bytes with the records of a program file, as far as they go: good ones, and now and then none.
+    fn program(random: &mut Random, bytes: &mut [u8]) {
+        let mut text = Vec::new();
+        while text.len() < bytes.len() {
+            let count = *random.pick(&[0, 1, 2, 2, 3, 4, 5, 9]);
+            match random.within(0, 9) {
+                0..=4 => text.extend([1, count]),
+                5 | 6 => text.extend([5, count]),
+                7 => text.extend([2, 2]),
+                8 => text.extend([2, count]),
+                _ => text.push(random.byte()),
+            }
+            let whole = text.ends_with(&[2, 2]) || random.percent(85);
+            let follow = if whole { count.into() } else { random.within(0, count.into()) };
+            text.extend((0..follow).map(|_| random.byte()));
+        }
+        bytes.copy_from_slice(&text[..bytes.len()]);
+    }
+
+    /// A handle for a load read, its position mostly where a record may stand; of some files one that looks like a program.
+    fn loading_handle(&self, random: &mut Random, image: &[u8], g: &Geometry) -> Handle {
+        let mut handle = self.handle(random, image, g, "read");
+        for _ in 0..4 {
+            let (size, _) = Self::extent(image, g, &handle);
+            let granules = match directory_within(image, g) {
+                Some(d) if size > 0 => owned(image, g, d, handle.slot),
+                _ => Vec::new(),
+            };
+            let width = g.granule_bytes();
+            let byte =
+                |i: usize| granules.get(i / width).and_then(|granule| image.get(granule * width + i % width));
+            // Start addresses, records without data and comments are rare in other files.
+            let (mut codes, mut rare) = (Vec::new(), Vec::new());
+            for i in 0..size {
+                match (byte(i), byte(i + 1)) {
+                    (Some(1 | 2), Some(2)) | (Some(5), Some(..=9)) => rare.push(i),
+                    (Some(1 | 2 | 5), _) => codes.push(i),
+                    _ => {}
+                }
+            }
+            match random.within(0, 9) {
+                0 => return Handle { position: size as u32, ..handle },
+                1 => return handle,
+                2..=7 if !rare.is_empty() => return Handle { position: *random.pick(&rare) as u32, ..handle },
+                8 if !codes.is_empty() => return Handle { position: *random.pick(&codes) as u32, ..handle },
+                _ => handle = self.handle(random, image, g, "read"),
+            }
+        }
+        handle
+    }
+
+    /// A trace, mostly a good one, and how many calls it was packed from.
+    fn trace(&self, random: &mut Random, image: &[u8], g: &Geometry) -> (Vec<u8>, usize) {
+        let mut names: Vec<Vec<u8>> = (0..random.within(1, 6)).map(|_| self.name(random, image, g)).collect();
+        names.iter_mut().for_each(|name| name.resize(FULL_NAME_BYTES, BLANK));
+        let calls: Vec<Recorded> = (0..random.within(0, 12))
+            .map(|_| {
+                let (mut position, mut length, mut fill) = (0, 0, 0);
+                let operation = random.within(1, 7);
+                if matches!(operation, 2 | 3 | 7) {
+                    position = match random.within(0, 9) {
+                        0 => random.within(0, (1 << 24) - 1),
+                        1 => g.highest_position() - random.within(0, 300),
+                        _ => random.within(0, 4 * g.granule_bytes()),
+                    };
+                }
+                if operation == 4 {
+                    position = random.within(0, 4 * g.granule_sectors);
+                }
+                if matches!(operation, 1 | 2 | 3 | 7) {
+                    length = if random.percent(8) { random.within(0, 511) } else { random.within(1, 256) };
+                }
+                if matches!(operation, 2 | 3) {
+                    fill = random.byte().into();
+                }
+                let zero = usize::from(random.percent(1));
+                Recorded { operation, file: random.within(0, names.len() - 1), position, length, fill, zero }
+            })
+            .collect();
+        let mut trace = pack(&names, &calls);
+        match random.within(0, 9) {
+            0 => trace.truncate(random.within(0, trace.len())),
+            1 => {
+                let place = random.within(0, 8 * trace.len() - 1);
+                trace[place / 8] ^= 0x80 >> (place % 8);
+            }
+            2 => trace.extend((0..random.within(1, 9)).map(|_| random.byte())),
+            _ => {}
+        }
+        (trace, calls.len())
     }
 
     /// A slot to bring a file back from: mostly one whose entry looks like a killed file's.

@@ -20,6 +20,7 @@ use crate::model::Model;
 use crate::names::{fold, written, FULL_NAME_BYTES};
 use crate::pairs::{holding, side, tell, Side, Told, CHANGES};
 use crate::plain::files_of;
+use crate::play::TRACE;
 use crate::random::Random;
 use crate::space::free_stretches;
 use std::collections::BTreeMap;
@@ -68,6 +69,14 @@ pub const EVENTS: &[&str] = &[
     "bring back of a file without granules",
     "bring back of a file with an extension",
     "bring back of a file with many extensions",
+    "load record tells data",
+    "load record tells a record without data",
+    "load record tells a start address",
+    "load record passes a comment over",
+    "a load read crosses granules",
+    "play makes calls",
+    "play meets a refused call",
+    "play breaks off",
     "list tells a file",
     "list tells no more",
     "free space of a disk that is not consistent",
@@ -245,6 +254,10 @@ impl<'a> SideBySide<'a> {
             let told = format!("a bad byte at place {}", mine.numbered(PLACE));
             seen.event(EVENTS.iter().find(|event| **event == told).expect("a place of a name"), true);
         }
+        if let Call::Play { trace, .. } = call {
+            let ends = mine.number == TRACE && mine.numbered("byte") == trace.len() && mine.numbered("bit") == 0;
+            seen.event("play breaks off", ends);
+        }
         if mine.number == STALE {
             let held = Handle::read(&mine.handle).expect("a handle of 19 bytes");
             let folded = Handle { name: held.name.map(fold), ..held };
@@ -337,6 +350,7 @@ impl Before {
     fn of(image: &[u8], g: &Geometry, call: &Call) -> Before {
         Before(match call {
             Call::ReadRecord { handle, .. }
+            | Call::LoadRecord { handle, .. }
             | Call::ReadSector { handle, .. }
             | Call::WriteRecord { handle, .. }
             | Call::Allot { handle, .. }
@@ -370,6 +384,11 @@ impl Before {
                 seen.event("create makes a file of a name in small letters", !old && small);
                 let slot = outcome.handle[0];
                 seen.event("create opens a system file", old && entry(image, g, slot).is_system());
+            }
+            Call::Play { .. } => {
+                let results = &outcome.buffer[..outcome.numbered("calls")];
+                seen.event("play makes calls", results.contains(&ACCEPTED));
+                seen.event("play meets a refused call", results.iter().any(|&number| number != ACCEPTED));
             }
             Call::List { .. } => {
                 seen.event("list tells a file", outcome.numbered("more") == 1);
@@ -408,6 +427,16 @@ impl Before {
                 seen.event("read of a system file", was.entry.is_system());
                 seen.event("read crosses granules", crosses);
                 seen.event("a long buffer's rest is untouched", buffer.len() > length);
+            }
+            Call::LoadRecord { .. } => {
+                let (data, count) = (outcome.numbered("kind") == 1, outcome.numbered("count"));
+                seen.event("load record tells data", data && count > 0);
+                seen.event("load record tells a record without data", data && count == 0);
+                seen.event("load record tells a start address", !data);
+                let behind = Handle::read(&outcome.handle).expect("19 bytes").position();
+                seen.event("load record passes a comment over", data && behind - position > count + 4);
+                let crosses = data && position / g.granule_bytes() != (behind - 1) / g.granule_bytes();
+                seen.event("a load read crosses granules", crosses);
             }
             Call::WriteRecord { sequential, .. } => {
                 let end = position + length;

@@ -3,7 +3,7 @@
 
 use genie_model::call::{perform, Call, FAULT_SLOT, PLACE};
 use genie_model::caller::Caller;
-use genie_model::calls::{ACCEPTED, NAME, NO_PLACE, NO_SLOT};
+use genie_model::calls::{Birth, ACCEPTED, NAME, NO_PLACE, NO_SLOT};
 use genie_model::consistency::consistent;
 use genie_model::directory::{directory_sectors, entry, files, owned, slots};
 use genie_model::disks::random_disk;
@@ -14,6 +14,7 @@ use genie_model::interleave::{demand_three, Tally};
 use genie_model::model::Model;
 use genie_model::names::{comes_in, hash};
 use genie_model::plain::files_of;
+use genie_model::play::{read, Recorded, TRACE};
 use genie_model::random::Random;
 use genie_model::space::{free_granules, reserved_granules};
 
@@ -43,7 +44,7 @@ fn calls_do_what_a_plain_list_of_files_would() {
             assert!(outcome.within, "{at}");
             caller.learn(&call, &outcome);
 
-            let (lent_handle, lent_buffer, lent_name) = lent(&call);
+            let (lent_handle, lent_buffer, lent_name) = call.lends();
             if outcome.number != ACCEPTED {
                 assert!(image == before, "a refusal wrote: {at}");
                 assert_eq!(outcome.buffer, lent_buffer, "{at}");
@@ -59,7 +60,10 @@ fn calls_do_what_a_plain_list_of_files_would() {
                     let good = match *title {
                         FAULT_SLOT => *told == NO_SLOT,
                         PLACE => (*told < NO_PLACE) == (outcome.number == NAME),
-                        title => *told == 0 || title == "compared" && outcome.number == 4,
+                        "compared" => *told == 0 || outcome.number == 4,
+                        "position" => *told == 0 || (31..=33).contains(&outcome.number),
+                        "byte" | "bit" => *told == 0 || outcome.number == TRACE,
+                        _ => *told == 0,
                     };
                     assert!(good, "{title} = {told}: {at}");
                 }
@@ -72,7 +76,7 @@ fn calls_do_what_a_plain_list_of_files_would() {
             assert_eq!(free_granules(&image, &g).count() + reserved.len() + all_owned, g.granules(), "{at}");
 
             // Reads answer the plain file's bytes.
-            let handled = || Handle::read(&lent_handle).expect("accepted");
+            let handled = || Handle::read(lent_handle).expect("accepted");
             match &call {
                 Call::ReadRecord { .. } => {
                     let h = handled();
@@ -138,6 +142,12 @@ fn calls_do_what_a_plain_list_of_files_would() {
             // The list afterwards is the list with the call's own file changed.
             let files_before = plain.len();
             effect(&mut plain, &g, &call);
+            if let Call::Play { trace, .. } = &call {
+                let (names, recorded) = read(trace).expect("accepted");
+                for (one, _) in recorded.iter().zip(&outcome.buffer).filter(|(_, number)| **number == ACCEPTED) {
+                    effect(&mut plain, &g, &single(&names[one.file], one));
+                }
+            }
             let after = files_of(&image, &g);
             assert!(after == plain, "other files than a plain list: {at}");
             if let Call::Create { .. } = call {
@@ -152,19 +162,24 @@ fn owns_directory(image: &[u8], g: &genie_model::geometry::Geometry, d: usize, f
     owned(image, g, d, file).iter().any(|granule| directory.contains(granule))
 }
 
-/// What a call lends: handle, buffer, name.
-fn lent(call: &Call) -> (Vec<u8>, Vec<u8>, Vec<u8>) {
-    let none = Vec::new;
-    match call.clone() {
-        Call::Check | Call::BringBack { .. } | Call::Count | Call::Free => (none(), none(), none()),
-        Call::Name { name, folded } => (none(), folded, name),
-        Call::LookUp { name } | Call::List { name, .. } => (none(), none(), name),
-        Call::Open { name, handle, .. } | Call::Create { name, handle, .. } => (handle, none(), name),
-        Call::ReadRecord { handle, buffer } | Call::WriteRecord { handle, buffer, .. } => (handle, buffer, none()),
-        Call::ReadSector { handle, .. }
-        | Call::Allot { handle, .. }
-        | Call::Trim { handle }
-        | Call::Kill { handle } => (handle, none(), none()),
+/// A call of a trace that was accepted, as a call by itself.
+fn single(name: &[u8], one: &Recorded) -> Call {
+    let name = comes_in(name).expect("accepted");
+    let held = Handle { slot: 0, level: 0, length: one.length as u16, position: one.position as u32, name };
+    let handle = held.bytes().to_vec();
+    match one.operation {
+        1 => {
+            let (length, name) = (one.length, name.to_vec());
+            let birth = Birth { day: 0, month: 0, year: 0, length, main_code: 0, worker_code: 0, checking: false };
+            Call::Create { name, birth, handle }
+        }
+        2 | 3 => {
+            Call::WriteRecord { handle, sequential: one.operation == 2, buffer: vec![one.fill as u8; one.length] }
+        }
+        4 => Call::Allot { handle, k: one.position },
+        5 => Call::Trim { handle },
+        6 => Call::Kill { handle },
+        _ => Call::ReadRecord { handle, buffer: Vec::new() },
     }
 }
 

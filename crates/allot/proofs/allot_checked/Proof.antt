@@ -12,7 +12,7 @@ use Rattle.allot.proofs.allot_checked.Lts as lts
 use Rattle.growth.proofs.grow.Reads as grow-reads
 use Rattle.handle.proofs.changing_number.Reads as changing-number-reads
 use Rattle.layout.proofs.granule_sectors.Reads as granule-sectors-reads
-use Rattle.read.proofs.sector_ranged.Reads as sector-ranged-reads
+use Rattle.handle.proofs.sector_ranged.Reads as sector-ranged-reads
 use Rattle.refusal.proofs.carried.Reads as carried-reads
 
 sector-ranged-requires : tie.Need-sector-ranged-requires

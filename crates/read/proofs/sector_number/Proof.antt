@@ -15,7 +15,7 @@ use Rattle.read.proofs.sector_number.Reads as reads
 use Rattle.read.proofs.sector_number.Lts as lts
 use Rattle.handle.proofs.reading_number.Reads as reading-number-reads
 use Rattle.layout.proofs.word.Reads as word-reads
-use Rattle.read.proofs.sector_ranged.Reads as sector-ranged-reads
+use Rattle.handle.proofs.sector_ranged.Reads as sector-ranged-reads
 
 sector-ranged-requires : tie.Need-sector-ranged-requires
 sector-ranged-requires c κs = search needs

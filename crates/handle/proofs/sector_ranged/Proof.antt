@@ -3,11 +3,11 @@ use lib.Dec.{ltb}
 use Prim.Native.Nat.{ℕ}
 use Rattle.lists.specs.Tests.{is-no, is-yes, all-yes, all-no, all-one}
 use borrow.Author.Needs.{needs}
-use Rattle.read.proofs.sector_ranged.Statement.{statement}
-use Rattle.read.proofs.sector_ranged.Tie as tie
-use Rattle.read.proofs.sector_ranged.Reads as reads
-use Rattle.read.proofs.sector_ranged.Lts as lts
+use Rattle.handle.proofs.sector_ranged.Statement.{statement}
+use Rattle.handle.proofs.sector_ranged.Tie as tie
+use Rattle.handle.proofs.sector_ranged.Reads as reads
+use Rattle.handle.proofs.sector_ranged.Lts as lts
 use Rattle.handle.proofs.in_range.Reads as in-range-reads
 use Rattle.layout.proofs.sector_numbers.Reads as sector-numbers-reads
 
 in-range-requires : tie.Need-in-range-requires

@@ -1,4 +1,4 @@
--- Lists as the things they hold: from the tests of `meaning` to statements, and back. Nothing here knows of a disk.
+-- Lists as the things they hold: from the tests of `meaning` to statements (`T b`, `In`, `Distinct`), and back. Nothing here knows of a disk.
 use mathlib.Core.Path.{_≡_, refl, ap, sym, _∙_, subst}
 use mathlib.Core.Logic.{_≢_, _⊎_, inl, inr}
 use mathlib.Core.Bool.{Bool, true, false, not, cond, _&&_, _||_}
@@ -8,7 +8,7 @@ use native.Mathlib.Nat.{add-zero}
 use native.Mathlib.Omega.{arith}
 use native.Mathlib.Decide.{ℕ-discrete}
 use lib.Dec.{T, eqb, eqb→eq, eqb-refl, T-not, not-T}
-use lib.ListN.{getD}
+use lib.ListN.{length, getD}
 use Rattle.meaning.specs.Lists.{count, every, keep, each, has, distinct, same, all, any, lastOr}
 use Rattle.meaning.specs.Lists.In.{here, there}
 use Rattle.meaning.specs.Lists.Distinct.{done, fresh}
@@ -182,6 +182,10 @@ in-keep p {x} (there {y = y} {xs = xs} i) t = go (p y) (in-keep p i t)
     go : (b : Bool) → In x (keep p xs) → In x (cond b (y ∷ keep p xs) (keep p xs))
     go true i = there i
     go false i = i
+
+pub length-count : (i n : ℕ) → length (count i n) ≡ n
+length-count i zero = refl
+length-count i (suc n) = ap suc (length-count (i + 1) n)
 
 pub count-in : (x i n : ℕ) → In x (count i n) → (i ≤ x) × (x < i + n)
 count-in x i zero m = none-in m

@@ -1,4 +1,4 @@
--- Laws of the words on lists, and of Bool.
+-- Tests as a program makes them: `b ≡ true` and `b ≡ false`, lists of them, and the first refusal of a list. Members.antt has the same as statements.
 use mathlib.Core.Path.{_≡_, refl, sym, ap, _∙_}
 use mathlib.Core.List.{List, [], _∷_, _++_}
 use mathlib.Core.Bool.{Bool, true, false, not, cond, _&&_, _||_, and-true, or-false, true≢false}

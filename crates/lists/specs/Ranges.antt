@@ -1,4 +1,4 @@
--- Tests over a range of places, and what a failed test says of a list of them.
+-- The numbers from i up to n, one by one as a loop counts them, and tests over such a range.
 use mathlib.Core.Path.{_≡_, refl, sym, ap, _∙_}
 use mathlib.Core.List.{List, [], _∷_, _++_}
 use mathlib.Core.Bool.{Bool, true, _&&_, _||_, and-assoc, and-true}
@@ -9,9 +9,21 @@ use native.Mathlib.Nat.{zero-add}
 use lib.Dec.{ltb}
 use borrow.Author.Tests.{lt-ltb}
 use Rattle.meaning.specs.Lists.{count, every, each, all}
 use Rattle.lists.specs.Tests.{count-append}
-use Rattle.lists.specs.Ranges.{count-none}
 use Rattle.lists.specs.Members
+
+-- what is left of n from i on: one more, or nothing
+pub left-more : {n i : ℕ} → i < n → n - i ≡ suc (n - (i + 1))
+left-more h = omega arith
+
+pub left-none : {n i : ℕ} → n ≤ i → n - i ≡ 0
+left-none h = omega arith
+
+pub count-more : {i n : ℕ} → i < n → count i (n - i) ≡ i ∷ count (i + 1) (n - (i + 1))
+count-more {i} {n} h = ap (count i) (left-more h)
+
+pub count-none : {i n : ℕ} → n ≤ i → count i (n - i) ≡ []
+count-none {i} {n} h = ap (count i) (left-none h)
 
 pub all-four : {a a′ b b′ c c′ e e′ : Bool} → a ≡ a′ → b ≡ b′ → c ≡ c′ → e ≡ e′ → all (a ∷ b ∷ c ∷ e ∷ []) ≡ all (a′ ∷ b′ ∷ c′ ∷ e′ ∷ [])
 all-four p q r s = rw (p, q, r, s)
