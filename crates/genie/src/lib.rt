@@ -698,9 +698,9 @@ pub extern "C" fn genie_load_record(
     a.refusal.number
 }
 
-// Two drives (02 §9): the image and geometry of drive 0, then of drive 1. A handle has 20 bytes; fewer are taken for zeros.
-#[no_mangle]
-pub extern "C" fn genie_drives_look_up(
+// Two drives (02 §9): the image and geometry of drive 0, then of drive 1. A handle has 20 bytes; fewer are taken for zeros. They are marked as
+// exports with their declarations in host/include/genie.h, not before: the header is held against the marks.
+pub fn genie_drives_look_up(
     image0: &[u8],
     blocks0: usize,
     units0: usize,
@@ -756,8 +756,7 @@ pub extern "C" fn genie_drives_look_up(
     l.refusal.number
 }
 
-#[no_mangle]
-pub extern "C" fn genie_drives_open(
+pub fn genie_drives_open(
     image0: &[u8],
     blocks0: usize,
     units0: usize,
@@ -824,8 +823,7 @@ pub extern "C" fn genie_drives_open(
     a.refusal.number
 }
 
-#[no_mangle]
-pub extern "C" fn genie_drives_create(
+pub fn genie_drives_create(
     image0: &mut [u8],
     blocks0: usize,
     units0: usize,
@@ -895,8 +893,7 @@ pub extern "C" fn genie_drives_create(
     c.refusal.number
 }
 
-#[no_mangle]
-pub extern "C" fn genie_drives_read_record(
+pub fn genie_drives_read_record(
     image0: &[u8],
     blocks0: usize,
     units0: usize,
@@ -948,8 +945,7 @@ pub extern "C" fn genie_drives_read_record(
     0
 }
 
-#[no_mangle]
-pub extern "C" fn genie_drives_read_sector(
+pub fn genie_drives_read_sector(
     image0: &[u8],
     blocks0: usize,
     units0: usize,
@@ -1003,8 +999,7 @@ pub extern "C" fn genie_drives_read_sector(
     p.refusal.number
 }
 
-#[no_mangle]
-pub extern "C" fn genie_drives_write_record(
+pub fn genie_drives_write_record(
     image0: &mut [u8],
     blocks0: usize,
     units0: usize,
@@ -1058,8 +1053,7 @@ pub extern "C" fn genie_drives_write_record(
     0
 }
 
-#[no_mangle]
-pub extern "C" fn genie_drives_allot(
+pub fn genie_drives_allot(
     image0: &mut [u8],
     blocks0: usize,
     units0: usize,
@@ -1107,8 +1101,7 @@ pub extern "C" fn genie_drives_allot(
     a.refusal.number
 }
 
-#[no_mangle]
-pub extern "C" fn genie_drives_trim(
+pub fn genie_drives_trim(
     image0: &mut [u8],
     blocks0: usize,
     units0: usize,
@@ -1155,8 +1148,7 @@ pub extern "C" fn genie_drives_trim(
     a.refusal.number
 }
 
-#[no_mangle]
-pub extern "C" fn genie_drives_kill(
+pub fn genie_drives_kill(
     image0: &mut [u8],
     blocks0: usize,
     units0: usize,

@@ -271,8 +271,8 @@ module _ (k l : ℕ) (g h : Geometry) (put : List ℕ → List ℕ → Pair) (on
       (subst (λ (v : World). Agree p k l a b xs ys zs v v) (sym (both-run .ends)) x)
 
 pub apart : Apart
-apart p k l zeroth zeroth kl = absurd (kl refl)
-apart p k l first first kl = absurd (kl refl)
+apart p k l zeroth zeroth kl a b xs ys zs zs′ i i′ t t′ = absurd (kl refl)
+apart p k l first first kl a b xs ys zs zs′ i i′ t t′ = absurd (kl refl)
 apart p k l zeroth first kl a b xs ys zs zs′ i i′ t t′ =
     ends-alike 0 1 (p .geometry0) (p .geometry1) (λ d e. pair (p .geometry0) d (p .geometry1) e) (λ e. on-0 (p .geometry0) (p .geometry1) e)
     (λ d. on-1 (p .geometry0) (p .geometry1) d) a b (p .image0) (p .image1) i i′ t t′
@@ -290,7 +290,7 @@ on-zeroth p a b ab sound {zs = zs} {zs′ = zs′} i i′ t t′ =
     let put : (List ℕ → Pair) = λ d. pair (p .geometry0) d (p .geometry1) (p .image1) in let holds = on-0 (p .geometry0) (p .geometry1) (p .image1) in
     let g = p .geometry0 in let d = p .image0 in let s = sound 0 zeroth in
     let x = on-disk 0 g put holds a b ab d (s .0) (s .1) i i′ t t′ in
-    let e = disk.after g a b (disk.start d) zs .disk in let e′ = disk.after g a b (disk.start d) zs′ .disk in
+    let w = disk.after g a b (disk.start d) zs in let w′ = disk.after g a b (disk.start d) zs′ in let e = w .disk in let e′ = w′ .disk in
     from-disk 0 g put holds a b ab d (s .0) (s .1) i i′ t t′ p (record {
       files = each (λ j. SameFiles (geometry p j) (image (put e) j) (image (put e′) j)) (x .files) (same-as-itself _ _);
       third = each (λ j. (n : Name) → (j ≡ 0 → n ≢ fold a) → (j ≡ 0 → n ≢ fold b)
@@ -299,7 +299,10 @@ on-zeroth p a b ab sound {zs = zs} {zs′ = zs′} i i′ t t′ =
       images = λ q. each (λ j. image (put e) j ≡ image (put e′) j) (x .image (all-quiet 0 g put holds a b zs (disk.start d) t q)) (refl);
       consistent′ = each (λ j. (consistent (geometry p j) (image (put e) j) ≡ true) × (consistent (geometry p j) (image (put e′) j) ≡ true))
           (x .consistent′) ((sound 1 first .1, sound 1 first .1));
-      handles = (same-grips 0 _ _ (x .handles .0), same-grips 0 _ _ (x .handles .1));
+      handles = (
+        same-grips 0 (w .first .handles) (w′ .first .handles) (x .handles .0),
+        same-grips 0 (w .second .handles) (w′ .second .handles) (x .handles .1),
+      );
       heard = λ y y′ r r′. x .heard y r r′;
     })
 
@@ -310,7 +313,7 @@ on-first p a b ab sound {zs = zs} {zs′ = zs′} i i′ t t′ =
     let put : (List ℕ → Pair) = λ d. pair (p .geometry0) (p .image0) (p .geometry1) d in let holds = on-1 (p .geometry0) (p .geometry1) (p .image0) in
     let g = p .geometry1 in let d = p .image1 in let s = sound 1 first in
     let x = on-disk 1 g put holds a b ab d (s .0) (s .1) i i′ t t′ in
-    let e = disk.after g a b (disk.start d) zs .disk in let e′ = disk.after g a b (disk.start d) zs′ .disk in
+    let w = disk.after g a b (disk.start d) zs in let w′ = disk.after g a b (disk.start d) zs′ in let e = w .disk in let e′ = w′ .disk in
     from-disk 1 g put holds a b ab d (s .0) (s .1) i i′ t t′ p (record {
       files = each (λ j. SameFiles (geometry p j) (image (put e) j) (image (put e′) j)) (same-as-itself _ _) (x .files);
       third = each (λ j. (n : Name) → (j ≡ 1 → n ≢ fold a) → (j ≡ 1 → n ≢ fold b)
@@ -319,7 +322,10 @@ on-first p a b ab sound {zs = zs} {zs′ = zs′} i i′ t t′ =
       images = λ q. each (λ j. image (put e) j ≡ image (put e′) j) (refl) (x .image (all-quiet 1 g put holds a b zs (disk.start d) t q));
       consistent′ = each (λ j. (consistent (geometry p j) (image (put e) j) ≡ true) × (consistent (geometry p j) (image (put e′) j) ≡ true))
           ((sound 0 zeroth .1, sound 0 zeroth .1)) (x .consistent′);
-      handles = (same-grips 1 _ _ (x .handles .0), same-grips 1 _ _ (x .handles .1));
+      handles = (
+        same-grips 1 (w .first .handles) (w′ .first .handles) (x .handles .0),
+        same-grips 1 (w .second .handles) (w′ .second .handles) (x .handles .1),
+      );
       heard = λ y y′ r r′. x .heard y′ r r′;
     })
 
