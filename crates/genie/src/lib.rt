@@ -854,8 +854,16 @@ pub fn genie_drives_create(
     fault_drive: &mut usize,
     fault_slot: &mut usize,
 ) -> u8
-    ensures { λ r. ⌜ (r, now («fault_drive» .exit), now («fault_slot» .exit), now (place .exit), now (old .exit), now (handle .exit),
-        now (image0 .exit), now (image1 .exit))
+    ensures { λ r. ⌜ (
+      r,
+      now («fault_drive» .exit),
+      now («fault_slot» .exit),
+      now (place .exit),
+      now (old .exit),
+      now (handle .exit),
+      now (image0 .exit),
+      now (image1 .exit),
+    )
         ≡ drivesCreate (pair (geometry blocks0 units0 start0 «open_code0» «system_disk0» «granule_sectors0») (now (image0 .entry))
         (geometry blocks1 units1 start1 «open_code1» «system_disk1» «granule_sectors1») (now (image1 .entry)))
         numbered drive (now (name .entry)) (newFile day month year length «main_code» «worker_code») checking (now (handle .entry)) ⌝ }

@@ -36,8 +36,11 @@ returns : tie.Need-returns
 returns c =
     let a = c .before .before .before .before .before .before .before .args in
     let the-sector-part = c .before .before .before .before .sector-part in let the-fault-drive = c .before .before .before .fault-drive in
-    let p = pair (a .g0) (a .image0 .now) (a .g1) (a .image1 .now) in let e = the-sector-part .ensures .0 in (handed-0 p e (c .before .if1 .taken)
-    (the-fault-drive .ensures), place-0 p e (a .image0 .ptr) (a .image1 .ptr) (c .before .if1 .taken))
+    let p = pair (a .g0) (a .image0 .now) (a .g1) (a .image1 .now) in let e = the-sector-part .ensures .0 in (
+      handed-0 p e (c .before .if1 .taken)
+          (the-fault-drive .ensures),
+      place-0 p e (a .image0 .ptr) (a .image1 .ptr) (c .before .if1 .taken),
+    )
 
 -- src/lib.rt:250:5
 sub-result-2 : tie.Need-sub-result-2
@@ -58,8 +61,11 @@ returns-2 : tie.Need-returns-2
 returns-2 c =
     let a = c .before .before .before .before .before .before .before .args in
     let the-sector-part = c .before .before .before .before .sector-part in let the-fault-drive = c .before .before .before .fault-drive in
-    let p = pair (a .g0) (a .image0 .now) (a .g1) (a .image1 .now) in let e = the-sector-part .ensures .0 in (handed-1 p e (c .before .if1 .left)
-    (the-fault-drive .ensures), place-1 p e (a .image0 .ptr) (a .image1 .ptr) (c .before .if1 .left))
+    let p = pair (a .g0) (a .image0 .now) (a .g1) (a .image1 .now) in let e = the-sector-part .ensures .0 in (
+      handed-1 p e (c .before .if1 .left)
+          (the-fault-drive .ensures),
+      place-1 p e (a .image0 .ptr) (a .image1 .ptr) (c .before .if1 .left),
+    )
 
 pub read-sector-spec : {M : Type 1} → statement M
 read-sector-spec =

@@ -22,8 +22,11 @@ part-on-requires c κs = search needs
 returns : tie.Need-returns
 returns c =
     let a = c .before .before .before .before .before .before .before .args in let the-if1 = c .before .before .if1 in
-    let p = pair (a .g0) (a .image0 .now) (a .g1) (a .image1 .now) in (part-0 p (a .h) (a .k) (the-if1 .taken) (c .part-on .ensures)
-    (c .before .sector-part .ensures .0), lies-0 p (a .h) (a .k) (c .part-on .ensures) (c .before .sector-part .ensures .1))
+    let p = pair (a .g0) (a .image0 .now) (a .g1) (a .image1 .now) in (
+      part-0 p (a .h) (a .k) (the-if1 .taken) (c .part-on .ensures)
+          (c .before .sector-part .ensures .0),
+      lies-0 p (a .h) (a .k) (c .part-on .ensures) (c .before .sector-part .ensures .1),
+    )
 
 -- src/lib.rt:213:40
 sector-part-requires-2 : tie.Need-sector-part-requires-2
@@ -38,10 +41,12 @@ returns-2 : tie.Need-returns-2
 returns-2 c =
     let a = c .before .before .before .before .before .before .before .before .before .args in
     let the-if1 = c .before .before .before .before .if1 in let the-if2 = c .before .before .if2 in
-    let p = pair (a .g0) (a .image0 .now) (a .g1) (a .image1 .now) in ( part-1 p (a .h) (a .k) (the-if1 .left) (the-if2 .taken)
-    (c .part-on2 .ensures) (c .before .sector-part2 .ensures .0), lies-1 p (a .h) (a .k) (c .part-on2 .ensures)
-    (c .before .sector-part2 .ensures .0) (c .before .sector-part2 .ensures .1),
-)
+    let p = pair (a .g0) (a .image0 .now) (a .g1) (a .image1 .now) in (
+      part-1 p (a .h) (a .k) (the-if1 .left) (the-if2 .taken)
+          (c .part-on2 .ensures) (c .before .sector-part2 .ensures .0),
+      lies-1 p (a .h) (a .k) (c .part-on2 .ensures)
+          (c .before .sector-part2 .ensures .0) (c .before .sector-part2 .ensures .1),
+    )
 
 -- src/lib.rt:215:26
 no-such-drive-requires : tie.Need-no-such-drive-requires
@@ -56,8 +61,11 @@ returns-3 : tie.Need-returns-3
 returns-3 c =
     let a = c .before .before .before .before .before .before .before .before .before .args in
     let the-if1 = c .before .before .before .before .if1 in let the-if2 = c .before .before .if2 in
-    let p = pair (a .g0) (a .image0 .now) (a .g1) (a .image1 .now) in (part-none p (a .h) (a .k) (the-if1 .left) (the-if2 .left)
-    (c .no-part .ensures) (c .before .no-such-drive .ensures), lies-none p (a .h) (a .k) (c .no-part .ensures))
+    let p = pair (a .g0) (a .image0 .now) (a .g1) (a .image1 .now) in (
+      part-none p (a .h) (a .k) (the-if1 .left) (the-if2 .left)
+          (c .no-part .ensures) (c .before .no-such-drive .ensures),
+      lies-none p (a .h) (a .k) (c .no-part .ensures),
+    )
 
 pub sector-part-spec : {M : Type 1} → statement M
 sector-part-spec =
