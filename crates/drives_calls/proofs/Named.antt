@@ -239,7 +239,8 @@ module _ (p : Pair) (numbered : Bool) (k : ℕ) (n : List ℕ) where
   unfolding lookUp
   look-0 e z q f = f ∙ ap (lookedUpOn 0 0) q ∙ with-0 p numbered k looksWith looksWithout notLookedUp e z
 
-  pub look-1 : {r : DriveLookedUp} {l : LookedUp} → numbered ≡ true → (k ≡ 0 → ⊥) → k ≡ 1 → l ≡ lookUpOn p 1 n → r ≡ lookedUpOn 1 0 l → r ≡ lookUp p numbered k n
+  pub look-1 : {r : DriveLookedUp} {l : LookedUp} → numbered ≡ true → (k ≡ 0 → ⊥) → k ≡ 1 → l ≡ lookUpOn p 1 n → r ≡ lookedUpOn 1 0 l
+      → r ≡ lookUp p numbered k n
   unfolding lookUp
   look-1 e y z q f = f ∙ ap (lookedUpOn 1 0) q ∙ with-1 p numbered k looksWith looksWithout notLookedUp e y z
 
