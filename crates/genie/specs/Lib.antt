@@ -1,4 +1,3 @@
 pub mod Exports
 pub mod Compared
 pub mod Program
-pub mod Drives
