@@ -24,7 +24,8 @@ use Rattle.meaning.specs.declared.Handle.{Handle}
 use Rattle.meaning.specs.declared.Mode.{Mode}
 use Rattle.together.specs.Statement.{Name, Step, looksUp, opens, creates, moves, reads, readsSector, writes, allots, trims, kills}
 use Rattle.together.specs.Statement.{known, kept, Turn, one, two, Interleaving, Quiet, Same, SameFiles, AsItWas, Grip, grip, AllBring}
-use Rattle.drives.specs.Pair.{Pair, pair, geometry, image, handleOn, onDrive, answered}
+use Rattle.drives.specs.Pair.{Pair, pair, geometry, image, handleOn, onDrive}
+use Rattle.drives.specs.Pair as pairs
 use Rattle.drives.specs.ByName.{lookUp, openFile, create}
 use Rattle.drives.specs.ByHandle.{unheld, changing, readSector, allot, trim, kill}
 use Rattle.drives.specs.declared.DriveHandle.{DriveHandle}
@@ -53,7 +54,7 @@ hearing s bytes = record { handles = s .handles; heard = s .heard ++ (bytes ∷ 
 -- record length. Read bytes and write bytes are calls on one image, and the steps that ask for them are so on one drive's.
 unfoldable pub readOf : Pair → DriveHandle → ℕ → List ℕ → DriveAnswer × List ℕ
 readOf p h n b =
-    onDrive (h .drive) (λ k. let r = Read.readOf (geometry p k) (image p k) (h .handle) n b in (answered k (r .0), r .1)) (unheld h, b)
+    onDrive (h .drive) (λ k. let r = Read.readOf (geometry p k) (image p k) (h .handle) n b in (pairs.answered k (r .0), r .1)) (unheld h, b)
 
 unfoldable pub writeOf : Pair → Mode → DriveHandle → ℕ → List ℕ → DriveAnswer × List ℕ × List ℕ
 writeOf p m h n b = changing p h (λ k. Write.writeOf (geometry p k) (image p k) m (h .handle) n b)
