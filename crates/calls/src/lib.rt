@@ -24,8 +24,8 @@ ghost use Rattle.meaning.specs.Refusals.{check};
 ghost use Rattle.meaning.specs.LookUp.{lookUp};
 ghost use Rattle.meaning.specs.Open.{open′};
 ghost use Rattle.meaning.specs.Create.{create};
-ghost use Rattle.meaning.specs.Read.{readRecord, readSector};
-ghost use Rattle.meaning.specs.Write.{writeRecord};
+ghost use Rattle.meaning.specs.Read.{readRecord, readBytes, readSector};
+ghost use Rattle.meaning.specs.Write.{writeRecord, writeBytes};
 ghost use Rattle.meaning.specs.Allot.{allot};
 ghost use Rattle.meaning.specs.Trim.{trim};
 ghost use Rattle.meaning.specs.Kill.{kill};
@@ -80,7 +80,16 @@ pub fn read_record(image: &[u8], g: Geometry, h: Handle, buffer: &mut [u8]) -> A
     ensures { λ r. ⌜ (r, now (buffer .exit)) ≡ readRecord g (now (image .entry)) h (now (buffer .entry)) ⌝ }
 {
     let checked = fault_diagnosis::check(image, g);
-    read::record_checked(image, g, h, buffer, checked)
+    read::read_checked(image, g, h, h.len, buffer, checked)
+}
+
+// Read bytes: as many as the buffer holds, from the handle's position on.
+pub fn read_bytes(image: &[u8], g: Geometry, h: Handle, buffer: &mut [u8]) -> Answer
+    ensures { λ r. ⌜ (r, now (buffer .exit)) ≡ readBytes g (now (image .entry)) h (now (buffer .entry)) ⌝ }
+{
+    let checked = fault_diagnosis::check(image, g);
+    let n = buffer.len();
+    read::read_checked(image, g, h, n, buffer, checked)
 }
 
 // Where the bytes of the file's sector k lie.
@@ -113,7 +122,15 @@ pub fn write_record(image: &mut [u8], g: Geometry, mode: Mode, h: Handle, buffer
     ensures { λ r. ⌜ (r, now (image .exit)) ≡ writeRecord g (now (image .entry)) mode h (now (buffer .entry)) ⌝ }
 {
     let checked = fault_diagnosis::check(image, g);
-    write::write_checked(image, g, mode, h, buffer, checked)
+    write::write_checked(image, g, mode, h, h.len, buffer, checked)
+}
+
+// Write bytes: as many as the buffer holds go to the file at the handle's position.
+pub fn write_bytes(image: &mut [u8], g: Geometry, mode: Mode, h: Handle, buffer: &[u8]) -> Answer
+    ensures { λ r. ⌜ (r, now (image .exit)) ≡ writeBytes g (now (image .entry)) mode h (now (buffer .entry)) ⌝ }
+{
+    let checked = fault_diagnosis::check(image, g);
+    write::write_checked(image, g, mode, h, buffer.len(), buffer, checked)
 }
 
 // Allot: the file takes granules until it owns those of its sectors 0 to k.

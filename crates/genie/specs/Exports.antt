@@ -12,8 +12,8 @@ use Rattle.meaning.specs.Refusals.{first, accepted, diskRefusals, check, refusa
 use Rattle.meaning.specs.LookUp.{lookUp}
 use Rattle.meaning.specs.Open.{open′}
 use Rattle.meaning.specs.Create.{create}
-use Rattle.meaning.specs.Read.{readRecord, readSector}
-use Rattle.meaning.specs.Write.{writeRecord}
+use Rattle.meaning.specs.Read.{readRecord, readBytes, readSector}
+use Rattle.meaning.specs.Write.{writeRecord, writeBytes}
 use Rattle.meaning.specs.Allot.{allot}
 use Rattle.meaning.specs.Trim.{trim}
 use Rattle.meaning.specs.Kill.{kill}
@@ -115,6 +115,9 @@ module _ (g : Geometry) (d : List ℕ) where
   abbrev pub exportedReadRecord : List ℕ → List ℕ → ℕ × ℕ × List ℕ × List ℕ
   exportedReadRecord b buffer = long handleBytes b (tooShort .number, tooShort .at, b, buffer) (moves b (readRecord g d (handleOf b) buffer))
 
+  abbrev pub exportedReadBytes : List ℕ → List ℕ → ℕ × ℕ × List ℕ × List ℕ
+  exportedReadBytes b buffer = long handleBytes b (tooShort .number, tooShort .at, b, buffer) (moves b (readBytes g d (handleOf b) buffer))
+
   -- from, to
   abbrev pub exportedReadSector : List ℕ → ℕ → ℕ × ℕ × ℕ × ℕ
   exportedReadSector b k = long handleBytes b (tooShort .number, tooShort .at, 0, 0) (lies (readSector g d (handleOf b) k))
@@ -123,6 +126,10 @@ module _ (g : Geometry) (d : List ℕ) where
   abbrev pub exportedWriteRecord : List ℕ → Bool → List ℕ → ℕ × ℕ × List ℕ × List ℕ
   exportedWriteRecord b sequential buffer =
       long handleBytes b (tooShort .number, tooShort .at, b, d) (moves b (writeRecord g d (modeOf sequential) (handleOf b) buffer))
+
+  abbrev pub exportedWriteBytes : List ℕ → Bool → List ℕ → ℕ × ℕ × List ℕ × List ℕ
+  exportedWriteBytes b sequential buffer =
+      long handleBytes b (tooShort .number, tooShort .at, b, d) (moves b (writeBytes g d (modeOf sequential) (handleOf b) buffer))
 
   -- the image
   abbrev pub exportedAllot : List ℕ → ℕ → ℕ × ℕ × List ℕ

@@ -3,7 +3,7 @@ use meaning::Geometry;
 use meaning::NewFile;
 ghost use mathlib.Core.Path.{_≡_};
 ghost use Rattle.genie_codec.specs.Words.{geometry};
-ghost use Rattle.genie.specs.Exports.{newFile, tooShort, exportedName, exportedCheck, exportedLookUp, exportedOpen, exportedCreate, exportedReadRecord, exportedReadSector, exportedWriteRecord, exportedAllot, exportedTrim, exportedKill, exportedBringBack, exportedPlay, exportedList, exportedCount, exportedFree};
+ghost use Rattle.genie.specs.Exports.{newFile, tooShort, exportedName, exportedCheck, exportedLookUp, exportedOpen, exportedCreate, exportedReadRecord, exportedReadBytes, exportedReadSector, exportedWriteRecord, exportedWriteBytes, exportedAllot, exportedTrim, exportedKill, exportedBringBack, exportedPlay, exportedList, exportedCount, exportedFree};
 ghost use Rattle.genie.specs.Compared.{exportedCompare};
 ghost use Rattle.genie.specs.Program.{exportedLoadRecord};
 ghost use Rattle.drives.specs.Pair.{pair};
@@ -233,6 +233,44 @@ pub extern "C" fn genie_read_record(
 }
 
 #[no_mangle]
+pub extern "C" fn genie_read_bytes(
+    image: &[u8],
+    blocks: usize,
+    units: usize,
+    start: usize,
+    open_code: u16,
+    system_disk: bool,
+    granule_sectors: usize,
+    handle: &mut [u8],
+    buffer: &mut [u8],
+    fault_slot: &mut usize,
+) -> u8
+    ensures { λ r. ⌜ (r, now («fault_slot» .exit), now (handle .exit), now (buffer .exit))
+        ≡ exportedReadBytes (geometry blocks units start open_code «system_disk» «granule_sectors») (now (image .entry)) (now (handle .entry))
+        (now (buffer .entry)) ⌝ }
+{
+    let g = genie_codec::geometry(
+        blocks,
+        units,
+        start,
+        open_code,
+        system_disk,
+        granule_sectors,
+    );
+    if handle.len() < genie_codec::HANDLE_BYTES {
+        return short(image, g, fault_slot);
+    }
+    let h = genie_codec::handle_of(handle);
+    let read = calls::read_bytes(image, g, h, buffer);
+    *fault_slot = read.refusal.at;
+    if read.refusal.number != 0 {
+        return read.refusal.number;
+    }
+    genie_codec::put_handle(handle, read.handle);
+    0
+}
+
+#[no_mangle]
 pub extern "C" fn genie_read_sector(
     image: &[u8],
     blocks: usize,
@@ -308,6 +346,46 @@ pub extern "C" fn genie_write_record(
         return a.refusal.number;
     }
     genie_codec::put_handle(handle, a.handle);
+    0
+}
+
+#[no_mangle]
+pub extern "C" fn genie_write_bytes(
+    image: &mut [u8],
+    blocks: usize,
+    units: usize,
+    start: usize,
+    open_code: u16,
+    system_disk: bool,
+    granule_sectors: usize,
+    handle: &mut [u8],
+    sequential: bool,
+    buffer: &[u8],
+    fault_slot: &mut usize,
+) -> u8
+    ensures { λ r. ⌜ (r, now («fault_slot» .exit), now (handle .exit), now (image .exit))
+        ≡ exportedWriteBytes (geometry blocks units start open_code «system_disk» «granule_sectors») (now (image .entry)) (now (handle .entry)) sequential
+        (now (buffer .entry)) ⌝ }
+{
+    let g = genie_codec::geometry(
+        blocks,
+        units,
+        start,
+        open_code,
+        system_disk,
+        granule_sectors,
+    );
+    if handle.len() < genie_codec::HANDLE_BYTES {
+        return short(image, g, fault_slot);
+    }
+    let h = genie_codec::handle_of(handle);
+    let m = genie_codec::mode_of(sequential);
+    let written = calls::write_bytes(image, g, m, h, buffer);
+    *fault_slot = written.refusal.at;
+    if written.refusal.number != 0 {
+        return written.refusal.number;
+    }
+    genie_codec::put_handle(handle, written.handle);
     0
 }
 

@@ -18,8 +18,8 @@ use Rattle.meaning.specs.Handles.{inRange, noHandle, movedTo}
 use Rattle.meaning.specs.LookUp.{carries, candidates, named, slotOf, missing}
 use Rattle.meaning.specs.Open.{full, openedAt, openRefusals, open′}
 use Rattle.meaning.specs.Create.{newSlot, createRefusals, create}
-use Rattle.meaning.specs.Read.{readRefusals, readRecord}
-use Rattle.meaning.specs.Write.{writeRefusals, writeRecord}
+use Rattle.meaning.specs.Read.{readRefusals, readOf}
+use Rattle.meaning.specs.Write.{writeRefusals, writeOf}
 use Rattle.meaning.specs.declared.Geometry.{Geometry}
 use Rattle.meaning.specs.declared.Handle.{Handle}
 use Rattle.meaning.specs.declared.NewFile.{NewFile}
@@ -115,24 +115,31 @@ module _ (g : Geometry) (d : List ℕ) where
           either false h l = opened-fits (fold n) (f .len) checking (f .main) h l
       by false e new = zeros-fit
 
-  -- a position that advances is in range still, as bytes go
-  moved-fits : (h : Handle) → HandleFits h → inRange g h ≡ true → HandleFits (movedTo h (h .at + h .len))
-  unfolding inRange
-  moved-fits h f r =
-      let a = leb-true (h .at) (highest g) (all-at _ r 0) in let l = length-range (h .len) (all-at _ r 1) .1 in
+  -- a position that advances by n is in range still, as bytes go: both are the highest one at most
+  moved-fits : (h : Handle) (n : ℕ) → HandleFits h → h .at ≤ highest g → n ≤ highest g → HandleFits (movedTo h (h .at + n))
+  moved-fits h n f a l =
       record { slot = f .slot; level = f .level; len = f .len; at = omega (arith, Sizes.bytes-are g, Sizes.sectors-most g); name = f .name }
+
+  position-low : (h : Handle) → inRange g h ≡ true → h .at ≤ highest g
+  unfolding inRange
+  position-low h r = leb-true (h .at) (highest g) (all-at _ r 0)
 
   either-fits : (t : Bool) (h h′ : Handle) → HandleFits h → (t ≡ true → HandleFits h′) → HandleFits (cond t h′ h)
   either-fits true h h′ f k = k refl
   either-fits false h h′ f k = f
 
-  -- read record and write record, of a handle that fits
-  pub read-fits : (h : Handle) (b : List ℕ) → HandleFits h → HandleFits (readRecord g d h b .0 .handle)
-  unfolding readRecord
-  read-fits h b f =
-      either-fits _ h _ f (λ e. moved-fits h f (all-at _ (not-false _ (first-at (readRefusals g d h (length b)) (eqb-true _ 0 e) refl (ownRow 0))) 0))
+  -- a read and a write of n bytes, of a handle that fits
+  pub read-fits : (h : Handle) (n : ℕ) (b : List ℕ) → HandleFits h → HandleFits (readOf g d h n b .0 .handle)
+  unfolding readOf
+  read-fits h n b f =
+      either-fits _ h _ f (λ e.
+      let w = not-false _ (first-at (readRefusals g d h n (length b)) (eqb-true _ 0 e) refl (ownRow 0)) in
+      moved-fits h n f (position-low h (all-at _ w 0)) (leb-true n (highest g) (all-at _ w 1)))
 
-  pub write-fits : (m : Mode) (h : Handle) (b : List ℕ) → HandleFits h → HandleFits (writeRecord g d m h b .0 .handle)
-  unfolding writeRecord
-  write-fits m h b f =
-      either-fits _ h _ f (λ e. moved-fits h f (all-at _ (not-false _ (first-at (writeRefusals g d m h (length b)) (eqb-true _ 0 e) refl (ownRow 0))) 0))
+  pub write-fits : (m : Mode) (h : Handle) (n : ℕ) (b : List ℕ) → HandleFits h → HandleFits (writeOf g d m h n b .0 .handle)
+  unfolding writeOf
+  write-fits m h n b f =
+      either-fits _ h _ f (λ e.
+      let w = not-false _ (first-at (writeRefusals g d m h n (length b)) (eqb-true _ 0 e) refl (ownRow 0)) in
+      let end = leb-true (h .at + n) (highest g) (all-at _ w 1) in
+      moved-fits h n f (position-low h (all-at _ w 0)) (omega arith))

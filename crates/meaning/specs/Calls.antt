@@ -7,8 +7,9 @@ use Rattle.meaning.specs.Refusals.{check}
 use Rattle.meaning.specs.LookUp.{lookUp}
 use Rattle.meaning.specs.Open.{open′}
 use Rattle.meaning.specs.Create.{create}
-use Rattle.meaning.specs.Read.{readRecord, readSector}
-use Rattle.meaning.specs.Write.{writeRecord}
+use Rattle.meaning.specs.Amount.{Amount, howMany}
+use Rattle.meaning.specs.Read.{readOf, readSector}
+use Rattle.meaning.specs.Write.{writeOf}
 use Rattle.meaning.specs.Allot.{allot}
 use Rattle.meaning.specs.Trim.{trim}
 use Rattle.meaning.specs.Kill.{kill}
@@ -25,9 +26,11 @@ pub data Call : Type 0 where
   looksUp : (name : List ℕ) → Call
   opens : (name : List ℕ) (len : ℕ) (checking : Bool) (code : ℕ) → Call
   creates : (name : List ℕ) (f : NewFile) (checking : Bool) → Call
-  reads : (h : Handle) (buffer : List ℕ) → Call
+  -- read record, or read bytes
+  reads : (a : Amount) (h : Handle) (buffer : List ℕ) → Call
   readsSector : (h : Handle) (k : ℕ) → Call
-  writes : (m : Mode) (h : Handle) (buffer : List ℕ) → Call
+  -- write record, or write bytes
+  writes : (a : Amount) (m : Mode) (h : Handle) (buffer : List ℕ) → Call
   allots : (h : Handle) (k : ℕ) → Call
   trims : (h : Handle) → Call
   kills : (h : Handle) → Call
@@ -41,9 +44,9 @@ number g d checks = check g d .number
 number g d (looksUp n) = lookUp g d n .refusal .number
 number g d (opens n len checking code) = open′ g d n len checking code .refusal .number
 number g d (creates n f checking) = create g d n f checking .0 .refusal .number
-number g d (reads h b) = readRecord g d h b .0 .refusal .number
+number g d (reads a h b) = readOf g d h (howMany a (h .len) b) b .0 .refusal .number
 number g d (readsSector h k) = readSector g d h k .refusal .number
-number g d (writes m h b) = writeRecord g d m h b .0 .refusal .number
+number g d (writes a m h b) = writeOf g d m h (howMany a (h .len) b) b .0 .refusal .number
 number g d (allots h k) = allot g d h k .0 .refusal .number
 number g d (trims h) = trim g d h .0 .refusal .number
 number g d (kills h) = kill g d h .0 .refusal .number
@@ -57,9 +60,9 @@ leaves g d checks = d
 leaves g d (looksUp n) = d
 leaves g d (opens n len checking code) = d
 leaves g d (creates n f checking) = create g d n f checking .1
-leaves g d (reads h b) = d
+leaves g d (reads a h b) = d
 leaves g d (readsSector h k) = d
-leaves g d (writes m h b) = writeRecord g d m h b .1
+leaves g d (writes a m h b) = writeOf g d m h (howMany a (h .len) b) b .1
 leaves g d (allots h k) = allot g d h k .1
 leaves g d (trims h) = trim g d h .1
 leaves g d (kills h) = kill g d h .1

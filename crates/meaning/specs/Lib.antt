@@ -17,6 +17,7 @@ pub mod Refusals
 pub mod LookUp
 pub mod Open
 pub mod Create
+pub mod Amount
 pub mod Read
 pub mod Write
 pub mod Allot

@@ -1,4 +1,4 @@
--- Read record and read sector (01, Calls).
+-- Read record and read sector (01, Calls); read bytes, which is read record with the buffer's own length in the record length's place.
 use Prim.Native.Nat.{ℕ, suc, _+_, _-_, _*_}
 use mathlib.Core.Bool.{Bool, cond}
 use mathlib.Core.List.{List, [], _∷_, _++_, map}
@@ -20,19 +20,28 @@ module _ (g : Geometry) (d : List ℕ) where
   unfoldable pub fetch : ℕ → ℕ → ℕ → List ℕ
   fetch s i n = map (λ j. Layout.byte d (Chain.place g d s j)) (count i n)
 
-  -- 12 also where the buffer is shorter than the record length; `room` is the buffer's length. 10: read past the size.
-  abbrev pub readRefusals : Handle → ℕ → List (ℕ × Bool)
-  readRefusals h room =
-      Refusals.handleRefusals g d h (all (Handles.inRange g h ∷ leb (h .len) room ∷ []))
-      (Refusals.notForReading h ∷ (10, ltb (Entries.sizeOf g d (h .slot)) (h .at + h .len)) ∷ [])
+  -- A read of n bytes. 12 also where the buffer is shorter than that, `room` being the buffer's length, or n is over the highest position, which
+  -- no record length is. 10: read past the size.
+  abbrev pub readRefusals : Handle → ℕ → ℕ → List (ℕ × Bool)
+  readRefusals h n room =
+      Refusals.handleRefusals g d h (all (Handles.inRange g h ∷ leb n (Layout.highest g) ∷ leb n room ∷ []))
+      (Refusals.notForReading h ∷ (10, ltb (Entries.sizeOf g d (h .slot)) (h .at + n)) ∷ [])
 
   -- Position + length must not pass the size; the bytes go to the start of the buffer, the rest of it is untouched, the position advances.
-  unfoldable pub readRecord : Handle → List ℕ → Answer × List ℕ
-  readRecord h b =
-      let no = Refusals.first (readRefusals h (length b)) in (
-        record { refusal = Refusals.refusal g d no; handle = cond (Refusals.accepted no) (Handles.movedTo h (h .at + h .len)) h },
-        cond (Refusals.accepted no) (fetch (h .slot) (h .at) (h .len) ++ drop (h .len) b) b,
+  unfoldable pub readOf : Handle → ℕ → List ℕ → Answer × List ℕ
+  readOf h n b =
+      let no = Refusals.first (readRefusals h n (length b)) in (
+        record { refusal = Refusals.refusal g d no; handle = cond (Refusals.accepted no) (Handles.movedTo h (h .at + n)) h },
+        cond (Refusals.accepted no) (fetch (h .slot) (h .at) n ++ drop n b) b,
       )
+
+  -- read record: as many bytes as the handle's record length
+  abbrev pub readRecord : Handle → List ℕ → Answer × List ℕ
+  readRecord h b = readOf h (h .len) b
+
+  -- read bytes: as many as the buffer holds, none included
+  abbrev pub readBytes : Handle → List ℕ → Answer × List ℕ
+  readBytes h b = readOf h (length b) b
 
   -- 12 also where the sector is out of range (01: 0 to 7,679). 10: sector k not below n.
   abbrev pub sectorRefusals : Handle → ℕ → List (ℕ × Bool)

@@ -1,4 +1,4 @@
--- Write record, sequential and random (01, Calls).
+-- Write record, sequential and random (01, Calls); write bytes, which is write record with the buffer's own length in the record length's place.
 use Prim.Native.Nat.{ℕ, _+_, _-_, max}
 use mathlib.Core.Bool.{Bool, cond}
 use mathlib.Core.List.{List, [], _∷_}
@@ -35,27 +35,35 @@ withSize g d s size =
     Layout.setField g (Entries.setWord g ended s 0x14 (Entries.sectorsFor size)) s 1 (withBit 5 (Layout.field g d s 1))
 
 module _ (g : Geometry) (d : List ℕ) where
-  -- A write takes exactly what the file lacks of ⌈new size / bytes of a granule⌉ granules (01: ⌈new size/1280⌉).
-  abbrev pub toWrite : Mode → Handle → ℕ
-  toWrite m h = Growth.lacking g d (h .slot) (Layout.granulesFor g (sizeAfter m (Entries.sizeOf g d (h .slot)) (h .at + h .len)))
+  -- A write of n bytes takes exactly what the file lacks of ⌈new size / bytes of a granule⌉ granules (01: ⌈new size/1280⌉).
+  abbrev pub toWrite : Mode → Handle → ℕ → ℕ
+  toWrite m h n = Growth.lacking g d (h .slot) (Layout.granulesFor g (sizeAfter m (Entries.sizeOf g d (h .slot)) (h .at + n)))
 
-  -- 12 also where position + length is over the highest position (01: 1,966,080) or the buffer shorter than the record length; `room` is the
+  -- 12 also where position + length is over the highest position (01: 1,966,080) or the buffer shorter than the length; `room` is the
   -- buffer's length
-  abbrev pub writeRefusals : Mode → Handle → ℕ → List (ℕ × Bool)
-  writeRefusals m h room =
-      Refusals.handleRefusals g d h (all (Handles.inRange g h ∷ leb (h .at + h .len) (Layout.highest g) ∷ leb (h .len) room ∷ []))
-      (Refusals.protected g d 4 h ∷ Refusals.cannotGrow g d (h .slot) (toWrite m h))
+  abbrev pub writeRefusals : Mode → Handle → ℕ → ℕ → List (ℕ × Bool)
+  writeRefusals m h n room =
+      Refusals.handleRefusals g d h (all (Handles.inRange g h ∷ leb (h .at + n) (Layout.highest g) ∷ leb n room ∷ []))
+      (Refusals.protected g d 4 h ∷ Refusals.cannotGrow g d (h .slot) (toWrite m h n))
 
-  -- Write record, from the buffer's start: the file grows; bytes between the old size and the position become zero; the record; the size
-  -- and B. The position advances.
-  unfoldable pub writeRecord : Mode → Handle → List ℕ → Answer × List ℕ
-  writeRecord m h b =
-      let s = h .slot in let old = Entries.sizeOf g d s in let end = h .at + h .len in
-      let no = Refusals.first (writeRefusals m h (length b)) in
-      let d₁ = Growth.withGranules g d s (toWrite m h) in
+  -- A write of n bytes, from the buffer's start: the file grows; bytes between the old size and the position become zero; the bytes; the
+  -- size and B. The position advances.
+  unfoldable pub writeOf : Mode → Handle → ℕ → List ℕ → Answer × List ℕ
+  writeOf m h n b =
+      let s = h .slot in let old = Entries.sizeOf g d s in let end = h .at + n in
+      let no = Refusals.first (writeRefusals m h n (length b)) in
+      let d₁ = Growth.withGranules g d s (toWrite m h n) in
       let f = Chain.place g d₁ s in
       let d₂ = store f d₁ old (replicate (h .at - old) 0) in
-      let d₃ = store f d₂ (h .at) (take (h .len) b) in (
+      let d₃ = store f d₂ (h .at) (take n b) in (
         record { refusal = Refusals.refusal g d no; handle = cond (Refusals.accepted no) (Handles.movedTo h end) h },
         cond (Refusals.accepted no) (withSize g d₃ s (sizeAfter m old end)) d,
       )
+
+  -- write record: as many bytes as the handle's record length
+  abbrev pub writeRecord : Mode → Handle → List ℕ → Answer × List ℕ
+  writeRecord m h b = writeOf m h (h .len) b
+
+  -- write bytes: as many as the buffer holds. One of none is a write too: the size is set, and B.
+  abbrev pub writeBytes : Mode → Handle → List ℕ → Answer × List ℕ
+  writeBytes m h b = writeOf m h (length b) b

@@ -1,9 +1,9 @@
--- Read record and read sector on whole disks, accepted and refused.
+-- Read record, read bytes and read sector on whole disks, accepted and refused.
 use Prim.Native.Nat.{_+_}
 use mathlib.Core.Path.{_≡_, refl}
 use mathlib.Core.List.{[], _∷_}
 use Rattle.meaning.specs.Refusal.{unplaced}
-use Rattle.meaning.specs.Read.{readRecord, readSector}
+use Rattle.meaning.specs.Read.{readRecord, readBytes, readSector}
 use Rattle.meaning_table.specs.Samples.{changed, held, puls, three, sample, eA3, opened}
 use Rattle.meaning_facts.specs.Disks.{answered}
 
@@ -39,6 +39,31 @@ read-by-extension = refl
 read-into-short-buffer : readRecord three sample (held 0x82 puls 0 2 0) (1 ∷ []) ≡ (answered 12 (held 0x82 puls 0 2 0), 1 ∷ [])
 unfolding opened
 read-into-short-buffer = refl
+
+-- Read bytes --------------------------------------------------------------------------------------------------------------
+
+-- as many as the buffer holds, whatever the record length
+read-bytes-to-the-end : readBytes three sample (held 0xa3 puls 255 256 5) (1 ∷ 2 ∷ []) ≡ (answered 0 (held 0xa3 puls 257 256 5), 0x43 ∷ 0x44 ∷ [])
+unfolding opened
+read-bytes-to-the-end = refl
+
+read-bytes-past-the-size : readBytes three sample (held 0xa3 puls 255 1 5) (1 ∷ 2 ∷ 3 ∷ []) ≡ (answered 10 (held 0xa3 puls 255 1 5), 1 ∷ 2 ∷ 3 ∷ [])
+unfolding opened
+read-bytes-past-the-size = refl
+
+-- none, at the size and past it
+read-none-at-the-size : readBytes three sample (held 0xa3 puls 257 1 5) [] ≡ (answered 0 (held 0xa3 puls 257 1 5), [])
+unfolding opened
+read-none-at-the-size = refl
+
+read-none-past-the-size : readBytes three sample (held 0xa3 puls 258 1 5) [] ≡ (answered 10 (held 0xa3 puls 258 1 5), [])
+unfolding opened
+read-none-past-the-size = refl
+
+-- the record length is not used, but tested
+read-bytes-by-no-length : readBytes three sample (held 0xa3 puls 0 0 5) (1 ∷ []) ≡ (answered 12 (held 0xa3 puls 0 0 5), 1 ∷ [])
+unfolding opened
+read-bytes-by-no-length = refl
 
 -- Read sector -------------------------------------------------------------------------------------------------------------
 

@@ -1,8 +1,8 @@
--- Write record on whole disks, accepted and refused: the answer and the whole image.
+-- Write record and write bytes on whole disks, accepted and refused: the answer and the whole image.
 use Prim.Native.Nat.{ℕ, _+_}
 use mathlib.Core.Path.{_≡_, refl}
 use mathlib.Core.List.{List, [], _∷_}
-use Rattle.meaning.specs.Write.{writeRecord}
+use Rattle.meaning.specs.Write.{writeRecord, writeBytes}
 use Rattle.meaning_table.specs.Samples.{changed, held, leer, three, sample, e80, opened}
 use Rattle.meaning.specs.declared.Mode.the-variants.{Sequential, Random}
 use Rattle.meaning_facts.specs.Disks.{flagged, fixed, answered}
@@ -58,3 +58,43 @@ write-highest = refl
 write-too-high : writeRecord three sample Random (held 0x80 leer 1966080 1 0) (0x7f ∷ []) ≡ (answered 12 (held 0x80 leer 1966080 1 0), sample)
 unfolding opened
 write-too-high = refl
+
+-- Write bytes -------------------------------------------------------------------------------------------------------------
+
+-- as many as the buffer holds, whatever the record length
+write-bytes-inside : writeBytes three sample Random (held 0x80 leer 0 256 4) (0x7f ∷ 0x7e ∷ []) ≡ (
+  answered 0 (held 0x80 leer 2 256 4),
+  changed sample ((e80 + 1, 0x29) ∷ (10240, 0x7f) ∷ (10241, 0x7e) ∷ []),
+)
+unfolding opened
+write-bytes-inside = refl
+
+-- none, sequential: the size becomes the position, smaller or larger
+write-none-cuts : writeBytes three sample Sequential (held 0x80 leer 0 1 4) [] ≡ (
+  answered 0 (held 0x80 leer 0 1 4),
+  changed sample ((e80 + 1, 0x29) ∷ (e80 + 3, 0x00) ∷ (e80 + 0x14, 0x00) ∷ []),
+)
+unfolding opened
+write-none-cuts = refl
+
+write-none-over-a-gap : writeBytes three sample Sequential (held 0x80 leer 1281 1 4) [] ≡ (
+  answered 0 (held 0x80 leer 1281 1 4),
+  changed sample ((3, 0x07) ∷ (e80 + 1, 0x29) ∷ (e80 + 3, 0x01) ∷ (e80 + 0x14, 0x06) ∷ (e80 + 0x17, 0x41)
+      ∷ (11518, 0x00) ∷ (11519, 0x00) ∷ (11520, 0x00) ∷ []),
+)
+unfolding opened
+write-none-over-a-gap = refl
+
+-- none, random: B is set, and nothing is cut
+write-none-inside : writeBytes three sample Random (held 0x80 leer 0 1 4) [] ≡ (answered 0 (held 0x80 leer 0 1 4), changed sample ((e80 + 1, 0x29) ∷ []))
+unfolding opened
+write-none-inside = refl
+
+-- none at the highest position is in range, one is not
+write-none-highest : writeBytes three sample Random (held 0x80 leer 1966080 1 0) [] ≡ (answered 9 (held 0x80 leer 1966080 1 0), sample)
+unfolding opened
+write-none-highest = refl
+
+write-bytes-too-high : writeBytes three sample Random (held 0x80 leer 1966080 1 0) (0x7f ∷ []) ≡ (answered 12 (held 0x80 leer 1966080 1 0), sample)
+unfolding opened
+write-bytes-too-high = refl

@@ -20,8 +20,8 @@ use Rattle.meaning.specs.Fault.{usedExtension, handsOn, ends, badEntry, walkFro
 use Rattle.meaning.specs.LookUp.{candidates, carries, comparedIn, named, lookUp}
 use Rattle.meaning.specs.Open.{full, admits, open′}
 use Rattle.meaning.specs.Create.{create}
-use Rattle.meaning.specs.Read.{fetch, readRecord, readSector}
-use Rattle.meaning.specs.Write.{store, sizeAfter, writeRecord}
+use Rattle.meaning.specs.Read.{fetch, readOf, readSector}
+use Rattle.meaning.specs.Write.{store, sizeAfter, writeOf}
 use Rattle.meaning.specs.Allot.{allot}
 use Rattle.meaning.specs.Trim.{trim}
 use Rattle.meaning.specs.Kill.{killEntry, kill}
@@ -174,5 +174,5 @@ onePair =
 
 -- Every definition that is shut, opened by one name: `unfolding opened` computes through all of them.
 unfoldable pub opened : Bool
-unfolding all any firstOr lastOr digit putDigit granuleSectors granuleBytes granules fitsGeometry taken takeGranule freeGranule hit directorySectors isSlot slots field setField wellFormed fold blanks good badPlace hash nameOf sizeOf runsFrom runs entryGranules chainFrom chain owned files place lengthHolds hitHolds hashHolds nameHolds pairsHold followsBy linkHoldsBy runsHold gatHolds sizeHolds offDirectory slotHolds fileHolds namesDiffer met consistent usedExtension handsOn ends badEntry walkFrom walk walked metFrom fileOf goodExtension hitFault nameFault duplicateFault chainFault runFault gatFault sharedFault chainWhole sizeFault directoryFault faultAt lowest fault beside besideTwo freeGranules kept permitted freeSlot freeSlots andThen orElse fails diskOr lengthens extended takeOne growBy growth unhooked dropOne first goodLength inRange newInRange check fresh candidates carries comparedIn named lookUp full admits open′ create fetch readRecord readSector store sizeAfter writeRecord allot trim killEntry kill whole backEntry bringBack shown listed tellFirst list counts stretch longestIn lowEnd freeSpace digits slashed line listing fileAt foundIn plain bornAs overwritten writtenTo allottedTo trimmed backAs with′ reserved
+unfolding all any firstOr lastOr digit putDigit granuleSectors granuleBytes granules fitsGeometry taken takeGranule freeGranule hit directorySectors isSlot slots field setField wellFormed fold blanks good badPlace hash nameOf sizeOf runsFrom runs entryGranules chainFrom chain owned files place lengthHolds hitHolds hashHolds nameHolds pairsHold followsBy linkHoldsBy runsHold gatHolds sizeHolds offDirectory slotHolds fileHolds namesDiffer met consistent usedExtension handsOn ends badEntry walkFrom walk walked metFrom fileOf goodExtension hitFault nameFault duplicateFault chainFault runFault gatFault sharedFault chainWhole sizeFault directoryFault faultAt lowest fault beside besideTwo freeGranules kept permitted freeSlot freeSlots andThen orElse fails diskOr lengthens extended takeOne growBy growth unhooked dropOne first goodLength inRange newInRange check fresh candidates carries comparedIn named lookUp full admits open′ create fetch readOf readSector store sizeAfter writeOf allot trim killEntry kill whole backEntry bringBack shown listed tellFirst list counts stretch longestIn lowEnd freeSpace digits slashed line listing fileAt foundIn plain bornAs overwritten writtenTo allottedTo trimmed backAs with′ reserved
 opened = true

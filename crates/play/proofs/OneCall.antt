@@ -12,6 +12,7 @@ use Rattle.meaning.specs.Write.{writeRecord}
 use Rattle.meaning.specs.Allot.{allot}
 use Rattle.meaning.specs.Trim.{trim}
 use Rattle.meaning.specs.Kill.{kill}
+use Rattle.meaning.specs.Amount.{oneRecord}
 use Rattle.meaning.specs.Calls as Single
 use Rattle.meaning.specs.Calls.Call.{creates, reads, writes, allots, trims, kills}
 use Rattle.meaning.specs.declared.Geometry.{Geometry}
@@ -41,7 +42,7 @@ module _ (g : Geometry) (d : List ℕ) where
   unfolding Single.number Single.leaves
   create-is n f e = λ j. (e j .0 .refusal .number, e j .1)
 
-  pub write-is : (m : Mode) (h : Handle) (b : List ℕ) {a : Answer} {d′ : List ℕ} → (a, d′) ≡ writeRecord g d m h b → (a .refusal .number, d′) ≡ single g d (writes m h b)
+  pub write-is : (m : Mode) (h : Handle) (b : List ℕ) {a : Answer} {d′ : List ℕ} → (a, d′) ≡ writeRecord g d m h b → (a .refusal .number, d′) ≡ single g d (writes oneRecord m h b)
   unfolding Single.number Single.leaves
   write-is m h b e = λ j. (e j .0 .refusal .number, e j .1)
 
@@ -57,6 +58,6 @@ module _ (g : Geometry) (d : List ℕ) where
   unfolding Single.number Single.leaves
   kill-is h e = λ j. (e j .0 .refusal .number, e j .1)
 
-  pub read-is : (h : Handle) (b : List ℕ) {a : Answer} {b′ : List ℕ} → (a, b′) ≡ readRecord g d h b → (a .refusal .number, d) ≡ single g d (reads h b)
+  pub read-is : (h : Handle) (b : List ℕ) {a : Answer} {b′ : List ℕ} → (a, b′) ≡ readRecord g d h b → (a .refusal .number, d) ≡ single g d (reads oneRecord h b)
   unfolding Single.number Single.leaves
   read-is h b e = λ j. (e j .0 .refusal .number, d)

@@ -15,6 +15,7 @@ ghost use Prim.Native.Nat.{_≤_};
 ghost use lib.ListN.{length, replicate};
 ghost use Rattle.meaning.specs.Refusals.{check};
 ghost use Rattle.meaning.specs.Handles.{movedTo};
+ghost use Rattle.meaning.specs.Amount.{oneRecord};
 ghost use Rattle.meaning.specs.Calls.Call.{creates, reads, writes, allots, trims, kills};
 ghost use Rattle.play_trace.specs.Reading.{readTrace, stepsOf};
 ghost use Rattle.play_session.specs.Playing.{longest, undated, single, afterOpen, made, play};
@@ -51,7 +52,7 @@ fn write_fill(
 ) -> u8
     requires { ⌜ checked ≡ check g (now image) ⌝ }
     ensures { λ r. ⌜ (r, now (image .exit)) ≡ afterOpen g (now (image .entry)) (now (name .entry)) (a .length)
-        (λ h. writes mode (movedTo h (a .position)) (replicate longest (a .fill))) ⌝ }
+        (λ h. writes oneRecord mode (movedTo h (a .position)) (replicate longest (a .fill))) ⌝ }
 {
     let fill = a.fill;
     let o = look_up::open_checked(image, g, name, a.length, false, 0, checked);
@@ -61,7 +62,7 @@ fn write_fill(
     let mut h = o.handle;
     h.at = a.position;
     let buffer = [fill; 256];
-    let w = write::write_checked(image, g, mode, h, &buffer, checked);
+    let w = write::write_checked(image, g, mode, h, h.len, &buffer, checked);
     w.refusal.number
 }
 
@@ -108,7 +109,7 @@ fn kill_file(image: &mut [u8], g: Geometry, name: &[u8], checked: Refusal) -> u8
 fn read_through(image: &[u8], g: Geometry, name: &[u8], a: ReadWith, checked: Refusal) -> u8
     requires { ⌜ checked ≡ check g (now image) ⌝ }
     ensures { λ r. ⌜ (r, now (image .entry)) ≡ afterOpen g (now (image .entry)) (now (name .entry)) (a .length)
-        (λ h. reads (movedTo h (a .position)) (replicate longest 0)) ⌝ }
+        (λ h. reads oneRecord (movedTo h (a .position)) (replicate longest 0)) ⌝ }
 {
     let o = look_up::open_checked(image, g, name, a.length, false, 0, checked);
     if o.refusal.number != 0 {
@@ -117,7 +118,7 @@ fn read_through(image: &[u8], g: Geometry, name: &[u8], a: ReadWith, checked: Re
     let mut h = o.handle;
     h.at = a.position;
     let mut buffer = [0u8; 256];
-    let r = read::record_checked(image, g, h, &mut buffer, checked);
+    let r = read::read_checked(image, g, h, h.len, &mut buffer, checked);
     r.refusal.number
 }
 

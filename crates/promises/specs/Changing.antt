@@ -18,7 +18,7 @@ use Rattle.meaning.specs.Refusals.{protected, cannotGrow, first}
 use Rattle.meaning.specs.Handles.{movedTo, inRange}
 use Rattle.meaning.specs.Names.{fold}
 use Rattle.meaning.specs.Create.{create, newSlot}
-use Rattle.meaning.specs.Write.{writeRecord, toWrite}
+use Rattle.meaning.specs.Write.{writeOf, toWrite}
 use Rattle.meaning.specs.Allot.{allot, toAllot}
 use Rattle.meaning.specs.Trim.{trim}
 use Rattle.meaning.specs.Kill.{kill}
@@ -42,7 +42,7 @@ use Rattle.laws.specs.Passed.{Holds}
 use Rattle.promises.specs.KillMeans
 use Rattle.promises.specs.CreateMeans
 use Rattle.promises.specs.Promises
-use Rattle.promises.specs.Promises.{Becomes, Live, InRange, Serves}
+use Rattle.promises.specs.Promises.{Becomes, Live, InRange, Serves, Writes}
 use Rattle.promises.specs.Refusing
 use Rattle.promises.specs.Passing
 use Rattle.promises.specs.Grow
@@ -151,7 +151,7 @@ allot-serves g d h k e =
           (left-after g d (allot g d h k .1) (nameOf g d (h .slot)) (w .fits) (h .slot) (Named.named-at g (allot g d h k .1) (Facts.sound g (allot g d h k .1) (x .consistent′)) (h .slot) (nameOf g d (h .slot)) (x .file′) (x .name′)) (x .touch)) (omega (arith, x .free));
       handle′ = refl;
       live = λ f q. alive g d (allot g d h k .1) h h w (x .file′) (x .name′) refl refl;
-      ranged = Refusing.range-iff g h .0 (Passing.first-of (inRange g h) (ltb k (sectorNumbers g))
+      ranged = Refusing.range-iff g h .0 (Passing.first-of (inRange g h) (ltb k (sectorNumbers g) ∷ [])
           (Passing.handle-passed g d h (all (inRange g h ∷ ltb k (sectorNumbers g) ∷ [])) (protected g d 4 h ∷ cannotGrow g d (h .slot) (toAllot g d h k)) e .1));
     }
 
@@ -176,35 +176,35 @@ gat-in : (g : Geometry) (d : List ℕ) → Facts.Sound g d → Places.Fits g d �
 unfolding words
 gat-in g d c k b h = Write.in-directory g d (256 * g .start + b) (k .start-at) (Places.dir g d (c .dir)) (omega arith) (omega (arith, k .blocks-hi))
 
-write-range : (g : Geometry) (d : List ℕ) (m : Mode) (h : Handle) (b : List ℕ) → writeRecord g d m h b .0 .refusal .number ≡ 0 → InRange g (movedTo h (h .at + h .len))
-unfolding writeRecord all
-write-range g d m h b e =
-    let far = leb (h .at + h .len) (highest g) in let room = leb (h .len) (length b) in
-    let t = Passing.handle-passed g d h (all (inRange g h ∷ far ∷ room ∷ [])) (protected g d 4 h ∷ cannotGrow g d (h .slot) (toWrite g d m h)) e .1 in
+write-range : (g : Geometry) (d : List ℕ) (m : Mode) (h : Handle) (n : ℕ) (b : List ℕ) → writeOf g d m h n b .0 .refusal .number ≡ 0 → InRange g (movedTo h (h .at + n))
+unfolding writeOf all
+write-range g d m h n b e =
+    let far = leb (h .at + n) (highest g) in let room = leb n (length b) in
+    let t = Passing.handle-passed g d h (all (inRange g h ∷ far ∷ room ∷ [])) (protected g d 4 h ∷ cannotGrow g d (h .slot) (toWrite g d m h n)) e .1 in
     let u = Members.and-r (inRange g h) (far && (room && true)) t in
-    Passing.further g h (h .at + h .len) (Refusing.range-iff g h .0 (Members.and-l (inRange g h) (far && (room && true)) t)) (leb→le (h .at + h .len) (highest g) (Members.and-l far (room && true) u))
+    Passing.further g h (h .at + n) (Refusing.range-iff g h .0 (Members.and-l (inRange g h) (far && (room && true)) t)) (leb→le (h .at + n) (highest g) (Members.and-l far (room && true) u))
 
-pub write-serves : (g : Geometry) (d : List ℕ) (m : Mode) (h : Handle) (b : List ℕ) → writeRecord g d m h b .0 .refusal .number ≡ 0 → Serves g d (Call.writes m h b)
-write-serves g d m h b e =
-    let w = WriteMeans.write-wrote g d m h b e .0 in let x = WriteMeans.write-wrote g d m h b e .1 in
-    let d′ = writeRecord g d m h b .1 in let p = h .slot in
-    let many : length (owned g d′ p) ≡ writtenTo g m (h .at) (take (h .len) b) (fileAt g d p) .granules = owns g d′ p ∙ ap (λ (f : File). f .granules) (x .told) in
+pub write-serves : (g : Geometry) (d : List ℕ) (m : Mode) (h : Handle) (n : ℕ) (b : List ℕ) → writeOf g d m h n b .0 .refusal .number ≡ 0 → Writes g d m h n b
+write-serves g d m h n b e =
+    let w = WriteMeans.write-wrote g d m h n b e .0 in let x = WriteMeans.write-wrote g d m h n b e .1 in
+    let d′ = writeOf g d m h n b .1 in let p = h .slot in
+    let many : length (owned g d′ p) ≡ writtenTo g m (h .at) (take n b) (fileAt g d p) .granules = owns g d′ p ∙ ap (λ (f : File). f .granules) (x .told) in
     let c′ = Facts.sound g d′ (x .consistent′) in
     let at : named g d′ (nameOf g d p) ≡ p ∷ [] = Named.named-at g d′ c′ p (nameOf g d p) (x .file′) (x .name′) in
     record {
       file = fileAt g d p;
       mine = refl;
-      becomes = by-handle g d d′ h w (found (writtenTo g m (h .at) (take (h .len) b) (fileAt g d p))) (x .own) (x .others) (x .beyond′) (x .names′)
+      becomes = by-handle g d d′ h w (found (writtenTo g m (h .at) (take n b) (fileAt g d p))) (x .own) (x .others) (x .beyond′) (x .names′)
           (left g d d′ (nameOf g d p) (w .fits) (chain g d′ p) (owned g d′ p) (x .touch) (λ y i. entries-after g d d′ (nameOf g d p) p y at i) (λ n i. rw at (Members.in-append-l [] i))
           (λ b l i. x .apart ((256 * g .start + b) / granuleBytes g) i (gat-in g d′ c′ (WriteMeans.fits-after g d d′ (w .fits) (x .long)) b l)))
           (x .free ∙ ap (λ (n : ℕ). length (freeGranules g d′) + n) many);
       handle′ = moved e;
-      live = λ f q. alive g d d′ h (writeRecord g d m h b .0 .handle) w (x .file′) (x .name′) (ap (λ (k : Handle). k .slot) (moved e)) (ap (λ (k : Handle). k .name) (moved e));
-      ranged = subst (InRange g) (sym (moved e)) (write-range g d m h b e);
+      live = λ f q. alive g d d′ h (writeOf g d m h n b .0 .handle) w (x .file′) (x .name′) (ap (λ (k : Handle). k .slot) (moved e)) (ap (λ (k : Handle). k .name) (moved e));
+      ranged = subst (InRange g) (sym (moved e)) (write-range g d m h n b e);
     }
   where
-    moved : writeRecord g d m h b .0 .refusal .number ≡ 0 → writeRecord g d m h b .0 .handle ≡ movedTo h (h .at + h .len)
-    moved e = unfold writeRecord in rw e
+    moved : writeOf g d m h n b .0 .refusal .number ≡ 0 → writeOf g d m h n b .0 .handle ≡ movedTo h (h .at + n)
+    moved e = unfold writeOf in rw e
 
 -- a file born
 pub create-becomes : (g : Geometry) (d n : List ℕ) (f : NewFile) (checking : Bool) → create g d n f checking .0 .refusal .number ≡ 0 → create g d n f checking .0 .old ≡ false

@@ -5,6 +5,7 @@ use mathlib.Core.List.{List, [], _∷_}
 use Prim.Native.Nat.{ℕ}
 use Rattle.meaning.specs.Refusals.{check}
 use Rattle.meaning.specs.Listing
+use Rattle.meaning.specs.Amount.{howMany}
 use Rattle.meaning.specs.Calls.{Call, number, leaves}
 use Rattle.promises_words.specs.Given.{AreBytes}
 use Rattle.meaning.specs.declared.Geometry.{Geometry}
@@ -46,9 +47,9 @@ module _ (g : Geometry) (d : List ℕ) where
   serves (Call.looksUp n) b e = Finding.look-serves g d n e
   serves (Call.opens n len checking code) b e = Finding.open-serves g d n len checking code e
   serves (Call.creates n f checking) b e = Finding.create-serves g d n f checking e
-  serves (Call.reads h x) b e = Sector.read-serves g d h x e
+  serves (Call.reads a h x) b e = Sector.read-serves g d h (howMany a (h .len) x) x e
   serves (Call.readsSector h k) b e = Sector.sector-serves g d b h k e
-  serves (Call.writes m h x) b e = Changing.write-serves g d m h x e
+  serves (Call.writes a m h x) b e = Changing.write-serves g d m h (howMany a (h .len) x) x e
   serves (Call.allots h k) b e = Changing.allot-serves g d h k e
   serves (Call.trims h) b e = Changing.trim-serves g d h e
   serves (Call.kills h) b e = Changing.kill-serves g d h e
@@ -62,9 +63,9 @@ module _ (g : Geometry) (d : List ℕ) where
   refuses (Call.looksUp n) k = Finding.look-refuses g d n k
   refuses (Call.opens n len checking code) k = Passing.open-refuses g d n len checking code k
   refuses (Call.creates n f checking) k = Passing.create-refuses g d n f checking k
-  refuses (Call.reads h x) k = Passing.read-refuses g d h x k
+  refuses (Call.reads a h x) k = Passing.read-refuses g d h (howMany a (h .len) x) x k
   refuses (Call.readsSector h i) k = Passing.sector-refuses g d h i k
-  refuses (Call.writes m h x) k = Passing.write-refuses g d m h x k
+  refuses (Call.writes a m h x) k = Passing.write-refuses g d m h (howMany a (h .len) x) x k
   refuses (Call.allots h i) k = Passing.allot-refuses g d h i
   refuses (Call.trims h) k = Passing.trim-refuses g d h
   refuses (Call.kills h) k = Passing.kill-refuses g d h
@@ -99,7 +100,7 @@ gat-alone g d d′ e same = Measuring.alone g d d′ e same
 
 -- write, then read
 pub every-write : EveryWrite
-every-write g d m h b e = ReadBack.reads-back g d m h b e
+every-write g d m h n b e = ReadBack.reads-back g d m h n b e
 
 -- the numbers 21 to 30 and the old 2
 pub old-two : OldTwo

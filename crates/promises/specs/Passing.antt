@@ -15,8 +15,9 @@ use Rattle.meaning.specs.Names.{fold}
 use Rattle.meaning.specs.LookUp.{missing}
 use Rattle.meaning.specs.Open.{open′}
 use Rattle.meaning.specs.Create.{create}
-use Rattle.meaning.specs.Read.{readRecord, readSector}
-use Rattle.meaning.specs.Write.{writeRecord}
+use Rattle.meaning.specs.Amount.{howMany}
+use Rattle.meaning.specs.Read.{readOf, readSector}
+use Rattle.meaning.specs.Write.{writeOf}
 use Rattle.meaning.specs.Allot.{allot}
 use Rattle.meaning.specs.Trim.{trim}
 use Rattle.meaning.specs.Kill.{kill}
@@ -54,10 +55,10 @@ module _ (g : Geometry) (d : List ℕ) (h : Handle) where
   pub live-file : Live g d h → Facts.IsFile g d (h .slot)
   live-file l = record { slot = l .slot; primary′ = Members.and-i (inUse g d (h .slot)) (not (extension g d (h .slot))) (l .used) (l .first) }
 
--- the first of two tests
-pub first-of : (a b : Bool) → T (all (a ∷ b ∷ [])) → T a
+-- the first of several tests
+pub first-of : (a : Bool) (bs : List Bool) → T (all (a ∷ bs)) → T a
 unfolding all
-first-of a b t = Members.and-l a (b && true) t
+first-of a bs t = Members.and-l a (all bs) t
 
 -- a handle in range, moved within the range
 pub further : (g : Geometry) (h : Handle) (at : ℕ) → InRange g h → at ≤ highest g → InRange g (movedTo h at)
@@ -74,14 +75,14 @@ other-both n b x y k = rw (Members.no-false {b = eqb n 0} (λ t. k (eqb→eq n 0
 module _ (g : Geometry) (d : List ℕ) where
   -- the image is as it stood
   pub as-stood : (c : Call) → number g d c ≢ 0 → leaves g d c ≡ d
-  unfolding number leaves create writeRecord allot trim kill
+  unfolding number leaves create writeOf allot trim kill
   as-stood Call.checks k = refl
   as-stood (Call.looksUp n) k = refl
   as-stood (Call.opens n len checking code) k = refl
   as-stood (Call.creates n f checking) k = other-both (create g d n f checking .0 .refusal .number) (missing g d (fold n)) _ d k
-  as-stood (Call.reads h b) k = refl
+  as-stood (Call.reads a h b) k = refl
   as-stood (Call.readsSector h i) k = refl
-  as-stood (Call.writes m h b) k = other-case (writeRecord g d m h b .0 .refusal .number) _ d k
+  as-stood (Call.writes a m h b) k = other-case (writeOf g d m h (howMany a (h .len) b) b .0 .refusal .number) _ d k
   as-stood (Call.allots h i) k = other-case (allot g d h i .0 .refusal .number) _ d k
   as-stood (Call.trims h) k = other-both (trim g d h .0 .refusal .number) _ _ d k
   as-stood (Call.kills h) k = other-case (kill g d h .0 .refusal .number) _ d k
@@ -109,17 +110,17 @@ module _ (g : Geometry) (d : List ℕ) where
   create-refuses n f checking k =
       (other-case (create g d n f checking .0 .refusal .number) _ noHandle k, ap (λ (b : Bool). b && not (missing g d (fold n))) (Members.no-false {b = eqb (create g d n f checking .0 .refusal .number) 0} (λ t. k (eqb→eq _ 0 t))))
 
-  pub read-refuses : (h : Handle) (b : List ℕ) → readRecord g d h b .0 .refusal .number ≢ 0 → (readRecord g d h b .0 .handle ≡ h) × (readRecord g d h b .1 ≡ b)
-  unfolding readRecord
-  read-refuses h b k = (other-case (readRecord g d h b .0 .refusal .number) _ h k, other-case (readRecord g d h b .0 .refusal .number) _ b k)
+  pub read-refuses : (h : Handle) (n : ℕ) (b : List ℕ) → readOf g d h n b .0 .refusal .number ≢ 0 → (readOf g d h n b .0 .handle ≡ h) × (readOf g d h n b .1 ≡ b)
+  unfolding readOf
+  read-refuses h n b k = (other-case (readOf g d h n b .0 .refusal .number) _ h k, other-case (readOf g d h n b .0 .refusal .number) _ b k)
 
   pub sector-refuses : (h : Handle) (i : ℕ) → readSector g d h i .refusal .number ≢ 0 → (readSector g d h i .from ≡ 0) × (readSector g d h i .to ≡ 0)
   unfolding readSector
   sector-refuses h i k = (other-case (readSector g d h i .refusal .number) _ 0 k, other-case (readSector g d h i .refusal .number) _ 0 k)
 
-  pub write-refuses : (m : Mode) (h : Handle) (b : List ℕ) → writeRecord g d m h b .0 .refusal .number ≢ 0 → writeRecord g d m h b .0 .handle ≡ h
-  unfolding writeRecord
-  write-refuses m h b k = other-case (writeRecord g d m h b .0 .refusal .number) _ h k
+  pub write-refuses : (m : Mode) (h : Handle) (n : ℕ) (b : List ℕ) → writeOf g d m h n b .0 .refusal .number ≢ 0 → writeOf g d m h n b .0 .handle ≡ h
+  unfolding writeOf
+  write-refuses m h n b k = other-case (writeOf g d m h n b .0 .refusal .number) _ h k
 
   pub allot-refuses : (h : Handle) (i : ℕ) → allot g d h i .0 .handle ≡ h
   unfolding allot

@@ -27,8 +27,9 @@ use Rattle.meaning.specs.Handles.{movedTo, noHandle}
 use Rattle.meaning.specs.LookUp.{lookUp, named}
 use Rattle.meaning.specs.Open.{open′}
 use Rattle.meaning.specs.Create.{create}
-use Rattle.meaning.specs.Read.{readRecord, readSector}
-use Rattle.meaning.specs.Write.{writeRecord, sizeAfter}
+use Rattle.meaning.specs.Amount.{howMany}
+use Rattle.meaning.specs.Read.{readOf, readSector}
+use Rattle.meaning.specs.Write.{writeOf, sizeAfter}
 use Rattle.meaning.specs.Allot.{allot, granulesTo}
 use Rattle.meaning.specs.Trim.{trim}
 use Rattle.meaning.specs.Kill.{kill}
@@ -54,9 +55,9 @@ Brings checks = Unit {0}
 Brings (looksUp n) = Unit {0}
 Brings (opens n len checking code) = Unit {0}
 Brings (creates n f checking) = CodesFit f
-Brings (reads h b) = Unit {0}
+Brings (reads a h b) = Unit {0}
 Brings (readsSector h k) = Unit {0}
-Brings (writes m h b) = AreBytes b
+Brings (writes a m h b) = AreBytes b
 Brings (allots h k) = Unit {0}
 Brings (trims h) = Unit {0}
 Brings (kills h) = Unit {0}
@@ -188,14 +189,14 @@ pub record Creates (g : Geometry) (d n : List ℕ) (f : NewFile) (checking : Boo
   pub handle′ : create g d n f checking .0 .old ≡ false
       → create g d n f checking .0 .handle ≡ record { slot = firstOr 0 (freeSlots g d); name = fold n; at = 0; len = f .len; level = 0 }
 
--- Read record: the plain file's bytes at the position, to the start of the buffer; the rest of it is untouched, the position advances
-pub record Reads (g : Geometry) (d : List ℕ) (h : Handle) (b : List ℕ) : Type 0 where
+-- A read of n bytes, a record's or the buffer's: the plain file's bytes at the position, to the start of the buffer; the rest of it is untouched, the position advances
+pub record Reads (g : Geometry) (d : List ℕ) (h : Handle) (n : ℕ) (b : List ℕ) : Type 0 where
   pub file : File
   pub called : plain g d (h .name) ≡ found file
-  pub inside : h .at + h .len ≤ length (file .bytes)
-  pub buffer : readRecord g d h b .1 ≡ take (h .len) (drop (h .at) (file .bytes)) ++ drop (h .len) b
-  pub handle′ : readRecord g d h b .0 .handle ≡ movedTo h (h .at + h .len)
-  pub ranged : InRange g (readRecord g d h b .0 .handle)
+  pub inside : h .at + n ≤ length (file .bytes)
+  pub buffer : readOf g d h n b .1 ≡ take n (drop (h .at) (file .bytes)) ++ drop n b
+  pub handle′ : readOf g d h n b .0 .handle ≡ movedTo h (h .at + n)
+  pub ranged : InRange g (readOf g d h n b .0 .handle)
 
 -- Read sector k: the image's bytes from one place up to another, 1 to 256 of them, are the plain file's bytes 256k and on
 pub record ReadsSector (g : Geometry) (d : List ℕ) (h : Handle) (k : ℕ) : Type 0 where
@@ -242,16 +243,20 @@ pub record Measured (g : Geometry) (d : List ℕ) : Type 0 where
   pub stretch : Stretch g d first (freeSpace g d .longest)
   pub none-longer : (a n : ℕ) → Stretch g d a n → n ≤ freeSpace g d .longest
 
+-- A write of n bytes, a record's or the buffer's: the first n of the buffer go into the file at the position, which advances
+abbrev pub Writes : Geometry → List ℕ → Mode → Handle → ℕ → List ℕ → Type 0
+Writes g d m h n b =
+    Changes g d (writeOf g d m h n b .1) h (writeOf g d m h n b .0 .handle) (λ f. found (writtenTo g m (h .at) (take n b) f)) (movedTo h (h .at + n))
+
 -- What each accepted call answers and does
 abbrev pub Serves : Geometry → List ℕ → Call → Type 0
 Serves g d checks = (fitsGeometry g d ≡ true) × (consistent g d ≡ true)
 Serves g d (looksUp n) = LooksUp g d n
 Serves g d (opens n len checking code) = Opened g d (fold n) len checking code (open′ g d n len checking code .handle)
 Serves g d (creates n f checking) = Creates g d n f checking
-Serves g d (reads h b) = Reads g d h b
+Serves g d (reads a h b) = Reads g d h (howMany a (h .len) b) b
 Serves g d (readsSector h k) = ReadsSector g d h k
-Serves g d (writes m h b) =
-    Changes g d (writeRecord g d m h b .1) h (writeRecord g d m h b .0 .handle) (λ f. found (writtenTo g m (h .at) (take (h .len) b) f)) (movedTo h (h .at + h .len))
+Serves g d (writes a m h b) = Writes g d m h (howMany a (h .len) b) b
 Serves g d (allots h k) = Changes g d (allot g d h k .1) h (allot g d h k .0 .handle) (λ f. found (allottedTo g k f)) h
 Serves g d (trims h) = Changes g d (trim g d h .1) h (trim g d h .0 .handle) (λ f. found (trimmed g f)) h
 Serves g d (kills h) = Changes g d (kill g d h .1) h (kill g d h .0 .handle) (λ f. nothing) h
@@ -274,9 +279,9 @@ Refuses g d checks = Unit {0}
 Refuses g d (looksUp n) = NotFound g d n
 Refuses g d (opens n len checking code) = open′ g d n len checking code .handle ≡ noHandle
 Refuses g d (creates n f checking) = (create g d n f checking .0 .handle ≡ noHandle) × (create g d n f checking .0 .old ≡ false)
-Refuses g d (reads h b) = (readRecord g d h b .0 .handle ≡ h) × (readRecord g d h b .1 ≡ b)
+Refuses g d (reads a h b) = let r = readOf g d h (howMany a (h .len) b) b in (r .0 .handle ≡ h) × (r .1 ≡ b)
 Refuses g d (readsSector h k) = (readSector g d h k .from ≡ 0) × (readSector g d h k .to ≡ 0)
-Refuses g d (writes m h b) = writeRecord g d m h b .0 .handle ≡ h
+Refuses g d (writes a m h b) = writeOf g d m h (howMany a (h .len) b) b .0 .handle ≡ h
 Refuses g d (allots h k) = allot g d h k .0 .handle ≡ h
 Refuses g d (trims h) = trim g d h .0 .handle ≡ h
 Refuses g d (kills h) = kill g d h .0 .handle ≡ h
@@ -361,6 +366,17 @@ module _ (g : Geometry) (d : List ℕ) where
   abbrev pub WrongCode : List ℕ → Bool → ℕ → Type 0
   WrongCode n checking code = (f : File) × (plain g d n ≡ found f) × (Full g f checking code → ⊥) × (code ≢ workerCode f)
 
+  -- of a read of n bytes; no record length is over the highest position
+  abbrev pub readTable : Handle → ℕ → List ℕ → Table
+  readTable h n b =
+      handleCases h (InRange g h × (n ≤ highest g) × (n ≤ length b)) ((6, 5 < h .level) ∷ (10, length (fileOf h .bytes) < h .at + n) ∷ [])
+
+  -- of a write of n bytes
+  abbrev pub writeTable : Mode → Handle → ℕ → List ℕ → Table
+  writeTable m h n b =
+      handleCases h (InRange g h × (h .at + n ≤ highest g) × (n ≤ length b))
+      (barred 4 h ∷ growthCases h (lacks h (granulesFor g (sizeAfter m (length (fileOf h .bytes)) (h .at + n)))))
+
   abbrev pub table : Call → Table
   table checks = diskCases []
   table (looksUp n) = diskCases (badName n ∷ (4, NoFile (fold n)) ∷ [])
@@ -368,13 +384,10 @@ module _ (g : Geometry) (d : List ℕ) where
       diskCases ((12, (LengthInRange len → ⊥)) ∷ badName n ∷ (4, NoFile (fold n)) ∷ (5, WrongCode (fold n) checking code) ∷ [])
   table (creates n f checking) =
       diskCases ((12, (NewInRange f → ⊥)) ∷ badName n ∷ (5, WrongCode (fold n) checking (f .main)) ∷ (8, NoFile (fold n) × (freeSlots g d ≡ [])) ∷ [])
-  table (reads h b) =
-      handleCases h (InRange g h × (h .len ≤ length b)) ((6, 5 < h .level) ∷ (10, length (fileOf h .bytes) < h .at + h .len) ∷ [])
+  table (reads a h b) = readTable h (howMany a (h .len) b) b
   table (readsSector h k) =
       handleCases h (InRange g h × (k < sectorNumbers g)) ((6, 5 < h .level) ∷ (10, sectorCount g d (h .slot) ≤ k) ∷ [])
-  table (writes m h b) =
-      handleCases h (InRange g h × (h .at + h .len ≤ highest g) × (h .len ≤ length b))
-      (barred 4 h ∷ growthCases h (lacks h (granulesFor g (sizeAfter m (length (fileOf h .bytes)) (h .at + h .len)))))
+  table (writes a m h b) = writeTable m h (howMany a (h .len) b) b
   table (allots h k) = handleCases h (InRange g h × (k < sectorNumbers g)) (barred 4 h ∷ growthCases h (lacks h (granulesTo g k)))
   table (trims h) = handleCases h (InRange g h) (barred 4 h ∷ [])
   table (kills h) = handleCases h (InRange g h) (barred 1 h ∷ [])
@@ -419,18 +432,18 @@ GatAlone = (g : Geometry) (d d′ : List ℕ) → length d′ ≡ length d → (
 
 -- 8. Read back ------------------------------------------------------------------------------------------------------------------------------
 
--- After an accepted write a read of that length at that position, by the same handle, is accepted and answers the record, whatever the
--- buffer; and every byte of the file outside the record and the gap is as it was, the gap zero.
-pub record ReadsBack (g : Geometry) (d : List ℕ) (m : Mode) (h : Handle) (b : List ℕ) : Type 0 where
-  pub accepted′ : (b′ : List ℕ) → h .len ≤ length b′ → readRecord g (writeRecord g d m h b .1) h b′ .0 .refusal .number ≡ 0
-  pub record′ : (b′ : List ℕ) → h .len ≤ length b′ → readRecord g (writeRecord g d m h b .1) h b′ .1 ≡ take (h .len) b ++ drop (h .len) b′
-  pub kept : (j : ℕ) → j < length (fileAt g d (h .slot) .bytes) → j < length (fileAt g (writeRecord g d m h b .1) (h .slot) .bytes) → (j < h .at) ⊎ (h .at + h .len ≤ j)
-      → getD (fileAt g (writeRecord g d m h b .1) (h .slot) .bytes) j 0 ≡ getD (fileAt g d (h .slot) .bytes) j 0
-  pub gap : (j : ℕ) → length (fileAt g d (h .slot) .bytes) ≤ j → j < h .at → getD (fileAt g (writeRecord g d m h b .1) (h .slot) .bytes) j 0 ≡ 0
-  pub size : length (fileAt g (writeRecord g d m h b .1) (h .slot) .bytes) ≡ sizeAfter m (length (fileAt g d (h .slot) .bytes)) (h .at + h .len)
+-- After an accepted write of n bytes a read of n bytes at that position, by the same handle, is accepted and answers them, whatever the
+-- buffer; and every byte of the file outside them and the gap is as it was, the gap zero.
+pub record ReadsBack (g : Geometry) (d : List ℕ) (m : Mode) (h : Handle) (n : ℕ) (b : List ℕ) : Type 0 where
+  pub accepted′ : (b′ : List ℕ) → n ≤ length b′ → readOf g (writeOf g d m h n b .1) h n b′ .0 .refusal .number ≡ 0
+  pub bytes′ : (b′ : List ℕ) → n ≤ length b′ → readOf g (writeOf g d m h n b .1) h n b′ .1 ≡ take n b ++ drop n b′
+  pub kept : (j : ℕ) → j < length (fileAt g d (h .slot) .bytes) → j < length (fileAt g (writeOf g d m h n b .1) (h .slot) .bytes) → (j < h .at) ⊎ (h .at + n ≤ j)
+      → getD (fileAt g (writeOf g d m h n b .1) (h .slot) .bytes) j 0 ≡ getD (fileAt g d (h .slot) .bytes) j 0
+  pub gap : (j : ℕ) → length (fileAt g d (h .slot) .bytes) ≤ j → j < h .at → getD (fileAt g (writeOf g d m h n b .1) (h .slot) .bytes) j 0 ≡ 0
+  pub size : length (fileAt g (writeOf g d m h n b .1) (h .slot) .bytes) ≡ sizeAfter m (length (fileAt g d (h .slot) .bytes)) (h .at + n)
 
 abbrev pub EveryWrite : Type 0
-EveryWrite = (g : Geometry) (d : List ℕ) (m : Mode) (h : Handle) (b : List ℕ) → writeRecord g d m h b .0 .refusal .number ≡ 0 → ReadsBack g d m h b
+EveryWrite = (g : Geometry) (d : List ℕ) (m : Mode) (h : Handle) (n : ℕ) (b : List ℕ) → writeOf g d m h n b .0 .refusal .number ≡ 0 → ReadsBack g d m h n b
 
 -- 9. A name that comes in (02 §7) -----------------------------------------------------------------------------------------------------------
 

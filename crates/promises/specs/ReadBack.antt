@@ -7,9 +7,8 @@ use native.Mathlib.Omega.{arith}
 use native.Mathlib.Decide.{decLe}
 use lib.ListN.{length, getD, take, drop, length-take, length-drop}
 use lib.Seq.{getD-take, getD-drop, ext-getD}
-use Rattle.meaning.specs.Read.{readRecord}
-use Rattle.meaning.specs.Write.{writeRecord, sizeAfter}
-use Rattle.meaning.specs.Calls.{Call, number}
+use Rattle.meaning.specs.Read.{readOf}
+use Rattle.meaning.specs.Write.{writeOf, sizeAfter}
 use Rattle.meaning.specs.Plain
 use Rattle.meaning.specs.Plain.{fileAt, writtenTo, overwritten}
 use Rattle.meaning.specs.declared.Geometry.{Geometry}
@@ -17,7 +16,7 @@ use Rattle.meaning.specs.declared.Handle.{Handle}
 use Rattle.meaning.specs.declared.Mode.{Mode}
 use Rattle.laws.specs.Facts
 use Rattle.laws.specs.Rewrite
-use Rattle.promises.specs.Promises.{ReadsBack, Rows, table, FitsGeometry, Live}
+use Rattle.promises.specs.Promises.{ReadsBack, Rows, readTable, writeTable, FitsGeometry, Live}
 use Rattle.promises.specs.Refusing
 use Rattle.promises.specs.Over
 use Rattle.promises.specs.Read
@@ -52,58 +51,54 @@ module _ (m : Mode) (O : List ℕ) (at : ℕ) (r : List ℕ) where
   over-gap : (j : ℕ) → length O ≤ j → j < at → getD (overwritten m O at r) j 0 ≡ 0
   over-gap j a b = over-at j (omega (arith, Rewrite.after-end m (length O) (at + length r))) ∙ Over.whole-zero O r at j a b
 
-module _ (g : Geometry) (d : List ℕ) (m : Mode) (h : Handle) (b : List ℕ) (e : writeRecord g d m h b .0 .refusal .number ≡ 0) where
+module _ (g : Geometry) (d : List ℕ) (m : Mode) (h : Handle) (n : ℕ) (b : List ℕ) (e : writeOf g d m h n b .0 .refusal .number ≡ 0) where
   abbrev d′ : List ℕ
-  d′ = writeRecord g d m h b .1
+  d′ = writeOf g d m h n b .1
 
   abbrev p : ℕ
   p = h .slot
 
   abbrev r : List ℕ
-  r = take (h .len) b
+  r = take n b
 
   abbrev O : List ℕ
   O = fileAt g d (h .slot) .bytes
 
-  wrote : WriteMeans.Wrote g d (writeRecord g d m h b .1) (h .slot) (writtenTo g m (h .at) (take (h .len) b) (fileAt g d (h .slot)))
-  wrote = WriteMeans.write-wrote g d m h b e .1
+  wrote : WriteMeans.Wrote g d (writeOf g d m h n b .1) (h .slot) (writtenTo g m (h .at) (take n b) (fileAt g d (h .slot)))
+  wrote = WriteMeans.write-wrote g d m h n b e .1
 
-  new : fileAt g (writeRecord g d m h b .1) (h .slot) .bytes ≡ overwritten m (fileAt g d (h .slot) .bytes) (h .at) (take (h .len) b)
+  new : fileAt g (writeOf g d m h n b .1) (h .slot) .bytes ≡ overwritten m (fileAt g d (h .slot) .bytes) (h .at) (take n b)
   unfolding writtenTo
   new = ap (λ (f : Plain.File). f .bytes) (wrote .told)
 
   -- no case of the write's table holds
-  passes : number g d (Call.writes m h b) ≡ 0
-  unfolding number
-  passes = e
+  written : Rows (writeOf g d m h n b .0 .refusal .number) (Refusing.Checked g d) (Refusing.ownCases (writeTable g d m h n b))
+  written = Refusing.own-rows g d (Refusing.ownCases (writeTable g d m h n b)) (writeOf g d m h n b .0 .refusal .number) (Refusing.write-numbers g d m h n b)
 
-  written : Rows (number g d (Call.writes m h b)) (Refusing.Checked g d) (Refusing.ownCases (table g d (Call.writes m h b)))
-  written = Refusing.own-rows g d (Refusing.ownCases (table g d (Call.writes m h b))) (number g d (Call.writes m h b)) (Refusing.numbers g d (Call.writes m h b))
-
-  short : h .len ≤ length b
-  short = go (decLe (h .len) (length b))
+  short : n ≤ length b
+  short = go (decLe n (length b))
     where
-      go : Dec (h .len ≤ length b) → h .len ≤ length b
+      go : Dec (n ≤ length b) → n ≤ length b
       go (yes q) = q
-      go (no q) = absurd (written .1 .1 .1 .1 .1 .1 .0 passes .0 .0 .0 .0 .0 .1 (λ t. q (t .2)))
+      go (no q) = absurd (written .1 .1 .1 .1 .1 .1 .0 e .0 .0 .0 .0 .0 .1 (λ t. q (t .2)))
 
-  long : length (take (h .len) b) ≡ h .len
-  long = length-take (h .len) b ∙ omega (arith, short)
+  long : length (take n b) ≡ n
+  long = length-take n b ∙ omega (arith, short)
 
-  size : length (fileAt g (writeRecord g d m h b .1) (h .slot) .bytes) ≡ sizeAfter m (length (fileAt g d (h .slot) .bytes)) (h .at + h .len)
-  size = ap length new ∙ Over.overwritten-length m O (h .at) r ∙ ap (λ (n : ℕ). sizeAfter m (length O) (h .at + n)) long
+  size : length (fileAt g (writeOf g d m h n b .1) (h .slot) .bytes) ≡ sizeAfter m (length (fileAt g d (h .slot) .bytes)) (h .at + n)
+  size = ap length new ∙ Over.overwritten-length m O (h .at) r ∙ ap (λ (k : ℕ). sizeAfter m (length O) (h .at + k)) long
 
-  live : Live g (writeRecord g d m h b .1) h
+  live : Live g (writeOf g d m h n b .1) h
   live =
       let x = wrote in
       record {
         slot = x .file′ .slot;
         used = Facts.file-in-use g d′ p (x .file′);
         first = Facts.file-first g d′ p (x .file′);
-        name′ = x .name′ ∙ WriteMeans.write-wrote g d m h b e .0 .name′;
+        name′ = x .name′ ∙ WriteMeans.write-wrote g d m h n b e .0 .name′;
       }
 
-  fits′ : FitsGeometry g d → FitsGeometry g (writeRecord g d m h b .1)
+  fits′ : FitsGeometry g d → FitsGeometry g (writeOf g d m h n b .1)
   fits′ k = record {
     blocks-lo = k .blocks-lo;
     blocks-hi = k .blocks-hi;
@@ -116,34 +111,37 @@ module _ (g : Geometry) (d : List ℕ) (m : Mode) (h : Handle) (b : List ℕ) (e
   }
 
   -- none of the read's table does either
-  read-passes : (b′ : List ℕ) → h .len ≤ length b′ → number g (writeRecord g d m h b .1) (Call.reads h b′) ≡ 0
-  read-passes b′ room =
-      let w = written .1 .1 .1 .1 .1 .1 .0 passes in
-      let read : Rows (number g d′ (Call.reads h b′)) (Refusing.Checked g d′) (Refusing.ownCases (table g d′ (Call.reads h b′))) =
-      Refusing.own-rows g d′ (Refusing.ownCases (table g d′ (Call.reads h b′))) (number g d′ (Call.reads h b′)) (Refusing.numbers g d′ (Call.reads h b′)) in
+  accepted : (b′ : List ℕ) → n ≤ length b′ → readOf g (writeOf g d m h n b .1) h n b′ .0 .refusal .number ≡ 0
+  accepted b′ room =
+      let w = written .1 .1 .1 .1 .1 .1 .0 e in
+      let number = readOf g d′ h n b′ .0 .refusal .number in
+      let read : Rows number (Refusing.Checked g d′) (Refusing.ownCases (readTable g d′ h n b′)) =
+      Refusing.own-rows g d′ (Refusing.ownCases (readTable g d′ h n b′)) number (Refusing.read-numbers g d′ h n b′) in
       read .1 .1 .1 .1 .1 (
         (
-          ((Refusing.checked-of g d′ (λ n. Refusing.checked-fits g d (w .0 .0 .0 .0 .0 .0) (λ k. n (fits′ k))) (wrote .consistent′), λ n. w .0 .0 .0 .0 .0 .1 (λ t. n (t .0, room))), λ n. n live),
+          (
+            (
+              Refusing.checked-of g d′ (λ q. Refusing.checked-fits g d (w .0 .0 .0 .0 .0 .0) (λ k. q (fits′ k))) (wrote .consistent′),
+              λ q. w .0 .0 .0 .0 .0 .1 (λ t. let far = t .1 in q (t .0, omega arith, room)),
+            ),
+            λ q. q live,
+          ),
           λ l. w .0 .0 .0 .1 (inl (omega arith)),
         ),
-        λ l. omega (arith, size, Rewrite.after-end m (length O) (h .at + h .len)),
+        λ l. omega (arith, size, Rewrite.after-end m (length O) (h .at + n)),
       )
 
-  accepted : (b′ : List ℕ) → h .len ≤ length b′ → readRecord g (writeRecord g d m h b .1) h b′ .0 .refusal .number ≡ 0
-  unfolding number
-  accepted b′ room = read-passes b′ room
+  back : take n (drop (h .at) (fileAt g (writeOf g d m h n b .1) (h .slot) .bytes)) ≡ take n b
+  back = ap (λ (l : List ℕ). take n (drop (h .at) l)) new ∙ subst (λ (k : ℕ). take k (drop (h .at) (overwritten m O (h .at) r)) ≡ r) long (over-record m O (h .at) r)
 
-  back : take (h .len) (drop (h .at) (fileAt g (writeRecord g d m h b .1) (h .slot) .bytes)) ≡ take (h .len) b
-  back = ap (λ (l : List ℕ). take (h .len) (drop (h .at) l)) new ∙ subst (λ (n : ℕ). take n (drop (h .at) (overwritten m O (h .at) r)) ≡ r) long (over-record m O (h .at) r)
+  outside : (j : ℕ) → (j < h .at) ⊎ (h .at + n ≤ j) → (j < h .at) ⊎ (h .at + length (take n b) ≤ j)
+  outside j o = subst (λ (k : ℕ). (j < h .at) ⊎ (h .at + k ≤ j)) (sym long) o
 
-  outside : (j : ℕ) → (j < h .at) ⊎ (h .at + h .len ≤ j) → (j < h .at) ⊎ (h .at + length (take (h .len) b) ≤ j)
-  outside j o = subst (λ (n : ℕ). (j < h .at) ⊎ (h .at + n ≤ j)) (sym long) o
-
-  pub reads-back : ReadsBack g d m h b
+  pub reads-back : ReadsBack g d m h n b
   reads-back = record {
     accepted′ = accepted;
-    record′ = λ b′ room. Read.read-means g d′ h b′ (accepted b′ room) ∙ ap (λ (l : List ℕ). l ++ drop (h .len) b′) back;
-    kept = λ j a l o. ap (λ (x : List ℕ). getD x j 0) new ∙ over-kept m O (h .at) r j a (omega (arith, size, ap (λ (n : ℕ). sizeAfter m (length O) (h .at + n)) long)) (outside j o);
+    bytes′ = λ b′ room. Read.read-means g d′ h n b′ (accepted b′ room) ∙ ap (λ (l : List ℕ). l ++ drop n b′) back;
+    kept = λ j a l o. ap (λ (x : List ℕ). getD x j 0) new ∙ over-kept m O (h .at) r j a (omega (arith, size, ap (λ (k : ℕ). sizeAfter m (length O) (h .at + k)) long)) (outside j o);
     gap = λ j a l. ap (λ (x : List ℕ). getD x j 0) new ∙ over-gap m O (h .at) r j a l;
     size = size;
   }

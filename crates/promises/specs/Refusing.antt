@@ -21,8 +21,9 @@ use Rattle.meaning.specs.Handles.{inRange, goodLength, fresh}
 use Rattle.meaning.specs.LookUp.{named, missing, slotOf, lookUp, lookUpRefusals}
 use Rattle.meaning.specs.Open.{full, admits, open′, openRefusals}
 use Rattle.meaning.specs.Create.{create, createRefusals}
-use Rattle.meaning.specs.Read.{readRecord, readSector, readRefusals, sectorRefusals}
-use Rattle.meaning.specs.Write.{writeRecord, writeRefusals, sizeAfter, toWrite}
+use Rattle.meaning.specs.Amount.{howMany}
+use Rattle.meaning.specs.Read.{readOf, readSector, readRefusals, sectorRefusals}
+use Rattle.meaning.specs.Write.{writeOf, writeRefusals, sizeAfter, toWrite}
 use Rattle.meaning.specs.Allot.{allot, allotRefusals, toAllot}
 use Rattle.meaning.specs.Trim.{trim, trimRefusals}
 use Rattle.meaning.specs.Kill.{kill, killRefusals}
@@ -46,7 +47,7 @@ use Rattle.laws.specs.Words.{words}
 use Rattle.laws.specs.Named
 use Rattle.promises.specs.Fitting
 use Rattle.promises.specs.Promises
-use Rattle.promises.specs.Promises.{Table, Rows, Exactly, table, FitsGeometry, InRange, NewInRange, Live, Full, LengthInRange}
+use Rattle.promises.specs.Promises.{Table, Rows, Exactly, table, readTable, writeTable, FitsGeometry, InRange, NewInRange, Live, Full, LengthInRange}
 
 -- Any list of refusals ------------------------------------------------------------------------------------------------------------
 
@@ -140,7 +141,7 @@ false-iff b = (λ t. Members.no-false (T-not b t), λ e. not-T b (Members.false-
 lt-iff : (m n : ℕ) → T (ltb m n) ↔ (m < n)
 lt-iff m n = (ltb→lt m n, lt→ltb m n)
 
-le-iff : (m n : ℕ) → T (leb m n) ↔ (m ≤ n)
+pub le-iff : (m n : ℕ) → T (leb m n) ↔ (m ≤ n)
 le-iff m n = (leb→le m n, le→leb m n)
 
 eq-iff : (m n : ℕ) → T (eqb m n) ↔ (m ≡ n)
@@ -525,17 +526,35 @@ module _ (g : Geometry) (d : List ℕ) where
     ),
   )) tt
 
-  read-numbers : (h : Handle) (b : List ℕ) → Exactly (readRecord g d h b .0 .refusal .number) (table g d (Call.reads h b))
-  unfolding readRecord
-  read-numbers h b = exactly (readRefusals g d h (length b)) (table g d (Call.reads h b)) (disk-reading (ownRows (readRefusals g d h (length b))) (ownCases (table g d (Call.reads h b))) (
-    refl,
-    λ x. not-iff (all (inRange g h ∷ leb (h .len) (length b) ∷ [])) (both-iff (inRange g h) (leb (h .len) (length b)) (range-iff g h) (le-iff (h .len) (length b))),
-    (
-      refl,
-      λ x. stale h,
-      (refl, λ x. lt-iff 5 (h .level), (refl, λ x. subst (λ (s : ℕ). T (ltb (sizeOf g d (h .slot)) (h .at + h .len)) ↔ (s < h .at + h .len)) (sym (Others.file-length g d (h .slot))) (lt-iff (sizeOf g d (h .slot)) (h .at + h .len)), tt)),
-    ),
-  )) tt
+  pub three-iff : (a b c : Bool) {A B C : Type 0} → (T a ↔ A) → (T b ↔ B) → (T c ↔ C) → (T (all (a ∷ b ∷ c ∷ [])) ↔ (A × B × C))
+  unfolding all
+  three-iff a b c i j k = (
+    λ t. (i .0 (Members.and-l a (b && (c && true)) t), j .0 (Members.and-l b (c && true) (Members.and-r a (b && (c && true)) t)), k .0 (Members.all-second b c (Members.and-r a (b && (c && true)) t))),
+    λ x. Members.and-i a (b && (c && true)) (i .1 (x .0)) (Members.all-two b c (j .1 (x .1)) (k .1 (x .2))),
+  )
+
+  pub read-numbers : (h : Handle) (n : ℕ) (b : List ℕ) → Exactly (readOf g d h n b .0 .refusal .number) (readTable g d h n b)
+  unfolding readOf
+  read-numbers h n b = exactly (readRefusals g d h n (length b)) (readTable g d h n b)
+      (disk-reading (ownRows (readRefusals g d h n (length b))) (ownCases (readTable g d h n b)) (
+        refl,
+        λ x. not-iff (all (inRange g h ∷ leb n (highest g) ∷ leb n (length b) ∷ []))
+            (three-iff (inRange g h) (leb n (highest g)) (leb n (length b)) (range-iff g h) (le-iff n (highest g)) (le-iff n (length b))),
+        (
+          refl,
+          λ x. stale h,
+          (
+            refl,
+            λ x. lt-iff 5 (h .level),
+            (
+              refl,
+              λ x. subst (λ (s : ℕ). T (ltb (sizeOf g d (h .slot)) (h .at + n)) ↔ (s < h .at + n))
+                  (sym (Others.file-length g d (h .slot))) (lt-iff (sizeOf g d (h .slot)) (h .at + n)),
+              tt,
+            ),
+          ),
+        ),
+      )) tt
 
   sector-numbers : (h : Handle) (k : ℕ) → Exactly (readSector g d h k .refusal .number) (table g d (Call.readsSector h k))
   unfolding readSector
@@ -549,27 +568,22 @@ module _ (g : Geometry) (d : List ℕ) where
     ),
   )) tt
 
-  three-iff : (a b c : Bool) {A B C : Type 0} → (T a ↔ A) → (T b ↔ B) → (T c ↔ C) → (T (all (a ∷ b ∷ c ∷ [])) ↔ (A × B × C))
-  unfolding all
-  three-iff a b c i j k = (
-    λ t. (i .0 (Members.and-l a (b && (c && true)) t), j .0 (Members.and-l b (c && true) (Members.and-r a (b && (c && true)) t)), k .0 (Members.all-second b c (Members.and-r a (b && (c && true)) t))),
-    λ x. Members.and-i a (b && (c && true)) (i .1 (x .0)) (Members.all-two b c (j .1 (x .1)) (k .1 (x .2))),
-  )
-
-  write-numbers : (m : Mode) (h : Handle) (b : List ℕ) → Exactly (writeRecord g d m h b .0 .refusal .number) (table g d (Call.writes m h b))
-  unfolding writeRecord
-  write-numbers m h b = exactly (writeRefusals g d m h (length b)) (table g d (Call.writes m h b)) (disk-reading (ownRows (writeRefusals g d m h (length b))) (ownCases (table g d (Call.writes m h b))) (
-    refl,
-    λ x. not-iff (all (inRange g h ∷ leb (h .at + h .len) (highest g) ∷ leb (h .len) (length b) ∷ [])) (three-iff (inRange g h) (leb (h .at + h .len) (highest g)) (leb (h .len) (length b)) (range-iff g h) (le-iff (h .at + h .len) (highest g)) (le-iff (h .len) (length b))),
-    (
-      refl,
-      λ x. stale h,
-      (refl, λ x. barred-iff 4 h, growth-needed h (toWrite g d m h) _ needed _ (λ x. writes h (x .0 .0 .0) (x .0 .1) (x .1))),
-    ),
-  )) tt
+  pub write-numbers : (m : Mode) (h : Handle) (n : ℕ) (b : List ℕ) → Exactly (writeOf g d m h n b .0 .refusal .number) (writeTable g d m h n b)
+  unfolding writeOf
+  write-numbers m h n b = exactly (writeRefusals g d m h n (length b)) (writeTable g d m h n b)
+      (disk-reading (ownRows (writeRefusals g d m h n (length b))) (ownCases (writeTable g d m h n b)) (
+        refl,
+        λ x. not-iff (all (inRange g h ∷ leb (h .at + n) (highest g) ∷ leb n (length b) ∷ []))
+            (three-iff (inRange g h) (leb (h .at + n) (highest g)) (leb n (length b)) (range-iff g h) (le-iff (h .at + n) (highest g)) (le-iff n (length b))),
+        (
+          refl,
+          λ x. stale h,
+          (refl, λ x. barred-iff 4 h, growth-needed h (toWrite g d m h n) _ needed _ (λ x. writes h (x .0 .0 .0) (x .0 .1) (x .1))),
+        ),
+      )) tt
     where
-      needed : toWrite g d m h ≡ Promises.lacks g d h (granulesFor g (sizeAfter m (length (fileAt g d (h .slot) .bytes)) (h .at + h .len)))
-      needed = unfold fileAt in ap (λ (s : ℕ). lacking g d (h .slot) (granulesFor g (sizeAfter m s (h .at + h .len)))) (sym (Others.file-length g d (h .slot)))
+      needed : toWrite g d m h n ≡ Promises.lacks g d h (granulesFor g (sizeAfter m (length (fileAt g d (h .slot) .bytes)) (h .at + n)))
+      needed = unfold fileAt in ap (λ (s : ℕ). lacking g d (h .slot) (granulesFor g (sizeAfter m s (h .at + n)))) (sym (Others.file-length g d (h .slot)))
 
   allot-numbers : (h : Handle) (k : ℕ) → Exactly (allot g d h k .0 .refusal .number) (table g d (Call.allots h k))
   unfolding allot fileAt
@@ -613,9 +627,9 @@ module _ (g : Geometry) (d : List ℕ) where
   numbers (Call.looksUp n) = look-numbers n
   numbers (Call.opens n len checking code) = open-numbers n len checking code
   numbers (Call.creates n f checking) = create-numbers n f checking
-  numbers (Call.reads h b) = read-numbers h b
+  numbers (Call.reads a h b) = read-numbers h (howMany a (h .len) b) b
   numbers (Call.readsSector h k) = sector-numbers h k
-  numbers (Call.writes m h b) = write-numbers m h b
+  numbers (Call.writes a m h b) = write-numbers m h (howMany a (h .len) b) b
   numbers (Call.allots h k) = allot-numbers h k
   numbers (Call.trims h) = trim-numbers h
   numbers (Call.kills h) = kill-numbers h

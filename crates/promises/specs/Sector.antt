@@ -1,20 +1,21 @@
--- Reads: a record and a sector are the plain file's bytes
+-- Reads: bytes and a sector are the plain file's bytes
 use mathlib.Core.Path.{_≡_, ap, ap₂, sym, _∙_, subst}
 use mathlib.Core.Logic.{_≢_}
+use mathlib.Core.Bool.{Bool}
 use mathlib.Core.List.{List, [], _∷_}
 use Prim.Native.Nat.{ℕ, suc, _+_, _-_, _*_, _/_, _%_, _≤_, _<_, min}
 use native.Mathlib.Omega.{arith}
 use lib.ListN.{length, getD, take, drop, length-take, length-drop}
 use lib.Seq.{getD-take, getD-drop, ext-getD, slice, length-slice}
 use lib.Dec.{eqb, leb, ltb, not-T, nltb→le, nleb→lt, eqb→eq}
-use Rattle.meaning.specs.Layout.{byte, entryAt, sectorNumbers}
+use Rattle.meaning.specs.Layout.{byte, entryAt, sectorNumbers, highest}
 use Rattle.lists.specs.Sizes
 use Rattle.meaning.specs.Entries.{sizeOf, sectorCount, endByte}
 use Rattle.meaning.specs.Chain.{place}
 use Rattle.meaning.specs.Lists.{all}
 use Rattle.meaning.specs.Refusals.{notForReading}
 use Rattle.meaning.specs.Handles.{movedTo, inRange}
-use Rattle.meaning.specs.Read.{readRecord, readSector, sectorBytes}
+use Rattle.meaning.specs.Read.{readOf, readSector, sectorBytes}
 use Rattle.meaning.specs.Plain.{fileAt}
 use Rattle.promises_words.specs.Given.{AreBytes}
 use Rattle.meaning.specs.declared.Geometry.{Geometry}
@@ -45,29 +46,36 @@ byte-at g d p j h = Members.map-count (λ j. byte d (place g d p j)) 0 (sizeOf g
 called : (g : Geometry) (d : List ℕ) (h : Handle) → Has g d h → Rattle.meaning.specs.Plain.plain g d (h .name) ≡ Rattle.meaning.specs.Plain.found (fileAt g d (h .slot))
 called g d h w = Named.plain-is g d (w .sound) (h .slot) (h .name) (Passing.live-file g d h (w .live)) (w .live .name′)
 
-read-has : (g : Geometry) (d : List ℕ) (h : Handle) (b : List ℕ) → readRecord g d h b .0 .refusal .number ≡ 0 → Has g d h × (h .at + h .len ≤ sizeOf g d (h .slot)) × InRange g h
-unfolding readRecord
-read-has g d h b e =
-    let w = Passing.handle-passed g d h (all (inRange g h ∷ leb (h .len) (length b) ∷ [])) (notForReading h ∷ (10, ltb (sizeOf g d (h .slot)) (h .at + h .len)) ∷ []) e in
-    let p₅ = passed 6 _ _ (omega arith) (w .2) in let p₆ = passed 10 _ _ (omega arith) (p₅ .1) in
-    (w .0, nltb→le (sizeOf g d (h .slot)) (h .at + h .len) (not-T (ltb (sizeOf g d (h .slot)) (h .at + h .len)) (p₆ .0)), Refusing.range-iff g h .0 (Passing.first-of (inRange g h) (leb (h .len) (length b)) (w .1)))
+pub read-has : (g : Geometry) (d : List ℕ) (h : Handle) (n : ℕ) (b : List ℕ) → readOf g d h n b .0 .refusal .number ≡ 0
+    → Has g d h × (h .at + n ≤ sizeOf g d (h .slot)) × InRange g h × (h .level ≤ 5)
+unfolding readOf
+read-has g d h n b e =
+    let tests : List Bool = leb n (highest g) ∷ leb n (length b) ∷ [] in
+    let w = Passing.handle-passed g d h (all (inRange g h ∷ tests))
+    (notForReading h ∷ (10, ltb (sizeOf g d (h .slot)) (h .at + n)) ∷ []) e in
+    let p₅ = passed 6 _ _ (omega arith) (w .2) in let p₆ = passed 10 _ _ (omega arith) (p₅ .1) in (
+      w .0,
+      nltb→le (sizeOf g d (h .slot)) (h .at + n) (not-T (ltb (sizeOf g d (h .slot)) (h .at + n)) (p₆ .0)),
+      Refusing.range-iff g h .0 (Passing.first-of (inRange g h) tests (w .1)),
+      nltb→le 5 (h .level) (not-T (ltb 5 (h .level)) (p₅ .0)),
+    )
 
-pub read-serves : (g : Geometry) (d : List ℕ) (h : Handle) (b : List ℕ) → readRecord g d h b .0 .refusal .number ≡ 0 → Reads g d h b
-read-serves g d h b e =
-    let w = read-has g d h b e in
+pub read-serves : (g : Geometry) (d : List ℕ) (h : Handle) (n : ℕ) (b : List ℕ) → readOf g d h n b .0 .refusal .number ≡ 0 → Reads g d h n b
+read-serves g d h n b e =
+    let w = read-has g d h n b e in
     record {
       file = fileAt g d (h .slot);
       called = called g d h (w .0);
       inside = rw (Others.file-length g d (h .slot)) (w .1);
-      buffer = Read.read-means g d h b e;
+      buffer = Read.read-means g d h n b e;
       handle′ = moved e;
       ranged =
           let top = Tally.size-le g d (w .0 .sound) (Places.fits g d (w .0 .fits)) (h .slot) (Passing.live-file g d h (w .0 .live)) in
-          subst (InRange g) (sym (moved e)) (Passing.further g h (h .at + h .len) (w .2) (omega (arith, w .1)));
+          subst (InRange g) (sym (moved e)) (Passing.further g h (h .at + n) (w .2) (omega (arith, w .1)));
     }
   where
-    moved : readRecord g d h b .0 .refusal .number ≡ 0 → readRecord g d h b .0 .handle ≡ movedTo h (h .at + h .len)
-    moved e = unfold readRecord in rw e
+    moved : readOf g d h n b .0 .refusal .number ≡ 0 → readOf g d h n b .0 .handle ≡ movedTo h (h .at + n)
+    moved e = unfold readOf in rw e
 
 -- the bytes of one sector lie one after the other
 sector-places : (g : Geometry) (d : List ℕ) (p k j : ℕ) → j < 256 → place g d p (256 * k + j) ≡ place g d p (256 * k) + j

@@ -19,7 +19,8 @@ use Rattle.meaning.specs.Handles.{inRange}
 use Rattle.meaning.specs.Growth.{withGranules}
 use Rattle.meaning.specs.LookUp.{missing}
 use Rattle.meaning.specs.Create.{create, withEntry, newSlot}
-use Rattle.meaning.specs.Write.{writeRecord, sizeAfter, toWrite}
+use Rattle.meaning.specs.Amount.{howMany}
+use Rattle.meaning.specs.Write.{writeOf, sizeAfter, toWrite}
 use Rattle.meaning.specs.Allot.{allot}
 use Rattle.meaning.specs.Trim.{trim}
 use Rattle.meaning.specs.Kill.{kill}
@@ -80,30 +81,30 @@ module _ (g : Geometry) (d : List ℕ) (k : Good g d) where
   trim-stays : (h : Handle) → trim g d h .0 .refusal .number ≡ 0 → Stays g d (trim g d h .1)
   trim-stays h e = let x = Trim.trim-means g d h e in stays-by (trim g d h .1) (x .long) (x .consistent′) (x .reserved′) (x .small s)
 
-  write-small : (m : Mode) (h : Handle) (b : List ℕ) → AreBytes b → writeRecord g d m h b .0 .refusal .number ≡ 0 → Small (writeRecord g d m h b .1)
-  unfolding writeRecord words
-  write-small m h b ab e =
-      let p = h .slot in let more = toWrite g d m h in
+  write-small : (m : Mode) (h : Handle) (n : ℕ) (b : List ℕ) → AreBytes b → writeOf g d m h n b .0 .refusal .number ≡ 0 → Small (writeOf g d m h n b .1)
+  unfolding writeOf words
+  write-small m h n b ab e =
+      let p = h .slot in let more = toWrite g d m h n in
       let w = Passed.holds g d h _ 4 (cannotGrow g d p more) e in
       let x = Grow.larger-grew g d h more (w .0) (w .1) in
       let p₂ = Passed.disk-passed g d _ e in
       let p₃ = passed 12 _ _ (omega arith) (p₂ .1) in
-      let tests : Bool = all (leb (h .at + h .len) (highest g) ∷ leb (h .len) (length b) ∷ []) in
+      let tests : Bool = all (leb (h .at + n) (highest g) ∷ leb n (length b) ∷ []) in
       let range : T (inRange g h && tests) = yes-T (inRange g h && tests) (p₃ .0) in
-      let top = leb→le (h .at + h .len) (highest g) (Members.and-l (leb (h .at + h .len) (highest g)) (all (leb (h .len) (length b) ∷ [])) (Members.and-r (inRange g h) tests range)) in
+      let top = leb→le (h .at + n) (highest g) (Members.and-l (leb (h .at + n) (highest g)) (all (leb n (length b) ∷ [])) (Members.and-r (inRange g h) tests range)) in
       let d₁ = withGranules g d p more in let F = place g d₁ p in let old = sizeOf g d p in
       let old-sectors = Bytes.size-sectors g d fit p s in
-      let size = sizeAfter m old (h .at + h .len) in
-      let bound = Over.after-max m old (h .at + h .len) in
+      let size = sizeAfter m old (h .at + n) in
+      let bound = Over.after-max m old (h .at + n) in
       let two : sectorsFor size < 65536 = omega (arith, Sizes.bytes-are g, Sizes.sectors-most g) in
       rw e (Bytes.small-size g d fit _ p size
-      (Bytes.small-store F (take (h .len) b) (h .at)
+      (Bytes.small-store F (take n b) (h .at)
       (Bytes.small-store F (replicate (h .at - old) 0) old (x .kept .small s) (Bytes.small-replicate (h .at - old) (omega arith)))
-      (Bytes.small-take (h .len) b (Bytes.bytes-small b ab))) two)
+      (Bytes.small-take n b (Bytes.bytes-small b ab))) two)
 
-  write-stays : (m : Mode) (h : Handle) (b : List ℕ) → AreBytes b → writeRecord g d m h b .0 .refusal .number ≡ 0 → Stays g d (writeRecord g d m h b .1)
-  write-stays m h b ab e =
-      let x = WriteMeans.write-wrote g d m h b e .1 in stays-by (writeRecord g d m h b .1) (x .long) (x .consistent′) (x .reserved′) (write-small m h b ab e)
+  write-stays : (m : Mode) (h : Handle) (n : ℕ) (b : List ℕ) → AreBytes b → writeOf g d m h n b .0 .refusal .number ≡ 0 → Stays g d (writeOf g d m h n b .1)
+  write-stays m h n b ab e =
+      let x = WriteMeans.write-wrote g d m h n b e .1 in stays-by (writeOf g d m h n b .1) (x .long) (x .consistent′) (x .reserved′) (write-small m h n b ab e)
 
   create-small : (n : List ℕ) (f : NewFile) (checking : Bool) → f .main < 65536 → f .worker < 65536 → create g d n f checking .0 .refusal .number ≡ 0 → Small (create g d n f checking .1)
   unfolding create
@@ -135,9 +136,9 @@ module _ (g : Geometry) (d : List ℕ) (k : Good g d) where
       served (Call.looksUp n) b e = unfold leaves in stays-same
       served (Call.opens n len checking code) b e = unfold leaves in stays-same
       served (Call.creates n f checking) b e = unfold leaves number in create-stays n f checking (b .0) (b .1) e
-      served (Call.reads h x) b e = unfold leaves in stays-same
+      served (Call.reads a h x) b e = unfold leaves in stays-same
       served (Call.readsSector h i) b e = unfold leaves in stays-same
-      served (Call.writes m h x) b e = unfold leaves number in write-stays m h x b e
+      served (Call.writes a m h x) b e = unfold leaves number in write-stays m h (howMany a (h .len) x) x b e
       served (Call.allots h i) b e = unfold leaves number in allot-stays h i e
       served (Call.trims h) b e = unfold leaves number in trim-stays h e
       served (Call.kills h) b e = unfold leaves number in kill-stays h e

@@ -17,7 +17,7 @@ use Rattle.meaning.specs.Chain.{chain, owned, place}
 use Rattle.meaning.specs.Consistent.{consistent}
 use Rattle.meaning.specs.LookUp.{named}
 use Rattle.meaning.specs.Read
-use Rattle.meaning.specs.Write.{writeRecord, sizeAfter, store, withSize}
+use Rattle.meaning.specs.Write.{writeOf, sizeAfter, store, withSize}
 use Rattle.meaning.specs.Refusals.{cannotGrow}
 use Rattle.meaning.specs.Growth.{withGranules, lacking}
 use Rattle.meaning.specs.Handles.{inRange}
@@ -224,24 +224,24 @@ module _ (g : Geometry) (d d₁ : List ℕ) (p : ℕ) (m : Mode) (at : ℕ) (r :
 pub fits-after : (g : Geometry) (d d′ : List ℕ) → Places.Fits g d → length d′ ≡ length d → Places.Fits g d′
 fits-after g d d′ k l = Places.as-long k l
 
-pub write-wrote : (g : Geometry) (d : List ℕ) (m : Mode) (h : Handle) (b : List ℕ) → writeRecord g d m h b .0 .refusal .number ≡ 0
-    → Passed.Holds g d h × Wrote g d (writeRecord g d m h b .1) (h .slot) (writtenTo g m (h .at) (take (h .len) b) (fileAt g d (h .slot)))
-unfolding writeRecord words
-write-wrote g d m h b e =
+pub write-wrote : (g : Geometry) (d : List ℕ) (m : Mode) (h : Handle) (n : ℕ) (b : List ℕ) → writeOf g d m h n b .0 .refusal .number ≡ 0
+    → Passed.Holds g d h × Wrote g d (writeOf g d m h n b .1) (h .slot) (writtenTo g m (h .at) (take n b) (fileAt g d (h .slot)))
+unfolding writeOf words
+write-wrote g d m h n b e =
     let p = h .slot in
-    let r = take (h .len) b in
-    let more = lacking g d p (granulesFor g (sizeAfter m (sizeOf g d p) (h .at + h .len))) in
+    let r = take n b in
+    let more = lacking g d p (granulesFor g (sizeAfter m (sizeOf g d p) (h .at + n))) in
     let w = Passed.holds g d h _ 4 (cannotGrow g d p more) e in
     let p₂ = Passed.disk-passed g d _ e in
     let p₃ = Passed.passed 12 _ _ (omega arith) (p₂ .1) in
-    let fit : Bool = all (leb (h .at + h .len) (highest g) ∷ leb (h .len) (length b) ∷ []) in
+    let fit : Bool = all (leb (h .at + n) (highest g) ∷ leb n (length b) ∷ []) in
     let range : T (inRange g h && fit) = Passed.yes-T (inRange g h && fit) (p₃ .0) in
-    let short = leb→le (h .len) (length b) (Members.all-second (leb (h .at + h .len) (highest g)) (leb (h .len) (length b)) (Members.and-r (inRange g h) fit range)) in
-    let lr : length r ≡ h .len = length-take (h .len) b ∙ omega arith in
+    let short = leb→le n (length b) (Members.all-second (leb (h .at + n) (highest g)) (leb n (length b)) (Members.and-r (inRange g h) fit range)) in
+    let lr : length r ≡ n = length-take n b ∙ omega arith in
     let d₁ = withGranules g d p more in
     let x : Grew g d d₁ p more = Grow.larger-grew g d h more (w .0) (w .1) in
     let y : Grew g d d₁ p (lacking g d p (granulesFor g (sizeAfter m (sizeOf g d p) (h .at + length r)))) =
     subst (λ (l : ℕ). Grew g d d₁ p (lacking g d p (granulesFor g (sizeAfter m (sizeOf g d p) (h .at + l))))) (sym lr) x in
     let image : ℕ → ℕ → List ℕ = λ o l. withSize g (store (place g d₁ p) (store (place g d₁ p) d₁ o (replicate (h .at - o) 0)) (h .at) r) p (sizeAfter m o (h .at + l)) in
-    let same′ : image (sizeOf g d₁ p) (length r) ≡ image (sizeOf g d p) (h .len) = ap₂ image (size₁ g d d₁ p m (h .at) r y) lr in
+    let same′ : image (sizeOf g d₁ p) (length r) ≡ image (sizeOf g d p) n = ap₂ image (size₁ g d d₁ p m (h .at) r y) lr in
     (w .0, rw e (subst (λ (i : List ℕ). Wrote g d i p (writtenTo g m (h .at) r (fileAt g d p))) same′ (wrote g d d₁ p m (h .at) r y)))

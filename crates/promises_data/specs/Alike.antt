@@ -13,8 +13,9 @@ use Rattle.meaning.specs.Refusals.{check}
 use Rattle.meaning.specs.LookUp.{lookUp, missing}
 use Rattle.meaning.specs.Open.{open′}
 use Rattle.meaning.specs.Create.{create}
-use Rattle.meaning.specs.Read.{readRecord, readSector}
-use Rattle.meaning.specs.Write.{writeRecord, toWrite}
+use Rattle.meaning.specs.Amount.{howMany}
+use Rattle.meaning.specs.Read.{readOf, readSector}
+use Rattle.meaning.specs.Write.{writeOf, toWrite}
 use Rattle.meaning.specs.Allot.{allot, toAllot}
 use Rattle.meaning.specs.Trim.{trim}
 use Rattle.meaning.specs.Kill.{kill}
@@ -50,9 +51,10 @@ Agrees g h d (looksUp n) = lookUp g d n ≡ lookUp h d n
 Agrees g h d (opens n len checking code) = open′ g d n len checking code ≡ open′ h d n len checking code
 Agrees g h d (creates n f checking) =
     (missing g d (comesIn n .name) ≡ false) ⊎ (freeSlots g d ≡ freeSlots h d) → create g d n f checking ≡ create h d n f checking
-Agrees g h d (reads x b) = readRecord g d x b ≡ readRecord h d x b
+Agrees g h d (reads a x b) = let n = howMany a (x .len) b in readOf g d x n b ≡ readOf h d x n b
 Agrees g h d (readsSector x k) = readSector g d x k ≡ readSector h d x k
-Agrees g h d (writes m x b) = GrowsAlike g h d x (toWrite g d m x) → writeRecord g d m x b ≡ writeRecord h d m x b
+Agrees g h d (writes a m x b) =
+    let n = howMany a (x .len) b in GrowsAlike g h d x (toWrite g d m x n) → writeOf g d m x n b ≡ writeOf h d m x n b
 Agrees g h d (allots x k) = GrowsAlike g h d x (toAllot g d x k) → allot g d x k ≡ allot h d x k
 Agrees g h d (trims x) = trim g d x ≡ trim h d x
 Agrees g h d (kills x) = kill g d x ≡ kill h d x

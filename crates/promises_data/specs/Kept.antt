@@ -21,8 +21,9 @@ use Rattle.meaning.specs.Handles.{goodLength, inRange, fresh, noHandle, movedTo
 use Rattle.meaning.specs.LookUp.{candidates, carries, comparedIn, named, lookUp, missing}
 use Rattle.meaning.specs.Open.{full, admits, open′, openedAt}
 use Rattle.meaning.specs.Create.{create, withEntry}
-use Rattle.meaning.specs.Read.{fetch, readRecord, readSector, sectorBytes}
-use Rattle.meaning.specs.Write.{writeRecord, toWrite, store, sizeAfter, withSize}
+use Rattle.meaning.specs.Amount.{howMany}
+use Rattle.meaning.specs.Read.{fetch, readOf, readSector, sectorBytes}
+use Rattle.meaning.specs.Write.{writeOf, toWrite, store, sizeAfter, withSize}
 use Rattle.meaning.specs.Allot.{allot, toAllot, granulesTo}
 use Rattle.meaning.specs.Trim.{trim}
 use Rattle.meaning.specs.Kill.{killEntry, kill}
@@ -165,13 +166,13 @@ module _ (g : Geometry) (b : Bool) (d : List ℕ) where
   unfolding fetch
   fetch-same = λ i s k n. map (λ j. byte d (place-same g b d i s j)) (count k n)
 
-  read-record : (x : Handle) (buffer : List ℕ) → readRecord g d x buffer ≡ readRecord (stated b g) d x buffer
-  unfolding readRecord inRange granuleBytes granuleSectors sizeOf field
-  read-record x buffer =
-      λ i. let no = first (handleRefusals-same i x (all (inRange g x ∷ leb (x .len) (length buffer) ∷ []))
-      (notForReading x ∷ (10, ltb (sizeOf g d (x .slot)) (x .at + x .len)) ∷ [])) in (
-        record { refusal = refusal-same i no; handle = cond (accepted no) (movedTo x (x .at + x .len)) x },
-        cond (accepted no) (fetch-same i (x .slot) (x .at) (x .len) ++ drop (x .len) buffer) buffer,
+  read-of : (x : Handle) (n : ℕ) (buffer : List ℕ) → readOf g d x n buffer ≡ readOf (stated b g) d x n buffer
+  unfolding readOf inRange granuleBytes granuleSectors sizeOf field
+  read-of x n buffer =
+      λ i. let no = first (handleRefusals-same i x (all (inRange g x ∷ leb n (highest g) ∷ leb n (length buffer) ∷ []))
+      (notForReading x ∷ (10, ltb (sizeOf g d (x .slot)) (x .at + n)) ∷ [])) in (
+        record { refusal = refusal-same i no; handle = cond (accepted no) (movedTo x (x .at + n)) x },
+        cond (accepted no) (fetch-same i (x .slot) (x .at) n ++ drop n buffer) buffer,
       )
 
   read-sector : (x : Handle) (k : ℕ) → readSector g d x k ≡ readSector (stated b g) d x k
@@ -298,9 +299,9 @@ module _ (g : Geometry) (b : Bool) (d : List ℕ) where
   lacking-same : lacking g d ≡ lacking (stated b g) d
   lacking-same = λ i s wanted. wanted - length (owned-same g b d i s)
 
-  toWrite-same : (m : Mode) (x : Handle) → toWrite g d m x ≡ toWrite (stated b g) d m x
+  toWrite-same : (m : Mode) (x : Handle) (n : ℕ) → toWrite g d m x n ≡ toWrite (stated b g) d m x n
   unfolding granuleBytes granuleSectors sizeOf field
-  toWrite-same m x = λ i. lacking-same i (x .slot) (granulesFor g (sizeAfter m (sizeOf g d (x .slot)) (x .at + x .len)))
+  toWrite-same m x n = λ i. lacking-same i (x .slot) (granulesFor g (sizeAfter m (sizeOf g d (x .slot)) (x .at + n)))
 
   -- what cannot grow: k granules more are wanted, and the growth comes to w
   abbrev cannot : 𝕀 → ℕ → ℕ → Grown → List (ℕ × Bool)
@@ -310,18 +311,18 @@ module _ (g : Geometry) (b : Bool) (d : List ℕ) where
   grows : (x : Handle) (k k′ : ℕ) → k ≡ k′ → GrowsAlike g (stated b g) d x k → growth g (x .slot) k d ≡ growth (stated b g) (x .slot) k′ d
   grows x k k′ e w = w ∙ ap (λ (n : ℕ). growth (stated b g) (x .slot) n d) e
 
-  write-record : (m : Mode) (x : Handle) (buffer : List ℕ) → GrowsAlike g (stated b g) d x (toWrite g d m x)
-      → writeRecord g d m x buffer ≡ writeRecord (stated b g) d m x buffer
-  unfolding writeRecord inRange granuleBytes granuleSectors sizeOf setField field
-  write-record m x buffer same′ =
-      let w = grows x (toWrite g d m x) (toWrite (stated b g) d m x) (toWrite-same m x) same′ in
-      λ i. let s = x .slot in let old = sizeOf g d s in let end = x .at + x .len in
-      let no = first (handleRefusals-same g b d i x (all (inRange g x ∷ leb end (highest g) ∷ leb (x .len) (length buffer) ∷ []))
-      (protected g d 4 x ∷ cannot i s (toWrite-same m x i) (w i))) in
+  write-of : (m : Mode) (x : Handle) (n : ℕ) (buffer : List ℕ) → GrowsAlike g (stated b g) d x (toWrite g d m x n)
+      → writeOf g d m x n buffer ≡ writeOf (stated b g) d m x n buffer
+  unfolding writeOf inRange granuleBytes granuleSectors sizeOf setField field
+  write-of m x n buffer same′ =
+      let w = grows x (toWrite g d m x n) (toWrite (stated b g) d m x n) (toWrite-same m x n) same′ in
+      λ i. let s = x .slot in let old = sizeOf g d s in let end = x .at + n in
+      let no = first (handleRefusals-same g b d i x (all (inRange g x ∷ leb end (highest g) ∷ leb n (length buffer) ∷ []))
+      (protected g d 4 x ∷ cannot i s (toWrite-same m x n i) (w i))) in
       let d₁ = diskOr d (w i) in
       let f = place-same g b d₁ i s in
       let d₂ = store f d₁ old (replicate (x .at - old) 0) in
-      let d₃ = store f d₂ (x .at) (take (x .len) buffer) in (
+      let d₃ = store f d₂ (x .at) (take n buffer) in (
         record { refusal = refusal-same g b d i no; handle = cond (accepted no) (movedTo x end) x },
         cond (accepted no) (withSize g d₃ s (sizeAfter m old end)) d,
       )
@@ -347,9 +348,9 @@ module _ (g : Geometry) (b : Bool) (d : List ℕ) where
   agrees (looksUp n) = look-up g b d n
   agrees (opens n len checking code) = open-same g b d n len checking code
   agrees (creates n f checking) = λ e. ⊎-elim (create-found g b d n f checking) (λ s. create-slots g b d s n f checking) e
-  agrees (reads x buffer) = read-record g b d x buffer
+  agrees (reads a x buffer) = read-of g b d x (howMany a (x .len) buffer) buffer
   agrees (readsSector x k) = read-sector g b d x k
-  agrees (writes m x buffer) = write-record m x buffer
+  agrees (writes a m x buffer) = write-of m x (howMany a (x .len) buffer) buffer
   agrees (allots x k) = allot-same x k
   agrees (trims x) = trim-same x
   agrees (kills x) = kill-same g b d x

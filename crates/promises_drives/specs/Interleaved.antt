@@ -15,15 +15,21 @@ use Rattle.meaning.specs.Layout.{fitsGeometry}
 use Rattle.meaning.specs.Names.{fold}
 use Rattle.meaning.specs.Consistent.{consistent}
 use Rattle.meaning.specs.Handles.{noHandle, movedTo}
+use Rattle.meaning.specs.Amount.{howMany}
+use Rattle.meaning.specs.Read
+use Rattle.meaning.specs.Write
 use Rattle.meaning.specs.Plain.{plain}
 use Rattle.promises_words.specs.Given.{AreBytes}
 use Rattle.meaning.specs.declared.Handle.{Handle}
+use Rattle.meaning.specs.declared.Mode.{Mode}
 use Rattle.together.specs.Statement.{Name, Step, looksUp, opens, creates, moves, reads, readsSector, writes, allots, trims, kills}
 use Rattle.together.specs.Statement.{known, kept, Turn, one, two, Interleaving, Quiet, Same, SameFiles, AsItWas, Grip, grip, AllBring}
-use Rattle.drives.specs.Pair.{Pair, pair, geometry, image, handleOn}
+use Rattle.drives.specs.Pair.{Pair, pair, geometry, image, handleOn, onDrive}
+use Rattle.drives.specs.Pair as pairs
 use Rattle.drives.specs.ByName.{lookUp, openFile, create}
-use Rattle.drives.specs.ByHandle.{readRecord, readSector, writeRecord, allot, trim, kill}
+use Rattle.drives.specs.ByHandle.{unheld, changing, readSector, allot, trim, kill}
 use Rattle.drives.specs.declared.DriveHandle.{DriveHandle}
+use Rattle.drives.specs.declared.DriveAnswer.{DriveAnswer}
 use Rattle.promises_drives.specs.Statement.{IsDrive}
 
 -- what a list has by now: its handles, each with its drive, and what its reads handed back
@@ -43,6 +49,15 @@ withMoved s i h = record { handles = set (s .handles) i h; heard = s .heard }
 
 abbrev pub hearing : DriveSide → List ℕ → DriveSide
 hearing s bytes = record { handles = s .handles; heard = s .heard ++ (bytes ∷ []) }
+
+-- A read and a write of n bytes by a handle, on the drive that it names: read record and write record of `drives` where n is the handle's
+-- record length. Read bytes and write bytes are calls on one image, and the steps that ask for them are so on one drive's.
+unfoldable pub readOf : Pair → DriveHandle → ℕ → List ℕ → DriveAnswer × List ℕ
+readOf p h n b =
+    onDrive (h .drive) (λ k. let r = Read.readOf (geometry p k) (image p k) (h .handle) n b in (pairs.answered k (r .0), r .1)) (unheld h, b)
+
+unfoldable pub writeOf : Pair → Mode → DriveHandle → ℕ → List ℕ → DriveAnswer × List ℕ × List ℕ
+writeOf p m h n b = changing p h (λ k. Write.writeOf (geometry p k) (image p k) m (h .handle) n b)
 
 -- what both drives hold after a call that leaves these images
 abbrev pub withImages : Pair → List ℕ → List ℕ → Pair
@@ -66,8 +81,8 @@ answer p k n s (creates f checking) =
 answer p k n s (moves i at) =
     let h = handleAt k (s .handles) i in
     record { number = 0; drives = p; side = withMoved s i (handleOn (h .drive) (movedTo (h .handle) at)) }
-answer p k n s (reads i buffer) =
-    let r = readRecord p (handleAt k (s .handles) i) buffer in
+answer p k n s (reads a i buffer) =
+    let h = handleAt k (s .handles) i in let r = readOf p h (howMany a (h .handle .len) buffer) buffer in
     record {
       number = r .0 .refusal .number;
       drives = p;
@@ -80,8 +95,8 @@ answer p k n s (readsSector i j) =
       drives = p;
       side = hearing s (kept (plain (geometry p k) (image p k) (fold n)) (slice (r .from) (r .to) (image p (r .drive))));
     }
-answer p k n s (writes m i bytes) =
-    let r = writeRecord p m (handleAt k (s .handles) i) bytes in
+answer p k n s (writes a m i bytes) =
+    let h = handleAt k (s .handles) i in let r = writeOf p m h (howMany a (h .handle .len) bytes) bytes in
     record { number = r .0 .refusal .number; drives = withImages p (r .1) (r .2); side = withMoved s i (r .0 .handle) }
 answer p k n s (allots i j) =
     let r = allot p (handleAt k (s .handles) i) j in

@@ -6,6 +6,7 @@ use mathlib.Core.Bool.{true, false}
 use mathlib.Core.List.{List, [], _∷_}
 use lib.ListN.{getD, replicate}
 use native.Mathlib.Omega.{arith}
+use Rattle.meaning.specs.Amount.{oneRecord}
 use Rattle.meaning.specs.Layout.{fitsGeometry}
 use Rattle.meaning.specs.Names.{fold}
 use Rattle.meaning.specs.Consistent.{consistent}
@@ -14,10 +15,9 @@ use Rattle.meaning.specs.declared.Mode.the-variants.{Sequential}
 use Rattle.together.specs.Statement.{Step, opens, creates, writes, known, Turn, one, two, none, left, right}
 use Rattle.drives.specs.Pair.{geometry, image}
 use Rattle.drives.specs.ByName.{openFile, create}
-use Rattle.drives.specs.ByHandle.{writeRecord}
 use Rattle.drives.specs.Cases.{opened, aa, bench}
 use Rattle.promises_drives.specs.Statement.{IsDrive, zeroth, first}
-use Rattle.promises_drives.specs.Interleaved.{answer, start, after, Accepted, Agree}
+use Rattle.promises_drives.specs.Interleaved.{writeOf, answer, start, after, Accepted, Agree}
 use Rattle.promises_drives.specs.Demand3.{demand3, apart}
 
 -- a name that neither disk has
@@ -39,20 +39,20 @@ abbrev mine : List Step
 mine = creates new false ∷ []
 
 abbrev theirs : List Step
-theirs = creates new false ∷ writes Sequential 0 (7 ∷ 8 ∷ []) ∷ []
+theirs = creates new false ∷ writes oneRecord Sequential 0 (7 ∷ 8 ∷ []) ∷ []
 
 abbrev mineFirst : List Turn
-mineFirst = one (creates new false) ∷ two (creates new false) ∷ two (writes Sequential 0 (7 ∷ 8 ∷ [])) ∷ []
+mineFirst = one (creates new false) ∷ two (creates new false) ∷ two (writes oneRecord Sequential 0 (7 ∷ 8 ∷ [])) ∷ []
 
 abbrev mineLast : List Turn
-mineLast = two (creates new false) ∷ two (writes Sequential 0 (7 ∷ 8 ∷ [])) ∷ one (creates new false) ∷ []
+mineLast = two (creates new false) ∷ two (writes oneRecord Sequential 0 (7 ∷ 8 ∷ [])) ∷ one (creates new false) ∷ []
 
 accepted : Accepted 0 1 dk dk (start bench) mineFirst
-unfolding opened known answer create writeRecord
+unfolding opened known answer create writeOf
 accepted = ((tt, refl), ((tt, refl), ((tt, refl), tt)))
 
 accepted′ : Accepted 0 1 dk dk (start bench) mineLast
-unfolding opened known answer create writeRecord
+unfolding opened known answer create writeOf
 accepted′ = ((tt, refl), ((tt, refl), ((tt, refl), tt)))
 
 pub alike : after 0 1 dk dk (start bench) mineFirst ≡ after 0 1 dk dk (start bench) mineLast

@@ -7,6 +7,7 @@ use lib.Dec.{eqb}
 use lib.ListN.{getD, set, List·getD-map}
 use lib.Seq.{slice}
 use Rattle.meaning.specs.Names.{fold}
+use Rattle.meaning.specs.Amount.{Amount, howMany}
 use Rattle.meaning.specs.Handles.{noHandle, movedTo}
 use Rattle.meaning.specs.Open
 use Rattle.meaning.specs.Create
@@ -28,16 +29,16 @@ use Rattle.together.specs.Statement as disk
 use Rattle.together.specs.Statement.{Name, Step, looksUp, opens, creates, moves, reads, readsSector, writes, allots, trims, kills, Side, kept}
 use Rattle.drives.specs.Pair.{Pair, pair, geometry, image, leaving, handleOn, driveOf, naming′, answered}
 use Rattle.drives.specs.ByName.{lookUp, openFile, create, createdOn}
-use Rattle.drives.specs.ByHandle.{readRecord, readSector, writeRecord, allot, trim, kill, partOn}
+use Rattle.drives.specs.ByHandle.{readSector, allot, trim, kill, partOn}
 use Rattle.drives.specs.declared.DriveAnswer.{DriveAnswer}
 use Rattle.drives.specs.declared.DriveCreated.{DriveCreated}
 use Rattle.drives.specs.declared.DriveHandle.{DriveHandle}
 use Rattle.drives.specs.declared.DriveLookedUp.{DriveLookedUp}
 use Rattle.drives.specs.declared.DrivePart.{DrivePart}
 use Rattle.promises_drives.specs.Statement.{IsDrive, zeroth, first, OnOne}
-use Rattle.promises_drives.specs.Drive.{naming-number}
+use Rattle.promises_drives.specs.Drive.{on-drive, naming-number}
 use Rattle.promises_drives.specs.Proved.{every-number}
-use Rattle.promises_drives.specs.Interleaved.{DriveSide, handleAt, withNew, withMoved, hearing, withImages, Answered, answer, bare}
+use Rattle.promises_drives.specs.Interleaved.{DriveSide, readOf, writeOf, handleAt, withNew, withMoved, hearing, withImages, Answered, answer, bare}
 
 -- a list's side on one disk, as its side on drive k
 abbrev pub lift : ℕ → Side → DriveSide
@@ -81,9 +82,10 @@ module _ (p : Pair) (k : ℕ) (is : IsDrive k) (n : Name) (s : Side) where
   at-is i = List·getD-map (handleOn k) (s .handles) i noHandle
 
   -- what each call by handle answers by the list's handle
-  read-is : (i : ℕ) (b : List ℕ) → let r = Read.readRecord g d (held i) b in
-      _≡_ {A = DriveAnswer × List ℕ} (readRecord p (handleAt k (lift k s .handles) i) b) (answered k (r .0), r .1)
-  read-is i b = ap (λ (h : DriveHandle). readRecord p h b) (at-is i) ∙ on .reads (held i) b
+  read-is : (a : Amount) (i : ℕ) (b : List ℕ) → let h = handleAt k (lift k s .handles) i in let r = Read.readOf g d (held i) (howMany a (held i .len) b) b in
+      _≡_ {A = DriveAnswer × List ℕ} (readOf p h (howMany a (h .handle .len) b) b) (answered k (r .0), r .1)
+  unfolding readOf
+  read-is a i b = ap (λ (h : DriveHandle). readOf p h (howMany a (h .handle .len) b) b) (at-is i) ∙ on-drive _ _ k is
 
   sector-is : (i j : ℕ) → readSector p (handleAt k (lift k s .handles) i) j ≡ partOn k (Read.readSector g d (held i) j)
   sector-is i j = ap (λ (h : DriveHandle). readSector p h j) (at-is i) ∙ on .readsSector (held i) j
@@ -91,8 +93,10 @@ module _ (p : Pair) (k : ℕ) (is : IsDrive k) (n : Name) (s : Side) where
   abbrev Changed : Answer × List ℕ → DriveAnswer × List ℕ × List ℕ
   Changed r = (answered k (r .0), leaving p k (r .1) 0, leaving p k (r .1) 1)
 
-  write-is : (m : Mode) (i : ℕ) (b : List ℕ) → writeRecord p m (handleAt k (lift k s .handles) i) b ≡ Changed (Write.writeRecord g d m (held i) b)
-  write-is m i b = ap (λ (h : DriveHandle). writeRecord p m h b) (at-is i) ∙ on .writes m (held i) b
+  write-is : (a : Amount) (m : Mode) (i : ℕ) (b : List ℕ) → let h = handleAt k (lift k s .handles) i in
+      writeOf p m h (howMany a (h .handle .len) b) b ≡ Changed (Write.writeOf g d m (held i) (howMany a (held i .len) b) b)
+  unfolding writeOf
+  write-is a m i b = ap (λ (h : DriveHandle). writeOf p m h (howMany a (h .handle .len) b) b) (at-is i) ∙ on-drive _ _ k is
 
   allot-is : (i j : ℕ) → allot p (handleAt k (lift k s .handles) i) j ≡ Changed (Allot.allot g d (held i) j)
   allot-is i j = ap (λ (h : DriveHandle). allot p h j) (at-is i) ∙ on .allots (held i) j
@@ -109,9 +113,9 @@ module _ (p : Pair) (k : ℕ) (is : IsDrive k) (n : Name) (s : Side) where
   number-is (opens len checking code) = ap (λ (r : DriveAnswer). r .refusal .number) (on .opens n len checking code) ∙ naming-number k _
   number-is (creates f checking) = ap (λ (r : DriveCreated × List ℕ × List ℕ). r .0 .refusal .number) (on .creates n f checking) ∙ naming-number k _
   number-is (moves i at) = refl
-  number-is (reads i b) = ap (λ (r : DriveAnswer × List ℕ). r .0 .refusal .number) (read-is i b) ∙ naming-number k _
+  number-is (reads a i b) = ap (λ (r : DriveAnswer × List ℕ). r .0 .refusal .number) (read-is a i b) ∙ naming-number k _
   number-is (readsSector i j) = ap (λ (r : DrivePart). r .refusal .number) (sector-is i j) ∙ naming-number k _
-  number-is (writes m i b) = ap (λ (r : DriveAnswer × List ℕ × List ℕ). r .0 .refusal .number) (write-is m i b) ∙ naming-number k _
+  number-is (writes a m i b) = ap (λ (r : DriveAnswer × List ℕ × List ℕ). r .0 .refusal .number) (write-is a m i b) ∙ naming-number k _
   number-is (allots i j) = ap (λ (r : DriveAnswer × List ℕ × List ℕ). r .0 .refusal .number) (allot-is i j) ∙ naming-number k _
   number-is (trims i) = ap (λ (r : DriveAnswer × List ℕ × List ℕ). r .0 .refusal .number) (trim-is i) ∙ naming-number k _
   number-is (kills i) = ap (λ (r : DriveAnswer × List ℕ × List ℕ). r .0 .refusal .number) (kill-is i) ∙ naming-number k _
@@ -128,9 +132,9 @@ module _ (p : Pair) (k : ℕ) (is : IsDrive k) (n : Name) (s : Side) where
   drives-is (opens len checking code) = same-disk p k is
   drives-is (creates f checking) = ap (λ (r : DriveCreated × List ℕ × List ℕ). withImages p (r .1) (r .2)) (on .creates n f checking)
   drives-is (moves i at) = same-disk p k is
-  drives-is (reads i b) = same-disk p k is
+  drives-is (reads a i b) = same-disk p k is
   drives-is (readsSector i j) = same-disk p k is
-  drives-is (writes m i b) = ap (λ (r : DriveAnswer × List ℕ × List ℕ). withImages p (r .1) (r .2)) (write-is m i b)
+  drives-is (writes a m i b) = ap (λ (r : DriveAnswer × List ℕ × List ℕ). withImages p (r .1) (r .2)) (write-is a m i b)
   drives-is (allots i j) = ap (λ (r : DriveAnswer × List ℕ × List ℕ). withImages p (r .1) (r .2)) (allot-is i j)
   drives-is (trims i) = ap (λ (r : DriveAnswer × List ℕ × List ℕ). withImages p (r .1) (r .2)) (trim-is i)
   drives-is (kills i) = ap (λ (r : DriveAnswer × List ℕ × List ℕ). withImages p (r .1) (r .2)) (kill-is i)
@@ -149,16 +153,16 @@ module _ (p : Pair) (k : ℕ) (is : IsDrive k) (n : Name) (s : Side) where
       ∙ ap (λ (j : ℕ). withNew (lift k s) (handleOn j (a .handle))) (drive-told k (a .refusal) z) ∙ new-is (a .handle)
   side-is (moves i at) z =
       ap (λ (h : DriveHandle). withMoved (lift k s) i (handleOn (h .drive) (movedTo (h .handle) at))) (at-is i) ∙ moved-is i (movedTo (held i) at)
-  side-is (reads i b) z =
-      let x = Read.readRecord g d (held i) b in
-      ap (λ (r : DriveAnswer × List ℕ). hearing (withMoved (lift k s) i (r .0 .handle)) (kept (plain g d (fold n)) (r .1))) (read-is i b)
+  side-is (reads a i b) z =
+      let x = Read.readOf g d (held i) (howMany a (held i .len) b) b in
+      ap (λ (r : DriveAnswer × List ℕ). hearing (withMoved (lift k s) i (r .0 .handle)) (kept (plain g d (fold n)) (r .1))) (read-is a i b)
       ∙ ap (λ (t : DriveSide). hearing t (kept (plain g d (fold n)) (x .1))) (moved-is i (x .0 .handle))
   side-is (readsSector i j) z =
       let x = Read.readSector g d (held i) j in
       ap (λ (r : DrivePart). hearing (lift k s) (kept (plain g d (fold n)) (slice (r .from) (r .to) (image p (r .drive))))) (sector-is i j)
       ∙ ap (λ (y : ℕ). hearing (lift k s) (kept (plain g d (fold n)) (slice (x .from) (x .to) (image p y)))) (drive-told k (x .refusal) z)
-  side-is (writes m i b) z =
-      ap (λ (r : DriveAnswer × List ℕ × List ℕ). withMoved (lift k s) i (r .0 .handle)) (write-is m i b) ∙ moved-is i _
+  side-is (writes a m i b) z =
+      ap (λ (r : DriveAnswer × List ℕ × List ℕ). withMoved (lift k s) i (r .0 .handle)) (write-is a m i b) ∙ moved-is i _
   side-is (allots i j) z = refl
   side-is (trims i) z = refl
   side-is (kills i) z = refl

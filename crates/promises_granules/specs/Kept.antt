@@ -176,7 +176,7 @@ module _ (g : Geometry) (d : List ℕ) (e : g .granule ≡ 5) where
     position = omega (arith, bytes′);
     handle = handle′;
     sector = omega (arith, five);
-    written = λ m h. rw bytes′ refl;
+    written = λ m h n. rw bytes′ refl;
     allotted = λ h k. rw five refl;
     trimmed = λ s. rw bytes′ refl;
     listed = λ size. rw bytes′ refl;

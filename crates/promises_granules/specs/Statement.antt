@@ -89,8 +89,8 @@ pub record Old (g : Geometry) (d : List ℕ) : Type 0 where
   pub sector : sectorNumbers g ≡ 7680
   -- "A write takes exactly what the file lacks of ⌈new size/1280⌉ granules." Allot: "until ⌊k/5⌋ + 1 are owned". Trim: "keeps ⌈size/1280⌉
   -- granules".
-  pub written : (m : Mode) (h : Handle) → toWrite g d m h
-      ≡ (sizeAfter m (sizeOf g d (h .slot)) (h .at + h .len) + 1279) / 1280 - length (owned g d (h .slot))
+  pub written : (m : Mode) (h : Handle) (n : ℕ) → toWrite g d m h n
+      ≡ (sizeAfter m (sizeOf g d (h .slot)) (h .at + n) + 1279) / 1280 - length (owned g d (h .slot))
   pub allotted : (h : Handle) (k : ℕ) → toAllot g d h k ≡ k / 5 + 1 - length (owned g d (h .slot))
   pub trimmed : (s : ℕ) → surplus g d s ≡ length (owned g d s) - (sizeOf g d s + 1279) / 1280
   -- and in the plain list of named files (demand 2)

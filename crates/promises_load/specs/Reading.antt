@@ -150,7 +150,7 @@ module _ (g : Geometry) (d : List ℕ) where
     again at b′ l m =
         let w = has′ in
         let top = Tally.size-le g d (w .0 .sound) (Places.fits g d (w .0 .fits)) (h .slot) (Passing.live-file g d h (w .0 .live)) in
-        let r = Refusing.range-iff g h .0 (Passing.first-of (inRange g h) (leb mostBytes (length b)) (w .1)) in
+        let r = Refusing.range-iff g h .0 (Passing.first-of (inRange g h) (leb mostBytes (length b) ∷ []) (w .1)) in
         let f = Passing.further g h at r (omega (arith, top, Others.file-length g d (h .slot))) in
         let x : T (inRange g (movedTo h at)) = Refusing.range-iff g (movedTo h at) .1 f in
         let n : mostBytes ≤ length b = leb→le mostBytes (length b) (Members.all-second (inRange g h) (leb mostBytes (length b)) (w .1)) in

@@ -6,6 +6,7 @@ use mathlib.Core.List.{List, [], _∷_}
 use Prim.Native.Nat.{ℕ, _<_}
 use native.Mathlib.Omega.{arith}
 use lib.ListN.{replicate}
+use Rattle.meaning.specs.Amount.{oneRecord, wholeBuffer}
 use Rattle.meaning.specs.Layout.{fitsGeometry}
 use Rattle.meaning.specs.Consistent.{consistent}
 use Rattle.meaning.specs.Calls.{Call, number}
@@ -63,9 +64,13 @@ old-accepted : number three sample (creates leer new true) ≡ 0
 unfolding opened number
 old-accepted = refl
 
-read-accepted : number three sample (reads (held 0xa3 puls 1 256 5) (replicate 256 0)) ≡ 0
+read-accepted : number three sample (reads oneRecord (held 0xa3 puls 1 256 5) (replicate 256 0)) ≡ 0
 unfolding opened number
 read-accepted = refl
+
+bytes-accepted : number three sample (reads wholeBuffer (held 0xa3 puls 1 1 5) (replicate 256 0)) ≡ 0
+unfolding opened number
+bytes-accepted = refl
 
 sector-accepted : number three sample (readsSector (held 0xa3 puls 0 256 5) 1) ≡ 0
 unfolding opened number
@@ -96,17 +101,21 @@ unfolding opened number
 measures-accepted = refl
 
 -- and `EveryWrite`: a byte of gap, a byte in the granule owned, and one in a granule that the write takes
-pub write-accepted : number three sample (writes Random (held 0x80 leer 1279 2 4) two) ≡ 0
+pub write-accepted : number three sample (writes oneRecord Random (held 0x80 leer 1279 2 4) two) ≡ 0
 unfolding opened number
 write-accepted = refl
 
-pub sequential-accepted : number three sample (writes Sequential (held 0xa3 puls 0 2 4) two) ≡ 0
+pub sequential-accepted : number three sample (writes oneRecord Sequential (held 0xa3 puls 0 2 4) two) ≡ 0
 unfolding opened number
 sequential-accepted = refl
 
+pub bytes-written : number three sample (writes wholeBuffer Sequential (held 0xa3 puls 0 1 4) two) ≡ 0
+unfolding opened number
+bytes-written = refl
+
 -- `EveryState`, at a list of calls: what it says of the disk after a create, a write and a kill
 abbrev calls : List Call
-calls = creates neu new true ∷ writes Random (held 0x80 leer 1279 2 4) two ∷ kills (held 0xa3 puls 0 256 1) ∷ []
+calls = creates neu new true ∷ writes oneRecord Random (held 0x80 leer 1279 2 4) two ∷ kills (held 0xa3 puls 0 256 1) ∷ []
 
 pub along : Along three sample sample calls
 along = Kept.every-state three sample good calls ((sixteen, sixteen′), (refl, (tt, tt)))

@@ -5,8 +5,9 @@ use mathlib.Core.Path.{_≡_, refl}
 use mathlib.Core.Bool.{true}
 use mathlib.Core.List.{[], _∷_}
 use lib.ListN.{set}
+use Rattle.meaning.specs.Amount.{oneRecord, wholeBuffer}
 use Rattle.meaning.specs.Calls.{number}
-use Rattle.meaning_table.specs.Samples.{opened, three, gaps, puls, leer, held}
+use Rattle.meaning_table.specs.Samples.{opened, three, sample, gaps, puls, leer, held}
 use Rattle.meaning.specs.Calls.Call.{checks, looksUp, opens, reads, allots, kills}
 
 -- no image at all
@@ -49,9 +50,14 @@ unfolding opened number
 row-6 = refl
 
 -- a byte of none
-row-10 : number three gaps (reads (held 0x80 leer 0 1 5) (0 ∷ [])) ≡ 10
+row-10 : number three gaps (reads oneRecord (held 0x80 leer 0 1 5) (0 ∷ [])) ≡ 10
 unfolding opened number
 row-10 = refl
+
+-- two bytes at the last one, by a record length of one
+row-10-bytes : number three sample (reads wholeBuffer (held 0xa3 puls 256 1 5) (0 ∷ 0 ∷ [])) ≡ 10
+unfolding opened number
+row-10-bytes = refl
 
 -- E set
 row-11 : number three (set gaps 641 0x49) (allots (held 0x80 leer 0 256 4) 5) ≡ 11

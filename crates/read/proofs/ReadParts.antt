@@ -1,7 +1,7 @@
 -- A file's bytes by parts, and what an accepted read has.
 use mathlib.Core.Path.{_≡_, refl, sym, ap, _∙_}
 use mathlib.Core.List.{List, [], _∷_, _++_, map}
-use mathlib.Core.Bool.{Bool, false, cond}
+use mathlib.Core.Bool.{Bool, true, false, cond}
 use Prim.Native.Nat.{ℕ, zero, suc, _+_, _-_, _*_, _/_, _%_, _≤_, _<_}
 use native.Mathlib.Omega.{arith}
 use native.Mathlib.Nat.{zero-add, add-zero, mul-le-mul-left}
@@ -12,11 +12,11 @@ use lib.Dec.{ltb, leb}
 use borrow.Author.Tests.{leb-true, leb-false, ltb-true, ltb-false, eq-eqb, ne-eqb}
 use Rattle.meaning.specs.Lists.{count, all}
 use Rattle.lists.specs.Members.{length-count}
-use Rattle.meaning.specs.Layout.{byte, sectorNumbers, granuleBytes}
+use Rattle.meaning.specs.Layout.{byte, sectorNumbers, granuleBytes, highest}
 use Rattle.lists.specs.Sizes
 use Rattle.meaning.specs.Chain.{owned, place}
 use Rattle.meaning.specs.Entries.{sizeOf, sectorCount, endByte}
-use Rattle.meaning.specs.Read.{fetch, readRefusals, readRecord, sectorRefusals, sectorBytes, readSector}
+use Rattle.meaning.specs.Read.{fetch, readRefusals, readOf, sectorRefusals, sectorBytes, readSector}
 use Rattle.meaning.specs.Refusals.{first, refusal, handleRefusals, notForReading}
 use Rattle.meaning.specs.Handles.{inRange, movedTo}
 use Rattle.meaning.specs.declared.Geometry.{Geometry}
@@ -29,7 +29,7 @@ use Rattle.lists.specs.Tests.{all-at, first-at, count-append}
 use Rattle.passed.proofs.Checked.{ownRow, passed, walks, ranges, handle-stop, handle-then}
 use Rattle.seek.proofs.IsWalkable.{owned-low}
 use Rattle.copy.proofs.OneByOne.{sets-append}
-use Rattle.read.specs.Part.{Readable, Owned, Rest, InGranule, partOf}
+use Rattle.read.specs.Part.{Readable, Within, Owned, InGranule, partOf}
 use borrow.Rule.Slice.Shared.{byByte}
 
 -- bytes whose places follow one another
@@ -49,17 +49,6 @@ map-run d f i a (suc n) h l =
 map-both : (f : ℕ → ℕ) (xs ys : List ℕ) → map f (xs ++ ys) ≡ map f xs ++ map f ys
 map-both f [] ys = refl
 map-both f (x ∷ xs) ys = ap (λ (r : List ℕ). f x ∷ r) (map-both f xs ys)
-
--- what is left of a granule lies in it, and behind it the next one starts, which holds a sector and more
-pub rest-holds : {g : Geometry} {i r n : ℕ} → Rest g i r → n ≤ r → InGranule g i n
-rest-holds h k = record { inside = omega (arith, h .is, k) }
-
-pub rest-next : {g : Geometry} {i r n : ℕ} → Rest g i r → n ≤ 256 → InGranule g (i + r) n
-rest-next {g} {i} {r} {n} h k =
-    let w = granuleBytes g in
-    let q : i + r ≡ granuleBytes g * (i / granuleBytes g + 1) + 0 = omega (arith, h .is, Sizes.split (Sizes.bytes-pos g) i .is) in
-    let e : (i + r) % granuleBytes g ≡ 0 = ap (λ (j : ℕ). j % granuleBytes g) q ∙ Sizes.at-rest _ 0 (Sizes.bytes-pos g) in
-    record { inside = omega (arith, e, k, Sizes.bytes-are g, Sizes.sectors-pos g) }
 
 module _ (g : Geometry) (d : List ℕ) where
   pub place-next : (s i t : ℕ) → i % granuleBytes g + t < granuleBytes g → place g d s (i + t) ≡ place g d s i + t
@@ -95,25 +84,34 @@ module _ (g : Geometry) (d : List ℕ) where
   front b xs n e h =
       sets-eq xs b 0 (rw e (omega arith)) ∙ ap (λ (k : ℕ). xs ++ drop k b) (zero-add (length xs) ∙ e)
 
-  -- one part, and two
-  pub one-part : (s i n : ℕ) (b : List ℕ) {b′ : List ℕ} → b′ ≡ sets b 0 (fetch g d s i n) → n ≤ length b → b′ ≡ fetch g d s i n ++ drop n b
-  one-part s i n b e h = e ∙ front b (fetch g d s i n) n (length-fetch s i n) h
+  -- `done` bytes from byte i on are in the buffer
+  pub record Reading (s i : ℕ) (b b′ : List ℕ) (done : ℕ) : Type 0 where
+    pub is : b′ ≡ sets b 0 (fetch g d s i done)
 
-  pub two-parts : (s i m n : ℕ) (b : List ℕ) {b′ b″ : List ℕ} → b′ ≡ sets b 0 (fetch g d s i m) → b″ ≡ sets b′ m (fetch g d s (i + m) (n - m)) → m ≤ n → n ≤ length b
-      → b″ ≡ fetch g d s i n ++ drop n b
-  two-parts s i m n b {b′} {b″} e f h l =
-      let q : m + (n - m) ≡ n = omega arith in
-      f ∙ ap (λ (r : List ℕ). sets r m (fetch g d s (i + m) (n - m))) e
-      ∙ ap (λ (k : ℕ). sets (sets b 0 (fetch g d s i m)) k (fetch g d s (i + m) (n - m))) (sym (zero-add (length (fetch g d s i m)) ∙ length-fetch s i m))
-      ∙ sym (sets-append b 0 (fetch g d s i m) (fetch g d s (i + m) (n - m)))
-      ∙ ap (sets b 0) (sym (fetch-append s i m (n - m)) ∙ ap (fetch g d s i) q)
-      ∙ front b (fetch g d s i n) n (length-fetch s i n) l
+  pub reading-start : (s i : ℕ) (b : List ℕ) → Reading s i b b 0
+  unfolding fetch
+  reading-start s i b = record { is = refl }
 
-  pub owned-first : {s i n : ℕ} (m : ℕ) → Owned g d s i n → 1 ≤ m → m ≤ n → Owned g d s i m
-  owned-first {s} {i} {n} m o h l = let a = o .owned in let b = o .high in record { some = h; owned = omega arith; high = omega arith }
+  pub reading-step : {s i done : ℕ} (m : ℕ) {b b′ b″ : List ℕ} → Reading s i b b′ done
+      → b″ ≡ sets b′ done (fetch g d s (i + done) m) → Reading s i b b″ (done + m)
+  reading-step {s} {i} {done} m {b} {b′} {b″} r f =
+      record {
+        is =
+            f ∙ ap (λ (x : List ℕ). sets x done (fetch g d s (i + done) m)) (r .is)
+            ∙ ap (λ (k : ℕ). sets (sets b 0 (fetch g d s i done)) k (fetch g d s (i + done) m))
+            (sym (zero-add (length (fetch g d s i done)) ∙ length-fetch s i done))
+            ∙ sym (sets-append b 0 (fetch g d s i done) (fetch g d s (i + done) m))
+            ∙ ap (sets b 0) (sym (fetch-append s i done m));
+      }
 
-  pub owned-second : {s i n : ℕ} (m : ℕ) → Owned g d s i n → m < n → Owned g d s (i + m) (n - m)
-  owned-second {s} {i} {n} m o h = let a = o .owned in let b = o .high in record { some = omega arith; owned = omega arith; high = omega arith }
+  pub reading-end : {s i n done : ℕ} {b b′ : List ℕ} → Reading s i b b′ done → done ≤ n → n ≤ done → n ≤ length b → b′ ≡ fetch g d s i n ++ drop n b
+  reading-end {s} {i} {n} {done} {b} r h k l =
+      let e : done ≡ n = omega arith in
+      r .is ∙ ap (λ (j : ℕ). sets b 0 (fetch g d s i j)) e ∙ front b (fetch g d s i n) n (length-fetch s i n) l
+
+  -- m bytes of those, `done` bytes on
+  pub owned-part : {s i n : ℕ} (done m : ℕ) → Within g d s i n → 1 ≤ m → done + m ≤ n → Owned g d s (i + done) m
+  owned-part done m o h l = let a = o .owned in let b = o .high in record { some = h; owned = omega arith; high = omega arith }
 
   -- the tests of a reading call: those of its handle, then 10; q is the call's test 12 as the definition has it
   pub reading-stop : (h : Handle) (q : Bool) (rest : List (ℕ × Bool)) {ranged : Bool} {n : ℕ} → ranged ≡ q
@@ -126,37 +124,40 @@ module _ (g : Geometry) (d : List ℕ) where
   reading-then h q rest r e z =
       handle-then g d h q (notForReading h ∷ []) rest refl (e ∙ ap (λ (t : Bool). first (handleRefusals g d h t (notForReading h ∷ []))) r) z
 
-  -- refused and accepted
-  pub refused : (h : Handle) (b : List ℕ) {no : ℕ} {c : Refusal} → c ≡ refusal g d no → no ≡ first (readRefusals g d h (length b)) → (no ≡ 0 → ⊥)
-      → _≡_ {A = Answer × List ℕ} (record { refusal = c; handle = h }, b) (readRecord g d h b)
-  unfolding readRecord
-  refused h b {no} q e n = rw (← e, ne-eqb no 0 n, q)
+  -- a read of n bytes, refused and accepted
+  pub refused : (h : Handle) (n : ℕ) (b : List ℕ) {no : ℕ} {c : Refusal} → c ≡ refusal g d no → no ≡ first (readRefusals g d h n (length b))
+      → (no ≡ 0 → ⊥) → _≡_ {A = Answer × List ℕ} (record { refusal = c; handle = h }, b) (readOf g d h n b)
+  unfolding readOf
+  refused h n b {no} q e z = rw (← e, ne-eqb no 0 z, q)
 
-  pub accepted : (h : Handle) (b : List ℕ) {b′ : List ℕ} {no : ℕ} {c : Refusal} → c ≡ refusal g d 0 → no ≡ first (readRefusals g d h (length b)) → no ≡ 0
-      → b′ ≡ fetch g d (h .slot) (h .at) (h .len) ++ drop (h .len) b
-      → _≡_ {A = Answer × List ℕ} (record { refusal = c; handle = movedTo h (h .at + h .len) }, b′) (readRecord g d h b)
-  unfolding readRecord
-  accepted h b {b′} {no} q e n f = rw (← e, n, f, q)
+  pub accepted : (h : Handle) (n : ℕ) (b : List ℕ) {b′ : List ℕ} {no : ℕ} {c : Refusal} → c ≡ refusal g d 0 → no ≡ first (readRefusals g d h n (length b))
+      → no ≡ 0 → b′ ≡ fetch g d (h .slot) (h .at) n ++ drop n b
+      → _≡_ {A = Answer × List ℕ} (record { refusal = c; handle = movedTo h (h .at + n) }, b′) (readOf g d h n b)
+  unfolding readOf
+  accepted h n b {b′} {no} q e z f = rw (← e, z, f, q)
 
-  pub record Allowed (h : Handle) (room : ℕ) : Type 0 where
+  pub record Allowed (h : Handle) (n room : ℕ) : Type 0 where
     pub file : Readable g d (h .slot)
-    pub owned : Owned g d (h .slot) (h .at) (h .len)
-    pub short : h .len ≤ 256
-    pub fits : h .len ≤ room
+    pub within : Within g d (h .slot) (h .at) n
+    pub fits : n ≤ room
 
-  pub allowed : (h : Handle) (room : ℕ) → first (readRefusals g d h room) ≡ 0 → Allowed h room
-  allowed h room e =
-      let t : (k : ℕ) → getD (readRefusals g d h room) k (0, false) .1 ≡ false = λ k. first-at (readRefusals g d h room) e refl k in
-      let p = passed g d h (all (inRange g h ∷ leb (h .len) room ∷ [])) _ refl (sym e) refl in
+  -- position and length of a read whose range was tested
+  pub read-reach : (h : Handle) (n room : ℕ) → all (inRange g h ∷ leb n (highest g) ∷ leb n room ∷ []) ≡ true → h .at + n ≤ 16777215
+  read-reach h n room w =
+      let r = ranges g d h (all-at _ w 0) in
+      omega (arith, r .0, leb-true n (highest g) (all-at _ w 1), Sizes.bytes-are g, Sizes.sectors-most g)
+
+  pub allowed : (h : Handle) (n room : ℕ) → first (readRefusals g d h n room) ≡ 0 → Allowed h n room
+  allowed h n room e =
+      let t : (k : ℕ) → getD (readRefusals g d h n room) k (0, false) .1 ≡ false = λ k. first-at (readRefusals g d h n room) e refl k in
+      let p = passed g d h (all (inRange g h ∷ leb n (highest g) ∷ leb n room ∷ [])) _ refl (sym e) refl in
       let w = walks g d h _ p in
-      let r = ranges g d h (all-at _ (p .ranged′) 0) in
-      let l = leb-true (h .len) room (all-at _ (p .ranged′) 1) in
-      let z = ltb-false (sizeOf g d (h .slot)) (h .at + h .len) (t (ownRow 3)) in
+      let l = leb-true n room (all-at _ (p .ranged′) 2) in
+      let z = ltb-false (sizeOf g d (h .slot)) (h .at + n) (t (ownRow 3)) in
       let y = w .0 .size (h .slot) (p .slot) (p .first′) in
       record {
         file = record { sound = w .0; used = w .1 };
-        owned = record { some = r .1; owned = omega arith; high = omega arith };
-        short = r .2;
+        within = record { owned = omega arith; high = read-reach h n room (p .ranged′) };
         fits = l;
       }
 

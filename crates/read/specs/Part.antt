@@ -14,7 +14,12 @@ pub record Readable (g : Geometry) (d : List ℕ) (s : ℕ) : Type 0 where
   pub sound : Walkable g d
   pub used : Used g d s
 
--- bytes i to i + n are owned
+-- n bytes from byte i on are owned, or none
+pub record Within (g : Geometry) (d : List ℕ) (s i n : ℕ) : Type 0 where
+  pub owned : i + n ≤ granuleBytes g * length (owned g d s)
+  pub high : i + n ≤ 16777215
+
+-- one byte or more
 pub record Owned (g : Geometry) (d : List ℕ) (s i n : ℕ) : Type 0 where
   pub some : 1 ≤ n
   pub owned : i + n ≤ granuleBytes g * length (owned g d s)

@@ -1,4 +1,4 @@
-// Read record, and read sector.
+// A read of any number of bytes, of which read record and read bytes are two; and read sector.
 use meaning::Answer;
 use meaning::Geometry;
 use meaning::Handle;
@@ -12,12 +12,13 @@ ghost use lib.Seq.{sets};
 ghost use denote.Ref.{ptr};
 ghost use lib.Dec.{leb};
 ghost use Rattle.meaning.specs.Lists.{all};
-ghost use Rattle.meaning.specs.Read.{fetch, readRefusals, readRecord, sectorRefusals, sectorBytes, readSector};
+ghost use Rattle.meaning.specs.Layout.{highest};
+ghost use Rattle.meaning.specs.Read.{fetch, readRefusals, readOf, sectorRefusals, sectorBytes, readSector};
 ghost use Rattle.meaning.specs.Entries.{sectorCount};
 ghost use Rattle.layout.specs.Room.{Room, Slot};
 ghost use Rattle.meaning.specs.Refusals.{first, check};
 ghost use Rattle.meaning.specs.Handles.{inRange};
-ghost use Rattle.read.specs.Part.{Rest, Readable, Owned, InGranule, partOf, Lies};
+ghost use Rattle.read.specs.Part.{Rest, Readable, Within, Owned, InGranule, partOf, Lies};
 
 // n bytes of the file from byte i on, all in one granule, go to the buffer at `to`: one walk along the chain, one copy.
 pub fn read_part(
@@ -53,67 +54,78 @@ pub fn part_of(g: Geometry, i: usize, n: usize) -> usize
     if n < room { n } else { room }
 }
 
-// n bytes, at most 256, of the file from byte i on go to the buffer's start: granule by granule, so two parts at the most.
+// n bytes of the file from byte i on go to the buffer's start, granule by granule.
 pub fn read_bytes(image: &[u8], g: Geometry, s: usize, i: usize, n: usize, buffer: &mut [u8])
-    requires { ⌜ Readable g (now image) s × Owned g (now image) s i n × (n ≤ 256) × (n ≤ length (now buffer)) ⌝ }
+    requires { ⌜ Readable g (now image) s × Within g (now image) s i n × (n ≤ length (now buffer)) ⌝ }
     ensures { λ _. ⌜ now (buffer .exit) ≡ fetch g (now (image .entry)) s i n ++ drop n (now (buffer .entry)) ⌝ }
 {
-    let first = rest_of(g, i);
-    if n <= first {
-        read_part(image, g, s, i, n, buffer, 0);
-        return;
+    let mut done = 0;
+    while done < n {
+        let m = part_of(g, i + done, n - done);
+        read_part(image, g, s, i + done, m, buffer, done);
+        done += m;
     }
-    read_part(image, g, s, i, first, buffer, 0);
-    read_part(image, g, s, i + first, n - first, buffer, first);
 }
 
-// Test 12 of a read: the handle's numbers are in range, and the record fits a buffer of length `room`.
-pub fn record_ranged(g: Geometry, h: Handle, room: usize) -> bool
-    ensures { λ r. ⌜ r ≡ all (inRange g h ∷ leb (h .len) room ∷ []) ⌝ }
+// Test 12 of a read of n bytes: the handle's numbers are in range, n is not over the highest position, and a buffer of length `room` holds n.
+pub fn read_ranged(g: Geometry, h: Handle, n: usize, room: usize) -> bool
+    ensures { λ r. ⌜ r ≡ all (inRange g h ∷ leb n (highest g) ∷ leb n room ∷ []) ⌝ }
 {
     if !handle::in_range(g, h) {
         return false;
     }
-    h.len <= room
+    if layout::highest(g) < n {
+        return false;
+    }
+    n <= room
 }
 
-// The refusal number of a read, 0 where there is none.
-pub fn record_number(image: &[u8], g: Geometry, h: Handle, room: usize, checked: Refusal) -> u8
+// The refusal number of a read of n bytes, 0 where there is none.
+pub fn read_number(
+    image: &[u8],
+    g: Geometry,
+    h: Handle,
+    n: usize,
+    room: usize,
+    checked: Refusal,
+) -> u8
     requires { ⌜ checked ≡ check g (now image) ⌝ }
-    ensures { λ r. ⌜ r ≡ first (readRefusals g (now (image .entry)) h room) ⌝ }
+    ensures { λ r. ⌜ r ≡ first (readRefusals g (now (image .entry)) h n room) ⌝ }
 {
-    let ranged = record_ranged(g, h, room);
+    let ranged = read_ranged(g, h, n, room);
     let number = handle::reading_number(image, g, h, ranged, checked);
     if number != 0 {
         return number;
     }
-    if layout::size_of(image, g, h.slot) < h.at + h.len {
+    if layout::size_of(image, g, h.slot) < h.at + n {
         return 10;
     }
     0
 }
 
-// Read record, of a disk whose check answered `checked`.
-pub fn record_checked(
+// A read of n bytes, of a disk whose check answered `checked`: read record where n is the handle's record length, read bytes where it is the
+// buffer's length.
+pub fn read_checked(
     image: &[u8],
     g: Geometry,
     h: Handle,
+    n: usize,
     buffer: &mut [u8],
     checked: Refusal,
 ) -> Answer
     requires { ⌜ checked ≡ check g (now image) ⌝ }
-    ensures { λ r. ⌜ (r, now (buffer .exit)) ≡ readRecord g (now (image .entry)) h (now (buffer .entry)) ⌝ }
+    ensures { λ r. ⌜ (r, now (buffer .exit)) ≡ readOf g (now (image .entry)) h n (now (buffer .entry)) ⌝ }
 {
-    let number = record_number(image, g, h, buffer.len(), checked);
+    let number = read_number(image, g, h, n, buffer.len(), checked);
     if number != 0 {
         return Answer {
             refusal: refusal::carried(checked, number),
             handle: h,
         };
     }
-    read_bytes(image, g, h.slot, h.at, h.len, buffer);
+    read_bytes(image, g, h.slot, h.at, n, buffer);
     let mut moved = h;
-    moved.at = h.at + h.len;
+    moved.at = h.at + n;
     Answer {
         refusal: refusal::carried(checked, 0),
         handle: moved,

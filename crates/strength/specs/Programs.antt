@@ -7,8 +7,9 @@ use Rattle.meaning.specs.Refusals.{check}
 use Rattle.meaning.specs.LookUp.{lookUp}
 use Rattle.meaning.specs.Open.{open′}
 use Rattle.meaning.specs.Create.{create}
-use Rattle.meaning.specs.Read.{readRecord, readSector}
-use Rattle.meaning.specs.Write.{writeRecord}
+use Rattle.meaning.specs.Amount.{Amount, howMany}
+use Rattle.meaning.specs.Read.{readOf, readSector}
+use Rattle.meaning.specs.Write.{writeOf}
 use Rattle.meaning.specs.Allot.{allot}
 use Rattle.meaning.specs.Trim.{trim}
 use Rattle.meaning.specs.Kill.{kill}
@@ -43,9 +44,9 @@ answerOf g d checks = checked (check g d)
 answerOf g d (looksUp n) = looked (lookUp g d n)
 answerOf g d (opens n len checking code) = answered (open′ g d n len checking code)
 answerOf g d (creates n f checking) = created (create g d n f checking .0)
-answerOf g d (reads h b) = answered (readRecord g d h b .0)
+answerOf g d (reads a h b) = answered (readOf g d h (howMany a (h .len) b) b .0)
 answerOf g d (readsSector h k) = part (readSector g d h k)
-answerOf g d (writes m h b) = answered (writeRecord g d m h b .0)
+answerOf g d (writes a m h b) = answered (writeOf g d m h (howMany a (h .len) b) b .0)
 answerOf g d (allots h k) = answered (allot g d h k .0)
 answerOf g d (trims h) = answered (trim g d h .0)
 answerOf g d (kills h) = answered (kill g d h .0)
@@ -59,9 +60,9 @@ bufferOf g d checks = []
 bufferOf g d (looksUp n) = []
 bufferOf g d (opens n len checking code) = []
 bufferOf g d (creates n f checking) = []
-bufferOf g d (reads h b) = readRecord g d h b .1
+bufferOf g d (reads a h b) = readOf g d h (howMany a (h .len) b) b .1
 bufferOf g d (readsSector h k) = []
-bufferOf g d (writes m h b) = []
+bufferOf g d (writes a m h b) = []
 bufferOf g d (allots h k) = []
 bufferOf g d (trims h) = []
 bufferOf g d (kills h) = []
@@ -101,8 +102,8 @@ RefusesAll p = (g : Geometry) (d : List ℕ) (c : Call) (x : Said) → p g d (c 
 -- one that answers always alike: two reads of one length into one buffer get the same bytes
 abbrev pub AlwaysAlike : Program → Type 0
 AlwaysAlike p =
-    (g : Geometry) (d : List ℕ) (h h′ : Handle) (b : List ℕ) (x x′ : Said) → h .len ≡ h′ .len → p g d (reads h b ∷ []) ≡ x ∷ []
-    → p g d (reads h′ b ∷ []) ≡ x′ ∷ [] → x .buffer ≡ x′ .buffer
+    (g : Geometry) (d : List ℕ) (a : Amount) (h h′ : Handle) (b : List ℕ) (x x′ : Said) → h .len ≡ h′ .len → p g d (reads a h b ∷ []) ≡ x ∷ []
+    → p g d (reads a h′ b ∷ []) ≡ x′ ∷ [] → x .buffer ≡ x′ .buffer
 
 -- one that changes nothing
 abbrev pub ChangesNothing : Program → Type 0

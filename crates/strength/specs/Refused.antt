@@ -4,6 +4,7 @@ use mathlib.Core.List.{List, [], _∷_}
 use Prim.Native.Nat.{ℕ, _+_}
 use native.Mathlib.Omega.{arith}
 use lib.ListN.{getD}
+use Rattle.meaning.specs.Amount.{oneRecord}
 use Rattle.meaning.specs.Layout.{byte}
 use Rattle.meaning.specs.LookUp.{lookUp}
 use Rattle.meaning.specs.Calls.{Call, number, leaves}
@@ -31,7 +32,7 @@ abbrev from : ℕ → Handle
 from i = held 0xa3 puls i 1 0
 
 abbrev byteAt : ℕ → Call
-byteAt i = reads (from i) (0 ∷ [])
+byteAt i = reads oneRecord (from i) (0 ∷ [])
 
 first-byte : says three sample (byteAt 255) .buffer ≡ 0x43 ∷ []
 unfolding opened says bufferOf
@@ -43,7 +44,8 @@ second-byte = refl
 
 pub always-alike : (p : Program) → Meets p → AlwaysAlike p → ⊥
 always-alike p m r =
-    let e = r three sample (from 255) (from 256) (0 ∷ []) (says three sample (byteAt 255)) (says three sample (byteAt 256)) refl (one p m (byteAt 255)) (one p m (byteAt 256)) in
+    let e = r three sample oneRecord (from 255) (from 256) (0 ∷ [])
+    (says three sample (byteAt 255)) (says three sample (byteAt 256)) refl (one p m (byteAt 255)) (one p m (byteAt 256)) in
     let z : _≡_ {A = ℕ} 0x43 0x44 = ap (λ (b : List ℕ). getD b 0 0) (sym first-byte ∙ e ∙ second-byte) in
     omega arith
 

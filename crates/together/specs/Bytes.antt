@@ -15,8 +15,8 @@ use Rattle.meaning.specs.Refusals.{first}
 use Rattle.meaning.specs.Handles.{movedTo}
 use Rattle.meaning.specs.Names.{fold}
 use Rattle.meaning.specs.Open.{open′, openedAt}
-use Rattle.meaning.specs.Read.{readRecord}
-use Rattle.meaning.specs.Write.{writeRecord}
+use Rattle.meaning.specs.Read.{readOf}
+use Rattle.meaning.specs.Write.{writeOf}
 use Rattle.meaning.specs.LookUp.{named, missing}
 use Rattle.meaning.specs.Calls.{number, leaves}
 use Rattle.meaning.specs.declared.Geometry.{Geometry}
@@ -28,7 +28,7 @@ use Rattle.laws.specs.Facts.{Sound}
 use Rattle.laws.specs.Places
 use Rattle.laws.specs.Passed
 use Rattle.laws.specs.Named
-use Rattle.together.specs.Statement.{Name, Step, looksUp, opens, creates, moves, reads, readsSector, writes, allots, trims, kills, Side, known, answer, handleAt, Turn, one, two, Interleaving, none, left, right, World, start, next, after, Taken}
+use Rattle.together.specs.Statement.{Name, Step, looksUp, opens, creates, moves, reads, readsSector, writes, allots, trims, kills, Side, known, answer, handleAt, manyBy, Turn, one, two, Interleaving, none, left, right, World, start, next, after, Taken}
 use Rattle.together.specs.State.{Held, Good}
 use Rattle.together.specs.Effects
 use Rattle.together.specs.Interleavings
@@ -58,10 +58,12 @@ still g n d s looksUp h t e q = Still.still-same g (fold n) d d refl
 still g n d s (opens len checking code) h t e q = Still.still-same g (fold n) d d refl
 still g n d s (creates f checking) h t e q = Still.still-same g (fold n) d _ (Quiet.create-quiet g d n f checking e q .image)
 still g n d s (moves i at) h t e q = Still.still-same g (fold n) d d refl
-still g n d s (reads i b) h t e q = Still.still-same g (fold n) d d refl
+still g n d s (reads a i b) h t e q = Still.still-same g (fold n) d d refl
 still g n d s (readsSector i j) h t e q = Still.still-same g (fold n) d d refl
-still g n d s (writes m i b) h t e q =
-    Still.write-still g d (fold n) m (handleAt (s .handles) i) b _ (Effects.held-at (fold n) (s .handles) i h t) (Quiet.write-quiet g d (fold n) m (handleAt (s .handles) i) b (Effects.held-at (fold n) (s .handles) i h t) e q)
+still g n d s (writes a m i b) h t e q =
+    let many = manyBy (s .handles) a i b in
+    Still.write-still g d (fold n) m (handleAt (s .handles) i) many b _ (Effects.held-at (fold n) (s .handles) i h t)
+    (Quiet.write-quiet g d (fold n) m (handleAt (s .handles) i) many b (Effects.held-at (fold n) (s .handles) i h t) e q)
 still g n d s (allots i j) h t e q = Still.still-same g (fold n) d _ (Quiet.allot-still g d (fold n) (handleAt (s .handles) i) (Effects.held-at (fold n) (s .handles) i h t) j e q)
 still g n d s (trims i) h t e q = Still.still-same g (fold n) d _ (Quiet.trim-still g d (fold n) (handleAt (s .handles) i) (Effects.held-at (fold n) (s .handles) i h t) e q)
 still g n d s (kills i) h t e q = absurd (Quiet.kill-never g d (fold n) (handleAt (s .handles) i) (Effects.held-at (fold n) (s .handles) i h t) e q)
@@ -78,13 +80,15 @@ open-handle g d n len checking code e =
     let p₅ = Passed.passed 4 _ _ (omega arith) (p₄ .1) in
     (rw e refl, p₅ .0)
 
-read-handle : (g : Geometry) (d : List ℕ) (h : Handle) (b : List ℕ) → readRecord g d h b .0 .refusal .number ≡ 0 → readRecord g d h b .0 .handle ≡ movedTo h (h .at + h .len)
-unfolding readRecord
-read-handle g d h b e = rw e
+read-handle : (g : Geometry) (d : List ℕ) (h : Handle) (many : ℕ) (b : List ℕ) → readOf g d h many b .0 .refusal .number ≡ 0
+    → readOf g d h many b .0 .handle ≡ movedTo h (h .at + many)
+unfolding readOf
+read-handle g d h many b e = rw e
 
-write-handle : (g : Geometry) (d : List ℕ) (m : Mode) (h : Handle) (b : List ℕ) → writeRecord g d m h b .0 .refusal .number ≡ 0 → writeRecord g d m h b .0 .handle ≡ movedTo h (h .at + h .len)
-unfolding writeRecord
-write-handle g d m h b e = rw e
+write-handle : (g : Geometry) (d : List ℕ) (m : Mode) (h : Handle) (many : ℕ) (b : List ℕ) → writeOf g d m h many b .0 .refusal .number ≡ 0
+    → writeOf g d m h many b .0 .handle ≡ movedTo h (h .at + many)
+unfolding writeOf
+write-handle g d m h many b e = rw e
 
 module _ (g : Geometry) (d₀ : List ℕ) (c₀ : Sound g d₀) (n : Name) where
   -- the bytes of its entry are the file's
@@ -130,12 +134,13 @@ module _ (g : Geometry) (d₀ : List ℕ) (c₀ : Sound g d₀) (n : Name) where
     agreed-eq : (x y : List ℕ) → x ≡ d → y ≡ e → Agreed (region g d₀ (fold n)) x y
     agreed-eq x y p q = rw (p, q) a
 
-    write-alike : (m : Mode) (i : ℕ) (b : List ℕ) (x y : List ℕ) → handleAt hs i .name ≡ (fold n) → Quiet.QuietWrite g d m (handleAt hs i) b x → Quiet.QuietWrite g e m (handleAt hs i) b y → Agreed (region g d₀ (fold n)) x y
-    write-alike m i b x y z v w =
+    write-alike : (m : Mode) (i many : ℕ) (b : List ℕ) (x y : List ℕ) → handleAt hs i .name ≡ (fold n) → Quiet.QuietWrite g d m (handleAt hs i) many b x
+        → Quiet.QuietWrite g e m (handleAt hs i) many b y → Agreed (region g d₀ (fold n)) x y
+    write-alike m i many b x y z v w =
         let h = handleAt hs i in let p = h .slot in
         let k = named-one p (sym (ld .names (fold n)) ∙ ap (named g d) (sym (v .holds .name′ ∙ z)) ∙ Named.named-is g d cd p (v .holds .file)) in
-        subst (λ (r : List ℕ). Agreed (region g d₀ (fold n)) r y) (sym (v .image)) (subst (λ (r : List ℕ). Agreed (region g d₀ (fold n)) (written g d p m (h .at) (h .len) (take (h .len) b)) r) (sym (w .image))
-        (Still.agreed-write (region g d₀ (fold n)) g d e p m (h .at) (h .len) (take (h .len) b) (entry-region p (k .0) (k .1)) (ld .owns p (k .0) ∙ sym (le .owns p (k .0))) a))
+        subst (λ (r : List ℕ). Agreed (region g d₀ (fold n)) r y) (sym (v .image)) (subst (λ (r : List ℕ). Agreed (region g d₀ (fold n)) (written g d p m (h .at) many (take many b)) r) (sym (w .image))
+        (Still.agreed-write (region g d₀ (fold n)) g d e p m (h .at) many (take many b) (entry-region p (k .0) (k .1)) (ld .owns p (k .0) ∙ sym (le .owns p (k .0))) a))
 
     alike : (o o′ : List (List ℕ)) (c : Step) → T (known hs c) → answer g n d (record { handles = hs; heard = o }) c .number ≡ 0 → answer g n e (record { handles = hs; heard = o′ }) c .number ≡ 0
         → Even g (fold n) d (answer g n d (record { handles = hs; heard = o }) c .disk) → Even g (fold n) e (answer g n e (record { handles = hs; heard = o′ }) c .disk) → Alike o o′ c
@@ -148,12 +153,13 @@ module _ (g : Geometry) (d₀ : List ℕ) (c₀ : Sound g d₀) (n : Name) where
         let u = Quiet.create-quiet g d n f checking x q in let v = Quiet.create-quiet g e n f checking y r in
         (agreed-eq _ _ (u .image) (v .image), snoc _ _ (u .handle ∙ same-open (f .len) checking (f .main) (u .old) ∙ sym (v .handle)))
     alike o o′ (moves i at) t x y q r = (a, refl)
-    alike o o′ (reads i b) t x y q r = (a, ap (set hs i) (read-handle g d (handleAt hs i) b x ∙ sym (read-handle g e (handleAt hs i) b y)))
+    alike o o′ (reads v i b) t x y q r =
+        let many = manyBy hs v i b in (a, ap (set hs i) (read-handle g d (handleAt hs i) many b x ∙ sym (read-handle g e (handleAt hs i) many b y)))
     alike o o′ (readsSector i j) t x y q r = (a, refl)
-    alike o o′ (writes m i b) t x y q r =
-        let z = Effects.held-at (fold n) hs i held t in (
-          write-alike m i b _ _ z (Quiet.write-quiet g d (fold n) m (handleAt hs i) b z x q) (Quiet.write-quiet g e (fold n) m (handleAt hs i) b z y r),
-          ap (set hs i) (write-handle g d m (handleAt hs i) b x ∙ sym (write-handle g e m (handleAt hs i) b y)),
+    alike o o′ (writes v m i b) t x y q r =
+        let z = Effects.held-at (fold n) hs i held t in let h = handleAt hs i in let many = manyBy hs v i b in (
+          write-alike m i many b _ _ z (Quiet.write-quiet g d (fold n) m h many b z x q) (Quiet.write-quiet g e (fold n) m h many b z y r),
+          ap (set hs i) (write-handle g d m h many b x ∙ sym (write-handle g e m h many b y)),
         )
     alike o o′ (allots i j) t x y q r =
         let z = Effects.held-at (fold n) hs i held t in

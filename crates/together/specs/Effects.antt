@@ -17,8 +17,9 @@ use Rattle.meaning.specs.Names.{fold}
 use Rattle.meaning.specs.LookUp.{lookUp, named, missing}
 use Rattle.meaning.specs.Open.{open′, full, openedAt}
 use Rattle.meaning.specs.Create.{create}
-use Rattle.meaning.specs.Read.{readRecord}
-use Rattle.meaning.specs.Write.{writeRecord}
+use Rattle.meaning.specs.Amount.{Amount, howMany}
+use Rattle.meaning.specs.Read.{readOf}
+use Rattle.meaning.specs.Write.{writeOf}
 use Rattle.meaning.specs.Allot.{allot}
 use Rattle.meaning.specs.Trim.{trim}
 use Rattle.meaning.specs.Kill.{kill}
@@ -38,7 +39,7 @@ use Rattle.promises.specs.CreateMeans
 use Rattle.promises.specs.Grow
 use Rattle.promises.specs.Trim
 use Rattle.promises.specs.WriteMeans
-use Rattle.together.specs.Statement.{Name, Step, looksUp, opens, creates, moves, reads, readsSector, writes, allots, trims, kills, Side, known, answer, handleAt, Grip, grip}
+use Rattle.together.specs.Statement.{Name, Step, looksUp, opens, creates, moves, reads, readsSector, writes, allots, trims, kills, Side, known, answer, handleAt, manyBy, Grip, grip}
 use Rattle.together.specs.State.{stateOf, stands, changed, born, levelOf, effect, Held, Good, atPlace}
 
 -- Lists of handles -------------------------------------------------------------------------------------------------------
@@ -163,18 +164,21 @@ module _ (g : Geometry) (n : Name) (d : List ℕ) (hs : List Handle) (k : Good g
     spares = stands-same;
   }
 
-  moved : (i : ℕ) → map grip (set hs i (movedTo (handleAt hs i) (handleAt hs i .at + handleAt hs i .len)))
-      ≡ set (map grip hs) i (atPlace (getD (map grip hs) i (grip noHandle)) (getD (map grip hs) i (grip noHandle) .at + getD (map grip hs) i (grip noHandle) .len))
-  moved i = map-set hs i _ ∙ ap (λ (x : Grip). set (map grip hs) i (atPlace x (x .at + x .len))) (sym (grip-at i))
+  abbrev gripOf : ℕ → Grip
+  gripOf i = getD (map grip hs) i (grip noHandle)
 
-  read-effect : (i : ℕ) (b : List ℕ) → T (ltb i (length hs)) → readRecord g d (handleAt hs i) b .0 .refusal .number ≡ 0
-      → Effect g n d hs (reads i b) d (set hs i (readRecord g d (handleAt hs i) b .0 .handle))
-  unfolding effect readRecord
-  read-effect i b t e = rw e (record {
+  moved : (a : Amount) (i : ℕ) (b : List ℕ) → map grip (set hs i (movedTo (handleAt hs i) (handleAt hs i .at + manyBy hs a i b)))
+      ≡ set (map grip hs) i (atPlace (gripOf i) (gripOf i .at + howMany a (gripOf i .len) b))
+  moved a i b = map-set hs i _ ∙ ap (λ (x : Grip). set (map grip hs) i (atPlace x (x .at + howMany a (x .len) b))) (sym (grip-at i))
+
+  read-effect : (a : Amount) (i : ℕ) (b : List ℕ) → T (ltb i (length hs)) → readOf g d (handleAt hs i) (manyBy hs a i b) b .0 .refusal .number ≡ 0
+      → Effect g n d hs (reads a i b) d (set hs i (readOf g d (handleAt hs i) (manyBy hs a i b) b .0 .handle))
+  unfolding effect readOf
+  read-effect a i b t e = rw e (record {
     good = k;
     held = held-set n hs i _ held (held-at n hs i held t);
     file = refl;
-    grips = moved i;
+    grips = moved a i b;
     spares = stands-same;
   })
 
@@ -182,29 +186,31 @@ module _ (g : Geometry) (n : Name) (d : List ℕ) (hs : List Handle) (k : Good g
   unfolding effect
   sector-effect i j = record { good = k; held = held; file = refl; grips = refl; spares = stands-same }
 
-  write-effect : (m : Mode) (i : ℕ) (b : List ℕ) → T (ltb i (length hs)) → writeRecord g d m (handleAt hs i) b .0 .refusal .number ≡ 0
-      → Effect g n d hs (writes m i b) (writeRecord g d m (handleAt hs i) b .1) (set hs i (writeRecord g d m (handleAt hs i) b .0 .handle))
+  write-effect : (a : Amount) (m : Mode) (i : ℕ) (b : List ℕ) → T (ltb i (length hs))
+      → writeOf g d m (handleAt hs i) (manyBy hs a i b) b .0 .refusal .number ≡ 0
+      → Effect g n d hs (writes a m i b) (writeOf g d m (handleAt hs i) (manyBy hs a i b) b .1)
+      (set hs i (writeOf g d m (handleAt hs i) (manyBy hs a i b) b .0 .handle))
   unfolding effect
-  write-effect m i b t e =
+  write-effect a m i b t e =
       let h = handleAt hs i in
       let q = held-at n hs i held t in
-      let w = WriteMeans.write-wrote g d m h b e in
-      let d′ = writeRecord g d m h b .1 in
+      let w = WriteMeans.write-wrote g d m h (manyBy hs a i b) b e in
+      let d′ = writeOf g d m h (manyBy hs a i b) b .1 in
       record {
         good = good-after g d d′ k (w .1 .long) (w .1 .consistent′);
         held = held-set n hs i _ held (name-kept q);
-        file = stands-changed g d n h (w .0) q d′ (writtenTo g m (h .at) (take (h .len) b)) (w .1 .own)
-            ∙ ap (λ (x : Grip). changed (writtenTo g m (x .at) (take (x .len) b)) (stands g d n)) (sym (grip-at i));
+        file = stands-changed g d n h (w .0) q d′ (writtenTo g m (h .at) (take (manyBy hs a i b) b)) (w .1 .own)
+            ∙ ap (λ (x : Grip). changed (writtenTo g m (x .at) (take (howMany a (x .len) b) b)) (stands g d n)) (sym (grip-at i));
         grips = handle-moved;
         spares = stands-others g d n h (w .0) q d′ (w .1 .others);
       }
     where
-      name-kept : handleAt hs i .name ≡ n → writeRecord g d m (handleAt hs i) b .0 .handle .name ≡ n
-      name-kept q = unfold writeRecord in rw e q
+      name-kept : handleAt hs i .name ≡ n → writeOf g d m (handleAt hs i) (manyBy hs a i b) b .0 .handle .name ≡ n
+      name-kept q = unfold writeOf in rw e q
 
-      handle-moved : map grip (set hs i (writeRecord g d m (handleAt hs i) b .0 .handle))
-          ≡ set (map grip hs) i (atPlace (getD (map grip hs) i (grip noHandle)) (getD (map grip hs) i (grip noHandle) .at + getD (map grip hs) i (grip noHandle) .len))
-      handle-moved = unfold writeRecord in rw e (moved i)
+      handle-moved : map grip (set hs i (writeOf g d m (handleAt hs i) (manyBy hs a i b) b .0 .handle))
+          ≡ set (map grip hs) i (atPlace (gripOf i) (gripOf i .at + howMany a (gripOf i .len) b))
+      handle-moved = unfold writeOf in rw e (moved a i b)
 
   allot-effect : (i j : ℕ) → T (ltb i (length hs)) → allot g d (handleAt hs i) j .0 .refusal .number ≡ 0
       → Effect g n d hs (allots i j) (allot g d (handleAt hs i) j .1) hs
@@ -334,9 +340,9 @@ has-effect g n d s looksUp k h t e = look-effect g n d (s .handles) k h e
 has-effect g n d s (opens len checking code) k h t e = open-effect g n d (s .handles) k h len checking code e
 has-effect g n d s (creates f checking) k h t e = create-effect g n d (s .handles) k h f checking e
 has-effect g n d s (moves i at) k h t e = place-effect g (fold n) d (s .handles) k h i at t
-has-effect g n d s (reads i b) k h t e = read-effect g (fold n) d (s .handles) k h i b t e
+has-effect g n d s (reads a i b) k h t e = read-effect g (fold n) d (s .handles) k h a i b t e
 has-effect g n d s (readsSector i j) k h t e = sector-effect g (fold n) d (s .handles) k h i j
-has-effect g n d s (writes m i b) k h t e = write-effect g (fold n) d (s .handles) k h m i b t e
+has-effect g n d s (writes a m i b) k h t e = write-effect g (fold n) d (s .handles) k h a m i b t e
 has-effect g n d s (allots i j) k h t e = allot-effect g (fold n) d (s .handles) k h i j t e
 has-effect g n d s (trims i) k h t e = trim-effect g (fold n) d (s .handles) k h i t e
 has-effect g n d s (kills i) k h t e = kill-effect g (fold n) d (s .handles) k h i t e

@@ -10,7 +10,8 @@ use lib.Seq.{slice}
 use Rattle.meaning.specs.Names.{fold}
 use Rattle.meaning.specs.Handles.{noHandle}
 use Rattle.meaning.specs.Calls.{Call, number, leaves}
-use Rattle.meaning.specs.Read.{readRecord, readSector}
+use Rattle.meaning.specs.Amount.{Amount, howMany}
+use Rattle.meaning.specs.Read.{readOf, readSector}
 use Rattle.meaning.specs.Plain.{File, Found, found, nothing, plain, isSystem}
 use Rattle.promises_words.specs.Untouched.{hush}
 use Rattle.promises_words.specs.Given.{AreBytes}
@@ -19,7 +20,7 @@ use Rattle.meaning.specs.declared.Handle.{Handle}
 use Rattle.promises.specs.Promises
 use Rattle.promises.specs.Sector
 use Rattle.promises.specs.Staying
-use Rattle.together.specs.Statement.{Name, Step, looksUp, opens, creates, moves, reads, readsSector, writes, allots, trims, kills, Side, Brings, AllBring, known, answer, kept, handleAt, Grip, grip, Turn, one, two, Interleaving, none, left, right, World, next, after, Accepted}
+use Rattle.together.specs.Statement.{Name, Step, looksUp, opens, creates, moves, reads, readsSector, writes, allots, trims, kills, Side, Brings, AllBring, known, answer, kept, handleAt, manyBy, Grip, grip, Turn, one, two, Interleaving, none, left, right, World, next, after, Accepted}
 use Rattle.together.specs.State.{State, stateOf, gripAt, stands, effect, Held, Good}
 use Rattle.together.specs.Effects
 use Rattle.together.specs.Interleavings
@@ -39,9 +40,9 @@ part-kept part f bytes e = go (isSystem f)
     go true = refl
     go false = e
 
--- the buffer after a record is read; the bytes of a sector
-abbrev recordOf : Grip → List ℕ → List ℕ → List ℕ
-recordOf k buffer bytes = take (k .len) (drop (k .at) bytes) ++ drop (k .len) buffer
+-- the buffer after so many bytes are read; the bytes of a sector
+abbrev readTo : Amount → Grip → List ℕ → List ℕ → List ℕ
+readTo a k buffer bytes = let many = howMany a (k .len) buffer in take many (drop (k .at) bytes) ++ drop many buffer
 
 abbrev sectorOf : ℕ → List ℕ → List ℕ
 sectorOf k bytes = take 256 (drop (256 * k) bytes)
@@ -52,9 +53,9 @@ hears looksUp o = []
 hears (opens len checking code) o = []
 hears (creates f checking) o = []
 hears (moves i at) o = []
-hears (reads i buffer) o = partOf (recordOf (gripAt o i) buffer) (o .file) ∷ []
+hears (reads a i buffer) o = partOf (readTo a (gripAt o i) buffer) (o .file) ∷ []
 hears (readsSector i k) o = partOf (sectorOf k) (o .file) ∷ []
-hears (writes m i bytes) o = []
+hears (writes a m i bytes) o = []
 hears (allots i k) o = []
 hears (trims i) o = []
 hears (kills i) o = []
@@ -68,15 +69,15 @@ module _ (g : Geometry) (n : Name) (d : List ℕ) (s : Side) (held : Held n (s .
   abbrev hs : List Handle
   hs = s .handles
 
-  read-kept : (i : ℕ) (b : List ℕ) → T (ltb i (length hs)) → readRecord g d (handleAt hs i) b .0 .refusal .number ≡ 0
-      → kept (plain g d n) (readRecord g d (handleAt hs i) b .1) ≡ partOf (recordOf (getD (map grip hs) i (grip noHandle)) b) (stands g d n)
+  read-kept : (a : Amount) (i : ℕ) (b : List ℕ) → T (ltb i (length hs)) → readOf g d (handleAt hs i) (manyBy hs a i b) b .0 .refusal .number ≡ 0
+      → kept (plain g d n) (readOf g d (handleAt hs i) (manyBy hs a i b) b .1) ≡ partOf (readTo a (getD (map grip hs) i (grip noHandle)) b) (stands g d n)
   unfolding stands
-  read-kept i b t e =
-      let r = Sector.read-serves g d (handleAt hs i) b e in
+  read-kept a i b t e =
+      let r = Sector.read-serves g d (handleAt hs i) (manyBy hs a i b) b e in
       let c : plain g d n ≡ found (r .file) = ap (plain g d) (sym (Effects.held-at n hs i held t)) ∙ r .called in
-      ap (λ (x : Found). kept x (readRecord g d (handleAt hs i) b .1)) c
-      ∙ part-kept (recordOf (grip (handleAt hs i)) b) (r .file) (readRecord g d (handleAt hs i) b .1) (r .buffer)
-      ∙ ap₂ (λ (k : Grip) (x : Found). partOf (recordOf k b) (hush x)) (sym (List·getD-map grip hs i noHandle)) (sym c)
+      ap (λ (x : Found). kept x (readOf g d (handleAt hs i) (manyBy hs a i b) b .1)) c
+      ∙ part-kept (readTo a (grip (handleAt hs i)) b) (r .file) (readOf g d (handleAt hs i) (manyBy hs a i b) b .1) (r .buffer)
+      ∙ ap₂ (λ (k : Grip) (x : Found). partOf (readTo a k b) (hush x)) (sym (List·getD-map grip hs i noHandle)) (sym c)
 
   sector-kept : AreBytes d → (i k : ℕ) → T (ltb i (length hs)) → readSector g d (handleAt hs i) k .refusal .number ≡ 0
       → kept (plain g d n) (slice (readSector g d (handleAt hs i) k .from) (readSector g d (handleAt hs i) k .to) d) ≡ partOf (sectorOf k) (stands g d n)
@@ -95,9 +96,9 @@ call-heard g n d s looksUp h u t e = sym (append-nil (s .heard))
 call-heard g n d s (opens len checking code) h u t e = sym (append-nil (s .heard))
 call-heard g n d s (creates f checking) h u t e = sym (append-nil (s .heard))
 call-heard g n d s (moves i at) h u t e = sym (append-nil (s .heard))
-call-heard g n d s (reads i b) h u t e = ap (λ (x : List ℕ). s .heard ++ (x ∷ [])) (read-kept g (fold n) d s h i b t e)
+call-heard g n d s (reads a i b) h u t e = ap (λ (x : List ℕ). s .heard ++ (x ∷ [])) (read-kept g (fold n) d s h a i b t e)
 call-heard g n d s (readsSector i k) h u t e = ap (λ (x : List ℕ). s .heard ++ (x ∷ [])) (sector-kept g (fold n) d s h u i k t e)
-call-heard g n d s (writes m i b) h u t e = sym (append-nil (s .heard))
+call-heard g n d s (writes a m i b) h u t e = sym (append-nil (s .heard))
 call-heard g n d s (allots i k) h u t e = sym (append-nil (s .heard))
 call-heard g n d s (trims i) h u t e = sym (append-nil (s .heard))
 call-heard g n d s (kills i) h u t e = sym (append-nil (s .heard))
@@ -113,9 +114,9 @@ call-bytes g n d s looksUp k u b = u
 call-bytes g n d s (opens len checking code) k u b = u
 call-bytes g n d s (creates f checking) k u b = bytes-stay g d k u (Call.creates n f checking) b
 call-bytes g n d s (moves i at) k u b = u
-call-bytes g n d s (reads i x) k u b = u
+call-bytes g n d s (reads a i x) k u b = u
 call-bytes g n d s (readsSector i j) k u b = u
-call-bytes g n d s (writes m i x) k u b = bytes-stay g d k u (Call.writes m (handleAt (s .handles) i) x) b
+call-bytes g n d s (writes a m i x) k u b = bytes-stay g d k u (Call.writes a m (handleAt (s .handles) i) x) b
 call-bytes g n d s (allots i j) k u b = bytes-stay g d k u (Call.allots (handleAt (s .handles) i) j) tt
 call-bytes g n d s (trims i) k u b = bytes-stay g d k u (Call.trims (handleAt (s .handles) i)) tt
 call-bytes g n d s (kills i) k u b = bytes-stay g d k u (Call.kills (handleAt (s .handles) i)) tt

@@ -18,7 +18,7 @@ use Rattle.meaning.specs.Drop.{dropOne}
 use Rattle.meaning.specs.Handles.{inRange}
 use Rattle.meaning.specs.Names.{fold}
 use Rattle.meaning.specs.Create.{create}
-use Rattle.meaning.specs.Write.{writeRecord, sizeAfter, withSize, store}
+use Rattle.meaning.specs.Write.{writeOf, sizeAfter, withSize, store}
 use Rattle.meaning.specs.Allot.{allot, granulesTo}
 use Rattle.meaning.specs.Trim.{trim}
 use Rattle.meaning.specs.Kill.{kill}
@@ -168,50 +168,50 @@ unfoldable pub written : Geometry → List ℕ → ℕ → Mode → ℕ → ℕ 
 written g d p m at len r =
     withSize g (store (place g d p) (store (place g d p) d (sizeOf g d p) (replicate (at - sizeOf g d p) 0)) at r) p (sizeAfter m (sizeOf g d p) (at + len))
 
-pub record QuietWrite (g : Geometry) (d : List ℕ) (m : Mode) (h : Handle) (b d′ : List ℕ) : Type 0 where
+pub record QuietWrite (g : Geometry) (d : List ℕ) (m : Mode) (h : Handle) (many : ℕ) (b d′ : List ℕ) : Type 0 where
   pub holds : Holds g d h
-  pub image : d′ ≡ written g d (h .slot) m (h .at) (h .len) (take (h .len) b)
-  pub len : length (take (h .len) b) ≡ h .len
-  pub fit : sizeAfter m (sizeOf g d (h .slot)) (h .at + h .len) ≤ granuleBytes g * length (owned g d (h .slot))
+  pub image : d′ ≡ written g d (h .slot) m (h .at) many (take many b)
+  pub len : length (take many b) ≡ many
+  pub fit : sizeAfter m (sizeOf g d (h .slot)) (h .at + many) ≤ granuleBytes g * length (owned g d (h .slot))
 
-pub write-quiet : (g : Geometry) (d : List ℕ) (n : Name) (m : Mode) (h : Handle) (b : List ℕ) → h .name ≡ n → writeRecord g d m h b .0 .refusal .number ≡ 0 → Even g n d (writeRecord g d m h b .1)
-    → QuietWrite g d m h b (writeRecord g d m h b .1)
+pub write-quiet : (g : Geometry) (d : List ℕ) (n : Name) (m : Mode) (h : Handle) (many : ℕ) (b : List ℕ) → h .name ≡ n → writeOf g d m h many b .0 .refusal .number ≡ 0 → Even g n d (writeOf g d m h many b .1)
+    → QuietWrite g d m h many b (writeOf g d m h many b .1)
 unfolding growth orElse
-write-quiet g d n m h b e t q =
-    let x = WriteMeans.write-wrote g d m h b t in
+write-quiet g d n m h many b e t q =
+    let x = WriteMeans.write-wrote g d m h many b t in
     let p = h .slot in
     let l = length-b t in
-    let k : max (length (owned g d p)) (granulesFor g (sizeAfter m (sizeOf g d p) (h .at + length (take (h .len) b)))) ≡ length (owned g d p) =
-    many (same-granules g d n h e (writeRecord g d m h b .1) (writtenTo g m (h .at) (take (h .len) b) (fileAt g d p)) (x .0) q (x .1 .own)) in
-    let k′ : max (length (owned g d p)) (granulesFor g (sizeAfter m (sizeOf g d p) (h .at + h .len))) ≡ length (owned g d p) =
+    let k : max (length (owned g d p)) (granulesFor g (sizeAfter m (sizeOf g d p) (h .at + length (take many b)))) ≡ length (owned g d p) =
+    owns (same-granules g d n h e (writeOf g d m h many b .1) (writtenTo g m (h .at) (take many b) (fileAt g d p)) (x .0) q (x .1 .own)) in
+    let k′ : max (length (owned g d p)) (granulesFor g (sizeAfter m (sizeOf g d p) (h .at + many))) ≡ length (owned g d p) =
     subst (λ (y : ℕ). max (length (owned g d p)) (granulesFor g (sizeAfter m (sizeOf g d p) (h .at + y))) ≡ length (owned g d p)) l k in
     record { holds = x .0; image = still (omega arith); len = l; fit = Sizes.round-fits (Sizes.bytes-pos g) _ _ (omega arith) }
   where
-    length-b : writeRecord g d m h b .0 .refusal .number ≡ 0 → length (take (h .len) b) ≡ h .len
-    length-b t = unfold writeRecord all in (
+    length-b : writeOf g d m h many b .0 .refusal .number ≡ 0 → length (take many b) ≡ many
+    length-b t = unfold writeOf all in (
         let p₂ = Passed.disk-passed g d _ t in
         let p₃ = Passed.passed 12 _ _ (omega arith) (p₂ .1) in
-        let range : T (all (inRange g h ∷ leb (h .at + h .len) (highest g) ∷ leb (h .len) (length b) ∷ [])) = Passed.yes-T (all (inRange g h ∷ leb (h .at + h .len) (highest g) ∷ leb (h .len) (length b) ∷ [])) (p₃ .0) in
-        let short = leb→le (h .len) (length b) (Members.and-l (leb (h .len) (length b)) true (Members.and-r (leb (h .at + h .len) (highest g)) _ (Members.and-r (inRange g h) _ range))) in
-        length-take (h .len) b ∙ omega arith)
+        let range : T (all (inRange g h ∷ leb (h .at + many) (highest g) ∷ leb many (length b) ∷ [])) = Passed.yes-T (all (inRange g h ∷ leb (h .at + many) (highest g) ∷ leb many (length b) ∷ [])) (p₃ .0) in
+        let short = leb→le many (length b) (Members.and-l (leb many (length b)) true (Members.and-r (leb (h .at + many) (highest g)) _ (Members.and-r (inRange g h) _ range))) in
+        length-take many b ∙ omega arith)
 
-    many : writtenTo g m (h .at) (take (h .len) b) (fileAt g d (h .slot)) .granules ≡ length (owned g d (h .slot))
-        → max (length (owned g d (h .slot))) (granulesFor g (sizeAfter m (sizeOf g d (h .slot)) (h .at + length (take (h .len) b)))) ≡ length (owned g d (h .slot))
-    many k =
-        let o : length (overwritten m (fileAt g d (h .slot) .bytes) (h .at) (take (h .len) b)) ≡ sizeAfter m (sizeOf g d (h .slot)) (h .at + length (take (h .len) b)) =
-        Over.overwritten-length m (fileAt g d (h .slot) .bytes) (h .at) (take (h .len) b) ∙ ap (λ (y : ℕ). sizeAfter m y (h .at + length (take (h .len) b))) (Others.file-length g d (h .slot)) in
+    owns : writtenTo g m (h .at) (take many b) (fileAt g d (h .slot)) .granules ≡ length (owned g d (h .slot))
+        → max (length (owned g d (h .slot))) (granulesFor g (sizeAfter m (sizeOf g d (h .slot)) (h .at + length (take many b)))) ≡ length (owned g d (h .slot))
+    owns k =
+        let o : length (overwritten m (fileAt g d (h .slot) .bytes) (h .at) (take many b)) ≡ sizeAfter m (sizeOf g d (h .slot)) (h .at + length (take many b)) =
+        Over.overwritten-length m (fileAt g d (h .slot) .bytes) (h .at) (take many b) ∙ ap (λ (y : ℕ). sizeAfter m y (h .at + length (take many b))) (Others.file-length g d (h .slot)) in
         ap (λ (y : ℕ). max (length (owned g d (h .slot))) (granulesFor g y)) (sym o) ∙ told k
       where
-        told : writtenTo g m (h .at) (take (h .len) b) (fileAt g d (h .slot)) .granules ≡ length (owned g d (h .slot))
-            → max (length (owned g d (h .slot))) (granulesFor g (length (overwritten m (fileAt g d (h .slot) .bytes) (h .at) (take (h .len) b)))) ≡ length (owned g d (h .slot))
+        told : writtenTo g m (h .at) (take many b) (fileAt g d (h .slot)) .granules ≡ length (owned g d (h .slot))
+            → max (length (owned g d (h .slot))) (granulesFor g (length (overwritten m (fileAt g d (h .slot) .bytes) (h .at) (take many b)))) ≡ length (owned g d (h .slot))
         told k = unfold writtenTo fileAt in k
 
-    still : lacking g d (h .slot) (granulesFor g (sizeAfter m (sizeOf g d (h .slot)) (h .at + h .len))) ≡ 0
-        → writeRecord g d m h b .1 ≡ written g d (h .slot) m (h .at) (h .len) (take (h .len) b)
-    still z = unfold writeRecord written growBy diskOr in rw t (ap (λ (y : ℕ).
+    still : lacking g d (h .slot) (granulesFor g (sizeAfter m (sizeOf g d (h .slot)) (h .at + many))) ≡ 0
+        → writeOf g d m h many b .1 ≡ written g d (h .slot) m (h .at) many (take many b)
+    still z = unfold writeOf written growBy diskOr in rw t (ap (λ (y : ℕ).
         let d₁ = withGranules g d (h .slot) y in
-        withSize g (store (place g d₁ (h .slot)) (store (place g d₁ (h .slot)) d₁ (sizeOf g d (h .slot)) (replicate (h .at - sizeOf g d (h .slot)) 0)) (h .at) (take (h .len) b)) (h .slot)
-        (sizeAfter m (sizeOf g d (h .slot)) (h .at + h .len))) z)
+        withSize g (store (place g d₁ (h .slot)) (store (place g d₁ (h .slot)) d₁ (sizeOf g d (h .slot)) (replicate (h .at - sizeOf g d (h .slot)) 0)) (h .at) (take many b)) (h .slot)
+        (sizeAfter m (sizeOf g d (h .slot)) (h .at + many))) z)
 
 pub record QuietCreate (g : Geometry) (d : List ℕ) (n : Name) (f : NewFile) (checking : Bool) : Type 0 where
   pub image : create g d n f checking .1 ≡ d

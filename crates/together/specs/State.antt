@@ -10,6 +10,7 @@ use Rattle.meaning.specs.Lists.{any}
 use Rattle.meaning.specs.Layout.{fitsGeometry}
 use Rattle.meaning.specs.Consistent.{consistent}
 use Rattle.meaning.specs.Handles.{noHandle}
+use Rattle.meaning.specs.Amount.{howMany}
 use Rattle.meaning.specs.Plain.{File, Found, found, nothing, plain, bornAs, writtenTo, allottedTo, trimmed}
 use Rattle.promises_words.specs.Untouched.{hush}
 use Rattle.meaning.specs.declared.Geometry.{Geometry}
@@ -63,11 +64,12 @@ effect g n (opens len checking code) o =
 effect g n (creates f checking) o =
     record { file = born f (o .file); grips = opened o n (f .len) (levelOf g checking (f .main) (o .file)) }
 effect g n (moves i at) o = record { file = o .file; grips = placed o i at }
-effect g n (reads i buffer) o = record { file = o .file; grips = placed o i (gripAt o i .at + gripAt o i .len) }
+effect g n (reads a i buffer) o =
+    let k = gripAt o i in record { file = o .file; grips = placed o i (k .at + howMany a (k .len) buffer) }
 effect g n (readsSector i k) o = o
-effect g n (writes m i bytes) o =
-    let k = gripAt o i in
-    record { file = changed (writtenTo g m (k .at) (take (k .len) bytes)) (o .file); grips = placed o i (k .at + k .len) }
+effect g n (writes a m i bytes) o =
+    let k = gripAt o i in let many = howMany a (k .len) bytes in
+    record { file = changed (writtenTo g m (k .at) (take many bytes)) (o .file); grips = placed o i (k .at + many) }
 effect g n (allots i k) o = record { file = changed (allottedTo g k) (o .file); grips = o .grips }
 effect g n (trims i) o = record { file = changed (trimmed g) (o .file); grips = o .grips }
 effect g n (kills i) o = record { file = nothing; grips = o .grips }

@@ -20,8 +20,9 @@ use Rattle.meaning.specs.Handles.{movedTo, noHandle}
 use Rattle.meaning.specs.LookUp.{named}
 use Rattle.meaning.specs.Open.{open′}
 use Rattle.meaning.specs.Create.{create}
-use Rattle.meaning.specs.Read.{readRecord, readSector}
-use Rattle.meaning.specs.Write.{writeRecord}
+use Rattle.meaning.specs.Amount.{Amount, howMany}
+use Rattle.meaning.specs.Read.{readOf, readSector}
+use Rattle.meaning.specs.Write.{writeOf}
 use Rattle.meaning.specs.Calls.{Call, number, leaves}
 use Rattle.meaning.specs.Plain.{File, Found, found, nothing, plain, isSystem}
 use Rattle.promises_words.specs.Given.{AreBytes, CodesFit}
@@ -47,11 +48,11 @@ pub data Step : Type 0 where
   creates : NewFile → Bool → Step
   -- Between calls the caller may set the position; where it does not, the handle stays where its last call put it.
   moves : ℕ → ℕ → Step
-  -- into a buffer that holds these bytes
-  reads : ℕ → List ℕ → Step
+  -- a record, or the buffer's length, into a buffer that holds these bytes
+  reads : Amount → ℕ → List ℕ → Step
   readsSector : ℕ → ℕ → Step
-  -- from the start of these bytes
-  writes : Mode → ℕ → List ℕ → Step
+  -- a record, from the start of these bytes, or all of them
+  writes : Amount → Mode → ℕ → List ℕ → Step
   allots : ℕ → ℕ → Step
   trims : ℕ → Step
   kills : ℕ → Step
@@ -64,6 +65,10 @@ pub record Side : Type 0 where
 -- the handle at that place; where the list has none, which `known` forbids, the handle of zeros
 abbrev pub handleAt : List Handle → ℕ → Handle
 handleAt hs i = getD hs i noHandle
+
+-- how many bytes a read or a write by that handle is of
+abbrev pub manyBy : List Handle → Amount → ℕ → List ℕ → ℕ
+manyBy hs a i bytes = howMany a (handleAt hs i .len) bytes
 
 -- a handle more
 abbrev pub withNew : Side → Handle → Side
@@ -83,9 +88,9 @@ known hs looksUp = true
 known hs (opens len checking code) = true
 known hs (creates f checking) = true
 known hs (moves i at) = ltb i (length hs)
-known hs (reads i buffer) = ltb i (length hs)
+known hs (reads a i buffer) = ltb i (length hs)
 known hs (readsSector i k) = ltb i (length hs)
-known hs (writes m i bytes) = ltb i (length hs)
+known hs (writes a m i bytes) = ltb i (length hs)
 known hs (allots i k) = ltb i (length hs)
 known hs (trims i) = ltb i (length hs)
 known hs (kills i) = ltb i (length hs)
@@ -101,9 +106,9 @@ asked n hs looksUp = Call.looksUp n ∷ []
 asked n hs (opens len checking code) = Call.opens n len checking code ∷ []
 asked n hs (creates f checking) = Call.creates n f checking ∷ []
 asked n hs (moves i at) = []
-asked n hs (reads i buffer) = Call.reads (handleAt hs i) buffer ∷ []
+asked n hs (reads a i buffer) = Call.reads a (handleAt hs i) buffer ∷ []
 asked n hs (readsSector i k) = Call.readsSector (handleAt hs i) k ∷ []
-asked n hs (writes m i bytes) = Call.writes m (handleAt hs i) bytes ∷ []
+asked n hs (writes a m i bytes) = Call.writes a m (handleAt hs i) bytes ∷ []
 asked n hs (allots i k) = Call.allots (handleAt hs i) k ∷ []
 asked n hs (trims i) = Call.trims (handleAt hs i) ∷ []
 asked n hs (kills i) = Call.kills (handleAt hs i) ∷ []
@@ -114,11 +119,13 @@ leftWith g n d s looksUp = s
 leftWith g n d s (opens len checking code) = withNew s (open′ g d n len checking code .handle)
 leftWith g n d s (creates f checking) = withNew s (create g d n f checking .0 .handle)
 leftWith g n d s (moves i at) = withMoved s i (movedTo (handleAt (s .handles) i) at)
-leftWith g n d s (reads i buffer) =
-    let r = readRecord g d (handleAt (s .handles) i) buffer in hearing (withMoved s i (r .0 .handle)) (kept (plain g d (fold n)) (r .1))
+leftWith g n d s (reads a i buffer) =
+    let r = readOf g d (handleAt (s .handles) i) (manyBy (s .handles) a i buffer) buffer in
+    hearing (withMoved s i (r .0 .handle)) (kept (plain g d (fold n)) (r .1))
 leftWith g n d s (readsSector i k) =
     let r = readSector g d (handleAt (s .handles) i) k in hearing s (kept (plain g d (fold n)) (slice (r .from) (r .to) d))
-leftWith g n d s (writes m i bytes) = withMoved s i (writeRecord g d m (handleAt (s .handles) i) bytes .0 .handle)
+leftWith g n d s (writes a m i bytes) =
+    withMoved s i (writeOf g d m (handleAt (s .handles) i) (manyBy (s .handles) a i bytes) bytes .0 .handle)
 leftWith g n d s (allots i k) = s
 leftWith g n d s (trims i) = s
 leftWith g n d s (kills i) = s
@@ -242,9 +249,9 @@ Brings looksUp = Unit {0}
 Brings (opens len checking code) = Unit {0}
 Brings (creates f checking) = CodesFit f
 Brings (moves i at) = Unit {0}
-Brings (reads i buffer) = Unit {0}
+Brings (reads a i buffer) = Unit {0}
 Brings (readsSector i k) = Unit {0}
-Brings (writes m i bytes) = AreBytes bytes
+Brings (writes a m i bytes) = AreBytes bytes
 Brings (allots i k) = Unit {0}
 Brings (trims i) = Unit {0}
 Brings (kills i) = Unit {0}

@@ -73,36 +73,36 @@ module _ (g : Geometry) (d d′ : List ℕ) (c : Sound g d) (p : ℕ) (f : Facts
   pub rewrites-laid : Laid g d d′
   rewrites-laid = record { above = h .above; names = stays-named; files = λ q k. kept q k .0; owns = λ q k. kept q k .2 }
 
-module _ (g : Geometry) (d : List ℕ) (n : Name) (m : Mode) (h : Handle) (b d′ : List ℕ) (e : h .name ≡ n) (w : QuietWrite g d m h b d′) where
+module _ (g : Geometry) (d : List ℕ) (n : Name) (m : Mode) (h : Handle) (many : ℕ) (b d′ : List ℕ) (e : h .name ≡ n) (w : QuietWrite g d m h many b d′) where
   abbrev p : ℕ
   p = h .slot
 
   abbrev size : ℕ
-  size = sizeAfter m (sizeOf g d p) (h .at + h .len)
+  size = sizeAfter m (sizeOf g d p) (h .at + many)
 
-  end : h .at + length (take (h .len) b) ≤ granuleBytes g * length (owned g d p)
-  end = let a = w .len in let f = w .fit in omega (arith, Rewrite.after-end m (sizeOf g d p) (h .at + h .len))
+  end : h .at + length (take many b) ≤ granuleBytes g * length (owned g d p)
+  end = let a = w .len in let f = w .fit in omega (arith, Rewrite.after-end m (sizeOf g d p) (h .at + many))
 
   pub own-region : (i : ℕ) → region g d n i ≡ (inEntry g p i || inData g d p i)
   own-region i = Quiet.region-is g d (w .holds .sound) p n i (w .holds .file) (w .holds .name′ ∙ e)
 
-  rewrites : Rewrite.Rewrites g d (written g d p m (h .at) (h .len) (take (h .len) b)) p
+  rewrites : Rewrite.Rewrites g d (written g d p m (h .at) many (take many b)) p
   unfolding written
-  rewrites = Write.write-rewrites g d (w .holds .sound) (w .holds .fits) p (w .holds .file) (w .holds .user) (h .at) size (take (h .len) b) end (w .fit)
+  rewrites = Write.write-rewrites g d (w .holds .sound) (w .holds .fits) p (w .holds .file) (w .holds .user) (h .at) size (take many b) end (w .fit)
 
-  untouched : (i : ℕ) → (T (inEntry g p i) → ⊥) → (In (i / granuleBytes g) (owned g d p) → ⊥) → byte (written g d p m (h .at) (h .len) (take (h .len) b)) i ≡ byte d i
+  untouched : (i : ℕ) → (T (inEntry g p i) → ⊥) → (In (i / granuleBytes g) (owned g d p) → ⊥) → byte (written g d p m (h .at) many (take many b)) i ≡ byte d i
   unfolding written
   untouched i o v =
-      Write.d₄-out g d (w .holds .sound) (w .holds .fits) p (w .holds .file) (w .holds .user) (h .at) size (take (h .len) b) end (w .fit) i
+      Write.d₄-out g d (w .holds .sound) (w .holds .fits) p (w .holds .file) (w .holds .user) (h .at) size (take many b) end (w .fit) i
       (λ q. off 1 (omega arith) q) (λ q. off 3 (omega arith) q) (λ q. off 0x14 (omega arith) q) (λ q. off 0x15 (omega arith) q)
-      ∙ Write.d₃-out g d (w .holds .sound) (w .holds .fits) p (w .holds .file) (w .holds .user) (h .at) size (take (h .len) b) end (w .fit) i v
+      ∙ Write.d₃-out g d (w .holds .sound) (w .holds .fits) p (w .holds .file) (w .holds .user) (h .at) size (take many b) end (w .fit) i v
     where
       off : (k : ℕ) → k < 32 → i ≡ entryAt g p + k → ⊥
       off k l q = o (Members.and-i (leb (entryAt g p) i) _ (le→leb (entryAt g p) i (omega arith)) (lt→ltb i (entryAt g p + 32) (omega arith)))
 
   pub write-still : Still g n d d′
   write-still = subst (λ (y : List ℕ). Still g n d y) (sym (w .image)) (record {
-    laid = rewrites-laid g d (written g d p m (h .at) (h .len) (take (h .len) b)) (w .holds .sound) p (w .holds .file) (w .holds .user) rewrites;
+    laid = rewrites-laid g d (written g d p m (h .at) many (take many b)) (w .holds .sound) p (w .holds .file) (w .holds .user) rewrites;
     outside = λ i o. untouched i
         (λ t. o (rw (own-region i) (Members.or-l (inEntry g p i) (inData g d p i) t)))
         (λ v. o (rw (own-region i) (Members.or-r (inEntry g p i) (inData g d p i) (Members.and-i (has (owned g d p) (i / granuleBytes g)) _ (Members.in-has v)

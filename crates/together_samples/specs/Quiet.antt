@@ -3,6 +3,7 @@ use Prim.Native.Nat.{ℕ}
 use mathlib.Core.Path.{_≡_, refl, ap, sym, _∙_}
 use mathlib.Core.Bool.{true}
 use mathlib.Core.List.{List, [], _∷_}
+use Rattle.meaning.specs.Amount.{oneRecord}
 use Rattle.meaning.specs.Lists.{each}
 use Rattle.meaning.specs.Layout.{fitsGeometry}
 use Rattle.meaning.specs.Names.{fold}
@@ -31,20 +32,20 @@ owning =
 
 -- two bytes behind a gap; three bytes over the two
 abbrev mine : List Step
-mine = opens 2 true 0 ∷ moves 0 9 ∷ writes Random 0 (7 ∷ 8 ∷ []) ∷ []
+mine = opens 2 true 0 ∷ moves 0 9 ∷ writes oneRecord Random 0 (7 ∷ 8 ∷ []) ∷ []
 
 abbrev theirs : List Step
-theirs = opens 3 true 0 ∷ writes Sequential 0 (9 ∷ 9 ∷ 9 ∷ []) ∷ []
+theirs = opens 3 true 0 ∷ writes oneRecord Sequential 0 (9 ∷ 9 ∷ 9 ∷ []) ∷ []
 
 abbrev mineFirst : List Turn
 mineFirst =
-    one (opens 2 true 0) ∷ one (moves 0 9) ∷ one (writes Random 0 (7 ∷ 8 ∷ []))
-    ∷ two (opens 3 true 0) ∷ two (writes Sequential 0 (9 ∷ 9 ∷ 9 ∷ [])) ∷ []
+    one (opens 2 true 0) ∷ one (moves 0 9) ∷ one (writes oneRecord Random 0 (7 ∷ 8 ∷ []))
+    ∷ two (opens 3 true 0) ∷ two (writes oneRecord Sequential 0 (9 ∷ 9 ∷ 9 ∷ [])) ∷ []
 
 abbrev inTurn : List Turn
 inTurn =
-    two (opens 3 true 0) ∷ one (opens 2 true 0) ∷ two (writes Sequential 0 (9 ∷ 9 ∷ 9 ∷ [])) ∷ one (moves 0 9)
-    ∷ one (writes Random 0 (7 ∷ 8 ∷ [])) ∷ []
+    two (opens 3 true 0) ∷ one (opens 2 true 0) ∷ two (writes oneRecord Sequential 0 (9 ∷ 9 ∷ 9 ∷ [])) ∷ one (moves 0 9)
+    ∷ one (writes oneRecord Random 0 (7 ∷ 8 ∷ [])) ∷ []
 
 pub accepted : Accepted tiny puls leer (start owning) mineFirst
 unfolding opened known answer number leaves
@@ -64,7 +65,7 @@ sound = refl
 
 -- the disk of the first order between the two writes, and the one at the end
 abbrev d₁ : List ℕ
-d₁ = after tiny puls leer (start owning) (one (opens 2 true 0) ∷ one (moves 0 9) ∷ one (writes Random 0 (7 ∷ 8 ∷ [])) ∷ []) .disk
+d₁ = after tiny puls leer (start owning) (one (opens 2 true 0) ∷ one (moves 0 9) ∷ one (writes oneRecord Random 0 (7 ∷ 8 ∷ [])) ∷ []) .disk
 
 abbrev d₂ : List ℕ
 d₂ = after tiny puls leer (start owning) mineFirst .disk

@@ -6,6 +6,7 @@ use mathlib.Core.Bool.{true}
 use mathlib.Core.List.{List, [], _∷_}
 use lib.ListN.{getD, replicate}
 use native.Mathlib.Omega.{arith}
+use Rattle.meaning.specs.Amount.{oneRecord}
 use Rattle.meaning.specs.Layout.{fitsGeometry}
 use Rattle.meaning.specs.Consistent.{consistent}
 use Rattle.meaning.specs.Calls.{number, leaves}
@@ -29,16 +30,16 @@ new = record { day = 9; month = 10; year = 3; len = 2; main = 0; worker = 0 }
 
 -- a new PULS01/DAT, its name given in small letters (02 §7), and two bytes behind a gap; a new LEER
 abbrev mine : List Step
-mine = creates new true ∷ moves 0 3 ∷ writes Sequential 0 (7 ∷ 8 ∷ []) ∷ []
+mine = creates new true ∷ moves 0 3 ∷ writes oneRecord Sequential 0 (7 ∷ 8 ∷ []) ∷ []
 
 abbrev theirs : List Step
 theirs = creates new true ∷ []
 
 abbrev mineFirst : List Turn
-mineFirst = one (creates new true) ∷ one (moves 0 3) ∷ one (writes Sequential 0 (7 ∷ 8 ∷ [])) ∷ two (creates new true) ∷ []
+mineFirst = one (creates new true) ∷ one (moves 0 3) ∷ one (writes oneRecord Sequential 0 (7 ∷ 8 ∷ [])) ∷ two (creates new true) ∷ []
 
 abbrev theirsFirst : List Turn
-theirsFirst = two (creates new true) ∷ one (creates new true) ∷ one (moves 0 3) ∷ one (writes Sequential 0 (7 ∷ 8 ∷ [])) ∷ []
+theirsFirst = two (creates new true) ∷ one (creates new true) ∷ one (moves 0 3) ∷ one (writes oneRecord Sequential 0 (7 ∷ 8 ∷ [])) ∷ []
 
 pub accepted : Accepted tiny small leer (start blank) mineFirst
 unfolding opened known answer number leaves

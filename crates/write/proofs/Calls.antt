@@ -16,7 +16,7 @@ use Rattle.meaning.specs.Chain.{owned, place}
 use Rattle.meaning.specs.Refusals.{first, accepted, refusal, handleRefusals, protected, cannotGrow}
 use Rattle.meaning.specs.Handles.{inRange, movedTo}
 use Rattle.meaning.specs.Growth.{withGranules, lacking}
-use Rattle.meaning.specs.Write.{store, sizeAfter, withSize, toWrite, writeRefusals, writeRecord}
+use Rattle.meaning.specs.Write.{store, sizeAfter, withSize, toWrite, writeRefusals, writeOf}
 use Rattle.meaning.specs.declared.Geometry.{Geometry}
 use Rattle.meaning.specs.declared.Handle.{Handle}
 use Rattle.meaning.specs.declared.Answer.{Answer}
@@ -26,9 +26,9 @@ use Rattle.meaning.specs.declared.Mode.the-variants.{Sequential, Random}
 use Rattle.laws.specs.Steps.{Ready}
 use Rattle.lists.specs.Tests.{all-at}
 use Rattle.layout.proofs.HasRoom.{slot-of}
-use Rattle.passed.proofs.Checked.{handle-stop, handle-then, passed, ranges, length-range}
+use Rattle.passed.proofs.Checked.{handle-stop, handle-then, passed}
 use Rattle.passed.proofs.Ready.{walks}
-use Rattle.read.specs.Part.{Readable, Owned}
+use Rattle.read.specs.Part.{Readable, Within}
 use Rattle.growth.proofs.Grown.{larger-ready, owned-most}
 use Rattle.write.specs.Apart.{Apart}
 use Rattle.write.proofs.Apart.{is-apart}
@@ -60,77 +60,83 @@ stored-long f d i xs j ys e = ap (λ (l : List ℕ). length l) e ∙ store-long 
 low-at : (g : Geometry) (n : ℕ) → n ≤ highest g → n ≤ 7864320
 low-at g n h = omega (arith, Sizes.bytes-are g, Sizes.sectors-most g)
 
--- position and length of a handle in range
-pub in-reach : (g : Geometry) (h : Handle) → inRange g h ≡ true → (h .at ≤ 7864320) × (h .len ≤ 256)
+-- the position of a handle in range
+pub in-reach : (g : Geometry) (h : Handle) → inRange g h ≡ true → h .at ≤ highest g
 unfolding inRange
-in-reach g h r = (low-at g _ (leb-true _ _ (all-at _ r 0)), length-range (h .len) (all-at _ r 1) .1)
+in-reach g h r = leb-true _ _ (all-at _ r 0)
 
 -- a file's size lies in what it owns
 pub old-owned : (g : Geometry) (d : List ℕ) (p : ℕ) {old : ℕ} → Ready g d p → old ≡ sizeOf g d p → old ≤ granuleBytes g * length (owned g d p)
 old-owned g d p y e = let b = walks g d p y .0 .size p (slot-of g d p (y .slot)) (y .first) in omega arith
 
-module _ (g : Geometry) (d : List ℕ) (m : Mode) (h : Handle) (b : List ℕ) {ranged : Bool}
-    (r : ranged ≡ all (inRange g h ∷ leb (h .at + h .len) (highest g) ∷ leb (h .len) (length b) ∷ [])) where
-  by-handle : {n : ℕ} → n ≡ first (handleRefusals g d h ranged (protected g d 4 h ∷ [])) → (n ≡ 0 → ⊥) → n ≡ first (writeRefusals g d m h (length b))
+module _ (g : Geometry) (d : List ℕ) (m : Mode) (h : Handle) (n : ℕ) (b : List ℕ) {ranged : Bool}
+    (r : ranged ≡ all (inRange g h ∷ leb (h .at + n) (highest g) ∷ leb n (length b) ∷ [])) where
+  by-handle : {num : ℕ} → num ≡ first (handleRefusals g d h ranged (protected g d 4 h ∷ [])) → (num ≡ 0 → ⊥) → num ≡ first (writeRefusals g d m h n (length b))
   by-handle e z =
-      handle-stop g d h ranged (protected g d 4 h ∷ []) (cannotGrow g d (h .slot) (toWrite g d m h)) e z
-      ∙ ap (λ (t : Bool). first (handleRefusals g d h t (protected g d 4 h ∷ cannotGrow g d (h .slot) (toWrite g d m h)))) r
+      handle-stop g d h ranged (protected g d 4 h ∷ []) (cannotGrow g d (h .slot) (toWrite g d m h n)) e z
+      ∙ ap (λ (t : Bool). first (handleRefusals g d h t (protected g d 4 h ∷ cannotGrow g d (h .slot) (toWrite g d m h n)))) r
 
-  by-growth : {n k : ℕ} → n ≡ first (handleRefusals g d h ranged (protected g d 4 h ∷ [])) → n ≡ 0 → k ≡ first (cannotGrow g d (h .slot) (toWrite g d m h)) → k ≡ first (writeRefusals g d m h (length b))
+  by-growth : {num k : ℕ} → num ≡ first (handleRefusals g d h ranged (protected g d 4 h ∷ [])) → num ≡ 0
+      → k ≡ first (cannotGrow g d (h .slot) (toWrite g d m h n)) → k ≡ first (writeRefusals g d m h n (length b))
   by-growth e z f =
-      f ∙ sym (handle-then g d h ranged (protected g d 4 h ∷ []) (cannotGrow g d (h .slot) (toWrite g d m h)) refl e z)
-      ∙ ap (λ (t : Bool). first (handleRefusals g d h t (protected g d 4 h ∷ cannotGrow g d (h .slot) (toWrite g d m h)))) r
+      f ∙ sym (handle-then g d h ranged (protected g d 4 h ∷ []) (cannotGrow g d (h .slot) (toWrite g d m h n)) refl e z)
+      ∙ ap (λ (t : Bool). first (handleRefusals g d h t (protected g d 4 h ∷ cannotGrow g d (h .slot) (toWrite g d m h n)))) r
 
-  pub refused : {n : ℕ} {c : Refusal} → c ≡ refusal g d n → n ≡ first (handleRefusals g d h ranged (protected g d 4 h ∷ [])) → (n ≡ 0 → ⊥) → _≡_ {A = Answer × List ℕ} (record { refusal = c; handle = h }, d) (writeRecord g d m h b)
-  unfolding writeRecord
-  refused {n} x e z = rw (← by-handle e z, ne-eqb n 0 z, x)
+  pub refused : {num : ℕ} {c : Refusal} → c ≡ refusal g d num → num ≡ first (handleRefusals g d h ranged (protected g d 4 h ∷ [])) → (num ≡ 0 → ⊥)
+      → _≡_ {A = Answer × List ℕ} (record { refusal = c; handle = h }, d) (writeOf g d m h n b)
+  unfolding writeOf
+  refused {num} x e z = rw (← by-handle e z, ne-eqb num 0 z, x)
 
-  pub not-grown : {n k : ℕ} {d′ : List ℕ} {c : Refusal} → c ≡ refusal g d k → n ≡ first (handleRefusals g d h ranged (protected g d 4 h ∷ [])) → n ≡ 0 → k ≡ first (cannotGrow g d (h .slot) (toWrite g d m h))
-      → (k ≡ 0 → ⊥) → d′ ≡ cond (accepted k) (withGranules g d (h .slot) (toWrite g d m h)) d → _≡_ {A = Answer × List ℕ} (record { refusal = c; handle = h }, d′) (writeRecord g d m h b)
-  unfolding writeRecord
-  not-grown {n} {k} x e z f y q = rw (← by-growth e z f, q, ne-eqb k 0 y, x)
+  pub not-grown : {num k : ℕ} {d′ : List ℕ} {c : Refusal} → c ≡ refusal g d k → num ≡ first (handleRefusals g d h ranged (protected g d 4 h ∷ [])) → num ≡ 0
+      → k ≡ first (cannotGrow g d (h .slot) (toWrite g d m h n)) → (k ≡ 0 → ⊥)
+      → d′ ≡ cond (accepted k) (withGranules g d (h .slot) (toWrite g d m h n)) d
+      → _≡_ {A = Answer × List ℕ} (record { refusal = c; handle = h }, d′) (writeOf g d m h n b)
+  unfolding writeOf
+  not-grown {num} {k} x e z f y q = rw (← by-growth e z f, q, ne-eqb k 0 y, x)
 
-  pub written : {n k old size : ℕ} {d₁ d₃ d₄ : List ℕ} {c : Refusal} → c ≡ refusal g d 0 → old ≡ sizeOf g d (h .slot) → n ≡ first (handleRefusals g d h ranged (protected g d 4 h ∷ [])) → n ≡ 0 → k ≡ first (cannotGrow g d (h .slot) (toWrite g d m h)) → k ≡ 0
-      → d₁ ≡ cond (accepted k) (withGranules g d (h .slot) (toWrite g d m h)) d → size ≡ sizeAfter m (sizeOf g d (h .slot)) (h .at + h .len)
-      → d₃ ≡ store (place g d₁ (h .slot)) (store (place g d₁ (h .slot)) d₁ old (replicate (h .at - old) 0)) (h .at) (take (h .len) b)
+  pub written : {num k old size : ℕ} {d₁ d₃ d₄ : List ℕ} {c : Refusal} → c ≡ refusal g d 0 → old ≡ sizeOf g d (h .slot)
+      → num ≡ first (handleRefusals g d h ranged (protected g d 4 h ∷ [])) → num ≡ 0 → k ≡ first (cannotGrow g d (h .slot) (toWrite g d m h n)) → k ≡ 0
+      → d₁ ≡ cond (accepted k) (withGranules g d (h .slot) (toWrite g d m h n)) d → size ≡ sizeAfter m (sizeOf g d (h .slot)) (h .at + n)
+      → d₃ ≡ store (place g d₁ (h .slot)) (store (place g d₁ (h .slot)) d₁ old (replicate (h .at - old) 0)) (h .at) (take n b)
       → d₄ ≡ withSize g d₃ (h .slot) size
-      → _≡_ {A = Answer × List ℕ} (record { refusal = c; handle = movedTo h (h .at + h .len) }, d₄) (writeRecord g d m h b)
-  unfolding writeRecord
-  written {n} {k} {old} {size} {d₁} {d₃} {d₄} t o e z f y q s w v =
-      let x : d₁ ≡ withGranules g d (h .slot) (toWrite g d m h) = q ∙ ap (λ (j : ℕ). cond (accepted j) (withGranules g d (h .slot) (toWrite g d m h)) d) y in
-      let u : 0 ≡ first (writeRefusals g d m h (length b)) = sym y ∙ by-growth e z f in
+      → _≡_ {A = Answer × List ℕ} (record { refusal = c; handle = movedTo h (h .at + n) }, d₄) (writeOf g d m h n b)
+  unfolding writeOf
+  written {num} {k} {old} {size} {d₁} {d₃} {d₄} t o e z f y q s w v =
+      let x : d₁ ≡ withGranules g d (h .slot) (toWrite g d m h n)
+      = q ∙ ap (λ (j : ℕ). cond (accepted j) (withGranules g d (h .slot) (toWrite g d m h n)) d) y in
+      let u : 0 ≡ first (writeRefusals g d m h n (length b)) = sym y ∙ by-growth e z f in
       rw (← u, v, w, o, s, x, t)
 
   -- the size, the growth's number and image in the words of the call
-  pub size-is : {old size : ℕ} → old ≡ sizeOf g d (h .slot) → size ≡ sizeAfter m old (h .at + h .len) → size ≡ sizeAfter m (sizeOf g d (h .slot)) (h .at + h .len)
-  size-is o s = s ∙ ap (λ (k : ℕ). sizeAfter m k (h .at + h .len)) o
+  pub size-is : {old size : ℕ} → old ≡ sizeOf g d (h .slot) → size ≡ sizeAfter m old (h .at + n)
+      → size ≡ sizeAfter m (sizeOf g d (h .slot)) (h .at + n)
+  size-is o s = s ∙ ap (λ (k : ℕ). sizeAfter m k (h .at + n)) o
 
-  pub number-is : {n size : ℕ} → size ≡ sizeAfter m (sizeOf g d (h .slot)) (h .at + h .len) → n ≡ first (cannotGrow g d (h .slot) (lacking g d (h .slot) (granulesFor g size)))
-      → n ≡ first (cannotGrow g d (h .slot) (toWrite g d m h))
+  pub number-is : {num size : ℕ} → size ≡ sizeAfter m (sizeOf g d (h .slot)) (h .at + n)
+      → num ≡ first (cannotGrow g d (h .slot) (lacking g d (h .slot) (granulesFor g size)))
+      → num ≡ first (cannotGrow g d (h .slot) (toWrite g d m h n))
   number-is s e = e ∙ ap (λ (k : ℕ). first (cannotGrow g d (h .slot) (lacking g d (h .slot) (granulesFor g k)))) s
 
-  pub image-is : (n : ℕ) {size : ℕ} {d′ : List ℕ} → size ≡ sizeAfter m (sizeOf g d (h .slot)) (h .at + h .len) → d′ ≡ cond (accepted n) (withGranules g d (h .slot) (lacking g d (h .slot) (granulesFor g size))) d
-      → d′ ≡ cond (accepted n) (withGranules g d (h .slot) (toWrite g d m h)) d
-  image-is n s e = e ∙ ap (λ (k : ℕ). cond (accepted n) (withGranules g d (h .slot) (lacking g d (h .slot) (granulesFor g k))) d) s
+  pub image-is : (num : ℕ) {size : ℕ} {d′ : List ℕ} → size ≡ sizeAfter m (sizeOf g d (h .slot)) (h .at + n)
+      → d′ ≡ cond (accepted num) (withGranules g d (h .slot) (lacking g d (h .slot) (granulesFor g size))) d
+      → d′ ≡ cond (accepted num) (withGranules g d (h .slot) (toWrite g d m h n)) d
+  image-is num s e = e ∙ ap (λ (k : ℕ). cond (accepted num) (withGranules g d (h .slot) (lacking g d (h .slot) (granulesFor g k))) d) s
 
   -- the numbers of a write whose handle passed
   pub record Fit : Type 0 where
-    pub ends : h .at + h .len ≤ 7864320
-    pub some : 1 ≤ h .len
-    pub short : h .len ≤ 256
-    pub room : h .len ≤ length b
+    pub ends : h .at + n ≤ 7864320
+    pub room : n ≤ length b
 
-  pub fit : {n : ℕ} → n ≡ first (handleRefusals g d h ranged (protected g d 4 h ∷ [])) → n ≡ 0 → Fit
+  pub fit : {num : ℕ} → num ≡ first (handleRefusals g d h ranged (protected g d 4 h ∷ [])) → num ≡ 0 → Fit
   fit e z =
       let w = sym r ∙ passed g d h ranged (protected g d 4 h ∷ []) refl e z .ranged′ in
-      let q = ranges g d h (all-at _ w 0) in
-      record { ends = low-at g _ (leb-true _ _ (all-at _ w 1)); some = q .1; short = q .2; room = leb-true _ _ (all-at _ w 2) }
+      record { ends = low-at g _ (leb-true _ _ (all-at _ w 1)); room = leb-true _ _ (all-at _ w 2) }
 
   -- what the stores of an accepted write ask for
   pub record Stores (d₁ : List ℕ) (size : ℕ) : Type 0 where
     pub file : Readable g d₁ (h .slot)
     pub apart : Apart g d₁ (h .slot)
-    pub owns : Owned g d₁ (h .slot) (h .at) (h .len)
+    pub owns : Within g d₁ (h .slot) (h .at) n
     pub old : sizeOf g d (h .slot) ≤ granuleBytes g * length (owned g d₁ (h .slot))
     pub high : size ≤ 7864320
     pub entry : entryAt g (h .slot) + 32 ≤ length d₁
@@ -142,24 +148,24 @@ module _ (g : Geometry) (d : List ℕ) (m : Mode) (h : Handle) (b : List ℕ) {r
   pub old-fits : {old size : ℕ} {d₁ : List ℕ} → old ≡ sizeOf g d (h .slot) → Stores d₁ size → old ≤ granuleBytes g * length (owned g d₁ (h .slot))
   old-fits e w = let q = w .old in omega arith
 
-  pub stores : {k size : ℕ} {d₁ : List ℕ} → Ready g d (h .slot) → Fit → k ≡ first (cannotGrow g d (h .slot) (toWrite g d m h)) → k ≡ 0
-      → d₁ ≡ cond (accepted k) (withGranules g d (h .slot) (toWrite g d m h)) d → size ≡ sizeAfter m (sizeOf g d (h .slot)) (h .at + h .len) → Stores d₁ size
+  pub stores : {k size : ℕ} {d₁ : List ℕ} → Ready g d (h .slot) → Fit → k ≡ first (cannotGrow g d (h .slot) (toWrite g d m h n)) → k ≡ 0
+      → d₁ ≡ cond (accepted k) (withGranules g d (h .slot) (toWrite g d m h n)) d → size ≡ sizeAfter m (sizeOf g d (h .slot)) (h .at + n) → Stores d₁ size
   stores {k} {size} {d₁} y f e z q s =
       let p = h .slot in
-      let w = larger-ready g p (toWrite g d m h) y e z q in
+      let w = larger-ready g p (toWrite g d m h n) y e z q in
       let a = walks g d₁ p (w .ready) in
       let sl = slot-of g d₁ p (w .ready .slot) in
       let t = owned-most g p (w .ready) in
-      let n = w .many in
+      let most = w .many in
       let b₀ = walks g d p y .0 .size p (slot-of g d p (y .slot)) (y .first) in
-      let c = after-end m (sizeOf g d p) (h .at + h .len) in
-      let o = f .some in let u = f .ends in
-      let held = Sizes.round-fits (Sizes.bytes-pos g) (sizeAfter m (sizeOf g d p) (h .at + h .len)) (length (owned g d₁ p)) (omega arith) in
+      let c = after-end m (sizeOf g d p) (h .at + n) in
+      let u = f .ends in
+      let held = Sizes.round-fits (Sizes.bytes-pos g) (sizeAfter m (sizeOf g d p) (h .at + n)) (length (owned g d₁ p)) (omega arith) in
       let rm = a .0 .room in let rd = rm .directory in let rl = rm .long in let rmost = rm .most in let l₀ = sl .low in let l₁ = sl .held in
       record {
         file = record { sound = a .0; used = a .1 };
         apart = is-apart g d₁ p (w .ready);
-        owns = record { some = o; owned = omega arith; high = omega arith };
+        owns = record { owned = omega arith; high = omega arith };
         old = omega (arith, mul-le-mul-left {m = length (owned g d p)} {n = length (owned g d₁ p)} (granuleBytes g) (omega arith));
         high = omega (arith, mul-le-mul-left (granuleBytes g) t, Sizes.bytes-are g, Sizes.sectors-most g);
         entry = omega arith;

@@ -17,7 +17,7 @@ use Rattle.meaning.specs.Chain.{owned}
 use Rattle.layout.specs.Room.{Room}
 use Rattle.seek.proofs.Frame.{Same, same-refl, same-trans, same-before, same-behind, same-sectors, same-place, same-room, same-sound, same-used, same-owned}
 use Rattle.write.specs.Apart.{Apart}
-use Rattle.read.specs.Part.{Readable, Owned, InGranule}
+use Rattle.read.specs.Part.{Readable, Within, Owned, InGranule}
 use Rattle.read.proofs.ReadParts.{place-next}
 
 -- places that follow one another
@@ -28,7 +28,8 @@ store-run f d i (b ∷ []) h = refl
 store-run f d i (b ∷ b′ ∷ bs) h =
     let e : f (i + 1) ≡ suc (f i) = h 1 (omega arith) ∙ add-one (f i) in
     store-run f (set d (f i) b) (i + 1) (b′ ∷ bs)
-    (λ t l. let u : i + 1 + t ≡ i + (1 + t) = omega arith in let v : f i + (1 + t) ≡ suc (f i) + t = omega arith in ap f u ∙ h (1 + t) (omega arith) ∙ v ∙ ap (λ (k : ℕ). k + t) (sym e))
+    (λ t l. let u : i + 1 + t ≡ i + (1 + t) = omega arith in let v : f i + (1 + t) ≡ suc (f i) + t = omega arith in
+    ap f u ∙ h (1 + t) (omega arith) ∙ v ∙ ap (λ (k : ℕ). k + t) (sym e))
     ∙ ap (λ (k : ℕ). sets (set d (f i) b) k (b′ ∷ bs)) e
 
 pub store-append : (f : ℕ → ℕ) (d : List ℕ) (i : ℕ) (xs ys : List ℕ) → store f d i (xs ++ ys) ≡ store f (store f d i xs) (i + length xs) ys
@@ -39,29 +40,9 @@ store-append f d i (x ∷ xs) ys =
     store-append f (set d (f i) x) (i + 1) xs ys ∙ ap (λ (k : ℕ). store f (store f (set d (f i) x) (i + 1) xs) k ys) e
 
 module _ (g : Geometry) (d : List ℕ) where
-  -- a part in one sector, put into whatever the image is by then
-  pub stored-part : (s i n : ℕ) (d′ bs : List ℕ) → InGranule g i n → length bs ≡ n → store (place g d s) d′ i bs ≡ sets d′ (place g d s i) bs
-  stored-part s i n d′ bs x e = let y = x .inside in store-run (place g d s) d′ i bs (λ t l. place-next g d s i t (omega arith))
-
-  pub stored-one : (s i n : ℕ) (src : List ℕ) {p : ℕ} {d′ : List ℕ} → p ≡ place g d s i → d′ ≡ sets d p (take n (drop 0 src)) → InGranule g i n → n ≤ length src
-      → d′ ≡ store (place g d s) d i (take n src)
-  stored-one s i n src {p} {d′} e f x l =
-      f ∙ ap (λ (k : ℕ). sets d k (take n src)) e ∙ sym (stored-part s i n d (take n src) x (length-take-le n src l))
-
-  pub stored-two : (s i m n : ℕ) (src : List ℕ) {p q : ℕ} {d′ d″ : List ℕ} → p ≡ place g d s i → q ≡ place g d s (i + m) → d′ ≡ sets d p (take m (drop 0 src)) → d″ ≡ sets d′ q (take (n - m) (drop m src))
-      → InGranule g i m → InGranule g (i + m) (n - m) → m ≤ n → n ≤ length src
-      → d″ ≡ store (place g d s) d i (take n src)
-  stored-two s i m n src {p} {q} {d′} {d″} e f u v x y h l =
-      let r : m + (n - m) ≡ n = omega arith in
-      let a : length (take m src) ≡ m = length-take-le m src (omega arith) in
-      let b : length (take (n - m) (drop m src)) ≡ n - m = length-take-le (n - m) (drop m src) (simp length-drop (omega arith)) in
-      let w : d′ ≡ store (place g d s) d i (take m src) = stored-one s i m src e u x (omega arith) in
-      v ∙ ap (λ (k : ℕ). sets d′ k (take (n - m) (drop m src))) f
-      ∙ sym (stored-part s (i + m) (n - m) d′ (take (n - m) (drop m src)) y b)
-      ∙ ap (λ (z : List ℕ). store (place g d s) z (i + m) (take (n - m) (drop m src))) w
-      ∙ ap (λ (k : ℕ). store (place g d s) (store (place g d s) d i (take m src)) (i + k) (take (n - m) (drop m src))) (sym a)
-      ∙ sym (store-append (place g d s) d i (take m src) (take (n - m) (drop m src)))
-      ∙ ap (store (place g d s) d i) (sym (take-add m (n - m) src) ∙ ap (λ (k : ℕ). take k src) r)
+  -- a part in one granule, put into whatever the image is by then
+  pub stored-part : (s i : ℕ) (d′ bs : List ℕ) → InGranule g i (length bs) → store (place g d s) d′ i bs ≡ sets d′ (place g d s i) bs
+  stored-part s i d′ bs x = let y = x .inside in store-run (place g d s) d′ i bs (λ t l. place-next g d s i t (omega arith))
 
 -- bytes stored before the directory, or behind it
 sets-before : (g : Geometry) (d : List ℕ) (i : ℕ) (bs : List ℕ) → Room g d → i + length bs ≤ 256 * g .start → Same g d (sets d i bs)
@@ -78,50 +59,61 @@ sets-behind g d i (b ∷ bs) r h =
     same-trans g d (set d i b) (sets (set d i b) (suc i) bs) r e (sets-behind g (set d i b) (suc i) bs (same-room g d (set d i b) r e) (rw q (omega arith)))
 
 module _ (g : Geometry) (d : List ℕ) where
-  -- `left` zeros are to come, from byte `at` on
-  pub record Zeroing (s i n : ℕ) (d′ : List ℕ) (at left : ℕ) : Type 0 where
-    pub rest : store (place g d s) d i (replicate n 0) ≡ store (place g d s) d′ at (replicate left 0)
+  -- the image with the bytes xs of the file, from byte i on
+  abbrev pub stored : (s i : ℕ) → List ℕ → List ℕ
+  stored s i xs = store (place g d s) d i xs
+
+  -- the bytes xs are stored, from byte i on
+  pub record Storing (s i : ℕ) (xs d′ : List ℕ) : Type 0 where
+    pub is : d′ ≡ stored s i xs
     pub same : Same g d d′
-    pub sum : at + left ≡ i + n
 
-  pub zeroing-start : (s i n : ℕ) → Zeroing s i n d i n
-  zeroing-start s i n = record { rest = refl; same = same-refl g d; sum = refl }
+  pub storing-start : (s i : ℕ) → Storing s i [] d
+  unfolding store
+  storing-start s i = record { is = refl; same = same-refl g d }
 
-  pub apart-at : (s i m : ℕ) → Apart g d s → Owned g d s i m → InGranule g i m → (place g d s i + m ≤ 256 * g .start) ⊎ (256 * (g .start + directorySectors g d) ≤ place g d s i)
+  pub apart-at : (s i m : ℕ) → Apart g d s → Owned g d s i m → InGranule g i m
+      → (place g d s i + m ≤ 256 * g .start) ⊎ (256 * (g .start + directorySectors g d) ≤ place g d s i)
   unfolding place
   apart-at s i m a o x =
       let y = x .inside in let z = o .owned in let w = o .some in
       ⊎-elim (λ h. inl (omega arith)) (λ h. inr (omega arith)) (a .apart (i / granuleBytes g) (Sizes.width-lt (Sizes.bytes-pos g) i _ (omega arith)))
 
-  pub zeroing-step : {s i n at left m p : ℕ} {d′ d″ : List ℕ} → Readable g d s → Apart g d s → Zeroing s i n d′ at left → Owned g d s at m → InGranule g at m → m ≤ left
-      → p ≡ place g d s at → d″ ≡ sets d′ p (replicate m 0) → Zeroing s i n d″ (at + m) (left - m)
-  zeroing-step {s} {i} {n} {at} {left} {m} {p} {d′} {d″} f a z o x l e q =
-      let r : m + (left - m) ≡ left = omega arith in
-      let t = z .sum in
-      let w : d″ ≡ sets d′ (place g d s at) (replicate m 0) = q ∙ ap (λ (k : ℕ). sets d′ k (replicate m 0)) e in
+  pub storing-step : {s i p : ℕ} (xs ys : List ℕ) {d′ d″ : List ℕ} → Readable g d s → Apart g d s → Storing s i xs d′ → Owned g d s (i + length xs) (length ys)
+      → InGranule g (i + length xs) (length ys) → p ≡ place g d s (i + length xs) → d″ ≡ sets d′ p ys → Storing s i (xs ++ ys) d″
+  storing-step {s} {i} {p} xs ys {d′} {d″} f a z o x e q =
+      let at = i + length xs in
+      let w : d″ ≡ sets d′ (place g d s at) ys = q ∙ ap (λ (k : ℕ). sets d′ k ys) e in
       let rm = f .sound .room in
       let v = same-sectors g d d′ rm (z .same) in
       record {
-        rest =
-            z .rest ∙ ap (λ (k : ℕ). store (place g d s) d′ at (replicate k 0)) (sym r)
-            ∙ ap (store (place g d s) d′ at) (sym (replicate-append-replicate m (left - m) 0))
-            ∙ store-append (place g d s) d′ at (replicate m 0) (replicate (left - m) 0)
-            ∙ ap (λ (k : ℕ). store (place g d s) (store (place g d s) d′ at (replicate m 0)) (at + k) (replicate (left - m) 0)) (length-replicate m 0)
-            ∙ ap (λ (u : List ℕ). store (place g d s) u (at + m) (replicate (left - m) 0)) (stored-part g d s at m d′ (replicate m 0) x (length-replicate m 0) ∙ sym w);
+        is =
+            w ∙ sym (stored-part g d s at d′ ys x) ∙ ap (λ (u : List ℕ). store (place g d s) u at ys) (z .is)
+            ∙ sym (store-append (place g d s) d i xs ys);
         same =
-            rw w (same-trans g d d′ (sets d′ (place g d s at) (replicate m 0)) rm (z .same)
+            rw w (same-trans g d d′ (sets d′ (place g d s at) ys) rm (z .same)
             (⊎-elim
-            (λ h. sets-before g d′ (place g d s at) (replicate m 0) (same-room g d d′ rm (z .same)) (rw length-replicate h))
-            (λ h. sets-behind g d′ (place g d s at) (replicate m 0) (same-room g d d′ rm (z .same)) (rw v h))
-            (apart-at s at m a o x)));
-        sum = omega arith;
+            (λ h. sets-before g d′ (place g d s at) ys (same-room g d d′ rm (z .same)) h)
+            (λ h. sets-behind g d′ (place g d s at) ys (same-room g d d′ rm (z .same)) (rw v h))
+            (apart-at s at (length ys) a o x)));
       }
 
-  pub zeroing-end : {s i n at left : ℕ} {d′ : List ℕ} → Zeroing s i n d′ at left → left ≤ 0 → d′ ≡ store (place g d s) d i (replicate n 0)
-  unfolding store
-  zeroing-end {s} {i} {n} {at} {left} {d′} z h =
-      let e : left ≡ 0 = omega arith in
-      sym (z .rest ∙ ap (λ (k : ℕ). store (place g d s) d′ at (replicate k 0)) e)
+  -- m bytes more of those that a function takes from its source, or m zeros more: `done` of them are stored
+  module _ {s i p : ℕ} (done m : ℕ) {d′ d″ : List ℕ} (f : Readable g d s) (a : Apart g d s) (o : Owned g d s (i + done) m) (x : InGranule g (i + done) m)
+      (e : p ≡ place g d s (i + done)) where
+    more : (xs ys : List ℕ) → length xs ≡ done → length ys ≡ m → Storing s i xs d′ → d″ ≡ sets d′ p ys → Storing s i (xs ++ ys) d″
+    more xs ys u v z q =
+        storing-step xs ys f a z (rw (u, v) o) (rw (u, v) x) (e ∙ ap (λ (k : ℕ). place g d s (i + k)) (sym u)) q
+
+    pub bytes-step : (src : List ℕ) → done + m ≤ length src → Storing s i (take done src) d′
+        → d″ ≡ sets d′ p (take m (drop done src)) → Storing s i (take (done + m) src) d″
+    bytes-step src l z q =
+        rw take-add (more (take done src) (take m (drop done src)) (length-take-le done src (omega arith))
+        (length-take-le m (drop done src) (simp length-drop (omega arith))) z q)
+
+    pub zeros-step : Storing s i (replicate done 0) d′ → d″ ≡ sets d′ p (replicate m 0) → Storing s i (replicate (done + m) 0) d″
+    zeros-step z q =
+        rw (← replicate-append-replicate {A = ℕ} done m 0) (more (replicate done 0) (replicate m 0) (length-replicate done 0) (length-replicate m 0) z q)
 
 -- the same places, told by another function
 store-place : (f f′ : ℕ → ℕ) (d : List ℕ) (i : ℕ) (bs : List ℕ) → ((j : ℕ) → f j ≡ f′ j) → store f d i bs ≡ store f′ d i bs
@@ -131,7 +123,8 @@ store-place f f′ d i (b ∷ bs) e = ap (λ (k : ℕ). store f (set d k b) (i +
 
 module _ (g : Geometry) (d : List ℕ) (s : ℕ) (f : Readable g d s) (a : Apart g d s) where
   -- bytes of the file stored: HIT and entries are as they were
-  store-same : (bs : List ℕ) (i : ℕ) (d′ : List ℕ) → i + length bs ≤ granuleBytes g * length (owned g d s) → i + length bs ≤ 16777215 → Same g d d′ → Same g d (store (place g d s) d′ i bs)
+  store-same : (bs : List ℕ) (i : ℕ) (d′ : List ℕ) → i + length bs ≤ granuleBytes g * length (owned g d s) → i + length bs ≤ 16777215
+      → Same g d d′ → Same g d (store (place g d s) d′ i bs)
   unfolding store
   store-same [] i d′ h l e = e
   store-same (b ∷ bs) i d′ h l e =
@@ -141,27 +134,30 @@ module _ (g : Geometry) (d : List ℕ) (s : ℕ) (f : Readable g d s) (a : Apart
       (⊎-elim
       (λ w. same-before g d′ (place g d s i) b (omega arith))
       (λ w. same-behind g d′ (place g d s i) b (rw (same-sectors g d d′ rm e) w))
-      (apart-at g d s i 1 a (record { some = omega arith; owned = omega arith; high = omega arith }) (record { inside = omega (arith, Sizes.split (Sizes.bytes-pos g) i .rest) }))))
+      (apart-at g d s i 1 a (record { some = omega arith; owned = omega arith; high = omega arith })
+      (record { inside = omega (arith, Sizes.split (Sizes.bytes-pos g) i .rest) }))))
 
   -- the zeros, then the record
-  module _ {old at n zeros : ℕ} {d′ : List ℕ} (o : Owned g d s at n) (h : old ≤ granuleBytes g * length (owned g d s)) (l : old < 16777216) (z : zeros ≡ at - old)
+  module _ {old at n zeros : ℕ} {d′ : List ℕ} (o : Within g d s at n) (h : old ≤ granuleBytes g * length (owned g d s)) (l : old < 16777216)
+      (z : zeros ≡ at - old)
       (e : d′ ≡ store (place g d s) d old (replicate zeros 0)) where
-    pub gap-owned : old + zeros ≤ granuleBytes g * length (owned g d s)
-    gap-owned = let u = o .owned in omega arith
-
-    pub gap-high : old + zeros ≤ 16777215
-    gap-high = let u = o .high in omega arith
+    pub gap-within : Within g d s old zeros
+    gap-within = let u = o .owned in let v = o .high in record { owned = omega arith; high = omega arith }
 
     pub gap-same : Same g d d′
-    gap-same = rw e (store-same (replicate zeros 0) old d (rw length-replicate gap-owned) (rw length-replicate gap-high) (same-refl g d))
+    gap-same = rw e (store-same (replicate zeros 0) old d (rw length-replicate (gap-within .owned)) (rw length-replicate (gap-within .high)) (same-refl g d))
 
     pub gap-file : Readable g d′ s
     gap-file = record { sound = same-sound g d d′ (f .sound) gap-same; used = same-used g d d′ (f .sound .room) gap-same (f .used) }
 
-    pub gap-then : Owned g d′ s at n
-    gap-then = record { some = o .some; owned = rw (same-owned g d d′ (f .sound) gap-same s (f .used)) (o .owned); high = o .high }
+    pub gap-apart : Apart g d′ s
+    gap-apart = record { apart = rw (same-owned g d d′ (f .sound) gap-same s (f .used), same-sectors g d d′ (f .sound .room) gap-same) (a .apart) }
 
-    pub recorded : (bs : List ℕ) {d″ : List ℕ} → d″ ≡ store (place g d′ s) d′ at bs → d″ ≡ store (place g d s) (store (place g d s) d old (replicate (at - old) 0)) at bs
+    pub gap-then : Within g d′ s at n
+    gap-then = record { owned = rw (same-owned g d d′ (f .sound) gap-same s (f .used)) (o .owned); high = o .high }
+
+    pub recorded : (bs : List ℕ) {d″ : List ℕ} → d″ ≡ store (place g d′ s) d′ at bs
+        → d″ ≡ store (place g d s) (store (place g d s) d old (replicate (at - old) 0)) at bs
     recorded bs {d″} q =
         q ∙ store-place (place g d′ s) (place g d s) d′ at bs (λ j. same-place g d d′ (f .sound) gap-same s j (f .used))
         ∙ ap (λ (x : List ℕ). store (place g d s) x at bs) (e ∙ ap (λ (k : ℕ). store (place g d s) d old (replicate k 0)) z)

@@ -1,4 +1,4 @@
-// Write record, sequential and random.
+// A write of any number of bytes, sequential and random, of which write record and write bytes are two.
 use meaning::Answer;
 use meaning::Geometry;
 use meaning::Handle;
@@ -16,55 +16,51 @@ ghost use Rattle.meaning.specs.Chain.{owned, place};
 ghost use Rattle.meaning.specs.Refusals.{check, first, accepted, cannotGrow};
 ghost use Rattle.meaning.specs.Handles.{inRange};
 ghost use Rattle.meaning.specs.Growth.{withGranules, lacking};
-ghost use Rattle.meaning.specs.Write.{store, sizeAfter, withSize, writeRecord};
+ghost use Rattle.meaning.specs.Write.{store, sizeAfter, withSize, writeOf};
 ghost use Rattle.laws.specs.Steps.{Ready};
-ghost use Rattle.read.specs.Part.{Readable, Owned, InGranule};
+ghost use Rattle.read.specs.Part.{Readable, Within};
 ghost use Rattle.write.specs.Apart.{Apart};
 
-// The first n bytes of src, at most 256, go to the file from byte i on: granule by granule, so two parts at the most. Both places
-// are found before anything is written.
+// The first n bytes of src go to the file from byte i on: one walk along the chain and one part a granule.
 pub fn write_bytes(image: &mut [u8], g: Geometry, s: usize, i: usize, src: &[u8], n: usize)
-    requires { ⌜ Readable g (now image) s × Owned g (now image) s i n × (n ≤ 256) × (n ≤ length (now src)) ⌝ }
+    requires { ⌜ Readable g (now image) s × Apart g (now image) s × Within g (now image) s i n × (n ≤ length (now src)) ⌝ }
     ensures { λ _. ⌜ now (image .exit) ≡ store (place g (now (image .entry)) s) (now (image .entry)) i (take n (now (src .entry))) ⌝ }
 {
-    let first = read::rest_of(g, i);
-    let p = seek::place(image, g, s, i);
-    if n <= first {
-        copy::put_part(image, p, src, 0, n);
-        return;
+    let mut done = 0;
+    while done < n {
+        let m = read::part_of(g, i + done, n - done);
+        let p = seek::place(image, g, s, i + done);
+        copy::put_part(image, p, src, done, m);
+        done += m;
     }
-    let q = seek::place(image, g, s, i + first);
-    copy::put_part(image, p, src, 0, first);
-    copy::put_part(image, q, src, first, n - first);
 }
 
-// n zeros go to the file from byte i on: one walk along the chain and one part a granule.
+// n zeros go to the file from byte i on, in the same way.
 pub fn clear_bytes(image: &mut [u8], g: Geometry, s: usize, i: usize, n: usize)
-    requires { ⌜ Readable g (now image) s × Apart g (now image) s × (i + n ≤ granuleBytes g * length (owned g (now image) s)) × (i + n ≤ 16777215) ⌝ }
+    requires { ⌜ Readable g (now image) s × Apart g (now image) s × Within g (now image) s i n ⌝ }
     ensures { λ _. ⌜ now (image .exit) ≡ store (place g (now (image .entry)) s) (now (image .entry)) i (replicate n 0) ⌝ }
 {
-    let mut at = i;
-    let mut left = n;
-    while 0 < left {
-        let m = read::part_of(g, at, left);
-        let p = seek::place(image, g, s, at);
+    let mut done = 0;
+    while done < n {
+        let m = read::part_of(g, i + done, n - done);
+        let p = seek::place(image, g, s, i + done);
         copy::clear_part(image, p, m);
-        at += m;
-        left -= m;
+        done += m;
     }
 }
 
-// Test 12 of a write; `room` is the buffer's length.
-fn write_ranged(g: Geometry, h: Handle, room: usize) -> bool
-    ensures { λ r. ⌜ r ≡ all (inRange g h ∷ leb (h .at + h .len) (highest g) ∷ leb (h .len) room ∷ []) ⌝ }
+// Test 12 of a write of n bytes; `room` is the buffer's length. A handle in range is at the highest position at most, so nothing is taken
+// from less.
+fn write_ranged(g: Geometry, h: Handle, n: usize, room: usize) -> bool
+    ensures { λ r. ⌜ r ≡ all (inRange g h ∷ leb (h .at + n) (highest g) ∷ leb n room ∷ []) ⌝ }
 {
     if !handle::in_range(g, h) {
         return false;
     }
-    if layout::highest(g) < h.at + h.len {
+    if layout::highest(g) - h.at < n {
         return false;
     }
-    h.len <= room
+    n <= room
 }
 
 fn size_after(mode: Mode, old: usize, end: usize) -> usize
@@ -83,10 +79,12 @@ fn gap(old: usize, at: usize) -> usize
     if old < at { at - old } else { 0 }
 }
 
-// Zeros from the old size to the position, then the record: the first n bytes of src.
+// Zeros from the old size to the position, then the first n bytes of src.
 fn put_record(image: &mut [u8], g: Geometry, s: usize, old: usize, at: usize, src: &[u8], n: usize)
-    requires { ⌜ Readable g (now image) s × Apart g (now image) s × Owned g (now image) s at n × (old ≤ granuleBytes g * length (owned g (now image) s)) × (old < 16777216) × (n ≤ 256) × (n ≤ length (now src)) ⌝ }
-    ensures { λ _. ⌜ now (image .exit) ≡ store (place g (now (image .entry)) s) (store (place g (now (image .entry)) s) (now (image .entry)) old (replicate (at - old) 0)) at (take n (now (src .entry))) ⌝ }
+    requires { ⌜ Readable g (now image) s × Apart g (now image) s × Within g (now image) s at n
+        × (old ≤ granuleBytes g * length (owned g (now image) s)) × (old < 16777216) × (n ≤ length (now src)) ⌝ }
+    ensures { λ _. ⌜ now (image .exit) ≡ store (place g (now (image .entry)) s)
+        (store (place g (now (image .entry)) s) (now (image .entry)) old (replicate (at - old) 0)) at (take n (now (src .entry))) ⌝ }
 {
     let zeros = gap(old, at);
     clear_bytes(image, g, s, old, zeros);
@@ -98,7 +96,8 @@ fn put_record(image: &mut [u8], g: Geometry, s: usize, old: usize, at: usize, sr
 fn grow_to(image: &mut [u8], g: Geometry, p: usize, old: usize, size: usize) -> u8
     requires { ⌜ Ready g (now image) p × (old ≤ granuleBytes g * length (owned g (now image) p)) × (old < 16777216) × (size ≤ 33554432) ⌝ }
     ensures { λ r. ⌜ (r ≡ first (cannotGrow g (now (image .entry)) p (lacking g (now (image .entry)) p (granulesFor g size))))
-        × (now (image .exit) ≡ cond (accepted r) (withGranules g (now (image .entry)) p (lacking g (now (image .entry)) p (granulesFor g size))) (now (image .entry))) ⌝ }
+        × (now (image .exit)
+        ≡ cond (accepted r) (withGranules g (now (image .entry)) p (lacking g (now (image .entry)) p (granulesFor g size))) (now (image .entry))) ⌝ }
 {
     let wanted = extent::granules_for(g, size);
     if wanted <= extent::granules_for(g, old) {
@@ -121,19 +120,21 @@ fn put_size(image: &mut [u8], g: Geometry, s: usize, size: usize)
     image[at + 1] = worked;
 }
 
-// Write record, from the buffer's start, on a disk whose check answered `checked`.
+// A write of n bytes, from the buffer's start, on a disk whose check answered `checked`: write record where n is the handle's record length,
+// write bytes where it is the buffer's length.
 pub fn write_checked(
     image: &mut [u8],
     g: Geometry,
     mode: Mode,
     h: Handle,
+    n: usize,
     buffer: &[u8],
     checked: Refusal,
 ) -> Answer
     requires { ⌜ checked ≡ check g (now image) ⌝ }
-    ensures { λ r. ⌜ (r, now (image .exit)) ≡ writeRecord g (now (image .entry)) mode h (now (buffer .entry)) ⌝ }
+    ensures { λ r. ⌜ (r, now (image .exit)) ≡ writeOf g (now (image .entry)) mode h n (now (buffer .entry)) ⌝ }
 {
-    let ranged = write_ranged(g, h, buffer.len());
+    let ranged = write_ranged(g, h, n, buffer.len());
     let refused = handle::changing_number(image, g, h, ranged, 4, checked);
     if refused != 0 {
         return Answer {
@@ -142,7 +143,7 @@ pub fn write_checked(
         };
     }
     let old = layout::size_of(image, g, h.slot);
-    let end = h.at + h.len;
+    let end = h.at + n;
     let size = size_after(mode, old, end);
     let number = grow_to(image, g, h.slot, old, size);
     if number != 0 {
@@ -151,7 +152,7 @@ pub fn write_checked(
             handle: h,
         };
     }
-    put_record(image, g, h.slot, old, h.at, buffer, h.len);
+    put_record(image, g, h.slot, old, h.at, buffer, n);
     put_size(image, g, h.slot, size);
     let mut moved = h;
     moved.at = end;

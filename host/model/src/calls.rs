@@ -285,19 +285,37 @@ pub(crate) fn by_handle(
 /// "Read record: position + length must not pass the size; the bytes go to the start of the buffer, the
 /// rest of it is untouched, the position advances."
 pub fn read_record(image: &[u8], g: &Geometry, handle: &mut [u8], buffer: &mut [u8]) -> Number {
+    read_of(image, g, handle, Handle::length, buffer)
+}
+
+/// Read bytes: read record with the buffer's own length, 0 to the highest position, in the record length's place.
+pub fn read_bytes(image: &[u8], g: &Geometry, handle: &mut [u8], buffer: &mut [u8]) -> Number {
+    let length = buffer.len();
+    read_of(image, g, handle, |_| length, buffer)
+}
+
+fn read_of(
+    image: &[u8],
+    g: &Geometry,
+    handle: &mut [u8],
+    length: impl Fn(&Handle) -> usize,
+    buffer: &mut [u8],
+) -> Number {
     number((|| {
-        let (d, h) = by_handle(image, g, handle, |h| buffer.len() >= h.length())?;
+        let (d, h) =
+            by_handle(image, g, handle, |h| length(h) <= g.highest_position() && buffer.len() >= length(h))?;
+        let length = length(&h);
         if h.level > READING_LEVEL {
             return Err(LEVEL);
         }
-        if h.position() + h.length() > size_of(image, g, h.slot) {
+        if h.position() + length > size_of(image, g, h.slot) {
             return Err(PAST_SIZE);
         }
         let granules = owned(image, g, d, h.slot);
-        for i in 0..h.length() {
+        for i in 0..length {
             buffer[i] = image[place(g, &granules, h.position() + i)];
         }
-        h.advanced().store(handle);
+        h.advanced(length).store(handle);
         Ok(())
     })())
 }
@@ -357,13 +375,30 @@ fn grow_to(image: &mut [u8], g: &Geometry, d: usize, file: u8, needed: usize) ->
 /// Sequential: size becomes position + length, even if smaller. Random: the larger of both. B is set,
 /// the position advances." "A write takes exactly what the file lacks of ⌈new size/1280⌉ granules."
 pub fn write_record(image: &mut [u8], g: &Geometry, handle: &mut [u8], sequential: bool, buffer: &[u8]) -> Number {
+    write_of(image, g, handle, sequential, Handle::length, buffer)
+}
+
+/// Write bytes: write record with the buffer's own length, 0 to the highest position, in the record length's place.
+pub fn write_bytes(image: &mut [u8], g: &Geometry, handle: &mut [u8], sequential: bool, buffer: &[u8]) -> Number {
+    write_of(image, g, handle, sequential, |_| buffer.len(), buffer)
+}
+
+fn write_of(
+    image: &mut [u8],
+    g: &Geometry,
+    handle: &mut [u8],
+    sequential: bool,
+    length: impl Fn(&Handle) -> usize,
+    buffer: &[u8],
+) -> Number {
     number((|| {
         let (d, h) = by_handle(image, g, handle, |h| {
-            h.position() + h.length() <= g.highest_position() && buffer.len() >= h.length()
+            length(h).saturating_add(h.position()) <= g.highest_position() && buffer.len() >= length(h)
         })?;
+        let length = length(&h);
         changeable(image, g, &h, WRITING_LEVEL)?;
         let old_size = size_of(image, g, h.slot);
-        let end = h.position() + h.length();
+        let end = h.position() + length;
         let new_size = if sequential { end } else { end.max(old_size) };
         grow_to(image, g, d, h.slot, new_size.div_ceil(g.granule_bytes()))?;
 
@@ -371,14 +406,14 @@ pub fn write_record(image: &mut [u8], g: &Geometry, handle: &mut [u8], sequentia
         for i in old_size..h.position() {
             image[place(g, &granules, i)] = 0;
         }
-        for i in 0..h.length() {
+        for i in 0..length {
             image[place(g, &granules, h.position() + i)] = buffer[i];
         }
         let mut this = entry(image, g, h.slot);
         this.set_size(new_size);
         this.set_worked_on();
         put_entry(image, g, h.slot, &this);
-        h.advanced().store(handle);
+        h.advanced(length).store(handle);
         Ok(())
     })())
 }

@@ -70,8 +70,8 @@ impl Handle {
     }
 
     /// "the position advances", by the record length.
-    pub fn advanced(&self) -> Handle {
-        Handle { position: self.position + self.length as u32, ..*self }
+    pub fn advanced(&self, by: usize) -> Handle {
+        Handle { position: self.position + by as u32, ..*self }
     }
 }
 

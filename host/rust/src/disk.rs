@@ -405,6 +405,45 @@ impl<B: AsRef<[u8]>> Disk<B> {
         })
     }
 
+    /// Reads as many bytes as the buffer holds, from the handle's position on, and advances the position: a whole file
+    /// in one call. The record length plays no part.
+    ///
+    /// ```
+    /// # use genie_dos::*;
+    /// # let mut disk = Disk::blank(Geometry::new(16, 2, 80, 0x4296), 10, &[0])?;
+    /// # let name = "PULS01/DAT".parse().unwrap();
+    /// # let mut handle = disk.create(&name, &NewFile::open(disk.geometry(), Date::new(1983, 10, 9)))?.handle;
+    /// disk.write_bytes(&mut handle, Kind::Sequential, &[7; 1300])?;
+    /// handle.set_position(0);
+    /// let mut buffer = vec![0; 1300];
+    /// disk.read_bytes(&mut handle, &mut buffer)?;
+    /// assert_eq!(buffer, [7; 1300]);
+    /// assert_eq!(handle.position(), 1300);
+    /// assert_eq!(disk.read_bytes(&mut handle, &mut [0]), Err(Refusal::PastEnd));
+    /// # Ok::<(), Refusal>(())
+    /// ```
+    pub fn read_bytes(&self, handle: &mut Handle, buffer: &mut [u8]) -> Result<(), Refusal> {
+        let (image, g, lent) = (self.image.as_ref(), self.geometry, handle.as_mut_bytes());
+        // SAFETY: the slices are live references, those written to are exclusive.
+        accepted(|fault_slot| unsafe {
+            sys::genie_read_bytes(
+                image.as_ptr(),
+                image.len(),
+                g.blocks,
+                g.units,
+                g.start,
+                g.open_code,
+                g.system_disk,
+                g.granule_sectors,
+                lent.as_mut_ptr(),
+                lent.len(),
+                buffer.as_mut_ptr(),
+                buffer.len(),
+                fault_slot,
+            )
+        })
+    }
+
     /// The file's bytes in its sector `k`: 1 to 256 bytes, a part of the image itself. Position and record length play
     /// no part.
     ///
@@ -685,6 +724,31 @@ impl<B: AsMut<[u8]>> Disk<B> {
         // SAFETY: the slices are live references, those written to are exclusive.
         accepted(|fault_slot| unsafe {
             sys::genie_write_record(
+                image.as_mut_ptr(),
+                image.len(),
+                g.blocks,
+                g.units,
+                g.start,
+                g.open_code,
+                g.system_disk,
+                g.granule_sectors,
+                lent.as_mut_ptr(),
+                lent.len(),
+                kind == Kind::Sequential,
+                buffer.as_ptr(),
+                buffer.len(),
+                fault_slot,
+            )
+        })
+    }
+
+    /// Writes all bytes of the buffer at the handle's position and advances it, as [`Disk::write_record`] does those of a
+    /// record: a whole file in one call. The record length plays no part.
+    pub fn write_bytes(&mut self, handle: &mut Handle, kind: Kind, buffer: &[u8]) -> Result<(), Refusal> {
+        let (image, g, lent) = (self.image.as_mut(), self.geometry, handle.as_mut_bytes());
+        // SAFETY: the slices are live references, those written to are exclusive.
+        accepted(|fault_slot| unsafe {
+            sys::genie_write_bytes(
                 image.as_mut_ptr(),
                 image.len(),
                 g.blocks,

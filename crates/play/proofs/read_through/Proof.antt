@@ -5,7 +5,7 @@ use Rattle.play.proofs.read_through.Tie as tie
 use Rattle.play.proofs.read_through.Reads as reads
 use Rattle.play.proofs.read_through.Lts as lts
 use Rattle.look_up.proofs.open_checked.Reads as open-checked-reads
-use Rattle.read.proofs.record_checked.Reads as record-checked-reads
+use Rattle.read.proofs.read_checked.Reads as read-checked-reads
 
 -- src/lib.rt:112:9
 open-checked-requires : tie.Need-open-checked-requires
@@ -16,16 +16,16 @@ returns : tie.Need-returns
 returns c = open-refused _ _ _ _ _ (c .before .before .open-checked .ensures) (c .if1 .taken)
 
 -- src/lib.rt:119:47
-slice-aggregate-record-checked : tie.Need-slice-aggregate-record-checked
-slice-aggregate-record-checked c = search needs
+slice-aggregate-read-checked : tie.Need-slice-aggregate-read-checked
+slice-aggregate-read-checked c = search needs
 
 -- src/lib.rt:119:9
-record-checked-requires : tie.Need-record-checked-requires
-record-checked-requires c κs = search needs
+read-checked-requires : tie.Need-read-checked-requires
+read-checked-requires c κs = search needs
 
 -- src/lib.rt:107:1
 returns-2 : tie.Need-returns-2
-returns-2 c = open-made _ _ _ _ _ (c .before .before .before .before .before .before .open-checked .ensures) (c .before .before .before .before .if1 .left) (read-is _ _ _ _ (c .before .record-checked .ensures))
+returns-2 c = open-made _ _ _ _ _ (c .before .before .before .before .before .before .open-checked .ensures) (c .before .before .before .before .if1 .left) (read-is _ _ _ _ (c .before .read-checked .ensures))
 
 pub read-through-spec : {M : Type 1} → statement M
 read-through-spec =
@@ -33,6 +33,6 @@ read-through-spec =
     (tie.spec
     open-checked-requires
     returns
-    slice-aggregate-record-checked
-    record-checked-requires
+    slice-aggregate-read-checked
+    read-checked-requires
     returns-2)

@@ -1,5 +1,5 @@
 use lib.ListN.{take}
-use Rattle.write.proofs.Parts.{gap-file, gap-then, recorded}
+use Rattle.write.proofs.Parts.{gap-within, gap-file, gap-apart, gap-then, recorded}
 use borrow.Author.Needs.{needs}
 use Rattle.write.proofs.put_record.Statement.{statement}
 use Rattle.write.proofs.put_record.Tie as tie
@@ -16,13 +16,30 @@ clear-bytes-requires : tie.Need-clear-bytes-requires
 clear-bytes-requires c κs = search needs
 
 write-bytes-requires : tie.Need-write-bytes-requires
-write-bytes-requires c κs = let p = c .before .before .before .before .before .before .before .before .pre in (gap-file _ _ _ (p .0) (p .1) (p .2) (p .3) (p .4) (c .before .before .before .before .before .gap .ensures) (c .before .before .before .clear-bytes .ensures), gap-then _ _ _ (p .0) (p .1) (p .2) (p .3) (p .4) (c .before .before .before .before .before .gap .ensures) (c .before .before .before .clear-bytes .ensures), p .5, p .6)
+write-bytes-requires c κs =
+    let pre = c .before .before .before .before .before .before .before .before .pre in
+    let the-gap = c .before .before .before .before .before .gap in
+    let the-clear-bytes = c .before .before .before .clear-bytes in
+    let p = pre in (
+      gap-file _ _ _ (p .0) (p .1) (p .2) (p .3) (p .4) (the-gap .ensures) (the-clear-bytes .ensures),
+      gap-apart _ _ _ (p .0) (p .1) (p .2) (p .3) (p .4)
+          (the-gap .ensures) (the-clear-bytes .ensures),
+      gap-then _ _ _ (p .0) (p .1) (p .2) (p .3) (p .4) (the-gap .ensures) (the-clear-bytes .ensures),
+      p .5,
+    )
 
 same-length : tie.Need-same-length
 same-length c = search needs
 
 returns : tie.Need-returns
-returns c = let p = c .before .before .before .before .before .before .before .before .before .before .before .pre in recorded _ _ _ (p .0) (p .1) (p .2) (p .3) (p .4) (c .before .before .before .before .before .before .before .before .gap .ensures) (c .before .before .before .before .before .before .clear-bytes .ensures) (take (c .before .before .before .before .before .before .before .before .before .before .before .args .n) (c .before .before .before .before .before .before .before .before .before .before .before .args .src .now)) (c .before .before .write-bytes .ensures)
+returns c =
+    let pre = c .before .before .before .before .before .before .before .before .before .before .before .pre in
+    let the-gap = c .before .before .before .before .before .before .before .before .gap in
+    let the-clear-bytes = c .before .before .before .before .before .before .clear-bytes in
+    let a = c .before .before .before .before .before .before .before .before .before .before .before .args in
+    let p = pre in
+    recorded _ _ _ (p .0) (p .1) (p .2) (p .3) (p .4) (the-gap .ensures) (the-clear-bytes .ensures) (take (a .n) (a .src .now))
+    (c .before .before .write-bytes .ensures)
 
 pub put-record-spec : {M : Type 1} → statement M
 put-record-spec =

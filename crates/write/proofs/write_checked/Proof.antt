@@ -33,21 +33,49 @@ same-length : tie.Need-same-length
 same-length c = search needs
 
 returns : tie.Need-returns
-returns c = refused (c .before .before .before .before .before .before .before .args .g) (c .before .before .before .before .before .before .before .args .image .now) (c .before .before .before .before .before .before .before .args .mode) (c .before .before .before .before .before .before .before .args .h) (c .before .before .before .before .before .before .before .args .buffer .now) (c .before .before .before .before .write-ranged .ensures) (handed _ _ _ (c .before .before .before .before .before .before .before .pre) (c .carried .ensures)) (c .before .before .changing-number .ensures) (c .before .if1 .taken)
+returns c =
+    let a = c .before .before .before .before .before .before .before .args in
+    let the-write-ranged = c .before .before .before .before .write-ranged in
+    let p = c .before .before .before .before .before .before .before .pre in
+    refused (a .g) (a .image .now) (a .mode) (a .h) (a .n) (a .buffer .now) (the-write-ranged .ensures) (handed _ _ _ p (c .carried .ensures))
+    (c .before .before .changing-number .ensures) (c .before .if1 .taken)
 
 size-of-requires : tie.Need-size-of-requires
-size-of-requires c κs = let w = passed (c .before .before .before .before .before .before .before .args .g) (c .before .before .before .before .before .before .before .args .image .now) (c .before .before .before .before .before .before .before .args .h) (c .before .before .before .before .write-ranged .result) (protected (c .before .before .before .before .before .before .before .args .g) (c .before .before .before .before .before .before .before .args .image .now) 4 (c .before .before .before .before .before .before .before .args .h) ∷ []) refl (c .before .before .changing-number .ensures) (c .before .if1 .left) in (checked-room _ _ (w .disk), w .slot)
+size-of-requires c κs =
+    let a = c .before .before .before .before .before .before .before .args in
+    let the-write-ranged = c .before .before .before .before .write-ranged in
+    let w = passed (a .g) (a .image .now) (a .h) (the-write-ranged .result) (protected (a .g) (a .image .now) 4 (a .h) ∷ []) refl
+    (c .before .before .changing-number .ensures) (c .before .if1 .left) in
+    (checked-room _ _ (w .disk), w .slot)
 
 add-end : tie.Need-add-end
-add-end c = let f = fit (c .before .before .before .before .before .before .before .before .before .args .g) (c .before .before .before .before .before .before .before .before .before .args .image .now) (c .before .before .before .before .before .before .before .before .before .args .mode) (c .before .before .before .before .before .before .before .before .before .args .h) (c .before .before .before .before .before .before .before .before .before .args .buffer .now) (c .before .before .before .before .before .before .write-ranged .ensures) (c .before .before .before .before .changing-number .ensures) (c .before .before .before .if1 .left) in let a = f .ends in omega arith
+add-end c =
+    let args = c .before .before .before .before .before .before .before .before .before .args in
+    let the-write-ranged = c .before .before .before .before .before .before .write-ranged in
+    let the-changing-number = c .before .before .before .before .changing-number in
+    let f = fit (args .g) (args .image .now) (args .mode) (args .h) (args .n) (args .buffer .now) (the-write-ranged .ensures) (the-changing-number .ensures)
+    (c .before .before .before .if1 .left) in
+    let a = f .ends in
+    omega arith
 
 size-after-requires : tie.Need-size-after-requires
 size-after-requires c κs = search needs
 
 grow-to-requires : tie.Need-grow-to-requires
-grow-to-requires c κs = let y = ready (c .before .before .before .before .before .before .before .before .before .before .before .args .g) (c .before .before .before .before .before .before .before .before .before .before .before .args .image .now) (c .before .before .before .before .before .before .before .before .before .before .before .args .h) (c .before .before .before .before .before .before .before .before .write-ranged .result) 4 (c .before .before .before .before .before .before .changing-number .ensures) (c .before .before .before .before .before .if1 .left) in
-    let f = fit (c .before .before .before .before .before .before .before .before .before .before .before .args .g) (c .before .before .before .before .before .before .before .before .before .before .before .args .image .now) (c .before .before .before .before .before .before .before .before .before .before .before .args .mode) (c .before .before .before .before .before .before .before .before .before .before .before .args .h) (c .before .before .before .before .before .before .before .before .before .before .before .args .buffer .now) (c .before .before .before .before .before .before .before .before .write-ranged .ensures) (c .before .before .before .before .before .before .changing-number .ensures) (c .before .before .before .before .before .if1 .left) in let a = f .ends in let b = c .before .before .before .size-of .ensures .small in let z = sizes-low (c .before .before .before .before .before .before .before .before .before .before .before .args .mode) (c .before .before .before .size-of .result) (c .before .before .before .before .before .before .before .before .before .before .before .args .h .at + c .before .before .before .before .before .before .before .before .before .before .before .args .h .len) in let s = c .before .size-after .ensures in
-    (y, old-owned (c .before .before .before .before .before .before .before .before .before .before .before .args .g) (c .before .before .before .before .before .before .before .before .before .before .before .args .image .now) (c .before .before .before .before .before .before .before .before .before .before .before .args .h .slot) y (c .before .before .before .size-of .ensures .is), b, omega arith)
+grow-to-requires c κs =
+    let args = c .before .before .before .before .before .before .before .before .before .before .before .args in
+    let the-write-ranged = c .before .before .before .before .before .before .before .before .write-ranged in
+    let the-changing-number = c .before .before .before .before .before .before .changing-number in
+    let the-if1 = c .before .before .before .before .before .if1 in
+    let the-size-of = c .before .before .before .size-of in
+    let y = ready (args .g) (args .image .now) (args .h) (the-write-ranged .result) 4 (the-changing-number .ensures) (the-if1 .left) in
+    let f = fit (args .g) (args .image .now) (args .mode) (args .h) (args .n) (args .buffer .now) (the-write-ranged .ensures) (the-changing-number .ensures)
+    (the-if1 .left) in
+    let a = f .ends in
+    let b = the-size-of .ensures .small in
+    let z = sizes-low (args .mode) (the-size-of .result) (args .h .at + args .n) in
+    let s = c .before .size-after .ensures in
+    (y, old-owned (args .g) (args .image .now) (args .h .slot) y (the-size-of .ensures .is), b, omega arith)
 
 carried-requires-2 : tie.Need-carried-requires-2
 carried-requires-2 c κs = search needs
@@ -56,22 +84,69 @@ same-length-2 : tie.Need-same-length-2
 same-length-2 c = search needs
 
 returns-2 : tie.Need-returns-2
-returns-2 c = let s = size-is (c .before .before .before .before .before .before .before .before .before .before .before .before .before .before .before .before .args .g) (c .before .before .before .before .before .before .before .before .before .before .before .before .before .before .before .before .args .image .now) (c .before .before .before .before .before .before .before .before .before .before .before .before .before .before .before .before .args .mode) (c .before .before .before .before .before .before .before .before .before .before .before .before .before .before .before .before .args .h) (c .before .before .before .before .before .before .before .before .before .before .before .before .before .before .before .before .args .buffer .now) (c .before .before .before .before .before .before .before .before .before .before .before .before .before .write-ranged .ensures) (c .before .before .before .before .before .before .before .before .size-of .ensures .is) (c .before .before .before .before .before .before .size-after .ensures) in
-    not-grown (c .before .before .before .before .before .before .before .before .before .before .before .before .before .before .before .before .args .g) (c .before .before .before .before .before .before .before .before .before .before .before .before .before .before .before .before .args .image .now) (c .before .before .before .before .before .before .before .before .before .before .before .before .before .before .before .before .args .mode) (c .before .before .before .before .before .before .before .before .before .before .before .before .before .before .before .before .args .h) (c .before .before .before .before .before .before .before .before .before .before .before .before .before .before .before .before .args .buffer .now) (c .before .before .before .before .before .before .before .before .before .before .before .before .before .write-ranged .ensures) (handed _ _ _ (c .before .before .before .before .before .before .before .before .before .before .before .before .before .before .before .before .pre) (c .carried2 .ensures)) (c .before .before .before .before .before .before .before .before .before .before .before .changing-number .ensures) (c .before .before .before .before .before .before .before .before .before .before .if1 .left) (number-is (c .before .before .before .before .before .before .before .before .before .before .before .before .before .before .before .before .args .g) (c .before .before .before .before .before .before .before .before .before .before .before .before .before .before .before .before .args .image .now) (c .before .before .before .before .before .before .before .before .before .before .before .before .before .before .before .before .args .mode) (c .before .before .before .before .before .before .before .before .before .before .before .before .before .before .before .before .args .h) (c .before .before .before .before .before .before .before .before .before .before .before .before .before .before .before .before .args .buffer .now) (c .before .before .before .before .before .before .before .before .before .before .before .before .before .write-ranged .ensures) s (c .before .before .before .before .grow-to .ensures .0)) (c .before .if2 .taken) (image-is (c .before .before .before .before .before .before .before .before .before .before .before .before .before .before .before .before .args .g) (c .before .before .before .before .before .before .before .before .before .before .before .before .before .before .before .before .args .image .now) (c .before .before .before .before .before .before .before .before .before .before .before .before .before .before .before .before .args .mode) (c .before .before .before .before .before .before .before .before .before .before .before .before .before .before .before .before .args .h) (c .before .before .before .before .before .before .before .before .before .before .before .before .before .before .before .before .args .buffer .now) (c .before .before .before .before .before .before .before .before .before .before .before .before .before .write-ranged .ensures) (c .before .before .before .before .grow-to .result) s (c .before .before .before .before .grow-to .ensures .1))
+returns-2 c =
+    let a = c .before .before .before .before .before .before .before .before .before .before .before .before .before .before .before .before .args in
+    let the-write-ranged = c .before .before .before .before .before .before .before .before .before .before .before .before .before .write-ranged in
+    let the-size-of = c .before .before .before .before .before .before .before .before .size-of in
+    let the-size-after = c .before .before .before .before .before .before .size-after in
+    let p = c .before .before .before .before .before .before .before .before .before .before .before .before .before .before .before .before .pre in
+    let the-changing-number = c .before .before .before .before .before .before .before .before .before .before .before .changing-number in
+    let the-if1 = c .before .before .before .before .before .before .before .before .before .before .if1 in
+    let the-grow-to = c .before .before .before .before .grow-to in
+    let s = size-is (a .g) (a .image .now) (a .mode) (a .h) (a .n) (a .buffer .now) (the-write-ranged .ensures) (the-size-of .ensures .is)
+    (the-size-after .ensures) in
+    not-grown (a .g) (a .image .now) (a .mode) (a .h) (a .n) (a .buffer .now) (the-write-ranged .ensures) (handed _ _ _ p (c .carried2 .ensures))
+    (the-changing-number .ensures) (the-if1 .left) (number-is (a .g) (a .image .now) (a .mode) (a .h) (a .n) (a .buffer .now) (the-write-ranged .ensures) s
+    (the-grow-to .ensures .0)) (c .before .if2 .taken) (image-is (a .g) (a .image .now) (a .mode) (a .h) (a .n) (a .buffer .now) (the-write-ranged .ensures)
+    (the-grow-to .result) s (the-grow-to .ensures .1))
 
 put-record-requires : tie.Need-put-record-requires
-put-record-requires c κs = let s = size-is (c .before .before .before .before .before .before .before .before .before .before .before .before .before .before .before .before .args .g) (c .before .before .before .before .before .before .before .before .before .before .before .before .before .before .before .before .args .image .now) (c .before .before .before .before .before .before .before .before .before .before .before .before .before .before .before .before .args .mode) (c .before .before .before .before .before .before .before .before .before .before .before .before .before .before .before .before .args .h) (c .before .before .before .before .before .before .before .before .before .before .before .before .before .before .before .before .args .buffer .now) (c .before .before .before .before .before .before .before .before .before .before .before .before .before .write-ranged .ensures) (c .before .before .before .before .before .before .before .before .size-of .ensures .is) (c .before .before .before .before .before .before .size-after .ensures) in
-    let y = ready (c .before .before .before .before .before .before .before .before .before .before .before .before .before .before .before .before .args .g) (c .before .before .before .before .before .before .before .before .before .before .before .before .before .before .before .before .args .image .now) (c .before .before .before .before .before .before .before .before .before .before .before .before .before .before .before .before .args .h) (c .before .before .before .before .before .before .before .before .before .before .before .before .before .write-ranged .result) 4 (c .before .before .before .before .before .before .before .before .before .before .before .changing-number .ensures) (c .before .before .before .before .before .before .before .before .before .before .if1 .left) in
-    let f = fit (c .before .before .before .before .before .before .before .before .before .before .before .before .before .before .before .before .args .g) (c .before .before .before .before .before .before .before .before .before .before .before .before .before .before .before .before .args .image .now) (c .before .before .before .before .before .before .before .before .before .before .before .before .before .before .before .before .args .mode) (c .before .before .before .before .before .before .before .before .before .before .before .before .before .before .before .before .args .h) (c .before .before .before .before .before .before .before .before .before .before .before .before .before .before .before .before .args .buffer .now) (c .before .before .before .before .before .before .before .before .before .before .before .before .before .write-ranged .ensures) (c .before .before .before .before .before .before .before .before .before .before .before .changing-number .ensures) (c .before .before .before .before .before .before .before .before .before .before .if1 .left) in
-    let w = stores (c .before .before .before .before .before .before .before .before .before .before .before .before .before .before .before .before .args .g) (c .before .before .before .before .before .before .before .before .before .before .before .before .before .before .before .before .args .image .now) (c .before .before .before .before .before .before .before .before .before .before .before .before .before .before .before .before .args .mode) (c .before .before .before .before .before .before .before .before .before .before .before .before .before .before .before .before .args .h) (c .before .before .before .before .before .before .before .before .before .before .before .before .before .before .before .before .args .buffer .now) (c .before .before .before .before .before .before .before .before .before .before .before .before .before .write-ranged .ensures) y f (number-is (c .before .before .before .before .before .before .before .before .before .before .before .before .before .before .before .before .args .g) (c .before .before .before .before .before .before .before .before .before .before .before .before .before .before .before .before .args .image .now) (c .before .before .before .before .before .before .before .before .before .before .before .before .before .before .before .before .args .mode) (c .before .before .before .before .before .before .before .before .before .before .before .before .before .before .before .before .args .h) (c .before .before .before .before .before .before .before .before .before .before .before .before .before .before .before .before .args .buffer .now) (c .before .before .before .before .before .before .before .before .before .before .before .before .before .write-ranged .ensures) s (c .before .before .before .before .grow-to .ensures .0)) (c .before .if2 .left) (image-is (c .before .before .before .before .before .before .before .before .before .before .before .before .before .before .before .before .args .g) (c .before .before .before .before .before .before .before .before .before .before .before .before .before .before .before .before .args .image .now) (c .before .before .before .before .before .before .before .before .before .before .before .before .before .before .before .before .args .mode) (c .before .before .before .before .before .before .before .before .before .before .before .before .before .before .before .before .args .h) (c .before .before .before .before .before .before .before .before .before .before .before .before .before .before .before .before .args .buffer .now) (c .before .before .before .before .before .before .before .before .before .before .before .before .before .write-ranged .ensures) (c .before .before .before .before .grow-to .result) s (c .before .before .before .before .grow-to .ensures .1)) s in
-    (w .file, w .apart, w .owns, old-fits (c .before .before .before .before .before .before .before .before .before .before .before .before .before .before .before .before .args .g) (c .before .before .before .before .before .before .before .before .before .before .before .before .before .before .before .before .args .image .now) (c .before .before .before .before .before .before .before .before .before .before .before .before .before .before .before .before .args .mode) (c .before .before .before .before .before .before .before .before .before .before .before .before .before .before .before .before .args .h) (c .before .before .before .before .before .before .before .before .before .before .before .before .before .before .before .before .args .buffer .now) (c .before .before .before .before .before .before .before .before .before .before .before .before .before .write-ranged .ensures) (c .before .before .before .before .before .before .before .before .size-of .ensures .is) w, c .before .before .before .before .before .before .before .before .size-of .ensures .small, f .short, f .room)
+put-record-requires c κs =
+    let a = c .before .before .before .before .before .before .before .before .before .before .before .before .before .before .before .before .args in
+    let the-write-ranged = c .before .before .before .before .before .before .before .before .before .before .before .before .before .write-ranged in
+    let the-size-of = c .before .before .before .before .before .before .before .before .size-of in
+    let the-size-after = c .before .before .before .before .before .before .size-after in
+    let the-changing-number = c .before .before .before .before .before .before .before .before .before .before .before .changing-number in
+    let the-if1 = c .before .before .before .before .before .before .before .before .before .before .if1 in
+    let the-grow-to = c .before .before .before .before .grow-to in
+    let s = size-is (a .g) (a .image .now) (a .mode) (a .h) (a .n) (a .buffer .now) (the-write-ranged .ensures) (the-size-of .ensures .is)
+    (the-size-after .ensures) in
+    let y = ready (a .g) (a .image .now) (a .h) (the-write-ranged .result) 4 (the-changing-number .ensures) (the-if1 .left) in
+    let f = fit (a .g) (a .image .now) (a .mode) (a .h) (a .n) (a .buffer .now) (the-write-ranged .ensures) (the-changing-number .ensures) (the-if1 .left)
+    in
+    let w = stores (a .g) (a .image .now) (a .mode) (a .h) (a .n) (a .buffer .now) (the-write-ranged .ensures) y f (number-is (a .g) (a .image .now)
+    (a .mode) (a .h) (a .n) (a .buffer .now) (the-write-ranged .ensures) s (the-grow-to .ensures .0)) (c .before .if2 .left) (image-is (a .g)
+    (a .image .now) (a .mode) (a .h) (a .n) (a .buffer .now) (the-write-ranged .ensures) (the-grow-to .result) s (the-grow-to .ensures .1)) s in (
+      w .file,
+      w .apart,
+      w .owns,
+      old-fits (a .g) (a .image .now) (a .mode) (a .h) (a .n) (a .buffer .now) (the-write-ranged .ensures)
+          (the-size-of .ensures .is) w,
+      the-size-of .ensures .small,
+      f .room,
+    )
 
 put-size-requires : tie.Need-put-size-requires
-put-size-requires c κs = let s = size-is (c .before .before .before .before .before .before .before .before .before .before .before .before .before .before .before .before .before .before .before .before .args .g) (c .before .before .before .before .before .before .before .before .before .before .before .before .before .before .before .before .before .before .before .before .args .image .now) (c .before .before .before .before .before .before .before .before .before .before .before .before .before .before .before .before .before .before .before .before .args .mode) (c .before .before .before .before .before .before .before .before .before .before .before .before .before .before .before .before .before .before .before .before .args .h) (c .before .before .before .before .before .before .before .before .before .before .before .before .before .before .before .before .before .before .before .before .args .buffer .now) (c .before .before .before .before .before .before .before .before .before .before .before .before .before .before .before .before .before .write-ranged .ensures) (c .before .before .before .before .before .before .before .before .before .before .before .before .size-of .ensures .is) (c .before .before .before .before .before .before .before .before .before .before .size-after .ensures) in
-    let y = ready (c .before .before .before .before .before .before .before .before .before .before .before .before .before .before .before .before .before .before .before .before .args .g) (c .before .before .before .before .before .before .before .before .before .before .before .before .before .before .before .before .before .before .before .before .args .image .now) (c .before .before .before .before .before .before .before .before .before .before .before .before .before .before .before .before .before .before .before .before .args .h) (c .before .before .before .before .before .before .before .before .before .before .before .before .before .before .before .before .before .write-ranged .result) 4 (c .before .before .before .before .before .before .before .before .before .before .before .before .before .before .before .changing-number .ensures) (c .before .before .before .before .before .before .before .before .before .before .before .before .before .before .if1 .left) in
-    let f = fit (c .before .before .before .before .before .before .before .before .before .before .before .before .before .before .before .before .before .before .before .before .args .g) (c .before .before .before .before .before .before .before .before .before .before .before .before .before .before .before .before .before .before .before .before .args .image .now) (c .before .before .before .before .before .before .before .before .before .before .before .before .before .before .before .before .before .before .before .before .args .mode) (c .before .before .before .before .before .before .before .before .before .before .before .before .before .before .before .before .before .before .before .before .args .h) (c .before .before .before .before .before .before .before .before .before .before .before .before .before .before .before .before .before .before .before .before .args .buffer .now) (c .before .before .before .before .before .before .before .before .before .before .before .before .before .before .before .before .before .write-ranged .ensures) (c .before .before .before .before .before .before .before .before .before .before .before .before .before .before .before .changing-number .ensures) (c .before .before .before .before .before .before .before .before .before .before .before .before .before .before .if1 .left) in
-    let w = stores (c .before .before .before .before .before .before .before .before .before .before .before .before .before .before .before .before .before .before .before .before .args .g) (c .before .before .before .before .before .before .before .before .before .before .before .before .before .before .before .before .before .before .before .before .args .image .now) (c .before .before .before .before .before .before .before .before .before .before .before .before .before .before .before .before .before .before .before .before .args .mode) (c .before .before .before .before .before .before .before .before .before .before .before .before .before .before .before .before .before .before .before .before .args .h) (c .before .before .before .before .before .before .before .before .before .before .before .before .before .before .before .before .before .before .before .before .args .buffer .now) (c .before .before .before .before .before .before .before .before .before .before .before .before .before .before .before .before .before .write-ranged .ensures) y f (number-is (c .before .before .before .before .before .before .before .before .before .before .before .before .before .before .before .before .before .before .before .before .args .g) (c .before .before .before .before .before .before .before .before .before .before .before .before .before .before .before .before .before .before .before .before .args .image .now) (c .before .before .before .before .before .before .before .before .before .before .before .before .before .before .before .before .before .before .before .before .args .mode) (c .before .before .before .before .before .before .before .before .before .before .before .before .before .before .before .before .before .before .before .before .args .h) (c .before .before .before .before .before .before .before .before .before .before .before .before .before .before .before .before .before .before .before .before .args .buffer .now) (c .before .before .before .before .before .before .before .before .before .before .before .before .before .before .before .before .before .write-ranged .ensures) s (c .before .before .before .before .before .before .before .before .grow-to .ensures .0)) (c .before .before .before .before .before .if2 .left) (image-is (c .before .before .before .before .before .before .before .before .before .before .before .before .before .before .before .before .before .before .before .before .args .g) (c .before .before .before .before .before .before .before .before .before .before .before .before .before .before .before .before .before .before .before .before .args .image .now) (c .before .before .before .before .before .before .before .before .before .before .before .before .before .before .before .before .before .before .before .before .args .mode) (c .before .before .before .before .before .before .before .before .before .before .before .before .before .before .before .before .before .before .before .before .args .h) (c .before .before .before .before .before .before .before .before .before .before .before .before .before .before .before .before .before .before .before .before .args .buffer .now) (c .before .before .before .before .before .before .before .before .before .before .before .before .before .before .before .before .before .write-ranged .ensures) (c .before .before .before .before .before .before .before .before .grow-to .result) s (c .before .before .before .before .before .before .before .before .grow-to .ensures .1)) s in
-    sized (c .before .before .before .before .before .before .before .before .before .before .before .before .before .before .before .before .before .before .before .before .args .g) (c .before .before .before .before .before .before .before .before .before .before .before .before .before .before .before .before .before .before .before .before .args .image .now) (c .before .before .before .before .before .before .before .before .before .before .before .before .before .before .before .before .before .before .before .before .args .mode) (c .before .before .before .before .before .before .before .before .before .before .before .before .before .before .before .before .before .before .before .before .args .h) (c .before .before .before .before .before .before .before .before .before .before .before .before .before .before .before .before .before .before .before .before .args .buffer .now) (c .before .before .before .before .before .before .before .before .before .before .before .before .before .before .before .before .before .write-ranged .ensures) _ _ _ _ _ w (c .before .before .before .put-record .ensures)
+put-size-requires c κs =
+    let x = c .before .before .before .before .before .before .before .before .before .before .before .before in
+    let a = x .before .before .before .before .before .before .before .before .args in
+    let the-write-ranged = x .before .before .before .before .before .write-ranged in
+    let the-size-of = c .before .before .before .before .before .before .before .before .before .before .before .before .size-of in
+    let the-size-after = c .before .before .before .before .before .before .before .before .before .before .size-after in
+    let the-changing-number = x .before .before .before .changing-number in
+    let the-if1 = x .before .before .if1 in
+    let the-grow-to = c .before .before .before .before .before .before .before .before .grow-to in
+    let the-if2 = c .before .before .before .before .before .if2 in
+    let s = size-is (a .g) (a .image .now) (a .mode) (a .h) (a .n) (a .buffer .now) (the-write-ranged .ensures) (the-size-of .ensures .is)
+    (the-size-after .ensures) in
+    let y = ready (a .g) (a .image .now) (a .h) (the-write-ranged .result) 4 (the-changing-number .ensures) (the-if1 .left) in
+    let f = fit (a .g) (a .image .now) (a .mode) (a .h) (a .n) (a .buffer .now) (the-write-ranged .ensures) (the-changing-number .ensures) (the-if1 .left)
+    in
+    let w = stores (a .g) (a .image .now) (a .mode) (a .h) (a .n) (a .buffer .now) (the-write-ranged .ensures) y f (number-is (a .g) (a .image .now)
+    (a .mode) (a .h) (a .n) (a .buffer .now) (the-write-ranged .ensures) s (the-grow-to .ensures .0)) (the-if2 .left) (image-is (a .g) (a .image .now)
+    (a .mode) (a .h) (a .n) (a .buffer .now) (the-write-ranged .ensures) (the-grow-to .result) s (the-grow-to .ensures .1)) s in
+    sized (a .g) (a .image .now) (a .mode) (a .h) (a .n) (a .buffer .now) (the-write-ranged .ensures) _ _ _ _ _ w
+    (c .before .before .before .put-record .ensures)
 
 carried-requires-3 : tie.Need-carried-requires-3
 carried-requires-3 c κs = search needs
@@ -80,8 +155,25 @@ same-length-3 : tie.Need-same-length-3
 same-length-3 c = search needs
 
 returns-3 : tie.Need-returns-3
-returns-3 c = let s = size-is (c .before .before .before .before .before .before .before .before .before .before .before .before .before .before .before .before .before .before .before .before .before .before .before .before .args .g) (c .before .before .before .before .before .before .before .before .before .before .before .before .before .before .before .before .before .before .before .before .before .before .before .before .args .image .now) (c .before .before .before .before .before .before .before .before .before .before .before .before .before .before .before .before .before .before .before .before .before .before .before .before .args .mode) (c .before .before .before .before .before .before .before .before .before .before .before .before .before .before .before .before .before .before .before .before .before .before .before .before .args .h) (c .before .before .before .before .before .before .before .before .before .before .before .before .before .before .before .before .before .before .before .before .before .before .before .before .args .buffer .now) (c .before .before .before .before .before .before .before .before .before .before .before .before .before .before .before .before .before .before .before .before .before .write-ranged .ensures) (c .before .before .before .before .before .before .before .before .before .before .before .before .before .before .before .before .size-of .ensures .is) (c .before .before .before .before .before .before .before .before .before .before .before .before .before .before .size-after .ensures) in
-    written (c .before .before .before .before .before .before .before .before .before .before .before .before .before .before .before .before .before .before .before .before .before .before .before .before .args .g) (c .before .before .before .before .before .before .before .before .before .before .before .before .before .before .before .before .before .before .before .before .before .before .before .before .args .image .now) (c .before .before .before .before .before .before .before .before .before .before .before .before .before .before .before .before .before .before .before .before .before .before .before .before .args .mode) (c .before .before .before .before .before .before .before .before .before .before .before .before .before .before .before .before .before .before .before .before .before .before .before .before .args .h) (c .before .before .before .before .before .before .before .before .before .before .before .before .before .before .before .before .before .before .before .before .before .before .before .before .args .buffer .now) (c .before .before .before .before .before .before .before .before .before .before .before .before .before .before .before .before .before .before .before .before .before .write-ranged .ensures) (handed _ _ 0 (c .before .before .before .before .before .before .before .before .before .before .before .before .before .before .before .before .before .before .before .before .before .before .before .before .pre) (c .carried3 .ensures)) (c .before .before .before .before .before .before .before .before .before .before .before .before .before .before .before .before .size-of .ensures .is) (c .before .before .before .before .before .before .before .before .before .before .before .before .before .before .before .before .before .before .before .changing-number .ensures) (c .before .before .before .before .before .before .before .before .before .before .before .before .before .before .before .before .before .before .if1 .left) (number-is (c .before .before .before .before .before .before .before .before .before .before .before .before .before .before .before .before .before .before .before .before .before .before .before .before .args .g) (c .before .before .before .before .before .before .before .before .before .before .before .before .before .before .before .before .before .before .before .before .before .before .before .before .args .image .now) (c .before .before .before .before .before .before .before .before .before .before .before .before .before .before .before .before .before .before .before .before .before .before .before .before .args .mode) (c .before .before .before .before .before .before .before .before .before .before .before .before .before .before .before .before .before .before .before .before .before .before .before .before .args .h) (c .before .before .before .before .before .before .before .before .before .before .before .before .before .before .before .before .before .before .before .before .before .before .before .before .args .buffer .now) (c .before .before .before .before .before .before .before .before .before .before .before .before .before .before .before .before .before .before .before .before .before .write-ranged .ensures) s (c .before .before .before .before .before .before .before .before .before .before .before .before .grow-to .ensures .0)) (c .before .before .before .before .before .before .before .before .before .if2 .left) (image-is (c .before .before .before .before .before .before .before .before .before .before .before .before .before .before .before .before .before .before .before .before .before .before .before .before .args .g) (c .before .before .before .before .before .before .before .before .before .before .before .before .before .before .before .before .before .before .before .before .before .before .before .before .args .image .now) (c .before .before .before .before .before .before .before .before .before .before .before .before .before .before .before .before .before .before .before .before .before .before .before .before .args .mode) (c .before .before .before .before .before .before .before .before .before .before .before .before .before .before .before .before .before .before .before .before .before .before .before .before .args .h) (c .before .before .before .before .before .before .before .before .before .before .before .before .before .before .before .before .before .before .before .before .before .before .before .before .args .buffer .now) (c .before .before .before .before .before .before .before .before .before .before .before .before .before .before .before .before .before .before .before .before .before .write-ranged .ensures) (c .before .before .before .before .before .before .before .before .before .before .before .before .grow-to .result) s (c .before .before .before .before .before .before .before .before .before .before .before .before .grow-to .ensures .1)) s (c .before .before .before .before .before .before .before .put-record .ensures) (c .before .before .before .put-size .ensures)
+returns-3 c =
+    let x = c .before .before .before .before .before .before .before .before .before .before .before .before in
+    let a = x .before .before .before .before .before .before .before .before .before .before .before .before .args in
+    let the-write-ranged = x .before .before .before .before .before .before .before .before .before .write-ranged in
+    let the-size-of = x .before .before .before .before .size-of in
+    let the-size-after = x .before .before .size-after in
+    let p = x .before .before .before .before .before .before .before .before .before .before .before .before .pre in
+    let the-changing-number = x .before .before .before .before .before .before .before .changing-number in
+    let the-if1 = x .before .before .before .before .before .before .if1 in
+    let the-grow-to = c .before .before .before .before .before .before .before .before .before .before .before .before .grow-to in
+    let the-if2 = c .before .before .before .before .before .before .before .before .before .if2 in
+    let the-put-record = c .before .before .before .before .before .before .before .put-record in
+    let s = size-is (a .g) (a .image .now) (a .mode) (a .h) (a .n) (a .buffer .now) (the-write-ranged .ensures) (the-size-of .ensures .is)
+    (the-size-after .ensures) in
+    written (a .g) (a .image .now) (a .mode) (a .h) (a .n) (a .buffer .now) (the-write-ranged .ensures) (handed _ _ 0 p (c .carried3 .ensures))
+    (the-size-of .ensures .is) (the-changing-number .ensures) (the-if1 .left) (number-is (a .g) (a .image .now) (a .mode) (a .h) (a .n) (a .buffer .now)
+    (the-write-ranged .ensures) s (the-grow-to .ensures .0)) (the-if2 .left) (image-is (a .g) (a .image .now) (a .mode) (a .h) (a .n) (a .buffer .now)
+    (the-write-ranged .ensures) (the-grow-to .result) s (the-grow-to .ensures .1)) s (the-put-record .ensures)
+    (c .before .before .before .put-size .ensures)
 
 pub write-checked-spec : {M : Type 1} → statement M
 write-checked-spec =

@@ -1,0 +1,5 @@
+pub mod Statement
+pub mod Reads
+pub mod Writes
+pub mod Length
+pub mod Kept
