@@ -20,11 +20,22 @@ fn each_row_is_what_list_tells() {
                     let mut table = vec![7; ROW_BYTES * rows.max(1) + 13];
                     let mut told = 9;
                     let answer = library.list_from(&disk.image, &disk.g, number, &mut table, &mut told, &mut 0);
-                    assert_eq!((answer, told), (ACCEPTED, files.saturating_sub(number).min(rows.max(1))), "{title}");
+                    assert_eq!(
+                        (answer, told),
+                        (ACCEPTED, files.saturating_sub(number).min(rows.max(1))),
+                        "{title}"
+                    );
                     for (i, row) in table[..ROW_BYTES * told].chunks(ROW_BYTES).enumerate() {
                         let (mut name, mut size, mut granules, mut more) = ([0; 11], 0, 0, 0);
                         let one = library.list(
-                            &disk.image, &disk.g, number + i, &mut name, &mut size, &mut granules, &mut more, &mut 0,
+                            &disk.image,
+                            &disk.g,
+                            number + i,
+                            &mut name,
+                            &mut size,
+                            &mut granules,
+                            &mut more,
+                            &mut 0,
                         );
                         assert_eq!((one, more), (ACCEPTED, 1), "{title}");
                         let (mut slot, mut compared) = (0, 0);
