@@ -46,15 +46,15 @@ module _ (g : Geometry) (d : List ℕ) where
   load-numbers h b =
       exactly (loadRefusals g d h (length b)) (loadCases h (length b))
       (disk-reading g d (ownRows (loadRefusals g d h (length b))) (ownCases (loadCases h (length b))) (
-      refl,
-      λ x. not-iff (all (inRange g h ∷ leb mostBytes (length b) ∷ [])) (ranged-iff h (length b)),
-      (
         refl,
-        λ x. not-iff (fresh g d h) (live-iff g d h),
+        λ x. not-iff (all (inRange g h ∷ leb mostBytes (length b) ∷ [])) (ranged-iff h (length b)),
         (
           refl,
-          λ x. (ltb→lt 5 (h .level), lt→ltb 5 (h .level)),
-          (refl, λ x. told-iff h unknownCode, (refl, λ x. told-iff h fileEnds, (refl, λ x. told-iff h wrongCount, tt))),
+          λ x. not-iff (fresh g d h) (live-iff g d h),
+          (
+            refl,
+            λ x. (ltb→lt 5 (h .level), lt→ltb 5 (h .level)),
+            (refl, λ x. told-iff h unknownCode, (refl, λ x. told-iff h fileEnds, (refl, λ x. told-iff h wrongCount, tt))),
+          ),
         ),
-      ),
       )) tt
