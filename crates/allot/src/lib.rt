@@ -12,7 +12,7 @@ pub fn allot_checked(image: &mut [u8], g: Geometry, h: Handle, k: usize, checked
     requires { ⌜ checked ≡ check g (now image) ⌝ }
     ensures { λ r. ⌜ (r, now (image .exit)) ≡ allot g (now (image .entry)) h k ⌝ }
 {
-    let ranged = read::sector_ranged(g, h, k);
+    let ranged = handle::sector_ranged(g, h, k);
     let refused = handle::changing_number(image, g, h, ranged, 4, checked);
     if refused != 0 {
         return Answer {

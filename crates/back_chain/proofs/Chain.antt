@@ -17,18 +17,17 @@ use Rattle.meaning.specs.Consistent.{followsBy, linkHoldsBy}
 use Rattle.meaning.specs.BringBack
 use Rattle.meaning.specs.declared.Geometry.{Geometry}
 use Rattle.layout.specs.Room.{Room, Slot}
-use Rattle.layout.proofs.Lists.{all-at, all-yes, all-none, and-l, and-r, any-last, not-both, every-count}
-use Rattle.layout.proofs.Sound.{slot-of}
-use Rattle.layout.proofs.Laws.{left-more, left-none}
-use Rattle.seek.proofs.Laws.{chain-none}
+use Rattle.lists.specs.Tests.{all-at, all-yes, all-none, and-l, and-r, any-last, not-both, every-count}
+use Rattle.layout.proofs.HasRoom.{slot-of}
+use Rattle.seek.proofs.SeekSteps.{chain-none}
 use Rattle.check_map.specs.Marks.{marked, allows}
 use Rattle.check_map.specs.Owners.{standing}
-use Rattle.check_map.proofs.Laws.{marked-append, allows-append}
+use Rattle.check_map.proofs.MarkLists.{marked-append, allows-append}
 use Rattle.check_map.proofs.Maps.{allows-says, says-allows}
 use Rattle.check_map.proofs.Standing.{blank-open}
-use Rattle.check_walk.proofs.Lists.{every-append}
-use Rattle.laws.specs.Members
-use Rattle.laws.specs.Members.{In, Distinct}
+use Rattle.lists.specs.Ranges.{every-append, left-more, left-none}
+use Rattle.lists.specs.Members
+use Rattle.lists.specs.Members.{In, Distinct}
 use Rattle.back_taken.specs.Listed.{OnDisk, firstOf}
 use Rattle.back_chain.specs.Line.{Visits, Lined}
 use Rattle.back_chain.specs.declared.Visited.{Visited}

@@ -12,7 +12,7 @@ use Rattle.meaning.specs.Entries.{marker, link, runs, entryGranules}
 use Rattle.meaning.specs.Consistent.{followsBy, linkHoldsBy}
 use Rattle.meaning.specs.BringBack
 use Rattle.meaning.specs.declared.Geometry.{Geometry}
-use Rattle.layout.proofs.Lists.{all-at, all-yes, all-no, all-none, all-one, any-hit, any-skip, any-one, is-no, not-both, all-out}
+use Rattle.lists.specs.Tests.{all-at, all-yes, all-no, all-none, all-one, any-hit, any-skip, any-one, is-no, not-both, all-out}
 use Rattle.check_map.specs.Marks.{marked, allows}
 use Rattle.check_walk.specs.Walk.{entryFits, Entered}
 use Rattle.check_walk.specs.declared.Pairs.{Pairs}

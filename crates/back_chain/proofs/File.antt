@@ -12,8 +12,8 @@ use Rattle.meaning.specs.Consistent.{nameHolds, sizeHolds}
 use Rattle.meaning.specs.BringBack.{whole}
 use Rattle.meaning.specs.declared.Geometry.{Geometry}
 use Rattle.layout.specs.Room.{Room}
-use Rattle.layout.proofs.Lists.{all-at, all-yes, all-no, all-none, not-yes, not-no, not-both, all-out}
-use Rattle.seek.proofs.Laws.{slots-length}
+use Rattle.lists.specs.Tests.{all-at, all-yes, all-no, all-none, not-yes, not-no, not-both, all-out}
+use Rattle.seek.proofs.SeekSteps.{slots-length}
 use Rattle.back_chain.specs.Line.{Lined, Wholly}
 use Rattle.back_chain.specs.declared.Walked.{Walked}
 

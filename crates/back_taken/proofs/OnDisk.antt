@@ -12,8 +12,8 @@ use Rattle.meaning.specs.declared.Geometry.{Geometry}
 use Rattle.layout.specs.Room.{Room}
 use Rattle.seek.proofs.Frame.{Same, same-slot, same-runs, same-start, same-len}
 use Rattle.laws.specs.Entry.{runs-le}
-use Rattle.laws.specs.Members
-use Rattle.laws.specs.Members.{In}
+use Rattle.lists.specs.Members
+use Rattle.lists.specs.Members.{In}
 use Rattle.back_taken.specs.Listed.{OnDisk, firstOf}
 
 -- every one of these granules is on the disk

@@ -8,9 +8,9 @@ use native.Mathlib.Omega.{arith}
 use native.Mathlib.Numerals.{add-one}
 use lib.ListN.{getD}
 use Rattle.meaning.specs.Lists.{count, each, some}
-use Rattle.layout.proofs.Lists.{le-or-lt}
-use Rattle.check_walk.proofs.Lists.{each-snoc}
-use Rattle.laws.specs.Members
+use Rattle.lists.specs.Tests.{le-or-lt}
+use Rattle.lists.specs.Ranges.{each-snoc}
+use Rattle.lists.specs.Members
 use Rattle.back_taken.specs.Listed.{firstOf}
 
 -- the list after k parts

@@ -13,12 +13,12 @@ use Rattle.meaning.specs.Entries.{runs, runStart, runLength, runGranules, entry
 use Rattle.meaning.specs.BringBack.{backEntry}
 use Rattle.meaning.specs.declared.Geometry.{Geometry}
 use Rattle.layout.specs.Room.{Room, Slot}
-use Rattle.layout.proofs.Laws.{gat-low}
+use Rattle.layout.proofs.OneStep.{gat-low}
 use Rattle.seek.proofs.Frame.{Same, opened, same-refl, same-trans, same-before, same-room, same-start, same-len, same-entry}
 use Rattle.space.proofs.Folds.{Kept, kept-room, kept-slot}
 use Rattle.laws.specs.Entry.{runs-le}
-use Rattle.laws.specs.Members
-use Rattle.laws.specs.Members.{In}
+use Rattle.lists.specs.Members
+use Rattle.lists.specs.Members.{In}
 use Rattle.back_taken.specs.Listed.{OnDisk, Listed, firstOf}
 use Rattle.back_taken.proofs.Steps.{Steps, entry-steps, first-steps, all-steps}
 use Rattle.back_write.proofs.Done.{Done, done-start, done-more}

@@ -18,12 +18,12 @@ use Rattle.meaning.specs.declared.Geometry.{Geometry}
 use Rattle.meaning.specs.declared.BroughtBack.{BroughtBack}
 use Rattle.meaning.specs.declared.Refusal.{Refusal}
 use Rattle.layout.specs.Room.{Room, Slot}
-use Rattle.layout.proofs.Lists.{not-yes, not-no, first-hit, first-skip, first-none}
-use Rattle.handle.proofs.Laws.{check-stop, check-then}
+use Rattle.lists.specs.Tests.{not-yes, not-no, first-hit, first-skip, first-none}
+use Rattle.passed.proofs.Checked.{check-stop, check-then}
 use Rattle.seek.proofs.Frame.{Same}
 use Rattle.look_up.specs.Found.{Finds}
 use Rattle.look_up.specs.declared.Found.{Found}
-use Rattle.look_up.proofs.Laws.{finds-none, finds-one}
+use Rattle.look_up.proofs.Search.{finds-none, finds-one}
 use Rattle.back_taken.specs.Listed.{firstOf, Listed}
 use Rattle.back_chain.specs.Line.{Written}
 use Rattle.bring_back.specs.Plan.{Plans}
@@ -31,7 +31,7 @@ use Rattle.bring_back.specs.declared.Planned.{Planned}
 use Rattle.back_chain.proofs.First.{first-length}
 use Rattle.back_write.proofs.Frame.{same-taken}
 use Rattle.back_taken.proofs.OnDisk.{same-on-disk, under-each, listed-in}
-use Rattle.entry.proofs.Laws.{name-is}
+use Rattle.entry.proofs.EntryTests.{name-is}
 
 module _ (g : Geometry) (d : List ℕ) (s : ℕ) where
   -- The refusals -------------------------------------------------------------------------------------------------------------

@@ -11,13 +11,13 @@ use borrow.Author.Tests.{eq-eqb, eqb-true}
 use Rattle.meaning.specs.Lists.{all}
 use Rattle.meaning.specs.Bits.{bit}
 use Rattle.meaning.specs.Layout.{granules, field, directoryGranules, directorySectors, granuleSectors, roundUp}
-use Rattle.meaning.specs.Sizes
+use Rattle.lists.specs.Sizes
 use Rattle.meaning.specs.Chain.{chain, owned}
 use Rattle.meaning.specs.declared.Geometry.{Geometry}
 use Rattle.layout.specs.Room.{Room}
-use Rattle.layout.proofs.Lists.{le-or-lt, all-at, all-yes, all-none, not-both}
-use Rattle.laws.specs.Members
-use Rattle.laws.specs.Members.{In}
+use Rattle.lists.specs.Tests.{le-or-lt, all-at, all-yes, all-none, not-both}
+use Rattle.lists.specs.Members
+use Rattle.lists.specs.Members.{In}
 use Rattle.check_map.specs.Marks.{marked, allows}
 use Rattle.check_map.specs.Owners.{shut, standing}
 use Rattle.check_map.specs.Eight.{Among}
@@ -25,7 +25,7 @@ use Rattle.check_map.proofs.Maps
 use Rattle.check_map.proofs.Standing.{shut-lt, weight-low, weight-in, weight-out, standing-long, standing-open, standing-shut, open-if, shut-if}
 use Rattle.check_map.proofs.Window.{none-shut, shut-none, same-shut, shut-same}
 use Rattle.check_file.specs.Slots.{least, leastOf, fileFits, FileSeen, Directory}
-use Rattle.check_file.proofs.Laws.{bit-on, bit-off}
+use Rattle.check_file.proofs.OneFile.{bit-on, bit-off}
 
 pub directory-lt : (g : Geometry) (d : List ℕ) → Room g d → (n : ℕ) → In n (directoryGranules g d) → n < granules g
 directory-lt g d room n i = let k = Members.count-in n (g .start / granuleSectors g) (roundUp (directorySectors g d) (granuleSectors g)) i in let e = Sizes.touched-inside (Sizes.sectors-pos g) (g .start) (directorySectors g d) (granules g) (room .directory) in omega (arith, k, e)

@@ -9,11 +9,10 @@ use Rattle.meaning.specs.Lists.{every, each, all, any}
 use Rattle.meaning.specs.Bits.{bit}
 use Rattle.meaning.specs.Layout.{field, hit, slots, directorySectors, granuleSectors, roundUp}
 use Rattle.meaning.specs.Names.{hash, wellFormed}
-use Rattle.meaning.specs.Entries.{primary, nameOf, sectorCount, endByte}
+use Rattle.meaning.specs.Entries.{inUsePrimary, nameOf, sectorCount, endByte}
 use Rattle.meaning.specs.Chain.{chain, owned}
-use Rattle.meaning.specs.Consistent.{hitHolds}
+use Rattle.meaning.specs.Consistent.{hitHolds, countHolds}
 use Rattle.meaning.specs.declared.Geometry.{Geometry}
-use Rattle.entry.specs.Count.{countHolds}
 use Rattle.check_map.specs.Marks.{marked, allows}
 use Rattle.check_map.specs.Owners.{Window}
 use Rattle.check_map.specs.Eight.{Spans}
@@ -36,14 +35,14 @@ fileFits g d p =
     ∷ chainHolds g d (hit g d p) (length (slots g d)) p ∷ leb (sectorCount g d p) (granuleSectors g * length (owned g d p)) ∷ [])
 
 unfoldable pub slotFits : Geometry → List ℕ → ℕ → Bool
-slotFits g d s = all (hitHolds g d s ∷ any (not (primary g d s) ∷ fileFits g d s ∷ []) ∷ [])
+slotFits g d s = all (hitHolds g d s ∷ any (not (inUsePrimary g d s) ∷ fileFits g d s ∷ []) ∷ [])
 
 -- the entries and the granules of the file that starts at a slot; none where none starts
 unfoldable pub chainOf : Geometry → List ℕ → ℕ → List ℕ
-chainOf g d s = cond (primary g d s) (chain g d s) []
+chainOf g d s = cond (inUsePrimary g d s) (chain g d s) []
 
 unfoldable pub ownedOf : Geometry → List ℕ → ℕ → List ℕ
-ownedOf g d s = cond (primary g d s) (owned g d s) []
+ownedOf g d s = cond (inUsePrimary g d s) (owned g d s) []
 
 -- slot after slot, the places that f gives are open in the map, and are taken off it
 unfoldable pub opens : List ℕ → (ℕ → ℕ) → (ℕ → List ℕ) → List ℕ → Bool

@@ -8,7 +8,7 @@ ghost use Rattle.layout.specs.Room.{Room};
 ghost use Rattle.check_map.specs.Owners.{standing};
 ghost use Rattle.check_walk.specs.Walk.{Place};
 ghost use Rattle.check_file.specs.Slots.{leastOf, nameFits, FileSeen, Seen, Directory};
-ghost use Rattle.entry.specs.Count.{countHolds};
+ghost use Rattle.meaning.specs.Consistent.{countHolds};
 
 // Whether the name of the entry is well formed and its hash is h. The hash comes first: it reads the bytes one by one.
 fn name_holds(image: &[u8], g: Geometry, s: usize, at: usize, h: usize) -> bool

@@ -6,8 +6,9 @@ use native.Mathlib.Omega.{arith}
 use native.Mathlib.Nat.{pow-suc, min-le-left, max-le, min-zero, max-zero, zero-min, mul-assoc}
 use lib.Bits.{bitAnd, bitOr, and-step, or-step, and-le-r}
 use lib.Pow.{pow-pos, shl-lt, ones-lt}
-use Rattle.meaning.specs.Bits.{digit, digit-lt}
-use Rattle.layout.proofs.Lists.{le-or-lt}
+use Rattle.meaning.specs.Bits.{digit}
+use Rattle.laws.specs.Bits.{digit-lt}
+use Rattle.lists.specs.Tests.{le-or-lt}
 
 low : (x y : ℕ) → y < 2 → (x * 2 + y) % 2 ≡ y
 low x y h = omega arith

@@ -9,10 +9,10 @@ use lib.Dec.{leb}
 use lib.ListN.{length, getD, set, length-set}
 use lib.Seq.{getD-set-same, getD-set-other}
 use borrow.Author.Tests.{le-leb, leb-true}
-use Rattle.layout.proofs.Lists.{and-l, and-r}
+use Rattle.lists.specs.Tests.{and-l, and-r}
 use Rattle.check_map.specs.Marks.{marked, allows}
-use Rattle.laws.specs.Members
-use Rattle.laws.specs.Members.{In, Distinct}
+use Rattle.lists.specs.Members
+use Rattle.lists.specs.Members.{In, Distinct}
 
 pub in-range : (m : List ℕ) (n : ℕ) → 0 < getD m n 0 → n < length m
 in-range [] n h = absurd (let z : ⊥ = omega arith in z)

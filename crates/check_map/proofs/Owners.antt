@@ -12,15 +12,14 @@ use lib.ListN.{length, getD, set, length-set}
 use lib.Seq.{getD-set-same, getD-set-other}
 use lib.Pow.{pow-pos, shl-exact, shl-lt, ones-lt}
 use borrow.Author.Tests.{eqb-true, eqb-false}
-use Rattle.meaning.specs.Bits.{digit, digit-lt}
+use Rattle.meaning.specs.Bits.{digit}
+use Rattle.laws.specs.Bits.{digit-lt}
 use Rattle.meaning.specs.Layout.{granules, taken, byte, gatAt, mostBlocks}
 use Rattle.meaning.specs.declared.Geometry.{Geometry}
 use Rattle.layout.specs.Room.{Room}
-use Rattle.layout.proofs.Lists.{le-or-lt}
-use Rattle.seek.proofs.Below.{allBelow, all-below}
-use Rattle.laws.specs.Members
+use Rattle.lists.specs.Tests.{le-or-lt}
+use Rattle.lists.specs.Below.{allBelow, all-below}
 use Rattle.check_map.specs.Owners.{shut, Takes, GatMap}
-use Rattle.check_map.proofs.Maps
 use Rattle.check_map.proofs.Digits.{mask, clear-says, says-clear, or-in, or-out}
 
 -- the mask as the code has it

@@ -8,13 +8,14 @@ use native.Mathlib.Omega.{arith}
 use native.Mathlib.Nat.{one-mul, zero-mul}
 use lib.ListN.{length, getD, set, replicate, length-set, length-map}
 use lib.Seq.{ext-getD}
-use Rattle.meaning.specs.Bits.{digit, digit-lt}
-use Rattle.meaning.specs.Lists.{count, length-count, has}
+use Rattle.meaning.specs.Bits.{digit}
+use Rattle.laws.specs.Bits.{digit-lt}
+use Rattle.meaning.specs.Lists.{count, has}
 use Rattle.meaning.specs.Layout.{granules, directoryGranules, mostBlocks}
 use Rattle.meaning.specs.declared.Geometry.{Geometry}
-use Rattle.layout.proofs.Lists.{le-or-lt}
-use Rattle.laws.specs.Members
-use Rattle.laws.specs.Members.{In}
+use Rattle.lists.specs.Tests.{le-or-lt}
+use Rattle.lists.specs.Members
+use Rattle.lists.specs.Members.{In, length-count}
 use Rattle.check_map.specs.Marks.{marked, Marks}
 use Rattle.check_map.specs.Owners.{shut, Takes, weight, standing}
 use Rattle.check_map.proofs.Maps

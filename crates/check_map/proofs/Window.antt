@@ -12,8 +12,9 @@ use lib.Bits.{bitAnd, bitOr, and-le-l}
 use lib.ListN.{length, getD, set, take, drop, length-set}
 use lib.Seq.{getD-set-same, getD-set-other, getD-drop}
 use lib.Pow.{shl-exact}
-use Rattle.meaning.specs.Bits.{digit, digit-lt}
-use Rattle.layout.proofs.Lists.{le-or-lt}
+use Rattle.meaning.specs.Bits.{digit}
+use Rattle.laws.specs.Bits.{digit-lt}
+use Rattle.lists.specs.Tests.{le-or-lt}
 use Rattle.layout.specs.Number.{number}
 use Rattle.check_map.specs.Owners.{shut, Takes, Window}
 use Rattle.check_map.specs.Eight.{PutsEight, Spans}

@@ -14,17 +14,17 @@ use borrow.Author.Tests.{eq-eqb, ne-eqb, not-true, not-false}
 use Rattle.meaning.specs.Lists.{every, same, all}
 use Rattle.meaning.specs.Layout.{isSlot, hit, entryAt, directorySectors}
 use Rattle.meaning.specs.Names.{hash}
-use Rattle.meaning.specs.Entries.{primary, nameOf}
+use Rattle.meaning.specs.Entries.{inUsePrimary, nameOf}
 use Rattle.meaning.specs.Chain.{files}
 use Rattle.meaning.specs.Consistent.{namesDiffer}
 use Rattle.meaning.specs.declared.Geometry.{Geometry}
-use Rattle.laws.specs.Members
-use Rattle.laws.specs.Members.{In}
+use Rattle.lists.specs.Members
+use Rattle.lists.specs.Members.{In}
 use Rattle.laws.specs.Facts
 use Rattle.layout.specs.Room.{Room, Slot}
-use Rattle.layout.proofs.Lists.{all-yes, all-no, all-one, all-at}
-use Rattle.layout.proofs.Sound.{slot-of, slot-yes, slot-no, entry-fits}
-use Rattle.layout.proofs.Laws.{name-part}
+use Rattle.lists.specs.Tests.{all-yes, all-no, all-one, all-at}
+use Rattle.layout.proofs.HasRoom.{slot-of, slot-yes, slot-no, entry-fits}
+use Rattle.layout.proofs.OneStep.{name-part}
 use Rattle.check_names.specs.Buckets.{Hashed, unlike, inBucket, bucket, Linked, Buckets, Joined, Differing, Visited}
 
 module _ (g : Geometry) (d : List ℕ) where
@@ -60,20 +60,20 @@ module _ (g : Geometry) (d : List ℕ) where
   slot-true : (s : ℕ) → Slot g d s → isSlot g d s ≡ true
   slot-true s h = slot-yes g d s (h .low) (h .held)
 
-  member : (b s : ℕ) → Slot g d s → primary g d s ≡ true → hit g d s ≡ b → inBucket g d b s ≡ true
+  member : (b s : ℕ) → Slot g d s → inUsePrimary g d s ≡ true → hit g d s ≡ b → inBucket g d b s ≡ true
   unfolding inBucket
   member b s h p e = all-yes (slot-true s h) _ ∙ all-yes p _ ∙ all-one _ ∙ eq-eqb _ _ e
 
   stranger : (b s : ℕ) → (hit g d s ≡ b → ⊥) → inBucket g d b s ≡ false
   unfolding inBucket all
-  stranger b s e = rw (ne-eqb (hit g d s) b e) (none (isSlot g d s) (primary g d s))
+  stranger b s e = rw (ne-eqb (hit g d s) b e) (none (isSlot g d s) (inUsePrimary g d s))
     where
       none : (x y : Bool) → (x && (y && (false && true))) ≡ false
       none true true = refl
       none true false = refl
       none false y = refl
 
-  outsider : (b s : ℕ) → primary g d s ≡ false → inBucket g d b s ≡ false
+  outsider : (b s : ℕ) → inUsePrimary g d s ≡ false → inBucket g d b s ≡ false
   unfolding inBucket all
   outsider b s e = rw e (none (isSlot g d s))
     where
@@ -175,11 +175,11 @@ module _ (g : Geometry) (d : List ℕ) where
   pub skip-slot : (s : ℕ) (head next : List ℕ) → Buckets g d s head next → isSlot g d s ≡ false → Buckets g d (s + 1) head next
   skip-slot s head next w e = buckets-skip s head next w (λ b. no-slot b s e)
 
-  pub skip-entry : (s : ℕ) (head next : List ℕ) → Buckets g d s head next → primary g d s ≡ false → Buckets g d (s + 1) head next
+  pub skip-entry : (s : ℕ) (head next : List ℕ) → Buckets g d s head next → inUsePrimary g d s ≡ false → Buckets g d (s + 1) head next
   skip-entry s head next w e = buckets-skip s head next w (λ b. outsider b s e)
 
   -- slot s joins the list of its HIT byte
-  pub buckets-join : (s : ℕ) (head next : List ℕ) → Buckets g d s head next → Slot g d s → primary g d s ≡ true → hit g d s < 256
+  pub buckets-join : (s : ℕ) (head next : List ℕ) → Buckets g d s head next → Slot g d s → inUsePrimary g d s ≡ true → hit g d s < 256
       → Buckets g d (s + 1) (set head (hit g d s) (s + 1)) (set next s (getD head (hit g d s) 0))
   buckets-join s head next w h p l = record {
     heads = length-set head _ _ ∙ w .heads;
@@ -223,7 +223,7 @@ module _ (g : Geometry) (d : List ℕ) where
   pub joined-no : (s : ℕ) (head next : List ℕ) {f : Bool} → f ≡ every (unlike g d s) (bucket g d (hit g d s) s) → not f ≡ true → Joined g d s head next false
   joined-no s head next {f} e t = record { answer = sym (not-true f t) ∙ e; joined = λ z. absurd (Members.false-no (sym z) tt) }
 
-  pub joined-yes : (s : ℕ) (head next : List ℕ) {b x : ℕ} {f : Bool} → Buckets g d s head next → Slot g d s → primary g d s ≡ true → b ≡ hit g d s → b < 256
+  pub joined-yes : (s : ℕ) (head next : List ℕ) {b x : ℕ} {f : Bool} → Buckets g d s head next → Slot g d s → inUsePrimary g d s ≡ true → b ≡ hit g d s → b < 256
       → x ≡ getD head b 0 → f ≡ every (unlike g d s) (bucket g d (hit g d s) s) → not f ≡ false → Joined g d s (set head b (s + 1)) (set next s x) true
   joined-yes s head next {b} {x} {f} w h p e l r q t =
       record {
@@ -250,22 +250,22 @@ module _ (g : Geometry) (d : List ℕ) where
   pub differing-start : Differing g d 0 (replicate 256 0) (replicate 256 0)
   differing-start = record { low = omega arith; lists = buckets-none; apart = λ p q a. absurd (let z : ⊥ = omega arith in z) }
 
-  filed : (s : ℕ) → Facts.File g d s → isSlot g d s ≡ true
+  filed : (s : ℕ) → Facts.IsFile g d s → isSlot g d s ≡ true
   filed s f = Members.T-true (f .slot)
 
-  firsted : (s : ℕ) → Facts.File g d s → primary g d s ≡ true
+  firsted : (s : ℕ) → Facts.IsFile g d s → inUsePrimary g d s ≡ true
   firsted s f = Members.T-true (f .primary′)
 
   -- one slot further, where that slot is no file
-  apart-more : (s : ℕ) → ((p q : ℕ) → p < s → q < s → Facts.File g d p → Facts.File g d q → nameOf g d p ≡ nameOf g d q → p ≡ q)
-      → ((q : ℕ) → q < s → Facts.File g d s → Facts.File g d q → nameOf g d q ≡ nameOf g d s → ⊥)
-      → (p q : ℕ) → p < s + 1 → q < s + 1 → Facts.File g d p → Facts.File g d q → nameOf g d p ≡ nameOf g d q → p ≡ q
+  apart-more : (s : ℕ) → ((p q : ℕ) → p < s → q < s → Facts.IsFile g d p → Facts.IsFile g d q → nameOf g d p ≡ nameOf g d q → p ≡ q)
+      → ((q : ℕ) → q < s → Facts.IsFile g d s → Facts.IsFile g d q → nameOf g d q ≡ nameOf g d s → ⊥)
+      → (p q : ℕ) → p < s + 1 → q < s + 1 → Facts.IsFile g d p → Facts.IsFile g d q → nameOf g d p ≡ nameOf g d q → p ≡ q
   apart-more s f h p q a b i j e = by (ℕ-discrete p s) (ℕ-discrete q s)
     where
       by : Dec (p ≡ s) → Dec (q ≡ s) → p ≡ q
       by (yes x) (yes y) = x ∙ sym y
-      by (yes x) (no y) = absurd (h q (omega arith) (subst (Facts.File g d) x i) j (sym e ∙ ap (nameOf g d) x))
-      by (no x) (yes y) = absurd (h p (omega arith) (subst (Facts.File g d) y j) i (e ∙ ap (nameOf g d) y))
+      by (yes x) (no y) = absurd (h q (omega arith) (subst (Facts.IsFile g d) x i) j (sym e ∙ ap (nameOf g d) x))
+      by (no x) (yes y) = absurd (h p (omega arith) (subst (Facts.IsFile g d) y j) i (e ∙ ap (nameOf g d) y))
       by (no x) (no y) = f p q (omega arith) (omega arith) i j e
 
   pub differing-shut : (s : ℕ) (head next : List ℕ) → Differing g d s head next → s < 256 → isSlot g d s ≡ false → Differing g d (s + 1) head next
@@ -276,7 +276,7 @@ module _ (g : Geometry) (d : List ℕ) where
         apart = apart-more s (w .apart) (λ q b i j z. Members.false-no e (i .slot));
       }
 
-  pub differing-other : (s : ℕ) (head next : List ℕ) → Differing g d s head next → s < 256 → primary g d s ≡ false → Differing g d (s + 1) head next
+  pub differing-other : (s : ℕ) (head next : List ℕ) → Differing g d s head next → s < 256 → inUsePrimary g d s ≡ false → Differing g d (s + 1) head next
   differing-other s head next w l e =
       record {
         low = omega arith;
@@ -285,7 +285,7 @@ module _ (g : Geometry) (d : List ℕ) where
       }
 
   -- where HIT bytes are hashes, a file with the same name stands in the same list
-  listed : Hashed g d → (s q : ℕ) → Facts.File g d s → Facts.File g d q → nameOf g d q ≡ nameOf g d s → inBucket g d (hit g d s) q ≡ true
+  listed : Hashed g d → (s q : ℕ) → Facts.IsFile g d s → Facts.IsFile g d q → nameOf g d q ≡ nameOf g d s → inBucket g d (hit g d s) q ≡ true
   listed h s q i j e =
       let a = slot-of g d s (filed s i) in let b = slot-of g d q (filed q j) in
       member (hit g d s) q b (firsted q j) (h .hashed q b (firsted q j) ∙ ap hash e ∙ sym (h .hashed s a (firsted s i)))
@@ -319,19 +319,19 @@ module _ (g : Geometry) (d : List ℕ) where
   unfolding inBucket
   slot-in b q z = all-at _ z 0
 
-  first-in : (b q : ℕ) → inBucket g d b q ≡ true → primary g d q ≡ true
+  first-in : (b q : ℕ) → inBucket g d b q ≡ true → inUsePrimary g d q ≡ true
   unfolding inBucket
   first-in b q z = all-at _ z 1
 
   -- two files with one name
-  pub differing-found : (s : ℕ) (head′ next′ : List ℕ) {r : Bool} → Slot g d s → primary g d s ≡ true → Joined g d s head′ next′ r → r ≡ false
+  pub differing-found : (s : ℕ) (head′ next′ : List ℕ) {r : Bool} → Slot g d s → inUsePrimary g d s ≡ true → Joined g d s head′ next′ r → r ≡ false
       → false ≡ namesDiffer g d (files g d)
   differing-found s head′ next′ h p k e =
       let w = some-false (unlike g d s) (bucket g d (hit g d s) s) (sym (k .answer) ∙ e) in
       let q = w .0 in let m = in-bucket (hit g d s) s q (w .1) in
       let n = same-of s q (w .2) in
-      let fs : Facts.File g d s = record { slot = Members.true-T (slot-true s h); primary′ = Members.true-T p } in
-      let fq : Facts.File g d q = record { slot = Members.true-T (slot-in (hit g d s) q (m .1)); primary′ = Members.true-T (first-in (hit g d s) q (m .1)) } in
+      let fs : Facts.IsFile g d s = record { slot = Members.true-T (slot-true s h); primary′ = Members.true-T p } in
+      let fq : Facts.IsFile g d q = record { slot = Members.true-T (slot-in (hit g d s) q (m .1)); primary′ = Members.true-T (first-in (hit g d s) q (m .1)) } in
       sym (Members.no-false (λ t. let z = Facts.differ-says g d {p = q} {q = s} t (Facts.in-files g d q fq) (Facts.in-files g d s fs) n in let lt = m .0 in omega arith))
 
   pub differing-end : (s : ℕ) (head next : List ℕ) → Differing g d s head next → 256 ≤ s → true ≡ namesDiffer g d (files g d)
@@ -364,11 +364,11 @@ module _ (g : Geometry) (d : List ℕ) where
   row-found row {r = r} w t = record { bad = λ z. w .bad (not-true r t); good = λ z. absurd (Members.false-no (sym z) tt) }
 
   -- the two ways through a slot
-  pub visit-other : (s : ℕ) (head next : List ℕ) {f : Bool} → Differing g d s head next → s < 256 → f ≡ primary g d s → not f ≡ true → Visited g d (s + 1) head next true
+  pub visit-other : (s : ℕ) (head next : List ℕ) {f : Bool} → Differing g d s head next → s < 256 → f ≡ inUsePrimary g d s → not f ≡ true → Visited g d (s + 1) head next true
   visit-other s head next {f} w l e t =
       record { bad = λ z. absurd (Members.false-no z tt); good = λ z. differing-other s head next w l (sym e ∙ not-true f t) }
 
-  pub visit-file : Hashed g d → (s : ℕ) (head next head′ next′ : List ℕ) {r f : Bool} → Differing g d s head next → Slot g d s → f ≡ primary g d s → not f ≡ false
+  pub visit-file : Hashed g d → (s : ℕ) (head next head′ next′ : List ℕ) {r f : Bool} → Differing g d s head next → Slot g d s → f ≡ inUsePrimary g d s → not f ≡ false
       → Joined g d s head′ next′ r → Visited g d (s + 1) head′ next′ r
   visit-file h s head next head′ next′ {r} {f} w k e t j =
       record { bad = λ z. differing-found s head′ next′ k (sym e ∙ not-false f t) j z; good = λ z. differing-on h s head next head′ next′ w (k .low) j z }

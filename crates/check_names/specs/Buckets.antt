@@ -8,17 +8,17 @@ use lib.ListN.{length, getD}
 use Rattle.meaning.specs.Lists.{all, every, same}
 use Rattle.meaning.specs.Layout.{isSlot, hit}
 use Rattle.meaning.specs.Names.{hash}
-use Rattle.meaning.specs.Entries.{primary, nameOf}
+use Rattle.meaning.specs.Entries.{inUsePrimary, nameOf}
 use Rattle.meaning.specs.declared.Geometry.{Geometry}
 use Rattle.meaning.specs.Chain.{files}
 use Rattle.meaning.specs.Consistent.{namesDiffer}
-use Rattle.laws.specs.Facts.{File}
+use Rattle.laws.specs.Facts.{IsFile}
 use Rattle.layout.specs.Room.{Slot}
 
 module _ (g : Geometry) (d : List ℕ) where
   -- HIT bytes of files equal the hashes
   pub record Hashed : Type 0 where
-    pub hashed : (p : ℕ) → Slot g d p → primary g d p ≡ true → hit g d p ≡ hash (nameOf g d p)
+    pub hashed : (p : ℕ) → Slot g d p → inUsePrimary g d p ≡ true → hit g d p ≡ hash (nameOf g d p)
 
   -- the entry at q has another name than the one at s
   unfoldable pub unlike : ℕ → ℕ → Bool
@@ -26,7 +26,7 @@ module _ (g : Geometry) (d : List ℕ) where
 
   -- slot s starts a file, with HIT byte b
   unfoldable pub inBucket : ℕ → ℕ → Bool
-  inBucket b s = all (isSlot g d s ∷ primary g d s ∷ eqb (hit g d s) b ∷ [])
+  inBucket b s = all (isSlot g d s ∷ inUsePrimary g d s ∷ eqb (hit g d s) b ∷ [])
 
   -- the files below slot n with HIT byte b, falling
   unfoldable pub bucket : ℕ → ℕ → List ℕ
@@ -55,7 +55,7 @@ module _ (g : Geometry) (d : List ℕ) where
   pub record Differing (s : ℕ) (head next : List ℕ) : Type 0 where
     pub low : s ≤ 256
     pub lists : Buckets s head next
-    pub apart : (p q : ℕ) → p < s → q < s → File g d p → File g d q → nameOf g d p ≡ nameOf g d q → p ≡ q
+    pub apart : (p q : ℕ) → p < s → q < s → IsFile g d p → IsFile g d q → nameOf g d p ≡ nameOf g d q → p ≡ q
 
   -- what a visit to slots up to n gives: two files with one name, or all names below n different
   pub record Visited (n : ℕ) (head next : List ℕ) (r : Bool) : Type 0 where

@@ -6,7 +6,7 @@ ghost use Prim.Native.Nat.{_+_, _*_, _<_, _≤_};
 ghost use lib.ListN.{length, getD};
 ghost use Rattle.meaning.specs.Lists.{every};
 ghost use Rattle.meaning.specs.Layout.{hit, entryAt};
-ghost use Rattle.meaning.specs.Entries.{primary};
+ghost use Rattle.meaning.specs.Entries.{inUsePrimary};
 ghost use Rattle.meaning.specs.Chain.{files};
 ghost use Rattle.meaning.specs.Consistent.{namesDiffer};
 ghost use Rattle.layout.specs.Room.{Room, Slot};
@@ -15,7 +15,7 @@ ghost use Rattle.check_names.specs.Buckets.{Hashed, Buckets, Linked, buc
 // Whether the entry of slot s, which is at `at`, starts a file.
 fn starts_file(image: &[u8], g: Geometry, s: usize, at: usize) -> bool
     requires { ⌜ Room g (now image) × Slot g (now image) s × (at ≡ entryAt g s) ⌝ }
-    ensures { λ r. ⌜ r ≡ primary g (now (image .entry)) s ⌝ }
+    ensures { λ r. ⌜ r ≡ inUsePrimary g (now (image .entry)) s ⌝ }
 {
     let f = layout::wide(image[at]);
     if (f >> 4) % 2 != 1 {
@@ -51,7 +51,7 @@ fn alone(image: &[u8], g: Geometry, s: usize, at: usize, first: usize, next: &[u
 
 // Puts slot s into the list of its HIT byte, unless an entry with its name is there. A slot's number plus 1 is a byte: no row has all 32 slots.
 fn joins(image: &[u8], g: Geometry, s: usize, at: usize, head: &mut [u8], next: &mut [u16]) -> bool
-    requires { ⌜ Room g (now image) × Slot g (now image) s × (at ≡ entryAt g s) × (primary g (now image) s ≡ true)
+    requires { ⌜ Room g (now image) × Slot g (now image) s × (at ≡ entryAt g s) × (inUsePrimary g (now image) s ≡ true)
         × Buckets g (now image) s (now head) (now next) ⌝ }
     ensures { λ r. ⌜ Joined g (now (image .entry)) s (now (head .exit)) (now (next .exit)) r ⌝ }
 {

@@ -12,16 +12,16 @@ use Rattle.meaning.specs.Lists.{every, lastOr, all, any}
 use Rattle.meaning.specs.Layout.{granules, taken, hit, directoryGranules}
 use Rattle.meaning.specs.Entries.{block, marker, link, runs, runsFrom}
 use Rattle.meaning.specs.Chain.{chainFrom}
-use Rattle.meaning.specs.Consistent.{pairsHold, followsBy, follows, linkHolds, runsHold, gatHolds, entryHolds}
+use Rattle.meaning.specs.Consistent.{pairsHold, followsBy, linkHoldsBy, runsHold, gatHolds, entryHolds}
 use Rattle.meaning.specs.declared.Geometry.{Geometry}
 use Rattle.layout.specs.Room.{Room}
-use Rattle.layout.proofs.Lists.{all-at, all-yes, all-none, not-no}
+use Rattle.lists.specs.Tests.{all-at, all-yes, all-none, not-no}
 use Rattle.check_map.specs.Owners.{shut, GatMap, weight, standing}
 use Rattle.check_map.proofs.Standing.{weight-low, weight-in, weight-out, standing-open, open-if}
 use Rattle.check_walk.specs.Walk.{goesOn, markerHolds, chainHolds}
-use Rattle.check_walk.proofs.Laws.{from-above}
-use Rattle.laws.specs.Members
-use Rattle.laws.specs.Members.{In}
+use Rattle.check_walk.proofs.WalkSteps.{from-above}
+use Rattle.lists.specs.Members
+use Rattle.lists.specs.Members.{In}
 use Rattle.laws.specs.Entry
 use Rattle.check_file.specs.Slots.{opens}
 use Rattle.check_file.proofs.Directory.{directory-lt}
@@ -71,15 +71,15 @@ module _ (g : Geometry) (d : List ℕ) where
   pub record Held (h s x : ℕ) : Type 0 where
     pub pairs : pairsHold g d x ≡ true
     pub runs-hold : runsHold g d x ≡ true
-    pub linked : linkHolds g d x ≡ true
+    pub linked : linkHoldsBy g d 0x90 x ≡ true
     pub hits : (x ≡ s) ⊎ (hit g d x ≡ h)
 
   some-run : (t : ℕ) → eqb (block g d t 0) 0xff ≡ false → 1 ≤ runs g d t
   unfolding runs runsFrom
   some-run t e = rw e (from-above g d t 3 1)
 
-  goes-follows : (h s : ℕ) → goesOn g d h s ≡ true → follows g d s (link g d s) ≡ true
-  unfolding goesOn follows
+  goes-follows : (h s : ℕ) → goesOn g d h s ≡ true → followsBy g d 0x90 s (link g d s) ≡ true
+  unfolding goesOn followsBy
   goes-follows h s e =
       all-yes (all-at _ e 2) _ ∙ all-yes (all-at _ e 3) _ ∙ all-yes (all-at _ e 4) _
       ∙ all-yes (le-leb _ _ (some-run (link g d s) (not-true (eqb (block g d (link g d s) 0) 0xff) (all-at _ e 5)))) _ ∙ all-none
@@ -96,22 +96,22 @@ module _ (g : Geometry) (d : List ℕ) where
   unfolding goesOn
   goes-hit h s e = all-at _ e 6
 
-  goes-links : (h s : ℕ) → goesOn g d h s ≡ true → all (eqb (marker g d s) 0xfe ∷ follows g d s (link g d s) ∷ eqb (runs g d s) 4 ∷ []) ≡ true
+  goes-links : (h s : ℕ) → goesOn g d h s ≡ true → all (eqb (marker g d s) 0xfe ∷ followsBy g d 0x90 s (link g d s) ∷ eqb (runs g d s) 4 ∷ []) ≡ true
   goes-links h s e = all-yes (goes-first h s e) _ ∙ all-yes (goes-follows h s e) _ ∙ all-yes (goes-second h s e) _ ∙ all-none
 
   open-marker : (h s : ℕ) (rest : Bool) → markerHolds g d h s rest ≡ true → T (eqb (marker g d s) 0xff) ⊎ T (all (goesOn g d h s ∷ rest ∷ []))
   unfolding markerHolds
   open-marker h s rest e = Members.any-e (eqb (marker g d s) 0xff) (all (goesOn g d h s ∷ rest ∷ [])) (Members.true-T e)
 
-  marker-links : (h s : ℕ) (rest : Bool) → markerHolds g d h s rest ≡ true → linkHolds g d s ≡ true
-  unfolding linkHolds follows followsBy
+  marker-links : (h s : ℕ) (rest : Bool) → markerHolds g d h s rest ≡ true → linkHoldsBy g d 0x90 s ≡ true
+  unfolding linkHoldsBy followsBy
   marker-links h s rest e = Members.T-true (go (open-marker h s rest e))
     where
       go : T (eqb (marker g d s) 0xff) ⊎ T (all (goesOn g d h s ∷ rest ∷ []))
-          → T (any (eqb (marker g d s) 0xff ∷ all (eqb (marker g d s) 0xfe ∷ follows g d s (link g d s) ∷ eqb (runs g d s) 4 ∷ []) ∷ []))
-      go (inl t) = Members.any-l (eqb (marker g d s) 0xff) (all (eqb (marker g d s) 0xfe ∷ follows g d s (link g d s) ∷ eqb (runs g d s) 4 ∷ [])) t
+          → T (any (eqb (marker g d s) 0xff ∷ all (eqb (marker g d s) 0xfe ∷ followsBy g d 0x90 s (link g d s) ∷ eqb (runs g d s) 4 ∷ []) ∷ []))
+      go (inl t) = Members.any-l (eqb (marker g d s) 0xff) (all (eqb (marker g d s) 0xfe ∷ followsBy g d 0x90 s (link g d s) ∷ eqb (runs g d s) 4 ∷ [])) t
       go (inr t) =
-          Members.any-r (eqb (marker g d s) 0xff) (all (eqb (marker g d s) 0xfe ∷ follows g d s (link g d s) ∷ eqb (runs g d s) 4 ∷ []))
+          Members.any-r (eqb (marker g d s) 0xff) (all (eqb (marker g d s) 0xfe ∷ followsBy g d 0x90 s (link g d s) ∷ eqb (runs g d s) 4 ∷ []))
           (Members.true-T (goes-links h s (all-at _ (Members.T-true t) 0)))
 
   pub chain-says : (h left s x : ℕ) → chainHolds g d h left s ≡ true → In x (chainFrom g d left s) → Held h s x
@@ -130,7 +130,7 @@ module _ (g : Geometry) (d : List ℕ) where
           record {
             pairs = ap (pairsHold g d) q ∙ all-at _ e 0;
             runs-hold = ap (runsHold g d) q ∙ all-at _ e 1;
-            linked = ap (linkHolds g d) q ∙ marker-links h s (chainHolds g d h left (link g d s)) marks;
+            linked = ap (linkHoldsBy g d 0x90) q ∙ marker-links h s (chainHolds g d h left (link g d s)) marks;
             hits = inl q;
           }
 
@@ -155,11 +155,11 @@ module _ (g : Geometry) (d : List ℕ) where
       go (inr j) r = into (eqb (marker g d s) 0xfe) refl j r
 
   -- the other way: every entry is sound and has the file's HIT byte, and the last has no next
-  pub record Good (h x : ℕ) : Type 0 where
+  pub record GoodEntry (h x : ℕ) : Type 0 where
     pub entry : Entry.Entry g d x
     pub hits : hit g d x ≡ h
 
-  holds-part : (x k : ℕ) → Entry.Entry g d x → getD (pairsHold g d x ∷ linkHolds g d x ∷ runsHold g d x ∷ gatHolds g d x ∷ []) k true ≡ true
+  holds-part : (x k : ℕ) → Entry.Entry g d x → getD (pairsHold g d x ∷ linkHoldsBy g d 0x90 x ∷ runsHold g d x ∷ gatHolds g d x ∷ []) k true ≡ true
   holds-part x k e = all-at _ (Members.T-true {b = entryHolds g d x} (Entry.says-entry g d x e)) k
 
   goes : (h s : ℕ) → Entry.Linked g d s → hit g d (link g d s) ≡ h → goesOn g d h s ≡ true
@@ -178,7 +178,7 @@ module _ (g : Geometry) (d : List ℕ) where
   marker-goes h s rest a b =
       Members.T-true (Members.any-r (eqb (marker g d s) 0xff) (all (goesOn g d h s ∷ rest ∷ [])) (Members.true-T (all-yes a _ ∙ all-yes b _ ∙ all-none)))
 
-  pub says-chain : (h left s : ℕ) → 1 ≤ left → ((x : ℕ) → In x (chainFrom g d left s) → Good h x) → marker g d (lastOr s (chainFrom g d left s)) ≡ 0xff
+  pub says-chain : (h left s : ℕ) → 1 ≤ left → ((x : ℕ) → In x (chainFrom g d left s) → GoodEntry h x) → marker g d (lastOr s (chainFrom g d left s)) ≡ 0xff
       → chainHolds g d h left s ≡ true
   unfolding chainHolds chainFrom lastOr
   says-chain h zero s l f m = absurd (let z : ⊥ = omega arith in z)
@@ -187,16 +187,16 @@ module _ (g : Geometry) (d : List ℕ) where
       all-yes (holds-part s 0 e) _ ∙ all-yes (holds-part s 2 e) _ ∙ all-yes (on left (e .linked) f m (says-chain h left (link g d s))) _ ∙ all-none
     where
       Rest : ℕ → Type 0
-      Rest left = 1 ≤ left → ((x : ℕ) → In x (chainFrom g d left (link g d s)) → Good h x) → marker g d (lastOr (link g d s) (chainFrom g d left (link g d s))) ≡ 0xff
+      Rest left = 1 ≤ left → ((x : ℕ) → In x (chainFrom g d left (link g d s)) → GoodEntry h x) → marker g d (lastOr (link g d s) (chainFrom g d left (link g d s))) ≡ 0xff
           → chainHolds g d h left (link g d s) ≡ true
 
       -- the chain goes on at the link
-      next : (left : ℕ) → Entry.Linked g d s → ((x : ℕ) → In x (s ∷ chainFrom g d left (link g d s)) → Good h x) → marker g d (lastOr s (chainFrom g d left (link g d s))) ≡ 0xff → Rest left
+      next : (left : ℕ) → Entry.Linked g d s → ((x : ℕ) → In x (s ∷ chainFrom g d left (link g d s)) → GoodEntry h x) → marker g d (lastOr s (chainFrom g d left (link g d s))) ≡ 0xff → Rest left
           → markerHolds g d h s (chainHolds g d h left (link g d s)) ≡ true
       next zero k f m r = absurd (let q = k .marked in let z : ⊥ = omega arith in z)
       next (suc left) k f m r = marker-goes h s _ (goes h s k (f (link g d s) (In.there In.here) .hits)) (r (omega arith) (λ x i. f x (In.there i)) m)
 
-      on : (left : ℕ) → (marker g d s ≡ 0xff) ⊎ Entry.Linked g d s → ((x : ℕ) → In x (s ∷ cond (eqb (marker g d s) 0xfe) (chainFrom g d left (link g d s)) []) → Good h x)
+      on : (left : ℕ) → (marker g d s ≡ 0xff) ⊎ Entry.Linked g d s → ((x : ℕ) → In x (s ∷ cond (eqb (marker g d s) 0xfe) (chainFrom g d left (link g d s)) []) → GoodEntry h x)
           → marker g d (lastOr s (cond (eqb (marker g d s) 0xfe) (chainFrom g d left (link g d s)) [])) ≡ 0xff → Rest left → markerHolds g d h s (chainHolds g d h left (link g d s)) ≡ true
       on left (inl q) f m r = marker-ends h s _ q
       on left (inr k) f m r = next left k (rw (eq-eqb _ _ (k .marked)) at f) (rw (eq-eqb _ _ (k .marked)) at m) r

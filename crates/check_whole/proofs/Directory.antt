@@ -4,12 +4,12 @@ use mathlib.Core.List.{List}
 use Prim.Native.Nat.{ℕ, _+_, _*_, _/_, _≤_}
 use native.Mathlib.Omega.{arith}
 use Rattle.meaning.specs.Layout.{directorySectors, granuleSectors, mostBlocks, roundUp, granules}
-use Rattle.meaning.specs.Sizes
+use Rattle.lists.specs.Sizes
 use Rattle.meaning.specs.declared.Geometry.{Geometry}
 use Rattle.layout.specs.Room.{Room}
 use Rattle.check_map.specs.Owners.{Window}
 use Rattle.check_map.specs.Eight.{Spans}
-use Rattle.check_walk.proofs.Laws.{on-map}
+use Rattle.check_walk.proofs.WalkSteps.{on-map}
 
 pub directory-on-map : (g : Geometry) (d : List ℕ) → Room g d → g .start / granuleSectors g + roundUp (directorySectors g d) (granuleSectors g) ≤ mostBlocks * g .units
 directory-on-map g d room = on-map g d (g .start / granuleSectors g + roundUp (directorySectors g d) (granuleSectors g)) room (Sizes.touched-inside (Sizes.sectors-pos g) (g .start) (directorySectors g d) (granules g) (room .directory))

@@ -1,5 +1,5 @@
 pub mod Maps
-pub mod Laws
+pub mod SlotBySlot
 pub mod Order
 pub mod Bridge
 pub mod Directory

@@ -7,11 +7,11 @@ use Prim.Native.Nat.{ℕ, _≤_}
 use native.Mathlib.Omega.{arith}
 use lib.ListN.{getD}
 use Rattle.meaning.specs.Lists.{each, keep}
-use Rattle.layout.proofs.Lists.{and-l, and-r}
+use Rattle.lists.specs.Tests.{and-l, and-r}
 use Rattle.check_map.specs.Marks.{marked, allows}
 pub use Rattle.check_map.proofs.Maps.{in-range, marked-out, marked-in, Open, allows-says, says-allows}
-use Rattle.laws.specs.Members
-use Rattle.laws.specs.Members.{In, Distinct}
+use Rattle.lists.specs.Members
+use Rattle.lists.specs.Members.{In, Distinct}
 use Rattle.check_file.specs.Slots.{opens}
 
 -- Slot after slot

@@ -11,11 +11,11 @@ use Rattle.meaning.specs.Lists.{count, every, each}
 use Rattle.meaning.specs.Layout.{slots, isSlot, directorySectors}
 use Rattle.meaning.specs.declared.Geometry.{Geometry}
 use Rattle.layout.specs.Room.{Room}
-use Rattle.layout.proofs.Lists.{all-at, all-yes, all-none, le-or-lt}
-use Rattle.layout.proofs.Sound.{slot-yes, slot-of}
+use Rattle.lists.specs.Tests.{all-at, all-yes, all-none, le-or-lt}
+use Rattle.layout.proofs.HasRoom.{slot-yes, slot-of}
 use Rattle.check_map.specs.Marks.{marked}
-use Rattle.laws.specs.Members
-use Rattle.laws.specs.Members.{In, Distinct}
+use Rattle.lists.specs.Members
+use Rattle.lists.specs.Members.{In, Distinct}
 use Rattle.laws.specs.Facts
 use Rattle.check_file.specs.Slots.{leastOf, slotFits, chainOf, ownedOf, opens, one, slotsFit}
 use Rattle.check_whole.specs.Slots.{by32, sectorSlots, diskSlots}

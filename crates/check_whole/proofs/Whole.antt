@@ -11,34 +11,33 @@ use borrow.Author.Tests.{eq-eqb, ne-eqb, eqb-true, eqb-false, le-leb, leb-true}
 use Rattle.meaning.specs.Lists.{count, every, each, keep, has, distinct, any}
 use Rattle.meaning.specs.Bits.{bit}
 use Rattle.meaning.specs.Layout.{granules, taken, field, hit, slots, isSlot, directoryGranules, granuleBytes, granuleSectors}
-use Rattle.meaning.specs.Sizes
+use Rattle.lists.specs.Sizes
 use Rattle.meaning.specs.Names.{hash}
-use Rattle.meaning.specs.Entries.{inUse, primary, system, runs, runStart, runLength, runGranules, entryGranules, nameOf, sectorCount, endByte, sizeOf}
+use Rattle.meaning.specs.Entries.{inUse, inUsePrimary, system, runs, runStart, runLength, runGranules, entryGranules, nameOf, sectorCount, endByte, sizeOf}
 use Rattle.meaning.specs.Chain.{chain, owned, files}
-use Rattle.meaning.specs.Consistent.{lengthHolds, hitHolds, runsHold, gatHolds, entryHolds, slotHolds, fileHolds, namesDiffer, met, consistent}
+use Rattle.meaning.specs.Consistent.{lengthHolds, hitHolds, runsHold, gatHolds, entryHolds, slotHolds, fileHolds, namesDiffer, met, consistent, countHolds}
 use Rattle.meaning.specs.declared.Geometry.{Geometry}
 use Rattle.layout.specs.Room.{Room, Slot}
-use Rattle.layout.proofs.Sound.{slot-yes}
-use Rattle.layout.proofs.Lists.{all-at, all-yes, all-no, all-none, any-last, not-yes, every-count, not-both}
+use Rattle.layout.proofs.HasRoom.{slot-yes}
+use Rattle.lists.specs.Tests.{all-at, all-yes, all-no, all-none, any-last, not-yes, every-count, not-both}
 use Rattle.check_map.specs.Marks.{marked}
 use Rattle.check_map.specs.Owners.{GatMap, standing}
 use Rattle.check_map.specs.Eight.{Among}
 use Rattle.check_walk.specs.Walk.{chainHolds, runHolds}
-use Rattle.laws.specs.Members
-use Rattle.laws.specs.Members.{In}
+use Rattle.lists.specs.Members
+use Rattle.lists.specs.Members.{In}
 use Rattle.laws.specs.Facts
-use Rattle.laws.specs.Facts.{File, Sound}
+use Rattle.laws.specs.Facts.{IsFile, Sound}
 use Rattle.laws.specs.Entry
 use Rattle.laws.specs.Change
 use Rattle.check_file.specs.Slots.{least, leastOf, nameFits, fileFits, slotFits, chainOf, ownedOf, one, slotsFit, Seen, Directory}
-use Rattle.entry.specs.Count.{countHolds}
 use Rattle.check_whole.specs.Slots.{diskSlots}
 use Rattle.check_met.specs.Met.{HitCopied, metAt}
 use Rattle.check_whole.proofs.Maps
 use Rattle.check_whole.proofs.Order.{fit-alike, marked-alike, disk-order}
 use Rattle.check_file.proofs.Directory.{all-open, open-all}
 use Rattle.check_whole.proofs.Bridge
-use Rattle.check_whole.proofs.Bridge.{Base, Held, Good}
+use Rattle.check_whole.proofs.Bridge.{Base, Held, GoodEntry}
 
 -- the image's bytes are bytes
 abbrev pub Bytes : List ℕ → Type 0
@@ -63,33 +62,33 @@ module _ (g : Geometry) (d : List ℕ) where
   unfolding least
   least-one s e = ap {B = ℕ} (λ (b : Bool). cond b 1 2) e
 
-  owned-of : (p : ℕ) → T (primary g d p) → ownedOf g d p ≡ owned g d p
+  owned-of : (p : ℕ) → T (inUsePrimary g d p) → ownedOf g d p ≡ owned g d p
   unfolding ownedOf
-  owned-of p t = rw (Members.T-true {b = primary g d p} t)
+  owned-of p t = rw (Members.T-true {b = inUsePrimary g d p} t)
 
-  of-chain : (p x : ℕ) → In x (chainOf g d p) → T (primary g d p) × In x (chain g d p)
+  of-chain : (p x : ℕ) → In x (chainOf g d p) → T (inUsePrimary g d p) × In x (chain g d p)
   unfolding chainOf
-  of-chain p x i = go (primary g d p) refl i
+  of-chain p x i = go (inUsePrimary g d p) refl i
     where
-      go : (b : Bool) → primary g d p ≡ b → In x (cond b (chain g d p) []) → T (primary g d p) × In x (chain g d p)
+      go : (b : Bool) → inUsePrimary g d p ≡ b → In x (cond b (chain g d p) []) → T (inUsePrimary g d p) × In x (chain g d p)
       go true e j = (Members.true-T e, j)
       go false e j = Members.none-in j
 
-  of-owned : (p x : ℕ) → In x (ownedOf g d p) → T (primary g d p) × In x (owned g d p)
+  of-owned : (p x : ℕ) → In x (ownedOf g d p) → T (inUsePrimary g d p) × In x (owned g d p)
   unfolding ownedOf
-  of-owned p x i = go (primary g d p) refl i
+  of-owned p x i = go (inUsePrimary g d p) refl i
     where
-      go : (b : Bool) → primary g d p ≡ b → In x (cond b (owned g d p) []) → T (primary g d p) × In x (owned g d p)
+      go : (b : Bool) → inUsePrimary g d p ≡ b → In x (cond b (owned g d p) []) → T (inUsePrimary g d p) × In x (owned g d p)
       go true e j = (Members.true-T e, j)
       go false e j = Members.none-in j
 
   all-chains : met g d ≡ each (chainOf g d) (slots g d)
   unfolding met files chainOf
-  all-chains = Maps.each-keep (primary g d) (chain g d) (slots g d)
+  all-chains = Maps.each-keep (inUsePrimary g d) (chain g d) (slots g d)
 
   all-owned : each (owned g d) (files g d) ≡ each (ownedOf g d) (slots g d)
   unfolding files ownedOf
-  all-owned = Maps.each-keep (primary g d) (owned g d) (slots g d)
+  all-owned = Maps.each-keep (inUsePrimary g d) (owned g d) (slots g d)
 
   entry-lt : (x n : ℕ) → runsHold g d x ≡ true → In n (entryGranules g d x) → n < granules g
   unfolding entryGranules runsHold
@@ -114,7 +113,7 @@ module _ (g : Geometry) (d : List ℕ) where
 
   -- the size fits exactly if the sector count does
   size-le : (p : ℕ) → Bytes d → countHolds (sectorCount g d p) (endByte g d p) ≡ true → sectorCount g d p ≤ granuleSectors g * length (owned g d p) → sizeOf g d p ≤ granuleBytes g * length (owned g d p)
-  unfolding sizeOf countHolds field
+  unfolding sizeOf field
   size-le p b c l = go (eqb (endByte g d p) 0) refl
     where
       go : (t : Bool) → eqb (endByte g d p) 0 ≡ t → cond (eqb (endByte g d p) 0) (256 * sectorCount g d p) (256 * (sectorCount g d p - 1) + endByte g d p) ≤ granuleBytes g * length (owned g d p)
@@ -158,25 +157,25 @@ module _ (g : Geometry) (d : List ℕ) where
     unfolding slotFits
     hit-fits s t = all-at _ (slot-fits s t) 0
 
-    file-fits : (p : ℕ) → File g d p → fileFits g d p ≡ true
+    file-fits : (p : ℕ) → IsFile g d p → fileFits g d p ≡ true
     unfolding slotFits
-    file-fits p f = any-last _ _ (all-at _ (slot-fits p (f .slot)) 1) (not-yes (Members.T-true {b = primary g d p} (f .primary′)))
+    file-fits p f = any-last _ _ (all-at _ (slot-fits p (f .slot)) 1) (not-yes (Members.T-true {b = inUsePrimary g d p} (f .primary′)))
 
-    pub hashed : (p : ℕ) → File g d p → hit g d p ≡ hash (nameOf g d p)
+    pub hashed : (p : ℕ) → IsFile g d p → hit g d p ≡ hash (nameOf g d p)
     unfolding fileFits nameFits
     hashed p f = eqb-true _ _ (all-at _ (all-at _ (file-fits p f) 1) 1)
 
-    held : (p s : ℕ) → File g d p → In s (chain g d p) → Held g d (hit g d p) p s
+    held : (p s : ℕ) → IsFile g d p → In s (chain g d p) → Held g d (hit g d p) p s
     unfolding fileFits chain
     held p s f i = Bridge.chain-says g d (hit g d p) (length (slots g d)) p s (all-at _ (file-fits p f) 3) i
 
-    covered : (s : ℕ) → T (isSlot g d s) → T (inUse g d s) → (p : ℕ) × File g d p × In s (chain g d p)
+    covered : (s : ℕ) → T (isSlot g d s) → T (inUse g d s) → (p : ℕ) × IsFile g d p × In s (chain g d p)
     covered s t u =
         go (eqb→eq _ _ (Members.every-all (metAt (marked seen 0 (each (chainOf g d) (slots g d)))) (Members.true-T all-met) (Facts.in-slots g d s t)))
         (Members.in? s (each (chainOf g d) (slots g d)))
       where
         go : _≡_ {A = ℕ} (getD (marked seen 0 (each (chainOf g d) (slots g d))) s 0) 0 → In s (each (chainOf g d) (slots g d)) ⊎ (In s (each (chainOf g d) (slots g d)) → ⊥)
-            → (p : ℕ) × File g d p × In s (chain g d p)
+            → (p : ℕ) × IsFile g d p × In s (chain g d p)
         go z (inl i) =
             let k = Members.each-in (chainOf g d) s (slots g d) i in
             let c = of-chain (k .0) s (k .2) in
@@ -185,10 +184,10 @@ module _ (g : Geometry) (d : List ℕ) where
             absurd (unused-hit s (hit-fits s t) u
             (sym (copy .is s (Facts.slot-lt g d s t)) ∙ sym (Maps.marked-out 0 s (each (chainOf g d) (slots g d)) seen f) ∙ z))
 
-    high : (p n : ℕ) → File g d p → In n (owned g d p) → leastOf g d p ≤ getD m n 0
+    high : (p n : ℕ) → IsFile g d p → In n (owned g d p) → leastOf g d p ≤ getD m n 0
     high p n f i = own .high p n (Facts.in-slots g d p (f .slot)) (rw (owned-of p (f .primary′)) i)
 
-    owned-lt : (p n : ℕ) → File g d p → In n (owned g d p) → n < granules g
+    owned-lt : (p n : ℕ) → IsFile g d p → In n (owned g d p) → n < granules g
     unfolding owned
     owned-lt p n f i =
         let k = Members.each-in (entryGranules g d) n (chain g d p) i in
@@ -198,7 +197,7 @@ module _ (g : Geometry) (d : List ℕ) where
     unfolding owned
     in-owned p s n i j = Members.in-each (entryGranules g d) i j
 
-    gat : (p s : ℕ) → File g d p → In s (chain g d p) → gatHolds g d s ≡ true
+    gat : (p s : ℕ) → IsFile g d p → In s (chain g d p) → gatHolds g d s ≡ true
     unfolding gatHolds
     gat p s f i =
         Members.T-true (Members.all-every (taken g d) (entryGranules g d s) (λ n j.
@@ -221,8 +220,8 @@ module _ (g : Geometry) (d : List ℕ) where
         Members.all-two (hitHolds g d s) (any (not (inUse g d s) ∷ entryHolds g d s ∷ [])) (Members.true-T (hit-fits s t))
         (Members.any-if (inUse g d s) (entryHolds g d s) (λ u. Members.true-T (entry-holds s t u)))))
 
-    filed : (p : ℕ) → File g d p → Entry.Filed g d p
-    unfolding fileFits nameFits countHolds
+    filed : (p : ℕ) → IsFile g d p → Entry.Filed g d p
+    unfolding fileFits nameFits
     filed p f =
         let e = file-fits p f in
         let n = all-at _ e 1 in
@@ -267,10 +266,10 @@ module _ (g : Geometry) (d : List ℕ) where
     c : Sound g d
     c = Facts.sound g d e
 
-    chain-low : (p x : ℕ) → File g d p → In x (chain g d p) → x < 256
+    chain-low : (p x : ℕ) → IsFile g d p → In x (chain g d p) → x < 256
     chain-low p x f i = Facts.slot-lt g d x (Change.members g d c p x f i .slot)
 
-    good : (p x : ℕ) → File g d p → In x (chain g d p) → Good g d (hit g d p) x
+    good : (p x : ℕ) → IsFile g d p → In x (chain g d p) → GoodEntry g d (hit g d p) x
     good p x f i =
         let k = Change.members g d c p x f i in
         let q = Change.filed-at g d c p f in
@@ -279,13 +278,13 @@ module _ (g : Geometry) (d : List ℕ) where
           hits = q .hashes x i ∙ sym (q .hashes p (Change.chain-head g d c p (f .slot)));
         }
 
-    chain-good : (p : ℕ) → File g d p → chainHolds g d (hit g d p) (length (slots g d)) p ≡ true
+    chain-good : (p : ℕ) → IsFile g d p → chainHolds g d (hit g d p) (length (slots g d)) p ≡ true
     unfolding chain
     chain-good p f =
         Bridge.says-chain g d (hit g d p) (length (slots g d)) p (Change.in-length (Facts.in-slots g d p (f .slot))) (λ x i. good p x f i) (Change.tail-marker g d c p f)
 
-    file-good : (p : ℕ) → File g d p → fileFits g d p ≡ true
-    unfolding fileFits nameFits countHolds
+    file-good : (p : ℕ) → IsFile g d p → fileFits g d p ≡ true
+    unfolding fileFits nameFits
     file-good p f =
         let q = Change.filed-at g d c p f in
         all-yes (Members.T-true (q .zero′)) _
@@ -298,8 +297,8 @@ module _ (g : Geometry) (d : List ℕ) where
     slots-good =
         Members.T-true (Members.all-every (slotFits g d) (slots g d) (λ s i.
         let t = Facts.slots-in g d s i in
-        Members.all-two (hitHolds g d s) (any (not (primary g d s) ∷ fileFits g d s ∷ [])) (c .hits s t)
-        (Members.any-if (primary g d s) (fileFits g d s) (λ u. Members.true-T (file-good s (record { slot = t; primary′ = u }))))))
+        Members.all-two (hitHolds g d s) (any (not (inUsePrimary g d s) ∷ fileFits g d s ∷ [])) (c .hits s t)
+        (Members.any-if (inUsePrimary g d s) (fileFits g d s) (λ u. Members.true-T (file-good s (record { slot = t; primary′ = u }))))))
 
     owned-open : Maps.Opens m (leastOf g d) (ownedOf g d) (slots g d)
     unfolding consistent
@@ -309,7 +308,7 @@ module _ (g : Geometry) (d : List ℕ) where
           once = rw (← all-owned) (Members.distinct-says _ (Members.true-T (all-at _ e 6)));
         }
       where
-        at : (s n : ℕ) → File g d s → In n (owned g d s) → (t : Bool) → system g d s ≡ t → leastOf g d s ≤ getD m n 0
+        at : (s n : ℕ) → IsFile g d s → In n (owned g d s) → (t : Bool) → system g d s ≡ t → leastOf g d s ≤ getD m n 0
         at s n f i true q =
             let l = least-one s q in
             let o = b .open-one n (Change.owned-lt g d c s n f i) (Change.owned-taken g d c s n f i) in omega arith
@@ -325,7 +324,7 @@ module _ (g : Geometry) (d : List ℕ) where
           once = rw (← all-chains) (Members.distinct-says _ (Members.true-T (all-at _ e 4)));
         }
       where
-        at : (s n : ℕ) → File g d s → In n (chain g d s) → 1 ≤ getD seen n 0
+        at : (s n : ℕ) → IsFile g d s → In n (chain g d s) → 1 ≤ getD seen n 0
         at s n f i =
             let k = Change.members g d c s n f i in
             let w = copy .is n (chain-low s n f i) in
@@ -380,7 +379,7 @@ module _ (g : Geometry) (d m : List ℕ) (room : Room g d) (w : GatMap g d m) wh
     no-met e = by-way g d (λ q. not-both (maps-met g d q (standing g d m) _ (Bridge.base g d m room w) copy) e)
 
     pub hashes : lengthHolds g d ≡ true → Bytes d → slotsFit g d (standing g d m) seen (slots g d) ≡ true
-        → every (metAt (marked seen 0 (each (chainOf g d) (slots g d)))) (slots g d) ≡ true → (p : ℕ) → File g d p → hit g d p ≡ hash (nameOf g d p)
+        → every (metAt (marked seen 0 (each (chainOf g d) (slots g d)))) (slots g d) ≡ true → (p : ℕ) → IsFile g d p → hit g d p ≡ hash (nameOf g d p)
     hashes l y f a = hashed g d l _ _ (Bridge.base g d m room w) copy y dt f a
 
     pub by-names : lengthHolds g d ≡ true → Bytes d → slotsFit g d (standing g d m) seen (slots g d) ≡ true
@@ -413,7 +412,7 @@ module _ (g : Geometry) (d : List ℕ) (room : Room g d) {m m₂ seen met₂ : L
   pub way-met : {q : Bool} → r ≡ true → q ≡ every (metAt met₂) (slots g d) → q ≡ false → false ≡ consistent g d
   way-met e f n = no-met g d m room w open′ seen copy (sym (met-is e f) ∙ n)
 
-  pub way-hashed : {q : Bool} → r ≡ true → q ≡ every (metAt met₂) (slots g d) → q ≡ true → lengthHolds g d ≡ true → Bytes d → (p : ℕ) → Slot g d p → primary g d p ≡ true
+  pub way-hashed : {q : Bool} → r ≡ true → q ≡ every (metAt met₂) (slots g d) → q ≡ true → lengthHolds g d ≡ true → Bytes d → (p : ℕ) → Slot g d p → inUsePrimary g d p ≡ true
       → hit g d p ≡ hash (nameOf g d p)
   way-hashed e f n l y p sl u =
       hashes g d m room w open′ seen copy l y (sym fit-is ∙ e) (sym (met-is e f) ∙ n) p (record { slot = Members.true-T (slot-yes g d p (sl .low) (sl .held)); primary′ = Members.true-T u })

@@ -8,7 +8,7 @@ use Rattle.meaning.specs.Layout.{granules, directorySectors, granuleBytes, gran
 use Rattle.meaning.specs.declared.Geometry.{Geometry}
 
 -- the geometry and the image's length fit
-pub record Fits (g : Geometry) (d : List ℕ) : Type 0 where
+pub record FitsImage (g : Geometry) (d : List ℕ) : Type 0 where
   pub blocks-low : 1 ≤ g .blocks
   pub blocks-high : g .blocks ≤ mostBlocks
   pub units-low : 1 ≤ g .units

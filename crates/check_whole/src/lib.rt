@@ -7,12 +7,12 @@ ghost use Rattle.meaning.specs.Consistent.{lengthHolds, consistent};
 ghost use Rattle.layout.specs.Room.{Room};
 ghost use Rattle.check_map.specs.Owners.{standing};
 ghost use Rattle.check_map.specs.Eight.{Spans};
-ghost use Rattle.check_whole.specs.Slots.{Fits, sectorSlots, diskSlots};
+ghost use Rattle.check_whole.specs.Slots.{FitsImage, sectorSlots, diskSlots};
 ghost use Rattle.check_file.specs.Slots.{Seen, Directory};
 
 // Whether the 1FH byte is allowed and the directory fits the image.
 pub fn length_holds(image: &[u8], g: Geometry) -> bool
-    requires { ⌜ Fits g (now image) ⌝ }
+    requires { ⌜ FitsImage g (now image) ⌝ }
     ensures { λ r. ⌜ r ≡ lengthHolds g (now (image .entry)) ⌝ }
 {
     let above = layout::wide(image[256 * (g.start + 1) + 31]);
@@ -101,7 +101,7 @@ fn directory_bits(image: &[u8], g: Geometry, from: usize) -> u64
 
 // Whether the disk is consistent. The geometry and the image's length fit.
 pub fn consistent(image: &[u8], g: Geometry) -> bool
-    requires { ⌜ Fits g (now image) ⌝ }
+    requires { ⌜ FitsImage g (now image) ⌝ }
     ensures { λ r. ⌜ r ≡ consistent g (now (image .entry)) ⌝ }
 {
     if !length_holds(image, g) {

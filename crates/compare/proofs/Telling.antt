@@ -11,18 +11,19 @@ use lib.Dec.{T, eqb, leb, leb→le}
 use borrow.Author.Tests.{ne-eqb, eq-eqb}
 use Rattle.meaning.specs.Refusal.{unplaced, naming}
 use Rattle.meaning.specs.declared.Refusal.{Refusal}
-use Rattle.meaning.specs.Lists.{count, length-count, keep, all}
+use Rattle.meaning.specs.Lists.{count, keep, all}
+use Rattle.lists.specs.Members.{length-count}
 use Rattle.meaning.specs.Layout.{slots, isSlot, field}
 use Rattle.meaning.specs.Names.{letter, wellFormed}
-use Rattle.meaning.specs.Entries.{primary, nameOf}
+use Rattle.meaning.specs.Entries.{inUsePrimary, nameOf}
 use Rattle.meaning.specs.Chain.{files}
 use Rattle.meaning.specs.Refusals.{check}
 use Rattle.meaning.specs.declared.Geometry.{Geometry}
-use Rattle.laws.specs.Members
+use Rattle.lists.specs.Members
 use Rattle.laws.specs.Facts as facts
 use Rattle.laws.specs.Change as change
-use Rattle.handle.proofs.Laws.{checked}
-use Rattle.seek.proofs.Sound.{sound}
+use Rattle.passed.proofs.Checked.{checked}
+use Rattle.seek.proofs.IsWalkable.{sound}
 use Rattle.differences.specs.Compare.{before, difference, isOne, tellsNone, tellFirst, names, merged, at′, differences, compare}
 use Rattle.differences.specs.Order.{before-less, rising-length, keep-yes, keep-no, keep-whole}
 use Rattle.differences.specs.declared.Difference.{Difference}
@@ -53,7 +54,7 @@ slots-length g d = keep-under (isSlot g d) (count 0 256) (subst (λ (n : ℕ). n
 
 files-length : (g : Geometry) (d : List ℕ) → length (files g d) ≤ 256
 unfolding files
-files-length g d = keep-under (primary g d) (slots g d) (slots-length g d)
+files-length g d = keep-under (inUsePrimary g d) (slots g d) (slots-length g d)
 
 names-length : (g : Geometry) (d : List ℕ) → length (names g d) ≤ 256
 unfolding names

@@ -13,8 +13,8 @@ use Rattle.meaning.specs.Entries.{nameOf, sizeOf, system}
 use Rattle.meaning.specs.Read.{fetch}
 use Rattle.meaning.specs.Plain.{fileAt}
 use Rattle.meaning.specs.declared.Geometry.{Geometry}
-use Rattle.layout.proofs.Lists.{any-skip, any-hit}
-use Rattle.read.proofs.Laws.{length-fetch}
+use Rattle.lists.specs.Tests.{any-skip, any-hit}
+use Rattle.read.proofs.ReadParts.{length-fetch}
 use Rattle.differences.specs.Compare.{parting, nameOnly, unlike, difference}
 use Rattle.differences.specs.Parting.{same-parting}
 use Rattle.differences.specs.declared.Difference.{Difference}

@@ -9,7 +9,7 @@ use Rattle.meaning.specs.Lists.{all}
 use Rattle.meaning.specs.Layout.{field}
 use Rattle.meaning.specs.Plain.{fileAt}
 use Rattle.meaning.specs.declared.Geometry.{Geometry}
-use Rattle.layout.proofs.Lists.{all-no, all-yes, all-one}
+use Rattle.lists.specs.Tests.{all-no, all-yes, all-one}
 use Rattle.compare_attributes.specs.Attributes.{differsAt, datesDiffer, othersDiffer}
 
 module _ (g : Geometry) (d : List ℕ) (h : Geometry) (e : List ℕ) where

@@ -12,10 +12,10 @@ use Rattle.meaning.specs.Entries.{sizeOf, inUse}
 use Rattle.meaning.specs.Chain.{owned, place}
 use Rattle.meaning.specs.Read.{fetch}
 use Rattle.meaning.specs.declared.Geometry.{Geometry}
-use Rattle.layout.proofs.Lists.{and-l, le-or-lt}
+use Rattle.lists.specs.Tests.{and-l, le-or-lt}
 use Rattle.seek.specs.Seek.{Used}
-use Rattle.read.specs.Part.{File, Owned, InGranule}
-use Rattle.read.proofs.Laws.{place-fits, fetch-part, fetch-append, length-fetch}
+use Rattle.read.specs.Part.{Readable, Owned, InGranule}
+use Rattle.read.proofs.ReadParts.{place-fits, fetch-part, fetch-append, length-fetch}
 use Rattle.differences.specs.Compare.{parting}
 use Rattle.differences.specs.Parting.{parting-none, parting-nothing, parting-on, parting-here, parting-past, parting-in}
 use Rattle.compare_order.specs.Whole.{Whole, Starts}
@@ -56,7 +56,7 @@ module _ (g : Geometry) (d : List ℕ) (s : ℕ) (w : Whole g d) (st : Starts g 
   used = record { slot = st .slot; used = and-l (inUse g d s) _ (st .first′) }
 
   module _ (i n : ℕ) (b : 1 ≤ n) (inside : InGranule g i n) (y : i + n ≤ sizeOf g d s) (z : i + n ≤ 16777215) where
-    file : File g d s
+    file : Readable g d s
     file = record { sound = w .sound; used = used }
 
     held : Owned g d s i n

@@ -8,10 +8,10 @@ use native.Mathlib.Omega.{arith}
 use native.Mathlib.Decide.{ℕ-discrete}
 use borrow.Author.Tests.{eq-eqb, ne-eqb}
 use Rattle.meaning.specs.Layout.{directorySectors}
-use Rattle.meaning.specs.Entries.{primary, nameOf}
+use Rattle.meaning.specs.Entries.{inUsePrimary, nameOf}
 use Rattle.meaning.specs.declared.Geometry.{Geometry}
 use Rattle.layout.specs.Room.{Slot}
-use Rattle.layout.proofs.Lists.{all-at, all-yes, all-no, all-one, any-skip, any-hit, any-one, le-or-lt}
+use Rattle.lists.specs.Tests.{all-at, all-yes, all-no, all-one, any-skip, any-hit, any-one, le-or-lt}
 use Rattle.differences.specs.Compare.{before}
 use Rattle.differences.specs.Order.{never, before-self, before-back, before-on, before-neither}
 use Rattle.compare_order.specs.Whole.{Starts}
@@ -29,34 +29,34 @@ before-not a b c h k = by (before a c) refl (before b a) refl
 module _ (g : Geometry) (d : List ℕ) (last : List ℕ) where
   module _ (best s : ℕ) where
     -- the tests of a better one, as the code makes them
-    pub betters-first : primary g d s ≡ false → false ≡ betters g d last best s
+    pub betters-first : inUsePrimary g d s ≡ false → false ≡ betters g d last best s
     unfolding betters
     betters-first h = sym (all-no h _)
 
-    pub betters-after : primary g d s ≡ true → before last (nameOf g d s) ≡ false → false ≡ betters g d last best s
+    pub betters-after : inUsePrimary g d s ≡ true → before last (nameOf g d s) ≡ false → false ≡ betters g d last best s
     unfolding betters
     betters-after h k = sym (all-yes h _ ∙ all-no k _)
 
-    pub betters-none : primary g d s ≡ true → before last (nameOf g d s) ≡ true → best ≡ 256 → true ≡ betters g d last best s
+    pub betters-none : inUsePrimary g d s ≡ true → before last (nameOf g d s) ≡ true → best ≡ 256 → true ≡ betters g d last best s
     unfolding betters
     betters-none h k e = sym (all-yes h _ ∙ all-yes k _ ∙ all-one _ ∙ any-hit (eq-eqb best 256 e) _)
 
-    pub betters-than : {r : Bool} → primary g d s ≡ true → before last (nameOf g d s) ≡ true → (best ≡ 256 → ⊥) → r ≡ before (nameOf g d s) (nameOf g d best) → r ≡ betters g d last best s
+    pub betters-than : {r : Bool} → inUsePrimary g d s ≡ true → before last (nameOf g d s) ≡ true → (best ≡ 256 → ⊥) → r ≡ before (nameOf g d s) (nameOf g d best) → r ≡ betters g d last best s
     unfolding betters
     betters-than h k e f = f ∙ sym (all-yes h _ ∙ all-yes k _ ∙ all-one _ ∙ any-skip (ne-eqb best 256 e) _ ∙ any-one _)
 
     -- a slot that is not better
-    no-after : betters g d last best s ≡ false → primary g d s ≡ true → best ≡ 256 → before last (nameOf g d s) ≡ false
+    no-after : betters g d last best s ≡ false → inUsePrimary g d s ≡ true → best ≡ 256 → before last (nameOf g d s) ≡ false
     no-after b h e = by (before last (nameOf g d s)) refl
       where
         by : (t : Bool) → before last (nameOf g d s) ≡ t → before last (nameOf g d s) ≡ false
         by false k = k
         by true k = never (betters-none h k e ∙ b)
 
-    no-less : betters g d last best s ≡ false → primary g d s ≡ true → before last (nameOf g d s) ≡ true → (best ≡ 256 → ⊥) → before (nameOf g d s) (nameOf g d best) ≡ false
+    no-less : betters g d last best s ≡ false → inUsePrimary g d s ≡ true → before last (nameOf g d s) ≡ true → (best ≡ 256 → ⊥) → before (nameOf g d s) (nameOf g d best) ≡ false
     no-less b h k e = betters-than h k e refl ∙ b
 
-    yes-first : betters g d last best s ≡ true → primary g d s ≡ true
+    yes-first : betters g d last best s ≡ true → inUsePrimary g d s ≡ true
     unfolding betters
     yes-first b = all-at _ b 0
 
@@ -97,14 +97,14 @@ module _ (g : Geometry) (d : List ℕ) (last : List ℕ) where
     least-no b =
         record {
           low = k .low;
-          none = λ e p l st. ⊎-elim (λ q. let z : s ≡ p = omega arith in subst (λ (x : ℕ). before last (nameOf g d x) ≡ false) z (no-after best s b (subst (λ (x : ℕ). primary g d x ≡ true) (sym z) (st .first′)) e)) (λ q. k .none e p q st) (le-or-lt s p);
+          none = λ e p l st. ⊎-elim (λ q. let z : s ≡ p = omega arith in subst (λ (x : ℕ). before last (nameOf g d x) ≡ false) z (no-after best s b (subst (λ (x : ℕ). inUsePrimary g d x ≡ true) (sym z) (st .first′)) e)) (λ q. k .none e p q st) (le-or-lt s p);
           is = k .is;
           after = k .after;
           least = λ e p l st a.
               ⊎-elim
               (λ q. let z : s ≡ p = omega arith in
               subst (λ (x : ℕ). before (nameOf g d x) (nameOf g d best) ≡ false) z
-              (no-less best s b (subst (λ (x : ℕ). primary g d x ≡ true) (sym z) (st .first′)) (subst (λ (x : ℕ). before last (nameOf g d x) ≡ true) (sym z) a) (λ w. let v : ⊥ = omega arith in v)))
+              (no-less best s b (subst (λ (x : ℕ). inUsePrimary g d x ≡ true) (sym z) (st .first′)) (subst (λ (x : ℕ). before last (nameOf g d x) ≡ true) (sym z) a) (λ w. let v : ⊥ = omega arith in v)))
               (λ q. k .least e p q st a) (le-or-lt s p);
         }
 

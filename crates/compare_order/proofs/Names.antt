@@ -11,7 +11,8 @@ use lib.Dec.{eqb, ltb}
 use borrow.Author.Tests.{eq-eqb, ne-eqb}
 use Rattle.meaning.specs.Entries.{nameOf}
 use Rattle.meaning.specs.declared.Geometry.{Geometry}
-use Rattle.layout.proofs.Laws.{left-more, left-none, name-part}
+use Rattle.layout.proofs.OneStep.{name-part}
+use Rattle.lists.specs.Ranges.{left-more, left-none}
 use Rattle.differences.specs.Compare.{before}
 use Rattle.compare_order.specs.Walk.{Placed}
 

@@ -10,10 +10,10 @@ use Rattle.meaning.specs.Entries.{nameOf}
 use Rattle.meaning.specs.Chain.{files}
 use Rattle.meaning.specs.Plain.{found, nothing, fileAt, plain}
 use Rattle.meaning.specs.declared.Geometry.{Geometry}
-use Rattle.laws.specs.Members.{true-T, T-true}
+use Rattle.lists.specs.Members.{true-T, T-true}
 use Rattle.laws.specs.Facts as facts
 use Rattle.laws.specs.Named as named
-use Rattle.layout.proofs.Sound.{slot-of, slot-yes}
+use Rattle.layout.proofs.HasRoom.{slot-of, slot-yes}
 use Rattle.differences.specs.Compare.{before, names, merged}
 use Rattle.differences.specs.Order.{In, never, before-self, before-back, before-neither, in-left, in-right, in-either, in-map, map-in, Rises, rising-rises, rising-in, in-rising, keep-none, next-name}
 use Rattle.compare_order.specs.Whole.{Whole, Starts}
@@ -21,10 +21,10 @@ use Rattle.compare_order.specs.Walk.{Least, later, nameAt, onFirst, onSe
 use Rattle.compare_order.proofs.Lowest.{before-not}
 
 module _ (g : Geometry) (d : List ℕ) where
-  pub starts-file : (p : ℕ) → Starts g d p → facts.File g d p
+  pub starts-file : (p : ℕ) → Starts g d p → facts.IsFile g d p
   starts-file p s = record { slot = true-T (slot-yes g d p (s .slot .low) (s .slot .held)); primary′ = true-T (s .first′) }
 
-  pub file-starts : (p : ℕ) → facts.File g d p → Starts g d p
+  pub file-starts : (p : ℕ) → facts.IsFile g d p → Starts g d p
   file-starts p f = record { slot = slot-of g d p (T-true (f .slot)); first′ = T-true (f .primary′) }
 
   name-in : (p : ℕ) → Starts g d p → In (nameOf g d p) (names g d)

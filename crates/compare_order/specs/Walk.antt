@@ -7,7 +7,7 @@ use lib.Dec.{eqb}
 use lib.ListN.{length}
 use Rattle.meaning.specs.Lists.{all, any, keep}
 use Rattle.meaning.specs.Layout.{entryAt}
-use Rattle.meaning.specs.Entries.{primary, nameOf}
+use Rattle.meaning.specs.Entries.{inUsePrimary, nameOf}
 use Rattle.meaning.specs.Plain.{Found, found, nothing, fileAt, plain}
 use Rattle.meaning.specs.declared.Geometry.{Geometry}
 use Rattle.differences.specs.Compare.{before, merged}
@@ -23,7 +23,7 @@ module _ (g : Geometry) (d : List ℕ) where
   -- slot s starts a file with a name after `last` and before that of slot `best`, where that is a slot
   unfoldable pub betters : List ℕ → ℕ → ℕ → Bool
   betters last best s =
-      all (primary g d s ∷ before last (nameOf g d s) ∷ any (eqb best 256 ∷ before (nameOf g d s) (nameOf g d best) ∷ []) ∷ [])
+      all (inUsePrimary g d s ∷ before last (nameOf g d s) ∷ any (eqb best 256 ∷ before (nameOf g d s) (nameOf g d best) ∷ []) ∷ [])
 
   -- of the files below slot s the one with the least name after `last` is at `best`; 256: none of them has a name after it
   pub record Least (last : List ℕ) (s best : ℕ) : Type 0 where

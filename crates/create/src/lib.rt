@@ -10,7 +10,8 @@ ghost use Prim.Native.Nat.{_+_, _*_, _<_, _≤_};
 ghost use lib.ListN.{length};
 ghost use Rattle.meaning.specs.Layout.{entryAt};
 ghost use Rattle.meaning.specs.Refusal.{carried};
-ghost use Rattle.meaning.specs.Refusals.{check, newInRange, noHandle};
+ghost use Rattle.meaning.specs.Refusals.{check, newInRange};
+ghost use Rattle.meaning.specs.Handles.{noHandle};
 ghost use Rattle.meaning.specs.Create.{create, withEntry};
 
 // Date and record length are in range.

@@ -9,7 +9,7 @@ use lib.Dec.{T, ltb}
 use lib.ListN.{length}
 use borrow.Author.Tests.{ltb-true, ltb-false, lt-ltb, le-ltb, eq-eqb, ne-eqb}
 use Rattle.meaning.specs.Lists.{keep, same}
-use Rattle.laws.specs.Members
+use Rattle.lists.specs.Members
 use Rattle.differences.specs.Compare.{before, put, rising}
 
 -- Two bytes --------------------------------------------------------------------------------------------------------------

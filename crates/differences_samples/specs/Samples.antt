@@ -5,7 +5,7 @@ use mathlib.Core.Bool.{true, false}
 use mathlib.Core.List.{List, [], _∷_, _++_}
 use lib.ListN.{replicate}
 use Rattle.meaning.specs.Refusal.{unplaced, placed, naming}
-use Rattle.meaning.specs.Samples.{laid, puls, leer, three, hits, e80, e81, gaps, filled, opened}
+use Rattle.meaning_table.specs.Samples.{laid, puls, leer, three, hits, e80, e81, gaps, filled, opened}
 use Rattle.meaning.specs.declared.Geometry.{Geometry}
 use Rattle.differences.specs.Compare.{before, put, rising, parting, unlike, difference, isOne, tellFirst, names, merged, differences, compare, nameOnly, tellsNone}
 
@@ -31,7 +31,7 @@ moved = one full (entry 0x10 0x3a 0x03 leer 0x01 0x00) 3840 (0x61 ∷ 0x62 ∷ 0
 
 -- the same on a disk of 6 blocks of 2 units
 abbrev two : Geometry
-two = record { blocks = 6; units = 2; start = 0; anyone = 0x9999; system = true; granule = 5 }
+two = record { blocks = 6; units = 2; start = 0; noPassword = 0x9999; system = true; granule = 5 }
 
 abbrev halved : List ℕ
 halved = one (replicate 6 0x03) (entry 0x10 0x3a 0x03 leer 0x01 0x00) 2560 (0x61 ∷ 0x62 ∷ 0x63 ∷ [])

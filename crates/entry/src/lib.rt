@@ -7,9 +7,8 @@ ghost use Rattle.meaning.specs.Bits.{bit};
 ghost use Rattle.meaning.specs.Layout.{field};
 ghost use Rattle.meaning.specs.Entries.{sectorCount, endByte};
 ghost use Rattle.meaning.specs.Chain.{owned};
-ghost use Rattle.meaning.specs.Consistent.{followsBy, nameHolds, sizeHolds};
+ghost use Rattle.meaning.specs.Consistent.{followsBy, nameHolds, sizeHolds, countHolds};
 ghost use Rattle.layout.specs.Room.{Room, Slot};
-ghost use Rattle.entry.specs.Count.{countHolds};
 
 // Whether bit u of an entry's flags is set.
 pub fn flag(image: &[u8], g: Geometry, s: usize, u: usize) -> bool

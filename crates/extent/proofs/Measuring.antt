@@ -7,16 +7,18 @@ use native.Mathlib.Omega.{arith}
 use native.Mathlib.Numerals.{add-one}
 use lib.ListN.{length, length-append}
 use borrow.Author.Tests.{eq-eqb, ne-eqb}
-use Rattle.meaning.specs.Lists.{count, each, lastOr, length-count}
+use Rattle.meaning.specs.Lists.{count, each, lastOr}
+use Rattle.lists.specs.Members.{length-count}
 use Rattle.meaning.specs.Layout.{slots, directorySectors}
-use Rattle.meaning.specs.Entries.{block, second, runs, runsFrom, runLength, runGranules, entryGranules, marker, link}
+use Rattle.meaning.specs.Entries.{block, pairByte, runs, runsFrom, runLength, runGranules, entryGranules, marker, link}
 use Rattle.meaning.specs.Chain.{chainFrom, chain, owned}
 use Rattle.meaning.specs.declared.Geometry.{Geometry}
-use Rattle.laws.specs.Members
+use Rattle.lists.specs.Members
 use Rattle.layout.specs.Room.{Below}
-use Rattle.layout.proofs.Laws.{left-more, left-none, runs-more, runs-none}
-use Rattle.seek.specs.Seek.{Sound, Used, onward}
-use Rattle.seek.proofs.Laws.{chain-more, chain-none, slots-length}
+use Rattle.layout.proofs.OneStep.{runs-more, runs-none}
+use Rattle.lists.specs.Ranges.{left-more, left-none}
+use Rattle.seek.specs.Seek.{Walkable, Used, onward}
+use Rattle.seek.proofs.SeekSteps.{chain-more, chain-none, slots-length}
 use Rattle.extent.specs.Reach.{Reaches}
 
 module _ (g : Geometry) (d : List ℕ) where
@@ -40,7 +42,7 @@ module _ (g : Geometry) (d : List ℕ) where
       ∙ length-append (each (runGranules g d s) (count 0 k)) (each (runGranules g d s) ((0 + k) ∷ []))
       ∙ ap (λ (j : ℕ). length (each (runGranules g d s) (count 0 k)) + j) (ap {B = ℕ} length (Members.each-one (runGranules g d s) (0 + k)) ∙ length-count _ _ ∙ ap (runLength g d s) (omega arith))
 
-  pub counting-step : {s k n m : ℕ} → Counting s k n → k < 4 → (block g d s k ≡ 0xff → ⊥) → m ≡ second g d s k → Counting s (k + 1) (n + (1 + m % 32))
+  pub counting-step : {s k n m : ℕ} → Counting s k n → k < 4 → (block g d s k ≡ 0xff → ⊥) → m ≡ pairByte g d s k → Counting s (k + 1) (n + (1 + m % 32))
   counting-step {s} {k} {n} {m} c h f e = record {
     rest =
         c .rest ∙ ap (λ (j : ℕ). runsFrom g d s j k) (left-more h) ∙ runs-more g d s (4 - (k + 1)) k
@@ -106,7 +108,7 @@ module _ (g : Geometry) (d : List ℕ) where
   onward-no : (left at : ℕ) {m : ℕ} → m ≡ marker g d at → (m ≡ 0xfe → ⊥) → onward g d left at ≡ []
   onward-no left at e f = ap (λ (b : Bool). cond b (chainFrom g d left (link g d at)) []) (ne-eqb (marker g d at) 0xfe (λ q. f (e ∙ q)))
 
-  pub measuring-step : {s most at last n left m k t : ℕ} → Sound g d → Measuring s most at last n left → 0 < left → Below 129 (length (entryGranules g d at)) m
+  pub measuring-step : {s most at last n left m k t : ℕ} → Walkable g d → Measuring s most at last n left → 0 < left → Below 129 (length (entryGranules g d at)) m
       → k ≡ marker g d at → k ≡ 0xfe → t ≡ link g d at → Measuring s most t at (n + m) (left - 1)
   measuring-step {s} {most} {at} {last} {n} {left} {m} {k} {t} snd c h b e f q =
       let o = onward-yes (left - 1) at e f q in
@@ -117,7 +119,7 @@ module _ (g : Geometry) (d : List ℕ) where
         small = omega (arith, c .small, b .small);
       }
 
-  reached : {s most n e : ℕ} → Sound g d → most ≡ 8 * (directorySectors g d - 2) → lastOr s (chainFrom g d most s) ≡ e → length (each (entryGranules g d) (chainFrom g d most s)) ≡ n → n ≤ 128 * most
+  reached : {s most n e : ℕ} → Walkable g d → most ≡ 8 * (directorySectors g d - 2) → lastOr s (chainFrom g d most s) ≡ e → length (each (entryGranules g d) (chainFrom g d most s)) ≡ n → n ≤ 128 * most
       → Reaches g d s (record { last = e; owned = n })
   unfolding owned chain
   reached {s} {most} {n} {e} snd q u v h =
@@ -129,14 +131,14 @@ module _ (g : Geometry) (d : List ℕ) where
         small = omega arith;
       }
 
-  pub measuring-stop : {s most at last n left m k : ℕ} → Sound g d → most ≡ 8 * (directorySectors g d - 2) → Measuring s most at last n left → 0 < left → Below 129 (length (entryGranules g d at)) m
+  pub measuring-stop : {s most at last n left m k : ℕ} → Walkable g d → most ≡ 8 * (directorySectors g d - 2) → Measuring s most at last n left → 0 < left → Below 129 (length (entryGranules g d at)) m
       → k ≡ marker g d at → (k ≡ 0xfe → ⊥) → Reaches g d s (record { last = at; owned = n + m })
   measuring-stop {s} {most} {at} {last} {n} {left} {m} {k} snd w c h b e f =
       let o = onward-no (left - 1) at e f in
       reached snd w (c .ends ∙ ap (lastOr last) (chain-cons left at h ∙ ap (λ (l : List ℕ). at ∷ l) o) ∙ last-cons last at [] ∙ last-none at)
       (counted c h (b .is) ∙ ap (λ (l : List ℕ). n + m + length (each (entryGranules g d) l)) o ∙ omega arith) (omega (arith, c .small, b .small))
 
-  pub measuring-end : {s most at last n left : ℕ} → Sound g d → most ≡ 8 * (directorySectors g d - 2) → Measuring s most at last n left → left ≤ 0 → Reaches g d s (record { last = last; owned = n })
+  pub measuring-end : {s most at last n left : ℕ} → Walkable g d → most ≡ 8 * (directorySectors g d - 2) → Measuring s most at last n left → left ≤ 0 → Reaches g d s (record { last = last; owned = n })
   measuring-end {s} {most} {at} {last} {n} {left} snd w c h =
       let o = chain-none g d left at (omega arith) in
       reached snd w (c .ends ∙ ap (lastOr last) o ∙ last-none last) (c .sum ∙ ap (λ (l : List ℕ). n + length (each (entryGranules g d) l)) o ∙ omega arith) (omega (arith, c .small))

@@ -6,7 +6,7 @@ ghost use lib.ListN.{length};
 ghost use Rattle.meaning.specs.Layout.{granulesFor};
 ghost use Rattle.meaning.specs.Entries.{entryGranules};
 ghost use Rattle.layout.specs.Room.{Room, Slot, Below};
-ghost use Rattle.seek.specs.Seek.{Sound, Used};
+ghost use Rattle.seek.specs.Seek.{Walkable, Used};
 ghost use Rattle.extent.specs.Reach.{Reaches};
 
 // The last entry of a file, and how many granules the file owns.
@@ -43,7 +43,7 @@ pub fn entry_length(image: &[u8], g: Geometry, s: usize) -> usize
 
 // How far the file at slot s reaches.
 pub fn measure(image: &[u8], g: Geometry, s: usize) -> Extent
-    requires { ⌜ Sound g (now image) × Used g (now image) s ⌝ }
+    requires { ⌜ Walkable g (now image) × Used g (now image) s ⌝ }
     ensures { λ r. ⌜ Reaches g (now (image .entry)) s r ⌝ }
 {
     let mut at = s;

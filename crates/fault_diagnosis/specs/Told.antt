@@ -6,7 +6,7 @@ use lib.Dec.{eqb}
 use Rattle.meaning.specs.Lists.{same, all}
 use Rattle.meaning.specs.Layout.{isSlot, hit}
 use Rattle.meaning.specs.Names.{hash}
-use Rattle.meaning.specs.Entries.{primary, nameOf}
+use Rattle.meaning.specs.Entries.{inUsePrimary, nameOf}
 use Rattle.meaning.specs.Consistent.{directoryTaken}
 use Rattle.meaning.specs.Refusal.{unplaced}
 use Rattle.meaning.specs.Fault.{fileOf, faultAt}
@@ -20,7 +20,7 @@ module _ (g : Geometry) (d : List ℕ) where
 
   -- a file starts at slot q with the name of that at p
   unfoldable pub sameFile : ℕ → ℕ → Bool
-  sameFile p q = all (isSlot g d q ∷ primary g d q ∷ same (nameOf g d q) (nameOf g d p) ∷ [])
+  sameFile p q = all (isSlot g d q ∷ inUsePrimary g d q ∷ same (nameOf g d q) (nameOf g d p) ∷ [])
 
   -- the fault's number at s, 0 where s is no slot
   unfoldable pub faultIn : ℕ → ℕ

@@ -10,7 +10,7 @@ ghost use Rattle.meaning.specs.Consistent.{hitHolds};
 ghost use Rattle.meaning.specs.Fault.{hitFault, nameFault, duplicateFault, faultAt, lowest, fault};
 ghost use Rattle.meaning.specs.Refusals.{check};
 ghost use Rattle.layout.specs.Room.{Room, Slot};
-ghost use Rattle.check_whole.specs.Slots.{Fits};
+ghost use Rattle.check_whole.specs.Slots.{FitsImage};
 ghost use Rattle.fault_diagnosis.specs.Told.{hashDiffers, sameFile, faultIn, afterSlots};
 
 // A slot's HIT byte is nonzero exactly if its entry is in use.
@@ -190,7 +190,7 @@ fn slots_fault(image: &[u8], g: Geometry) -> Refusal
 
 // The fault of a disk whose geometry and image length fit.
 pub fn fault_of(image: &[u8], g: Geometry) -> Refusal
-    requires { ⌜ Fits g (now image) ⌝ }
+    requires { ⌜ FitsImage g (now image) ⌝ }
     ensures { λ r. ⌜ r ≡ fault g (now (image .entry)) ⌝ }
 {
     if !check_whole::length_holds(image, g) {

@@ -9,20 +9,20 @@ use lib.Dec.{T, eqb, ltb, ltb→lt, lt→ltb}
 use lib.ListN.{length}
 use Rattle.meaning.specs.Lists.{count, every, some, has, keep, all, firstOr}
 use Rattle.meaning.specs.Layout.{isSlot, slots, directorySectors, directoryGranules, granuleSectors, roundUp}
-use Rattle.meaning.specs.Sizes
-use Rattle.meaning.specs.Entries.{inUse, primary, runs, link, runStart, runLength, runGranules, entryGranules}
+use Rattle.lists.specs.Sizes
+use Rattle.meaning.specs.Entries.{inUse, inUsePrimary, runs, link, runStart, runLength, runGranules, entryGranules}
 use Rattle.meaning.specs.Chain.{chain, files}
-use Rattle.meaning.specs.Consistent.{follows}
+use Rattle.meaning.specs.Consistent.{followsBy}
 use Rattle.meaning.specs.Fault.{handsOn, walk, walked, metFrom, fileOf, goodExtension, chainFault, chainWhole}
 use Rattle.meaning.specs.declared.Geometry.{Geometry}
 use Rattle.layout.specs.Room.{Room, Slot}
-use Rattle.layout.proofs.Lists.{all-at}
-use Rattle.layout.proofs.Sound.{slot-of, slot-yes}
+use Rattle.lists.specs.Tests.{all-at}
+use Rattle.layout.proofs.HasRoom.{slot-of, slot-yes}
 use Rattle.laws.specs.Rising.{keep-keep}
-use Rattle.laws.specs.Members
-use Rattle.laws.specs.Members.{In}
+use Rattle.lists.specs.Members
+use Rattle.lists.specs.Members.{In}
 use Rattle.laws.specs.Facts
-use Rattle.laws.specs.Facts.{File}
+use Rattle.laws.specs.Facts.{IsFile}
 use Rattle.laws.specs.Walk
 use Rattle.laws.specs.Kinds
 use Rattle.fault_kinds.specs.Reach
@@ -49,22 +49,22 @@ or-some z p ps = refl
 module _ (g : Geometry) (d : List ℕ) where
   -- Files -------------------------------------------------------------------------------------------------------------------------
 
-  file-of : (p : ℕ) → isSlot g d p ≡ true → primary g d p ≡ true → File g d p
+  file-of : (p : ℕ) → isSlot g d p ≡ true → inUsePrimary g d p ≡ true → IsFile g d p
   file-of p a b = record { slot = Members.true-T a; primary′ = Members.true-T b }
 
-  starts-same : (x p : ℕ) → (isSlot g d p && (primary g d p && has (walk g d p) x)) ≡ startsTo g d x p
+  starts-same : (x p : ℕ) → (isSlot g d p && (inUsePrimary g d p && has (walk g d p) x)) ≡ startsTo g d x p
   unfolding startsTo
   starts-same x p =
-      alike (isSlot g d p) (primary g d p) (has (walk g d p) x) (has (reach g d (length (slots g d)) p) x) (λ e f. Reach.meets g d p x (file-of p e f))
+      alike (isSlot g d p) (inUsePrimary g d p) (has (walk g d p) x) (has (reach g d (length (slots g d)) p) x) (λ e f. Reach.meets g d p x (file-of p e f))
 
   files-keep : (x : ℕ) → keep (λ p. has (walk g d p) x) (files g d) ≡ keep (startsTo g d x) (count 0 256)
   unfolding files slots
   files-keep x =
-      keep-keep (primary g d) (λ p. has (walk g d p) x) (keep (isSlot g d) (count 0 256))
-      ∙ keep-keep (isSlot g d) (λ p. primary g d p && has (walk g d p) x) (count 0 256)
-      ∙ Members.keep-eq (λ p. isSlot g d p && (primary g d p && has (walk g d p) x)) (startsTo g d x) (count 0 256) (λ p i. starts-same x p)
+      keep-keep (inUsePrimary g d) (λ p. has (walk g d p) x) (keep (isSlot g d) (count 0 256))
+      ∙ keep-keep (isSlot g d) (λ p. inUsePrimary g d p && has (walk g d p) x) (count 0 256)
+      ∙ Members.keep-eq (λ p. isSlot g d p && (inUsePrimary g d p && has (walk g d p) x)) (startsTo g d x) (count 0 256) (λ p i. starts-same x p)
 
-  starts-file : (x p : ℕ) → T (startsTo g d x p) → File g d p
+  starts-file : (x p : ℕ) → T (startsTo g d x p) → IsFile g d p
   unfolding startsTo
   starts-file x p t = let e = Members.T-true {b = startsTo g d x p} t in file-of p (all-at _ e 0) (all-at _ e 1)
 
@@ -72,9 +72,9 @@ module _ (g : Geometry) (d : List ℕ) where
   unfolding startsTo
   starts-meets x p t = Members.true-T (all-at _ (Members.T-true {b = startsTo g d x p} t) 2)
 
-  meets-starts : (x p : ℕ) → File g d p → T (has (reach g d (length (slots g d)) p) x) → T (startsTo g d x p)
+  meets-starts : (x p : ℕ) → IsFile g d p → T (has (reach g d (length (slots g d)) p) x) → T (startsTo g d x p)
   unfolding startsTo
-  meets-starts x p f h = Kinds.all-three (isSlot g d p) (primary g d p) (has (reach g d (length (slots g d)) p) x) (f .slot) (f .primary′) h
+  meets-starts x p f h = Kinds.all-three (isSlot g d p) (inUsePrimary g d p) (has (reach g d (length (slots g d)) p) x) (f .slot) (f .primary′) h
 
   -- what the first of the files that meet x is
   low : (x p : ℕ) → In p (keep (startsTo g d x) (count 0 256)) → (p < 256) × T (startsTo g d x p)
@@ -133,7 +133,7 @@ module _ (g : Geometry) (d : List ℕ) where
           absurd (nobody (k .0) (k .1) (k .2))
         where
           -- the file that meets x stands in the list
-          nobody : (p : ℕ) → File g d p → In x (walk g d p) → ⊥
+          nobody : (p : ℕ) → IsFile g d p → In x (walk g d p) → ⊥
           nobody p k i =
               let u = meets-starts x p k (rw (← Reach.meets g d p x k) (Members.in-has i)) in
               let j = Members.in-keep (startsTo g d x) (Members.in-count p 0 256 (omega arith) (let h = Facts.slot-lt g d p (k .slot) in omega arith)) u in
@@ -150,8 +150,8 @@ module _ (g : Geometry) (d : List ℕ) where
   pub good-start : (x : ℕ) → goodExtension g d x ≡ goodFrom g d x 0 (keep (leads g d x) (count 0 (256 - 0)))
   unfolding goodExtension
   good-start x =
-      ap (λ (m : List ℕ). all (eqb (length m) 1 ∷ every (λ b. follows g d b x) m ∷ [])) (met-is x)
-      ∙ ap (λ (j : ℕ). all (eqb j 1 ∷ every (λ b. follows g d b x) (keep (leads g d x) (count 0 256)) ∷ [])) (sym (zero-add (length (keep (leads g d x) (count 0 256)))))
+      ap (λ (m : List ℕ). all (eqb (length m) 1 ∷ every (λ b. followsBy g d 0x90 b x) m ∷ [])) (met-is x)
+      ∙ ap (λ (j : ℕ). all (eqb j 1 ∷ every (λ b. followsBy g d 0x90 b x) (keep (leads g d x) (count 0 256)) ∷ [])) (sym (zero-add (length (keep (leads g d x) (count 0 256)))))
 
   -- Granules in common --------------------------------------------------------------------------------------------------------------
 
@@ -199,27 +199,27 @@ module _ (g : Geometry) (d : List ℕ) where
 
   -- A whole chain -------------------------------------------------------------------------------------------------------------------
 
-  pub whole-is : (p : ℕ) → isSlot g d p ≡ true → primary g d p ≡ true → chainWhole g d p ≡ every (λ s. not (chainFault g d s)) (reach g d (length (slots g d)) p)
+  pub whole-is : (p : ℕ) → isSlot g d p ≡ true → inUsePrimary g d p ≡ true → chainWhole g d p ≡ every (λ s. not (chainFault g d s)) (reach g d (length (slots g d)) p)
   unfolding chainWhole
   whole-is p a b =
       Members.both-T {a = every firm (walk g d p)} {b = every firm (reach g d (length (slots g d)) p)}
       (λ t. Members.all-every firm (reach g d (length (slots g d)) p) (λ x i. Members.every-all firm t (Members.has-in x (walk g d p) (rw (Reach.meets g d p x f) (Members.in-has i)))))
       (λ t. Members.all-every firm (walk g d p) (λ x i. Members.every-all firm t (Members.has-in x (reach g d (length (slots g d)) p) (rw (← Reach.meets g d p x f) (Members.in-has i)))))
     where
-      f : File g d p
+      f : IsFile g d p
       f = file-of p a b
 
       firm : ℕ → Bool
       firm s = not (chainFault g d s)
 
-  pub whole-owns : (p : ℕ) → isSlot g d p ≡ true → primary g d p ≡ true → chainWhole g d p ≡ true → reach g d (length (slots g d)) p ≡ chain g d p
+  pub whole-owns : (p : ℕ) → isSlot g d p ≡ true → inUsePrimary g d p ≡ true → chainWhole g d p ≡ true → reach g d (length (slots g d)) p ≡ chain g d p
   whole-owns p a b w = sym (Reach.whole-chain g d p (file-of p a b) (Members.true-T w))
 
-  pub whole-by : (p : ℕ) {n : ℕ} → Slot g d p → primary g d p ≡ true → n ≡ length (slots g d) → chainWhole g d p ≡ every (λ s. not (chainFault g d s)) (reach g d n p)
+  pub whole-by : (p : ℕ) {n : ℕ} → Slot g d p → inUsePrimary g d p ≡ true → n ≡ length (slots g d) → chainWhole g d p ≡ every (λ s. not (chainFault g d s)) (reach g d n p)
   whole-by p {n} h b e =
       whole-is p (slot-yes g d p (h .low) (h .held)) b ∙ ap (λ (j : ℕ). every (λ s. not (chainFault g d s)) (reach g d j p)) (sym e)
 
-  pub whole-same : (p : ℕ) {n : ℕ} → Slot g d p → primary g d p ≡ true → n ≡ length (slots g d) → every (λ s. not (chainFault g d s)) (reach g d n p) ≡ true
+  pub whole-same : (p : ℕ) {n : ℕ} → Slot g d p → inUsePrimary g d p ≡ true → n ≡ length (slots g d) → every (λ s. not (chainFault g d s)) (reach g d n p) ≡ true
       → reach g d n p ≡ chain g d p
   whole-same p {n} h b e w =
       ap (λ (j : ℕ). reach g d j p) e ∙ whole-owns p (slot-yes g d p (h .low) (h .held)) b (whole-by p h b e ∙ w)

@@ -10,8 +10,8 @@ use lib.Dec.{T, leb, ltb, leb→le, ltb→lt, lt→ltb, nleb→lt, T-not, not-T}
 use Rattle.meaning.specs.Lists.{count, some, has, distinct}
 use Rattle.meaning.specs.Entries.{runs, runStart, runLength, runGranules, entryGranules}
 use Rattle.meaning.specs.declared.Geometry.{Geometry}
-use Rattle.laws.specs.Members
-use Rattle.laws.specs.Members.{In}
+use Rattle.lists.specs.Members
+use Rattle.lists.specs.Members.{In}
 use Rattle.laws.specs.Kinds
 use Rattle.laws.specs.FaultlessSound.{higher}
 

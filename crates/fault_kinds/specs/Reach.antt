@@ -13,10 +13,9 @@ use Rattle.meaning.specs.Entries.{marker, link}
 use Rattle.meaning.specs.Chain.{chain, chainFrom}
 use Rattle.meaning.specs.Fault.{handsOn, ends, walkFrom, walk, chainFault, chainWhole}
 use Rattle.meaning.specs.declared.Geometry.{Geometry}
-use Rattle.laws.specs.Members
-use Rattle.laws.specs.Members.{In}
-use Rattle.laws.specs.Facts
-use Rattle.laws.specs.Facts.{File}
+use Rattle.lists.specs.Members
+use Rattle.lists.specs.Members.{In}
+use Rattle.laws.specs.Facts.{IsFile}
 use Rattle.laws.specs.Walk
 use Rattle.laws.specs.Kinds
 
@@ -46,7 +45,7 @@ module _ (g : Geometry) (d : List ℕ) where
       go (inl e) r = Members.head-in _ e
       go (inr j) r = rw (Members.T-true {b = handsOn g d s} (j .0)) (Members.In.there (r (j .1)))
 
-  reach-walk : (p : ℕ) → File g d p → (left s x : ℕ) → In s (walk g d p) → In x (reach left s) → In x (walk g d p)
+  reach-walk : (p : ℕ) → IsFile g d p → (left s x : ℕ) → In s (walk g d p) → In x (reach left s) → In x (walk g d p)
   unfolding reach
   reach-walk p f zero s x m i = Members.none-in i
   reach-walk p f (suc left) s x m i = go (reach-cons left s x i) (reach-walk p f left (link g d s) x)
@@ -56,7 +55,7 @@ module _ (g : Geometry) (d : List ℕ) where
       go (inr j) r = r (Walk.walk-goes g d p s f m (j .0)) (j .1)
 
   -- whom the walk from a file meets
-  pub meets : (p s : ℕ) → File g d p → has (walk g d p) s ≡ has (reach (length (slots g d)) p) s
+  pub meets : (p s : ℕ) → IsFile g d p → has (walk g d p) s ≡ has (reach (length (slots g d)) p) s
   unfolding walk
   meets p s f =
       Members.both-T {a = has (walk g d p) s} {b = has (reach (length (slots g d)) p) s}
@@ -71,11 +70,11 @@ module _ (g : Geometry) (d : List ℕ) where
       go t (inl h) = h
       go t (inr e) = absurd (omega (arith, eqb→eq (marker g d s) 0xfe t, Kinds.ends-says g d s e .1))
 
-  firm-at : (p s : ℕ) → File g d p → T (chainWhole g d p) → In s (walk g d p) → Kinds.Firm g d s
+  firm-at : (p s : ℕ) → IsFile g d p → T (chainWhole g d p) → In s (walk g d p) → Kinds.Firm g d s
   unfolding chainWhole
   firm-at p s f w i = Kinds.firm g d s (Walk.walk-used g d p s f i .used) (T-not (chainFault g d s) (Members.every-all (λ s. not (chainFault g d s)) w i))
 
-  chain-reach : (p : ℕ) → File g d p → T (chainWhole g d p) → (left s : ℕ) → In s (walk g d p) → chainFrom g d left s ≡ reach left s
+  chain-reach : (p : ℕ) → IsFile g d p → T (chainWhole g d p) → (left s : ℕ) → In s (walk g d p) → chainFrom g d left s ≡ reach left s
   unfolding chainFrom reach
   chain-reach p f w zero s i = refl
   chain-reach p f w (suc left) s i =
@@ -87,6 +86,6 @@ module _ (g : Geometry) (d : List ℕ) where
       go (Members.Test.fails t) r = rw (Members.no-false {b = handsOn g d s} t)
 
   -- a whole chain is what the plain steps come to
-  pub whole-chain : (p : ℕ) → File g d p → T (chainWhole g d p) → chain g d p ≡ reach (length (slots g d)) p
+  pub whole-chain : (p : ℕ) → IsFile g d p → T (chainWhole g d p) → chain g d p ≡ reach (length (slots g d)) p
   unfolding chain
   whole-chain p f w = chain-reach p f w (length (slots g d)) p (Walk.walk-first g d p f)

@@ -6,8 +6,8 @@ use lib.Dec.{eqb, ltb, leb}
 use lib.ListN.{length}
 use Rattle.meaning.specs.Lists.{count, every, has, keep, all, firstOr}
 use Rattle.meaning.specs.Layout.{granules, isSlot, slots}
-use Rattle.meaning.specs.Entries.{inUse, primary, runs, block, link, firstUnit, runStart, runLength}
-use Rattle.meaning.specs.Consistent.{follows}
+use Rattle.meaning.specs.Entries.{inUse, inUsePrimary, runs, block, link, firstUnit, runStart, runLength}
+use Rattle.meaning.specs.Consistent.{followsBy}
 use Rattle.meaning.specs.Fault.{handsOn, walked}
 use Rattle.meaning.specs.declared.Geometry.{Geometry}
 use Rattle.fault_kinds.specs.Reach.{reach}
@@ -20,7 +20,7 @@ module _ (g : Geometry) (d : List ℕ) where
 
   -- a file starts at slot p, and its walk meets x
   unfoldable pub startsTo : ℕ → ℕ → Bool
-  startsTo x p = all (isSlot g d p ∷ primary g d p ∷ has (reach g d (length (slots g d)) p) x ∷ [])
+  startsTo x p = all (isSlot g d p ∷ inUsePrimary g d p ∷ has (reach g d (length (slots g d)) p) x ∷ [])
 
   -- the first file, by rising slot number, whose walk meets x; 256 where there is none
   unfoldable pub firstFile : ℕ → ℕ
@@ -32,11 +32,11 @@ module _ (g : Geometry) (d : List ℕ) where
 
   -- 0 where no walk comes from slot b to x; else 1 where x follows b, 2 where it does not
   unfoldable pub tally : ℕ → ℕ → ℕ
-  tally x b = cond (leads x b) (cond (follows g d b x) 1 2) 0
+  tally x b = cond (leads x b) (cond (followsBy g d 0x90 b x) 1 2) 0
 
   -- an extension that n walks were found to come to, and those from each of bs on: it must follow all of them, and there must be one
   abbrev pub goodFrom : ℕ → ℕ → List ℕ → Bool
-  goodFrom x n bs = all (eqb (n + length bs) 1 ∷ every (λ b. follows g d b x) bs ∷ [])
+  goodFrom x n bs = all (eqb (n + length bs) 1 ∷ every (λ b. followsBy g d 0x90 b x) bs ∷ [])
 
   -- run k lies on the disk, its first unit is below units per block
   abbrev pub runHolds : ℕ → ℕ → Bool

@@ -1,3 +1,3 @@
-pub mod Laws
+pub mod HandsBack
 pub mod Compared
 pub mod Program

@@ -10,10 +10,11 @@ use borrow.Author.Tests.{ltb-true, leb-true, eqb-true, not-false}
 use Rattle.meaning.specs.Lists.{count, every, keep, firstOr}
 use Rattle.meaning.specs.Names.{wellFormed, hash, fold}
 use Rattle.meaning.specs.Layout.{slots, isSlot, hit, highest}
-use Rattle.meaning.specs.Sizes
+use Rattle.lists.specs.Sizes
 use Rattle.meaning.specs.Entries.{accessLevel}
 use Rattle.meaning.specs.Free.{freeSlot, freeSlots}
-use Rattle.meaning.specs.Refusals.{first, newInRange, inRange, noHandle, movedTo}
+use Rattle.meaning.specs.Refusals.{first, newInRange}
+use Rattle.meaning.specs.Handles.{inRange, noHandle, movedTo}
 use Rattle.meaning.specs.LookUp.{carries, candidates, named, slotOf, missing}
 use Rattle.meaning.specs.Open.{full, openedAt, openRefusals, open′}
 use Rattle.meaning.specs.Create.{newSlot, createRefusals, create}
@@ -23,11 +24,11 @@ use Rattle.meaning.specs.declared.Geometry.{Geometry}
 use Rattle.meaning.specs.declared.Handle.{Handle}
 use Rattle.meaning.specs.declared.NewFile.{NewFile}
 use Rattle.meaning.specs.declared.Mode.{Mode}
-use Rattle.layout.proofs.Laws.{well-length}
-use Rattle.handle.proofs.Laws.{ownRow}
-use Rattle.layout.proofs.Lists.{and-l, and-r, all-at, first-at}
-use Rattle.genie_codec.specs.Codec.{Fits}
-use Rattle.handle.proofs.Laws.{length-range}
+use Rattle.layout.proofs.OneStep.{well-length}
+use Rattle.passed.proofs.Checked.{ownRow}
+use Rattle.lists.specs.Tests.{and-l, and-r, all-at, first-at}
+use Rattle.genie_codec.specs.Codec.{HandleFits}
+use Rattle.passed.proofs.Checked.{length-range}
 
 -- all of these are below 256
 low : List ℕ → Bool
@@ -69,24 +70,24 @@ module _ (g : Geometry) (d : List ℕ) where
   unfolding freeSlots
   free-low = low-first _ (low-keep (freeSlot g d) (count 0 256) low-count)
 
-  zeros-fit : Fits noHandle
+  zeros-fit : HandleFits noHandle
   zeros-fit = record { slot = omega arith; level = omega arith; len = omega arith; at = omega arith; name = refl }
 
   level-low : (s : ℕ) (t : Bool) → cond t 0 (accessLevel g d s) < 256
   level-low s true = omega arith
   level-low s false = omega arith
 
-  opened-fits : (n : List ℕ) (len : ℕ) (checking : Bool) (code : ℕ) → wellFormed n ≡ true → len ≤ 256 → Fits (openedAt g d (slotOf g d n) n len checking code)
+  opened-fits : (n : List ℕ) (len : ℕ) (checking : Bool) (code : ℕ) → wellFormed n ≡ true → len ≤ 256 → HandleFits (openedAt g d (slotOf g d n) n len checking code)
   opened-fits n len checking code h l =
       record { slot = found-low n; level = level-low (slotOf g d n) (full g d (slotOf g d n) checking code); len = omega arith; at = omega arith; name = well-length n h }
 
   -- open, refused or accepted
-  pub open-fits : (n : List ℕ) (len : ℕ) (checking : Bool) (code : ℕ) → Fits (open′ g d n len checking code .handle)
+  pub open-fits : (n : List ℕ) (len : ℕ) (checking : Bool) (code : ℕ) → HandleFits (open′ g d n len checking code .handle)
   unfolding open′
   open-fits n len checking code = by (eqb (first (openRefusals g d n len checking code)) 0) refl
     where
       by : (t : Bool) → eqb (first (openRefusals g d n len checking code)) 0 ≡ t
-          → Fits (cond t (openedAt g d (slotOf g d (fold n)) (fold n) len checking code) noHandle)
+          → HandleFits (cond t (openedAt g d (slotOf g d (fold n)) (fold n) len checking code) noHandle)
       by true e =
           let t : (k : ℕ) → getD (openRefusals g d n len checking code) k (0, false) .1 ≡ false
           = λ k. first-at (openRefusals g d n len checking code) (eqb-true _ 0 e) refl k in
@@ -94,12 +95,12 @@ module _ (g : Geometry) (d : List ℕ) where
       by false e = zeros-fit
 
   -- create, refused or accepted
-  pub create-fits : (n : List ℕ) (f : NewFile) (checking : Bool) → Fits (create g d n f checking .0 .handle)
+  pub create-fits : (n : List ℕ) (f : NewFile) (checking : Bool) → HandleFits (create g d n f checking .0 .handle)
   unfolding create newInRange
   create-fits n f checking = by (eqb (first (createRefusals g d n f checking)) 0) refl (missing g d (fold n))
     where
       by : (t : Bool) → eqb (first (createRefusals g d n f checking)) 0 ≡ t → (new : Bool)
-          → Fits (cond t (cond new (record { slot = newSlot g d; name = fold n; at = 0; len = f .len; level = 0 })
+          → HandleFits (cond t (cond new (record { slot = newSlot g d; name = fold n; at = 0; len = f .len; level = 0 })
           (openedAt g d (slotOf g d (fold n)) (fold n) (f .len) checking (f .main))) noHandle)
       by true e new =
           let t : (k : ℕ) → getD (createRefusals g d n f checking) k (0, false) .1 ≡ false
@@ -108,30 +109,30 @@ module _ (g : Geometry) (d : List ℕ) where
           either new (not-false _ (t (ownRow 1))) l
         where
           either : (new : Bool) → wellFormed (fold n) ≡ true → f .len ≤ 256
-              → Fits (cond new (record { slot = newSlot g d; name = fold n; at = 0; len = f .len; level = 0 })
+              → HandleFits (cond new (record { slot = newSlot g d; name = fold n; at = 0; len = f .len; level = 0 })
               (openedAt g d (slotOf g d (fold n)) (fold n) (f .len) checking (f .main)))
           either true h l = record { slot = free-low; level = omega arith; len = omega arith; at = omega arith; name = well-length (fold n) h }
           either false h l = opened-fits (fold n) (f .len) checking (f .main) h l
       by false e new = zeros-fit
 
   -- a position that advances is in range still, as bytes go
-  moved-fits : (h : Handle) → Fits h → inRange g h ≡ true → Fits (movedTo h (h .at + h .len))
+  moved-fits : (h : Handle) → HandleFits h → inRange g h ≡ true → HandleFits (movedTo h (h .at + h .len))
   unfolding inRange
   moved-fits h f r =
       let a = leb-true (h .at) (highest g) (all-at _ r 0) in let l = length-range (h .len) (all-at _ r 1) .1 in
       record { slot = f .slot; level = f .level; len = f .len; at = omega (arith, Sizes.bytes-are g, Sizes.sectors-most g); name = f .name }
 
-  either-fits : (t : Bool) (h h′ : Handle) → Fits h → (t ≡ true → Fits h′) → Fits (cond t h′ h)
+  either-fits : (t : Bool) (h h′ : Handle) → HandleFits h → (t ≡ true → HandleFits h′) → HandleFits (cond t h′ h)
   either-fits true h h′ f k = k refl
   either-fits false h h′ f k = f
 
   -- read record and write record, of a handle that fits
-  pub read-fits : (h : Handle) (b : List ℕ) → Fits h → Fits (readRecord g d h b .0 .handle)
+  pub read-fits : (h : Handle) (b : List ℕ) → HandleFits h → HandleFits (readRecord g d h b .0 .handle)
   unfolding readRecord
   read-fits h b f =
       either-fits _ h _ f (λ e. moved-fits h f (all-at _ (not-false _ (first-at (readRefusals g d h (length b)) (eqb-true _ 0 e) refl (ownRow 0))) 0))
 
-  pub write-fits : (m : Mode) (h : Handle) (b : List ℕ) → Fits h → Fits (writeRecord g d m h b .0 .handle)
+  pub write-fits : (m : Mode) (h : Handle) (b : List ℕ) → HandleFits h → HandleFits (writeRecord g d m h b .0 .handle)
   unfolding writeRecord
   write-fits m h b f =
       either-fits _ h _ f (λ e. moved-fits h f (all-at _ (not-false _ (first-at (writeRefusals g d m h (length b)) (eqb-true _ 0 e) refl (ownRow 0))) 0))

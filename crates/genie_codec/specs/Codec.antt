@@ -6,7 +6,7 @@ use native.Mathlib.Omega.{arith}
 use lib.ListN.{length, take, drop, replicate}
 use lib.Seq.{sets, take-all}
 use Rattle.meaning.specs.Layout.{byte}
-use Rattle.meaning.specs.Refusals.{noHandle}
+use Rattle.meaning.specs.Handles.{noHandle}
 use Rattle.meaning.specs.declared.Handle.{Handle}
 
 -- so many bytes are a handle; of a longer slice only the first 19 are used
@@ -43,7 +43,7 @@ unfoldable pub stored : List ℕ → Handle → List ℕ
 stored b h = sets b 0 (bytesOf h)
 
 -- the numbers of a handle fit its bytes
-pub record Fits (h : Handle) : Type 0 where
+pub record HandleFits (h : Handle) : Type 0 where
   pub slot : h .slot < 256
   pub level : h .level < 256
   pub len : h .len < 65536
@@ -51,7 +51,7 @@ pub record Fits (h : Handle) : Type 0 where
   pub name : length (h .name) ≡ 11
 
 -- a handle put into bytes and read from them is the same handle
-pub there-and-back : (h : Handle) → Fits h → handleOf (bytesOf h) ≡ h
+pub there-and-back : (h : Handle) → HandleFits h → handleOf (bytesOf h) ≡ h
 unfolding handleOf bytesOf
 there-and-back h f =
     let a : h .slot % 256 ≡ h .slot = omega (arith, f .slot) in

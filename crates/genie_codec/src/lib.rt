@@ -31,7 +31,7 @@ pub fn geometry(
         blocks,
         units,
         start,
-        anyone: open_code,
+        noPassword: open_code,
         system: system_disk,
         granule: granule_sectors,
     }

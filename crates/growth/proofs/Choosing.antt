@@ -9,7 +9,7 @@ use lib.ListN.{length}
 use Rattle.meaning.specs.Layout.{granules, taken}
 use Rattle.meaning.specs.Free.{freeGranules, longestFree}
 use Rattle.meaning.specs.declared.Geometry.{Geometry}
-use Rattle.layout.proofs.Lists.{le-or-lt}
+use Rattle.lists.specs.Tests.{le-or-lt}
 use Rattle.meaning.specs.Choice.{State}
 use Rattle.laws_choice.specs.Words
 use Rattle.laws_choice.specs.Stretches

@@ -12,14 +12,14 @@ use Rattle.meaning.specs.Entries.{runs}
 use Rattle.meaning.specs.Growth.{tail, lengthens, withPair, withExtension, takeAt, grown, noSlot, growBy, andThen, fails}
 use Rattle.meaning.specs.Free.{freeGranules, lowestFree, freeSlot}
 use Rattle.meaning.specs.declared.Geometry.{Geometry}
-use Rattle.laws.specs.Members
+use Rattle.lists.specs.Members
 use Rattle.laws.specs.Steps.{Ready}
 use Rattle.laws.specs.TakeOne
 use Rattle.laws_choice.specs.Stretches
 use Rattle.laws_choice.specs.View.{view}
 use Rattle.layout.specs.Room.{Room, Slot}
-use Rattle.layout.proofs.Lists.{le-or-lt}
-use Rattle.layout.proofs.Sound.{slot-of}
+use Rattle.lists.specs.Tests.{le-or-lt}
+use Rattle.layout.proofs.HasRoom.{slot-of}
 use Rattle.passed.proofs.Ready.{walks}
 use Rattle.space.proofs.First.{NoneBelow}
 use Rattle.growth.specs.Choose.{choiceBy, Known, Picked}
@@ -159,7 +159,7 @@ module _ (g : Geometry) (p : ℕ) (lowest : Bool) where
         }
 
     -- 2. a new run in the last entry
-    pub growing-pair : lengthens g p d ≡ false → r < 4 → {n most′ : ℕ} → Pick n most′ → {d′ : List ℕ} → d′ ≡ withPair g p d e r n
+    pub growing-pair : lengthens g p d ≡ false → r < 4 → {n most′ : ℕ} → Pick n most′ → {d′ : List ℕ} → d′ ≡ withPair g d e r n
         → Step.Taken g p choice d d′ n × ((x : ℕ) → freeSlot g d′ x ≡ freeSlot g d x) × Growing k d₀ d′ e (r + 1) (n + 1) 1 n most′ slot (left - 1)
     unfolding Step.d₂
     growing-pair u v {n} o {d′} q =
@@ -183,7 +183,7 @@ module _ (g : Geometry) (p : ℕ) (lowest : Bool) where
 
     -- 3. a run in a new extension
     pub growing-new : lengthens g p d ≡ false → 4 ≤ r → {n x most′ : ℕ} → Pick n most′ → x < 256 → NoneBelow (freeSlot g d) x → freeSlot g d x ≡ true
-        → {d′ : List ℕ} → d′ ≡ withPair g p (withExtension g p d e x) x 0 n
+        → {d′ : List ℕ} → d′ ≡ withPair g (withExtension g p d e x) x 0 n
         → Step.Taken g p choice d d′ n × ((y : ℕ) → y ≢ x → freeSlot g d′ y ≡ freeSlot g d y) × Growing k d₀ d′ x 1 (n + 1) 1 n most′ (x + 1) (left - 1)
     unfolding Step.d₃
     growing-new u v {n} {x} pk b slots o {d′} q =

@@ -6,21 +6,21 @@ use Prim.Native.Nat.{ℕ, zero, suc, _+_, _≤_}
 use native.Mathlib.Omega.{arith}
 use lib.ListN.{length, length-append}
 use borrow.Author.Tests.{ltb-false}
-use Rattle.meaning.specs.Lists.{count, length-count}
+use Rattle.meaning.specs.Lists.{count}
+use Rattle.lists.specs.Members.{length-count}
 use Rattle.meaning.specs.Layout.{granules}
 use Rattle.meaning.specs.Chain.{owned}
 use Rattle.meaning.specs.Free.{freeGranules}
-use Rattle.meaning.specs.Growth.{takeAt, Grown, grown, noSlot, growBy, growth, andThen, orElse, fails, diskOr}
-use Rattle.meaning.specs.Refusals.{first, accepted, cannotGrow, larger}
+use Rattle.meaning.specs.Growth.{takeAt, Grown, grown, noSlot, growBy, growth, andThen, orElse, fails, diskOr, withGranules}
+use Rattle.meaning.specs.Refusals.{first, accepted, cannotGrow}
 use Rattle.meaning.specs.declared.Geometry.{Geometry}
-use Rattle.laws.specs.Members
-use Rattle.laws.specs.Counting
-use Rattle.laws.specs.Facts
+use Rattle.lists.specs.Members
+use Rattle.lists.specs.Counting
 use Rattle.laws.specs.Change
 use Rattle.laws.specs.Longer
 use Rattle.laws.specs.TakeOne
 use Rattle.laws.specs.Steps.{Ready, take-ready}
-use Rattle.layout.proofs.Lists.{first-at}
+use Rattle.lists.specs.Tests.{first-at}
 use Rattle.growth.specs.Choose.{choiceBy}
 use Rattle.growth.proofs.Step
 use Rattle.growth.proofs.Growing.{chooses}
@@ -60,11 +60,11 @@ module _ (g : Geometry) (p : ℕ) where
   not-fails z (grown d) f = refl
   not-fails z noSlot f = absurd (let y : _≡_ {A = ℕ} 0 1 = cc in let v : ⊥ = omega arith in v)
 
-  pub larger-ready : {d d′ : List ℕ} (k : ℕ) {n : ℕ} → Ready g d p → n ≡ first (cannotGrow g d p k) → n ≡ 0 → d′ ≡ cond (accepted n) (larger g d p k) d → More d d′ k
+  pub larger-ready : {d d′ : List ℕ} (k : ℕ) {n : ℕ} → Ready g d p → n ≡ first (cannotGrow g d p k) → n ≡ 0 → d′ ≡ cond (accepted n) (withGranules g d p k) d → More d d′ k
   larger-ready {d} {d′} k {n} y e z q =
       let t : (j : ℕ) → _ = λ j. first-at (cannotGrow g d p k) (sym e ∙ z) refl j in
-      let w : d′ ≡ larger g d p k = q ∙ ap (λ (j : ℕ). cond (accepted j) (larger g d p k) d) z in
-      rw w (grow-ready k d (larger g d p k) y (ltb-false (length (freeGranules g d)) k (t 1)) (not-fails d (growth g p k d) (t 2)))
+      let w : d′ ≡ withGranules g d p k = q ∙ ap (λ (j : ℕ). cond (accepted j) (withGranules g d p k) d) z in
+      rw w (grow-ready k d (withGranules g d p k) y (ltb-false (length (freeGranules g d)) k (t 1)) (not-fails d (growth g p k d) (t 2)))
 
   -- no file owns more granules than the disk has
   pub owned-most : {d : List ℕ} → Ready g d p → length (owned g d p) ≤ granules g

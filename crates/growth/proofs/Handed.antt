@@ -7,8 +7,8 @@ use Rattle.meaning.specs.Refusals.{first, handleRefusals, protected}
 use Rattle.meaning.specs.declared.Geometry.{Geometry}
 use Rattle.meaning.specs.declared.Handle.{Handle}
 use Rattle.laws.specs.Steps.{Ready}
-use Rattle.layout.proofs.Sound.{slot-yes}
-use Rattle.handle.proofs.Laws.{passed, passed-user}
+use Rattle.layout.proofs.HasRoom.{slot-yes}
+use Rattle.passed.proofs.Checked.{passed, passed-user}
 
 pub ready : (g : Geometry) (d : List ℕ) (h : Handle) (ranged : Bool) (most : ℕ) {n : ℕ} → n ≡ first (handleRefusals g d h ranged (protected g d most h ∷ [])) → n ≡ 0 → Ready g d (h .slot)
 ready g d h ranged most e z =

@@ -14,7 +14,7 @@ use Rattle.meaning.specs.declared.Geometry.{Geometry}
 use Rattle.growth.specs.Inside.{Inside}
 use Rattle.growth.specs.Choose.{OnlyGat}
 
-module _ (g : Geometry) (p : ℕ) (d : List ℕ) (e x : ℕ) {d₁ : List ℕ} (q : d₁ ≡ sets (set (set d (entryAt g e + 0x1e) 0xfe) (entryAt g e + 0x1f) x) (entryAt g x) (newExtension g p e)) where
+module _ (g : Geometry) (p : ℕ) (d : List ℕ) (e x : ℕ) {d₁ : List ℕ} (q : d₁ ≡ sets (set (set d (entryAt g e + 0x1e) 0xfe) (entryAt g e + 0x1f) x) (entryAt g x) (newExtension e)) where
   pub extension-put : set d₁ (hitAt g x) (getD d (hitAt g p) 0) ≡ withExtension g p d e x
   unfolding setField hit
   extension-put = ap (λ (l : List ℕ). set l (hitAt g x) (getD d (hitAt g p) 0)) q

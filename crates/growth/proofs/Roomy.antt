@@ -15,7 +15,7 @@ use Rattle.meaning.specs.declared.Geometry.{Geometry}
 use Rattle.laws.specs.Longer
 use Rattle.laws.specs.TakeOne
 use Rattle.laws.specs.Steps.{Ready, take-ready}
-use Rattle.layout.proofs.Lists.{le-or-lt}
+use Rattle.lists.specs.Tests.{le-or-lt}
 use Rattle.laws_choice.specs.Words
 use Rattle.meaning.specs.Choice.{lastRun, lastOf, spare, after}
 use Rattle.laws_choice.specs.Words.{Lengthens}

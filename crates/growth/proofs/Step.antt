@@ -17,9 +17,8 @@ use Rattle.meaning.specs.Chain.{chain}
 use Rattle.meaning.specs.Growth.{tail, after, lengthens, lengthened, withPair, withExtension, takeAt, grown, noSlot, extended}
 use Rattle.meaning.specs.Free.{freeGranules, lowestFree, freeSlots, freeSlot, permitted, kept}
 use Rattle.meaning.specs.declared.Geometry.{Geometry}
-use Rattle.laws.specs.Members
-use Rattle.laws.specs.Members.{In}
-use Rattle.laws.specs.Counting
+use Rattle.lists.specs.Members
+use Rattle.lists.specs.Members.{In}
 use Rattle.laws.specs.Facts
 use Rattle.laws.specs.Entry
 use Rattle.laws.specs.Frame
@@ -33,7 +32,7 @@ use Rattle.laws.specs.Extend
 use Rattle.laws.specs.TakeNew
 use Rattle.laws.specs.Steps.{Ready, take-ready}
 use Rattle.laws.specs.Words.{words}
-use Rattle.layout.proofs.Lists.{all-yes, all-no, all-none, le-or-lt}
+use Rattle.lists.specs.Tests.{all-yes, all-no, all-none, le-or-lt}
 use Rattle.space.proofs.First.{NoneBelow, first-at, keep-none}
 use Rattle.growth.proofs.Stand.{Stand}
 
@@ -49,7 +48,7 @@ module _ (g : Geometry) (d : List ℕ) (p : ℕ) (r : Ready g d p) where
   pub fits′ : Places.Fits g d
   fits′ = Places.fits g d (Members.true-T (r .fits))
 
-  pub file′ : Facts.File g d p
+  pub file′ : Facts.IsFile g d p
   file′ = record { slot = Members.true-T (r .slot); primary′ = Members.true-T (r .first) }
 
   pub user′ : T (not (system g d p))
@@ -181,7 +180,7 @@ module _ (g : Geometry) (p : ℕ) (choice : List ℕ → ℕ) where
   one-long : (d : List ℕ) → lengthens g p d ≡ true → takeAt g p (choice d) d ≡ grown (lengthened g p d)
   one-long d h = rw h
 
-  one-pair : (d : List ℕ) → lengthens g p d ≡ false → runs g d (tail g p d) < 4 → takeAt g p (choice d) d ≡ grown (withPair g p d (tail g p d) (runs g d (tail g p d)) (choice d))
+  one-pair : (d : List ℕ) → lengthens g p d ≡ false → runs g d (tail g p d) < 4 → takeAt g p (choice d) d ≡ grown (withPair g d (tail g p d) (runs g d (tail g p d)) (choice d))
   one-pair d h l = rw (h, lt-ltb (runs g d (tail g p d)) 4 l)
 
   one-new : (d : List ℕ) → lengthens g p d ≡ false → 4 ≤ runs g d (tail g p d) → takeAt g p (choice d) d ≡ extended g p (freeSlots g d) d (tail g p d) (choice d)
@@ -278,9 +277,9 @@ module _ (g : Geometry) (p : ℕ) (choice : List ℕ → ℕ) where
     y₂ = s .ready
 
     unfoldable pub d₂ : List ℕ
-    d₂ = withPair g p d e r n
+    d₂ = withPair g d e r n
 
-    is₂ : withPair g p d (tail g p d) (runs g d (tail g p d)) (choice d) ≡ d₂
+    is₂ : withPair g d (tail g p d) (runs g d (tail g p d)) (choice d) ≡ d₂
     unfolding d₂
     is₂ = rw (s .last, s .many, pick)
 
@@ -355,7 +354,7 @@ module _ (g : Geometry) (p : ℕ) (choice : List ℕ → ℕ) where
     y₃ = s .ready
 
     unfoldable pub d₃ : List ℕ
-    d₃ = withPair g p (withExtension g p d e x) x 0 n
+    d₃ = withPair g (withExtension g p d e x) x 0 n
 
     slots-x : firstOr 256 (freeSlots g d) ≡ x
     unfolding freeSlots
@@ -383,7 +382,7 @@ module _ (g : Geometry) (p : ℕ) (choice : List ℕ → ℕ) where
     extends₃ : Extend.Extends g d d₃ p x n
     unfolding d₃
     extends₃ =
-        subst (λ (u : ℕ). Extend.Extends g d (withPair g p (withExtension g p d u x) x 0 n) p x n) (s .last)
+        subst (λ (u : ℕ). Extend.Extends g d (withPair g (withExtension g p d u x) x 0 n) p x n) (s .last)
         (TakeNew.new-extends g d (sound′ g d p y₃) (fits′ g d p y₃) p (file′ g d p y₃) x (is-slot .0) (is-slot .1) n full₃ inn (λ t. Members.false-no f t))
 
     long₃ : length d₃ ≡ length d

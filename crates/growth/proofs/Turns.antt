@@ -15,15 +15,15 @@ use Rattle.meaning.specs.Layout.{taken, takeGranule, field, setField, granules,
 use Rattle.meaning.specs.Growth.{tail, lengthens, growBy, grown, fails, diskOr, withPair, withExtension}
 use Rattle.meaning.specs.Free.{freeGranules, freeSlot, permitted}
 use Rattle.meaning.specs.declared.Geometry.{Geometry}
-use Rattle.laws.specs.Members
-use Rattle.laws.specs.Members.{In}
+use Rattle.lists.specs.Members
+use Rattle.lists.specs.Members.{In}
 use Rattle.laws.specs.Places
 use Rattle.laws.specs.Steps.{Ready}
 use Rattle.laws.specs.Words.{words}
 use Rattle.layout.specs.Room.{Room, Slot}
-use Rattle.layout.proofs.Laws.{gat-low}
-use Rattle.layout.proofs.Lists.{le-or-lt}
-use Rattle.layout.proofs.Sound.{slot-of}
+use Rattle.layout.proofs.OneStep.{gat-low}
+use Rattle.lists.specs.Tests.{le-or-lt}
+use Rattle.layout.proofs.HasRoom.{slot-of}
 use Rattle.passed.proofs.Ready.{walks}
 use Rattle.space.proofs.First.{NoneBelow}
 use Rattle.growth_search.specs.Search.{Ends, NextSlot}

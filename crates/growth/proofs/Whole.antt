@@ -11,20 +11,20 @@ use Rattle.meaning.specs.Lists.{all}
 use Rattle.meaning.specs.Entries.{noGrowth}
 use Rattle.meaning.specs.Chain.{owned}
 use Rattle.meaning.specs.Free.{freeGranules}
-use Rattle.meaning.specs.Growth.{tail, Grown, grown, noSlot, growBy, growth, orElse, fails, diskOr}
-use Rattle.meaning.specs.Refusals.{first, accepted, cannotGrow, larger, lacking}
+use Rattle.meaning.specs.Growth.{tail, Grown, grown, noSlot, growBy, growth, orElse, fails, diskOr, withGranules, lacking}
+use Rattle.meaning.specs.Refusals.{first, accepted, cannotGrow}
 use Rattle.meaning.specs.declared.Geometry.{Geometry}
-use Rattle.laws.specs.Members
+use Rattle.lists.specs.Members
 use Rattle.laws.specs.Steps.{Ready}
 use Rattle.layout.specs.Room.{Room}
-use Rattle.layout.proofs.Lists.{first-hit, first-skip, first-none, all-yes, all-no, all-none}
+use Rattle.lists.specs.Tests.{first-hit, first-skip, first-none, all-yes, all-no, all-none}
 use Rattle.growth.proofs.Growing.{grow-done, not-stuck}
 use Rattle.growth.specs.Choose.{choiceBy}
 
 module _ (g : Geometry) (d : List ℕ) (p : ℕ) where
   -- the number r and the disk d′ of a growth by k granules
   abbrev pub Whole : ℕ → ℕ → List ℕ → Type 0
-  Whole k r d′ = (r ≡ first (cannotGrow g d p k)) × (d′ ≡ cond (accepted r) (larger g d p k) d)
+  Whole k r d′ = (r ≡ first (cannotGrow g d p k)) × (d′ ≡ cond (accepted r) (withGranules g d p k) d)
 
   abbrev By : Bool → ℕ → Grown
   By lowest k = growBy g p (choiceBy g lowest) k d
@@ -45,7 +45,7 @@ module _ (g : Geometry) (d : List ℕ) (p : ℕ) where
       go (grown x) e = absurd (let z : _≡_ {A = ℕ} 0 1 = cc in let v : ⊥ = omega arith in v)
       go noSlot e = refl
 
-  larger-is : (k : ℕ) (d′ : List ℕ) → growth g p k d ≡ grown d′ → larger g d p k ≡ d′
+  larger-is : (k : ℕ) (d′ : List ℕ) → growth g p k d ≡ grown d′ → withGranules g d p k ≡ d′
   unfolding diskOr
   larger-is k d′ e = rw e
 

@@ -7,8 +7,8 @@ ghost use lib.ListN.{length};
 ghost use Rattle.meaning.specs.Layout.{granules, field, setField, takeGranule, entryAt};
 ghost use Rattle.meaning.specs.Entries.{noGrowth};
 ghost use Rattle.meaning.specs.Free.{freeGranules};
-ghost use Rattle.meaning.specs.Growth.{withExtension, tail, growBy, fails};
-ghost use Rattle.meaning.specs.Refusals.{first, accepted, cannotGrow, larger, lacking};
+ghost use Rattle.meaning.specs.Growth.{withExtension, tail, growBy, fails, withGranules, lacking};
+ghost use Rattle.meaning.specs.Refusals.{first, accepted, cannotGrow};
 ghost use Rattle.laws.specs.Steps.{Ready};
 ghost use Rattle.layout.specs.Room.{Room, Slot};
 ghost use Rattle.growth.specs.Inside.{Inside};
@@ -236,7 +236,7 @@ fn no_growth(image: &[u8], g: Geometry, s: usize) -> bool
 pub fn grow(image: &mut [u8], g: Geometry, p: usize, wanted: usize) -> u8
     requires { ⌜ Ready g (now image) p ⌝ }
     ensures { λ r. ⌜ (r ≡ first (cannotGrow g (now (image .entry)) p (lacking g (now (image .entry)) p wanted)))
-        × (now (image .exit) ≡ cond (accepted r) (larger g (now (image .entry)) p (lacking g (now (image .entry)) p wanted)) (now (image .entry))) ⌝ }
+        × (now (image .exit) ≡ cond (accepted r) (withGranules g (now (image .entry)) p (lacking g (now (image .entry)) p wanted)) (now (image .entry))) ⌝ }
 {
     let x = extent::measure(image, g, p);
     if wanted <= x.owned {

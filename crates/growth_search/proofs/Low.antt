@@ -8,7 +8,7 @@ use native.Mathlib.Omega.{arith}
 use native.Mathlib.Decide.{ℕ-discrete}
 use Rattle.meaning.specs.Layout.{granules, taken}
 use Rattle.meaning.specs.declared.Geometry.{Geometry}
-use Rattle.layout.proofs.Lists.{le-or-lt}
+use Rattle.lists.specs.Tests.{le-or-lt}
 use Rattle.growth_search.specs.Search.{Clear, Stretch, AllClear, LongestFrom}
 use Rattle.growth_search.specs.declared.Found.{Found}
 

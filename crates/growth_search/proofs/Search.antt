@@ -13,7 +13,7 @@ use Rattle.meaning.specs.Lists.{count, every, all}
 use Rattle.meaning.specs.Layout.{granules, taken}
 use Rattle.meaning.specs.Free.{freeSlot}
 use Rattle.meaning.specs.declared.Geometry.{Geometry}
-use Rattle.layout.proofs.Lists.{le-or-lt, all-at, every-count}
+use Rattle.lists.specs.Tests.{le-or-lt, all-at, every-count}
 use Rattle.growth_search.specs.Search.{Clear, NextFree, NextSlot}
 
 module _ (g : Geometry) (d : List ℕ) where

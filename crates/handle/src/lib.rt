@@ -5,8 +5,12 @@ use meaning::Handle;
 use meaning::Refusal;
 ghost use mathlib.Core.Path.{_≡_};
 ghost use mathlib.Core.List.{[], _∷_};
+ghost use lib.Dec.{ltb};
+ghost use Rattle.meaning.specs.Lists.{all};
+ghost use Rattle.meaning.specs.Layout.{sectorNumbers};
 ghost use Rattle.meaning.specs.Entries.{system};
-ghost use Rattle.meaning.specs.Refusals.{first, check, goodLength, inRange, fresh, handleRefusals, notForReading, protected};
+ghost use Rattle.meaning.specs.Refusals.{first, check, handleRefusals, notForReading, protected};
+ghost use Rattle.meaning.specs.Handles.{goodLength, inRange, fresh};
 ghost use Rattle.layout.specs.Room.{Room, Slot};
 
 // Record length 1 to 256.
@@ -30,6 +34,16 @@ pub fn in_range(g: Geometry, h: Handle) -> bool
         return false;
     }
     h.level <= 7
+}
+
+// Test 12 of a call that names a sector.
+pub fn sector_ranged(g: Geometry, h: Handle, k: usize) -> bool
+    ensures { λ r. ⌜ r ≡ all (inRange g h ∷ ltb k (sectorNumbers g) ∷ []) ⌝ }
+{
+    if !in_range(g, h) {
+        return false;
+    }
+    k < layout::sector_numbers(g)
 }
 
 // Whether the handle is not stale.

@@ -14,8 +14,8 @@ use Rattle.meaning.specs.Entries.{extension, system, link, block, nameOf, runs,
 use Rattle.meaning.specs.Chain.{chain, owned}
 use Rattle.meaning.specs.Growth.{tail}
 use Rattle.meaning.specs.declared.Geometry.{Geometry}
-use Rattle.laws.specs.Members
-use Rattle.laws.specs.Members.{In, Distinct}
+use Rattle.lists.specs.Members
+use Rattle.lists.specs.Members.{In, Distinct}
 use Rattle.laws.specs.Facts
 use Rattle.laws.specs.Facts.{Sound}
 use Rattle.laws.specs.Entry
@@ -31,10 +31,10 @@ pub record AtTail (g : Geometry) (d d′ : List ℕ) (p : ℕ) : Type 0 where
   pub hits : (x : ℕ) → T (isSlot g d x) → hit g d′ x ≡ hit g d x
   pub fixed : (k : ℕ) → k < 32 → (k < 0x16) ⊎ (0x1e ≤ k) → field g d′ (tail g p d) k ≡ field g d (tail g p d) k
   pub pairs : (k : ℕ) → k < 4 → runs g d′ (tail g p d) ≤ k → block g d′ (tail g p d) k ≡ 0xff
-  pub run : (k : ℕ) → k < runs g d′ (tail g p d) → Entry.Run g d′ (tail g p d) k
+  pub run : (k : ℕ) → k < runs g d′ (tail g p d) → Entry.OnDisk g d′ (tail g p d) k
   pub some′ : tail g p d ≢ p → 1 ≤ runs g d′ (tail g p d)
 
-module _ (g : Geometry) (d d′ : List ℕ) (c : Sound g d) (p : ℕ) (f : Facts.File g d p) (h : AtTail g d d′ p) where
+module _ (g : Geometry) (d d′ : List ℕ) (c : Sound g d) (p : ℕ) (f : Facts.IsFile g d p) (h : AtTail g d d′ p) where
   slot-of : (x : ℕ) → In x (chain g d p) → T (isSlot g d x)
   slot-of x i = Change.members g d c p x f i .slot
 
@@ -80,7 +80,7 @@ module _ (g : Geometry) (d d′ : List ℕ) (c : Sound g d) (p : ℕ) (f : Facts
       (Members.each-eq (entryGranules g d′) (entryGranules g d) (Members.front (chain g d p)) (λ x i. Frame.entryGranules-eq g d d′ x (front-agrees x i)))
       ∙ ap (λ (l : List ℕ). earlier ++ l) (Members.each-one (entryGranules g d′) (tail g p d))
 
-  pub file-stays : Facts.File g d′ p
+  pub file-stays : Facts.IsFile g d′ p
   file-stays = record { slot = rw (Frame.slot-eq g d d′ (h .above) p) (f .slot); primary′ = rw (low 0 (omega arith)) (f .primary′) }
 
   next′ : (x : ℕ) → Entry.Linked g d x → Entry.Follows g d′ x (link g d x)

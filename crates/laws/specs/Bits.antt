@@ -1,9 +1,14 @@
--- One bit of a byte: what is read after one is put
+-- One bit of a byte: 0 or 1, and what is read after one is put
 use mathlib.Core.Path.{_≡_, refl, ap, sym, _∙_}
 use mathlib.Core.Logic.{_≢_}
 use Prim.Native.Nat.{ℕ, zero, suc, _+_, _*_, _/_, _%_, _^_, _≤_, _<_}
 use native.Mathlib.Omega.{arith}
 use Rattle.meaning.specs.Bits.{digit, putDigit}
+
+pub digit-lt : (x u : ℕ) → digit x u < 2
+unfolding digit
+digit-lt x zero = omega arith
+digit-lt x (suc u) = digit-lt (x / 2) u
 
 half : (y x : ℕ) → (y * 2 + x % 2) / 2 ≡ y
 half y x = omega arith

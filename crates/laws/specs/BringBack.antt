@@ -19,11 +19,11 @@ use Rattle.meaning.specs.BringBack.{killedEntryHolds, whole}
 use Rattle.meaning.specs.Read.{fetch}
 use Rattle.meaning.specs.Plain.{fileAt, backAs}
 use Rattle.meaning.specs.declared.Geometry.{Geometry}
-use Rattle.laws.specs.Members
-use Rattle.laws.specs.Members.{In, Distinct}
+use Rattle.lists.specs.Members
+use Rattle.lists.specs.Members.{In, Distinct}
 use Rattle.laws.specs.Bits
 use Rattle.laws.specs.Facts
-use Rattle.laws.specs.Facts.{File, Sound}
+use Rattle.laws.specs.Facts.{IsFile, Sound}
 use Rattle.laws.specs.Entry
 use Rattle.laws.specs.Frame
 use Rattle.laws.specs.Places
@@ -38,7 +38,7 @@ use Rattle.laws.specs.Words.{words}
 pub record Killed (g : Geometry) (d : List ℕ) (x : ℕ) : Type 0 where
   pub pairs : (k : ℕ) → k < 4 → runs g d x ≤ k → block g d x k ≡ 0xff
   pub linked : (marker g d x ≡ 0xff) ⊎ Entry.LinkedBy g d 0x80 x
-  pub run : (k : ℕ) → k < runs g d x → Entry.Run g d x k
+  pub run : (k : ℕ) → k < runs g d x → Entry.OnDisk g d x k
 
 -- something whole to bring back
 pub record Whole (g : Geometry) (d : List ℕ) (p : ℕ) : Type 0 where
@@ -118,7 +118,7 @@ pub record Back (g : Geometry) (d : List ℕ) (p : ℕ) : Type 0 where
   pub dead : T (inUse g d p) → ⊥
   pub user : T (not (system g d p))
   pub whole′ : Whole g d p
-  pub new : (q : ℕ) → File g d q → nameOf g d q ≢ nameOf g d p
+  pub new : (q : ℕ) → IsFile g d q → nameOf g d q ≢ nameOf g d p
   pub free : (n : ℕ) → In n (owned g d p) → T (taken g d n) → ⊥
 
 -- an entry of its chain
@@ -136,7 +136,7 @@ now-used = refl
 
 -- bring back sets: its stores are, by what the words mean, a marking with 1
 module _ (g : Geometry) (d : List ℕ) (c : Sound g d) (k : Places.Fits g d) (p : ℕ) (w : Back g d p) where
-  no-file : File g d p → ⊥
+  no-file : IsFile g d p → ⊥
   no-file f = w .dead (Facts.file-in-use g d p f)
 
   part : (x : ℕ) → In x (chain g d p) → Part g d p x
@@ -215,7 +215,7 @@ module _ (g : Geometry) (d : List ℕ) (c : Sound g d) (k : Places.Fits g d) (p 
   used′ : (x : ℕ) → In x (chain g d p) → T (inUse g d′ x)
   used′ x i = Members.eq-T (ap (λ (b : ℕ). digit b 4) (back-flags x i) ∙ Bits.digit-same (field g d x 0) 4 1 (omega arith))
 
-  pub back-file : File g d′ p
+  pub back-file : IsFile g d′ p
   back-file = record { slot = slot′ p head; primary′ = Members.and-i (inUse g d′ p) (not (extension g d′ p)) (used′ p head) (rw (flag-other 7 (omega arith)) (w .whole′ .first)) }
 
   later′ : (x : ℕ) → In x (chain g d p) → x ≢ p → field g d′ x 0 ≡ 0x90

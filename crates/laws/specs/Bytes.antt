@@ -23,14 +23,14 @@ use Rattle.meaning.specs.Drop.{unhooked, dropOne}
 use Rattle.meaning.specs.Kill.{killed}
 use Rattle.meaning.specs.Create.{newEntry, withEntry}
 use Rattle.meaning.specs.Write.{store, withSize}
-use Rattle.meaning.specs.Plain.{AreBytes}
+use Rattle.promises_words.specs.Given.{AreBytes}
 use Rattle.meaning.specs.declared.Geometry.{Geometry}
 use Rattle.meaning.specs.declared.NewFile.{NewFile}
-use Rattle.laws.specs.Members
-use Rattle.laws.specs.Members.{In}
+use Rattle.lists.specs.Members
+use Rattle.lists.specs.Members.{In}
 use Rattle.laws.specs.Bits
 use Rattle.laws.specs.Facts
-use Rattle.laws.specs.Facts.{Sound, File}
+use Rattle.laws.specs.Facts.{Sound, IsFile}
 use Rattle.laws.specs.Places
 use Rattle.laws.specs.Marking
 use Rattle.laws.specs.Change
@@ -179,7 +179,7 @@ module _ (g : Geometry) (d : List ℕ) (k : Places.Fits g d) where
   small-killed p s = small-marking 0 0 (owned g d p) (chain g d p) (omega arith) (omega arith) s
 
   -- the size and B, where the sector count has two bytes
-  pub small-size : (l : List ℕ) (p size : ℕ) → Small l → sectorsFor size < 65536 → Small (withSize g d l p size)
+  pub small-size : (l : List ℕ) (p size : ℕ) → Small l → sectorsFor size < 65536 → Small (withSize g l p size)
   unfolding words
   small-size l p size s h =
       small-field p 1 (small-field p 0x15 (small-field p 0x14 (small-field p 3 s (omega arith)) (omega arith)) (omega arith))
@@ -205,14 +205,14 @@ module _ (g : Geometry) (d : List ℕ) (k : Places.Fits g d) where
 
 -- One granule taken, one given back ------------------------------------------------------------------------------------------------
 
-module _ (g : Geometry) (d : List ℕ) (c : Sound g d) (k : Places.Fits g d) (p : ℕ) (f : File g d p) (s : Small d) where
+module _ (g : Geometry) (d : List ℕ) (c : Sound g d) (k : Places.Fits g d) (p : ℕ) (f : IsFile g d p) (s : Small d) where
   abbrev e : ℕ
   e = tail g p d
 
   e-small : e < 256
   e-small = Facts.slot-lt g d e (Change.members g d c p e f (Change.tail-in g d c p f) .slot)
 
-  pair-small : (l : List ℕ) (x j n : ℕ) → Small l → n < granules g → Small (withPair g p l x j n)
+  pair-small : (l : List ℕ) (x j n : ℕ) → Small l → n < granules g → Small (withPair g l x j n)
   pair-small l x j n r h =
       small-taken g d k n
       (small-field g d k x (0x17 + 2 * j) (small-field g d k x (0x16 + 2 * j) r (omega (arith, Places.block-lt g d n k h, k .blocks-hi)))
@@ -229,17 +229,17 @@ module _ (g : Geometry) (d : List ℕ) (c : Sound g d) (k : Places.Fits g d) (p 
   hooked-small : (x : ℕ) → x < 256 → Small (withExtension g p d e x)
   unfolding words
   hooked-small x h =
-      let new : Small (newExtension g p e) =
+      let new : Small (newExtension e) =
       small-cons (omega arith) (small-cons e-small (small-append (replicate 20 0) (small-replicate 20 (omega arith)) (small-replicate 10 (omega arith)))) in
       small-sets (hit g d p ∷ []) (hitAt g x)
-      (small-sets (newExtension g p e) (entryAt g x) (small-field g d k e 0x1f (small-field g d k e 0x1e s (omega arith)) h) new)
+      (small-sets (newExtension e) (entryAt g x) (small-field g d k e 0x1f (small-field g d k e 0x1e s (omega arith)) h) new)
       (small-cons (s .below (hitAt g p)) small-none)
 
   extended-small : (n : ℕ) → n < granules g → (xs : List ℕ) → ((x : ℕ) → In x xs → x < 256) → (d′ : List ℕ) → extended g p xs d e n ≡ grown d′ → Small d′
   unfolding extended
   extended-small n h [] b d′ q = absurd (let z : _≡_ {A = ℕ} 0 1 = cc in omega arith)
   extended-small n h (x ∷ xs) b d′ q =
-      let r : withPair g p (withExtension g p d e x) x 0 n ≡ d′ = cc in
+      let r : withPair g (withExtension g p d e x) x 0 n ≡ d′ = cc in
       subst Small r (pair-small (withExtension g p d e x) x 0 n (hooked-small x (b x Members.In.here)) h)
 
   slots-small : (x : ℕ) → In x (freeSlots g d) → x < 256
@@ -255,14 +255,14 @@ module _ (g : Geometry) (d : List ℕ) (c : Sound g d) (k : Places.Fits g d) (p 
           let z : lengthened g p d ≡ d′ = cc in
           subst Small z (longer-small t)
       go (Members.Test.fails a) (Members.Test.holds t) =
-          let r : grown (withPair g p d e (runs g d e) n) ≡ grown d′ = rw (Members.no-false {b = lengthens g p d} a, Members.T-true {b = ltb (runs g d e) 4} t) at q in
-          let z : withPair g p d e (runs g d e) n ≡ d′ = cc in
+          let r : grown (withPair g d e (runs g d e) n) ≡ grown d′ = rw (Members.no-false {b = lengthens g p d} a, Members.T-true {b = ltb (runs g d e) 4} t) at q in
+          let z : withPair g d e (runs g d e) n ≡ d′ = cc in
           subst Small z (pair-small d e (runs g d e) n s h)
       go (Members.Test.fails a) (Members.Test.fails b) =
           let r : extended g p (freeSlots g d) d e n ≡ grown d′ = rw (Members.no-false {b = lengthens g p d} a, Members.no-false {b = ltb (runs g d e) 4} b) at q in
           extended-small n h (freeSlots g d) slots-small d′ r
 
-  unhooked-small : (l : List ℕ) (x b : ℕ) → Small l → Small (unhooked g p l x b)
+  unhooked-small : (l : List ℕ) (x b : ℕ) → Small l → Small (unhooked g l x b)
   unfolding unhooked words
   unhooked-small l x b r =
       small-field g d k b 0x1f (small-field g d k b 0x1e (small-field g d k x 0x1f (small-field g d k x 0x1e

@@ -11,16 +11,16 @@ use lib.ListN.{length}
 use lib.Dec.{T, eqb, T-not, eqb→eq}
 use Rattle.meaning.specs.Layout.{isSlot, slots, taken, field, granules, hit, directoryGranules, aboveTen}
 use Rattle.meaning.specs.Bits.{bit, digit}
-use Rattle.meaning.specs.Entries.{inUse, extension, primary, marker, link, entryGranules, nameOf}
+use Rattle.meaning.specs.Entries.{inUse, extension, inUsePrimary, marker, link, entryGranules, nameOf}
 use Rattle.meaning.specs.Chain.{chain, chainFrom, owned}
 use Rattle.meaning.specs.Consistent.{hitHolds, entryHolds, fileHolds}
 use Rattle.meaning.specs.Growth.{tail}
 use Rattle.meaning.specs.declared.Geometry.{Geometry}
-use Rattle.laws.specs.Members
-use Rattle.laws.specs.Members.{In, Distinct}
-use Rattle.laws.specs.Counting
+use Rattle.lists.specs.Members
+use Rattle.lists.specs.Members.{In, Distinct}
+use Rattle.lists.specs.Counting
 use Rattle.laws.specs.Facts
-use Rattle.laws.specs.Facts.{File, Sound}
+use Rattle.laws.specs.Facts.{IsFile, Sound}
 use Rattle.laws.specs.Entry
 use Rattle.laws.specs.Frame
 use Rattle.laws.specs.Places
@@ -29,52 +29,52 @@ use Rattle.laws.specs.Words.{words}
 
 -- the entries, and the granules, of the file at slot p; none if there is no file at p
 unfoldable pub entriesOf : Geometry → List ℕ → ℕ → List ℕ
-entriesOf g d p = cond (isSlot g d p && primary g d p) (chain g d p) []
+entriesOf g d p = cond (isSlot g d p && inUsePrimary g d p) (chain g d p) []
 
 unfoldable pub granulesOf : Geometry → List ℕ → ℕ → List ℕ
-granulesOf g d p = cond (isSlot g d p && primary g d p) (owned g d p) []
+granulesOf g d p = cond (isSlot g d p && inUsePrimary g d p) (owned g d p) []
 
 module _ (g : Geometry) (d : List ℕ) (p : ℕ) where
-  file-test : File g d p → T (isSlot g d p && primary g d p)
-  file-test f = Members.and-i (isSlot g d p) (primary g d p) (f .slot) (f .primary′)
+  file-test : IsFile g d p → T (isSlot g d p && inUsePrimary g d p)
+  file-test f = Members.and-i (isSlot g d p) (inUsePrimary g d p) (f .slot) (f .primary′)
 
-  test-file : T (isSlot g d p && primary g d p) → File g d p
-  test-file t = record { slot = Members.and-l (isSlot g d p) (primary g d p) t; primary′ = Members.and-r (isSlot g d p) (primary g d p) t }
+  test-file : T (isSlot g d p && inUsePrimary g d p) → IsFile g d p
+  test-file t = record { slot = Members.and-l (isSlot g d p) (inUsePrimary g d p) t; primary′ = Members.and-r (isSlot g d p) (inUsePrimary g d p) t }
 
-  pub file? : File g d p ⊎ (File g d p → ⊥)
-  file? = go (Members.decide (isSlot g d p && primary g d p))
+  pub file? : IsFile g d p ⊎ (IsFile g d p → ⊥)
+  file? = go (Members.decide (isSlot g d p && inUsePrimary g d p))
     where
-      go : Members.Test (isSlot g d p && primary g d p) → File g d p ⊎ (File g d p → ⊥)
+      go : Members.Test (isSlot g d p && inUsePrimary g d p) → IsFile g d p ⊎ (IsFile g d p → ⊥)
       go (Members.Test.holds t) = inl (test-file t)
       go (Members.Test.fails f) = inr (λ h. f (file-test h))
 
-  pub entriesOf-is : File g d p → entriesOf g d p ≡ chain g d p
+  pub entriesOf-is : IsFile g d p → entriesOf g d p ≡ chain g d p
   unfolding entriesOf
-  entriesOf-is f = rw (Members.T-true {b = isSlot g d p && primary g d p} (file-test f))
+  entriesOf-is f = rw (Members.T-true {b = isSlot g d p && inUsePrimary g d p} (file-test f))
 
-  pub granulesOf-is : File g d p → granulesOf g d p ≡ owned g d p
+  pub granulesOf-is : IsFile g d p → granulesOf g d p ≡ owned g d p
   unfolding granulesOf
-  granulesOf-is f = rw (Members.T-true {b = isSlot g d p && primary g d p} (file-test f))
+  granulesOf-is f = rw (Members.T-true {b = isSlot g d p && inUsePrimary g d p} (file-test f))
 
-  pub entriesOf-none : (File g d p → ⊥) → entriesOf g d p ≡ []
+  pub entriesOf-none : (IsFile g d p → ⊥) → entriesOf g d p ≡ []
   unfolding entriesOf
-  entriesOf-none f = rw (Members.no-false {b = isSlot g d p && primary g d p} (λ t. f (test-file t)))
+  entriesOf-none f = rw (Members.no-false {b = isSlot g d p && inUsePrimary g d p} (λ t. f (test-file t)))
 
-  pub granulesOf-none : (File g d p → ⊥) → granulesOf g d p ≡ []
+  pub granulesOf-none : (IsFile g d p → ⊥) → granulesOf g d p ≡ []
   unfolding granulesOf
-  granulesOf-none f = rw (Members.no-false {b = isSlot g d p && primary g d p} (λ t. f (test-file t)))
+  granulesOf-none f = rw (Members.no-false {b = isSlot g d p && inUsePrimary g d p} (λ t. f (test-file t)))
 
-  pub entries-in : (x : ℕ) → In x (entriesOf g d p) → File g d p × In x (chain g d p)
+  pub entries-in : (x : ℕ) → In x (entriesOf g d p) → IsFile g d p × In x (chain g d p)
   entries-in x i = go file? i
     where
-      go : File g d p ⊎ (File g d p → ⊥) → In x (entriesOf g d p) → File g d p × In x (chain g d p)
+      go : IsFile g d p ⊎ (IsFile g d p → ⊥) → In x (entriesOf g d p) → IsFile g d p × In x (chain g d p)
       go (inl f) i = (f, rw (entriesOf-is f) at i)
       go (inr n) i = Members.none-in (rw (entriesOf-none n) at i)
 
-  pub granules-in : (n : ℕ) → In n (granulesOf g d p) → File g d p × In n (owned g d p)
+  pub granules-in : (n : ℕ) → In n (granulesOf g d p) → IsFile g d p × In n (owned g d p)
   granules-in n i = go file? i
     where
-      go : File g d p ⊎ (File g d p → ⊥) → In n (granulesOf g d p) → File g d p × In n (owned g d p)
+      go : IsFile g d p ⊎ (IsFile g d p → ⊥) → In n (granulesOf g d p) → IsFile g d p × In n (owned g d p)
       go (inl f) i = (f, rw (granulesOf-is f) at i)
       go (inr h) i = Members.none-in (rw (granulesOf-none h) at i)
 
@@ -87,7 +87,7 @@ pub record Own (g : Geometry) (d d′ : List ℕ) (p : ℕ) : Type 0 where
   pub filed : Entry.Filed g d′ p
   pub once : Distinct (chain g d′ p)
   pub single : Distinct (owned g d′ p)
-  pub name : (q : ℕ) → File g d q → q ≢ p → nameOf g d q ≢ nameOf g d′ p
+  pub name : (q : ℕ) → IsFile g d q → q ≢ p → nameOf g d q ≢ nameOf g d′ p
 
 pub record Change (g : Geometry) (d d′ : List ℕ) (p : ℕ) : Type 0 where
   pub above : aboveTen g d′ ≡ aboveTen g d
@@ -101,14 +101,14 @@ pub record Change (g : Geometry) (d d′ : List ℕ) (p : ℕ) : Type 0 where
   pub freed : (n : ℕ) → In n (granulesOf g d p) → (In n (granulesOf g d′ p) → ⊥) → T (taken g d′ n) → ⊥
   pub fresh : (n : ℕ) → In n (granulesOf g d′ p) → (In n (granulesOf g d p) → ⊥) → T (taken g d n) → ⊥
   pub off : (n : ℕ) → In n (granulesOf g d p) → In n (directoryGranules g d) → ⊥
-  pub own : File g d′ p → Own g d d′ p
+  pub own : IsFile g d′ p → Own g d d′ p
 
 -- In any sound disk
 module _ (g : Geometry) (d : List ℕ) (c : Sound g d) where
   pub entry-at : (s : ℕ) → T (isSlot g d s) → T (inUse g d s) → Entry.Entry g d s
   entry-at s t u = Entry.entry g d s (c .entries s t u)
 
-  pub filed-at : (p : ℕ) → File g d p → Entry.Filed g d p
+  pub filed-at : (p : ℕ) → IsFile g d p → Entry.Filed g d p
   filed-at p f = Entry.filed g d p (c .file p f)
 
 -- what is known of an entry x in the chain of the file at p
@@ -177,11 +177,11 @@ module _ (g : Geometry) (d : List ℕ) (c : Sound g d) where
       go (inl e) r = record { slot = rw e t; used = rw e u; kind = inl e }
       go (inr i) r = into (eqb (marker g d p) 0xfe) refl i r
 
-  pub members : (p x : ℕ) → File g d p → In x (chain g d p) → Member g d p x
+  pub members : (p x : ℕ) → IsFile g d p → In x (chain g d p) → Member g d p x
   unfolding chain
   members p x f i = chainFrom-members _ p x (f .slot) (Facts.file-in-use g d p f) i
 
-  pub extends : (p x : ℕ) → File g d p → In x (chain g d p) → x ≢ p → T (extension g d x)
+  pub extends : (p x : ℕ) → IsFile g d p → In x (chain g d p) → x ≢ p → T (extension g d x)
   extends p x f i n = go (members p x f i .kind)
     where
       go : (x ≡ p) ⊎ (field g d x 0 ≡ 0x90) → T (extension g d x)
@@ -197,7 +197,7 @@ module _ (g : Geometry) (d : List ℕ) (c : Sound g d) where
       go (suc n) h = Members.In.here
 
   -- only one entry is followed by y, and it is in the same chain
-  pub before-in : (p x y : ℕ) → File g d p → In y (chain g d p) → Entry.Follows g d x y → In x (chain g d p)
+  pub before-in : (p x y : ℕ) → IsFile g d p → In y (chain g d p) → Entry.Follows g d x y → In x (chain g d p)
   before-in p x y f i w = go (Entry.chain-pred g d p y i)
     where
       linked : (z : ℕ) → In z (chain g d p) → marker g d z ≡ 0xfe → link g d z ≡ y → (marker g d z ≡ 0xff) ⊎ Entry.Linked g d z → In x (chain g d p)
@@ -213,21 +213,21 @@ module _ (g : Geometry) (d : List ℕ) (c : Sound g d) where
   unfolding owned
   granule-owned q x n i j = Members.in-each (entryGranules g d) i j
 
-  pub owned-taken : (q n : ℕ) → File g d q → In n (owned g d q) → T (taken g d n)
+  pub owned-taken : (q n : ℕ) → IsFile g d q → In n (owned g d q) → T (taken g d n)
   unfolding owned
   owned-taken q n f i =
       let k = Members.each-in (entryGranules g d) n (chain g d q) i in
       let m = members q (k .0) f (k .1) in
       entry-at g d c (k .0) (m .slot) (m .used) .gat n (k .2)
 
-  pub owned-lt : (q n : ℕ) → File g d q → In n (owned g d q) → n < granules g
+  pub owned-lt : (q n : ℕ) → IsFile g d q → In n (owned g d q) → n < granules g
   unfolding owned
   owned-lt q n f i =
       let k = Members.each-in (entryGranules g d) n (chain g d q) i in
       let m = members q (k .0) f (k .1) in
       Places.entry-granule-lt g d (k .0) n (entry-at g d c (k .0) (m .slot) (m .used)) (k .2)
 
-module _ (g : Geometry) (d : List ℕ) (c : Sound g d) (p : ℕ) (f : File g d p) where
+module _ (g : Geometry) (d : List ℕ) (c : Sound g d) (p : ℕ) (f : IsFile g d p) where
   pub tail-in : In (tail g p d) (chain g d p)
   tail-in = Members.last-in p (chain-head g d c p (f .slot))
 
@@ -281,42 +281,42 @@ module _ (g : Geometry) (d d′ : List ℕ) (c : Sound g d) (p : ℕ) (h : Chang
   agree-used : (x : ℕ) → T (isSlot g d x) → T (inUse g d x) → (In x (entriesOf g d p) → ⊥) → Agree g d d′ x
   agree-used x t u n = h .agrees x t n (λ i. h .born x i n u)
 
-  pub foreign : (q x : ℕ) → File g d q → q ≢ p → In x (chain g d q) → In x (entriesOf g d p) → ⊥
+  pub foreign : (q x : ℕ) → IsFile g d q → q ≢ p → In x (chain g d q) → In x (entriesOf g d p) → ⊥
   foreign q x f n i j = let k = entries-in g d p x j in n (c .chains q p x f (k .0) i (k .1))
 
-  pub spared : (q x : ℕ) → File g d q → q ≢ p → In x (chain g d q) → Agree g d d′ x
+  pub spared : (q x : ℕ) → IsFile g d q → q ≢ p → In x (chain g d q) → Agree g d d′ x
   spared q x f n i = let m = members g d c q x f i in agree-used x (m .slot) (m .used) (foreign q x f n i)
 
-  pub spared-hit : (q x : ℕ) → File g d q → q ≢ p → In x (chain g d q) → hit g d′ x ≡ hit g d x
+  pub spared-hit : (q x : ℕ) → IsFile g d q → q ≢ p → In x (chain g d q) → hit g d′ x ≡ hit g d x
   spared-hit q x f n i = let m = members g d c q x f i in h .hits x (m .slot) (foreign q x f n i) (λ j. h .born x j (foreign q x f n i) (m .used))
 
-  pub spared-first : (q : ℕ) → File g d q → q ≢ p → Agree g d d′ q
+  pub spared-first : (q : ℕ) → IsFile g d q → q ≢ p → Agree g d d′ q
   spared-first q f n = spared q q f n (chain-head g d c q (f .slot))
 
-  pub file-stays : (q : ℕ) → File g d q → q ≢ p → File g d′ q
+  pub file-stays : (q : ℕ) → IsFile g d q → q ≢ p → IsFile g d′ q
   file-stays q f n = Frame.file-eq g d d′ (h .above) q (spared-first q f n) f
 
-  pub file-was : (q : ℕ) → File g d′ q → q ≢ p → File g d q
+  pub file-was : (q : ℕ) → IsFile g d′ q → q ≢ p → IsFile g d q
   file-was q f n = go (Members.in? q (entriesOf g d′ p)) (Members.in? q (entriesOf g d p))
     where
-      go : In q (entriesOf g d′ p) ⊎ (In q (entriesOf g d′ p) → ⊥) → In q (entriesOf g d p) ⊎ (In q (entriesOf g d p) → ⊥) → File g d q
+      go : In q (entriesOf g d′ p) ⊎ (In q (entriesOf g d′ p) → ⊥) → In q (entriesOf g d p) ⊎ (In q (entriesOf g d p) → ⊥) → IsFile g d q
       go (inl i) j = let k = entries-in g d′ p q i in absurd (T-not (extension g d′ q) (Facts.file-first g d′ q f) (h .own (k .0) .later q (k .1) n))
       go (inr i) (inl j) = absurd (h .gone q j i (Facts.file-in-use g d′ q f))
       go (inr i) (inr j) = Frame.eq-file g d d′ (h .above) q (h .agrees q (rw (Frame.slot-eq g d d′ (h .above) q) at (f .slot)) j i) f
 
-  pub chain-stays : (q : ℕ) → File g d q → q ≢ p → chain g d′ q ≡ chain g d q
+  pub chain-stays : (q : ℕ) → IsFile g d q → q ≢ p → chain g d′ q ≡ chain g d q
   chain-stays q f n = Frame.chain-eq g d d′ (h .above) q (λ x i. spared q x f n i)
 
-  pub owned-stays : (q : ℕ) → File g d q → q ≢ p → owned g d′ q ≡ owned g d q
+  pub owned-stays : (q : ℕ) → IsFile g d q → q ≢ p → owned g d′ q ≡ owned g d q
   owned-stays q f n = Frame.owned-eq g d d′ (h .above) q (λ x i. spared q x f n i)
 
-  pub name-stays : (q : ℕ) → File g d q → q ≢ p → nameOf g d′ q ≡ nameOf g d q
+  pub name-stays : (q : ℕ) → IsFile g d q → q ≢ p → nameOf g d′ q ≡ nameOf g d q
   name-stays q f n = Frame.nameOf-eq g d d′ q (spared-first q f n)
 
-  pub foreign-granule : (q n : ℕ) → File g d q → q ≢ p → In n (owned g d q) → In n (granulesOf g d p) → ⊥
+  pub foreign-granule : (q n : ℕ) → IsFile g d q → q ≢ p → In n (owned g d q) → In n (granulesOf g d p) → ⊥
   foreign-granule q n f e i j = let k = granules-in g d p n j in e (c .granules q p n f (k .0) i (k .1))
 
-  pub foreign-granule′ : (q n : ℕ) → File g d q → q ≢ p → In n (owned g d q) → In n (granulesOf g d′ p) → ⊥
+  pub foreign-granule′ : (q n : ℕ) → IsFile g d q → q ≢ p → In n (owned g d q) → In n (granulesOf g d′ p) → ⊥
   foreign-granule′ q n f e i j = h .fresh n j (foreign-granule q n f e i) (owned-taken g d c q n f i)
 
   slot-was : (s : ℕ) → T (isSlot g d′ s) → T (isSlot g d s)
@@ -350,7 +350,7 @@ module _ (g : Geometry) (d d′ : List ℕ) (c : Sound g d) (p : ℕ) (h : Chang
       go (inr i) (inl j) = absurd (h .gone s j i u)
       go (inr i) (inr j) = let a = h .agrees s (slot-was s t) j i in Entry.says-entry g d′ s (kept j a (rw (a 0 (omega arith)) at u))
 
-  file′ : (q : ℕ) → File g d′ q → T (fileHolds g d′ q)
+  file′ : (q : ℕ) → IsFile g d′ q → T (fileHolds g d′ q)
   file′ q f = go (ℕ-discrete q p)
     where
       go : Dec (q ≡ p) → T (fileHolds g d′ q)
@@ -358,7 +358,7 @@ module _ (g : Geometry) (d d′ : List ℕ) (c : Sound g d) (p : ℕ) (h : Chang
       go (no n) = let b = file-was q f n in
           Entry.says-filed g d′ q (Frame.filed-eq g d d′ (h .above) q (spared-first q b n) (λ x i. spared q x b n i) (λ x i. spared-hit q x b n i) (filed-at g d c q b))
 
-  names′ : (q r : ℕ) → File g d′ q → File g d′ r → nameOf g d′ q ≡ nameOf g d′ r → q ≡ r
+  names′ : (q r : ℕ) → IsFile g d′ q → IsFile g d′ r → nameOf g d′ q ≡ nameOf g d′ r → q ≡ r
   names′ q r f k e = go (ℕ-discrete q p) (ℕ-discrete r p)
     where
       go : Dec (q ≡ p) → Dec (r ≡ p) → q ≡ r
@@ -367,13 +367,13 @@ module _ (g : Geometry) (d d′ : List ℕ) (c : Sound g d) (p : ℕ) (h : Chang
       go (no a) (yes b) = let w = file-was q f a in absurd (h .own (rw b at k) .name q w a (sym (name-stays q w a) ∙ e ∙ ap (nameOf g d′) b))
       go (no a) (no b) = let w = file-was q f a in let v = file-was r k b in c .names q r w v (sym (name-stays q w a) ∙ e ∙ name-stays r v b)
 
-  apart′ : (q s : ℕ) → File g d′ p → File g d′ q → q ≢ p → In s (chain g d′ p) → In s (chain g d′ q) → ⊥
+  apart′ : (q s : ℕ) → IsFile g d′ p → IsFile g d′ q → q ≢ p → In s (chain g d′ p) → In s (chain g d′ q) → ⊥
   apart′ q s f k n i j =
       let w = file-was q k n in
       let j′ = rw (chain-stays q w n) at j in
       h .born s (rw (entriesOf-is g d′ p f) i) (foreign q s w n j′) (members g d c q s w j′ .used)
 
-  chains′ : (q r s : ℕ) → File g d′ q → File g d′ r → In s (chain g d′ q) → In s (chain g d′ r) → q ≡ r
+  chains′ : (q r s : ℕ) → IsFile g d′ q → IsFile g d′ r → In s (chain g d′ q) → In s (chain g d′ r) → q ≡ r
   chains′ q r s f k i j = go (ℕ-discrete q p) (ℕ-discrete r p)
     where
       go : Dec (q ≡ p) → Dec (r ≡ p) → q ≡ r
@@ -382,13 +382,13 @@ module _ (g : Geometry) (d d′ : List ℕ) (c : Sound g d) (p : ℕ) (h : Chang
       go (no a) (yes b) = absurd (apart′ q s (rw b at k) f a (rw b at j) i)
       go (no a) (no b) = let w = file-was q f a in let v = file-was r k b in c .chains q r s w v (rw (chain-stays q w a) at i) (rw (chain-stays r v b) at j)
 
-  apart-granules′ : (q n : ℕ) → File g d′ p → File g d′ q → q ≢ p → In n (owned g d′ p) → In n (owned g d′ q) → ⊥
+  apart-granules′ : (q n : ℕ) → IsFile g d′ p → IsFile g d′ q → q ≢ p → In n (owned g d′ p) → In n (owned g d′ q) → ⊥
   apart-granules′ q m f k n i j =
       let w = file-was q k n in
       let j′ = rw (owned-stays q w n) at j in
       foreign-granule′ q m w n j′ (rw (granulesOf-is g d′ p f) i)
 
-  granules′ : (q r n : ℕ) → File g d′ q → File g d′ r → In n (owned g d′ q) → In n (owned g d′ r) → q ≡ r
+  granules′ : (q r n : ℕ) → IsFile g d′ q → IsFile g d′ r → In n (owned g d′ q) → In n (owned g d′ r) → q ≡ r
   granules′ q r s f k i j = go (ℕ-discrete q p) (ℕ-discrete r p)
     where
       go : Dec (q ≡ p) → Dec (r ≡ p) → q ≡ r
@@ -397,29 +397,29 @@ module _ (g : Geometry) (d d′ : List ℕ) (c : Sound g d) (p : ℕ) (h : Chang
       go (no a) (yes b) = absurd (apart-granules′ q s (rw b at k) f a (rw b at j) i)
       go (no a) (no b) = let w = file-was q f a in let v = file-was r k b in c .granules q r s w v (rw (owned-stays q w a) at i) (rw (owned-stays r v b) at j)
 
-  once′ : (q : ℕ) → File g d′ q → Distinct (chain g d′ q)
+  once′ : (q : ℕ) → IsFile g d′ q → Distinct (chain g d′ q)
   once′ q f = go (ℕ-discrete q p)
     where
       go : Dec (q ≡ p) → Distinct (chain g d′ q)
       go (yes e) = rw e (h .own (rw e at f) .once)
       go (no n) = let w = file-was q f n in rw (chain-stays q w n) (c .once q w)
 
-  single′ : (q : ℕ) → File g d′ q → Distinct (owned g d′ q)
+  single′ : (q : ℕ) → IsFile g d′ q → Distinct (owned g d′ q)
   single′ q f = go (ℕ-discrete q p)
     where
       go : Dec (q ≡ p) → Distinct (owned g d′ q)
       go (yes e) = rw e (h .own (rw e at f) .single)
       go (no n) = let w = file-was q f n in rw (owned-stays q w n) (c .single q w)
 
-  covered′ : (s : ℕ) → T (isSlot g d′ s) → T (inUse g d′ s) → (q : ℕ) × File g d′ q × In s (chain g d′ q)
+  covered′ : (s : ℕ) → T (isSlot g d′ s) → T (inUse g d′ s) → (q : ℕ) × IsFile g d′ q × In s (chain g d′ q)
   covered′ s t u = go (Members.in? s (entriesOf g d′ p)) (Members.in? s (entriesOf g d p))
     where
-      kept : (In s (entriesOf g d p) → ⊥) → (q : ℕ) × File g d q × In s (chain g d q) → (q : ℕ) × File g d′ q × In s (chain g d′ q)
+      kept : (In s (entriesOf g d p) → ⊥) → (q : ℕ) × IsFile g d q × In s (chain g d q) → (q : ℕ) × IsFile g d′ q × In s (chain g d′ q)
       kept j q =
           let n : q .0 ≢ p = λ e. j (rw (entriesOf-is g d p (rw e at (q .1)), ← e) (q .2)) in
           (q .0, file-stays (q .0) (q .1) n, rw (chain-stays (q .0) (q .1) n) (q .2))
 
-      go : In s (entriesOf g d′ p) ⊎ (In s (entriesOf g d′ p) → ⊥) → In s (entriesOf g d p) ⊎ (In s (entriesOf g d p) → ⊥) → (q : ℕ) × File g d′ q × In s (chain g d′ q)
+      go : In s (entriesOf g d′ p) ⊎ (In s (entriesOf g d′ p) → ⊥) → In s (entriesOf g d p) ⊎ (In s (entriesOf g d p) → ⊥) → (q : ℕ) × IsFile g d′ q × In s (chain g d′ q)
       go (inl i) j = let k = entries-in g d′ p s i in (p, k .0, k .1)
       go (inr i) (inl j) = absurd (h .gone s j i u)
       go (inr i) (inr j) = kept j (c .covered s (slot-was s t) (rw (h .agrees s (slot-was s t) j i 0 (omega arith)) at u))

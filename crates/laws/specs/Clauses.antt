@@ -16,16 +16,16 @@ use Rattle.meaning.specs.Entries.{inUse, extension, system, nameOf, block, runs
 use Rattle.meaning.specs.Chain.{chain, owned}
 use Rattle.meaning.specs.Consistent.{lengthHolds, hitHolds, consistent}
 use Rattle.meaning.specs.declared.Geometry.{Geometry}
-use Rattle.laws.specs.Members
-use Rattle.laws.specs.Members.{In, Distinct}
+use Rattle.lists.specs.Members
+use Rattle.lists.specs.Members.{In, Distinct}
 use Rattle.laws.specs.Facts
-use Rattle.laws.specs.Facts.{File, Sound}
+use Rattle.laws.specs.Facts.{IsFile, Sound}
 use Rattle.laws.specs.Entry
-use Rattle.laws.specs.Entry.{Follows, Linked, Run}
+use Rattle.laws.specs.Entry.{Follows, Linked, OnDisk}
 use Rattle.laws.specs.Change
 
 -- s is a slot of the directory whose entry is in use
-pub record Used (g : Geometry) (d : List ℕ) (s : ℕ) : Type 0 where
+pub record IsUsed (g : Geometry) (d : List ℕ) (s : ℕ) : Type 0 where
   pub slot : T (isSlot g d s)
   pub used : T (inUse g d s)
 
@@ -36,31 +36,31 @@ pub record Clauses (g : Geometry) (d : List ℕ) : Type 0 where
   -- A slot's HIT byte is nonzero exactly if its entry is in use.
   pub hits : (s : ℕ) → T (isSlot g d s) → (hit g d s ≢ 0) ↔ T (inUse g d s)
   -- Names of in-use primary entries are well formed and differ; bit 5 is zero; HIT bytes equal the hashes.
-  pub well-formed : (p : ℕ) → File g d p → T (wellFormed (nameOf g d p))
-  pub differ : (p q : ℕ) → File g d p → File g d q → nameOf g d p ≡ nameOf g d q → p ≡ q
-  pub bit-five : (p : ℕ) → File g d p → T (not (bit 5 (field g d p 0)))
-  pub hashes : (p s : ℕ) → File g d p → In s (chain g d p) → hit g d s ≡ hash (nameOf g d p)
+  pub well-formed : (p : ℕ) → IsFile g d p → T (wellFormed (nameOf g d p))
+  pub differ : (p q : ℕ) → IsFile g d p → IsFile g d q → nameOf g d p ≡ nameOf g d q → p ≡ q
+  pub bit-five : (p : ℕ) → IsFile g d p → T (not (bit 5 (field g d p 0)))
+  pub hashes : (p s : ℕ) → IsFile g d p → In s (chain g d p) → hit g d s ≡ hash (nameOf g d p)
   -- Each in-use extension belongs to exactly one file's chain,
-  pub belongs : (s : ℕ) → Used g d s → (p : ℕ) × File g d p × In s (chain g d p)
-  pub one-chain : (p q s : ℕ) → File g d p → File g d q → In s (chain g d p) → In s (chain g d q) → p ≡ q
-  pub once : (p : ℕ) → File g d p → Distinct (chain g d p)
+  pub belongs : (s : ℕ) → IsUsed g d s → (p : ℕ) × IsFile g d p × In s (chain g d p)
+  pub one-chain : (p q s : ℕ) → IsFile g d p → IsFile g d q → In s (chain g d p) → In s (chain g d q) → p ≡ q
+  pub once : (p : ℕ) → IsFile g d p → Distinct (chain g d p)
   -- has byte 00 equal to 90H, points back correctly and has at least one run.
-  pub extensions : (s : ℕ) → Used g d s → T (extension g d s) → (b : ℕ) × Used g d b × (link g d b ≡ s) × Follows g d b s
+  pub extensions : (s : ℕ) → IsUsed g d s → T (extension g d s) → (b : ℕ) × IsUsed g d b × (link g d b ≡ s) × Follows g d b s
   -- Each FEH link leads to such an extension. Each entry before the last of a chain has four runs; markers are FEH or FFH.
-  pub links : (s : ℕ) → Used g d s → (marker g d s ≡ 0xff) ⊎ Linked g d s
+  pub links : (s : ℕ) → IsUsed g d s → (marker g d s ≡ 0xff) ⊎ Linked g d s
   -- After an FFH block every later pair of that entry starts with FFH.
-  pub pairs : (s k : ℕ) → Used g d s → k < 4 → runs g d s ≤ k → block g d s k ≡ 0xff
+  pub pairs : (s k : ℕ) → IsUsed g d s → k < 4 → runs g d s ≤ k → block g d s k ≡ 0xff
   -- Runs lie on the disk, their first unit is below units per block, their GAT bits are set, and no granule is in two runs.
-  pub run : (s k : ℕ) → Used g d s → k < runs g d s → Run g d s k
-  pub gat : (s n : ℕ) → Used g d s → In n (entryGranules g d s) → T (taken g d n)
-  pub one-file : (p q n : ℕ) → File g d p → File g d q → In n (owned g d p) → In n (owned g d q) → p ≡ q
-  pub one-run : (p : ℕ) → File g d p → Distinct (owned g d p)
+  pub run : (s k : ℕ) → IsUsed g d s → k < runs g d s → OnDisk g d s k
+  pub gat : (s n : ℕ) → IsUsed g d s → In n (entryGranules g d s) → T (taken g d n)
+  pub one-file : (p q n : ℕ) → IsFile g d p → IsFile g d q → In n (owned g d p) → In n (owned g d q) → p ≡ q
+  pub one-run : (p : ℕ) → IsFile g d p → Distinct (owned g d p)
   -- n = 0 only with e = 0; the size fits the granules owned.
-  pub no-sector : (p : ℕ) → File g d p → sectorCount g d p ≡ 0 → endByte g d p ≡ 0
-  pub size-fits : (p : ℕ) → File g d p → sizeOf g d p ≤ granuleBytes g * length (owned g d p)
+  pub no-sector : (p : ℕ) → IsFile g d p → sectorCount g d p ≡ 0 → endByte g d p ≡ 0
+  pub size-fits : (p : ℕ) → IsFile g d p → sizeOf g d p ≤ granuleBytes g * length (owned g d p)
   -- Directory granules are set in the GAT and in no run of a file without the system flag.
   pub directory-set : (n : ℕ) → In n (directoryGranules g d) → T (taken g d n)
-  pub directory-kept : (p n : ℕ) → File g d p → T (not (system g d p)) → In n (owned g d p) → In n (directoryGranules g d) → ⊥
+  pub directory-kept : (p n : ℕ) → IsFile g d p → T (not (system g d p)) → In n (owned g d p) → In n (directoryGranules g d) → ⊥
 
 beq-over : (a b : Bool) → T (Bool·beq a b) → T a → T b
 beq-over true true t u = tt
@@ -84,22 +84,22 @@ module _ (g : Geometry) (d : List ℕ) where
   hit-says s t n = beq-over (not (eqb (hit g d s) 0)) (inUse g d s) t (not-T (eqb (hit g d s) 0) (λ u. n (eqb→eq _ _ u)))
 
   module _ (c : Sound g d) where
-    entry : (s : ℕ) → Used g d s → Entry.Entry g d s
+    entry : (s : ℕ) → IsUsed g d s → Entry.Entry g d s
     entry s u = Change.entry-at g d c s (u .slot) (u .used)
 
     -- the entry before an extension
-    before : (s : ℕ) → Used g d s → T (extension g d s) → (b : ℕ) × Used g d b × (link g d b ≡ s) × Follows g d b s
+    before : (s : ℕ) → IsUsed g d s → T (extension g d s) → (b : ℕ) × IsUsed g d b × (link g d b ≡ s) × Follows g d b s
     before s u x = let w = c .covered s (u .slot) (u .used) in go (w .0) (w .1) (w .2) (Entry.chain-pred g d (w .0) s (w .2))
       where
-        at : (b : ℕ) → Used g d b → marker g d b ≡ 0xfe → link g d b ≡ s → (marker g d b ≡ 0xff) ⊎ Linked g d b → (b : ℕ) × Used g d b × (link g d b ≡ s) × Follows g d b s
+        at : (b : ℕ) → IsUsed g d b → marker g d b ≡ 0xfe → link g d b ≡ s → (marker g d b ≡ 0xff) ⊎ Linked g d b → (b : ℕ) × IsUsed g d b × (link g d b ≡ s) × Follows g d b s
         at b v m l (inl q) = absurd (omega arith)
         at b v m l (inr q) = (b, v, l, subst (Follows g d b) l (q .next))
 
-        go : (p : ℕ) → File g d p → In s (chain g d p) → Entry.Pred g d p s (chain g d p) → (b : ℕ) × Used g d b × (link g d b ≡ s) × Follows g d b s
+        go : (p : ℕ) → IsFile g d p → In s (chain g d p) → Entry.Pred g d p s (chain g d p) → (b : ℕ) × IsUsed g d b × (link g d b ≡ s) × Follows g d b s
         go p f i (Entry.Pred.first e) = absurd (T-not (extension g d p) (Facts.file-first g d p f) (subst (λ (y : ℕ). T (extension g d y)) e x))
         go p f i (Entry.Pred.after b j m l) =
             let k = Change.members g d c p b f (Members.front-in p i j) in
-            let v : Used g d b = record { slot = k .slot; used = k .used } in
+            let v : IsUsed g d b = record { slot = k .slot; used = k .used } in
             at b v m l (entry b v .linked)
 
     clauses-of : Clauses g d
@@ -131,7 +131,7 @@ module _ (g : Geometry) (d : List ℕ) where
   sound-of k = record {
     dir = says-length (k .allowed) (k .directory-fits);
     hits = λ s t. hit-of s t (Members.decide (inUse g d s));
-    entries = λ s t u. let v : Used g d s = record { slot = t; used = u } in
+    entries = λ s t u. let v : IsUsed g d s = record { slot = t; used = u } in
         Entry.says-entry g d s (record { pairs = λ j. k .pairs s j v; linked = k .links s v; run = λ j. k .run s j v; gat = λ n. k .gat s n v });
     file = λ p f. Entry.says-filed g d p (record {
       name = k .well-formed p f;

@@ -22,10 +22,10 @@ use Rattle.meaning.specs.Create.{newEntry}
 use Rattle.meaning.specs.Plain.{fileAt, bornAs}
 use Rattle.meaning.specs.declared.Geometry.{Geometry}
 use Rattle.meaning.specs.declared.NewFile.{NewFile}
-use Rattle.laws.specs.Members
-use Rattle.laws.specs.Members.{In, Distinct}
+use Rattle.lists.specs.Members
+use Rattle.lists.specs.Members.{In, Distinct}
 use Rattle.laws.specs.Facts
-use Rattle.laws.specs.Facts.{File, Sound}
+use Rattle.laws.specs.Facts.{IsFile, Sound}
 use Rattle.laws.specs.Entry
 use Rattle.laws.specs.Frame
 use Rattle.laws.specs.Frame.{Agree}
@@ -39,7 +39,7 @@ use Rattle.laws.specs.Words.{words}
 unfoldable pub withEntry : Geometry → List ℕ → ℕ → List ℕ → ℕ → List ℕ
 withEntry g d x es v = set (sets d (entryAt g x) es) (hitAt g x) v
 
-module _ (g : Geometry) (d : List ℕ) (x : ℕ) (es : List ℕ) (v : ℕ) (len : length es ≡ 32) (s : Places.Slot g d x) where
+module _ (g : Geometry) (d : List ℕ) (x : ℕ) (es : List ℕ) (v : ℕ) (len : length es ≡ 32) (s : Places.IsSlot g d x) where
   pub with-byte : (i : ℕ) → (i < entryAt g x) ⊎ (entryAt g x + 32 ≤ i) → i ≢ hitAt g x → byte (withEntry g d x es v) i ≡ byte d i
   unfolding withEntry
   with-byte i o n = getD-set-other (sets d (entryAt g x) es) (hitAt g x) i v 0 n ∙ Places.sets-outside es d (entryAt g x) i (rw len o)
@@ -108,11 +108,11 @@ unfolding rest
 ff-from f k a b = eqb→eq _ _ (Members.every-all (λ k. eqb (getD (rest f) k 0) 0xff) {xs = count 6 10} tt (Members.in-count k 6 10 a (omega arith)))
 
 module _ (g : Geometry) (d : List ℕ) (c : Sound g d) (k : Places.Fits g d) (x : ℕ) (t : T (isSlot g d x)) (z : hit g d x ≡ 0)
-    (n : List ℕ) (w : T (wellFormed n)) (f : NewFile) (free : (q : ℕ) → File g d q → nameOf g d q ≢ n) where
+    (n : List ℕ) (w : T (wellFormed n)) (f : NewFile) (free : (q : ℕ) → IsFile g d q → nameOf g d q ≢ n) where
   ln : length n ≡ 11
   ln = well-length n w
 
-  s : Places.Slot g d x
+  s : Places.IsSlot g d x
   s = Places.slot g d x t
 
   unfoldable pub made : List ℕ
@@ -143,7 +143,7 @@ module _ (g : Geometry) (d : List ℕ) (c : Sound g d) (k : Places.Fits g d) (x 
   unfolding made words
   made-above = let a = Places.dir g d (c .dir) in let b = s .sector in with-byte g d x (newEntry n f) (hash n) (new-length g d n f ln) s (hitAt g 31) (inl (omega arith)) (omega arith)
 
-  pub made-file : File g made x
+  pub made-file : IsFile g made x
   made-file = record { slot = rw (Frame.slot-eq g d made made-above x) t; primary′ = Members.and-i (inUse g made x) _ made-used made-first }
 
   made-taken : (m : ℕ) → m < granules g → taken g made m ≡ taken g d m
@@ -160,7 +160,7 @@ module _ (g : Geometry) (d : List ℕ) (c : Sound g d) (k : Places.Fits g d) (x 
       go (inl h) = with-byte g d x (newEntry n f) (hash n) (new-length g d n f ln) s i (inl (omega arith)) (omega arith)
       go (inr h) = let b = s .sector in let q = s .low in with-byte g d x (newEntry n f) (hash n) (new-length g d n f ln) s i (inr (omega arith)) (omega arith)
 
-  pub no-file : File g d x → ⊥
+  pub no-file : IsFile g d x → ⊥
   no-file h = Change.used-hit g d c x t (Facts.file-in-use g d x h) z
 
   no-entry : {A : Type 0} (y : ℕ) → In y (entriesOf g d x) → A
@@ -294,7 +294,7 @@ module _ (g : Geometry) (d : List ℕ) (c : Sound g d) (k : Places.Fits g d) (x 
   free-stays = Members.keep-eq _ _ (count 0 (granules g)) (λ m i. ap not (made-taken m (omega (arith, Members.count-in m 0 (granules g) i))))
 
 pub made-length : (g : Geometry) (d : List ℕ) (c : Sound g d) (k : Places.Fits g d) (x : ℕ) (t : T (isSlot g d x)) (z : hit g d x ≡ 0)
-    (n : List ℕ) (w : T (wellFormed n)) (f : NewFile) (free : (q : ℕ) → File g d q → nameOf g d q ≢ n)
+    (n : List ℕ) (w : T (wellFormed n)) (f : NewFile) (free : (q : ℕ) → IsFile g d q → nameOf g d q ≢ n)
     → length (made g d c k x t z n w f free) ≡ length d
 unfolding made withEntry
 made-length g d c k x t z n w f free = simp (length-set, length-sets)

@@ -17,9 +17,9 @@ use Rattle.meaning.specs.Chain.{chain, owned}
 use Rattle.meaning.specs.Growth.{tail}
 use Rattle.meaning.specs.Entries
 use Rattle.meaning.specs.declared.Geometry.{Geometry}
-use Rattle.laws.specs.Members
-use Rattle.laws.specs.Members.{In}
-use Rattle.laws.specs.Facts.{Sound, File}
+use Rattle.lists.specs.Members
+use Rattle.lists.specs.Members.{In}
+use Rattle.laws.specs.Facts.{Sound, IsFile}
 use Rattle.laws.specs.Entry
 use Rattle.laws.specs.Frame
 use Rattle.laws.specs.Places
@@ -30,7 +30,7 @@ use Rattle.laws.specs.Others
 use Rattle.laws.specs.Words.{words}
 
 -- a file that owns something has a run in its last entry
-module _ (g : Geometry) (d : List ℕ) (c : Sound g d) (p : ℕ) (f : File g d p) where
+module _ (g : Geometry) (d : List ℕ) (c : Sound g d) (p : ℕ) (f : IsFile g d p) where
   has-run : (x n : ℕ) → In n (entryGranules g d x) → 1 ≤ runs g d x
   unfolding entryGranules
   has-run x n i = let k = Members.each-in (runGranules g d x) n (count 0 (runs g d x)) i in omega (arith, Members.count-in (k .0) 0 (runs g d x) (k .1))
@@ -72,7 +72,7 @@ module _ (g : Geometry) (d : List ℕ) (c : Sound g d) (p : ℕ) (f : File g d p
           subst (λ (x : ℕ). 1 ≤ runs g d x) (alone q (k .0) (Entry.chain-pred g d p (k .0) (k .1))) (has-run (k .0) _ (k .2))
 
 -- Case 1: the last run is shorter by one
-module _ (g : Geometry) (d : List ℕ) (c : Sound g d) (k : Places.Fits g d) (p : ℕ) (f : File g d p) (some-run : 1 ≤ runs g d (tail g p d))
+module _ (g : Geometry) (d : List ℕ) (c : Sound g d) (k : Places.Fits g d) (p : ℕ) (f : IsFile g d p) (some-run : 1 ≤ runs g d (tail g p d))
     (size : sizeOf g d p + granuleBytes g ≤ granuleBytes g * length (owned g d p)) where
   abbrev e : ℕ
   e = tail g p d
@@ -152,10 +152,10 @@ module _ (g : Geometry) (d : List ℕ) (c : Sound g d) (k : Places.Fits g d) (p 
         ∙ sym (append-assoc (each (runGranules g d₂ e) (count 0 r)) (runGranules g d₂ e r) (m ∷ []))
         ∙ ap (λ (l : List ℕ). l ++ (m ∷ [])) (sym (Take.granules-snoc g d₂ e r runs′))
 
-    run′ : (x : ℕ) → x < runs g d₂ e → Entry.Run g d₂ e x
+    run′ : (x : ℕ) → x < runs g d₂ e → Entry.OnDisk g d₂ e x
     run′ x h = go (ℕ-discrete x r)
       where
-        go : Dec (x ≡ r) → Entry.Run g d₂ e x
+        go : Dec (x ≡ r) → Entry.OnDisk g d₂ e x
         go (yes q) = let w = entry .run r (omega (arith, some-run)) in
             rw q (record { unit = rw changed (omega (arith, long, w .unit)); inside = rw start′ (omega (arith, length′, w .inside)) })
         go (no q) =
@@ -226,7 +226,7 @@ module _ (g : Geometry) (d : List ℕ) (c : Sound g d) (k : Places.Fits g d) (p 
         Take.granules-snoc g d e r runs-r
         ∙ ap₂ (λ (a b : List ℕ). a ++ b) (sym (Members.each-eq (runGranules g q₂ e) (runGranules g d e) (count 0 r) (λ x i. rg₂ x (omega (arith, Members.count-in x 0 r i)))) ∙ ap (λ (y : ℕ). each (runGranules g q₂ e) (count 0 y)) (sym runs₂)) last₂
 
-    run₂ : (x : ℕ) → x < runs g q₂ e → Entry.Run g q₂ e x
+    run₂ : (x : ℕ) → x < runs g q₂ e → Entry.OnDisk g q₂ e x
     run₂ x h =
         let b : x < r = omega (arith, runs₂) in
         let w = entry .run x (omega (arith, runs-r)) in

@@ -9,17 +9,17 @@ use lib.ListN.{length, set, length-set}
 use lib.Seq.{getD-set-same, getD-set-other}
 use lib.Dec.{T, eqb, ltb, T-not, not-T, eqb→eq, ltb→lt, nltb→le}
 use Rattle.meaning.specs.Layout.{byte, isSlot, freeGranule, field, setField, gatAt, hitAt, entryAt, granules, hit, directoryGranules, directorySectors, granuleBytes, mostBlocks}
-use Rattle.meaning.specs.Sizes
+use Rattle.lists.specs.Sizes
 use Rattle.meaning.specs.Bits.{bit, digit}
 use Rattle.meaning.specs.Entries.{inUse, extension, system, marker, link, runs, runStart, runLength, entryGranules, sizeOf}
 use Rattle.meaning.specs.Chain.{chain, owned}
 use Rattle.meaning.specs.Growth.{tail}
 use Rattle.meaning.specs.Drop.{unhooked, dropOne}
 use Rattle.meaning.specs.declared.Geometry.{Geometry}
-use Rattle.laws.specs.Members
-use Rattle.laws.specs.Members.{In}
+use Rattle.lists.specs.Members
+use Rattle.lists.specs.Members.{In}
 use Rattle.laws.specs.Facts
-use Rattle.laws.specs.Facts.{Sound, File}
+use Rattle.laws.specs.Facts.{Sound, IsFile}
 use Rattle.laws.specs.Entry
 use Rattle.laws.specs.Places
 use Rattle.laws.specs.Change
@@ -33,7 +33,7 @@ use Rattle.laws.specs.Touch
 use Rattle.laws.specs.Words.{words}
 
 -- Case 3: an emptied extension
-module _ (g : Geometry) (d : List ℕ) (c : Sound g d) (k : Places.Fits g d) (p : ℕ) (f : File g d p)
+module _ (g : Geometry) (d : List ℕ) (c : Sound g d) (k : Places.Fits g d) (p : ℕ) (f : IsFile g d p)
     (size : sizeOf g d p + granuleBytes g ≤ granuleBytes g * length (owned g d p))
     (later : tail g p d ≢ p) (one : runs g d (tail g p d) ≡ 1) (single : runLength g d (tail g p d) 0 ≡ 1) (b : ℕ) (back : field g d (tail g p d) 1 ≡ b) (tb : T (isSlot g d b)) (b≢e : b ≢ tail g p d) where
   abbrev e : ℕ
@@ -63,10 +63,10 @@ module _ (g : Geometry) (d : List ℕ) (c : Sound g d) (k : Places.Fits g d) (p 
   entry : Entry.Entry g d e
   entry = Change.entry-at g d c e (member .slot) (member .used)
 
-  se : Places.Slot g d e
+  se : Places.IsSlot g d e
   se = Places.slot g d e (member .slot)
 
-  sb : Places.Slot g d b
+  sb : Places.IsSlot g d b
   sb = Places.slot g d b tb
 
   a10 : Places.Dir g d
@@ -150,7 +150,7 @@ module _ (g : Geometry) (d : List ℕ) (c : Sound g d) (k : Places.Fits g d) (p 
       go (inl h) = cut-byte i (omega arith) (λ j l. omega arith) (omega arith) (omega arith) (omega arith)
       go (inr h) = let q = se in let s = sb in let w = block-m in cut-byte i (omega arith) (λ j l. omega arith) (omega arith) (omega arith) (omega arith)
 
-  pub emptied-unhooks : Unhook.Unhooks g d (freeGranule g (unhooked g p (setField g (setField g d (tail g p d) 0x16 0xff) (tail g p d) 0x17 0xff) (tail g p d) b) m) p b m
+  pub emptied-unhooks : Unhook.Unhooks g d (freeGranule g (unhooked g (setField g (setField g d (tail g p d) 0x16 0xff) (tail g p d) 0x17 0xff) (tail g p d) b) m) p b m
   unfolding unhooked words
   emptied-unhooks = record {
     above = let w = block-m in let s = se in let a = a10 in cut-byte (hitAt g 31) (omega arith) (λ j l. omega arith) (omega arith) (omega arith) (omega arith);
@@ -172,7 +172,7 @@ module _ (g : Geometry) (d : List ℕ) (c : Sound g d) (k : Places.Fits g d) (p 
   }
 
 -- the entry before the last
-module _ (g : Geometry) (d : List ℕ) (c : Sound g d) (p : ℕ) (f : File g d p) (n : tail g p d ≢ p) where
+module _ (g : Geometry) (d : List ℕ) (c : Sound g d) (p : ℕ) (f : IsFile g d p) (n : tail g p d ≢ p) where
   pub before-tail : In (field g d (tail g p d) 1) (chain g d p) × (field g d (tail g p d) 1 ≢ tail g p d)
   before-tail = go (Entry.chain-pred g d p (tail g p d) (Change.tail-in g d c p f))
     where
@@ -195,12 +195,12 @@ pub record Dropped (g : Geometry) (d d′ : List ℕ) (p : ℕ) : Type 0 where
   pub change : Change.Change g d d′ p
   pub shorter : Shorter.Shorter g d d′ p which
   pub long : length d′ ≡ length d
-  pub file : File g d′ p
+  pub file : IsFile g d′ p
   -- only the file's entries and one bit are stored to, and no entry is new
   pub touch : Touch.Touch g (chain g d p) [] d d′
   pub entries : (x : ℕ) → In x (chain g d′ p) → In x (chain g d p)
 
-module _ (g : Geometry) (d : List ℕ) (c : Sound g d) (k : Places.Fits g d) (p : ℕ) (f : File g d p) (u : T (not (system g d p)))
+module _ (g : Geometry) (d : List ℕ) (c : Sound g d) (k : Places.Fits g d) (p : ℕ) (f : IsFile g d p) (u : T (not (system g d p)))
     (size : sizeOf g d p + granuleBytes g ≤ granuleBytes g * length (owned g d p)) where
   abbrev t : ℕ
   t = tail g p d
@@ -239,7 +239,7 @@ module _ (g : Geometry) (d : List ℕ) (c : Sound g d) (k : Places.Fits g d) (p 
       (Touch.touch-field g (chain g d p) [] d t (0x16 + 2 * r) 0xff tail-here (omega (arith, Entry.runs-le g d t)) Touch.Touch.none)
 
   unhook-touch : runs g d t ≡ 1 → In (field g d t 1) (chain g d p)
-      → Touch.Touch g (chain g d p) [] d (freeGranule g (unhooked g p (setField g (setField g d t 0x16 0xff) t 0x17 0xff) t (field g d t 1)) (runStart g d t 0 + runLength g d t 0 - 1))
+      → Touch.Touch g (chain g d p) [] d (freeGranule g (unhooked g (setField g (setField g d t 0x16 0xff) t 0x17 0xff) t (field g d t 1)) (runStart g d t 0 + runLength g d t 0 - 1))
   unhook-touch one i =
       let m = Change.members g d c p t f tail-here in
       let l : runStart g d t 0 + runLength g d t 0 - 1 < granules g = omega (arith, Change.entry-at g d c t (m .slot) (m .used) .run 0 (omega (arith, one)) .inside) in
@@ -247,12 +247,12 @@ module _ (g : Geometry) (d : List ℕ) (c : Sound g d) (k : Places.Fits g d) (p 
       (Touch.touch-field g (chain g d p) [] d t 0x17 0xff tail-here (omega arith) (Touch.touch-field g (chain g d p) [] d t 0x16 0xff tail-here (omega arith) Touch.Touch.none)))
 
   by-unhook : T (extension g d t) → runs g d t ≡ 1 → runLength g d t 0 ≡ 1
-      → Dropped g d (freeGranule g (unhooked g p (setField g (setField g d t 0x16 0xff) t 0x17 0xff) t (field g d t 1)) (runStart g d t 0 + runLength g d t 0 - 1)) p
+      → Dropped g d (freeGranule g (unhooked g (setField g (setField g d t 0x16 0xff) t 0x17 0xff) t (field g d t 1)) (runStart g d t 0 + runLength g d t 0 - 1)) p
   unfolding unhooked words
   by-unhook x one single =
       let b = field g d t 1 in
       let n = runStart g d t 0 + runLength g d t 0 - 1 in
-      let d′ = freeGranule g (unhooked g p (setField g (setField g d t 0x16 0xff) t 0x17 0xff) t b) n in
+      let d′ = freeGranule g (unhooked g (setField g (setField g d t 0x16 0xff) t 0x17 0xff) t b) n in
       let later : t ≢ p = λ q. T-not (extension g d p) (Facts.file-first g d p f) (rw q at x) in
       let v = before-tail g d c p f later in
       let w = emptied-unhooks g d c k p f size later one single b refl (Change.members g d c p b f (v .0) .slot) (v .1) in

@@ -14,9 +14,9 @@ use Rattle.meaning.specs.Bits.{bit}
 use Rattle.meaning.specs.Names.{hash, wellFormed}
 use Rattle.meaning.specs.Entries.{system, block, marker, link, runs, runsFrom, firstUnit, runStart, runLength, entryGranules, nameOf, sizeOf, sectorCount, endByte}
 use Rattle.meaning.specs.Chain.{chain, chainFrom, owned}
-use Rattle.meaning.specs.Consistent.{pairsHold, followsBy, linkHoldsBy, linkHolds, runsHold, gatHolds, entryHolds, hashHolds, offDirectory, fileHolds}
+use Rattle.meaning.specs.Consistent.{pairsHold, followsBy, linkHoldsBy, runsHold, gatHolds, entryHolds, hashHolds, offDirectory, fileHolds}
 use Rattle.meaning.specs.declared.Geometry.{Geometry}
-use Rattle.laws.specs.Members
+use Rattle.lists.specs.Members
 use Rattle.laws.specs.Words.{words}
 
 -- x follows s as an extension whose byte 00 is this
@@ -38,14 +38,14 @@ Follows g d s x = FollowsBy g d 0x90 s x
 abbrev pub Linked : Geometry → List ℕ → ℕ → Type 0
 Linked g d s = LinkedBy g d 0x90 s
 
-pub record Run (g : Geometry) (d : List ℕ) (s k : ℕ) : Type 0 where
+pub record OnDisk (g : Geometry) (d : List ℕ) (s k : ℕ) : Type 0 where
   pub unit : firstUnit g d s k < g .units
   pub inside : runStart g d s k + runLength g d s k ≤ granules g
 
 pub record Entry (g : Geometry) (d : List ℕ) (s : ℕ) : Type 0 where
   pub pairs : (k : ℕ) → k < 4 → runs g d s ≤ k → block g d s k ≡ 0xff
   pub linked : (marker g d s ≡ 0xff) ⊎ Linked g d s
-  pub run : (k : ℕ) → k < runs g d s → Run g d s k
+  pub run : (k : ℕ) → k < runs g d s → OnDisk g d s k
   pub gat : (n : ℕ) → Members.In n (entryGranules g d s) → T (taken g d n)
 
 pub record Filed (g : Geometry) (d : List ℕ) (p : ℕ) : Type 0 where
@@ -163,13 +163,13 @@ module _ (g : Geometry) (d : List ℕ) where
       pair k h (Members.Test.fails e) = Members.or-r (ltb k (runs g d s)) _ (Members.eq-T (f k (omega arith) (nltb→le k (runs g d s) (not-T (ltb k (runs g d s)) e))))
 
   -- what the runs say
-  pub runs-say : (s : ℕ) → T (runsHold g d s) → (k : ℕ) → k < runs g d s → Run g d s k
+  pub runs-say : (s : ℕ) → T (runsHold g d s) → (k : ℕ) → k < runs g d s → OnDisk g d s k
   unfolding words
   runs-say s rs k h =
       let r = Members.every-all (λ k. all (ltb (firstUnit g d s k) (g .units) ∷ leb (runStart g d s k + runLength g d s k) (granules g) ∷ [])) rs (Members.in-count k 0 (runs g d s) (omega arith) (omega arith)) in
       record { unit = ltb→lt _ _ (Members.and-l (ltb (firstUnit g d s k) (g .units)) _ r); inside = leb→le _ _ (Members.all-second (ltb (firstUnit g d s k) (g .units)) (leb (runStart g d s k + runLength g d s k) (granules g)) r) }
 
-  pub say-runs : (s : ℕ) → ((k : ℕ) → k < runs g d s → Run g d s k) → T (runsHold g d s)
+  pub say-runs : (s : ℕ) → ((k : ℕ) → k < runs g d s → OnDisk g d s k) → T (runsHold g d s)
   unfolding words
   say-runs s f = Members.all-every (λ k. all (ltb (firstUnit g d s k) (g .units) ∷ leb (runStart g d s k + runLength g d s k) (granules g) ∷ [])) (count 0 (runs g d s)) (λ k i.
       let r = f k (omega (arith, Members.count-in k 0 (runs g d s) i)) in
@@ -179,7 +179,7 @@ module _ (g : Geometry) (d : List ℕ) where
   unfolding words
   entry s t =
       let ps : T (pairsHold g d s) = search parts depth 5 in
-      let ls : T (linkHolds g d s) = search parts depth 5 in
+      let ls : T (linkHoldsBy g d 0x90 s) = search parts depth 5 in
       let rs : T (runsHold g d s) = search parts depth 5 in
       let gs : T (gatHolds g d s) = search parts depth 5 in
       record { pairs = pairs-say s ps; linked = links-say 0x90 s ls; run = runs-say s rs; gat = λ n i. Members.every-all (taken g d) gs i }
@@ -188,7 +188,7 @@ module _ (g : Geometry) (d : List ℕ) where
   unfolding words
   says-entry s e =
       let ps : T (pairsHold g d s) = say-pairs s (e .pairs) in
-      let ls : T (linkHolds g d s) = say-links 0x90 s (e .linked) in
+      let ls : T (linkHoldsBy g d 0x90 s) = say-links 0x90 s (e .linked) in
       let rs : T (runsHold g d s) = say-runs s (e .run) in
       let gs : T (gatHolds g d s) = Members.all-every (taken g d) (entryGranules g d s) (e .gat) in
       search Members.and-i depth 5

@@ -16,9 +16,9 @@ use Rattle.meaning.specs.Chain.{chain, owned, chainFrom}
 use Rattle.meaning.specs.Growth.{tail}
 use Rattle.meaning.specs.Plain.{File}
 use Rattle.meaning.specs.declared.Geometry.{Geometry}
-use Rattle.laws.specs.Members
-use Rattle.laws.specs.Members.{In}
-use Rattle.laws.specs.Counting
+use Rattle.lists.specs.Members
+use Rattle.lists.specs.Members.{In}
+use Rattle.lists.specs.Counting
 use Rattle.laws.specs.Facts
 use Rattle.laws.specs.Facts.{Sound}
 use Rattle.laws.specs.Entry
@@ -96,7 +96,7 @@ module _ (g : Geometry) (d d′ : List ℕ) (e x : ℕ) (m₀ : marker g d e ≡
           let u = a s Members.In.here w in
           rw (u .0, u .1) (deeper w (eqb (marker g d s) 0xfe) refl i b a ih)
 
-module _ (g : Geometry) (d d′ : List ℕ) (c : Sound g d) (p : ℕ) (f : Facts.File g d p) (x m : ℕ) (h : Extends g d d′ p x m) where
+module _ (g : Geometry) (d d′ : List ℕ) (c : Sound g d) (p : ℕ) (f : Facts.IsFile g d p) (x m : ℕ) (h : Extends g d d′ p x m) where
   abbrev e : ℕ
   e = tail g p d
 
@@ -176,7 +176,7 @@ module _ (g : Geometry) (d d′ : List ℕ) (c : Sound g d) (p : ℕ) (f : Facts
   slot′ : (y : ℕ) → isSlot g d′ y ≡ isSlot g d y
   slot′ = Frame.slot-eq g d d′ (h .above)
 
-  pub extends-file : Facts.File g d′ p
+  pub extends-file : Facts.IsFile g d′ p
   extends-file = record { slot = rw (slot′ p) (f .slot); primary′ = rw (low 0 (omega arith)) (f .primary′) }
 
   not-new : (n : ℕ) → In n (owned g d p) → n ≢ m
@@ -205,7 +205,7 @@ module _ (g : Geometry) (d d′ : List ℕ) (c : Sound g d) (p : ℕ) (f : Facts
       one n (inl q) = q
       one n (inr i) = Members.none-in i
 
-      go : (j : ℕ) → j ≡ 0 → Entry.Run g d′ x j
+      go : (j : ℕ) → j ≡ 0 → Entry.OnDisk g d′ x j
       go j q = rw q (record { unit = rw (h .second) (omega (arith, mod-lt m (h .units))); inside = rw (start-new, length-new) (omega (arith, h .inside)) })
 
   entry-tail : Entry.Entry g d′ e

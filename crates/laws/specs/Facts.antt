@@ -7,29 +7,29 @@ use native.Mathlib.Omega.{arith}
 use lib.Dec.{T, T-not, not-T, ltb, ltb→lt}
 use Rattle.meaning.specs.Lists.{count, every, keep, each, has, distinct, same, any}
 use Rattle.meaning.specs.Layout.{isSlot, slots, directoryGranules, taken}
-use Rattle.meaning.specs.Entries.{inUse, primary, extension, nameOf}
+use Rattle.meaning.specs.Entries.{inUse, inUsePrimary, extension, nameOf}
 use Rattle.meaning.specs.Chain.{chain, owned, files}
 use Rattle.meaning.specs.Consistent.{lengthHolds, hitHolds, entryHolds, slotHolds, fileHolds, namesDiffer, met, consistent}
 use Rattle.meaning.specs.declared.Geometry.{Geometry}
-use Rattle.laws.specs.Members
+use Rattle.lists.specs.Members
 use Rattle.laws.specs.Words.{words}
 
 -- p is the slot of a file
-pub record File (g : Geometry) (d : List ℕ) (p : ℕ) : Type 0 where
+pub record IsFile (g : Geometry) (d : List ℕ) (p : ℕ) : Type 0 where
   pub slot : T (isSlot g d p)
-  pub primary′ : T (primary g d p)
+  pub primary′ : T (inUsePrimary g d p)
 
 pub record Sound (g : Geometry) (d : List ℕ) : Type 0 where
   pub dir : T (lengthHolds g d)
   pub hits : (s : ℕ) → T (isSlot g d s) → T (hitHolds g d s)
   pub entries : (s : ℕ) → T (isSlot g d s) → T (inUse g d s) → T (entryHolds g d s)
-  pub file : (p : ℕ) → File g d p → T (fileHolds g d p)
-  pub names : (p q : ℕ) → File g d p → File g d q → nameOf g d p ≡ nameOf g d q → p ≡ q
-  pub chains : (p q s : ℕ) → File g d p → File g d q → Members.In s (chain g d p) → Members.In s (chain g d q) → p ≡ q
-  pub once : (p : ℕ) → File g d p → Members.Distinct (chain g d p)
-  pub covered : (s : ℕ) → T (isSlot g d s) → T (inUse g d s) → (p : ℕ) × File g d p × Members.In s (chain g d p)
-  pub granules : (p q n : ℕ) → File g d p → File g d q → Members.In n (owned g d p) → Members.In n (owned g d q) → p ≡ q
-  pub single : (p : ℕ) → File g d p → Members.Distinct (owned g d p)
+  pub file : (p : ℕ) → IsFile g d p → T (fileHolds g d p)
+  pub names : (p q : ℕ) → IsFile g d p → IsFile g d q → nameOf g d p ≡ nameOf g d q → p ≡ q
+  pub chains : (p q s : ℕ) → IsFile g d p → IsFile g d q → Members.In s (chain g d p) → Members.In s (chain g d q) → p ≡ q
+  pub once : (p : ℕ) → IsFile g d p → Members.Distinct (chain g d p)
+  pub covered : (s : ℕ) → T (isSlot g d s) → T (inUse g d s) → (p : ℕ) × IsFile g d p × Members.In s (chain g d p)
+  pub granules : (p q n : ℕ) → IsFile g d p → IsFile g d q → Members.In n (owned g d p) → Members.In n (owned g d q) → p ≡ q
+  pub single : (p : ℕ) → IsFile g d p → Members.Distinct (owned g d p)
   pub directory : (n : ℕ) → Members.In n (directoryGranules g d) → T (taken g d n)
 
 module _ (g : Geometry) (d : List ℕ) where
@@ -49,22 +49,22 @@ module _ (g : Geometry) (d : List ℕ) where
   unfolding slots
   slots-distinct = Members.keep-distinct (isSlot g d) (Members.count-distinct 0 256)
 
-  pub files-in : (p : ℕ) → Members.In p (files g d) → File g d p
+  pub files-in : (p : ℕ) → Members.In p (files g d) → IsFile g d p
   unfolding files
-  files-in p i = let k = Members.keep-in (primary g d) p (slots g d) i in record { slot = slots-in p (k .0); primary′ = k .1 }
+  files-in p i = let k = Members.keep-in (inUsePrimary g d) p (slots g d) i in record { slot = slots-in p (k .0); primary′ = k .1 }
 
-  pub in-files : (p : ℕ) → File g d p → Members.In p (files g d)
+  pub in-files : (p : ℕ) → IsFile g d p → Members.In p (files g d)
   unfolding files
-  in-files p f = Members.in-keep (primary g d) (in-slots p (f .slot)) (f .primary′)
+  in-files p f = Members.in-keep (inUsePrimary g d) (in-slots p (f .slot)) (f .primary′)
 
   pub files-distinct : Members.Distinct (files g d)
   unfolding files
-  files-distinct = Members.keep-distinct (primary g d) slots-distinct
+  files-distinct = Members.keep-distinct (inUsePrimary g d) slots-distinct
 
-  pub file-in-use : (p : ℕ) → File g d p → T (inUse g d p)
+  pub file-in-use : (p : ℕ) → IsFile g d p → T (inUse g d p)
   file-in-use p f = Members.and-l (inUse g d p) _ (f .primary′)
 
-  pub file-first : (p : ℕ) → File g d p → T (not (extension g d p))
+  pub file-first : (p : ℕ) → IsFile g d p → T (not (extension g d p))
   file-first p f = Members.and-r (inUse g d p) _ (f .primary′)
 
   unlike : ℕ → ℕ → Bool
@@ -88,11 +88,11 @@ module _ (g : Geometry) (d : List ℕ) where
       h (subst (λ (x : ℕ). Members.In x ps) (sym (f p q Members.In.here (Members.In.there i) (Members.same-eq _ _ t))) i))))
       (says-differ r (λ q s i j. f q s (Members.In.there i) (Members.In.there j)))
 
-  pub in-met : (p s : ℕ) → File g d p → Members.In s (chain g d p) → Members.In s (met g d)
+  pub in-met : (p s : ℕ) → IsFile g d p → Members.In s (chain g d p) → Members.In s (met g d)
   unfolding met
   in-met p s f i = Members.in-each (chain g d) (in-files p f) i
 
-  pub met-in : (s : ℕ) → Members.In s (met g d) → (p : ℕ) × File g d p × Members.In s (chain g d p)
+  pub met-in : (s : ℕ) → Members.In s (met g d) → (p : ℕ) × IsFile g d p × Members.In s (chain g d p)
   unfolding met
   met-in s i = let k = Members.each-in (chain g d) s (files g d) i in (k .0, files-in (k .0) (k .1), k .2)
 

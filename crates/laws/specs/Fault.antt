@@ -13,9 +13,9 @@ use Rattle.meaning.specs.Refusal.{unplaced, placed}
 use Rattle.meaning.specs.Refusals.{faultNumbers}
 use Rattle.meaning.specs.declared.Geometry.{Geometry}
 use Rattle.meaning.specs.declared.Refusal.{Refusal}
-use Rattle.laws.specs.Members
-use Rattle.laws.specs.Members.{In}
-use Rattle.laws.specs.First.{numbersOf, first-in}
+use Rattle.lists.specs.Members
+use Rattle.lists.specs.Members.{In}
+use Rattle.lists.specs.First.{numbersOf, first-in}
 use Rattle.laws.specs.Facts
 use Rattle.laws.specs.Faultless.{faultless, none-of}
 use Rattle.laws.specs.FaultlessSound.{faultless-sound}

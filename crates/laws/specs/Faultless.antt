@@ -13,10 +13,10 @@ use Rattle.meaning.specs.Fault.{hitFault, nameFault, duplicateFault, chainFault
 use Rattle.meaning.specs.Refusal.{unplaced}
 use Rattle.meaning.specs.declared.Geometry.{Geometry}
 use Rattle.meaning.specs.declared.Refusal.{Refusal}
-use Rattle.laws.specs.Members
-use Rattle.laws.specs.Members.{In}
+use Rattle.lists.specs.Members
+use Rattle.lists.specs.Members.{In}
 use Rattle.laws.specs.Facts
-use Rattle.laws.specs.First.{passed}
+use Rattle.lists.specs.First.{passed}
 
 -- no kind of fault at slot s
 pub record Clear (g : Geometry) (d : List ℕ) (s : ℕ) : Type 0 where

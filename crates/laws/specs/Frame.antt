@@ -12,8 +12,8 @@ use Rattle.meaning.specs.Layout.{isSlot, slots, taken, field, hit, directoryGra
 use Rattle.meaning.specs.Entries.{block, marker, link, runs, runsFrom, runGranules, entryGranules, nameOf}
 use Rattle.meaning.specs.Chain.{chain, chainFrom, owned}
 use Rattle.meaning.specs.declared.Geometry.{Geometry}
-use Rattle.laws.specs.Members
-use Rattle.laws.specs.Facts.{File}
+use Rattle.lists.specs.Members
+use Rattle.laws.specs.Facts.{IsFile}
 use Rattle.laws.specs.Entry
 use Rattle.laws.specs.Words.{words}
 
@@ -98,7 +98,7 @@ module _ (g : Geometry) (d d′ : List ℕ) where
   pub pairs-next : (s : ℕ) → Pairs s → ((k : ℕ) → k < 4 → runs g d s ≤ k → block g d s k ≡ 0xff) → (k : ℕ) → k < 4 → runs g d′ s ≤ k → block g d′ s k ≡ 0xff
   pairs-next s a h k b r = a (0x16 + 2 * k) (omega arith) (omega arith) ∙ h k b (rw (runs-pairs s a) at r)
 
-  pub run-next : (s : ℕ) → Pairs s → ((k : ℕ) → k < runs g d s → Entry.Run g d s k) → (k : ℕ) → k < runs g d′ s → Entry.Run g d′ s k
+  pub run-next : (s : ℕ) → Pairs s → ((k : ℕ) → k < runs g d s → Entry.OnDisk g d s k) → (k : ℕ) → k < runs g d′ s → Entry.OnDisk g d′ s k
   run-next s a h k r =
       let q = h k (rw (runs-pairs s a) at r) in
       let b : k < 4 = omega (arith, Entry.runs-le g d′ s) in
@@ -155,10 +155,10 @@ module _ (g : Geometry) (d d′ : List ℕ) where
     unfolding owned
     owned-eq p a = rw (chain-eq p a) (Members.each-eq (entryGranules g d′) (entryGranules g d) (chain g d p) (λ x i. entryGranules-eq x (a x i)))
 
-    pub file-eq : (p : ℕ) → Agree g d d′ p → File g d p → File g d′ p
+    pub file-eq : (p : ℕ) → Agree g d d′ p → IsFile g d p → IsFile g d′ p
     file-eq p a f = record { slot = rw (slot-eq p) (f .slot); primary′ = rw (a 0 (omega arith)) (f .primary′) }
 
-    pub eq-file : (p : ℕ) → Agree g d d′ p → File g d′ p → File g d p
+    pub eq-file : (p : ℕ) → Agree g d d′ p → IsFile g d′ p → IsFile g d p
     eq-file p a f = record { slot = rw (slot-eq p) at (f .slot); primary′ = rw (a 0 (omega arith)) at (f .primary′) }
 
     pub filed-eq : (p : ℕ) → Agree g d d′ p → ((x : ℕ) → Members.In x (chain g d p) → Agree g d d′ x)

@@ -10,9 +10,9 @@ use Rattle.meaning.specs.Lists.{count, all}
 use Rattle.meaning.specs.Layout.{isSlot, hit, aboveTen}
 use Rattle.meaning.specs.Free.{permitted, freeSlot, freeSlots}
 use Rattle.meaning.specs.declared.Geometry.{Geometry}
-use Rattle.laws.specs.Members
-use Rattle.laws.specs.Members.{In}
-use Rattle.laws.specs.Counting
+use Rattle.lists.specs.Members
+use Rattle.lists.specs.Members.{In}
+use Rattle.lists.specs.Counting
 use Rattle.laws.specs.Frame
 
 module _ (g : Geometry) (d d′ : List ℕ) (above : aboveTen g d′ ≡ aboveTen g d) where

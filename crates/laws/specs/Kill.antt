@@ -11,10 +11,10 @@ use Rattle.meaning.specs.Entries.{inUse, system}
 use Rattle.meaning.specs.Chain.{chain, owned}
 use Rattle.meaning.specs.Kill.{killed}
 use Rattle.meaning.specs.declared.Geometry.{Geometry}
-use Rattle.laws.specs.Members.{In}
+use Rattle.lists.specs.Members.{In}
 use Rattle.laws.specs.Bits
 use Rattle.laws.specs.Facts
-use Rattle.laws.specs.Facts.{File, Sound}
+use Rattle.laws.specs.Facts.{IsFile, Sound}
 use Rattle.laws.specs.Frame.{Agree}
 use Rattle.laws.specs.Places
 use Rattle.laws.specs.Change
@@ -23,7 +23,7 @@ use Rattle.laws.specs.Marking
 use Rattle.laws.specs.Words.{words}
 
 -- kill clears: its stores are, by what the words mean, a marking with 0
-module _ (g : Geometry) (d : List ℕ) (c : Sound g d) (k : Places.Fits g d) (p : ℕ) (f : File g d p) where
+module _ (g : Geometry) (d : List ℕ) (c : Sound g d) (k : Places.Fits g d) (p : ℕ) (f : IsFile g d p) where
   pub kill-marks : Marking.Marks g d 0 (owned g d p) (chain g d p)
   kill-marks = record {
     dir = Places.dir g d (c .dir);
@@ -69,7 +69,7 @@ module _ (g : Geometry) (d : List ℕ) (c : Sound g d) (k : Places.Fits g d) (p 
   unfolding Marking.marking words
   kill-freed n i = rw (Marking.mark-granule g d 0 0 (owned g d p) (chain g d p) kill-marks n i) (λ t. t)
 
-  pub no-file : File g (killed g d p) p → ⊥
+  pub no-file : IsFile g (killed g d p) p → ⊥
   no-file h = kill-gone p (Change.chain-head g d c p (f .slot)) (Facts.file-in-use g (killed g d p) p h)
 
   no-entry : {A : Type 0} (x : ℕ) → In x (entriesOf g (killed g d p) p) → A

@@ -11,17 +11,16 @@ use Rattle.meaning.specs.Lists.{has, some, all, any, every, firstOr, keep}
 use Rattle.meaning.specs.Layout.{isSlot, slots}
 use Rattle.meaning.specs.Entries.{inUse, extension, marker, link}
 use Rattle.meaning.specs.Chain.{files}
-use Rattle.meaning.specs.Consistent.{pairsHold, follows}
+use Rattle.meaning.specs.Consistent.{pairsHold, followsBy}
 use Rattle.meaning.specs.Fault.{handsOn, ends, badEntry, walk, walked, metFrom, goodExtension, chainFault, fileOf}
 use Rattle.meaning.specs.declared.Geometry.{Geometry}
-use Rattle.laws.specs.Members
-use Rattle.laws.specs.Members.{In}
+use Rattle.lists.specs.Members
+use Rattle.lists.specs.Members.{In}
 use Rattle.laws.specs.Facts
-use Rattle.laws.specs.Facts.{File}
+use Rattle.laws.specs.Facts.{IsFile}
 use Rattle.laws.specs.Entry
 use Rattle.laws.specs.Entry.{Follows}
-use Rattle.laws.specs.Walk
-use Rattle.laws.specs.First.{yes-T}
+use Rattle.lists.specs.First.{yes-T}
 
 -- Lists -------------------------------------------------------------------------------------------------------------------------
 
@@ -94,21 +93,21 @@ module _ (g : Geometry) (d : List ℕ) where
   met-distinct x = Members.keep-distinct (λ b. all (eqb (link g d b) x ∷ handsOn g d b ∷ has (walked g d) b ∷ [])) (Facts.slots-distinct g d)
 
   -- an extension in order: it is met, and follows whatever it is met from
-  pub record Good (x : ℕ) : Type 0 where
+  pub record GoodExtension (x : ℕ) : Type 0 where
     pub met : (b : ℕ) × In b (metFrom g d x)
     pub follow : (b : ℕ) → In b (metFrom g d x) → Follows g d b x
 
-  pub good-says : (x : ℕ) → T (goodExtension g d x) → Good x
-  unfolding goodExtension follows
+  pub good-says : (x : ℕ) → T (goodExtension g d x) → GoodExtension x
+  unfolding goodExtension followsBy
   good-says x t =
-      let k = two-says (eqb (length (metFrom g d x)) 1) (every (λ b. follows g d b x) (metFrom g d x)) t in
-      record { met = one-in (metFrom g d x) (eqb→eq _ _ (k .0)); follow = λ b i. Entry.follows-says g d 0x90 b x (Members.every-all (λ b. follows g d b x) (k .1) i) }
+      let k = two-says (eqb (length (metFrom g d x)) 1) (every (λ b. followsBy g d 0x90 b x) (metFrom g d x)) t in
+      record { met = one-in (metFrom g d x) (eqb→eq _ _ (k .0)); follow = λ b i. Entry.follows-says g d 0x90 b x (Members.every-all (λ b. followsBy g d 0x90 b x) (k .1) i) }
 
   pub says-good : (x : ℕ) → length (metFrom g d x) ≡ 1 → ((b : ℕ) → In b (metFrom g d x) → Follows g d b x) → T (goodExtension g d x)
-  unfolding goodExtension follows
+  unfolding goodExtension followsBy
   says-good x e f =
-      Members.all-two (eqb (length (metFrom g d x)) 1) (every (λ b. follows g d b x) (metFrom g d x)) (Members.eq-T e)
-      (Members.all-every (λ b. follows g d b x) (metFrom g d x) (λ b i. Entry.says-follows g d 0x90 b x (f b i)))
+      Members.all-two (eqb (length (metFrom g d x)) 1) (every (λ b. followsBy g d 0x90 b x) (metFrom g d x)) (Members.eq-T e)
+      (Members.all-every (λ b. followsBy g d 0x90 b x) (metFrom g d x) (λ b i. Entry.says-follows g d 0x90 b x (f b i)))
 
   -- no chain fault at a slot in use
   pub record Firm (s : ℕ) : Type 0 where
@@ -154,7 +153,7 @@ module _ (g : Geometry) (d : List ℕ) where
   says-ends s p m = Members.all-two (pairsHold g d s) (eqb (marker g d s) 0xff) p (Members.eq-T m)
 
   -- the file of an entry that some walk meets
-  pub fileOf-is : (s p : ℕ) → File g d p → In s (walk g d p) → File g d (fileOf g d s) × In s (walk g d (fileOf g d s))
+  pub fileOf-is : (s p : ℕ) → IsFile g d p → In s (walk g d p) → IsFile g d (fileOf g d s) × In s (walk g d (fileOf g d s))
   unfolding fileOf
   fileOf-is s p f i =
       let j = first-in s (Members.in-keep (λ p. has (walk g d p) s) (Facts.in-files g d p f) (Members.in-has i)) in

@@ -1,7 +1,5 @@
 pub mod AtTail
 pub mod Words
-pub mod Members
-pub mod Counting
 pub mod Bits
 pub mod Facts
 pub mod Entry
@@ -12,7 +10,6 @@ pub mod Named
 pub mod Others
 pub mod Marking
 pub mod Kill
-pub mod First
 pub mod Spelling
 pub mod Carried
 pub mod Passed

@@ -16,8 +16,8 @@ use Rattle.meaning.specs.Bits.{bit, digit, putDigit}
 use Rattle.meaning.specs.Entries.{link, entryGranules, nameOf, sizeOf}
 use Rattle.meaning.specs.Chain.{chain, owned}
 use Rattle.meaning.specs.declared.Geometry.{Geometry}
-use Rattle.laws.specs.Members
-use Rattle.laws.specs.Members.{In}
+use Rattle.lists.specs.Members
+use Rattle.lists.specs.Members.{In}
 use Rattle.laws.specs.Bits
 use Rattle.laws.specs.Entry
 use Rattle.laws.specs.Frame
@@ -79,7 +79,7 @@ module _ (g : Geometry) (d : List ℕ) (v h : ℕ) (ns xs : List ℕ) (m : Marks
   first : List ℕ
   first = through (Places.marked g v) d ns
 
-  slot-of : (x : ℕ) → In x xs → Places.Slot g d x
+  slot-of : (x : ℕ) → In x xs → Places.IsSlot g d x
   slot-of x i = Places.slot g d x (m .slots′ x i)
 
   block-of : (n : ℕ) → n < granules g → n / g .units < mostBlocks

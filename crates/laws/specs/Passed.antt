@@ -8,22 +8,23 @@ use native.Mathlib.Omega.{arith}
 use lib.Dec.{T, ltb, not-T}
 use Rattle.meaning.specs.Lists.{same, all}
 use Rattle.meaning.specs.Layout.{fitsGeometry, isSlot}
-use Rattle.meaning.specs.Entries.{system, primary, nameOf}
+use Rattle.meaning.specs.Entries.{system, inUsePrimary, nameOf}
 use Rattle.meaning.specs.Consistent.{consistent}
 use Rattle.meaning.specs.Refusal.{unplaced, carried}
 use Rattle.meaning.specs.Fault.{fault}
-use Rattle.meaning.specs.Refusals.{first, check, faultNumbers, faultRefusals, diskRefusals, fresh, staleHandle, protected}
+use Rattle.meaning.specs.Refusals.{first, check, faultNumbers, faultRefusals, diskRefusals, stale, protected}
+use Rattle.meaning.specs.Handles.{fresh}
 use Rattle.meaning.specs.declared.Geometry.{Geometry}
 use Rattle.meaning.specs.declared.Handle.{Handle}
-use Rattle.laws.specs.Members
-use Rattle.laws.specs.Members.{In}
-use Rattle.laws.specs.First
+use Rattle.lists.specs.Members
+use Rattle.lists.specs.Members.{In}
+use Rattle.lists.specs.First
 use Rattle.laws.specs.Facts
 use Rattle.laws.specs.Fault
 use Rattle.laws.specs.Carried.{carried-own, carried-other}
 use Rattle.laws.specs.Places
 use Rattle.laws.specs.Words.{words}
-pub use Rattle.laws.specs.First.{passed, yes-T}
+pub use Rattle.lists.specs.First.{passed, yes-T}
 
 -- refusals 1 and 21 to 30 passed
 pub record Served (g : Geometry) (d : List ℕ) : Type 0 where
@@ -91,13 +92,13 @@ check-fault g d f = carried-own (fault g d) (check-number g d f)
 pub record Holds (g : Geometry) (d : List ℕ) (h : Handle) : Type 0 where
   pub fits : Places.Fits g d
   pub sound : Facts.Sound g d
-  pub file : Facts.File g d (h .slot)
+  pub file : Facts.IsFile g d (h .slot)
   pub name′ : nameOf g d (h .slot) ≡ h .name
   pub user : T (not (system g d (h .slot)))
 
 -- what every call by a handle that writes has passed
 pub holds : (g : Geometry) (d : List ℕ) (h : Handle) (b : Bool) (most : ℕ) (cs : List (ℕ × Bool))
-    → first (diskRefusals g d ((12, b) ∷ staleHandle g d h ∷ protected g d most h ∷ cs)) ≡ 0 → Holds g d h × (first cs ≡ 0)
+    → first (diskRefusals g d ((12, b) ∷ stale g d h ∷ protected g d most h ∷ cs)) ≡ 0 → Holds g d h × (first cs ≡ 0)
 unfolding words
 holds g d h b most cs e =
     let p = disk-passed g d _ e in
@@ -105,12 +106,12 @@ holds g d h b most cs e =
     let p₄ = passed 7 _ _ (omega arith) (p₃ .1) in
     let p₅ = passed 6 _ _ (omega arith) (p₄ .1) in
     let live : T (fresh g d h) = yes-T (fresh g d h) (p₄ .0) in
-    let t : T (all (primary g d (h .slot) ∷ same (nameOf g d (h .slot)) (h .name) ∷ [])) = Members.and-r (isSlot g d (h .slot)) (all (primary g d (h .slot) ∷ same (nameOf g d (h .slot)) (h .name) ∷ [])) live in (
+    let t : T (all (inUsePrimary g d (h .slot) ∷ same (nameOf g d (h .slot)) (h .name) ∷ [])) = Members.and-r (isSlot g d (h .slot)) (all (inUsePrimary g d (h .slot) ∷ same (nameOf g d (h .slot)) (h .name) ∷ [])) live in (
       record {
         fits = Places.fits g d (p .0 .fits);
         sound = p .0 .sound;
-        file = record { slot = Members.and-l (isSlot g d (h .slot)) (all (primary g d (h .slot) ∷ same (nameOf g d (h .slot)) (h .name) ∷ [])) live; primary′ = Members.and-l (primary g d (h .slot)) (all (same (nameOf g d (h .slot)) (h .name) ∷ [])) t };
-        name′ = Members.same-eq _ _ (Members.all-second (primary g d (h .slot)) (same (nameOf g d (h .slot)) (h .name)) t);
+        file = record { slot = Members.and-l (isSlot g d (h .slot)) (all (inUsePrimary g d (h .slot) ∷ same (nameOf g d (h .slot)) (h .name) ∷ [])) live; primary′ = Members.and-l (inUsePrimary g d (h .slot)) (all (same (nameOf g d (h .slot)) (h .name) ∷ [])) t };
+        name′ = Members.same-eq _ _ (Members.all-second (inUsePrimary g d (h .slot)) (same (nameOf g d (h .slot)) (h .name)) t);
         user = not-T (system g d (h .slot)) (λ u. p₅ .0 (Members.any-r (ltb most (h .level)) (system g d (h .slot)) u));
       },
       p₅ .1,

@@ -11,13 +11,13 @@ use lib.Seq.{getD-set-same, getD-set-other, set-out, sets}
 use lib.Dec.{T, eqb, leb, ltb, eqb→eq, ltb→lt, leb→le}
 use Rattle.meaning.specs.Lists.{count, has, through}
 use Rattle.meaning.specs.Layout.{fitsGeometry, byte, isSlot, taken, gatAt, granules, directoryGranules, granuleBytes, granuleSectors, aboveTen, directorySectors, sectors, roundUp, mostBlocks, mostUnits}
-use Rattle.meaning.specs.Sizes
+use Rattle.lists.specs.Sizes
 use Rattle.meaning.specs.Bits.{digit, putDigit}
 use Rattle.meaning.specs.Entries.{runs, runStart, runLength, runGranules, entryGranules}
 use Rattle.meaning.specs.Consistent.{lengthHolds}
 use Rattle.meaning.specs.declared.Geometry.{Geometry}
-use Rattle.laws.specs.Members
-use Rattle.laws.specs.Members.{In}
+use Rattle.lists.specs.Members
+use Rattle.lists.specs.Members.{In}
 use Rattle.laws.specs.Bits
 use Rattle.laws.specs.Entry
 use Rattle.laws.specs.Words.{words}
@@ -87,16 +87,16 @@ dir g d t =
     let f = five (aboveTen g d) (Members.has-in _ _ a) in
     record { fives = f .0; small = f .1; inside = leb→le _ _ b }
 
-pub record Slot (g : Geometry) (d : List ℕ) (s : ℕ) : Type 0 where
+pub record IsSlot (g : Geometry) (d : List ℕ) (s : ℕ) : Type 0 where
   pub low : s < 256
   pub sector : s % 32 + 2 < directorySectors g d
 
-pub slot : (g : Geometry) (d : List ℕ) (s : ℕ) → T (isSlot g d s) → Slot g d s
+pub slot : (g : Geometry) (d : List ℕ) (s : ℕ) → T (isSlot g d s) → IsSlot g d s
 unfolding words
 slot g d s t = record { low = ltb→lt _ _ (Members.and-l (ltb s 256) _ t); sector = ltb→lt _ _ (Members.all-second (ltb s 256) (ltb (s % 32 + 2) (directorySectors g d)) t) }
 
 -- where an entry's runs lie on the disk, its granules do
-pub runs-granule-lt : (g : Geometry) (d : List ℕ) (s n : ℕ) → ((k : ℕ) → k < runs g d s → Entry.Run g d s k) → In n (entryGranules g d s) → n < granules g
+pub runs-granule-lt : (g : Geometry) (d : List ℕ) (s n : ℕ) → ((k : ℕ) → k < runs g d s → Entry.OnDisk g d s k) → In n (entryGranules g d s) → n < granules g
 unfolding entryGranules
 runs-granule-lt g d s n f i =
     let k = Members.each-in (runGranules g d s) n (count 0 (runs g d s)) i in

@@ -18,8 +18,8 @@ use Rattle.meaning.specs.Plain.{File}
 use Rattle.meaning.specs.declared.Mode.{Mode}
 use Rattle.meaning.specs.declared.Mode.the-variants.{Sequential, Random}
 use Rattle.meaning.specs.declared.Geometry.{Geometry}
-use Rattle.laws.specs.Members
-use Rattle.laws.specs.Members.{In}
+use Rattle.lists.specs.Members
+use Rattle.lists.specs.Members.{In}
 use Rattle.laws.specs.Facts
 use Rattle.laws.specs.Facts.{Sound}
 use Rattle.laws.specs.Entry
@@ -52,7 +52,7 @@ pub record Rewrites (g : Geometry) (d d′ : List ℕ) (p : ℕ) : Type 0 where
   pub fits : sizeOf g d′ p ≤ granuleBytes g * length (owned g d p)
   pub same : (i : ℕ) → (In (i / granuleBytes g) (directoryGranules g d) → ⊥) → (In (i / granuleBytes g) (owned g d p) → ⊥) → byte d′ i ≡ byte d i
 
-module _ (g : Geometry) (d d′ : List ℕ) (c : Sound g d) (p : ℕ) (f : Facts.File g d p) (h : Rewrites g d d′ p) where
+module _ (g : Geometry) (d d′ : List ℕ) (c : Sound g d) (p : ℕ) (f : Facts.IsFile g d p) (h : Rewrites g d d′ p) where
   slot-of : (x : ℕ) → In x (chain g d p) → T (isSlot g d x)
   slot-of x i = Change.members g d c p x f i .slot
 
@@ -80,7 +80,7 @@ module _ (g : Geometry) (d d′ : List ℕ) (c : Sound g d) (p : ℕ) (f : Facts
   unfolding owned
   rw-owned = ap (each (entryGranules g d′)) rw-chain ∙ Members.each-eq (entryGranules g d′) (entryGranules g d) (chain g d p) (λ x i. kept-granules x (slot-of x i))
 
-  pub rw-file : Facts.File g d′ p
+  pub rw-file : Facts.IsFile g d′ p
   rw-file = record { slot = rw (Frame.slot-eq g d d′ (h .above) p) (f .slot); primary′ = rw (flag p (f .slot)) (f .primary′) }
 
   entry-was : (x : ℕ) → In x (chain g d p) → Entry.Entry g d x

@@ -10,15 +10,15 @@ use lib.ListN.{length, length-append, List·getD-append}
 use lib.Dec.{T}
 use Rattle.meaning.specs.Lists.{count}
 use Rattle.meaning.specs.Layout.{byte, taken, field, granules, directoryGranules, granuleBytes}
-use Rattle.meaning.specs.Sizes
+use Rattle.lists.specs.Sizes
 use Rattle.meaning.specs.Entries.{system, sizeOf}
 use Rattle.meaning.specs.Chain.{owned, place}
 use Rattle.meaning.specs.Free.{freeGranules}
 use Rattle.meaning.specs.Plain.{File, fileAt}
 use Rattle.meaning.specs.declared.Geometry.{Geometry}
-use Rattle.laws.specs.Members
-use Rattle.laws.specs.Members.{In}
-use Rattle.laws.specs.Counting
+use Rattle.lists.specs.Members
+use Rattle.lists.specs.Members.{In}
+use Rattle.lists.specs.Counting
 use Rattle.laws.specs.Facts
 use Rattle.laws.specs.Facts.{Sound}
 use Rattle.laws.specs.Change
@@ -33,7 +33,7 @@ pub record Shorter (g : Geometry) (d d′ : List ℕ) (p m : ℕ) : Type 0 where
   pub same : (i : ℕ) → (In (i / granuleBytes g) (directoryGranules g d) → ⊥) → byte d′ i ≡ byte d i
   pub room : sizeOf g d p ≤ granuleBytes g * length (owned g d′ p)
 
-module _ (g : Geometry) (d d′ : List ℕ) (c : Sound g d) (p : ℕ) (f : Facts.File g d p) (m : ℕ) (h : Shorter g d d′ p m) where
+module _ (g : Geometry) (d d′ : List ℕ) (c : Sound g d) (p : ℕ) (f : Facts.IsFile g d p) (m : ℕ) (h : Shorter g d d′ p m) where
   pub m-in : In m (owned g d p)
   m-in = rw (h .less) (Members.in-append-r (owned g d′ p) Members.In.here)
 

@@ -12,8 +12,8 @@ use Rattle.meaning.specs.Entries.{system, entryGranules, sizeOf}
 use Rattle.meaning.specs.Chain.{chain, owned}
 use Rattle.meaning.specs.Growth.{tail}
 use Rattle.meaning.specs.declared.Geometry.{Geometry}
-use Rattle.laws.specs.Members
-use Rattle.laws.specs.Members.{In, Distinct}
+use Rattle.lists.specs.Members
+use Rattle.lists.specs.Members.{In, Distinct}
 use Rattle.laws.specs.Facts
 use Rattle.laws.specs.Facts.{Sound}
 use Rattle.laws.specs.Frame
@@ -30,7 +30,7 @@ pub record Shrinks (g : Geometry) (d d′ : List ℕ) (p m : ℕ) : Type 0 where
   pub same : (i : ℕ) → (In (i / granuleBytes g) (directoryGranules g d) → ⊥) → byte d′ i ≡ byte d i
   pub room : sizeOf g d p + granuleBytes g ≤ granuleBytes g * length (owned g d p)
 
-module _ (g : Geometry) (d d′ : List ℕ) (c : Sound g d) (p : ℕ) (f : Facts.File g d p) (m : ℕ) (h : Shrinks g d d′ p m) where
+module _ (g : Geometry) (d d′ : List ℕ) (c : Sound g d) (p : ℕ) (f : Facts.IsFile g d p) (m : ℕ) (h : Shrinks g d d′ p m) where
   pub shrinks-owned : owned g d p ≡ owned g d′ p ++ (m ∷ [])
   shrinks-owned =
       AtTail.owned-was g d d′ c p f (h .at) ∙ ap (λ (l : List ℕ). AtTail.earlier g d d′ c p f (h .at) ++ l) (h .less)

@@ -9,19 +9,19 @@ use lib.Dec.{T, eqb, eqb→eq, ltb, ltb→lt, T-not}
 use Rattle.meaning.specs.Lists.{some, has, distinct, same, all, any}
 use Rattle.meaning.specs.Layout.{isSlot, slots, field, hit, taken, directoryGranules}
 use Rattle.meaning.specs.Names.{hash}
-use Rattle.meaning.specs.Entries.{inUse, extension, primary, system, marker, link, entryGranules, nameOf}
+use Rattle.meaning.specs.Entries.{inUse, extension, inUsePrimary, system, marker, link, entryGranules, nameOf}
 use Rattle.meaning.specs.Chain.{chain, chainFrom, owned, files}
 use Rattle.meaning.specs.Consistent.{hitHolds, pairsHold, runsHold, gatHolds, entryHolds, nameHolds, sizeHolds, fileHolds}
 use Rattle.meaning.specs.Fault.{handsOn, ends, walkFrom, walk, metFrom, goodExtension, fileOf, chainWhole, hitFault, nameFault, duplicateFault, chainFault, runFault, gatFault, sharedFault, sizeFault, directoryFault}
 use Rattle.meaning.specs.declared.Geometry.{Geometry}
-use Rattle.laws.specs.Members
-use Rattle.laws.specs.Members.{In, Distinct}
+use Rattle.lists.specs.Members
+use Rattle.lists.specs.Members.{In, Distinct}
 use Rattle.laws.specs.Facts
-use Rattle.laws.specs.Facts.{File, Sound}
+use Rattle.laws.specs.Facts.{IsFile, Sound}
 use Rattle.laws.specs.Entry
 use Rattle.laws.specs.Entry.{Follows, Linked}
 use Rattle.laws.specs.Change
-use Rattle.laws.specs.Clauses.{Used}
+use Rattle.laws.specs.Clauses.{IsUsed}
 use Rattle.laws.specs.Walk
 use Rattle.laws.specs.Kinds
 use Rattle.laws.specs.Faultless.{Faultless}
@@ -54,15 +54,15 @@ own g d p t =
     record { name = a; size = b }
 
 module _ (g : Geometry) (d : List ℕ) (c : Sound g d) where
-  entry : (s : ℕ) → Used g d s → Entry.Entry g d s
+  entry : (s : ℕ) → IsUsed g d s → Entry.Entry g d s
   entry s u = Change.entry-at g d c s (u .slot) (u .used)
 
-  held : (s : ℕ) → Used g d s → Tests g d s
+  held : (s : ℕ) → IsUsed g d s → Tests g d s
   held s u = tests g d s (c .entries s (u .slot) (u .used))
 
   -- Chains ------------------------------------------------------------------------------------------------------------------------
 
-  hands : (s : ℕ) → Used g d s → Linked g d s → T (handsOn g d s)
+  hands : (s : ℕ) → IsUsed g d s → Linked g d s → T (handsOn g d s)
   hands s u l = Walk.says-hands g d s (record {
     pairs = held s u .pairs;
     marked = l .marked;
@@ -71,18 +71,18 @@ module _ (g : Geometry) (d : List ℕ) (c : Sound g d) where
     full = l .full;
   })
 
-  linked : (s : ℕ) → Used g d s → marker g d s ≡ 0xfe → Linked g d s
+  linked : (s : ℕ) → IsUsed g d s → marker g d s ≡ 0xfe → Linked g d s
   linked s u m = go (entry s u .linked)
     where
       go : (marker g d s ≡ 0xff) ⊎ Linked g d s → Linked g d s
       go (inl e) = absurd (omega (arith, m, e))
       go (inr l) = l
 
-  used : (p x : ℕ) → File g d p → In x (chain g d p) → Used g d x
+  used : (p x : ℕ) → IsFile g d p → In x (chain g d p) → IsUsed g d x
   used p x f i = let k = Change.members g d c p x f i in record { slot = k .slot; used = k .used }
 
   -- a walk that has met none of what comes meets the chain
-  walkFrom-is : (n : ℕ) (before : List ℕ) (s : ℕ) → Used g d s → Distinct (chainFrom g d n s) → ((x : ℕ) → In x (chainFrom g d n s) → In x before → ⊥)
+  walkFrom-is : (n : ℕ) (before : List ℕ) (s : ℕ) → IsUsed g d s → Distinct (chainFrom g d n s) → ((x : ℕ) → In x (chainFrom g d n s) → In x before → ⊥)
       → walkFrom g d n before s ≡ chainFrom g d n s
   unfolding walkFrom chainFrom
   walkFrom-is zero before s u e f = refl
@@ -95,7 +95,7 @@ module _ (g : Geometry) (d : List ℕ) (c : Sound g d) where
       way : List ℕ
       way = walkFrom g d n (s ∷ before) (link g d s)
 
-      go : Members.Test (eqb (marker g d s) 0xfe) → (Used g d (link g d s) → Distinct rest → ((x : ℕ) → In x rest → In x (s ∷ before) → ⊥) → way ≡ rest)
+      go : Members.Test (eqb (marker g d s) 0xfe) → (IsUsed g d (link g d s) → Distinct rest → ((x : ℕ) → In x rest → In x (s ∷ before) → ⊥) → way ≡ rest)
           → _≡_ {A = List ℕ} (s ∷ cond (handsOn g d s) way []) (s ∷ cond (eqb (marker g d s) 0xfe) rest [])
       go (Members.Test.fails m) ih =
           rw (Members.no-false {b = eqb (marker g d s) 0xfe} m, Members.no-false {b = handsOn g d s} (λ t. m (Members.eq-T (Walk.hands-says g d s t .marked))))
@@ -110,11 +110,11 @@ module _ (g : Geometry) (d : List ℕ) (c : Sound g d) where
           new x i (inl q) = h (rw (Members.T-true {b = eqb (marker g d s) 0xfe} m) (subst (λ (y : ℕ). In y rest) q i))
           new x i (inr j) = f x (rw (Members.T-true {b = eqb (marker g d s) 0xfe} m) (Members.In.there i)) j
 
-  walk-is : (p : ℕ) → File g d p → walk g d p ≡ chain g d p
+  walk-is : (p : ℕ) → IsFile g d p → walk g d p ≡ chain g d p
   unfolding walk chain
   walk-is p f = walkFrom-is _ [] p (Walk.file-used g d p f) (c .once p f) (λ x i j. Members.none-in j)
 
-  in-walk : (p s : ℕ) → File g d p → In s (chain g d p) → In s (walk g d p)
+  in-walk : (p s : ℕ) → IsFile g d p → In s (chain g d p) → In s (walk g d p)
   in-walk p s f i = rw (walk-is p f) i
 
   -- Extensions --------------------------------------------------------------------------------------------------------------------
@@ -126,20 +126,20 @@ module _ (g : Geometry) (d : List ℕ) (c : Sound g d) where
       let u = used (w .0) b (w .1) (Walk.walk-chain g d (w .0) b (w .2)) in
       subst (Follows g d b) (l .to) (linked b u (Walk.hands-says g d b (l .on) .marked) .next)
 
-  good : (x : ℕ) → Used g d x → T (extension g d x) → T (goodExtension g d x)
+  good : (x : ℕ) → IsUsed g d x → T (extension g d x) → T (goodExtension g d x)
   good x u t =
       let w = c .covered x (u .slot) (u .used) in
       Kinds.says-good g d x (Kinds.alone (field g d x 1) (metFrom g d x) (Kinds.met-distinct g d x) (before (w .0) (w .1) (w .2) (Entry.chain-pred g d (w .0) x (w .2)) .1)
       (λ b i. sym (follow b x i .before))) (λ b i. follow b x i)
     where
-      before : (p : ℕ) → File g d p → In x (chain g d p) → Entry.Pred g d p x (chain g d p) → (b : ℕ) × In b (metFrom g d x)
+      before : (p : ℕ) → IsFile g d p → In x (chain g d p) → Entry.Pred g d p x (chain g d p) → (b : ℕ) × In b (metFrom g d x)
       before p f i (Entry.Pred.first e) = absurd (T-not (extension g d p) (Facts.file-first g d p f) (subst (λ (y : ℕ). T (extension g d y)) e t))
       before p f i (Entry.Pred.after b j m l) =
           let k = Members.front-in p i j in
           let v = used p b f k in
           (b, Kinds.says-met g d b x (v .slot) (record { to = l; on = hands b v (linked b v m); by = Walk.in-walked g d p b f (in-walk p b f k) }))
 
-  firm : (s : ℕ) → Used g d s → Kinds.Firm g d s
+  firm : (s : ℕ) → IsUsed g d s → Kinds.Firm g d s
   firm s u = record { upright = go (entry s u .linked); good = good s u }
     where
       go : (marker g d s ≡ 0xff) ⊎ Linked g d s → T (handsOn g d s) ⊎ T (ends g d s)
@@ -148,10 +148,10 @@ module _ (g : Geometry) (d : List ℕ) (c : Sound g d) where
 
   -- an entry's file
   record Of (s : ℕ) : Type 0 where
-    file : File g d (fileOf g d s)
+    file : IsFile g d (fileOf g d s)
     member : In s (chain g d (fileOf g d s))
 
-  of : (s : ℕ) → Used g d s → Of s
+  of : (s : ℕ) → IsUsed g d s → Of s
   of s u =
       let w = c .covered s (u .slot) (u .used) in
       let k = Kinds.fileOf-is g d s (w .0) (w .1) (in-walk (w .0) s (w .1) (w .2)) in
@@ -179,13 +179,13 @@ module _ (g : Geometry) (d : List ℕ) (c : Sound g d) where
   no-name : (s : ℕ) → T (isSlot g d s) → T (nameFault g d s) → ⊥
   unfolding nameFault
   no-name s t v =
-      let k = Kinds.two-says (primary g d s) (not (nameHolds g d s)) v in
+      let k = Kinds.two-says (inUsePrimary g d s) (not (nameHolds g d s)) v in
       T-not (nameHolds g d s) (k .1) (own g d s (c .file s (record { slot = t; primary′ = k .0 })) .name)
 
   no-duplicate : (s : ℕ) → T (isSlot g d s) → T (duplicateFault g d s) → ⊥
   unfolding duplicateFault
   no-duplicate s t v =
-      let k = Kinds.two-says (primary g d s) (some (λ q. ltb q s && same (nameOf g d q) (nameOf g d s)) (files g d)) v in
+      let k = Kinds.two-says (inUsePrimary g d s) (some (λ q. ltb q s && same (nameOf g d q) (nameOf g d s)) (files g d)) v in
       let w = Kinds.some-in (λ q. ltb q s && same (nameOf g d q) (nameOf g d s)) (files g d) (k .1) in
       let l = ltb→lt (w .0) s (Members.and-l (ltb (w .0) s) (same (nameOf g d (w .0)) (nameOf g d s)) (w .2)) in
       let e = c .names (w .0) s (Facts.files-in g d (w .0) (w .1)) (record { slot = t; primary′ = k .0 })
@@ -208,7 +208,7 @@ module _ (g : Geometry) (d : List ℕ) (c : Sound g d) where
       T-not (gatHolds g d s) (k .1) (held s (record { slot = t; used = k .0 }) .gat)
 
   -- a granule of two entries in use
-  apart : (s t n : ℕ) → Used g d s → Used g d t → In n (entryGranules g d s) → In n (entryGranules g d t) → s ≡ t
+  apart : (s t n : ℕ) → IsUsed g d s → IsUsed g d t → In n (entryGranules g d s) → In n (entryGranules g d t) → s ≡ t
   unfolding owned
   apart s t n u v i j =
       let a = c .covered s (u .slot) (u .used) in
@@ -225,7 +225,7 @@ module _ (g : Geometry) (d : List ℕ) (c : Sound g d) where
       both : ℕ → Bool
       both t = all (ltb t s ∷ inUse g d t ∷ some (has (entryGranules g d t)) (entryGranules g d s) ∷ [])
 
-      go : Used g d s → T (not (distinct (entryGranules g d s))) ⊎ T (some both (slots g d)) → ⊥
+      go : IsUsed g d s → T (not (distinct (entryGranules g d s))) ⊎ T (some both (slots g d)) → ⊥
       go u (inl n) =
           let a = c .covered s t (u .used) in
           T-not (distinct (entryGranules g d s)) n (Members.says-distinct (Members.distinct-each (entryGranules g d) (c .single (a .0) (a .1)) (a .2)))
@@ -239,7 +239,7 @@ module _ (g : Geometry) (d : List ℕ) (c : Sound g d) where
   no-size : (s : ℕ) → T (isSlot g d s) → T (sizeFault g d s) → ⊥
   unfolding sizeFault
   no-size s t v =
-      let k = Kinds.all-says (primary g d s) (chainWhole g d s) (not (sizeHolds g d s)) v in
+      let k = Kinds.all-says (inUsePrimary g d s) (chainWhole g d s) (not (sizeHolds g d s)) v in
       T-not (sizeHolds g d s) (k .2) (own g d s (c .file s (record { slot = t; primary′ = k .0 })) .size)
 
   no-directory : (s : ℕ) → T (isSlot g d s) → T (directoryFault g d s) → ⊥

@@ -11,7 +11,7 @@ use lib.Dec.{T, eqb, leb, ltb, leb→le}
 use borrow.Author.Tests.{eqb-true, ltb-true, ltb-false, le-ltb, lt-leb}
 use Rattle.meaning.specs.Lists.{every, all}
 use Rattle.meaning.specs.Names.{letter, padded, wellFormed, foldByte, fold, blanks, good, badPlace, noPlace}
-use Rattle.laws.specs.Members
+use Rattle.lists.specs.Members
 
 -- The fold ----------------------------------------------------------------------------------------------------------------
 

@@ -9,13 +9,13 @@ use lib.ListN.{length}
 use lib.Dec.{T, not-T}
 use Rattle.meaning.specs.Layout.{fitsGeometry, granules, taken, isSlot, field, granuleBytes}
 use Rattle.meaning.specs.Bits.{bit}
-use Rattle.meaning.specs.Entries.{primary, system, sizeOf}
+use Rattle.meaning.specs.Entries.{inUsePrimary, system, sizeOf}
 use Rattle.meaning.specs.Chain.{owned}
 use Rattle.meaning.specs.Consistent.{consistent}
 use Rattle.meaning.specs.Growth.{takeAt, grown}
 use Rattle.meaning.specs.Drop.{dropOne}
 use Rattle.meaning.specs.declared.Geometry.{Geometry}
-use Rattle.laws.specs.Members
+use Rattle.lists.specs.Members
 use Rattle.laws.specs.Facts
 use Rattle.laws.specs.Places
 use Rattle.laws.specs.Change
@@ -27,7 +27,7 @@ pub record Ready (g : Geometry) (d : List ℕ) (p : ℕ) : Type 0 where
   pub fits : fitsGeometry g d ≡ true
   pub sound : consistent g d ≡ true
   pub slot : isSlot g d p ≡ true
-  pub first : primary g d p ≡ true
+  pub first : inUsePrimary g d p ≡ true
   pub user : system g d p ≡ false
 
 pub fits-long : (g : Geometry) (d d′ : List ℕ) → length d′ ≡ length d → fitsGeometry g d′ ≡ fitsGeometry g d
@@ -41,13 +41,13 @@ module _ (g : Geometry) (d : List ℕ) (p : ℕ) (r : Ready g d p) where
   k : Places.Fits g d
   k = Places.fits g d (Members.true-T (r .fits))
 
-  f : Facts.File g d p
+  f : Facts.IsFile g d p
   f = record { slot = Members.true-T (r .slot); primary′ = Members.true-T (r .first) }
 
   u : T (not (system g d p))
   u = not-T (system g d p) (λ t. Members.false-no (r .user) t)
 
-  ready : (d′ : List ℕ) → Change.Change g d d′ p → length d′ ≡ length d → Facts.File g d′ p → field g d′ p 0 ≡ field g d p 0 → Ready g d′ p
+  ready : (d′ : List ℕ) → Change.Change g d d′ p → length d′ ≡ length d → Facts.IsFile g d′ p → field g d′ p 0 ≡ field g d p 0 → Ready g d′ p
   ready d′ h l f′ e = record {
     fits = fits-long g d d′ l ∙ r .fits;
     sound = Facts.back g d′ (Change.changed g d d′ c p h);

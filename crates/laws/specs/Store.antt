@@ -8,13 +8,13 @@ use native.Mathlib.Decide.{ℕ-discrete}
 use lib.ListN.{length, getD, set, length-set}
 use lib.Seq.{getD-set-same, getD-set-other}
 use Rattle.meaning.specs.Layout.{byte, granules, granuleBytes}
-use Rattle.meaning.specs.Sizes
+use Rattle.lists.specs.Sizes
 use Rattle.meaning.specs.Chain.{owned, place}
 use Rattle.meaning.specs.Write.{store}
 use Rattle.meaning.specs.declared.Geometry.{Geometry}
-use Rattle.laws.specs.Members
-use Rattle.laws.specs.Members.{Distinct}
-use Rattle.laws.specs.Facts.{Sound, File}
+use Rattle.lists.specs.Members
+use Rattle.lists.specs.Members.{Distinct}
+use Rattle.laws.specs.Facts.{Sound, IsFile}
 use Rattle.laws.specs.Places
 use Rattle.laws.specs.Change
 use Rattle.laws.specs.Others
@@ -56,7 +56,7 @@ getD-inj (Members.Distinct.fresh {xs = xs} n r) zero (suc b) h l e = absurd (n (
 getD-inj (Members.Distinct.fresh {xs = xs} n r) (suc a) zero h l e = absurd (n (rw (← e) (Others.getD-in xs a (omega arith))))
 getD-inj (Members.Distinct.fresh n r) (suc a) (suc b) h l e = ap suc (getD-inj r a b (omega arith) (omega arith) e)
 
-module _ (g : Geometry) (d : List ℕ) (c : Sound g d) (k : Places.Fits g d) (p : ℕ) (f : File g d p) where
+module _ (g : Geometry) (d : List ℕ) (c : Sound g d) (k : Places.Fits g d) (p : ℕ) (f : IsFile g d p) where
   pub place-inj : (a b : ℕ) → a < granuleBytes g * length (owned g d p) → b < granuleBytes g * length (owned g d p) → place g d p a ≡ place g d p b → a ≡ b
   unfolding place
   place-inj a b h l e =

@@ -12,8 +12,8 @@ use Rattle.meaning.specs.Entries.{system, entryGranules}
 use Rattle.meaning.specs.Chain.{owned}
 use Rattle.meaning.specs.Growth.{tail}
 use Rattle.meaning.specs.declared.Geometry.{Geometry}
-use Rattle.laws.specs.Members
-use Rattle.laws.specs.Members.{In}
+use Rattle.lists.specs.Members
+use Rattle.lists.specs.Members.{In}
 use Rattle.laws.specs.Facts
 use Rattle.laws.specs.Facts.{Sound}
 use Rattle.laws.specs.Change
@@ -30,7 +30,7 @@ pub record Grows (g : Geometry) (d d′ : List ℕ) (p m : ℕ) : Type 0 where
   pub keeps : (n : ℕ) → n < granules g → n ≢ m → taken g d′ n ≡ taken g d n
   pub same : (i : ℕ) → (In (i / granuleBytes g) (directoryGranules g d) → ⊥) → byte d′ i ≡ byte d i
 
-module _ (g : Geometry) (d d′ : List ℕ) (c : Sound g d) (p : ℕ) (f : Facts.File g d p) (m : ℕ) (h : Grows g d d′ p m) where
+module _ (g : Geometry) (d d′ : List ℕ) (c : Sound g d) (p : ℕ) (f : Facts.IsFile g d p) (m : ℕ) (h : Grows g d d′ p m) where
   pub grows-owned : owned g d′ p ≡ owned g d p ++ (m ∷ [])
   grows-owned =
       AtTail.owned-is g d d′ c p f (h .at) ∙ ap (λ (l : List ℕ). AtTail.earlier g d d′ c p f (h .at) ++ l) (h .more)

@@ -16,9 +16,9 @@ use Rattle.meaning.specs.Bits.{bit, digit}
 use Rattle.meaning.specs.Entries.{block, runStart, runLength, runGranules, runs, entryGranules}
 use Rattle.meaning.specs.Growth.{tail, after, lengthens, lengthened, withPair}
 use Rattle.meaning.specs.declared.Geometry.{Geometry}
-use Rattle.laws.specs.Members
-use Rattle.laws.specs.Members.{In}
-use Rattle.laws.specs.Facts.{Sound, File}
+use Rattle.lists.specs.Members
+use Rattle.lists.specs.Members.{In}
+use Rattle.laws.specs.Facts.{Sound, IsFile}
 use Rattle.laws.specs.Entry
 use Rattle.laws.specs.Frame
 use Rattle.laws.specs.Frame.{Agree}
@@ -31,7 +31,7 @@ use Rattle.laws.specs.Words.{words}
 module _ (v : ℕ) (bv : v < 2) (g : Geometry) (d : List ℕ) (c : Sound g d) (k : Places.Fits g d) (e : ℕ) (t : T (isSlot g d e)) (j : ℕ) (hj : j < 4)
     (d₁ : List ℕ) (len : length d₁ ≡ length d)
     (out : (i : ℕ) → i ≢ entryAt g e + (0x16 + 2 * j) → i ≢ entryAt g e + (0x17 + 2 * j) → byte d₁ i ≡ byte d i) (m : ℕ) (lm : m < granules g) where
-  s : Places.Slot g d e
+  s : Places.IsSlot g d e
   s = Places.slot g d e t
 
   a10 : Places.Dir g d
@@ -89,7 +89,7 @@ granules-snoc g d s r e =
     ∙ ap (λ (l : List ℕ). each (runGranules g d s) (count 0 r) ++ l) (Members.each-one (runGranules g d s) (0 + r) ∙ ap (runGranules g d s) (omega arith)))
 
 -- Case 1: the last run is longer by one
-module _ (g : Geometry) (d : List ℕ) (c : Sound g d) (k : Places.Fits g d) (p : ℕ) (f : File g d p) (l : T (lengthens g p d)) where
+module _ (g : Geometry) (d : List ℕ) (c : Sound g d) (k : Places.Fits g d) (p : ℕ) (f : IsFile g d p) (l : T (lengthens g p d)) where
   abbrev e : ℕ
   e = tail g p d
 
@@ -176,10 +176,10 @@ module _ (g : Geometry) (d : List ℕ) (c : Sound g d) (k : Places.Fits g d) (p 
       ∙ sym (append-assoc (each (runGranules g d e) (count 0 r)) (runGranules g d e r) (after g p d ∷ []))
       ∙ ap (λ (l : List ℕ). l ++ (after g p d ∷ [])) (sym (granules-snoc g d e r runs-r))
 
-  run′ : (x : ℕ) → x < runs g d₂ e → Entry.Run g d₂ e x
+  run′ : (x : ℕ) → x < runs g d₂ e → Entry.OnDisk g d₂ e x
   run′ x h = go (ℕ-discrete x r)
     where
-      go : Dec (x ≡ r) → Entry.Run g d₂ e x
+      go : Dec (x ≡ r) → Entry.OnDisk g d₂ e x
       go (yes q) = rw q (record {
         unit = rw changed (omega (arith, short, entry .run r (omega (arith, some-run)) .unit));
         inside = rw (start′, length′) (omega (arith, inside′));
@@ -244,7 +244,7 @@ pub run-start : (units n : ℕ) → n / units * units + n % units * 32 / 32 ≡ 
 run-start units n = ap (λ (x : ℕ). n / units * units + x) (omega arith) ∙ div-add-mod' n units
 
 -- Case 2: a new run in the last entry
-module _ (g : Geometry) (d : List ℕ) (c : Sound g d) (k : Places.Fits g d) (p : ℕ) (f : File g d p) (n : ℕ)
+module _ (g : Geometry) (d : List ℕ) (c : Sound g d) (k : Places.Fits g d) (p : ℕ) (f : IsFile g d p) (n : ℕ)
     (few : runs g d (tail g p d) < 4) (inn : n < granules g) (untaken : T (taken g d n) → ⊥) where
   abbrev e₂ : ℕ
   e₂ = tail g p d
@@ -310,10 +310,10 @@ module _ (g : Geometry) (d : List ℕ) (c : Sound g d) (k : Places.Fits g d) (p 
       granules-snoc g d₃ e₂ r₂ runs₂
       ∙ ap₂ (λ (a b : List ℕ). a ++ b) (Members.each-eq (runGranules g d₃ e₂) (runGranules g d e₂) (count 0 r₂) (λ x i. rg-early₂ x (omega (arith, Members.count-in x 0 r₂ i)))) rg-last₂
 
-  run₂ : (x : ℕ) → x < runs g d₃ e₂ → Entry.Run g d₃ e₂ x
+  run₂ : (x : ℕ) → x < runs g d₃ e₂ → Entry.OnDisk g d₃ e₂ x
   run₂ x h = go (ℕ-discrete x r₂)
     where
-      go : Dec (x ≡ r₂) → Entry.Run g d₃ e₂ x
+      go : Dec (x ≡ r₂) → Entry.OnDisk g d₃ e₂ x
       go (yes q) = rw q (record { unit = rw second₂ (omega (arith, mod-lt n (k .units-lo))); inside = rw (start₂, length₂) (omega arith) })
       go (no q) =
           let b : x < r₂ = omega (arith, runs₂) in
@@ -323,7 +323,7 @@ module _ (g : Geometry) (d : List ℕ) (c : Sound g d) (k : Places.Fits g d) (p 
             inside = rw (fixed₂ (0x16 + 2 * x) (omega arith) (omega arith), fixed₂ (0x17 + 2 * x) (omega arith) (omega arith)) (w .inside);
           }
 
-  pub paired-grows : Tail.Grows g d (withPair g p d (tail g p d) (runs g d (tail g p d)) n) p n
+  pub paired-grows : Tail.Grows g d (withPair g d (tail g p d) (runs g d (tail g p d)) n) p n
   unfolding words
   paired-grows = record {
     at = record {

@@ -14,9 +14,9 @@ use Rattle.meaning.specs.Bits.{bit}
 use Rattle.meaning.specs.Entries.{marker, link, runs}
 use Rattle.meaning.specs.Growth.{tail, withPair, withExtension, newExtension}
 use Rattle.meaning.specs.declared.Geometry.{Geometry}
-use Rattle.laws.specs.Members
-use Rattle.laws.specs.Members.{In}
-use Rattle.laws.specs.Facts.{Sound, File}
+use Rattle.lists.specs.Members
+use Rattle.lists.specs.Members.{In}
+use Rattle.laws.specs.Facts.{Sound, IsFile}
 use Rattle.laws.specs.Places
 use Rattle.laws.specs.Change
 use Rattle.laws.specs.Create
@@ -24,10 +24,10 @@ use Rattle.laws.specs.Take
 use Rattle.laws.specs.Extend
 use Rattle.laws.specs.Words.{words}
 
-new-ffs : (g : Geometry) (p e k : ℕ) → 0x16 ≤ k → k < 32 → getD (newExtension g p e) k 0 ≡ 0xff
-new-ffs g p e k a b = eqb→eq _ _ (Members.every-all (λ k. eqb (getD (newExtension g p e) k 0) 0xff) {xs = count 0x16 10} tt (Members.in-count k 0x16 10 a (omega arith)))
+new-ffs : (g : Geometry) (p e k : ℕ) → 0x16 ≤ k → k < 32 → getD (newExtension e) k 0 ≡ 0xff
+new-ffs g p e k a b = eqb→eq _ _ (Members.every-all (λ k. eqb (getD (newExtension e) k 0) 0xff) {xs = count 0x16 10} tt (Members.in-count k 0x16 10 a (omega arith)))
 
-module _ (g : Geometry) (d : List ℕ) (c : Sound g d) (k : Places.Fits g d) (p : ℕ) (f : File g d p) (x : ℕ) (t : T (isSlot g d x)) (z : hit g d x ≡ 0)
+module _ (g : Geometry) (d : List ℕ) (c : Sound g d) (k : Places.Fits g d) (p : ℕ) (f : IsFile g d p) (x : ℕ) (t : T (isSlot g d x)) (z : hit g d x ≡ 0)
     (n : ℕ) (full : runs g d (tail g p d) ≡ 4) (inn : n < granules g) (untaken : T (taken g d n) → ⊥) where
   abbrev e : ℕ
   e = tail g p d
@@ -42,15 +42,15 @@ module _ (g : Geometry) (d : List ℕ) (c : Sound g d) (k : Places.Fits g d) (p 
   Q = Take.paired g H x 0 (n / g .units) (n % g .units * 32)
 
   abbrev d′ : List ℕ
-  d′ = withPair g p H x 0 n
+  d′ = withPair g H x 0 n
 
   member : Change.Member g d p e
   member = Change.members g d c p e f (Change.tail-in g d c p f)
 
-  se : Places.Slot g d e
+  se : Places.IsSlot g d e
   se = Places.slot g d e (member .slot)
 
-  sx : Places.Slot g d x
+  sx : Places.IsSlot g d x
   sx = Places.slot g d x t
 
   a10 : Places.Dir g d
@@ -73,11 +73,11 @@ module _ (g : Geometry) (d : List ℕ) (c : Sound g d) (k : Places.Fits g d) (p 
   L-above : aboveTen g L ≡ aboveTen g d
   L-above = L-byte (hitAt g 31) (omega arith) (omega arith)
 
-  sl : Places.Slot g L x
+  sl : Places.IsSlot g L x
   unfolding words
   sl = record { low = sx .low; sector = rw L-above (sx .sector) }
 
-  H-is : H ≡ Create.withEntry g L x (newExtension g p e) (hit g d p)
+  H-is : H ≡ Create.withEntry g L x (newExtension e) (hit g d p)
   unfolding Create.withEntry
   H-is = refl
 
@@ -86,7 +86,7 @@ module _ (g : Geometry) (d : List ℕ) (c : Sound g d) (k : Places.Fits g d) (p 
   H-length = simp (length-sets, length-set)
 
   H-byte : (i : ℕ) → (i < entryAt g x) ⊎ (entryAt g x + 32 ≤ i) → i ≢ hitAt g x → i ≢ entryAt g e + 0x1e → i ≢ entryAt g e + 0x1f → byte H i ≡ byte d i
-  H-byte i o a b w = rw H-is (Create.with-byte g L x (newExtension g p e) (hit g d p) refl sl i o a ∙ L-byte i b w)
+  H-byte i o a b w = rw H-is (Create.with-byte g L x (newExtension e) (hit g d p) refl sl i o a ∙ L-byte i b w)
 
   new-byte : (i : ℕ) → i ≢ gatAt g n → (i < entryAt g x) ⊎ (entryAt g x + 32 ≤ i) → byte d′ i ≡ byte H i
   unfolding words
@@ -118,13 +118,13 @@ module _ (g : Geometry) (d : List ℕ) (c : Sound g d) (k : Places.Fits g d) (p 
   other-field y j h q b u v = let w = block-n in let s = sx .low in ext-byte (entryAt g y + j) (omega arith) (apart y j h q b) (omega arith) u v
 
   -- the new entry
-  new-field : (j : ℕ) → j < 32 → j ≢ 0x16 → j ≢ 0x17 → field g d′ x j ≡ byte (newExtension g p e) j
+  new-field : (j : ℕ) → j < 32 → j ≢ 0x16 → j ≢ 0x17 → field g d′ x j ≡ byte (newExtension e) j
   unfolding words
   new-field j b u v =
       let w = block-n in let s = sx .low in
       getD-set-other Q (gatAt g n) (entryAt g x + j) _ 0 (omega arith)
       ∙ Take.paired-out g H x 0 (n / g .units) (n % g .units * 32) (entryAt g x + j) (omega arith) (omega arith)
-      ∙ rw H-is (Create.with-field g L x (newExtension g p e) (hit g d p) refl sl j b (rw L-length room))
+      ∙ rw H-is (Create.with-field g L x (newExtension e) (hit g d p) refl sl j b (rw L-length room))
 
   inside-pair : entryAt g x + (0x17 + 2 * 0) < length H
   inside-pair = rw H-length (omega (arith, room))
@@ -141,7 +141,7 @@ module _ (g : Geometry) (d : List ℕ) (c : Sound g d) (k : Places.Fits g d) (p 
   unfolding words
   new-hit =
       let w = block-n in let s = sx .low in
-      new-byte (hitAt g x) (omega arith) (inl (omega arith)) ∙ rw H-is (Create.with-hit g L x (newExtension g p e) (hit g d p) refl sl (rw L-length room))
+      new-byte (hitAt g x) (omega arith) (inl (omega arith)) ∙ rw H-is (Create.with-hit g L x (newExtension e) (hit g d p) refl sl (rw L-length room))
 
   other-hit : (y : ℕ) → T (isSlot g d y) → y ≢ x → hit g d′ y ≡ hit g d y
   unfolding words
@@ -151,7 +151,7 @@ module _ (g : Geometry) (d : List ℕ) (c : Sound g d) (k : Places.Fits g d) (p 
   link-byte j b =
       let w = block-n in let s = sx .low in let r = se .low in
       new-byte (entryAt g e + j) (omega arith) (apart e j r e≢x b)
-      ∙ rw H-is (Create.with-byte g L x (newExtension g p e) (hit g d p) refl sl (entryAt g e + j) (apart e j r e≢x b) (omega arith))
+      ∙ rw H-is (Create.with-byte g L x (newExtension e) (hit g d p) refl sl (entryAt g e + j) (apart e j r e≢x b) (omega arith))
 
   new-marker : marker g d′ e ≡ 0xfe
   unfolding words
@@ -177,7 +177,7 @@ module _ (g : Geometry) (d : List ℕ) (c : Sound g d) (k : Places.Fits g d) (p 
       go (inl h) = ext-byte i (omega arith) (inl (omega arith)) (omega arith) (omega arith) (omega arith)
       go (inr h) = let b = sx in let q = se in let w = block-n in ext-byte i (omega arith) (inr (omega arith)) (omega arith) (omega arith) (omega arith)
 
-  pub new-extends : Extend.Extends g d (withPair g p (withExtension g p d (tail g p d) x) x 0 n) p x n
+  pub new-extends : Extend.Extends g d (withPair g (withExtension g p d (tail g p d) x) x 0 n) p x n
   unfolding words
   new-extends = record {
     above = let w = block-n in let s = sx in let a = a10 in ext-byte (hitAt g 31) (omega arith) (inl (omega arith)) (omega arith) (omega arith) (omega arith);

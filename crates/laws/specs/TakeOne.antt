@@ -13,10 +13,10 @@ use Rattle.meaning.specs.Chain.{chain}
 use Rattle.meaning.specs.Growth.{tail, after, lengthens, lengthened, withPair, withExtension, takeAt, takeOne, grown, extended}
 use Rattle.meaning.specs.Free.{freeGranules, lowestFree, freeSlots}
 use Rattle.meaning.specs.declared.Geometry.{Geometry}
-use Rattle.laws.specs.Members
-use Rattle.laws.specs.Members.{In}
+use Rattle.lists.specs.Members
+use Rattle.lists.specs.Members.{In}
 use Rattle.laws.specs.Facts
-use Rattle.laws.specs.Facts.{Sound, File}
+use Rattle.laws.specs.Facts.{Sound, IsFile}
 use Rattle.laws.specs.Entry
 use Rattle.laws.specs.Places
 use Rattle.laws.specs.Change
@@ -37,7 +37,7 @@ pub record Took (g : Geometry) (d d′ : List ℕ) (p : ℕ) : Type 0 where
   pub change : Change.Change g d d′ p
   pub longer : Longer.Longer g d d′ p which
   pub long : length d′ ≡ length d
-  pub file : File g d′ p
+  pub file : IsFile g d′ p
   -- only the file's entries and one bit are stored to, and no entry is lost
   pub touch : Touch.Touch g (chain g d′ p) [] d d′
   pub entries : (x : ℕ) → In x (chain g d p) → In x (chain g d′ p)
@@ -57,7 +57,7 @@ free-says g d n i =
 pub first-free : (g : Geometry) (d : List ℕ) → 1 ≤ length (freeGranules g d) → (lowestFree g d < granules g) × (T (taken g d (lowestFree g d)) → ⊥)
 first-free g d room = free-says g d (lowestFree g d) (free-in g d room)
 
-module _ (g : Geometry) (d : List ℕ) (c : Sound g d) (k : Places.Fits g d) (p : ℕ) (f : File g d p) (u : T (not (system g d p)))
+module _ (g : Geometry) (d : List ℕ) (c : Sound g d) (k : Places.Fits g d) (p : ℕ) (f : IsFile g d p) (u : T (not (system g d p)))
     (n : ℕ) (is-free : (n < granules g) × (T (taken g d n) → ⊥)) where
   abbrev e : ℕ
   e = tail g p d
@@ -83,11 +83,11 @@ module _ (g : Geometry) (d : List ℕ) (c : Sound g d) (k : Places.Fits g d) (p 
       Touch.touch-take g (chain g d p) [] d (after g p d) (w .inside)
       (Touch.touch-field g (chain g d p) [] d e (0x17 + 2 * (runs g d e - 1)) _ tail-here (omega (arith, Entry.runs-le g d e)) Touch.Touch.none)
 
-  pair-touch : runs g d e < 4 → Touch.Touch g (chain g d p) [] d (withPair g p d e (runs g d e) n)
+  pair-touch : runs g d e < 4 → Touch.Touch g (chain g d p) [] d (withPair g d e (runs g d e) n)
   pair-touch h = Touch.touch-pair g (chain g d p) [] d p e (runs g d e) n tail-here h (is-free .0) Touch.Touch.none
 
   -- the new entry at the end of the chain
-  new-touch : (x : ℕ) → Touch.Touch g (chain g d p ++ (x ∷ [])) [] d (withPair g p (withExtension g p d e x) x 0 n)
+  new-touch : (x : ℕ) → Touch.Touch g (chain g d p ++ (x ∷ [])) [] d (withPair g (withExtension g p d e x) x 0 n)
   new-touch x =
       let i = Members.in-append-r (chain g d p) {ys = x ∷ []} Members.In.here in
       Touch.touch-pair g (chain g d p ++ (x ∷ [])) [] d p x 0 n i (omega arith) (is-free .0)
@@ -100,10 +100,10 @@ module _ (g : Geometry) (d : List ℕ) (c : Sound g d) (k : Places.Fits g d) (p 
     ap length (Extend.extends-chain g d d′ c p f x n w) ∙ length-append (chain g d p) (x ∷ []),
   )
 
-  by-extension : (x : ℕ) → In x (freeSlots g d) → T (isSlot g d x) → hit g d x ≡ 0 → runs g d e ≡ 4 → Took g d (withPair g p (withExtension g p d e x) x 0 n) p
+  by-extension : (x : ℕ) → In x (freeSlots g d) → T (isSlot g d x) → hit g d x ≡ 0 → runs g d e ≡ 4 → Took g d (withPair g (withExtension g p d e x) x 0 n) p
   unfolding words
   by-extension x i t z full =
-      let d′ = withPair g p (withExtension g p d e x) x 0 n in
+      let d′ = withPair g (withExtension g p d e x) x 0 n in
       let w = TakeNew.new-extends g d c k p f x t z n full (is-free .0) (is-free .1) in
       record {
         which = n;
@@ -120,7 +120,7 @@ module _ (g : Geometry) (d : List ℕ) (c : Sound g d) (k : Places.Fits g d) (p 
   unfolding extended
   extended-took d′ [] a full q = absurd (let z : _≡_ {A = ℕ} 0 1 = cc in omega arith)
   extended-took d′ (x ∷ xs) a full q =
-      let r : withPair g p (withExtension g p d e x) x 0 n ≡ d′ = cc in
+      let r : withPair g (withExtension g p d e x) x 0 n ≡ d′ = cc in
       let i = a x Members.In.here in let s = Create.slots-free g d x i in
       subst (λ (l : List ℕ). Took g d l p) r (by-extension x i (s .0) (s .1) full)
 
@@ -134,14 +134,14 @@ module _ (g : Geometry) (d : List ℕ) (c : Sound g d) (k : Places.Fits g d) (p 
           let s : lengthened g p d ≡ d′ = cc in
           subst (λ (l : List ℕ). Took g d l p) s (by-tail (lengthened g p d) (after g p d) (Take.lengthened-grows g d c k p f t) (simp length-set) (longer-touch t))
       go (Members.Test.fails a) (Members.Test.holds t) =
-          let r : grown (withPair g p d e (runs g d e) n) ≡ grown d′ = rw (Members.no-false {b = lengthens g p d} a, Members.T-true {b = ltb (runs g d e) 4} t) at q in
-          let s : withPair g p d e (runs g d e) n ≡ d′ = cc in
-          subst (λ (l : List ℕ). Took g d l p) s (by-tail (withPair g p d e (runs g d e) n) n (Take.paired-grows g d c k p f n (ltb→lt (runs g d e) 4 t) (is-free .0) (is-free .1)) (simp length-set) (pair-touch (ltb→lt (runs g d e) 4 t)))
+          let r : grown (withPair g d e (runs g d e) n) ≡ grown d′ = rw (Members.no-false {b = lengthens g p d} a, Members.T-true {b = ltb (runs g d e) 4} t) at q in
+          let s : withPair g d e (runs g d e) n ≡ d′ = cc in
+          subst (λ (l : List ℕ). Took g d l p) s (by-tail (withPair g d e (runs g d e) n) n (Take.paired-grows g d c k p f n (ltb→lt (runs g d e) 4 t) (is-free .0) (is-free .1)) (simp length-set) (pair-touch (ltb→lt (runs g d e) 4 t)))
       go (Members.Test.fails a) (Members.Test.fails b) =
           let r : extended g p (freeSlots g d) d e n ≡ grown d′ = rw (Members.no-false {b = lengthens g p d} a, Members.no-false {b = ltb (runs g d e) 4} b) at q in
           extended-took d′ (freeSlots g d) (λ x i. i) (omega (arith, nltb→le (runs g d e) 4 (not-T (ltb (runs g d e) 4) b), Entry.runs-le g d e)) r
 
-pub take-one : (g : Geometry) (d : List ℕ) (c : Sound g d) (k : Places.Fits g d) (p : ℕ) (f : File g d p) (u : T (not (system g d p))) (room : 1 ≤ length (freeGranules g d))
+pub take-one : (g : Geometry) (d : List ℕ) (c : Sound g d) (k : Places.Fits g d) (p : ℕ) (f : IsFile g d p) (u : T (not (system g d p))) (room : 1 ≤ length (freeGranules g d))
     (d′ : List ℕ) → takeOne g p d ≡ grown d′ → Took g d d′ p
 unfolding takeOne
 take-one g d c k p f u room d′ q = take-at g d c k p f u (lowestFree g d) (first-free g d room) d′ q

@@ -7,21 +7,19 @@ use native.Mathlib.Omega.{arith}
 use native.Mathlib.Nat.{mul-le-mul, mul-le-mul-left}
 use lib.ListN.{length}
 use lib.Dec.{T}
-use Rattle.meaning.specs.Lists.{count, keep, each, has, length-count}
+use Rattle.meaning.specs.Lists.{count, keep, each, has}
 use Rattle.meaning.specs.Layout.{taken, granules, granuleBytes, mostGranules, highest}
 use Rattle.meaning.specs.Entries.{sizeOf}
 use Rattle.meaning.specs.Chain.{owned, files}
-use Rattle.meaning.specs.Free.{freeGranules}
-use Rattle.meaning.specs.Plain.{reserved}
+use Rattle.meaning.specs.Free.{freeGranules, reserved}
 use Rattle.meaning.specs.declared.Geometry.{Geometry}
-use Rattle.laws.specs.Members
-use Rattle.laws.specs.Members.{In, Distinct}
-use Rattle.laws.specs.Counting
+use Rattle.lists.specs.Members
+use Rattle.lists.specs.Members.{In, Distinct, length-count}
+use Rattle.lists.specs.Counting
 use Rattle.laws.specs.Facts
-use Rattle.laws.specs.Facts.{Sound, File}
+use Rattle.laws.specs.Facts.{Sound, IsFile}
 use Rattle.laws.specs.Places
 use Rattle.laws.specs.Change
-use Rattle.laws.specs.Others
 
 -- whatever is owned is taken: each of a list is not taken, or taken and not owned, or owned
 three : (t o : ℕ → Bool) (xs : List ℕ) → ((x : ℕ) → In x xs → T (o x) → T (t x))
@@ -71,7 +69,7 @@ module _ (g : Geometry) (d : List ℕ) (c : Sound g d) where
       omega arith
 
 -- a file owns no more granules than the disk has, so its size is within the largest disk's
-pub owned-le : (g : Geometry) (d : List ℕ) → Sound g d → (p : ℕ) → File g d p → length (owned g d p) ≤ granules g
+pub owned-le : (g : Geometry) (d : List ℕ) → Sound g d → (p : ℕ) → IsFile g d p → length (owned g d p) ≤ granules g
 owned-le g d c p f =
     omega (
       arith,
@@ -80,7 +78,7 @@ owned-le g d c p f =
       length-count 0 (granules g),
     )
 
-pub size-le : (g : Geometry) (d : List ℕ) → Sound g d → Places.Fits g d → (p : ℕ) → File g d p → sizeOf g d p ≤ highest g
+pub size-le : (g : Geometry) (d : List ℕ) → Sound g d → Places.Fits g d → (p : ℕ) → IsFile g d p → sizeOf g d p ≤ highest g
 unfolding granules
 size-le g d c k p f =
     let a = mul-le-mul (k .blocks-hi) (k .units-hi) in

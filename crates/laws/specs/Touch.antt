@@ -16,11 +16,11 @@ use Rattle.meaning.specs.Growth.{withPair, newExtension, withExtension}
 use Rattle.meaning.specs.Drop.{unhooked}
 use Rattle.meaning.specs.Kill.{killed}
 use Rattle.meaning.specs.Write.{store, withSize}
-use Rattle.meaning.specs.Plain.{Aside}
+use Rattle.promises_words.specs.Untouched.{Aside}
 use Rattle.meaning.specs.declared.Geometry.{Geometry}
-use Rattle.laws.specs.Members
-use Rattle.laws.specs.Members.{In}
-use Rattle.laws.specs.Facts.{Sound, File}
+use Rattle.lists.specs.Members
+use Rattle.lists.specs.Members.{In}
+use Rattle.laws.specs.Facts.{Sound, IsFile}
 use Rattle.laws.specs.Places
 use Rattle.laws.specs.Change
 use Rattle.laws.specs.Marking
@@ -109,18 +109,18 @@ module _ (g : Geometry) (xs ns d : List ℕ) where
   touch-store F [] i h t = t
   touch-store F (b ∷ bs) i h t = touch-store F bs (i + 1) (λ j a l. h j (omega arith) (omega arith)) (Touch.bytes (F i) b (h i (omega arith) (omega arith)) t)
 
-  pub touch-size : {e : List ℕ} (d₁ : List ℕ) (p size : ℕ) → In p xs → Touch g xs ns d e → Touch g xs ns d (withSize g d₁ e p size)
+  pub touch-size : {e : List ℕ} (d₁ : List ℕ) (p size : ℕ) → In p xs → Touch g xs ns d e → Touch g xs ns d (withSize g e p size)
   touch-size d₁ p size i t =
       touch-field p 1 _ i (omega arith) (touch-field p 0x15 _ i (omega arith) (touch-field p 0x14 _ i (omega arith) (touch-field p 3 _ i (omega arith) t)))
 
-  pub touch-pair : {e : List ℕ} (p x j n : ℕ) → In x xs → j < 4 → n < granules g → Touch g xs ns d e → Touch g xs ns d (withPair g p e x j n)
+  pub touch-pair : {e : List ℕ} (p x j n : ℕ) → In x xs → j < 4 → n < granules g → Touch g xs ns d e → Touch g xs ns d (withPair g e x j n)
   touch-pair p x j n i h l t = touch-take n l (touch-field x (0x17 + 2 * j) _ i (omega arith) (touch-field x (0x16 + 2 * j) _ i (omega arith) t))
 
   pub touch-hook : {e : List ℕ} (p b x : ℕ) → In b xs → In x xs → Touch g xs ns d e → Touch g xs ns d (withExtension g p e b x)
   touch-hook p b x i j t =
-      Touch.hits x _ j (touch-whole x (newExtension g p b) j (omega arith) (touch-field b 0x1f x i (omega arith) (touch-field b 0x1e 0xfe i (omega arith) t)))
+      Touch.hits x _ j (touch-whole x (newExtension b) j (omega arith) (touch-field b 0x1f x i (omega arith) (touch-field b 0x1e 0xfe i (omega arith) t)))
 
-  pub touch-unhook : {e : List ℕ} (p x b : ℕ) → In x xs → In b xs → Touch g xs ns d e → Touch g xs ns d (unhooked g p e x b)
+  pub touch-unhook : {e : List ℕ} (p x b : ℕ) → In x xs → In b xs → Touch g xs ns d e → Touch g xs ns d (unhooked g e x b)
   unfolding unhooked
   touch-unhook p x b i j t =
       touch-field b 0x1f 0xff j (omega arith) (touch-field b 0x1e 0xff j (omega arith) (touch-field x 0x1f 0xff i (omega arith) (touch-field x 0x1e 0xff i (omega arith)
@@ -134,6 +134,6 @@ touch-marking g v h d ns xs b f =
     (λ e x i t. Touch.hits x h i (Touch.entry x 0 (putDigit (byte e (entryAt g x + 0)) 4 v) i (omega arith) t))
     (Places.through-stays (Touch g xs [] d) (Places.marked g v) ns d (λ e n i t. Touch.gat n v (f n i) b t) Touch.none)
 
-pub touch-killed : (g : Geometry) (d : List ℕ) → Sound g d → (p : ℕ) → File g d p → Touch g (chain g d p) [] d (killed g d p)
+pub touch-killed : (g : Geometry) (d : List ℕ) → Sound g d → (p : ℕ) → IsFile g d p → Touch g (chain g d p) [] d (killed g d p)
 unfolding Marking.marking words
 touch-killed g d c p f = touch-marking g 0 0 d (owned g d p) (chain g d p) (omega arith) (λ n i. Change.owned-lt g d c p n f i)

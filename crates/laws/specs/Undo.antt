@@ -18,11 +18,11 @@ use Rattle.meaning.specs.Chain.{chain, chainFrom, owned}
 use Rattle.meaning.specs.Kill.{killed}
 use Rattle.meaning.specs.BringBack.{broughtBack}
 use Rattle.meaning.specs.declared.Geometry.{Geometry}
-use Rattle.laws.specs.Members
-use Rattle.laws.specs.Members.{In}
+use Rattle.lists.specs.Members
+use Rattle.lists.specs.Members.{In}
 use Rattle.laws.specs.Bits
 use Rattle.laws.specs.Facts
-use Rattle.laws.specs.Facts.{File, Sound}
+use Rattle.laws.specs.Facts.{IsFile, Sound}
 use Rattle.laws.specs.Entry
 use Rattle.laws.specs.Frame
 use Rattle.laws.specs.Frame.{Agree}
@@ -38,7 +38,7 @@ now-killed : putDigit 0x90 4 0 ≡ 0x80
 unfolding putDigit
 now-killed = refl
 
-module _ (g : Geometry) (d : List ℕ) (c : Sound g d) (k : Places.Fits g d) (p : ℕ) (f : File g d p) where
+module _ (g : Geometry) (d : List ℕ) (c : Sound g d) (k : Places.Fits g d) (p : ℕ) (f : IsFile g d p) where
   -- the disk after the kill
   abbrev gone : List ℕ
   gone = Marking.marking g 0 0 d (owned g d p) (chain g d p)
@@ -99,7 +99,7 @@ module _ (g : Geometry) (d : List ℕ) (c : Sound g d) (k : Places.Fits g d) (p 
     free = λ n i. Kill.kill-freed g d c k p f n (rw owned₁ at i);
   }
     where
-      other : (q : ℕ) → File g gone q → nameOf g gone q ≢ nameOf g gone p
+      other : (q : ℕ) → IsFile g gone q → nameOf g gone q ≢ nameOf g gone p
       other q h e = go (ℕ-discrete q p)
         where
           x : Change.Change g d (killed g d p) p
@@ -195,7 +195,7 @@ pub record AsBefore (g : Geometry) (d d′ : List ℕ) (p : ℕ) : Type 0 where
   pub entries : (x : ℕ) → In x (chain g d p) → Agree g d d′ x
   pub hits : (x : ℕ) → In x (chain g d p) → hit g d′ x ≡ hit g d x
 
-module _ (g : Geometry) (d : List ℕ) (c : Sound g d) (k : Places.Fits g d) (p : ℕ) (f : File g d p)
+module _ (g : Geometry) (d : List ℕ) (c : Sound g d) (k : Places.Fits g d) (p : ℕ) (f : IsFile g d p)
     (e : List ℕ) (c₂ : Sound g e) (k₂ : Places.Fits g e) (w : Back g e p) (a : (x : ℕ) → In x (chain g d p) → Agree g (killed g d p) e x) where
   -- the disk with the file brought back
   abbrev later : List ℕ

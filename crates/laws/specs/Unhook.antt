@@ -15,8 +15,8 @@ use Rattle.meaning.specs.Chain.{chain, chainFrom, owned}
 use Rattle.meaning.specs.Growth.{tail}
 use Rattle.meaning.specs.Plain.{File}
 use Rattle.meaning.specs.declared.Geometry.{Geometry}
-use Rattle.laws.specs.Members
-use Rattle.laws.specs.Members.{In, Distinct}
+use Rattle.lists.specs.Members
+use Rattle.lists.specs.Members.{In, Distinct}
 use Rattle.laws.specs.Facts
 use Rattle.laws.specs.Facts.{Sound}
 use Rattle.laws.specs.Entry
@@ -87,7 +87,7 @@ module _ (g : Geometry) (d d′ : List ℕ) (e b : ℕ) (me : marker g d e ≡ 0
           let u = a s Members.In.here w k in
           rw (u .0, u .1) (deeper w (eqb (marker g d s) 0xfe) refl i a o ih)
 
-module _ (g : Geometry) (d d′ : List ℕ) (c : Sound g d) (p : ℕ) (f : Facts.File g d p) (b m : ℕ) (h : Unhooks g d d′ p b m) where
+module _ (g : Geometry) (d d′ : List ℕ) (c : Sound g d) (p : ℕ) (f : Facts.IsFile g d p) (b m : ℕ) (h : Unhooks g d d′ p b m) where
   abbrev e : ℕ
   e = tail g p d
 
@@ -161,7 +161,7 @@ module _ (g : Geometry) (d d′ : List ℕ) (c : Sound g d) (p : ℕ) (f : Facts
   slot′ : (y : ℕ) → isSlot g d′ y ≡ isSlot g d y
   slot′ = Frame.slot-eq g d d′ (h .above)
 
-  pub cut-file : Facts.File g d′ p
+  pub cut-file : Facts.IsFile g d′ p
   cut-file = record { slot = rw (slot′ p) (f .slot); primary′ = rw (low 0 (omega arith)) (f .primary′) }
 
   in-old : (n : ℕ) → In n (owned g d′ p) → In n (owned g d p)

@@ -14,18 +14,18 @@ use Rattle.meaning.specs.Chain.{chain, chainFrom, files}
 use Rattle.meaning.specs.Consistent.{pairsHold}
 use Rattle.meaning.specs.Fault.{usedExtension, handsOn, walkFrom, walk, walked}
 use Rattle.meaning.specs.declared.Geometry.{Geometry}
-use Rattle.laws.specs.Members
-use Rattle.laws.specs.Members.{In, Distinct}
-use Rattle.laws.specs.Counting
+use Rattle.lists.specs.Members
+use Rattle.lists.specs.Members.{In, Distinct}
+use Rattle.lists.specs.Counting
 use Rattle.laws.specs.Facts
-use Rattle.laws.specs.Facts.{File}
-use Rattle.laws.specs.Clauses.{Used}
+use Rattle.laws.specs.Facts.{IsFile}
+use Rattle.laws.specs.Clauses.{IsUsed}
 
 -- what a good marker FEH with its link says
 pub record HandsOn (g : Geometry) (d : List ℕ) (s : ℕ) : Type 0 where
   pub pairs : T (pairsHold g d s)
   pub marked : marker g d s ≡ 0xfe
-  pub next : Used g d (link g d s)
+  pub next : IsUsed g d (link g d s)
   pub extends : T (extension g d (link g d s))
   pub full : runs g d s ≡ 4
 
@@ -89,7 +89,7 @@ module _ (g : Geometry) (d : List ℕ) where
   unfolding walk chain
   walk-chain p x i = walkFrom-chain _ [] p x i
 
-  walkFrom-used : (left : ℕ) (before : List ℕ) (s x : ℕ) → Used g d s → In x (walkFrom g d left before s) → Used g d x
+  walkFrom-used : (left : ℕ) (before : List ℕ) (s x : ℕ) → IsUsed g d s → In x (walkFrom g d left before s) → IsUsed g d x
   unfolding walkFrom
   walkFrom-used zero before s x u i = Members.none-in i
   walkFrom-used (suc left) before s x u i = go (walk-cons left before s x i) (walkFrom-used left (s ∷ before) (link g d s) x)
@@ -97,15 +97,15 @@ module _ (g : Geometry) (d : List ℕ) where
       rest : List ℕ
       rest = walkFrom g d left (s ∷ before) (link g d s)
 
-      go : (x ≡ s) ⊎ (T (handsOn g d s) × In x rest) → (Used g d (link g d s) → In x rest → Used g d x) → Used g d x
+      go : (x ≡ s) ⊎ (T (handsOn g d s) × In x rest) → (IsUsed g d (link g d s) → In x rest → IsUsed g d x) → IsUsed g d x
       go (inl e) r = rw e u
       go (inr j) r = r (hands-says s (j .0) .next) (j .1)
 
-  pub file-used : (p : ℕ) → File g d p → Used g d p
+  pub file-used : (p : ℕ) → IsFile g d p → IsUsed g d p
   file-used p f = record { slot = f .slot; used = Facts.file-in-use g d p f }
 
   -- every entry that a walk meets is in use
-  pub walk-used : (p x : ℕ) → File g d p → In x (walk g d p) → Used g d x
+  pub walk-used : (p x : ℕ) → IsFile g d p → In x (walk g d p) → IsUsed g d x
   unfolding walk
   walk-used p x f i = walkFrom-used _ [] p x (file-used p f) i
 
@@ -187,7 +187,7 @@ module _ (g : Geometry) (d : List ℕ) where
   at-first : Visited (length (slots g d)) []
   at-first = record { once = Members.Distinct.done; known = λ x i. Members.none-in i; room = omega arith }
 
-  pub walk-first : (p : ℕ) → File g d p → In p (walk g d p)
+  pub walk-first : (p : ℕ) → IsFile g d p → In p (walk g d p)
   unfolding walk
   walk-first p f = go (starts _ [] p at-first (f .slot))
     where
@@ -195,7 +195,7 @@ module _ (g : Geometry) (d : List ℕ) where
       go (inl i) = i
       go (inr i) = Members.none-in i
 
-  pub walk-goes : (p b : ℕ) → File g d p → In b (walk g d p) → T (handsOn g d b) → In (link g d b) (walk g d p)
+  pub walk-goes : (p b : ℕ) → IsFile g d p → In b (walk g d p) → T (handsOn g d b) → In (link g d b) (walk g d p)
   unfolding walk
   walk-goes p b f i h = go (goes _ [] p b at-first (f .slot) i h)
     where
@@ -203,10 +203,10 @@ module _ (g : Geometry) (d : List ℕ) where
       go (inl j) = j
       go (inr j) = Members.none-in j
 
-  pub walked-in : (s : ℕ) → In s (walked g d) → (p : ℕ) × File g d p × In s (walk g d p)
+  pub walked-in : (s : ℕ) → In s (walked g d) → (p : ℕ) × IsFile g d p × In s (walk g d p)
   unfolding walked
   walked-in s i = let k = Members.each-in (walk g d) s (files g d) i in (k .0, Facts.files-in g d (k .0) (k .1), k .2)
 
-  pub in-walked : (p s : ℕ) → File g d p → In s (walk g d p) → In s (walked g d)
+  pub in-walked : (p s : ℕ) → IsFile g d p → In s (walk g d p) → In s (walked g d)
   unfolding walked
   in-walked p s f i = Members.in-each (walk g d) (Facts.in-files g d p f) i

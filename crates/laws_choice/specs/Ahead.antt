@@ -6,11 +6,11 @@ use Prim.Native.Nat.{ℕ, zero, suc, _+_, _-_, _≤_, _<_}
 use native.Mathlib.Omega.{arith}
 use native.Mathlib.Decide.{decLt, decLe, ℕ-discrete}
 use lib.ListN.{length, length-append}
-use Rattle.meaning.specs.Lists.{count, length-count}
-use Rattle.laws.specs.Members
-use Rattle.laws.specs.Members.{In}
+use Rattle.meaning.specs.Lists.{count}
+use Rattle.lists.specs.Members
+use Rattle.lists.specs.Members.{In, length-count}
 use Rattle.laws_choice.specs.Parts
-use Rattle.meaning.specs.Choice.{State, Run, spare, granulesOf, Sized, Free, Granules, Fits, Choice}
+use Rattle.meaning.specs.Choice.{State, Run, spare, granulesOf, Sized, Free, Granules, ChoiceFits, Choice}
 use Rattle.laws_choice.specs.Words.{Lengthens, Starts, CanLengthen, LowEnd}
 use Rattle.laws_choice.specs.Moves
 use Rattle.laws_choice.specs.Moves.{Pick}
@@ -35,7 +35,7 @@ module _ (limit granules : ℕ) {v v′ : State} (w : Lengthens limit granules v
   }
 
   -- the choice lengthens too
-  both : (y : ℕ) (rs : List Run) → Fits limit granules v (suc y) rs (suc k) → Choice limit granules v′ k
+  both : (y : ℕ) (rs : List Run) → ChoiceFits limit granules v (suc y) rs (suc k) → Choice limit granules v′ k
   both y rs f =
       let g : Granules granules v (e ∷ (count (e + 1) y ++ granulesOf rs)) (suc k) = rw (h .old) at (f .chosen) in
       make y rs (omega (arith, f .within, h .spared)) (f .sized) (f .few) (Moves.without-it granules (w .takes) g)
@@ -84,7 +84,7 @@ module _ (limit granules : ℕ) {v v′ : State} (w : Lengthens limit granules v
   left-out [] s m g = let z = g .many in absurd (omega arith)
   left-out (r ∷ rs) s m g = less (r .first) (r .many) rs (s .1) (s .2) m g (s .0)
 
-  alone : (rs : List Run) → Fits limit granules v 0 rs (suc k) → Choice limit granules v′ k
+  alone : (rs : List Run) → ChoiceFits limit granules v 0 rs (suc k) → Choice limit granules v′ k
   alone rs f = go (Members.in? e (granulesOf rs))
     where
       go : In e (granulesOf rs) ⊎ (In e (granulesOf rs) → ⊥) → Choice limit granules v′ k
@@ -94,7 +94,7 @@ module _ (limit granules : ℕ) {v v′ : State} (w : Lengthens limit granules v
           at-front (x .run .first) (x .run .many) (x .rest) (x .held) (s .1) (s .2) (omega (arith, Moves.pick-length (x .pick), f .few)) (Moves.pick-front granules (x .pick) (f .chosen))
       go (inr a) = left-out rs (f .sized) (f .few) (Moves.other granules (w .takes) a (f .chosen))
 
-  pub ahead-longer : (x : ℕ) (rs : List Run) → Fits limit granules v x rs (suc k) → Choice limit granules v′ k
+  pub ahead-longer : (x : ℕ) (rs : List Run) → ChoiceFits limit granules v x rs (suc k) → Choice limit granules v′ k
   ahead-longer zero rs f = alone rs f
   ahead-longer (suc y) rs f = both y rs f
 
@@ -211,7 +211,7 @@ module _ (granules : ℕ) {v : State} {a : ℕ} (low : LowEnd granules v a) wher
       go i (inr m) = g .free i (Members.in-append-r (count b n) m)
 
 -- where the last run cannot be lengthened, no choice lengthens it
-pub never-longer : (limit granules : ℕ) {v : State} (y : ℕ) {rs : List Run} {k : ℕ} → (CanLengthen limit granules v → ⊥) → Fits limit granules v (suc y) rs k → ⊥
+pub never-longer : (limit granules : ℕ) {v : State} (y : ℕ) {rs : List Run} {k : ℕ} → (CanLengthen limit granules v → ⊥) → ChoiceFits limit granules v (suc y) rs k → ⊥
 never-longer limit granules y a f = a (record { fewer = omega (arith, f .within); free = f .chosen .free _ Members.In.here })
 
 module _ (limit granules : ℕ) {v v′ : State} {m : ℕ} (not-longer : CanLengthen limit granules v → ⊥) (low : LowEnd granules v m) (w : Starts limit granules v v′ m) (k : ℕ) where
@@ -227,7 +227,7 @@ module _ (limit granules : ℕ) {v v′ : State} {m : ℕ} (not-longer : CanLeng
         fits = record { within = omega (arith, h .spared); sized = s; few = f; chosen = rw (h .new) (Moves.without-it granules (w .takes) g′) };
       }
 
-  alone′ : (rs : List Run) → Fits limit granules v 0 rs (suc k) → Choice limit granules v′ k
+  alone′ : (rs : List Run) → ChoiceFits limit granules v 0 rs (suc k) → Choice limit granules v′ k
   alone′ [] f = let z = f .chosen .many in absurd (omega arith)
   alone′ (r ∷ rs) f =
       let x = lowest m r rs in
@@ -235,6 +235,6 @@ module _ (limit granules : ℕ) {v v′ : State} {m : ℕ} (not-longer : CanLeng
       given-up (x .run .first) (x .run .many) (x .rest) (s .0) (s .1) (s .2) (omega (arith, Moves.pick-length (x .pick), f .few, w .place)) (x .behind)
       (Moves.pick-front granules (x .pick) (f .chosen))
 
-  pub ahead-starts : (x : ℕ) (rs : List Run) → Fits limit granules v x rs (suc k) → Choice limit granules v′ k
+  pub ahead-starts : (x : ℕ) (rs : List Run) → ChoiceFits limit granules v x rs (suc k) → Choice limit granules v′ k
   ahead-starts zero rs f = alone′ rs f
   ahead-starts (suc y) rs f = absurd (never-longer limit granules y not-longer f)

@@ -4,9 +4,9 @@ use mathlib.Core.List.{List, [], _∷_, _++_}
 use Prim.Native.Nat.{ℕ, suc, _+_, _-_, _≤_}
 use native.Mathlib.Omega.{arith}
 use Rattle.meaning.specs.Lists.{count}
-use Rattle.laws.specs.Members
+use Rattle.lists.specs.Members
 use Rattle.laws_choice.specs.Words
-use Rattle.meaning.specs.Choice.{State, Run, after, spare, granulesOf, Granules, Fits, Choice}
+use Rattle.meaning.specs.Choice.{State, Run, after, spare, granulesOf, Granules, ChoiceFits, Choice}
 use Rattle.laws_choice.specs.Words.{Lengthens, Starts, Step}
 use Rattle.laws_choice.specs.Moves
 
@@ -33,7 +33,7 @@ module _ (limit granules : ℕ) {v v′ : State} where
   pub begun : {m : ℕ} (w : Starts limit granules v v′ m) → Begun w
   begun w = record { new = ap after (w .has); spared = ap (spare limit) (w .has) }
 
-  back-longer : {k x : ℕ} {rs : List Run} → Lengthens limit granules v v′ → Fits limit granules v′ x rs k → Fits limit granules v (suc x) rs (suc k)
+  back-longer : {k x : ℕ} {rs : List Run} → Lengthens limit granules v v′ → ChoiceFits limit granules v′ x rs k → ChoiceFits limit granules v (suc x) rs (suc k)
   back-longer {k} {x} {rs} w f =
       let h = moved w in
       let e : (w .run .first + w .run .many) ∷ (count (after (v′ .last)) x ++ granulesOf rs) ≡ count (after (v .last)) (suc x) ++ granulesOf rs = rw (h .old, h .new) refl in
@@ -44,8 +44,8 @@ module _ (limit granules : ℕ) {v v′ : State} where
         chosen = subst (λ (ns : List ℕ). Granules granules v ns (suc k)) e (Moves.with-it granules (w .takes) (f .chosen));
       }
 
-  back-starts : {k x : ℕ} {rs : List Run} (m : ℕ) → 1 ≤ limit → Starts limit granules v v′ m → Fits limit granules v′ x rs k
-      → Fits limit granules v 0 (record { first = m; many = suc x } ∷ rs) (suc k)
+  back-starts : {k x : ℕ} {rs : List Run} (m : ℕ) → 1 ≤ limit → Starts limit granules v v′ m → ChoiceFits limit granules v′ x rs k
+      → ChoiceFits limit granules v 0 (record { first = m; many = suc x } ∷ rs) (suc k)
   back-starts {k} {x} {rs} m l w f =
       let h = begun w in
       let e : m ∷ (count (after (v′ .last)) x ++ granulesOf rs) ≡ count m (suc x) ++ granulesOf rs = rw (h .new) refl in

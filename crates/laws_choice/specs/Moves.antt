@@ -7,8 +7,8 @@ use native.Mathlib.Omega.{arith}
 use native.Mathlib.Decide.{ℕ-discrete}
 use lib.ListN.{length, length-append}
 use Rattle.meaning.specs.Lists.{count}
-use Rattle.laws.specs.Members
-use Rattle.laws.specs.Members.{In, Distinct}
+use Rattle.lists.specs.Members
+use Rattle.lists.specs.Members.{In, Distinct}
 use Rattle.laws_choice.specs.Parts
 use Rattle.meaning.specs.Choice.{State, Run, granulesOf, Sized, Free, Granules}
 use Rattle.laws_choice.specs.Words.{Takes}

@@ -4,8 +4,8 @@ use mathlib.Core.List.{List, [], _∷_, _++_}
 use Prim.Native.Nat.{ℕ, zero, suc, _+_}
 use native.Mathlib.Omega.{arith}
 use Rattle.meaning.specs.Lists.{count}
-use Rattle.laws.specs.Members
-use Rattle.laws.specs.Members.{In, Distinct}
+use Rattle.lists.specs.Members
+use Rattle.lists.specs.Members.{In, Distinct}
 
 pub distinct-head : {x : ℕ} {xs : List ℕ} → Distinct (x ∷ xs) → In x xs → ⊥
 distinct-head (Members.Distinct.fresh f d) = f

@@ -5,10 +5,10 @@ use mathlib.Core.List.{List, [], _∷_}
 use Prim.Native.Nat.{ℕ, zero, suc, _+_, _≤_}
 use native.Mathlib.Omega.{arith}
 use lib.ListN.{length}
-use Rattle.laws.specs.Members
-use Rattle.laws.specs.Members.{In}
+use Rattle.lists.specs.Members
+use Rattle.lists.specs.Members.{In}
 use Rattle.laws_choice.specs.Words
-use Rattle.meaning.specs.Choice.{State, Run, Free, Fits, Choice}
+use Rattle.meaning.specs.Choice.{State, Run, Free, ChoiceFits, Choice}
 use Rattle.laws_choice.specs.Words.{Step, CanLengthen, Stands, Second}
 use Rattle.laws_choice.specs.Back
 use Rattle.laws_choice.specs.Ahead
@@ -41,7 +41,7 @@ some-free limit granules {v} c = first _ (c .fits .chosen .many) (c .fits .chose
 pub no-room : (limit granules : ℕ) {v : State} {k : ℕ} → (CanLengthen limit granules v → ⊥) → v .room ≡ 0 → Choice limit granules v (suc k) → ⊥
 no-room limit granules {v} {k} a e c = go (c .longer) (c .runs) (c .fits)
   where
-    go : (x : ℕ) (rs : List Run) → Fits limit granules v x rs (suc k) → ⊥
+    go : (x : ℕ) (rs : List Run) → ChoiceFits limit granules v x rs (suc k) → ⊥
     go zero [] f = let z = f .chosen .many in omega arith
     go zero (r ∷ rs) f = omega (arith, f .few)
     go (suc y) rs f = Ahead.never-longer limit granules y a f

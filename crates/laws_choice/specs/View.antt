@@ -14,10 +14,10 @@ use Rattle.meaning.specs.Chain.{chain}
 use Rattle.meaning.specs.Free.{freeSlots}
 use Rattle.meaning.specs.Growth.{Grown, grown, noSlot, tail, after, lengthens, lengthened, withPair, withExtension, extended, takeAt}
 use Rattle.meaning.specs.declared.Geometry.{Geometry}
-use Rattle.laws.specs.Members
-use Rattle.laws.specs.Members.{In}
+use Rattle.lists.specs.Members
+use Rattle.lists.specs.Members.{In}
 use Rattle.laws.specs.Facts
-use Rattle.laws.specs.Facts.{Sound, File}
+use Rattle.laws.specs.Facts.{Sound, IsFile}
 use Rattle.laws.specs.Entry
 use Rattle.laws.specs.Places
 use Rattle.laws.specs.Change
@@ -94,7 +94,7 @@ module _ (g : Geometry) (p : ℕ) (d : List ℕ) where
       says-longer (record { some′ = s .0; inside = f .inside; free = λ t. Members.false-no (f .clear) t; short = s .1 })
 
   -- the granules of the last run are taken
-  pub stands : Sound g d → File g d p → Stands (granules g) (view g p d)
+  pub stands : Sound g d → IsFile g d p → Stands (granules g) (view g p d)
   unfolding entryGranules
   stands c f = record {
     some′ = λ r q. let w = ap (λ (x : Run). x .many) (is r q) in omega arith;
@@ -133,7 +133,7 @@ unfolding lastOr
 last-snoc z x [] = refl
 last-snoc z x (y ∷ ys) = last-snoc y x ys
 
-module _ (g : Geometry) (d : List ℕ) (c : Sound g d) (k : Places.Fits g d) (p : ℕ) (f : File g d p) where
+module _ (g : Geometry) (d : List ℕ) (c : Sound g d) (k : Places.Fits g d) (p : ℕ) (f : IsFile g d p) where
   abbrev e : ℕ
   e = tail g p d
 
@@ -156,9 +156,9 @@ module _ (g : Geometry) (d : List ℕ) (c : Sound g d) (k : Places.Fits g d) (p 
       }
 
   -- a new run in the last entry
-  view-paired : (n : ℕ) → n < granules g → (T (taken g d n) → ⊥) → runs g d e < 4 → Starts 32 (granules g) (view g p d) (view g p (withPair g p d e (runs g d e) n)) n
+  view-paired : (n : ℕ) → n < granules g → (T (taken g d n) → ⊥) → runs g d e < 4 → Starts 32 (granules g) (view g p d) (view g p (withPair g d e (runs g d e) n)) n
   view-paired n i u few =
-      let d′ = withPair g p d e (runs g d e) n in
+      let d′ = withPair g d e (runs g d e) n in
       let w = Take.paired-grows g d c k p f n few i u in
       let t = AtTail.tail-stays g d d′ c p f (w .at) in
       let a = Take.runs₂ g d c k p f n few i u in
@@ -172,9 +172,9 @@ module _ (g : Geometry) (d : List ℕ) (c : Sound g d) (k : Places.Fits g d) (p 
 
   -- a new run in a new extension
   view-extended : (x n : ℕ) → In x (freeSlots g d) → n < granules g → (T (taken g d n) → ⊥) → runs g d e ≡ 4
-      → Starts 32 (granules g) (view g p d) (view g p (withPair g p (withExtension g p d e x) x 0 n)) n
+      → Starts 32 (granules g) (view g p d) (view g p (withPair g (withExtension g p d e x) x 0 n)) n
   view-extended x n j i u full =
-      let d′ = withPair g p (withExtension g p d e x) x 0 n in
+      let d′ = withPair g (withExtension g p d e x) x 0 n in
       let s = Create.slots-free g d x j in
       let w = TakeNew.new-extends g d c k p f x (s .0) (s .1) n full i u in
       let t : tail g p d′ ≡ x = ap (lastOr p) (Extend.extends-chain g d d′ c p f x n w) ∙ last-snoc p x (chain g d p) in

@@ -4,7 +4,7 @@ use mathlib.Core.Path.{_≡_, refl}
 use mathlib.Core.List.{List, [], _∷_, _++_}
 use lib.ListN.{replicate}
 use Rattle.meaning.specs.Refusal.{unplaced, placed}
-use Rattle.meaning.specs.Samples.{changed, puls, leer, three, sample, e80, opened}
+use Rattle.meaning_table.specs.Samples.{changed, puls, leer, three, sample, e80, opened}
 use Rattle.list_rows.specs.Rows.{row, toldFrom, rowsFrom, listFrom}
 use Rattle.list_rows.specs.declared.Rows.{Rows}
 

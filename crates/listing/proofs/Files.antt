@@ -11,7 +11,7 @@ use lib.Dec.{T}
 use borrow.Author.Tests.{ne-eqb}
 use Rattle.meaning.specs.Lists.{keep, all}
 use Rattle.meaning.specs.Layout.{directorySectors, entryAt}
-use Rattle.meaning.specs.Entries.{inUse, extension, primary, nameOf, sizeOf}
+use Rattle.meaning.specs.Entries.{inUse, extension, inUsePrimary, nameOf, sizeOf}
 use Rattle.meaning.specs.Chain.{files, owned}
 use Rattle.meaning.specs.Free.{freeGranules}
 use Rattle.meaning.specs.Refusal.{unplaced}
@@ -21,9 +21,9 @@ use Rattle.meaning.specs.declared.Geometry.{Geometry}
 use Rattle.meaning.specs.declared.Listed.{Listed}
 use Rattle.meaning.specs.declared.Counts.{Counts}
 use Rattle.meaning.specs.declared.Refusal.{Refusal}
-use Rattle.laws.specs.Members.{same-eq, same-refl}
-use Rattle.layout.proofs.Laws.{name-at}
-use Rattle.layout.proofs.Lists.{all-at, and-l}
+use Rattle.lists.specs.Members.{same-eq, same-refl}
+use Rattle.layout.proofs.OneStep.{name-at}
+use Rattle.lists.specs.Tests.{all-at, and-l}
 use Rattle.seek.specs.Seek.{Used}
 use Rattle.look_up.proofs.Pass.{slotsFrom, slots-start, slots-here, slots-past, slots-end}
 
@@ -39,28 +39,28 @@ module _ (g : Geometry) (d : List ℕ) where
 
   -- a listed file starts at slot s
   abbrev pub Tells : ℕ → Bool
-  Tells s = all (primary g d s ∷ shown g d s ∷ [])
+  Tells s = all (inUsePrimary g d s ∷ shown g d s ∷ [])
 
   pub tells-used : {s columns : ℕ} → s < 256 → columns ≡ directorySectors g d - 2 → s % 32 < columns → Tells s ≡ true → Used g d s
   tells-used {s} h e l t = record { slot = record { low = h; held = omega arith }; used = and-l (inUse g d s) (not (extension g d s)) (all-at _ t 0) }
 
   -- the listed files from slot s on
   unfoldable pub rest : ℕ → List ℕ
-  rest s = keep (shown g d) (keep (primary g d) (slotsFrom g d s))
+  rest s = keep (shown g d) (keep (inUsePrimary g d) (slotsFrom g d s))
 
   pub rest-start : listed g d ≡ rest 0
   unfolding listed files rest
-  rest-start = ap (λ (l : List ℕ). keep (shown g d) (keep (primary g d) l)) (slots-start g d)
+  rest-start = ap (λ (l : List ℕ). keep (shown g d) (keep (inUsePrimary g d) l)) (slots-start g d)
 
   pub rest-end : {s : ℕ} → 256 ≤ s → rest s ≡ []
   unfolding rest
-  rest-end h = ap (λ (l : List ℕ). keep (shown g d) (keep (primary g d) l)) (slots-end g d h)
+  rest-end h = ap (λ (l : List ℕ). keep (shown g d) (keep (inUsePrimary g d) l)) (slots-end g d h)
 
-  keep-two : (s : ℕ) (l : List ℕ) → keep (shown g d) (keep (primary g d) (s ∷ l)) ≡ cond (Tells s) (s ∷ keep (shown g d) (keep (primary g d) l)) (keep (shown g d) (keep (primary g d) l))
+  keep-two : (s : ℕ) (l : List ℕ) → keep (shown g d) (keep (inUsePrimary g d) (s ∷ l)) ≡ cond (Tells s) (s ∷ keep (shown g d) (keep (inUsePrimary g d) l)) (keep (shown g d) (keep (inUsePrimary g d) l))
   unfolding all
-  keep-two s l = by (primary g d s) refl (shown g d s) refl
+  keep-two s l = by (inUsePrimary g d s) refl (shown g d s) refl
     where
-      by : (a : Bool) → primary g d s ≡ a → (b : Bool) → shown g d s ≡ b → keep (shown g d) (keep (primary g d) (s ∷ l)) ≡ cond (Tells s) (s ∷ keep (shown g d) (keep (primary g d) l)) (keep (shown g d) (keep (primary g d) l))
+      by : (a : Bool) → inUsePrimary g d s ≡ a → (b : Bool) → shown g d s ≡ b → keep (shown g d) (keep (inUsePrimary g d) (s ∷ l)) ≡ cond (Tells s) (s ∷ keep (shown g d) (keep (inUsePrimary g d) l)) (keep (shown g d) (keep (inUsePrimary g d) l))
       by true e true f = simp (e, f)
       by true e false f = simp (e, f)
       by false e b f = simp e
@@ -68,11 +68,11 @@ module _ (g : Geometry) (d : List ℕ) where
   module _ {s columns : ℕ} (l : s < 256) (e : columns ≡ directorySectors g d - 2) where
     pub rest-past : columns ≤ s % 32 → rest s ≡ rest (32 * (s / 32 + 1))
     unfolding rest
-    rest-past h = ap (λ (l : List ℕ). keep (shown g d) (keep (primary g d) l)) (slots-past g d l e h)
+    rest-past h = ap (λ (l : List ℕ). keep (shown g d) (keep (inUsePrimary g d) l)) (slots-past g d l e h)
 
     rest-here : s % 32 < columns → rest s ≡ cond (Tells s) (s ∷ rest (s + 1)) (rest (s + 1))
     unfolding rest
-    rest-here h = ap (λ (l : List ℕ). keep (shown g d) (keep (primary g d) l)) (slots-here g d l e h) ∙ keep-two s (slotsFrom g d (s + 1))
+    rest-here h = ap (λ (l : List ℕ). keep (shown g d) (keep (inUsePrimary g d) l)) (slots-here g d l e h) ∙ keep-two s (slotsFrom g d (s + 1))
 
     pub rest-no : s % 32 < columns → Tells s ≡ false → rest s ≡ rest (s + 1)
     rest-no h t = rest-here h ∙ ap (λ (b : Bool). cond b (s ∷ rest (s + 1)) (rest (s + 1))) t

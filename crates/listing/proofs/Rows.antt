@@ -21,9 +21,9 @@ use Rattle.meaning.specs.declared.Refusal.{Refusal}
 use Rattle.list_rows.specs.Rows.{lowFirst, row, toldFrom, rowsFrom, rowsRefusals, listFrom}
 use Rattle.list_rows.specs.Lengths.{rows-length}
 use Rattle.laws.specs.Carried.{carried-own, carried-other}
-use Rattle.layout.proofs.Lists.{first-hit, first-skip, first-none}
-use Rattle.copy.proofs.Laws.{sets-append}
-use Rattle.handle.proofs.Laws.{check-stop, check-then, handed-on}
+use Rattle.lists.specs.Tests.{first-hit, first-skip, first-none}
+use Rattle.copy.proofs.OneByOne.{sets-append}
+use Rattle.passed.proofs.Checked.{check-stop, check-then, handed-on}
 use Rattle.listing.proofs.Files.{Tells, rest, rest-start, rest-end, rest-past, rest-no, rest-yes}
 
 module _ (g : Geometry) (d : List ℕ) where

@@ -11,19 +11,19 @@ ghost use lib.ListN.{length, drop};
 ghost use lib.Seq.{sets};
 ghost use Rattle.meaning.specs.Lists.{all};
 ghost use Rattle.meaning.specs.Layout.{entryAt};
-ghost use Rattle.meaning.specs.Entries.{primary};
+ghost use Rattle.meaning.specs.Entries.{inUsePrimary};
 ghost use Rattle.meaning.specs.Listing.{noFile, shown, listed, tellFirst, list, counts};
 ghost use Rattle.meaning.specs.Refusals.{check};
 ghost use Rattle.list_rows.specs.Rows.{row, rowsFrom, listFrom};
 ghost use Rattle.layout.specs.Room.{Room, Slot};
-ghost use Rattle.seek.specs.Seek.{Sound, Used};
+ghost use Rattle.seek.specs.Seek.{Walkable, Used};
 
 const ROW_BYTES: usize = 20;
 
 // Whether a file that is listed starts at slot s, whose entry is at `at`: a primary entry in use, without the system flag. One byte is read.
 fn tells(image: &[u8], g: Geometry, s: usize, at: usize) -> bool
     requires { ⌜ Room g (now image) × Slot g (now image) s × (at ≡ entryAt g s) ⌝ }
-    ensures { λ r. ⌜ r ≡ all (primary g (now (image .entry)) s ∷ shown g (now (image .entry)) s ∷ []) ⌝ }
+    ensures { λ r. ⌜ r ≡ all (inUsePrimary g (now (image .entry)) s ∷ shown g (now (image .entry)) s ∷ []) ⌝ }
 {
     let f = layout::wide(image[at]);
     if (f >> 4) % 2 != 1 {
@@ -50,7 +50,7 @@ fn no_file(c: Refusal) -> Listed
 
 // The file at slot s: name, size, granules owned.
 fn tell(image: &[u8], g: Geometry, s: usize) -> Listed
-    requires { ⌜ Sound g (now image) × Used g (now image) s ⌝ }
+    requires { ⌜ Walkable g (now image) × Used g (now image) s ⌝ }
     ensures { λ r. ⌜ r ≡ tellFirst g (now (image .entry)) (s ∷ []) ⌝ }
 {
     Listed {
@@ -64,7 +64,7 @@ fn tell(image: &[u8], g: Geometry, s: usize) -> Listed
 
 // The listed file of that number, by rising slot number; or "no more". Row by row, so that the next entry is 256 bytes on.
 fn told(image: &[u8], g: Geometry, number: usize) -> Listed
-    requires { ⌜ Sound g (now image) ⌝ }
+    requires { ⌜ Walkable g (now image) ⌝ }
     ensures { λ r. ⌜ r ≡ tellFirst g (now (image .entry)) (drop number (listed g (now (image .entry)))) ⌝ }
 {
     let columns = layout::directory_sectors(image, g) - 2;

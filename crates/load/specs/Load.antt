@@ -6,6 +6,7 @@ use lib.Dec.{leb, eqb}
 use lib.ListN.{length, take, drop}
 use Rattle.meaning.specs.Lists.{all}
 use Rattle.meaning.specs.Refusals
+use Rattle.meaning.specs.Handles
 use Rattle.meaning.specs.Plain.{fileAt}
 use Rattle.meaning.specs.declared.Geometry.{Geometry}
 use Rattle.meaning.specs.declared.Handle.{Handle}
@@ -33,7 +34,7 @@ module _ (g : Geometry) (d : List ℕ) where
   -- first
   abbrev pub loadRefusals : Handle → ℕ → List (ℕ × Bool)
   loadRefusals h room =
-      Refusals.handleRefusals g d h (all (Refusals.inRange g h ∷ leb mostBytes room ∷ []))
+      Refusals.handleRefusals g d h (all (Handles.inRange g h ∷ leb mostBytes room ∷ []))
       (Refusals.notForReading h ∷ Refusals.byNumber (asked h .number) loadNumbers)
 
   -- "hands out one record at a time with address and bytes, …, the bytes into a lent buffer": they go to its start, the rest of it is untouched. The
@@ -47,7 +48,7 @@ module _ (g : Geometry) (d : List ℕ) where
           address = cond yes′ (r .address) 0;
           count = cond yes′ (r .count) 0;
           position = cond (eqb no (r .number)) (r .position) 0;
-          handle = cond yes′ (Refusals.movedTo h (r .next)) h;
+          handle = cond yes′ (Handles.movedTo h (r .next)) h;
         },
         cond yes′ (take (r .count) (drop (r .from) (bytesOf (h .slot))) ++ drop (r .count) b) b,
       )

@@ -7,15 +7,15 @@ use native.Mathlib.Nat.{zero-add}
 use lib.ListN.{length, getD, take, drop}
 use lib.Seq.{take-at, drop-at}
 use Rattle.meaning.specs.Layout.{byte}
-use Rattle.meaning.specs.Sizes
+use Rattle.lists.specs.Sizes
 use Rattle.meaning.specs.Chain.{place}
 use Rattle.meaning.specs.Entries.{sizeOf}
 use Rattle.meaning.specs.Read.{fetch}
 use Rattle.meaning.specs.Plain.{fileAt}
 use Rattle.meaning.specs.declared.Geometry.{Geometry}
-use Rattle.laws.specs.Members
+use Rattle.lists.specs.Members
 use Rattle.read.specs.Part.{Owned, InGranule}
-use Rattle.read.proofs.Laws.{fetch-append, length-fetch, place-fits}
+use Rattle.read.proofs.ReadParts.{fetch-append, length-fetch, place-fits}
 use Rattle.load.specs.Load.{bytesOf}
 use Rattle.load_record.specs.Program.{Program}
 

@@ -9,15 +9,16 @@ use lib.ListN.{length, take, drop}
 use lib.Dec.{eqb, ltb, leb}
 use borrow.Author.Tests.{eq-eqb, ne-eqb, eqb-true, eqb-false, ltb-true, leb-true}
 use Rattle.meaning.specs.Lists.{all, any, every, has}
-use Rattle.meaning.specs.Refusals.{first, refusal, inRange, movedTo, handleRefusals, notForReading, byNumber}
+use Rattle.meaning.specs.Refusals.{first, refusal, handleRefusals, notForReading, byNumber}
+use Rattle.meaning.specs.Handles.{inRange, movedTo}
 use Rattle.meaning.specs.Entries.{sizeOf}
 use Rattle.meaning.specs.declared.Geometry.{Geometry}
 use Rattle.meaning.specs.declared.Handle.{Handle}
 use Rattle.meaning.specs.declared.Refusal.{Refusal}
 use Rattle.layout.specs.Room.{Room, Slot}
-use Rattle.layout.proofs.Lists.{first-hit, first-skip, first-none, and-l, and-r, all-at}
-use Rattle.handle.proofs.Laws.{Passed, passed, walks, ranges}
-use Rattle.read.proofs.Laws.{reading-stop, reading-then}
+use Rattle.lists.specs.Tests.{first-hit, first-skip, first-none, and-l, and-r, all-at}
+use Rattle.passed.proofs.Checked.{Passed, passed, walks, ranges}
+use Rattle.read.proofs.ReadParts.{reading-stop, reading-then}
 use Rattle.load.specs.Records.{itemRefusals, itemAt, toldAt, recordFrom, past}
 use Rattle.load.specs.Load.{bytesOf, mostBytes, loadNumbers, asked, loadRefusals, loadRecord}
 use Rattle.load.specs.declared.NextRecord.{NextRecord}

@@ -10,7 +10,7 @@ use lib.Dec.{eqb, leb, ltb}
 use borrow.Author.Tests.{le-leb, lt-leb, lt-ltb, le-ltb, eq-eqb, ne-eqb, ltb-false, not-false}
 use Rattle.meaning.specs.Lists.{any}
 use Rattle.meaning.specs.Refusals.{first, accepted}
-use Rattle.layout.proofs.Lists.{first-hit, first-skip, first-none, first-at, not-yes, not-no, is-yes, is-no, any-skip, any-one, not-both}
+use Rattle.lists.specs.Tests.{first-hit, first-skip, first-none, first-at, not-yes, not-no, is-yes, is-no, any-skip, any-one, not-both}
 use Rattle.load.specs.Records.{dataCode, startCode, commentCode, isCode, dataBytes, follows, badCount, codeAt, countAt, endOf, itemRefusals, positionOf, itemAt}
 use Rattle.load.specs.declared.Item.{Item}
 use Rattle.load_record.specs.Program.{broken, Looked}

@@ -7,14 +7,14 @@ use Rattle.meaning.specs.Layout.{granuleBytes}
 use Rattle.meaning.specs.Entries.{sizeOf}
 use Rattle.meaning.specs.Chain.{owned}
 use Rattle.meaning.specs.declared.Geometry.{Geometry}
-use Rattle.read.specs.Part.{File}
+use Rattle.read.specs.Part.{Readable}
 use Rattle.load.specs.Records.{itemAt}
 use Rattle.load.specs.declared.Item.{Item}
 use Rattle.load.specs.declared.NextRecord.{NextRecord}
 
 -- the file at slot s can be read: its size, which its granules hold
 pub record Program (g : Geometry) (d : List ℕ) (s size : ℕ) : Type 0 where
-  pub file : File g d s
+  pub file : Readable g d s
   pub is : size ≡ sizeOf g d s
   pub owned : size ≤ granuleBytes g * length (owned g d s)
   pub high : size < 16777216

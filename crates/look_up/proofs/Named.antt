@@ -9,7 +9,7 @@ use Rattle.meaning.specs.Refusals.{check, badAt, nameRefusal}
 use Rattle.meaning.specs.declared.Geometry.{Geometry}
 use Rattle.meaning.specs.declared.Refusal.{Refusal}
 use Rattle.laws.specs.Carried.{carried-own, carried-first, carried-second, carried-apart}
-use Rattle.handle.proofs.Laws.{handed}
+use Rattle.passed.proofs.Checked.{handed}
 
 module _ (g : Geometry) (d n : List ℕ) {c : Refusal} (p : c ≡ check g d) where
   number-is : c .number ≡ check g d .number

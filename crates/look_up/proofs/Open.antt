@@ -7,7 +7,8 @@ use borrow.Author.Tests.{ne-eqb}
 use Rattle.meaning.specs.Lists.{firstOr}
 use Rattle.meaning.specs.Names.{fold}
 use Rattle.meaning.specs.Entries.{accessLevel}
-use Rattle.meaning.specs.Refusals.{first, nameRefusal, noHandle}
+use Rattle.meaning.specs.Refusals.{first, nameRefusal}
+use Rattle.meaning.specs.Handles.{noHandle}
 use Rattle.meaning.specs.LookUp.{named, slotOf}
 use Rattle.meaning.specs.Open.{full, admits, openedAt, openRefusals, open′}
 use Rattle.meaning.specs.declared.Geometry.{Geometry}

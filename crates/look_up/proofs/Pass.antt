@@ -8,9 +8,9 @@ use native.Mathlib.Nat.{zero-add}
 use Rattle.meaning.specs.Lists.{count, keep}
 use Rattle.meaning.specs.Layout.{isSlot, slots, directorySectors}
 use Rattle.meaning.specs.declared.Geometry.{Geometry}
-use Rattle.layout.proofs.Laws.{left-more, left-none}
-use Rattle.layout.proofs.Lists.{keep-yes, keep-no}
-use Rattle.layout.proofs.Sound.{slot-yes, slot-no}
+use Rattle.lists.specs.Ranges.{left-more, left-none}
+use Rattle.lists.specs.Tests.{keep-yes, keep-no}
+use Rattle.layout.proofs.HasRoom.{slot-yes, slot-no}
 
 -- k numbers in a row that do not pass
 pub keep-past : (p : ℕ → Bool) (i k m : ℕ) → ((j : ℕ) → i ≤ j → j < i + k → p j ≡ false) → keep p (count i (k + m)) ≡ keep p (count (i + k) m)

@@ -8,7 +8,8 @@ ghost use mathlib.Core.Path.{_≡_};
 ghost use Prim.Native.Nat.{_+_, _*_, _<_, _≤_};
 ghost use lib.ListN.{length, take, drop};
 ghost use Rattle.meaning.specs.Refusal.{carried};
-ghost use Rattle.meaning.specs.Refusals.{check, noHandle};
+ghost use Rattle.meaning.specs.Refusals.{check};
+ghost use Rattle.meaning.specs.Handles.{noHandle};
 ghost use Rattle.meaning.specs.LookUp.{carries, lookUp};
 ghost use Rattle.meaning.specs.Open.{full, admits, openedAt, open′};
 ghost use Rattle.layout.specs.Room.{Room, Slot};
@@ -133,7 +134,7 @@ pub fn full(image: &[u8], g: Geometry, s: usize, checking: bool, code: u16) -> b
         return true;
     }
     let main = layout::word(image, g, s, 0x10);
-    if main == g.anyone as usize {
+    if main == g.noPassword as usize {
         return true;
     }
     code as usize == main

@@ -1,6 +1,5 @@
 -- The bits of a byte, by recursion on their place: bit 0 is the lowest.
-use Prim.Native.Nat.{ℕ, zero, suc, _+_, _*_, _/_, _%_, _<_}
-use native.Mathlib.Omega.{arith}
+use Prim.Native.Nat.{ℕ, zero, suc, _+_, _*_, _/_, _%_}
 use mathlib.Core.Bool.{Bool}
 use lib.Dec.{eqb}
 
@@ -8,11 +7,6 @@ use lib.Dec.{eqb}
 unfoldable pub digit : ℕ → ℕ → ℕ
 digit x zero = x % 2
 digit x (suc u) = digit (x / 2) u
-
-pub digit-lt : (x u : ℕ) → digit x u < 2
-unfolding digit
-digit-lt x zero = omega arith
-digit-lt x (suc u) = digit-lt (x / 2) u
 
 -- the byte with digit u put to v
 unfoldable pub putDigit : ℕ → ℕ → ℕ → ℕ

@@ -1,12 +1,12 @@
 -- A file as a chain of entries, the granules that it owns, and where its bytes lie.
-use Prim.Native.Nat.{ℕ, zero, suc, _+_, _*_, _/_, _%_}
+use Prim.Native.Nat.{ℕ, zero, suc, _+_, _-_, _*_, _/_, _%_}
 use mathlib.Core.Bool.{cond}
 use mathlib.Core.List.{List, [], _∷_}
 use lib.Dec.{eqb}
 use lib.ListN.{length, getD}
 use Rattle.meaning.specs.Lists.{each, keep, lastOr}
 use Rattle.meaning.specs.Layout.{slots, granuleBytes}
-use Rattle.meaning.specs.Entries.{marker, link, entryGranules, primary}
+use Rattle.meaning.specs.Entries.{runs, marker, link, entryGranules, inUsePrimary}
 use Rattle.meaning.specs.declared.Geometry.{Geometry}
 
 -- which of the granules owned holds byte i of a file, counted from 0
@@ -29,7 +29,7 @@ module _ (g : Geometry) (d : List ℕ) where
 
   -- the slots of the files, rising
   unfoldable pub files : List ℕ
-  files = keep (primary g d) (slots g d)
+  files = keep (inUsePrimary g d) (slots g d)
 
   -- where byte i of the file at slot s lies in the image
   unfoldable pub place : ℕ → ℕ → ℕ
@@ -38,3 +38,7 @@ module _ (g : Geometry) (d : List ℕ) where
 -- the last entry of the file at slot p
 abbrev pub tail : Geometry → ℕ → List ℕ → ℕ
 tail g p d = lastOr p (chain g d p)
+
+-- the last pair of the file at slot p, where there is one: its entry and its place in it
+abbrev pub lastPair : Geometry → ℕ → List ℕ → ℕ × ℕ
+lastPair g p d = let e = tail g p d in (e, runs g d e - 1)

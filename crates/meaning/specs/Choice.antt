@@ -9,7 +9,7 @@ use lib.ListN.{length}
 use Rattle.meaning.specs.Lists.{count, In, Distinct}
 use Rattle.meaning.specs.Layout.{taken, granules}
 use Rattle.meaning.specs.Entries.{runs, runStart, runLength}
-use Rattle.meaning.specs.Chain.{tail}
+use Rattle.meaning.specs.Chain.{lastPair}
 use Rattle.meaning.specs.Free.{freeSlots}
 use Rattle.meaning.specs.declared.Geometry.{Geometry}
 
@@ -43,11 +43,11 @@ lastOf (suc k) first many = lastRun (record { first = first; many = many })
 -- what is seen of a disk for the file at slot p: the GAT bits, and the runs of the file's last entry
 abbrev pub view : Geometry → ℕ → List ℕ → State
 view g p d =
-    let e = tail g p d in let k = runs g d e - 1 in
+    let w = lastPair g p d in
     record {
       taken = taken g d;
-      last = lastOf (runs g d e) (runStart g d e k) (runLength g d e k);
-      room = roomOf (runs g d e) (length (freeSlots g d));
+      last = lastOf (runs g d (w .0)) (runStart g d (w .0) (w .1)) (runLength g d (w .0) (w .1));
+      room = roomOf (runs g d (w .0)) (length (freeSlots g d));
     }
 
 -- A choice -----------------------------------------------------------------------------------------------------------------
@@ -87,7 +87,7 @@ Sized limit (r ∷ rs) = (1 ≤ r .many) × (r .many ≤ limit) × Sized limit r
 -- limit is the most granules that a run may have, granules how many the disk has
 module _ (limit granules : ℕ) where
   -- the last run lengthened by x granules, and further runs: k granules in all
-  pub record Fits (v : State) (x : ℕ) (rs : List Run) (k : ℕ) : Type 0 where
+  pub record ChoiceFits (v : State) (x : ℕ) (rs : List Run) (k : ℕ) : Type 0 where
     pub within : x ≤ spare limit (v .last)
     pub sized : Sized limit rs
     pub few : length rs ≤ v .room
@@ -97,7 +97,7 @@ module _ (limit granules : ℕ) where
   pub record Choice (v : State) (k : ℕ) : Type 0 where
     pub longer : ℕ
     pub runs : List Run
-    pub fits : Fits v longer runs k
+    pub fits : ChoiceFits v longer runs k
 
 -- Number 8 -----------------------------------------------------------------------------------------------------------------
 

@@ -1,4 +1,6 @@
--- A consistent disk (01). A part stands for each kind of fault: it says what must hold of one slot, one file, or the directory.
+-- A consistent disk (01), in two parts. First what must hold of one entry, of one file's count, or of the directory: these tests are what the
+-- calls stand on, through `Fault`, which says what is wrong and where, and `BringBack`, which asks the same of a killed file. Then, below its
+-- own heading, 01's paragraph as a whole.
 use Prim.Native.Nat.{ℕ, _+_, _*_}
 use mathlib.Core.Bool.{Bool, true, not, _&&_, _||_, Bool·beq}
 use mathlib.Core.List.{List, [], _∷_}
@@ -12,6 +14,12 @@ use Rattle.meaning.specs.Entries
 use Rattle.meaning.specs.Chain
 use Rattle.meaning.specs.declared.Geometry.{Geometry}
 
+-- The tests of one entry, one file, the directory ------------------------------------------------------------------------------
+
+-- n = 0 only with e = 0
+abbrev pub countHolds : ℕ → ℕ → Bool
+countHolds n e = not (eqb n 0) || eqb e 0
+
 module _ (g : Geometry) (d : List ℕ) where
   -- The 1FH byte is allowed and the directory fits the image.
   unfoldable pub lengthHolds : Bool
@@ -19,13 +27,13 @@ module _ (g : Geometry) (d : List ℕ) where
       all (has (0 ∷ 5 ∷ 10 ∷ 15 ∷ 20 ∷ []) (Layout.aboveTen g d)
       ∷ leb (g .start + Layout.directorySectors g d) (Layout.sectors g) ∷ [])
 
+  -- Directory granules are set in the GAT.
+  abbrev pub directoryTaken : Bool
+  directoryTaken = every (Layout.taken g d) (Layout.directoryGranules g d)
+
   -- A slot's HIT byte is nonzero exactly if its entry is in use.
   unfoldable pub hitHolds : ℕ → Bool
   hitHolds s = Bool·beq (not (eqb (Layout.hit g d s) 0)) (Entries.inUse g d s)
-
-  -- HIT bytes equal the hashes. An extension's HIT byte is its file's hash.
-  unfoldable pub hashHolds : ℕ → Bool
-  hashHolds p = every (λ s. eqb (Layout.hit g d s) (Names.hash (Entries.nameOf g d p))) (Chain.chain g d p)
 
   -- Names of in-use primary entries are well formed; bit 5 is zero.
   unfoldable pub nameHolds : ℕ → Bool
@@ -35,7 +43,8 @@ module _ (g : Geometry) (d : List ℕ) where
   unfoldable pub pairsHold : ℕ → Bool
   pairsHold s = every (λ k. ltb k (Entries.runs g d s) || eqb (Entries.block g d s k) 0xff) (count 0 4)
 
-  -- an extension with these flags: so stands its byte 00; it points back, and has at least one run
+  -- x follows s as an extension with these flags: so stands its byte 00 (90H of one in use, 80H of one killed); it points back, and has at
+  -- least one run
   unfoldable pub followsBy : ℕ → ℕ → ℕ → Bool
   followsBy flags s x =
       all (Layout.isSlot g d x ∷ eqb (Layout.field g d x 0) flags ∷ eqb (Layout.field g d x 1) s
@@ -46,15 +55,6 @@ module _ (g : Geometry) (d : List ℕ) where
   linkHoldsBy flags s =
       any (eqb (Entries.marker g d s) 0xff
       ∷ all (eqb (Entries.marker g d s) 0xfe ∷ followsBy flags s (Entries.link g d s) ∷ eqb (Entries.runs g d s) 4 ∷ []) ∷ [])
-
-  -- an in-use extension has byte 00 equal to 90H
-  unfoldable pub follows : ℕ → ℕ → Bool
-  unfolding followsBy
-  follows s x = followsBy 0x90 s x
-
-  unfoldable pub linkHolds : ℕ → Bool
-  unfolding linkHoldsBy
-  linkHolds s = linkHoldsBy 0x90 s
 
   -- Runs lie on the disk, their first unit is below units per block.
   unfoldable pub runsHold : ℕ → Bool
@@ -70,8 +70,24 @@ module _ (g : Geometry) (d : List ℕ) where
   -- n = 0 only with e = 0; the size fits the granules owned.
   unfoldable pub sizeHolds : ℕ → Bool
   sizeHolds p =
-      all ((not (eqb (Entries.sectorCount g d p) 0) || eqb (Entries.endByte g d p) 0)
+      all (countHolds (Entries.sectorCount g d p) (Entries.endByte g d p)
       ∷ leb (Entries.sizeOf g d p) (Layout.granuleBytes g * length (Chain.owned g d p)) ∷ [])
+
+-- 01's paragraph as a whole ----------------------------------------------------------------------------------------------------
+-- No call's answer is said by what follows: 2 is told as 21 to 30, by `Fault`. It is 01's sentences once more, with the chains of files in the
+-- place of walks that stop at what is wrong, and the promises speak of it. That a disk is consistent exactly where it has no fault is proved
+-- (promises: OldTwo).
+module _ (g : Geometry) (d : List ℕ) where
+  -- an entry in use; an in-use extension has byte 00 equal to 90H
+  abbrev pub entryHolds : ℕ → Bool
+  entryHolds s = all (pairsHold g d s ∷ linkHoldsBy g d 0x90 s ∷ runsHold g d s ∷ gatHolds g d s ∷ [])
+
+  unfoldable pub slotHolds : ℕ → Bool
+  slotHolds s = all (hitHolds g d s ∷ any (not (Entries.inUse g d s) ∷ entryHolds s ∷ []) ∷ [])
+
+  -- HIT bytes equal the hashes. An extension's HIT byte is its file's hash.
+  unfoldable pub hashHolds : ℕ → Bool
+  hashHolds p = every (λ s. eqb (Layout.hit g d s) (Names.hash (Entries.nameOf g d p))) (Chain.chain g d p)
 
   -- Directory granules are in no run of a file without the system flag.
   unfoldable pub offDirectory : ℕ → Bool
@@ -79,16 +95,10 @@ module _ (g : Geometry) (d : List ℕ) where
       any (Entries.system g d p
       ∷ every (λ n. not (has (Layout.directoryGranules g d) n)) (Chain.owned g d p) ∷ [])
 
-  -- an entry in use
-  abbrev pub entryHolds : ℕ → Bool
-  entryHolds s = all (pairsHold s ∷ linkHolds s ∷ runsHold s ∷ gatHolds s ∷ [])
-
-  unfoldable pub slotHolds : ℕ → Bool
-  slotHolds s = all (hitHolds s ∷ any (not (Entries.inUse g d s) ∷ entryHolds s ∷ []) ∷ [])
-
   unfoldable pub fileHolds : ℕ → Bool
-  fileHolds p = all (nameHolds p ∷ hashHolds p ∷ sizeHolds p ∷ offDirectory p ∷ [])
+  fileHolds p = all (nameHolds g d p ∷ hashHolds p ∷ sizeHolds g d p ∷ offDirectory p ∷ [])
 
+  -- names differ
   unfoldable pub namesDiffer : List ℕ → Bool
   namesDiffer [] = true
   namesDiffer (p ∷ ps) =
@@ -109,14 +119,10 @@ module _ (g : Geometry) (d : List ℕ) where
   abbrev pub granulesOnce : Bool
   granulesOnce = distinct (each (Chain.owned g d) (Chain.files g d))
 
-  -- Directory granules are set in the GAT.
-  abbrev pub directoryTaken : Bool
-  directoryTaken = every (Layout.taken g d) (Layout.directoryGranules g d)
-
   unfoldable pub consistent : Bool
   consistent =
-      all (lengthHolds
+      all (lengthHolds g d
       ∷ every slotHolds (Layout.slots g d)
       ∷ every fileHolds (Chain.files g d)
       ∷ namesDiffer (Chain.files g d)
-      ∷ metOnce ∷ allMet ∷ granulesOnce ∷ directoryTaken ∷ [])
+      ∷ metOnce ∷ allMet ∷ granulesOnce ∷ directoryTaken g d ∷ [])

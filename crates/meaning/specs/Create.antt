@@ -11,6 +11,7 @@ use Rattle.meaning.specs.Names
 use Rattle.meaning.specs.Entries
 use Rattle.meaning.specs.Free
 use Rattle.meaning.specs.Refusals
+use Rattle.meaning.specs.Handles
 use Rattle.meaning.specs.LookUp
 use Rattle.meaning.specs.Open
 use Rattle.meaning.specs.declared.Geometry.{Geometry}
@@ -53,7 +54,7 @@ module _ (g : Geometry) (d : List ℕ) where
           old = Refusals.accepted no && not new;
           handle = cond (Refusals.accepted no)
               (cond new (record { slot = x; name = m; at = 0; len = f .len; level = 0 })
-              (Open.openedAt g d s m (f .len) checking (f .main))) Refusals.noHandle;
+              (Open.openedAt g d s m (f .len) checking (f .main))) Handles.noHandle;
         },
         cond (Refusals.accepted no && new) (withEntry x m f) d,
       )

@@ -1,23 +1,23 @@
--- What one entry says (01, Directory layout): flags, codes, size, runs, marker and link.
+-- What one entry says (01, Directory layout): flags, codes, size, runs, marker and link; and how it is made to say another thing.
 use Prim.Native.Nat.{ℕ, zero, suc, _+_, _-_, _*_, _/_, _%_}
 use mathlib.Core.Bool.{Bool, not, cond, _&&_}
 use mathlib.Core.List.{List, map}
 use lib.Dec.{eqb}
 use Rattle.meaning.specs.Lists.{count, each}
 use Rattle.meaning.specs.Bits.{bit}
-use Rattle.meaning.specs.Layout.{field, roundUp}
+use Rattle.meaning.specs.Layout.{field, setField, roundUp}
 use Rattle.meaning.specs.declared.Geometry.{Geometry}
 
 -- A pair by itself: block, then first unit (high three bits) and further granules (low five).
 abbrev pub pairUnit : ℕ → ℕ
-pairUnit second = second / 32
+pairUnit pairByte = pairByte / 32
 
 -- A run is 1 to 32 granules with consecutive numbers and may cross blocks.
 abbrev pub pairLength : ℕ → ℕ
-pairLength second = 1 + second % 32
+pairLength pairByte = 1 + pairByte % 32
 
 abbrev pub pairStart : ℕ → ℕ → ℕ → ℕ
-pairStart units block second = block * units + pairUnit second
+pairStart units block pairByte = block * units + pairUnit pairByte
 
 -- Sector count n, end byte e. If e = 0 it is 256n, else 256(n − 1) + e with n at least 1. (Where n = 0 and e is not, no disk is
 -- consistent: the number is of no account.)
@@ -46,9 +46,9 @@ module _ (g : Geometry) (d : List ℕ) where
   abbrev pub system : ℕ → Bool
   system s = bit 6 (field g d s 0)
 
-  -- a primary entry in use: a file starts here
-  abbrev pub primary : ℕ → Bool
-  primary s = inUse s && not (extension s)
+  -- an in-use primary entry: a file starts here
+  abbrev pub inUsePrimary : ℕ → Bool
+  inUsePrimary s = inUse s && not (extension s)
 
   abbrev pub accessLevel : ℕ → ℕ
   accessLevel s = field g d s 0 % 8
@@ -68,6 +68,9 @@ module _ (g : Geometry) (d : List ℕ) where
   abbrev pub word : ℕ → ℕ → ℕ
   word s k = field g d s k + 256 * field g d s (k + 1)
 
+  abbrev pub setWord : ℕ → ℕ → ℕ → List ℕ
+  setWord s k n = setField g (setField g d s k (n % 256)) s (k + 1) (n / 256)
+
   -- 10, 11 main code; 12, 13 worker code; 14, 15 sector count; 03 end byte
   abbrev pub mainCode : ℕ → ℕ
   mainCode s = word s 0x10
@@ -84,21 +87,27 @@ module _ (g : Geometry) (d : List ℕ) where
   unfoldable pub sizeOf : ℕ → ℕ
   sizeOf s = sizeFrom (sectorCount s) (endByte s)
 
-  -- 16 to 1D four pairs: block, and first unit with further granules
+  -- 16 to 1D four pairs: block, and first unit with further granules in one byte
   abbrev pub block : ℕ → ℕ → ℕ
   block s k = field g d s (0x16 + 2 * k)
 
-  abbrev pub second : ℕ → ℕ → ℕ
-  second s k = field g d s (0x17 + 2 * k)
+  abbrev pub pairByte : ℕ → ℕ → ℕ
+  pairByte s k = field g d s (0x17 + 2 * k)
+
+  abbrev pub setPairByte : ℕ → ℕ → ℕ → List ℕ
+  setPairByte s k b = setField g d s (0x17 + 2 * k) b
+
+  abbrev pub setPair : ℕ → ℕ → ℕ → ℕ → List ℕ
+  setPair s k a b = setField g (setField g d s (0x16 + 2 * k) a) s (0x17 + 2 * k) b
 
   abbrev pub firstUnit : ℕ → ℕ → ℕ
-  firstUnit s k = pairUnit (second s k)
+  firstUnit s k = pairUnit (pairByte s k)
 
   abbrev pub runLength : ℕ → ℕ → ℕ
-  runLength s k = pairLength (second s k)
+  runLength s k = pairLength (pairByte s k)
 
   abbrev pub runStart : ℕ → ℕ → ℕ
-  runStart s k = pairStart (g .units) (block s k) (second s k)
+  runStart s k = pairStart (g .units) (block s k) (pairByte s k)
 
   -- Block FFH ends the list.
   unfoldable pub runsFrom : ℕ → ℕ → ℕ → ℕ
@@ -122,3 +131,6 @@ module _ (g : Geometry) (d : List ℕ) where
 
   abbrev pub link : ℕ → ℕ
   link s = field g d s 0x1f
+
+  abbrev pub setLink : ℕ → ℕ → ℕ → List ℕ
+  setLink s m l = setField g (setField g d s 0x1e m) s 0x1f l

@@ -18,6 +18,23 @@ use Rattle.meaning.specs.declared.Refusal.{Refusal}
 
 module _ (g : Geometry) (d : List ℕ) where
   -- Walks -----------------------------------------------------------------------------------------------------------------
+  -- From each file's primary entry a walk goes along the links. What is wrong with a chain shows in what the walks meet, so a walk goes on as
+  -- long as there is a sound link to follow, whatever else is wrong with the entries, and stops where there is none.
+  --
+  -- Two files, one extension: A starts in slot 80H, B in 83H, and both link to 82H, which links to 81H; four runs in all but 81H.
+  --
+  --     80H ──► 82H ──► 81H     the walk from A meets 80H, 82H, 81H
+  --     83H ──► 82H ──► 81H     the walk from B meets 83H, 82H, 81H
+  --
+  -- 82H is met from two entries, 80H and 83H: 25 at 82H. 81H is met from one, 82H: there is nothing wrong with it, though two walks come by.
+  -- Its file is A, the first whose walk meets it, so that its HIT byte must be A's hash.
+  --
+  -- A link that is not followed: A in slot 80H has three runs, marker FEH and link 40H; the extension in 40H is well formed and points back.
+  --
+  --     80H ─╳  40H             the walk from A meets 80H
+  --
+  -- 80H may not link with three runs, so its link is bad and the walk stops: 40H is met in no file's chain. Both are at fault with 25, and the
+  -- lowest slot is told: 40H.
 
   -- an extension in use, in a slot of the directory
   unfoldable pub usedExtension : ℕ → Bool
@@ -37,7 +54,8 @@ module _ (g : Geometry) (d : List ℕ) where
   unfoldable pub badEntry : ℕ → Bool
   badEntry s = not (any (handsOn s ∷ ends s ∷ []))
 
-  -- A walk passes badly formed extensions and stops at an entry with a bad marker, pairs or link, and at a second meeting.
+  -- A walk passes badly formed extensions and stops at an entry with a bad marker, pairs or link, and at a second meeting. `before` is what
+  -- this walk has met, not the others: two walks through one entry both go on from it.
   unfoldable pub walkFrom : ℕ → List ℕ → ℕ → List ℕ
   walkFrom zero before s = []
   walkFrom (suc left) before s =
@@ -51,18 +69,20 @@ module _ (g : Geometry) (d : List ℕ) where
   unfoldable pub walked : List ℕ
   walked = each walk (Chain.files g d)
 
-  -- the entries from which the walks come to slot x. A walk goes on from an entry at its first meeting only, so that x is met once from each.
+  -- The entries from which the walks come to slot x; how often x is met is how many they are. Entries are counted and not visits: where two
+  -- walks go on from b to x, it is b that is met twice, and x is met once from it.
   unfoldable pub metFrom : ℕ → List ℕ
   metFrom x = let w = walked in keep (λ b. all (eqb (Entries.link g d b) x ∷ handsOn b ∷ has w b ∷ [])) (Layout.slots g d)
 
-  -- the file that an entry in use belongs to: the first, by rising slot number, whose walk meets it
+  -- the file that an entry in use belongs to: the first, by rising slot number, whose walk meets it; the entry itself where no walk does (it is
+  -- an extension then, with fault 25 before any kind that asks for its file)
   unfoldable pub fileOf : ℕ → ℕ
   fileOf s = firstOr s (keep (λ p. has (walk p) s) (Chain.files g d))
 
   -- An extension that is met in some file's chain, not twice, and well formed
   unfoldable pub goodExtension : ℕ → Bool
   goodExtension x =
-      let m = metFrom x in all (eqb (length m) 1 ∷ every (λ b. Consistent.follows g d b x) m ∷ [])
+      let m = metFrom x in all (eqb (length m) 1 ∷ every (λ b. Consistent.followsBy g d 0x90 b x) m ∷ [])
 
   -- Kinds -----------------------------------------------------------------------------------------------------------------
 
@@ -76,12 +96,12 @@ module _ (g : Geometry) (d : List ℕ) where
 
   -- 23, name: well formed, and bit 5 is zero.
   unfoldable pub nameFault : ℕ → Bool
-  nameFault p = all (Entries.primary g d p ∷ not (Consistent.nameHolds g d p) ∷ [])
+  nameFault p = all (Entries.inUsePrimary g d p ∷ not (Consistent.nameHolds g d p) ∷ [])
 
   -- 24, duplicate name: names differ. Of two slots the higher is at fault.
   unfoldable pub duplicateFault : ℕ → Bool
   duplicateFault p =
-      all (Entries.primary g d p
+      all (Entries.inUsePrimary g d p
       ∷ some (λ q. ltb q p && same (Entries.nameOf g d q) (Entries.nameOf g d p)) (Chain.files g d) ∷ [])
 
   -- 25, chain: belongs to the entry with the bad marker, pairs or link, or to the extension met in no file's chain, met twice, or badly formed.
@@ -112,7 +132,7 @@ module _ (g : Geometry) (d : List ℕ) where
   -- 29, size: n = 0 only with e = 0; the size fits the granules owned. Belongs to the primary entry, granules counted as the pairs name them, and
   -- only where its chain is whole.
   unfoldable pub sizeFault : ℕ → Bool
-  sizeFault p = all (Entries.primary g d p ∷ chainWhole p ∷ not (Consistent.sizeHolds g d p) ∷ [])
+  sizeFault p = all (Entries.inUsePrimary g d p ∷ chainWhole p ∷ not (Consistent.sizeHolds g d p) ∷ [])
 
   -- 30, directory granule, with a slot: in a run of a file without the system flag
   unfoldable pub directoryFault : ℕ → Bool

@@ -4,11 +4,12 @@ use Prim.Native.Nat.{ℕ, zero, suc, _+_, _-_, _*_, _/_, _%_}
 use mathlib.Core.Bool.{Bool, true, false, not, cond}
 use mathlib.Core.List.{List, [], _∷_, _++_}
 use lib.Dec.{leb, ltb}
-use lib.ListN.{replicate}
+use lib.ListN.{length, replicate}
 use lib.Seq.{sets}
 use Rattle.meaning.specs.Lists.{all}
 use Rattle.meaning.specs.Layout
 use Rattle.meaning.specs.Entries
+use Rattle.meaning.specs.Chain
 pub use Rattle.meaning.specs.Chain.{tail}
 use Rattle.meaning.specs.Free
 use Rattle.meaning.specs.declared.Geometry.{Geometry}
@@ -38,56 +39,51 @@ unfoldable pub diskOr : List ℕ → Grown → List ℕ
 diskOr z (grown d) = d
 diskOr z noSlot = z
 
+-- granule n as a new run of its own, pair k of entry e
+abbrev pub withPair : Geometry → List ℕ → ℕ → ℕ → ℕ → List ℕ
+withPair g d e k n = Layout.takeGranule g (Entries.setPair g d e k (n / g .units) (n % g .units * 32)) n
+
+-- Extension: byte 00 is 90H, byte 01 the slot before it in the chain, 02 to 15 zero; a new one's unused pairs, marker and link are FFH.
+abbrev pub newExtension : ℕ → List ℕ
+newExtension e = 0x90 ∷ e ∷ (replicate 20 0 ++ replicate 10 0xff)
+
 -- the file at slot p grows
 module _ (g : Geometry) (p : ℕ) where
   -- the granule just after the last run, where there is a run
   abbrev pub after : List ℕ → ℕ
   after d =
-      let e = tail g p d in let k = Entries.runs g d e - 1 in
-      Entries.runStart g d e k + Entries.runLength g d e k
+      let w = Chain.lastPair g p d in
+      Entries.runStart g d (w .0) (w .1) + Entries.runLength g d (w .0) (w .1)
 
   -- the one just after the last run, if it exists, is free and the run has fewer than 32 (and there is a run at all)
   unfoldable pub lengthens : List ℕ → Bool
   lengthens d =
-      let e = tail g p d in let k = Entries.runs g d e - 1 in
-      all (leb 1 (Entries.runs g d e) ∷ ltb (after d) (Layout.granules g) ∷ not (Layout.taken g d (after d))
-      ∷ ltb (Entries.runLength g d e k) 32 ∷ [])
+      let w = Chain.lastPair g p d in
+      all (leb 1 (Entries.runs g d (w .0)) ∷ ltb (after d) (Layout.granules g) ∷ not (Layout.taken g d (after d))
+      ∷ ltb (Entries.runLength g d (w .0) (w .1)) 32 ∷ [])
 
   -- the last run longer by one: one further granule in the low five bits of its pair
   abbrev pub lengthened : List ℕ → List ℕ
   lengthened d =
-      let e = tail g p d in let k = Entries.runs g d e - 1 in
-      let at = 0x17 + 2 * k in
-      Layout.takeGranule g (Layout.setField g d e at (Layout.field g d e at + 1)) (after d)
-
-  -- granule n as a new run of its own, pair k of entry e
-  abbrev pub withPair : List ℕ → ℕ → ℕ → ℕ → List ℕ
-  withPair d e k n =
-      Layout.takeGranule g
-      (Layout.setField g (Layout.setField g d e (0x16 + 2 * k) (n / g .units)) e (0x17 + 2 * k) (n % g .units * 32))
-      n
-
-  -- Extension: byte 00 is 90H, byte 01 the slot before it in the chain, 02 to 15 zero; a new one's unused pairs, marker and link are FFH.
-  abbrev pub newExtension : ℕ → List ℕ
-  newExtension e = 0x90 ∷ e ∷ (replicate 20 0 ++ replicate 10 0xff)
+      let w = Chain.lastPair g p d in
+      Layout.takeGranule g (Entries.setPairByte g d (w .0) (w .1) (Entries.pairByte g d (w .0) (w .1) + 1)) (after d)
 
   -- slot x as an extension after entry e, hooked by marker FEH and link. An extension's HIT byte is its file's hash.
   abbrev pub withExtension : List ℕ → ℕ → ℕ → List ℕ
   withExtension d e x =
-      let linked = Layout.setField g (Layout.setField g d e 0x1e 0xfe) e 0x1f x in
-      sets (sets linked (Layout.entryAt g x) (newExtension e)) (Layout.hitAt g x) (Layout.hit g d p ∷ [])
+      sets (sets (Entries.setLink g d e 0xfe x) (Layout.entryAt g x) (newExtension e)) (Layout.hitAt g x) (Layout.hit g d p ∷ [])
 
   -- A run beyond the fourth starts an extension in the first permitted slot.
   unfoldable pub extended : List ℕ → List ℕ → ℕ → ℕ → Grown
   extended [] d e n = noSlot
-  extended (x ∷ xs) d e n = grown (withPair (withExtension d e x) x 0 n)
+  extended (x ∷ xs) d e n = grown (withPair g (withExtension d e x) x 0 n)
 
   -- one granule more: the one just after the last run; else granule n, as a new run
   abbrev pub takeAt : ℕ → List ℕ → Grown
   takeAt n d =
       let e = tail g p d in
       cond (lengthens d) (grown (lengthened d))
-      (cond (ltb (Entries.runs g d e) 4) (grown (withPair d e (Entries.runs g d e) n))
+      (cond (ltb (Entries.runs g d e) 4) (grown (withPair g d e (Entries.runs g d e) n))
       (extended (Free.freeSlots g d) d e n))
 
   -- k granules more, each new run at the granule chosen
@@ -107,3 +103,12 @@ module _ (g : Geometry) (p : ℕ) where
   -- longest remaining stretch, at most 32 at a time from its low end, the lower on a tie": one granule at a time, from the disk as it stood
   unfoldable pub growth : ℕ → List ℕ → Grown
   growth k d = orElse (grow k d) (growBy (Free.longestFree g) k d)
+
+module _ (g : Geometry) (d : List ℕ) where
+  -- how many granules the file at slot s lacks of those wanted: none if it owns as many
+  abbrev pub lacking : ℕ → ℕ → ℕ
+  lacking s wanted = wanted - length (Chain.owned g d s)
+
+  -- Growth is whole or refused: the disk with k granules more for the file at slot s.
+  abbrev pub withGranules : ℕ → ℕ → List ℕ
+  withGranules s k = diskOr d (growth g s k d)

@@ -8,6 +8,7 @@ use Rattle.meaning.specs.Bits.{withoutBit}
 use Rattle.meaning.specs.Layout
 use Rattle.meaning.specs.Chain
 use Rattle.meaning.specs.Refusals
+use Rattle.meaning.specs.Handles
 use Rattle.meaning.specs.declared.Geometry.{Geometry}
 use Rattle.meaning.specs.declared.Handle.{Handle}
 use Rattle.meaning.specs.declared.Answer.{Answer}
@@ -22,7 +23,7 @@ killed g d s = through (killEntry g) (through (Layout.freeGranule g) d (Chain.ow
 
 module _ (g : Geometry) (d : List ℕ) where
   abbrev pub killRefusals : Handle → List (ℕ × Bool)
-  killRefusals h = Refusals.handleRefusals g d h (Refusals.inRange g h) (Refusals.protected g d 1 h ∷ [])
+  killRefusals h = Refusals.handleRefusals g d h (Handles.inRange g h) (Refusals.protected g d 1 h ∷ [])
 
   -- Kill: clears bit 4 of the entry and its extensions, their HIT bytes and their GAT bits, nothing else.
   unfoldable pub kill : Handle → Answer × List ℕ

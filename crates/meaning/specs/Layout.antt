@@ -16,7 +16,7 @@ granuleSizes = 5 ∷ 10 ∷ 20 ∷ []
 
 -- How many sectors a granule has: as many as the geometry states. Where it states a size that is none, every call but one without a disk
 -- is refused with 1; only so that no sum divides by 0 a granule has 5 there. Shut, as the next one is: what is proved of them is proved
--- from the laws of Sizes alone, which hold of any number of sectors above 0.
+-- from the laws of `lists: Sizes` alone, which hold of any number of sectors above 0.
 unfoldable pub granuleSectors : Geometry → ℕ
 granuleSectors g = cond (has granuleSizes (g .granule)) (g .granule) 5
 
@@ -41,7 +41,7 @@ highest g = mostGranules * granuleBytes g
 abbrev pub sectorNumbers : Geometry → ℕ
 sectorNumbers g = mostGranules * granuleSectors g
 
--- Granule number = block × units + unit: so many granules are on a disk.
+-- how many granules a disk has: granule number = block × units + unit
 unfoldable pub granules : Geometry → ℕ
 granules g = g .blocks * g .units
 
@@ -62,7 +62,7 @@ fitsGeometry g d =
 abbrev pub granuleSectorsOf : Geometry → ℕ → List ℕ
 granuleSectorsOf g n = count (n * granuleSectors g) (granuleSectors g)
 
--- n things of k each to hold a size: ⌈size / k⌉
+-- how many things of k each hold a size: ⌈size / k⌉
 abbrev pub roundUp : ℕ → ℕ → ℕ
 roundUp size k = (size + (k - 1)) / k
 
@@ -96,8 +96,9 @@ freeGranule g d n = set d (gatAt g n) (withoutBit (n % g .units) (byte d (gatAt 
 abbrev pub row : ℕ → ℕ
 row slot = slot / 32
 
-abbrev pub column : ℕ → ℕ
-column slot = slot % 32
+-- 01's s: the entry stands in directory sector s + 2
+abbrev pub sector : ℕ → ℕ
+sector slot = slot % 32
 
 abbrev pub hitAt : Geometry → ℕ → ℕ
 hitAt g slot = 256 * (g .start + 1) + slot
@@ -114,7 +115,7 @@ directorySectors g d = 10 + aboveTen g d
 
 -- With d directory sectors, s runs from 0 to d − 3.
 unfoldable pub isSlot : Geometry → List ℕ → ℕ → Bool
-isSlot g d slot = all (ltb slot 256 ∷ ltb (column slot + 2) (directorySectors g d) ∷ [])
+isSlot g d slot = all (ltb slot 256 ∷ ltb (sector slot + 2) (directorySectors g d) ∷ [])
 
 -- the slots of the directory, rising
 unfoldable pub slots : Geometry → List ℕ → List ℕ
@@ -124,7 +125,7 @@ slots g d = keep (isSlot g d) (count 0 256)
 
 -- The entry of a slot is in directory sector s + 2 at byte 32 × row.
 abbrev pub entryAt : Geometry → ℕ → ℕ
-entryAt g slot = 256 * (g .start + 2 + column slot) + 32 * row slot
+entryAt g slot = 256 * (g .start + 2 + sector slot) + 32 * row slot
 
 -- byte k of an entry
 unfoldable pub field : Geometry → List ℕ → ℕ → ℕ → ℕ

@@ -1,7 +1,6 @@
 pub mod Lists
 pub mod Bits
 pub mod Layout
-pub mod Sizes
 pub mod Names
 pub mod Entries
 pub mod Chain
@@ -13,6 +12,7 @@ pub mod Free
 pub mod Growth
 pub mod Choice
 pub mod Drop
+pub mod Handles
 pub mod Refusals
 pub mod LookUp
 pub mod Open
@@ -27,6 +27,3 @@ pub mod Listing
 pub mod FreeSpace
 pub mod Calls
 pub mod Plain
-pub mod Samples
-pub mod Table
-pub mod Facts

@@ -4,18 +4,12 @@
 use Prim.Native.Nat.{ℕ, zero, suc, _+_}
 use mathlib.Core.Bool.{Bool, true, false, not, cond, _&&_, _||_}
 use mathlib.Core.List.{List, [], _∷_, _++_}
-use mathlib.Core.Path.{_≡_, refl, ap}
 use lib.Dec.{eqb}
-use lib.ListN.{length}
 
 -- n numbers, rising from i
 abbrev pub count : ℕ → ℕ → List ℕ
 count i zero = []
 count i (suc n) = i ∷ count (i + 1) n
-
-pub length-count : (i n : ℕ) → length (count i n) ≡ n
-length-count i zero = refl
-length-count i (suc n) = ap suc (length-count (i + 1) n)
 
 -- every one of these holds
 unfoldable pub all : List Bool → Bool
@@ -85,7 +79,7 @@ unfoldable pub lastOr : ℕ → List ℕ → ℕ
 lastOr z [] = z
 lastOr z (x ∷ xs) = lastOr x xs
 
--- Statements, whose tests are `has` and `distinct` (laws: Members) ------------------------------------------------------------
+-- Statements, whose tests are `has` and `distinct` (lists: Members) ------------------------------------------------------------
 
 -- x is one of them
 pub data In (x : ℕ) : List ℕ → Type 0 where

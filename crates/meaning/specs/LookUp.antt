@@ -19,7 +19,7 @@ module _ (g : Geometry) (d : List ℕ) where
 
   -- the primary entry's slot: an extension never matches
   unfoldable pub carries : List ℕ → ℕ → Bool
-  carries n s = all (Entries.primary g d s ∷ same (Entries.nameOf g d s) n ∷ [])
+  carries n s = all (Entries.inUsePrimary g d s ∷ same (Entries.nameOf g d s) n ∷ [])
 
   -- how many entries were compared, the found one included; extensions with that hash count too
   unfoldable pub comparedIn : List ℕ → List ℕ → ℕ

@@ -7,6 +7,7 @@ use Rattle.meaning.specs.Lists.{any}
 use Rattle.meaning.specs.Names
 use Rattle.meaning.specs.Entries
 use Rattle.meaning.specs.Refusals
+use Rattle.meaning.specs.Handles
 use Rattle.meaning.specs.LookUp
 use Rattle.meaning.specs.declared.Geometry.{Geometry}
 use Rattle.meaning.specs.declared.Handle.{Handle}
@@ -15,7 +16,7 @@ use Rattle.meaning.specs.declared.Answer.{Answer}
 module _ (g : Geometry) (d : List ℕ) where
   -- level 0 if checking is off, the main code is the "no password" code, or the given code equals the main code
   unfoldable pub full : ℕ → Bool → ℕ → Bool
-  full s checking code = any (not checking ∷ eqb (Entries.mainCode g d s) (g .anyone) ∷ eqb code (Entries.mainCode g d s) ∷ [])
+  full s checking code = any (not checking ∷ eqb (Entries.mainCode g d s) (g .noPassword) ∷ eqb code (Entries.mainCode g d s) ∷ [])
 
   -- or it equals the worker code; else refused
   unfoldable pub admits : ℕ → Bool → ℕ → Bool
@@ -30,7 +31,7 @@ module _ (g : Geometry) (d : List ℕ) where
   abbrev pub openRefusals : List ℕ → ℕ → Bool → ℕ → List (ℕ × Bool)
   openRefusals n len checking code =
       let m = Names.comesIn n .name in
-      Refusals.diskRefusals g d ((12, not (Refusals.goodLength len)) ∷ Refusals.badName n
+      Refusals.diskRefusals g d ((12, not (Handles.goodLength len)) ∷ Refusals.badName n
       ∷ (4, LookUp.missing g d m) ∷ (5, not (admits (LookUp.slotOf g d m) checking code)) ∷ [])
 
   unfoldable pub open′ : List ℕ → ℕ → Bool → ℕ → Answer
@@ -38,5 +39,5 @@ module _ (g : Geometry) (d : List ℕ) where
       let no = Refusals.first (openRefusals n len checking code) in let m = Names.comesIn n .name in
       record {
         refusal = Refusals.nameRefusal g d n no;
-        handle = cond (Refusals.accepted no) (openedAt (LookUp.slotOf g d m) m len checking code) Refusals.noHandle;
+        handle = cond (Refusals.accepted no) (openedAt (LookUp.slotOf g d m) m len checking code) Handles.noHandle;
       }

@@ -1,12 +1,9 @@
 -- A disk as a plain list of named files (demand 2), and what each call does to such a list.
-use Prim.Native.Nat.{ℕ, _+_, _-_, _*_, _/_, _%_, _≤_, _<_, max}
-use mathlib.Core.Path.{_≡_}
-use mathlib.Core.Logic.{_≢_, _⊎_}
-use mathlib.Core.Bool.{Bool, true, not, cond, _&&_}
+use Prim.Native.Nat.{ℕ, _+_, _-_, _/_, _%_, max}
+use mathlib.Core.Bool.{Bool, cond}
 use mathlib.Core.List.{List, [], _∷_, _++_, map}
-use lib.Dec.{T, ltb}
 use lib.ListN.{length, getD, replicate, take, drop, set}
-use Rattle.meaning.specs.Lists.{count, keep, every, has, same, each}
+use Rattle.meaning.specs.Lists.{count, same}
 use Rattle.meaning.specs.Bits
 use Rattle.meaning.specs.Layout
 use Rattle.meaning.specs.Entries
@@ -107,55 +104,3 @@ with′ fs n x m = cond (same m n) x (fs m)
 -- the system flag, as the attributes have it
 abbrev pub isSystem : File → Bool
 isSystem f = Bits.bit 6 (getD (f .attributes) 0 0)
-
--- Reporting system files' bytes as untouched would be a slip: the directory may itself be a file. So a system file's bytes are not
--- compared; how many they are is.
-unfoldable pub hush : Found → Found
-hush nothing = nothing
-hush (found f) =
-    found (record {
-      attributes = f .attributes;
-      granules = f .granules;
-      bytes = cond (isSystem f) (replicate (length (f .bytes)) 0) (f .bytes);
-    })
-
--- The file at slot p with its bytes that lie in a granule of the directory put to 0: what a change of another file leaves alone even of
--- a system file.
-unfoldable pub beyondAt : Geometry → List ℕ → ℕ → File
-beyondAt g d p =
-    record {
-      attributes = fileAt g d p .attributes;
-      granules = fileAt g d p .granules;
-      bytes =
-          map (λ j. cond (has (Layout.directoryGranules g d) (Chain.place g d p j / Layout.granuleBytes g)) 0 (Layout.byte d (Chain.place g d p j)))
-          (count 0 (Entries.sizeOf g d p));
-    }
-
-unfoldable pub beyondIn : Geometry → List ℕ → List ℕ → Found
-beyondIn g d [] = nothing
-beyondIn g d (p ∷ ps) = found (beyondAt g d p)
-
--- the plain list of named files, told so
-unfoldable pub beyond : Geometry → List ℕ → Plain
-beyond g d n = beyondIn g d (LookUp.named g d n)
-
--- Only the file's own sectors, entries and the GAT and HIT change. So a place stays that is no GAT byte of a block, no HIT byte and no
--- entry of the slots xs, and in none of the granules ns.
-pub record Aside (g : Geometry) (xs ns : List ℕ) (i : ℕ) : Type 0 where
-  pub gat : (i < 256 * g .start) ⊎ (256 * g .start + g .blocks ≤ i)
-  pub hits : (x : ℕ) → T (has xs x) → i ≢ Layout.hitAt g x
-  pub entries : (x : ℕ) → T (has xs x) → (i < Layout.entryAt g x) ⊎ (Layout.entryAt g x + 32 ≤ i)
-  pub bytes : T (has ns (i / Layout.granuleBytes g)) → ⊥
-
--- every member of the list is a byte
-abbrev pub AreBytes : List ℕ → Type 0
-AreBytes d = every (λ x. ltb x 256) d ≡ true
-
--- a new file's codes are 16-bit codes
-abbrev pub CodesFit : NewFile → Type 0
-CodesFit f = (f .main < 65536) × (f .worker < 65536)
-
--- A set granule in no run is reserved.
-unfoldable pub reserved : Geometry → List ℕ → List ℕ
-reserved g d =
-    keep (λ n. Layout.taken g d n && not (has (each (Chain.owned g d) (Chain.files g d)) n)) (count 0 (Layout.granules g))

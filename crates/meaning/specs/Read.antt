@@ -9,6 +9,7 @@ use Rattle.meaning.specs.Layout
 use Rattle.meaning.specs.Entries
 use Rattle.meaning.specs.Chain
 use Rattle.meaning.specs.Refusals
+use Rattle.meaning.specs.Handles
 use Rattle.meaning.specs.declared.Geometry.{Geometry}
 use Rattle.meaning.specs.declared.Handle.{Handle}
 use Rattle.meaning.specs.declared.Answer.{Answer}
@@ -22,21 +23,21 @@ module _ (g : Geometry) (d : List ℕ) where
   -- 12 also where the buffer is shorter than the record length; `room` is the buffer's length. 10: read past the size.
   abbrev pub readRefusals : Handle → ℕ → List (ℕ × Bool)
   readRefusals h room =
-      Refusals.handleRefusals g d h (all (Refusals.inRange g h ∷ leb (h .len) room ∷ []))
+      Refusals.handleRefusals g d h (all (Handles.inRange g h ∷ leb (h .len) room ∷ []))
       (Refusals.notForReading h ∷ (10, ltb (Entries.sizeOf g d (h .slot)) (h .at + h .len)) ∷ [])
 
   -- Position + length must not pass the size; the bytes go to the start of the buffer, the rest of it is untouched, the position advances.
   unfoldable pub readRecord : Handle → List ℕ → Answer × List ℕ
   readRecord h b =
       let no = Refusals.first (readRefusals h (length b)) in (
-        record { refusal = Refusals.refusal g d no; handle = cond (Refusals.accepted no) (Refusals.movedTo h (h .at + h .len)) h },
+        record { refusal = Refusals.refusal g d no; handle = cond (Refusals.accepted no) (Handles.movedTo h (h .at + h .len)) h },
         cond (Refusals.accepted no) (fetch (h .slot) (h .at) (h .len) ++ drop (h .len) b) b,
       )
 
   -- 12 also where the sector is out of range (01: 0 to 7,679). 10: sector k not below n.
   abbrev pub sectorRefusals : Handle → ℕ → List (ℕ × Bool)
   sectorRefusals h k =
-      Refusals.handleRefusals g d h (all (Refusals.inRange g h ∷ ltb k (Layout.sectorNumbers g) ∷ []))
+      Refusals.handleRefusals g d h (all (Handles.inRange g h ∷ ltb k (Layout.sectorNumbers g) ∷ []))
       (Refusals.notForReading h ∷ (10, leb (Entries.sectorCount g d (h .slot)) k) ∷ [])
 
   -- how many bytes of sector k are the file's: what the end byte says of the last one, else 256

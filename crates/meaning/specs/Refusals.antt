@@ -1,18 +1,18 @@
 -- Refusal numbers, in order of test (01). Each call has one list of them, in the table's order; its number is the first that holds.
-use Prim.Native.Nat.{ℕ, _-_}
+use Prim.Native.Nat.{ℕ}
 use mathlib.Core.Bool.{Bool, not}
 use mathlib.Core.List.{List, [], _∷_, _++_, map}
 use lib.Dec.{leb, ltb, eqb}
-use lib.ListN.{length, replicate}
-use Rattle.meaning.specs.Lists.{count, all, any, same}
+use lib.ListN.{length}
+use Rattle.meaning.specs.Lists.{count, all, any}
 use Rattle.meaning.specs.Layout
 use Rattle.meaning.specs.Names
 use Rattle.meaning.specs.Entries
-use Rattle.meaning.specs.Chain
 use Rattle.meaning.specs.Refusal.{placed, carried, carriedTwo}
 use Rattle.meaning.specs.Fault
 use Rattle.meaning.specs.Free
 use Rattle.meaning.specs.Growth
+use Rattle.meaning.specs.Handles
 use Rattle.meaning.specs.declared.Geometry.{Geometry}
 use Rattle.meaning.specs.declared.Handle.{Handle}
 use Rattle.meaning.specs.declared.NewFile.{NewFile}
@@ -23,27 +23,10 @@ unfoldable pub use Rattle.meaning.specs.Lists.{first}
 abbrev pub accepted : ℕ → Bool
 accepted n = eqb n 0
 
--- 12: position, length, level, date or sector out of range ------------------------------------------------------------------
-
--- record length (1 to 256)
-unfoldable pub goodLength : ℕ → Bool
-goodLength len = all (leb 1 len ∷ leb len 256 ∷ [])
-
--- position (0 to the highest one; 01: 1,966,080), record length and level (0 to 7): tested by each call that is given a handle
-unfoldable pub inRange : Geometry → Handle → Bool
-inRange g h = all (leb (h .at) (Layout.highest g) ∷ goodLength (h .len) ∷ leb (h .level) 7 ∷ [])
-
--- day 0 to 31, month and year offset 0 to 15
+-- 12: position, length, level, date or sector out of range. Of a handle, `Handles.inRange`; of what create is given: day 0 to 31, month and
+-- year offset 0 to 15, record length
 unfoldable pub newInRange : NewFile → Bool
-newInRange f = all (leb (f .day) 31 ∷ leb (f .month) 15 ∷ leb (f .year) 15 ∷ goodLength (f .len) ∷ [])
-
--- a refused open or create hands back a handle of zeros
-abbrev pub noHandle : Handle
-noHandle = record { slot = 0; name = replicate 11 0; at = 0; len = 0; level = 0 }
-
--- the handle at another position
-abbrev pub movedTo : Handle → ℕ → Handle
-movedTo h at = record { slot = h .slot; name = h .name; at = at; len = h .len; level = h .level }
+newInRange f = all (leb (f .day) 31 ∷ leb (f .month) 15 ∷ leb (f .year) 15 ∷ Handles.goodLength (f .len) ∷ [])
 
 -- 3: name not well formed (calls by name)
 abbrev pub badName : List ℕ → ℕ × Bool
@@ -90,25 +73,17 @@ module _ (g : Geometry) (d : List ℕ) where
   abbrev pub nameRefusal : List ℕ → ℕ → Refusal
   nameRefusal n k = carriedTwo check (badAt n) k
 
-  -- A handle is stale unless its slot is one the directory has, in use, primary and carries its name.
-  unfoldable pub fresh : Handle → Bool
-  fresh h = all (Layout.isSlot g d (h .slot) ∷ Entries.primary g d (h .slot) ∷ same (Entries.nameOf g d (h .slot)) (h .name) ∷ [])
-
   -- 7: handle stale
-  abbrev pub staleHandle : Handle → ℕ × Bool
-  staleHandle h = (7, not (fresh h))
+  abbrev pub stale : Handle → ℕ × Bool
+  stale h = (7, not (Handles.fresh g d h))
 
   -- what every call with a handle tests first; `ranged` is the call's own test 12, `rest` what it tests after
   abbrev pub handleRefusals : Handle → Bool → List (ℕ × Bool) → List (ℕ × Bool)
-  handleRefusals h ranged rest = diskRefusals ((12, not ranged) ∷ staleHandle h ∷ rest)
+  handleRefusals h ranged rest = diskRefusals ((12, not ranged) ∷ stale h ∷ rest)
 
   -- 6: level over 4 for write, allot, trim, over 1 for kill; or write, allot, trim or kill of a system file
   abbrev pub protected : ℕ → Handle → ℕ × Bool
   protected most h = (6, any (ltb most (h .level) ∷ Entries.system g d (h .slot) ∷ []))
-
-  -- how many granules the file at slot s lacks of those wanted: none if it owns as many
-  abbrev pub lacking : ℕ → ℕ → ℕ
-  lacking s wanted = wanted - length (Chain.owned g d s)
 
   -- 11: E set and more granules needed than owned. 9: more further granules needed than are free. 8: the growth finds no
   -- slot, which is to say that no choice of free granules fits the pairs and permitted slots left (02 §13; promises: Fitting). Here k further granules are needed.
@@ -116,7 +91,3 @@ module _ (g : Geometry) (d : List ℕ) where
   cannotGrow s k =
       (11, all (Entries.noGrowth g d s ∷ ltb 0 k ∷ [])) ∷ (9, ltb (length (Free.freeGranules g d)) k)
       ∷ (8, Growth.fails (Growth.growth g s k d)) ∷ []
-
-  -- Growth is whole or refused: the disk with k granules more for the file at slot s.
-  abbrev pub larger : ℕ → ℕ → List ℕ
-  larger s k = Growth.diskOr d (Growth.growth g s k d)

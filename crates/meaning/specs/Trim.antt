@@ -9,6 +9,7 @@ use Rattle.meaning.specs.Entries
 use Rattle.meaning.specs.Chain
 use Rattle.meaning.specs.Drop
 use Rattle.meaning.specs.Refusals
+use Rattle.meaning.specs.Handles
 use Rattle.meaning.specs.declared.Geometry.{Geometry}
 use Rattle.meaning.specs.declared.Handle.{Handle}
 use Rattle.meaning.specs.declared.Answer.{Answer}
@@ -19,7 +20,7 @@ module _ (g : Geometry) (d : List ℕ) where
   surplus s = length (Chain.owned g d s) - Layout.granulesFor g (Entries.sizeOf g d s)
 
   abbrev pub trimRefusals : Handle → List (ℕ × Bool)
-  trimRefusals h = Refusals.handleRefusals g d h (Refusals.inRange g h) (Refusals.protected g d 4 h ∷ [])
+  trimRefusals h = Refusals.handleRefusals g d h (Handles.inRange g h) (Refusals.protected g d 4 h ∷ [])
 
   -- Trim: if F is clear, keeps the granules that its size needs. With F set nothing changes.
   unfoldable pub trim : Handle → Answer × List ℕ

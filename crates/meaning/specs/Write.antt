@@ -1,5 +1,5 @@
 -- Write record, sequential and random (01, Calls).
-use Prim.Native.Nat.{ℕ, _+_, _-_, _/_, _%_, max}
+use Prim.Native.Nat.{ℕ, _+_, _-_, max}
 use mathlib.Core.Bool.{Bool, cond}
 use mathlib.Core.List.{List, [], _∷_}
 use lib.Dec.{leb}
@@ -10,6 +10,8 @@ use Rattle.meaning.specs.Layout
 use Rattle.meaning.specs.Entries
 use Rattle.meaning.specs.Chain
 use Rattle.meaning.specs.Refusals
+use Rattle.meaning.specs.Handles
+use Rattle.meaning.specs.Growth
 use Rattle.meaning.specs.declared.Geometry.{Geometry}
 use Rattle.meaning.specs.declared.Handle.{Handle}
 use Rattle.meaning.specs.declared.Answer.{Answer}
@@ -26,23 +28,22 @@ unfoldable pub sizeAfter : Mode → ℕ → ℕ → ℕ
 sizeAfter Sequential old end = end
 sizeAfter Random old end = max old end
 
-module _ (g : Geometry) (d : List ℕ) where
-  -- The directory's end of file is written with each write: end byte and sector count. B is set.
-  abbrev pub withSize : List ℕ → ℕ → ℕ → List ℕ
-  withSize d′ s size =
-      let n = Entries.sectorsFor size in
-      Layout.setField g (Layout.setField g (Layout.setField g (Layout.setField g d′ s 3 (Entries.endByteFor size)) s 0x14 (n % 256)) s 0x15 (n / 256))
-      s 1 (withBit 5 (Layout.field g d′ s 1))
+-- The directory's end of file is written with each write: end byte and sector count. B is set.
+abbrev pub withSize : Geometry → List ℕ → ℕ → ℕ → List ℕ
+withSize g d s size =
+    let ended = Layout.setField g d s 3 (Entries.endByteFor size) in
+    Layout.setField g (Entries.setWord g ended s 0x14 (Entries.sectorsFor size)) s 1 (withBit 5 (Layout.field g d s 1))
 
+module _ (g : Geometry) (d : List ℕ) where
   -- A write takes exactly what the file lacks of ⌈new size / bytes of a granule⌉ granules (01: ⌈new size/1280⌉).
   abbrev pub toWrite : Mode → Handle → ℕ
-  toWrite m h = Refusals.lacking g d (h .slot) (Layout.granulesFor g (sizeAfter m (Entries.sizeOf g d (h .slot)) (h .at + h .len)))
+  toWrite m h = Growth.lacking g d (h .slot) (Layout.granulesFor g (sizeAfter m (Entries.sizeOf g d (h .slot)) (h .at + h .len)))
 
   -- 12 also where position + length is over the highest position (01: 1,966,080) or the buffer shorter than the record length; `room` is the
   -- buffer's length
   abbrev pub writeRefusals : Mode → Handle → ℕ → List (ℕ × Bool)
   writeRefusals m h room =
-      Refusals.handleRefusals g d h (all (Refusals.inRange g h ∷ leb (h .at + h .len) (Layout.highest g) ∷ leb (h .len) room ∷ []))
+      Refusals.handleRefusals g d h (all (Handles.inRange g h ∷ leb (h .at + h .len) (Layout.highest g) ∷ leb (h .len) room ∷ []))
       (Refusals.protected g d 4 h ∷ Refusals.cannotGrow g d (h .slot) (toWrite m h))
 
   -- Write record, from the buffer's start: the file grows; bytes between the old size and the position become zero; the record; the size
@@ -51,10 +52,10 @@ module _ (g : Geometry) (d : List ℕ) where
   writeRecord m h b =
       let s = h .slot in let old = Entries.sizeOf g d s in let end = h .at + h .len in
       let no = Refusals.first (writeRefusals m h (length b)) in
-      let d₁ = Refusals.larger g d s (toWrite m h) in
+      let d₁ = Growth.withGranules g d s (toWrite m h) in
       let f = Chain.place g d₁ s in
       let d₂ = store f d₁ old (replicate (h .at - old) 0) in
       let d₃ = store f d₂ (h .at) (take (h .len) b) in (
-        record { refusal = Refusals.refusal g d no; handle = cond (Refusals.accepted no) (Refusals.movedTo h end) h },
-        cond (Refusals.accepted no) (withSize d₃ s (sizeAfter m old end)) d,
+        record { refusal = Refusals.refusal g d no; handle = cond (Refusals.accepted no) (Handles.movedTo h end) h },
+        cond (Refusals.accepted no) (withSize g d₃ s (sizeAfter m old end)) d,
       )

@@ -6,7 +6,7 @@ pub struct Geometry {
     pub blocks: usize,
     pub units: usize,
     pub start: usize,
-    pub anyone: u16,
+    pub noPassword: u16,
     pub system: bool,
     pub granule: usize,
 }

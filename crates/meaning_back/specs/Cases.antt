@@ -7,7 +7,7 @@ use lib.ListN.{replicate}
 use Rattle.meaning.specs.Refusal.{unplaced}
 use Rattle.meaning.specs.Kill.{kill}
 use Rattle.meaning.specs.BringBack.{bringBack}
-use Rattle.meaning.specs.Samples.{changed, written, held, puls, leer, three, sample, gaps, hits, e80, e81, e82, eA3, opened}
+use Rattle.meaning_table.specs.Samples.{changed, written, held, puls, leer, three, sample, gaps, hits, e80, e81, e82, eA3, opened}
 use Rattle.meaning.specs.declared.BroughtBack.{BroughtBack}
 
 -- the sample disk after the kill of PULS01/DAT, an entry and an extension, granules 3, 4, 2, 5, 6, 11 and 10

@@ -5,7 +5,7 @@ use Prim.Native.Nat.{ℕ}
 use Rattle.meaning.specs.Layout
 use Rattle.meaning.specs.Refusal.{unplaced}
 use Rattle.meaning.specs.Refusals.{check}
-use Rattle.meaning.specs.Samples.{laid, sample, opened}
+use Rattle.meaning_table.specs.Samples.{laid, sample, opened}
 use Rattle.meaning_facts.specs.Disks.{disk}
 
 -- position 0 to 1,966,080, sector 0 to 7,679: what 192 blocks of 8 units hold

@@ -8,7 +8,7 @@ use lib.ListN.{length, replicate}
 use Rattle.meaning.specs.Lists.{count, each, has}
 use Rattle.meaning.specs.Names.{hash}
 use Rattle.meaning.specs.Allot.{allot}
-use Rattle.meaning.specs.Samples.{laid, held, leer, opened}
+use Rattle.meaning_table.specs.Samples.{laid, held, leer, opened}
 use Rattle.meaning.specs.declared.Geometry.{Geometry}
 use Rattle.meaning.specs.declared.Handle.{Handle}
 use Rattle.meaning_facts.specs.Disks.{answered, disk}

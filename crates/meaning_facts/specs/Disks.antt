@@ -6,7 +6,7 @@ use lib.Dec.{eqb}
 use lib.ListN.{replicate}
 use Rattle.meaning.specs.Lists.{count, each}
 use Rattle.meaning.specs.Refusal.{unplaced}
-use Rattle.meaning.specs.Samples.{laid, changed, leer, sample, hits, e80, eA3}
+use Rattle.meaning_table.specs.Samples.{laid, changed, leer, sample, hits, e80, eA3}
 use Rattle.meaning.specs.declared.Geometry.{Geometry}
 use Rattle.meaning.specs.declared.Handle.{Handle}
 use Rattle.meaning.specs.declared.Answer.{Answer}
@@ -47,17 +47,17 @@ answered number h = record { refusal = unplaced number; handle = h }
 
 -- a geometry: blocks, units per block, directory start
 abbrev pub disk : ℕ → ℕ → ℕ → Geometry
-disk blocks units start = record { blocks = blocks; units = units; start = start; anyone = 0; system = true; granule = 5 }
+disk blocks units start = record { blocks = blocks; units = units; start = start; noPassword = 0; system = true; granule = 5 }
 
 -- A crowded disk --------------------------------------------------------------------------------------------------------------
 
 -- 17 blocks of 8 units
 abbrev pub crowd : Geometry
-crowd = record { blocks = 17; units = 8; start = 0; anyone = 0; system = true; granule = 5 }
+crowd = record { blocks = 17; units = 8; start = 0; noPassword = 0; system = true; granule = 5 }
 
 -- the same, stated as a data disk (02 §4)
 abbrev pub crowdOfData : Geometry
-crowdOfData = record { blocks = 17; units = 8; start = 0; anyone = 0; system = false; granule = 5 }
+crowdOfData = record { blocks = 17; units = 8; start = 0; noPassword = 0; system = false; granule = 5 }
 
 -- the slot of entry i of a chain through all 32 permitted slots, row by row
 abbrev slotOf : ℕ → ℕ

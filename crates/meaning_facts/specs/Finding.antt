@@ -5,13 +5,13 @@ use mathlib.Core.Bool.{true, false}
 use mathlib.Core.List.{[], _∷_, _++_}
 use lib.ListN.{replicate}
 use Rattle.meaning.specs.Refusal.{unplaced, placed}
-use Rattle.meaning.specs.Refusals.{noHandle}
+use Rattle.meaning.specs.Handles.{noHandle}
 use Rattle.meaning.specs.Names.{hash}
 use Rattle.meaning.specs.LookUp.{lookUp}
 use Rattle.meaning.specs.Open.{open′}
 use Rattle.meaning.specs.Create.{create}
 use Rattle.meaning.specs.Trim.{trim}
-use Rattle.meaning.specs.Samples.{changed, written, held, puls, small, leer, three, sample, hits, e82, opened}
+use Rattle.meaning_table.specs.Samples.{changed, written, held, puls, small, leer, three, sample, hits, e82, opened}
 use Rattle.meaning.specs.declared.NewFile.{NewFile}
 use Rattle.meaning_facts.specs.Disks.{broken, answered, mixed, puls13, neu, neu′, crowd, crowdOfData, crowded}
 

@@ -9,7 +9,7 @@ use Rattle.meaning.specs.Names.{hash}
 use Rattle.meaning.specs.Allot.{allot}
 use Rattle.meaning.specs.Trim.{trim}
 use Rattle.meaning.specs.Kill.{kill}
-use Rattle.meaning.specs.Samples.{changed, written, held, puls, leer, three, sample, gaps, filled, hits, e80, e81, eA3, opened}
+use Rattle.meaning_table.specs.Samples.{changed, written, held, puls, leer, three, sample, gaps, filled, hits, e80, e81, eA3, opened}
 use Rattle.meaning_facts.specs.Disks.{fixed, kept, answered, crowd, crowdOfData, crowded}
 
 -- Allot -------------------------------------------------------------------------------------------------------------------

@@ -4,7 +4,7 @@ use mathlib.Core.List.{List, [], _∷_}
 use lib.ListN.{replicate}
 use Prim.Native.Nat.{ℕ}
 use Rattle.meaning.specs.Names.{comesIn}
-use Rattle.meaning.specs.Samples.{puls, small, opened}
+use Rattle.meaning_table.specs.Samples.{puls, small, opened}
 use Rattle.meaning_facts.specs.Disks.{mixed}
 
 -- puls01__dat and Puls01__Dat are PULS01/DAT, as PULS01__DAT is

@@ -4,7 +4,7 @@ use mathlib.Core.Path.{_≡_, refl}
 use mathlib.Core.List.{[], _∷_}
 use Rattle.meaning.specs.Refusal.{unplaced}
 use Rattle.meaning.specs.Read.{readRecord, readSector}
-use Rattle.meaning.specs.Samples.{changed, held, puls, three, sample, eA3, opened}
+use Rattle.meaning_table.specs.Samples.{changed, held, puls, three, sample, eA3, opened}
 use Rattle.meaning_facts.specs.Disks.{answered}
 
 -- Read record -------------------------------------------------------------------------------------------------------------

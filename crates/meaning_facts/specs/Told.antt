@@ -7,8 +7,9 @@ use lib.ListN.{replicate}
 use Rattle.meaning.specs.Refusal.{unplaced, placed}
 use Rattle.meaning.specs.Listing.{list, counts, listing, noFile}
 use Rattle.meaning.specs.FreeSpace.{freeSpace}
-use Rattle.meaning.specs.Plain.{reserved, overwritten}
-use Rattle.meaning.specs.Samples.{laid, changed, puls, leer, three, sample, e80, e81, opened}
+use Rattle.meaning.specs.Plain.{overwritten}
+use Rattle.meaning.specs.Free.{reserved}
+use Rattle.meaning_table.specs.Samples.{laid, changed, puls, leer, three, sample, e80, e81, opened}
 use Rattle.meaning.specs.declared.Mode.the-variants.{Sequential, Random}
 use Rattle.meaning_facts.specs.Disks.{broken, flagged, disk}
 

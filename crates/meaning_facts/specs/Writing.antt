@@ -3,7 +3,7 @@ use Prim.Native.Nat.{ℕ, _+_}
 use mathlib.Core.Path.{_≡_, refl}
 use mathlib.Core.List.{List, [], _∷_}
 use Rattle.meaning.specs.Write.{writeRecord}
-use Rattle.meaning.specs.Samples.{changed, held, leer, three, sample, e80, opened}
+use Rattle.meaning_table.specs.Samples.{changed, held, leer, three, sample, e80, opened}
 use Rattle.meaning.specs.declared.Mode.the-variants.{Sequential, Random}
 use Rattle.meaning_facts.specs.Disks.{flagged, fixed, answered}
 

@@ -5,7 +5,7 @@ use mathlib.Core.Path.{_≡_, refl}
 use mathlib.Core.Bool.{true}
 use mathlib.Core.List.{List, [], _∷_}
 use Rattle.meaning.specs.Fault.{fault}
-use Rattle.meaning.specs.Samples.{laid, changed, three, sample, hits, e80, e81, eA3, opened}
+use Rattle.meaning_table.specs.Samples.{laid, changed, three, sample, hits, e80, e81, eA3, opened}
 use Rattle.meaning.specs.declared.Geometry.{Geometry}
 use Rattle.meaning.specs.Refusal.{placed}
 use Rattle.meaning.specs.declared.Refusal.{Refusal}
@@ -35,7 +35,7 @@ abbrev whole : ℕ → List ℕ
 whole above = laid 0 ((0, 0x0f ∷ 0x01 ∷ []) ∷ (hits + 0x1f, above ∷ []) ∷ []) 5120
 
 abbrev four : Geometry
-four = record { blocks = 1; units = 4; start = 0; anyone = 0; system = true; granule = 5 }
+four = record { blocks = 1; units = 4; start = 0; noPassword = 0; system = true; granule = 5 }
 
 directory-fits : Judged four (whole 10) 0 256
 unfolding opened

@@ -3,7 +3,7 @@ use Prim.Native.Nat.{ℕ, _+_}
 use mathlib.Core.Path.{_≡_, refl}
 use mathlib.Core.List.{List, [], _∷_}
 use Rattle.meaning.specs.Fault.{fault}
-use Rattle.meaning.specs.Samples.{changed, written, three, sample, filled, hits, e80, e81, e82, eA3, opened}
+use Rattle.meaning_table.specs.Samples.{changed, written, three, sample, filled, hits, e80, e81, e82, eA3, opened}
 use Rattle.meaning.specs.Refusal.{placed}
 use Rattle.meaning.specs.declared.Refusal.{Refusal}
 

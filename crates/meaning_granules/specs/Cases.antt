@@ -13,14 +13,14 @@ use Rattle.meaning.specs.Read.{readSector}
 use Rattle.meaning.specs.Allot.{allot}
 use Rattle.meaning.specs.Trim.{trim}
 use Rattle.meaning.specs.FreeSpace.{freeSpace}
-use Rattle.meaning.specs.Samples.{laid, changed, held, leer, hits, e80, opened}
+use Rattle.meaning_table.specs.Samples.{laid, changed, held, leer, hits, e80, opened}
 use Rattle.meaning.specs.declared.Geometry.{Geometry}
 use Rattle.meaning.specs.declared.Handle.{Handle}
 use Rattle.meaning.specs.declared.Answer.{Answer}
 
 -- blocks, units per block, directory start, sectors per granule
 abbrev disk : ℕ → ℕ → ℕ → ℕ → Geometry
-disk blocks units start granule = record { blocks = blocks; units = units; start = start; anyone = 0; system = true; granule = granule }
+disk blocks units start granule = record { blocks = blocks; units = units; start = start; noPassword = 0; system = true; granule = granule }
 
 -- 8 blocks of 2 units, 10 sectors per granule, the directory at the front
 abbrev ten : Geometry

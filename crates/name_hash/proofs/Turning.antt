@@ -12,8 +12,8 @@ use lib.Dec.{eqb}
 use borrow.Author.Tests.{eqb-true}
 use Rattle.meaning.specs.Lists.{through}
 use Rattle.meaning.specs.Names.{rotate, mix}
-use Rattle.layout.proofs.Lists.{and-l, and-r}
-use Rattle.seek.proofs.Below.{allBelow, all-below}
+use Rattle.lists.specs.Tests.{and-l, and-r}
+use Rattle.lists.specs.Below.{allBelow, all-below}
 use Rattle.name_hash.specs.Short.{fourBlanks}
 use Rattle.name_hash.proofs.Mixing.{through-more}
 

@@ -14,7 +14,7 @@ use Rattle.meaning.specs.Names.{letter, wellFormed, foldByte, fold, blanks, goo
 use Rattle.meaning.specs.Refusal.{placeOf}
 use Rattle.meaning.specs.declared.Incoming.{Incoming}
 use Rattle.meaning.specs.declared.Refusal.{Refusal}
-use Rattle.laws.specs.Members
+use Rattle.lists.specs.Members
 use Rattle.laws.specs.Spelling.{fold-well, fold-length, well-place, place-well}
 use Rattle.name_spelling.specs.Hands.{Hands}
 use Rattle.name_spelling.proofs.Name.{part-more, part-none, type-part}

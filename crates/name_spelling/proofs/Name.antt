@@ -10,7 +10,7 @@ use lib.Seq.{drop-cons, take-all}
 use lib.Dec.{eqb}
 use Rattle.meaning.specs.Lists.{every}
 use Rattle.meaning.specs.Names.{letter, padded}
-use Rattle.layout.proofs.Laws.{left-more, left-none}
+use Rattle.lists.specs.Ranges.{left-more, left-none}
 
 module _ (n : List ℕ) (to i : ℕ) where
   -- the part from i up to `to` has one byte more than the part after it

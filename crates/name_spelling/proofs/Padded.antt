@@ -13,8 +13,8 @@ use borrow.Author.Tests.{eq-eqb, ne-eqb, eqb-true, leb-true, not-true}
 use Rattle.meaning.specs.Lists.{every}
 use Rattle.meaning.specs.Names.{letter, padded, wellFormed}
 use Rattle.layout.specs.Number.{number}
-use Rattle.layout.proofs.Lists.{and-l, and-r}
-use Rattle.seek.proofs.Below.{allBelow, all-below}
+use Rattle.lists.specs.Tests.{and-l, and-r}
+use Rattle.lists.specs.Below.{allBelow, all-below}
 use Rattle.name_spelling.specs.Plain.{plain}
 use Rattle.name_spelling.proofs.Name.{part-more}
 

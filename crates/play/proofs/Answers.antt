@@ -14,12 +14,12 @@ use Rattle.meaning.specs.Fault.{fault}
 use Rattle.meaning.specs.Refusals.{first, check, refusal, faultNumbers}
 use Rattle.meaning.specs.declared.Geometry.{Geometry}
 use Rattle.meaning.specs.declared.Refusal.{Refusal}
-use Rattle.laws.specs.Members
-use Rattle.laws.specs.Members.{In}
+use Rattle.lists.specs.Members
+use Rattle.lists.specs.Members.{In}
 use Rattle.laws.specs.Fault
 use Rattle.laws.specs.Passed.{check-one, check-number}
-use Rattle.layout.proofs.Lists.{first-hit, first-skip, first-none, not-yes, not-no}
-use Rattle.handle.proofs.Laws.{check-stop, check-then, handed, handed-on}
+use Rattle.lists.specs.Tests.{first-hit, first-skip, first-none, not-yes, not-no}
+use Rattle.passed.proofs.Checked.{check-stop, check-then, handed, handed-on}
 use Rattle.play_trace.specs.Reading.{readTrace, stepsOf, namesOf, tell}
 use Rattle.play_trace.specs.declared.Checked.{Checked}
 use Rattle.promises_trace.specs.Promises.{calls-told}

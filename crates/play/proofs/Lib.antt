@@ -1,3 +1,3 @@
-pub mod Laws
+pub mod OneCall
 pub mod Loop
 pub mod Answers

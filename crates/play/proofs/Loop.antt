@@ -10,7 +10,7 @@ use lib.Seq.{take-suc, set-at, drop-cons, take-length, length-take-le}
 use Rattle.meaning.specs.Refusals.{check}
 use Rattle.meaning.specs.declared.Geometry.{Geometry}
 use Rattle.meaning.specs.declared.Refusal.{Refusal}
-use Rattle.laws.specs.Members
+use Rattle.lists.specs.Members
 use Rattle.laws.specs.Facts
 use Rattle.laws.specs.Bytes.{small-bytes}
 use Rattle.laws.specs.Passed.{check-passed, check-none, served-check}

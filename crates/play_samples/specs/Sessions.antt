@@ -5,7 +5,7 @@ use mathlib.Core.List.{List, [], _∷_, _++_}
 use lib.ListN.{replicate, take}
 use Rattle.meaning.specs.Refusal.{unplaced, placed}
 use Rattle.meaning.specs.Calls.{number, leaves}
-use Rattle.meaning.specs.Samples.{changed, written, three, gaps, hits, e81, opened}
+use Rattle.meaning_table.specs.Samples.{changed, written, three, gaps, hits, e81, opened}
 use Rattle.play_trace.specs.declared.Call.{Call}
 use Rattle.play_trace.specs.declared.Call.the-variants.{Create, SequentialWrite, RandomWrite, Allot, Trim, Kill, Read}
 use Rattle.play_trace.specs.declared.Step.{Step}

@@ -11,6 +11,7 @@ use mathlib.Core.List.{List, [], _∷_, _++_}
 use lib.Dec.{eqb, ltb}
 use lib.ListN.{length, getD, drop, replicate}
 use Rattle.meaning.specs.Refusals
+use Rattle.meaning.specs.Handles
 use Rattle.meaning.specs.Open.{open′}
 use Rattle.meaning.specs.Calls as Single
 use Rattle.meaning.specs.Calls.Call.{creates, writes, allots, trims, kills}
@@ -47,12 +48,12 @@ module _ (g : Geometry) (d : List ℕ) where
   -- Each of the seven on the file called n. A write is lent a buffer full of its fill byte; a read's buffer is looked at by nobody.
   unfoldable pub made : List ℕ → Call → ℕ × List ℕ
   made n (Create a) = single (creates n (undated (a .length)) false)
-  made n (SequentialWrite a) = afterOpen n (a .length) (λ h. writes Sequential (Refusals.movedTo h (a .position)) (replicate longest (a .fill)))
-  made n (RandomWrite a) = afterOpen n (a .length) (λ h. writes Random (Refusals.movedTo h (a .position)) (replicate longest (a .fill)))
+  made n (SequentialWrite a) = afterOpen n (a .length) (λ h. writes Sequential (Handles.movedTo h (a .position)) (replicate longest (a .fill)))
+  made n (RandomWrite a) = afterOpen n (a .length) (λ h. writes Random (Handles.movedTo h (a .position)) (replicate longest (a .fill)))
   made n (Allot a) = afterOpen n longest (λ h. allots h (a .sector))
   made n Trim = afterOpen n longest trims
   made n Kill = afterOpen n longest kills
-  made n (Read a) = afterOpen n (a .length) (λ h. Single.Call.reads (Refusals.movedTo h (a .position)) (replicate longest 0))
+  made n (Read a) = afterOpen n (a .length) (λ h. Single.Call.reads (Handles.movedTo h (a .position)) (replicate longest 0))
 
 module _ (g : Geometry) (ns : List (List ℕ)) where
   -- a step: its call on the file whose name has its number

@@ -3,7 +3,7 @@ use mathlib.Core.Path.{_≡_}
 use mathlib.Core.List.{List, [], _∷_, _++_}
 use Prim.Native.Nat.{ℕ, zero, suc, _+_, _*_, _/_, _^_, _≤_, _<_}
 use lib.ListN.{length}
-use Rattle.meaning.specs.Plain.{AreBytes}
+use Rattle.promises_words.specs.Given.{AreBytes}
 use Rattle.play_trace.specs.Bits.{bitsOf, bits, bytesOf}
 use Rattle.play_trace.specs.Steps.{Field, fields, widthOf, valueOf, numbersOf, endMark}
 use Rattle.play_trace.specs.Reading.{Trace}

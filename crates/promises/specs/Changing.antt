@@ -14,7 +14,8 @@ use Rattle.meaning.specs.Bits.{digit}
 use Rattle.meaning.specs.Chain.{chain, owned}
 use Rattle.meaning.specs.Free.{freeGranules}
 use Rattle.meaning.specs.LookUp.{named}
-use Rattle.meaning.specs.Refusals.{movedTo, inRange, protected, cannotGrow, first}
+use Rattle.meaning.specs.Refusals.{protected, cannotGrow, first}
+use Rattle.meaning.specs.Handles.{movedTo, inRange}
 use Rattle.meaning.specs.Names.{fold}
 use Rattle.meaning.specs.Create.{create, newSlot}
 use Rattle.meaning.specs.Write.{writeRecord, toWrite}
@@ -22,20 +23,20 @@ use Rattle.meaning.specs.Allot.{allot, toAllot}
 use Rattle.meaning.specs.Trim.{trim}
 use Rattle.meaning.specs.Kill.{kill}
 use Rattle.meaning.specs.Calls.{Call}
-use Rattle.meaning.specs.Plain.{File, Found, found, nothing, fileAt, plain, with′, hush, bornAs, writtenTo, allottedTo, trimmed, beyond, Aside}
+use Rattle.meaning.specs.Plain.{File, Found, found, nothing, fileAt, plain, with′, bornAs, writtenTo, allottedTo, trimmed}
+use Rattle.promises_words.specs.Untouched.{hush, beyond, Aside}
 use Rattle.meaning.specs.declared.Geometry.{Geometry}
 use Rattle.meaning.specs.declared.Handle.{Handle}
 use Rattle.meaning.specs.declared.NewFile.{NewFile}
 use Rattle.meaning.specs.declared.Mode.{Mode}
-use Rattle.laws.specs.Members
-use Rattle.laws.specs.Members.{In}
+use Rattle.lists.specs.Members
+use Rattle.lists.specs.Members.{In}
 use Rattle.laws.specs.Facts
 use Rattle.laws.specs.Places
 use Rattle.laws.specs.Named
 use Rattle.laws.specs.Touch
 use Rattle.laws.specs.Touch.{Touch}
 use Rattle.laws.specs.Words.{words}
-use Rattle.laws.specs.Others
 use Rattle.laws.specs.Passed
 use Rattle.laws.specs.Passed.{Holds}
 use Rattle.promises.specs.KillMeans
@@ -113,7 +114,7 @@ module _ (g : Geometry) (d d′ : List ℕ) (h : Handle) (w : Holds g d h) (is :
   named-here = Named.named-is g d (w .sound) (h .slot) (w .file)
 
 -- the handle of a file that is still there
-alive : (g : Geometry) (d d′ : List ℕ) (h h′ : Handle) → Holds g d h → Facts.File g d′ (h .slot) → nameOf g d′ (h .slot) ≡ nameOf g d (h .slot) → h′ .slot ≡ h .slot → h′ .name ≡ h .name
+alive : (g : Geometry) (d d′ : List ℕ) (h h′ : Handle) → Holds g d h → Facts.IsFile g d′ (h .slot) → nameOf g d′ (h .slot) ≡ nameOf g d (h .slot) → h′ .slot ≡ h .slot → h′ .name ≡ h .name
     → Live g d′ h′
 alive g d d′ h h′ w f n s m = record {
   slot = rw s (f .slot);

@@ -13,15 +13,16 @@ use Rattle.meaning.specs.Names.{wellFormed, fold}
 use Rattle.meaning.specs.Entries.{nameOf}
 use Rattle.meaning.specs.Chain.{chain}
 use Rattle.meaning.specs.Consistent.{consistent}
-use Rattle.meaning.specs.Free.{freeSlots, freeGranules}
+use Rattle.meaning.specs.Free.{freeSlots, freeGranules, reserved}
 use Rattle.meaning.specs.Create.{create, newSlot}
 use Rattle.meaning.specs.LookUp.{named, missing}
-use Rattle.meaning.specs.Plain.{Found, found, nothing, plain, hush, reserved, bornAs, beyond}
+use Rattle.meaning.specs.Plain.{Found, found, nothing, plain, bornAs}
+use Rattle.promises_words.specs.Untouched.{hush, beyond}
 use Rattle.meaning.specs.declared.Geometry.{Geometry}
 use Rattle.meaning.specs.declared.NewFile.{NewFile}
-use Rattle.laws.specs.Members
+use Rattle.lists.specs.Members
 use Rattle.laws.specs.Facts
-use Rattle.laws.specs.Facts.{File, Sound}
+use Rattle.laws.specs.Facts.{IsFile, Sound}
 use Rattle.laws.specs.Places
 use Rattle.laws.specs.Change
 use Rattle.laws.specs.Named
@@ -42,7 +43,7 @@ pub record CreateMeans (g : Geometry) (d d′ n : List ℕ) (f : NewFile) : Type
   pub was : plain g d n ≡ nothing
 
 create-made : (g : Geometry) (d : List ℕ) (c : Sound g d) (k : Places.Fits g d) (x : ℕ) (t : T (isSlot g d x)) (z : hit g d x ≡ 0)
-    (n : List ℕ) (w : T (wellFormed n)) (f : NewFile) (free : (q : ℕ) → File g d q → nameOf g d q ≢ n)
+    (n : List ℕ) (w : T (wellFormed n)) (f : NewFile) (free : (q : ℕ) → IsFile g d q → nameOf g d q ≢ n)
     → CreateMeans g d (Create.made g d c k x t z n w f free) n f
 create-made g d c k x t z n w f free =
     let d′ = Create.made g d c k x t z n w f free in
@@ -63,7 +64,7 @@ create-made g d c k x t z n w f free =
       was = Named.plain-none g d n free;
     }
 
-pub none-missing : (g : Geometry) (d : List ℕ) → Sound g d → (n : List ℕ) → T (missing g d n) → (q : ℕ) → File g d q → nameOf g d q ≢ n
+pub none-missing : (g : Geometry) (d : List ℕ) → Sound g d → (n : List ℕ) → T (missing g d n) → (q : ℕ) → IsFile g d q → nameOf g d q ≢ n
 none-missing g d c n t q f e = subst (λ (l : List ℕ). T (eqb (length l) 0)) (ap (named g d) (sym e) ∙ Named.named-is g d c q f) t
 
 new-of : (a b : Bool) → T a → (a && not b) ≡ false → T b
@@ -73,7 +74,7 @@ new-of false b t e = absurd t
 
 -- the new file's slot and name
 pub record Placed (g : Geometry) (d d′ n : List ℕ) (x : ℕ) : Type 0 where
-  pub file : File g d′ x
+  pub file : IsFile g d′ x
   pub name′ : nameOf g d′ x ≡ n
   pub touch : Touch.Touch g (chain g d′ x) [] d d′
 

@@ -11,7 +11,8 @@ use Rattle.meaning.specs.Lists.{count, keep, all, has, firstOr}
 use Rattle.meaning.specs.Layout.{slots, isSlot, hit}
 use Rattle.meaning.specs.Names.{hash, fold}
 use Rattle.meaning.specs.Entries.{nameOf, accessLevel}
-use Rattle.meaning.specs.Refusals.{first, goodLength, newInRange}
+use Rattle.meaning.specs.Refusals.{first, newInRange}
+use Rattle.meaning.specs.Handles.{goodLength}
 use Rattle.meaning.specs.LookUp.{candidates, carries, comparedIn, named, missing, slotOf, lookUp}
 use Rattle.meaning.specs.Open.{full, admits, openedAt, open′}
 use Rattle.meaning.specs.Create.{create, newSlot}
@@ -19,8 +20,8 @@ use Rattle.meaning.specs.Calls.{Call, number}
 use Rattle.meaning.specs.Plain.{File, found, fileAt}
 use Rattle.meaning.specs.declared.Geometry.{Geometry}
 use Rattle.meaning.specs.declared.NewFile.{NewFile}
-use Rattle.laws.specs.Members
-use Rattle.laws.specs.Members.{In}
+use Rattle.lists.specs.Members
+use Rattle.lists.specs.Members.{In}
 use Rattle.laws.specs.Facts
 use Rattle.laws.specs.Facts.{Sound}
 use Rattle.laws.specs.Named
@@ -37,7 +38,7 @@ use Rattle.promises.specs.Changing
 -- the file of a name that is not missing
 pub record Whose (g : Geometry) (d n : List ℕ) (p : ℕ) : Type 0 where
   pub alone : named g d n ≡ p ∷ []
-  pub file : Facts.File g d p
+  pub file : Facts.IsFile g d p
   pub name′ : nameOf g d p ≡ n
 
 -- The count --------------------------------------------------------------------------------------------------------------------------
@@ -86,7 +87,7 @@ module _ (g : Geometry) (d : List ℕ) (c : Sound g d) (n : List ℕ) where
   pub whose : (T (missing g d n) → ⊥) → (p : ℕ) × Whose g d n p
   whose k = go (Named.look g d c n)
     where
-      go : ((p : ℕ) × Facts.File g d p × (nameOf g d p ≡ n)) ⊎ ((p : ℕ) → Facts.File g d p → nameOf g d p ≢ n) → (p : ℕ) × Whose g d n p
+      go : ((p : ℕ) × Facts.IsFile g d p × (nameOf g d p ≡ n)) ⊎ ((p : ℕ) → Facts.IsFile g d p → nameOf g d p ≢ n) → (p : ℕ) × Whose g d n p
       go (inl w) = (w .0, record { alone = Named.named-at g d c (w .0) n (w .1) (w .2); file = w .1; name′ = w .2 })
       go (inr w) = absurd (k (subst (λ (l : List ℕ). T (eqb (length l) 0)) (sym (Named.none-named g d n w)) tt))
 

@@ -15,8 +15,7 @@ use Rattle.meaning.specs.Growth
 use Rattle.meaning.specs.Growth.{takeAt, grow, growBy, growth}
 use Rattle.meaning.specs.Choice.{Free, Choice, view, NothingFits}
 use Rattle.meaning.specs.declared.Geometry.{Geometry}
-use Rattle.laws.specs.Members
-use Rattle.laws.specs.Facts.{Sound, File}
+use Rattle.laws.specs.Facts.{Sound, IsFile}
 use Rattle.laws.specs.Places
 use Rattle.laws.specs.Change
 use Rattle.laws.specs.Longer
@@ -50,7 +49,7 @@ module _ (g : Geometry) (p : ℕ) where
   pub record Known (k : ℕ) (d : List ℕ) : Type 0 where
     pub sound : Sound g d
     pub fits : Places.Fits g d
-    pub file : File g d p
+    pub file : IsFile g d p
     pub user : T (not (system g d p))
     pub enough : k ≤ length (freeGranules g d)
 
@@ -90,7 +89,7 @@ module _ (g : Geometry) (p : ℕ) where
           enough = omega (arith, o .enough, Longer.grown-free g d d′ (o .sound) p (o .file) (w .which) (w .longer));
         }
 
-    step : (d d′ : List ℕ) (c : Sound g d) (w : Places.Fits g d) (f : File g d p) (t : Growth.Grown) → t ≡ Growth.grown d′ → View.Took g d c w p f (choice d) t
+    step : (d d′ : List ℕ) (c : Sound g d) (w : Places.Fits g d) (f : IsFile g d p) (t : Growth.Grown) → t ≡ Growth.grown d′ → View.Took g d c w p f (choice d) t
         → Step 32 (granules g) (view g p d) (view g p d′)
     step d d′ c w f t e (View.Took.longer l h) = Words.Step.longer (subst (λ (x : List ℕ). Words.Lengthens 32 (granules g) (view g p d) (view g p x)) (cc) h)
     step d d′ c w f t e (View.Took.starts a h) = Words.Step.starts (choice d) (subst (λ (x : List ℕ). Words.Starts 32 (granules g) (view g p d) (view g p x) (choice d)) (cc) h)
@@ -105,7 +104,7 @@ module _ (g : Geometry) (p : ℕ) where
           (known-next k d d′ o q, step d d′ (o .sound) (o .fits) (o .file) (takeAt g p (choice d) d) q (View.took g d (o .sound) (o .fits) p (o .file) (choice d) (h .0) (h .1)));
     }
 
-  second-step : (d d′ : List ℕ) (c : Sound g d) (w : Places.Fits g d) (f : File g d p) (t : Growth.Grown) → t ≡ Growth.grown d′ → View.Took g d c w p f (longest d) t
+  second-step : (d d′ : List ℕ) (c : Sound g d) (w : Places.Fits g d) (f : IsFile g d p) (t : Growth.Grown) → t ≡ Growth.grown d′ → View.Took g d c w p f (longest d) t
       → Second 32 (granules g) (view g p d) (view g p d′)
   second-step d d′ c w f t e (View.Took.longer l h) = Words.Second.longer (subst (λ (x : List ℕ). Words.Lengthens 32 (granules g) (view g p d) (view g p x)) (cc) h)
   second-step d d′ c w f t e (View.Took.starts a h) =
@@ -113,7 +112,7 @@ module _ (g : Geometry) (p : ℕ) where
       (subst (λ (x : List ℕ). Words.Starts 32 (granules g) (view g p d) (view g p x) (longest d)) (cc) h)
   second-step d d′ c w f t e (View.Took.none a r) = absurd (let z : _≡_ {A = ℕ} 0 1 = cc in omega arith)
 
-  second-stops : (d : List ℕ) (c : Sound g d) (w : Places.Fits g d) (f : File g d p) (t : Growth.Grown) → t ≡ Growth.noSlot → View.Took g d c w p f (longest d) t
+  second-stops : (d : List ℕ) (c : Sound g d) (w : Places.Fits g d) (f : IsFile g d p) (t : Growth.Grown) → t ≡ Growth.noSlot → View.Took g d c w p f (longest d) t
       → (CanLengthen 32 (granules g) (view g p d) → ⊥) × ((view g p d .room ≡ 0) ⊎ ((n : ℕ) → Free (granules g) (view g p d) n → ⊥))
   second-stops d c w f t e (View.Took.longer l h) = absurd (let z : _≡_ {A = ℕ} 0 1 = cc in omega arith)
   second-stops d c w f t e (View.Took.starts a h) = absurd (let z : _≡_ {A = ℕ} 0 1 = cc in omega arith)

@@ -12,22 +12,21 @@ use Rattle.meaning.specs.Layout.{granules, taken, byte, field, directoryGranule
 use Rattle.meaning.specs.Entries.{system, nameOf}
 use Rattle.meaning.specs.Chain.{chain, owned}
 use Rattle.meaning.specs.Consistent.{consistent}
-use Rattle.meaning.specs.Growth.{takeAt, Grown, grown, noSlot, grow, growBy, growth, andThen, orElse, fails, diskOr}
-use Rattle.meaning.specs.Free.{freeGranules, lowestFree, longestFree, freeSlots}
-use Rattle.meaning.specs.Plain.{fileAt, plain, hush, reserved, Found, found, allottedTo, beyond}
+use Rattle.meaning.specs.Growth.{takeAt, Grown, grown, noSlot, grow, growBy, growth, andThen, orElse, fails, diskOr, withGranules, lacking}
+use Rattle.meaning.specs.Free.{freeGranules, lowestFree, longestFree, freeSlots, reserved}
+use Rattle.meaning.specs.Plain.{fileAt, plain, Found, found, allottedTo}
+use Rattle.promises_words.specs.Untouched.{hush, beyond}
 use Rattle.meaning.specs.LookUp.{named}
 use Rattle.meaning.specs.Allot.{allot, granulesTo}
-use Rattle.meaning.specs.Refusals.{first, cannotGrow, larger, lacking}
+use Rattle.meaning.specs.Refusals.{first, cannotGrow}
 use Rattle.meaning.specs.Choice.{view}
 use Rattle.meaning.specs.declared.Geometry.{Geometry}
 use Rattle.meaning.specs.declared.Handle.{Handle}
-use Rattle.laws.specs.Members
-use Rattle.laws.specs.Members.{In}
+use Rattle.lists.specs.Members
+use Rattle.lists.specs.Members.{In}
 use Rattle.laws.specs.Facts
-use Rattle.laws.specs.Facts.{Sound, File}
+use Rattle.laws.specs.Facts.{Sound, IsFile}
 use Rattle.laws.specs.Places
-use Rattle.laws.specs.Change
-use Rattle.laws.specs.Others
 use Rattle.laws.specs.Longer
 use Rattle.laws.specs.TakeOne
 use Rattle.laws.specs.Bytes
@@ -56,7 +55,7 @@ pub record Grew (g : Geometry) (d d′ : List ℕ) (p k : ℕ) : Type 0 where
   pub same : (i : ℕ) → (In (i / granuleBytes g) (directoryGranules g d) → ⊥) → byte d′ i ≡ byte d i
 
 module _ (g : Geometry) where
-  grew-none : (d : List ℕ) (p : ℕ) → Sound g d → Places.Fits g d → File g d p → T (not (system g d p)) → Grew g d d p 0
+  grew-none : (d : List ℕ) (p : ℕ) → Sound g d → Places.Fits g d → IsFile g d p → T (not (system g d p)) → Grew g d d p 0
   grew-none d p c k f u = record {
     kept = resized-none g d p c k f u;
     above = refl;
@@ -71,7 +70,7 @@ module _ (g : Geometry) where
     same = λ i o. refl;
   }
 
-  grew-one : (d d₁ : List ℕ) (p : ℕ) → Sound g d → Places.Fits g d → File g d p → T (not (system g d p)) → (Small d → Small d₁) → Took g d d₁ p → Grew g d d₁ p 1
+  grew-one : (d d₁ : List ℕ) (p : ℕ) → Sound g d → Places.Fits g d → IsFile g d p → T (not (system g d p)) → (Small d → Small d₁) → Took g d d₁ p → Grew g d d₁ p 1
   grew-one d d₁ p c k f u b w =
       let m = w .which in let h = w .change in let l = w .longer in
       let file′ = Longer.grown-file g d d₁ c p f m l u in
@@ -110,7 +109,7 @@ module _ (g : Geometry) where
   abbrev pub Chooses : (List ℕ → ℕ) → Type 0
   Chooses choice = (d : List ℕ) → 1 ≤ length (freeGranules g d) → (choice d < granules g) × (T (taken g d (choice d)) → ⊥)
 
-  pub growBy-grew : (choice : List ℕ → ℕ) → Chooses choice → (k : ℕ) (d d′ : List ℕ) (p : ℕ) → Sound g d → Places.Fits g d → File g d p → T (not (system g d p)) → k ≤ length (freeGranules g d)
+  pub growBy-grew : (choice : List ℕ → ℕ) → Chooses choice → (k : ℕ) (d d′ : List ℕ) (p : ℕ) → Sound g d → Places.Fits g d → IsFile g d p → T (not (system g d p)) → k ≤ length (freeGranules g d)
       → growBy g p choice k d ≡ grown d′ → Grew g d d′ p k
   unfolding growBy andThen
   growBy-grew choice h zero d d′ p c w f u room q = let r : d ≡ d′ = cc in subst (λ (l : List ℕ). Grew g d l p 0) r (grew-none d p c w f u)
@@ -124,7 +123,7 @@ module _ (g : Geometry) where
           subst (λ (j : ℕ). Grew g d d′ p j) (omega arith) (grew-trans d d₁ d′ p 1 k x (ih d₁ x q))
       go noSlot e q ih = absurd (let z : _≡_ {A = ℕ} 0 1 = cc in omega arith)
 
-  pub grow-grew : (k : ℕ) (d d′ : List ℕ) (p : ℕ) → Sound g d → Places.Fits g d → File g d p → T (not (system g d p)) → k ≤ length (freeGranules g d)
+  pub grow-grew : (k : ℕ) (d d′ : List ℕ) (p : ℕ) → Sound g d → Places.Fits g d → IsFile g d p → T (not (system g d p)) → k ≤ length (freeGranules g d)
       → grow g p k d ≡ grown d′ → Grew g d d′ p k
   grow-grew = growBy-grew (lowestFree g) (TakeOne.first-free g)
 
@@ -145,7 +144,7 @@ module _ (g : Geometry) where
   else-second k d p e = rw e
 
   -- 01's growth, or the second where that found no slot
-  pub growth-grew : (k : ℕ) (d d′ : List ℕ) (p : ℕ) → Sound g d → Places.Fits g d → File g d p → T (not (system g d p)) → k ≤ length (freeGranules g d)
+  pub growth-grew : (k : ℕ) (d d′ : List ℕ) (p : ℕ) → Sound g d → Places.Fits g d → IsFile g d p → T (not (system g d p)) → k ≤ length (freeGranules g d)
       → growth g p k d ≡ grown d′ → Grew g d d′ p k
   growth-grew k d d′ p c w f u room e = go (grow g p k d) refl
     where
@@ -159,12 +158,12 @@ not-fails z (grown d) f = refl
 not-fails z noSlot f = absurd (f tt)
 
 -- what a growth that passed its refusals leaves
-pub larger-grew : (g : Geometry) (d : List ℕ) (h : Handle) (k : ℕ) → Passed.Holds g d h → first (cannotGrow g d (h .slot) k) ≡ 0 → Grew g d (larger g d (h .slot) k) (h .slot) k
+pub larger-grew : (g : Geometry) (d : List ℕ) (h : Handle) (k : ℕ) → Passed.Holds g d h → first (cannotGrow g d (h .slot) k) ≡ 0 → Grew g d (withGranules g d (h .slot) k) (h .slot) k
 larger-grew g d h k w e =
     let p₁ = Passed.passed 11 _ _ (omega arith) e in
     let p₂ = Passed.passed 9 _ _ (omega arith) (p₁ .1) in
     let p₃ = Passed.passed 8 _ _ (omega arith) (p₂ .1) in
-    growth-grew g k d (larger g d (h .slot) k) (h .slot) (w .sound) (w .fits) (w .file) (w .user)
+    growth-grew g k d (withGranules g d (h .slot) k) (h .slot) (w .sound) (w .fits) (w .file) (w .user)
     (nltb→le (length (freeGranules g d)) k (not-T (ltb (length (freeGranules g d)) k) (p₂ .0))) (not-fails d (growth g (h .slot) k d) (p₃ .0))
 
 pub record AllotMeans (g : Geometry) (d d′ : List ℕ) (p k : ℕ) : Type 0 where
@@ -176,7 +175,7 @@ pub record AllotMeans (g : Geometry) (d d′ : List ℕ) (p k : ℕ) : Type 0 wh
   pub beyond′ : (n : List ℕ) → n ≢ nameOf g d p → beyond g d′ n ≡ beyond g d n
   pub names′ : (n : List ℕ) → n ≢ nameOf g d p → named g d′ n ≡ named g d n
   pub touch : Touch g (chain g d′ p) [] d d′
-  pub file′ : File g d′ p
+  pub file′ : IsFile g d′ p
   pub name′ : nameOf g d′ p ≡ nameOf g d p
   pub small : Small d → Small d′
   pub free : length (freeGranules g d) ≡ length (freeGranules g d′) + lacking g d p (granulesTo g k)
@@ -198,7 +197,7 @@ allot-means g d h k e =
     let p = h .slot in
     let w = Passed.holds g d h _ 4 (cannotGrow g d p (lacking g d p (granulesTo g k))) e in
     let x = larger-grew g d h (lacking g d p (granulesTo g k)) (w .0) (w .1) in
-    let d′ = larger g d p (lacking g d p (granulesTo g k)) in
+    let d′ = withGranules g d p (lacking g d p (granulesTo g k)) in
     rw e (record {
       long = x .kept .long;
       consistent′ = Facts.back g d′ (x .kept .sound);

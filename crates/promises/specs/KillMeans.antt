@@ -10,14 +10,15 @@ use Rattle.meaning.specs.Layout.{taken, granules}
 use Rattle.meaning.specs.Entries.{nameOf}
 use Rattle.meaning.specs.Chain.{chain, owned}
 use Rattle.meaning.specs.Consistent.{consistent}
-use Rattle.meaning.specs.Free.{freeGranules}
+use Rattle.meaning.specs.Free.{freeGranules, reserved}
 use Rattle.meaning.specs.LookUp.{named}
 use Rattle.meaning.specs.Kill.{kill, killed}
-use Rattle.meaning.specs.Plain.{nothing, plain, hush, reserved, beyond}
+use Rattle.meaning.specs.Plain.{nothing, plain}
+use Rattle.promises_words.specs.Untouched.{hush, beyond}
 use Rattle.meaning.specs.declared.Geometry.{Geometry}
 use Rattle.meaning.specs.declared.Handle.{Handle}
-use Rattle.laws.specs.Members
-use Rattle.laws.specs.Counting
+use Rattle.lists.specs.Members
+use Rattle.lists.specs.Counting
 use Rattle.laws.specs.Facts
 use Rattle.laws.specs.Places
 use Rattle.laws.specs.Change
@@ -37,7 +38,7 @@ pub record KillMeans (g : Geometry) (d d′ : List ℕ) (p : ℕ) : Type 0 where
   pub names′ : (n : List ℕ) → n ≢ nameOf g d p → named g d′ n ≡ named g d n
   pub touch : Touch.Touch g (chain g d p) [] d d′
 
-kill-free : (g : Geometry) (d : List ℕ) (c : Facts.Sound g d) (k : Places.Fits g d) (p : ℕ) (f : Facts.File g d p)
+kill-free : (g : Geometry) (d : List ℕ) (c : Facts.Sound g d) (k : Places.Fits g d) (p : ℕ) (f : Facts.IsFile g d p)
     → length (freeGranules g (killed g d p)) ≡ length (freeGranules g d) + length (owned g d p)
 unfolding freeGranules
 kill-free g d c k p f =

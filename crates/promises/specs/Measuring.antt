@@ -14,7 +14,7 @@ use Rattle.meaning.specs.Refusals.{first}
 use Rattle.meaning.specs.Listing
 use Rattle.meaning.specs.FreeSpace.{longest, spaceRefusals, freeSpace}
 use Rattle.meaning.specs.declared.Geometry.{Geometry}
-use Rattle.laws.specs.Members
+use Rattle.lists.specs.Members
 use Rattle.laws.specs.Facts
 use Rattle.laws.specs.Tally
 use Rattle.laws.specs.Stretches

@@ -12,7 +12,7 @@ use Rattle.meaning.specs.Write.{sizeAfter}
 use Rattle.meaning.specs.Plain.{overwritten}
 use Rattle.meaning.specs.declared.Mode.{Mode}
 use Rattle.meaning.specs.declared.Mode.the-variants.{Sequential, Random}
-use Rattle.laws.specs.Members
+use Rattle.lists.specs.Members
 
 module _ (O r : List ℕ) (at : ℕ) where
   abbrev kept : List ℕ

@@ -9,7 +9,8 @@ use lib.Dec.{T, eqb, eqb→eq}
 use Rattle.meaning.specs.Lists.{all}
 use Rattle.meaning.specs.Layout.{fitsGeometry, highest}
 use Rattle.meaning.specs.Entries.{inUse, extension}
-use Rattle.meaning.specs.Refusals.{movedTo, first, handleRefusals, fresh, check, noHandle}
+use Rattle.meaning.specs.Refusals.{first, handleRefusals, check}
+use Rattle.meaning.specs.Handles.{movedTo, fresh, noHandle}
 use Rattle.meaning.specs.Names.{fold}
 use Rattle.meaning.specs.LookUp.{missing}
 use Rattle.meaning.specs.Open.{open′}
@@ -26,7 +27,7 @@ use Rattle.meaning.specs.declared.Handle.{Handle}
 use Rattle.meaning.specs.declared.NewFile.{NewFile}
 use Rattle.meaning.specs.declared.Mode.{Mode}
 use Rattle.meaning.specs.declared.Listed.{Listed}
-use Rattle.laws.specs.Members
+use Rattle.lists.specs.Members
 use Rattle.laws.specs.Facts
 use Rattle.laws.specs.Passed.{passed, yes-T}
 use Rattle.promises.specs.Promises.{Live, InRange}
@@ -50,7 +51,7 @@ module _ (g : Geometry) (d : List ℕ) (h : Handle) where
       let p₄ = passed 7 _ _ (omega arith) (p₃ .1) in
       (record { fits = w .0 .fits; sound = w .0 .sound; live = Refusing.live-iff g d h .0 (yes-T (fresh g d h) (p₄ .0)) }, yes-T b (p₃ .0), p₄ .1)
 
-  pub live-file : Live g d h → Facts.File g d (h .slot)
+  pub live-file : Live g d h → Facts.IsFile g d (h .slot)
   live-file l = record { slot = l .slot; primary′ = Members.and-i (inUse g d (h .slot)) (not (extension g d (h .slot))) (l .used) (l .first) }
 
 -- the first of two tests

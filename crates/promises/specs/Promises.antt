@@ -18,11 +18,12 @@ use Rattle.meaning.specs.Names.{hash, letter, wellFormed, fold, noPlace, comesI
 use Rattle.meaning.specs.Entries.{inUse, extension, nameOf, sectorCount}
 use Rattle.meaning.specs.Chain.{chain, owned, files}
 use Rattle.meaning.specs.Consistent.{consistent}
-use Rattle.meaning.specs.Free.{freeGranules, freeSlots}
+use Rattle.meaning.specs.Free.{freeGranules, freeSlots, reserved}
 use Rattle.meaning.specs.Choice.{NothingFits}
 use Rattle.meaning.specs.Refusal.{unplaced}
 use Rattle.meaning.specs.Fault.{fault}
-use Rattle.meaning.specs.Refusals.{movedTo, noHandle, faultNumbers}
+use Rattle.meaning.specs.Refusals.{faultNumbers}
+use Rattle.meaning.specs.Handles.{movedTo, noHandle}
 use Rattle.meaning.specs.LookUp.{lookUp, named}
 use Rattle.meaning.specs.Open.{open′}
 use Rattle.meaning.specs.Create.{create}
@@ -36,7 +37,9 @@ use Rattle.meaning.specs.Listing.{listed, noFile}
 use Rattle.meaning.specs.FreeSpace.{freeSpace}
 use Rattle.meaning.specs.Calls.{Call, number, leaves}
 use Rattle.meaning.specs.Calls.Call.{checks, looksUp, opens, creates, reads, readsSector, writes, allots, trims, kills, lists, counts, measures}
-use Rattle.meaning.specs.Plain.{File, Found, found, nothing, fileAt, plain, with′, isSystem, hush, beyond, Aside, bornAs, writtenTo, allottedTo, trimmed, AreBytes, CodesFit, reserved}
+use Rattle.meaning.specs.Plain.{File, Found, found, nothing, fileAt, plain, with′, isSystem, bornAs, writtenTo, allottedTo, trimmed}
+use Rattle.promises_words.specs.Untouched.{hush, beyond, Aside}
+use Rattle.promises_words.specs.Given.{AreBytes, CodesFit}
 use Rattle.meaning.specs.declared.Geometry.{Geometry}
 use Rattle.meaning.specs.declared.Handle.{Handle}
 use Rattle.meaning.specs.declared.NewFile.{NewFile}
@@ -161,7 +164,7 @@ pub record LooksUp (g : Geometry) (d n : List ℕ) : Type 0 where
 
 -- level 0 if checking is off, the main code is the "no password" code, or the given code equals the main code
 abbrev pub Full : Geometry → File → Bool → ℕ → Type 0
-Full g f checking code = (checking ≡ false) ⊎ ((mainCode f ≡ g .anyone) ⊎ (code ≡ mainCode f))
+Full g f checking code = (checking ≡ false) ⊎ ((mainCode f ≡ g .noPassword) ⊎ (code ≡ mainCode f))
 
 -- Open: a live handle of the file called n, in range, at position 0, the record length as given; the level as the plain file's codes say
 pub record Opened (g : Geometry) (d n : List ℕ) (len : ℕ) (checking : Bool) (code : ℕ) (h : Handle) : Type 0 where
@@ -297,7 +300,7 @@ Exactly answer rs = Rows answer (Unit {0}) rs
 
 -- blocks 1 to 192, units per block 1 to 8, 5, 10 or 20 sectors per granule, directory start a multiple of these; the image length is blocks ×
 -- units × the bytes of a granule exactly, and at least 10 sectors lie from the directory start to the end
-pub record Fits (g : Geometry) (d : List ℕ) : Type 0 where
+pub record FitsGeometry (g : Geometry) (d : List ℕ) : Type 0 where
   pub blocks-lo : 1 ≤ g .blocks
   pub blocks-hi : g .blocks ≤ mostBlocks
   pub units-lo : 1 ≤ g .units
@@ -326,7 +329,7 @@ module _ (g : Geometry) (d : List ℕ) where
 
   -- 1 geometry or image length not as above, then the faults: every call but free space, which gives 1 only
   abbrev pub diskCases : Table → Table
-  diskCases rest = (1, (Fits g d → ⊥)) ∷ faultCases faultNumbers rest
+  diskCases rest = (1, (FitsGeometry g d → ⊥)) ∷ faultCases faultNumbers rest
 
   -- 12 out of range, 7 handle stale: every call with a handle; `ranged` is what it tests of range
   abbrev pub handleCases : Handle → Type 0 → Table → Table
@@ -377,7 +380,7 @@ module _ (g : Geometry) (d : List ℕ) where
   table (kills h) = handleCases h (InRange g h) (barred 1 h ∷ [])
   table (lists i) = diskCases []
   table counts = diskCases []
-  table measures = (1, (Fits g d → ⊥)) ∷ []
+  table measures = (1, (FitsGeometry g d → ⊥)) ∷ []
 
 -- "The split answers together are exactly the old 2" (02 §2): a disk has no fault exactly if it is consistent.
 abbrev pub OldTwo : Type 0

@@ -6,7 +6,8 @@ use native.Mathlib.Omega.{arith}
 use lib.ListN.{length, getD, take, drop, length-take, length-drop, length-map}
 use lib.Seq.{getD-take, getD-drop, ext-getD}
 use lib.Dec.{ltb, not-T, nltb→le}
-use Rattle.meaning.specs.Lists.{count, length-count}
+use Rattle.meaning.specs.Lists.{count}
+use Rattle.lists.specs.Members.{length-count}
 use Rattle.meaning.specs.Layout.{byte}
 use Rattle.meaning.specs.Chain.{place}
 use Rattle.meaning.specs.Entries.{sizeOf}
@@ -14,7 +15,7 @@ use Rattle.meaning.specs.Read.{readRecord}
 use Rattle.meaning.specs.Plain.{fileAt}
 use Rattle.meaning.specs.declared.Geometry.{Geometry}
 use Rattle.meaning.specs.declared.Handle.{Handle}
-use Rattle.laws.specs.Members
+use Rattle.lists.specs.Members
 use Rattle.laws.specs.Passed
 use Rattle.laws.specs.Words.{words}
 

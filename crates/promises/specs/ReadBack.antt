@@ -15,10 +15,9 @@ use Rattle.meaning.specs.Plain.{fileAt, writtenTo, overwritten}
 use Rattle.meaning.specs.declared.Geometry.{Geometry}
 use Rattle.meaning.specs.declared.Handle.{Handle}
 use Rattle.meaning.specs.declared.Mode.{Mode}
-use Rattle.laws.specs.Members
 use Rattle.laws.specs.Facts
 use Rattle.laws.specs.Rewrite
-use Rattle.promises.specs.Promises.{ReadsBack, Rows, table, Fits, Live}
+use Rattle.promises.specs.Promises.{ReadsBack, Rows, table, FitsGeometry, Live}
 use Rattle.promises.specs.Refusing
 use Rattle.promises.specs.Over
 use Rattle.promises.specs.Read
@@ -104,7 +103,7 @@ module _ (g : Geometry) (d : List ℕ) (m : Mode) (h : Handle) (b : List ℕ) (e
         name′ = x .name′ ∙ WriteMeans.write-wrote g d m h b e .0 .name′;
       }
 
-  fits′ : Fits g d → Fits g (writeRecord g d m h b .1)
+  fits′ : FitsGeometry g d → FitsGeometry g (writeRecord g d m h b .1)
   fits′ k = record {
     blocks-lo = k .blocks-lo;
     blocks-hi = k .blocks-hi;

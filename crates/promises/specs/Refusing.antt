@@ -10,13 +10,14 @@ use lib.Dec.{T, eqb, leb, ltb, T-not, not-T, eqb→eq, leb→le, le→leb, ltb�
 use Rattle.meaning.specs.Lists.{all, any, distinct, same, firstOr, has}
 use Rattle.meaning.specs.Layout.{fitsGeometry, granuleSizes, granules, granuleBytes, granuleSectors, sectors, highest, mostBlocks, mostUnits, isSlot, granulesFor, sectorNumbers}
 use Rattle.meaning.specs.Names.{wellFormed, fold}
-use Rattle.meaning.specs.Entries.{inUse, extension, primary, nameOf, sizeOf, system, noGrowth, mainCode, workerCode, sectorCount}
+use Rattle.meaning.specs.Entries.{inUse, extension, inUsePrimary, nameOf, sizeOf, system, noGrowth, mainCode, workerCode, sectorCount}
 use Rattle.meaning.specs.Consistent.{consistent}
 use Rattle.meaning.specs.Fault.{fault}
 use Rattle.meaning.specs.Free.{freeGranules, freeSlots}
-use Rattle.meaning.specs.Growth.{Grown, grown, noSlot, fails, growth}
+use Rattle.meaning.specs.Growth.{Grown, grown, noSlot, fails, growth, lacking}
 use Rattle.meaning.specs.Choice.{NothingFits}
-use Rattle.meaning.specs.Refusals.{first, inRange, goodLength, newInRange, fresh, cannotGrow, lacking, check, faultNumbers, byNumber, diskRefusals}
+use Rattle.meaning.specs.Refusals.{first, newInRange, cannotGrow, check, faultNumbers, byNumber, diskRefusals}
+use Rattle.meaning.specs.Handles.{inRange, goodLength, fresh}
 use Rattle.meaning.specs.LookUp.{named, missing, slotOf, lookUp, lookUpRefusals}
 use Rattle.meaning.specs.Open.{full, admits, open′, openRefusals}
 use Rattle.meaning.specs.Create.{create, createRefusals}
@@ -33,11 +34,11 @@ use Rattle.meaning.specs.declared.Geometry.{Geometry}
 use Rattle.meaning.specs.declared.Handle.{Handle}
 use Rattle.meaning.specs.declared.NewFile.{NewFile}
 use Rattle.meaning.specs.declared.Mode.{Mode}
-use Rattle.laws.specs.Members
-use Rattle.laws.specs.Members.{In, Distinct}
+use Rattle.lists.specs.Members
+use Rattle.lists.specs.Members.{In, Distinct}
 use Rattle.laws.specs.Facts
 use Rattle.laws.specs.Places
-use Rattle.laws.specs.First.{numbersOf, first-in}
+use Rattle.lists.specs.First.{numbersOf, first-in}
 use Rattle.laws.specs.Passed
 use Rattle.laws.specs.Fault
 use Rattle.laws.specs.Others
@@ -45,7 +46,7 @@ use Rattle.laws.specs.Words.{words}
 use Rattle.laws.specs.Named
 use Rattle.promises.specs.Fitting
 use Rattle.promises.specs.Promises
-use Rattle.promises.specs.Promises.{Table, Rows, Exactly, table, Fits, InRange, NewInRange, Live, Full, LengthInRange}
+use Rattle.promises.specs.Promises.{Table, Rows, Exactly, table, FitsGeometry, InRange, NewInRange, Live, Full, LengthInRange}
 
 -- Any list of refusals ------------------------------------------------------------------------------------------------------------
 
@@ -162,7 +163,7 @@ either-iff a b {A} {B} i j = (λ t. go (Members.any-e a b t), back)
 
 ruleset parts = (Members.and-l, Members.and-r)
 
-fits-iff : (g : Geometry) (d : List ℕ) → T (fitsGeometry g d) ↔ Fits g d
+fits-iff : (g : Geometry) (d : List ℕ) → T (fitsGeometry g d) ↔ FitsGeometry g d
 unfolding fitsGeometry words
 fits-iff g d = (fore, back)
   where
@@ -189,7 +190,7 @@ fits-iff g d = (fore, back)
     of-size (inr (inl e)) = subst (λ (n : ℕ). T (has granuleSizes n)) (sym e) tt
     of-size (inr (inr e)) = subst (λ (n : ℕ). T (has granuleSizes n)) (sym e) tt
 
-    fore : T (fitsGeometry g d) → Fits g d
+    fore : T (fitsGeometry g d) → FitsGeometry g d
     fore t =
         let a : T (leb 1 (g .blocks)) = search parts depth 9 in
         let b : T (leb (g .blocks) mostBlocks) = search parts depth 9 in
@@ -201,7 +202,7 @@ fits-iff g d = (fore, back)
         let j : T (has granuleSizes (g .granule)) = search parts depth 9 in
         record { blocks-lo = leb→le _ _ a; blocks-hi = leb→le _ _ b; units-lo = leb→le _ _ c; units-hi = leb→le _ _ e; start-at = eqb→eq _ _ f; long = eqb→eq _ _ h; ten = leb→le _ _ i; sized = size-of j }
 
-    back : Fits g d → T (fitsGeometry g d)
+    back : FitsGeometry g d → T (fitsGeometry g d)
     back k =
         let a : T (leb 1 (g .blocks)) = le→leb _ _ (k .blocks-lo) in
         let b : T (leb (g .blocks) mostBlocks) = le→leb _ _ (k .blocks-hi) in
@@ -270,7 +271,7 @@ live-iff g d h = (fore, back)
     back : Live g d h → T (fresh g d h)
     back r =
         let a : T (isSlot g d (h .slot)) = r .slot in
-        let b : T (primary g d (h .slot)) = Members.and-i (inUse g d (h .slot)) (not (extension g d (h .slot))) (r .used) (r .first) in
+        let b : T (inUsePrimary g d (h .slot)) = Members.and-i (inUse g d (h .slot)) (not (extension g d (h .slot))) (r .used) (r .first) in
         let e : T (same (nameOf g d (h .slot)) (h .name)) = subst (λ (l : List ℕ). T (same (nameOf g d (h .slot)) l)) (r .name′) (Members.same-refl (nameOf g d (h .slot))) in
         search Members.and-i depth 6
 
@@ -292,9 +293,9 @@ unfolding fileAt words
 full-iff g d s checking code = (λ t. fore (Members.or-e (not checking) _ t), back)
   where
     two : Bool
-    two = eqb (mainCode g d s) (g .anyone) || (eqb code (mainCode g d s) || false)
+    two = eqb (mainCode g d s) (g .noPassword) || (eqb code (mainCode g d s) || false)
 
-    late : T (eqb (mainCode g d s) (g .anyone)) ⊎ T (eqb code (mainCode g d s) || false) → Full g (fileAt g d s) checking code
+    late : T (eqb (mainCode g d s) (g .noPassword)) ⊎ T (eqb code (mainCode g d s) || false) → Full g (fileAt g d s) checking code
     late (inl t) = inr (inl (eqb→eq _ _ t))
     late (inr t) = inr (inr (eqb→eq _ _ (last (Members.or-e (eqb code (mainCode g d s)) false t))))
       where
@@ -302,14 +303,14 @@ full-iff g d s checking code = (λ t. fore (Members.or-e (not checking) _ t), ba
         last (inl u) = u
         last (inr u) = absurd u
 
-    fore : T (not checking) ⊎ T (eqb (mainCode g d s) (g .anyone) || (eqb code (mainCode g d s) || false)) → Full g (fileAt g d s) checking code
+    fore : T (not checking) ⊎ T (eqb (mainCode g d s) (g .noPassword) || (eqb code (mainCode g d s) || false)) → Full g (fileAt g d s) checking code
     fore (inl t) = inl (false-iff checking .0 t)
-    fore (inr t) = late (Members.or-e (eqb (mainCode g d s) (g .anyone)) (eqb code (mainCode g d s) || false) t)
+    fore (inr t) = late (Members.or-e (eqb (mainCode g d s) (g .noPassword)) (eqb code (mainCode g d s) || false) t)
 
     back : Full g (fileAt g d s) checking code → T (full g d s checking code)
     back (inl e) = Members.or-l (not checking) _ (false-iff checking .1 e)
-    back (inr (inl e)) = Members.or-r (not checking) _ (Members.or-l (eqb (mainCode g d s) (g .anyone)) _ (Members.eq-T e))
-    back (inr (inr e)) = Members.or-r (not checking) _ (Members.or-r (eqb (mainCode g d s) (g .anyone)) _ (Members.or-l (eqb code (mainCode g d s)) false (Members.eq-T e)))
+    back (inr (inl e)) = Members.or-r (not checking) _ (Members.or-l (eqb (mainCode g d s) (g .noPassword)) _ (Members.eq-T e))
+    back (inr (inr e)) = Members.or-r (not checking) _ (Members.or-r (eqb (mainCode g d s) (g .noPassword)) _ (Members.or-l (eqb code (mainCode g d s)) false (Members.eq-T e)))
 
 -- the code gives one of the two levels
 pub admitted-iff : (g : Geometry) (d : List ℕ) (s : ℕ) (checking : Bool) (code : ℕ)
@@ -373,7 +374,7 @@ fails-iff noSlot = (λ t. refl, λ e. tt)
 -- The calls -------------------------------------------------------------------------------------------------------------------------
 
 module _ (g : Geometry) (d : List ℕ) where
-  no-fit : T (not (fitsGeometry g d)) ↔ (Fits g d → ⊥)
+  no-fit : T (not (fitsGeometry g d)) ↔ (FitsGeometry g d → ⊥)
   no-fit = not-iff (fitsGeometry g d) (fits-iff g d)
 
   -- E, and none of these numbers is the fault's
@@ -400,7 +401,7 @@ module _ (g : Geometry) (d : List ℕ) where
 
   -- 1 and the faults are passed
   abbrev pub Checked : Type 0
-  Checked = Past faultNumbers (Unit {0} × ((Fits g d → ⊥) → ⊥))
+  Checked = Past faultNumbers (Unit {0} × ((FitsGeometry g d → ⊥) → ⊥))
 
   -- then the disk has no fault
   checked-sound : Checked → Facts.Sound g d
@@ -408,18 +409,18 @@ module _ (g : Geometry) (d : List ℕ) where
     where
       go : (fault g d .number ≡ 0) ⊎ In (fault g d .number) faultNumbers → Facts.Sound g d
       go (inl e) = Facts.sound g d (Fault.no-number g d .0 e)
-      go (inr i) = absurd (past-none faultNumbers (Unit {0} × ((Fits g d → ⊥) → ⊥)) x i)
+      go (inr i) = absurd (past-none faultNumbers (Unit {0} × ((FitsGeometry g d → ⊥) → ⊥)) x i)
 
   -- a disk that fits and has no fault passes them
   past-of : (ks : List ℕ) (E : Type 0) → E → (In (fault g d .number) ks → ⊥) → Past ks E
   past-of [] E x f = x
   past-of (k ∷ ks) E x f = past-of ks (E × (fault g d .number ≡ k → ⊥)) (x, λ e. f (Members.head-in ks e)) (λ i. f (Members.In.there i))
 
-  pub checked-of : ((Fits g d → ⊥) → ⊥) → consistent g d ≡ true → Checked
-  checked-of f e = past-of faultNumbers (Unit {0} × ((Fits g d → ⊥) → ⊥)) (tt, f) (λ i. let k = Members.count-in (fault g d .number) 21 10 i in omega (arith, k, Fault.no-number g d .1 e))
+  pub checked-of : ((FitsGeometry g d → ⊥) → ⊥) → consistent g d ≡ true → Checked
+  checked-of f e = past-of faultNumbers (Unit {0} × ((FitsGeometry g d → ⊥) → ⊥)) (tt, f) (λ i. let k = Members.count-in (fault g d .number) 21 10 i in omega (arith, k, Fault.no-number g d .1 e))
 
-  pub checked-fits : Checked → (Fits g d → ⊥) → ⊥
-  checked-fits c = past-first faultNumbers (Unit {0} × ((Fits g d → ⊥) → ⊥)) c .1
+  pub checked-fits : Checked → (FitsGeometry g d → ⊥) → ⊥
+  checked-fits c = past-first faultNumbers (Unit {0} × ((FitsGeometry g d → ⊥) → ⊥)) c .1
 
   -- a call's own rows
   rows-past : (ks : List ℕ) (rs : Table) (a : ℕ) (E : Type 0) → Rows a E (Promises.faultCases g d ks rs) → Rows a (Past ks E) rs
@@ -427,11 +428,11 @@ module _ (g : Geometry) (d : List ℕ) where
   rows-past (k ∷ ks) rs a E r = rows-past ks rs a (E × (fault g d .number ≡ k → ⊥)) (r .1)
 
   pub own-rows : (rs : Table) (a : ℕ) → Exactly a (Promises.diskCases g d rs) → Rows a Checked rs
-  own-rows rs a r = rows-past faultNumbers rs a (Unit {0} × ((Fits g d → ⊥) → ⊥)) (r .1)
+  own-rows rs a r = rows-past faultNumbers rs a (Unit {0} × ((FitsGeometry g d → ⊥) → ⊥)) (r .1)
 
   -- the rows that every call has first
   pub disk-reading : (cs : List (ℕ × Bool)) (rs : Table) → Reading cs rs Checked → Reading (diskRefusals g d cs) (Promises.diskCases g d rs) (Unit {0})
-  disk-reading cs rs r = (refl, λ x. no-fit, faults-reading faultNumbers cs rs (Unit {0} × ((Fits g d → ⊥) → ⊥)) r)
+  disk-reading cs rs r = (refl, λ x. no-fit, faults-reading faultNumbers cs rs (Unit {0} × ((FitsGeometry g d → ⊥) → ⊥)) r)
 
   stale : (h : Handle) → T (not (fresh g d h)) ↔ (Live g d h → ⊥)
   stale h = not-iff (fresh g d h) (live-iff g d h)
@@ -444,7 +445,7 @@ module _ (g : Geometry) (d : List ℕ) where
   record Writes (h : Handle) : Type 0 where
     fits : Places.Fits g d
     sound : Facts.Sound g d
-    file : Facts.File g d (h .slot)
+    file : Facts.IsFile g d (h .slot)
     user : T (not (system g d (h .slot)))
 
   holds : (b : Bool) {C : Type 0} → (T b ↔ C) → ((C → ⊥) → ⊥) → T b

@@ -9,11 +9,13 @@ use lib.ListN.{length}
 use lib.Dec.{T}
 use Rattle.meaning.specs.Layout.{byte, field, directoryGranules, granuleBytes}
 use Rattle.meaning.specs.Entries.{system, nameOf}
-use Rattle.meaning.specs.Plain.{fileAt, plain, hush, reserved, beyond}
+use Rattle.meaning.specs.Plain.{fileAt, plain}
+use Rattle.promises_words.specs.Untouched.{hush, beyond}
+use Rattle.meaning.specs.Free.{reserved}
 use Rattle.meaning.specs.LookUp.{named}
 use Rattle.meaning.specs.declared.Geometry.{Geometry}
-use Rattle.laws.specs.Members.{In}
-use Rattle.laws.specs.Facts.{Sound, File}
+use Rattle.lists.specs.Members.{In}
+use Rattle.laws.specs.Facts.{Sound, IsFile}
 use Rattle.laws.specs.Frame
 use Rattle.laws.specs.Places
 use Rattle.laws.specs.Change
@@ -23,7 +25,7 @@ use Rattle.laws.specs.Bytes.{Small}
 pub record Resized (g : Geometry) (d d′ : List ℕ) (p : ℕ) : Type 0 where
   pub sound : Sound g d′
   pub fits : Places.Fits g d′
-  pub file : File g d′ p
+  pub file : IsFile g d′ p
   pub user : T (not (system g d′ p))
   pub long : length d′ ≡ length d
   pub name : nameOf g d′ p ≡ nameOf g d p
@@ -36,7 +38,7 @@ pub record Resized (g : Geometry) (d d′ : List ℕ) (p : ℕ) : Type 0 where
   pub small : Small d → Small d′
 
 module _ (g : Geometry) where
-  pub resized-none : (d : List ℕ) (p : ℕ) → Sound g d → Places.Fits g d → File g d p → T (not (system g d p)) → Resized g d d p
+  pub resized-none : (d : List ℕ) (p : ℕ) → Sound g d → Places.Fits g d → IsFile g d p → T (not (system g d p)) → Resized g d d p
   resized-none d p c k f u = record {
     sound = c;
     fits = k;
@@ -55,7 +57,7 @@ module _ (g : Geometry) where
 
   -- one step: what is before the pairs stays, and so does every byte beyond the directory
   pub resized-one : (d d′ : List ℕ) (p : ℕ) → Sound g d → Places.Fits g d → T (not (system g d p)) → (Small d → Small d′) → Change.Change g d d′ p → length d′ ≡ length d
-      → File g d′ p → ((j : ℕ) → j < 0x16 → field g d′ p j ≡ field g d p j)
+      → IsFile g d′ p → ((j : ℕ) → j < 0x16 → field g d′ p j ≡ field g d p j)
       → ((i : ℕ) → (In (i / granuleBytes g) (directoryGranules g d) → ⊥) → byte d′ i ≡ byte d i)
       → fileAt g d′ p .attributes ≡ fileAt g d p .attributes → fileAt g d′ p .bytes ≡ fileAt g d p .bytes → Resized g d d′ p
   resized-one d d′ p c k u b h l f low same at bs =

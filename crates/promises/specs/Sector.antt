@@ -8,17 +8,19 @@ use lib.ListN.{length, getD, take, drop, length-take, length-drop}
 use lib.Seq.{getD-take, getD-drop, ext-getD, slice, length-slice}
 use lib.Dec.{eqb, leb, ltb, not-T, nltb→le, nleb→lt, eqb→eq}
 use Rattle.meaning.specs.Layout.{byte, entryAt, sectorNumbers}
-use Rattle.meaning.specs.Sizes
+use Rattle.lists.specs.Sizes
 use Rattle.meaning.specs.Entries.{sizeOf, sectorCount, endByte}
 use Rattle.meaning.specs.Chain.{place}
 use Rattle.meaning.specs.Lists.{all}
-use Rattle.meaning.specs.Refusals.{movedTo, inRange, notForReading}
+use Rattle.meaning.specs.Refusals.{notForReading}
+use Rattle.meaning.specs.Handles.{movedTo, inRange}
 use Rattle.meaning.specs.Read.{readRecord, readSector, sectorBytes}
-use Rattle.meaning.specs.Plain.{AreBytes, fileAt}
+use Rattle.meaning.specs.Plain.{fileAt}
+use Rattle.promises_words.specs.Given.{AreBytes}
 use Rattle.meaning.specs.declared.Geometry.{Geometry}
 use Rattle.meaning.specs.declared.Handle.{Handle}
-use Rattle.laws.specs.Members
-use Rattle.laws.specs.Facts.{Sound, File}
+use Rattle.lists.specs.Members
+use Rattle.laws.specs.Facts.{Sound, IsFile}
 use Rattle.laws.specs.Places
 use Rattle.laws.specs.Change
 use Rattle.laws.specs.Named
@@ -80,7 +82,7 @@ record Holds (size k n : ℕ) : Type 0 where
   end : 256 * k + n ≤ size
   least : n ≡ min 256 (size - 256 * k)
 
-module _ (g : Geometry) (d : List ℕ) (b : AreBytes d) (c : Sound g d) (fit : Places.Fits g d) (p : ℕ) (f : File g d p) (k : ℕ) (in′ : k < sectorCount g d p) where
+module _ (g : Geometry) (d : List ℕ) (b : AreBytes d) (c : Sound g d) (fit : Places.Fits g d) (p : ℕ) (f : IsFile g d p) (k : ℕ) (in′ : k < sectorCount g d p) where
   abbrev n : ℕ
   n = sectorBytes g d p k
 

@@ -18,7 +18,7 @@ use Rattle.meaning.specs.Calls.{Call, number}
 use Rattle.meaning.specs.declared.Geometry.{Geometry}
 use Rattle.meaning.specs.declared.NewFile.{NewFile}
 use Rattle.meaning.specs.declared.Refusal.{Refusal}
-use Rattle.laws.specs.Members
+use Rattle.lists.specs.Members
 use Rattle.laws.specs.Carried.{carried-own, carried-second}
 use Rattle.laws.specs.Spelling.{fold-twice, fold-well, well-place, place-well, place-inside}
 use Rattle.promises.specs.Promises

@@ -9,12 +9,14 @@ use lib.ListN.{length, take, replicate}
 use lib.Dec.{T, leb, leb→le}
 use Rattle.meaning.specs.Lists.{all}
 use Rattle.meaning.specs.Layout.{highest}
-use Rattle.meaning.specs.Sizes
+use Rattle.lists.specs.Sizes
 use Rattle.meaning.specs.Names.{wellFormed, fold}
 use Rattle.meaning.specs.Entries.{sizeOf, sectorsFor}
 use Rattle.meaning.specs.Chain.{place}
 use Rattle.meaning.specs.Consistent.{consistent}
-use Rattle.meaning.specs.Refusals.{inRange, newInRange, cannotGrow, larger}
+use Rattle.meaning.specs.Refusals.{newInRange, cannotGrow}
+use Rattle.meaning.specs.Handles.{inRange}
+use Rattle.meaning.specs.Growth.{withGranules}
 use Rattle.meaning.specs.LookUp.{missing}
 use Rattle.meaning.specs.Create.{create, withEntry, newSlot}
 use Rattle.meaning.specs.Write.{writeRecord, sizeAfter, toWrite}
@@ -22,12 +24,13 @@ use Rattle.meaning.specs.Allot.{allot}
 use Rattle.meaning.specs.Trim.{trim}
 use Rattle.meaning.specs.Kill.{kill}
 use Rattle.meaning.specs.Calls.{Call, number, leaves}
-use Rattle.meaning.specs.Plain.{AreBytes, reserved}
+use Rattle.promises_words.specs.Given.{AreBytes}
+use Rattle.meaning.specs.Free.{reserved}
 use Rattle.meaning.specs.declared.Geometry.{Geometry}
 use Rattle.meaning.specs.declared.Handle.{Handle}
 use Rattle.meaning.specs.declared.NewFile.{NewFile}
 use Rattle.meaning.specs.declared.Mode.{Mode}
-use Rattle.laws.specs.Members
+use Rattle.lists.specs.Members
 use Rattle.laws.specs.Facts
 use Rattle.laws.specs.Places
 use Rattle.laws.specs.Bytes
@@ -88,7 +91,7 @@ module _ (g : Geometry) (d : List ℕ) (k : Good g d) where
       let tests : Bool = all (leb (h .at + h .len) (highest g) ∷ leb (h .len) (length b) ∷ []) in
       let range : T (inRange g h && tests) = yes-T (inRange g h && tests) (p₃ .0) in
       let top = leb→le (h .at + h .len) (highest g) (Members.and-l (leb (h .at + h .len) (highest g)) (all (leb (h .len) (length b) ∷ [])) (Members.and-r (inRange g h) tests range)) in
-      let d₁ = larger g d p more in let F = place g d₁ p in let old = sizeOf g d p in
+      let d₁ = withGranules g d p more in let F = place g d₁ p in let old = sizeOf g d p in
       let old-sectors = Bytes.size-sectors g d fit p s in
       let size = sizeAfter m old (h .at + h .len) in
       let bound = Over.after-max m old (h .at + h .len) in

@@ -9,7 +9,7 @@ use lib.ListN.{length, drop, drop-of-length-le}
 use lib.Seq.{drop-cons}
 use lib.Dec.{T}
 use Rattle.meaning.specs.Layout.{isSlot, slots}
-use Rattle.meaning.specs.Entries.{primary, system, nameOf}
+use Rattle.meaning.specs.Entries.{inUsePrimary, system, nameOf}
 use Rattle.meaning.specs.Chain.{owned, files}
 use Rattle.meaning.specs.Refusal.{unplaced}
 use Rattle.meaning.specs.Refusals.{check}
@@ -18,10 +18,10 @@ use Rattle.meaning.specs.Listing.{shown, listed, tellFirst, noFile}
 use Rattle.meaning.specs.Plain
 use Rattle.meaning.specs.Plain.{found, nothing, fileAt, plain, isSystem}
 use Rattle.meaning.specs.declared.Geometry.{Geometry}
-use Rattle.laws.specs.Members
-use Rattle.laws.specs.Members.{In, Distinct}
+use Rattle.lists.specs.Members
+use Rattle.lists.specs.Members.{In, Distinct}
 use Rattle.laws.specs.Facts
-use Rattle.laws.specs.Facts.{Sound, File}
+use Rattle.laws.specs.Facts.{Sound, IsFile}
 use Rattle.laws.specs.Named
 use Rattle.laws.specs.Others
 use Rattle.laws.specs.Store
@@ -33,21 +33,21 @@ use Rattle.promises.specs.Refusing
 module _ (g : Geometry) (d : List ℕ) where
   listed-rising : Rising (listed g d)
   unfolding listed files slots
-  listed-rising = Rising.keep-rising (shown g d) (Rising.keep-rising (primary g d) (Rising.keep-rising (isSlot g d) (Rising.count-rising 0 256)))
+  listed-rising = Rising.keep-rising (shown g d) (Rising.keep-rising (inUsePrimary g d) (Rising.keep-rising (isSlot g d) (Rising.count-rising 0 256)))
 
   listed-distinct : Distinct (listed g d)
   unfolding listed
   listed-distinct = Members.keep-distinct (shown g d) (Facts.files-distinct g d)
 
-  listed-in : (p : ℕ) → In p (listed g d) → File g d p × T (not (system g d p))
+  listed-in : (p : ℕ) → In p (listed g d) → IsFile g d p × T (not (system g d p))
   unfolding listed shown
   listed-in p i = let k = Members.keep-in (λ q. not (system g d q)) p (files g d) i in (Facts.files-in g d p (k .0), k .1)
 
-  in-listed : (p : ℕ) → File g d p → T (not (system g d p)) → In p (listed g d)
+  in-listed : (p : ℕ) → IsFile g d p → T (not (system g d p)) → In p (listed g d)
   unfolding listed shown
   in-listed p f t = Members.in-keep (λ q. not (system g d q)) (Facts.in-files g d p f) t
 
-  ith-in : (i : ℕ) → i < length (listed g d) → File g d (ith g d i) × T (not (system g d (ith g d i)))
+  ith-in : (i : ℕ) → i < length (listed g d) → IsFile g d (ith g d i) × T (not (system g d (ith g d i)))
   ith-in i h = listed-in (ith g d i) (Others.getD-in (listed g d) i h)
 
   tell : (p : ℕ) (ps : List ℕ) → tellFirst g d (p ∷ ps) ≡ record { refusal = unplaced 0; more = true; name = nameOf g d p; size = length (fileAt g d p .bytes); granules = fileAt g d p .granules }
@@ -80,7 +80,7 @@ module _ (g : Geometry) (d : List ℕ) where
       user : (p : ℕ) → f ≡ fileAt g d p → T (not (system g d p))
       user p q = unfold fileAt in subst (λ (x : Plain.File). T (not (isSystem x))) q t
 
-      go : ((p : ℕ) × File g d p × (nameOf g d p ≡ n)) ⊎ ((p : ℕ) → File g d p → nameOf g d p ≢ n)
+      go : ((p : ℕ) × IsFile g d p × (nameOf g d p ≡ n)) ⊎ ((p : ℕ) → IsFile g d p → nameOf g d p ≢ n)
           → (i : ℕ) × (i < length (listed g d)) × (nameOf g d (ith g d i) ≡ n) × ((j : ℕ) → j < length (listed g d) → nameOf g d (ith g d j) ≡ n → j ≡ i)
       go (inl w) =
           let p = w .0 in

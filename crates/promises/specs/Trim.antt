@@ -9,21 +9,22 @@ use lib.ListN.{length, length-append}
 use lib.Dec.{T}
 use Rattle.meaning.specs.Lists.{times}
 use Rattle.meaning.specs.Layout.{granules, granuleBytes, granulesFor}
-use Rattle.meaning.specs.Sizes
+use Rattle.lists.specs.Sizes
 use Rattle.meaning.specs.Entries.{system, nameOf, sizeOf, keepsSpace}
 use Rattle.meaning.specs.Chain.{chain, owned}
 use Rattle.meaning.specs.Consistent.{consistent}
-use Rattle.meaning.specs.Plain.{fileAt, plain, hush, reserved, Found, found, trimmed, beyond}
+use Rattle.meaning.specs.Plain.{fileAt, plain, Found, found, trimmed}
+use Rattle.promises_words.specs.Untouched.{hush, beyond}
 use Rattle.meaning.specs.LookUp.{named}
 use Rattle.meaning.specs.Drop.{dropOne}
-use Rattle.meaning.specs.Free.{freeGranules}
+use Rattle.meaning.specs.Free.{freeGranules, reserved}
 use Rattle.meaning.specs.Trim.{trim}
 use Rattle.meaning.specs.declared.Geometry.{Geometry}
 use Rattle.meaning.specs.declared.Handle.{Handle}
-use Rattle.laws.specs.Members
-use Rattle.laws.specs.Members.{In}
+use Rattle.lists.specs.Members
+use Rattle.lists.specs.Members.{In}
 use Rattle.laws.specs.Facts
-use Rattle.laws.specs.Facts.{Sound, File}
+use Rattle.laws.specs.Facts.{Sound, IsFile}
 use Rattle.laws.specs.Places
 use Rattle.laws.specs.Change
 use Rattle.laws.specs.Others
@@ -50,7 +51,7 @@ pub record Shrank (g : Geometry) (d d′ : List ℕ) (p k : ℕ) : Type 0 where
   pub entries : (x : ℕ) → In x (chain g d′ p) → In x (chain g d p)
 
 module _ (g : Geometry) where
-  shrank-none : (d : List ℕ) (p : ℕ) → Sound g d → Places.Fits g d → File g d p → T (not (system g d p)) → Shrank g d d p 0
+  shrank-none : (d : List ℕ) (p : ℕ) → Sound g d → Places.Fits g d → IsFile g d p → T (not (system g d p)) → Shrank g d d p 0
   shrank-none d p c k f u = record {
     kept = resized-none g d p c k f u;
     size = refl;
@@ -62,7 +63,7 @@ module _ (g : Geometry) where
     entries = λ x i. i;
   }
 
-  shrank-one : (d d₁ : List ℕ) (p : ℕ) → Sound g d → Places.Fits g d → File g d p → T (not (system g d p)) → (Small d → Small d₁) → Dropped g d d₁ p → Shrank g d d₁ p 1
+  shrank-one : (d d₁ : List ℕ) (p : ℕ) → Sound g d → Places.Fits g d → IsFile g d p → T (not (system g d p)) → (Small d → Small d₁) → Dropped g d d₁ p → Shrank g d d₁ p 1
   shrank-one d d₁ p c k f u b w =
       let m = w .which in let h = w .change in let l = w .shorter in
       let file′ = Shorter.shrunk-file g d d₁ c p f m l u in
@@ -90,7 +91,7 @@ module _ (g : Geometry) where
     entries = λ z i. x .entries z (y .entries z i);
   }
 
-  pub times-shrank : (k : ℕ) (d : List ℕ) (p : ℕ) → Sound g d → Places.Fits g d → File g d p → T (not (system g d p))
+  pub times-shrank : (k : ℕ) (d : List ℕ) (p : ℕ) → Sound g d → Places.Fits g d → IsFile g d p → T (not (system g d p))
       → sizeOf g d p + granuleBytes g * k ≤ granuleBytes g * length (owned g d p) → Shrank g d (times k (dropOne g p) d) p k
   times-shrank zero d p c w f u room = shrank-none d p c w f u
   times-shrank (suc k) d p c w f u room =
@@ -109,7 +110,7 @@ pub record TrimMeans (g : Geometry) (d d′ : List ℕ) (p : ℕ) : Type 0 where
   pub beyond′ : (n : List ℕ) → n ≢ nameOf g d p → beyond g d′ n ≡ beyond g d n
   pub names′ : (n : List ℕ) → n ≢ nameOf g d p → named g d′ n ≡ named g d n
   pub touch : Touch g (chain g d p) [] d d′
-  pub file′ : File g d′ p
+  pub file′ : IsFile g d′ p
   pub name′ : nameOf g d′ p ≡ nameOf g d p
   pub told : fileAt g d′ p ≡ trimmed g (fileAt g d p)
   pub free : length (freeGranules g d) + length (owned g d p) ≡ length (freeGranules g d′) + length (owned g d′ p)

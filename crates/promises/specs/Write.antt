@@ -9,15 +9,15 @@ use lib.ListN.{length, getD, length-set, replicate, length-replicate, getD-repli
 use lib.Seq.{getD-set-same, getD-set-other}
 use lib.Dec.{T, eqb, eqb→eq}
 use Rattle.meaning.specs.Layout.{byte, field, setField, gatAt, hitAt, entryAt, directoryGranules, directorySectors, granuleBytes, roundUp, granuleSectors}
-use Rattle.meaning.specs.Sizes
+use Rattle.lists.specs.Sizes
 use Rattle.meaning.specs.Bits.{bit}
 use Rattle.meaning.specs.Entries.{sizeOf, system, sectorCount, endByte}
 use Rattle.meaning.specs.Chain.{owned, place}
 use Rattle.meaning.specs.Write.{store, withSize}
 use Rattle.meaning.specs.declared.Geometry.{Geometry}
-use Rattle.laws.specs.Members
-use Rattle.laws.specs.Members.{In}
-use Rattle.laws.specs.Facts.{Sound, File}
+use Rattle.lists.specs.Members
+use Rattle.lists.specs.Members.{In}
+use Rattle.laws.specs.Facts.{Sound, IsFile}
 use Rattle.laws.specs.Places
 use Rattle.laws.specs.Change
 use Rattle.laws.specs.Others
@@ -30,7 +30,7 @@ pub in-directory : (g : Geometry) (d : List ℕ) (i : ℕ) → g .start % granul
 unfolding words
 in-directory g d i e f a b = Members.in-count (i / granuleBytes g) (g .start / granuleSectors g) (roundUp (directorySectors g d) (granuleSectors g)) (Sizes.touched-from g i (g .start) a) (Sizes.touched-to g i (g .start) (directorySectors g d) e b)
 
-module _ (g : Geometry) (d : List ℕ) (c : Sound g d) (k : Places.Fits g d) (p : ℕ) (f : File g d p) (u : T (not (system g d p)))
+module _ (g : Geometry) (d : List ℕ) (c : Sound g d) (k : Places.Fits g d) (p : ℕ) (f : IsFile g d p) (u : T (not (system g d p)))
     (at size : ℕ) (r : List ℕ) (end : at + length r ≤ granuleBytes g * length (owned g d p)) (fit : size ≤ granuleBytes g * length (owned g d p)) where
   abbrev old : ℕ
   old = sizeOf g d p
@@ -65,7 +65,7 @@ module _ (g : Geometry) (d : List ℕ) (c : Sound g d) (k : Places.Fits g d) (p 
   a10 : Places.Dir g d
   a10 = Places.dir g d (c .dir)
 
-  sp : Places.Slot g d p
+  sp : Places.IsSlot g d p
   sp = Places.slot g d p (f .slot)
 
   room : entryAt g p + 32 ≤ length d
@@ -130,7 +130,7 @@ module _ (g : Geometry) (d : List ℕ) (c : Sound g d) (k : Places.Fits g d) (p 
       go (inl h) = d₄-out j (omega arith) (omega arith) (omega arith) (omega arith)
       go (inr h) = let s = sp in d₄-out j (omega arith) (omega arith) (omega arith) (omega arith)
 
-  pub write-rewrites : Rewrite.Rewrites g d (withSize g d d₃ p size) p
+  pub write-rewrites : Rewrite.Rewrites g d (withSize g d₃ p size) p
   unfolding words
   write-rewrites = record {
     above = let a = a10 in d₄-out (hitAt g 31) (omega arith) (omega arith) (omega arith) (omega arith) ∙ d₃-dir (hitAt g 31) (omega arith) (omega arith);

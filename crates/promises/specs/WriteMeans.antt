@@ -7,28 +7,31 @@ use Prim.Native.Nat.{ℕ, _+_, _-_, _*_, _≤_, _<_, max}
 use native.Mathlib.Omega.{arith}
 use lib.Dec.{T, leb, leb→le}
 use lib.ListN.{length-set, length, getD, set, take, replicate, length-append, length-take, length-map, length-replicate}
-use Rattle.meaning.specs.Lists.{count, all, length-count}
+use Rattle.meaning.specs.Lists.{count, all}
 use Rattle.meaning.specs.Layout
 use Rattle.meaning.specs.Bits
 use Rattle.meaning.specs.Layout.{granules, byte, field, directoryGranules, granuleBytes, granulesFor, highest}
-use Rattle.meaning.specs.Sizes
+use Rattle.lists.specs.Sizes
 use Rattle.meaning.specs.Entries.{system, nameOf, sizeOf}
 use Rattle.meaning.specs.Chain.{chain, owned, place}
 use Rattle.meaning.specs.Consistent.{consistent}
 use Rattle.meaning.specs.LookUp.{named}
 use Rattle.meaning.specs.Read
 use Rattle.meaning.specs.Write.{writeRecord, sizeAfter, store, withSize}
-use Rattle.meaning.specs.Refusals.{larger, lacking, cannotGrow, inRange}
+use Rattle.meaning.specs.Refusals.{cannotGrow}
+use Rattle.meaning.specs.Growth.{withGranules, lacking}
+use Rattle.meaning.specs.Handles.{inRange}
 use Rattle.meaning.specs.Plain
-use Rattle.meaning.specs.Free.{freeGranules}
-use Rattle.meaning.specs.Plain.{Found, found, fileAt, plain, hush, reserved, writtenTo, overwritten, beyond}
+use Rattle.meaning.specs.Free.{freeGranules, reserved}
+use Rattle.meaning.specs.Plain.{Found, found, fileAt, plain, writtenTo, overwritten}
+use Rattle.promises_words.specs.Untouched.{hush, beyond}
 use Rattle.meaning.specs.declared.Geometry.{Geometry}
 use Rattle.meaning.specs.declared.Handle.{Handle}
 use Rattle.meaning.specs.declared.Mode.{Mode}
-use Rattle.laws.specs.Members
-use Rattle.laws.specs.Members.{In}
+use Rattle.lists.specs.Members
+use Rattle.lists.specs.Members.{In, length-count}
 use Rattle.laws.specs.Facts
-use Rattle.laws.specs.Facts.{Sound, File}
+use Rattle.laws.specs.Facts.{Sound, IsFile}
 use Rattle.laws.specs.Places
 use Rattle.laws.specs.Change
 use Rattle.laws.specs.Others
@@ -46,7 +49,7 @@ use Rattle.promises.specs.Write
 use Rattle.promises.specs.Over
 
 -- the data part, on a disk that is large enough
-module _ (g : Geometry) (d : List ℕ) (c : Sound g d) (k : Places.Fits g d) (p : ℕ) (f : File g d p) (u : T (not (system g d p)))
+module _ (g : Geometry) (d : List ℕ) (c : Sound g d) (k : Places.Fits g d) (p : ℕ) (f : IsFile g d p) (u : T (not (system g d p)))
     (m : Mode) (at : ℕ) (r : List ℕ) (fit : sizeAfter m (sizeOf g d p) (at + length r) ≤ granuleBytes g * length (owned g d p)) where
   abbrev size : ℕ
   size = sizeAfter m (sizeOf g d p) (at + length r)
@@ -55,7 +58,7 @@ module _ (g : Geometry) (d : List ℕ) (c : Sound g d) (k : Places.Fits g d) (p 
   end = omega (arith, fit, Rewrite.after-end m (sizeOf g d p) (at + length r))
 
   abbrev d′ : List ℕ
-  d′ = withSize g d (store (place g d p) (store (place g d p) d (sizeOf g d p) (replicate (at - sizeOf g d p) 0)) at r) p size
+  d′ = withSize g (store (place g d p) (store (place g d p) d (sizeOf g d p) (replicate (at - sizeOf g d p) 0)) at r) p size
 
   rewrites : Rewrite.Rewrites g d d′ p
   rewrites = Write.write-rewrites g d c k p f u at size r end fit
@@ -126,7 +129,7 @@ pub record Wrote (g : Geometry) (d d′ : List ℕ) (p : ℕ) (w : Plain.File) :
   pub touch : Touch g (chain g d′ p) (owned g d′ p) d d′
   pub apart : (n : ℕ) → In n (owned g d′ p) → In n (directoryGranules g d′) → ⊥
   pub free : length (freeGranules g d) + length (owned g d p) ≡ length (freeGranules g d′) + length (owned g d′ p)
-  pub file′ : File g d′ p
+  pub file′ : IsFile g d′ p
   pub name′ : nameOf g d′ p ≡ nameOf g d p
   pub told : fileAt g d′ p ≡ w
 
@@ -147,7 +150,7 @@ module _ (g : Geometry) (d d₁ : List ℕ) (p : ℕ) (m : Mode) (at : ℕ) (r :
   fit₁ = rw size₁ (Sizes.round-fits (Sizes.bytes-pos g) size₀ (length (owned g d₁ p)) (omega (arith, own₁)))
 
   abbrev img : ℕ → List ℕ
-  img o = withSize g d₁ (store (place g d₁ p) (store (place g d₁ p) d₁ o (replicate (at - o) 0)) at r) p (sizeAfter m o (at + length r))
+  img o = withSize g (store (place g d₁ p) (store (place g d₁ p) d₁ o (replicate (at - o) 0)) at r) p (sizeAfter m o (at + length r))
 
   written-file : fileAt g (img (sizeOf g d₁ p)) p ≡ writtenTo g m at r (fileAt g d p)
   unfolding writtenTo
@@ -235,10 +238,10 @@ write-wrote g d m h b e =
     let range : T (inRange g h && fit) = Passed.yes-T (inRange g h && fit) (p₃ .0) in
     let short = leb→le (h .len) (length b) (Members.all-second (leb (h .at + h .len) (highest g)) (leb (h .len) (length b)) (Members.and-r (inRange g h) fit range)) in
     let lr : length r ≡ h .len = length-take (h .len) b ∙ omega arith in
-    let d₁ = larger g d p more in
+    let d₁ = withGranules g d p more in
     let x : Grew g d d₁ p more = Grow.larger-grew g d h more (w .0) (w .1) in
     let y : Grew g d d₁ p (lacking g d p (granulesFor g (sizeAfter m (sizeOf g d p) (h .at + length r)))) =
     subst (λ (l : ℕ). Grew g d d₁ p (lacking g d p (granulesFor g (sizeAfter m (sizeOf g d p) (h .at + l))))) (sym lr) x in
-    let image : ℕ → ℕ → List ℕ = λ o l. withSize g d (store (place g d₁ p) (store (place g d₁ p) d₁ o (replicate (h .at - o) 0)) (h .at) r) p (sizeAfter m o (h .at + l)) in
+    let image : ℕ → ℕ → List ℕ = λ o l. withSize g (store (place g d₁ p) (store (place g d₁ p) d₁ o (replicate (h .at - o) 0)) (h .at) r) p (sizeAfter m o (h .at + l)) in
     let same′ : image (sizeOf g d₁ p) (length r) ≡ image (sizeOf g d p) (h .len) = ap₂ image (size₁ g d d₁ p m (h .at) r y) lr in
     (w .0, rw e (subst (λ (i : List ℕ). Wrote g d i p (writtenTo g m (h .at) r (fileAt g d p))) same′ (wrote g d d₁ p m (h .at) r y)))

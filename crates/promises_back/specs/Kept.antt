@@ -14,10 +14,10 @@ use Rattle.meaning.specs.Chain.{chain, owned}
 use Rattle.meaning.specs.Kill.{kill, killed}
 use Rattle.meaning.specs.BringBack.{bringBack}
 use Rattle.meaning.specs.declared.Geometry.{Geometry}
-use Rattle.laws.specs.Members
-use Rattle.laws.specs.Members.{In}
+use Rattle.lists.specs.Members
+use Rattle.lists.specs.Members.{In}
 use Rattle.laws.specs.Facts
-use Rattle.laws.specs.Facts.{File, Sound}
+use Rattle.laws.specs.Facts.{IsFile, Sound}
 use Rattle.laws.specs.Places
 use Rattle.laws.specs.Change
 use Rattle.laws.specs.Kill
@@ -62,7 +62,7 @@ every-state g d k cs b = along g d d (Staying.stays-same g d k) cs b
 
 -- Kill and bring back -----------------------------------------------------------------------------------------------------------------
 
-undo : (g : Geometry) (d : List ℕ) (c : Sound g d) (k : Places.Fits g d) (p : ℕ) (f : File g d p) → T (not (system g d p)) → T (fitsGeometry g d)
+undo : (g : Geometry) (d : List ℕ) (c : Sound g d) (k : Places.Fits g d) (p : ℕ) (f : IsFile g d p) → T (not (system g d p)) → T (fitsGeometry g d)
     → bringBack g (killed g d p) p ≡ (record { refusal = unplaced 0; slots = length (chain g d p); granules = length (owned g d p) }, d)
 undo g d c k p f u t =
     let fits = Members.true-T (Steps.fits-long g d (killed g d p) (Kill.kill-length g d c k p f) ∙ Members.T-true t) in

@@ -14,13 +14,12 @@ use Rattle.meaning.specs.BringBack.{bringBack, bringBackRefusals, whole}
 use Rattle.meaning.specs.Plain.{File, Found, found, nothing, plain}
 use Rattle.meaning.specs.declared.Geometry.{Geometry}
 use Rattle.laws.specs.Kinds
-use Rattle.laws.specs.Members.{In}
+use Rattle.lists.specs.Members.{In}
 use Rattle.laws.specs.BringBack
 use Rattle.laws.specs.BringBack.{Whole}
 use Rattle.promises.specs.Promises.{Exactly}
 use Rattle.promises.specs.Refusing
 use Rattle.promises_back.specs.Statement.{backTable}
-use Rattle.promises_back.specs.Passing
 
 -- a name that is not missing has a file
 named-iff : (g : Geometry) (d n : List ℕ) → T (not (missing g d n)) ↔ ((f : File) × (plain g d n ≡ found f))

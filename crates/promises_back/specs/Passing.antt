@@ -17,7 +17,7 @@ use Rattle.meaning.specs.LookUp.{missing}
 use Rattle.meaning.specs.BringBack.{bringBack, bringBackRefusals, broughtBack, whole, nameInUse}
 use Rattle.meaning.specs.declared.Geometry.{Geometry}
 use Rattle.laws.specs.Kinds.{some-in, in-some}
-use Rattle.laws.specs.Members
+use Rattle.lists.specs.Members
 use Rattle.laws.specs.Facts.{Sound}
 use Rattle.laws.specs.Places
 use Rattle.laws.specs.Named

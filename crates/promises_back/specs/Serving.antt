@@ -15,10 +15,10 @@ use Rattle.meaning.specs.LookUp.{named}
 use Rattle.meaning.specs.BringBack.{bringBack}
 use Rattle.meaning.specs.Plain.{Found, found, nothing, plain, backAs}
 use Rattle.meaning.specs.declared.Geometry.{Geometry}
-use Rattle.laws.specs.Members
-use Rattle.laws.specs.Counting
+use Rattle.lists.specs.Members
+use Rattle.lists.specs.Counting
 use Rattle.laws.specs.Facts
-use Rattle.laws.specs.Facts.{File, Sound}
+use Rattle.laws.specs.Facts.{IsFile, Sound}
 use Rattle.laws.specs.Places
 use Rattle.laws.specs.Change
 use Rattle.laws.specs.Named
@@ -45,7 +45,7 @@ module _ (g : Geometry) (d : List ℕ) (c : Sound g d) (k : Places.Fits g d) (s 
   sound′ : Sound g d′
   sound′ = Change.changed g d d′ c s change
 
-  no-file : File g d s → ⊥
+  no-file : IsFile g d s → ⊥
   no-file f = w .dead (Facts.file-in-use g d s f)
 
   same : Others.Same g d d′ s
@@ -68,7 +68,7 @@ module _ (g : Geometry) (d : List ℕ) (c : Sound g d) (k : Places.Fits g d) (s 
   becomes =
       let own : plain g d′ (nameOf g d s) ≡ found (backAs g d s) =
       Named.plain-is g d′ sound′ s (nameOf g d s) (BringBack.back-file g d c k s w) (BringBack.back-name g d c k s w) ∙ ap {B = Found} found (BringBack.back-told g d c k s w) in
-      let away : (m : List ℕ) → m ≢ nameOf g d s → File g d′ s → nameOf g d′ s ≢ m = λ m n f e. n (sym e ∙ BringBack.back-name g d c k s w) in
+      let away : (m : List ℕ) → m ≢ nameOf g d s → IsFile g d′ s → nameOf g d′ s ≢ m = λ m n f e. n (sym e ∙ BringBack.back-name g d c k s w) in
       let touch : Touch.Touch g (chain g d′ s) [] d d′ =
       subst (λ (xs : List ℕ). Touch.Touch g xs [] d d′) (sym (BringBack.back-chain g d c k s w))
       (Touch.touch-marking g 1 (hash (nameOf g d s)) d (owned g d s) (chain g d s) (omega arith) (BringBack.back-marks g d c k s w .granules′)) in

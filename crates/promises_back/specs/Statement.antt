@@ -21,7 +21,7 @@ use Rattle.meaning.specs.Calls.{Call, leaves}
 use Rattle.meaning.specs.Plain.{File, found, nothing, plain, backAs}
 use Rattle.meaning.specs.declared.Geometry.{Geometry}
 use Rattle.meaning.specs.declared.Handle.{Handle}
-use Rattle.laws.specs.Members.{In}
+use Rattle.lists.specs.Members.{In}
 use Rattle.laws.specs.Frame.{Agree}
 use Rattle.laws.specs.BringBack.{Whole}
 use Rattle.laws.specs.Undo.{AsBefore}

@@ -13,7 +13,7 @@ use Rattle.meaning.specs.Lists.{same, any}
 use Rattle.meaning.specs.LookUp.{named}
 use Rattle.meaning.specs.Plain.{isSystem, File, Found, found, nothing, fileAt, foundIn, plain}
 use Rattle.meaning.specs.declared.Geometry.{Geometry}
-use Rattle.laws.specs.Members
+use Rattle.lists.specs.Members
 use Rattle.differences.specs.Compare.{parting, dateOf, othersOf, nameOnly, unlike, difference, isOne}
 use Rattle.differences.specs.Order.{never}
 use Rattle.differences.specs.Parting.{parting-none, parting-nothing, parting-on, parting-here, parting-swap}

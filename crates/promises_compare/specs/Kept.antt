@@ -16,7 +16,7 @@ use Rattle.meaning.specs.Plain.{isSystem, Found, found, nothing, plain}
 use Rattle.meaning.specs.declared.Geometry.{Geometry}
 use Rattle.meaning.specs.declared.Refusal.{Refusal}
 use Rattle.laws.specs.Facts as facts
-use Rattle.laws.specs.Members
+use Rattle.lists.specs.Members
 use Rattle.laws.specs.Passed.{check-passed}
 use Rattle.together.specs.Statement as statement
 use Rattle.differences.specs.Compare.{before, isOne, tellsNone, tellFirst, at′, differences, merged, compare}

@@ -111,7 +111,7 @@ pub in-names : (g : Geometry) (d : List ℕ) → facts.Sound g d → (n : List �
 unfolding names
 in-names g d c n = by (named.look g d c n)
   where
-    by : ((p : ℕ) × facts.File g d p × (nameOf g d p ≡ n)) ⊎ ((p : ℕ) → facts.File g d p → nameOf g d p ≢ n) → (plain g d n ≡ nothing) ⊎ In n (map (nameOf g d) (files g d))
+    by : ((p : ℕ) × facts.IsFile g d p × (nameOf g d p ≡ n)) ⊎ ((p : ℕ) → facts.IsFile g d p → nameOf g d p ≢ n) → (plain g d n ≡ nothing) ⊎ In n (map (nameOf g d) (files g d))
     by (inl k) = inr (subst (λ (m : List ℕ). In m (map (nameOf g d) (files g d))) (k .2) (in-map (nameOf g d) (facts.in-files g d (k .0) (k .1))))
     by (inr k) = inl (named.plain-none g d n k)
 

@@ -28,14 +28,14 @@ use Rattle.differences.specs.Compare.{compare}
 
 -- the same disk, stated as a system disk (true) or as a data disk (false)
 abbrev pub stated : Bool → Geometry → Geometry
-stated b g = record { blocks = g .blocks; units = g .units; start = g .start; anyone = g .anyone; system = b; granule = g .granule }
+stated b g = record { blocks = g .blocks; units = g .units; start = g .start; noPassword = g .noPassword; system = b; granule = g .granule }
 
 -- alike but for the flag
 pub record Alike (g h : Geometry) : Type 0 where
   pub blocks : g .blocks ≡ h .blocks
   pub units : g .units ≡ h .units
   pub start : g .start ≡ h .start
-  pub anyone : g .anyone ≡ h .anyone
+  pub noPassword : g .noPassword ≡ h .noPassword
   pub granule : g .granule ≡ h .granule
 
 -- the file of that handle grows alike: to k granules more, or to the word that no slot is left

@@ -9,9 +9,9 @@ use lib.ListN.{length, getD}
 use Rattle.meaning.specs.Lists.{keep, each, every, some, has, same, distinct, all, any, first, firstOr}
 use Rattle.meaning.specs.Layout.{granuleSectors, granuleBytes, granules, fitsGeometry, taken, hit, directorySectors, isSlot, slots, field, directoryGranules}
 use Rattle.meaning.specs.Names.{hash}
-use Rattle.meaning.specs.Entries.{nameOf, sizeOf, runsFrom, runs, entryGranules, sectorCount, endByte, marker, link, inUse, extension, system, primary}
+use Rattle.meaning.specs.Entries.{nameOf, sizeOf, runsFrom, runs, entryGranules, sectorCount, endByte, marker, link, inUse, extension, system, inUsePrimary}
 use Rattle.meaning.specs.Chain.{chainFrom, chain, owned, files, place, granuleOf}
-use Rattle.meaning.specs.Consistent.{lengthHolds, hitHolds, hashHolds, nameHolds, pairsHold, followsBy, linkHoldsBy, follows, linkHolds, runsHold, gatHolds, sizeHolds, offDirectory, slotHolds, fileHolds, namesDiffer, met, directoryTaken, consistent}
+use Rattle.meaning.specs.Consistent.{lengthHolds, hitHolds, hashHolds, nameHolds, pairsHold, followsBy, linkHoldsBy, runsHold, gatHolds, sizeHolds, offDirectory, slotHolds, fileHolds, namesDiffer, met, directoryTaken, consistent}
 use Rattle.meaning.specs.Fault.{usedExtension, handsOn, ends, badEntry, walkFrom, walk, walked, metFrom, fileOf, goodExtension, hitFault, nameFault, duplicateFault, chainFault, runFault, gatFault, sharedFault, chainWhole, sizeFault, directoryFault, faultAt, lowest, fault}
 use Rattle.meaning.specs.Refusal.{unplaced, placed, carried}
 use Rattle.meaning.specs.Refusals.{badGeometry, byNumber, faultNumbers, check}
@@ -43,7 +43,7 @@ module _ (g : Geometry) (b : Bool) (d : List ℕ) where
 
   pub files-same : files g d ≡ files (stated b g) d
   unfolding files field
-  files-same = λ i. keep (primary g d) (slots-same i)
+  files-same = λ i. keep (inUsePrimary g d) (slots-same i)
 
   pub place-same : place g d ≡ place (stated b g) d
   unfolding place granuleBytes granuleSectors
@@ -81,8 +81,8 @@ module _ (g : Geometry) (b : Bool) (d : List ℕ) where
   fileOf-same = λ i s. firstOr s (keep (λ p. has (walk-same i p) s) (files-same i))
 
   goodExtension-same : goodExtension g d ≡ goodExtension (stated b g) d
-  unfolding goodExtension follows followsBy isSlot directorySectors runs runsFrom field
-  goodExtension-same = λ i x. all (eqb (length (metFrom-same i x)) 1 ∷ every (λ e. follows g d e x) (metFrom-same i x) ∷ [])
+  unfolding goodExtension followsBy isSlot directorySectors runs runsFrom field
+  goodExtension-same = λ i x. all (eqb (length (metFrom-same i x)) 1 ∷ every (λ e. followsBy g d 0x90 e x) (metFrom-same i x) ∷ [])
 
   hitFault-same : hitFault g d ≡ hitFault (stated b g) d
   unfolding hitFault hitHolds hit nameOf field
@@ -97,7 +97,7 @@ module _ (g : Geometry) (b : Bool) (d : List ℕ) where
 
   duplicateFault-same : duplicateFault g d ≡ duplicateFault (stated b g) d
   unfolding duplicateFault nameOf field
-  duplicateFault-same = λ i p. all (primary g d p ∷ some (λ q. ltb q p && same (nameOf g d q) (nameOf g d p)) (files-same i) ∷ [])
+  duplicateFault-same = λ i p. all (inUsePrimary g d p ∷ some (λ q. ltb q p && same (nameOf g d q) (nameOf g d p)) (files-same i) ∷ [])
 
   chainFault-same : chainFault g d ≡ chainFault (stated b g) d
   unfolding chainFault badEntry ends pairsHold runs runsFrom field
@@ -127,7 +127,7 @@ module _ (g : Geometry) (b : Bool) (d : List ℕ) where
 
   sizeFault-same : sizeFault g d ≡ sizeFault (stated b g) d
   unfolding sizeFault field
-  sizeFault-same = λ i p. all (primary g d p ∷ chainWhole-same i p ∷ not (sizeHolds-same i p) ∷ [])
+  sizeFault-same = λ i p. all (inUsePrimary g d p ∷ chainWhole-same i p ∷ not (sizeHolds-same i p) ∷ [])
 
   directoryFault-same : directoryFault g d ≡ directoryFault (stated b g) d
   unfolding directoryFault directorySectors granuleSectors field
@@ -167,7 +167,7 @@ module _ (g : Geometry) (b : Bool) (d : List ℕ) where
   offDirectory-same = λ i p. any (system g d p ∷ every (λ n. not (has (directoryGranules g d) n)) (owned-same i p) ∷ [])
 
   slotHolds-same : slotHolds g d ≡ slotHolds (stated b g) d
-  unfolding slotHolds hitHolds hit pairsHold linkHolds linkHoldsBy followsBy isSlot directorySectors runsHold gatHolds taken granules entryGranules runs runsFrom field
+  unfolding slotHolds hitHolds hit pairsHold linkHoldsBy followsBy isSlot directorySectors runsHold gatHolds taken granules entryGranules runs runsFrom field
   slotHolds-same = refl
 
   fileHolds-same : fileHolds g d ≡ fileHolds (stated b g) d

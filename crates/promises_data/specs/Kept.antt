@@ -13,10 +13,11 @@ use Rattle.meaning.specs.Entries.{nameOf, sizeOf, runsFrom, runs, sectorCount, 
 use Rattle.meaning.specs.Chain.{files}
 use Rattle.meaning.specs.Consistent.{nameHolds, pairsHold, followsBy, linkHoldsBy, runsHold, consistent}
 use Rattle.meaning.specs.Free.{freeGranules, freeSlots}
-use Rattle.meaning.specs.Growth.{Grown, fails, diskOr, orElse, growBy, growth}
+use Rattle.meaning.specs.Growth.{Grown, fails, diskOr, orElse, growBy, growth, lacking}
 use Rattle.meaning.specs.Drop.{unhooked, dropOne}
 use Rattle.meaning.specs.Refusal.{unplaced, carried, carriedTwo}
-use Rattle.meaning.specs.Refusals.{badGeometry, byNumber, faultNumbers, diskRefusals, refusal, accepted, badName, goodLength, newInRange, inRange, fresh, staleHandle, handleRefusals, notForReading, protected, lacking, noHandle, movedTo, badAt, nameRefusal}
+use Rattle.meaning.specs.Refusals.{badGeometry, byNumber, faultNumbers, diskRefusals, refusal, accepted, badName, newInRange, stale, handleRefusals, notForReading, protected, badAt, nameRefusal}
+use Rattle.meaning.specs.Handles.{goodLength, inRange, fresh, noHandle, movedTo}
 use Rattle.meaning.specs.LookUp.{candidates, carries, comparedIn, named, lookUp, missing}
 use Rattle.meaning.specs.Open.{full, admits, open′, openedAt}
 use Rattle.meaning.specs.Create.{create, withEntry}
@@ -54,7 +55,7 @@ module _ (g : Geometry) (b : Bool) (d : List ℕ) where
 
   handleRefusals-same : handleRefusals g d ≡ handleRefusals (stated b g) d
   unfolding fresh isSlot directorySectors nameOf field
-  handleRefusals-same = λ i x ranged rest. diskRefusals-same i ((12, not ranged) ∷ staleHandle g d x ∷ rest)
+  handleRefusals-same = λ i x ranged rest. diskRefusals-same i ((12, not ranged) ∷ stale g d x ∷ rest)
 
   -- Calls by name -----------------------------------------------------------------------------------------------------------
 
@@ -278,7 +279,7 @@ module _ (g : Geometry) (b : Bool) (p : ℕ) where
       let emptied = setField g (setField g d e (0x16 + 2 * k) 0xff) e (0x17 + 2 * k) 0xff in
       freeGranule g
       (cond (ltb 1 (runLength g d e k)) shorter
-      (cond (extension g d e && eqb k 0) (unhooked g p emptied e (field g d e 1)) emptied))
+      (cond (extension g d e && eqb k 0) (unhooked g emptied e (field g d e 1)) emptied))
       n
 
 module _ (g : Geometry) (b : Bool) (d : List ℕ) where
@@ -322,7 +323,7 @@ module _ (g : Geometry) (b : Bool) (d : List ℕ) where
       let d₂ = store f d₁ old (replicate (x .at - old) 0) in
       let d₃ = store f d₂ (x .at) (take (x .len) buffer) in (
         record { refusal = refusal-same g b d i no; handle = cond (accepted no) (movedTo x end) x },
-        cond (accepted no) (withSize g d d₃ s (sizeAfter m old end)) d,
+        cond (accepted no) (withSize g d₃ s (sizeAfter m old end)) d,
       )
 
   toAllot-same : (x : Handle) (k : ℕ) → toAllot g d x k ≡ toAllot (stated b g) d x k
@@ -359,7 +360,7 @@ module _ (g : Geometry) (b : Bool) (d : List ℕ) where
 -- a geometry alike but for the flag is this one, stated by that one's flag
 pub alike-is : (g h : Geometry) → Alike g h → stated (h .system) g ≡ h
 alike-is g h e =
-    λ i. record { blocks = e .blocks i; units = e .units i; start = e .start i; anyone = e .anyone i; system = h .system; granule = e .granule i }
+    λ i. record { blocks = e .blocks i; units = e .units i; start = e .start i; noPassword = e .noPassword i; system = h .system; granule = e .granule i }
 
 pub every-disk : EveryDisk
 every-disk g h e d = subst (λ (x : Geometry). consistent g d ≡ consistent x d) (alike-is g h e) (consistent-same g (h .system) d)

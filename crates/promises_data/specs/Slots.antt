@@ -7,18 +7,18 @@ use lib.ListN.{length}
 use lib.Dec.{ltb}
 use borrow.Author.Tests.{lt-ltb, le-ltb}
 use Rattle.meaning.specs.Lists.{count, keep, all}
-use Rattle.meaning.specs.Layout.{isSlot, row, column, directorySectors}
+use Rattle.meaning.specs.Layout.{isSlot, row, sector, directorySectors}
 use Rattle.meaning.specs.Free.{kept, permitted}
 use Rattle.meaning.specs.declared.Geometry.{Geometry}
-use Rattle.laws.specs.Members
+use Rattle.lists.specs.Members
 
 -- 01's rule
 abbrev pub keptForSystem : ℕ → Bool
-keptForSystem s = all (ltb (row s) 4 ∷ ltb (column s) 8 ∷ [])
+keptForSystem s = all (ltb (row s) 4 ∷ ltb (sector s) 8 ∷ [])
 
 -- the same of either kind of disk, by the flag and the directory's length alone
 abbrev permittedBy : Bool → ℕ → ℕ → Bool
-permittedBy system sectors s = all (all (ltb s 256 ∷ ltb (column s + 2) sectors ∷ []) ∷ not (cond system (keptForSystem s) (ltb s 2)) ∷ [])
+permittedBy system sectors s = all (all (ltb s 256 ∷ ltb (sector s + 2) sectors ∷ []) ∷ not (cond system (keptForSystem s) (ltb s 2)) ∷ [])
 
 and-yes : (b : Bool) → all (b ∷ true ∷ []) ≡ b
 unfolding all

@@ -1,4 +1,4 @@
--- The theorems of `Statement`, from the laws of any width (`meaning: Sizes`) and from what the geometry states.
+-- The theorems of `Statement`, from the laws of any width (`lists: Sizes`) and from what the geometry states.
 use mathlib.Core.Path.{_≡_, refl, ap, sym, _∙_, subst}
 use mathlib.Core.Logic.{_↔_}
 use mathlib.Core.Bool.{Bool, true, false, not, _&&_, _||_}
@@ -10,17 +10,18 @@ use lib.Dec.{T, eqb, leb}
 use lib.ListN.{length, getD}
 use Rattle.meaning.specs.Lists.{count, has, all, first}
 use Rattle.meaning.specs.Layout.{granuleSizes, granuleSectors, granuleBytes, granules, fitsGeometry, granulesFor, roundUp, aboveTen, directorySectors, directoryGranules}
-use Rattle.meaning.specs.Sizes
+use Rattle.lists.specs.Sizes
 use Rattle.meaning.specs.Entries.{sectorCount, endByte, sizeOf}
 use Rattle.meaning.specs.Chain.{owned, place}
 use Rattle.meaning.specs.Consistent.{lengthHolds, sizeHolds}
-use Rattle.meaning.specs.Refusals.{goodLength, inRange, check}
+use Rattle.meaning.specs.Refusals.{check}
+use Rattle.meaning.specs.Handles.{goodLength, inRange}
 use Rattle.meaning.specs.Write.{sizeAfter}
 use Rattle.meaning.specs.declared.Geometry.{Geometry}
 use Rattle.meaning.specs.declared.Handle.{Handle}
 use Rattle.meaning.specs.declared.Mode.{Mode}
-use Rattle.laws.specs.Members
-use Rattle.laws.specs.Members.{In}
+use Rattle.lists.specs.Members
+use Rattle.lists.specs.Members.{In}
 use Rattle.laws.specs.Places
 use Rattle.laws.specs.Passed
 use Rattle.promises_granules.specs.Statement.{OfDirectory, OfGranule, Sums, EverySize, NoOtherSize, Old, AtFive}

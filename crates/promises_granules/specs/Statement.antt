@@ -14,7 +14,8 @@ use Rattle.meaning.specs.Entries.{sectorCount, endByte, sizeOf}
 use Rattle.meaning.specs.Chain.{owned, granuleOf, place}
 use Rattle.meaning.specs.Consistent.{lengthHolds, sizeHolds}
 use Rattle.meaning.specs.Refusal.{unplaced}
-use Rattle.meaning.specs.Refusals.{goodLength, inRange, check}
+use Rattle.meaning.specs.Refusals.{check}
+use Rattle.meaning.specs.Handles.{goodLength, inRange}
 use Rattle.meaning.specs.Write.{toWrite, sizeAfter}
 use Rattle.meaning.specs.Allot.{granulesTo, toAllot}
 use Rattle.meaning.specs.Trim.{surplus}

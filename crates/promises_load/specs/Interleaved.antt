@@ -9,11 +9,13 @@ use lib.Dec.{T, T-not, leb}
 use lib.ListN.{length, getD, take, drop, set, replicate, List·getD-map}
 use Rattle.meaning.specs.Lists.{all}
 use Rattle.meaning.specs.Names.{fold}
-use Rattle.meaning.specs.Refusals.{first, noHandle, movedTo, inRange, notForReading, byNumber}
-use Rattle.meaning.specs.Plain.{File, Found, found, nothing, plain, fileAt, isSystem, hush}
+use Rattle.meaning.specs.Refusals.{first, notForReading, byNumber}
+use Rattle.meaning.specs.Handles.{noHandle, movedTo, inRange}
+use Rattle.meaning.specs.Plain.{File, Found, found, nothing, plain, fileAt, isSystem}
+use Rattle.promises_words.specs.Untouched.{hush}
 use Rattle.meaning.specs.declared.Geometry.{Geometry}
 use Rattle.meaning.specs.declared.Handle.{Handle}
-use Rattle.laws.specs.Members
+use Rattle.lists.specs.Members
 use Rattle.laws.specs.Named
 use Rattle.promises.specs.Passing
 use Rattle.together.specs.Statement.{Name, Step, Side, handleAt, withMoved, Grip, grip, Turn, Interleaving, World, start, next, after, Taken, Accepted, known, answer, Agree}

@@ -9,10 +9,10 @@ use lib.Dec.{T, ltb, leb, eqb, ltb→lt, lt→ltb, leb→le, le→leb, eqb→eq}
 use lib.ListN.{length}
 use Rattle.meaning.specs.Lists.{all}
 use Rattle.meaning.specs.Plain.{fileAt}
-use Rattle.meaning.specs.Refusals.{inRange, fresh}
+use Rattle.meaning.specs.Handles.{inRange, fresh}
 use Rattle.meaning.specs.declared.Geometry.{Geometry}
 use Rattle.meaning.specs.declared.Handle.{Handle}
-use Rattle.laws.specs.Members
+use Rattle.lists.specs.Members
 use Rattle.load.specs.Records.{recordFrom, unknownCode, fileEnds, wrongCount}
 use Rattle.load.specs.Load.{mostBytes, loadRefusals, loadRecord}
 use Rattle.promises.specs.Promises.{Table, Exactly, InRange, handleCases}

@@ -13,12 +13,13 @@ use borrow.Author.Tests.{eq-eqb, ne-eqb}
 use Rattle.meaning.specs.Lists.{all, has}
 use Rattle.meaning.specs.Layout.{highest}
 use Rattle.meaning.specs.Entries.{sizeOf}
-use Rattle.meaning.specs.Refusals.{first, inRange, movedTo, fresh, handleRefusals, staleHandle, notForReading, byNumber, refusal}
+use Rattle.meaning.specs.Refusals.{first, handleRefusals, stale, notForReading, byNumber, refusal}
+use Rattle.meaning.specs.Handles.{inRange, movedTo, fresh}
 use Rattle.meaning.specs.Plain.{File, Found, found, nothing, plain, fileAt}
 use Rattle.meaning.specs.declared.Geometry.{Geometry}
 use Rattle.meaning.specs.declared.Handle.{Handle}
-use Rattle.laws.specs.Members
-use Rattle.laws.specs.First
+use Rattle.lists.specs.Members
+use Rattle.lists.specs.First
 use Rattle.laws.specs.Facts
 use Rattle.laws.specs.Places
 use Rattle.laws.specs.Named

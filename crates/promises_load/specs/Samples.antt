@@ -4,8 +4,8 @@ use Prim.Native.Nat.{ℕ, _+_}
 use mathlib.Core.Path.{_≡_, refl}
 use mathlib.Core.List.{List, [], _∷_, _++_}
 use lib.ListN.{replicate}
-use Rattle.meaning.specs.Samples.{laid, leer, three, hits, e80}
-use Rattle.meaning.specs.Samples
+use Rattle.meaning_table.specs.Samples.{laid, leer, three, hits, e80}
+use Rattle.meaning_table.specs.Samples
 use Rattle.meaning.specs.declared.Handle.{Handle}
 use Rattle.load.specs.Cases
 use Rattle.load.specs.Cut.{starts}

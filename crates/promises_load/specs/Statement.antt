@@ -6,7 +6,8 @@ use Prim.Native.Nat.{ℕ, zero, suc}
 use lib.Dec.{eqb, leb}
 use lib.ListN.{length, take, drop}
 use Rattle.meaning.specs.Lists.{all}
-use Rattle.meaning.specs.Refusals.{first, inRange, handleRefusals, notForReading}
+use Rattle.meaning.specs.Refusals.{first, handleRefusals, notForReading}
+use Rattle.meaning.specs.Handles.{inRange}
 use Rattle.meaning.specs.Plain.{File, found, plain, fileAt}
 use Rattle.meaning.specs.declared.Geometry.{Geometry}
 use Rattle.meaning.specs.declared.Handle.{Handle}

@@ -17,7 +17,7 @@ use Rattle.meaning.specs.declared.Geometry.{Geometry}
 use Rattle.meaning.specs.declared.Listed.{Listed}
 use Rattle.list_rows.specs.Rows.{rowBytes, rowOf, row, toldFrom, rowsFrom, rowsRefusals, listFrom}
 use Rattle.list_rows.specs.Lengths.{row-length, rows-length}
-use Rattle.laws.specs.Members
+use Rattle.lists.specs.Members
 use Rattle.laws.specs.Facts
 use Rattle.laws.specs.Passed.{disk-passed, check-none}
 

@@ -9,8 +9,8 @@ use lib.ListN.{replicate}
 use Rattle.meaning.specs.Layout.{fitsGeometry}
 use Rattle.meaning.specs.Consistent.{consistent}
 use Rattle.meaning.specs.Calls.{Call, number}
-use Rattle.meaning.specs.Plain.{AreBytes}
-use Rattle.meaning.specs.Samples.{opened, three, sample, puls, leer, held}
+use Rattle.promises_words.specs.Given.{AreBytes}
+use Rattle.meaning_table.specs.Samples.{opened, three, sample, puls, leer, held}
 use Rattle.meaning.specs.declared.NewFile.{NewFile}
 use Rattle.meaning.specs.declared.Mode.the-variants.{Sequential, Random}
 use Rattle.promises.specs.Promises.{Good, Along}

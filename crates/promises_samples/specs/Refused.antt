@@ -6,7 +6,7 @@ use mathlib.Core.Bool.{true}
 use mathlib.Core.List.{[], _∷_}
 use lib.ListN.{set}
 use Rattle.meaning.specs.Calls.{number}
-use Rattle.meaning.specs.Samples.{opened, three, gaps, puls, leer, held}
+use Rattle.meaning_table.specs.Samples.{opened, three, gaps, puls, leer, held}
 use Rattle.meaning.specs.Calls.Call.{checks, looksUp, opens, reads, allots, kills}
 
 -- no image at all

@@ -9,10 +9,10 @@ use native.Mathlib.Decide.{ℕ-discrete}
 use lib.Dec.{T, eqb, ltb, ltb→lt, lt→ltb}
 use lib.ListN.{length, take, drop}
 use borrow.Author.Tests.{eq-eqb, ne-eqb}
-use Rattle.meaning.specs.Plain.{AreBytes}
+use Rattle.promises_words.specs.Given.{AreBytes}
 use Rattle.meaning.specs.Refusals.{first}
 use Rattle.meaning.specs.declared.Geometry.{Geometry}
-use Rattle.laws.specs.Members
+use Rattle.lists.specs.Members
 use Rattle.laws.specs.Passed.{passed, yes-T, disk-passed}
 use Rattle.promises.specs.Promises.{Good, Stays, Exactly}
 use Rattle.promises.specs.Passing

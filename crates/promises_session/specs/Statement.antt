@@ -8,7 +8,7 @@ use mathlib.Core.Logic.{_≢_}
 use mathlib.Core.List.{List, [], _∷_, _++_}
 use Prim.Native.Nat.{ℕ, _+_, _*_, _<_}
 use lib.ListN.{length, take, drop}
-use Rattle.meaning.specs.Plain.{AreBytes}
+use Rattle.promises_words.specs.Given.{AreBytes}
 use Rattle.meaning.specs.declared.Geometry.{Geometry}
 use Rattle.promises.specs.Promises
 use Rattle.promises.specs.Promises.{Good, Stays, Table, Exactly}

@@ -16,10 +16,10 @@ use Rattle.play_trace.specs.declared.Numbers.{Numbers}
 use Rattle.play_trace.proofs.Calls.{calls-none}
 use Rattle.play_trace.proofs.Front.{Opens, withNames, Front, none, few, many, cut, calls, front, Turn, bad, end, on, turn}
 use Rattle.play_trace.proofs.Found.{bad-reads, length-names}
-use Rattle.promises_trace.specs.Call.{Fits, are-those, all-good, file-below, end-only, numbers-back}
+use Rattle.promises_trace.specs.Call.{NumbersFit, are-those, all-good, file-below, end-only, numbers-back}
 
 -- the numbers that are read fit their fields
-pub read-fits : (bs : List ℕ) (p : ℕ) → AreBits bs → Fits (numbersAt bs p)
+pub read-fits : (bs : List ℕ) (p : ℕ) → AreBits bs → NumbersFit (numbersAt bs p)
 unfolding numbersAt
 read-fits bs p h theOperation = field-small bs (p + 0) 3 h
 read-fits bs p h theFile = field-small bs (p + 3) 5 h

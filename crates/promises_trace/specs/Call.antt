@@ -16,12 +16,12 @@ use Rattle.play_trace.specs.declared.Call.{Call}
 use Rattle.play_trace.specs.declared.Call.the-variants.{Create, SequentialWrite, RandomWrite, Allot, Trim, Kill, Read}
 use Rattle.play_trace.specs.declared.Step.{Step}
 use Rattle.play_trace.specs.declared.Numbers.{Numbers}
-use Rattle.play_trace.proofs.Laws.{operation-is, pass, stop, step-1, step-2, step-3, step-4, step-5, step-6, step-7}
+use Rattle.play_trace.proofs.NumbersTell.{operation-is, pass, stop, step-1, step-2, step-3, step-4, step-5, step-6, step-7}
 use Rattle.play_trace.proofs.Front.{Alike, alike, unlike, look}
 
 -- each number fits its field
-abbrev pub Fits : Numbers → Type 0
-Fits m = (f : Field) → valueOf m f < 2 ^ widthOf f
+abbrev pub NumbersFit : Numbers → Type 0
+NumbersFit m = (f : Field) → valueOf m f < 2 ^ widthOf f
 
 -- Bits.
 
@@ -42,7 +42,7 @@ unfolding fieldBits
 laid m r = simp (append-assoc)
 
 -- what was laid down is found again
-pub found-again : (m : Numbers) → Fits m → (pre r : List ℕ) (p : ℕ) → length pre ≡ p → numbersAt (pre ++ (callBits m ++ r)) p ≡ m
+pub found-again : (m : Numbers) → NumbersFit m → (pre r : List ℕ) (p : ℕ) → length pre ≡ p → numbersAt (pre ++ (callBits m ++ r)) p ≡ m
 unfolding numbersAt
 found-again m h pre r p l =
     let g : (o w : ℕ) → field (pre ++ (callBits m ++ r)) (p + o) w ≡ field (bitsOf 3 (m .operation) ++ (bitsOf 5 (m .file) ++ (bitsOf 24 (m .position) ++ (bitsOf 9 (m .length) ++ (bitsOf 8 (m .fill) ++ (bitsOf 7 (m .zero) ++ r)))))) o w
@@ -123,7 +123,7 @@ pub end-good : (n : ℕ) → firstBad n endMark fields ≡ 56
 unfolding firstBad good uses allowed
 end-good n = refl
 
-pub end-fits : Fits endMark
+pub end-fits : NumbersFit endMark
 end-fits theOperation = omega arith
 end-fits theFile = omega arith
 end-fits thePosition = omega arith

@@ -13,7 +13,7 @@ use Prim.Native.Nat.{ℕ, zero, suc, _+_, _*_, _-_, _/_, _%_, _≤_, _<_}
 use native.Mathlib.Omega.{arith}
 use lib.ListN.{length, take, drop, getD, length-append, length-drop, take-append-drop}
 use lib.Seq.{take-at, drop-at, take-append-le, drop-append-le}
-use Rattle.meaning.specs.Plain.{AreBytes}
+use Rattle.promises_words.specs.Given.{AreBytes}
 use Rattle.laws.specs.Bytes.{Small, bytes-small, small-rest}
 use Rattle.play_trace.specs.Bits.{bitsOf, number, bits, bytesOf, AreBits, length-bitsOf, length-bits, bits-append, bits-bits, bits-join, bits-bitsOf, bits-bytesOf, there-and-back}
 use Rattle.play_trace.specs.Steps.{Field, fields, widthOf, valueOf, numbersOf, endMark, noStep}

@@ -8,10 +8,10 @@ use Rattle.meaning.specs.Chain.{owned}
 use Rattle.meaning.specs.declared.Geometry.{Geometry}
 use Rattle.meaning.specs.declared.Part.{Part}
 use Rattle.layout.specs.Granule.{mostSectors}
-use Rattle.seek.specs.Seek.{Sound, Used}
+use Rattle.seek.specs.Seek.{Walkable, Used}
 
-pub record File (g : Geometry) (d : List ℕ) (s : ℕ) : Type 0 where
-  pub sound : Sound g d
+pub record Readable (g : Geometry) (d : List ℕ) (s : ℕ) : Type 0 where
+  pub sound : Walkable g d
   pub used : Used g d s
 
 -- bytes i to i + n are owned

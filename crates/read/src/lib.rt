@@ -10,14 +10,14 @@ ghost use Prim.Native.Nat.{_+_, _-_, _*_, _<_, _≤_};
 ghost use lib.ListN.{length, drop};
 ghost use lib.Seq.{sets};
 ghost use denote.Ref.{ptr};
-ghost use lib.Dec.{leb, ltb};
+ghost use lib.Dec.{leb};
 ghost use Rattle.meaning.specs.Lists.{all};
-ghost use Rattle.meaning.specs.Layout.{sectorNumbers};
 ghost use Rattle.meaning.specs.Read.{fetch, readRefusals, readRecord, sectorRefusals, sectorBytes, readSector};
 ghost use Rattle.meaning.specs.Entries.{sectorCount};
 ghost use Rattle.layout.specs.Room.{Room, Slot};
-ghost use Rattle.meaning.specs.Refusals.{first, check, inRange};
-ghost use Rattle.read.specs.Part.{Rest, File, Owned, InGranule, partOf, Lies};
+ghost use Rattle.meaning.specs.Refusals.{first, check};
+ghost use Rattle.meaning.specs.Handles.{inRange};
+ghost use Rattle.read.specs.Part.{Rest, Readable, Owned, InGranule, partOf, Lies};
 
 // n bytes of the file from byte i on, all in one granule, go to the buffer at `to`: one walk along the chain, one copy.
 pub fn read_part(
@@ -29,7 +29,7 @@ pub fn read_part(
     buffer: &mut [u8],
     to: usize,
 )
-    requires { ⌜ File g (now image) s × Owned g (now image) s i n × InGranule g i n × (to + n ≤ length (now buffer)) ⌝ }
+    requires { ⌜ Readable g (now image) s × Owned g (now image) s i n × InGranule g i n × (to + n ≤ length (now buffer)) ⌝ }
     ensures { λ _. ⌜ now (buffer .exit) ≡ sets (now (buffer .entry)) to (fetch g (now (image .entry)) s i n) ⌝ }
 {
     let p = seek::place(image, g, s, i);
@@ -55,7 +55,7 @@ pub fn part_of(g: Geometry, i: usize, n: usize) -> usize
 
 // n bytes, at most 256, of the file from byte i on go to the buffer's start: granule by granule, so two parts at the most.
 pub fn read_bytes(image: &[u8], g: Geometry, s: usize, i: usize, n: usize, buffer: &mut [u8])
-    requires { ⌜ File g (now image) s × Owned g (now image) s i n × (n ≤ 256) × (n ≤ length (now buffer)) ⌝ }
+    requires { ⌜ Readable g (now image) s × Owned g (now image) s i n × (n ≤ 256) × (n ≤ length (now buffer)) ⌝ }
     ensures { λ _. ⌜ now (buffer .exit) ≡ fetch g (now (image .entry)) s i n ++ drop n (now (buffer .entry)) ⌝ }
 {
     let first = rest_of(g, i);
@@ -120,21 +120,11 @@ pub fn record_checked(
     }
 }
 
-// Test 12 of a call that names a sector.
-pub fn sector_ranged(g: Geometry, h: Handle, k: usize) -> bool
-    ensures { λ r. ⌜ r ≡ all (inRange g h ∷ ltb k (sectorNumbers g) ∷ []) ⌝ }
-{
-    if !handle::in_range(g, h) {
-        return false;
-    }
-    k < layout::sector_numbers(g)
-}
-
 pub fn sector_number(image: &[u8], g: Geometry, h: Handle, k: usize, checked: Refusal) -> u8
     requires { ⌜ checked ≡ check g (now image) ⌝ }
     ensures { λ r. ⌜ r ≡ first (sectorRefusals g (now (image .entry)) h k) ⌝ }
 {
-    let ranged = sector_ranged(g, h, k);
+    let ranged = handle::sector_ranged(g, h, k);
     let number = handle::reading_number(image, g, h, ranged, checked);
     if number != 0 {
         return number;

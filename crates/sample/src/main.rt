@@ -12,7 +12,7 @@ fn disk() -> Geometry {
         blocks: 16,
         units: 2,
         start: 80,
-        anyone: 0,
+        noPassword: 0,
         system: true,
         granule: 5,
     }

@@ -12,18 +12,18 @@ use borrow.Author.Tests.{eqb-true}
 use Rattle.meaning.specs.Lists.{each, through}
 use Rattle.meaning.specs.Layout.{directorySectors, field, granules, slots, freeGranule, gatAt, byte, granuleBytes}
 use Rattle.meaning.specs.Bits.{bit, withoutBit}
-use Rattle.meaning.specs.Entries.{inUse, extension, primary, marker, link, runs, runStart, runLength, entryGranules, sizeOf}
+use Rattle.meaning.specs.Entries.{inUse, extension, inUsePrimary, marker, link, runs, runStart, runLength, entryGranules, sizeOf}
 use Rattle.meaning.specs.Chain.{chainFrom, chain, owned, place}
 use Rattle.meaning.specs.declared.Geometry.{Geometry}
-use Rattle.laws.specs.Members.{In, none-in, in-cons, each-eq}
+use Rattle.lists.specs.Members.{In, none-in, in-cons, each-eq}
 use Rattle.laws.specs.Entry.{runs-le}
 use Rattle.laws.specs.Frame
 use Rattle.layout.specs.Room.{Room, Slot}
-use Rattle.layout.proofs.Laws.{gat-low}
-use Rattle.layout.proofs.Lists.{and-l}
-use Rattle.seek.specs.Seek.{Sound, Used}
-use Rattle.seek.proofs.Laws.{slots-same}
-use Rattle.seek.proofs.Sound.{Low}
+use Rattle.layout.proofs.OneStep.{gat-low}
+use Rattle.lists.specs.Tests.{and-l}
+use Rattle.seek.specs.Seek.{Walkable, Used}
+use Rattle.seek.proofs.SeekSteps.{slots-same}
+use Rattle.seek.proofs.IsWalkable.{Low}
 
 pub record Same (g : Geometry) (d d′ : List ℕ) : Type 0 where
   pub long : length d′ ≡ length d
@@ -94,7 +94,7 @@ module _ (g : Geometry) (d d′ : List ℕ) (r : Room g d) (e : Same g d d′) w
   same-slots = slots-same g d d′ same-sectors
 
 -- every entry along a chain is in use
-used-along : (g : Geometry) (d : List ℕ) → Sound g d → (left s x : ℕ) → Used g d s → In x (chainFrom g d left s) → Used g d x
+used-along : (g : Geometry) (d : List ℕ) → Walkable g d → (left s x : ℕ) → Used g d s → In x (chainFrom g d left s) → Used g d x
 unfolding chainFrom
 used-along g d snd zero s x u i = none-in i
 used-along g d snd (suc left) s x u i = by (λ w k. used-along g d snd left (link g d s) x w k) (in-cons i)
@@ -109,7 +109,7 @@ used-along g d snd (suc left) s x u i = by (λ w k. used-along g d snd left (lin
     by ih (inl q) = rw q u
     by ih (inr j) = on ih (eqb (marker g d s) 0xfe) refl j
 
-module _ (g : Geometry) (d d′ : List ℕ) (snd : Sound g d) (e : Same g d d′) where
+module _ (g : Geometry) (d d′ : List ℕ) (snd : Walkable g d) (e : Same g d d′) where
   -- the entries of a chain, and their granules
   pub same-slots-of : (left s : ℕ) → Used g d s → chainFrom g d′ left s ≡ chainFrom g d left s
   same-slots-of left s u =
@@ -154,7 +154,7 @@ same-free g d n r h =
     let l = gat-low g n h (r .units-low) in let b = r .blocks-high in
     same-before g d (gatAt g n) (withoutBit (n % g .units) (byte d (gatAt g n))) (omega arith)
 
-module _ (g : Geometry) (d d′ : List ℕ) (snd : Sound g d) (e : Same g d d′) where
+module _ (g : Geometry) (d d′ : List ℕ) (snd : Walkable g d) (e : Same g d d′) where
   slot-back : {s : ℕ} → Slot g d′ s → Slot g d s
   slot-back sl = same-slot g d′ d (same-room g d d′ (snd .room) e) (same-sym g d d′ (snd .room) e) sl
 
@@ -164,14 +164,14 @@ module _ (g : Geometry) (d d′ : List ℕ) (snd : Sound g d) (e : Same g d d′
   f-same : (s k : ℕ) → Slot g d s → k < 32 → field g d′ s k ≡ field g d s k
   f-same = same-field g d d′ (snd .room) e
 
-  primary-same : (s : ℕ) → Slot g d s → primary g d′ s ≡ primary g d s
+  primary-same : (s : ℕ) → Slot g d s → inUsePrimary g d′ s ≡ inUsePrimary g d s
   primary-same s sl = rw (f-same s 0 sl (omega arith))
 
   size-same : (s : ℕ) → Slot g d s → sizeOf g d′ s ≡ sizeOf g d s
   unfolding sizeOf
   size-same s sl = rw (f-same s 3 sl (omega arith), f-same s 0x14 sl (omega arith), f-same s 0x15 sl (omega arith))
 
-  pub same-sound : Sound g d′
+  pub same-sound : Walkable g d′
   same-sound =
       record {
         room = same-room g d d′ (snd .room) e;
@@ -185,7 +185,7 @@ module _ (g : Geometry) (d d′ : List ℕ) (snd : Sound g d) (e : Same g d d′
             rw (same-start g d d′ (snd .room) e s k (w .slot) (omega arith), same-len g d d′ (snd .room) e s k (w .slot) (omega arith)) (snd .run s k w l′);
         size = λ s sl p.
             let w = slot-back sl in
-            let p′ : primary g d s ≡ true = sym (primary-same s w) ∙ p in
+            let p′ : inUsePrimary g d s ≡ true = sym (primary-same s w) ∙ p in
             rw (size-same s w, same-owned g d d′ snd e s (record { slot = w; used = and-l (inUse g d s) (not (extension g d s)) p′ })) (snd .size s w p′);
       }
 

@@ -6,7 +6,7 @@ use Prim.Native.Nat.{ℕ, _+_, _-_, _*_, _<_, _≤_}
 use lib.ListN.{length, getD}
 use lib.Dec.{eqb, ltb}
 use Rattle.meaning.specs.Layout.{granules, granuleBytes}
-use Rattle.meaning.specs.Entries.{inUse, primary, marker, link, runs, runStart, runLength, sizeOf}
+use Rattle.meaning.specs.Entries.{inUse, inUsePrimary, marker, link, runs, runStart, runLength, sizeOf}
 use Rattle.meaning.specs.Chain.{chainFrom, owned}
 use Rattle.meaning.specs.declared.Geometry.{Geometry}
 use Rattle.layout.specs.Room.{Room, Slot}
@@ -18,11 +18,11 @@ pub record Used (g : Geometry) (d : List ℕ) (s : ℕ) : Type 0 where
   pub used : inUse g d s ≡ true
 
 -- what of a consistent disk the walk uses
-pub record Sound (g : Geometry) (d : List ℕ) : Type 0 where
+pub record Walkable (g : Geometry) (d : List ℕ) : Type 0 where
   pub room : Room g d
   pub next : (s : ℕ) → Used g d s → marker g d s ≡ 0xfe → Used g d (link g d s)
   pub run : (s k : ℕ) → Used g d s → k < runs g d s → runStart g d s k + runLength g d s k ≤ granules g
-  pub size : (s : ℕ) → Slot g d s → primary g d s ≡ true → sizeOf g d s ≤ granuleBytes g * length (owned g d s)
+  pub size : (s : ℕ) → Slot g d s → inUsePrimary g d s ≡ true → sizeOf g d s ≤ granuleBytes g * length (owned g d s)
 
 -- element k of a list, or how far past its end k is
 unfoldable pub seekIn : List ℕ → ℕ → Seek

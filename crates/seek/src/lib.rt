@@ -7,7 +7,7 @@ ghost use Rattle.meaning.specs.Lists.{each};
 ghost use Rattle.meaning.specs.Entries.{entryGranules};
 ghost use Rattle.meaning.specs.Chain.{chainFrom, owned, place};
 ghost use Rattle.layout.specs.Room.{Room, Slot};
-ghost use Rattle.seek.specs.Seek.{Sound, Used, Sought};
+ghost use Rattle.seek.specs.Seek.{Walkable, Used, Sought};
 
 pub struct Seek {
     pub here: bool,
@@ -46,7 +46,7 @@ pub fn seek_entry(image: &[u8], g: Geometry, s: usize, k: usize) -> Seek
 
 // Granule k of a file from the entry at slot s on; 0 past the last.
 pub fn entry_walk(image: &[u8], g: Geometry, s: usize, k: usize, left: usize) -> usize
-    requires { ⌜ Sound g (now image) × Used g (now image) s × (k < 65536) ⌝ }
+    requires { ⌜ Walkable g (now image) × Used g (now image) s × (k < 65536) ⌝ }
     ensures { λ r. ⌜ (r ≡ getD (each (entryGranules g (now (image .entry))) (chainFrom g (now (image .entry)) left s)) k 0) × (r ≤ k + 2080) ⌝ }
 {
     let mut at = s;
@@ -69,7 +69,7 @@ pub fn entry_walk(image: &[u8], g: Geometry, s: usize, k: usize, left: usize) ->
 
 // Granule k of the file at slot s.
 pub fn owned_at(image: &[u8], g: Geometry, s: usize, k: usize) -> usize
-    requires { ⌜ Sound g (now image) × Used g (now image) s × (k < 65536) ⌝ }
+    requires { ⌜ Walkable g (now image) × Used g (now image) s × (k < 65536) ⌝ }
     ensures { λ r. ⌜ (r ≡ getD (owned g (now (image .entry)) s) k 0) × (r ≤ k + 2080) ⌝ }
 {
     let n = layout::directory_sectors(image, g);
@@ -78,7 +78,7 @@ pub fn owned_at(image: &[u8], g: Geometry, s: usize, k: usize) -> usize
 
 // Where byte i of the file at slot s lies in the image.
 pub fn place(image: &[u8], g: Geometry, s: usize, i: usize) -> usize
-    requires { ⌜ Sound g (now image) × Used g (now image) s × (i < 16777216) ⌝ }
+    requires { ⌜ Walkable g (now image) × Used g (now image) s × (i < 16777216) ⌝ }
     ensures { λ r. ⌜ r ≡ place g (now (image .entry)) s i ⌝ }
 {
     let w = layout::granule_bytes(g);

@@ -17,9 +17,9 @@ use Rattle.meaning.specs.Layout.{byte, granules, taken}
 use Rattle.meaning.specs.Bits.{digit}
 use Rattle.meaning.specs.Free.{freeGranules}
 use Rattle.meaning.specs.declared.Geometry.{Geometry}
-use Rattle.layout.proofs.Laws.{digit-at}
-use Rattle.layout.proofs.Lists.{keep-yes, keep-no}
-use Rattle.seek.proofs.Below.{allBelow, all-below, alike, alike-eq}
+use Rattle.layout.proofs.OneStep.{digit-at}
+use Rattle.lists.specs.Tests.{keep-yes, keep-no}
+use Rattle.lists.specs.Below.{allBelow, all-below, alike, alike-eq}
 use Rattle.space.specs.Clear.{clearBits}
 
 pub shl-wide : (n : ℕ) → n ≤ 8 → 1 * 2 ^ n % 18446744073709551616 ≡ 2 ^ n

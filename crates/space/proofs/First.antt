@@ -12,8 +12,8 @@ use Rattle.meaning.specs.Lists.{count, keep, all, firstOr}
 use Rattle.meaning.specs.Layout.{directorySectors, isSlot, hit}
 use Rattle.meaning.specs.Free.{freeSlots, freeSlot, permitted, kept}
 use Rattle.meaning.specs.declared.Geometry.{Geometry}
-use Rattle.layout.proofs.Lists.{keep-yes, keep-no, all-yes, all-no, all-none, all-one, le-or-lt}
-use Rattle.layout.proofs.Sound.{slot-yes, slot-no}
+use Rattle.lists.specs.Tests.{keep-yes, keep-no, all-yes, all-no, all-none, all-one, le-or-lt}
+use Rattle.layout.proofs.HasRoom.{slot-yes, slot-no}
 use Rattle.space.specs.Keeps.{Keeps}
 
 -- none of the numbers below m passes the test

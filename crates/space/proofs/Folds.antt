@@ -16,11 +16,11 @@ use Rattle.meaning.specs.Chain.{chainFrom, chain, owned}
 use Rattle.meaning.specs.Kill.{killEntry}
 use Rattle.meaning.specs.declared.Geometry.{Geometry}
 use Rattle.layout.specs.Room.{Room, Slot}
-use Rattle.layout.proofs.Laws.{left-more, left-none}
-use Rattle.seek.specs.Seek.{Sound, Used, onward}
-use Rattle.seek.proofs.Laws.{chain-more, chain-none, slots-length}
+use Rattle.lists.specs.Ranges.{left-more, left-none}
+use Rattle.seek.specs.Seek.{Walkable, Used, onward}
+use Rattle.seek.proofs.SeekSteps.{chain-more, chain-none, slots-length}
 use Rattle.seek.proofs.Frame.{opened, room-kept, slot-kept, Same, same-refl, same-trans, same-free, same-room, same-entry, same-sound, same-all, same-used, same-slots-of}
-use Rattle.seek.proofs.Sound.{low-entry, low-chain}
+use Rattle.seek.proofs.IsWalkable.{low-entry, low-chain}
 
 pub through-append : (f : List ℕ → ℕ → List ℕ) (x : List ℕ) (xs ys : List ℕ) → through f x (xs ++ ys) ≡ through f (through f x xs) ys
 through-append f x [] ys = refl
@@ -99,7 +99,7 @@ module _ (g : Geometry) where
   unchaining-start d most s u = record { rest = refl; same = same-refl g d; used = u }
 
   -- the image once the entry at `at` gave its granules back
-  unchained : {d d′ d″ : List ℕ} {most s at left : ℕ} → Sound g d → Unchaining d most s d′ at left → (left ≡ 0 → ⊥) → d″ ≡ through (freeGranule g) d′ (entryGranules g d′ at)
+  unchained : {d d′ d″ : List ℕ} {most s at left : ℕ} → Walkable g d → Unchaining d most s d′ at left → (left ≡ 0 → ⊥) → d″ ≡ through (freeGranule g) d′ (entryGranules g d′ at)
       → through (freeGranule g) d (each (entryGranules g d) (chainFrom g d most s)) ≡ through (freeGranule g) d″ (each (entryGranules g d) (onward g d (left - 1) at))
   unchained {d} {d′} {d″} {most} {s} {at} {left} snd f n e =
       f .rest ∙ ap (through (freeGranule g) d′) (chain-more g d left at n)
@@ -107,20 +107,20 @@ module _ (g : Geometry) where
       ∙ ap (λ (l : List ℕ). through (freeGranule g) (through (freeGranule g) d′ l) (each (entryGranules g d) (onward g d (left - 1) at))) (sym (same-entry g d d′ (snd .room) (f .same) at (f .used .slot)))
       ∙ ap (λ (z : List ℕ). through (freeGranule g) z (each (entryGranules g d) (onward g d (left - 1) at))) (sym e)
 
-  pub unchained-same : {d d′ d″ : List ℕ} {most s at left : ℕ} → Sound g d → Unchaining d most s d′ at left → d″ ≡ through (freeGranule g) d′ (entryGranules g d′ at) → Same g d d″
+  pub unchained-same : {d d′ d″ : List ℕ} {most s at left : ℕ} → Walkable g d → Unchaining d most s d′ at left → d″ ≡ through (freeGranule g) d′ (entryGranules g d′ at) → Same g d d″
   unchained-same {d} {d′} {d″} {most} {s} {at} {left} snd f e =
       let r′ = same-room g d d′ (snd .room) (f .same) in
       let s′ = same-sound g d d′ snd (f .same) in
       let u′ = same-used g d d′ (snd .room) (f .same) (f .used) in
       rw e (same-trans g d d′ (through (freeGranule g) d′ (entryGranules g d′ at)) (snd .room) (f .same) (same-all g d′ (entryGranules g d′ at) r′ (low-entry g d′ s′ at u′)))
 
-  pub unchaining-stop : {d d′ d″ : List ℕ} {most s at left m : ℕ} → Sound g d → Unchaining d most s d′ at left → 0 < left → d″ ≡ through (freeGranule g) d′ (entryGranules g d′ at)
+  pub unchaining-stop : {d d′ d″ : List ℕ} {most s at left m : ℕ} → Walkable g d → Unchaining d most s d′ at left → 0 < left → d″ ≡ through (freeGranule g) d′ (entryGranules g d′ at)
       → m ≡ marker g d at → (m ≡ 0xfe → ⊥) → d″ ≡ through (freeGranule g) d (each (entryGranules g d) (chainFrom g d most s))
   unchaining-stop {d} {d′} {d″} {most} {s} {at} {left} {m} snd f n e q nay =
       sym (unchained snd f (λ z. omega arith) e
       ∙ ap (λ (t : Bool). through (freeGranule g) d″ (each (entryGranules g d) (cond t (chainFrom g d (left - 1) (link g d at)) []))) (ne-eqb (marker g d at) 0xfe (λ z. nay (q ∙ z))))
 
-  pub unchaining-step : {d d′ d″ : List ℕ} {most s at left m t : ℕ} → Sound g d → Unchaining d most s d′ at left → 0 < left → d″ ≡ through (freeGranule g) d′ (entryGranules g d′ at)
+  pub unchaining-step : {d d′ d″ : List ℕ} {most s at left m t : ℕ} → Walkable g d → Unchaining d most s d′ at left → 0 < left → d″ ≡ through (freeGranule g) d′ (entryGranules g d′ at)
       → m ≡ marker g d at → m ≡ 0xfe → t ≡ link g d at → Unchaining d most s d″ t (left - 1)
   unchaining-step {d} {d′} {d″} {most} {s} {at} {left} {m} {t} snd f n e q ys w =
       record {
@@ -205,7 +205,7 @@ module _ (g : Geometry) where
       let w : m ≡ marker g d at = q ∙ f .kept .fields at 0x1e (f .used .slot) (omega arith) (omega arith) in
       sym (cleared f n e ∙ ap (λ (t : Bool). through (killEntry g) d″ (cond t (chainFrom g d (left - 1) (link g d at)) [])) (ne-eqb (marker g d at) 0xfe (λ z. nay (w ∙ z))))
 
-  pub clearing-step : {d d′ d″ : List ℕ} {most s at left m t : ℕ} → Sound g d → Clearing d most s d′ at left → 0 < left → d″ ≡ killEntry g d′ at
+  pub clearing-step : {d d′ d″ : List ℕ} {most s at left m t : ℕ} → Walkable g d → Clearing d most s d′ at left → 0 < left → d″ ≡ killEntry g d′ at
       → m ≡ field g d′ at 0x1e → t ≡ field g d′ at 0x1f → m ≡ 0xfe → Clearing d most s d″ t (left - 1)
   clearing-step {d} {d′} {d″} {most} {s} {at} {left} {m} {t} snd f n e q v ys =
       let w : m ≡ marker g d at = q ∙ f .kept .fields at 0x1e (f .used .slot) (omega arith) (omega arith) in
@@ -221,10 +221,10 @@ module _ (g : Geometry) where
   pub clearing-end : {d d′ : List ℕ} {most s at left : ℕ} → Clearing d most s d′ at left → left ≤ 0 → d′ ≡ through (killEntry g) d (chainFrom g d most s)
   clearing-end {d} {d′} {most} {s} {at} {left} f h = sym (f .rest ∙ ap (through (killEntry g) d′) (chain-none g d left at (omega arith)))
 
-  pub freed-same : {d d′ : List ℕ} {s : ℕ} (most : ℕ) → Sound g d → Used g d s → d′ ≡ through (freeGranule g) d (each (entryGranules g d) (chainFrom g d most s)) → Same g d d′
+  pub freed-same : {d d′ : List ℕ} {s : ℕ} (most : ℕ) → Walkable g d → Used g d s → d′ ≡ through (freeGranule g) d (each (entryGranules g d) (chainFrom g d most s)) → Same g d d′
   freed-same {d} {d′} {s} most snd u e = rw e (same-all g d (each (entryGranules g d) (chainFrom g d most s)) (snd .room) (low-chain g d snd most s u))
 
-  pub killed : {d d′ d″ : List ℕ} {n s : ℕ} → Sound g d → Used g d s → n ≡ directorySectors g d → d′ ≡ through (freeGranule g) d (each (entryGranules g d) (chainFrom g d (8 * (n - 2)) s))
+  pub killed : {d d′ d″ : List ℕ} {n s : ℕ} → Walkable g d → Used g d s → n ≡ directorySectors g d → d′ ≡ through (freeGranule g) d (each (entryGranules g d) (chainFrom g d (8 * (n - 2)) s))
       → d″ ≡ through (killEntry g) d′ (chainFrom g d′ (8 * (n - 2)) s) → d″ ≡ through (killEntry g) (through (freeGranule g) d (owned g d s)) (chain g d s)
   unfolding owned chain
   killed {d} {d′} {d″} {n} {s} snd u q e f =

@@ -13,7 +13,7 @@ ghost use Rattle.meaning.specs.Kill.{killEntry};
 ghost use Rattle.meaning.specs.Entries.{entryGranules};
 ghost use Rattle.meaning.specs.Chain.{chainFrom, chain, owned};
 ghost use Rattle.layout.specs.Room.{Room, Slot};
-ghost use Rattle.seek.specs.Seek.{Sound, Used};
+ghost use Rattle.seek.specs.Seek.{Walkable, Used};
 ghost use Rattle.space.specs.Clear.{clearBits};
 ghost use Rattle.space.specs.Keeps.{Keeps};
 
@@ -73,7 +73,7 @@ pub fn free_run(image: &mut [u8], g: Geometry, a: usize, n: usize)
 
 // Gives back the granules of the entry at slot s.
 pub fn free_entry(image: &mut [u8], g: Geometry, s: usize)
-    requires { ⌜ Sound g (now image) × Used g (now image) s ⌝ }
+    requires { ⌜ Walkable g (now image) × Used g (now image) s ⌝ }
     ensures { λ _. ⌜ now (image .exit) ≡ through (freeGranule g) (now (image .entry)) (entryGranules g (now (image .entry)) s) ⌝ }
 {
     let n = layout::runs(image, g, s);
@@ -88,7 +88,7 @@ pub fn free_entry(image: &mut [u8], g: Geometry, s: usize)
 
 // Gives back the granules of a file from the entry at slot s on, `most` entries at the most.
 pub fn free_chain(image: &mut [u8], g: Geometry, s: usize, most: usize)
-    requires { ⌜ Sound g (now image) × Used g (now image) s ⌝ }
+    requires { ⌜ Walkable g (now image) × Used g (now image) s ⌝ }
     ensures { λ _. ⌜ now (image .exit) ≡ through (freeGranule g) (now (image .entry)) (each (entryGranules g (now (image .entry))) (chainFrom g (now (image .entry)) most s)) ⌝ }
 {
     let mut at = s;
@@ -105,7 +105,7 @@ pub fn free_chain(image: &mut [u8], g: Geometry, s: usize, most: usize)
 
 // Clears the entries of a file from the one at slot s on. Each is left by what its marker and link said before.
 pub fn kill_chain(image: &mut [u8], g: Geometry, s: usize, most: usize)
-    requires { ⌜ Sound g (now image) × Used g (now image) s ⌝ }
+    requires { ⌜ Walkable g (now image) × Used g (now image) s ⌝ }
     ensures { λ _. ⌜ now (image .exit) ≡ through (killEntry g) (now (image .entry)) (chainFrom g (now (image .entry)) most s) ⌝ }
 {
     let mut at = s;
@@ -124,7 +124,7 @@ pub fn kill_chain(image: &mut [u8], g: Geometry, s: usize, most: usize)
 
 // What an accepted kill leaves of the image.
 pub fn kill_file(image: &mut [u8], g: Geometry, s: usize)
-    requires { ⌜ Sound g (now image) × Used g (now image) s ⌝ }
+    requires { ⌜ Walkable g (now image) × Used g (now image) s ⌝ }
     ensures { λ _. ⌜ now (image .exit) ≡ through (killEntry g) (through (freeGranule g) (now (image .entry)) (owned g (now (image .entry)) s)) (chain g (now (image .entry)) s) ⌝ }
 {
     let most = 8 * (layout::directory_sectors(image, g) - 2);

@@ -7,7 +7,7 @@ use lib.ListN.{getD}
 use Rattle.meaning.specs.Layout.{byte}
 use Rattle.meaning.specs.LookUp.{lookUp}
 use Rattle.meaning.specs.Calls.{Call, number, leaves}
-use Rattle.meaning.specs.Samples.{opened, three, sample, puls, held, hits}
+use Rattle.meaning_table.specs.Samples.{opened, three, sample, puls, held, hits}
 use Rattle.meaning.specs.declared.Geometry.{Geometry}
 use Rattle.meaning.specs.declared.Handle.{Handle}
 use Rattle.meaning.specs.Calls.Call.{checks, looksUp, reads, kills}

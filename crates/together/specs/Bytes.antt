@@ -11,7 +11,8 @@ use lib.Dec.{T, eqb, leb, lt→ltb, le→leb}
 use Rattle.meaning.specs.Layout.{byte, entryAt}
 use Rattle.meaning.specs.Entries.{nameOf}
 use Rattle.meaning.specs.Lists.{firstOr}
-use Rattle.meaning.specs.Refusals.{first, movedTo}
+use Rattle.meaning.specs.Refusals.{first}
+use Rattle.meaning.specs.Handles.{movedTo}
 use Rattle.meaning.specs.Names.{fold}
 use Rattle.meaning.specs.Open.{open′, openedAt}
 use Rattle.meaning.specs.Read.{readRecord}
@@ -21,7 +22,7 @@ use Rattle.meaning.specs.Calls.{number, leaves}
 use Rattle.meaning.specs.declared.Geometry.{Geometry}
 use Rattle.meaning.specs.declared.Handle.{Handle}
 use Rattle.meaning.specs.declared.Mode.{Mode}
-use Rattle.laws.specs.Members
+use Rattle.lists.specs.Members
 use Rattle.laws.specs.Facts
 use Rattle.laws.specs.Facts.{Sound}
 use Rattle.laws.specs.Places
@@ -87,14 +88,14 @@ write-handle g d m h b e = rw e
 
 module _ (g : Geometry) (d₀ : List ℕ) (c₀ : Sound g d₀) (n : Name) where
   -- the bytes of its entry are the file's
-  entry-region : (p : ℕ) → Facts.File g d₀ p → nameOf g d₀ p ≡ (fold n) → (k : ℕ) → k < 32 → T (region g d₀ (fold n) (entryAt g p + k))
+  entry-region : (p : ℕ) → Facts.IsFile g d₀ p → nameOf g d₀ p ≡ (fold n) → (k : ℕ) → k < 32 → T (region g d₀ (fold n) (entryAt g p + k))
   entry-region p f e k l = rw (Quiet.region-is g d₀ c₀ p (fold n) (entryAt g p + k) f e) (Members.or-l (inEntry g p (entryAt g p + k)) (inData g d₀ p (entryAt g p + k))
       (Members.and-i (leb (entryAt g p) (entryAt g p + k)) _ (le→leb (entryAt g p) (entryAt g p + k) (omega arith)) (lt→ltb (entryAt g p + k) (entryAt g p + 32) (omega arith))))
 
-  named-one : (p : ℕ) → named g d₀ (fold n) ≡ p ∷ [] → Facts.File g d₀ p × (nameOf g d₀ p ≡ (fold n))
+  named-one : (p : ℕ) → named g d₀ (fold n) ≡ p ∷ [] → Facts.IsFile g d₀ p × (nameOf g d₀ p ≡ (fold n))
   named-one p e = go (Named.look g d₀ c₀ (fold n))
     where
-      go : ((q : ℕ) × Facts.File g d₀ q × (nameOf g d₀ q ≡ (fold n))) ⊎ ((q : ℕ) → Facts.File g d₀ q → nameOf g d₀ q ≢ (fold n)) → Facts.File g d₀ p × (nameOf g d₀ p ≡ (fold n))
+      go : ((q : ℕ) × Facts.IsFile g d₀ q × (nameOf g d₀ q ≡ (fold n))) ⊎ ((q : ℕ) → Facts.IsFile g d₀ q → nameOf g d₀ q ≢ (fold n)) → Facts.IsFile g d₀ p × (nameOf g d₀ p ≡ (fold n))
       go (inl w) =
           let z : w .0 ≡ p = head-eq-of-cons-eq (sym (ap (named g d₀) (sym (w .2)) ∙ Named.named-is g d₀ c₀ (w .0) (w .1)) ∙ e) in
           (rw (← z) (w .1), rw (← z) (w .2))
@@ -104,7 +105,7 @@ module _ (g : Geometry) (d₀ : List ℕ) (c₀ : Sound g d₀) (n : Name) where
   unfolding firstOr
   named-first o k l = go (Named.look g d₀ c₀ (fold n))
     where
-      go : ((q : ℕ) × Facts.File g d₀ q × (nameOf g d₀ q ≡ (fold n))) ⊎ ((q : ℕ) → Facts.File g d₀ q → nameOf g d₀ q ≢ (fold n)) → T (region g d₀ (fold n) (entryAt g (firstOr 0 (named g d₀ (fold n))) + k))
+      go : ((q : ℕ) × Facts.IsFile g d₀ q × (nameOf g d₀ q ≡ (fold n))) ⊎ ((q : ℕ) → Facts.IsFile g d₀ q → nameOf g d₀ q ≢ (fold n)) → T (region g d₀ (fold n) (entryAt g (firstOr 0 (named g d₀ (fold n))) + k))
       go (inl w) =
           let one′ : named g d₀ (fold n) ≡ w .0 ∷ [] = ap (named g d₀) (sym (w .2)) ∙ Named.named-is g d₀ c₀ (w .0) (w .1) in
           subst (λ (x : ℕ). T (region g d₀ (fold n) (entryAt g x + k))) (sym (ap (firstOr 0) one′)) (entry-region (w .0) (w .1) (w .2) k l)

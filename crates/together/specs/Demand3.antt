@@ -5,7 +5,9 @@ use mathlib.Core.List.{List, [], _∷_, List-discrete}
 use Prim.Native.Nat.{ℕ}
 use native.Mathlib.Decide.{ℕ-discrete}
 use Rattle.meaning.specs.Names.{fold}
-use Rattle.meaning.specs.Plain.{Found, found, nothing, plain, hush, AreBytes}
+use Rattle.meaning.specs.Plain.{Found, found, nothing, plain}
+use Rattle.promises_words.specs.Untouched.{hush}
+use Rattle.promises_words.specs.Given.{AreBytes}
 use Rattle.meaning.specs.declared.Geometry.{Geometry}
 use Rattle.laws.specs.Facts
 use Rattle.together.specs.Statement.{Name, Step, Turn, one, two, Interleaving, none, left, right, AllBring, World, start, next, after, Taken, Accepted, Quiet, AllQuiet, Same, Demand3}

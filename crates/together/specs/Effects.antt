@@ -12,7 +12,7 @@ use Rattle.meaning.specs.Entries.{system, nameOf, accessLevel}
 use Rattle.meaning.specs.Consistent.{consistent}
 use Rattle.meaning.specs.Lists.{firstOr}
 use Rattle.meaning.specs.Free.{freeSlots}
-use Rattle.meaning.specs.Refusals.{movedTo, noHandle}
+use Rattle.meaning.specs.Handles.{movedTo, noHandle}
 use Rattle.meaning.specs.Names.{fold}
 use Rattle.meaning.specs.LookUp.{lookUp, named, missing}
 use Rattle.meaning.specs.Open.{open′, full, openedAt}
@@ -23,12 +23,13 @@ use Rattle.meaning.specs.Allot.{allot}
 use Rattle.meaning.specs.Trim.{trim}
 use Rattle.meaning.specs.Kill.{kill}
 use Rattle.meaning.specs.Calls.{number, leaves}
-use Rattle.meaning.specs.Plain.{File, Found, found, nothing, fileAt, foundIn, plain, hush, bornAs, writtenTo, allottedTo, trimmed}
+use Rattle.meaning.specs.Plain.{File, Found, found, nothing, fileAt, foundIn, plain, bornAs, writtenTo, allottedTo, trimmed}
+use Rattle.promises_words.specs.Untouched.{hush}
 use Rattle.meaning.specs.declared.Geometry.{Geometry}
 use Rattle.meaning.specs.declared.Handle.{Handle}
 use Rattle.meaning.specs.declared.NewFile.{NewFile}
 use Rattle.meaning.specs.declared.Mode.{Mode}
-use Rattle.laws.specs.Members
+use Rattle.lists.specs.Members
 use Rattle.laws.specs.Passed
 use Rattle.promises.specs.KillMeans
 use Rattle.laws.specs.Passed.{Holds}

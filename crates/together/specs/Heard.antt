@@ -8,10 +8,12 @@ use lib.Dec.{T, ltb}
 use lib.ListN.{length, getD, take, drop, replicate, List·getD-map}
 use lib.Seq.{slice}
 use Rattle.meaning.specs.Names.{fold}
-use Rattle.meaning.specs.Refusals.{noHandle}
+use Rattle.meaning.specs.Handles.{noHandle}
 use Rattle.meaning.specs.Calls.{Call, number, leaves}
 use Rattle.meaning.specs.Read.{readRecord, readSector}
-use Rattle.meaning.specs.Plain.{File, Found, found, nothing, plain, isSystem, hush, AreBytes}
+use Rattle.meaning.specs.Plain.{File, Found, found, nothing, plain, isSystem}
+use Rattle.promises_words.specs.Untouched.{hush}
+use Rattle.promises_words.specs.Given.{AreBytes}
 use Rattle.meaning.specs.declared.Geometry.{Geometry}
 use Rattle.meaning.specs.declared.Handle.{Handle}
 use Rattle.promises.specs.Promises

@@ -9,13 +9,13 @@ use lib.ListN.{length, take, replicate, length-take}
 use lib.Dec.{T, eqb, eqb→eq, ltb, leb, T-not, ltb→lt, leb→le}
 use Rattle.meaning.specs.Lists.{keep, each, has, times, all}
 use Rattle.meaning.specs.Layout.{entryAt, granuleBytes, directoryGranules, aboveTen}
-use Rattle.meaning.specs.Sizes
+use Rattle.lists.specs.Sizes
 use Rattle.meaning.specs.Entries.{nameOf, sizeOf, keepsSpace}
 use Rattle.meaning.specs.Chain.{chain, owned, place}
 use Rattle.meaning.specs.Lists.{firstOr}
-use Rattle.meaning.specs.Growth.{growBy, growth, orElse, diskOr}
+use Rattle.meaning.specs.Growth.{growBy, growth, orElse, diskOr, lacking, withGranules}
 use Rattle.meaning.specs.Drop.{dropOne}
-use Rattle.meaning.specs.Refusals.{lacking, larger, inRange}
+use Rattle.meaning.specs.Handles.{inRange}
 use Rattle.meaning.specs.Names.{fold}
 use Rattle.meaning.specs.Create.{create}
 use Rattle.meaning.specs.Write.{writeRecord, sizeAfter, withSize, store}
@@ -30,8 +30,8 @@ use Rattle.meaning.specs.declared.Geometry.{Geometry}
 use Rattle.meaning.specs.declared.Handle.{Handle}
 use Rattle.meaning.specs.declared.NewFile.{NewFile}
 use Rattle.meaning.specs.declared.Mode.{Mode}
-use Rattle.laws.specs.Members
-use Rattle.laws.specs.Members.{In}
+use Rattle.lists.specs.Members
+use Rattle.lists.specs.Members.{In}
 use Rattle.laws.specs.Facts
 use Rattle.laws.specs.Facts.{Sound}
 use Rattle.laws.specs.Change
@@ -85,7 +85,7 @@ nothing-entries g d n e = go (keep (carries g d n) (candidates g d n)) e
 found-entries : (g : Geometry) (d : List ℕ) (n : Name) (f : File) → Sound g d → plain g d n ≡ found f → entriesOf g d n ≢ []
 found-entries g d n f c e z = go (Named.look g d c n)
   where
-    go : ((p : ℕ) × Facts.File g d p × (nameOf g d p ≡ n)) ⊎ ((p : ℕ) → Facts.File g d p → nameOf g d p ≢ n) → ⊥
+    go : ((p : ℕ) × Facts.IsFile g d p × (nameOf g d p ≡ n)) ⊎ ((p : ℕ) → Facts.IsFile g d p → nameOf g d p ≢ n) → ⊥
     go (inl w) =
         let one : named g d n ≡ w .0 ∷ [] = ap (named g d) (sym (w .2)) ∙ Named.named-is g d c (w .0) (w .1) in
         let i = Change.chain-head g d c (w .0) (w .1 .slot) in
@@ -139,7 +139,7 @@ module _ (g : Geometry) (d : List ℕ) (n : Name) (h : Handle) (e : h .name ≡ 
       many m = unfold allottedTo fileAt in m
 
       image : lacking g d (h .slot) (granulesTo g k) ≡ 0 → allot g d h k .1 ≡ d
-      image z = unfold allot growBy growth orElse diskOr in rw t (ap (larger g d (h .slot)) z)
+      image z = unfold allot growBy growth orElse diskOr in rw t (ap (withGranules g d (h .slot)) z)
 
   pub trim-still : trim g d h .0 .refusal .number ≡ 0 → Even g n d (trim g d h .1) → trim g d h .1 ≡ d
   trim-still t q =
@@ -166,7 +166,7 @@ module _ (g : Geometry) (d : List ℕ) (n : Name) (h : Handle) (e : h .name ≡ 
 -- the image after a write that takes nothing
 unfoldable pub written : Geometry → List ℕ → ℕ → Mode → ℕ → ℕ → List ℕ → List ℕ
 written g d p m at len r =
-    withSize g d (store (place g d p) (store (place g d p) d (sizeOf g d p) (replicate (at - sizeOf g d p) 0)) at r) p (sizeAfter m (sizeOf g d p) (at + len))
+    withSize g (store (place g d p) (store (place g d p) d (sizeOf g d p) (replicate (at - sizeOf g d p) 0)) at r) p (sizeAfter m (sizeOf g d p) (at + len))
 
 pub record QuietWrite (g : Geometry) (d : List ℕ) (m : Mode) (h : Handle) (b d′ : List ℕ) : Type 0 where
   pub holds : Holds g d h
@@ -209,8 +209,8 @@ write-quiet g d n m h b e t q =
     still : lacking g d (h .slot) (granulesFor g (sizeAfter m (sizeOf g d (h .slot)) (h .at + h .len))) ≡ 0
         → writeRecord g d m h b .1 ≡ written g d (h .slot) m (h .at) (h .len) (take (h .len) b)
     still z = unfold writeRecord written growBy diskOr in rw t (ap (λ (y : ℕ).
-        let d₁ = larger g d (h .slot) y in
-        withSize g d (store (place g d₁ (h .slot)) (store (place g d₁ (h .slot)) d₁ (sizeOf g d (h .slot)) (replicate (h .at - sizeOf g d (h .slot)) 0)) (h .at) (take (h .len) b)) (h .slot)
+        let d₁ = withGranules g d (h .slot) y in
+        withSize g (store (place g d₁ (h .slot)) (store (place g d₁ (h .slot)) d₁ (sizeOf g d (h .slot)) (replicate (h .at - sizeOf g d (h .slot)) 0)) (h .at) (take (h .len) b)) (h .slot)
         (sizeAfter m (sizeOf g d (h .slot)) (h .at + h .len))) z)
 
 pub record QuietCreate (g : Geometry) (d : List ℕ) (n : Name) (f : NewFile) (checking : Bool) : Type 0 where
@@ -250,8 +250,8 @@ create-quiet g d n f checking e q = go (Members.decide (missing g d (fold n)))
 pub record Laid (g : Geometry) (d d′ : List ℕ) : Type 0 where
   pub above : aboveTen g d′ ≡ aboveTen g d
   pub names : (m : Name) → named g d′ m ≡ named g d m
-  pub files : (q : ℕ) → Facts.File g d q → Facts.File g d′ q
-  pub owns : (q : ℕ) → Facts.File g d q → owned g d′ q ≡ owned g d q
+  pub files : (q : ℕ) → Facts.IsFile g d q → Facts.IsFile g d′ q
+  pub owns : (q : ℕ) → Facts.IsFile g d q → owned g d′ q ≡ owned g d q
 
 pub laid-same : (g : Geometry) (d : List ℕ) → Laid g d d
 laid-same g d = record { above = refl; names = λ m. refl; files = λ q f. f; owns = λ q f. refl }
@@ -281,11 +281,11 @@ unfoldable pub region : Geometry → List ℕ → Name → ℕ → Bool
 region g d n i = regionOf g d (named g d n) i
 
 module _ (g : Geometry) (d : List ℕ) (c : Sound g d) where
-  pub region-is : (p : ℕ) (n : Name) (i : ℕ) → Facts.File g d p → nameOf g d p ≡ n → region g d n i ≡ (inEntry g p i || inData g d p i)
+  pub region-is : (p : ℕ) (n : Name) (i : ℕ) → Facts.IsFile g d p → nameOf g d p ≡ n → region g d n i ≡ (inEntry g p i || inData g d p i)
   unfolding region regionOf
   region-is p n i f e = rw (← e, Named.named-is g d c p f)
 
-  pub region-none : (n : Name) (i : ℕ) → ((p : ℕ) → Facts.File g d p → nameOf g d p ≢ n) → region g d n i ≡ false
+  pub region-none : (n : Name) (i : ℕ) → ((p : ℕ) → Facts.IsFile g d p → nameOf g d p ≢ n) → region g d n i ≡ false
   unfolding region regionOf
   region-none n i w = rw (Named.none-named g d n w)
 
@@ -293,13 +293,13 @@ module _ (g : Geometry) (d : List ℕ) (c : Sound g d) where
   unfolding region regionOf words
   region-laid d′ l n i = rw (l .names n) (go (Named.look g d c n))
     where
-      go : ((p : ℕ) × Facts.File g d p × (nameOf g d p ≡ n)) ⊎ ((p : ℕ) → Facts.File g d p → nameOf g d p ≢ n) → regionOf g d′ (named g d n) i ≡ regionOf g d (named g d n) i
+      go : ((p : ℕ) × Facts.IsFile g d p × (nameOf g d p ≡ n)) ⊎ ((p : ℕ) → Facts.IsFile g d p → nameOf g d p ≢ n) → regionOf g d′ (named g d n) i ≡ regionOf g d (named g d n) i
       go (inl w) =
           let one : named g d n ≡ w .0 ∷ [] = ap (named g d) (sym (w .2)) ∙ Named.named-is g d c (w .0) (w .1) in
           rw one (rw (l .owns (w .0) (w .1), l .above))
       go (inr w) = rw (Named.none-named g d n w)
 
-  in-entry-dir : (k : Places.Fits g d) (p i : ℕ) → Facts.File g d p → T (inEntry g p i) → In (i / granuleBytes g) (directoryGranules g d)
+  in-entry-dir : (k : Places.Fits g d) (p i : ℕ) → Facts.IsFile g d p → T (inEntry g p i) → In (i / granuleBytes g) (directoryGranules g d)
   in-entry-dir k p i f t =
       let a = leb→le (entryAt g p) i (Members.and-l (leb (entryAt g p) i) _ t) in
       let b = ltb→lt i (entryAt g p + 32) (Members.and-r (leb (entryAt g p) i) _ t) in
@@ -311,11 +311,11 @@ module _ (g : Geometry) (d : List ℕ) (c : Sound g d) where
   pub regions-apart : Places.Fits g d → (a b : Name) → a ≢ b → (i : ℕ) → T (region g d a i) → T (region g d b i) → ⊥
   regions-apart k a b ab i t u = go (Named.look g d c a) (Named.look g d c b)
     where
-      data-not-entry : (p q : ℕ) → Facts.File g d q → T (inData g d p i) → T (inEntry g q i) → ⊥
+      data-not-entry : (p q : ℕ) → Facts.IsFile g d q → T (inData g d p i) → T (inEntry g q i) → ⊥
       data-not-entry p q f x y =
           T-not (has (directoryGranules g d) (i / granuleBytes g)) (Members.and-r (has (owned g d p) (i / granuleBytes g)) _ x) (Members.in-has (in-entry-dir k q i f y))
 
-      entries : (p q : ℕ) → Facts.File g d p → Facts.File g d q → p ≢ q → T (inEntry g p i) → T (inEntry g q i) → ⊥
+      entries : (p q : ℕ) → Facts.IsFile g d p → Facts.IsFile g d q → p ≢ q → T (inEntry g p i) → T (inEntry g q i) → ⊥
       entries p q f h n x y =
           let a = leb→le (entryAt g p) i (Members.and-l (leb (entryAt g p) i) _ x) in
           let b = ltb→lt i (entryAt g p + 32) (Members.and-r (leb (entryAt g p) i) _ x) in
@@ -324,7 +324,7 @@ module _ (g : Geometry) (d : List ℕ) (c : Sound g d) where
           let l = Facts.slot-lt g d p (f .slot) in let l′ = Facts.slot-lt g d q (h .slot) in
           n (omega arith)
 
-      apart : (p q : ℕ) → Facts.File g d p → Facts.File g d q → p ≢ q → T (inEntry g p i) ⊎ T (inData g d p i) → T (inEntry g q i) ⊎ T (inData g d q i) → ⊥
+      apart : (p q : ℕ) → Facts.IsFile g d p → Facts.IsFile g d q → p ≢ q → T (inEntry g p i) ⊎ T (inData g d p i) → T (inEntry g q i) ⊎ T (inData g d q i) → ⊥
       apart p q f h n (inl x) (inl y) = entries p q f h n x y
       apart p q f h n (inl x) (inr y) = data-not-entry q p f y x
       apart p q f h n (inr x) (inl y) = data-not-entry p q h x y
@@ -332,8 +332,8 @@ module _ (g : Geometry) (d : List ℕ) (c : Sound g d) where
           n (c .granules p q (i / granuleBytes g) f h (Members.has-in (i / granuleBytes g) (owned g d p) (Members.and-l (has (owned g d p) (i / granuleBytes g)) _ x))
           (Members.has-in (i / granuleBytes g) (owned g d q) (Members.and-l (has (owned g d q) (i / granuleBytes g)) _ y)))
 
-      go : ((p : ℕ) × Facts.File g d p × (nameOf g d p ≡ a)) ⊎ ((p : ℕ) → Facts.File g d p → nameOf g d p ≢ a)
-          → ((p : ℕ) × Facts.File g d p × (nameOf g d p ≡ b)) ⊎ ((p : ℕ) → Facts.File g d p → nameOf g d p ≢ b) → ⊥
+      go : ((p : ℕ) × Facts.IsFile g d p × (nameOf g d p ≡ a)) ⊎ ((p : ℕ) → Facts.IsFile g d p → nameOf g d p ≢ a)
+          → ((p : ℕ) × Facts.IsFile g d p × (nameOf g d p ≡ b)) ⊎ ((p : ℕ) → Facts.IsFile g d p → nameOf g d p ≢ b) → ⊥
       go (inr w) x = Members.false-no (region-none a i w) t
       go (inl v) (inr w) = Members.false-no (region-none b i w) u
       go (inl v) (inl w) =

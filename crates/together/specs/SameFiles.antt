@@ -7,8 +7,9 @@ use native.Mathlib.Omega.{arith}
 use lib.ListN.{length, getD, replicate, length-replicate}
 use lib.Dec.{T, T-not}
 use Rattle.meaning.specs.Bits.{bit}
-use Rattle.meaning.specs.Plain.{File, Found, found, nothing, isSystem, hush}
-use Rattle.laws.specs.Members
+use Rattle.meaning.specs.Plain.{File, Found, found, nothing, isSystem}
+use Rattle.promises_words.specs.Untouched.{hush}
+use Rattle.lists.specs.Members
 use Rattle.laws.specs.Named
 use Rattle.together.specs.Statement.{Alike, Same, neither, both}
 

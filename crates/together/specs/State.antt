@@ -9,8 +9,9 @@ use lib.ListN.{getD, set, take}
 use Rattle.meaning.specs.Lists.{any}
 use Rattle.meaning.specs.Layout.{fitsGeometry}
 use Rattle.meaning.specs.Consistent.{consistent}
-use Rattle.meaning.specs.Refusals.{noHandle}
-use Rattle.meaning.specs.Plain.{File, Found, found, nothing, plain, hush, bornAs, writtenTo, allottedTo, trimmed}
+use Rattle.meaning.specs.Handles.{noHandle}
+use Rattle.meaning.specs.Plain.{File, Found, found, nothing, plain, bornAs, writtenTo, allottedTo, trimmed}
+use Rattle.promises_words.specs.Untouched.{hush}
 use Rattle.meaning.specs.declared.Geometry.{Geometry}
 use Rattle.meaning.specs.declared.Handle.{Handle}
 use Rattle.meaning.specs.declared.NewFile.{NewFile}
@@ -50,7 +51,7 @@ unfoldable pub levelOf : Geometry → Bool → ℕ → Found → ℕ
 levelOf g checking code nothing = 0
 levelOf g checking code (found f) =
     let main = getD (f .attributes) 4 0 + 256 * getD (f .attributes) 5 0 in
-    cond (any (not checking ∷ eqb main (g .anyone) ∷ eqb code main ∷ [])) 0 (getD (f .attributes) 0 0 % 8)
+    cond (any (not checking ∷ eqb main (g .noPassword) ∷ eqb code main ∷ [])) 0 (getD (f .attributes) 0 0 % 8)
 
 abbrev pub opened : State → Name → ℕ → ℕ → List Grip
 opened o n len level = o .grips ++ (record { name = n; at = 0; len = len; level = level } ∷ [])

@@ -16,14 +16,15 @@ use Rattle.meaning.specs.Layout.{fitsGeometry}
 use Rattle.meaning.specs.Names.{fold}
 use Rattle.meaning.specs.Chain.{chain, owned}
 use Rattle.meaning.specs.Consistent.{consistent}
-use Rattle.meaning.specs.Refusals.{movedTo, noHandle}
+use Rattle.meaning.specs.Handles.{movedTo, noHandle}
 use Rattle.meaning.specs.LookUp.{named}
 use Rattle.meaning.specs.Open.{open′}
 use Rattle.meaning.specs.Create.{create}
 use Rattle.meaning.specs.Read.{readRecord, readSector}
 use Rattle.meaning.specs.Write.{writeRecord}
 use Rattle.meaning.specs.Calls.{Call, number, leaves}
-use Rattle.meaning.specs.Plain.{File, Found, found, nothing, plain, isSystem, AreBytes, CodesFit}
+use Rattle.meaning.specs.Plain.{File, Found, found, nothing, plain, isSystem}
+use Rattle.promises_words.specs.Given.{AreBytes, CodesFit}
 use Rattle.meaning.specs.declared.Geometry.{Geometry}
 use Rattle.meaning.specs.declared.Handle.{Handle}
 use Rattle.meaning.specs.declared.NewFile.{NewFile}

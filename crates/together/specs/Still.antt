@@ -21,15 +21,14 @@ use Rattle.meaning.specs.Layout.{roundUp}
 use Rattle.meaning.specs.declared.Geometry.{Geometry}
 use Rattle.meaning.specs.declared.Handle.{Handle}
 use Rattle.meaning.specs.declared.Mode.{Mode}
-use Rattle.laws.specs.Members
-use Rattle.laws.specs.Members.{In}
+use Rattle.lists.specs.Members
+use Rattle.lists.specs.Members.{In}
 use Rattle.laws.specs.Facts
 use Rattle.laws.specs.Facts.{Sound}
 use Rattle.laws.specs.Change
 use Rattle.laws.specs.Named
 use Rattle.laws.specs.Rewrite
 use Rattle.promises.specs.Write
-use Rattle.promises.specs.Over
 use Rattle.laws.specs.Words.{words}
 use Rattle.together.specs.Statement.{Name}
 use Rattle.together.specs.Quiet
@@ -43,28 +42,28 @@ pub still-same : (g : Geometry) (n : Name) (d d′ : List ℕ) → d′ ≡ d �
 still-same g n d d′ e = subst (λ (x : List ℕ). Still g n d x) (sym e) (record { laid = Quiet.laid-same g d; outside = λ i o. refl })
 
 -- a file whose bytes are rewritten, and every other, stays where it is
-module _ (g : Geometry) (d d′ : List ℕ) (c : Sound g d) (p : ℕ) (f : Facts.File g d p) (u : T (not (system g d p))) (h : Rewrite.Rewrites g d d′ p) where
+module _ (g : Geometry) (d d′ : List ℕ) (c : Sound g d) (p : ℕ) (f : Facts.IsFile g d p) (u : T (not (system g d p))) (h : Rewrite.Rewrites g d d′ p) where
   x : Change.Change g d d′ p
   x = Rewrite.rw-change g d d′ c p f h u
 
-  kept : (q : ℕ) → Facts.File g d q → Facts.File g d′ q × (nameOf g d′ q ≡ nameOf g d q) × (owned g d′ q ≡ owned g d q)
+  kept : (q : ℕ) → Facts.IsFile g d q → Facts.IsFile g d′ q × (nameOf g d′ q ≡ nameOf g d q) × (owned g d′ q ≡ owned g d q)
   kept q k = go (ℕ-discrete q p)
     where
-      go : Dec (q ≡ p) → Facts.File g d′ q × (nameOf g d′ q ≡ nameOf g d q) × (owned g d′ q ≡ owned g d q)
+      go : Dec (q ≡ p) → Facts.IsFile g d′ q × (nameOf g d′ q ≡ nameOf g d q) × (owned g d′ q ≡ owned g d q)
       go (yes e) = rw e (Rewrite.rw-file g d d′ c p f h, Rewrite.rw-name g d d′ c p f h, Rewrite.rw-owned g d d′ c p f h)
       go (no n) = (Change.file-stays g d d′ c p x q k n, Change.name-stays g d d′ c p x q k n, Change.owned-stays g d d′ c p x q k n)
 
-  was : (q : ℕ) → Facts.File g d′ q → Facts.File g d q
+  was : (q : ℕ) → Facts.IsFile g d′ q → Facts.IsFile g d q
   was q k = go (ℕ-discrete q p)
     where
-      go : Dec (q ≡ p) → Facts.File g d q
+      go : Dec (q ≡ p) → Facts.IsFile g d q
       go (yes e) = rw e f
       go (no n) = Change.file-was g d d′ c p x q k n
 
   stays-named : (m : Name) → named g d′ m ≡ named g d m
   stays-named m = go (Named.look g d c m)
     where
-      go : ((q : ℕ) × Facts.File g d q × (nameOf g d q ≡ m)) ⊎ ((q : ℕ) → Facts.File g d q → nameOf g d q ≢ m) → named g d′ m ≡ named g d m
+      go : ((q : ℕ) × Facts.IsFile g d q × (nameOf g d q ≡ m)) ⊎ ((q : ℕ) → Facts.IsFile g d q → nameOf g d q ≢ m) → named g d′ m ≡ named g d m
       go (inl w) =
           let k = kept (w .0) (w .1) in
           ap (named g d′) (sym (k .1 ∙ w .2)) ∙ Named.named-is g d′ (Change.changed g d d′ c p x) (w .0) (k .0)
@@ -130,7 +129,7 @@ module _ (P : ℕ → Bool) where
   agreed-store F [] x y i a = a
   agreed-store F (b ∷ bs) x y i a = agreed-store F bs (set x (F i) b) (set y (F i) b) (i + 1) (agreed-set x y (F i) b a)
 
-  agreed-size : (g : Geometry) (d e x y : List ℕ) (p size : ℕ) → T (P (entryAt g p + 1)) → Agreed P x y → Agreed P (withSize g d x p size) (withSize g e y p size)
+  agreed-size : (g : Geometry) (d e x y : List ℕ) (p size : ℕ) → T (P (entryAt g p + 1)) → Agreed P x y → Agreed P (withSize g x p size) (withSize g y p size)
   unfolding words
   agreed-size g d e x y p size t a =
       let n = roundUp size 256 in

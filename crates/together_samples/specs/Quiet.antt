@@ -10,7 +10,7 @@ use Rattle.meaning.specs.Chain.{chain, owned}
 use Rattle.meaning.specs.Consistent.{consistent}
 use Rattle.meaning.specs.LookUp.{named}
 use Rattle.meaning.specs.Calls.{number, leaves}
-use Rattle.meaning.specs.Samples.{opened, puls, leer, laid}
+use Rattle.meaning_table.specs.Samples.{opened, puls, leer, laid}
 use lib.ListN.{replicate}
 use Rattle.meaning.specs.declared.Mode.the-variants.{Sequential, Random}
 use Rattle.together.specs.Statement.{Name, Step, opens, moves, writes, known, answer, Turn, one, two, none, left, right, start, after, Accepted, Quiet, AllQuiet}

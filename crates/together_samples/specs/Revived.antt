@@ -4,7 +4,7 @@ use mathlib.Core.Path.{_≡_, refl}
 use mathlib.Core.Bool.{true}
 use mathlib.Core.List.{List, [], _∷_}
 use Rattle.meaning.specs.Calls.{number, leaves}
-use Rattle.meaning.specs.Samples.{opened, puls, leer}
+use Rattle.meaning_table.specs.Samples.{opened, puls, leer}
 use Rattle.together.specs.Statement.{Step, creates, trims, kills, known, answer, Turn, one, two, Interleaving, none, left, right, start, answered, after, Accepted}
 use Rattle.together_samples.specs.Slots.{tiny, blank, new}
 

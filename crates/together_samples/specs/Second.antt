@@ -13,7 +13,7 @@ use Rattle.meaning.specs.Consistent.{consistent}
 use Rattle.meaning.specs.Growth
 use Rattle.meaning.specs.Growth.{grow}
 use Rattle.meaning.specs.Calls.{number, leaves}
-use Rattle.meaning.specs.Samples.{opened, puls, leer, laid}
+use Rattle.meaning_table.specs.Samples.{opened, puls, leer, laid}
 use Rattle.meaning.specs.declared.Geometry.{Geometry}
 use Rattle.together.specs.Statement.{Step, opens, allots, known, answer, Turn, one, two, none, left, right, World, start, after, Accepted, Agree}
 use Rattle.together.specs.Demand3.{demand3}
@@ -21,7 +21,7 @@ use Rattle.together_samples.specs.Slots.{differ}
 
 -- 16 blocks of 2 units, the directory at the front in granules 0 and 1
 abbrev sixteen : Geometry
-sixteen = record { blocks = 16; units = 2; start = 0; anyone = 0; system = true; granule = 5 }
+sixteen = record { blocks = 16; units = 2; start = 0; noPassword = 0; system = true; granule = 5 }
 
 -- the files of the 32 permitted slots, by column and row: PULS01/DAT in slot 80H, LEER in slot 81H, and C0, D0 and so on
 abbrev nameIn : ℕ → ℕ → List ℕ

@@ -10,7 +10,7 @@ use Rattle.meaning.specs.Layout.{fitsGeometry}
 use Rattle.meaning.specs.Consistent.{consistent}
 use Rattle.meaning.specs.Calls.{number, leaves}
 use Rattle.meaning.specs.Names.{fold}
-use Rattle.meaning.specs.Samples.{opened, puls, small, leer}
+use Rattle.meaning_table.specs.Samples.{opened, puls, small, leer}
 use Rattle.meaning.specs.declared.Geometry.{Geometry}
 use Rattle.meaning.specs.declared.NewFile.{NewFile}
 use Rattle.meaning.specs.declared.Mode.the-variants.{Sequential}
@@ -19,7 +19,7 @@ use Rattle.together.specs.Demand3.{demand3}
 
 -- 2 blocks of 2 units, the directory at the front in granules 0 and 1, no file
 abbrev pub tiny : Geometry
-tiny = record { blocks = 2; units = 2; start = 0; anyone = 0; system = true; granule = 5 }
+tiny = record { blocks = 2; units = 2; start = 0; noPassword = 0; system = true; granule = 5 }
 
 abbrev pub blank : List ℕ
 blank = 3 ∷ replicate 5119 0

@@ -10,16 +10,15 @@ use lib.Dec.{eqb, T-not}
 use borrow.Author.Tests.{lt-ltb, le-ltb, eq-eqb, ne-eqb}
 use Rattle.meaning.specs.Lists.{lastOr}
 use Rattle.meaning.specs.Layout.{field, setField, freeGranule, granuleBytes}
-use Rattle.meaning.specs.Sizes
+use Rattle.lists.specs.Sizes
 use Rattle.meaning.specs.Entries.{extension, marker, link, runs, runStart, runLength, sizeOf}
 use Rattle.meaning.specs.Chain.{chainFrom, chain, owned}
 use Rattle.meaning.specs.Growth.{tail}
 use Rattle.meaning.specs.Drop.{unhooked, dropOne}
 use Rattle.meaning.specs.declared.Geometry.{Geometry}
-use Rattle.laws.specs.Members
-use Rattle.laws.specs.Members.{In}
+use Rattle.lists.specs.Members
+use Rattle.lists.specs.Members.{In}
 use Rattle.laws.specs.Facts
-use Rattle.laws.specs.Frame
 use Rattle.laws.specs.Places
 use Rattle.laws.specs.Change
 use Rattle.laws.specs.AtTail
@@ -28,7 +27,7 @@ use Rattle.laws.specs.Drop
 use Rattle.laws.specs.DropLast
 use Rattle.laws.specs.Steps.{Ready}
 use Rattle.layout.specs.Room.{Slot}
-use Rattle.layout.proofs.Sound.{slot-of}
+use Rattle.layout.proofs.HasRoom.{slot-of}
 use Rattle.seek.specs.Seek.{Used}
 
 -- an entry of a chain that hands on to no other is the chain's last
@@ -55,7 +54,7 @@ module _ (g : Geometry) (d : List ℕ) (p : ℕ) (r : Ready g d p) where
   pub fits : Places.Fits g d
   fits = Places.fits g d (Members.true-T (r .fits))
 
-  pub file : Facts.File g d p
+  pub file : Facts.IsFile g d p
   file = record { slot = Members.true-T (r .slot); primary′ = Members.true-T (r .first) }
 
   member-used : (x : ℕ) → In x (chain g d p) → Used g d x
@@ -127,7 +126,7 @@ module _ (g : Geometry) (d : List ℕ) (p : ℕ) (r : Ready g d p) where
 
     -- Case 3: the last run is gone, and the extension with it.
     pub gone : runLength g d t k ≤ 1 → extension g d t ≡ true → k ≡ 0
-        → dropOne g p d ≡ freeGranule g (unhooked g p (setField g (setField g d t (0x16 + 2 * k) 0xff) t (0x17 + 2 * k) 0xff) t (field g d t 1)) n
+        → dropOne g p d ≡ freeGranule g (unhooked g (setField g (setField g d t (0x16 + 2 * k) 0xff) t (0x17 + 2 * k) 0xff) t (field g d t 1)) n
     unfolding dropOne
     gone h x z = rw (le-ltb 1 (runLength g d t k) h, x, eq-eqb k 0 z)
 

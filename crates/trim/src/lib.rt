@@ -46,7 +46,7 @@ fn empty_pair(image: &mut [u8], g: Geometry, e: usize, k: usize)
 // An emptied extension at slot e, and the entry before it.
 fn unhook(image: &mut [u8], g: Geometry, p: usize, e: usize, before: usize)
     requires { ⌜ (entryAt g e + 32 ≤ length (now image)) × (entryAt g before + 32 ≤ length (now image)) × (e < 256) ⌝ }
-    ensures { λ _. ⌜ now (image .exit) ≡ unhooked g p (now (image .entry)) e before ⌝ }
+    ensures { λ _. ⌜ now (image .exit) ≡ unhooked g (now (image .entry)) e before ⌝ }
 {
     let at = 256 * (g.start + 2 + e % 32) + 32 * (e / 32);
     image[at] = 0x80;

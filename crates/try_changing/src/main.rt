@@ -11,7 +11,7 @@ fn disk(blocks: usize, units: usize, start: usize) -> Geometry {
         blocks,
         units,
         start,
-        anyone: 0,
+        noPassword: 0,
         system: true,
         granule: 5,
     }
@@ -395,7 +395,7 @@ fn larger(start: usize, granule: usize) -> Geometry {
         blocks: 6,
         units: 2,
         start,
-        anyone: 0,
+        noPassword: 0,
         system: true,
         granule,
     }

@@ -14,7 +14,7 @@ fn disk() -> Geometry {
         blocks: 12,
         units: 2,
         start: 0,
-        anyone: 0,
+        noPassword: 0,
         system: true,
         granule: 5,
     }

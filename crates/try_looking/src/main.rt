@@ -12,7 +12,7 @@ fn disk(blocks: usize, units: usize, start: usize) -> Geometry {
         blocks,
         units,
         start,
-        anyone: 0,
+        noPassword: 0,
         system: true,
         granule: 5,
     }

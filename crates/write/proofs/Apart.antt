@@ -8,16 +8,16 @@ use native.Mathlib.Omega.{arith}
 use native.Mathlib.Nat.{mul-le-mul-left}
 use lib.ListN.{getD}
 use Rattle.meaning.specs.Layout.{directorySectors, directoryGranules, granuleSectors, granuleBytes, roundUp}
-use Rattle.meaning.specs.Sizes
+use Rattle.lists.specs.Sizes
 use Rattle.meaning.specs.Chain.{owned}
 use Rattle.meaning.specs.declared.Geometry.{Geometry}
 use Rattle.laws.specs.Change
 use Rattle.laws.specs.Facts
-use Rattle.laws.specs.Members.{In, in-count, true-T}
+use Rattle.lists.specs.Members.{In, in-count, true-T}
 use Rattle.laws.specs.Others.{getD-in}
 use Rattle.laws.specs.Places
 use Rattle.laws.specs.Steps.{Ready}
-use Rattle.layout.proofs.Lists.{le-or-lt}
+use Rattle.lists.specs.Tests.{le-or-lt}
 use Rattle.write.specs.Apart.{Apart}
 
 module _ (g : Geometry) (d : List ℕ) (s : ℕ) (r : Ready g d s) where

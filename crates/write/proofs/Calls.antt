@@ -10,10 +10,12 @@ use lib.Dec.{leb}
 use borrow.Author.Tests.{ne-eqb, leb-true}
 use Rattle.meaning.specs.Lists.{all}
 use Rattle.meaning.specs.Layout.{highest, granulesFor, entryAt, granuleBytes}
-use Rattle.meaning.specs.Sizes
+use Rattle.lists.specs.Sizes
 use Rattle.meaning.specs.Entries.{sizeOf}
 use Rattle.meaning.specs.Chain.{owned, place}
-use Rattle.meaning.specs.Refusals.{first, accepted, refusal, inRange, movedTo, handleRefusals, protected, cannotGrow, larger, lacking}
+use Rattle.meaning.specs.Refusals.{first, accepted, refusal, handleRefusals, protected, cannotGrow}
+use Rattle.meaning.specs.Handles.{inRange, movedTo}
+use Rattle.meaning.specs.Growth.{withGranules, lacking}
 use Rattle.meaning.specs.Write.{store, sizeAfter, withSize, toWrite, writeRefusals, writeRecord}
 use Rattle.meaning.specs.declared.Geometry.{Geometry}
 use Rattle.meaning.specs.declared.Handle.{Handle}
@@ -22,11 +24,11 @@ use Rattle.meaning.specs.declared.Refusal.{Refusal}
 use Rattle.meaning.specs.declared.Mode.{Mode}
 use Rattle.meaning.specs.declared.Mode.the-variants.{Sequential, Random}
 use Rattle.laws.specs.Steps.{Ready}
-use Rattle.layout.proofs.Lists.{all-at}
-use Rattle.layout.proofs.Sound.{slot-of}
-use Rattle.handle.proofs.Laws.{handle-stop, handle-then, passed, ranges, length-range}
+use Rattle.lists.specs.Tests.{all-at}
+use Rattle.layout.proofs.HasRoom.{slot-of}
+use Rattle.passed.proofs.Checked.{handle-stop, handle-then, passed, ranges, length-range}
 use Rattle.passed.proofs.Ready.{walks}
-use Rattle.read.specs.Part.{File, Owned}
+use Rattle.read.specs.Part.{Readable, Owned}
 use Rattle.growth.proofs.Grown.{larger-ready, owned-most}
 use Rattle.write.specs.Apart.{Apart}
 use Rattle.write.proofs.Apart.{is-apart}
@@ -84,18 +86,18 @@ module _ (g : Geometry) (d : List ℕ) (m : Mode) (h : Handle) (b : List ℕ) {r
   refused {n} x e z = rw (← by-handle e z, ne-eqb n 0 z, x)
 
   pub not-grown : {n k : ℕ} {d′ : List ℕ} {c : Refusal} → c ≡ refusal g d k → n ≡ first (handleRefusals g d h ranged (protected g d 4 h ∷ [])) → n ≡ 0 → k ≡ first (cannotGrow g d (h .slot) (toWrite g d m h))
-      → (k ≡ 0 → ⊥) → d′ ≡ cond (accepted k) (larger g d (h .slot) (toWrite g d m h)) d → _≡_ {A = Answer × List ℕ} (record { refusal = c; handle = h }, d′) (writeRecord g d m h b)
+      → (k ≡ 0 → ⊥) → d′ ≡ cond (accepted k) (withGranules g d (h .slot) (toWrite g d m h)) d → _≡_ {A = Answer × List ℕ} (record { refusal = c; handle = h }, d′) (writeRecord g d m h b)
   unfolding writeRecord
   not-grown {n} {k} x e z f y q = rw (← by-growth e z f, q, ne-eqb k 0 y, x)
 
   pub written : {n k old size : ℕ} {d₁ d₃ d₄ : List ℕ} {c : Refusal} → c ≡ refusal g d 0 → old ≡ sizeOf g d (h .slot) → n ≡ first (handleRefusals g d h ranged (protected g d 4 h ∷ [])) → n ≡ 0 → k ≡ first (cannotGrow g d (h .slot) (toWrite g d m h)) → k ≡ 0
-      → d₁ ≡ cond (accepted k) (larger g d (h .slot) (toWrite g d m h)) d → size ≡ sizeAfter m (sizeOf g d (h .slot)) (h .at + h .len)
+      → d₁ ≡ cond (accepted k) (withGranules g d (h .slot) (toWrite g d m h)) d → size ≡ sizeAfter m (sizeOf g d (h .slot)) (h .at + h .len)
       → d₃ ≡ store (place g d₁ (h .slot)) (store (place g d₁ (h .slot)) d₁ old (replicate (h .at - old) 0)) (h .at) (take (h .len) b)
-      → d₄ ≡ withSize g d d₃ (h .slot) size
+      → d₄ ≡ withSize g d₃ (h .slot) size
       → _≡_ {A = Answer × List ℕ} (record { refusal = c; handle = movedTo h (h .at + h .len) }, d₄) (writeRecord g d m h b)
   unfolding writeRecord
   written {n} {k} {old} {size} {d₁} {d₃} {d₄} t o e z f y q s w v =
-      let x : d₁ ≡ larger g d (h .slot) (toWrite g d m h) = q ∙ ap (λ (j : ℕ). cond (accepted j) (larger g d (h .slot) (toWrite g d m h)) d) y in
+      let x : d₁ ≡ withGranules g d (h .slot) (toWrite g d m h) = q ∙ ap (λ (j : ℕ). cond (accepted j) (withGranules g d (h .slot) (toWrite g d m h)) d) y in
       let u : 0 ≡ first (writeRefusals g d m h (length b)) = sym y ∙ by-growth e z f in
       rw (← u, v, w, o, s, x, t)
 
@@ -107,9 +109,9 @@ module _ (g : Geometry) (d : List ℕ) (m : Mode) (h : Handle) (b : List ℕ) {r
       → n ≡ first (cannotGrow g d (h .slot) (toWrite g d m h))
   number-is s e = e ∙ ap (λ (k : ℕ). first (cannotGrow g d (h .slot) (lacking g d (h .slot) (granulesFor g k)))) s
 
-  pub image-is : (n : ℕ) {size : ℕ} {d′ : List ℕ} → size ≡ sizeAfter m (sizeOf g d (h .slot)) (h .at + h .len) → d′ ≡ cond (accepted n) (larger g d (h .slot) (lacking g d (h .slot) (granulesFor g size))) d
-      → d′ ≡ cond (accepted n) (larger g d (h .slot) (toWrite g d m h)) d
-  image-is n s e = e ∙ ap (λ (k : ℕ). cond (accepted n) (larger g d (h .slot) (lacking g d (h .slot) (granulesFor g k))) d) s
+  pub image-is : (n : ℕ) {size : ℕ} {d′ : List ℕ} → size ≡ sizeAfter m (sizeOf g d (h .slot)) (h .at + h .len) → d′ ≡ cond (accepted n) (withGranules g d (h .slot) (lacking g d (h .slot) (granulesFor g size))) d
+      → d′ ≡ cond (accepted n) (withGranules g d (h .slot) (toWrite g d m h)) d
+  image-is n s e = e ∙ ap (λ (k : ℕ). cond (accepted n) (withGranules g d (h .slot) (lacking g d (h .slot) (granulesFor g k))) d) s
 
   -- the numbers of a write whose handle passed
   pub record Fit : Type 0 where
@@ -126,7 +128,7 @@ module _ (g : Geometry) (d : List ℕ) (m : Mode) (h : Handle) (b : List ℕ) {r
 
   -- what the stores of an accepted write ask for
   pub record Stores (d₁ : List ℕ) (size : ℕ) : Type 0 where
-    pub file : File g d₁ (h .slot)
+    pub file : Readable g d₁ (h .slot)
     pub apart : Apart g d₁ (h .slot)
     pub owns : Owned g d₁ (h .slot) (h .at) (h .len)
     pub old : sizeOf g d (h .slot) ≤ granuleBytes g * length (owned g d₁ (h .slot))
@@ -141,7 +143,7 @@ module _ (g : Geometry) (d : List ℕ) (m : Mode) (h : Handle) (b : List ℕ) {r
   old-fits e w = let q = w .old in omega arith
 
   pub stores : {k size : ℕ} {d₁ : List ℕ} → Ready g d (h .slot) → Fit → k ≡ first (cannotGrow g d (h .slot) (toWrite g d m h)) → k ≡ 0
-      → d₁ ≡ cond (accepted k) (larger g d (h .slot) (toWrite g d m h)) d → size ≡ sizeAfter m (sizeOf g d (h .slot)) (h .at + h .len) → Stores d₁ size
+      → d₁ ≡ cond (accepted k) (withGranules g d (h .slot) (toWrite g d m h)) d → size ≡ sizeAfter m (sizeOf g d (h .slot)) (h .at + h .len) → Stores d₁ size
   stores {k} {size} {d₁} y f e z q s =
       let p = h .slot in
       let w = larger-ready g p (toWrite g d m h) y e z q in

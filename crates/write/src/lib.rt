@@ -13,16 +13,18 @@ ghost use lib.Dec.{leb};
 ghost use Rattle.meaning.specs.Lists.{all};
 ghost use Rattle.meaning.specs.Layout.{highest, entryAt, granuleBytes, granulesFor};
 ghost use Rattle.meaning.specs.Chain.{owned, place};
-ghost use Rattle.meaning.specs.Refusals.{check, inRange, first, accepted, cannotGrow, larger, lacking};
+ghost use Rattle.meaning.specs.Refusals.{check, first, accepted, cannotGrow};
+ghost use Rattle.meaning.specs.Handles.{inRange};
+ghost use Rattle.meaning.specs.Growth.{withGranules, lacking};
 ghost use Rattle.meaning.specs.Write.{store, sizeAfter, withSize, writeRecord};
 ghost use Rattle.laws.specs.Steps.{Ready};
-ghost use Rattle.read.specs.Part.{File, Owned, InGranule};
+ghost use Rattle.read.specs.Part.{Readable, Owned, InGranule};
 ghost use Rattle.write.specs.Apart.{Apart};
 
 // The first n bytes of src, at most 256, go to the file from byte i on: granule by granule, so two parts at the most. Both places
 // are found before anything is written.
 pub fn write_bytes(image: &mut [u8], g: Geometry, s: usize, i: usize, src: &[u8], n: usize)
-    requires { ⌜ File g (now image) s × Owned g (now image) s i n × (n ≤ 256) × (n ≤ length (now src)) ⌝ }
+    requires { ⌜ Readable g (now image) s × Owned g (now image) s i n × (n ≤ 256) × (n ≤ length (now src)) ⌝ }
     ensures { λ _. ⌜ now (image .exit) ≡ store (place g (now (image .entry)) s) (now (image .entry)) i (take n (now (src .entry))) ⌝ }
 {
     let first = read::rest_of(g, i);
@@ -38,7 +40,7 @@ pub fn write_bytes(image: &mut [u8], g: Geometry, s: usize, i: usize, src: &[u8]
 
 // n zeros go to the file from byte i on: one walk along the chain and one part a granule.
 pub fn clear_bytes(image: &mut [u8], g: Geometry, s: usize, i: usize, n: usize)
-    requires { ⌜ File g (now image) s × Apart g (now image) s × (i + n ≤ granuleBytes g * length (owned g (now image) s)) × (i + n ≤ 16777215) ⌝ }
+    requires { ⌜ Readable g (now image) s × Apart g (now image) s × (i + n ≤ granuleBytes g * length (owned g (now image) s)) × (i + n ≤ 16777215) ⌝ }
     ensures { λ _. ⌜ now (image .exit) ≡ store (place g (now (image .entry)) s) (now (image .entry)) i (replicate n 0) ⌝ }
 {
     let mut at = i;
@@ -83,7 +85,7 @@ fn gap(old: usize, at: usize) -> usize
 
 // Zeros from the old size to the position, then the record: the first n bytes of src.
 fn put_record(image: &mut [u8], g: Geometry, s: usize, old: usize, at: usize, src: &[u8], n: usize)
-    requires { ⌜ File g (now image) s × Apart g (now image) s × Owned g (now image) s at n × (old ≤ granuleBytes g * length (owned g (now image) s)) × (old < 16777216) × (n ≤ 256) × (n ≤ length (now src)) ⌝ }
+    requires { ⌜ Readable g (now image) s × Apart g (now image) s × Owned g (now image) s at n × (old ≤ granuleBytes g * length (owned g (now image) s)) × (old < 16777216) × (n ≤ 256) × (n ≤ length (now src)) ⌝ }
     ensures { λ _. ⌜ now (image .exit) ≡ store (place g (now (image .entry)) s) (store (place g (now (image .entry)) s) (now (image .entry)) old (replicate (at - old) 0)) at (take n (now (src .entry))) ⌝ }
 {
     let zeros = gap(old, at);
@@ -96,7 +98,7 @@ fn put_record(image: &mut [u8], g: Geometry, s: usize, old: usize, at: usize, sr
 fn grow_to(image: &mut [u8], g: Geometry, p: usize, old: usize, size: usize) -> u8
     requires { ⌜ Ready g (now image) p × (old ≤ granuleBytes g * length (owned g (now image) p)) × (old < 16777216) × (size ≤ 33554432) ⌝ }
     ensures { λ r. ⌜ (r ≡ first (cannotGrow g (now (image .entry)) p (lacking g (now (image .entry)) p (granulesFor g size))))
-        × (now (image .exit) ≡ cond (accepted r) (larger g (now (image .entry)) p (lacking g (now (image .entry)) p (granulesFor g size))) (now (image .entry))) ⌝ }
+        × (now (image .exit) ≡ cond (accepted r) (withGranules g (now (image .entry)) p (lacking g (now (image .entry)) p (granulesFor g size))) (now (image .entry))) ⌝ }
 {
     let wanted = extent::granules_for(g, size);
     if wanted <= extent::granules_for(g, old) {
@@ -108,7 +110,7 @@ fn grow_to(image: &mut [u8], g: Geometry, p: usize, old: usize, size: usize) -> 
 // The directory's end of file: end byte and sector count. B is set.
 fn put_size(image: &mut [u8], g: Geometry, s: usize, size: usize)
     requires { ⌜ (entryAt g s + 32 ≤ length (now image)) × (size ≤ 7864320) ⌝ }
-    ensures { λ _. ⌜ now (image .exit) ≡ withSize g (now (image .entry)) (now (image .entry)) s size ⌝ }
+    ensures { λ _. ⌜ now (image .exit) ≡ withSize g (now (image .entry)) s size ⌝ }
 {
     let at = 256 * (g.start + 2 + s % 32) + 32 * (s / 32);
     let n = (size + 255) / 256;

@@ -66,19 +66,25 @@ pub fn on(command: &Command) -> String {
         format!("gdos {}: {}\n\nUsage: gdos {} {}\n", command.name, command.summary, command.name, command.usage);
     text += &format!("\n{}", command.about);
     for (title, specs) in command.groups {
-        text += &format!("\n{title}\n");
-        for spec in *specs {
-            text += &option(spec);
-        }
-        if *title == shape::TITLE {
-            text += &format!("\n{}", presets());
-        }
+        text += &group(title, specs);
     }
     text += "\nExamples\n";
     for example in command.examples {
         text += &format!("  {example}\n");
     }
     text + &format!("\nExit status: {}. `gdos --help` tells more.\n", command.status())
+}
+
+/// Options under their title; behind those of the geometry the presets.
+pub fn group(title: &str, specs: &[Spec]) -> String {
+    let mut text = format!("\n{title}\n");
+    for spec in specs {
+        text += &option(spec);
+    }
+    if title == shape::TITLE {
+        text += &format!("\n{}", presets());
+    }
+    text
 }
 
 fn option(spec: &Spec) -> String {

@@ -11,6 +11,8 @@ mod date;
 mod dump;
 mod failure;
 mod fault;
+#[cfg(unix)]
+pub mod held;
 mod help;
 #[cfg(unix)]
 mod host;

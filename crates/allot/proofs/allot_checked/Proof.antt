@@ -1,9 +1,9 @@
 use Prim.Native.Nat.{_<_, _/_, _^_}
-use Rattle.meaning.specs.Sizes.{width-lt}
+use Rattle.lists.specs.Sizes.{width-lt}
 use native.Mathlib.Omega.{arith}
 use Rattle.growth.proofs.Handed.{ready}
-use Rattle.allot.proofs.Laws.{refused, grew}
-use Rattle.handle.proofs.Laws.{handed}
+use Rattle.allot.proofs.Allotting.{refused, grew}
+use Rattle.passed.proofs.Checked.{handed}
 use borrow.Author.Needs.{needs}
 use Rattle.allot.proofs.allot_checked.Statement.{statement}
 use Rattle.allot.proofs.allot_checked.Tie as tie
@@ -12,7 +12,7 @@ use Rattle.allot.proofs.allot_checked.Lts as lts
 use Rattle.growth.proofs.grow.Reads as grow-reads
 use Rattle.handle.proofs.changing_number.Reads as changing-number-reads
 use Rattle.layout.proofs.granule_sectors.Reads as granule-sectors-reads
-use Rattle.read.proofs.sector_ranged.Reads as sector-ranged-reads
+use Rattle.handle.proofs.sector_ranged.Reads as sector-ranged-reads
 use Rattle.refusal.proofs.carried.Reads as carried-reads
 
 sector-ranged-requires : tie.Need-sector-ranged-requires

@@ -1,5 +1,5 @@
 use Rattle.back_chain.proofs.Entry.{link-last, link-none, link-astray, link-on}
-use Rattle.layout.proofs.Lists.{on, off}
+use Rattle.lists.specs.Tests.{on, off}
 use borrow.Author.Needs.{needs}
 use Rattle.back_chain.proofs.link_holds.Statement.{statement}
 use Rattle.back_chain.proofs.link_holds.Tie as tie

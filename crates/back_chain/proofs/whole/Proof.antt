@@ -1,6 +1,6 @@
 use native.Mathlib.Omega.{arith}
 use Rattle.back_chain.proofs.File.{nothing-whole, by-extension, by-name, by-size, lined, by-line, lined-own, is-whole}
-use Rattle.layout.proofs.Lists.{is-no, is-yes}
+use Rattle.lists.specs.Tests.{is-no, is-yes}
 use mathlib.Core.Path.{sym, _∙_}
 use borrow.Author.Needs.{needs}
 use Rattle.back_chain.proofs.whole.Statement.{statement}

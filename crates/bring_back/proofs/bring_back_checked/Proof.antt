@@ -2,7 +2,7 @@ use Prim.Native.Nat.{ℕ}
 use lib.ListN.{length-replicate}
 use Rattle.bring_back.proofs.Call.{refused, accepted, listed-then, taken-same}
 use Rattle.seek.proofs.Frame.{same-room}
-use Rattle.handle.proofs.Laws.{handed}
+use Rattle.passed.proofs.Checked.{handed}
 use borrow.Author.Needs.{needs}
 use Rattle.bring_back.proofs.bring_back_checked.Statement.{statement}
 use Rattle.bring_back.proofs.bring_back_checked.Tie as tie

@@ -1,9 +1,9 @@
 use Rattle.meaning.specs.Layout.{entryAt}
 use Rattle.bring_back.proofs.Call.{refused-plan, at-check, at-slot, at-use, at-system, at-whole, at-name, at-taken, at-none, name-used, name-free, taken-is}
-use Rattle.entry.proofs.Laws.{name-is, name-ends, name-long, cut}
-use Rattle.handle.proofs.Laws.{checked, checked-room}
-use Rattle.layout.proofs.Sound.{slot-of}
-use Rattle.layout.proofs.Lists.{is-no, is-yes}
+use Rattle.entry.proofs.EntryTests.{name-is, name-ends, name-long, cut}
+use Rattle.passed.proofs.Checked.{checked, checked-room}
+use Rattle.layout.proofs.HasRoom.{slot-of}
+use Rattle.lists.specs.Tests.{is-no, is-yes}
 use Rattle.meaning.specs.Names.{hash}
 use Prim.Native.Nat.{_+_}
 use borrow.Author.Tests.{not-false}

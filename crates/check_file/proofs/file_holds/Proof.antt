@@ -1,8 +1,8 @@
 use borrow.Author.Tests.{not-true, not-false}
 use mathlib.Core.Path.{refl}
-use Rattle.layout.proofs.Lists.{is-no, is-yes}
+use Rattle.lists.specs.Tests.{is-no, is-yes}
 use Rattle.check_file.proofs.Directory.{file-refused, file-system, file-other}
-use Rattle.check_file.proofs.Laws.{file-bit, file-name, file-count, file-walk, two}
+use Rattle.check_file.proofs.OneFile.{file-bit, file-name, file-count, file-walk, two}
 use borrow.Author.Needs.{needs}
 use Rattle.check_file.proofs.file_holds.Statement.{statement}
 use Rattle.check_file.proofs.file_holds.Tie as tie

@@ -1,4 +1,4 @@
-use Rattle.check_file.proofs.Laws.{name-no, name-yes}
+use Rattle.check_file.proofs.OneFile.{name-no, name-yes}
 use borrow.Author.Tests.{not-true, not-false}
 use Prim.Native.Nat.{_+_, _-_}
 use mathlib.Core.Path.{_≡_}

@@ -1,4 +1,4 @@
-use Rattle.check_file.proofs.Laws.{seen-free, seen-unused, seen-extension, seen-file}
+use Rattle.check_file.proofs.OneFile.{seen-free, seen-unused, seen-extension, seen-file}
 use borrow.Author.Needs.{needs}
 use Rattle.check_file.proofs.slot_holds.Statement.{statement}
 use Rattle.check_file.proofs.slot_holds.Tie as tie

@@ -1,7 +1,7 @@
-use Rattle.layout.proofs.Lists.{is-no, is-yes}
+use Rattle.lists.specs.Tests.{is-no, is-yes}
 use Rattle.meaning.specs.Lists.{every}
 use Rattle.check_met.specs.Met.{metAt}
-use Rattle.check_met.proofs.Laws.{Rows, rows-are, rows-step, rows-stop, rows-end}
+use Rattle.check_met.proofs.SlotMap.{Rows, rows-are, rows-step, rows-stop, rows-end}
 use mathlib.Core.Path.{refl, ap, _∙_}
 use Prim.Native.Nat.{_-_}
 use native.Mathlib.Omega.{arith}

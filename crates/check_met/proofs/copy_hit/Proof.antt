@@ -1,4 +1,4 @@
-use Rattle.check_met.proofs.Laws.{Copying, copying-start, copying-step, copying-end}
+use Rattle.check_met.proofs.SlotMap.{Copying, copying-start, copying-step, copying-end}
 use Prim.Native.Nat.{_-_}
 use native.Mathlib.Omega.{arith}
 use borrow.Author.Needs.{needs}

@@ -1,4 +1,4 @@
-use Rattle.check_met.proofs.Laws.{Rowing, rowing-start, rowing-step, rowing-stop, rowing-end}
+use Rattle.check_met.proofs.SlotMap.{Rowing, rowing-start, rowing-step, rowing-stop, rowing-end}
 use Prim.Native.Nat.{_-_}
 use native.Mathlib.Omega.{arith}
 use borrow.Author.Needs.{needs}

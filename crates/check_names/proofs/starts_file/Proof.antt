@@ -1,5 +1,5 @@
 use borrow.Author.Tests.{eq-eqb, ne-eqb}
-use Rattle.layout.proofs.Laws.{digit-at, flags-at}
+use Rattle.layout.proofs.OneStep.{digit-at, flags-at}
 use mathlib.Core.Path.{sym}
 use borrow.Author.Needs.{needs}
 use Rattle.check_names.proofs.starts_file.Statement.{statement}

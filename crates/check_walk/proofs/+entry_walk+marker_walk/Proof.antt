@@ -1,10 +1,10 @@
 use Prim.Native.Nat.{_<_, _+_, _*_, _≤_}
 use native.Mathlib.Nat.{mul-le-mul}
-use Rattle.layout.proofs.Lists.{is-no, is-yes}
-use Rattle.layout.proofs.Sound.{slot-of}
+use Rattle.lists.specs.Tests.{is-no, is-yes}
+use Rattle.layout.proofs.HasRoom.{slot-of}
 use mathlib.Core.Path.{refl, ap, _∙_}
 use Rattle.meaning.specs.Layout.{isSlot}
-use Rattle.check_walk.proofs.Laws.{goes-slot, walked-none, walked-again, walked-entry-no, walked-entry, walked-end, walked-stop, walked-on}
+use Rattle.check_walk.proofs.WalkSteps.{goes-slot, walked-none, walked-again, walked-entry-no, walked-entry, walked-end, walked-stop, walked-on}
 use borrow.Author.Needs.{needs}
 use native.Mathlib.Omega.{arith}
 use borrow.Author.Tests.{not-false}

@@ -1,6 +1,6 @@
 use native.Mathlib.Nat.{mul-le-mul}
 use mathlib.Core.Path.{_∙_}
-use Rattle.check_walk.proofs.Laws.{walked-again, walked-entry-no, walked-end, walked-first}
+use Rattle.check_walk.proofs.WalkSteps.{walked-again, walked-entry-no, walked-end, walked-first}
 use native.Mathlib.Omega.{arith}
 use borrow.Author.Tests.{not-false}
 use borrow.Author.Needs.{needs}

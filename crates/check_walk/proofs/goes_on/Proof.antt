@@ -1,10 +1,10 @@
 use lib.Dec.{eqb}
 use Prim.Native.Nat.{ℕ}
-use Rattle.check_walk.proofs.Laws.{goes-at}
-use Rattle.layout.proofs.Lists.{on, off, all-yes, all-no, all-one, is-no, is-yes, not-yes, not-no}
+use Rattle.check_walk.proofs.WalkSteps.{goes-at}
+use Rattle.lists.specs.Tests.{on, off, all-yes, all-no, all-one, is-no, is-yes, not-yes, not-no}
 use Rattle.check_walk.specs.Walk.{goesOn}
 use Rattle.meaning.specs.Layout.{hit}
-use Rattle.layout.proofs.Sound.{slot-of}
+use Rattle.layout.proofs.HasRoom.{slot-of}
 use mathlib.Core.Path.{sym, ap, _∙_}
 use borrow.Author.Needs.{needs}
 use Rattle.check_walk.proofs.goes_on.Statement.{statement}

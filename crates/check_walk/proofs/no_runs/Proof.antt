@@ -1,7 +1,7 @@
 use Rattle.check_walk.specs.Walk.{unused}
 use mathlib.Core.Path.{refl, sym, _∙_}
 use borrow.Author.Tests.{not-true, not-false}
-use Rattle.check_walk.proofs.Lists.{four-looked}
+use Rattle.lists.specs.Ranges.{four-looked}
 use borrow.Author.Needs.{needs}
 use Rattle.check_walk.proofs.no_runs.Statement.{statement}
 use Rattle.check_walk.proofs.no_runs.Tie as tie

@@ -1,5 +1,5 @@
-use Rattle.check_walk.proofs.Laws.{block-in, block-out, on-map, takes-unit, takes-disk, takes-map, takes-run}
-use Rattle.layout.proofs.Laws.{below}
+use Rattle.check_walk.proofs.WalkSteps.{block-in, block-out, on-map, takes-unit, takes-disk, takes-map, takes-run}
+use Rattle.layout.proofs.OneStep.{below}
 use Rattle.check_map.proofs.Standing.{takes-marks}
 use Prim.Native.Nat.{_+_, _/_, _%_}
 use mathlib.Core.Path.{refl}

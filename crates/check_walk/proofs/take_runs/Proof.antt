@@ -1,6 +1,6 @@
 use native.Mathlib.Omega.{arith}
 use borrow.Author.Needs.{needs}
-use Rattle.check_walk.proofs.Laws.{Entering, entering-start, entering-step, entering-bad, entering-stop, entering-end}
+use Rattle.check_walk.proofs.WalkSteps.{Entering, entering-start, entering-step, entering-bad, entering-stop, entering-end}
 use Prim.Native.Nat.{_-_}
 use Rattle.check_map.specs.Owners.{standing}
 use Rattle.check_walk.proofs.take_runs.Statement.{statement}

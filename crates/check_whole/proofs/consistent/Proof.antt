@@ -1,6 +1,6 @@
 use borrow.Author.Tests.{not-true, not-false}
-use Rattle.layout.proofs.Lists.{is-no, is-yes}
-use Rattle.check_whole.proofs.Laws.{room-of}
+use Rattle.lists.specs.Tests.{is-no, is-yes}
+use Rattle.check_whole.proofs.SlotBySlot.{room-of}
 use Rattle.check_whole.proofs.Whole.{no-length, no-directory, way-slots, way-met, way-hashed, way-names}
 use borrow.Author.Needs.{needs}
 use Rattle.check_whole.proofs.consistent.Statement.{statement}

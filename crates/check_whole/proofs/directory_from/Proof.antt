@@ -1,6 +1,6 @@
 use Rattle.check_whole.proofs.Directory.{directory-on-map}
 use Rattle.check_map.proofs.Window.{base-own, base-last, base-spans}
-use Rattle.meaning.specs.Sizes.{touched-few}
+use Rattle.lists.specs.Sizes.{touched-few}
 use mathlib.Core.Path.{refl}
 use borrow.Author.Needs.{needs}
 use Rattle.check_whole.proofs.directory_from.Statement.{statement}

@@ -1,6 +1,6 @@
 use native.Mathlib.Nat.{mul-le-mul}
 use native.Mathlib.Omega.{arith}
-use Rattle.check_whole.proofs.Laws.{length-far, length-odd, length-rest}
+use Rattle.check_whole.proofs.SlotBySlot.{length-far, length-odd, length-rest}
 use borrow.Author.Needs.{needs}
 use Rattle.check_whole.proofs.length_holds.Statement.{statement}
 use Rattle.check_whole.proofs.length_holds.Tie as tie

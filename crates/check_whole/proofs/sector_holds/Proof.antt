@@ -3,7 +3,7 @@ use mathlib.Core.List.{[], _∷_}
 use Prim.Native.Nat.{_+_, _-_, _*_, _/_, _%_}
 use borrow.Author.Tests.{not-true, not-false}
 use Rattle.check_whole.specs.Slots.{sectorSlots}
-use Rattle.check_whole.proofs.Laws.{Seeing, seeing-start, seeing-as, seeing-step, seeing-stop, seeing-end, columnFrom, column-are, column-more, column-none}
+use Rattle.check_whole.proofs.SlotBySlot.{Seeing, seeing-start, seeing-as, seeing-step, seeing-stop, seeing-end, columnFrom, column-are, column-more, column-none}
 use borrow.Author.Needs.{needs}
 use native.Mathlib.Omega.{arith}
 use Rattle.check_map.specs.Owners.{standing}

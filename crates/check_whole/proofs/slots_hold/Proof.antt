@@ -1,7 +1,7 @@
 use Prim.Native.Nat.{_-_}
 use borrow.Author.Tests.{not-true, not-false}
 use Rattle.check_whole.specs.Slots.{sectorSlots, diskSlots}
-use Rattle.check_whole.proofs.Laws.{Seeing, seeing-start, seeing-as, seeing-step, seeing-stop, seeing-end, sectorsFrom, sectors-are, sectors-more, sectors-none}
+use Rattle.check_whole.proofs.SlotBySlot.{Seeing, seeing-start, seeing-as, seeing-step, seeing-stop, seeing-end, sectorsFrom, sectors-are, sectors-more, sectors-none}
 use borrow.Author.Needs.{needs}
 use native.Mathlib.Omega.{arith}
 use Rattle.check_map.specs.Owners.{standing}

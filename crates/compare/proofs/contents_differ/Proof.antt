@@ -1,7 +1,7 @@
 use borrow.Author.Tests.{eq-eqb, ne-eqb}
 use mathlib.Core.Bool.{not}
 use mathlib.Core.Path.{sym, ap, _∙_}
-use Rattle.layout.proofs.Lists.{all-no, all-yes, all-one}
+use Rattle.lists.specs.Tests.{all-no, all-yes, all-one}
 use Rattle.compare.specs.Kind.{contentsDiffer}
 use Rattle.compare.proofs.contents_differ.Statement.{statement}
 use Rattle.compare.proofs.contents_differ.Tie as tie

@@ -1,5 +1,5 @@
 use mathlib.Core.Path.{sym}
-use Rattle.layout.proofs.Laws.{digit-at}
+use Rattle.layout.proofs.OneStep.{digit-at}
 use borrow.Author.Needs.{needs}
 use Rattle.compare_attributes.proofs.is_system.Statement.{statement}
 use Rattle.compare_attributes.proofs.is_system.Tie as tie

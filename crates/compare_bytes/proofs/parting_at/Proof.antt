@@ -1,6 +1,6 @@
 use borrow.Author.Needs.{needs}
 use Rattle.compare_bytes.proofs.Contents.{used, turn, Matches, matches-start, matches-on, matches-stop, matches-end}
-use Rattle.read.proofs.Laws.{length-fetch}
+use Rattle.read.proofs.ReadParts.{length-fetch}
 use lib.ListN.{length}
 use mathlib.Core.Path.{sym, ap, _∙_}
 use Prim.Native.Nat.{_-_}

@@ -1,5 +1,5 @@
 use native.Mathlib.Omega.{arith}
-use Rattle.layout.proofs.Lists.{is-no, is-yes}
+use Rattle.lists.specs.Tests.{is-no, is-yes}
 use Rattle.compare_order.proofs.Lowest.{betters-first, betters-after, betters-none, betters-than}
 use borrow.Author.Needs.{needs}
 use Rattle.compare_order.proofs.better.Statement.{statement}

@@ -6,13 +6,13 @@ use lib.ListN.{length}
 use Rattle.name_spelling.proofs.Comes.{hands-bad, hands-good, hands-name}
 use Rattle.meaning.specs.Open.{openedAt}
 use Rattle.meaning.specs.Create.{withEntry}
-use Rattle.layout.proofs.Sound.{entry-fits}
-use Rattle.layout.proofs.Lists.{is-no, is-yes, not-no, not-yes}
-use Rattle.layout.proofs.Laws.{well-length}
-use Rattle.handle.proofs.Laws.{checked, checked-room}
+use Rattle.layout.proofs.HasRoom.{entry-fits}
+use Rattle.lists.specs.Tests.{is-no, is-yes, not-no, not-yes}
+use Rattle.layout.proofs.OneStep.{well-length}
+use Rattle.passed.proofs.Checked.{checked, checked-room}
 use Rattle.look_up.proofs.Named.{by-own, by-place, by-number}
-use Rattle.look_up.proofs.Laws.{finds-as, finds-none, finds-one}
-use Rattle.create.proofs.Laws.{by-check, by-code, by-name, by-range, by-slot, is-new, is-old, made, opened, slot-none, slot-some, told}
+use Rattle.look_up.proofs.Search.{finds-as, finds-none, finds-one}
+use Rattle.create.proofs.Creating.{by-check, by-code, by-name, by-range, by-slot, is-new, is-old, made, opened, slot-none, slot-some, told}
 use Prim.Native.Nat.{ℕ}
 use borrow.Author.Needs.{needs}
 use Rattle.create.proofs.create_checked.Statement.{statement}

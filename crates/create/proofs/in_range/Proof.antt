@@ -1,5 +1,5 @@
 use Rattle.meaning.specs.Refusals.{newInRange}
-use Rattle.layout.proofs.Lists.{all-yes, all-no, all-one}
+use Rattle.lists.specs.Tests.{all-yes, all-no, all-one}
 use borrow.Author.Tests.{lt-leb, le-leb}
 use mathlib.Core.Path.{sym, _∙_}
 use borrow.Author.Needs.{needs}

@@ -1,4 +1,4 @@
-use Rattle.create.proofs.Laws.{ranges, entry-put}
+use Rattle.create.proofs.Creating.{ranges, entry-put}
 use lib.Seq.{length-sets}
 use lib.ListN.{length, length-set}
 use mathlib.Core.Path.{_≡_, ap, _∙_}

@@ -1,5 +1,5 @@
-use Rattle.layout.proofs.Lists.{on, off}
-use Rattle.entry.specs.Count.{countHolds}
+use Rattle.lists.specs.Tests.{on, off}
+use Rattle.meaning.specs.Consistent.{countHolds}
 use borrow.Author.Needs.{needs}
 use Rattle.entry.proofs.count_holds.Statement.{statement}
 use Rattle.entry.proofs.count_holds.Tie as tie
@@ -12,14 +12,12 @@ word-requires : tie.Need-word-requires
 word-requires c κs = search needs
 
 returns : tie.Need-returns
-unfolding countHolds
 returns c = simp (off (c .before .word .ensures .is) (c .if1 .taken))
 
 field-requires : tie.Need-field-requires
 field-requires c κs = search needs
 
 returns-2 : tie.Need-returns-2
-unfolding countHolds
 returns-2 c = simp (on (c .before .before .word .ensures .is) (c .before .if1 .left), c .field .ensures .is)
 
 pub count-holds-spec : {M : Type 1} → statement M

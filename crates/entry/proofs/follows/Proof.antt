@@ -1,5 +1,5 @@
-use Rattle.layout.proofs.Lists.{on, off, all-out, is-no, is-yes, all-no, all-yes, all-one}
-use Rattle.layout.proofs.Sound.{slot-of}
+use Rattle.lists.specs.Tests.{on, off, all-out, is-no, is-yes, all-no, all-yes, all-one}
+use Rattle.layout.proofs.HasRoom.{slot-of}
 use Rattle.meaning.specs.Consistent.{followsBy}
 use lib.Dec.{leb}
 use native.Mathlib.Omega.{arith}

@@ -1,5 +1,5 @@
 use Rattle.meaning.specs.Layout.{entryAt}
-use Rattle.entry.proofs.Laws.{name-bad, name-good, cut}
+use Rattle.entry.proofs.EntryTests.{name-bad, name-good, cut}
 use Prim.Native.Nat.{_+_}
 use borrow.Author.Needs.{needs}
 use Rattle.entry.proofs.name_holds.Statement.{statement}

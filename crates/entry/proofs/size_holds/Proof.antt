@@ -1,6 +1,6 @@
 use native.Mathlib.Omega.{arith}
 use native.Mathlib.Nat.{mul-le-mul}
-use Rattle.entry.proofs.Laws.{size-bad, size-good}
+use Rattle.entry.proofs.EntryTests.{size-bad, size-good}
 use borrow.Author.Needs.{needs}
 use Rattle.entry.proofs.size_holds.Statement.{statement}
 use Rattle.entry.proofs.size_holds.Tie as tie

@@ -1,7 +1,7 @@
 use mathlib.Core.Path.{sym, _∙_}
-use Rattle.layout.proofs.Lists.{is-no, is-yes}
-use Rattle.check_whole.proofs.Laws.{fits}
-use Rattle.fault_kinds.proofs.Laws.{so}
+use Rattle.lists.specs.Tests.{is-no, is-yes}
+use Rattle.check_whole.proofs.SlotBySlot.{fits}
+use Rattle.fault_kinds.proofs.Passes.{so}
 use Rattle.laws.specs.Passed.{check-one, check-none, check-fault}
 use borrow.Author.Needs.{needs}
 use Rattle.fault_diagnosis.proofs.check.Statement.{statement}

@@ -1,7 +1,7 @@
 use mathlib.Core.Path.{sym, _∙_}
 use Rattle.meaning.specs.Fault.{duplicateFault}
-use Rattle.layout.proofs.Lists.{all-no, all-yes, all-one, is-no, is-yes}
-use Rattle.fault_diagnosis.proofs.Laws.{below-is}
+use Rattle.lists.specs.Tests.{all-no, all-yes, all-one, is-no, is-yes}
+use Rattle.fault_diagnosis.proofs.AllSlots.{below-is}
 use borrow.Author.Needs.{needs}
 use Rattle.fault_diagnosis.proofs.duplicate_fault.Statement.{statement}
 use Rattle.fault_diagnosis.proofs.duplicate_fault.Tie as tie

@@ -1,7 +1,7 @@
 use mathlib.Core.Path.{sym, _∙_}
 use Rattle.meaning.specs.Fault.{faultAt}
-use Rattle.layout.proofs.Lists.{first-hit, first-skip, first-none}
-use Rattle.fault_kinds.proofs.Laws.{so, not-so}
+use Rattle.lists.specs.Tests.{first-hit, first-skip, first-none}
+use Rattle.fault_kinds.proofs.Passes.{so, not-so}
 use borrow.Author.Needs.{needs}
 use Rattle.fault_diagnosis.proofs.fault_at.Statement.{statement}
 use Rattle.fault_diagnosis.proofs.fault_at.Tie as tie

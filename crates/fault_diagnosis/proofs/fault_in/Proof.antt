@@ -1,7 +1,7 @@
 use mathlib.Core.Path.{_∙_}
-use Rattle.layout.proofs.Lists.{is-no, is-yes}
-use Rattle.layout.proofs.Sound.{slot-of}
-use Rattle.fault_diagnosis.proofs.Laws.{none-in, one-in}
+use Rattle.lists.specs.Tests.{is-no, is-yes}
+use Rattle.layout.proofs.HasRoom.{slot-of}
+use Rattle.fault_diagnosis.proofs.AllSlots.{none-in, one-in}
 use borrow.Author.Needs.{needs}
 use Rattle.fault_diagnosis.proofs.fault_in.Statement.{statement}
 use Rattle.fault_diagnosis.proofs.fault_in.Tie as tie

@@ -1,7 +1,7 @@
 use mathlib.Core.Path.{_∙_}
-use Rattle.layout.proofs.Lists.{is-no, is-yes}
-use Rattle.check_whole.proofs.Laws.{room-of}
-use Rattle.fault_diagnosis.proofs.Laws.{length-no, length-yes}
+use Rattle.lists.specs.Tests.{is-no, is-yes}
+use Rattle.check_whole.proofs.SlotBySlot.{room-of}
+use Rattle.fault_diagnosis.proofs.AllSlots.{length-no, length-yes}
 use borrow.Author.Needs.{needs}
 use Rattle.fault_diagnosis.proofs.fault_of.Statement.{statement}
 use Rattle.fault_diagnosis.proofs.fault_of.Tie as tie

@@ -6,7 +6,7 @@ use lib.Dec.{eqb}
 use Rattle.meaning.specs.Layout.{hit, entryAt}
 use Rattle.meaning.specs.Names.{hash}
 use Rattle.meaning.specs.Entries.{nameOf}
-use Rattle.fault_diagnosis.proofs.Laws.{name-is}
+use Rattle.fault_diagnosis.proofs.AllSlots.{name-is}
 use borrow.Author.Needs.{needs}
 use Rattle.fault_diagnosis.proofs.hash_differs.Statement.{statement}
 use Rattle.fault_diagnosis.proofs.hash_differs.Tie as tie

@@ -1,7 +1,7 @@
 use mathlib.Core.Path.{sym, _∙_}
 use Rattle.meaning.specs.Fault.{hitFault}
-use Rattle.layout.proofs.Lists.{all-no, all-yes, all-one, is-no, is-yes, not-no, not-yes, any-skip, any-hit}
-use Rattle.fault_kinds.proofs.Laws.{any-one}
+use Rattle.lists.specs.Tests.{all-no, all-yes, all-one, is-no, is-yes, not-no, not-yes, any-skip, any-hit}
+use Rattle.fault_kinds.proofs.Passes.{any-one}
 use borrow.Author.Needs.{needs}
 use Rattle.fault_diagnosis.proofs.hit_fault.Statement.{statement}
 use Rattle.fault_diagnosis.proofs.hit_fault.Tie as tie

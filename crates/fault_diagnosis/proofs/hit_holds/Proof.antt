@@ -2,8 +2,8 @@ use mathlib.Core.Path.{ap, _∙_}
 use mathlib.Core.Bool.{not}
 use Rattle.meaning.specs.Layout.{hit}
 use Rattle.meaning.specs.Consistent.{hitHolds}
-use Rattle.layout.proofs.Lists.{on, off}
-use Rattle.fault_diagnosis.proofs.Laws.{beq-off, beq-on}
+use Rattle.lists.specs.Tests.{on, off}
+use Rattle.fault_diagnosis.proofs.AllSlots.{beq-off, beq-on}
 use borrow.Author.Needs.{needs}
 use Rattle.fault_diagnosis.proofs.hit_holds.Statement.{statement}
 use Rattle.fault_diagnosis.proofs.hit_holds.Tie as tie

@@ -4,7 +4,7 @@ use native.Mathlib.Omega.{arith}
 use borrow.Author.Needs.{needs}
 use Rattle.meaning.specs.Lists.{count, some}
 use Rattle.fault_diagnosis.specs.Told.{sameFile}
-use Rattle.fault_kinds.proofs.Laws.{so, not-so, from-zero, found, not-yet, nowhere}
+use Rattle.fault_kinds.proofs.Passes.{so, not-so, from-zero, found, not-yet, nowhere}
 use Rattle.fault_diagnosis.proofs.name_below.Statement.{statement}
 use Rattle.fault_diagnosis.proofs.name_below.Tie as tie
 

@@ -1,7 +1,7 @@
 use mathlib.Core.Path.{sym, ap, _∙_}
 use mathlib.Core.Bool.{not}
 use Rattle.meaning.specs.Fault.{nameFault}
-use Rattle.layout.proofs.Lists.{all-no, all-yes, all-one, is-no, is-yes}
+use Rattle.lists.specs.Tests.{all-no, all-yes, all-one, is-no, is-yes}
 use borrow.Author.Needs.{needs}
 use Rattle.fault_diagnosis.proofs.name_fault.Statement.{statement}
 use Rattle.fault_diagnosis.proofs.name_fault.Tie as tie

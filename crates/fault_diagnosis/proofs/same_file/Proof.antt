@@ -1,8 +1,8 @@
 use borrow.Author.Needs.{needs}
-use Rattle.fault_diagnosis.proofs.Laws.{names-are}
+use Rattle.fault_diagnosis.proofs.AllSlots.{names-are}
 use Rattle.fault_diagnosis.specs.Told.{sameFile}
-use Rattle.layout.proofs.Sound.{slot-of}
-use Rattle.layout.proofs.Lists.{all-no, all-yes, all-one, is-no, is-yes}
+use Rattle.layout.proofs.HasRoom.{slot-of}
+use Rattle.lists.specs.Tests.{all-no, all-yes, all-one, is-no, is-yes}
 use Rattle.meaning.specs.Layout.{entryAt}
 use native.Mathlib.Omega.{arith}
 use Prim.Native.Nat.{_+_, _-_}

@@ -6,7 +6,7 @@ use Rattle.meaning.specs.Lists.{count, keep}
 use Rattle.meaning.specs.Layout.{isSlot, slots}
 use Rattle.meaning.specs.Fault.{lowest}
 use Rattle.fault_diagnosis.specs.Told.{afterSlots}
-use Rattle.fault_diagnosis.proofs.Laws.{all-slots, slot-found, slot-clear, slots-done}
+use Rattle.fault_diagnosis.proofs.AllSlots.{all-slots, slot-found, slot-clear, slots-done}
 use Rattle.fault_diagnosis.proofs.slots_fault.Statement.{statement}
 use Rattle.fault_diagnosis.proofs.slots_fault.Tie as tie
 

@@ -1,5 +1,5 @@
-use Rattle.fault_kinds.proofs.Laws.{all-start, all-failed, all-passed, all-held}
-use Rattle.layout.proofs.Lists.{is-no, is-yes}
+use Rattle.fault_kinds.proofs.Passes.{all-start, all-failed, all-passed, all-held}
+use Rattle.lists.specs.Tests.{is-no, is-yes}
 use Rattle.meaning.specs.Layout.{taken}
 use Rattle.meaning.specs.Lists.{count, every}
 use borrow.Author.Needs.{needs}

@@ -1,5 +1,5 @@
 use borrow.Author.Needs.{needs}
-use Rattle.fault_kinds.proofs.Laws.{so, not-so, bad-ends, bad-hands}
+use Rattle.fault_kinds.proofs.Passes.{so, not-so, bad-ends, bad-hands}
 use Rattle.meaning.specs.Fault.{badEntry}
 use mathlib.Core.Bool.{not}
 use mathlib.Core.Path.{ap, _∙_}

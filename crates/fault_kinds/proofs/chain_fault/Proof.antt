@@ -1,6 +1,6 @@
 use borrow.Author.Needs.{needs}
-use Rattle.fault_kinds.proofs.Laws.{so, not-so, any-one, unlinked}
-use Rattle.layout.proofs.Lists.{all-no, all-yes, all-one, is-no, is-yes, any-skip, any-hit}
+use Rattle.fault_kinds.proofs.Passes.{so, not-so, any-one, unlinked}
+use Rattle.lists.specs.Tests.{all-no, all-yes, all-one, is-no, is-yes, any-skip, any-hit}
 use Rattle.meaning.specs.Fault.{chainFault}
 use mathlib.Core.Bool.{not}
 use mathlib.Core.Path.{sym, ap, _∙_}

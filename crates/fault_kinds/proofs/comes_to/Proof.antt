@@ -1,6 +1,6 @@
-use Rattle.fault_kinds.proofs.Laws.{come-here, come-stop, come-on, come-none, hands-slot}
+use Rattle.fault_kinds.proofs.Passes.{come-here, come-stop, come-on, come-none, hands-slot}
 use Rattle.fault_kinds.specs.Reach.{reach}
-use Rattle.layout.proofs.Lists.{is-no, is-yes}
+use Rattle.lists.specs.Tests.{is-no, is-yes}
 use Rattle.layout.specs.Room.{Slot}
 use Rattle.meaning.specs.Lists.{has}
 use borrow.Author.Needs.{needs}

@@ -1,6 +1,6 @@
-use Rattle.fault_kinds.proofs.Laws.{size, count-end, count-on, count-none′, hands-slot}
+use Rattle.fault_kinds.proofs.Passes.{size, count-end, count-on, count-none′, hands-slot}
 use Rattle.fault_kinds.specs.Reach.{reach}
-use Rattle.layout.proofs.Lists.{is-no, is-yes}
+use Rattle.lists.specs.Tests.{is-no, is-yes}
 use Rattle.layout.specs.Room.{Slot}
 use borrow.Author.Needs.{needs}
 use native.Mathlib.Nat.{zero-add}

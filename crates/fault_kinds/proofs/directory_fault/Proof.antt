@@ -1,7 +1,7 @@
-use Rattle.meaning.specs.Sizes.{width-lt}
+use Rattle.lists.specs.Sizes.{width-lt}
 use Rattle.fault_kinds.proofs.Bridge.{directory-by}
-use Rattle.fault_kinds.proofs.Laws.{so, not-so}
-use Rattle.layout.proofs.Lists.{all-no, all-yes, all-one, is-no, is-yes, not-yes, not-no}
+use Rattle.fault_kinds.proofs.Passes.{so, not-so}
+use Rattle.lists.specs.Tests.{all-no, all-yes, all-one, is-no, is-yes, not-yes, not-no}
 use Rattle.meaning.specs.Entries.{system}
 use Rattle.meaning.specs.Fault.{directoryFault}
 use native.Mathlib.Omega.{arith}

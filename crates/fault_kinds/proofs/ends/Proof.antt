@@ -1,6 +1,6 @@
 use borrow.Author.Needs.{needs}
-use Rattle.fault_kinds.proofs.Laws.{hands-no, ends-first}
-use Rattle.layout.proofs.Lists.{on, off}
+use Rattle.fault_kinds.proofs.Passes.{hands-no, ends-first}
+use Rattle.lists.specs.Tests.{on, off}
 use Rattle.meaning.specs.Fault.{ends}
 use mathlib.Core.Path.{_∙_}
 use Rattle.fault_kinds.proofs.ends.Statement.{statement}

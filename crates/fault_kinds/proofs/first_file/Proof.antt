@@ -1,4 +1,4 @@
-use Rattle.fault_kinds.proofs.Laws.{so, not-so, first-here, first-on, first-none}
+use Rattle.fault_kinds.proofs.Passes.{so, not-so, first-here, first-on, first-none}
 use Rattle.fault_kinds.specs.Tests.{startsTo}
 use Rattle.meaning.specs.Lists.{count, keep}
 use borrow.Author.Needs.{needs}

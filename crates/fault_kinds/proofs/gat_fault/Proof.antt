@@ -1,6 +1,6 @@
 use borrow.Author.Needs.{needs}
-use Rattle.fault_kinds.proofs.Laws.{runs-lie}
-use Rattle.layout.proofs.Lists.{all-no, all-yes, all-one, is-no, is-yes}
+use Rattle.fault_kinds.proofs.Passes.{runs-lie}
+use Rattle.lists.specs.Tests.{all-no, all-yes, all-one, is-no, is-yes}
 use Rattle.meaning.specs.Fault.{gatFault}
 use mathlib.Core.Bool.{not}
 use mathlib.Core.Path.{sym, ap, _∙_}

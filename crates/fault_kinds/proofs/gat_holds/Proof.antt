@@ -1,6 +1,6 @@
-use Rattle.seek.proofs.Sound.{run-fits}
-use Rattle.fault_kinds.proofs.Laws.{named, named-all, run-taken, gat-no, gat-on, gat-end}
-use Rattle.layout.proofs.Lists.{is-no, is-yes}
+use Rattle.seek.proofs.IsWalkable.{run-fits}
+use Rattle.fault_kinds.proofs.Passes.{named, named-all, run-taken, gat-no, gat-on, gat-end}
+use Rattle.lists.specs.Tests.{is-no, is-yes}
 use Rattle.meaning.specs.Entries.{entryGranules}
 use Rattle.meaning.specs.Layout.{taken}
 use Rattle.meaning.specs.Lists.{count, every}

@@ -1,5 +1,5 @@
 use Rattle.fault_kinds.proofs.Bridge.{good-start}
-use Rattle.fault_kinds.proofs.Laws.{good-bad, good-on, good-end}
+use Rattle.fault_kinds.proofs.Passes.{good-bad, good-on, good-end}
 use Rattle.fault_kinds.specs.Tests.{leads, goodFrom}
 use Rattle.meaning.specs.Fault.{goodExtension}
 use Rattle.meaning.specs.Lists.{count, keep}

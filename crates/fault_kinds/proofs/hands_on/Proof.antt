@@ -1,6 +1,6 @@
 use borrow.Author.Needs.{needs}
-use Rattle.fault_kinds.proofs.Laws.{hands-no, hands-third, hands-fourth, hands-first}
-use Rattle.layout.proofs.Lists.{on, off, is-no, is-yes}
+use Rattle.fault_kinds.proofs.Passes.{hands-no, hands-third, hands-fourth, hands-first}
+use Rattle.lists.specs.Tests.{on, off, is-no, is-yes}
 use Rattle.meaning.specs.Fault.{usedExtension, handsOn}
 use mathlib.Core.Path.{sym, ap, _∙_}
 use Rattle.fault_kinds.proofs.hands_on.Statement.{statement}

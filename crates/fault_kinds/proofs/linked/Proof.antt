@@ -1,6 +1,6 @@
 use borrow.Author.Needs.{needs}
-use Rattle.fault_kinds.proofs.Laws.{any-one}
-use Rattle.layout.proofs.Lists.{is-no, is-yes, not-no, not-yes, any-skip, any-hit}
+use Rattle.fault_kinds.proofs.Passes.{any-one}
+use Rattle.lists.specs.Tests.{is-no, is-yes, not-no, not-yes, any-skip, any-hit}
 use mathlib.Core.Path.{sym, _∙_}
 use Rattle.fault_kinds.proofs.linked.Statement.{statement}
 use Rattle.fault_kinds.proofs.linked.Tie as tie

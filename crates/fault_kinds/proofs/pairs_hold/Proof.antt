@@ -1,5 +1,5 @@
-use Rattle.fault_kinds.proofs.Laws.{failed, passed, held}
-use Rattle.layout.proofs.Lists.{is-no, is-yes}
+use Rattle.fault_kinds.proofs.Passes.{failed, passed, held}
+use Rattle.lists.specs.Tests.{is-no, is-yes}
 use Rattle.fault_kinds.specs.Tests.{pairHolds}
 use Rattle.meaning.specs.Consistent.{pairsHold}
 use Rattle.meaning.specs.Lists.{count, every}

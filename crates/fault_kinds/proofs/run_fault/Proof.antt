@@ -1,5 +1,5 @@
 use borrow.Author.Needs.{needs}
-use Rattle.layout.proofs.Lists.{all-no, all-yes, all-one, is-no, is-yes}
+use Rattle.lists.specs.Tests.{all-no, all-yes, all-one, is-no, is-yes}
 use Rattle.meaning.specs.Fault.{runFault}
 use mathlib.Core.Bool.{not}
 use mathlib.Core.Path.{sym, ap, _∙_}

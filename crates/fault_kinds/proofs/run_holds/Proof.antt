@@ -1,4 +1,4 @@
-use Rattle.layout.proofs.Lists.{all-no, all-yes, all-one}
+use Rattle.lists.specs.Tests.{all-no, all-yes, all-one}
 use Rattle.meaning.specs.Entries.{runStart, runLength}
 use Rattle.meaning.specs.Layout.{granules}
 use borrow.Author.Tests.{lt-ltb, le-ltb}

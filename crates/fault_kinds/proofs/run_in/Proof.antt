@@ -1,4 +1,4 @@
-use Rattle.fault_kinds.proofs.Laws.{in-no, in-rest}
+use Rattle.fault_kinds.proofs.Passes.{in-no, in-rest}
 use borrow.Author.Needs.{needs}
 use Rattle.fault_kinds.proofs.run_in.Statement.{statement}
 use Rattle.fault_kinds.proofs.run_in.Tie as tie

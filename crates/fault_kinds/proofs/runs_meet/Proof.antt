@@ -1,4 +1,4 @@
-use Rattle.fault_kinds.proofs.Laws.{meet-of}
+use Rattle.fault_kinds.proofs.Passes.{meet-of}
 use mathlib.Core.Path.{_∙_}
 use borrow.Author.Needs.{needs}
 use Rattle.fault_kinds.proofs.runs_meet.Statement.{statement}

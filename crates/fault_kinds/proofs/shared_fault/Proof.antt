@@ -1,8 +1,8 @@
 use borrow.Author.Needs.{needs}
 use Rattle.fault_kinds.proofs.Bridge.{below-is}
-use Rattle.fault_kinds.proofs.Laws.{so, not-so, any-one}
+use Rattle.fault_kinds.proofs.Passes.{so, not-so, any-one}
 use Rattle.fault_kinds.specs.Overlap.{twice-is}
-use Rattle.layout.proofs.Lists.{all-no, all-yes, all-one, is-no, is-yes, any-skip, any-hit}
+use Rattle.lists.specs.Tests.{all-no, all-yes, all-one, is-no, is-yes, any-skip, any-hit}
 use Rattle.meaning.specs.Fault.{sharedFault}
 use mathlib.Core.Path.{sym, _∙_}
 use Rattle.fault_kinds.proofs.shared_fault.Statement.{statement}

@@ -1,7 +1,7 @@
 use native.Mathlib.Omega.{arith}
 use borrow.Author.Needs.{needs}
-use Rattle.layout.proofs.Sound.{slot-of}
-use Rattle.layout.proofs.Lists.{all-no, all-yes, all-one, is-no, is-yes}
+use Rattle.layout.proofs.HasRoom.{slot-of}
+use Rattle.lists.specs.Tests.{all-no, all-yes, all-one, is-no, is-yes}
 use Rattle.fault_kinds.specs.Tests.{shares}
 use mathlib.Core.Path.{sym, _∙_}
 use Rattle.fault_kinds.proofs.shares.Statement.{statement}

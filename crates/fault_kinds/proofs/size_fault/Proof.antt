@@ -1,6 +1,6 @@
 use borrow.Author.Needs.{needs}
 use Rattle.fault_kinds.proofs.Bridge.{whole-by, whole-same}
-use Rattle.layout.proofs.Lists.{all-no, all-yes, all-one, is-no, is-yes}
+use Rattle.lists.specs.Tests.{all-no, all-yes, all-one, is-no, is-yes}
 use Rattle.meaning.specs.Fault.{sizeFault}
 use mathlib.Core.Bool.{not}
 use mathlib.Core.Path.{sym, ap, _∙_}

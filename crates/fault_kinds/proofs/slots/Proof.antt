@@ -1,4 +1,4 @@
-use Rattle.seek.proofs.Laws.{slots-length}
+use Rattle.seek.proofs.SeekSteps.{slots-length}
 use native.Mathlib.Omega.{arith}
 use Prim.Native.Nat.{ℕ, _-_, _*_}
 use mathlib.Core.Path.{sym, ap, _∙_}

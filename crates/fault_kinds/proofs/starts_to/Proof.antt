@@ -1,6 +1,6 @@
 use borrow.Author.Needs.{needs}
-use Rattle.layout.proofs.Sound.{slot-of}
-use Rattle.layout.proofs.Lists.{all-no, all-yes, all-one, is-no, is-yes}
+use Rattle.layout.proofs.HasRoom.{slot-of}
+use Rattle.lists.specs.Tests.{all-no, all-yes, all-one, is-no, is-yes}
 use Rattle.fault_kinds.specs.Tests.{startsTo}
 use Rattle.fault_kinds.specs.Reach.{reach}
 use Rattle.meaning.specs.Lists.{has}

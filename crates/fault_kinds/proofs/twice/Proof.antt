@@ -1,4 +1,4 @@
-use Rattle.fault_kinds.proofs.Laws.{so, not-so, from-zero, found, not-yet, nowhere}
+use Rattle.fault_kinds.proofs.Passes.{so, not-so, from-zero, found, not-yet, nowhere}
 use Rattle.fault_kinds.specs.Overlap.{meetsEarlier}
 use Rattle.meaning.specs.Lists.{count, some}
 use borrow.Author.Needs.{needs}

@@ -1,6 +1,6 @@
 use native.Mathlib.Omega.{arith}
-use Rattle.layout.proofs.Sound.{slot-of}
-use Rattle.layout.proofs.Lists.{all-no, all-yes, all-one, is-no, is-yes}
+use Rattle.layout.proofs.HasRoom.{slot-of}
+use Rattle.lists.specs.Tests.{all-no, all-yes, all-one, is-no, is-yes}
 use Rattle.meaning.specs.Fault.{usedExtension}
 use mathlib.Core.Path.{sym, _∙_}
 use borrow.Author.Needs.{needs}

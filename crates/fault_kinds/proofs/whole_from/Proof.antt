@@ -1,6 +1,6 @@
-use Rattle.fault_kinds.proofs.Laws.{so, not-so, firm, whole-no, whole-end, whole-on, whole-none, hands-slot}
+use Rattle.fault_kinds.proofs.Passes.{so, not-so, firm, whole-no, whole-end, whole-on, whole-none, hands-slot}
 use Rattle.fault_kinds.specs.Reach.{reach}
-use Rattle.layout.proofs.Lists.{is-no, is-yes}
+use Rattle.lists.specs.Tests.{is-no, is-yes}
 use Rattle.layout.specs.Room.{Slot}
 use Rattle.meaning.specs.Lists.{every}
 use borrow.Author.Needs.{needs}

@@ -2,7 +2,7 @@ use native.Mathlib.Omega.{arith}
 use Prim.Native.Nat.{_+_, _≤_}
 use mathlib.Core.Path.{_≡_, refl}
 use Rattle.free_space.specs.Pass.{bits}
-use Rattle.free_space.proofs.Laws.{bits-more, bits-none, met-few}
+use Rattle.free_space.proofs.GatPass.{bits-more, bits-none, met-few}
 use Rattle.free_space.proofs.block.Statement.{statement}
 use Rattle.free_space.proofs.block.Tie as tie
 use Rattle.free_space.proofs.block.Reads as reads

@@ -1,4 +1,4 @@
-use Rattle.free_space.proofs.Laws.{ended-here, ended-before}
+use Rattle.free_space.proofs.GatPass.{ended-here, ended-before}
 use borrow.Author.Needs.{needs}
 use Rattle.free_space.proofs.ended.Statement.{statement}
 use Rattle.free_space.proofs.ended.Tie as tie

@@ -1,5 +1,5 @@
-use Rattle.layout.proofs.Lists.{is-no, is-yes}
-use Rattle.free_space.proofs.Laws.{gat-fits, space-refused, space-accepted}
+use Rattle.lists.specs.Tests.{is-no, is-yes}
+use Rattle.free_space.proofs.GatPass.{gat-fits, space-refused, space-accepted}
 use borrow.Author.Needs.{needs}
 use Rattle.free_space.proofs.free_space.Statement.{statement}
 use Rattle.free_space.proofs.free_space.Tie as tie

@@ -1,5 +1,5 @@
 use mathlib.Core.Path.{_∙_}
-use Rattle.free_space.proofs.Laws.{met-taken, met-free}
+use Rattle.free_space.proofs.GatPass.{met-taken, met-free}
 use borrow.Author.Needs.{needs}
 use Rattle.free_space.proofs.met.Statement.{statement}
 use Rattle.free_space.proofs.met.Tie as tie

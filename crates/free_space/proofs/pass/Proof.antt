@@ -1,7 +1,7 @@
 use borrow.Author.Needs.{needs}
 use native.Mathlib.Omega.{arith}
 use Prim.Native.Nat.{_-_, _+_, _*_, _≤_}
-use Rattle.free_space.proofs.Laws.{Going, going-start, going-step, going-end}
+use Rattle.free_space.proofs.GatPass.{Going, going-start, going-step, going-end}
 use Rattle.free_space.proofs.pass.Statement.{statement}
 use Rattle.free_space.proofs.pass.Tie as tie
 use Rattle.free_space.proofs.pass.Reads as reads

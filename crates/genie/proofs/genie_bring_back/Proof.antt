@@ -1,7 +1,7 @@
 use mathlib.Core.Path.{ap}
 use Rattle.meaning.specs.declared.Geometry.{Geometry}
 use Rattle.genie.specs.Exports.{brings, exportedBringBack}
-use Rattle.genie.proofs.Laws.{at-disk}
+use Rattle.genie.proofs.HandsBack.{at-disk}
 use borrow.Author.Needs.{needs}
 use Rattle.genie.proofs.genie_bring_back.Statement.{statement}
 use Rattle.genie.proofs.genie_bring_back.Tie as tie

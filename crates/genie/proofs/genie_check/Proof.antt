@@ -3,7 +3,7 @@ use mathlib.Core.Path.{ap}
 use Rattle.meaning.specs.declared.Refusal.{Refusal}
 use Rattle.meaning.specs.declared.Geometry.{Geometry}
 use Rattle.genie.specs.Exports.{exportedCheck}
-use Rattle.genie.proofs.Laws.{at-disk}
+use Rattle.genie.proofs.HandsBack.{at-disk}
 use borrow.Author.Needs.{needs}
 use Rattle.genie.proofs.genie_check.Statement.{statement}
 use Rattle.genie.proofs.genie_check.Tie as tie

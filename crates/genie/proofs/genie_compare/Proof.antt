@@ -5,7 +5,7 @@ use Rattle.refusal.specs.Short.{shortOfTwo}
 use Rattle.genie_codec.specs.Words.{geometry}
 use Rattle.genie.specs.Compared.{exportedCompare}
 use Rattle.genie.proofs.Compared.{short-told, none-told, one-told}
-use Rattle.genie.proofs.Laws.{at-disk}
+use Rattle.genie.proofs.HandsBack.{at-disk}
 use borrow.Author.Needs.{needs}
 use Rattle.genie.proofs.genie_compare.Statement.{statement}
 use Rattle.genie.proofs.genie_compare.Tie as tie

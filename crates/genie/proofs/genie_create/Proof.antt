@@ -1,4 +1,4 @@
-use Rattle.genie.proofs.Laws.{at-disk, created}
+use Rattle.genie.proofs.HandsBack.{at-disk, created}
 use Rattle.genie.specs.Exports.{newFile, exportedCreate}
 use Rattle.meaning.specs.declared.Geometry.{Geometry}
 use Rattle.meaning.specs.Names.{noPlace}

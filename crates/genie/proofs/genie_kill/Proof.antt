@@ -4,7 +4,7 @@ use Rattle.meaning.specs.declared.Handle.{Handle}
 use Rattle.meaning.specs.declared.Geometry.{Geometry}
 use Rattle.meaning.specs.Kill.{kill}
 use Rattle.genie.specs.Exports.{leaves, exportedKill}
-use Rattle.genie.proofs.Laws.{at-disk}
+use Rattle.genie.proofs.HandsBack.{at-disk}
 use borrow.Author.Needs.{needs}
 use Rattle.genie.proofs.genie_kill.Statement.{statement}
 use Rattle.genie.proofs.genie_kill.Tie as tie

@@ -1,7 +1,7 @@
 use borrow.Author.Tests.{lt-ltb, le-ltb}
 use Rattle.meaning.specs.declared.Geometry.{Geometry}
 use Rattle.genie.specs.Exports.{exportedList}
-use Rattle.genie.proofs.Laws.{at-disk, nothing, file}
+use Rattle.genie.proofs.HandsBack.{at-disk, nothing, file}
 use borrow.Author.Needs.{needs}
 use Rattle.genie.proofs.genie_list.Statement.{statement}
 use Rattle.genie.proofs.genie_list.Tie as tie

@@ -4,7 +4,7 @@ use Rattle.meaning.specs.declared.Handle.{Handle}
 use Rattle.meaning.specs.declared.Geometry.{Geometry}
 use Rattle.load.specs.Load.{loadRecord}
 use Rattle.genie.specs.Program.{exportedLoadRecord}
-use Rattle.genie.proofs.Laws.{at-disk}
+use Rattle.genie.proofs.HandsBack.{at-disk}
 use Rattle.genie.proofs.Program.{none-told, record-told}
 use borrow.Author.Needs.{needs}
 use Rattle.genie.proofs.genie_load_record.Statement.{statement}

@@ -1,4 +1,4 @@
-use Rattle.genie.proofs.Laws.{at-disk, looked}
+use Rattle.genie.proofs.HandsBack.{at-disk, looked}
 use Rattle.genie.specs.Exports.{exportedLookUp}
 use Rattle.meaning.specs.declared.Geometry.{Geometry}
 use borrow.Author.Needs.{needs}

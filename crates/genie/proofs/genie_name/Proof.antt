@@ -1,4 +1,4 @@
-use Rattle.genie.proofs.Laws.{names-bad, names-good}
+use Rattle.genie.proofs.HandsBack.{names-bad, names-good}
 use Rattle.meaning.specs.Names.{noPlace}
 use borrow.Author.Tests.{lt-ltb, le-ltb}
 use borrow.Author.Needs.{needs}

@@ -1,4 +1,4 @@
-use Rattle.genie.proofs.Laws.{at-disk, opened}
+use Rattle.genie.proofs.HandsBack.{at-disk, opened}
 use Rattle.genie.specs.Exports.{exportedOpen}
 use Rattle.meaning.specs.declared.Geometry.{Geometry}
 use Rattle.meaning.specs.Names.{noPlace}

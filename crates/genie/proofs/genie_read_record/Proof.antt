@@ -4,7 +4,7 @@ use Rattle.meaning.specs.declared.Handle.{Handle}
 use Rattle.meaning.specs.declared.Geometry.{Geometry}
 use Rattle.meaning.specs.Read.{readRecord}
 use Rattle.genie.specs.Exports.{exportedReadRecord}
-use Rattle.genie.proofs.Laws.{at-disk, stays, moved}
+use Rattle.genie.proofs.HandsBack.{at-disk, stays, moved}
 use borrow.Author.Needs.{needs}
 use Rattle.genie.proofs.genie_read_record.Statement.{statement}
 use Rattle.genie.proofs.genie_read_record.Tie as tie

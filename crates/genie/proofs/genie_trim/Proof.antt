@@ -4,7 +4,7 @@ use Rattle.meaning.specs.declared.Handle.{Handle}
 use Rattle.meaning.specs.declared.Geometry.{Geometry}
 use Rattle.meaning.specs.Trim.{trim}
 use Rattle.genie.specs.Exports.{leaves, exportedTrim}
-use Rattle.genie.proofs.Laws.{at-disk}
+use Rattle.genie.proofs.HandsBack.{at-disk}
 use borrow.Author.Needs.{needs}
 use Rattle.genie.proofs.genie_trim.Statement.{statement}
 use Rattle.genie.proofs.genie_trim.Tie as tie

@@ -6,7 +6,7 @@ use Rattle.meaning.specs.declared.Geometry.{Geometry}
 use Rattle.meaning.specs.Write.{writeRecord}
 use Rattle.genie_codec.specs.Words.{modeOf}
 use Rattle.genie.specs.Exports.{exportedWriteRecord}
-use Rattle.genie.proofs.Laws.{at-disk, stays, moved}
+use Rattle.genie.proofs.HandsBack.{at-disk, stays, moved}
 use borrow.Author.Needs.{needs}
 use Rattle.genie.proofs.genie_write_record.Statement.{statement}
 use Rattle.genie.proofs.genie_write_record.Tie as tie

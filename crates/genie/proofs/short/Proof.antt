@@ -2,7 +2,7 @@ use Prim.Native.Nat.{ℕ}
 use mathlib.Core.Path.{ap, sym, _∙_}
 use Rattle.meaning.specs.declared.Refusal.{Refusal}
 use Rattle.refusal.specs.Short.{short}
-use Rattle.genie.proofs.Laws.{short-is}
+use Rattle.genie.proofs.HandsBack.{short-is}
 use borrow.Author.Needs.{needs}
 use Rattle.genie.proofs.short.Statement.{statement}
 use Rattle.genie.proofs.short.Tie as tie

@@ -1,5 +1,5 @@
-use Rattle.copy.proofs.Laws.{from-length}
-use Rattle.genie_codec.proofs.Laws.{whole}
+use Rattle.copy.proofs.OneByOne.{from-length}
+use Rattle.genie_codec.proofs.WholeSlice.{whole}
 use Rattle.genie_codec.specs.Codec.{handleOf}
 use lib.ListN.{take, drop, replicate}
 use mathlib.Core.Path.{_∙_}

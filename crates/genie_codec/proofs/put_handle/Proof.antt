@@ -1,4 +1,4 @@
-use Rattle.genie_codec.proofs.Laws.{numbers-then-name}
+use Rattle.genie_codec.proofs.WholeSlice.{numbers-then-name}
 use borrow.Author.Needs.{needs}
 use Rattle.genie_codec.proofs.put_handle.Statement.{statement}
 use Rattle.genie_codec.proofs.put_handle.Tie as tie

@@ -4,14 +4,13 @@ use mathlib.Core.Bool.{true, false}
 use Prim.Native.Nat.{ℕ}
 use borrow.Author.Tests.{ltb-false}
 use Rattle.passed.proofs.Ready.{walks}
-use Rattle.layout.proofs.Lists.{is-no}
+use Rattle.lists.specs.Tests.{is-no}
 use Rattle.growth.proofs.Whole.{whole-none, whole-eleven, whole-nine, whole-eight, whole-first, whole-second, again, again-fails, lacks, is-yes, second-number}
 use lib.ListN.{length}
 use lib.Dec.{ltb}
 use Rattle.growth.specs.Choose.{choiceBy}
 use Rattle.meaning.specs.Free.{freeGranules}
-use Rattle.meaning.specs.Growth.{fails, growBy, diskOr}
-use Rattle.meaning.specs.Refusals.{lacking}
+use Rattle.meaning.specs.Growth.{fails, growBy, diskOr, lacking}
 use borrow.Author.Needs.{needs}
 use Rattle.growth.proofs.grow.Statement.{statement}
 use Rattle.growth.proofs.grow.Tie as tie

@@ -1,4 +1,4 @@
-use Rattle.layout.proofs.Laws.{digit-at}
+use Rattle.layout.proofs.OneStep.{digit-at}
 use mathlib.Core.Path.{sym}
 use borrow.Author.Needs.{needs}
 use Rattle.growth.proofs.no_growth.Statement.{statement}

@@ -1,5 +1,5 @@
 use Rattle.growth_search.proofs.Search.{Passing, passing-start, passing-step, passing-block, passing-found, passing-end}
-use Rattle.layout.proofs.Lists.{is-no, is-yes}
+use Rattle.lists.specs.Tests.{is-no, is-yes}
 use Prim.Native.Nat.{_-_}
 use mathlib.Core.Path.{sym, _∙_}
 use native.Mathlib.Omega.{arith}

@@ -1,5 +1,5 @@
 use mathlib.Core.List.{[]}
-use Rattle.handle.proofs.Laws.{handle-stop, handle-then, passed, checked-room, by-level, by-system, by-none}
+use Rattle.passed.proofs.Checked.{handle-stop, handle-then, passed, checked-room, by-level, by-system, by-none}
 use borrow.Author.Tests.{lt-ltb, le-ltb}
 use mathlib.Core.Path.{refl, sym, _∙_}
 use borrow.Author.Needs.{needs}

@@ -1,9 +1,9 @@
 use native.Mathlib.Omega.{arith}
 use mathlib.Core.Path.{sym, _∙_}
-use Rattle.layout.proofs.Sound.{slot-of}
-use Rattle.layout.proofs.Lists.{all-yes, all-no, all-one, is-no, is-yes}
-use Rattle.layout.proofs.Laws.{name-at}
-use Rattle.meaning.specs.Refusals.{fresh}
+use Rattle.layout.proofs.HasRoom.{slot-of}
+use Rattle.lists.specs.Tests.{all-yes, all-no, all-one, is-no, is-yes}
+use Rattle.layout.proofs.OneStep.{name-at}
+use Rattle.meaning.specs.Handles.{fresh}
 use borrow.Author.Needs.{needs}
 use Rattle.handle.proofs.fresh.Statement.{statement}
 use Rattle.handle.proofs.fresh.Tie as tie

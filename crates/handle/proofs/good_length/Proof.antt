@@ -1,5 +1,5 @@
-use Rattle.layout.proofs.Lists.{all-no, all-yes, all-one}
-use Rattle.meaning.specs.Refusals.{goodLength}
+use Rattle.lists.specs.Tests.{all-no, all-yes, all-one}
+use Rattle.meaning.specs.Handles.{goodLength}
 use borrow.Author.Tests.{le-leb, lt-leb}
 use mathlib.Core.Path.{sym, _∙_}
 use Rattle.handle.proofs.good_length.Statement.{statement}

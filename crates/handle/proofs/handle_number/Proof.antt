@@ -1,5 +1,5 @@
-use Rattle.handle.proofs.Laws.{checked, checked-room, check-stop, check-then}
-use Rattle.layout.proofs.Lists.{first-hit, first-skip, first-none, is-no, is-yes, not-no, not-yes}
+use Rattle.passed.proofs.Checked.{checked, checked-room, check-stop, check-then}
+use Rattle.lists.specs.Tests.{first-hit, first-skip, first-none, is-no, is-yes, not-no, not-yes}
 use mathlib.Core.Path.{sym, _∙_}
 use Rattle.handle.proofs.handle_number.Statement.{statement}
 use Rattle.handle.proofs.handle_number.Tie as tie

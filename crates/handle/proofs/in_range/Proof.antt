@@ -1,7 +1,7 @@
 use mathlib.Core.Path.{sym, _∙_}
 use borrow.Author.Tests.{lt-leb, le-leb}
-use Rattle.layout.proofs.Lists.{all-yes, all-no, all-one, is-no, is-yes}
-use Rattle.meaning.specs.Refusals.{inRange}
+use Rattle.lists.specs.Tests.{all-yes, all-no, all-one, is-no, is-yes}
+use Rattle.meaning.specs.Handles.{inRange}
 use borrow.Author.Needs.{needs}
 use Rattle.handle.proofs.in_range.Statement.{statement}
 use Rattle.handle.proofs.in_range.Tie as tie

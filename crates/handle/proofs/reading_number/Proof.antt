@@ -1,6 +1,6 @@
 use mathlib.Core.List.{[]}
-use Rattle.handle.proofs.Laws.{handle-stop, handle-then}
-use Rattle.layout.proofs.Lists.{first-hit, first-skip, first-none}
+use Rattle.passed.proofs.Checked.{handle-stop, handle-then}
+use Rattle.lists.specs.Tests.{first-hit, first-skip, first-none}
 use borrow.Author.Tests.{lt-ltb, le-ltb}
 use mathlib.Core.Path.{refl, sym, _∙_}
 use borrow.Author.Needs.{needs}

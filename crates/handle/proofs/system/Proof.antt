@@ -1,4 +1,4 @@
-use Rattle.layout.proofs.Laws.{digit-at}
+use Rattle.layout.proofs.OneStep.{digit-at}
 use borrow.Author.Needs.{needs}
 use Rattle.handle.proofs.system.Statement.{statement}
 use Rattle.handle.proofs.system.Tie as tie

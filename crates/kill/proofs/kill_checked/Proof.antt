@@ -1,6 +1,6 @@
-use Rattle.kill.proofs.Laws.{by-range, refused, accepted}
+use Rattle.kill.proofs.Killing.{by-range, refused, accepted}
 use Rattle.meaning.specs.Refusals.{protected}
-use Rattle.handle.proofs.Laws.{passed, walks, handed}
+use Rattle.passed.proofs.Checked.{passed, walks, handed}
 use mathlib.Core.Path.{refl}
 use mathlib.Core.List.{[], _∷_}
 use borrow.Author.Needs.{needs}

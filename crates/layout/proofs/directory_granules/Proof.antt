@@ -1,7 +1,7 @@
 use native.Mathlib.Omega.{arith}
 use Prim.Native.Nat.{ℕ}
 use mathlib.Core.Path.{ap, _∙_}
-use Rattle.meaning.specs.Sizes.{touched-few}
+use Rattle.lists.specs.Sizes.{touched-few}
 use Rattle.meaning.specs.Layout.{roundUp, granuleSectors}
 use borrow.Author.Needs.{needs}
 use Rattle.layout.proofs.directory_granules.Statement.{statement}

@@ -1,5 +1,5 @@
 use native.Mathlib.Omega.{arith}
-use Rattle.meaning.specs.Sizes.{bytes-are}
+use Rattle.lists.specs.Sizes.{bytes-are}
 use borrow.Author.Needs.{needs}
 use Rattle.layout.proofs.granule_bytes.Statement.{statement}
 use Rattle.layout.proofs.granule_bytes.Tie as tie

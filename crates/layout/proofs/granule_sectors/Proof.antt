@@ -1,5 +1,5 @@
 use mathlib.Core.Path.{sym}
-use Rattle.layout.proofs.Laws.{fives}
+use Rattle.layout.proofs.OneStep.{fives}
 use native.Mathlib.Omega.{arith}
 use mathlib.Core.Path.{refl}
 use Rattle.meaning.specs.Layout.{granuleSectors}

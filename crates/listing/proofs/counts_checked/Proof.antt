@@ -1,5 +1,5 @@
 use Rattle.listing.proofs.Files.{counts-refused, counts-accepted}
-use Rattle.handle.proofs.Laws.{checked, checked-room}
+use Rattle.passed.proofs.Checked.{checked, checked-room}
 use Rattle.listing.proofs.counts_checked.Statement.{statement}
 use Rattle.listing.proofs.counts_checked.Tie as tie
 use Rattle.listing.proofs.counts_checked.Reads as reads

@@ -1,6 +1,6 @@
 use Rattle.listing.proofs.Files.{list-refused, list-accepted}
-use Rattle.seek.proofs.Sound.{sound}
-use Rattle.handle.proofs.Laws.{checked}
+use Rattle.seek.proofs.IsWalkable.{sound}
+use Rattle.passed.proofs.Checked.{checked}
 use borrow.Author.Needs.{needs}
 use Rattle.listing.proofs.list_checked.Statement.{statement}
 use Rattle.listing.proofs.list_checked.Tie as tie

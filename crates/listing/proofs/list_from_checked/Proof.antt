@@ -1,5 +1,5 @@
-use Rattle.handle.proofs.Laws.{checked}
-use Rattle.seek.proofs.Sound.{sound}
+use Rattle.passed.proofs.Checked.{checked}
+use Rattle.seek.proofs.IsWalkable.{sound}
 use Rattle.listing.proofs.Rows.{rows-refused, rows-short, rows-accepted}
 use borrow.Author.Needs.{needs}
 use Rattle.listing.proofs.list_from_checked.Statement.{statement}

@@ -1,7 +1,7 @@
 use mathlib.Core.Bool.{and-true}
 use mathlib.Core.Path.{sym}
 use borrow.Author.Tests.{eq-eqb, ne-eqb}
-use Rattle.layout.proofs.Laws.{digit-at, flags-at}
+use Rattle.layout.proofs.OneStep.{digit-at, flags-at}
 use Rattle.meaning.specs.Lists.{all}
 use Rattle.meaning.specs.Listing.{shown}
 use borrow.Author.Needs.{needs}

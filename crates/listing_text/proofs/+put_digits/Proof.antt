@@ -1,5 +1,5 @@
-use Rattle.listing_text.proofs.Laws.{put-both}
-use Rattle.listing_text.proofs.Laws.{put-none, put-as, digits-none, digits-one, digits-more}
+use Rattle.listing_text.proofs.PutBytes.{put-both}
+use Rattle.listing_text.proofs.PutBytes.{put-none, put-as, digits-none, digits-one, digits-more}
 use native.Mathlib.Omega.{arith}
 use borrow.Author.Needs.{needs}
 use Prim.Native.Nat.{_<_, ℕ}

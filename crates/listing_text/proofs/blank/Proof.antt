@@ -1,4 +1,4 @@
-use Rattle.listing_text.proofs.Laws.{blank-more, blank-not, blank-all}
+use Rattle.listing_text.proofs.PutBytes.{blank-more, blank-not, blank-all}
 use Rattle.listing_text.specs.Put.{none}
 use Rattle.meaning.specs.Listing.{stripped}
 use lib.ListN.{length, drop}

@@ -1,4 +1,4 @@
-use Rattle.listing_text.proofs.Laws.{put-then}
+use Rattle.listing_text.proofs.PutBytes.{put-then}
 use native.Mathlib.Omega.{arith}
 use borrow.Author.Needs.{needs}
 use Rattle.listing_text.proofs.put_column.Statement.{statement}

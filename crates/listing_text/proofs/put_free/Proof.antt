@@ -1,4 +1,4 @@
-use Rattle.listing_text.proofs.Laws.{put-then}
+use Rattle.listing_text.proofs.PutBytes.{put-then}
 use Rattle.listing_text.specs.Put.{freeLine}
 use native.Mathlib.Omega.{arith}
 use borrow.Author.Needs.{needs}

@@ -1,7 +1,7 @@
 use native.Mathlib.Omega.{arith}
 use mathlib.Core.List.{[]}
 use mathlib.Core.Path.{sym}
-use Rattle.listing_text.proofs.Laws.{put-none, put-as, stripped-blank, stripped-kept}
+use Rattle.listing_text.proofs.PutBytes.{put-none, put-as, stripped-blank, stripped-kept}
 use borrow.Author.Needs.{needs}
 use Rattle.listing_text.proofs.put_kept.Statement.{statement}
 use Rattle.listing_text.proofs.put_kept.Tie as tie

@@ -1,4 +1,4 @@
-use Rattle.listing_text.proofs.Laws.{put-then}
+use Rattle.listing_text.proofs.PutBytes.{put-then}
 use Rattle.meaning.specs.Listing.{line}
 use native.Mathlib.Omega.{arith}
 use borrow.Author.Needs.{needs}

@@ -1,4 +1,4 @@
-use Rattle.listing_text.proofs.Laws.{put-both, type-part, type-length}
+use Rattle.listing_text.proofs.PutBytes.{put-both, type-part, type-length}
 use Rattle.meaning.specs.Listing.{stripped, slashed}
 use lib.ListN.{take}
 use Prim.Native.Nat.{ℕ}

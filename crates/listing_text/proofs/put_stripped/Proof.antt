@@ -1,5 +1,5 @@
-use Rattle.listing_text.proofs.Laws.{put-both}
-use Rattle.listing_text.proofs.Laws.{put-none, put-as, stripped-more, stripped-all}
+use Rattle.listing_text.proofs.PutBytes.{put-both}
+use Rattle.listing_text.proofs.PutBytes.{put-none, put-as, stripped-more, stripped-all}
 use Rattle.listing_text.specs.Put.{Put}
 use Rattle.meaning.specs.Listing.{stripped}
 use lib.ListN.{length, take}

@@ -1,5 +1,5 @@
-use Rattle.listing_text.proofs.Laws.{put-both}
-use Rattle.listing_text.proofs.Laws.{put-none, slashed-none, slashed-some}
+use Rattle.listing_text.proofs.PutBytes.{put-both}
+use Rattle.listing_text.proofs.PutBytes.{put-none, slashed-none, slashed-some}
 use Rattle.meaning.specs.Listing.{stripped}
 use mathlib.Core.Path.{sym, _∙_}
 use native.Mathlib.Omega.{arith}

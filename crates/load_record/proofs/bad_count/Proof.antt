@@ -1,7 +1,7 @@
 use Rattle.load.specs.Records.{badCount}
 use mathlib.Core.Path.{sym, _∙_}
 use borrow.Author.Tests.{eq-eqb, ne-eqb}
-use Rattle.layout.proofs.Lists.{all-no, all-yes, all-one}
+use Rattle.lists.specs.Tests.{all-no, all-yes, all-one}
 use Rattle.load_record.proofs.bad_count.Statement.{statement}
 use Rattle.load_record.proofs.bad_count.Tie as tie
 use Rattle.load_record.proofs.bad_count.Reads as reads

@@ -1,7 +1,7 @@
 use Rattle.load.specs.Records.{isCode}
 use mathlib.Core.Path.{sym, _∙_}
 use borrow.Author.Tests.{eq-eqb, ne-eqb}
-use Rattle.layout.proofs.Lists.{any-hit, any-skip, any-one}
+use Rattle.lists.specs.Tests.{any-hit, any-skip, any-one}
 use Rattle.load_record.proofs.is_code.Statement.{statement}
 use Rattle.load_record.proofs.is_code.Tie as tie
 use Rattle.load_record.proofs.is_code.Reads as reads

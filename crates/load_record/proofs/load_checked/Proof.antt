@@ -1,6 +1,6 @@
 use Rattle.load_record.proofs.Call.{refused-first, has-room, low, room, program, refused-own, handed-out}
 use Rattle.load_record.proofs.Bytes.{long}
-use Rattle.handle.proofs.Laws.{handed}
+use Rattle.passed.proofs.Checked.{handed}
 use native.Mathlib.Omega.{arith}
 use borrow.Author.Needs.{needs}
 use Rattle.load_record.proofs.load_checked.Statement.{statement}

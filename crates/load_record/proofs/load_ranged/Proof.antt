@@ -1,5 +1,5 @@
 use mathlib.Core.Path.{sym, _∙_}
-use Rattle.layout.proofs.Lists.{is-no, is-yes, all-yes, all-no, all-one}
+use Rattle.lists.specs.Tests.{is-no, is-yes, all-yes, all-no, all-one}
 use borrow.Author.Needs.{needs}
 use Rattle.load_record.proofs.load_ranged.Statement.{statement}
 use Rattle.load_record.proofs.load_ranged.Tie as tie

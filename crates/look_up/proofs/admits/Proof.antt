@@ -1,4 +1,4 @@
-use Rattle.layout.proofs.Lists.{any-skip, any-hit, any-one}
+use Rattle.lists.specs.Tests.{any-skip, any-hit, any-one}
 use Rattle.meaning.specs.Open.{admits}
 use lib.Dec.{eqb}
 use mathlib.Core.Path.{sym, ap, _∙_}

@@ -1,9 +1,9 @@
-use Rattle.layout.proofs.Lists.{all-yes, all-no, all-one}
+use Rattle.lists.specs.Tests.{all-yes, all-no, all-one}
 use native.Mathlib.Omega.{arith}
 use mathlib.Core.Path.{sym, _∙_}
-use Rattle.layout.proofs.Lists.{is-no, is-yes}
-use Rattle.layout.proofs.Lists.{all-yes, all-no}
-use Rattle.layout.proofs.Laws.{name-at}
+use Rattle.lists.specs.Tests.{is-no, is-yes}
+use Rattle.lists.specs.Tests.{all-yes, all-no}
+use Rattle.layout.proofs.OneStep.{name-at}
 use Rattle.meaning.specs.LookUp.{carries}
 use borrow.Author.Needs.{needs}
 use Rattle.look_up.proofs.carries.Statement.{statement}

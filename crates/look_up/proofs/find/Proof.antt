@@ -5,7 +5,7 @@ use borrow.Author.Tests.{eq-eqb, ne-eqb}
 use Prim.Native.Nat.{ℕ, _-_, _≤_, _*_}
 use mathlib.Core.Path.{ap, sym, _∙_, subst}
 use Rattle.look_up.proofs.Pass.{InRow, row-start, row-slot, row-here, row-next, row-past, row-after}
-use Rattle.look_up.proofs.Laws.{Finding, finding-start, finding-past, finding-other, finding-miss, finding-hit, finding-end, finding-count}
+use Rattle.look_up.proofs.Search.{Finding, finding-start, finding-past, finding-other, finding-miss, finding-hit, finding-end, finding-count}
 use Rattle.look_up.proofs.find.Statement.{statement}
 use Rattle.look_up.proofs.find.Tie as tie
 use Rattle.look_up.proofs.find.Reads as reads

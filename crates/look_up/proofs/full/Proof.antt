@@ -1,4 +1,4 @@
-use Rattle.layout.proofs.Lists.{any-skip, any-hit, any-one}
+use Rattle.lists.specs.Tests.{any-skip, any-hit, any-one}
 use Rattle.meaning.specs.Open.{full}
 use borrow.Author.Tests.{eq-eqb, ne-eqb}
 use lib.Dec.{eqb}

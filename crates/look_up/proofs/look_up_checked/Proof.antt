@@ -1,9 +1,9 @@
-use Rattle.look_up.proofs.Laws.{finds-as, finds-none, finds-one, told, told-stop}
+use Rattle.look_up.proofs.Search.{finds-as, finds-none, finds-one, told, told-stop}
 use Rattle.look_up.proofs.Named.{by-place, by-number}
 use Rattle.name_spelling.proofs.Comes.{hands-bad, hands-good, hands-name}
-use Rattle.handle.proofs.Laws.{check-then, checked, checked-room}
-use Rattle.layout.proofs.Laws.{well-length}
-use Rattle.layout.proofs.Lists.{first-hit, first-none, first-skip, not-no, not-yes}
+use Rattle.passed.proofs.Checked.{check-then, checked, checked-room}
+use Rattle.layout.proofs.OneStep.{well-length}
+use Rattle.lists.specs.Tests.{first-hit, first-none, first-skip, not-no, not-yes}
 use Rattle.meaning.specs.Lists.{firstOr}
 use lib.Dec.{eqb}
 use lib.ListN.{length}

@@ -1,10 +1,10 @@
 use Rattle.look_up.proofs.Open.{admitted, open-accepted, open-refused}
-use Rattle.look_up.proofs.Laws.{finds-as, finds-none, finds-one}
+use Rattle.look_up.proofs.Search.{finds-as, finds-none, finds-one}
 use Rattle.look_up.proofs.Named.{by-own, by-place, by-number}
 use Rattle.name_spelling.proofs.Comes.{hands-bad, hands-good, hands-name}
-use Rattle.handle.proofs.Laws.{check-stop, check-then, checked, checked-room}
-use Rattle.layout.proofs.Laws.{well-length}
-use Rattle.layout.proofs.Lists.{first-hit, first-none, first-skip, is-no, is-yes, not-no, not-yes}
+use Rattle.passed.proofs.Checked.{check-stop, check-then, checked, checked-room}
+use Rattle.layout.proofs.OneStep.{well-length}
+use Rattle.lists.specs.Tests.{first-hit, first-none, first-skip, is-no, is-yes, not-no, not-yes}
 use Rattle.meaning.specs.Open.{openedAt}
 use borrow.Author.Tests.{not-false}
 use lib.Dec.{eqb}

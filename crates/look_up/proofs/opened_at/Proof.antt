@@ -1,5 +1,5 @@
 use Rattle.look_up.proofs.Open.{opened, level-full, level-stored}
-use Rattle.layout.proofs.Lists.{is-no, is-yes}
+use Rattle.lists.specs.Tests.{is-no, is-yes}
 use Prim.Native.Nat.{ℕ, _%_}
 use mathlib.Core.Path.{ap, _∙_}
 use mathlib.Core.Logic.{⊎-elim}

@@ -1,5 +1,5 @@
 use Rattle.name_spelling.proofs.Comes.{place-short, place-first, place-name, place-type}
-use Rattle.layout.proofs.Lists.{is-no, is-yes}
+use Rattle.lists.specs.Tests.{is-no, is-yes}
 use borrow.Author.Tests.{ne-eqb}
 use borrow.Author.Needs.{needs}
 use Rattle.name_spelling.proofs.bad_place.Statement.{statement}

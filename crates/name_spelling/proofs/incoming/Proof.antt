@@ -1,5 +1,5 @@
 use Rattle.name_spelling.proofs.Comes.{hands-well, hands-short, hands-place, hands-folded}
-use Rattle.layout.proofs.Laws.{well-length}
+use Rattle.layout.proofs.OneStep.{well-length}
 use lib.Seq.{take-all}
 use native.Mathlib.Omega.{arith}
 use mathlib.Core.Path.{refl, sym, _∙_}

@@ -1,6 +1,6 @@
 use borrow.Author.Needs.{needs}
 use Rattle.name_spelling.proofs.Comes.{good-more, good-stop, good-end}
-use Rattle.layout.proofs.Lists.{is-no, is-yes}
+use Rattle.lists.specs.Tests.{is-no, is-yes}
 use Rattle.meaning.specs.Names.{good}
 use native.Mathlib.Omega.{arith}
 use lib.ListN.{take, drop}

@@ -1,4 +1,4 @@
-use Rattle.layout.proofs.Lists.{is-no, is-yes}
+use Rattle.lists.specs.Tests.{is-no, is-yes}
 use Rattle.name_spelling.proofs.Padded.{last-plain}
 use Rattle.name_spelling.proofs.Name.{padded-more, padded-stop}
 use mathlib.Core.Path.{sym, _∙_}

@@ -2,7 +2,7 @@ use lib.ListN.{getD, take}
 use mathlib.Core.Path.{ap, sym, _∙_}
 use mathlib.Core.Bool.{Bool, true≢false, _&&_}
 use borrow.Author.Tests.{eq-eqb, ne-eqb}
-use Rattle.layout.proofs.Lists.{is-no, is-yes, all-no, all-yes, all-one, all-at, and-l, and-r}
+use Rattle.lists.specs.Tests.{is-no, is-yes, all-no, all-yes, all-one, all-at, and-l, and-r}
 use Rattle.name_spelling.proofs.Name.{type-part}
 use Rattle.name_spelling.proofs.Padded.{eight-not, not-well}
 use Rattle.meaning.specs.Names.{wellFormed, padded, letter}

@@ -1,4 +1,4 @@
-use Rattle.play.proofs.Laws.{open-refused, open-made, allot-is}
+use Rattle.play.proofs.OneCall.{open-refused, open-made, allot-is}
 use borrow.Author.Needs.{needs}
 use Rattle.play.proofs.allot_to.Statement.{statement}
 use Rattle.play.proofs.allot_to.Tie as tie

@@ -1,4 +1,4 @@
-use Rattle.play.proofs.Laws.{create-is}
+use Rattle.play.proofs.OneCall.{create-is}
 use borrow.Author.Needs.{needs}
 use Rattle.play.proofs.create_file.Statement.{statement}
 use Rattle.play.proofs.create_file.Tie as tie

@@ -1,4 +1,4 @@
-use Rattle.play.proofs.Laws.{open-refused, open-made, kill-is}
+use Rattle.play.proofs.OneCall.{open-refused, open-made, kill-is}
 use borrow.Author.Needs.{needs}
 use Rattle.play.proofs.kill_file.Statement.{statement}
 use Rattle.play.proofs.kill_file.Tie as tie

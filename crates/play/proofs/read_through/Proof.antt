@@ -1,4 +1,4 @@
-use Rattle.play.proofs.Laws.{open-refused, open-made, read-is}
+use Rattle.play.proofs.OneCall.{open-refused, open-made, read-is}
 use borrow.Author.Needs.{needs}
 use Rattle.play.proofs.read_through.Statement.{statement}
 use Rattle.play.proofs.read_through.Tie as tie

@@ -1,4 +1,4 @@
-use Rattle.play.proofs.Laws.{open-refused, open-made, trim-is}
+use Rattle.play.proofs.OneCall.{open-refused, open-made, trim-is}
 use borrow.Author.Needs.{needs}
 use Rattle.play.proofs.trim_file.Statement.{statement}
 use Rattle.play.proofs.trim_file.Tie as tie

@@ -1,4 +1,4 @@
-use Rattle.play.proofs.Laws.{open-refused, open-made, write-is}
+use Rattle.play.proofs.OneCall.{open-refused, open-made, write-is}
 use borrow.Author.Needs.{needs}
 use Rattle.play.proofs.write_fill.Statement.{statement}
 use Rattle.play.proofs.write_fill.Tie as tie

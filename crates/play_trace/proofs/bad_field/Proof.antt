@@ -1,4 +1,4 @@
-use Rattle.play_trace.proofs.Laws.{file-is, position-is, length-is, fill-is, zero-is, zero-not, bad-file, bad-position, bad-length, bad-fill, bad-zero, no-bad}
+use Rattle.play_trace.proofs.NumbersTell.{file-is, position-is, length-is, fill-is, zero-is, zero-not, bad-file, bad-position, bad-length, bad-fill, bad-zero, no-bad}
 use borrow.Author.Tests.{not-true, not-false}
 use borrow.Author.Needs.{needs}
 use Rattle.play_trace.proofs.bad_field.Statement.{statement}

@@ -1,4 +1,4 @@
-use Rattle.play_trace.proofs.Laws.{step-1, step-2, step-3, step-4, step-5, step-6, step-7}
+use Rattle.play_trace.proofs.NumbersTell.{step-1, step-2, step-3, step-4, step-5, step-6, step-7}
 use Rattle.play_trace.proofs.step_of.Statement.{statement}
 use Rattle.play_trace.proofs.step_of.Tie as tie
 use Rattle.play_trace.proofs.step_of.Reads as reads

@@ -1,6 +1,6 @@
 use Rattle.play_trace.specs.Steps.{uses}
 use borrow.Author.Tests.{eq-eqb, ne-eqb}
-use Rattle.play_trace.proofs.Laws.{length-last}
+use Rattle.play_trace.proofs.NumbersTell.{length-last}
 use Rattle.play_trace.proofs.uses_length.Statement.{statement}
 use Rattle.play_trace.proofs.uses_length.Tie as tie
 use Rattle.play_trace.proofs.uses_length.Reads as reads

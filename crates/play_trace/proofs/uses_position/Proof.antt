@@ -1,6 +1,6 @@
 use Rattle.play_trace.specs.Steps.{uses}
 use borrow.Author.Tests.{eq-eqb, ne-eqb}
-use Rattle.play_trace.proofs.Laws.{position-last}
+use Rattle.play_trace.proofs.NumbersTell.{position-last}
 use Rattle.play_trace.proofs.uses_position.Statement.{statement}
 use Rattle.play_trace.proofs.uses_position.Tie as tie
 use Rattle.play_trace.proofs.uses_position.Reads as reads

@@ -1,4 +1,4 @@
-use Rattle.read.proofs.Laws.{part-is, part-ptr}
+use Rattle.read.proofs.ReadParts.{part-is, part-ptr}
 use Rattle.meaning.specs.declared.Part.{Part}
 use Prim.Native.Nat.{_+_}
 use mathlib.Core.Path.{ap, _∙_}

@@ -1,7 +1,7 @@
 use native.Mathlib.Omega.{arith}
-use Rattle.read.proofs.Laws.{refused, accepted, allowed}
+use Rattle.read.proofs.ReadParts.{refused, accepted, allowed}
 use mathlib.Core.Path.{sym, _∙_}
-use Rattle.handle.proofs.Laws.{handed}
+use Rattle.passed.proofs.Checked.{handed}
 use borrow.Author.Needs.{needs}
 use Rattle.read.proofs.record_checked.Statement.{statement}
 use Rattle.read.proofs.record_checked.Tie as tie

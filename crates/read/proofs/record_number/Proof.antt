@@ -1,8 +1,8 @@
 use native.Mathlib.Omega.{arith}
-use Rattle.read.proofs.Laws.{reading-stop, reading-then}
+use Rattle.read.proofs.ReadParts.{reading-stop, reading-then}
 use Rattle.meaning.specs.Refusals.{notForReading}
-use Rattle.handle.proofs.Laws.{passed, walks, ranges}
-use Rattle.layout.proofs.Lists.{first-hit, first-skip, first-none, all-at}
+use Rattle.passed.proofs.Checked.{passed, walks, ranges}
+use Rattle.lists.specs.Tests.{first-hit, first-skip, first-none, all-at}
 use borrow.Author.Tests.{lt-ltb, le-ltb}
 use lib.Dec.{ltb}
 use Prim.Native.Nat.{ℕ, _+_}

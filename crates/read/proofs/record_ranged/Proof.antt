@@ -1,4 +1,4 @@
-use Rattle.layout.proofs.Lists.{is-no, is-yes, all-yes, all-no, all-one}
+use Rattle.lists.specs.Tests.{is-no, is-yes, all-yes, all-no, all-one}
 use mathlib.Core.Path.{sym, _∙_}
 use borrow.Author.Needs.{needs}
 use Rattle.read.proofs.record_ranged.Statement.{statement}

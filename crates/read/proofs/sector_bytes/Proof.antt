@@ -1,5 +1,5 @@
 use native.Mathlib.Omega.{arith}
-use Rattle.read.proofs.Laws.{bytes-before, bytes-whole, bytes-last}
+use Rattle.read.proofs.ReadParts.{bytes-before, bytes-whole, bytes-last}
 use mathlib.Core.Path.{sym, _∙_}
 use borrow.Author.Needs.{needs}
 use Rattle.read.proofs.sector_bytes.Statement.{statement}

@@ -1,8 +1,8 @@
 use native.Mathlib.Omega.{arith}
-use Rattle.read.proofs.Laws.{reading-stop, reading-then}
+use Rattle.read.proofs.ReadParts.{reading-stop, reading-then}
 use Rattle.meaning.specs.Refusals.{notForReading}
-use Rattle.handle.proofs.Laws.{passed, walks}
-use Rattle.layout.proofs.Lists.{first-hit, first-skip, first-none}
+use Rattle.passed.proofs.Checked.{passed, walks}
+use Rattle.lists.specs.Tests.{first-hit, first-skip, first-none}
 use borrow.Author.Tests.{lt-leb, le-leb}
 use lib.Dec.{leb}
 use Prim.Native.Nat.{ℕ}
@@ -15,7 +15,7 @@ use Rattle.read.proofs.sector_number.Reads as reads
 use Rattle.read.proofs.sector_number.Lts as lts
 use Rattle.handle.proofs.reading_number.Reads as reading-number-reads
 use Rattle.layout.proofs.word.Reads as word-reads
-use Rattle.read.proofs.sector_ranged.Reads as sector-ranged-reads
+use Rattle.handle.proofs.sector_ranged.Reads as sector-ranged-reads
 
 sector-ranged-requires : tie.Need-sector-ranged-requires
 sector-ranged-requires c κs = search needs

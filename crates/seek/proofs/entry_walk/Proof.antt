@@ -1,5 +1,5 @@
 use borrow.Author.Needs.{needs}
-use Rattle.seek.proofs.Laws.{Walking, walking-start, walking-here, walking-stop, walking-step, walking-end}
+use Rattle.seek.proofs.SeekSteps.{Walking, walking-start, walking-here, walking-stop, walking-step, walking-end}
 use native.Mathlib.Omega.{arith}
 use Rattle.seek.proofs.entry_walk.Statement.{statement}
 use Rattle.seek.proofs.entry_walk.Tie as tie

@@ -5,7 +5,7 @@ use mathlib.Core.Path.{ap, sym, _∙_}
 use Rattle.meaning.specs.Lists.{each}
 use Rattle.meaning.specs.Chain.{owned, chain, chainFrom}
 use Rattle.meaning.specs.Entries.{entryGranules}
-use Rattle.seek.proofs.Laws.{slots-length}
+use Rattle.seek.proofs.SeekSteps.{slots-length}
 use borrow.Author.Needs.{needs}
 use Rattle.seek.proofs.owned_at.Statement.{statement}
 use Rattle.seek.proofs.owned_at.Tie as tie

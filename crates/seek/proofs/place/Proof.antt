@@ -5,7 +5,7 @@ use native.Mathlib.Nat.{mul-le-mul, mod-lt}
 use native.Mathlib.Omega.{arith}
 use lib.ListN.{getD}
 use mathlib.Core.Path.{ap, _∙_}
-use Rattle.meaning.specs.Sizes.{width-lt}
+use Rattle.lists.specs.Sizes.{width-lt}
 use Rattle.meaning.specs.Chain.{owned, place}
 use borrow.Author.Needs.{needs}
 use Rattle.seek.proofs.place.Statement.{statement}

@@ -1,6 +1,6 @@
 use Rattle.space.proofs.Clear.{block-every}
-use Rattle.layout.proofs.Lists.{all-no, all-yes, all-one}
-use Rattle.layout.proofs.Laws.{gat-low}
+use Rattle.lists.specs.Tests.{all-no, all-yes, all-one}
+use Rattle.layout.proofs.OneStep.{gat-low}
 use borrow.Author.Tests.{eq-eqb, ne-eqb}
 use Prim.Native.Nat.{_%_}
 use mathlib.Core.Path.{sym, _∙_}

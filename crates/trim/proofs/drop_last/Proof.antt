@@ -1,4 +1,4 @@
-use Rattle.trim.proofs.Laws.{Dropping, dropping-start, dropping-one, dropping-step, dropping-end}
+use Rattle.trim.proofs.Trimming.{Dropping, dropping-start, dropping-one, dropping-step, dropping-end}
 use borrow.Author.Needs.{needs}
 use Rattle.trim.proofs.drop_last.Statement.{statement}
 use Rattle.trim.proofs.drop_last.Tie as tie

@@ -1,6 +1,6 @@
-use Rattle.layout.proofs.Sound.{entry-fits}
+use Rattle.layout.proofs.HasRoom.{entry-fits}
 use Rattle.meaning.specs.Entries.{extension}
-use Rattle.trim.proofs.Laws.{last-reads, last-run, last-granule, last-before, bit-fits, by-shorter, by-emptied, by-unhooked, not-first, is-first, extension-yes, extension-no}
+use Rattle.trim.proofs.Trimming.{last-reads, last-run, last-granule, last-before, bit-fits, by-shorter, by-emptied, by-unhooked, not-first, is-first, extension-yes, extension-no}
 use lib.ListN.{length}
 use Prim.Native.Nat.{_-_}
 use mathlib.Core.Logic.{⊎-elim}

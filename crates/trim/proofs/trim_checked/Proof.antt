@@ -1,7 +1,7 @@
 use native.Mathlib.Omega.{arith}
 use Rattle.passed.proofs.Ready.{walks}
-use Rattle.handle.proofs.Laws.{handed}
-use Rattle.trim.proofs.Laws.{by-range, trim-ready, trim-reads, needs-owned, trim-last, refused, kept, trimmed}
+use Rattle.passed.proofs.Checked.{handed}
+use Rattle.trim.proofs.Trimming.{by-range, trim-ready, trim-reads, needs-owned, trim-last, refused, kept, trimmed}
 use borrow.Author.Needs.{needs}
 use Rattle.trim.proofs.trim_checked.Statement.{statement}
 use Rattle.trim.proofs.trim_checked.Tie as tie

@@ -1,6 +1,6 @@
-use Rattle.meaning.specs.Sizes.{round-least, bytes-pos}
+use Rattle.lists.specs.Sizes.{round-least, bytes-pos}
 use Rattle.growth.proofs.Whole.{Whole, whole-none}
-use Rattle.meaning.specs.Refusals.{lacking}
+use Rattle.meaning.specs.Growth.{lacking}
 use Prim.Native.Nat.{ℕ}
 use mathlib.Core.Path.{subst}
 use native.Mathlib.Omega.{arith}

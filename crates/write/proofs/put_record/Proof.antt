@@ -1,5 +1,5 @@
 use lib.ListN.{take}
-use Rattle.write.proofs.Laws.{gap-file, gap-then, recorded}
+use Rattle.write.proofs.Parts.{gap-file, gap-then, recorded}
 use borrow.Author.Needs.{needs}
 use Rattle.write.proofs.put_record.Statement.{statement}
 use Rattle.write.proofs.put_record.Tie as tie

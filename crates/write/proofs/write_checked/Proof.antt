@@ -1,6 +1,6 @@
 use Rattle.write.proofs.Calls.{refused, not-grown, written, fit, stores, sized, old-fits, size-is, number-is, image-is, sizes-low, old-owned}
 use Rattle.growth.proofs.Handed.{ready}
-use Rattle.handle.proofs.Laws.{passed, checked-room, handed}
+use Rattle.passed.proofs.Checked.{passed, checked-room, handed}
 use Rattle.meaning.specs.Refusals.{protected}
 use Prim.Native.Nat.{_+_}
 use mathlib.Core.List.{[], _∷_}

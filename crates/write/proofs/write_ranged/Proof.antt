@@ -1,5 +1,5 @@
 use Rattle.write.proofs.Calls.{in-reach}
-use Rattle.layout.proofs.Lists.{is-no, is-yes, all-yes, all-no, all-one}
+use Rattle.lists.specs.Tests.{is-no, is-yes, all-yes, all-no, all-one}
 use borrow.Author.Tests.{lt-leb, le-leb}
 use mathlib.Core.Path.{sym, _∙_}
 use native.Mathlib.Omega.{arith}

@@ -27,6 +27,13 @@ mod seeing;
 mod trim;
 mod undelete;
 
+#[cfg(unix)]
+pub use choose::{password, refused};
+#[cfg(unix)]
+pub use opened::Opened;
+#[cfg(unix)]
+pub use put::{date, DATE};
+
 use crate::args::{Args, Spec};
 use crate::failure::Failure;
 use crate::json::Json;
@@ -118,9 +125,9 @@ pub struct Output {
 const JSON: Spec = Spec { long: "json", short: None, value: None, help: "write one JSON value instead of text" };
 const FORCE: Spec = Spec { long: "force", short: Some(b'f'), value: None, help: "" };
 const ALL: Spec = Spec { long: "all", short: Some(b'a'), value: None, help: "patterns find system files too" };
-const CODE: Spec =
+pub const CODE: Spec =
     Spec { long: "code", short: None, value: Some("CODE"), help: "the password code to open files by (the open code)" };
-const UNLOCK: Spec =
+pub const UNLOCK: Spec =
     Spec { long: "unlock", short: Some(b'u'), value: None, help: "open files without checking their passwords" };
 
 /// What went wrong, for `--json`.

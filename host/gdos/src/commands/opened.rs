@@ -62,7 +62,22 @@ impl Opened {
         Ok((opened, locked))
     }
 
-    fn check(&self) -> Result<(), Failure> {
+    /// An image that is held for long, to be changed or only looked at.
+    #[cfg(unix)]
+    pub fn hold(args: &Args, image: &OsStr, change: bool) -> Result<(Opened, Locked), Failure> {
+        let wanted = Wanted::from_args(args)?;
+        let locked = Locked::hold(Path::new(image), change)?;
+        let found = match change {
+            true => stated::find_for_change(&wanted, args.has("search"), image, locked.bytes())?,
+            false => stated::find(&wanted, image, locked.bytes())?,
+        };
+        let opened = Opened::new(image, locked.bytes().to_vec(), found);
+        opened.check()?;
+        Ok((opened, locked))
+    }
+
+    /// Whether the disk is consistent: refused with what is wrong.
+    pub fn check(&self) -> Result<(), Failure> {
         self.disk.check().map_err(|refusal| self.refused(refusal))
     }
 

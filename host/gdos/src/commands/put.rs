@@ -19,7 +19,7 @@ use std::path::Path;
 
 const AS: Spec =
     Spec { long: "as", short: None, value: Some("NAME"), help: "the file's name on the disk (one file only)" };
-const DATE: Spec =
+pub const DATE: Spec =
     Spec { long: "date", short: None, value: Some("DATE"), help: "the date of new files, as 1983-10-09 (today's)" };
 const RECORD_LENGTH: Spec = Spec {
     long: "record-length",
@@ -144,7 +144,7 @@ fn cannot_be(opened: &mut Opened, sources: &[Source], new: &NewFile, force: bool
 }
 
 /// The date given; or today's as far as the disk can hold it, and a note if it cannot.
-fn date(args: &Args) -> Result<(Date, Option<String>), Failure> {
+pub fn date(args: &Args) -> Result<(Date, Option<String>), Failure> {
     if let Some(given) = args.value("date") {
         let wrong = || Failure::Wrong(format!("--date wants a date from 1980 on, as 1983-10-09, not {given:?}"));
         let date = given.to_str().and_then(date::parse).ok_or_else(wrong)?;

@@ -1,7 +1,7 @@
 //! A copy beside the file that it is to become.
 
 use std::ffi::{OsStr, OsString};
-use std::fs::{self, File, Metadata, OpenOptions, Permissions};
+use std::fs::{self, File, Metadata, OpenOptions, Permissions, TryLockError};
 use std::io::{self, ErrorKind, Write};
 use std::os::unix::ffi::OsStrExt;
 use std::os::unix::fs::{fchown, MetadataExt, OpenOptionsExt, PermissionsExt};
@@ -53,10 +53,28 @@ impl Copy {
     }
 
     /// Becomes the file at this path, in one step and in the place of what is there.
-    pub fn rename_to(mut self, path: &Path) -> io::Result<()> {
+    pub fn rename_to(self, path: &Path) -> io::Result<()> {
+        self.moved_to(path)?;
+        sync_folder_of(path)
+    }
+
+    /// The same, and whoever holds the file that is answered is the only one who does, before and after the step. The folder is
+    /// not synced yet.
+    pub fn held_at(self, path: &Path) -> io::Result<File> {
+        match self.file.try_lock() {
+            Ok(()) => {}
+            Err(TryLockError::Error(e)) if e.kind() == ErrorKind::Unsupported => {}
+            Err(e) => return Err(e.into()),
+        }
+        let file = self.file.try_clone()?;
+        self.moved_to(path)?;
+        Ok(file)
+    }
+
+    fn moved_to(mut self, path: &Path) -> io::Result<()> {
         fs::rename(&self.path, path)?;
         self.moved = true;
-        sync_folder_of(path)
+        Ok(())
     }
 
     /// Becomes the file at this path unless one is there.
@@ -93,7 +111,7 @@ fn no_room(e: io::Error) -> io::Error {
 
 /// Has the system write the folder's own content, the new name in it. Where the folder may not be read, or its file
 /// system knows no such thing, there is nothing more to be done.
-fn sync_folder_of(path: &Path) -> io::Result<()> {
+pub(super) fn sync_folder_of(path: &Path) -> io::Result<()> {
     let folder = match path.parent() {
         Some(folder) if !folder.as_os_str().is_empty() => folder,
         _ => Path::new("."),

@@ -1,38 +1,80 @@
 //! An image that is to be changed.
 
-use super::copy::Copy;
+use super::copy::{sync_folder_of, Copy};
 use super::read::read_whole;
 use crate::failure::Failure;
 use crate::text::counted;
-use std::fs::{self, File, OpenOptions};
+use std::fs::{self, File, Metadata, OpenOptions, TryLockError};
 use std::io::{self, ErrorKind};
 use std::os::unix::fs::MetadataExt;
 use std::path::{Path, PathBuf};
+use std::thread::sleep;
+use std::time::Duration;
 
 /// An image that is to be changed. Nobody else who uses this program changes it meanwhile.
 pub struct Locked {
     path: PathBuf,
     file: File,
+    /// What the file was when these bytes were read from it or written to it.
+    stamp: Stamp,
     bytes: Vec<u8>,
+}
+
+/// By which another program's change is seen: which file it is, its length and when it was written.
+#[derive(Debug, PartialEq, Eq)]
+struct Stamp(u64, u64, u64, i64, i64);
+
+impl Stamp {
+    fn of(data: &Metadata) -> Stamp {
+        Stamp(data.dev(), data.ino(), data.len(), data.mtime(), data.mtime_nsec())
+    }
 }
 
 impl Locked {
     /// Opens an image for a change. An image without any writing permission is protected, whoever asks.
     pub fn open(path: &Path) -> Result<Locked, Failure> {
+        Locked::take(path, true, true)
+    }
+
+    /// Opens an image that is held for long, to be changed or only looked at. Where another holds it, that is told, and nobody
+    /// waits.
+    pub fn hold(path: &Path, change: bool) -> Result<Locked, Failure> {
+        Locked::take(path, change, false)
+    }
+
+    fn take(path: &Path, change: bool, wait: bool) -> Result<Locked, Failure> {
+        let refused = |why: &str| Failure::Wrong(format!("cannot write to {}: {why}", path.display()));
         // A link stays a link: what it leads to is replaced.
         let real = path.canonicalize().map_err(Failure::io("open", path))?;
         let there = fs::metadata(&real).map_err(Failure::io("open", path))?;
-        if !there.is_file() && !there.is_dir() {
-            return Err(Failure::Wrong(format!("cannot write to {}: not a regular file", path.display())));
+        if change && !there.is_file() && !there.is_dir() {
+            return Err(refused("not a regular file"));
         }
-        let mut write = OpenOptions::new();
-        let file = locked(&real, write.read(true).write(true)).map_err(Failure::io("write to", path))?;
+        let what = if change { "write to" } else { "read" };
+        let file = locked(&real, OpenOptions::new().read(true).write(change), wait).map_err(|e| match e.kind() {
+            ErrorKind::WouldBlock => Failure::Wrong(format!("{} is held by another: {HOLDERS}", path.display())),
+            _ => Failure::io(what, path)(e),
+        })?;
         let held = file.metadata().map_err(Failure::io("open", path))?;
-        if held.permissions().readonly() {
-            return Err(Failure::Wrong(format!("cannot write to {}: it is write-protected", path.display())));
+        if change && held.permissions().readonly() {
+            return Err(refused("it is write-protected"));
         }
+        // Who holds it for long is to hear at once, and not with the first change, that none could be saved.
+        if change && !wait {
+            drop(Copy::beside(&real, &[], None).map_err(Failure::io("replace", path))?);
+        }
+        Locked::read(path, real, file)
+    }
+
+    fn read(path: &Path, real: PathBuf, file: File) -> Result<Locked, Failure> {
+        let stamp = file.metadata().map(|data| Stamp::of(&data)).map_err(Failure::io("open", path))?;
         let bytes = read_whole(&file).map_err(Failure::io("read", path))?;
-        Ok(Locked { path: real, file, bytes })
+        Ok(Locked { path: real, file, stamp, bytes })
+    }
+
+    /// Where the image is, links followed.
+    pub fn path(&self) -> &Path {
+        &self.path
     }
 
     /// The image's bytes.
@@ -42,16 +84,30 @@ impl Locked {
 
     /// Puts these bytes in the image's place, if they differ: its owner and permissions stay. Other names of the same file
     /// keep what it was: a remark says so.
-    pub fn replace(self, bytes: &[u8]) -> Result<Option<String>, Failure> {
+    pub fn replace(mut self, bytes: &[u8]) -> Result<Option<String>, Failure> {
+        self.keep(bytes)
+    }
+
+    /// The same, and the image stays locked. What another program put in its place meanwhile, lock or not, is not overwritten.
+    pub fn keep(&mut self, bytes: &[u8]) -> Result<Option<String>, Failure> {
         if bytes == self.bytes {
             return Ok(None);
         }
-        let put = || {
-            let was = self.file.metadata()?;
-            Copy::beside(&self.path, bytes, Some(&was))?.rename_to(&self.path)?;
+        let there = fs::metadata(&self.path).map_err(Failure::io("replace", &self.path))?;
+        if Stamp::of(&there) != self.stamp {
+            let changed = "another program changed it since it was read, so nothing is written";
+            return Err(Failure::Wrong(format!("cannot replace {}: {changed}", self.path.display())));
+        }
+        let put = |locked: &mut Locked| {
+            let was = locked.file.metadata()?;
+            locked.file = Copy::beside(&locked.path, bytes, Some(&was))?.held_at(&locked.path)?;
+            locked.stamp = Stamp::of(&locked.file.metadata()?);
+            locked.bytes = bytes.to_vec();
+            sync_folder_of(&locked.path)?;
             Ok(was.nlink())
         };
-        let links = put().map_err(Failure::io("replace", &self.path))?;
+        let path = self.path.clone();
+        let links = put(self).map_err(Failure::io("replace", &path))?;
         let others = links.saturating_sub(1) as usize;
         Ok((others > 0).then(|| {
             let (path, others) = (self.path.display(), counted(others, "other name"));
@@ -60,12 +116,37 @@ impl Locked {
     }
 }
 
-/// Opens a file and waits until nobody else who uses this program holds it. Whoever held it before may have put another
-/// file in its place: then that one is opened.
-pub fn locked(path: &Path, how: &OpenOptions) -> io::Result<File> {
+/// Who may hold an image.
+const HOLDERS: &str = "a gdos changes it, or it is mounted";
+
+/// How often who does not wait tries, and how long it rests in between: a holder may be at its end.
+const TRIES: usize = 20;
+const REST: Duration = Duration::from_millis(50);
+
+/// Opens a file that nobody else who uses this program holds. Where another does, it waits and says so; or, if it is not to wait,
+/// answers after a second that it would have to. Whoever held the file before may have put another in its place: then that one is
+/// opened.
+pub fn locked(path: &Path, how: &OpenOptions, wait: bool) -> io::Result<File> {
+    let mut told = false;
+    let mut tries = 0;
     loop {
         let file = how.open(path)?;
-        match file.lock() {
+        let taken = match file.try_lock() {
+            Err(TryLockError::WouldBlock) if !wait && tries < TRIES => {
+                tries += 1;
+                sleep(REST);
+                continue;
+            }
+            Err(TryLockError::WouldBlock) if wait => {
+                if !told {
+                    eprintln!("gdos: note: waiting for {}: {HOLDERS}", path.display());
+                    told = true;
+                }
+                file.lock()
+            }
+            taken => taken.map_err(io::Error::from),
+        };
+        match taken {
             Err(e) if e.kind() != ErrorKind::Unsupported => return Err(e),
             _ => {}
         }

@@ -41,7 +41,7 @@ impl Prepared {
             let (real, held) = match &there {
                 Some(_) => {
                     let real = path.canonicalize()?;
-                    let held = match locked(&real, OpenOptions::new().read(true)) {
+                    let held = match locked(&real, OpenOptions::new().read(true), true) {
                         // Who may not read it may still replace it.
                         Err(e) if e.kind() == ErrorKind::PermissionDenied => None,
                         held => Some(held?),
