@@ -145,7 +145,7 @@ pub fn counts_checked(image: &[u8], g: Geometry, checked: Refusal) -> Counts
 
 // The row of the file at slot s goes to the table's 20 bytes from `to` on.
 fn put_row(image: &[u8], g: Geometry, s: usize, table: &mut [u8], to: usize)
-    requires { ⌜ Sound g (now image) × Used g (now image) s × (to + 20 ≤ length (now table)) ⌝ }
+    requires { ⌜ Walkable g (now image) × Used g (now image) s × (to + 20 ≤ length (now table)) ⌝ }
     ensures { λ _. ⌜ now (table .exit) ≡ sets (now (table .entry)) to (row g (now (image .entry)) s) ⌝ }
 {
     let size = layout::size_of(image, g, s);
@@ -168,7 +168,7 @@ fn put_row(image: &[u8], g: Geometry, s: usize, table: &mut [u8], to: usize)
 
 // The rows of the listed files from that number on, as many as fit; how many. One pass, as `told` makes it.
 fn put_rows(image: &[u8], g: Geometry, number: usize, table: &mut [u8]) -> usize
-    requires { ⌜ Sound g (now image) ⌝ }
+    requires { ⌜ Walkable g (now image) ⌝ }
     ensures { λ r. ⌜ (r, now (table .exit)) ≡ rowsFrom g (now (image .entry)) number (now (table .entry)) ⌝ }
 {
     let columns = layout::directory_sectors(image, g) - 2;
