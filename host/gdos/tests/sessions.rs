@@ -117,6 +117,11 @@ fn two_images() {
 }
 
 #[test]
+fn two_drives() {
+    play("two-drives");
+}
+
+#[test]
 fn a_second_directory() {
     play("second-directory");
 }

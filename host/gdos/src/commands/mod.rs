@@ -3,8 +3,10 @@
 mod change;
 mod check;
 mod choose;
+mod cp;
 mod diff;
 mod dump;
+mod find;
 mod free;
 mod geometry;
 mod get;
@@ -84,6 +86,7 @@ pub const COMMANDS: &[Command] = &[
     get::COMMAND,
     load::COMMAND,
     put::COMMAND,
+    cp::COMMAND,
     rm::COMMAND,
     undelete::COMMAND,
     trim::COMMAND,
@@ -98,6 +101,7 @@ pub const COMMANDS: &[Command] = &[
     probe::COMMAND,
     geometry::COMMAND,
     diff::COMMAND,
+    find::COMMAND,
 ];
 
 /// The command of a name.

@@ -54,9 +54,13 @@ impl Opened {
 
     /// An image that is to be changed: its disk as a copy in memory, and the lock on its file.
     pub fn change(args: &Args, image: &OsStr) -> Result<(Opened, Locked), Failure> {
-        let wanted = Wanted::from_args(args)?;
+        Opened::change_as(&Wanted::from_args(args)?, args.has("search"), image)
+    }
+
+    /// The same where what is wanted of its geometry is known, and whether one that a search finds will do.
+    pub fn change_as(wanted: &Wanted, search: bool, image: &OsStr) -> Result<(Opened, Locked), Failure> {
         let locked = Locked::open(Path::new(image))?;
-        let found = stated::find_for_change(&wanted, args.has("search"), image, locked.bytes())?;
+        let found = stated::find_for_change(wanted, search, image, locked.bytes())?;
         let opened = Opened::new(image, locked.bytes().to_vec(), found);
         opened.check()?;
         Ok((opened, locked))

@@ -76,10 +76,11 @@ says so. Both codes are the open code, that is no password, unless --code says o
 };
 
 /// A file of the host, read, with its name on the disk.
-struct Source {
-    typed: Typed,
-    host: String,
-    bytes: Vec<u8>,
+pub(super) struct Source {
+    pub typed: Typed,
+    /// Where it is from, for messages.
+    pub host: String,
+    pub bytes: Vec<u8>,
 }
 
 fn run(args: &Args) -> Result<Output, Failure> {
@@ -216,7 +217,7 @@ fn create(opened: &mut Opened, source: &Source, new: &NewFile, force: bool) -> R
 }
 
 /// Puts one file on the disk in memory; answers whether it was there before.
-fn put_one(
+pub(super) fn put_one(
     opened: &mut Opened,
     source: &Source,
     new: &NewFile,

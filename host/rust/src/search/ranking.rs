@@ -3,7 +3,8 @@
 use super::evidence::Evidence;
 use super::fit::Fit;
 use super::known::starts;
-use crate::{Counts, Disk, Explained, Geometry, Preset, Refusal};
+use super::slot::{Says, Slots};
+use crate::{Counts, Disk, Entry, Explained, Geometry, Preset, Refusal};
 use alloc::boxed::Box;
 use alloc::vec::Vec;
 
@@ -38,6 +39,32 @@ pub struct Reading {
 /// smallest.
 pub fn everywhere(image: &[u8]) -> Vec<Evidence> {
     starts(image.len(), Geometry::GRANULE_SIZES[0]).map(|start| Evidence::at(image, start)).collect()
+}
+
+/// The places that something speaks for, rising: those of `everywhere` that do. Most of an image is no entry of any directory,
+/// and each entry stands in a few directories only; so it is looked at by entries, not by places.
+pub fn speaking(image: &[u8]) -> Vec<Evidence> {
+    let mut found = Vec::new();
+    let whole = &image[..image.len() / Geometry::SECTOR_BYTES * Geometry::SECTOR_BYTES];
+    let rows = Geometry::SECTOR_BYTES / Entry::LEN;
+    for (at, entry) in whole.chunks_exact(Entry::LEN).enumerate() {
+        if !Slots::may_speak(entry) {
+            continue;
+        }
+        let (number, row) = (at / rows, at % rows);
+        // A directory has its entries from the third of its sectors to the thirtieth at most.
+        for s in 0..28.min((number + 1).saturating_sub(2)) {
+            let start = number - 2 - s;
+            let spoken = |slots: Slots| matches!(slots.says(32 * row + s), Says::Name | Says::Nearly);
+            if start % Geometry::GRANULE_SIZES[0] == 0 && spoken(Slots::at(image, start)) {
+                found.push(start);
+            }
+        }
+    }
+    found.sort_unstable();
+    found.dedup();
+    let may_begin = starts(image.len(), Geometry::GRANULE_SIZES[0]);
+    may_begin.filter(|start| found.binary_search(start).is_ok()).map(|start| Evidence::at(image, start)).collect()
 }
 
 /// The places that something speaks for and those with a consistent reading, the strongest first. An entry counts for the
@@ -110,6 +137,43 @@ pub fn consistent(image: &[u8], everywhere: &[Evidence], tried: &[Geometry]) -> 
 mod tests {
     use super::*;
     use crate::{Date, Kind, NewFile};
+
+    /// By entries the same places are found as by places: on a disk among all kinds of bytes, with bytes damaged, and in bytes
+    /// that look like entries.
+    #[test]
+    fn by_entries_or_by_places() {
+        let places =
+            |image: &[u8]| -> Vec<Evidence> { everywhere(image).into_iter().filter(Evidence::speaks).collect() };
+        let geometry = Geometry::new(16, 2, 80, 0x4296);
+        let mut disk = Disk::blank(geometry, 15, &[0]).unwrap();
+        for i in 0..20 {
+            disk.create(&format!("A{i}/DAT").parse().unwrap(), &NewFile::open(geometry, Date::new(1983, 10, 9)))
+                .unwrap();
+        }
+        let mut image = disk.into_image();
+        let directory = image[80 * 256..95 * 256].to_vec();
+        let mut number = 1u32;
+        let mut draw = || {
+            number = number.wrapping_mul(1_664_525).wrapping_add(1_013_904_223);
+            (number >> 24) as u8
+        };
+        image[..60 * 256].iter_mut().for_each(|byte| *byte = draw());
+        // The same directory again where none may begin, where one may, and past the end.
+        for sector in [3, 20, 61, 100, 150] {
+            let end = directory.len().min(image.len() - sector * 256);
+            image[sector * 256..][..end].copy_from_slice(&directory[..end]);
+        }
+        assert!(places(&image).len() > 5);
+        assert_eq!(speaking(&image), places(&image));
+        for round in 0..200 {
+            let at = (usize::from(draw()) * 256 + usize::from(draw())) % image.len();
+            image[at] = *[0x10, 0xfe, 0xff, b'A', draw()].get(round % 5).unwrap();
+            assert_eq!(speaking(&image), places(&image), "{round}");
+        }
+        for length in [0, 255, 256, 2_560, 2_561] {
+            assert_eq!(speaking(&image[..length]), places(&image[..length]), "{length}");
+        }
+    }
 
     /// Whether or not the slots are looked at first, the same geometries are consistent: on a disk whose directory has
     /// a chain and names in every part, among zeros, with each byte damaged in turn.

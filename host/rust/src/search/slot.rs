@@ -86,6 +86,18 @@ impl<'a> Slots<'a> {
         }
     }
 
+    /// Whether an entry of these 32 bytes can speak for a directory, whatever its slot and its HIT byte: `says` answers
+    /// neither `Name` nor `Nearly` of any other.
+    pub fn may_speak(entry: &[u8]) -> bool {
+        let (used, marked) = (entry[0x00] & 0xb0 == 0x10, entry[0x1e] >= 0xfe);
+        let named = || {
+            let mut name = [0; Name::LEN];
+            name.copy_from_slice(&entry[0x05..0x10]);
+            Name::from_bytes(name).is_well_formed()
+        };
+        used && marked || (used || marked) && named()
+    }
+
     /// Whether a slot's link is FFH or leads to an extension that points back. Letters over and over may be a name with
     /// its hash; but a marker is no letter, and what stands behind it is none either.
     fn is_linked(&self, slot: usize) -> bool {

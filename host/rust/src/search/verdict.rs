@@ -11,7 +11,7 @@ use super::blank::blank_elsewhere;
 use super::evidence::Evidence;
 use super::fit::Fit;
 use super::known::Known;
-use super::ranking::{consistent, everywhere, ranked, Candidate, Reading};
+use super::ranking::{consistent, everywhere, ranked, speaking, Candidate, Reading};
 use crate::{Disk, Geometry, Preset};
 use alloc::vec::Vec;
 
@@ -135,7 +135,7 @@ fn verdict(image: &[u8], known: &Known, tried: &[Geometry], intact: &[Reading], 
 pub fn stronger_elsewhere(image: &[u8], geometry: Geometry) -> Option<(Evidence, Evidence)> {
     let own = Evidence::at(image, geometry.start);
     let sectors = geometry.start..geometry.start + own.sectors;
-    let elsewhere = everywhere(image).into_iter().filter(|place| place.start != geometry.start);
+    let elsewhere = speaking(image).into_iter().filter(|place| place.start != geometry.start);
     let strongest = elsewhere.map(|place| place.without(&sectors)).max_by_key(Evidence::weight)?;
     (strongest.speaks() && strongest.weight() > own.weight()).then_some((strongest, own))
 }
