@@ -2,3 +2,4 @@ pub mod Exports
 pub mod Compared
 pub mod Program
 pub mod Table
+pub mod Drives
