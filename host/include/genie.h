@@ -156,6 +156,9 @@ enum genie_refusal {
 
 #define GENIE_HANDLE_BYTES 19
 #define GENIE_NAME_BYTES 11
+
+/* A row of the table of genie_list_from. */
+#define GENIE_ROW_BYTES 20
 #define GENIE_SECTOR_BYTES 256
 /* Of granules of s sectors (5, 10 or 20), as numbers of type size_t: their bytes, 1,280, 2,560 or
  * 5,120; the highest position in a file, 1,966,080, 3,932,160 or 7,864,320, which is also the
@@ -368,6 +371,18 @@ uint8_t genie_list(const uint8_t *image, size_t image_len, size_t blocks, size_t
                    size_t start, uint16_t open_code, bool system_disk, size_t granule_sectors,
                    size_t number, uint8_t *name, size_t name_len, size_t *size, size_t *granules,
                    size_t *more, size_t *fault_slot);
+
+/* List from: as many files from that number on as whole rows of GENIE_ROW_BYTES fit the table, from
+ * its start, in *told how many. Row i tells what genie_list tells of number + i: the name in bytes 0
+ * to 10, the slot in byte 11, the size in bytes 12 to 15 and the granules owned in 16 and 17, low
+ * byte first; bytes 18 and 19 are 0. The table behind the rows is as it stood, and all of it under a
+ * refusal, where *told is 0. Past the last file the call is accepted, and *told is 0. Refusals 1, 21
+ * to 30 with *fault_slot, 12 (a table that holds no row). */
+GENIE_CALL
+uint8_t genie_list_from(const uint8_t *image, size_t image_len, size_t blocks, size_t units,
+                        size_t start, uint16_t open_code, bool system_disk, size_t granule_sectors,
+                        size_t number, uint8_t *table, size_t table_len, size_t *told,
+                        size_t *fault_slot);
 
 /* Count: in *files the files that the listing tells, in *free the granules that are free. Refusals
  * 1, 21 to 30 with *fault_slot. */

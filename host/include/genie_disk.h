@@ -448,6 +448,15 @@ static inline uint8_t genie_disk_list(struct genie_disk *disk, size_t number,
                       &listed->granules, more, &disk->fault_slot);
 }
 
+/* table is a buffer of table_len bytes, as many rows of GENIE_ROW_BYTES as there is room for. */
+GENIE_CALL
+static inline uint8_t genie_disk_list_from(struct genie_disk *disk, size_t number, uint8_t *table,
+                                           size_t table_len, size_t *told)
+{
+    disk->place = GENIE_NO_PLACE;
+    return genie_list_from(GENIE_DISK_OF(disk), number, table, table_len, told, &disk->fault_slot);
+}
+
 GENIE_CALL
 static inline uint8_t genie_disk_count(struct genie_disk *disk, size_t *files, size_t *left)
 {

@@ -1,6 +1,7 @@
 // The calls of the library, one function a call. Each checks the whole disk first, whatever it is given, so none asks anything of its
 // caller. (Free space is told of any disk whose geometry fits, and tests that alone.)
 use differences::Difference;
+use list_rows::Rows;
 use load::Loaded;
 use meaning::Answer;
 use meaning::BroughtBack;
@@ -36,6 +37,7 @@ ghost use Rattle.play_session.specs.Playing.{play};
 ghost use Rattle.read.specs.Part.{partOf, Lies};
 ghost use Rattle.differences.specs.Compare.{compare};
 ghost use Rattle.load.specs.Load.{loadRecord};
+ghost use Rattle.list_rows.specs.Rows.{listFrom};
 
 // Check: 0, refusal 1, or a fault, 21 to 30, and with a fault its slot.
 pub fn check(image: &[u8], g: Geometry) -> Refusal
@@ -179,6 +181,14 @@ pub fn list(image: &[u8], g: Geometry, number: usize) -> Listed
 {
     let checked = fault_diagnosis::check(image, g);
     listing::list_checked(image, g, number, checked)
+}
+
+// The listing in one call: as many files from that number on as whole rows fit the table.
+pub fn list_from(image: &[u8], g: Geometry, number: usize, table: &mut [u8]) -> Rows
+    ensures { λ r. ⌜ (r, now (table .exit)) ≡ listFrom g (now (image .entry)) number (now (table .entry)) ⌝ }
+{
+    let checked = fault_diagnosis::check(image, g);
+    listing::list_from_checked(image, g, number, table, checked)
 }
 
 // FILES and FREE.

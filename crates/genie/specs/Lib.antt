@@ -1,4 +1,5 @@
 pub mod Exports
 pub mod Compared
 pub mod Program
+pub mod Table
 pub mod Drives

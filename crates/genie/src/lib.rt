@@ -6,6 +6,7 @@ ghost use Rattle.genie_codec.specs.Words.{geometry};
 ghost use Rattle.genie.specs.Exports.{newFile, tooShort, exportedName, exportedCheck, exportedLookUp, exportedOpen, exportedCreate, exportedReadRecord, exportedReadBytes, exportedReadSector, exportedWriteRecord, exportedWriteBytes, exportedAllot, exportedTrim, exportedKill, exportedBringBack, exportedPlay, exportedList, exportedCount, exportedFree};
 ghost use Rattle.genie.specs.Compared.{exportedCompare};
 ghost use Rattle.genie.specs.Program.{exportedLoadRecord};
+ghost use Rattle.genie.specs.Table.{exportedListFrom};
 ghost use Rattle.drives.specs.Pair.{pair};
 ghost use Rattle.genie.specs.Drives.{drivesLookUp, drivesOpen, drivesCreate, drivesReadRecord, drivesReadSector};
 ghost use Rattle.genie.specs.Drives.{drivesWriteRecord, drivesAllot, drivesTrim, drivesKill};
@@ -598,6 +599,37 @@ pub extern "C" fn genie_list(
     let file = l.name;
     genie_codec::put_name(name, 0, file);
     l.refusal.number
+}
+
+#[no_mangle]
+pub extern "C" fn genie_list_from(
+    image: &[u8],
+    blocks: usize,
+    units: usize,
+    start: usize,
+    open_code: u16,
+    system_disk: bool,
+    granule_sectors: usize,
+    number: usize,
+    table: &mut [u8],
+    told: &mut usize,
+    fault_slot: &mut usize,
+) -> u8
+    ensures { λ r. ⌜ (r, now («fault_slot» .exit), now (told .exit), now (table .exit))
+        ≡ exportedListFrom (geometry blocks units start open_code «system_disk» «granule_sectors») (now (image .entry)) number (now (table .entry)) ⌝ }
+{
+    let g = genie_codec::geometry(
+        blocks,
+        units,
+        start,
+        open_code,
+        system_disk,
+        granule_sectors,
+    );
+    let r = calls::list_from(image, g, number, table);
+    *fault_slot = r.refusal.at;
+    *told = r.told;
+    r.refusal.number
 }
 
 #[no_mangle]

@@ -48,11 +48,11 @@ module _ (g : Geometry) (d : List ℕ) where
   unfoldable pub rest : ℕ → List ℕ
   rest s = keep (shown g d) (keep (inUsePrimary g d) (slotsFrom g d s))
 
-  rest-start : listed g d ≡ rest 0
+  pub rest-start : listed g d ≡ rest 0
   unfolding listed files rest
   rest-start = ap (λ (l : List ℕ). keep (shown g d) (keep (inUsePrimary g d) l)) (slots-start g d)
 
-  rest-end : {s : ℕ} → 256 ≤ s → rest s ≡ []
+  pub rest-end : {s : ℕ} → 256 ≤ s → rest s ≡ []
   unfolding rest
   rest-end h = ap (λ (l : List ℕ). keep (shown g d) (keep (inUsePrimary g d) l)) (slots-end g d h)
 
@@ -66,7 +66,7 @@ module _ (g : Geometry) (d : List ℕ) where
       by false e b f = simp e
 
   module _ {s columns : ℕ} (l : s < 256) (e : columns ≡ directorySectors g d - 2) where
-    rest-past : columns ≤ s % 32 → rest s ≡ rest (32 * (s / 32 + 1))
+    pub rest-past : columns ≤ s % 32 → rest s ≡ rest (32 * (s / 32 + 1))
     unfolding rest
     rest-past h = ap (λ (l : List ℕ). keep (shown g d) (keep (inUsePrimary g d) l)) (slots-past g d l e h)
 
@@ -74,10 +74,10 @@ module _ (g : Geometry) (d : List ℕ) where
     unfolding rest
     rest-here h = ap (λ (l : List ℕ). keep (shown g d) (keep (inUsePrimary g d) l)) (slots-here g d l e h) ∙ keep-two s (slotsFrom g d (s + 1))
 
-    rest-no : s % 32 < columns → Tells s ≡ false → rest s ≡ rest (s + 1)
+    pub rest-no : s % 32 < columns → Tells s ≡ false → rest s ≡ rest (s + 1)
     rest-no h t = rest-here h ∙ ap (λ (b : Bool). cond b (s ∷ rest (s + 1)) (rest (s + 1))) t
 
-    rest-yes : s % 32 < columns → Tells s ≡ true → rest s ≡ s ∷ rest (s + 1)
+    pub rest-yes : s % 32 < columns → Tells s ≡ true → rest s ≡ s ∷ rest (s + 1)
     rest-yes h t = rest-here h ∙ ap (λ (b : Bool). cond b (s ∷ rest (s + 1)) (rest (s + 1))) t
 
   -- of the files from number i on, `left` are to be passed over from slot s on

@@ -1,19 +1,24 @@
 // The listing: one file a call, and the counts FILES and FREE. `checked` is the answer of the check of the whole disk.
+use list_rows::Rows;
 use meaning::Counts;
 use meaning::Geometry;
 use meaning::Listed;
 use meaning::Refusal;
 ghost use mathlib.Core.Path.{_≡_};
 ghost use mathlib.Core.List.{[], _∷_};
-ghost use Prim.Native.Nat.{_+_, _*_, _<_};
+ghost use Prim.Native.Nat.{_+_, _*_, _<_, _≤_};
 ghost use lib.ListN.{length, drop};
+ghost use lib.Seq.{sets};
 ghost use Rattle.meaning.specs.Lists.{all};
 ghost use Rattle.meaning.specs.Layout.{entryAt};
 ghost use Rattle.meaning.specs.Entries.{inUsePrimary};
 ghost use Rattle.meaning.specs.Listing.{noFile, shown, listed, tellFirst, list, counts};
 ghost use Rattle.meaning.specs.Refusals.{check};
+ghost use Rattle.list_rows.specs.Rows.{row, rowsFrom, listFrom};
 ghost use Rattle.layout.specs.Room.{Room, Slot};
 ghost use Rattle.seek.specs.Seek.{Walkable, Used};
+
+const ROW_BYTES: usize = 20;
 
 // Whether a file that is listed starts at slot s, whose entry is at `at`: a primary entry in use, without the system flag. One byte is read.
 fn tells(image: &[u8], g: Geometry, s: usize, at: usize) -> bool
@@ -135,5 +140,90 @@ pub fn counts_checked(image: &[u8], g: Geometry, checked: Refusal) -> Counts
         refusal: checked,
         files: files_count(image, g),
         free: space::free_count(image, g),
+    }
+}
+
+// The row of the file at slot s goes to the table's 20 bytes from `to` on.
+fn put_row(image: &[u8], g: Geometry, s: usize, table: &mut [u8], to: usize)
+    requires { ⌜ Walkable g (now image) × Used g (now image) s × (to + 20 ≤ length (now table)) ⌝ }
+    ensures { λ _. ⌜ now (table .exit) ≡ sets (now (table .entry)) to (row g (now (image .entry)) s) ⌝ }
+{
+    let size = layout::size_of(image, g, s);
+    let granules = extent::measure(image, g, s).owned;
+    let numbers = [
+        (s % 256) as u8,
+        (size % 256) as u8,
+        (size / 256 % 256) as u8,
+        (size / 256 / 256 % 256) as u8,
+        (size / 256 / 256 / 256 % 256) as u8,
+        (granules % 256) as u8,
+        (granules / 256 % 256) as u8,
+        0,
+        0,
+    ];
+    let name = 256 * (g.start + 2 + s % 32) + 32 * (s / 32) + 5;
+    copy::put_part(table, to, image, name, 11);
+    copy::put_part(table, to + 11, &numbers, 0, 9);
+}
+
+// The rows of the listed files from that number on, as many as fit; how many. One pass, as `told` makes it.
+fn put_rows(image: &[u8], g: Geometry, number: usize, table: &mut [u8]) -> usize
+    requires { ⌜ Walkable g (now image) ⌝ }
+    ensures { λ r. ⌜ (r, now (table .exit)) ≡ rowsFrom g (now (image .entry)) number (now (table .entry)) ⌝ }
+{
+    let columns = layout::directory_sectors(image, g) - 2;
+    let mut left = number;
+    let mut n = 0;
+    let mut row = 0;
+    while row < 8 {
+        let mut s = 32 * row;
+        let end = s + columns;
+        let mut at = 256 * (g.start + 2) + 32 * row;
+        while s < end {
+            if tells(image, g, s, at) {
+                if left == 0 {
+                    if table.len() < ROW_BYTES * n + ROW_BYTES {
+                        return n;
+                    }
+                    put_row(image, g, s, table, ROW_BYTES * n);
+                    n += 1;
+                } else {
+                    left -= 1;
+                }
+            }
+            at += 256;
+            s += 1;
+        }
+        row += 1;
+    }
+    n
+}
+
+// The listing in one call, of a disk whose check answered `checked`.
+pub fn list_from_checked(
+    image: &[u8],
+    g: Geometry,
+    number: usize,
+    table: &mut [u8],
+    checked: Refusal,
+) -> Rows
+    requires { ⌜ checked ≡ check g (now image) ⌝ }
+    ensures { λ r. ⌜ (r, now (table .exit)) ≡ listFrom g (now (image .entry)) number (now (table .entry)) ⌝ }
+{
+    if checked.number != 0 {
+        return Rows {
+            refusal: checked,
+            told: 0,
+        };
+    }
+    if table.len() < ROW_BYTES {
+        return Rows {
+            refusal: refusal::unplaced(12),
+            told: 0,
+        };
+    }
+    Rows {
+        refusal: checked,
+        told: put_rows(image, g, number, table),
     }
 }

@@ -496,6 +496,30 @@ pub fn list(
     })())
 }
 
+/// A row of the listing in one call: name 11, slot 1, size 4, granules 2, two of zero; low byte first.
+pub const ROW_BYTES: usize = 20;
+
+/// The listing in one call: as many files from a number on as whole rows fit the table; row i is what
+/// `list` tells of the number `from` + i.
+pub fn list_from(image: &[u8], g: &Geometry, from: usize, table: &mut [u8], told: &mut usize) -> Number {
+    *told = 0;
+    number((|| {
+        let d = tested(image, g)?;
+        if table.len() < ROW_BYTES {
+            return Err(RANGE);
+        }
+        for (row, &file) in table.chunks_exact_mut(ROW_BYTES).zip(listed(image, g, d).iter().skip(from)) {
+            row[..FULL_NAME_BYTES].copy_from_slice(&entry(image, g, file).name());
+            row[11] = file;
+            row[12..16].copy_from_slice(&(size_of(image, g, file) as u32).to_le_bytes());
+            row[16..18].copy_from_slice(&(owned(image, g, d, file).len() as u16).to_le_bytes());
+            row[18..].fill(0);
+            *told += 1;
+        }
+        Ok(())
+    })())
+}
+
 /// FILES, and "FREE is the number of clear GAT bits in range".
 pub fn count(image: &[u8], g: &Geometry, files: &mut usize, free: &mut usize) -> Number {
     (*files, *free) = (0, 0);

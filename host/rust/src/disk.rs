@@ -580,13 +580,44 @@ impl<B: AsRef<[u8]>> Disk<B> {
         Ok(FreeSpace { free, longest })
     }
 
-    /// All files of the listing.
+    /// All files of the listing, by one call of the library.
     pub fn files(&self) -> Result<Vec<Listed>, Refusal> {
-        let mut files = Vec::new();
-        while let Some(file) = self.list(files.len())? {
-            files.push(file);
-        }
-        Ok(files)
+        // A row of the table: name 11, slot 1, size 4, granules 2, two of zero. A directory has no more than 256 slots.
+        const ROW: usize = 20;
+        let (image, g) = (self.image.as_ref(), self.geometry);
+        let mut table = vec![0; ROW * 256];
+        let mut told = 0;
+        // SAFETY: the image is a live reference; table and outgoing number are locals.
+        accepted(|fault_slot| unsafe {
+            sys::genie_list_from(
+                image.as_ptr(),
+                image.len(),
+                g.blocks,
+                g.units,
+                g.start,
+                g.open_code,
+                g.system_disk,
+                g.granule_sectors,
+                0,
+                table.as_mut_ptr(),
+                table.len(),
+                &mut told,
+                fault_slot,
+            )
+        })?;
+        let low_first = |bytes: &[u8]| bytes.iter().rev().fold(0, |number, &byte| number << 8 | usize::from(byte));
+        let rows = table.chunks_exact(ROW).take(told);
+        Ok(rows
+            .map(|row| {
+                let mut name = [b' '; Name::LEN];
+                name.copy_from_slice(&row[..Name::LEN]);
+                Listed {
+                    name: Name::from_bytes(name),
+                    size: low_first(&row[12..16]),
+                    granules: low_first(&row[16..18]),
+                }
+            })
+            .collect())
     }
 
     /// The listing as text: `FILES`, a line for each file (name, size, granules), `FREE`.

@@ -46,6 +46,7 @@ macro_rules! exports {
                 fault fault_slot);
             list = genie_list(disk image g, number number, room name, out size, out granules, out more,
                 fault fault_slot);
+            list_from = genie_list_from(disk image g, number number, room table, out told, fault fault_slot);
             count = genie_count(disk image g, out files, out free, fault fault_slot);
             free = genie_free(disk image g, out free, out longest);
             compare = genie_compare(disk first g, disk second h, number number, room name, out image, out kind,
