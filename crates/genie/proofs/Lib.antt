@@ -1,3 +1,4 @@
 pub mod HandsBack
 pub mod Compared
 pub mod Program
+pub mod Drives

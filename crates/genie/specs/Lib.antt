@@ -1,3 +1,4 @@
 pub mod Exports
 pub mod Compared
 pub mod Program
+pub mod Drives

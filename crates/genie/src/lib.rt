@@ -6,6 +6,9 @@ ghost use Rattle.genie_codec.specs.Words.{geometry};
 ghost use Rattle.genie.specs.Exports.{newFile, tooShort, exportedName, exportedCheck, exportedLookUp, exportedOpen, exportedCreate, exportedReadRecord, exportedReadSector, exportedWriteRecord, exportedAllot, exportedTrim, exportedKill, exportedBringBack, exportedPlay, exportedList, exportedCount, exportedFree};
 ghost use Rattle.genie.specs.Compared.{exportedCompare};
 ghost use Rattle.genie.specs.Program.{exportedLoadRecord};
+ghost use Rattle.drives.specs.Pair.{pair};
+ghost use Rattle.genie.specs.Drives.{drivesLookUp, drivesOpen, drivesCreate, drivesReadRecord, drivesReadSector};
+ghost use Rattle.genie.specs.Drives.{drivesWriteRecord, drivesAllot, drivesTrim, drivesKill};
 
 // What goes out where a slice is lent too short: 12, after 1 and the faults.
 fn short(image: &[u8], g: Geometry, fault_slot: &mut usize) -> u8
@@ -692,5 +695,510 @@ pub extern "C" fn genie_load_record(
         return a.refusal.number;
     }
     genie_codec::put_handle(handle, a.handle);
+    a.refusal.number
+}
+
+// Two drives (02 §9): the image and geometry of drive 0, then of drive 1. A handle has 20 bytes; fewer are taken for zeros. They are marked as
+// exports with their declarations in host/include/genie.h, not before: the header is held against the marks.
+pub fn genie_drives_look_up(
+    image0: &[u8],
+    blocks0: usize,
+    units0: usize,
+    start0: usize,
+    open_code0: u16,
+    system_disk0: bool,
+    granule_sectors0: usize,
+    image1: &[u8],
+    blocks1: usize,
+    units1: usize,
+    start1: usize,
+    open_code1: u16,
+    system_disk1: bool,
+    granule_sectors1: usize,
+    numbered: bool,
+    drive: usize,
+    name: &[u8],
+    found_drive: &mut usize,
+    slot: &mut usize,
+    compared: &mut usize,
+    place: &mut usize,
+    fault_drive: &mut usize,
+    fault_slot: &mut usize,
+) -> u8
+    ensures { λ r. ⌜ (r, now («fault_drive» .exit), now («fault_slot» .exit), now (place .exit), now («found_drive» .exit), now (slot .exit), now (compared .exit))
+        ≡ drivesLookUp (pair (geometry blocks0 units0 start0 «open_code0» «system_disk0» «granule_sectors0») (now (image0 .entry))
+        (geometry blocks1 units1 start1 «open_code1» «system_disk1» «granule_sectors1») (now (image1 .entry)))
+        numbered drive (now (name .entry)) ⌝ }
+{
+    let g0 = genie_codec::geometry(
+        blocks0,
+        units0,
+        start0,
+        open_code0,
+        system_disk0,
+        granule_sectors0,
+    );
+    let g1 = genie_codec::geometry(
+        blocks1,
+        units1,
+        start1,
+        open_code1,
+        system_disk1,
+        granule_sectors1,
+    );
+    let l = drives_calls::look_up(image0, g0, image1, g1, numbered, drive, name);
+    *fault_drive = drives_told::fault_drive(l.refusal);
+    *fault_slot = refusal::slot_told(l.refusal);
+    *place = name_spelling::place_of(l.refusal);
+    *found_drive = l.drive;
+    *slot = l.slot;
+    *compared = l.compared;
+    l.refusal.number
+}
+
+pub fn genie_drives_open(
+    image0: &[u8],
+    blocks0: usize,
+    units0: usize,
+    start0: usize,
+    open_code0: u16,
+    system_disk0: bool,
+    granule_sectors0: usize,
+    image1: &[u8],
+    blocks1: usize,
+    units1: usize,
+    start1: usize,
+    open_code1: u16,
+    system_disk1: bool,
+    granule_sectors1: usize,
+    numbered: bool,
+    drive: usize,
+    name: &[u8],
+    length: usize,
+    checking: bool,
+    code: u16,
+    handle: &mut [u8],
+    place: &mut usize,
+    fault_drive: &mut usize,
+    fault_slot: &mut usize,
+) -> u8
+    ensures { λ r. ⌜ (r, now («fault_drive» .exit), now («fault_slot» .exit), now (place .exit), now (handle .exit))
+        ≡ drivesOpen (pair (geometry blocks0 units0 start0 «open_code0» «system_disk0» «granule_sectors0») (now (image0 .entry))
+        (geometry blocks1 units1 start1 «open_code1» «system_disk1» «granule_sectors1») (now (image1 .entry)))
+        numbered drive (now (name .entry)) length checking code (now (handle .entry)) ⌝ }
+{
+    let g0 = genie_codec::geometry(
+        blocks0,
+        units0,
+        start0,
+        open_code0,
+        system_disk0,
+        granule_sectors0,
+    );
+    let g1 = genie_codec::geometry(
+        blocks1,
+        units1,
+        start1,
+        open_code1,
+        system_disk1,
+        granule_sectors1,
+    );
+    let len = drives_codec::length_for(handle, length);
+    let a = drives_calls::open_file(
+        image0,
+        g0,
+        image1,
+        g1,
+        numbered,
+        drive,
+        name,
+        len,
+        checking,
+        code,
+    );
+    *fault_drive = drives_told::fault_drive(a.refusal);
+    *fault_slot = refusal::slot_told(a.refusal);
+    *place = name_spelling::place_of(a.refusal);
+    drives_codec::put_handle(handle, a.handle);
+    a.refusal.number
+}
+
+pub fn genie_drives_create(
+    image0: &mut [u8],
+    blocks0: usize,
+    units0: usize,
+    start0: usize,
+    open_code0: u16,
+    system_disk0: bool,
+    granule_sectors0: usize,
+    image1: &mut [u8],
+    blocks1: usize,
+    units1: usize,
+    start1: usize,
+    open_code1: u16,
+    system_disk1: bool,
+    granule_sectors1: usize,
+    numbered: bool,
+    drive: usize,
+    name: &[u8],
+    day: usize,
+    month: usize,
+    year: usize,
+    length: usize,
+    main_code: u16,
+    worker_code: u16,
+    checking: bool,
+    old: &mut usize,
+    handle: &mut [u8],
+    place: &mut usize,
+    fault_drive: &mut usize,
+    fault_slot: &mut usize,
+) -> u8
+    ensures { λ r. ⌜ (
+      r,
+      now («fault_drive» .exit),
+      now («fault_slot» .exit),
+      now (place .exit),
+      now (old .exit),
+      now (handle .exit),
+      now (image0 .exit),
+      now (image1 .exit),
+    )
+        ≡ drivesCreate (pair (geometry blocks0 units0 start0 «open_code0» «system_disk0» «granule_sectors0») (now (image0 .entry))
+        (geometry blocks1 units1 start1 «open_code1» «system_disk1» «granule_sectors1») (now (image1 .entry)))
+        numbered drive (now (name .entry)) (newFile day month year length «main_code» «worker_code») checking (now (handle .entry)) ⌝ }
+{
+    let g0 = genie_codec::geometry(
+        blocks0,
+        units0,
+        start0,
+        open_code0,
+        system_disk0,
+        granule_sectors0,
+    );
+    let g1 = genie_codec::geometry(
+        blocks1,
+        units1,
+        start1,
+        open_code1,
+        system_disk1,
+        granule_sectors1,
+    );
+    let f = NewFile {
+        day,
+        month,
+        year,
+        len: drives_codec::length_for(handle, length),
+        main: main_code,
+        worker: worker_code,
+    };
+    let c = drives_calls::create(image0, g0, image1, g1, numbered, drive, name, f, checking);
+    *fault_drive = drives_told::fault_drive(c.refusal);
+    *fault_slot = refusal::slot_told(c.refusal);
+    *place = name_spelling::place_of(c.refusal);
+    *old = genie_codec::told(c.old);
+    drives_codec::put_handle(handle, c.handle);
+    c.refusal.number
+}
+
+pub fn genie_drives_read_record(
+    image0: &[u8],
+    blocks0: usize,
+    units0: usize,
+    start0: usize,
+    open_code0: u16,
+    system_disk0: bool,
+    granule_sectors0: usize,
+    image1: &[u8],
+    blocks1: usize,
+    units1: usize,
+    start1: usize,
+    open_code1: u16,
+    system_disk1: bool,
+    granule_sectors1: usize,
+    handle: &mut [u8],
+    buffer: &mut [u8],
+    fault_drive: &mut usize,
+    fault_slot: &mut usize,
+) -> u8
+    ensures { λ r. ⌜ (r, now («fault_drive» .exit), now («fault_slot» .exit), now (handle .exit), now (buffer .exit))
+        ≡ drivesReadRecord (pair (geometry blocks0 units0 start0 «open_code0» «system_disk0» «granule_sectors0») (now (image0 .entry))
+        (geometry blocks1 units1 start1 «open_code1» «system_disk1» «granule_sectors1») (now (image1 .entry)))
+        (now (handle .entry)) (now (buffer .entry)) ⌝ }
+{
+    let g0 = genie_codec::geometry(
+        blocks0,
+        units0,
+        start0,
+        open_code0,
+        system_disk0,
+        granule_sectors0,
+    );
+    let g1 = genie_codec::geometry(
+        blocks1,
+        units1,
+        start1,
+        open_code1,
+        system_disk1,
+        granule_sectors1,
+    );
+    let h = drives_codec::handle_of(handle);
+    let a = drives_calls::read_record(image0, g0, image1, g1, h, buffer);
+    *fault_drive = drives_told::fault_drive(a.refusal);
+    *fault_slot = a.refusal.at;
+    if a.refusal.number != 0 {
+        return a.refusal.number;
+    }
+    drives_codec::put_handle(handle, a.handle);
+    0
+}
+
+pub fn genie_drives_read_sector(
+    image0: &[u8],
+    blocks0: usize,
+    units0: usize,
+    start0: usize,
+    open_code0: u16,
+    system_disk0: bool,
+    granule_sectors0: usize,
+    image1: &[u8],
+    blocks1: usize,
+    units1: usize,
+    start1: usize,
+    open_code1: u16,
+    system_disk1: bool,
+    granule_sectors1: usize,
+    handle: &[u8],
+    k: usize,
+    drive: &mut usize,
+    from: &mut usize,
+    to: &mut usize,
+    fault_drive: &mut usize,
+    fault_slot: &mut usize,
+) -> u8
+    ensures { λ r. ⌜ (r, now («fault_drive» .exit), now («fault_slot» .exit), now (drive .exit), now (from .exit), now (to .exit))
+        ≡ drivesReadSector (pair (geometry blocks0 units0 start0 «open_code0» «system_disk0» «granule_sectors0») (now (image0 .entry))
+        (geometry blocks1 units1 start1 «open_code1» «system_disk1» «granule_sectors1») (now (image1 .entry)))
+        (now (handle .entry)) k ⌝ }
+{
+    let g0 = genie_codec::geometry(
+        blocks0,
+        units0,
+        start0,
+        open_code0,
+        system_disk0,
+        granule_sectors0,
+    );
+    let g1 = genie_codec::geometry(
+        blocks1,
+        units1,
+        start1,
+        open_code1,
+        system_disk1,
+        granule_sectors1,
+    );
+    let h = drives_codec::handle_of(handle);
+    let p = drives_calls::sector_part(image0, g0, image1, g1, h, k);
+    *fault_drive = drives_told::fault_drive(p.refusal);
+    *fault_slot = p.refusal.at;
+    *drive = p.drive;
+    *from = p.from;
+    *to = p.to;
+    p.refusal.number
+}
+
+pub fn genie_drives_write_record(
+    image0: &mut [u8],
+    blocks0: usize,
+    units0: usize,
+    start0: usize,
+    open_code0: u16,
+    system_disk0: bool,
+    granule_sectors0: usize,
+    image1: &mut [u8],
+    blocks1: usize,
+    units1: usize,
+    start1: usize,
+    open_code1: u16,
+    system_disk1: bool,
+    granule_sectors1: usize,
+    handle: &mut [u8],
+    sequential: bool,
+    buffer: &[u8],
+    fault_drive: &mut usize,
+    fault_slot: &mut usize,
+) -> u8
+    ensures { λ r. ⌜ (r, now («fault_drive» .exit), now («fault_slot» .exit), now (handle .exit), now (image0 .exit), now (image1 .exit))
+        ≡ drivesWriteRecord (pair (geometry blocks0 units0 start0 «open_code0» «system_disk0» «granule_sectors0») (now (image0 .entry))
+        (geometry blocks1 units1 start1 «open_code1» «system_disk1» «granule_sectors1») (now (image1 .entry)))
+        (now (handle .entry)) sequential (now (buffer .entry)) ⌝ }
+{
+    let g0 = genie_codec::geometry(
+        blocks0,
+        units0,
+        start0,
+        open_code0,
+        system_disk0,
+        granule_sectors0,
+    );
+    let g1 = genie_codec::geometry(
+        blocks1,
+        units1,
+        start1,
+        open_code1,
+        system_disk1,
+        granule_sectors1,
+    );
+    let h = drives_codec::handle_of(handle);
+    let m = genie_codec::mode_of(sequential);
+    let a = drives_calls::write_record(image0, g0, image1, g1, m, h, buffer);
+    *fault_drive = drives_told::fault_drive(a.refusal);
+    *fault_slot = a.refusal.at;
+    if a.refusal.number != 0 {
+        return a.refusal.number;
+    }
+    drives_codec::put_handle(handle, a.handle);
+    0
+}
+
+pub fn genie_drives_allot(
+    image0: &mut [u8],
+    blocks0: usize,
+    units0: usize,
+    start0: usize,
+    open_code0: u16,
+    system_disk0: bool,
+    granule_sectors0: usize,
+    image1: &mut [u8],
+    blocks1: usize,
+    units1: usize,
+    start1: usize,
+    open_code1: u16,
+    system_disk1: bool,
+    granule_sectors1: usize,
+    handle: &[u8],
+    k: usize,
+    fault_drive: &mut usize,
+    fault_slot: &mut usize,
+) -> u8
+    ensures { λ r. ⌜ (r, now («fault_drive» .exit), now («fault_slot» .exit), now (image0 .exit), now (image1 .exit))
+        ≡ drivesAllot (pair (geometry blocks0 units0 start0 «open_code0» «system_disk0» «granule_sectors0») (now (image0 .entry))
+        (geometry blocks1 units1 start1 «open_code1» «system_disk1» «granule_sectors1») (now (image1 .entry)))
+        (now (handle .entry)) k ⌝ }
+{
+    let g0 = genie_codec::geometry(
+        blocks0,
+        units0,
+        start0,
+        open_code0,
+        system_disk0,
+        granule_sectors0,
+    );
+    let g1 = genie_codec::geometry(
+        blocks1,
+        units1,
+        start1,
+        open_code1,
+        system_disk1,
+        granule_sectors1,
+    );
+    let h = drives_codec::handle_of(handle);
+    let a = drives_calls::allot(image0, g0, image1, g1, h, k);
+    *fault_drive = drives_told::fault_drive(a.refusal);
+    *fault_slot = a.refusal.at;
+    a.refusal.number
+}
+
+pub fn genie_drives_trim(
+    image0: &mut [u8],
+    blocks0: usize,
+    units0: usize,
+    start0: usize,
+    open_code0: u16,
+    system_disk0: bool,
+    granule_sectors0: usize,
+    image1: &mut [u8],
+    blocks1: usize,
+    units1: usize,
+    start1: usize,
+    open_code1: u16,
+    system_disk1: bool,
+    granule_sectors1: usize,
+    handle: &[u8],
+    fault_drive: &mut usize,
+    fault_slot: &mut usize,
+) -> u8
+    ensures { λ r. ⌜ (r, now («fault_drive» .exit), now («fault_slot» .exit), now (image0 .exit), now (image1 .exit))
+        ≡ drivesTrim (pair (geometry blocks0 units0 start0 «open_code0» «system_disk0» «granule_sectors0») (now (image0 .entry))
+        (geometry blocks1 units1 start1 «open_code1» «system_disk1» «granule_sectors1») (now (image1 .entry)))
+        (now (handle .entry)) ⌝ }
+{
+    let g0 = genie_codec::geometry(
+        blocks0,
+        units0,
+        start0,
+        open_code0,
+        system_disk0,
+        granule_sectors0,
+    );
+    let g1 = genie_codec::geometry(
+        blocks1,
+        units1,
+        start1,
+        open_code1,
+        system_disk1,
+        granule_sectors1,
+    );
+    let h = drives_codec::handle_of(handle);
+    let a = drives_calls::trim(image0, g0, image1, g1, h);
+    *fault_drive = drives_told::fault_drive(a.refusal);
+    *fault_slot = a.refusal.at;
+    a.refusal.number
+}
+
+pub fn genie_drives_kill(
+    image0: &mut [u8],
+    blocks0: usize,
+    units0: usize,
+    start0: usize,
+    open_code0: u16,
+    system_disk0: bool,
+    granule_sectors0: usize,
+    image1: &mut [u8],
+    blocks1: usize,
+    units1: usize,
+    start1: usize,
+    open_code1: u16,
+    system_disk1: bool,
+    granule_sectors1: usize,
+    handle: &[u8],
+    fault_drive: &mut usize,
+    fault_slot: &mut usize,
+) -> u8
+    ensures { λ r. ⌜ (r, now («fault_drive» .exit), now («fault_slot» .exit), now (image0 .exit), now (image1 .exit))
+        ≡ drivesKill (pair (geometry blocks0 units0 start0 «open_code0» «system_disk0» «granule_sectors0») (now (image0 .entry))
+        (geometry blocks1 units1 start1 «open_code1» «system_disk1» «granule_sectors1») (now (image1 .entry)))
+        (now (handle .entry)) ⌝ }
+{
+    let g0 = genie_codec::geometry(
+        blocks0,
+        units0,
+        start0,
+        open_code0,
+        system_disk0,
+        granule_sectors0,
+    );
+    let g1 = genie_codec::geometry(
+        blocks1,
+        units1,
+        start1,
+        open_code1,
+        system_disk1,
+        granule_sectors1,
+    );
+    let h = drives_codec::handle_of(handle);
+    let a = drives_calls::kill(image0, g0, image1, g1, h);
+    *fault_drive = drives_told::fault_drive(a.refusal);
+    *fault_slot = a.refusal.at;
     a.refusal.number
 }

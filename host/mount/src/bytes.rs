@@ -46,12 +46,27 @@ fn with_record_length(handle: &Handle, length: u16) -> Handle {
     Handle::from_bytes(bytes)
 }
 
+/// Why a file does not get another size.
+#[derive(Debug)]
+pub enum Unsized {
+    /// The library refused.
+    Refused(Refusal),
+    /// Calls of the library would do it only with a loss.
+    NoCall,
+}
+
+impl From<Refusal> for Unsized {
+    fn from(refusal: Refusal) -> Unsized {
+        Unsized::Refused(refusal)
+    }
+}
+
 /// Gives a file another size: the rest is cut off and its granules are given back, or zeros are added. Answers the file's handle, which
 /// is another where the file had to be made anew.
 ///
 /// No call leaves an empty file of one that was not: it is killed and created again, with its date, record length and codes. Where
-/// that would lose an attribute it is refused with 6, by which the library refuses what a file's level does not allow.
-pub fn resize(disk: &mut Disk, handle: &Handle, entry: &Entry, size: u64) -> Result<Handle, Refusal> {
+/// that would lose a flag or a level it is not done.
+pub fn resize(disk: &mut Disk, handle: &Handle, entry: &Entry, size: u64) -> Result<Handle, Unsized> {
     let old = entry.size() as u64;
     if size > old {
         write(disk, handle, size - 1, &[0])?;
@@ -66,15 +81,15 @@ pub fn resize(disk: &mut Disk, handle: &Handle, entry: &Entry, size: u64) -> Res
     Ok(*handle)
 }
 
-fn emptied(disk: &mut Disk, handle: &Handle, entry: &Entry) -> Result<Handle, Refusal> {
+fn emptied(disk: &mut Disk, handle: &Handle, entry: &Entry) -> Result<Handle, Unsized> {
     let plain = !entry.is_invisible() && entry.level() == 0 && !entry.keeps_space() && !entry.may_not_grow();
     if !plain && !entry.is_system() {
-        return Err(Refusal::Access);
+        return Err(Unsized::NoCall);
     }
     disk.kill(handle)?;
     let mut new = NewFile::open(disk.geometry(), entry.date());
     new.record_length = entry.record_length().into();
     new.main_code = entry.main_code();
     new.worker_code = entry.worker_code();
-    disk.create(&entry.name(), &new).map(|created| created.handle)
+    Ok(disk.create(&entry.name(), &new)?.handle)
 }

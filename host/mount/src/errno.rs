@@ -5,7 +5,6 @@ use genie_dos::Refusal;
 /// Errors by the names that the host's manual has. `fuse.c` has their numbers, in this order.
 #[allow(clippy::upper_case_acronyms)]
 #[derive(Clone, Copy, Debug, PartialEq, Eq)]
-#[cfg_attr(not(libfuse), allow(dead_code))]
 pub enum Errno {
     EACCES,
     EBADF,

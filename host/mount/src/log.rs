@@ -9,7 +9,6 @@ pub enum Log {
     /// Standard error, of a mount in the foreground.
     Terminal,
     /// The host's log.
-    #[cfg_attr(not(libfuse), allow(dead_code))]
     Host,
     /// A file, each line with the time in seconds since 1970.
     File(File),

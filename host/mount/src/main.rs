@@ -1,6 +1,9 @@
 //! `gdos-mount`: a Genie-DOS disk image as a folder. What an image is, which geometry it has, who may hold it and how it is replaced is
 //! `gdos`'s; what is done to a disk is the proved library's; what is here turns the one into the other.
 
+// Without libfuse3 only the tests call the operations.
+#![cfg_attr(not(libfuse), allow(dead_code))]
+
 mod attributes;
 mod bytes;
 mod calendar;

@@ -1,0 +1,4 @@
+pub mod Pair
+pub mod ByName
+pub mod ByHandle
+pub mod Cases
