@@ -120,7 +120,8 @@ pub enum Refusal {
 impl Refusal {
     /// The numbers that the library gives today, in the order in which it tests; those of faults without their slots, a name's
     /// without its place.
-    pub const ALL: [Refusal; 30] = [
+    pub const ALL: [Refusal; 31] = [
+        Refusal::NoSuchDrive,
         Refusal::Geometry,
         Refusal::Inconsistent(Fault::of_disk(FaultKind::DirectoryLength)),
         Refusal::Inconsistent(Fault::of_disk(FaultKind::HitAgainstEntry)),
@@ -133,7 +134,6 @@ impl Refusal {
         Refusal::Inconsistent(Fault::of_disk(FaultKind::Size)),
         Refusal::Inconsistent(Fault::of_disk(FaultKind::DirectoryGranule)),
         Refusal::Trace(TracePlace { byte: 0, bit: 0 }),
-        Refusal::NoSuchDrive,
         Refusal::NoRoom,
         Refusal::Range,
         Refusal::Name { place: None },
