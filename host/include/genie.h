@@ -116,6 +116,7 @@ enum genie_refusal {
        no system flag; or, with no slot and after all slots, a granule of the directory is free in
        the GAT */ GENIE_FAULT_DIRECTORY_GRANULE = 30, GENIE_TRACE = 14, /* the trace is malformed
        (play back): *byte and *bit say where */
+    GENIE_NO_SUCH_DRIVE = 16, /* a drive number that is not 0 or 1 (two drives), before all others */
     GENIE_NO_ROOM = 15, /* fewer bytes for results than the trace has calls (play back) */
     /* a position, record length, level, date or sector is out of range; position + length passes
        the highest position in a write; the buffer is shorter than the record length, or that of
@@ -435,6 +436,117 @@ uint8_t genie_compare(const uint8_t *first, size_t first_len, size_t blocks, siz
                       size_t granule_sectors2, size_t number, uint8_t *name, size_t name_len,
                       size_t *image, size_t *kind, size_t *position, size_t *flags,
                       size_t *fault_slot);
+
+/* TWO DRIVES. The calls below take the image and geometry of drive 0, then of drive 1, the arguments
+ * ending in 0 and 1; where a call writes, the two images must not overlap.
+ *   numbered, drive       whether the name goes with a drive number, and the number, 0 or 1; where
+ *                         numbered is false it is not looked at. With a number only that drive's
+ *                         image is tested; without, both, and the first drive that has the name has
+ *                         the file.
+ *   handle                at least GENIE_DRIVE_HANDLE_BYTES bytes: the 19 of genie_open, and byte 19,
+ *                         the drive. The calls on one image take them as they are. genie_open leaves
+ *                         byte 19 of a longer buffer as it stood, so a handle for a drives call comes
+ *                         from a drives call, or its byte 19 is set by the caller. An incoming handle
+ *                         of under 20 bytes is taken for zeros; a handle buffer of under 20 bytes is
+ *                         refusal 12, and stays as it stood.
+ *   fault_drive           the drive under 1 and 21 to 30, else GENIE_NO_DRIVE (2); *fault_slot is a slot
+ *                         of that drive.
+ * Each call is the call of the same name on that drive's image, and changes no byte of the other.
+ * Refusal 16, drive number not 0 or 1, comes before all others. A refused open or create leaves 20
+ * zeros in the handle buffer. */
+#define GENIE_DRIVE_HANDLE_BYTES 20
+#define GENIE_NO_DRIVE 2
+
+/* Look up: *found_drive is the drive that has the file, 0 under a refusal; *compared adds up over the
+ * drives searched. Refusals 16, 1 and 21 to 30 with *fault_drive, 3 with *place, 4. */
+GENIE_CALL
+uint8_t genie_drives_look_up(const uint8_t *image0, size_t image0_len, size_t blocks0,
+                             size_t units0, size_t start0, uint16_t open_code0, bool system_disk0,
+                             size_t granule_sectors0, const uint8_t *image1, size_t image1_len,
+                             size_t blocks1, size_t units1, size_t start1, uint16_t open_code1,
+                             bool system_disk1, size_t granule_sectors1, bool numbered,
+                             size_t drive, const uint8_t *name, size_t name_len,
+                             size_t *found_drive, size_t *slot, size_t *compared, size_t *place,
+                             size_t *fault_drive, size_t *fault_slot);
+
+/* Open: on the first drive that has the name; a wrong code there is 5, and the other is not asked.
+ * Refusals 16, 1 and 21 to 30 with *fault_drive, 12, 3 with *place, 4, 5. */
+GENIE_CALL
+uint8_t genie_drives_open(const uint8_t *image0, size_t image0_len, size_t blocks0, size_t units0,
+                          size_t start0, uint16_t open_code0, bool system_disk0,
+                          size_t granule_sectors0, const uint8_t *image1, size_t image1_len,
+                          size_t blocks1, size_t units1, size_t start1, uint16_t open_code1,
+                          bool system_disk1, size_t granule_sectors1, bool numbered, size_t drive,
+                          const uint8_t *name, size_t name_len, size_t length, bool checking,
+                          uint16_t code, uint8_t *handle, size_t handle_len, size_t *place,
+                          size_t *fault_drive, size_t *fault_slot);
+
+/* Create: without a number, what the search finds is opened; if nothing, drive 0 takes the file if it
+ * has a free permitted slot, else drive 1. Refusals 16, 1 and 21 to 30 with *fault_drive, 12, 3 with
+ * *place, 5, 8. */
+GENIE_CALL
+uint8_t genie_drives_create(uint8_t *image0, size_t image0_len, size_t blocks0, size_t units0,
+                            size_t start0, uint16_t open_code0, bool system_disk0,
+                            size_t granule_sectors0, uint8_t *image1, size_t image1_len,
+                            size_t blocks1, size_t units1, size_t start1, uint16_t open_code1,
+                            bool system_disk1, size_t granule_sectors1, bool numbered, size_t drive,
+                            const uint8_t *name, size_t name_len, size_t day, size_t month,
+                            size_t year, size_t length, uint16_t main_code, uint16_t worker_code,
+                            bool checking, size_t *old, uint8_t *handle, size_t handle_len,
+                            size_t *place, size_t *fault_drive, size_t *fault_slot);
+
+/* The calls by handle, on the handle's drive. Refusals 16, then those of the call on one image. */
+GENIE_CALL
+uint8_t genie_drives_read_record(const uint8_t *image0, size_t image0_len, size_t blocks0,
+                                 size_t units0, size_t start0, uint16_t open_code0,
+                                 bool system_disk0, size_t granule_sectors0, const uint8_t *image1,
+                                 size_t image1_len, size_t blocks1, size_t units1, size_t start1,
+                                 uint16_t open_code1, bool system_disk1, size_t granule_sectors1,
+                                 uint8_t *handle, size_t handle_len, uint8_t *buffer,
+                                 size_t buffer_len, size_t *fault_drive, size_t *fault_slot);
+
+/* The bytes are those of the image of *drive, 0 under a refusal. */
+GENIE_CALL
+uint8_t genie_drives_read_sector(const uint8_t *image0, size_t image0_len, size_t blocks0,
+                                 size_t units0, size_t start0, uint16_t open_code0,
+                                 bool system_disk0, size_t granule_sectors0, const uint8_t *image1,
+                                 size_t image1_len, size_t blocks1, size_t units1, size_t start1,
+                                 uint16_t open_code1, bool system_disk1, size_t granule_sectors1,
+                                 const uint8_t *handle, size_t handle_len, size_t k, size_t *drive,
+                                 size_t *from, size_t *to, size_t *fault_drive, size_t *fault_slot);
+
+GENIE_CALL
+uint8_t genie_drives_write_record(uint8_t *image0, size_t image0_len, size_t blocks0, size_t units0,
+                                  size_t start0, uint16_t open_code0, bool system_disk0,
+                                  size_t granule_sectors0, uint8_t *image1, size_t image1_len,
+                                  size_t blocks1, size_t units1, size_t start1, uint16_t open_code1,
+                                  bool system_disk1, size_t granule_sectors1, uint8_t *handle,
+                                  size_t handle_len, bool sequential, const uint8_t *buffer,
+                                  size_t buffer_len, size_t *fault_drive, size_t *fault_slot);
+
+GENIE_CALL
+uint8_t genie_drives_allot(uint8_t *image0, size_t image0_len, size_t blocks0, size_t units0,
+                           size_t start0, uint16_t open_code0, bool system_disk0,
+                           size_t granule_sectors0, uint8_t *image1, size_t image1_len,
+                           size_t blocks1, size_t units1, size_t start1, uint16_t open_code1,
+                           bool system_disk1, size_t granule_sectors1, const uint8_t *handle,
+                           size_t handle_len, size_t k, size_t *fault_drive, size_t *fault_slot);
+
+GENIE_CALL
+uint8_t genie_drives_trim(uint8_t *image0, size_t image0_len, size_t blocks0, size_t units0,
+                          size_t start0, uint16_t open_code0, bool system_disk0,
+                          size_t granule_sectors0, uint8_t *image1, size_t image1_len,
+                          size_t blocks1, size_t units1, size_t start1, uint16_t open_code1,
+                          bool system_disk1, size_t granule_sectors1, const uint8_t *handle,
+                          size_t handle_len, size_t *fault_drive, size_t *fault_slot);
+
+GENIE_CALL
+uint8_t genie_drives_kill(uint8_t *image0, size_t image0_len, size_t blocks0, size_t units0,
+                          size_t start0, uint16_t open_code0, bool system_disk0,
+                          size_t granule_sectors0, uint8_t *image1, size_t image1_len,
+                          size_t blocks1, size_t units1, size_t start1, uint16_t open_code1,
+                          bool system_disk1, size_t granule_sectors1, const uint8_t *handle,
+                          size_t handle_len, size_t *fault_drive, size_t *fault_slot);
 
 #ifdef __cplusplus
 }

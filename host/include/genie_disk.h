@@ -123,6 +123,7 @@ static inline const char *genie_message(unsigned number)
     case 12: return "position, length, level, date or sector out of range";
     case 14: return "trace malformed";
     case 15: return "no room for the results";
+    case 16: return "drive number not 0 or 1";
     case 17: return "slot in use";
     case 18: return "nothing whole to bring back";
     case 19: return "name in use";

@@ -808,9 +808,9 @@ pub extern "C" fn genie_load_record(
     a.refusal.number
 }
 
-// Two drives (02 §9): the image and geometry of drive 0, then of drive 1. A handle has 20 bytes; fewer are taken for zeros. They are marked as
-// exports with their declarations in host/include/genie.h, not before: the header is held against the marks.
-pub fn genie_drives_look_up(
+// Two drives (02 §9): the image and geometry of drive 0, then of drive 1. A handle has 20 bytes; fewer are taken for zeros.
+#[no_mangle]
+pub extern "C" fn genie_drives_look_up(
     image0: &[u8],
     blocks0: usize,
     units0: usize,
@@ -866,7 +866,8 @@ pub fn genie_drives_look_up(
     l.refusal.number
 }
 
-pub fn genie_drives_open(
+#[no_mangle]
+pub extern "C" fn genie_drives_open(
     image0: &[u8],
     blocks0: usize,
     units0: usize,
@@ -933,7 +934,8 @@ pub fn genie_drives_open(
     a.refusal.number
 }
 
-pub fn genie_drives_create(
+#[no_mangle]
+pub extern "C" fn genie_drives_create(
     image0: &mut [u8],
     blocks0: usize,
     units0: usize,
@@ -1011,7 +1013,8 @@ pub fn genie_drives_create(
     c.refusal.number
 }
 
-pub fn genie_drives_read_record(
+#[no_mangle]
+pub extern "C" fn genie_drives_read_record(
     image0: &[u8],
     blocks0: usize,
     units0: usize,
@@ -1063,7 +1066,8 @@ pub fn genie_drives_read_record(
     0
 }
 
-pub fn genie_drives_read_sector(
+#[no_mangle]
+pub extern "C" fn genie_drives_read_sector(
     image0: &[u8],
     blocks0: usize,
     units0: usize,
@@ -1117,7 +1121,8 @@ pub fn genie_drives_read_sector(
     p.refusal.number
 }
 
-pub fn genie_drives_write_record(
+#[no_mangle]
+pub extern "C" fn genie_drives_write_record(
     image0: &mut [u8],
     blocks0: usize,
     units0: usize,
@@ -1171,7 +1176,8 @@ pub fn genie_drives_write_record(
     0
 }
 
-pub fn genie_drives_allot(
+#[no_mangle]
+pub extern "C" fn genie_drives_allot(
     image0: &mut [u8],
     blocks0: usize,
     units0: usize,
@@ -1219,7 +1225,8 @@ pub fn genie_drives_allot(
     a.refusal.number
 }
 
-pub fn genie_drives_trim(
+#[no_mangle]
+pub extern "C" fn genie_drives_trim(
     image0: &mut [u8],
     blocks0: usize,
     units0: usize,
@@ -1266,7 +1273,8 @@ pub fn genie_drives_trim(
     a.refusal.number
 }
 
-pub fn genie_drives_kill(
+#[no_mangle]
+pub extern "C" fn genie_drives_kill(
     image0: &mut [u8],
     blocks0: usize,
     units0: usize,

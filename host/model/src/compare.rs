@@ -23,6 +23,7 @@ use crate::plain::files_of;
 use crate::play::TRACE;
 use crate::random::Random;
 use crate::space::free_stretches;
+use crate::two_drives::random_calls;
 use std::collections::BTreeMap;
 
 /// How often each call gave each number, and how often other things worth meeting were met.
@@ -485,6 +486,7 @@ pub struct Bounds {
 }
 
 const CALLS_A_DISK: usize = 60;
+const CALLS_A_BENCH: usize = 6;
 
 /// A run: random disks, random calls on each, damaged copies of each. Ends at the bounds or at the
 /// first difference; the text names the seed of the disk, so that `disk_run` repeats it.
@@ -523,6 +525,9 @@ pub fn disk_run(library: &dyn Library, seed: u64, seen: &mut Seen) -> Result<(),
     after.image = sides.image().to_vec();
     // Drawn by itself, so that a disk's calls are the same with and without it.
     two_images(library, &mut Random::new(!seed), &disk, &after, seen)?;
+    if consistent(&after.image, &after.g) {
+        random_calls(library, &mut Random::new(seed ^ 9), [&disk, &after], CALLS_A_BENCH)?;
+    }
 
     // Damaged copies: the check, and some calls each. A call accepted under an odd geometry may have
     // spoilt the disk for its own; then the disk as it was is damaged.

@@ -17,6 +17,7 @@ pub mod space;
 
 // The model: request 02.
 pub mod differences;
+pub mod drives;
 pub mod load;
 pub mod plain;
 pub mod play;
@@ -44,3 +45,4 @@ pub mod effect;
 pub mod interleave;
 pub mod pairs;
 pub mod random;
+pub mod two_drives;

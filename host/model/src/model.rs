@@ -12,6 +12,10 @@ mod rules {
         read_sector, trim, write_bytes, write_record,
     };
     pub use crate::differences::compare;
+    pub use crate::drives::{
+        drives_allot, drives_create, drives_kill, drives_look_up, drives_open, drives_read_record,
+        drives_read_sector, drives_trim, drives_write_record,
+    };
     pub use crate::load::load_record;
     pub use crate::play::play;
 }

@@ -22,8 +22,13 @@ use std::cell::RefCell;
 use std::io::Write;
 
 /// Where a slice stands: the places that the calls have between them, each with the slices that are lent there.
-const PLACES: [&[&str]; 5] =
-    [&["image", "first"], &["second", "trace"], &["name"], &["handle"], &["buffer", "folded", "results"]];
+const PLACES: [&[&str]; 5] = [
+    &["image", "first", "image0"],
+    &["second", "trace", "image1"],
+    &["name"],
+    &["handle"],
+    &["buffer", "folded", "results"],
+];
 
 fn place_of(slice: &str) -> usize {
     PLACES.iter().position(|here| here.contains(&slice)).expect("a place for every slice")

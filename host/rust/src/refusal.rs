@@ -71,6 +71,8 @@ pub enum Refusal {
     Inconsistent(Fault),
     /// 14: the trace is malformed, at this place (play back).
     Trace(TracePlace),
+    /// 16: a drive number that is not 0 or 1.
+    NoSuchDrive,
     /// 15: fewer bytes for results than the trace has calls (play back).
     NoRoom,
     /// 12: a position, length, level, date or sector out of range, a buffer shorter than the record, or a slot that the
@@ -118,7 +120,8 @@ pub enum Refusal {
 impl Refusal {
     /// The numbers that the library gives today, in the order in which it tests; those of faults without their slots, a name's
     /// without its place.
-    pub const ALL: [Refusal; 30] = [
+    pub const ALL: [Refusal; 31] = [
+        Refusal::NoSuchDrive,
         Refusal::Geometry,
         Refusal::Inconsistent(Fault::of_disk(FaultKind::DirectoryLength)),
         Refusal::Inconsistent(Fault::of_disk(FaultKind::HitAgainstEntry)),
@@ -168,6 +171,7 @@ impl Refusal {
             Refusal::Range => 12,
             Refusal::Trace(_) => 14,
             Refusal::NoRoom => 15,
+            Refusal::NoSuchDrive => 16,
             Refusal::SlotInUse => 17,
             Refusal::NothingWhole => 18,
             Refusal::NameInUse => 19,
@@ -245,6 +249,7 @@ impl Refusal {
             Refusal::Range => "position, length, level, date or sector out of range",
             Refusal::Trace(_) => "trace malformed",
             Refusal::NoRoom => "no room for the results",
+            Refusal::NoSuchDrive => "drive number not 0 or 1",
             Refusal::SlotInUse => "slot in use",
             Refusal::NothingWhole => "nothing whole to bring back",
             Refusal::NameInUse => "name in use",

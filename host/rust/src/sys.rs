@@ -49,6 +49,24 @@ macro_rules! exports {
             list_from = genie_list_from(disk image g, number number, room table, out told, fault fault_slot);
             count = genie_count(disk image g, out files, out free, fault fault_slot);
             free = genie_free(disk image g, out free, out longest);
+            drives_look_up = genie_drives_look_up(disk image0 g0, disk image1 g1, flag numbered, number drive, bytes name,
+                out found_drive, out slot, out compared, out place, out fault_drive, out fault_slot);
+            drives_open = genie_drives_open(disk image0 g0, disk image1 g1, flag numbered, number drive, bytes name,
+                number length, flag checking, code code, room handle, out place, out fault_drive, out fault_slot);
+            drives_create = genie_drives_create(changed image0 g0, changed image1 g1, flag numbered, number drive,
+                bytes name, birth birth, out old, room handle, out place, out fault_drive, out fault_slot);
+            drives_read_record = genie_drives_read_record(disk image0 g0, disk image1 g1, room handle, room buffer,
+                out fault_drive, out fault_slot);
+            drives_read_sector = genie_drives_read_sector(disk image0 g0, disk image1 g1, bytes handle, number k,
+                out drive, out from, out to, out fault_drive, out fault_slot);
+            drives_write_record = genie_drives_write_record(changed image0 g0, changed image1 g1, room handle,
+                flag sequential, bytes buffer, out fault_drive, out fault_slot);
+            drives_allot = genie_drives_allot(changed image0 g0, changed image1 g1, bytes handle, number k,
+                out fault_drive, out fault_slot);
+            drives_trim = genie_drives_trim(changed image0 g0, changed image1 g1, bytes handle, out fault_drive,
+                out fault_slot);
+            drives_kill = genie_drives_kill(changed image0 g0, changed image1 g1, bytes handle, out fault_drive,
+                out fault_slot);
             compare = genie_compare(disk first g, disk second h, number number, room name, out image, out kind,
                 out position, out flags, out fault_slot);
         }
