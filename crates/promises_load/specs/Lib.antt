@@ -5,3 +5,4 @@ pub mod Reading
 pub mod Mixed
 pub mod Interleaved
 pub mod Samples
+pub mod Numbers

@@ -21,10 +21,33 @@ pub fn is_no_day(date: Date) -> bool {
     held && stated && !((1..=12).contains(&month) && (1..=months(year)[month - 1]).contains(&day))
 }
 
+/// A date that is not stated, as the directory holds it.
+pub const NONE: Date = Date::new(Date::FIRST_YEAR, 0, 0);
+
 /// Today by the host's clock, in UTC.
 pub fn today() -> Date {
     let since = SystemTime::now().duration_since(UNIX_EPOCH).unwrap_or_default();
-    from_days(since.as_secs() / 86_400)
+    from_seconds(since.as_secs())
+}
+
+/// Seconds in a day.
+const DAY: u64 = 86_400;
+
+/// The day, in UTC, so many seconds after 1970 began.
+pub fn from_seconds(seconds: u64) -> Date {
+    from_days(seconds / DAY)
+}
+
+/// A file's time for a date of the directory: noon of that day in UTC, so that it is that day nearly everywhere; in seconds after
+/// 1970 began. None for a date that is not stated, or that the calendar does not have.
+pub fn seconds(date: Date) -> Option<u64> {
+    let Date { year, month, day } = date;
+    if !(1..=12).contains(&month) || !(1..=months(year)[month - 1]).contains(&day) {
+        return None;
+    }
+    let before: usize = (1970..year).map(|year| 365 + leap(year)).sum();
+    let days = before + months(year)[..month - 1].iter().sum::<usize>() + day - 1;
+    Some(days as u64 * DAY + DAY / 2)
 }
 
 /// The date a number of days after 1 January 1970.
@@ -106,6 +129,19 @@ mod tests {
         assert_eq!(from_days(11_016), Date::new(2000, 2, 29));
         assert_eq!(from_days(20_772), Date::new(2026, 11, 15));
         assert_eq!(from_days(47_541), Date::new(2100, 3, 1));
+    }
+
+    #[test]
+    fn noon_of_a_day() {
+        for days in 3653..9497 {
+            let date = from_days(days);
+            assert_eq!(seconds(date), Some(days * DAY + DAY / 2), "{date}");
+            assert_eq!(from_seconds(days * DAY + DAY / 2), date);
+        }
+        assert_eq!((from_days(3653), from_days(9496)), (Date::new(1980, 1, 2), Date::new(1996, 1, 1)));
+        for none in [NONE, Date::new(1983, 2, 29), Date::new(1983, 13, 1), Date::new(1983, 10, 0)] {
+            assert_eq!(seconds(none), None, "{none}");
+        }
     }
 
     #[test]

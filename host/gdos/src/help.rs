@@ -12,7 +12,7 @@ Usage: gdos COMMAND [OPTIONS] IMAGE [ARGUMENTS]
        gdos COMMAND --help
 ";
 
-const GEOMETRY: &str = "\
+pub const GEOMETRY: &str = "\
 The geometry
   An image is raw: the disk's sectors of 256 bytes in order, which is also the JV1 container. It does not say
   how its disk is organized. The first of these that says anything of it is heeded:
@@ -25,18 +25,19 @@ The geometry
   searched. The search takes a geometry only if the disk is consistent under it, a file's name speaks for its
   directory, and nothing speaks for another; otherwise nothing is read, and what was found is told with the options
   to type. It tries granules of 5 sectors, and only where none of these readings is consistent 10 and 20, which it
-  says. Commands that only read tell on standard error what they found. Those that change a disk (put, rm, trim,
-  undelete) want a geometry that is stated; --search lets them use what is found. `gdos probe` shows the evidence.
+  says. Commands that only read tell on standard error what they found. Those that change a disk (put, cp, tar
+  --in, rm, trim, undelete) want a geometry that is stated; --search lets them use what is found. `gdos probe` shows the
+  evidence.
 ";
 
-const NAMES: &str = "\
+pub const NAMES: &str = "\
 Names
   A file is named as on the machine, PULS01/DAT: 1 to 8 characters, then a slash and a type of up to 3. Allowed
   are digits, letters (small ones count as capital) and [ \\ ]. In patterns * stands for any characters, the slash
   too, and ? for one that is no slash; they do not find system files. Put patterns in quotes: '*/DAT'.
 ";
 
-const STATUS: &str = "\
+pub const STATUS: &str = "\
 Exit status
   0  done
   1  refused by the disk's rules; the message has the number, what it means and the file
@@ -46,13 +47,27 @@ Exit status
   made to a copy beside it, which is then put in its place.
 ";
 
+pub const CHANGES: &str = "\
+What no command does
+  The system has no call that renames a file or changes its attributes (invisible, access level, F, E, codes, date),
+  and gdos writes no byte behind the library's back. So there is no mv and no attr. A file gets another name by being
+  copied within its disk, with its date, record length and codes, and then removed under the old one:
+    gdos cp disk.img:PULS01/DAT disk.img:PULS02/DAT
+    gdos rm disk.img PULS01/DAT
+  It gets another date, record length or codes by being read out, removed and put anew:
+    gdos get disk.img PULS01/DAT
+    gdos rm disk.img PULS01/DAT
+    gdos put disk.img PULS01.DAT --date 1983-10-09 --code 1234H
+  The new file has access level 0 and is not invisible, and F and E are not set, as of every new file.
+";
+
 /// `gdos --help`.
 pub fn overview() -> String {
     let mut text = format!("{ABOUT}\nCommands\n");
     for command in COMMANDS {
-        text += &format!("  {:<10}{}\n", command.name, command.summary);
+        text += &format!("  {:<12}{}\n", command.name, command.summary);
     }
-    text + "\n" + NAMES + "\n" + GEOMETRY + "\n" + &presets() + "\n" + STATUS
+    text + "\n" + NAMES + "\n" + GEOMETRY + "\n" + &presets() + "\n" + CHANGES + "\n" + STATUS
 }
 
 /// `gdos --version`.
@@ -93,7 +108,7 @@ fn option(spec: &Spec) -> String {
     format!("  {:<26}{}\n", format!("{short}--{}{value}", spec.long), spec.help)
 }
 
-fn presets() -> String {
+pub fn presets() -> String {
     let mut text = String::from("Presets\n");
     for preset in Preset::ALL {
         let g = preset.geometry;

@@ -17,6 +17,7 @@ mod help;
 #[cfg(unix)]
 mod host;
 mod json;
+mod manual;
 #[cfg(any(test, not(unix)))]
 mod memory;
 mod memory_image;
@@ -27,7 +28,9 @@ mod program;
 mod recording;
 mod search;
 mod shape;
+mod shells;
 mod stated;
+mod tar;
 mod text;
 
 #[cfg(not(unix))]

@@ -64,6 +64,18 @@ pub fn read(path: &Path) -> Result<Vec<u8>, Failure> {
     bytes_at(path).ok_or_else(|| Failure::Wrong(format!("cannot read {}: there is no such file", path.display())))
 }
 
+/// Reads up to so many bytes of a file.
+pub fn read_part(path: Option<&Path>, most: usize) -> Result<Vec<u8>, Failure> {
+    match path {
+        Some(path) => {
+            let whole = FILES.with(|all| all.borrow().get(path).map(|file| file.bytes.clone()));
+            let cut = |bytes: Vec<u8>| bytes.into_iter().take(most).collect();
+            whole.map(cut).map_or_else(|| read(path), Ok)
+        }
+        None => read_standard_input(),
+    }
+}
+
 /// There is no standard input.
 pub fn read_standard_input() -> Result<Vec<u8>, Failure> {
     Err(Failure::Wrong("cannot read standard input: there is none".to_string()))
@@ -146,6 +158,11 @@ impl Prepared {
         put(&self.path, &self.bytes);
         Ok(())
     }
+}
+
+/// Writes a file; files in memory have no time.
+pub fn write_dated(path: &Path, bytes: &[u8], force: bool, _: Option<u64>) -> Result<(), Failure> {
+    write(path, bytes, force)
 }
 
 /// Writes a file.

@@ -11,9 +11,9 @@ use std::process::{Command, Stdio};
 use std::time::{Duration, SystemTime};
 
 const DATE: [&str; 2] = ["--date", "1983-10-09"];
-const COMMANDS: [&str; 21] = [
-    "check", "mend", "rescue", "ls", "cat", "get", "put", "rm", "undelete", "trim", "free", "info", "map", "dump",
-    "report", "new", "probe", "geometry", "diff", "load", "play",
+const COMMANDS: [&str; 22] = [
+    "check", "mend", "rescue", "ls", "cat", "get", "put", "tar", "rm", "undelete", "trim", "free", "info", "map",
+    "dump", "report", "new", "probe", "geometry", "diff", "load", "play",
 ];
 
 /// A folder with the small disk of the examples, PULS01/DAT (257 bytes) and LEER on it.
@@ -70,6 +70,12 @@ fn help_for_everything() {
         for line in help.lines() {
             assert!(line.chars().count() <= 120, "too long: {line}");
         }
+    }
+    // These take no image.
+    for command in ["completion", "manual"] {
+        let help = folder.done(&[command, "--help"]);
+        assert!(overview.contains(&format!("\n  {command} ")) && help.starts_with(&format!("gdos {command}: ")));
+        assert!(help.lines().all(|line| line.chars().count() <= 120), "{help}");
     }
     let nothing = folder.gdos(&[]);
     assert_eq!((nothing.status, nothing.out.len(), nothing.err), (2, 0, overview));

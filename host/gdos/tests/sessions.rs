@@ -107,6 +107,11 @@ fn overwriting() {
 }
 
 #[test]
+fn archives() {
+    play("tar");
+}
+
+#[test]
 fn usage() {
     play("usage");
 }

@@ -164,7 +164,8 @@ fn read(args: &Args, opened: &Opened, words: &[OsString]) -> Result<Vec<Copied>,
         let bytes = opened.disk.contents(&handle).map_err(Failure::file(&opened.path, &typed.text))?;
         let entry = entries.iter().find(|entry| entry.slot() == handle.slot()).cloned();
         let entry = entry.ok_or_else(|| Failure::file(&opened.path, &typed.text)(Refusal::NotFound))?;
-        let source = Source { host: format!("{}:{}", opened.path, typed.text), typed, bytes };
+        let host = format!("{}:{}", opened.path, typed.text);
+        let source = Source { host, typed, bytes, date: entry.date() };
         files.push(Copied { source, entry, geometry: opened.geometry() });
     }
     Ok(files)

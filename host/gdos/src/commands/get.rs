@@ -4,13 +4,14 @@ use super::choose::{chosen, image_and_files, open, password};
 use super::opened::Opened;
 use super::{failures_json, Command, Output, ALL, CODE, FORCE, JSON, UNLOCK};
 use crate::args::{Args, Spec};
+use crate::date;
 use crate::failure::Failure;
 use crate::host;
 use crate::json::Json;
 use crate::names::{host_name, Typed};
 use crate::shape;
 use crate::text::counted;
-use genie_dos::Password;
+use genie_dos::{Name, Password};
 use std::ffi::{OsStr, OsString};
 use std::path::{Path, PathBuf};
 
@@ -28,7 +29,8 @@ pub const COMMAND: Command = Command {
     about: "\
 Copies each named file, and each that a pattern fits, to a file of the host: PULS01/DAT to PULS01.DAT. A line tells
 of each. A file that is refused or cannot be written does not stop the others; the status is that of the worst.
-Files of the host are not overwritten unless --force is given, and never left half written.
+Files of the host are not overwritten unless --force is given, and never left half written. The file's date on the disk
+becomes its time of last change, noon in UTC; where the disk states none, that is when it was read out.
 ",
     groups: &[
         ("Options", &[OUTPUT, Spec { help: "overwrite files of the host", ..FORCE }, ALL, CODE, UNLOCK, JSON]),
@@ -73,8 +75,9 @@ fn run(args: &Args) -> Result<Output, Failure> {
     host::make_folder(&folder)?;
     let mut output = opened.output();
     let mut told = Vec::new();
+    let times = times(&opened)?;
     for choice in chosen(&opened, words, args.has("all"))? {
-        match choice.and_then(|typed| get_one(&opened, &typed, password, &folder, args.has("force"))) {
+        match choice.and_then(|typed| get_one(&opened, &typed, password, &folder, &times, args.has("force"))) {
             Ok((line, json)) => {
                 output.text.extend(line.into_bytes());
                 output.changed = true;
@@ -89,16 +92,30 @@ fn run(args: &Args) -> Result<Output, Failure> {
     Ok(output)
 }
 
+/// The files' names, and the time that each has by its date, if that is a day.
+type Times = Vec<(Name, Option<u64>)>;
+
+pub(super) fn times(opened: &Opened) -> Result<Times, Failure> {
+    let entries = opened.disk.entries().map_err(Failure::image(&opened.path))?;
+    Ok(entries.iter().map(|entry| (entry.name(), date::seconds(entry.date()))).collect())
+}
+
+/// The time of a file.
+pub(super) fn time_of(times: &Times, typed: &Typed) -> Option<u64> {
+    times.iter().find(|(name, _)| *name == typed.name).and_then(|(_, time)| *time)
+}
+
 fn get_one(
     opened: &Opened,
     typed: &Typed,
     password: Password,
     folder: &Path,
+    times: &Times,
     force: bool,
 ) -> Result<(String, Json), Failure> {
     let bytes = contents(opened, typed, password)?;
     let host = folder.join(host_name(&typed.name));
-    host::write(&host, &bytes, force)?;
+    host::write_dated(&host, &bytes, force, time_of(times, typed))?;
     let line = format!("{} to {}, {}\n", typed.text, host.display(), counted(bytes.len(), "byte"));
     let json = Json::object([
         ("name", typed.text.as_str().into()),
@@ -121,7 +138,7 @@ fn to_standard_output(args: &Args, image: &OsStr, words: &[OsString]) -> Result<
     Ok(output)
 }
 
-fn contents(opened: &Opened, typed: &Typed, password: Password) -> Result<Vec<u8>, Failure> {
+pub(super) fn contents(opened: &Opened, typed: &Typed, password: Password) -> Result<Vec<u8>, Failure> {
     let handle = open(opened, typed, password)?;
     opened.disk.contents(&handle).map_err(Failure::file(&opened.path, &typed.text))
 }

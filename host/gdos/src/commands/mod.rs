@@ -3,6 +3,7 @@
 mod change;
 mod check;
 mod choose;
+mod completion;
 mod cp;
 mod diff;
 mod dump;
@@ -26,6 +27,7 @@ mod rescue;
 mod rm;
 mod room;
 mod seeing;
+mod tar;
 mod trim;
 mod undelete;
 
@@ -87,6 +89,7 @@ pub const COMMANDS: &[Command] = &[
     load::COMMAND,
     put::COMMAND,
     cp::COMMAND,
+    tar::COMMAND,
     rm::COMMAND,
     undelete::COMMAND,
     trim::COMMAND,
@@ -102,6 +105,8 @@ pub const COMMANDS: &[Command] = &[
     geometry::COMMAND,
     diff::COMMAND,
     find::COMMAND,
+    completion::COMMAND,
+    completion::MANUAL,
 ];
 
 /// The command of a name.

@@ -1,6 +1,7 @@
 //! `gdos put`.
 
 use super::choose::{image_and_rest, password, refused};
+use super::ls::attributes;
 use super::opened::Opened;
 use super::room::{slots_left, Runs};
 use super::{failures_json, Command, Output, CODE, FORCE, JSON, UNLOCK};
@@ -19,8 +20,12 @@ use std::path::Path;
 
 const AS: Spec =
     Spec { long: "as", short: None, value: Some("NAME"), help: "the file's name on the disk (one file only)" };
-pub const DATE: Spec =
-    Spec { long: "date", short: None, value: Some("DATE"), help: "the date of new files, as 1983-10-09 (today's)" };
+pub const DATE: Spec = Spec {
+    long: "date",
+    short: None,
+    value: Some("DATE"),
+    help: "the date of new files, as 1983-10-09, or none (today's)",
+};
 const RECORD_LENGTH: Spec = Spec {
     long: "record-length",
     short: None,
@@ -45,10 +50,13 @@ there already is told.
 
 A file that is on the disk already is an error unless --force is given. Then its content is replaced and space that
 it no longer needs is given back; its date, codes, record length and flags stay, for no call of the system changes
-them. (To have new ones: gdos rm, then gdos put.) Only an empty file cannot be put over one that is not empty.
+them. (To have new ones: gdos rm, then gdos put.) No call empties a file: where an empty file is put over one that is
+not, that one is removed and created anew, with the date, codes and record length that it had. If it is invisible, has
+an access level or flag F or E, which would be lost, that is not done.
 
 New files get today's date (UTC). The disk's years end with 1995: later days are written as that year's, and a note
-says so. Both codes are the open code, that is no password, unless --code says otherwise.
+says so. With --date none the directory states no day. Both codes are the open code, that is no password, unless
+--code says otherwise.
 ",
     groups: &[
         (
@@ -71,29 +79,36 @@ says so. Both codes are the open code, that is no password, unless --code says o
         "gdos put disk.img eich01.dat eich02.dat",
         "gdos put disk.img calibration.bin --as EICH01/DAT --force",
         "gdos put disk.img puls01.dat --date 1983-10-09 --record-length 128",
+        "gdos put disk.img leer.dat --date none",
     ],
     run,
 };
 
-/// A file of the host, read, with its name on the disk.
+/// A file of the host, read, with its name and its date on the disk.
 pub(super) struct Source {
     pub typed: Typed,
     /// Where it is from, for messages.
     pub host: String,
     pub bytes: Vec<u8>,
+    pub date: Date,
 }
 
 fn run(args: &Args) -> Result<Output, Failure> {
     let (image, words) = image_and_rest(args)?;
     let (date, note) = date(args)?;
+    let sources = sources(args, words, date)?;
+    put_all(args, image, &sources, note)
+}
+
+/// Puts all files on an image, or none. The note is of the dates of new files.
+pub(super) fn put_all(args: &Args, image: &OsStr, sources: &[Source], note: Option<String>) -> Result<Output, Failure> {
     let record_length = args.number("record-length")?.unwrap_or(256);
     let (main_code, worker_code) = (args.code("code")?, args.code("worker-code")?);
-    let sources = sources(args, words)?;
-
     let (mut opened, locked) = Opened::change(args, image)?;
     let (geometry, output) = (opened.geometry(), opened.output());
     let main_code = main_code.unwrap_or(geometry.open_code);
-    let new = NewFile::open(geometry, date)
+    // The date is each file's own.
+    let new = NewFile::open(geometry, date::NONE)
         .with_record_length(record_length)
         .with_codes(main_code, worker_code.unwrap_or(main_code))
         .with_checking(!args.has("unlock"));
@@ -102,7 +117,7 @@ fn run(args: &Args) -> Result<Output, Failure> {
         true => Password::Unchecked,
         false => password(args, geometry)?,
     };
-    let mut failures = cannot_be(&mut opened, &sources, &new, args.has("force"));
+    let mut failures = cannot_be(&mut opened, sources, &new, args.has("force"));
     match failures.len() {
         0 => {}
         1 => return Err(failures.remove(0)),
@@ -112,7 +127,7 @@ fn run(args: &Args) -> Result<Output, Failure> {
         }
     }
     let mut put = Vec::new();
-    for source in &sources {
+    for source in sources {
         put.push((source, put_one(&mut opened, source, &new, password, args.has("force"))?));
     }
     let mut output = Output { changed: true, ..output };
@@ -144,24 +159,49 @@ fn cannot_be(opened: &mut Opened, sources: &[Source], new: &NewFile, force: bool
     failures
 }
 
+/// The date given, if one is.
+pub(super) fn stated_date(args: &Args) -> Result<Option<Date>, Failure> {
+    let given = match args.value("date") {
+        Some(given) if given == "none" => return Ok(Some(date::NONE)),
+        Some(given) => given,
+        None => return Ok(None),
+    };
+    let wrong = || Failure::Wrong(format!("--date wants a date from 1980 on, as 1983-10-09, or none, not {given:?}"));
+    let date = given.to_str().and_then(date::parse).ok_or_else(wrong)?;
+    match date::is_no_day(date) {
+        true => Err(Failure::Wrong(format!("--date: the calendar has no {date}"))),
+        false => Ok(Some(date)),
+    }
+}
+
 /// The date given; or today's as far as the disk can hold it, and a note if it cannot.
 pub fn date(args: &Args) -> Result<(Date, Option<String>), Failure> {
-    if let Some(given) = args.value("date") {
-        let wrong = || Failure::Wrong(format!("--date wants a date from 1980 on, as 1983-10-09, not {given:?}"));
-        let date = given.to_str().and_then(date::parse).ok_or_else(wrong)?;
-        return match date::is_no_day(date) {
-            true => Err(Failure::Wrong(format!("--date: the calendar has no {date}"))),
-            false => Ok((date, None)),
-        };
-    }
+    Ok(match stated_date(args)? {
+        Some(date) => (date, None),
+        None => today(),
+    })
+}
+
+fn today() -> (Date, Option<String>) {
     let today = date::today();
     let clamped = date::clamped(today);
     let note = format!("the disk's dates go from 1980 to 1995: today, {today}, is written as {clamped}");
-    Ok((clamped, (clamped != today).then_some(note)))
+    (clamped, (clamped != today).then_some(note))
+}
+
+/// That no two files go to one name.
+pub(super) fn no_twins(sources: &[Source]) -> Result<(), Failure> {
+    for (number, source) in sources.iter().enumerate().filter(|(_, source)| source.typed.wrong.is_none()) {
+        if let Some(twin) = sources[..number].iter().find(|twin| twin.typed.name == source.typed.name) {
+            let (one, other, name) = (&twin.host, &source.host, &source.typed.text);
+            return Err(Failure::Wrong(format!("{one} and {other} would both become {name}")));
+        }
+    }
+    Ok(())
 }
 
 /// Reads all files of the host before the image is touched.
-fn sources(args: &Args, words: &[OsString]) -> Result<Vec<Source>, Failure> {
+fn sources(args: &Args, words: &[OsString], date: Date) -> Result<Vec<Source>, Failure> {
     let named = args.value("as").map(OsStr::to_string_lossy);
     if words.is_empty() {
         return Err(Failure::Wrong("which files of the host? Name some".to_string()));
@@ -183,15 +223,13 @@ fn sources(args: &Args, words: &[OsString]) -> Result<Vec<Source>, Failure> {
             }
             None => Typed::for_host(Path::new(word)),
         };
-        if let Some(twin) = sources.iter().find(|s| s.typed.wrong.is_none() && s.typed.name == typed.name) {
-            return Err(Failure::Wrong(format!("{} and {host} would both become {}", twin.host, typed.text)));
-        }
         let bytes = match standard_input {
             true => host::read_standard_input()?,
             false => host::read(Path::new(word))?,
         };
-        sources.push(Source { typed, host, bytes });
+        sources.push(Source { typed, host, bytes, date });
     }
+    no_twins(&sources)?;
     Ok(sources)
 }
 
@@ -199,6 +237,7 @@ fn sources(args: &Args, words: &[OsString]) -> Result<Vec<Source>, Failure> {
 fn create(opened: &mut Opened, source: &Source, new: &NewFile, force: bool) -> Result<bool, Failure> {
     let Source { typed, .. } = source;
     let (path, disk) = (&opened.path, &mut opened.disk);
+    let new = &new.with_date(source.date);
     let created = disk.create(&typed.name, new).map_err(|refusal| {
         let failure = refused(path, typed)(refusal);
         match refusal {
@@ -225,7 +264,11 @@ pub(super) fn put_one(
     force: bool,
 ) -> Result<bool, Failure> {
     let old = create(opened, source, new, force)?;
-    let Source { typed, host, bytes } = source;
+    let Source { typed, bytes, .. } = source;
+    if old && bytes.is_empty() {
+        empty(opened, source, password)?;
+        return Ok(old);
+    }
     let (path, disk) = (&opened.path, &mut opened.disk);
     let wants = Wants::of(disk, typed, bytes.len());
     write(disk, typed, bytes, password).map_err(|refusal| {
@@ -239,14 +282,32 @@ pub(super) fn put_one(
         }
     })?;
     let handle = disk.open(&typed.name, 256, password).map_err(refused(path, typed))?;
-    if bytes.is_empty() && disk.read_sector(&handle, 0).is_ok() {
-        return Err(Failure::Wrong(format!(
-            "{host} is empty and {} is not; no call of the system empties a file: remove it first, by gdos rm",
-            typed.text
-        )));
-    }
     disk.trim(&handle).map_err(refused(path, typed))?;
     Ok(old)
+}
+
+/// Empties a file that is there. No call does that: it is removed, and created anew with the date, codes and record length that it
+/// had. What create cannot give it must not be lost.
+fn empty(opened: &mut Opened, Source { typed, host, .. }: &Source, password: Password) -> Result<(), Failure> {
+    let (path, disk) = (&opened.path, &mut opened.disk);
+    let handle = disk.open(&typed.name, 256, password).map_err(refused(path, typed))?;
+    let entries = disk.entries().map_err(Failure::image(path))?;
+    let was = match entries.into_iter().find(|entry| entry.name() == typed.name) {
+        Some(was) if was.size() > 0 => was,
+        // Empty already: space that it has is given back.
+        _ => return disk.trim(&handle).map_err(refused(path, typed)),
+    };
+    if was.is_invisible() || was.level() > 0 || was.keeps_space() || was.may_not_grow() {
+        let (name, attributes) = (&typed.text, attributes(&was, disk.geometry()));
+        return Err(Failure::Wrong(format!(
+            "{host} is empty and {name} is not; no call of the system empties a file, and made anew it would lose its \
+             attributes ({attributes}): if that is right, remove it first, by gdos rm"
+        )));
+    }
+    let new = NewFile::open(disk.geometry(), was.date())
+        .with_record_length(was.record_length().into())
+        .with_codes(was.main_code(), was.worker_code());
+    disk.kill(&handle).and_then(|()| disk.create(&typed.name, &new)).map_err(refused(path, typed)).map(|_| ())
 }
 
 /// What a file wants of a disk, before it is written.

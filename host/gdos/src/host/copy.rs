@@ -6,6 +6,7 @@ use std::io::{self, ErrorKind, Write};
 use std::os::unix::ffi::OsStrExt;
 use std::os::unix::fs::{fchown, MetadataExt, OpenOptionsExt, PermissionsExt};
 use std::path::{Path, PathBuf};
+use std::time::{Duration, SystemTime};
 
 /// Bytes of a file's name that its copy's name has; the host allows 255 in all.
 const MOST_NAME: usize = 200;
@@ -33,6 +34,11 @@ impl Copy {
         }
         copy.file.sync_all()?;
         Ok(copy)
+    }
+
+    /// Has the file be changed last at this time, in seconds after 1970 began, if the file system lets it.
+    pub fn set_time(&self, seconds: u64) {
+        let _ = self.file.set_modified(SystemTime::UNIX_EPOCH + Duration::from_secs(seconds));
     }
 
     fn empty(path: &Path, mode: u32) -> io::Result<Copy> {

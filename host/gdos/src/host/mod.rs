@@ -10,8 +10,8 @@ mod words;
 mod write;
 
 pub use lock::Locked;
-pub use read::{read, read_standard_input, read_text};
+pub use read::{read, read_part, read_standard_input, read_text};
 pub use same::same_file;
 pub use terminal::is_terminal;
 pub use words::{bytes_of, word_of};
-pub use write::{make_folder, write, Prepared};
+pub use write::{make_folder, write, write_dated, Prepared};

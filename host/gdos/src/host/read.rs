@@ -8,9 +8,23 @@ use std::path::Path;
 
 /// Reads a file up to one byte more than any image has, which is enough for the library to refuse its length.
 pub(super) fn read_whole(from: impl Read) -> io::Result<Vec<u8>> {
+    read_up_to(from, Geometry::MOST_BYTES + 1)
+}
+
+fn read_up_to(from: impl Read, most: usize) -> io::Result<Vec<u8>> {
     let mut bytes = Vec::new();
-    from.take(Geometry::MOST_BYTES as u64 + 1).read_to_end(&mut bytes)?;
+    from.take(most as u64).read_to_end(&mut bytes)?;
     Ok(bytes)
+}
+
+/// Reads up to so many bytes of a file of the host, or of standard input where none is named.
+pub fn read_part(path: Option<&Path>, most: usize) -> Result<Vec<u8>, Failure> {
+    match path {
+        Some(path) => File::open(path).and_then(|file| read_up_to(file, most)).map_err(Failure::io("read", path)),
+        None => {
+            read_up_to(io::stdin().lock(), most).map_err(|e| Failure::Wrong(format!("cannot read standard input: {e}")))
+        }
+    }
 }
 
 /// Reads a file of the host: an image to look at, or what is to be put on one.

@@ -74,6 +74,16 @@ pub fn write(path: &Path, bytes: &[u8], force: bool) -> Result<(), Failure> {
     Prepared::new(path, bytes, force)?.place()
 }
 
+/// The same with this time of its last change, in seconds after 1970 began. Where none is known, or the file system keeps none, it
+/// is that of its writing.
+pub fn write_dated(path: &Path, bytes: &[u8], force: bool, time: Option<u64>) -> Result<(), Failure> {
+    let prepared = Prepared::new(path, bytes, force)?;
+    if let Some(time) = time {
+        prepared.copy.set_time(time);
+    }
+    prepared.place()
+}
+
 /// Makes a folder unless it is there. No name is the present one.
 pub fn make_folder(folder: &Path) -> Result<(), Failure> {
     match folder.is_dir() || folder.as_os_str().is_empty() {
