@@ -856,14 +856,14 @@ pub extern "C" fn genie_drives_look_up(
         system_disk1,
         granule_sectors1,
     );
-    let l = drives_calls::look_up(image0, g0, image1, g1, numbered, drive, name);
-    *fault_drive = drives_told::fault_drive(l.refusal);
-    *fault_slot = refusal::slot_told(l.refusal);
-    *place = name_spelling::place_of(l.refusal);
-    *found_drive = l.drive;
-    *slot = l.slot;
-    *compared = l.compared;
-    l.refusal.number
+    let found = drives_calls::look_up(image0, g0, image1, g1, numbered, drive, name);
+    *fault_drive = drives_told::fault_drive(found.refusal);
+    *fault_slot = refusal::slot_told(found.refusal);
+    *place = name_spelling::place_of(found.refusal);
+    *found_drive = found.drive;
+    *slot = found.slot;
+    *compared = found.compared;
+    found.refusal.number
 }
 
 #[no_mangle]
@@ -915,7 +915,7 @@ pub extern "C" fn genie_drives_open(
         granule_sectors1,
     );
     let len = drives_codec::length_for(handle, length);
-    let a = drives_calls::open_file(
+    let opened = drives_calls::open_file(
         image0,
         g0,
         image1,
@@ -927,11 +927,11 @@ pub extern "C" fn genie_drives_open(
         checking,
         code,
     );
-    *fault_drive = drives_told::fault_drive(a.refusal);
-    *fault_slot = refusal::slot_told(a.refusal);
-    *place = name_spelling::place_of(a.refusal);
-    drives_codec::put_handle(handle, a.handle);
-    a.refusal.number
+    *fault_drive = drives_told::fault_drive(opened.refusal);
+    *fault_slot = refusal::slot_told(opened.refusal);
+    *place = name_spelling::place_of(opened.refusal);
+    drives_codec::put_handle(handle, opened.handle);
+    opened.refusal.number
 }
 
 #[no_mangle]
@@ -1004,13 +1004,13 @@ pub extern "C" fn genie_drives_create(
         main: main_code,
         worker: worker_code,
     };
-    let c = drives_calls::create(image0, g0, image1, g1, numbered, drive, name, f, checking);
-    *fault_drive = drives_told::fault_drive(c.refusal);
-    *fault_slot = refusal::slot_told(c.refusal);
-    *place = name_spelling::place_of(c.refusal);
-    *old = genie_codec::told(c.old);
-    drives_codec::put_handle(handle, c.handle);
-    c.refusal.number
+    let created = drives_calls::create(image0, g0, image1, g1, numbered, drive, name, f, checking);
+    *fault_drive = drives_told::fault_drive(created.refusal);
+    *fault_slot = refusal::slot_told(created.refusal);
+    *place = name_spelling::place_of(created.refusal);
+    *old = genie_codec::told(created.old);
+    drives_codec::put_handle(handle, created.handle);
+    created.refusal.number
 }
 
 #[no_mangle]
@@ -1112,13 +1112,13 @@ pub extern "C" fn genie_drives_read_sector(
         granule_sectors1,
     );
     let h = drives_codec::handle_of(handle);
-    let p = drives_calls::sector_part(image0, g0, image1, g1, h, k);
-    *fault_drive = drives_told::fault_drive(p.refusal);
-    *fault_slot = p.refusal.at;
-    *drive = p.drive;
-    *from = p.from;
-    *to = p.to;
-    p.refusal.number
+    let part = drives_calls::sector_part(image0, g0, image1, g1, h, k);
+    *fault_drive = drives_told::fault_drive(part.refusal);
+    *fault_slot = part.refusal.at;
+    *drive = part.drive;
+    *from = part.from;
+    *to = part.to;
+    part.refusal.number
 }
 
 #[no_mangle]
