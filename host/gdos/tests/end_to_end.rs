@@ -11,9 +11,9 @@ use std::process::{Command, Stdio};
 use std::time::{Duration, SystemTime};
 
 const DATE: [&str; 2] = ["--date", "1983-10-09"];
-const COMMANDS: [&str; 22] = [
+const COMMANDS: [&str; 24] = [
     "check", "mend", "rescue", "ls", "cat", "get", "put", "tar", "rm", "undelete", "trim", "free", "info", "map",
-    "dump", "report", "new", "probe", "geometry", "diff", "load", "play",
+    "dump", "report", "new", "probe", "geometry", "diff", "load", "play", "cp", "find",
 ];
 
 /// A folder with the small disk of the examples, PULS01/DAT (257 bytes) and LEER on it.

@@ -19,15 +19,16 @@ pub const COMMAND: Command = Command {
     summary: "copy files from one disk to another",
     usage: "[OPTIONS] FROM.img:NAME... TO.img:[NAME]",
     about: "\
-Copies each named file, and each that a pattern fits, to the disk behind the last word, under the same name or under the
-one that is given there. A line tells of each. All files are copied or none: if one is refused, the image stays as it is.
+Copies each named file, and each that a pattern fits, to the disk behind the last word, under the same name or under
+the one that is given there. A line tells of each. All files are copied or none: if one is refused, the image stays as
+it is.
 
-Bytes, date, record length and both codes are kept; a code that stands for \"no password\" on the first disk becomes the
-one that does on the second. No call of the system sets the other attributes (invisible, level, the flags E and F), so a
-copy is born without them, and a write sets B: where a copy's attributes are not those of the file, a note says so. A file
-that is on the second disk already is an error unless --force is given; then its content is replaced, and all else of it
-stays. Each disk has its own geometry. What the options say holds for both, except where one that ends in 2 says
-otherwise of the second.
+Bytes, date, record length and both codes are kept; a code that stands for \"no password\" on the first disk becomes
+the one that does on the second. No call of the system sets the other attributes (invisible, level, the flags E and
+F), so a copy is born without them, and a write sets B: where a copy's attributes are not those of the file, a note
+says so. A file that is on the second disk already is an error unless --force is given; then its content is replaced,
+and all else of it stays. Each disk has its own geometry. What the options say holds for both, except where one that
+ends in 2 says otherwise of the second.
 ",
     groups: &[
         (

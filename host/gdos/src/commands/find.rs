@@ -16,12 +16,12 @@ pub const COMMAND: Command = Command {
     summary: "which of two disks has a file",
     usage: "[OPTIONS] NAME IMAGE [IMAGE]",
     about: "\
-Looks the name up as a bench with two drives does: the first image is drive 0, the second drive 1, and the first that has
-the name has the file. Tells the drive, the slot of the file's entry, and how many directory entries were compared on the
-way: on drive 0 up to the file, and if it is not there all whose hash is the name's, then those of drive 1. A file of the
-same name on drive 1 that drive 0 hides is told too. Both disks must be consistent. The name is looked up, not matched:
-patterns are for `gdos ls`. Each disk has its own geometry. What the options say holds for both, except where one that
-ends in 2 says otherwise of the second.
+Looks the name up as a bench with two drives does: the first image is drive 0, the second drive 1, and the first that
+has the name has the file. Tells the drive, the slot of the file's entry, and how many directory entries were compared
+on the way: on drive 0 up to the file, and if it is not there all whose hash is the name's, then those of drive 1. A
+file of the same name on drive 1 that drive 0 hides is told too. Both disks must be consistent. The name is looked up,
+not matched: patterns are for `gdos ls`. Each disk has its own geometry. What the options say holds for both, except
+where one that ends in 2 says otherwise of the second.
 ",
     groups: &[("Options", &[JSON]), (shape::TITLE, shape::OPTIONS_OF_TWO)],
     examples: &["gdos find PULS01/DAT drive0.img drive1.img", "gdos find --json EICH01/DAT bench.img"],

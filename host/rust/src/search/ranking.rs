@@ -4,7 +4,7 @@ use super::evidence::Evidence;
 use super::fit::Fit;
 use super::known::starts;
 use super::slot::{Says, Slots};
-use crate::{Counts, Disk, Entry, Explained, Geometry, Preset, Refusal};
+use crate::{Counts, Disk, Explained, Geometry, Preset, Refusal};
 use alloc::boxed::Box;
 use alloc::vec::Vec;
 
@@ -45,19 +45,15 @@ pub fn everywhere(image: &[u8]) -> Vec<Evidence> {
 /// and each entry stands in a few directories only; so it is looked at by entries, not by places.
 pub fn speaking(image: &[u8]) -> Vec<Evidence> {
     let mut found = Vec::new();
-    let whole = &image[..image.len() / Geometry::SECTOR_BYTES * Geometry::SECTOR_BYTES];
-    let rows = Geometry::SECTOR_BYTES / Entry::LEN;
-    for (at, entry) in whole.chunks_exact(Entry::LEN).enumerate() {
-        if !Slots::may_speak(entry) {
-            continue;
-        }
-        let (number, row) = (at / rows, at % rows);
-        // A directory has its entries from the third of its sectors to the thirtieth at most.
-        for s in 0..28.min((number + 1).saturating_sub(2)) {
-            let start = number - 2 - s;
-            let spoken = |slots: Slots| matches!(slots.says(32 * row + s), Says::Name | Says::Nearly);
-            if start % Geometry::GRANULE_SIZES[0] == 0 && spoken(Slots::at(image, start)) {
-                found.push(start);
+    for (number, sector) in image.chunks_exact(Geometry::SECTOR_BYTES).enumerate() {
+        for row in Slots::may_speak(sector) {
+            // A directory has its entries from the third of its sectors to the thirtieth at most.
+            for s in 0..28.min((number + 1).saturating_sub(2)) {
+                let start = number - 2 - s;
+                let spoken = |slots: Slots| matches!(slots.says(32 * row + s), Says::Name | Says::Nearly);
+                if start % Geometry::GRANULE_SIZES[0] == 0 && spoken(Slots::at(image, start)) {
+                    found.push(start);
+                }
             }
         }
     }

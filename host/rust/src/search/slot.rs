@@ -86,16 +86,27 @@ impl<'a> Slots<'a> {
         }
     }
 
-    /// Whether an entry of these 32 bytes can speak for a directory, whatever its slot and its HIT byte: `says` answers
-    /// neither `Name` nor `Nearly` of any other.
-    pub fn may_speak(entry: &[u8]) -> bool {
-        let (used, marked) = (entry[0x00] & 0xb0 == 0x10, entry[0x1e] >= 0xfe);
-        let named = || {
+    /// The rows of a sector whose entries can speak for a directory, whatever their slots and HIT bytes: `says` answers neither
+    /// `Name` nor `Nearly` of any other.
+    pub fn may_speak(sector: &[u8]) -> impl Iterator<Item = usize> + '_ {
+        let named = move |at: usize| {
             let mut name = [0; Name::LEN];
-            name.copy_from_slice(&entry[0x05..0x10]);
+            name.copy_from_slice(&sector[at + 0x05..at + 0x10]);
             Name::from_bytes(name).is_well_formed()
         };
-        used && marked || (used || marked) && named()
+        // All rows at once first: most sectors have none.
+        let mut some = 0;
+        if let Ok(sector) = <&[u8; Geometry::SECTOR_BYTES]>::try_from(sector) {
+            for row in 0..Geometry::SECTOR_BYTES / Entry::LEN {
+                let (flags, marker) = (sector[Entry::LEN * row], sector[Entry::LEN * row + 0x1e]);
+                some |= u32::from(flags & 0xb0 == 0x10 || marker >= 0xfe) << row;
+            }
+        }
+        (0..Geometry::SECTOR_BYTES / Entry::LEN).take_while(move |row| some >> row != 0).filter(move |row| {
+            let at = Entry::LEN * row;
+            let (used, marked) = (sector[at] & 0xb0 == 0x10, sector[at + 0x1e] >= 0xfe);
+            used && marked || (used || marked) && named(at)
+        })
     }
 
     /// Whether a slot's link is FFH or leads to an extension that points back. Letters over and over may be a name with
