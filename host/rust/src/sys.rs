@@ -76,7 +76,13 @@ macro_rules! exports {
 /// Declares each row for the linker, one kind of argument after the other.
 macro_rules! declare {
     ($($call:ident = $export:ident($($arguments:tt)*);)*) => { $(declare! { @ $export [] $($arguments)*, })* };
-    (@ $export:ident [$($done:tt)*]) => { extern "C" { pub fn $export($($done)*) -> u8; } };
+    (@ $export:ident [$($done:tt)*]) => {
+        extern "C" {
+            // Not every program calls every one.
+            #[allow(dead_code)]
+            pub fn $export($($done)*) -> u8;
+        }
+    };
     (@ $export:ident [$($done:tt)*] disk $image:ident $g:ident, $($rest:tt)*) => {
         declare! { @ $export [$($done)* _: *const u8, _: usize, _: usize, _: usize, _: usize, _: u16, _: bool, _: usize,] $($rest)* }
     };
