@@ -19,7 +19,7 @@
 
 #define LIBRARY_CALLS(X) \
     X(check) X(look_up) X(open) X(create) X(read_record) X(read_sector) X(write_record) X(allot) X(trim) X(kill) X(list) X(count) \
-    X(compare)
+    X(compare) X(bring_back) X(free)
 
 struct library {
     const char *name;
@@ -64,6 +64,9 @@ NONE none_compare(I, const uint8_t *j, size_t jl, size_t b2, size_t u2, size_t s
     return 0;
 }
 
+NONE none_bring_back(IO, size_t n, size_t *o, size_t *g, size_t *fs) { USE, (void)n, (void)o, (void)g, (void)fs; return 0; }
+NONE none_free(I, size_t *f, size_t *l) { USE, (void)f, (void)l; return 0; }
+
 #define GENIE(call) genie_##call,
 #define SWIFT(call) fast_##call,
 #define NOTHING(call) none_##call,
@@ -76,8 +79,8 @@ static const struct library libraries[] = {
 /* What is measured. The last twelve are no rows of their own: four are for the cost of a byte, two for a disk with a fault, four for a
  * growth by the second choice (02 §13) and two for a session played back (02 §6), which the C does not have. */
 enum what {
-    CHECK, LOOK_UP, OPEN, CREATE, READ, SECTOR, WRITE, APPEND, ALLOT, TRIM, KILL, LIST, COUNT, COMPARE,
-    READ_1, WRITE_1, FILL_0, FILL_1000, CHECK_FAULT, LOOK_UP_FAULT, CHECK_SECOND, ALLOT_SECOND, CHECK_MOST, ALLOT_MOST,
+    CHECK, LOOK_UP, OPEN, CREATE, READ, SECTOR, WRITE, APPEND, ALLOT, ALLOT_ALL, TRIM, TRIM_ONE, KILL, BRING_BACK, LIST, COUNT, FREE,
+    COMPARE, READ_1, WRITE_1, FILL_0, FILL_1000, CHECK_FAULT, LOOK_UP_FAULT, CHECK_SECOND, ALLOT_SECOND, CHECK_MOST, ALLOT_MOST,
     PLAY, SINGLY, WHATS
 };
 
@@ -94,10 +97,14 @@ static const struct {
     [WRITE] = { "write_record", "write 256 bytes", true },
     [APPEND] = { "append", "append 256 bytes, one more granule", true },
     [ALLOT] = { "allot", "allot 10 granules", true },
+    [ALLOT_ALL] = { "allot_all", "allot all that fit, from one granule", true },
     [TRIM] = { "trim", "trim to half", true },
+    [TRIM_ONE] = { "trim_one", "trim to one granule", true },
     [KILL] = { "kill", "kill", true },
+    [BRING_BACK] = { "bring_back", "bring back", true },
     [LIST] = { "list", "list the last file", false },
     [COUNT] = { "count", "count", false },
+    [FREE] = { "free", "free space", false },
     [COMPARE] = { "compare", "compare with itself", false },
     [READ_1] = { "read_1", "read 1 byte", false },
     [WRITE_1] = { "write_1", "write 1 byte", true },
@@ -180,6 +187,53 @@ static void splinter(struct work *w, size_t entries)
     w->k = d->granule_sectors * (4 * entries + 4 * (PERMITTED - entries) + 2) - 1;
 }
 
+#define DISK d->image, d->image_len, d->blocks, d->units, d->start, d->open_code, true, d->granule_sectors
+
+/* The file's handle, as an open leaves it but for position and record length. */
+static void hold(struct work *w, size_t length, size_t position)
+{
+    w->fresh[0] = (uint8_t)w->disk.subject_slot;
+    w->fresh[2] = (uint8_t)length;
+    w->fresh[3] = (uint8_t)(length >> 8);
+    for (size_t i = 0; i < 4; i++) w->fresh[4 + i] = (uint8_t)(position >> 8 * i);
+    memcpy(w->fresh + 8, w->disk.subject, GENIE_NAME_BYTES);
+}
+
+static void keep_directory(struct work *w)
+{
+    struct bench_disk *const d = &w->disk;
+    w->directory_len = (10 + (size_t)d->image[d->start * SECTOR_BYTES + SECTOR_BYTES + 0x1F]) * SECTOR_BYTES;
+    memcpy(w->directory, d->image + d->start * SECTOR_BYTES, w->directory_len);
+}
+
+static void put_directory_back(struct work *w)
+{
+    memcpy(w->disk.image + w->disk.start * SECTOR_BYTES, w->directory, w->directory_len);
+}
+
+/* The file cut to one granule; what is wanted is every free one, or as many as 01's choice finds pairs and slots for. */
+static void cut_to_one(struct work *w)
+{
+    struct bench_disk *const d = &w->disk;
+    size_t slot, free, longest;
+    set_size(w, 1);
+    if (fast_trim(DISK, w->fresh, sizeof w->fresh, &slot) || fast_free(DISK, &free, &longest)) stop("the file cannot be cut");
+    keep_directory(w);
+    do {
+        if (!free) stop("no granule can be allotted");
+        w->k = (1 + free--) * d->granule_sectors - 1;
+        put_directory_back(w);
+    } while (fast_allot(DISK, w->fresh, sizeof w->fresh, w->k, &slot));
+    put_directory_back(w);
+}
+
+static void kill_it(struct work *w)
+{
+    struct bench_disk *const d = &w->disk;
+    size_t slot;
+    if (fast_kill(DISK, w->fresh, sizeof w->fresh, &slot)) stop("the file cannot be killed");
+}
+
 static bool writes(size_t call)
 {
     return call % 2;
@@ -218,6 +272,7 @@ static void prepare(struct work *w, enum what what, size_t disk)
     case ALLOT: w->k = ((d->subject_size + width - 1) / width + 10) * d->granule_sectors - 1; break;
     case SECTOR: w->k = middle / SECTOR_BYTES; break;
     case TRIM: set_size(w, middle); break;
+    case TRIM_ONE: set_size(w, 1); break;
     case READ_1:
     case WRITE_1: length = 1; break;
     case FILL_0:
@@ -236,19 +291,15 @@ static void prepare(struct work *w, enum what what, size_t disk)
     case SINGLY: record(d); break;
     default: break;
     }
-    w->fresh[0] = (uint8_t)d->subject_slot;
-    w->fresh[2] = (uint8_t)length;
-    w->fresh[3] = (uint8_t)(length >> 8);
-    for (size_t i = 0; i < 4; i++) w->fresh[4 + i] = (uint8_t)(position >> 8 * i);
-    memcpy(w->fresh + 8, d->subject, GENIE_NAME_BYTES);
-    w->directory_len = (10 + (size_t)d->image[d->start * SECTOR_BYTES + SECTOR_BYTES + 0x1F]) * SECTOR_BYTES;
-    memcpy(w->directory, d->image + d->start * SECTOR_BYTES, w->directory_len);
+    hold(w, length, position);
+    if (what == ALLOT_ALL) cut_to_one(w);
+    if (what == BRING_BACK) kill_it(w);
+    keep_directory(w);
 }
 
 /* The session's calls, one by one: each opens the file, sets the position and reads or writes. The first refusal ends it. */
 static uint8_t singly(struct work *w, const struct library *lib)
 {
-#define DISK d->image, d->image_len, d->blocks, d->units, d->start, d->open_code, true, d->granule_sectors
 #define HANDLE w->handle, sizeof w->handle
     struct bench_disk *const d = &w->disk;
     uint8_t answer = 0;
@@ -271,7 +322,7 @@ static uint8_t singly(struct work *w, const struct library *lib)
 static void once(struct work *w, const struct library *lib)
 {
     struct bench_disk *const d = &w->disk;
-    if (whats[w->what].changes) memcpy(d->image + d->start * SECTOR_BYTES, w->directory, w->directory_len);
+    if (whats[w->what].changes) put_directory_back(w);
     memcpy(w->handle, w->fresh, sizeof w->handle);
     switch (w->what) {
     case CHECK:
@@ -296,10 +347,14 @@ static void once(struct work *w, const struct library *lib)
     case FILL_1000: w->answer = lib->write_record(DISK, HANDLE, false, w->buffer, sizeof w->buffer, &w->fault_slot); break;
     case APPEND: w->answer = lib->write_record(DISK, HANDLE, true, w->buffer, sizeof w->buffer, &w->fault_slot); break;
     case ALLOT:
+    case ALLOT_ALL:
     case ALLOT_SECOND:
     case ALLOT_MOST: w->answer = lib->allot(DISK, HANDLE, w->k, &w->fault_slot); break;
-    case TRIM: w->answer = lib->trim(DISK, HANDLE, &w->fault_slot); break;
+    case TRIM:
+    case TRIM_ONE: w->answer = lib->trim(DISK, HANDLE, &w->fault_slot); break;
     case KILL: w->answer = lib->kill(DISK, HANDLE, &w->fault_slot); break;
+    case BRING_BACK: w->answer = lib->bring_back(DISK, d->subject_slot, &w->numbers[0], &w->numbers[1], &w->fault_slot); break;
+    case FREE: w->answer = lib->free(DISK, &w->numbers[0], &w->numbers[1]); break;
     case LIST: w->answer = lib->list(DISK, d->files - 1, w->name, sizeof w->name, &w->numbers[0], &w->numbers[1], &w->numbers[2], &w->fault_slot); break;
     case COUNT: w->answer = lib->count(DISK, &w->numbers[0], &w->numbers[1], &w->fault_slot); break;
     case COMPARE:
@@ -382,7 +437,7 @@ static int same(void)
 static void take(struct work *w, const struct library *lib, const uint8_t *name)
 {
     struct bench_disk *const d = &w->disk;
-    memcpy(d->image + d->start * SECTOR_BYTES, w->directory, w->directory_len);
+    put_directory_back(w);
     w->answer = lib->create(DISK, name, GENIE_NAME_BYTES, 9, 10, 3, 256, 1, 2, true, &w->numbers[0], HANDLE, &w->place, &w->fault_slot);
     if (!w->answer) w->answer = lib->look_up(DISK, name, GENIE_NAME_BYTES, &w->numbers[1], &w->numbers[2], &w->place, &w->fault_slot);
 }
@@ -449,6 +504,47 @@ static int played(void)
     return a.answer || b.answer || refused || a.numbers[0] != CALLS || !alike;
 }
 
+/* Whether the two bring the same killed files back: random bytes of the killed file's entries and of the GAT's free bits are changed, so that the
+ * disk stays consistent as far as the two agree on it. */
+static int same_back(void)
+{
+    static struct work a, b;
+    int unlike = 0;
+    uint64_t seed = 911;
+    size_t told[256] = { 0 };
+    for (size_t disk = 0; disk < BENCH_DISKS; disk++) {
+        prepare(&a, BRING_BACK, disk);
+        prepare(&b, BRING_BACK, disk);
+        for (size_t change = 0; change < 400; change++) {
+            uint8_t *const directory = a.disk.image + a.disk.start * SECTOR_BYTES;
+            put_directory_back(&a);
+            size_t slot = a.disk.subject_slot;
+            for (size_t i = 0; i < change % 8; i++) slot = directory[(slot % 32 + 2) * SECTOR_BYTES + slot / 32 * 32 + 31] % 224;
+            for (size_t i = 0; i <= change % 3; i++) {
+                seed = seed * 6364136223846793005u + 1442695040888963407u;
+                const size_t place = seed >> 33 & 7 ? (slot % 32 + 2) * SECTOR_BYTES + slot / 32 * 32 + (seed >> 36 & 31) : seed >> 36 & 127;
+                directory[place] = seed >> 20 & 1 ? (uint8_t)(seed >> 24) : directory[place] ^ (uint8_t)(1u << (seed >> 24 & 7));
+            }
+            memcpy(b.disk.image, a.disk.image, a.disk.image_len);
+            struct bench_disk *d = &a.disk;
+            a.answer = genie_bring_back(DISK, d->subject_slot, &a.numbers[0], &a.numbers[1], &a.fault_slot);
+            d = &b.disk;
+            b.answer = fast_bring_back(DISK, d->subject_slot, &b.numbers[0], &b.numbers[1], &b.fault_slot);
+            told[a.answer]++;
+            if (alike(&a, &b)) continue;
+            printf("%s, killed and changed, change %zu: %d %d UNLIKE\n", bench_disk_names[disk], change, a.answer, b.answer);
+            unlike++;
+        }
+        free(a.disk.image);
+        free(b.disk.image);
+    }
+    printf("killed files, by answer:");
+    for (size_t i = 0; i < 256; i++)
+        if (told[i]) printf(" %zu: %zu", i, told[i]);
+    printf("\n");
+    return unlike ? 1 : 0;
+}
+
 /* Whether the two tell the same fault of damaged disks: random bytes of the directory are changed, a few at a time. */
 static int same_faults(void)
 {
@@ -500,7 +596,7 @@ int main(int argc, char **argv)
     for (size_t i = 0; i < WHATS; i++) what_names[i] = whats[i].name;
     for (size_t i = 0; i < 3; i++) library_names[i] = libraries[i].name;
 
-    if (argc == 2 && !strcmp(argv[1], "same")) return same() | same_names() | same_faults();
+    if (argc == 2 && !strcmp(argv[1], "same")) return same() | same_names() | same_back() | same_faults();
     if (argc == 2 && !strcmp(argv[1], "second")) return second();
     if (argc == 2 && !strcmp(argv[1], "played")) return played();
     if (argc == 2 && !strcmp(argv[1], "names")) {

@@ -3,13 +3,14 @@
 #include <stdlib.h>
 #include <string.h>
 
-const char *const bench_disk_names[BENCH_DISKS] = { "full", "typical", "largest", "scattered", "hard" };
+const char *const bench_disk_names[BENCH_DISKS] = { "full", "typical", "largest", "scattered", "hard", "alike" };
 const char *const bench_disk_titles[BENCH_DISKS] = {
     "full: directory of 224 entries, 224 files",
     "typical: 40 files",
     "largest: one file of 1.9 MB",
     "scattered: one file of 150 entries",
     "hard: granules of 20 sectors, one file of 7.6 MB",
+    "alike: 224 files, all names of one hash",
 };
 
 enum { SECTOR = 256, SYSTEM = 0x40, IN_USE = 0x10 };
@@ -116,17 +117,30 @@ static void series_name(char *name, size_t number)
     for (size_t at = kind + 3; at-- > kind; number /= 10) name[at] = (char)('0' + number % 10);
 }
 
-/* 224 files in 224 slots: two system files, of which one is the directory itself, and 222 others of three granules, each third one in two runs. */
-static int full(struct bench_disk *d)
+/* The next name of one hash, behind `number`: a letter, then digits. */
+static void alike_name(char *name, size_t *number)
+{
+    enum { HASH = 0xA2 };
+    do {
+        size_t rest = ++*number;
+        memcpy(name, "P       DAT", 11);
+        for (size_t at = 5; at > 0; at--, rest /= 10) name[at] = (char)('0' + rest % 10);
+    } while (hash((const uint8_t *)name) != HASH);
+}
+
+/* 224 files in 224 slots: two system files, of which one is the directory itself, and 222 others of three granules, each third one in two
+ * runs. All but the system files may have names of one hash. */
+static int crowded(struct bench_disk *d, int one_hash)
 {
     if (!blank(d, 192, 8, 3840, 30, 5)) return 0;
     const size_t zero = 0, one = 1;
     put_file(d, &zero, "BOOT    SYS", SYSTEM, &(struct run){ 0, 1 }, 1, 0);
     put_file(d, &one, "DIR     SYS", SYSTEM, &(struct run){ 768, 6 }, 1, 0);
-    size_t granule = 1;
+    size_t granule = 1, number = 0;
     for (size_t slot = 2, i = 0; slot < 256; slot = next_slot(slot, 28), i++) {
         char name[11];
-        series_name(name, i);
+        if (one_hash) alike_name(name, &number);
+        else series_name(name, i);
         if (granule >= 765 && granule < 774) granule = 774;
         const struct run runs[2] = { { granule, 2 }, { granule + 3, 1 } };
         if (i % 3 == 2) put_file(d, &slot, name, 0, runs, 2, 100);
@@ -135,6 +149,9 @@ static int full(struct bench_disk *d)
     }
     return 1;
 }
+
+static int full(struct bench_disk *d) { return crowded(d, 0); }
+static int alike(struct bench_disk *d) { return crowded(d, 1); }
 
 /* 40 files on 80 blocks of 7 units: six system files in kept slots, 34 others of up to 21 granules in one to seven runs. */
 static int typical(struct bench_disk *d)
@@ -207,6 +224,6 @@ static int scattered(struct bench_disk *d)
 
 int bench_disk_make(size_t number, struct bench_disk *disk)
 {
-    static int (*const make[BENCH_DISKS])(struct bench_disk *) = { full, typical, largest, scattered, hard };
+    static int (*const make[BENCH_DISKS])(struct bench_disk *) = { full, typical, largest, scattered, hard, alike };
     return make[number](disk);
 }

@@ -1,4 +1,4 @@
-/* The five disks that the benchmark runs on. They are laid out byte by byte, without the calls that are measured. */
+/* The six disks that the benchmark runs on. They are laid out byte by byte, without the calls that are measured. */
 #ifndef DISKS_H
 #define DISKS_H
 
@@ -15,8 +15,8 @@ struct bench_disk {
     size_t files; /* that the listing tells */
 };
 
-#define BENCH_DISKS 5
-extern const char *const bench_disk_names[BENCH_DISKS];    /* full, typical, largest, scattered, hard */
+#define BENCH_DISKS 6
+extern const char *const bench_disk_names[BENCH_DISKS];    /* full, typical, largest, scattered, hard, alike */
 extern const char *const bench_disk_titles[BENCH_DISKS];
 
 /* Makes the disk of that number; 0 if there is no memory. */

@@ -415,21 +415,28 @@ __attribute__((noinline)) static uint8_t fault_of(const uint8_t *image, size_t s
 }
 
 /* Refusals 1 and 21 to 30. */
-static uint8_t examine(IMAGE, size_t blocks, size_t units, size_t start, bool system_disk, size_t granule_sectors, struct disk *d,
-                       size_t *fault_slot)
+/* Whether the geometry is one and the image has its length; the disk by it, its GAT packed. */
+static bool laid_out(IMAGE, size_t blocks, size_t units, size_t start, bool system_disk, size_t granule_sectors, struct disk *d)
 {
-    *fault_slot = GENIE_NO_SLOT;
-    if (granule_sectors != 5 && granule_sectors != 10 && granule_sectors != 20) return GENIE_GEOMETRY;
-    if (blocks < 1 || blocks > 192 || units < 1 || units > 8) return GENIE_GEOMETRY;
+    if (granule_sectors != 5 && granule_sectors != 10 && granule_sectors != 20) return false;
+    if (blocks < 1 || blocks > 192 || units < 1 || units > 8) return false;
     d->granules = blocks * units;
     d->units = units;
     d->system = system_disk;
     d->sectors = granule_sectors;
     d->width = GENIE_GRANULE_BYTES(granule_sectors);
-    if (image_len != d->granules * d->width || start % granule_sectors) return GENIE_GEOMETRY;
-    if (start > d->granules * granule_sectors || d->granules * granule_sectors - start < 10) return GENIE_GEOMETRY;
+    if (image_len != d->granules * d->width || start % granule_sectors) return false;
+    if (start > d->granules * granule_sectors || d->granules * granule_sectors - start < 10) return false;
     d->directory = start * SECTOR;
     pack(d->taken, gat_of(image, d), blocks, units);
+    return true;
+}
+
+static uint8_t examine(IMAGE, size_t blocks, size_t units, size_t start, bool system_disk, size_t granule_sectors, struct disk *d,
+                       size_t *fault_slot)
+{
+    *fault_slot = GENIE_NO_SLOT;
+    if (!laid_out(image, image_len, blocks, units, start, system_disk, granule_sectors, d)) return GENIE_GEOMETRY;
     return consistent(image, start, d) ? GENIE_DONE : fault_of(image, start, d, fault_slot);
 }
 
@@ -959,6 +966,110 @@ uint8_t FAST(count)(IMAGE, GEO, size_t *files, size_t *free, size_t *fault_slot)
     for (size_t w = 0; w <= d.granules / 64; w++) left -= (size_t)__builtin_popcountll(d.taken[w]);
     *files = told;
     *free = left;
+    return GENIE_DONE;
+}
+
+/* The killed file whose first entry is in the slot: its granules, from the map of those that are free, are `taken` then. What 01 wants of a
+ * file in use is wanted of it, but that its extensions have 80H in byte 00 and its granules are free. 18 comes before 19, and that before
+ * 20: so the granules are counted twice, once on a map of its own, where none may come twice. */
+uint8_t FAST(bring_back)(IMAGE_OUT, GEO, size_t slot, size_t *slots, size_t *granules, size_t *fault_slot)
+{
+    struct disk d;
+    (void)open_code;
+    *slots = *granules = 0;
+    const uint8_t refusal = EXAMINE(&d);
+    if (refusal) return refusal;
+    if (slot > 255 || (slot & 31) >= d.columns) return GENIE_RANGE;
+    uint8_t *const first = entry_out(image, &d, slot), *const hit = image + d.directory + SECTOR;
+    if (first[E_FLAGS] & IN_USE) return GENIE_SLOT_IN_USE;
+    if (first[E_FLAGS] & SYSTEM) return GENIE_LEVEL;
+    const struct name name = name_at(first + E_NAME);
+    if ((first[E_FLAGS] & (EXTENSION | ZERO)) || !well_formed(name)) return GENIE_NOTHING_WHOLE;
+
+    uint64_t own[MAP_WORDS] = { 0 };
+    bool met[256] = { false }, taken = false;
+    size_t at = slot, entries = 0, owned = 0;
+    for (uint8_t *e = first;;) {
+        if (met[at]) return GENIE_NOTHING_WHOLE;
+        met[at] = true;
+        entries++;
+        uint64_t pairs = load8(e + E_PAIRS);
+        size_t runs = 0;
+        for (; runs < 4 && (pairs & 0xFF) != 0xFF; runs++, pairs >>= 16) {
+            const size_t unit = pairs >> 13 & 7, count = (pairs >> 8 & 31) + 1, granule = (pairs & 0xFF) * d.units + unit;
+            if (unit >= d.units || granule + count > d.granules) return GENIE_NOTHING_WHOLE;
+            const uint64_t mask = run_mask(granule, count);
+            uint8_t *const place = (uint8_t *)own + granule / 8;
+            const uint64_t here = load8(place);
+            if (here & mask) return GENIE_NOTHING_WHOLE;
+            store8(place, here | mask);
+            taken |= (load8((const uint8_t *)d.taken + granule / 8) & mask) != 0;
+            owned += count;
+        }
+        if (runs < 4 && ((pairs & block_bytes[runs]) != block_bytes[runs] || (runs == 0 && e != first))) return GENIE_NOTHING_WHOLE;
+        if (e[E_MARKER] == MARK_END) break;
+        const size_t link = e[E_LINK];
+        if (e[E_MARKER] != MARK_LINK || runs < 4 || (link & 31) >= d.columns) return GENIE_NOTHING_WHOLE;
+        uint8_t *const next = entry_out(image, &d, link);
+        if (next[E_FLAGS] != EXTENSION || next[E_BACK] != at) return GENIE_NOTHING_WHOLE;
+        e = next;
+        at = link;
+    }
+    const size_t n = load2(first + E_COUNT);
+    size_t compared;
+    if ((n == 0 && first[E_END] != 0) || n > owned * d.sectors) return GENIE_NOTHING_WHOLE;
+    if (find(image, &d, first + E_NAME, &compared) != NO_SLOT) return GENIE_NAME_IN_USE;
+    if (taken) return GENIE_GRANULE_TAKEN;
+
+    const uint8_t h = hash(name);
+    for (uint8_t *e = first;;) {
+        for (size_t runs = 0; runs < 4 && e[E_PAIRS + 2 * runs] != 0xFF; runs++) {
+            const uint8_t *const pair = e + E_PAIRS + 2 * runs;
+            mark(image, &d, run_granule(pair, &d), run_count(pair), true);
+        }
+        e[E_FLAGS] |= IN_USE;
+        hit[slot] = h;
+        if (e[E_MARKER] == MARK_END) break;
+        slot = e[E_LINK];
+        e = entry_out(image, &d, slot);
+    }
+    *slots = entries;
+    *granules = owned;
+    return GENIE_DONE;
+}
+
+/* From the GAT alone, on any image of the right length: the stretches of clear bits, one after the other. */
+uint8_t FAST(free)(IMAGE, GEO, size_t *free, size_t *longest)
+{
+    struct disk d;
+    (void)open_code;
+    *free = *longest = 0;
+    if (!laid_out(image, image_len, blocks, units, start, system_disk, granule_sectors, &d)) return GENIE_GEOMETRY;
+    d.taken[d.granules / 64] |= ~(uint64_t)0 << d.granules % 64; /* the disk's end ends the last stretch */
+    size_t total = 0, best = 0, here = 0;
+    for (size_t w = 0; w <= d.granules / 64; w++) {
+        uint64_t rest = d.taken[w];
+        size_t left = 64;
+        if (rest == 0) {
+            here += 64;
+            continue;
+        }
+        while (rest) {
+            const size_t clear = (size_t)__builtin_ctzll(rest);
+            here += clear;
+            total += here;
+            if (here > best) best = here;
+            here = 0;
+            left -= clear;
+            rest >>= clear;
+            const size_t set = ~rest ? (size_t)__builtin_ctzll(~rest) : 64;
+            left = left > set ? left - set : 0;
+            rest = set < 64 ? rest >> set : 0;
+        }
+        here = left;
+    }
+    *free = total;
+    *longest = best;
     return GENIE_DONE;
 }
 

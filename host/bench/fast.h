@@ -24,6 +24,8 @@ extern __typeof__(genie_trim) fast_trim;
 extern __typeof__(genie_kill) fast_kill;
 extern __typeof__(genie_list) fast_list;
 extern __typeof__(genie_count) fast_count;
+extern __typeof__(genie_bring_back) fast_bring_back;
+extern __typeof__(genie_free) fast_free;
 extern __typeof__(genie_compare) fast_compare;
 #ifdef __cplusplus
 }

@@ -6,6 +6,8 @@ use Prim.Native.Nat.{ℕ, zero, suc, _+_, _-_, _*_, _/_, _%_, _^_, _≤_, _<_, m
 use native.Mathlib.Omega.{arith}
 use native.Mathlib.Nat.{zero-add, add-zero, sub-zero, zero-mul, div-one, div-div-eq-div-mul, pow-succ', mul-comm}
 use lib.ListN.{length}
+use lib.Arith.{mod-mul}
+use lib.Pow.{pow-pos}
 use lib.Dec.{eqb}
 use borrow.Author.Tests.{leb-true, eqb-true}
 use Rattle.meaning.specs.Lists.{count}
@@ -49,6 +51,10 @@ unfolding met ended
 met-few true p q e = rw e (omega arith)
 met-few false p q e = rw e (omega arith)
 
+pub ended-few : (n : ℕ) (p q : Seen) → q ≡ ended p → q .free + q .here ≤ p .free + p .here + n
+unfolding ended
+ended-few n p q e = rw e (omega arith)
+
 -- the longest stretch where one ends, and where one goes on
 max-assoc : (a b c : ℕ) → max (max a b) c ≡ max a (max b c)
 max-assoc a b c = omega arith
@@ -72,6 +78,49 @@ bits-more (suc left) x p q all e h f =
 pub bits-none : (left x : ℕ) (p all : Seen) → all ≡ bits left x p → left ≤ 0 → p ≡ all
 unfolding bits
 bits-none left x p all e h = let q : left ≡ 0 = omega arith in sym (e ∙ ap (λ (m : ℕ). bits m x p) q)
+
+-- A whole block -----------------------------------------------------------------------------------------------------------
+
+-- the lowest bit, and the bits above it
+low-bits : (n x : ℕ) → x % 2 ^ suc n ≡ x / 2 % 2 ^ n * 2 + x % 2
+low-bits n x = ap (λ (k : ℕ). x % k) (pow-succ' 2 n ∙ mul-comm 2 (2 ^ n)) ∙ mod-mul x (pow-pos n) (omega arith)
+
+-- all clear: the stretch goes on over them
+pub bits-clear : (n x : ℕ) (p : Seen) → x % 2 ^ n ≡ 0 → record { free = p .free; here = p .here + n; longest = p .longest } ≡ bits n x p
+unfolding bits met
+bits-clear zero x p e = λ i. record { free = p .free; here = add-zero (p .here) i; longest = p .longest }
+bits-clear (suc n) x p e =
+    let l = low-bits n x in
+    let b : x % 2 ≡ 0 = omega arith in
+    let h : x / 2 % 2 ^ n ≡ 0 = omega arith in
+    let q : Seen = record { free = p .free; here = p .here + 1; longest = p .longest } in
+    let f : p .here + suc n ≡ p .here + 1 + n = omega arith in
+    (λ i. record { free = p .free; here = f i; longest = p .longest }) ∙ bits-clear n (x / 2) q h
+    ∙ ap (bits n (x / 2)) (met-free {t = eqb (x % 2) 1} p (ap (λ (k : ℕ). eqb k 1) b))
+
+-- where no granule is free any more the stretch has ended
+ended-again : (p : Seen) → ended (ended p) ≡ ended p
+unfolding ended
+ended-again p =
+    let a : p .free + p .here + 0 ≡ p .free + p .here = omega arith in
+    let b : max (max (p .longest) (p .here)) 0 ≡ max (p .longest) (p .here) = omega arith in
+    λ i. record { free = a i; here = 0; longest = b i }
+
+-- all of suc n bits are set: the lowest is, and so are those above it
+set-low : (n x : ℕ) → x % 2 ^ suc n ≡ 2 ^ suc n - 1 → x % 2 ≡ 1
+set-low n x e = omega (arith, low-bits n x, pow-succ' 2 n, e, pow-pos n)
+
+set-high : (n x : ℕ) → x % 2 ^ suc n ≡ 2 ^ suc n - 1 → x / 2 % 2 ^ n ≡ 2 ^ n - 1
+set-high n x e = omega (arith, low-bits n x, pow-succ' 2 n, e, pow-pos n)
+
+-- all set: the stretch ends, once for all of them
+pub bits-set : (n x : ℕ) (p : Seen) → 1 ≤ n → x % 2 ^ n ≡ 2 ^ n - 1 → ended p ≡ bits n x p
+unfolding bits
+bits-set zero x p h e = absurd (let z : ⊥ = omega arith in z)
+bits-set (suc zero) x p h e = met-taken {t = eqb (x % 2) 1} p (ap (λ (k : ℕ). eqb k 1) (set-low 0 x e))
+bits-set (suc (suc n)) x p h e =
+    let f = met-taken {t = eqb (x % 2) 1} p (ap (λ (k : ℕ). eqb k 1) (set-low (suc n) x e)) in
+    sym (ended-again p) ∙ bits-set (suc n) (x / 2) (ended p) (omega arith) (set-high (suc n) x e) ∙ ap (bits (suc n) (x / 2)) f
 
 module _ (g : Geometry) (d : List ℕ) where
   -- Granule by granule ------------------------------------------------------------------------------------------------------

@@ -1,9 +1,10 @@
-// Free space from the GAT alone: one pass over the bytes of the disk's blocks, bit by bit. A stretch goes on from block to block, and no
-// granule number is worked out, so nothing is divided. space::free_count counts by whole bytes: it cannot serve here, for the longest
-// stretch hangs on which bits are clear and not on how many.
+// Free space from the GAT alone: one pass over the bytes of the disk's blocks. A block all of whose granules are free, or all taken, is met
+// in one step, any other bit by bit. A stretch goes on from block to block, and no granule number is worked out, so nothing is divided.
+// space::free_count counts by whole bytes: it cannot serve here, for the longest stretch hangs on which bits are clear and not on how many.
 use meaning::Geometry;
 use meaning::Space;
 ghost use mathlib.Core.Path.{_≡_};
+ghost use Prim.Native.Nat.{_≤_};
 ghost use Rattle.meaning.specs.FreeSpace.{freeSpace};
 ghost use Rattle.free_space.specs.Pass.{Gat, Small, Passed, Tells, ended, met};
 
@@ -50,8 +51,8 @@ fn met(taken: bool, p: Seen) -> Seen
     }
 }
 
-// The granules of one block: so many of the lowest bits of its GAT byte.
-fn block(byte: usize, units: usize, p: Seen) -> Seen
+// The granules of one block, bit by bit: so many of the lowest bits of its GAT byte.
+fn each_bit(byte: usize, units: usize, p: Seen) -> Seen
     requires { ⌜ Small units p ⌝ }
     ensures { λ r. ⌜ Passed units byte p r ⌝ }
 {
@@ -64,6 +65,26 @@ fn block(byte: usize, units: usize, p: Seen) -> Seen
         left -= 1;
     }
     q
+}
+
+// The granules of one block. Where all are free the stretch goes on over them, where all are taken it ends, once for all of them.
+fn block(byte: usize, units: usize, p: Seen) -> Seen
+    requires { ⌜ Small units p × (1 ≤ units) × (units ≤ 8) ⌝ }
+    ensures { λ r. ⌜ Passed units byte p r ⌝ }
+{
+    let all = 1 << units;
+    let low = byte % all;
+    if low == 0 {
+        return Seen {
+            free: p.free,
+            here: p.here + units,
+            longest: p.longest,
+        };
+    }
+    if low == all - 1 {
+        return ended(p);
+    }
+    each_bit(byte, units, p)
 }
 
 // The whole pass. The last stretch ends with the last block.

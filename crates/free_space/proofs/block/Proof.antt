@@ -1,39 +1,63 @@
+use Prim.Native.Nat.{ℕ, _*_, _%_, _^_, _+_, _-_, _≤_}
 use native.Mathlib.Omega.{arith}
-use Prim.Native.Nat.{_+_, _≤_}
-use mathlib.Core.Path.{_≡_, refl}
-use Rattle.free_space.specs.Pass.{bits}
-use Rattle.free_space.proofs.GatPass.{bits-more, bits-none, met-few}
+use mathlib.Core.Path.{ap, sym, _∙_}
+use lib.Pow.{pow-pos}
+use Rattle.free_space.proofs.GatPass.{bits-clear, bits-set, ended-few}
+use Rattle.space.proofs.Clear.{shl-wide}
+use borrow.Author.Needs.{needs}
 use Rattle.free_space.proofs.block.Statement.{statement}
 use Rattle.free_space.proofs.block.Tie as tie
 use Rattle.free_space.proofs.block.Reads as reads
 use Rattle.free_space.proofs.block.Lts as lts
-use Rattle.free_space.proofs.met.Reads as met-reads
+use Rattle.free_space.proofs.each_bit.Reads as each-bit-reads
+use Rattle.free_space.proofs.ended.Reads as ended-reads
 
-abbrev Inv-loop : tie.InvT-loop
-Inv-loop byte units q₀ x₀ left₀ q x left = (bits units byte q₀ ≡ bits left x q) × (q .free + q .here + left ≤ q₀ .free + q₀ .here + units)
+-- src/lib.rt:75:15
+shl-all : tie.Need-shl-all
+shl-all c = search needs
 
-abbrev μ-loop : tie.MeasureT-loop
-μ-loop byte units q₀ x₀ left₀ q x left = left
+-- src/lib.rt:76:15
+rem-low : tie.Need-rem-low
+rem-low c = let w = shl-wide (c .args .units) (c .pre .2) in omega (arith, w, pow-pos (c .args .units))
 
-loop-holds : tie.Need-loop-holds Inv-loop μ-loop
-loop-holds c = (refl, omega arith)
+-- src/lib.rt:80:19
+add-t7 : tie.Need-add-t7
+add-t7 c = search needs
 
-met-requires : tie.Need-met-requires Inv-loop μ-loop
-met-requires c κs = let r = c .before .before .pre .few in record { few = omega arith }
+-- src/lib.rt:78:9
+returns : tie.Need-returns
+returns c = let a = c .before .before .args in let w = shl-wide (a .units) (c .before .before .pre .2) in record { is = bits-clear (a .units) (a .byte) (a .p) (ap (λ (k : ℕ). a .byte % k) (sym w) ∙ c .before .if1 .taken); few = omega arith }
 
-sub-left : tie.Need-sub-left Inv-loop μ-loop
-sub-left c = omega arith
+-- src/lib.rt:84:15
+sub-if2 : tie.Need-sub-if2
+sub-if2 c = let w = shl-wide (c .before .args .units) (c .before .pre .2) in omega (arith, w, pow-pos (c .before .args .units))
 
-loop-less : tie.Need-loop-less Inv-loop μ-loop
-loop-less c = omega arith
+-- src/lib.rt:85:9
+ended-requires : tie.Need-ended-requires
+ended-requires c κs = let r = c .before .before .pre .0 .few in record { few = omega arith }
 
-loop-again : tie.Need-loop-again Inv-loop μ-loop
-loop-again c = (bits-more _ _ _ _ _ (c .before .before .loop .inv .0) (c .before .loop-test .taken) (c .met .ensures), (let k = met-few _ _ _ (c .met .ensures) in omega arith))
+-- src/lib.rt:85:9
+returns-2 : tie.Need-returns-2
+returns-2 c = let a = c .before .before .before .args in let w = shl-wide (a .units) (c .before .before .before .pre .2) in record { is = c .ended .ensures ∙ bits-set (a .units) (a .byte) (a .p) (c .before .before .before .pre .1) (ap (λ (k : ℕ). a .byte % k) (sym w) ∙ c .before .if2 .taken ∙ ap (λ (k : ℕ). k - 1) w); few = ended-few _ _ _ (c .ended .ensures) }
 
-returns : tie.Need-returns Inv-loop μ-loop
-returns c = record { is = bits-none _ _ _ _ (c .before .loop .inv .0) (c .loop-test .left); few = omega arith }
+-- src/lib.rt:87:5
+each-bit-requires : tie.Need-each-bit-requires
+each-bit-requires c κs = c .before .before .pre .0
+
+-- src/lib.rt:71:1
+returns-3 : tie.Need-returns-3
+returns-3 c = c .each-bit .ensures
 
 pub block-spec : {M : Type 1} → statement M
 block-spec =
     tie.close
-    (tie.spec Inv-loop μ-loop loop-holds met-requires sub-left loop-less loop-again returns)
+    (tie.spec
+    shl-all
+    rem-low
+    add-t7
+    returns
+    sub-if2
+    ended-requires
+    returns-2
+    each-bit-requires
+    returns-3)

@@ -32,7 +32,9 @@ wide-requires : tie.Need-wide-requires Inv-loop μ-loop
 wide-requires c κs = search needs
 
 block-requires : tie.Need-block-requires Inv-loop μ-loop
-block-requires c κs = let r = c .before .before .before .before .before .before .before .pre in record { few = omega arith }
+block-requires c κs =
+    let r = c .before .before .before .before .before .before .before .pre in
+    (record { few = omega arith }, r .units-low, r .units-high)
 
 add-b : tie.Need-add-b Inv-loop μ-loop
 add-b c = let r = c .before .before .before .before .before .before .before .before .pre in omega arith
