@@ -225,6 +225,17 @@ uint8_t genie_read_record(const uint8_t *image, size_t image_len, size_t blocks,
                           size_t granule_sectors, uint8_t *handle, size_t handle_len,
                           uint8_t *buffer, size_t buffer_len, size_t *fault_slot);
 
+/* Read bytes: read record with the buffer's own length, 0 to GENIE_HIGHEST_POSITION(granule_sectors),
+ * in the record length's place: a whole file in one call, with one check of the disk. The handle's
+ * record length is tested as ever, and otherwise not used. Position + length past the size is 10; a
+ * read of 0 bytes is accepted at a position up to the size. Refusals 1, 21 to 30 with *fault_slot,
+ * 12, 7, 6, 10. */
+GENIE_CALL
+uint8_t genie_read_bytes(const uint8_t *image, size_t image_len, size_t blocks, size_t units,
+                         size_t start, uint16_t open_code, bool system_disk,
+                         size_t granule_sectors, uint8_t *handle, size_t handle_len,
+                         uint8_t *buffer, size_t buffer_len, size_t *fault_slot);
+
 /* What genie_load_record tells in *kind: the record's code. */
 enum genie_record {
     GENIE_NO_RECORD = 0, /* under a refusal */
@@ -271,6 +282,18 @@ uint8_t genie_write_record(uint8_t *image, size_t image_len, size_t blocks, size
                            size_t granule_sectors, uint8_t *handle, size_t handle_len,
                            bool sequential, const uint8_t *buffer, size_t buffer_len,
                            size_t *fault_slot);
+
+/* Write bytes: write record with the buffer's own length, 0 to
+ * GENIE_HIGHEST_POSITION(granule_sectors), in the record length's place, which is tested as ever and
+ * otherwise not used. A growth is whole or refused. A write of 0 bytes is a write: sequential, the
+ * size becomes the position; the flag B is set. Refusals 1, 21 to 30 with *fault_slot, 12, 7, 6, 11,
+ * 9, 8. */
+GENIE_CALL
+uint8_t genie_write_bytes(uint8_t *image, size_t image_len, size_t blocks, size_t units,
+                          size_t start, uint16_t open_code, bool system_disk,
+                          size_t granule_sectors, uint8_t *handle, size_t handle_len,
+                          bool sequential, const uint8_t *buffer, size_t buffer_len,
+                          size_t *fault_slot);
 
 /* Allot: takes granules until the file owns those of its sectors 0 to k (k is 0 to
  * GENIE_HIGHEST_SECTOR(granule_sectors)); none if it does. The size does not change. Refusals 1, 21

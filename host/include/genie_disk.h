@@ -344,6 +344,15 @@ static inline uint8_t genie_disk_read_record(struct genie_disk *disk, struct gen
 }
 
 GENIE_CALL
+static inline uint8_t genie_disk_read_bytes(struct genie_disk *disk, struct genie_handle *handle,
+                                            void *buffer, size_t buffer_len)
+{
+    disk->place = GENIE_NO_PLACE;
+    return genie_read_bytes(GENIE_DISK_OF(disk), GENIE_BYTES_OF(handle), (uint8_t *)buffer,
+                            buffer_len, &disk->fault_slot);
+}
+
+GENIE_CALL
 static inline uint8_t genie_disk_load_record(struct genie_disk *disk, struct genie_handle *handle,
                                              void *buffer, size_t buffer_len,
                                              struct genie_loaded *loaded)
@@ -377,6 +386,16 @@ static inline uint8_t genie_disk_write_record(struct genie_disk *disk, struct ge
     disk->place = GENIE_NO_PLACE;
     return genie_write_record(GENIE_DISK_OF(disk), GENIE_BYTES_OF(handle), sequential,
                               (const uint8_t *)buffer, buffer_len, &disk->fault_slot);
+}
+
+GENIE_CALL
+static inline uint8_t genie_disk_write_bytes(struct genie_disk *disk, struct genie_handle *handle,
+                                             bool sequential, const void *buffer,
+                                             size_t buffer_len)
+{
+    disk->place = GENIE_NO_PLACE;
+    return genie_write_bytes(GENIE_DISK_OF(disk), GENIE_BYTES_OF(handle), sequential,
+                             (const uint8_t *)buffer, buffer_len, &disk->fault_slot);
 }
 
 GENIE_CALL

@@ -282,24 +282,47 @@ pub(crate) fn by_handle(
     Ok((d, h))
 }
 
-/// "Read record: position + length must not pass the size; the bytes go to the start of the buffer, the
-/// rest of it is untouched, the position advances."
-pub fn read_record(image: &[u8], g: &Geometry, handle: &mut [u8], buffer: &mut [u8]) -> Number {
+/// How many bytes a read or write is of; none is 12.
+type Length = Option<usize>;
+
+/// The read of a record, and that of any number of bytes.
+fn read(
+    image: &[u8],
+    g: &Geometry,
+    handle: &mut [u8],
+    buffer: &mut [u8],
+    length: impl Fn(&Handle) -> Length,
+) -> Number {
     number((|| {
-        let (d, h) = by_handle(image, g, handle, |h| buffer.len() >= h.length())?;
+        let (d, h) = by_handle(image, g, handle, |h| length(h).is_some())?;
+        let length = length(&h).expect("tested");
         if h.level > READING_LEVEL {
             return Err(LEVEL);
         }
-        if h.position() + h.length() > size_of(image, g, h.slot) {
+        if h.position() + length > size_of(image, g, h.slot) {
             return Err(PAST_SIZE);
         }
         let granules = owned(image, g, d, h.slot);
-        for i in 0..h.length() {
+        for i in 0..length {
             buffer[i] = image[place(g, &granules, h.position() + i)];
         }
-        h.advanced().store(handle);
+        h.advanced(length).store(handle);
         Ok(())
     })())
+}
+
+/// "Read record: position + length must not pass the size; the bytes go to the start of the buffer, the
+/// rest of it is untouched, the position advances."
+pub fn read_record(image: &[u8], g: &Geometry, handle: &mut [u8], buffer: &mut [u8]) -> Number {
+    let room = buffer.len();
+    read(image, g, handle, buffer, |h| (room >= h.length()).then(|| h.length()))
+}
+
+/// Read record "with the buffer's own length, 0 to the highest position, in the record length's place; the handle's record
+/// length is tested as ever and otherwise not used"; "a longer buffer is 12, in a read too".
+pub fn read_bytes(image: &[u8], g: &Geometry, handle: &mut [u8], buffer: &mut [u8]) -> Number {
+    let length = buffer.len();
+    read(image, g, handle, buffer, |_| (length <= g.highest_position()).then_some(length))
 }
 
 /// "Read sector k: the file's bytes in sector k are handed back as a part of the lent image, 1 to 256
@@ -353,17 +376,23 @@ fn grow_to(image: &mut [u8], g: &Geometry, d: usize, file: u8, needed: usize) ->
     }
 }
 
-/// "Write record, from the buffer's start: ... Bytes between the old size and the position become zero.
-/// Sequential: size becomes position + length, even if smaller. Random: the larger of both. B is set,
-/// the position advances." "A write takes exactly what the file lacks of ⌈new size/1280⌉ granules."
-pub fn write_record(image: &mut [u8], g: &Geometry, handle: &mut [u8], sequential: bool, buffer: &[u8]) -> Number {
+/// The write of a record, and that of any number of bytes.
+fn write(
+    image: &mut [u8],
+    g: &Geometry,
+    handle: &mut [u8],
+    sequential: bool,
+    buffer: &[u8],
+    length: impl Fn(&Handle) -> Length,
+) -> Number {
     number((|| {
         let (d, h) = by_handle(image, g, handle, |h| {
-            h.position() + h.length() <= g.highest_position() && buffer.len() >= h.length()
+            length(h).is_some_and(|length| h.position() + length <= g.highest_position())
         })?;
+        let length = length(&h).expect("tested");
         changeable(image, g, &h, WRITING_LEVEL)?;
         let old_size = size_of(image, g, h.slot);
-        let end = h.position() + h.length();
+        let end = h.position() + length;
         let new_size = if sequential { end } else { end.max(old_size) };
         grow_to(image, g, d, h.slot, new_size.div_ceil(g.granule_bytes()))?;
 
@@ -371,16 +400,31 @@ pub fn write_record(image: &mut [u8], g: &Geometry, handle: &mut [u8], sequentia
         for i in old_size..h.position() {
             image[place(g, &granules, i)] = 0;
         }
-        for i in 0..h.length() {
+        for i in 0..length {
             image[place(g, &granules, h.position() + i)] = buffer[i];
         }
         let mut this = entry(image, g, h.slot);
         this.set_size(new_size);
         this.set_worked_on();
         put_entry(image, g, h.slot, &this);
-        h.advanced().store(handle);
+        h.advanced(length).store(handle);
         Ok(())
     })())
+}
+
+/// "Write record, from the buffer's start: ... Bytes between the old size and the position become zero.
+/// Sequential: size becomes position + length, even if smaller. Random: the larger of both. B is set,
+/// the position advances." "A write takes exactly what the file lacks of ⌈new size/1280⌉ granules."
+pub fn write_record(image: &mut [u8], g: &Geometry, handle: &mut [u8], sequential: bool, buffer: &[u8]) -> Number {
+    write(image, g, handle, sequential, buffer, |h| (buffer.len() >= h.length()).then(|| h.length()))
+}
+
+/// Write record with the buffer's own length, as in [`read_bytes`]; "position + length over the highest position is 12. A write
+/// of 0 bytes is a write: sequential sets the size to the position (it cuts, or lengthens with zeros and granules), random
+/// never cuts, B is set."
+pub fn write_bytes(image: &mut [u8], g: &Geometry, handle: &mut [u8], sequential: bool, buffer: &[u8]) -> Number {
+    let length = buffer.len();
+    write(image, g, handle, sequential, buffer, |_| (length <= g.highest_position()).then_some(length))
 }
 
 /// "Allot to sector k: takes granules until ⌊k/5⌋ + 1 are owned, none if they are already; size

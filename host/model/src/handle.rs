@@ -69,9 +69,9 @@ impl Handle {
         self.position as usize
     }
 
-    /// "the position advances", by the record length.
-    pub fn advanced(&self) -> Handle {
-        Handle { position: self.position + self.length as u32, ..*self }
+    /// "the position advances", by what was read or written.
+    pub fn advanced(&self, length: usize) -> Handle {
+        Handle { position: self.position + length as u32, ..*self }
     }
 }
 

@@ -8,8 +8,8 @@ use crate::library::Library;
 mod rules {
     pub use crate::bring_back::bring_back;
     pub use crate::calls::{
-        allot, check, count, create, free, kill, list, look_up, name, open, read_record, read_sector, trim,
-        write_record,
+        allot, check, count, create, free, kill, list, look_up, name, open, read_bytes, read_record, read_sector,
+        trim, write_bytes, write_record,
     };
     pub use crate::differences::compare;
     pub use crate::load::load_record;

@@ -167,7 +167,7 @@ pub struct BroughtBack {
 }
 
 /// What a call answers, as a result: its number, and the slot that it sets.
-fn accepted(call: impl FnOnce(&mut usize) -> u8) -> Result<(), Refusal> {
+pub(crate) fn accepted(call: impl FnOnce(&mut usize) -> u8) -> Result<(), Refusal> {
     let mut fault_slot = 0;
     let number = call(&mut fault_slot);
     Refusal::from_answer(number, fault_slot).map_or(Ok(()), Err)
@@ -561,21 +561,6 @@ impl<B: AsRef<[u8]>> Disk<B> {
         Ok(text)
     }
 
-    /// The whole file, sector by sector. Position and record length play no part.
-    pub fn contents(&self, handle: &Handle) -> Result<Vec<u8>, Refusal> {
-        let mut bytes = Vec::new();
-        for k in 0.. {
-            match self.read_sector(handle, k) {
-                Ok(part) => bytes.extend_from_slice(part),
-                Err(Refusal::PastEnd) => break,
-                // Only a file of the largest size: there is no sector number past its last one.
-                Err(Refusal::Range) if k * Geometry::SECTOR_BYTES == self.geometry.highest_position() => break,
-                Err(refusal) => return Err(refusal),
-            }
-        }
-        Ok(bytes)
-    }
-
     /// The entries of all files, system files included, by rising slot: dates, flags, codes and places, which the
     /// library does not tell. The disk is checked first; the entries are then read by this crate.
     ///
@@ -613,6 +598,10 @@ impl<B: AsRef<[u8]>> Disk<B> {
 
 /// Calls that change the disk.
 impl<B: AsMut<[u8]>> Disk<B> {
+    pub(crate) fn image_mut(&mut self) -> &mut [u8] {
+        self.image.as_mut()
+    }
+
     /// Creates a file of size 0, or opens the one that is there.
     ///
     /// ```

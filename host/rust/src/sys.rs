@@ -30,10 +30,13 @@ macro_rules! exports {
             create = genie_create(changed image g, bytes name, birth birth, out old, room handle, out place,
                 fault fault_slot);
             read_record = genie_read_record(disk image g, room handle, room buffer, fault fault_slot);
+            read_bytes = genie_read_bytes(disk image g, room handle, room buffer, fault fault_slot);
             load_record = genie_load_record(disk image g, room handle, room buffer, out kind, out address, out count,
                 out position, fault fault_slot);
             read_sector = genie_read_sector(disk image g, bytes handle, number k, out from, out to, fault fault_slot);
             write_record = genie_write_record(changed image g, room handle, flag sequential, bytes buffer,
+                fault fault_slot);
+            write_bytes = genie_write_bytes(changed image g, room handle, flag sequential, bytes buffer,
                 fault fault_slot);
             allot = genie_allot(changed image g, bytes handle, number k, fault fault_slot);
             trim = genie_trim(changed image g, bytes handle, fault fault_slot);

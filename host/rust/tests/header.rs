@@ -14,7 +14,7 @@ mod declared;
 fn the_same_functions_with_the_same_arguments() {
     let ours = declared::of_table(include_str!("../src/sys.rs"));
     let theirs = declared::of_header(HEADER);
-    assert_eq!(ours.len(), 18);
+    assert_eq!(ours.len(), 20);
     assert_eq!(ours, theirs);
 }
 

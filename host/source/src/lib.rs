@@ -16,7 +16,7 @@ compile_error!(
 /// A module for each crate: the lines left, and that its types may be copied, as all plain data may in Rattle.
 #[cfg(any(target_pointer_width = "64", feature = "no-proof-covers-32-bits"))]
 // What only programs call is dead here, and a parameter may be there for a contract alone.
-#[allow(clippy::all, dead_code, improper_ctypes_definitions, unused_imports, unused_variables)]
+#[allow(clippy::all, dead_code, improper_ctypes_definitions, non_snake_case, unused_imports, unused_variables)]
 mod proved {
     include!(concat!(env!("OUT_DIR"), "/proved.rs"));
 }

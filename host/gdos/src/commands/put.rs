@@ -45,7 +45,7 @@ there already is told.
 
 A file that is on the disk already is an error unless --force is given. Then its content is replaced and space that
 it no longer needs is given back; its date, codes, record length and flags stay, for no call of the system changes
-them. (To have new ones: gdos rm, then gdos put.) Only an empty file cannot be put over one that is not empty.
+them. (To have new ones: gdos rm, then gdos put.)
 
 New files get today's date (UTC). The disk's years end with 1995: later days are written as that year's, and a note
 says so. Both codes are the open code, that is no password, unless --code says otherwise.
@@ -224,7 +224,11 @@ fn put_one(
     force: bool,
 ) -> Result<bool, Failure> {
     let old = create(opened, source, new, force)?;
-    let Source { typed, host, bytes } = source;
+    let Source { typed, bytes, .. } = source;
+    // Nothing is to be written, and a write of nothing would mark the file as worked on.
+    if bytes.is_empty() && !old {
+        return Ok(old);
+    }
     let (path, disk) = (&opened.path, &mut opened.disk);
     let wants = Wants::of(disk, typed, bytes.len());
     write(disk, typed, bytes, password).map_err(|refusal| {
@@ -238,12 +242,6 @@ fn put_one(
         }
     })?;
     let handle = disk.open(&typed.name, 256, password).map_err(refused(path, typed))?;
-    if bytes.is_empty() && disk.read_sector(&handle, 0).is_ok() {
-        return Err(Failure::Wrong(format!(
-            "{host} is empty and {} is not; no call of the system empties a file: remove it first, by gdos rm",
-            typed.text
-        )));
-    }
     disk.trim(&handle).map_err(refused(path, typed))?;
     Ok(old)
 }
@@ -277,25 +275,18 @@ impl fmt::Display for Wants {
     }
 }
 
-/// Writes the file from its start: records of 256 bytes, then one of what is left. All its granules are taken first, in one
-/// call: so where the lowest free ones would be too scattered for the slots that are left, longer stretches are taken.
+/// Writes the whole file in one call. All its granules are taken at once: so where the lowest free ones would be too scattered
+/// for the slots that are left, longer stretches are taken. More bytes than any position has are refused for want of space,
+/// as the largest file would be.
 fn write(disk: &mut Disk, typed: &Typed, bytes: &[u8], password: Password) -> Result<(), Refusal> {
-    let mut position = 0;
-    if let Some(last) = bytes.len().min(disk.geometry().highest_position()).checked_sub(1) {
-        let handle = disk.open(&typed.name, 1, password)?;
-        disk.allot(&handle, last / Geometry::SECTOR_BYTES)?;
-    }
-    let (records, rest) = bytes.split_at(bytes.len() / 256 * 256);
-    for part in [records, rest].into_iter().filter(|part| !part.is_empty()) {
-        let length = part.len().min(256);
-        let mut handle = disk.open(&typed.name, length, password)?;
-        handle.set_position(position);
-        for record in part.chunks(length) {
-            disk.write_record(&mut handle, Kind::Sequential, record)?;
+    let mut handle = disk.open(&typed.name, 256, password)?;
+    match bytes.len() > disk.geometry().highest_position() {
+        true => {
+            disk.allot(&handle, disk.geometry().highest_position() / Geometry::SECTOR_BYTES - 1)?;
+            Err(Refusal::Range)
         }
-        position = handle.position();
+        false => disk.write_bytes(&mut handle, Kind::Sequential, bytes),
     }
-    Ok(())
 }
 
 fn report(opened: &Opened, source: &Source, old: bool) -> Result<(String, Json), Failure> {
