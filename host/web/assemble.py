@@ -23,7 +23,7 @@ def allowed(text):
 
 style, script = read("page.css"), read("page.js")
 # preset("sd40", 40, 2, 200, "5 inch, ..."), hard("hd10", 10, "a hard disk ..."): the list that gdos has.
-presets = re.findall(r'^    (?:preset|hard)\("(\w+)",(?: \d+,)+ "([^"]*)"\),$', read("../gdos/src/shape/preset.rs"), re.MULTILINE)
+presets = re.findall(r'^    (?:preset|hard)\("(\w+)",(?: \d+,)+ "([^"]*)"\),$', read("../rust/src/preset.rs"), re.MULTILINE)
 assert presets, "gdos has no presets"
 parts = {
     "policy": f"default-src 'none'; script-src {allowed(script)} 'wasm-unsafe-eval'; style-src {allowed(style)}; img-src data:; "

@@ -3,6 +3,7 @@
 use crate::args::Spec;
 use crate::commands::{Command, COMMANDS};
 use crate::shape;
+use genie_dos::Preset;
 
 const ABOUT: &str = "\
 gdos: Genie-DOS disk images (TRSDOS family, 1983)
@@ -88,7 +89,7 @@ fn option(spec: &Spec) -> String {
 
 fn presets() -> String {
     let mut text = String::from("Presets\n");
-    for preset in shape::PRESETS {
+    for preset in Preset::ALL {
         let g = preset.geometry;
         text += &format!(
             "  {:<9}{:>3} blocks of {} units, directory at sector {:>5}: {}\n",

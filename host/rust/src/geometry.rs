@@ -47,6 +47,8 @@ pub struct Geometry {
 }
 
 impl Geometry {
+    /// The code of "no password" where none is stated: the TRSDOS family's code of a blank password.
+    pub const OPEN_CODE: u16 = 0x4296;
     /// Bytes in a sector.
     pub const SECTOR_BYTES: usize = 256;
     /// Sectors that a granule can have; the first is meant where nothing is stated.

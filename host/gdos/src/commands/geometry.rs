@@ -43,12 +43,12 @@ fn run(args: &Args) -> Result<Output, Failure> {
     let image = only_image(args)?;
     let wanted = Wanted::from_args(args)?;
     match args.has("set") {
-        true if !wanted.says_anything() && !args.has("search") => Err(Failure::Wrong(
+        true if !wanted.known.says_anything() && !args.has("search") => Err(Failure::Wrong(
             "which geometry is to be kept? State it, by --preset or by --blocks, --units and --start, or say --search"
                 .to_string(),
         )),
         true => {
-            let opened = match wanted.says_anything() {
+            let opened = match wanted.known.says_anything() {
                 true => Opened::unchecked(&wanted, image)?,
                 false => Opened::searched(&wanted, image)?,
             };

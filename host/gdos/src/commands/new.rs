@@ -54,7 +54,7 @@ neither a system nor a label on the disk.
 fn run(args: &Args) -> Result<Output, Failure> {
     let image = only_image(args)?;
     let path = shown(image);
-    let geometry = Wanted::from_args(args)?.whole().ok_or_else(|| {
+    let geometry = Wanted::from_args(args)?.known.whole().ok_or_else(|| {
         Failure::Wrong("a new disk needs its geometry: --preset, or --blocks, --units and --start".to_string())
     })?;
     let sectors = args.number("directory")?.unwrap_or(10);

@@ -7,9 +7,10 @@ use crate::args::Args;
 use crate::failure::Failure;
 use crate::host;
 use crate::json::Json;
-use crate::search::{candidate_json, candidate_lines, search, Reading, Search, Verdict, WENT_ON};
+use crate::search::{candidate_json, candidate_lines, WENT_ON};
 use crate::shape::{self, Wanted};
 use crate::stated;
+use genie_dos::search::{Reading, Search, Verdict};
 use std::path::Path;
 
 pub const COMMAND: Command = Command {
@@ -36,7 +37,7 @@ fn run(args: &Args) -> Result<Output, Failure> {
     let path = shown(image);
     let wanted = Wanted::from_args(args)?;
     let bytes = host::read(Path::new(image))?;
-    let search = search(&bytes, &wanted);
+    let search = Search::new(&bytes, &wanted.known);
     let mut failures = Vec::new();
     if search.intact.is_empty() {
         let failure = stated::none_fits(&search, &wanted, &bytes, &path);
@@ -58,18 +59,11 @@ fn run(args: &Args) -> Result<Output, Failure> {
         ("went_on", search.went_on.into()),
         ("geometries", Json::list(search.intact.iter().map(fit_json))),
         ("ranking", Json::list(search.ranking.iter().map(candidate_json))),
-        ("taken", taken(&search).map(shape::json).into()),
+        ("taken", search.geometry().map(shape::json).into()),
         ("why", told(&search).into()),
         ("failures", super::failures_json(&failures)),
     ]);
     Ok(Output { text: text.into_bytes(), json, failures, ..Output::default() })
-}
-
-fn taken(search: &Search) -> Option<genie_dos::Geometry> {
-    match search.verdict {
-        Verdict::Taken(geometry) => Some(geometry),
-        _ => None,
-    }
 }
 
 /// What a command does that finds the geometry by itself.
@@ -97,6 +91,7 @@ fn judged(search: &Search) -> String {
             let rival = shape::options(rival, "");
             return format!("none taken: with one byte damaged {rival} would fit as well");
         }
+        _ => "something speaks against each",
     };
     format!("none taken: {why}")
 }

@@ -3,7 +3,7 @@
 //! Words `key = value`, blanks and ends of lines between them; `#` begins a remark. A word alone is a preset's name. A key
 //! that is not known is an error that names it: it may say something that this program would have to heed.
 
-use super::preset::{named, OPEN_CODE};
+use super::words::named;
 use crate::args::number;
 use genie_dos::Geometry;
 
@@ -71,7 +71,7 @@ pub fn parse(text: &str) -> Result<Geometry, String> {
     let [blocks, units, start, open_code, granule] = numbers;
     let missing = |key: &str| format!("it does not state {key}");
     let open_code = match open_code {
-        None => OPEN_CODE,
+        None => Geometry::OPEN_CODE,
         Some(code) => u16::try_from(code).map_err(|_| "open_code has 16 bits, at most FFFFH".to_string())?,
     };
     let geometry = Geometry::new(
@@ -129,7 +129,7 @@ mod tests {
 
     #[test]
     fn other_ways_to_write_it() {
-        let dd40 = Geometry::new(48, 3, 360, OPEN_CODE);
+        let dd40 = Geometry::new(48, 3, 360, Geometry::OPEN_CODE);
         for text in [
             "dd40",
             "DD40\n",

@@ -1,9 +1,20 @@
 //! A geometry in words, as options to type and for `--json`.
 
-use super::preset::preset_of;
 use crate::json::Json;
 use crate::text::counted;
-use genie_dos::Geometry;
+use genie_dos::{Geometry, Preset};
+
+/// The name of the preset that a geometry is of.
+pub fn preset_of(geometry: Geometry) -> Option<&'static str> {
+    Preset::of(geometry).map(|preset| preset.name)
+}
+
+/// The geometry of a preset's name.
+pub fn named(name: &str) -> Result<Geometry, String> {
+    let names = || Preset::ALL.iter().map(|preset| preset.name).collect::<Vec<_>>().join(", ");
+    let found = Preset::named(name).map(|preset| preset.geometry);
+    found.ok_or_else(|| format!("there is no preset {name:?}; there are {}", names()))
+}
 
 /// The options that state a geometry, with the preset that it is of: `--blocks 48 --units 3 --start 360 (preset dd40)`.
 /// Those of a second image end in a suffix.

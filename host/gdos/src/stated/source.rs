@@ -3,8 +3,8 @@
 use super::sidecar::Sidecar;
 use super::unclear;
 use crate::failure::Failure;
-use crate::search::{search, Verdict};
 use crate::shape::{self, Wanted};
+use genie_dos::search::{Search, Verdict};
 use genie_dos::{Disk, Geometry, Refusal};
 use std::ffi::OsStr;
 use std::path::Path;
@@ -68,8 +68,8 @@ pub struct Found {
 /// beside it. None if it has to be searched.
 fn stated(wanted: &Wanted, image: &OsStr, image_len: usize) -> Result<Option<Found>, Failure> {
     let found = |geometry, source| Ok(Some(Found { geometry, source }));
-    if wanted.says_anything() {
-        return match (wanted.whole(), wanted.fitting(image_len).as_slice()) {
+    if wanted.known.says_anything() {
+        return match (wanted.known.whole(), wanted.known.fitting(image_len).as_slice()) {
             (Some(geometry), _) | (None, &[geometry]) => found(geometry, Source::Options),
             _ => Ok(None),
         };
@@ -77,11 +77,11 @@ fn stated(wanted: &Wanted, image: &OsStr, image_len: usize) -> Result<Option<Fou
     if let Some(text) = std::env::var_os(VARIABLE).filter(|text| !text.is_empty()) {
         let wrong = |why| Failure::Wrong(format!("{VARIABLE} states no geometry: {why}"));
         let geometry = shape::parse(&text.to_string_lossy()).map_err(wrong)?;
-        return found(wanted.completed(geometry), Source::Environment);
+        return found(wanted.known.completed(geometry), Source::Environment);
     }
     let sidecar = Sidecar::of(Path::new(image));
     match sidecar.read()? {
-        Some(geometry) => found(wanted.completed(geometry), Source::Beside(sidecar.shown().to_string())),
+        Some(geometry) => found(wanted.known.completed(geometry), Source::Beside(sidecar.shown().to_string())),
         None => Ok(None),
     }
 }
@@ -97,7 +97,7 @@ pub fn find(wanted: &Wanted, image: &OsStr, bytes: &[u8]) -> Result<Found, Failu
 
 /// What the search finds, whatever is stated.
 pub fn searched(wanted: &Wanted, path: &str, bytes: &[u8]) -> Result<Found, Failure> {
-    let search = search(bytes, wanted);
+    let search = Search::new(bytes, &wanted.known);
     match search.verdict {
         Verdict::Taken(geometry) => Ok(Found { geometry, source: Source::Search { went_on: search.went_on } }),
         _ => Err(unclear::failure(&search, wanted, bytes, path)),

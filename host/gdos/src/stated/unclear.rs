@@ -1,9 +1,10 @@
 //! What is said where no geometry is stated and the search takes none.
 
 use crate::failure::{Failure, Ranking};
-use crate::search::{candidate_brief, candidate_json, candidate_lines, Candidate, Reading, Search, Verdict, WENT_ON};
+use crate::search::{candidate_brief, candidate_json, candidate_lines, WENT_ON};
 use crate::shape::{self, preset_of, Wanted};
 use crate::text::counted;
+use genie_dos::search::{Candidate, Reading, Search, Verdict};
 use genie_dos::{Counts, Disk, Explained, Geometry, Refusal};
 
 /// How many places are told.
@@ -27,19 +28,20 @@ pub fn failure(search: &Search, wanted: &Wanted, image: &[u8], path: &str) -> Fa
             to_state(search, wanted, path, why, Vec::new())
         }
         Verdict::Blank(blank) => {
-            let also = format!("  also, without files: {}", shape::options(blank, wanted.suffix()));
+            let also = format!("  also, without files: {}", shape::options(blank, wanted.suffix));
             to_state(search, wanted, path, "the disk may have been formatted anew and be empty", vec![also])
         }
         Verdict::OtherUnits(rival) => {
-            let also = format!("  also, with one byte damaged: {}", shape::options(rival, wanted.suffix()));
+            let also = format!("  also, with one byte damaged: {}", shape::options(rival, wanted.suffix));
             to_state(search, wanted, path, "other blocks and units fit nearly as well", vec![also])
         }
+        _ => to_state(search, wanted, path, "something speaks against each geometry", Vec::new()),
     }
 }
 
 /// The refusal of a change whose geometry was only searched.
 pub fn not_stated(found: Geometry, wanted: &Wanted, path: &str) -> Failure {
-    let options = shape::options(found, wanted.suffix());
+    let options = shape::options(found, wanted.suffix);
     let typed = match preset_of(found) {
         Some(preset) => format!("--preset {preset}"),
         None => options.clone(),
@@ -53,7 +55,7 @@ pub fn not_stated(found: Geometry, wanted: &Wanted, path: &str) -> Failure {
 /// The refusal of an image under none of whose geometries the disk is consistent: 1 if none has its length; the fault
 /// where the search ranks a directory first; otherwise the faults under those that are of a known kind of disk.
 pub fn none_fits(search: &Search, wanted: &Wanted, image: &[u8], path: &str) -> Failure {
-    let and_options = if wanted.says_anything() { " and the options" } else { "" };
+    let and_options = if wanted.known.says_anything() { " and the options" } else { "" };
     if search.verdict == Verdict::NoLength {
         let length = shape::length(image.len());
         let why = format!("no geometry fits its length of {length} bytes{and_options}");
@@ -64,7 +66,7 @@ pub fn none_fits(search: &Search, wanted: &Wanted, image: &[u8], path: &str) -> 
     }
     let mut detail = format!("under none of the {} geometries that fit its length{and_options}", search.tried);
     let known: Vec<(&str, Explained)> =
-        wanted.fitting_any_granule(image.len()).into_iter().filter_map(known_fault(image)).collect();
+        wanted.known.fitting_any_granule(image.len()).into_iter().filter_map(known_fault(image)).collect();
     for (name, fault) in &known {
         detail += &format!("; by --preset {name}: {} ({}): {fault}", fault.fault.kind.number(), fault.fault.kind);
     }
@@ -92,8 +94,8 @@ fn damaged(search: &Search, wanted: &Wanted, image: &[u8], path: &str) -> Option
     let refusal = disk.check().err()?;
     let mut lines = vec!["nothing is read or written; what speaks for each directory, and the options to type:".into()];
     lines.extend(ranked_lines(search, |candidate| match std::ptr::eq(candidate, first) {
-        true => candidate_brief(candidate, wanted.suffix()).into_iter().collect(),
-        false => candidate_lines(candidate, wanted.suffix()),
+        true => candidate_brief(candidate, wanted.suffix).into_iter().collect(),
+        false => candidate_lines(candidate, wanted.suffix),
     }));
     match search.ranking.iter().filter(|candidate| candidate.is_intact()).count() {
         0 => {}
@@ -127,7 +129,7 @@ fn to_state(search: &Search, wanted: &Wanted, path: &str, why: &str, more: Vec<S
         "{path}: {why}, so the geometry is to be stated; nothing is read or written; what speaks for each directory, and \
          the options to type:"
     );
-    let mut lines = ranked_lines(search, |candidate| candidate_lines(candidate, wanted.suffix()));
+    let mut lines = ranked_lines(search, |candidate| candidate_lines(candidate, wanted.suffix));
     lines.extend(more);
     lines.extend(went_on(search));
     Failure::Unclear { message, ranking: Ranking { lines, json: ranked_json(search) } }
@@ -151,7 +153,7 @@ fn no_name(search: &Search, wanted: &Wanted, path: &str) -> Failure {
 }
 
 fn chosen_by_options(search: &Search, wanted: &Wanted, message: String) -> Failure {
-    let suffix = wanted.suffix();
+    let suffix = wanted.suffix;
     let mut lines: Vec<String> = search.intact.iter().map(|reading| format!("  {}", fit(reading, suffix))).collect();
     lines.push(format!("by its options or, if it has one, by --preset{suffix}"));
     lines.extend(went_on(search));

@@ -7,9 +7,10 @@
 use core::alloc::{GlobalAlloc, Layout};
 use core::cell::UnsafeCell;
 use core::sync::atomic::{AtomicUsize, Ordering};
+use genie_dos::search::{Known, Search};
 use genie_dos::{Date, Disk, Geometry, Kind, NewFile, Refusal};
 
-const STORE: usize = 32 << 20;
+const STORE: usize = 64 << 20;
 
 /// A store from which memory is handed out and never taken back.
 struct Store {
@@ -67,6 +68,7 @@ fn tried() -> Result<(), Refusal> {
     disk.write_record(&mut handle, Kind::Sequential, &[0x55; 256])?;
     assert_eq!(disk.listing()?, "FILES 1\nPULS01/DAT 256 1\nFREE 28\n");
     assert_eq!(disk.map()?.cells.len(), 32);
+    assert_eq!(Search::new(disk.image(), &Known::default()).geometry(), Some(geometry));
 
     let mut image = disk.into_image();
     image[81 * 256 + 0x80] ^= 0xff;

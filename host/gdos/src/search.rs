@@ -1,11 +1,10 @@
 //! What the search found, in words and for `--json`.
 
-use super::evidence::Evidence;
-use super::ranking::{Candidate, Reading};
 use crate::fault;
 use crate::json::Json;
 use crate::shape;
 use crate::text::counted;
+use genie_dos::search::{Candidate, Evidence, Reading};
 use genie_dos::Counts;
 
 /// What is said where the search went on.

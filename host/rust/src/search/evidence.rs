@@ -1,14 +1,16 @@
 //! What speaks for a directory at a place of the image, and what against it.
 
 use super::slot::{Says, Slots};
-use genie_dos::Geometry;
-use std::ops::Range;
+use crate::Geometry;
+use alloc::vec::Vec;
+use core::ops::Range;
 
 /// Sectors that a directory may have.
 const LENGTHS: [usize; 5] = [10, 15, 20, 25, 30];
 
 /// What was found where a directory would begin.
 #[derive(Clone, Debug, PartialEq, Eq)]
+#[non_exhaustive]
 pub struct Evidence {
     /// The directory's first sector.
     pub start: usize,
@@ -95,15 +97,15 @@ impl Evidence {
     }
 
     /// How much speaks for it, to rank by: more is better.
-    pub fn weight(&self) -> (usize, std::cmp::Reverse<usize>) {
-        (2 * self.names + self.nearly + self.beyond, std::cmp::Reverse(self.against))
+    pub fn weight(&self) -> (usize, core::cmp::Reverse<usize>) {
+        (2 * self.names + self.nearly + self.beyond, core::cmp::Reverse(self.against))
     }
 }
 
 #[cfg(test)]
 mod tests {
     use super::*;
-    use genie_dos::{Date, Disk, NewFile};
+    use crate::{Date, Disk, NewFile};
 
     const GEOMETRY: Geometry = Geometry::new(16, 2, 80, 0x4296);
 

@@ -1,7 +1,8 @@
 //! How well a geometry fits the directory at its start: what hangs on blocks and units, which is where the runs lie and
 //! what the GAT says of them. It is read plainly, consistent or not.
 
-use genie_dos::Geometry;
+use crate::Geometry;
+use alloc::vec::Vec;
 
 /// A geometry held against runs and GAT.
 #[derive(Clone, Debug)]
@@ -101,7 +102,7 @@ impl Fit {
 #[cfg(test)]
 mod tests {
     use super::*;
-    use genie_dos::{Date, Disk, Kind, NewFile};
+    use crate::{Date, Disk, Kind, NewFile};
 
     const GEOMETRY: Geometry = Geometry::new(16, 2, 80, 0x4296);
 

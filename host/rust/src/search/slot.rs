@@ -5,7 +5,7 @@
 //! parts them it nearly does, so that no single damaged byte makes a file's trace vanish. A slot in which HIT and entry
 //! contradict each other otherwise speaks against it.
 
-use genie_dos::{Entry, Geometry, Name};
+use crate::{Entry, Geometry, Name};
 
 /// What a slot says.
 #[derive(Clone, Copy, Debug, PartialEq, Eq)]
@@ -57,7 +57,7 @@ impl<'a> Slots<'a> {
 
     /// The name in a slot, well formed or not.
     pub fn name(&self, slot: usize) -> [u8; Name::LEN] {
-        std::array::from_fn(|i| self.entry(slot, 0x05 + i))
+        core::array::from_fn(|i| self.entry(slot, 0x05 + i))
     }
 
     /// What a slot says by its entry and its HIT byte.

@@ -10,14 +10,16 @@
 use super::blank::blank_elsewhere;
 use super::evidence::Evidence;
 use super::fit::Fit;
+use super::known::Known;
 use super::ranking::{consistent, everywhere, ranked, Candidate, Reading};
-use crate::shape::{preset_of, Wanted};
-use genie_dos::{Disk, Geometry};
+use crate::{Disk, Geometry, Preset};
+use alloc::vec::Vec;
 
 /// All that the search found.
 #[derive(Clone, Debug)]
+#[non_exhaustive]
 pub struct Search {
-    /// How many geometries that fit the image's length and the options were tried.
+    /// How many geometries that fit the image's length and what is known were tried.
     pub tried: usize,
     /// Whether none with granules of 5 sectors was consistent, so that 10 and 20 were tried though nobody said so.
     pub went_on: bool,
@@ -25,15 +27,17 @@ pub struct Search {
     pub intact: Vec<Reading>,
     /// The places, the strongest first.
     pub ranking: Vec<Candidate>,
+    /// What may be done with it.
     pub verdict: Verdict,
 }
 
 /// What may be done with it.
-#[derive(Clone, Debug, PartialEq, Eq)]
+#[derive(Clone, Copy, Debug, PartialEq, Eq)]
+#[non_exhaustive]
 pub enum Verdict {
     /// This is the disk's geometry.
     Taken(Geometry),
-    /// No geometry has this length and agrees with the options.
+    /// No geometry has this length and agrees with what is known.
     NoLength,
     /// The disk is consistent under none.
     Damaged,
@@ -51,26 +55,36 @@ pub enum Verdict {
     OtherUnits(Geometry),
 }
 
-/// Searches an image for its geometry, as far as the options leave it open.
-pub fn search(image: &[u8], wanted: &Wanted) -> Search {
-    let everywhere = everywhere(image);
-    let first = wanted.fitting(image.len());
-    let intact = consistent(image, &everywhere, &first);
-    let all = wanted.fitting_any_granule(image.len());
-    let larger = &all[first.len()..];
-    if !intact.is_empty() || larger.is_empty() {
-        return judged(image, wanted, &everywhere, &first, &first, intact, false);
+impl Search {
+    /// Searches an image for its geometry, as far as what is known leaves it open.
+    pub fn new(image: &[u8], known: &Known) -> Search {
+        let everywhere = everywhere(image);
+        let first = known.fitting(image.len());
+        let intact = consistent(image, &everywhere, &first);
+        let all = known.fitting_any_granule(image.len());
+        let larger = &all[first.len()..];
+        if !intact.is_empty() || larger.is_empty() {
+            return judged(image, known, &everywhere, &first, &first, intact, false);
+        }
+        let intact = consistent(image, &everywhere, larger);
+        // Where none is consistent, what is ranked are the usual readings, if the image has the length of one.
+        let told = if intact.is_empty() && !first.is_empty() { &first } else { larger };
+        judged(image, known, &everywhere, told, &all, intact, true)
     }
-    let intact = consistent(image, &everywhere, larger);
-    // Where none is consistent, what is ranked are the usual readings, if the image has the length of one.
-    let told = if intact.is_empty() && !first.is_empty() { &first } else { larger };
-    judged(image, wanted, &everywhere, told, &all, intact, true)
+
+    /// The geometry that may be taken, if there is one.
+    pub fn geometry(&self) -> Option<Geometry> {
+        match self.verdict {
+            Verdict::Taken(geometry) => Some(geometry),
+            _ => None,
+        }
+    }
 }
 
 /// What is made of the geometries under which the disk is consistent. Those told of are ranked; any of those tried may be a rival.
 fn judged(
     image: &[u8],
-    wanted: &Wanted,
+    known: &Known,
     everywhere: &[Evidence],
     told: &[Geometry],
     tried: &[Geometry],
@@ -78,11 +92,11 @@ fn judged(
     went_on: bool,
 ) -> Search {
     let ranking = ranked(image, everywhere, told, &intact);
-    let verdict = verdict(image, wanted, tried, &intact, everywhere);
+    let verdict = verdict(image, known, tried, &intact, everywhere);
     Search { tried: tried.len(), went_on, intact, ranking, verdict }
 }
 
-fn verdict(image: &[u8], wanted: &Wanted, tried: &[Geometry], intact: &[Reading], everywhere: &[Evidence]) -> Verdict {
+fn verdict(image: &[u8], known: &Known, tried: &[Geometry], intact: &[Reading], everywhere: &[Evidence]) -> Verdict {
     let geometry = match intact {
         _ if tried.is_empty() => return Verdict::NoLength,
         [] => return Verdict::Damaged,
@@ -92,7 +106,7 @@ fn verdict(image: &[u8], wanted: &Wanted, tried: &[Geometry], intact: &[Reading]
     let sectors = Disk::new(image, geometry).directory_sectors().unwrap_or(10);
     let own = geometry.start..geometry.start + sectors;
     // Whoever says where the directory begins is believed.
-    if wanted.start().is_none() {
+    if known.start.is_none() {
         let here = match everywhere.iter().find(|place| place.start == geometry.start) {
             Some(here) => here,
             None => return Verdict::NoName,
@@ -135,7 +149,7 @@ fn rival(image: &[u8], geometry: Geometry, sectors: usize, tried: &[Geometry]) -
     others.into_iter().find(|&other| {
         let fit = Fit::of(image, other, sectors);
         let likelier =
-            fit.unexplained() <= own.unexplained() || preset_of(other).is_some() && preset_of(geometry).is_none();
+            fit.unexplained() <= own.unexplained() || Preset::of(other).is_some() && Preset::of(geometry).is_none();
         let otherwise_damaged = fit.faults() == 0 && other.granule_sectors != geometry.granule_sectors;
         (fit.is_one_byte_away() || otherwise_damaged) && !fit.same_granules(&own) && likelier
     })
@@ -144,8 +158,7 @@ fn rival(image: &[u8], geometry: Geometry, sectors: usize, tried: &[Geometry]) -
 #[cfg(test)]
 mod tests {
     use super::*;
-    use crate::shape::{anything, PRESETS};
-    use genie_dos::{Date, Kind, NewFile, Password};
+    use crate::{Date, Kind, NewFile, Password};
 
     /// A disk with so many files; what is in them is of many kinds, and none of it is a directory.
     fn disk(geometry: Geometry, sectors: usize, files: usize, spare: u8) -> Vec<u8> {
@@ -165,7 +178,7 @@ mod tests {
             };
             let mut handle = disk.open(&name, 256, Password::Unchecked).unwrap();
             for record in 0..records {
-                let bytes: [u8; 256] = std::array::from_fn(|i| byte(256 * record + i));
+                let bytes: [u8; 256] = core::array::from_fn(|i| byte(256 * record + i));
                 // Where the disk is full the file is as long as it got.
                 if disk.write_record(&mut handle, Kind::Sequential, &bytes).is_err() {
                     break;
@@ -196,7 +209,7 @@ mod tests {
             // Where the new HIT byte read as an older entry's flags is not in use, the older one is consistent.
             if Disk::new(image.as_slice(), old).check().is_ok() {
                 tried += 1;
-                assert!(!matches!(search(&image, &anything()).verdict, Verdict::Taken(_)), "{number}");
+                assert!(!matches!(Search::new(&image, &Known::default()).verdict, Verdict::Taken(_)), "{number}");
             }
         }
         assert!(tried > 5, "{tried}");
@@ -205,7 +218,7 @@ mod tests {
     /// A disk with removed files is found like any other.
     #[test]
     fn removed_files_do_not_speak() {
-        for geometry in PRESETS.iter().map(|preset| preset.geometry).filter(|g| g.blocks * g.units > 100) {
+        for geometry in Preset::ALL.iter().map(|preset| preset.geometry).filter(|g| g.blocks * g.units > 100) {
             for sectors in [10, 20, 30] {
                 let mut disk = Disk::new(disk(geometry, sectors, 28, 0), geometry);
                 for number in (0..28).filter(|number| number % 4 > 0) {
@@ -213,7 +226,7 @@ mod tests {
                     let handle = disk.open(&name, 256, Password::Unchecked).unwrap();
                     disk.kill(&handle).unwrap();
                 }
-                let found = search(disk.image(), &anything());
+                let found = Search::new(disk.image(), &Known::default());
                 assert_eq!(found.verdict, Verdict::Taken(geometry), "{:?}", found.ranking);
             }
         }
@@ -239,7 +252,7 @@ mod tests {
             for _ in 0..next(5) {
                 image[next(len)] = next(256) as u8;
             }
-            let found = search(&image, &anything());
+            let found = Search::new(&image, &Known::default());
             match found.verdict {
                 Verdict::Taken(geometry) => assert_eq!(Disk::new(image.as_slice(), geometry).check(), Ok(())),
                 Verdict::NoLength => panic!("every length is one"),
@@ -262,7 +275,7 @@ mod tests {
                 for damage in [0x01, 0x02, 0x10, 0xff] {
                     let mut image = image.clone();
                     image[at] ^= damage;
-                    if let Verdict::Taken(taken) = search(&image, &anything()).verdict {
+                    if let Verdict::Taken(taken) = Search::new(&image, &Known::default()).verdict {
                         assert_eq!(taken.granule_sectors, 5, "start {start}, byte {at}, {damage:02X}H");
                     }
                 }
@@ -280,11 +293,11 @@ mod tests {
             Geometry::new(60, 4, 1200, 0x4296).with_granule_sectors(10),
             Geometry::new(40, 6, 2400, 0x4296).with_granule_sectors(20),
         ];
-        for geometry in PRESETS.iter().map(|preset| preset.geometry).chain(others) {
+        for geometry in Preset::ALL.iter().map(|preset| preset.geometry).chain(others) {
             for (sectors, files) in [(10, 1), (10, 3), (10, 20), (15, 8), (30, 60)] {
                 for spare in [0, 0xff] {
                     let image = disk(geometry, sectors, files, spare);
-                    let found = search(&image, &anything());
+                    let found = Search::new(&image, &Known::default());
                     let told = format!("{geometry:?} {sectors} {files} {spare:02X}H: {:?}", found.ranking);
                     assert_eq!(found.ranking.len(), 1, "{told}");
                     match found.verdict {

@@ -1,9 +1,8 @@
 //! Whether the place of a known kind of disk looks like a directory without files: no name can speak for that one.
 
 use super::slot::Slots;
-use crate::shape::PRESETS;
-use genie_dos::Geometry;
-use std::ops::Range;
+use crate::{Geometry, Preset};
+use core::ops::Range;
 
 /// Slots that may be out of order, as one damaged byte leaves them.
 const ODD: usize = 1;
@@ -11,7 +10,7 @@ const ODD: usize = 1;
 /// A known kind of disk of the image's length whose directory, outside these sectors, seems to be there and empty: HIT and
 /// entries are blank, but for one slot at most, and the GAT is not.
 pub fn blank_elsewhere(image: &[u8], own: &Range<usize>) -> Option<Geometry> {
-    let presets = PRESETS.iter().map(|preset| preset.geometry);
+    let presets = Preset::ALL.iter().map(|preset| preset.geometry);
     let mut fitting = presets.filter(|geometry| geometry.image_len() == Some(image.len()));
     fitting.find(|geometry| {
         let apart = geometry.start + 10 <= own.start || own.end <= geometry.start;
@@ -29,11 +28,11 @@ fn looks_blank(image: &[u8], geometry: Geometry) -> bool {
 #[cfg(test)]
 mod tests {
     use super::*;
-    use genie_dos::Disk;
+    use crate::Disk;
 
     #[test]
     fn an_empty_directory_is_seen() {
-        for preset in PRESETS {
+        for preset in Preset::ALL {
             let image = Disk::blank(preset.geometry, 15, &[0]).unwrap().into_image();
             let (start, found) = (preset.geometry.start, |own| blank_elsewhere(&image, &own).map(|g| g.start));
             assert_eq!(found(0..5), Some(start));

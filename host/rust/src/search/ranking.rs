@@ -2,12 +2,16 @@
 
 use super::evidence::Evidence;
 use super::fit::Fit;
-use crate::shape::{preset_of, starts};
-use genie_dos::{Counts, Disk, Explained, Geometry, Refusal};
+use super::known::starts;
+use crate::{Counts, Disk, Explained, Geometry, Preset, Refusal};
+use alloc::boxed::Box;
+use alloc::vec::Vec;
 
 /// A place with what speaks for it, and how the image reads there.
 #[derive(Clone, Debug)]
+#[non_exhaustive]
 pub struct Candidate {
+    /// What speaks for it.
     pub evidence: Evidence,
     /// The geometries under which the disk is consistent; if there is none, the one that fits best.
     pub readings: Vec<Reading>,
@@ -22,7 +26,9 @@ impl Candidate {
 
 /// The disk under one geometry.
 #[derive(Clone, Debug)]
+#[non_exhaustive]
 pub struct Reading {
+    /// The geometry.
     pub geometry: Geometry,
     /// Files and free granules, or the first fault.
     pub found: Result<Counts, Box<Explained>>,
@@ -57,9 +63,9 @@ pub fn ranked(image: &[u8], everywhere: &[Evidence], tried: &[Geometry], intact:
 
 /// The one with most that speaks for it; of equals an intact one, then that of a known kind of disk, then the first.
 fn strongest(left: &[Evidence], reads: impl Fn(usize) -> bool) -> Option<usize> {
-    let known = |start: usize| crate::shape::PRESETS.iter().any(|preset| preset.geometry.start == start);
+    let known = |start: usize| Preset::ALL.iter().any(|preset| preset.geometry.start == start);
     let key =
-        |place: &Evidence| (place.weight(), reads(place.start), known(place.start), std::cmp::Reverse(place.start));
+        |place: &Evidence| (place.weight(), reads(place.start), known(place.start), core::cmp::Reverse(place.start));
     (0..left.len()).max_by_key(|&at| key(&left[at]))
 }
 
@@ -74,7 +80,7 @@ fn readings(image: &[u8], place: &Evidence, tried: &[Geometry], intact: &[Readin
     // Of equals the known kind of disk, then the first.
     let best = here.min_by_key(|&geometry| {
         let fit = fit(geometry);
-        (fit.faults(), preset_of(geometry).is_none(), fit.unexplained())
+        (fit.faults(), Preset::of(geometry).is_none(), fit.unexplained())
     });
     best.and_then(|geometry| read(image, geometry)).into_iter().collect()
 }
@@ -103,7 +109,7 @@ pub fn consistent(image: &[u8], everywhere: &[Evidence], tried: &[Geometry]) -> 
 #[cfg(test)]
 mod tests {
     use super::*;
-    use genie_dos::{Date, Kind, NewFile};
+    use crate::{Date, Kind, NewFile};
 
     /// Whether or not the slots are looked at first, the same geometries are consistent: on a disk whose directory has
     /// a chain and names in every part, among zeros, with each byte damaged in turn.
@@ -120,7 +126,7 @@ mod tests {
         }
         let mut image = disk.into_image();
         image.iter_mut().filter(|byte| **byte == 0xe5).for_each(|byte| *byte = 0);
-        let tried: Vec<Geometry> = crate::shape::anything().fitting(image.len());
+        let tried: Vec<Geometry> = super::super::Known::default().fitting(image.len());
         let starts = |readings: Vec<Reading>| readings.iter().map(|reading| reading.geometry).collect::<Vec<_>>();
         let mut found = 0;
         for at in (80 * 256..95 * 256).filter(|at| at % 3 == 0 || (82..84).contains(&(at / 256))) {
