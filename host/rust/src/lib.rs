@@ -34,8 +34,8 @@
 //!
 //! # Without the standard library
 //!
-//! The crate needs `core` and `alloc`. The feature `std`, on by default, makes the refusals errors of [`std::error::Error`]; with
-//! `default-features = false` that is left out, and nothing else.
+//! The crate needs `core` and `alloc`. The feature `std`, on by default, makes the refusals errors of [`std::error::Error`] and brings
+//! [`File`], a file as a stream; with `default-features = false` these are left out, and nothing else.
 //!
 //! # What may come
 //!
@@ -62,6 +62,7 @@ mod disk;
 mod entry;
 mod explain;
 mod fault;
+mod file;
 mod geometry;
 mod handle;
 mod map;
@@ -83,6 +84,8 @@ pub use disk::{BroughtBack, Counts, Created, Disk, FreeSpace, Kind, Listed, Look
 pub use entry::{Date, Entry, Run};
 pub use explain::Explained;
 pub use fault::{Fault, FaultKind};
+#[cfg(feature = "std")]
+pub use file::File;
 pub use geometry::Geometry;
 pub use handle::Handle;
 pub use map::{markup_text, Cell, Drawing, Holds, Map, MappedFile, Part};
