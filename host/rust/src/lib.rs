@@ -59,6 +59,7 @@ extern crate genie_source as _;
 mod damaged;
 mod difference;
 mod disk;
+mod drives;
 mod entry;
 mod explain;
 mod fault;
@@ -80,6 +81,7 @@ pub use damaged::{
 };
 pub use difference::{Difference, Differences, RefusedImage, Which};
 pub use disk::{BroughtBack, Counts, Created, Disk, FreeSpace, Kind, Listed, LookUp, NewFile, Password};
+pub use drives::{DriveCreated, DriveHandle, DriveLookUp, DriveSector, DriveSlot, Drives, RefusedDrive};
 pub use entry::{Date, Entry, Run};
 pub use explain::Explained;
 pub use fault::{Fault, FaultKind};
