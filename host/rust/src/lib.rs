@@ -26,6 +26,8 @@
 //! # Ok::<(), genie_dos::Refusal>(())
 //! ```
 //!
+//! Two disks, in the drives 0 and 1, are [`Drives`]: its calls find which drive has a file.
+//!
 //! # Threads
 //!
 //! The library keeps nothing between calls and no call touches anything but what it is lent. So every type here is [`Send`] and

@@ -26,15 +26,17 @@ fn create(drives: &mut Drives, drive: Option<usize>, typed: &str) -> DriveHandle
     created.handle
 }
 
-/// Drive and slot, or the refusal's number and the drive at fault; and the count.
-fn found(drives: &Drives, drive: Option<usize>, typed: &str) -> (Result<(u8, u8), (u8, Option<u8>)>, usize) {
+/// Number and drive of a refusal.
+type Told = (u8, Option<u8>);
+
+/// Drive and slot, or the refusal; and the count.
+fn found(drives: &Drives, drive: Option<usize>, typed: &str) -> (Result<(u8, u8), Told>, usize) {
     let told = drives.look_up(drive, &name(typed));
     let slot = told.slot.map(|at| (at.drive, at.slot)).map_err(|refused| (refused.refusal.number(), refused.drive));
     (slot, told.compared)
 }
 
-/// Number and drive of a refusal.
-fn refused<T: std::fmt::Debug>(answer: Result<T, RefusedDrive>) -> (u8, Option<u8>) {
+fn refused<T: std::fmt::Debug>(answer: Result<T, RefusedDrive>) -> Told {
     let refused = answer.unwrap_err();
     (refused.refusal.number(), refused.drive)
 }
