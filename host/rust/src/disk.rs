@@ -55,6 +55,16 @@ pub enum Password {
     Code(u16),
 }
 
+impl Password {
+    /// As the library takes it: whether codes are checked, and the code.
+    pub(crate) fn told(self) -> (bool, u16) {
+        match self {
+            Password::Unchecked => (false, 0),
+            Password::Code(code) => (true, code),
+        }
+    }
+}
+
 /// What [`Disk::create`] puts into a new file's entry: made by [`open`](NewFile::open) and altered by `with_...`.
 #[derive(Clone, Copy, Debug, PartialEq, Eq)]
 #[non_exhaustive]
@@ -333,10 +343,7 @@ impl<B: AsRef<[u8]>> Disk<B> {
     /// ```
     pub fn open(&self, name: &Name, length: usize, password: Password) -> Result<Handle, Refusal> {
         let (image, g, name) = (self.image.as_ref(), self.geometry, name.as_bytes());
-        let (checking, code) = match password {
-            Password::Unchecked => (false, 0),
-            Password::Code(code) => (true, code),
-        };
+        let (checking, code) = password.told();
         let mut handle = Handle::zeros();
         let lent = handle.as_mut_bytes();
         // SAFETY: the slices are live references, the handle's a local.
@@ -668,6 +675,10 @@ impl<B: AsRef<[u8]>> Disk<B> {
 
 /// Calls that change the disk.
 impl<B: AsMut<[u8]>> Disk<B> {
+    pub(crate) fn image_mut(&mut self) -> &mut [u8] {
+        self.image.as_mut()
+    }
+
     /// Creates a file of size 0, or opens the one that is there.
     ///
     /// ```

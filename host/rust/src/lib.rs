@@ -26,6 +26,8 @@
 //! # Ok::<(), genie_dos::Refusal>(())
 //! ```
 //!
+//! Two disks, in the drives 0 and 1, are [`Drives`]: its calls find which drive has a file.
+//!
 //! # Threads
 //!
 //! The library keeps nothing between calls and no call touches anything but what it is lent. So every type here is [`Send`] and
@@ -59,6 +61,7 @@ extern crate genie_source as _;
 mod damaged;
 mod difference;
 mod disk;
+mod drives;
 mod entry;
 mod explain;
 mod fault;
@@ -81,6 +84,7 @@ pub use damaged::{
 };
 pub use difference::{Difference, Differences, RefusedImage, Which};
 pub use disk::{BroughtBack, Counts, Created, Disk, FreeSpace, Kind, Listed, LookUp, NewFile, Password};
+pub use drives::{DriveCreated, DriveHandle, DriveLookUp, DriveSector, DriveSlot, Drives, RefusedDrive};
 pub use entry::{Date, Entry, Run};
 pub use explain::Explained;
 pub use fault::{Fault, FaultKind};
