@@ -1,4 +1,4 @@
-/* A host in C: a full-size disk in memory, and one file's life on it, by the calls of genie_disk.h.
+/* A host in C: a full-size disk in memory, and one file's life on it, by the calls of genie_disk.h; then two drives.
  * Prints what it does. Exit status 0 only if every step answers as genie.h says. */
 #include "genie.h"
 
@@ -221,6 +221,36 @@ int main(void)
          disk.fault_slot == GENIE_NO_SLOT);
     answer = genie_check(disk.image, disk.image_len, 192, 8, 3840, 0x9642, true, 5, &fault);
     step("the same by the call itself, its eight numbers in their order", answer, GENIE_FAULT_DIRECTORY_GRANULE, fault == GENIE_NO_SLOT);
+
+    /* Two drives: a system disk in drive 0, a data disk in drive 1. */
+    uint8_t on_drive[GENIE_DRIVE_HANDLE_BYTES];
+    size_t drive, place, fault_drive;
+    before.geometry.system_disk = false;
+    answer = genie_disk_format(&disk, DIRECTORY_SECTORS, loader, 1);
+    step("format two disks: the one for drive 0", answer, GENIE_DONE, disk.geometry.system_disk);
+    answer = genie_disk_format(&before, DIRECTORY_SECTORS, loader, 1);
+    step("and a data disk for drive 1", answer, GENIE_DONE, !before.geometry.system_disk);
+    answer = genie_drives_create(GENIE_DISK_OF(&disk), GENIE_DISK_OF(&before), true, 1, GENIE_BYTES_OF(&name), october.day, october.month,
+                                 october.year - 1980, october.record_length, october.main_code, october.worker_code, october.checking,
+                                 &old, on_drive, sizeof on_drive, &place, &fault_drive, &fault);
+    step("create PULS01/DAT on drive 1: slot 02H, and the handle has the drive", answer, GENIE_DONE,
+         old == 0 && on_drive[0] == 0x02 && on_drive[GENIE_HANDLE_BYTES] == 1 && fault_drive == GENIE_NO_DRIVE);
+    answer = genie_drives_look_up(GENIE_DISK_OF(&disk), GENIE_DISK_OF(&before), false, 0, GENIE_BYTES_OF(&name), &drive, &slot, &compared,
+                                  &place, &fault_drive, &fault);
+    step("look it up without a number: drive 1 has it", answer, GENIE_DONE, drive == 1 && slot == 0x02 && compared == 1);
+    answer = genie_drives_look_up(GENIE_DISK_OF(&disk), GENIE_DISK_OF(&before), true, 0, GENIE_BYTES_OF(&name), &drive, &slot, &compared,
+                                  &place, &fault_drive, &fault);
+    step("look it up on drive 0: it is not there", answer, GENIE_NOT_FOUND, drive == 0 && compared == 0 && fault_drive == GENIE_NO_DRIVE);
+    hit[0x80] = 0xA2; /* slot 80H of drive 0 is not in use */
+    answer = genie_drives_look_up(GENIE_DISK_OF(&disk), GENIE_DISK_OF(&before), false, 0, GENIE_BYTES_OF(&name), &drive, &slot, &compared,
+                                  &place, &fault_drive, &fault);
+    step("look it up with a damaged disk in drive 0: slot 80H there is at fault", answer, GENIE_FAULT_HIT,
+         drive == 0 && fault_drive == 0 && fault == 0x80);
+    answer = genie_drives_kill(GENIE_DISK_OF(&disk), GENIE_DISK_OF(&before), on_drive, sizeof on_drive, &fault_drive, &fault);
+    step("kill it by its handle: only drive 1 is looked at", answer, GENIE_DONE, fault_drive == GENIE_NO_DRIVE);
+    on_drive[GENIE_HANDLE_BYTES] = 7;
+    answer = genie_drives_kill(GENIE_DISK_OF(&disk), GENIE_DISK_OF(&before), on_drive, sizeof on_drive, &fault_drive, &fault);
+    step("kill it on drive 7: there is none", answer, GENIE_NO_SUCH_DRIVE, fault_drive == GENIE_NO_DRIVE);
 
     free(before.image);
     free(disk.image);

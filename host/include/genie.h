@@ -93,29 +93,41 @@ extern "C" {
 enum genie_refusal {
     GENIE_DONE = 0, /* accepted */
     /* blocks, units, start, granule_sectors or the image's length is not as said above */
-       GENIE_GEOMETRY = 1, /* 21 to 30: the disk is not consistent; never by genie_free and
-       genie_name. With the slot of the entry at fault, except where it says "no slot". */
+    GENIE_GEOMETRY = 1,
 
-    /* HIT byte 1FH is not 0, 5, 10, 15 or 20, or the directory passes the end of the disk; no slot
-       */ GENIE_FAULT_DIRECTORY_LENGTH = 21, /* the slot's HIT byte is not 0 though its entry is not
-       in use, or is 0 though it is, or is not the hash of its file's name (not tested of an
-       extension under 25 for being met in no chain, met twice or badly formed) */ GENIE_FAULT_HIT =
-       22, /* the file's name is not well formed, a small letter in it is bad too; or bit 5 of the
-       entry's byte 00 is set */ GENIE_FAULT_NAME = 23, GENIE_FAULT_DUPLICATE_NAME = 24, /* a file
-       in a lower slot has the same name */
+    /* 21 to 30: the disk is not consistent; never by genie_free and genie_name. With the slot of
+       the entry at fault, except where it says "no slot". */
+
+    /* HIT byte 1FH is not 0, 5, 10, 15 or 20, or the directory passes the end of the disk; no
+       slot */
+    GENIE_FAULT_DIRECTORY_LENGTH = 21,
+    /* the slot's HIT byte is not 0 though its entry is not in use, or is 0 though it is, or is not
+       the hash of its file's name (not tested of an extension under 25 for being met in no chain,
+       met twice or badly formed) */
+    GENIE_FAULT_HIT = 22,
+    /* the file's name is not well formed, a small letter in it is bad too; or bit 5 of the entry's
+       byte 00 is set */
+    GENIE_FAULT_NAME = 23,
+    GENIE_FAULT_DUPLICATE_NAME = 24, /* a file in a lower slot has the same name */
     /* the entry's marker is neither FEH nor FFH, a pair stands behind a block FFH, fewer than four
        runs stand before a marker FEH, or the link leads to no extension in use; or the entry is an
        extension that is met in no file's chain, met twice, or badly formed (byte 00 not 90H, a
-       wrong link back, no run) */ GENIE_FAULT_CHAIN = 25, /* a run of the entry passes the end of
-       the disk, or its first unit is none that a block has */ GENIE_FAULT_RUN_OFF_DISK = 26,
-       GENIE_FAULT_GAT_BIT = 27, /* a granule of the entry's runs is free in the GAT */
-    /* a granule of the entry's runs is in a run of a lower slot's entry too, or twice in this one's
-       */ GENIE_FAULT_GRANULE_SHARED = 28, /* the file's size is larger than its granules, or its
-       sector count is 0 and its end byte is not; told only where the file's chain is whole */
-       GENIE_FAULT_SIZE = 29, /* a granule of the directory is in the entry's runs, and its file has
-       no system flag; or, with no slot and after all slots, a granule of the directory is free in
-       the GAT */ GENIE_FAULT_DIRECTORY_GRANULE = 30, GENIE_TRACE = 14, /* the trace is malformed
-       (play back): *byte and *bit say where */
+       wrong link back, no run) */
+    GENIE_FAULT_CHAIN = 25,
+    /* a run of the entry passes the end of the disk, or its first unit is none that a block has */
+    GENIE_FAULT_RUN_OFF_DISK = 26,
+    GENIE_FAULT_GAT_BIT = 27, /* a granule of the entry's runs is free in the GAT */
+    /* a granule of the entry's runs is in a run of a lower slot's entry too, or twice in this
+       one's */
+    GENIE_FAULT_GRANULE_SHARED = 28,
+    /* the file's size is larger than its granules, or its sector count is 0 and its end byte is
+       not; told only where the file's chain is whole */
+    GENIE_FAULT_SIZE = 29,
+    /* a granule of the directory is in the entry's runs, and its file has no system flag; or, with
+       no slot and after all slots, a granule of the directory is free in the GAT */
+    GENIE_FAULT_DIRECTORY_GRANULE = 30,
+
+    GENIE_TRACE = 14, /* the trace is malformed (play back): *byte and *bit say where */
     GENIE_NO_SUCH_DRIVE = 16, /* a drive number that is not 0 or 1 (two drives), before all others */
     GENIE_NO_ROOM = 15, /* fewer bytes for results than the trace has calls (play back) */
     /* a position, record length, level, date or sector is out of range; position + length passes
@@ -123,28 +135,41 @@ enum genie_refusal {
        load record is under 255 bytes; the handle is under 19 bytes; the name buffer of list,
        compare or genie_name is under 11 bytes; bring back is given a slot that the directory has
        not. A handle's three numbers are tested in every call that takes one, used or not. The
-       highest position and the highest sector go by granule_sectors alone, however small the image.
-       */ GENIE_RANGE = 12, /* the name is not well formed once it is folded, or not 11 bytes long
-       (calls by name), with *place */ GENIE_NAME = 3, /* the handle's slot is none that the
-       directory has, or is not in use, or an extension, or has another name */ GENIE_STALE = 7,
-       GENIE_NOT_FOUND = 4, /* no file has that name (look up, open) */
+       highest position and the highest sector go by granule_sectors alone, however small the
+       image. */
+    GENIE_RANGE = 12,
+    /* the name is not well formed once it is folded, or not 11 bytes long (calls by name), with
+       *place */
+    GENIE_NAME = 3,
+    /* the handle's slot is none that the directory has, or is not in use, or an extension, or has
+       another name */
+    GENIE_STALE = 7,
+    GENIE_NOT_FOUND = 4, /* no file has that name (look up, open) */
     GENIE_PASSWORD = 5, /* wrong password code (open; create of a file that exists) */
     GENIE_SLOT_IN_USE = 17, /* the slot is in use (bring back) */
     /* level over 5 for reading, over 4 for write, allot and trim, over 1 for kill; or a system file
-       in the last four and in bring back */ GENIE_LEVEL = 6, /* the slot holds no killed file that
-       is still whole, or an extension (bring back) */ GENIE_NOTHING_WHOLE = 18, GENIE_NAME_IN_USE =
-       19, /* another file has the killed file's name (bring back) */
+       in the last four and in bring back */
+    GENIE_LEVEL = 6,
+    /* the slot holds no killed file that is still whole, or an extension (bring back) */
+    GENIE_NOTHING_WHOLE = 18,
+    GENIE_NAME_IN_USE = 19, /* another file has the killed file's name (bring back) */
     GENIE_GRANULE_TAKEN = 20, /* a granule of the killed file is taken again (bring back) */
+
     /* 31 to 33: what the program file has first that is no record (load record), with the byte
        position. */
+
     GENIE_LOAD_CODE = 31, /* a code that is not 01, 02 or 05; the position is the code's */
     /* the file ends inside a record or comment, or before a start address; the position is the
-       file's size */ GENIE_LOAD_END = 32, GENIE_LOAD_COUNT = 33, /* code 02 with a count that is
-       not 2; the position is the count's */
-    /* a read passes the file's size; the sector read is not one of the file's */ GENIE_PAST_END =
-       10, /* the file may not grow (flag E) and more granules are needed than it owns */
-       GENIE_NO_GROWTH = 11, GENIE_DISK_FULL = 9, /* more further granules are needed than are
-       free */
+       file's size */
+    GENIE_LOAD_END = 32,
+    /* code 02 with a count that is not 2; the position is the count's */
+    GENIE_LOAD_COUNT = 33,
+
+    /* a read passes the file's size; the sector read is not one of the file's */
+    GENIE_PAST_END = 10,
+    /* the file may not grow (flag E) and more granules are needed than it owns */
+    GENIE_NO_GROWTH = 11,
+    GENIE_DISK_FULL = 9, /* more further granules are needed than are free */
     GENIE_DIRECTORY_FULL = 8 /* fewer permitted slots are free than the call needs */
 };
 
@@ -231,7 +256,8 @@ uint8_t genie_read_record(const uint8_t *image, size_t image_len, size_t blocks,
 
 /* Read bytes: read record with the buffer's length, 0 to GENIE_HIGHEST_POSITION(granule_sectors), in
  * the record length's place: a whole file in one call. The handle's record length is tested, and
- * not used. Refusals 1, 21 to 30 with *fault_slot, 12 (a longer buffer too), 7, 6, 10. */
+ * not used. A read of 0 bytes is accepted at a position up to the size. Refusals 1, 21 to 30 with
+ * *fault_slot, 12 (a longer buffer too), 7, 6, 10. */
 GENIE_CALL
 uint8_t genie_read_bytes(const uint8_t *image, size_t image_len, size_t blocks, size_t units,
                          size_t start, uint16_t open_code, bool system_disk,

@@ -33,6 +33,10 @@ pub enum Call {
         handle: Vec<u8>,
         buffer: Vec<u8>,
     },
+    ReadBytes {
+        handle: Vec<u8>,
+        buffer: Vec<u8>,
+    },
     LoadRecord {
         handle: Vec<u8>,
         buffer: Vec<u8>,
@@ -42,6 +46,11 @@ pub enum Call {
         k: usize,
     },
     WriteRecord {
+        handle: Vec<u8>,
+        sequential: bool,
+        buffer: Vec<u8>,
+    },
+    WriteBytes {
         handle: Vec<u8>,
         sequential: bool,
         buffer: Vec<u8>,
@@ -80,10 +89,13 @@ impl Call {
             Call::Open { .. } => "open",
             Call::Create { .. } => "create",
             Call::ReadRecord { .. } => "read record",
+            Call::ReadBytes { .. } => "read bytes",
             Call::LoadRecord { .. } => "load record",
             Call::ReadSector { .. } => "read sector",
             Call::WriteRecord { sequential: true, .. } => "write sequential",
             Call::WriteRecord { sequential: false, .. } => "write random",
+            Call::WriteBytes { sequential: true, .. } => "bytes sequential",
+            Call::WriteBytes { sequential: false, .. } => "bytes random",
             Call::Allot { .. } => "allot",
             Call::Trim { .. } => "trim",
             Call::Kill { .. } => "kill",
@@ -103,8 +115,10 @@ impl Call {
             Call::LookUp { name } | Call::List { name, .. } => (&[], &[], name),
             Call::Open { name, handle, .. } | Call::Create { name, handle, .. } => (handle, &[], name),
             Call::ReadRecord { handle, buffer }
+            | Call::ReadBytes { handle, buffer }
             | Call::LoadRecord { handle, buffer }
-            | Call::WriteRecord { handle, buffer, .. } => (handle, buffer, &[]),
+            | Call::WriteRecord { handle, buffer, .. }
+            | Call::WriteBytes { handle, buffer, .. } => (handle, buffer, &[]),
             Call::ReadSector { handle, .. }
             | Call::Allot { handle, .. }
             | Call::Trim { handle }
@@ -120,17 +134,20 @@ impl Call {
 }
 
 /// The numbers that each call can give, 0 included; a 2 stands for all of 21 to 30.
-const ROWS: [(&str, &[Number]); 19] = [
+const ROWS: [(&str, &[Number]); 22] = [
     ("name", &[0, 12, 3]),
     ("check", &[0, 1, 2]),
     ("look up", &[0, 1, 2, 3, 4]),
     ("open", &[0, 1, 2, 12, 3, 4, 5]),
     ("create", &[0, 1, 2, 12, 3, 5, 8]),
     ("read record", &[0, 1, 2, 12, 7, 6, 10]),
+    ("read bytes", &[0, 1, 2, 12, 7, 6, 10]),
     ("load record", &[0, 1, 2, 12, 7, 6, 31, 32, 33]),
     ("read sector", &[0, 1, 2, 12, 7, 6, 10]),
     ("write sequential", &[0, 1, 2, 12, 7, 6, 11, 9, 8]),
     ("write random", &[0, 1, 2, 12, 7, 6, 11, 9, 8]),
+    ("bytes sequential", &[0, 1, 2, 12, 7, 6, 11, 9, 8]),
+    ("bytes random", &[0, 1, 2, 12, 7, 6, 11, 9, 8]),
     ("allot", &[0, 1, 2, 12, 7, 6, 11, 9, 8]),
     ("trim", &[0, 1, 2, 12, 7, 6]),
     ("kill", &[0, 1, 2, 12, 7, 6]),
@@ -245,6 +262,7 @@ pub fn perform(library: &dyn Library, image: &mut [u8], g: &Geometry, call: &Cal
             number
         }
         Call::ReadRecord { .. } => library.read_record(image, g, handle.lend(), buffer.lend(), &mut fault_slot),
+        Call::ReadBytes { .. } => library.read_bytes(image, g, handle.lend(), buffer.lend(), &mut fault_slot),
         Call::LoadRecord { .. } => {
             let (handle, buffer) = (handle.lend(), buffer.lend());
             let number = library.load_record(
@@ -268,6 +286,9 @@ pub fn perform(library: &dyn Library, image: &mut [u8], g: &Geometry, call: &Cal
         }
         Call::WriteRecord { sequential, .. } => {
             library.write_record(image, g, handle.lend(), *sequential, buffer.lend(), &mut fault_slot)
+        }
+        Call::WriteBytes { sequential, .. } => {
+            library.write_bytes(image, g, handle.lend(), *sequential, buffer.lend(), &mut fault_slot)
         }
         Call::Allot { k, .. } => library.allot(image, g, handle.lend(), *k, &mut fault_slot),
         Call::Trim { .. } => library.trim(image, g, handle.lend(), &mut fault_slot),

@@ -92,8 +92,10 @@ impl Caller {
             Call::Open { .. }
                 | Call::Create { .. }
                 | Call::ReadRecord { .. }
+                | Call::ReadBytes { .. }
                 | Call::LoadRecord { .. }
                 | Call::WriteRecord { .. }
+                | Call::WriteBytes { .. }
         );
         if gives && outcome.number == ACCEPTED {
             self.handles.push(Handle::read(&outcome.handle).expect("19 bytes"));
@@ -305,6 +307,24 @@ impl Caller {
         (0..room).map(|_| random.byte()).collect()
     }
 
+    /// A buffer of about as many bytes as a read or write has room for; seldom one that is longer than any position.
+    fn bytes(&self, random: &mut Random, g: &Geometry, room: usize) -> Vec<u8> {
+        let length = match random.within(if self.sober { 1 } else { 0 }, 19) {
+            0 => g.highest_position() + random.within(0, 1),
+            1 | 2 => 0,
+            3 => room + 1,
+            4 | 5 => random.within(0, 3 * g.granule_bytes()),
+            6..=9 => random.within(0, room),
+            _ => room,
+        };
+        let mut bytes = vec![random.byte(); length];
+        // The ends are what can go wrong.
+        let end = length.min(2 * g.granule_bytes());
+        random.fill(&mut bytes[..end]);
+        random.fill(&mut bytes[length - end..]);
+        bytes
+    }
+
     fn sector(random: &mut Random, image: &[u8], g: &Geometry, handle: &Handle, growth: bool) -> usize {
         let (size, granules) = Self::extent(image, g, handle);
         let (n, owned) = (size.div_ceil(256), granules * g.granule_sectors);
@@ -326,7 +346,26 @@ impl Caller {
 
     /// Some call.
     pub fn make(&self, random: &mut Random, image: &[u8], g: &Geometry) -> Call {
-        match random.within(0, 122) {
+        match random.within(0, 138) {
+            123..=128 => {
+                let handle = self.handle(random, image, g, "read");
+                let left = Self::extent(image, g, &handle).0.saturating_sub(handle.position());
+                let buffer = self.bytes(random, g, left);
+                Call::ReadBytes { handle: self.lent_handle(random, &handle), buffer }
+            }
+            129..=138 => {
+                let handle = self.handle(random, image, g, "write");
+                let (size, granules) = Self::extent(image, g, &handle);
+                let room = match random.within(0, 3) {
+                    0 => size,
+                    1 => granules * g.granule_bytes(),
+                    2 => (granules + random.within(1, 40)) * g.granule_bytes(),
+                    _ => (granules + free_granules(image, g).count()) * g.granule_bytes(),
+                };
+                let buffer = self.bytes(random, g, room.saturating_sub(handle.position()));
+                let sequential = random.percent(50);
+                Call::WriteBytes { handle: self.lent_handle(random, &handle), sequential, buffer }
+            }
             111..=118 => {
                 let handle = self.loading_handle(random, image, g);
                 let least = LEAST_BUFFER - usize::from(random.percent(4));
@@ -436,10 +475,16 @@ impl Caller {
             let width = g.granule_bytes();
             let byte =
                 |i: usize| granules.get(i / width).and_then(|granule| image.get(granule * width + i % width));
+            // A record of data that passes a granule's end; counts 0 and 1 mean 254 and 255 bytes.
+            let crosses = |i: usize, count: u8| {
+                let end = i + 4 + usize::from(count.wrapping_sub(2));
+                end <= size && i / width != (end - 1) / width
+            };
             // Start addresses, records without data and comments are rare in other files.
-            let (mut codes, mut rare) = (Vec::new(), Vec::new());
+            let (mut codes, mut rare, mut crossing) = (Vec::new(), Vec::new(), Vec::new());
             for i in 0..size {
                 match (byte(i), byte(i + 1)) {
+                    (Some(1), Some(&count)) if crosses(i, count) => crossing.push(i),
                     (Some(1 | 2), Some(2)) | (Some(5), Some(..=9)) => rare.push(i),
                     (Some(1 | 2 | 5), _) => codes.push(i),
                     _ => {}
@@ -448,6 +493,7 @@ impl Caller {
             match random.within(0, 9) {
                 0 => return Handle { position: size as u32, ..handle },
                 1 => return handle,
+                2 if !crossing.is_empty() => return Handle { position: *random.pick(&crossing) as u32, ..handle },
                 2..=7 if !rare.is_empty() => return Handle { position: *random.pick(&rare) as u32, ..handle },
                 8 if !codes.is_empty() => return Handle { position: *random.pick(&codes) as u32, ..handle },
                 _ => handle = self.handle(random, image, g, "read"),

@@ -70,6 +70,12 @@ pub const EVENTS: &[&str] = &[
     "bring back of a file without granules",
     "bring back of a file with an extension",
     "bring back of a file with many extensions",
+    "bytes: a whole file is read",
+    "bytes: nothing is read at the end",
+    "bytes: read over several granules",
+    "bytes: a write of nothing cuts the file",
+    "bytes: a write of nothing lengthens the file",
+    "bytes: written over several granules",
     "load record tells data",
     "load record tells a record without data",
     "load record tells a start address",
@@ -351,9 +357,11 @@ impl Before {
     fn of(image: &[u8], g: &Geometry, call: &Call) -> Before {
         Before(match call {
             Call::ReadRecord { handle, .. }
+            | Call::ReadBytes { handle, .. }
             | Call::LoadRecord { handle, .. }
             | Call::ReadSector { handle, .. }
             | Call::WriteRecord { handle, .. }
+            | Call::WriteBytes { handle, .. }
             | Call::Allot { handle, .. }
             | Call::Trim { handle }
             | Call::Kill { handle } => Self::state(image, g, handle),
@@ -428,6 +436,23 @@ impl Before {
                 seen.event("read of a system file", was.entry.is_system());
                 seen.event("read crosses granules", crosses);
                 seen.event("a long buffer's rest is untouched", buffer.len() > length);
+            }
+            Call::ReadBytes { buffer, .. } => {
+                seen.event(
+                    "bytes: a whole file is read",
+                    position == 0 && buffer.len() == was.size && was.size > 0,
+                );
+                seen.event("bytes: nothing is read at the end", position == was.size && buffer.is_empty());
+                seen.event("bytes: read over several granules", buffer.len() > 2 * g.granule_bytes());
+            }
+            Call::WriteBytes { sequential, buffer, .. } => {
+                let nothing = buffer.is_empty();
+                seen.event(
+                    "bytes: a write of nothing cuts the file",
+                    nothing && *sequential && position < was.size,
+                );
+                seen.event("bytes: a write of nothing lengthens the file", nothing && position > was.size);
+                seen.event("bytes: written over several granules", buffer.len() > 2 * g.granule_bytes());
             }
             Call::LoadRecord { .. } => {
                 let (data, count) = (outcome.numbered("kind") == 1, outcome.numbered("count"));

@@ -36,15 +36,9 @@ pub fn effect(all: &mut Files, g: &Geometry, call: &Call) {
         }
         Call::WriteRecord { handle, sequential, buffer } => {
             let h = handled(handle);
-            let file = all.get_mut(&h.name).expect("no stale handle");
-            let (position, end) = (h.position(), h.position() + h.length());
-            let size = if *sequential { end } else { end.max(file.bytes.len()) };
-            // Zeros from the old size to the position, then the record.
-            file.bytes.resize(size, 0);
-            file.bytes[position..end].copy_from_slice(&buffer[..h.length()]);
-            file.attributes[DAY_BYTE] |= WORKED_ON;
-            file.granules = file.granules.max(size.div_ceil(g.granule_bytes()));
+            written(all, g, &h, *sequential, &buffer[..h.length()]);
         }
+        Call::WriteBytes { handle, sequential, buffer } => written(all, g, &handled(handle), *sequential, buffer),
         Call::Allot { handle, k } => {
             let file = all.get_mut(&handled(handle).name).expect("no stale handle");
             file.granules = file.granules.max(k / g.granule_sectors + 1);
@@ -60,4 +54,15 @@ pub fn effect(all: &mut Files, g: &Geometry, call: &Call) {
         }
         _ => {}
     }
+}
+
+/// Bytes written at a handle's position: zeros from the old size to there, then they.
+fn written(all: &mut Files, g: &Geometry, h: &Handle, sequential: bool, bytes: &[u8]) {
+    let file = all.get_mut(&h.name).expect("no stale handle");
+    let (position, end) = (h.position(), h.position() + bytes.len());
+    let size = if sequential { end } else { end.max(file.bytes.len()) };
+    file.bytes.resize(size, 0);
+    file.bytes[position..end].copy_from_slice(bytes);
+    file.attributes[DAY_BYTE] |= WORKED_ON;
+    file.granules = file.granules.max(size.div_ceil(g.granule_bytes()));
 }

@@ -69,7 +69,7 @@ impl Handle {
         self.position as usize
     }
 
-    /// "the position advances", by the record length.
+    /// "the position advances", by what was read or written.
     pub fn advanced(&self, by: usize) -> Handle {
         Handle { position: self.position + by as u32, ..*self }
     }

@@ -78,15 +78,16 @@ fn calls_do_what_a_plain_list_of_files_would() {
             // Reads answer the plain file's bytes.
             let handled = || Handle::read(lent_handle).expect("accepted");
             match &call {
-                Call::ReadRecord { .. } => {
+                Call::ReadRecord { .. } | Call::ReadBytes { .. } => {
                     let h = handled();
                     let file = &plain[&h.name];
+                    let length = if let Call::ReadBytes { .. } = call { lent_buffer.len() } else { h.length() };
                     if !owns_directory(&before, &g, d, h.slot) {
-                        assert_eq!(outcome.buffer[..h.length()], file.bytes[h.position()..][..h.length()], "{at}");
+                        assert_eq!(outcome.buffer[..length], file.bytes[h.position()..][..length], "{at}");
                     }
-                    assert_eq!(outcome.buffer[h.length()..], lent_buffer[h.length()..], "{at}");
+                    assert_eq!(outcome.buffer[length..], lent_buffer[length..], "{at}");
                     let after = Handle::read(&outcome.handle).expect("19 bytes");
-                    assert_eq!(after, Handle { position: h.position + h.length as u32, ..h }, "{at}");
+                    assert_eq!(after, Handle { position: h.position + length as u32, ..h }, "{at}");
                 }
                 Call::ReadSector { k, .. } => {
                     let h = handled();
@@ -108,15 +109,16 @@ fn calls_do_what_a_plain_list_of_files_would() {
                     assert_eq!(outcome.numbered("compared"), up_to_hit, "{at}");
                     assert_eq!(entry(&before, &g, slot).name(), name, "{at}");
                 }
-                Call::WriteRecord { .. } => {
+                Call::WriteRecord { .. } | Call::WriteBytes { .. } => {
                     let h = handled();
+                    let length = if let Call::WriteBytes { .. } = call { lent_buffer.len() } else { h.length() };
                     let after = Handle::read(&outcome.handle).expect("19 bytes");
-                    assert_eq!(after, Handle { position: h.position + h.length as u32, ..h }, "{at}");
+                    assert_eq!(after, Handle { position: h.position + length as u32, ..h }, "{at}");
                     // What was written is what is read back.
-                    let mut buffer = vec![0; h.length()];
+                    let mut buffer = vec![0; length];
                     let again = &mut h.bytes();
-                    assert_eq!(genie_model::calls::read_record(&image, &g, again, &mut buffer), ACCEPTED, "{at}");
-                    assert_eq!(buffer, lent_buffer[..h.length()], "{at}");
+                    assert_eq!(genie_model::calls::read_bytes(&image, &g, again, &mut buffer), ACCEPTED, "{at}");
+                    assert_eq!(buffer, lent_buffer[..length], "{at}");
                 }
                 // "On a consistent disk the number equals the disk's granules less those reserved and those owned."
                 Call::Free => {

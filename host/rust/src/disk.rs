@@ -55,6 +55,16 @@ pub enum Password {
     Code(u16),
 }
 
+impl Password {
+    /// As the library takes it: whether codes are checked, and the code.
+    pub(crate) fn told(self) -> (bool, u16) {
+        match self {
+            Password::Unchecked => (false, 0),
+            Password::Code(code) => (true, code),
+        }
+    }
+}
+
 /// What [`Disk::create`] puts into a new file's entry: made by [`open`](NewFile::open) and altered by `with_...`.
 #[derive(Clone, Copy, Debug, PartialEq, Eq)]
 #[non_exhaustive]
@@ -333,10 +343,7 @@ impl<B: AsRef<[u8]>> Disk<B> {
     /// ```
     pub fn open(&self, name: &Name, length: usize, password: Password) -> Result<Handle, Refusal> {
         let (image, g, name) = (self.image.as_ref(), self.geometry, name.as_bytes());
-        let (checking, code) = match password {
-            Password::Unchecked => (false, 0),
-            Password::Code(code) => (true, code),
-        };
+        let (checking, code) = password.told();
         let mut handle = Handle::zeros();
         let lent = handle.as_mut_bytes();
         // SAFETY: the slices are live references, the handle's a local.
@@ -631,21 +638,6 @@ impl<B: AsRef<[u8]>> Disk<B> {
         Ok(text)
     }
 
-    /// The whole file, sector by sector. Position and record length play no part.
-    pub fn contents(&self, handle: &Handle) -> Result<Vec<u8>, Refusal> {
-        let mut bytes = Vec::new();
-        for k in 0.. {
-            match self.read_sector(handle, k) {
-                Ok(part) => bytes.extend_from_slice(part),
-                Err(Refusal::PastEnd) => break,
-                // Only a file of the largest size: there is no sector number past its last one.
-                Err(Refusal::Range) if k * Geometry::SECTOR_BYTES == self.geometry.highest_position() => break,
-                Err(refusal) => return Err(refusal),
-            }
-        }
-        Ok(bytes)
-    }
-
     /// The entries of all files, system files included, by rising slot: dates, flags, codes and places, which the
     /// library does not tell. The disk is checked first; the entries are then read by this crate.
     ///
@@ -683,6 +675,10 @@ impl<B: AsRef<[u8]>> Disk<B> {
 
 /// Calls that change the disk.
 impl<B: AsMut<[u8]>> Disk<B> {
+    pub(crate) fn image_mut(&mut self) -> &mut [u8] {
+        self.image.as_mut()
+    }
+
     /// Creates a file of size 0, or opens the one that is there.
     ///
     /// ```
@@ -774,7 +770,24 @@ impl<B: AsMut<[u8]>> Disk<B> {
     }
 
     /// Writes all bytes of the buffer at the handle's position and advances it, as [`Disk::write_record`] does those of a
-    /// record: a whole file in one call. The record length plays no part.
+    /// record: a whole file in one call, or, refused, nothing of it. The record length plays no part. A write of no bytes is a
+    /// write: a sequential one ends the file at the position.
+    ///
+    /// ```
+    /// # use genie_dos::*;
+    /// # let mut disk = Disk::blank(Geometry::new(16, 2, 80, 0x4296), 10, &[0])?;
+    /// # let name = "PULS01/DAT".parse().unwrap();
+    /// let new = NewFile::open(disk.geometry(), Date::new(1983, 10, 9));
+    /// let mut handle = disk.create(&name, &new)?.handle;
+    /// disk.write_bytes(&mut handle, Kind::Sequential, &[7; 3000])?;
+    /// assert_eq!((handle.position(), disk.files()?[0].granules), (3000, 3));
+    /// // The 26 granules that are free hold no more than 33,280 bytes.
+    /// assert_eq!(disk.write_bytes(&mut handle, Kind::Sequential, &[8; 40_000]), Err(Refusal::NoSpace));
+    /// handle.set_position(100);
+    /// disk.write_bytes(&mut handle, Kind::Sequential, &[])?;
+    /// assert_eq!(disk.files()?[0].size, 100);
+    /// # Ok::<(), Refusal>(())
+    /// ```
     pub fn write_bytes(&mut self, handle: &mut Handle, kind: Kind, buffer: &[u8]) -> Result<(), Refusal> {
         let (image, g, lent) = (self.image.as_mut(), self.geometry, handle.as_mut_bytes());
         // SAFETY: the slices are live references, those written to are exclusive.

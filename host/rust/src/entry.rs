@@ -228,6 +228,12 @@ impl<'a> Directory<'a> {
         bytes.try_into().ok()
     }
 
+    /// The entry in a slot by itself, if it is a primary one in use.
+    pub(crate) fn entry(&self, slot: u8) -> Option<Entry> {
+        let bytes = self.bytes(slot).filter(|bytes| bytes[0x00] & 0x90 == 0x10)?;
+        Some(Entry::from_bytes(slot, bytes, self.geometry))
+    }
+
     /// Primary entries in use, by rising slot.
     pub(crate) fn entries(&self) -> Vec<Entry> {
         let primary = |bytes: &[u8; Entry::LEN]| bytes[0x00] & 0x90 == 0x10;

@@ -26,6 +26,8 @@
 //! # Ok::<(), genie_dos::Refusal>(())
 //! ```
 //!
+//! Two disks, in the drives 0 and 1, are [`Drives`]: its calls find which drive has a file.
+//!
 //! # Threads
 //!
 //! The library keeps nothing between calls and no call touches anything but what it is lent. So every type here is [`Send`] and
@@ -34,8 +36,8 @@
 //!
 //! # Without the standard library
 //!
-//! The crate needs `core` and `alloc`. The feature `std`, on by default, makes the refusals errors of [`std::error::Error`]; with
-//! `default-features = false` that is left out, and nothing else.
+//! The crate needs `core` and `alloc`. The feature `std`, on by default, makes the refusals errors of [`std::error::Error`] and brings
+//! [`File`], a file as a stream; with `default-features = false` these are left out, and nothing else.
 //!
 //! # What may come
 //!
@@ -59,9 +61,11 @@ extern crate genie_source as _;
 mod damaged;
 mod difference;
 mod disk;
+mod drives;
 mod entry;
 mod explain;
 mod fault;
+mod file;
 mod geometry;
 mod handle;
 mod map;
@@ -80,9 +84,12 @@ pub use damaged::{
 };
 pub use difference::{Difference, Differences, RefusedImage, Which};
 pub use disk::{BroughtBack, Counts, Created, Disk, FreeSpace, Kind, Listed, LookUp, NewFile, Password};
+pub use drives::{DriveCreated, DriveHandle, DriveLookUp, DriveSector, DriveSlot, Drives, RefusedDrive};
 pub use entry::{Date, Entry, Run};
 pub use explain::Explained;
 pub use fault::{Fault, FaultKind};
+#[cfg(feature = "std")]
+pub use file::File;
 pub use geometry::Geometry;
 pub use handle::Handle;
 pub use map::{markup_text, Cell, Drawing, Holds, Map, MappedFile, Part};

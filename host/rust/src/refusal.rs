@@ -290,7 +290,7 @@ mod tests {
     #[test]
     fn every_number_has_its_refusal_and_its_own_text() {
         let mut texts = Vec::new();
-        for number in [1].into_iter().chain(3..=12).chain(14..=15).chain(17..=33) {
+        for number in [1].into_iter().chain(3..=12).chain(14..=33) {
             let refusal = Refusal::from_number(number).unwrap();
             assert_ne!(refusal, Refusal::Other(number));
             assert_eq!(refusal.number(), number);
@@ -330,8 +330,8 @@ mod tests {
         assert_eq!(
             numbers,
             [
-                1, 21, 22, 23, 24, 25, 26, 27, 28, 29, 30, 14, 15, 12, 3, 7, 4, 5, 17, 6, 31, 32, 33, 10, 11, 9, 8, 18,
-                19, 20
+                16, 1, 21, 22, 23, 24, 25, 26, 27, 28, 29, 30, 14, 15, 12, 3, 7, 4, 5, 17, 6, 31, 32, 33, 10, 11, 9, 8,
+                18, 19, 20
             ]
         );
     }

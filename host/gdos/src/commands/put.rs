@@ -1,7 +1,6 @@
 //! `gdos put`.
 
 use super::choose::{image_and_rest, password, refused};
-use super::ls::attributes;
 use super::opened::Opened;
 use super::room::{slots_left, Runs};
 use super::{failures_json, Command, Output, CODE, FORCE, JSON, UNLOCK};
@@ -50,9 +49,7 @@ there already is told.
 
 A file that is on the disk already is an error unless --force is given. Then its content is replaced and space that
 it no longer needs is given back; its date, codes, record length and flags stay, for no call of the system changes
-them. (To have new ones: gdos rm, then gdos put.) No call empties a file: where an empty file is put over one that is
-not, that one is removed and created anew, with the date, codes and record length that it had. If it is invisible, has
-an access level or flag F or E, which would be lost, that is not done.
+them. (To have new ones: gdos rm, then gdos put.)
 
 New files get today's date (UTC). The disk's years end with 1995: later days are written as that year's, and a note
 says so. With --date none the directory states no day. Both codes are the open code, that is no password, unless
@@ -265,8 +262,8 @@ pub(super) fn put_one(
 ) -> Result<bool, Failure> {
     let old = create(opened, source, new, force)?;
     let Source { typed, bytes, .. } = source;
-    if old && bytes.is_empty() {
-        empty(opened, source, password)?;
+    // Nothing is to be written, and a write of nothing would mark the file as worked on.
+    if bytes.is_empty() && !old {
         return Ok(old);
     }
     let (path, disk) = (&opened.path, &mut opened.disk);
@@ -284,30 +281,6 @@ pub(super) fn put_one(
     let handle = disk.open(&typed.name, 256, password).map_err(refused(path, typed))?;
     disk.trim(&handle).map_err(refused(path, typed))?;
     Ok(old)
-}
-
-/// Empties a file that is there. No call does that: it is removed, and created anew with the date, codes and record length that it
-/// had. What create cannot give it must not be lost.
-fn empty(opened: &mut Opened, Source { typed, host, .. }: &Source, password: Password) -> Result<(), Failure> {
-    let (path, disk) = (&opened.path, &mut opened.disk);
-    let handle = disk.open(&typed.name, 256, password).map_err(refused(path, typed))?;
-    let entries = disk.entries().map_err(Failure::image(path))?;
-    let was = match entries.into_iter().find(|entry| entry.name() == typed.name) {
-        Some(was) if was.size() > 0 => was,
-        // Empty already: space that it has is given back.
-        _ => return disk.trim(&handle).map_err(refused(path, typed)),
-    };
-    if was.is_invisible() || was.level() > 0 || was.keeps_space() || was.may_not_grow() {
-        let (name, attributes) = (&typed.text, attributes(&was, disk.geometry()));
-        return Err(Failure::Wrong(format!(
-            "{host} is empty and {name} is not; no call of the system empties a file, and made anew it would lose its \
-             attributes ({attributes}): if that is right, remove it first, by gdos rm"
-        )));
-    }
-    let new = NewFile::open(disk.geometry(), was.date())
-        .with_record_length(was.record_length().into())
-        .with_codes(was.main_code(), was.worker_code());
-    disk.kill(&handle).and_then(|()| disk.create(&typed.name, &new)).map_err(refused(path, typed)).map(|_| ())
 }
 
 /// What a file wants of a disk, before it is written.
@@ -339,25 +312,18 @@ impl fmt::Display for Wants {
     }
 }
 
-/// Writes the file from its start: records of 256 bytes, then one of what is left. All its granules are taken first, in one
-/// call: so where the lowest free ones would be too scattered for the slots that are left, longer stretches are taken.
+/// Writes the whole file in one call. All its granules are taken at once: so where the lowest free ones would be too scattered
+/// for the slots that are left, longer stretches are taken. More bytes than any position has are refused for want of space,
+/// as the largest file would be.
 fn write(disk: &mut Disk, typed: &Typed, bytes: &[u8], password: Password) -> Result<(), Refusal> {
-    let mut position = 0;
-    if let Some(last) = bytes.len().min(disk.geometry().highest_position()).checked_sub(1) {
-        let handle = disk.open(&typed.name, 1, password)?;
-        disk.allot(&handle, last / Geometry::SECTOR_BYTES)?;
-    }
-    let (records, rest) = bytes.split_at(bytes.len() / 256 * 256);
-    for part in [records, rest].into_iter().filter(|part| !part.is_empty()) {
-        let length = part.len().min(256);
-        let mut handle = disk.open(&typed.name, length, password)?;
-        handle.set_position(position);
-        for record in part.chunks(length) {
-            disk.write_record(&mut handle, Kind::Sequential, record)?;
+    let mut handle = disk.open(&typed.name, 256, password)?;
+    match bytes.len() > disk.geometry().highest_position() {
+        true => {
+            disk.allot(&handle, disk.geometry().highest_position() / Geometry::SECTOR_BYTES - 1)?;
+            Err(Refusal::Range)
         }
-        position = handle.position();
+        false => disk.write_bytes(&mut handle, Kind::Sequential, bytes),
     }
-    Ok(())
 }
 
 fn report(opened: &Opened, source: &Source, old: bool) -> Result<(String, Json), Failure> {
