@@ -262,11 +262,11 @@ pub(super) fn put_one(
 ) -> Result<bool, Failure> {
     let old = create(opened, source, new, force)?;
     let Source { typed, bytes, .. } = source;
-    // Nothing is to be written, and a write of nothing would mark the file as worked on.
-    if bytes.is_empty() && !old {
+    let (path, disk) = (&opened.path, &mut opened.disk);
+    // A write of nothing to a file of nothing would do no more than mark it as worked on.
+    if bytes.is_empty() && is_empty(disk, typed) {
         return Ok(old);
     }
-    let (path, disk) = (&opened.path, &mut opened.disk);
     let wants = Wants::of(disk, typed, bytes.len());
     write(disk, typed, bytes, password).map_err(|refusal| {
         let failure = refused(path, typed)(refusal);
@@ -281,6 +281,11 @@ pub(super) fn put_one(
     let handle = disk.open(&typed.name, 256, password).map_err(refused(path, typed))?;
     disk.trim(&handle).map_err(refused(path, typed))?;
     Ok(old)
+}
+
+fn is_empty(disk: &Disk, typed: &Typed) -> bool {
+    let entries = disk.entries().unwrap_or_default();
+    entries.iter().any(|entry| entry.name() == typed.name && entry.size() == 0 && entry.granules() == 0)
 }
 
 /// What a file wants of a disk, before it is written.
