@@ -16,14 +16,14 @@ fn link_holds(image: &[u8], g: Geometry, s: usize, runs: usize) -> bool
     requires { ⌜ Room g (now image) × Slot g (now image) s × (runs ≡ runsOf g (now image) s) ⌝ }
     ensures { λ r. ⌜ r ≡ linkHoldsBy g (now (image .entry)) 0x80 s ⌝ }
 {
-    let marker = layout::field(image, g, s, 0x1e);
-    if marker == 0xff {
+    let marker = layout::field(image, g, s, layout::MARKER);
+    if marker == layout::ENDS {
         return true;
     }
-    if marker != 0xfe {
+    if marker != layout::HANDS_ON {
         return false;
     }
-    if !entry::follows(image, g, 0x80, s, layout::field(image, g, s, 0x1f)) {
+    if !entry::follows(image, g, 0x80, s, layout::field(image, g, s, layout::LINK)) {
         return false;
     }
     runs == 4
@@ -90,14 +90,14 @@ fn line(image: &[u8], g: Geometry, s: usize, most: usize, entries: &mut [usize; 
         }
         granules += v.granules;
         n += 1;
-        if layout::field(image, g, at, 0x1e) == 0xff {
+        if layout::field(image, g, at, layout::MARKER) == layout::ENDS {
             return Walked {
                 ok: true,
                 slots: n,
                 granules,
             };
         }
-        at = layout::field(image, g, at, 0x1f);
+        at = layout::field(image, g, at, layout::LINK);
     }
     Walked {
         ok: true,
@@ -122,7 +122,7 @@ pub fn whole(image: &[u8], g: Geometry, s: usize, entries: &mut [usize; 256]) ->
     requires { ⌜ Room g (now image) × Slot g (now image) s × (length (now entries) ≡ 256) ⌝ }
     ensures { λ r. ⌜ Wholly g (now (image .entry)) s (now (entries .exit)) r ⌝ }
 {
-    if entry::flag(image, g, s, 7) {
+    if layout::flag(image, g, s, layout::EXTENSION) {
         return nothing();
     }
     if !entry::name_holds(image, g, s) {

@@ -16,7 +16,7 @@ fn take_run(image: &mut [u8], g: Geometry, a: usize, n: usize)
 {
     let mut k = 0;
     while k < n {
-        space::take_granule(image, g, a + k);
+        layout::take_granule(image, g, a + k);
         k += 1;
     }
 }
@@ -53,10 +53,9 @@ fn back_entry(image: &mut [u8], g: Geometry, s: usize, h: usize)
     requires { ⌜ Room g (now image) × Slot g (now image) s × (h < 256) ⌝ }
     ensures { λ _. ⌜ now (image .exit) ≡ backEntry g h (now (image .entry)) s ⌝ }
 {
-    let at = 256 * (g.start + 2 + s % 32) + 32 * (s / 32);
-    image[at] = space::with_bit(image[at], 4);
-    let hit = h as u8;
-    image[256 * (g.start + 1) + s] = hit;
+    let flags = layout::with_bit(layout::field(image, g, s, layout::FLAGS), layout::IN_USE);
+    layout::set_field(image, g, s, layout::FLAGS, flags);
+    layout::set_hit(image, g, s, h);
 }
 
 // Brings the first n of these entries back.

@@ -46,10 +46,10 @@ fn plan(
     if !layout::is_slot(image, g, s) {
         return refused(12);
     }
-    if entry::flag(image, g, s, 4) {
+    if layout::flag(image, g, s, layout::IN_USE) {
         return refused(17);
     }
-    if entry::flag(image, g, s, 6) {
+    if layout::flag(image, g, s, layout::SYSTEM) {
         return refused(6);
     }
     let l = back_chain::whole(image, g, s, entries);

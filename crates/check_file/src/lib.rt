@@ -31,7 +31,7 @@ fn count_holds(image: &[u8], g: Geometry, s: usize, at: usize, n: usize) -> bool
     if n != 0 {
         return true;
     }
-    check_walk::field_at(image, g, s, at, 3) == 0
+    check_walk::field_at(image, g, s, at, layout::END_BYTE) == 0
 }
 
 // A file: its name, its sizes, and its whole chain. The directory's granules are open to system files only: the walk of any other file must leave their
@@ -51,13 +51,13 @@ fn file_holds(
     requires { ⌜ Room g (now image) × Place g (now image) s at × (flags ≡ field g (now image) s 0) × (h ≡ hit g (now image) s) × Directory g (now image) from bits ⌝ }
     ensures { λ r. ⌜ FileSeen g (now (image .entry)) s (leastOf g (now (image .entry)) s) (standing g (now (image .entry)) (now (map .entry))) (standing g (now (image .entry)) (now (map .exit))) (now (met .entry)) (now (met .exit)) r ⌝ }
 {
-    if (flags >> 5) % 2 == 1 {
+    if (flags >> layout::ZERO) % 2 == 1 {
         return false;
     }
     if !name_holds(image, g, s, at, h) {
         return false;
     }
-    let n = check_walk::field_at(image, g, s, at, 0x14)
+    let n = check_walk::field_at(image, g, s, at, layout::SECTOR_COUNT)
         + 256 * check_walk::field_at(image, g, s, at, 0x15);
     if !count_holds(image, g, s, at, n) {
         return false;
@@ -67,7 +67,7 @@ fn file_holds(
     if !check_walk::file_walk(image, g, s, at, left, h, n, map, met) {
         return false;
     }
-    if (flags >> 6) % 2 == 1 {
+    if (flags >> layout::SYSTEM) % 2 == 1 {
         return true;
     }
     check_map::among(map, from, bits) == before
@@ -88,14 +88,14 @@ pub fn slot_holds(
     ensures { λ r. ⌜ Seen g (now (image .entry)) (s ∷ []) (standing g (now (image .entry)) (now (map .entry))) (standing g (now (image .entry)) (now (map .exit))) (now (met .entry)) (now (met .exit)) r ⌝ }
 {
     let h = layout::hit(image, g, s);
-    let flags = check_walk::field_at(image, g, s, at, 0);
+    let flags = check_walk::field_at(image, g, s, at, layout::FLAGS);
     if h == 0 {
-        return (flags >> 4) % 2 != 1;
+        return (flags >> layout::IN_USE) % 2 != 1;
     }
-    if (flags >> 4) % 2 != 1 {
+    if (flags >> layout::IN_USE) % 2 != 1 {
         return false;
     }
-    if (flags >> 7) % 2 == 1 {
+    if (flags >> layout::EXTENSION) % 2 == 1 {
         return true;
     }
     file_holds(image, g, s, at, flags, h, map, met, from, bits)

@@ -12,18 +12,6 @@ ghost use Rattle.meaning.specs.Consistent.{namesDiffer};
 ghost use Rattle.layout.specs.Room.{Room, Slot};
 ghost use Rattle.check_names.specs.Buckets.{Hashed, Buckets, Linked, bucket, unlike, Joined, Differing, Visited};
 
-// Whether the entry of slot s, which is at `at`, starts a file.
-fn starts_file(image: &[u8], g: Geometry, s: usize, at: usize) -> bool
-    requires { ⌜ Room g (now image) × Slot g (now image) s × (at ≡ entryAt g s) ⌝ }
-    ensures { λ r. ⌜ r ≡ inUsePrimary g (now (image .entry)) s ⌝ }
-{
-    let f = layout::wide(image[at]);
-    if (f >> 4) % 2 != 1 {
-        return false;
-    }
-    (f >> 7) % 2 != 1
-}
-
 // Whether no entry of a list has the name of slot s, whose entry is at `at`. The list starts at `first`: a slot's number plus 1, or 0 where
 // it ends; `next` tells what follows a slot.
 fn alone(image: &[u8], g: Geometry, s: usize, at: usize, first: usize, next: &[u16]) -> bool
@@ -32,14 +20,14 @@ fn alone(image: &[u8], g: Geometry, s: usize, at: usize, first: usize, next: &[u
         × (length (now next) ≡ 256) × ((k : _) → getD (now next) k 0 ≤ k) ⌝ }
     ensures { λ r. ⌜ r ≡ every (unlike g (now (image .entry)) s) (bucket g (now (image .entry)) (hit g (now (image .entry)) s) s) ⌝ }
 {
-    let a = at + 5;
+    let a = at + layout::NAME;
     let e = a + 11;
     let mut x = first;
     while 0 < x {
         let q = x - 1;
         if layout::same_name(
             image,
-            256 * (g.start + 2 + q % 32) + 32 * (q / 32) + 5,
+            256 * (g.start + 2 + q % 32) + 32 * (q / 32) + layout::NAME,
             &image[a..e],
         ) {
             return false;
@@ -71,7 +59,7 @@ fn visit(image: &[u8], g: Geometry, s: usize, at: usize, head: &mut [u8], next: 
         × Differing g (now image) s (now head) (now next) ⌝ }
     ensures { λ r. ⌜ Visited g (now (image .entry)) (s + 1) (now (head .exit)) (now (next .exit)) r ⌝ }
 {
-    if !starts_file(image, g, s, at) {
+    if !layout::primary_at(image, g, s, at) {
         return true;
     }
     joins(image, g, s, at, head, next)

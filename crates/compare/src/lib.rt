@@ -100,10 +100,10 @@ fn difference_at(first: &[u8], g: Geometry, second: &[u8], h: Geometry, p: Pair)
     if p.kind == 2 {
         return name_only(second, h, p.second, 2);
     }
-    if compare_attributes::is_system(first, g, p.first) {
+    if layout::system(first, g, p.first) {
         return name_only(first, g, p.first, 0);
     }
-    if compare_attributes::is_system(second, h, p.second) {
+    if layout::system(second, h, p.second) {
         return name_only(first, g, p.first, 0);
     }
     unlike(first, g, second, h, p.first, p.second)

@@ -1,8 +1,7 @@
-// Attributes of two files held against each other, and the system flag.
+// Attributes of two files held against each other.
 use meaning::Geometry;
 ghost use mathlib.Core.Path.{_≡_};
 ghost use Prim.Native.Nat.{_<_};
-ghost use Rattle.meaning.specs.Entries.{system};
 ghost use Rattle.layout.specs.Room.{Room, Slot};
 ghost use Rattle.compare_attributes.specs.Attributes.{differsAt, datesDiffer, othersDiffer};
 
@@ -61,22 +60,14 @@ pub fn others_differ(
     if differs_at(first, g, second, h, s, t, 4) {
         return true;
     }
-    if differs_at(first, g, second, h, s, t, 0x10) {
+    if differs_at(first, g, second, h, s, t, layout::MAIN_CODE) {
         return true;
     }
     if differs_at(first, g, second, h, s, t, 0x11) {
         return true;
     }
-    if differs_at(first, g, second, h, s, t, 0x12) {
+    if differs_at(first, g, second, h, s, t, layout::WORKER_CODE) {
         return true;
     }
     differs_at(first, g, second, h, s, t, 0x13)
-}
-
-// Whether slot s has the system flag.
-pub fn is_system(image: &[u8], g: Geometry, s: usize) -> bool
-    requires { ⌜ Room g (now image) × Slot g (now image) s ⌝ }
-    ensures { λ r. ⌜ r ≡ system g (now (image .entry)) s ⌝ }
-{
-    (layout::field(image, g, s, 0) >> 6) % 2 == 1
 }

@@ -42,7 +42,7 @@ pub fn name_place(image: &[u8], g: Geometry, s: usize) -> usize
     requires { ⌜ Room g (now image) × Slot g (now image) s ⌝ }
     ensures { λ r. ⌜ Placed g (now (image .entry)) s r ⌝ }
 {
-    256 * (g.start + 2 + s % 32) + 32 * (s / 32) + 5
+    layout::name_at(image, g, s)
 }
 
 // Whether the name of slot s comes after `last`.
@@ -86,7 +86,7 @@ fn next_file(image: &[u8], g: Geometry, last: &[u8]) -> usize
     requires { ⌜ Room g (now image) × (length (now last) ≡ 11) ⌝ }
     ensures { λ r. ⌜ Least g (now (image .entry)) (now (last .entry)) 256 r ⌝ }
 {
-    let columns = layout::directory_sectors(image, g) - 2;
+    let columns = layout::columns(image, g);
     let mut best = NO_SLOT;
     let mut s = 0;
     while s < 256 {

@@ -3,20 +3,10 @@ use meaning::Geometry;
 ghost use mathlib.Core.Path.{_≡_};
 ghost use Prim.Native.Nat.{_<_};
 ghost use lib.ListN.{length};
-ghost use Rattle.meaning.specs.Bits.{bit};
-ghost use Rattle.meaning.specs.Layout.{field};
 ghost use Rattle.meaning.specs.Entries.{sectorCount, endByte};
 ghost use Rattle.meaning.specs.Chain.{owned};
 ghost use Rattle.meaning.specs.Consistent.{followsBy, nameHolds, sizeHolds, countHolds};
 ghost use Rattle.layout.specs.Room.{Room, Slot};
-
-// Whether bit u of an entry's flags is set.
-pub fn flag(image: &[u8], g: Geometry, s: usize, u: usize) -> bool
-    requires { ⌜ Room g (now image) × Slot g (now image) s × (u < 8) ⌝ }
-    ensures { λ r. ⌜ r ≡ bit u (field g (now (image .entry)) s 0) ⌝ }
-{
-    (layout::field(image, g, s, 0) >> u) % 2 == 1
-}
 
 // Whether t is an extension that points back to s and has a run. Its flags are 90H where the file is in use, 80H where it is killed.
 pub fn follows(image: &[u8], g: Geometry, flags: usize, s: usize, t: usize) -> bool
@@ -26,10 +16,10 @@ pub fn follows(image: &[u8], g: Geometry, flags: usize, s: usize, t: usize) -> b
     if !layout::is_slot(image, g, t) {
         return false;
     }
-    if layout::field(image, g, t, 0) != flags {
+    if layout::field(image, g, t, layout::FLAGS) != flags {
         return false;
     }
-    if layout::field(image, g, t, 1) != s {
+    if layout::field(image, g, t, layout::BACK) != s {
         return false;
     }
     1 <= layout::runs(image, g, t)
@@ -45,7 +35,7 @@ pub fn name_holds(image: &[u8], g: Geometry, s: usize) -> bool
     if !name_spelling::well_formed(&image[a..e]) {
         return false;
     }
-    !flag(image, g, s, 5)
+    !layout::flag(image, g, s, layout::ZERO)
 }
 
 // n = 0 only with e = 0.
@@ -53,10 +43,10 @@ fn count_holds(image: &[u8], g: Geometry, s: usize) -> bool
     requires { ⌜ Room g (now image) × Slot g (now image) s ⌝ }
     ensures { λ r. ⌜ r ≡ countHolds (sectorCount g (now (image .entry)) s) (endByte g (now (image .entry)) s) ⌝ }
 {
-    if layout::word(image, g, s, 0x14) != 0 {
+    if layout::word(image, g, s, layout::SECTOR_COUNT) != 0 {
         return true;
     }
-    layout::field(image, g, s, 3) == 0
+    layout::field(image, g, s, layout::END_BYTE) == 0
 }
 
 // Of the first entry of a file: n = 0 only with e = 0; the size fits the granules owned.

@@ -31,11 +31,11 @@ pub fn entry_length(image: &[u8], g: Geometry, s: usize) -> usize
 {
     let mut k = 0;
     let mut n = 0;
-    while k < 4 {
-        if layout::field(image, g, s, 0x16 + 2 * k) == 255 {
+    while k < layout::PAIRS {
+        if layout::field(image, g, s, layout::BLOCKS + 2 * k) == layout::ENDS {
             return n;
         }
-        n = n + (1 + layout::field(image, g, s, 0x17 + 2 * k) % 32);
+        n = n + (1 + layout::field(image, g, s, layout::SECONDS + 2 * k) % 32);
         k += 1;
     }
     n
@@ -49,14 +49,14 @@ pub fn measure(image: &[u8], g: Geometry, s: usize) -> Extent
     let mut at = s;
     let mut last = s;
     let mut owned = 0;
-    let mut left = 8 * (layout::directory_sectors(image, g) - 2);
+    let mut left = layout::slots(image, g);
     while 0 < left {
         last = at;
         owned = owned + entry_length(image, g, at);
-        if layout::field(image, g, at, 0x1e) != 0xfe {
+        if layout::field(image, g, at, layout::MARKER) != layout::HANDS_ON {
             return Extent { last, owned };
         }
-        at = layout::field(image, g, at, 0x1f);
+        at = layout::field(image, g, at, layout::LINK);
         left -= 1;
     }
     Extent { last, owned }

@@ -19,7 +19,7 @@ fn hit_holds(image: &[u8], g: Geometry, s: usize) -> bool
     ensures { λ r. ⌜ r ≡ hitHolds g (now (image .entry)) s ⌝ }
 {
     let h = layout::hit(image, g, s);
-    let used = entry::flag(image, g, s, 4);
+    let used = layout::flag(image, g, s, layout::IN_USE);
     if h == 0 {
         return !used;
     }
@@ -45,7 +45,7 @@ fn hit_fault(image: &[u8], g: Geometry, s: usize) -> bool
     if !hit_holds(image, g, s) {
         return true;
     }
-    if !entry::flag(image, g, s, 4) {
+    if !layout::flag(image, g, s, layout::IN_USE) {
         return false;
     }
     if !fault_kinds::linked(image, g, s) {

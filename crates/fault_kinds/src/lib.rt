@@ -23,7 +23,7 @@ fn pair_holds(image: &[u8], g: Geometry, s: usize, n: usize, k: usize) -> bool
     if k < n {
         return true;
     }
-    layout::field(image, g, s, 0x16 + 2 * k) == 0xff
+    layout::field(image, g, s, layout::BLOCKS + 2 * k) == layout::ENDS
 }
 
 // After an FFH block every later pair starts with FFH.
@@ -50,10 +50,10 @@ fn used_extension(image: &[u8], g: Geometry, x: usize) -> bool
     if !layout::is_slot(image, g, x) {
         return false;
     }
-    if !entry::flag(image, g, x, 4) {
+    if !layout::flag(image, g, x, layout::IN_USE) {
         return false;
     }
-    entry::flag(image, g, x, 7)
+    layout::flag(image, g, x, layout::EXTENSION)
 }
 
 // Whether an entry hands on to the next of its chain.
@@ -61,13 +61,13 @@ fn hands_on(image: &[u8], g: Geometry, s: usize) -> bool
     requires { ⌜ Room g (now image) × Slot g (now image) s ⌝ }
     ensures { λ r. ⌜ r ≡ handsOn g (now (image .entry)) s ⌝ }
 {
-    if layout::field(image, g, s, 0x1e) != 0xfe {
+    if layout::field(image, g, s, layout::MARKER) != layout::HANDS_ON {
         return false;
     }
     if layout::runs(image, g, s) != 4 {
         return false;
     }
-    let x = layout::field(image, g, s, 0x1f);
+    let x = layout::field(image, g, s, layout::LINK);
     if !used_extension(image, g, x) {
         return false;
     }
@@ -79,7 +79,7 @@ fn ends(image: &[u8], g: Geometry, s: usize) -> bool
     requires { ⌜ Room g (now image) × Slot g (now image) s ⌝ }
     ensures { λ r. ⌜ r ≡ ends g (now (image .entry)) s ⌝ }
 {
-    if layout::field(image, g, s, 0x1e) != 0xff {
+    if layout::field(image, g, s, layout::MARKER) != layout::ENDS {
         return false;
     }
     pairs_hold(image, g, s)
@@ -110,7 +110,7 @@ fn comes_to(image: &[u8], g: Geometry, p: usize, n: usize, x: usize) -> bool
         if !hands_on(image, g, s) {
             return false;
         }
-        s = layout::field(image, g, s, 0x1f);
+        s = layout::field(image, g, s, layout::LINK);
         left -= 1;
     }
     false
@@ -121,7 +121,7 @@ fn slots(image: &[u8], g: Geometry) -> usize
     requires { ⌜ Room g (now image) ⌝ }
     ensures { λ r. ⌜ Below 257 (length (slots g (now (image .entry)))) r ⌝ }
 {
-    8 * (layout::directory_sectors(image, g) - 2)
+    layout::slots(image, g)
 }
 
 // Whether a file starts at slot p and its walk meets x.
@@ -182,7 +182,7 @@ fn leads(image: &[u8], g: Geometry, x: usize, b: usize) -> bool
     if !layout::is_slot(image, g, b) {
         return false;
     }
-    if layout::field(image, g, b, 0x1f) != x {
+    if layout::field(image, g, b, layout::LINK) != x {
         return false;
     }
     if !hands_on(image, g, b) {
@@ -230,7 +230,7 @@ pub fn linked(image: &[u8], g: Geometry, s: usize) -> bool
     requires { ⌜ Room g (now image) × Slot g (now image) s ⌝ }
     ensures { λ r. ⌜ r ≡ any (not (extension g (now (image .entry)) s) ∷ goodExtension g (now (image .entry)) s ∷ []) ⌝ }
 {
-    if !entry::flag(image, g, s, 7) {
+    if !layout::flag(image, g, s, layout::EXTENSION) {
         return true;
     }
     good_extension(image, g, s)
@@ -240,7 +240,7 @@ pub fn chain_fault(image: &[u8], g: Geometry, s: usize) -> bool
     requires { ⌜ Room g (now image) × Slot g (now image) s ⌝ }
     ensures { λ r. ⌜ r ≡ chainFault g (now (image .entry)) s ⌝ }
 {
-    if !entry::flag(image, g, s, 4) {
+    if !layout::flag(image, g, s, layout::IN_USE) {
         return false;
     }
     if bad_entry(image, g, s) {
@@ -256,7 +256,7 @@ fn run_holds(image: &[u8], g: Geometry, s: usize, k: usize) -> bool
     requires { ⌜ Room g (now image) × Slot g (now image) s × (k < 4) ⌝ }
     ensures { λ r. ⌜ r ≡ runHolds g (now (image .entry)) s k ⌝ }
 {
-    if g.units <= layout::field(image, g, s, 0x17 + 2 * k) / 32 {
+    if g.units <= layout::field(image, g, s, layout::SECONDS + 2 * k) / 32 {
         return false;
     }
     layout::run_start(image, g, s, k) + layout::run_length(image, g, s, k) <= layout::granules(g)
@@ -281,7 +281,7 @@ pub fn run_fault(image: &[u8], g: Geometry, s: usize) -> bool
     requires { ⌜ Room g (now image) × Slot g (now image) s ⌝ }
     ensures { λ r. ⌜ r ≡ runFault g (now (image .entry)) s ⌝ }
 {
-    if !entry::flag(image, g, s, 4) {
+    if !layout::flag(image, g, s, layout::IN_USE) {
         return false;
     }
     !runs_hold(image, g, s)
@@ -325,7 +325,7 @@ pub fn gat_fault(image: &[u8], g: Geometry, s: usize) -> bool
     requires { ⌜ Room g (now image) × Slot g (now image) s × (runFault g (now image) s ≡ false) ⌝ }
     ensures { λ r. ⌜ r ≡ gatFault g (now (image .entry)) s ⌝ }
 {
-    if !entry::flag(image, g, s, 4) {
+    if !layout::flag(image, g, s, layout::IN_USE) {
         return false;
     }
     !gat_holds(image, g, s)
@@ -454,7 +454,7 @@ fn shares(image: &[u8], g: Geometry, s: usize, t: usize) -> bool
     if !layout::is_slot(image, g, t) {
         return false;
     }
-    if !entry::flag(image, g, t, 4) {
+    if !layout::flag(image, g, t, layout::IN_USE) {
         return false;
     }
     entries_meet(image, g, s, t)
@@ -479,7 +479,7 @@ pub fn shared_fault(image: &[u8], g: Geometry, s: usize) -> bool
     requires { ⌜ Room g (now image) × Slot g (now image) s ⌝ }
     ensures { λ r. ⌜ r ≡ sharedFault g (now (image .entry)) s ⌝ }
 {
-    if !entry::flag(image, g, s, 4) {
+    if !layout::flag(image, g, s, layout::IN_USE) {
         return false;
     }
     if twice(image, g, s) {
@@ -504,7 +504,7 @@ fn whole_from(image: &[u8], g: Geometry, p: usize, n: usize) -> bool
         if !hands_on(image, g, s) {
             return true;
         }
-        s = layout::field(image, g, s, 0x1f);
+        s = layout::field(image, g, s, layout::LINK);
         left -= 1;
     }
     true
@@ -523,7 +523,7 @@ fn count_from(image: &[u8], g: Geometry, p: usize, n: usize) -> usize
         if !hands_on(image, g, s) {
             return c;
         }
-        s = layout::field(image, g, s, 0x1f);
+        s = layout::field(image, g, s, layout::LINK);
         left -= 1;
     }
     c
@@ -558,11 +558,11 @@ pub fn directory_fault(image: &[u8], g: Geometry, s: usize) -> bool
     requires { ⌜ Room g (now image) × Slot g (now image) s ⌝ }
     ensures { λ r. ⌜ r ≡ directoryFault g (now (image .entry)) s ⌝ }
 {
-    if !entry::flag(image, g, s, 4) {
+    if !layout::flag(image, g, s, layout::IN_USE) {
         return false;
     }
     let p = file_of(image, g, s);
-    if entry::flag(image, g, p, 6) {
+    if layout::flag(image, g, p, layout::SYSTEM) {
         return false;
     }
     let b = g.start / layout::granule_sectors(g);

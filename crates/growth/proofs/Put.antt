@@ -1,17 +1,14 @@
 -- What the stores of a growth leave.
 use mathlib.Core.Path.{_≡_, refl, ap, ap₂, sym, _∙_}
-use mathlib.Core.Logic.{_≢_}
 use mathlib.Core.Bool.{Bool, true, false, not, cond}
 use mathlib.Core.List.{List, [], _∷_, _++_, append-assoc, append-nil}
-use Prim.Native.Nat.{ℕ, _+_, _*_, _/_, _%_, _≤_}
+use Prim.Native.Nat.{ℕ, _+_, _*_, _≤_}
 use native.Mathlib.Omega.{arith}
 use lib.ListN.{length, getD, set, take, drop, length-set, length-drop, take-append-drop}
-use lib.Seq.{sets, length-sets, sets-eq, getD-set-other, set-comm, length-take-le, drop-length, take-all, drop-drop}
-use Rattle.meaning.specs.Bits.{withBit}
-use Rattle.meaning.specs.Layout.{byte, gatAt, entryAt, hitAt, hit, field, setField, takeGranule}
+use lib.Seq.{sets, length-sets, sets-eq, length-take-le, drop-length, take-all, drop-drop}
+use Rattle.meaning.specs.Layout.{entryAt, hitAt, hit, setField}
 use Rattle.meaning.specs.Growth.{newExtension, withExtension}
 use Rattle.meaning.specs.declared.Geometry.{Geometry}
-use Rattle.growth.specs.Inside.{Inside}
 use Rattle.growth.specs.Choose.{OnlyGat}
 
 module _ (g : Geometry) (p : ℕ) (d : List ℕ) (e x : ℕ) {d₁ : List ℕ} (q : d₁ ≡ sets (set (set d (entryAt g e + 0x1e) 0xfe) (entryAt g e + 0x1f) x) (entryAt g x) (newExtension e)) where
@@ -40,34 +37,6 @@ not-stored f true x y d e q = absurd (let z : _≡_ {A = ℕ} 0 1 = ap (λ (b : 
 pub writes-yes : (b : Bool) → not b ≡ false → b ≡ true
 writes-yes true e = refl
 writes-yes false e = sym e
-
--- The granule first and the entry after it, or the other way round
-module _ (g : Geometry) (d : List ℕ) (e m : ℕ) {w : ℕ} (i : Inside g (length d) e m) (q : w ≡ withBit (m % g .units) (byte d (gatAt g m))) where
-  apart : (k : ℕ) → gatAt g m ≢ entryAt g e + k
-  apart k z = let b = i .block in let y : ⊥ = omega arith in y
-
-  apart′ : (k : ℕ) → entryAt g e + k ≢ gatAt g m
-  apart′ k z = let b = i .block in let y : ⊥ = omega arith in y
-
-  pub marked-is : set d (gatAt g m) w ≡ takeGranule g d m
-  unfolding takeGranule
-  marked-is = ap (λ (x : ℕ). set d (gatAt g m) x) q
-
-  pub longer-swap : (k : ℕ) → set (set d (gatAt g m) w) (entryAt g e + k) (getD (set d (gatAt g m) w) (entryAt g e + k) 0 + 1) ≡ takeGranule g (setField g d e k (field g d e k + 1)) m
-  unfolding takeGranule setField field
-  longer-swap k =
-      ap (λ (x : ℕ). set (set d (gatAt g m) w) (entryAt g e + k) (x + 1)) (getD-set-other d (gatAt g m) (entryAt g e + k) w 0 (apart′ k))
-      ∙ set-comm d (gatAt g m) (entryAt g e + k) w (getD d (entryAt g e + k) 0 + 1) (apart k)
-      ∙ ap (λ (x : ℕ). set (set d (entryAt g e + k) (getD d (entryAt g e + k) 0 + 1)) (gatAt g m) x)
-      (q ∙ ap (withBit (m % g .units)) (sym (getD-set-other d (entryAt g e + k) (gatAt g m) (getD d (entryAt g e + k) 0 + 1) 0 (apart k))))
-
-  pub pair-swap : (k l u v : ℕ) → set (set (set d (gatAt g m) w) (entryAt g e + k) u) (entryAt g e + l) v ≡ takeGranule g (setField g (setField g d e k u) e l v) m
-  unfolding takeGranule setField
-  pair-swap k l u v =
-      ap (λ (x : List ℕ). set x (entryAt g e + l) v) (set-comm d (gatAt g m) (entryAt g e + k) w u (apart k))
-      ∙ set-comm (set d (entryAt g e + k) u) (gatAt g m) (entryAt g e + l) w v (apart l)
-      ∙ ap (λ (x : ℕ). set (set (set d (entryAt g e + k) u) (entryAt g e + l) v) (gatAt g m) x)
-      (q ∙ ap (withBit (m % g .units)) (sym (getD-set-other (set d (entryAt g e + k) u) (entryAt g e + l) (gatAt g m) v 0 (apart l) ∙ getD-set-other d (entryAt g e + k) (gatAt g m) u 0 (apart k))))
 
 -- The GAT put back as it was
 pub put-back : (g : Geometry) (d d₂ z : List ℕ) {d₃ s : List ℕ} → OnlyGat g d d₂ → 256 * g .start + 192 ≤ length d → length z ≡ 192

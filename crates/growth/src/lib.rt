@@ -20,28 +20,19 @@ pub struct Chosen {
     pub most: usize,
 }
 
-// A run is 1 to 32 granules.
-const MOST_RUN: usize = 32;
-
-// An entry has four pairs.
-const PAIRS: usize = 4;
-
-// No free stretch has more granules than the largest disk.
-const MOST_GRANULES: usize = 1536;
-
 // One further granule, m, in pair k of the entry at slot e: in the GAT, and in the entry where it writes.
 fn put_longer(image: &mut [u8], g: Geometry, e: usize, k: usize, m: usize, writes: bool)
     requires { ⌜ Inside g (length (now image)) e m × (k < 4) × (writes ≡ true → field g (now image) e (0x17 + 2 * k) % 32 < 31) ⌝ }
     ensures { λ _. ⌜ now (image .exit) ≡ takeGranule g
         (cond writes (setField g (now (image .entry)) e (0x17 + 2 * k) (field g (now (image .entry)) e (0x17 + 2 * k) + 1)) (now (image .entry))) m ⌝ }
 {
-    let gat = 256 * g.start + m / g.units;
-    image[gat] = space::with_bit(image[gat], m % g.units);
     if !writes {
+        layout::take_granule(image, g, m);
         return;
     }
-    let at = 256 * (g.start + 2 + e % 32) + 32 * (e / 32) + (0x17 + 2 * k);
-    image[at] = image[at] + 1;
+    let second = layout::entry_byte(image, g, e, layout::SECONDS + 2 * k);
+    layout::set_field(image, g, e, layout::SECONDS + 2 * k, second + 1);
+    layout::take_granule(image, g, m);
 }
 
 // Granule n as a run of its own, pair k of the entry at slot e: in the GAT, and in the entry where it writes.
@@ -50,14 +41,12 @@ fn put_pair(image: &mut [u8], g: Geometry, e: usize, k: usize, n: usize, writes:
     ensures { λ _. ⌜ now (image .exit) ≡ takeGranule g
         (cond writes (setField g (setField g (now (image .entry)) e (0x16 + 2 * k) (n / g .units)) e (0x17 + 2 * k) (n % g .units * 32)) (now (image .entry))) n ⌝ }
 {
-    let gat = 256 * g.start + n / g.units;
-    image[gat] = space::with_bit(image[gat], n % g.units);
     if !writes {
+        layout::take_granule(image, g, n);
         return;
     }
-    let at = 256 * (g.start + 2 + e % 32) + 32 * (e / 32);
-    image[at + (0x16 + 2 * k)] = (n / g.units) as u8;
-    image[at + (0x17 + 2 * k)] = (n % g.units * 32) as u8;
+    layout::set_pair(image, g, e, k, n / g.units, n % g.units * 32);
+    layout::take_granule(image, g, n);
 }
 
 // Slot x as an extension after the entry at slot e of the file at slot p.
@@ -164,12 +153,12 @@ fn take_granules(
     let mut after = end.after;
     let mut long = end.long;
     let mut next = 0;
-    let mut most = MOST_GRANULES;
+    let mut most = layout::MOST_GRANULES;
     let mut slot = 0;
     let mut left = k;
     while 0 < left {
         left -= 1;
-        if long < MOST_RUN {
+        if long < layout::MOST_RUN {
             if growth_search::is_clear(image, g, after) {
                 put_longer(image, g, last, runs - 1, after, writes);
                 after += 1;
@@ -183,7 +172,7 @@ fn take_granules(
         most = c.most;
         after = n + 1;
         long = 1;
-        if runs < PAIRS {
+        if runs < layout::PAIRS {
             put_pair(image, g, last, runs, n, writes);
             runs += 1;
             continue;
@@ -207,12 +196,12 @@ fn too_few_slots(image: &mut [u8], g: Geometry, p: usize, e: usize, k: usize, lo
     requires { ⌜ Ready g (now image) p × (e ≡ tail g p (now image)) × (k ≤ length (freeGranules g (now image))) ⌝ }
     ensures { λ r. ⌜ (r ≡ fails (growBy g p (choiceBy g lowest) k (now (image .entry)))) × (now (image .exit) ≡ now (image .entry)) ⌝ }
 {
-    let pairs = PAIRS - layout::runs(image, g, e);
+    let pairs = layout::PAIRS - layout::runs(image, g, e);
     if k <= pairs {
         return false;
     }
     let end = growth_search::last_run(image, g, e);
-    if k - pairs <= MOST_RUN - end.long {
+    if k - pairs <= layout::MOST_RUN - end.long {
         if growth_search::all_clear(image, g, end.after, k - pairs) {
             return false;
         }
@@ -229,7 +218,7 @@ fn no_growth(image: &[u8], g: Geometry, s: usize) -> bool
     requires { ⌜ Room g (now image) × Slot g (now image) s ⌝ }
     ensures { λ r. ⌜ r ≡ noGrowth g (now (image .entry)) s ⌝ }
 {
-    (layout::field(image, g, s, 1) >> 6) % 2 == 1
+    (layout::field(image, g, s, layout::DAY) >> layout::NO_GROWTH) % 2 == 1
 }
 
 // The file at slot p gets what it lacks of the granules wanted, or the number of the refusal: 11, 9, 8.

@@ -94,7 +94,7 @@ pub fn next_slot(image: &[u8], g: Geometry, from: usize) -> usize
     requires { ⌜ Room g (now image) × (from ≤ 256) ⌝ }
     ensures { λ r. ⌜ NextSlot g (now (image .entry)) from r ⌝ }
 {
-    let n = layout::directory_sectors(image, g) - 2;
+    let n = layout::columns(image, g);
     let mut s = from;
     while s < 256 {
         if layout::hit(image, g, s) == 0 {

@@ -8,10 +8,9 @@ ghost use mathlib.Core.List.{[], _∷_};
 ghost use lib.Dec.{ltb};
 ghost use Rattle.meaning.specs.Lists.{all};
 ghost use Rattle.meaning.specs.Layout.{sectorNumbers};
-ghost use Rattle.meaning.specs.Entries.{system};
 ghost use Rattle.meaning.specs.Refusals.{first, check, handleRefusals, notForReading, protected};
 ghost use Rattle.meaning.specs.Handles.{goodLength, inRange, fresh};
-ghost use Rattle.layout.specs.Room.{Room, Slot};
+ghost use Rattle.layout.specs.Room.{Room};
 
 // Record length 1 to 256.
 pub fn good_length(len: usize) -> bool
@@ -66,13 +65,6 @@ pub fn fresh(image: &[u8], g: Geometry, h: Handle) -> bool
     )
 }
 
-pub fn system(image: &[u8], g: Geometry, s: usize) -> bool
-    requires { ⌜ Room g (now image) × Slot g (now image) s ⌝ }
-    ensures { λ r. ⌜ r ≡ system g (now (image .entry)) s ⌝ }
-{
-    (layout::field(image, g, s, 0) >> 6) % 2 == 1
-}
-
 pub fn handle_number(image: &[u8], g: Geometry, h: Handle, ranged: bool, checked: Refusal) -> u8
     requires { ⌜ checked ≡ check g (now image) ⌝ }
     ensures { λ r. ⌜ r ≡ first (handleRefusals g (now (image .entry)) h ranged []) ⌝ }
@@ -123,7 +115,7 @@ pub fn changing_number(
     if most < h.level {
         return 6;
     }
-    if system(image, g, h.slot) {
+    if layout::system(image, g, h.slot) {
         return 6;
     }
     0

@@ -26,13 +26,13 @@ fn tells(image: &[u8], g: Geometry, s: usize, at: usize) -> bool
     ensures { λ r. ⌜ r ≡ all (inUsePrimary g (now (image .entry)) s ∷ shown g (now (image .entry)) s ∷ []) ⌝ }
 {
     let f = layout::wide(image[at]);
-    if (f >> 4) % 2 != 1 {
+    if (f >> layout::IN_USE) % 2 != 1 {
         return false;
     }
-    if (f >> 7) % 2 == 1 {
+    if (f >> layout::EXTENSION) % 2 == 1 {
         return false;
     }
-    (f >> 6) % 2 != 1
+    (f >> layout::SYSTEM) % 2 != 1
 }
 
 // Nothing told of a file: a refusal, or "no more".

@@ -43,7 +43,7 @@ pub fn find(image: &[u8], g: Geometry, name: &[u8]) -> Found
     ensures { λ r. ⌜ Finds g (now (image .entry)) (now (name .entry)) r ⌝ }
 {
     let h = name_hash::hash(name);
-    let columns = layout::directory_sectors(image, g) - 2;
+    let columns = layout::columns(image, g);
     let mut compared = 0;
     let mut row = 0;
     while row < 8 {
@@ -133,7 +133,7 @@ pub fn full(image: &[u8], g: Geometry, s: usize, checking: bool, code: u16) -> b
     if !checking {
         return true;
     }
-    let main = layout::word(image, g, s, 0x10);
+    let main = layout::word(image, g, s, layout::MAIN_CODE);
     if main == g.noPassword as usize {
         return true;
     }
@@ -148,7 +148,7 @@ pub fn admits(image: &[u8], g: Geometry, s: usize, checking: bool, code: u16) ->
     if full(image, g, s, checking, code) {
         return true;
     }
-    code as usize == layout::word(image, g, s, 0x12)
+    code as usize == layout::word(image, g, s, layout::WORKER_CODE)
 }
 
 // The handle of a file just opened: the stored level where only the worker code fits.
@@ -166,7 +166,7 @@ pub fn opened_at(
 {
     let mut level = 0;
     if !full(image, g, s, checking, code) {
-        level = layout::field(image, g, s, 0) % 8;
+        level = layout::field(image, g, s, layout::FLAGS) % 8;
     }
     Handle {
         slot: s,

@@ -141,7 +141,7 @@ pub fn sector_number(image: &[u8], g: Geometry, h: Handle, k: usize, checked: Re
     if number != 0 {
         return number;
     }
-    if layout::word(image, g, h.slot, 0x14) <= k {
+    if layout::word(image, g, h.slot, layout::SECTOR_COUNT) <= k {
         return 10;
     }
     0
@@ -152,10 +152,10 @@ pub fn sector_bytes(image: &[u8], g: Geometry, s: usize, k: usize) -> usize
     requires { ⌜ Room g (now image) × Slot g (now image) s × (k < sectorCount g (now image) s) × (k < 65536) ⌝ }
     ensures { λ r. ⌜ (r ≡ sectorBytes g (now (image .entry)) s k) × (r ≤ 256) ⌝ }
 {
-    if k + 1 != layout::word(image, g, s, 0x14) {
+    if k + 1 != layout::word(image, g, s, layout::SECTOR_COUNT) {
         return 256;
     }
-    let e = layout::field(image, g, s, 3);
+    let e = layout::field(image, g, s, layout::END_BYTE);
     if e == 0 {
         return 256;
     }

@@ -18,8 +18,9 @@ use Rattle.meaning.specs.declared.Geometry.{Geometry}
 use Rattle.lists.specs.Members.{In, none-in, in-cons, each-eq}
 use Rattle.laws.specs.Entry.{runs-le}
 use Rattle.laws.specs.Frame
-use Rattle.layout.specs.Room.{Room, Slot}
+use Rattle.layout.specs.Room.{Room, Slot, Bit}
 use Rattle.layout.proofs.OneStep.{gat-low}
+use Rattle.layout.proofs.HasRoom.{bit-fits}
 use Rattle.lists.specs.Tests.{and-l}
 use Rattle.seek.specs.Seek.{Walkable, Used}
 use Rattle.seek.proofs.SeekSteps.{slots-same}
@@ -57,6 +58,10 @@ pub same-refl : (g : Geometry) (d : List ℕ) → Same g d d
 same-refl g d = record { long = refl; bytes = λ a h l. refl }
 
 module _ (g : Geometry) (d d′ : List ℕ) (r : Room g d) (e : Same g d d′) where
+  -- the GAT bit of a granule lies in the image
+  pub same-bit : {n : ℕ} → n < granules g → Bit g (length d′) n
+  same-bit {n} h = bit-fits g d d′ n r h (e .long)
+
   pub same-sectors : directorySectors g d′ ≡ directorySectors g d
   same-sectors = opened g d d′ (e .bytes (256 * (g .start + 1) + 31) (omega arith) (let t = r .ten in omega arith))
 

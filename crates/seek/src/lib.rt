@@ -21,8 +21,8 @@ pub fn seek_entry(image: &[u8], g: Geometry, s: usize, k: usize) -> Seek
 {
     let mut j = 0;
     let mut left = k;
-    while j < 4 {
-        if layout::field(image, g, s, 0x16 + 2 * j) == 255 {
+    while j < layout::PAIRS {
+        if layout::field(image, g, s, layout::BLOCKS + 2 * j) == layout::ENDS {
             return Seek {
                 here: false,
                 at: left,
@@ -57,10 +57,10 @@ pub fn entry_walk(image: &[u8], g: Geometry, s: usize, k: usize, left: usize) ->
         if e.here {
             return e.at;
         }
-        if layout::field(image, g, at, 0x1e) != 0xfe {
+        if layout::field(image, g, at, layout::MARKER) != layout::HANDS_ON {
             return 0;
         }
-        at = layout::field(image, g, at, 0x1f);
+        at = layout::field(image, g, at, layout::LINK);
         seek = e.at;
         more -= 1;
     }
@@ -72,8 +72,7 @@ pub fn owned_at(image: &[u8], g: Geometry, s: usize, k: usize) -> usize
     requires { ⌜ Walkable g (now image) × Used g (now image) s × (k < 65536) ⌝ }
     ensures { λ r. ⌜ (r ≡ getD (owned g (now (image .entry)) s) k 0) × (r ≤ k + 2080) ⌝ }
 {
-    let n = layout::directory_sectors(image, g);
-    entry_walk(image, g, s, k, 8 * (n - 2))
+    entry_walk(image, g, s, k, layout::slots(image, g))
 }
 
 // Where byte i of the file at slot s lies in the image.

@@ -1,4 +1,4 @@
-// Granules taken and given back, entries cleared.
+// Granules given back, entries cleared; the free slots and granules.
 use meaning::Geometry;
 ghost use mathlib.Core.Path.{_≡_};
 ghost use Prim.Native.Nat.{_+_, _*_, _%_, _<_, _≤_};
@@ -7,8 +7,7 @@ ghost use lib.Dec.{eqb};
 ghost use mathlib.Core.List.{[], _∷_};
 ghost use Rattle.meaning.specs.Lists.{count, each, through, firstOr, all, every};
 ghost use Rattle.meaning.specs.Free.{freeGranules, freeSlots};
-ghost use Rattle.meaning.specs.Layout.{granules, taken, takeGranule, freeGranule};
-ghost use Rattle.meaning.specs.Bits.{withBit, withoutBit};
+ghost use Rattle.meaning.specs.Layout.{granules, taken, freeGranule};
 ghost use Rattle.meaning.specs.Kill.{killEntry};
 ghost use Rattle.meaning.specs.Entries.{entryGranules};
 ghost use Rattle.meaning.specs.Chain.{chainFrom, chain, owned};
@@ -17,46 +16,14 @@ ghost use Rattle.seek.specs.Seek.{Walkable, Used};
 ghost use Rattle.space.specs.Clear.{clearBits};
 ghost use Rattle.space.specs.Keeps.{Keeps};
 
-pub fn without_bit(b: u8, u: usize) -> u8
-    requires { ⌜ u < 8 ⌝ }
-    ensures { λ r. ⌜ r ≡ withoutBit u b ⌝ }
-{
-    let p: u8 = 1 << u;
-    b - (b & p)
-}
-
-pub fn with_bit(b: u8, u: usize) -> u8
-    requires { ⌜ u < 8 ⌝ }
-    ensures { λ r. ⌜ r ≡ withBit u b ⌝ }
-{
-    let p: u8 = 1 << u;
-    b | p
-}
-
-pub fn free_granule(image: &mut [u8], g: Geometry, n: usize)
-    requires { ⌜ Room g (now image) × (n < granules g) ⌝ }
-    ensures { λ _. ⌜ now (image .exit) ≡ freeGranule g (now (image .entry)) n ⌝ }
-{
-    let at = 256 * g.start + n / g.units;
-    image[at] = without_bit(image[at], n % g.units);
-}
-
-pub fn take_granule(image: &mut [u8], g: Geometry, n: usize)
-    requires { ⌜ Room g (now image) × (n < granules g) ⌝ }
-    ensures { λ _. ⌜ now (image .exit) ≡ takeGranule g (now (image .entry)) n ⌝ }
-{
-    let at = 256 * g.start + n / g.units;
-    image[at] = with_bit(image[at], n % g.units);
-}
-
 // Clears bit 4 of an entry, and its HIT byte.
 pub fn kill_entry(image: &mut [u8], g: Geometry, s: usize)
     requires { ⌜ Room g (now image) × Slot g (now image) s ⌝ }
     ensures { λ _. ⌜ now (image .exit) ≡ killEntry g (now (image .entry)) s ⌝ }
 {
-    let at = 256 * (g.start + 2 + s % 32) + 32 * (s / 32);
-    image[at] = without_bit(image[at], 4);
-    image[256 * (g.start + 1) + s] = 0;
+    let flags = layout::without_bit(layout::field(image, g, s, layout::FLAGS), layout::IN_USE);
+    layout::set_field(image, g, s, layout::FLAGS, flags);
+    layout::set_hit(image, g, s, 0);
 }
 
 // Gives back n granules from a on.
@@ -66,7 +33,7 @@ pub fn free_run(image: &mut [u8], g: Geometry, a: usize, n: usize)
 {
     let mut k = 0;
     while k < n {
-        free_granule(image, g, a + k);
+        layout::free_granule(image, g, a + k);
         k += 1;
     }
 }
@@ -95,10 +62,10 @@ pub fn free_chain(image: &mut [u8], g: Geometry, s: usize, most: usize)
     let mut left = most;
     while 0 < left {
         free_entry(image, g, at);
-        if layout::field(image, g, at, 0x1e) != 0xfe {
+        if layout::field(image, g, at, layout::MARKER) != layout::HANDS_ON {
             return;
         }
-        at = layout::field(image, g, at, 0x1f);
+        at = layout::field(image, g, at, layout::LINK);
         left -= 1;
     }
 }
@@ -111,10 +78,10 @@ pub fn kill_chain(image: &mut [u8], g: Geometry, s: usize, most: usize)
     let mut at = s;
     let mut left = most;
     while 0 < left {
-        let marker = layout::field(image, g, at, 0x1e);
-        let link = layout::field(image, g, at, 0x1f);
+        let marker = layout::field(image, g, at, layout::MARKER);
+        let link = layout::field(image, g, at, layout::LINK);
         kill_entry(image, g, at);
-        if marker != 0xfe {
+        if marker != layout::HANDS_ON {
             return;
         }
         at = link;
@@ -154,7 +121,7 @@ pub fn first_free_slot(image: &[u8], g: Geometry) -> usize
     requires { ⌜ Room g (now image) ⌝ }
     ensures { λ r. ⌜ r ≡ firstOr 256 (freeSlots g (now (image .entry))) ⌝ }
 {
-    let n = layout::directory_sectors(image, g) - 2;
+    let n = layout::columns(image, g);
     let mut found = 256;
     let mut row = 0;
     'rows: while row < 8 {

@@ -34,14 +34,8 @@ use Rattle.layout.proofs.HasRoom.{slot-yes}
 use Rattle.passed.proofs.Checked.{passed, passed-user}
 use Rattle.seek.specs.Seek.{Walkable, Used}
 use Rattle.passed.proofs.Ready.{walks}
-use Rattle.trim.specs.Last.{Last, Bit}
+use Rattle.trim.specs.Last.{Last}
 use Rattle.trim.proofs.Step
-
-pub bit-fits : (g : Geometry) (d d′ : List ℕ) (n : ℕ) → Room g d → n < granules g → length d′ ≡ length d → Bit g (length d′) n
-bit-fits g d d′ n r h l =
-    let a = r .directory in let b = r .long in let c = r .blocks-high in let t = r .ten in
-    let q = gat-low g n h (r .units-low) in
-    record { units-low = r .units-low; units-high = r .units-high; inside = omega arith }
 
 module _ (g : Geometry) (d : List ℕ) (p e : ℕ) (l : Last g d p e 1) where
   size : sizeOf g d p + granuleBytes g ≤ granuleBytes g * length (owned g d p)

@@ -15,9 +15,3 @@ pub record Last (g : Geometry) (d : List ℕ) (p e n : ℕ) : Type 0 where
   pub ready : Ready g d p
   pub last : e ≡ tail g p d
   pub room : sizeOf g d p + granuleBytes g * n ≤ granuleBytes g * length (owned g d p)
-
--- the GAT bit of granule n lies in an image of so many bytes
-pub record Bit (g : Geometry) (bytes n : ℕ) : Type 0 where
-  pub units-low : 1 ≤ g .units
-  pub units-high : g .units ≤ 8
-  pub inside : 256 * g .start + n / g .units < bytes

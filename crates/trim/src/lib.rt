@@ -7,30 +7,21 @@ ghost use mathlib.Core.Path.{_≡_};
 ghost use Prim.Native.Nat.{_+_, _-_, _*_, _/_, _<_, _≤_};
 ghost use lib.ListN.{length};
 ghost use Rattle.meaning.specs.Lists.{times};
-ghost use Rattle.meaning.specs.Layout.{field, setField, freeGranule, entryAt};
+ghost use Rattle.meaning.specs.Layout.{field, setField, entryAt};
 ghost use Rattle.meaning.specs.Chain.{owned};
 ghost use Rattle.meaning.specs.Growth.{tail};
 ghost use Rattle.meaning.specs.Drop.{unhooked, dropOne};
 ghost use Rattle.meaning.specs.Refusals.{check};
 ghost use Rattle.meaning.specs.Trim.{trim};
-ghost use Rattle.trim.specs.Last.{Last, Bit};
-
-// Clears the GAT bit of granule n.
-fn clear_bit(image: &mut [u8], g: Geometry, n: usize)
-    requires { ⌜ Bit g (length (now image)) n ⌝ }
-    ensures { λ _. ⌜ now (image .exit) ≡ freeGranule g (now (image .entry)) n ⌝ }
-{
-    let at = 256 * g.start + n / g.units;
-    image[at] = space::without_bit(image[at], n % g.units);
-}
+ghost use Rattle.trim.specs.Last.{Last};
 
 // Pair k of the entry at slot e, shorter by one.
 fn shorten(image: &mut [u8], g: Geometry, e: usize, k: usize)
     requires { ⌜ (entryAt g e + 32 ≤ length (now image)) × (k < 4) × (1 ≤ field g (now image) e (0x17 + 2 * k)) ⌝ }
     ensures { λ _. ⌜ now (image .exit) ≡ setField g (now (image .entry)) e (0x17 + 2 * k) (field g (now (image .entry)) e (0x17 + 2 * k) - 1) ⌝ }
 {
-    let at = 256 * (g.start + 2 + e % 32) + 32 * (e / 32) + (0x17 + 2 * k);
-    image[at] = image[at] - 1;
+    let second = layout::entry_byte(image, g, e, layout::SECONDS + 2 * k);
+    layout::set_field(image, g, e, layout::SECONDS + 2 * k, second - 1);
 }
 
 // Pair k of the entry at slot e, emptied.
@@ -38,9 +29,7 @@ fn empty_pair(image: &mut [u8], g: Geometry, e: usize, k: usize)
     requires { ⌜ (entryAt g e + 32 ≤ length (now image)) × (k < 4) ⌝ }
     ensures { λ _. ⌜ now (image .exit) ≡ setField g (setField g (now (image .entry)) e (0x16 + 2 * k) 0xff) e (0x17 + 2 * k) 0xff ⌝ }
 {
-    let at = 256 * (g.start + 2 + e % 32) + 32 * (e / 32);
-    image[at + (0x16 + 2 * k)] = 0xff;
-    image[at + (0x17 + 2 * k)] = 0xff;
+    layout::set_pair(image, g, e, k, layout::ENDS, layout::ENDS);
 }
 
 // An emptied extension at slot e, and the entry before it.
@@ -48,14 +37,10 @@ fn unhook(image: &mut [u8], g: Geometry, p: usize, e: usize, before: usize)
     requires { ⌜ (entryAt g e + 32 ≤ length (now image)) × (entryAt g before + 32 ≤ length (now image)) × (e < 256) ⌝ }
     ensures { λ _. ⌜ now (image .exit) ≡ unhooked g (now (image .entry)) e before ⌝ }
 {
-    let at = 256 * (g.start + 2 + e % 32) + 32 * (e / 32);
-    image[at] = 0x80;
-    image[256 * (g.start + 1) + e] = 0;
-    image[at + 0x1e] = 0xff;
-    image[at + 0x1f] = 0xff;
-    let ends = 256 * (g.start + 2 + before % 32) + 32 * (before / 32);
-    image[ends + 0x1e] = 0xff;
-    image[ends + 0x1f] = 0xff;
+    layout::set_field(image, g, e, layout::FLAGS, 0x80);
+    layout::set_hit(image, g, e, 0);
+    layout::set_link(image, g, e, layout::ENDS, layout::ENDS);
+    layout::set_link(image, g, before, layout::ENDS, layout::ENDS);
 }
 
 // The file at slot p, whose last entry is at slot e, loses its last granule. Answers where its last entry is then.
@@ -68,20 +53,20 @@ fn drop_one(image: &mut [u8], g: Geometry, p: usize, e: usize) -> usize
     let n = layout::run_start(image, g, e, k) + len - 1;
     if 1 < len {
         shorten(image, g, e, k);
-        clear_bit(image, g, n);
+        layout::free_granule(image, g, n);
         return e;
     }
-    let flags = layout::field(image, g, e, 0);
-    let before = layout::field(image, g, e, 1);
+    let flags = layout::field(image, g, e, layout::FLAGS);
+    let before = layout::field(image, g, e, layout::BACK);
     empty_pair(image, g, e, k);
-    if (flags >> 7) % 2 == 1 {
+    if (flags >> layout::EXTENSION) % 2 == 1 {
         if k == 0 {
             unhook(image, g, p, e, before);
-            clear_bit(image, g, n);
+            layout::free_granule(image, g, n);
             return before;
         }
     }
-    clear_bit(image, g, n);
+    layout::free_granule(image, g, n);
     e
 }
 
@@ -111,8 +96,8 @@ pub fn trim_checked(image: &mut [u8], g: Geometry, h: Handle, checked: Refusal) 
             handle: h,
         };
     }
-    let keeps = layout::field(image, g, h.slot, 1);
-    if (keeps >> 7) % 2 == 1 {
+    let keeps = layout::field(image, g, h.slot, layout::DAY);
+    if (keeps >> layout::KEEPS_SPACE) % 2 == 1 {
         return Answer {
             refusal: refusal::carried(checked, 0),
             handle: h,

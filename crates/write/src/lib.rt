@@ -111,13 +111,15 @@ fn put_size(image: &mut [u8], g: Geometry, s: usize, size: usize)
     requires { ⌜ (entryAt g s + 32 ≤ length (now image)) × (size ≤ 7864320) ⌝ }
     ensures { λ _. ⌜ now (image .exit) ≡ withSize g (now (image .entry)) s size ⌝ }
 {
-    let at = 256 * (g.start + 2 + s % 32) + 32 * (s / 32);
     let n = (size + 255) / 256;
-    let worked = space::with_bit(image[at + 1], 5);
-    image[at + 3] = (size % 256) as u8;
-    image[at + 0x14] = (n % 256) as u8;
-    image[at + 0x15] = (n / 256) as u8;
-    image[at + 1] = worked;
+    let worked = layout::with_bit(
+        layout::entry_byte(image, g, s, layout::DAY),
+        layout::WORKED_ON,
+    );
+    layout::set_field(image, g, s, layout::END_BYTE, size % 256);
+    layout::set_field(image, g, s, layout::SECTOR_COUNT, n % 256);
+    layout::set_field(image, g, s, layout::SECTOR_COUNT + 1, n / 256);
+    layout::set_field(image, g, s, layout::DAY, worked);
 }
 
 // A write of n bytes, from the buffer's start, on a disk whose check answered `checked`: write record where n is the handle's record length,

@@ -7,7 +7,7 @@ use Rattle.back_chain.proofs.whole.Statement.{statement}
 use Rattle.back_chain.proofs.whole.Tie as tie
 use Rattle.back_chain.proofs.whole.Reads as reads
 use Rattle.back_chain.proofs.whole.Lts as lts
-use Rattle.entry.proofs.flag.Reads as flag-reads
+use Rattle.layout.proofs.flag.Reads as flag-reads
 use Rattle.back_chain.proofs.line.Reads as line-reads
 use Rattle.entry.proofs.name_holds.Reads as name-holds-reads
 use Rattle.back_chain.proofs.nothing.Reads as nothing-reads

@@ -1,7 +1,7 @@
 use Rattle.back_taken.proofs.Steps.{run-steps}
 use Rattle.back_write.proofs.Done.{done-end}
 use Rattle.back_write.proofs.Frame.{Taking, taking-start, taking-more, under-one}
-use Rattle.seek.proofs.Frame.{same-room}
+use Rattle.seek.proofs.Frame.{same-bit}
 use Rattle.meaning.specs.Lists.{count}
 use Prim.Native.Nat.{_-_}
 use native.Mathlib.Omega.{arith}
@@ -9,7 +9,7 @@ use Rattle.back_write.proofs.take_run.Statement.{statement}
 use Rattle.back_write.proofs.take_run.Tie as tie
 use Rattle.back_write.proofs.take_run.Reads as reads
 use Rattle.back_write.proofs.take_run.Lts as lts
-use Rattle.space.proofs.take_granule.Reads as take-granule-reads
+use Rattle.layout.proofs.take_granule.Reads as take-granule-reads
 
 abbrev Inv-loop : tie.InvT-loop
 Inv-loop image₀ g a n k₀ image k = Taking g image₀ (count a) image k n
@@ -24,7 +24,7 @@ add-take-granule : tie.Need-add-take-granule Inv-loop μ-loop
 add-take-granule c = let m = c .before .before .before .before .pre .0 .most in omega arith
 
 take-granule-requires : tie.Need-take-granule-requires Inv-loop μ-loop
-take-granule-requires c κs = (same-room _ _ _ (c .before .before .before .before .pre .0) (c .before .before .loop .inv .same), omega arith)
+take-granule-requires c κs = same-bit _ _ _ (c .before .before .before .before .pre .0) (c .before .before .loop .inv .same) (omega arith)
 
 add-k : tie.Need-add-k Inv-loop μ-loop
 add-k c = omega arith

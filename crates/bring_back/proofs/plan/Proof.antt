@@ -15,7 +15,7 @@ use Rattle.bring_back.proofs.plan.Tie as tie
 use Rattle.bring_back.proofs.plan.Reads as reads
 use Rattle.bring_back.proofs.plan.Lts as lts
 use Rattle.back_taken.proofs.any_taken.Reads as any-taken-reads
-use Rattle.entry.proofs.flag.Reads as flag-reads
+use Rattle.layout.proofs.flag.Reads as flag-reads
 use Rattle.bring_back.proofs.refused.Reads as refused-reads
 use Rattle.back_chain.proofs.whole.Reads as whole-reads
 use Rattle.look_up.proofs.find.Reads as find-reads

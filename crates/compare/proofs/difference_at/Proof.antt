@@ -5,7 +5,7 @@ use Rattle.compare.proofs.difference_at.Statement.{statement}
 use Rattle.compare.proofs.difference_at.Tie as tie
 use Rattle.compare.proofs.difference_at.Reads as reads
 use Rattle.compare.proofs.difference_at.Lts as lts
-use Rattle.compare_attributes.proofs.is_system.Reads as is-system-reads
+use Rattle.layout.proofs.system.Reads as system-reads
 use Rattle.compare.proofs.name_only.Reads as name-only-reads
 use Rattle.compare.proofs.unlike.Reads as unlike-reads
 
@@ -21,29 +21,29 @@ name-only-requires-2 c κs = let k = c .if2 .taken in (c .before .before .before
 returns-2 : tie.Need-returns-2
 returns-2 c = diff-second _ _ _ _ _ (c .before .if2 .taken) (c .name-only2 .ensures)
 
-is-system-requires : tie.Need-is-system-requires
-is-system-requires c κs = (c .before .before .before .before .before .before .pre .0 .sound .room, c .before .before .before .before .before .before .pre .2 .first′ (c .if2 .left) .slot)
+system-requires : tie.Need-system-requires
+system-requires c κs = (c .before .before .before .before .before .before .pre .0 .sound .room, c .before .before .before .before .before .before .pre .2 .first′ (c .if2 .left) .slot)
 
 name-only-requires-3 : tie.Need-name-only-requires-3
 name-only-requires-3 c κs = (c .before .before .before .before .before .before .before .before .pre .0 .sound .room, c .before .before .before .before .before .before .before .before .pre .2 .first′ (c .before .before .if2 .left) .slot)
 
 returns-3 : tie.Need-returns-3
-returns-3 c = diff-system _ _ _ _ _ (c .before .before .before .before .before .if1 .left) (c .before .before .before .if2 .left) (sym (c .before .before .is-system .ensures) ∙ c .before .if3 .taken) (c .name-only3 .ensures)
+returns-3 c = diff-system _ _ _ _ _ (c .before .before .before .before .before .if1 .left) (c .before .before .before .if2 .left) (sym (c .before .before .system .ensures) ∙ c .before .if3 .taken) (c .name-only3 .ensures)
 
-is-system-requires-2 : tie.Need-is-system-requires-2
-is-system-requires-2 c κs = (c .before .before .before .before .before .before .before .before .pre .1 .sound .room, c .before .before .before .before .before .before .before .before .pre .2 .second′ (c .before .before .before .before .if1 .left) .slot)
+system-requires-2 : tie.Need-system-requires-2
+system-requires-2 c κs = (c .before .before .before .before .before .before .before .before .pre .1 .sound .room, c .before .before .before .before .before .before .before .before .pre .2 .second′ (c .before .before .before .before .if1 .left) .slot)
 
 name-only-requires-4 : tie.Need-name-only-requires-4
 name-only-requires-4 c κs = (c .before .before .before .before .before .before .before .before .before .before .pre .0 .sound .room, c .before .before .before .before .before .before .before .before .before .before .pre .2 .first′ (c .before .before .before .before .if2 .left) .slot)
 
 returns-4 : tie.Need-returns-4
-returns-4 c = diff-system-2 _ _ _ _ _ (c .before .before .before .before .before .before .before .if1 .left) (c .before .before .before .before .before .if2 .left) (sym (c .before .before .before .before .is-system .ensures) ∙ c .before .before .before .if3 .left) (sym (c .before .before .is-system2 .ensures) ∙ c .before .if4 .taken) (c .name-only4 .ensures)
+returns-4 c = diff-system-2 _ _ _ _ _ (c .before .before .before .before .before .before .before .if1 .left) (c .before .before .before .before .before .if2 .left) (sym (c .before .before .before .before .system .ensures) ∙ c .before .before .before .if3 .left) (sym (c .before .before .system2 .ensures) ∙ c .before .if4 .taken) (c .name-only4 .ensures)
 
 unlike-requires : tie.Need-unlike-requires
 unlike-requires c κs = (c .before .before .before .before .before .before .before .before .before .before .pre .0, c .before .before .before .before .before .before .before .before .before .before .pre .1, c .before .before .before .before .before .before .before .before .before .before .pre .2 .first′ (c .before .before .before .before .if2 .left), c .before .before .before .before .before .before .before .before .before .before .pre .2 .second′ (c .before .before .before .before .before .before .if1 .left))
 
 returns-5 : tie.Need-returns-5
-returns-5 c = diff-unlike _ _ _ _ _ (c .before .before .before .before .before .before .before .if1 .left) (c .before .before .before .before .before .if2 .left) (sym (c .before .before .before .before .is-system .ensures) ∙ c .before .before .before .if3 .left) (sym (c .before .before .is-system2 .ensures) ∙ c .before .if4 .left) (c .unlike .ensures)
+returns-5 c = diff-unlike _ _ _ _ _ (c .before .before .before .before .before .before .before .if1 .left) (c .before .before .before .before .before .if2 .left) (sym (c .before .before .before .before .system .ensures) ∙ c .before .before .before .if3 .left) (sym (c .before .before .system2 .ensures) ∙ c .before .if4 .left) (c .unlike .ensures)
 
 pub difference-at-spec : {M : Type 1} → statement M
 difference-at-spec =
@@ -53,10 +53,10 @@ difference-at-spec =
     returns
     name-only-requires-2
     returns-2
-    is-system-requires
+    system-requires
     name-only-requires-3
     returns-3
-    is-system-requires-2
+    system-requires-2
     name-only-requires-4
     returns-4
     unlike-requires

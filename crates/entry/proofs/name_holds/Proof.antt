@@ -6,7 +6,7 @@ use Rattle.entry.proofs.name_holds.Statement.{statement}
 use Rattle.entry.proofs.name_holds.Tie as tie
 use Rattle.entry.proofs.name_holds.Reads as reads
 use Rattle.entry.proofs.name_holds.Lts as lts
-use Rattle.entry.proofs.flag.Reads as flag-reads
+use Rattle.layout.proofs.flag.Reads as flag-reads
 use Rattle.name_spelling.proofs.well_formed.Reads as well-formed-reads
 
 add-a : tie.Need-add-a

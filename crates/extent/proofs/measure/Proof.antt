@@ -8,7 +8,7 @@ use Rattle.extent.proofs.measure.Tie as tie
 use Rattle.extent.proofs.measure.Reads as reads
 use Rattle.extent.proofs.measure.Lts as lts
 use Rattle.extent.proofs.entry_length.Reads as entry-length-reads
-use Rattle.layout.proofs.directory_sectors.Reads as directory-sectors-reads
+use Rattle.layout.proofs.slots.Reads as slots-reads
 use Rattle.layout.proofs.field.Reads as field-reads
 
 abbrev Inv-loop : tie.InvT-loop
@@ -17,17 +17,11 @@ Inv-loop image g s at₀ last₀ owned₀ left₀ at last owned left = Measuring
 abbrev μ-loop : tie.MeasureT-loop
 μ-loop image g s at₀ last₀ owned₀ left₀ at last owned left = left
 
-directory-sectors-requires : tie.Need-directory-sectors-requires Inv-loop μ-loop
-directory-sectors-requires c κs = search needs
-
-sub-left : tie.Need-sub-left Inv-loop μ-loop
-sub-left c = let e = c .directory-sectors .ensures in let t = c .before .before .pre .0 .room .ten in omega arith
-
-mul-left : tie.Need-mul-left Inv-loop μ-loop
-mul-left c = search needs
+slots-requires : tie.Need-slots-requires Inv-loop μ-loop
+slots-requires c κs = search needs
 
 loop-holds : tie.Need-loop-holds Inv-loop μ-loop
-loop-holds c = let e = c .directory-sectors .ensures in let t = c .before .before .pre .0 .room .thirty in (measuring-start _ _ _ (c .before .before .pre .1), omega arith)
+loop-holds c = let e = c .slots .ensures .is in let t = c .before .before .pre .0 .room .thirty in (measuring-start _ _ _ (c .before .before .pre .1), omega arith)
 
 entry-length-requires : tie.Need-entry-length-requires Inv-loop μ-loop
 entry-length-requires c κs = (c .before .before .before .before .pre .0 .room, c .before .loop .inv .0 .used .slot)
@@ -39,13 +33,13 @@ field-requires : tie.Need-field-requires Inv-loop μ-loop
 field-requires c κs = (c .before .before .before .before .before .pre .0 .room, c .before .before .loop .inv .0 .used .slot, omega arith)
 
 returns : tie.Need-returns Inv-loop μ-loop
-returns c = measuring-stop _ _ (c .before .before .before .before .before .before .before .pre .0) (ap (λ (k : ℕ). 8 * (k - 2)) (c .before .before .before .before .before .directory-sectors .ensures)) (c .before .before .before .before .loop .inv .0) (c .before .before .before .loop-test .taken) (c .before .before .entry-length .ensures) (c .before .field .ensures .is) (c .if1 .taken)
+returns c = measuring-stop _ _ (c .before .before .before .before .before .before .before .pre .0) (c .before .before .before .before .before .slots .ensures .is) (c .before .before .before .before .loop .inv .0) (c .before .before .before .loop-test .taken) (c .before .before .entry-length .ensures) (c .before .field .ensures .is) (c .if1 .taken)
 
 field-requires-2 : tie.Need-field-requires-2 Inv-loop μ-loop
 field-requires-2 c κs = (c .before .before .before .before .before .before .before .pre .0 .room, c .before .before .before .before .loop .inv .0 .used .slot, omega arith)
 
-sub-left-2 : tie.Need-sub-left-2 Inv-loop μ-loop
-sub-left-2 c = search needs
+sub-left : tie.Need-sub-left Inv-loop μ-loop
+sub-left c = search needs
 
 loop-less : tie.Need-loop-less Inv-loop μ-loop
 loop-less c = search needs
@@ -54,7 +48,7 @@ loop-again : tie.Need-loop-again Inv-loop μ-loop
 loop-again c = (measuring-step _ _ (c .before .before .before .before .before .before .before .before .pre .0) (c .before .before .before .before .before .loop .inv .0) (c .before .before .before .before .loop-test .taken) (c .before .before .before .entry-length .ensures) (c .before .before .field .ensures .is) (c .before .if1 .left) (c .field2 .ensures .is), c .before .before .before .before .before .loop .inv .1)
 
 returns-2 : tie.Need-returns-2 Inv-loop μ-loop
-returns-2 c = measuring-end _ _ (c .before .before .before .before .pre .0) (ap (λ (k : ℕ). 8 * (k - 2)) (c .before .before .directory-sectors .ensures)) (c .before .loop .inv .0) (c .loop-test .left)
+returns-2 c = measuring-end _ _ (c .before .before .before .before .pre .0) (c .before .before .slots .ensures .is) (c .before .loop .inv .0) (c .loop-test .left)
 
 pub measure-spec : {M : Type 1} → statement M
 measure-spec =
@@ -62,16 +56,14 @@ measure-spec =
     (tie.spec
     Inv-loop
     μ-loop
-    directory-sectors-requires
-    sub-left
-    mul-left
+    slots-requires
     loop-holds
     entry-length-requires
     add-owned
     field-requires
     returns
     field-requires-2
-    sub-left-2
+    sub-left
     loop-less
     loop-again
     returns-2)

@@ -11,7 +11,7 @@ use Rattle.fault_kinds.proofs.directory_fault.Statement.{statement}
 use Rattle.fault_kinds.proofs.directory_fault.Tie as tie
 use Rattle.fault_kinds.proofs.directory_fault.Reads as reads
 use Rattle.fault_kinds.proofs.directory_fault.Lts as lts
-use Rattle.entry.proofs.flag.Reads as flag-reads
+use Rattle.layout.proofs.flag.Reads as flag-reads
 use Rattle.fault_kinds.proofs.entry_in.Reads as entry-in-reads
 use Rattle.fault_kinds.proofs.file_of.Reads as file-of-reads
 use Rattle.layout.proofs.directory_granules.Reads as directory-granules-reads

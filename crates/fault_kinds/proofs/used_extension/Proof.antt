@@ -8,7 +8,7 @@ use Rattle.fault_kinds.proofs.used_extension.Statement.{statement}
 use Rattle.fault_kinds.proofs.used_extension.Tie as tie
 use Rattle.fault_kinds.proofs.used_extension.Reads as reads
 use Rattle.fault_kinds.proofs.used_extension.Lts as lts
-use Rattle.entry.proofs.flag.Reads as flag-reads
+use Rattle.layout.proofs.flag.Reads as flag-reads
 use Rattle.layout.proofs.is_slot.Reads as is-slot-reads
 
 is-slot-requires : tie.Need-is-slot-requires

@@ -1,108 +1,82 @@
-use native.Mathlib.Omega.{arith}
-use native.Mathlib.Nat.{mod-lt}
-use lib.Seq.{getD-set-other}
-use lib.ListN.{length-set}
+use Rattle.growth.proofs.Put.{stored, not-stored, writes-yes}
+use Rattle.meaning.specs.Layout.{takeGranule, setField}
 use Prim.Native.Nat.{ℕ, _+_, _*_, _/_, _%_}
-use Rattle.meaning.specs.Layout.{field, takeGranule}
-use Rattle.growth.proofs.Put.{stored, not-stored, writes-yes, marked-is, longer-swap}
+use mathlib.Core.Path.{_≡_, ap, _∙_}
+use mathlib.Core.List.{List}
+use lib.ListN.{length}
+use native.Mathlib.Omega.{arith}
 use borrow.Author.Needs.{needs}
 use Rattle.growth.proofs.put_longer.Statement.{statement}
 use Rattle.growth.proofs.put_longer.Tie as tie
 use Rattle.growth.proofs.put_longer.Reads as reads
 use Rattle.growth.proofs.put_longer.Lts as lts
-use Rattle.space.proofs.with_bit.Reads as with-bit-reads
+use Rattle.layout.proofs.entry_byte.Reads as entry-byte-reads
+use Rattle.layout.proofs.set_field.Reads as set-field-reads
+use Rattle.layout.proofs.take_granule.Reads as take-granule-reads
 
-mul-gat : tie.Need-mul-gat
-mul-gat c = search needs
-
-div-gat : tie.Need-div-gat
-div-gat c = search needs
-
-add-gat : tie.Need-add-gat
-add-gat c = search needs
-
-slice-read-with-bit : tie.Need-slice-read-with-bit
-slice-read-with-bit c = search needs
-
-rem-with-bit : tie.Need-rem-with-bit
-rem-with-bit c = search needs
-
-with-bit-requires : tie.Need-with-bit-requires
-with-bit-requires c κs = let a = c .before .before .before .before .before .pre .0 .units-low in let b = c .before .before .before .before .before .pre .0 .units-high in let m = mod-lt (c .before .before .before .before .before .args .m) a in omega arith
-
-slice-write-image : tie.Need-slice-write-image
-slice-write-image c = search needs
+take-granule-requires : tie.Need-take-granule-requires
+take-granule-requires c κs = let i = c .before .before .before .pre .0 in let q = i .entry in let w = i .block in
+    record { units-low = i .units-low; units-high = i .units-high; inside = omega arith }
 
 same-length : tie.Need-same-length
 same-length c = search needs
 
 returns : tie.Need-returns
-returns c = not-stored (λ l. takeGranule (c .before .before .before .before .before .before .before .args .g) l (c .before .before .before .before .before .before .before .args .m)) (c .before .before .before .before .before .before .before .args .writes) _ _ _ (c .if1 .taken) (marked-is _ _ _ _ (c .before .before .before .before .before .before .before .pre .0) (c .before .with-bit .ensures))
+returns c = let a = c .before .before .before .before .before .before .args in
+    not-stored (λ (l : List ℕ). takeGranule (a .g) l (a .m)) (a .writes) _ _ _ (c .before .before .before .before .if1 .taken) (c .before .before .take-granule .ensures)
 
-add-at : tie.Need-add-at
-add-at c = search needs
+mul-entry-byte : tie.Need-mul-entry-byte
+mul-entry-byte c = search needs
 
-add-at-2 : tie.Need-add-at-2
-add-at-2 c = search needs
+add-entry-byte : tie.Need-add-entry-byte
+add-entry-byte c = search needs
 
-mul-at : tie.Need-mul-at
-mul-at c = search needs
+entry-byte-requires : tie.Need-entry-byte-requires
+entry-byte-requires c κs = let q = c .before .before .before .pre .0 .entry in (omega arith, omega arith)
 
-mul-at-2 : tie.Need-mul-at-2
-mul-at-2 c = search needs
+mul-set-field : tie.Need-mul-set-field
+mul-set-field c = search needs
 
-add-at-3 : tie.Need-add-at-3
-add-at-3 c = search needs
+add-set-field : tie.Need-add-set-field
+add-set-field c = search needs
 
-mul-at-3 : tie.Need-mul-at-3
-mul-at-3 c = search needs
+add-set-field-2 : tie.Need-add-set-field-2
+add-set-field-2 c = search needs
 
-add-at-4 : tie.Need-add-at-4
-add-at-4 c = search needs
+set-field-requires : tie.Need-set-field-requires
+set-field-requires c κs = let q = c .before .before .before .before .before .pre .0 .entry in let p = c .before .before .before .before .before .pre .2 (writes-yes _ (c .before .before .before .if1 .left)) in
+    let s = c .before .entry-byte .ensures .is in let t = c .before .entry-byte .ensures .small in (omega arith, omega arith, omega arith)
 
-add-at-5 : tie.Need-add-at-5
-add-at-5 c = search needs
-
-slice-read-image : tie.Need-slice-read-image
-slice-read-image c = let b = c .before .before .before .before .before .before .before .before .before .pre .0 .entry in let q = c .before .before .before .before .before .before .before .before .before .pre .1 in simp length-set (omega arith)
-
-add-image : tie.Need-add-image
-unfolding field
-add-image c = let b = c .before .before .before .before .before .before .before .before .slice-known .given (256 * (c .before .before .before .before .before .before .before .before .before .args .g .start + 2 + c .before .before .before .before .before .before .before .before .before .args .e % 32) + 32 * (c .before .before .before .before .before .before .before .before .before .args .e / 32) + (23 + 2 * c .before .before .before .before .before .before .before .before .before .args .k)) in let q = c .before .before .before .before .before .before .before .before .before .pre .2 (writes-yes (c .before .before .before .before .before .before .before .before .before .args .writes) (c .before .before .if1 .left)) in let z = c .before .before .before .before .before .before .before .before .before .pre .0 .block in
-    rw (getD-set-other {A = ℕ} (c .before .before .before .before .before .before .before .before .before .args .image .now) (256 * c .before .before .before .before .before .before .before .before .before .args .g .start + c .before .before .before .before .before .before .before .before .before .args .m / c .before .before .before .before .before .before .before .before .before .args .g .units) (256 * (c .before .before .before .before .before .before .before .before .before .args .g .start + 2 + c .before .before .before .before .before .before .before .before .before .args .e % 32) + 32 * (c .before .before .before .before .before .before .before .before .before .args .e / 32) + (23 + 2 * c .before .before .before .before .before .before .before .before .before .args .k)) _ 0 (λ w. omega arith)) (omega arith)
-
-slice-write-image-2 : tie.Need-slice-write-image-2
-slice-write-image-2 c = let b = c .before .before .before .before .before .before .before .before .before .pre .0 .entry in let q = c .before .before .before .before .before .before .before .before .before .pre .1 in simp length-set (omega arith)
+take-granule-requires-2 : tie.Need-take-granule-requires-2
+take-granule-requires-2 c κs = let i = c .before .before .before .before .before .before .before .before .before .pre .0 in let q = i .entry in let w = i .block in
+    let z : length (c .before .before .before .set-field .last .0) ≡ length (c .before .before .before .before .before .before .before .before .before .args .image .now) = search needs in
+    record { units-low = i .units-low; units-high = i .units-high; inside = omega arith }
 
 same-length-2 : tie.Need-same-length-2
 same-length-2 c = search needs
 
 returns-2 : tie.Need-returns-2
-returns-2 c = stored (λ l. takeGranule (c .before .before .before .before .before .before .before .before .before .args .g) l (c .before .before .before .before .before .before .before .before .before .args .m)) (c .before .before .before .before .before .before .before .before .before .args .writes) _ _ _ (c .before .before .if1 .left) (longer-swap _ _ _ _ (c .before .before .before .before .before .before .before .before .before .pre .0) (c .before .before .before .with-bit .ensures) (0x17 + 2 * c .before .before .before .before .before .before .before .before .before .args .k))
+returns-2 c = let a = c .before .before .before .before .before .before .before .before .before .before .before .before .args in
+    stored (λ (l : List ℕ). takeGranule (a .g) l (a .m)) (a .writes) _ _ _ (c .before .before .before .before .before .before .before .before .before .before .if1 .left)
+    (c .before .before .take-granule2 .ensures
+    ∙ ap (λ (l : List ℕ). takeGranule (a .g) l (a .m))
+    (c .before .before .before .before .before .before .set-field .ensures
+    ∙ ap (λ (v : ℕ). setField (a .g) (a .image .now) (a .e) (0x17 + 2 * a .k) (v + 1)) (c .before .before .before .before .before .before .before .before .entry-byte .ensures .is)))
 
 pub put-longer-spec : {M : Type 1} → statement M
 put-longer-spec =
     tie.close
     (tie.spec
-    mul-gat
-    div-gat
-    add-gat
-    slice-read-with-bit
-    rem-with-bit
-    with-bit-requires
-    slice-write-image
+    take-granule-requires
     same-length
     returns
-    add-at
-    add-at-2
-    mul-at
-    mul-at-2
-    add-at-3
-    mul-at-3
-    add-at-4
-    add-at-5
-    slice-read-image
-    add-image
-    slice-write-image-2
+    mul-entry-byte
+    add-entry-byte
+    entry-byte-requires
+    mul-set-field
+    add-set-field
+    add-set-field-2
+    set-field-requires
+    take-granule-requires-2
     same-length-2
     returns-2)

@@ -9,7 +9,7 @@ use Rattle.growth_search.proofs.next_slot.Statement.{statement}
 use Rattle.growth_search.proofs.next_slot.Tie as tie
 use Rattle.growth_search.proofs.next_slot.Reads as reads
 use Rattle.growth_search.proofs.next_slot.Lts as lts
-use Rattle.layout.proofs.directory_sectors.Reads as directory-sectors-reads
+use Rattle.layout.proofs.columns.Reads as columns-reads
 use Rattle.layout.proofs.hit.Reads as hit-reads
 
 abbrev Inv-loop : tie.InvT-loop
@@ -18,11 +18,8 @@ Inv-loop image g from n s₀ s = Looking g image from s
 abbrev μ-loop : tie.MeasureT-loop
 μ-loop image g from n s₀ s = 256 - s
 
-directory-sectors-requires : tie.Need-directory-sectors-requires Inv-loop μ-loop
-directory-sectors-requires c κs = search needs
-
-sub-n : tie.Need-sub-n Inv-loop μ-loop
-sub-n c = let e = c .directory-sectors .ensures in let t = c .before .before .pre .0 .ten in omega arith
+columns-requires : tie.Need-columns-requires Inv-loop μ-loop
+columns-requires c κs = search needs
 
 loop-holds : tie.Need-loop-holds Inv-loop μ-loop
 loop-holds c = looking-start _ _ (c .before .before .pre .1)
@@ -34,7 +31,7 @@ kept-columns-requires : tie.Need-kept-columns-requires Inv-loop μ-loop
 kept-columns-requires c κs = search needs
 
 returns : tie.Need-returns Inv-loop μ-loop
-returns c = let e = c .before .before .before .before .before .before .before .directory-sectors .ensures in looking-found _ _ (c .before .before .before .before .before .before .loop .inv) (slot-open _ _ _ (c .before .before .before .before .before .loop-test .taken) (let w = c .before .before .if2 .taken in omega arith) (keeps-no (c .before .kept-columns .ensures) _ refl (c .if3 .taken)) (sym (c .before .before .before .before .hit .ensures .is) ∙ c .before .before .before .if1 .taken))
+returns c = let e = c .before .before .before .before .before .before .before .columns .ensures .is in looking-found _ _ (c .before .before .before .before .before .before .loop .inv) (slot-open _ _ _ (c .before .before .before .before .before .loop-test .taken) (let w = c .before .before .if2 .taken in omega arith) (keeps-no (c .before .kept-columns .ensures) _ refl (c .if3 .taken)) (sym (c .before .before .before .before .hit .ensures .is) ∙ c .before .before .before .if1 .taken))
 
 add-s : tie.Need-add-s Inv-loop μ-loop
 add-s c = search needs
@@ -43,7 +40,7 @@ loop-less : tie.Need-loop-less Inv-loop μ-loop
 loop-less c = search needs
 
 loop-again : tie.Need-loop-again Inv-loop μ-loop
-loop-again c = let e = c .before .before .before .before .directory-sectors .ensures in
+loop-again c = let e = c .before .before .before .before .columns .ensures .is in
     looking-step _ _ (c .before .before .before .loop .inv) (c .before .before .loop-test .taken) (⊎-elim
     (λ w. slot-kept _ _ _ (keeps-yes (w .2 .ensures) _ refl (w .3 .left)))
     (λ v. ⊎-elim (λ w. let a = w .1 .left in slot-past _ _ _ (c .before .before .loop-test .taken) (omega arith)) (λ w. slot-used _ _ _ (λ q. w .left (c .before .hit .ensures .is ∙ q))) v)
@@ -58,8 +55,7 @@ next-slot-spec =
     (tie.spec
     Inv-loop
     μ-loop
-    directory-sectors-requires
-    sub-n
+    columns-requires
     loop-holds
     hit-requires
     kept-columns-requires

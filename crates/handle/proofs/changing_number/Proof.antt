@@ -8,7 +8,7 @@ use Rattle.handle.proofs.changing_number.Tie as tie
 use Rattle.handle.proofs.changing_number.Reads as reads
 use Rattle.handle.proofs.changing_number.Lts as lts
 use Rattle.handle.proofs.handle_number.Reads as handle-number-reads
-use Rattle.handle.proofs.system.Reads as system-reads
+use Rattle.layout.proofs.system.Reads as system-reads
 
 handle-number-requires : tie.Need-handle-number-requires
 handle-number-requires c κs = search needs

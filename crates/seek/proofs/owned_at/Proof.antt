@@ -11,26 +11,20 @@ use Rattle.seek.proofs.owned_at.Statement.{statement}
 use Rattle.seek.proofs.owned_at.Tie as tie
 use Rattle.seek.proofs.owned_at.Reads as reads
 use Rattle.seek.proofs.owned_at.Lts as lts
-use Rattle.layout.proofs.directory_sectors.Reads as directory-sectors-reads
+use Rattle.layout.proofs.slots.Reads as slots-reads
 use Rattle.seek.proofs.entry_walk.Reads as entry-walk-reads
 
-directory-sectors-requires : tie.Need-directory-sectors-requires
-directory-sectors-requires c κs = search needs
-
-sub-entry-walk : tie.Need-sub-entry-walk
-sub-entry-walk c = search needs
-
-mul-entry-walk : tie.Need-mul-entry-walk
-mul-entry-walk c = search needs
+slots-requires : tie.Need-slots-requires
+slots-requires c κs = search needs
 
 entry-walk-requires : tie.Need-entry-walk-requires
 entry-walk-requires c κs = search needs
 
 returns : tie.Need-returns
 unfolding owned chain
-returns c = let a = c .before .before .before .args in (c .entry-walk .ensures .0 ∙ ap (λ (n : ℕ). getD (each (entryGranules (a .g) (a .image .now)) (chainFrom (a .g) (a .image .now) n (a .s))) (a .k) 0) (ap (λ (n : ℕ). 8 * (n - 2)) (c .before .directory-sectors .ensures) ∙ sym (slots-length (a .g) (a .image .now) (omega arith) (omega arith))), c .entry-walk .ensures .1)
+returns c = let a = c .before .before .before .args in (c .entry-walk .ensures .0 ∙ ap (λ (n : ℕ). getD (each (entryGranules (a .g) (a .image .now)) (chainFrom (a .g) (a .image .now) n (a .s))) (a .k) 0) (c .before .slots .ensures .is ∙ sym (slots-length (a .g) (a .image .now) (omega arith) (omega arith))), c .entry-walk .ensures .1)
 
 pub owned-at-spec : {M : Type 1} → statement M
 owned-at-spec =
     tie.close
-    (tie.spec directory-sectors-requires sub-entry-walk mul-entry-walk entry-walk-requires returns)
+    (tie.spec slots-requires entry-walk-requires returns)

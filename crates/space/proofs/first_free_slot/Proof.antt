@@ -9,7 +9,7 @@ use Rattle.space.proofs.first_free_slot.Statement.{statement}
 use Rattle.space.proofs.first_free_slot.Tie as tie
 use Rattle.space.proofs.first_free_slot.Reads as reads
 use Rattle.space.proofs.first_free_slot.Lts as lts
-use Rattle.layout.proofs.directory_sectors.Reads as directory-sectors-reads
+use Rattle.layout.proofs.columns.Reads as columns-reads
 use Rattle.layout.proofs.hit.Reads as hit-reads
 
 abbrev Inv-loop : tie.InvT-loop
@@ -24,11 +24,8 @@ Inv-rows image g n found₀ row₀ found row = (row ≤ 8) × (found ≡ 256) ×
 abbrev μ-rows : tie.MeasureT-rows
 μ-rows image g n found₀ row₀ found row = 8 - row
 
-directory-sectors-requires : tie.Need-directory-sectors-requires Inv-loop μ-loop Inv-rows μ-rows
-directory-sectors-requires c κs = search needs
-
-sub-n : tie.Need-sub-n Inv-loop μ-loop Inv-rows μ-rows
-sub-n c = let e = c .directory-sectors .ensures in let t = c .before .before .pre .ten in omega arith
+columns-requires : tie.Need-columns-requires Inv-loop μ-loop Inv-rows μ-rows
+columns-requires c κs = search needs
 
 rows-holds : tie.Need-rows-holds Inv-loop μ-loop Inv-rows μ-rows
 rows-holds c = (omega arith, refl, λ k h. absurd (omega arith))
@@ -64,13 +61,13 @@ rows-less : tie.Need-rows-less Inv-loop μ-loop Inv-rows μ-rows
 rows-less c = search needs
 
 rows-again : tie.Need-rows-again Inv-loop μ-loop Inv-rows μ-rows
-rows-again c = (omega arith, c .before .loop .inv .3, none-row (c .before .before .before .before .before .before .before .args .g) (c .before .before .before .before .before .before .before .args .image .now) (c .before .before .before .rows-test .taken) (ap (λ (k : ℕ). k - 2) (c .before .before .before .before .before .directory-sectors .ensures)) (c .loop-test .left) refl (c .before .loop .inv .4))
+rows-again c = (omega arith, c .before .loop .inv .3, none-row (c .before .before .before .before .before .before .before .args .g) (c .before .before .before .before .before .before .before .args .image .now) (c .before .before .before .rows-test .taken) (c .before .before .before .before .before .columns .ensures .is) (c .loop-test .left) refl (c .before .loop .inv .4))
 
 returns : tie.Need-returns Inv-loop μ-loop Inv-rows μ-rows
 returns c = let e : c .before .rows .row ≡ 8 = omega arith in c .before .rows .inv .1 ∙ slots-none (c .before .before .before .before .args .g) (c .before .before .before .before .args .image .now) (λ k h. c .before .rows .inv .2 k (omega arith))
 
 returns-2 : tie.Need-returns-2 Inv-loop μ-loop Inv-rows μ-rows
-returns-2 c = let e = c .before .before .before .before .before .before .before .directory-sectors .ensures in let t = c .before .before .before .before .before .before .before .before .before .pre .thirty in slots-first (c .before .before .before .before .before .before .before .before .before .args .g) (c .before .before .before .before .before .before .before .before .before .args .image .now) _ (omega arith) (c .before .before .before .loop .inv .4) (slot-free (c .before .before .before .before .before .before .before .before .before .args .g) (c .before .before .before .before .before .before .before .before .before .args .image .now) _ _ (c .before .before .before .loop .inv .1) (c .before .before .before .before .before .rows-test .taken) (omega arith) t (c .before .before .before .loop .inv .2) (sym (c .before .hit .ensures .is) ∙ c .if1 .taken))
+returns-2 c = let e = c .before .before .before .before .before .before .before .columns .ensures .is in let t = c .before .before .before .before .before .before .before .before .before .pre .thirty in slots-first (c .before .before .before .before .before .before .before .before .before .args .g) (c .before .before .before .before .before .before .before .before .before .args .image .now) _ (omega arith) (c .before .before .before .loop .inv .4) (slot-free (c .before .before .before .before .before .before .before .before .before .args .g) (c .before .before .before .before .before .before .before .before .before .args .image .now) _ _ (c .before .before .before .loop .inv .1) (c .before .before .before .before .before .rows-test .taken) (omega arith) t (c .before .before .before .loop .inv .2) (sym (c .before .hit .ensures .is) ∙ c .if1 .taken))
 
 pub first-free-slot-spec : {M : Type 1} → statement M
 first-free-slot-spec =
@@ -80,8 +77,7 @@ first-free-slot-spec =
     μ-loop
     Inv-rows
     μ-rows
-    directory-sectors-requires
-    sub-n
+    columns-requires
     rows-holds
     kept-columns-requires
     loop-holds

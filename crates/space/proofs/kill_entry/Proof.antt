@@ -1,73 +1,51 @@
-use native.Mathlib.Omega.{arith}
-use lib.ListN.{length-set}
-use native.Mathlib.Nat.{add-zero}
 use Rattle.meaning.specs.Kill.{killEntry}
-use Rattle.meaning.specs.Layout.{setField, field}
+use Rattle.meaning.specs.Layout.{setField, hitAt}
+use Rattle.meaning.specs.Bits.{withoutBit}
+use Prim.Native.Nat.{ℕ}
+use mathlib.Core.Path.{ap, _∙_}
+use mathlib.Core.List.{List}
+use lib.ListN.{set}
 use borrow.Author.Needs.{needs}
 use Rattle.space.proofs.kill_entry.Statement.{statement}
 use Rattle.space.proofs.kill_entry.Tie as tie
 use Rattle.space.proofs.kill_entry.Reads as reads
 use Rattle.space.proofs.kill_entry.Lts as lts
-use Rattle.space.proofs.without_bit.Reads as without-bit-reads
+use Rattle.layout.proofs.field.Reads as field-reads
+use Rattle.layout.proofs.without_bit.Reads as without-bit-reads
+use Rattle.layout.proofs.set_field.Reads as set-field-reads
+use Rattle.layout.proofs.set_hit.Reads as set-hit-reads
 
-add-at : tie.Need-add-at
-add-at c = search needs
-
-add-at-2 : tie.Need-add-at-2
-add-at-2 c = search needs
-
-mul-at : tie.Need-mul-at
-mul-at c = search needs
-
-mul-at-2 : tie.Need-mul-at-2
-mul-at-2 c = search needs
-
-add-at-3 : tie.Need-add-at-3
-add-at-3 c = search needs
-
-slice-read-without-bit : tie.Need-slice-read-without-bit
-slice-read-without-bit c = search needs
+field-requires : tie.Need-field-requires
+field-requires c κs = search needs
 
 without-bit-requires : tie.Need-without-bit-requires
 without-bit-requires c κs = search needs
 
-slice-write-image : tie.Need-slice-write-image
-slice-write-image c = search needs
+set-field-requires : tie.Need-set-field-requires
+set-field-requires c κs = search needs
 
-add-image : tie.Need-add-image
-add-image c = search needs
-
-mul-image : tie.Need-mul-image
-mul-image c = search needs
-
-add-image-2 : tie.Need-add-image-2
-add-image-2 c = search needs
-
-slice-write-image-2 : tie.Need-slice-write-image-2
-slice-write-image-2 c = simp length-set (omega arith)
+set-hit-requires : tie.Need-set-hit-requires
+set-hit-requires c κs = search needs
 
 same-length : tie.Need-same-length
 same-length c = search needs
 
 returns : tie.Need-returns
-unfolding killEntry setField field
-returns c = simp (add-zero, c .before .without-bit .ensures)
+unfolding killEntry
+returns c = let a = c .before .before .before .before .before .before .before .before .before .before .before .before .args in
+    c .before .before .set-hit .ensures
+    ∙ ap (λ (d : List ℕ). set d (hitAt (a .g) (a .s)) 0)
+    (c .before .before .before .before .before .before .set-field .ensures
+    ∙ ap (λ (v : ℕ). setField (a .g) (a .image .now) (a .s) 0 v)
+    (c .before .before .before .before .before .before .before .before .without-bit .ensures .is ∙ ap (withoutBit 4) (c .before .before .before .before .before .before .before .before .before .field .ensures .is)))
 
 pub kill-entry-spec : {M : Type 1} → statement M
 kill-entry-spec =
     tie.close
     (tie.spec
-    add-at
-    add-at-2
-    mul-at
-    mul-at-2
-    add-at-3
-    slice-read-without-bit
+    field-requires
     without-bit-requires
-    slice-write-image
-    add-image
-    mul-image
-    add-image-2
-    slice-write-image-2
+    set-field-requires
+    set-hit-requires
     same-length
     returns)

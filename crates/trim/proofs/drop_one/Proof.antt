@@ -1,6 +1,6 @@
-use Rattle.layout.proofs.HasRoom.{entry-fits}
+use Rattle.layout.proofs.HasRoom.{entry-fits, bit-fits}
 use Rattle.meaning.specs.Entries.{extension}
-use Rattle.trim.proofs.Trimming.{last-reads, last-run, last-granule, last-before, bit-fits, by-shorter, by-emptied, by-unhooked, not-first, is-first, extension-yes, extension-no}
+use Rattle.trim.proofs.Trimming.{last-reads, last-run, last-granule, last-before, by-shorter, by-emptied, by-unhooked, not-first, is-first, extension-yes, extension-no}
 use lib.ListN.{length}
 use Prim.Native.Nat.{_-_}
 use mathlib.Core.Logic.{⊎-elim}
@@ -15,7 +15,7 @@ use Rattle.layout.proofs.field.Reads as field-reads
 use Rattle.layout.proofs.run_length.Reads as run-length-reads
 use Rattle.layout.proofs.run_start.Reads as run-start-reads
 use Rattle.layout.proofs.runs.Reads as runs-reads
-use Rattle.trim.proofs.clear_bit.Reads as clear-bit-reads
+use Rattle.layout.proofs.free_granule.Reads as free-granule-reads
 use Rattle.trim.proofs.empty_pair.Reads as empty-pair-reads
 use Rattle.trim.proofs.shorten.Reads as shorten-reads
 use Rattle.trim.proofs.unhook.Reads as unhook-reads
@@ -42,15 +42,15 @@ shorten-requires : tie.Need-shorten-requires
 shorten-requires c κs = let a = c .before .before .before .before .before .before .before .before .before .args in let l = last-reads (a .g) (a .image .now) (a .p) (a .e) (c .before .before .before .before .before .before .before .before .before .pre) in let w = last-run (a .g) (a .image .now) (a .p) (a .e) (c .before .before .before .before .before .before .before .before .before .pre) in
     (entry-fits (a .g) (a .image .now) (a .e) (l .0) (l .1), omega arith, omega (arith, c .before .before .before .before .run-length .ensures .is, c .before .if1 .taken))
 
-clear-bit-requires : tie.Need-clear-bit-requires
-clear-bit-requires c κs = let a = c .before .before .before .before .before .before .before .before .before .before .before .before .before .args in let l = last-reads (a .g) (a .image .now) (a .p) (a .e) (c .before .before .before .before .before .before .before .before .before .before .before .before .before .pre) in
+free-granule-requires : tie.Need-free-granule-requires
+free-granule-requires c κs = let a = c .before .before .before .before .before .before .before .before .before .before .before .before .before .args in let l = last-reads (a .g) (a .image .now) (a .p) (a .e) (c .before .before .before .before .before .before .before .before .before .before .before .before .before .pre) in
     bit-fits (a .g) (a .image .now) (c .before .before .before .shorten .last .0) _ (l .0) (last-granule (a .g) (a .image .now) (a .p) (a .e) (c .before .before .before .before .before .before .before .before .before .before .before .before .before .pre) (c .before .before .before .before .before .before .before .before .before .before .runs .ensures .is) (c .before .before .before .before .before .before .before .before .run-length .ensures .is) (c .before .before .before .before .before .before .run-start .ensures .is)) (search needs)
 
 same-length : tie.Need-same-length
 same-length c = search needs
 
 returns : tie.Need-returns
-returns c = by-shorter _ _ _ _ (c .before .before .before .before .before .before .before .before .before .before .before .before .before .before .before .before .pre) (c .before .before .before .before .before .before .before .before .before .before .before .before .before .runs .ensures .is) (c .before .before .before .before .before .before .before .before .before .before .before .run-length .ensures .is) (c .before .before .before .before .before .before .before .before .before .run-start .ensures .is) (c .before .before .before .before .before .before .before .before .if1 .taken) (c .before .before .before .before .before .before .shorten .ensures) (c .before .before .clear-bit .ensures)
+returns c = by-shorter _ _ _ _ (c .before .before .before .before .before .before .before .before .before .before .before .before .before .before .before .before .pre) (c .before .before .before .before .before .before .before .before .before .before .before .before .before .runs .ensures .is) (c .before .before .before .before .before .before .before .before .before .before .before .run-length .ensures .is) (c .before .before .before .before .before .before .before .before .before .run-start .ensures .is) (c .before .before .before .before .before .before .before .before .if1 .taken) (c .before .before .before .before .before .before .shorten .ensures) (c .before .before .free-granule .ensures)
 
 field-requires : tie.Need-field-requires
 field-requires c κs = let a = c .before .before .before .before .before .before .before .before .before .args in let l = last-reads (a .g) (a .image .now) (a .p) (a .e) (c .before .before .before .before .before .before .before .before .before .pre) in (l .0, l .1, omega arith)
@@ -71,8 +71,8 @@ unhook-requires c κs = let a = c .before .before .before .before .before .befor
     let s = l .1 .low in
     (omega arith, omega arith, omega arith)
 
-clear-bit-requires-2 : tie.Need-clear-bit-requires-2
-clear-bit-requires-2 c κs = let a = c .before .before .before .before .before .before .before .before .before .before .before .before .before .before .before .before .before .before .before .before .before .before .before .args in let l = last-reads (a .g) (a .image .now) (a .p) (a .e) (c .before .before .before .before .before .before .before .before .before .before .before .before .before .before .before .before .before .before .before .before .before .before .before .pre) in
+free-granule-requires-2 : tie.Need-free-granule-requires-2
+free-granule-requires-2 c κs = let a = c .before .before .before .before .before .before .before .before .before .before .before .before .before .before .before .before .before .before .before .before .before .before .before .args in let l = last-reads (a .g) (a .image .now) (a .p) (a .e) (c .before .before .before .before .before .before .before .before .before .before .before .before .before .before .before .before .before .before .before .before .before .before .before .pre) in
     bit-fits (a .g) (a .image .now) (c .before .before .before .unhook .last .0) _ (l .0) (last-granule (a .g) (a .image .now) (a .p) (a .e) (c .before .before .before .before .before .before .before .before .before .before .before .before .before .before .before .before .before .before .before .before .before .before .before .pre) (c .before .before .before .before .before .before .before .before .before .before .before .before .before .before .before .before .before .before .before .before .runs .ensures .is) (c .before .before .before .before .before .before .before .before .before .before .before .before .before .before .before .before .before .before .run-length .ensures .is) (c .before .before .before .before .before .before .before .before .before .before .before .before .before .before .before .before .run-start .ensures .is)) (search needs)
 
 same-length-2 : tie.Need-same-length-2
@@ -80,10 +80,10 @@ same-length-2 c = search needs
 
 returns-2 : tie.Need-returns-2
 returns-2 c = let a = c .before .before .before .before .before .before .before .before .before .before .before .before .before .before .before .before .before .before .before .before .before .before .before .before .before .before .args in by-unhooked (a .g) (a .image .now) (a .p) (a .e) (c .before .before .before .before .before .before .before .before .before .before .before .before .before .before .before .before .before .before .before .before .before .before .before .before .before .before .pre) (c .before .before .before .before .before .before .before .before .before .before .before .before .before .before .before .before .before .before .before .before .before .before .before .runs .ensures .is) (c .before .before .before .before .before .before .before .before .before .before .before .before .before .before .before .before .before .before .before .before .before .run-length .ensures .is) (c .before .before .before .before .before .before .before .before .before .before .before .before .before .before .before .before .before .before .before .run-start .ensures .is) (c .before .before .before .before .before .before .before .before .before .before .before .before .before .before .before .before .before .before .if1 .left)
-    (extension-yes (a .g) (a .image .now) (a .e) (c .before .before .before .before .before .before .before .before .before .before .before .before .before .before .before .before .field .ensures .is) (c .before .before .before .before .before .before .before .before .before .if2 .taken)) (c .before .before .before .before .before .before .before .before .if3 .taken) (c .before .before .before .before .before .before .before .before .before .before .before .before .before .before .field2 .ensures .is) (c .before .before .before .before .before .before .before .before .before .before .before .before .empty-pair .ensures) (c .before .before .before .before .before .before .unhook .ensures) (c .before .before .clear-bit2 .ensures)
+    (extension-yes (a .g) (a .image .now) (a .e) (c .before .before .before .before .before .before .before .before .before .before .before .before .before .before .before .before .field .ensures .is) (c .before .before .before .before .before .before .before .before .before .if2 .taken)) (c .before .before .before .before .before .before .before .before .if3 .taken) (c .before .before .before .before .before .before .before .before .before .before .before .before .before .before .field2 .ensures .is) (c .before .before .before .before .before .before .before .before .before .before .before .before .empty-pair .ensures) (c .before .before .before .before .before .before .unhook .ensures) (c .before .before .free-granule2 .ensures)
 
-clear-bit-requires-3 : tie.Need-clear-bit-requires-3
-clear-bit-requires-3 c κs = let a = c .before .before .before .before .before .before .before .before .before .before .before .before .before .before .before .before .before .before .args in let l = last-reads (a .g) (a .image .now) (a .p) (a .e) (c .before .before .before .before .before .before .before .before .before .before .before .before .before .before .before .before .before .before .pre) in
+free-granule-requires-3 : tie.Need-free-granule-requires-3
+free-granule-requires-3 c κs = let a = c .before .before .before .before .before .before .before .before .before .before .before .before .before .before .before .before .before .before .args in let l = last-reads (a .g) (a .image .now) (a .p) (a .e) (c .before .before .before .before .before .before .before .before .before .before .before .before .before .before .before .before .before .before .pre) in
     bit-fits (a .g) (a .image .now) (c .before .before .before .before .empty-pair .last .0) _ (l .0) (last-granule (a .g) (a .image .now) (a .p) (a .e) (c .before .before .before .before .before .before .before .before .before .before .before .before .before .before .before .before .before .before .pre) (c .before .before .before .before .before .before .before .before .before .before .before .before .before .before .before .runs .ensures .is) (c .before .before .before .before .before .before .before .before .before .before .before .before .before .run-length .ensures .is) (c .before .before .before .before .before .before .before .before .before .before .before .run-start .ensures .is)) (search needs)
 
 same-length-3 : tie.Need-same-length-3
@@ -92,7 +92,7 @@ same-length-3 c = search needs
 returns-3 : tie.Need-returns-3
 returns-3 c = let a = c .before .before .before .before .before .before .before .before .before .before .before .before .before .before .before .before .before .before .before .before .before .args in by-emptied (a .g) (a .image .now) (a .p) (a .e) (c .before .before .before .before .before .before .before .before .before .before .before .before .before .before .before .before .before .before .before .before .before .pre) (c .before .before .before .before .before .before .before .before .before .before .before .before .before .before .before .before .before .before .runs .ensures .is) (c .before .before .before .before .before .before .before .before .before .before .before .before .before .before .before .before .run-length .ensures .is) (c .before .before .before .before .before .before .before .before .before .before .before .before .before .before .run-start .ensures .is) (c .before .before .before .before .before .before .before .before .before .before .before .before .before .if1 .left)
     (⊎-elim (λ q. not-first (extension (a .g) (a .image .now) (a .e)) (c .before .before .before .before .before .before .before .before .before .before .before .before .before .before .before .before .before .before .runs .result - 1) (q .1 .left)) (λ q. is-first (extension-no (a .g) (a .image .now) (a .e) (c .before .before .before .before .before .before .before .before .before .before .before .field .ensures .is) (q .left)) (c .before .before .before .before .before .before .before .before .before .before .before .before .before .before .before .before .before .before .runs .result - 1)) (c .before .before .before .before .if2 .came))
-    (c .before .before .before .before .before .before .before .empty-pair .ensures) (c .before .before .clear-bit3 .ensures)
+    (c .before .before .before .before .before .before .before .empty-pair .ensures) (c .before .before .free-granule3 .ensures)
 
 pub drop-one-spec : {M : Type 1} → statement M
 drop-one-spec =
@@ -105,16 +105,16 @@ drop-one-spec =
     add-n
     sub-n
     shorten-requires
-    clear-bit-requires
+    free-granule-requires
     same-length
     returns
     field-requires
     field-requires-2
     empty-pair-requires
     unhook-requires
-    clear-bit-requires-2
+    free-granule-requires-2
     same-length-2
     returns-2
-    clear-bit-requires-3
+    free-granule-requires-3
     same-length-3
     returns-3)

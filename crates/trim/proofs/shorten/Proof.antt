@@ -1,66 +1,54 @@
-use Rattle.meaning.specs.Layout.{setField, field}
-use mathlib.Core.Path.{refl}
+use Rattle.meaning.specs.Layout.{setField}
+use Prim.Native.Nat.{ℕ, _+_, _-_, _*_}
+use mathlib.Core.Path.{ap, _∙_}
+use native.Mathlib.Omega.{arith}
 use borrow.Author.Needs.{needs}
 use Rattle.trim.proofs.shorten.Statement.{statement}
 use Rattle.trim.proofs.shorten.Tie as tie
 use Rattle.trim.proofs.shorten.Reads as reads
 use Rattle.trim.proofs.shorten.Lts as lts
+use Rattle.layout.proofs.entry_byte.Reads as entry-byte-reads
+use Rattle.layout.proofs.set_field.Reads as set-field-reads
 
-add-at : tie.Need-add-at
-add-at c = search needs
+mul-entry-byte : tie.Need-mul-entry-byte
+mul-entry-byte c = search needs
 
-add-at-2 : tie.Need-add-at-2
-add-at-2 c = search needs
+add-entry-byte : tie.Need-add-entry-byte
+add-entry-byte c = search needs
 
-mul-at : tie.Need-mul-at
-mul-at c = search needs
+entry-byte-requires : tie.Need-entry-byte-requires
+entry-byte-requires c κs = search needs
 
-mul-at-2 : tie.Need-mul-at-2
-mul-at-2 c = search needs
+mul-set-field : tie.Need-mul-set-field
+mul-set-field c = search needs
 
-add-at-3 : tie.Need-add-at-3
-add-at-3 c = search needs
+add-set-field : tie.Need-add-set-field
+add-set-field c = search needs
 
-mul-at-3 : tie.Need-mul-at-3
-mul-at-3 c = search needs
+sub-set-field : tie.Need-sub-set-field
+sub-set-field c = let e = c .before .entry-byte .ensures .is in let p = c .before .before .before .before .pre .2 in omega arith
 
-add-at-4 : tie.Need-add-at-4
-add-at-4 c = search needs
-
-add-at-5 : tie.Need-add-at-5
-add-at-5 c = search needs
-
-slice-read-image : tie.Need-slice-read-image
-slice-read-image c = search needs
-
-sub-image : tie.Need-sub-image
-unfolding field
-sub-image c = (c .before .before .pre) .2
-
-slice-write-image : tie.Need-slice-write-image
-slice-write-image c = search needs
+set-field-requires : tie.Need-set-field-requires
+set-field-requires c κs = search needs
 
 same-length : tie.Need-same-length
 same-length c = search needs
 
 returns : tie.Need-returns
-unfolding field setField
-returns c = refl
+returns c = let a = c .before .before .before .before .before .before .before .args in
+    c .before .before .set-field .ensures
+    ∙ ap (λ (v : ℕ). setField (a .g) (a .image .now) (a .e) (0x17 + 2 * a .k) (v - 1)) (c .before .before .before .before .entry-byte .ensures .is)
 
 pub shorten-spec : {M : Type 1} → statement M
 shorten-spec =
     tie.close
     (tie.spec
-    add-at
-    add-at-2
-    mul-at
-    mul-at-2
-    add-at-3
-    mul-at-3
-    add-at-4
-    add-at-5
-    slice-read-image
-    sub-image
-    slice-write-image
+    mul-entry-byte
+    add-entry-byte
+    entry-byte-requires
+    mul-set-field
+    add-set-field
+    sub-set-field
+    set-field-requires
     same-length
     returns)

@@ -1,116 +1,50 @@
-use Rattle.meaning.specs.Layout.{setField}
+use Rattle.meaning.specs.Layout.{hitAt}
+use Rattle.meaning.specs.Entries.{setLink}
 use Rattle.meaning.specs.Drop.{unhooked}
-use native.Mathlib.Nat.{add-zero}
-use lib.ListN.{length-set}
-use native.Mathlib.Omega.{arith}
+use Prim.Native.Nat.{ℕ}
+use mathlib.Core.Path.{ap, _∙_}
+use mathlib.Core.List.{List}
+use lib.ListN.{set}
 use borrow.Author.Needs.{needs}
 use Rattle.trim.proofs.unhook.Statement.{statement}
 use Rattle.trim.proofs.unhook.Tie as tie
 use Rattle.trim.proofs.unhook.Reads as reads
 use Rattle.trim.proofs.unhook.Lts as lts
+use Rattle.layout.proofs.set_field.Reads as set-field-reads
+use Rattle.layout.proofs.set_hit.Reads as set-hit-reads
+use Rattle.layout.proofs.set_link.Reads as set-link-reads
 
-add-at : tie.Need-add-at
-add-at c = search needs
+set-field-requires : tie.Need-set-field-requires
+set-field-requires c κs = search needs
 
-add-at-2 : tie.Need-add-at-2
-add-at-2 c = search needs
+set-hit-requires : tie.Need-set-hit-requires
+set-hit-requires c κs = search needs
 
-mul-at : tie.Need-mul-at
-mul-at c = search needs
+set-link-requires : tie.Need-set-link-requires
+set-link-requires c κs = search needs
 
-mul-at-2 : tie.Need-mul-at-2
-mul-at-2 c = search needs
-
-add-at-3 : tie.Need-add-at-3
-add-at-3 c = search needs
-
-slice-write-image : tie.Need-slice-write-image
-slice-write-image c = search needs
-
-add-image : tie.Need-add-image
-add-image c = search needs
-
-mul-image : tie.Need-mul-image
-mul-image c = search needs
-
-add-image-2 : tie.Need-add-image-2
-add-image-2 c = search needs
-
-slice-write-image-2 : tie.Need-slice-write-image-2
-slice-write-image-2 c = simp length-set (omega arith)
-
-add-image-3 : tie.Need-add-image-3
-add-image-3 c = search needs
-
-slice-write-image-3 : tie.Need-slice-write-image-3
-slice-write-image-3 c = simp length-set (omega arith)
-
-add-image-4 : tie.Need-add-image-4
-add-image-4 c = search needs
-
-slice-write-image-4 : tie.Need-slice-write-image-4
-slice-write-image-4 c = simp length-set (omega arith)
-
-add-ends : tie.Need-add-ends
-add-ends c = search needs
-
-add-ends-2 : tie.Need-add-ends-2
-add-ends-2 c = search needs
-
-mul-ends : tie.Need-mul-ends
-mul-ends c = search needs
-
-mul-ends-2 : tie.Need-mul-ends-2
-mul-ends-2 c = search needs
-
-add-ends-3 : tie.Need-add-ends-3
-add-ends-3 c = search needs
-
-add-image-5 : tie.Need-add-image-5
-add-image-5 c = search needs
-
-slice-write-image-5 : tie.Need-slice-write-image-5
-slice-write-image-5 c = simp length-set (omega arith)
-
-add-image-6 : tie.Need-add-image-6
-add-image-6 c = search needs
-
-slice-write-image-6 : tie.Need-slice-write-image-6
-slice-write-image-6 c = simp length-set (omega arith)
+set-link-requires-2 : tie.Need-set-link-requires-2
+set-link-requires-2 c κs = search needs
 
 same-length : tie.Need-same-length
-same-length c = simp length-set
+same-length c = search needs
 
 returns : tie.Need-returns
-unfolding unhooked setField
-returns c = simp add-zero
+unfolding unhooked
+returns c = let a = c .before .before .before .before .before .before .before .before .before .before .before .before .before .before .before .before .before .args in
+    c .before .before .set-link2 .ensures
+    ∙ ap (λ (d : List ℕ). setLink (a .g) d (a .before) 0xff 0xff)
+    (c .before .before .before .before .before .before .set-link .ensures
+    ∙ ap (λ (d : List ℕ). setLink (a .g) d (a .e) 0xff 0xff)
+    (c .before .before .before .before .before .before .before .before .before .before .set-hit .ensures ∙ ap (λ (d : List ℕ). set d (hitAt (a .g) (a .e)) 0) (c .before .before .before .before .before .before .before .before .before .before .before .before .before .before .set-field .ensures)))
 
 pub unhook-spec : {M : Type 1} → statement M
 unhook-spec =
     tie.close
     (tie.spec
-    add-at
-    add-at-2
-    mul-at
-    mul-at-2
-    add-at-3
-    slice-write-image
-    add-image
-    mul-image
-    add-image-2
-    slice-write-image-2
-    add-image-3
-    slice-write-image-3
-    add-image-4
-    slice-write-image-4
-    add-ends
-    add-ends-2
-    mul-ends
-    mul-ends-2
-    add-ends-3
-    add-image-5
-    slice-write-image-5
-    add-image-6
-    slice-write-image-6
+    set-field-requires
+    set-hit-requires
+    set-link-requires
+    set-link-requires-2
     same-length
     returns)

@@ -1,103 +1,68 @@
-use Rattle.meaning.specs.Layout.{setField, field}
-use lib.ListN.{length-set}
-use native.Mathlib.Omega.{arith}
+use Rattle.meaning.specs.Layout.{setField}
+use Rattle.meaning.specs.Bits.{withBit}
+use Prim.Native.Nat.{ℕ, _+_, _/_, _%_}
+use mathlib.Core.Path.{ap, _∙_}
+use mathlib.Core.List.{List}
 use borrow.Author.Needs.{needs}
 use Rattle.write.proofs.put_size.Statement.{statement}
 use Rattle.write.proofs.put_size.Tie as tie
 use Rattle.write.proofs.put_size.Reads as reads
 use Rattle.write.proofs.put_size.Lts as lts
-use Rattle.space.proofs.with_bit.Reads as with-bit-reads
-
-add-at : tie.Need-add-at
-add-at c = search needs
-
-add-at-2 : tie.Need-add-at-2
-add-at-2 c = search needs
-
-mul-at : tie.Need-mul-at
-mul-at c = search needs
-
-mul-at-2 : tie.Need-mul-at-2
-mul-at-2 c = search needs
-
-add-at-3 : tie.Need-add-at-3
-add-at-3 c = search needs
+use Rattle.layout.proofs.entry_byte.Reads as entry-byte-reads
+use Rattle.layout.proofs.with_bit.Reads as with-bit-reads
+use Rattle.layout.proofs.set_field.Reads as set-field-reads
 
 add-n : tie.Need-add-n
 add-n c = search needs
 
-add-with-bit : tie.Need-add-with-bit
-add-with-bit c = search needs
-
-slice-read-with-bit : tie.Need-slice-read-with-bit
-slice-read-with-bit c = search needs
+entry-byte-requires : tie.Need-entry-byte-requires
+entry-byte-requires c κs = search needs
 
 with-bit-requires : tie.Need-with-bit-requires
 with-bit-requires c κs = search needs
 
-cast-image : tie.Need-cast-image
-cast-image c = search needs
+set-field-requires : tie.Need-set-field-requires
+set-field-requires c κs = search needs
 
-add-image : tie.Need-add-image
-add-image c = search needs
+set-field-requires-2 : tie.Need-set-field-requires-2
+set-field-requires-2 c κs = search needs
 
-slice-write-image : tie.Need-slice-write-image
-slice-write-image c = search needs
+add-set-field : tie.Need-add-set-field
+add-set-field c = search needs
 
-cast-image-2 : tie.Need-cast-image-2
-cast-image-2 c = search needs
+set-field-requires-3 : tie.Need-set-field-requires-3
+set-field-requires-3 c κs = search needs
 
-add-image-2 : tie.Need-add-image-2
-add-image-2 c = search needs
-
-slice-write-image-2 : tie.Need-slice-write-image-2
-slice-write-image-2 c = let b = c .before .before .before .before .pre .0 in simp length-set (omega arith)
-
-cast-image-3 : tie.Need-cast-image-3
-cast-image-3 c = search needs
-
-add-image-3 : tie.Need-add-image-3
-add-image-3 c = search needs
-
-slice-write-image-3 : tie.Need-slice-write-image-3
-slice-write-image-3 c = let b = c .before .before .before .before .pre .0 in simp length-set (omega arith)
-
-add-image-4 : tie.Need-add-image-4
-add-image-4 c = search needs
-
-slice-write-image-4 : tie.Need-slice-write-image-4
-slice-write-image-4 c = let b = c .before .before .before .before .pre .0 in simp length-set (omega arith)
+set-field-requires-4 : tie.Need-set-field-requires-4
+set-field-requires-4 c κs = search needs
 
 same-length : tie.Need-same-length
 same-length c = search needs
 
 returns : tie.Need-returns
-unfolding setField field
-returns c = simp (c .with-bit .ensures)
+returns c = let a = c .before .before .before .before .before .before .before .before .before .before .before .before .before .before .before .before .before .before .before .before .args in
+    let n = (a .size + 255) / 256 in
+    c .before .before .set-field4 .ensures
+    ∙ ap (λ (d : List ℕ). setField (a .g) d (a .s) 1 (c .before .before .before .before .before .before .before .before .before .before .before .before .before .before .before .before .with-bit .result))
+    (c .before .before .before .before .before .before .set-field3 .ensures
+    ∙ ap (λ (d : List ℕ). setField (a .g) d (a .s) 0x15 (n / 256))
+    (c .before .before .before .before .before .before .before .before .before .before .set-field2 .ensures
+    ∙ ap (λ (d : List ℕ). setField (a .g) d (a .s) 0x14 (n % 256)) (c .before .before .before .before .before .before .before .before .before .before .before .before .before .before .set-field .ensures)))
+    ∙ ap (λ (v : ℕ). setField (a .g) (setField (a .g) (setField (a .g) (setField (a .g) (a .image .now) (a .s) 3 (a .size % 256)) (a .s) 0x14 (n % 256))
+    (a .s) 0x15 (n / 256)) (a .s) 1 v)
+    (c .before .before .before .before .before .before .before .before .before .before .before .before .before .before .before .before .with-bit .ensures .is ∙ ap (withBit 5) (c .before .before .before .before .before .before .before .before .before .before .before .before .before .before .before .before .before .entry-byte .ensures .is))
 
 pub put-size-spec : {M : Type 1} → statement M
 put-size-spec =
     tie.close
     (tie.spec
-    add-at
-    add-at-2
-    mul-at
-    mul-at-2
-    add-at-3
     add-n
-    add-with-bit
-    slice-read-with-bit
+    entry-byte-requires
     with-bit-requires
-    cast-image
-    add-image
-    slice-write-image
-    cast-image-2
-    add-image-2
-    slice-write-image-2
-    cast-image-3
-    add-image-3
-    slice-write-image-3
-    add-image-4
-    slice-write-image-4
+    set-field-requires
+    set-field-requires-2
+    add-set-field
+    set-field-requires-3
+    set-field-requires-4
     same-length
     returns)
