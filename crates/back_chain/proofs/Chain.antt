@@ -112,7 +112,8 @@ module _ (g : Geometry) (d : List ℕ) where
       by (inr q) = rw q o
 
   -- one entry more
-  pub walked-more : {ps m m′ met met′ : List ℕ} {size at : ℕ} {v : Visited} → Walked′ ps m met size → Slot g d at → Visits g d at m m′ met met′ v → v .ok ≡ true
+  pub walked-more : {ps m m′ met met′ : List ℕ} {size at : ℕ} {v : Visited} → Walked′ ps m met size → Slot g d at → Visits g d at m m′ met met′ v → v .ok ≡
+      true
       → Walked′ (ps ++ (at ∷ [])) m′ met′ (size + v .granules)
   walked-more {ps} {m} {m′} {met} {met′} {size} {at} {v} w sl e ok =
       let t : all (holds at ∷ allows m 1 0 (entryGranules g d at) ∷ allows met 1 0 (at ∷ []) ∷ []) ≡ true = sym (e .answer) ∙ ok in
@@ -137,26 +138,33 @@ module _ (g : Geometry) (d : List ℕ) where
   walked-said {ps} w = all-yes (w .hold) _ ∙ all-yes (open-once fresh ps (w .open-met)) _ ∙ all-yes (open-once blank (own ps) (w .own-open)) _ ∙ all-none
 
   -- an entry that does not hold with those before it: nor does the chain, whatever follows
-  pub walked-bad : {ps m m′ met met′ : List ℕ} {size at : ℕ} {v : Visited} → Room g d → Walked′ ps m met size → Slot g d at → Visits g d at m m′ met met′ v → not (v .ok) ≡ true
+  pub walked-bad : {ps m m′ met met′ : List ℕ} {size at : ℕ} {v : Visited} → Room g d → Walked′ ps m met size → Slot g d at → Visits g d at m m′ met met′ v →
+      not (v .ok) ≡ true
       → (rest : List ℕ) → said (ps ++ (at ∷ rest)) ≡ false
   walked-bad {ps} {m} {m′} {met} {met′} {size} {at} {v} r w sl e bad rest = by (said (ps ++ (at ∷ rest))) refl
     where
       by : (t : Bool) → said (ps ++ (at ∷ rest)) ≡ t → said (ps ++ (at ∷ rest)) ≡ false
       by false q = q
       by true q =
-          let k : holds at ≡ true = and-l (holds at) (every holds rest) (and-r (every holds ps) (every holds (at ∷ rest)) (sym (every-append holds ps (at ∷ rest)) ∙ all-at _ q 0)) in
+          let k : holds at ≡ true = and-l (holds at) (every holds rest)
+          (and-r (every holds ps) (every holds (at ∷ rest)) (sym (every-append holds ps (at ∷ rest)) ∙ all-at _ q 0)) in
           let lie = lie-snoc (w .lie) (lies at sl k) in
-          let once : Distinct ((ps ++ (at ∷ [])) ++ rest) = rw (snoc-cons ps at rest) (Members.distinct-says (ps ++ (at ∷ rest)) (Members.true-T (all-at _ q 1))) in
+          let once : Distinct ((ps ++ (at ∷ [])) ++ rest) = rw (snoc-cons ps at rest)
+          (Members.distinct-says (ps ++ (at ∷ rest)) (Members.true-T (all-at _ q 1))) in
           let own-is : own (ps ++ (at ∷ rest)) ≡ own (ps ++ (at ∷ [])) ++ own rest
           = ap own (sym (snoc-cons ps at rest)) ∙ Members.each-append (entryGranules g d) (ps ++ (at ∷ [])) rest in
-          let own-once : Distinct (own (ps ++ (at ∷ [])) ++ own rest) = rw own-is at (Members.distinct-says (own (ps ++ (at ∷ rest))) (Members.true-T (all-at _ q 2))) in
+          let own-once : Distinct (own (ps ++ (at ∷ [])) ++ own rest) = rw own-is at
+          (Members.distinct-says (own (ps ++ (at ∷ rest))) (Members.true-T (all-at _ q 2))) in
           let a : allows fresh 1 0 (ps ++ (at ∷ [])) ≡ true
-          = open-allows fresh (ps ++ (at ∷ [])) (λ x i. let q : _≡_ {A = ℕ} (getD fresh x 0) 1 = getD-replicate 256 x 1 0 (lie x i .slot .low) in omega arith) (Members.distinct-l (ps ++ (at ∷ [])) rest once) in
+          = open-allows fresh (ps ++ (at ∷ [])) (λ x i. let q : _≡_ {A = ℕ} (getD fresh x 0) 1 = getD-replicate 256 x 1 0 (lie x i .slot .low) in omega arith)
+          (Members.distinct-l (ps ++ (at ∷ [])) rest once) in
           let b : allows blank 1 0 (own (ps ++ (at ∷ []))) ≡ true
-          = open-allows blank (own (ps ++ (at ∷ []))) (λ n i. blank-open g d n (under-each g d (ps ++ (at ∷ [])) lie n i)) (Members.distinct-l (own (ps ++ (at ∷ []))) (own rest) own-once) in
+          = open-allows blank (own (ps ++ (at ∷ []))) (λ n i. blank-open g d n (under-each g d (ps ++ (at ∷ [])) lie n i))
+          (Members.distinct-l (own (ps ++ (at ∷ []))) (own rest) own-once) in
           let b′ : allows blank 1 0 (own ps ++ entryGranules g d at) ≡ true = rw (own-snoc ps at) at b in
           let all-hold : v .ok ≡ true
-          = e .answer ∙ all-yes k _ ∙ all-yes (later blank (own ps) (entryGranules g d at) (w .map) b′) _ ∙ all-yes (later fresh ps (at ∷ []) (w .meets) a) _ ∙ all-none in
+          = e .answer ∙ all-yes k _ ∙ all-yes (later blank (own ps) (entryGranules g d at) (w .map) b′) _ ∙ all-yes (later fresh ps (at ∷ []) (w .meets) a) _
+          ∙ all-none in
           not-both all-hold (not-true (v .ok) bad)
 
   -- The chain: n entries of it are walked and written down, `at` is the next --------------------------------------------------
@@ -180,7 +188,8 @@ module _ (g : Geometry) (d : List ℕ) where
       }
 
   -- the chain from `at` on: the entry, and what its marker leads to
-  chain-here : {most n : ℕ} (at : ℕ) → n < most → chainFrom g d (most - n) at ≡ at ∷ cond (eqb (marker g d at) 0xfe) (chainFrom g d (most - (n + 1)) (link g d at)) []
+  chain-here : {most n : ℕ} (at : ℕ) → n < most → chainFrom g d (most - n) at ≡ at ∷ cond (eqb (marker g d at) 0xfe)
+      (chainFrom g d (most - (n + 1)) (link g d at)) []
   unfolding chainFrom
   chain-here at h = ap (λ (k : ℕ). chainFrom g d k at) (left-more h)
 
@@ -195,7 +204,8 @@ module _ (g : Geometry) (d : List ℕ) where
       }
 
   -- one entry more is written down
-  pub lining-put : {most s at n size : ℕ} {es m m′ met met′ : List ℕ} {v : Visited} → Lining most s es m met at n size → n < length es → Visits g d at m m′ met met′ v → not (v .ok) ≡ false
+  pub lining-put : {most s at n size : ℕ} {es m m′ met met′ : List ℕ} {v : Visited} → Lining most s es m met at n size → n < length es → Visits g d at m m′
+      met met′ v → not (v .ok) ≡ false
       → Walked′ (firstOf (set es n at) (n + 1)) m′ met′ (size + v .granules)
   lining-put {at = at} {n = n} {es = es} {v = v} i h e good = rw (first-put es n at h) (walked-more (i .walked) (i .slot) e (not-false (v .ok) good))
 
@@ -222,14 +232,16 @@ module _ (g : Geometry) (d : List ℕ) where
             };
       }
 
-  pub lining-stop : {most s at n size x : ℕ} {es m m′ met met′ : List ℕ} {v : Visited} → Lining most s es m met at n size → n < length es → n < most → most ≤ 256
+  pub lining-stop : {most s at n size x : ℕ} {es m m′ met met′ : List ℕ} {v : Visited} → Lining most s es m met at n size → n < length es → n < most → most ≤
+      256
       → Visits g d at m m′ met met′ v → not (v .ok) ≡ false → x ≡ marker g d at → x ≡ 0xff
       → Lined g d most s (set es n at) (record { ok = true; slots = n + 1; granules = size + v .granules })
   lining-stop {most} {s} {at} {n} {size} {x} {es} {v = v} i h l b e good q f =
       let a = i .small in let few = e .few in
       let z : eqb (marker g d at) 0xfe ≡ false = ne-eqb (marker g d at) 0xfe (λ y. let w : 0xff ≡ 0xfe = sym f ∙ q ∙ y in omega arith) in
       done
-      (put-chain i h l ∙ ap (λ (t : Bool). firstOf (set es n at) (n + 1) ++ cond t (chainFrom g d (most - (n + 1)) (link g d at)) []) z ∙ append-nil (firstOf (set es n at) (n + 1)))
+      (put-chain i h l ∙ ap (λ (t : Bool). firstOf (set es n at) (n + 1) ++ cond t (chainFrom g d (most - (n + 1)) (link g d at)) []) z ∙ append-nil
+      (firstOf (set es n at) (n + 1)))
       (lining-put i h e good) (omega arith) (omega arith)
 
   -- a link that holds leads on to a slot
@@ -256,7 +268,8 @@ module _ (g : Geometry) (d : List ℕ) where
         walked = lining-put i h e good;
       }
 
-  pub lining-end : {most s at n size : ℕ} {es m met : List ℕ} → Lining most s es m met at n size → most ≤ n → most ≤ 256 → Lined g d most s es (record { ok = true; slots = n; granules = size })
+  pub lining-end : {most s at n size : ℕ} {es m met : List ℕ} → Lining most s es m met at n size → most ≤ n → most ≤ 256 → Lined g d most s es
+      (record { ok = true; slots = n; granules = size })
   lining-end {most} {s} {at} {n} {size} {es} i h b =
       let a = i .small in let few = i .few in
       done

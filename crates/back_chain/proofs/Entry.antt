@@ -37,11 +37,13 @@ module _ (g : Geometry) (d : List ℕ) (s : ℕ) where
   unfolding linkHoldsBy
   link-none h k = sym (any-skip h _ ∙ any-one _ ∙ all-no k _)
 
-  pub link-astray : {t : ℕ} {r : Bool} → t ≡ link g d s → eqb (marker g d s) 0xff ≡ false → r ≡ followsBy g d 0x80 s t → not r ≡ true → false ≡ linkHoldsBy g d 0x80 s
+  pub link-astray : {t : ℕ} {r : Bool} → t ≡ link g d s → eqb (marker g d s) 0xff ≡ false → r ≡ followsBy g d 0x80 s t → not r ≡ true → false ≡ linkHoldsBy g
+      d 0x80 s
   unfolding linkHoldsBy
   link-astray {t} {r} q h f n = sym (any-skip h _ ∙ any-one _ ∙ all-out _ 1 (ap (followsBy g d 0x80 s) (sym q) ∙ is-no f n))
 
-  pub link-on : {t n : ℕ} {r : Bool} → t ≡ link g d s → eqb (marker g d s) 0xff ≡ false → eqb (marker g d s) 0xfe ≡ true → r ≡ followsBy g d 0x80 s t → not r ≡ false
+  pub link-on : {t n : ℕ} {r : Bool} → t ≡ link g d s → eqb (marker g d s) 0xff ≡ false → eqb (marker g d s) 0xfe ≡ true → r ≡ followsBy g d 0x80 s t → not r
+      ≡ false
       → n ≡ runs g d s → eqb n 4 ≡ linkHoldsBy g d 0x80 s
   unfolding linkHoldsBy
   link-on {t} {n} {r} q h m f y e =
@@ -61,7 +63,8 @@ module _ (g : Geometry) (d : List ℕ) (s : ℕ) where
       }
 
   -- pairs that are not as they must be, or a granule that is met before
-  pub visits-pairs : {m m″ m′ met met′ : List ℕ} {p : Pairs} → Entered g d s 1 m m″ p → not (p .ok) ≡ true → Visits g d s m m′ met met′ (record { ok = false; granules = 0 })
+  pub visits-pairs : {m m″ m′ met met′ : List ℕ} {p : Pairs} → Entered g d s 1 m m″ p → not (p .ok) ≡ true → Visits g d s m m′ met met′
+      (record { ok = false; granules = 0 })
   visits-pairs {m} {m″} {m′} {met} {met′} {p} e h =
       record {
         few = omega arith;

@@ -34,7 +34,8 @@ module _ (g : Geometry) (d : List ℕ) (s : ℕ) where
   by-size h = all-out _ 5 h
 
   -- the walk goes along 01's chain
-  pub lined : {k : ℕ} {es : List ℕ} {r : Walked} → Room g d → k ≡ directorySectors g d → Lined g d (8 * (k - 2)) s es r → Lined g d (length (slots g d)) s es r
+  pub lined : {k : ℕ} {es : List ℕ} {r : Walked} → Room g d → k ≡ directorySectors g d → Lined g d (8 * (k - 2)) s es r → Lined g d (length (slots g d)) s es
+      r
   lined {k} {es} {r} rm q l =
       let w : 8 * (k - 2) ≡ length (slots g d) = ap (λ (j : ℕ). 8 * (j - 2)) q ∙ sym (slots-length g d (rm .ten) (rm .thirty)) in
       rw w at l
@@ -51,13 +52,15 @@ module _ (g : Geometry) (d : List ℕ) (s : ℕ) where
   unfolding chain owned
   lined-own {es} {r} l h = l .written (not-false (r .ok) h) .granules-are
 
-  pub is-whole : {es : List ℕ} {r : Walked} → bit 7 (field g d s 0) ≡ false → nameHolds g d s ≡ true → Lined g d (length (slots g d)) s es r → not (r .ok) ≡ false → sizeHolds g d s ≡ true
+  pub is-whole : {es : List ℕ} {r : Walked} → bit 7 (field g d s 0) ≡ false → nameHolds g d s ≡ true → Lined g d (length (slots g d)) s es r → not (r .ok) ≡
+      false → sizeHolds g d s ≡ true
       → Wholly g d s es r
   unfolding whole chain owned
   is-whole {es} {r} x n l h z =
       let ok = not-false (r .ok) h in
       let a = sym (l .answer) ∙ ok in
       record {
-        answer = ok ∙ sym (all-yes (not-no x) _ ∙ all-yes n _ ∙ all-yes (all-at _ a 0) _ ∙ all-yes (all-at _ a 1) _ ∙ all-yes (all-at _ a 2) _ ∙ all-yes z _ ∙ all-none);
+        answer = ok ∙ sym (all-yes (not-no x) _ ∙ all-yes n _ ∙ all-yes (all-at _ a 0) _ ∙ all-yes (all-at _ a 1) _ ∙ all-yes (all-at _ a 2) _ ∙ all-yes z _ ∙
+            all-none);
         written = λ q. l .written q;
       }

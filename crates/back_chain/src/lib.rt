@@ -38,7 +38,8 @@ pub struct Visited {
 // One entry of a killed file. In `map` a granule's bit is clear, and `met` has 1 for a slot, where no entry before had it.
 fn visit(image: &[u8], g: Geometry, s: usize, map: &mut [u8; 192], met: &mut [u8; 256]) -> Visited
     requires { ⌜ Room g (now image) × Slot g (now image) s ⌝ }
-    ensures { λ r. ⌜ Visits g (now (image .entry)) s (standing g (now (image .entry)) (now (map .entry))) (standing g (now (image .entry)) (now (map .exit))) (now (met .entry)) (now (met .exit)) r ⌝ }
+    ensures { λ r. ⌜ Visits g (now (image .entry)) s (standing g (now (image .entry)) (now (map .entry))) (standing g (now (image .entry)) (now (map .exit)))
+        (now (met .entry)) (now (met .exit)) r ⌝ }
 {
     if met[s] < 1 {
         return Visited {

@@ -61,7 +61,8 @@ module _ (g : Geometry) where
             rw (same-start g d d′ r e s k sl (omega arith), same-len g d d′ r e s k sl (omega arith)) (o .run k l′);
       }
 
-  pub run-fits : {d d′ : List ℕ} {s k n a len : ℕ} → Room g d → OnDisk g d s → n ≡ runs g d s → Same g d d′ → k < n → a ≡ runStart g d′ s k → len ≡ runLength g d′ s k
+  pub run-fits : {d d′ : List ℕ} {s k n a len : ℕ} → Room g d → OnDisk g d s → n ≡ runs g d s → Same g d d′ → k < n → a ≡ runStart g d′ s k → len ≡ runLength
+      g d′ s k
       → a + len ≤ granules g
   run-fits {d} {d′} {s} {k} {n} {a} {len} r o q e h x y =
       let w = same-on-disk r e o in

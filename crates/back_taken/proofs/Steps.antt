@@ -63,7 +63,8 @@ module _ {whole part : ℕ → List ℕ} (s : Steps whole part) where
       ap (λ (m : ℕ). some p (whole m)) (sym (add-one n)) ∙ ap (some p) (s .more n) ∙ some-append p (whole n) (part n) ∙ by (le-or-lt n k) (some-in p k n)
     where
       by : (n ≤ k) ⊎ (k < n) → (k < n → some p (part k) ≡ true → some p (whole n) ≡ true) → (some p (whole n) || some p (part n)) ≡ true
-      by (inl l) ih = let q : k ≡ n = omega arith in ap (λ (b : Bool). some p (whole n) || b) (ap (λ (m : ℕ). some p (part m)) (sym q) ∙ e) ∙ or-true (some p (whole n))
+      by (inl l) ih = let q : k ≡ n = omega arith in
+          ap (λ (b : Bool). some p (whole n) || b) (ap (λ (m : ℕ). some p (part m)) (sym q) ∙ e) ∙ or-true (some p (whole n))
       by (inr l) ih = ap (λ (b : Bool). b || some p (part n)) (ih l e)
 
   pub quiet-hit : {p : ℕ → Bool} {k n : ℕ} → Quiet p whole k n → k < n → some p (part k) ≡ true → true ≡ some p (whole n)

@@ -16,7 +16,8 @@ module _ {whole part : ℕ → List ℕ} (s : Steps whole part) where
   pub done-start : (f : List ℕ → ℕ → List ℕ) (d : List ℕ) (n : ℕ) → Done f d whole d 0 n
   done-start f d n = record { few = omega arith; is = sym (ap (through f d) (s .none)) }
 
-  pub done-more : {f : List ℕ → ℕ → List ℕ} {d d′ d″ : List ℕ} {k n : ℕ} → Done f d whole d′ k n → k < n → d″ ≡ through f d′ (part k) → Done f d whole d″ (k + 1) n
+  pub done-more : {f : List ℕ → ℕ → List ℕ} {d d′ d″ : List ℕ} {k n : ℕ} → Done f d whole d′ k n → k < n → d″ ≡ through f d′ (part k) → Done f d whole d″
+      (k + 1) n
   done-more {f} {d} {d′} {d″} {k} {n} t h e =
       record {
         few = omega arith;

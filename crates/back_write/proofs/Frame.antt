@@ -62,8 +62,10 @@ module _ (g : Geometry) where
       }
 
   -- the runs of an entry, read in the image as it is by now
-  pub taking-run : {d d′ d″ : List ℕ} {s k n a len : ℕ} → Room g d → OnDisk g d s → n ≡ runs g d s → Taking d (λ j. each (runGranules g d s) (count 0 j)) d′ k n → k < n
-      → a ≡ runStart g d′ s k → len ≡ runLength g d′ s k → d″ ≡ through (takeGranule g) d′ (count a len) → Taking d (λ j. each (runGranules g d s) (count 0 j)) d″ (k + 1) n
+  pub taking-run : {d d′ d″ : List ℕ} {s k n a len : ℕ} → Room g d → OnDisk g d s → n ≡ runs g d s → Taking d (λ j. each (runGranules g d s) (count 0 j)) d′ k
+      n → k < n
+      → a ≡ runStart g d′ s k → len ≡ runLength g d′ s k → d″ ≡ through (takeGranule g) d′ (count a len) → Taking d
+      (λ j. each (runGranules g d s) (count 0 j)) d″ (k + 1) n
   taking-run {d} {d′} {d″} {s} {k} {n} {a} {len} r o q t h x y e =
       let four = runs-le g d s in
       let x′ : a ≡ runStart g d s k = x ∙ same-start g d d′ r (t .same) s k (o .slot) (omega arith) in
@@ -113,7 +115,8 @@ module _ (g : Geometry) where
         kept = record { long = refl; sectors = refl; fields = λ x k sl a b. refl };
       }
 
-  pub backing-more : {h : ℕ} {d es d′ d″ : List ℕ} {k n : ℕ} → Room g d → Listed g d es n → Backing h d es d′ k n → k < n → d″ ≡ backEntry g h d′ (getD es k 0) → Backing h d es d″ (k + 1) n
+  pub backing-more : {h : ℕ} {d es d′ d″ : List ℕ} {k n : ℕ} → Room g d → Listed g d es n → Backing h d es d′ k n → k < n → d″ ≡ backEntry g h d′
+      (getD es k 0) → Backing h d es d″ (k + 1) n
   backing-more {h} {d} {es} {d′} {d″} {k} {n} r l b lt e =
       let s = getD es k 0 in
       let sl = kept-slot g (b .kept) (l .entry k lt .slot) in

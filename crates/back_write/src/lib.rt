@@ -39,7 +39,8 @@ fn take_entry(image: &mut [u8], g: Geometry, s: usize)
 // Takes the granules of the first n of these entries.
 pub fn take_all(image: &mut [u8], g: Geometry, entries: &[usize; 256], n: usize)
     requires { ⌜ Room g (now image) × Listed g (now image) (now entries) n ⌝ }
-    ensures { λ _. ⌜ now (image .exit) ≡ through (takeGranule g) (now (image .entry)) (each (entryGranules g (now (image .entry))) (firstOf (now (entries .entry)) n)) ⌝ }
+    ensures { λ _. ⌜ now (image .exit) ≡ through (takeGranule g) (now (image .entry))
+        (each (entryGranules g (now (image .entry))) (firstOf (now (entries .entry)) n)) ⌝ }
 {
     let mut j = 0;
     while j < n {

@@ -39,7 +39,8 @@ module _ (g : Geometry) (d : List ℕ) (s : ℕ) where
   abbrev number : ℕ
   number = first (BringBack.bringBackRefusals g d s)
 
-  pub refused-plan : {n : ℕ} {es : List ℕ} {r : Planned} → r ≡ record { number = n; slots = 0; granules = 0; hash = 0 } → n ≡ first (BringBack.bringBackRefusals g d s) → (n ≡ 0 → ⊥) → Plans g d s es r
+  pub refused-plan : {n : ℕ} {es : List ℕ} {r : Planned} → r ≡ record { number = n; slots = 0; granules = 0; hash = 0 } → n ≡ first
+      (BringBack.bringBackRefusals g d s) → (n ≡ 0 → ⊥) → Plans g d s es r
   refused-plan e q z =
       rw e (record { number-is = q; room = λ w. absurd (z w); written = λ w. absurd (z w); hash-is = λ w. absurd (z w); small = λ w. absurd (z w) })
 
@@ -57,7 +58,8 @@ module _ (g : Geometry) (d : List ℕ) (s : ℕ) where
     at-system a b c = sym (check-then g d _ e z ∙ first-skip (not-yes a) 12 _ ∙ first-skip b 17 _ ∙ first-hit c 6 _)
 
     module _ (a : isSlot g d s ≡ true) (b : inUse g d s ≡ false) (c : system g d s ≡ false) where
-      so-far : first (BringBack.bringBackRefusals g d s) ≡ first ((18, not (whole g d s)) ∷ (19, BringBack.nameInUse g d s) ∷ (20, some (taken g d) (owned g d s)) ∷ [])
+      so-far : first (BringBack.bringBackRefusals g d s) ≡ first ((18, not (whole g d s)) ∷ (19, BringBack.nameInUse g d s) ∷
+          (20, some (taken g d) (owned g d s)) ∷ [])
       so-far = check-then g d _ e z ∙ first-skip (not-yes a) 12 _ ∙ first-skip b 17 _ ∙ first-skip c 6 _
 
       pub at-whole : whole g d s ≡ false → 18 ≡ first (BringBack.bringBackRefusals g d s)
@@ -66,23 +68,28 @@ module _ (g : Geometry) (d : List ℕ) (s : ℕ) where
       pub at-name : whole g d s ≡ true → BringBack.nameInUse g d s ≡ true → 19 ≡ first (BringBack.bringBackRefusals g d s)
       at-name w k = sym (so-far ∙ first-skip (not-yes w) 18 _ ∙ first-hit k 19 _)
 
-      pub at-taken : whole g d s ≡ true → BringBack.nameInUse g d s ≡ false → some (taken g d) (owned g d s) ≡ true → 20 ≡ first (BringBack.bringBackRefusals g d s)
+      pub at-taken : whole g d s ≡ true → BringBack.nameInUse g d s ≡ false → some (taken g d) (owned g d s) ≡ true → 20 ≡ first
+          (BringBack.bringBackRefusals g d s)
       at-taken w k t = sym (so-far ∙ first-skip (not-yes w) 18 _ ∙ first-skip k 19 _ ∙ first-hit t 20 _)
 
-      pub at-none : whole g d s ≡ true → BringBack.nameInUse g d s ≡ false → some (taken g d) (owned g d s) ≡ false → 0 ≡ first (BringBack.bringBackRefusals g d s)
+      pub at-none : whole g d s ≡ true → BringBack.nameInUse g d s ≡ false → some (taken g d) (owned g d s) ≡ false → 0 ≡ first
+          (BringBack.bringBackRefusals g d s)
       at-none w k t = sym (so-far ∙ first-skip (not-yes w) 18 _ ∙ first-skip k 19 _ ∙ first-skip t 20 _ ∙ first-none)
 
   -- the name is looked up
-  pub name-used : {n : ℕ} {f : Found} → Room g d → Slot g d s → n ≡ 11 → Finds g d (take n (drop (entryAt g s + 5) d)) f → f .is ≡ true → BringBack.nameInUse g d s ≡ true
+  pub name-used : {n : ℕ} {f : Found} → Room g d → Slot g d s → n ≡ 11 → Finds g d (take n (drop (entryAt g s + 5) d)) f → f .is ≡ true → BringBack.nameInUse
+      g d s ≡ true
   name-used {n} {f} r sl e w t =
       ap (λ (l : List ℕ). not (eqb (length l) 0)) (finds-one g d (nameOf g d s) (rw (name-is g d s r sl e) at w) (not-yes t))
 
-  pub name-free : {n : ℕ} {f : Found} → Room g d → Slot g d s → n ≡ 11 → Finds g d (take n (drop (entryAt g s + 5) d)) f → f .is ≡ false → BringBack.nameInUse g d s ≡ false
+  pub name-free : {n : ℕ} {f : Found} → Room g d → Slot g d s → n ≡ 11 → Finds g d (take n (drop (entryAt g s + 5) d)) f → f .is ≡ false → BringBack.nameInUse
+      g d s ≡ false
   name-free {n} {f} r sl e w t =
       ap (λ (l : List ℕ). not (eqb (length l) 0)) (finds-none g d (nameOf g d s) (rw (name-is g d s r sl e) at w) (not-no t))
 
   -- the granules are those of the entries written down
-  pub taken-is : {es : List ℕ} {n size : ℕ} → Written g d (chain g d s) es n size → some (taken g d) (each (entryGranules g d) (firstOf es n)) ≡ some (taken g d) (owned g d s)
+  pub taken-is : {es : List ℕ} {n size : ℕ} → Written g d (chain g d s) es n size → some (taken g d) (each (entryGranules g d) (firstOf es n)) ≡ some
+      (taken g d) (owned g d s)
   unfolding owned
   taken-is w = ap (λ (l : List ℕ). some (taken g d) (each (entryGranules g d) l)) (sym (w .entries-are))
 
@@ -96,12 +103,14 @@ module _ (g : Geometry) (d : List ℕ) (s : ℕ) where
   pub listed-then : {es d′ : List ℕ} {n size : ℕ} → Room g d → Written g d (chain g d s) es n size → Same g d d′ → Listed g d′ es n
   listed-then r w e = record { few = w .listed .few; entry = λ j l. same-on-disk g r e (w .listed .entry j l) }
 
-  pub taken-same : {es d′ : List ℕ} {n size : ℕ} → Room g d → Written g d (chain g d s) es n size → d′ ≡ through (takeGranule g) d (each (entryGranules g d) (firstOf es n)) → Same g d d′
+  pub taken-same : {es d′ : List ℕ} {n size : ℕ} → Room g d → Written g d (chain g d s) es n size → d′ ≡ through (takeGranule g) d
+      (each (entryGranules g d) (firstOf es n)) → Same g d d′
   taken-same {es} {d′} {n} {size} r w e =
       rw e (same-taken g d (each (entryGranules g d) (firstOf es n)) r (under-each g d (firstOf es n) (listed-in g d es n (w .listed .entry))))
 
   -- the image with the file brought back, by the entries written down
-  back-is : {es d′ d″ : List ℕ} {n size h : ℕ} → Written g d (chain g d s) es n size → h ≡ hash (nameOf g d s) → d′ ≡ through (takeGranule g) d (each (entryGranules g d) (firstOf es n))
+  back-is : {es d′ d″ : List ℕ} {n size h : ℕ} → Written g d (chain g d s) es n size → h ≡ hash (nameOf g d s) → d′ ≡ through (takeGranule g) d
+      (each (entryGranules g d) (firstOf es n))
       → d″ ≡ through (backEntry g h) d′ (firstOf es n) → d″ ≡ BringBack.broughtBack g d s
   unfolding owned
   back-is {es} {d′} {d″} {n} {size} {h} w q e f =
@@ -116,7 +125,8 @@ module _ (g : Geometry) (d : List ℕ) (s : ℕ) where
   unfolding owned
   own-are w = w .granules-are
 
-  pub accepted : {es d′ d″ : List ℕ} {p : Planned} {c : Refusal} → c ≡ refusal g d 0 → Plans g d s es p → p .number ≡ 0 → d′ ≡ through (takeGranule g) d (each (entryGranules g d) (firstOf es (p .slots)))
+  pub accepted : {es d′ d″ : List ℕ} {p : Planned} {c : Refusal} → c ≡ refusal g d 0 → Plans g d s es p → p .number ≡ 0 → d′ ≡ through (takeGranule g) d
+      (each (entryGranules g d) (firstOf es (p .slots)))
       → d″ ≡ through (backEntry g (p .hash)) d′ (firstOf es (p .slots))
       → _≡_ {A = BroughtBack × List ℕ} (record { refusal = c; slots = p .slots; granules = p .granules }, d″) (bringBack g d s)
   unfolding bringBack

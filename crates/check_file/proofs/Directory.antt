@@ -28,13 +28,16 @@ use Rattle.check_file.specs.Slots.{least, leastOf, fileFits, FileSeen, D
 use Rattle.check_file.proofs.OneFile.{bit-on, bit-off}
 
 pub directory-lt : (g : Geometry) (d : List ℕ) → Room g d → (n : ℕ) → In n (directoryGranules g d) → n < granules g
-directory-lt g d room n i = let k = Members.count-in n (g .start / granuleSectors g) (roundUp (directorySectors g d) (granuleSectors g)) i in let e = Sizes.touched-inside (Sizes.sectors-pos g) (g .start) (directorySectors g d) (granules g) (room .directory) in omega (arith, k, e)
+directory-lt g d room n i = let k = Members.count-in n (g .start / granuleSectors g) (roundUp (directorySectors g d) (granuleSectors g)) i in
+    let e = Sizes.touched-inside (Sizes.sectors-pos g) (g .start) (directorySectors g d) (granules g) (room .directory) in omega (arith, k, e)
 
 module _ (g : Geometry) (d : List ℕ) (room : Room g d) {from bits : ℕ} (w : Directory g d from bits) where
-  within : {n : ℕ} → In n (directoryGranules g d) → (g .start / granuleSectors g ≤ n) × (n < g .start / granuleSectors g + roundUp (directorySectors g d) (granuleSectors g))
+  within : {n : ℕ} → In n (directoryGranules g d) → (g .start / granuleSectors g ≤ n) ×
+      (n < g .start / granuleSectors g + roundUp (directorySectors g d) (granuleSectors g))
   within {n} i = Members.count-in n (g .start / granuleSectors g) (roundUp (directorySectors g d) (granuleSectors g)) i
 
-  inside : (n : ℕ) → g .start / granuleSectors g ≤ n → n < g .start / granuleSectors g + roundUp (directorySectors g d) (granuleSectors g) → In n (directoryGranules g d)
+  inside : (n : ℕ) → g .start / granuleSectors g ≤ n → n < g .start / granuleSectors g + roundUp (directorySectors g d) (granuleSectors g) → In n
+      (directoryGranules g d)
   inside n h l = Members.in-count n (g .start / granuleSectors g) (roundUp (directorySectors g d) (granuleSectors g)) h l
 
   pub all-open : {m : List ℕ} {r : ℕ} → Among m from bits r → r ≡ 0 → (n : ℕ) → In n (directoryGranules g d) → shut (g .units) m n ≡ 0
@@ -46,10 +49,12 @@ module _ (g : Geometry) (d : List ℕ) (room : Room g d) {from bits : ℕ} (w : 
   module _ {m m′ : List ℕ} {r r′ : ℕ} (a : Among m from bits r) (b : Among m′ from bits r′) where
     same : r′ ≡ r → (n : ℕ) → In n (directoryGranules g d) → shut (g .units) m n ≡ shut (g .units) m′ n
     same e n i =
-        same-shut m m′ (w .spans) (room .units-low) (room .units-high) (w .window) (a .bytes) (b .bytes) (sym (a .is) ∙ sym e ∙ b .is) n (within i .0) (within i .1)
+        same-shut m m′ (w .spans) (room .units-low) (room .units-high) (w .window) (a .bytes) (b .bytes) (sym (a .is) ∙ sym e ∙ b .is) n (within i .0)
+        (within i .1)
 
     same′ : ((n : ℕ) → In n (directoryGranules g d) → shut (g .units) m n ≡ shut (g .units) m′ n) → r′ ≡ r
-    same′ f = b .is ∙ sym (shut-same m m′ (w .spans) (room .units-low) (room .units-high) (w .window) (a .bytes) (b .bytes) (λ n h l. f n (inside n h l))) ∙ sym (a .is)
+    same′ f = b .is ∙ sym (shut-same m m′ (w .spans) (room .units-low) (room .units-high) (w .window) (a .bytes) (b .bytes) (λ n h l. f n (inside n h l))) ∙
+        sym (a .is)
 
     -- The granules xs were open and have been taken. The directory's bits are as they were exactly if none of xs lies in the directory.
     module _ (xs : List ℕ) (o : allows (standing g d m) 1 0 xs ≡ true) (e : standing g d m′ ≡ marked (standing g d m) 0 xs) where
@@ -63,7 +68,8 @@ module _ (g : Geometry) (d : List ℕ) (room : Room g d) {from bits : ℕ} (w : 
       off q n i j =
           let l = low n i in
           let x = open-if g d m n l (open′ .high n i) in
-          let z : _≡_ {A = ℕ} (getD (standing g d m′) n 0) 0 = ap (λ (y : List ℕ). getD y n 0) e ∙ Maps.marked-in 0 n xs (standing g d m) i (rw (standing-long g d m) l) in
+          let z : _≡_ {A = ℕ} (getD (standing g d m′) n 0) 0 = ap (λ (y : List ℕ). getD y n 0) e ∙ Maps.marked-in 0 n xs (standing g d m) i
+          (rw (standing-long g d m) l) in
           let y = shut-if g d m′ n l z in
           let s = same q n j in omega arith
 
@@ -129,7 +135,8 @@ module _ (g : Geometry) (d : List ℕ) (s : ℕ) where
       go false = omega arith
 
   -- the walk refused the file
-  pub file-refused : {m m′ m″ met met′ met″ : List ℕ} {r : Bool} → FileSeen g d s 1 m m′ met met′ r → r ≡ false → FileSeen g d s (leastOf g d s) m m″ met met″ false
+  pub file-refused : {m m′ m″ met met′ met″ : List ℕ} {r : Bool} → FileSeen g d s 1 m m′ met met′ r → r ≡ false → FileSeen g d s (leastOf g d s) m m″ met met″
+      false
   file-refused {m} {m′} {m″} {met} {met′} {met″} {r} f e =
       record {
         answer =
@@ -141,7 +148,8 @@ module _ (g : Geometry) (d : List ℕ) (s : ℕ) where
     where
       whole : all (fileFits g d s ∷ allows m (leastOf g d s) 0 (owned g d s) ∷ allows met 1 0 (chain g d s) ∷ []) ≡ true
           → all (fileFits g d s ∷ allows m 1 0 (owned g d s) ∷ allows met 1 0 (chain g d s) ∷ []) ≡ true
-      whole t = all-yes (all-at _ t 0) _ ∙ all-yes (allows-less (leastOf g d s) (owned g d s) m (one-or-two _ refl) (all-at _ t 1)) _ ∙ all-yes (all-at _ t 2) _ ∙ all-none
+      whole t = all-yes (all-at _ t 0) _ ∙ all-yes (allows-less (leastOf g d s) (owned g d s) m (one-or-two _ refl) (all-at _ t 1)) _ ∙ all-yes (all-at _ t 2)
+          _ ∙ all-none
 
   -- a system file
   pub file-system : {m m′ met met′ : List ℕ} {f : ℕ} {r : Bool} → f ≡ field g d s 0 → f / 2 ^ 6 % 2 ≡ 1 → FileSeen g d s 1 m m′ met met′ r → r ≡ true
@@ -152,7 +160,8 @@ module _ (g : Geometry) (d : List ℕ) (s : ℕ) where
       subst (λ (low : ℕ). FileSeen g d s low m m′ met met′ true) (sym l) (subst (λ (r : Bool). FileSeen g d s 1 m m′ met met′ r) t w)
 
   -- any other
-  pub file-other : {m m′ met met′ : List ℕ} {f from bits x y : ℕ} {r : Bool} → Room g d → Directory g d from bits → f ≡ field g d s 0 → (f / 2 ^ 6 % 2 ≡ 1 → ⊥)
+  pub file-other : {m m′ met met′ : List ℕ} {f from bits x y : ℕ} {r : Bool} → Room g d → Directory g d from bits → f ≡ field g d s 0 →
+      (f / 2 ^ 6 % 2 ≡ 1 → ⊥)
       → FileSeen g d s 1 (standing g d m) (standing g d m′) met met′ r → r ≡ true → Among m from bits x → Among m′ from bits y
       → FileSeen g d s (leastOf g d s) (standing g d m) (standing g d m′) met met′ (eqb y x)
   unfolding least
@@ -161,10 +170,13 @@ module _ (g : Geometry) (d : List ℕ) (s : ℕ) where
       record {
         answer =
             Members.both-T
-            (λ q. Members.true-T (all-yes (all-at _ held 0) _ ∙ all-yes (ap (λ (low : ℕ). allows (standing g d m) low 0 (owned g d s)) l ∙ off-says g d room k a c (owned g d s) (all-at _ held 1) (w .map t) (eqb-true _ _ (Members.T-true q))) _
+            (λ q. Members.true-T (all-yes (all-at _ held 0) _ ∙ all-yes
+            (ap (λ (low : ℕ). allows (standing g d m) low 0 (owned g d s)) l ∙ off-says g d room k a c (owned g d s) (all-at _ held 1) (w .map t)
+            (eqb-true _ _ (Members.T-true q))) _
             ∙ all-yes (all-at _ held 2) _ ∙ all-none))
             (λ q. Members.true-T (eq-eqb _ _ (says-off g d room k a c (owned g d s) (all-at _ held 1) (w .map t)
-            (sym (ap (λ (low : ℕ). allows (standing g d m) low 0 (owned g d s)) l) ∙ all-at (fileFits g d s ∷ allows (standing g d m) (leastOf g d s) 0 (owned g d s) ∷ allows met 1 0 (chain g d s) ∷ []) (Members.T-true q) 1))));
+            (sym (ap (λ (low : ℕ). allows (standing g d m) low 0 (owned g d s)) l) ∙ all-at
+            (fileFits g d s ∷ allows (standing g d m) (leastOf g d s) 0 (owned g d s) ∷ allows met 1 0 (chain g d s) ∷ []) (Members.T-true q) 1))));
         map = λ q. w .map t;
         meets = λ q. w .meets t;
       }

@@ -60,27 +60,32 @@ module _ (g : Geometry) (d : List ℕ) (s : ℕ) where
   unfolding fileFits
   file-name e n = file-no (all-out _ 1 (ap (λ (k : ℕ). nameFits g d k s) (sym e) ∙ n))
 
-  pub file-count : {low : ℕ} {m m′ met met′ : List ℕ} {n : ℕ} → n ≡ sectorCount g d s → countHolds n (endByte g d s) ≡ false → FileSeen g d s low m m′ met met′ false
+  pub file-count : {low : ℕ} {m m′ met met′ : List ℕ} {n : ℕ} → n ≡ sectorCount g d s → countHolds n (endByte g d s) ≡ false → FileSeen g d s low m m′ met
+      met′ false
   unfolding fileFits
   file-count e n = file-no (all-out _ 2 (ap (λ (k : ℕ). countHolds k (endByte g d s)) (sym e) ∙ n))
 
   pub two : {x y : ℕ} → x ≡ field g d s 0x14 → y ≡ field g d s 0x15 → x + 256 * y ≡ sectorCount g d s
   two {x} {y} e f = ap (λ (k : ℕ). k + 256 * y) e ∙ ap (λ (k : ℕ). field g d s 0x14 + 256 * k) f
 
-  pub file-walk : {m m′ met met′ : List ℕ} {f h n left k : ℕ} {r : Bool} → Room g d → f ≡ field g d s 0 → (f / 2 ^ 5 % 2 ≡ 1 → ⊥) → h ≡ hit g d s → nameFits g d h s ≡ true
+  pub file-walk : {m m′ met met′ : List ℕ} {f h n left k : ℕ} {r : Bool} → Room g d → f ≡ field g d s 0 → (f / 2 ^ 5 % 2 ≡ 1 → ⊥) → h ≡ hit g d s → nameFits g
+      d h s ≡ true
       → n ≡ sectorCount g d s → countHolds n (endByte g d s) ≡ true → k ≡ directorySectors g d → left ≡ 8 * (k - 2)
       → Walked g d 1 n 0 (chainHolds g d h left s) (chainFrom g d left s) m m′ met met′ r → FileSeen g d s 1 m m′ met met′ r
   unfolding fileFits chain owned
   file-walk {m} {m′} {met} {met′} {f} {h} {n} {left} {k} {r} room e b i a c q ds l w =
       let len : left ≡ length (slots g d) = l ∙ ap (λ (j : ℕ). 8 * (j - 2)) ds ∙ sym (slots-length g d (room .ten) (room .thirty)) in
       let w′ : Walked g d 1 (sectorCount g d s) 0 (chainHolds g d (hit g d s) (length (slots g d)) s) (chain g d s) m m′ met met′ r = rw (c, i, len) at w in
-      let fit : fileFits g d s ≡ all (chainHolds g d (hit g d s) (length (slots g d)) s ∷ leb (sectorCount g d s) (granuleSectors g * length (owned g d s)) ∷ [])
+      let fit : fileFits g d s ≡ all (chainHolds g d (hit g d s) (length (slots g d)) s ∷ leb (sectorCount g d s) (granuleSectors g * length (owned g d s)) ∷
+      [])
       = all-yes (not-no (ap (bit 5) (sym e) ∙ bit-off 5 f b)) _ ∙ all-yes (ap (λ (j : ℕ). nameFits g d j s) (sym i) ∙ a) _
       ∙ all-yes (ap (λ (j : ℕ). countHolds j (endByte g d s)) (sym c) ∙ q) _ in
       record {
         answer =
-            w′ .answer ∙ ap (λ (j : ℕ). all (chainHolds g d (hit g d s) (length (slots g d)) s ∷ allows m 1 0 (owned g d s) ∷ allows met 1 0 (chain g d s) ∷ leb (sectorCount g d s) (granuleSectors g * j) ∷ [])) (zero-add (length (owned g d s)))
-            ∙ shuffle (chainHolds g d (hit g d s) (length (slots g d)) s) (allows m 1 0 (owned g d s)) (allows met 1 0 (chain g d s)) (leb (sectorCount g d s) (granuleSectors g * length (owned g d s)))
+            w′ .answer ∙ ap (λ (j : ℕ). all (chainHolds g d (hit g d s) (length (slots g d)) s ∷ allows m 1 0 (owned g d s) ∷ allows met 1 0 (chain g d s) ∷
+            leb (sectorCount g d s) (granuleSectors g * j) ∷ [])) (zero-add (length (owned g d s)))
+            ∙ shuffle (chainHolds g d (hit g d s) (length (slots g d)) s) (allows m 1 0 (owned g d s)) (allows met 1 0 (chain g d s))
+            (leb (sectorCount g d s) (granuleSectors g * length (owned g d s)))
             ∙ all-three (sym fit) refl refl;
         map = w′ .map;
         meets = w′ .meets;
@@ -111,17 +116,20 @@ module _ (g : Geometry) (d : List ℕ) (s : ℕ) where
       by true u = rw u (seen-no (all-no (hit-is e (eq-eqb _ _ z) u) _))
       by false u = rw u (seen-plain (ap (λ (b : Bool). b && not (extension g d s)) u) (sym (hit-is e (eq-eqb _ _ z) u)))
 
-  pub seen-unused : {m m′ met met′ : List ℕ} {h f : ℕ} → h ≡ hit g d s → (h ≡ 0 → ⊥) → f ≡ field g d s 0 → (f / 2 ^ 4 % 2 ≡ 1 → ⊥) → Seen g d (s ∷ []) m m′ met met′ false
+  pub seen-unused : {m m′ met met′ : List ℕ} {h f : ℕ} → h ≡ hit g d s → (h ≡ 0 → ⊥) → f ≡ field g d s 0 → (f / 2 ^ 4 % 2 ≡ 1 → ⊥) → Seen g d (s ∷ []) m m′
+      met met′ false
   unfolding slotFits
   seen-unused {f = f} e z q n = seen-no (all-no (hit-is e (ne-eqb _ _ z) (ap (bit 4) (sym q) ∙ bit-off 4 f n)) _)
 
-  pub seen-extension : {m met : List ℕ} {h f : ℕ} → h ≡ hit g d s → (h ≡ 0 → ⊥) → f ≡ field g d s 0 → f / 2 ^ 4 % 2 ≡ 1 → f / 2 ^ 7 % 2 ≡ 1 → Seen g d (s ∷ []) m m met met true
+  pub seen-extension : {m met : List ℕ} {h f : ℕ} → h ≡ hit g d s → (h ≡ 0 → ⊥) → f ≡ field g d s 0 → f / 2 ^ 4 % 2 ≡ 1 → f / 2 ^ 7 % 2 ≡ 1 → Seen g d
+      (s ∷ []) m m met met true
   seen-extension {f = f} e z q n x =
       let u : inUse g d s ≡ true = ap (bit 4) (sym q) ∙ bit-on 4 f n in
       let v : extension g d s ≡ true = ap (bit 7) (sym q) ∙ bit-on 7 f x in
       seen-plain (rw (u, v)) (sym (hit-is e (ne-eqb _ _ z) u))
 
-  pub seen-file : {m m′ met met′ : List ℕ} {h f : ℕ} {r : Bool} → h ≡ hit g d s → (h ≡ 0 → ⊥) → f ≡ field g d s 0 → f / 2 ^ 4 % 2 ≡ 1 → (f / 2 ^ 7 % 2 ≡ 1 → ⊥)
+  pub seen-file : {m m′ met met′ : List ℕ} {h f : ℕ} {r : Bool} → h ≡ hit g d s → (h ≡ 0 → ⊥) → f ≡ field g d s 0 → f / 2 ^ 4 % 2 ≡ 1 →
+      (f / 2 ^ 7 % 2 ≡ 1 → ⊥)
       → FileSeen g d s (leastOf g d s) m m′ met met′ r → Seen g d (s ∷ []) m m′ met met′ r
   unfolding slotsFit slotFits opens ownedOf chainOf
   seen-file {m} {m′} {met} {met′} {h} {f} {r} e z q n x w =
@@ -134,7 +142,8 @@ module _ (g : Geometry) (d : List ℕ) (s : ℕ) where
       record {
         answer =
             w .answer
-            ∙ all-three (sym k ∙ sym (and-true (slotFits g d s))) (ap (allows m (leastOf g d s) 0) (sym own) ∙ sym (and-true (allows m (leastOf g d s) 0 (ownedOf g d s))))
+            ∙ all-three (sym k ∙ sym (and-true (slotFits g d s)))
+            (ap (allows m (leastOf g d s) 0) (sym own) ∙ sym (and-true (allows m (leastOf g d s) 0 (ownedOf g d s))))
             (ap (allows met 1 0) (sym cha) ∙ sym (and-true (allows met 1 0 (chainOf g d s))));
         map = λ t. w .map t ∙ ap (marked m 0) (sym own ∙ sym (Members.each-one (ownedOf g d) s));
         meets = λ t. w .meets t ∙ ap (marked met 0) (sym cha ∙ sym (Members.each-one (chainOf g d) s));
@@ -154,12 +163,14 @@ hash-says : (g : Geometry) (d : List ℕ) (h : ℕ) {s at n : ℕ} {b : Bool} �
     → eqb h (hash (nameOf g d s)) ≡ b
 hash-says g d h r p e w = ap (λ (l : List ℕ). eqb h (hash l)) (sym (name-is g d r p e)) ∙ sym w
 
-pub name-no : (g : Geometry) (d : List ℕ) (h : ℕ) {s at n : ℕ} {b : Bool} → Room g d → Place g d s at → n ≡ 11 → b ≡ eqb h (hash (take n (drop (at + 5) d))) → b ≡ false
+pub name-no : (g : Geometry) (d : List ℕ) (h : ℕ) {s at n : ℕ} {b : Bool} → Room g d → Place g d s at → n ≡ 11 → b ≡ eqb h (hash (take n (drop (at + 5) d))) →
+    b ≡ false
     → false ≡ nameFits g d h s
 unfolding nameFits
 name-no g d h r p e w t = sym (all-out _ 1 (hash-says g d h r p e w ∙ t))
 
-pub name-yes : (g : Geometry) (d : List ℕ) (h : ℕ) {s at n : ℕ} {b f : Bool} → Room g d → Place g d s at → n ≡ 11 → b ≡ eqb h (hash (take n (drop (at + 5) d))) → b ≡ true
+pub name-yes : (g : Geometry) (d : List ℕ) (h : ℕ) {s at n : ℕ} {b f : Bool} → Room g d → Place g d s at → n ≡ 11 → b ≡ eqb h
+    (hash (take n (drop (at + 5) d))) → b ≡ true
     → f ≡ wellFormed (take n (drop (at + 5) d)) → f ≡ nameFits g d h s
 unfolding nameFits
 name-yes g d h r p e w t q =

@@ -48,8 +48,10 @@ fn file_holds(
     from: usize,
     bits: u64,
 ) -> bool
-    requires { ⌜ Room g (now image) × Place g (now image) s at × (flags ≡ field g (now image) s 0) × (h ≡ hit g (now image) s) × Directory g (now image) from bits ⌝ }
-    ensures { λ r. ⌜ FileSeen g (now (image .entry)) s (leastOf g (now (image .entry)) s) (standing g (now (image .entry)) (now (map .entry))) (standing g (now (image .entry)) (now (map .exit))) (now (met .entry)) (now (met .exit)) r ⌝ }
+    requires { ⌜ Room g (now image) × Place g (now image) s at × (flags ≡ field g (now image) s 0) × (h ≡ hit g (now image) s)
+        × Directory g (now image) from bits ⌝ }
+    ensures { λ r. ⌜ FileSeen g (now (image .entry)) s (leastOf g (now (image .entry)) s) (standing g (now (image .entry)) (now (map .entry)))
+        (standing g (now (image .entry)) (now (map .exit))) (now (met .entry)) (now (met .exit)) r ⌝ }
 {
     if (flags >> layout::ZERO) % 2 == 1 {
         return false;
@@ -85,7 +87,8 @@ pub fn slot_holds(
     bits: u64,
 ) -> bool
     requires { ⌜ Room g (now image) × Place g (now image) s at × Directory g (now image) from bits ⌝ }
-    ensures { λ r. ⌜ Seen g (now (image .entry)) (s ∷ []) (standing g (now (image .entry)) (now (map .entry))) (standing g (now (image .entry)) (now (map .exit))) (now (met .entry)) (now (met .exit)) r ⌝ }
+    ensures { λ r. ⌜ Seen g (now (image .entry)) (s ∷ []) (standing g (now (image .entry)) (now (map .entry)))
+        (standing g (now (image .entry)) (now (map .exit))) (now (met .entry)) (now (met .exit)) r ⌝ }
 {
     let h = layout::hit(image, g, s);
     let flags = check_walk::field_at(image, g, s, at, layout::FLAGS);

@@ -31,10 +31,12 @@ digit-and (suc u) a b =
 
 pub digit-or : (u a b : ℕ) → digit (bitOr a b) u ≡ max (digit a u) (digit b u)
 unfolding digit
-digit-or zero a b = ap (λ (x : ℕ). x % 2) (or-step a b) ∙ low (bitOr (a / 2) (b / 2)) (max (a % 2) (b % 2)) (max-lt (a % 2) (b % 2) (omega arith) (omega arith))
+digit-or zero a b = ap (λ (x : ℕ). x % 2) (or-step a b) ∙ low (bitOr (a / 2) (b / 2)) (max (a % 2) (b % 2))
+    (max-lt (a % 2) (b % 2) (omega arith) (omega arith))
 digit-or (suc u) a b =
     ap (λ (x : ℕ). digit (x / 2) u) (or-step a b)
-    ∙ ap (λ (x : ℕ). digit x u) (high (bitOr (a / 2) (b / 2)) (max (a % 2) (b % 2)) (max-lt (a % 2) (b % 2) (omega arith) (omega arith))) ∙ digit-or u (a / 2) (b / 2)
+    ∙ ap (λ (x : ℕ). digit x u) (high (bitOr (a / 2) (b / 2)) (max (a % 2) (b % 2)) (max-lt (a % 2) (b % 2) (omega arith) (omega arith))) ∙ digit-or u (a / 2)
+    (b / 2)
 
 pub digit-zero : (u : ℕ) → digit 0 u ≡ 0
 unfolding digit
@@ -56,14 +58,16 @@ unfolding digit
 ones-in zero u h = absurd (let z : ⊥ = omega arith in z)
 ones-in (suc n) zero h = let p = pow-suc 2 n in let q = pow-pos n in omega arith
 ones-in (suc n) (suc u) h =
-    ap (λ (x : ℕ). digit x u) (let p = pow-suc 2 n in let q = pow-pos n in let z : (2 ^ suc n - 1) / 2 ≡ 2 ^ n - 1 = omega arith in z) ∙ ones-in n u (omega arith)
+    ap (λ (x : ℕ). digit x u) (let p = pow-suc 2 n in let q = pow-pos n in let z : (2 ^ suc n - 1) / 2 ≡ 2 ^ n - 1 = omega arith in z) ∙ ones-in n u
+    (omega arith)
 
 pub ones-out : (n u : ℕ) → n ≤ u → digit (2 ^ n - 1) u ≡ 0
 unfolding digit
 ones-out zero u h = digit-zero u
 ones-out (suc n) zero h = absurd (let z : ⊥ = omega arith in z)
 ones-out (suc n) (suc u) h =
-    ap (λ (x : ℕ). digit x u) (let p = pow-suc 2 n in let q = pow-pos n in let z : (2 ^ suc n - 1) / 2 ≡ 2 ^ n - 1 = omega arith in z) ∙ ones-out n u (omega arith)
+    ap (λ (x : ℕ). digit x u) (let p = pow-suc 2 n in let q = pow-pos n in let z : (2 ^ suc n - 1) / 2 ≡ 2 ^ n - 1 = omega arith in z) ∙ ones-out n u
+    (omega arith)
 
 shift-suc : (x o : ℕ) → x * 2 ^ suc o ≡ x * 2 ^ o * 2
 shift-suc x o = ap (λ (y : ℕ). x * y) (pow-suc 2 o) ∙ sym (mul-assoc x (2 ^ o) 2)
@@ -73,14 +77,16 @@ unfolding digit
 shift-low zero x u h = absurd (let z : ⊥ = omega arith in z)
 shift-low (suc o) x zero h = ap (λ (y : ℕ). y % 2) (shift-suc x o) ∙ (let z : x * 2 ^ o * 2 % 2 ≡ 0 = omega arith in z)
 shift-low (suc o) x (suc u) h =
-    ap (λ (y : ℕ). digit (y / 2) u) (shift-suc x o) ∙ ap (λ (y : ℕ). digit y u) (let z : x * 2 ^ o * 2 / 2 ≡ x * 2 ^ o = omega arith in z) ∙ shift-low o x u (omega arith)
+    ap (λ (y : ℕ). digit (y / 2) u) (shift-suc x o) ∙ ap (λ (y : ℕ). digit y u) (let z : x * 2 ^ o * 2 / 2 ≡ x * 2 ^ o = omega arith in z) ∙ shift-low o x u
+    (omega arith)
 
 pub shift-high : (o x v : ℕ) → digit (x * 2 ^ o) (o + v) ≡ digit x v
 unfolding digit
 shift-high zero x v = ap₂ (λ (y u : ℕ). digit y u) (let z : x * 2 ^ 0 ≡ x = omega arith in z) (let z : 0 + v ≡ v = omega arith in z)
 shift-high (suc o) x v =
     ap (λ (u : ℕ). digit (x * 2 ^ suc o) u) (let z : suc o + v ≡ suc (o + v) = omega arith in z)
-    ∙ ap (λ (y : ℕ). digit (y / 2) (o + v)) (shift-suc x o) ∙ ap (λ (y : ℕ). digit y (o + v)) (let z : x * 2 ^ o * 2 / 2 ≡ x * 2 ^ o = omega arith in z) ∙ shift-high o x v
+    ∙ ap (λ (y : ℕ). digit (y / 2) (o + v)) (shift-suc x o) ∙ ap (λ (y : ℕ). digit y (o + v)) (let z : x * 2 ^ o * 2 / 2 ≡ x * 2 ^ o = omega arith in z) ∙
+    shift-high o x v
 
 -- n ones from place o on
 abbrev pub mask : ℕ → ℕ → ℕ
@@ -111,7 +117,8 @@ clear-says x n o i e h =
     ∙ sym (digit-and (o + i) x (mask n o)) ∙ ap (λ (y : ℕ). digit y (o + i)) e ∙ digit-zero (o + i)
 
 pub says-clear : (x n o : ℕ) → ((i : ℕ) → i < n → digit x (o + i) ≡ 0) → bitAnd x (mask n o) ≡ 0
-says-clear x n o f = all-zero (n + o) (bitAnd x (mask n o)) (let q = and-le-r x (mask n o) in let w = shl-lt n o (ones-lt n) in omega arith) (λ u h. digit-and u x (mask n o) ∙ at u (le-or-lt o u) (le-or-lt (o + n) u))
+says-clear x n o f = all-zero (n + o) (bitAnd x (mask n o)) (let q = and-le-r x (mask n o) in let w = shl-lt n o (ones-lt n) in omega arith)
+    (λ u h. digit-and u x (mask n o) ∙ at u (le-or-lt o u) (le-or-lt (o + n) u))
   where
     out : (u : ℕ) → (u < o) ⊎ (o + n ≤ u) → min (digit x u) (digit (mask n o) u) ≡ 0
     out u h = ap (λ (y : ℕ). min (digit x u) y) (mask-out n o u h) ∙ min-zero (digit x u)

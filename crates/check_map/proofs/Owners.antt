@@ -5,7 +5,8 @@ use mathlib.Core.List.{List}
 use mathlib.Core.Bool.{Bool, true, false, true≢false}
 use Prim.Native.Nat.{ℕ, _+_, _-_, _*_, _/_, _%_, _^_, _≤_, _<_}
 use native.Mathlib.Omega.{arith}
-use native.Mathlib.Nat.{one-mul, add-zero, div-add-mod', pow-le-pow-right, mul-add-div-right, mul-add-mod-self-right, div-eq-of-lt, mod-eq-of-lt, mod-lt, div-lt-iff-lt-mul, add-mul, mul-le-mul}
+use native.Mathlib.Nat.{one-mul, add-zero, div-add-mod', pow-le-pow-right, mul-add-div-right, mul-add-mod-self-right, div-eq-of-lt, mod-eq-of-lt, mod-lt}
+use native.Mathlib.Nat.{div-lt-iff-lt-mul, add-mul, mul-le-mul}
 use lib.Bits.{bitAnd, bitOr, or-lt}
 use lib.Dec.{eqb}
 use lib.ListN.{length, getD, set, length-set}
@@ -48,11 +49,13 @@ pub takes-none : {units : ℕ} {m m₁ m′ : List ℕ} {a n k : ℕ} → k ≤ 
 takes-none {units} {m} {m₁} {m′} {a} {n} {k} h t =
     record { yes′ = λ e. other-bit e; back = λ b. t .back (λ i l. b i (omega arith)); inside = λ e. other-bit e; outside = λ e. other-bit e }
 
-pub takes-then : {units : ℕ} {m m₁ m₂ : List ℕ} {a n k b l : ℕ} {r : Bool} → b ≡ a + k → k + l ≡ n → Takes units m a k m₁ true → Takes units m₁ b l m₂ r → Takes units m a n m₂ r
+pub takes-then : {units : ℕ} {m m₁ m₂ : List ℕ} {a n k b l : ℕ} {r : Bool} → b ≡ a + k → k + l ≡ n → Takes units m a k m₁ true → Takes units m₁ b l m₂ r →
+    Takes units m a n m₂ r
 takes-then {units} {m} {m₁} {m₂} {a} {n} {k} {b} {l} {r} e f s t =
     record {
       yes′ = λ y i h. first y i h (le-or-lt k i);
-      back = λ c. t .back (λ i h. sym (keeps (b + i) (omega arith)) ∙ ap (shut units m) (let z : b + i ≡ a + (k + i) = omega arith in z) ∙ c (k + i) (omega arith));
+      back = λ c. t .back (λ i h. sym (keeps (b + i) (omega arith)) ∙ ap (shut units m) (let z : b + i ≡ a + (k + i) = omega arith in z) ∙ c (k + i)
+          (omega arith));
       inside = λ y i h. second y i h (le-or-lt k i);
       outside = λ y q w. t .outside y q (far q w) ∙ s .outside refl q (near q w);
     }
@@ -93,7 +96,8 @@ shut-at units b u m l =
 pub fits-byte : (x n o : ℕ) → x < 256 → o + n ≤ 8 → bitOr x (coded n o) < 256
 fits-byte x n o h k =
     subst (λ (y : ℕ). bitOr x y < 256) (sym (coded-is n o (omega arith) (omega arith)))
-    (or-lt 8 x (mask n o) h (let w = shl-lt n o (ones-lt n) in let p = pow-le-pow-right {n = 2} (omega arith) {i = n + o} {j = 8} (omega arith) in omega arith))
+    (or-lt 8 x (mask n o) h (let w = shl-lt n o (ones-lt n) in let p = pow-le-pow-right {n = 2} (omega arith) {i = n + o} {j = 8} (omega arith) in omega
+    arith))
 
 module _ (units b o n : ℕ) (m : List ℕ) (k : o + n ≤ units) (eight : units ≤ 8) where
   within : (i : ℕ) → i < n → shut units m (b * units + o + i) ≡ digit (getD m b 0) (o + i)
@@ -110,12 +114,14 @@ module _ (units b o n : ℕ) (m : List ℕ) (k : o + n ≤ units) (eight : units
         outside = λ t. other-bit t;
       }
 
-module _ (units b o n : ℕ) (m : List ℕ) (k : o + n ≤ units) (eight : units ≤ 8) (far : b < length m) {x : ℕ} (e : x ≡ getD m b 0) (c : bitAnd x (coded n o) ≡ 0) where
+module _ (units b o n : ℕ) (m : List ℕ) (k : o + n ≤ units) (eight : units ≤ 8) (far : b < length m) {x : ℕ} (e : x ≡ getD m b 0)
+    (c : bitAnd x (coded n o) ≡ 0) where
   abbrev new : List ℕ
   new = set m b (bitOr x (coded n o))
 
   here : getD new b 0 ≡ bitOr (getD m b 0) (mask n o)
-  here = getD-set-same m b (bitOr x (coded n o)) 0 far ∙ ap (λ (y : ℕ). bitOr x y) (coded-is n o (omega arith) (omega arith)) ∙ ap (λ (y : ℕ). bitOr y (mask n o)) e
+  here = getD-set-same m b (bitOr x (coded n o)) 0 far ∙ ap (λ (y : ℕ). bitOr x y) (coded-is n o (omega arith) (omega arith)) ∙ ap
+      (λ (y : ℕ). bitOr y (mask n o)) e
 
   same-block : (q : ℕ) → q / units ≡ b → (q < b * units + o) ⊎ (b * units + o + n ≤ q) → shut units new q ≡ shut units m q
   same-block q z w = unfold shut in
@@ -132,7 +138,8 @@ module _ (units b o n : ℕ) (m : List ℕ) (k : o + n ≤ units) (eight : units
   other-block : (q : ℕ) → (q / units ≡ b → ⊥) → shut units new q ≡ shut units m q
   other-block q z = unfold shut in ap (λ (y : ℕ). digit y (q % units)) (getD-set-other m b (q / units) (bitOr x (coded n o)) 0 z)
 
-  off : (q : ℕ) → (q < b * units + o) ⊎ (b * units + o + n ≤ q) → (q / units ≤ b) ⊎ (b < q / units) → (b ≤ q / units) ⊎ (q / units < b) → shut units new q ≡ shut units m q
+  off : (q : ℕ) → (q < b * units + o) ⊎ (b * units + o + n ≤ q) → (q / units ≤ b) ⊎ (b < q / units) → (b ≤ q / units) ⊎ (q / units < b) → shut units new q ≡
+      shut units m q
   off q w (inr h) j = other-block q (λ z. omega arith)
   off q w (inl h) (inr j) = other-block q (λ z. omega arith)
   off q w (inl h) (inl j) = same-block q (omega arith) w
@@ -142,7 +149,8 @@ module _ (units b o n : ℕ) (m : List ℕ) (k : o + n ≤ units) (eight : units
       record {
         yes′ = λ t i l.
             within units b o n m k eight i l
-            ∙ clear-says (getD m b 0) n o i (ap (λ (y : ℕ). bitAnd y (mask n o)) (sym e) ∙ ap (λ (y : ℕ). bitAnd x y) (sym (coded-is n o (omega arith) (omega arith))) ∙ c) l;
+            ∙ clear-says (getD m b 0) n o i (ap (λ (y : ℕ). bitAnd y (mask n o)) (sym e) ∙ ap (λ (y : ℕ). bitAnd x y)
+            (sym (coded-is n o (omega arith) (omega arith))) ∙ c) l;
         back = λ f. refl;
         inside = λ t i l. within units b o n new k eight i l ∙ ap (λ (y : ℕ). digit y (o + i)) here ∙ or-in (getD m b 0) n o i l;
         outside = λ t q w. off q w (le-or-lt (q / units) b) (le-or-lt b (q / units));
@@ -173,7 +181,8 @@ taking-start units m n b u k l =
     }
 
 -- the next granule's block is on the map
-pub taking-block : {units : ℕ} {m₀ : List ℕ} {a n : ℕ} {m : List ℕ} {b u left : ℕ} → Taking units m₀ a n m b u left → a + n ≤ mostBlocks * units → b < mostBlocks
+pub taking-block : {units : ℕ} {m₀ : List ℕ} {a n : ℕ} {m : List ℕ} {b u left : ℕ} → Taking units m₀ a n m b u left → a + n ≤ mostBlocks * units → b <
+    mostBlocks
 taking-block {units} {m₀} {a} {n} {m} {b} {u} {left} t h = go (le-or-lt mostBlocks b)
   where
     go : (mostBlocks ≤ b) ⊎ (b < mostBlocks) → b < mostBlocks
@@ -182,7 +191,8 @@ taking-block {units} {m₀} {a} {n} {m} {b} {u} {left} t h = go (le-or-lt mostBl
         let q : mostBlocks * units ≤ b * units = mul-le-mul {n₁ = mostBlocks} {m₁ = units} {n₂ = b} {m₂ = units} l (omega arith) in
         absurd (let p = t .place in let s = t .some in let w = t .most in let z : ⊥ = omega arith in z)
 
-pub taking-step : {units : ℕ} {m₀ : List ℕ} {a n : ℕ} {m m′ : List ℕ} {b u left : ℕ} {r : Bool} → Taking units m₀ a n m b u left → units < u + left → Takes units m (b * units + u) (units - u) m′ r
+pub taking-step : {units : ℕ} {m₀ : List ℕ} {a n : ℕ} {m m′ : List ℕ} {b u left : ℕ} {r : Bool} → Taking units m₀ a n m b u left → units < u + left → Takes
+    units m (b * units + u) (units - u) m′ r
     → r ≡ true → Taking units m₀ a n m′ (b + 1) 0 (left - (units - u))
 taking-step {units} {m₀} {a} {n} {m} {m′} {b} {u} {left} {r} t h w y =
     let p = t .place in
@@ -198,11 +208,16 @@ taking-step {units} {m₀} {a} {n} {m} {m′} {b} {u} {left} {r} t h w y =
       done = takes-then p (omega arith) (t .done) (subst (λ (c : Bool). Takes units m (b * units + u) (units - u) m′ c) y w);
     }
 
-pub taking-stop : {units : ℕ} {m₀ : List ℕ} {a n : ℕ} {m m₁ m′ : List ℕ} {b u left k : ℕ} {r : Bool} → Taking units m₀ a n m b u left → k ≤ left → Takes units m (b * units + u) k m₁ r
+pub taking-stop : {units : ℕ} {m₀ : List ℕ} {a n : ℕ} {m m₁ m′ : List ℕ} {b u left k : ℕ} {r : Bool} → Taking units m₀ a n m b u left → k ≤ left → Takes units
+    m (b * units + u) k m₁ r
     → r ≡ false → Takes units m₀ a n m′ false
-taking-stop {units = units} {n = n} {m = m} {m₁ = m₁} {m′ = m′} {b = b} {u = u} {left = left} {k = k} t h w y = takes-none (let q = t .most in let z : n - left + k ≤ n = omega arith in z) (takes-then {m₂ = m′} (t .place) refl (t .done) (takes-none (let z : k ≤ k = omega arith in z) (subst (λ (c : Bool). Takes units m (b * units + u) k m₁ c) y w)))
+taking-stop {units = units} {n = n} {m = m} {m₁ = m₁} {m′ = m′} {b = b} {u = u} {left = left} {k = k} t h w y = takes-none
+    (let q = t .most in let z : n - left + k ≤ n = omega arith in z)
+    (takes-then {m₂ = m′} (t .place) refl (t .done) (takes-none (let z : k ≤ k = omega arith in z)
+    (subst (λ (c : Bool). Takes units m (b * units + u) k m₁ c) y w)))
 
-pub taking-end : {units : ℕ} {m₀ : List ℕ} {a n : ℕ} {m m′ : List ℕ} {b u left : ℕ} {r : Bool} → Taking units m₀ a n m b u left → Takes units m (b * units + u) left m′ r → Takes units m₀ a n m′ r
+pub taking-end : {units : ℕ} {m₀ : List ℕ} {a n : ℕ} {m m′ : List ℕ} {b u left : ℕ} {r : Bool} → Taking units m₀ a n m b u left → Takes units m
+    (b * units + u) left m′ r → Takes units m₀ a n m′ r
 taking-end t w = takes-then (t .place) (let q = t .most in omega arith) (t .done) w
 
 -- The GAT ----------------------------------------------------------------------------------------------------------------------
@@ -215,9 +230,16 @@ pub record Turning (d : List ℕ) (gat : ℕ) (m : List ℕ) (b : ℕ) : Type 0 
   pub small : (i : ℕ) → i < b → getD d (gat + i) 0 < 256
 
 pub turning-start : (d : List ℕ) (gat : ℕ) (m : List ℕ) → length m ≡ mostBlocks → Turning d gat m 0
-turning-start d gat m h = record { long = h; few = omega arith; bytes = λ i l. absurd (let z : ⊥ = omega arith in z); small = λ i l. absurd (let z : ⊥ = omega arith in z) }
+turning-start d gat m h = record {
+  long = h;
+  few = omega arith;
+  bytes = λ i l. absurd (let z : ⊥ = omega arith in z);
+  small = λ i l. absurd
+      (let z : ⊥ = omega arith in z);
+}
 
-pub turning-step : {d : List ℕ} {gat : ℕ} {m : List ℕ} {b : ℕ} → Turning d gat m b → b < mostBlocks → getD d (gat + b) 0 < 256 → Turning d gat (set m b (255 - getD d (gat + b) 0)) (b + 1)
+pub turning-step : {d : List ℕ} {gat : ℕ} {m : List ℕ} {b : ℕ} → Turning d gat m b → b < mostBlocks → getD d (gat + b) 0 < 256 → Turning d gat
+    (set m b (255 - getD d (gat + b) 0)) (b + 1)
 turning-step {d} {gat} {m} {b} t h k =
     record {
       long = length-set m b (255 - getD d (gat + b) 0) ∙ t .long;
@@ -243,7 +265,8 @@ unfolding digit
 turned-all = refl
 
 turned : (x u : ℕ) → x < 256 → u < 8 → digit (255 - x) u ≡ 1 - digit x u
-turned x u h l = eqb-true _ _ (all-below 8 (λ u. eqb (digit (255 - x) u) (1 - digit x u)) (all-below 256 (λ x. allBelow 8 (λ u. eqb (digit (255 - x) u) (1 - digit x u))) turned-all x h) u l)
+turned x u h l = eqb-true _ _ (all-below 8 (λ u. eqb (digit (255 - x) u) (1 - digit x u))
+    (all-below 256 (λ x. allBelow 8 (λ u. eqb (digit (255 - x) u) (1 - digit x u))) turned-all x h) u l)
 
 module _ (g : Geometry) (d m : List ℕ) (room : Room g d) (b : ℕ) (t : Turning d (256 * g .start) m b) (all : mostBlocks ≤ b) where
   turned-at : (n : ℕ) → n < granules g → shut (g .units) m n ≡ 1 - digit (byte d (gatAt g n)) (n % g .units)
@@ -252,7 +275,8 @@ module _ (g : Geometry) (d m : List ℕ) (room : Room g d) (b : ℕ) (t : Turnin
       let l : n / g .units < g .blocks = div-lt-iff-lt-mul {k = g .units} {x = n} {y = g .blocks} (let z = room .units-low in omega arith) .1 h in
       let u : n % g .units < g .units = mod-lt n (let z = room .units-low in omega arith) in
       ap (λ (x : ℕ). digit x (n % g .units)) (t .bytes (n / g .units) (let z = room .blocks-high in omega arith))
-      ∙ turned (getD d (256 * g .start + n / g .units) 0) (n % g .units) (t .small (n / g .units) (let z = room .blocks-high in omega arith)) (let z = room .units-high in omega arith)
+      ∙ turned (getD d (256 * g .start + n / g .units) 0) (n % g .units) (t .small (n / g .units) (let z = room .blocks-high in omega arith))
+      (let z = room .units-high in omega arith)
 
   pub turning-end : GatMap g d m
   unfolding taken
@@ -261,5 +285,6 @@ module _ (g : Geometry) (d m : List ℕ) (room : Room g d) (b : ℕ) (t : Turnin
         opens = λ n h e. turned-at n h ∙ ap (λ (x : ℕ). 1 - x) (eqb-true _ 1 e);
         shuts = λ n h e.
             turned-at n h
-            ∙ ap (λ (x : ℕ). 1 - x) (let q = eqb-false (digit (byte d (gatAt g n)) (n % g .units)) 1 e in let v = digit-lt (byte d (gatAt g n)) (n % g .units) in let z : digit (byte d (gatAt g n)) (n % g .units) ≡ 0 = omega arith in z);
+            ∙ ap (λ (x : ℕ). 1 - x) (let q = eqb-false (digit (byte d (gatAt g n)) (n % g .units)) 1 e in let v = digit-lt (byte d (gatAt g n)) (n % g .units)
+            in let z : digit (byte d (gatAt g n)) (n % g .units) ≡ 0 = omega arith in z);
       }

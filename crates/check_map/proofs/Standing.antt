@@ -50,7 +50,8 @@ module _ (g : Geometry) (d : List ℕ) where
 
   pub weight-out : (n : ℕ) → (In n (directoryGranules g d) → ⊥) → _≡_ {A = ℕ} (weight g d n) 2
   unfolding weight
-  weight-out n f = ap {B = ℕ} (λ (b : Bool). cond b 1 2) (Members.no-false {b = has (directoryGranules g d) n} (λ t. f (Members.has-in n (directoryGranules g d) t)))
+  weight-out n f = ap {B = ℕ} (λ (b : Bool). cond b 1 2)
+      (Members.no-false {b = has (directoryGranules g d) n} (λ t. f (Members.has-in n (directoryGranules g d) t)))
 
   pub standing-long : (m : List ℕ) → length (standing g d m) ≡ granules g
   unfolding standing
@@ -58,7 +59,8 @@ module _ (g : Geometry) (d : List ℕ) where
 
   standing-at : (m : List ℕ) (n : ℕ) → n < granules g → getD (standing g d m) n 0 ≡ (1 - shut (g .units) m n) * weight g d n
   unfolding standing
-  standing-at m n h = Members.map-count (λ n. (1 - shut (g .units) m n) * weight g d n) 0 (granules g) n h ∙ ap (λ (k : ℕ). (1 - shut (g .units) m k) * weight g d k) (let z : 0 + n ≡ n = omega arith in z)
+  standing-at m n h = Members.map-count (λ n. (1 - shut (g .units) m n) * weight g d n) 0 (granules g) n h ∙ ap
+      (λ (k : ℕ). (1 - shut (g .units) m k) * weight g d k) (let z : 0 + n ≡ n = omega arith in z)
 
   pub standing-open : (m : List ℕ) (n : ℕ) → n < granules g → shut (g .units) m n ≡ 0 → getD (standing g d m) n 0 ≡ weight g d n
   standing-open m n h e = standing-at m n h ∙ ap (λ (x : ℕ). (1 - x) * weight g d n) e ∙ one-mul (weight g d n)
@@ -67,7 +69,8 @@ module _ (g : Geometry) (d : List ℕ) where
   standing-shut m n h e = standing-at m n h ∙ ap (λ (x : ℕ). (1 - x) * weight g d n) e ∙ zero-mul (weight g d n)
 
   -- two maps that have the granule alike
-  pub standing-alike : (m m′ : List ℕ) (n : ℕ) → n < granules g → shut (g .units) m n ≡ shut (g .units) m′ n → getD (standing g d m) n 0 ≡ getD (standing g d m′) n 0
+  pub standing-alike : (m m′ : List ℕ) (n : ℕ) → n < granules g → shut (g .units) m n ≡ shut (g .units) m′ n → getD (standing g d m) n 0 ≡ getD
+      (standing g d m′) n 0
   standing-alike m m′ n h e = standing-at m n h ∙ ap (λ (x : ℕ). (1 - x) * weight g d n) e ∙ sym (standing-at m′ n h)
 
   pub open-if : (m : List ℕ) (n : ℕ) → n < granules g → 1 ≤ getD (standing g d m) n 0 → shut (g .units) m n ≡ 0
@@ -88,20 +91,26 @@ module _ (g : Geometry) (d : List ℕ) where
   pub blank-open : (n : ℕ) → n < granules g → 1 ≤ getD (standing g d (replicate mostBlocks 0)) n 0
   unfolding shut
   blank-open n h =
-      let s : shut (g .units) (replicate mostBlocks 0) n ≡ 0 = ap (λ (x : ℕ). digit x (n % g .units)) (zeros mostBlocks (n / g .units)) ∙ digit-zero (n % g .units) in
+      let s : shut (g .units) (replicate mostBlocks 0) n ≡ 0 = ap (λ (x : ℕ). digit x (n % g .units)) (zeros mostBlocks (n / g .units)) ∙ digit-zero
+      (n % g .units) in
       let e = standing-open (replicate mostBlocks 0) n h s in let v = weight-low n in omega arith
 
   -- what is taken by bits is marked in the numbers
-  pub takes-marks : {m m′ : List ℕ} {a n : ℕ} {r : Bool} → a + n ≤ granules g → Takes (g .units) m a n m′ r → Marks (standing g d m) 1 0 (count a n) (standing g d m′) r
+  pub takes-marks : {m m′ : List ℕ} {a n : ℕ} {r : Bool} → a + n ≤ granules g → Takes (g .units) m a n m′ r → Marks (standing g d m) 1 0 (count a n)
+      (standing g d m′) r
   takes-marks {m} {m′} {a} {n} {r} h t =
       record {
         answer =
             Members.both-T
-            (λ y. Members.true-T (Maps.says-allows 1 0 (count a n) (standing g d m) (record { high = λ k i. high (Members.T-true y) k (Members.count-in k a n i); once = Members.count-distinct a n })))
-            (λ y. Members.true-T (t .back (λ i l. open-if m (a + i) (omega arith) (Maps.allows-says 1 0 (count a n) (standing g d m) (omega arith) (Members.T-true y) .high (a + i) (Members.in-count (a + i) a n (omega arith) (omega arith))))));
+            (λ y. Members.true-T (Maps.says-allows 1 0 (count a n) (standing g d m)
+            (record { high = λ k i. high (Members.T-true y) k (Members.count-in k a n i); once = Members.count-distinct a n })))
+            (λ y. Members.true-T (t .back (λ i l. open-if m (a + i) (omega arith)
+            (Maps.allows-says 1 0 (count a n) (standing g d m) (omega arith) (Members.T-true y) .high (a + i)
+            (Members.in-count (a + i) a n (omega arith) (omega arith))))));
         map =
             λ y.
-            ext-getD 0 (standing g d m′) (marked (standing g d m) 0 (count a n)) (standing-long m′ ∙ sym (marked-long 0 (count a n) (standing g d m) ∙ standing-long m))
+            ext-getD 0 (standing g d m′) (marked (standing g d m) 0 (count a n))
+            (standing-long m′ ∙ sym (marked-long 0 (count a n) (standing g d m) ∙ standing-long m))
             (λ i l. point y i (rw (standing-long m′) at l) (Members.in? i (count a n)));
       }
     where
@@ -110,7 +119,8 @@ module _ (g : Geometry) (d : List ℕ) where
           let s : shut (g .units) m k ≡ 0 = ap (shut (g .units) m) (let z : k ≡ a + (k - a) = omega arith in z) ∙ t .yes′ y (k - a) (omega arith) in
           let e = standing-open m k (omega arith) s in let z = weight-low k in omega arith
 
-      point : r ≡ true → (i : ℕ) → i < granules g → In i (count a n) ⊎ (In i (count a n) → ⊥) → getD (standing g d m′) i 0 ≡ getD (marked (standing g d m) 0 (count a n)) i 0
+      point : r ≡ true → (i : ℕ) → i < granules g → In i (count a n) ⊎ (In i (count a n) → ⊥) → getD (standing g d m′) i 0 ≡ getD
+          (marked (standing g d m) 0 (count a n)) i 0
       point y i l (inl j) =
           let w = Members.count-in i a n j in
           standing-shut m′ i l (ap (shut (g .units) m′) (let z : i ≡ a + (i - a) = omega arith in z) ∙ t .inside y (i - a) (omega arith))

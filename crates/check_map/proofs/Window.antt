@@ -54,15 +54,18 @@ byte-of i x v h = cut (x / 256 ^ i) ∙ down i v
     down : (i w : ℕ) → digit (x / 256 ^ i) w ≡ digit x (8 * i + w)
     down zero w = ap₂ (λ (y u : ℕ). digit y u) (let z : x / 1 ≡ x = omega arith in z) (let z : w ≡ 8 * 0 + w = omega arith in z)
     down (suc i) w =
-        ap (λ (y : ℕ). digit y w) (ap (λ (y : ℕ). x / y) (pow-suc 256 i) ∙ sym (div-div-eq-div-mul x (256 ^ i) 256)) ∙ sym (up-eight (x / 256 ^ i) w) ∙ down i (w + 8)
+        ap (λ (y : ℕ). digit y w) (ap (λ (y : ℕ). x / y) (pow-suc 256 i) ∙ sym (div-div-eq-div-mul x (256 ^ i) 256)) ∙ sym (up-eight (x / 256 ^ i) w) ∙ down i
+        (w + 8)
         ∙ ap (digit x) (let z : 8 * i + (w + 8) ≡ 8 * suc i + w = omega arith in z)
 
 -- the digits of n bytes as a number
-pub number-digit : (n : ℕ) (l : List ℕ) → ((j : ℕ) → getD l j 0 < 256) → (i v : ℕ) → i < n → v < 8 → digit (number (take n l)) (8 * i + v) ≡ digit (getD l i 0) v
+pub number-digit : (n : ℕ) (l : List ℕ) → ((j : ℕ) → getD l j 0 < 256) → (i v : ℕ) → i < n → v < 8 → digit (number (take n l)) (8 * i + v) ≡ digit
+    (getD l i 0) v
 unfolding number
 number-digit zero l b i v h k = absurd (let z : ⊥ = omega arith in z)
 number-digit (suc n) [] b i v h k = digit-zero (8 * i + v) ∙ sym (digit-zero v)
-number-digit (suc n) (x ∷ xs) b zero v h k = ap (digit (x + 256 * number (take n xs))) (let z : 8 * 0 + v ≡ v = omega arith in z) ∙ byte-low x (number (take n xs)) v k
+number-digit (suc n) (x ∷ xs) b zero v h k = ap (digit (x + 256 * number (take n xs))) (let z : 8 * 0 + v ≡ v = omega arith in z) ∙ byte-low x
+    (number (take n xs)) v k
 number-digit (suc n) (x ∷ xs) b (suc i) v h k =
     ap (digit (x + 256 * number (take n xs))) (let z : 8 * suc i + v ≡ 8 * i + v + 8 = omega arith in z) ∙ byte-high x (number (take n xs)) (8 * i + v) (b 0)
     ∙ number-digit n xs (λ j. b (suc j)) i v (omega arith) k
@@ -142,7 +145,8 @@ puts-eight m at x h =
 -- the stores of the code
 pub eight-stores : (m : List ℕ) (at x : ℕ) → at + 8 ≤ length m
     → PutsEight m at x
-    (set (set (set (set (set (set (set (set m at (x % 256)) (at + 1) (x / 256 % 256)) (at + 2) (x / 65536 % 256)) (at + 3) (x / 16777216 % 256)) (at + 4) (x / 4294967296 % 256))
+    (set (set (set (set (set (set (set (set m at (x % 256)) (at + 1) (x / 256 % 256)) (at + 2) (x / 65536 % 256)) (at + 3) (x / 16777216 % 256)) (at + 4)
+    (x / 4294967296 % 256))
     (at + 5) (x / 1099511627776 % 256)) (at + 6) (x / 281474976710656 % 256)) (at + 7) (x / 72057594037927936 % 256))
 unfolding puts
 eight-stores m at x h = puts-eight m at x h
@@ -152,7 +156,8 @@ eight-stores m at x h = puts-eight m at x h
 pub stretch-shut : (m : List ℕ) (at q : ℕ) → ((j : ℕ) → getD m j 0 < 256) → 8 * at ≤ q → q < 8 * at + 64 → shut 8 m q ≡ digit (eightOf m at) (q - 8 * at)
 unfolding shut
 stretch-shut m at q b h k =
-    ap (λ (y : ℕ). digit (getD m y 0) (q % 8)) (let z : q / 8 ≡ at + (q / 8 - at) = omega arith in z) ∙ sym (eight-digit m at (q / 8 - at) (q % 8) b (omega arith) (omega arith))
+    ap (λ (y : ℕ). digit (getD m y 0) (q % 8)) (let z : q / 8 ≡ at + (q / 8 - at) = omega arith in z) ∙ sym
+    (eight-digit m at (q / 8 - at) (q % 8) b (omega arith) (omega arith))
     ∙ ap (digit (eightOf m at)) (let z : 8 * (q / 8 - at) + q % 8 ≡ q - 8 * at = omega arith in z)
 
 pub stored-shut : (m m′ : List ℕ) (at x q : ℕ) → PutsEight m at x m′ → 8 * at ≤ q → q < 8 * at + 64 → shut 8 m′ q ≡ digit x (q - 8 * at)
@@ -187,7 +192,8 @@ base-own h e = record { low = omega arith; high = omega arith; near = inl e }
 pub base-last : {block at : ℕ} → 184 ≤ block → at ≡ 184 → Base block at
 base-last h e = record { low = omega arith; high = omega arith; near = inr e }
 
-pub lies : {block at : ℕ} (unit n : ℕ) → Base block at → unit < 8 → block * 8 + unit + n ≤ 1536 → n ≤ 32 → Lies at (block * 8 + unit) n (8 * (block - at) + unit)
+pub lies : {block at : ℕ} (unit n : ℕ) → Base block at → unit < 8 → block * 8 + unit + n ≤ 1536 → n ≤ 32 → Lies at (block * 8 + unit) n
+    (8 * (block - at) + unit)
 lies {block} {at} unit n b h k l = record { from = let z = b .low in omega arith; room = go (b .near) }
   where
     go : (at ≡ block) ⊎ (at ≡ 184) → 8 * (block - at) + unit + n ≤ 64
@@ -195,7 +201,8 @@ lies {block} {at} unit n b h k l = record { from = let z = b .low in omega arith
     go (inr e) = omega arith
 
 -- some granule of the stretch is shut
-pub stretch-no : (m m′ : List ℕ) (at a n o : ℕ) {x : ℕ} → x ≡ eightOf m at → ((j : ℕ) → getD m j 0 < 256) → Lies at a n o → n < 64 → bitAnd x (coded n o) ≢ 0 → Takes 8 m a n m′ false
+pub stretch-no : (m m′ : List ℕ) (at a n o : ℕ) {x : ℕ} → x ≡ eightOf m at → ((j : ℕ) → getD m j 0 < 256) → Lies at a n o → n < 64 → bitAnd x (coded n o) ≢ 0
+    → Takes 8 m a n m′ false
 stretch-no m m′ at a n o {x} x-is b l h e =
     record {
       yes′ = λ y. other-bit y;
@@ -217,7 +224,8 @@ stretch-yes m m′ at a n o {x} x-is b l h e s =
       yes′ = λ y i k. stretch-shut m at (a + i) b (low i) (high i k) ∙ ap (digit (eightOf m at)) (place i)
           ∙ clear-says (eightOf m at) n o i (sym (ap₂ (λ (y z : ℕ). bitAnd y z) x-is same) ∙ e) k;
       back = λ f. refl;
-      inside = λ y i k. stored-shut m m′ at (bitOr (eightOf m at) (mask n o)) (a + i) new (low i) (high i k) ∙ ap (digit (bitOr (eightOf m at) (mask n o))) (place i)
+      inside = λ y i k. stored-shut m m′ at (bitOr (eightOf m at) (mask n o)) (a + i) new (low i) (high i k) ∙ ap (digit (bitOr (eightOf m at) (mask n o)))
+          (place i)
           ∙ or-in (eightOf m at) n o i k;
       outside = λ y q w. out q w (le-or-lt (8 * at) q) (le-or-lt (8 * at + 64) q);
     }
@@ -245,7 +253,8 @@ stretch-yes m m′ at a n o {x} x-is b l h e s =
     out q w (inr k) r = stored-other m m′ at (bitOr (eightOf m at) (mask n o)) q new (inl k)
     out q w (inl k) (inl r) = stored-other m m′ at (bitOr (eightOf m at) (mask n o)) q new (inr r)
     out q w (inl k) (inr r) =
-        stored-shut m m′ at (bitOr (eightOf m at) (mask n o)) q new k r ∙ or-out (eightOf m at) n o (q - 8 * at) (under q w k) ∙ sym (stretch-shut m at q b k r)
+        stored-shut m m′ at (bitOr (eightOf m at) (mask n o)) q new k r ∙ or-out (eightOf m at) n o (q - 8 * at) (under q w k) ∙ sym
+        (stretch-shut m at q b k r)
 
 -- The bits of some granules in eight bytes, for any number of units a block ------------------------------------------------------------
 
@@ -255,7 +264,8 @@ div-mono {a} {b} u h k = le-div-iff-mul-le h .1 (let z = div-mul-le-self a u in 
 -- (a + j) / u is at most a / u + j
 div-step : (a j u : ℕ) → 1 ≤ u → (a + j) / u ≤ a / u + j
 div-step a j u h =
-    let e = add-mul-div-right a j h in let q : j * 1 ≤ j * u = mul-le-mul-left j h in let z : (a + j) / u ≤ (a + j * u) / u = div-mono u h (omega arith) in omega arith
+    let e = add-mul-div-right a j h in let q : j * 1 ≤ j * u = mul-le-mul-left j h in let z : (a + j) / u ≤ (a + j * u) / u = div-mono u h (omega arith) in
+    omega arith
 
 -- where the callers look: `at` is the first granule's block, but for the map's last bytes
 pub base-spans : (units a n : ℕ) {at : ℕ} → Base (a / units) at → 1 ≤ units → n ≤ 6 → a + n ≤ 192 * units → Spans units a n at
@@ -285,7 +295,11 @@ spans-shut {units} {a} {n} {at} m k s h l b c r =
 
 -- the loop that sets the bits
 pub window-start : (units a at : ℕ) → Window units a (a - a) at 0
-window-start units a at = record { inside = λ k c r. absurd (let z : ⊥ = omega arith in z); outside = λ u e. absurd (let q = digit-zero u in let z : ⊥ = omega arith in z) }
+window-start units a at = record {
+  inside = λ k c r. absurd (let z : ⊥ = omega arith in z);
+  outside = λ u e. absurd
+      (let q = digit-zero u in let z : ⊥ = omega arith in z);
+}
 
 or-keeps : (w y u : ℕ) → digit w u ≡ 1 → digit (bitOr w y) u ≡ 1
 or-keeps w y u e = digit-or u w y ∙ ap (λ (z : ℕ). max z (digit y u)) e ∙ one-max (digit y u) (digit-lt y u)
@@ -313,7 +327,8 @@ window-step units a at k w c h v = subst (λ (y : ℕ). Window units a (k + 1 - 
     old : (u : ℕ) → (j : ℕ) × (a ≤ j) × (j < a + (k - a)) × (u ≡ spot units at j) → (j : ℕ) × (a ≤ j) × (j < a + (k + 1 - a)) × (u ≡ spot units at j)
     old u (j, p, r, e) = (j, p, omega arith, e)
 
-    out′ : (u : ℕ) → digit (bitOr w (mask 1 (spot units at k))) u ≡ 1 → Dec (u ≡ spot units at k) → (j : ℕ) × (a ≤ j) × (j < a + (k + 1 - a)) × (u ≡ spot units at j)
+    out′ : (u : ℕ) → digit (bitOr w (mask 1 (spot units at k))) u ≡ 1 → Dec (u ≡ spot units at k) → (j : ℕ) × (a ≤ j) × (j < a + (k + 1 - a)) ×
+        (u ≡ spot units at j)
     out′ u e (yes p) = (k, c, omega arith, p)
     out′ u e (no p) = old u (v .outside u (sym (or-out w 1 (spot units at k) u (away (le-or-lt (spot units at k) u))) ∙ e))
       where
@@ -347,14 +362,16 @@ under-out x w u e = digit-and u x w ∙ ap (λ (y : ℕ). min (digit x u) y) e �
 under-lt : (m : List ℕ) (at w : ℕ) → ((j : ℕ) → getD m j 0 < 256) → bitAnd (eightOf m at) w < 2 ^ 64
 under-lt m at w b = let p = and-le-l (eightOf m at) w in let q = eight-lt m at b in omega arith
 
-pub same-shut : {units a n at w : ℕ} (m m′ : List ℕ) → Spans units a n at → 1 ≤ units → units ≤ 8 → Window units a n at w → ((j : ℕ) → getD m j 0 < 256) → ((j : ℕ) → getD m′ j 0 < 256)
+pub same-shut : {units a n at w : ℕ} (m m′ : List ℕ) → Spans units a n at → 1 ≤ units → units ≤ 8 → Window units a n at w → ((j : ℕ) → getD m j 0 < 256) →
+    ((j : ℕ) → getD m′ j 0 < 256)
     → bitAnd (eightOf m at) w ≡ bitAnd (eightOf m′ at) w → (k : ℕ) → a ≤ k → k < a + n → shut units m k ≡ shut units m′ k
 same-shut {units} {a} {n} {at} {w} m m′ s h l v b b′ e k c r =
     let i = v .inside k c r in
     sym (spans-shut m k s h l b c r) ∙ sym (under-in (eightOf m at) w (spot units at k) i) ∙ ap (λ (y : ℕ). digit y (spot units at k)) e
     ∙ under-in (eightOf m′ at) w (spot units at k) i ∙ spans-shut m′ k s h l b′ c r
 
-pub shut-same : {units a n at w : ℕ} (m m′ : List ℕ) → Spans units a n at → 1 ≤ units → units ≤ 8 → Window units a n at w → ((j : ℕ) → getD m j 0 < 256) → ((j : ℕ) → getD m′ j 0 < 256)
+pub shut-same : {units a n at w : ℕ} (m m′ : List ℕ) → Spans units a n at → 1 ≤ units → units ≤ 8 → Window units a n at w → ((j : ℕ) → getD m j 0 < 256) →
+    ((j : ℕ) → getD m′ j 0 < 256)
     → ((k : ℕ) → a ≤ k → k < a + n → shut units m k ≡ shut units m′ k) → bitAnd (eightOf m at) w ≡ bitAnd (eightOf m′ at) w
 shut-same {units} {a} {n} {at} {w} m m′ s h l v b b′ f =
     same-digits 64 (bitAnd (eightOf m at) w) (bitAnd (eightOf m′ at) w) (under-lt m at w b) (under-lt m′ at w b′) (λ u _. by u (ℕ-discrete (digit w u) 1))

@@ -37,7 +37,8 @@ pub record Rows (p : ℕ → Bool) (columns row : ℕ) : Type 0 where
 
 module _ {p : ℕ → Bool} {columns row : ℕ} (w : Rows p columns row) where
   rows-more : row < 8 → (every p (rowSlots columns row) && every p (rowsFrom columns (row + 1))) ≡ every p (rowsFrom columns row)
-  rows-more h = sym (ap (λ (l : List ℕ). every p (each (rowSlots columns) l)) (count-more h) ∙ every-append p (rowSlots columns row) (rowsFrom columns (row + 1)))
+  rows-more h = sym (ap (λ (l : List ℕ). every p (each (rowSlots columns) l)) (count-more h) ∙ every-append p (rowSlots columns row)
+      (rowsFrom columns (row + 1)))
 
   pub rows-stop : row < 8 → every p (rowSlots columns row) ≡ false → false ≡ every p (rowsFrom columns 0)
   rows-stop h e = ap (λ (b : Bool). b && every p (rowsFrom columns (row + 1))) (sym e) ∙ rows-more h ∙ w .rest
@@ -92,7 +93,8 @@ pub record Rowing (met : List ℕ) (first columns at : ℕ) : Type 0 where
 pub rowing-start : (met : List ℕ) (first columns : ℕ) → 0 < columns → Rowing met first columns first
 rowing-start met first columns h = record { past = λ s a b. absurd (let z : ⊥ = omega arith in z); low = omega arith; before = omega arith }
 
-pub rowing-step : {met : List ℕ} {first columns at r : ℕ} → Rowing met first columns at → at + 8 < first + columns → first + columns ≤ length met → r ≡ number (take 8 (drop at met)) → r ≡ 0
+pub rowing-step : {met : List ℕ} {first columns at r : ℕ} → Rowing met first columns at → at + 8 < first + columns → first + columns ≤ length met → r ≡ number
+    (take 8 (drop at met)) → r ≡ 0
     → Rowing met first columns (at + 8)
 rowing-step {met} {first} {columns} {at} {r} w h l e z =
     let q : every (metAt met) (count at 8) ≡ true = sym (zeros 8 met at (omega arith)) ∙ eq-eqb _ _ (sym e ∙ z) in
@@ -103,7 +105,8 @@ rowing-step {met} {first} {columns} {at} {r} w h l e z =
     }
 
 -- eight of the row do not all stand at 0
-pub rowing-stop : {met : List ℕ} {first columns at r : ℕ} → Rowing met first columns at → at + 8 < first + columns → first + columns ≤ length met → r ≡ number (take 8 (drop at met))
+pub rowing-stop : {met : List ℕ} {first columns at r : ℕ} → Rowing met first columns at → at + 8 < first + columns → first + columns ≤ length met → r ≡ number
+    (take 8 (drop at met))
     → (r ≡ 0 → ⊥) → false ≡ every (metAt met) (count first columns)
 rowing-stop {met} {first} {columns} {at} {r} w h l e n = sym (by (every (metAt met) (count first columns)) refl)
   where
@@ -119,14 +122,16 @@ pub rowing-end : {met : List ℕ} {first columns at r : ℕ} → Rowing met firs
 rowing-end {met} {first} {columns} {at} {r} w h c l e =
     ap (λ (k : ℕ). eqb k 0) e ∙ zeros 8 met (first + columns - 8) (omega arith) ∙ by (every (metAt met) (count (first + columns - 8) 8)) refl
   where
-    by : (b : Bool) → every (metAt met) (count (first + columns - 8) 8) ≡ b → every (metAt met) (count (first + columns - 8) 8) ≡ every (metAt met) (count first columns)
+    by : (b : Bool) → every (metAt met) (count (first + columns - 8) 8) ≡ b → every (metAt met) (count (first + columns - 8) 8) ≡ every (metAt met)
+        (count first columns)
     by true q =
         q ∙ sym (every-true (metAt met) first columns (λ s a b.
         ⊎-elim (λ k. every-count (metAt met) (first + columns - 8) 8 s q (omega arith) (omega arith)) (λ k. w .past s a k) (le-or-lt at s)))
     by false q = q ∙ rest (every (metAt met) (count first columns)) refl
       where
         rest : (b : Bool) → every (metAt met) (count first columns) ≡ b → false ≡ every (metAt met) (count first columns)
-        rest true k = not-both (every-true (metAt met) (first + columns - 8) 8 (λ s a b. every-count (metAt met) first columns s k (omega arith) (omega arith))) q
+        rest true k = not-both (every-true (metAt met) (first + columns - 8) 8
+            (λ s a b. every-count (metAt met) first columns s k (omega arith) (omega arith))) q
         rest false k = sym k
 
 -- The HIT, which starts at `from`, byte by byte: s bytes are copied
@@ -148,7 +153,8 @@ copying-step {d} {met} {from} {s} w h =
     v = getD d (from + s) 0
 
     here : (k : ℕ) → k ≡ s → getD (set met s v) k 0 ≡ getD d (from + k) 0
-    here k z = ap (λ (j : ℕ). getD (set met s v) j 0) z ∙ getD-set-same met s v 0 (let q = w .long in omega arith) ∙ ap (λ (j : ℕ). getD d (from + j) 0) (sym z)
+    here k z = ap (λ (j : ℕ). getD (set met s v) j 0) z ∙ getD-set-same met s v 0 (let q = w .long in omega arith) ∙ ap (λ (j : ℕ). getD d (from + j) 0)
+        (sym z)
 
 pub copying-end : (g : Geometry) {d met : List ℕ} {s : ℕ} → Copying d met (256 * (g .start + 1)) s → 256 ≤ s → HitCopied g d met
 unfolding hit

@@ -34,7 +34,8 @@ module _ (g : Geometry) (d : List ℕ) where
   in-bucket b zero q i = Members.none-in i
   in-bucket b (suc n) q i = by (λ j. in-bucket b n q j) (inBucket g d b n) refl i
     where
-      by : (In q (bucket g d b n) → (q < n) × (inBucket g d b q ≡ true)) → (t : Bool) → inBucket g d b n ≡ t → In q (cond t (n ∷ bucket g d b n) (bucket g d b n)) → (q < suc n) × (inBucket g d b q ≡ true)
+      by : (In q (bucket g d b n) → (q < n) × (inBucket g d b q ≡ true)) → (t : Bool) → inBucket g d b n ≡ t → In q
+          (cond t (n ∷ bucket g d b n) (bucket g d b n)) → (q < suc n) × (inBucket g d b q ≡ true)
       by ih true e i = ⊎-elim (λ z. (omega arith, ap (inBucket g d b) z ∙ e)) (λ j. let w = ih j in (omega arith, w .1)) (Members.in-cons i)
       by ih false e i = let w = ih i in (omega arith, w .1)
 
@@ -199,7 +200,8 @@ module _ (g : Geometry) (d : List ℕ) where
       kept b k = linked-set next s (getD head b₀ 0) (getD head b 0) (bucket g d b s) (λ q i. below b s q i) (w .linked b k)
 
       linked′ : (b : ℕ) → b < 256 → Dec (b ≡ b₀) → Linked g d n′ (getD (set head b₀ (s + 1)) b 0) (bucket g d b (s + 1))
-      linked′ b k (yes e) = rw (e, bucket-yes b₀ s (member b₀ s h p refl), getD-set-same head b₀ (s + 1) 0 (omega (arith, w .heads))) (mine (getD-set-same next s (getD head b₀ 0) 0 (let z = h .low in omega (arith, w .nexts))))
+      linked′ b k (yes e) = rw (e, bucket-yes b₀ s (member b₀ s h p refl), getD-set-same head b₀ (s + 1) 0 (omega (arith, w .heads)))
+          (mine (getD-set-same next s (getD head b₀ 0) 0 (let z = h .low in omega (arith, w .nexts))))
         where
           mine : getD n′ s 0 ≡ getD head b₀ 0 → Linked g d n′ (s + 1) (s ∷ bucket g d b₀ s)
           mine z = unfold Linked in (h, refl, subst (λ (y : ℕ). Linked g d n′ y (bucket g d b₀ s)) (sym z) (kept b₀ l))
@@ -223,7 +225,8 @@ module _ (g : Geometry) (d : List ℕ) where
   pub joined-no : (s : ℕ) (head next : List ℕ) {f : Bool} → f ≡ every (unlike g d s) (bucket g d (hit g d s) s) → not f ≡ true → Joined g d s head next false
   joined-no s head next {f} e t = record { answer = sym (not-true f t) ∙ e; joined = λ z. absurd (Members.false-no (sym z) tt) }
 
-  pub joined-yes : (s : ℕ) (head next : List ℕ) {b x : ℕ} {f : Bool} → Buckets g d s head next → Slot g d s → inUsePrimary g d s ≡ true → b ≡ hit g d s → b < 256
+  pub joined-yes : (s : ℕ) (head next : List ℕ) {b x : ℕ} {f : Bool} → Buckets g d s head next → Slot g d s → inUsePrimary g d s ≡ true → b ≡ hit g d s → b <
+      256
       → x ≡ getD head b 0 → f ≡ every (unlike g d s) (bucket g d (hit g d s) s) → not f ≡ false → Joined g d s (set head b (s + 1)) (set next s x) true
   joined-yes s head next {b} {x} {f} w h p e l r q t =
       record {
@@ -290,14 +293,16 @@ module _ (g : Geometry) (d : List ℕ) where
       let a = slot-of g d s (filed s i) in let b = slot-of g d q (filed q j) in
       member (hit g d s) q b (firsted q j) (h .hashed q b (firsted q j) ∙ ap hash e ∙ sym (h .hashed s a (firsted s i)))
 
-  pub differing-on : Hashed g d → (s : ℕ) (head next head′ next′ : List ℕ) {r : Bool} → Differing g d s head next → s < 256 → Joined g d s head′ next′ r → r ≡ true
+  pub differing-on : Hashed g d → (s : ℕ) (head next head′ next′ : List ℕ) {r : Bool} → Differing g d s head next → s < 256 → Joined g d s head′ next′ r → r ≡
+      true
       → Differing g d (s + 1) head′ next′
   differing-on h s head next head′ next′ w l k e =
       record {
         low = omega arith;
         lists = k .joined e;
         apart = apart-more s (w .apart) (λ q b i j z.
-            Members.false-no (unlike-same s q z) (Members.every-all (unlike g d s) (Members.true-T (sym (k .answer) ∙ e)) (bucket-in (hit g d s) s q b (listed h s q i j z))));
+            Members.false-no (unlike-same s q z) (Members.every-all (unlike g d s) (Members.true-T (sym (k .answer) ∙ e))
+            (bucket-in (hit g d s) s q b (listed h s q i j z))));
       }
     where
       unlike-same : (s q : ℕ) → nameOf g d q ≡ nameOf g d s → unlike g d s q ≡ false
@@ -331,8 +336,12 @@ module _ (g : Geometry) (d : List ℕ) where
       let q = w .0 in let m = in-bucket (hit g d s) s q (w .1) in
       let n = same-of s q (w .2) in
       let fs : Facts.IsFile g d s = record { slot = Members.true-T (slot-true s h); primary′ = Members.true-T p } in
-      let fq : Facts.IsFile g d q = record { slot = Members.true-T (slot-in (hit g d s) q (m .1)); primary′ = Members.true-T (first-in (hit g d s) q (m .1)) } in
-      sym (Members.no-false (λ t. let z = Facts.differ-says g d {p = q} {q = s} t (Facts.in-files g d q fq) (Facts.in-files g d s fs) n in let lt = m .0 in omega arith))
+      let fq : Facts.IsFile g d q = record {
+        slot = Members.true-T (slot-in (hit g d s) q (m .1));
+        primary′ = Members.true-T (first-in (hit g d s) q (m .1));
+      } in
+      sym (Members.no-false (λ t. let z = Facts.differ-says g d {p = q} {q = s} t (Facts.in-files g d q fq) (Facts.in-files g d s fs) n in let lt = m .0 in
+      omega arith))
 
   pub differing-end : (s : ℕ) (head next : List ℕ) → Differing g d s head next → 256 ≤ s → true ≡ namesDiffer g d (files g d)
   differing-end s head next w l =
@@ -342,14 +351,16 @@ module _ (g : Geometry) (d : List ℕ) where
       w .apart p q (omega arith) (omega arith) a b e)))
 
   -- slots that the directory lacks
-  shut-run : (j s : ℕ) (head next : List ℕ) → Differing g d s head next → s + j ≤ 256 → ((i : ℕ) → i < j → isSlot g d (s + i) ≡ false) → Differing g d (s + j) head next
+  shut-run : (j s : ℕ) (head next : List ℕ) → Differing g d s head next → s + j ≤ 256 → ((i : ℕ) → i < j → isSlot g d (s + i) ≡ false) → Differing g d (s + j)
+      head next
   shut-run zero s head next w l h = subst (λ (k : ℕ). Differing g d k head next) (sym (add-zero s)) w
   shut-run (suc j) s head next w l h =
       subst (λ (k : ℕ). Differing g d k head next) (let z : s + j + 1 ≡ s + suc j = omega arith in z)
       (differing-shut (s + j) head next (shut-run j s head next w (omega arith) (λ i q. h i (omega arith))) (omega arith) (h j (omega arith)))
 
   -- the end of a row
-  pub row-end : (row s : ℕ) (head next : List ℕ) {k : ℕ} → Room g d → Differing g d s head next → row < 8 → k ≡ directorySectors g d → s ≡ 32 * row + (k - 2) → Visited g d (32 * (row + 1)) head next true
+  pub row-end : (row s : ℕ) (head next : List ℕ) {k : ℕ} → Room g d → Differing g d s head next → row < 8 → k ≡ directorySectors g d → s ≡ 32 * row + (k - 2)
+      → Visited g d (32 * (row + 1)) head next true
   row-end row s head next {k} room w l e q =
       let a = room .ten in let b = room .thirty in
       record {
@@ -364,11 +375,13 @@ module _ (g : Geometry) (d : List ℕ) where
   row-found row {r = r} w t = record { bad = λ z. w .bad (not-true r t); good = λ z. absurd (Members.false-no (sym z) tt) }
 
   -- the two ways through a slot
-  pub visit-other : (s : ℕ) (head next : List ℕ) {f : Bool} → Differing g d s head next → s < 256 → f ≡ inUsePrimary g d s → not f ≡ true → Visited g d (s + 1) head next true
+  pub visit-other : (s : ℕ) (head next : List ℕ) {f : Bool} → Differing g d s head next → s < 256 → f ≡ inUsePrimary g d s → not f ≡ true → Visited g d
+      (s + 1) head next true
   visit-other s head next {f} w l e t =
       record { bad = λ z. absurd (Members.false-no z tt); good = λ z. differing-other s head next w l (sym e ∙ not-true f t) }
 
-  pub visit-file : Hashed g d → (s : ℕ) (head next head′ next′ : List ℕ) {r f : Bool} → Differing g d s head next → Slot g d s → f ≡ inUsePrimary g d s → not f ≡ false
+  pub visit-file : Hashed g d → (s : ℕ) (head next head′ next′ : List ℕ) {r f : Bool} → Differing g d s head next → Slot g d s → f ≡ inUsePrimary g d s → not
+      f ≡ false
       → Joined g d s head′ next′ r → Visited g d (s + 1) head′ next′ r
   visit-file h s head next head′ next′ {r} {f} w k e t j =
       record { bad = λ z. differing-found s head′ next′ k (sym e ∙ not-false f t) j z; good = λ z. differing-on h s head next head′ next′ w (k .low) j z }

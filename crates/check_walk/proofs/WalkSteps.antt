@@ -17,7 +17,8 @@ use Rattle.meaning.specs.Consistent.{pairsHold, runsHold}
 use Rattle.meaning.specs.declared.Geometry.{Geometry}
 use Rattle.layout.specs.Room.{Room}
 use Rattle.layout.proofs.OneStep.{runs-more, runs-none}
-use Rattle.lists.specs.Tests.{and-l, and-r, all-at, all-yes, all-no, all-one, all-none, any-skip, every-count, is-no, is-yes, any-one, not-both, on, off, all-out}
+use Rattle.lists.specs.Tests.{and-l, and-r, all-at, all-yes, all-no, all-one, all-none, any-skip, every-count, is-no, is-yes, any-one, not-both, on, off}
+use Rattle.lists.specs.Tests.{all-out}
 use Rattle.check_map.specs.Marks.{marked, allows, Marks}
 use Rattle.check_map.proofs.MarkLists.{marked-append, allows-append}
 use Rattle.lists.specs.Members
@@ -33,16 +34,21 @@ unfolding granules
 block-in g y a h l =
     let e : (y + 1) * g .units ≡ y * g .units + 1 * g .units = add-mul y 1 (g .units) in
     let o : 1 * g .units ≡ g .units = one-mul (g .units) in
-    let q : (y + 1) * g .units ≤ g .blocks * g .units = mul-le-mul {n₁ = y + 1} {m₁ = g .units} {n₂ = g .blocks} {m₂ = g .units} (omega arith) (omega arith) in omega arith
+    let q : (y + 1) * g .units ≤ g .blocks * g .units = mul-le-mul {n₁ = y + 1} {m₁ = g .units} {n₂ = g .blocks} {m₂ = g .units} (omega arith) (omega arith)
+    in
+    omega arith
 
 pub block-out : (g : Geometry) (y a : ℕ) → g .blocks ≤ y → 1 ≤ a → granules g < y * g .units + a
 unfolding granules
-block-out g y a h l = let q : g .blocks * g .units ≤ y * g .units = mul-le-mul {n₁ = g .blocks} {m₁ = g .units} {n₂ = y} {m₂ = g .units} h (omega arith) in omega arith
+block-out g y a h l = let q : g .blocks * g .units ≤ y * g .units = mul-le-mul {n₁ = g .blocks} {m₁ = g .units} {n₂ = y} {m₂ = g .units} h (omega arith) in
+    omega arith
 
 -- and what is on the disk is on the owner map
 pub on-map : (g : Geometry) (d : List ℕ) (a : ℕ) → Room g d → a ≤ granules g → a ≤ mostBlocks * g .units
 unfolding granules
-on-map g d a r h = let q : g .blocks * g .units ≤ mostBlocks * g .units = mul-le-mul {n₁ = g .blocks} {m₁ = g .units} {n₂ = mostBlocks} {m₂ = g .units} (r .blocks-high) (omega arith) in omega arith
+on-map g d a r h = let q : g .blocks * g .units ≤ mostBlocks * g .units = mul-le-mul {n₁ = g .blocks} {m₁ = g .units} {n₂ = mostBlocks} {m₂ = g .units}
+    (r .blocks-high) (omega arith) in
+    omega arith
 
 module _ (g : Geometry) (d : List ℕ) (s k least : ℕ) where
   taken-not : {m m′ : List ℕ} → all (runHolds g d s k ∷ allows m least 0 (runGranules g d s k) ∷ []) ≡ false → TakesRun g d s k least m m′ 0
@@ -175,9 +181,11 @@ module _ (g : Geometry) (d : List ℕ) (s : ℕ) where
 
       by : (t : Bool) → entryFits g d s least m₀ ≡ t → entryFits g d s least m₀ ≡ false
       by true q =
-          let a : allows m₀ least 0 (firstRuns k ++ runGranules g d s k) ≡ true = ap (allows m₀ least 0) (sym (each-snoc (runGranules g d s) k)) ∙ prefix least (k + 1) m₀ above q in
+          let a : allows m₀ least 0 (firstRuns k ++ runGranules g d s k) ≡ true = ap (allows m₀ least 0) (sym (each-snoc (runGranules g d s) k)) ∙ prefix
+          least (k + 1) m₀ above q in
           let b : allows (marked m₀ 0 (firstRuns k)) least 0 (runGranules g d s k) ≡ true
-          = and-r (allows m₀ least 0 (firstRuns k)) (allows (marked m₀ 0 (firstRuns k)) least 0 (runGranules g d s k)) (sym (allows-append m₀ least 0 (firstRuns k) (runGranules g d s k)) ∙ a) in
+          = and-r (allows m₀ least 0 (firstRuns k)) (allows (marked m₀ 0 (firstRuns k)) least 0 (runGranules g d s k))
+          (sym (allows-append m₀ least 0 (firstRuns k) (runGranules g d s k)) ∙ a) in
           let c : allows m least 0 (runGranules g d s k) ≡ true = ap (λ (l : List ℕ). allows l least 0 (runGranules g d s k)) (i .map) ∙ b in
           not-both (all-yes (run-holds least k m₀ (omega (arith, above)) q) _ ∙ all-yes c _ ∙ all-none) (w .no′ refl)
       by false q = q
@@ -186,13 +194,16 @@ module _ (g : Geometry) (d : List ℕ) (s : ℕ) where
   pairs-past : {k : ℕ} → runs g d s ≡ k → k ≤ 4 → pairsHold g d s ≡ every (unused g d s) (count k (4 - k))
   unfolding pairsHold
   pairs-past {k} e h =
-      ap (every (λ j. ltb j (runs g d s) || unused g d s j)) (count-cut h) ∙ every-append (λ j. ltb j (runs g d s) || unused g d s j) (count 0 k) (count k (4 - k))
+      ap (every (λ j. ltb j (runs g d s) || unused g d s j)) (count-cut h) ∙ every-append (λ j. ltb j (runs g d s) || unused g d s j) (count 0 k)
+      (count k (4 - k))
       ∙ ap (λ (b : Bool). b && every (λ j. ltb j (runs g d s) || unused g d s j) (count k (4 - k)))
       (every-true (λ j. ltb j (runs g d s) || unused g d s j) 0 k (λ j a b. ap (λ (t : Bool). t || unused g d s j) (lt-ltb j (runs g d s) (omega arith))))
-      ∙ every-alike (λ j. ltb j (runs g d s) || unused g d s j) (unused g d s) k (4 - k) (λ j a b. ap (λ (t : Bool). t || unused g d s j) (le-ltb j (runs g d s) (omega arith)))
+      ∙ every-alike (λ j. ltb j (runs g d s) || unused g d s j) (unused g d s) k (4 - k)
+      (λ j a b. ap (λ (t : Bool). t || unused g d s j) (le-ltb j (runs g d s) (omega arith)))
 
   -- all runs are taken
-  whole : {least k n : ℕ} {m₀ m : List ℕ} {r : Bool} → Entering least m₀ m k n → runs g d s ≡ k → r ≡ pairsHold g d s → Entered g d s least m₀ m (record { ok = r; runs = k; granules = n })
+  whole : {least k n : ℕ} {m₀ m : List ℕ} {r : Bool} → Entering least m₀ m k n → runs g d s ≡ k → r ≡ pairsHold g d s → Entered g d s least m₀ m
+      (record { ok = r; runs = k; granules = n })
   unfolding runsHold entryGranules
   whole {least} {k} {n} {m₀} {m} {r} i e q =
       let f = i .few in
@@ -212,7 +223,8 @@ module _ (g : Geometry) (d : List ℕ) (s : ℕ) where
       → r ≡ every (unused g d s) (count k (4 - k)) → Entered g d s least m₀ m (record { ok = r; runs = k; granules = n })
   entering-stop i h e u q = let z = stops i h (on e u) in whole i z (q ∙ sym (pairs-past z (i .four)))
 
-  pub entering-end : {least k n : ℕ} {m₀ m : List ℕ} → Entering least m₀ m k n → 4 ≤ k → Entered g d s least m₀ m (record { ok = true; runs = 4; granules = n })
+  pub entering-end : {least k n : ℕ} {m₀ m : List ℕ} → Entering least m₀ m k n → 4 ≤ k → Entered g d s least m₀ m
+      (record { ok = true; runs = 4; granules = n })
   entering-end {least} {k} {n} {m₀} {m} i h =
       let e : k ≡ 4 = let f = i .four in omega arith in
       let j = rw e at i in
@@ -259,12 +271,14 @@ module _ (g : Geometry) (d : List ℕ) where
   holds-none h s e = ap (λ (j : ℕ). chainHolds g d h j s) e
 
   walked-no : {least sectors owned : ℕ} {right : Bool} {cs m m′ met met′ : List ℕ}
-      → all (right ∷ allows m least 0 (granulesOf g d cs) ∷ allows met 1 0 cs ∷ leb sectors (granuleSectors g * (owned + length (granulesOf g d cs))) ∷ []) ≡ false
+      → all (right ∷ allows m least 0 (granulesOf g d cs) ∷ allows met 1 0 cs ∷ leb sectors (granuleSectors g * (owned + length (granulesOf g d cs))) ∷ []) ≡
+      false
       → Walked g d least sectors owned right cs m m′ met met′ false
   walked-no h = record { answer = sym h; map = λ q. not-both q refl; meets = λ q. not-both q refl }
 
   -- no entry is left to visit
-  pub walked-none : {least sectors owned : ℕ} (h s : ℕ) {left : ℕ} {cs m m′ met met′ : List ℕ} → left ≡ 0 → Walked g d least sectors owned (chainHolds g d h left s) cs m m′ met met′ false
+  pub walked-none : {least sectors owned : ℕ} (h s : ℕ) {left : ℕ} {cs m m′ met met′ : List ℕ} → left ≡ 0 → Walked g d least sectors owned
+      (chainHolds g d h left s) cs m m′ met met′ false
   walked-none h s e = walked-no (all-no (holds-none h s e) _)
 
   -- the slot was met before
@@ -275,11 +289,13 @@ module _ (g : Geometry) (d : List ℕ) where
       walked-no (all-out _ 2 (ap (allows met 1 0) (chain-some s n)
       ∙ ap (λ (b : Bool). b && allows (set met s 0) 1 0 (onward g d s (chainFrom g d (left - 1) (link g d s)))) (lt-leb 1 (getD met s 0) h)))
 
-  split : {left : ℕ} (s : ℕ) → (left ≡ 0 → ⊥) → granulesOf g d (chainFrom g d left s) ≡ entryGranules g d s ++ granulesOf g d (onward g d s (chainFrom g d (left - 1) (link g d s)))
+  split : {left : ℕ} (s : ℕ) → (left ≡ 0 → ⊥) → granulesOf g d (chainFrom g d left s) ≡ entryGranules g d s ++ granulesOf g d
+      (onward g d s (chainFrom g d (left - 1) (link g d s)))
   split s n = ap (each (entryGranules g d)) (chain-some s n)
 
   -- the entry does not hold
-  pub walked-entry-no : {least sectors owned : ℕ} (h s : ℕ) {left : ℕ} {m m₁ m′ met met′ : List ℕ} {p : Pairs} → (left ≡ 0 → ⊥) → Entered g d s least m m₁ p → not (p .ok) ≡ true
+  pub walked-entry-no : {least sectors owned : ℕ} (h s : ℕ) {left : ℕ} {m m₁ m′ met met′ : List ℕ} {p : Pairs} → (left ≡ 0 → ⊥) → Entered g d s least m m₁ p →
+      not (p .ok) ≡ true
       → Walked g d least sectors owned (chainHolds g d h left s) (chainFrom g d left s) m m′ met met′ false
   walked-entry-no {least} {sectors} {owned} h s {left} {m} {m₁} {m′} {met} n w t = walked-no (by _ refl)
     where
@@ -299,7 +315,8 @@ module _ (g : Geometry) (d : List ℕ) where
           not-both (all-yes (all-at _ c 0) _ ∙ all-yes (all-at _ c 1) _ ∙ all-yes a _ ∙ all-none) (is-no (w .answer) t)
 
   -- the entry holds, and its marker was walked
-  pub walked-entry : {least sectors owned : ℕ} (h s : ℕ) {left : ℕ} {m m₁ m₂ met met₂ : List ℕ} {p : Pairs} {r : Bool} → (left ≡ 0 → ⊥) → 1 ≤ getD met s 0 → Entered g d s least m m₁ p → not (p .ok) ≡ false
+  pub walked-entry : {least sectors owned : ℕ} (h s : ℕ) {left : ℕ} {m m₁ m₂ met met₂ : List ℕ} {p : Pairs} {r : Bool} → (left ≡ 0 → ⊥) → 1 ≤ getD met s 0 →
+      Entered g d s least m m₁ p → not (p .ok) ≡ false
       → Walked g d least sectors (owned + p .granules) (markerHolds g d h s (chainHolds g d h (left - 1) (link g d s)))
       (onward g d s (chainFrom g d (left - 1) (link g d s))) m₁ m₂ (set met s 0) met₂ r
       → Walked g d least sectors owned (chainHolds g d h left s) (chainFrom g d left s) m m₂ met met₂ r
@@ -307,7 +324,8 @@ module _ (g : Geometry) (d : List ℕ) where
   walked-entry {least} {sectors} {owned} h s {left} {m} {m₁} {m₂} {met} {met₂} {p} {r} n l w t k =
       record {
         answer = k .answer ∙ sym (all-four c a b o);
-        map = λ q. k .map q ∙ ap (λ (v : List ℕ). marked v 0 rest) here ∙ sym (marked-append m 0 (entryGranules g d s) rest) ∙ ap (marked m 0) (sym (split s n));
+        map = λ q. k .map q ∙ ap (λ (v : List ℕ). marked v 0 rest) here ∙ sym (marked-append m 0 (entryGranules g d s) rest) ∙ ap (marked m 0)
+            (sym (split s n));
         meets = λ q. k .meets q ∙ ap (marked met 0) (sym (chain-some s n));
       }
     where
@@ -331,26 +349,30 @@ module _ (g : Geometry) (d : List ℕ) where
 
       a : allows m least 0 (granulesOf g d (chainFrom g d left s)) ≡ allows m₁ least 0 rest
       a = ap (allows m least 0) (split s n) ∙ allows-append m least 0 (entryGranules g d s) rest
-          ∙ ap (λ (z : Bool). z && allows (marked m 0 (entryGranules g d s)) least 0 rest) (all-at _ fits 2) ∙ ap (λ (v : List ℕ). allows v least 0 rest) (sym here)
+          ∙ ap (λ (z : Bool). z && allows (marked m 0 (entryGranules g d s)) least 0 rest) (all-at _ fits 2) ∙ ap (λ (v : List ℕ). allows v least 0 rest)
+          (sym here)
 
       b : allows met 1 0 (chainFrom g d left s) ≡ allows (set met s 0) 1 0 cs
       b = ap (allows met 1 0) (chain-some s n) ∙ ap (λ (z : Bool). z && allows (set met s 0) 1 0 cs) (le-leb 1 (getD met s 0) l)
 
-      o : leb sectors (granuleSectors g * (owned + length (granulesOf g d (chainFrom g d left s)))) ≡ leb sectors (granuleSectors g * (owned + p .granules + length rest))
+      o : leb sectors (granuleSectors g * (owned + length (granulesOf g d (chainFrom g d left s)))) ≡ leb sectors
+          (granuleSectors g * (owned + p .granules + length rest))
       o = let e : length (granulesOf g d (chainFrom g d left s)) ≡ p .granules + length rest
           = ap {B = ℕ} length (split s n) ∙ length-append (entryGranules g d s) rest ∙ ap (λ (j : ℕ). j + length rest) (sym (w .granules-is ok)) in
           let f : owned + length (granulesOf g d (chainFrom g d left s)) ≡ owned + p .granules + length rest = omega arith in
           ap (λ (j : ℕ). leb sectors (granuleSectors g * j)) f
 
   -- the same, of the primary entry: no granule was met before
-  pub walked-first : {least sectors : ℕ} (h s : ℕ) {left : ℕ} {m m₁ m₂ met met₂ : List ℕ} {p : Pairs} {r : Bool} → (left ≡ 0 → ⊥) → 1 ≤ getD met s 0 → Entered g d s least m m₁ p → not (p .ok) ≡ false
+  pub walked-first : {least sectors : ℕ} (h s : ℕ) {left : ℕ} {m m₁ m₂ met met₂ : List ℕ} {p : Pairs} {r : Bool} → (left ≡ 0 → ⊥) → 1 ≤ getD met s 0 → Entered
+      g d s least m m₁ p → not (p .ok) ≡ false
       → Walked g d least sectors (p .granules) (markerHolds g d h s (chainHolds g d h (left - 1) (link g d s)))
       (onward g d s (chainFrom g d (left - 1) (link g d s))) m₁ m₂ (set met s 0) met₂ r
       → Walked g d least sectors 0 (chainHolds g d h left s) (chainFrom g d left s) m m₂ met met₂ r
   walked-first h s {p = p} n l w t k = walked-entry h s n l w t (rw (zero-add (p .granules)) k)
 
   -- the marker is FFH
-  pub walked-end : {least sectors owned w : ℕ} (h s : ℕ) (rest : Bool) (cs : List ℕ) {x : ℕ} {m met : List ℕ} → w ≡ granuleSectors g → x ≡ marker g d s → x ≡ 0xff
+  pub walked-end : {least sectors owned w : ℕ} (h s : ℕ) (rest : Bool) (cs : List ℕ) {x : ℕ} {m met : List ℕ} → w ≡ granuleSectors g → x ≡ marker g d s → x ≡
+      0xff
       → Walked g d least sectors owned (markerHolds g d h s rest) (onward g d s cs) m m met met (leb sectors (w * owned))
   unfolding markerHolds onward allows marked all any
   walked-end {least} {sectors} {owned} {w} h s rest cs {x} {m} {met} v e f =
@@ -359,15 +381,18 @@ module _ (g : Geometry) (d : List ℕ) where
       record { answer = rw (v, q, z, and-true); map = λ t. rw q; meets = λ t. rw q }
 
   -- the marker is not FFH, and does not lead on
-  pub walked-stop : {least sectors owned : ℕ} (h s : ℕ) (rest : Bool) {x : ℕ} {cs m m′ met met′ : List ℕ} → x ≡ marker g d s → (x ≡ 0xff → ⊥) → goesOn g d h s ≡ false
+  pub walked-stop : {least sectors owned : ℕ} (h s : ℕ) (rest : Bool) {x : ℕ} {cs m m′ met met′ : List ℕ} → x ≡ marker g d s → (x ≡ 0xff → ⊥) → goesOn g d h s
+      ≡ false
       → Walked g d least sectors owned (markerHolds g d h s rest) cs m m′ met met′ false
   unfolding markerHolds
   walked-stop h s rest e f n = walked-no (all-no (any-skip (off e f) _ ∙ any-one _ ∙ all-no n _) _)
 
   -- it leads on
-  pub walked-on : {least sectors owned : ℕ} (h s left : ℕ) {x t : ℕ} {m m′ met met′ : List ℕ} {r : Bool} → x ≡ marker g d s → (x ≡ 0xff → ⊥) → goesOn g d h s ≡ true → t ≡ link g d s
+  pub walked-on : {least sectors owned : ℕ} (h s left : ℕ) {x t : ℕ} {m m′ met met′ : List ℕ} {r : Bool} → x ≡ marker g d s → (x ≡ 0xff → ⊥) → goesOn g d h s
+      ≡ true → t ≡ link g d s
       → Walked g d least sectors owned (chainHolds g d h left t) (chainFrom g d left t) m m′ met met′ r
-      → Walked g d least sectors owned (markerHolds g d h s (chainHolds g d h left (link g d s))) (onward g d s (chainFrom g d left (link g d s))) m m′ met met′ r
+      → Walked g d least sectors owned (markerHolds g d h s (chainHolds g d h left (link g d s))) (onward g d s (chainFrom g d left (link g d s))) m m′ met
+      met′ r
   unfolding markerHolds onward
   walked-on h s left e f n q w = rw (holds, rest) (rw q at w)
     where

@@ -81,6 +81,7 @@ granulesOf g d cs = each (entryGranules g d) cs
 -- What a walk along the entries cs says: they hold, their granules are open to the file and in no run so far, none was met before, and the
 -- sector count fits. If so, it has marked both maps.
 pub record Walked (g : Geometry) (d : List ℕ) (least sectors owned : ℕ) (right : Bool) (cs m m′ met met′ : List ℕ) (r : Bool) : Type 0 where
-  pub answer : r ≡ all (right ∷ allows m least 0 (granulesOf g d cs) ∷ allows met 1 0 cs ∷ leb sectors (granuleSectors g * (owned + length (granulesOf g d cs))) ∷ [])
+  pub answer : r ≡ all (right ∷ allows m least 0 (granulesOf g d cs) ∷ allows met 1 0 cs ∷ leb sectors
+      (granuleSectors g * (owned + length (granulesOf g d cs))) ∷ [])
   pub map : r ≡ true → m′ ≡ marked m 0 (granulesOf g d cs)
   pub meets : r ≡ true → met′ ≡ marked met 0 cs

@@ -32,7 +32,8 @@ pub fn field_at(image: &[u8], g: Geometry, s: usize, at: usize, k: usize) -> usi
 // case: one test of one byte, and its block's number says whether it is on the disk.
 fn take_run(image: &[u8], g: Geometry, s: usize, at: usize, k: usize, map: &mut [u8; 192]) -> usize
     requires { ⌜ Room g (now image) × Place g (now image) s at × (k < 4) ⌝ }
-    ensures { λ r. ⌜ TakesRun g (now (image .entry)) s k 1 (standing g (now (image .entry)) (now (map .entry))) (standing g (now (image .entry)) (now (map .exit))) r ⌝ }
+    ensures { λ r. ⌜ TakesRun g (now (image .entry)) s k 1 (standing g (now (image .entry)) (now (map .entry)))
+        (standing g (now (image .entry)) (now (map .exit))) r ⌝ }
 {
     let second = field_at(image, g, s, at, layout::SECONDS + 2 * k);
     let block = field_at(image, g, s, at, layout::BLOCKS + 2 * k);
@@ -97,7 +98,8 @@ pub struct Pairs {
 // Takes the granules of an entry off the map.
 pub fn take_runs(image: &[u8], g: Geometry, s: usize, at: usize, map: &mut [u8; 192]) -> Pairs
     requires { ⌜ Room g (now image) × Place g (now image) s at ⌝ }
-    ensures { λ r. ⌜ Entered g (now (image .entry)) s 1 (standing g (now (image .entry)) (now (map .entry))) (standing g (now (image .entry)) (now (map .exit))) r ⌝ }
+    ensures { λ r. ⌜ Entered g (now (image .entry)) s 1 (standing g (now (image .entry)) (now (map .entry)))
+        (standing g (now (image .entry)) (now (map .exit))) r ⌝ }
 {
     let mut k = 0;
     let mut n = 0;
@@ -169,7 +171,8 @@ pub fn file_walk(
 ) -> bool
     requires { ⌜ Room g (now image) × Place g (now image) s at × (left ≡ 0 → ⊥) × (128 * left ≤ 65536) ⌝ }
     ensures { λ r. ⌜ Walked g (now (image .entry)) 1 sectors 0 (chainHolds g (now (image .entry)) h left s)
-        (chainFrom g (now (image .entry)) left s) (standing g (now (image .entry)) (now (map .entry))) (standing g (now (image .entry)) (now (map .exit))) (now (met .entry)) (now (met .exit)) r ⌝ }
+        (chainFrom g (now (image .entry)) left s) (standing g (now (image .entry)) (now (map .entry))) (standing g (now (image .entry)) (now (map .exit)))
+        (now (met .entry)) (now (met .exit)) r ⌝ }
 {
     if met[s] < 1 {
         return false;
@@ -213,7 +216,8 @@ fn entry_walk(
 ) -> bool
     requires { ⌜ Room g (now image) × Place g (now image) s at × (owned + 128 * left ≤ 65536) ⌝ }
     ensures { λ r. ⌜ Walked g (now (image .entry)) 1 sectors owned (chainHolds g (now (image .entry)) h left s)
-        (chainFrom g (now (image .entry)) left s) (standing g (now (image .entry)) (now (map .entry))) (standing g (now (image .entry)) (now (map .exit))) (now (met .entry)) (now (met .exit)) r ⌝ }
+        (chainFrom g (now (image .entry)) left s) (standing g (now (image .entry)) (now (map .entry))) (standing g (now (image .entry)) (now (map .exit)))
+        (now (met .entry)) (now (met .exit)) r ⌝ }
 {
     if left == 0 {
         return false;

@@ -146,11 +146,13 @@ module _ (g : Geometry) (d : List ℕ) where
       deeper q (inl t) j r = absurd (let z = eqb→eq (marker g d s) 0xff t in let b : ⊥ = omega arith in b)
       deeper q (inr t) j r = let a = Members.T-true t in further (all-at _ a 0) (r (all-at _ a 1) j)
 
-      into : (b : Bool) → eqb (marker g d s) 0xfe ≡ b → In x (cond b rest []) → (chainHolds g d h left (link g d s) ≡ true → In x rest → Held h (link g d s) x) → Held h s x
+      into : (b : Bool) → eqb (marker g d s) 0xfe ≡ b → In x (cond b rest []) →
+          (chainHolds g d h left (link g d s) ≡ true → In x rest → Held h (link g d s) x) → Held h s x
       into true q j r = deeper (eqb-true _ _ q) (open-marker h s (chainHolds g d h left (link g d s)) marks) j r
       into false q j r = Members.none-in j
 
-      go : (x ≡ s) ⊎ In x (cond (eqb (marker g d s) 0xfe) rest []) → (chainHolds g d h left (link g d s) ≡ true → In x rest → Held h (link g d s) x) → Held h s x
+      go : (x ≡ s) ⊎ In x (cond (eqb (marker g d s) 0xfe) rest []) → (chainHolds g d h left (link g d s) ≡ true → In x rest → Held h (link g d s) x) → Held h
+          s x
       go (inl q) r = here q
       go (inr j) r = into (eqb (marker g d s) 0xfe) refl j r
 
@@ -187,16 +189,20 @@ module _ (g : Geometry) (d : List ℕ) where
       all-yes (holds-part s 0 e) _ ∙ all-yes (holds-part s 2 e) _ ∙ all-yes (on left (e .linked) f m (says-chain h left (link g d s))) _ ∙ all-none
     where
       Rest : ℕ → Type 0
-      Rest left = 1 ≤ left → ((x : ℕ) → In x (chainFrom g d left (link g d s)) → GoodEntry h x) → marker g d (lastOr (link g d s) (chainFrom g d left (link g d s))) ≡ 0xff
+      Rest left = 1 ≤ left → ((x : ℕ) → In x (chainFrom g d left (link g d s)) → GoodEntry h x) → marker g d
+          (lastOr (link g d s) (chainFrom g d left (link g d s))) ≡ 0xff
           → chainHolds g d h left (link g d s) ≡ true
 
       -- the chain goes on at the link
-      next : (left : ℕ) → Entry.Linked g d s → ((x : ℕ) → In x (s ∷ chainFrom g d left (link g d s)) → GoodEntry h x) → marker g d (lastOr s (chainFrom g d left (link g d s))) ≡ 0xff → Rest left
+      next : (left : ℕ) → Entry.Linked g d s → ((x : ℕ) → In x (s ∷ chainFrom g d left (link g d s)) → GoodEntry h x) → marker g d
+          (lastOr s (chainFrom g d left (link g d s))) ≡ 0xff → Rest left
           → markerHolds g d h s (chainHolds g d h left (link g d s)) ≡ true
       next zero k f m r = absurd (let q = k .marked in let z : ⊥ = omega arith in z)
       next (suc left) k f m r = marker-goes h s _ (goes h s k (f (link g d s) (In.there In.here) .hits)) (r (omega arith) (λ x i. f x (In.there i)) m)
 
-      on : (left : ℕ) → (marker g d s ≡ 0xff) ⊎ Entry.Linked g d s → ((x : ℕ) → In x (s ∷ cond (eqb (marker g d s) 0xfe) (chainFrom g d left (link g d s)) []) → GoodEntry h x)
-          → marker g d (lastOr s (cond (eqb (marker g d s) 0xfe) (chainFrom g d left (link g d s)) [])) ≡ 0xff → Rest left → markerHolds g d h s (chainHolds g d h left (link g d s)) ≡ true
+      on : (left : ℕ) → (marker g d s ≡ 0xff) ⊎ Entry.Linked g d s →
+          ((x : ℕ) → In x (s ∷ cond (eqb (marker g d s) 0xfe) (chainFrom g d left (link g d s)) []) → GoodEntry h x)
+          → marker g d (lastOr s (cond (eqb (marker g d s) 0xfe) (chainFrom g d left (link g d s)) [])) ≡ 0xff → Rest left → markerHolds g d h s
+          (chainHolds g d h left (link g d s)) ≡ true
       on left (inl q) f m r = marker-ends h s _ q
       on left (inr k) f m r = next left k (rw (eq-eqb _ _ (k .marked)) at f) (rw (eq-eqb _ _ (k .marked)) at m) r

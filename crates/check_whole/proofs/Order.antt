@@ -34,12 +34,14 @@ turned a = record { there = a .back; back = a .there; once = a .once′; once′
 every-alike : (p : ℕ → Bool) {xs ys : List ℕ} → Alike xs ys → every p xs ≡ true → every p ys ≡ true
 every-alike p {xs} {ys} a e = Members.T-true (Members.all-every p ys (λ s i. Members.every-all p (Members.true-T e) (a .back s i)))
 
-opens-alike : (m : List ℕ) (low : ℕ → ℕ) (f : ℕ → List ℕ) {xs ys : List ℕ} → ((s : ℕ) → 1 ≤ low s) → Alike xs ys → opens m low f xs ≡ true → opens m low f ys ≡ true
+opens-alike : (m : List ℕ) (low : ℕ → ℕ) (f : ℕ → List ℕ) {xs ys : List ℕ} → ((s : ℕ) → 1 ≤ low s) → Alike xs ys → opens m low f xs ≡ true → opens m low f ys
+    ≡ true
 opens-alike m low f {xs} {ys} pos a e =
     let o = Maps.opens-says low f pos xs m e in
     Maps.says-opens low f ys m (record {
       high = λ s n i j. o .high s n (a .back s i) j;
-      once = Members.each-distinct f (a .once′) (λ s i. Members.distinct-each f (o .once) (a .back s i)) (λ s t n i j p q. Members.each-apart f (o .once) (a .back s i) (a .back t j) p q);
+      once = Members.each-distinct f (a .once′) (λ s i. Members.distinct-each f (o .once) (a .back s i))
+          (λ s t n i j p q. Members.each-apart f (o .once) (a .back s i) (a .back t j) p q);
     })
 
 module _ (g : Geometry) (d : List ℕ) (least-low : (s : ℕ) → 1 ≤ leastOf g d s) where
@@ -54,7 +56,8 @@ module _ (g : Geometry) (d : List ℕ) (least-low : (s : ℕ) → 1 ≤ leastOf 
       Members.both-T (λ t. Members.true-T (fit-there m met a (Members.T-true t))) (λ t. Members.true-T (fit-there m met (turned a) (Members.T-true t)))
 
 -- what is marked does not hang on the order
-pub marked-alike : (met : List ℕ) (f : ℕ → List ℕ) {xs ys : List ℕ} → Alike xs ys → (n : ℕ) → n < length met → getD (marked met 0 (each f xs)) n 0 ≡ getD (marked met 0 (each f ys)) n 0
+pub marked-alike : (met : List ℕ) (f : ℕ → List ℕ) {xs ys : List ℕ} → Alike xs ys → (n : ℕ) → n < length met → getD (marked met 0 (each f xs)) n 0 ≡ getD
+    (marked met 0 (each f ys)) n 0
 marked-alike met f {xs} {ys} a n l = go (Members.in? n (each f xs))
   where
     go : In n (each f xs) ⊎ (In n (each f xs) → ⊥) → getD (marked met 0 (each f xs)) n 0 ≡ getD (marked met 0 (each f ys)) n 0
@@ -72,7 +75,8 @@ unfolding by32
 by32-in x zero s i = Members.none-in i
 by32-in x (suc n) s i = go (Members.in-cons i) (by32-in x n (s + 32))
   where
-    go : (x ≡ s) ⊎ In x (by32 n (s + 32)) → (In x (by32 n (s + 32)) → (s + 32 ≤ x) × (x < s + 32 + 32 * n) × (x % 32 ≡ (s + 32) % 32)) → (s ≤ x) × (x < s + 32 * suc n) × (x % 32 ≡ s % 32)
+    go : (x ≡ s) ⊎ In x (by32 n (s + 32)) → (In x (by32 n (s + 32)) → (s + 32 ≤ x) × (x < s + 32 + 32 * n) × (x % 32 ≡ (s + 32) % 32)) → (s ≤ x) ×
+        (x < s + 32 * suc n) × (x % 32 ≡ s % 32)
     go (inl e) r = (omega arith, omega arith, ap (λ (y : ℕ). y % 32) e)
     go (inr j) r = let k = r j in (omega arith, omega arith, omega arith)
 
@@ -103,7 +107,8 @@ disk-order g d room =
           Facts.in-slots g d s (Members.true-T (slot-yes g d s (omega arith) (omega arith)));
       back = λ s i.
           let k = Facts.slots-in g d s i in
-          Members.in-each sectorSlots (Members.in-count (s % 32) 0 (directorySectors g d - 2) (omega arith) (held s k)) (in-by32 s 8 (s % 32) (omega arith) (let l = Facts.slot-lt g d s k in omega arith) (omega arith));
+          Members.in-each sectorSlots (Members.in-count (s % 32) 0 (directorySectors g d - 2) (omega arith) (held s k))
+          (in-by32 s 8 (s % 32) (omega arith) (let l = Facts.slot-lt g d s k in omega arith) (omega arith));
       once = Members.each-distinct sectorSlots (Members.count-distinct 0 (directorySectors g d - 2)) (λ x i. by32-once 8 x)
           (λ x y n i j a b.
           let p = Members.count-in x 0 (directorySectors g d - 2) i in

@@ -86,7 +86,8 @@ module _ (g : Geometry) (d : List ℕ) where
   unfolding lengthHolds
   length-odd {x} e h n = sym (all-no (ap (has fives) (sym e) ∙ five-at x h ∙ ne-eqb _ _ n) _)
 
-  pub length-rest : {x n w : ℕ} → x ≡ aboveTen g d → x ≤ 20 → x % 5 ≡ 0 → n ≡ granules g → w ≡ granuleSectors g → leb (g .start + (10 + x)) (n * w) ≡ lengthHolds g d
+  pub length-rest : {x n w : ℕ} → x ≡ aboveTen g d → x ≤ 20 → x % 5 ≡ 0 → n ≡ granules g → w ≡ granuleSectors g → leb (g .start + (10 + x)) (n * w) ≡
+      lengthHolds g d
   unfolding lengthHolds directorySectors
   length-rest {x} {n} {w} e h f q p =
       ap (λ (s : ℕ). leb (g .start + (10 + x)) (n * s)) p
@@ -95,11 +96,14 @@ module _ (g : Geometry) (d : List ℕ) where
 
 -- Slot after slot -------------------------------------------------------------------------------------------------------------
 
-pub opens-append : (low : ℕ → ℕ) (f : ℕ → List ℕ) (xs ys m : List ℕ) → opens m low f (xs ++ ys) ≡ (opens m low f xs && opens (marked m 0 (each f xs)) low f ys)
+pub opens-append : (low : ℕ → ℕ) (f : ℕ → List ℕ) (xs ys m : List ℕ) → opens m low f (xs ++ ys) ≡
+    (opens m low f xs && opens (marked m 0 (each f xs)) low f ys)
 unfolding opens marked
 opens-append low f [] ys m = refl
 opens-append low f (x ∷ xs) ys m =
-    ap (λ (b : Bool). allows m (low x) 0 (f x) && b) (opens-append low f xs ys (marked m 0 (f x)) ∙ ap (λ (l : List ℕ). opens (marked m 0 (f x)) low f xs && opens l low f ys) (sym (marked-append m 0 (f x) (each f xs))))
+    ap (λ (b : Bool). allows m (low x) 0 (f x) && b)
+    (opens-append low f xs ys (marked m 0 (f x)) ∙ ap (λ (l : List ℕ). opens (marked m 0 (f x)) low f xs && opens l low f ys)
+    (sym (marked-append m 0 (f x) (each f xs))))
     ∙ assoc (allows m (low x) 0 (f x)) (opens (marked m 0 (f x)) low f xs) (opens (marked m 0 (f x ++ each f xs)) low f ys)
   where
     assoc : (a b c : Bool) → (a && (b && c)) ≡ ((a && b) && c)
@@ -129,7 +133,8 @@ sectors-none h = ap (each sectorSlots) (count-none h)
 
 pub sectors-are : (g : Geometry) (d : List ℕ) {k : ℕ} → k ≡ directorySectors g d → sectorsFrom (k - 2) 0 ≡ diskSlots g d
 unfolding diskSlots
-sectors-are g d {k} e = ap (λ (j : ℕ). each sectorSlots (count 0 (j - 2 - 0))) e ∙ ap (λ (j : ℕ). each sectorSlots (count 0 j)) (let z : directorySectors g d - 2 - 0 ≡ directorySectors g d - 2 = omega arith in z)
+sectors-are g d {k} e = ap (λ (j : ℕ). each sectorSlots (count 0 (j - 2 - 0))) e ∙ ap (λ (j : ℕ). each sectorSlots (count 0 j))
+    (let z : directorySectors g d - 2 - 0 ≡ directorySectors g d - 2 = omega arith in z)
 
 -- the slots of a sector from s on
 abbrev pub columnFrom : ℕ → List ℕ
@@ -153,7 +158,8 @@ module _ (g : Geometry) (d : List ℕ) where
   unfolding slotsFit
   fit-append xs ys m met =
       all-three (every-append (slotFits g d) xs ys) (opens-append (leastOf g d) (ownedOf g d) xs ys m) (opens-append one (chainOf g d) xs ys met)
-      ∙ regroup (every (slotFits g d) xs) (every (slotFits g d) ys) (opens m (leastOf g d) (ownedOf g d) xs) (opens (marked m 0 (each (ownedOf g d) xs)) (leastOf g d) (ownedOf g d) ys)
+      ∙ regroup (every (slotFits g d) xs) (every (slotFits g d) ys) (opens m (leastOf g d) (ownedOf g d) xs)
+      (opens (marked m 0 (each (ownedOf g d) xs)) (leastOf g d) (ownedOf g d) ys)
       (opens met one (chainOf g d) xs) (opens (marked met 0 (each (chainOf g d) xs)) one (chainOf g d) ys)
 
   -- what is left from here on is the whole
@@ -174,23 +180,27 @@ module _ (g : Geometry) (d : List ℕ) where
   pub seeing-as : {m₀ met₀ whole m met xs ys : List ℕ} → Seeing m₀ met₀ whole m met xs → xs ≡ ys → Seeing m₀ met₀ whole m met ys
   seeing-as i e = rw e at i
 
-  pub seeing-step : {m₀ met₀ whole m m′ met met′ : List ℕ} {r : Bool} (xs rest : List ℕ) → Seeing m₀ met₀ whole m met (xs ++ rest) → Seen g d xs m m′ met met′ r → r ≡ true
+  pub seeing-step : {m₀ met₀ whole m m′ met met′ : List ℕ} {r : Bool} (xs rest : List ℕ) → Seeing m₀ met₀ whole m met (xs ++ rest) → Seen g d xs m m′ met met′
+      r → r ≡ true
       → Seeing m₀ met₀ whole m′ met′ rest
   seeing-step {m₀} {met₀} {whole} {m} {m′} {met} {met′} {r} xs rest i w t =
       record {
         answer =
-            ap (λ (l : List ℕ). slotsFit g d l met′ rest) (w .map t) ∙ ap (λ (l : List ℕ). slotsFit g d (marked m 0 (each (ownedOf g d) xs)) l rest) (w .meets t)
+            ap (λ (l : List ℕ). slotsFit g d l met′ rest) (w .map t) ∙ ap (λ (l : List ℕ). slotsFit g d (marked m 0 (each (ownedOf g d) xs)) l rest)
+            (w .meets t)
             ∙ ap (λ (b : Bool). b && slotsFit g d (marked m 0 (each (ownedOf g d) xs)) (marked met 0 (each (chainOf g d) xs)) rest) (sym t ∙ w .answer)
             ∙ sym (fit-append xs rest m met) ∙ i .answer;
         map =
             ap (λ (l : List ℕ). marked l 0 (each (ownedOf g d) rest)) (w .map t) ∙ sym (marked-append m 0 (each (ownedOf g d) xs) (each (ownedOf g d) rest))
             ∙ ap (marked m 0) (sym (Members.each-append (ownedOf g d) xs rest)) ∙ i .map;
         meets =
-            ap (λ (l : List ℕ). marked l 0 (each (chainOf g d) rest)) (w .meets t) ∙ sym (marked-append met 0 (each (chainOf g d) xs) (each (chainOf g d) rest))
+            ap (λ (l : List ℕ). marked l 0 (each (chainOf g d) rest)) (w .meets t) ∙ sym
+            (marked-append met 0 (each (chainOf g d) xs) (each (chainOf g d) rest))
             ∙ ap (marked met 0) (sym (Members.each-append (chainOf g d) xs rest)) ∙ i .meets;
       }
 
-  pub seeing-stop : {m₀ met₀ whole m m′ met met′ m″ met″ : List ℕ} {r : Bool} (xs rest : List ℕ) → Seeing m₀ met₀ whole m met (xs ++ rest) → Seen g d xs m m′ met met′ r → r ≡ false
+  pub seeing-stop : {m₀ met₀ whole m m′ met met′ m″ met″ : List ℕ} {r : Bool} (xs rest : List ℕ) → Seeing m₀ met₀ whole m met (xs ++ rest) → Seen g d xs m m′
+      met met′ r → r ≡ false
       → Seen g d whole m₀ m″ met₀ met″ false
   seeing-stop {m₀} {met₀} {whole} {m} {m′} {met} xs rest i w t =
       record {

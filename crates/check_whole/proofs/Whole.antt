@@ -112,11 +112,13 @@ module _ (g : Geometry) (d : List ℕ) where
       beq-true false = refl
 
   -- the size fits exactly if the sector count does
-  size-le : (p : ℕ) → Bytes d → countHolds (sectorCount g d p) (endByte g d p) ≡ true → sectorCount g d p ≤ granuleSectors g * length (owned g d p) → sizeOf g d p ≤ granuleBytes g * length (owned g d p)
+  size-le : (p : ℕ) → Bytes d → countHolds (sectorCount g d p) (endByte g d p) ≡ true → sectorCount g d p ≤ granuleSectors g * length (owned g d p) → sizeOf g
+      d p ≤ granuleBytes g * length (owned g d p)
   unfolding sizeOf field
   size-le p b c l = go (eqb (endByte g d p) 0) refl
     where
-      go : (t : Bool) → eqb (endByte g d p) 0 ≡ t → cond (eqb (endByte g d p) 0) (256 * sectorCount g d p) (256 * (sectorCount g d p - 1) + endByte g d p) ≤ granuleBytes g * length (owned g d p)
+      go : (t : Bool) → eqb (endByte g d p) 0 ≡ t → cond (eqb (endByte g d p) 0) (256 * sectorCount g d p) (256 * (sectorCount g d p - 1) + endByte g d p) ≤
+          granuleBytes g * length (owned g d p)
       go true e = rw e (omega (arith, ap (λ (x : ℕ). x * length (owned g d p)) (Sizes.bytes-are g)))
       go false e =
           let n : (sectorCount g d p ≡ 0 → ⊥) = λ z. not-both (sym (ap (λ (k : ℕ). not (eqb k 0) || eqb (endByte g d p) 0) z ∙ e) ∙ c) refl in
@@ -126,7 +128,8 @@ module _ (g : Geometry) (d : List ℕ) where
           entryPlace : ℕ
           entryPlace = 256 * (g .start + 2 + p % 32) + 32 * (p / 32)
 
-  le-size : (p : ℕ) → (sectorCount g d p ≡ 0 → endByte g d p ≡ 0) → sizeOf g d p ≤ granuleBytes g * length (owned g d p) → sectorCount g d p ≤ granuleSectors g * length (owned g d p)
+  le-size : (p : ℕ) → (sectorCount g d p ≡ 0 → endByte g d p ≡ 0) → sizeOf g d p ≤ granuleBytes g * length (owned g d p) → sectorCount g d p ≤ granuleSectors
+      g * length (owned g d p)
   unfolding sizeOf
   le-size p c l = go (eqb (endByte g d p) 0) refl
     where
@@ -136,7 +139,8 @@ module _ (g : Geometry) (d : List ℕ) where
 
   -- From the maps to the disk -------------------------------------------------------------------------------------------------
 
-  module _ (lh : lengthHolds g d ≡ true) (m seen : List ℕ) (b : Base g d m) (copy : HitCopied g d seen) (bytes : Bytes d) (dt : every (taken g d) (directoryGranules g d) ≡ true)
+  module _ (lh : lengthHolds g d ≡ true) (m seen : List ℕ) (b : Base g d m) (copy : HitCopied g d seen) (bytes : Bytes d)
+      (dt : every (taken g d) (directoryGranules g d) ≡ true)
       (fit : slotsFit g d m seen (slots g d) ≡ true) (all-met : every (metAt (marked seen 0 (each (chainOf g d) (slots g d)))) (slots g d) ≡ true) where
     fits : every (slotFits g d) (slots g d) ≡ true
     unfolding slotsFit
@@ -174,7 +178,8 @@ module _ (g : Geometry) (d : List ℕ) where
         go (eqb→eq _ _ (Members.every-all (metAt (marked seen 0 (each (chainOf g d) (slots g d)))) (Members.true-T all-met) (Facts.in-slots g d s t)))
         (Members.in? s (each (chainOf g d) (slots g d)))
       where
-        go : _≡_ {A = ℕ} (getD (marked seen 0 (each (chainOf g d) (slots g d))) s 0) 0 → In s (each (chainOf g d) (slots g d)) ⊎ (In s (each (chainOf g d) (slots g d)) → ⊥)
+        go : _≡_ {A = ℕ} (getD (marked seen 0 (each (chainOf g d) (slots g d))) s 0) 0 → In s (each (chainOf g d) (slots g d)) ⊎
+            (In s (each (chainOf g d) (slots g d)) → ⊥)
             → (p : ℕ) × IsFile g d p × In s (chain g d p)
         go z (inl i) =
             let k = Members.each-in (chainOf g d) s (slots g d) i in
@@ -231,7 +236,8 @@ module _ (g : Geometry) (d : List ℕ) where
           hashes = λ s i. hash-of s (held p s f i .hits);
           count′ = λ z. eqb→eq _ _ (Members.if-or (eqb (sectorCount g d p) 0) (eqb (endByte g d p) 0) (Members.true-T (all-at _ e 2)) (Members.eq-T z));
           fits = size-le p bytes (all-at _ e 2) (leb-true _ _ (all-at _ e 4));
-          off = λ u k i j. b .off-in k (let h = high p k f i in let l = least-two p (Members.no-false {b = system g d p} (T-not (system g d p) u)) in omega arith) j;
+          off = λ u k i j. b .off-in k (let h = high p k f i in let l = least-two p (Members.no-false {b = system g d p} (T-not (system g d p) u)) in omega
+              arith) j;
         }
       where
         hash-of : (s : ℕ) → (s ≡ p) ⊎ (hit g d s ≡ hit g d p) → hit g d s ≡ hash (nameOf g d p)
@@ -258,7 +264,8 @@ module _ (g : Geometry) (d : List ℕ) where
     pub disk-holds : namesDiffer g d (files g d) ≡ true → consistent g d ≡ true
     unfolding consistent
     disk-holds n =
-        all-yes lh _ ∙ all-yes slot-holds _ ∙ all-yes file-holds _ ∙ all-yes n _ ∙ all-yes met-once _ ∙ all-yes met-all _ ∙ all-yes owned-once _ ∙ all-yes dt _ ∙ all-none
+        all-yes lh _ ∙ all-yes slot-holds _ ∙ all-yes file-holds _ ∙ all-yes n _ ∙ all-yes met-once _ ∙ all-yes met-all _ ∙ all-yes owned-once _ ∙ all-yes dt
+        _ ∙ all-none
 
   -- From the disk to the maps -------------------------------------------------------------------------------------------------
 
@@ -281,7 +288,8 @@ module _ (g : Geometry) (d : List ℕ) where
     chain-good : (p : ℕ) → IsFile g d p → chainHolds g d (hit g d p) (length (slots g d)) p ≡ true
     unfolding chain
     chain-good p f =
-        Bridge.says-chain g d (hit g d p) (length (slots g d)) p (Change.in-length (Facts.in-slots g d p (f .slot))) (λ x i. good p x f i) (Change.tail-marker g d c p f)
+        Bridge.says-chain g d (hit g d p) (length (slots g d)) p (Change.in-length (Facts.in-slots g d p (f .slot))) (λ x i. good p x f i)
+        (Change.tail-marker g d c p f)
 
     file-good : (p : ℕ) → IsFile g d p → fileFits g d p ≡ true
     unfolding fileFits nameFits
@@ -314,7 +322,9 @@ module _ (g : Geometry) (d : List ℕ) where
             let o = b .open-one n (Change.owned-lt g d c s n f i) (Change.owned-taken g d c s n f i) in omega arith
         at s n f i false q =
             let l = least-two s q in
-            let o = b .open-two n (Change.owned-lt g d c s n f i) (Change.owned-taken g d c s n f i) (λ j. Change.filed-at g d c s f .off (not-T (system g d s) (Members.false-no q)) n i j) in omega arith
+            let o = b .open-two n (Change.owned-lt g d c s n f i) (Change.owned-taken g d c s n f i)
+            (λ j. Change.filed-at g d c s f .off (not-T (system g d s) (Members.false-no q)) n i j) in
+            omega arith
 
     chain-open : Maps.Opens seen one (chainOf g d) (slots g d)
     unfolding consistent
@@ -390,7 +400,8 @@ module _ (g : Geometry) (d m : List ℕ) (room : Room g d) (w : GatMap g d m) wh
         (λ t. Members.true-T (names-good g d (Members.T-true {b = consistent g d} t)))
 
 -- The same, as the code comes to it: `a`, `r` and `q` are what its functions answered
-module _ (g : Geometry) (d : List ℕ) (room : Room g d) {m m₂ seen met₂ : List ℕ} {from bits a : ℕ} {r : Bool} (w : GatMap g d m) (k : Directory g d from bits) (u : Among m from bits a) (t : a ≡ 0)
+module _ (g : Geometry) (d : List ℕ) (room : Room g d) {m m₂ seen met₂ : List ℕ} {from bits a : ℕ} {r : Bool} (w : GatMap g d m) (k : Directory g d from bits)
+    (u : Among m from bits a) (t : a ≡ 0)
     (copy : HitCopied g d seen) (s : Seen g d (diskSlots g d) (standing g d m) m₂ seen met₂ r) where
   open′ : every (taken g d) (directoryGranules g d) ≡ true
   open′ = Bridge.directory-taken g d m room w (all-open g d room k u t)
@@ -405,17 +416,21 @@ module _ (g : Geometry) (d : List ℕ) (room : Room g d) {m m₂ seen met₂ : L
   met-is : {q : Bool} → r ≡ true → q ≡ every (metAt met₂) (slots g d) → q ≡ every (metAt (marked seen 0 (each (chainOf g d) (slots g d)))) (slots g d)
   met-is e f =
       f ∙ ap (λ (l : List ℕ). every (metAt l) (slots g d)) (s .meets e)
-      ∙ Members.every-eq (metAt (marked seen 0 (each (chainOf g d) (diskSlots g d)))) (metAt (marked seen 0 (each (chainOf g d) (slots g d)))) (slots g d) (λ p i.
+      ∙ Members.every-eq (metAt (marked seen 0 (each (chainOf g d) (diskSlots g d)))) (metAt (marked seen 0 (each (chainOf g d) (slots g d)))) (slots g d)
+      (λ p i.
       ap (λ (v : ℕ). eqb v 0)
       (marked-alike seen (chainOf g d) (disk-order g d room) p (let l = Facts.slot-lt g d p (Facts.slots-in g d p i) in let b = copy .long in omega arith)))
 
   pub way-met : {q : Bool} → r ≡ true → q ≡ every (metAt met₂) (slots g d) → q ≡ false → false ≡ consistent g d
   way-met e f n = no-met g d m room w open′ seen copy (sym (met-is e f) ∙ n)
 
-  pub way-hashed : {q : Bool} → r ≡ true → q ≡ every (metAt met₂) (slots g d) → q ≡ true → lengthHolds g d ≡ true → Bytes d → (p : ℕ) → Slot g d p → inUsePrimary g d p ≡ true
+  pub way-hashed : {q : Bool} → r ≡ true → q ≡ every (metAt met₂) (slots g d) → q ≡ true → lengthHolds g d ≡ true → Bytes d → (p : ℕ) → Slot g d p →
+      inUsePrimary g d p ≡ true
       → hit g d p ≡ hash (nameOf g d p)
   way-hashed e f n l y p sl u =
-      hashes g d m room w open′ seen copy l y (sym fit-is ∙ e) (sym (met-is e f) ∙ n) p (record { slot = Members.true-T (slot-yes g d p (sl .low) (sl .held)); primary′ = Members.true-T u })
+      hashes g d m room w open′ seen copy l y (sym fit-is ∙ e) (sym (met-is e f) ∙ n) p
+      (record { slot = Members.true-T (slot-yes g d p (sl .low) (sl .held)); primary′ = Members.true-T u })
 
-  pub way-names : {q n : Bool} → r ≡ true → q ≡ every (metAt met₂) (slots g d) → q ≡ true → lengthHolds g d ≡ true → Bytes d → n ≡ namesDiffer g d (files g d) → n ≡ consistent g d
+  pub way-names : {q n : Bool} → r ≡ true → q ≡ every (metAt met₂) (slots g d) → q ≡ true → lengthHolds g d ≡ true → Bytes d → n ≡ namesDiffer g d (files g d)
+      → n ≡ consistent g d
   way-names e f n l y h = h ∙ by-names g d m room w open′ seen copy l y (sym fit-is ∙ e) (sym (met-is e f) ∙ n)

@@ -36,7 +36,8 @@ fn sector_holds(
     bits: u64,
 ) -> bool
     requires { ⌜ Room g (now image) × (column + 2 < directorySectors g (now image)) × Directory g (now image) from bits ⌝ }
-    ensures { λ r. ⌜ Seen g (now (image .entry)) (sectorSlots column) (standing g (now (image .entry)) (now (map .entry))) (standing g (now (image .entry)) (now (map .exit))) (now (met .entry)) (now (met .exit)) r ⌝ }
+    ensures { λ r. ⌜ Seen g (now (image .entry)) (sectorSlots column) (standing g (now (image .entry)) (now (map .entry)))
+        (standing g (now (image .entry)) (now (map .exit))) (now (met .entry)) (now (met .exit)) r ⌝ }
 {
     let mut at = 256 * (g.start + 2 + column);
     let mut s = column;
@@ -60,7 +61,8 @@ fn slots_hold(
     bits: u64,
 ) -> bool
     requires { ⌜ Room g (now image) × Directory g (now image) from bits ⌝ }
-    ensures { λ r. ⌜ Seen g (now (image .entry)) (diskSlots g (now (image .entry))) (standing g (now (image .entry)) (now (map .entry))) (standing g (now (image .entry)) (now (map .exit))) (now (met .entry)) (now (met .exit)) r ⌝ }
+    ensures { λ r. ⌜ Seen g (now (image .entry)) (diskSlots g (now (image .entry))) (standing g (now (image .entry)) (now (map .entry)))
+        (standing g (now (image .entry)) (now (map .exit))) (now (met .entry)) (now (met .exit)) r ⌝ }
 {
     let columns = layout::directory_sectors(image, g) - 2;
     let mut column = 0;

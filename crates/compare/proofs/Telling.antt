@@ -123,7 +123,8 @@ module _ (g : Geometry) (d : List ℕ) (h : Geometry) (e : List ℕ) where
     unfolding told-later
     going-no f =
         record {
-          ahead = t .ahead ∙ ap (drop left) (ap (λ (l : List (List ℕ)). keep isOne (map (at′ g d h e) l)) a ∙ keep-no isOne f (map (at′ g d h e) (later g d h e n)));
+          ahead = t .ahead ∙ ap (drop left) (ap (λ (l : List (List ℕ)). keep isOne (map (at′ g d h e) l)) a ∙ keep-no isOne f
+              (map (at′ g d h e) (later g d h e n)));
           bound = bounded;
           sized = eleven;
         }
@@ -143,7 +144,8 @@ module _ (g : Geometry) (d : List ℕ) (h : Geometry) (e : List ℕ) where
         dropped zero z = absurd (z refl)
         dropped (suc m) z = let q : m ≡ suc m - 1 = omega arith in ap (drop (suc m)) (one f) ∙ ap (λ (j : ℕ). drop j (told-later n)) q
 
-  pub going-end : (i left : ℕ) (last : List ℕ) (k : ℕ) → later g d h e last ≡ [] → Going i left last k → tellsNone (unplaced 0) ≡ tellFirst (drop i (differences g d h e))
+  pub going-end : (i left : ℕ) (last : List ℕ) (k : ℕ) → later g d h e last ≡ [] → Going i left last k → tellsNone (unplaced 0) ≡ tellFirst
+      (drop i (differences g d h e))
   unfolding tellFirst told-later
   going-end i left last k a t =
       sym (ap tellFirst (t .ahead ∙ ap (λ (l : List (List ℕ)). drop left (keep isOne (map (at′ g d h e) l))) a ∙ drop-nil left))
@@ -159,7 +161,8 @@ module _ (g : Geometry) (d : List ℕ) (h : Geometry) (e : List ℕ) where
   going-same a b t = rw (a, b) t
 
   -- what stands under the pair's name
-  pub stands-there : {last : List ℕ} (p : Pair) {x : Difference} → Next g d h e last p → (p .kind ≡ 0 → ⊥) → x ≡ difference (nameAt g d h e p) (onFirst g d h e p) (onSecond g d h e p) → x ≡ at′ g d h e (nameAt g d h e p)
+  pub stands-there : {last : List ℕ} (p : Pair) {x : Difference} → Next g d h e last p → (p .kind ≡ 0 → ⊥) → x ≡ difference (nameAt g d h e p)
+      (onFirst g d h e p) (onSecond g d h e p) → x ≡ at′ g d h e (nameAt g d h e p)
   stands-there p n z q = q ∙ (λ i. difference (nameAt g d h e p) (sym (n .first′ z) i) (sym (n .second′ z) i))
 
   pub is-one : {x y : Difference} → x ≡ y → (x .kind ≡ 0 → ⊥) → isOne y ≡ true

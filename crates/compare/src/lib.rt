@@ -92,7 +92,8 @@ fn unlike(first: &[u8], g: Geometry, second: &[u8], h: Geometry, s: usize, t: us
 // What stands under one name, on the first disk and on the second.
 fn difference_at(first: &[u8], g: Geometry, second: &[u8], h: Geometry, p: Pair) -> Difference
     requires { ⌜ Whole g (now first) × Whole h (now second) × Files g (now first) h (now second) p ⌝ }
-    ensures { λ r. ⌜ r ≡ difference (nameAt g (now (first .entry)) h (now (second .entry)) p) (onFirst g (now (first .entry)) h (now (second .entry)) p) (onSecond g (now (first .entry)) h (now (second .entry)) p) ⌝ }
+    ensures { λ r. ⌜ r ≡ difference (nameAt g (now (first .entry)) h (now (second .entry)) p) (onFirst g (now (first .entry)) h (now (second .entry)) p)
+        (onSecond g (now (first .entry)) h (now (second .entry)) p) ⌝ }
 {
     if p.kind == 1 {
         return name_only(first, g, p.first, 1);

@@ -44,7 +44,8 @@ module _ (g : Geometry) (d : List ℕ) (h : Geometry) (e : List ℕ) where
     pub date-first : {r : Bool} → r ≡ differsAt g d h e s t 2 → r ≡ true → true ≡ datesDiffer g d h e s t
     date-first p q = sym (dates-are ∙ ap not (all-no (agree-no 2 p q) (day ∷ [])))
 
-    pub date-second : {r : Bool} (x y : ℕ) → r ≡ differsAt g d h e s t 2 → r ≡ false → x ≡ field g d s 1 → y ≡ field h e t 1 → not (eqb (x % 32) (y % 32)) ≡ datesDiffer g d h e s t
+    pub date-second : {r : Bool} (x y : ℕ) → r ≡ differsAt g d h e s t 2 → r ≡ false → x ≡ field g d s 1 → y ≡ field h e t 1 → not (eqb (x % 32) (y % 32)) ≡
+        datesDiffer g d h e s t
     unfolding day
     date-second x y p q u v = (λ i. not (eqb (u i % 32) (v i % 32))) ∙ sym (dates-are ∙ ap not (all-yes (agree-yes 2 p q) (day ∷ []) ∙ all-one day))
 

@@ -47,8 +47,11 @@ module _ (a b : List ℕ) where
         (sym (k .rest ∙ ap (λ (x : ℕ). i + x) (cut ∙ parting-here (getD a i 0) (getD b i 0) (drop (suc i) a) (drop (suc i) b) e) ∙ add-zero i), omega arith)
 
   pub agree-end : {i : ℕ} → length a ≤ i → Agree a b i → (i ≡ parting a b) × (i ≤ length a)
-  agree-end {i} h k =
-      (sym (k .rest ∙ ap (λ (x : List ℕ). i + parting x (drop i b)) (drop-of-length-le a {i = i} h) ∙ ap (λ (x : ℕ). i + x) (parting-nothing (drop i b)) ∙ add-zero i), k .low)
+  agree-end {i} h k = (
+    sym (k .rest ∙ ap (λ (x : List ℕ). i + parting x (drop i b)) (drop-of-length-le a {i = i} h) ∙ ap (λ (x : ℕ). i + x) (parting-nothing (drop i b)) ∙
+        add-zero i),
+    k .low,
+  )
 
 -- bytes of a file in one granule, as a part of the image that is lent on
 module _ (g : Geometry) (d : List ℕ) (s : ℕ) (w : Whole g d) (st : Starts g d s) where
@@ -100,7 +103,11 @@ module _ (g : Geometry) (d : List ℕ) (h : Geometry) (e : List ℕ) (s t n m en
   pub matches-start : Matches 0
   matches-start =
       let x : n ≡ n - 0 = omega arith in let y : m ≡ m - 0 = omega arith in
-      record { low = omega arith; rest = sym (zero-add (parting (fetch g d s 0 n) (fetch h e t 0 m))) ∙ (λ u. 0 + parting (fetch g d s 0 (x u)) (fetch h e t 0 (y u))) }
+      record {
+        low = omega arith;
+        rest = sym (zero-add (parting (fetch g d s 0 n) (fetch h e t 0 m))) ∙
+            (λ u. 0 + parting (fetch g d s 0 (x u)) (fetch h e t 0 (y u)));
+      }
 
   module _ (i len : ℕ) (f : end ≤ n) (k : end ≤ m) (l : i + len ≤ end) {a b : List ℕ} (p : a ≡ fetch g d s i len) (q : b ≡ fetch h e t i len) where
     sized : length a ≡ len
@@ -109,7 +116,8 @@ module _ (g : Geometry) (d : List ℕ) (h : Geometry) (e : List ℕ) (s t n m en
     sized′ : length b ≡ len
     sized′ = ap length q ∙ length-fetch h e t i len
 
-    cut-off : parting (fetch g d s i (n - i)) (fetch h e t i (m - i)) ≡ parting (a ++ fetch g d s (i + len) (n - (i + len))) (b ++ fetch h e t (i + len) (m - (i + len)))
+    cut-off : parting (fetch g d s i (n - i)) (fetch h e t i (m - i)) ≡ parting (a ++ fetch g d s (i + len) (n - (i + len)))
+        (b ++ fetch h e t (i + len) (m - (i + len)))
     cut-off =
         let x : n - i ≡ len + (n - (i + len)) = omega arith in let y : m - i ≡ len + (m - (i + len)) = omega arith in
         let u : fetch g d s i (n - i) ≡ a ++ fetch g d s (i + len) (n - (i + len))
@@ -120,19 +128,22 @@ module _ (g : Geometry) (d : List ℕ) (h : Geometry) (e : List ℕ) (s t n m en
 
     pub matches-on : {c : ℕ} → c ≡ parting a b → c ≡ len → Matches i → Matches (i + len)
     matches-on r z k′ =
-        let y : i + (length a + parting (fetch g d s (i + len) (n - (i + len))) (fetch h e t (i + len) (m - (i + len)))) ≡ i + len + parting (fetch g d s (i + len) (n - (i + len))) (fetch h e t (i + len) (m - (i + len)))
+        let y : i + (length a + parting (fetch g d s (i + len) (n - (i + len))) (fetch h e t (i + len) (m - (i + len)))) ≡ i + len + parting
+        (fetch g d s (i + len) (n - (i + len))) (fetch h e t (i + len) (m - (i + len)))
         = let v = sized in omega arith in
         record {
           low = l;
           rest = k′ .rest
-              ∙ ap (λ (x : ℕ). i + x) (cut-off ∙ parting-past a b (fetch g d s (i + len) (n - (i + len))) (fetch h e t (i + len) (m - (i + len))) (sized ∙ sym sized′) (sym r ∙ z ∙ sym sized))
+              ∙ ap (λ (x : ℕ). i + x) (cut-off ∙ parting-past a b (fetch g d s (i + len) (n - (i + len))) (fetch h e t (i + len) (m - (i + len)))
+              (sized ∙ sym sized′) (sym r ∙ z ∙ sym sized))
               ∙ y;
         }
 
     pub matches-stop : {c : ℕ} → c ≡ parting a b → (c ≡ len → ⊥) → Matches i → i + c ≡ parting (fetch g d s 0 n) (fetch h e t 0 m)
     matches-stop r z k′ =
         ap (λ (x : ℕ). i + x) r
-        ∙ sym (k′ .rest ∙ ap (λ (x : ℕ). i + x) (cut-off ∙ parting-in a b (fetch g d s (i + len) (n - (i + len))) (fetch h e t (i + len) (m - (i + len))) (sized ∙ sym sized′) (λ y. z (r ∙ y ∙ sized))))
+        ∙ sym (k′ .rest ∙ ap (λ (x : ℕ). i + x) (cut-off ∙ parting-in a b (fetch g d s (i + len) (n - (i + len))) (fetch h e t (i + len) (m - (i + len)))
+        (sized ∙ sym sized′) (λ y. z (r ∙ y ∙ sized))))
 
   pub matches-end : {i : ℕ} → end ≤ n → end ≤ m → (end < n → end ≡ m) → end ≤ i → Matches i → i ≡ parting (fetch g d s 0 n) (fetch h e t 0 m)
   unfolding fetch
@@ -140,4 +151,5 @@ module _ (g : Geometry) (d : List ℕ) (h : Geometry) (e : List ℕ) (s t n m en
       let l = z .low in
       sym (z .rest ∙ ap (λ (u : ℕ). i + u) (⊎-elim
       (λ u. let v : n - i ≡ 0 = omega arith in ap (λ (a : ℕ). parting (fetch g d s i a) (fetch h e t i (m - i))) v ∙ parting-nothing (fetch h e t i (m - i)))
-      (λ u. let o = x u in let v : m - i ≡ 0 = omega arith in ap (λ (a : ℕ). parting (fetch g d s i (n - i)) (fetch h e t i a)) v ∙ parting-none (fetch g d s i (n - i))) (le-or-lt n end)) ∙ add-zero i)
+      (λ u. let o = x u in let v : m - i ≡ 0 = omega arith in ap (λ (a : ℕ). parting (fetch g d s i (n - i)) (fetch h e t i a)) v ∙ parting-none
+      (fetch g d s i (n - i))) (le-or-lt n end)) ∙ add-zero i)

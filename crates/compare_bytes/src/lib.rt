@@ -52,7 +52,8 @@ pub fn parting_at(
     n: usize,
     m: usize,
 ) -> usize
-    requires { ⌜ Whole g (now first) × Whole h (now second) × Starts g (now first) s × Starts h (now second) t × (n ≡ sizeOf g (now first) s) × (m ≡ sizeOf h (now second) t) × (n < 16777216) × (m < 16777216) ⌝ }
+    requires { ⌜ Whole g (now first) × Whole h (now second) × Starts g (now first) s × Starts h (now second) t × (n ≡ sizeOf g (now first) s)
+        × (m ≡ sizeOf h (now second) t) × (n < 16777216) × (m < 16777216) ⌝ }
     ensures { λ r. ⌜ r ≡ parting (fetch g (now (first .entry)) s 0 n) (fetch h (now (second .entry)) t 0 m) ⌝ }
 {
     let end = least(n, m);

@@ -41,7 +41,8 @@ module _ (g : Geometry) (d : List ℕ) (last : List ℕ) where
     unfolding betters
     betters-none h k e = sym (all-yes h _ ∙ all-yes k _ ∙ all-one _ ∙ any-hit (eq-eqb best 256 e) _)
 
-    pub betters-than : {r : Bool} → inUsePrimary g d s ≡ true → before last (nameOf g d s) ≡ true → (best ≡ 256 → ⊥) → r ≡ before (nameOf g d s) (nameOf g d best) → r ≡ betters g d last best s
+    pub betters-than : {r : Bool} → inUsePrimary g d s ≡ true → before last (nameOf g d s) ≡ true → (best ≡ 256 → ⊥) → r ≡ before (nameOf g d s)
+        (nameOf g d best) → r ≡ betters g d last best s
     unfolding betters
     betters-than h k e f = f ∙ sym (all-yes h _ ∙ all-yes k _ ∙ all-one _ ∙ any-skip (ne-eqb best 256 e) _ ∙ any-one _)
 
@@ -53,7 +54,8 @@ module _ (g : Geometry) (d : List ℕ) (last : List ℕ) where
         by false k = k
         by true k = never (betters-none h k e ∙ b)
 
-    no-less : betters g d last best s ≡ false → inUsePrimary g d s ≡ true → before last (nameOf g d s) ≡ true → (best ≡ 256 → ⊥) → before (nameOf g d s) (nameOf g d best) ≡ false
+    no-less : betters g d last best s ≡ false → inUsePrimary g d s ≡ true → before last (nameOf g d s) ≡ true → (best ≡ 256 → ⊥) → before (nameOf g d s)
+        (nameOf g d best) ≡ false
     no-less b h k e = betters-than h k e refl ∙ b
 
     yes-first : betters g d last best s ≡ true → inUsePrimary g d s ≡ true
@@ -97,14 +99,16 @@ module _ (g : Geometry) (d : List ℕ) (last : List ℕ) where
     least-no b =
         record {
           low = k .low;
-          none = λ e p l st. ⊎-elim (λ q. let z : s ≡ p = omega arith in subst (λ (x : ℕ). before last (nameOf g d x) ≡ false) z (no-after best s b (subst (λ (x : ℕ). inUsePrimary g d x ≡ true) (sym z) (st .first′)) e)) (λ q. k .none e p q st) (le-or-lt s p);
+          none = λ e p l st. ⊎-elim (λ q. let z : s ≡ p = omega arith in subst (λ (x : ℕ). before last (nameOf g d x) ≡ false) z
+              (no-after best s b (subst (λ (x : ℕ). inUsePrimary g d x ≡ true) (sym z) (st .first′)) e)) (λ q. k .none e p q st) (le-or-lt s p);
           is = k .is;
           after = k .after;
           least = λ e p l st a.
               ⊎-elim
               (λ q. let z : s ≡ p = omega arith in
               subst (λ (x : ℕ). before (nameOf g d x) (nameOf g d best) ≡ false) z
-              (no-less best s b (subst (λ (x : ℕ). inUsePrimary g d x ≡ true) (sym z) (st .first′)) (subst (λ (x : ℕ). before last (nameOf g d x) ≡ true) (sym z) a) (λ w. let v : ⊥ = omega arith in v)))
+              (no-less best s b (subst (λ (x : ℕ). inUsePrimary g d x ≡ true) (sym z) (st .first′))
+              (subst (λ (x : ℕ). before last (nameOf g d x) ≡ true) (sym z) a) (λ w. let v : ⊥ = omega arith in v)))
               (λ q. k .least e p q st a) (le-or-lt s p);
         }
 
@@ -124,10 +128,18 @@ module _ (g : Geometry) (d : List ℕ) (last : List ℕ) where
         below p q st a (yes e) = never (sym a ∙ k .none e p q st)
         below p q st a (no e) =
             let w = k .low in
-            before-not (nameOf g d p) (nameOf g d best) (nameOf g d s) (k .least (omega arith) p q st a) (before-back (nameOf g d s) (nameOf g d best) (yes-less best s b e))
+            before-not (nameOf g d p) (nameOf g d best) (nameOf g d s) (k .least (omega arith) p q st a)
+            (before-back (nameOf g d s) (nameOf g d best) (yes-less best s b e))
 
   pub least-end : {s best : ℕ} → 256 ≤ s → Least g d last s best → Least g d last 256 best
-  least-end {s} h k = record { low = k .low; none = λ e p l. k .none e p (omega arith); is = k .is; after = k .after; least = λ e p l. k .least e p (omega arith) }
+  least-end {s} h k = record {
+    low = k .low;
+    none = λ e p l. k .none e p (omega arith);
+    is = k .is;
+    after = k .after;
+    least = λ e p l. k .least e p
+        (omega arith);
+  }
 
   pub least-same : {s best best′ : ℕ} → best′ ≡ best → Least g d last s best → Least g d last s best′
   least-same e k = rw e k

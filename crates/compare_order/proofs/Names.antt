@@ -24,7 +24,8 @@ pub record Alike (a : List ℕ) (p : ℕ) (b : List ℕ) (q i : ℕ) : Type 0 wh
 module _ (a : List ℕ) (p : ℕ) (b : List ℕ) (q : ℕ) where
   step : (m i : ℕ) → p + i < length a → q + i < length b
       → before (take (suc m) (drop (p + i) a)) (take (suc m) (drop (q + i) b))
-      ≡ cond (eqb (getD a (p + i) 0) (getD b (q + i) 0)) (before (take m (drop (p + (i + 1)) a)) (take m (drop (q + (i + 1)) b))) (ltb (getD a (p + i) 0) (getD b (q + i) 0))
+      ≡ cond (eqb (getD a (p + i) 0) (getD b (q + i) 0)) (before (take m (drop (p + (i + 1)) a)) (take m (drop (q + (i + 1)) b)))
+      (ltb (getD a (p + i) 0) (getD b (q + i) 0))
   unfolding before
   step m i h k =
       let e : suc (p + i) ≡ p + (i + 1) = omega arith in
@@ -36,7 +37,8 @@ module _ (a : List ℕ) (p : ℕ) (b : List ℕ) (q : ℕ) where
 
   module _ {i : ℕ} (l : i < 11) (h : p + 11 ≤ length a) (k : q + 11 ≤ length b) (s : Alike a p b q i) where
     here : before (take 11 (drop p a)) (take 11 (drop q b))
-        ≡ cond (eqb (getD a (p + i) 0) (getD b (q + i) 0)) (before (take (11 - (i + 1)) (drop (p + (i + 1)) a)) (take (11 - (i + 1)) (drop (q + (i + 1)) b))) (ltb (getD a (p + i) 0) (getD b (q + i) 0))
+        ≡ cond (eqb (getD a (p + i) 0) (getD b (q + i) 0)) (before (take (11 - (i + 1)) (drop (p + (i + 1)) a)) (take (11 - (i + 1)) (drop (q + (i + 1)) b)))
+        (ltb (getD a (p + i) 0) (getD b (q + i) 0))
     here =
         s .rest ∙ ap (λ (m : ℕ). before (take m (drop (p + i) a)) (take m (drop (q + i) b))) (left-more l)
         ∙ step (11 - (i + 1)) i (omega arith) (omega arith)
@@ -45,12 +47,14 @@ module _ (a : List ℕ) (p : ℕ) (b : List ℕ) (q : ℕ) where
     alike-on e =
         record {
           low = omega arith;
-          rest = here ∙ ap (λ (t : Bool). cond t (before (take (11 - (i + 1)) (drop (p + (i + 1)) a)) (take (11 - (i + 1)) (drop (q + (i + 1)) b))) (ltb (getD a (p + i) 0) (getD b (q + i) 0))) (eq-eqb _ _ e);
+          rest = here ∙ ap (λ (t : Bool). cond t (before (take (11 - (i + 1)) (drop (p + (i + 1)) a)) (take (11 - (i + 1)) (drop (q + (i + 1)) b)))
+              (ltb (getD a (p + i) 0) (getD b (q + i) 0))) (eq-eqb _ _ e);
         }
 
     pub alike-stop : (getD a (p + i) 0 ≡ getD b (q + i) 0 → ⊥) → ltb (getD a (p + i) 0) (getD b (q + i) 0) ≡ before (take 11 (drop p a)) (take 11 (drop q b))
     alike-stop e =
-        sym (here ∙ ap (λ (t : Bool). cond t (before (take (11 - (i + 1)) (drop (p + (i + 1)) a)) (take (11 - (i + 1)) (drop (q + (i + 1)) b))) (ltb (getD a (p + i) 0) (getD b (q + i) 0))) (ne-eqb _ _ e))
+        sym (here ∙ ap (λ (t : Bool). cond t (before (take (11 - (i + 1)) (drop (p + (i + 1)) a)) (take (11 - (i + 1)) (drop (q + (i + 1)) b)))
+        (ltb (getD a (p + i) 0) (getD b (q + i) 0))) (ne-eqb _ _ e))
 
   pub alike-end : {i : ℕ} → 11 ≤ i → Alike a p b q i → false ≡ before (take 11 (drop p a)) (take 11 (drop q b))
   unfolding before

@@ -15,7 +15,8 @@ use Rattle.laws.specs.Facts as facts
 use Rattle.laws.specs.Named as named
 use Rattle.layout.proofs.HasRoom.{slot-of, slot-yes}
 use Rattle.differences.specs.Compare.{before, names, merged}
-use Rattle.differences.specs.Order.{In, never, before-self, before-back, before-neither, in-left, in-right, in-either, in-map, map-in, Rises, rising-rises, rising-in, in-rising, keep-none, next-name}
+use Rattle.differences.specs.Order.{In, never, before-self, before-back, before-neither, in-left, in-right, in-either, in-map, map-in, Rises, rising-rises}
+use Rattle.differences.specs.Order.{rising-in, in-rising, keep-none, next-name}
 use Rattle.compare_order.specs.Whole.{Whole, Starts}
 use Rattle.compare_order.specs.Walk.{Least, later, nameAt, onFirst, onSecond, Next}
 use Rattle.compare_order.proofs.Lowest.{before-not}
@@ -43,7 +44,8 @@ module _ (g : Geometry) (d : List ℕ) where
 
   module _ (last : List ℕ) {s : ℕ} (k : Least g d last 256 s) where
     -- no name after `last` comes before n
-    beyond : (n : List ℕ) → (s < 256 → before (nameOf g d s) n ≡ false) → (p : ℕ) → Starts g d p → before last (nameOf g d p) ≡ true → before (nameOf g d p) n ≡ false
+    beyond : (n : List ℕ) → (s < 256 → before (nameOf g d s) n ≡ false) → (p : ℕ) → Starts g d p → before last (nameOf g d p) ≡ true → before (nameOf g d p) n
+        ≡ false
     beyond n f p st a = by (ℕ-discrete s 256)
       where
         by : Dec (s ≡ 256) → before (nameOf g d p) n ≡ false
@@ -59,7 +61,8 @@ module _ (g : Geometry) (d : List ℕ) where
 
         by : Dec (s ≡ 256) → ⊥
         by (yes e) = never (sym a′ ∙ k .none e p (st .slot .low) st)
-        by (no e) = let w = k .low in let l : s < 256 = omega arith in never (sym (f l) ∙ subst (λ (z : List ℕ). before z (nameOf g d s) ≡ false) q (k .least l p (st .slot .low) st a′))
+        by (no e) = let w = k .low in let l : s < 256 = omega arith in
+            never (sym (f l) ∙ subst (λ (z : List ℕ). before z (nameOf g d s) ≡ false) q (k .least l p (st .slot .low) st a′))
 
 module _ (g : Geometry) (d : List ℕ) (h : Geometry) (e : List ℕ) where
   in-first : (p : ℕ) → Starts g d p → In (nameOf g d p) (merged g d h e)
@@ -79,14 +82,17 @@ module _ (g : Geometry) (d : List ℕ) (h : Geometry) (e : List ℕ) where
   rises = rising-rises (names g d ++ names h e)
 
   module _ (w : Whole g d) (v : Whole h e) (last : List ℕ) {s t : ℕ} (a : Least g d last 256 s) (b : Least h e last 256 t) where
-    goes-on : (n : List ℕ) → In n (merged g d h e) → before last n ≡ true → (s < 256 → before (nameOf g d s) n ≡ false) → (t < 256 → before (nameOf h e t) n ≡ false)
+    goes-on : (n : List ℕ) → In n (merged g d h e) → before last n ≡ true → (s < 256 → before (nameOf g d s) n ≡ false) →
+        (t < 256 → before (nameOf h e t) n ≡ false)
         → later g d h e last ≡ n ∷ later g d h e n
     unfolding later
     goes-on n i l f k =
         next-name last n rises i l (λ x j m.
         ⊎-elim
-        (λ q. subst (λ (z : List ℕ). before z n ≡ false) (q .2) (beyond g d last a n f (q .0) (q .1) (subst (λ (z : List ℕ). before last z ≡ true) (sym (q .2)) m)))
-        (λ q. subst (λ (z : List ℕ). before z n ≡ false) (q .2) (beyond h e last b n k (q .0) (q .1) (subst (λ (z : List ℕ). before last z ≡ true) (sym (q .2)) m)))
+        (λ q. subst (λ (z : List ℕ). before z n ≡ false) (q .2)
+        (beyond g d last a n f (q .0) (q .1) (subst (λ (z : List ℕ). before last z ≡ true) (sym (q .2)) m)))
+        (λ q. subst (λ (z : List ℕ). before z n ≡ false) (q .2)
+        (beyond h e last b n k (q .0) (q .1) (subst (λ (z : List ℕ). before last z ≡ true) (sym (q .2)) m)))
         (merged-in j))
 
     pub none-left : s ≡ 256 → t ≡ 256 → Next g d h e last (record { kind = 0; first = s; second = t })

@@ -83,7 +83,8 @@ module _ (g : Geometry) (d : List ℕ) where
     where
       by : (l : List ℕ) → ((y : ℕ) → In y l → Slot g d y) → x ≡ firstOr 256 l → (x ≡ firstOr 0 l) × (eqb (length l) 0 ≡ false) × Slot g d x
       by [] m q = absurd (z (q ∙ first-empty 256))
-      by (y ∷ ys) m q = let v : x ≡ y = q ∙ first-is 256 y ys in (v ∙ sym (first-is 0 y ys), ne-eqb (suc (length ys)) 0 (λ q. omega arith), rw v (m y Members.In.here))
+      by (y ∷ ys) m q = let v : x ≡ y = q ∙ first-is 256 y ys in
+          (v ∙ sym (first-is 0 y ys), ne-eqb (suc (length ys)) 0 (λ q. omega arith), rw v (m y Members.In.here))
 
 -- the answers, of the name n that came in: the file is that of its fold
 module _ (g : Geometry) (d n : List ℕ) (f : NewFile) (checking : Bool) where
@@ -98,13 +99,16 @@ module _ (g : Geometry) (d n : List ℕ) (f : NewFile) (checking : Bool) where
   there : {s : ℕ} → named g d (fold n) ≡ s ∷ [] → missing g d (fold n) ≡ false
   there e = ap (λ (l : List ℕ). eqb (length l) 0) e
 
-  pub opened : {s : ℕ} {h : Handle} {c : Refusal} → c ≡ nameRefusal g d n 0 → first (createRefusals g d n f checking) ≡ 0 → named g d (fold n) ≡ s ∷ [] → h ≡ openedAt g d s (fold n) (f .len) checking (f .main)
+  pub opened : {s : ℕ} {h : Handle} {c : Refusal} → c ≡ nameRefusal g d n 0 → first (createRefusals g d n f checking) ≡ 0 → named g d (fold n) ≡ s ∷ [] → h ≡
+      openedAt g d s (fold n) (f .len) checking (f .main)
       → _≡_ {A = Created × List ℕ} (record { refusal = c; old = true; handle = h }, d) (create g d n f checking)
   unfolding create
   opened {s} y e m q = rw (e, there m, q, slot-found g d (fold n) (f .len) checking (f .main) m, y)
 
-  pub made : {x : ℕ} {m d′ : List ℕ} {c : Refusal} → c ≡ nameRefusal g d n 0 → first (createRefusals g d n f checking) ≡ 0 → named g d (fold n) ≡ [] → x ≡ newSlot g d → m ≡ fold n → d′ ≡ withEntry g d x (fold n) f
-      → _≡_ {A = Created × List ℕ} (record { refusal = c; old = false; handle = record { slot = x; name = m; at = 0; len = f .len; level = 0 } }, d′) (create g d n f checking)
+  pub made : {x : ℕ} {m d′ : List ℕ} {c : Refusal} → c ≡ nameRefusal g d n 0 → first (createRefusals g d n f checking) ≡ 0 → named g d (fold n) ≡ [] → x ≡
+      newSlot g d → m ≡ fold n → d′ ≡ withEntry g d x (fold n) f
+      → _≡_ {A = Created × List ℕ} (record { refusal = c; old = false; handle = record { slot = x; name = m; at = 0; len = f .len; level = 0 } }, d′)
+      (create g d n f checking)
   unfolding create
   made y e m q v w = rw (w, v, q, e, absent m, y)
 
@@ -115,7 +119,8 @@ module _ (g : Geometry) (d n : List ℕ) (f : NewFile) (checking : Bool) where
   pub by-range : {c : Refusal} → c ≡ check g d → c .number ≡ 0 → newInRange f ≡ false → 12 ≡ first (createRefusals g d n f checking)
   by-range e z r = sym (check-then g d _ e z ∙ first-hit (not-no r) 12 _)
 
-  pub by-name : {c : Refusal} → c ≡ check g d → c .number ≡ 0 → newInRange f ≡ true → wellFormed (fold n) ≡ false → 3 ≡ first (createRefusals g d n f checking)
+  pub by-name : {c : Refusal} → c ≡ check g d → c .number ≡ 0 → newInRange f ≡ true → wellFormed (fold n) ≡ false → 3 ≡ first
+      (createRefusals g d n f checking)
   by-name e z r w = sym (check-then g d _ e z ∙ first-skip (not-yes r) 12 _ ∙ first-hit (not-no w) 3 _)
 
   abbrev code : Bool
@@ -124,26 +129,34 @@ module _ (g : Geometry) (d n : List ℕ) (f : NewFile) (checking : Bool) where
   abbrev full : Bool
   full = all (missing g d (fold n) ∷ eqb (length (freeSlots g d)) 0 ∷ [])
 
-  named-first : {c : Refusal} → c ≡ check g d → c .number ≡ 0 → newInRange f ≡ true → wellFormed (fold n) ≡ true → first (createRefusals g d n f checking) ≡ first ((5, code) ∷ (8, full) ∷ [])
+  named-first : {c : Refusal} → c ≡ check g d → c .number ≡ 0 → newInRange f ≡ true → wellFormed (fold n) ≡ true → first (createRefusals g d n f checking) ≡
+      first ((5, code) ∷ (8, full) ∷ [])
   named-first e z r w = check-then g d _ e z ∙ first-skip (not-yes r) 12 _ ∙ first-skip (not-yes w) 3 _
 
   -- where the file is there: 5, or it is opened
-  pub by-code : {c : Refusal} {s : ℕ} → c ≡ check g d → c .number ≡ 0 → newInRange f ≡ true → wellFormed (fold n) ≡ true → named g d (fold n) ≡ s ∷ [] → admits g d s checking (f .main) ≡ false
+  pub by-code : {c : Refusal} {s : ℕ} → c ≡ check g d → c .number ≡ 0 → newInRange f ≡ true → wellFormed (fold n) ≡ true → named g d (fold n) ≡ s ∷ [] →
+      admits g d s checking (f .main) ≡ false
       → 5 ≡ first (createRefusals g d n f checking)
   by-code e z r w m a =
-      sym (named-first e z r w ∙ first-hit (all-yes (not-no (there m)) _ ∙ all-yes (not-no (ap (λ (s : ℕ). admits g d s checking (f .main)) (slot-found g d (fold n) (f .len) checking (f .main) m) ∙ a)) _ ∙ all-none) 5 _)
+      sym (named-first e z r w ∙ first-hit (all-yes (not-no (there m)) _ ∙ all-yes
+      (not-no (ap (λ (s : ℕ). admits g d s checking (f .main)) (slot-found g d (fold n) (f .len) checking (f .main) m) ∙ a)) _ ∙ all-none) 5 _)
 
-  pub is-old : {c : Refusal} {s : ℕ} → c ≡ check g d → c .number ≡ 0 → newInRange f ≡ true → wellFormed (fold n) ≡ true → named g d (fold n) ≡ s ∷ [] → admits g d s checking (f .main) ≡ true
+  pub is-old : {c : Refusal} {s : ℕ} → c ≡ check g d → c .number ≡ 0 → newInRange f ≡ true → wellFormed (fold n) ≡ true → named g d (fold n) ≡ s ∷ [] → admits
+      g d s checking (f .main) ≡ true
       → first (createRefusals g d n f checking) ≡ 0
   is-old e z r w m a =
-      named-first e z r w ∙ first-skip (all-yes (not-no (there m)) _ ∙ all-no (not-yes (ap (λ (s : ℕ). admits g d s checking (f .main)) (slot-found g d (fold n) (f .len) checking (f .main) m) ∙ a)) _) 5 _
+      named-first e z r w ∙ first-skip (all-yes (not-no (there m)) _ ∙ all-no
+      (not-yes (ap (λ (s : ℕ). admits g d s checking (f .main)) (slot-found g d (fold n) (f .len) checking (f .main) m) ∙ a)) _) 5 _
       ∙ first-skip (all-no (there m) _) 8 _ ∙ first-none
 
   -- where it is not: 8, or it is made
-  pub by-slot : {c : Refusal} → c ≡ check g d → c .number ≡ 0 → newInRange f ≡ true → wellFormed (fold n) ≡ true → named g d (fold n) ≡ [] → eqb (length (freeSlots g d)) 0 ≡ true
+  pub by-slot : {c : Refusal} → c ≡ check g d → c .number ≡ 0 → newInRange f ≡ true → wellFormed (fold n) ≡ true → named g d (fold n) ≡ [] → eqb
+      (length (freeSlots g d)) 0 ≡ true
       → 8 ≡ first (createRefusals g d n f checking)
-  by-slot e z r w m a = sym (named-first e z r w ∙ first-skip (all-no (not-yes (absent m)) _) 5 _ ∙ first-hit (all-yes (absent m) _ ∙ all-yes a _ ∙ all-none) 8 _)
+  by-slot e z r w m a = sym (named-first e z r w ∙ first-skip (all-no (not-yes (absent m)) _) 5 _ ∙ first-hit (all-yes (absent m) _ ∙ all-yes a _ ∙ all-none)
+      8 _)
 
-  pub is-new : {c : Refusal} → c ≡ check g d → c .number ≡ 0 → newInRange f ≡ true → wellFormed (fold n) ≡ true → named g d (fold n) ≡ [] → eqb (length (freeSlots g d)) 0 ≡ false
+  pub is-new : {c : Refusal} → c ≡ check g d → c .number ≡ 0 → newInRange f ≡ true → wellFormed (fold n) ≡ true → named g d (fold n) ≡ [] → eqb
+      (length (freeSlots g d)) 0 ≡ false
       → first (createRefusals g d n f checking) ≡ 0
   is-new e z r w m a = named-first e z r w ∙ first-skip (all-no (not-yes (absent m)) _) 5 _ ∙ first-skip (all-yes (absent m) _ ∙ all-no a _) 8 _ ∙ first-none

@@ -171,7 +171,8 @@ put-in n (m ∷ ms) {x} i = by (λ j. put-in n ms j) (same n m) refl (before n m
     by : (In x (put n ms) → (x ≡ n) ⊎ In x ms) → (a : Bool) → same n m ≡ a → (b : Bool) → before n m ≡ b → (x ≡ n) ⊎ In x (m ∷ ms)
     by ih true e b f = inr (subst (λ (l : List (List ℕ)). In x l) (put-same n m ms e) i)
     by ih false e true f = in-or (subst (λ (l : List (List ℕ)). In x l) (put-first n m ms e f) i)
-    by ih false e false f = ⊎-elim (λ q. inr (in-here ms q)) (λ j. ⊎-elim (λ q. inl q) (λ k. inr (there k)) (ih j)) (in-or (subst (λ (l : List (List ℕ)). In x l) (put-on n m ms e f) i))
+    by ih false e false f = ⊎-elim (λ q. inr (in-here ms q)) (λ j. ⊎-elim (λ q. inl q) (λ k. inr (there k)) (ih j))
+        (in-or (subst (λ (l : List (List ℕ)). In x l) (put-on n m ms e f) i))
 
 pub in-put : (n : List ℕ) (ms : List (List ℕ)) → In n (put n ms)
 in-put n [] = subst (λ (l : List (List ℕ)). In n l) (sym (put-none n)) here
@@ -198,9 +199,11 @@ put-rises n (next {n = m} {ns = ms} h r) = by (put-rises n r) (same n m) refl (b
     by : Rises (put n ms) → (a : Bool) → same n m ≡ a → (b : Bool) → before n m ≡ b → Rises (put n (m ∷ ms))
     by ih true e b f = subst Rises (sym (put-same n m ms e)) (next h r)
     by ih false e true f =
-        subst Rises (sym (put-first n m ms e f)) (next (λ x i. ⊎-elim (λ q. subst (λ (z : List ℕ). before n z ≡ true) (sym q) f) (λ j. before-on n m x f (h x j)) (in-or i)) (next h r))
+        subst Rises (sym (put-first n m ms e f)) (next (λ x i. ⊎-elim (λ q. subst (λ (z : List ℕ). before n z ≡ true) (sym q) f)
+        (λ j. before-on n m x f (h x j)) (in-or i)) (next h r))
     by ih false e false f =
-        subst Rises (sym (put-on n m ms e f)) (next (λ x i. ⊎-elim (λ q. subst (λ (z : List ℕ). before m z ≡ true) (sym q) (later (before m n) refl)) (λ j. h x j) (put-in n ms i)) ih)
+        subst Rises (sym (put-on n m ms e f)) (next (λ x i. ⊎-elim (λ q. subst (λ (z : List ℕ). before m z ≡ true) (sym q) (later (before m n) refl))
+        (λ j. h x j) (put-in n ms i)) ih)
       where
         later : (t : Bool) → before m n ≡ t → before m n ≡ true
         later true g = g
@@ -263,7 +266,9 @@ next-name last m (next {n = n} {ns = ns} f r) i l h = by (λ j k. next-name last
     by ih true e (inl q) =
         keep-yes (before last) e ns ∙ ap (λ (l : List (List ℕ)). n ∷ l) (keep-whole (before last) ns (λ x j. before-on last n x e (f x j)))
         ∙ (λ k. sym q k ∷ ns)
-        ∙ ap (λ (l : List (List ℕ)). m ∷ l) (sym (keep-no (before m) (subst (λ (z : List ℕ). before m z ≡ false) q (before-self m)) ns ∙ keep-whole (before m) ns (λ x j. subst (λ (z : List ℕ). before z x ≡ true) (sym q) (f x j))))
+        ∙ ap (λ (l : List (List ℕ)). m ∷ l)
+        (sym (keep-no (before m) (subst (λ (z : List ℕ). before m z ≡ false) q (before-self m)) ns ∙ keep-whole (before m) ns
+        (λ x j. subst (λ (z : List ℕ). before z x ≡ true) (sym q) (f x j))))
     by ih true e (inr j) = never (sym (f m j) ∙ h n here e)
     by ih false e (inl q) = never (sym l ∙ subst (λ (z : List ℕ). before last z ≡ false) (sym q) e)
     by ih false e (inr j) =

@@ -74,7 +74,8 @@ module _ (a b xs ys : List ℕ) where
       go (x ∷ a) [] l h = absurd (let q : ⊥ = omega arith in q)
       go (x ∷ a) (y ∷ b) l h = by (λ p q. go a b p q) (look x y)
         where
-          by : (length a ≡ length b → parting a b ≡ length a → parting (a ++ xs) (b ++ ys) ≡ length a + parting xs ys) → Alike x y → parting (x ∷ (a ++ xs)) (y ∷ (b ++ ys)) ≡ suc (length a) + parting xs ys
+          by : (length a ≡ length b → parting a b ≡ length a → parting (a ++ xs) (b ++ ys) ≡ length a + parting xs ys) → Alike x y → parting (x ∷ (a ++ xs))
+              (y ∷ (b ++ ys)) ≡ suc (length a) + parting xs ys
           by ih (yes′ e) =
               let k : parting a b ≡ length a = let z : suc (parting a b) ≡ suc (length a) = sym (parting-on x y a b e) ∙ h in omega arith in
               let z : suc (length a + parting xs ys) ≡ suc (length a) + parting xs ys = omega arith in
@@ -89,7 +90,8 @@ module _ (a b xs ys : List ℕ) where
       go (x ∷ a) [] l h = absurd (let q : ⊥ = omega arith in q)
       go (x ∷ a) (y ∷ b) l h = by (λ p q. go a b p q) (look x y)
         where
-          by : (length a ≡ length b → (parting a b ≡ length a → ⊥) → parting (a ++ xs) (b ++ ys) ≡ parting a b) → Alike x y → parting (x ∷ (a ++ xs)) (y ∷ (b ++ ys)) ≡ parting (x ∷ a) (y ∷ b)
+          by : (length a ≡ length b → (parting a b ≡ length a → ⊥) → parting (a ++ xs) (b ++ ys) ≡ parting a b) → Alike x y → parting (x ∷ (a ++ xs))
+              (y ∷ (b ++ ys)) ≡ parting (x ∷ a) (y ∷ b)
           by ih (yes′ e) =
               parting-on x y (a ++ xs) (b ++ ys) e ∙ ap suc (ih (omega arith) (λ q. h (parting-on x y a b e ∙ ap suc q))) ∙ sym (parting-on x y a b e)
           by ih (no′ e) = parting-here x y (a ++ xs) (b ++ ys) e ∙ sym (parting-here x y a b e)

@@ -7,7 +7,8 @@ use lib.ListN.{replicate}
 use Rattle.meaning.specs.Refusal.{unplaced, placed, naming}
 use Rattle.meaning_table.specs.Samples.{laid, puls, leer, three, hits, e80, e81, gaps, filled, opened}
 use Rattle.meaning.specs.declared.Geometry.{Geometry}
-use Rattle.differences.specs.Compare.{before, put, rising, parting, unlike, difference, isOne, tellFirst, names, merged, differences, compare, nameOnly, tellsNone}
+use Rattle.differences.specs.Compare.{before, put, rising, parting, unlike, difference, isOne, tellFirst, names, merged, differences, compare, nameOnly}
+use Rattle.differences.specs.Compare.{tellsNone}
 
 -- an entry: flags, date, end byte (the file is of one sector), name, and the pair of its granule
 abbrev entry : ℕ → ℕ → ℕ → List ℕ → ℕ → ℕ → List ℕ
@@ -115,7 +116,8 @@ unfolding seen
 only-a-system-file = refl
 
 -- by name, rising, not by slot; then "no more"
-by-name : (compare three pair three empty 0 ≡ nameOnly leer 1) × (compare three pair three empty 1 ≡ nameOnly puls 1) × (compare three pair three empty 2 ≡ tellsNone (unplaced 0))
+by-name : (compare three pair three empty 0 ≡ nameOnly leer 1) × (compare three pair three empty 1 ≡ nameOnly puls 1) ×
+    (compare three pair three empty 2 ≡ tellsNone (unplaced 0))
 unfolding seen
 by-name = (refl, refl, refl)
 
@@ -124,7 +126,8 @@ unfolding seen
 second-only = (refl, refl)
 
 -- Refusals name the image, the first's before the second's: 22, a HIT byte without an entry, and 1.
-refused : (compare three bad three bad 0 ≡ tellsNone (naming 1 (placed 22 0x80))) × (compare three abc three bad 0 ≡ tellsNone (naming 2 (placed 22 0x80))) × (compare three bad two abc 0 ≡ tellsNone (naming 1 (placed 22 0x80)))
+refused : (compare three bad three bad 0 ≡ tellsNone (naming 1 (placed 22 0x80))) × (compare three abc three bad 0 ≡ tellsNone (naming 2 (placed 22 0x80))) ×
+    (compare three bad two abc 0 ≡ tellsNone (naming 1 (placed 22 0x80)))
     × (compare three (0 ∷ []) three bad 0 ≡ tellsNone (naming 1 (unplaced 1))) × (compare three abc three (0 ∷ []) 0 ≡ tellsNone (naming 2 (unplaced 1)))
 unfolding seen
 refused = (refl, refl, refl, refl, refl)

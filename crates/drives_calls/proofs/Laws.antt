@@ -48,7 +48,8 @@ module _ (h : DriveHandle) (call : ℕ → Answer × List ℕ) (b : List ℕ) wh
   pub read-0 : {r : DriveAnswer} {a : Answer} {b′ : List ℕ} → h .drive ≡ 0 → r ≡ answered 0 a → _≡_ {A = Answer × List ℕ} (a, b′) (call 0)
       → _≡_ {A = DriveAnswer × List ℕ} (r, b′) reading
   read-0 {b′ = b′} z e q =
-      (λ i. (e i, b′)) ∙ ap (λ (x : Answer × List ℕ). (answered 0 (x .0), x .1)) q ∙ on-0 (h .drive) (λ n. (answered n (call n .0), call n .1)) (unheld h, b) z
+      (λ i. (e i, b′)) ∙ ap (λ (x : Answer × List ℕ). (answered 0 (x .0), x .1)) q ∙ on-0 (h .drive) (λ n. (answered n (call n .0), call n .1)) (unheld h, b)
+      z
 
   pub read-1 : {r : DriveAnswer} {a : Answer} {b′ : List ℕ} → (h .drive ≡ 0 → ⊥) → h .drive ≡ 1 → r ≡ answered 1 a
       → _≡_ {A = Answer × List ℕ} (a, b′) (call 1) → _≡_ {A = DriveAnswer × List ℕ} (r, b′) reading

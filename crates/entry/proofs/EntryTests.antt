@@ -34,12 +34,14 @@ module _ (g : Geometry) (d : List ℕ) (s : ℕ) where
   unfolding nameOf
   name-long r sl e = ap {B = ℕ} length (name-is r sl e)
 
-  pub name-bad : {n : ℕ} {f : Bool} → Room g d → Slot g d s → n ≡ 11 → f ≡ wellFormed (take n (drop (entryAt g s + 5) d)) → not f ≡ true → false ≡ nameHolds g d s
+  pub name-bad : {n : ℕ} {f : Bool} → Room g d → Slot g d s → n ≡ 11 → f ≡ wellFormed (take n (drop (entryAt g s + 5) d)) → not f ≡ true → false ≡ nameHolds g
+      d s
   unfolding nameHolds
   name-bad r sl e w t =
       sym (ap (λ (b : Bool). b && not (bit 5 (field g d s 0))) (ap wellFormed (sym (name-is r sl e)) ∙ is-no w t))
 
-  pub name-good : {n : ℕ} {f h : Bool} → Room g d → Slot g d s → n ≡ 11 → f ≡ wellFormed (take n (drop (entryAt g s + 5) d)) → not f ≡ false → h ≡ bit 5 (field g d s 0)
+  pub name-good : {n : ℕ} {f h : Bool} → Room g d → Slot g d s → n ≡ 11 → f ≡ wellFormed (take n (drop (entryAt g s + 5) d)) → not f ≡ false → h ≡ bit 5
+      (field g d s 0)
       → not h ≡ nameHolds g d s
   unfolding nameHolds
   name-good r sl e w t q =
@@ -49,6 +51,8 @@ module _ (g : Geometry) (d : List ℕ) (s : ℕ) where
   unfolding sizeHolds
   size-bad w t = sym (all-no (is-no w t) _)
 
-  pub size-good : {f : Bool} {k w n : ℕ} → f ≡ countHolds (sectorCount g d s) (endByte g d s) → not f ≡ false → k ≡ sizeOf g d s → w ≡ granuleBytes g → n ≡ length (owned g d s) → leb k (w * n) ≡ sizeHolds g d s
+  pub size-good : {f : Bool} {k w n : ℕ} → f ≡ countHolds (sectorCount g d s) (endByte g d s) → not f ≡ false → k ≡ sizeOf g d s → w ≡ granuleBytes g → n ≡
+      length (owned g d s) → leb k (w * n) ≡ sizeHolds g d s
   unfolding sizeHolds
-  size-good {f} {k} {w} {n} u t p v q = ap (λ (z : ℕ). leb k (z * n)) v ∙ ap (λ (z : ℕ). leb z (granuleBytes g * n)) p ∙ ap (λ (z : ℕ). leb (sizeOf g d s) (granuleBytes g * z)) q ∙ sym (all-yes (is-yes u t) _ ∙ all-one _)
+  size-good {f} {k} {w} {n} u t p v q = ap (λ (z : ℕ). leb k (z * n)) v ∙ ap (λ (z : ℕ). leb z (granuleBytes g * n)) p ∙ ap
+      (λ (z : ℕ). leb (sizeOf g d s) (granuleBytes g * z)) q ∙ sym (all-yes (is-yes u t) _ ∙ all-one _)

@@ -94,39 +94,41 @@ module _ (g : Geometry) (d : List ℕ) where
   abbrev pub later : ℕ → List ℕ
   later s = keep (isSlot g d) (count (s + 1) (256 - (s + 1)))
 
-  module _ (after : Refusal) (s n : ℕ) (i : lowest g d after (slots g d) ≡ lowest g d after (keep (isSlot g d) (count s (256 - s)))) (e : n ≡ faultIn g d s) where
-    here : s < 256 → isSlot g d s ≡ true → keep (isSlot g d) (count s (256 - s)) ≡ s ∷ (later s)
-    here h t = ap (keep (isSlot g d)) (count-more h) ∙ keep-yes (isSlot g d) t (count (s + 1) (256 - (s + 1)))
+  module _ (after : Refusal) (s n : ℕ) (i : lowest g d after (slots g d) ≡ lowest g d after (keep (isSlot g d) (count s (256 - s)))) (e : n ≡ faultIn g d s)
+    where
+      here : s < 256 → isSlot g d s ≡ true → keep (isSlot g d) (count s (256 - s)) ≡ s ∷ (later s)
+      here h t = ap (keep (isSlot g d)) (count-more h) ∙ keep-yes (isSlot g d) t (count (s + 1) (256 - (s + 1)))
 
-    gone : s < 256 → isSlot g d s ≡ false → keep (isSlot g d) (count s (256 - s)) ≡ (later s)
-    gone h t = ap (keep (isSlot g d)) (count-more h) ∙ keep-no (isSlot g d) t (count (s + 1) (256 - (s + 1)))
+      gone : s < 256 → isSlot g d s ≡ false → keep (isSlot g d) (count s (256 - s)) ≡ (later s)
+      gone h t = ap (keep (isSlot g d)) (count-more h) ∙ keep-no (isSlot g d) t (count (s + 1) (256 - (s + 1)))
 
-    lowest-more : lowest g d after (s ∷ (later s)) ≡ cond (eqb (faultAt g d s) 0) (lowest g d after (later s)) (placed (faultAt g d s) s)
-    unfolding lowest
-    lowest-more = refl
+      lowest-more : lowest g d after (s ∷ (later s)) ≡ cond (eqb (faultAt g d s) 0) (lowest g d after (later s)) (placed (faultAt g d s) s)
+      unfolding lowest
+      lowest-more = refl
 
-    pub slot-found : s < 256 → (n ≡ 0 → ⊥) → placed n s ≡ lowest g d after (slots g d)
-    slot-found h z = by (isSlot g d s) refl
-      where
-        by : (b : Bool) → isSlot g d s ≡ b → placed n s ≡ lowest g d after (slots g d)
-        by true t =
-            let q : n ≡ faultAt g d s = e ∙ sym (one-in s t) in
-            sym (i ∙ ap (lowest g d after) (here h t) ∙ lowest-more
-            ∙ ap {B = Refusal} (λ (b : Bool). cond b (lowest g d after (later s)) (placed (faultAt g d s) s)) (ne-eqb (faultAt g d s) 0 (λ w. z (q ∙ w)))
-            ∙ ap {B = Refusal} (λ (k : ℕ). placed k s) (sym q))
-        by false t = absurd (z (e ∙ sym (none-in s t)))
+      pub slot-found : s < 256 → (n ≡ 0 → ⊥) → placed n s ≡ lowest g d after (slots g d)
+      slot-found h z = by (isSlot g d s) refl
+        where
+          by : (b : Bool) → isSlot g d s ≡ b → placed n s ≡ lowest g d after (slots g d)
+          by true t =
+              let q : n ≡ faultAt g d s = e ∙ sym (one-in s t) in
+              sym (i ∙ ap (lowest g d after) (here h t) ∙ lowest-more
+              ∙ ap {B = Refusal} (λ (b : Bool). cond b (lowest g d after (later s)) (placed (faultAt g d s) s)) (ne-eqb (faultAt g d s) 0 (λ w. z (q ∙ w)))
+              ∙ ap {B = Refusal} (λ (k : ℕ). placed k s) (sym q))
+          by false t = absurd (z (e ∙ sym (none-in s t)))
 
-    pub slot-clear : s < 256 → n ≡ 0 → lowest g d after (slots g d) ≡ lowest g d after (later s)
-    slot-clear h z = by (isSlot g d s) refl
-      where
-        by : (b : Bool) → isSlot g d s ≡ b → lowest g d after (slots g d) ≡ lowest g d after (later s)
-        by true t =
-            let q : faultAt g d s ≡ 0 = one-in s t ∙ sym e ∙ z in
-            i ∙ ap (lowest g d after) (here h t) ∙ lowest-more
-            ∙ ap {B = Refusal} (λ (b : Bool). cond b (lowest g d after (later s)) (placed (faultAt g d s) s)) (eq-eqb (faultAt g d s) 0 q)
-        by false t = i ∙ ap (lowest g d after) (gone h t)
+      pub slot-clear : s < 256 → n ≡ 0 → lowest g d after (slots g d) ≡ lowest g d after (later s)
+      slot-clear h z = by (isSlot g d s) refl
+        where
+          by : (b : Bool) → isSlot g d s ≡ b → lowest g d after (slots g d) ≡ lowest g d after (later s)
+          by true t =
+              let q : faultAt g d s ≡ 0 = one-in s t ∙ sym e ∙ z in
+              i ∙ ap (lowest g d after) (here h t) ∙ lowest-more
+              ∙ ap {B = Refusal} (λ (b : Bool). cond b (lowest g d after (later s)) (placed (faultAt g d s) s)) (eq-eqb (faultAt g d s) 0 q)
+          by false t = i ∙ ap (lowest g d after) (gone h t)
 
-  pub slots-done : (after : Refusal) (s : ℕ) → lowest g d after (slots g d) ≡ lowest g d after (keep (isSlot g d) (count s (256 - s))) → 256 ≤ s → after ≡ lowest g d after (slots g d)
+  pub slots-done : (after : Refusal) (s : ℕ) → lowest g d after (slots g d) ≡ lowest g d after (keep (isSlot g d) (count s (256 - s))) → 256 ≤ s → after ≡
+      lowest g d after (slots g d)
   unfolding lowest
   slots-done after s i h = sym (i ∙ ap (λ (l : List ℕ). lowest g d after (keep (isSlot g d) l)) (count-none h))
 
@@ -135,14 +137,17 @@ module _ (g : Geometry) (d : List ℕ) where
   directory-in e f r = rw (e, f) (Sizes.touched-inside (Sizes.sectors-pos g) (g .start) (directorySectors g d) (granules g) (r .directory))
 
   -- a clear granule of the directory
-  taken-by : {a n : ℕ} {b : Bool} → a ≡ g .start / granuleSectors g → n ≡ roundUp (directorySectors g d) (granuleSectors g) → every (taken g d) (count a n) ≡ b → directoryTaken g d ≡ b
+  taken-by : {a n : ℕ} {b : Bool} → a ≡ g .start / granuleSectors g → n ≡ roundUp (directorySectors g d) (granuleSectors g) → every (taken g d) (count a n) ≡
+      b → directoryTaken g d ≡ b
   taken-by e f h = ap₂ (λ (x y : ℕ). every (taken g d) (count x y)) (sym e) (sym f) ∙ h
 
-  pub clear-no : {a n : ℕ} → a ≡ g .start / granuleSectors g → n ≡ roundUp (directorySectors g d) (granuleSectors g) → every (taken g d) (count a n) ≡ false → unplaced 30 ≡ afterSlots g d
+  pub clear-no : {a n : ℕ} → a ≡ g .start / granuleSectors g → n ≡ roundUp (directorySectors g d) (granuleSectors g) → every (taken g d) (count a n) ≡ false →
+      unplaced 30 ≡ afterSlots g d
   unfolding afterSlots
   clear-no e f h = sym (ap {B = Refusal} (λ (b : Bool). cond b (unplaced 0) (unplaced 30)) (taken-by e f h))
 
-  pub clear-yes : {a n : ℕ} → a ≡ g .start / granuleSectors g → n ≡ roundUp (directorySectors g d) (granuleSectors g) → every (taken g d) (count a n) ≡ true → unplaced 0 ≡ afterSlots g d
+  pub clear-yes : {a n : ℕ} → a ≡ g .start / granuleSectors g → n ≡ roundUp (directorySectors g d) (granuleSectors g) → every (taken g d) (count a n) ≡ true →
+      unplaced 0 ≡ afterSlots g d
   unfolding afterSlots
   clear-yes e f h = sym (ap {B = Refusal} (λ (b : Bool). cond b (unplaced 0) (unplaced 30)) (taken-by e f h))
 

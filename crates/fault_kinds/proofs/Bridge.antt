@@ -151,7 +151,8 @@ module _ (g : Geometry) (d : List ℕ) where
   unfolding goodExtension
   good-start x =
       ap (λ (m : List ℕ). all (eqb (length m) 1 ∷ every (λ b. followsBy g d 0x90 b x) m ∷ [])) (met-is x)
-      ∙ ap (λ (j : ℕ). all (eqb j 1 ∷ every (λ b. followsBy g d 0x90 b x) (keep (leads g d x) (count 0 256)) ∷ [])) (sym (zero-add (length (keep (leads g d x) (count 0 256)))))
+      ∙ ap (λ (j : ℕ). all (eqb j 1 ∷ every (λ b. followsBy g d 0x90 b x) (keep (leads g d x) (count 0 256)) ∷ []))
+      (sym (zero-add (length (keep (leads g d x) (count 0 256)))))
 
   -- Granules in common --------------------------------------------------------------------------------------------------------------
 
@@ -169,7 +170,8 @@ module _ (g : Geometry) (d : List ℕ) where
           let k = Kinds.some-in old (slots g d) v in
           let m = Kinds.all-says (ltb (k .0) s) (inUse g d (k .0)) (some (has (entryGranules g d (k .0))) (entryGranules g d s)) (k .2) in
           Kinds.in-some (shares g d s) (Members.in-count (k .0) 0 s (omega arith) (let h = ltb→lt (k .0) s (m .0) in omega arith))
-          (Kinds.all-three (isSlot g d (k .0)) (inUse g d (k .0)) (entriesMeet g d s (k .0)) (Facts.slots-in g d (k .0) (k .1)) (m .1) (rw (← Overlap.shared-is g d s (k .0)) (m .2)))
+          (Kinds.all-three (isSlot g d (k .0)) (inUse g d (k .0)) (entriesMeet g d s (k .0)) (Facts.slots-in g d (k .0) (k .1)) (m .1)
+          (rw (← Overlap.shared-is g d s (k .0)) (m .2)))
 
       back : T (some (shares g d s) (count 0 s)) → T (some old (slots g d))
       back v =
@@ -177,7 +179,8 @@ module _ (g : Geometry) (d : List ℕ) where
           let m = Kinds.all-says (isSlot g d (k .0)) (inUse g d (k .0)) (entriesMeet g d s (k .0)) (k .2) in
           let h = Members.count-in (k .0) 0 s (k .1) .1 in
           Kinds.in-some old (Facts.in-slots g d (k .0) (m .0))
-          (Kinds.all-three (ltb (k .0) s) (inUse g d (k .0)) (some (has (entryGranules g d (k .0))) (entryGranules g d s)) (lt→ltb (k .0) s (omega arith)) (m .1) (rw (Overlap.shared-is g d s (k .0)) (m .2)))
+          (Kinds.all-three (ltb (k .0) s) (inUse g d (k .0)) (some (has (entryGranules g d (k .0))) (entryGranules g d s)) (lt→ltb (k .0) s (omega arith))
+          (m .1) (rw (Overlap.shared-is g d s (k .0)) (m .2)))
 
   -- with the granules of the directory
   pub within-is : (s b m : ℕ) → 1 ≤ m → some (has (count b m)) (entryGranules g d s) ≡ some (runIn g d b m s) (count 0 (runs g d s))
@@ -188,7 +191,8 @@ module _ (g : Geometry) (d : List ℕ) where
       fore v =
           let w = Kinds.some-in (has (count b m)) (entryGranules g d s) v in
           let a = Members.each-in (runGranules g d s) (w .0) (count 0 (runs g d s)) (w .1) in
-          Kinds.in-some (runIn g d b m s) (a .1) (Overlap.common-overlap (runStart g d s (a .0)) (runLength g d s (a .0)) b m (w .0) (a .2) (Members.has-in (w .0) (count b m) (w .2)))
+          Kinds.in-some (runIn g d b m s) (a .1) (Overlap.common-overlap (runStart g d s (a .0)) (runLength g d s (a .0)) b m (w .0) (a .2)
+          (Members.has-in (w .0) (count b m) (w .2)))
 
       back : T (some (runIn g d b m s) (count 0 (runs g d s))) → T (some (has (count b m)) (entryGranules g d s))
       back v =
@@ -199,12 +203,15 @@ module _ (g : Geometry) (d : List ℕ) where
 
   -- A whole chain -------------------------------------------------------------------------------------------------------------------
 
-  pub whole-is : (p : ℕ) → isSlot g d p ≡ true → inUsePrimary g d p ≡ true → chainWhole g d p ≡ every (λ s. not (chainFault g d s)) (reach g d (length (slots g d)) p)
+  pub whole-is : (p : ℕ) → isSlot g d p ≡ true → inUsePrimary g d p ≡ true → chainWhole g d p ≡ every (λ s. not (chainFault g d s))
+      (reach g d (length (slots g d)) p)
   unfolding chainWhole
   whole-is p a b =
       Members.both-T {a = every firm (walk g d p)} {b = every firm (reach g d (length (slots g d)) p)}
-      (λ t. Members.all-every firm (reach g d (length (slots g d)) p) (λ x i. Members.every-all firm t (Members.has-in x (walk g d p) (rw (Reach.meets g d p x f) (Members.in-has i)))))
-      (λ t. Members.all-every firm (walk g d p) (λ x i. Members.every-all firm t (Members.has-in x (reach g d (length (slots g d)) p) (rw (← Reach.meets g d p x f) (Members.in-has i)))))
+      (λ t. Members.all-every firm (reach g d (length (slots g d)) p)
+      (λ x i. Members.every-all firm t (Members.has-in x (walk g d p) (rw (Reach.meets g d p x f) (Members.in-has i)))))
+      (λ t. Members.all-every firm (walk g d p) (λ x i. Members.every-all firm t
+      (Members.has-in x (reach g d (length (slots g d)) p) (rw (← Reach.meets g d p x f) (Members.in-has i)))))
     where
       f : IsFile g d p
       f = file-of p a b
@@ -215,11 +222,13 @@ module _ (g : Geometry) (d : List ℕ) where
   pub whole-owns : (p : ℕ) → isSlot g d p ≡ true → inUsePrimary g d p ≡ true → chainWhole g d p ≡ true → reach g d (length (slots g d)) p ≡ chain g d p
   whole-owns p a b w = sym (Reach.whole-chain g d p (file-of p a b) (Members.true-T w))
 
-  pub whole-by : (p : ℕ) {n : ℕ} → Slot g d p → inUsePrimary g d p ≡ true → n ≡ length (slots g d) → chainWhole g d p ≡ every (λ s. not (chainFault g d s)) (reach g d n p)
+  pub whole-by : (p : ℕ) {n : ℕ} → Slot g d p → inUsePrimary g d p ≡ true → n ≡ length (slots g d) → chainWhole g d p ≡ every (λ s. not (chainFault g d s))
+      (reach g d n p)
   whole-by p {n} h b e =
       whole-is p (slot-yes g d p (h .low) (h .held)) b ∙ ap (λ (j : ℕ). every (λ s. not (chainFault g d s)) (reach g d j p)) (sym e)
 
-  pub whole-same : (p : ℕ) {n : ℕ} → Slot g d p → inUsePrimary g d p ≡ true → n ≡ length (slots g d) → every (λ s. not (chainFault g d s)) (reach g d n p) ≡ true
+  pub whole-same : (p : ℕ) {n : ℕ} → Slot g d p → inUsePrimary g d p ≡ true → n ≡ length (slots g d) → every (λ s. not (chainFault g d s)) (reach g d n p) ≡
+      true
       → reach g d n p ≡ chain g d p
   whole-same p {n} h b e w =
       ap (λ (j : ℕ). reach g d j p) e ∙ whole-owns p (slot-yes g d p (h .low) (h .held)) b (whole-by p h b e ∙ w)

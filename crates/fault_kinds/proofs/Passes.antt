@@ -144,7 +144,8 @@ module _ (g : Geometry) (d : List ℕ) where
   module _ (n p left s x : ℕ) (i : has (reach g d n p) x ≡ has (reach g d left s) x) where
     pub come-here : 0 < left → x ≡ s → true ≡ has (reach g d n p) x
     come-here h e =
-        sym (i ∙ ap (λ (l : List ℕ). has l x) (reach-more s h) ∙ ap (λ (b : Bool). b || has (cond (handsOn g d s) (reach g d (left - 1) (link g d s)) []) x) (eq-eqb x s e))
+        sym (i ∙ ap (λ (l : List ℕ). has l x) (reach-more s h) ∙ ap (λ (b : Bool). b || has (cond (handsOn g d s) (reach g d (left - 1) (link g d s)) []) x)
+        (eq-eqb x s e))
 
     pub come-stop : 0 < left → (x ≡ s → ⊥) → handsOn g d s ≡ false → false ≡ has (reach g d n p) x
     come-stop h e f = sym (i ∙ ap (λ (l : List ℕ). has l x) (reach-stop s h f) ∙ ap (λ (b : Bool). b || false) (ne-eqb x s e))
@@ -166,7 +167,8 @@ module _ (g : Geometry) (d : List ℕ) where
     pub whole-end : 0 < left → chainFault g d s ≡ false → handsOn g d s ≡ false → true ≡ every firm (reach g d n p)
     whole-end h e f = sym (i ∙ ap (every firm) (reach-stop s h f) ∙ ap (λ (b : Bool). not b && true) e)
 
-    pub whole-on : {t : ℕ} → 0 < left → chainFault g d s ≡ false → handsOn g d s ≡ true → t ≡ link g d s → every firm (reach g d n p) ≡ every firm (reach g d (left - 1) t)
+    pub whole-on : {t : ℕ} → 0 < left → chainFault g d s ≡ false → handsOn g d s ≡ true → t ≡ link g d s → every firm (reach g d n p) ≡ every firm
+        (reach g d (left - 1) t)
     whole-on {t} h e f q = i ∙ ap (every firm) (reach-on s h f q) ∙ ap (λ (b : Bool). not b && every firm (reach g d (left - 1) t)) e
 
     pub whole-none : left ≤ 0 → true ≡ every firm (reach g d n p)
@@ -188,7 +190,8 @@ module _ (g : Geometry) (d : List ℕ) where
         → size (reach g d n p) ≡ c + m + size (reach g d (left - 1) t)
     count-on {m} {t} h e f z =
         let q : size (reach g d left s) ≡ m + size (reach g d (left - 1) t)
-        = ap {B = ℕ} size (reach-on s h f z) ∙ size-more s (reach g d (left - 1) t) ∙ ap (λ (j : ℕ). j + size (reach g d (left - 1) t)) (sym e) in omega (arith, i, q)
+        = ap {B = ℕ} size (reach-on s h f z) ∙ size-more s (reach g d (left - 1) t) ∙ ap (λ (j : ℕ). j + size (reach g d (left - 1) t)) (sym e) in
+        omega (arith, i, q)
 
     pub count-none′ : left ≤ 0 → c ≡ size (reach g d n p)
     count-none′ h = let q : size (reach g d left s) ≡ 0 = ap {B = ℕ} size (reach-none s h) in omega (arith, i, q)
@@ -237,7 +240,8 @@ module _ (g : Geometry) (d : List ℕ) where
         at : leads g d x b ≡ true → (u : Bool) → followsBy g d 0x90 b x ≡ u → false ≡ goodExtension g d x
         at l true f = absurd (let z : t ≡ 1 = e ∙ tally-yes x b l ∙ ap {B = ℕ} (λ (t : Bool). cond t 1 2) f in let w : ⊥ = omega arith in w)
         at l false f =
-            sym (i ∙ ap (goodFrom g d x n) (keep-in (leads g d x) h l) ∙ all-out (eqb (n + length (b ∷ (later x b))) 1 ∷ _ ∷ []) 1 (ap (λ (t : Bool). t && every (λ b. followsBy g d 0x90 b x) (later x b)) f))
+            sym (i ∙ ap (goodFrom g d x n) (keep-in (leads g d x) h l) ∙ all-out (eqb (n + length (b ∷ (later x b))) 1 ∷ _ ∷ []) 1
+            (ap (λ (t : Bool). t && every (λ b. followsBy g d 0x90 b x) (later x b)) f))
 
         by : (u : Bool) → leads g d x b ≡ u → false ≡ goodExtension g d x
         by true l = at l (followsBy g d 0x90 b x) refl
@@ -273,14 +277,17 @@ module _ (g : Geometry) (d : List ℕ) where
   named s ks = each (runGranules g d s) ks
 
   module _ (s n k : ℕ) (i : every (taken g d) (entryGranules g d s) ≡ every (taken g d) (named s (count k (n - k)))) where
-    cut : k < n → every (taken g d) (entryGranules g d s) ≡ (every (taken g d) (runGranules g d s k) && every (taken g d) (named s (count (k + 1) (n - (k + 1)))))
-    cut h = i ∙ ap (λ (l : List ℕ). every (taken g d) (named s l)) (count-more h) ∙ every-append (taken g d) (runGranules g d s k) (named s (count (k + 1) (n - (k + 1))))
+    cut : k < n → every (taken g d) (entryGranules g d s) ≡
+        (every (taken g d) (runGranules g d s k) && every (taken g d) (named s (count (k + 1) (n - (k + 1)))))
+    cut h = i ∙ ap (λ (l : List ℕ). every (taken g d) (named s l)) (count-more h) ∙ every-append (taken g d) (runGranules g d s k)
+        (named s (count (k + 1) (n - (k + 1))))
 
     pub gat-no : k < n → every (taken g d) (runGranules g d s k) ≡ false → false ≡ gatHolds g d s
     unfolding gatHolds
     gat-no h f = sym (cut h ∙ ap (λ (b : Bool). b && every (taken g d) (named s (count (k + 1) (n - (k + 1))))) f)
 
-    pub gat-on : k < n → every (taken g d) (runGranules g d s k) ≡ true → every (taken g d) (entryGranules g d s) ≡ every (taken g d) (named s (count (k + 1) (n - (k + 1))))
+    pub gat-on : k < n → every (taken g d) (runGranules g d s k) ≡ true → every (taken g d) (entryGranules g d s) ≡ every (taken g d)
+        (named s (count (k + 1) (n - (k + 1))))
     gat-on h f = cut h ∙ ap (λ (b : Bool). b && every (taken g d) (named s (count (k + 1) (n - (k + 1))))) f
 
     pub gat-end : n ≤ k → true ≡ gatHolds g d s
@@ -291,8 +298,10 @@ module _ (g : Geometry) (d : List ℕ) where
   unfolding entryGranules
   named-all {n} s e = ap (λ (j : ℕ). named s (count 0 j)) (sym e) ∙ ap (named s) (from-zero n)
 
-  pub run-taken : (s k : ℕ) {a m : ℕ} {b : Bool} → a ≡ runStart g d s k → m ≡ runLength g d s k → every (taken g d) (count a m) ≡ b → every (taken g d) (runGranules g d s k) ≡ b
-  run-taken s k {a} {m} e f h = ap (λ (j : ℕ). every (taken g d) (count j (runLength g d s k))) (sym e) ∙ ap (λ (j : ℕ). every (taken g d) (count a j)) (sym f) ∙ h
+  pub run-taken : (s k : ℕ) {a m : ℕ} {b : Bool} → a ≡ runStart g d s k → m ≡ runLength g d s k → every (taken g d) (count a m) ≡ b → every (taken g d)
+      (runGranules g d s k) ≡ b
+  run-taken s k {a} {m} e f h = ap (λ (j : ℕ). every (taken g d) (count j (runLength g d s k))) (sym e) ∙ ap (λ (j : ℕ). every (taken g d) (count a j))
+      (sym f) ∙ h
 
   pub runs-lie : (s : ℕ) → inUse g d s ≡ true → runFault g d s ≡ false → runsHold g d s ≡ true
   unfolding runFault
@@ -311,4 +320,5 @@ module _ (g : Geometry) (d : List ℕ) where
   pub meet-of : (s k t l : ℕ) {b m : ℕ} → b ≡ runStart g d t l → m ≡ runLength g d t l → runIn g d b m s k ≡ runsMeet g d s k t l
   unfolding runIn runsMeet
   meet-of s k t l {b} {m} e f =
-      ap (λ (j : ℕ). overlaps (runStart g d s k) (runLength g d s k) j m) e ∙ ap (λ (j : ℕ). overlaps (runStart g d s k) (runLength g d s k) (runStart g d t l) j) f
+      ap (λ (j : ℕ). overlaps (runStart g d s k) (runLength g d s k) j m) e ∙ ap
+      (λ (j : ℕ). overlaps (runStart g d s k) (runLength g d s k) (runStart g d t l) j) f

@@ -30,7 +30,11 @@ abbrev pub overlaps : ℕ → ℕ → ℕ → ℕ → Bool
 overlaps a n b m = ltb a (b + m) && ltb b (a + n)
 
 pub overlap-says : (a n b m : ℕ) → T (overlaps a n b m) → (a < b + m) × (b < a + n)
-overlap-says a n b m t = (ltb→lt a (b + m) (Members.and-l (ltb a (b + m)) (ltb b (a + n)) t), ltb→lt b (a + n) (Members.and-r (ltb a (b + m)) (ltb b (a + n)) t))
+overlap-says a n b m t = (
+  ltb→lt a (b + m) (Members.and-l (ltb a (b + m)) (ltb b (a + n)) t),
+  ltb→lt b (a + n)
+      (Members.and-r (ltb a (b + m)) (ltb b (a + n)) t),
+)
 
 pub common-overlap : (a n b m x : ℕ) → In x (count a n) → In x (count b m) → T (overlaps a n b m)
 common-overlap a n b m x i j =
@@ -76,7 +80,8 @@ module _ (g : Geometry) (d : List ℕ) where
           let a = Kinds.some-in (runMeets s t) (count 0 (runs g d s)) v in
           let b = Kinds.some-in (runsMeet s (a .0) t) (count 0 (runs g d t)) (a .2) in
           let x = meet-says s (a .0) t (b .0) (b .2) in
-          Kinds.in-some (has (entryGranules g d t)) (Members.in-each (runGranules g d s) (a .1) (x .1)) (Members.in-has (Members.in-each (runGranules g d t) (b .1) (x .2)))
+          Kinds.in-some (has (entryGranules g d t)) (Members.in-each (runGranules g d s) (a .1) (x .1))
+          (Members.in-has (Members.in-each (runGranules g d t) (b .1) (x .2)))
 
   -- run k of s has a granule in common with an earlier one
   unfoldable pub meetsEarlier : ℕ → ℕ → Bool
@@ -94,8 +99,10 @@ module _ (g : Geometry) (d : List ℕ) where
       apart n k l x i j u v = go (ℕ-discrete k l)
         where
           which : (k < l) ⊎ (l < k) → ⊥
-          which (inl h) = n (Kinds.in-some (meetsEarlier s) j (Kinds.in-some (λ m. ltb m l && runsMeet s l s m) i (Members.and-i (ltb k l) (runsMeet s l s k) (lt→ltb k l h) (says-meet s l s k x v u))))
-          which (inr h) = n (Kinds.in-some (meetsEarlier s) i (Kinds.in-some (λ m. ltb m k && runsMeet s k s m) j (Members.and-i (ltb l k) (runsMeet s k s l) (lt→ltb l k h) (says-meet s k s l x u v))))
+          which (inl h) = n (Kinds.in-some (meetsEarlier s) j (Kinds.in-some (λ m. ltb m l && runsMeet s l s m) i
+              (Members.and-i (ltb k l) (runsMeet s l s k) (lt→ltb k l h) (says-meet s l s k x v u))))
+          which (inr h) = n (Kinds.in-some (meetsEarlier s) i (Kinds.in-some (λ m. ltb m k && runsMeet s k s m) j
+              (Members.and-i (ltb l k) (runsMeet s k s l) (lt→ltb l k h) (says-meet s k s l x u v))))
 
           go : Dec (k ≡ l) → k ≡ l
           go (yes e) = e
@@ -107,7 +114,8 @@ module _ (g : Geometry) (d : List ℕ) where
           go : Members.Test (some (meetsEarlier s) ks) → T (some (meetsEarlier s) ks)
           go (Members.Test.holds v) = v
           go (Members.Test.fails n) =
-              absurd (T-not (distinct (entryGranules g d s)) t (Members.says-distinct (Members.each-distinct (runGranules g d s) (Members.count-distinct 0 (runs g d s))
+              absurd (T-not (distinct (entryGranules g d s)) t
+              (Members.says-distinct (Members.each-distinct (runGranules g d s) (Members.count-distinct 0 (runs g d s))
               (λ k i. Members.count-distinct (runStart g d s k) (runLength g d s k)) (apart n))))
 
       back : T (some (meetsEarlier s) ks) → T (not (distinct (entryGranules g d s)))

@@ -28,7 +28,8 @@ module _ (g : Geometry) (d : List ℕ) where
   unfolding reach
   reach-cons left s x i = go (handsOn g d s) refl (Members.in-cons i)
     where
-      go : (b : Bool) → handsOn g d s ≡ b → (x ≡ s) ⊎ In x (cond b (reach left (link g d s)) []) → (x ≡ s) ⊎ (T (handsOn g d s) × In x (reach left (link g d s)))
+      go : (b : Bool) → handsOn g d s ≡ b → (x ≡ s) ⊎ In x (cond b (reach left (link g d s)) []) → (x ≡ s) ⊎
+          (T (handsOn g d s) × In x (reach left (link g d s)))
       go b e (inl q) = inl q
       go true e (inr j) = inr (Members.true-T e, j)
       go false e (inr j) = Members.none-in j
@@ -41,7 +42,8 @@ module _ (g : Geometry) (d : List ℕ) where
       rest : List ℕ
       rest = walkFrom g d left (s ∷ before) (link g d s)
 
-      go : (x ≡ s) ⊎ (T (handsOn g d s) × In x rest) → (In x rest → In x (reach left (link g d s))) → In x (s ∷ cond (handsOn g d s) (reach left (link g d s)) [])
+      go : (x ≡ s) ⊎ (T (handsOn g d s) × In x rest) → (In x rest → In x (reach left (link g d s))) → In x
+          (s ∷ cond (handsOn g d s) (reach left (link g d s)) [])
       go (inl e) r = Members.head-in _ e
       go (inr j) r = rw (Members.T-true {b = handsOn g d s} (j .0)) (Members.In.there (r (j .1)))
 
@@ -50,7 +52,8 @@ module _ (g : Geometry) (d : List ℕ) where
   reach-walk p f zero s x m i = Members.none-in i
   reach-walk p f (suc left) s x m i = go (reach-cons left s x i) (reach-walk p f left (link g d s) x)
     where
-      go : (x ≡ s) ⊎ (T (handsOn g d s) × In x (reach left (link g d s))) → (In (link g d s) (walk g d p) → In x (reach left (link g d s)) → In x (walk g d p)) → In x (walk g d p)
+      go : (x ≡ s) ⊎ (T (handsOn g d s) × In x (reach left (link g d s))) →
+          (In (link g d s) (walk g d p) → In x (reach left (link g d s)) → In x (walk g d p)) → In x (walk g d p)
       go (inl e) r = rw e m
       go (inr j) r = r (Walk.walk-goes g d p s f m (j .0)) (j .1)
 
@@ -64,7 +67,8 @@ module _ (g : Geometry) (d : List ℕ) where
 
   -- an entry without a chain fault hands on exactly if its marker is FEH
   marked-hands : (s : ℕ) → Kinds.Firm g d s → eqb (marker g d s) 0xfe ≡ handsOn g d s
-  marked-hands s k = Members.both-T {a = eqb (marker g d s) 0xfe} {b = handsOn g d s} (λ t. go t (k .upright)) (λ t. Members.eq-T (Walk.hands-says g d s t .marked))
+  marked-hands s k = Members.both-T {a = eqb (marker g d s) 0xfe} {b = handsOn g d s} (λ t. go t (k .upright))
+      (λ t. Members.eq-T (Walk.hands-says g d s t .marked))
     where
       go : T (eqb (marker g d s) 0xfe) → T (handsOn g d s) ⊎ T (ends g d s) → T (handsOn g d s)
       go t (inl h) = h

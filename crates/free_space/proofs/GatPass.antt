@@ -191,7 +191,8 @@ module _ (g : Geometry) (d : List ℕ) where
         let x = gatByte g d b in
         let f : b * g .units + u + 1 ≡ b * g .units + (u + 1) = omega arith in
         let s : u + 1 ≡ suc u = omega arith in
-        let half : x / 2 ^ (u + 1) ≡ x / 2 ^ u / 2 = ap (λ (k : ℕ). x / 2 ^ k) s ∙ ap (λ (k : ℕ). x / k) (pow-succ' 2 u ∙ mul-comm 2 (2 ^ u)) ∙ sym (div-div-eq-div-mul x (2 ^ u) 2) in
+        let half : x / 2 ^ (u + 1) ≡ x / 2 ^ u / 2 = ap (λ (k : ℕ). x / 2 ^ k) s ∙ ap (λ (k : ℕ). x / k) (pow-succ' 2 u ∙ mul-comm 2 (2 ^ u)) ∙ sym
+        (div-div-eq-div-mul x (2 ^ u) 2) in
         let q = met (eqb (x / 2 ^ u % 2) 1) p in
         ap (λ (t : Bool). over (b * g .units + u + 1) m (met t p)) (taken-at g d some b u (omega arith))
         ∙ ap (λ (k : ℕ). over k m q) f ∙ over-bits b (u + 1) m q (omega arith) ∙ ap (λ (k : ℕ). bits m k q) half
@@ -217,7 +218,8 @@ module _ (g : Geometry) (d : List ℕ) where
             ∙ ap (λ (k : ℕ). over (0 * g .units) (k * g .units) start) (sym (sub-zero (g .blocks)));
       }
 
-  pub going-step : {b x : ℕ} {p q : Seen} → 1 ≤ g .units → Going b p → b < g .blocks → x ≡ byte d (256 * g .start + b) → q ≡ bits (g .units) x p → Going (b + 1) q
+  pub going-step : {b x : ℕ} {p q : Seen} → 1 ≤ g .units → Going b p → b < g .blocks → x ≡ byte d (256 * g .start + b) → q ≡ bits (g .units) x p → Going
+      (b + 1) q
   unfolding gatByte
   going-step {b} {x} {p} {q} some s h e f =
       let units = g .units in
@@ -232,7 +234,8 @@ module _ (g : Geometry) (d : List ℕ) where
   pub going-end : {b : ℕ} {p r : Seen} → Going b p → g .blocks ≤ b → r ≡ ended p → Tells g d r
   unfolding over freeGranules freeIn
   going-end {b} {p} {r} s h e =
-      let q : over 0 (granules g) start ≡ p = s .rest ∙ ap (λ (j : ℕ). over (b * g .units) (j * g .units) p) (left-none h) ∙ ap (λ (j : ℕ). over (b * g .units) j p) (zero-mul (g .units)) in
+      let q : over 0 (granules g) start ≡ p = s .rest ∙ ap (λ (j : ℕ). over (b * g .units) (j * g .units) p) (left-none h) ∙ ap
+      (λ (j : ℕ). over (b * g .units) j p) (zero-mul (g .units)) in
       let k : r ≡ ended (over 0 (granules g) start) = e ∙ ap ended (sym q) in
       let z = stretch-le g d (count 0 (granules g)) in
       record {
@@ -248,7 +251,12 @@ gat-fits g d f =
     let a = leb-true (g .blocks) 192 (all-at _ f 1) in
     let b = eqb-true (length d) (granules g * granuleBytes g) (all-at _ f 5) in
     let c = leb-true (g .start + 10) (granules g * granuleSectors g) (all-at _ f 6) in
-    record { blocks-high = a; units-low = leb-true _ _ (all-at _ f 2); units-high = leb-true _ _ (all-at _ f 3); inside = omega (arith, Sizes.bytes-sectors g) }
+    record {
+      blocks-high = a;
+      units-low = leb-true _ _ (all-at _ f 2);
+      units-high = leb-true _ _ (all-at _ f 3);
+      inside = omega (arith, Sizes.bytes-sectors g);
+    }
 
 -- Refused and accepted ----------------------------------------------------------------------------------------------------
 
@@ -257,7 +265,8 @@ pub space-refused : (g : Geometry) (d : List ℕ) {c : Refusal} → c ≡ unplac
 unfolding freeSpace
 space-refused g d y f = rw (first-hit {b = not (fitsGeometry g d)} (not-no f) 1 [], y) refl
 
-pub space-accepted : (g : Geometry) (d : List ℕ) {n m : ℕ} {c : Refusal} → c ≡ unplaced 0 → fitsGeometry g d ≡ true → n ≡ length (freeGranules g d) → m ≡ longest g d
+pub space-accepted : (g : Geometry) (d : List ℕ) {n m : ℕ} {c : Refusal} → c ≡ unplaced 0 → fitsGeometry g d ≡ true → n ≡ length (freeGranules g d) → m ≡
+    longest g d
     → _≡_ {A = Space} (record { refusal = c; free = n; longest = m }) (freeSpace g d)
 unfolding freeSpace
 space-accepted g d y f p q = rw (first-skip {b = not (fitsGeometry g d)} (not-yes f) 1 [] ∙ first-none, p, q, y) refl

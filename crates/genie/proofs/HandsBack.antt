@@ -46,7 +46,8 @@ short-is g d = by (ℕ-discrete (check g d .number) 0)
 pub stays : (b : List ℕ) (a : Answer) (x : List ℕ) {p : Answer × List ℕ} → (a .refusal .number ≡ 0 → ⊥) → _≡_ {A = Answer × List ℕ} (a, x) p
     → _≡_ {A = ℕ × ℕ × List ℕ × List ℕ} (a .refusal .number, a .refusal .at, b, x) (moves b p)
 unfolding moves
-stays b a x h q = ap (λ (t : Bool). (a .refusal .number, a .refusal .at, cond t (stored b (a .handle)) b, x)) (sym (ne-eqb (a .refusal .number) 0 h)) ∙ ap (moves b) q
+stays b a x h q = ap (λ (t : Bool). (a .refusal .number, a .refusal .at, cond t (stored b (a .handle)) b, x)) (sym (ne-eqb (a .refusal .number) 0 h)) ∙ ap
+    (moves b) q
 
 pub moved : (b : List ℕ) (a : Answer) (x : List ℕ) {p : Answer × List ℕ} {b′ : List ℕ} → a .refusal .number ≡ 0 → b′ ≡ stored b (a .handle)
     → _≡_ {A = Answer × List ℕ} (a, x) p → _≡_ {A = ℕ × ℕ × List ℕ × List ℕ} (0, a .refusal .at, b′, x) (moves b p)
@@ -88,11 +89,13 @@ pub nothing : (b : List ℕ) (l : Listed) {l′ : Listed} → not (l .more) ≡ 
     → _≡_ {A = ℕ × ℕ × ℕ × ℕ × ℕ × List ℕ} (l .refusal .number, l .refusal .at, l .size, l .granules, 0, b) (tells b l′)
 unfolding tells
 nothing b l h q =
-    ap (λ (t : Bool). (l .refusal .number, l .refusal .at, l .size, l .granules, told t, cond t (sets b 0 (l .name)) b)) (sym (not-true (l .more) h)) ∙ ap (tells b) q
+    ap (λ (t : Bool). (l .refusal .number, l .refusal .at, l .size, l .granules, told t, cond t (sets b 0 (l .name)) b)) (sym (not-true (l .more) h)) ∙ ap
+    (tells b) q
 
 pub file : (b : List ℕ) (l : Listed) {l′ : Listed} {b′ : List ℕ} → not (l .more) ≡ false → b′ ≡ sets b 0 (l .name) → l ≡ l′
     → _≡_ {A = ℕ × ℕ × ℕ × ℕ × ℕ × List ℕ} (l .refusal .number, l .refusal .at, l .size, l .granules, 1, b′) (tells b l′)
 unfolding tells
 file b l h e q =
     ap (λ (r : List ℕ). (l .refusal .number, l .refusal .at, l .size, l .granules, 1, r)) e
-    ∙ ap (λ (t : Bool). (l .refusal .number, l .refusal .at, l .size, l .granules, told t, cond t (sets b 0 (l .name)) b)) (sym (not-false (l .more) h)) ∙ ap (tells b) q
+    ∙ ap (λ (t : Bool). (l .refusal .number, l .refusal .at, l .size, l .granules, told t, cond t (sets b 0 (l .name)) b)) (sym (not-false (l .more) h)) ∙ ap
+    (tells b) q

@@ -3,7 +3,10 @@ use meaning::Geometry;
 use meaning::NewFile;
 ghost use mathlib.Core.Path.{_≡_};
 ghost use Rattle.genie_codec.specs.Words.{geometry};
-ghost use Rattle.genie.specs.Exports.{newFile, tooShort, exportedName, exportedCheck, exportedLookUp, exportedOpen, exportedCreate, exportedReadRecord, exportedReadBytes, exportedReadSector, exportedWriteRecord, exportedWriteBytes, exportedAllot, exportedTrim, exportedKill, exportedBringBack, exportedPlay, exportedList, exportedCount, exportedFree};
+ghost use Rattle.genie.specs.Exports.{newFile, tooShort, exportedName, exportedCheck, exportedLookUp, exportedOpen, exportedCreate};
+ghost use Rattle.genie.specs.Exports.{exportedReadRecord, exportedReadBytes, exportedReadSector, exportedWriteRecord, exportedWriteBytes};
+ghost use Rattle.genie.specs.Exports.{exportedAllot, exportedTrim, exportedKill, exportedBringBack, exportedPlay, exportedList, exportedCount};
+ghost use Rattle.genie.specs.Exports.{exportedFree};
 ghost use Rattle.genie.specs.Compared.{exportedCompare};
 ghost use Rattle.genie.specs.Program.{exportedLoadRecord};
 ghost use Rattle.genie.specs.Table.{exportedListFrom};
@@ -536,7 +539,8 @@ pub extern "C" fn genie_play(
     fault_slot: &mut usize,
 ) -> u8
     ensures { λ r. ⌜ (r, now («fault_slot» .exit), now (calls .exit), now (byte .exit), now (bit .exit), now (results .exit), now (image .exit))
-        ≡ exportedPlay (geometry blocks units start open_code «system_disk» «granule_sectors») (now (image .entry)) (now (trace .entry)) (now (results .entry)) ⌝ }
+        ≡ exportedPlay (geometry blocks units start open_code «system_disk» «granule_sectors») (now (image .entry)) (now (trace .entry))
+        (now (results .entry)) ⌝ }
 {
     let g = genie_codec::geometry(
         blocks,
@@ -776,8 +780,18 @@ pub extern "C" fn genie_load_record(
     position: &mut usize,
     fault_slot: &mut usize,
 ) -> u8
-    ensures { λ r. ⌜ (r, now («fault_slot» .exit), now (kind .exit), now (address .exit), now (count .exit), now (position .exit), now (handle .exit), now (buffer .exit))
-        ≡ exportedLoadRecord (geometry blocks units start open_code «system_disk» «granule_sectors») (now (image .entry)) (now (handle .entry)) (now (buffer .entry)) ⌝ }
+    ensures { λ r. ⌜ (
+      r,
+      now («fault_slot» .exit),
+      now (kind .exit),
+      now (address .exit),
+      now (count .exit),
+      now (position .exit),
+      now (handle .exit),
+      now (buffer .exit),
+    )
+        ≡ exportedLoadRecord (geometry blocks units start open_code «system_disk» «granule_sectors») (now (image .entry)) (now (handle .entry))
+        (now (buffer .entry)) ⌝ }
 {
     let g = genie_codec::geometry(
         blocks,
@@ -835,7 +849,15 @@ pub extern "C" fn genie_drives_look_up(
     fault_drive: &mut usize,
     fault_slot: &mut usize,
 ) -> u8
-    ensures { λ r. ⌜ (r, now («fault_drive» .exit), now («fault_slot» .exit), now (place .exit), now («found_drive» .exit), now (slot .exit), now (compared .exit))
+    ensures { λ r. ⌜ (
+      r,
+      now («fault_drive» .exit),
+      now («fault_slot» .exit),
+      now (place .exit),
+      now («found_drive» .exit),
+      now (slot .exit),
+      now (compared .exit),
+    )
         ≡ drivesLookUp (pair (geometry blocks0 units0 start0 «open_code0» «system_disk0» «granule_sectors0») (now (image0 .entry))
         (geometry blocks1 units1 start1 «open_code1» «system_disk1» «granule_sectors1») (now (image1 .entry)))
         numbered drive (now (name .entry)) ⌝ }

@@ -77,9 +77,17 @@ module _ (g : Geometry) (d : List ℕ) where
   level-low s true = omega arith
   level-low s false = omega arith
 
-  opened-fits : (n : List ℕ) (len : ℕ) (checking : Bool) (code : ℕ) → wellFormed n ≡ true → len ≤ 256 → HandleFits (openedAt g d (slotOf g d n) n len checking code)
+  opened-fits : (n : List ℕ) (len : ℕ) (checking : Bool) (code : ℕ) → wellFormed n ≡ true → len ≤ 256 → HandleFits
+      (openedAt g d (slotOf g d n) n len checking code)
   opened-fits n len checking code h l =
-      record { slot = found-low n; level = level-low (slotOf g d n) (full g d (slotOf g d n) checking code); len = omega arith; at = omega arith; name = well-length n h }
+      record {
+        slot = found-low n;
+        level = level-low (slotOf g d n) (full g d (slotOf g d n) checking code);
+        len = omega arith;
+        at = omega arith;
+        name =
+            well-length n h;
+      }
 
   -- open, refused or accepted
   pub open-fits : (n : List ℕ) (len : ℕ) (checking : Bool) (code : ℕ) → HandleFits (open′ g d n len checking code .handle)

@@ -57,7 +57,8 @@ there-and-back h f =
     let a : h .slot % 256 ≡ h .slot = omega (arith, f .slot) in
     let b : h .level % 256 ≡ h .level = omega (arith, f .level) in
     let c : h .len % 256 + 256 * (h .len / 256 % 256) ≡ h .len = omega (arith, f .len) in
-    let e : h .at % 256 + 256 * (h .at / 256 % 256) + 65536 * (h .at / 256 / 256 % 256 + 256 * (h .at / 256 / 256 / 256 % 256)) ≡ h .at = omega (arith, f .at) in
+    let e : h .at % 256 + 256 * (h .at / 256 % 256) + 65536 * (h .at / 256 / 256 % 256 + 256 * (h .at / 256 / 256 / 256 % 256)) ≡ h .at = omega (arith, f .at)
+    in
     let n : take 11 (h .name) ≡ h .name = take-all 11 (h .name) (omega (arith, f .name)) in
     λ i. record { slot = a i; name = n i; at = e i; len = c i; level = b i }
 

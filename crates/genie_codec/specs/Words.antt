@@ -8,7 +8,8 @@ use Rattle.differences.specs.declared.Difference.{Difference}
 
 -- the five numbers and the flag that state a disk
 abbrev pub geometry : ℕ → ℕ → ℕ → ℕ → Bool → ℕ → Geometry
-geometry blocks units start code system granule = record { blocks = blocks; units = units; start = start; noPassword = code; system = system; granule = granule }
+geometry blocks units start code system granule = record
+    { blocks = blocks; units = units; start = start; noPassword = code; system = system; granule = granule }
 
 -- the flag that a host gives for a write
 unfoldable pub modeOf : Bool → Mode

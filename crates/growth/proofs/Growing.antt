@@ -215,5 +215,6 @@ module _ (g : Geometry) (p : ℕ) (lowest : Bool) where
     growing-stuck u v none =
         ap fails (c .rest) ∙ grow-stuck left d h (Step.one-none g p choice d u (rw (c .stand .last, c .stand .many) v) none)
 
-  pub growing-end : {k : ℕ} {d₀ d : List ℕ} {e r a l next most slot left : ℕ} → Growing k d₀ d e r a l next most slot left → left ≤ 0 → grown d ≡ growBy g p choice k d₀
+  pub growing-end : {k : ℕ} {d₀ d : List ℕ} {e r a l next most slot left : ℕ} → Growing k d₀ d e r a l next most slot left → left ≤ 0 → grown d ≡ growBy g p
+      choice k d₀
   growing-end {left = left} c h = sym (c .rest ∙ grow-done left _ h)

@@ -30,13 +30,15 @@ module _ (g : Geometry) (p : ℕ) where
     pub ready : Ready g d′ p
     pub many : length (owned g d′ p) ≡ length (owned g d p) + k
 
-  by-ready : (lowest : Bool) (k : ℕ) (d d′ : List ℕ) → Ready g d p → k ≤ length (freeGranules g d) → growBy g p (choiceBy g lowest) k d ≡ grown d′ → More d d′ k
+  by-ready : (lowest : Bool) (k : ℕ) (d d′ : List ℕ) → Ready g d p → k ≤ length (freeGranules g d) → growBy g p (choiceBy g lowest) k d ≡ grown d′ → More d d′
+      k
   unfolding growBy andThen
   by-ready lowest zero d d′ y h q = let r : d ≡ d′ = cc in subst (λ (l : List ℕ). More d l 0) r (record { ready = y; many = omega arith })
   by-ready lowest (suc k) d d′ y h q = go (takeAt g p (choiceBy g lowest d) d) refl q (λ d₁ y₁ l. by-ready lowest k d₁ d′ y₁ l)
     where
       go : (t : Grown) → takeAt g p (choiceBy g lowest d) d ≡ t → andThen t (growBy g p (choiceBy g lowest) k) ≡ grown d′
-          → ((d₁ : List ℕ) → Ready g d₁ p → k ≤ length (freeGranules g d₁) → growBy g p (choiceBy g lowest) k d₁ ≡ grown d′ → More d₁ d′ k) → More d d′ (suc k)
+          → ((d₁ : List ℕ) → Ready g d₁ p → k ≤ length (freeGranules g d₁) → growBy g p (choiceBy g lowest) k d₁ ≡ grown d′ → More d₁ d′ k) → More d d′
+          (suc k)
       go (grown d₁) e q ih =
           let c = Step.sound′ g d p y in let f = Step.file′ g d p y in
           let n = chooses g p lowest d (omega arith) in
@@ -60,7 +62,8 @@ module _ (g : Geometry) (p : ℕ) where
   not-fails z (grown d) f = refl
   not-fails z noSlot f = absurd (let y : _≡_ {A = ℕ} 0 1 = cc in let v : ⊥ = omega arith in v)
 
-  pub larger-ready : {d d′ : List ℕ} (k : ℕ) {n : ℕ} → Ready g d p → n ≡ first (cannotGrow g d p k) → n ≡ 0 → d′ ≡ cond (accepted n) (withGranules g d p k) d → More d d′ k
+  pub larger-ready : {d d′ : List ℕ} (k : ℕ) {n : ℕ} → Ready g d p → n ≡ first (cannotGrow g d p k) → n ≡ 0 → d′ ≡ cond (accepted n) (withGranules g d p k) d
+      → More d d′ k
   larger-ready {d} {d′} k {n} y e z q =
       let t : (j : ℕ) → _ = λ j. first-at (cannotGrow g d p k) (sym e ∙ z) refl j in
       let w : d′ ≡ withGranules g d p k = q ∙ ap (λ (j : ℕ). cond (accepted j) (withGranules g d p k) d) z in

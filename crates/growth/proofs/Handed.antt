@@ -10,7 +10,8 @@ use Rattle.laws.specs.Steps.{Ready}
 use Rattle.layout.proofs.HasRoom.{slot-yes}
 use Rattle.passed.proofs.Checked.{passed, passed-user}
 
-pub ready : (g : Geometry) (d : List ℕ) (h : Handle) (ranged : Bool) (most : ℕ) {n : ℕ} → n ≡ first (handleRefusals g d h ranged (protected g d most h ∷ [])) → n ≡ 0 → Ready g d (h .slot)
+pub ready : (g : Geometry) (d : List ℕ) (h : Handle) (ranged : Bool) (most : ℕ) {n : ℕ} → n ≡ first (handleRefusals g d h ranged (protected g d most h ∷ []))
+    → n ≡ 0 → Ready g d (h .slot)
 ready g d h ranged most e z =
     let w = passed g d h ranged (protected g d most h ∷ []) refl e z in
     record {

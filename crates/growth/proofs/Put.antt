@@ -11,7 +11,8 @@ use Rattle.meaning.specs.Growth.{newExtension, withExtension}
 use Rattle.meaning.specs.declared.Geometry.{Geometry}
 use Rattle.growth.specs.Choose.{OnlyGat}
 
-module _ (g : Geometry) (p : ℕ) (d : List ℕ) (e x : ℕ) {d₁ : List ℕ} (q : d₁ ≡ sets (set (set d (entryAt g e + 0x1e) 0xfe) (entryAt g e + 0x1f) x) (entryAt g x) (newExtension e)) where
+module _ (g : Geometry) (p : ℕ) (d : List ℕ) (e x : ℕ) {d₁ : List ℕ}
+    (q : d₁ ≡ sets (set (set d (entryAt g e + 0x1e) 0xfe) (entryAt g e + 0x1f) x) (entryAt g x) (newExtension e)) where
   pub extension-put : set d₁ (hitAt g x) (getD d (hitAt g p) 0) ≡ withExtension g p d e x
   unfolding setField hit
   extension-put = ap (λ (l : List ℕ). set l (hitAt g x) (getD d (hitAt g p) 0)) q
@@ -53,4 +54,5 @@ put-back g d d₂ z {d₃} {s} o h lz e q =
     let c₂ : drop (A + length W) d₂ ≡ drop (A + 192) d = ap (λ (n : ℕ). drop (A + n) d₂) lv ∙ o .behind in
     let c₃ : take A d₂ ++ W ++ drop (A + length W) d₂ ≡ take A d ++ W ++ drop (A + 192) d = ap₂ (λ (x y : List ℕ). x ++ W ++ y) (o .below) c₂ in
     let c₄ : W ++ drop (A + 192) d ≡ drop A d = ap (λ (x : List ℕ). W ++ x) (sym (drop-drop 192 A d)) ∙ take-append-drop 192 (drop A d) in
-    q ∙ ap (λ (x : List ℕ). sets d₂ A x) s₄ ∙ c₁ ∙ c₃ ∙ append-assoc (take A d) W (drop (A + 192) d) ∙ ap (λ (x : List ℕ). take A d ++ x) c₄ ∙ take-append-drop A d
+    q ∙ ap (λ (x : List ℕ). sets d₂ A x) s₄ ∙ c₁ ∙ c₃ ∙ append-assoc (take A d) W (drop (A + 192) d) ∙ ap (λ (x : List ℕ). take A d ++ x) c₄ ∙
+    take-append-drop A d

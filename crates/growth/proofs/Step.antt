@@ -89,19 +89,22 @@ module _ (g : Geometry) (p : ℕ) (choice : List ℕ → ℕ) where
   abbrev pub Free′ : List ℕ → Type 0
   Free′ d = (choice d < granules g) × (T (taken g d (choice d)) → ⊥)
 
-  lengthens-is : (d : List ℕ) {e r : ℕ} → tail g p d ≡ e → runs g d e ≡ r → lengthens g p d ≡ all (leb 1 r ∷ ltb (runStart g d e (r - 1) + runLength g d e (r - 1)) (granules g)
+  lengthens-is : (d : List ℕ) {e r : ℕ} → tail g p d ≡ e → runs g d e ≡ r → lengthens g p d ≡ all
+      (leb 1 r ∷ ltb (runStart g d e (r - 1) + runLength g d e (r - 1)) (granules g)
       ∷ not (taken g d (runStart g d e (r - 1) + runLength g d e (r - 1))) ∷ ltb (runLength g d e (r - 1)) 32 ∷ [])
   unfolding lengthens
   lengthens-is d q w = rw (q, w)
 
   -- a last run that is there
-  pub stand-run : {d : List ℕ} {e r a l : ℕ} → Ready g d p → tail g p d ≡ e → runs g d e ≡ r → 1 ≤ r → a ≡ runStart g d e (r - 1) + runLength g d e (r - 1) → l ≡ runLength g d e (r - 1) → Stand g p d e r a l
+  pub stand-run : {d : List ℕ} {e r a l : ℕ} → Ready g d p → tail g p d ≡ e → runs g d e ≡ r → 1 ≤ r → a ≡ runStart g d e (r - 1) + runLength g d e (r - 1) →
+      l ≡ runLength g d e (r - 1) → Stand g p d e r a l
   stand-run {d} {e} {r} {a} {l} y q w h u v = record {
     ready = y;
     last = q;
     many = w;
     after = λ z. (h, u, v);
-    full = λ z. lengthens-is d q w ∙ shut (ltb (runStart g d e (r - 1) + runLength g d e (r - 1)) (granules g)) (not (taken g d (runStart g d e (r - 1) + runLength g d e (r - 1)))) z;
+    full = λ z. lengthens-is d q w ∙ shut (ltb (runStart g d e (r - 1) + runLength g d e (r - 1)) (granules g))
+        (not (taken g d (runStart g d e (r - 1) + runLength g d e (r - 1)))) z;
   }
     where
       shut : (x y : Bool) → 32 ≤ l → all (leb 1 r ∷ x ∷ y ∷ ltb (runLength g d e (r - 1)) 32 ∷ []) ≡ false
@@ -128,11 +131,13 @@ module _ (g : Geometry) (p : ℕ) (choice : List ℕ → ℕ) where
 
     -- the three ways in which the last run does not grow
     pub shut-past : granules g ≤ a → lengthens g p d ≡ false
-    shut-past h = ⊎-elim (λ z. s .full z) (λ z. let w = s .after z in lengthens-is d (s .last) (s .many) ∙ all-yes (le-leb 1 r (w .0)) _ ∙ all-no (le-ltb _ _ (subst (λ (x : ℕ). granules g ≤ x) (w .1) h)) _) (le-or-lt 32 l)
+    shut-past h = ⊎-elim (λ z. s .full z) (λ z. let w = s .after z in lengthens-is d (s .last) (s .many) ∙ all-yes (le-leb 1 r (w .0)) _ ∙ all-no
+        (le-ltb _ _ (subst (λ (x : ℕ). granules g ≤ x) (w .1) h)) _) (le-or-lt 32 l)
 
     pub shut-taken : taken g d a ≡ true → lengthens g p d ≡ false
     shut-taken h = ⊎-elim (λ z. s .full z) (λ z. ⊎-elim (λ y. shut-past y) (λ y. let w = s .after z in
-        lengthens-is d (s .last) (s .many) ∙ all-yes (le-leb 1 r (w .0)) _ ∙ all-yes (lt-ltb _ _ (subst (λ (x : ℕ). x < granules g) (w .1) y)) _ ∙ all-no (ap not (ap (taken g d) (sym (w .1)) ∙ h)) _) (le-or-lt (granules g) a)) (le-or-lt 32 l)
+        lengthens-is d (s .last) (s .many) ∙ all-yes (le-leb 1 r (w .0)) _ ∙ all-yes (lt-ltb _ _ (subst (λ (x : ℕ). x < granules g) (w .1) y)) _ ∙ all-no
+        (ap not (ap (taken g d) (sym (w .1)) ∙ h)) _) (le-or-lt (granules g) a)) (le-or-lt 32 l)
 
   -- Only the last entry's pairs change: it is still the last one
   grows-tail : {d d′ : List ℕ} {m : ℕ} → Ready g d p → Tail.Grows g d d′ p m → tail g p d′ ≡ tail g p d
@@ -143,7 +148,8 @@ module _ (g : Geometry) (p : ℕ) (choice : List ℕ → ℕ) where
   unfolding freeSlot permitted
   slots-eq d d′ a x h = rw (Frame.slot-eq g d d′ a x) (go (isSlot g d x) (λ q. h (Members.true-T q)))
     where
-      go : (b : Bool) → (b ≡ true → hit g d′ x ≡ hit g d x) → all (all (b ∷ not (kept g x) ∷ []) ∷ eqb (hit g d′ x) 0 ∷ []) ≡ all (all (b ∷ not (kept g x) ∷ []) ∷ eqb (hit g d x) 0 ∷ [])
+      go : (b : Bool) → (b ≡ true → hit g d′ x ≡ hit g d x) → all (all (b ∷ not (kept g x) ∷ []) ∷ eqb (hit g d′ x) 0 ∷ []) ≡ all
+          (all (b ∷ not (kept g x) ∷ []) ∷ eqb (hit g d x) 0 ∷ [])
       go true f = rw (f refl)
       go false f = all-no (all-no refl _) _ ∙ sym (all-no (all-no refl _) _)
 
@@ -169,7 +175,8 @@ module _ (g : Geometry) (p : ℕ) (choice : List ℕ → ℕ) where
     longer-same : Places.Fits g d → m < granules g → entryAt g e + k < length d → field g longer e k ≡ v
     unfolding words
     longer-same w h l =
-        gat-field (setField g d e k v) m e k (same-fits d (setField g d e k v) (length-set d (entryAt g e + k) v) w) h ∙ getD-set-same d (entryAt g e + k) v 0 l
+        gat-field (setField g d e k v) m e k (same-fits d (setField g d e k v) (length-set d (entryAt g e + k) v) w) h ∙ getD-set-same d (entryAt g e + k) v 0
+        l
 
     longer-other : Places.Fits g d → m < granules g → (j : ℕ) → j ≢ k → field g longer e j ≡ field g d e j
     unfolding words
@@ -180,17 +187,20 @@ module _ (g : Geometry) (p : ℕ) (choice : List ℕ → ℕ) where
   one-long : (d : List ℕ) → lengthens g p d ≡ true → takeAt g p (choice d) d ≡ grown (lengthened g p d)
   one-long d h = rw h
 
-  one-pair : (d : List ℕ) → lengthens g p d ≡ false → runs g d (tail g p d) < 4 → takeAt g p (choice d) d ≡ grown (withPair g d (tail g p d) (runs g d (tail g p d)) (choice d))
+  one-pair : (d : List ℕ) → lengthens g p d ≡ false → runs g d (tail g p d) < 4 → takeAt g p (choice d) d ≡ grown
+      (withPair g d (tail g p d) (runs g d (tail g p d)) (choice d))
   one-pair d h l = rw (h, lt-ltb (runs g d (tail g p d)) 4 l)
 
-  one-new : (d : List ℕ) → lengthens g p d ≡ false → 4 ≤ runs g d (tail g p d) → takeAt g p (choice d) d ≡ extended g p (freeSlots g d) d (tail g p d) (choice d)
+  one-new : (d : List ℕ) → lengthens g p d ≡ false → 4 ≤ runs g d (tail g p d) → takeAt g p (choice d) d ≡ extended g p (freeSlots g d) d (tail g p d)
+      (choice d)
   one-new d h l = rw (h, le-ltb (runs g d (tail g p d)) 4 l)
 
   pub one-none : (d : List ℕ) → lengthens g p d ≡ false → 4 ≤ runs g d (tail g p d) → NoneBelow (freeSlot g d) 256 → takeAt g p (choice d) d ≡ noSlot
   unfolding extended freeSlots
   one-none d h l none = one-new d h l ∙ ap (λ (xs : List ℕ). extended g p xs d (tail g p d) (choice d)) (keep-none (freeSlot g d) 256 0 none)
 
-  taken-by : (d d′ : List ℕ) (m : ℕ) → Ready g d p → takeAt g p (choice d) d ≡ grown d′ → Longer.Longer g d d′ p m → length d′ ≡ length d → Taken g p choice d d′ m
+  taken-by : (d d′ : List ℕ) (m : ℕ) → Ready g d p → takeAt g p (choice d) d ≡ grown d′ → Longer.Longer g d d′ p m → length d′ ≡ length d → Taken g p choice d
+      d′ m
   taken-by d d′ m y q w l = record {
     one = q;
     set′ = Members.T-true (w .set′);
@@ -252,7 +262,9 @@ module _ (g : Geometry) (p : ℕ) (choice : List ℕ → ℕ) where
     one₁ = one-long d yes₁ ∙ ap grown is₁
 
     grows₁ : Tail.Grows g d d₁ p a
-    grows₁ = subst (λ (x : List ℕ). Tail.Grows g d x p a) is₁ (subst (λ (x : ℕ). Tail.Grows g d (lengthened g p d) p x) after₁ (Take.lengthened-grows g d (sound′ g d p y₁) fits₁ p (file′ g d p y₁) (Members.true-T yes₁)))
+    grows₁ = subst (λ (x : List ℕ). Tail.Grows g d x p a) is₁
+        (subst (λ (x : ℕ). Tail.Grows g d (lengthened g p d) p x) after₁
+        (Take.lengthened-grows g d (sound′ g d p y₁) fits₁ p (file′ g d p y₁) (Members.true-T yes₁)))
 
     long₁ : length d₁ ≡ length d
     unfolding d₁
@@ -267,7 +279,8 @@ module _ (g : Geometry) (p : ℕ) (choice : List ℕ → ℕ) where
     pub longer-stand : Free′ d → Stand g p d₁ e r (a + 1) (l + 1)
     longer-stand room =
         stand-run (take-ready g d p y₁ (choice d) room d₁ one₁ .0) (grows-tail y₁ grows₁ ∙ s .last) runs₁ some₁
-        (let u = s .after h in let v : a + 1 ≡ runStart g d e (r - 1) + (l + 1) = omega arith in v ∙ ap₂ (λ (x z : ℕ). x + z) (sym start₁) (sym length₁)) (sym length₁)
+        (let u = s .after h in let v : a + 1 ≡ runStart g d e (r - 1) + (l + 1) = omega arith in v ∙ ap₂ (λ (x z : ℕ). x + z) (sym start₁) (sym length₁))
+        (sym length₁)
 
   -- 2. A new run in the last entry --------------------------------------------------------------------------------------------
 

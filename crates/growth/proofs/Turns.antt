@@ -11,7 +11,8 @@ use lib.Dec.{eqb}
 use lib.Seq.{getD-set-other, take-set-le, drop-set-lt}
 use Rattle.meaning.specs.Lists.{count, firstOr}
 use Rattle.meaning.specs.Stretch.{stretch, longestIn, lowEnd}
-use Rattle.meaning.specs.Layout.{taken, takeGranule, field, setField, granules, gatAt, entryAt, isSlot, hit, aboveTen, directorySectors, mostBlocks, mostGranules}
+use Rattle.meaning.specs.Layout.{taken, takeGranule, field, setField, granules, gatAt, entryAt, isSlot, hit, aboveTen, directorySectors, mostBlocks}
+use Rattle.meaning.specs.Layout.{mostGranules}
 use Rattle.meaning.specs.Growth.{tail, lengthens, growBy, grown, fails, diskOr, withPair, withExtension}
 use Rattle.meaning.specs.Free.{freeGranules, freeSlot, permitted}
 use Rattle.meaning.specs.declared.Geometry.{Geometry}
@@ -34,7 +35,8 @@ use Rattle.growth.specs.declared.Chosen.{Chosen}
 use Rattle.growth.proofs.Known.{known-less}
 use Rattle.growth.proofs.Stand.{Stand}
 use Rattle.growth.proofs.Step
-use Rattle.growth.proofs.Growing.{Growing, growing-start, growing-longer, growing-pair, growing-new, growing-stuck, growing-end, Pick, picked, stand-room, stand-slot, ready-slot, not-stuck}
+use Rattle.growth.proofs.Growing.{Growing, growing-start, growing-longer, growing-pair, growing-new, growing-stuck, growing-end, Pick, picked}
+use Rattle.growth.proofs.Growing.{stand-room, stand-slot, ready-slot, not-stuck}
 use Rattle.growth.proofs.Put.{extended-long}
 
 -- A granule marked in the GAT of any disk: what else is read stays --------------------------------------------------------------------
@@ -68,7 +70,8 @@ module _ (g : Geometry) (d : List ℕ) (r : Room g d) (m : ℕ) (i : m < granule
 
   mark-room : Room g (takeGranule g d m)
   mark-room =
-      let e : directorySectors g (takeGranule g d m) ≡ directorySectors g d = unfold words in ap (λ (k : ℕ). 10 + k) (mark-byte (256 * (g .start + 1) + 0x1f) (omega arith)) in
+      let e : directorySectors g (takeGranule g d m) ≡ directorySectors g d = unfold words in
+      ap (λ (k : ℕ). 10 + k) (mark-byte (256 * (g .start + 1) + 0x1f) (omega arith)) in
       let l = mark-long in
       record {
         blocks-low = r .blocks-low;
@@ -287,7 +290,8 @@ module _ (g : Geometry) (p : ℕ) (lowest : Bool) where
           turned writes c (w .2) (w .0) (o .inside) (λ y z. w .1 y (λ e. omega arith)) (omega arith)
           (λ y. F (withExtension g p y last x)) refl (twice writes d n (λ y. withExtension g p y last x) F q₁ q₂)
 
-      pub turn-stuck : (writes ≡ true → fails (growBy g p (choiceBy g lowest) k d₀) ≡ false) → lengthens g p (c .now) ≡ false → 4 ≤ r → {x : ℕ} → NextSlot g d slot x → x ≡ 256
+      pub turn-stuck : (writes ≡ true → fails (growBy g p (choiceBy g lowest) k d₀) ≡ false) → lengthens g p (c .now) ≡ false → 4 ≤ r → {x : ℕ} → NextSlot g d
+          slot x → x ≡ 256
           → Leaves g p k lowest writes d₀ true d
       turn-stuck fine u v s o =
           let e = growing-stuck g p lowest (c .growing) h u v (λ m b. slots-below s m (omega arith)) in

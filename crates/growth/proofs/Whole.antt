@@ -71,12 +71,17 @@ module _ (g : Geometry) (d : List ℕ) (p : ℕ) where
   pub whole-nine : (k : ℕ) → noGrowth g d p ≡ false → ltb (length (freeGranules g d)) k ≡ true → Whole k 9 d
   whole-nine k e f = (sym (first-skip (no-eleven k e) 11 _ ∙ first-hit f 9 _), refl)
 
-  pub whole-eight : (k : ℕ) → noGrowth g d p ≡ false → ltb (length (freeGranules g d)) k ≡ false → fails (By true k) ≡ true → fails (By false k) ≡ true → Whole k 8 d
+  pub whole-eight : (k : ℕ) → noGrowth g d p ≡ false → ltb (length (freeGranules g d)) k ≡ false → fails (By true k) ≡ true → fails (By false k) ≡ true →
+      Whole k 8 d
   whole-eight k e f w v = (sym (first-skip (no-eleven k e) 11 _ ∙ first-skip f 9 _ ∙ first-hit (ap fails (by-second k w) ∙ v) 8 []), refl)
 
   whole-grown : (k : ℕ) {d′ : List ℕ} {t : Grown} → noGrowth g d p ≡ false → ltb (length (freeGranules g d)) k ≡ false → growth g p k d ≡ t → fails t ≡ false
       → d′ ≡ diskOr d t → Whole k 0 d′
-  whole-grown k e f o w q = (sym (first-skip (no-eleven k e) 11 _ ∙ first-skip f 9 _ ∙ first-skip (ap fails o ∙ w) 8 [] ∙ first-none), q ∙ ap (diskOr d) (sym o))
+  whole-grown k e f o w q = (
+    sym (first-skip (no-eleven k e) 11 _ ∙ first-skip f 9 _ ∙ first-skip (ap fails o ∙ w) 8 [] ∙ first-none),
+    q ∙ ap (diskOr d)
+        (sym o),
+  )
 
   pub whole-first : (k : ℕ) {d₁ d′ : List ℕ} → noGrowth g d p ≡ false → ltb (length (freeGranules g d)) k ≡ false → fails (By true k) ≡ false
       → d₁ ≡ d → d′ ≡ diskOr d₁ (growBy g p (choiceBy g true) k d₁) → Whole k 0 d′
@@ -87,10 +92,12 @@ module _ (g : Geometry) (d : List ℕ) (p : ℕ) where
   whole-second k e f w v o q = whole-grown k e f (by-second k w) v (q ∙ ap (λ (m : List ℕ). diskOr m (growBy g p (choiceBy g false) k m)) o)
 
   -- what the growth asks of the disk, after one on paper has left it as it was
-  pub again : {e k : ℕ} {d₁ : List ℕ} → d₁ ≡ d → Ready g d p → e ≡ tail g p d → k ≤ length (freeGranules g d) → Ready g d₁ p × (e ≡ tail g p d₁) × (k ≤ length (freeGranules g d₁))
+  pub again : {e k : ℕ} {d₁ : List ℕ} → d₁ ≡ d → Ready g d p → e ≡ tail g p d → k ≤ length (freeGranules g d) → Ready g d₁ p × (e ≡ tail g p d₁) ×
+      (k ≤ length (freeGranules g d₁))
   again o y e h = rw o (y, e, h)
 
-  pub again-fails : (lowest : Bool) (k : ℕ) {d₁ : List ℕ} → d₁ ≡ d → fails (By lowest k) ≡ false → _≡_ {A = Bool} true true → fails (growBy g p (choiceBy g lowest) k d₁) ≡ false
+  pub again-fails : (lowest : Bool) (k : ℕ) {d₁ : List ℕ} → d₁ ≡ d → fails (By lowest k) ≡ false → _≡_ {A = Bool} true true → fails
+      (growBy g p (choiceBy g lowest) k d₁) ≡ false
   again-fails lowest k o e b = rw o e
 
   -- what is lacking, from the number of granules counted

@@ -39,7 +39,8 @@ fn put_longer(image: &mut [u8], g: Geometry, e: usize, k: usize, m: usize, write
 fn put_pair(image: &mut [u8], g: Geometry, e: usize, k: usize, n: usize, writes: bool)
     requires { ⌜ Inside g (length (now image)) e n × (k < 4) ⌝ }
     ensures { λ _. ⌜ now (image .exit) ≡ takeGranule g
-        (cond writes (setField g (setField g (now (image .entry)) e (0x16 + 2 * k) (n / g .units)) e (0x17 + 2 * k) (n % g .units * 32)) (now (image .entry))) n ⌝ }
+        (cond writes (setField g (setField g (now (image .entry)) e (0x16 + 2 * k) (n / g .units)) e (0x17 + 2 * k) (n % g .units * 32)) (now (image .entry)))
+        n ⌝ }
 {
     if !writes {
         layout::take_granule(image, g, n);

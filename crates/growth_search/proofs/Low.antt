@@ -170,7 +170,8 @@ module _ (g : Geometry) (d : List ℕ) where
   clearing-stop {r = true} c h w e = absurd (differ e refl)
   clearing-stop {n = n} {many = many} {i = i} {left = left} {r = false} c h w e = record {
     yes = λ q. absurd (differ q refl);
-    no = λ q s. let z = s i (c .low) (omega (arith, c .sum)) in ⊎-elim (λ (y : granules g ≤ i). let x = z .0 in omega arith) (λ y. differ y (z .1)) (w .no refl);
+    no = λ q s. let z = s i (c .low) (omega (arith, c .sum)) in
+        ⊎-elim (λ (y : granules g ≤ i). let x = z .0 in omega arith) (λ y. differ y (z .1)) (w .no refl);
   }
 
   pub clearing-end : {n many i left : ℕ} → Clearing n many i left → left ≤ 0 → AllClear g d n many true

@@ -47,7 +47,8 @@ module _ (g : Geometry) (d : List ℕ) where
       let q : n / g .units * g .units ≡ n = sym (add-zero _) ∙ ap (λ (k : ℕ). n / g .units * g .units + k) (sym z) ∙ div-add-mod' n (g .units) in
       let b : n / g .units < g .blocks = div-lt-iff-lt-mul some .1 (omega arith) in
       let m = mul-le-mul-right (g .units) b in
-      let s : (n / g .units + 1) * g .units ≡ n / g .units * g .units + g .units = add-mul (n / g .units) 1 (g .units) ∙ ap (λ (k : ℕ). n / g .units * g .units + k) (one-mul (g .units)) in
+      let s : (n / g .units + 1) * g .units ≡ n / g .units * g .units + g .units = add-mul (n / g .units) 1 (g .units) ∙ ap
+      (λ (k : ℕ). n / g .units * g .units + k) (one-mul (g .units)) in
       record {
         low = omega (arith, w .low);
         high = omega arith;

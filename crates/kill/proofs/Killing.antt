@@ -14,7 +14,8 @@ use Rattle.meaning.specs.declared.Refusal.{Refusal}
 
 module _ (g : Geometry) (d : List ℕ) (h : Handle) where
   -- the number of a kill is that of a changing call at level 1
-  pub by-range : {ranged : Bool} {n : ℕ} → ranged ≡ inRange g h → n ≡ first (handleRefusals g d h ranged (protected g d 1 h ∷ [])) → n ≡ first (killRefusals g d h)
+  pub by-range : {ranged : Bool} {n : ℕ} → ranged ≡ inRange g h → n ≡ first (handleRefusals g d h ranged (protected g d 1 h ∷ [])) → n ≡ first
+      (killRefusals g d h)
   by-range r e = e ∙ ap (λ (t : Bool). first (handleRefusals g d h t (protected g d 1 h ∷ []))) r
 
   pub refused : {n : ℕ} {c : Refusal} → c ≡ refusal g d n → n ≡ first (killRefusals g d h) → (n ≡ 0 → ⊥)

@@ -60,7 +60,8 @@ module _ (g : Geometry) (d d′ : List ℕ) (c : Sound g d) (p : ℕ) (f : Facts
   split = Members.split-front p (Change.tail-in g d c p f)
 
   front-agrees : (x : ℕ) → In x (Members.front (chain g d p)) → Agree g d d′ x
-  front-agrees x i = h .agrees x (slot-of x (Members.front-in p (Change.tail-in g d c p f) i)) (Members.front-not-last p (c .once p f) (Change.tail-in g d c p f) i)
+  front-agrees x i = h .agrees x (slot-of x (Members.front-in p (Change.tail-in g d c p f) i))
+      (Members.front-not-last p (c .once p f) (Change.tail-in g d c p f) i)
 
   -- the granules of the entries before the last
   abbrev pub earlier : List ℕ
@@ -92,7 +93,8 @@ module _ (g : Geometry) (d d′ : List ℕ) (c : Sound g d) (p : ℕ) (f : Facts
         slot = rw (Frame.slot-eq g d d′ (h .above) (link g d x)) (l .next .slot);
         flags = steady (link g d x) (l .next .slot) 0 (omega arith) (inl (omega arith)) ∙ l .next .flags;
         before = steady (link g d x) (l .next .slot) 1 (omega arith) (inl (omega arith)) ∙ l .next .before;
-        some′ = rw q (h .some′ (λ w. T-not (extension g d p) (Facts.file-first g d p f) (Change.flags-extension (field g d p 0) (rw (q ∙ w) at (l .next .flags)))));
+        some′ = rw q (h .some′ (λ w. T-not (extension g d p) (Facts.file-first g d p f)
+            (Change.flags-extension (field g d p 0) (rw (q ∙ w) at (l .next .flags)))));
       }
 
   name-stays : nameOf g d′ p ≡ nameOf g d p

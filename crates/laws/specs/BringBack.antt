@@ -98,10 +98,12 @@ module _ (g : Geometry) (d : List ℕ) where
       let a : T (not (extension g d p)) = w .first in
       let b : T (wellFormed (nameOf g d p)) = w .name in
       let z : T (not (bit 5 (field g d p 0))) = w .zero′ in
-      let es : T (every (killedEntryHolds g d) (chain g d p)) = Members.all-every (killedEntryHolds g d) (chain g d p) (λ x i. says-killed x (w .entries x i)) in
+      let es : T (every (killedEntryHolds g d) (chain g d p)) = Members.all-every (killedEntryHolds g d) (chain g d p) (λ x i. says-killed x (w .entries x i))
+      in
       let os : T (distinct (chain g d p)) = Members.says-distinct (w .once) in
       let ss : T (distinct (owned g d p)) = Members.says-distinct (w .single) in
-      let n : T (not (eqb (sectorCount g d p) 0) || eqb (endByte g d p) 0) = Members.or-if (eqb (sectorCount g d p) 0) _ (λ t. Members.eq-T (w .count′ (eqb→eq _ _ t))) in
+      let n : T (not (eqb (sectorCount g d p) 0) || eqb (endByte g d p) 0) = Members.or-if (eqb (sectorCount g d p) 0) _
+      (λ t. Members.eq-T (w .count′ (eqb→eq _ _ t))) in
       let f : T (leb (sizeOf g d p) (granuleBytes g * length (owned g d p))) = le→leb _ _ (w .fits) in
       search Members.and-i depth 9
 
@@ -162,7 +164,8 @@ module _ (g : Geometry) (d : List ℕ) (c : Sound g d) (k : Places.Fits g d) (p 
 
   own-lt : (n : ℕ) → In n (owned g d p) → n < granules g
   unfolding owned
-  own-lt n i = let x = Members.each-in (entryGranules g d) n (chain g d p) i in Places.runs-granule-lt g d (x .0) n (w .whole′ .entries (x .0) (x .1) .run) (x .2)
+  own-lt n i = let x = Members.each-in (entryGranules g d) n (chain g d p) i in
+      Places.runs-granule-lt g d (x .0) n (w .whole′ .entries (x .0) (x .1) .run) (x .2)
 
   pub back-marks : Marking.Marks g d 1 (owned g d p) (chain g d p)
   back-marks = record { dir = Places.dir g d (c .dir); fits = k; digit′ = omega arith; granules′ = own-lt; slots′ = λ x i. part x i .slot }
@@ -216,7 +219,11 @@ module _ (g : Geometry) (d : List ℕ) (c : Sound g d) (k : Places.Fits g d) (p 
   used′ x i = Members.eq-T (ap (λ (b : ℕ). digit b 4) (back-flags x i) ∙ Bits.digit-same (field g d x 0) 4 1 (omega arith))
 
   pub back-file : IsFile g d′ p
-  back-file = record { slot = slot′ p head; primary′ = Members.and-i (inUse g d′ p) (not (extension g d′ p)) (used′ p head) (rw (flag-other 7 (omega arith)) (w .whole′ .first)) }
+  back-file = record {
+    slot = slot′ p head;
+    primary′ = Members.and-i (inUse g d′ p) (not (extension g d′ p)) (used′ p head)
+        (rw (flag-other 7 (omega arith)) (w .whole′ .first));
+  }
 
   later′ : (x : ℕ) → In x (chain g d p) → x ≢ p → field g d′ x 0 ≡ 0x90
   later′ x i n = go (part x i .kind)
@@ -241,7 +248,11 @@ module _ (g : Geometry) (d : List ℕ) (c : Sound g d) (k : Places.Fits g d) (p 
     name = rw back-name (w .whole′ .name);
     zero′ = rw (flag-other 5 (omega arith)) (w .whole′ .zero′);
     hashes = λ s i. rw back-name (back-hit s (rw back-chain at i));
-    count′ = rw (Marking.file-end g d 1 (hash (nameOf g d p)) p (w .slot) back-marks, Marking.file-low g d 1 (hash (nameOf g d p)) p (w .slot) back-marks, Marking.file-high g d 1 (hash (nameOf g d p)) p (w .slot) back-marks) (w .whole′ .count′);
+    count′ = rw (
+      Marking.file-end g d 1 (hash (nameOf g d p)) p (w .slot) back-marks,
+      Marking.file-low g d 1 (hash (nameOf g d p)) p (w .slot) back-marks,
+      Marking.file-high g d 1 (hash (nameOf g d p)) p (w .slot) back-marks,
+    ) (w .whole′ .count′);
     fits = rw (back-size, back-owned) (w .whole′ .fits);
     off = λ u n i j. w .free n (rw back-owned at i) (c .directory n (rw (Frame.directory-eq g d d′ above′) at j));
   }
@@ -282,7 +293,8 @@ module _ (g : Geometry) (d : List ℕ) (c : Sound g d) (k : Places.Fits g d) (p 
     unhit = λ x i. no-entry x i;
     born = λ x i a. unused x (in-chain x i);
     nonzero = λ x i. rw (back-hit x (in-chain x i)) (Create.hash-nonzero (nameOf g d p));
-    keeps = λ n h a b. Marking.mark-keeps g d 1 (hash (nameOf g d p)) (owned g d p) (chain g d p) back-marks n h (λ i. b (rw (Change.granulesOf-is g d′ p back-file, back-owned) i));
+    keeps = λ n h a b. Marking.mark-keeps g d 1 (hash (nameOf g d p)) (owned g d p) (chain g d p) back-marks n h
+        (λ i. b (rw (Change.granulesOf-is g d′ p back-file, back-owned) i));
     freed = λ n i. no-granule n i;
     fresh = λ n i a. w .free n (in-owned n i);
     off = λ n i. no-granule n i;
@@ -306,7 +318,8 @@ module _ (g : Geometry) (d : List ℕ) (c : Sound g d) (k : Places.Fits g d) (p 
   unfolding place words
   back-bytes =
       rw (back-size, back-owned)
-      (Members.map-eq _ _ (count 0 (sizeOf g d p)) (λ i j. let o = Others.place-in g d p i (omega (arith, w .whole′ .fits, Members.count-in i 0 (sizeOf g d p) j)) in
+      (Members.map-eq _ _ (count 0 (sizeOf g d p)) (λ i j. let o = Others.place-in g d p i
+      (omega (arith, w .whole′ .fits, Members.count-in i 0 (sizeOf g d p) j)) in
       back-same (place g d p i) (λ q. w .free _ o (c .directory _ q))))
 
   pub back-told : fileAt g d′ p ≡ backAs g d p

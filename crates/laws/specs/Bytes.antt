@@ -58,7 +58,8 @@ bytes-small d e = go d (Members.true-T e)
   where
     go : (l : List ℕ) → T (every (λ x. ltb x 256) l) → Small l
     go [] t = small-none
-    go (x ∷ l) t = small-cons (ltb→lt x 256 (Members.and-l (ltb x 256) (every (λ x. ltb x 256) l) t)) (go l (Members.and-r (ltb x 256) (every (λ x. ltb x 256) l) t))
+    go (x ∷ l) t = small-cons (ltb→lt x 256 (Members.and-l (ltb x 256) (every (λ x. ltb x 256) l) t))
+        (go l (Members.and-r (ltb x 256) (every (λ x. ltb x 256) l) t))
 
 pub small-bytes : (d : List ℕ) → Small d → AreBytes d
 small-bytes d s = Members.T-true (go d s)
@@ -171,8 +172,10 @@ module _ (g : Geometry) (d : List ℕ) (k : Places.Fits g d) where
   unfolding Marking.marking
   small-marking v h ns xs b e s =
       Places.through-stays Small (Marking.putEntry g v h) xs (through (Places.marked g v) d ns)
-      (λ l x i r. small-set (hitAt g x) (small-set (entryAt g x + 0) r (put-small (byte l (entryAt g x + 0)) 4 v b (omega arith) (r .below (entryAt g x + 0)))) e)
-      (Places.through-stays Small (Places.marked g v) ns d (λ l n i r. small-set (gatAt g n) r (put-small (byte l (gatAt g n)) (n % g .units) v b (unit-lt n) (r .below (gatAt g n)))) s)
+      (λ l x i r. small-set (hitAt g x) (small-set (entryAt g x + 0) r
+      (put-small (byte l (entryAt g x + 0)) 4 v b (omega arith) (r .below (entryAt g x + 0)))) e)
+      (Places.through-stays Small (Places.marked g v) ns d (λ l n i r. small-set (gatAt g n) r
+      (put-small (byte l (gatAt g n)) (n % g .units) v b (unit-lt n) (r .below (gatAt g n)))) s)
 
   pub small-killed : (p : ℕ) → Small d → Small (killed g d p)
   unfolding Marking.marking words
@@ -189,18 +192,22 @@ module _ (g : Geometry) (d : List ℕ) (k : Places.Fits g d) where
   unfolding words
   size-sectors p s = go (eqb (field g d p 3) 0)
     where
-      go : (b : Bool) → (cond b (256 * (field g d p 0x14 + 256 * field g d p 0x15)) (256 * (field g d p 0x14 + 256 * field g d p 0x15 - 1) + field g d p 3) + 255) / 256 < 65536
+      go : (b : Bool) → (cond b (256 * (field g d p 0x14 + 256 * field g d p 0x15)) (256 * (field g d p 0x14 + 256 * field g d p 0x15 - 1) + field g d p 3) +
+          255) / 256 < 65536
       go true = let b = s .below (entryAt g p + 0x14) in let c = s .below (entryAt g p + 0x15) in omega arith
       go false = let a = s .below (entryAt g p + 3) in let b = s .below (entryAt g p + 0x14) in let c = s .below (entryAt g p + 0x15) in omega arith
 
   -- a new file: its name well formed, its date in range, its codes of 16 bits
-  pub small-born : (x : ℕ) (n : List ℕ) (f : NewFile) → Small d → T (wellFormed n) → f .day ≤ 31 → f .month ≤ 15 → f .year ≤ 15 → f .main < 65536 → f .worker < 65536
+  pub small-born : (x : ℕ) (n : List ℕ) (f : NewFile) → Small d → T (wellFormed n) → f .day ≤ 31 → f .month ≤ 15 → f .year ≤ 15 → f .main < 65536 → f .worker
+      < 65536
       → Small (withEntry g d x n f)
   small-born x n f s w a b c e h =
       let codes : Small (f .main % 256 ∷ f .main / 256 ∷ f .worker % 256 ∷ f .worker / 256 ∷ 0 ∷ 0 ∷ replicate 10 0xff) =
-      small-cons (omega arith) (small-cons (omega arith) (small-cons (omega arith) (small-cons (omega arith) (small-cons (omega arith) (small-cons (omega arith) (small-replicate 10 (omega arith))))))) in
+      small-cons (omega arith) (small-cons (omega arith)
+      (small-cons (omega arith) (small-cons (omega arith) (small-cons (omega arith) (small-cons (omega arith) (small-replicate 10 (omega arith))))))) in
       let entry : Small (newEntry n f) =
-      small-cons (omega arith) (small-cons (omega arith) (small-cons (omega arith) (small-cons (omega arith) (small-cons (omega arith) (small-append n (name-small n w) codes))))) in
+      small-cons (omega arith) (small-cons (omega arith)
+      (small-cons (omega arith) (small-cons (omega arith) (small-cons (omega arith) (small-append n (name-small n w) codes))))) in
       small-set (hitAt g x) (small-sets (newEntry n f) (entryAt g x) s entry) (hash-small n (name-small n w))
 
 -- One granule taken, one given back ------------------------------------------------------------------------------------------------
@@ -255,11 +262,13 @@ module _ (g : Geometry) (d : List ℕ) (c : Sound g d) (k : Places.Fits g d) (p 
           let z : lengthened g p d ≡ d′ = cc in
           subst Small z (longer-small t)
       go (Members.Test.fails a) (Members.Test.holds t) =
-          let r : grown (withPair g d e (runs g d e) n) ≡ grown d′ = rw (Members.no-false {b = lengthens g p d} a, Members.T-true {b = ltb (runs g d e) 4} t) at q in
+          let r : grown (withPair g d e (runs g d e) n) ≡ grown d′ = rw (Members.no-false {b = lengthens g p d} a, Members.T-true {b = ltb (runs g d e) 4} t)
+          at q in
           let z : withPair g d e (runs g d e) n ≡ d′ = cc in
           subst Small z (pair-small d e (runs g d e) n s h)
       go (Members.Test.fails a) (Members.Test.fails b) =
-          let r : extended g p (freeSlots g d) d e n ≡ grown d′ = rw (Members.no-false {b = lengthens g p d} a, Members.no-false {b = ltb (runs g d e) 4} b) at q in
+          let r : extended g p (freeSlots g d) d e n ≡ grown d′ = rw (Members.no-false {b = lengthens g p d} a, Members.no-false {b = ltb (runs g d e) 4} b)
+          at q in
           extended-small n h (freeSlots g d) slots-small d′ r
 
   unhooked-small : (l : List ℕ) (x b : ℕ) → Small l → Small (unhooked g l x b)
@@ -276,7 +285,8 @@ module _ (g : Geometry) (d : List ℕ) (c : Sound g d) (k : Places.Fits g d) (p 
   unfolding dropOne words
   drop-small =
       let j = runs g d e - 1 in
-      let emptied : Small (setField g (setField g d e (0x16 + 2 * j) 0xff) e (0x17 + 2 * j) 0xff) = small-field g d k e (0x17 + 2 * j) (small-field g d k e (0x16 + 2 * j) s (omega arith)) (omega arith) in
+      let emptied : Small (setField g (setField g d e (0x16 + 2 * j) 0xff) e (0x17 + 2 * j) 0xff) = small-field g d k e (0x17 + 2 * j)
+      (small-field g d k e (0x16 + 2 * j) s (omega arith)) (omega arith) in
       small-free g d k (runStart g d e j + runLength g d e j - 1)
       (small-cond (ltb 1 (runLength g d e j)) (small-field g d k e (0x17 + 2 * j) s (omega (arith, s .below (entryAt g e + (0x17 + 2 * j)))))
       (small-cond (extension g d e && eqb j 0) (unhooked-small _ e (field g d e 1) emptied) emptied))

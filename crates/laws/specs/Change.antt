@@ -141,11 +141,16 @@ chain-next g d p x s u i m t = go (walk x i m) (Members.in? (link g d x) (chain 
     inside y (inl q) = rw q (Facts.in-slots g d (link g d x) t)
     inside y (inr j) = Facts.in-slots g d y (s y j)
 
-    go : In (link g d x) (chain g d p) ⊎ (length (chain g d p) ≡ length (slots g d)) → In (link g d x) (chain g d p) ⊎ (In (link g d x) (chain g d p) → ⊥) → In (link g d x) (chain g d p)
+    go : In (link g d x) (chain g d p) ⊎ (length (chain g d p) ≡ length (slots g d)) → In (link g d x) (chain g d p) ⊎ (In (link g d x) (chain g d p) → ⊥) →
+        In (link g d x) (chain g d p)
     go (inl j) q = j
     go (inr e) (inl j) = j
     go (inr e) (inr n) =
-        absurd (omega (arith, Counting.pigeonhole {xs = slots g d} (link g d x ∷ chain g d p) (Facts.slots-distinct g d) (Members.Distinct.fresh n u) (λ y j. inside y (Members.in-cons j))))
+        absurd (omega (
+          arith,
+          Counting.pigeonhole {xs = slots g d} (link g d x ∷ chain g d p) (Facts.slots-distinct g d) (Members.Distinct.fresh n u)
+              (λ y j. inside y (Members.in-cons j)),
+        ))
 
 module _ (g : Geometry) (d : List ℕ) (c : Sound g d) where
   chainFrom-members : (n p x : ℕ) → T (isSlot g d p) → T (inUse g d p) → In x (chainFrom g d n p) → Member g d p x
@@ -206,7 +211,8 @@ module _ (g : Geometry) (d : List ℕ) (c : Sound g d) where
 
       go : Entry.Pred g d p y (chain g d p) → In x (chain g d p)
       go (Entry.Pred.first e) = absurd (T-not (extension g d p) (Facts.file-first g d p f) (flags-extension _ (rw e at (w .flags))))
-      go (Entry.Pred.after z j′ m l) = let j = Members.front-in p i j′ in let k = members p z f j in linked z j m l (entry-at g d c z (k .slot) (k .used) .linked)
+      go (Entry.Pred.after z j′ m l) = let j = Members.front-in p i j′ in let k = members p z f j in
+          linked z j m l (entry-at g d c z (k .slot) (k .used) .linked)
 
   -- a granule of an entry in use is one of its file's
   pub granule-owned : (q x n : ℕ) → In x (chain g d q) → In n (entryGranules g d x) → In n (owned g d q)
@@ -245,7 +251,8 @@ module _ (g : Geometry) (d : List ℕ) (c : Sound g d) (p : ℕ) (f : IsFile g d
           let k = members g d c p z f i in
           Members.front-not-last p (c .once p f) tail-in j (followed z m e (l .next) (entry-at g d c z (k .slot) (k .used) .linked))
         where
-          followed : (z : ℕ) → marker g d z ≡ 0xfe → link g d z ≡ link g d (tail g p d) → Entry.Follows g d (tail g p d) (link g d (tail g p d)) → (marker g d z ≡ 0xff) ⊎ Entry.Linked g d z → z ≡ tail g p d
+          followed : (z : ℕ) → marker g d z ≡ 0xfe → link g d z ≡ link g d (tail g p d) → Entry.Follows g d (tail g p d) (link g d (tail g p d)) →
+              (marker g d z ≡ 0xff) ⊎ Entry.Linked g d z → z ≡ tail g p d
           followed z m e w (inl q) = absurd (omega arith)
           followed z m e w (inr q) = sym (rw e at (q .next .before)) ∙ w .before
 
@@ -342,7 +349,8 @@ module _ (g : Geometry) (d d′ : List ℕ) (c : Sound g d) (p : ℕ) (h : Chang
           (λ l. Frame.slot-eq g d d′ (h .above) (link g d s))
           (λ l. agree-used (link g d s) (l .next .slot) (flags-used _ (l .next .flags)) (λ i.
           let k = entries-in g d p (link g d s) i in j (rw (entriesOf-is g d p (k .0)) (before-in g d c p s (link g d s) (k .0) (k .1) (l .next)))))
-          (λ m i. let o = granule-owned g d c (q .0) s m (q .2) i in h .keeps m (Places.entry-granule-lt g d s m (entry-at g d c s (slot-was s t) v) i) (foreign-granule (q .0) m (q .1) n o) (foreign-granule′ (q .0) m (q .1) n o))
+          (λ m i. let o = granule-owned g d c (q .0) s m (q .2) i in h .keeps m (Places.entry-granule-lt g d s m (entry-at g d c s (slot-was s t) v) i)
+          (foreign-granule (q .0) m (q .1) n o) (foreign-granule′ (q .0) m (q .1) n o))
           (entry-at g d c s (slot-was s t) v)
 
       go : In s (entriesOf g d′ p) ⊎ (In s (entriesOf g d′ p) → ⊥) → In s (entriesOf g d p) ⊎ (In s (entriesOf g d p) → ⊥) → T (entryHolds g d′ s)
@@ -356,7 +364,8 @@ module _ (g : Geometry) (d d′ : List ℕ) (c : Sound g d) (p : ℕ) (h : Chang
       go : Dec (q ≡ p) → T (fileHolds g d′ q)
       go (yes e) = rw e (Entry.says-filed g d′ p (h .own (rw e at f) .filed))
       go (no n) = let b = file-was q f n in
-          Entry.says-filed g d′ q (Frame.filed-eq g d d′ (h .above) q (spared-first q b n) (λ x i. spared q x b n i) (λ x i. spared-hit q x b n i) (filed-at g d c q b))
+          Entry.says-filed g d′ q (Frame.filed-eq g d d′ (h .above) q (spared-first q b n) (λ x i. spared q x b n i) (λ x i. spared-hit q x b n i)
+          (filed-at g d c q b))
 
   names′ : (q r : ℕ) → IsFile g d′ q → IsFile g d′ r → nameOf g d′ q ≡ nameOf g d′ r → q ≡ r
   names′ q r f k e = go (ℕ-discrete q p) (ℕ-discrete r p)
@@ -419,7 +428,8 @@ module _ (g : Geometry) (d d′ : List ℕ) (c : Sound g d) (p : ℕ) (h : Chang
           let n : q .0 ≢ p = λ e. j (rw (entriesOf-is g d p (rw e at (q .1)), ← e) (q .2)) in
           (q .0, file-stays (q .0) (q .1) n, rw (chain-stays (q .0) (q .1) n) (q .2))
 
-      go : In s (entriesOf g d′ p) ⊎ (In s (entriesOf g d′ p) → ⊥) → In s (entriesOf g d p) ⊎ (In s (entriesOf g d p) → ⊥) → (q : ℕ) × IsFile g d′ q × In s (chain g d′ q)
+      go : In s (entriesOf g d′ p) ⊎ (In s (entriesOf g d′ p) → ⊥) → In s (entriesOf g d p) ⊎ (In s (entriesOf g d p) → ⊥) → (q : ℕ) × IsFile g d′ q × In s
+          (chain g d′ q)
       go (inl i) j = let k = entries-in g d′ p s i in (p, k .0, k .1)
       go (inr i) (inl j) = absurd (h .gone s j i u)
       go (inr i) (inr j) = kept j (c .covered s (slot-was s t) (rw (h .agrees s (slot-was s t) j i 0 (omega arith)) at u))

@@ -91,7 +91,8 @@ module _ (g : Geometry) (d : List ℕ) where
     before : (s : ℕ) → IsUsed g d s → T (extension g d s) → (b : ℕ) × IsUsed g d b × (link g d b ≡ s) × Follows g d b s
     before s u x = let w = c .covered s (u .slot) (u .used) in go (w .0) (w .1) (w .2) (Entry.chain-pred g d (w .0) s (w .2))
       where
-        at : (b : ℕ) → IsUsed g d b → marker g d b ≡ 0xfe → link g d b ≡ s → (marker g d b ≡ 0xff) ⊎ Linked g d b → (b : ℕ) × IsUsed g d b × (link g d b ≡ s) × Follows g d b s
+        at : (b : ℕ) → IsUsed g d b → marker g d b ≡ 0xfe → link g d b ≡ s → (marker g d b ≡ 0xff) ⊎ Linked g d b → (b : ℕ) × IsUsed g d b × (link g d b ≡ s)
+            × Follows g d b s
         at b v m l (inl q) = absurd (omega arith)
         at b v m l (inr q) = (b, v, l, subst (Follows g d b) l (q .next))
 

@@ -11,7 +11,8 @@ use lib.ListN.{length, getD, set, replicate, length-set, length-append, List·ge
 use lib.Seq.{getD-set-same, getD-set-other, sets, length-sets, getD-append-add}
 use lib.Dec.{T, eqb, eqb→eq}
 use Rattle.meaning.specs.Lists.{count, through, firstOr}
-use Rattle.meaning.specs.Layout.{byte, isSlot, slots, taken, field, gatAt, hitAt, entryAt, granules, hit, directoryGranules, granuleBytes, aboveTen, directorySectors}
+use Rattle.meaning.specs.Layout.{byte, isSlot, slots, taken, field, gatAt, hitAt, entryAt, granules, hit, directoryGranules, granuleBytes, aboveTen}
+use Rattle.meaning.specs.Layout.{directorySectors}
 use Rattle.meaning.specs.Bits.{bit, digit}
 use Rattle.meaning.specs.Names.{hash, wellFormed}
 use Rattle.meaning.specs.Entries.{inUse, extension, nameOf, runs, runsFrom, entryGranules, sizeOf}
@@ -48,7 +49,8 @@ module _ (g : Geometry) (d : List ℕ) (x : ℕ) (es : List ℕ) (v : ℕ) (len 
   unfolding withEntry words
   with-field k b l =
       let h = s .low in
-      getD-set-other (sets d (entryAt g x) es) (hitAt g x) (entryAt g x + k) v 0 (omega arith) ∙ Places.sets-inside es d (entryAt g x) k (omega arith) (omega arith)
+      getD-set-other (sets d (entryAt g x) es) (hitAt g x) (entryAt g x + k) v 0 (omega arith) ∙ Places.sets-inside es d (entryAt g x) k (omega arith)
+      (omega arith)
 
   pub with-hit : entryAt g x + 32 ≤ length d → hit g (withEntry g d x es v) x ≡ v
   unfolding withEntry words
@@ -69,7 +71,8 @@ module _ (g : Geometry) (d : List ℕ) (x : ℕ) (es : List ℕ) (v : ℕ) (len 
 map-read : (n : List ℕ) (F : ℕ → ℕ) (i : ℕ) → ((j : ℕ) → j < length n → F (i + j) ≡ getD n j 0) → map F (count i (length n)) ≡ n
 map-read [] F i h = refl
 map-read (x ∷ n) F i h =
-    ap₂ (λ (a : ℕ) (l : List ℕ). a ∷ l) (rw add-zero at (h 0 (omega arith))) (map-read n F (i + 1) (λ j b. let e : i + 1 + j ≡ i + suc j = omega arith in rw e (h (suc j) (omega arith))))
+    ap₂ (λ (a : ℕ) (l : List ℕ). a ∷ l) (rw add-zero at (h 0 (omega arith)))
+    (map-read n F (i + 1) (λ j b. let e : i + 1 + j ≡ i + suc j = omega arith in rw e (h (suc j) (omega arith))))
 
 pub hash-nonzero : (n : List ℕ) → hash n ≢ 0
 unfolding hash
@@ -141,7 +144,8 @@ module _ (g : Geometry) (d : List ℕ) (c : Sound g d) (k : Places.Fits g d) (x 
 
   made-above : aboveTen g made ≡ aboveTen g d
   unfolding made words
-  made-above = let a = Places.dir g d (c .dir) in let b = s .sector in with-byte g d x (newEntry n f) (hash n) (new-length g d n f ln) s (hitAt g 31) (inl (omega arith)) (omega arith)
+  made-above = let a = Places.dir g d (c .dir) in let b = s .sector in
+      with-byte g d x (newEntry n f) (hash n) (new-length g d n f ln) s (hitAt g 31) (inl (omega arith)) (omega arith)
 
   pub made-file : IsFile g made x
   made-file = record { slot = rw (Frame.slot-eq g d made made-above x) t; primary′ = Members.and-i (inUse g made x) _ made-used made-first }
@@ -158,7 +162,8 @@ module _ (g : Geometry) (d : List ℕ) (c : Sound g d) (k : Places.Fits g d) (x 
     where
       go : (i < 256 * g .start) ⊎ (256 * (g .start + directorySectors g d) ≤ i) → byte made i ≡ byte d i
       go (inl h) = with-byte g d x (newEntry n f) (hash n) (new-length g d n f ln) s i (inl (omega arith)) (omega arith)
-      go (inr h) = let b = s .sector in let q = s .low in with-byte g d x (newEntry n f) (hash n) (new-length g d n f ln) s i (inr (omega arith)) (omega arith)
+      go (inr h) = let b = s .sector in let q = s .low in
+          with-byte g d x (newEntry n f) (hash n) (new-length g d n f ln) s i (inr (omega arith)) (omega arith)
 
   pub no-file : IsFile g d x → ⊥
   no-file h = Change.used-hit g d c x t (Facts.file-in-use g d x h) z
@@ -180,7 +185,8 @@ module _ (g : Geometry) (d : List ℕ) (c : Sound g d) (k : Places.Fits g d) (x 
   pub made-touch : Touch.Touch g (chain g made x) [] d made
   unfolding made withEntry
   made-touch = subst (λ (xs : List ℕ). Touch.Touch g xs [] d made) (sym made-chain)
-      (Touch.Touch.hits x (hash n) Members.In.here (Touch.touch-whole g (x ∷ []) [] d x (newEntry n f) Members.In.here (omega (arith, new-length g d n f ln)) Touch.Touch.none))
+      (Touch.Touch.hits x (hash n) Members.In.here (Touch.touch-whole g (x ∷ []) [] d x (newEntry n f) Members.In.here (omega (arith, new-length g d n f ln))
+      Touch.Touch.none))
 
   made-runs : runs g made x ≡ 0
   unfolding runs runsFrom
@@ -196,7 +202,8 @@ module _ (g : Geometry) (d : List ℕ) (c : Sound g d) (k : Places.Fits g d) (x 
 
   pub made-name : nameOf g made x ≡ n
   unfolding nameOf
-  made-name = ap (λ (m : ℕ). map (field g made x) (count 5 m)) (sym ln) ∙ map-read n (field g made x) 5 (λ j h. fields (5 + j) (omega (arith, ln)) ∙ new-name g d n f ln j h)
+  made-name = ap (λ (m : ℕ). map (field g made x) (count 5 m)) (sym ln) ∙ map-read n (field g made x) 5
+      (λ j h. fields (5 + j) (omega (arith, ln)) ∙ new-name g d n f ln j h)
 
   in-chain : (y : ℕ) → In y (chain g made x) → y ≡ x
   in-chain y i = go (Members.in-cons (rw made-chain at i))

@@ -50,7 +50,8 @@ module _ (g : Geometry) (d : List ℕ) (c : Sound g d) (p : ℕ) (f : IsFile g d
   pub tail-run : 1 ≤ length (owned g d p) → 1 ≤ runs g d (tail g p d)
   tail-run h = go (ℕ-discrete (tail g p d) p)
     where
-      linked : (z : ℕ) → Entries.marker g d z ≡ 0xfe → Entries.link g d z ≡ tail g p d → (Entries.marker g d z ≡ 0xff) ⊎ Entry.Linked g d z → 1 ≤ runs g d (tail g p d)
+      linked : (z : ℕ) → Entries.marker g d z ≡ 0xfe → Entries.link g d z ≡ tail g p d → (Entries.marker g d z ≡ 0xff) ⊎ Entry.Linked g d z → 1 ≤ runs g d
+          (tail g p d)
       linked z m l (inl q) = absurd (omega arith)
       linked z m l (inr q) = rw l at (q .next .some′)
 
@@ -148,7 +149,8 @@ module _ (g : Geometry) (d : List ℕ) (c : Sound g d) (k : Places.Fits g d) (p 
     less : entryGranules g d e ≡ entryGranules g d₂ e ++ (m ∷ [])
     less =
         Take.granules-snoc g d e r runs-r
-        ∙ ap₂ (λ (a b : List ℕ). a ++ b) (sym (Members.each-eq (runGranules g d₂ e) (runGranules g d e) (count 0 r) (λ x i. rg-early x (omega (arith, Members.count-in x 0 r i))))) rg-last
+        ∙ ap₂ (λ (a b : List ℕ). a ++ b)
+        (sym (Members.each-eq (runGranules g d₂ e) (runGranules g d e) (count 0 r) (λ x i. rg-early x (omega (arith, Members.count-in x 0 r i))))) rg-last
         ∙ sym (append-assoc (each (runGranules g d₂ e) (count 0 r)) (runGranules g d₂ e r) (m ∷ []))
         ∙ ap (λ (l : List ℕ). l ++ (m ∷ [])) (sym (Take.granules-snoc g d₂ e r runs′))
 
@@ -166,7 +168,8 @@ module _ (g : Geometry) (d : List ℕ) (c : Sound g d) (k : Places.Fits g d) (p 
               inside = rw (fixed (0x16 + 2 * x) (omega arith), fixed (0x17 + 2 * x) (omega arith)) (w .inside);
             }
 
-    pub shorter-shrinks : Shrink.Shrinks g d (freeGranule g (setField g d (tail g p d) (0x17 + 2 * (runs g d (tail g p d) - 1)) (field g d (tail g p d) (0x17 + 2 * (runs g d (tail g p d) - 1)) - 1)) m) p m
+    pub shorter-shrinks : Shrink.Shrinks g d (freeGranule g (setField g d (tail g p d) (0x17 + 2 * (runs g d (tail g p d) - 1))
+        (field g d (tail g p d) (0x17 + 2 * (runs g d (tail g p d) - 1)) - 1)) m) p m
     unfolding words
     shorter-shrinks = record {
       at = record {
@@ -209,10 +212,12 @@ module _ (g : Geometry) (d : List ℕ) (c : Sound g d) (k : Places.Fits g d) (p 
 
     block₂ : field g q₂ e (0x16 + 2 * r) ≡ 0xff
     unfolding words
-    block₂ = Take.put-field 0 (omega arith) g d c k e (member .slot) r r-lt q₁ q₁-length q₁-out m m-lt e (0x16 + 2 * r) ∙ Take.paired-first g d e r 0xff 0xff (omega (arith, room, r-lt))
+    block₂ = Take.put-field 0 (omega arith) g d c k e (member .slot) r r-lt q₁ q₁-length q₁-out m m-lt e (0x16 + 2 * r) ∙ Take.paired-first g d e r 0xff 0xff
+        (omega (arith, room, r-lt))
 
     runs₂ : runs g q₂ e ≡ r
-    runs₂ = Entry.runs-is g q₂ e r (omega (arith, r-lt)) (λ x h. rw (fixed₂ (0x16 + 2 * x) (omega arith) (omega arith)) (Entry.runs-has g d e x (omega (arith, runs-r)))) (λ h. block₂)
+    runs₂ = Entry.runs-is g q₂ e r (omega (arith, r-lt))
+        (λ x h. rw (fixed₂ (0x16 + 2 * x) (omega arith) (omega arith)) (Entry.runs-has g d e x (omega (arith, runs-r)))) (λ h. block₂)
 
     rg₂ : (x : ℕ) → x < r → runGranules g q₂ e x ≡ runGranules g d e x
     rg₂ x h = rw (fixed₂ (0x16 + 2 * x) (omega arith) (omega arith), fixed₂ (0x17 + 2 * x) (omega arith) (omega arith))
@@ -224,7 +229,9 @@ module _ (g : Geometry) (d : List ℕ) (c : Sound g d) (k : Places.Fits g d) (p 
     unfolding entryGranules
     less₂ =
         Take.granules-snoc g d e r runs-r
-        ∙ ap₂ (λ (a b : List ℕ). a ++ b) (sym (Members.each-eq (runGranules g q₂ e) (runGranules g d e) (count 0 r) (λ x i. rg₂ x (omega (arith, Members.count-in x 0 r i)))) ∙ ap (λ (y : ℕ). each (runGranules g q₂ e) (count 0 y)) (sym runs₂)) last₂
+        ∙ ap₂ (λ (a b : List ℕ). a ++ b)
+        (sym (Members.each-eq (runGranules g q₂ e) (runGranules g d e) (count 0 r) (λ x i. rg₂ x (omega (arith, Members.count-in x 0 r i)))) ∙ ap
+        (λ (y : ℕ). each (runGranules g q₂ e) (count 0 y)) (sym runs₂)) last₂
 
     run₂ : (x : ℕ) → x < runs g q₂ e → Entry.OnDisk g q₂ e x
     run₂ x h =
@@ -242,7 +249,8 @@ module _ (g : Geometry) (d : List ℕ) (c : Sound g d) (k : Places.Fits g d) (p 
         go (yes q) = rw q block₂
         go (no q) = fixed₂ (0x16 + 2 * x) (omega arith) (omega arith) ∙ entry .pairs x b (omega (arith, runs₂, runs-r))
 
-    pub emptied-shrinks : Shrink.Shrinks g d (freeGranule g (setField g (setField g d (tail g p d) (0x16 + 2 * (runs g d (tail g p d) - 1)) 0xff) (tail g p d) (0x17 + 2 * (runs g d (tail g p d) - 1)) 0xff) m) p m
+    pub emptied-shrinks : Shrink.Shrinks g d (freeGranule g (setField g (setField g d (tail g p d) (0x16 + 2 * (runs g d (tail g p d) - 1)) 0xff) (tail g p d)
+        (0x17 + 2 * (runs g d (tail g p d) - 1)) 0xff) m) p m
     unfolding words
     emptied-shrinks = record {
       at = record {

@@ -8,7 +8,8 @@ use native.Mathlib.Omega.{arith}
 use lib.ListN.{length, set, length-set}
 use lib.Seq.{getD-set-same, getD-set-other}
 use lib.Dec.{T, eqb, ltb, T-not, not-T, eqb→eq, ltb→lt, nltb→le}
-use Rattle.meaning.specs.Layout.{byte, isSlot, freeGranule, field, setField, gatAt, hitAt, entryAt, granules, hit, directoryGranules, directorySectors, granuleBytes, mostBlocks}
+use Rattle.meaning.specs.Layout.{byte, isSlot, freeGranule, field, setField, gatAt, hitAt, entryAt, granules, hit, directoryGranules, directorySectors}
+use Rattle.meaning.specs.Layout.{granuleBytes, mostBlocks}
 use Rattle.lists.specs.Sizes
 use Rattle.meaning.specs.Bits.{bit, digit}
 use Rattle.meaning.specs.Entries.{inUse, extension, system, marker, link, runs, runStart, runLength, entryGranules, sizeOf}
@@ -35,7 +36,8 @@ use Rattle.laws.specs.Words.{words}
 -- Case 3: an emptied extension
 module _ (g : Geometry) (d : List ℕ) (c : Sound g d) (k : Places.Fits g d) (p : ℕ) (f : IsFile g d p)
     (size : sizeOf g d p + granuleBytes g ≤ granuleBytes g * length (owned g d p))
-    (later : tail g p d ≢ p) (one : runs g d (tail g p d) ≡ 1) (single : runLength g d (tail g p d) 0 ≡ 1) (b : ℕ) (back : field g d (tail g p d) 1 ≡ b) (tb : T (isSlot g d b)) (b≢e : b ≢ tail g p d) where
+    (later : tail g p d ≢ p) (one : runs g d (tail g p d) ≡ 1) (single : runLength g d (tail g p d) 0 ≡ 1) (b : ℕ) (back : field g d (tail g p d) 1 ≡ b)
+    (tb : T (isSlot g d b)) (b≢e : b ≢ tail g p d) where
   abbrev e : ℕ
   e = tail g p d
 
@@ -100,7 +102,8 @@ module _ (g : Geometry) (d : List ℕ) (c : Sound g d) (k : Places.Fits g d) (p 
   unfolding words
   q₄-length = simp length-set
 
-  cut-byte : (i : ℕ) → i ≢ gatAt g m → ((j : ℕ) → j < 32 → i ≢ entryAt g e + j) → i ≢ hitAt g e → i ≢ entryAt g b + 0x1e → i ≢ entryAt g b + 0x1f → byte d′ i ≡ byte d i
+  cut-byte : (i : ℕ) → i ≢ gatAt g m → ((j : ℕ) → j < 32 → i ≢ entryAt g e + j) → i ≢ hitAt g e → i ≢ entryAt g b + 0x1e → i ≢ entryAt g b + 0x1f → byte d′ i
+      ≡ byte d i
   unfolding words
   cut-byte i z o a u v = getD-set-other q₄ (gatAt g m) i _ 0 z ∙ q₄-byte i o a u v
 
@@ -133,7 +136,8 @@ module _ (g : Geometry) (d : List ℕ) (c : Sound g d) (k : Places.Fits g d) (p 
       let w = block-m in
       getD-set-other q₄ (gatAt g m) (entryAt g b + 0x1e) _ 0 (omega arith)
       ∙ getD-set-other (setField g q₃ b 0x1e 0xff) (entryAt g b + 0x1f) (entryAt g b + 0x1e) 0xff 0 (omega arith)
-      ∙ getD-set-same q₃ (entryAt g b + 0x1e) 0xff 0 (rw (length-set, length-set, length-set, length-set, Take.paired-length g d e 0 0xff 0xff) (omega (arith, room-b)))
+      ∙ getD-set-same q₃ (entryAt g b + 0x1e) 0xff 0
+      (rw (length-set, length-set, length-set, length-set, Take.paired-length g d e 0 0xff 0xff) (omega (arith, room-b)))
 
   only-m : entryGranules g d e ≡ m ∷ []
   unfolding entryGranules
@@ -150,23 +154,28 @@ module _ (g : Geometry) (d : List ℕ) (c : Sound g d) (k : Places.Fits g d) (p 
       go (inl h) = cut-byte i (omega arith) (λ j l. omega arith) (omega arith) (omega arith) (omega arith)
       go (inr h) = let q = se in let s = sb in let w = block-m in cut-byte i (omega arith) (λ j l. omega arith) (omega arith) (omega arith) (omega arith)
 
-  pub emptied-unhooks : Unhook.Unhooks g d (freeGranule g (unhooked g (setField g (setField g d (tail g p d) 0x16 0xff) (tail g p d) 0x17 0xff) (tail g p d) b) m) p b m
+  pub emptied-unhooks : Unhook.Unhooks g d (freeGranule g (unhooked g (setField g (setField g d (tail g p d) 0x16 0xff) (tail g p d) 0x17 0xff) (tail g p d)
+      b) m) p b m
   unfolding unhooked words
   emptied-unhooks = record {
-    above = let w = block-m in let s = se in let a = a10 in cut-byte (hitAt g 31) (omega arith) (λ j l. omega arith) (omega arith) (omega arith) (omega arith);
+    above = let w = block-m in let s = se in let a = a10 in
+        cut-byte (hitAt g 31) (omega arith) (λ j l. omega arith) (omega arith) (omega arith) (omega arith);
     later = later;
     back = back;
     agrees = λ y u v w j l. let s = Places.slot g d y u .low in let r = se .low in let q = sb .low in let z = block-m in
         cut-byte (entryAt g y + j) (omega arith) (λ i n. omega arith) (omega arith) (omega arith) (omega arith);
-    hits = λ y u v. let s = Places.slot g d y u .low in let z = block-m in cut-byte (hitAt g y) (omega arith) (λ i n. omega arith) (omega arith) (omega arith) (omega arith);
+    hits = λ y u v. let s = Places.slot g d y u .low in let z = block-m in
+        cut-byte (hitAt g y) (omega arith) (λ i n. omega arith) (omega arith) (omega arith) (omega arith);
     dead = dead;
     unhit = no-hit;
-    fixed = λ j l. let r = se .low in let q = sb .low in let z = block-m in cut-byte (entryAt g b + j) (omega arith) (λ i n. omega arith) (omega arith) (omega arith) (omega arith);
+    fixed = λ j l. let r = se .low in let q = sb .low in let z = block-m in
+        cut-byte (entryAt g b + j) (omega arith) (λ i n. omega arith) (omega arith) (omega arith) (omega arith);
     ended = b-marker;
     only = only-m;
     freed = let a = a10 in let w = block-m in rw (Places.marked-same g 0 (omega arith) q₄ m (omega (arith, k .long, q₄-length))) (λ t. t);
     keeps = λ n h q. let w = Places.block-lt g d n k h in let v = k .blocks-hi in let s = se .low in
-        Places.marked-other g 0 (omega arith) q₄ m n q ∙ ap (λ (y : ℕ). bit (n % g .units) y) (q₄-byte (gatAt g n) (λ j l. omega arith) (omega arith) (omega arith) (omega arith));
+        Places.marked-other g 0 (omega arith) q₄ m n q ∙ ap (λ (y : ℕ). bit (n % g .units) y)
+        (q₄-byte (gatAt g n) (λ j l. omega arith) (omega arith) (omega arith) (omega arith));
     same = cut-same;
     room = size;
   }
@@ -176,7 +185,8 @@ module _ (g : Geometry) (d : List ℕ) (c : Sound g d) (p : ℕ) (f : IsFile g d
   pub before-tail : In (field g d (tail g p d) 1) (chain g d p) × (field g d (tail g p d) 1 ≢ tail g p d)
   before-tail = go (Entry.chain-pred g d p (tail g p d) (Change.tail-in g d c p f))
     where
-      linked : (z : ℕ) → In z (Members.front (chain g d p)) → In z (chain g d p) → marker g d z ≡ 0xfe → link g d z ≡ tail g p d → (marker g d z ≡ 0xff) ⊎ Entry.Linked g d z
+      linked : (z : ℕ) → In z (Members.front (chain g d p)) → In z (chain g d p) → marker g d z ≡ 0xfe → link g d z ≡ tail g p d → (marker g d z ≡ 0xff) ⊎
+          Entry.Linked g d z
           → In (field g d (tail g p d) 1) (chain g d p) × (field g d (tail g p d) 1 ≢ tail g p d)
       linked z j i m l (inl q) = absurd (omega arith)
       linked z j i m l (inr q) =
@@ -230,8 +240,10 @@ module _ (g : Geometry) (d : List ℕ) (c : Sound g d) (k : Places.Fits g d) (p 
       let m = Change.members g d c p t f tail-here in
       omega (arith, Change.entry-at g d c t (m .slot) (m .used) .run r (omega (arith, some-run)) .inside)
 
-  shorter-touch : Touch.Touch g (chain g d p) [] d (freeGranule g (setField g d t (0x17 + 2 * r) (field g d t (0x17 + 2 * r) - 1)) (runStart g d t r + runLength g d t r - 1))
-  shorter-touch = Touch.touch-free g (chain g d p) [] d _ last-lt (Touch.touch-field g (chain g d p) [] d t (0x17 + 2 * r) _ tail-here (omega (arith, Entry.runs-le g d t)) Touch.Touch.none)
+  shorter-touch : Touch.Touch g (chain g d p) [] d (freeGranule g (setField g d t (0x17 + 2 * r) (field g d t (0x17 + 2 * r) - 1))
+      (runStart g d t r + runLength g d t r - 1))
+  shorter-touch = Touch.touch-free g (chain g d p) [] d _ last-lt
+      (Touch.touch-field g (chain g d p) [] d t (0x17 + 2 * r) _ tail-here (omega (arith, Entry.runs-le g d t)) Touch.Touch.none)
 
   emptied-touch : Touch.Touch g (chain g d p) [] d (setField g (setField g d t (0x16 + 2 * r) 0xff) t (0x17 + 2 * r) 0xff)
   emptied-touch =
@@ -239,15 +251,19 @@ module _ (g : Geometry) (d : List ℕ) (c : Sound g d) (k : Places.Fits g d) (p 
       (Touch.touch-field g (chain g d p) [] d t (0x16 + 2 * r) 0xff tail-here (omega (arith, Entry.runs-le g d t)) Touch.Touch.none)
 
   unhook-touch : runs g d t ≡ 1 → In (field g d t 1) (chain g d p)
-      → Touch.Touch g (chain g d p) [] d (freeGranule g (unhooked g (setField g (setField g d t 0x16 0xff) t 0x17 0xff) t (field g d t 1)) (runStart g d t 0 + runLength g d t 0 - 1))
+      → Touch.Touch g (chain g d p) [] d (freeGranule g (unhooked g (setField g (setField g d t 0x16 0xff) t 0x17 0xff) t (field g d t 1))
+      (runStart g d t 0 + runLength g d t 0 - 1))
   unhook-touch one i =
       let m = Change.members g d c p t f tail-here in
-      let l : runStart g d t 0 + runLength g d t 0 - 1 < granules g = omega (arith, Change.entry-at g d c t (m .slot) (m .used) .run 0 (omega (arith, one)) .inside) in
+      let l : runStart g d t 0 + runLength g d t 0 - 1 < granules g = omega
+      (arith, Change.entry-at g d c t (m .slot) (m .used) .run 0 (omega (arith, one)) .inside) in
       Touch.touch-free g (chain g d p) [] d _ l (Touch.touch-unhook g (chain g d p) [] d p t (field g d t 1) tail-here i
-      (Touch.touch-field g (chain g d p) [] d t 0x17 0xff tail-here (omega arith) (Touch.touch-field g (chain g d p) [] d t 0x16 0xff tail-here (omega arith) Touch.Touch.none)))
+      (Touch.touch-field g (chain g d p) [] d t 0x17 0xff tail-here (omega arith)
+      (Touch.touch-field g (chain g d p) [] d t 0x16 0xff tail-here (omega arith) Touch.Touch.none)))
 
   by-unhook : T (extension g d t) → runs g d t ≡ 1 → runLength g d t 0 ≡ 1
-      → Dropped g d (freeGranule g (unhooked g (setField g (setField g d t 0x16 0xff) t 0x17 0xff) t (field g d t 1)) (runStart g d t 0 + runLength g d t 0 - 1)) p
+      → Dropped g d (freeGranule g (unhooked g (setField g (setField g d t 0x16 0xff) t 0x17 0xff) t (field g d t 1))
+      (runStart g d t 0 + runLength g d t 0 - 1)) p
   unfolding unhooked words
   by-unhook x one single =
       let b = field g d t 1 in
@@ -256,7 +272,17 @@ module _ (g : Geometry) (d : List ℕ) (c : Sound g d) (k : Places.Fits g d) (p 
       let later : t ≢ p = λ q. T-not (extension g d p) (Facts.file-first g d p f) (rw q at x) in
       let v = before-tail g d c p f later in
       let w = emptied-unhooks g d c k p f size later one single b refl (Change.members g d c p b f (v .0) .slot) (v .1) in
-      record { which = n; change = Unhook.cut-change g d d′ c p f b n w u; shorter = Unhook.cut-shorter g d d′ c p f b n w; long = simp length-set; file = Unhook.cut-file g d d′ c p f b n w; touch = unhook-touch one (v .0); entries = λ y j. subst (In y) (sym (Unhook.cut-chain g d d′ c p f b n w)) (Members.in-append-l (t ∷ []) j) }
+      record {
+        which = n;
+        change = Unhook.cut-change g d d′ c p f b n w u;
+        shorter = Unhook.cut-shorter g d d′ c p f b n w;
+        long = simp length-set;
+        file =
+            Unhook.cut-file g d d′ c p f b n w;
+        touch = unhook-touch one (v .0);
+        entries = λ y j. subst (In y) (sym (Unhook.cut-chain g d d′ c p f b n w))
+            (Members.in-append-l (t ∷ []) j);
+      }
 
   pub drop-one : Dropped g d (dropOne g p d) p
   unfolding dropOne words
@@ -268,12 +294,14 @@ module _ (g : Geometry) (d : List ℕ) (c : Sound g d) (k : Places.Fits g d) (p 
       go : Members.Test (ltb 1 (runLength g d t r)) → Members.Test (extension g d t && eqb r 0) → Dropped g d (dropOne g p d) p
       go (Members.Test.holds a) b =
           rw (Members.T-true {b = ltb 1 (runLength g d t r)} a)
-          (by-shrink _ (runStart g d t r + runLength g d t r - 1) (Drop.shorter-shrinks g d c k p f some-run size (ltb→lt 1 (runLength g d t r) a)) (simp length-set) shorter-touch)
+          (by-shrink _ (runStart g d t r + runLength g d t r - 1) (Drop.shorter-shrinks g d c k p f some-run size (ltb→lt 1 (runLength g d t r) a))
+          (simp length-set) shorter-touch)
       go (Members.Test.fails a) (Members.Test.fails b) =
           let single : runLength g d t r ≡ 1 = omega (arith, nltb→le 1 (runLength g d t r) (not-T (ltb 1 (runLength g d t r)) a)) in
           let kept : t ≢ p → 1 ≤ r = λ n. over r (λ z. b (Members.and-i (extension g d t) (eqb r 0) (extends n) (Members.eq-T z))) in
           rw (Members.no-false {b = ltb 1 (runLength g d t r)} a, Members.no-false {b = extension g d t && eqb r 0} b)
-          (by-shrink _ (runStart g d t r + runLength g d t r - 1) (Drop.emptied-shrinks g d c k p f some-run size single kept) (simp length-set) (Touch.touch-free g (chain g d p) [] d _ last-lt emptied-touch))
+          (by-shrink _ (runStart g d t r + runLength g d t r - 1) (Drop.emptied-shrinks g d c k p f some-run size single kept) (simp length-set)
+          (Touch.touch-free g (chain g d p) [] d _ last-lt emptied-touch))
         where
           over : (y : ℕ) → y ≢ 0 → 1 ≤ y
           over y n = omega arith

@@ -12,7 +12,8 @@ use Rattle.meaning.specs.Lists.{count, every, has, all}
 use Rattle.meaning.specs.Layout.{isSlot, taken, field, granules, hit, directoryGranules, granuleBytes}
 use Rattle.meaning.specs.Bits.{bit}
 use Rattle.meaning.specs.Names.{hash, wellFormed}
-use Rattle.meaning.specs.Entries.{system, block, marker, link, runs, runsFrom, firstUnit, runStart, runLength, entryGranules, nameOf, sizeOf, sectorCount, endByte}
+use Rattle.meaning.specs.Entries.{system, block, marker, link, runs, runsFrom, firstUnit, runStart, runLength, entryGranules, nameOf, sizeOf, sectorCount}
+use Rattle.meaning.specs.Entries.{endByte}
 use Rattle.meaning.specs.Chain.{chain, chainFrom, owned}
 use Rattle.meaning.specs.Consistent.{pairsHold, followsBy, linkHoldsBy, runsHold, gatHolds, entryHolds, hashHolds, offDirectory, fileHolds}
 use Rattle.meaning.specs.declared.Geometry.{Geometry}
@@ -72,10 +73,12 @@ module _ (g : Geometry) (d : List ℕ) where
   unfolding runs
   runs-le s = runsFrom-le s 0 4
 
-  runsFrom-is : (s k left r : ℕ) → k ≤ r → r ≤ k + left → ((j : ℕ) → k ≤ j → j < r → block g d s j ≢ 0xff) → (r < k + left → block g d s r ≡ 0xff) → runsFrom g d s left k ≡ r
+  runsFrom-is : (s k left r : ℕ) → k ≤ r → r ≤ k + left → ((j : ℕ) → k ≤ j → j < r → block g d s j ≢ 0xff) → (r < k + left → block g d s r ≡ 0xff) → runsFrom
+      g d s left k ≡ r
   unfolding runsFrom
   runsFrom-is s k zero r a b f e = omega arith
-  runsFrom-is s k (suc left) r a b f e = go (ℕ-discrete k r) (λ l. runsFrom-is s (k + 1) left r l (omega arith) (λ j m. f j (omega arith)) (λ m. e (omega arith)))
+  runsFrom-is s k (suc left) r a b f e = go (ℕ-discrete k r)
+      (λ l. runsFrom-is s (k + 1) left r l (omega arith) (λ j m. f j (omega arith)) (λ m. e (omega arith)))
     where
       go : Dec (k ≡ r) → (k + 1 ≤ r → runsFrom g d s left (k + 1) ≡ r) → cond (eqb (block g d s k) 0xff) k (runsFrom g d s left (k + 1)) ≡ r
       go (yes q) ih = rw (q, e (omega arith))
@@ -148,7 +151,8 @@ module _ (g : Geometry) (d : List ℕ) where
   -- what the pairs say
   pub pairs-say : (s : ℕ) → T (pairsHold g d s) → (k : ℕ) → k < 4 → runs g d s ≤ k → block g d s k ≡ 0xff
   unfolding words
-  pairs-say s ps k h l = pair (Members.or-e (ltb k (runs g d s)) _ (Members.every-all (λ k. ltb k (runs g d s) || eqb (block g d s k) 0xff) ps (Members.in-count k 0 4 (omega arith) (omega arith))))
+  pairs-say s ps k h l = pair (Members.or-e (ltb k (runs g d s)) _
+      (Members.every-all (λ k. ltb k (runs g d s) || eqb (block g d s k) 0xff) ps (Members.in-count k 0 4 (omega arith) (omega arith))))
     where
       pair : T (ltb k (runs g d s)) ⊎ T (eqb (block g d s k) 0xff) → block g d s k ≡ 0xff
       pair (inl t) = absurd (omega (arith, ltb→lt k (runs g d s) t))
@@ -156,24 +160,33 @@ module _ (g : Geometry) (d : List ℕ) where
 
   pub say-pairs : (s : ℕ) → ((k : ℕ) → k < 4 → runs g d s ≤ k → block g d s k ≡ 0xff) → T (pairsHold g d s)
   unfolding words
-  say-pairs s f = Members.all-every (λ k. ltb k (runs g d s) || eqb (block g d s k) 0xff) (count 0 4) (λ k i. pair k (Members.count-in k 0 4 i .1) (Members.decide (ltb k (runs g d s))))
+  say-pairs s f = Members.all-every (λ k. ltb k (runs g d s) || eqb (block g d s k) 0xff) (count 0 4)
+      (λ k i. pair k (Members.count-in k 0 4 i .1) (Members.decide (ltb k (runs g d s))))
     where
       pair : (k : ℕ) → k < 0 + 4 → Members.Test (ltb k (runs g d s)) → T (ltb k (runs g d s) || eqb (block g d s k) 0xff)
       pair k h (Members.Test.holds t) = Members.or-l (ltb k (runs g d s)) _ t
-      pair k h (Members.Test.fails e) = Members.or-r (ltb k (runs g d s)) _ (Members.eq-T (f k (omega arith) (nltb→le k (runs g d s) (not-T (ltb k (runs g d s)) e))))
+      pair k h (Members.Test.fails e) = Members.or-r (ltb k (runs g d s)) _
+          (Members.eq-T (f k (omega arith) (nltb→le k (runs g d s) (not-T (ltb k (runs g d s)) e))))
 
   -- what the runs say
   pub runs-say : (s : ℕ) → T (runsHold g d s) → (k : ℕ) → k < runs g d s → OnDisk g d s k
   unfolding words
   runs-say s rs k h =
-      let r = Members.every-all (λ k. all (ltb (firstUnit g d s k) (g .units) ∷ leb (runStart g d s k + runLength g d s k) (granules g) ∷ [])) rs (Members.in-count k 0 (runs g d s) (omega arith) (omega arith)) in
-      record { unit = ltb→lt _ _ (Members.and-l (ltb (firstUnit g d s k) (g .units)) _ r); inside = leb→le _ _ (Members.all-second (ltb (firstUnit g d s k) (g .units)) (leb (runStart g d s k + runLength g d s k) (granules g)) r) }
+      let r = Members.every-all (λ k. all (ltb (firstUnit g d s k) (g .units) ∷ leb (runStart g d s k + runLength g d s k) (granules g) ∷ [])) rs
+      (Members.in-count k 0 (runs g d s) (omega arith) (omega arith)) in
+      record {
+        unit = ltb→lt _ _ (Members.and-l (ltb (firstUnit g d s k) (g .units)) _ r);
+        inside = leb→le _ _
+            (Members.all-second (ltb (firstUnit g d s k) (g .units)) (leb (runStart g d s k + runLength g d s k) (granules g)) r);
+      }
 
   pub say-runs : (s : ℕ) → ((k : ℕ) → k < runs g d s → OnDisk g d s k) → T (runsHold g d s)
   unfolding words
-  say-runs s f = Members.all-every (λ k. all (ltb (firstUnit g d s k) (g .units) ∷ leb (runStart g d s k + runLength g d s k) (granules g) ∷ [])) (count 0 (runs g d s)) (λ k i.
+  say-runs s f = Members.all-every (λ k. all (ltb (firstUnit g d s k) (g .units) ∷ leb (runStart g d s k + runLength g d s k) (granules g) ∷ []))
+      (count 0 (runs g d s)) (λ k i.
       let r = f k (omega (arith, Members.count-in k 0 (runs g d s) i)) in
-      Members.all-two (ltb (firstUnit g d s k) (g .units)) (leb (runStart g d s k + runLength g d s k) (granules g)) (lt→ltb _ _ (r .unit)) (le→leb _ _ (r .inside)))
+      Members.all-two (ltb (firstUnit g d s k) (g .units)) (leb (runStart g d s k + runLength g d s k) (granules g)) (lt→ltb _ _ (r .unit))
+      (le→leb _ _ (r .inside)))
 
   pub entry : (s : ℕ) → T (entryHolds g d s) → Entry g d s
   unfolding words
@@ -222,14 +235,17 @@ module _ (g : Geometry) (d : List ℕ) where
       let a : T (wellFormed (nameOf g d p)) = f .name in
       let b : T (not (bit 5 (field g d p 0))) = f .zero′ in
       let c : T (hashHolds g d p) = Members.all-every (λ s. eqb (hit g d s) (hash (nameOf g d p))) (chain g d p) (λ s i. Members.eq-T (f .hashes s i)) in
-      let e : T (not (eqb (sectorCount g d p) 0) || eqb (endByte g d p) 0) = Members.or-if (eqb (sectorCount g d p) 0) _ (λ t. Members.eq-T (f .count′ (eqb→eq _ _ t))) in
+      let e : T (not (eqb (sectorCount g d p) 0) || eqb (endByte g d p) 0) = Members.or-if (eqb (sectorCount g d p) 0) _
+      (λ t. Members.eq-T (f .count′ (eqb→eq _ _ t))) in
       let h : T (leb (sizeOf g d p) (granuleBytes g * length (owned g d p))) = le→leb _ _ (f .fits) in
       let o : T (offDirectory g d p) = away (Members.decide (system g d p)) in
       search Members.and-i depth 8
     where
       away : Members.Test (system g d p) → T (offDirectory g d p)
       away (Members.Test.holds t) = Members.any-l (system g d p) (every (λ n. not (has (directoryGranules g d) n)) (owned g d p)) t
-      away (Members.Test.fails u) = Members.any-r (system g d p) (every (λ n. not (has (directoryGranules g d) n)) (owned g d p)) (Members.all-every (λ n. not (has (directoryGranules g d) n)) (owned g d p) (λ n i. not-T (has (directoryGranules g d) n) (λ t. f .off (not-T (system g d p) u) n i (Members.has-in n (directoryGranules g d) t))))
+      away (Members.Test.fails u) = Members.any-r (system g d p) (every (λ n. not (has (directoryGranules g d) n)) (owned g d p))
+          (Members.all-every (λ n. not (has (directoryGranules g d) n)) (owned g d p)
+          (λ n i. not-T (has (directoryGranules g d) n) (λ t. f .off (not-T (system g d p) u) n i (Members.has-in n (directoryGranules g d) t))))
 
   -- Chains: each entry but the first is linked to by one before it
   pub data Pred (p y : ℕ) (xs : List ℕ) : Type 0 where
@@ -248,11 +264,13 @@ module _ (g : Geometry) (d : List ℕ) where
       deeper t i (first e) = after p (rw (Members.T-true {b = eqb (marker g d p) 0xfe} t) (Members.front-here p i)) (eqb→eq _ _ t) (sym e)
       deeper t i (after x j m l) = after x (rw (Members.T-true {b = eqb (marker g d p) 0xfe} t) (Members.front-there p rest j)) m l
 
-      into : (b : Bool) → eqb (marker g d p) 0xfe ≡ b → Members.In y (cond b rest []) → (Members.In y rest → Pred (link g d p) y rest) → Pred p y (p ∷ cond (eqb (marker g d p) 0xfe) rest [])
+      into : (b : Bool) → eqb (marker g d p) 0xfe ≡ b → Members.In y (cond b rest []) → (Members.In y rest → Pred (link g d p) y rest) → Pred p y
+          (p ∷ cond (eqb (marker g d p) 0xfe) rest [])
       into true e i r = deeper (Members.true-T e) i (r i)
       into false e i r = Members.none-in i
 
-      go : (y ≡ p) ⊎ Members.In y (cond (eqb (marker g d p) 0xfe) rest []) → (Members.In y rest → Pred (link g d p) y rest) → Pred p y (p ∷ cond (eqb (marker g d p) 0xfe) rest [])
+      go : (y ≡ p) ⊎ Members.In y (cond (eqb (marker g d p) 0xfe) rest []) → (Members.In y rest → Pred (link g d p) y rest) → Pred p y
+          (p ∷ cond (eqb (marker g d p) 0xfe) rest [])
       go (inl e) r = first e
       go (inr i) r = into (eqb (marker g d p) 0xfe) refl i r
 
@@ -261,7 +279,8 @@ module _ (g : Geometry) (d : List ℕ) where
   chain-pred p y i = chainFrom-pred _ p y i
 
   -- The next of an entry is in the chain too, unless the walk ended by its bound.
-  pub chainFrom-next : (n p x : ℕ) → Members.In x (chainFrom g d n p) → marker g d x ≡ 0xfe → Members.In (link g d x) (chainFrom g d n p) ⊎ (length (chainFrom g d n p) ≡ n)
+  pub chainFrom-next : (n p x : ℕ) → Members.In x (chainFrom g d n p) → marker g d x ≡ 0xfe → Members.In (link g d x) (chainFrom g d n p) ⊎
+      (length (chainFrom g d n p) ≡ n)
   unfolding chainFrom
   chainFrom-next zero p x i m = inr refl
   chainFrom-next (suc n) p x i m = go (Members.in-cons i) (chainFrom-next n (link g d p) x)
@@ -282,7 +301,8 @@ module _ (g : Geometry) (d : List ℕ) where
       into true j r = deeper (r j m)
       into false j r = Members.none-in j
 
-      go : (x ≡ p) ⊎ Members.In x (cond (eqb (marker g d p) 0xfe) rest []) → (Members.In x rest → marker g d x ≡ 0xfe → Members.In (link g d x) rest ⊎ (length rest ≡ n))
+      go : (x ≡ p) ⊎ Members.In x (cond (eqb (marker g d p) 0xfe) rest []) →
+          (Members.In x rest → marker g d x ≡ 0xfe → Members.In (link g d x) rest ⊎ (length rest ≡ n))
           → Members.In (link g d x) (p ∷ cond (eqb (marker g d p) 0xfe) rest []) ⊎ (length (p ∷ cond (eqb (marker g d p) 0xfe) rest []) ≡ suc n)
       go (inl e) r = rw (e, Members.T-true {b = eqb (marker g d p) 0xfe} (Members.eq-T (sym (ap (marker g d) e) ∙ m))) (head n)
       go (inr j) r = into (eqb (marker g d p) 0xfe) j r
@@ -302,12 +322,15 @@ module _ (g : Geometry) (d : List ℕ) where
       back x m (inr l) = l .next .before
 
       go : Members.Test (eqb (marker g d s) 0xfe)
-          → (((x : ℕ) → Members.In x rest → (marker g d x ≡ 0xff) ⊎ LinkedBy g d byte00 x) → ((x : ℕ) → Members.In x rest → marker g d x ≡ 0xfe → link g d x ≢ link g d s) → Members.Distinct rest)
+          → (((x : ℕ) → Members.In x rest → (marker g d x ≡ 0xff) ⊎ LinkedBy g d byte00 x) →
+          ((x : ℕ) → Members.In x rest → marker g d x ≡ 0xfe → link g d x ≢ link g d s) → Members.Distinct rest)
           → Members.Distinct (s ∷ cond (eqb (marker g d s) 0xfe) rest [])
-      go (Members.Test.fails t) r = rw (Members.no-false {b = eqb (marker g d s) 0xfe} t) (Members.Distinct.fresh (λ i. Members.none-in i) Members.Distinct.done)
+      go (Members.Test.fails t) r = rw (Members.no-false {b = eqb (marker g d s) 0xfe} t)
+          (Members.Distinct.fresh (λ i. Members.none-in i) Members.Distinct.done)
       go (Members.Test.holds t) r =
           rw e (Members.Distinct.fresh not-in (r (λ x i. h x (later x i)) (λ x i m q.
-          not-in (subst (λ (y : ℕ). Members.In y rest) (sym (back x m (h x (later x i))) ∙ ap (λ (y : ℕ). field g d y 1) q ∙ back s marked (h s Members.In.here)) i))))
+          not-in (subst (λ (y : ℕ). Members.In y rest) (sym (back x m (h x (later x i))) ∙ ap (λ (y : ℕ). field g d y 1) q ∙ back s marked
+          (h s Members.In.here)) i))))
         where
           e : eqb (marker g d s) 0xfe ≡ true
           e = Members.T-true t
@@ -325,7 +348,8 @@ module _ (g : Geometry) (d : List ℕ) where
               twice (first q) = f s Members.In.here marked (sym q)
               twice (after x j m l) = f x (later x (Members.front-in s i j)) m l
 
-  pub links-once : (byte00 p : ℕ) → ((x : ℕ) → Members.In x (chain g d p) → (marker g d x ≡ 0xff) ⊎ LinkedBy g d byte00 x) → field g d p 0 ≢ byte00 → Members.Distinct (chain g d p)
+  pub links-once : (byte00 p : ℕ) → ((x : ℕ) → Members.In x (chain g d p) → (marker g d x ≡ 0xff) ⊎ LinkedBy g d byte00 x) → field g d p 0 ≢ byte00 →
+      Members.Distinct (chain g d p)
   unfolding chain
   links-once byte00 p h n = once-from byte00 _ p h (λ x i m e. at x e m (h x i))
     where

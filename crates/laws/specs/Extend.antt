@@ -55,46 +55,48 @@ pub record Extends (g : Geometry) (d d′ : List ℕ) (p x m : ℕ) : Type 0 whe
   pub same : (i : ℕ) → (In (i / granuleBytes g) (directoryGranules g d) → ⊥) → byte d′ i ≡ byte d i
 
 -- a chain that goes on at its end
-module _ (g : Geometry) (d d′ : List ℕ) (e x : ℕ) (m₀ : marker g d e ≡ 0xff) (m₁ : marker g d′ e ≡ 0xfe) (l₁ : link g d′ e ≡ x) (m₂ : marker g d′ x ≡ 0xff) where
-  chainFrom-extends : (n s : ℕ) → ((y : ℕ) → In y (chainFrom g d n s) → y ≢ e → (marker g d′ y ≡ marker g d y) × (link g d′ y ≡ link g d y))
-      → In e (chainFrom g d n s) → suc (length (chainFrom g d n s)) ≤ n → chainFrom g d′ n s ≡ chainFrom g d n s ++ (x ∷ [])
-  unfolding chainFrom
-  chainFrom-extends zero s a i b = Members.none-in i
-  chainFrom-extends (suc n) s a i b = go (ℕ-discrete e s) (chainFrom-extends n (link g d s))
-    where
-      rest : List ℕ
-      rest = chainFrom g d n (link g d s)
+module _ (g : Geometry) (d d′ : List ℕ) (e x : ℕ) (m₀ : marker g d e ≡ 0xff) (m₁ : marker g d′ e ≡ 0xfe) (l₁ : link g d′ e ≡ x) (m₂ : marker g d′ x ≡ 0xff)
+  where
+    chainFrom-extends : (n s : ℕ) → ((y : ℕ) → In y (chainFrom g d n s) → y ≢ e → (marker g d′ y ≡ marker g d y) × (link g d′ y ≡ link g d y))
+        → In e (chainFrom g d n s) → suc (length (chainFrom g d n s)) ≤ n → chainFrom g d′ n s ≡ chainFrom g d n s ++ (x ∷ [])
+    unfolding chainFrom
+    chainFrom-extends zero s a i b = Members.none-in i
+    chainFrom-extends (suc n) s a i b = go (ℕ-discrete e s) (chainFrom-extends n (link g d s))
+      where
+        rest : List ℕ
+        rest = chainFrom g d n (link g d s)
 
-      IH : Type 0
-      IH = ((y : ℕ) → In y rest → y ≢ e → (marker g d′ y ≡ marker g d y) × (link g d′ y ≡ link g d y)) → In e rest → suc (length rest) ≤ n → chainFrom g d′ n (link g d s) ≡ rest ++ (x ∷ [])
+        IH : Type 0
+        IH = ((y : ℕ) → In y rest → y ≢ e → (marker g d′ y ≡ marker g d y) × (link g d′ y ≡ link g d y)) → In e rest → suc (length rest) ≤ n → chainFrom g d′ n
+            (link g d s) ≡ rest ++ (x ∷ [])
 
-      last : (n : ℕ) → 1 ≤ n → chainFrom g d′ n x ≡ x ∷ []
-      last zero h = absurd (omega arith)
-      last (suc n) h = rw m₂
+        last : (n : ℕ) → 1 ≤ n → chainFrom g d′ n x ≡ x ∷ []
+        last zero h = absurd (omega arith)
+        last (suc n) h = rw m₂
 
-      ends : e ≡ s → chainFrom g d′ (suc n) s ≡ chainFrom g d (suc n) s ++ (x ∷ [])
-      ends q = rw (← q, m₀, m₁, l₁) (ap {B = List ℕ} (λ l. e ∷ l) (last n (omega (arith, rw (← q, m₀) at b))))
+        ends : e ≡ s → chainFrom g d′ (suc n) s ≡ chainFrom g d (suc n) s ++ (x ∷ [])
+        ends q = rw (← q, m₀, m₁, l₁) (ap {B = List ℕ} (λ l. e ∷ l) (last n (omega (arith, rw (← q, m₀) at b))))
 
-      deeper : s ≢ e → (b : Bool) → eqb (marker g d s) 0xfe ≡ b → In e (s ∷ cond b rest []) → suc (length (s ∷ cond b rest [])) ≤ suc n
-          → ((y : ℕ) → In y (s ∷ cond b rest []) → y ≢ e → (marker g d′ y ≡ marker g d y) × (link g d′ y ≡ link g d y)) → IH
-          → s ∷ cond b (chainFrom g d′ n (link g d s)) [] ≡ s ∷ (cond b rest [] ++ (x ∷ []))
-      deeper q true z i b a ih = ap {B = List ℕ} (λ l. s ∷ l) (ih (λ y j. a y (Members.In.there j)) (into (Members.in-cons i)) (omega arith))
-        where
-          into : (e ≡ s) ⊎ In e rest → In e rest
-          into (inl w) = absurd (q (sym w))
-          into (inr w) = w
-      deeper q false z i b a ih = into (Members.in-cons i)
-        where
-          into : (e ≡ s) ⊎ In e [] → s ∷ [] ≡ s ∷ (x ∷ [])
-          into (inl w) = absurd (q (sym w))
-          into (inr w) = Members.none-in w
+        deeper : s ≢ e → (b : Bool) → eqb (marker g d s) 0xfe ≡ b → In e (s ∷ cond b rest []) → suc (length (s ∷ cond b rest [])) ≤ suc n
+            → ((y : ℕ) → In y (s ∷ cond b rest []) → y ≢ e → (marker g d′ y ≡ marker g d y) × (link g d′ y ≡ link g d y)) → IH
+            → s ∷ cond b (chainFrom g d′ n (link g d s)) [] ≡ s ∷ (cond b rest [] ++ (x ∷ []))
+        deeper q true z i b a ih = ap {B = List ℕ} (λ l. s ∷ l) (ih (λ y j. a y (Members.In.there j)) (into (Members.in-cons i)) (omega arith))
+          where
+            into : (e ≡ s) ⊎ In e rest → In e rest
+            into (inl w) = absurd (q (sym w))
+            into (inr w) = w
+        deeper q false z i b a ih = into (Members.in-cons i)
+          where
+            into : (e ≡ s) ⊎ In e [] → s ∷ [] ≡ s ∷ (x ∷ [])
+            into (inl w) = absurd (q (sym w))
+            into (inr w) = Members.none-in w
 
-      go : Dec (e ≡ s) → IH → chainFrom g d′ (suc n) s ≡ chainFrom g d (suc n) s ++ (x ∷ [])
-      go (yes q) ih = ends q
-      go (no q) ih =
-          let w : s ≢ e = λ z. q (sym z) in
-          let u = a s Members.In.here w in
-          rw (u .0, u .1) (deeper w (eqb (marker g d s) 0xfe) refl i b a ih)
+        go : Dec (e ≡ s) → IH → chainFrom g d′ (suc n) s ≡ chainFrom g d (suc n) s ++ (x ∷ [])
+        go (yes q) ih = ends q
+        go (no q) ih =
+            let w : s ≢ e = λ z. q (sym z) in
+            let u = a s Members.In.here w in
+            rw (u .0, u .1) (deeper w (eqb (marker g d s) 0xfe) refl i b a ih)
 
 module _ (g : Geometry) (d d′ : List ℕ) (c : Sound g d) (p : ℕ) (f : Facts.IsFile g d p) (x m : ℕ) (h : Extends g d d′ p x m) where
   abbrev e : ℕ
@@ -117,7 +119,8 @@ module _ (g : Geometry) (d d′ : List ℕ) (c : Sound g d) (p : ℕ) (f : Facts
   long = omega (
     arith,
     length-append (chain g d p) (x ∷ []),
-    Counting.pigeonhole (chain g d p ++ (x ∷ [])) (Facts.slots-distinct g d) (Members.snoc-distinct (c .once p f) fresh-slot) (λ y i. all y (Members.snoc-in (chain g d p) i)),
+    Counting.pigeonhole (chain g d p ++ (x ∷ [])) (Facts.slots-distinct g d) (Members.snoc-distinct (c .once p f) fresh-slot)
+        (λ y i. all y (Members.snoc-in (chain g d p) i)),
   )
     where
       all : (y : ℕ) → In y (chain g d p) ⊎ (y ≡ x) → In y (slots g d)
@@ -130,7 +133,8 @@ module _ (g : Geometry) (d d′ : List ℕ) (c : Sound g d) (p : ℕ) (f : Facts
   pub extends-chain : chain g d′ p ≡ chain g d p ++ (x ∷ [])
   unfolding chain
   extends-chain = rw (Frame.slots-eq g d d′ (h .above))
-      (chainFrom-extends g d d′ e x (Change.tail-marker g d c p f) (h .marked) (h .linked) (h .ffs 0x1e (omega arith) (omega arith)) (length (slots g d)) p links (Change.tail-in g d c p f) long)
+      (chainFrom-extends g d d′ e x (Change.tail-marker g d c p f) (h .marked) (h .linked) (h .ffs 0x1e (omega arith) (omega arith)) (length (slots g d)) p
+      links (Change.tail-in g d c p f) long)
 
   -- bytes of the old entries, marker and link apart
   steady : (y : ℕ) → T (isSlot g d y) → y ≢ x → (k : ℕ) → k < 0x1e → field g d′ y k ≡ field g d y k
@@ -229,7 +233,8 @@ module _ (g : Geometry) (d d′ : List ℕ) (c : Sound g d) (p : ℕ) (f : Facts
     where
       go : Dec (y ≡ e) → Entry.Entry g d′ y
       go (yes q) = rw q entry-tail
-      go (no q) = Frame.entry-next g d d′ y (h .agrees y (slot-of y i) q (not-in y i)) (next′ y) (λ n j. old-taken n (Change.granule-owned g d c p y n i j)) (entry-was y i)
+      go (no q) = Frame.entry-next g d d′ y (h .agrees y (slot-of y i) q (not-in y i)) (next′ y) (λ n j. old-taken n (Change.granule-owned g d c p y n i j))
+          (entry-was y i)
 
   name′ : nameOf g d′ p ≡ nameOf g d p
   name′ = Frame.nameOf-bytes g d d′ p (λ k a b. low k (omega arith))
@@ -245,7 +250,8 @@ module _ (g : Geometry) (d d′ : List ℕ) (c : Sound g d) (p : ℕ) (f : Facts
     hashes = λ y i. rw name′ (hashed y (member′ y i));
     count′ = rw (low 3 (omega arith), low 0x14 (omega arith), low 0x15 (omega arith)) (was .count′);
     fits = rw (low 3 (omega arith), low 0x14 (omega arith), low 0x15 (omega arith), extends-owned, length-append) (omega (arith, was .fits));
-    off = λ u n i j. go (rw (low 0 (omega arith)) at u) n (rw (Frame.directory-eq g d d′ (h .above)) at j) (Members.snoc-in (owned g d p) (rw extends-owned at i));
+    off = λ u n i j. go (rw (low 0 (omega arith)) at u) n (rw (Frame.directory-eq g d d′ (h .above)) at j)
+        (Members.snoc-in (owned g d p) (rw extends-owned at i));
   }
     where
       was : Entry.Filed g d p
@@ -298,7 +304,8 @@ module _ (g : Geometry) (d d′ : List ℕ) (c : Sound g d) (p : ℕ) (f : Facts
   pub extends-change : T (not (system g d p)) → Change.Change g d d′ p
   extends-change u = record {
     above = h .above;
-    agrees = λ y t a b. h .agrees y t (λ q. a (rw (q, mine) (Change.tail-in g d c p f))) (λ q. b (rw (mine′, q) (Members.in-append-r (chain g d p) Members.In.here)));
+    agrees = λ y t a b. h .agrees y t (λ q. a (rw (q, mine) (Change.tail-in g d c p f)))
+        (λ q. b (rw (mine′, q) (Members.in-append-r (chain g d p) Members.In.here)));
     hits = λ y t a b. h .hits y t (λ q. b (rw (mine′, q) (Members.in-append-r (chain g d p) Members.In.here)));
     gone = λ y i n. absurd (n (rw mine′ (Members.in-append-l (x ∷ []) (rw mine at i))));
     unhit = λ y i n. absurd (n (rw mine′ (Members.in-append-l (x ∷ []) (rw mine at i))));

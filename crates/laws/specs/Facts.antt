@@ -74,12 +74,15 @@ module _ (g : Geometry) (d : List ℕ) where
   unfolding namesDiffer unlike
   differ-says t Members.In.here Members.In.here e = refl
   differ-says {p} {q} t (Members.In.here {xs = xs}) (Members.In.there j) e =
-      absurd (T-not (same (nameOf g d p) (nameOf g d q)) (Members.every-all (unlike p) (Members.and-l (every (unlike p) xs) _ t) j) (subst (λ (l : List ℕ). T (same (nameOf g d p) l)) e (Members.same-refl (nameOf g d p))))
+      absurd (T-not (same (nameOf g d p) (nameOf g d q)) (Members.every-all (unlike p) (Members.and-l (every (unlike p) xs) _ t) j)
+      (subst (λ (l : List ℕ). T (same (nameOf g d p) l)) e (Members.same-refl (nameOf g d p))))
   differ-says {p} {q} t (Members.In.there i) (Members.In.here {xs = xs}) e =
-      absurd (T-not (same (nameOf g d q) (nameOf g d p)) (Members.every-all (unlike q) (Members.and-l (every (unlike q) xs) _ t) i) (subst (λ (l : List ℕ). T (same (nameOf g d q) l)) (sym e) (Members.same-refl (nameOf g d q))))
+      absurd (T-not (same (nameOf g d q) (nameOf g d p)) (Members.every-all (unlike q) (Members.and-l (every (unlike q) xs) _ t) i)
+      (subst (λ (l : List ℕ). T (same (nameOf g d q) l)) (sym e) (Members.same-refl (nameOf g d q))))
   differ-says t (Members.In.there {y = y} {xs = xs} i) (Members.In.there j) e = differ-says (Members.and-r (every (unlike y) xs) _ t) i j e
 
-  pub says-differ : {ps : List ℕ} → Members.Distinct ps → ((p q : ℕ) → Members.In p ps → Members.In q ps → nameOf g d p ≡ nameOf g d q → p ≡ q) → T (namesDiffer g d ps)
+  pub says-differ : {ps : List ℕ} → Members.Distinct ps → ((p q : ℕ) → Members.In p ps → Members.In q ps → nameOf g d p ≡ nameOf g d q → p ≡ q) → T
+      (namesDiffer g d ps)
   unfolding namesDiffer unlike
   says-differ Members.Distinct.done f = tt
   says-differ (Members.Distinct.fresh {x = p} {xs = ps} h r) f =
@@ -117,12 +120,14 @@ module _ (g : Geometry) (d : List ℕ) where
       record {
         dir = search parts depth 12;
         hits = λ s t. Members.and-l (hitHolds g d s) _ (slot s t);
-        entries = λ s t u. Members.if-any (inUse g d s) (entryHolds g d s) (Members.all-second (hitHolds g d s) (any (not (inUse g d s) ∷ entryHolds g d s ∷ [])) (slot s t)) u;
+        entries = λ s t u. Members.if-any (inUse g d s) (entryHolds g d s)
+            (Members.all-second (hitHolds g d s) (any (not (inUse g d s) ∷ entryHolds g d s ∷ [])) (slot s t)) u;
         file = λ p f. Members.every-all (fileHolds g d) fs (in-files g d p f);
         names = λ p q f h e. differ-says g d ns (in-files g d p f) (in-files g d q h) e;
         chains = λ p q s f h i j. Members.each-apart (chain g d) md (in-files g d p f) (in-files g d q h) i j;
         once = λ p f. Members.distinct-each (chain g d) md (in-files g d p f);
-        covered = λ s t u. met-in g d s (Members.has-in s (met g d) (Members.every-all (has (met g d)) cs (Members.in-keep (inUse g d) (in-slots g d s t) u)));
+        covered = λ s t u. met-in g d s
+            (Members.has-in s (met g d) (Members.every-all (has (met g d)) cs (Members.in-keep (inUse g d) (in-slots g d s t) u)));
         granules = λ p q n f h i j. Members.each-apart (owned g d) od (in-files g d p f) (in-files g d q h) i j;
         single = λ p f. Members.distinct-each (owned g d) od (in-files g d p f);
         directory = λ n i. Members.every-all (taken g d) ts i;
@@ -136,7 +141,8 @@ module _ (g : Geometry) (d : List ℕ) where
   T-sound c =
       let ss : T (every (slotHolds g d) (slots g d)) =
       Members.all-every (slotHolds g d) (slots g d) (λ s i. let t = slots-in g d s i in
-      Members.all-two (hitHolds g d s) (any (not (inUse g d s) ∷ entryHolds g d s ∷ [])) (c .hits s t) (Members.any-if (inUse g d s) (entryHolds g d s) (c .entries s t))) in
+      Members.all-two (hitHolds g d s) (any (not (inUse g d s) ∷ entryHolds g d s ∷ [])) (c .hits s t)
+      (Members.any-if (inUse g d s) (entryHolds g d s) (c .entries s t))) in
       let fs : T (every (fileHolds g d) (files g d)) = Members.all-every (fileHolds g d) (files g d) (λ p i. c .file p (files-in g d p i)) in
       let ns : T (namesDiffer g d (files g d)) = says-differ g d (files-distinct g d) (λ p q i j e. c .names p q (files-in g d p i) (files-in g d q j) e) in
       let ms : T (distinct (met g d)) =

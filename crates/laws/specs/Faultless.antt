@@ -9,7 +9,8 @@ use lib.Dec.{T, eqb, eqb→eq}
 use Rattle.meaning.specs.Layout.{isSlot, slots}
 use Rattle.meaning.specs.Consistent.{lengthHolds, directoryTaken}
 use Rattle.meaning.specs.Refusals.{first}
-use Rattle.meaning.specs.Fault.{hitFault, nameFault, duplicateFault, chainFault, runFault, gatFault, sharedFault, sizeFault, directoryFault, faultAt, lowest, fault}
+use Rattle.meaning.specs.Fault.{hitFault, nameFault, duplicateFault, chainFault, runFault, gatFault, sharedFault, sizeFault, directoryFault, faultAt, lowest}
+use Rattle.meaning.specs.Fault.{fault}
 use Rattle.meaning.specs.Refusal.{unplaced}
 use Rattle.meaning.specs.declared.Geometry.{Geometry}
 use Rattle.meaning.specs.declared.Refusal.{Refusal}

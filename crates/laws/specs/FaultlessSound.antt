@@ -13,8 +13,10 @@ use Rattle.meaning.specs.Layout.{isSlot, slots, field, hit, taken, directoryGra
 use Rattle.meaning.specs.Names.{hash}
 use Rattle.meaning.specs.Entries.{inUse, extension, inUsePrimary, system, marker, link, entryGranules, nameOf}
 use Rattle.meaning.specs.Chain.{chain, chainFrom, owned, files}
-use Rattle.meaning.specs.Consistent.{hitHolds, pairsHold, linkHoldsBy, runsHold, gatHolds, entryHolds, nameHolds, hashHolds, sizeHolds, offDirectory, fileHolds}
-use Rattle.meaning.specs.Fault.{handsOn, ends, walk, goodExtension, fileOf, chainWhole, hitFault, nameFault, duplicateFault, chainFault, runFault, gatFault, sharedFault, sizeFault, directoryFault}
+use Rattle.meaning.specs.Consistent.{hitHolds, pairsHold, linkHoldsBy, runsHold, gatHolds, entryHolds, nameHolds, hashHolds, sizeHolds, offDirectory}
+use Rattle.meaning.specs.Consistent.{fileHolds}
+use Rattle.meaning.specs.Fault.{handsOn, ends, walk, goodExtension, fileOf, chainWhole, hitFault, nameFault, duplicateFault, chainFault, runFault, gatFault}
+use Rattle.meaning.specs.Fault.{sharedFault, sizeFault, directoryFault}
 use Rattle.meaning.specs.declared.Geometry.{Geometry}
 use Rattle.lists.specs.Members
 use Rattle.lists.specs.Members.{In, Distinct}
@@ -53,7 +55,10 @@ module _ (g : Geometry) (d : List ℕ) (c : Faultless g d) where
     where
       go : Members.Test (extension g d s) → (p : ℕ) × IsFile g d p × In s (walk g d p)
       go (Members.Test.fails n) =
-          let f : IsFile g d s = record { slot = u .slot; primary′ = Members.and-i (inUse g d s) (not (extension g d s)) (u .used) (not-T (extension g d s) n) } in
+          let f : IsFile g d s = record {
+            slot = u .slot;
+            primary′ = Members.and-i (inUse g d s) (not (extension g d s)) (u .used) (not-T (extension g d s) n);
+          } in
           (s, f, Walk.walk-first g d s f)
       go (Members.Test.holds x) =
           let m = Kinds.good-says g d s (firm s u .good x) .met in
@@ -235,7 +240,8 @@ module _ (g : Geometry) (d : List ℕ) (c : Faultless g d) where
   hash-is : (s : ℕ) → IsUsed g d s → hit g d s ≡ hash (nameOf g d (fileOf g d s))
   unfolding hitFault
   hash-is s u = eqb→eq _ _ (yes-T alike (λ n. c .clear s (u .slot) .hit′ (Members.any-r (not (hitHolds g d s)) _
-      (Kinds.all-three (inUse g d s) (any (not (extension g d s) ∷ goodExtension g d s ∷ [])) (not alike) (u .used) (Members.any-if (extension g d s) (goodExtension g d s) (firm s u .good)) n))))
+      (Kinds.all-three (inUse g d s) (any (not (extension g d s) ∷ goodExtension g d s ∷ [])) (not alike) (u .used)
+      (Members.any-if (extension g d s) (goodExtension g d s) (firm s u .good)) n))))
     where
       alike : Bool
       alike = eqb (hit g d s) (hash (nameOf g d (fileOf g d s)))
@@ -252,7 +258,8 @@ module _ (g : Geometry) (d : List ℕ) (c : Faultless g d) where
 
   size-holds : (p : ℕ) → IsFile g d p → T (sizeHolds g d p)
   unfolding sizeFault
-  size-holds p f = yes-T (sizeHolds g d p) (λ n. c .clear p (f .slot) .size (Kinds.all-three (inUsePrimary g d p) (chainWhole g d p) (not (sizeHolds g d p)) (f .primary′) (whole-is p f) n))
+  size-holds p f = yes-T (sizeHolds g d p) (λ n. c .clear p (f .slot) .size
+      (Kinds.all-three (inUsePrimary g d p) (chainWhole g d p) (not (sizeHolds g d p)) (f .primary′) (whole-is p f) n))
 
   off : (p n : ℕ) → IsFile g d p → T (not (system g d p)) → In n (owned g d p) → In n (directoryGranules g d) → ⊥
   unfolding directoryFault owned
@@ -260,7 +267,8 @@ module _ (g : Geometry) (d : List ℕ) (c : Faultless g d) where
       let v = Members.each-in (entryGranules g d) n (chain g d p) i in
       let s = v .0 in
       let k = member-used p s f (v .1) in
-      c .clear s (k .slot) .directory (Kinds.all-three (inUse g d s) (not (system g d (fileOf g d s))) (some (has (directoryGranules g d)) (entryGranules g d s)) (k .used)
+      c .clear s (k .slot) .directory (Kinds.all-three (inUse g d s) (not (system g d (fileOf g d s)))
+      (some (has (directoryGranules g d)) (entryGranules g d s)) (k .used)
       (rw (file-of p s f (v .1)) u) (Kinds.in-some (has (directoryGranules g d)) (v .2) (Members.in-has j)))
 
   off-holds : (p : ℕ) → IsFile g d p → T (offDirectory g d p)
@@ -284,9 +292,11 @@ module _ (g : Geometry) (d : List ℕ) (c : Faultless g d) where
   not-duplicate : (p q : ℕ) → IsFile g d p → IsFile g d q → q < p → nameOf g d q ≡ nameOf g d p → ⊥
   unfolding duplicateFault
   not-duplicate p q f h l e =
-      c .clear p (f .slot) .duplicate (Members.all-two (inUsePrimary g d p) (some (λ q. ltb q p && same (nameOf g d q) (nameOf g d p)) (files g d)) (f .primary′)
+      c .clear p (f .slot) .duplicate (Members.all-two (inUsePrimary g d p) (some (λ q. ltb q p && same (nameOf g d q) (nameOf g d p)) (files g d))
+      (f .primary′)
       (Kinds.in-some (λ q. ltb q p && same (nameOf g d q) (nameOf g d p)) (Facts.in-files g d q h)
-      (Members.and-i (ltb q p) (same (nameOf g d q) (nameOf g d p)) (lt→ltb q p l) (subst (λ (n : List ℕ). T (same (nameOf g d q) n)) e (Members.same-refl (nameOf g d q))))))
+      (Members.and-i (ltb q p) (same (nameOf g d q) (nameOf g d p)) (lt→ltb q p l)
+      (subst (λ (n : List ℕ). T (same (nameOf g d q) n)) e (Members.same-refl (nameOf g d q))))))
 
   names : (p q : ℕ) → IsFile g d p → IsFile g d q → nameOf g d p ≡ nameOf g d q → p ≡ q
   names p q f h e = go (ℕ-discrete p q)

@@ -47,7 +47,8 @@ module _ (g : Geometry) (d d′ : List ℕ) where
   pub entryGranules-pairs : (s : ℕ) → Pairs s → entryGranules g d′ s ≡ entryGranules g d s
   unfolding entryGranules
   entryGranules-pairs s a = rw (runs-pairs s a)
-      (Members.each-eq (runGranules g d′ s) (runGranules g d s) (count 0 (runs g d s)) (λ k i. runGranules-pairs s k a (omega (arith, Members.count-in k 0 (runs g d s) i, Entry.runs-le g d s))))
+      (Members.each-eq (runGranules g d′ s) (runGranules g d s) (count 0 (runs g d s))
+      (λ k i. runGranules-pairs s k a (omega (arith, Members.count-in k 0 (runs g d s) i, Entry.runs-le g d s))))
 
   pub entryGranules-eq : (s : ℕ) → Agree g d d′ s → entryGranules g d′ s ≡ entryGranules g d s
   entryGranules-eq s a = entryGranules-pairs s (λ j b h. a j (omega arith))
@@ -63,15 +64,18 @@ module _ (g : Geometry) (d d′ : List ℕ) where
   cond-eq true xs ys f = f (λ x i. i)
   cond-eq false xs ys f = refl
 
-  pub chainFrom-eq : (n s : ℕ) → ((x : ℕ) → Members.In x (chainFrom g d n s) → (marker g d′ x ≡ marker g d x) × (link g d′ x ≡ link g d x)) → chainFrom g d′ n s ≡ chainFrom g d n s
+  pub chainFrom-eq : (n s : ℕ) → ((x : ℕ) → Members.In x (chainFrom g d n s) → (marker g d′ x ≡ marker g d x) × (link g d′ x ≡ link g d x)) → chainFrom g d′ n
+      s ≡ chainFrom g d n s
   unfolding chainFrom
   chainFrom-eq zero s a = refl
   chainFrom-eq (suc n) s a =
       rw (a s Members.In.here .0, a s Members.In.here .1)
-      (ap {B = List ℕ} (λ l. s ∷ l) (cond-eq (eqb (marker g d s) 0xfe) (chainFrom g d n (link g d s)) _ (λ f. chainFrom-eq n (link g d s) (λ x i. a x (Members.In.there (f x i))))))
+      (ap {B = List ℕ} (λ l. s ∷ l) (cond-eq (eqb (marker g d s) 0xfe) (chainFrom g d n (link g d s)) _
+      (λ f. chainFrom-eq n (link g d s) (λ x i. a x (Members.In.there (f x i))))))
 
   -- of an extension, marker and link apart
-  pub follows-low : (s x : ℕ) → isSlot g d′ x ≡ isSlot g d x → ((k : ℕ) → k < 0x1e → field g d′ x k ≡ field g d x k) → Entry.Follows g d s x → Entry.Follows g d′ s x
+  pub follows-low : (s x : ℕ) → isSlot g d′ x ≡ isSlot g d x → ((k : ℕ) → k < 0x1e → field g d′ x k ≡ field g d x k) → Entry.Follows g d s x → Entry.Follows g
+      d′ s x
   follows-low s x e a f = record {
     slot = rw e (f .slot);
     flags = a 0 (omega arith) ∙ f .flags;
@@ -112,7 +116,12 @@ module _ (g : Geometry) (d d′ : List ℕ) where
       → (marker g d s ≡ 0xff) ⊎ Entry.LinkedBy g d flags s → (marker g d′ s ≡ 0xff) ⊎ Entry.LinkedBy g d′ flags′ s
   linked-next flags flags′ s a l (inl m) = inl (a 0x1e (omega arith) (omega arith) ∙ m)
   linked-next flags flags′ s a l (inr m) =
-      inr (record { marked = a 0x1e (omega arith) (omega arith) ∙ m .marked; next = rw (a 0x1f (omega arith) (omega arith)) (l m); full = runs-tail s a ∙ m .full })
+      inr (record {
+        marked = a 0x1e (omega arith) (omega arith) ∙ m .marked;
+        next = rw (a 0x1f (omega arith) (omega arith)) (l m);
+        full = runs-tail s a ∙ m
+            .full;
+      })
 
   -- an entry whose bytes and whose GAT bits are the same, and which is still followed
   pub entry-next : (s : ℕ) → Agree g d d′ s → (Entry.Linked g d s → Entry.Follows g d′ s (link g d s))
@@ -144,7 +153,8 @@ module _ (g : Geometry) (d d′ : List ℕ) where
     unfolding words
     directory-eq = rw above
 
-    pub chain-links : (p : ℕ) → ((x : ℕ) → Members.In x (chain g d p) → (marker g d′ x ≡ marker g d x) × (link g d′ x ≡ link g d x)) → chain g d′ p ≡ chain g d p
+    pub chain-links : (p : ℕ) → ((x : ℕ) → Members.In x (chain g d p) → (marker g d′ x ≡ marker g d x) × (link g d′ x ≡ link g d x)) → chain g d′ p ≡ chain g
+        d p
     unfolding chain
     chain-links p a = rw slots-eq (chainFrom-eq (length (slots g d)) p a)
 

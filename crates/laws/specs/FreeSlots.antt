@@ -33,8 +33,10 @@ module _ (g : Geometry) (d d′ : List ℕ) (above : aboveTen g d′ ≡ aboveTe
   taken-slot x n = Members.no-false (λ t. n (eqb→eq (hit g d′ x) 0 (Members.all-second (permitted g d′ x) (eqb (hit g d′ x) 0) t)))
 
   -- one slot taken
-  pub slots-less : (x : ℕ) → In x (freeSlots g d) → hit g d′ x ≢ 0 → ((y : ℕ) → T (isSlot g d y) → y ≢ x → hit g d′ y ≡ hit g d y) → length (freeSlots g d) ≡ suc (length (freeSlots g d′))
+  pub slots-less : (x : ℕ) → In x (freeSlots g d) → hit g d′ x ≢ 0 → ((y : ℕ) → T (isSlot g d y) → y ≢ x → hit g d′ y ≡ hit g d y) → length (freeSlots g d) ≡
+      suc (length (freeSlots g d′))
   unfolding freeSlots
   slots-less x i n h =
       let k = Members.keep-in (freeSlot g d) x (count 0 256) i in
-      Counting.one-less (freeSlot g d′) (freeSlot g d) (k .0) (Members.count-distinct 0 256) (taken-slot x n) (Members.T-true (k .1)) (λ y j e. sym (slot-same y (λ t. h y t e)))
+      Counting.one-less (freeSlot g d′) (freeSlot g d) (k .0) (Members.count-distinct 0 256) (taken-slot x n) (Members.T-true (k .1))
+      (λ y j e. sym (slot-same y (λ t. h y t e)))

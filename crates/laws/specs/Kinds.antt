@@ -101,7 +101,11 @@ module _ (g : Geometry) (d : List ℕ) where
   unfolding goodExtension followsBy
   good-says x t =
       let k = two-says (eqb (length (metFrom g d x)) 1) (every (λ b. followsBy g d 0x90 b x) (metFrom g d x)) t in
-      record { met = one-in (metFrom g d x) (eqb→eq _ _ (k .0)); follow = λ b i. Entry.follows-says g d 0x90 b x (Members.every-all (λ b. followsBy g d 0x90 b x) (k .1) i) }
+      record {
+        met = one-in (metFrom g d x) (eqb→eq _ _ (k .0));
+        follow = λ b i. Entry.follows-says g d 0x90 b x
+            (Members.every-all (λ b. followsBy g d 0x90 b x) (k .1) i);
+      }
 
   pub says-good : (x : ℕ) → length (metFrom g d x) ≡ 1 → ((b : ℕ) → In b (metFrom g d x) → Follows g d b x) → T (goodExtension g d x)
   unfolding goodExtension followsBy
@@ -117,8 +121,10 @@ module _ (g : Geometry) (d : List ℕ) where
   pub firm : (s : ℕ) → T (inUse g d s) → (T (chainFault g d s) → ⊥) → Firm s
   unfolding chainFault badEntry
   firm s u n = record {
-    upright = Members.any-e (handsOn g d s) (ends g d s) (yes-T (any (handsOn g d s ∷ ends g d s ∷ [])) (λ b. faulty (Members.any-l (badEntry g d s) unlike b)));
-    good = λ x. yes-T (goodExtension g d s) (λ b. faulty (Members.any-r (badEntry g d s) unlike (Members.all-two (extension g d s) (not (goodExtension g d s)) x b)));
+    upright = Members.any-e (handsOn g d s) (ends g d s)
+        (yes-T (any (handsOn g d s ∷ ends g d s ∷ [])) (λ b. faulty (Members.any-l (badEntry g d s) unlike b)));
+    good = λ x. yes-T (goodExtension g d s)
+        (λ b. faulty (Members.any-r (badEntry g d s) unlike (Members.all-two (extension g d s) (not (goodExtension g d s)) x b)));
   }
     where
       unlike : Bool

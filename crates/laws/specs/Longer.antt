@@ -53,7 +53,8 @@ module _ (g : Geometry) (d d′ : List ℕ) (c : Sound g d) (p : ℕ) (f : Facts
           let l : i < granuleBytes g * length (owned g d p) = omega (arith, Change.filed-at g d c p f .fits) in
           rw (grown-place i l) (h .same (place g d p i) (Change.filed-at g d c p f .off u _ (Others.place-in g d p i l)))
 
-  pub grown-file : T (not (system g d p)) → fileAt g d′ p ≡ record { attributes = fileAt g d p .attributes; granules = suc (fileAt g d p .granules); bytes = fileAt g d p .bytes }
+  pub grown-file : T (not (system g d p)) → fileAt g d′ p ≡ record
+      { attributes = fileAt g d p .attributes; granules = suc (fileAt g d p .granules); bytes = fileAt g d p .bytes }
   unfolding fileAt
   grown-file u = λ i. record {
     attributes = Members.map-eq (field g d′ p) (field g d p) (0 ∷ 1 ∷ 2 ∷ 4 ∷ count 0x10 4) (λ k j. h .low k (Others.attribute-low k j)) i;
@@ -64,6 +65,7 @@ module _ (g : Geometry) (d d′ : List ℕ) (c : Sound g d) (p : ℕ) (f : Facts
   -- one free granule less
   pub grown-free : length (freeGranules g d) ≡ suc (length (freeGranules g d′))
   unfolding freeGranules
-  grown-free = Counting.one-less (λ n. not (taken g d′ n)) (λ n. not (taken g d n)) (Members.in-count m 0 (granules g) (omega arith) (omega (arith, h .inside))) (Members.count-distinct 0 (granules g))
+  grown-free = Counting.one-less (λ n. not (taken g d′ n)) (λ n. not (taken g d n))
+      (Members.in-count m 0 (granules g) (omega arith) (omega (arith, h .inside))) (Members.count-distinct 0 (granules g))
       (ap not (Members.T-true {b = taken g d′ m} (h .set′))) (ap not (Members.no-false {b = taken g d m} (h .free)))
       (λ x i n. ap not (sym (h .keeps x (omega (arith, Members.count-in x 0 (granules g) i)) n)))

@@ -11,7 +11,8 @@ use lib.ListN.{length, set, length-set}
 use lib.Seq.{getD-set-same, getD-set-other, ext-getD}
 use lib.Dec.{T, eqb, eqb→eq}
 use Rattle.meaning.specs.Lists.{through, each}
-use Rattle.meaning.specs.Layout.{byte, isSlot, taken, field, gatAt, hitAt, entryAt, granules, hit, directoryGranules, granuleBytes, aboveTen, directorySectors, mostBlocks}
+use Rattle.meaning.specs.Layout.{byte, isSlot, taken, field, gatAt, hitAt, entryAt, granules, hit, directoryGranules, granuleBytes, aboveTen}
+use Rattle.meaning.specs.Layout.{directorySectors, mostBlocks}
 use Rattle.meaning.specs.Bits.{bit, digit, putDigit}
 use Rattle.meaning.specs.Entries.{link, entryGranules, nameOf, sizeOf}
 use Rattle.meaning.specs.Chain.{chain, owned}
@@ -50,7 +51,8 @@ find t (y ∷ xs) = go (Members.decide (t y)) (find t xs)
     none f r x (inl e) = rw e f
     none f r x (inr i) = r x i
 
-    go : Members.Test (t y) → ((x : ℕ) × In x xs × T (t x)) ⊎ ((x : ℕ) → In x xs → T (t x) → ⊥) → ((x : ℕ) × In x (y ∷ xs) × T (t x)) ⊎ ((x : ℕ) → In x (y ∷ xs) → T (t x) → ⊥)
+    go : Members.Test (t y) → ((x : ℕ) × In x xs × T (t x)) ⊎ ((x : ℕ) → In x xs → T (t x) → ⊥) → ((x : ℕ) × In x (y ∷ xs) × T (t x)) ⊎
+        ((x : ℕ) → In x (y ∷ xs) → T (t x) → ⊥)
     go (Members.Test.holds h) r = inl (y, Members.In.here, h)
     go (Members.Test.fails f) (inl r) = inl (r .0, Members.In.there (r .1), r .2)
     go (Members.Test.fails f) (inr r) = inr (λ x i. none f r x (Members.in-cons i))
@@ -70,7 +72,8 @@ module _ (g : Geometry) (v h : ℕ) (l : List ℕ) (x : ℕ) where
   entry-flags : x < 256 → entryAt g x + 0 < length l → byte (putEntry g v h l x) (entryAt g x + 0) ≡ putDigit (byte l (entryAt g x + 0)) 4 v
   entry-flags b m =
       let n : entryAt g x + 0 ≢ hitAt g x = omega arith in
-      rw (getD-set-other (set l (entryAt g x + 0) (putDigit (byte l (entryAt g x + 0)) 4 v)) (hitAt g x) (entryAt g x + 0) h 0 n) (getD-set-same l (entryAt g x + 0) _ 0 m)
+      rw (getD-set-other (set l (entryAt g x + 0) (putDigit (byte l (entryAt g x + 0)) 4 v)) (hitAt g x) (entryAt g x + 0) h 0 n)
+      (getD-set-same l (entryAt g x + 0) _ 0 m)
 
 -- All of them -------------------------------------------------------------------------------------------------------------------------
 
@@ -114,11 +117,13 @@ module _ (g : Geometry) (d : List ℕ) (v h : ℕ) (ns xs : List ℕ) (m : Marks
   pub mark-byte : (i : ℕ) → ((n : ℕ) → In n ns → i ≢ gatAt g n) → ((x : ℕ) → In x xs → i ≢ entryAt g x + 0) → ((x : ℕ) → In x xs → i ≢ hitAt g x)
       → byte (marking g v h d ns xs) i ≡ byte d i
   unfolding first
-  mark-byte i a b e = entries-aside i b e ∙ Places.through-keeps (λ l. byte l i) (Places.marked g v) ns d (λ l n j. getD-set-other l (gatAt g n) i _ 0 (a n j))
+  mark-byte i a b e = entries-aside i b e ∙ Places.through-keeps (λ l. byte l i) (Places.marked g v) ns d
+      (λ l n j. getD-set-other l (gatAt g n) i _ 0 (a n j))
 
   pub mark-above : aboveTen g (marking g v h d ns xs) ≡ aboveTen g d
   unfolding words
-  mark-above = mark-byte (hitAt g 31) (λ n i. omega (arith, block-of n (m .granules′ n i))) (λ x i. omega arith) (λ x i. omega (arith, slot-of x i .sector, m .dir .small))
+  mark-above = mark-byte (hitAt g 31) (λ n i. omega (arith, block-of n (m .granules′ n i))) (λ x i. omega arith)
+      (λ x i. omega (arith, slot-of x i .sector, m .dir .small))
 
   -- an entry of another slot, and its HIT byte
   pub mark-agrees : (x : ℕ) → T (isSlot g d x) → (In x xs → ⊥) → Agree g d (marking g v h d ns xs) x
@@ -153,7 +158,8 @@ module _ (g : Geometry) (d : List ℕ) (v h : ℕ) (ns xs : List ℕ) (m : Marks
     where
       go : (i < 256 * g .start) ⊎ (256 * (g .start + directorySectors g d) ≤ i) → byte (marking g v h d ns xs) i ≡ byte d i
       go (inl e) = mark-byte i (λ k j. omega arith) (λ y j. omega arith) (λ y j. omega arith)
-      go (inr e) = mark-byte i (λ k j. omega (arith, block-of k (m .granules′ k j), m .dir .small)) (λ y j. let q = slot-of y j in omega arith) (λ y j. let q = slot-of y j in omega arith)
+      go (inr e) = mark-byte i (λ k j. omega (arith, block-of k (m .granules′ k j), m .dir .small)) (λ y j. let q = slot-of y j in omega arith)
+          (λ y j. let q = slot-of y j in omega arith)
 
   -- what is put
   pub mark-hit : (x : ℕ) → In x xs → hit g (marking g v h d ns xs) x ≡ h
@@ -189,8 +195,14 @@ module _ (g : Geometry) (d : List ℕ) (v h : ℕ) (ns xs : List ℕ) (m : Marks
       other : (l : List ℕ) (y : ℕ) → In y xs → x ≢ y → byte (putEntry g v h l y) (entryAt g x + 0) ≡ byte l (entryAt g x + 0)
       other l y j q = let s = slot-of x i in let r = slot-of y j in entry-byte g v h l y (entryAt g x + 0) (omega arith) (omega arith)
 
-      stays : (l : List ℕ) (y : ℕ) → In y xs → Put l → Dec (x ≡ y) → putDigit (byte (putEntry g v h l y) (entryAt g x + 0)) 4 v ≡ putDigit (byte d (entryAt g x + 0)) 4 v
-      stays l y j e (yes q) = rw (← q, entry-flags g v h l x (slot-of x i .low) (entry-inside x i l (e .0)), Bits.put-twice (byte l (entryAt g x + 0)) 4 v v (m .digit′)) (e .1)
+      stays : (l : List ℕ) (y : ℕ) → In y xs → Put l → Dec (x ≡ y) → putDigit (byte (putEntry g v h l y) (entryAt g x + 0)) 4 v ≡ putDigit
+          (byte d (entryAt g x + 0)) 4 v
+      stays l y j e (yes q) = rw (
+        ← q,
+        entry-flags g v h l x (slot-of x i .low) (entry-inside x i l (e .0)),
+        Bits.put-twice (byte l (entryAt g x + 0)) 4 v v
+            (m .digit′),
+      ) (e .1)
       stays l y j e (no q) = rw (other l y j q) (e .1)
 
       step : (l : List ℕ) (y : ℕ) → In y xs → Put l → byte l (entryAt g x + 0) ≡ putDigit (byte d (entryAt g x + 0)) 4 v → Dec (x ≡ y)
@@ -212,7 +224,8 @@ module _ (g : Geometry) (d : List ℕ) (v h : ℕ) (ns xs : List ℕ) (m : Marks
 
   pub mark-keeps : (n : ℕ) → n < granules g → (In n ns → ⊥) → taken g (marking g v h d ns xs) n ≡ taken g d n
   unfolding first words
-  mark-keeps n b o = rw (gat-aside n b) (Places.through-keeps (λ l. taken g l n) (Places.marked g v) ns d (λ l k j. Places.marked-other g v (m .digit′) l k n (λ e. o (rw e j))))
+  mark-keeps n b o = rw (gat-aside n b) (Places.through-keeps (λ l. taken g l n) (Places.marked g v) ns d
+      (λ l k j. Places.marked-other g v (m .digit′) l k n (λ e. o (rw e j))))
 
   pub mark-granule : (n : ℕ) → In n ns → digit (byte (marking g v h d ns xs) (gatAt g n)) (n % g .units) ≡ v
   unfolding Long first words
@@ -227,7 +240,8 @@ module _ (g : Geometry) (d : List ℕ) (v h : ℕ) (ns xs : List ℕ) (m : Marks
       put : (l : List ℕ) → length l ≡ length d → digit (byte (Places.marked g v l n) (gatAt g n)) (n % g .units) ≡ v
       put l e = Places.marked-same g v (m .digit′) l n (gat-inside n (m .granules′ n i) l e)
 
-      step : (l : List ℕ) (y : ℕ) → length l ≡ length d → digit (byte l (gatAt g n)) (n % g .units) ≡ v → Dec (n ≡ y) → digit (byte (Places.marked g v l y) (gatAt g n)) (n % g .units) ≡ v
+      step : (l : List ℕ) (y : ℕ) → length l ≡ length d → digit (byte l (gatAt g n)) (n % g .units) ≡ v → Dec (n ≡ y) → digit
+          (byte (Places.marked g v l y) (gatAt g n)) (n % g .units) ≡ v
       step l y e r (yes q) = rw (← q) (put l e)
       step l y e r (no q) = Places.marked-apart g v (m .digit′) l y n q ∙ r
 
@@ -283,7 +297,8 @@ module _ (g : Geometry) (d : List ℕ) (h : ℕ) (ns xs : List ℕ) (m : Marks g
           let q = eqb→eq u (n % g .units) (Members.and-r (eqb i (gatAt g n)) (eqb u (n % g .units)) (w .2)) in
           rw (p, q) (mark-granule g cleared 1 h ns xs cleared-marks n (w .1) ∙ sym (taken-digit n (ts n (w .1))))
       go (inr w) =
-          let none : (n : ℕ) → In n ns → i ≡ gatAt g n → u ≢ n % g .units = λ n j p q. w n j (Members.and-i (eqb i (gatAt g n)) _ (Members.eq-T p) (Members.eq-T q)) in
+          let none : (n : ℕ) → In n ns → i ≡ gatAt g n → u ≢ n % g .units = λ n j p q. w n j
+          (Members.and-i (eqb i (gatAt g n)) _ (Members.eq-T p) (Members.eq-T q)) in
           mark-digit g cleared 1 h ns xs cleared-marks i u a b none ∙ mark-digit g d 0 0 ns xs m i u a b none
 
   pub unmark : marking g 1 h (marking g 0 0 d ns xs) ns xs ≡ d
@@ -324,7 +339,8 @@ module _ (g : Geometry) (d : List ℕ) (v h p : ℕ) (t : T (isSlot g d p)) (m :
 
   pub file-owned : owned g after p ≡ owned g d p
   unfolding owned
-  file-owned = ap (each (entryGranules g after)) file-chain ∙ Members.each-eq (entryGranules g after) (entryGranules g d) (chain g d p) (λ x i. Frame.granules-tail g d after x (file-tail x i))
+  file-owned = ap (each (entryGranules g after)) file-chain ∙ Members.each-eq (entryGranules g after) (entryGranules g d) (chain g d p)
+      (λ x i. Frame.granules-tail g d after x (file-tail x i))
 
   pub file-name : nameOf g after p ≡ nameOf g d p
   file-name = Frame.nameOf-bytes g d after p (λ j a b. byte-stays p j t (omega arith) (omega arith))
@@ -351,7 +367,8 @@ module _ (g : Geometry) (d : List ℕ) (v h p : ℕ) (t : T (isSlot g d p)) (m :
   file-flag x u i n = ap (λ (b : ℕ). eqb b 1) (ap (λ (b : ℕ). digit b u) (file-flags x i) ∙ Bits.digit-other (field g d x 0) 4 u v (m .digit′) n)
 
   -- an entry that leads to an extension of its chain still does, whatever bit 4 makes of that one's byte 00
-  pub file-next : (byte00 x : ℕ) → In x (chain g d p) → In (link g d x) (chain g d p) → Entry.LinkedBy g d byte00 x → Entry.FollowsBy g after (putDigit byte00 4 v) x (link g d x)
+  pub file-next : (byte00 x : ℕ) → In x (chain g d p) → In (link g d x) (chain g d p) → Entry.LinkedBy g d byte00 x → Entry.FollowsBy g after
+      (putDigit byte00 4 v) x (link g d x)
   file-next byte00 x i j l =
       let y = link g d x in
       record {

@@ -36,8 +36,11 @@ module _ (g : Geometry) (d : List ℕ) where
   unfolding words
   named-in n x i =
       let a = Members.keep-in (carries g d n) x (candidates g d n) i in
-      let b = Members.keep-in (λ s. eqb (hit g d s) (hash n)) x (slots g d) (a .0) in
-      (record { slot = Facts.slots-in g d x (b .0); primary′ = Members.and-l (inUsePrimary g d x) _ (a .1) }, Members.same-eq _ _ (Members.all-second (inUsePrimary g d x) (same (nameOf g d x) n) (a .1)))
+      let b = Members.keep-in (λ s. eqb (hit g d s) (hash n)) x (slots g d) (a .0) in (
+        record { slot = Facts.slots-in g d x (b .0); primary′ = Members.and-l (inUsePrimary g d x) _ (a .1) },
+        Members.same-eq _ _
+            (Members.all-second (inUsePrimary g d x) (same (nameOf g d x) n) (a .1)),
+      )
 
   pub none-named : (n : List ℕ) → ((p : ℕ) → IsFile g d p → nameOf g d p ≢ n) → named g d n ≡ []
   unfolding words
@@ -48,7 +51,8 @@ module _ (g : Geometry) (d : List ℕ) where
     unfolding words
     in-named p f =
         Members.in-keep (carries g d (nameOf g d p))
-        (Members.in-keep (λ s. eqb (hit g d s) (hash (nameOf g d p))) (Facts.in-slots g d p (f .slot)) (Members.eq-T (Change.filed-at g d c p f .hashes p (Change.chain-head g d c p (f .slot)))))
+        (Members.in-keep (λ s. eqb (hit g d s) (hash (nameOf g d p))) (Facts.in-slots g d p (f .slot))
+        (Members.eq-T (Change.filed-at g d c p f .hashes p (Change.chain-head g d c p (f .slot)))))
         (Members.all-two (inUsePrimary g d p) (same (nameOf g d p) (nameOf g d p)) (f .primary′) (Members.same-refl (nameOf g d p)))
 
     pub named-is : (p : ℕ) → IsFile g d p → named g d (nameOf g d p) ≡ p ∷ []
@@ -62,8 +66,10 @@ module _ (g : Geometry) (d : List ℕ) where
     pub look : (n : List ℕ) → ((p : ℕ) × IsFile g d p × (nameOf g d p ≡ n)) ⊎ ((p : ℕ) → IsFile g d p → nameOf g d p ≢ n)
     look n = go (keep (carries g d n) (candidates g d n)) refl
       where
-        go : (xs : List ℕ) → keep (carries g d n) (candidates g d n) ≡ xs → ((p : ℕ) × IsFile g d p × (nameOf g d p ≡ n)) ⊎ ((p : ℕ) → IsFile g d p → nameOf g d p ≢ n)
-        go [] e = inr (λ p f q. Members.none-in (subst (λ (l : List ℕ). In p l) e (subst (λ (m : List ℕ). In p (keep (carries g d m) (candidates g d m))) q (in-named p f))))
+        go : (xs : List ℕ) → keep (carries g d n) (candidates g d n) ≡ xs → ((p : ℕ) × IsFile g d p × (nameOf g d p ≡ n)) ⊎
+            ((p : ℕ) → IsFile g d p → nameOf g d p ≢ n)
+        go [] e = inr (λ p f q. Members.none-in (subst (λ (l : List ℕ). In p l) e
+            (subst (λ (m : List ℕ). In p (keep (carries g d m) (candidates g d m))) q (in-named p f))))
         go (x ∷ xs) e = let k = named-in n x (rw e Members.In.here) in inl (x, k .0, k .1)
 
     pub plain-is : (p : ℕ) (n : List ℕ) → IsFile g d p → nameOf g d p ≡ n → plain g d n ≡ found (fileAt g d p)

@@ -37,7 +37,8 @@ getD-in (x ∷ xs) (suc i) h = Members.In.there (getD-in xs i (omega arith))
 pub place-in : (g : Geometry) (d : List ℕ) (p i : ℕ) → i < granuleBytes g * length (owned g d p) → In (place g d p i / granuleBytes g) (owned g d p)
 unfolding place
 place-in g d p i h =
-    let e : (granuleBytes g * getD (owned g d p) (i / granuleBytes g) 0 + i % granuleBytes g) / granuleBytes g ≡ getD (owned g d p) (i / granuleBytes g) 0 = Sizes.at-width _ _ (Sizes.split (Sizes.bytes-pos g) i .rest) in
+    let e : (granuleBytes g * getD (owned g d p) (i / granuleBytes g) 0 + i % granuleBytes g) / granuleBytes g ≡ getD (owned g d p) (i / granuleBytes g) 0 =
+    Sizes.at-width _ _ (Sizes.split (Sizes.bytes-pos g) i .rest) in
     rw e (getD-in (owned g d p) (i / granuleBytes g) (Sizes.width-lt (Sizes.bytes-pos g) i _ h))
 
 -- outside the directory and the file's granules, before and after, nothing changed
@@ -100,7 +101,8 @@ module _ (g : Geometry) (d d′ : List ℕ) (c : Sound g d) (p : ℕ) (h : Chang
     byte-stays : (q i : ℕ) → IsFile g d q → q ≢ p → T (not (system g d q)) → i < sizeOf g d q → byte d′ (place g d q i) ≡ byte d (place g d q i)
     byte-stays q i f n t b =
         let o = place-in g d q i (omega (arith, Change.filed-at g d c q f .fits)) in
-        s (place g d q i) (Change.filed-at g d c q f .off t _ o) (Change.foreign-granule g d d′ c p h q _ f n o) (Change.foreign-granule′ g d d′ c p h q _ f n o)
+        s (place g d q i) (Change.filed-at g d c q f .off t _ o) (Change.foreign-granule g d d′ c p h q _ f n o)
+        (Change.foreign-granule′ g d d′ c p h q _ f n o)
 
     bytes-stay : (q : ℕ) → IsFile g d q → q ≢ p → T (not (system g d q)) → fileAt g d′ q .bytes ≡ fileAt g d q .bytes
     unfolding fileAt place words
@@ -111,22 +113,31 @@ module _ (g : Geometry) (d d′ : List ℕ) (c : Sound g d) (p : ℕ) (h : Chang
     -- a system file's bytes apart
     pub hushed : (q : ℕ) → IsFile g d q → q ≢ p → hush (found (fileAt g d′ q)) ≡ hush (found (fileAt g d q))
     unfolding hush fileAt
-    hushed q f n = λ i. found (record { attributes = attributes-stay q f n i; granules = granules-stay q f n i; bytes = same (Members.decide (system g d q)) i })
+    hushed q f n = λ i. found (record {
+      attributes = attributes-stay q f n i;
+      granules = granules-stay q f n i;
+      bytes = same (Members.decide (system g d q)) i;
+    })
       where
-        same : Members.Test (system g d q) → cond (system g d′ q) (replicate (length (fileAt g d′ q .bytes)) 0) (fileAt g d′ q .bytes) ≡ cond (system g d q) (replicate (length (fileAt g d q .bytes)) 0) (fileAt g d q .bytes)
+        same : Members.Test (system g d q) → cond (system g d′ q) (replicate (length (fileAt g d′ q .bytes)) 0) (fileAt g d′ q .bytes) ≡ cond (system g d q)
+            (replicate (length (fileAt g d q .bytes)) 0) (fileAt g d q .bytes)
         same (Members.Test.holds t) = rw (Change.spared-first g d d′ c p h q f n 0 (omega arith), Members.T-true {b = system g d q} t)
             (ap (λ (m : ℕ). replicate {A = ℕ} m 0) (file-length g d′ q ∙ size-stays q f n ∙ sym (file-length g d q)))
-        same (Members.Test.fails t) = rw (Change.spared-first g d d′ c p h q f n 0 (omega arith), Members.no-false {b = system g d q} t) (bytes-stay q f n (not-T (system g d q) t))
+        same (Members.Test.fails t) = rw (Change.spared-first g d d′ c p h q f n 0 (omega arith), Members.no-false {b = system g d q} t)
+            (bytes-stay q f n (not-T (system g d q) t))
 
     -- its bytes beyond the directory, a system file's too
     beyond-bytes : (q : ℕ) → IsFile g d q → q ≢ p → beyondAt g d′ q .bytes ≡ beyondAt g d q .bytes
     unfolding beyondAt place words
     beyond-bytes q f n =
         rw (size-stays q f n, Change.owned-stays g d d′ c p h q f n, Frame.directory-eq g d d′ (h .above))
-        (Members.map-eq _ _ (count 0 (sizeOf g d q)) (λ j k. one j (omega (arith, Members.count-in j 0 (sizeOf g d q) k)) (Members.in? (place g d q j / granuleBytes g) (directoryGranules g d))))
+        (Members.map-eq _ _ (count 0 (sizeOf g d q)) (λ j k. one j (omega (arith, Members.count-in j 0 (sizeOf g d q) k))
+        (Members.in? (place g d q j / granuleBytes g) (directoryGranules g d))))
       where
-        one : (j : ℕ) → j < sizeOf g d q → In (place g d q j / granuleBytes g) (directoryGranules g d) ⊎ (In (place g d q j / granuleBytes g) (directoryGranules g d) → ⊥)
-            → cond (has (directoryGranules g d) (place g d q j / granuleBytes g)) 0 (byte d′ (place g d q j)) ≡ cond (has (directoryGranules g d) (place g d q j / granuleBytes g)) 0 (byte d (place g d q j))
+        one : (j : ℕ) → j < sizeOf g d q → In (place g d q j / granuleBytes g) (directoryGranules g d) ⊎
+            (In (place g d q j / granuleBytes g) (directoryGranules g d) → ⊥)
+            → cond (has (directoryGranules g d) (place g d q j / granuleBytes g)) 0 (byte d′ (place g d q j)) ≡ cond
+            (has (directoryGranules g d) (place g d q j / granuleBytes g)) 0 (byte d (place g d q j))
         one j b (inl t) = rw (Members.T-true {b = has (directoryGranules g d) (place g d q j / granuleBytes g)} (Members.in-has t))
         one j b (inr t) =
             let o = place-in g d q j (omega (arith, Change.filed-at g d c q f .fits)) in
@@ -162,19 +173,22 @@ module _ (g : Geometry) (d d′ : List ℕ) (c : Sound g d) (p : ℕ) (h : Chang
       other q k e (no m) = let v = Change.file-was g d d′ c p h q k m in m (c .names q p v f (sym (Change.name-stays g d d′ c p h q v m) ∙ e))
 
   -- in no run
-  unowned : (n : ℕ) → (In n (granulesOf g d p) → ⊥) → (In n (granulesOf g d′ p) → ⊥) → In n (each (owned g d′) (files g d′)) → In n (each (owned g d) (files g d))
+  unowned : (n : ℕ) → (In n (granulesOf g d p) → ⊥) → (In n (granulesOf g d′ p) → ⊥) → In n (each (owned g d′) (files g d′)) → In n
+      (each (owned g d) (files g d))
   unowned n a b i = let k = Members.each-in (owned g d′) n (files g d′) i in go (k .0) (Facts.files-in g d′ (k .0) (k .1)) (k .2) (ℕ-discrete (k .0) p)
     where
       go : (q : ℕ) → IsFile g d′ q → In n (owned g d′ q) → Dec (q ≡ p) → In n (each (owned g d) (files g d))
       go q f i (yes e) = absurd (b (rw (Change.granulesOf-is g d′ p (rw e at f)) (rw e at i)))
-      go q f i (no e) = let v = Change.file-was g d d′ c p h q f e in Members.in-each (owned g d) (Facts.in-files g d q v) (rw (Change.owned-stays g d d′ c p h q v e) at i)
+      go q f i (no e) = let v = Change.file-was g d d′ c p h q f e in
+          Members.in-each (owned g d) (Facts.in-files g d q v) (rw (Change.owned-stays g d d′ c p h q v e) at i)
 
   unowned′ : (n : ℕ) → (In n (granulesOf g d p) → ⊥) → In n (each (owned g d) (files g d)) → In n (each (owned g d′) (files g d′))
   unowned′ n a i = let k = Members.each-in (owned g d) n (files g d) i in go (k .0) (Facts.files-in g d (k .0) (k .1)) (k .2) (ℕ-discrete (k .0) p)
     where
       go : (q : ℕ) → IsFile g d q → In n (owned g d q) → Dec (q ≡ p) → In n (each (owned g d′) (files g d′))
       go q f i (yes e) = absurd (a (rw (Change.granulesOf-is g d p (rw e at f)) (rw e at i)))
-      go q f i (no e) = Members.in-each (owned g d′) (Facts.in-files g d′ q (Change.file-stays g d d′ c p h q f e)) (rw (Change.owned-stays g d d′ c p h q f e) i)
+      go q f i (no e) = Members.in-each (owned g d′) (Facts.in-files g d′ q (Change.file-stays g d d′ c p h q f e))
+          (rw (Change.owned-stays g d d′ c p h q f e) i)
 
   in-own : (n : ℕ) → In n (granulesOf g d p) → In n (each (owned g d) (files g d))
   in-own n i = let k = Change.granules-in g d p n i in Members.in-each (owned g d) (Facts.in-files g d p (k .0)) (k .1)
@@ -182,22 +196,26 @@ module _ (g : Geometry) (d d′ : List ℕ) (c : Sound g d) (p : ℕ) (h : Chang
   in-own′ : (n : ℕ) → In n (granulesOf g d′ p) → In n (each (owned g d′) (files g d′))
   in-own′ n i = let k = Change.granules-in g d′ p n i in Members.in-each (owned g d′) (Facts.in-files g d′ p (k .0)) (k .1)
 
-  reserved-one : (n : ℕ) → n < granules g → (taken g d′ n && not (has (each (owned g d′) (files g d′)) n)) ≡ (taken g d n && not (has (each (owned g d) (files g d)) n))
+  reserved-one : (n : ℕ) → n < granules g → (taken g d′ n && not (has (each (owned g d′) (files g d′)) n)) ≡
+      (taken g d n && not (has (each (owned g d) (files g d)) n))
   reserved-one n l = Members.both-T
-      (λ t. fore (Members.and-l (taken g d′ n) _ t) (λ i. T-not (has (each (owned g d′) (files g d′)) n) (Members.and-r (taken g d′ n) _ t) (Members.in-has i)))
+      (λ t. fore (Members.and-l (taken g d′ n) _ t)
+      (λ i. T-not (has (each (owned g d′) (files g d′)) n) (Members.and-r (taken g d′ n) _ t) (Members.in-has i)))
       (λ t. back (Members.and-l (taken g d n) _ t) (λ i. T-not (has (each (owned g d) (files g d)) n) (Members.and-r (taken g d n) _ t) (Members.in-has i)))
     where
       fore : T (taken g d′ n) → (In n (each (owned g d′) (files g d′)) → ⊥) → T (taken g d n && not (has (each (owned g d) (files g d)) n))
       fore t a =
           let b : In n (granulesOf g d′ p) → ⊥ = λ i. a (in-own′ n i) in
           let e : In n (granulesOf g d p) → ⊥ = λ i. h .freed n i b t in
-          Members.and-i (taken g d n) _ (rw (h .keeps n l e b) at t) (not-T (has (each (owned g d) (files g d)) n) (λ u. a (unowned′ n e (Members.has-in n _ u))))
+          Members.and-i (taken g d n) _ (rw (h .keeps n l e b) at t)
+          (not-T (has (each (owned g d) (files g d)) n) (λ u. a (unowned′ n e (Members.has-in n _ u))))
 
       back : T (taken g d n) → (In n (each (owned g d) (files g d)) → ⊥) → T (taken g d′ n && not (has (each (owned g d′) (files g d′)) n))
       back t a =
           let e : In n (granulesOf g d p) → ⊥ = λ i. a (in-own n i) in
           let b : In n (granulesOf g d′ p) → ⊥ = λ i. h .fresh n i e t in
-          Members.and-i (taken g d′ n) _ (rw (h .keeps n l e b) t) (not-T (has (each (owned g d′) (files g d′)) n) (λ u. a (unowned n e b (Members.has-in n _ u))))
+          Members.and-i (taken g d′ n) _ (rw (h .keeps n l e b) t)
+          (not-T (has (each (owned g d′) (files g d′)) n) (λ u. a (unowned n e b (Members.has-in n _ u))))
 
   pub reserved-stays : reserved g d′ ≡ reserved g d
   unfolding reserved

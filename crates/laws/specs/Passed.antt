@@ -49,7 +49,8 @@ unfolding check
 check-passed g d e = disk-passed g d [] e .0
 
 -- and the other way: on a consistent disk they come to nothing
-pub disk-passes : (g : Geometry) (d : List ℕ) (cs : List (ℕ × Bool)) → fitsGeometry g d ≡ true → consistent g d ≡ true → first (diskRefusals g d cs) ≡ first cs
+pub disk-passes : (g : Geometry) (d : List ℕ) (cs : List (ℕ × Bool)) → fitsGeometry g d ≡ true → consistent g d ≡ true → first (diskRefusals g d cs) ≡ first
+    cs
 unfolding first
 disk-passes g d cs f c = rw f (First.number-miss (fault g d .number) faultNumbers cs (λ i.
     let k = Members.count-in (fault g d .number) 21 10 i in omega (arith, k, Fault.no-number g d .1 c)))
@@ -106,11 +107,15 @@ holds g d h b most cs e =
     let p₄ = passed 7 _ _ (omega arith) (p₃ .1) in
     let p₅ = passed 6 _ _ (omega arith) (p₄ .1) in
     let live : T (fresh g d h) = yes-T (fresh g d h) (p₄ .0) in
-    let t : T (all (inUsePrimary g d (h .slot) ∷ same (nameOf g d (h .slot)) (h .name) ∷ [])) = Members.and-r (isSlot g d (h .slot)) (all (inUsePrimary g d (h .slot) ∷ same (nameOf g d (h .slot)) (h .name) ∷ [])) live in (
+    let t : T (all (inUsePrimary g d (h .slot) ∷ same (nameOf g d (h .slot)) (h .name) ∷ [])) = Members.and-r (isSlot g d (h .slot))
+    (all (inUsePrimary g d (h .slot) ∷ same (nameOf g d (h .slot)) (h .name) ∷ [])) live in (
       record {
         fits = Places.fits g d (p .0 .fits);
         sound = p .0 .sound;
-        file = record { slot = Members.and-l (isSlot g d (h .slot)) (all (inUsePrimary g d (h .slot) ∷ same (nameOf g d (h .slot)) (h .name) ∷ [])) live; primary′ = Members.and-l (inUsePrimary g d (h .slot)) (all (same (nameOf g d (h .slot)) (h .name) ∷ [])) t };
+        file = record {
+          slot = Members.and-l (isSlot g d (h .slot)) (all (inUsePrimary g d (h .slot) ∷ same (nameOf g d (h .slot)) (h .name) ∷ [])) live;
+          primary′ = Members.and-l (inUsePrimary g d (h .slot)) (all (same (nameOf g d (h .slot)) (h .name) ∷ [])) t;
+        };
         name′ = Members.same-eq _ _ (Members.all-second (inUsePrimary g d (h .slot)) (same (nameOf g d (h .slot)) (h .name)) t);
         user = not-T (system g d (h .slot)) (λ u. p₅ .0 (Members.any-r (ltb most (h .level)) (system g d (h .slot)) u));
       },

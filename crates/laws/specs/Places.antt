@@ -10,7 +10,8 @@ use lib.ListN.{length, set, length-set}
 use lib.Seq.{getD-set-same, getD-set-other, set-out, sets}
 use lib.Dec.{T, eqb, leb, ltb, eqb→eq, ltb→lt, leb→le}
 use Rattle.meaning.specs.Lists.{count, has, through}
-use Rattle.meaning.specs.Layout.{fitsGeometry, byte, isSlot, taken, gatAt, granules, directoryGranules, granuleBytes, granuleSectors, aboveTen, directorySectors, sectors, roundUp, mostBlocks, mostUnits}
+use Rattle.meaning.specs.Layout.{fitsGeometry, byte, isSlot, taken, gatAt, granules, directoryGranules, granuleBytes, granuleSectors, aboveTen}
+use Rattle.meaning.specs.Layout.{directorySectors, sectors, roundUp, mostBlocks, mostUnits}
 use Rattle.lists.specs.Sizes
 use Rattle.meaning.specs.Bits.{digit, putDigit}
 use Rattle.meaning.specs.Entries.{runs, runStart, runLength, runGranules, entryGranules}
@@ -93,7 +94,11 @@ pub record IsSlot (g : Geometry) (d : List ℕ) (s : ℕ) : Type 0 where
 
 pub slot : (g : Geometry) (d : List ℕ) (s : ℕ) → T (isSlot g d s) → IsSlot g d s
 unfolding words
-slot g d s t = record { low = ltb→lt _ _ (Members.and-l (ltb s 256) _ t); sector = ltb→lt _ _ (Members.all-second (ltb s 256) (ltb (s % 32 + 2) (directorySectors g d)) t) }
+slot g d s t = record {
+  low = ltb→lt _ _ (Members.and-l (ltb s 256) _ t);
+  sector = ltb→lt _ _
+      (Members.all-second (ltb s 256) (ltb (s % 32 + 2) (directorySectors g d)) t);
+}
 
 -- where an entry's runs lie on the disk, its granules do
 pub runs-granule-lt : (g : Geometry) (d : List ℕ) (s n : ℕ) → ((k : ℕ) → k < runs g d s → Entry.OnDisk g d s k) → In n (entryGranules g d s) → n < granules g
@@ -122,7 +127,9 @@ outside g d i e f n = go (decLt i (256 * g .start)) (decLt i (256 * (g .start + 
     go : Dec (i < 256 * g .start) → Dec (i < 256 * (g .start + directorySectors g d)) → (i < 256 * g .start) ⊎ (256 * (g .start + directorySectors g d) ≤ i)
     go (yes a) b = inl a
     go (no a) (no b) = inr (omega arith)
-    go (no a) (yes b) = absurd (n (Members.in-count (i / granuleBytes g) (g .start / granuleSectors g) (roundUp (directorySectors g d) (granuleSectors g)) (Sizes.touched-from g i (g .start) (omega arith)) (Sizes.touched-to g i (g .start) (directorySectors g d) e (omega arith))))
+    go (no a) (yes b) = absurd (n
+        (Members.in-count (i / granuleBytes g) (g .start / granuleSectors g) (roundUp (directorySectors g d) (granuleSectors g))
+        (Sizes.touched-from g i (g .start) (omega arith)) (Sizes.touched-to g i (g .start) (directorySectors g d) e (omega arith))))
 
 pub block-lt : (g : Geometry) (d : List ℕ) (n : ℕ) → Fits g d → n < granules g → n / g .units < g .blocks
 unfolding words
@@ -149,11 +156,13 @@ sets-outside vs d i j (inr h) = sets-after vs d i j h
 
 -- Folds of stores --------------------------------------------------------------------------------------------------------
 
-pub through-keeps : {B : Type 0} (R : List ℕ → B) (f : List ℕ → ℕ → List ℕ) (ns d : List ℕ) → ((e : List ℕ) (n : ℕ) → In n ns → R (f e n) ≡ R e) → R (through f d ns) ≡ R d
+pub through-keeps : {B : Type 0} (R : List ℕ → B) (f : List ℕ → ℕ → List ℕ) (ns d : List ℕ) → ((e : List ℕ) (n : ℕ) → In n ns → R (f e n) ≡ R e) → R
+    (through f d ns) ≡ R d
 through-keeps R f [] d h = refl
 through-keeps R f (n ∷ ns) d h = through-keeps R f ns (f d n) (λ e m i. h e m (Members.In.there i)) ∙ h d n Members.In.here
 
-pub through-stays : (R : List ℕ → Type 0) (f : List ℕ → ℕ → List ℕ) (ns d : List ℕ) → ((e : List ℕ) (n : ℕ) → In n ns → R e → R (f e n)) → R d → R (through f d ns)
+pub through-stays : (R : List ℕ → Type 0) (f : List ℕ → ℕ → List ℕ) (ns d : List ℕ) → ((e : List ℕ) (n : ℕ) → In n ns → R e → R (f e n)) → R d → R
+    (through f d ns)
 through-stays R f [] d h r = r
 through-stays R f (n ∷ ns) d h r = through-stays R f ns (f d n) (λ e m i. h e m (Members.In.there i)) (h d n Members.In.here r)
 
@@ -161,14 +170,17 @@ pub through-makes : (I R : List ℕ → Type 0) (f : List ℕ → ℕ → List �
     → ((e : List ℕ) (n : ℕ) → In n ns → I e → I (f e n)) → ((e : List ℕ) → I e → R (f e x))
     → ((e : List ℕ) (n : ℕ) → In n ns → I e → R e → R (f e n)) → I d → R (through f d ns)
 through-makes I R f {x} d (Members.In.here {xs = ns}) a b c i =
-    through-stays (λ l. I l × R l) f ns (f d x) (λ e m j r. (a e m (Members.In.there j) (r .0), c e m (Members.In.there j) (r .0) (r .1))) (a d x Members.In.here i, b d i) .1
-through-makes I R f d (Members.In.there {y = y} j) a b c i = through-makes I R f (f d y) j (λ e m k. a e m (Members.In.there k)) b (λ e m k. c e m (Members.In.there k)) (a d y Members.In.here i)
+    through-stays (λ l. I l × R l) f ns (f d x) (λ e m j r. (a e m (Members.In.there j) (r .0), c e m (Members.In.there j) (r .0) (r .1)))
+    (a d x Members.In.here i, b d i) .1
+through-makes I R f d (Members.In.there {y = y} j) a b c i = through-makes I R f (f d y) j (λ e m k. a e m (Members.In.there k)) b
+    (λ e m k. c e m (Members.In.there k)) (a d y Members.In.here i)
 
 -- One granule ------------------------------------------------------------------------------------------------------------
 
 -- two granules of one block have different units
 pub apart : (units m n : ℕ) → m ≢ n → m / units ≡ n / units → m % units ≢ n % units
-apart units m n k e f = k (sym (div-add-mod' m units) ∙ ap (λ (q : ℕ). q * units + m % units) e ∙ ap (λ (r : ℕ). n / units * units + r) f ∙ div-add-mod' n units)
+apart units m n k e f = k (sym (div-add-mod' m units) ∙ ap (λ (q : ℕ). q * units + m % units) e ∙ ap (λ (r : ℕ). n / units * units + r) f ∙ div-add-mod' n
+    units)
 
 -- granule n of the GAT put free (0) or taken (1)
 abbrev pub marked : Geometry → ℕ → List ℕ → ℕ → List ℕ
@@ -178,16 +190,19 @@ pub marked-same : (g : Geometry) (v : ℕ) → v < 2 → (d : List ℕ) (n : ℕ
 marked-same g v b d n h = rw (getD-set-same d (gatAt g n) (putDigit (byte d (gatAt g n)) (n % g .units) v) 0 h) (Bits.digit-same _ _ v b)
 
 -- another bit, of that byte or of another
-pub marked-digit : (g : Geometry) (v : ℕ) → v < 2 → (d : List ℕ) (n i u : ℕ) → (i ≡ gatAt g n → u ≢ n % g .units) → digit (byte (marked g v d n) i) u ≡ digit (byte d i) u
+pub marked-digit : (g : Geometry) (v : ℕ) → v < 2 → (d : List ℕ) (n i u : ℕ) → (i ≡ gatAt g n → u ≢ n % g .units) → digit (byte (marked g v d n) i) u ≡ digit
+    (byte d i) u
 marked-digit g v b d n i u k = go (ℕ-discrete i (gatAt g n)) (decLt (gatAt g n) (length d))
   where
     go : Dec (i ≡ gatAt g n) → Dec (gatAt g n < length d) → digit (byte (marked g v d n) i) u ≡ digit (byte d i) u
-    go (yes e) (yes l) = rw (e, getD-set-same d (gatAt g n) (putDigit (byte d (gatAt g n)) (n % g .units) v) 0 l) (Bits.digit-other (byte d (gatAt g n)) (n % g .units) u v b (k e))
+    go (yes e) (yes l) = rw (e, getD-set-same d (gatAt g n) (putDigit (byte d (gatAt g n)) (n % g .units) v) 0 l)
+        (Bits.digit-other (byte d (gatAt g n)) (n % g .units) u v b (k e))
     go (yes e) (no l) = rw (set-out d (gatAt g n) (putDigit (byte d (gatAt g n)) (n % g .units) v) (omega arith))
     go (no e) l = rw (getD-set-other d (gatAt g n) i (putDigit (byte d (gatAt g n)) (n % g .units) v) 0 e)
 
 -- the bit of another granule
-pub marked-apart : (g : Geometry) (v : ℕ) → v < 2 → (d : List ℕ) (n m : ℕ) → m ≢ n → digit (byte (marked g v d n) (gatAt g m)) (m % g .units) ≡ digit (byte d (gatAt g m)) (m % g .units)
+pub marked-apart : (g : Geometry) (v : ℕ) → v < 2 → (d : List ℕ) (n m : ℕ) → m ≢ n → digit (byte (marked g v d n) (gatAt g m)) (m % g .units) ≡ digit
+    (byte d (gatAt g m)) (m % g .units)
 marked-apart g v b d n m k = marked-digit g v b d n (gatAt g m) (m % g .units) (λ e. apart (g .units) m n k (omega arith))
 
 pub marked-other : (g : Geometry) (v : ℕ) → v < 2 → (d : List ℕ) (n m : ℕ) → m ≢ n → taken g (marked g v d n) m ≡ taken g d m

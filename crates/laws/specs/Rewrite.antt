@@ -71,14 +71,16 @@ module _ (g : Geometry) (d d′ : List ℕ) (c : Sound g d) (p : ℕ) (f : Facts
   flag x t = steady x t 0 (omega arith) (record { flags = omega arith; ends = omega arith; low = omega arith; high = omega arith })
 
   pub rw-chain : chain g d′ p ≡ chain g d p
-  rw-chain = Frame.chain-links g d d′ (h .above) p (λ x i. (tail-bytes x (slot-of x i) 0x1e (omega arith) (omega arith), tail-bytes x (slot-of x i) 0x1f (omega arith) (omega arith)))
+  rw-chain = Frame.chain-links g d d′ (h .above) p
+      (λ x i. (tail-bytes x (slot-of x i) 0x1e (omega arith) (omega arith), tail-bytes x (slot-of x i) 0x1f (omega arith) (omega arith)))
 
   kept-granules : (x : ℕ) → T (isSlot g d x) → entryGranules g d′ x ≡ entryGranules g d x
   kept-granules x t = Frame.granules-tail g d d′ x (tail-bytes x t)
 
   pub rw-owned : owned g d′ p ≡ owned g d p
   unfolding owned
-  rw-owned = ap (each (entryGranules g d′)) rw-chain ∙ Members.each-eq (entryGranules g d′) (entryGranules g d) (chain g d p) (λ x i. kept-granules x (slot-of x i))
+  rw-owned = ap (each (entryGranules g d′)) rw-chain ∙ Members.each-eq (entryGranules g d′) (entryGranules g d) (chain g d p)
+      (λ x i. kept-granules x (slot-of x i))
 
   pub rw-file : Facts.IsFile g d′ p
   rw-file = record { slot = rw (Frame.slot-eq g d d′ (h .above) p) (f .slot); primary′ = rw (flag p (f .slot)) (f .primary′) }
@@ -104,7 +106,8 @@ module _ (g : Geometry) (d d′ : List ℕ) (c : Sound g d) (p : ℕ) (f : Facts
       }
 
   pub rw-name : nameOf g d′ p ≡ nameOf g d p
-  rw-name = Frame.nameOf-bytes g d d′ p (λ k a b. h .fixed k (omega arith) (record { flags = omega arith; ends = omega arith; low = omega arith; high = omega arith }))
+  rw-name = Frame.nameOf-bytes g d d′ p (λ k a b. h .fixed k (omega arith)
+      (record { flags = omega arith; ends = omega arith; low = omega arith; high = omega arith }))
 
   filed′ : Entry.Filed g d′ p
   filed′ = record {

@@ -51,9 +51,11 @@ module _ (g : Geometry) (d d′ : List ℕ) (c : Sound g d) (p : ℕ) (f : Facts
     where
       one : (i : ℕ) → i < sizeOf g d p → byte d′ (place g d′ p i) ≡ byte d (place g d p i)
       one i b =
-          rw (shrunk-place i (omega (arith, h .room))) (h .same (place g d p i) (Change.filed-at g d c p f .off u _ (Others.place-in g d p i (omega (arith, Change.filed-at g d c p f .fits)))))
+          rw (shrunk-place i (omega (arith, h .room))) (h .same (place g d p i)
+          (Change.filed-at g d c p f .off u _ (Others.place-in g d p i (omega (arith, Change.filed-at g d c p f .fits)))))
 
-  pub shrunk-file : T (not (system g d p)) → fileAt g d p ≡ record { attributes = fileAt g d′ p .attributes; granules = suc (fileAt g d′ p .granules); bytes = fileAt g d′ p .bytes }
+  pub shrunk-file : T (not (system g d p)) → fileAt g d p ≡ record
+      { attributes = fileAt g d′ p .attributes; granules = suc (fileAt g d′ p .granules); bytes = fileAt g d′ p .bytes }
   unfolding fileAt
   shrunk-file u = λ i. record {
     attributes = sym (Members.map-eq (field g d′ p) (field g d p) (0 ∷ 1 ∷ 2 ∷ 4 ∷ count 0x10 4) (λ k j. h .low k (Others.attribute-low k j))) i;
@@ -64,6 +66,7 @@ module _ (g : Geometry) (d d′ : List ℕ) (c : Sound g d) (p : ℕ) (f : Facts
   -- one free granule more
   pub shrunk-free : length (freeGranules g d′) ≡ suc (length (freeGranules g d))
   unfolding freeGranules
-  shrunk-free = Counting.one-less (λ n. not (taken g d n)) (λ n. not (taken g d′ n)) (Members.in-count m 0 (granules g) (omega arith) (omega (arith, Change.owned-lt g d c p m f m-in))) (Members.count-distinct 0 (granules g))
+  shrunk-free = Counting.one-less (λ n. not (taken g d n)) (λ n. not (taken g d′ n))
+      (Members.in-count m 0 (granules g) (omega arith) (omega (arith, Change.owned-lt g d c p m f m-in))) (Members.count-distinct 0 (granules g))
       (ap not (Members.T-true {b = taken g d m} (Change.owned-taken g d c p m f m-in))) (ap not (Members.no-false {b = taken g d′ m} (h .freed)))
       (λ x i n. ap not (h .keeps x (omega (arith, Members.count-in x 0 (granules g) i)) n))

@@ -12,7 +12,8 @@ use Rattle.meaning.specs.Names.{hash}
 use Rattle.meaning.specs.Entries.{inUse, extension, inUsePrimary, system, marker, link, entryGranules, nameOf}
 use Rattle.meaning.specs.Chain.{chain, chainFrom, owned, files}
 use Rattle.meaning.specs.Consistent.{hitHolds, pairsHold, runsHold, gatHolds, entryHolds, nameHolds, sizeHolds, fileHolds}
-use Rattle.meaning.specs.Fault.{handsOn, ends, walkFrom, walk, metFrom, goodExtension, fileOf, chainWhole, hitFault, nameFault, duplicateFault, chainFault, runFault, gatFault, sharedFault, sizeFault, directoryFault}
+use Rattle.meaning.specs.Fault.{handsOn, ends, walkFrom, walk, metFrom, goodExtension, fileOf, chainWhole, hitFault, nameFault, duplicateFault, chainFault}
+use Rattle.meaning.specs.Fault.{runFault, gatFault, sharedFault, sizeFault, directoryFault}
 use Rattle.meaning.specs.declared.Geometry.{Geometry}
 use Rattle.lists.specs.Members
 use Rattle.lists.specs.Members.{In, Distinct}
@@ -87,7 +88,8 @@ module _ (g : Geometry) (d : List ℕ) (c : Sound g d) where
   unfolding walkFrom chainFrom
   walkFrom-is zero before s u e f = refl
   walkFrom-is (suc n) before s u (Members.Distinct.fresh h e) f =
-      rw (Members.no-false {b = has before s} (λ t. f s Members.In.here (Members.has-in s before t))) (go (Members.decide (eqb (marker g d s) 0xfe)) (walkFrom-is n (s ∷ before) (link g d s)))
+      rw (Members.no-false {b = has before s} (λ t. f s Members.In.here (Members.has-in s before t)))
+      (go (Members.decide (eqb (marker g d s) 0xfe)) (walkFrom-is n (s ∷ before) (link g d s)))
     where
       rest : List ℕ
       rest = chainFrom g d n (link g d s)
@@ -98,7 +100,11 @@ module _ (g : Geometry) (d : List ℕ) (c : Sound g d) where
       go : Members.Test (eqb (marker g d s) 0xfe) → (IsUsed g d (link g d s) → Distinct rest → ((x : ℕ) → In x rest → In x (s ∷ before) → ⊥) → way ≡ rest)
           → _≡_ {A = List ℕ} (s ∷ cond (handsOn g d s) way []) (s ∷ cond (eqb (marker g d s) 0xfe) rest [])
       go (Members.Test.fails m) ih =
-          rw (Members.no-false {b = eqb (marker g d s) 0xfe} m, Members.no-false {b = handsOn g d s} (λ t. m (Members.eq-T (Walk.hands-says g d s t .marked))))
+          rw (
+            Members.no-false {b = eqb (marker g d s) 0xfe} m,
+            Members.no-false {b = handsOn g d s}
+                (λ t. m (Members.eq-T (Walk.hands-says g d s t .marked))),
+          )
       go (Members.Test.holds m) ih =
           let o = hands s u (linked s u (eqb→eq _ _ m)) in
           let r : cond (eqb (marker g d s) 0xfe) rest [] ≡ rest = rw (Members.T-true {b = eqb (marker g d s) 0xfe} m) in
@@ -129,7 +135,8 @@ module _ (g : Geometry) (d : List ℕ) (c : Sound g d) where
   good : (x : ℕ) → IsUsed g d x → T (extension g d x) → T (goodExtension g d x)
   good x u t =
       let w = c .covered x (u .slot) (u .used) in
-      Kinds.says-good g d x (Kinds.alone (field g d x 1) (metFrom g d x) (Kinds.met-distinct g d x) (before (w .0) (w .1) (w .2) (Entry.chain-pred g d (w .0) x (w .2)) .1)
+      Kinds.says-good g d x (Kinds.alone (field g d x 1) (metFrom g d x) (Kinds.met-distinct g d x)
+      (before (w .0) (w .1) (w .2) (Entry.chain-pred g d (w .0) x (w .2)) .1)
       (λ b i. sym (follow b x i .before))) (λ b i. follow b x i)
     where
       before : (p : ℕ) → IsFile g d p → In x (chain g d p) → Entry.Pred g d p x (chain g d p) → (b : ℕ) × In b (metFrom g d x)
@@ -213,7 +220,8 @@ module _ (g : Geometry) (d : List ℕ) (c : Sound g d) where
   apart s t n u v i j =
       let a = c .covered s (u .slot) (u .used) in
       let b = c .covered t (v .slot) (v .used) in
-      let e : b .0 ≡ a .0 = c .granules (b .0) (a .0) n (b .1) (a .1) (Members.in-each (entryGranules g d) (b .2) j) (Members.in-each (entryGranules g d) (a .2) i) in
+      let e : b .0 ≡ a .0 = c .granules (b .0) (a .0) n (b .1) (a .1) (Members.in-each (entryGranules g d) (b .2) j)
+      (Members.in-each (entryGranules g d) (a .2) i) in
       Members.each-apart (entryGranules g d) (c .single (a .0) (a .1)) (a .2) (subst (λ (p : ℕ). In t (chain g d p)) e (b .2)) i j
 
   no-shared : (s : ℕ) → T (isSlot g d s) → T (sharedFault g d s) → ⊥
@@ -233,7 +241,8 @@ module _ (g : Geometry) (d : List ℕ) (c : Sound g d) where
           let w = Kinds.some-in both (slots g d) n in
           let k = Kinds.all-says (ltb (w .0) s) (inUse g d (w .0)) (some (has (entryGranules g d (w .0))) (entryGranules g d s)) (w .2) in
           let m = Kinds.some-in (has (entryGranules g d (w .0))) (entryGranules g d s) (k .2) in
-          let e = apart s (w .0) (m .0) u (record { slot = Facts.slots-in g d (w .0) (w .1); used = k .1 }) (m .1) (Members.has-in (m .0) (entryGranules g d (w .0)) (m .2)) in
+          let e = apart s (w .0) (m .0) u (record { slot = Facts.slots-in g d (w .0) (w .1); used = k .1 }) (m .1)
+          (Members.has-in (m .0) (entryGranules g d (w .0)) (m .2)) in
           omega (arith, ltb→lt (w .0) s (k .0), e)
 
   no-size : (s : ℕ) → T (isSlot g d s) → T (sizeFault g d s) → ⊥
@@ -248,7 +257,8 @@ module _ (g : Geometry) (d : List ℕ) (c : Sound g d) where
       let k = Kinds.all-says (inUse g d s) (not (system g d (fileOf g d s))) (some (has (directoryGranules g d)) (entryGranules g d s)) v in
       let o = of s (record { slot = t; used = k .0 }) in
       let m = Kinds.some-in (has (directoryGranules g d)) (entryGranules g d s) (k .2) in
-      Change.filed-at g d c (fileOf g d s) (o .file) .off (k .1) (m .0) (Members.in-each (entryGranules g d) (o .member) (m .1)) (Members.has-in (m .0) (directoryGranules g d) (m .2))
+      Change.filed-at g d c (fileOf g d s) (o .file) .off (k .1) (m .0) (Members.in-each (entryGranules g d) (o .member) (m .1))
+      (Members.has-in (m .0) (directoryGranules g d) (m .2))
 
   pub sound-faultless : Faultless g d
   sound-faultless = record {

@@ -190,7 +190,8 @@ place-well n e = by (eqb (length n) 11) refl (letter (getD n 0 0)) refl (ltb (go
 -- the place of a name that is not well formed is one of its eleven
 pub place-inside : (n : List ℕ) → wellFormed n ≡ false → badPlace n < noPlace
 unfolding badPlace
-place-inside n e = by (eqb (length n) 11) refl (letter (getD n 0 0)) (ltb (good (take 8 n)) 8) refl (λ z. Members.false-no e (Members.true-T (place-well n z)))
+place-inside n e = by (eqb (length n) 11) refl (letter (getD n 0 0)) (ltb (good (take 8 n)) 8) refl
+    (λ z. Members.false-no e (Members.true-T (place-well n z)))
   where
     by : (a : Bool) → eqb (length n) 11 ≡ a → (b c : Bool) → ltb (good (take 8 n)) 8 ≡ c
         → (cond (a && b) (cond c (good (take 8 n)) (8 + good (drop 8 n))) 0 ≢ 11)

@@ -38,10 +38,12 @@ store-at F [] d i k a b inj l = absurd (omega arith)
 store-at F (x ∷ bs) d i k a b inj l = go (ℕ-discrete k i) (λ q. store-at F bs (set d (F i) x) (i + 1) k q (omega arith)
     (λ u v s t y z. inj u v (omega arith) (omega arith) (omega arith) (omega arith)) (λ u s t. rw length-set (l u (omega arith) (omega arith))))
   where
-    go : Dec (k ≡ i) → (i + 1 ≤ k → byte (store F (set d (F i) x) (i + 1) bs) (F k) ≡ getD bs (k - (i + 1)) 0) → byte (store F (set d (F i) x) (i + 1) bs) (F k) ≡ getD (x ∷ bs) (k - i) 0
+    go : Dec (k ≡ i) → (i + 1 ≤ k → byte (store F (set d (F i) x) (i + 1) bs) (F k) ≡ getD bs (k - (i + 1)) 0) → byte (store F (set d (F i) x) (i + 1) bs)
+        (F k) ≡ getD (x ∷ bs) (k - i) 0
     go (yes q) ih =
         let z : k - i ≡ 0 = omega arith in
-        rw z (rw q (store-other F bs (set d (F i) x) (i + 1) (F i) (λ j s t w. away j s t (inj i j (omega arith) (omega arith) (omega arith) (omega arith) w)) ∙ getD-set-same d (F i) x 0 (l i (omega arith) (omega arith))))
+        rw z (rw q (store-other F bs (set d (F i) x) (i + 1) (F i) (λ j s t w. away j s t (inj i j (omega arith) (omega arith) (omega arith) (omega arith) w))
+        ∙ getD-set-same d (F i) x 0 (l i (omega arith) (omega arith))))
       where
         away : (j : ℕ) → i + 1 ≤ j → j < i + 1 + length bs → i ≡ j → ⊥
         away j s t w = omega arith

@@ -49,7 +49,8 @@ module _ (g : Geometry) (d : List ℕ) where
       rest : List ℕ
       rest = count (i + 1) n
 
-      go : (t : Bool) → taken g d i ≡ t → (stretch g d rest ≤ n) × Free (i + 1) (stretch g d rest) → (stretch g d (i ∷ rest) ≤ suc n) × Free i (stretch g d (i ∷ rest))
+      go : (t : Bool) → taken g d i ≡ t → (stretch g d rest ≤ n) × Free (i + 1) (stretch g d rest) → (stretch g d (i ∷ rest) ≤ suc n) × Free i
+          (stretch g d (i ∷ rest))
       go true e h = (omega (arith, stretch-taken i rest e), λ k a b. absurd (omega (arith, stretch-taken i rest e)))
       go false e h = (omega (arith, stretch-free i rest e, h .0), λ k a b. one k a b (ℕ-discrete k i))
         where
@@ -62,7 +63,12 @@ module _ (g : Geometry) (d : List ℕ) where
   stretch-all n i zero h f = omega arith
   stretch-all zero i (suc k) h f = absurd (let z : ⊥ = omega arith in z)
   stretch-all (suc n) i (suc k) h f =
-      omega (arith, stretch-free i (count (i + 1) n) (f i (omega arith) (omega arith)), stretch-all n (i + 1) k (omega arith) (λ j a b. f j (omega arith) (omega arith)))
+      omega (
+        arith,
+        stretch-free i (count (i + 1) n) (f i (omega arith) (omega arith)),
+        stretch-all n (i + 1) k (omega arith)
+            (λ j a b. f j (omega arith) (omega arith)),
+      )
 
   -- the longest is a stretch that there is
   pub longest-there : (n i : ℕ) → (a : ℕ) × (a + longestIn g d (count i n) ≤ i + n) × Free a (longestIn g d (count i n))

@@ -61,7 +61,8 @@ module _ (g : Geometry) (d d′ : List ℕ) (c : Sound g d) (p : ℕ) (f : Facts
   })
     where
       taken′ : (n : ℕ) → In n (entryGranules g d (tail g p d)) ⊎ (n ≡ m) → T (taken g d′ n)
-      taken′ n (inl j) = let o = Change.granule-owned g d c p (tail g p d) n (Change.tail-in g d c p f) j in rw (old-same n o) (Change.owned-taken g d c p n f o)
+      taken′ n (inl j) = let o = Change.granule-owned g d c p (tail g p d) n (Change.tail-in g d c p f) j in
+          rw (old-same n o) (Change.owned-taken g d c p n f o)
       taken′ n (inr q) = rw q (h .set′)
 
       outside : T (not (system g d p)) → (n : ℕ) → In n (directoryGranules g d) → In n (owned g d p) ⊎ (n ≡ m) → ⊥
@@ -73,4 +74,12 @@ module _ (g : Geometry) (d d′ : List ℕ) (c : Sound g d) (p : ℕ) (f : Facts
       new n (inr q) a = rw q (h .free)
 
   pub grows-longer : Longer.Longer g d d′ p m
-  grows-longer = record { more = grows-owned; low = AtTail.low g d d′ c p f (h .at); inside = h .inside; free = h .free; set′ = h .set′; keeps = h .keeps; same = h .same }
+  grows-longer = record {
+    more = grows-owned;
+    low = AtTail.low g d d′ c p f (h .at);
+    inside = h .inside;
+    free = h .free;
+    set′ = h .set′;
+    keeps = h .keeps;
+    same = h .same;
+  }

@@ -11,7 +11,8 @@ use lib.ListN.{length, length-set}
 use lib.Seq.{getD-set-same, getD-set-other}
 use lib.Dec.{T, leb, ltb, T-not, ltb→lt, leb→le}
 use Rattle.meaning.specs.Lists.{count, each}
-use Rattle.meaning.specs.Layout.{byte, isSlot, taken, takeGranule, field, setField, gatAt, hitAt, entryAt, granules, hit, directoryGranules, directorySectors, granuleBytes, aboveTen, mostBlocks}
+use Rattle.meaning.specs.Layout.{byte, isSlot, taken, takeGranule, field, setField, gatAt, hitAt, entryAt, granules, hit, directoryGranules, directorySectors}
+use Rattle.meaning.specs.Layout.{granuleBytes, aboveTen, mostBlocks}
 use Rattle.meaning.specs.Bits.{bit, digit}
 use Rattle.meaning.specs.Entries.{block, runStart, runLength, runGranules, runs, entryGranules}
 use Rattle.meaning.specs.Growth.{tail, after, lengthens, lengthened, withPair}
@@ -82,7 +83,8 @@ module _ (v : ℕ) (bv : v < 2) (g : Geometry) (d : List ℕ) (c : Sound g d) (k
       go (inr h) = let b = s .sector in let q = s .low in let w = block-m in put-byte i (omega arith) (omega arith) (omega arith)
 
 -- the runs of an entry, the last one apart
-pub granules-snoc : (g : Geometry) (d : List ℕ) (s r : ℕ) → runs g d s ≡ suc r → entryGranules g d s ≡ each (runGranules g d s) (count 0 r) ++ runGranules g d s r
+pub granules-snoc : (g : Geometry) (d : List ℕ) (s r : ℕ) → runs g d s ≡ suc r → entryGranules g d s ≡ each (runGranules g d s) (count 0 r) ++ runGranules g d
+    s r
 unfolding entryGranules
 granules-snoc g d s r e =
     rw e (ap (each (runGranules g d s)) (Members.count-snoc 0 r) ∙ Members.each-append (runGranules g d s) (count 0 r) ((0 + r) ∷ [])
@@ -172,7 +174,8 @@ module _ (g : Geometry) (d : List ℕ) (c : Sound g d) (k : Places.Fits g d) (p 
   more : entryGranules g d₂ e ≡ entryGranules g d e ++ (after g p d ∷ [])
   more =
       granules-snoc g d₂ e r runs′
-      ∙ ap₂ (λ (a b : List ℕ). a ++ b) (Members.each-eq (runGranules g d₂ e) (runGranules g d e) (count 0 r) (λ x i. rg-early x (omega (arith, Members.count-in x 0 r i)))) rg-last
+      ∙ ap₂ (λ (a b : List ℕ). a ++ b)
+      (Members.each-eq (runGranules g d₂ e) (runGranules g d e) (count 0 r) (λ x i. rg-early x (omega (arith, Members.count-in x 0 r i)))) rg-last
       ∙ sym (append-assoc (each (runGranules g d e) (count 0 r)) (runGranules g d e r) (after g p d ∷ []))
       ∙ ap (λ (l : List ℕ). l ++ (after g p d ∷ [])) (sym (granules-snoc g d e r runs-r))
 
@@ -279,14 +282,17 @@ module _ (g : Geometry) (d : List ℕ) (c : Sound g d) (k : Places.Fits g d) (p 
 
   block₂ : field g d₃ e₂ (0x16 + 2 * r₂) ≡ n / g .units
   unfolding words
-  block₂ = put-field 1 (omega arith) g d c k e₂ (member₂ .slot) r₂ few pair₂ len₂ out₂ n inn e₂ (0x16 + 2 * r₂) ∙ paired-first g d e₂ r₂ (n / g .units) (n % g .units * 32) (omega (arith, room₂))
+  block₂ = put-field 1 (omega arith) g d c k e₂ (member₂ .slot) r₂ few pair₂ len₂ out₂ n inn e₂ (0x16 + 2 * r₂) ∙ paired-first g d e₂ r₂ (n / g .units)
+      (n % g .units * 32) (omega (arith, room₂))
 
   second₂ : field g d₃ e₂ (0x17 + 2 * r₂) ≡ n % g .units * 32
   unfolding words
-  second₂ = put-field 1 (omega arith) g d c k e₂ (member₂ .slot) r₂ few pair₂ len₂ out₂ n inn e₂ (0x17 + 2 * r₂) ∙ paired-second g d e₂ r₂ (n / g .units) (n % g .units * 32) (omega (arith, room₂))
+  second₂ = put-field 1 (omega arith) g d c k e₂ (member₂ .slot) r₂ few pair₂ len₂ out₂ n inn e₂ (0x17 + 2 * r₂) ∙ paired-second g d e₂ r₂ (n / g .units)
+      (n % g .units * 32) (omega (arith, room₂))
 
   pub runs₂ : runs g d₃ e₂ ≡ suc r₂
-  runs₂ = Entry.runs-is g d₃ e₂ (suc r₂) (omega arith) (λ x h. go x h (ℕ-discrete x r₂)) (λ h. fixed₂ (0x16 + 2 * suc r₂) (omega arith) (omega arith) ∙ entry₂ .pairs (suc r₂) h (omega arith))
+  runs₂ = Entry.runs-is g d₃ e₂ (suc r₂) (omega arith) (λ x h. go x h (ℕ-discrete x r₂))
+      (λ h. fixed₂ (0x16 + 2 * suc r₂) (omega arith) (omega arith) ∙ entry₂ .pairs (suc r₂) h (omega arith))
     where
       go : (x : ℕ) → x < suc r₂ → Dec (x ≡ r₂) → block g d₃ e₂ x ≢ 0xff
       go x h (yes q) = rw (q, block₂) (omega (arith, Places.block-lt g d n k inn, k .blocks-hi))
@@ -308,7 +314,8 @@ module _ (g : Geometry) (d : List ℕ) (c : Sound g d) (k : Places.Fits g d) (p 
   unfolding entryGranules
   more₂ =
       granules-snoc g d₃ e₂ r₂ runs₂
-      ∙ ap₂ (λ (a b : List ℕ). a ++ b) (Members.each-eq (runGranules g d₃ e₂) (runGranules g d e₂) (count 0 r₂) (λ x i. rg-early₂ x (omega (arith, Members.count-in x 0 r₂ i)))) rg-last₂
+      ∙ ap₂ (λ (a b : List ℕ). a ++ b)
+      (Members.each-eq (runGranules g d₃ e₂) (runGranules g d e₂) (count 0 r₂) (λ x i. rg-early₂ x (omega (arith, Members.count-in x 0 r₂ i)))) rg-last₂
 
   run₂ : (x : ℕ) → x < runs g d₃ e₂ → Entry.OnDisk g d₃ e₂ x
   run₂ x h = go (ℕ-discrete x r₂)

@@ -9,7 +9,8 @@ use lib.ListN.{length, getD, length-set}
 use lib.Seq.{getD-set-same, getD-set-other, length-sets}
 use lib.Dec.{T, eqb, eqb→eq}
 use Rattle.meaning.specs.Lists.{count}
-use Rattle.meaning.specs.Layout.{byte, isSlot, taken, field, setField, gatAt, hitAt, entryAt, granules, hit, directoryGranules, directorySectors, granuleBytes, aboveTen, mostBlocks}
+use Rattle.meaning.specs.Layout.{byte, isSlot, taken, field, setField, gatAt, hitAt, entryAt, granules, hit, directoryGranules, directorySectors}
+use Rattle.meaning.specs.Layout.{granuleBytes, aboveTen, mostBlocks}
 use Rattle.meaning.specs.Bits.{bit}
 use Rattle.meaning.specs.Entries.{marker, link, runs}
 use Rattle.meaning.specs.Growth.{tail, withPair, withExtension, newExtension}
@@ -25,7 +26,8 @@ use Rattle.laws.specs.Extend
 use Rattle.laws.specs.Words.{words}
 
 new-ffs : (g : Geometry) (p e k : ℕ) → 0x16 ≤ k → k < 32 → getD (newExtension e) k 0 ≡ 0xff
-new-ffs g p e k a b = eqb→eq _ _ (Members.every-all (λ k. eqb (getD (newExtension e) k 0) 0xff) {xs = count 0x16 10} tt (Members.in-count k 0x16 10 a (omega arith)))
+new-ffs g p e k a b = eqb→eq _ _
+    (Members.every-all (λ k. eqb (getD (newExtension e) k 0) 0xff) {xs = count 0x16 10} tt (Members.in-count k 0x16 10 a (omega arith)))
 
 module _ (g : Geometry) (d : List ℕ) (c : Sound g d) (k : Places.Fits g d) (p : ℕ) (f : IsFile g d p) (x : ℕ) (t : T (isSlot g d x)) (z : hit g d x ≡ 0)
     (n : ℕ) (full : runs g d (tail g p d) ≡ 4) (inn : n < granules g) (untaken : T (taken g d n) → ⊥) where
@@ -90,13 +92,15 @@ module _ (g : Geometry) (d : List ℕ) (c : Sound g d) (k : Places.Fits g d) (p 
 
   new-byte : (i : ℕ) → i ≢ gatAt g n → (i < entryAt g x) ⊎ (entryAt g x + 32 ≤ i) → byte d′ i ≡ byte H i
   unfolding words
-  new-byte i q o = getD-set-other Q (gatAt g n) i _ 0 q ∙ Take.paired-out g H x 0 (n / g .units) (n % g .units * 32) i (out o 0x16 (omega arith)) (out o 0x17 (omega arith))
+  new-byte i q o = getD-set-other Q (gatAt g n) i _ 0 q ∙ Take.paired-out g H x 0 (n / g .units) (n % g .units * 32) i (out o 0x16 (omega arith))
+      (out o 0x17 (omega arith))
     where
       out : (i < entryAt g x) ⊎ (entryAt g x + 32 ≤ i) → (j : ℕ) → j < 32 → i ≢ entryAt g x + j
       out (inl h) j b = omega arith
       out (inr h) j b = omega arith
 
-  ext-byte : (i : ℕ) → i ≢ gatAt g n → (i < entryAt g x) ⊎ (entryAt g x + 32 ≤ i) → i ≢ hitAt g x → i ≢ entryAt g e + 0x1e → i ≢ entryAt g e + 0x1f → byte d′ i ≡ byte d i
+  ext-byte : (i : ℕ) → i ≢ gatAt g n → (i < entryAt g x) ⊎ (entryAt g x + 32 ≤ i) → i ≢ hitAt g x → i ≢ entryAt g e + 0x1e → i ≢ entryAt g e + 0x1f → byte d′
+      i ≡ byte d i
   ext-byte i q o a b w = new-byte i q o ∙ H-byte i o a b w
 
   room : entryAt g x + 32 ≤ length d
@@ -113,7 +117,8 @@ module _ (g : Geometry) (d : List ℕ) (c : Sound g d) (k : Places.Fits g d) (p 
       go (yes a) = inl a
       go (no a) = let w = sx .low in inr (omega arith)
 
-  other-field : (y j : ℕ) → y < 256 → y ≢ x → j < 32 → entryAt g y + j ≢ entryAt g e + 0x1e → entryAt g y + j ≢ entryAt g e + 0x1f → field g d′ y j ≡ field g d y j
+  other-field : (y j : ℕ) → y < 256 → y ≢ x → j < 32 → entryAt g y + j ≢ entryAt g e + 0x1e → entryAt g y + j ≢ entryAt g e + 0x1f → field g d′ y j ≡ field g
+      d y j
   unfolding words
   other-field y j h q b u v = let w = block-n in let s = sx .low in ext-byte (entryAt g y + j) (omega arith) (apart y j h q b) (omega arith) u v
 
@@ -131,11 +136,13 @@ module _ (g : Geometry) (d : List ℕ) (c : Sound g d) (k : Places.Fits g d) (p 
 
   new-first : field g d′ x 0x16 ≡ n / g .units
   unfolding words
-  new-first = let w = block-n in getD-set-other Q (gatAt g n) (entryAt g x + 0x16) _ 0 (omega arith) ∙ Take.paired-first g H x 0 (n / g .units) (n % g .units * 32) inside-pair
+  new-first = let w = block-n in
+      getD-set-other Q (gatAt g n) (entryAt g x + 0x16) _ 0 (omega arith) ∙ Take.paired-first g H x 0 (n / g .units) (n % g .units * 32) inside-pair
 
   new-second : field g d′ x 0x17 ≡ n % g .units * 32
   unfolding words
-  new-second = let w = block-n in getD-set-other Q (gatAt g n) (entryAt g x + 0x17) _ 0 (omega arith) ∙ Take.paired-second g H x 0 (n / g .units) (n % g .units * 32) inside-pair
+  new-second = let w = block-n in
+      getD-set-other Q (gatAt g n) (entryAt g x + 0x17) _ 0 (omega arith) ∙ Take.paired-second g H x 0 (n / g .units) (n % g .units * 32) inside-pair
 
   new-hit : hit g d′ x ≡ hit g d p
   unfolding words
@@ -145,7 +152,8 @@ module _ (g : Geometry) (d : List ℕ) (c : Sound g d) (k : Places.Fits g d) (p 
 
   other-hit : (y : ℕ) → T (isSlot g d y) → y ≢ x → hit g d′ y ≡ hit g d y
   unfolding words
-  other-hit y u q = let w = block-n in let s = Places.slot g d y u .low in ext-byte (hitAt g y) (omega arith) (inl (omega arith)) (omega arith) (omega arith) (omega arith)
+  other-hit y u q = let w = block-n in let s = Places.slot g d y u .low in
+      ext-byte (hitAt g y) (omega arith) (inl (omega arith)) (omega arith) (omega arith) (omega arith)
 
   link-byte : (j : ℕ) → j < 32 → byte d′ (entryAt g e + j) ≡ byte L (entryAt g e + j)
   link-byte j b =
@@ -156,7 +164,8 @@ module _ (g : Geometry) (d : List ℕ) (c : Sound g d) (k : Places.Fits g d) (p 
   new-marker : marker g d′ e ≡ 0xfe
   unfolding words
   new-marker = link-byte 0x1e (omega arith)
-      ∙ getD-set-other (setField g d e 0x1e 0xfe) (entryAt g e + 0x1f) (entryAt g e + 0x1e) x 0 (omega arith) ∙ getD-set-same d (entryAt g e + 0x1e) 0xfe 0 (omega (arith, room-e))
+      ∙ getD-set-other (setField g d e 0x1e 0xfe) (entryAt g e + 0x1f) (entryAt g e + 0x1e) x 0 (omega arith) ∙ getD-set-same d (entryAt g e + 0x1e) 0xfe 0
+      (omega (arith, room-e))
 
   new-link : link g d′ e ≡ x
   unfolding words
@@ -165,7 +174,8 @@ module _ (g : Geometry) (d : List ℕ) (c : Sound g d) (k : Places.Fits g d) (p 
   gat-byte : (m : ℕ) → m < granules g → byte Q (gatAt g m) ≡ byte d (gatAt g m)
   gat-byte m h =
       let b = Places.block-lt g d m k h in let w = k .blocks-hi in let s = sx .low in
-      Take.paired-out g H x 0 (n / g .units) (n % g .units * 32) (gatAt g m) (omega arith) (omega arith) ∙ H-byte (gatAt g m) (inl (omega arith)) (omega arith) (omega arith) (omega arith)
+      Take.paired-out g H x 0 (n / g .units) (n % g .units * 32) (gatAt g m) (omega arith) (omega arith) ∙ H-byte (gatAt g m) (inl (omega arith))
+      (omega arith) (omega arith) (omega arith)
 
   Q-length : length Q ≡ length d
   Q-length = Take.paired-length g H x 0 (n / g .units) (n % g .units * 32) ∙ H-length

@@ -71,7 +71,8 @@ module _ (g : Geometry) (d : List ℕ) (c : Sound g d) (k : Places.Fits g d) (p 
     file = AtTail.file-stays g d d′ c p f (w .at);
     touch = subst (λ (xs : List ℕ). Touch.Touch g xs [] d d′) (sym (AtTail.chain-stays g d d′ c p f (w .at))) t;
     entries = λ x i. subst (In x) (sym (AtTail.chain-stays g d d′ c p f (w .at))) i;
-    slots = ap₂ (λ (a b : List ℕ). length a + length b) (sym (FreeSlots.slots-same g d d′ (w .at .above) (w .at .hits))) (sym (AtTail.chain-stays g d d′ c p f (w .at)));
+    slots = ap₂ (λ (a b : List ℕ). length a + length b) (sym (FreeSlots.slots-same g d d′ (w .at .above) (w .at .hits)))
+        (sym (AtTail.chain-stays g d d′ c p f (w .at)));
   }
 
   tail-here : In e (chain g d p)
@@ -93,7 +94,8 @@ module _ (g : Geometry) (d : List ℕ) (c : Sound g d) (k : Places.Fits g d) (p 
       Touch.touch-pair g (chain g d p ++ (x ∷ [])) [] d p x 0 n i (omega arith) (is-free .0)
       (Touch.touch-hook g (chain g d p ++ (x ∷ [])) [] d p e x (Members.in-append-l (x ∷ []) tail-here) i Touch.Touch.none)
 
-  one-slot : (d′ : List ℕ) (x : ℕ) → In x (freeSlots g d) → Extend.Extends g d d′ p x n → length (freeSlots g d) + length (chain g d p) ≡ length (freeSlots g d′) + length (chain g d′ p)
+  one-slot : (d′ : List ℕ) (x : ℕ) → In x (freeSlots g d) → Extend.Extends g d d′ p x n → length (freeSlots g d) + length (chain g d p) ≡ length
+      (freeSlots g d′) + length (chain g d′ p)
   one-slot d′ x i w = omega (
     arith,
     FreeSlots.slots-less g d d′ (w .above) x i (λ q. Change.used-hit g d c p (f .slot) (Facts.file-in-use g d p f) (sym (w .hit-new) ∙ q)) (w .hits),
@@ -132,16 +134,22 @@ module _ (g : Geometry) (d : List ℕ) (c : Sound g d) (k : Places.Fits g d) (p 
       go (Members.Test.holds t) b =
           let r : grown (lengthened g p d) ≡ grown d′ = rw (Members.T-true {b = lengthens g p d} t) at q in
           let s : lengthened g p d ≡ d′ = cc in
-          subst (λ (l : List ℕ). Took g d l p) s (by-tail (lengthened g p d) (after g p d) (Take.lengthened-grows g d c k p f t) (simp length-set) (longer-touch t))
+          subst (λ (l : List ℕ). Took g d l p) s
+          (by-tail (lengthened g p d) (after g p d) (Take.lengthened-grows g d c k p f t) (simp length-set) (longer-touch t))
       go (Members.Test.fails a) (Members.Test.holds t) =
-          let r : grown (withPair g d e (runs g d e) n) ≡ grown d′ = rw (Members.no-false {b = lengthens g p d} a, Members.T-true {b = ltb (runs g d e) 4} t) at q in
+          let r : grown (withPair g d e (runs g d e) n) ≡ grown d′ = rw (Members.no-false {b = lengthens g p d} a, Members.T-true {b = ltb (runs g d e) 4} t)
+          at q in
           let s : withPair g d e (runs g d e) n ≡ d′ = cc in
-          subst (λ (l : List ℕ). Took g d l p) s (by-tail (withPair g d e (runs g d e) n) n (Take.paired-grows g d c k p f n (ltb→lt (runs g d e) 4 t) (is-free .0) (is-free .1)) (simp length-set) (pair-touch (ltb→lt (runs g d e) 4 t)))
+          subst (λ (l : List ℕ). Took g d l p) s
+          (by-tail (withPair g d e (runs g d e) n) n (Take.paired-grows g d c k p f n (ltb→lt (runs g d e) 4 t) (is-free .0) (is-free .1))
+          (simp length-set) (pair-touch (ltb→lt (runs g d e) 4 t)))
       go (Members.Test.fails a) (Members.Test.fails b) =
-          let r : extended g p (freeSlots g d) d e n ≡ grown d′ = rw (Members.no-false {b = lengthens g p d} a, Members.no-false {b = ltb (runs g d e) 4} b) at q in
+          let r : extended g p (freeSlots g d) d e n ≡ grown d′ = rw (Members.no-false {b = lengthens g p d} a, Members.no-false {b = ltb (runs g d e) 4} b)
+          at q in
           extended-took d′ (freeSlots g d) (λ x i. i) (omega (arith, nltb→le (runs g d e) 4 (not-T (ltb (runs g d e) 4) b), Entry.runs-le g d e)) r
 
-pub take-one : (g : Geometry) (d : List ℕ) (c : Sound g d) (k : Places.Fits g d) (p : ℕ) (f : IsFile g d p) (u : T (not (system g d p))) (room : 1 ≤ length (freeGranules g d))
+pub take-one : (g : Geometry) (d : List ℕ) (c : Sound g d) (k : Places.Fits g d) (p : ℕ) (f : IsFile g d p) (u : T (not (system g d p)))
+    (room : 1 ≤ length (freeGranules g d))
     (d′ : List ℕ) → takeOne g p d ≡ grown d′ → Took g d d′ p
 unfolding takeOne
 take-one g d c k p f u room d′ q = take-at g d c k p f u (lowestFree g d) (first-free g d room) d′ q

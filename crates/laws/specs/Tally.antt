@@ -29,7 +29,8 @@ three t o (x ∷ xs) h = go (t x) (o x) (h x Members.In.here) (three t o xs (λ 
   where
     go : (a b : Bool) → (T b → T a) → length (keep (λ x. not (t x)) xs) + length (keep (λ x. t x && not (o x)) xs) + length (keep o xs) ≡ length xs
         → length (cond (not a) (x ∷ keep (λ x. not (t x)) xs) (keep (λ x. not (t x)) xs))
-        + length (cond (a && not b) (x ∷ keep (λ x. t x && not (o x)) xs) (keep (λ x. t x && not (o x)) xs)) + length (cond b (x ∷ keep o xs) (keep o xs)) ≡ suc (length xs)
+        + length (cond (a && not b) (x ∷ keep (λ x. t x && not (o x)) xs) (keep (λ x. t x && not (o x)) xs)) + length (cond b (x ∷ keep o xs) (keep o xs)) ≡
+        suc (length xs)
     go true true f e = omega arith
     go true false f e = omega arith
     go false true f e = absurd (f tt)
@@ -63,7 +64,8 @@ module _ (g : Geometry) (d : List ℕ) (c : Sound g d) where
   unfolding freeGranules reserved
   tally =
       let all′ = count 0 (granules g) in
-      let a = has-length {xs = all′} inRuns (Members.count-distinct 0 (granules g)) runs-distinct (λ n i. Members.in-count n 0 (granules g) (omega arith) (omega (arith, runs-in n i .1))) in
+      let a = has-length {xs = all′} inRuns (Members.count-distinct 0 (granules g)) runs-distinct
+      (λ n i. Members.in-count n 0 (granules g) (omega arith) (omega (arith, runs-in n i .1))) in
       let b = three (taken g d) (has inRuns) all′ (λ n i t. runs-in n (Members.has-in n inRuns t) .0) in
       let e = length-count 0 (granules g) in
       omega arith

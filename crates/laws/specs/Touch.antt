@@ -34,7 +34,8 @@ pub data Touch (g : Geometry) (xs ns d : List ℕ) : List ℕ → Type 0 where
   entry : (x k v : ℕ) {e : List ℕ} → In x xs → k < 32 → Touch g xs ns d e → Touch g xs ns d (set e (entryAt g x + k) v)
   bytes : (i v : ℕ) {e : List ℕ} → In (i / granuleBytes g) ns → Touch g xs ns d e → Touch g xs ns d (set e i v)
 
-pub touch-more : {g : Geometry} {xs ns d e : List ℕ} (xs′ ns′ : List ℕ) → ((x : ℕ) → In x xs → In x xs′) → ((n : ℕ) → In n ns → In n ns′) → Touch g xs ns d e → Touch g xs′ ns′ d e
+pub touch-more : {g : Geometry} {xs ns d e : List ℕ} (xs′ ns′ : List ℕ) → ((x : ℕ) → In x xs → In x xs′) → ((n : ℕ) → In n ns → In n ns′) → Touch g xs ns d e
+    → Touch g xs′ ns′ d e
 touch-more xs′ ns′ a b Touch.none = Touch.none
 touch-more xs′ ns′ a b (Touch.gat n v h l t) = Touch.gat n v h l (touch-more xs′ ns′ a b t)
 touch-more xs′ ns′ a b (Touch.hits x v i t) = Touch.hits x v (a x i) (touch-more xs′ ns′ a b t)
@@ -75,8 +76,10 @@ module _ (g : Geometry) (d₀ : List ℕ) (k : Places.Fits g d₀) where
   touch-spare Touch.none b u h l o = refl
   touch-spare (Touch.gat n v {e = e} m w t) b u h l o =
       Places.marked-digit g v w e n (256 * g .start + b) u (λ q. let r = mod-lt n (k .units-lo) in omega arith) ∙ touch-spare t b u h l o
-  touch-spare (Touch.hits x v {e = e} j t) b u h l o = ap (λ (z : ℕ). digit z u) (getD-set-other e (hitAt g x) (256 * g .start + b) v 0 (omega (arith, k .blocks-hi))) ∙ touch-spare t b u h l o
-  touch-spare (Touch.entry x j v {e = e} m w t) b u h l o = ap (λ (z : ℕ). digit z u) (getD-set-other e (entryAt g x + j) (256 * g .start + b) v 0 (omega (arith, k .blocks-hi))) ∙ touch-spare t b u h l o
+  touch-spare (Touch.hits x v {e = e} j t) b u h l o = ap (λ (z : ℕ). digit z u)
+      (getD-set-other e (hitAt g x) (256 * g .start + b) v 0 (omega (arith, k .blocks-hi))) ∙ touch-spare t b u h l o
+  touch-spare (Touch.entry x j v {e = e} m w t) b u h l o = ap (λ (z : ℕ). digit z u)
+      (getD-set-other e (entryAt g x + j) (256 * g .start + b) v 0 (omega (arith, k .blocks-hi))) ∙ touch-spare t b u h l o
   touch-spare (Touch.bytes j v {e = e} m t) b u h l o =
       ap (λ (z : ℕ). digit z u) (getD-set-other e j (256 * g .start + b) v 0 (λ q. o (rw q m))) ∙ touch-spare t b u h l o
 
@@ -99,12 +102,14 @@ module _ (g : Geometry) (xs ns d : List ℕ) where
   touch-part x i [] k h t = t
   touch-part {e} x i (v ∷ vs) k h t =
       let q : entryAt g x + suc k ≡ suc (entryAt g x + k) = omega arith in
-      subst (λ (j : ℕ). Touch g xs ns d (sets (set e (entryAt g x + k) v) j vs)) q (touch-part x i vs (suc k) (omega arith) (Touch.entry x k v i (omega arith) t))
+      subst (λ (j : ℕ). Touch g xs ns d (sets (set e (entryAt g x + k) v) j vs)) q
+      (touch-part x i vs (suc k) (omega arith) (Touch.entry x k v i (omega arith) t))
 
   pub touch-whole : {e : List ℕ} (x : ℕ) (vs : List ℕ) → In x xs → length vs ≤ 32 → Touch g xs ns d e → Touch g xs ns d (sets e (entryAt g x) vs)
   touch-whole {e} x vs i h t = subst (λ (j : ℕ). Touch g xs ns d (sets e j vs)) (add-zero (entryAt g x)) (touch-part x i vs 0 (omega arith) t)
 
-  pub touch-store : {e : List ℕ} (F : ℕ → ℕ) (bs : List ℕ) (i : ℕ) → ((j : ℕ) → i ≤ j → j < i + length bs → In (F j / granuleBytes g) ns) → Touch g xs ns d e → Touch g xs ns d (store F e i bs)
+  pub touch-store : {e : List ℕ} (F : ℕ → ℕ) (bs : List ℕ) (i : ℕ) → ((j : ℕ) → i ≤ j → j < i + length bs → In (F j / granuleBytes g) ns) → Touch g xs ns d e
+      → Touch g xs ns d (store F e i bs)
   unfolding store
   touch-store F [] i h t = t
   touch-store F (b ∷ bs) i h t = touch-store F bs (i + 1) (λ j a l. h j (omega arith) (omega arith)) (Touch.bytes (F i) b (h i (omega arith) (omega arith)) t)
@@ -123,11 +128,13 @@ module _ (g : Geometry) (xs ns d : List ℕ) where
   pub touch-unhook : {e : List ℕ} (p x b : ℕ) → In x xs → In b xs → Touch g xs ns d e → Touch g xs ns d (unhooked g e x b)
   unfolding unhooked
   touch-unhook p x b i j t =
-      touch-field b 0x1f 0xff j (omega arith) (touch-field b 0x1e 0xff j (omega arith) (touch-field x 0x1f 0xff i (omega arith) (touch-field x 0x1e 0xff i (omega arith)
+      touch-field b 0x1f 0xff j (omega arith) (touch-field b 0x1e 0xff j (omega arith)
+      (touch-field x 0x1f 0xff i (omega arith) (touch-field x 0x1e 0xff i (omega arith)
       (Touch.hits x 0 i (touch-field x 0 0x80 i (omega arith) t)))))
 
 -- bits 4, HIT bytes and GAT bits put, as kill and bring back do
-pub touch-marking : (g : Geometry) (v h : ℕ) (d ns xs : List ℕ) → v < 2 → ((n : ℕ) → In n ns → n < granules g) → Touch g xs [] d (Marking.marking g v h d ns xs)
+pub touch-marking : (g : Geometry) (v h : ℕ) (d ns xs : List ℕ) → v < 2 → ((n : ℕ) → In n ns → n < granules g) → Touch g xs [] d
+    (Marking.marking g v h d ns xs)
 unfolding Marking.marking
 touch-marking g v h d ns xs b f =
     Places.through-stays (Touch g xs [] d) (Marking.putEntry g v h) xs (through (Places.marked g v) d ns)

@@ -68,10 +68,16 @@ module _ (g : Geometry) (d : List ℕ) (c : Sound g d) (k : Places.Fits g d) (p 
   killed-entry x i =
       let e = Change.entry-at g d c x (member x i .slot) (member x i .used) in
       let a = Marking.file-tail g d 0 0 p (f .slot) marks x i in
-      record { pairs = Frame.pairs-next g d gone x (Frame.tail-pairs g d gone x a) (e .pairs); linked = Frame.linked-next g d gone 0x90 0x80 x a next (e .linked); run = Frame.run-next g d gone x (Frame.tail-pairs g d gone x a) (e .run) }
+      record {
+        pairs = Frame.pairs-next g d gone x (Frame.tail-pairs g d gone x a) (e .pairs);
+        linked = Frame.linked-next g d gone 0x90 0x80 x a next
+            (e .linked);
+        run = Frame.run-next g d gone x (Frame.tail-pairs g d gone x a) (e .run);
+      }
     where
       next : Entry.Linked g d x → Entry.FollowsBy g gone 0x80 x (link g d x)
-      next l = rw now-killed at (Marking.file-next g d 0 0 p (f .slot) marks 0x90 x i (Change.chain-next g d p x (λ y j. member y j .slot) (c .once p f) i (l .marked) (l .next .slot)) l)
+      next l = rw now-killed at (Marking.file-next g d 0 0 p (f .slot) marks 0x90 x i
+          (Change.chain-next g d p x (λ y j. member y j .slot) (c .once p f) i (l .marked) (l .next .slot)) l)
 
   killed-whole : Whole g gone p
   killed-whole =
@@ -83,7 +89,8 @@ module _ (g : Geometry) (d : List ℕ) (c : Sound g d) (k : Places.Fits g d) (p 
         entries = λ x i. killed-entry x (rw chain₁ at i);
         once = rw chain₁ (c .once p f);
         single = rw owned₁ (c .single p f);
-        count′ = rw (Marking.file-end g d 0 0 p (f .slot) marks, Marking.file-low g d 0 0 p (f .slot) marks, Marking.file-high g d 0 0 p (f .slot) marks) (o .count′);
+        count′ = rw (Marking.file-end g d 0 0 p (f .slot) marks, Marking.file-low g d 0 0 p (f .slot) marks, Marking.file-high g d 0 0 p (f .slot) marks)
+            (o .count′);
         fits = rw (Marking.file-size g d 0 0 p (f .slot) marks, owned₁) (o .fits);
       }
 
@@ -123,7 +130,8 @@ module _ (g : Geometry) (d : List ℕ) (c : Sound g d) (k : Places.Fits g d) (p 
   unfolding Marking.marking words
   undone =
       rw (name₁, owned₁, chain₁)
-      (Marking.unmark g d (hash (nameOf g d p)) (owned g d p) (chain g d p) marks (λ n i. Change.owned-taken g d c p n f i) used (λ x i. Change.filed-at g d c p f .hashes x i))
+      (Marking.unmark g d (hash (nameOf g d p)) (owned g d p) (chain g d p) marks (λ n i. Change.owned-taken g d c p n f i) used
+      (λ x i. Change.filed-at g d c p f .hashes x i))
 
 -- Chains that end by their markers: the bound does not matter ---------------------------------------------------------------------------
 
@@ -134,8 +142,10 @@ module _ (g : Geometry) (d : List ℕ) where
   stop (suc n) zero s a b e = absurd (omega arith)
   stop (suc n) (suc m) s a b e = go n (Members.decide (eqb (marker g d s) 0xfe)) (omega arith) e (stop n m (link g d s))
     where
-      go : (n : ℕ) → Members.Test (eqb (marker g d s) 0xfe) → n ≤ m → marker g d (lastOr s (cond (eqb (marker g d s) 0xfe) (chainFrom g d n (link g d s)) [])) ≡ 0xff
-          → (1 ≤ n → n ≤ m → marker g d (lastOr (link g d s) (chainFrom g d n (link g d s))) ≡ 0xff → chainFrom g d m (link g d s) ≡ chainFrom g d n (link g d s))
+      go : (n : ℕ) → Members.Test (eqb (marker g d s) 0xfe) → n ≤ m → marker g d (lastOr s (cond (eqb (marker g d s) 0xfe) (chainFrom g d n (link g d s)) []))
+          ≡ 0xff
+          → (1 ≤ n → n ≤ m → marker g d (lastOr (link g d s) (chainFrom g d n (link g d s))) ≡ 0xff → chainFrom g d m (link g d s) ≡ chainFrom g d n
+          (link g d s))
           → s ∷ cond (eqb (marker g d s) 0xfe) (chainFrom g d m (link g d s)) [] ≡ s ∷ cond (eqb (marker g d s) 0xfe) (chainFrom g d n (link g d s)) []
       go n (Members.Test.fails t) l e r = rw (Members.no-false {b = eqb (marker g d s) 0xfe} t)
       go zero (Members.Test.holds t) l e r = absurd (omega (arith, eqb→eq (marker g d s) 0xfe t, rw (Members.T-true {b = eqb (marker g d s) 0xfe} t) at e))
@@ -147,11 +157,13 @@ module _ (g : Geometry) (d : List ℕ) where
   longer (suc n) zero s x h i = absurd (omega arith)
   longer (suc n) (suc m) s x h i = go (Members.in-cons i) (longer n m (link g d s) x (omega arith))
     where
-      into : (b : Bool) → In x (cond b (chainFrom g d n (link g d s)) []) → (In x (chainFrom g d n (link g d s)) → In x (chainFrom g d m (link g d s))) → In x (s ∷ cond b (chainFrom g d m (link g d s)) [])
+      into : (b : Bool) → In x (cond b (chainFrom g d n (link g d s)) []) → (In x (chainFrom g d n (link g d s)) → In x (chainFrom g d m (link g d s))) → In x
+          (s ∷ cond b (chainFrom g d m (link g d s)) [])
       into true i r = Members.In.there (r i)
       into false i r = Members.none-in i
 
-      go : (x ≡ s) ⊎ In x (cond (eqb (marker g d s) 0xfe) (chainFrom g d n (link g d s)) []) → (In x (chainFrom g d n (link g d s)) → In x (chainFrom g d m (link g d s)))
+      go : (x ≡ s) ⊎ In x (cond (eqb (marker g d s) 0xfe) (chainFrom g d n (link g d s)) []) →
+          (In x (chainFrom g d n (link g d s)) → In x (chainFrom g d m (link g d s)))
           → In x (s ∷ cond (eqb (marker g d s) 0xfe) (chainFrom g d m (link g d s)) [])
       go (inl e) r = Members.head-in _ e
       go (inr i) r = into (eqb (marker g d s) 0xfe) i r
@@ -174,7 +186,8 @@ same-from g d d′ p n m b b′ a e e′ = go (decLt m n)
     go (yes l) =
         let q = Frame.chainFrom-eq g d d′ m p (λ x i. a x (longer g d m n p x (omega arith) i)) in
         let o : marker g d (lastOr p (chainFrom g d m p)) ≡ 0xff =
-        sym (a _ (longer g d m n p _ (omega arith) (Members.last-in p (first-in g d m p b′))) .0) ∙ ap (λ (xs : List ℕ). marker g d′ (lastOr p xs)) (sym q) ∙ e′ in
+        sym (a _ (longer g d m n p _ (omega arith) (Members.last-in p (first-in g d m p b′))) .0) ∙ ap (λ (xs : List ℕ). marker g d′ (lastOr p xs)) (sym q) ∙
+        e′ in
         q ∙ sym (stop g d m n p b′ (omega arith) o)
 
 -- Two disks, be their directories as long as they may: where the entries of the one's chain have the same markers and links on the other,
@@ -184,7 +197,8 @@ same-chain : (g : Geometry) (d d′ : List ℕ) (p : ℕ) → T (isSlot g d p) �
     → marker g d (lastOr p (chain g d p)) ≡ 0xff → marker g d′ (lastOr p (chain g d′ p)) ≡ 0xff → chain g d′ p ≡ chain g d p
 unfolding chain
 same-chain g d d′ p t t′ a e e′ =
-    same-from g d d′ p (length (slots g d)) (length (slots g d′)) (Change.in-length (Facts.in-slots g d p t)) (Change.in-length (Facts.in-slots g d′ p t′)) a e e′
+    same-from g d d′ p (length (slots g d)) (length (slots g d′)) (Change.in-length (Facts.in-slots g d p t)) (Change.in-length (Facts.in-slots g d′ p t′)) a
+    e e′
 
 -- None of its slots written in between ----------------------------------------------------------------------------------------------------
 
@@ -225,11 +239,13 @@ module _ (g : Geometry) (d : List ℕ) (c : Sound g d) (k : Places.Fits g d) (p 
       in-chain = Members.last-in p (Change.chain-head g e c₂ p (w .slot))
 
       ended : marker g e (lastOr p (chain g e p)) ≡ 0xff
-      ended = sym (BringBack.back-byte g e c₂ k₂ p w _ 0x1e in-chain (omega arith) (omega arith)) ∙ (rw (BringBack.back-chain g e c₂ k₂ p w) at (Change.tail-marker g later after p (BringBack.back-file g e c₂ k₂ p w)))
+      ended = sym (BringBack.back-byte g e c₂ k₂ p w _ 0x1e in-chain (omega arith) (omega arith)) ∙
+          (rw (BringBack.back-chain g e c₂ k₂ p w) at (Change.tail-marker g later after p (BringBack.back-file g e c₂ k₂ p w)))
 
   owned₂ : owned g e p ≡ owned g d p
   unfolding owned
-  owned₂ = ap (each (entryGranules g e)) chain₂ ∙ Members.each-eq (entryGranules g e) (entryGranules g d) (chain g d p) (λ x i. Frame.granules-tail g d e x (tail₂ x i))
+  owned₂ = ap (each (entryGranules g e)) chain₂ ∙ Members.each-eq (entryGranules g e) (entryGranules g d) (chain g d p)
+      (λ x i. Frame.granules-tail g d e x (tail₂ x i))
 
   name₂ : nameOf g e p ≡ nameOf g d p
   name₂ = Frame.nameOf-bytes g d e p (λ j l b. byte₂ p j (head g d c k p f) (omega arith) (omega arith))
@@ -238,7 +254,8 @@ module _ (g : Geometry) (d : List ℕ) (c : Sound g d) (k : Places.Fits g d) (p 
   here x i = rw chain₂ i
 
   byte₃ : (x j : ℕ) → In x (chain g d p) → j < 32 → field g later x j ≡ field g d x j
-  byte₃ x zero i b = BringBack.back-flags g e c₂ k₂ p w x (here x i) ∙ ap (λ (n : ℕ). putDigit n 4 1) (flags₂ x i) ∙ Bits.put-back (field g d x 0) 4 (used g d c k p f x i)
+  byte₃ x zero i b = BringBack.back-flags g e c₂ k₂ p w x (here x i) ∙ ap (λ (n : ℕ). putDigit n 4 1) (flags₂ x i) ∙ Bits.put-back (field g d x 0) 4
+      (used g d c k p f x i)
   byte₃ x (suc j) i b = BringBack.back-byte g e c₂ k₂ p w x (suc j) (here x i) (omega arith) b ∙ byte₂ x (suc j) i (omega arith) b
 
   pub as-before : AsBefore g d (broughtBack g e p) p

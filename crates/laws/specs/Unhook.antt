@@ -51,9 +51,11 @@ past e s xs q i = into (Members.in-cons i)
     into (inr w) = w
 
 -- a chain cut before its end
-module _ (g : Geometry) (d d′ : List ℕ) (e b : ℕ) (me : marker g d e ≡ 0xff) (mb : marker g d b ≡ 0xfe) (lb : link g d b ≡ e) (mb′ : marker g d′ b ≡ 0xff) (b≢e : b ≢ e) where
+module _ (g : Geometry) (d d′ : List ℕ) (e b : ℕ) (me : marker g d e ≡ 0xff) (mb : marker g d b ≡ 0xfe) (lb : link g d b ≡ e) (mb′ : marker g d′ b ≡ 0xff)
+    (b≢e : b ≢ e) where
   chainFrom-cut : (n s : ℕ) → ((y : ℕ) → In y (chainFrom g d n s) → y ≢ b → y ≢ e → (marker g d′ y ≡ marker g d y) × (link g d′ y ≡ link g d y))
-      → ((y : ℕ) → In y (chainFrom g d n s) → marker g d y ≡ 0xfe → link g d y ≡ e → y ≡ b) → s ≢ e → In e (chainFrom g d n s) → chainFrom g d n s ≡ chainFrom g d′ n s ++ (e ∷ [])
+      → ((y : ℕ) → In y (chainFrom g d n s) → marker g d y ≡ 0xfe → link g d y ≡ e → y ≡ b) → s ≢ e → In e (chainFrom g d n s) → chainFrom g d n s ≡ chainFrom
+      g d′ n s ++ (e ∷ [])
   unfolding chainFrom
   chainFrom-cut zero s a o k i = Members.none-in i
   chainFrom-cut (suc n) s a o k i = go (ℕ-discrete b s) (chainFrom-cut n (link g d s))
@@ -63,7 +65,8 @@ module _ (g : Geometry) (d d′ : List ℕ) (e b : ℕ) (me : marker g d e ≡ 0
 
       IH : Type 0
       IH = ((y : ℕ) → In y rest → y ≢ b → y ≢ e → (marker g d′ y ≡ marker g d y) × (link g d′ y ≡ link g d y))
-          → ((y : ℕ) → In y rest → marker g d y ≡ 0xfe → link g d y ≡ e → y ≡ b) → link g d s ≢ e → In e rest → rest ≡ chainFrom g d′ n (link g d s) ++ (e ∷ [])
+          → ((y : ℕ) → In y rest → marker g d y ≡ 0xfe → link g d y ≡ e → y ≡ b) → link g d s ≢ e → In e rest → rest ≡ chainFrom g d′ n (link g d s) ++
+          (e ∷ [])
 
       last : (n : ℕ) → In e (chainFrom g d n e) → chainFrom g d n e ≡ e ∷ []
       last zero i = Members.none-in i
@@ -77,7 +80,8 @@ module _ (g : Geometry) (d d′ : List ℕ) (e b : ℕ) (me : marker g d e ≡ 0
           → ((y : ℕ) → In y (s ∷ cond t rest []) → marker g d y ≡ 0xfe → link g d y ≡ e → y ≡ b) → IH
           → s ∷ cond t rest [] ≡ (s ∷ cond t (chainFrom g d′ n (link g d s)) []) ++ (e ∷ [])
       deeper q true z i a o ih = ap {B = List ℕ} (λ l. s ∷ l)
-          (ih (λ y j. a y (Members.In.there j)) (λ y j. o y (Members.In.there j)) (λ w. q (o s Members.In.here (eqb→eq _ _ (Members.true-T z)) w)) (past e s rest k i))
+          (ih (λ y j. a y (Members.In.there j)) (λ y j. o y (Members.In.there j)) (λ w. q (o s Members.In.here (eqb→eq _ _ (Members.true-T z)) w))
+          (past e s rest k i))
       deeper q false z i a o ih = Members.none-in (past e s [] k i)
 
       go : Dec (b ≡ s) → IH → chainFrom g d (suc n) s ≡ chainFrom g d′ (suc n) s ++ (e ∷ [])
@@ -119,7 +123,13 @@ module _ (g : Geometry) (d d′ : List ℕ) (c : Sound g d) (p : ℕ) (f : Facts
       go (Entry.Pred.after z j m l) =
           let i = Members.front-in p (Change.tail-in g d c p f) j in
           let q = only-b z i m l in
-          record { inside = rw q at i; marks = rw q at m; leads = rw q at l; other = rw q at (Members.front-not-last p (c .once p f) (Change.tail-in g d c p f) j) }
+          record {
+            inside = rw q at i;
+            marks = rw q at m;
+            leads = rw q at l;
+            other = rw q at
+                (Members.front-not-last p (c .once p f) (Change.tail-in g d c p f) j);
+          }
 
   links : (y : ℕ) → In y (chain g d p) → y ≢ b → y ≢ e → (marker g d′ y ≡ marker g d y) × (link g d′ y ≡ link g d y)
   links y i n k = let a = h .agrees y (slot-of y i) k n in (a 0x1e (omega arith), a 0x1f (omega arith))
@@ -127,7 +137,8 @@ module _ (g : Geometry) (d d′ : List ℕ) (c : Sound g d) (p : ℕ) (f : Facts
   pub cut-chain : chain g d p ≡ chain g d′ p ++ (e ∷ [])
   unfolding chain
   cut-chain = rw (Frame.slots-eq g d d′ (h .above))
-      (chainFrom-cut g d d′ e b (Change.tail-marker g d c p f) (before .marks) (before .leads) (h .ended) (before .other) (length (slots g d)) p links only-b (λ q. h .later (sym q)) (Change.tail-in g d c p f))
+      (chainFrom-cut g d d′ e b (Change.tail-marker g d c p f) (before .marks) (before .leads) (h .ended) (before .other) (length (slots g d)) p links only-b
+      (λ q. h .later (sym q)) (Change.tail-in g d c p f))
 
   was-in : (y : ℕ) → In y (chain g d′ p) → In y (chain g d p)
   was-in y i = rw cut-chain (Members.in-append-l (e ∷ []) i)
@@ -267,7 +278,8 @@ module _ (g : Geometry) (d d′ : List ℕ) (c : Sound g d) (p : ℕ) (f : Facts
     gone = λ y i n. rw (gone-e y i n) (h .dead);
     unhit = λ y i n. rw (gone-e y i n) (h .unhit);
     born = λ y i n. absurd (n (rw mine (was-in y (rw mine′ at i))));
-    nonzero = λ y i. let w = rw mine′ at i in let j = was-in y w in rw (h .hits y (slot-of y j) (not-e y w)) (Change.used-hit g d c y (slot-of y j) (Change.members g d c p y f j .used));
+    nonzero = λ y i. let w = rw mine′ at i in let j = was-in y w in
+        rw (h .hits y (slot-of y j) (not-e y w)) (Change.used-hit g d c y (slot-of y j) (Change.members g d c p y f j .used));
     keeps = λ n l a w. h .keeps n l (λ q. a (rw (grans, q, cut-owned) (Members.in-append-r (owned g d′ p) Members.In.here)));
     freed = λ n i a. rw (gone-m n i a) (h .freed);
     fresh = λ n i a. absurd (a (rw grans (in-old n (rw grans′ at i))));

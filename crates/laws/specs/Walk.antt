@@ -81,7 +81,8 @@ module _ (g : Geometry) (d : List ℕ) where
       rest : List ℕ
       rest = walkFrom g d left (s ∷ before) (link g d s)
 
-      go : (x ≡ s) ⊎ (T (handsOn g d s) × In x rest) → (In x rest → In x (chainFrom g d left (link g d s))) → In x (s ∷ cond (eqb (marker g d s) 0xfe) (chainFrom g d left (link g d s)) [])
+      go : (x ≡ s) ⊎ (T (handsOn g d s) × In x rest) → (In x rest → In x (chainFrom g d left (link g d s))) → In x
+          (s ∷ cond (eqb (marker g d s) 0xfe) (chainFrom g d left (link g d s)) [])
       go (inl e) r = Members.head-in _ e
       go (inr j) r = rw (hands-says s (j .0) .marked) (Members.In.there (r (j .1)))
 

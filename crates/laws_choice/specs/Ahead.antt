@@ -54,7 +54,8 @@ module _ (limit granules : ℕ) {v v′ : State} (w : Lengthens limit granules v
           let z = n - p in
           let u : n ≡ p + z = omega arith in
           let c : count (e + 1) n ++ granulesOf rest ≡ count (e + 1) p ++ (count (e + 1 + p) z ++ granulesOf rest) =
-          ap (λ (i : ℕ). count (e + 1) i ++ granulesOf rest) u ∙ ap (λ (l : List ℕ). l ++ granulesOf rest) (Parts.count-parts (e + 1) p z) ∙ append-assoc (count (e + 1) p) (count (e + 1 + p) z) (granulesOf rest) in
+          ap (λ (i : ℕ). count (e + 1) i ++ granulesOf rest) u ∙ ap (λ (l : List ℕ). l ++ granulesOf rest) (Parts.count-parts (e + 1) p z) ∙ append-assoc
+          (count (e + 1) p) (count (e + 1 + p) z) (granulesOf rest) in
           make p (record { first = e + 1 + p; many = z } ∷ rest) (omega arith) (omega arith, omega arith, s) m
           (subst (λ (ns : List ℕ). Granules granules v′ ns k) c g′)
 
@@ -70,7 +71,8 @@ module _ (limit granules : ℕ) {v v′ : State} (w : Lengthens limit granules v
       go : Dec (b ≡ e) → Choice limit granules v′ k
       go (yes q) = cut n rest l s m (rw q at g)
       go (no q) =
-          absurd (before (e - 1) (omega (arith, c)) (g .free (e - 1) (Members.in-append-l (granulesOf rest) (Members.in-count (e - 1) b (suc n) (omega (arith, c)) (omega (arith, c))))))
+          absurd (before (e - 1) (omega (arith, c))
+          (g .free (e - 1) (Members.in-append-l (granulesOf rest) (Members.in-count (e - 1) b (suc n) (omega (arith, c)) (omega (arith, c))))))
 
   -- the choice has not the granule: any one of its own is left out
   less : (b n : ℕ) (rest : List Run) → n ≤ limit → Sized limit rest → suc (length rest) ≤ v .room
@@ -91,7 +93,8 @@ module _ (limit granules : ℕ) {v v′ : State} (w : Lengthens limit granules v
       go (inl i) =
           let x = Moves.holds e rs i in
           let s = Moves.pick-sized limit (x .pick) (f .sized) in
-          at-front (x .run .first) (x .run .many) (x .rest) (x .held) (s .1) (s .2) (omega (arith, Moves.pick-length (x .pick), f .few)) (Moves.pick-front granules (x .pick) (f .chosen))
+          at-front (x .run .first) (x .run .many) (x .rest) (x .held) (s .1) (s .2) (omega (arith, Moves.pick-length (x .pick), f .few))
+          (Moves.pick-front granules (x .pick) (f .chosen))
       go (inr a) = left-out rs (f .sized) (f .few) (Moves.other granules (w .takes) a (f .chosen))
 
   pub ahead-longer : (x : ℕ) (rs : List Run) → ChoiceFits limit granules v x rs (suc k) → Choice limit granules v′ k
@@ -172,7 +175,8 @@ module _ (granules : ℕ) {v : State} {a : ℕ} (low : LowEnd granules v a) wher
       y = Members.count-in i (q .first) (q .many) m
 
       front : (a ≤ b) × (b ≤ q .first) → Dec (q .first < b + n) → ⊥
-      front h (yes l) = apart (q .first) (Members.in-count (q .first) b n (h .1) l) (Members.in-count (q .first) (q .first) (q .many) (omega arith) (omega arith))
+      front h (yes l) = apart (q .first) (Members.in-count (q .first) b n (h .1) l)
+          (Members.in-count (q .first) (q .first) (q .many) (omega arith) (omega arith))
       front h (no l) = omega (arith, x, y, h)
 
       go : Dec (a ≤ q .first) → ⊥
@@ -190,7 +194,8 @@ module _ (granules : ℕ) {v : State} {a : ℕ} (low : LowEnd granules v a) wher
       own = count (q .first) (q .many)
 
       go : In i own ⊎ In i (granulesOf rest) → (In i (granulesOf rest) → ⊥) → ⊥
-      go (inl t) ih = clear-of b n q (s .0) (u .0) (λ z r. f z (Members.in-append-l (granulesOf rest) r)) (λ z r t′. apart z r (Members.in-append-l (granulesOf rest) t′)) i j t
+      go (inl t) ih = clear-of b n q (s .0) (u .0) (λ z r. f z (Members.in-append-l (granulesOf rest) r))
+          (λ z r t′. apart z r (Members.in-append-l (granulesOf rest) t′)) i j t
       go (inr t) ih = ih t
 
   -- the run given up moves down to a
@@ -199,8 +204,17 @@ module _ (granules : ℕ) {v : State} {a : ℕ} (low : LowEnd granules v a) wher
   slide limit b n k rest s u g = record {
     free = λ i m. go i (Members.append-in i (count a n) (granulesOf rest) m);
     once = Members.append-distinct (Members.count-distinct a n) (Members.distinct-r (count b n) (granulesOf rest) (g .once))
-        (clear-of-all limit b n rest s u (λ i m. g .free i (Members.in-append-r (count b n) m)) (λ i m t. Members.distinct-apart (granulesOf rest) (g .once) m t));
-    many = omega (arith, length-append (count a n) (granulesOf rest), length-append (count b n) (granulesOf rest), length-count a n, length-count b n, g .many);
+        (clear-of-all limit b n rest s u (λ i m. g .free i (Members.in-append-r (count b n) m))
+        (λ i m t. Members.distinct-apart (granulesOf rest) (g .once) m t));
+    many = omega (
+      arith,
+      length-append (count a n) (granulesOf rest),
+      length-append (count b n) (granulesOf rest),
+      length-count a n,
+      length-count b n,
+      g
+          .many,
+    );
   }
     where
       long : n ≤ low .long
@@ -211,10 +225,12 @@ module _ (granules : ℕ) {v : State} {a : ℕ} (low : LowEnd granules v a) wher
       go i (inr m) = g .free i (Members.in-append-r (count b n) m)
 
 -- where the last run cannot be lengthened, no choice lengthens it
-pub never-longer : (limit granules : ℕ) {v : State} (y : ℕ) {rs : List Run} {k : ℕ} → (CanLengthen limit granules v → ⊥) → ChoiceFits limit granules v (suc y) rs k → ⊥
+pub never-longer : (limit granules : ℕ) {v : State} (y : ℕ) {rs : List Run} {k : ℕ} → (CanLengthen limit granules v → ⊥) → ChoiceFits limit granules v (suc y)
+    rs k → ⊥
 never-longer limit granules y a f = a (record { fewer = omega (arith, f .within); free = f .chosen .free _ Members.In.here })
 
-module _ (limit granules : ℕ) {v v′ : State} {m : ℕ} (not-longer : CanLengthen limit granules v → ⊥) (low : LowEnd granules v m) (w : Starts limit granules v v′ m) (k : ℕ) where
+module _ (limit granules : ℕ) {v v′ : State} {m : ℕ} (not-longer : CanLengthen limit granules v → ⊥) (low : LowEnd granules v m)
+    (w : Starts limit granules v v′ m) (k : ℕ) where
   given-up : (b n : ℕ) (rest : List Run) → 1 ≤ n → n ≤ limit → Sized limit rest → length rest ≤ v′ .room → Behind m b rest
       → Granules granules v (count b n ++ granulesOf rest) (suc k) → Choice limit granules v′ k
   given-up b zero rest o l s f u g = absurd (omega arith)

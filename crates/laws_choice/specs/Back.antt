@@ -33,10 +33,12 @@ module _ (limit granules : ℕ) {v v′ : State} where
   pub begun : {m : ℕ} (w : Starts limit granules v v′ m) → Begun w
   begun w = record { new = ap after (w .has); spared = ap (spare limit) (w .has) }
 
-  back-longer : {k x : ℕ} {rs : List Run} → Lengthens limit granules v v′ → ChoiceFits limit granules v′ x rs k → ChoiceFits limit granules v (suc x) rs (suc k)
+  back-longer : {k x : ℕ} {rs : List Run} → Lengthens limit granules v v′ → ChoiceFits limit granules v′ x rs k → ChoiceFits limit granules v (suc x) rs
+      (suc k)
   back-longer {k} {x} {rs} w f =
       let h = moved w in
-      let e : (w .run .first + w .run .many) ∷ (count (after (v′ .last)) x ++ granulesOf rs) ≡ count (after (v .last)) (suc x) ++ granulesOf rs = rw (h .old, h .new) refl in
+      let e : (w .run .first + w .run .many) ∷ (count (after (v′ .last)) x ++ granulesOf rs) ≡ count (after (v .last)) (suc x) ++ granulesOf rs = rw
+      (h .old, h .new) refl in
       record {
         within = omega (arith, f .within, h .spared);
         sized = f .sized;

@@ -54,7 +54,8 @@ rest-of granules g = record {
   many = let e = g .many in omega arith;
 }
 
-pub without-it : (granules : ℕ) {v v′ : State} {m : ℕ} → Takes granules v v′ m → {ns : List ℕ} {k : ℕ} → Granules granules v (m ∷ ns) (suc k) → Granules granules v′ ns k
+pub without-it : (granules : ℕ) {v v′ : State} {m : ℕ} → Takes granules v v′ m → {ns : List ℕ} {k : ℕ} → Granules granules v (m ∷ ns) (suc k) → Granules
+    granules v′ ns k
 without-it granules t g = other granules t (Parts.distinct-head (g .once)) (rest-of granules g)
 
 -- One run in front -------------------------------------------------------------------------------------------------------
@@ -83,7 +84,8 @@ pick-in {r} (there {q = q} {rs = rs} {rest = rest} p) n i = go (Members.append-i
     next (inl j) ih = Members.in-append-l (granulesOf rs) j
     next (inr j) ih = Members.in-append-r own (ih (Members.in-append-r (count (r .first) (r .many)) j))
 
-    go : In n (count (r .first) (r .many)) ⊎ In n (granulesOf (q ∷ rest)) → (In n (granulesOf (r ∷ rest)) → In n (granulesOf rs)) → In n (own ++ granulesOf rs)
+    go : In n (count (r .first) (r .many)) ⊎ In n (granulesOf (q ∷ rest)) → (In n (granulesOf (r ∷ rest)) → In n (granulesOf rs)) → In n
+        (own ++ granulesOf rs)
     go (inl j) ih = Members.in-append-r own (ih (Members.in-append-l (granulesOf rest) j))
     go (inr j) ih = next (Members.append-in n own (granulesOf rest) j) ih
 

@@ -122,7 +122,8 @@ module _ (limit granules : ℕ) (v : State) where
 -- what one granule more is
 pub data Took (limit granules : ℕ) (choice : State → ℕ) (v : State) : Grown State → Type 0 where
   longer : CanLengthen limit granules v → Took limit granules choice v (grown (lengthened limit granules v))
-  starts′ : (CanLengthen limit granules v → ⊥) → 0 < v .room → Free granules v (choice v) → Took limit granules choice v (grown (started limit granules v (choice v)))
+  starts′ : (CanLengthen limit granules v → ⊥) → 0 < v .room → Free granules v (choice v) → Took limit granules choice v
+      (grown (started limit granules v (choice v)))
   none : (CanLengthen limit granules v → ⊥) → (v .room ≡ 0) ⊎ (Free granules v (choice v) → ⊥) → Took limit granules choice v noSlot
 
 differ : {b : Bool} → b ≡ true → b ≡ false → ⊥
@@ -195,7 +196,8 @@ module _ (limit granules : ℕ) where
 
   step : (choice : State → ℕ) (v v′ : State) (t : Grown State) → t ≡ grown v′ → Took limit granules choice v t → Step limit granules v v′
   step choice v v′ t e (longer c) = let q : lengthened limit granules v ≡ v′ = cc in Words.Step.longer (rw q at (lengthens limit granules v c))
-  step choice v v′ t e (starts′ c l f) = let q : started limit granules v (choice v) ≡ v′ = cc in Words.Step.starts (choice v) (rw q at (starts limit granules v (choice v) l f))
+  step choice v v′ t e (starts′ c l f) = let q : started limit granules v (choice v) ≡ v′ = cc in
+      Words.Step.starts (choice v) (rw q at (starts limit granules v (choice v) l f))
   step choice v v′ t e (none c w) = absurd (let z : _≡_ {A = ℕ} 0 1 = cc in omega arith)
 
   second : (v v′ : State) (t : Grown State) → t ≡ grown v′ → Took limit granules (longestLow granules) v t → Second limit granules v v′
@@ -243,8 +245,10 @@ module _ (limit granules : ℕ) (l : 1 ≤ limit) (v : State) (s : Stands granul
 
   -- where 01's rule gets k granules the second does too
   pub second-too : (v′ : State) → grow (firstRule limit granules) k v ≡ grown v′ → (v″ : State) × (grow (secondRule limit granules) k v ≡ grown v″)
-  second-too v′ e = Theorem.second-too limit granules l (λ v. v) (Known limit granules) (firstRule limit granules) (secondRule limit granules) (is-rule limit granules (lowestFree limit granules)) (is-second limit granules) k v v′ s e
+  second-too v′ e = Theorem.second-too limit granules l (λ v. v) (Known limit granules) (firstRule limit granules) (secondRule limit granules)
+      (is-rule limit granules (lowestFree limit granules)) (is-second limit granules) k v v′ s e
 
   -- 01's choice where it fits, else the second: stuck exactly if no choice fits
   pub growth-stuck : (growth (firstRule limit granules) (secondRule limit granules) k v ≡ noSlot) ↔ (Choice limit granules v k → ⊥)
-  growth-stuck = Theorem.growth-stuck limit granules l (λ v. v) (Known limit granules) (firstRule limit granules) (secondRule limit granules) (is-rule limit granules (lowestFree limit granules)) (is-second limit granules) k v s
+  growth-stuck = Theorem.growth-stuck limit granules l (λ v. v) (Known limit granules) (firstRule limit granules) (secondRule limit granules)
+      (is-rule limit granules (lowestFree limit granules)) (is-second limit granules) k v s

@@ -115,8 +115,10 @@ module _ (limit granules : ℕ) where
       let b : 1 ≤ freeFrom limit granules v (after (v .last)) = omega arith in
       let f = free-first v (after (v .last)) b in
       let n = longer-after (v .last) a in
-      let s : freeFrom limit granules (lengthened limit granules v) (after (longerLast (v .last))) ≡ stretch (v .taken) (count (after (v .last) + 1) (granules - (after (v .last) + 1))) =
-      ap (λ (i : ℕ). stretch (also (v .taken) (after (v .last))) (count i (granules - i))) (n .0) ∙ stretch-also (v .taken) (after (v .last)) (granules - (after (v .last) + 1)) (after (v .last) + 1) (omega arith) in
+      let s : freeFrom limit granules (lengthened limit granules v) (after (longerLast (v .last))) ≡ stretch (v .taken)
+      (count (after (v .last) + 1) (granules - (after (v .last) + 1))) =
+      ap (λ (i : ℕ). stretch (also (v .taken) (after (v .last))) (count i (granules - i))) (n .0) ∙ stretch-also (v .taken) (after (v .last))
+      (granules - (after (v .last) + 1)) (after (v .last) + 1) (omega arith) in
       let q = free-next v (after (v .last)) f in
       omega (arith, n .1, s, q)
 
@@ -125,11 +127,13 @@ module _ (limit granules : ℕ) where
   take-longer v e = rw e refl
 
   take-else : (v : State) → canLengthen limit granules v ≡ false
-      → secondRule limit granules v ≡ cond (ltb 0 (v .room) && isFree limit granules v (longestLow granules v)) (grown (started limit granules v (longestLow granules v))) noSlot
+      → secondRule limit granules v ≡ cond (ltb 0 (v .room) && isFree limit granules v (longestLow granules v))
+      (grown (started limit granules v (longestLow granules v))) noSlot
   unfolding takeOne
   take-else v e = rw e refl
 
-  grow-step : (v w : State) (k : ℕ) → secondRule limit granules v ≡ grown w → grow (secondRule limit granules) (suc k) v ≡ grow (secondRule limit granules) k w
+  grow-step : (v w : State) (k : ℕ) → secondRule limit granules v ≡ grown w → grow (secondRule limit granules) (suc k) v ≡ grow (secondRule limit granules) k
+      w
   unfolding grow andThen
   grow-step v w k e = rw e refl
 
@@ -138,7 +142,8 @@ module _ (limit granules : ℕ) where
   grow-stop v k e = rw e refl
 
   -- as far as the last run reaches, the rule lengthens it
-  grow-longer : (x k : ℕ) (v : State) → x ≤ reach limit granules v → grow (secondRule limit granules) (x + k) v ≡ grow (secondRule limit granules) k (lengthenBy limit granules x v)
+  grow-longer : (x k : ℕ) (v : State) → x ≤ reach limit granules v → grow (secondRule limit granules) (x + k) v ≡ grow (secondRule limit granules) k
+      (lengthenBy limit granules x v)
   unfolding lengthenBy
   grow-longer zero k v h = let e : 0 + k ≡ k = omega arith in ap (λ (n : ℕ). grow (secondRule limit granules) n v) e
   grow-longer (suc x) k v h =
@@ -185,7 +190,8 @@ module _ (limit granules : ℕ) where
       no-free : (b : Bool) → isFree limit granules v (longestLow granules v) ≡ b → longest limit granules v ≤ 0 → b ≡ false
       no-free true e h =
           absurd (let f = Rules.free-says limit granules v (longestLow granules v) e in
-          let z = Stretches.low-end granules v .longest (longestLow granules v) 1 (λ i x y. let q : i ≡ longestLow granules v = omega arith in rw q f) in omega (arith, Stretches.low-long granules v))
+          let z = Stretches.low-end granules v .longest (longestLow granules v) 1 (λ i x y. let q : i ≡ longestLow granules v = omega arith in rw q f) in
+          omega (arith, Stretches.low-long granules v))
       no-free false e h = refl
 
       go : Dec (0 < longest limit granules v) → isFree limit granules v (longestLow granules v) ≡ ltb 0 (longest limit granules v)
@@ -203,7 +209,8 @@ module _ (limit granules : ℕ) where
       omega (arith, a, b, c)
 
   -- where nothing is left to lengthen, the rule takes whole runs
-  runs-is : 1 ≤ limit → (runs k : ℕ) (v : State) → k ≤ runs → (1 ≤ k → reach limit granules v ≡ 0) → inRuns limit granules runs k v ≡ grow (secondRule limit granules) k v
+  runs-is : 1 ≤ limit → (runs k : ℕ) (v : State) → k ≤ runs → (1 ≤ k → reach limit granules v ≡ 0) → inRuns limit granules runs k v ≡ grow
+      (secondRule limit granules) k v
   unfolding inRuns grow
   runs-is l zero zero v h r = refl
   runs-is l zero (suc k) v h r = absurd (omega arith)
@@ -226,12 +233,14 @@ module _ (limit granules : ℕ) where
           → ((k : ℕ) (w : State) → k ≤ runs → (1 ≤ k → reach limit granules w ≡ 0) → inRuns limit granules runs k w ≡ grow (secondRule limit granules) k w)
           → cond b (inRuns limit granules runs (suc k - n) (lengthenBy limit granules (n - 1) s)) noSlot ≡ grow (secondRule limit granules) (suc k) v
       go true e ih =
-          let o : 1 ≤ longest limit granules v = ltb-true 0 (longest limit granules v) (Rules.both-r (ltb 0 (v .room)) (ltb 0 (longest limit granules v)) e) in
+          let o : 1 ≤ longest limit granules v = ltb-true 0 (longest limit granules v) (Rules.both-r (ltb 0 (v .room)) (ltb 0 (longest limit granules v)) e)
+          in
           let u = lower limit (longest limit granules v) l o in
           let q : reach limit granules s ≡ min limit (longest limit granules v) - 1 = start-reach v o ∙ u .0 in
           let t = sums k (min limit (longest limit granules v)) (u .1) in
           let x : n - 1 ≤ reach limit granules s = subst (λ (i : ℕ). n - 1 ≤ i) (sym q) (t .reached) in
-          let y : reach limit granules (lengthenBy limit granules (n - 1) s) ≡ min limit (longest limit granules v) - 1 - (n - 1) = reach-after (n - 1) s x ∙ ap (λ (i : ℕ). i - (n - 1)) q in
+          let y : reach limit granules (lengthenBy limit granules (n - 1) s) ≡ min limit (longest limit granules v) - 1 - (n - 1) = reach-after (n - 1) s x ∙
+          ap (λ (i : ℕ). i - (n - 1)) q in
           ih (suc k - n) (lengthenBy limit granules (n - 1) s) (under (t .left)) (λ u. y ∙ t .none u)
           ∙ sym (grow-longer (n - 1) (suc k - n) s x) ∙ ap (λ (i : ℕ). grow (secondRule limit granules) i s) (sym (t .all))
           ∙ sym (grow-step v s k (rule ∙ ap (λ (b : Bool). cond b (grown s) noSlot) e))

@@ -57,7 +57,8 @@ module _ (taken : ℕ → Bool) where
       rest : List ℕ
       rest = count (i + 1) n
 
-      go : (t : Bool) → taken i ≡ t → (stretch taken rest ≤ n) × Clear (i + 1) (stretch taken rest) → (stretch taken (i ∷ rest) ≤ suc n) × Clear i (stretch taken (i ∷ rest))
+      go : (t : Bool) → taken i ≡ t → (stretch taken rest ≤ n) × Clear (i + 1) (stretch taken rest) → (stretch taken (i ∷ rest) ≤ suc n) × Clear i
+          (stretch taken (i ∷ rest))
       go true e h = (omega (arith, stretch-taken i rest e), λ k a b. absurd (omega (arith, stretch-taken i rest e)))
       go false e h = (omega (arith, stretch-free i rest e, h .0), λ k a b. one k a b (ℕ-discrete k i))
         where
@@ -70,17 +71,24 @@ module _ (taken : ℕ → Bool) where
   stretch-all n i zero h f = omega arith
   stretch-all zero i (suc k) h f = absurd (let z : ⊥ = omega arith in z)
   stretch-all (suc n) i (suc k) h f =
-      omega (arith, stretch-free i (count (i + 1) n) (f i (omega arith) (omega arith)), stretch-all n (i + 1) k (omega arith) (λ j a b. f j (omega arith) (omega arith)))
+      omega (
+        arith,
+        stretch-free i (count (i + 1) n) (f i (omega arith) (omega arith)),
+        stretch-all n (i + 1) k (omega arith)
+            (λ j a b. f j (omega arith) (omega arith)),
+      )
 
   -- the longest is a stretch that there is, from its low end on
-  longest-there : (n i : ℕ) → (lowEnd taken (count i n) + longestIn taken (count i n) ≤ i + n) × Clear (lowEnd taken (count i n)) (longestIn taken (count i n))
+  longest-there : (n i : ℕ) → (lowEnd taken (count i n) + longestIn taken (count i n) ≤ i + n) × Clear (lowEnd taken (count i n))
+      (longestIn taken (count i n))
   longest-there zero i = (omega (arith, longest-none, low-none), λ k a b. absurd (omega (arith, longest-none, low-none)))
   longest-there (suc n) i = go (decLt (stretch taken (i ∷ rest)) (longestIn taken rest)) (longest-there n (i + 1))
     where
       rest : List ℕ
       rest = count (i + 1) n
 
-      go : Dec (stretch taken (i ∷ rest) < longestIn taken rest) → (lowEnd taken rest + longestIn taken rest ≤ i + 1 + n) × Clear (lowEnd taken rest) (longestIn taken rest)
+      go : Dec (stretch taken (i ∷ rest) < longestIn taken rest) → (lowEnd taken rest + longestIn taken rest ≤ i + 1 + n) × Clear (lowEnd taken rest)
+          (longestIn taken rest)
           → (lowEnd taken (i ∷ rest) + longestIn taken (i ∷ rest) ≤ i + suc n) × Clear (lowEnd taken (i ∷ rest)) (longestIn taken (i ∷ rest))
       go (yes l) h =
           let e : longestIn taken (i ∷ rest) ≡ longestIn taken rest = longest-cons i rest ∙ omega arith in

@@ -93,7 +93,8 @@ module _ (limit granules : ℕ) {D : Type 0} (view : D → State) (Ok : ℕ → 
   any-choice l r zero d d′ o e = Back.nothing limit granules (view d)
   any-choice l r (suc k) d d′ o e = go (one d) refl e (any-choice l r k)
     where
-      go : (t : Grown D) → one d ≡ t → andThen t (grow one k) ≡ grown d′ → ((d₁ d₂ : D) → Ok k d₁ → grow one k d₁ ≡ grown d₂ → Choice limit granules (view d₁) k)
+      go : (t : Grown D) → one d ≡ t → andThen t (grow one k) ≡ grown d′ →
+          ((d₁ d₂ : D) → Ok k d₁ → grow one k d₁ ≡ grown d₂ → Choice limit granules (view d₁) k)
           → Choice limit granules (view d) (suc k)
       go (grown d₁) q e ih = let x = r .goes k d d₁ o q in Back.back limit granules l (x .1) (ih d₁ d′ (x .0) e)
       go noSlot q e ih = absurd (apart d′ (sym e))

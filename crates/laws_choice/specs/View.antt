@@ -41,7 +41,8 @@ last-some (suc n) first many h = refl
 last-is : (g : Geometry) (p : ℕ) (d : List ℕ) (e r first many : ℕ) → tail g p d ≡ e → runs g d e ≡ suc r → runStart g d e r ≡ first → runLength g d e r ≡ many
     → view g p d .last ≡ lastRun (record { first = first; many = many })
 last-is g p d e r first many t a b c =
-    last-some (runs g d (tail g p d)) (runStart g d (tail g p d) (runs g d (tail g p d) - 1)) (runLength g d (tail g p d) (runs g d (tail g p d) - 1)) (omega (arith, x))
+    last-some (runs g d (tail g p d)) (runStart g d (tail g p d) (runs g d (tail g p d) - 1)) (runLength g d (tail g p d) (runs g d (tail g p d) - 1))
+    (omega (arith, x))
     ∙ ap₂ (λ (i n : ℕ). lastRun (record { first = i; many = n }))
     (ap₂ (λ (s k : ℕ). runStart g d s k) t y ∙ b) (ap₂ (λ (s k : ℕ). runLength g d s k) t y ∙ c)
   where
@@ -78,7 +79,11 @@ module _ (g : Geometry) (p : ℕ) (d : List ℕ) where
       search Members.and-i depth 5
 
   last-run : 1 ≤ runs g d (tail g p d)
-      → view g p d .last ≡ lastRun (record { first = runStart g d (tail g p d) (runs g d (tail g p d) - 1); many = runLength g d (tail g p d) (runs g d (tail g p d) - 1) })
+      → view g p d .last ≡ lastRun (record {
+        first = runStart g d (tail g p d) (runs g d (tail g p d) - 1);
+        many = runLength g d (tail g p d)
+            (runs g d (tail g p d) - 1);
+      })
   last-run h = last-some (runs g d (tail g p d)) _ _ h
 
   spare-none : (n first many : ℕ) → 0 < spare 32 (lastOf n first many) → (1 ≤ n) × (many < 32)
@@ -120,7 +125,8 @@ module _ (g : Geometry) (p : ℕ) (d : List ℕ) where
           let u = ap (λ (x : Run). x .first) (s .1) in let w = ap (λ (x : Run). x .many) (s .1) in
           let m = Change.members g d c p e f (Change.tail-in g d c p f) in
           let i : In n (entryGranules g d e) =
-          Members.in-each (runGranules g d e) (Members.in-count k 0 (runs g d e) (omega arith) (omega (arith, s .0))) (Members.in-count n (runStart g d e k) (runLength g d e k) (omega arith) (omega arith)) in
+          Members.in-each (runGranules g d e) (Members.in-count k 0 (runs g d e) (omega arith) (omega (arith, s .0)))
+          (Members.in-count n (runStart g d e k) (runLength g d e k) (omega arith) (omega arith)) in
           Members.false-no (x .clear) (Change.entry-at g d c e (m .slot) (m .used) .gat n i)
 
 -- a granule taken, in both ways of saying it
@@ -156,7 +162,8 @@ module _ (g : Geometry) (d : List ℕ) (c : Sound g d) (k : Places.Fits g d) (p 
       }
 
   -- a new run in the last entry
-  view-paired : (n : ℕ) → n < granules g → (T (taken g d n) → ⊥) → runs g d e < 4 → Starts 32 (granules g) (view g p d) (view g p (withPair g d e (runs g d e) n)) n
+  view-paired : (n : ℕ) → n < granules g → (T (taken g d n) → ⊥) → runs g d e < 4 → Starts 32 (granules g) (view g p d)
+      (view g p (withPair g d e (runs g d e) n)) n
   view-paired n i u few =
       let d′ = withPair g d e (runs g d e) n in
       let w = Take.paired-grows g d c k p f n few i u in
@@ -180,7 +187,8 @@ module _ (g : Geometry) (d : List ℕ) (c : Sound g d) (k : Places.Fits g d) (p 
       let t : tail g p d′ ≡ x = ap (lastOr p) (Extend.extends-chain g d d′ c p f x n w) ∙ last-snoc p x (chain g d p) in
       let a = Extend.runs-new g d d′ c p f x n w in
       let q : runs g d′ (tail g p d′) ≡ 1 = ap (runs g d′) t ∙ a in
-      let z = FreeSlots.slots-less g d d′ (w .above) x j (λ q. Change.used-hit g d c p (f .slot) (Facts.file-in-use g d p f) (sym (w .hit-new) ∙ q)) (w .hits) in
+      let z = FreeSlots.slots-less g d d′ (w .above) x j (λ q. Change.used-hit g d c p (f .slot) (Facts.file-in-use g d p f) (sym (w .hit-new) ∙ q)) (w .hits)
+      in
       record {
         takes = takes-is g p d d′ n (w .inside) (w .free) (w .set′) (w .keeps);
         has = last-is g p d′ x 0 n 1 t a (Extend.start-new g d d′ c p f x n w) (Extend.length-new g d d′ c p f x n w);
@@ -194,7 +202,8 @@ module _ (g : Geometry) (d : List ℕ) (c : Sound g d) (k : Places.Fits g d) (p 
     starts : {d′ : List ℕ} → (T (lengthens g p d) → ⊥) → Starts 32 (granules g) (view g p d) (view g p d′) n → Took n (grown d′)
     none : (T (lengthens g p d) → ⊥) → view g p d .room ≡ 0 → Took n noSlot
 
-  into : (n : ℕ) → n < granules g → (T (taken g d n) → ⊥) → (T (lengthens g p d) → ⊥) → runs g d e ≡ 4 → (xs : List ℕ) → freeSlots g d ≡ xs → Took n (extended g p xs d e n)
+  into : (n : ℕ) → n < granules g → (T (taken g d n) → ⊥) → (T (lengthens g p d) → ⊥) → runs g d e ≡ 4 → (xs : List ℕ) → freeSlots g d ≡ xs → Took n
+      (extended g p xs d e n)
   unfolding extended
   into n i u a full [] q = none a (omega (arith, full, ap length q))
   into n i u a full (x ∷ xs) q = starts a (view-extended x n (rw q Members.In.here) i u full)

@@ -59,7 +59,8 @@ one-bit (suc u) b =
     let e : bitAnd b (2 ^ suc u) ≡ bitAnd (b / 2) (2 ^ u) * 2 =
     ap (λ (x : ℕ). bitAnd x (2 ^ suc u)) (halves b) ∙ ap (λ (x : ℕ). bitAnd (b / 2 * 2 ^ 1 + b % 2) x) (twice u)
     ∙ and-block 1 (b / 2) (2 ^ u) (b % 2) 0 (omega arith) (omega arith)
-    ∙ ap (λ (x : ℕ). bitAnd (b / 2) (2 ^ u) * 2 ^ 1 + x) (and-zero-r (b % 2)) ∙ (let z : bitAnd (b / 2) (2 ^ u) * 2 ^ 1 + 0 ≡ bitAnd (b / 2) (2 ^ u) * 2 = omega arith in z) in
+    ∙ ap (λ (x : ℕ). bitAnd (b / 2) (2 ^ u) * 2 ^ 1 + x) (and-zero-r (b % 2)) ∙
+    (let z : bitAnd (b / 2) (2 ^ u) * 2 ^ 1 + 0 ≡ bitAnd (b / 2) (2 ^ u) * 2 = omega arith in z) in
     let ih = one-bit u (b / 2) in
     omega arith
 

@@ -52,7 +52,8 @@ same-split zero n s t h k = rw (zero-add n) refl
 same-split (suc m) n [] t h k = absurd (let z : ⊥ = omega arith in z)
 same-split (suc m) n (x ∷ xs) [] h k = absurd (let z : ⊥ = omega arith in z)
 same-split (suc m) n (x ∷ xs) (y ∷ ys) h k =
-    rw (suc-add m n) (ap (λ (b : Bool). eqb x y && b) (same-split m n xs ys (omega arith) (omega arith)) ∙ sym (and-assoc (eqb x y) (same (take m xs) (take m ys)) (same (take n (drop m xs)) (take n (drop m ys)))))
+    rw (suc-add m n) (ap (λ (b : Bool). eqb x y && b) (same-split m n xs ys (omega arith) (omega arith)) ∙ sym
+    (and-assoc (eqb x y) (same (take m xs) (take m ys)) (same (take n (drop m xs)) (take n (drop m ys)))))
 
 -- equal numbers are equal bytes
 same-number : (n : ℕ) (s t : List ℕ) → n ≤ length s → n ≤ length t → ((i : ℕ) → getD s i 0 < 256) → ((i : ℕ) → getD t i 0 < 256)
@@ -61,13 +62,18 @@ unfolding number
 same-number zero s t h k a b = refl
 same-number (suc n) [] t h k a b = absurd (let z : ⊥ = omega arith in z)
 same-number (suc n) (x ∷ xs) [] h k a b = absurd (let z : ⊥ = omega arith in z)
-same-number (suc n) (x ∷ xs) (y ∷ ys) h k a b = by (ℕ-discrete x y) (ℕ-discrete (number (take n xs)) (number (take n ys))) (same-number n xs ys (omega arith) (omega arith) (λ i. a (suc i)) (λ i. b (suc i)))
+same-number (suc n) (x ∷ xs) (y ∷ ys) h k a b = by (ℕ-discrete x y) (ℕ-discrete (number (take n xs)) (number (take n ys)))
+    (same-number n xs ys (omega arith) (omega arith) (λ i. a (suc i)) (λ i. b (suc i)))
   where
     by : Dec (x ≡ y) → Dec (number (take n xs) ≡ number (take n ys)) → same (take n xs) (take n ys) ≡ eqb (number (take n xs)) (number (take n ys))
         → (eqb x y && same (take n xs) (take n ys)) ≡ eqb (x + 256 * number (take n xs)) (y + 256 * number (take n ys))
     by (yes p) (yes q) e = simp (e, eq-eqb x y p, eq-eqb _ _ q, eq-eqb (x + 256 * number (take n xs)) (y + 256 * number (take n ys)) (omega arith))
     by (yes p) (no q) e = simp (e, eq-eqb x y p, ne-eqb _ _ q, ne-eqb (x + 256 * number (take n xs)) (y + 256 * number (take n ys)) (λ z. q (omega arith)))
-    by (no p) q e = simp (ne-eqb x y p, ne-eqb (x + 256 * number (take n xs)) (y + 256 * number (take n ys)) (λ z. let u = a 0 in let v = b 0 in p (omega arith)))
+    by (no p) q e = simp (
+      ne-eqb x y p,
+      ne-eqb (x + 256 * number (take n xs)) (y + 256 * number (take n ys))
+          (λ z. let u = a 0 in let v = b 0 in p (omega arith)),
+    )
 
 -- a name of eleven bytes: eight, then three
 pub name-numbers : (d n : List ℕ) (at : ℕ) → at + 11 ≤ length d → length n ≡ 11 → ((i : ℕ) → getD d i 0 < 256) → ((i : ℕ) → getD n i 0 < 256)
@@ -77,7 +83,11 @@ name-numbers d n at h k a b =
     let l = length-drop at d in let q = length-drop (at + 8) d in let r = length-drop 8 n in
     ap (same (take 11 (drop at d))) (sym (take-all 11 n (omega arith))) ∙ same-split 8 3 (drop at d) n (omega arith) (omega arith)
     ∙ ap (λ (l : List ℕ). same (take 8 (drop at d)) (take 8 n) && same (take 3 l) (take 3 (drop 8 n))) (drop-drop 8 at d)
-    ∙ simp (same-number 8 (drop at d) n (omega arith) (omega arith) (from d a at) b, same-number 3 (drop (at + 8) d) (drop 8 n) (omega arith) (omega arith) (from d a (at + 8)) (from n b 8))
+    ∙ simp (
+      same-number 8 (drop at d) n (omega arith) (omega arith) (from d a at) b,
+      same-number 3 (drop (at + 8) d) (drop 8 n) (omega arith) (omega arith)
+          (from d a (at + 8)) (from n b 8),
+    )
   where
     from : (s : List ℕ) → ((i : ℕ) → getD s i 0 < 256) → (j i : ℕ) → getD (drop j s) i 0 < 256
     from s f j i = rw (getD-drop j s i 0) (f (j + i))

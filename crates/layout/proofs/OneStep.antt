@@ -10,7 +10,8 @@ use lib.Seq.{drop-cons}
 use lib.Dec.{eqb, leb}
 use borrow.Author.Tests.{le-leb, lt-leb, eq-eqb, ne-eqb, eqb-true}
 use Rattle.meaning.specs.Lists.{same, all, count, has}
-use Rattle.meaning.specs.Layout.{granuleSizes, granules, fitsGeometry, field, entryAt, granuleBytes, granuleSectors, sectors, mostBlocks, mostUnits, mostGranules}
+use Rattle.meaning.specs.Layout.{granuleSizes, granules, fitsGeometry, field, entryAt, granuleBytes, granuleSectors, sectors, mostBlocks, mostUnits}
+use Rattle.meaning.specs.Layout.{mostGranules}
 use Rattle.meaning.specs.Bits.{digit}
 use Rattle.meaning.specs.Entries.{runsFrom, block, nameOf}
 use Rattle.meaning.specs.Names.{wellFormed}
@@ -78,7 +79,8 @@ fives {n} a b = go (eqb n 5) refl
     go false e = rw (e, ne-eqb _ _ a, ne-eqb _ _ b) refl
 
 -- The geometry's tests where those of the size, of blocks and units passed, over numbers that are the geometry's own.
-module _ (g : Geometry) (d : List ℕ) (z : has granuleSizes (g .granule) ≡ true) (a : 1 ≤ g .blocks) (b : g .blocks ≤ mostBlocks) (c : 1 ≤ g .units) (e : g .units ≤ mostUnits)
+module _ (g : Geometry) (d : List ℕ) (z : has granuleSizes (g .granule) ≡ true) (a : 1 ≤ g .blocks) (b : g .blocks ≤ mostBlocks) (c : 1 ≤ g .units)
+    (e : g .units ≤ mostUnits)
     {w : ℕ} (p : w ≡ granuleSectors g) where
   pub fits-start : (g .start % w ≡ 0 → ⊥) → false ≡ fitsGeometry g d
   unfolding fitsGeometry all

@@ -32,7 +32,8 @@ module _ (g : Geometry) (d : List ℕ) where
   pub name-is : (s : ℕ) → entryAt g s + 16 ≤ length d → take 11 (drop (entryAt g s + 5) d) ≡ nameOf g d s
   name-is s h = same-eq _ _ (subst (λ (b : Bool). T b) (name-at g d (nameOf g d s) s h) (same-refl (nameOf g d s)))
 
-  pub told-is : (s : ℕ) {size granules : ℕ} {name : List ℕ} {c : Refusal} → c ≡ unplaced 0 → name ≡ nameOf g d s → size ≡ sizeOf g d s → granules ≡ length (owned g d s)
+  pub told-is : (s : ℕ) {size granules : ℕ} {name : List ℕ} {c : Refusal} → c ≡ unplaced 0 → name ≡ nameOf g d s → size ≡ sizeOf g d s → granules ≡ length
+      (owned g d s)
       → _≡_ {A = Listed} (record { refusal = c; more = true; name = name; size = size; granules = granules }) (tellFirst g d (s ∷ []))
   unfolding tellFirst
   told-is s q e f h = rw (e, f, h, q)
@@ -56,11 +57,13 @@ module _ (g : Geometry) (d : List ℕ) where
   unfolding rest
   rest-end h = ap (λ (l : List ℕ). keep (shown g d) (keep (inUsePrimary g d) l)) (slots-end g d h)
 
-  keep-two : (s : ℕ) (l : List ℕ) → keep (shown g d) (keep (inUsePrimary g d) (s ∷ l)) ≡ cond (Tells s) (s ∷ keep (shown g d) (keep (inUsePrimary g d) l)) (keep (shown g d) (keep (inUsePrimary g d) l))
+  keep-two : (s : ℕ) (l : List ℕ) → keep (shown g d) (keep (inUsePrimary g d) (s ∷ l)) ≡ cond (Tells s) (s ∷ keep (shown g d) (keep (inUsePrimary g d) l))
+      (keep (shown g d) (keep (inUsePrimary g d) l))
   unfolding all
   keep-two s l = by (inUsePrimary g d s) refl (shown g d s) refl
     where
-      by : (a : Bool) → inUsePrimary g d s ≡ a → (b : Bool) → shown g d s ≡ b → keep (shown g d) (keep (inUsePrimary g d) (s ∷ l)) ≡ cond (Tells s) (s ∷ keep (shown g d) (keep (inUsePrimary g d) l)) (keep (shown g d) (keep (inUsePrimary g d) l))
+      by : (a : Bool) → inUsePrimary g d s ≡ a → (b : Bool) → shown g d s ≡ b → keep (shown g d) (keep (inUsePrimary g d) (s ∷ l)) ≡ cond (Tells s)
+          (s ∷ keep (shown g d) (keep (inUsePrimary g d) l)) (keep (shown g d) (keep (inUsePrimary g d) l))
       by true e true f = simp (e, f)
       by true e false f = simp (e, f)
       by false e b f = simp e
@@ -110,7 +113,8 @@ module _ (g : Geometry) (d : List ℕ) where
         let q : left ≡ suc left - 1 = omega arith in
         record { ahead = t .ahead ∙ ap (drop (suc left)) (rest-yes l e h y) ∙ ap (λ (k : ℕ). drop k (rest (s + 1))) q }
 
-    pub telling-here : {i left : ℕ} → s % 32 < columns → Tells s ≡ true → left ≡ 0 → Telling i left s → tellFirst g d (s ∷ []) ≡ tellFirst g d (drop i (listed g d))
+    pub telling-here : {i left : ℕ} → s % 32 < columns → Tells s ≡ true → left ≡ 0 → Telling i left s → tellFirst g d (s ∷ []) ≡ tellFirst g d
+        (drop i (listed g d))
     unfolding tellFirst
     telling-here h y z t = sym (ap (tellFirst g d) (t .ahead ∙ ap (λ (k : ℕ). drop k (rest s)) z ∙ rest-yes l e h y))
 
@@ -118,7 +122,10 @@ module _ (g : Geometry) (d : List ℕ) where
     counting-past {n} h t = record { ahead = t .ahead ∙ ap (λ (r : List ℕ). n + length r) (rest-past l e h) }
 
     pub counting-no : {n m : ℕ} → s % 32 < columns → Tells s ≡ false → m ≡ n → Counting n s → Counting m (s + 1)
-    counting-no {n} h k q t = record { ahead = t .ahead ∙ ap (λ (r : List ℕ). n + length r) (rest-no l e h k) ∙ ap (λ (j : ℕ). j + length (rest (s + 1))) (sym q) }
+    counting-no {n} h k q t = record {
+      ahead = t .ahead ∙ ap (λ (r : List ℕ). n + length r) (rest-no l e h k) ∙ ap (λ (j : ℕ). j + length (rest (s + 1)))
+          (sym q);
+    }
 
     pub counting-yes : {n m : ℕ} → s % 32 < columns → Tells s ≡ true → m ≡ n + 1 → Counting n s → Counting m (s + 1)
     counting-yes {n} h k q t =

@@ -28,7 +28,8 @@ use Rattle.listing.proofs.Files.{Tells, rest, rest-start, rest-end, res
 
 module _ (g : Geometry) (d : List ℕ) where
   -- a row in two parts: the name, then the numbers
-  pub row-put : (t : List ℕ) (to s : ℕ) {t₁ t₂ name : List ℕ} {size granules : ℕ} → name ≡ nameOf g d s → size ≡ sizeOf g d s → granules ≡ length (owned g d s)
+  pub row-put : (t : List ℕ) (to s : ℕ) {t₁ t₂ name : List ℕ} {size granules : ℕ} → name ≡ nameOf g d s → size ≡ sizeOf g d s → granules ≡ length
+      (owned g d s)
       → t₁ ≡ sets t to name → t₂ ≡ sets t₁ (to + 11) (lowFirst 1 s ++ (lowFirst 4 size ++ (lowFirst 2 granules ++ (0 ∷ 0 ∷ [])))) → t₂ ≡ sets t to (row g d s)
   unfolding row tellFirst nameOf
   row-put t to s {t₁} {t₂} {name} {size} {granules} n z o e f =
@@ -114,7 +115,8 @@ module _ (g : Geometry) (d : List ℕ) where
         let q : left ≡ suc left - 1 = omega arith in
         record {
           done = r .done;
-          ahead = r .ahead ∙ ap (λ (x : List ℕ). r .done ++ drop (suc left) x) (rest-yes g d l e h k) ∙ ap (λ (j : ℕ). r .done ++ drop j (rest g d (s + 1))) q;
+          ahead = r .ahead ∙ ap (λ (x : List ℕ). r .done ++ drop (suc left) x) (rest-yes g d l e h k) ∙ ap (λ (j : ℕ). r .done ++ drop j (rest g d (s + 1)))
+              q;
           many = r .many;
           here = r .here;
           fits = r .fits;

@@ -7,7 +7,8 @@ use mathlib.Core.Bool.{Bool, true, false, cond}
 use lib.Dec.{eqb}
 use borrow.Author.Tests.{eqb-true}
 use native.Mathlib.Omega.{arith}
-use native.Mathlib.Nat.{add-zero, div-add-mod, mod-lt, div-lt-iff-lt-mul, le-div-iff-mul-le, mul-add-div, mul-add-mod-self-left, div-eq-of-lt, mod-eq-of-lt, mul-sub, div-le-of-le-mul, mul-le-mul, mul-le-mul-left, le-of-mul-le-mul-left, lt-of-mul-lt-mul-left, mul-pos}
+use native.Mathlib.Nat.{add-zero, div-add-mod, mod-lt, div-lt-iff-lt-mul, le-div-iff-mul-le, mul-add-div, mul-add-mod-self-left, div-eq-of-lt, mod-eq-of-lt}
+use native.Mathlib.Nat.{mul-sub, div-le-of-le-mul, mul-le-mul, mul-le-mul-left, le-of-mul-le-mul-left, lt-of-mul-lt-mul-left, mul-pos}
 use Rattle.meaning.specs.Lists.{has}
 use Rattle.meaning.specs.Layout.{granuleSizes, granuleSectors, granuleBytes, granules, sectors, mostGranules, highest, sectorNumbers, roundUp, granulesFor}
 use Rattle.meaning.specs.declared.Geometry.{Geometry}

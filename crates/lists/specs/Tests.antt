@@ -156,7 +156,8 @@ module _ {A : Type 0} where
   every-keep p q [] h = refl
   every-keep p q (x ∷ xs) h = by (λ w. every-keep p q xs w) (q x) refl
     where
-      by : (every p (keep q xs) ≡ true → every (λ x. any (not (q x) ∷ p x ∷ [])) xs ≡ true) → (t : Bool) → q x ≡ t → (any (not (q x) ∷ p x ∷ []) && every (λ x. any (not (q x) ∷ p x ∷ [])) xs) ≡ true
+      by : (every p (keep q xs) ≡ true → every (λ x. any (not (q x) ∷ p x ∷ [])) xs ≡ true) → (t : Bool) → q x ≡ t →
+          (any (not (q x) ∷ p x ∷ []) && every (λ x. any (not (q x) ∷ p x ∷ [])) xs) ≡ true
       by ih true e =
           let h′ : (p x && every p (keep q xs)) ≡ true = ap (every p) (sym (keep-yes q e xs)) ∙ h in
           simp (e, and-l (p x) (every p (keep q xs)) h′) (ih (and-r (p x) (every p (keep q xs)) h′))

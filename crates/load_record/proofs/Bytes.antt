@@ -40,7 +40,8 @@ module _ (g : Geometry) (d : List ℕ) (s : ℕ) where
 
     pub byte-fits : (i : ℕ) → i < size → place g d s i < length d
     byte-fits i l =
-        let q = place-fits g d s i 1 (p .file) (part i 1 (omega arith) (omega arith)) (record { inside = omega (arith, Sizes.split (Sizes.bytes-pos g) i .rest) }) in
+        let q = place-fits g d s i 1 (p .file) (part i 1 (omega arith) (omega arith))
+        (record { inside = omega (arith, Sizes.split (Sizes.bytes-pos g) i .rest) }) in
         omega arith
 
     -- n bytes from byte i on, taken from the file

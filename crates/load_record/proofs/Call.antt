@@ -121,16 +121,20 @@ module _ (g : Geometry) (d : List ℕ) (h : Handle) where
       refused-own {x} {c} f q y = same (own (ap (λ (t : NextRecord). t .number) f))
         where
           same : first (loadRefusals g d h (length b)) ≡ x .number
-              → _≡_ {A = Loaded × List ℕ} (record { refusal = c; kind = 0; address = 0; count = 0; position = x .position; handle = h }, b) (loadRecord g d h b)
-          same s = unfold loadRecord in rw (s, ne-eqb (x .number) 0 y, eq-eqb (x .number) (asked g d h .number) (ap (λ (t : NextRecord). t .number) f), q, ← f)
+              → _≡_ {A = Loaded × List ℕ} (record { refusal = c; kind = 0; address = 0; count = 0; position = x .position; handle = h }, b)
+              (loadRecord g d h b)
+          same s = unfold loadRecord in
+              rw (s, ne-eqb (x .number) 0 y, eq-eqb (x .number) (asked g d h .number) (ap (λ (t : NextRecord). t .number) f), q, ← f)
 
       pub handed-out : {x : NextRecord} {c : Refusal} {b′ : List ℕ} → x ≡ asked g d h → c ≡ refusal g d 0 → x .number ≡ 0
           → b′ ≡ take (x .count) (drop (x .from) (bytesOf g d (h .slot))) ++ drop (x .count) b
           → _≡_ {A = Loaded × List ℕ}
-          (record { refusal = c; kind = x .kind; address = x .address; count = x .count; position = x .position; handle = movedTo h (x .next) }, b′) (loadRecord g d h b)
+          (record { refusal = c; kind = x .kind; address = x .address; count = x .count; position = x .position; handle = movedTo h (x .next) }, b′)
+          (loadRecord g d h b)
       handed-out {x} {c} {b′} f q y t = same (own (sym y ∙ ap (λ (v : NextRecord). v .number) f))
         where
           same : first (loadRefusals g d h (length b)) ≡ 0
               → _≡_ {A = Loaded × List ℕ}
-              (record { refusal = c; kind = x .kind; address = x .address; count = x .count; position = x .position; handle = movedTo h (x .next) }, b′) (loadRecord g d h b)
+              (record { refusal = c; kind = x .kind; address = x .address; count = x .count; position = x .position; handle = movedTo h (x .next) }, b′)
+              (loadRecord g d h b)
           same s = unfold loadRecord in rw (s, t, q, ← f, y)

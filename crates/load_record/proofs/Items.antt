@@ -11,7 +11,8 @@ use borrow.Author.Tests.{le-leb, lt-leb, lt-ltb, le-ltb, eq-eqb, ne-eqb, ltb-fal
 use Rattle.meaning.specs.Lists.{any}
 use Rattle.meaning.specs.Refusals.{first, accepted}
 use Rattle.lists.specs.Tests.{first-hit, first-skip, first-none, first-at, not-yes, not-no, is-yes, is-no, any-skip, any-one, not-both}
-use Rattle.load.specs.Records.{dataCode, startCode, commentCode, isCode, dataBytes, follows, badCount, codeAt, countAt, endOf, itemRefusals, positionOf, itemAt}
+use Rattle.load.specs.Records.{dataCode, startCode, commentCode, isCode, dataBytes, follows, badCount, codeAt, countAt, endOf, itemRefusals, positionOf}
+use Rattle.load.specs.Records.{itemAt}
 use Rattle.load.specs.declared.Item.{Item}
 use Rattle.load_record.specs.Program.{broken, Looked}
 
@@ -96,7 +97,8 @@ module _ (bs : List ℕ) (i : ℕ) where
             unfolding positionOf
             cut-off m o =
                 let x : length bs < endOf bs i = omega (arith, rest-is, e, m) in
-                stopped (first-skip here _ _ ∙ first-skip known-code _ _ ∙ first-skip counted _ _ ∙ first-skip (judged v w) _ _ ∙ first-hit (lt-ltb _ _ x) _ _)
+                stopped (first-skip here _ _ ∙ first-skip known-code _ _ ∙ first-skip counted _ _ ∙ first-skip (judged v w) _ _ ∙ first-hit (lt-ltb _ _ x) _
+                _)
                 (λ z. omega arith) e o
 
             pub there : i + 2 + rest ≤ size → rest ≤ 257 → Looked bs i (record { number = 0; position = 0; code = c; rest = rest })

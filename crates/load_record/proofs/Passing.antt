@@ -65,7 +65,8 @@ module _ (bs : List ℕ) (i : ℕ) where
         let n = none-there bs p l z in
         record { is = same (n .0) (n .1); few = omega arith; inside = λ e. absurd (z e) }
       where
-        same : x .code ≡ 0 → x .rest ≡ 0 → record { number = x .number; position = x .position; kind = 0; address = 0; from = p + 4; count = 0; next = i } ≡ toldAt bs i p
+        same : x .code ≡ 0 → x .rest ≡ 0 → record { number = x .number; position = x .position; kind = 0; address = 0; from = p + 4; count = 0; next = i } ≡
+            toldAt bs i p
         same c r = unfold toldAt in rw (← l .is, ne-eqb (x .number) 0 z, c, r)
 
     pub told-one : {address next : ℕ} → x .number ≡ 0 → (x .code ≡ commentCode → ⊥) → address ≡ getD bs (p + 2) 0 + 256 * getD bs (p + 3) 0
@@ -76,5 +77,6 @@ module _ (bs : List ℕ) (i : ℕ) where
         let w = whole bs p l z in let m = w .inside in let t = w .two c in let f = l .few in
         record { is = same; few = omega arith; inside = λ e. omega arith }
       where
-        same : record { number = x .number; position = x .position; kind = x .code; address = address; from = p + 4; count = x .rest - 2; next = next } ≡ toldAt bs i p
+        same : record { number = x .number; position = x .position; kind = x .code; address = address; from = p + 4; count = x .rest - 2; next = next } ≡
+            toldAt bs i p
         same = unfold toldAt in rw (← l .is, z, a, n)

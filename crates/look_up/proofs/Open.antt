@@ -20,7 +20,8 @@ module _ (g : Geometry) (d n : List ℕ) (len : ℕ) (checking : Bool) (code : �
   pub level-full : (s : ℕ) {level : ℕ} → level ≡ 0 → full g d s checking code ≡ true → level ≡ cond (full g d s checking code) 0 (accessLevel g d s)
   level-full s e h = e ∙ sym (ap (λ (b : Bool). cond b 0 (accessLevel g d s)) h)
 
-  pub level-stored : (s : ℕ) {level : ℕ} → level ≡ accessLevel g d s → full g d s checking code ≡ false → level ≡ cond (full g d s checking code) 0 (accessLevel g d s)
+  pub level-stored : (s : ℕ) {level : ℕ} → level ≡ accessLevel g d s → full g d s checking code ≡ false → level ≡ cond (full g d s checking code) 0
+      (accessLevel g d s)
   level-stored s e h = e ∙ sym (ap (λ (b : Bool). cond b 0 (accessLevel g d s)) h)
 
   pub opened : {s level : ℕ} {m : List ℕ} → m ≡ n → level ≡ cond (full g d s checking code) 0 (accessLevel g d s)

@@ -86,7 +86,8 @@ module _ (g : Geometry) (d : List ℕ) where
   protected most h = (6, any (ltb most (h .level) ∷ Entries.system g d (h .slot) ∷ []))
 
   -- 11: E set and more granules needed than owned. 9: more further granules needed than are free. 8: the growth finds no
-  -- slot, which is to say that no choice of free granules fits the pairs and permitted slots left (02 §13; promises: Fitting). Here k further granules are needed.
+  -- slot, which is to say that no choice of free granules fits the pairs and permitted slots left (02 §13; promises: Fitting). Here k
+  -- further granules are needed.
   abbrev pub cannotGrow : ℕ → ℕ → List (ℕ × Bool)
   cannotGrow s k =
       (11, all (Entries.noGrowth g d s ∷ ltb 0 k ∷ [])) ∷ (9, ltb (length (Free.freeGranules g d)) k)

@@ -102,7 +102,8 @@ unfolding opened
 too-large = refl
 
 -- 19 before 20: LEER is in use, and granule 3 is taken
-name-in-use : bringBack three (written (changed gone ((1, 0x01) ∷ [])) (eA3 + 5) leer) 0xa3 ≡ (refused 19, written (changed gone ((1, 0x01) ∷ [])) (eA3 + 5) leer)
+name-in-use : bringBack three (written (changed gone ((1, 0x01) ∷ [])) (eA3 + 5) leer) 0xa3 ≡
+    (refused 19, written (changed gone ((1, 0x01) ∷ [])) (eA3 + 5) leer)
 unfolding opened
 name-in-use = refl
 

@@ -8,12 +8,14 @@ use Rattle.meaning_table.specs.Samples.{puls, small, opened}
 use Rattle.meaning_facts.specs.Disks.{mixed}
 
 -- puls01__dat and Puls01__Dat are PULS01/DAT, as PULS01__DAT is
-none-bad : (comesIn puls ≡ record { place = 11; name = puls }) × (comesIn small ≡ record { place = 11; name = puls }) × (comesIn mixed ≡ record { place = 11; name = puls })
+none-bad : (comesIn puls ≡ record { place = 11; name = puls }) × (comesIn small ≡ record { place = 11; name = puls }) ×
+    (comesIn mixed ≡ record { place = 11; name = puls })
 unfolding opened
 none-bad = (refl, refl, refl)
 
 -- {|}________ has the three codes behind the letters
-none-bad-behind : comesIn (0x7b ∷ 0x7c ∷ 0x7d ∷ 0x20 ∷ 0x20 ∷ 0x20 ∷ 0x20 ∷ 0x20 ∷ 0x20 ∷ 0x20 ∷ 0x20 ∷ []) ≡ record { place = 11; name = 0x5b ∷ 0x5c ∷ 0x5d ∷ 0x20 ∷ 0x20 ∷ 0x20 ∷ 0x20 ∷ 0x20 ∷ 0x20 ∷ 0x20 ∷ 0x20 ∷ [] }
+none-bad-behind : comesIn (0x7b ∷ 0x7c ∷ 0x7d ∷ 0x20 ∷ 0x20 ∷ 0x20 ∷ 0x20 ∷ 0x20 ∷ 0x20 ∷ 0x20 ∷ 0x20 ∷ []) ≡ record
+    { place = 11; name = 0x5b ∷ 0x5c ∷ 0x5d ∷ 0x20 ∷ 0x20 ∷ 0x20 ∷ 0x20 ∷ 0x20 ∷ 0x20 ∷ 0x20 ∷ 0x20 ∷ [] }
 unfolding opened
 none-bad-behind = refl
 

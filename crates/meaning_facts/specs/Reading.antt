@@ -72,7 +72,8 @@ unfolding opened
 read-last-sector = refl
 
 -- with 2,817 bytes sector 10 is the first of the third granule owned, granule 2
-read-third-granule : readSector three (changed sample ((eA3 + 0x14, 12) ∷ [])) (held 0xa3 puls 0 1 5) 10 ≡ record { refusal = unplaced 0; from = 2560; to = 2816 }
+read-third-granule : readSector three (changed sample ((eA3 + 0x14, 12) ∷ [])) (held 0xa3 puls 0 1 5) 10 ≡ record
+    { refusal = unplaced 0; from = 2560; to = 2816 }
 unfolding opened
 read-third-granule = refl
 

@@ -1,4 +1,5 @@
--- A consistent disk (01), and the same disk with one fault for each sentence, judged inconsistent; which kind of fault it is, and of which slot (02 §2). Wherever 01 allows it a fault breaks its
+-- A consistent disk (01), and the same disk with one fault for each sentence, judged inconsistent; which kind of fault it is, and of which
+-- slot (02 §2). Wherever 01 allows it a fault breaks its
 -- own sentence and no other, so that a definition without that sentence would let it pass.
 use Prim.Native.Nat.{ℕ, _+_}
 use mathlib.Core.Path.{_≡_, refl}

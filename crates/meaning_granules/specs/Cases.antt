@@ -154,7 +154,8 @@ unfolding opened
 trim-2561 = refl
 
 -- byte 2,560 is in the second granule owned
-second-granule : (place ten two 0x80 2559 ≡ 7679) × (place ten (changed two ((e80 + 0x16, 0x01) ∷ (e80 + 0x17, 0x00) ∷ (e80 + 0x18, 0x02) ∷ (e80 + 0x19, 0x20) ∷ [])) 0x80 2560 ≡ 12800)
+second-granule : (place ten two 0x80 2559 ≡ 7679) × (place ten
+    (changed two ((e80 + 0x16, 0x01) ∷ (e80 + 0x17, 0x00) ∷ (e80 + 0x18, 0x02) ∷ (e80 + 0x19, 0x20) ∷ [])) 0x80 2560 ≡ 12800)
 unfolding opened
 second-granule = (refl, refl)
 

@@ -5,18 +5,21 @@ use mathlib.Core.Bool.{Bool, true}
 use lib.ListN.{length, replicate, set}
 use Rattle.meaning.specs.Lists.{all, any, firstOr, lastOr}
 use Rattle.meaning.specs.Bits.{digit, putDigit}
-use Rattle.meaning.specs.Layout.{granuleSectors, granuleBytes, granules, fitsGeometry, taken, takeGranule, freeGranule, hit, directorySectors, isSlot, slots, field, setField}
+use Rattle.meaning.specs.Layout.{granuleSectors, granuleBytes, granules, fitsGeometry, taken, takeGranule, freeGranule, hit, directorySectors, isSlot, slots}
+use Rattle.meaning.specs.Layout.{field, setField}
 use Rattle.meaning.specs.Names.{wellFormed, fold, blanks, good, badPlace, hash}
 use Rattle.meaning.specs.Entries.{nameOf, sizeOf, runsFrom, runs, entryGranules}
 use Rattle.meaning.specs.Chain.{chainFrom, chain, owned, files, place}
-use Rattle.meaning.specs.Consistent.{lengthHolds, hitHolds, hashHolds, nameHolds, pairsHold, followsBy, linkHoldsBy, runsHold, gatHolds, sizeHolds, offDirectory, slotHolds, fileHolds, namesDiffer, met, consistent}
+use Rattle.meaning.specs.Consistent.{lengthHolds, hitHolds, hashHolds, nameHolds, pairsHold, followsBy, linkHoldsBy, runsHold, gatHolds, sizeHolds}
+use Rattle.meaning.specs.Consistent.{offDirectory, slotHolds, fileHolds, namesDiffer, met, consistent}
 use Rattle.meaning.specs.Free.{freeGranules, kept, permitted, freeSlot, freeSlots, reserved}
 use Rattle.meaning.specs.Growth.{andThen, orElse, fails, diskOr, lengthens, extended, takeOne, growBy, growth}
 use Rattle.meaning.specs.Drop.{unhooked, dropOne}
 use Rattle.meaning.specs.Refusals.{first, newInRange, check}
 use Rattle.meaning.specs.Handles.{goodLength, inRange, fresh}
 use Rattle.meaning.specs.Refusal.{beside, besideTwo}
-use Rattle.meaning.specs.Fault.{usedExtension, handsOn, ends, badEntry, walkFrom, walk, walked, metFrom, fileOf, goodExtension, hitFault, nameFault, duplicateFault, chainFault, runFault, gatFault, sharedFault, chainWhole, sizeFault, directoryFault, faultAt, lowest, fault}
+use Rattle.meaning.specs.Fault.{usedExtension, handsOn, ends, badEntry, walkFrom, walk, walked, metFrom, fileOf, goodExtension, hitFault, nameFault}
+use Rattle.meaning.specs.Fault.{duplicateFault, chainFault, runFault, gatFault, sharedFault, chainWhole, sizeFault, directoryFault, faultAt, lowest, fault}
 use Rattle.meaning.specs.LookUp.{candidates, carries, comparedIn, named, lookUp}
 use Rattle.meaning.specs.Open.{full, admits, open′}
 use Rattle.meaning.specs.Create.{create}
@@ -174,5 +177,13 @@ onePair =
 
 -- Every definition that is shut, opened by one name: `unfolding opened` computes through all of them.
 unfoldable pub opened : Bool
-unfolding all any firstOr lastOr digit putDigit granuleSectors granuleBytes granules fitsGeometry taken takeGranule freeGranule hit directorySectors isSlot slots field setField wellFormed fold blanks good badPlace hash nameOf sizeOf runsFrom runs entryGranules chainFrom chain owned files place lengthHolds hitHolds hashHolds nameHolds pairsHold followsBy linkHoldsBy runsHold gatHolds sizeHolds offDirectory slotHolds fileHolds namesDiffer met consistent usedExtension handsOn ends badEntry walkFrom walk walked metFrom fileOf goodExtension hitFault nameFault duplicateFault chainFault runFault gatFault sharedFault chainWhole sizeFault directoryFault faultAt lowest fault beside besideTwo freeGranules kept permitted freeSlot freeSlots andThen orElse fails diskOr lengthens extended takeOne growBy growth unhooked dropOne first goodLength inRange newInRange check fresh candidates carries comparedIn named lookUp full admits open′ create fetch readOf readSector store sizeAfter writeOf allot trim killEntry kill whole backEntry bringBack shown listed tellFirst list counts stretch longestIn lowEnd freeSpace digits slashed line listing fileAt foundIn plain bornAs overwritten writtenTo allottedTo trimmed backAs with′ reserved
+unfolding all any firstOr lastOr digit putDigit granuleSectors granuleBytes granules fitsGeometry taken takeGranule freeGranule hit directorySectors isSlot
+    slots field setField wellFormed fold blanks good badPlace hash nameOf sizeOf runsFrom runs entryGranules chainFrom chain owned files place lengthHolds
+    hitHolds hashHolds nameHolds pairsHold followsBy linkHoldsBy runsHold gatHolds sizeHolds offDirectory slotHolds fileHolds namesDiffer met consistent
+    usedExtension handsOn ends badEntry walkFrom walk walked metFrom fileOf goodExtension hitFault nameFault duplicateFault chainFault runFault gatFault
+    sharedFault chainWhole sizeFault directoryFault faultAt lowest fault beside besideTwo freeGranules kept permitted freeSlot freeSlots andThen orElse fails
+    diskOr lengthens extended takeOne growBy growth unhooked dropOne first goodLength inRange newInRange check fresh candidates carries comparedIn named
+    lookUp full admits open′ create fetch readOf readSector store sizeAfter writeOf allot trim killEntry kill whole backEntry bringBack shown listed tellFirst
+    list counts stretch longestIn lowEnd freeSpace digits slashed line listing fileAt foundIn plain bornAs overwritten writtenTo allottedTo trimmed backAs
+    with′ reserved
 opened = true

@@ -1,4 +1,5 @@
--- The hash is linear: exclusive-or of two values goes through its steps. What follows: a run of bytes turns a value as often as it is long and brings in what it
+-- The hash is linear: exclusive-or of two values goes through its steps. What follows: a run of bytes turns a value as often as it is long
+-- and brings in what it
 -- makes of 0.
 use mathlib.Core.Path.{_≡_, refl, sym, ap, _∙_, subst}
 use mathlib.Core.List.{List, [], _∷_}
@@ -187,7 +188,8 @@ three-run m x y z l p q r = run m (x ∷ y ∷ z ∷ []) l small
     small (suc (suc zero)) = r
     small (suc (suc (suc i))) = omega arith
 
-pub type-last : {c m : ℕ} (x y z : ℕ) → x < 256 → y < 256 → z < 256 → Beside c m (turns 5 (through mix 0 (x ∷ y ∷ z ∷ []))) → c % 32 * 8 + c / 32 ≡ through mix m (x ∷ y ∷ z ∷ [])
+pub type-last : {c m : ℕ} (x y z : ℕ) → x < 256 → y < 256 → z < 256 → Beside c m (turns 5 (through mix 0 (x ∷ y ∷ z ∷ []))) → c % 32 * 8 + c / 32 ≡ through
+    mix m (x ∷ y ∷ z ∷ [])
 type-last {c} {m} x y z p q r w =
     let t = through mix 0 (x ∷ y ∷ z ∷ []) in
     let cl : c < 256 = subst (λ (k : ℕ). k < 256) (sym (w .is)) (xor-lt 8 m (turns 5 t) (w .one) (w .other)) in
@@ -233,7 +235,8 @@ four-bytes m x y z u a b c d =
     ∙ ap (λ (k : ℕ). through mix m (0x20 ∷ 0x20 ∷ k ∷ u ∷ [])) c ∙ ap (λ (k : ℕ). through mix m (0x20 ∷ 0x20 ∷ 0x20 ∷ k ∷ [])) d
 
 pub short-bytes : (n : List ℕ) → length n ≡ 11 → fourBlanks n ≡ true
-    → through mix (through mix (through mix 0 (getD n 0 0 ∷ getD n 1 0 ∷ getD n 2 0 ∷ getD n 3 0 ∷ [])) (replicate 4 0x20)) (getD n 8 0 ∷ getD n 9 0 ∷ getD n 10 0 ∷ [])
+    → through mix (through mix (through mix 0 (getD n 0 0 ∷ getD n 1 0 ∷ getD n 2 0 ∷ getD n 3 0 ∷ [])) (replicate 4 0x20))
+    (getD n 8 0 ∷ getD n 9 0 ∷ getD n 10 0 ∷ [])
     ≡ through mix 0 n
 short-bytes n e s =
     let a4 = eqb-true (getD n 4 0) 0x20 (and-l _ _ s) in

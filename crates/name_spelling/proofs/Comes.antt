@@ -38,21 +38,25 @@ module _ {n : List ℕ} {r : Incoming} (h : Hands n r) where
 -- The loops -------------------------------------------------------------------------------------------------------------------
 
 module _ (n : List ℕ) (to i : ℕ) where
-  pub blanks-more : i < to → i < length n → eqb 0x20 (getD n i 0) ≡ true → i + blanks (take (to - i) (drop i n)) ≡ i + 1 + blanks (take (to - (i + 1)) (drop (i + 1) n))
+  pub blanks-more : i < to → i < length n → eqb 0x20 (getD n i 0) ≡ true → i + blanks (take (to - i) (drop i n)) ≡ i + 1 + blanks
+      (take (to - (i + 1)) (drop (i + 1) n))
   unfolding blanks
   blanks-more h l e =
-      ap (λ (xs : List ℕ). i + blanks xs) (part-more n to i h l) ∙ ap (λ (b : Bool). i + cond b (1 + blanks (take (to - (i + 1)) (drop (i + 1) n))) 0) e ∙ omega arith
+      ap (λ (xs : List ℕ). i + blanks xs) (part-more n to i h l) ∙ ap (λ (b : Bool). i + cond b (1 + blanks (take (to - (i + 1)) (drop (i + 1) n))) 0) e ∙
+      omega arith
 
   pub blanks-stop : i < to → i < length n → eqb 0x20 (getD n i 0) ≡ false → i + blanks (take (to - i) (drop i n)) ≡ i
   unfolding blanks
   blanks-stop h l e =
-      ap (λ (xs : List ℕ). i + blanks xs) (part-more n to i h l) ∙ ap (λ (b : Bool). i + cond b (1 + blanks (take (to - (i + 1)) (drop (i + 1) n))) 0) e ∙ omega arith
+      ap (λ (xs : List ℕ). i + blanks xs) (part-more n to i h l) ∙ ap (λ (b : Bool). i + cond b (1 + blanks (take (to - (i + 1)) (drop (i + 1) n))) 0) e ∙
+      omega arith
 
   pub blanks-end : to ≤ i → i + blanks (take (to - i) (drop i n)) ≡ i
   unfolding blanks
   blanks-end h = ap (λ (xs : List ℕ). i + blanks xs) (part-none n to i h) ∙ omega arith
 
-  pub good-more : i < to → i < length n → letter (getD n i 0) ≡ true → i + good (take (to - i) (drop i n)) ≡ i + 1 + good (take (to - (i + 1)) (drop (i + 1) n))
+  pub good-more : i < to → i < length n → letter (getD n i 0) ≡ true → i + good (take (to - i) (drop i n)) ≡ i + 1 + good
+      (take (to - (i + 1)) (drop (i + 1) n))
   unfolding good
   good-more h l e =
       let rest = take (to - (i + 1)) (drop (i + 1) n) in
@@ -95,7 +99,8 @@ module _ (n : List ℕ) where
       z ∙ sym (started l e ∙ ap (λ (b : Bool). cond b (good (take 8 n)) (8 + good (drop 8 n))) (lt-ltb (good (take 8 n)) 8 (omega arith)))
 
   -- the type is, or nothing
-  pub place-type : {k j : ℕ} → length n ≡ 11 → letter (getD n 0 0) ≡ true → k ≡ 0 + good (take (8 - 0) (drop 0 n)) → 8 ≤ k → j ≡ 8 + good (take (11 - 8) (drop 8 n)) → j ≡ badPlace n
+  pub place-type : {k j : ℕ} → length n ≡ 11 → letter (getD n 0 0) ≡ true → k ≡ 0 + good (take (8 - 0) (drop 0 n)) → 8 ≤ k → j ≡ 8 + good
+      (take (11 - 8) (drop 8 n)) → j ≡ badPlace n
   place-type {k} {j} l e q h w =
       let z : k ≡ good (take 8 n) = q ∙ zero-add (good (take 8 n)) in
       w ∙ ap (λ (xs : List ℕ). 8 + good xs) (type-part n l)
@@ -142,7 +147,8 @@ pub eleven : (n : List ℕ) → length n ≡ 11 → map foldByte (map (λ i. get
 unfolding fold
 eleven n l =
     ap (map foldByte)
-    (sym (ext-getD 0 n (map (λ i. getD n i 0) (count 0 11)) l (λ i h. sym (Members.map-count (λ i. getD n i 0) 0 11 i (omega (arith, h, l)) ∙ ap (λ (j : ℕ). getD n j 0) (zero-add i)))))
+    (sym (ext-getD 0 n (map (λ i. getD n i 0) (count 0 11)) l
+    (λ i h. sym (Members.map-count (λ i. getD n i 0) 0 11 i (omega (arith, h, l)) ∙ ap (λ (j : ℕ). getD n j 0) (zero-add i)))))
 
 -- The place that a refusal tells of ----------------------------------------------------------------------------------------------
 

@@ -59,7 +59,8 @@ abbrev fill : ℕ → ℕ → ℕ
 fill n c = number (replicate n c)
 
 -- all bytes at once
-tops : (xs : List ℕ) → ((i : ℕ) → getD xs i 0 < 256) → every plain xs ≡ true → bitAnd (number xs + fill (length xs) 0x5f) (fill (length xs) 0x80) ≡ number (map top xs)
+tops : (xs : List ℕ) → ((i : ℕ) → getD xs i 0 < 256) → every plain xs ≡ true → bitAnd (number xs + fill (length xs) 0x5f) (fill (length xs) 0x80) ≡ number
+    (map top xs)
 unfolding number
 tops [] b e = refl
 tops (x ∷ xs) b e =
@@ -68,7 +69,8 @@ tops (x ∷ xs) b e =
     let q : x + 256 * n + (0x5f + 256 * f) ≡ (n + f) * 2 ^ 8 + (x + 0x5f) = omega arith in
     let r : 0x80 + 256 * k ≡ k * 2 ^ 8 + 0x80 = omega arith in
     let z : bitAnd (n + f) k * 2 ^ 8 + top x ≡ top x + 256 * bitAnd (n + f) k = omega arith in
-    rw (q, r) (and-block 8 (n + f) k (x + 0x5f) 0x80 (low (byte-is x (b 0) (and-l (plain x) (every plain xs) e))) (omega arith) ∙ z ∙ ap (λ (y : ℕ). top x + 256 * y) ih)
+    rw (q, r) (and-block 8 (n + f) k (x + 0x5f) 0x80 (low (byte-is x (b 0) (and-l (plain x) (every plain xs) e))) (omega arith) ∙ z ∙ ap
+    (λ (y : ℕ). top x + 256 * y) ih)
   where
     low : Byte x → x + 0x5f < 2 ^ 8
     low (Byte.allowed p q r l) = omega arith
@@ -102,7 +104,8 @@ next (y ∷ ys) b e = by (byte-is y (b 0) (and-l (plain y) (every plain ys) e))
         Next.last (low ∙ ap top q) (ap (λ (t : Bool). cond t (padded ys) (every (eqb 0x20) (y ∷ ys))) (ap letter q))
 
 -- no allowed byte after a 20H
-in-order : (xs : List ℕ) → ((i : ℕ) → getD xs i 0 < 256) → every plain xs ≡ true → eqb (bitOr (number (map top xs) / 256) (number (map top xs))) (number (map top xs)) ≡ padded xs
+in-order : (xs : List ℕ) → ((i : ℕ) → getD xs i 0 < 256) → every plain xs ≡ true → eqb (bitOr (number (map top xs) / 256) (number (map top xs)))
+    (number (map top xs)) ≡ padded xs
 unfolding number
 in-order [] b e = refl
 in-order (x ∷ xs) b e =
@@ -155,7 +158,8 @@ begins x xs b e =
 
 -- the first eight bytes of a name
 pub eight-begins : (n : List ℕ) → length n ≡ 11 → ((i : ℕ) → getD n i 0 < 256) → every plain (take 8 n) ≡ true
-    → eqb (bitOr (bitOr (bitAnd (number (take 8 n) + 0x5f5f5f5f5f5f5f5f) 0x8080808080808080 / 256) 0x80) (bitAnd (number (take 8 n) + 0x5f5f5f5f5f5f5f5f) 0x8080808080808080))
+    → eqb (bitOr (bitOr (bitAnd (number (take 8 n) + 0x5f5f5f5f5f5f5f5f) 0x8080808080808080 / 256) 0x80)
+    (bitAnd (number (take 8 n) + 0x5f5f5f5f5f5f5f5f) 0x8080808080808080))
     (bitAnd (number (take 8 n) + 0x5f5f5f5f5f5f5f5f) 0x8080808080808080) ≡ (letter (getD n 0 0) && padded (take 8 n))
 eight-begins n h b e =
     let l : length (take 8 n) ≡ 8 = length-take-le 8 n (omega arith) in
@@ -167,7 +171,8 @@ eight-begins n h b e =
     ap (λ (y : ℕ). eqb (bitOr (bitOr (y / 256) 0x80) y) y) t ∙ eight n h (take-low 8 n b) e
   where
     eight : (n : List ℕ) → length n ≡ 11 → ((i : ℕ) → getD (take 8 n) i 0 < 256) → every plain (take 8 n) ≡ true
-        → eqb (bitOr (bitOr (number (map top (take 8 n)) / 256) 0x80) (number (map top (take 8 n)))) (number (map top (take 8 n))) ≡ (letter (getD n 0 0) && padded (take 8 n))
+        → eqb (bitOr (bitOr (number (map top (take 8 n)) / 256) 0x80) (number (map top (take 8 n)))) (number (map top (take 8 n))) ≡
+        (letter (getD n 0 0) && padded (take 8 n))
     eight [] h b e = absurd (let z : ⊥ = omega arith in z)
     eight (x ∷ xs) h b e = begins x (take 7 xs) b e
 
@@ -191,7 +196,8 @@ eight-room n h b e =
 
 -- each of the eight
 pub eight-each : (p : ℕ → Bool) (n : List ℕ) → length n ≡ 11 → every p (take 8 n)
-    ≡ (((((((p (getD n 0 0) && p (getD n 1 0)) && p (getD n 2 0)) && p (getD n 3 0)) && p (getD n 4 0)) && p (getD n 5 0)) && p (getD n 6 0)) && p (getD n 7 0))
+    ≡ (((((((p (getD n 0 0) && p (getD n 1 0)) && p (getD n 2 0)) && p (getD n 3 0)) && p (getD n 4 0)) && p (getD n 5 0)) && p (getD n 6 0)) && p
+    (getD n 7 0))
 eight-each p n h =
     step 7 0 (omega arith) ∙ ap (λ (t : Bool). p (getD n 0 0) && t) (step 6 1 (omega arith) ∙ ap (λ (t : Bool). p (getD n 1 0) && t) (step 5 2 (omega arith)
     ∙ ap (λ (t : Bool). p (getD n 2 0) && t) (step 4 3 (omega arith) ∙ ap (λ (t : Bool). p (getD n 3 0) && t) (step 3 4 (omega arith)
@@ -217,7 +223,8 @@ plain-of (x ∷ xs) e = by (λ w. plain-of xs w) (letter x) refl e
     or-true true = refl
     or-true false = refl
 
-    by : (padded xs ≡ true → every plain xs ≡ true) → (t : Bool) → letter x ≡ t → cond t (padded xs) (every (eqb 0x20) (x ∷ xs)) ≡ true → every plain (x ∷ xs) ≡ true
+    by : (padded xs ≡ true → every plain xs ≡ true) → (t : Bool) → letter x ≡ t → cond t (padded xs) (every (eqb 0x20) (x ∷ xs)) ≡ true → every plain (x ∷ xs)
+        ≡ true
     by ih true q w = ap (λ (t : Bool). (eqb x 0x20 || t) && every plain xs) q ∙ ap (λ (t : Bool). t && every plain xs) (or-true (eqb x 0x20)) ∙ ih w
     by ih false q w = blanks (x ∷ xs) w
 

@@ -102,7 +102,8 @@ module _ (g : Geometry) (d : List ℕ) where
 
   pub ranges : (h : Handle) → inRange g h ≡ true → (h .at ≤ 7864320) × (1 ≤ h .len) × (h .len ≤ 256) × (h .level ≤ 7)
   unfolding inRange
-  ranges h r = let l = length-range (h .len) (all-at _ r 1) in let a = leb-true _ (highest g) (all-at _ r 0) in (omega (arith, Sizes.bytes-are g, Sizes.sectors-most g), l .0, l .1, leb-true _ _ (all-at _ r 2))
+  ranges h r = let l = length-range (h .len) (all-at _ r 1) in let a = leb-true _ (highest g) (all-at _ r 0) in
+      (omega (arith, Sizes.bytes-are g, Sizes.sectors-most g), l .0, l .1, leb-true _ _ (all-at _ r 2))
 
   pub is-slot : (h : Handle) → fresh g d h ≡ true → Slot g d (h .slot)
   unfolding fresh

@@ -52,7 +52,8 @@ module _ (g : Geometry) (d t rs : List ℕ) {k : Refusal} (p : k ≡ check g d) 
       ap (λ (r : Refusal). (answer r 0 0 0, d, rs)) (handed-on g d p) ∙ rw (← n, ne-eqb (k .number) 0 z, ne-eqb (k .number) 14 m)
 
   module _ (z : k .number ≡ 0) {c : Checked} (e : c ≡ tell (readTrace t)) where
-    rows : first (playRefusals g d (tell (readTrace t)) (length rs)) ≡ first ((14, not (tell (readTrace t) .well)) ∷ (15, ltb (length rs) (tell (readTrace t) .calls)) ∷ [])
+    rows : first (playRefusals g d (tell (readTrace t)) (length rs)) ≡ first
+        ((14, not (tell (readTrace t) .well)) ∷ (15, ltb (length rs) (tell (readTrace t) .calls)) ∷ [])
     rows = check-then g d _ p z
 
     -- 14
@@ -73,18 +74,28 @@ module _ (g : Geometry) (d t rs : List ℕ) {k : Refusal} (p : k ≡ check g d) 
       pub by-room : length rs < c .calls → {r : Refusal} → r ≡ carried k 15 → (answer r 0 0 0, d, rs) ≡ play g d t rs
       unfolding play
       by-room l {r} q =
-          let n : first (playRefusals g d (tell (readTrace t)) (length rs)) ≡ 15 = past ∙ first-hit (lt-ltb (length rs) (tell (readTrace t) .calls) (omega (arith, calls-are))) 15 [] in
+          let n : first (playRefusals g d (tell (readTrace t)) (length rs)) ≡ 15 = past ∙ first-hit
+          (lt-ltb (length rs) (tell (readTrace t) .calls) (omega (arith, calls-are))) 15 [] in
           (λ j. (answer (handed g d 15 p q j) 0 0 0, d, rs)) ∙ sym (rw n)
 
       -- the session played
       pub by-calls : c .calls ≤ length rs → {d′ rs′ : List ℕ} → (rs′, d′) ≡ told g (readTrace t) d rs → (answer k (c .calls) 0 0, d′, rs′) ≡ play g d t rs
       unfolding play
       by-calls l {d′} {rs′} q =
-          let n : first (playRefusals g d (tell (readTrace t)) (length rs)) ≡ 0 = past ∙ first-skip (le-ltb (length rs) (tell (readTrace t) .calls) (omega (arith, calls-are))) 15 [] ∙ first-none in
+          let n : first (playRefusals g d (tell (readTrace t)) (length rs)) ≡ 0 = past ∙ first-skip
+          (le-ltb (length rs) (tell (readTrace t) .calls) (omega (arith, calls-are))) 15 [] ∙ first-none in
           let v : k ≡ refusal g d 0 = handed-on g d p ∙ ap (refusal g d) z in
           let m : length (stepsOf (readTrace t)) ≡ tell (readTrace t) .calls = sym (calls-told (readTrace t)) in
-          let u : told g (readTrace t) d rs ≡ (played g (namesOf (readTrace t)) (stepsOf (readTrace t)) d .0 ++ drop (tell (readTrace t) .calls) rs, played g (namesOf (readTrace t)) (stepsOf (readTrace t)) d .1)
-          = λ j. (played g (namesOf (readTrace t)) (stepsOf (readTrace t)) d .0 ++ drop (m j) rs, played g (namesOf (readTrace t)) (stepsOf (readTrace t)) d .1) in
+          let u : told g (readTrace t) d rs ≡ (
+            played g (namesOf (readTrace t)) (stepsOf (readTrace t)) d .0 ++ drop (tell (readTrace t) .calls) rs,
+            played g (namesOf (readTrace t))
+                (stepsOf (readTrace t)) d .1,
+          )
+          = λ j. (
+            played g (namesOf (readTrace t)) (stepsOf (readTrace t)) d .0 ++ drop (m j) rs,
+            played g (namesOf (readTrace t)) (stepsOf (readTrace t)) d
+                .1,
+          ) in
           (λ j. (answer (v j) (calls-are j) 0 0, (q ∙ u) j .1, (q ∙ u) j .0)) ∙ sym (rw n)
 
 -- what the loop asks of the number of calls

@@ -71,7 +71,8 @@ playing-on {g} t {calls} {d₀} {rs₀} {d} {rs} {i} p l n w {s} {x} {v} {d′} 
     let f = step-fits t i (omega (arith, n)) in
     let stays : Stays g d (stepped g ns d (getD ss i noStep) .1) = stepped-stays g d (p .good) ns (getD ss i noStep) f in
     let a₁ : (v, d′) ≡ stepped g ns d (getD ss i noStep) = a ∙ ap (λ (y : Step). stepped g ns d y) es in
-    let a₂ : (v, d′) ≡ stepped g ns (played g ns (take i ss) d₀ .1) (getD ss i noStep) = a₁ ∙ ap (λ (y : List ℕ). stepped g ns y (getD ss i noStep)) (p .image) in
+    let a₂ : (v, d′) ≡ stepped g ns (played g ns (take i ss) d₀ .1) (getD ss i noStep) = a₁ ∙ ap (λ (y : List ℕ). stepped g ns y (getD ss i noStep))
+    (p .image) in
     let taken : take (i + 1) ss ≡ take i ss ++ (getD ss i noStep ∷ []) = ap (λ (k : ℕ). take k ss) (add-one i) ∙ take-suc ss i noStep (omega (arith, n)) in
     let k : length (played g ns (take i ss) d₀ .0) ≡ i = one-each g ns (take i ss) d₀ ∙ length-take-le i ss (omega (arith, n)) in
     let h : set rs i v ≡ played g ns (take i ss) d₀ .0 ++ (v ∷ drop (i + 1) rs₀)
@@ -90,7 +91,8 @@ playing-on {g} t {calls} {d₀} {rs₀} {d} {rs} {i} p l n w {s} {x} {v} {d′} 
       within = omega arith;
     }
 
-pub playing-last : {g : Geometry} (r : Reading Trace) {calls : ℕ} {d₀ rs₀ d rs : List ℕ} {i : ℕ} → Playing g r calls d₀ rs₀ d rs i → calls ≤ i → calls ≡ length (stepsOf r)
+pub playing-last : {g : Geometry} (r : Reading Trace) {calls : ℕ} {d₀ rs₀ d rs : List ℕ} {i : ℕ} → Playing g r calls d₀ rs₀ d rs i → calls ≤ i → calls ≡
+    length (stepsOf r)
     → (rs, d) ≡ told g r d₀ rs₀
 playing-last {g} r {calls} {d₀} {rs₀} {d} {rs} {i} p l n =
     let k : i ≡ length (stepsOf r) = omega (arith, p .within) in

@@ -38,11 +38,13 @@ module _ (g : Geometry) (d : List ℕ) where
       let k : open′ g d n len false 0 .refusal .number ≡ 0 = sym (ap (λ (x : Answer). x .refusal .number) e) ∙ h in
       q ∙ ap (λ (x : Answer). single g d (c (x .handle))) e ∙ sym (rw (k))
 
-  pub create-is : (n : List ℕ) (f : NewFile) {a : Created} {d′ : List ℕ} → (a, d′) ≡ create g d n f false → (a .refusal .number, d′) ≡ single g d (creates n f false)
+  pub create-is : (n : List ℕ) (f : NewFile) {a : Created} {d′ : List ℕ} → (a, d′) ≡ create g d n f false → (a .refusal .number, d′) ≡ single g d
+      (creates n f false)
   unfolding Single.number Single.leaves
   create-is n f e = λ j. (e j .0 .refusal .number, e j .1)
 
-  pub write-is : (m : Mode) (h : Handle) (b : List ℕ) {a : Answer} {d′ : List ℕ} → (a, d′) ≡ writeRecord g d m h b → (a .refusal .number, d′) ≡ single g d (writes oneRecord m h b)
+  pub write-is : (m : Mode) (h : Handle) (b : List ℕ) {a : Answer} {d′ : List ℕ} → (a, d′) ≡ writeRecord g d m h b → (a .refusal .number, d′) ≡ single g d
+      (writes oneRecord m h b)
   unfolding Single.number Single.leaves
   write-is m h b e = λ j. (e j .0 .refusal .number, e j .1)
 
@@ -58,6 +60,7 @@ module _ (g : Geometry) (d : List ℕ) where
   unfolding Single.number Single.leaves
   kill-is h e = λ j. (e j .0 .refusal .number, e j .1)
 
-  pub read-is : (h : Handle) (b : List ℕ) {a : Answer} {b′ : List ℕ} → (a, b′) ≡ readRecord g d h b → (a .refusal .number, d) ≡ single g d (reads oneRecord h b)
+  pub read-is : (h : Handle) (b : List ℕ) {a : Answer} {b′ : List ℕ} → (a, b′) ≡ readRecord g d h b → (a .refusal .number, d) ≡ single g d
+      (reads oneRecord h b)
   unfolding Single.number Single.leaves
   read-is h b e = λ j. (e j .0 .refusal .number, d)

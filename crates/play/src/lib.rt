@@ -147,7 +147,8 @@ fn run(
     calls: usize,
     checked: Refusal,
 )
-    requires { ⌜ (checked ≡ check g (now image)) × (checked .number ≡ 0) × (calls ≡ length (stepsOf (readTrace (now bytes)))) × (calls ≤ length (now results)) ⌝ }
+    requires { ⌜ (checked ≡ check g (now image)) × (checked .number ≡ 0) × (calls ≡ length (stepsOf (readTrace (now bytes))))
+        × (calls ≤ length (now results)) ⌝ }
     ensures { λ _. ⌜ (now (results .exit), now (image .exit)) ≡ told g (readTrace (now (bytes .entry))) (now (image .entry)) (now (results .entry)) ⌝ }
 {
     let mut i = 0;

@@ -16,7 +16,8 @@ use Rattle.play_trace.specs.declared.Step.{Step}
 
 -- every definition of a trace that is shut, opened by one name
 unfoldable pub seen : ℕ
-unfolding bitsOf number bits field bytesOf uses allowed good firstBad callOf fieldsFrom namesFrom numbersAt readCalls readBits readTrace tell fieldBits stepsBits namesBits packBits pack
+unfolding bitsOf number bits field bytesOf uses allowed good firstBad callOf fieldsFrom namesFrom numbersAt readCalls readBits readTrace tell fieldBits
+    stepsBits namesBits packBits pack
 seen = 0
 
 -- The fields of a call stand one behind the other, and fill its 56 bits.

@@ -67,7 +67,8 @@ module _ {d : List ℕ} {n i at : ℕ} {m : Numbers} {o : ℕ} (c : AtCall d n i
 
   pub going-on : {whole : ℕ} → Going d n whole i → i < whole → 56 ≤ o → (m .operation ≡ 0 → ⊥) → Going d n whole (i + 1)
   going-on {whole} g h p q =
-      let t : readCalls (bits d) n (suc (whole - (i + 1))) i ≡ onRead (λ ss. stepOf (numbersAt (bits d) (callStart n i)) ∷ ss) (readCalls (bits d) n (whole - (i + 1)) (i + 1))
+      let t : readCalls (bits d) n (suc (whole - (i + 1))) i ≡ onRead (λ ss. stepOf (numbersAt (bits d) (callStart n i)) ∷ ss)
+      (readCalls (bits d) n (whole - (i + 1)) (i + 1))
       = calls-on (bits d) n (whole - (i + 1)) i (omega (arith, bad-is)) (λ e. q (sym (ap (λ (x : Numbers). x .operation) numbers-are) ∙ e)) in
       record {
         within = omega arith;
@@ -81,7 +82,8 @@ module _ {d : List ℕ} {n i at : ℕ} {m : Numbers} {o : ℕ} (c : AtCall d n i
       let t = calls-bad (bits d) n (whole - (i + 1)) i (omega (arith, bad-is)) in
       let byte : (callStart n i + firstBad n (numbersAt (bits d) (callStart n i)) fields) / 8 ≡ at + o / 8 = omega (arith, start, bad-is) in
       let bit : (callStart n i + firstBad n (numbersAt (bits d) (callStart n i)) fields) % 8 ≡ o % 8 = omega (arith, start, bad-is) in
-      sym (g .same ∙ ap (λ (k : ℕ). tellFrom i (readCalls (bits d) n k i)) (left-more h) ∙ ap (tellFrom i) t ∙ (λ j. record { well = false; calls = 0; byte = byte j; bit = bit j }))
+      sym (g .same ∙ ap (λ (k : ℕ). tellFrom i (readCalls (bits d) n k i)) (left-more h) ∙ ap (tellFrom i) t ∙
+      (λ j. record { well = false; calls = 0; byte = byte j; bit = bit j }))
 
   pub going-end : {whole : ℕ} → Going d n whole i → i < whole → 56 ≤ o → m .operation ≡ 0
       → wellWith i ≡ tellFrom 0 (readCalls (bits d) n whole 0)
@@ -98,7 +100,8 @@ going-out {d} {n} {whole} {i} g h =
     let z : whole - i ≡ 0 = omega arith in
     let byte : length (bits d) / 8 ≡ length d = omega (arith, length-bits d) in
     let bit : length (bits d) % 8 ≡ 0 = omega (arith, length-bits d) in
-    sym (g .same ∙ ap (λ (k : ℕ). tellFrom i (readCalls (bits d) n k i)) z ∙ ap (tellFrom i) (calls-none (bits d) n 0 i) ∙ (λ j. record { well = false; calls = 0; byte = byte j; bit = bit j }))
+    sym (g .same ∙ ap (λ (k : ℕ). tellFrom i (readCalls (bits d) n k i)) z ∙ ap (tellFrom i) (calls-none (bits d) n 0 i) ∙
+    (λ j. record { well = false; calls = 0; byte = byte j; bit = bit j }))
 
 pub whole-is : (d : List ℕ) (n : ℕ) → wholeCalls (bits d) n ≡ (length d - (1 + 11 * n)) / 7
 whole-is d n = rw (length-bits d) (omega arith)

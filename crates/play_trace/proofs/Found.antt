@@ -6,7 +6,8 @@ use native.Mathlib.Omega.{arith}
 use lib.ListN.{length, getD}
 use Rattle.play_trace.specs.Bits.{bits, field, length-bits}
 use Rattle.play_trace.specs.Steps.{fields, firstBad, stepOf, noStep}
-use Rattle.play_trace.specs.Reading.{Trace, Reading, reads, badAt, onRead, fieldsFrom, namesFrom, callStart, numbersAt, readCalls, readBits, readTrace, wholeCalls, stepsOf, namesOf}
+use Rattle.play_trace.specs.Reading.{Trace, Reading, reads, badAt, onRead, fieldsFrom, namesFrom, callStart, numbersAt, readCalls, readBits, readTrace}
+use Rattle.play_trace.specs.Reading.{wholeCalls, stepsOf, namesOf}
 use Rattle.play_trace.specs.Bytes.{byte-field}
 use Rattle.play_trace.specs.declared.Step.{Step}
 use Rattle.play_trace.specs.declared.Numbers.{Numbers}
@@ -31,21 +32,24 @@ module _ (bs : List ℕ) (n : ℕ) where
   calls-at (suc k) i j ss e h = go (readCalls bs n (suc k) i) (turn bs n k i) e (λ j ss. calls-at k (i + 1) j ss)
     where
       next : (r : Reading (List Step)) → readCalls bs n k (i + 1) ≡ r → onRead (λ ss. stepOf (numbersAt bs (callStart n i)) ∷ ss) r ≡ reads ss
-          → ((j : ℕ) (ss : List Step) → readCalls bs n k (i + 1) ≡ reads ss → j < length ss → (j < k) × (getD ss j noStep ≡ stepOf (numbersAt bs (callStart n (i + 1 + j)))))
+          → ((j : ℕ) (ss : List Step) → readCalls bs n k (i + 1) ≡ reads ss → j < length ss → (j < k) ×
+          (getD ss j noStep ≡ stepOf (numbersAt bs (callStart n (i + 1 + j)))))
           → (j < suc k) × (getD ss j noStep ≡ stepOf (numbersAt bs (callStart n (i + j))))
       next (badAt p) q e ih = absurd (bad-reads e)
       next (reads rest) q e ih = in-list j ss (cc) h
         where
           in-list : (j : ℕ) (ss : List Step) → stepOf (numbersAt bs (callStart n i)) ∷ rest ≡ ss → j < length ss
               → (j < suc k) × (getD ss j noStep ≡ stepOf (numbersAt bs (callStart n (i + j))))
-          in-list zero ss c h = let z : i ≡ i + 0 = omega arith in (omega arith, ap (λ (x : List Step). getD x 0 noStep) (sym c) ∙ ap (λ (x : ℕ). stepOf (numbersAt bs (callStart n x))) z)
+          in-list zero ss c h = let z : i ≡ i + 0 = omega arith in
+              (omega arith, ap (λ (x : List Step). getD x 0 noStep) (sym c) ∙ ap (λ (x : ℕ). stepOf (numbersAt bs (callStart n x))) z)
           in-list (suc j) ss c h =
               let r = ih j rest q (omega (arith, ap length c)) in
               let z : i + 1 + j ≡ i + suc j = omega arith in
               (omega (arith, r .0), ap (λ (x : List Step). getD x (suc j) noStep) (sym c) ∙ r .1 ∙ ap (λ (x : ℕ). stepOf (numbersAt bs (callStart n x))) z)
 
       go : (r : Reading (List Step)) → Turn bs n k i r → r ≡ reads ss
-          → ((j : ℕ) (ss : List Step) → readCalls bs n k (i + 1) ≡ reads ss → j < length ss → (j < k) × (getD ss j noStep ≡ stepOf (numbersAt bs (callStart n (i + 1 + j)))))
+          → ((j : ℕ) (ss : List Step) → readCalls bs n k (i + 1) ≡ reads ss → j < length ss → (j < k) ×
+          (getD ss j noStep ≡ stepOf (numbersAt bs (callStart n (i + 1 + j)))))
           → (j < suc k) × (getD ss j noStep ≡ stepOf (numbersAt bs (callStart n (i + j))))
       go r (bad b) e ih = absurd (bad-reads e)
       go r (end a b) e ih = let c : [] ≡ ss = cc in absurd (let q : ⊥ = omega (arith, ap length c) in q)

@@ -10,7 +10,8 @@ use lib.ListN.{length, getD}
 use borrow.Author.Tests.{eqb-true, eqb-false, ltb-true, ltb-false, eq-eqb, ne-eqb, lt-ltb, le-ltb}
 use Rattle.play_trace.specs.Bits.{bits, field, length-bits}
 use Rattle.play_trace.specs.Steps.{fields, firstBad, stepOf}
-use Rattle.play_trace.specs.Reading.{Trace, Reading, reads, badAt, onRead, namesFrom, callStart, numbersAt, readCalls, readBits, readTrace, wholeCalls, wellWith, faultAt, tell, tellFrom, callsTold}
+use Rattle.play_trace.specs.Reading.{Trace, Reading, reads, badAt, onRead, namesFrom, callStart, numbersAt, readCalls, readBits, readTrace, wholeCalls}
+use Rattle.play_trace.specs.Reading.{wellWith, faultAt, tell, tellFrom, callsTold}
 use Rattle.play_trace.specs.Bytes.{byte-field}
 use Rattle.play_trace.specs.declared.Step.{Step}
 use Rattle.play_trace.specs.declared.Checked.{Checked}
@@ -147,7 +148,8 @@ module _ (d : List ℕ) {n : ℕ} (h : 1 ≤ length d) (e : n ≡ getD d 0 0) (s
   pub told-cut : 1 ≤ n → n ≤ 32 → length d < 1 + 11 * n → record { well = false; calls = 0; byte = length d; bit = 0 } ≡ tell (readTrace d)
   unfolding readTrace tell
   told-cut p q r =
-      sym (ap tell (bits-cut (bits d) (omega (arith, length-bits d)) (omega (arith, count-is)) (omega (arith, count-is)) (omega (arith, count-is, length-bits d)))
+      sym (ap tell (bits-cut (bits d) (omega (arith, length-bits d)) (omega (arith, count-is)) (omega (arith, count-is))
+      (omega (arith, count-is, length-bits d)))
       ∙ fault-at-end d)
 
   pub opens : 1 ≤ n → n ≤ 32 → 1 + 11 * n ≤ length d → Opens (bits d) n

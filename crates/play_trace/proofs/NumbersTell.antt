@@ -5,7 +5,8 @@ use mathlib.Core.List.{List, [], _∷_}
 use Prim.Native.Nat.{ℕ}
 use lib.Dec.{eqb, ltb}
 use borrow.Author.Tests.{eq-eqb, ne-eqb}
-use Rattle.play_trace.specs.Steps.{Field, theOperation, theFile, thePosition, theLength, theFill, theZero, fields, startOf, uses, allowed, good, firstBad, callOf, stepOf}
+use Rattle.play_trace.specs.Steps.{Field, theOperation, theFile, thePosition, theLength, theFill, theZero, fields, startOf, uses, allowed, good}
+use Rattle.play_trace.specs.Steps.{firstBad, callOf, stepOf}
 use Rattle.play_trace.specs.declared.Call.the-variants.{Create, SequentialWrite, RandomWrite, Allot, Trim, Kill, Read}
 use Rattle.play_trace.specs.declared.Numbers.{Numbers}
 
@@ -121,8 +122,17 @@ module _ (m : Numbers) where
   unfolding callOf
   step-6 h = rw h
 
-  pub step-7 : (m .operation ≡ 1 → ⊥) → (m .operation ≡ 2 → ⊥) → (m .operation ≡ 3 → ⊥) → (m .operation ≡ 4 → ⊥) → (m .operation ≡ 5 → ⊥) → (m .operation ≡ 6 → ⊥)
+  pub step-7 : (m .operation ≡ 1 → ⊥) → (m .operation ≡ 2 → ⊥) → (m .operation ≡ 3 → ⊥) → (m .operation ≡ 4 → ⊥) → (m .operation ≡ 5 → ⊥) →
+      (m .operation ≡ 6 → ⊥)
       → record { file = m .file; call = Read (record { position = m .position; length = m .length }) } ≡ stepOf m
   unfolding callOf
   step-7 a b c d e f =
-      rw (ne-eqb (m .operation) 1 a, ne-eqb (m .operation) 2 b, ne-eqb (m .operation) 3 c, ne-eqb (m .operation) 4 d, ne-eqb (m .operation) 5 e, ne-eqb (m .operation) 6 f)
+      rw (
+        ne-eqb (m .operation) 1 a,
+        ne-eqb (m .operation) 2 b,
+        ne-eqb (m .operation) 3 c,
+        ne-eqb (m .operation) 4 d,
+        ne-eqb (m .operation) 5 e,
+        ne-eqb
+            (m .operation) 6 f,
+      )

@@ -137,7 +137,8 @@ bits-bytesOf zero [] l h = refl
 bits-bytesOf zero (b ∷ bs) l h = absurd (let q : ⊥ = omega arith in q)
 bits-bytesOf (suc n) bs l h =
     let t : length (take 8 bs) ≡ 8 = length-take-le 8 bs (omega arith) in
-    let e : bitsOf 8 (number (take 8 bs)) ≡ take 8 bs = ap (λ (n : ℕ). bitsOf n (number (take 8 bs))) (sym t) ∙ back-and-there (take 8 bs) (bits-take 8 bs h) in
+    let e : bitsOf 8 (number (take 8 bs)) ≡ take 8 bs = ap (λ (n : ℕ). bitsOf n (number (take 8 bs))) (sym t) ∙ back-and-there (take 8 bs) (bits-take 8 bs h)
+    in
     let r : bits (bytesOf n (drop 8 bs)) ≡ drop 8 bs = bits-bytesOf n (drop 8 bs) (simp length-drop (omega arith)) (bits-drop 8 bs h) in
     rw (e, r) (take-append-drop 8 bs)
 

@@ -91,7 +91,8 @@ next : (d : List ℕ) (k l : ℕ) → l ≡ k + 1 → k < length d → drop k d 
 next d k l e h = rw (e, add-one) (drop-cons d k 0 h)
 
 seven : (d : List ℕ) (at : ℕ) → at + 7 ≤ length d
-    → drop at d ≡ getD d at 0 ∷ getD d (at + 1) 0 ∷ getD d (at + 2) 0 ∷ getD d (at + 3) 0 ∷ getD d (at + 4) 0 ∷ getD d (at + 5) 0 ∷ getD d (at + 6) 0 ∷ drop (at + 7) d
+    → drop at d ≡ getD d at 0 ∷ getD d (at + 1) 0 ∷ getD d (at + 2) 0 ∷ getD d (at + 3) 0 ∷ getD d (at + 4) 0 ∷ getD d (at + 5) 0 ∷ getD d (at + 6) 0 ∷ drop
+    (at + 7) d
 seven d at h =
     rw (
       next d at (at + 1) (omega arith) (omega arith),
@@ -111,7 +112,9 @@ pub numbers-of-bytes : (d : List ℕ) (at : ℕ) → at + 7 ≤ length d → ((i
     ≡ numbersOfBytes (getD d at 0) (getD d (at + 1) 0) (getD d (at + 2) 0) (getD d (at + 3) 0) (getD d (at + 4) 0) (getD d (at + 5) 0) (getD d (at + 6) 0)
 unfolding numbersAt
 numbers-of-bytes d at h s =
-    let g : (o w : ℕ) → field (bits d) (8 * at + o) w ≡ field (bits (getD d at 0 ∷ getD d (at + 1) 0 ∷ getD d (at + 2) 0 ∷ getD d (at + 3) 0 ∷ getD d (at + 4) 0 ∷ getD d (at + 5) 0 ∷ getD d (at + 6) 0 ∷ drop (at + 7) d)) o w
+    let g : (o w : ℕ) → field (bits d) (8 * at + o) w ≡ field
+    (bits (getD d at 0 ∷ getD d (at + 1) 0 ∷ getD d (at + 2) 0 ∷ getD d (at + 3) 0 ∷ getD d (at + 4) 0 ∷ getD d (at + 5) 0 ∷ getD d (at + 6) 0 ∷ drop
+    (at + 7) d)) o w
     = λ o w. field-byte d at o w ∙ ap (λ (x : List ℕ). field (bits x) o w) (seven d at h) in
     let p0 = g 0 3 ∙ at-0 _ _ _ _ _ _ _ _ (s at) in
     let p1 = g 3 5 ∙ at-3 _ _ _ _ _ _ _ _ in

@@ -52,7 +52,8 @@ use Rattle.promises.specs.WriteMeans
 
 module _ (g : Geometry) (d d′ n : List ℕ) (is : Found) where
   -- from "this name, and any other" to one equation over all names
-  pub one-list : plain g d′ n ≡ is → ((m : List ℕ) → m ≢ n → hush (plain g d′ m) ≡ hush (plain g d m)) → (m : List ℕ) → hush (plain g d′ m) ≡ hush (with′ (plain g d) n is m)
+  pub one-list : plain g d′ n ≡ is → ((m : List ℕ) → m ≢ n → hush (plain g d′ m) ≡ hush (plain g d m)) → (m : List ℕ) → hush (plain g d′ m) ≡ hush
+      (with′ (plain g d) n is m)
   unfolding with′
   one-list o f m = go (Members.decide (same m n))
     where
@@ -114,7 +115,8 @@ module _ (g : Geometry) (d d′ : List ℕ) (h : Handle) (w : Holds g d h) (is :
   named-here = Named.named-is g d (w .sound) (h .slot) (w .file)
 
 -- the handle of a file that is still there
-alive : (g : Geometry) (d d′ : List ℕ) (h h′ : Handle) → Holds g d h → Facts.IsFile g d′ (h .slot) → nameOf g d′ (h .slot) ≡ nameOf g d (h .slot) → h′ .slot ≡ h .slot → h′ .name ≡ h .name
+alive : (g : Geometry) (d d′ : List ℕ) (h h′ : Handle) → Holds g d h → Facts.IsFile g d′ (h .slot) → nameOf g d′ (h .slot) ≡ nameOf g d (h .slot) → h′ .slot ≡
+    h .slot → h′ .name ≡ h .name
     → Live g d′ h′
 alive g d d′ h h′ w f n s m = record {
   slot = rw s (f .slot);
@@ -134,7 +136,9 @@ kill-serves g d h e =
     record {
       file = fileAt g d (h .slot);
       mine = refl;
-      becomes = by-handle g d (kill g d h .1) h w nothing (x .gone) (x .others) (x .beyond′) (x .names′) (left-before g d (kill g d h .1) (nameOf g d (h .slot)) (w .fits) (h .slot) (named-here g d (kill g d h .1) h w nothing) (x .touch)) (omega (arith, x .free));
+      becomes = by-handle g d (kill g d h .1) h w nothing (x .gone) (x .others) (x .beyond′) (x .names′)
+          (left-before g d (kill g d h .1) (nameOf g d (h .slot)) (w .fits) (h .slot) (named-here g d (kill g d h .1) h w nothing) (x .touch))
+          (omega (arith, x .free));
       handle′ = refl;
       live = λ f q. absurd (let z : _≡_ {A = ℕ} 0 1 = cc in omega arith);
       ranged = Refusing.range-iff g h .0 (Passing.handle-passed g d h (inRange g h) (protected g d 1 h ∷ []) e .1);
@@ -148,18 +152,22 @@ allot-serves g d h k e =
       file = fileAt g d (h .slot);
       mine = refl;
       becomes = by-handle g d (allot g d h k .1) h w (found (allottedTo g k (fileAt g d (h .slot)))) (x .own) (x .others) (x .beyond′) (x .names′)
-          (left-after g d (allot g d h k .1) (nameOf g d (h .slot)) (w .fits) (h .slot) (Named.named-at g (allot g d h k .1) (Facts.sound g (allot g d h k .1) (x .consistent′)) (h .slot) (nameOf g d (h .slot)) (x .file′) (x .name′)) (x .touch)) (omega (arith, x .free));
+          (left-after g d (allot g d h k .1) (nameOf g d (h .slot)) (w .fits) (h .slot)
+          (Named.named-at g (allot g d h k .1) (Facts.sound g (allot g d h k .1) (x .consistent′)) (h .slot) (nameOf g d (h .slot)) (x .file′) (x .name′))
+          (x .touch)) (omega (arith, x .free));
       handle′ = refl;
       live = λ f q. alive g d (allot g d h k .1) h h w (x .file′) (x .name′) refl refl;
       ranged = Refusing.range-iff g h .0 (Passing.first-of (inRange g h) (ltb k (sectorNumbers g) ∷ [])
-          (Passing.handle-passed g d h (all (inRange g h ∷ ltb k (sectorNumbers g) ∷ [])) (protected g d 4 h ∷ cannotGrow g d (h .slot) (toAllot g d h k)) e .1));
+          (Passing.handle-passed g d h (all (inRange g h ∷ ltb k (sectorNumbers g) ∷ [])) (protected g d 4 h ∷ cannotGrow g d (h .slot) (toAllot g d h k)) e
+          .1));
     }
 
 pub trim-serves : (g : Geometry) (d : List ℕ) (h : Handle) → trim g d h .0 .refusal .number ≡ 0 → Serves g d (Call.trims h)
 unfolding trim
 trim-serves g d h e =
     let w = Passed.holds g d h _ 4 [] e .0 in let x = Trim.trim-means g d h e in
-    let many : length (owned g (trim g d h .1) (h .slot)) ≡ trimmed g (fileAt g d (h .slot)) .granules = owns g (trim g d h .1) (h .slot) ∙ ap (λ (f : File). f .granules) (x .told) in
+    let many : length (owned g (trim g d h .1) (h .slot)) ≡ trimmed g (fileAt g d (h .slot)) .granules = owns g (trim g d h .1) (h .slot) ∙ ap
+    (λ (f : File). f .granules) (x .told) in
     record {
       file = fileAt g d (h .slot);
       mine = refl;
@@ -172,17 +180,20 @@ trim-serves g d h e =
     }
 
 -- a GAT byte of a block lies in the directory
-gat-in : (g : Geometry) (d : List ℕ) → Facts.Sound g d → Places.Fits g d → (b : ℕ) → b < g .blocks → In ((256 * g .start + b) / granuleBytes g) (directoryGranules g d)
+gat-in : (g : Geometry) (d : List ℕ) → Facts.Sound g d → Places.Fits g d → (b : ℕ) → b < g .blocks → In ((256 * g .start + b) / granuleBytes g)
+    (directoryGranules g d)
 unfolding words
 gat-in g d c k b h = Write.in-directory g d (256 * g .start + b) (k .start-at) (Places.dir g d (c .dir)) (omega arith) (omega (arith, k .blocks-hi))
 
-write-range : (g : Geometry) (d : List ℕ) (m : Mode) (h : Handle) (n : ℕ) (b : List ℕ) → writeOf g d m h n b .0 .refusal .number ≡ 0 → InRange g (movedTo h (h .at + n))
+write-range : (g : Geometry) (d : List ℕ) (m : Mode) (h : Handle) (n : ℕ) (b : List ℕ) → writeOf g d m h n b .0 .refusal .number ≡ 0 → InRange g
+    (movedTo h (h .at + n))
 unfolding writeOf all
 write-range g d m h n b e =
     let far = leb (h .at + n) (highest g) in let room = leb n (length b) in
     let t = Passing.handle-passed g d h (all (inRange g h ∷ far ∷ room ∷ [])) (protected g d 4 h ∷ cannotGrow g d (h .slot) (toWrite g d m h n)) e .1 in
     let u = Members.and-r (inRange g h) (far && (room && true)) t in
-    Passing.further g h (h .at + n) (Refusing.range-iff g h .0 (Members.and-l (inRange g h) (far && (room && true)) t)) (leb→le (h .at + n) (highest g) (Members.and-l far (room && true) u))
+    Passing.further g h (h .at + n) (Refusing.range-iff g h .0 (Members.and-l (inRange g h) (far && (room && true)) t))
+    (leb→le (h .at + n) (highest g) (Members.and-l far (room && true) u))
 
 pub write-serves : (g : Geometry) (d : List ℕ) (m : Mode) (h : Handle) (n : ℕ) (b : List ℕ) → writeOf g d m h n b .0 .refusal .number ≡ 0 → Writes g d m h n b
 write-serves g d m h n b e =
@@ -195,11 +206,13 @@ write-serves g d m h n b e =
       file = fileAt g d p;
       mine = refl;
       becomes = by-handle g d d′ h w (found (writtenTo g m (h .at) (take n b) (fileAt g d p))) (x .own) (x .others) (x .beyond′) (x .names′)
-          (left g d d′ (nameOf g d p) (w .fits) (chain g d′ p) (owned g d′ p) (x .touch) (λ y i. entries-after g d d′ (nameOf g d p) p y at i) (λ n i. rw at (Members.in-append-l [] i))
+          (left g d d′ (nameOf g d p) (w .fits) (chain g d′ p) (owned g d′ p) (x .touch) (λ y i. entries-after g d d′ (nameOf g d p) p y at i)
+          (λ n i. rw at (Members.in-append-l [] i))
           (λ b l i. x .apart ((256 * g .start + b) / granuleBytes g) i (gat-in g d′ c′ (WriteMeans.fits-after g d d′ (w .fits) (x .long)) b l)))
           (x .free ∙ ap (λ (n : ℕ). length (freeGranules g d′) + n) many);
       handle′ = moved e;
-      live = λ f q. alive g d d′ h (writeOf g d m h n b .0 .handle) w (x .file′) (x .name′) (ap (λ (k : Handle). k .slot) (moved e)) (ap (λ (k : Handle). k .name) (moved e));
+      live = λ f q. alive g d d′ h (writeOf g d m h n b .0 .handle) w (x .file′) (x .name′) (ap (λ (k : Handle). k .slot) (moved e))
+          (ap (λ (k : Handle). k .name) (moved e));
       ranged = subst (InRange g) (sym (moved e)) (write-range g d m h n b e);
     }
   where
@@ -207,13 +220,15 @@ write-serves g d m h n b e =
     moved e = unfold writeOf in rw e
 
 -- a file born
-pub create-becomes : (g : Geometry) (d n : List ℕ) (f : NewFile) (checking : Bool) → create g d n f checking .0 .refusal .number ≡ 0 → create g d n f checking .0 .old ≡ false
+pub create-becomes : (g : Geometry) (d n : List ℕ) (f : NewFile) (checking : Bool) → create g d n f checking .0 .refusal .number ≡ 0 → create g d n f checking
+    .0 .old ≡ false
     → Becomes g d (create g d n f checking .1) (fold n) nothing (found (bornAs f))
 unfolding bornAs
 create-becomes g d n f checking e o =
     let x = CreateMeans.create-means g d n f checking e o in let z = CreateMeans.create-placed g d n f checking e o in
     let d′ = create g d n f checking .1 in
-    let l = left-after g d d′ (fold n) (CreateMeans.create-fits g d n f checking e) (newSlot g d) (Named.named-at g d′ (Facts.sound g d′ (x .consistent′)) (newSlot g d) (fold n) (z .file) (z .name′)) (z .touch) in
+    let l = left-after g d d′ (fold n) (CreateMeans.create-fits g d n f checking e) (newSlot g d)
+    (Named.named-at g d′ (Facts.sound g d′ (x .consistent′)) (newSlot g d) (fold n) (z .file) (z .name′)) (z .touch) in
     record {
       before = x .was;
       after = x .born;

@@ -78,7 +78,8 @@ pub record Placed (g : Geometry) (d d′ n : List ℕ) (x : ℕ) : Type 0 where
   pub name′ : nameOf g d′ x ≡ n
   pub touch : Touch.Touch g (chain g d′ x) [] d d′
 
-create-both : (g : Geometry) (d n : List ℕ) (f : NewFile) (checking : Bool) → create g d n f checking .0 .refusal .number ≡ 0 → create g d n f checking .0 .old ≡ false
+create-both : (g : Geometry) (d n : List ℕ) (f : NewFile) (checking : Bool) → create g d n f checking .0 .refusal .number ≡ 0 → create g d n f checking .0
+    .old ≡ false
     → CreateMeans g d (create g d n f checking .1) (fold n) f × Placed g d (create g d n f checking .1) (fold n) (newSlot g d)
 unfolding create Create.made Create.withEntry
 create-both g d n f checking e o =
@@ -95,13 +96,23 @@ create-both g d n f checking e o =
     let y = Create.slots-free g d x i in
     let w = Passed.yes-T (wellFormed (fold n)) (p₄ .0) in
     let free = none-missing g d c (fold n) new in
-    rw (e, Members.T-true {b = missing g d (fold n)} new) (create-made g d c k x (y .0) (y .1) (fold n) w f free, record { file = Create.made-file g d c k x (y .0) (y .1) (fold n) w f free; name′ = Create.made-name g d c k x (y .0) (y .1) (fold n) w f free; touch = Create.made-touch g d c k x (y .0) (y .1) (fold n) w f free })
+    rw (e, Members.T-true {b = missing g d (fold n)} new) (
+      create-made g d c k x (y .0) (y .1) (fold n) w f free,
+      record {
+        file = Create.made-file g d c k x (y .0) (y .1) (fold n) w f free;
+        name′ = Create.made-name g d c k x (y .0) (y .1) (fold n) w f free;
+        touch =
+            Create.made-touch g d c k x (y .0) (y .1) (fold n) w f free;
+      },
+    )
 
-pub create-means : (g : Geometry) (d n : List ℕ) (f : NewFile) (checking : Bool) → create g d n f checking .0 .refusal .number ≡ 0 → create g d n f checking .0 .old ≡ false
+pub create-means : (g : Geometry) (d n : List ℕ) (f : NewFile) (checking : Bool) → create g d n f checking .0 .refusal .number ≡ 0 → create g d n f checking
+    .0 .old ≡ false
     → CreateMeans g d (create g d n f checking .1) (fold n) f
 create-means g d n f checking e o = create-both g d n f checking e o .0
 
-pub create-placed : (g : Geometry) (d n : List ℕ) (f : NewFile) (checking : Bool) → create g d n f checking .0 .refusal .number ≡ 0 → create g d n f checking .0 .old ≡ false
+pub create-placed : (g : Geometry) (d n : List ℕ) (f : NewFile) (checking : Bool) → create g d n f checking .0 .refusal .number ≡ 0 → create g d n f checking
+    .0 .old ≡ false
     → Placed g d (create g d n f checking .1) (fold n) (newSlot g d)
 create-placed g d n f checking e o = create-both g d n f checking e o .1
 

@@ -77,7 +77,8 @@ module _ (g : Geometry) (d n : List ℕ) where
   compared-all [] e = refl
   compared-all (x ∷ xs) e = go (Members.decide (carries g d n x)) (compared-all xs)
     where
-      go : Members.Test (carries g d n x) → (keep (carries g d n) xs ≡ [] → comparedIn g d n xs ≡ length xs) → cond (carries g d n x) 1 (suc (comparedIn g d n xs)) ≡ suc (length xs)
+      go : Members.Test (carries g d n x) → (keep (carries g d n) xs ≡ [] → comparedIn g d n xs ≡ length xs) → cond (carries g d n x) 1
+          (suc (comparedIn g d n xs)) ≡ suc (length xs)
       go (Members.Test.holds t) ih =
           let q : x ∷ keep (carries g d n) xs ≡ [] = rw (Members.T-true {b = carries g d n x} t) at e in
           absurd (let z : _≡_ {A = ℕ} 0 1 = cc in omega arith)
@@ -97,9 +98,12 @@ module _ (g : Geometry) (d : List ℕ) (c : Sound g d) (n : List ℕ) where
 
   compared-is : (p : ℕ) → Whose g d n p → comparedIn g d n (candidates g d n) ≡ matching g d n p
   compared-is p w =
-      let k = Members.keep-in (carries g d n) p (candidates g d n) (subst (λ (m : List ℕ). In p (keep (carries g d m) (candidates g d m))) (w .name′) (Named.in-named g d c p (w .file))) in
-      let r : Rising (candidates g d n) = subst Rising (sym (candidates-are g d n)) (Rising.keep-rising (λ x. eqb (hit g d x) (hash n)) (slots-rising g d n)) in
-      compared-to g d n p r (k .0) (k .1) (λ y i t. let z = Named.named-in g d n y (Members.in-keep (carries g d n) i t) in c .names y p (z .0) (w .file) (z .1 ∙ sym (w .name′)))
+      let k = Members.keep-in (carries g d n) p (candidates g d n)
+      (subst (λ (m : List ℕ). In p (keep (carries g d m) (candidates g d m))) (w .name′) (Named.in-named g d c p (w .file))) in
+      let r : Rising (candidates g d n) = subst Rising (sym (candidates-are g d n)) (Rising.keep-rising (λ x. eqb (hit g d x) (hash n)) (slots-rising g d n))
+      in
+      compared-to g d n p r (k .0) (k .1) (λ y i t. let z = Named.named-in g d n y (Members.in-keep (carries g d n) i t) in c .names y p (z .0) (w .file)
+      (z .1 ∙ sym (w .name′)))
       ∙ ap (λ (l : List ℕ). length (keep (λ y. leb y p) l)) (candidates-are g d n)
       ∙ ap length (Rising.keep-keep (λ x. eqb (hit g d x) (hash n)) (λ y. leb y p) (slots g d))
 
@@ -148,7 +152,8 @@ look-refuses g d n k = record {
     lost e = Refusing.missing-iff g d (fold n) .1 (rows .1 .0 .0 (known e) .1)
       where
         rows : Promises.Rows (number g d (Call.looksUp n)) (Refusing.Checked g d) (Refusing.ownCases (Promises.table g d (Call.looksUp n)))
-        rows = Refusing.own-rows g d (Refusing.ownCases (Promises.table g d (Call.looksUp n))) (number g d (Call.looksUp n)) (Refusing.numbers g d (Call.looksUp n))
+        rows = Refusing.own-rows g d (Refusing.ownCases (Promises.table g d (Call.looksUp n))) (number g d (Call.looksUp n))
+            (Refusing.numbers g d (Call.looksUp n))
 
         known : lookUp g d n .refusal .number ≡ 4 → number g d (Call.looksUp n) ≡ 4
         known e = unfold number in e
@@ -159,11 +164,14 @@ look-refuses g d n k = record {
         count : lookUp g d n .refusal .number ≡ 4 → lookUp g d n .compared ≡ comparedIn g d (fold n) (candidates g d (fold n))
         count e = unfold lookUp in rw e
 
-        counted : T (missing g d (fold n)) → comparedIn g d (fold n) (candidates g d (fold n)) ≡ length (keep (λ x. eqb (hit g d x) (hash (fold n))) (slots g d))
+        counted : T (missing g d (fold n)) → comparedIn g d (fold n) (candidates g d (fold n)) ≡ length
+            (keep (λ x. eqb (hit g d x) (hash (fold n))) (slots g d))
         counted t = compared-all g d (fold n) (candidates g d (fold n)) (none-carries g d (fold n) t) ∙ ap length (candidates-are g d (fold n))
 
     none : lookUp g d n .refusal .number ≢ 4 → lookUp g d n .compared ≡ 0
-    none m = unfold lookUp in rw (Members.no-false {b = has (0 ∷ 4 ∷ []) (lookUp g d n .refusal .number)} (λ t. which (Members.has-in (lookUp g d n .refusal .number) (0 ∷ 4 ∷ []) t)))
+    none m = unfold lookUp in
+        rw (Members.no-false {b = has (0 ∷ 4 ∷ []) (lookUp g d n .refusal .number)}
+        (λ t. which (Members.has-in (lookUp g d n .refusal .number) (0 ∷ 4 ∷ []) t)))
       where
         which : In (lookUp g d n .refusal .number) (0 ∷ 4 ∷ []) → ⊥
         which i = go (Members.in-cons i)
@@ -193,7 +201,11 @@ opened g d c n len checking code r k t =
       start = refl;
       length′ = refl;
       full = λ x. rw (Members.T-true {b = full g d p checking code} (Refusing.full-iff g d p checking code .1 x));
-      worker = λ x. (only x (Refusing.admitted-iff g d p checking code .0 a), rw (Members.no-false {b = full g d p checking code} (λ y. x (Refusing.full-iff g d p checking code .0 y))));
+      worker = λ x. (
+        only x (Refusing.admitted-iff g d p checking code .0 a),
+        rw
+            (Members.no-false {b = full g d p checking code} (λ y. x (Refusing.full-iff g d p checking code .0 y))),
+      );
     }) t
   where
     level : (p : ℕ) (b : Bool) → cond b 0 (accessLevel g d p) ≤ 7
@@ -211,7 +223,8 @@ open-serves g d n len checking code e =
     let w = Passing.disk-passed g d _ e in
     let p₃ = passed 12 _ _ (omega arith) (w .1) in let p₄ = passed 3 _ _ (omega arith) (p₃ .1) in
     let p₅ = passed 4 _ _ (omega arith) (p₄ .1) in let p₆ = passed 5 _ _ (omega arith) (p₅ .1) in
-    rw e (opened g d (w .0 .sound) (fold n) len checking code (Refusing.length-iff len .0 (yes-T (goodLength len) (p₃ .0))) (p₅ .0) (yes-T (admits g d (slotOf g d (fold n)) checking code) (p₆ .0)))
+    rw e (opened g d (w .0 .sound) (fold n) len checking code (Refusing.length-iff len .0 (yes-T (goodLength len) (p₃ .0))) (p₅ .0)
+    (yes-T (admits g d (slotOf g d (fold n)) checking code) (p₆ .0)))
 
 -- Create ------------------------------------------------------------------------------------------------------------------------------
 
@@ -229,7 +242,8 @@ in-range g d n f checking e =
     let w = Passing.disk-passed g d _ e in let p₃ = passed 12 _ _ (omega arith) (w .1) in
     Refusing.new-iff f .0 (yes-T (newInRange f) (p₃ .0))
 
-made : (g : Geometry) (d n : List ℕ) (f : NewFile) (checking : Bool) → create g d n f checking .0 .refusal .number ≡ 0 → create g d n f checking .0 .old ≡ false
+made : (g : Geometry) (d n : List ℕ) (f : NewFile) (checking : Bool) → create g d n f checking .0 .refusal .number ≡ 0 → create g d n f checking .0 .old ≡
+    false
     → create g d n f checking .0 .handle ≡ record { slot = newSlot g d; name = fold n; at = 0; len = f .len; level = 0 }
 unfolding create
 made g d n f checking e o = rw (e, Members.T-true {b = missing g d (fold n)} (fresh-of (missing g d (fold n)) (rw e at o)))
@@ -237,7 +251,12 @@ made g d n f checking e o = rw (e, Members.T-true {b = missing g d (fold n)} (fr
 pub create-serves : (g : Geometry) (d n : List ℕ) (f : NewFile) (checking : Bool) → create g d n f checking .0 .refusal .number ≡ 0 → Creates g d n f checking
 create-serves g d n f checking e = record {
   old = λ o. (old o, Passing.old-stands g d n f checking o);
-  new = λ o. (Changing.create-becomes g d n f checking e o, live o, subst (InRange g) (sym (made g d n f checking e o)) (record { at = omega arith; length′ = range .length′; level = omega arith }));
+  new = λ o. (
+    Changing.create-becomes g d n f checking e o,
+    live o,
+    subst (InRange g) (sym (made g d n f checking e o))
+        (record { at = omega arith; length′ = range .length′; level = omega arith }),
+  );
   handle′ = λ o. made g d n f checking e o;
 }
   where
@@ -251,11 +270,19 @@ create-serves g d n f checking e = record {
         let p₅ = passed 5 _ _ (omega arith) (p₄ .1) in
         let found′ : T (missing g d (fold n)) → ⊥ = old-says (missing g d (fold n)) (rw e at o) in
         let admitted : T (admits g d (slotOf g d (fold n)) checking (f .main)) = yes-T (admits g d (slotOf g d (fold n)) checking (f .main)) (λ t.
-        p₅ .0 (Members.all-two (not (missing g d (fold n))) (not (admits g d (slotOf g d (fold n)) checking (f .main))) (not-T (missing g d (fold n)) found′) t)) in
-        rw (e, Members.no-false {b = missing g d (fold n)} found′) (opened g d (w .0 .sound) (fold n) (f .len) checking (f .main) (range .length′) found′ admitted)
+        p₅ .0 (Members.all-two (not (missing g d (fold n))) (not (admits g d (slotOf g d (fold n)) checking (f .main))) (not-T (missing g d (fold n)) found′)
+        t)) in
+        rw (e, Members.no-false {b = missing g d (fold n)} found′)
+        (opened g d (w .0 .sound) (fold n) (f .len) checking (f .main) (range .length′) found′ admitted)
 
     live : create g d n f checking .0 .old ≡ false → Live g (create g d n f checking .1) (create g d n f checking .0 .handle)
     live o =
         let z = CreateMeans.create-placed g d n f checking e o in
         subst (Live g (create g d n f checking .1)) (sym (made g d n f checking e o))
-        (record { slot = z .file .slot; used = Facts.file-in-use g (create g d n f checking .1) (newSlot g d) (z .file); first = Facts.file-first g (create g d n f checking .1) (newSlot g d) (z .file); name′ = z .name′ })
+        (record {
+          slot = z .file .slot;
+          used = Facts.file-in-use g (create g d n f checking .1) (newSlot g d) (z .file);
+          first = Facts.file-first g
+              (create g d n f checking .1) (newSlot g d) (z .file);
+          name′ = z .name′;
+        })

@@ -74,7 +74,8 @@ module _ (g : Geometry) (p : ℕ) where
     conv-grow zero d = refl
     conv-grow (suc k) d = go (takeAt g p (choice d) d) (conv-grow k)
       where
-        go : (t : Growth.Grown) → ((d₁ : List ℕ) → conv (growBy g p choice k d₁) ≡ Theorem.grow one k d₁) → conv (Growth.andThen t (growBy g p choice k)) ≡ Theorem.andThen (conv t) (Theorem.grow one k)
+        go : (t : Growth.Grown) → ((d₁ : List ℕ) → conv (growBy g p choice k d₁) ≡ Theorem.grow one k d₁) → conv (Growth.andThen t (growBy g p choice k)) ≡
+            Theorem.andThen (conv t) (Theorem.grow one k)
         go (Growth.grown d₁) ih = ih d₁
         go Growth.noSlot ih = refl
 
@@ -89,10 +90,12 @@ module _ (g : Geometry) (p : ℕ) where
           enough = omega (arith, o .enough, Longer.grown-free g d d′ (o .sound) p (o .file) (w .which) (w .longer));
         }
 
-    step : (d d′ : List ℕ) (c : Sound g d) (w : Places.Fits g d) (f : IsFile g d p) (t : Growth.Grown) → t ≡ Growth.grown d′ → View.Took g d c w p f (choice d) t
+    step : (d d′ : List ℕ) (c : Sound g d) (w : Places.Fits g d) (f : IsFile g d p) (t : Growth.Grown) → t ≡ Growth.grown d′ → View.Took g d c w p f
+        (choice d) t
         → Step 32 (granules g) (view g p d) (view g p d′)
     step d d′ c w f t e (View.Took.longer l h) = Words.Step.longer (subst (λ (x : List ℕ). Words.Lengthens 32 (granules g) (view g p d) (view g p x)) (cc) h)
-    step d d′ c w f t e (View.Took.starts a h) = Words.Step.starts (choice d) (subst (λ (x : List ℕ). Words.Starts 32 (granules g) (view g p d) (view g p x) (choice d)) (cc) h)
+    step d d′ c w f t e (View.Took.starts a h) = Words.Step.starts (choice d)
+        (subst (λ (x : List ℕ). Words.Starts 32 (granules g) (view g p d) (view g p x) (choice d)) (cc) h)
     step d d′ c w f t e (View.Took.none a r) = absurd (let z : _≡_ {A = ℕ} 0 1 = cc in omega arith)
 
     -- whatever the choice, it is a rule
@@ -100,19 +103,25 @@ module _ (g : Geometry) (p : ℕ) where
     is-rule = record {
       goes = λ k d d′ o e.
           let q = conv-grown (takeAt g p (choice d) d) d′ e in
-          let h = chooses d (omega (arith, o .enough)) in
-          (known-next k d d′ o q, step d d′ (o .sound) (o .fits) (o .file) (takeAt g p (choice d) d) q (View.took g d (o .sound) (o .fits) p (o .file) (choice d) (h .0) (h .1)));
+          let h = chooses d (omega (arith, o .enough)) in (
+            known-next k d d′ o q,
+            step d d′ (o .sound) (o .fits) (o .file) (takeAt g p (choice d) d) q
+                (View.took g d (o .sound) (o .fits) p (o .file) (choice d) (h .0) (h .1)),
+          );
     }
 
-  second-step : (d d′ : List ℕ) (c : Sound g d) (w : Places.Fits g d) (f : IsFile g d p) (t : Growth.Grown) → t ≡ Growth.grown d′ → View.Took g d c w p f (longest d) t
+  second-step : (d d′ : List ℕ) (c : Sound g d) (w : Places.Fits g d) (f : IsFile g d p) (t : Growth.Grown) → t ≡ Growth.grown d′ → View.Took g d c w p f
+      (longest d) t
       → Second 32 (granules g) (view g p d) (view g p d′)
-  second-step d d′ c w f t e (View.Took.longer l h) = Words.Second.longer (subst (λ (x : List ℕ). Words.Lengthens 32 (granules g) (view g p d) (view g p x)) (cc) h)
+  second-step d d′ c w f t e (View.Took.longer l h) = Words.Second.longer
+      (subst (λ (x : List ℕ). Words.Lengthens 32 (granules g) (view g p d) (view g p x)) (cc) h)
   second-step d d′ c w f t e (View.Took.starts a h) =
       Words.Second.starts (longest d) (λ x. a (View.can-says g p d x)) (Stretches.low-end (granules g) (view g p d))
       (subst (λ (x : List ℕ). Words.Starts 32 (granules g) (view g p d) (view g p x) (longest d)) (cc) h)
   second-step d d′ c w f t e (View.Took.none a r) = absurd (let z : _≡_ {A = ℕ} 0 1 = cc in omega arith)
 
-  second-stops : (d : List ℕ) (c : Sound g d) (w : Places.Fits g d) (f : IsFile g d p) (t : Growth.Grown) → t ≡ Growth.noSlot → View.Took g d c w p f (longest d) t
+  second-stops : (d : List ℕ) (c : Sound g d) (w : Places.Fits g d) (f : IsFile g d p) (t : Growth.Grown) → t ≡ Growth.noSlot → View.Took g d c w p f
+      (longest d) t
       → (CanLengthen 32 (granules g) (view g p d) → ⊥) × ((view g p d .room ≡ 0) ⊎ ((n : ℕ) → Free (granules g) (view g p d) n → ⊥))
   second-stops d c w f t e (View.Took.longer l h) = absurd (let z : _≡_ {A = ℕ} 0 1 = cc in omega arith)
   second-stops d c w f t e (View.Took.starts a h) = absurd (let z : _≡_ {A = ℕ} 0 1 = cc in omega arith)
@@ -125,7 +134,8 @@ module _ (g : Geometry) (p : ℕ) where
         let q = conv-grown (takeAt g p (longest d) d) d′ e in
         let h = longest-chooses d (omega (arith, o .enough)) in (
           known-next longest longest-chooses k d d′ o q,
-          second-step d d′ (o .sound) (o .fits) (o .file) (takeAt g p (longest d) d) q (View.took g d (o .sound) (o .fits) p (o .file) (longest d) (h .0) (h .1)),
+          second-step d d′ (o .sound) (o .fits) (o .file) (takeAt g p (longest d) d) q
+              (View.took g d (o .sound) (o .fits) p (o .file) (longest d) (h .0) (h .1)),
         );
     stops = λ k d o e.
         let h = longest-chooses d (omega (arith, o .enough)) in
@@ -143,7 +153,8 @@ module _ (g : Geometry) (p k : ℕ) (d : List ℕ) (o : Known g p k d) where
   pub first-choice : (d′ : List ℕ) → grow g p k d ≡ Growth.grown d′ → Fitting
   unfolding conv
   first-choice d′ e =
-      Theorem.any-choice 32 (granules g) (view g p) (Known g p) (one g p (lowest g p) (lowest-chooses g p)) (omega arith) (is-rule g p (lowest g p) (lowest-chooses g p)) k d d′ o
+      Theorem.any-choice 32 (granules g) (view g p) (Known g p) (one g p (lowest g p) (lowest-chooses g p)) (omega arith)
+      (is-rule g p (lowest g p) (lowest-chooses g p)) k d d′ o
       (sym (conv-grow g p (lowest g p) (lowest-chooses g p) k d) ∙ ap conv e)
 
   -- the second finds no slot exactly if no choice fits

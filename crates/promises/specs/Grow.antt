@@ -70,7 +70,8 @@ module _ (g : Geometry) where
     same = λ i o. refl;
   }
 
-  grew-one : (d d₁ : List ℕ) (p : ℕ) → Sound g d → Places.Fits g d → IsFile g d p → T (not (system g d p)) → (Small d → Small d₁) → Took g d d₁ p → Grew g d d₁ p 1
+  grew-one : (d d₁ : List ℕ) (p : ℕ) → Sound g d → Places.Fits g d → IsFile g d p → T (not (system g d p)) → (Small d → Small d₁) → Took g d d₁ p → Grew g d
+      d₁ p 1
   grew-one d d₁ p c k f u b w =
       let m = w .which in let h = w .change in let l = w .longer in
       let file′ = Longer.grown-file g d d₁ c p f m l u in
@@ -102,21 +103,25 @@ module _ (g : Geometry) where
     touch = Touch.touch-then (Touch.touch-more (chain g e p) [] (y .entries) (λ n i. i) (x .touch)) (y .touch);
     entries = λ z i. y .entries z (x .entries z i);
     slots = x .slots ∙ y .slots;
-    same = λ i o. y .same i (λ z. o (subst (λ (v : ℕ). In (i / granuleBytes g) (count (g .start / granuleSectors g) (roundUp (10 + v) (granuleSectors g)))) (x .above) z)) ∙ x .same i o;
+    same = λ i o. y .same i (λ z. o
+        (subst (λ (v : ℕ). In (i / granuleBytes g) (count (g .start / granuleSectors g) (roundUp (10 + v) (granuleSectors g)))) (x .above) z)) ∙ x .same i o;
   }
 
   -- the choice is free wherever some granule is
   abbrev pub Chooses : (List ℕ → ℕ) → Type 0
   Chooses choice = (d : List ℕ) → 1 ≤ length (freeGranules g d) → (choice d < granules g) × (T (taken g d (choice d)) → ⊥)
 
-  pub growBy-grew : (choice : List ℕ → ℕ) → Chooses choice → (k : ℕ) (d d′ : List ℕ) (p : ℕ) → Sound g d → Places.Fits g d → IsFile g d p → T (not (system g d p)) → k ≤ length (freeGranules g d)
+  pub growBy-grew : (choice : List ℕ → ℕ) → Chooses choice → (k : ℕ) (d d′ : List ℕ) (p : ℕ) → Sound g d → Places.Fits g d → IsFile g d p → T
+      (not (system g d p)) → k ≤ length (freeGranules g d)
       → growBy g p choice k d ≡ grown d′ → Grew g d d′ p k
   unfolding growBy andThen
   growBy-grew choice h zero d d′ p c w f u room q = let r : d ≡ d′ = cc in subst (λ (l : List ℕ). Grew g d l p 0) r (grew-none d p c w f u)
   growBy-grew choice h (suc k) d d′ p c w f u room q =
-      go (takeAt g p (choice d) d) refl q (λ d₁ x. growBy-grew choice h k d₁ d′ p (x .kept .sound) (x .kept .fits) (x .kept .file) (x .kept .user) (omega (arith, x .free)))
+      go (takeAt g p (choice d) d) refl q (λ d₁ x. growBy-grew choice h k d₁ d′ p (x .kept .sound) (x .kept .fits) (x .kept .file) (x .kept .user)
+      (omega (arith, x .free)))
     where
-      go : (t : Grown) → takeAt g p (choice d) d ≡ t → andThen t (growBy g p choice k) ≡ grown d′ → ((d₁ : List ℕ) → Grew g d d₁ p 1 → growBy g p choice k d₁ ≡ grown d′ → Grew g d₁ d′ p k) → Grew g d d′ p (suc k)
+      go : (t : Grown) → takeAt g p (choice d) d ≡ t → andThen t (growBy g p choice k) ≡ grown d′ →
+          ((d₁ : List ℕ) → Grew g d d₁ p 1 → growBy g p choice k d₁ ≡ grown d′ → Grew g d₁ d′ p k) → Grew g d d′ p (suc k)
       go (grown d₁) e q ih =
           let n = h d (omega arith) in
           let x = grew-one d d₁ p c w f u (λ b. Bytes.take-small g d c w p f b (choice d) (n .0) d₁ e) (TakeOne.take-at g d c w p f u (choice d) n d₁ e) in
@@ -158,7 +163,8 @@ not-fails z (grown d) f = refl
 not-fails z noSlot f = absurd (f tt)
 
 -- what a growth that passed its refusals leaves
-pub larger-grew : (g : Geometry) (d : List ℕ) (h : Handle) (k : ℕ) → Passed.Holds g d h → first (cannotGrow g d (h .slot) k) ≡ 0 → Grew g d (withGranules g d (h .slot) k) (h .slot) k
+pub larger-grew : (g : Geometry) (d : List ℕ) (h : Handle) (k : ℕ) → Passed.Holds g d h → first (cannotGrow g d (h .slot) k) ≡ 0 → Grew g d
+    (withGranules g d (h .slot) k) (h .slot) k
 larger-grew g d h k w e =
     let p₁ = Passed.passed 11 _ _ (omega arith) e in
     let p₂ = Passed.passed 9 _ _ (omega arith) (p₁ .1) in

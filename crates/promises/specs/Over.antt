@@ -22,10 +22,12 @@ module _ (O r : List ℕ) (at : ℕ) where
   whole = kept ++ (r ++ drop (at + length r) O)
 
   kept-length : length kept ≡ at
-  kept-length = length-append (take at O) (replicate (at - length O) 0) ∙ ap₂ (λ (a b : ℕ). a + b) (length-take at O) (length-replicate (at - length O) 0) ∙ omega arith
+  kept-length = length-append (take at O) (replicate (at - length O) 0) ∙ ap₂ (λ (a b : ℕ). a + b) (length-take at O) (length-replicate (at - length O) 0) ∙
+      omega arith
 
   pub whole-length : length whole ≡ max (length O) (at + length r)
-  whole-length = length-append kept (r ++ drop (at + length r) O) ∙ ap₂ (λ (a b : ℕ). a + b) kept-length (length-append r (drop (at + length r) O) ∙ ap (λ (x : ℕ). length r + x) (length-drop (at + length r) O)) ∙ omega arith
+  whole-length = length-append kept (r ++ drop (at + length r) O) ∙ ap₂ (λ (a b : ℕ). a + b) kept-length
+      (length-append r (drop (at + length r) O) ∙ ap (λ (x : ℕ). length r + x) (length-drop (at + length r) O)) ∙ omega arith
 
   pub whole-old : (j : ℕ) → j < at → j < length O → getD whole j 0 ≡ getD O j 0
   whole-old j a b = List·getD-append kept (r ++ drop (at + length r) O) 0 j (omega (arith, kept-length))
@@ -33,15 +35,18 @@ module _ (O r : List ℕ) (at : ℕ) where
 
   pub whole-zero : (j : ℕ) → length O ≤ j → j < at → getD whole j 0 ≡ 0
   whole-zero j a b = List·getD-append kept (r ++ drop (at + length r) O) 0 j (omega (arith, kept-length))
-      ∙ ap (λ (x : ℕ). getD kept x 0) (omega (arith, length-take at O)) ∙ getD-append-add (take at O) (replicate (at - length O) 0) (j - length O) 0 ∙ getD-replicate (at - length O) (j - length O) 0 0 (omega arith)
+      ∙ ap (λ (x : ℕ). getD kept x 0) (omega (arith, length-take at O)) ∙ getD-append-add (take at O) (replicate (at - length O) 0) (j - length O) 0 ∙
+      getD-replicate (at - length O) (j - length O) 0 0 (omega arith)
 
   pub whole-new : (j : ℕ) → at ≤ j → j < at + length r → getD whole j 0 ≡ getD r (j - at) 0
   whole-new j a b = ap (λ (x : ℕ). getD whole x 0) (omega (arith, kept-length)) ∙ getD-append-add kept (r ++ drop (at + length r) O) (j - at) 0
       ∙ List·getD-append r (drop (at + length r) O) 0 (j - at) (omega arith)
 
   pub whole-rest : (j : ℕ) → at + length r ≤ j → getD whole j 0 ≡ getD O j 0
-  whole-rest j a = ap (λ (x : ℕ). getD whole x 0) (omega (arith, kept-length)) ∙ getD-append-add kept (r ++ drop (at + length r) O) (length r + (j - (at + length r))) 0
-      ∙ getD-append-add r (drop (at + length r) O) (j - (at + length r)) 0 ∙ getD-drop (at + length r) O (j - (at + length r)) 0 ∙ ap (λ (x : ℕ). getD O x 0) (omega arith)
+  whole-rest j a = ap (λ (x : ℕ). getD whole x 0) (omega (arith, kept-length)) ∙ getD-append-add kept (r ++ drop (at + length r) O)
+      (length r + (j - (at + length r))) 0
+      ∙ getD-append-add r (drop (at + length r) O) (j - (at + length r)) 0 ∙ getD-drop (at + length r) O (j - (at + length r)) 0 ∙ ap (λ (x : ℕ). getD O x 0)
+      (omega arith)
 
 -- what a mode makes of the size
 pub after-max : (m : Mode) (old end : ℕ) → sizeAfter m old end ≤ max old end
@@ -51,7 +56,8 @@ after-max Random old end = omega arith
 
 pub overwritten-length : (m : Mode) (O : List ℕ) (at : ℕ) (r : List ℕ) → length (overwritten m O at r) ≡ sizeAfter m (length O) (at + length r)
 unfolding overwritten
-overwritten-length m O at r = length-take (sizeAfter m (length O) (at + length r)) (whole O r at) ∙ omega (arith, whole-length O r at, after-max m (length O) (at + length r))
+overwritten-length m O at r = length-take (sizeAfter m (length O) (at + length r)) (whole O r at) ∙ omega
+    (arith, whole-length O r at, after-max m (length O) (at + length r))
 
 -- a list is the overwritten one if its bytes are
 pub is-overwritten : (m : Mode) (O : List ℕ) (at : ℕ) (r : List ℕ) (G : ℕ → ℕ)
@@ -74,4 +80,5 @@ is-overwritten m O at r G a b c len =
     val j h (no p) (no q) (no s) = absurd (omega (arith, after-max m (length O) (at + length r)))
 
     point : (j : ℕ) → j < S → getD (map G (count 0 S)) j 0 ≡ getD (overwritten m O at r) j 0
-    point j h = Members.map-count G 0 S j h ∙ ap G (omega arith) ∙ val j h (decLt j at) (decLt j (at + length r)) (decLt j (length O)) ∙ sym (getD-take S (whole O r at) j 0 h)
+    point j h = Members.map-count G 0 S j h ∙ ap G (omega arith) ∙ val j h (decLt j at) (decLt j (at + length r)) (decLt j (length O)) ∙ sym
+        (getD-take S (whole O r at) j 0 h)

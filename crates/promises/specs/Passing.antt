@@ -100,17 +100,22 @@ module _ (g : Geometry) (d : List ℕ) where
       go true false x o = refl
       go false b x o = absurd (Members.true-T o)
 
-  pub open-refuses : (n : List ℕ) (len : ℕ) (checking : Bool) (code : ℕ) → open′ g d n len checking code .refusal .number ≢ 0 → open′ g d n len checking code .handle ≡ noHandle
+  pub open-refuses : (n : List ℕ) (len : ℕ) (checking : Bool) (code : ℕ) → open′ g d n len checking code .refusal .number ≢ 0 → open′ g d n len checking code
+      .handle ≡ noHandle
   unfolding open′
   open-refuses n len checking code k = other-case (open′ g d n len checking code .refusal .number) _ noHandle k
 
   pub create-refuses : (n : List ℕ) (f : NewFile) (checking : Bool) → create g d n f checking .0 .refusal .number ≢ 0
       → (create g d n f checking .0 .handle ≡ noHandle) × (create g d n f checking .0 .old ≡ false)
   unfolding create
-  create-refuses n f checking k =
-      (other-case (create g d n f checking .0 .refusal .number) _ noHandle k, ap (λ (b : Bool). b && not (missing g d (fold n))) (Members.no-false {b = eqb (create g d n f checking .0 .refusal .number) 0} (λ t. k (eqb→eq _ 0 t))))
+  create-refuses n f checking k = (
+    other-case (create g d n f checking .0 .refusal .number) _ noHandle k,
+    ap (λ (b : Bool). b && not (missing g d (fold n)))
+        (Members.no-false {b = eqb (create g d n f checking .0 .refusal .number) 0} (λ t. k (eqb→eq _ 0 t))),
+  )
 
-  pub read-refuses : (h : Handle) (n : ℕ) (b : List ℕ) → readOf g d h n b .0 .refusal .number ≢ 0 → (readOf g d h n b .0 .handle ≡ h) × (readOf g d h n b .1 ≡ b)
+  pub read-refuses : (h : Handle) (n : ℕ) (b : List ℕ) → readOf g d h n b .0 .refusal .number ≢ 0 → (readOf g d h n b .0 .handle ≡ h) ×
+      (readOf g d h n b .1 ≡ b)
   unfolding readOf
   read-refuses h n b k = (other-case (readOf g d h n b .0 .refusal .number) _ h k, other-case (readOf g d h n b .0 .refusal .number) _ b k)
 

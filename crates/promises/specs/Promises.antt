@@ -13,7 +13,8 @@ use lib.ListN.{length, getD, take, drop}
 use lib.Seq.{slice}
 use Rattle.meaning.specs.Lists.{keep, each, firstOr}
 use Rattle.meaning.specs.Bits.{bit, digit}
-use Rattle.meaning.specs.Layout.{fitsGeometry, granules, granuleBytes, granuleSectors, sectors, highest, sectorNumbers, mostBlocks, mostUnits, slots, isSlot, hit, byte, taken, granulesFor}
+use Rattle.meaning.specs.Layout.{fitsGeometry, granules, granuleBytes, granuleSectors, sectors, highest, sectorNumbers, mostBlocks, mostUnits, slots, isSlot}
+use Rattle.meaning.specs.Layout.{hit, byte, taken, granulesFor}
 use Rattle.meaning.specs.Names.{hash, letter, wellFormed, fold, noPlace, comesIn}
 use Rattle.meaning.specs.Entries.{inUse, extension, nameOf, sectorCount}
 use Rattle.meaning.specs.Chain.{chain, owned, files}
@@ -189,7 +190,8 @@ pub record Creates (g : Geometry) (d n : List ℕ) (f : NewFile) (checking : Boo
   pub handle′ : create g d n f checking .0 .old ≡ false
       → create g d n f checking .0 .handle ≡ record { slot = firstOr 0 (freeSlots g d); name = fold n; at = 0; len = f .len; level = 0 }
 
--- A read of n bytes, a record's or the buffer's: the plain file's bytes at the position, to the start of the buffer; the rest of it is untouched, the position advances
+-- A read of n bytes, a record's or the buffer's: the plain file's bytes at the position, to the start of the buffer; the rest of it is
+-- untouched, the position advances
 pub record Reads (g : Geometry) (d : List ℕ) (h : Handle) (n : ℕ) (b : List ℕ) : Type 0 where
   pub file : File
   pub called : plain g d (h .name) ≡ found file
@@ -214,7 +216,14 @@ ith g d i = getD (listed g d) i 0
 -- Listing: number i tells the i-th file by rising slot, name, size and granules owned, and "no more" from FILES on
 pub record Lists (g : Geometry) (d : List ℕ) (i : ℕ) : Type 0 where
   pub tells : i < length (listed g d) → Listing.list g d i
-      ≡ record { refusal = unplaced 0; more = true; name = nameOf g d (ith g d i); size = length (fileAt g d (ith g d i) .bytes); granules = fileAt g d (ith g d i) .granules }
+      ≡ record {
+        refusal = unplaced 0;
+        more = true;
+        name = nameOf g d (ith g d i);
+        size = length (fileAt g d (ith g d i) .bytes);
+        granules = fileAt g d
+            (ith g d i) .granules;
+      }
   pub file : i < length (listed g d) → plain g d (nameOf g d (ith g d i)) ≡ found (fileAt g d (ith g d i))
   pub shown : i < length (listed g d) → T (not (isSystem (fileAt g d (ith g d i))))
   pub rising : (j : ℕ) → j < i → i < length (listed g d) → ith g d j < ith g d i
@@ -437,7 +446,8 @@ GatAlone = (g : Geometry) (d d′ : List ℕ) → length d′ ≡ length d → (
 pub record ReadsBack (g : Geometry) (d : List ℕ) (m : Mode) (h : Handle) (n : ℕ) (b : List ℕ) : Type 0 where
   pub accepted′ : (b′ : List ℕ) → n ≤ length b′ → readOf g (writeOf g d m h n b .1) h n b′ .0 .refusal .number ≡ 0
   pub bytes′ : (b′ : List ℕ) → n ≤ length b′ → readOf g (writeOf g d m h n b .1) h n b′ .1 ≡ take n b ++ drop n b′
-  pub kept : (j : ℕ) → j < length (fileAt g d (h .slot) .bytes) → j < length (fileAt g (writeOf g d m h n b .1) (h .slot) .bytes) → (j < h .at) ⊎ (h .at + n ≤ j)
+  pub kept : (j : ℕ) → j < length (fileAt g d (h .slot) .bytes) → j < length (fileAt g (writeOf g d m h n b .1) (h .slot) .bytes) → (j < h .at) ⊎
+      (h .at + n ≤ j)
       → getD (fileAt g (writeOf g d m h n b .1) (h .slot) .bytes) j 0 ≡ getD (fileAt g d (h .slot) .bytes) j 0
   pub gap : (j : ℕ) → length (fileAt g d (h .slot) .bytes) ≤ j → j < h .at → getD (fileAt g (writeOf g d m h n b .1) (h .slot) .bytes) j 0 ≡ 0
   pub size : length (fileAt g (writeOf g d m h n b .1) (h .slot) .bytes) ≡ sizeAfter m (length (fileAt g d (h .slot) .bytes)) (h .at + n)

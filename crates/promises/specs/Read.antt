@@ -26,10 +26,13 @@ part-of G i n s h = ext-getD 0 (map G (count i n)) (take n (drop i (map G (count
     left = length-map (count i n) G ∙ length-count i n
 
     right : length (take n (drop i (map G (count 0 s)))) ≡ n
-    right = length-take n (drop i (map G (count 0 s))) ∙ ap (min n) (length-drop i (map G (count 0 s)) ∙ ap (λ (x : ℕ). x - i) (length-map (count 0 s) G ∙ length-count 0 s)) ∙ omega arith
+    right = length-take n (drop i (map G (count 0 s))) ∙ ap (min n)
+        (length-drop i (map G (count 0 s)) ∙ ap (λ (x : ℕ). x - i) (length-map (count 0 s) G ∙ length-count 0 s)) ∙ omega arith
 
     point : (j : ℕ) → j < n → getD (map G (count i n)) j 0 ≡ getD (take n (drop i (map G (count 0 s)))) j 0
-    point j b = Members.map-count G i n j b ∙ sym (getD-take n (drop i (map G (count 0 s))) j 0 b ∙ getD-drop i (map G (count 0 s)) j 0 ∙ Members.map-count G 0 s (i + j) (omega arith) ∙ ap G (omega arith))
+    point j b = Members.map-count G i n j b ∙ sym
+        (getD-take n (drop i (map G (count 0 s))) j 0 b ∙ getD-drop i (map G (count 0 s)) j 0 ∙ Members.map-count G 0 s (i + j) (omega arith) ∙ ap G
+        (omega arith))
 
 pub read-means : (g : Geometry) (d : List ℕ) (h : Handle) (n : ℕ) (b : List ℕ) → readOf g d h n b .0 .refusal .number ≡ 0
     → readOf g d h n b .1 ≡ take n (drop (h .at) (fileAt g d (h .slot) .bytes)) ++ drop n b

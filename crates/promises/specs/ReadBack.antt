@@ -35,7 +35,8 @@ module _ (m : Mode) (O : List ℕ) (at : ℕ) (r : List ℕ) where
   over-record = ext-getD 0 (take (length r) (drop at (overwritten m O at r))) r long (λ j h. point j (omega (arith, long)))
     where
       long : length (take (length r) (drop at (overwritten m O at r))) ≡ length r
-      long = length-take (length r) (drop at (overwritten m O at r)) ∙ ap (min (length r)) (length-drop at (overwritten m O at r) ∙ ap (λ (x : ℕ). x - at) (Over.overwritten-length m O at r))
+      long = length-take (length r) (drop at (overwritten m O at r)) ∙ ap (min (length r))
+          (length-drop at (overwritten m O at r) ∙ ap (λ (x : ℕ). x - at) (Over.overwritten-length m O at r))
           ∙ omega (arith, Rewrite.after-end m (length O) (at + length r))
 
       point : (j : ℕ) → j < length r → getD (take (length r) (drop at (overwritten m O at r))) j 0 ≡ getD r j 0
@@ -132,7 +133,8 @@ module _ (g : Geometry) (d : List ℕ) (m : Mode) (h : Handle) (n : ℕ) (b : Li
       )
 
   back : take n (drop (h .at) (fileAt g (writeOf g d m h n b .1) (h .slot) .bytes)) ≡ take n b
-  back = ap (λ (l : List ℕ). take n (drop (h .at) l)) new ∙ subst (λ (k : ℕ). take k (drop (h .at) (overwritten m O (h .at) r)) ≡ r) long (over-record m O (h .at) r)
+  back = ap (λ (l : List ℕ). take n (drop (h .at) l)) new ∙ subst (λ (k : ℕ). take k (drop (h .at) (overwritten m O (h .at) r)) ≡ r) long
+      (over-record m O (h .at) r)
 
   outside : (j : ℕ) → (j < h .at) ⊎ (h .at + n ≤ j) → (j < h .at) ⊎ (h .at + length (take n b) ≤ j)
   outside j o = subst (λ (k : ℕ). (j < h .at) ⊎ (h .at + k ≤ j)) (sym long) o
@@ -141,7 +143,8 @@ module _ (g : Geometry) (d : List ℕ) (m : Mode) (h : Handle) (n : ℕ) (b : Li
   reads-back = record {
     accepted′ = accepted;
     bytes′ = λ b′ room. Read.read-means g d′ h n b′ (accepted b′ room) ∙ ap (λ (l : List ℕ). l ++ drop n b′) back;
-    kept = λ j a l o. ap (λ (x : List ℕ). getD x j 0) new ∙ over-kept m O (h .at) r j a (omega (arith, size, ap (λ (k : ℕ). sizeAfter m (length O) (h .at + k)) long)) (outside j o);
+    kept = λ j a l o. ap (λ (x : List ℕ). getD x j 0) new ∙ over-kept m O (h .at) r j a
+        (omega (arith, size, ap (λ (k : ℕ). sizeAfter m (length O) (h .at + k)) long)) (outside j o);
     gap = λ j a l. ap (λ (x : List ℕ). getD x j 0) new ∙ over-gap m O (h .at) r j a l;
     size = size;
   }

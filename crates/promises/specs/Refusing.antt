@@ -8,7 +8,8 @@ use native.Mathlib.Omega.{arith}
 use lib.ListN.{length, drop}
 use lib.Dec.{T, eqb, leb, ltb, T-not, not-T, eqb→eq, leb→le, le→leb, ltb→lt, lt→ltb, nltb→le}
 use Rattle.meaning.specs.Lists.{all, any, distinct, same, firstOr, has}
-use Rattle.meaning.specs.Layout.{fitsGeometry, granuleSizes, granules, granuleBytes, granuleSectors, sectors, highest, mostBlocks, mostUnits, isSlot, granulesFor, sectorNumbers}
+use Rattle.meaning.specs.Layout.{fitsGeometry, granuleSizes, granules, granuleBytes, granuleSectors, sectors, highest, mostBlocks, mostUnits, isSlot}
+use Rattle.meaning.specs.Layout.{granulesFor, sectorNumbers}
 use Rattle.meaning.specs.Names.{wellFormed, fold}
 use Rattle.meaning.specs.Entries.{inUse, extension, inUsePrimary, nameOf, sizeOf, system, noGrowth, mainCode, workerCode, sectorCount}
 use Rattle.meaning.specs.Consistent.{consistent}
@@ -60,7 +61,8 @@ Reading (c ∷ cs) (r ∷ rs) earlier = (c .0 ≡ r .0) × (earlier → (T (c .1
 
 -- the numbers after the first row, 0 among them, are not the first row's
 rest-apart : (m : ℕ) (ns : List ℕ) → Distinct (0 ∷ m ∷ ns) → Distinct (0 ∷ ns) × (In m (0 ∷ ns) → ⊥)
-rest-apart m ns (Members.Distinct.fresh z (Members.Distinct.fresh f r)) = (Members.Distinct.fresh (λ i. z (Members.In.there i)) r, λ i. go (Members.in-cons i))
+rest-apart m ns (Members.Distinct.fresh z (Members.Distinct.fresh f r)) =
+    (Members.Distinct.fresh (λ i. z (Members.In.there i)) r, λ i. go (Members.in-cons i))
   where
     go : (m ≡ 0) ⊎ In m ns → ⊥
     go (inl e) = z (Members.head-in ns (sym e))
@@ -109,7 +111,8 @@ rows (c ∷ cs) (r ∷ rs) e E i w n a y z =
     back : E × (r .1 → ⊥) → T (e && not (c .1))
     back x = Members.and-i e (not (c .1)) (i .1 (x .0)) (not-T (c .1) (λ t. x .1 (w .1 (x .0) .0 t)))
 
-    none : (T (e && not (c .1)) → ⊥) → Members.Test e → Members.Test (c .1) → Distinct (0 ∷ numbersOf cs) × (In (c .0) (0 ∷ numbersOf cs) → ⊥) → In a (0 ∷ numbersOf cs) → ⊥
+    none : (T (e && not (c .1)) → ⊥) → Members.Test e → Members.Test (c .1) → Distinct (0 ∷ numbersOf cs) × (In (c .0) (0 ∷ numbersOf cs) → ⊥) → In a
+        (0 ∷ numbersOf cs) → ⊥
     none t (Members.Test.fails u) b k j = z u (skip-in a (c .0) (numbersOf cs) j)
     none t (Members.Test.holds u) (Members.Test.holds b) k j = k .1 (subst (λ (x : ℕ). In x (0 ∷ numbersOf cs)) (y u ∙ hit b) j)
     none t (Members.Test.holds u) (Members.Test.fails b) k j = t (Members.and-i e (not (c .1)) u (not-T (c .1) b))
@@ -201,7 +204,17 @@ fits-iff g d = (fore, back)
         let h : T (eqb (length d) (granules g * granuleBytes g)) = search parts depth 9 in
         let i : T (leb (g .start + 10) (sectors g)) = search parts depth 9 in
         let j : T (has granuleSizes (g .granule)) = search parts depth 9 in
-        record { blocks-lo = leb→le _ _ a; blocks-hi = leb→le _ _ b; units-lo = leb→le _ _ c; units-hi = leb→le _ _ e; start-at = eqb→eq _ _ f; long = eqb→eq _ _ h; ten = leb→le _ _ i; sized = size-of j }
+        record {
+          blocks-lo = leb→le _ _ a;
+          blocks-hi = leb→le _ _ b;
+          units-lo = leb→le _ _ c;
+          units-hi = leb→le _ _ e;
+          start-at = eqb→eq _ _ f;
+          long = eqb→eq
+              _ _ h;
+          ten = leb→le _ _ i;
+          sized = size-of j;
+        }
 
     back : FitsGeometry g d → T (fitsGeometry g d)
     back k =
@@ -273,7 +286,8 @@ live-iff g d h = (fore, back)
     back r =
         let a : T (isSlot g d (h .slot)) = r .slot in
         let b : T (inUsePrimary g d (h .slot)) = Members.and-i (inUse g d (h .slot)) (not (extension g d (h .slot))) (r .used) (r .first) in
-        let e : T (same (nameOf g d (h .slot)) (h .name)) = subst (λ (l : List ℕ). T (same (nameOf g d (h .slot)) l)) (r .name′) (Members.same-refl (nameOf g d (h .slot))) in
+        let e : T (same (nameOf g d (h .slot)) (h .name)) = subst (λ (l : List ℕ). T (same (nameOf g d (h .slot)) l)) (r .name′)
+        (Members.same-refl (nameOf g d (h .slot))) in
         search Members.and-i depth 6
 
 pub found-not : (f : File) → found f ≡ nothing → ⊥
@@ -311,7 +325,8 @@ full-iff g d s checking code = (λ t. fore (Members.or-e (not checking) _ t), ba
     back : Full g (fileAt g d s) checking code → T (full g d s checking code)
     back (inl e) = Members.or-l (not checking) _ (false-iff checking .1 e)
     back (inr (inl e)) = Members.or-r (not checking) _ (Members.or-l (eqb (mainCode g d s) (g .noPassword)) _ (Members.eq-T e))
-    back (inr (inr e)) = Members.or-r (not checking) _ (Members.or-r (eqb (mainCode g d s) (g .noPassword)) _ (Members.or-l (eqb code (mainCode g d s)) false (Members.eq-T e)))
+    back (inr (inr e)) = Members.or-r (not checking) _
+        (Members.or-r (eqb (mainCode g d s) (g .noPassword)) _ (Members.or-l (eqb code (mainCode g d s)) false (Members.eq-T e)))
 
 -- the code gives one of the two levels
 pub admitted-iff : (g : Geometry) (d : List ℕ) (s : ℕ) (checking : Bool) (code : ℕ)
@@ -358,7 +373,8 @@ wrong-created : (g : Geometry) (d n : List ℕ) (checking : Bool) (code : ℕ)
     → T (all (not (missing g d n) ∷ not (admits g d (slotOf g d n) checking code) ∷ [])) ↔ Promises.WrongCode g d n checking code
 unfolding words
 wrong-created g d n checking code = (
-  λ t. wrong-iff g d n checking code (T-not (missing g d n) (Members.and-l (not (missing g d n)) _ t)) .0 (Members.all-second (not (missing g d n)) (not (admits g d (slotOf g d n) checking code)) t),
+  λ t. wrong-iff g d n checking code (T-not (missing g d n) (Members.and-l (not (missing g d n)) _ t)) .0
+      (Members.all-second (not (missing g d n)) (not (admits g d (slotOf g d n) checking code)) t),
   λ x. let k : T (missing g d n) → ⊥ = λ t. found-not (x .0) (sym (x .1) ∙ missing-iff g d n .0 t) in
       Members.all-two (not (missing g d n)) (not (admits g d (slotOf g d n) checking code)) (not-T (missing g d n) k) (wrong-iff g d n checking code k .1 x),
 )
@@ -418,7 +434,8 @@ module _ (g : Geometry) (d : List ℕ) where
   past-of (k ∷ ks) E x f = past-of ks (E × (fault g d .number ≡ k → ⊥)) (x, λ e. f (Members.head-in ks e)) (λ i. f (Members.In.there i))
 
   pub checked-of : ((FitsGeometry g d → ⊥) → ⊥) → consistent g d ≡ true → Checked
-  checked-of f e = past-of faultNumbers (Unit {0} × ((FitsGeometry g d → ⊥) → ⊥)) (tt, f) (λ i. let k = Members.count-in (fault g d .number) 21 10 i in omega (arith, k, Fault.no-number g d .1 e))
+  checked-of f e = past-of faultNumbers (Unit {0} × ((FitsGeometry g d → ⊥) → ⊥)) (tt, f)
+      (λ i. let k = Members.count-in (fault g d .number) 21 10 i in omega (arith, k, Fault.no-number g d .1 e))
 
   pub checked-fits : Checked → (FitsGeometry g d → ⊥) → ⊥
   checked-fits c = past-first faultNumbers (Unit {0} × ((FitsGeometry g d → ⊥) → ⊥)) c .1
@@ -466,7 +483,14 @@ module _ (g : Geometry) (d : List ℕ) where
 
   stuck : (h : Handle) (k : ℕ) → Writes h → (length (freeGranules g d) < k → ⊥) → T (fails (growth g (h .slot) k d)) ↔ NothingFits g d (h .slot) k
   stuck h k w n =
-      let i = Fitting.growth-iff g (h .slot) k d (record { sound = w .sound; fits = w .fits; file = w .file; user = w .user; enough = nltb→le (length (freeGranules g d)) k (not-T (ltb (length (freeGranules g d)) k) (λ t. n (ltb→lt (length (freeGranules g d)) k t))) }) in
+      let i = Fitting.growth-iff g (h .slot) k d (record {
+        sound = w .sound;
+        fits = w .fits;
+        file = w .file;
+        user = w .user;
+        enough = nltb→le (length (freeGranules g d)) k
+            (not-T (ltb (length (freeGranules g d)) k) (λ t. n (ltb→lt (length (freeGranules g d)) k t)));
+      }) in
       let j = fails-iff (growth g (h .slot) k d) in
       (λ t. i .0 (j .0 t), λ s. j .1 (i .1 s))
 
@@ -492,44 +516,54 @@ module _ (g : Geometry) (d : List ℕ) where
   look-numbers : (n : List ℕ) → Exactly (lookUp g d n .refusal .number) (table g d (Call.looksUp n))
   unfolding lookUp
   look-numbers n = exactly (lookUpRefusals g d n) (table g d (Call.looksUp n))
-      (disk-reading (ownRows (lookUpRefusals g d n)) (ownCases (table g d (Call.looksUp n))) (refl, λ x. false-iff (wellFormed (fold n)), (refl, λ x. missing-iff g d (fold n), tt))) tt
+      (disk-reading (ownRows (lookUpRefusals g d n)) (ownCases (table g d (Call.looksUp n)))
+      (refl, λ x. false-iff (wellFormed (fold n)), (refl, λ x. missing-iff g d (fold n), tt))) tt
 
-  open-numbers : (n : List ℕ) (len : ℕ) (checking : Bool) (code : ℕ) → Exactly (open′ g d n len checking code .refusal .number) (table g d (Call.opens n len checking code))
+  open-numbers : (n : List ℕ) (len : ℕ) (checking : Bool) (code : ℕ) → Exactly (open′ g d n len checking code .refusal .number)
+      (table g d (Call.opens n len checking code))
   unfolding open′
-  open-numbers n len checking code = exactly (openRefusals g d n len checking code) (table g d (Call.opens n len checking code)) (disk-reading (ownRows (openRefusals g d n len checking code)) (ownCases (table g d (Call.opens n len checking code))) (
-    refl,
-    λ x. not-iff (goodLength len) (length-iff len),
-    (
-      refl,
-      λ x. false-iff (wellFormed (fold n)),
-      (
+  open-numbers n len checking code = exactly (openRefusals g d n len checking code) (table g d (Call.opens n len checking code))
+      (disk-reading (ownRows (openRefusals g d n len checking code)) (ownCases (table g d (Call.opens n len checking code))) (
         refl,
-        λ x. missing-iff g d (fold n),
-        (refl, λ x. wrong-iff g d (fold n) checking code (λ t. x .1 (missing-iff g d (fold n) .0 t)), tt),
-      ),
-    ),
-  )) tt
+        λ x. not-iff (goodLength len) (length-iff len),
+        (
+          refl,
+          λ x. false-iff (wellFormed (fold n)),
+          (
+            refl,
+            λ x. missing-iff g d (fold n),
+            (refl, λ x. wrong-iff g d (fold n) checking code (λ t. x .1 (missing-iff g d (fold n) .0 t)), tt),
+          ),
+        ),
+      )) tt
 
-  create-numbers : (n : List ℕ) (f : NewFile) (checking : Bool) → Exactly (create g d n f checking .0 .refusal .number) (table g d (Call.creates n f checking))
+  create-numbers : (n : List ℕ) (f : NewFile) (checking : Bool) → Exactly (create g d n f checking .0 .refusal .number)
+      (table g d (Call.creates n f checking))
   unfolding create
-  create-numbers n f checking = exactly (createRefusals g d n f checking) (table g d (Call.creates n f checking)) (disk-reading (ownRows (createRefusals g d n f checking)) (ownCases (table g d (Call.creates n f checking))) (
-    refl,
-    λ x. not-iff (newInRange f) (new-iff f),
-    (
-      refl,
-      λ x. false-iff (wellFormed (fold n)),
-      (
+  create-numbers n f checking = exactly (createRefusals g d n f checking) (table g d (Call.creates n f checking))
+      (disk-reading (ownRows (createRefusals g d n f checking)) (ownCases (table g d (Call.creates n f checking))) (
         refl,
-        λ x. wrong-created g d (fold n) checking (f .main),
-        (refl, λ x. both-iff (missing g d (fold n)) (eqb (length (freeSlots g d)) 0) (missing-iff g d (fold n)) (none-iff (freeSlots g d)), tt),
-      ),
-    ),
-  )) tt
+        λ x. not-iff (newInRange f) (new-iff f),
+        (
+          refl,
+          λ x. false-iff (wellFormed (fold n)),
+          (
+            refl,
+            λ x. wrong-created g d (fold n) checking (f .main),
+            (refl, λ x. both-iff (missing g d (fold n)) (eqb (length (freeSlots g d)) 0) (missing-iff g d (fold n)) (none-iff (freeSlots g d)), tt),
+          ),
+        ),
+      )) tt
 
   pub three-iff : (a b c : Bool) {A B C : Type 0} → (T a ↔ A) → (T b ↔ B) → (T c ↔ C) → (T (all (a ∷ b ∷ c ∷ [])) ↔ (A × B × C))
   unfolding all
   three-iff a b c i j k = (
-    λ t. (i .0 (Members.and-l a (b && (c && true)) t), j .0 (Members.and-l b (c && true) (Members.and-r a (b && (c && true)) t)), k .0 (Members.all-second b c (Members.and-r a (b && (c && true)) t))),
+    λ t. (
+      i .0 (Members.and-l a (b && (c && true)) t),
+      j .0 (Members.and-l b (c && true) (Members.and-r a (b && (c && true)) t)),
+      k .0
+          (Members.all-second b c (Members.and-r a (b && (c && true)) t)),
+    ),
     λ x. Members.and-i a (b && (c && true)) (i .1 (x .0)) (Members.all-two b c (j .1 (x .1)) (k .1 (x .2))),
   )
 
@@ -558,15 +592,17 @@ module _ (g : Geometry) (d : List ℕ) where
 
   sector-numbers : (h : Handle) (k : ℕ) → Exactly (readSector g d h k .refusal .number) (table g d (Call.readsSector h k))
   unfolding readSector
-  sector-numbers h k = exactly (sectorRefusals g d h k) (table g d (Call.readsSector h k)) (disk-reading (ownRows (sectorRefusals g d h k)) (ownCases (table g d (Call.readsSector h k))) (
-    refl,
-    λ x. not-iff (all (inRange g h ∷ ltb k (sectorNumbers g) ∷ [])) (both-iff (inRange g h) (ltb k (sectorNumbers g)) (range-iff g h) (lt-iff k (sectorNumbers g))),
-    (
-      refl,
-      λ x. stale h,
-      (refl, λ x. lt-iff 5 (h .level), (refl, λ x. le-iff (sectorCount g d (h .slot)) k, tt)),
-    ),
-  )) tt
+  sector-numbers h k = exactly (sectorRefusals g d h k) (table g d (Call.readsSector h k))
+      (disk-reading (ownRows (sectorRefusals g d h k)) (ownCases (table g d (Call.readsSector h k))) (
+        refl,
+        λ x. not-iff (all (inRange g h ∷ ltb k (sectorNumbers g) ∷ []))
+            (both-iff (inRange g h) (ltb k (sectorNumbers g)) (range-iff g h) (lt-iff k (sectorNumbers g))),
+        (
+          refl,
+          λ x. stale h,
+          (refl, λ x. lt-iff 5 (h .level), (refl, λ x. le-iff (sectorCount g d (h .slot)) k, tt)),
+        ),
+      )) tt
 
   pub write-numbers : (m : Mode) (h : Handle) (n : ℕ) (b : List ℕ) → Exactly (writeOf g d m h n b .0 .refusal .number) (writeTable g d m h n b)
   unfolding writeOf
@@ -588,17 +624,24 @@ module _ (g : Geometry) (d : List ℕ) where
   allot-numbers : (h : Handle) (k : ℕ) → Exactly (allot g d h k .0 .refusal .number) (table g d (Call.allots h k))
   unfolding allot fileAt
   allot-numbers h k = exactly (allotRefusals g d h k) (table g d (Call.allots h k))
-      (disk-reading (ownRows (allotRefusals g d h k)) (ownCases (table g d (Call.allots h k))) (refl, λ x. not-iff (all (inRange g h ∷ ltb k (sectorNumbers g) ∷ [])) (both-iff (inRange g h) (ltb k (sectorNumbers g)) (range-iff g h) (lt-iff k (sectorNumbers g))), (refl, λ x. stale h, (refl, λ x. barred-iff 4 h, growth-reading h (toAllot g d h k) _ (λ x. writes h (x .0 .0 .0) (x .0 .1) (x .1)))))) tt
+      (disk-reading (ownRows (allotRefusals g d h k)) (ownCases (table g d (Call.allots h k))) (
+        refl,
+        λ x. not-iff (all (inRange g h ∷ ltb k (sectorNumbers g) ∷ []))
+            (both-iff (inRange g h) (ltb k (sectorNumbers g)) (range-iff g h) (lt-iff k (sectorNumbers g))),
+        (refl, λ x. stale h, (refl, λ x. barred-iff 4 h, growth-reading h (toAllot g d h k) _ (λ x. writes h (x .0 .0 .0) (x .0 .1) (x .1)))),
+      )) tt
 
   trim-numbers : (h : Handle) → Exactly (trim g d h .0 .refusal .number) (table g d (Call.trims h))
   unfolding trim
   trim-numbers h = exactly (trimRefusals g d h) (table g d (Call.trims h))
-      (disk-reading (ownRows (trimRefusals g d h)) (ownCases (table g d (Call.trims h))) (refl, λ x. not-iff (inRange g h) (range-iff g h), (refl, λ x. stale h, (refl, λ x. barred-iff 4 h, tt)))) tt
+      (disk-reading (ownRows (trimRefusals g d h)) (ownCases (table g d (Call.trims h)))
+      (refl, λ x. not-iff (inRange g h) (range-iff g h), (refl, λ x. stale h, (refl, λ x. barred-iff 4 h, tt)))) tt
 
   kill-numbers : (h : Handle) → Exactly (kill g d h .0 .refusal .number) (table g d (Call.kills h))
   unfolding kill
   kill-numbers h = exactly (killRefusals g d h) (table g d (Call.kills h))
-      (disk-reading (ownRows (killRefusals g d h)) (ownCases (table g d (Call.kills h))) (refl, λ x. not-iff (inRange g h) (range-iff g h), (refl, λ x. stale h, (refl, λ x. barred-iff 1 h, tt)))) tt
+      (disk-reading (ownRows (killRefusals g d h)) (ownCases (table g d (Call.kills h)))
+      (refl, λ x. not-iff (inRange g h) (range-iff g h), (refl, λ x. stale h, (refl, λ x. barred-iff 1 h, tt)))) tt
 
   -- the listing answers check's number
   pub list-number : (i : ℕ) → Listing.list g d i .refusal .number ≡ check g d .number

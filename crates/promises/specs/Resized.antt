@@ -56,7 +56,8 @@ module _ (g : Geometry) where
   }
 
   -- one step: what is before the pairs stays, and so does every byte beyond the directory
-  pub resized-one : (d d′ : List ℕ) (p : ℕ) → Sound g d → Places.Fits g d → T (not (system g d p)) → (Small d → Small d′) → Change.Change g d d′ p → length d′ ≡ length d
+  pub resized-one : (d d′ : List ℕ) (p : ℕ) → Sound g d → Places.Fits g d → T (not (system g d p)) → (Small d → Small d′) → Change.Change g d d′ p → length d′
+      ≡ length d
       → IsFile g d′ p → ((j : ℕ) → j < 0x16 → field g d′ p j ≡ field g d p j)
       → ((i : ℕ) → (In (i / granuleBytes g) (directoryGranules g d) → ⊥) → byte d′ i ≡ byte d i)
       → fileAt g d′ p .attributes ≡ fileAt g d p .attributes → fileAt g d′ p .bytes ≡ fileAt g d p .bytes → Resized g d d′ p

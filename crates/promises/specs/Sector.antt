@@ -43,7 +43,8 @@ unfolding fileAt words
 byte-at g d p j h = Members.map-count (λ j. byte d (place g d p j)) 0 (sizeOf g d p) j h ∙ ap (λ (x : ℕ). byte d (place g d p x)) (omega arith)
 
 -- the file of a live handle
-called : (g : Geometry) (d : List ℕ) (h : Handle) → Has g d h → Rattle.meaning.specs.Plain.plain g d (h .name) ≡ Rattle.meaning.specs.Plain.found (fileAt g d (h .slot))
+called : (g : Geometry) (d : List ℕ) (h : Handle) → Has g d h → Rattle.meaning.specs.Plain.plain g d (h .name) ≡ Rattle.meaning.specs.Plain.found
+    (fileAt g d (h .slot))
 called g d h w = Named.plain-is g d (w .sound) (h .slot) (h .name) (Passing.live-file g d h (w .live)) (w .live .name′)
 
 pub read-has : (g : Geometry) (d : List ℕ) (h : Handle) (n : ℕ) (b : List ℕ) → readOf g d h n b .0 .refusal .number ≡ 0
@@ -90,56 +91,66 @@ record Holds (size k n : ℕ) : Type 0 where
   end : 256 * k + n ≤ size
   least : n ≡ min 256 (size - 256 * k)
 
-module _ (g : Geometry) (d : List ℕ) (b : AreBytes d) (c : Sound g d) (fit : Places.Fits g d) (p : ℕ) (f : IsFile g d p) (k : ℕ) (in′ : k < sectorCount g d p) where
-  abbrev n : ℕ
-  n = sectorBytes g d p k
+module _ (g : Geometry) (d : List ℕ) (b : AreBytes d) (c : Sound g d) (fit : Places.Fits g d) (p : ℕ) (f : IsFile g d p) (k : ℕ) (in′ : k < sectorCount g d p)
+  where
+    abbrev n : ℕ
+    n = sectorBytes g d p k
 
-  sector-holds : Holds (sizeOf g d p) k (sectorBytes g d p k)
-  unfolding words
-  sector-holds =
-      let e = Bytes.bytes-small d b .below (entryAt g p + 3) in
-      go (Members.decide (eqb (endByte g d p) 0)) (Members.decide (eqb (suc k) (sectorCount g d p)))
-    where
-      low : endByte g d p < 256
-      low = Bytes.bytes-small d b .below (entryAt g p + 3)
+    sector-holds : Holds (sizeOf g d p) k (sectorBytes g d p k)
+    unfolding words
+    sector-holds =
+        let e = Bytes.bytes-small d b .below (entryAt g p + 3) in
+        go (Members.decide (eqb (endByte g d p) 0)) (Members.decide (eqb (suc k) (sectorCount g d p)))
+      where
+        low : endByte g d p < 256
+        low = Bytes.bytes-small d b .below (entryAt g p + 3)
 
-      go : Members.Test (eqb (endByte g d p) 0) → Members.Test (eqb (suc k) (sectorCount g d p)) → Holds (sizeOf g d p) k (sectorBytes g d p k)
-      go (Members.Test.holds t) (Members.Test.holds u) =
-          let x = eqb→eq (suc k) (sectorCount g d p) u in
-          rw (Members.T-true {b = eqb (suc k) (sectorCount g d p)} u, Members.T-true {b = eqb (endByte g d p) 0} t) (record { some = omega arith; most = omega arith; end = omega arith; least = omega arith })
-      go (Members.Test.holds t) (Members.Test.fails u) =
-          let x : suc k ≢ sectorCount g d p = λ q. u (Members.eq-T q) in
-          rw (Members.no-false {b = eqb (suc k) (sectorCount g d p)} u, Members.T-true {b = eqb (endByte g d p) 0} t) (record { some = omega arith; most = omega arith; end = omega arith; least = omega arith })
-      go (Members.Test.fails t) (Members.Test.holds u) =
-          let x = eqb→eq (suc k) (sectorCount g d p) u in let y : endByte g d p ≢ 0 = λ q. t (Members.eq-T q) in let z = low in
-          rw (Members.T-true {b = eqb (suc k) (sectorCount g d p)} u, Members.no-false {b = eqb (endByte g d p) 0} t) (record { some = omega arith; most = omega arith; end = omega arith; least = omega arith })
-      go (Members.Test.fails t) (Members.Test.fails u) =
-          let x : suc k ≢ sectorCount g d p = λ q. u (Members.eq-T q) in let y : endByte g d p ≢ 0 = λ q. t (Members.eq-T q) in
-          rw (Members.no-false {b = eqb (suc k) (sectorCount g d p)} u, Members.no-false {b = eqb (endByte g d p) 0} t) (record { some = omega arith; most = omega arith; end = omega arith; least = omega arith })
+        go : Members.Test (eqb (endByte g d p) 0) → Members.Test (eqb (suc k) (sectorCount g d p)) → Holds (sizeOf g d p) k (sectorBytes g d p k)
+        go (Members.Test.holds t) (Members.Test.holds u) =
+            let x = eqb→eq (suc k) (sectorCount g d p) u in
+            rw (Members.T-true {b = eqb (suc k) (sectorCount g d p)} u, Members.T-true {b = eqb (endByte g d p) 0} t)
+            (record { some = omega arith; most = omega arith; end = omega arith; least = omega arith })
+        go (Members.Test.holds t) (Members.Test.fails u) =
+            let x : suc k ≢ sectorCount g d p = λ q. u (Members.eq-T q) in
+            rw (Members.no-false {b = eqb (suc k) (sectorCount g d p)} u, Members.T-true {b = eqb (endByte g d p) 0} t)
+            (record { some = omega arith; most = omega arith; end = omega arith; least = omega arith })
+        go (Members.Test.fails t) (Members.Test.holds u) =
+            let x = eqb→eq (suc k) (sectorCount g d p) u in let y : endByte g d p ≢ 0 = λ q. t (Members.eq-T q) in let z = low in
+            rw (Members.T-true {b = eqb (suc k) (sectorCount g d p)} u, Members.no-false {b = eqb (endByte g d p) 0} t)
+            (record { some = omega arith; most = omega arith; end = omega arith; least = omega arith })
+        go (Members.Test.fails t) (Members.Test.fails u) =
+            let x : suc k ≢ sectorCount g d p = λ q. u (Members.eq-T q) in let y : endByte g d p ≢ 0 = λ q. t (Members.eq-T q) in
+            rw (Members.no-false {b = eqb (suc k) (sectorCount g d p)} u, Members.no-false {b = eqb (endByte g d p) 0} t)
+            (record { some = omega arith; most = omega arith; end = omega arith; least = omega arith })
 
-  abbrev from : ℕ
-  from = place g d p (256 * k)
+    abbrev from : ℕ
+    from = place g d p (256 * k)
 
-  sector-inside : from + n ≤ length d
-  sector-inside =
-      let s = sector-holds in
-      let last : place g d p (256 * k + (n - 1)) < length d = Store.place-lt g d c fit p f (256 * k + (n - 1)) (omega (arith, Change.filed-at g d c p f .fits)) in
-      omega (arith, sector-places g d p k (n - 1) (omega arith))
+    sector-inside : from + n ≤ length d
+    sector-inside =
+        let s = sector-holds in
+        let last : place g d p (256 * k + (n - 1)) < length d = Store.place-lt g d c fit p f (256 * k + (n - 1))
+        (omega (arith, Change.filed-at g d c p f .fits)) in
+        omega (arith, sector-places g d p k (n - 1) (omega arith))
 
-  sector-part : slice from (from + n) d ≡ take 256 (drop (256 * k) (fileAt g d p .bytes))
-  sector-part = ext-getD 0 (slice from (from + n) d) (take 256 (drop (256 * k) (fileAt g d p .bytes))) (left ∙ sym right) (λ j h. point j (omega (arith, left)))
-    where
-      left : length (slice from (from + n) d) ≡ n
-      left = length-slice from (from + n) d sector-inside ∙ omega arith
+    sector-part : slice from (from + n) d ≡ take 256 (drop (256 * k) (fileAt g d p .bytes))
+    sector-part = ext-getD 0 (slice from (from + n) d) (take 256 (drop (256 * k) (fileAt g d p .bytes))) (left ∙ sym right)
+        (λ j h. point j (omega (arith, left)))
+      where
+        left : length (slice from (from + n) d) ≡ n
+        left = length-slice from (from + n) d sector-inside ∙ omega arith
 
-      right : length (take 256 (drop (256 * k) (fileAt g d p .bytes))) ≡ n
-      right = length-take 256 (drop (256 * k) (fileAt g d p .bytes)) ∙ ap (min 256) (length-drop (256 * k) (fileAt g d p .bytes) ∙ ap (λ (x : ℕ). x - 256 * k) (Others.file-length g d p)) ∙ sym (sector-holds .least)
+        right : length (take 256 (drop (256 * k) (fileAt g d p .bytes))) ≡ n
+        right = length-take 256 (drop (256 * k) (fileAt g d p .bytes)) ∙ ap (min 256)
+            (length-drop (256 * k) (fileAt g d p .bytes) ∙ ap (λ (x : ℕ). x - 256 * k) (Others.file-length g d p)) ∙ sym (sector-holds .least)
 
-      point : (j : ℕ) → j < n → getD (slice from (from + n) d) j 0 ≡ getD (take 256 (drop (256 * k) (fileAt g d p .bytes))) j 0
-      point j h =
-          let s = sector-holds in
-          getD-drop from (take (from + n) d) j 0 ∙ getD-take (from + n) d (from + j) 0 (omega arith) ∙ ap (byte d) (sym (sector-places g d p k j (omega arith)))
-          ∙ sym (getD-take 256 (drop (256 * k) (fileAt g d p .bytes)) j 0 (omega arith) ∙ getD-drop (256 * k) (fileAt g d p .bytes) j 0 ∙ byte-at g d p (256 * k + j) (omega arith))
+        point : (j : ℕ) → j < n → getD (slice from (from + n) d) j 0 ≡ getD (take 256 (drop (256 * k) (fileAt g d p .bytes))) j 0
+        point j h =
+            let s = sector-holds in
+            getD-drop from (take (from + n) d) j 0 ∙ getD-take (from + n) d (from + j) 0 (omega arith) ∙ ap (byte d)
+            (sym (sector-places g d p k j (omega arith)))
+            ∙ sym (getD-take 256 (drop (256 * k) (fileAt g d p .bytes)) j 0 (omega arith) ∙ getD-drop (256 * k) (fileAt g d p .bytes) j 0 ∙ byte-at g d p
+            (256 * k + j) (omega arith))
 
 -- a sector read that is accepted: what it passed, and the part it hands back
 record Handed (g : Geometry) (d : List ℕ) (h : Handle) (k : ℕ) : Type 0 where
@@ -151,7 +162,8 @@ record Handed (g : Geometry) (d : List ℕ) (h : Handle) (k : ℕ) : Type 0 wher
 handed : (g : Geometry) (d : List ℕ) (h : Handle) (k : ℕ) → readSector g d h k .refusal .number ≡ 0 → Handed g d h k
 unfolding readSector
 handed g d h k e =
-    let w = Passing.handle-passed g d h (all (inRange g h ∷ ltb k (sectorNumbers g) ∷ [])) (notForReading h ∷ (10, leb (sectorCount g d (h .slot)) k) ∷ []) e in
+    let w = Passing.handle-passed g d h (all (inRange g h ∷ ltb k (sectorNumbers g) ∷ [])) (notForReading h ∷ (10, leb (sectorCount g d (h .slot)) k) ∷ []) e
+    in
     let p₅ = passed 6 _ _ (omega arith) (w .2) in let p₆ = passed 10 _ _ (omega arith) (p₅ .1) in
     record {
       has = w .0;

@@ -97,8 +97,11 @@ First m i = (GoodAt m i → ⊥) × ((j : ℕ) → j < i → GoodAt m j)
 first-bad : (m : List ℕ) → length m ≡ 11 → wellFormed m ≡ false → First m (badPlace m)
 unfolding badPlace
 first-bad m l e =
-    subst (First m) (sym (ap (λ (b : Bool). cond (b && letter (getD m 0 0)) (cond (ltb (good (take 8 m)) 8) (good (take 8 m)) (8 + good (drop 8 m))) 0) (eq-eqb (length m) 11 l)))
-    (by (letter (getD m 0 0)) refl (ltb (good (take 8 m)) 8) refl (subst (λ (k : ℕ). k < 11) (ap (λ (b : Bool). cond (b && letter (getD m 0 0)) (cond (ltb (good (take 8 m)) 8) (good (take 8 m)) (8 + good (drop 8 m))) 0) (eq-eqb (length m) 11 l)) (place-inside m e)))
+    subst (First m) (sym (ap (λ (b : Bool). cond (b && letter (getD m 0 0)) (cond (ltb (good (take 8 m)) 8) (good (take 8 m)) (8 + good (drop 8 m))) 0)
+    (eq-eqb (length m) 11 l)))
+    (by (letter (getD m 0 0)) refl (ltb (good (take 8 m)) 8) refl
+    (subst (λ (k : ℕ). k < 11) (ap (λ (b : Bool). cond (b && letter (getD m 0 0)) (cond (ltb (good (take 8 m)) 8) (good (take 8 m)) (8 + good (drop 8 m)))
+    0) (eq-eqb (length m) 11 l)) (place-inside m e)))
   where
     eight : length (take 8 m) ≡ 8
     eight = length-take-le 8 m (omega arith)
@@ -118,7 +121,12 @@ first-bad m l e =
         let k = ltb-false (good (take 8 m)) 8 q in let g = good (drop 8 m) in
         let back : 8 + g - 8 ≡ g = omega arith in (
           λ w. good-bad (drop 8 m) (omega (arith, z, three)) (subst (GoodIn (drop 8 m)) back (w .type′ (omega arith))),
-          λ j h. record { start = λ i. Members.true-T p; name′ = λ i. good-before (take 8 m) j (omega arith); type′ = λ i. good-before (drop 8 m) (j - 8) (omega arith) },
+          λ j h. record {
+            start = λ i. Members.true-T p;
+            name′ = λ i. good-before (take 8 m) j (omega arith);
+            type′ = λ i. good-before (drop 8 m) (j - 8)
+                (omega arith);
+          },
         )
 
 pub bad-at : (m : List ℕ) → wellFormed m ≡ false → BadAt m (badPlace m)
@@ -130,7 +138,8 @@ bad-at m e = record {
 }
   where
     none : length m ≢ 11 → badPlace m ≡ 0
-    none z = unfold badPlace in ap (λ (b : Bool). cond (b && letter (getD m 0 0)) (cond (ltb (good (take 8 m)) 8) (good (take 8 m)) (8 + good (drop 8 m))) 0) (ne-eqb (length m) 11 z)
+    none z = unfold badPlace in
+        ap (λ (b : Bool). cond (b && letter (getD m 0 0)) (cond (ltb (good (take 8 m)) 8) (good (take 8 m)) (8 + good (drop 8 m))) 0) (ne-eqb (length m) 11 z)
 
 pub comes-in : (n : List ℕ) → ComesIn n
 comes-in n = record {
@@ -167,7 +176,8 @@ module _ (g : Geometry) (d n : List ℕ) where
   look-place e = go (rows .0 .0 (known e))
     where
       rows : Promises.Rows (number g d (Call.looksUp n)) (Refusing.Checked g d) (Refusing.ownCases (Promises.table g d (Call.looksUp n)))
-      rows = Refusing.own-rows g d (Refusing.ownCases (Promises.table g d (Call.looksUp n))) (number g d (Call.looksUp n)) (Refusing.numbers g d (Call.looksUp n))
+      rows = Refusing.own-rows g d (Refusing.ownCases (Promises.table g d (Call.looksUp n))) (number g d (Call.looksUp n))
+          (Refusing.numbers g d (Call.looksUp n))
 
       known : lookUp g d n .refusal .number ≡ 3 → number g d (Call.looksUp n) ≡ 3
       known e = unfold number in e
@@ -178,8 +188,10 @@ module _ (g : Geometry) (d n : List ℕ) where
   open-place : (len : ℕ) (checking : Bool) (code : ℕ) → SaysPlace n (open′ g d n len checking code .refusal)
   open-place len checking code e = let r = rows .1 .0 .0 (known e) in go (r .0 .0) (r .1)
     where
-      rows : Promises.Rows (number g d (Call.opens n len checking code)) (Refusing.Checked g d) (Refusing.ownCases (Promises.table g d (Call.opens n len checking code)))
-      rows = Refusing.own-rows g d (Refusing.ownCases (Promises.table g d (Call.opens n len checking code))) (number g d (Call.opens n len checking code)) (Refusing.numbers g d (Call.opens n len checking code))
+      rows : Promises.Rows (number g d (Call.opens n len checking code)) (Refusing.Checked g d)
+          (Refusing.ownCases (Promises.table g d (Call.opens n len checking code)))
+      rows = Refusing.own-rows g d (Refusing.ownCases (Promises.table g d (Call.opens n len checking code))) (number g d (Call.opens n len checking code))
+          (Refusing.numbers g d (Call.opens n len checking code))
 
       known : open′ g d n len checking code .refusal .number ≡ 3 → number g d (Call.opens n len checking code) ≡ 3
       known e = unfold number in e
@@ -190,8 +202,10 @@ module _ (g : Geometry) (d n : List ℕ) where
   create-place : (f : NewFile) (checking : Bool) → SaysPlace n (create g d n f checking .0 .refusal)
   create-place f checking e = let r = rows .1 .0 .0 (known e) in go (r .0 .0) (r .1)
     where
-      rows : Promises.Rows (number g d (Call.creates n f checking)) (Refusing.Checked g d) (Refusing.ownCases (Promises.table g d (Call.creates n f checking)))
-      rows = Refusing.own-rows g d (Refusing.ownCases (Promises.table g d (Call.creates n f checking))) (number g d (Call.creates n f checking)) (Refusing.numbers g d (Call.creates n f checking))
+      rows : Promises.Rows (number g d (Call.creates n f checking)) (Refusing.Checked g d)
+          (Refusing.ownCases (Promises.table g d (Call.creates n f checking)))
+      rows = Refusing.own-rows g d (Refusing.ownCases (Promises.table g d (Call.creates n f checking))) (number g d (Call.creates n f checking))
+          (Refusing.numbers g d (Call.creates n f checking))
 
       known : create g d n f checking .0 .refusal .number ≡ 3 → number g d (Call.creates n f checking) ≡ 3
       known e = unfold number in e

@@ -91,7 +91,8 @@ module _ (g : Geometry) (d : List ℕ) (k : Good g d) where
       let p₃ = passed 12 _ _ (omega arith) (p₂ .1) in
       let tests : Bool = all (leb (h .at + n) (highest g) ∷ leb n (length b) ∷ []) in
       let range : T (inRange g h && tests) = yes-T (inRange g h && tests) (p₃ .0) in
-      let top = leb→le (h .at + n) (highest g) (Members.and-l (leb (h .at + n) (highest g)) (all (leb n (length b) ∷ [])) (Members.and-r (inRange g h) tests range)) in
+      let top = leb→le (h .at + n) (highest g)
+      (Members.and-l (leb (h .at + n) (highest g)) (all (leb n (length b) ∷ [])) (Members.and-r (inRange g h) tests range)) in
       let d₁ = withGranules g d p more in let F = place g d₁ p in let old = sizeOf g d p in
       let old-sectors = Bytes.size-sectors g d fit p s in
       let size = sizeAfter m old (h .at + n) in
@@ -104,22 +105,26 @@ module _ (g : Geometry) (d : List ℕ) (k : Good g d) where
 
   write-stays : (m : Mode) (h : Handle) (n : ℕ) (b : List ℕ) → AreBytes b → writeOf g d m h n b .0 .refusal .number ≡ 0 → Stays g d (writeOf g d m h n b .1)
   write-stays m h n b ab e =
-      let x = WriteMeans.write-wrote g d m h n b e .1 in stays-by (writeOf g d m h n b .1) (x .long) (x .consistent′) (x .reserved′) (write-small m h n b ab e)
+      let x = WriteMeans.write-wrote g d m h n b e .1 in
+      stays-by (writeOf g d m h n b .1) (x .long) (x .consistent′) (x .reserved′) (write-small m h n b ab e)
 
-  create-small : (n : List ℕ) (f : NewFile) (checking : Bool) → f .main < 65536 → f .worker < 65536 → create g d n f checking .0 .refusal .number ≡ 0 → Small (create g d n f checking .1)
+  create-small : (n : List ℕ) (f : NewFile) (checking : Bool) → f .main < 65536 → f .worker < 65536 → create g d n f checking .0 .refusal .number ≡ 0 → Small
+      (create g d n f checking .1)
   unfolding create
   create-small n f checking a b e =
       let p₂ = Passed.disk-passed g d _ e in
       let p₃ = passed 12 _ _ (omega arith) (p₂ .1) in
       let p₄ = passed 3 _ _ (omega arith) (p₃ .1) in
       let r = Refusing.new-iff f .0 (yes-T (newInRange f) (p₃ .0)) in
-      rw e (go (missing g d (fold n)) (Bytes.small-born g d fit (newSlot g d) (fold n) f s (yes-T (wellFormed (fold n)) (p₄ .0)) (r .day) (r .month) (r .year) a b))
+      rw e (go (missing g d (fold n)) (Bytes.small-born g d fit (newSlot g d) (fold n) f s (yes-T (wellFormed (fold n)) (p₄ .0)) (r .day) (r .month) (r .year)
+      a b))
     where
       go : (t : Bool) → Small (withEntry g d (newSlot g d) (fold n) f) → Small (cond t (withEntry g d (newSlot g d) (fold n) f) d)
       go true x = x
       go false x = s
 
-  create-stays : (n : List ℕ) (f : NewFile) (checking : Bool) → f .main < 65536 → f .worker < 65536 → create g d n f checking .0 .refusal .number ≡ 0 → Stays g d (create g d n f checking .1)
+  create-stays : (n : List ℕ) (f : NewFile) (checking : Bool) → f .main < 65536 → f .worker < 65536 → create g d n f checking .0 .refusal .number ≡ 0 → Stays
+      g d (create g d n f checking .1)
   create-stays n f checking a b e = go (create g d n f checking .0 .old) refl
     where
       go : (o : Bool) → create g d n f checking .0 .old ≡ o → Stays g d (create g d n f checking .1)

@@ -50,7 +50,8 @@ module _ (g : Geometry) (d : List ℕ) where
   ith-in : (i : ℕ) → i < length (listed g d) → IsFile g d (ith g d i) × T (not (system g d (ith g d i)))
   ith-in i h = listed-in (ith g d i) (Others.getD-in (listed g d) i h)
 
-  tell : (p : ℕ) (ps : List ℕ) → tellFirst g d (p ∷ ps) ≡ record { refusal = unplaced 0; more = true; name = nameOf g d p; size = length (fileAt g d p .bytes); granules = fileAt g d p .granules }
+  tell : (p : ℕ) (ps : List ℕ) → tellFirst g d (p ∷ ps) ≡ record
+      { refusal = unplaced 0; more = true; name = nameOf g d p; size = length (fileAt g d p .bytes); granules = fileAt g d p .granules }
   unfolding tellFirst fileAt
   tell p ps = λ i. record { refusal = unplaced 0; more = true; name = nameOf g d p; size = sym (Others.file-length g d p) i; granules = length (owned g d p) }
 

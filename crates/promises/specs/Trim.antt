@@ -63,7 +63,8 @@ module _ (g : Geometry) where
     entries = λ x i. i;
   }
 
-  shrank-one : (d d₁ : List ℕ) (p : ℕ) → Sound g d → Places.Fits g d → IsFile g d p → T (not (system g d p)) → (Small d → Small d₁) → Dropped g d d₁ p → Shrank g d d₁ p 1
+  shrank-one : (d d₁ : List ℕ) (p : ℕ) → Sound g d → Places.Fits g d → IsFile g d p → T (not (system g d p)) → (Small d → Small d₁) → Dropped g d d₁ p →
+      Shrank g d d₁ p 1
   shrank-one d d₁ p c k f u b w =
       let m = w .which in let h = w .change in let l = w .shorter in
       let file′ = Shorter.shrunk-file g d d₁ c p f m l u in
@@ -99,7 +100,9 @@ module _ (g : Geometry) where
       let x = shrank-one d d₁ p c w f u (λ b. Bytes.drop-small g d c w p f b) (DropLast.drop-one g d c w p f u (omega arith)) in
       let l = ap length (x .owned′) ∙ length-append (owned g d₁ p) (x .old) in
       subst (λ (j : ℕ). Shrank g d (times k (dropOne g p) d₁) p j) (omega arith)
-      (shrank-trans d d₁ (times k (dropOne g p) d₁) p 1 k x (times-shrank k d₁ p (x .kept .sound) (x .kept .fits) (x .kept .file) (x .kept .user) (omega (arith, x .size, ap (granuleBytes g *_) (l ∙ ap (length (owned g d₁ p) +_) (x .many))))))
+      (shrank-trans d d₁ (times k (dropOne g p) d₁) p 1 k x
+      (times-shrank k d₁ p (x .kept .sound) (x .kept .fits) (x .kept .file) (x .kept .user)
+      (omega (arith, x .size, ap (granuleBytes g *_) (l ∙ ap (length (owned g d₁ p) +_) (x .many))))))
 
 pub record TrimMeans (g : Geometry) (d d′ : List ℕ) (p : ℕ) : Type 0 where
   pub long : length d′ ≡ length d
@@ -126,7 +129,8 @@ unfolding trimmed fileAt
 trim-done g d d′ p t h x = λ i. record { attributes = x .kept .attributes i; granules = many i; bytes = x .kept .bytes i }
   where
     many : length (owned g d′ p) ≡ cond (keepsSpace g d p) (length (owned g d p)) (granulesFor g (length (fileAt g d p .bytes)))
-    many = rw (Members.no-false {b = keepsSpace g d p} t, Others.file-length g d p) (omega (arith, h, x .many, ap length (x .owned′) ∙ length-append (owned g d′ p) (x .old)))
+    many = rw (Members.no-false {b = keepsSpace g d p} t, Others.file-length g d p)
+        (omega (arith, h, x .many, ap length (x .owned′) ∙ length-append (owned g d′ p) (x .old)))
 
 pub trim-means : (g : Geometry) (d : List ℕ) (h : Handle) → trim g d h .0 .refusal .number ≡ 0 → TrimMeans g d (trim g d h .1) (h .slot)
 unfolding trim
@@ -136,7 +140,8 @@ trim-means g d h e =
     rw e (go p w (Members.decide (keepsSpace g d p)))
   where
     go : (p : ℕ) → Passed.Holds g d h → Members.Test (keepsSpace g d (h .slot))
-        → TrimMeans g d (cond (not (keepsSpace g d (h .slot))) (times (length (owned g d (h .slot)) - granulesFor g (sizeOf g d (h .slot))) (dropOne g (h .slot)) d) d) (h .slot)
+        → TrimMeans g d (cond (not (keepsSpace g d (h .slot)))
+        (times (length (owned g d (h .slot)) - granulesFor g (sizeOf g d (h .slot))) (dropOne g (h .slot)) d) d) (h .slot)
     go p w (Members.Test.holds t) = rw (Members.T-true {b = keepsSpace g d (h .slot)} t) (record {
       long = refl;
       consistent′ = Facts.back g d (w .sound);
@@ -162,7 +167,8 @@ trim-means g d h e =
           long = x .kept .long;
           consistent′ = Facts.back g d′ (x .kept .sound);
           reserved′ = x .kept .reserved′;
-          own = Named.plain-is g d′ (x .kept .sound) (h .slot) (nameOf g d (h .slot)) (x .kept .file) (x .kept .name) ∙ ap {B = Found} found (trim-done g d d′ (h .slot) t held x);
+          own = Named.plain-is g d′ (x .kept .sound) (h .slot) (nameOf g d (h .slot)) (x .kept .file) (x .kept .name) ∙ ap {B = Found} found
+              (trim-done g d d′ (h .slot) t held x);
           others = x .kept .others;
           beyond′ = x .kept .beyond′;
           names′ = x .kept .names′;

@@ -26,9 +26,11 @@ use Rattle.laws.specs.Store.{store-length, store-other, store-at, place-inj, pl
 use Rattle.laws.specs.Words.{words}
 
 -- a place of the directory is in one of its granules
-pub in-directory : (g : Geometry) (d : List ℕ) (i : ℕ) → g .start % granuleSectors g ≡ 0 → Places.Dir g d → 256 * g .start ≤ i → i < 256 * (g .start + directorySectors g d) → In (i / granuleBytes g) (directoryGranules g d)
+pub in-directory : (g : Geometry) (d : List ℕ) (i : ℕ) → g .start % granuleSectors g ≡ 0 → Places.Dir g d → 256 * g .start ≤ i → i < 256 *
+    (g .start + directorySectors g d) → In (i / granuleBytes g) (directoryGranules g d)
 unfolding words
-in-directory g d i e f a b = Members.in-count (i / granuleBytes g) (g .start / granuleSectors g) (roundUp (directorySectors g d) (granuleSectors g)) (Sizes.touched-from g i (g .start) a) (Sizes.touched-to g i (g .start) (directorySectors g d) e b)
+in-directory g d i e f a b = Members.in-count (i / granuleBytes g) (g .start / granuleSectors g) (roundUp (directorySectors g d) (granuleSectors g))
+    (Sizes.touched-from g i (g .start) a) (Sizes.touched-to g i (g .start) (directorySectors g d) e b)
 
 module _ (g : Geometry) (d : List ℕ) (c : Sound g d) (k : Places.Fits g d) (p : ℕ) (f : IsFile g d p) (u : T (not (system g d p)))
     (at size : ℕ) (r : List ℕ) (end : at + length r ≤ granuleBytes g * length (owned g d p)) (fit : size ≤ granuleBytes g * length (owned g d p)) where
@@ -98,23 +100,28 @@ module _ (g : Geometry) (d : List ℕ) (c : Sound g d) (k : Places.Fits g d) (p 
 
   f3 : field g d₄ p 3 ≡ size % 256
   unfolding words
-  f3 = getD-set-other e₃ (entryAt g p + 1) (entryAt g p + 3) flag 0 (omega arith) ∙ getD-set-other e₂ (entryAt g p + 0x15) (entryAt g p + 3) (n / 256) 0 (omega arith)
-      ∙ getD-set-other e₁ (entryAt g p + 0x14) (entryAt g p + 3) (n % 256) 0 (omega arith) ∙ getD-set-same d₃ (entryAt g p + 3) (size % 256) 0 (rw d₃-length (omega (arith, room)))
+  f3 = getD-set-other e₃ (entryAt g p + 1) (entryAt g p + 3) flag 0 (omega arith) ∙ getD-set-other e₂ (entryAt g p + 0x15) (entryAt g p + 3) (n / 256) 0
+      (omega arith)
+      ∙ getD-set-other e₁ (entryAt g p + 0x14) (entryAt g p + 3) (n % 256) 0 (omega arith) ∙ getD-set-same d₃ (entryAt g p + 3) (size % 256) 0
+      (rw d₃-length (omega (arith, room)))
 
   f14 : field g d₄ p 0x14 ≡ n % 256
   unfolding words
-  f14 = getD-set-other e₃ (entryAt g p + 1) (entryAt g p + 0x14) flag 0 (omega arith) ∙ getD-set-other e₂ (entryAt g p + 0x15) (entryAt g p + 0x14) (n / 256) 0 (omega arith)
+  f14 = getD-set-other e₃ (entryAt g p + 1) (entryAt g p + 0x14) flag 0 (omega arith) ∙ getD-set-other e₂ (entryAt g p + 0x15) (entryAt g p + 0x14) (n / 256)
+      0 (omega arith)
       ∙ getD-set-same e₁ (entryAt g p + 0x14) (n % 256) 0 (rw (length-set, d₃-length) (omega (arith, room)))
 
   f15 : field g d₄ p 0x15 ≡ n / 256
   unfolding words
-  f15 = getD-set-other e₃ (entryAt g p + 1) (entryAt g p + 0x15) flag 0 (omega arith) ∙ getD-set-same e₂ (entryAt g p + 0x15) (n / 256) 0 (rw (length-set, length-set, d₃-length) (omega (arith, room)))
+  f15 = getD-set-other e₃ (entryAt g p + 1) (entryAt g p + 0x15) flag 0 (omega arith) ∙ getD-set-same e₂ (entryAt g p + 0x15) (n / 256) 0
+      (rw (length-set, length-set, d₃-length) (omega (arith, room)))
 
   pub new-size : sizeOf g d₄ p ≡ size
   unfolding words
   new-size = rw (f3, f14, f15) (go (Members.decide (eqb (size % 256) 0)))
     where
-      go : Members.Test (eqb (size % 256) 0) → cond (eqb (size % 256) 0) (256 * (n % 256 + 256 * (n / 256))) (256 * (n % 256 + 256 * (n / 256) - 1) + size % 256) ≡ size
+      go : Members.Test (eqb (size % 256) 0) → cond (eqb (size % 256) 0) (256 * (n % 256 + 256 * (n / 256)))
+          (256 * (n % 256 + 256 * (n / 256) - 1) + size % 256) ≡ size
       go (Members.Test.holds t) = let z = eqb→eq (size % 256) 0 t in rw (Members.T-true {b = eqb (size % 256) 0} t) (omega arith)
       go (Members.Test.fails t) =
           let z : size % 256 ≢ 0 = λ q. t (Members.eq-T q) in
@@ -136,11 +143,13 @@ module _ (g : Geometry) (d : List ℕ) (c : Sound g d) (k : Places.Fits g d) (p 
     above = let a = a10 in d₄-out (hitAt g 31) (omega arith) (omega arith) (omega arith) (omega arith) ∙ d₃-dir (hitAt g 31) (omega arith) (omega arith);
     agrees = λ x t q j b. let s = Places.slot g d x t in let w = sp .low in let z = s .low in
         d₄-out (entryAt g x + j) (omega arith) (omega arith) (omega arith) (omega arith) ∙ d₃-dir (entryAt g x + j) (omega arith) (omega arith);
-    hits = λ x t. let s = Places.slot g d x t in d₄-out (hitAt g x) (omega arith) (omega arith) (omega arith) (omega arith) ∙ d₃-dir (hitAt g x) (omega arith) (omega arith);
+    hits = λ x t. let s = Places.slot g d x t in
+        d₄-out (hitAt g x) (omega arith) (omega arith) (omega arith) (omega arith) ∙ d₃-dir (hitAt g x) (omega arith) (omega arith);
     fixed = λ j b o. let s = sp in let v₁ = o .flags in let v₂ = o .ends in let v₃ = o .low in let v₄ = o .high in
         d₄-out (entryAt g p + j) (omega arith) (omega arith) (omega arith) (omega arith) ∙ d₃-dir (entryAt g p + j) (omega arith) (omega arith);
     keeps = λ m h. let b = Places.block-lt g d m k h in let w = k .blocks-hi in
-        ap (λ (y : ℕ). bit (m % g .units) y) (d₄-out (gatAt g m) (omega arith) (omega arith) (omega arith) (omega arith) ∙ d₃-dir (gatAt g m) (omega arith) (omega arith));
+        ap (λ (y : ℕ). bit (m % g .units) y)
+        (d₄-out (gatAt g m) (omega arith) (omega arith) (omega arith) (omega arith) ∙ d₃-dir (gatAt g m) (omega arith) (omega arith));
     none = write-none;
     fits = rw new-size fit;
     same = λ i a b. outside-entry i a ∙ d₃-out i b;
@@ -166,7 +175,9 @@ module _ (g : Geometry) (d : List ℕ) (c : Sound g d) (k : Places.Fits g d) (p 
   zero-in j a b =
       let h : j < granuleBytes g * length (owned g d p) = omega arith in
       data-byte j h ∙ not-written j h (inl b)
-      ∙ store-at F (replicate (at - old) 0) d old j a (omega (arith, zeros)) (λ x y s t v w q. place-inj g d c k p f x y (omega (arith, zeros)) (omega (arith, zeros)) q) (λ x s t. place-lt g d c k p f x (omega (arith, zeros)))
+      ∙ store-at F (replicate (at - old) 0) d old j a (omega (arith, zeros))
+      (λ x y s t v w q. place-inj g d c k p f x y (omega (arith, zeros)) (omega (arith, zeros)) q)
+      (λ x s t. place-lt g d c k p f x (omega (arith, zeros)))
       ∙ getD-replicate (at - old) (j - old) 0 0 (omega arith)
 
   pub old-in : (j : ℕ) → j < old → (j < at) ⊎ (at + length r ≤ j) → byte d₄ (F j) ≡ byte d (F j)

@@ -92,7 +92,8 @@ module _ (g : Geometry) (d : List ℕ) (c : Sound g d) (k : Places.Fits g d) (p 
 
   own-bytes : fileAt g d′ p .bytes ≡ overwritten m O at r
   unfolding fileAt words
-  own-bytes = ap (λ (n : ℕ). Read.fetch g d′ p 0 n) (Write.new-size g d c k p f u at size r end fit ∙ ap (λ (n : ℕ). sizeAfter m n (at + length r)) (sym len-O))
+  own-bytes = ap (λ (n : ℕ). Read.fetch g d′ p 0 n)
+      (Write.new-size g d c k p f u at size r end fit ∙ ap (λ (n : ℕ). sizeAfter m n (at + length r)) (sym len-O))
       ∙ Members.map-eq _ _ (count 0 (sizeAfter m (length O) (at + length r))) (λ j i. ap (Layout.byte d′) (place-same j)) ∙ written-bytes
 
   kept : (j : ℕ) → j < 32 → Rewrite.Kept j → field g d′ p j ≡ field g d p j
@@ -101,7 +102,8 @@ module _ (g : Geometry) (d : List ℕ) (c : Sound g d) (k : Places.Fits g d) (p 
   own-attributes : fileAt g d′ p .attributes ≡ set (fileAt g d p .attributes) 1 (Bits.withBit 5 (getD (fileAt g d p .attributes) 1 0))
   unfolding fileAt
   own-attributes =
-      let at′ : (j : ℕ) → j < 32 → j ≢ 1 → j ≢ 3 → j ≢ 0x14 → j ≢ 0x15 → field g d′ p j ≡ field g d p j = λ j a b v w x. kept j a (record { flags = b; ends = v; low = w; high = x }) in
+      let at′ : (j : ℕ) → j < 32 → j ≢ 1 → j ≢ 3 → j ≢ 0x14 → j ≢ 0x15 → field g d′ p j ≡ field g d p j = λ j a b v w x. kept j a
+      (record { flags = b; ends = v; low = w; high = x }) in
       rw (
         at′ 0 (omega arith) (omega arith) (omega arith) (omega arith) (omega arith),
         Write.f1 g d c k p f u at size r end fit,
@@ -155,9 +157,11 @@ module _ (g : Geometry) (d d₁ : List ℕ) (p : ℕ) (m : Mode) (at : ℕ) (r :
   written-file : fileAt g (img (sizeOf g d₁ p)) p ≡ writtenTo g m at r (fileAt g d p)
   unfolding writtenTo
   written-file = λ i. record {
-    attributes = (own-attributes g d₁ (x .kept .sound) (x .kept .fits) p (x .kept .file) (x .kept .user) m at r fit₁ ∙ ap (λ (l : List ℕ). set l 1 (Bits.withBit 5 (getD l 1 0))) (x .kept .attributes)) i;
+    attributes = (own-attributes g d₁ (x .kept .sound) (x .kept .fits) p (x .kept .file) (x .kept .user) m at r fit₁ ∙ ap
+        (λ (l : List ℕ). set l 1 (Bits.withBit 5 (getD l 1 0))) (x .kept .attributes)) i;
     granules = many i;
-    bytes = (own-bytes g d₁ (x .kept .sound) (x .kept .fits) p (x .kept .file) (x .kept .user) m at r fit₁ ∙ ap (λ (l : List ℕ). overwritten m l at r) (x .kept .bytes)) i;
+    bytes = (own-bytes g d₁ (x .kept .sound) (x .kept .fits) p (x .kept .file) (x .kept .user) m at r fit₁ ∙ ap (λ (l : List ℕ). overwritten m l at r)
+        (x .kept .bytes)) i;
   }
     where
       long : length (overwritten m (fileAt g d p .bytes) at r) ≡ size₀
@@ -173,7 +177,8 @@ module _ (g : Geometry) (d d₁ : List ℕ) (p : ℕ) (m : Mode) (at : ℕ) (r :
   free₄ =
       let d₄ = img (sizeOf g d₁ p) in
       let w = rewrites g d₁ (x .kept .sound) (x .kept .fits) p (x .kept .file) (x .kept .user) m at r fit₁ in
-      rw (Rewrite.rw-free g d₁ d₄ (x .kept .sound) p (x .kept .file) w, Rewrite.rw-owned g d₁ d₄ (x .kept .sound) p (x .kept .file) w) (omega (arith, x .free, own₁))
+      rw (Rewrite.rw-free g d₁ d₄ (x .kept .sound) p (x .kept .file) w, Rewrite.rw-owned g d₁ d₄ (x .kept .sound) p (x .kept .file) w)
+      (omega (arith, x .free, own₁))
 
   -- the stores: growth, then bytes of the granules owned, then the file's entry
   touch₄ : Touch g (chain g (img (sizeOf g d₁ p)) p) (owned g (img (sizeOf g d₁ p)) p) d (img (sizeOf g d₁ p))
@@ -193,7 +198,8 @@ module _ (g : Geometry) (d d₁ : List ℕ) (p : ℕ) (m : Mode) (at : ℕ) (r :
   user₄ : Sound g (img (sizeOf g d₁ p)) → T (not (system g (img (sizeOf g d₁ p)) p))
   user₄ s =
       let d₄ = img (sizeOf g d₁ p) in
-      let e : field g d₄ p 0 ≡ field g d₁ p 0 = kept g d₁ (x .kept .sound) (x .kept .fits) p (x .kept .file) (x .kept .user) m at r fit₁ 0 (omega arith) (record { flags = omega arith; ends = omega arith; low = omega arith; high = omega arith }) in
+      let e : field g d₄ p 0 ≡ field g d₁ p 0 = kept g d₁ (x .kept .sound) (x .kept .fits) p (x .kept .file) (x .kept .user) m at r fit₁ 0 (omega arith)
+      (record { flags = omega arith; ends = omega arith; low = omega arith; high = omega arith }) in
       rw e (x .kept .user)
 
   pub wrote : Wrote g d (img (sizeOf g d₁ p)) p (writtenTo g m at r (fileAt g d p))
@@ -209,7 +215,8 @@ module _ (g : Geometry) (d d₁ : List ℕ) (p : ℕ) (m : Mode) (at : ℕ) (r :
         consistent′ = Facts.back g d₄ s;
         reserved′ = Others.reserved-stays g d₁ d₄ (x .kept .sound) p h ∙ x .kept .reserved′;
         own = Named.plain-is g d₄ s p (nameOf g d p) (Rewrite.rw-file g d₁ d₄ (x .kept .sound) p (x .kept .file) w) n ∙ ap {B = Found} found written-file;
-        beyond′ = λ b q. Others.beyond-plain g d₁ d₄ (x .kept .sound) p h (Rewrite.rw-same g d₁ d₄ (x .kept .sound) p (x .kept .file) w) b (λ z a. q (sym a ∙ x .kept .name)) (λ z a. q (sym a ∙ n)) ∙ x .kept .beyond′ b q;
+        beyond′ = λ b q. Others.beyond-plain g d₁ d₄ (x .kept .sound) p h (Rewrite.rw-same g d₁ d₄ (x .kept .sound) p (x .kept .file) w) b
+            (λ z a. q (sym a ∙ x .kept .name)) (λ z a. q (sym a ∙ n)) ∙ x .kept .beyond′ b q;
         names′ = λ b q. Others.names-stay g d₁ d₄ (x .kept .sound) p h b (λ z a. q (sym a ∙ x .kept .name)) (λ z a. q (sym a ∙ n)) ∙ x .kept .names′ b q;
         touch = touch₄;
         apart = λ n i. Change.filed-at g d₄ s p (Rewrite.rw-file g d₁ d₄ (x .kept .sound) p (x .kept .file) w) .off (user₄ s) n i;
@@ -217,7 +224,8 @@ module _ (g : Geometry) (d d₁ : List ℕ) (p : ℕ) (m : Mode) (at : ℕ) (r :
         file′ = Rewrite.rw-file g d₁ d₄ (x .kept .sound) p (x .kept .file) w;
         name′ = n;
         told = written-file;
-        others = λ b q. Others.others-plain g d₁ d₄ (x .kept .sound) p h (Rewrite.rw-same g d₁ d₄ (x .kept .sound) p (x .kept .file) w) b (λ z a. q (sym a ∙ x .kept .name)) (λ z a. q (sym a ∙ n)) ∙ x .kept .others b q;
+        others = λ b q. Others.others-plain g d₁ d₄ (x .kept .sound) p h (Rewrite.rw-same g d₁ d₄ (x .kept .sound) p (x .kept .file) w) b
+            (λ z a. q (sym a ∙ x .kept .name)) (λ z a. q (sym a ∙ n)) ∙ x .kept .others b q;
       }
 
 -- the geometry fits an image of the same length
@@ -242,6 +250,7 @@ write-wrote g d m h n b e =
     let x : Grew g d d₁ p more = Grow.larger-grew g d h more (w .0) (w .1) in
     let y : Grew g d d₁ p (lacking g d p (granulesFor g (sizeAfter m (sizeOf g d p) (h .at + length r)))) =
     subst (λ (l : ℕ). Grew g d d₁ p (lacking g d p (granulesFor g (sizeAfter m (sizeOf g d p) (h .at + l))))) (sym lr) x in
-    let image : ℕ → ℕ → List ℕ = λ o l. withSize g (store (place g d₁ p) (store (place g d₁ p) d₁ o (replicate (h .at - o) 0)) (h .at) r) p (sizeAfter m o (h .at + l)) in
+    let image : ℕ → ℕ → List ℕ = λ o l. withSize g (store (place g d₁ p) (store (place g d₁ p) d₁ o (replicate (h .at - o) 0)) (h .at) r) p
+    (sizeAfter m o (h .at + l)) in
     let same′ : image (sizeOf g d₁ p) (length r) ≡ image (sizeOf g d p) n = ap₂ image (size₁ g d d₁ p m (h .at) r y) lr in
     (w .0, rw e (subst (λ (i : List ℕ). Wrote g d i p (writtenTo g m (h .at) r (fileAt g d p))) same′ (wrote g d d₁ p m (h .at) r y)))

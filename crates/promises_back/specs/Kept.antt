@@ -37,7 +37,11 @@ use Rattle.promises_back.specs.Passing as Back
 module _ (g : Geometry) (d : List ℕ) (s : ℕ) where
   refuses : bringBack g d s .0 .refusal .number ≢ 0 → (bringBack g d s .1 ≡ d) × (bringBack g d s .0 .slots ≡ 0) × (bringBack g d s .0 .granules ≡ 0)
   unfolding bringBack
-  refuses k = (Passing.other-case (bringBack g d s .0 .refusal .number) _ d k, Passing.other-case (bringBack g d s .0 .refusal .number) _ 0 k, Passing.other-case (bringBack g d s .0 .refusal .number) _ 0 k)
+  refuses k = (
+    Passing.other-case (bringBack g d s .0 .refusal .number) _ d k,
+    Passing.other-case (bringBack g d s .0 .refusal .number) _ 0 k,
+    Passing.other-case (bringBack g d s .0 .refusal .number) _ 0 k,
+  )
 
   stays : Good g d → Stays g d (bringBack g d s .1)
   stays o = go (ℕ-discrete (bringBack g d s .0 .refusal .number) 0)
@@ -52,8 +56,12 @@ every-back g d s = record { stays = stays g d s; serves = Serving.back-serves g 
 along : (g : Geometry) (d₀ d : List ℕ) → Stays g d₀ d → (cs : List Step) → AllBring cs → Along g d₀ d cs
 unfolding leavesBy
 along g d₀ d s [] b = s
-along g d₀ d s (Step.calls c ∷ cs) b =
-    (s, Kept.every-call g d c, along g d₀ (leavesBy g d (Step.calls c)) (Kept.stays-after g d₀ d (leavesBy g d (Step.calls c)) s (Staying.stays g d (s .good) c (b .0))) cs (b .1))
+along g d₀ d s (Step.calls c ∷ cs) b = (
+  s,
+  Kept.every-call g d c,
+  along g d₀ (leavesBy g d (Step.calls c))
+      (Kept.stays-after g d₀ d (leavesBy g d (Step.calls c)) s (Staying.stays g d (s .good) c (b .0))) cs (b .1),
+)
 along g d₀ d s (Step.brings x ∷ cs) b =
     (s, every-back g d x, along g d₀ (leavesBy g d (Step.brings x)) (Kept.stays-after g d₀ d (leavesBy g d (Step.brings x)) s (stays g d x (s .good))) cs b)
 

@@ -41,16 +41,17 @@ module _ (g : Geometry) (d : List ℕ) (s : ℕ) where
 
   pub back-numbers : Exactly (bringBack g d s .0 .refusal .number) (backTable g d s)
   unfolding bringBack
-  back-numbers = Refusing.exactly (bringBackRefusals g d s) (backTable g d s) (Refusing.disk-reading g d (Refusing.ownRows (bringBackRefusals g d s)) (Refusing.ownCases (backTable g d s)) (
-    refl,
-    λ x. Refusing.not-iff (isSlot g d s) (λ t. t, λ t. t),
-    (
-      refl,
-      λ x. (λ t. t, λ t. t),
-      (
+  back-numbers = Refusing.exactly (bringBackRefusals g d s) (backTable g d s)
+      (Refusing.disk-reading g d (Refusing.ownRows (bringBackRefusals g d s)) (Refusing.ownCases (backTable g d s)) (
         refl,
-        λ x. (λ t. t, λ t. t),
-        (refl, λ x. Refusing.not-iff (whole g d s) whole-iff, (refl, λ x. named-iff g d (nameOf g d s), (refl, λ x. some-iff, tt))),
-      ),
-    ),
-  )) tt
+        λ x. Refusing.not-iff (isSlot g d s) (λ t. t, λ t. t),
+        (
+          refl,
+          λ x. (λ t. t, λ t. t),
+          (
+            refl,
+            λ x. (λ t. t, λ t. t),
+            (refl, λ x. Refusing.not-iff (whole g d s) whole-iff, (refl, λ x. named-iff g d (nameOf g d s), (refl, λ x. some-iff, tt))),
+          ),
+        ),
+      )) tt

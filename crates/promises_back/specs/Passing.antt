@@ -79,8 +79,10 @@ module _ (g : Geometry) (d : List ℕ) (s : ℕ) where
   pub accepts : T (fitsGeometry g d) → T (consistent g d) → Back g d s → first (bringBackRefusals g d s) ≡ 0
   accepts f c w =
       disk-passes g d _ (Members.T-true f) (Members.T-true c) ∙ skip 12 (not (isSlot g d s)) _ (no-not (isSlot g d s) (w .slot))
-      (skip 17 (inUse g d s) _ (w .dead) (skip 6 (system g d s) _ (T-not (system g d s) (w .user)) (skip 18 (not (whole g d s)) _ (no-not (whole g d s) (BringBack.says-whole g d s (w .whole′)))
-      (skip 19 (nameInUse g d s) _ (no-not (missing g d (nameOf g d s)) (unnamed w)) (skip 20 (some (taken g d) (owned g d s)) [] (λ t. let k = some-in (taken g d) (owned g d s) t in w .free (k .0) (k .1) (k .2)) none)))))
+      (skip 17 (inUse g d s) _ (w .dead) (skip 6 (system g d s) _ (T-not (system g d s) (w .user))
+      (skip 18 (not (whole g d s)) _ (no-not (whole g d s) (BringBack.says-whole g d s (w .whole′)))
+      (skip 19 (nameInUse g d s) _ (no-not (missing g d (nameOf g d s)) (unnamed w))
+      (skip 20 (some (taken g d) (owned g d s)) [] (λ t. let k = some-in (taken g d) (owned g d s) t in w .free (k .0) (k .1) (k .2)) none)))))
 
   -- the whole answer, where nothing is refused
   pub answers : first (bringBackRefusals g d s) ≡ 0

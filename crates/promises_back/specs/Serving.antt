@@ -67,7 +67,8 @@ module _ (g : Geometry) (d : List ℕ) (c : Sound g d) (k : Places.Fits g d) (s 
   unfolding backAs
   becomes =
       let own : plain g d′ (nameOf g d s) ≡ found (backAs g d s) =
-      Named.plain-is g d′ sound′ s (nameOf g d s) (BringBack.back-file g d c k s w) (BringBack.back-name g d c k s w) ∙ ap {B = Found} found (BringBack.back-told g d c k s w) in
+      Named.plain-is g d′ sound′ s (nameOf g d s) (BringBack.back-file g d c k s w) (BringBack.back-name g d c k s w) ∙ ap {B = Found} found
+      (BringBack.back-told g d c k s w) in
       let away : (m : List ℕ) → m ≢ nameOf g d s → IsFile g d′ s → nameOf g d′ s ≢ m = λ m n f e. n (sym e ∙ BringBack.back-name g d c k s w) in
       let touch : Touch.Touch g (chain g d′ s) [] d d′ =
       subst (λ (xs : List ℕ). Touch.Touch g xs [] d d′) (sym (BringBack.back-chain g d c k s w))
@@ -76,7 +77,8 @@ module _ (g : Geometry) (d : List ℕ) (c : Sound g d) (k : Places.Fits g d) (s 
       record {
         before = Named.plain-none g d (nameOf g d s) (w .new);
         after = own;
-        list = Changing.one-list g d d′ (nameOf g d s) (found (backAs g d s)) own (λ m n. Others.others-plain g d d′ c s change same m (λ f. absurd (no-file f)) (away m n));
+        list = Changing.one-list g d d′ (nameOf g d s) (found (backAs g d s)) own
+            (λ m n. Others.others-plain g d d′ c s change same m (λ f. absurd (no-file f)) (away m n));
         others = λ m n. Others.beyond-plain g d d′ c s change same m (λ f. absurd (no-file f)) (away m n);
         slots′ = λ m n. Others.names-stay g d d′ c s change m (λ f. absurd (no-file f)) (away m n);
         untouched = l .untouched;

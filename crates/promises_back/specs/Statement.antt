@@ -102,7 +102,8 @@ EveryState = (g : Geometry) (d : List ℕ) → Good g d → (cs : List Step) →
 -- Nothing written in between: it is accepted, tells the slots and granules that the file had, and leaves the very image.
 abbrev pub KillUndone : Type 0
 KillUndone = (g : Geometry) (d : List ℕ) (h : Handle) → kill g d h .0 .refusal .number ≡ 0
-    → bringBack g (kill g d h .1) (h .slot) ≡ (record { refusal = unplaced 0; slots = length (chain g d (h .slot)); granules = length (owned g d (h .slot)) }, d)
+    → bringBack g (kill g d h .1) (h .slot) ≡
+    (record { refusal = unplaced 0; slots = length (chain g d (h .slot)); granules = length (owned g d (h .slot)) }, d)
 
 -- "If none of its slots was written since the kill, a brought-back file has the entry bytes it had before": e is any disk on which the
 -- entries of the killed file stand as the kill left them, and on which bring back is accepted.

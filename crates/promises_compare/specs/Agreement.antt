@@ -52,20 +52,28 @@ eqb-swap m n = by (eqb m n) refl
 
 -- the position is the first where the contents part
 pub parts : (xs ys : List ℕ) → Parts xs ys (parting xs ys)
-parts [] ys = rw (parting-nothing ys) (record { within = (omega arith, omega arith); alike = λ j l. absurd (let q : ⊥ = omega arith in q); part = λ l. absurd (let q : ⊥ = omega arith in q) })
-parts (x ∷ xs) [] = rw (parting-none (x ∷ xs)) (record { within = (omega arith, omega arith); alike = λ j l. absurd (let q : ⊥ = omega arith in q); part = λ l m. absurd (let q : ⊥ = omega arith in q) })
+parts [] ys = rw (parting-nothing ys) (record {
+  within = (omega arith, omega arith);
+  alike = λ j l. absurd (let q : ⊥ = omega arith in q);
+  part = λ l. absurd
+      (let q : ⊥ = omega arith in q);
+})
+parts (x ∷ xs) [] = rw (parting-none (x ∷ xs)) (record
+    { within = (omega arith, omega arith); alike = λ j l. absurd (let q : ⊥ = omega arith in q); part = λ l m. absurd (let q : ⊥ = omega arith in q) })
 parts (x ∷ xs) (y ∷ ys) = by (parts xs ys) (eqb x y) refl
   where
     by : Parts xs ys (parting xs ys) → (b : Bool) → eqb x y ≡ b → Parts (x ∷ xs) (y ∷ ys) (parting (x ∷ xs) (y ∷ ys))
     by p true e =
         let w = p .within in
-        rw (parting-on x y xs ys (eqb-true x y e)) (record { within = (omega arith, omega arith); alike = at; part = λ l m. p .part (omega arith) (omega arith) })
+        rw (parting-on x y xs ys (eqb-true x y e))
+        (record { within = (omega arith, omega arith); alike = at; part = λ l m. p .part (omega arith) (omega arith) })
       where
         at : (j : ℕ) → j < suc (parting xs ys) → getD (x ∷ xs) j 0 ≡ getD (y ∷ ys) j 0
         at zero l = eqb-true x y e
         at (suc j) l = p .alike j (omega arith)
     by p false e =
-        rw (parting-here x y xs ys (eqb-false x y e)) (record { within = (omega arith, omega arith); alike = λ j l. absurd (let q : ⊥ = omega arith in q); part = λ l m. eqb-false x y e })
+        rw (parting-here x y xs ys (eqb-false x y e)) (record
+        { within = (omega arith, omega arith); alike = λ j l. absurd (let q : ⊥ = omega arith in q); part = λ l m. eqb-false x y e })
 
 -- Attributes -----------------------------------------------------------------------------------------------------------------
 
@@ -100,9 +108,14 @@ head-is e = ap (λ (l : List ℕ). getD l 0 0) e
 tail-is : {x y : ℕ} {xs ys : List ℕ} → x ∷ xs ≡ y ∷ ys → xs ≡ ys
 tail-is e = ap (λ (l : List ℕ). drop 1 l) e
 
-equal-files : (f f′ : File) → 3 ≤ length (f .attributes) → 3 ≤ length (f′ .attributes) → f .bytes ≡ f′ .bytes → dateOf f ≡ dateOf f′ → othersOf f ≡ othersOf f′ → Equal f f′
+equal-files : (f f′ : File) → 3 ≤ length (f .attributes) → 3 ≤ length (f′ .attributes) → f .bytes ≡ f′ .bytes → dateOf f ≡ dateOf f′ → othersOf f ≡ othersOf
+    f′ → Equal f f′
 equal-files f f′ l m b e o =
-    record { attributes = three (f .attributes) (f′ .attributes) l m (head-is e) (head-is (tail-is e)) (head-is o) (head-is (tail-is o)) (tail-is (tail-is o)); bytes = b }
+    record {
+      attributes = three (f .attributes) (f′ .attributes) l m (head-is e) (head-is (tail-is e)) (head-is o) (head-is (tail-is o))
+          (tail-is (tail-is o));
+      bytes = b;
+    }
 
 -- Four tests -----------------------------------------------------------------------------------------------------------------
 
@@ -154,11 +167,14 @@ module _ (n : List ℕ) (f f′ : File) where
 
   none-equal : 3 ≤ length (f .attributes) → 3 ≤ length (f′ .attributes) → isOne (unlike n f f′) ≡ false → Equal f f′
   none-equal l m e =
-      by (four (not (same (f .bytes) (f′ .bytes))) (not (eqb (length (f .bytes)) (length (f′ .bytes)))) (not (same (dateOf f) (dateOf f′))) (not (same (othersOf f) (othersOf f′))))
+      by (four (not (same (f .bytes) (f′ .bytes))) (not (eqb (length (f .bytes)) (length (f′ .bytes)))) (not (same (dateOf f) (dateOf f′)))
+      (not (same (othersOf f) (othersOf f′))))
     where
-      by : Four (not (same (f .bytes) (f′ .bytes))) (not (eqb (length (f .bytes)) (length (f′ .bytes)))) (not (same (dateOf f) (dateOf f′))) (not (same (othersOf f) (othersOf f′))) → Equal f f′
+      by : Four (not (same (f .bytes) (f′ .bytes))) (not (eqb (length (f .bytes)) (length (f′ .bytes)))) (not (same (dateOf f) (dateOf f′)))
+          (not (same (othersOf f) (othersOf f′))) → Equal f f′
       by (none-holds p q r s) =
-          equal-files f f′ l m (same-yes (f .bytes) (f′ .bytes) (no-not p)) (same-yes (dateOf f) (dateOf f′) (no-not r)) (same-yes (othersOf f) (othersOf f′) (no-not s))
+          equal-files f f′ l m (same-yes (f .bytes) (f′ .bytes) (no-not p)) (same-yes (dateOf f) (dateOf f′) (no-not r))
+          (same-yes (othersOf f) (othersOf f′) (no-not s))
       by (one-holds p) = never (sym (one-is p) ∙ e)
 
   -- what is told of two files

@@ -23,9 +23,11 @@ use Rattle.differences.specs.Compare.{before, isOne, tellsNone, tellFirst, at�
 use Rattle.differences.specs.Order.{In, never, before-self}
 use Rattle.differences.specs.Told.{difference-name, difference-number}
 use Rattle.differences.specs.declared.Difference.{Difference}
-use Rattle.promises_compare.specs.Statement.{Agree, neither, byName, equal, Says, Both, many, Compares, Refuses, turned, swapped, EveryPair, EveryRefusal, Swaps, Itself, Interleaved}
+use Rattle.promises_compare.specs.Statement.{Agree, neither, byName, equal, Says, Both, many, Compares, Refuses, turned, swapped, EveryPair}
+use Rattle.promises_compare.specs.Statement.{EveryRefusal, Swaps, Itself, Interleaved}
 use Rattle.promises_compare.specs.Agreement.{plain-told, agree-none, none-agrees, says, swap-difference}
-use Rattle.promises_compare.specs.Telling.{getD-in, in-getD, getD-rises, differing, many-are, differing-rises, differing-in, in-differing, told-is, told-none, merged-swap, map-swap, tell-swap}
+use Rattle.promises_compare.specs.Telling.{getD-in, in-getD, getD-rises, differing, many-are, differing-rises, differing-in, in-differing, told-is}
+use Rattle.promises_compare.specs.Telling.{told-none, merged-swap, map-swap, tell-swap}
 
 -- a disk whose check answers 0 is consistent
 sound : (g : Geometry) (d : List ℕ) → check g d .number ≡ 0 → facts.Sound g d
@@ -62,7 +64,8 @@ module _ (g : Geometry) (d : List ℕ) (g′ : Geometry) (d′ : List ℕ) where
     tells : (i : ℕ) → i < many g d g′ d′ → Says (compare g d g′ d′ i) (plain g d (compare g d g′ d′ i .name)) (plain g′ d′ (compare g d g′ d′ i .name))
     tells i l =
         subst (λ (n : List ℕ). Says (compare g d g′ d′ i) (plain g d n) (plain g′ d′ n)) (sym (name-is i l))
-        (subst (λ (x : Difference). Says x (plain g d (named i)) (plain g′ d′ (named i))) (sym (told i l)) (says (named i) (plain g d (named i)) (plain g′ d′ (named i)) (one i l)))
+        (subst (λ (x : Difference). Says x (plain g d (named i)) (plain g′ d′ (named i))) (sym (told i l))
+        (says (named i) (plain g d (named i)) (plain g′ d′ (named i)) (one i l)))
 
     not-agreed : (i : ℕ) → i < many g d g′ d′ → Agree (plain g d (compare g d g′ d′ i .name)) (plain g′ d′ (compare g d g′ d′ i .name)) → ⊥
     not-agreed i l a =
@@ -126,7 +129,10 @@ module _ (g : Geometry) (d : List ℕ) (g′ : Geometry) (d′ : List ℕ) where
           none = (none-told, λ f. agreed f 0);
           ends = ends;
           tells = tells;
-          isOne′ = λ i l. (ap (λ (x : Difference). x .refusal .number) (told i l) ∙ difference-number (named i) (plain g d (named i)) (plain g′ d′ (named i)), not-agreed i l);
+          isOne′ = λ i l. (
+            ap (λ (x : Difference). x .refusal .number) (told i l) ∙ difference-number (named i) (plain g d (named i)) (plain g′ d′ (named i)),
+            not-agreed i l,
+          );
           rises = rises;
           every′ = every′;
           once = once;
@@ -160,7 +166,8 @@ one-swapped : (x : Difference) → isOne (swapped x) ≡ isOne x
 unfolding isOne swapped turned
 one-swapped x = by (eqb (x .kind) 1) refl (eqb (x .kind) 2) refl
   where
-    by : (a : Bool) → eqb (x .kind) 1 ≡ a → (b : Bool) → eqb (x .kind) 2 ≡ b → not (eqb (cond (eqb (x .kind) 1) 2 (cond (eqb (x .kind) 2) 1 (x .kind))) 0) ≡ not (eqb (x .kind) 0)
+    by : (a : Bool) → eqb (x .kind) 1 ≡ a → (b : Bool) → eqb (x .kind) 2 ≡ b → not (eqb (cond (eqb (x .kind) 1) 2 (cond (eqb (x .kind) 2) 1 (x .kind))) 0) ≡
+        not (eqb (x .kind) 0)
     by true p b q = let e = eqb-true (x .kind) 1 p in rw e
     by false p true q = let e = eqb-true (x .kind) 2 q in rw e
     by false p false q = rw (p, q)
@@ -186,14 +193,17 @@ turned-2 = refl
 pub swaps : Swaps
 swaps g d g′ d′ w i = by (ℕ-discrete (check g d .number) 0) (ℕ-discrete (check g′ d′ .number) 0) w
   where
-    by : Dec (check g d .number ≡ 0) → Dec (check g′ d′ .number ≡ 0) → (check g d .number ≡ 0) ⊎ (check g′ d′ .number ≡ 0) → compare g′ d′ g d i ≡ swapped (compare g d g′ d′ i)
+    by : Dec (check g d .number ≡ 0) → Dec (check g′ d′ .number ≡ 0) → (check g d .number ≡ 0) ⊎ (check g′ d′ .number ≡ 0) → compare g′ d′ g d i ≡ swapped
+        (compare g d g′ d′ i)
     by (yes e) (yes f) v =
         accepted-is g′ d′ g d (record { first = f; second = e }) i ∙ ap (λ (xs : List Difference). tellFirst (drop i xs)) (differences-swap g d g′ d′)
         ∙ tell-swap (differences g d g′ d′) i ∙ ap swapped (sym (accepted-is g d g′ d′ (record { first = e; second = f }) i))
     by (yes e) (no f) v =
-        refuses g′ d′ g d .first i f ∙ ap (λ (i : ℕ). tellsNone (naming i (check g′ d′))) (sym turned-2) ∙ sym (none-swapped (check g′ d′) 2) ∙ ap swapped (sym (refuses g d g′ d′ .second i e f))
+        refuses g′ d′ g d .first i f ∙ ap (λ (i : ℕ). tellsNone (naming i (check g′ d′))) (sym turned-2) ∙ sym (none-swapped (check g′ d′) 2) ∙ ap swapped
+        (sym (refuses g d g′ d′ .second i e f))
     by (no e) (yes f) v =
-        refuses g′ d′ g d .second i f e ∙ ap (λ (i : ℕ). tellsNone (naming i (check g d))) (sym turned-1) ∙ sym (none-swapped (check g d) 1) ∙ ap swapped (sym (refuses g d g′ d′ .first i e))
+        refuses g′ d′ g d .second i f e ∙ ap (λ (i : ℕ). tellsNone (naming i (check g d))) (sym turned-1) ∙ sym (none-swapped (check g d) 1) ∙ ap swapped
+        (sym (refuses g d g′ d′ .first i e))
     by (no e) (no f) (inl v) = absurd (e v)
     by (no e) (no f) (inr v) = absurd (f v)
 

@@ -15,7 +15,8 @@ use Rattle.meaning.specs.declared.Geometry.{Geometry}
 use Rattle.laws.specs.Facts as facts
 use Rattle.laws.specs.Named as named
 use Rattle.differences.specs.Compare.{before, rising, difference, isOne, tellsNone, tellFirst, names, merged, at′, differences}
-use Rattle.differences.specs.Order.{In, here, there, never, before-self, before-back, in-here, in-or, none-in, in-left, in-right, in-either, in-map, Rises, none, next, rising-rises, rising-in, in-rising, keep-yes, keep-no}
+use Rattle.differences.specs.Order.{In, here, there, never, before-self, before-back, in-here, in-or, none-in, in-left, in-right, in-either, in-map, Rises}
+use Rattle.differences.specs.Order.{none, next, rising-rises, rising-in, in-rising, keep-yes, keep-no}
 use Rattle.differences.specs.declared.Difference.{Difference}
 use Rattle.promises_compare.specs.Statement.{swapped, turned}
 
@@ -27,7 +28,8 @@ keep-in p {x} (n ∷ ns) i = by (λ j. keep-in p ns j) (p n) refl
   where
     by : (In x (keep p ns) → In x ns × (p x ≡ true)) → (b : Bool) → p n ≡ b → In x (n ∷ ns) × (p x ≡ true)
     by ih true e =
-        ⊎-elim (λ q. (in-here ns q, ap p q ∙ e)) (λ j. let k = ih j in (there (k .0), k .1)) (in-or (subst (λ (l : List (List ℕ)). In x l) (keep-yes p e ns) i))
+        ⊎-elim (λ q. (in-here ns q, ap p q ∙ e)) (λ j. let k = ih j in (there (k .0), k .1))
+        (in-or (subst (λ (l : List (List ℕ)). In x l) (keep-yes p e ns) i))
     by ih false e = let k = ih (subst (λ (l : List (List ℕ)). In x l) (keep-no p e ns) i) in (there (k .0), k .1)
 
 pub in-keep : (p : List ℕ → Bool) {x : List ℕ} (ns : List (List ℕ)) → In x ns → p x ≡ true → In x (keep p ns)
@@ -111,7 +113,8 @@ pub in-names : (g : Geometry) (d : List ℕ) → facts.Sound g d → (n : List �
 unfolding names
 in-names g d c n = by (named.look g d c n)
   where
-    by : ((p : ℕ) × facts.IsFile g d p × (nameOf g d p ≡ n)) ⊎ ((p : ℕ) → facts.IsFile g d p → nameOf g d p ≢ n) → (plain g d n ≡ nothing) ⊎ In n (map (nameOf g d) (files g d))
+    by : ((p : ℕ) × facts.IsFile g d p × (nameOf g d p ≡ n)) ⊎ ((p : ℕ) → facts.IsFile g d p → nameOf g d p ≢ n) → (plain g d n ≡ nothing) ⊎ In n
+        (map (nameOf g d) (files g d))
     by (inl k) = inr (subst (λ (m : List ℕ). In m (map (nameOf g d) (files g d))) (k .2) (in-map (nameOf g d) (facts.in-files g d (k .0) (k .1))))
     by (inr k) = inl (named.plain-none g d n k)
 
@@ -165,7 +168,8 @@ pub merged-swap : (g : Geometry) (d : List ℕ) (g′ : Geometry) (d′ : List �
 unfolding merged
 merged-swap g d g′ d′ =
     rises-same (rising-rises (names g′ d′ ++ names g d)) (rising-rises (names g d ++ names g′ d′))
-    (λ x i. in-rising (turn (names g′ d′) (names g d) (rising-in (names g′ d′ ++ names g d) i))) (λ x i. in-rising (turn (names g d) (names g′ d′) (rising-in (names g d ++ names g′ d′) i)))
+    (λ x i. in-rising (turn (names g′ d′) (names g d) (rising-in (names g′ d′ ++ names g d) i)))
+    (λ x i. in-rising (turn (names g d) (names g′ d′) (rising-in (names g d ++ names g′ d′) i)))
   where
     turn : {x : List ℕ} (ns ms : List (List ℕ)) → In x (ns ++ ms) → In x (ms ++ ns)
     turn ns ms i = ⊎-elim (λ j. in-right ms j) (λ j. in-left ns j) (in-either ns i)
@@ -175,7 +179,8 @@ pub map-swap : (f h : List ℕ → Difference) → ((n : List ℕ) → h n ≡ s
 map-swap f h e k [] = refl
 map-swap f h e k (n ∷ ns) = by (map-swap f h e k ns) (isOne (f n)) refl
   where
-    by : keep isOne (map h ns) ≡ map swapped (keep isOne (map f ns)) → (b : Bool) → isOne (f n) ≡ b → keep isOne (h n ∷ map h ns) ≡ map swapped (keep isOne (f n ∷ map f ns))
+    by : keep isOne (map h ns) ≡ map swapped (keep isOne (map f ns)) → (b : Bool) → isOne (f n) ≡ b → keep isOne (h n ∷ map h ns) ≡ map swapped
+        (keep isOne (f n ∷ map f ns))
     by ih true q =
         keep-yes isOne (ap isOne (e n) ∙ k (f n) ∙ q) (map h ns) ∙ (λ i. e n i ∷ ih i) ∙ ap (map swapped) (sym (keep-yes isOne q (map f ns)))
     by ih false q = keep-no isOne (ap isOne (e n) ∙ k (f n) ∙ q) (map h ns) ∙ ih ∙ ap (map swapped) (sym (keep-no isOne q (map f ns)))

@@ -11,8 +11,10 @@ use Rattle.meaning.specs.Layout.{granuleSectors, granuleBytes, granules, fitsGe
 use Rattle.meaning.specs.Names.{hash}
 use Rattle.meaning.specs.Entries.{nameOf, sizeOf, runsFrom, runs, entryGranules, sectorCount, endByte, marker, link, inUse, extension, system, inUsePrimary}
 use Rattle.meaning.specs.Chain.{chainFrom, chain, owned, files, place, granuleOf}
-use Rattle.meaning.specs.Consistent.{lengthHolds, hitHolds, hashHolds, nameHolds, pairsHold, followsBy, linkHoldsBy, runsHold, gatHolds, sizeHolds, offDirectory, slotHolds, fileHolds, namesDiffer, met, directoryTaken, consistent}
-use Rattle.meaning.specs.Fault.{usedExtension, handsOn, ends, badEntry, walkFrom, walk, walked, metFrom, fileOf, goodExtension, hitFault, nameFault, duplicateFault, chainFault, runFault, gatFault, sharedFault, chainWhole, sizeFault, directoryFault, faultAt, lowest, fault}
+use Rattle.meaning.specs.Consistent.{lengthHolds, hitHolds, hashHolds, nameHolds, pairsHold, followsBy, linkHoldsBy, runsHold, gatHolds, sizeHolds}
+use Rattle.meaning.specs.Consistent.{offDirectory, slotHolds, fileHolds, namesDiffer, met, directoryTaken, consistent}
+use Rattle.meaning.specs.Fault.{usedExtension, handsOn, ends, badEntry, walkFrom, walk, walked, metFrom, fileOf, goodExtension, hitFault, nameFault}
+use Rattle.meaning.specs.Fault.{duplicateFault, chainFault, runFault, gatFault, sharedFault, chainWhole, sizeFault, directoryFault, faultAt, lowest, fault}
 use Rattle.meaning.specs.Refusal.{unplaced, placed, carried}
 use Rattle.meaning.specs.Refusals.{badGeometry, byNumber, faultNumbers, check}
 use Rattle.meaning.specs.declared.Refusal.{Refusal}

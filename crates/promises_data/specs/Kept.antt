@@ -7,7 +7,8 @@ use Prim.Native.Nat.{ℕ, suc, max, _+_, _-_, _*_}
 use lib.Dec.{eqb, leb, ltb}
 use lib.ListN.{length, take, drop, replicate}
 use Rattle.meaning.specs.Lists.{count, keep, has, all, first, firstOr, times, through, every, distinct, some, lastOr}
-use Rattle.meaning.specs.Layout.{granuleSectors, granuleBytes, granules, fitsGeometry, taken, takeGranule, freeGranule, hit, directorySectors, isSlot, slots, field, setField, highest, sectorNumbers, granulesFor, byte}
+use Rattle.meaning.specs.Layout.{granuleSectors, granuleBytes, granules, fitsGeometry, taken, takeGranule, freeGranule, hit, directorySectors, isSlot, slots}
+use Rattle.meaning.specs.Layout.{field, setField, highest, sectorNumbers, granulesFor, byte}
 use Rattle.meaning.specs.Names.{hash, comesIn}
 use Rattle.meaning.specs.Entries.{nameOf, sizeOf, runsFrom, runs, sectorCount, keepsSpace, noGrowth, extension, inUse, system, runStart, runLength}
 use Rattle.meaning.specs.Chain.{files}
@@ -16,7 +17,8 @@ use Rattle.meaning.specs.Free.{freeGranules, freeSlots}
 use Rattle.meaning.specs.Growth.{Grown, fails, diskOr, orElse, growBy, growth, lacking}
 use Rattle.meaning.specs.Drop.{unhooked, dropOne}
 use Rattle.meaning.specs.Refusal.{unplaced, carried, carriedTwo}
-use Rattle.meaning.specs.Refusals.{badGeometry, byNumber, faultNumbers, diskRefusals, refusal, accepted, badName, newInRange, stale, handleRefusals, notForReading, protected, badAt, nameRefusal}
+use Rattle.meaning.specs.Refusals.{badGeometry, byNumber, faultNumbers, diskRefusals, refusal, accepted, badName, newInRange, stale, handleRefusals}
+use Rattle.meaning.specs.Refusals.{notForReading, protected, badAt, nameRefusal}
 use Rattle.meaning.specs.Handles.{goodLength, inRange, fresh, noHandle, movedTo}
 use Rattle.meaning.specs.LookUp.{candidates, carries, comparedIn, named, lookUp, missing}
 use Rattle.meaning.specs.Open.{full, admits, open′, openedAt}
@@ -39,7 +41,8 @@ use Rattle.meaning.specs.declared.NewFile.{NewFile}
 use Rattle.meaning.specs.declared.Mode.{Mode}
 use Rattle.meaning.specs.declared.Created.{Created}
 use Rattle.promises_data.specs.Alike.{stated, Alike, Agrees, GrowsAlike, EveryCall, EveryDisk, EveryBack}
-use Rattle.promises_data.specs.Flag.{slots-same, chain-same, owned-same, files-same, place-same, sizeHolds-same, fault-same, check-same, consistent-same}
+use Rattle.promises_data.specs.Flag.{slots-same, chain-same, owned-same, files-same, place-same, sizeHolds-same, fault-same, check-same}
+use Rattle.promises_data.specs.Flag.{consistent-same}
 
 module _ (g : Geometry) (b : Bool) (d : List ℕ) where
   -- What calls test ---------------------------------------------------------------------------------------------------------

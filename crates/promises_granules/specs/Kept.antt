@@ -9,7 +9,8 @@ use native.Mathlib.Nat.{mul-sub, mul-le-mul-left, lt-of-mul-lt-mul-left}
 use lib.Dec.{T, eqb, leb}
 use lib.ListN.{length, getD}
 use Rattle.meaning.specs.Lists.{count, has, all, first}
-use Rattle.meaning.specs.Layout.{granuleSizes, granuleSectors, granuleBytes, granules, fitsGeometry, granulesFor, roundUp, aboveTen, directorySectors, directoryGranules}
+use Rattle.meaning.specs.Layout.{granuleSizes, granuleSectors, granuleBytes, granules, fitsGeometry, granulesFor, roundUp, aboveTen, directorySectors}
+use Rattle.meaning.specs.Layout.{directoryGranules}
 use Rattle.lists.specs.Sizes
 use Rattle.meaning.specs.Entries.{sectorCount, endByte, sizeOf}
 use Rattle.meaning.specs.Chain.{owned, place}

@@ -9,7 +9,8 @@ use Prim.Native.Nat.{ℕ, _+_, _-_, _*_, _/_, _%_, _≤_, _<_}
 use lib.Dec.{T, eqb, leb}
 use lib.ListN.{length, getD}
 use Rattle.meaning.specs.Lists.{count, has, all}
-use Rattle.meaning.specs.Layout.{granuleSizes, granuleBytes, granules, sectors, mostGranules, highest, sectorNumbers, fitsGeometry, granuleSectorsOf, granulesFor, aboveTen, directorySectors, directoryGranules}
+use Rattle.meaning.specs.Layout.{granuleSizes, granuleBytes, granules, sectors, mostGranules, highest, sectorNumbers, fitsGeometry, granuleSectorsOf}
+use Rattle.meaning.specs.Layout.{granulesFor, aboveTen, directorySectors, directoryGranules}
 use Rattle.meaning.specs.Entries.{sectorCount, endByte, sizeOf}
 use Rattle.meaning.specs.Chain.{owned, granuleOf, place}
 use Rattle.meaning.specs.Consistent.{lengthHolds, sizeHolds}

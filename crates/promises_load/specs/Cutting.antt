@@ -11,7 +11,8 @@ use lib.Dec.{T, eqb, leb, ltb}
 use borrow.Author.Tests.{le-leb, lt-leb, lt-ltb, le-ltb, eq-eqb, ne-eqb}
 use Rattle.meaning.specs.Lists.{first, has}
 use Rattle.meaning.specs.Refusals.{accepted}
-use Rattle.load.specs.Records.{dataCode, startCode, commentCode, isCode, dataBytes, follows, badCount, codeAt, countAt, addressAt, endOf, itemRefusals, positionOf, itemAt, past, toldAt, recordFrom}
+use Rattle.load.specs.Records.{dataCode, startCode, commentCode, isCode, dataBytes, follows, badCount, codeAt, countAt, addressAt, endOf, itemRefusals}
+use Rattle.load.specs.Records.{positionOf, itemAt, past, toldAt, recordFrom}
 use Rattle.load.specs.Cut.{Record, Pieces, starts, breaks, ending, onto, cutWhole, cutBehind, cutOne, cutFrom, cut}
 use Rattle.load.specs.Load.{loadNumbers}
 use Rattle.load.specs.declared.Item.{Item}
@@ -161,7 +162,8 @@ module _ (bs : List ℕ) where
             cut-short o =
                 let e : i + 2 + length (drop (i + 2) bs) ≡ length bs = omega (arith, left) in
                 let s : length (drop (i + 2) bs) < rest = omega (arith, left) in
-                begins ∙ rw (item-is i 32 (rw (lt-leb _ _ h, k, lt-leb _ _ l, b, lt-ltb _ _ o) refl), b, lt-ltb _ _ s) (ap (λ (z : ℕ). ending (breaks 32 z)) e)
+                begins ∙ rw (item-is i 32 (rw (lt-leb _ _ h, k, lt-leb _ _ l, b, lt-ltb _ _ o) refl), b, lt-ltb _ _ s)
+                (ap (λ (z : ℕ). ending (breaks 32 z)) e)
 
             address-is : getD (drop (i + 2) bs) 0 0 + 256 * getD (drop (i + 2) bs) 1 0 ≡ addressAt bs i
             address-is =
@@ -186,12 +188,17 @@ module _ (bs : List ℕ) where
               where
                 by : Dec (codeAt bs i ≡ dataCode)
                     → cond (eqb (codeAt bs i) dataCode)
-                    (onto (record { address = getD (drop (i + 2) bs) 0 0 + 256 * getD (drop (i + 2) bs) 1 0; bytes = take (dataBytes (countAt bs i)) (drop 2 (drop (i + 2) bs)) })
+                    (onto (record {
+                      address = getD (drop (i + 2) bs) 0 0 + 256 * getD (drop (i + 2) bs) 1 0;
+                      bytes = take (dataBytes (countAt bs i))
+                          (drop 2 (drop (i + 2) bs));
+                    })
                     (cutFrom m (i + 2 + rest) (drop rest (drop (i + 2) bs))))
                     (cond (eqb (codeAt bs i) startCode) (ending (starts (getD (drop (i + 2) bs) 0 0 + 256 * getD (drop (i + 2) bs) 1 0)))
                     (cutFrom m (i + 2 + rest) (drop rest (drop (i + 2) bs))))
                     ≡ cond (eqb (codeAt bs i) dataCode)
-                    (onto (record { address = addressAt bs i; bytes = take (rest - 2) (drop (i + 4) bs) }) (cutFrom m (i + 2 + rest) (drop (i + 2 + rest) bs)))
+                    (onto (record { address = addressAt bs i; bytes = take (rest - 2) (drop (i + 4) bs) })
+                    (cutFrom m (i + 2 + rest) (drop (i + 2 + rest) bs)))
                     (cond (eqb (codeAt bs i) startCode) (ending (starts (addressAt bs i))) (cutFrom m (i + 2 + rest) (drop (i + 2 + rest) bs)))
                 by (yes c) = rw (eq-eqb _ _ c, on, address-is, data-bytes c) refl
                 by (no c) = rw (ne-eqb _ _ c, on, address-is) refl

@@ -18,7 +18,8 @@ use Rattle.meaning.specs.declared.Handle.{Handle}
 use Rattle.lists.specs.Members
 use Rattle.laws.specs.Named
 use Rattle.promises.specs.Passing
-use Rattle.together.specs.Statement.{Name, Step, Side, handleAt, withMoved, Grip, grip, Turn, Interleaving, World, start, next, after, Taken, Accepted, known, answer, Agree}
+use Rattle.together.specs.Statement.{Name, Step, Side, handleAt, withMoved, Grip, grip, Turn, Interleaving, World, start, next, after, Taken, Accepted, known}
+use Rattle.together.specs.Statement.{answer, Agree}
 use Rattle.together.specs.State.{State, stateOf, gripAt, stands, effect, Held, Good}
 use Rattle.together.specs.Effects
 use Rattle.together.specs.Interleavings
@@ -149,7 +150,8 @@ runs g a b ab (Mixed.Mixed.left {x} {xs} {ys} {zs} m) w p q k t =
     (subst (λ (y : Mixed.Reading). Mixed.AllAdmitted g a b y zs) (u .1) (t .1)) in
     record {
       laid =
-          Interleaving.left (subst (λ (y : State). Interleaving (Mixed.stripped g a xs y) (Mixed.stripped g b ys (stateIn g b (swap w))) (Mixed.strippedAll g a b v zs)) e
+          Interleaving.left (subst (λ (y : State). Interleaving (Mixed.stripped g a xs y) (Mixed.stripped g b ys (stateIn g b (swap w)))
+          (Mixed.strippedAll g a b v zs)) e
           (subst (λ (y : State). Interleaving (Mixed.stripped g a xs (stateIn g a v)) (Mixed.stripped g b ys y) (Mixed.strippedAll g a b v zs)) o (r .laid)));
       accepted = (u .0, r .accepted);
       world = ap (λ (y : Mixed.Reading). Mixed.atEnd g a b y zs .world) (u .1) ∙ r .world;
@@ -169,8 +171,10 @@ runs g a b ab (Mixed.Mixed.right {x} {xs} {ys} {zs} m) w p q k t =
     (subst (λ (y : Mixed.Reading). Mixed.AllAdmitted g a b y zs) (u .1) (t .1)) in
     record {
       laid =
-          Interleaving.right (subst (λ (y : State). Interleaving (Mixed.stripped g a xs (stateIn g a w)) (Mixed.stripped g b ys y) (Mixed.strippedAll g a b v zs)) e
-          (subst (λ (y : State). Interleaving (Mixed.stripped g a xs y) (Mixed.stripped g b ys (stateIn g b (swap v))) (Mixed.strippedAll g a b v zs)) o (r .laid)));
+          Interleaving.right (subst (λ (y : State). Interleaving (Mixed.stripped g a xs (stateIn g a w)) (Mixed.stripped g b ys y)
+          (Mixed.strippedAll g a b v zs)) e
+          (subst (λ (y : State). Interleaving (Mixed.stripped g a xs y) (Mixed.stripped g b ys (stateIn g b (swap v))) (Mixed.strippedAll g a b v zs)) o
+          (r .laid)));
       accepted = (u .0, r .accepted);
       world = ap (λ (y : Mixed.Reading). Mixed.atEnd g a b y zs .world) (u .1) ∙ r .world;
       first′ = ap (λ (y : Mixed.Reading). Mixed.atEnd g a b y zs .first) (u .1) ∙ r .first′ ∙ ap (λ (y : State). p ++ tellsAll g a xs y) o;

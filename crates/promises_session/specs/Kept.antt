@@ -118,7 +118,8 @@ module _ (g : Geometry) (d t rs : List ℕ) (b : AreBytes t) where
   unfolding play tell
   placed = record { place = λ e. at e (here e); small = below (readTrace t); none = λ k. (rw (ne-eqb _ 14 k), rw (ne-eqb _ 14 k)) }
     where
-      at : play g d t rs .0 .refusal .number ≡ 14 → (p : ℕ) × (readTrace t ≡ badAt p) → FirstFault (bits t) (8 * play g d t rs .0 .byte + play g d t rs .0 .bit)
+      at : play g d t rs .0 .refusal .number ≡ 14 → (p : ℕ) × (readTrace t ≡ badAt p) → FirstFault (bits t)
+          (8 * play g d t rs .0 .byte + play g d t rs .0 .bit)
       at e (p, q) =
           let z : 8 * play g d t rs .0 .byte + play g d t rs .0 .bit ≡ p = rw (e, q) (omega arith) in
           subst (FirstFault (bits t)) (sym z) (place-only-if t p q)

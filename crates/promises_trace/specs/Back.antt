@@ -8,7 +8,8 @@ use lib.ListN.{length, take, drop, length-append, take-append-drop}
 use lib.Seq.{take-add, drop-drop}
 use Rattle.laws.specs.Bytes.{Small, small-none, small-cons, small-bytes}
 use Rattle.play_trace.specs.Bits.{bitsOf, bits, field, AreBits, field-small, field-bits}
-use Rattle.play_trace.specs.Steps.{Field, theOperation, theFile, thePosition, theLength, theFill, theZero, fields, widthOf, startOf, valueOf, good, firstBad, numbersOf, endMark, stepOf}
+use Rattle.play_trace.specs.Steps.{Field, theOperation, theFile, thePosition, theLength, theFill, theZero, fields, widthOf, startOf, valueOf, good, firstBad}
+use Rattle.play_trace.specs.Steps.{numbersOf, endMark, stepOf}
 use Rattle.play_trace.specs.Reading.{Trace, Reading, reads, badAt, onRead, fieldsFrom, namesFrom, callStart, numbersAt, readCalls, readBits, wholeCalls}
 use Rattle.play_trace.specs.Packing.{callBits, stepsBits, namesBits, packBits, AreNames, StepFits, StepsFit, InRange, IsReading}
 use Rattle.play_trace.specs.declared.Step.{Step}
@@ -52,7 +53,8 @@ module _ (bs : List ℕ) (h : AreBits bs) (n : ℕ) where
       }
 
   packed-on : (i : ℕ) (rest : List Step) → callStart n i + 56 ≤ length bs → 56 ≤ firstBad n (numbersAt bs (callStart n i)) fields
-      → (numbersAt bs (callStart n i) .operation ≡ 0 → ⊥) → Packed bs n (callStart n (i + 1)) rest → Packed bs n (callStart n i) (stepOf (numbersAt bs (callStart n i)) ∷ rest)
+      → (numbersAt bs (callStart n i) .operation ≡ 0 → ⊥) → Packed bs n (callStart n (i + 1)) rest → Packed bs n (callStart n i)
+      (stepOf (numbersAt bs (callStart n i)) ∷ rest)
   unfolding stepsBits
   packed-on i rest l a b r =
       let m = numbersAt bs (callStart n i) in
@@ -61,9 +63,17 @@ module _ (bs : List ℕ) (h : AreBits bs) (n : ℕ) where
       let z : callStart n i + 56 ≡ callStart n (i + 1) = omega arith in
       let t : drop (callStart n i + 56) bs ≡ stepsBits rest ++ r .later = ap (λ (x : ℕ). drop x bs) z ∙ r .begins in
       record {
-        fit = (record { file = file-below n m (g theFile) b; fits = λ f. subst (λ (x : Numbers). valueOf x f < 2 ^ widthOf f) (sym q) (read-fits bs (callStart n i) h f) }, r .fit);
+        fit = (
+          record {
+            file = file-below n m (g theFile) b;
+            fits = λ f. subst (λ (x : Numbers). valueOf x f < 2 ^ widthOf f) (sym q)
+                (read-fits bs (callStart n i) h f);
+          },
+          r .fit,
+        );
         later = r .later;
-        begins = split (callStart n i) l ∙ (λ j. callBits (sym q j) ++ t j) ∙ sym (append-assoc (callBits (numbersOf (stepOf m))) (stepsBits rest) (r .later));
+        begins = split (callStart n i) l ∙ (λ j. callBits (sym q j) ++ t j) ∙ sym
+            (append-assoc (callBits (numbersOf (stepOf m))) (stepsBits rest) (r .later));
       }
 
   pub calls-back : (k i : ℕ) (ss : List Step) → callStart n i + 56 * k ≤ length bs → readCalls bs n k i ≡ reads ss → Packed bs n (callStart n i) ss
@@ -133,9 +143,12 @@ module _ (bs : List ℕ) (h : AreBits bs) where
       let d : bs ≡ take 8 bs ++ (take (88 * n) (drop 8 bs) ++ drop (88 * n) (drop 8 bs))
       = sym (take-append-drop 8 bs) ∙ ap (λ (x : List ℕ). take 8 bs ++ x) (sym (take-append-drop (88 * n) (drop 8 bs))) in
       let g : bs ≡ bitsOf 8 n ++ (namesBits (namesFrom bs 8 n) ++ (stepsBits ss ++ r .later)) = d ∙ (λ i. sym a i ++ (sym b i ++ c i)) in
-      let k : bitsOf 8 n ++ (namesBits (namesFrom bs 8 n) ++ (stepsBits ss ++ r .later)) ≡ (bitsOf 8 n ++ (namesBits (namesFrom bs 8 n) ++ stepsBits ss)) ++ r .later
-      = sym (append-assoc (bitsOf 8 n) (namesBits (namesFrom bs 8 n) ++ stepsBits ss) (r .later) ∙ ap (λ (x : List ℕ). bitsOf 8 n ++ x) (append-assoc (namesBits (namesFrom bs 8 n)) (stepsBits ss) (r .later))) in
-      let m : (bitsOf 8 n ++ (namesBits (namesFrom bs 8 n) ++ stepsBits ss)) ++ r .later ≡ (bitsOf 8 (length (namesFrom bs 8 n)) ++ (namesBits (namesFrom bs 8 n) ++ stepsBits ss)) ++ r .later
+      let k : bitsOf 8 n ++ (namesBits (namesFrom bs 8 n) ++ (stepsBits ss ++ r .later)) ≡ (bitsOf 8 n ++ (namesBits (namesFrom bs 8 n) ++ stepsBits ss)) ++ r
+      .later
+      = sym (append-assoc (bitsOf 8 n) (namesBits (namesFrom bs 8 n) ++ stepsBits ss) (r .later) ∙ ap (λ (x : List ℕ). bitsOf 8 n ++ x)
+      (append-assoc (namesBits (namesFrom bs 8 n)) (stepsBits ss) (r .later))) in
+      let m : (bitsOf 8 n ++ (namesBits (namesFrom bs 8 n) ++ stepsBits ss)) ++ r .later ≡
+      (bitsOf 8 (length (namesFrom bs 8 n)) ++ (namesBits (namesFrom bs 8 n) ++ stepsBits ss)) ++ r .later
       = ap (λ (x : ℕ). (bitsOf 8 x ++ (namesBits (namesFrom bs 8 n) ++ stepsBits ss)) ++ r .later) (sym l) in
       record {
         inRange = record {
@@ -154,7 +167,8 @@ module _ (bs : List ℕ) (h : AreBits bs) where
       inside : (n k : ℕ) → k ≡ wholeCalls bs n → callStart n 0 ≤ length bs → callStart n 0 + 56 * k ≤ length bs
       inside n k e l = omega arith
 
-      inner : (n : ℕ) → Opens bs n → (c : Reading (List Step)) → readCalls bs n (wholeCalls bs n) 0 ≡ c → onRead (withNames (namesFrom bs 8 n)) c ≡ reads t → IsReading bs t
+      inner : (n : ℕ) → Opens bs n → (c : Reading (List Step)) → readCalls bs n (wholeCalls bs n) 0 ≡ c → onRead (withNames (namesFrom bs 8 n)) c ≡ reads t →
+          IsReading bs t
       inner n o (badAt p) q e = absurd (bad-reads e)
       inner n o (reads ss) q e =
           let c : withNames (namesFrom bs 8 n) ss ≡ t = cc in

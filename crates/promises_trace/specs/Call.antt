@@ -9,7 +9,8 @@ use lib.ListN.{length, take, drop, length-append}
 use lib.Seq.{take-add, drop-drop}
 use borrow.Author.Tests.{eqb-true, eqb-false, ltb-true, lt-ltb, ne-eqb}
 use Rattle.play_trace.specs.Bits.{bitsOf, number, field, AreBits, length-bitsOf, there-and-back, field-front, field-past, field-small, field-bits}
-use Rattle.play_trace.specs.Steps.{Field, theOperation, theFile, thePosition, theLength, theFill, theZero, fields, widthOf, startOf, valueOf, uses, allowed, good, firstBad, numbersFor, numbersOf, endMark, callOf, stepOf}
+use Rattle.play_trace.specs.Steps.{Field, theOperation, theFile, thePosition, theLength, theFill, theZero, fields, widthOf, startOf, valueOf, uses, allowed}
+use Rattle.play_trace.specs.Steps.{good, firstBad, numbersFor, numbersOf, endMark, callOf, stepOf}
 use Rattle.play_trace.specs.Reading.{numbersAt}
 use Rattle.play_trace.specs.Packing.{fieldBits, callBits}
 use Rattle.play_trace.specs.declared.Call.{Call}
@@ -37,7 +38,8 @@ past-field w v r p u = field-past (bitsOf w v) r w p u (length-bitsOf w v)
 
 laid : (m : Numbers) (r : List ℕ)
     → callBits m ++ r
-    ≡ bitsOf 3 (m .operation) ++ (bitsOf 5 (m .file) ++ (bitsOf 24 (m .position) ++ (bitsOf 9 (m .length) ++ (bitsOf 8 (m .fill) ++ (bitsOf 7 (m .zero) ++ r)))))
+    ≡ bitsOf 3 (m .operation) ++ (bitsOf 5 (m .file) ++
+    (bitsOf 24 (m .position) ++ (bitsOf 9 (m .length) ++ (bitsOf 8 (m .fill) ++ (bitsOf 7 (m .zero) ++ r)))))
 unfolding fieldBits
 laid m r = simp (append-assoc)
 
@@ -45,14 +47,17 @@ laid m r = simp (append-assoc)
 pub found-again : (m : Numbers) → NumbersFit m → (pre r : List ℕ) (p : ℕ) → length pre ≡ p → numbersAt (pre ++ (callBits m ++ r)) p ≡ m
 unfolding numbersAt
 found-again m h pre r p l =
-    let g : (o w : ℕ) → field (pre ++ (callBits m ++ r)) (p + o) w ≡ field (bitsOf 3 (m .operation) ++ (bitsOf 5 (m .file) ++ (bitsOf 24 (m .position) ++ (bitsOf 9 (m .length) ++ (bitsOf 8 (m .fill) ++ (bitsOf 7 (m .zero) ++ r)))))) o w
+    let g : (o w : ℕ) → field (pre ++ (callBits m ++ r)) (p + o) w ≡ field
+    (bitsOf 3 (m .operation) ++ (bitsOf 5 (m .file) ++
+    (bitsOf 24 (m .position) ++ (bitsOf 9 (m .length) ++ (bitsOf 8 (m .fill) ++ (bitsOf 7 (m .zero) ++ r)))))) o w
     = λ o w. field-past pre (callBits m ++ r) p o w l ∙ ap (λ (x : List ℕ). field x o w) (laid m r) in
     let p0 = g 0 3 ∙ front-field 3 (m .operation) _ (h theOperation) in
     let p1 = g 3 5 ∙ past-field 3 _ _ 0 5 ∙ front-field 5 (m .file) _ (h theFile) in
     let p2 = g 8 24 ∙ past-field 3 _ _ 5 24 ∙ past-field 5 _ _ 0 24 ∙ front-field 24 (m .position) _ (h thePosition) in
     let p3 = g 32 9 ∙ past-field 3 _ _ 29 9 ∙ past-field 5 _ _ 24 9 ∙ past-field 24 _ _ 0 9 ∙ front-field 9 (m .length) _ (h theLength) in
     let p4 = g 41 8 ∙ past-field 3 _ _ 38 8 ∙ past-field 5 _ _ 33 8 ∙ past-field 24 _ _ 9 8 ∙ past-field 9 _ _ 0 8 ∙ front-field 8 (m .fill) _ (h theFill) in
-    let p5 = g 49 7 ∙ past-field 3 _ _ 46 7 ∙ past-field 5 _ _ 41 7 ∙ past-field 24 _ _ 17 7 ∙ past-field 9 _ _ 8 7 ∙ past-field 8 _ _ 0 7 ∙ front-field 7 (m .zero) _ (h theZero) in
+    let p5 = g 49 7 ∙ past-field 3 _ _ 46 7 ∙ past-field 5 _ _ 41 7 ∙ past-field 24 _ _ 17 7 ∙ past-field 9 _ _ 8 7 ∙ past-field 8 _ _ 0 7 ∙ front-field 7
+    (m .zero) _ (h theZero) in
     λ i. record { operation = p0 i; file = p1 i; position = p2 i; length = p3 i; fill = p4 i; zero = p5 i }
 
 cutting : (l : List ℕ) (o w v : ℕ) → take (w + v) (drop o l) ≡ take w (drop o l) ++ take v (drop (o + w) l)
@@ -68,8 +73,10 @@ are-those bs p h l =
     cutting x 0 3 53 ∙ (λ i. g 0 3 (omega arith) i ++ cutting x 3 5 48 i)
     ∙ (λ i. bitsOf 3 (field bs (p + 0) 3) ++ (g 3 5 (omega arith) i ++ cutting x 8 24 24 i))
     ∙ (λ i. bitsOf 3 (field bs (p + 0) 3) ++ (bitsOf 5 (field bs (p + 3) 5) ++ (g 8 24 (omega arith) i ++ cutting x 32 9 15 i)))
-    ∙ (λ i. bitsOf 3 (field bs (p + 0) 3) ++ (bitsOf 5 (field bs (p + 3) 5) ++ (bitsOf 24 (field bs (p + 8) 24) ++ (g 32 9 (omega arith) i ++ cutting x 41 8 7 i))))
-    ∙ (λ i. bitsOf 3 (field bs (p + 0) 3) ++ (bitsOf 5 (field bs (p + 3) 5) ++ (bitsOf 24 (field bs (p + 8) 24) ++ (bitsOf 9 (field bs (p + 32) 9) ++ (g 41 8 (omega arith) i ++ last i)))))
+    ∙ (λ i. bitsOf 3 (field bs (p + 0) 3) ++ (bitsOf 5 (field bs (p + 3) 5) ++
+    (bitsOf 24 (field bs (p + 8) 24) ++ (g 32 9 (omega arith) i ++ cutting x 41 8 7 i))))
+    ∙ (λ i. bitsOf 3 (field bs (p + 0) 3) ++ (bitsOf 5 (field bs (p + 3) 5) ++
+    (bitsOf 24 (field bs (p + 8) 24) ++ (bitsOf 9 (field bs (p + 32) 9) ++ (g 41 8 (omega arith) i ++ last i)))))
   where
     last : take 7 (drop 49 (drop p bs)) ≡ bitsOf 7 (field bs (p + 49) 7) ++ []
     last = ap (λ (x : List ℕ). take 7 x) (drop-drop 49 p bs) ∙ sym (field-bits bs (p + 49) 7 h (omega arith)) ∙ sym (append-nil _)
@@ -159,7 +166,8 @@ module _ (n : ℕ) (m : Numbers) where
       let g = first-good theZero [] (e .1) in
       pick (a .0) (b .0) (c .0) (d .0) (e .0) (g .0) f
     where
-      pick : good n m theOperation ≡ true → good n m theFile ≡ true → good n m thePosition ≡ true → good n m theLength ≡ true → good n m theFill ≡ true → good n m theZero ≡ true
+      pick : good n m theOperation ≡ true → good n m theFile ≡ true → good n m thePosition ≡ true → good n m theLength ≡ true → good n m theFill ≡ true → good
+          n m theZero ≡ true
           → (f : Field) → good n m f ≡ true
       pick a b c d e g theOperation = a
       pick a b c d e g theFile = b
@@ -208,19 +216,43 @@ module _ (n : ℕ) (m : Numbers) (h : (f : Field) → good n m f ≡ true) where
       let positionZ = unused-zero n m thePosition (h thePosition) (ap (λ (x : ℕ). uses x thePosition) e ∙ refl) in
       let fillZ = unused-zero n m theFill (h theFill) (ap (λ (x : ℕ). uses x theFill) e ∙ refl) in
       let zeroZ = unused-zero n m theZero (h theZero) (ap (λ (x : ℕ). uses x theZero) e ∙ refl) in
-      ap numbersOf (sym (step-1 m e)) ∙ (λ i. record { operation = sym e i; file = m .file; position = sym positionZ i; length = m .length; fill = sym fillZ i; zero = sym zeroZ i })
+      ap numbersOf (sym (step-1 m e)) ∙ (λ i. record {
+        operation = sym e i;
+        file = m .file;
+        position = sym positionZ i;
+        length = m .length;
+        fill = sym fillZ
+            i;
+        zero = sym zeroZ i;
+      })
 
   write-next-back : m .operation ≡ 2 → numbersOf (stepOf m) ≡ m
   unfolding uses
   write-next-back e =
       let zeroZ = unused-zero n m theZero (h theZero) (ap (λ (x : ℕ). uses x theZero) e ∙ refl) in
-      ap numbersOf (sym (step-2 m e)) ∙ (λ i. record { operation = sym e i; file = m .file; position = m .position; length = m .length; fill = m .fill; zero = sym zeroZ i })
+      ap numbersOf (sym (step-2 m e)) ∙ (λ i. record {
+        operation = sym e i;
+        file = m .file;
+        position = m .position;
+        length = m .length;
+        fill = m .fill;
+        zero =
+            sym zeroZ i;
+      })
 
   write-there-back : m .operation ≡ 3 → numbersOf (stepOf m) ≡ m
   unfolding uses
   write-there-back e =
       let zeroZ = unused-zero n m theZero (h theZero) (ap (λ (x : ℕ). uses x theZero) e ∙ refl) in
-      ap numbersOf (sym (step-3 m e)) ∙ (λ i. record { operation = sym e i; file = m .file; position = m .position; length = m .length; fill = m .fill; zero = sym zeroZ i })
+      ap numbersOf (sym (step-3 m e)) ∙ (λ i. record {
+        operation = sym e i;
+        file = m .file;
+        position = m .position;
+        length = m .length;
+        fill = m .fill;
+        zero =
+            sym zeroZ i;
+      })
 
   allot-back : m .operation ≡ 4 → numbersOf (stepOf m) ≡ m
   unfolding uses
@@ -228,7 +260,15 @@ module _ (n : ℕ) (m : Numbers) (h : (f : Field) → good n m f ≡ true) where
       let lengthZ = unused-zero n m theLength (h theLength) (ap (λ (x : ℕ). uses x theLength) e ∙ refl) in
       let fillZ = unused-zero n m theFill (h theFill) (ap (λ (x : ℕ). uses x theFill) e ∙ refl) in
       let zeroZ = unused-zero n m theZero (h theZero) (ap (λ (x : ℕ). uses x theZero) e ∙ refl) in
-      ap numbersOf (sym (step-4 m e)) ∙ (λ i. record { operation = sym e i; file = m .file; position = m .position; length = sym lengthZ i; fill = sym fillZ i; zero = sym zeroZ i })
+      ap numbersOf (sym (step-4 m e)) ∙ (λ i. record {
+        operation = sym e i;
+        file = m .file;
+        position = m .position;
+        length = sym lengthZ i;
+        fill = sym fillZ
+            i;
+        zero = sym zeroZ i;
+      })
 
   trim-back : m .operation ≡ 5 → numbersOf (stepOf m) ≡ m
   unfolding uses
@@ -237,7 +277,15 @@ module _ (n : ℕ) (m : Numbers) (h : (f : Field) → good n m f ≡ true) where
       let lengthZ = unused-zero n m theLength (h theLength) (ap (λ (x : ℕ). uses x theLength) e ∙ refl) in
       let fillZ = unused-zero n m theFill (h theFill) (ap (λ (x : ℕ). uses x theFill) e ∙ refl) in
       let zeroZ = unused-zero n m theZero (h theZero) (ap (λ (x : ℕ). uses x theZero) e ∙ refl) in
-      ap numbersOf (sym (step-5 m e)) ∙ (λ i. record { operation = sym e i; file = m .file; position = sym positionZ i; length = sym lengthZ i; fill = sym fillZ i; zero = sym zeroZ i })
+      ap numbersOf (sym (step-5 m e)) ∙ (λ i. record {
+        operation = sym e i;
+        file = m .file;
+        position = sym positionZ i;
+        length = sym lengthZ i;
+        fill = sym
+            fillZ i;
+        zero = sym zeroZ i;
+      })
 
   kill-back : m .operation ≡ 6 → numbersOf (stepOf m) ≡ m
   unfolding uses
@@ -246,7 +294,15 @@ module _ (n : ℕ) (m : Numbers) (h : (f : Field) → good n m f ≡ true) where
       let lengthZ = unused-zero n m theLength (h theLength) (ap (λ (x : ℕ). uses x theLength) e ∙ refl) in
       let fillZ = unused-zero n m theFill (h theFill) (ap (λ (x : ℕ). uses x theFill) e ∙ refl) in
       let zeroZ = unused-zero n m theZero (h theZero) (ap (λ (x : ℕ). uses x theZero) e ∙ refl) in
-      ap numbersOf (sym (step-6 m e)) ∙ (λ i. record { operation = sym e i; file = m .file; position = sym positionZ i; length = sym lengthZ i; fill = sym fillZ i; zero = sym zeroZ i })
+      ap numbersOf (sym (step-6 m e)) ∙ (λ i. record {
+        operation = sym e i;
+        file = m .file;
+        position = sym positionZ i;
+        length = sym lengthZ i;
+        fill = sym
+            fillZ i;
+        zero = sym zeroZ i;
+      })
 
   read-back : m .operation ≡ 7 → numbersOf (stepOf m) ≡ m
   unfolding uses
@@ -259,7 +315,8 @@ module _ (n : ℕ) (m : Numbers) (h : (f : Field) → good n m f ≡ true) where
       let n6 : m .operation ≡ 6 → ⊥ = λ q. omega arith in
       let fillZ = unused-zero n m theFill (h theFill) (ap (λ (x : ℕ). uses x theFill) e ∙ refl) in
       let zeroZ = unused-zero n m theZero (h theZero) (ap (λ (x : ℕ). uses x theZero) e ∙ refl) in
-      ap numbersOf (sym (step-7 m n1 n2 n3 n4 n5 n6)) ∙ (λ i. record { operation = sym e i; file = m .file; position = m .position; length = m .length; fill = sym fillZ i; zero = sym zeroZ i })
+      ap numbersOf (sym (step-7 m n1 n2 n3 n4 n5 n6)) ∙
+      (λ i. record { operation = sym e i; file = m .file; position = m .position; length = m .length; fill = sym fillZ i; zero = sym zeroZ i })
 
   pub numbers-back : m .operation < 8 → (m .operation ≡ 0 → ⊥) → numbersOf (stepOf m) ≡ m
   numbers-back s z =

@@ -15,7 +15,8 @@ use lib.ListN.{length, take, drop, getD, length-append, length-drop, take-append
 use lib.Seq.{take-at, drop-at, take-append-le, drop-append-le}
 use Rattle.promises_words.specs.Given.{AreBytes}
 use Rattle.laws.specs.Bytes.{Small, bytes-small, small-rest}
-use Rattle.play_trace.specs.Bits.{bitsOf, number, bits, bytesOf, AreBits, length-bitsOf, length-bits, bits-append, bits-bits, bits-join, bits-bitsOf, bits-bytesOf, there-and-back}
+use Rattle.play_trace.specs.Bits.{bitsOf, number, bits, bytesOf, AreBits, length-bitsOf, length-bits, bits-append, bits-bits, bits-join, bits-bitsOf}
+use Rattle.play_trace.specs.Bits.{bits-bytesOf, there-and-back}
 use Rattle.play_trace.specs.Steps.{Field, fields, widthOf, valueOf, numbersOf, endMark, noStep}
 use Rattle.play_trace.specs.Reading.{Trace, Reading, reads, badAt, readBits, readTrace, wellWith, faultAt, tell, stepsOf, namesOf}
 use Rattle.play_trace.specs.Packing.{fieldBits, callBits, stepsBits, namesBits, packBits, pack, AreNames, StepFits, StepsFit, InRange, IsReading}
@@ -61,7 +62,13 @@ pub length-packBits : (t : Trace) → InRange t → length (packBits t) ≡ 8 * 
 unfolding packBits
 length-packBits t h =
     length-append (bitsOf 8 (length (t .names))) (namesBits (t .names) ++ stepsBits (t .steps))
-    ∙ omega (arith, length-bitsOf 8 (length (t .names)), length-append (namesBits (t .names)) (stepsBits (t .steps)), length-namesBits (t .names) (h .names), length-steps (t .steps))
+    ∙ omega (
+      arith,
+      length-bitsOf 8 (length (t .names)),
+      length-append (namesBits (t .names)) (stepsBits (t .steps)),
+      length-namesBits (t .names) (h .names),
+      length-steps (t .steps),
+    )
 
 whole-bytes : (t : Trace) → InRange t → length (packBits t) ≡ 8 * (length (packBits t) / 8)
 whole-bytes t h = let e = length-packBits t h in omega arith

@@ -6,7 +6,8 @@ use native.Mathlib.Omega.{arith}
 use lib.ListN.{length, length-append}
 use Rattle.laws.specs.Bytes.{Small, bytes-small, small-rest}
 use Rattle.play_trace.specs.Bits.{bitsOf, bits, field, length-bitsOf, length-bits, there-and-back, field-front, field-past}
-use Rattle.play_trace.specs.Steps.{Field, theOperation, theFile, thePosition, theLength, theFill, theZero, fields, widthOf, valueOf, firstBad, numbersFor, numbersOf, endMark, stepOf}
+use Rattle.play_trace.specs.Steps.{Field, theOperation, theFile, thePosition, theLength, theFill, theZero, fields, widthOf, valueOf, firstBad, numbersFor}
+use Rattle.play_trace.specs.Steps.{numbersOf, endMark, stepOf}
 use Rattle.play_trace.specs.Reading.{Trace, Reading, reads, badAt, onRead, fieldsFrom, namesFrom, callStart, numbersAt, readCalls, readBits, wholeCalls}
 use Rattle.play_trace.specs.Packing.{callBits, stepsBits, namesBits, packBits, AreNames, StepFits, StepsFit, InRange, IsReading}
 use Rattle.play_trace.specs.declared.Step.{Step}
@@ -34,12 +35,14 @@ calls-there (s ∷ ss) pre later n i k l h =
     let m = numbersOf s in
     let b = pre ++ ((callBits m ++ stepsBits ss) ++ later) in
     let c : b ≡ pre ++ (callBits m ++ (stepsBits ss ++ later)) = ap (λ (x : List ℕ). pre ++ x) (append-assoc (callBits m) (stepsBits ss) later) in
-    let e : numbersAt b (callStart n i) ≡ m = ap (λ (x : List ℕ). numbersAt x (callStart n i)) c ∙ found-again m (h .0 .fits) pre (stepsBits ss ++ later) (callStart n i) l in
+    let e : numbersAt b (callStart n i) ≡ m = ap (λ (x : List ℕ). numbersAt x (callStart n i)) c ∙ found-again m (h .0 .fits) pre (stepsBits ss ++ later)
+    (callStart n i) l in
     let d : b ≡ (pre ++ callBits m) ++ (stepsBits ss ++ later) = c ∙ sym (append-assoc pre (callBits m) (stepsBits ss ++ later)) in
     let g : length (pre ++ callBits m) ≡ callStart n (i + 1) = length-append pre (callBits m) ∙ omega (arith, l, length-callBits m) in
     let ih = calls-there ss (pre ++ callBits m) later n (i + 1) k g (h .1) in
     let z : suc (suc (length ss)) + k ≡ suc (suc (length ss) + k) = omega arith in
-    let f : 56 ≤ firstBad n (numbersAt b (callStart n i)) fields = omega (arith, ap (λ (m : Numbers). firstBad n m fields) e, step-good n (s .file) (s .call) (h .0 .file)) in
+    let f : 56 ≤ firstBad n (numbersAt b (callStart n i)) fields = omega
+    (arith, ap (λ (m : Numbers). firstBad n m fields) e, step-good n (s .file) (s .call) (h .0 .file)) in
     ap (λ (x : ℕ). readCalls b n x i) z
     ∙ calls-on b n (suc (length ss) + k) i f (λ q. step-no-end (s .file) (s .call) (sym (ap (λ (m : Numbers). m .operation) e) ∙ q))
     ∙ (λ j. onRead (λ ss. stepOf (e j) ∷ ss) (readCalls (d j) n (suc (length ss) + k) (i + 1)))
@@ -54,7 +57,8 @@ bytes-there : (x pre later : List ℕ) (p : ℕ) → length pre ≡ p → Small 
 unfolding fieldsFrom bits
 bytes-there [] pre later p l h = refl
 bytes-there (b ∷ x) pre later p l h =
-    let c : pre ++ ((bitsOf 8 b ++ bits x) ++ later) ≡ pre ++ (bitsOf 8 b ++ (bits x ++ later)) = ap (λ (y : List ℕ). pre ++ y) (append-assoc (bitsOf 8 b) (bits x) later) in
+    let c : pre ++ ((bitsOf 8 b ++ bits x) ++ later) ≡ pre ++ (bitsOf 8 b ++ (bits x ++ later)) = ap (λ (y : List ℕ). pre ++ y)
+    (append-assoc (bitsOf 8 b) (bits x) later) in
     let d : pre ++ ((bitsOf 8 b ++ bits x) ++ later) ≡ (pre ++ bitsOf 8 b) ++ (bits x ++ later) = c ∙ sym (append-assoc pre (bitsOf 8 b) (bits x ++ later)) in
     let f : field (pre ++ ((bitsOf 8 b ++ bits x) ++ later)) p 8 ≡ b
     = ap (λ (y : List ℕ). field y p 8) c ∙ field-at pre _ p 8 l ∙ field-front (bitsOf 8 b) _ 8 (length-bitsOf 8 b) ∙ there-and-back 8 b (h .below 0) in
@@ -67,12 +71,15 @@ unfolding namesBits
 length-namesBits [] h = refl
 length-namesBits (x ∷ ns) h = length-append (bits x) (namesBits ns) ∙ omega (arith, length-bits x, h .0, length-namesBits ns (h .2))
 
-pub names-there : (ns : List (List ℕ)) (pre later : List ℕ) (p : ℕ) → length pre ≡ p → AreNames ns → namesFrom (pre ++ (namesBits ns ++ later)) p (length ns) ≡ ns
+pub names-there : (ns : List (List ℕ)) (pre later : List ℕ) (p : ℕ) → length pre ≡ p → AreNames ns → namesFrom (pre ++ (namesBits ns ++ later)) p (length ns)
+    ≡ ns
 unfolding namesFrom namesBits
 names-there [] pre later p l h = refl
 names-there (x ∷ ns) pre later p l h =
-    let c : pre ++ ((bits x ++ namesBits ns) ++ later) ≡ pre ++ (bits x ++ (namesBits ns ++ later)) = ap (λ (y : List ℕ). pre ++ y) (append-assoc (bits x) (namesBits ns) later) in
-    let d : pre ++ ((bits x ++ namesBits ns) ++ later) ≡ (pre ++ bits x) ++ (namesBits ns ++ later) = c ∙ sym (append-assoc pre (bits x) (namesBits ns ++ later)) in
+    let c : pre ++ ((bits x ++ namesBits ns) ++ later) ≡ pre ++ (bits x ++ (namesBits ns ++ later)) = ap (λ (y : List ℕ). pre ++ y)
+    (append-assoc (bits x) (namesBits ns) later) in
+    let d : pre ++ ((bits x ++ namesBits ns) ++ later) ≡ (pre ++ bits x) ++ (namesBits ns ++ later) = c ∙ sym
+    (append-assoc pre (bits x) (namesBits ns ++ later)) in
     let f : fieldsFrom (pre ++ ((bits x ++ namesBits ns) ++ later)) p 8 11 ≡ x
     = (λ i. fieldsFrom (c i) p 8 (sym (h .0) i)) ∙ bytes-there x pre (namesBits ns ++ later) p l (bytes-small x (h .1)) in
     let g : length (pre ++ bits x) ≡ p + 88 = length-append pre (bits x) ∙ omega (arith, length-bits x, h .0) in
@@ -88,17 +95,20 @@ complete t later h =
     let n = length ns in
     let bs = (bitsOf 8 n ++ (namesBits ns ++ stepsBits ss)) ++ later in
     let c : bs ≡ bitsOf 8 n ++ (namesBits ns ++ (stepsBits ss ++ later))
-    = append-assoc (bitsOf 8 n) (namesBits ns ++ stepsBits ss) later ∙ ap (λ (x : List ℕ). bitsOf 8 n ++ x) (append-assoc (namesBits ns) (stepsBits ss) later) in
+    = append-assoc (bitsOf 8 n) (namesBits ns ++ stepsBits ss) later ∙ ap (λ (x : List ℕ). bitsOf 8 n ++ x) (append-assoc (namesBits ns) (stepsBits ss) later)
+    in
     let d : bs ≡ (bitsOf 8 n ++ namesBits ns) ++ (stepsBits ss ++ later) = c ∙ sym (append-assoc (bitsOf 8 n) (namesBits ns) (stepsBits ss ++ later)) in
     let l : length (bitsOf 8 n ++ namesBits ns) ≡ callStart n 0
     = length-append (bitsOf 8 n) (namesBits ns) ∙ omega (arith, length-bitsOf 8 n, length-namesBits ns (h .names)) in
     let w : length bs ≡ callStart n 0 + (56 * (length ss + 1) + length later)
-    = ap length d ∙ length-append (bitsOf 8 n ++ namesBits ns) (stepsBits ss ++ later) ∙ omega (arith, l, length-append (stepsBits ss) later, length-steps ss) in
+    = ap length d ∙ length-append (bitsOf 8 n ++ namesBits ns) (stepsBits ss ++ later) ∙ omega (arith, l, length-append (stepsBits ss) later, length-steps ss)
+    in
     let f : field bs 0 8 ≡ n
     = ap (λ (x : List ℕ). field x 0 8) c ∙ field-front (bitsOf 8 n) _ 8 (length-bitsOf 8 n) ∙ there-and-back 8 n (omega (arith, h .few)) in
     let o : Opens bs n = record { counted = omega (arith, w); count = f; some = h .some; few = h .few; there = omega (arith, w) } in
     let k : wholeCalls bs n ≡ suc (length ss) + (wholeCalls bs n - suc (length ss)) = enough n (length ss) (length later) (length bs) w in
-    let a : namesFrom bs 8 n ≡ ns = ap (λ (x : List ℕ). namesFrom x 8 n) c ∙ names-there ns (bitsOf 8 n) (stepsBits ss ++ later) 8 (length-bitsOf 8 n) (h .names) in
+    let a : namesFrom bs 8 n ≡ ns = ap (λ (x : List ℕ). namesFrom x 8 n) c ∙ names-there ns (bitsOf 8 n) (stepsBits ss ++ later) 8 (length-bitsOf 8 n)
+    (h .names) in
     let b : readCalls bs n (wholeCalls bs n) 0 ≡ reads ss
     = (λ i. readCalls (d i) n (k i) 0) ∙ calls-there ss (bitsOf 8 n ++ namesBits ns) later n 0 (wholeCalls bs n - suc (length ss)) l (h .steps) in
     bits-calls bs o ∙ (λ i. onRead (withNames (a i)) (b i))

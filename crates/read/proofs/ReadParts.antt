@@ -57,7 +57,9 @@ module _ (g : Geometry) (d : List ℕ) where
       let q : i + t ≡ granuleBytes g * (i / granuleBytes g) + (i % granuleBytes g + t) = omega (arith, Sizes.split (Sizes.bytes-pos g) i .is) in
       let e : (i + t) / granuleBytes g ≡ i / granuleBytes g = ap (λ (j : ℕ). j / granuleBytes g) q ∙ Sizes.at-width _ _ h in
       let f : (i + t) % granuleBytes g ≡ i % granuleBytes g + t = ap (λ (j : ℕ). j % granuleBytes g) q ∙ Sizes.at-rest _ _ h in
-      ap (λ (k : ℕ). granuleBytes g * getD (owned g d s) k 0 + (i + t) % granuleBytes g) e ∙ (let z : granuleBytes g * getD (owned g d s) (i / granuleBytes g) 0 + (i + t) % granuleBytes g ≡ granuleBytes g * getD (owned g d s) (i / granuleBytes g) 0 + i % granuleBytes g + t = omega arith in z)
+      ap (λ (k : ℕ). granuleBytes g * getD (owned g d s) k 0 + (i + t) % granuleBytes g) e ∙
+      (let z : granuleBytes g * getD (owned g d s) (i / granuleBytes g) 0 + (i + t) % granuleBytes g ≡ granuleBytes g * getD (owned g d s)
+      (i / granuleBytes g) 0 + i % granuleBytes g + t = omega arith in z)
 
   pub place-fits : (s i n : ℕ) → Readable g d s → Owned g d s i n → InGranule g i n → place g d s i + n ≤ length d
   unfolding place
@@ -209,7 +211,8 @@ module _ (g : Geometry) (d : List ℕ) where
   pub sector-lies : (h : Handle) (k : ℕ) {n : ℕ} → Sector h k → n ≡ sectorBytes g d (h .slot) k → n ≤ 256 → place g d (h .slot) (256 * k) + n ≤ length d
   sector-lies h k {n} q e l =
       let a = q .some in let b = q .owned in let c = q .low in
-      place-fits (h .slot) (256 * k) n (q .file) (record { some = omega arith; owned = omega arith; high = omega arith }) (record { inside = omega (arith, Sizes.sector-begin g k, Sizes.bytes-are g, Sizes.split (Sizes.sectors-pos g) k .rest) })
+      place-fits (h .slot) (256 * k) n (q .file) (record { some = omega arith; owned = omega arith; high = omega arith })
+      (record { inside = omega (arith, Sizes.sector-begin g k, Sizes.bytes-are g, Sizes.split (Sizes.sectors-pos g) k .rest) })
 
   pub sector : (h : Handle) (k : ℕ) {n : ℕ} → n ≡ first (sectorRefusals g d h k) → n ≡ 0 → Sector h k
   sector h k e z =

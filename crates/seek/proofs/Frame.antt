@@ -30,7 +30,8 @@ pub record Same (g : Geometry) (d d′ : List ℕ) : Type 0 where
   pub long : length d′ ≡ length d
   pub bytes : (a : ℕ) → 256 * (g .start + 1) ≤ a → a < 256 * (g .start + directorySectors g d) → getD d′ a 0 ≡ getD d a 0
 
-pub opened : (g : Geometry) (d d′ : List ℕ) → getD d′ (256 * (g .start + 1) + 31) 0 ≡ getD d (256 * (g .start + 1) + 31) 0 → directorySectors g d′ ≡ directorySectors g d
+pub opened : (g : Geometry) (d d′ : List ℕ) → getD d′ (256 * (g .start + 1) + 31) 0 ≡ getD d (256 * (g .start + 1) + 31) 0 → directorySectors g d′ ≡
+    directorySectors g d
 unfolding directorySectors
 opened g d d′ q = ap (λ (k : ℕ). 10 + k) q
 
@@ -124,7 +125,8 @@ module _ (g : Geometry) (d d′ : List ℕ) (snd : Walkable g d) (e : Same g d d
   same-chain : (left s : ℕ) → Used g d s → each (entryGranules g d′) (chainFrom g d′ left s) ≡ each (entryGranules g d) (chainFrom g d left s)
   same-chain left s u =
       ap (each (entryGranules g d′)) (same-slots-of left s u)
-      ∙ each-eq (entryGranules g d′) (entryGranules g d) (chainFrom g d left s) (λ x i. same-entry g d d′ (snd .room) e x (used-along g d snd left s x u i .slot))
+      ∙ each-eq (entryGranules g d′) (entryGranules g d) (chainFrom g d left s)
+      (λ x i. same-entry g d d′ (snd .room) e x (used-along g d snd left s x u i .slot))
 
   pub same-owned : (s : ℕ) → Used g d s → owned g d′ s ≡ owned g d s
   unfolding owned chain

@@ -27,7 +27,8 @@ module _ (g : Geometry) (d : List ℕ) where
   unfolding slots
   at-slot p h s sl =
       any-last (not (isSlot g d s)) (p s)
-      (every-count (λ x. any (not (isSlot g d x) ∷ p x ∷ [])) 0 256 s (every-keep p (isSlot g d) (count 0 256) h) (omega arith) (let l = sl .low in omega arith))
+      (every-count (λ x. any (not (isSlot g d x) ∷ p x ∷ [])) 0 256 s (every-keep p (isSlot g d) (count 0 256) h) (omega arith)
+      (let l = sl .low in omega arith))
       (not-yes (slot-yes g d s (sl .low) (sl .held)))
 
   slot-holds : consistent g d ≡ true → (s : ℕ) → Slot g d s → slotHolds g d s ≡ true
@@ -57,7 +58,8 @@ module _ (g : Geometry) (d : List ℕ) where
   size-fits : consistent g d ≡ true → (s : ℕ) → Slot g d s → inUsePrimary g d s ≡ true → sizeHolds g d s ≡ true
   unfolding consistent files fileHolds
   size-fits h s sl p =
-      all-at _ (any-last _ _ (at-slot (λ x. any (not (inUsePrimary g d x) ∷ fileHolds g d x ∷ [])) (every-keep (fileHolds g d) (inUsePrimary g d) (slots g d) (all-at _ h 2)) s sl) (not-yes p)) 2
+      all-at _ (any-last _ _ (at-slot (λ x. any (not (inUsePrimary g d x) ∷ fileHolds g d x ∷ []))
+      (every-keep (fileHolds g d) (inUsePrimary g d) (slots g d) (all-at _ h 2)) s sl) (not-yes p)) 2
 
   size-below : (s : ℕ) → sizeHolds g d s ≡ true → sizeOf g d s ≤ granuleBytes g * length (owned g d s)
   unfolding sizeHolds
@@ -101,7 +103,8 @@ low-each m f j (suc n) h = low-append m (f j) (each f (count (j + 1) n)) (h j (o
 module _ (g : Geometry) (d : List ℕ) (snd : Walkable g d) where
   pub low-entry : (s : ℕ) → Used g d s → Low (granules g) (entryGranules g d s)
   unfolding entryGranules
-  low-entry s u = low-each (granules g) (runGranules g d s) 0 (runs g d s) (λ k l. low-count (granules g) (runStart g d s k) (runLength g d s k) (snd .run s k u (omega arith)))
+  low-entry s u = low-each (granules g) (runGranules g d s) 0 (runs g d s)
+      (λ k l. low-count (granules g) (runStart g d s k) (runLength g d s k) (snd .run s k u (omega arith)))
 
   pub low-chain : (left s : ℕ) → Used g d s → Low (granules g) (each (entryGranules g d) (chainFrom g d left s))
   unfolding chainFrom

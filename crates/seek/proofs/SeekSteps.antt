@@ -40,7 +40,8 @@ seek-past xs ys k h =
     let l : ltb k (length (xs ++ ys)) ≡ ltb (k - length xs) (length ys) = rw length-append (shift (length xs) (length ys) k h) in
     let m : k - length (xs ++ ys) ≡ k - length xs - length ys = rw length-append (omega arith) in
     ap (λ (b : Bool). cond b (record { here = true; at = getD (xs ++ ys) k 0 }) (record { here = false; at = k - length (xs ++ ys) })) l
-    ∙ ap (λ (v : ℕ). cond (ltb (k - length xs) (length ys)) (record { here = true; at = v }) (record { here = false; at = k - length (xs ++ ys) })) (getD-past xs ys k h)
+    ∙ ap (λ (v : ℕ). cond (ltb (k - length xs) (length ys)) (record { here = true; at = v }) (record { here = false; at = k - length (xs ++ ys) }))
+    (getD-past xs ys k h)
     ∙ ap (λ (v : ℕ). cond (ltb (k - length xs) (length ys)) (record { here = true; at = getD ys (k - length xs) 0 }) (record { here = false; at = v })) m
   where
     shift : (a b k : ℕ) → a ≤ k → ltb k (a + b) ≡ ltb (k - a) b
@@ -64,7 +65,8 @@ in-past xs k p = simp (le-ltb k (length xs) p)
 
 -- what a step gave, and the list goes on
 pub sought-here : {r : Seek} (xs ys : List ℕ) (k : ℕ) → r ≡ seekIn xs k → r .here ≡ true → getD (xs ++ ys) k 0 ≡ r .at
-sought-here {r} xs ys k e h = ⊎-elim (λ p. absurd (never p)) (λ p. List·getD-append xs ys 0 k p ∙ sym (ap (λ (q : Seek). q .at) (e ∙ in-here xs k p))) (le-or-lt (length xs) k)
+sought-here {r} xs ys k e h = ⊎-elim (λ p. absurd (never p)) (λ p. List·getD-append xs ys 0 k p ∙ sym (ap (λ (q : Seek). q .at) (e ∙ in-here xs k p)))
+    (le-or-lt (length xs) k)
   where
     never : length xs ≤ k → ⊥
     never p =
@@ -110,17 +112,20 @@ slots-length g d h l =
 
 module _ (g : Geometry) (d : List ℕ) where
   -- one run more
-  pub run-here : (s j m k : ℕ) → k < runLength g d s j → seekIn (each (runGranules g d s) (count j (suc m))) k ≡ record { here = true; at = runStart g d s j + k }
+  pub run-here : (s j m k : ℕ) → k < runLength g d s j → seekIn (each (runGranules g d s) (count j (suc m))) k ≡ record
+      { here = true; at = runStart g d s j + k }
   run-here s j m k h =
       seek-here (runGranules g d s j) (each (runGranules g d s) (count (j + 1) m)) k (rw length-count h)
       ∙ ap (λ (v : ℕ). record { here = true; at = v }) (getD-count (runStart g d s j) (runLength g d s j) k h)
 
-  pub run-past : (s j m k : ℕ) → runLength g d s j ≤ k → seekIn (each (runGranules g d s) (count j (suc m))) k ≡ seekIn (each (runGranules g d s) (count (j + 1) m)) (k - runLength g d s j)
+  pub run-past : (s j m k : ℕ) → runLength g d s j ≤ k → seekIn (each (runGranules g d s) (count j (suc m))) k ≡ seekIn
+      (each (runGranules g d s) (count (j + 1) m)) (k - runLength g d s j)
   run-past s j m k h =
       seek-past (runGranules g d s j) (each (runGranules g d s) (count (j + 1) m)) k (rw length-count h)
       ∙ ap (λ (v : ℕ). seekIn (each (runGranules g d s) (count (j + 1) m)) (k - v)) (length-count (runStart g d s j) (runLength g d s j))
 
-  pub chain-more : (left s : ℕ) → (left ≡ 0 → ⊥) → each (entryGranules g d) (chainFrom g d left s) ≡ entryGranules g d s ++ each (entryGranules g d) (onward g d (left - 1) s)
+  pub chain-more : (left s : ℕ) → (left ≡ 0 → ⊥) → each (entryGranules g d) (chainFrom g d left s) ≡ entryGranules g d s ++ each (entryGranules g d)
+      (onward g d (left - 1) s)
   unfolding chainFrom
   chain-more zero s h = absurd (h refl)
   chain-more (suc left) s h = let e : suc left - 1 ≡ left = omega arith in rw e
@@ -155,7 +160,8 @@ module _ (g : Geometry) (d : List ℕ) where
 
   pub pairs-step : {s j b : ℕ} → Pairs s j → j < 4 → b ≡ block g d s j → (b ≡ 0xff → ⊥) → Pairs s (j + 1) × (j < runs g d s)
   pairs-step {s} {j} p h e q =
-      let w : runs g d s ≡ runsFrom g d s (4 - (j + 1)) (j + 1) = next-pair p h ∙ ap (λ (t : Bool). cond t j (runsFrom g d s (4 - (j + 1)) (j + 1))) (ne-eqb (block g d s j) 0xff (λ z. q (e ∙ z))) in
+      let w : runs g d s ≡ runsFrom g d s (4 - (j + 1)) (j + 1) = next-pair p h ∙ ap (λ (t : Bool). cond t j (runsFrom g d s (4 - (j + 1)) (j + 1)))
+      (ne-eqb (block g d s j) 0xff (λ z. q (e ∙ z))) in
       let l = runs-low s (4 - (j + 1)) (j + 1) in
       (record { rest = w }, omega arith)
 
@@ -182,7 +188,8 @@ module _ (g : Geometry) (d : List ℕ) where
       record {
         rest =
             i .rest ∙ ap (λ (m : ℕ). seekIn (each (runGranules g d s) (count j m)) left) (left-more h)
-            ∙ run-past s j (n - (j + 1)) left (rw e at l) ∙ ap (λ (v : ℕ). seekIn (each (runGranules g d s) (count (j + 1) (n - (j + 1)))) (left - v)) (sym e);
+            ∙ run-past s j (n - (j + 1)) left (rw e at l) ∙ ap (λ (v : ℕ). seekIn (each (runGranules g d s) (count (j + 1) (n - (j + 1)))) (left - v))
+            (sym e);
       }
 
   pub seeking-end : {s k n j left : ℕ} → Seeking s k n j left → n ≤ j → _≡_ {A = Seek} (record { here = false; at = left }) (seekIn (entryGranules g d s) k)
@@ -206,20 +213,24 @@ module _ (g : Geometry) (d : List ℕ) where
       → r .at ≡ getD (each (entryGranules g d) (chainFrom g d left s)) k 0
   walking-here w h e q = sym (walking-on w h ∙ sought-here _ _ _ (e .is) q)
 
-  pub walking-stop : {s k left at seek more m : ℕ} {r : Seek} → Walking s k left at seek more → 0 < more → Sought (entryGranules g d at) seek r → r .here ≡ false
+  pub walking-stop : {s k left at seek more m : ℕ} {r : Seek} → Walking s k left at seek more → 0 < more → Sought (entryGranules g d at) seek r → r .here ≡
+      false
       → m ≡ marker g d at → (m ≡ 0xfe → ⊥) → 0 ≡ getD (each (entryGranules g d) (chainFrom g d left s)) k 0
   walking-stop {at = at} {more = more} {r = r} w h e q f z =
       sym (walking-on w h ∙ sought-past _ _ _ (e .is) q .0
-      ∙ ap (λ (b : Bool). getD (each (entryGranules g d) (cond b (chainFrom g d (more - 1) (link g d at)) [])) (r .at) 0) (ne-eqb (marker g d at) 0xfe (λ y. z (f ∙ y))))
+      ∙ ap (λ (b : Bool). getD (each (entryGranules g d) (cond b (chainFrom g d (more - 1) (link g d at)) [])) (r .at) 0)
+      (ne-eqb (marker g d at) 0xfe (λ y. z (f ∙ y))))
 
-  pub walking-step : {s k left at seek more m t : ℕ} {r : Seek} → Walkable g d → Walking s k left at seek more → 0 < more → Sought (entryGranules g d at) seek r → r .here ≡ false
+  pub walking-step : {s k left at seek more m t : ℕ} {r : Seek} → Walkable g d → Walking s k left at seek more → 0 < more → Sought (entryGranules g d at) seek
+      r → r .here ≡ false
       → m ≡ marker g d at → m ≡ 0xfe → t ≡ link g d at → Walking s k left t (r .at) (more - 1)
   walking-step {at = at} {more = more} {t = t} {r = r} snd w h e q f z y =
       let p = sought-past _ (each (entryGranules g d) (onward g d (more - 1) at)) _ (e .is) q in
       record {
         rest =
             walking-on w h ∙ p .0
-            ∙ ap (λ (b : Bool). getD (each (entryGranules g d) (cond b (chainFrom g d (more - 1) (link g d at)) [])) (r .at) 0) (eq-eqb (marker g d at) 0xfe (sym f ∙ z))
+            ∙ ap (λ (b : Bool). getD (each (entryGranules g d) (cond b (chainFrom g d (more - 1) (link g d at)) [])) (r .at) 0)
+            (eq-eqb (marker g d at) 0xfe (sym f ∙ z))
             ∙ ap (λ (j : ℕ). getD (each (entryGranules g d) (chainFrom g d (more - 1) j)) (r .at) 0) (sym y);
         used = rw y (snd .next at (w .used) (sym f ∙ z));
         low = omega (arith, w .low, p .1);

@@ -5,7 +5,8 @@ use mathlib.Core.Bool.{Bool, true, false, not, cond, _&&_}
 use Prim.Native.Nat.{ℕ, zero, suc, _+_, _-_, _*_, _/_, _%_, _^_, _≤_, _<_}
 use native.Mathlib.Omega.{arith}
 use native.Mathlib.Decide.{ℕ-discrete}
-use native.Mathlib.Nat.{zero-add, add-zero, add-mul, one-mul, zero-mul, mul-add-div-right, mul-add-mod-self-right, div-eq-of-lt, mod-eq-of-lt, div-one, div-div-eq-div-mul, pow-succ', pow-suc, mul-comm, mod-one, div-add-mod'}
+use native.Mathlib.Nat.{zero-add, add-zero, add-mul, one-mul, zero-mul, mul-add-div-right, mul-add-mod-self-right, div-eq-of-lt, mod-eq-of-lt, div-one}
+use native.Mathlib.Nat.{div-div-eq-div-mul, pow-succ', pow-suc, mul-comm, mod-one, div-add-mod'}
 use lib.ListN.{length}
 use lib.Dec.{eqb}
 use lib.Arith.{mod-mul}
@@ -77,7 +78,8 @@ module _ (g : Geometry) (d : List ℕ) where
   unfolding freeIn
   free-one i n = by (taken g d i) refl
     where
-      by : (t : Bool) → taken g d i ≡ t → length (keep (λ k. not (taken g d k)) (count i (suc n))) ≡ cond (taken g d i) 0 1 + length (keep (λ k. not (taken g d k)) (count (i + 1) n))
+      by : (t : Bool) → taken g d i ≡ t → length (keep (λ k. not (taken g d k)) (count i (suc n))) ≡ cond (taken g d i) 0 1 + length
+          (keep (λ k. not (taken g d k)) (count (i + 1) n))
       by true e =
           ap length (keep-no (λ k. not (taken g d k)) {x = i} (ap not e) (count (i + 1) n)) ∙ sym (zero-add _)
           ∙ ap (λ (b : Bool). cond b 0 1 + length (keep (λ k. not (taken g d k)) (count (i + 1) n))) (sym e)
@@ -123,7 +125,8 @@ module _ (g : Geometry) (d : List ℕ) where
         let x = gatByte b in
         let f : b * g .units + u + 1 ≡ b * g .units + (u + 1) = omega arith in
         let s : u + 1 ≡ suc u = omega arith in
-        let half : x / 2 ^ (u + 1) ≡ x / 2 ^ u / 2 = ap (λ (k : ℕ). x / 2 ^ k) s ∙ ap (λ (k : ℕ). x / k) (pow-succ' 2 u ∙ mul-comm 2 (2 ^ u)) ∙ sym (div-div-eq-div-mul x (2 ^ u) 2) in
+        let half : x / 2 ^ (u + 1) ≡ x / 2 ^ u / 2 = ap (λ (k : ℕ). x / 2 ^ k) s ∙ ap (λ (k : ℕ). x / k) (pow-succ' 2 u ∙ mul-comm 2 (2 ^ u)) ∙ sym
+        (div-div-eq-div-mul x (2 ^ u) 2) in
         free-one (b * g .units + u) m
         ∙ ap (λ (t : Bool). cond t 0 1 + freeIn (b * g .units + u + 1) m) (taken-at b u (omega arith))
         ∙ ap (λ (k : ℕ). k + freeIn (b * g .units + u + 1) m) (clear-of (x / 2 ^ u))
@@ -141,16 +144,19 @@ module _ (g : Geometry) (d : List ℕ) where
   free-every i zero = ap (λ (k : ℕ). eqb k 0) (free-none i)
   free-every i (suc n) = ap (λ (k : ℕ). eqb k 0) (free-one i n) ∙ by (taken g d i) (free-every (i + 1) n)
     where
-      by : (t : Bool) → eqb (freeIn (i + 1) n) 0 ≡ every (taken g d) (count (i + 1) n) → eqb (cond t 0 1 + freeIn (i + 1) n) 0 ≡ (t && every (taken g d) (count (i + 1) n))
+      by : (t : Bool) → eqb (freeIn (i + 1) n) 0 ≡ every (taken g d) (count (i + 1) n) → eqb (cond t 0 1 + freeIn (i + 1) n) 0 ≡
+          (t && every (taken g d) (count (i + 1) n))
       by true e = ap (λ (k : ℕ). eqb k 0) (zero-add (freeIn (i + 1) n)) ∙ e
       by false e = ne-eqb (1 + freeIn (i + 1) n) 0 (λ q. let z : ⊥ = omega arith in z)
 
   -- the block that begins with granule n
-  pub block-every : (n : ℕ) {x : ℕ} → 0 < g .units → n % g .units ≡ 0 → x ≡ byte d (256 * g .start + n / g .units) → eqb (clearBits (g .units) x) 0 ≡ every (taken g d) (count n (g .units))
+  pub block-every : (n : ℕ) {x : ℕ} → 0 < g .units → n % g .units ≡ 0 → x ≡ byte d (256 * g .start + n / g .units) → eqb (clearBits (g .units) x) 0 ≡ every
+      (taken g d) (count n (g .units))
   unfolding gatByte
   block-every n {x} some h e =
       let q : n / g .units * g .units ≡ n = sym (add-zero _) ∙ ap (λ (k : ℕ). n / g .units * g .units + k) (sym h) ∙ div-add-mod' n (g .units) in
-      ap (λ (k : ℕ). eqb (clearBits (g .units) k) 0) e ∙ ap (λ (k : ℕ). eqb k 0) (sym (free-block some (n / g .units)) ∙ ap (λ (k : ℕ). freeIn k (g .units)) q)
+      ap (λ (k : ℕ). eqb (clearBits (g .units) k) 0) e ∙ ap (λ (k : ℕ). eqb k 0)
+      (sym (free-block some (n / g .units)) ∙ ap (λ (k : ℕ). freeIn k (g .units)) q)
       ∙ free-every n (g .units)
 
   -- the blocks from b on are done, n granules of them are free
@@ -161,7 +167,8 @@ module _ (g : Geometry) (d : List ℕ) where
   unfolding freeGranules freeIn granules
   freed-start = record { rest = sym (add-zero _) }
 
-  pub freed-step : {b n k x : ℕ} → 0 < g .units → Freed b n → 0 < b → x ≡ byte d (256 * g .start + (b - 1)) → k ≡ clearBits (g .units) x → Freed (b - 1) (n + k)
+  pub freed-step : {b n k x : ℕ} → 0 < g .units → Freed b n → 0 < b → x ≡ byte d (256 * g .start + (b - 1)) → k ≡ clearBits (g .units) x → Freed (b - 1)
+      (n + k)
   unfolding gatByte
   freed-step {b} {n} {k} {x} some f h p q =
       let units = g .units in

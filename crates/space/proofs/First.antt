@@ -80,7 +80,8 @@ module _ (g : Geometry) (d : List ℕ) where
   unfolding freeSlot permitted
   slot-open s h l o z = all-yes (all-yes (slot-yes g d s h l) _ ∙ all-yes (ap not o) _ ∙ all-none) _ ∙ all-yes (eq-eqb _ _ z) _ ∙ all-none
 
-  pub slot-free : (row s : ℕ) {c : ℕ} → Keeps g row c → row < 8 → s + 2 < directorySectors g d → directorySectors g d ≤ 30 → c ≤ s → hit g d (32 * row + s) ≡ 0 → freeSlot g d (32 * row + s) ≡ true
+  pub slot-free : (row s : ℕ) {c : ℕ} → Keeps g row c → row < 8 → s + 2 < directorySectors g d → directorySectors g d ≤ 30 → c ≤ s → hit g d (32 * row + s) ≡
+      0 → freeSlot g d (32 * row + s) ≡ true
   slot-free row s k h l m b z = slot-open (32 * row + s) (omega arith) (omega arith) (keeps-no k (32 * row + s) (omega arith) (omega arith)) z
 
   pub slot-used : (s : ℕ) → (hit g d s ≡ 0 → ⊥) → freeSlot g d s ≡ false
@@ -110,7 +111,8 @@ module _ (g : Geometry) (d : List ℕ) where
       (λ (q : 32 * row ≤ k). let f = w .few in slot-kept k (keeps-yes w k (omega arith) (omega arith)))
       (λ (q : k < 32 * row). none k q) (le-or-lt (32 * row) k)
 
-  pub none-row : {row s n m : ℕ} → row < 8 → n ≡ directorySectors g d - 2 → n ≤ s → m ≡ 32 * (row + 1) → NoneBelow (freeSlot g d) (32 * row + s) → NoneBelow (freeSlot g d) m
+  pub none-row : {row s n m : ℕ} → row < 8 → n ≡ directorySectors g d - 2 → n ≤ s → m ≡ 32 * (row + 1) → NoneBelow (freeSlot g d) (32 * row + s) → NoneBelow
+      (freeSlot g d) m
   none-row {row} {s} {n} {m} l e h q none k b =
       ⊎-elim (λ (w : 32 * row + s ≤ k). slot-past k (omega arith) (omega arith)) (λ (w : k < 32 * row + s). none k w) (le-or-lt (32 * row + s) k)
 

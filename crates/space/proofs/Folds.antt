@@ -19,7 +19,8 @@ use Rattle.layout.specs.Room.{Room, Slot}
 use Rattle.lists.specs.Ranges.{left-more, left-none}
 use Rattle.seek.specs.Seek.{Walkable, Used, onward}
 use Rattle.seek.proofs.SeekSteps.{chain-more, chain-none, slots-length}
-use Rattle.seek.proofs.Frame.{opened, room-kept, slot-kept, Same, same-refl, same-trans, same-free, same-room, same-entry, same-sound, same-all, same-used, same-slots-of}
+use Rattle.seek.proofs.Frame.{opened, room-kept, slot-kept, Same, same-refl, same-trans, same-free, same-room, same-entry, same-sound, same-all, same-used}
+use Rattle.seek.proofs.Frame.{same-slots-of}
 use Rattle.seek.proofs.IsWalkable.{low-entry, low-chain}
 
 pub through-append : (f : List ℕ → ℕ → List ℕ) (x : List ℕ) (xs ys : List ℕ) → through f x (xs ++ ys) ≡ through f (through f x xs) ys
@@ -35,11 +36,13 @@ module _ (g : Geometry) where
   pub freeing-start : (d : List ℕ) (a n : ℕ) → Freeing d a n d 0
   freeing-start d a n =
       record {
-        rest = ap (λ (m : ℕ). through (freeGranule g) d (count m n)) (sym (add-zero a)) ∙ ap (λ (m : ℕ). through (freeGranule g) d (count (a + 0) m)) (sym (sub-zero n));
+        rest = ap (λ (m : ℕ). through (freeGranule g) d (count m n)) (sym (add-zero a)) ∙ ap (λ (m : ℕ). through (freeGranule g) d (count (a + 0) m))
+            (sym (sub-zero n));
         same = same-refl g d;
       }
 
-  pub freeing-step : {d d′ d″ : List ℕ} {a n k : ℕ} → Room g d → Freeing d a n d′ k → k < n → a + n ≤ granules g → d″ ≡ freeGranule g d′ (a + k) → Freeing d a n d″ (k + 1)
+  pub freeing-step : {d d′ d″ : List ℕ} {a n k : ℕ} → Room g d → Freeing d a n d′ k → k < n → a + n ≤ granules g → d″ ≡ freeGranule g d′ (a + k) → Freeing d a
+      n d″ (k + 1)
   freeing-step {d} {d′} {d″} {a} {n} {k} r f h l e =
       let q : a + k + 1 ≡ a + (k + 1) = omega arith in
       record {
@@ -80,8 +83,10 @@ module _ (g : Geometry) where
         rest =
             f .rest ∙ ap (λ (m : ℕ). through (freeGranule g) d′ (each (runGranules g d s) (count j m))) (left-more h)
             ∙ through-append (freeGranule g) d′ (runGranules g d s j) (each (runGranules g d s) (count (j + 1) (n - (j + 1))))
-            ∙ ap (λ (m : ℕ). through (freeGranule g) (through (freeGranule g) d′ (count m (runLength g d s j))) (each (runGranules g d s) (count (j + 1) (n - (j + 1))))) (sym u)
-            ∙ ap (λ (m : ℕ). through (freeGranule g) (through (freeGranule g) d′ (count a m)) (each (runGranules g d s) (count (j + 1) (n - (j + 1))))) (sym v)
+            ∙ ap (λ (m : ℕ). through (freeGranule g) (through (freeGranule g) d′ (count m (runLength g d s j)))
+            (each (runGranules g d s) (count (j + 1) (n - (j + 1))))) (sym u)
+            ∙ ap (λ (m : ℕ). through (freeGranule g) (through (freeGranule g) d′ (count a m)) (each (runGranules g d s) (count (j + 1) (n - (j + 1)))))
+            (sym v)
             ∙ ap (λ (z : List ℕ). through (freeGranule g) z (each (runGranules g d s) (count (j + 1) (n - (j + 1))))) (sym e);
         same = rw e (same-trans g d d′ (through (freeGranule g) d′ (count a len)) r (f .same) (same-run d′ a len (same-room g d d′ r (f .same)) l));
       }
@@ -91,7 +96,8 @@ module _ (g : Geometry) where
 
   -- entry by entry: `left` entries at the most are to come, from slot `at` on
   pub record Unchaining (d : List ℕ) (most s : ℕ) (d′ : List ℕ) (at left : ℕ) : Type 0 where
-    pub rest : through (freeGranule g) d (each (entryGranules g d) (chainFrom g d most s)) ≡ through (freeGranule g) d′ (each (entryGranules g d) (chainFrom g d left at))
+    pub rest : through (freeGranule g) d (each (entryGranules g d) (chainFrom g d most s)) ≡ through (freeGranule g) d′
+        (each (entryGranules g d) (chainFrom g d left at))
     pub same : Same g d d′
     pub used : Used g d at
 
@@ -99,40 +105,50 @@ module _ (g : Geometry) where
   unchaining-start d most s u = record { rest = refl; same = same-refl g d; used = u }
 
   -- the image once the entry at `at` gave its granules back
-  unchained : {d d′ d″ : List ℕ} {most s at left : ℕ} → Walkable g d → Unchaining d most s d′ at left → (left ≡ 0 → ⊥) → d″ ≡ through (freeGranule g) d′ (entryGranules g d′ at)
-      → through (freeGranule g) d (each (entryGranules g d) (chainFrom g d most s)) ≡ through (freeGranule g) d″ (each (entryGranules g d) (onward g d (left - 1) at))
+  unchained : {d d′ d″ : List ℕ} {most s at left : ℕ} → Walkable g d → Unchaining d most s d′ at left → (left ≡ 0 → ⊥) → d″ ≡ through (freeGranule g) d′
+      (entryGranules g d′ at)
+      → through (freeGranule g) d (each (entryGranules g d) (chainFrom g d most s)) ≡ through (freeGranule g) d″
+      (each (entryGranules g d) (onward g d (left - 1) at))
   unchained {d} {d′} {d″} {most} {s} {at} {left} snd f n e =
       f .rest ∙ ap (through (freeGranule g) d′) (chain-more g d left at n)
       ∙ through-append (freeGranule g) d′ (entryGranules g d at) (each (entryGranules g d) (onward g d (left - 1) at))
-      ∙ ap (λ (l : List ℕ). through (freeGranule g) (through (freeGranule g) d′ l) (each (entryGranules g d) (onward g d (left - 1) at))) (sym (same-entry g d d′ (snd .room) (f .same) at (f .used .slot)))
+      ∙ ap (λ (l : List ℕ). through (freeGranule g) (through (freeGranule g) d′ l) (each (entryGranules g d) (onward g d (left - 1) at)))
+      (sym (same-entry g d d′ (snd .room) (f .same) at (f .used .slot)))
       ∙ ap (λ (z : List ℕ). through (freeGranule g) z (each (entryGranules g d) (onward g d (left - 1) at))) (sym e)
 
-  pub unchained-same : {d d′ d″ : List ℕ} {most s at left : ℕ} → Walkable g d → Unchaining d most s d′ at left → d″ ≡ through (freeGranule g) d′ (entryGranules g d′ at) → Same g d d″
+  pub unchained-same : {d d′ d″ : List ℕ} {most s at left : ℕ} → Walkable g d → Unchaining d most s d′ at left → d″ ≡ through (freeGranule g) d′
+      (entryGranules g d′ at) → Same g d d″
   unchained-same {d} {d′} {d″} {most} {s} {at} {left} snd f e =
       let r′ = same-room g d d′ (snd .room) (f .same) in
       let s′ = same-sound g d d′ snd (f .same) in
       let u′ = same-used g d d′ (snd .room) (f .same) (f .used) in
-      rw e (same-trans g d d′ (through (freeGranule g) d′ (entryGranules g d′ at)) (snd .room) (f .same) (same-all g d′ (entryGranules g d′ at) r′ (low-entry g d′ s′ at u′)))
+      rw e (same-trans g d d′ (through (freeGranule g) d′ (entryGranules g d′ at)) (snd .room) (f .same)
+      (same-all g d′ (entryGranules g d′ at) r′ (low-entry g d′ s′ at u′)))
 
-  pub unchaining-stop : {d d′ d″ : List ℕ} {most s at left m : ℕ} → Walkable g d → Unchaining d most s d′ at left → 0 < left → d″ ≡ through (freeGranule g) d′ (entryGranules g d′ at)
+  pub unchaining-stop : {d d′ d″ : List ℕ} {most s at left m : ℕ} → Walkable g d → Unchaining d most s d′ at left → 0 < left → d″ ≡ through (freeGranule g) d′
+      (entryGranules g d′ at)
       → m ≡ marker g d at → (m ≡ 0xfe → ⊥) → d″ ≡ through (freeGranule g) d (each (entryGranules g d) (chainFrom g d most s))
   unchaining-stop {d} {d′} {d″} {most} {s} {at} {left} {m} snd f n e q nay =
       sym (unchained snd f (λ z. omega arith) e
-      ∙ ap (λ (t : Bool). through (freeGranule g) d″ (each (entryGranules g d) (cond t (chainFrom g d (left - 1) (link g d at)) []))) (ne-eqb (marker g d at) 0xfe (λ z. nay (q ∙ z))))
+      ∙ ap (λ (t : Bool). through (freeGranule g) d″ (each (entryGranules g d) (cond t (chainFrom g d (left - 1) (link g d at)) [])))
+      (ne-eqb (marker g d at) 0xfe (λ z. nay (q ∙ z))))
 
-  pub unchaining-step : {d d′ d″ : List ℕ} {most s at left m t : ℕ} → Walkable g d → Unchaining d most s d′ at left → 0 < left → d″ ≡ through (freeGranule g) d′ (entryGranules g d′ at)
+  pub unchaining-step : {d d′ d″ : List ℕ} {most s at left m t : ℕ} → Walkable g d → Unchaining d most s d′ at left → 0 < left → d″ ≡ through (freeGranule g)
+      d′ (entryGranules g d′ at)
       → m ≡ marker g d at → m ≡ 0xfe → t ≡ link g d at → Unchaining d most s d″ t (left - 1)
   unchaining-step {d} {d′} {d″} {most} {s} {at} {left} {m} {t} snd f n e q ys w =
       record {
         rest =
             unchained snd f (λ z. omega arith) e
-            ∙ ap (λ (b : Bool). through (freeGranule g) d″ (each (entryGranules g d) (cond b (chainFrom g d (left - 1) (link g d at)) []))) (eq-eqb (marker g d at) 0xfe (sym q ∙ ys))
+            ∙ ap (λ (b : Bool). through (freeGranule g) d″ (each (entryGranules g d) (cond b (chainFrom g d (left - 1) (link g d at)) [])))
+            (eq-eqb (marker g d at) 0xfe (sym q ∙ ys))
             ∙ ap (λ (k : ℕ). through (freeGranule g) d″ (each (entryGranules g d) (chainFrom g d (left - 1) k))) (sym w);
         same = unchained-same snd f e;
         used = rw w (snd .next at (f .used) (sym q ∙ ys));
       }
 
-  pub unchaining-end : {d d′ : List ℕ} {most s at left : ℕ} → Unchaining d most s d′ at left → left ≤ 0 → d′ ≡ through (freeGranule g) d (each (entryGranules g d) (chainFrom g d most s))
+  pub unchaining-end : {d d′ : List ℕ} {most s at left : ℕ} → Unchaining d most s d′ at left → left ≤ 0 → d′ ≡ through (freeGranule g) d
+      (each (entryGranules g d) (chainFrom g d most s))
   unchaining-end {d} {d′} {most} {s} {at} {left} f h =
       sym (f .rest ∙ ap (λ (l : List ℕ). through (freeGranule g) d′ (each (entryGranules g d) l)) (chain-none g d left at (omega arith)))
 
@@ -199,11 +215,13 @@ module _ (g : Geometry) where
       f .rest ∙ ap (through (killEntry g) d′) (chain-cons d left at (λ z. omega arith))
       ∙ ap (λ (z : List ℕ). through (killEntry g) z (onward g d (left - 1) at)) (sym e)
 
-  pub clearing-stop : {d d′ d″ : List ℕ} {most s at left m : ℕ} → Clearing d most s d′ at left → 0 < left → d″ ≡ killEntry g d′ at → m ≡ field g d′ at 0x1e → (m ≡ 0xfe → ⊥)
+  pub clearing-stop : {d d′ d″ : List ℕ} {most s at left m : ℕ} → Clearing d most s d′ at left → 0 < left → d″ ≡ killEntry g d′ at → m ≡ field g d′ at 0x1e →
+      (m ≡ 0xfe → ⊥)
       → d″ ≡ through (killEntry g) d (chainFrom g d most s)
   clearing-stop {d} {d′} {d″} {most} {s} {at} {left} {m} f n e q nay =
       let w : m ≡ marker g d at = q ∙ f .kept .fields at 0x1e (f .used .slot) (omega arith) (omega arith) in
-      sym (cleared f n e ∙ ap (λ (t : Bool). through (killEntry g) d″ (cond t (chainFrom g d (left - 1) (link g d at)) [])) (ne-eqb (marker g d at) 0xfe (λ z. nay (w ∙ z))))
+      sym (cleared f n e ∙ ap (λ (t : Bool). through (killEntry g) d″ (cond t (chainFrom g d (left - 1) (link g d at)) []))
+      (ne-eqb (marker g d at) 0xfe (λ z. nay (w ∙ z))))
 
   pub clearing-step : {d d′ d″ : List ℕ} {most s at left m t : ℕ} → Walkable g d → Clearing d most s d′ at left → 0 < left → d″ ≡ killEntry g d′ at
       → m ≡ field g d′ at 0x1e → t ≡ field g d′ at 0x1f → m ≡ 0xfe → Clearing d most s d″ t (left - 1)
@@ -212,7 +230,8 @@ module _ (g : Geometry) where
       let x : t ≡ link g d at = v ∙ f .kept .fields at 0x1f (f .used .slot) (omega arith) (omega arith) in
       record {
         rest =
-            cleared f n e ∙ ap (λ (b : Bool). through (killEntry g) d″ (cond b (chainFrom g d (left - 1) (link g d at)) [])) (eq-eqb (marker g d at) 0xfe (sym w ∙ ys))
+            cleared f n e ∙ ap (λ (b : Bool). through (killEntry g) d″ (cond b (chainFrom g d (left - 1) (link g d at)) []))
+            (eq-eqb (marker g d at) 0xfe (sym w ∙ ys))
             ∙ ap (λ (k : ℕ). through (killEntry g) d″ (chainFrom g d (left - 1) k)) (sym x);
         kept = rw e (kept-trans (f .kept) (kept-kill d′ at (kept-room (snd .room) (f .kept)) (kept-slot (f .kept) (f .used .slot))));
         used = rw x (snd .next at (f .used) (sym w ∙ ys));
@@ -221,10 +240,12 @@ module _ (g : Geometry) where
   pub clearing-end : {d d′ : List ℕ} {most s at left : ℕ} → Clearing d most s d′ at left → left ≤ 0 → d′ ≡ through (killEntry g) d (chainFrom g d most s)
   clearing-end {d} {d′} {most} {s} {at} {left} f h = sym (f .rest ∙ ap (through (killEntry g) d′) (chain-none g d left at (omega arith)))
 
-  pub freed-same : {d d′ : List ℕ} {s : ℕ} (most : ℕ) → Walkable g d → Used g d s → d′ ≡ through (freeGranule g) d (each (entryGranules g d) (chainFrom g d most s)) → Same g d d′
+  pub freed-same : {d d′ : List ℕ} {s : ℕ} (most : ℕ) → Walkable g d → Used g d s → d′ ≡ through (freeGranule g) d
+      (each (entryGranules g d) (chainFrom g d most s)) → Same g d d′
   freed-same {d} {d′} {s} most snd u e = rw e (same-all g d (each (entryGranules g d) (chainFrom g d most s)) (snd .room) (low-chain g d snd most s u))
 
-  pub killed : {d d′ d″ : List ℕ} {n s : ℕ} → Walkable g d → Used g d s → n ≡ directorySectors g d → d′ ≡ through (freeGranule g) d (each (entryGranules g d) (chainFrom g d (8 * (n - 2)) s))
+  pub killed : {d d′ d″ : List ℕ} {n s : ℕ} → Walkable g d → Used g d s → n ≡ directorySectors g d → d′ ≡ through (freeGranule g) d
+      (each (entryGranules g d) (chainFrom g d (8 * (n - 2)) s))
       → d″ ≡ through (killEntry g) d′ (chainFrom g d′ (8 * (n - 2)) s) → d″ ≡ through (killEntry g) (through (freeGranule g) d (owned g d s)) (chain g d s)
   unfolding owned chain
   killed {d} {d′} {d″} {n} {s} snd u q e f =

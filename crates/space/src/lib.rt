@@ -56,7 +56,8 @@ pub fn free_entry(image: &mut [u8], g: Geometry, s: usize)
 // Gives back the granules of a file from the entry at slot s on, `most` entries at the most.
 pub fn free_chain(image: &mut [u8], g: Geometry, s: usize, most: usize)
     requires { ⌜ Walkable g (now image) × Used g (now image) s ⌝ }
-    ensures { λ _. ⌜ now (image .exit) ≡ through (freeGranule g) (now (image .entry)) (each (entryGranules g (now (image .entry))) (chainFrom g (now (image .entry)) most s)) ⌝ }
+    ensures { λ _. ⌜ now (image .exit) ≡ through (freeGranule g) (now (image .entry))
+        (each (entryGranules g (now (image .entry))) (chainFrom g (now (image .entry)) most s)) ⌝ }
 {
     let mut at = s;
     let mut left = most;
@@ -92,7 +93,8 @@ pub fn kill_chain(image: &mut [u8], g: Geometry, s: usize, most: usize)
 // What an accepted kill leaves of the image.
 pub fn kill_file(image: &mut [u8], g: Geometry, s: usize)
     requires { ⌜ Walkable g (now image) × Used g (now image) s ⌝ }
-    ensures { λ _. ⌜ now (image .exit) ≡ through (killEntry g) (through (freeGranule g) (now (image .entry)) (owned g (now (image .entry)) s)) (chain g (now (image .entry)) s) ⌝ }
+    ensures { λ _. ⌜ now (image .exit) ≡ through (killEntry g) (through (freeGranule g) (now (image .entry)) (owned g (now (image .entry)) s))
+        (chain g (now (image .entry)) s) ⌝ }
 {
     let most = 8 * (layout::directory_sectors(image, g) - 2);
     free_chain(image, g, s, most);

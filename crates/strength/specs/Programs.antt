@@ -28,7 +28,8 @@ use Rattle.meaning.specs.declared.Counts.{Counts}
 use Rattle.meaning.specs.declared.Space.{Space}
 use Rattle.meaning.specs.Calls.Call.{checks, looksUp, opens, creates, reads, readsSector, writes, allots, trims, kills, lists, counts, measures}
 
--- what a call hands back, whole: its refusal, number and slot of the fault, and with it slot and count, handle, "old", the part, the file told, the counts, the free space
+-- what a call hands back, whole: its refusal, number and slot of the fault, and with it slot and count, handle, "old", the part, the file
+-- told, the counts, the free space
 pub data Answers : Type 0 where
   checked : Refusal → Answers
   looked : LookedUp → Answers

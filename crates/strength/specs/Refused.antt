@@ -12,7 +12,8 @@ use Rattle.meaning_table.specs.Samples.{opened, three, sample, puls, held, hits
 use Rattle.meaning.specs.declared.Geometry.{Geometry}
 use Rattle.meaning.specs.declared.Handle.{Handle}
 use Rattle.meaning.specs.Calls.Call.{checks, looksUp, reads, kills}
-use Rattle.strength.specs.Programs.{Answers, checked, looked, answered, created, part, told, counted, measured, Said, Program, Meets, says, right, answerOf, bufferOf, RefusesAll, AlwaysAlike, ChangesNothing, Faked, FirstOnly}
+use Rattle.strength.specs.Programs.{Answers, checked, looked, answered, created, part, told, counted, measured, Said, Program, Meets, says, right}
+use Rattle.strength.specs.Programs.{answerOf, bufferOf, RefusesAll, AlwaysAlike, ChangesNothing, Faked, FirstOnly}
 
 -- what a program that meets the statements says of one call, and of two
 one : (p : Program) → Meets p → (c : Call) → p three sample (c ∷ []) ≡ says three sample c ∷ []

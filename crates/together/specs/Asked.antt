@@ -6,7 +6,8 @@ use mathlib.Core.Path.{_≡_, refl}
 use mathlib.Core.List.{List, [], _∷_, _++_}
 use Rattle.meaning.specs.declared.Geometry.{Geometry}
 use Rattle.meaning.specs.Calls.{Call, number, leaves}
-use Rattle.together.specs.Statement.{Name, Step, asked, leavesAll, looksUp, opens, creates, moves, reads, readsSector, writes, allots, trims, kills, Side, answer, Turn, one, two, World, next, after, Accepted}
+use Rattle.together.specs.Statement.{Name, Step, asked, leavesAll, looksUp, opens, creates, moves, reads, readsSector, writes, allots, trims, kills}
+use Rattle.together.specs.Statement.{Side, answer, Turn, one, two, World, next, after, Accepted}
 
 -- the calls of an interleaving
 abbrev pub askedIn : Geometry → Name → Name → World → List Turn → List Call

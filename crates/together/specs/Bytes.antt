@@ -28,7 +28,8 @@ use Rattle.laws.specs.Facts.{Sound}
 use Rattle.laws.specs.Places
 use Rattle.laws.specs.Passed
 use Rattle.laws.specs.Named
-use Rattle.together.specs.Statement.{Name, Step, looksUp, opens, creates, moves, reads, readsSector, writes, allots, trims, kills, Side, known, answer, handleAt, manyBy, Turn, one, two, Interleaving, none, left, right, World, start, next, after, Taken}
+use Rattle.together.specs.Statement.{Name, Step, looksUp, opens, creates, moves, reads, readsSector, writes, allots, trims, kills, Side, known, answer}
+use Rattle.together.specs.Statement.{handleAt, manyBy, Turn, one, two, Interleaving, none, left, right, World, start, next, after, Taken}
 use Rattle.together.specs.State.{Held, Good}
 use Rattle.together.specs.Effects
 use Rattle.together.specs.Interleavings
@@ -64,8 +65,10 @@ still g n d s (writes a m i b) h t e q =
     let many = manyBy (s .handles) a i b in
     Still.write-still g d (fold n) m (handleAt (s .handles) i) many b _ (Effects.held-at (fold n) (s .handles) i h t)
     (Quiet.write-quiet g d (fold n) m (handleAt (s .handles) i) many b (Effects.held-at (fold n) (s .handles) i h t) e q)
-still g n d s (allots i j) h t e q = Still.still-same g (fold n) d _ (Quiet.allot-still g d (fold n) (handleAt (s .handles) i) (Effects.held-at (fold n) (s .handles) i h t) j e q)
-still g n d s (trims i) h t e q = Still.still-same g (fold n) d _ (Quiet.trim-still g d (fold n) (handleAt (s .handles) i) (Effects.held-at (fold n) (s .handles) i h t) e q)
+still g n d s (allots i j) h t e q = Still.still-same g (fold n) d _
+    (Quiet.allot-still g d (fold n) (handleAt (s .handles) i) (Effects.held-at (fold n) (s .handles) i h t) j e q)
+still g n d s (trims i) h t e q = Still.still-same g (fold n) d _
+    (Quiet.trim-still g d (fold n) (handleAt (s .handles) i) (Effects.held-at (fold n) (s .handles) i h t) e q)
 still g n d s (kills i) h t e q = absurd (Quiet.kill-never g d (fold n) (handleAt (s .handles) i) (Effects.held-at (fold n) (s .handles) i h t) e q)
 
 -- The same call on two disks that agree on its file's region ------------------------------------------------------------------
@@ -93,13 +96,16 @@ write-handle g d m h many b e = rw e
 module _ (g : Geometry) (d₀ : List ℕ) (c₀ : Sound g d₀) (n : Name) where
   -- the bytes of its entry are the file's
   entry-region : (p : ℕ) → Facts.IsFile g d₀ p → nameOf g d₀ p ≡ (fold n) → (k : ℕ) → k < 32 → T (region g d₀ (fold n) (entryAt g p + k))
-  entry-region p f e k l = rw (Quiet.region-is g d₀ c₀ p (fold n) (entryAt g p + k) f e) (Members.or-l (inEntry g p (entryAt g p + k)) (inData g d₀ p (entryAt g p + k))
-      (Members.and-i (leb (entryAt g p) (entryAt g p + k)) _ (le→leb (entryAt g p) (entryAt g p + k) (omega arith)) (lt→ltb (entryAt g p + k) (entryAt g p + 32) (omega arith))))
+  entry-region p f e k l = rw (Quiet.region-is g d₀ c₀ p (fold n) (entryAt g p + k) f e)
+      (Members.or-l (inEntry g p (entryAt g p + k)) (inData g d₀ p (entryAt g p + k))
+      (Members.and-i (leb (entryAt g p) (entryAt g p + k)) _ (le→leb (entryAt g p) (entryAt g p + k) (omega arith))
+      (lt→ltb (entryAt g p + k) (entryAt g p + 32) (omega arith))))
 
   named-one : (p : ℕ) → named g d₀ (fold n) ≡ p ∷ [] → Facts.IsFile g d₀ p × (nameOf g d₀ p ≡ (fold n))
   named-one p e = go (Named.look g d₀ c₀ (fold n))
     where
-      go : ((q : ℕ) × Facts.IsFile g d₀ q × (nameOf g d₀ q ≡ (fold n))) ⊎ ((q : ℕ) → Facts.IsFile g d₀ q → nameOf g d₀ q ≢ (fold n)) → Facts.IsFile g d₀ p × (nameOf g d₀ p ≡ (fold n))
+      go : ((q : ℕ) × Facts.IsFile g d₀ q × (nameOf g d₀ q ≡ (fold n))) ⊎ ((q : ℕ) → Facts.IsFile g d₀ q → nameOf g d₀ q ≢ (fold n)) → Facts.IsFile g d₀ p ×
+          (nameOf g d₀ p ≡ (fold n))
       go (inl w) =
           let z : w .0 ≡ p = head-eq-of-cons-eq (sym (ap (named g d₀) (sym (w .2)) ∙ Named.named-is g d₀ c₀ (w .0) (w .1)) ∙ e) in
           (rw (← z) (w .1), rw (← z) (w .2))
@@ -109,13 +115,15 @@ module _ (g : Geometry) (d₀ : List ℕ) (c₀ : Sound g d₀) (n : Name) where
   unfolding firstOr
   named-first o k l = go (Named.look g d₀ c₀ (fold n))
     where
-      go : ((q : ℕ) × Facts.IsFile g d₀ q × (nameOf g d₀ q ≡ (fold n))) ⊎ ((q : ℕ) → Facts.IsFile g d₀ q → nameOf g d₀ q ≢ (fold n)) → T (region g d₀ (fold n) (entryAt g (firstOr 0 (named g d₀ (fold n))) + k))
+      go : ((q : ℕ) × Facts.IsFile g d₀ q × (nameOf g d₀ q ≡ (fold n))) ⊎ ((q : ℕ) → Facts.IsFile g d₀ q → nameOf g d₀ q ≢ (fold n)) → T
+          (region g d₀ (fold n) (entryAt g (firstOr 0 (named g d₀ (fold n))) + k))
       go (inl w) =
           let one′ : named g d₀ (fold n) ≡ w .0 ∷ [] = ap (named g d₀) (sym (w .2)) ∙ Named.named-is g d₀ c₀ (w .0) (w .1) in
           subst (λ (x : ℕ). T (region g d₀ (fold n) (entryAt g x + k))) (sym (ap (firstOr 0) one′)) (entry-region (w .0) (w .1) (w .2) k l)
       go (inr w) = absurd (o (subst (λ (l : List ℕ). T (eqb (length l) 0)) (sym (Named.none-named g d₀ (fold n) w)) tt))
 
-  module _ (d e : List ℕ) (ld : Laid g d₀ d) (le : Laid g d₀ e) (cd : Sound g d) (ce : Sound g e) (a : Agreed (region g d₀ (fold n)) d e) (hs : List Handle) (held : Held (fold n) hs) where
+  module _ (d e : List ℕ) (ld : Laid g d₀ d) (le : Laid g d₀ e) (cd : Sound g d) (ce : Sound g e) (a : Agreed (region g d₀ (fold n)) d e) (hs : List Handle)
+      (held : Held (fold n) hs) where
     same-open : (len : ℕ) (checking : Bool) (code : ℕ) → (T (missing g d (fold n)) → ⊥)
         → openedAt g d (firstOr 0 (named g d (fold n))) (fold n) len checking code ≡ openedAt g e (firstOr 0 (named g e (fold n))) (fold n) len checking code
     same-open len checking code o =
@@ -129,7 +137,9 @@ module _ (g : Geometry) (d₀ : List ℕ) (c₀ : Sound g d₀) (n : Name) where
 
     -- what the lists were handed back plays no part
     Alike : (o o′ : List (List ℕ)) → Step → Type 0
-    Alike o o′ c = Agreed (region g d₀ (fold n)) (answer g n d (record { handles = hs; heard = o }) c .disk) (answer g n e (record { handles = hs; heard = o′ }) c .disk) × (answer g n d (record { handles = hs; heard = o }) c .side .handles ≡ answer g n e (record { handles = hs; heard = o′ }) c .side .handles)
+    Alike o o′ c = Agreed (region g d₀ (fold n)) (answer g n d (record { handles = hs; heard = o }) c .disk)
+        (answer g n e (record { handles = hs; heard = o′ }) c .disk) ×
+        (answer g n d (record { handles = hs; heard = o }) c .side .handles ≡ answer g n e (record { handles = hs; heard = o′ }) c .side .handles)
 
     agreed-eq : (x y : List ℕ) → x ≡ d → y ≡ e → Agreed (region g d₀ (fold n)) x y
     agreed-eq x y p q = rw (p, q) a
@@ -139,11 +149,15 @@ module _ (g : Geometry) (d₀ : List ℕ) (c₀ : Sound g d₀) (n : Name) where
     write-alike m i many b x y z v w =
         let h = handleAt hs i in let p = h .slot in
         let k = named-one p (sym (ld .names (fold n)) ∙ ap (named g d) (sym (v .holds .name′ ∙ z)) ∙ Named.named-is g d cd p (v .holds .file)) in
-        subst (λ (r : List ℕ). Agreed (region g d₀ (fold n)) r y) (sym (v .image)) (subst (λ (r : List ℕ). Agreed (region g d₀ (fold n)) (written g d p m (h .at) many (take many b)) r) (sym (w .image))
-        (Still.agreed-write (region g d₀ (fold n)) g d e p m (h .at) many (take many b) (entry-region p (k .0) (k .1)) (ld .owns p (k .0) ∙ sym (le .owns p (k .0))) a))
+        subst (λ (r : List ℕ). Agreed (region g d₀ (fold n)) r y) (sym (v .image))
+        (subst (λ (r : List ℕ). Agreed (region g d₀ (fold n)) (written g d p m (h .at) many (take many b)) r) (sym (w .image))
+        (Still.agreed-write (region g d₀ (fold n)) g d e p m (h .at) many (take many b) (entry-region p (k .0) (k .1))
+        (ld .owns p (k .0) ∙ sym (le .owns p (k .0))) a))
 
-    alike : (o o′ : List (List ℕ)) (c : Step) → T (known hs c) → answer g n d (record { handles = hs; heard = o }) c .number ≡ 0 → answer g n e (record { handles = hs; heard = o′ }) c .number ≡ 0
-        → Even g (fold n) d (answer g n d (record { handles = hs; heard = o }) c .disk) → Even g (fold n) e (answer g n e (record { handles = hs; heard = o′ }) c .disk) → Alike o o′ c
+    alike : (o o′ : List (List ℕ)) (c : Step) → T (known hs c) → answer g n d (record { handles = hs; heard = o }) c .number ≡ 0 → answer g n e
+        (record { handles = hs; heard = o′ }) c .number ≡ 0
+        → Even g (fold n) d (answer g n d (record { handles = hs; heard = o }) c .disk) → Even g (fold n) e
+        (answer g n e (record { handles = hs; heard = o′ }) c .disk) → Alike o o′ c
     unfolding answer number leaves known Alike
     alike o o′ looksUp t x y q r = (a, refl)
     alike o o′ (opens len checking code) t x y q r =
@@ -169,13 +183,17 @@ module _ (g : Geometry) (d₀ : List ℕ) (c₀ : Sound g d₀) (n : Name) where
         (agreed-eq _ _ (Quiet.trim-still g d (fold n) (handleAt hs i) z x q) (Quiet.trim-still g e (fold n) (handleAt hs i) z y r), refl)
     alike o o′ (kills i) t x y q r = absurd (Quiet.kill-never g d (fold n) (handleAt hs i) (Effects.held-at (fold n) hs i held t) x q)
 
-sides-alike : (g : Geometry) (d₀ : List ℕ) (c₀ : Sound g d₀) (n : Name) (d e : List ℕ) → Laid g d₀ d → Laid g d₀ e → Sound g d → Sound g e → Agreed (region g d₀ (fold n)) d e
-    → (s s′ : Side) → Held (fold n) (s .handles) → s .handles ≡ s′ .handles → (c : Step) → T (known (s .handles) c) → answer g n d s c .number ≡ 0 → answer g n e s′ c .number ≡ 0
+sides-alike : (g : Geometry) (d₀ : List ℕ) (c₀ : Sound g d₀) (n : Name) (d e : List ℕ) → Laid g d₀ d → Laid g d₀ e → Sound g d → Sound g e → Agreed
+    (region g d₀ (fold n)) d e
+    → (s s′ : Side) → Held (fold n) (s .handles) → s .handles ≡ s′ .handles → (c : Step) → T (known (s .handles) c) → answer g n d s c .number ≡ 0 → answer g
+    n e s′ c .number ≡ 0
     → Even g (fold n) d (answer g n d s c .disk) → Even g (fold n) e (answer g n e s′ c .disk)
     → Agreed (region g d₀ (fold n)) (answer g n d s c .disk) (answer g n e s′ c .disk) × (answer g n d s c .side .handles ≡ answer g n e s′ c .side .handles)
 sides-alike g d₀ c₀ n d e ld le cd ce a s s′ held q c t x y u v =
-    subst (λ (hs : List Handle). answer g n e (record { handles = hs; heard = s′ .heard }) c .number ≡ 0 → Even g (fold n) e (answer g n e (record { handles = hs; heard = s′ .heard }) c .disk)
-    → Agreed (region g d₀ (fold n)) (answer g n d s c .disk) (answer g n e (record { handles = hs; heard = s′ .heard }) c .disk) × (answer g n d s c .side .handles ≡ answer g n e (record { handles = hs; heard = s′ .heard }) c .side .handles))
+    subst (λ (hs : List Handle). answer g n e (record { handles = hs; heard = s′ .heard }) c .number ≡ 0 → Even g (fold n) e
+    (answer g n e (record { handles = hs; heard = s′ .heard }) c .disk)
+    → Agreed (region g d₀ (fold n)) (answer g n d s c .disk) (answer g n e (record { handles = hs; heard = s′ .heard }) c .disk) ×
+    (answer g n d s c .side .handles ≡ answer g n e (record { handles = hs; heard = s′ .heard }) c .side .handles))
     q (λ y v. unfold Alike in alike g d₀ c₀ n d e ld le cd ce a (s .handles) held (s .heard) (s′ .heard) c t x y u v) y v
 
 -- Two lists ----------------------------------------------------------------------------------------------------------------
@@ -212,7 +230,8 @@ module _ (g : Geometry) (a b : Name) (d₀ : List ℕ) where
   first-still : (w : World) (c : Step) → Steady g a b d₀ w → EvenTurn g a b w (one c) → Still g (fold a) (w .disk) (next g a b w (one c) .disk)
   first-still w c k t = still g a (w .disk) (w .first) c (k .fine .first′) (t .0 .0) (t .0 .1) (t .1)
 
-second-still : (g : Geometry) (a b : Name) (d₀ : List ℕ) (w : World) (c : Step) → Steady g a b d₀ w → EvenTurn g a b w (two c) → Still g (fold b) (w .disk) (next g a b w (two c) .disk)
+second-still : (g : Geometry) (a b : Name) (d₀ : List ℕ) (w : World) (c : Step) → Steady g a b d₀ w → EvenTurn g a b w (two c) → Still g (fold b) (w .disk)
+    (next g a b w (two c) .disk)
 second-still g a b d₀ w c k t = first-still g b a d₀ (swap w) c (swap-steady g a b d₀ w k) t
 
 module _ (g : Geometry) (a b : Name) (d₀ : List ℕ) (k₀ : Good g d₀) where
@@ -234,14 +253,16 @@ module _ (g : Geometry) (a b : Name) (d₀ : List ℕ) (k₀ : Good g d₀) wher
   end-steady (z ∷ zs) w k t = end-steady zs (next g a b w z) (steady w z k (t .0)) (t .1)
 
   -- a turn leaves the bytes that are not its file's
-  spared : (n : Name) (w : World) (d′ : List ℕ) → Steady g a b d₀ w → Still g n (w .disk) d′ → (i : ℕ) → (T (region g d₀ n i) → ⊥) → byte d′ i ≡ byte (w .disk) i
+  spared : (n : Name) (w : World) (d′ : List ℕ) → Steady g a b d₀ w → Still g n (w .disk) d′ → (i : ℕ) → (T (region g d₀ n i) → ⊥) → byte d′ i ≡ byte
+      (w .disk) i
   spared n w d′ k s i o = s .outside i (λ t. o (rw (Quiet.region-laid g d₀ c₀ (w .disk) (k .laid) n i) at t))
 
   -- the same turn of the first list, in two worlds
   own-meets : (w w′ : World) (c : Step) → Steady g a b d₀ w → Steady g a b d₀ w′ → EvenTurn g a b w (one c) → EvenTurn g a b w′ (one c) → Meets g a d₀ w w′
       → Meets g a d₀ (next g a b w (one c)) (next g a b w′ (one c))
   own-meets w w′ c k k′ t t′ m =
-      let x = sides-alike g d₀ c₀ a (w .disk) (w′ .disk) (k .laid) (k′ .laid) (good-sound g (w .disk) (k .fine .good)) (good-sound g (w′ .disk) (k′ .fine .good)) (m .bytes)
+      let x = sides-alike g d₀ c₀ a (w .disk) (w′ .disk) (k .laid) (k′ .laid) (good-sound g (w .disk) (k .fine .good))
+      (good-sound g (w′ .disk) (k′ .fine .good)) (m .bytes)
       (w .first) (w′ .first) (k .fine .first′) (m .handles′) c (t .0 .0) (t .0 .1) (t′ .0 .1) (t .1) (t′ .1) in
       record { bytes = x .0; handles′ = x .1 }
 
@@ -250,7 +271,8 @@ module _ (g : Geometry) (a b : Name) (d₀ : List ℕ) (k₀ : Good g d₀) wher
   other-meets ab w c k t = record {
     bytes = record {
       long = good-long g (next g a b w (two c) .disk) (w .disk) (steady w (two c) k t .fine .good) (k .fine .good);
-      bytes = λ i u. spared (fold b) w (next g a b w (two c) .disk) k (second-still g a b d₀ w c k t) i (λ v. Quiet.regions-apart g d₀ c₀ (good-fits g d₀ k₀) (fold a) (fold b) ab i u v);
+      bytes = λ i u. spared (fold b) w (next g a b w (two c) .disk) k (second-still g a b d₀ w c k t) i
+          (λ v. Quiet.regions-apart g d₀ c₀ (good-fits g d₀ k₀) (fold a) (fold b) ab i u v);
     };
     handles′ = refl;
   }
@@ -265,38 +287,47 @@ module _ (g : Geometry) (a b : Name) (d₀ : List ℕ) (k₀ : Good g d₀) wher
   meets-sym w w′ m = record { bytes = record { long = sym (m .bytes .long); bytes = λ i t. sym (m .bytes .bytes i t) }; handles′ = sym (m .handles′) }
 
   -- the first list has no further turn
-  no-turn : fold a ≢ fold b → {ys : List Step} {zs : List Turn} → Interleaving [] ys zs → (w v : World) → Steady g a b d₀ v → Evenly g a b v zs → Meets g a d₀ w v → Meets g a d₀ w (after g a b v zs)
+  no-turn : fold a ≢ fold b → {ys : List Step} {zs : List Turn} → Interleaving [] ys zs → (w v : World) → Steady g a b d₀ v → Evenly g a b v zs → Meets g a d₀
+      w v → Meets g a d₀ w (after g a b v zs)
   no-turn ab none w v k t m = m
   no-turn ab (right {y = c} i) w v k t m =
       let u = next g a b v (two c) in no-turn ab i w u (steady v (two c) k (t .0)) (t .1) (meets-trans w v u m (meets-sym u v (other-meets ab v c k (t .0))))
 
   -- the turns up to the first list's next one, and then the rest
-  next-turn : fold a ≢ fold b → {x : Step} {xs ys : List Step} {zs : List Turn} → Interleaving (x ∷ xs) ys zs → (w v end : World) → Steady g a b d₀ v → Evenly g a b v zs → Meets g a d₀ w v
-      → ((ys′ : List Step) (zs′ : List Turn) → Interleaving xs ys′ zs′ → (u : World) → Steady g a b d₀ u → EvenTurn g a b u (one x) → Evenly g a b (next g a b u (one x)) zs′ → Meets g a d₀ w u
+  next-turn : fold a ≢ fold b → {x : Step} {xs ys : List Step} {zs : List Turn} → Interleaving (x ∷ xs) ys zs → (w v end : World) → Steady g a b d₀ v → Evenly
+      g a b v zs → Meets g a d₀ w v
+      → ((ys′ : List Step) (zs′ : List Turn) → Interleaving xs ys′ zs′ → (u : World) → Steady g a b d₀ u → EvenTurn g a b u (one x) → Evenly g a b
+      (next g a b u (one x)) zs′ → Meets g a d₀ w u
       → Meets g a d₀ end (after g a b (next g a b u (one x)) zs′))
       → Meets g a d₀ end (after g a b v zs)
   next-turn ab (left i) w v end k t m f = f _ _ i v k (t .0) (t .1) m
   next-turn ab (right {y = c} i) w v end k t m f =
-      let u = next g a b v (two c) in next-turn ab i w u end (steady v (two c) k (t .0)) (t .1) (meets-trans w v u m (meets-sym u v (other-meets ab v c k (t .0)))) f
+      let u = next g a b v (two c) in
+      next-turn ab i w u end (steady v (two c) k (t .0)) (t .1) (meets-trans w v u m (meets-sym u v (other-meets ab v c k (t .0)))) f
 
   -- so the first list's part is the same at the end of two interleavings
-  end-meets : fold a ≢ fold b → {xs ys ys′ : List Step} {zs zs′ : List Turn} → Interleaving xs ys zs → Interleaving xs ys′ zs′ → (w v : World) → Steady g a b d₀ w → Steady g a b d₀ v
+  end-meets : fold a ≢ fold b → {xs ys ys′ : List Step} {zs zs′ : List Turn} → Interleaving xs ys zs → Interleaving xs ys′ zs′ → (w v : World) → Steady g a b
+      d₀ w → Steady g a b d₀ v
       → Evenly g a b w zs → Evenly g a b v zs′ → Meets g a d₀ w v → Meets g a d₀ (after g a b w zs) (after g a b v zs′)
   end-meets ab none j w v k l t s m = no-turn ab j w v l s m
   end-meets ab (left {x = c} {zs = zs} i) j w v k l t s m =
       next-turn ab j w v (after g a b (next g a b w (one c)) zs) l s m (λ ys′ zs′ j′ u h e s′ n.
-      end-meets ab i j′ (next g a b w (one c)) (next g a b u (one c)) (steady w (one c) k (t .0)) (steady u (one c) h e) (t .1) s′ (own-meets w u c k h (t .0) e n))
+      end-meets ab i j′ (next g a b w (one c)) (next g a b u (one c)) (steady w (one c) k (t .0)) (steady u (one c) h e) (t .1) s′
+      (own-meets w u c k h (t .0) e n))
   end-meets ab (right {y = c} i) j w v k l t s m =
       let u = next g a b w (two c) in end-meets ab i j u v (steady w (two c) k (t .0)) l (t .1) s (meets-trans u w v (other-meets ab w c k (t .0)) m)
 
   -- and what is neither list's stays as it was
-  rest-kept : (i : ℕ) → (T (region g d₀ (fold a) i) → ⊥) → (T (region g d₀ (fold b) i) → ⊥) → (zs : List Turn) (w : World) → Steady g a b d₀ w → Evenly g a b w zs
+  rest-kept : (i : ℕ) → (T (region g d₀ (fold a) i) → ⊥) → (T (region g d₀ (fold b) i) → ⊥) → (zs : List Turn) (w : World) → Steady g a b d₀ w → Evenly g a b
+      w zs
       → byte (after g a b w zs .disk) i ≡ byte (w .disk) i
   rest-kept i p q [] w k t = refl
   rest-kept i p q (one c ∷ zs) w k t =
-      rest-kept i p q zs (next g a b w (one c)) (steady w (one c) k (t .0)) (t .1) ∙ spared (fold a) w (next g a b w (one c) .disk) k (first-still g a b d₀ w c k (t .0)) i p
+      rest-kept i p q zs (next g a b w (one c)) (steady w (one c) k (t .0)) (t .1) ∙ spared (fold a) w (next g a b w (one c) .disk) k
+      (first-still g a b d₀ w c k (t .0)) i p
   rest-kept i p q (two c ∷ zs) w k t =
-      rest-kept i p q zs (next g a b w (two c)) (steady w (two c) k (t .0)) (t .1) ∙ spared (fold b) w (next g a b w (two c) .disk) k (second-still g a b d₀ w c k (t .0)) i q
+      rest-kept i p q zs (next g a b w (two c)) (steady w (two c) k (t .0)) (t .1) ∙ spared (fold b) w (next g a b w (two c) .disk) k
+      (second-still g a b d₀ w c k (t .0)) i q
 
   start-steady : Steady g a b d₀ (start d₀)
   start-steady = record { fine = Interleavings.start-fine g a b d₀ k₀; laid = Quiet.laid-same g d₀ }
@@ -304,7 +335,8 @@ module _ (g : Geometry) (a b : Name) (d₀ : List ℕ) (k₀ : Good g d₀) wher
   start-meets : Meets g a d₀ (start d₀) (start d₀)
   start-meets = record { bytes = record { long = refl; bytes = λ i t. refl }; handles′ = refl }
 
-pub same-disks : (g : Geometry) (a b : Name) → fold a ≢ fold b → (d : List ℕ) → Good g d → {xs ys : List Step} {zs zs′ : List Turn} → Interleaving xs ys zs → Interleaving xs ys zs′
+pub same-disks : (g : Geometry) (a b : Name) → fold a ≢ fold b → (d : List ℕ) → Good g d → {xs ys : List Step} {zs zs′ : List Turn} → Interleaving xs ys zs →
+    Interleaving xs ys zs′
     → Evenly g a b (start d) zs → Evenly g a b (start d) zs′ → after g a b (start d) zs .disk ≡ after g a b (start d) zs′ .disk
 same-disks g a b ab d k {zs = zs} {zs′ = zs′} i i′ t t′ =
     let w = after g a b (start d) zs in let w′ = after g a b (start d) zs′ in
@@ -315,12 +347,15 @@ same-disks g a b ab d k {zs = zs} {zs′ = zs′} i i′ t t′ =
     let theirs : Agreed (region g d (fold b)) (w .disk) (w′ .disk) =
     subst (λ (v : World). Agreed (region g d (fold b)) (v .disk) (w′ .disk)) (Interleavings.swap-after g a b zs (start d))
     (subst (λ (v : World). Agreed (region g d (fold b)) (after g b a (start d) (swapped zs) .disk) (v .disk)) (Interleavings.swap-after g a b zs′ (start d))
-    (end-meets g b a d k (λ q. ab (sym q)) (Interleavings.swap-lists i) (Interleavings.swap-lists i′) (start d) (start d) s′ s′ (swap-evenly g a b zs (start d) t) (swap-evenly g a b zs′ (start d) t′)
+    (end-meets g b a d k (λ q. ab (sym q)) (Interleavings.swap-lists i) (Interleavings.swap-lists i′) (start d) (start d) s′ s′
+    (swap-evenly g a b zs (start d) t) (swap-evenly g a b zs′ (start d) t′)
     (start-meets g b a d k) .bytes)) in
     ext-getD 0 (w .disk) (w′ .disk) long (λ j h. point mine theirs j (Members.decide (region g d (fold a) j)) (Members.decide (region g d (fold b) j)))
   where
-    point : Agreed (region g d (fold a)) (after g a b (start d) zs .disk) (after g a b (start d) zs′ .disk) → Agreed (region g d (fold b)) (after g a b (start d) zs .disk) (after g a b (start d) zs′ .disk)
-        → (j : ℕ) → Members.Test (region g d (fold a) j) → Members.Test (region g d (fold b) j) → byte (after g a b (start d) zs .disk) j ≡ byte (after g a b (start d) zs′ .disk) j
+    point : Agreed (region g d (fold a)) (after g a b (start d) zs .disk) (after g a b (start d) zs′ .disk) → Agreed (region g d (fold b))
+        (after g a b (start d) zs .disk) (after g a b (start d) zs′ .disk)
+        → (j : ℕ) → Members.Test (region g d (fold a) j) → Members.Test (region g d (fold b) j) → byte (after g a b (start d) zs .disk) j ≡ byte
+        (after g a b (start d) zs′ .disk) j
     point mine theirs j (Members.Test.holds p) q = mine .bytes j p
     point mine theirs j (Members.Test.fails p) (Members.Test.holds q) = theirs .bytes j q
     point mine theirs j (Members.Test.fails p) (Members.Test.fails q) =

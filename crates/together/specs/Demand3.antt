@@ -10,7 +10,8 @@ use Rattle.promises_words.specs.Untouched.{hush}
 use Rattle.promises_words.specs.Given.{AreBytes}
 use Rattle.meaning.specs.declared.Geometry.{Geometry}
 use Rattle.laws.specs.Facts
-use Rattle.together.specs.Statement.{Name, Step, Turn, one, two, Interleaving, none, left, right, AllBring, World, start, next, after, Taken, Accepted, Quiet, AllQuiet, Same, Demand3}
+use Rattle.together.specs.Statement.{Name, Step, Turn, one, two, Interleaving, none, left, right, AllBring, World, start, next, after, Taken, Accepted}
+use Rattle.together.specs.Statement.{Quiet, AllQuiet, Same, Demand3}
 use Rattle.together.specs.State.{State, stands, effect, Good}
 use Rattle.together.specs.Interleavings
 use Rattle.together.specs.Interleavings.{Fine, swap, stateIn}
@@ -56,7 +57,8 @@ module _ (g : Geometry) (a b : Name) where
       let v = next g a b w (two c) in let h = Interleavings.fine-next g a b w (two c) k (t .0) in
       ((t .0, Quiet.quiet-even g (fold b) (w .disk) (v .disk) (fine-sound g a b w k) (fine-sound g a b v h) (q .0)), quiet-evenly zs v h (t .1) (q .1))
 
-  evenly-list : fold a ≢ fold b → {xs ys : List Step} {zs : List Turn} → Interleaving xs ys zs → (w : World) → Fine g a b w → Evenly g a b w zs → Evens g (fold a) xs (stateIn g a w)
+  evenly-list : fold a ≢ fold b → {xs ys : List Step} {zs : List Turn} → Interleaving xs ys zs → (w : World) → Fine g a b w → Evenly g a b w zs → Evens g
+      (fold a) xs (stateIn g a w)
   unfolding Evens
   evenly-list ab none w k t = tt
   evenly-list ab (left {x = c} {xs = xs} i) w k t =
@@ -65,17 +67,23 @@ module _ (g : Geometry) (a b : Name) where
         subst (Evens g (fold a) xs) e (evenly-list ab i v (Interleavings.fine-next g a b w (one c) k (t .0 .0)) (t .1)),
       )
   evenly-list ab (right {y = c} {xs = xs} i) w k t =
-      subst (Evens g (fold a) xs) (Interleavings.other-turn g a b ab w c k (t .0 .0)) (evenly-list ab i (next g a b w (two c)) (Interleavings.fine-next g a b w (two c) k (t .0 .0)) (t .1))
+      subst (Evens g (fold a) xs) (Interleavings.other-turn g a b ab w c k (t .0 .0))
+      (evenly-list ab i (next g a b w (two c)) (Interleavings.fine-next g a b w (two c) k (t .0 .0)) (t .1))
 
 -- a turn of the first list is even if its list is from here on
-list-turn : (g : Geometry) (a b : Name) (w : World) (c : Step) (xs : List Step) → Fine g a b w → Taken g a b w (one c) → Evens g (fold a) (c ∷ xs) (stateIn g a w)
+list-turn : (g : Geometry) (a b : Name) (w : World) (c : Step) (xs : List Step) → Fine g a b w → Taken g a b w (one c) → Evens g (fold a) (c ∷ xs)
+    (stateIn g a w)
     → Even g (fold a) (w .disk) (next g a b w (one c) .disk) × Evens g (fold a) xs (stateIn g a (next g a b w (one c)))
 unfolding Evens
 list-turn g a b w c xs k t x =
-    let e = Interleavings.own-turn g a b w c k t in
-    (stands-even g (fold a) (w .disk) (next g a b w (one c) .disk) (effect g (fold a) c (stateIn g a w) .file) (ap (λ (o : State). o .file) e) (x .0), subst (Evens g (fold a) xs) (sym e) (x .1))
+    let e = Interleavings.own-turn g a b w c k t in (
+      stands-even g (fold a) (w .disk) (next g a b w (one c) .disk) (effect g (fold a) c (stateIn g a w) .file) (ap (λ (o : State). o .file) e) (x .0),
+      subst
+          (Evens g (fold a) xs) (sym e) (x .1),
+    )
 
-lists-evenly : (g : Geometry) (a b : Name) → fold a ≢ fold b → {xs ys : List Step} {zs : List Turn} → Interleaving xs ys zs → (w : World) → Fine g a b w → Accepted g a b w zs
+lists-evenly : (g : Geometry) (a b : Name) → fold a ≢ fold b → {xs ys : List Step} {zs : List Turn} → Interleaving xs ys zs → (w : World) → Fine g a b w →
+    Accepted g a b w zs
     → Evens g (fold a) xs (stateIn g a w) → Evens g (fold b) ys (stateIn g b (swap w)) → Evenly g a b w zs
 lists-evenly g a b ab none w k t x y = tt
 lists-evenly g a b ab (left {x = c} {xs = xs} {ys = ys} i) w k t x y =
@@ -107,34 +115,44 @@ module _ (g : Geometry) (a b : Name) (ab : fold a ≢ fold b) (d : List ℕ) (k 
   first-same : stateIn g a w ≡ stateIn g a w′
   first-same = Interleavings.end-first g a b ab i (start d) fine t ∙ sym (Interleavings.end-first g a b ab i′ (start d) fine t′)
 
-  third-same : (n : Name) → n ≢ fold a → n ≢ fold b → (vs : List Turn) → Accepted g a b (start d) vs → stands g (after g a b (start d) vs .disk) n ≡ stands g d n
+  third-same : (n : Name) → n ≢ fold a → n ≢ fold b → (vs : List Turn) → Accepted g a b (start d) vs → stands g (after g a b (start d) vs .disk) n ≡ stands g
+      d n
   third-same n na nb vs s = Interleavings.end-third g a b n na nb vs (start d) fine s
 
   image-same : AllQuiet g a b (start d) zs → w .disk ≡ w′ .disk
   image-same q =
       let e = quiet-evenly g a b zs (start d) fine t q in
       let x = evenly-list g a b ab i (start d) fine e in
-      let y = evenly-list g b a (λ p. ab (sym p)) (Interleavings.swap-lists i) (start d) (Interleavings.start-fine g b a d k) (Bytes.swap-evenly g a b zs (start d) e) in
+      let y = evenly-list g b a (λ p. ab (sym p)) (Interleavings.swap-lists i) (start d) (Interleavings.start-fine g b a d k)
+      (Bytes.swap-evenly g a b zs (start d) e) in
       Bytes.same-disks g a b ab d k i i′ e (lists-evenly g a b ab i′ (start d) fine t′ x y)
 
-second-same : (g : Geometry) (a b : Name) → fold a ≢ fold b → (d : List ℕ) → Good g d → {xs ys : List Step} {zs zs′ : List Turn} → Interleaving xs ys zs → Interleaving xs ys zs′
-    → Accepted g a b (start d) zs → Accepted g a b (start d) zs′ → stateIn g b (swap (after g a b (start d) zs)) ≡ stateIn g b (swap (after g a b (start d) zs′))
+second-same : (g : Geometry) (a b : Name) → fold a ≢ fold b → (d : List ℕ) → Good g d → {xs ys : List Step} {zs zs′ : List Turn} → Interleaving xs ys zs →
+    Interleaving xs ys zs′
+    → Accepted g a b (start d) zs → Accepted g a b (start d) zs′ → stateIn g b (swap (after g a b (start d) zs)) ≡ stateIn g b
+    (swap (after g a b (start d) zs′))
 second-same g a b ab d k {zs = zs} {zs′ = zs′} i i′ t t′ =
     ap (stateIn g b) (sym (Interleavings.swap-after g a b zs (start d)))
-    ∙ first-same g b a (λ q. ab (sym q)) d k (Interleavings.swap-lists i) (Interleavings.swap-lists i′) (Interleavings.swap-accepted g a b zs (start d) t) (Interleavings.swap-accepted g a b zs′ (start d) t′)
+    ∙ first-same g b a (λ q. ab (sym q)) d k (Interleavings.swap-lists i) (Interleavings.swap-lists i′) (Interleavings.swap-accepted g a b zs (start d) t)
+    (Interleavings.swap-accepted g a b zs′ (start d) t′)
     ∙ ap (stateIn g b) (Interleavings.swap-after g a b zs′ (start d))
 
-first-heard : (g : Geometry) (a b : Name) → fold a ≢ fold b → (d : List ℕ) → Good g d → {xs ys : List Step} {zs zs′ : List Turn} → Interleaving xs ys zs → Interleaving xs ys zs′
-    → Accepted g a b (start d) zs → Accepted g a b (start d) zs′ → AreBytes d → AllBring xs → AllBring ys → after g a b (start d) zs .first .heard ≡ after g a b (start d) zs′ .first .heard
+first-heard : (g : Geometry) (a b : Name) → fold a ≢ fold b → (d : List ℕ) → Good g d → {xs ys : List Step} {zs zs′ : List Turn} → Interleaving xs ys zs →
+    Interleaving xs ys zs′
+    → Accepted g a b (start d) zs → Accepted g a b (start d) zs′ → AreBytes d → AllBring xs → AllBring ys → after g a b (start d) zs .first .heard ≡ after g a
+    b (start d) zs′ .first .heard
 first-heard g a b ab d k i i′ t t′ u p q =
     let f = Interleavings.start-fine g a b d k in
     Heard.end-heard g a b ab i (start d) f t u p q ∙ sym (Heard.end-heard g a b ab i′ (start d) f t′ u p q)
 
-second-heard : (g : Geometry) (a b : Name) → fold a ≢ fold b → (d : List ℕ) → Good g d → {xs ys : List Step} {zs zs′ : List Turn} → Interleaving xs ys zs → Interleaving xs ys zs′
-    → Accepted g a b (start d) zs → Accepted g a b (start d) zs′ → AreBytes d → AllBring xs → AllBring ys → after g a b (start d) zs .second .heard ≡ after g a b (start d) zs′ .second .heard
+second-heard : (g : Geometry) (a b : Name) → fold a ≢ fold b → (d : List ℕ) → Good g d → {xs ys : List Step} {zs zs′ : List Turn} → Interleaving xs ys zs →
+    Interleaving xs ys zs′
+    → Accepted g a b (start d) zs → Accepted g a b (start d) zs′ → AreBytes d → AllBring xs → AllBring ys → after g a b (start d) zs .second .heard ≡ after g
+    a b (start d) zs′ .second .heard
 second-heard g a b ab d k {zs = zs} {zs′ = zs′} i i′ t t′ u p q =
     ap (λ (w : World). w .first .heard) (sym (Interleavings.swap-after g a b zs (start d)))
-    ∙ first-heard g b a (λ e. ab (sym e)) d k (Interleavings.swap-lists i) (Interleavings.swap-lists i′) (Interleavings.swap-accepted g a b zs (start d) t) (Interleavings.swap-accepted g a b zs′ (start d) t′) u q p
+    ∙ first-heard g b a (λ e. ab (sym e)) d k (Interleavings.swap-lists i) (Interleavings.swap-lists i′) (Interleavings.swap-accepted g a b zs (start d) t)
+    (Interleavings.swap-accepted g a b zs′ (start d) t′) u q p
     ∙ ap (λ (w : World). w .first .heard) (Interleavings.swap-after g a b zs′ (start d))
 
 pub demand3 : Demand3
@@ -150,12 +168,17 @@ demand3 g a b ab d fit con xs ys zs zs′ i i′ t t′ =
       files = λ n. hushed-same _ _ (everywhere first′ second′ n (List-discrete ℕ-discrete n (fold a)) (List-discrete ℕ-discrete n (fold b)));
       third = λ n na nb. (same-whole _ _ (third′ n na nb), third′ n na nb);
       image = image-same g a b ab d k i i′ t t′;
-      consistent′ = (Interleavings.end-fine g a b zs (start d) (fine g a b ab d k i i′ t t′) t .good .1, Interleavings.end-fine g a b zs′ (start d) (fine g a b ab d k i i′ t t′) t′ .good .1);
+      consistent′ = (
+        Interleavings.end-fine g a b zs (start d) (fine g a b ab d k i i′ t t′) t .good .1,
+        Interleavings.end-fine g a b zs′ (start d)
+            (fine g a b ab d k i i′ t t′) t′ .good .1,
+      );
       heard = λ u p q. (first-heard g a b ab d k i i′ t t′ u p q, second-heard g a b ab d k i i′ t t′ u p q);
       handles = (ap (λ (o : State). o .grips) first′, ap (λ (o : State). o .grips) second′);
     }
   where
-    everywhere : stateIn g a (after g a b (start d) zs) ≡ stateIn g a (after g a b (start d) zs′) → stateIn g b (swap (after g a b (start d) zs)) ≡ stateIn g b (swap (after g a b (start d) zs′))
+    everywhere : stateIn g a (after g a b (start d) zs) ≡ stateIn g a (after g a b (start d) zs′) → stateIn g b (swap (after g a b (start d) zs)) ≡ stateIn g
+        b (swap (after g a b (start d) zs′))
         → (n : Name) → Dec (n ≡ fold a) → Dec (n ≡ fold b) → stands g (after g a b (start d) zs .disk) n ≡ stands g (after g a b (start d) zs′ .disk) n
     everywhere p q n (yes e) r = rw e (ap (λ (o : State). o .file) p)
     everywhere p q n (no e) (yes r) = rw r (ap (λ (o : State). o .file) q)

@@ -39,7 +39,8 @@ use Rattle.promises.specs.CreateMeans
 use Rattle.promises.specs.Grow
 use Rattle.promises.specs.Trim
 use Rattle.promises.specs.WriteMeans
-use Rattle.together.specs.Statement.{Name, Step, looksUp, opens, creates, moves, reads, readsSector, writes, allots, trims, kills, Side, known, answer, handleAt, manyBy, Grip, grip}
+use Rattle.together.specs.Statement.{Name, Step, looksUp, opens, creates, moves, reads, readsSector, writes, allots, trims, kills, Side, known, answer}
+use Rattle.together.specs.Statement.{handleAt, manyBy, Grip, grip}
 use Rattle.together.specs.State.{stateOf, stands, changed, born, levelOf, effect, Held, Good, atPlace}
 
 -- Lists of handles -------------------------------------------------------------------------------------------------------
@@ -88,7 +89,8 @@ module _ (g : Geometry) (d : List ℕ) (n : Name) (h : Handle) (w : Holds g d h)
   unfolding stands
   stands-own = ap hush (Named.plain-is g d (w .sound) (h .slot) n (w .file) called) ∙ user-whole g d (h .slot) (w .user)
 
-  stands-changed : (d′ : List ℕ) (u : File → File) → plain g d′ (nameOf g d (h .slot)) ≡ found (u (fileAt g d (h .slot))) → stands g d′ n ≡ changed u (stands g d n)
+  stands-changed : (d′ : List ℕ) (u : File → File) → plain g d′ (nameOf g d (h .slot)) ≡ found (u (fileAt g d (h .slot))) → stands g d′ n ≡ changed u
+      (stands g d n)
   unfolding changed
   stands-changed d′ u o = go ∙ sym (ap (changed u) stands-own)
     where
@@ -99,7 +101,8 @@ module _ (g : Geometry) (d : List ℕ) (n : Name) (h : Handle) (w : Holds g d h)
   unfolding stands hush
   stands-gone d′ o = ap (λ (m : Name). hush (plain g d′ m)) (sym called) ∙ ap hush o
 
-  stands-others : (d′ : List ℕ) → ((m : Name) → m ≢ nameOf g d (h .slot) → hush (plain g d′ m) ≡ hush (plain g d m)) → (m : Name) → m ≢ n → stands g d′ m ≡ stands g d m
+  stands-others : (d′ : List ℕ) → ((m : Name) → m ≢ nameOf g d (h .slot) → hush (plain g d′ m) ≡ hush (plain g d m)) → (m : Name) → m ≢ n → stands g d′ m ≡
+      stands g d m
   unfolding stands
   stands-others d′ o m q = o m (λ z. q (z ∙ called))
 
@@ -113,7 +116,8 @@ open-level : (g : Geometry) (d : List ℕ) (n : Name) (checking : Bool) (code : 
 unfolding stands plain firstOr foundIn hush levelOf fileAt full
 open-level g d n checking code h = go (named g d n) h
   where
-    go : (xs : List ℕ) → (T (eqb (length xs) 0) → ⊥) → cond (full g d (firstOr 0 xs) checking code) 0 (accessLevel g d (firstOr 0 xs)) ≡ levelOf g checking code (hush (foundIn g d xs))
+    go : (xs : List ℕ) → (T (eqb (length xs) 0) → ⊥) → cond (full g d (firstOr 0 xs) checking code) 0 (accessLevel g d (firstOr 0 xs)) ≡ levelOf g checking
+        code (hush (foundIn g d xs))
     go [] h = absurd (h tt)
     go (x ∷ xs) h = refl
 
@@ -281,7 +285,8 @@ module _ (g : Geometry) (n : Name) (d : List ℕ) (hs : List Handle) (k : Good g
         good = k;
         held = held-snoc (fold n) hs (openedAt g d (firstOr 0 (named g d (fold n))) (fold n) len checking code) held refl;
         file = refl;
-        grips = map-snoc hs _ ∙ ap (λ (l : ℕ). map grip hs ++ (record { name = fold n; at = 0; len = len; level = l } ∷ [])) (open-level g d (fold n) checking code (p₅ .0));
+        grips = map-snoc hs _ ∙ ap (λ (l : ℕ). map grip hs ++ (record { name = fold n; at = 0; len = len; level = l } ∷ []))
+            (open-level g d (fold n) checking code (p₅ .0));
         spares = stands-same g (fold n) d hs k held;
       })
 
@@ -292,16 +297,19 @@ module _ (g : Geometry) (n : Name) (d : List ℕ) (hs : List Handle) (k : Good g
     good = k;
     held = held-snoc (fold n) hs (openedAt g d (firstOr 0 (named g d (fold n))) (fold n) (f .len) checking (f .main)) held refl;
     file = stands-old g d (fold n) f t;
-    grips = map-snoc hs _ ∙ ap (λ (l : ℕ). map grip hs ++ (record { name = fold n; at = 0; len = f .len; level = l } ∷ [])) (open-level g d (fold n) checking (f .main) t);
+    grips = map-snoc hs _ ∙ ap (λ (l : ℕ). map grip hs ++ (record { name = fold n; at = 0; len = f .len; level = l } ∷ []))
+        (open-level g d (fold n) checking (f .main) t);
     spares = stands-same g (fold n) d hs k held;
   })
 
   new-handle : (f : NewFile) (checking : Bool) → create g d n f checking .0 .refusal .number ≡ 0 → T (missing g d (fold n))
-      → (create g d n f checking .0 .old ≡ false) × (create g d n f checking .0 .handle ≡ record { slot = firstOr 0 (freeSlots g d); name = fold n; at = 0; len = f .len; level = 0 })
+      → (create g d n f checking .0 .old ≡ false) ×
+      (create g d n f checking .0 .handle ≡ record { slot = firstOr 0 (freeSlots g d); name = fold n; at = 0; len = f .len; level = 0 })
   unfolding create
   new-handle f checking e t = rw (e, Members.T-true {b = missing g d (fold n)} t) (refl, refl)
 
-  new-file : (f : NewFile) (d′ : List ℕ) → T (missing g d (fold n)) → plain g d′ (fold n) ≡ found (bornAs f) → stands g d′ (fold n) ≡ born f (stands g d (fold n))
+  new-file : (f : NewFile) (d′ : List ℕ) → T (missing g d (fold n)) → plain g d′ (fold n) ≡ found (bornAs f) → stands g d′ (fold n) ≡ born f
+      (stands g d (fold n))
   unfolding born
   new-file f d′ t e = told ∙ sym (ap (born f) (stands-missing g d (fold n) t))
     where
@@ -320,7 +328,8 @@ module _ (g : Geometry) (n : Name) (d : List ℕ) (hs : List Handle) (k : Good g
         held = held-snoc (fold n) hs _ held (ap (λ (y : Handle). y .name) (h .1));
         file = new-file f d′ t (x .born);
         grips = map-snoc hs _ ∙ ap (λ (y : Handle). map grip hs ++ (grip y ∷ [])) (h .1)
-            ∙ ap (λ (l : ℕ). map grip hs ++ (record { name = fold n; at = 0; len = f .len; level = l } ∷ [])) (new-level g checking (f .main) (stands g d (fold n)) (stands-missing g d (fold n) t));
+            ∙ ap (λ (l : ℕ). map grip hs ++ (record { name = fold n; at = 0; len = f .len; level = l } ∷ []))
+            (new-level g checking (f .main) (stands g d (fold n)) (stands-missing g d (fold n) t));
         spares = x .others;
       }
 
@@ -328,12 +337,14 @@ module _ (g : Geometry) (n : Name) (d : List ℕ) (hs : List Handle) (k : Good g
       → Effect g (fold n) d hs (creates f checking) (create g d n f checking .1) (hs ++ (create g d n f checking .0 .handle ∷ []))
   create-effect f checking e = go (Members.decide (missing g d (fold n)))
     where
-      go : Members.Test (missing g d (fold n)) → Effect g (fold n) d hs (creates f checking) (create g d n f checking .1) (hs ++ (create g d n f checking .0 .handle ∷ []))
+      go : Members.Test (missing g d (fold n)) → Effect g (fold n) d hs (creates f checking) (create g d n f checking .1)
+          (hs ++ (create g d n f checking .0 .handle ∷ []))
       go (Members.Test.fails t) = create-old f checking e t
       go (Members.Test.holds t) = create-new f checking e t
 
 -- the call as one of the list
-pub has-effect : (g : Geometry) (n : Name) (d : List ℕ) (s : Side) (c : Step) → Good g d → Held (fold n) (s .handles) → T (known (s .handles) c) → answer g n d s c .number ≡ 0
+pub has-effect : (g : Geometry) (n : Name) (d : List ℕ) (s : Side) (c : Step) → Good g d → Held (fold n) (s .handles) → T (known (s .handles) c) → answer g n
+    d s c .number ≡ 0
     → Effect g (fold n) d (s .handles) c (answer g n d s c .disk) (answer g n d s c .side .handles)
 unfolding answer number leaves known
 has-effect g n d s looksUp k h t e = look-effect g n d (s .handles) k h e

@@ -20,7 +20,9 @@ use Rattle.meaning.specs.declared.Handle.{Handle}
 use Rattle.promises.specs.Promises
 use Rattle.promises.specs.Sector
 use Rattle.promises.specs.Staying
-use Rattle.together.specs.Statement.{Name, Step, looksUp, opens, creates, moves, reads, readsSector, writes, allots, trims, kills, Side, Brings, AllBring, known, answer, kept, handleAt, manyBy, Grip, grip, Turn, one, two, Interleaving, none, left, right, World, next, after, Accepted}
+use Rattle.together.specs.Statement.{Name, Step, looksUp, opens, creates, moves, reads, readsSector, writes, allots, trims, kills, Side, Brings}
+use Rattle.together.specs.Statement.{AllBring, known, answer, kept, handleAt, manyBy, Grip, grip, Turn, one, two, Interleaving, none, left, right}
+use Rattle.together.specs.Statement.{World, next, after, Accepted}
 use Rattle.together.specs.State.{State, stateOf, gripAt, stands, effect, Held, Good}
 use Rattle.together.specs.Effects
 use Rattle.together.specs.Interleavings
@@ -89,7 +91,8 @@ module _ (g : Geometry) (n : Name) (d : List ℕ) (s : Side) (held : Held n (s .
       ∙ part-kept (sectorOf k) (r .file) (slice (readSector g d (handleAt hs i) k .from) (readSector g d (handleAt hs i) k .to) d) (r .part)
       ∙ ap (λ (x : Found). partOf (sectorOf k) (hush x)) (sym c)
 
-call-heard : (g : Geometry) (n : Name) (d : List ℕ) (s : Side) (c : Step) → Held (fold n) (s .handles) → AreBytes d → T (known (s .handles) c) → answer g n d s c .number ≡ 0
+call-heard : (g : Geometry) (n : Name) (d : List ℕ) (s : Side) (c : Step) → Held (fold n) (s .handles) → AreBytes d → T (known (s .handles) c) → answer g n d
+    s c .number ≡ 0
     → answer g n d s c .side .heard ≡ s .heard ++ hears c (stateOf g (fold n) d (s .handles))
 unfolding answer number leaves known hears
 call-heard g n d s looksUp h u t e = sym (append-nil (s .heard))
@@ -122,13 +125,15 @@ call-bytes g n d s (trims i) k u b = bytes-stay g d k u (Call.trims (handleAt (s
 call-bytes g n d s (kills i) k u b = bytes-stay g d k u (Call.kills (handleAt (s .handles) i)) tt
 
 -- by its own list alone
-pub end-heard : (g : Geometry) (a b : Name) → fold a ≢ fold b → {xs ys : List Step} {zs : List Turn} → Interleaving xs ys zs → (w : World) → Fine g a b w → Accepted g a b w zs
+pub end-heard : (g : Geometry) (a b : Name) → fold a ≢ fold b → {xs ys : List Step} {zs : List Turn} → Interleaving xs ys zs → (w : World) → Fine g a b w →
+    Accepted g a b w zs
     → AreBytes (w .disk) → AllBring xs → AllBring ys → after g a b w zs .first .heard ≡ w .first .heard ++ hearsAll g (fold a) xs (stateIn g a w)
 end-heard g a b ab none w k t u p q = sym (append-nil (w .first .heard))
 end-heard g a b ab (left {x = c} {xs = xs} i) w k t u p q =
     let v = next g a b w (one c) in
     end-heard g a b ab i v (Interleavings.fine-next g a b w (one c) k (t .0)) (t .1) (call-bytes g a (w .disk) (w .first) c (k .good) u (p .0)) (p .1) q
-    ∙ ap₂ (λ (x : List (List ℕ)) (o : State). x ++ hearsAll g (fold a) xs o) (call-heard g a (w .disk) (w .first) c (k .first′) u (t .0 .0) (t .0 .1)) (Interleavings.own-turn g a b w c k (t .0))
+    ∙ ap₂ (λ (x : List (List ℕ)) (o : State). x ++ hearsAll g (fold a) xs o) (call-heard g a (w .disk) (w .first) c (k .first′) u (t .0 .0) (t .0 .1))
+    (Interleavings.own-turn g a b w c k (t .0))
     ∙ append-assoc (w .first .heard) (hears c (stateIn g a w)) (hearsAll g (fold a) xs (effect g (fold a) c (stateIn g a w)))
 end-heard g a b ab (right {y = c} {xs = xs} i) w k t u p q =
     let v = next g a b w (two c) in

@@ -75,7 +75,8 @@ module _ (g : Geometry) (a b : Name) where
   pub other-turn : fold a ≢ fold b → (w : World) (c : Step) → Fine g a b w → Taken g a b w (two c) → stateIn g a (next g a b w (two c)) ≡ stateIn g a w
   other-turn ab w c k t = let e = by-second g a b w c k t in λ i. record { file = e .spares (fold a) ab i; grips = stateIn g a w .grips }
 
-  third-turn : (n : Name) → n ≢ fold a → n ≢ fold b → (w : World) (t : Turn) → Fine g a b w → Taken g a b w t → stands g (next g a b w t .disk) n ≡ stands g (w .disk) n
+  third-turn : (n : Name) → n ≢ fold a → n ≢ fold b → (w : World) (t : Turn) → Fine g a b w → Taken g a b w t → stands g (next g a b w t .disk) n ≡ stands g
+      (w .disk) n
   third-turn n na nb w (one c) k t = by-first g a b w c k t .spares n na
   third-turn n na nb w (two c) k t = by-second g a b w c k t .spares n nb
 
@@ -89,9 +90,12 @@ module _ (g : Geometry) (a b : Name) where
   pub end-first : fold a ≢ fold b → {xs ys : List Step} {zs : List Turn} → Interleaving xs ys zs → (w : World) → Fine g a b w → Accepted g a b w zs
       → stateIn g a (after g a b w zs) ≡ effects g (fold a) xs (stateIn g a w)
   end-first ab none w k t = refl
-  end-first ab (left {x = c} {xs = xs} i) w k t = end-first ab i (next g a b w (one c)) (fine-next w (one c) k (t .0)) (t .1) ∙ ap (effects g (fold a) xs) (own-turn w c k (t .0))
-  end-first ab (right {y = c} {xs = xs} i) w k t = end-first ab i (next g a b w (two c)) (fine-next w (two c) k (t .0)) (t .1) ∙ ap (effects g (fold a) xs) (other-turn ab w c k (t .0))
+  end-first ab (left {x = c} {xs = xs} i) w k t = end-first ab i (next g a b w (one c)) (fine-next w (one c) k (t .0)) (t .1) ∙ ap (effects g (fold a) xs)
+      (own-turn w c k (t .0))
+  end-first ab (right {y = c} {xs = xs} i) w k t = end-first ab i (next g a b w (two c)) (fine-next w (two c) k (t .0)) (t .1) ∙ ap (effects g (fold a) xs)
+      (other-turn ab w c k (t .0))
 
-  pub end-third : (n : Name) → n ≢ fold a → n ≢ fold b → (zs : List Turn) (w : World) → Fine g a b w → Accepted g a b w zs → stands g (after g a b w zs .disk) n ≡ stands g (w .disk) n
+  pub end-third : (n : Name) → n ≢ fold a → n ≢ fold b → (zs : List Turn) (w : World) → Fine g a b w → Accepted g a b w zs → stands g (after g a b w zs .disk)
+      n ≡ stands g (w .disk) n
   end-third n na nb [] w k t = refl
   end-third n na nb (z ∷ zs) w k t = end-third n na nb zs (next g a b w z) (fine-next w z k (t .0)) (t .1) ∙ third-turn n na nb w z k (t .0)

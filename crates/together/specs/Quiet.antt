@@ -116,26 +116,32 @@ module _ (g : Geometry) (d : List ℕ) (n : Name) (h : Handle) (e : h .name ≡ 
   here : Holds g d h → plain g d n ≡ found (fileAt g d (h .slot))
   here w = Named.plain-is g d (w .sound) (h .slot) n (w .file) (w .name′ ∙ e)
 
-  same-granules : (d′ : List ℕ) (f : File) → Holds g d h → Even g n d d′ → plain g d′ (nameOf g d (h .slot)) ≡ found f → f .granules ≡ length (owned g d (h .slot))
+  same-granules : (d′ : List ℕ) (f : File) → Holds g d h → Even g n d d′ → plain g d′ (nameOf g d (h .slot)) ≡ found f → f .granules ≡ length
+      (owned g d (h .slot))
   unfolding fileAt tally
   same-granules d′ f w q o =
-      let z : suc (f .granules) ≡ suc (length (owned g d (h .slot))) = sym (ap tally (ap (plain g d′) (sym (w .name′ ∙ e)) ∙ o)) ∙ q ∙ ap tally (here w) in omega arith
+      let z : suc (f .granules) ≡ suc (length (owned g d (h .slot))) = sym (ap tally (ap (plain g d′) (sym (w .name′ ∙ e)) ∙ o)) ∙ q ∙ ap tally (here w) in
+      omega arith
 
   pub kill-never : kill g d h .0 .refusal .number ≡ 0 → Even g n d (kill g d h .1) → ⊥
   unfolding tally
   kill-never t q =
       let x = KillMeans.kill-means g d h t in
       let w : Holds g d h = unfold kill in (Passed.holds g d h _ 1 [] t .0) in
-      let z : 0 ≡ suc (fileAt g d (h .slot) .granules) = sym (ap tally (ap (plain g (kill g d h .1)) (sym (w .name′ ∙ e)) ∙ x .gone)) ∙ q ∙ ap tally (here w) in omega arith
+      let z : 0 ≡ suc (fileAt g d (h .slot) .granules) = sym (ap tally (ap (plain g (kill g d h .1)) (sym (w .name′ ∙ e)) ∙ x .gone)) ∙ q ∙ ap tally (here w)
+      in
+      omega arith
 
   pub allot-still : (k : ℕ) → allot g d h k .0 .refusal .number ≡ 0 → Even g n d (allot g d h k .1) → allot g d h k .1 ≡ d
   allot-still k t q =
       let x = Grow.allot-means g d h k t in
       let w : Holds g d h = unfold allot in (Passed.holds g d h _ 4 _ t .0) in
-      let m : max (length (owned g d (h .slot))) (granulesTo g k) ≡ length (owned g d (h .slot)) = many (same-granules (allot g d h k .1) (allottedTo g k (fileAt g d (h .slot))) w q (x .own)) in
+      let m : max (length (owned g d (h .slot))) (granulesTo g k) ≡ length (owned g d (h .slot)) = many
+      (same-granules (allot g d h k .1) (allottedTo g k (fileAt g d (h .slot))) w q (x .own)) in
       image (omega arith)
     where
-      many : allottedTo g k (fileAt g d (h .slot)) .granules ≡ length (owned g d (h .slot)) → max (length (owned g d (h .slot))) (granulesTo g k) ≡ length (owned g d (h .slot))
+      many : allottedTo g k (fileAt g d (h .slot)) .granules ≡ length (owned g d (h .slot)) → max (length (owned g d (h .slot))) (granulesTo g k) ≡ length
+          (owned g d (h .slot))
       many m = unfold allottedTo fileAt in m
 
       image : lacking g d (h .slot) (granulesTo g k) ≡ 0 → allot g d h k .1 ≡ d
@@ -148,14 +154,17 @@ module _ (g : Geometry) (d : List ℕ) (n : Name) (h : Handle) (e : h .name ≡ 
       image (many (same-granules (trim g d h .1) (trimmed g (fileAt g d (h .slot))) w q (x .own))) (Members.decide (keepsSpace g d (h .slot)))
     where
       many : trimmed g (fileAt g d (h .slot)) .granules ≡ length (owned g d (h .slot))
-          → cond (keepsSpace g d (h .slot)) (length (owned g d (h .slot))) (granulesFor g (length (fileAt g d (h .slot) .bytes))) ≡ length (owned g d (h .slot))
+          → cond (keepsSpace g d (h .slot)) (length (owned g d (h .slot))) (granulesFor g (length (fileAt g d (h .slot) .bytes))) ≡ length
+          (owned g d (h .slot))
       many m = unfold trimmed fileAt in m
 
-      image : cond (keepsSpace g d (h .slot)) (length (owned g d (h .slot))) (granulesFor g (length (fileAt g d (h .slot) .bytes))) ≡ length (owned g d (h .slot))
+      image : cond (keepsSpace g d (h .slot)) (length (owned g d (h .slot))) (granulesFor g (length (fileAt g d (h .slot) .bytes))) ≡ length
+          (owned g d (h .slot))
           → Members.Test (keepsSpace g d (h .slot)) → trim g d h .1 ≡ d
       image m (Members.Test.holds v) = unfold trim in rw (t, Members.T-true {b = keepsSpace g d (h .slot)} v)
       image m (Members.Test.fails v) =
-          let k : granulesFor g (length (fileAt g d (h .slot) .bytes)) ≡ length (owned g d (h .slot)) = rw (Members.no-false {b = keepsSpace g d (h .slot)} v) at m in
+          let k : granulesFor g (length (fileAt g d (h .slot) .bytes)) ≡ length (owned g d (h .slot)) = rw (Members.no-false {b = keepsSpace g d (h .slot)} v)
+          at m in
           let l = Others.file-length g d (h .slot) in
           let z : length (owned g d (h .slot)) - granulesFor g (sizeOf g d (h .slot)) ≡ 0 = omega (arith, ap (granulesFor g) l) in
           nothing-dropped v z
@@ -174,7 +183,8 @@ pub record QuietWrite (g : Geometry) (d : List ℕ) (m : Mode) (h : Handle) (man
   pub len : length (take many b) ≡ many
   pub fit : sizeAfter m (sizeOf g d (h .slot)) (h .at + many) ≤ granuleBytes g * length (owned g d (h .slot))
 
-pub write-quiet : (g : Geometry) (d : List ℕ) (n : Name) (m : Mode) (h : Handle) (many : ℕ) (b : List ℕ) → h .name ≡ n → writeOf g d m h many b .0 .refusal .number ≡ 0 → Even g n d (writeOf g d m h many b .1)
+pub write-quiet : (g : Geometry) (d : List ℕ) (n : Name) (m : Mode) (h : Handle) (many : ℕ) (b : List ℕ) → h .name ≡ n → writeOf g d m h many b .0 .refusal
+    .number ≡ 0 → Even g n d (writeOf g d m h many b .1)
     → QuietWrite g d m h many b (writeOf g d m h many b .1)
 unfolding growth orElse
 write-quiet g d n m h many b e t q =
@@ -191,26 +201,33 @@ write-quiet g d n m h many b e t q =
     length-b t = unfold writeOf all in (
         let p₂ = Passed.disk-passed g d _ t in
         let p₃ = Passed.passed 12 _ _ (omega arith) (p₂ .1) in
-        let range : T (all (inRange g h ∷ leb (h .at + many) (highest g) ∷ leb many (length b) ∷ [])) = Passed.yes-T (all (inRange g h ∷ leb (h .at + many) (highest g) ∷ leb many (length b) ∷ [])) (p₃ .0) in
-        let short = leb→le many (length b) (Members.and-l (leb many (length b)) true (Members.and-r (leb (h .at + many) (highest g)) _ (Members.and-r (inRange g h) _ range))) in
+        let range : T (all (inRange g h ∷ leb (h .at + many) (highest g) ∷ leb many (length b) ∷ [])) = Passed.yes-T
+        (all (inRange g h ∷ leb (h .at + many) (highest g) ∷ leb many (length b) ∷ [])) (p₃ .0) in
+        let short = leb→le many (length b) (Members.and-l (leb many (length b)) true
+        (Members.and-r (leb (h .at + many) (highest g)) _ (Members.and-r (inRange g h) _ range))) in
         length-take many b ∙ omega arith)
 
     owns : writtenTo g m (h .at) (take many b) (fileAt g d (h .slot)) .granules ≡ length (owned g d (h .slot))
-        → max (length (owned g d (h .slot))) (granulesFor g (sizeAfter m (sizeOf g d (h .slot)) (h .at + length (take many b)))) ≡ length (owned g d (h .slot))
+        → max (length (owned g d (h .slot))) (granulesFor g (sizeAfter m (sizeOf g d (h .slot)) (h .at + length (take many b)))) ≡ length
+        (owned g d (h .slot))
     owns k =
-        let o : length (overwritten m (fileAt g d (h .slot) .bytes) (h .at) (take many b)) ≡ sizeAfter m (sizeOf g d (h .slot)) (h .at + length (take many b)) =
-        Over.overwritten-length m (fileAt g d (h .slot) .bytes) (h .at) (take many b) ∙ ap (λ (y : ℕ). sizeAfter m y (h .at + length (take many b))) (Others.file-length g d (h .slot)) in
+        let o : length (overwritten m (fileAt g d (h .slot) .bytes) (h .at) (take many b)) ≡ sizeAfter m (sizeOf g d (h .slot)) (h .at + length (take many b))
+        =
+        Over.overwritten-length m (fileAt g d (h .slot) .bytes) (h .at) (take many b) ∙ ap (λ (y : ℕ). sizeAfter m y (h .at + length (take many b)))
+        (Others.file-length g d (h .slot)) in
         ap (λ (y : ℕ). max (length (owned g d (h .slot))) (granulesFor g y)) (sym o) ∙ told k
       where
         told : writtenTo g m (h .at) (take many b) (fileAt g d (h .slot)) .granules ≡ length (owned g d (h .slot))
-            → max (length (owned g d (h .slot))) (granulesFor g (length (overwritten m (fileAt g d (h .slot) .bytes) (h .at) (take many b)))) ≡ length (owned g d (h .slot))
+            → max (length (owned g d (h .slot))) (granulesFor g (length (overwritten m (fileAt g d (h .slot) .bytes) (h .at) (take many b)))) ≡ length
+            (owned g d (h .slot))
         told k = unfold writtenTo fileAt in k
 
     still : lacking g d (h .slot) (granulesFor g (sizeAfter m (sizeOf g d (h .slot)) (h .at + many))) ≡ 0
         → writeOf g d m h many b .1 ≡ written g d (h .slot) m (h .at) many (take many b)
     still z = unfold writeOf written growBy diskOr in rw t (ap (λ (y : ℕ).
         let d₁ = withGranules g d (h .slot) y in
-        withSize g (store (place g d₁ (h .slot)) (store (place g d₁ (h .slot)) d₁ (sizeOf g d (h .slot)) (replicate (h .at - sizeOf g d (h .slot)) 0)) (h .at) (take many b)) (h .slot)
+        withSize g (store (place g d₁ (h .slot)) (store (place g d₁ (h .slot)) d₁ (sizeOf g d (h .slot)) (replicate (h .at - sizeOf g d (h .slot)) 0)) (h .at)
+        (take many b)) (h .slot)
         (sizeAfter m (sizeOf g d (h .slot)) (h .at + many))) z)
 
 pub record QuietCreate (g : Geometry) (d : List ℕ) (n : Name) (f : NewFile) (checking : Bool) : Type 0 where
@@ -218,7 +235,8 @@ pub record QuietCreate (g : Geometry) (d : List ℕ) (n : Name) (f : NewFile) (c
   pub handle : create g d n f checking .0 .handle ≡ openedAt g d (firstOr 0 (named g d (fold n))) (fold n) (f .len) checking (f .main)
   pub old : T (missing g d (fold n)) → ⊥
 
-pub create-quiet : (g : Geometry) (d : List ℕ) (n : Name) (f : NewFile) (checking : Bool) → create g d n f checking .0 .refusal .number ≡ 0 → Even g (fold n) d (create g d n f checking .1) → QuietCreate g d n f checking
+pub create-quiet : (g : Geometry) (d : List ℕ) (n : Name) (f : NewFile) (checking : Bool) → create g d n f checking .0 .refusal .number ≡ 0 → Even g (fold n)
+    d (create g d n f checking .1) → QuietCreate g d n f checking
 create-quiet g d n f checking e q = go (Members.decide (missing g d (fold n)))
   where
     told-old : T (missing g d (fold n)) → create g d n f checking .0 .old ≡ false
@@ -293,7 +311,8 @@ module _ (g : Geometry) (d : List ℕ) (c : Sound g d) where
   unfolding region regionOf words
   region-laid d′ l n i = rw (l .names n) (go (Named.look g d c n))
     where
-      go : ((p : ℕ) × Facts.IsFile g d p × (nameOf g d p ≡ n)) ⊎ ((p : ℕ) → Facts.IsFile g d p → nameOf g d p ≢ n) → regionOf g d′ (named g d n) i ≡ regionOf g d (named g d n) i
+      go : ((p : ℕ) × Facts.IsFile g d p × (nameOf g d p ≡ n)) ⊎ ((p : ℕ) → Facts.IsFile g d p → nameOf g d p ≢ n) → regionOf g d′ (named g d n) i ≡ regionOf
+          g d (named g d n) i
       go (inl w) =
           let one : named g d n ≡ w .0 ∷ [] = ap (named g d) (sym (w .2)) ∙ Named.named-is g d c (w .0) (w .1) in
           rw one (rw (l .owns (w .0) (w .1), l .above))
@@ -313,7 +332,8 @@ module _ (g : Geometry) (d : List ℕ) (c : Sound g d) where
     where
       data-not-entry : (p q : ℕ) → Facts.IsFile g d q → T (inData g d p i) → T (inEntry g q i) → ⊥
       data-not-entry p q f x y =
-          T-not (has (directoryGranules g d) (i / granuleBytes g)) (Members.and-r (has (owned g d p) (i / granuleBytes g)) _ x) (Members.in-has (in-entry-dir k q i f y))
+          T-not (has (directoryGranules g d) (i / granuleBytes g)) (Members.and-r (has (owned g d p) (i / granuleBytes g)) _ x)
+          (Members.in-has (in-entry-dir k q i f y))
 
       entries : (p q : ℕ) → Facts.IsFile g d p → Facts.IsFile g d q → p ≢ q → T (inEntry g p i) → T (inEntry g q i) → ⊥
       entries p q f h n x y =
@@ -324,12 +344,14 @@ module _ (g : Geometry) (d : List ℕ) (c : Sound g d) where
           let l = Facts.slot-lt g d p (f .slot) in let l′ = Facts.slot-lt g d q (h .slot) in
           n (omega arith)
 
-      apart : (p q : ℕ) → Facts.IsFile g d p → Facts.IsFile g d q → p ≢ q → T (inEntry g p i) ⊎ T (inData g d p i) → T (inEntry g q i) ⊎ T (inData g d q i) → ⊥
+      apart : (p q : ℕ) → Facts.IsFile g d p → Facts.IsFile g d q → p ≢ q → T (inEntry g p i) ⊎ T (inData g d p i) → T (inEntry g q i) ⊎ T (inData g d q i) →
+          ⊥
       apart p q f h n (inl x) (inl y) = entries p q f h n x y
       apart p q f h n (inl x) (inr y) = data-not-entry q p f y x
       apart p q f h n (inr x) (inl y) = data-not-entry p q h x y
       apart p q f h n (inr x) (inr y) =
-          n (c .granules p q (i / granuleBytes g) f h (Members.has-in (i / granuleBytes g) (owned g d p) (Members.and-l (has (owned g d p) (i / granuleBytes g)) _ x))
+          n (c .granules p q (i / granuleBytes g) f h
+          (Members.has-in (i / granuleBytes g) (owned g d p) (Members.and-l (has (owned g d p) (i / granuleBytes g)) _ x))
           (Members.has-in (i / granuleBytes g) (owned g d q) (Members.and-l (has (owned g d q) (i / granuleBytes g)) _ y)))
 
       go : ((p : ℕ) × Facts.IsFile g d p × (nameOf g d p ≡ a)) ⊎ ((p : ℕ) → Facts.IsFile g d p → nameOf g d p ≢ a)

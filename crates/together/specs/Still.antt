@@ -106,7 +106,9 @@ module _ (g : Geometry) (d : List ℕ) (n : Name) (m : Mode) (h : Handle) (many 
     outside = λ i o. untouched i
         (λ t. o (rw (own-region i) (Members.or-l (inEntry g p i) (inData g d p i) t)))
         (λ v. o (rw (own-region i) (Members.or-r (inEntry g p i) (inData g d p i) (Members.and-i (has (owned g d p) (i / granuleBytes g)) _ (Members.in-has v)
-        (not-T (has (directoryGranules g d) (i / granuleBytes g)) (λ y. Change.filed-at g d (w .holds .sound) p (w .holds .file) .off (w .holds .user) (i / granuleBytes g) v (Members.has-in (i / granuleBytes g) (directoryGranules g d) y)))))));
+        (not-T (has (directoryGranules g d) (i / granuleBytes g))
+        (λ y. Change.filed-at g d (w .holds .sound) p (w .holds .file) .off (w .holds .user) (i / granuleBytes g) v
+        (Members.has-in (i / granuleBytes g) (directoryGranules g d) y)))))));
   })
 
 -- Two disks that agree on a region -----------------------------------------------------------------------------------------
@@ -139,7 +141,8 @@ module _ (P : ℕ → Bool) where
       rw (a .bytes (entryAt g p + 1) t) (agreed-set _ _ (entryAt g p + 1) (Bits.withBit 5 (field g y p 1)) a₃)
 
   -- the same write on both
-  pub agreed-write : (g : Geometry) (d e : List ℕ) (p : ℕ) (m : Mode) (at len : ℕ) (r : List ℕ) → ((k : ℕ) → k < 32 → T (P (entryAt g p + k))) → owned g d p ≡ owned g e p → Agreed P d e
+  pub agreed-write : (g : Geometry) (d e : List ℕ) (p : ℕ) (m : Mode) (at len : ℕ) (r : List ℕ) → ((k : ℕ) → k < 32 → T (P (entryAt g p + k))) → owned g d p ≡
+      owned g e p → Agreed P d e
       → Agreed P (written g d p m at len r) (written g e p m at len r)
   unfolding words
   agreed-write g d e p m at len r t o a =
@@ -157,7 +160,8 @@ module _ (P : ℕ → Bool) where
           (agreed-store (place g e p) r _ _ at (agreed-store (place g e p) (replicate (at - sizeOf g e p) 0) d e (sizeOf g e p) a)))
 
 -- the same open on both
-pub agreed-open : (P : ℕ → Bool) (g : Geometry) (d e : List ℕ) (p : ℕ) (n : Name) (len : ℕ) (checking : Bool) (code : ℕ) → ((k : ℕ) → k < 32 → T (P (entryAt g p + k))) → Agreed P d e
+pub agreed-open : (P : ℕ → Bool) (g : Geometry) (d e : List ℕ) (p : ℕ) (n : Name) (len : ℕ) (checking : Bool) (code : ℕ) →
+    ((k : ℕ) → k < 32 → T (P (entryAt g p + k))) → Agreed P d e
     → openedAt g d p n len checking code ≡ openedAt g e p n len checking code
 unfolding words
 agreed-open P g d e p n len checking code t a =

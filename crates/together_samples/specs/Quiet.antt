@@ -14,7 +14,8 @@ use Rattle.meaning.specs.Calls.{number, leaves}
 use Rattle.meaning_table.specs.Samples.{opened, puls, leer, laid}
 use lib.ListN.{replicate}
 use Rattle.meaning.specs.declared.Mode.the-variants.{Sequential, Random}
-use Rattle.together.specs.Statement.{Name, Step, opens, moves, writes, known, answer, Turn, one, two, none, left, right, start, after, Accepted, Quiet, AllQuiet}
+use Rattle.together.specs.Statement.{Name, Step, opens, moves, writes, known, answer, Turn, one, two, none, left, right, start, after, Accepted, Quiet}
+use Rattle.together.specs.Statement.{AllQuiet}
 use Rattle.together.specs.Demand3.{demand3}
 use Rattle.together_samples.specs.Slots.{differ, tiny}
 
@@ -102,5 +103,6 @@ quiet = (still puls owning, (still puls owning, (same puls owning d₁ _ mine₀
 
 pub equal : d₂ ≡ after tiny puls leer (start owning) inTurn .disk
 equal =
-    demand3 tiny puls leer differ owning fits sound mine theirs mineFirst inTurn (left (left (left (right (right none))))) (right (left (right (left (left none)))))
+    demand3 tiny puls leer differ owning fits sound mine theirs mineFirst inTurn (left (left (left (right (right none)))))
+    (right (left (right (left (left none)))))
     accepted accepted′ .image quiet

@@ -5,7 +5,8 @@ use mathlib.Core.Bool.{true}
 use mathlib.Core.List.{List, [], _∷_}
 use Rattle.meaning.specs.Calls.{number, leaves}
 use Rattle.meaning_table.specs.Samples.{opened, puls, leer}
-use Rattle.together.specs.Statement.{Step, creates, trims, kills, known, answer, Turn, one, two, Interleaving, none, left, right, start, answered, after, Accepted}
+use Rattle.together.specs.Statement.{Step, creates, trims, kills, known, answer, Turn, one, two, Interleaving, none, left, right, start, answered, after}
+use Rattle.together.specs.Statement.{Accepted}
 use Rattle.together_samples.specs.Slots.{tiny, blank, new}
 
 -- PULS01/DAT is created, killed and created again, and then trimmed by its first handle; LEER is created

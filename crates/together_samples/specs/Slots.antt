@@ -15,7 +15,8 @@ use Rattle.meaning_table.specs.Samples.{opened, puls, small, leer}
 use Rattle.meaning.specs.declared.Geometry.{Geometry}
 use Rattle.meaning.specs.declared.NewFile.{NewFile}
 use Rattle.meaning.specs.declared.Mode.the-variants.{Sequential}
-use Rattle.together.specs.Statement.{Step, creates, moves, writes, known, answer, handleAt, Turn, one, two, none, left, right, World, start, after, Accepted, Agree}
+use Rattle.together.specs.Statement.{Step, creates, moves, writes, known, answer, handleAt, Turn, one, two, none, left, right, World, start, after, Accepted}
+use Rattle.together.specs.Statement.{Agree}
 use Rattle.together.specs.Demand3.{demand3}
 
 -- 2 blocks of 2 units, the directory at the front in granules 0 and 1, no file
@@ -73,7 +74,8 @@ abbrev w′ : World
 w′ = after tiny small leer (start blank) theirsFirst
 
 pub agree : Agree tiny small leer blank mine theirs mineFirst w w′
-agree = demand3 tiny small leer differ-small blank fits sound mine theirs mineFirst theirsFirst (left (left (left (right none)))) (right (left (left (left none)))) accepted accepted′
+agree = demand3 tiny small leer differ-small blank fits sound mine theirs mineFirst theirsFirst (left (left (left (right none))))
+    (right (left (left (left none)))) accepted accepted′
 
 -- the slots in the handles are others
 pub slot : handleAt (w .first .handles) 0 .slot ≡ 0x80

@@ -111,7 +111,8 @@ module _ (g : Geometry) (d : List ℕ) (p : ℕ) (r : Ready g d p) where
     empty h x = rw (le-ltb 1 (runLength g d t k) h, x)
 
     pub empty-last : runLength g d t k ≤ 1 → (extension g d t && eqb k 0) ≡ false → tail g p (dropOne g p d) ≡ t
-    empty-last h x = ap (tail g p) (empty h x) ∙ AtTail.tail-stays g d _ facts p file (Drop.emptied-shrinks g d facts fits p file some-run size (omega arith) kept .at)
+    empty-last h x = ap (tail g p) (empty h x) ∙ AtTail.tail-stays g d _ facts p file
+        (Drop.emptied-shrinks g d facts fits p file some-run size (omega arith) kept .at)
       where
         first : k ≡ 0 → extension g d t ≡ true → ⊥
         first z e =
@@ -135,5 +136,6 @@ module _ (g : Geometry) (d : List ℕ) (p : ℕ) (r : Ready g d p) where
         let one : runs g d t ≡ 1 = omega (arith, some-run) in
         let single : runLength g d t 0 ≡ 1 = omega (arith, rw one at h) in
         let v = DropLast.before-tail g d facts p file (later x) in
-        let w = DropLast.emptied-unhooks g d facts fits p file size (later x) one single (field g d t 1) refl (Change.members g d facts p (field g d t 1) file (v .0) .slot) (v .1) in
+        let w = DropLast.emptied-unhooks g d facts fits p file size (later x) one single (field g d t 1) refl
+        (Change.members g d facts p (field g d t 1) file (v .0) .slot) (v .1) in
         ap (tail g p) (gone h x z ∙ rw one) ∙ cut _ (field g d t 1) _ w (v .0) (v .1)

@@ -133,13 +133,21 @@ module _ (g : Geometry) (p : ℕ) where
   dropping-step {d} {d′} {d″} {n} {at} {left} {b} i h q =
       let r = i .last .ready in
       let s : sizeOf g d′ p + granuleBytes g ≤ granuleBytes g * length (owned g d′ p) = omega (arith, i .last .room, mul-le-mul-left (granuleBytes g) h) in
-      let w = DropLast.drop-one g d′ (Step.facts g d′ p r) (Step.fits g d′ p r) p (Step.file g d′ p r) (not-T (system g d′ p) (λ t. Members.false-no (r .user) t)) s in
-      let z : sizeOf g (dropOne g p d′) p ≡ sizeOf g d′ p = Shorter.size-same g d′ (dropOne g p d′) (Step.facts g d′ p r) p (Step.file g d′ p r) (w .which) (w .shorter) in
-      let m : length (owned g d′ p) ≡ length (owned g (dropOne g p d′) p) + 1 = ap length (w .shorter .less) ∙ length-append (owned g (dropOne g p d′) p) (w .which ∷ []) in
+      let w = DropLast.drop-one g d′ (Step.facts g d′ p r) (Step.fits g d′ p r) p (Step.file g d′ p r)
+      (not-T (system g d′ p) (λ t. Members.false-no (r .user) t)) s in
+      let z : sizeOf g (dropOne g p d′) p ≡ sizeOf g d′ p = Shorter.size-same g d′ (dropOne g p d′) (Step.facts g d′ p r) p (Step.file g d′ p r) (w .which)
+      (w .shorter) in
+      let m : length (owned g d′ p) ≡ length (owned g (dropOne g p d′) p) + 1 = ap length (w .shorter .less) ∙ length-append (owned g (dropOne g p d′) p)
+      (w .which ∷ []) in
       let e : left ≡ suc (left - 1) = omega arith in
       record {
         rest = i .rest ∙ ap (λ (k : ℕ). times k (dropOne g p) d′) e ∙ ap (times (left - 1) (dropOne g p)) (sym (q .0));
-        last = rw (q .0, q .1) (record { ready = drop-ready g d′ p r s .0; last = refl; room = rw z (omega (arith, i .last .room, ap (granuleBytes g *_) m, ap (granuleBytes g *_) e)) });
+        last = rw (q .0, q .1) (record {
+          ready = drop-ready g d′ p r s .0;
+          last = refl;
+          room = rw z
+              (omega (arith, i .last .room, ap (granuleBytes g *_) m, ap (granuleBytes g *_) e));
+        });
         long = ap length (q .0) ∙ w .long ∙ i .long;
       }
 
@@ -148,7 +156,8 @@ module _ (g : Geometry) (p : ℕ) where
 
 module _ (g : Geometry) (d : List ℕ) (h : Handle) where
   -- the number of a trim is that of a changing call at level 4
-  pub by-range : {ranged : Bool} {n : ℕ} → ranged ≡ inRange g h → n ≡ first (handleRefusals g d h ranged (protected g d 4 h ∷ [])) → n ≡ first (trimRefusals g d h)
+  pub by-range : {ranged : Bool} {n : ℕ} → ranged ≡ inRange g h → n ≡ first (handleRefusals g d h ranged (protected g d 4 h ∷ [])) → n ≡ first
+      (trimRefusals g d h)
   by-range r e = e ∙ ap (λ (t : Bool). first (handleRefusals g d h t (protected g d 4 h ∷ []))) r
 
   -- what the file has that passed the tests
@@ -173,12 +182,18 @@ module _ (g : Geometry) (d : List ℕ) (h : Handle) where
       let f = w .0 .size (h .slot) (w .1 .slot) (r .first) in
       omega (arith, Sizes.round-least (Sizes.bytes-pos g) _ _ f, ap (granulesFor g) b)
 
-  pub trim-last : {e n size k : ℕ} → Ready g d (h .slot) → e ≡ tail g (h .slot) d → n ≡ length (owned g d (h .slot)) → size ≡ sizeOf g d (h .slot) → k ≡ granulesFor g size
+  pub trim-last : {e n size k : ℕ} → Ready g d (h .slot) → e ≡ tail g (h .slot) d → n ≡ length (owned g d (h .slot)) → size ≡ sizeOf g d (h .slot) → k ≡
+      granulesFor g size
       → Last g d (h .slot) e (n - k)
   trim-last {e} {n} {size} {k} r q a b c =
       let w = walks g d (h .slot) r in
       let f = w .0 .size (h .slot) (w .1 .slot) (r .first) in
-      record { ready = r; last = q; room = omega (arith, Sizes.surplus-fits (Sizes.bytes-pos g) _ _ f, ap₂ (λ (x y : ℕ). granuleBytes g * (x - y)) a (c ∙ ap (granulesFor g) b)) }
+      record {
+        ready = r;
+        last = q;
+        room = omega
+            (arith, Sizes.surplus-fits (Sizes.bytes-pos g) _ _ f, ap₂ (λ (x y : ℕ). granuleBytes g * (x - y)) a (c ∙ ap (granulesFor g) b));
+      }
 
   pub refused : {n : ℕ} {c : Refusal} → c ≡ refusal g d n → n ≡ first (trimRefusals g d h) → (n ≡ 0 → ⊥)
       → _≡_ {A = Answer × List ℕ} (record { refusal = c; handle = h }, d) (trim g d h)
@@ -190,7 +205,8 @@ module _ (g : Geometry) (d : List ℕ) (h : Handle) where
   unfolding trim
   kept y e z q f = rw (← e, z, bit-yes 7 q f, y)
 
-  pub trimmed : {n x m size k : ℕ} {d′ : List ℕ} {c : Refusal} → c ≡ refusal g d 0 → n ≡ first (trimRefusals g d h) → n ≡ 0 → x ≡ field g d (h .slot) 1 → (x / 2 ^ 7 % 2 ≡ 1 → ⊥)
+  pub trimmed : {n x m size k : ℕ} {d′ : List ℕ} {c : Refusal} → c ≡ refusal g d 0 → n ≡ first (trimRefusals g d h) → n ≡ 0 → x ≡ field g d (h .slot) 1 →
+      (x / 2 ^ 7 % 2 ≡ 1 → ⊥)
       → m ≡ length (owned g d (h .slot)) → size ≡ sizeOf g d (h .slot) → k ≡ granulesFor g size → d′ ≡ times (m - k) (dropOne g (h .slot)) d
       → _≡_ {A = Answer × List ℕ} (record { refusal = c; handle = h }, d′) (trim g d h)
   unfolding trim

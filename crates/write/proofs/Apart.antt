@@ -34,9 +34,15 @@ module _ (g : Geometry) (d : List ℕ) (s : ℕ) (r : Ready g d s) where
       let c = Sizes.round-holds (Sizes.sectors-pos g) (directorySectors g d) in
       ⊎-elim
       (λ p.
-      ⊎-elim (λ q. inr (rw (Sizes.bytes-are g) (omega (arith, mul-le-mul-left {m = g .start / granuleSectors g + roundUp (directorySectors g d) (granuleSectors g)} {n = n} (granuleSectors g) q)))) (λ q. absurd (z (in-count n (g .start / granuleSectors g) (roundUp (directorySectors g d) (granuleSectors g)) p q)))
+      ⊎-elim (λ q. inr (rw (Sizes.bytes-are g)
+      (omega (
+        arith,
+        mul-le-mul-left {m = g .start / granuleSectors g + roundUp (directorySectors g d) (granuleSectors g)} {n = n} (granuleSectors g)
+            q,
+      )))) (λ q. absurd (z (in-count n (g .start / granuleSectors g) (roundUp (directorySectors g d) (granuleSectors g)) p q)))
       (le-or-lt (g .start / granuleSectors g + roundUp (directorySectors g d) (granuleSectors g)) n))
-      (λ p. inl (rw (Sizes.bytes-are g) (omega (arith, mul-le-mul-left {m = suc n} {n = g .start / granuleSectors g} (granuleSectors g) p)))) (le-or-lt (g .start / granuleSectors g) n)
+      (λ p. inl (rw (Sizes.bytes-are g) (omega (arith, mul-le-mul-left {m = suc n} {n = g .start / granuleSectors g} (granuleSectors g) p))))
+      (le-or-lt (g .start / granuleSectors g) n)
 
   pub is-apart : Apart g d s
   is-apart =

@@ -53,7 +53,8 @@ unfolding store
 store-long f d i [] = refl
 store-long f d i (b ∷ bs) = store-long f (set d (f i) b) (i + 1) bs ∙ length-set d (f i) b
 
-pub stored-long : (f : ℕ → ℕ) (d : List ℕ) (i : ℕ) (xs : List ℕ) (j : ℕ) (ys : List ℕ) {d′ : List ℕ} → d′ ≡ store f (store f d i xs) j ys → length d′ ≡ length d
+pub stored-long : (f : ℕ → ℕ) (d : List ℕ) (i : ℕ) (xs : List ℕ) (j : ℕ) (ys : List ℕ) {d′ : List ℕ} → d′ ≡ store f (store f d i xs) j ys → length d′ ≡ length
+    d
 stored-long f d i xs j ys e = ap (λ (l : List ℕ). length l) e ∙ store-long f (store f d i xs) j ys ∙ store-long f d i xs
 
 -- every position is this low, whatever the granule
@@ -71,7 +72,8 @@ old-owned g d p y e = let b = walks g d p y .0 .size p (slot-of g d p (y .slot))
 
 module _ (g : Geometry) (d : List ℕ) (m : Mode) (h : Handle) (n : ℕ) (b : List ℕ) {ranged : Bool}
     (r : ranged ≡ all (inRange g h ∷ leb (h .at + n) (highest g) ∷ leb n (length b) ∷ [])) where
-  by-handle : {num : ℕ} → num ≡ first (handleRefusals g d h ranged (protected g d 4 h ∷ [])) → (num ≡ 0 → ⊥) → num ≡ first (writeRefusals g d m h n (length b))
+  by-handle : {num : ℕ} → num ≡ first (handleRefusals g d h ranged (protected g d 4 h ∷ [])) → (num ≡ 0 → ⊥) → num ≡ first
+      (writeRefusals g d m h n (length b))
   by-handle e z =
       handle-stop g d h ranged (protected g d 4 h ∷ []) (cannotGrow g d (h .slot) (toWrite g d m h n)) e z
       ∙ ap (λ (t : Bool). first (handleRefusals g d h t (protected g d 4 h ∷ cannotGrow g d (h .slot) (toWrite g d m h n)))) r

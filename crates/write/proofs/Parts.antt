@@ -79,7 +79,8 @@ module _ (g : Geometry) (d : List ℕ) where
       let y = x .inside in let z = o .owned in let w = o .some in
       ⊎-elim (λ h. inl (omega arith)) (λ h. inr (omega arith)) (a .apart (i / granuleBytes g) (Sizes.width-lt (Sizes.bytes-pos g) i _ (omega arith)))
 
-  pub storing-step : {s i p : ℕ} (xs ys : List ℕ) {d′ d″ : List ℕ} → Readable g d s → Apart g d s → Storing s i xs d′ → Owned g d s (i + length xs) (length ys)
+  pub storing-step : {s i p : ℕ} (xs ys : List ℕ) {d′ d″ : List ℕ} → Readable g d s → Apart g d s → Storing s i xs d′ → Owned g d s (i + length xs)
+      (length ys)
       → InGranule g (i + length xs) (length ys) → p ≡ place g d s (i + length xs) → d″ ≡ sets d′ p ys → Storing s i (xs ++ ys) d″
   storing-step {s} {i} {p} xs ys {d′} {d″} f a z o x e q =
       let at = i + length xs in

@@ -8,4 +8,5 @@ use Rattle.meaning.specs.Chain.{owned}
 use Rattle.meaning.specs.declared.Geometry.{Geometry}
 
 pub record Apart (g : Geometry) (d : List ℕ) (s : ℕ) : Type 0 where
-  pub apart : (k : ℕ) → k < length (owned g d s) → (granuleBytes g * getD (owned g d s) k 0 + granuleBytes g ≤ 256 * g .start) ⊎ (256 * (g .start + directorySectors g d) ≤ granuleBytes g * getD (owned g d s) k 0)
+  pub apart : (k : ℕ) → k < length (owned g d s) → (granuleBytes g * getD (owned g d s) k 0 + granuleBytes g ≤ 256 * g .start) ⊎
+      (256 * (g .start + directorySectors g d) ≤ granuleBytes g * getD (owned g d s) k 0)

@@ -28,7 +28,10 @@ same-length : tie.Need-same-length
 same-length c = search needs
 
 returns : tie.Need-returns
-returns c = refused _ _ _ _ (c .before .before .before .before .sector-ranged .ensures) (handed _ _ _ (c .before .before .before .before .before .before .pre) (c .carried .ensures)) (c .before .before .changing-number .ensures) (c .before .if1 .taken)
+returns c =
+    let c₄ = c .before .before .before .before in let sector-ranged = c₄ .sector-ranged in
+    let c₆ = c₄ .before .before in let p = c₆ .pre in
+    refused _ _ _ _ (sector-ranged .ensures) (handed _ _ _ p (c .carried .ensures)) (c .before .before .changing-number .ensures) (c .before .if1 .taken)
 
 granule-sectors-requires : tie.Need-granule-sectors-requires
 granule-sectors-requires c κs = search needs
@@ -37,10 +40,15 @@ div-grow : tie.Need-div-grow
 div-grow c = search needs
 
 add-grow : tie.Need-add-grow
-add-grow c = let w = c .before .granule-sectors in let q : c .before .before .before .before .before .before .before .args .k / w .result < 2 ^ 63 = width-lt (omega (arith, w .ensures .some)) (c .before .before .before .before .before .before .before .args .k) (2 ^ 63) (omega (arith, w .ensures .some)) in omega arith
+add-grow c = let w = c .before .granule-sectors in
+    let q : c .before .before .before .before .before .before .before .args .k / w .result < 2 ^ 63 = width-lt (omega (arith, w .ensures .some))
+    (c .before .before .before .before .before .before .before .args .k) (2 ^ 63) (omega (arith, w .ensures .some)) in
+    omega arith
 
 grow-requires : tie.Need-grow-requires
-grow-requires c κs = let a = c .before .before .before .before .before .before .before .args in ready (a .g) (a .image .now) (a .h) (c .before .before .before .before .before .sector-ranged .result) 4 (c .before .before .before .changing-number .ensures) (c .before .before .if1 .left)
+grow-requires c κs = let a = c .before .before .before .before .before .before .before .args in
+    ready (a .g) (a .image .now) (a .h) (c .before .before .before .before .before .sector-ranged .result) 4
+    (c .before .before .before .changing-number .ensures) (c .before .before .if1 .left)
 
 carried-requires-2 : tie.Need-carried-requires-2
 carried-requires-2 c κs = search needs
@@ -49,7 +57,15 @@ same-length-2 : tie.Need-same-length-2
 same-length-2 c = search needs
 
 returns-2 : tie.Need-returns-2
-returns-2 c = grew _ _ _ _ (c .before .before .before .before .before .before .before .before .before .sector-ranged .ensures) (c .before .before .before .before .before .granule-sectors .ensures .is) (handed _ _ _ (c .before .before .before .before .before .before .before .before .before .before .before .pre) (c .carried2 .ensures)) (c .before .before .before .before .before .before .before .changing-number .ensures) (c .before .before .before .before .before .before .if1 .left) (c .before .before .before .grow .ensures .0) (c .before .before .before .grow .ensures .1)
+returns-2 c =
+    let c₃ = c .before .before .before in let grow = c₃ .grow in
+    let c₅ = c₃ .before .before in let granule-sectors = c₅ .granule-sectors in
+    let c₆ = c₅ .before in let if1 = c₆ .if1 in
+    let c₇ = c₆ .before in let changing-number = c₇ .changing-number in
+    let c₉ = c₇ .before .before in let sector-ranged = c₉ .sector-ranged in
+    let c₁₁ = c₉ .before .before in let p = c₁₁ .pre in
+    grew _ _ _ _ (sector-ranged .ensures) (granule-sectors .ensures .is) (handed _ _ _ p (c .carried2 .ensures)) (changing-number .ensures) (if1 .left)
+    (grow .ensures .0) (grow .ensures .1)
 
 pub allot-checked-spec : {M : Type 1} → statement M
 allot-checked-spec =

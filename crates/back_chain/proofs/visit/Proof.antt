@@ -28,10 +28,15 @@ returns-2 : tie.Need-returns-2
 returns-2 c = visits-pairs _ _ _ (c .before .before .take-runs .ensures) (c .if2 .taken)
 
 link-holds-requires : tie.Need-link-holds-requires
-link-holds-requires c κs = (c .before .before .before .before .before .before .before .before .pre .0, c .before .before .before .before .before .before .before .before .pre .1, c .before .before .take-runs .ensures .runs-is (not-false _ (c .if2 .left)))
+link-holds-requires c κs =
+    let c₈ = c .before .before .before .before .before .before .before .before in let p = c₈ .pre in
+    (p .0, p .1, c .before .before .take-runs .ensures .runs-is (not-false _ (c .if2 .left)))
 
 returns-3 : tie.Need-returns-3
-returns-3 c = visits-link _ _ _ (c .before .before .before .take-runs .ensures) (c .before .if2 .left) (c .before .before .before .before .before .before .if1 .left) (c .link-holds .ensures)
+returns-3 c =
+    let c₃ = c .before .before .before in let take-runs = c₃ .take-runs in
+    let c₆ = c₃ .before .before .before in let if1 = c₆ .if1 in
+    visits-link _ _ _ (take-runs .ensures) (c .before .if2 .left) (if1 .left) (c .link-holds .ensures)
 
 pub visit-spec : {M : Type 1} → statement M
 visit-spec =

@@ -42,16 +42,30 @@ mul-most : tie.Need-mul-most
 mul-most c = search needs
 
 line-requires : tie.Need-line-requires
-line-requires c κs = (c .before .before .before .before .before .before .before .pre .0, c .before .before .before .before .before .before .before .pre .1, (let q = c .before .directory-sectors .ensures in let t = c .before .before .before .before .before .before .before .pre .0 .thirty in omega arith), c .before .before .before .before .before .before .before .pre .2)
+line-requires c κs =
+    let c₇ = c .before .before .before .before .before .before .before in let p = c₇ .pre in
+    (p .0, p .1, (let q = c .before .directory-sectors .ensures in let t = p .0 .thirty in omega arith), p .2)
 
 nothing-requires-3 : tie.Need-nothing-requires-3
 nothing-requires-3 c κs = search needs
 
 returns-3 : tie.Need-returns-3
-returns-3 c = nothing-whole _ _ _ (c .nothing3 .ensures) (by-line _ _ _ (lined _ _ _ (c .before .before .before .before .before .before .before .before .before .before .before .pre .0) (c .before .before .before .before .before .directory-sectors .ensures) (c .before .before .before .line .ensures)) (c .before .if3 .taken))
+returns-3 c =
+    let c₃ = c .before .before .before in let line = c₃ .line in
+    let c₅ = c₃ .before .before in let directory-sectors = c₅ .directory-sectors in
+    let c₁₁ = c₅ .before .before .before .before .before .before in let p = c₁₁ .pre in
+    nothing-whole _ _ _ (c .nothing3 .ensures) (by-line _ _ _ (lined _ _ _ (p .0) (directory-sectors .ensures) (line .ensures)) (c .before .if3 .taken))
 
 size-holds-requires : tie.Need-size-holds-requires
-size-holds-requires c κs = (c .before .before .before .before .before .before .before .before .before .before .pre .0, c .before .before .before .before .before .before .before .before .before .before .pre .1, (let m = c .before .before .line .ensures .few in omega arith), lined-own _ _ _ (lined _ _ _ (c .before .before .before .before .before .before .before .before .before .before .pre .0) (c .before .before .before .before .directory-sectors .ensures) (c .before .before .line .ensures)) (c .if3 .left))
+size-holds-requires c κs =
+    let c₄ = c .before .before .before .before in let directory-sectors = c₄ .directory-sectors in
+    let c₁₀ = c₄ .before .before .before .before .before .before in let p = c₁₀ .pre in (
+      p .0,
+      p .1,
+      (let m = c .before .before .line .ensures .few in omega arith),
+      lined-own _ _ _
+          (lined _ _ _ (p .0) (directory-sectors .ensures) (c .before .before .line .ensures)) (c .if3 .left),
+    )
 
 nothing-requires-4 : tie.Need-nothing-requires-4
 nothing-requires-4 c κs = search needs
@@ -60,7 +74,17 @@ returns-4 : tie.Need-returns-4
 returns-4 c = nothing-whole _ _ _ (c .nothing4 .ensures) (by-size _ _ _ (is-no (c .before .before .size-holds .ensures) (c .before .if4 .taken)))
 
 returns-5 : tie.Need-returns-5
-returns-5 c = is-whole _ _ _ (sym (c .before .before .before .before .before .before .before .before .before .before .flag .ensures) ∙ c .before .before .before .before .before .before .before .before .before .if1 .left) (is-yes (c .before .before .before .before .before .before .before .before .name-holds .ensures) (c .before .before .before .before .before .before .before .if2 .left)) (lined _ _ _ (c .before .before .before .before .before .before .before .before .before .before .before .before .pre .0) (c .before .before .before .before .before .before .directory-sectors .ensures) (c .before .before .before .before .line .ensures)) (c .before .before .if3 .left) (is-yes (c .before .size-holds .ensures) (c .if4 .left))
+returns-5 c =
+    let c₄ = c .before .before .before .before in let line = c₄ .line in
+    let c₆ = c₄ .before .before in let directory-sectors = c₆ .directory-sectors in
+    let c₇ = c₆ .before in let if2 = c₇ .if2 in
+    let c₈ = c₇ .before in let name-holds = c₈ .name-holds in
+    let c₉ = c₈ .before in let if1 = c₉ .if1 in
+    let c₁₀ = c₉ .before in let flag = c₁₀ .flag in
+    let c₁₂ = c₁₀ .before .before in let p = c₁₂ .pre in
+    is-whole _ _ _ (sym (flag .ensures) ∙ if1 .left) (is-yes (name-holds .ensures) (if2 .left))
+    (lined _ _ _ (p .0) (directory-sectors .ensures) (line .ensures)) (c .before .before .if3 .left)
+    (is-yes (c .before .size-holds .ensures) (c .if4 .left))
 
 pub whole-spec : {M : Type 1} → statement M
 whole-spec =

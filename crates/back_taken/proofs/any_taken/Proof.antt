@@ -28,19 +28,29 @@ element-copy-out-entry-taken : tie.Need-element-copy-out-entry-taken Inv-loop μ
 element-copy-out-entry-taken c = let q = c .before .before .before .pre .1 .few in omega arith
 
 entry-taken-requires : tie.Need-entry-taken-requires Inv-loop μ-loop
-entry-taken-requires c κs = (c .before .before .before .before .pre .0, c .before .before .before .before .pre .1 .entry _ (c .before .loop-test .taken))
+entry-taken-requires c κs =
+    let c₄ = c .before .before .before .before in let p = c₄ .pre in
+    (p .0, p .1 .entry _ (c .before .loop-test .taken))
 
 returns : tie.Need-returns Inv-loop μ-loop
-returns c = quiet-hit (all-steps _ _) (c .before .before .before .before .loop .inv) (c .before .before .before .loop-test .taken) (sym (c .before .entry-taken .ensures) ∙ c .if1 .taken)
+returns c =
+    let c₃ = c .before .before .before in let loop-test = c₃ .loop-test in
+    let c₄ = c₃ .before in let l = c₄ .loop in
+    quiet-hit (all-steps _ _) (l .inv) (loop-test .taken) (sym (c .before .entry-taken .ensures) ∙ c .if1 .taken)
 
 add-j : tie.Need-add-j Inv-loop μ-loop
-add-j c = let q = c .before .before .before .before .before .before .pre .1 .few in omega arith
+add-j c =
+    let c₆ = c .before .before .before .before .before .before in let p = c₆ .pre in
+    let q = p .1 .few in omega arith
 
 loop-less : tie.Need-loop-less Inv-loop μ-loop
 loop-less c = omega arith
 
 loop-again : tie.Need-loop-again Inv-loop μ-loop
-loop-again c = quiet-more (all-steps _ _) (c .before .before .before .before .loop .inv) (c .before .before .before .loop-test .taken) (sym (c .before .entry-taken .ensures) ∙ c .if1 .left)
+loop-again c =
+    let c₃ = c .before .before .before in let loop-test = c₃ .loop-test in
+    let c₄ = c₃ .before in let l = c₄ .loop in
+    quiet-more (all-steps _ _) (l .inv) (loop-test .taken) (sym (c .before .entry-taken .ensures) ∙ c .if1 .left)
 
 returns-2 : tie.Need-returns-2 Inv-loop μ-loop
 returns-2 c = quiet-end (c .before .loop .inv) (c .loop-test .left)

@@ -29,25 +29,49 @@ loop-holds : tie.Need-loop-holds Inv-loop μ-loop
 loop-holds c = quiet-start (entry-steps _) _ _
 
 run-start-requires : tie.Need-run-start-requires Inv-loop μ-loop
-run-start-requires c κs = (c .before .before .before .before .pre .0, c .before .before .before .before .pre .1 .slot, let q = c .before .before .runs .ensures .small in omega arith)
+run-start-requires c κs =
+    let c₄ = c .before .before .before .before in let p = c₄ .pre in
+    (p .0, p .1 .slot, let q = c .before .before .runs .ensures .small in omega arith)
 
 run-length-requires : tie.Need-run-length-requires Inv-loop μ-loop
-run-length-requires c κs = (c .before .before .before .before .before .pre .0, c .before .before .before .before .before .pre .1 .slot, let q = c .before .before .before .runs .ensures .small in omega arith)
+run-length-requires c κs =
+    let c₃ = c .before .before .before in let runs = c₃ .runs in
+    let c₅ = c₃ .before .before in let p = c₅ .pre in
+    (p .0, p .1 .slot, let q = runs .ensures .small in omega arith)
 
 run-taken-requires : tie.Need-run-taken-requires Inv-loop μ-loop
-run-taken-requires c κs = (c .before .before .before .before .before .before .pre .0, run-fits _ (c .before .before .before .before .before .before .pre .0) (c .before .before .before .before .before .before .pre .1) (c .before .before .before .before .runs .ensures .is) (same-refl _ _) (c .before .before .loop-test .taken) (c .before .run-start .ensures .is) (c .run-length .ensures .is))
+run-taken-requires c κs =
+    let c₄ = c .before .before .before .before in let runs = c₄ .runs in
+    let c₆ = c₄ .before .before in let p = c₆ .pre in (
+      p .0,
+      run-fits _ (p .0) (p .1) (runs .ensures .is) (same-refl _ _) (c .before .before .loop-test .taken) (c .before .run-start .ensures .is)
+          (c .run-length .ensures .is),
+    )
 
 returns : tie.Need-returns Inv-loop μ-loop
-returns c = quiet-hit (entry-steps _) (c .before .before .before .before .before .loop .inv) (c .before .before .before .before .loop-test .taken) (ap (some _) (run-is _ _ _ _ (c .before .before .before .run-start .ensures .is) (c .before .before .run-length .ensures .is)) ∙ sym (c .before .run-taken .ensures) ∙ c .if1 .taken) ∙ ap (some _) (runs-are _ _ _ (c .before .before .before .before .before .before .runs .ensures .is))
+returns c =
+    let c₃ = c .before .before .before in let run-start = c₃ .run-start in
+    let c₄ = c₃ .before in let loop-test = c₄ .loop-test in
+    let c₅ = c₄ .before in let l = c₅ .loop in
+    let c₆ = c₅ .before in let runs = c₆ .runs in
+    quiet-hit (entry-steps _) (l .inv) (loop-test .taken) (ap (some _) (run-is _ _ _ _ (run-start .ensures .is) (c .before .before .run-length .ensures .is))
+    ∙ sym (c .before .run-taken .ensures) ∙ c .if1 .taken) ∙ ap (some _) (runs-are _ _ _ (runs .ensures .is))
 
 add-j : tie.Need-add-j Inv-loop μ-loop
-add-j c = let q = c .before .before .before .before .before .before .runs .ensures .small in omega arith
+add-j c =
+    let c₆ = c .before .before .before .before .before .before in let runs = c₆ .runs in
+    let q = runs .ensures .small in omega arith
 
 loop-less : tie.Need-loop-less Inv-loop μ-loop
 loop-less c = omega arith
 
 loop-again : tie.Need-loop-again Inv-loop μ-loop
-loop-again c = quiet-more (entry-steps _) (c .before .before .before .before .before .loop .inv) (c .before .before .before .before .loop-test .taken) (ap (some _) (run-is _ _ _ _ (c .before .before .before .run-start .ensures .is) (c .before .before .run-length .ensures .is)) ∙ sym (c .before .run-taken .ensures) ∙ c .if1 .left)
+loop-again c =
+    let c₃ = c .before .before .before in let run-start = c₃ .run-start in
+    let c₄ = c₃ .before in let loop-test = c₄ .loop-test in
+    let c₅ = c₄ .before in let l = c₅ .loop in
+    quiet-more (entry-steps _) (l .inv) (loop-test .taken) (ap (some _) (run-is _ _ _ _ (run-start .ensures .is) (c .before .before .run-length .ensures .is))
+    ∙ sym (c .before .run-taken .ensures) ∙ c .if1 .left)
 
 returns-2 : tie.Need-returns-2 Inv-loop μ-loop
 returns-2 c = quiet-end (c .before .loop .inv) (c .loop-test .left) ∙ ap (some _) (runs-are _ _ _ (c .before .before .runs .ensures .is))

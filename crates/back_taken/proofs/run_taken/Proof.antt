@@ -27,7 +27,11 @@ taken-requires : tie.Need-taken-requires Inv-loop μ-loop
 taken-requires c κs = (c .before .before .before .pre .0, omega arith)
 
 returns : tie.Need-returns Inv-loop μ-loop
-returns c = quiet-hit (run-steps _) (c .before .before .before .loop .inv) (c .before .before .loop-test .taken) (some-one (taken (c .before .before .before .before .before .args .g) (c .before .before .before .before .before .args .image .now)) (c .before .before .before .before .before .args .a + c .before .before .before .loop .looked) ∙ sym (c .before .taken .ensures) ∙ c .if1 .taken)
+returns c =
+    let c₃ = c .before .before .before in let l = c₃ .loop in
+    let c₅ = c₃ .before .before in let a = c₅ .args in
+    quiet-hit (run-steps _) (l .inv) (c .before .before .loop-test .taken)
+    (some-one (taken (a .g) (a .image .now)) (a .a + l .looked) ∙ sym (c .before .taken .ensures) ∙ c .if1 .taken)
 
 add-looked : tie.Need-add-looked Inv-loop μ-loop
 add-looked c = omega arith
@@ -36,7 +40,11 @@ loop-less : tie.Need-loop-less Inv-loop μ-loop
 loop-less c = omega arith
 
 loop-again : tie.Need-loop-again Inv-loop μ-loop
-loop-again c = quiet-more (run-steps _) (c .before .before .before .loop .inv) (c .before .before .loop-test .taken) (some-one (taken (c .before .before .before .before .before .args .g) (c .before .before .before .before .before .args .image .now)) (c .before .before .before .before .before .args .a + c .before .before .before .loop .looked) ∙ sym (c .before .taken .ensures) ∙ c .if1 .left)
+loop-again c =
+    let c₃ = c .before .before .before in let l = c₃ .loop in
+    let c₅ = c₃ .before .before in let a = c₅ .args in
+    quiet-more (run-steps _) (l .inv) (c .before .before .loop-test .taken)
+    (some-one (taken (a .g) (a .image .now)) (a .a + l .looked) ∙ sym (c .before .taken .ensures) ∙ c .if1 .left)
 
 returns-2 : tie.Need-returns-2 Inv-loop μ-loop
 returns-2 c = quiet-end (c .before .loop .inv) (c .loop-test .left)

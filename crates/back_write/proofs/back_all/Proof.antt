@@ -19,22 +19,35 @@ loop-holds : tie.Need-loop-holds Inv-loop μ-loop
 loop-holds c = backing-start _ _ _ _ _
 
 mul-back-entry : tie.Need-mul-back-entry Inv-loop μ-loop
-mul-back-entry c = let q = c .before .before .before .before .pre .1 .few in omega arith
+mul-back-entry c =
+    let c₄ = c .before .before .before .before in let p = c₄ .pre in
+    let q = p .1 .few in omega arith
 
 element-copy-out-back-entry : tie.Need-element-copy-out-back-entry Inv-loop μ-loop
-element-copy-out-back-entry c = let q = c .before .before .before .before .pre .1 .few in omega arith
+element-copy-out-back-entry c =
+    let c₄ = c .before .before .before .before in let p = c₄ .pre in
+    let q = p .1 .few in omega arith
 
 back-entry-requires : tie.Need-back-entry-requires Inv-loop μ-loop
-back-entry-requires c κs = (kept-room _ (c .before .before .before .before .before .pre .0) (c .before .before .before .loop .inv .kept), kept-slot _ (c .before .before .before .loop .inv .kept) (c .before .before .before .before .before .pre .1 .entry _ (c .before .before .loop-test .taken) .slot), c .before .before .before .before .before .pre .2)
+back-entry-requires c κs =
+    let c₃ = c .before .before .before in let l = c₃ .loop in
+    let c₅ = c₃ .before .before in let p = c₅ .pre in
+    (kept-room _ (p .0) (l .inv .kept), kept-slot _ (l .inv .kept) (p .1 .entry _ (c .before .before .loop-test .taken) .slot), p .2)
 
 add-back : tie.Need-add-back Inv-loop μ-loop
-add-back c = let q = c .before .before .before .before .before .before .before .before .pre .1 .few in omega arith
+add-back c =
+    let c₈ = c .before .before .before .before .before .before .before .before in let p = c₈ .pre in
+    let q = p .1 .few in omega arith
 
 loop-less : tie.Need-loop-less Inv-loop μ-loop
 loop-less c = omega arith
 
 loop-again : tie.Need-loop-again Inv-loop μ-loop
-loop-again c = backing-more _ (c .before .before .before .before .before .before .before .before .pre .0) (c .before .before .before .before .before .before .before .before .pre .1) (c .before .before .before .before .before .before .loop .inv) (c .before .before .before .before .before .loop-test .taken) (c .before .before .back-entry .ensures)
+loop-again c =
+    let c₅ = c .before .before .before .before .before in let loop-test = c₅ .loop-test in
+    let c₆ = c₅ .before in let l = c₆ .loop in
+    let c₈ = c₆ .before .before in let p = c₈ .pre in
+    backing-more _ (p .0) (p .1) (l .inv) (loop-test .taken) (c .before .before .back-entry .ensures)
 
 same-length : tie.Need-same-length Inv-loop μ-loop
 same-length c = c .before .loop .inv .kept .long

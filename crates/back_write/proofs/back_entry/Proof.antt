@@ -36,7 +36,9 @@ returns c = let a = c .before .before .before .before .before .before .before .b
     c .before .before .set-hit .ensures
     ∙ ap (λ (d : List ℕ). set d (hitAt (a .g) (a .s)) (a .h))
     (c .before .before .before .before .before .before .set-field .ensures
-    ∙ ap (λ (v : ℕ). setField (a .g) (a .image .now) (a .s) 0 v) (c .before .before .before .before .before .before .before .before .with-bit .ensures .is ∙ ap (withBit 4) (c .before .before .before .before .before .before .before .before .before .field .ensures .is)))
+    ∙ ap (λ (v : ℕ). setField (a .g) (a .image .now) (a .s) 0 v)
+    (c .before .before .before .before .before .before .before .before .with-bit .ensures .is ∙ ap (withBit 4)
+    (c .before .before .before .before .before .before .before .before .before .field .ensures .is)))
 
 pub back-entry-spec : {M : Type 1} → statement M
 back-entry-spec =

@@ -24,22 +24,35 @@ loop-holds : tie.Need-loop-holds Inv-loop μ-loop
 loop-holds c = taking-start _ _ _ (all-steps _ _)
 
 mul-take-entry : tie.Need-mul-take-entry Inv-loop μ-loop
-mul-take-entry c = let q = c .before .before .before .before .pre .1 .few in omega arith
+mul-take-entry c =
+    let c₄ = c .before .before .before .before in let p = c₄ .pre in
+    let q = p .1 .few in omega arith
 
 element-copy-out-take-entry : tie.Need-element-copy-out-take-entry Inv-loop μ-loop
-element-copy-out-take-entry c = let q = c .before .before .before .before .pre .1 .few in omega arith
+element-copy-out-take-entry c =
+    let c₄ = c .before .before .before .before in let p = c₄ .pre in
+    let q = p .1 .few in omega arith
 
 take-entry-requires : tie.Need-take-entry-requires Inv-loop μ-loop
-take-entry-requires c κs = (same-room _ _ _ (c .before .before .before .before .before .pre .0) (c .before .before .before .loop .inv .same), same-on-disk _ (c .before .before .before .before .before .pre .0) (c .before .before .before .loop .inv .same) (c .before .before .before .before .before .pre .1 .entry _ (c .before .before .loop-test .taken)))
+take-entry-requires c κs =
+    let c₃ = c .before .before .before in let l = c₃ .loop in
+    let c₅ = c₃ .before .before in let p = c₅ .pre in
+    (same-room _ _ _ (p .0) (l .inv .same), same-on-disk _ (p .0) (l .inv .same) (p .1 .entry _ (c .before .before .loop-test .taken)))
 
 add-j : tie.Need-add-j Inv-loop μ-loop
-add-j c = let q = c .before .before .before .before .before .before .before .before .pre .1 .few in omega arith
+add-j c =
+    let c₈ = c .before .before .before .before .before .before .before .before in let p = c₈ .pre in
+    let q = p .1 .few in omega arith
 
 loop-less : tie.Need-loop-less Inv-loop μ-loop
 loop-less c = omega arith
 
 loop-again : tie.Need-loop-again Inv-loop μ-loop
-loop-again c = taking-entry _ (c .before .before .before .before .before .before .before .before .pre .0) (c .before .before .before .before .before .before .before .before .pre .1) (c .before .before .before .before .before .before .loop .inv) (c .before .before .before .before .before .loop-test .taken) (c .before .before .take-entry .ensures)
+loop-again c =
+    let c₅ = c .before .before .before .before .before in let loop-test = c₅ .loop-test in
+    let c₆ = c₅ .before in let l = c₆ .loop in
+    let c₈ = c₆ .before .before in let p = c₈ .pre in
+    taking-entry _ (p .0) (p .1) (l .inv) (loop-test .taken) (c .before .before .take-entry .ensures)
 
 same-length : tie.Need-same-length Inv-loop μ-loop
 same-length c = c .before .loop .inv .same .long

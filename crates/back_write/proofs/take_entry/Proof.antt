@@ -30,22 +30,52 @@ loop-holds : tie.Need-loop-holds Inv-loop μ-loop
 loop-holds c = taking-start _ _ _ (entry-steps _)
 
 run-start-requires : tie.Need-run-start-requires Inv-loop μ-loop
-run-start-requires c κs = (same-room _ _ _ (c .before .before .before .before .before .before .pre .0) (c .before .before .loop .inv .same), same-slot _ _ _ (c .before .before .before .before .before .before .pre .0) (c .before .before .loop .inv .same) (c .before .before .before .before .before .before .pre .1 .slot), let q = c .before .before .before .runs .ensures .small in omega arith)
+run-start-requires c κs =
+    let c₃ = c .before .before .before in let runs = c₃ .runs in
+    let c₆ = c₃ .before .before .before in let p = c₆ .pre in (
+      same-room _ _ _ (p .0) (c .before .before .loop .inv .same),
+      same-slot _ _ _ (p .0) (c .before .before .loop .inv .same) (p .1 .slot),
+      let q = runs
+          .ensures .small in omega arith,
+    )
 
 run-length-requires : tie.Need-run-length-requires Inv-loop μ-loop
-run-length-requires c κs = (same-room _ _ _ (c .before .before .before .before .before .before .before .before .pre .0) (c .before .before .before .before .loop .inv .same), same-slot _ _ _ (c .before .before .before .before .before .before .before .before .pre .0) (c .before .before .before .before .loop .inv .same) (c .before .before .before .before .before .before .before .before .pre .1 .slot), let q = c .before .before .before .before .before .runs .ensures .small in omega arith)
+run-length-requires c κs =
+    let c₄ = c .before .before .before .before in let l = c₄ .loop in
+    let c₅ = c₄ .before in let runs = c₅ .runs in
+    let c₈ = c₅ .before .before .before in let p = c₈ .pre in
+    (same-room _ _ _ (p .0) (l .inv .same), same-slot _ _ _ (p .0) (l .inv .same) (p .1 .slot), let q = runs .ensures .small in omega arith)
 
 take-run-requires : tie.Need-take-run-requires Inv-loop μ-loop
-take-run-requires c κs = (same-room _ _ _ (c .before .before .before .before .before .before .before .before .before .before .pre .0) (c .before .before .before .before .before .before .loop .inv .same), run-fits _ (c .before .before .before .before .before .before .before .before .before .before .pre .0) (c .before .before .before .before .before .before .before .before .before .before .pre .1) (c .before .before .before .before .before .before .before .runs .ensures .is) (c .before .before .before .before .before .before .loop .inv .same) (c .before .before .before .before .before .loop-test .taken) (c .before .before .before .run-start .ensures .is) (c .before .run-length .ensures .is))
+take-run-requires c κs =
+    let c₃ = c .before .before .before in let run-start = c₃ .run-start in
+    let c₅ = c₃ .before .before in let loop-test = c₅ .loop-test in
+    let c₆ = c₅ .before in let l = c₆ .loop in
+    let c₇ = c₆ .before in let runs = c₇ .runs in
+    let c₁₀ = c₇ .before .before .before in let p = c₁₀ .pre in (
+      same-room _ _ _ (p .0) (l .inv .same),
+      run-fits _ (p .0) (p .1) (runs .ensures .is) (l .inv .same) (loop-test .taken) (run-start .ensures .is)
+          (c .before .run-length .ensures .is),
+    )
 
 add-j : tie.Need-add-j Inv-loop μ-loop
-add-j c = let q = c .before .before .before .before .before .before .before .before .before .before .runs .ensures .small in omega arith
+add-j c =
+    let c₁₀ = c .before .before .before .before .before .before .before .before .before .before in let runs = c₁₀ .runs in
+    let q = runs .ensures .small in omega arith
 
 loop-less : tie.Need-loop-less Inv-loop μ-loop
 loop-less c = omega arith
 
 loop-again : tie.Need-loop-again Inv-loop μ-loop
-loop-again c = taking-run _ (c .before .before .before .before .before .before .before .before .before .before .before .before .before .pre .0) (c .before .before .before .before .before .before .before .before .before .before .before .before .before .pre .1) (c .before .before .before .before .before .before .before .before .before .before .runs .ensures .is) (c .before .before .before .before .before .before .before .before .before .loop .inv) (c .before .before .before .before .before .before .before .before .loop-test .taken) (c .before .before .before .before .before .before .run-start .ensures .is) (c .before .before .before .before .run-length .ensures .is) (c .before .before .take-run .ensures)
+loop-again c =
+    let c₄ = c .before .before .before .before in let run-length = c₄ .run-length in
+    let c₆ = c₄ .before .before in let run-start = c₆ .run-start in
+    let c₈ = c₆ .before .before in let loop-test = c₈ .loop-test in
+    let c₉ = c₈ .before in let l = c₉ .loop in
+    let c₁₀ = c₉ .before in let runs = c₁₀ .runs in
+    let c₁₃ = c₁₀ .before .before .before in let p = c₁₃ .pre in
+    taking-run _ (p .0) (p .1) (runs .ensures .is) (l .inv) (loop-test .taken) (run-start .ensures .is) (run-length .ensures .is)
+    (c .before .before .take-run .ensures)
 
 same-length : tie.Need-same-length Inv-loop μ-loop
 same-length c = c .before .loop .inv .same .long

@@ -23,13 +23,23 @@ same-length : tie.Need-same-length
 same-length c = search needs
 
 returns : tie.Need-returns
-returns c = refused _ _ _ (handed _ _ _ (c .before .before .before .before .before .before .before .pre) (c .carried .ensures)) (c .before .before .before .plan .ensures .number-is) (c .before .if1 .taken)
+returns c =
+    let c₃ = c .before .before .before in let plan = c₃ .plan in
+    let c₇ = c₃ .before .before .before .before in let p = c₇ .pre in
+    refused _ _ _ (handed _ _ _ p (c .carried .ensures)) (plan .ensures .number-is) (c .before .if1 .taken)
 
 take-all-requires : tie.Need-take-all-requires
-take-all-requires c κs = (c .before .before .before .before .plan .ensures .room (c .before .before .if1 .left), c .before .before .before .before .plan .ensures .written (c .before .before .if1 .left) .listed)
+take-all-requires c κs =
+    let c₄ = c .before .before .before .before in let plan = c₄ .plan in
+    (plan .ensures .room (c .before .before .if1 .left), plan .ensures .written (c .before .before .if1 .left) .listed)
 
 back-all-requires : tie.Need-back-all-requires
-back-all-requires c κs = let p = c .before .before .before .before .before .before .before .before .before .plan .ensures in let z = c .before .before .before .before .before .before .before .if1 .left in let e = taken-same _ _ _ (p .room z) (p .written z) (c .before .before .before .before .take-all .ensures) in (same-room _ _ _ (p .room z) e, listed-then _ _ _ (p .room z) (p .written z) e, p .small z)
+back-all-requires c κs =
+    let c₄ = c .before .before .before .before in let take-all = c₄ .take-all in
+    let c₇ = c₄ .before .before .before in let if1 = c₇ .if1 in
+    let c₉ = c₇ .before .before in let plan = c₉ .plan in
+    let p = plan .ensures in let z = if1 .left in let e = taken-same _ _ _ (p .room z) (p .written z) (take-all .ensures) in
+    (same-room _ _ _ (p .room z) e, listed-then _ _ _ (p .room z) (p .written z) e, p .small z)
 
 carried-requires-2 : tie.Need-carried-requires-2
 carried-requires-2 c κs = search needs
@@ -38,7 +48,13 @@ same-length-2 : tie.Need-same-length-2
 same-length-2 c = search needs
 
 returns-2 : tie.Need-returns-2
-returns-2 c = accepted _ _ _ (handed _ _ 0 (c .before .before .before .before .before .before .before .before .before .before .before .before .before .before .before .before .before .pre) (c .carried2 .ensures)) (c .before .before .before .before .before .before .before .before .before .before .before .before .before .plan .ensures) (c .before .before .before .before .before .before .before .before .before .before .before .if1 .left) (c .before .before .before .before .before .before .before .before .take-all .ensures) (c .before .before .before .back-all .ensures)
+returns-2 c =
+    let c₃ = c .before .before .before in let back-all = c₃ .back-all in
+    let c₈ = c₃ .before .before .before .before .before in let take-all = c₈ .take-all in
+    let c₁₁ = c₈ .before .before .before in let if1 = c₁₁ .if1 in
+    let c₁₃ = c₁₁ .before .before in let plan = c₁₃ .plan in
+    let c₁₇ = c₁₃ .before .before .before .before in let p = c₁₇ .pre in
+    accepted _ _ _ (handed _ _ 0 p (c .carried2 .ensures)) (plan .ensures) (if1 .left) (take-all .ensures) (back-all .ensures)
 
 pub bring-back-checked-spec : {M : Type 1} → statement M
 bring-back-checked-spec =

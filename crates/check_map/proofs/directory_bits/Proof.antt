@@ -27,16 +27,22 @@ sub-bits : tie.Need-sub-bits Inv-loop μ-loop
 sub-bits c = spans-from {k = c .before .loop .k} (c .before .before .pre .4) (c .before .before .pre .0) (c .before .loop .inv .1)
 
 mul-bits : tie.Need-mul-bits Inv-loop μ-loop
-mul-bits c = let z = spot-lt {k = c .before .loop .k} (c .before .before .pre .4) (c .before .before .pre .0) (c .before .before .pre .1) (c .loop-test .taken) in omega arith
+mul-bits c = let z = spot-lt {k = c .before .loop .k} (c .before .before .pre .4) (c .before .before .pre .0) (c .before .before .pre .1)
+    (c .loop-test .taken) in
+    omega arith
 
 rem-bits : tie.Need-rem-bits Inv-loop μ-loop
 rem-bits c = search needs
 
 add-bits : tie.Need-add-bits Inv-loop μ-loop
-add-bits c = let z = spot-lt {k = c .before .loop .k} (c .before .before .pre .4) (c .before .before .pre .0) (c .before .before .pre .1) (c .loop-test .taken) in omega arith
+add-bits c = let z = spot-lt {k = c .before .loop .k} (c .before .before .pre .4) (c .before .before .pre .0) (c .before .before .pre .1)
+    (c .loop-test .taken) in
+    omega arith
 
 shl-bits : tie.Need-shl-bits Inv-loop μ-loop
-shl-bits c = let q = spot-lt {k = c .before .loop .k} (c .before .before .pre .4) (c .before .before .pre .0) (c .before .before .pre .1) (c .loop-test .taken) in omega arith
+shl-bits c = let q = spot-lt {k = c .before .loop .k} (c .before .before .pre .4) (c .before .before .pre .0) (c .before .before .pre .1)
+    (c .loop-test .taken) in
+    omega arith
 
 add-k : tie.Need-add-k Inv-loop μ-loop
 add-k c = let u = c .before .before .pre .1 in let z = c .before .before .pre .3 in let t = c .loop-test .taken in omega arith
@@ -46,8 +52,10 @@ loop-less c = let t = c .loop-test .taken in omega arith
 
 loop-again : tie.Need-loop-again Inv-loop μ-loop
 loop-again c = let t = c .loop-test .taken in (
-  window-step (c .before .before .args .units) (c .before .before .args .a) (c .before .before .args .at) (c .before .loop .k) (c .before .loop .bits) (c .before .loop .inv .1)
-      (spot-lt {k = c .before .loop .k} (c .before .before .pre .4) (c .before .before .pre .0) (c .before .before .pre .1) (c .loop-test .taken)) (c .before .loop .inv .0),
+  window-step (c .before .before .args .units) (c .before .before .args .a) (c .before .before .args .at) (c .before .loop .k) (c .before .loop .bits)
+      (c .before .loop .inv .1)
+      (spot-lt {k = c .before .loop .k} (c .before .before .pre .4) (c .before .before .pre .0) (c .before .before .pre .1) (c .loop-test .taken))
+      (c .before .loop .inv .0),
   let z = c .before .loop .inv .1 in omega arith,
   omega arith,
 )

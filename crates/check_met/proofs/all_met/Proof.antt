@@ -35,7 +35,12 @@ row-met-requires : tie.Need-row-met-requires Inv-loop μ-loop
 row-met-requires c κs = (omega arith, omega arith)
 
 returns : tie.Need-returns Inv-loop μ-loop
-returns c = rows-stop (c .before .before .before .loop .inv) (c .before .before .loop-test .taken) (is-no (c .before .row-met .ensures) (c .if1 .taken)) ∙ ap (every (metAt (c .before .before .before .before .before .before .args .met .now))) (rows-are _ _ (c .before .before .before .before .before .before .pre) (c .before .before .before .before .directory-sectors .ensures))
+returns c =
+    let c₃ = c .before .before .before in let l = c₃ .loop in
+    let c₄ = c₃ .before in let directory-sectors = c₄ .directory-sectors in
+    let c₆ = c₄ .before .before in let a = c₆ .args in let p = c₆ .pre in
+    rows-stop (l .inv) (c .before .before .loop-test .taken) (is-no (c .before .row-met .ensures) (c .if1 .taken)) ∙ ap (every (metAt (a .met .now)))
+    (rows-are _ _ p (directory-sectors .ensures))
 
 add-row : tie.Need-add-row Inv-loop μ-loop
 add-row c = search needs
@@ -47,7 +52,9 @@ loop-again : tie.Need-loop-again Inv-loop μ-loop
 loop-again c = rows-step (c .before .before .before .loop .inv) (c .before .before .loop-test .taken) (is-yes (c .before .row-met .ensures) (c .if1 .left))
 
 returns-2 : tie.Need-returns-2 Inv-loop μ-loop
-returns-2 c = rows-end (c .before .loop .inv) (c .loop-test .left) ∙ ap (every (metAt (c .before .before .before .before .args .met .now))) (rows-are _ _ (c .before .before .before .before .pre) (c .before .before .directory-sectors .ensures))
+returns-2 c =
+    let c₄ = c .before .before .before .before in let a = c₄ .args in let p = c₄ .pre in
+    rows-end (c .before .loop .inv) (c .loop-test .left) ∙ ap (every (metAt (a .met .now))) (rows-are _ _ p (c .before .before .directory-sectors .ensures))
 
 pub all-met-spec : {M : Type 1} → statement M
 all-met-spec =

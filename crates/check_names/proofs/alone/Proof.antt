@@ -31,22 +31,40 @@ sub-q : tie.Need-sub-q Inv-loop μ-loop
 sub-q c = search needs
 
 add-same-name : tie.Need-add-same-name Inv-loop μ-loop
-add-same-name c = let a = c .before .before .before .before .before .args in let w = here (a .g) (a .image .now) (a .next .now) (bucket (a .g) (a .image .now) (hit (a .g) (a .image .now) (a .s)) (a .s)) (a .s) (c .before .before .loop .x) (c .before .before .loop .inv) (c .before .loop-test .taken) in let lo = w .slot .low in let he = w .slot .held in omega arith
+add-same-name c = let a = c .before .before .before .before .before .args in
+    let w = here (a .g) (a .image .now) (a .next .now) (bucket (a .g) (a .image .now) (hit (a .g) (a .image .now) (a .s)) (a .s)) (a .s)
+    (c .before .before .loop .x) (c .before .before .loop .inv) (c .before .loop-test .taken) in
+    let lo = w .slot .low in let he = w .slot .held in omega arith
 
 add-same-name-2 : tie.Need-add-same-name-2 Inv-loop μ-loop
-add-same-name-2 c = let a = c .before .before .before .before .before .args in let w = here (a .g) (a .image .now) (a .next .now) (bucket (a .g) (a .image .now) (hit (a .g) (a .image .now) (a .s)) (a .s)) (a .s) (c .before .before .loop .x) (c .before .before .loop .inv) (c .before .loop-test .taken) in let lo = w .slot .low in let he = w .slot .held in omega arith
+add-same-name-2 c = let a = c .before .before .before .before .before .args in
+    let w = here (a .g) (a .image .now) (a .next .now) (bucket (a .g) (a .image .now) (hit (a .g) (a .image .now) (a .s)) (a .s)) (a .s)
+    (c .before .before .loop .x) (c .before .before .loop .inv) (c .before .loop-test .taken) in
+    let lo = w .slot .low in let he = w .slot .held in omega arith
 
 mul-same-name : tie.Need-mul-same-name Inv-loop μ-loop
-mul-same-name c = let a = c .before .before .before .before .before .args in let w = here (a .g) (a .image .now) (a .next .now) (bucket (a .g) (a .image .now) (hit (a .g) (a .image .now) (a .s)) (a .s)) (a .s) (c .before .before .loop .x) (c .before .before .loop .inv) (c .before .loop-test .taken) in let lo = w .slot .low in let he = w .slot .held in omega arith
+mul-same-name c = let a = c .before .before .before .before .before .args in
+    let w = here (a .g) (a .image .now) (a .next .now) (bucket (a .g) (a .image .now) (hit (a .g) (a .image .now) (a .s)) (a .s)) (a .s)
+    (c .before .before .loop .x) (c .before .before .loop .inv) (c .before .loop-test .taken) in
+    let lo = w .slot .low in let he = w .slot .held in omega arith
 
 mul-same-name-2 : tie.Need-mul-same-name-2 Inv-loop μ-loop
-mul-same-name-2 c = let a = c .before .before .before .before .before .args in let w = here (a .g) (a .image .now) (a .next .now) (bucket (a .g) (a .image .now) (hit (a .g) (a .image .now) (a .s)) (a .s)) (a .s) (c .before .before .loop .x) (c .before .before .loop .inv) (c .before .loop-test .taken) in let lo = w .slot .low in let he = w .slot .held in omega arith
+mul-same-name-2 c = let a = c .before .before .before .before .before .args in
+    let w = here (a .g) (a .image .now) (a .next .now) (bucket (a .g) (a .image .now) (hit (a .g) (a .image .now) (a .s)) (a .s)) (a .s)
+    (c .before .before .loop .x) (c .before .before .loop .inv) (c .before .loop-test .taken) in
+    let lo = w .slot .low in let he = w .slot .held in omega arith
 
 add-same-name-3 : tie.Need-add-same-name-3 Inv-loop μ-loop
-add-same-name-3 c = let a = c .before .before .before .before .before .args in let w = here (a .g) (a .image .now) (a .next .now) (bucket (a .g) (a .image .now) (hit (a .g) (a .image .now) (a .s)) (a .s)) (a .s) (c .before .before .loop .x) (c .before .before .loop .inv) (c .before .loop-test .taken) in let lo = w .slot .low in let he = w .slot .held in omega arith
+add-same-name-3 c = let a = c .before .before .before .before .before .args in
+    let w = here (a .g) (a .image .now) (a .next .now) (bucket (a .g) (a .image .now) (hit (a .g) (a .image .now) (a .s)) (a .s)) (a .s)
+    (c .before .before .loop .x) (c .before .before .loop .inv) (c .before .loop-test .taken) in
+    let lo = w .slot .low in let he = w .slot .held in omega arith
 
 add-same-name-4 : tie.Need-add-same-name-4 Inv-loop μ-loop
-add-same-name-4 c = let a = c .before .before .before .before .before .args in let w = here (a .g) (a .image .now) (a .next .now) (bucket (a .g) (a .image .now) (hit (a .g) (a .image .now) (a .s)) (a .s)) (a .s) (c .before .before .loop .x) (c .before .before .loop .inv) (c .before .loop-test .taken) in let lo = w .slot .low in let he = w .slot .held in omega arith
+add-same-name-4 c = let a = c .before .before .before .before .before .args in
+    let w = here (a .g) (a .image .now) (a .next .now) (bucket (a .g) (a .image .now) (hit (a .g) (a .image .now) (a .s)) (a .s)) (a .s)
+    (c .before .before .loop .x) (c .before .before .loop .inv) (c .before .loop-test .taken) in
+    let lo = w .slot .low in let he = w .slot .held in omega arith
 
 sub-same-name : tie.Need-sub-same-name Inv-loop μ-loop
 sub-same-name c = search needs
@@ -55,31 +73,75 @@ part-same-name-start : tie.Need-part-same-name-start Inv-loop μ-loop
 part-same-name-start c = search needs
 
 part-same-name-end : tie.Need-part-same-name-end Inv-loop μ-loop
-part-same-name-end c = let e = c .before .before .before .before .before .pre .2 in let h = c .before .before .before .before .before .pre .1 .held in let r = c .before .before .before .before .before .pre .0 .directory in let q = c .before .before .before .before .before .pre .0 .long in omega arith
+part-same-name-end c =
+    let c₅ = c .before .before .before .before .before in let p = c₅ .pre in
+    let e = p .2 in let h = p .1 .held in let r = p .0 .directory in let q = p .0 .long in omega arith
 
 same-name-requires : tie.Need-same-name-requires Inv-loop μ-loop
-same-name-requires c κs = let a = c .before .before .before .before .before .before .args in let w = here (a .g) (a .image .now) (a .next .now) (bucket (a .g) (a .image .now) (hit (a .g) (a .image .now) (a .s)) (a .s)) (a .s) (c .before .before .before .loop .x) (c .before .before .before .loop .inv) (c .before .before .loop-test .taken) in let lo = w .slot .low in let he = w .slot .held in (omega arith, omega arith)
+same-name-requires c κs = let a = c .before .before .before .before .before .before .args in
+    let w = here (a .g) (a .image .now) (a .next .now) (bucket (a .g) (a .image .now) (hit (a .g) (a .image .now) (a .s)) (a .s)) (a .s)
+    (c .before .before .before .loop .x) (c .before .before .before .loop .inv) (c .before .before .loop-test .taken) in
+    let lo = w .slot .low in let he = w .slot .held in (omega arith, omega arith)
 
 returns : tie.Need-returns Inv-loop μ-loop
-returns c = let a = c .before .before .before .before .before .before .before .before .args in let w = here (a .g) (a .image .now) (a .next .now) (bucket (a .g) (a .image .now) (hit (a .g) (a .image .now) (a .s)) (a .s)) (a .s) (c .before .before .before .before .before .loop .x) (c .before .before .before .before .before .loop .inv) (c .before .before .before .before .loop-test .taken) in searching-found (a .g) (a .image .now) (a .next .now) (bucket (a .g) (a .image .now) (hit (a .g) (a .image .now) (a .s)) (a .s)) (a .s) (c .before .before .before .before .before .loop .x) w (compared (a .g) (a .image .now) (a .s) (c .before .before .before .before .before .loop .x - 1) (a .at + 5 + 11 - (a .at + 5)) (a .at) (c .before .before .before .before .before .before .before .before .pre .0) (c .before .before .before .before .before .before .before .before .pre .1) (w .slot) (omega arith) (c .before .before .before .before .before .before .before .before .pre .2) (c .before .same-name .ensures) ∙ ap not (c .if1 .taken))
+returns c = let a = c .before .before .before .before .before .before .before .before .args in
+    let w = here (a .g) (a .image .now) (a .next .now) (bucket (a .g) (a .image .now) (hit (a .g) (a .image .now) (a .s)) (a .s)) (a .s)
+    (c .before .before .before .before .before .loop .x) (c .before .before .before .before .before .loop .inv)
+    (c .before .before .before .before .loop-test .taken) in
+    searching-found (a .g) (a .image .now) (a .next .now) (bucket (a .g) (a .image .now) (hit (a .g) (a .image .now) (a .s)) (a .s)) (a .s)
+    (c .before .before .before .before .before .loop .x) w
+    (compared (a .g) (a .image .now) (a .s) (c .before .before .before .before .before .loop .x - 1) (a .at + 5 + 11 - (a .at + 5)) (a .at)
+    (c .before .before .before .before .before .before .before .before .pre .0)
+    (c .before .before .before .before .before .before .before .before .pre .1) (w .slot) (omega arith)
+    (c .before .before .before .before .before .before .before .before .pre .2) (c .before .same-name .ensures) ∙ ap not (c .if1 .taken))
 
 mul-x : tie.Need-mul-x Inv-loop μ-loop
-mul-x c = let a = c .before .before .before .before .before .before .before .before .args in let w = here (a .g) (a .image .now) (a .next .now) (bucket (a .g) (a .image .now) (hit (a .g) (a .image .now) (a .s)) (a .s)) (a .s) (c .before .before .before .before .before .loop .x) (c .before .before .before .before .before .loop .inv) (c .before .before .before .before .loop-test .taken) in let lo = w .slot .low in let he = w .slot .held in omega arith
+mul-x c = let a = c .before .before .before .before .before .before .before .before .args in
+    let w = here (a .g) (a .image .now) (a .next .now) (bucket (a .g) (a .image .now) (hit (a .g) (a .image .now) (a .s)) (a .s)) (a .s)
+    (c .before .before .before .before .before .loop .x) (c .before .before .before .before .before .loop .inv)
+    (c .before .before .before .before .loop-test .taken) in
+    let lo = w .slot .low in let he = w .slot .held in omega arith
 
 shared-slice-read-x : tie.Need-shared-slice-read-x Inv-loop μ-loop
-shared-slice-read-x c = let a = c .before .before .before .before .before .before .before .before .before .args in let w = here (a .g) (a .image .now) (a .next .now) (bucket (a .g) (a .image .now) (hit (a .g) (a .image .now) (a .s)) (a .s)) (a .s) (c .before .before .before .before .before .before .loop .x) (c .before .before .before .before .before .before .loop .inv) (c .before .before .before .before .before .loop-test .taken) in let lo = w .slot .low in let he = w .slot .held in omega arith
+shared-slice-read-x c = let a = c .before .before .before .before .before .before .before .before .before .args in
+    let w = here (a .g) (a .image .now) (a .next .now) (bucket (a .g) (a .image .now) (hit (a .g) (a .image .now) (a .s)) (a .s)) (a .s)
+    (c .before .before .before .before .before .before .loop .x) (c .before .before .before .before .before .before .loop .inv)
+    (c .before .before .before .before .before .loop-test .taken) in
+    let lo = w .slot .low in let he = w .slot .held in omega arith
 
 cast-x : tie.Need-cast-x Inv-loop μ-loop
-cast-x c = let a = c .before .before .before .before .before .before .before .before .before .args in let w = here (a .g) (a .image .now) (a .next .now) (bucket (a .g) (a .image .now) (hit (a .g) (a .image .now) (a .s)) (a .s)) (a .s) (c .before .before .before .before .before .before .loop .x) (c .before .before .before .before .before .before .loop .inv) (c .before .before .before .before .before .loop-test .taken) in let lo = w .slot .low in let he = w .slot .held in let z = c .before .before .before .before .before .before .before .before .before .pre .5 (c .before .before .before .before .before .before .loop .x - 1) in omega arith
+cast-x c = let a = c .before .before .before .before .before .before .before .before .before .args in
+    let w = here (a .g) (a .image .now) (a .next .now) (bucket (a .g) (a .image .now) (hit (a .g) (a .image .now) (a .s)) (a .s)) (a .s)
+    (c .before .before .before .before .before .before .loop .x) (c .before .before .before .before .before .before .loop .inv)
+    (c .before .before .before .before .before .loop-test .taken) in
+    let lo = w .slot .low in let he = w .slot .held in
+    let z = c .before .before .before .before .before .before .before .before .before .pre .5 (c .before .before .before .before .before .before .loop .x - 1)
+    in
+    omega arith
 
 loop-less : tie.Need-loop-less Inv-loop μ-loop
-loop-less c = let a = c .before .before .before .before .before .before .before .before .before .args in let z = c .before .before .before .before .before .before .before .before .before .pre .5 (c .before .before .before .before .before .before .loop .x - 1) in omega arith
+loop-less c = let a = c .before .before .before .before .before .before .before .before .before .args in
+    let z = c .before .before .before .before .before .before .before .before .before .pre .5 (c .before .before .before .before .before .before .loop .x - 1)
+    in
+    omega arith
 
 loop-again : tie.Need-loop-again Inv-loop μ-loop
-loop-again c = let a = c .before .before .before .before .before .before .before .before .before .args in let w = here (a .g) (a .image .now) (a .next .now) (bucket (a .g) (a .image .now) (hit (a .g) (a .image .now) (a .s)) (a .s)) (a .s) (c .before .before .before .before .before .before .loop .x) (c .before .before .before .before .before .before .loop .inv) (c .before .before .before .before .before .loop-test .taken) in searching-on (a .g) (a .image .now) (a .next .now) (bucket (a .g) (a .image .now) (hit (a .g) (a .image .now) (a .s)) (a .s)) (a .s) (c .before .before .before .before .before .before .loop .x) w (compared (a .g) (a .image .now) (a .s) (c .before .before .before .before .before .before .loop .x - 1) (a .at + 5 + 11 - (a .at + 5)) (a .at) (c .before .before .before .before .before .before .before .before .before .pre .0) (c .before .before .before .before .before .before .before .before .before .pre .1) (w .slot) (omega arith) (c .before .before .before .before .before .before .before .before .before .pre .2) (c .before .before .same-name .ensures) ∙ ap not (c .before .if1 .left))
+loop-again c = let a = c .before .before .before .before .before .before .before .before .before .args in
+    let w = here (a .g) (a .image .now) (a .next .now) (bucket (a .g) (a .image .now) (hit (a .g) (a .image .now) (a .s)) (a .s)) (a .s)
+    (c .before .before .before .before .before .before .loop .x) (c .before .before .before .before .before .before .loop .inv)
+    (c .before .before .before .before .before .loop-test .taken) in
+    searching-on (a .g) (a .image .now) (a .next .now) (bucket (a .g) (a .image .now) (hit (a .g) (a .image .now) (a .s)) (a .s)) (a .s)
+    (c .before .before .before .before .before .before .loop .x) w
+    (compared (a .g) (a .image .now) (a .s) (c .before .before .before .before .before .before .loop .x - 1) (a .at + 5 + 11 - (a .at + 5)) (a .at)
+    (c .before .before .before .before .before .before .before .before .before .pre .0)
+    (c .before .before .before .before .before .before .before .before .before .pre .1) (w .slot) (omega arith)
+    (c .before .before .before .before .before .before .before .before .before .pre .2) (c .before .before .same-name .ensures) ∙ ap not
+    (c .before .if1 .left))
 
 returns-2 : tie.Need-returns-2 Inv-loop μ-loop
-returns-2 c = let a = c .before .before .before .before .args in searching-end (a .g) (a .image .now) (a .next .now) (bucket (a .g) (a .image .now) (hit (a .g) (a .image .now) (a .s)) (a .s)) (a .s) (c .before .loop .x) (c .before .loop .inv) (c .loop-test .left)
+returns-2 c = let a = c .before .before .before .before .args in
+    searching-end (a .g) (a .image .now) (a .next .now) (bucket (a .g) (a .image .now) (hit (a .g) (a .image .now) (a .s)) (a .s)) (a .s) (c .before .loop .x)
+    (c .before .loop .inv) (c .loop-test .left)
 
 pub alone-spec : {M : Type 1} → statement M
 alone-spec =

@@ -18,13 +18,25 @@ wide-requires : tie.Need-wide-requires
 wide-requires c κs = search needs
 
 alone-requires : tie.Need-alone-requires
-alone-requires c κs = let a = c .before .before .before .before .before .before .before .args in (c .before .before .before .before .before .before .before .pre .0, c .before .before .before .before .before .before .before .pre .1, c .before .before .before .before .before .before .before .pre .2, first-list (a .g) (a .image .now) (a .s) (a .head .now) (a .next .now) (c .before .before .before .before .before .before .before .pre .4) (c .before .before .before .hit .ensures .is) (c .before .before .before .hit .ensures .small) (c .before .wide .ensures .is), c .before .before .before .before .before .before .before .pre .4 .nexts, c .before .before .before .before .before .before .before .pre .4 .falls)
+alone-requires c κs = let a = c .before .before .before .before .before .before .before .args in (
+  c .before .before .before .before .before .before .before .pre .0,
+  c .before .before .before .before .before .before .before .pre .1,
+  c .before .before
+      .before .before .before .before .before .pre .2,
+  first-list (a .g) (a .image .now) (a .s) (a .head .now) (a .next .now)
+      (c .before .before .before .before .before .before .before .pre .4) (c .before .before .before .hit .ensures .is)
+      (c .before .before .before .hit .ensures .small) (c .before .wide .ensures .is),
+  c .before .before .before .before .before .before .before .pre .4
+      .nexts,
+  c .before .before .before .before .before .before .before .pre .4 .falls,
+)
 
 same-length : tie.Need-same-length
 same-length c = search needs
 
 returns : tie.Need-returns
-returns c = let a = c .before .before .before .before .before .before .before .before .before .args in joined-no (a .g) (a .image .now) (a .s) (a .head .now) (a .next .now) (c .before .alone .ensures) (c .if1 .taken)
+returns c = let a = c .before .before .before .before .before .before .before .before .before .args in
+    joined-no (a .g) (a .image .now) (a .s) (a .head .now) (a .next .now) (c .before .alone .ensures) (c .if1 .taken)
 
 cast-next : tie.Need-cast-next
 cast-next c = search needs
@@ -39,7 +51,9 @@ add-head : tie.Need-add-head
 add-head c = search needs
 
 cast-head : tie.Need-cast-head
-cast-head c = let h = next-low _ _ _ (c .before .before .before .before .before .before .before .before .before .pre .0) (c .before .before .before .before .before .before .before .before .before .pre .1) in search needs
+cast-head c =
+    let c₉ = c .before .before .before .before .before .before .before .before .before in let p = c₉ .pre in
+    let h = next-low _ _ _ (p .0) (p .1) in search needs
 
 slice-write-head : tie.Need-slice-write-head
 slice-write-head c = search needs
@@ -51,7 +65,12 @@ same-length-3 : tie.Need-same-length-3
 same-length-3 c = search needs
 
 returns-2 : tie.Need-returns-2
-returns-2 c = let a = c .before .before .before .before .before .before .before .before .before .args in joined-yes (a .g) (a .image .now) (a .s) (a .head .now) (a .next .now) (c .before .before .before .before .before .before .before .before .before .pre .4) (c .before .before .before .before .before .before .before .before .before .pre .1) (c .before .before .before .before .before .before .before .before .before .pre .3) (c .before .before .before .before .before .hit .ensures .is) (c .before .before .before .before .before .hit .ensures .small) (c .before .before .before .wide .ensures .is) (c .before .alone .ensures) (c .if1 .left)
+returns-2 c = let a = c .before .before .before .before .before .before .before .before .before .args in
+    joined-yes (a .g) (a .image .now) (a .s) (a .head .now) (a .next .now) (c .before .before .before .before .before .before .before .before .before .pre .4)
+    (c .before .before .before .before .before .before .before .before .before .pre .1)
+    (c .before .before .before .before .before .before .before .before .before .pre .3) (c .before .before .before .before .before .hit .ensures .is)
+    (c .before .before .before .before .before .hit .ensures .small) (c .before .before .before .wide .ensures .is) (c .before .alone .ensures)
+    (c .if1 .left)
 
 pub joins-spec : {M : Type 1} → statement M
 joins-spec =

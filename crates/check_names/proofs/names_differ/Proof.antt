@@ -26,7 +26,10 @@ slice-aggregate-row-differs-2 : tie.Need-slice-aggregate-row-differs-2 Inv-loop 
 slice-aggregate-row-differs-2 c = search needs
 
 row-differs-requires : tie.Need-row-differs-requires Inv-loop μ-loop
-row-differs-requires c κs = (c .before .before .before .before .before .pre .0, c .before .before .before .before .before .pre .1, c .before .before .loop-test .taken, c .before .before .before .loop .inv .0)
+row-differs-requires c κs =
+    let c₃ = c .before .before .before in let l = c₃ .loop in
+    let c₅ = c₃ .before .before in let p = c₅ .pre in
+    (p .0, p .1, c .before .before .loop-test .taken, l .inv .0)
 
 returns : tie.Need-returns Inv-loop μ-loop
 returns c = c .before .before .before .row-differs .ensures .bad (not-true (c .before .before .before .row-differs .result) (c .if1 .taken))
@@ -38,7 +41,11 @@ loop-less : tie.Need-loop-less Inv-loop μ-loop
 loop-less c = search needs
 
 loop-again : tie.Need-loop-again Inv-loop μ-loop
-loop-again c = (c .before .before .before .row-differs .ensures .good (not-false (c .before .before .before .row-differs .result) (c .if1 .left)), omega arith)
+loop-again c = (
+  c .before .before .before .row-differs .ensures .good (not-false (c .before .before .before .row-differs .result) (c .if1 .left)),
+  omega
+      arith,
+)
 
 returns-2 : tie.Need-returns-2 Inv-loop μ-loop
 returns-2 c = differing-end _ _ (32 * c .before .loop .row) _ _ (c .before .loop .inv .0) (omega arith)

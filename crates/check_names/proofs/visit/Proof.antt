@@ -13,10 +13,15 @@ primary-at-requires : tie.Need-primary-at-requires
 primary-at-requires c κs = search needs
 
 returns : tie.Need-returns
-returns c = let a = c .before .before .before .before .before .args in visit-other (a .g) (a .image .now) (a .s) (a .head .now) (a .next .now) (c .before .before .before .before .before .pre .4) (c .before .before .before .before .before .pre .2 .low) (c .before .primary-at .ensures) (c .if1 .taken)
+returns c = let a = c .before .before .before .before .before .args in
+    visit-other (a .g) (a .image .now) (a .s) (a .head .now) (a .next .now) (c .before .before .before .before .before .pre .4)
+    (c .before .before .before .before .before .pre .2 .low) (c .before .primary-at .ensures) (c .if1 .taken)
 
 joins-requires : tie.Need-joins-requires
-joins-requires c κs = let z = not-false (c .before .before .before .primary-at .result) (c .before .before .if1 .left) in (c .before .before .before .before .before .before .before .pre .0, c .before .before .before .before .before .before .before .pre .2, c .before .before .before .before .before .before .before .pre .3, sym (c .before .before .before .primary-at .ensures) ∙ z, c .before .before .before .before .before .before .before .pre .4 .lists)
+joins-requires c κs =
+    let c₃ = c .before .before .before in let primary-at = c₃ .primary-at in
+    let c₇ = c₃ .before .before .before .before in let p = c₇ .pre in
+    let z = not-false (primary-at .result) (c .before .before .if1 .left) in (p .0, p .2, p .3, sym (primary-at .ensures) ∙ z, p .4 .lists)
 
 same-length : tie.Need-same-length
 same-length c = search needs
@@ -25,7 +30,12 @@ same-length-2 : tie.Need-same-length-2
 same-length-2 c = search needs
 
 returns-2 : tie.Need-returns-2
-returns-2 c = let a = c .before .before .before .before .before .before .before .before .before .before .before .before .args in visit-file (a .g) (a .image .now) (c .before .before .before .before .before .before .before .before .before .before .before .before .pre .1) (a .s) (a .head .now) (a .next .now) _ _ (c .before .before .before .before .before .before .before .before .before .before .before .before .pre .4) (c .before .before .before .before .before .before .before .before .before .before .before .before .pre .2) (c .before .before .before .before .before .before .before .before .primary-at .ensures) (c .before .before .before .before .before .before .before .if1 .left) (c .before .before .before .before .joins .ensures)
+returns-2 c = let a = c .before .before .before .before .before .before .before .before .before .before .before .before .args in
+    visit-file (a .g) (a .image .now) (c .before .before .before .before .before .before .before .before .before .before .before .before .pre .1) (a .s)
+    (a .head .now) (a .next .now) _ _ (c .before .before .before .before .before .before .before .before .before .before .before .before .pre .4)
+    (c .before .before .before .before .before .before .before .before .before .before .before .before .pre .2)
+    (c .before .before .before .before .before .before .before .before .primary-at .ensures)
+    (c .before .before .before .before .before .before .before .if1 .left) (c .before .before .before .before .joins .ensures)
 
 pub visit-spec : {M : Type 1} → statement M
 visit-spec =

@@ -118,7 +118,9 @@ entry-walk-returns-3 : (t : ℕ) → entry-walk-lts.Need-returns-3 (
   marker-walk-below t,
   marker-walk.Post,
 ) (entry-walk-at t) entry-walk.Post
-entry-walk-returns-3 t c = walked-entry-no _ _ _ _ (c .before .before .before .before .before .before .if1 .left) (c .before .before .take-runs .ensures) (c .if3 .taken)
+entry-walk-returns-3 t c =
+    let c₆ = c .before .before .before .before .before .before in let if1 = c₆ .if1 in
+    walked-entry-no _ _ _ _ (if1 .left) (c .before .before .take-runs .ensures) (c .if3 .taken)
 
 entry-walk-field-at-requires : (t : ℕ) → entry-walk-lts.Need-field-at-requires (
   take-runs-reads.Asked,
@@ -167,8 +169,15 @@ entry-walk-mul-result : (t : ℕ) → entry-walk-lts.Need-mul-result (
   marker-walk.Post,
 ) (entry-walk-at t) entry-walk.Post
 entry-walk-mul-result t c =
-    let a = c .before .before .before .before .before .before .before .before .before .before .before .before .args in let p = c .before .before .before .before .before .before .take-runs in
-    let h : a .owned + p .result .granules ≤ 65536 = omega (arith, p .ensures .few, c .before .before .before .before .before .before .before .before .before .before .before .before .pre .1 .2, c .before .before .before .before .before .before .before .before .before .before .if1 .left) in
+    let a = c .before .before .before .before .before .before .before .before .before .before .before .before .args in
+    let p = c .before .before .before .before .before .before .take-runs in
+    let h : a .owned + p .result .granules ≤ 65536 = omega (
+      arith,
+      p .ensures .few,
+      c .before .before .before .before .before .before .before .before .before .before .before .before .pre .1 .2,
+      c .before
+          .before .before .before .before .before .before .before .before .before .if1 .left,
+    ) in
     omega (arith, mul-le-mul (c .before .granule-sectors .ensures .few) h)
 
 entry-walk-returns-4 : (t : ℕ) → entry-walk-lts.Need-returns-4 (
@@ -181,7 +190,14 @@ entry-walk-returns-4 : (t : ℕ) → entry-walk-lts.Need-returns-4 (
   marker-walk-below t,
   marker-walk.Post,
 ) (entry-walk-at t) entry-walk.Post
-entry-walk-returns-4 t c = walked-entry _ _ _ _ (c .before .before .before .before .before .before .before .before .before .before .if1 .left) (c .before .before .before .before .before .before .before .before .if2 .left) (c .before .before .before .before .before .before .take-runs .ensures) (c .before .before .before .before .if3 .left) (walked-end _ _ _ _ _ _ (c .before .granule-sectors .ensures .is) (c .before .before .before .field-at .ensures .is) (c .before .before .if4 .taken))
+entry-walk-returns-4 t c =
+    let c₃ = c .before .before .before in let field-at = c₃ .field-at in
+    let c₄ = c₃ .before in let if3 = c₄ .if3 in
+    let c₆ = c₄ .before .before in let take-runs = c₆ .take-runs in
+    let c₈ = c₆ .before .before in let if2 = c₈ .if2 in
+    let c₁₀ = c₈ .before .before in let if1 = c₁₀ .if1 in
+    walked-entry _ _ _ _ (if1 .left) (if2 .left) (take-runs .ensures) (if3 .left)
+    (walked-end _ _ _ _ _ _ (c .before .granule-sectors .ensures .is) (field-at .ensures .is) (c .before .before .if4 .taken))
 
 entry-walk-sub-marker-walk : (t : ℕ) → entry-walk-lts.Need-sub-marker-walk (
   take-runs-reads.Asked,
@@ -217,7 +233,13 @@ entry-walk-marker-walk-requires : (t : ℕ) → entry-walk-lts.Need-marker-walk-
   marker-walk-below t,
   marker-walk.Post,
 ) (entry-walk-at t) entry-walk.Post
-entry-walk-marker-walk-requires t c κs = (omega arith, (c .before .before .before .before .before .before .before .before .before .before .before .before .before .pre .1 .0, c .before .before .before .before .before .before .before .before .before .before .before .before .before .pre .1 .1, c .before .before .before .before .before .before .before .take-runs .ensures .runs-is (not-false _ (c .before .before .before .before .before .if3 .left)), omega arith, λ z. c .before .before .before .if4 .left (c .before .before .before .before .field-at .ensures .is ∙ z)))
+entry-walk-marker-walk-requires t c κs =
+    let c₃ = c .before .before .before in let if4 = c₃ .if4 in
+    let c₄ = c₃ .before in let field-at = c₄ .field-at in
+    let c₅ = c₄ .before in let if3 = c₅ .if3 in
+    let c₇ = c₅ .before .before in let take-runs = c₇ .take-runs in
+    let c₁₃ = c₇ .before .before .before .before .before .before in let p = c₁₃ .pre in
+    (omega arith, (p .1 .0, p .1 .1, take-runs .ensures .runs-is (not-false _ (if3 .left)), omega arith, λ z. if4 .left (field-at .ensures .is ∙ z)))
 
 entry-walk-returns-5 : (t : ℕ) → entry-walk-lts.Need-returns-5 (
   take-runs-reads.Asked,
@@ -229,7 +251,12 @@ entry-walk-returns-5 : (t : ℕ) → entry-walk-lts.Need-returns-5 (
   marker-walk-below t,
   marker-walk.Post,
 ) (entry-walk-at t) entry-walk.Post
-entry-walk-returns-5 t c = walked-entry _ _ _ _ (c .before .before .before .before .before .before .before .before .before .before .before .before .if1 .left) (c .before .before .before .before .before .before .before .before .before .before .if2 .left) (c .before .before .before .before .before .before .before .before .take-runs .ensures) (c .before .before .before .before .before .before .if3 .left) (c .marker-walk .ensures)
+entry-walk-returns-5 t c =
+    let c₆ = c .before .before .before .before .before .before in let if3 = c₆ .if3 in
+    let c₈ = c₆ .before .before in let take-runs = c₈ .take-runs in
+    let c₁₀ = c₈ .before .before in let if2 = c₁₀ .if2 in
+    let c₁₂ = c₁₀ .before .before in let if1 = c₁₂ .if1 in
+    walked-entry _ _ _ _ (if1 .left) (if2 .left) (take-runs .ensures) (if3 .left) (c .marker-walk .ensures)
 
 marker-walk-goes-on-requires : (t : ℕ) → marker-walk-lts.Need-goes-on-requires (
   goes-on-reads.Asked,
@@ -277,7 +304,12 @@ marker-walk-entry-at-requires : (t : ℕ) → marker-walk-lts.Need-entry-at-requ
   entry-walk-below t,
   entry-walk.Post,
 ) (marker-walk-at t) marker-walk.Post
-marker-walk-entry-at-requires t c κs = (c .before .before .before .before .pre .1 .0, slot-of _ _ _ (ap (isSlot (c .before .before .before .before .args .g) (c .before .before .before .before .args .image .now)) (c .field-at .ensures .is) ∙ goes-slot _ _ _ _ (is-yes (c .before .before .goes-on .ensures) (c .before .if1 .left))))
+marker-walk-entry-at-requires t c κs =
+    let c₄ = c .before .before .before .before in let a = c₄ .args in let p = c₄ .pre in (
+      p .1 .0,
+      slot-of _ _ _ (ap (isSlot (a .g) (a .image .now)) (c .field-at .ensures .is) ∙ goes-slot _ _ _ _
+          (is-yes (c .before .before .goes-on .ensures) (c .before .if1 .left))),
+    )
 
 marker-walk-entry-walk-requires : (t : ℕ) → marker-walk-lts.Need-entry-walk-requires (
   goes-on-reads.Asked,
@@ -289,7 +321,9 @@ marker-walk-entry-walk-requires : (t : ℕ) → marker-walk-lts.Need-entry-walk-
   entry-walk-below t,
   entry-walk.Post,
 ) (marker-walk-at t) marker-walk.Post
-marker-walk-entry-walk-requires t c κs = (omega arith, (c .before .before .before .before .before .before .before .pre .1 .0, c .before .before .entry-at .ensures, omega arith))
+marker-walk-entry-walk-requires t c κs =
+    let c₇ = c .before .before .before .before .before .before .before in let p = c₇ .pre in
+    (omega arith, (p .1 .0, c .before .before .entry-at .ensures, omega arith))
 
 marker-walk-returns-2 : (t : ℕ) → marker-walk-lts.Need-returns-2 (
   goes-on-reads.Asked,
@@ -301,7 +335,12 @@ marker-walk-returns-2 : (t : ℕ) → marker-walk-lts.Need-returns-2 (
   entry-walk-below t,
   entry-walk.Post,
 ) (marker-walk-at t) marker-walk.Post
-marker-walk-returns-2 t c = walked-on _ _ _ _ _ refl (c .before .before .before .before .before .before .before .before .pre .1 .4) (is-yes (c .before .before .before .before .before .before .goes-on .ensures) (c .before .before .before .before .before .if1 .left)) (c .before .before .before .before .field-at .ensures .is) (c .entry-walk .ensures)
+marker-walk-returns-2 t c =
+    let c₄ = c .before .before .before .before in let field-at = c₄ .field-at in
+    let c₅ = c₄ .before in let if1 = c₅ .if1 in
+    let c₆ = c₅ .before in let goes-on = c₆ .goes-on in
+    let c₈ = c₆ .before .before in let p = c₈ .pre in
+    walked-on _ _ _ _ _ refl (p .1 .4) (is-yes (goes-on .ensures) (if1 .left)) (field-at .ensures .is) (c .entry-walk .ensures)
 
 pub +entry-walk+marker-walk-spec : {M : Type 1} → statement M
 +entry-walk+marker-walk-spec = close μ-entry-walk μ-marker-walk (λ t. entry-walk-lts.spec (

@@ -20,7 +20,11 @@ wide-requires c κs = search needs
 
 returns : tie.Need-returns
 unfolding field
-returns c = record { is = c .wide .ensures .is ∙ ap (λ (x : ℕ). getD (c .before .before .before .args .image .now) (x + c .before .before .before .args .k) 0) (c .before .before .before .pre .1 .is); small = c .wide .ensures .small }
+returns c = record {
+  is = c .wide .ensures .is ∙ ap (λ (x : ℕ). getD (c .before .before .before .args .image .now) (x + c .before .before .before .args .k) 0)
+      (c .before .before .before .pre .1 .is);
+  small = c .wide .ensures .small;
+}
 
 pub field-at-spec : {M : Type 1} → statement M
 field-at-spec = tie.close (tie.spec add-wide shared-slice-read-wide wide-requires returns)

@@ -26,7 +26,9 @@ take-runs-requires : tie.Need-take-runs-requires
 take-runs-requires c κs = search needs
 
 returns-2 : tie.Need-returns-2
-returns-2 c = walked-entry-no _ _ _ _ (c .before .before .before .before .before .before .before .pre .2) (c .before .before .take-runs .ensures) (c .if2 .taken)
+returns-2 c =
+    let c₇ = c .before .before .before .before .before .before .before in let p = c₇ .pre in
+    walked-entry-no _ _ _ _ (p .2) (c .before .before .take-runs .ensures) (c .if2 .taken)
 
 field-at-requires : tie.Need-field-at-requires
 field-at-requires c κs = search needs
@@ -35,19 +37,38 @@ granule-sectors-requires : tie.Need-granule-sectors-requires
 granule-sectors-requires c κs = search needs
 
 mul-result : tie.Need-mul-result
-mul-result c = omega (arith, mul-le-mul (c .before .granule-sectors .ensures .few) (c .before .before .before .before .before .before .take-runs .ensures .few))
+mul-result c =
+    let c₆ = c .before .before .before .before .before .before in let take-runs = c₆ .take-runs in
+    omega (arith, mul-le-mul (c .before .granule-sectors .ensures .few) (take-runs .ensures .few))
 
 returns-3 : tie.Need-returns-3
-returns-3 c = walked-first _ _ _ _ (c .before .before .before .before .before .before .before .before .before .before .before .pre .2) (c .before .before .before .before .before .before .before .before .if1 .left) (c .before .before .before .before .before .before .take-runs .ensures) (c .before .before .before .before .if2 .left) (walked-end _ _ _ _ _ _ (c .before .granule-sectors .ensures .is) (c .before .before .before .field-at .ensures .is) (c .before .before .if3 .taken))
+returns-3 c =
+    let c₃ = c .before .before .before in let field-at = c₃ .field-at in
+    let c₄ = c₃ .before in let if2 = c₄ .if2 in
+    let c₆ = c₄ .before .before in let take-runs = c₆ .take-runs in
+    let c₈ = c₆ .before .before in let if1 = c₈ .if1 in
+    let c₁₁ = c₈ .before .before .before in let p = c₁₁ .pre in
+    walked-first _ _ _ _ (p .2) (if1 .left) (take-runs .ensures) (if2 .left)
+    (walked-end _ _ _ _ _ _ (c .before .granule-sectors .ensures .is) (field-at .ensures .is) (c .before .before .if3 .taken))
 
 sub-marker-walk : tie.Need-sub-marker-walk
 sub-marker-walk c = search needs
 
 marker-walk-requires : tie.Need-marker-walk-requires
-marker-walk-requires c κs = (c .before .before .before .before .before .before .before .before .before .before .before .pre .0, c .before .before .before .before .before .before .before .before .before .before .before .pre .1, c .before .before .before .before .before .before .take-runs .ensures .runs-is (not-false _ (c .before .before .before .before .if2 .left)), omega arith, λ z. c .before .before .if3 .left (c .before .before .before .field-at .ensures .is ∙ z))
+marker-walk-requires c κs =
+    let c₃ = c .before .before .before in let field-at = c₃ .field-at in
+    let c₄ = c₃ .before in let if2 = c₄ .if2 in
+    let c₆ = c₄ .before .before in let take-runs = c₆ .take-runs in
+    let c₁₁ = c₆ .before .before .before .before .before in let p = c₁₁ .pre in
+    (p .0, p .1, take-runs .ensures .runs-is (not-false _ (if2 .left)), omega arith, λ z. c .before .before .if3 .left (field-at .ensures .is ∙ z))
 
 returns-4 : tie.Need-returns-4
-returns-4 c = walked-first _ _ _ _ (c .before .before .before .before .before .before .before .before .before .before .before .before .pre .2) (c .before .before .before .before .before .before .before .before .before .if1 .left) (c .before .before .before .before .before .before .before .take-runs .ensures) (c .before .before .before .before .before .if2 .left) (c .marker-walk .ensures)
+returns-4 c =
+    let c₅ = c .before .before .before .before .before in let if2 = c₅ .if2 in
+    let c₇ = c₅ .before .before in let take-runs = c₇ .take-runs in
+    let c₉ = c₇ .before .before in let if1 = c₉ .if1 in
+    let c₁₂ = c₉ .before .before .before in let p = c₁₂ .pre in
+    walked-first _ _ _ _ (p .2) (if1 .left) (take-runs .ensures) (if2 .left) (c .marker-walk .ensures)
 
 pub file-walk-spec : {M : Type 1} → statement M
 file-walk-spec =

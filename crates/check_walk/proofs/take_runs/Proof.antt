@@ -33,13 +33,21 @@ no-runs-requires : tie.Need-no-runs-requires Inv-loop μ-loop
 no-runs-requires c κs = search needs
 
 returns : tie.Need-returns Inv-loop μ-loop
-returns c = entering-stop _ _ _ (c .before .before .before .before .loop .inv) (c .before .before .before .loop-test .taken) (c .before .before .field-at .ensures .is) (c .before .if1 .taken) (c .no-runs .ensures)
+returns c =
+    let c₃ = c .before .before .before in let loop-test = c₃ .loop-test in
+    let c₄ = c₃ .before in let l = c₄ .loop in
+    entering-stop _ _ _ (l .inv) (loop-test .taken) (c .before .before .field-at .ensures .is) (c .before .if1 .taken) (c .no-runs .ensures)
 
 take-run-requires : tie.Need-take-run-requires Inv-loop μ-loop
 take-run-requires c κs = search needs
 
 returns-2 : tie.Need-returns-2 Inv-loop μ-loop
-returns-2 c = entering-bad _ _ _ (c .before .before .before .before .before .before .loop .inv) (c .before .before .before .before .before .loop-test .taken) (c .before .before .before .before .field-at .ensures .is) (c .before .before .before .if1 .left) (rw (c .if2 .taken) at (c .before .take-run .ensures))
+returns-2 c =
+    let c₃ = c .before .before .before in let if1 = c₃ .if1 in
+    let c₄ = c₃ .before in let field-at = c₄ .field-at in
+    let c₅ = c₄ .before in let loop-test = c₅ .loop-test in
+    let c₆ = c₅ .before in let l = c₆ .loop in
+    entering-bad _ _ _ (l .inv) (loop-test .taken) (field-at .ensures .is) (if1 .left) (rw (c .if2 .taken) at (c .before .take-run .ensures))
 
 add-n : tie.Need-add-n Inv-loop μ-loop
 add-n c = omega arith
@@ -51,7 +59,12 @@ loop-less : tie.Need-loop-less Inv-loop μ-loop
 loop-less c = omega arith
 
 loop-again : tie.Need-loop-again Inv-loop μ-loop
-loop-again c = entering-step _ _ _ (c .before .before .before .before .before .before .loop .inv) (c .before .before .before .before .before .loop-test .taken) (c .before .before .before .before .field-at .ensures .is) (c .before .before .before .if1 .left) (c .before .take-run .ensures) (c .if2 .left)
+loop-again c =
+    let c₃ = c .before .before .before in let if1 = c₃ .if1 in
+    let c₄ = c₃ .before in let field-at = c₄ .field-at in
+    let c₅ = c₄ .before in let loop-test = c₅ .loop-test in
+    let c₆ = c₅ .before in let l = c₆ .loop in
+    entering-step _ _ _ (l .inv) (loop-test .taken) (field-at .ensures .is) (if1 .left) (c .before .take-run .ensures) (c .if2 .left)
 
 returns-3 : tie.Need-returns-3 Inv-loop μ-loop
 returns-3 c = entering-end _ _ _ (c .before .loop .inv) (c .loop-test .left)

@@ -21,11 +21,24 @@ directory-granules-requires c κs = search needs
 
 directory-bits-requires : tie.Need-directory-bits-requires
 directory-bits-requires c κs =
-    let p = c .before .before .before .before .pre in let e = c .directory-granules .ensures .is in let z = c .directory-granules .ensures .small in
-    (p .0 .units-low, p .0 .units-high, omega arith, on-map-at _ _ (rw (← c .before .before .granule-sectors .ensures .is) refl) e (p .0), spans-at _ _ (rw (← c .before .before .granule-sectors .ensures .is) refl) e (p .1))
+    let p = c .before .before .before .before .pre in let e = c .directory-granules .ensures .is in let z = c .directory-granules .ensures .small in (
+      p .0 .units-low,
+      p .0 .units-high,
+      omega arith,
+      on-map-at _ _ (rw (← c .before .before .granule-sectors .ensures .is) refl) e (p .0),
+      spans-at _ _
+          (rw (← c .before .before .granule-sectors .ensures .is) refl) e (p .1),
+    )
 
 returns : tie.Need-returns
-returns c = record { spans = c .before .before .before .before .before .pre .1; window = window-at _ _ (rw (← c .before .before .before .granule-sectors .ensures .is) refl) (c .before .directory-granules .ensures .is) (c .directory-bits .ensures) }
+returns c =
+    let c₃ = c .before .before .before in let granule-sectors = c₃ .granule-sectors in
+    let c₅ = c₃ .before .before in let p = c₅ .pre in
+    record {
+      spans = p .1;
+      window = window-at _ _ (rw (← granule-sectors .ensures .is) refl) (c .before .directory-granules .ensures .is)
+          (c .directory-bits .ensures);
+    }
 
 pub directory-bits-spec : {M : Type 1} → statement M
 directory-bits-spec =

@@ -19,10 +19,18 @@ div-block-2 : tie.Need-div-block-2
 div-block-2 c = search needs
 
 returns : tie.Need-returns
-returns c = base-spans (c .before .before .before .before .before .args .g .units) _ _ (base-own (rw (← c .before .before .before .granule-sectors .ensures .is) (c .if1 .taken)) (rw (← c .before .before .before .granule-sectors .ensures .is) refl)) ((c .before .before .before .before .before .pre) .units-low) (touched-few _ _ (c .before .before .before .before .before .pre .thirty)) (directory-on-map _ _ (c .before .before .before .before .before .pre))
+returns c =
+    let c₃ = c .before .before .before in let granule-sectors = c₃ .granule-sectors in
+    let c₅ = c₃ .before .before in let a = c₅ .args in let p = c₅ .pre in
+    base-spans (a .g .units) _ _ (base-own (rw (← granule-sectors .ensures .is) (c .if1 .taken)) (rw (← granule-sectors .ensures .is) refl)) ((p) .units-low)
+    (touched-few _ _ (p .thirty)) (directory-on-map _ _ p)
 
 returns-2 : tie.Need-returns-2
-returns-2 c = base-spans (c .before .before .before .before .before .args .g .units) _ _ (base-last (rw (← c .before .before .before .granule-sectors .ensures .is) (c .if1 .left)) refl) ((c .before .before .before .before .before .pre) .units-low) (touched-few _ _ (c .before .before .before .before .before .pre .thirty)) (directory-on-map _ _ (c .before .before .before .before .before .pre))
+returns-2 c =
+    let c₃ = c .before .before .before in let granule-sectors = c₃ .granule-sectors in
+    let c₅ = c₃ .before .before in let a = c₅ .args in let p = c₅ .pre in
+    base-spans (a .g .units) _ _ (base-last (rw (← granule-sectors .ensures .is) (c .if1 .left)) refl) ((p) .units-low) (touched-few _ _ (p .thirty))
+    (directory-on-map _ _ p)
 
 pub directory-from-spec : {M : Type 1} → statement M
 directory-from-spec =

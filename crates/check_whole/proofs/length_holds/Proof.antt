@@ -47,7 +47,11 @@ mul-result : tie.Need-mul-result
 mul-result c = omega (arith, mul-le-mul (c .before .granules .ensures .1) (c .granule-sectors .ensures .few))
 
 returns-3 : tie.Need-returns-3
-returns-3 c = length-rest _ _ (c .before .before .before .before .before .wide .ensures .is) (c .before .before .before .before .if1 .left) (c .before .before .before .if2 .left) (c .before .granules .ensures .0) (c .granule-sectors .ensures .is)
+returns-3 c =
+    let c₃ = c .before .before .before in let if2 = c₃ .if2 in
+    let c₄ = c₃ .before in let if1 = c₄ .if1 in
+    let c₅ = c₄ .before in let wide = c₅ .wide in
+    length-rest _ _ (wide .ensures .is) (if1 .left) (if2 .left) (c .before .granules .ensures .0) (c .granule-sectors .ensures .is)
 
 pub length-holds-spec : {M : Type 1} → statement M
 length-holds-spec =

@@ -1,7 +1,8 @@
 use Prim.Native.Nat.{_-_}
 use borrow.Author.Tests.{not-true, not-false}
 use Rattle.check_whole.specs.Slots.{sectorSlots, diskSlots}
-use Rattle.check_whole.proofs.SlotBySlot.{Seeing, seeing-start, seeing-as, seeing-step, seeing-stop, seeing-end, sectorsFrom, sectors-are, sectors-more, sectors-none}
+use Rattle.check_whole.proofs.SlotBySlot.{Seeing, seeing-start, seeing-as, seeing-step, seeing-stop, seeing-end, sectorsFrom, sectors-are}
+use Rattle.check_whole.proofs.SlotBySlot.{sectors-more, sectors-none}
 use borrow.Author.Needs.{needs}
 use native.Mathlib.Omega.{arith}
 use Rattle.check_map.specs.Owners.{standing}
@@ -13,7 +14,8 @@ use Rattle.check_whole.proofs.sector_holds.Reads as sector-holds-reads
 use Rattle.layout.proofs.directory_sectors.Reads as directory-sectors-reads
 
 abbrev Inv-loop : tie.InvT-loop
-Inv-loop image g map₀ met₀ from bits columns column₀ map met column = Seeing g image (standing g image map₀) met₀ (diskSlots g image) (standing g image map) met (sectorsFrom columns column)
+Inv-loop image g map₀ met₀ from bits columns column₀ map met column = Seeing g image (standing g image map₀) met₀ (diskSlots g image) (standing g image map)
+    met (sectorsFrom columns column)
 
 abbrev μ-loop : tie.MeasureT-loop
 μ-loop image g map₀ met₀ from bits columns column₀ map met column = columns - column
@@ -28,10 +30,16 @@ loop-holds : tie.Need-loop-holds Inv-loop μ-loop
 loop-holds c = seeing-start _ _ _ _ (sectors-are _ _ (c .directory-sectors .ensures))
 
 sector-holds-requires : tie.Need-sector-holds-requires Inv-loop μ-loop
-sector-holds-requires c κs = (c .before .before .before .before .before .before .pre .0, omega arith, c .before .before .before .before .before .before .pre .1)
+sector-holds-requires c κs =
+    let c₆ = c .before .before .before .before .before .before in let p = c₆ .pre in
+    (p .0, omega arith, p .1)
 
 returns : tie.Need-returns Inv-loop μ-loop
-returns c = seeing-stop _ _ (sectorSlots (c .before .before .before .before .before .loop .column)) _ (seeing-as _ _ (c .before .before .before .before .before .loop .inv) (sectors-more (c .before .before .before .before .loop-test .taken))) (c .before .sector-holds .ensures) (not-true _ (c .if1 .taken))
+returns c =
+    let c₄ = c .before .before .before .before in let loop-test = c₄ .loop-test in
+    let c₅ = c₄ .before in let l = c₅ .loop in
+    seeing-stop _ _ (sectorSlots (l .column)) _ (seeing-as _ _ (l .inv) (sectors-more (loop-test .taken))) (c .before .sector-holds .ensures)
+    (not-true _ (c .if1 .taken))
 
 add-column : tie.Need-add-column Inv-loop μ-loop
 add-column c = search needs
@@ -40,7 +48,11 @@ loop-less : tie.Need-loop-less Inv-loop μ-loop
 loop-less c = omega arith
 
 loop-again : tie.Need-loop-again Inv-loop μ-loop
-loop-again c = seeing-step _ _ (sectorSlots (c .before .before .before .before .before .loop .column)) _ (seeing-as _ _ (c .before .before .before .before .before .loop .inv) (sectors-more (c .before .before .before .before .loop-test .taken))) (c .before .sector-holds .ensures) (not-false _ (c .if1 .left))
+loop-again c =
+    let c₄ = c .before .before .before .before in let loop-test = c₄ .loop-test in
+    let c₅ = c₄ .before in let l = c₅ .loop in
+    seeing-step _ _ (sectorSlots (l .column)) _ (seeing-as _ _ (l .inv) (sectors-more (loop-test .taken))) (c .before .sector-holds .ensures)
+    (not-false _ (c .if1 .left))
 
 returns-2 : tie.Need-returns-2 Inv-loop μ-loop
 returns-2 c = seeing-end _ _ (seeing-as _ _ (c .before .loop .inv) (sectors-none (c .loop-test .left)))

@@ -20,7 +20,19 @@ name-at-requires : tie.Need-name-at-requires
 name-at-requires c κs = search needs
 
 returns : tie.Need-returns
-returns c = let a = c .before .before .before .before .args in (λ i. record { refusal = c .before .unplaced .ensures i; kind = a .kind; name = (c .name-at .ensures ∙ placed-name (a .g) (a .image .now) (a .s) _ (c .before .before .name-place .ensures)) i; at = 0; contents = false; size = false; date = false; other = false })
+returns c = let a = c .before .before .before .before .args in
+    (λ i. record {
+      refusal = c .before .unplaced .ensures i;
+      kind = a .kind;
+      name =
+          (c .name-at .ensures ∙ placed-name (a .g) (a .image .now) (a .s) _ (c .before .before .name-place .ensures)) i;
+      at = 0;
+      contents = false;
+      size =
+          false;
+      date = false;
+      other = false;
+    })
 
 pub name-only-spec : {M : Type 1} → statement M
 name-only-spec = tie.close (tie.spec name-place-requires unplaced-requires name-at-requires returns)

@@ -23,7 +23,9 @@ size-of-requires-2 : tie.Need-size-of-requires-2
 size-of-requires-2 c κs = search needs
 
 parting-at-requires : tie.Need-parting-at-requires
-parting-at-requires c κs = (c .before .before .before .before .pre .0, c .before .before .before .before .pre .1, c .before .before .before .before .pre .2, c .before .before .before .before .pre .3, c .before .size-of .ensures .is, c .size-of2 .ensures .is, c .before .size-of .ensures .small, c .size-of2 .ensures .small)
+parting-at-requires c κs =
+    let c₄ = c .before .before .before .before in let p = c₄ .pre in
+    (p .0, p .1, p .2, p .3, c .before .size-of .ensures .is, c .size-of2 .ensures .is, c .before .size-of .ensures .small, c .size-of2 .ensures .small)
 
 contents-differ-requires : tie.Need-contents-differ-requires
 contents-differ-requires c κs = search needs
@@ -47,7 +49,14 @@ name-at-requires : tie.Need-name-at-requires
 name-at-requires c κs = search needs
 
 returns : tie.Need-returns
-returns c = let a = c .before .before .before .before .before .before .before .before .before .before .before .before .args in unlike-is (a .g) (a .first .now) (a .h) (a .second .now) (a .s) (a .t) (c .before .unplaced .ensures) (c .name-at .ensures ∙ placed-name (a .g) (a .first .now) (a .s) _ (c .before .before .name-place .ensures)) (c .before .before .before .before .before .before .before .before .before .size-of .ensures .is) (c .before .before .before .before .before .before .before .before .size-of2 .ensures .is) (c .before .before .before .before .before .before .before .parting-at .ensures) (c .before .before .before .before .before .before .contents-differ .ensures) refl (c .before .before .before .before .before .dates-differ .ensures) (c .before .before .before .before .others-differ .ensures) (c .before .before .before .kind-of .ensures)
+returns c = let a = c .before .before .before .before .before .before .before .before .before .before .before .before .args in
+    unlike-is (a .g) (a .first .now) (a .h) (a .second .now) (a .s) (a .t) (c .before .unplaced .ensures)
+    (c .name-at .ensures ∙ placed-name (a .g) (a .first .now) (a .s) _ (c .before .before .name-place .ensures))
+    (c .before .before .before .before .before .before .before .before .before .size-of .ensures .is)
+    (c .before .before .before .before .before .before .before .before .size-of2 .ensures .is)
+    (c .before .before .before .before .before .before .before .parting-at .ensures)
+    (c .before .before .before .before .before .before .contents-differ .ensures) refl (c .before .before .before .before .before .dates-differ .ensures)
+    (c .before .before .before .before .others-differ .ensures) (c .before .before .before .kind-of .ensures)
 
 pub unlike-spec : {M : Type 1} → statement M
 unlike-spec =

@@ -20,7 +20,8 @@ field-requires-2 : tie.Need-field-requires-2
 field-requires-2 c κs = search needs
 
 returns-2 : tie.Need-returns-2
-returns-2 c = date-second _ _ _ _ _ _ _ _ (c .before .before .before .differs-at .ensures) (c .before .before .if1 .left) (c .before .field .ensures .is) (c .field2 .ensures .is)
+returns-2 c = date-second _ _ _ _ _ _ _ _ (c .before .before .before .differs-at .ensures) (c .before .before .if1 .left) (c .before .field .ensures .is)
+    (c .field2 .ensures .is)
 
 pub dates-differ-spec : {M : Type 1} → statement M
 dates-differ-spec =

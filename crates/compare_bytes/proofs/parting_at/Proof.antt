@@ -33,16 +33,26 @@ in-both-requires : tie.Need-in-both-requires Inv-loop μ-loop
 in-both-requires c κs = search needs
 
 place-requires : tie.Need-place-requires Inv-loop μ-loop
-place-requires c κs = let p = c .before .before .before .before .before .before .pre in (p .0 .sound, used _ _ _ (p .0) (p .2), omega (arith, c .before .before .before .least .ensures .0, p .6, c .before .loop-test .taken))
+place-requires c κs = let p = c .before .before .before .before .before .before .pre in
+    (p .0 .sound, used _ _ _ (p .0) (p .2), omega (arith, c .before .before .before .least .ensures .0, p .6, c .before .loop-test .taken))
 
 place-requires-2 : tie.Need-place-requires-2 Inv-loop μ-loop
-place-requires-2 c κs = let p = c .before .before .before .before .before .before .before .pre in (p .1 .sound, used _ _ _ (p .1) (p .3), omega (arith, c .before .before .before .before .least .ensures .1, p .7, c .before .before .loop-test .taken))
+place-requires-2 c κs = let p = c .before .before .before .before .before .before .before .pre in
+    (p .1 .sound, used _ _ _ (p .1) (p .3), omega (arith, c .before .before .before .before .least .ensures .1, p .7, c .before .before .loop-test .taken))
 
 add-pe : tie.Need-add-pe Inv-loop μ-loop
-add-pe c = let u = turn _ _ _ _ _ _ _ _ (c .before .before .before .before .before .before .before .before .pre) (c .before .before .before .before .before .least .ensures .0) (c .before .before .before .before .before .least .ensures .1) (c .before .before .in-both .ensures) in omega (arith, c .before .place .ensures, u .fits)
+add-pe c =
+    let c₅ = c .before .before .before .before .before in let least = c₅ .least in
+    let c₈ = c₅ .before .before .before in let p = c₈ .pre in
+    let u = turn _ _ _ _ _ _ _ _ p (least .ensures .0) (least .ensures .1) (c .before .before .in-both .ensures) in
+    omega (arith, c .before .place .ensures, u .fits)
 
 add-qe : tie.Need-add-qe Inv-loop μ-loop
-add-qe c = let u = turn _ _ _ _ _ _ _ _ (c .before .before .before .before .before .before .before .before .pre) (c .before .before .before .before .before .least .ensures .0) (c .before .before .before .before .before .least .ensures .1) (c .before .before .in-both .ensures) in omega (arith, c .place2 .ensures, u .fits′)
+add-qe c =
+    let c₅ = c .before .before .before .before .before in let least = c₅ .least in
+    let c₈ = c₅ .before .before .before in let p = c₈ .pre in
+    let u = turn _ _ _ _ _ _ _ _ p (least .ensures .0) (least .ensures .1) (c .before .before .in-both .ensures) in
+    omega (arith, c .place2 .ensures, u .fits′)
 
 sub-alike : tie.Need-sub-alike Inv-loop μ-loop
 sub-alike c = search needs
@@ -51,7 +61,11 @@ part-alike-start : tie.Need-part-alike-start Inv-loop μ-loop
 part-alike-start c = search needs
 
 part-alike-end : tie.Need-part-alike-end Inv-loop μ-loop
-part-alike-end c = let u = turn _ _ _ _ _ _ _ _ (c .before .before .before .before .before .before .before .before .pre) (c .before .before .before .before .before .least .ensures .0) (c .before .before .before .before .before .least .ensures .1) (c .before .before .in-both .ensures) in omega (arith, c .before .place .ensures, u .fits)
+part-alike-end c =
+    let c₅ = c .before .before .before .before .before in let least = c₅ .least in
+    let c₈ = c₅ .before .before .before in let p = c₈ .pre in
+    let u = turn _ _ _ _ _ _ _ _ p (least .ensures .0) (least .ensures .1) (c .before .before .in-both .ensures) in
+    omega (arith, c .before .place .ensures, u .fits)
 
 sub-alike-2 : tie.Need-sub-alike-2 Inv-loop μ-loop
 sub-alike-2 c = search needs
@@ -60,18 +74,35 @@ part-alike-start-2 : tie.Need-part-alike-start-2 Inv-loop μ-loop
 part-alike-start-2 c = search needs
 
 part-alike-end-2 : tie.Need-part-alike-end-2 Inv-loop μ-loop
-part-alike-end-2 c = let u = turn _ _ _ _ _ _ _ _ (c .before .before .before .before .before .before .before .before .before .pre) (c .before .before .before .before .before .before .least .ensures .0) (c .before .before .before .before .before .before .least .ensures .1) (c .before .before .before .in-both .ensures) in omega (arith, c .before .place2 .ensures, u .fits′)
+part-alike-end-2 c =
+    let c₃ = c .before .before .before in let in-both = c₃ .in-both in
+    let c₆ = c₃ .before .before .before in let least = c₆ .least in
+    let c₉ = c₆ .before .before .before in let p = c₉ .pre in
+    let u = turn _ _ _ _ _ _ _ _ p (least .ensures .0) (least .ensures .1) (in-both .ensures) in omega (arith, c .before .place2 .ensures, u .fits′)
 
 alike-requires : tie.Need-alike-requires Inv-loop μ-loop
-alike-requires c κs = let a = c .before .before .before .before .before .before .before .before .before .before .args in let i = c .before .before .before .before .before .before .loop .i in let k = c .before .before .before .before .in-both .result in let u = turn _ _ _ _ _ _ _ _ (c .before .before .before .before .before .before .before .before .before .before .pre) (c .before .before .before .before .before .before .before .least .ensures .0) (c .before .before .before .before .before .before .before .least .ensures .1) (c .before .before .before .before .in-both .ensures) in
-    ap length (u .part (c .before .before .before .place .ensures)) ∙ length-fetch (a .g) (a .first .now) (a .s) i k ∙ sym (ap length (u .part′ (c .before .before .place2 .ensures)) ∙ length-fetch (a .h) (a .second .now) (a .t) i k)
+alike-requires c κs = let a = c .before .before .before .before .before .before .before .before .before .before .args in
+    let i = c .before .before .before .before .before .before .loop .i in let k = c .before .before .before .before .in-both .result in
+    let u = turn _ _ _ _ _ _ _ _ (c .before .before .before .before .before .before .before .before .before .before .pre)
+    (c .before .before .before .before .before .before .before .least .ensures .0)
+    (c .before .before .before .before .before .before .before .least .ensures .1) (c .before .before .before .before .in-both .ensures) in
+    ap length (u .part (c .before .before .before .place .ensures)) ∙ length-fetch (a .g) (a .first .now) (a .s) i k ∙ sym
+    (ap length (u .part′ (c .before .before .place2 .ensures)) ∙ length-fetch (a .h) (a .second .now) (a .t) i k)
 
 add-result : tie.Need-add-result Inv-loop μ-loop
 add-result c = search needs
 
 returns : tie.Need-returns Inv-loop μ-loop
-returns c = let u = turn _ _ _ _ _ _ _ _ (c .before .before .before .before .before .before .before .before .before .before .before .before .pre) (c .before .before .before .before .before .before .before .before .before .least .ensures .0) (c .before .before .before .before .before .before .before .before .before .least .ensures .1) (c .before .before .before .before .before .before .in-both .ensures) in
-    matches-stop _ _ _ _ _ _ _ _ _ (c .before .before .before .before .before .before .before .before .loop .i) (c .before .before .before .before .before .before .in-both .result) (c .before .before .before .before .before .before .before .before .before .least .ensures .0) (c .before .before .before .before .before .before .before .before .before .least .ensures .1) (omega (arith, c .before .before .before .before .before .before .in-both .ensures .3)) (u .part (c .before .before .before .before .before .place .ensures)) (u .part′ (c .before .before .before .before .place2 .ensures)) (c .before .alike .ensures .0) (c .if1 .taken) (c .before .before .before .before .before .before .before .before .loop .inv)
+returns c =
+    let c₄ = c .before .before .before .before in let place2 = c₄ .place2 in
+    let c₅ = c₄ .before in let place = c₅ .place in
+    let c₆ = c₅ .before in let in-both = c₆ .in-both in
+    let c₈ = c₆ .before .before in let l = c₈ .loop in
+    let c₉ = c₈ .before in let least = c₉ .least in
+    let c₁₂ = c₉ .before .before .before in let p = c₁₂ .pre in
+    let u = turn _ _ _ _ _ _ _ _ p (least .ensures .0) (least .ensures .1) (in-both .ensures) in
+    matches-stop _ _ _ _ _ _ _ _ _ (l .i) (in-both .result) (least .ensures .0) (least .ensures .1) (omega (arith, in-both .ensures .3))
+    (u .part (place .ensures)) (u .part′ (place2 .ensures)) (c .before .alike .ensures .0) (c .if1 .taken) (l .inv)
 
 add-i : tie.Need-add-i Inv-loop μ-loop
 add-i c = search needs
@@ -80,11 +111,20 @@ loop-less : tie.Need-loop-less Inv-loop μ-loop
 loop-less c = search needs
 
 loop-again : tie.Need-loop-again Inv-loop μ-loop
-loop-again c = let u = turn _ _ _ _ _ _ _ _ (c .before .before .before .before .before .before .before .before .before .before .before .before .pre) (c .before .before .before .before .before .before .before .before .before .least .ensures .0) (c .before .before .before .before .before .before .before .before .before .least .ensures .1) (c .before .before .before .before .before .before .in-both .ensures) in
-    matches-on _ _ _ _ _ _ _ _ _ (c .before .before .before .before .before .before .before .before .loop .i) (c .before .before .before .before .before .before .in-both .result) (c .before .before .before .before .before .before .before .before .before .least .ensures .0) (c .before .before .before .before .before .before .before .before .before .least .ensures .1) (omega (arith, c .before .before .before .before .before .before .in-both .ensures .3)) (u .part (c .before .before .before .before .before .place .ensures)) (u .part′ (c .before .before .before .before .place2 .ensures)) (c .before .alike .ensures .0) (c .if1 .left) (c .before .before .before .before .before .before .before .before .loop .inv)
+loop-again c =
+    let c₄ = c .before .before .before .before in let place2 = c₄ .place2 in
+    let c₅ = c₄ .before in let place = c₅ .place in
+    let c₆ = c₅ .before in let in-both = c₆ .in-both in
+    let c₈ = c₆ .before .before in let l = c₈ .loop in
+    let c₉ = c₈ .before in let least = c₉ .least in
+    let c₁₂ = c₉ .before .before .before in let p = c₁₂ .pre in
+    let u = turn _ _ _ _ _ _ _ _ p (least .ensures .0) (least .ensures .1) (in-both .ensures) in
+    matches-on _ _ _ _ _ _ _ _ _ (l .i) (in-both .result) (least .ensures .0) (least .ensures .1) (omega (arith, in-both .ensures .3))
+    (u .part (place .ensures)) (u .part′ (place2 .ensures)) (c .before .alike .ensures .0) (c .if1 .left) (l .inv)
 
 returns-2 : tie.Need-returns-2 Inv-loop μ-loop
-returns-2 c = matches-end _ _ _ _ _ _ _ _ _ (c .before .before .least .ensures .0) (c .before .before .least .ensures .1) (c .before .before .least .ensures .2) (c .loop-test .left) (c .before .loop .inv)
+returns-2 c = matches-end _ _ _ _ _ _ _ _ _ (c .before .before .least .ensures .0) (c .before .before .least .ensures .1)
+    (c .before .before .least .ensures .2) (c .loop-test .left) (c .before .loop .inv)
 
 pub parting-at-spec : {M : Type 1} → statement M
 parting-at-spec =

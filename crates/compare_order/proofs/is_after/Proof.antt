@@ -16,7 +16,8 @@ name-before-requires : tie.Need-name-before-requires
 name-before-requires c κs = search needs
 
 returns : tie.Need-returns
-returns c = let a = c .before .before .before .before .args in let x = whole-name (a .last .now) (c .before .before .before .before .pre .2) in let y = placed-name (a .g) (a .image .now) (a .s) _ (c .before .name-place .ensures) in c .name-before .ensures ∙ (λ i. before (x i) (y i))
+returns c = let a = c .before .before .before .before .args in let x = whole-name (a .last .now) (c .before .before .before .before .pre .2) in
+    let y = placed-name (a .g) (a .image .now) (a .s) _ (c .before .name-place .ensures) in c .name-before .ensures ∙ (λ i. before (x i) (y i))
 
 pub is-after-spec : {M : Type 1} → statement M
 is-after-spec = tie.close (tie.spec name-place-requires name-before-requires returns)

@@ -28,7 +28,11 @@ shared-slice-read-y : tie.Need-shared-slice-read-y Inv-loop μ-loop
 shared-slice-read-y c = search needs
 
 returns : tie.Need-returns Inv-loop μ-loop
-returns c = alike-stop _ _ _ _ (c .before .before .before .loop-test .taken) (c .before .before .before .before .before .pre .0) (c .before .before .before .before .before .pre .1) (c .before .before .before .before .loop .inv) (c .if1 .taken)
+returns c =
+    let c₃ = c .before .before .before in let loop-test = c₃ .loop-test in
+    let c₄ = c₃ .before in let l = c₄ .loop in
+    let c₅ = c₄ .before in let p = c₅ .pre in
+    alike-stop _ _ _ _ (loop-test .taken) (p .0) (p .1) (l .inv) (c .if1 .taken)
 
 add-i : tie.Need-add-i Inv-loop μ-loop
 add-i c = search needs
@@ -37,7 +41,11 @@ loop-less : tie.Need-loop-less Inv-loop μ-loop
 loop-less c = search needs
 
 loop-again : tie.Need-loop-again Inv-loop μ-loop
-loop-again c = alike-on _ _ _ _ (c .before .before .before .loop-test .taken) (c .before .before .before .before .before .pre .0) (c .before .before .before .before .before .pre .1) (c .before .before .before .before .loop .inv) (c .if1 .left)
+loop-again c =
+    let c₃ = c .before .before .before in let loop-test = c₃ .loop-test in
+    let c₄ = c₃ .before in let l = c₄ .loop in
+    let c₅ = c₄ .before in let p = c₅ .pre in
+    alike-on _ _ _ _ (loop-test .taken) (p .0) (p .1) (l .inv) (c .if1 .left)
 
 returns-2 : tie.Need-returns-2 Inv-loop μ-loop
 returns-2 c = alike-end _ _ _ _ (c .loop-test .left) (c .before .loop .inv)

@@ -19,7 +19,9 @@ name-before-requires : tie.Need-name-before-requires
 name-before-requires c κs = search needs
 
 returns : tie.Need-returns
-returns c = let a = c .before .before .before .before .before .args in let x = placed-name (a .g) (a .first .now) (a .s) _ (c .before .before .name-place .ensures) in let y = placed-name (a .h) (a .second .now) (a .t) _ (c .before .name-place2 .ensures) in c .name-before .ensures ∙ (λ i. before (x i) (y i))
+returns c = let a = c .before .before .before .before .before .args in
+    let x = placed-name (a .g) (a .first .now) (a .s) _ (c .before .before .name-place .ensures) in
+    let y = placed-name (a .h) (a .second .now) (a .t) _ (c .before .name-place2 .ensures) in c .name-before .ensures ∙ (λ i. before (x i) (y i))
 
 pub slot-before-spec : {M : Type 1} → statement M
 slot-before-spec =

@@ -19,14 +19,20 @@ returns-2 c = sym (all-yes (le-leb _ _ (c .before .before .if1 .left)) _ ∙ all
 
 returns-3 : tie.Need-returns-3
 unfolding newInRange
-returns-3 c = sym (all-yes (le-leb _ _ (c .before .before .before .before .if1 .left)) _ ∙ all-yes (le-leb _ _ (c .before .before .if2 .left)) _ ∙ all-no (lt-leb _ _ (c .if3 .taken)) _)
+returns-3 c =
+    let c₄ = c .before .before .before .before in let if1 = c₄ .if1 in
+    sym (all-yes (le-leb _ _ (if1 .left)) _ ∙ all-yes (le-leb _ _ (c .before .before .if2 .left)) _ ∙ all-no (lt-leb _ _ (c .if3 .taken)) _)
 
 good-length-requires : tie.Need-good-length-requires
 good-length-requires c κs = search needs
 
 returns-4 : tie.Need-returns-4
 unfolding newInRange
-returns-4 c = c .good-length .ensures ∙ sym (all-yes (le-leb _ _ (c .before .before .before .before .before .if1 .left)) _ ∙ all-yes (le-leb _ _ (c .before .before .before .if2 .left)) _ ∙ all-yes (le-leb _ _ (c .before .if3 .left)) _ ∙ all-one _)
+returns-4 c =
+    let c₃ = c .before .before .before in let if2 = c₃ .if2 in
+    let c₅ = c₃ .before .before in let if1 = c₅ .if1 in
+    c .good-length .ensures ∙ sym (all-yes (le-leb _ _ (if1 .left)) _ ∙ all-yes (le-leb _ _ (if2 .left)) _ ∙ all-yes (le-leb _ _ (c .before .if3 .left)) _ ∙
+    all-one _)
 
 pub in-range-spec : {M : Type 1} → statement M
 in-range-spec = tie.close (tie.spec returns returns-2 returns-3 good-length-requires returns-4)

@@ -28,7 +28,10 @@ same-length c = search needs
 
 -- src/lib.rt:20:1
 returns-2 : tie.Need-returns-2
-returns-2 c = put-is _ _ (c .before .before .before .before .before .before .if1 .left) (c .before .before .before .put-handle .ensures)
+returns-2 c =
+    let c₃ = c .before .before .before in let put-handle = c₃ .put-handle in
+    let c₆ = c₃ .before .before .before in let if1 = c₆ .if1 in
+    put-is _ _ (if1 .left) (put-handle .ensures)
 
 pub put-handle-spec : {M : Type 1} → statement M
 put-handle-spec =

@@ -43,13 +43,17 @@ well-formed-requires : tie.Need-well-formed-requires
 well-formed-requires c κs = search needs
 
 returns : tie.Need-returns
-returns c = name-bad _ _ _ (c .before .before .before .before .before .pre .0) (c .before .before .before .before .before .pre .1) (cut (entryAt (c .before .before .before .before .before .args .g) (c .before .before .before .before .before .args .s) + 5)) (c .before .well-formed .ensures) (c .if1 .taken)
+returns c =
+    let c₅ = c .before .before .before .before .before in let a = c₅ .args in let p = c₅ .pre in
+    name-bad _ _ _ (p .0) (p .1) (cut (entryAt (a .g) (a .s) + 5)) (c .before .well-formed .ensures) (c .if1 .taken)
 
 flag-requires : tie.Need-flag-requires
 flag-requires c κs = search needs
 
 returns-2 : tie.Need-returns-2
-returns-2 c = name-good _ _ _ (c .before .before .before .before .before .before .pre .0) (c .before .before .before .before .before .before .pre .1) (cut (entryAt (c .before .before .before .before .before .before .args .g) (c .before .before .before .before .before .before .args .s) + 5)) (c .before .before .well-formed .ensures) (c .before .if1 .left) (c .flag .ensures)
+returns-2 c =
+    let c₆ = c .before .before .before .before .before .before in let a = c₆ .args in let p = c₆ .pre in
+    name-good _ _ _ (p .0) (p .1) (cut (entryAt (a .g) (a .s) + 5)) (c .before .before .well-formed .ensures) (c .before .if1 .left) (c .flag .ensures)
 
 pub name-holds-spec : {M : Type 1} → statement M
 name-holds-spec =

@@ -23,10 +23,15 @@ granule-bytes-requires : tie.Need-granule-bytes-requires
 granule-bytes-requires c κs = search needs
 
 mul-result : tie.Need-mul-result
-mul-result c = omega (arith, mul-le-mul (c .granule-bytes .ensures .few) (let h = c .before .before .before .before .before .pre .2 in h))
+mul-result c =
+    let c₅ = c .before .before .before .before .before in let p = c₅ .pre in
+    omega (arith, mul-le-mul (c .granule-bytes .ensures .few) (let h = p .2 in h))
 
 returns-2 : tie.Need-returns-2
-returns-2 c = size-good _ _ _ (c .before .before .before .count-holds .ensures) (c .before .before .if1 .left) (c .before .size-of .ensures .is) (c .granule-bytes .ensures .is) (c .before .before .before .before .before .pre .3)
+returns-2 c =
+    let c₃ = c .before .before .before in let count-holds = c₃ .count-holds in
+    let c₅ = c₃ .before .before in let p = c₅ .pre in
+    size-good _ _ _ (count-holds .ensures) (c .before .before .if1 .left) (c .before .size-of .ensures .is) (c .granule-bytes .ensures .is) (p .3)
 
 pub size-holds-spec : {M : Type 1} → statement M
 size-holds-spec =

@@ -27,7 +27,8 @@ field-requires : tie.Need-field-requires Inv-loop μ-loop
 field-requires c κs = search needs
 
 returns : tie.Need-returns Inv-loop μ-loop
-returns c = counting-stop _ _ (c .before .before .before .loop .inv) (c .before .before .loop-test .taken) (sym (c .before .field .ensures .is) ∙ c .if1 .taken)
+returns c = counting-stop _ _ (c .before .before .before .loop .inv) (c .before .before .loop-test .taken)
+    (sym (c .before .field .ensures .is) ∙ c .if1 .taken)
 
 mul-field-2 : tie.Need-mul-field-2 Inv-loop μ-loop
 mul-field-2 c = search needs
@@ -51,7 +52,10 @@ loop-less : tie.Need-loop-less Inv-loop μ-loop
 loop-less c = search needs
 
 loop-again : tie.Need-loop-again Inv-loop μ-loop
-loop-again c = counting-step _ _ (c .before .before .before .before .loop .inv) (c .before .before .before .loop-test .taken) (λ q. c .before .if1 .left (c .before .before .field .ensures .is ∙ q)) (c .field2 .ensures .is)
+loop-again c =
+    let c₃ = c .before .before .before in let loop-test = c₃ .loop-test in
+    let c₄ = c₃ .before in let l = c₄ .loop in
+    counting-step _ _ (l .inv) (loop-test .taken) (λ q. c .before .if1 .left (c .before .before .field .ensures .is ∙ q)) (c .field2 .ensures .is)
 
 returns-2 : tie.Need-returns-2 Inv-loop μ-loop
 returns-2 c = counting-end _ _ (c .before .loop .inv) (c .loop-test .left)

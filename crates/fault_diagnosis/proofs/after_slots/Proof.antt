@@ -21,19 +21,29 @@ directory-granules-requires : tie.Need-directory-granules-requires
 directory-granules-requires c κs = search needs
 
 all-taken-requires : tie.Need-all-taken-requires
-all-taken-requires c κs = (c .before .before .before .before .pre, directory-in _ _ (rw (← c .before .before .granule-sectors .ensures .is) refl) (c .directory-granules .ensures .is) (c .before .before .before .before .pre))
+all-taken-requires c κs =
+    let c₄ = c .before .before .before .before in let p = c₄ .pre in
+    (p, directory-in _ _ (rw (← c .before .before .granule-sectors .ensures .is) refl) (c .directory-granules .ensures .is) p)
 
 unplaced-requires : tie.Need-unplaced-requires
 unplaced-requires c κs = search needs
 
 returns : tie.Need-returns
-returns c = c .unplaced .ensures ∙ clear-no _ _ (rw (← c .before .before .before .before .before .granule-sectors .ensures .is) refl) (c .before .before .before .directory-granules .ensures .is) (is-no (c .before .before .all-taken .ensures) (c .before .if1 .taken))
+returns c =
+    let c₃ = c .before .before .before in let directory-granules = c₃ .directory-granules in
+    let c₅ = c₃ .before .before in let granule-sectors = c₅ .granule-sectors in
+    c .unplaced .ensures ∙ clear-no _ _ (rw (← granule-sectors .ensures .is) refl) (directory-granules .ensures .is)
+    (is-no (c .before .before .all-taken .ensures) (c .before .if1 .taken))
 
 unplaced-requires-2 : tie.Need-unplaced-requires-2
 unplaced-requires-2 c κs = search needs
 
 returns-2 : tie.Need-returns-2
-returns-2 c = c .unplaced2 .ensures ∙ clear-yes _ _ (rw (← c .before .before .before .before .before .granule-sectors .ensures .is) refl) (c .before .before .before .directory-granules .ensures .is) (is-yes (c .before .before .all-taken .ensures) (c .before .if1 .left))
+returns-2 c =
+    let c₃ = c .before .before .before in let directory-granules = c₃ .directory-granules in
+    let c₅ = c₃ .before .before in let granule-sectors = c₅ .granule-sectors in
+    c .unplaced2 .ensures ∙ clear-yes _ _ (rw (← granule-sectors .ensures .is) refl) (directory-granules .ensures .is)
+    (is-yes (c .before .before .all-taken .ensures) (c .before .if1 .left))
 
 pub after-slots-spec : {M : Type 1} → statement M
 after-slots-spec =

@@ -18,7 +18,9 @@ name-below-requires c κs = search needs
 
 returns-2 : tie.Need-returns-2
 unfolding duplicateFault
-returns-2 c = let a = c .before .before .before .before .args in c .name-below .ensures ∙ sym (all-yes (is-yes (c .before .before .primary .ensures) (c .before .if1 .left)) _ ∙ all-one _ ∙ below-is (a .g) (a .image .now) (a .p) (c .before .before .before .before .pre .1 .low))
+returns-2 c = let a = c .before .before .before .before .args in
+    c .name-below .ensures ∙ sym (all-yes (is-yes (c .before .before .primary .ensures) (c .before .if1 .left)) _ ∙ all-one _ ∙ below-is (a .g)
+    (a .image .now) (a .p) (c .before .before .before .before .pre .1 .low))
 
 pub duplicate-fault-spec : {M : Type 1} → statement M
 duplicate-fault-spec = tie.close (tie.spec primary-requires returns name-below-requires returns-2)

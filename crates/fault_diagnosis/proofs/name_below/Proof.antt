@@ -21,7 +21,9 @@ same-file-requires : tie.Need-same-file-requires Inv-loop μ-loop
 same-file-requires c κs = search needs
 
 returns : tie.Need-returns Inv-loop μ-loop
-returns c = let a = c .before .before .before .before .before .args in found (sameFile (a .g) (a .image .now) (a .p)) refl (c .before .before .before .loop .inv) (c .before .before .loop-test .taken) (so (c .before .same-file .ensures) (c .if1 .taken))
+returns c = let a = c .before .before .before .before .before .args in
+    found (sameFile (a .g) (a .image .now) (a .p)) refl (c .before .before .before .loop .inv) (c .before .before .loop-test .taken)
+    (so (c .before .same-file .ensures) (c .if1 .taken))
 
 add-q : tie.Need-add-q Inv-loop μ-loop
 add-q c = search needs
@@ -30,7 +32,9 @@ loop-less : tie.Need-loop-less Inv-loop μ-loop
 loop-less c = omega arith
 
 loop-again : tie.Need-loop-again Inv-loop μ-loop
-loop-again c = let a = c .before .before .before .before .before .args in not-yet (sameFile (a .g) (a .image .now) (a .p)) (c .before .before .before .loop .inv) (c .before .before .loop-test .taken) (not-so (c .before .same-file .ensures) (c .if1 .left))
+loop-again c = let a = c .before .before .before .before .before .args in
+    not-yet (sameFile (a .g) (a .image .now) (a .p)) (c .before .before .before .loop .inv) (c .before .before .loop-test .taken)
+    (not-so (c .before .same-file .ensures) (c .if1 .left))
 
 returns-2 : tie.Need-returns-2 Inv-loop μ-loop
 returns-2 c = let a = c .before .before .before .args in nowhere (sameFile (a .g) (a .image .now) (a .p)) refl (c .before .loop .inv) (c .loop-test .left)

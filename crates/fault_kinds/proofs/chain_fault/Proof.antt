@@ -19,14 +19,20 @@ bad-entry-requires c κs = search needs
 
 returns-2 : tie.Need-returns-2
 unfolding chainFault
-returns-2 c = sym (all-yes (is-yes (c .before .before .before .flag .ensures) (c .before .before .if1 .left)) _ ∙ all-one _ ∙ any-hit (so (c .before .bad-entry .ensures) (c .if2 .taken)) _)
+returns-2 c = sym (all-yes (is-yes (c .before .before .before .flag .ensures) (c .before .before .if1 .left)) _ ∙ all-one _ ∙ any-hit
+    (so (c .before .bad-entry .ensures) (c .if2 .taken)) _)
 
 linked-requires : tie.Need-linked-requires
 linked-requires c κs = search needs
 
 returns-3 : tie.Need-returns-3
 unfolding chainFault
-returns-3 c = ap not (c .linked .ensures) ∙ unlinked _ _ ∙ sym (all-yes (is-yes (c .before .before .before .before .flag .ensures) (c .before .before .before .if1 .left)) _ ∙ all-one _ ∙ any-skip (not-so (c .before .before .bad-entry .ensures) (c .before .if2 .left)) _ ∙ any-one _)
+returns-3 c =
+    let c₃ = c .before .before .before in let if1 = c₃ .if1 in
+    let c₄ = c₃ .before in let flag = c₄ .flag in
+    ap not (c .linked .ensures) ∙ unlinked _ _ ∙ sym
+    (all-yes (is-yes (flag .ensures) (if1 .left)) _ ∙ all-one _ ∙ any-skip (not-so (c .before .before .bad-entry .ensures) (c .before .if2 .left)) _ ∙
+    any-one _)
 
 pub chain-fault-spec : {M : Type 1} → statement M
 chain-fault-spec = tie.close (tie.spec flag-requires returns bad-entry-requires returns-2 linked-requires returns-3)

@@ -22,13 +22,21 @@ returns : tie.Need-returns Inv-loop μ-loop
 returns c = come-here _ _ _ _ _ _ _ (c .before .before .loop .inv .0) (c .before .loop-test .taken) (c .if1 .taken)
 
 hands-on-requires : tie.Need-hands-on-requires Inv-loop μ-loop
-hands-on-requires c κs = (c .before .before .before .before .pre .0, c .before .before .loop .inv .1)
+hands-on-requires c κs =
+    let c₄ = c .before .before .before .before in let p = c₄ .pre in
+    (p .0, c .before .before .loop .inv .1)
 
 returns-2 : tie.Need-returns-2 Inv-loop μ-loop
-returns-2 c = come-stop _ _ _ _ _ _ _ (c .before .before .before .before .loop .inv .0) (c .before .before .before .loop-test .taken) (c .before .before .if1 .left) (is-no (c .before .hands-on .ensures) (c .if2 .taken))
+returns-2 c =
+    let c₃ = c .before .before .before in let loop-test = c₃ .loop-test in
+    let c₄ = c₃ .before in let l = c₄ .loop in
+    come-stop _ _ _ _ _ _ _ (l .inv .0) (loop-test .taken) (c .before .before .if1 .left) (is-no (c .before .hands-on .ensures) (c .if2 .taken))
 
 field-requires : tie.Need-field-requires Inv-loop μ-loop
-field-requires c κs = (c .before .before .before .before .before .before .pre .0, c .before .before .before .before .loop .inv .1, omega arith)
+field-requires c κs =
+    let c₄ = c .before .before .before .before in let l = c₄ .loop in
+    let c₆ = c₄ .before .before in let p = c₆ .pre in
+    (p .0, l .inv .1, omega arith)
 
 sub-left : tie.Need-sub-left Inv-loop μ-loop
 sub-left c = search needs
@@ -37,7 +45,14 @@ loop-less : tie.Need-loop-less Inv-loop μ-loop
 loop-less c = omega arith
 
 loop-again : tie.Need-loop-again Inv-loop μ-loop
-loop-again c = (come-on _ _ _ _ _ _ _ (c .before .before .before .before .before .loop .inv .0) (c .before .before .before .before .loop-test .taken) (c .before .before .before .if1 .left) (is-yes (c .before .before .hands-on .ensures) (c .before .if2 .left)) (c .field .ensures .is), hands-slot _ _ _ (is-yes (c .before .before .hands-on .ensures) (c .before .if2 .left)) (c .field .ensures .is))
+loop-again c =
+    let c₃ = c .before .before .before in let if1 = c₃ .if1 in
+    let c₄ = c₃ .before in let loop-test = c₄ .loop-test in
+    let c₅ = c₄ .before in let l = c₅ .loop in (
+      come-on _ _ _ _ _ _ _ (l .inv .0) (loop-test .taken) (if1 .left) (is-yes (c .before .before .hands-on .ensures) (c .before .if2 .left))
+          (c .field .ensures .is),
+      hands-slot _ _ _ (is-yes (c .before .before .hands-on .ensures) (c .before .if2 .left)) (c .field .ensures .is),
+    )
 
 returns-3 : tie.Need-returns-3 Inv-loop μ-loop
 returns-3 c = come-none _ _ _ _ _ _ _ (c .before .loop .inv .0) (c .loop-test .left)

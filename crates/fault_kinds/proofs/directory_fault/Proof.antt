@@ -28,11 +28,15 @@ file-of-requires : tie.Need-file-of-requires
 file-of-requires c κs = search needs
 
 flag-requires-2 : tie.Need-flag-requires-2
-flag-requires-2 c κs = (c .before .before .before .before .pre .0, c .file-of .ensures .1, omega arith)
+flag-requires-2 c κs =
+    let c₄ = c .before .before .before .before in let p = c₄ .pre in
+    (p .0, c .file-of .ensures .1, omega arith)
 
 returns-2 : tie.Need-returns-2
 unfolding directoryFault
-returns-2 c = let a = c .before .before .before .before .before .before .args in sym (all-yes (is-yes (c .before .before .before .before .flag .ensures) (c .before .before .before .if1 .left)) _ ∙ all-no (not-yes (ap (system (a .g) (a .image .now)) (sym (c .before .before .file-of .ensures .0)) ∙ so (c .before .flag2 .ensures) (c .if2 .taken))) _)
+returns-2 c = let a = c .before .before .before .before .before .before .args in
+    sym (all-yes (is-yes (c .before .before .before .before .flag .ensures) (c .before .before .before .if1 .left)) _ ∙ all-no
+    (not-yes (ap (system (a .g) (a .image .now)) (sym (c .before .before .file-of .ensures .0)) ∙ so (c .before .flag2 .ensures) (c .if2 .taken))) _)
 
 granule-sectors-requires : tie.Need-granule-sectors-requires
 granule-sectors-requires c κs = search needs
@@ -44,12 +48,20 @@ directory-granules-requires : tie.Need-directory-granules-requires
 directory-granules-requires c κs = search needs
 
 entry-in-requires : tie.Need-entry-in-requires
-entry-in-requires c κs = let r = c .before .before .before .before .before .before .before .before .before .pre .0 in let w = c .before .before .granule-sectors .ensures .some in (r, c .before .before .before .before .before .before .before .before .before .pre .1, width-lt (omega arith) (c .before .before .before .before .before .before .before .before .before .args .g .start) 65536 (omega (arith, r .directory, r .far)), omega (arith, c .directory-granules .ensures .small))
+entry-in-requires c κs =
+    let c₉ = c .before .before .before .before .before .before .before .before .before in let a = c₉ .args in let p = c₉ .pre in
+    let r = p .0 in let w = c .before .before .granule-sectors .ensures .some in
+    (r, p .1, width-lt (omega arith) (a .g .start) 65536 (omega (arith, r .directory, r .far)), omega (arith, c .directory-granules .ensures .small))
 
 returns-3 : tie.Need-returns-3
 unfolding directoryFault
-returns-3 c = let a = c .before .before .before .before .before .before .before .before .before .before .args in c .entry-in .ensures ∙ directory-by _ _ _ (c .before .before .before .before .before .before .before .before .before .before .pre .0) (rw (← c .before .before .before .granule-sectors .ensures .is) refl) (c .before .directory-granules .ensures .is)
-    ∙ sym (all-yes (is-yes (c .before .before .before .before .before .before .before .before .flag .ensures) (c .before .before .before .before .before .before .before .if1 .left)) _ ∙ all-yes (not-no (ap (system (a .g) (a .image .now)) (sym (c .before .before .before .before .before .before .file-of .ensures .0)) ∙ not-so (c .before .before .before .before .before .flag2 .ensures) (c .before .before .before .before .if2 .left))) _ ∙ all-one _)
+returns-3 c = let a = c .before .before .before .before .before .before .before .before .before .before .args in
+    c .entry-in .ensures ∙ directory-by _ _ _ (c .before .before .before .before .before .before .before .before .before .before .pre .0)
+    (rw (← c .before .before .before .granule-sectors .ensures .is) refl) (c .before .directory-granules .ensures .is)
+    ∙ sym (all-yes (is-yes (c .before .before .before .before .before .before .before .before .flag .ensures)
+    (c .before .before .before .before .before .before .before .if1 .left)) _ ∙ all-yes
+    (not-no (ap (system (a .g) (a .image .now)) (sym (c .before .before .before .before .before .before .file-of .ensures .0)) ∙ not-so
+    (c .before .before .before .before .before .flag2 .ensures) (c .before .before .before .before .if2 .left))) _ ∙ all-one _)
 
 pub directory-fault-spec : {M : Type 1} → statement M
 directory-fault-spec =

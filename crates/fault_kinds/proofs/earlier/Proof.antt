@@ -10,13 +10,15 @@ use Rattle.fault_kinds.proofs.earlier.Lts as lts
 use Rattle.fault_kinds.proofs.runs_meet.Reads as runs-meet-reads
 
 returns : tie.Need-returns
-returns c = let a = c .before .before .args in sym (ap (λ (b : Bool). b && runsMeet (a .g) (a .image .now) (a .s) (a .k) (a .s) (a .l)) (le-ltb _ _ (c .if1 .taken)))
+returns c = let a = c .before .before .args in
+    sym (ap (λ (b : Bool). b && runsMeet (a .g) (a .image .now) (a .s) (a .k) (a .s) (a .l)) (le-ltb _ _ (c .if1 .taken)))
 
 runs-meet-requires : tie.Need-runs-meet-requires
 runs-meet-requires c κs = search needs
 
 returns-2 : tie.Need-returns-2
-returns-2 c = let a = c .before .before .before .args in c .runs-meet .ensures ∙ sym (ap (λ (b : Bool). b && runsMeet (a .g) (a .image .now) (a .s) (a .k) (a .s) (a .l)) (lt-ltb _ _ (c .before .if1 .left)))
+returns-2 c = let a = c .before .before .before .args in
+    c .runs-meet .ensures ∙ sym (ap (λ (b : Bool). b && runsMeet (a .g) (a .image .now) (a .s) (a .k) (a .s) (a .l)) (lt-ltb _ _ (c .before .if1 .left)))
 
 pub earlier-spec : {M : Type 1} → statement M
 earlier-spec = tie.close (tie.spec returns runs-meet-requires returns-2)

@@ -25,10 +25,14 @@ loop-holds : tie.Need-loop-holds Inv-loop μ-loop
 loop-holds c = let a = c .before .before .args in ap (some (runIn (a .g) (a .image .now) (a .b) (a .m) (a .s))) (from-zero (c .runs .result))
 
 run-in-requires : tie.Need-run-in-requires Inv-loop μ-loop
-run-in-requires c κs = let h = c .before .before .runs .ensures .small in (c .before .before .before .before .pre .0, c .before .before .before .before .pre .1, omega arith, c .before .before .before .before .pre .2, c .before .before .before .before .pre .3)
+run-in-requires c κs =
+    let c₄ = c .before .before .before .before in let p = c₄ .pre in
+    let h = c .before .before .runs .ensures .small in (p .0, p .1, omega arith, p .2, p .3)
 
 returns : tie.Need-returns Inv-loop μ-loop
-returns c = let a = c .before .before .before .before .before .before .args in found (runIn (a .g) (a .image .now) (a .b) (a .m) (a .s)) (c .before .before .before .before .runs .ensures .is) (c .before .before .before .loop .inv) (c .before .before .loop-test .taken) (so (c .before .run-in .ensures) (c .if1 .taken))
+returns c = let a = c .before .before .before .before .before .before .args in
+    found (runIn (a .g) (a .image .now) (a .b) (a .m) (a .s)) (c .before .before .before .before .runs .ensures .is) (c .before .before .before .loop .inv)
+    (c .before .before .loop-test .taken) (so (c .before .run-in .ensures) (c .if1 .taken))
 
 add-k : tie.Need-add-k Inv-loop μ-loop
 add-k c = search needs
@@ -37,10 +41,13 @@ loop-less : tie.Need-loop-less Inv-loop μ-loop
 loop-less c = omega arith
 
 loop-again : tie.Need-loop-again Inv-loop μ-loop
-loop-again c = let a = c .before .before .before .before .before .before .args in not-yet (runIn (a .g) (a .image .now) (a .b) (a .m) (a .s)) (c .before .before .before .loop .inv) (c .before .before .loop-test .taken) (not-so (c .before .run-in .ensures) (c .if1 .left))
+loop-again c = let a = c .before .before .before .before .before .before .args in
+    not-yet (runIn (a .g) (a .image .now) (a .b) (a .m) (a .s)) (c .before .before .before .loop .inv) (c .before .before .loop-test .taken)
+    (not-so (c .before .run-in .ensures) (c .if1 .left))
 
 returns-2 : tie.Need-returns-2 Inv-loop μ-loop
-returns-2 c = let a = c .before .before .before .before .args in nowhere (runIn (a .g) (a .image .now) (a .b) (a .m) (a .s)) (c .before .before .runs .ensures .is) (c .before .loop .inv) (c .loop-test .left)
+returns-2 c = let a = c .before .before .before .before .args in
+    nowhere (runIn (a .g) (a .image .now) (a .b) (a .m) (a .s)) (c .before .before .runs .ensures .is) (c .before .loop .inv) (c .loop-test .left)
 
 pub entry-in-spec : {M : Type 1} → statement M
 entry-in-spec =

@@ -21,7 +21,8 @@ starts-to-requires : tie.Need-starts-to-requires Inv-loop μ-loop
 starts-to-requires c κs = search needs
 
 returns : tie.Need-returns Inv-loop μ-loop
-returns c = first-here _ _ _ _ (c .before .before .before .loop .inv) (c .before .before .loop-test .taken) (so (c .before .starts-to .ensures) (c .if1 .taken))
+returns c = first-here _ _ _ _ (c .before .before .before .loop .inv) (c .before .before .loop-test .taken)
+    (so (c .before .starts-to .ensures) (c .if1 .taken))
 
 add-p : tie.Need-add-p Inv-loop μ-loop
 add-p c = search needs
@@ -30,7 +31,8 @@ loop-less : tie.Need-loop-less Inv-loop μ-loop
 loop-less c = omega arith
 
 loop-again : tie.Need-loop-again Inv-loop μ-loop
-loop-again c = first-on _ _ _ _ (c .before .before .before .loop .inv) (c .before .before .loop-test .taken) (not-so (c .before .starts-to .ensures) (c .if1 .left))
+loop-again c = first-on _ _ _ _ (c .before .before .before .loop .inv) (c .before .before .loop-test .taken)
+    (not-so (c .before .starts-to .ensures) (c .if1 .left))
 
 returns-2 : tie.Need-returns-2 Inv-loop μ-loop
 returns-2 c = first-none _ _ _ _ (c .before .loop .inv) (c .loop-test .left)

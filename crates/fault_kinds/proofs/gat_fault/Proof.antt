@@ -15,7 +15,12 @@ unfolding gatFault
 returns c = sym (all-no (is-no (c .before .flag .ensures) (c .if1 .taken)) _)
 
 gat-holds-requires : tie.Need-gat-holds-requires
-gat-holds-requires c κs = (c .before .before .before .pre .0, c .before .before .before .pre .1, runs-lie _ _ _ (is-yes (c .before .flag .ensures) (c .if1 .left)) (c .before .before .before .pre .2))
+gat-holds-requires c κs = (
+  c .before .before .before .pre .0,
+  c .before .before .before .pre .1,
+  runs-lie _ _ _
+      (is-yes (c .before .flag .ensures) (c .if1 .left)) (c .before .before .before .pre .2),
+)
 
 returns-2 : tie.Need-returns-2
 unfolding gatFault

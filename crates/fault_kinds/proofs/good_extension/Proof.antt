@@ -35,7 +35,11 @@ loop-less : tie.Need-loop-less Inv-loop μ-loop
 loop-less c = omega arith
 
 loop-again : tie.Need-loop-again Inv-loop μ-loop
-loop-again c = (good-on _ _ _ _ _ (c .before .before .before .loop .inv .0) (c .before .before .loop-test .taken) (c .before .tally .ensures .is) (c .if1 .left), let h = c .before .tally .ensures .small in let k = c .before .before .before .loop .inv .1 in omega arith)
+loop-again c = (
+  good-on _ _ _ _ _ (c .before .before .before .loop .inv .0) (c .before .before .loop-test .taken) (c .before .tally .ensures .is)
+      (c .if1 .left),
+  let h = c .before .tally .ensures .small in let k = c .before .before .before .loop .inv .1 in omega arith,
+)
 
 returns-2 : tie.Need-returns-2 Inv-loop μ-loop
 returns-2 c = good-end _ _ _ _ _ (c .before .loop .inv .0) (c .loop-test .left)

@@ -28,14 +28,27 @@ used-extension-requires c κs = search needs
 
 returns-3 : tie.Need-returns-3
 unfolding handsOn
-returns-3 c = hands-third _ _ _ (ap (usedExtension (c .before .before .before .before .before .before .before .before .args .g) (c .before .before .before .before .before .before .before .before .args .image .now)) (sym (c .before .before .field2 .ensures .is)) ∙ is-no (c .before .used-extension .ensures) (c .if3 .taken))
+returns-3 c =
+    let c₈ = c .before .before .before .before .before .before .before .before in let a = c₈ .args in
+    hands-third _ _ _ (ap (usedExtension (a .g) (a .image .now)) (sym (c .before .before .field2 .ensures .is)) ∙ is-no (c .before .used-extension .ensures)
+    (c .if3 .taken))
 
 pairs-hold-requires : tie.Need-pairs-hold-requires
 pairs-hold-requires c κs = search needs
 
 returns-4 : tie.Need-returns-4
 unfolding handsOn
-returns-4 c = c .pairs-hold .ensures ∙ hands-first _ (on (c .before .before .before .before .before .before .before .field .ensures .is) (c .before .before .before .before .before .before .if1 .left)) (ap (usedExtension (c .before .before .before .before .before .before .before .before .before .args .g) (c .before .before .before .before .before .before .before .before .before .args .image .now)) (sym (c .before .before .before .field2 .ensures .is)) ∙ is-yes (c .before .before .used-extension .ensures) (c .before .if3 .left)) (on (c .before .before .before .before .before .runs .ensures .is) (c .before .before .before .before .if2 .left))
+returns-4 c =
+    let c₃ = c .before .before .before in let field2 = c₃ .field2 in
+    let c₄ = c₃ .before in let if2 = c₄ .if2 in
+    let c₅ = c₄ .before in let runs = c₅ .runs in
+    let c₆ = c₅ .before in let if1 = c₆ .if1 in
+    let c₇ = c₆ .before in let field = c₇ .field in
+    let c₉ = c₇ .before .before in let a = c₉ .args in
+    c .pairs-hold .ensures ∙ hands-first _ (on (field .ensures .is) (if1 .left))
+    (ap (usedExtension (a .g) (a .image .now)) (sym (field2 .ensures .is)) ∙ is-yes (c .before .before .used-extension .ensures) (c .before .if3 .left))
+    (on (runs .ensures .is) (if2 .left))
 
 pub hands-on-spec : {M : Type 1} → statement M
-hands-on-spec = tie.close (tie.spec field-requires returns runs-requires returns-2 field-requires-2 used-extension-requires returns-3 pairs-hold-requires returns-4)
+hands-on-spec = tie.close (tie.spec field-requires returns runs-requires returns-2 field-requires-2 used-extension-requires returns-3 pairs-hold-requires
+    returns-4)

@@ -26,11 +26,15 @@ loop-holds : tie.Need-loop-holds Inv-loop μ-loop
 loop-holds c = let a = c .before .before .args in ap (some (earlier (a .g) (a .image .now) (a .s) (a .k))) (from-zero (c .runs .result))
 
 earlier-requires : tie.Need-earlier-requires Inv-loop μ-loop
-earlier-requires c κs = let h = c .before .before .runs .ensures .small in (c .before .before .before .before .pre .0, c .before .before .before .before .pre .1, c .before .before .before .before .pre .2, omega arith)
+earlier-requires c κs =
+    let c₄ = c .before .before .before .before in let p = c₄ .pre in
+    let h = c .before .before .runs .ensures .small in (p .0, p .1, p .2, omega arith)
 
 returns : tie.Need-returns Inv-loop μ-loop
 unfolding meetsEarlier
-returns c = let a = c .before .before .before .before .before .before .args in found (earlier (a .g) (a .image .now) (a .s) (a .k)) (c .before .before .before .before .runs .ensures .is) (c .before .before .before .loop .inv) (c .before .before .loop-test .taken) (so (c .before .earlier .ensures) (c .if1 .taken))
+returns c = let a = c .before .before .before .before .before .before .args in
+    found (earlier (a .g) (a .image .now) (a .s) (a .k)) (c .before .before .before .before .runs .ensures .is) (c .before .before .before .loop .inv)
+    (c .before .before .loop-test .taken) (so (c .before .earlier .ensures) (c .if1 .taken))
 
 add-l : tie.Need-add-l Inv-loop μ-loop
 add-l c = search needs
@@ -39,11 +43,14 @@ loop-less : tie.Need-loop-less Inv-loop μ-loop
 loop-less c = omega arith
 
 loop-again : tie.Need-loop-again Inv-loop μ-loop
-loop-again c = let a = c .before .before .before .before .before .before .args in not-yet (earlier (a .g) (a .image .now) (a .s) (a .k)) (c .before .before .before .loop .inv) (c .before .before .loop-test .taken) (not-so (c .before .earlier .ensures) (c .if1 .left))
+loop-again c = let a = c .before .before .before .before .before .before .args in
+    not-yet (earlier (a .g) (a .image .now) (a .s) (a .k)) (c .before .before .before .loop .inv) (c .before .before .loop-test .taken)
+    (not-so (c .before .earlier .ensures) (c .if1 .left))
 
 returns-2 : tie.Need-returns-2 Inv-loop μ-loop
 unfolding meetsEarlier
-returns-2 c = let a = c .before .before .before .before .args in nowhere (earlier (a .g) (a .image .now) (a .s) (a .k)) (c .before .before .runs .ensures .is) (c .before .loop .inv) (c .loop-test .left)
+returns-2 c = let a = c .before .before .before .before .args in
+    nowhere (earlier (a .g) (a .image .now) (a .s) (a .k)) (c .before .before .runs .ensures .is) (c .before .loop .inv) (c .loop-test .left)
 
 pub meets-earlier-spec : {M : Type 1} → statement M
 meets-earlier-spec =

@@ -31,7 +31,11 @@ pair-holds-requires c κs = search needs
 
 returns : tie.Need-returns Inv-loop μ-loop
 unfolding pairsHold
-returns c = failed (pairHolds (c .before .before .before .before .before .before .args .g) (c .before .before .before .before .before .before .args .image .now) (c .before .before .before .before .before .before .args .s)) refl (c .before .before .before .loop .inv) (c .before .before .loop-test .taken) (is-no (c .before .pair-holds .ensures) (c .if1 .taken))
+returns c =
+    let c₃ = c .before .before .before in let l = c₃ .loop in
+    let c₆ = c₃ .before .before .before in let a = c₆ .args in
+    failed (pairHolds (a .g) (a .image .now) (a .s)) refl (l .inv) (c .before .before .loop-test .taken)
+    (is-no (c .before .pair-holds .ensures) (c .if1 .taken))
 
 add-k : tie.Need-add-k Inv-loop μ-loop
 add-k c = search needs
@@ -40,11 +44,16 @@ loop-less : tie.Need-loop-less Inv-loop μ-loop
 loop-less c = omega arith
 
 loop-again : tie.Need-loop-again Inv-loop μ-loop
-loop-again c = passed (pairHolds (c .before .before .before .before .before .before .args .g) (c .before .before .before .before .before .before .args .image .now) (c .before .before .before .before .before .before .args .s)) (c .before .before .before .loop .inv) (c .before .before .loop-test .taken) (is-yes (c .before .pair-holds .ensures) (c .if1 .left))
+loop-again c =
+    let c₃ = c .before .before .before in let l = c₃ .loop in
+    let c₆ = c₃ .before .before .before in let a = c₆ .args in
+    passed (pairHolds (a .g) (a .image .now) (a .s)) (l .inv) (c .before .before .loop-test .taken) (is-yes (c .before .pair-holds .ensures) (c .if1 .left))
 
 returns-2 : tie.Need-returns-2 Inv-loop μ-loop
 unfolding pairsHold
-returns-2 c = held (pairHolds (c .before .before .before .before .args .g) (c .before .before .before .before .args .image .now) (c .before .before .before .before .args .s)) refl (c .before .loop .inv) (c .loop-test .left)
+returns-2 c =
+    let c₄ = c .before .before .before .before in let a = c₄ .args in
+    held (pairHolds (a .g) (a .image .now) (a .s)) refl (c .before .loop .inv) (c .loop-test .left)
 
 pub pairs-hold-spec : {M : Type 1} → statement M
 pairs-hold-spec =

@@ -40,8 +40,11 @@ granules-requires : tie.Need-granules-requires
 granules-requires c κs = search needs
 
 returns-2 : tie.Need-returns-2
-returns-2 c = let a = c .before .before .before .before .before .before .before .args in ap (λ (n : ℕ). leb (n + c .before .run-length .result) (c .granules .result)) (c .before .before .run-start .ensures .is) ∙ ap (λ (n : ℕ). leb (runStart (a .g) (a .image .now) (a .s) (a .k) + n) (c .granules .result)) (c .before .run-length .ensures .is)
-    ∙ ap (λ (n : ℕ). leb (runStart (a .g) (a .image .now) (a .s) (a .k) + runLength (a .g) (a .image .now) (a .s) (a .k)) n) (c .granules .ensures .0) ∙ sym (all-yes (lt-ltb _ _ (rw (c .before .before .before .before .before .field .ensures .is) at (c .before .before .before .if1 .left))) _ ∙ all-one _)
+returns-2 c = let a = c .before .before .before .before .before .before .before .args in
+    ap (λ (n : ℕ). leb (n + c .before .run-length .result) (c .granules .result)) (c .before .before .run-start .ensures .is) ∙ ap
+    (λ (n : ℕ). leb (runStart (a .g) (a .image .now) (a .s) (a .k) + n) (c .granules .result)) (c .before .run-length .ensures .is)
+    ∙ ap (λ (n : ℕ). leb (runStart (a .g) (a .image .now) (a .s) (a .k) + runLength (a .g) (a .image .now) (a .s) (a .k)) n) (c .granules .ensures .0) ∙ sym
+    (all-yes (lt-ltb _ _ (rw (c .before .before .before .before .before .field .ensures .is) at (c .before .before .before .if1 .left))) _ ∙ all-one _)
 
 pub run-holds-spec : {M : Type 1} → statement M
 run-holds-spec =

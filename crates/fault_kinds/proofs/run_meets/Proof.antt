@@ -25,11 +25,15 @@ loop-holds : tie.Need-loop-holds Inv-loop μ-loop
 loop-holds c = let a = c .before .before .args in ap (some (runsMeet (a .g) (a .image .now) (a .s) (a .k) (a .t))) (from-zero (c .runs .result))
 
 runs-meet-requires : tie.Need-runs-meet-requires Inv-loop μ-loop
-runs-meet-requires c κs = let h = c .before .before .runs .ensures .small in (c .before .before .before .before .pre .0, c .before .before .before .before .pre .1, c .before .before .before .before .pre .3, c .before .before .before .before .pre .2, omega arith)
+runs-meet-requires c κs =
+    let c₄ = c .before .before .before .before in let p = c₄ .pre in
+    let h = c .before .before .runs .ensures .small in (p .0, p .1, p .3, p .2, omega arith)
 
 returns : tie.Need-returns Inv-loop μ-loop
 unfolding runMeets
-returns c = let a = c .before .before .before .before .before .before .args in found (runsMeet (a .g) (a .image .now) (a .s) (a .k) (a .t)) (c .before .before .before .before .runs .ensures .is) (c .before .before .before .loop .inv) (c .before .before .loop-test .taken) (so (c .before .runs-meet .ensures) (c .if1 .taken))
+returns c = let a = c .before .before .before .before .before .before .args in
+    found (runsMeet (a .g) (a .image .now) (a .s) (a .k) (a .t)) (c .before .before .before .before .runs .ensures .is) (c .before .before .before .loop .inv)
+    (c .before .before .loop-test .taken) (so (c .before .runs-meet .ensures) (c .if1 .taken))
 
 add-l : tie.Need-add-l Inv-loop μ-loop
 add-l c = search needs
@@ -38,11 +42,14 @@ loop-less : tie.Need-loop-less Inv-loop μ-loop
 loop-less c = omega arith
 
 loop-again : tie.Need-loop-again Inv-loop μ-loop
-loop-again c = let a = c .before .before .before .before .before .before .args in not-yet (runsMeet (a .g) (a .image .now) (a .s) (a .k) (a .t)) (c .before .before .before .loop .inv) (c .before .before .loop-test .taken) (not-so (c .before .runs-meet .ensures) (c .if1 .left))
+loop-again c = let a = c .before .before .before .before .before .before .args in
+    not-yet (runsMeet (a .g) (a .image .now) (a .s) (a .k) (a .t)) (c .before .before .before .loop .inv) (c .before .before .loop-test .taken)
+    (not-so (c .before .runs-meet .ensures) (c .if1 .left))
 
 returns-2 : tie.Need-returns-2 Inv-loop μ-loop
 unfolding runMeets
-returns-2 c = let a = c .before .before .before .before .args in nowhere (runsMeet (a .g) (a .image .now) (a .s) (a .k) (a .t)) (c .before .before .runs .ensures .is) (c .before .loop .inv) (c .loop-test .left)
+returns-2 c = let a = c .before .before .before .before .args in
+    nowhere (runsMeet (a .g) (a .image .now) (a .s) (a .k) (a .t)) (c .before .before .runs .ensures .is) (c .before .loop .inv) (c .loop-test .left)
 
 pub run-meets-spec : {M : Type 1} → statement M
 run-meets-spec =

@@ -19,14 +19,22 @@ flag-requires c κs = (c .before .before .before .pre .0, slot-of _ _ _ (is-yes 
 
 returns-2 : tie.Need-returns-2
 unfolding shares
-returns-2 c = sym (all-yes (is-yes (c .before .before .before .is-slot .ensures) (c .before .before .if1 .left)) _ ∙ all-no (is-no (c .before .flag .ensures) (c .if2 .taken)) _)
+returns-2 c = sym (all-yes (is-yes (c .before .before .before .is-slot .ensures) (c .before .before .if1 .left)) _ ∙ all-no
+    (is-no (c .before .flag .ensures) (c .if2 .taken)) _)
 
 entries-meet-requires : tie.Need-entries-meet-requires
-entries-meet-requires c κs = (c .before .before .before .before .before .pre .0, c .before .before .before .before .before .pre .1, slot-of _ _ _ (is-yes (c .before .before .before .is-slot .ensures) (c .before .before .if1 .left)))
+entries-meet-requires c κs =
+    let c₃ = c .before .before .before in let is-slot = c₃ .is-slot in
+    let c₅ = c₃ .before .before in let p = c₅ .pre in
+    (p .0, p .1, slot-of _ _ _ (is-yes (is-slot .ensures) (c .before .before .if1 .left)))
 
 returns-3 : tie.Need-returns-3
 unfolding shares
-returns-3 c = c .entries-meet .ensures ∙ sym (all-yes (is-yes (c .before .before .before .before .is-slot .ensures) (c .before .before .before .if1 .left)) _ ∙ all-yes (is-yes (c .before .before .flag .ensures) (c .before .if2 .left)) _ ∙ all-one _)
+returns-3 c =
+    let c₃ = c .before .before .before in let if1 = c₃ .if1 in
+    let c₄ = c₃ .before in let is-slot = c₄ .is-slot in
+    c .entries-meet .ensures ∙ sym (all-yes (is-yes (is-slot .ensures) (if1 .left)) _ ∙ all-yes
+    (is-yes (c .before .before .flag .ensures) (c .before .if2 .left)) _ ∙ all-one _)
 
 pub shares-spec : {M : Type 1} → statement M
 shares-spec = tie.close (tie.spec is-slot-requires returns flag-requires returns-2 entries-meet-requires returns-3)

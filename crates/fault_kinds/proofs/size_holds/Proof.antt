@@ -18,7 +18,13 @@ count-from-requires c κs = search needs
 
 size-holds-requires : tie.Need-size-holds-requires
 unfolding owned
-size-holds-requires c κs = ((c .before .before .pre) .0, (c .before .before .pre) .1, c .count-from .ensures .small, c .count-from .ensures .is ∙ ap (λ (l : List ℕ). length (each (entryGranules (c .before .before .args .g) (c .before .before .args .image .now)) l)) ((c .before .before .pre) .3))
+size-holds-requires c κs = (
+  (c .before .before .pre) .0,
+  (c .before .before .pre) .1,
+  c .count-from .ensures .small,
+  c .count-from .ensures .is ∙ ap
+      (λ (l : List ℕ). length (each (entryGranules (c .before .before .args .g) (c .before .before .args .image .now)) l)) ((c .before .before .pre) .3),
+)
 
 returns : tie.Need-returns
 returns c = search needs

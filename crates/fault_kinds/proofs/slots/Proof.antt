@@ -13,7 +13,8 @@ slots-requires : tie.Need-slots-requires
 slots-requires c κs = search needs
 
 returns : tie.Need-returns
-returns c = let a = c .before .before .args in let h = c .slots .ensures .is in record { is = h ∙ sym (slots-length (a .g) (a .image .now) (omega arith) (omega arith)); small = omega arith }
+returns c = let a = c .before .before .args in let h = c .slots .ensures .is in
+    record { is = h ∙ sym (slots-length (a .g) (a .image .now) (omega arith) (omega arith)); small = omega arith }
 
 pub slots-spec : {M : Type 1} → statement M
 slots-spec = tie.close (tie.spec slots-requires returns)

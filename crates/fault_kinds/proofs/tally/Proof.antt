@@ -17,11 +17,19 @@ follows-requires c κs = search needs
 
 returns-2 : tie.Need-returns-2
 unfolding followsBy
-returns-2 c = record { is = tally-bad _ _ _ _ (is-yes (c .before .before .before .leads .ensures) (c .before .before .if1 .left)) (is-no (c .before .follows .ensures) (c .if2 .taken)); small = omega arith }
+returns-2 c = record {
+  is = tally-bad _ _ _ _ (is-yes (c .before .before .before .leads .ensures) (c .before .before .if1 .left))
+      (is-no (c .before .follows .ensures) (c .if2 .taken));
+  small = omega arith;
+}
 
 returns-3 : tie.Need-returns-3
 unfolding followsBy
-returns-3 c = record { is = tally-good _ _ _ _ (is-yes (c .before .before .before .leads .ensures) (c .before .before .if1 .left)) (is-yes (c .before .follows .ensures) (c .if2 .left)); small = omega arith }
+returns-3 c = record {
+  is = tally-good _ _ _ _ (is-yes (c .before .before .before .leads .ensures) (c .before .before .if1 .left))
+      (is-yes (c .before .follows .ensures) (c .if2 .left));
+  small = omega arith;
+}
 
 pub tally-spec : {M : Type 1} → statement M
 tally-spec = tie.close (tie.spec leads-requires returns follows-requires returns-2 returns-3)

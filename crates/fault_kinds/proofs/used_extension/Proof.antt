@@ -23,14 +23,22 @@ flag-requires c κs = (c .before .before .before .pre, slot-of _ _ _ (is-yes (c 
 
 returns-2 : tie.Need-returns-2
 unfolding usedExtension
-returns-2 c = sym (all-yes (is-yes (c .before .before .before .is-slot .ensures) (c .before .before .if1 .left)) _ ∙ all-no (is-no (c .before .flag .ensures) (c .if2 .taken)) _)
+returns-2 c = sym (all-yes (is-yes (c .before .before .before .is-slot .ensures) (c .before .before .if1 .left)) _ ∙ all-no
+    (is-no (c .before .flag .ensures) (c .if2 .taken)) _)
 
 flag-requires-2 : tie.Need-flag-requires-2
-flag-requires-2 c κs = (c .before .before .before .before .before .pre, slot-of _ _ _ (is-yes (c .before .before .before .is-slot .ensures) (c .before .before .if1 .left)), omega arith)
+flag-requires-2 c κs =
+    let c₃ = c .before .before .before in let is-slot = c₃ .is-slot in
+    let c₅ = c₃ .before .before in let p = c₅ .pre in
+    (p, slot-of _ _ _ (is-yes (is-slot .ensures) (c .before .before .if1 .left)), omega arith)
 
 returns-3 : tie.Need-returns-3
 unfolding usedExtension
-returns-3 c = c .flag2 .ensures ∙ sym (all-yes (is-yes (c .before .before .before .before .is-slot .ensures) (c .before .before .before .if1 .left)) _ ∙ all-yes (is-yes (c .before .before .flag .ensures) (c .before .if2 .left)) _ ∙ all-one _)
+returns-3 c =
+    let c₃ = c .before .before .before in let if1 = c₃ .if1 in
+    let c₄ = c₃ .before in let is-slot = c₄ .is-slot in
+    c .flag2 .ensures ∙ sym (all-yes (is-yes (is-slot .ensures) (if1 .left)) _ ∙ all-yes (is-yes (c .before .before .flag .ensures) (c .before .if2 .left)) _
+    ∙ all-one _)
 
 pub used-extension-spec : {M : Type 1} → statement M
 used-extension-spec =

@@ -22,16 +22,28 @@ chain-fault-requires : tie.Need-chain-fault-requires Inv-loop μ-loop
 chain-fault-requires c κs = (c .before .before .before .pre .0, c .before .loop .inv .1)
 
 returns : tie.Need-returns Inv-loop μ-loop
-returns c = whole-no _ _ _ _ _ _ (c .before .before .before .loop .inv .0) (c .before .before .loop-test .taken) (so (c .before .chain-fault .ensures) (c .if1 .taken))
+returns c = whole-no _ _ _ _ _ _ (c .before .before .before .loop .inv .0) (c .before .before .loop-test .taken)
+    (so (c .before .chain-fault .ensures) (c .if1 .taken))
 
 hands-on-requires : tie.Need-hands-on-requires Inv-loop μ-loop
-hands-on-requires c κs = (c .before .before .before .before .before .pre .0, c .before .before .before .loop .inv .1)
+hands-on-requires c κs =
+    let c₃ = c .before .before .before in let l = c₃ .loop in
+    let c₅ = c₃ .before .before in let p = c₅ .pre in
+    (p .0, l .inv .1)
 
 returns-2 : tie.Need-returns-2 Inv-loop μ-loop
-returns-2 c = whole-end _ _ _ _ _ _ (c .before .before .before .before .before .loop .inv .0) (c .before .before .before .before .loop-test .taken) (not-so (c .before .before .before .chain-fault .ensures) (c .before .before .if1 .left)) (is-no (c .before .hands-on .ensures) (c .if2 .taken))
+returns-2 c =
+    let c₃ = c .before .before .before in let chain-fault = c₃ .chain-fault in
+    let c₄ = c₃ .before in let loop-test = c₄ .loop-test in
+    let c₅ = c₄ .before in let l = c₅ .loop in
+    whole-end _ _ _ _ _ _ (l .inv .0) (loop-test .taken) (not-so (chain-fault .ensures) (c .before .before .if1 .left))
+    (is-no (c .before .hands-on .ensures) (c .if2 .taken))
 
 field-requires : tie.Need-field-requires Inv-loop μ-loop
-field-requires c κs = (c .before .before .before .before .before .before .before .pre .0, c .before .before .before .before .before .loop .inv .1, omega arith)
+field-requires c κs =
+    let c₅ = c .before .before .before .before .before in let l = c₅ .loop in
+    let c₇ = c₅ .before .before in let p = c₇ .pre in
+    (p .0, l .inv .1, omega arith)
 
 sub-left : tie.Need-sub-left Inv-loop μ-loop
 sub-left c = search needs
@@ -40,10 +52,20 @@ loop-less : tie.Need-loop-less Inv-loop μ-loop
 loop-less c = omega arith
 
 loop-again : tie.Need-loop-again Inv-loop μ-loop
-loop-again c = (whole-on _ _ _ _ _ _ (c .before .before .before .before .before .before .loop .inv .0) (c .before .before .before .before .before .loop-test .taken) (not-so (c .before .before .before .before .chain-fault .ensures) (c .before .before .before .if1 .left)) (is-yes (c .before .before .hands-on .ensures) (c .before .if2 .left)) (c .field .ensures .is), hands-slot _ _ _ (is-yes (c .before .before .hands-on .ensures) (c .before .if2 .left)) (c .field .ensures .is))
+loop-again c =
+    let c₃ = c .before .before .before in let if1 = c₃ .if1 in
+    let c₄ = c₃ .before in let chain-fault = c₄ .chain-fault in
+    let c₅ = c₄ .before in let loop-test = c₅ .loop-test in
+    let c₆ = c₅ .before in let l = c₆ .loop in (
+      whole-on _ _ _ _ _ _ (l .inv .0) (loop-test .taken) (not-so (chain-fault .ensures) (if1 .left))
+          (is-yes (c .before .before .hands-on .ensures) (c .before .if2 .left)) (c .field .ensures .is),
+      hands-slot _ _ _
+          (is-yes (c .before .before .hands-on .ensures) (c .before .if2 .left)) (c .field .ensures .is),
+    )
 
 returns-3 : tie.Need-returns-3 Inv-loop μ-loop
 returns-3 c = whole-none _ _ _ _ _ _ (c .before .loop .inv .0) (c .loop-test .left)
 
 pub whole-from-spec : {M : Type 1} → statement M
-whole-from-spec = tie.close (tie.spec Inv-loop μ-loop loop-holds chain-fault-requires returns hands-on-requires returns-2 field-requires sub-left loop-less loop-again returns-3)
+whole-from-spec = tie.close (tie.spec Inv-loop μ-loop loop-holds chain-fault-requires returns hands-on-requires returns-2 field-requires sub-left loop-less
+    loop-again returns-3)

@@ -26,7 +26,8 @@ add-t7 c = search needs
 
 -- src/lib.rt:78:9
 returns : tie.Need-returns
-returns c = let a = c .before .before .args in let w = shl-wide (a .units) (c .before .before .pre .2) in record { is = bits-clear (a .units) (a .byte) (a .p) (ap (λ (k : ℕ). a .byte % k) (sym w) ∙ c .before .if1 .taken); few = omega arith }
+returns c = let a = c .before .before .args in let w = shl-wide (a .units) (c .before .before .pre .2) in
+    record { is = bits-clear (a .units) (a .byte) (a .p) (ap (λ (k : ℕ). a .byte % k) (sym w) ∙ c .before .if1 .taken); few = omega arith }
 
 -- src/lib.rt:84:15
 sub-if2 : tie.Need-sub-if2
@@ -38,7 +39,12 @@ ended-requires c κs = let r = c .before .before .pre .0 .few in record { few = 
 
 -- src/lib.rt:85:9
 returns-2 : tie.Need-returns-2
-returns-2 c = let a = c .before .before .before .args in let w = shl-wide (a .units) (c .before .before .before .pre .2) in record { is = c .ended .ensures ∙ bits-set (a .units) (a .byte) (a .p) (c .before .before .before .pre .1) (ap (λ (k : ℕ). a .byte % k) (sym w) ∙ c .before .if2 .taken ∙ ap (λ (k : ℕ). k - 1) w); few = ended-few _ _ _ (c .ended .ensures) }
+returns-2 c = let a = c .before .before .before .args in let w = shl-wide (a .units) (c .before .before .before .pre .2) in
+    record {
+      is = c .ended .ensures ∙ bits-set (a .units) (a .byte) (a .p) (c .before .before .before .pre .1)
+          (ap (λ (k : ℕ). a .byte % k) (sym w) ∙ c .before .if2 .taken ∙ ap (λ (k : ℕ). k - 1) w);
+      few = ended-few _ _ _ (c .ended .ensures);
+    }
 
 -- src/lib.rt:87:5
 each-bit-requires : tie.Need-each-bit-requires

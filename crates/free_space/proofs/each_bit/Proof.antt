@@ -28,7 +28,10 @@ loop-less : tie.Need-loop-less Inv-loop μ-loop
 loop-less c = omega arith
 
 loop-again : tie.Need-loop-again Inv-loop μ-loop
-loop-again c = (bits-more _ _ _ _ _ (c .before .before .loop .inv .0) (c .before .loop-test .taken) (c .met .ensures), (let k = met-few _ _ _ (c .met .ensures) in omega arith))
+loop-again c = (
+  bits-more _ _ _ _ _ (c .before .before .loop .inv .0) (c .before .loop-test .taken) (c .met .ensures),
+  (let k = met-few _ _ _ (c .met .ensures) in omega arith),
+)
 
 returns : tie.Need-returns Inv-loop μ-loop
 returns c = record { is = bits-none _ _ _ _ (c .before .loop .inv .0) (c .loop-test .left); few = omega arith }

@@ -25,7 +25,8 @@ unplaced-requires-2 : tie.Need-unplaced-requires-2
 unplaced-requires-2 c κs = search needs
 
 returns-2 : tie.Need-returns-2
-returns-2 c = space-accepted _ _ (c .unplaced2 .ensures) (is-yes (c .before .before .before .fits-geometry .ensures) (c .before .before .if1 .left)) (c .before .pass .ensures .free) (c .before .pass .ensures .longest′)
+returns-2 c = space-accepted _ _ (c .unplaced2 .ensures) (is-yes (c .before .before .before .fits-geometry .ensures) (c .before .before .if1 .left))
+    (c .before .pass .ensures .free) (c .before .pass .ensures .longest′)
 
 pub free-space-spec : {M : Type 1} → statement M
 free-space-spec = tie.close (tie.spec fits-geometry-requires unplaced-requires returns pass-requires unplaced-requires-2 returns-2)

@@ -43,7 +43,14 @@ loop-less : tie.Need-loop-less Inv-loop μ-loop
 loop-less c = omega arith
 
 loop-again : tie.Need-loop-again Inv-loop μ-loop
-loop-again c = (omega arith, (let r = c .before .before .before .before .before .before .before .before .pre in let k = c .block .ensures .few in omega arith), going-step _ _ (c .before .before .before .before .before .before .before .before .pre .units-low) (c .before .before .before .before .before .before .loop .inv .2) (c .before .before .before .before .if1 .taken) (c .before .wide .ensures .is) (c .block .ensures .is))
+loop-again c = (
+  omega arith,
+  (let r = c .before .before .before .before .before .before .before .before .pre in let k = c .block .ensures .few in omega
+      arith),
+  going-step _ _ (c .before .before .before .before .before .before .before .before .pre .units-low)
+      (c .before .before .before .before .before .before .loop .inv .2) (c .before .before .before .before .if1 .taken) (c .before .wide .ensures .is)
+      (c .block .ensures .is),
+)
 
 ended-requires : tie.Need-ended-requires Inv-loop μ-loop
 ended-requires c κs = let r = c .before .before .before .before .pre in record { few = omega arith }

@@ -55,7 +55,8 @@ returns c =
     let the-check = c .before .before .before .check in
     let the-check2 = c .before .before .check2 in
     at-disk (λ (g : Geometry). exportedCompare g (a .first .now)
-    (geometry (a .blocks2) (a .units2) (a .start2) (a .open-code2) (a .system-disk2) (a .granule-sectors2)) (a .second .now) (a .number) (a .name .now)) (the-geometry .ensures)
+    (geometry (a .blocks2) (a .units2) (a .start2) (a .open-code2) (a .system-disk2) (a .granule-sectors2)) (a .second .now) (a .number) (a .name .now))
+    (the-geometry .ensures)
     (at-disk (λ (h : Geometry). exportedCompare (the-geometry .result) (a .first .now) h (a .second .now) (a .number) (a .name .now)) (the-geometry2 .ensures)
     (rw (lt-ltb _ _ (the-if1 .taken)) (short-told (a .name .now) (the-short-of-two .result) (the-wide .ensures .is)
     (the-short-of-two .ensures ∙ (λ i. shortOfTwo (the-check .ensures i) (the-check2 .ensures i))))))
@@ -89,7 +90,8 @@ returns-2 c =
     let the-flags-of = c .before .before .flags-of in
     let the-if2 = c .if2 in
     at-disk (λ (g : Geometry). exportedCompare g (a .first .now)
-    (geometry (a .blocks2) (a .units2) (a .start2) (a .open-code2) (a .system-disk2) (a .granule-sectors2)) (a .second .now) (a .number) (a .name .now)) (the-geometry .ensures)
+    (geometry (a .blocks2) (a .units2) (a .start2) (a .open-code2) (a .system-disk2) (a .granule-sectors2)) (a .second .now) (a .number) (a .name .now))
+    (the-geometry .ensures)
     (at-disk (λ (h : Geometry). exportedCompare (the-geometry .result) (a .first .now) h (a .second .now) (a .number) (a .name .now)) (the-geometry2 .ensures)
     (rw (le-ltb _ _ (the-if1 .left)) (none-told (a .name .now) (the-compare .result) (the-wide2 .ensures .is) (the-wide3 .ensures .is)
     (the-flags-of .ensures) (the-compare .ensures) (the-if2 .taken))))
@@ -116,7 +118,8 @@ returns-3 c =
     let the-if2 = c .before .before .before .before .before .if2 in
     let the-put-name = c .before .before .put-name in
     at-disk (λ (g : Geometry). exportedCompare g (a .first .now)
-    (geometry (a .blocks2) (a .units2) (a .start2) (a .open-code2) (a .system-disk2) (a .granule-sectors2)) (a .second .now) (a .number) (a .name .now)) (the-geometry .ensures)
+    (geometry (a .blocks2) (a .units2) (a .start2) (a .open-code2) (a .system-disk2) (a .granule-sectors2)) (a .second .now) (a .number) (a .name .now))
+    (the-geometry .ensures)
     (at-disk (λ (h : Geometry). exportedCompare (the-geometry .result) (a .first .now) h (a .second .now) (a .number) (a .name .now)) (the-geometry2 .ensures)
     (rw (le-ltb _ _ (the-if1 .left)) (one-told (a .name .now) (the-compare .result) (the-wide2 .ensures .is) (the-wide3 .ensures .is)
     (the-flags-of .ensures) (the-compare .ensures) (the-if2 .left) (the-put-name .ensures))))

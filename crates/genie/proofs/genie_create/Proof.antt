@@ -34,7 +34,8 @@ returns c =
     let a = c .before .before .before .before .before .before .before .before .args in
     at-disk (λ (g : Geometry). exportedCreate g (a .image .now) (a .name .now) (newFile (a .day) (a .month) (a .year) (a .length) (a .main) (a .worker))
     (a .checking) (a .handle .now)) (c .before .before .before .before .geometry .ensures)
-    (rw (lt-ltb _ _ (c .before .before .before .if1 .taken)) (λ i. (c .short .ensures .0 i, c .short .ensures .1 i, noPlace, 0, a .handle .now, a .image .now)))
+    (rw (lt-ltb _ _ (c .before .before .before .if1 .taken))
+    (λ i. (c .short .ensures .0 i, c .short .ensures .1 i, noPlace, 0, a .handle .now, a .image .now)))
 
 -- src/lib.rt:185:9
 create-requires : tie.Need-create-requires

@@ -72,7 +72,8 @@ returns-2 c =
     let p = (pair (the-geometry .result) (a .image0 .now) (the-geometry2 .result) (a .image1 .now)) in let r = the-read-record .result in
     at-drives (λ (g h : Geometry). drivesReadRecord (pair g (a .image0 .now) h (a .image1 .now)) (a .handle .now) (a .buffer .now))
     (the-geometry .ensures) (the-geometry2 .ensures) (reading (a .handle .now) r (sym (the-if1 .left)) (the-fault-drive .ensures) (moved
-    (a .handle .now) r (the-if1 .left) (the-put-handle .ensures)) (the-read-record .last .1 .1 .1 .1 .1 .0) (the-read-record .ensures ∙ ap (λ (x : DriveHandle).
+    (a .handle .now) r (the-if1 .left) (the-put-handle .ensures)) (the-read-record .last .1 .1 .1 .1 .1 .0)
+    (the-read-record .ensures ∙ ap (λ (x : DriveHandle).
     readRecord p x (a .buffer .now)) (the-handle-of .ensures)))
 
 pub genie-drives-read-record-spec : {M : Type 1} → statement M

@@ -79,7 +79,8 @@ returns-2 c =
     let a = far .before .before .before .before .before .before .before .before .before .before .before .args in
     let the-geometry = far .before .before .before .before .before .before .geometry in
     let the-geometry2 = far .before .before .before .before .before .geometry2 in
-    let the-handle-of = c .before .before .before .before .before .before .before .before .before .before .before .before .before .before .before .handle-of in
+    let the-handle-of = c .before .before .before .before .before .before .before .before .before .before .before .before .before .before .before .handle-of
+    in
     let the-mode-of = c .before .before .before .before .before .before .before .before .before .before .before .before .before .before .mode-of in
     let the-write-record = c .before .before .before .before .before .before .before .before .before .before .before .write-record in
     let the-fault-drive = c .before .before .before .before .before .before .fault-drive in

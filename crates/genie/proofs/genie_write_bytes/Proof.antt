@@ -78,7 +78,8 @@ same-length-5 c = search needs
 
 returns-3 : tie.Need-returns-3
 returns-3 c =
-    let a = c .before .before .before .before .before .before .before .before .before .before .before .before .before .before .before .before .before .before .args in
+    let a = c .before .before .before .before .before .before .before .before .before .before .before .before .before .before .before .before .before .before
+    .args in
     let the-geometry = c .before .before .before .before .before .before .before .before .before .before .before .before .before .before .geometry in
     let the-if1 = c .before .before .before .before .before .before .before .before .before .before .before .before .before .if1 in
     let the-write-bytes = c .before .before .before .before .before .before .before .before .write-bytes in

@@ -30,7 +30,8 @@ add-result-3 c = search needs
 
 returns : tie.Need-returns
 unfolding flagsOf
-returns c = let p = c .before .before .before .flag .ensures .0 in let q = c .before .before .flag2 .ensures .0 in let r = c .before .flag3 .ensures .0 in let s = c .flag4 .ensures .0 in λ i. p i + q i + r i + s i
+returns c = let p = c .before .before .before .flag .ensures .0 in let q = c .before .before .flag2 .ensures .0 in let r = c .before .flag3 .ensures .0 in
+    let s = c .flag4 .ensures .0 in λ i. p i + q i + r i + s i
 
 pub flags-of-spec : {M : Type 1} → statement M
 flags-of-spec =

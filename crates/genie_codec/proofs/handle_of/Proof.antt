@@ -48,8 +48,21 @@ wide-requires-2 c κs = search needs
 
 returns : tie.Need-returns
 unfolding handleOf
-returns c = let b = c .before .before .before .before .before .before .before .before .before .before .before .args .b .now in
-    λ i. record { slot = (c .before .before .before .before .before .wide .ensures .is) i; name = (c .before .before .before .before .before .before .before .before .put-part .ensures ∙ whole (replicate 11 0) (take 11 (drop 8 b)) (from-length b 8 11 (c .before .before .before .before .before .before .before .before .before .before .before .pre))) i; at = (c .before .before .before .before .two .ensures .is) i + 65536 * (c .before .before .before .two2 .ensures .is) i; len = (c .before .before .two3 .ensures .is) i; level = (c .wide2 .ensures .is) i }
+returns c =
+    let c₃ = c .before .before .before in let two2 = c₃ .two2 in
+    let c₄ = c₃ .before in let two = c₄ .two in
+    let c₅ = c₄ .before in let wide = c₅ .wide in
+    let c₈ = c₅ .before .before .before in let put-part = c₈ .put-part in
+    let c₁₁ = c₈ .before .before .before in let a = c₁₁ .args in let p = c₁₁ .pre in
+    let b = a .b .now in
+    λ i. record {
+      slot = (wide .ensures .is) i;
+      name = (put-part .ensures ∙ whole (replicate 11 0) (take 11 (drop 8 b)) (from-length b 8 11 p)) i;
+      at =
+          (two .ensures .is) i + 65536 * (two2 .ensures .is) i;
+      len = (c .before .before .two3 .ensures .is) i;
+      level = (c .wide2 .ensures .is) i;
+    }
 
 pub handle-of-spec : {M : Type 1} → statement M
 handle-of-spec =

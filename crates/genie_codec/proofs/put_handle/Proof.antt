@@ -44,7 +44,10 @@ same-length : tie.Need-same-length
 same-length c = search needs
 
 returns : tie.Need-returns
-returns c = numbers-then-name (c .before .before .before .before .before .before .before .before .before .before .before .before .before .before .before .before .before .before .before .args .b .now) (c .before .before .before .before .before .before .before .before .before .before .before .before .before .before .before .before .before .before .before .args .h) (c .before .before .before .before .before .before .before .put-part .ensures) (c .before .before .put-name .ensures)
+returns c =
+    let c₇ = c .before .before .before .before .before .before .before in let put-part = c₇ .put-part in
+    let c₁₉ = c₇ .before .before .before .before .before .before .before .before .before .before .before .before in let a = c₁₉ .args in
+    numbers-then-name (a .b .now) (a .h) (put-part .ensures) (c .before .before .put-name .ensures)
 
 pub put-handle-spec : {M : Type 1} → statement M
 put-handle-spec =

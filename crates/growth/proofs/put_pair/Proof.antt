@@ -23,7 +23,8 @@ same-length c = search needs
 
 returns : tie.Need-returns
 returns c = let a = c .before .before .before .before .before .before .args in
-    not-stored (λ (l : List ℕ). takeGranule (a .g) l (a .n)) (a .writes) _ _ _ (c .before .before .before .before .if1 .taken) (c .before .before .take-granule .ensures)
+    not-stored (λ (l : List ℕ). takeGranule (a .g) l (a .n)) (a .writes) _ _ _ (c .before .before .before .before .if1 .taken)
+    (c .before .before .take-granule .ensures)
 
 div-set-pair : tie.Need-div-set-pair
 div-set-pair c = search needs
@@ -32,15 +33,20 @@ rem-set-pair : tie.Need-rem-set-pair
 rem-set-pair c = search needs
 
 mul-set-pair : tie.Need-mul-set-pair
-mul-set-pair c = let a = c .before .before .before .before .before .args in let i = c .before .before .before .before .before .pre .0 in let u = i .units-low in let v = i .units-high in omega (arith, mod-lt (a .n) {m = a .g .units} (omega arith))
+mul-set-pair c = let a = c .before .before .before .before .before .args in let i = c .before .before .before .before .before .pre .0 in
+    let u = i .units-low in let v = i .units-high in omega (arith, mod-lt (a .n) {m = a .g .units} (omega arith))
 
 set-pair-requires : tie.Need-set-pair-requires
-set-pair-requires c κs = let a = c .before .before .before .before .before .args in let i = c .before .before .before .before .before .pre .0 in let u = i .units-low in let v = i .units-high in let q = i .entry in let w = i .block in
+set-pair-requires c κs = let a = c .before .before .before .before .before .args in let i = c .before .before .before .before .before .pre .0 in
+    let u = i .units-low in let v = i .units-high in let q = i .entry in let w = i .block in
     (omega arith, omega arith, omega arith, omega (arith, mod-lt (a .n) {m = a .g .units} (omega arith)))
 
 take-granule-requires-2 : tie.Need-take-granule-requires-2
-take-granule-requires-2 c κs = let i = c .before .before .before .before .before .before .before .before .before .pre .0 in let q = i .entry in let w = i .block in
-    let z : length (c .before .before .before .set-pair .last .0) ≡ length (c .before .before .before .before .before .before .before .before .before .args .image .now) = search needs in
+take-granule-requires-2 c κs =
+    let c₃ = c .before .before .before in let set-pair = c₃ .set-pair in
+    let c₉ = c₃ .before .before .before .before .before .before in let a = c₉ .args in let p = c₉ .pre in
+    let i = p .0 in let q = i .entry in let w = i .block in
+    let z : length (set-pair .last .0) ≡ length (a .image .now) = search needs in
     record { units-low = i .units-low; units-high = i .units-high; inside = omega arith }
 
 same-length-2 : tie.Need-same-length-2
@@ -48,8 +54,10 @@ same-length-2 c = search needs
 
 returns-2 : tie.Need-returns-2
 returns-2 c = let a = c .before .before .before .before .before .before .before .before .before .before .before .before .args in
-    stored (λ (l : List ℕ). takeGranule (a .g) l (a .n)) (a .writes) _ _ _ (c .before .before .before .before .before .before .before .before .before .before .if1 .left)
-    (c .before .before .take-granule2 .ensures ∙ ap (λ (l : List ℕ). takeGranule (a .g) l (a .n)) (c .before .before .before .before .before .before .set-pair .ensures))
+    stored (λ (l : List ℕ). takeGranule (a .g) l (a .n)) (a .writes) _ _ _
+    (c .before .before .before .before .before .before .before .before .before .before .if1 .left)
+    (c .before .before .take-granule2 .ensures ∙ ap (λ (l : List ℕ). takeGranule (a .g) l (a .n))
+    (c .before .before .before .before .before .before .set-pair .ensures))
 
 pub put-pair-spec : {M : Type 1} → statement M
 put-pair-spec =

@@ -25,22 +25,41 @@ loop-holds : tie.Need-loop-holds Inv-loop μ-loop
 loop-holds c = let e = c .granules .ensures .0 in passing-start _ _ (let w = c .before .before .pre .1 in omega arith)
 
 block-taken-requires : tie.Need-block-taken-requires Inv-loop μ-loop
-block-taken-requires c κs = (c .before .before .before .before .pre .0, let e = c .before .before .granules .ensures .0 in omega arith)
+block-taken-requires c κs =
+    let c₄ = c .before .before .before .before in let p = c₄ .pre in
+    (p .0, let e = c .before .before .granules .ensures .0 in omega arith)
 
 add-n : tie.Need-add-n Inv-loop μ-loop
-add-n c = let r = c .before .before .before .before .before .before .before .pre .0 .units-high in let m = c .before .before .before .before .before .before .before .pre .0 .most in let e = c .before .before .before .before .before .granules .ensures .0 in omega arith
+add-n c =
+    let c₅ = c .before .before .before .before .before in let granules = c₅ .granules in
+    let c₇ = c₅ .before .before in let p = c₇ .pre in
+    let r = p .0 .units-high in let m = p .0 .most in let e = granules .ensures .0 in omega arith
 
 loop-less : tie.Need-loop-less Inv-loop μ-loop
-loop-less c = let r = c .before .before .before .before .before .before .before .pre .0 .units-low in omega arith
+loop-less c =
+    let c₇ = c .before .before .before .before .before .before .before in let p = c₇ .pre in
+    let r = p .0 .units-low in omega arith
 
 loop-again : tie.Need-loop-again Inv-loop μ-loop
-loop-again c = passing-block _ _ (c .before .before .before .before .before .before .before .pre .0 .units-low) (c .before .before .before .before .loop .inv) (c .before .before .before .loop-test .taken) (c .before .before .before .before .before .granules .ensures .0) (sym (c .before .before .block-taken .ensures) ∙ c .before .if1 .taken)
+loop-again c =
+    let c₃ = c .before .before .before in let loop-test = c₃ .loop-test in
+    let c₄ = c₃ .before in let l = c₄ .loop in
+    let c₅ = c₄ .before in let granules = c₅ .granules in
+    let c₇ = c₅ .before .before in let p = c₇ .pre in
+    passing-block _ _ (p .0 .units-low) (l .inv) (loop-test .taken) (granules .ensures .0)
+    (sym (c .before .before .block-taken .ensures) ∙ c .before .if1 .taken)
 
 taken-requires : tie.Need-taken-requires Inv-loop μ-loop
-taken-requires c κs = (c .before .before .before .before .before .before .pre .0, let e = c .before .before .before .before .granules .ensures .0 in omega arith)
+taken-requires c κs =
+    let c₄ = c .before .before .before .before in let granules = c₄ .granules in
+    let c₆ = c₄ .before .before in let p = c₆ .pre in
+    (p .0, let e = granules .ensures .0 in omega arith)
 
 returns : tie.Need-returns Inv-loop μ-loop
-returns c = passing-found _ _ (c .before .before .before .before .before .loop .inv) (c .before .before .before .before .before .before .granules .ensures .0) (is-no (c .before .taken .ensures) (c .if2 .taken))
+returns c =
+    let c₅ = c .before .before .before .before .before in let l = c₅ .loop in
+    let c₆ = c₅ .before in let granules = c₆ .granules in
+    passing-found _ _ (l .inv) (granules .ensures .0) (is-no (c .before .taken .ensures) (c .if2 .taken))
 
 add-n-2 : tie.Need-add-n-2 Inv-loop μ-loop
 add-n-2 c = search needs
@@ -49,7 +68,10 @@ loop-less-2 : tie.Need-loop-less-2 Inv-loop μ-loop
 loop-less-2 c = search needs
 
 loop-again-2 : tie.Need-loop-again-2 Inv-loop μ-loop
-loop-again-2 c = passing-step _ _ (c .before .before .before .before .before .loop .inv) (c .before .before .before .before .loop-test .taken) (is-yes (c .before .taken .ensures) (c .if2 .left))
+loop-again-2 c =
+    let c₄ = c .before .before .before .before in let loop-test = c₄ .loop-test in
+    let c₅ = c₄ .before in let l = c₅ .loop in
+    passing-step _ _ (l .inv) (loop-test .taken) (is-yes (c .before .taken .ensures) (c .if2 .left))
 
 returns-2 : tie.Need-returns-2 Inv-loop μ-loop
 returns-2 c = passing-end _ _ (c .before .loop .inv) (c .before .before .granules .ensures .0) (c .loop-test .left)

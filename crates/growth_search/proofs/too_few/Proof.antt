@@ -25,7 +25,9 @@ loop-holds : tie.Need-loop-holds Inv-loop μ-loop
 loop-holds c = (omega arith, omega arith, freed-start _ _)
 
 returns : tie.Need-returns Inv-loop μ-loop
-returns c = sym (le-ltb (length (freeGranules (c .before .before .before .before .args .g) (c .before .before .before .before .args .image .now))) (c .before .before .before .before .args .k) (let f = c .before .before .loop .inv .2 .rest in let t = c .if1 .taken in omega arith))
+returns c =
+    let c₄ = c .before .before .before .before in let a = c₄ .args in
+    sym (le-ltb (length (freeGranules (a .g) (a .image .now))) (a .k) (let f = c .before .before .loop .inv .2 .rest in let t = c .if1 .taken in omega arith))
 
 sub-b : tie.Need-sub-b Inv-loop μ-loop
 sub-b c = omega arith
@@ -43,7 +45,9 @@ wide-requires : tie.Need-wide-requires Inv-loop μ-loop
 wide-requires c κs = search needs
 
 clear-bits-requires : tie.Need-clear-bits-requires Inv-loop μ-loop
-clear-bits-requires c κs = c .before .before .before .before .before .before .before .pre .units-high
+clear-bits-requires c κs =
+    let c₇ = c .before .before .before .before .before .before .before in let p = c₇ .pre in
+    p .units-high
 
 add-n : tie.Need-add-n Inv-loop μ-loop
 add-n c = let r = c .before .before .before .before .before .before .before .before .pre in let k = c .clear-bits .ensures .1 in omega arith
@@ -52,10 +56,21 @@ loop-less : tie.Need-loop-less Inv-loop μ-loop
 loop-less c = omega arith
 
 loop-again : tie.Need-loop-again Inv-loop μ-loop
-loop-again c = (omega arith, (let k = c .clear-bits .ensures .1 in omega arith), freed-step _ _ (c .before .before .before .before .before .before .before .before .pre .units-low) (c .before .before .before .before .before .before .loop .inv .2) (c .before .before .before .before .before .loop-test .taken) (c .before .wide .ensures .is) (c .clear-bits .ensures .0))
+loop-again c =
+    let c₅ = c .before .before .before .before .before in let loop-test = c₅ .loop-test in
+    let c₆ = c₅ .before in let l = c₆ .loop in
+    let c₈ = c₆ .before .before in let p = c₈ .pre in (
+      omega arith,
+      (let k = c .clear-bits .ensures .1 in omega arith),
+      freed-step _ _ (p .units-low) (l .inv .2) (loop-test .taken)
+          (c .before .wide .ensures .is) (c .clear-bits .ensures .0),
+    )
 
 returns-2 : tie.Need-returns-2 Inv-loop μ-loop
-returns-2 c = let z : c .before .loop .b ≡ 0 = omega arith in ap (λ (m : ℕ). ltb m (c .before .before .before .args .k)) (freed-end _ _ (subst (λ (j : ℕ). Freed (c .before .before .before .args .g) (c .before .before .before .args .image .now) j (c .before .loop .n)) z (c .before .loop .inv .2)))
+returns-2 c = let z : c .before .loop .b ≡ 0 = omega arith in
+    ap (λ (m : ℕ). ltb m (c .before .before .before .args .k))
+    (freed-end _ _ (subst (λ (j : ℕ). Freed (c .before .before .before .args .g) (c .before .before .before .args .image .now) j (c .before .loop .n)) z
+    (c .before .loop .inv .2)))
 
 pub too-few-spec : {M : Type 1} → statement M
 too-few-spec =

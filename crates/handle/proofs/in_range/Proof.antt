@@ -22,11 +22,18 @@ good-length-requires c κs = search needs
 
 returns-2 : tie.Need-returns-2
 unfolding inRange
-returns-2 c = rw (← c .before .before .before .before .highest .ensures .is) (sym (all-yes (le-leb _ _ (c .before .before .if1 .left)) _ ∙ all-no (is-no (c .before .good-length .ensures) (c .if2 .taken)) _))
+returns-2 c =
+    let c₄ = c .before .before .before .before in let highest = c₄ .highest in
+    rw (← highest .ensures .is) (sym (all-yes (le-leb _ _ (c .before .before .if1 .left)) _ ∙ all-no (is-no (c .before .good-length .ensures) (c .if2 .taken))
+    _))
 
 returns-3 : tie.Need-returns-3
 unfolding inRange
-returns-3 c = rw (← c .before .before .before .before .before .highest .ensures .is) (sym (all-yes (le-leb _ _ (c .before .before .before .if1 .left)) _ ∙ all-yes (is-yes (c .before .before .good-length .ensures) (c .before .if2 .left)) _ ∙ all-one _))
+returns-3 c =
+    let c₃ = c .before .before .before in let if1 = c₃ .if1 in
+    let c₅ = c₃ .before .before in let highest = c₅ .highest in
+    rw (← highest .ensures .is) (sym (all-yes (le-leb _ _ (if1 .left)) _ ∙ all-yes (is-yes (c .before .before .good-length .ensures) (c .before .if2 .left)) _
+    ∙ all-one _))
 
 pub in-range-spec : {M : Type 1} → statement M
 in-range-spec =

@@ -20,7 +20,8 @@ sector-numbers-requires : tie.Need-sector-numbers-requires
 sector-numbers-requires c κs = search needs
 
 returns-2 : tie.Need-returns-2
-returns-2 c = ap (ltb (c .before .before .before .args .k)) (c .sector-numbers .ensures .is) ∙ sym (all-yes (is-yes (c .before .before .in-range .ensures) (c .before .if1 .left)) _ ∙ all-one _)
+returns-2 c = ap (ltb (c .before .before .before .args .k)) (c .sector-numbers .ensures .is) ∙ sym
+    (all-yes (is-yes (c .before .before .in-range .ensures) (c .before .if1 .left)) _ ∙ all-one _)
 
 pub sector-ranged-spec : {M : Type 1} → statement M
 sector-ranged-spec =

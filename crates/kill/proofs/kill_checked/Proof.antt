@@ -26,11 +26,17 @@ same-length : tie.Need-same-length
 same-length c = search needs
 
 returns : tie.Need-returns
-returns c = refused _ _ _ (handed _ _ _ (c .before .before .before .before .before .before .pre) (c .carried .ensures)) (by-range _ _ _ (c .before .before .before .before .in-range .ensures) (c .before .before .changing-number .ensures)) (c .before .if1 .taken)
+returns c =
+    let c₄ = c .before .before .before .before in let in-range = c₄ .in-range in
+    let c₆ = c₄ .before .before in let p = c₆ .pre in
+    refused _ _ _ (handed _ _ _ p (c .carried .ensures)) (by-range _ _ _ (in-range .ensures) (c .before .before .changing-number .ensures))
+    (c .before .if1 .taken)
 
 kill-file-requires : tie.Need-kill-file-requires
 kill-file-requires c κs = let a = c .before .before .before .before .before .before .args in
-    walks (a .g) (a .image .now) (a .h) (c .before .before .before .before .in-range .result) (passed (a .g) (a .image .now) (a .h) (c .before .before .before .before .in-range .result) (protected (a .g) (a .image .now) 1 (a .h) ∷ []) refl (c .before .before .changing-number .ensures) (c .before .if1 .left))
+    walks (a .g) (a .image .now) (a .h) (c .before .before .before .before .in-range .result)
+    (passed (a .g) (a .image .now) (a .h) (c .before .before .before .before .in-range .result) (protected (a .g) (a .image .now) 1 (a .h) ∷ []) refl
+    (c .before .before .changing-number .ensures) (c .before .if1 .left))
 
 carried-requires-2 : tie.Need-carried-requires-2
 carried-requires-2 c κs = search needs
@@ -39,7 +45,13 @@ same-length-2 : tie.Need-same-length-2
 same-length-2 c = search needs
 
 returns-2 : tie.Need-returns-2
-returns-2 c = accepted _ _ _ (handed _ _ 0 (c .before .before .before .before .before .before .before .before .before .before .pre) (c .carried2 .ensures)) (by-range _ _ _ (c .before .before .before .before .before .before .before .before .in-range .ensures) (c .before .before .before .before .before .before .changing-number .ensures)) (c .before .before .before .before .before .if1 .left) (c .before .before .before .kill-file .ensures)
+returns-2 c =
+    let c₃ = c .before .before .before in let kill-file = c₃ .kill-file in
+    let c₅ = c₃ .before .before in let if1 = c₅ .if1 in
+    let c₆ = c₅ .before in let changing-number = c₆ .changing-number in
+    let c₈ = c₆ .before .before in let in-range = c₈ .in-range in
+    let c₁₀ = c₈ .before .before in let p = c₁₀ .pre in
+    accepted _ _ _ (handed _ _ 0 p (c .carried2 .ensures)) (by-range _ _ _ (in-range .ensures) (changing-number .ensures)) (if1 .left) (kill-file .ensures)
 
 pub kill-checked-spec : {M : Type 1} → statement M
 kill-checked-spec =

@@ -27,7 +27,9 @@ div-result : tie.Need-div-result
 div-result c = search needs
 
 returns : tie.Need-returns
-returns c = let e = c .directory-sectors .ensures in let w = c .before .granule-sectors .ensures in let q = ap (roundUp (c .directory-sectors .result)) (w .is) ∙ ap (λ (n : ℕ). roundUp n (granuleSectors (c .before .before .before .args .g))) e in record { is = q; small = omega (arith, q, touched-few (c .before .before .before .args .g) _ (c .before .before .before .pre .thirty)) }
+returns c = let e = c .directory-sectors .ensures in let w = c .before .granule-sectors .ensures in
+    let q = ap (roundUp (c .directory-sectors .result)) (w .is) ∙ ap (λ (n : ℕ). roundUp n (granuleSectors (c .before .before .before .args .g))) e in
+    record { is = q; small = omega (arith, q, touched-few (c .before .before .before .args .g) _ (c .before .before .before .pre .thirty)) }
 
 pub directory-granules-spec : {M : Type 1} → statement M
 directory-granules-spec =

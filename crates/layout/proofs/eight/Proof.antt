@@ -23,7 +23,8 @@ add-result : tie.Need-add-result
 add-result c = search needs
 
 returns : tie.Need-returns
-returns c = let e = number-eight (c .before .before .before .args .bytes .now) (c .before .before .before .args .at) in let p = c .before .four .ensures .is in let q = c .four2 .ensures .is in omega arith
+returns c = let e = number-eight (c .before .before .before .args .bytes .now) (c .before .before .before .args .at) in
+    let p = c .before .four .ensures .is in let q = c .four2 .ensures .is in omega arith
 
 pub eight-spec : {M : Type 1} → statement M
 eight-spec =

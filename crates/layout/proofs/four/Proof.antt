@@ -23,7 +23,8 @@ add-result : tie.Need-add-result
 add-result c = search needs
 
 returns : tie.Need-returns
-returns c = let e = number-four (c .before .before .before .args .bytes .now) (c .before .before .before .args .at) in let a = c .before .two .ensures in let b = c .two2 .ensures in let p = a .is in let q = b .is in let x = a .small in let y = b .small in record { is = omega arith; small = omega arith }
+returns c = let e = number-four (c .before .before .before .args .bytes .now) (c .before .before .before .args .at) in let a = c .before .two .ensures in
+    let b = c .two2 .ensures in let p = a .is in let q = b .is in let x = a .small in let y = b .small in record { is = omega arith; small = omega arith }
 
 pub four-spec : {M : Type 1} → statement M
 four-spec = tie.close (tie.spec two-requires add-two two-requires-2 mul-result add-result returns)

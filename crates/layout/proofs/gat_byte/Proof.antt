@@ -19,11 +19,13 @@ wide-requires : tie.Need-wide-requires
 wide-requires c κs = search needs
 
 returns : tie.Need-returns
-returns c = record {
-  is = c .wide .ensures .is ∙ ap (λ (at : ℕ). getD (c .before .before .before .before .args .image .now) at 0)
-      (c .before .before .gat-at .ensures);
-  small = c .wide .ensures .small;
-}
+returns c =
+    let c₄ = c .before .before .before .before in let a = c₄ .args in
+    record {
+      is = c .wide .ensures .is ∙ ap (λ (at : ℕ). getD (a .image .now) at 0)
+          (c .before .before .gat-at .ensures);
+      small = c .wide .ensures .small;
+    }
 
 pub gat-byte-spec : {M : Type 1} → statement M
 gat-byte-spec = tie.close (tie.spec gat-at-requires shared-slice-read-wide wide-requires returns)

@@ -14,7 +14,8 @@ mul-result : tie.Need-mul-result
 mul-result c = search needs
 
 returns : tie.Need-returns
-returns c = let w = c .granule-sectors .ensures in record { is = omega (arith, bytes-are (c .before .args .g), w .is); some = omega (arith, w .some); few = omega (arith, w .few) }
+returns c = let w = c .granule-sectors .ensures in
+    record { is = omega (arith, bytes-are (c .before .args .g), w .is); some = omega (arith, w .some); few = omega (arith, w .few) }
 
 pub granule-bytes-spec : {M : Type 1} → statement M
 granule-bytes-spec = tie.close (tie.spec granule-sectors-requires mul-result returns)

@@ -14,10 +14,14 @@ files-count-requires : tie.Need-files-count-requires
 files-count-requires c κs = checked-room _ _ (checked _ _ (c .before .before .before .pre) (c .if1 .left))
 
 free-count-requires : tie.Need-free-count-requires
-free-count-requires c κs = checked-room _ _ (checked _ _ (c .before .before .before .before .pre) (c .before .if1 .left))
+free-count-requires c κs =
+    let c₄ = c .before .before .before .before in let p = c₄ .pre in
+    checked-room _ _ (checked _ _ p (c .before .if1 .left))
 
 returns-2 : tie.Need-returns-2
-returns-2 c = counts-accepted _ _ (c .before .before .before .before .before .pre) (c .before .before .if1 .left) (c .before .files-count .ensures) (c .free-count .ensures)
+returns-2 c =
+    let c₅ = c .before .before .before .before .before in let p = c₅ .pre in
+    counts-accepted _ _ p (c .before .before .if1 .left) (c .before .files-count .ensures) (c .free-count .ensures)
 
 pub counts-checked-spec : {M : Type 1} → statement M
 counts-checked-spec =

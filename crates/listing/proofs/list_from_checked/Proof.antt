@@ -10,27 +10,34 @@ use Rattle.listing.proofs.put_rows.Reads as put-rows-reads
 use Rattle.refusal.proofs.unplaced.Reads as unplaced-reads
 
 returns : tie.Need-returns
-returns c = rows-refused _ _ _ _ (c .before .before .before .before .pre) (c .if1 .taken)
+returns c =
+    let c₄ = c .before .before .before .before in let p = c₄ .pre in
+    rows-refused _ _ _ _ p (c .if1 .taken)
 
 unplaced-requires : tie.Need-unplaced-requires
 unplaced-requires c κs = search needs
 
 returns-2 : tie.Need-returns-2
 returns-2 c =
-    rows-short _ _ _ _ (c .before .before .before .before .before .before .pre) (c .before .before .if1 .left) (c .before .if2 .taken)
+    let c₆ = c .before .before .before .before .before .before in let p = c₆ .pre in
+    rows-short _ _ _ _ p (c .before .before .if1 .left) (c .before .if2 .taken)
     (c .unplaced .ensures)
 
 put-rows-requires : tie.Need-put-rows-requires
 put-rows-requires c κs =
-    let k = checked _ _ (c .before .before .before .before .before .before .pre) (c .before .before .if1 .left) in sound _ _ (k .fits) (k .sound)
+    let c₆ = c .before .before .before .before .before .before in let p = c₆ .pre in
+    let k = checked _ _ p (c .before .before .if1 .left) in sound _ _ (k .fits) (k .sound)
 
 same-length : tie.Need-same-length
 same-length c = search needs
 
 returns-3 : tie.Need-returns-3
 returns-3 c =
-    rows-accepted _ _ _ _ (c .before .before .before .before .before .before .before .before .before .pre)
-    (c .before .before .before .before .before .if1 .left) (c .before .before .before .before .if2 .left) (c .before .before .put-rows .ensures)
+    let c₄ = c .before .before .before .before in let if2 = c₄ .if2 in
+    let c₅ = c₄ .before in let if1 = c₅ .if1 in
+    let c₉ = c₅ .before .before .before .before in let p = c₉ .pre in
+    rows-accepted _ _ _ _ p
+    (if1 .left) (if2 .left) (c .before .before .put-rows .ensures)
 
 pub list-from-checked-spec : {M : Type 1} → statement M
 list-from-checked-spec =

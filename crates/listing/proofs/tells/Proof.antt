@@ -19,15 +19,34 @@ wide-requires c κs = search needs
 
 returns : tie.Need-returns
 unfolding all shown
-returns c = simp (sym (flags-at (c .before .before .before .before .args .g) (c .before .before .before .before .args .image .now) (c .before .before .before .before .args .s) (c .before .before .before .before .pre .2) (c .before .wide .ensures .is)), digit-at, ne-eqb _ _ (c .if1 .taken))
+returns c =
+    let c₄ = c .before .before .before .before in let a = c₄ .args in let p = c₄ .pre in
+    simp (sym (flags-at (a .g) (a .image .now) (a .s) (p .2) (c .before .wide .ensures .is)), digit-at, ne-eqb _ _ (c .if1 .taken))
 
 returns-2 : tie.Need-returns-2
 unfolding all shown
-returns-2 c = simp (sym (flags-at (c .before .before .before .before .before .args .g) (c .before .before .before .before .before .args .image .now) (c .before .before .before .before .before .args .s) (c .before .before .before .before .before .pre .2) (c .before .before .wide .ensures .is)), digit-at, eq-eqb _ _ (c .before .if1 .left), eq-eqb _ _ (c .if2 .taken))
+returns-2 c =
+    let c₅ = c .before .before .before .before .before in let a = c₅ .args in let p = c₅ .pre in
+    simp (
+      sym (flags-at (a .g) (a .image .now) (a .s) (p .2) (c .before .before .wide .ensures .is)),
+      digit-at,
+      eq-eqb _ _ (c .before .if1 .left),
+      eq-eqb _ _
+          (c .if2 .taken),
+    )
 
 returns-3 : tie.Need-returns-3
 unfolding all shown
-returns-3 c = simp (sym (flags-at (c .before .before .before .before .before .args .g) (c .before .before .before .before .before .args .image .now) (c .before .before .before .before .before .args .s) (c .before .before .before .before .before .pre .2) (c .before .before .wide .ensures .is)), digit-at, eq-eqb _ _ (c .before .if1 .left), ne-eqb _ _ (c .if2 .left), and-true)
+returns-3 c =
+    let c₅ = c .before .before .before .before .before in let a = c₅ .args in let p = c₅ .pre in
+    simp (
+      sym (flags-at (a .g) (a .image .now) (a .s) (p .2) (c .before .before .wide .ensures .is)),
+      digit-at,
+      eq-eqb _ _ (c .before .if1 .left),
+      ne-eqb _ _
+          (c .if2 .left),
+      and-true,
+    )
 
 pub tells-spec : {M : Type 1} → statement M
 tells-spec = tie.close (tie.spec shared-slice-read-wide wide-requires returns returns-2 returns-3)

@@ -72,7 +72,10 @@ put-digits-returns-2 : (t : ℕ) → put-digits-lts.Need-returns-2 (
   put-digits-below t,
   put-digits.Post,
 ) (put-digits-at t) put-digits.Post
-put-digits-returns-2 t c = let a = c .before .before .before .before .before .before .before .before .args in put-as (c .before .before .put-byte .ensures) (digits-one (a .most) (a .n) _ (c .before .before .before .before .before .before .if1 .left) (c .before .before .before .before .before .if2 .taken) (c .before .before .before .digit .ensures)) (omega (arith, c .before .before .before .before .before .before .if1 .left))
+put-digits-returns-2 t c = let a = c .before .before .before .before .before .before .before .before .args in
+    put-as (c .before .before .put-byte .ensures) (digits-one (a .most) (a .n) _ (c .before .before .before .before .before .before .if1 .left)
+    (c .before .before .before .before .before .if2 .taken) (c .before .before .before .digit .ensures))
+    (omega (arith, c .before .before .before .before .before .before .if1 .left))
 
 put-digits-sub-put-digits : (t : ℕ) → put-digits-lts.Need-sub-put-digits (
   digit-reads.Asked,
@@ -112,7 +115,10 @@ put-digits-put-byte-requires-2 : (t : ℕ) → put-digits-lts.Need-put-byte-requ
   put-digits-below t,
   put-digits.Post,
 ) (put-digits-at t) put-digits.Post
-put-digits-put-byte-requires-2 t c κs = omega (arith, c .before .before .before .before .before .before .before .if1 .left, c .before .before .before .before .put-digits .ensures .past, c .before .before .before .before .put-digits .ensures .fits)
+put-digits-put-byte-requires-2 t c κs =
+    let c₄ = c .before .before .before .before in let put-digits = c₄ .put-digits in
+    let c₇ = c₄ .before .before .before in let if1 = c₇ .if1 in
+    omega (arith, if1 .left, put-digits .ensures .past, put-digits .ensures .fits)
 
 put-digits-same-length-2 : (t : ℕ) → put-digits-lts.Need-same-length-2 (
   digit-reads.Asked,
@@ -132,7 +138,11 @@ put-digits-returns-3 : (t : ℕ) → put-digits-lts.Need-returns-3 (
   put-digits-below t,
   put-digits.Post,
 ) (put-digits-at t) put-digits.Post
-put-digits-returns-3 t c = let a = c .before .before .before .before .before .before .before .before .before .before .before .before .args in put-both (c .before .before .before .before .before .before .before .put-digits .ensures) (c .before .before .put-byte2 .ensures) (digits-more (a .most) (a .n) _ (c .before .before .before .before .before .before .before .before .before .before .if1 .left) (c .before .before .before .before .before .before .before .before .before .if2 .left) (c .before .before .before .digit2 .ensures)) (omega (arith, c .before .before .before .before .before .before .before .before .before .before .if1 .left))
+put-digits-returns-3 t c = let a = c .before .before .before .before .before .before .before .before .before .before .before .before .args in
+    put-both (c .before .before .before .before .before .before .before .put-digits .ensures) (c .before .before .put-byte2 .ensures)
+    (digits-more (a .most) (a .n) _ (c .before .before .before .before .before .before .before .before .before .before .if1 .left)
+    (c .before .before .before .before .before .before .before .before .before .if2 .left) (c .before .before .before .digit2 .ensures))
+    (omega (arith, c .before .before .before .before .before .before .before .before .before .before .if1 .left))
 
 pub +put-digits-spec : {M : Type 1} → statement M
 +put-digits-spec = close μ-put-digits λ t. put-digits-lts.spec (

@@ -19,7 +19,8 @@ same-length : tie.Need-same-length
 same-length c = search needs
 
 returns-2 : tie.Need-returns-2
-returns-2 c = let a = c .before .before .before .before .before .before .args in put-as (c .before .before .put-byte .ensures) (sym (stripped-kept (a .b) [] (c .before .before .before .before .if1 .left))) (omega arith)
+returns-2 c = let a = c .before .before .before .before .before .before .args in
+    put-as (c .before .before .put-byte .ensures) (sym (stripped-kept (a .b) [] (c .before .before .before .before .if1 .left))) (omega arith)
 
 pub put-kept-spec : {M : Type 1} → statement M
 put-kept-spec = tie.close (tie.spec returns put-byte-requires same-length returns-2)

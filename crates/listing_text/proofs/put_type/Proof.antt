@@ -16,7 +16,8 @@ blank-requires : tie.Need-blank-requires
 blank-requires c κs = search needs
 
 returns : tie.Need-returns
-returns c = let a = c .before .before .before .before .args in put-none 4 (a .to .now) (a .at) (slashed-none (stripped (a .part .now)) (sym (c .before .blank .ensures) ∙ c .if1 .taken))
+returns c = let a = c .before .before .before .before .args in
+    put-none 4 (a .to .now) (a .at) (slashed-none (stripped (a .part .now)) (sym (c .before .blank .ensures) ∙ c .if1 .taken))
 
 put-byte-requires : tie.Need-put-byte-requires
 put-byte-requires c κs = search needs
@@ -28,7 +29,11 @@ same-length : tie.Need-same-length
 same-length c = search needs
 
 returns-2 : tie.Need-returns-2
-returns-2 c = let a = c .before .before .before .before .before .before .before .before .before .before .before .before .args in put-both (c .before .before .before .before .before .before .put-byte .ensures) (c .before .before .put-stripped .ensures) (slashed-some (stripped (a .part .now)) (sym (c .before .before .before .before .before .before .before .before .before .blank .ensures) ∙ c .before .before .before .before .before .before .before .before .if1 .left)) (omega (arith, c .before .before .before .before .before .before .before .before .before .before .before .before .pre .1))
+returns-2 c = let a = c .before .before .before .before .before .before .before .before .before .before .before .before .args in
+    put-both (c .before .before .before .before .before .before .put-byte .ensures) (c .before .before .put-stripped .ensures)
+    (slashed-some (stripped (a .part .now)) (sym (c .before .before .before .before .before .before .before .before .before .blank .ensures) ∙ c .before
+    .before .before .before .before .before .before .before .if1 .left))
+    (omega (arith, c .before .before .before .before .before .before .before .before .before .before .before .before .pre .1))
 
 pub put-type-spec : {M : Type 1} → statement M
 put-type-spec =

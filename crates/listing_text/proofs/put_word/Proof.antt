@@ -19,7 +19,13 @@ same-length : tie.Need-same-length
 same-length c = search needs
 
 returns : tie.Need-returns
-returns c = let a = c .before .before .before .before .before .before .args in record { is = c .before .before .put-part .ensures ∙ ap (λ (bs : List _). sets (a .to .now) (a .at) bs) (take-length (a .word .now)); past = refl; fits = omega arith }
+returns c = let a = c .before .before .before .before .before .before .args in
+    record {
+      is = c .before .before .put-part .ensures ∙ ap (λ (bs : List _). sets (a .to .now) (a .at) bs) (take-length (a .word .now));
+      past = refl;
+      fits =
+          omega arith;
+    }
 
 pub put-word-spec : {M : Type 1} → statement M
 put-word-spec = tie.close (tie.spec put-part-requires add-result same-length returns)

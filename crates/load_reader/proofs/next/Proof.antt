@@ -236,7 +236,8 @@ module _ {M : Type 1} (𝓤 : URA M) (H : Heap 𝓤) (A : Atoms 𝓤) (W : Given
       ∷ ‵ (finally u8 (x .name) zs) ∷ []))
       (Post (rv r))
   exits r zs e l =
-      qed W (‵ (fobs γ (R .coded .code (after r))) ∷ ‵ (fbor κ (Body (mem R) b o γ)) ∷ ‵ (flft κ q) ∷ ‵ (OwnR r) ∷ tokens ∷ ‵ (finally u8 (x .name) zs) ∷ []) ∵
+      qed W (‵ (fobs γ (R .coded .code (after r))) ∷ ‵ (fbor κ (Body (mem R) b o γ)) ∷ ‵ (flft κ q) ∷ ‵ (OwnR r) ∷ tokens ∷ ‵ (finally u8 (x .name) zs) ∷ [])
+      ∵
       suffices ! _ (ends-at 𝓤 H A fn.ended stayed (fn.clauses 𝓤 H A at-mem run) W (((κ, (κ′, (κ″, tt))), (q, (q′, (q″, tt))), bounds, a, at), tt)
       (rv r) r (after r, (zs, tt)) (tt, (l, tt))) $ says ! (e, refl) $
       move ! (2 ∷ 4 ∷ []) $ join ! $ frame ! $ feqI ! (List Val) (vptr b o ∷ []) (vptr b o ∷ []) refl $ fjoin3 ! $

@@ -24,7 +24,10 @@ same-length c = search needs
 
 -- src/lib.rt:181:1
 returns-2 : tie.Need-returns-2
-returns-2 c = let a = c .before .before .before .before .before .before .before .args in c .before .before .read-bytes .ensures ∙ ap (λ (l : List ℕ). l ++ drop (a .n) (a .buffer .now)) (part-is (a .g) (a .image .now) (a .s) (c .before .before .before .before .before .before .before .pre .0) (a .from) (a .n) (c .before .before .before .before .before .before .before .pre .1))
+returns-2 c = let a = c .before .before .before .before .before .before .before .args in
+    c .before .before .read-bytes .ensures ∙ ap (λ (l : List ℕ). l ++ drop (a .n) (a .buffer .now))
+    (part-is (a .g) (a .image .now) (a .s) (c .before .before .before .before .before .before .before .pre .0) (a .from) (a .n)
+    (c .before .before .before .before .before .before .before .pre .1))
 
 pub hand-out-spec : {M : Type 1} → statement M
 hand-out-spec = tie.close (tie.spec returns read-bytes-requires same-length returns-2)

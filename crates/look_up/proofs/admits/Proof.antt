@@ -22,7 +22,9 @@ word-requires c κs = search needs
 
 returns-2 : tie.Need-returns-2
 unfolding admits
-returns-2 c = sym (any-skip (sym (c .before .before .full .ensures) ∙ (c .before .if1 .left)) _ ∙ any-one _ ∙ ap (eqb (c .before .before .before .before .args .code)) (sym (c .word .ensures .is)))
+returns-2 c =
+    let c₄ = c .before .before .before .before in let a = c₄ .args in
+    sym (any-skip (sym (c .before .before .full .ensures) ∙ (c .before .if1 .left)) _ ∙ any-one _ ∙ ap (eqb (a .code)) (sym (c .word .ensures .is)))
 
 pub admits-spec : {M : Type 1} → statement M
 admits-spec = tie.close (tie.spec full-requires returns word-requires returns-2)

@@ -43,7 +43,9 @@ same-name-requires c κs = search needs
 
 returns-2 : tie.Need-returns-2
 unfolding carries
-returns-2 c = sym (all-yes (is-yes (c .before .before .before .primary .ensures) (c .before .before .if1 .left)) _ ∙ all-one _ ∙ (let a = c .before .before .before .before .before .before .args in name-at (a .g) (a .image .now) (a .name .now) (a .s) (omega arith)) ∙ sym (c .same-name .ensures))
+returns-2 c = sym (all-yes (is-yes (c .before .before .before .primary .ensures) (c .before .before .if1 .left)) _ ∙ all-one _ ∙
+    (let a = c .before .before .before .before .before .before .args in name-at (a .g) (a .image .now) (a .name .now) (a .s) (omega arith)) ∙ sym
+    (c .same-name .ensures))
 
 pub carries-spec : {M : Type 1} → statement M
 carries-spec =

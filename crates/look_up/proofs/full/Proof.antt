@@ -26,7 +26,11 @@ returns-2 c = sym (any-skip (c .before .before .before .if1 .left) _ ∙ any-hit
 
 returns-3 : tie.Need-returns-3
 unfolding full
-returns-3 c = sym (any-skip (c .before .before .before .if1 .left) _ ∙ any-skip (ne-eqb _ _ (λ q. (c .if2 .left) (c .before .before .word .ensures .is ∙ q))) _ ∙ any-one _ ∙ ap (eqb (c .before .before .before .before .before .args .code)) (sym (c .before .before .word .ensures .is)))
+returns-3 c =
+    let c₃ = c .before .before .before in let if1 = c₃ .if1 in
+    let c₅ = c₃ .before .before in let a = c₅ .args in
+    sym (any-skip (if1 .left) _ ∙ any-skip (ne-eqb _ _ (λ q. (c .if2 .left) (c .before .before .word .ensures .is ∙ q))) _ ∙ any-one _ ∙ ap (eqb (a .code))
+    (sym (c .before .before .word .ensures .is)))
 
 pub full-spec : {M : Type 1} → statement M
 full-spec = tie.close (tie.spec returns word-requires cast-if2 returns-2 returns-3)

@@ -22,10 +22,13 @@ name-array-requires : tie.Need-name-array-requires
 name-array-requires c κs = search needs
 
 returns : tie.Need-returns
-returns c = opened _ _ _ _ _ _ (c .name-array .ensures)
+returns c =
+    let c₅ = c .before .before .before .before .before in let a = c₅ .args in
+    opened _ _ _ _ _ _ (c .name-array .ensures)
     (⊎-elim
-    (λ w. level-stored _ _ (c .before .before .before .before .before .args .name .now) (c .before .before .before .before .before .args .len) _ _ _ (w .2 ∙ ap (λ (f : ℕ). f % 8) (w .1 .ensures .is)) (is-no (c .before .before .full .ensures) (w .0 .taken)))
-    (λ w. level-full _ _ (c .before .before .before .before .before .args .name .now) (c .before .before .before .before .before .args .len) _ _ _ (w .1) (is-yes (c .before .before .full .ensures) (w .0 .left)))
+    (λ w. level-stored _ _ (a .name .now) (a .len) _ _ _ (w .2 ∙ ap (λ (f : ℕ). f % 8) (w .1 .ensures .is))
+    (is-no (c .before .before .full .ensures) (w .0 .taken)))
+    (λ w. level-full _ _ (a .name .now) (a .len) _ _ _ (w .1) (is-yes (c .before .before .full .ensures) (w .0 .left)))
     (c .before .if1 .came))
 
 pub opened-at-spec : {M : Type 1} → statement M

@@ -30,13 +30,18 @@ shared-slice-read-if3 : tie.Need-shared-slice-read-if3
 shared-slice-read-if3 c = search needs
 
 returns-3 : tie.Need-returns-3
-returns-3 c = simp (ne-eqb _ _ (c .if3 .taken), eq-eqb _ _ (c .before .before .before .before .if1 .left), eq-eqb _ _ (c .before .before .if2 .left)) refl
+returns-3 c =
+    let c₄ = c .before .before .before .before in let if1 = c₄ .if1 in
+    simp (ne-eqb _ _ (c .if3 .taken), eq-eqb _ _ (if1 .left), eq-eqb _ _ (c .before .before .if2 .left)) refl
 
 shared-slice-read-result : tie.Need-shared-slice-read-result
 shared-slice-read-result c = search needs
 
 returns-4 : tie.Need-returns-4
-returns-4 c = last _ (eq-eqb _ _ (c .before .before .before .before .before .if1 .left)) (eq-eqb _ _ (c .before .before .before .if2 .left)) (eq-eqb _ _ (c .before .if3 .left))
+returns-4 c =
+    let c₃ = c .before .before .before in let if2 = c₃ .if2 in
+    let c₅ = c₃ .before .before in let if1 = c₅ .if1 in
+    last _ (eq-eqb _ _ (if1 .left)) (eq-eqb _ _ (if2 .left)) (eq-eqb _ _ (c .before .if3 .left))
 
 pub four-blanks-spec : {M : Type 1} → statement M
 four-blanks-spec =

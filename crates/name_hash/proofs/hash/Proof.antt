@@ -19,11 +19,15 @@ wide-requires c κs = search needs
 
 returns : tie.Need-returns
 unfolding hash
-returns c = let e : through mix 0 (c .before .before .before .args .name .now) ≡ 0 = sym (c .before .mixed .ensures) ∙ c .if1 .taken in record { is = simp (eq-eqb _ _ e); small = omega arith }
+returns c = let e : through mix 0 (c .before .before .before .args .name .now) ≡ 0 = sym (c .before .mixed .ensures) ∙ c .if1 .taken in
+    record { is = simp (eq-eqb _ _ e); small = omega arith }
 
 returns-2 : tie.Need-returns-2
 unfolding hash
-returns-2 c = let e : through mix 0 (c .before .before .before .before .args .name .now) ≡ c .before .before .mixed .result = sym (c .before .before .mixed .ensures) in record { is = simp (e, ne-eqb _ _ (c .before .if1 .left)) (c .wide .ensures .is); small = c .wide .ensures .small }
+returns-2 c =
+    let c₄ = c .before .before .before .before in let a = c₄ .args in
+    let e : through mix 0 (a .name .now) ≡ c .before .before .mixed .result = sym (c .before .before .mixed .ensures) in
+    record { is = simp (e, ne-eqb _ _ (c .before .if1 .left)) (c .wide .ensures .is); small = c .wide .ensures .small }
 
 pub hash-spec : {M : Type 1} → statement M
 hash-spec = tie.close (tie.spec mixed-requires wide-requires returns returns-2)

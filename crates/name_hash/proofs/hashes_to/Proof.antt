@@ -15,13 +15,22 @@ wide-requires : tie.Need-wide-requires
 wide-requires c κs = search needs
 
 returns : tie.Need-returns
-returns c = ends-same (c .before .before .before .before .args .name .now) (c .before .before .before .before .args .h) (sym (c .before .before .mixed .ensures) ∙ sym (c .before .wide .ensures .is) ∙ c .if1 .taken)
+returns c =
+    let c₄ = c .before .before .before .before in let a = c₄ .args in
+    ends-same (a .name .now) (a .h) (sym (c .before .before .mixed .ensures) ∙ sym (c .before .wide .ensures .is) ∙ c .if1 .taken)
 
 returns-2 : tie.Need-returns-2
-returns-2 c = ends-other (c .before .before .before .before .before .args .name .now) (c .before .before .before .before .before .args .h) (λ q. c .before .if1 .left (c .before .before .wide .ensures .is ∙ c .before .before .before .mixed .ensures ∙ q)) (λ q. c .if2 .taken (c .before .before .wide .ensures .is ∙ c .before .before .before .mixed .ensures ∙ q))
+returns-2 c =
+    let c₃ = c .before .before .before in let mixed = c₃ .mixed in
+    let c₅ = c₃ .before .before in let a = c₅ .args in
+    ends-other (a .name .now) (a .h) (λ q. c .before .if1 .left (c .before .before .wide .ensures .is ∙ mixed .ensures ∙ q))
+    (λ q. c .if2 .taken (c .before .before .wide .ensures .is ∙ mixed .ensures ∙ q))
 
 returns-3 : tie.Need-returns-3
-returns-3 c = ends-zero (c .before .before .before .before .before .args .name .now) (c .before .before .before .before .before .args .h) (sym (c .before .before .before .mixed .ensures) ∙ sym (c .before .before .wide .ensures .is) ∙ c .if2 .left)
+returns-3 c =
+    let c₃ = c .before .before .before in let mixed = c₃ .mixed in
+    let c₅ = c₃ .before .before in let a = c₅ .args in
+    ends-zero (a .name .now) (a .h) (sym (mixed .ensures) ∙ sym (c .before .before .wide .ensures .is) ∙ c .if2 .left)
 
 pub hashes-to-spec : {M : Type 1} → statement M
 hashes-to-spec = tie.close (tie.spec mixed-requires wide-requires returns returns-2 returns-3)

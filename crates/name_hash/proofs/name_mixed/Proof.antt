@@ -53,13 +53,19 @@ add-result : tie.Need-add-result
 add-result c = search needs
 
 returns : tie.Need-returns
-returns c = let n = c .before .before .before .before .before .before .before .before .before .before .before .before .before .before .args .name .now in
-    let k : (i : ℕ) → getD n i 0 < 256 = λ i. c .before .before .before .before .before .before .before .before .before .before .before .before .before .shared-slice-known .given i .fits in
-    let w1 = both-start (getD n 0 0) (getD n 8 0) (k 0) (k 8) (c .before .before .before .before .before .before .before .before .before .before .turned .ensures) in
-    let w2 = both-more (getD n 1 0) (getD n 9 0) w1 (k 1) (k 9) (c .before .before .before .before .before .before .before .turned2 .ensures) in
-    let w3 = both-more (getD n 2 0) (getD n 10 0) w2 (k 2) (k 10) (c .before .before .before .before .turned3 .ensures) in
+returns c =
+    let c₄ = c .before .before .before .before in let turned3 = c₄ .turned3 in
+    let c₇ = c₄ .before .before .before in let turned2 = c₇ .turned2 in
+    let c₁₀ = c₇ .before .before .before in let turned = c₁₀ .turned in
+    let c₁₃ = c₁₀ .before .before .before in let shared-slice-known = c₁₃ .shared-slice-known in
+    let c₁₄ = c₁₃ .before in let a = c₁₄ .args in let p = c₁₄ .pre in
+    let n = a .name .now in
+    let k : (i : ℕ) → getD n i 0 < 256 = λ i. shared-slice-known .given i .fits in
+    let w1 = both-start (getD n 0 0) (getD n 8 0) (k 0) (k 8) (turned .ensures) in
+    let w2 = both-more (getD n 1 0) (getD n 9 0) w1 (k 1) (k 9) (turned2 .ensures) in
+    let w3 = both-more (getD n 2 0) (getD n 10 0) w2 (k 2) (k 10) (turned3 .ensures) in
     let w4 = one-more (getD n 3 0) w3 (k 3) (c .before .before .turned4 .ensures) in
-    short-last (getD n 8 0) (getD n 9 0) (getD n 10 0) (k 8) (k 9) (k 10) w4 ∙ short-bytes n (c .before .before .before .before .before .before .before .before .before .before .before .before .before .before .pre) (sym (c .before .four-blanks .ensures) ∙ c .if1 .taken)
+    short-last (getD n 8 0) (getD n 9 0) (getD n 10 0) (k 8) (k 9) (k 10) w4 ∙ short-bytes n p (sym (c .before .four-blanks .ensures) ∙ c .if1 .taken)
 
 shared-slice-read-turned-8 : tie.Need-shared-slice-read-turned-8
 shared-slice-read-turned-8 c = search needs
@@ -92,17 +98,26 @@ add-result-2 : tie.Need-add-result-2
 add-result-2 c = search needs
 
 returns-2 : tie.Need-returns-2
-returns-2 c = let n = c .before .before .before .before .before .before .before .before .before .before .before .before .before .before .before .before .before .before .before .before .before .before .args .name .now in
-    let k : (i : ℕ) → getD n i 0 < 256 = λ i. c .before .before .before .before .before .before .before .before .before .before .before .before .before .before .before .before .before .before .before .before .before .shared-slice-known .given i .fits in
-    let w1 = both-start (getD n 0 0) (getD n 8 0) (k 0) (k 8) (c .before .before .before .before .before .before .before .before .before .before .before .before .before .before .before .before .before .before .turned .ensures) in
-    let w2 = both-more (getD n 1 0) (getD n 9 0) w1 (k 1) (k 9) (c .before .before .before .before .before .before .before .before .before .before .before .before .before .before .before .turned2 .ensures) in
-    let w3 = both-more (getD n 2 0) (getD n 10 0) w2 (k 2) (k 10) (c .before .before .before .before .before .before .before .before .before .before .before .before .turned3 .ensures) in
-    let w4 = one-more (getD n 3 0) w3 (k 3) (c .before .before .before .before .before .before .before .before .before .before .turned4 .ensures) in
-    let w5 = one-more (getD n 4 0) w4 (k 4) (c .before .before .before .before .before .before .turned5 .ensures) in
-    let w6 = one-more (getD n 5 0) w5 (k 5) (c .before .before .before .before .turned6 .ensures) in
+returns-2 c =
+    let c₄ = c .before .before .before .before in let turned6 = c₄ .turned6 in
+    let c₆ = c₄ .before .before in let turned5 = c₆ .turned5 in
+    let c₁₀ = c₆ .before .before .before .before in let turned4 = c₁₀ .turned4 in
+    let c₁₂ = c₁₀ .before .before in let turned3 = c₁₂ .turned3 in
+    let c₁₅ = c₁₂ .before .before .before in let turned2 = c₁₅ .turned2 in
+    let c₁₈ = c₁₅ .before .before .before in let turned = c₁₈ .turned in
+    let c₂₁ = c₁₈ .before .before .before in let shared-slice-known = c₂₁ .shared-slice-known in
+    let c₂₂ = c₂₁ .before in let a = c₂₂ .args in let p = c₂₂ .pre in
+    let n = a .name .now in
+    let k : (i : ℕ) → getD n i 0 < 256 = λ i. shared-slice-known .given i .fits in
+    let w1 = both-start (getD n 0 0) (getD n 8 0) (k 0) (k 8) (turned .ensures) in
+    let w2 = both-more (getD n 1 0) (getD n 9 0) w1 (k 1) (k 9) (turned2 .ensures) in
+    let w3 = both-more (getD n 2 0) (getD n 10 0) w2 (k 2) (k 10) (turned3 .ensures) in
+    let w4 = one-more (getD n 3 0) w3 (k 3) (turned4 .ensures) in
+    let w5 = one-more (getD n 4 0) w4 (k 4) (turned5 .ensures) in
+    let w6 = one-more (getD n 5 0) w5 (k 5) (turned6 .ensures) in
     let w7 = one-more (getD n 6 0) w6 (k 6) (c .before .before .turned7 .ensures) in
     let w8 = one-more (getD n 7 0) w7 (k 7) (c .turned8 .ensures) in
-    type-last (getD n 8 0) (getD n 9 0) (getD n 10 0) (k 8) (k 9) (k 10) w8 ∙ sym (name-bytes n (c .before .before .before .before .before .before .before .before .before .before .before .before .before .before .before .before .before .before .before .before .before .before .pre))
+    type-last (getD n 8 0) (getD n 9 0) (getD n 10 0) (k 8) (k 9) (k 10) w8 ∙ sym (name-bytes n p)
 
 pub name-mixed-spec : {M : Type 1} → statement M
 name-mixed-spec =

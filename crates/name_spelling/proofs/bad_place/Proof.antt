@@ -25,13 +25,20 @@ past-good-requires : tie.Need-past-good-requires
 past-good-requires c κs = search needs
 
 returns-3 : tie.Need-returns-3
-returns-3 c = place-name _ (c .before .before .before .before .before .if1 .left) (is-yes (c .before .before .before .letter .ensures) (c .before .before .if2 .left)) (c .before .past-good .ensures) (c .if3 .taken)
+returns-3 c =
+    let c₃ = c .before .before .before in let letter = c₃ .letter in
+    let c₅ = c₃ .before .before in let if1 = c₅ .if1 in
+    place-name _ (if1 .left) (is-yes (letter .ensures) (c .before .before .if2 .left)) (c .before .past-good .ensures) (c .if3 .taken)
 
 past-good-requires-2 : tie.Need-past-good-requires-2
 past-good-requires-2 c κs = search needs
 
 returns-4 : tie.Need-returns-4
-returns-4 c = place-type _ (c .before .before .before .before .before .before .if1 .left) (is-yes (c .before .before .before .before .letter .ensures) (c .before .before .before .if2 .left)) (c .before .before .past-good .ensures) (c .before .if3 .left) (c .past-good2 .ensures)
+returns-4 c =
+    let c₃ = c .before .before .before in let if2 = c₃ .if2 in
+    let c₄ = c₃ .before in let letter = c₄ .letter in
+    let c₆ = c₄ .before .before in let if1 = c₆ .if1 in
+    place-type _ (if1 .left) (is-yes (letter .ensures) (if2 .left)) (c .before .before .past-good .ensures) (c .before .if3 .left) (c .past-good2 .ensures)
 
 pub bad-place-spec : {M : Type 1} → statement M
 bad-place-spec =

@@ -57,7 +57,25 @@ plain-requires-8 : tie.Need-plain-requires-8
 plain-requires-8 c κs = search needs
 
 returns : tie.Need-returns
-returns c = rw (c .before .before .before .before .before .before .before .before .before .before .before .before .before .before .plain .ensures, c .before .before .before .before .before .before .before .before .before .before .before .before .plain2 .ensures, c .before .before .before .before .before .before .before .before .before .before .plain3 .ensures, c .before .before .before .before .before .before .before .before .plain4 .ensures, c .before .before .before .before .before .before .plain5 .ensures, c .before .before .before .before .plain6 .ensures, c .before .before .plain7 .ensures, c .plain8 .ensures) (sym (eight-each plain (c .before .before .before .before .before .before .before .before .before .before .before .before .before .before .before .before .before .args .name .now) (c .before .before .before .before .before .before .before .before .before .before .before .before .before .before .before .before .before .pre)))
+returns c =
+    let c₄ = c .before .before .before .before in let plain6 = c₄ .plain6 in
+    let c₆ = c₄ .before .before in let plain5 = c₆ .plain5 in
+    let c₈ = c₆ .before .before in let plain4 = c₈ .plain4 in
+    let c₁₀ = c₈ .before .before in let plain3 = c₁₀ .plain3 in
+    let c₁₂ = c₁₀ .before .before in let plain2 = c₁₂ .plain2 in
+    let c₁₄ = c₁₂ .before .before in let plain′ = c₁₄ .plain in
+    let c₁₇ = c₁₄ .before .before .before in let a = c₁₇ .args in let p = c₁₇ .pre in
+    rw (
+      plain′ .ensures,
+      plain2 .ensures,
+      plain3 .ensures,
+      plain4 .ensures,
+      plain5 .ensures,
+      plain6 .ensures,
+      c .before .before .plain7 .ensures,
+      c .plain8
+          .ensures,
+    ) (sym (eight-each plain (a .name .now) p))
 
 pub eight-plain-spec : {M : Type 1} → statement M
 eight-plain-spec =

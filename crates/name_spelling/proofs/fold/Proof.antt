@@ -99,9 +99,20 @@ fold-byte-requires-11 c κs = search needs
 -- src/lib.rt:165:1
 returns : tie.Need-returns
 returns c =
-    (λ i. c .before .before .before .before .before .before .before .before .before .before .before .before .before .before .before .before .before .before .before .before .fold-byte .ensures i ∷ (c .before .before .before .before .before .before .before .before .before .before .before .before .before .before .before .before .before .before .fold-byte2 .ensures i ∷ (c .before .before .before .before .before .before .before .before .before .before .before .before .before .before .before .before .fold-byte3 .ensures i ∷ (c .before .before .before .before .before .before .before .before .before .before .before .before .before .before .fold-byte4 .ensures i ∷ (c .before .before .before .before .before .before .before .before .before .before .before .before .fold-byte5 .ensures i ∷ (c .before .before .before .before .before .before .before .before .before .before .fold-byte6 .ensures i
-    ∷ (c .before .before .before .before .before .before .before .before .fold-byte7 .ensures i ∷ (c .before .before .before .before .before .before .fold-byte8 .ensures i ∷ (c .before .before .before .before .fold-byte9 .ensures i ∷ (c .before .before .fold-byte10 .ensures i ∷ (c .fold-byte11 .ensures i ∷ [])))))))))))
-    ∙ eleven (c .before .before .before .before .before .before .before .before .before .before .before .before .before .before .before .before .before .before .before .before .before .before .before .args .name .now) (c .before .before .before .before .before .before .before .before .before .before .before .before .before .before .before .before .before .before .before .before .before .before .before .pre)
+    let c₄ = c .before .before .before .before in let fold-byte9 = c₄ .fold-byte9 in
+    let c₆ = c₄ .before .before in let fold-byte8 = c₆ .fold-byte8 in
+    let c₈ = c₆ .before .before in let fold-byte7 = c₈ .fold-byte7 in
+    let c₁₀ = c₈ .before .before in let fold-byte6 = c₁₀ .fold-byte6 in
+    let c₁₂ = c₁₀ .before .before in let fold-byte5 = c₁₂ .fold-byte5 in
+    let c₁₄ = c₁₂ .before .before in let fold-byte4 = c₁₄ .fold-byte4 in
+    let c₁₆ = c₁₄ .before .before in let fold-byte3 = c₁₆ .fold-byte3 in
+    let c₁₈ = c₁₆ .before .before in let fold-byte2 = c₁₈ .fold-byte2 in
+    let c₂₀ = c₁₈ .before .before in let fold-byte = c₂₀ .fold-byte in
+    let c₂₃ = c₂₀ .before .before .before in let a = c₂₃ .args in let p = c₂₃ .pre in
+    (λ i. fold-byte .ensures i ∷ (fold-byte2 .ensures i ∷ (fold-byte3 .ensures i ∷ (fold-byte4 .ensures i ∷ (fold-byte5 .ensures i ∷ (fold-byte6 .ensures i
+    ∷ (fold-byte7 .ensures i ∷ (fold-byte8 .ensures i ∷
+    (fold-byte9 .ensures i ∷ (c .before .before .fold-byte10 .ensures i ∷ (c .fold-byte11 .ensures i ∷ [])))))))))))
+    ∙ eleven (a .name .now) p
 
 pub fold-spec : {M : Type 1} → statement M
 fold-spec =

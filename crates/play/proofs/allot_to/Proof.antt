@@ -29,7 +29,10 @@ same-length-2 c = search needs
 
 -- src/lib.rt:67:1
 returns-2 : tie.Need-returns-2
-returns-2 c = open-made _ _ _ _ _ (c .before .before .before .before .before .before .before .open-checked .ensures) (c .before .before .before .before .before .if1 .left) (allot-is _ _ _ _ (c .before .before .allot-checked .ensures))
+returns-2 c =
+    let c₅ = c .before .before .before .before .before in let if1 = c₅ .if1 in
+    let c₇ = c₅ .before .before in let open-checked = c₇ .open-checked in
+    open-made _ _ _ _ _ (open-checked .ensures) (if1 .left) (allot-is _ _ _ _ (c .before .before .allot-checked .ensures))
 
 pub allot-to-spec : {M : Type 1} → statement M
 allot-to-spec =

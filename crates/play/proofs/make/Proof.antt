@@ -103,7 +103,10 @@ same-length c = search needs
 -- src/lib.rt:124:1
 returns : tie.Need-returns
 unfolding made
-returns c = c .before .before .create-file .ensures ∙ sym (ap (made (c .before .before .before .before .before .before .before .before .before .args .g) (c .before .before .before .before .before .before .before .before .before .args .image .now) (c .before .before .before .before .before .before .before .before .before .args .t3)) (c .before .before .before .before .before .before .call .given .1))
+returns c =
+    let c₆ = c .before .before .before .before .before .before in let call = c₆ .call in
+    let c₉ = c₆ .before .before .before in let a = c₉ .args in
+    c .before .before .create-file .ensures ∙ sym (ap (made (a .g) (a .image .now) (a .t3)) (call .given .1))
 
 -- src/lib.rt:124:1
 same-length-2 : tie.Need-same-length-2
@@ -112,7 +115,10 @@ same-length-2 c = search needs
 -- src/lib.rt:124:1
 returns-2 : tie.Need-returns-2
 unfolding made
-returns-2 c = c .before .before .write-fill .ensures ∙ sym (ap (made (c .before .before .before .before .before .before .before .before .before .args .g) (c .before .before .before .before .before .before .before .before .before .args .image .now) (c .before .before .before .before .before .before .before .before .before .args .t3)) (c .before .before .before .before .before .before .call2 .given .1))
+returns-2 c =
+    let c₆ = c .before .before .before .before .before .before in let call2 = c₆ .call2 in
+    let c₉ = c₆ .before .before .before in let a = c₉ .args in
+    c .before .before .write-fill .ensures ∙ sym (ap (made (a .g) (a .image .now) (a .t3)) (call2 .given .1))
 
 -- src/lib.rt:124:1
 same-length-3 : tie.Need-same-length-3
@@ -121,7 +127,10 @@ same-length-3 c = search needs
 -- src/lib.rt:124:1
 returns-3 : tie.Need-returns-3
 unfolding made
-returns-3 c = c .before .before .write-fill2 .ensures ∙ sym (ap (made (c .before .before .before .before .before .before .before .before .before .args .g) (c .before .before .before .before .before .before .before .before .before .args .image .now) (c .before .before .before .before .before .before .before .before .before .args .t3)) (c .before .before .before .before .before .before .call3 .given .1))
+returns-3 c =
+    let c₆ = c .before .before .before .before .before .before in let call3 = c₆ .call3 in
+    let c₉ = c₆ .before .before .before in let a = c₉ .args in
+    c .before .before .write-fill2 .ensures ∙ sym (ap (made (a .g) (a .image .now) (a .t3)) (call3 .given .1))
 
 -- src/lib.rt:124:1
 same-length-4 : tie.Need-same-length-4
@@ -130,7 +139,10 @@ same-length-4 c = search needs
 -- src/lib.rt:124:1
 returns-4 : tie.Need-returns-4
 unfolding made
-returns-4 c = c .before .before .allot-to .ensures ∙ sym (ap (made (c .before .before .before .before .before .before .before .before .before .args .g) (c .before .before .before .before .before .before .before .before .before .args .image .now) (c .before .before .before .before .before .before .before .before .before .args .t3)) (c .before .before .before .before .before .before .call4 .given .1))
+returns-4 c =
+    let c₆ = c .before .before .before .before .before .before in let call4 = c₆ .call4 in
+    let c₉ = c₆ .before .before .before in let a = c₉ .args in
+    c .before .before .allot-to .ensures ∙ sym (ap (made (a .g) (a .image .now) (a .t3)) (call4 .given .1))
 
 -- src/lib.rt:124:1
 same-length-5 : tie.Need-same-length-5
@@ -139,7 +151,10 @@ same-length-5 c = search needs
 -- src/lib.rt:124:1
 returns-5 : tie.Need-returns-5
 unfolding made
-returns-5 c = c .before .before .trim-file .ensures ∙ sym (ap (made (c .before .before .before .before .before .before .before .before .args .g) (c .before .before .before .before .before .before .before .before .args .image .now) (c .before .before .before .before .before .before .before .before .args .t3)) (c .before .before .before .before .before .enum-told .given .1))
+returns-5 c =
+    let c₅ = c .before .before .before .before .before in let enum-told = c₅ .enum-told in
+    let c₈ = c₅ .before .before .before in let a = c₈ .args in
+    c .before .before .trim-file .ensures ∙ sym (ap (made (a .g) (a .image .now) (a .t3)) (enum-told .given .1))
 
 -- src/lib.rt:124:1
 same-length-6 : tie.Need-same-length-6
@@ -148,7 +163,10 @@ same-length-6 c = search needs
 -- src/lib.rt:124:1
 returns-6 : tie.Need-returns-6
 unfolding made
-returns-6 c = c .before .before .kill-file .ensures ∙ sym (ap (made (c .before .before .before .before .before .before .before .before .args .g) (c .before .before .before .before .before .before .before .before .args .image .now) (c .before .before .before .before .before .before .before .before .args .t3)) (c .before .before .before .before .before .enum-told2 .given .1))
+returns-6 c =
+    let c₅ = c .before .before .before .before .before in let enum-told2 = c₅ .enum-told2 in
+    let c₈ = c₅ .before .before .before in let a = c₈ .args in
+    c .before .before .kill-file .ensures ∙ sym (ap (made (a .g) (a .image .now) (a .t3)) (enum-told2 .given .1))
 
 -- src/lib.rt:124:1
 same-length-7 : tie.Need-same-length-7
@@ -157,7 +175,10 @@ same-length-7 c = search needs
 -- src/lib.rt:124:1
 returns-7 : tie.Need-returns-7
 unfolding made
-returns-7 c = c .read-through .ensures ∙ sym (ap (made (c .before .before .before .before .before .before .before .args .g) (c .before .before .before .before .before .before .before .args .image .now) (c .before .before .before .before .before .before .before .args .t3)) (c .before .before .before .before .call5 .given .1))
+returns-7 c =
+    let c₄ = c .before .before .before .before in let call5 = c₄ .call5 in
+    let c₇ = c₄ .before .before .before in let a = c₇ .args in
+    c .read-through .ensures ∙ sym (ap (made (a .g) (a .image .now) (a .t3)) (call5 .given .1))
 
 pub make-spec : {M : Type 1} → statement M
 make-spec =

@@ -25,7 +25,10 @@ read-checked-requires c κs = search needs
 
 -- src/lib.rt:107:1
 returns-2 : tie.Need-returns-2
-returns-2 c = open-made _ _ _ _ _ (c .before .before .before .before .before .before .open-checked .ensures) (c .before .before .before .before .if1 .left) (read-is _ _ _ _ (c .before .read-checked .ensures))
+returns-2 c =
+    let c₄ = c .before .before .before .before in let if1 = c₄ .if1 in
+    let c₆ = c₄ .before .before in let open-checked = c₆ .open-checked in
+    open-made _ _ _ _ _ (open-checked .ensures) (if1 .left) (read-is _ _ _ _ (c .before .read-checked .ensures))
 
 pub read-through-spec : {M : Type 1} → statement M
 read-through-spec =

@@ -23,24 +23,36 @@ abbrev μ-loop : tie.MeasureT-loop
 
 -- src/lib.rt:152:5
 loop-holds : tie.Need-loop-holds Inv-loop μ-loop
-loop-holds c = playing-first _ _ _ _ _ (good-disk _ _ (c .before .before .before .pre .0) (c .before .before .before .pre .1) (λ i. c .before .before .slice-known .given i .fits))
+loop-holds c = playing-first _ _ _ _ _
+    (good-disk _ _ (c .before .before .before .pre .0) (c .before .before .before .pre .1) (λ i. c .before .before .slice-known .given i .fits))
 
 -- src/lib.rt:153:13
 step-at-requires : tie.Need-step-at-requires Inv-loop μ-loop
-step-at-requires c κs = omega (arith, c .before .before .before .before .before .pre .2, c .loop-test .taken)
+step-at-requires c κs =
+    let c₅ = c .before .before .before .before .before in let p = c₅ .pre in
+    omega (arith, p .2, c .loop-test .taken)
 
 -- src/lib.rt:156:13
 name-at-requires : tie.Need-name-at-requires Inv-loop μ-loop
 name-at-requires c κs = let a = c .before .before .before .before .before .before .args in
-    subst (λ (s : Step). s .file < length (namesOf (readTrace (a .bytes .now)))) (sym (c .step-at .ensures)) (step-fits (a .bytes .now) (c .before .before .loop .i) (omega (arith, c .before .before .before .before .before .before .pre .2, c .before .loop-test .taken)) .file)
+    subst (λ (s : Step). s .file < length (namesOf (readTrace (a .bytes .now)))) (sym (c .step-at .ensures))
+    (step-fits (a .bytes .now) (c .before .before .loop .i)
+    (omega (arith, c .before .before .before .before .before .before .pre .2, c .before .loop-test .taken)) .file)
 
 -- src/lib.rt:157:13
 make-requires : tie.Need-make-requires Inv-loop μ-loop
-make-requires c κs = still _ _ _ (c .before .before .before .before .before .before .before .before .pre .0) (c .before .before .before .before .before .before .before .before .pre .1) (c .before .before .before .before .loop .inv .good)
+make-requires c κs =
+    let c₄ = c .before .before .before .before in let l = c₄ .loop in
+    let c₈ = c₄ .before .before .before .before in let p = c₈ .pre in
+    still _ _ _ (p .0) (p .1) (l .inv .good)
 
 -- src/lib.rt:158:9
 slice-write-results : tie.Need-slice-write-results Inv-loop μ-loop
-slice-write-results c = omega (arith, c .before .before .before .before .before .before .before .before .before .before .before .pre .3, c .before .before .before .before .before .before .loop-test .taken, c .before .before .before .before .before .before .before .loop .inv .room)
+slice-write-results c =
+    let c₆ = c .before .before .before .before .before .before in let loop-test = c₆ .loop-test in
+    let c₇ = c₆ .before in let l = c₇ .loop in
+    let c₁₁ = c₇ .before .before .before .before in let p = c₁₁ .pre in
+    omega (arith, p .3, loop-test .taken, l .inv .room)
 
 -- src/lib.rt:159:9
 add-i : tie.Need-add-i Inv-loop μ-loop
@@ -52,7 +64,13 @@ loop-less c = search needs
 
 -- src/lib.rt:152:5
 loop-again : tie.Need-loop-again Inv-loop μ-loop
-loop-again c = playing-on _ (c .before .before .before .before .before .before .before .loop .inv) (c .before .before .before .before .before .before .loop-test .taken) (c .before .before .before .before .before .before .before .before .before .before .before .pre .2) (c .before .before .before .before .before .before .before .before .before .before .before .pre .3) (c .before .before .before .before .before .step-at .ensures) (c .before .before .before .before .name-at .ensures) (c .before .before .make .ensures)
+loop-again c =
+    let c₄ = c .before .before .before .before in let name-at = c₄ .name-at in
+    let c₅ = c₄ .before in let step-at = c₅ .step-at in
+    let c₆ = c₅ .before in let loop-test = c₆ .loop-test in
+    let c₇ = c₆ .before in let l = c₇ .loop in
+    let c₁₁ = c₇ .before .before .before .before in let p = c₁₁ .pre in
+    playing-on _ (l .inv) (loop-test .taken) (p .2) (p .3) (step-at .ensures) (name-at .ensures) (c .before .before .make .ensures)
 
 -- src/lib.rt:140:1
 same-length : tie.Need-same-length Inv-loop μ-loop
@@ -64,7 +82,9 @@ same-length-2 c = c .before .loop .inv .room
 
 -- src/lib.rt:140:1
 returns : tie.Need-returns Inv-loop μ-loop
-returns c = playing-last _ (c .before .loop .inv) (c .loop-test .left) (c .before .before .before .before .before .pre .2)
+returns c =
+    let c₅ = c .before .before .before .before .before in let p = c₅ .pre in
+    playing-last _ (c .before .loop .inv) (c .loop-test .left) (p .2)
 
 pub run-spec : {M : Type 1} → statement M
 run-spec =

@@ -33,7 +33,10 @@ same-length-2 c = search needs
 
 -- src/lib.rt:43:1
 returns-2 : tie.Need-returns-2
-returns-2 c = open-made _ _ _ _ _ (c .before .before .before .before .before .before .before .before .open-checked .ensures) (c .before .before .before .before .before .before .if1 .left) (write-is _ _ _ _ _ (c .before .before .write-checked .ensures))
+returns-2 c =
+    let c₆ = c .before .before .before .before .before .before in let if1 = c₆ .if1 in
+    let c₈ = c₆ .before .before in let open-checked = c₈ .open-checked in
+    open-made _ _ _ _ _ (open-checked .ensures) (if1 .left) (write-is _ _ _ _ _ (c .before .before .write-checked .ensures))
 
 pub write-fill-spec : {M : Type 1} → statement M
 write-fill-spec =

@@ -54,11 +54,21 @@ add-t14 c = search needs
 
 -- src/lib.rt:245:13
 returns : tie.Need-returns Inv-loop μ-loop
-returns c = going-bad (record { place = refl; numbers = c .before .before .numbers-at .ensures; bad = c .before .bad-field .ensures }) (c .before .before .before .before .loop .inv) (c .before .before .before .loop-test .taken) (c .if1 .taken) ∙ told _ _ _ refl
+returns c =
+    let c₃ = c .before .before .before in let loop-test = c₃ .loop-test in
+    let c₄ = c₃ .before in let l = c₄ .loop in
+    going-bad (record { place = refl; numbers = c .before .before .numbers-at .ensures; bad = c .before .bad-field .ensures }) (l .inv) (loop-test .taken)
+    (c .if1 .taken) ∙ told _ _ _ refl
 
 -- src/lib.rt:253:13
 returns-2 : tie.Need-returns-2 Inv-loop μ-loop
-returns-2 c = going-end (record { place = refl; numbers = c .before .before .before .before .numbers-at .ensures; bad = c .before .before .before .bad-field .ensures }) (c .before .before .before .before .before .before .loop .inv) (c .before .before .before .before .before .loop-test .taken) (c .before .before .if1 .left) (c .if2 .taken) ∙ told _ _ _ refl
+returns-2 c =
+    let c₃ = c .before .before .before in let bad-field = c₃ .bad-field in
+    let c₄ = c₃ .before in let numbers-at = c₄ .numbers-at in
+    let c₅ = c₄ .before in let loop-test = c₅ .loop-test in
+    let c₆ = c₅ .before in let l = c₆ .loop in
+    going-end (record { place = refl; numbers = numbers-at .ensures; bad = bad-field .ensures }) (l .inv) (loop-test .taken) (c .before .before .if1 .left)
+    (c .if2 .taken) ∙ told _ _ _ refl
 
 -- src/lib.rt:260:9
 add-i : tie.Need-add-i Inv-loop μ-loop
@@ -70,7 +80,13 @@ loop-less c = search needs
 
 -- src/lib.rt:240:5
 loop-again : tie.Need-loop-again Inv-loop μ-loop
-loop-again c = going-on (record { place = refl; numbers = c .before .before .before .before .numbers-at .ensures; bad = c .before .before .before .bad-field .ensures }) (c .before .before .before .before .before .before .loop .inv) (c .before .before .before .before .before .loop-test .taken) (c .before .before .if1 .left) (c .if2 .left)
+loop-again c =
+    let c₃ = c .before .before .before in let bad-field = c₃ .bad-field in
+    let c₄ = c₃ .before in let numbers-at = c₄ .numbers-at in
+    let c₅ = c₄ .before in let loop-test = c₅ .loop-test in
+    let c₆ = c₅ .before in let l = c₆ .loop in
+    going-on (record { place = refl; numbers = numbers-at .ensures; bad = bad-field .ensures }) (l .inv) (loop-test .taken) (c .before .before .if1 .left)
+    (c .if2 .left)
 
 -- src/lib.rt:233:1
 returns-3 : tie.Need-returns-3 Inv-loop μ-loop

@@ -32,7 +32,8 @@ add-numbers-at c = search needs
 
 -- src/lib.rt:317:48
 mul-numbers-at-2 : tie.Need-mul-numbers-at-2
-mul-numbers-at-2 c = let s = step-bytes (c .before .before .before .args .trace .now) (c .before .before .before .args .i) (c .before .before .before .pre) in omega (arith, s .inside)
+mul-numbers-at-2 c = let s = step-bytes (c .before .before .before .args .trace .now) (c .before .before .before .args .i) (c .before .before .before .pre) in
+    omega (arith, s .inside)
 
 -- src/lib.rt:317:31
 add-numbers-at-2 : tie.Need-add-numbers-at-2
@@ -42,7 +43,8 @@ add-numbers-at-2 c = let s = step-bytes (c .before .before .before .args .trace 
 
 -- src/lib.rt:317:13
 numbers-at-requires : tie.Need-numbers-at-requires
-numbers-at-requires c κs = let s = step-bytes (c .before .before .before .args .trace .now) (c .before .before .before .args .i) (c .before .before .before .pre) in
+numbers-at-requires c κs = let s = step-bytes (c .before .before .before .args .trace .now) (c .before .before .before .args .i)
+    (c .before .before .before .pre) in
     let w : c .wide .result ≡ s .n = c .wide .ensures .is ∙ s .count (omega (arith, c .wide .ensures .is, c .wide .ensures .small)) in
     omega (arith, w, s .inside)
 
@@ -52,9 +54,13 @@ step-of-requires c κs = search needs
 
 -- src/lib.rt:312:1
 returns : tie.Need-returns
-returns c = let s = step-bytes (c .before .before .before .before .before .args .trace .now) (c .before .before .before .before .before .args .i) (c .before .before .before .before .before .pre) in
-    let w : c .before .before .wide .result ≡ s .n = c .before .before .wide .ensures .is ∙ s .count (omega (arith, c .before .before .wide .ensures .is, c .before .before .wide .ensures .small)) in
-    c .step-of .ensures ∙ ap stepOf (c .before .numbers-at .ensures ∙ ap (λ (x : ℕ). numbersAt (bits (c .before .before .before .before .before .args .trace .now)) (8 * (1 + 11 * x + 7 * c .before .before .before .before .before .args .i))) w) ∙ sym (s .step)
+returns c =
+    let c₂ = c .before .before in let wide = c₂ .wide in
+    let c₅ = c₂ .before .before .before in let a = c₅ .args in let p = c₅ .pre in
+    let s = step-bytes (a .trace .now) (a .i) p in
+    let w : wide .result ≡ s .n = wide .ensures .is ∙ s .count (omega (arith, wide .ensures .is, wide .ensures .small)) in
+    c .step-of .ensures ∙ ap stepOf (c .before .numbers-at .ensures ∙ ap (λ (x : ℕ). numbersAt (bits (a .trace .now)) (8 * (1 + 11 * x + 7 * a .i))) w) ∙ sym
+    (s .step)
 
 pub step-at-spec : {M : Type 1} → statement M
 step-at-spec =

@@ -19,7 +19,8 @@ sub-result : tie.Need-sub-result
 sub-result c = let w = c .granule-bytes in let p : 0 < w .result = omega (arith, w .ensures .some) in omega (arith, mod-lt (c .before .args .i) p)
 
 returns : tie.Need-returns
-returns c = let a = c .before .args in let w = c .granule-bytes in let p : 0 < w .result = omega (arith, w .ensures .some) in let q = mod-lt (a .i) p in record { is = omega (arith, q, w .ensures .is, ap (λ (v : ℕ). a .i % v) (w .ensures .is)); some = omega (arith, q); few = omega (arith, w .ensures .few) }
+returns c = let a = c .before .args in let w = c .granule-bytes in let p : 0 < w .result = omega (arith, w .ensures .some) in let q = mod-lt (a .i) p in
+    record { is = omega (arith, q, w .ensures .is, ap (λ (v : ℕ). a .i % v) (w .ensures .is)); some = omega (arith, q); few = omega (arith, w .ensures .few) }
 
 pub rest-of-spec : {M : Type 1} → statement M
 rest-of-spec = tie.close (tie.spec granule-bytes-requires rem-result sub-result returns)

@@ -28,16 +28,25 @@ returns c = reading-stop _ _ _ _ _ (c .before .before .sector-ranged .ensures) (
 
 word-requires : tie.Need-word-requires
 word-requires c κs = let a = c .before .before .before .before .args in
-    let p = passed (a .g) (a .image .now) (a .h) (c .before .before .sector-ranged .result) (notForReading (a .h) ∷ []) refl (c .before .reading-number .ensures) (c .if1 .left) in
+    let p = passed (a .g) (a .image .now) (a .h) (c .before .before .sector-ranged .result) (notForReading (a .h) ∷ []) refl
+    (c .before .reading-number .ensures) (c .if1 .left) in
     (walks (a .g) (a .image .now) (a .h) (c .before .before .sector-ranged .result) p .0 .room, p .slot, omega arith)
 
 returns-2 : tie.Need-returns-2
-returns-2 c = sym (reading-then _ _ _ _ _ (c .before .before .before .before .sector-ranged .ensures) (c .before .before .before .reading-number .ensures) (c .before .before .if1 .left)
-    ∙ first-hit (ap (λ (n : ℕ). leb n (c .before .before .before .before .before .before .args .k)) (sym (c .before .word .ensures .is)) ∙ le-leb _ _ (c .if2 .taken)) _ _)
+returns-2 c =
+    let c₃ = c .before .before .before in let reading-number = c₃ .reading-number in
+    let c₄ = c₃ .before in let sector-ranged = c₄ .sector-ranged in
+    let c₆ = c₄ .before .before in let a = c₆ .args in
+    sym (reading-then _ _ _ _ _ (sector-ranged .ensures) (reading-number .ensures) (c .before .before .if1 .left)
+    ∙ first-hit (ap (λ (n : ℕ). leb n (a .k)) (sym (c .before .word .ensures .is)) ∙ le-leb _ _ (c .if2 .taken)) _ _)
 
 returns-3 : tie.Need-returns-3
-returns-3 c = sym (reading-then _ _ _ _ _ (c .before .before .before .before .sector-ranged .ensures) (c .before .before .before .reading-number .ensures) (c .before .before .if1 .left)
-    ∙ first-skip (ap (λ (n : ℕ). leb n (c .before .before .before .before .before .before .args .k)) (sym (c .before .word .ensures .is)) ∙ lt-leb _ _ (c .if2 .left)) _ _ ∙ first-none)
+returns-3 c =
+    let c₃ = c .before .before .before in let reading-number = c₃ .reading-number in
+    let c₄ = c₃ .before in let sector-ranged = c₄ .sector-ranged in
+    let c₆ = c₄ .before .before in let a = c₆ .args in
+    sym (reading-then _ _ _ _ _ (sector-ranged .ensures) (reading-number .ensures) (c .before .before .if1 .left)
+    ∙ first-skip (ap (λ (n : ℕ). leb n (a .k)) (sym (c .before .word .ensures .is)) ∙ lt-leb _ _ (c .if2 .left)) _ _ ∙ first-none)
 
 pub sector-number-spec : {M : Type 1} → statement M
 sector-number-spec =

@@ -22,7 +22,11 @@ entry-walk-requires c κs = search needs
 
 returns : tie.Need-returns
 unfolding owned chain
-returns c = let a = c .before .before .before .args in (c .entry-walk .ensures .0 ∙ ap (λ (n : ℕ). getD (each (entryGranules (a .g) (a .image .now)) (chainFrom (a .g) (a .image .now) n (a .s))) (a .k) 0) (c .before .slots .ensures .is ∙ sym (slots-length (a .g) (a .image .now) (omega arith) (omega arith))), c .entry-walk .ensures .1)
+returns c = let a = c .before .before .before .args in (
+  c .entry-walk .ensures .0 ∙ ap (λ (n : ℕ). getD (each (entryGranules (a .g) (a .image .now)) (chainFrom (a .g) (a .image .now) n (a .s))) (a .k) 0)
+      (c .before .slots .ensures .is ∙ sym (slots-length (a .g) (a .image .now) (omega arith) (omega arith))),
+  c .entry-walk .ensures .1,
+)
 
 pub owned-at-spec : {M : Type 1} → statement M
 owned-at-spec =

@@ -45,7 +45,9 @@ add-result c = omega (arith, in-image (c .before .granule-bytes .ensures) (c .be
 
 returns : tie.Need-returns
 unfolding place
-returns c = let a = c .before .before .before .args in let w = c .before .granule-bytes in ap (λ (n : ℕ). w .result * n + a .i % w .result) (c .owned-at .ensures .0) ∙ ap (λ (v : ℕ). v * getD (owned (a .g) (a .image .now) (a .s)) (a .i / v) 0 + a .i % v) (w .ensures .is)
+returns c = let a = c .before .before .before .args in let w = c .before .granule-bytes in
+    ap (λ (n : ℕ). w .result * n + a .i % w .result) (c .owned-at .ensures .0) ∙ ap
+    (λ (v : ℕ). v * getD (owned (a .g) (a .image .now) (a .s)) (a .i / v) 0 + a .i % v) (w .ensures .is)
 
 pub place-spec : {M : Type 1} → statement M
 place-spec =

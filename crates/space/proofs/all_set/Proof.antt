@@ -20,7 +20,8 @@ sub-result : tie.Need-sub-result
 sub-result c = let e = shl-wide (c .args .bits) (c .pre .0) in let p = pow-pos (c .args .bits) in omega arith
 
 returns : tie.Need-returns
-returns c = ap (λ (k : ℕ). eqb (c .args .byte % k) (k - 1)) (shl-wide (c .args .bits) (c .pre .0)) ∙ set-all (c .args .bits) (c .args .byte) (c .pre .0) (c .pre .1)
+returns c = ap (λ (k : ℕ). eqb (c .args .byte % k) (k - 1)) (shl-wide (c .args .bits) (c .pre .0)) ∙ set-all (c .args .bits) (c .args .byte) (c .pre .0)
+    (c .pre .1)
 
 pub all-set-spec : {M : Type 1} → statement M
 all-set-spec = tie.close (tie.spec shl-m rem-result sub-result returns)

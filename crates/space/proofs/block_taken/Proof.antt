@@ -26,10 +26,14 @@ div-wide : tie.Need-div-wide
 div-wide c = search needs
 
 add-wide : tie.Need-add-wide
-add-wide c = omega (arith, gat-low (c .before .before .before .before .before .args .g) (c .before .before .before .before .before .args .n) (omega arith) (omega arith))
+add-wide c =
+    let c₅ = c .before .before .before .before .before in let a = c₅ .args in
+    omega (arith, gat-low (a .g) (a .n) (omega arith) (omega arith))
 
 shared-slice-read-wide : tie.Need-shared-slice-read-wide
-shared-slice-read-wide c = omega (arith, gat-low (c .before .before .before .before .before .before .args .g) (c .before .before .before .before .before .before .args .n) (omega arith) (omega arith))
+shared-slice-read-wide c =
+    let c₆ = c .before .before .before .before .before .before in let a = c₆ .args in
+    omega (arith, gat-low (a .g) (a .n) (omega arith) (omega arith))
 
 wide-requires : tie.Need-wide-requires
 wide-requires c κs = search needs
@@ -38,8 +42,11 @@ all-set-requires : tie.Need-all-set-requires
 all-set-requires c κs = search needs
 
 returns-2 : tie.Need-returns-2
-returns-2 c = let e = block-every (c .before .before .before .before .before .before .before .before .args .g) (c .before .before .before .before .before .before .before .before .args .image .now) (c .before .before .before .before .before .before .before .before .args .n) (c .before .before .before .before .before .before .before .before .pre .0 .units-low) (c .before .before .before .before .before .if1 .left) (c .before .wide .ensures .is) in
-    c .all-set .ensures ∙ e ∙ sym (all-yes (eq-eqb (c .before .before .before .before .before .before .before .before .args .n % c .before .before .before .before .before .before .before .before .args .g .units) 0 (c .before .before .before .before .before .if1 .left)) _ ∙ all-one _)
+returns-2 c =
+    let c₅ = c .before .before .before .before .before in let if1 = c₅ .if1 in
+    let c₈ = c₅ .before .before .before in let a = c₈ .args in let p = c₈ .pre in
+    let e = block-every (a .g) (a .image .now) (a .n) (p .0 .units-low) (if1 .left) (c .before .wide .ensures .is) in
+    c .all-set .ensures ∙ e ∙ sym (all-yes (eq-eqb (a .n % a .g .units) 0 (if1 .left)) _ ∙ all-one _)
 
 pub block-taken-spec : {M : Type 1} → statement M
 block-taken-spec =

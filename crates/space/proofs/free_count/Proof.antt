@@ -35,7 +35,9 @@ wide-requires : tie.Need-wide-requires Inv-loop μ-loop
 wide-requires c κs = search needs
 
 clear-bits-requires : tie.Need-clear-bits-requires Inv-loop μ-loop
-clear-bits-requires c κs = c .before .before .before .before .before .before .pre .units-high
+clear-bits-requires c κs =
+    let c₆ = c .before .before .before .before .before .before in let p = c₆ .pre in
+    p .units-high
 
 add-n : tie.Need-add-n Inv-loop μ-loop
 add-n c = let r = c .before .before .before .before .before .before .before .pre in let k = c .clear-bits .ensures .1 in omega arith
@@ -44,10 +46,20 @@ loop-less : tie.Need-loop-less Inv-loop μ-loop
 loop-less c = omega arith
 
 loop-again : tie.Need-loop-again Inv-loop μ-loop
-loop-again c = (omega arith, (let k = c .clear-bits .ensures .1 in omega arith), freed-step _ _ (c .before .before .before .before .before .before .before .pre .units-low) (c .before .before .before .before .before .loop .inv .2) (c .before .before .before .before .loop-test .taken) (c .before .wide .ensures .is) (c .clear-bits .ensures .0))
+loop-again c =
+    let c₄ = c .before .before .before .before in let loop-test = c₄ .loop-test in
+    let c₅ = c₄ .before in let l = c₅ .loop in
+    let c₇ = c₅ .before .before in let p = c₇ .pre in (
+      omega arith,
+      (let k = c .clear-bits .ensures .1 in omega arith),
+      freed-step _ _ (p .units-low) (l .inv .2) (loop-test .taken)
+          (c .before .wide .ensures .is) (c .clear-bits .ensures .0),
+    )
 
 returns : tie.Need-returns Inv-loop μ-loop
-returns c = let z : c .before .loop .b ≡ 0 = omega arith in freed-end _ _ (subst (λ (j : ℕ). Freed (c .before .before .before .args .g) (c .before .before .before .args .image .now) j (c .before .loop .n)) z (c .before .loop .inv .2))
+returns c = let z : c .before .loop .b ≡ 0 = omega arith in
+    freed-end _ _ (subst (λ (j : ℕ). Freed (c .before .before .before .args .g) (c .before .before .before .args .image .now) j (c .before .loop .n)) z
+    (c .before .loop .inv .2))
 
 pub free-count-spec : {M : Type 1} → statement M
 free-count-spec =

@@ -37,7 +37,8 @@ returns c = let a = c .before .before .before .before .before .before .before .b
     ∙ ap (λ (d : List ℕ). set d (hitAt (a .g) (a .s)) 0)
     (c .before .before .before .before .before .before .set-field .ensures
     ∙ ap (λ (v : ℕ). setField (a .g) (a .image .now) (a .s) 0 v)
-    (c .before .before .before .before .before .before .before .before .without-bit .ensures .is ∙ ap (withoutBit 4) (c .before .before .before .before .before .before .before .before .before .field .ensures .is)))
+    (c .before .before .before .before .before .before .before .before .without-bit .ensures .is ∙ ap (withoutBit 4)
+    (c .before .before .before .before .before .before .before .before .before .field .ensures .is)))
 
 pub kill-entry-spec : {M : Type 1} → statement M
 kill-entry-spec =

@@ -25,7 +25,10 @@ loop-less : tie.Need-loop-less Inv-loop μ-loop
 loop-less c = search needs
 
 loop-again : tie.Need-loop-again Inv-loop μ-loop
-loop-again c = dropping-step _ _ (c .before .before .before .before .before .loop .inv) (c .before .before .before .before .loop-test .taken) (c .before .before .drop-one .ensures)
+loop-again c =
+    let c₄ = c .before .before .before .before in let loop-test = c₄ .loop-test in
+    let c₅ = c₄ .before in let l = c₅ .loop in
+    dropping-step _ _ (l .inv) (loop-test .taken) (c .before .before .drop-one .ensures)
 
 same-length : tie.Need-same-length Inv-loop μ-loop
 same-length c = c .before .loop .inv .long

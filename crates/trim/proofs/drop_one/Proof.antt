@@ -1,6 +1,7 @@
 use Rattle.layout.proofs.HasRoom.{entry-fits, bit-fits}
 use Rattle.meaning.specs.Entries.{extension}
-use Rattle.trim.proofs.Trimming.{last-reads, last-run, last-granule, last-before, by-shorter, by-emptied, by-unhooked, not-first, is-first, extension-yes, extension-no}
+use Rattle.trim.proofs.Trimming.{last-reads, last-run, last-granule, last-before, by-shorter, by-emptied, by-unhooked, not-first, is-first}
+use Rattle.trim.proofs.Trimming.{extension-yes, extension-no}
 use lib.ListN.{length}
 use Prim.Native.Nat.{_-_}
 use mathlib.Core.Logic.{⊎-elim}
@@ -27,10 +28,14 @@ sub-k : tie.Need-sub-k
 sub-k c = let a = c .before .before .before .args in omega (arith, last-run (a .g) (a .image .now) (a .p) (a .e) (c .before .before .before .pre) .0)
 
 run-length-requires : tie.Need-run-length-requires
-run-length-requires c κs = let a = c .before .before .before .before .args in let l = last-reads (a .g) (a .image .now) (a .p) (a .e) (c .before .before .before .before .pre) in let w = last-run (a .g) (a .image .now) (a .p) (a .e) (c .before .before .before .before .pre) in (l .0, l .1, omega arith)
+run-length-requires c κs = let a = c .before .before .before .before .args in
+    let l = last-reads (a .g) (a .image .now) (a .p) (a .e) (c .before .before .before .before .pre) in
+    let w = last-run (a .g) (a .image .now) (a .p) (a .e) (c .before .before .before .before .pre) in (l .0, l .1, omega arith)
 
 run-start-requires : tie.Need-run-start-requires
-run-start-requires c κs = let a = c .before .before .before .before .before .before .args in let l = last-reads (a .g) (a .image .now) (a .p) (a .e) (c .before .before .before .before .before .before .pre) in let w = last-run (a .g) (a .image .now) (a .p) (a .e) (c .before .before .before .before .before .before .pre) in (l .0, l .1, omega arith)
+run-start-requires c κs = let a = c .before .before .before .before .before .before .args in
+    let l = last-reads (a .g) (a .image .now) (a .p) (a .e) (c .before .before .before .before .before .before .pre) in
+    let w = last-run (a .g) (a .image .now) (a .p) (a .e) (c .before .before .before .before .before .before .pre) in (l .0, l .1, omega arith)
 
 add-n : tie.Need-add-n
 add-n c = search needs
@@ -39,59 +44,149 @@ sub-n : tie.Need-sub-n
 sub-n c = search needs
 
 shorten-requires : tie.Need-shorten-requires
-shorten-requires c κs = let a = c .before .before .before .before .before .before .before .before .before .args in let l = last-reads (a .g) (a .image .now) (a .p) (a .e) (c .before .before .before .before .before .before .before .before .before .pre) in let w = last-run (a .g) (a .image .now) (a .p) (a .e) (c .before .before .before .before .before .before .before .before .before .pre) in
-    (entry-fits (a .g) (a .image .now) (a .e) (l .0) (l .1), omega arith, omega (arith, c .before .before .before .before .run-length .ensures .is, c .before .if1 .taken))
+shorten-requires c κs = let a = c .before .before .before .before .before .before .before .before .before .args in
+    let l = last-reads (a .g) (a .image .now) (a .p) (a .e) (c .before .before .before .before .before .before .before .before .before .pre) in
+    let w = last-run (a .g) (a .image .now) (a .p) (a .e) (c .before .before .before .before .before .before .before .before .before .pre) in (
+      entry-fits (a .g) (a .image .now) (a .e) (l .0) (l .1),
+      omega arith,
+      omega
+          (arith, c .before .before .before .before .run-length .ensures .is, c .before .if1 .taken),
+    )
 
 free-granule-requires : tie.Need-free-granule-requires
-free-granule-requires c κs = let a = c .before .before .before .before .before .before .before .before .before .before .before .before .before .args in let l = last-reads (a .g) (a .image .now) (a .p) (a .e) (c .before .before .before .before .before .before .before .before .before .before .before .before .before .pre) in
-    bit-fits (a .g) (a .image .now) (c .before .before .before .shorten .last .0) _ (l .0) (last-granule (a .g) (a .image .now) (a .p) (a .e) (c .before .before .before .before .before .before .before .before .before .before .before .before .before .pre) (c .before .before .before .before .before .before .before .before .before .before .runs .ensures .is) (c .before .before .before .before .before .before .before .before .run-length .ensures .is) (c .before .before .before .before .before .before .run-start .ensures .is)) (search needs)
+free-granule-requires c κs = let a = c .before .before .before .before .before .before .before .before .before .before .before .before .before .args in
+    let l = last-reads (a .g) (a .image .now) (a .p) (a .e)
+    (c .before .before .before .before .before .before .before .before .before .before .before .before .before .pre) in
+    bit-fits (a .g) (a .image .now) (c .before .before .before .shorten .last .0) _ (l .0)
+    (last-granule (a .g) (a .image .now) (a .p) (a .e)
+    (c .before .before .before .before .before .before .before .before .before .before .before .before .before .pre)
+    (c .before .before .before .before .before .before .before .before .before .before .runs .ensures .is)
+    (c .before .before .before .before .before .before .before .before .run-length .ensures .is)
+    (c .before .before .before .before .before .before .run-start .ensures .is)) (search needs)
 
 same-length : tie.Need-same-length
 same-length c = search needs
 
 returns : tie.Need-returns
-returns c = by-shorter _ _ _ _ (c .before .before .before .before .before .before .before .before .before .before .before .before .before .before .before .before .pre) (c .before .before .before .before .before .before .before .before .before .before .before .before .before .runs .ensures .is) (c .before .before .before .before .before .before .before .before .before .before .before .run-length .ensures .is) (c .before .before .before .before .before .before .before .before .before .run-start .ensures .is) (c .before .before .before .before .before .before .before .before .if1 .taken) (c .before .before .before .before .before .before .shorten .ensures) (c .before .before .free-granule .ensures)
+returns c =
+    let c₆ = c .before .before .before .before .before .before in let shorten = c₆ .shorten in
+    let c₈ = c₆ .before .before in let if1 = c₈ .if1 in
+    let c₉ = c₈ .before in let run-start = c₉ .run-start in
+    let c₁₁ = c₉ .before .before in let run-length = c₁₁ .run-length in
+    let c₁₃ = c₁₁ .before .before in let runs = c₁₃ .runs in
+    let c₁₆ = c₁₃ .before .before .before in let p = c₁₆ .pre in
+    by-shorter _ _ _ _ p (runs .ensures .is) (run-length .ensures .is) (run-start .ensures .is) (if1 .taken) (shorten .ensures)
+    (c .before .before .free-granule .ensures)
 
 field-requires : tie.Need-field-requires
-field-requires c κs = let a = c .before .before .before .before .before .before .before .before .before .args in let l = last-reads (a .g) (a .image .now) (a .p) (a .e) (c .before .before .before .before .before .before .before .before .before .pre) in (l .0, l .1, omega arith)
+field-requires c κs = let a = c .before .before .before .before .before .before .before .before .before .args in
+    let l = last-reads (a .g) (a .image .now) (a .p) (a .e) (c .before .before .before .before .before .before .before .before .before .pre) in
+    (l .0, l .1, omega arith)
 
 field-requires-2 : tie.Need-field-requires-2
-field-requires-2 c κs = let a = c .before .before .before .before .before .before .before .before .before .before .before .args in let l = last-reads (a .g) (a .image .now) (a .p) (a .e) (c .before .before .before .before .before .before .before .before .before .before .before .pre) in (l .0, l .1, omega arith)
+field-requires-2 c κs = let a = c .before .before .before .before .before .before .before .before .before .before .before .args in
+    let l = last-reads (a .g) (a .image .now) (a .p) (a .e) (c .before .before .before .before .before .before .before .before .before .before .before .pre)
+    in
+    (l .0, l .1, omega arith)
 
 empty-pair-requires : tie.Need-empty-pair-requires
-empty-pair-requires c κs = let a = c .before .before .before .before .before .before .before .before .before .before .before .before .before .args in let l = last-reads (a .g) (a .image .now) (a .p) (a .e) (c .before .before .before .before .before .before .before .before .before .before .before .before .before .pre) in let w = last-run (a .g) (a .image .now) (a .p) (a .e) (c .before .before .before .before .before .before .before .before .before .before .before .before .before .pre) in
+empty-pair-requires c κs = let a = c .before .before .before .before .before .before .before .before .before .before .before .before .before .args in
+    let l = last-reads (a .g) (a .image .now) (a .p) (a .e)
+    (c .before .before .before .before .before .before .before .before .before .before .before .before .before .pre) in
+    let w = last-run (a .g) (a .image .now) (a .p) (a .e)
+    (c .before .before .before .before .before .before .before .before .before .before .before .before .before .pre) in
     (entry-fits (a .g) (a .image .now) (a .e) (l .0) (l .1), omega arith)
 
 unhook-requires : tie.Need-unhook-requires
-unhook-requires c κs = let a = c .before .before .before .before .before .before .before .before .before .before .before .before .before .before .before .before .before .before .before .args in let l = last-reads (a .g) (a .image .now) (a .p) (a .e) (c .before .before .before .before .before .before .before .before .before .before .before .before .before .before .before .before .before .before .before .pre) in
+unhook-requires c κs = let a = c .before .before .before .before .before .before .before .before .before .before .before .before .before .before .before
+    .before .before .before .before .args in
+    let l = last-reads (a .g) (a .image .now) (a .p) (a .e)
+    (c .before .before .before .before .before .before .before .before .before .before .before .before .before .before .before .before .before .before
+    .before .pre) in
     let z : length (c .before .before .before .before .before .empty-pair .last .0) ≡ length (a .image .now) = search needs in
     let x = entry-fits (a .g) (a .image .now) (a .e) (l .0) (l .1) in
-    let b = last-before (a .g) (a .image .now) (a .p) (a .e) (c .before .before .before .before .before .before .before .before .before .before .before .before .before .before .before .before .before .before .before .pre) (extension-yes (a .g) (a .image .now) (a .e) (c .before .before .before .before .before .before .before .before .before .field .ensures .is) (c .before .before .if2 .taken)) in
-    let y = entry-fits (a .g) (a .image .now) (c .before .before .before .before .before .before .before .field2 .result) (l .0) (rw (c .before .before .before .before .before .before .before .field2 .ensures .is) b) in
+    let b = last-before (a .g) (a .image .now) (a .p) (a .e)
+    (c .before .before .before .before .before .before .before .before .before .before .before .before .before .before .before .before .before .before
+    .before .pre) (extension-yes (a .g) (a .image .now) (a .e)
+    (c .before .before .before .before .before .before .before .before .before .field .ensures .is) (c .before .before .if2 .taken)) in
+    let y = entry-fits (a .g) (a .image .now) (c .before .before .before .before .before .before .before .field2 .result) (l .0)
+    (rw (c .before .before .before .before .before .before .before .field2 .ensures .is) b) in
     let s = l .1 .low in
     (omega arith, omega arith, omega arith)
 
 free-granule-requires-2 : tie.Need-free-granule-requires-2
-free-granule-requires-2 c κs = let a = c .before .before .before .before .before .before .before .before .before .before .before .before .before .before .before .before .before .before .before .before .before .before .before .args in let l = last-reads (a .g) (a .image .now) (a .p) (a .e) (c .before .before .before .before .before .before .before .before .before .before .before .before .before .before .before .before .before .before .before .before .before .before .before .pre) in
-    bit-fits (a .g) (a .image .now) (c .before .before .before .unhook .last .0) _ (l .0) (last-granule (a .g) (a .image .now) (a .p) (a .e) (c .before .before .before .before .before .before .before .before .before .before .before .before .before .before .before .before .before .before .before .before .before .before .before .pre) (c .before .before .before .before .before .before .before .before .before .before .before .before .before .before .before .before .before .before .before .before .runs .ensures .is) (c .before .before .before .before .before .before .before .before .before .before .before .before .before .before .before .before .before .before .run-length .ensures .is) (c .before .before .before .before .before .before .before .before .before .before .before .before .before .before .before .before .run-start .ensures .is)) (search needs)
+free-granule-requires-2 c κs = let a = c .before .before .before .before .before .before .before .before .before .before .before .before .before .before
+    .before .before .before .before .before .before .before .before .before .args in
+    let l = last-reads (a .g) (a .image .now) (a .p) (a .e)
+    (c .before .before .before .before .before .before .before .before .before .before .before .before .before .before .before .before .before .before
+    .before .before .before .before .before .pre) in
+    bit-fits (a .g) (a .image .now) (c .before .before .before .unhook .last .0) _ (l .0)
+    (last-granule (a .g) (a .image .now) (a .p) (a .e)
+    (c .before .before .before .before .before .before .before .before .before .before .before .before .before .before .before .before .before .before
+    .before .before .before .before .before .pre)
+    (c .before .before .before .before .before .before .before .before .before .before .before .before .before .before .before .before .before .before
+    .before .before .runs .ensures .is) (c .before .before .before .before .before .before .before .before .before .before .before .before .before .before
+    .before .before .before .before .run-length .ensures .is)
+    (c .before .before .before .before .before .before .before .before .before .before .before .before .before .before .before .before .run-start .ensures
+    .is)) (search needs)
 
 same-length-2 : tie.Need-same-length-2
 same-length-2 c = search needs
 
 returns-2 : tie.Need-returns-2
-returns-2 c = let a = c .before .before .before .before .before .before .before .before .before .before .before .before .before .before .before .before .before .before .before .before .before .before .before .before .before .before .args in by-unhooked (a .g) (a .image .now) (a .p) (a .e) (c .before .before .before .before .before .before .before .before .before .before .before .before .before .before .before .before .before .before .before .before .before .before .before .before .before .before .pre) (c .before .before .before .before .before .before .before .before .before .before .before .before .before .before .before .before .before .before .before .before .before .before .before .runs .ensures .is) (c .before .before .before .before .before .before .before .before .before .before .before .before .before .before .before .before .before .before .before .before .before .run-length .ensures .is) (c .before .before .before .before .before .before .before .before .before .before .before .before .before .before .before .before .before .before .before .run-start .ensures .is) (c .before .before .before .before .before .before .before .before .before .before .before .before .before .before .before .before .before .before .if1 .left)
-    (extension-yes (a .g) (a .image .now) (a .e) (c .before .before .before .before .before .before .before .before .before .before .before .before .before .before .before .before .field .ensures .is) (c .before .before .before .before .before .before .before .before .before .if2 .taken)) (c .before .before .before .before .before .before .before .before .if3 .taken) (c .before .before .before .before .before .before .before .before .before .before .before .before .before .before .field2 .ensures .is) (c .before .before .before .before .before .before .before .before .before .before .before .before .empty-pair .ensures) (c .before .before .before .before .before .before .unhook .ensures) (c .before .before .free-granule2 .ensures)
+returns-2 c = let a = c .before .before .before .before .before .before .before .before .before .before .before .before .before .before .before .before
+    .before .before .before .before .before .before .before .before .before .before .args in
+    by-unhooked (a .g) (a .image .now) (a .p) (a .e)
+    (c .before .before .before .before .before .before .before .before .before .before .before .before .before .before .before .before .before .before
+    .before .before .before .before .before .before .before .before .pre)
+    (c .before .before .before .before .before .before .before .before .before .before .before .before .before .before .before .before .before .before
+    .before .before .before .before .before .runs .ensures .is)
+    (c .before .before .before .before .before .before .before .before .before .before .before .before .before .before .before .before .before .before
+    .before .before .before .run-length .ensures .is)
+    (c .before .before .before .before .before .before .before .before .before .before .before .before .before .before .before .before .before .before
+    .before .run-start .ensures .is) (c .before .before .before .before .before .before .before .before .before .before .before .before .before .before
+    .before .before .before .before .if1 .left)
+    (extension-yes (a .g) (a .image .now) (a .e)
+    (c .before .before .before .before .before .before .before .before .before .before .before .before .before .before .before .before .field .ensures
+    .is) (c .before .before .before .before .before .before .before .before .before .if2 .taken))
+    (c .before .before .before .before .before .before .before .before .if3 .taken)
+    (c .before .before .before .before .before .before .before .before .before .before .before .before .before .before .field2 .ensures .is)
+    (c .before .before .before .before .before .before .before .before .before .before .before .before .empty-pair .ensures)
+    (c .before .before .before .before .before .before .unhook .ensures) (c .before .before .free-granule2 .ensures)
 
 free-granule-requires-3 : tie.Need-free-granule-requires-3
-free-granule-requires-3 c κs = let a = c .before .before .before .before .before .before .before .before .before .before .before .before .before .before .before .before .before .before .args in let l = last-reads (a .g) (a .image .now) (a .p) (a .e) (c .before .before .before .before .before .before .before .before .before .before .before .before .before .before .before .before .before .before .pre) in
-    bit-fits (a .g) (a .image .now) (c .before .before .before .before .empty-pair .last .0) _ (l .0) (last-granule (a .g) (a .image .now) (a .p) (a .e) (c .before .before .before .before .before .before .before .before .before .before .before .before .before .before .before .before .before .before .pre) (c .before .before .before .before .before .before .before .before .before .before .before .before .before .before .before .runs .ensures .is) (c .before .before .before .before .before .before .before .before .before .before .before .before .before .run-length .ensures .is) (c .before .before .before .before .before .before .before .before .before .before .before .run-start .ensures .is)) (search needs)
+free-granule-requires-3 c κs = let a = c .before .before .before .before .before .before .before .before .before .before .before .before .before .before
+    .before .before .before .before .args in
+    let l = last-reads (a .g) (a .image .now) (a .p) (a .e)
+    (c .before .before .before .before .before .before .before .before .before .before .before .before .before .before .before .before .before .before
+    .pre) in
+    bit-fits (a .g) (a .image .now) (c .before .before .before .before .empty-pair .last .0) _ (l .0)
+    (last-granule (a .g) (a .image .now) (a .p) (a .e)
+    (c .before .before .before .before .before .before .before .before .before .before .before .before .before .before .before .before .before .before
+    .pre) (c .before .before .before .before .before .before .before .before .before .before .before .before .before .before .before .runs .ensures .is)
+    (c .before .before .before .before .before .before .before .before .before .before .before .before .before .run-length .ensures .is)
+    (c .before .before .before .before .before .before .before .before .before .before .before .run-start .ensures .is)) (search needs)
 
 same-length-3 : tie.Need-same-length-3
 same-length-3 c = search needs
 
 returns-3 : tie.Need-returns-3
-returns-3 c = let a = c .before .before .before .before .before .before .before .before .before .before .before .before .before .before .before .before .before .before .before .before .before .args in by-emptied (a .g) (a .image .now) (a .p) (a .e) (c .before .before .before .before .before .before .before .before .before .before .before .before .before .before .before .before .before .before .before .before .before .pre) (c .before .before .before .before .before .before .before .before .before .before .before .before .before .before .before .before .before .before .runs .ensures .is) (c .before .before .before .before .before .before .before .before .before .before .before .before .before .before .before .before .run-length .ensures .is) (c .before .before .before .before .before .before .before .before .before .before .before .before .before .before .run-start .ensures .is) (c .before .before .before .before .before .before .before .before .before .before .before .before .before .if1 .left)
-    (⊎-elim (λ q. not-first (extension (a .g) (a .image .now) (a .e)) (c .before .before .before .before .before .before .before .before .before .before .before .before .before .before .before .before .before .before .runs .result - 1) (q .1 .left)) (λ q. is-first (extension-no (a .g) (a .image .now) (a .e) (c .before .before .before .before .before .before .before .before .before .before .before .field .ensures .is) (q .left)) (c .before .before .before .before .before .before .before .before .before .before .before .before .before .before .before .before .before .before .runs .result - 1)) (c .before .before .before .before .if2 .came))
+returns-3 c = let a = c .before .before .before .before .before .before .before .before .before .before .before .before .before .before .before .before
+    .before .before .before .before .before .args in
+    by-emptied (a .g) (a .image .now) (a .p) (a .e)
+    (c .before .before .before .before .before .before .before .before .before .before .before .before .before .before .before .before .before .before
+    .before .before .before .pre) (c .before .before .before .before .before .before .before .before .before .before .before .before .before .before
+    .before .before .before .before .runs .ensures .is)
+    (c .before .before .before .before .before .before .before .before .before .before .before .before .before .before .before .before .run-length
+    .ensures .is) (c .before .before .before .before .before .before .before .before .before .before .before .before .before .before .run-start .ensures
+    .is) (c .before .before .before .before .before .before .before .before .before .before .before .before .before .if1 .left)
+    (⊎-elim (λ q. not-first (extension (a .g) (a .image .now) (a .e))
+    (c .before .before .before .before .before .before .before .before .before .before .before .before .before .before .before .before .before .before
+    .runs .result - 1) (q .1 .left)) (λ q. is-first
+    (extension-no (a .g) (a .image .now) (a .e)
+    (c .before .before .before .before .before .before .before .before .before .before .before .field .ensures .is) (q .left))
+    (c .before .before .before .before .before .before .before .before .before .before .before .before .before .before .before .before .before .before
+    .runs .result - 1)) (c .before .before .before .before .if2 .came))
     (c .before .before .before .before .before .before .before .empty-pair .ensures) (c .before .before .free-granule3 .ensures)
 
 pub drop-one-spec : {M : Type 1} → statement M

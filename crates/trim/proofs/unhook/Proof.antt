@@ -31,12 +31,14 @@ same-length c = search needs
 
 returns : tie.Need-returns
 unfolding unhooked
-returns c = let a = c .before .before .before .before .before .before .before .before .before .before .before .before .before .before .before .before .before .args in
+returns c = let a = c .before .before .before .before .before .before .before .before .before .before .before .before .before .before .before .before .before
+    .args in
     c .before .before .set-link2 .ensures
     ∙ ap (λ (d : List ℕ). setLink (a .g) d (a .before) 0xff 0xff)
     (c .before .before .before .before .before .before .set-link .ensures
     ∙ ap (λ (d : List ℕ). setLink (a .g) d (a .e) 0xff 0xff)
-    (c .before .before .before .before .before .before .before .before .before .before .set-hit .ensures ∙ ap (λ (d : List ℕ). set d (hitAt (a .g) (a .e)) 0) (c .before .before .before .before .before .before .before .before .before .before .before .before .before .before .set-field .ensures)))
+    (c .before .before .before .before .before .before .before .before .before .before .set-hit .ensures ∙ ap (λ (d : List ℕ). set d (hitAt (a .g) (a .e)) 0)
+    (c .before .before .before .before .before .before .before .before .before .before .before .before .before .before .set-field .ensures)))
 
 pub unhook-spec : {M : Type 1} → statement M
 unhook-spec =

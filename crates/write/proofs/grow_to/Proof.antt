@@ -19,7 +19,10 @@ granules-for-requires-2 : tie.Need-granules-for-requires-2
 granules-for-requires-2 c κs = search needs
 
 returns : tie.Need-returns
-returns c = whole-none (c .before .before .before .before .args .g) (c .before .before .before .before .args .image .now) (c .before .before .before .before .args .p) _ (let e = c .before .before .granules-for .ensures in let f = c .before .granules-for2 .ensures in let t = c .if1 .taken in let o = c .before .before .before .before .pre .1 in omega (arith, round-least (bytes-pos _) _ _ o))
+returns c =
+    let c₄ = c .before .before .before .before in let a = c₄ .args in let p = c₄ .pre in
+    whole-none (a .g) (a .image .now) (a .p) _ (let e = c .before .before .granules-for .ensures in let f = c .before .granules-for2 .ensures in let t = c
+    .if1 .taken in let o = p .1 in omega (arith, round-least (bytes-pos _) _ _ o))
 
 grow-requires : tie.Need-grow-requires
 grow-requires c κs = search needs
@@ -28,7 +31,11 @@ same-length : tie.Need-same-length
 same-length c = search needs
 
 returns-2 : tie.Need-returns-2
-returns-2 c = subst (λ (w : ℕ). Whole (c .before .before .before .before .before .before .before .before .args .g) (c .before .before .before .before .before .before .before .before .args .image .now) (c .before .before .before .before .before .before .before .before .args .p) (lacking (c .before .before .before .before .before .before .before .before .args .g) (c .before .before .before .before .before .before .before .before .args .image .now) (c .before .before .before .before .before .before .before .before .args .p) w) (c .before .before .grow .result) (c .before .before .grow .last .0)) (c .before .before .before .before .before .before .granules-for .ensures) (c .before .before .grow .ensures)
+returns-2 c =
+    let c₆ = c .before .before .before .before .before .before in let granules-for = c₆ .granules-for in
+    let c₈ = c₆ .before .before in let a = c₈ .args in
+    subst (λ (w : ℕ). Whole (a .g) (a .image .now) (a .p) (lacking (a .g) (a .image .now) (a .p) w) (c .before .before .grow .result)
+    (c .before .before .grow .last .0)) (granules-for .ensures) (c .before .before .grow .ensures)
 
 pub grow-to-spec : {M : Type 1} → statement M
 grow-to-spec =

@@ -40,17 +40,22 @@ same-length : tie.Need-same-length
 same-length c = search needs
 
 returns : tie.Need-returns
-returns c = let a = c .before .before .before .before .before .before .before .before .before .before .before .before .before .before .before .before .before .before .before .before .args in
+returns c = let a = c .before .before .before .before .before .before .before .before .before .before .before .before .before .before .before .before .before
+    .before .before .before .args in
     let n = (a .size + 255) / 256 in
     c .before .before .set-field4 .ensures
-    ∙ ap (λ (d : List ℕ). setField (a .g) d (a .s) 1 (c .before .before .before .before .before .before .before .before .before .before .before .before .before .before .before .before .with-bit .result))
+    ∙ ap (λ (d : List ℕ). setField (a .g) d (a .s) 1
+    (c .before .before .before .before .before .before .before .before .before .before .before .before .before .before .before .before .with-bit .result))
     (c .before .before .before .before .before .before .set-field3 .ensures
     ∙ ap (λ (d : List ℕ). setField (a .g) d (a .s) 0x15 (n / 256))
     (c .before .before .before .before .before .before .before .before .before .before .set-field2 .ensures
-    ∙ ap (λ (d : List ℕ). setField (a .g) d (a .s) 0x14 (n % 256)) (c .before .before .before .before .before .before .before .before .before .before .before .before .before .before .set-field .ensures)))
+    ∙ ap (λ (d : List ℕ). setField (a .g) d (a .s) 0x14 (n % 256))
+    (c .before .before .before .before .before .before .before .before .before .before .before .before .before .before .set-field .ensures)))
     ∙ ap (λ (v : ℕ). setField (a .g) (setField (a .g) (setField (a .g) (setField (a .g) (a .image .now) (a .s) 3 (a .size % 256)) (a .s) 0x14 (n % 256))
     (a .s) 0x15 (n / 256)) (a .s) 1 v)
-    (c .before .before .before .before .before .before .before .before .before .before .before .before .before .before .before .before .with-bit .ensures .is ∙ ap (withBit 5) (c .before .before .before .before .before .before .before .before .before .before .before .before .before .before .before .before .before .entry-byte .ensures .is))
+    (c .before .before .before .before .before .before .before .before .before .before .before .before .before .before .before .before .with-bit .ensures .is
+    ∙ ap (withBit 5) (c .before .before .before .before .before .before .before .before .before .before .before .before .before .before .before .before
+    .before .entry-byte .ensures .is))
 
 pub put-size-spec : {M : Type 1} → statement M
 put-size-spec =
