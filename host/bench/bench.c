@@ -1,5 +1,5 @@
-/* bench CALL DISK LIBRARY N      makes the call N times on the disk, by that library: genie (proved), fast (C for speed) or none (no library: what the
- *                                driver itself costs)
+/* bench CALL DISK LIBRARY N      makes the call N times on the disk, by that library: genie (proved), fast (C for speed) or none (no
+ *                                library: what the driver itself costs)
  * bench time CALL DISK LIBRARY   wall time of one call in nanoseconds, the driver's own work included
  * bench same                     whether genie and fast answer alike and leave image, handle, buffer and numbers alike, for each call
  *                                on each disk, take the same bytes for the same names, and tell the same fault of damaged disks
@@ -49,18 +49,32 @@ NONE none_create(IO, const uint8_t *n, size_t nl, size_t d, size_t m, size_t y, 
     USE, (void)n, (void)nl, (void)d, (void)m, (void)y, (void)l, (void)w, (void)v, (void)k, (void)o, (void)h, (void)hl, (void)pl, (void)fs;
     return 0;
 }
-NONE none_read_record(I, uint8_t *h, size_t hl, uint8_t *f, size_t fl, size_t *fs) { USE, (void)h, (void)hl, (void)f, (void)fl, (void)fs; return 0; }
-NONE none_read_sector(I, const uint8_t *h, size_t hl, size_t k, size_t *f, size_t *t, size_t *fs) { USE, (void)h, (void)hl, (void)k, (void)f, (void)t, (void)fs; return 0; }
-NONE none_write_record(IO, uint8_t *h, size_t hl, bool q, const uint8_t *f, size_t fl, size_t *fs) { USE, (void)h, (void)hl, (void)q, (void)f, (void)fl, (void)fs; return 0; }
+NONE none_read_record(I, uint8_t *h, size_t hl, uint8_t *f, size_t fl, size_t *fs) {
+    USE, (void)h, (void)hl, (void)f, (void)fl, (void)fs;
+    return 0;
+}
+NONE none_read_sector(I, const uint8_t *h, size_t hl, size_t k, size_t *f, size_t *t, size_t *fs) {
+    USE, (void)h, (void)hl, (void)k, (void)f, (void)t, (void)fs;
+    return 0;
+}
+NONE none_write_record(IO, uint8_t *h, size_t hl, bool q, const uint8_t *f, size_t fl, size_t *fs) {
+    USE, (void)h, (void)hl, (void)q, (void)f, (void)fl, (void)fs;
+    return 0;
+}
 NONE none_allot(IO, const uint8_t *h, size_t hl, size_t k, size_t *fs) { USE, (void)h, (void)hl, (void)k, (void)fs; return 0; }
 NONE none_trim(IO, const uint8_t *h, size_t hl, size_t *fs) { USE, (void)h, (void)hl, (void)fs; return 0; }
 NONE none_kill(IO, const uint8_t *h, size_t hl, size_t *fs) { USE, (void)h, (void)hl, (void)fs; return 0; }
-NONE none_list(I, size_t n, uint8_t *m, size_t ml, size_t *z, size_t *g, size_t *o, size_t *fs) { USE, (void)n, (void)m, (void)ml, (void)z, (void)g, (void)o, (void)fs; return 0; }
+NONE none_list(I, size_t n, uint8_t *m, size_t ml, size_t *z, size_t *g, size_t *o, size_t *fs) {
+    USE, (void)n, (void)m, (void)ml, (void)z, (void)g, (void)o, (void)fs;
+    return 0;
+}
 NONE none_count(I, size_t *f, size_t *r, size_t *fs) { USE, (void)f, (void)r, (void)fs; return 0; }
-NONE none_compare(I, const uint8_t *j, size_t jl, size_t b2, size_t u2, size_t s2, uint16_t c2, bool sd2, size_t gs2, size_t n, uint8_t *m, size_t ml,
+NONE none_compare(I, const uint8_t *j, size_t jl, size_t b2, size_t u2, size_t s2, uint16_t c2, bool sd2, size_t gs2, size_t n,
+    uint8_t *m, size_t ml,
                   size_t *o, size_t *k, size_t *p, size_t *f, size_t *fs)
 {
-    USE, (void)j, (void)jl, (void)b2, (void)u2, (void)s2, (void)c2, (void)sd2, (void)gs2, (void)n, (void)m, (void)ml, (void)o, (void)k, (void)p, (void)f, (void)fs;
+    USE, (void)j, (void)jl, (void)b2, (void)u2, (void)s2, (void)c2, (void)sd2, (void)gs2, (void)n, (void)m, (void)ml, (void)o, (void)k,
+        (void)p, (void)f, (void)fs;
     return 0;
 }
 
@@ -355,15 +369,18 @@ static void once(struct work *w, const struct library *lib)
     case KILL: w->answer = lib->kill(DISK, HANDLE, &w->fault_slot); break;
     case BRING_BACK: w->answer = lib->bring_back(DISK, d->subject_slot, &w->numbers[0], &w->numbers[1], &w->fault_slot); break;
     case FREE: w->answer = lib->free(DISK, &w->numbers[0], &w->numbers[1]); break;
-    case LIST: w->answer = lib->list(DISK, d->files - 1, w->name, sizeof w->name, &w->numbers[0], &w->numbers[1], &w->numbers[2], &w->fault_slot); break;
+    case LIST: w->answer = lib->list(DISK, d->files - 1, w->name, sizeof w->name, &w->numbers[0], &w->numbers[1], &w->numbers[2],
+        &w->fault_slot); break;
     case COUNT: w->answer = lib->count(DISK, &w->numbers[0], &w->numbers[1], &w->fault_slot); break;
     case COMPARE:
-        w->answer = lib->compare(DISK, DISK, 0, w->name, sizeof w->name, &w->numbers[0], &w->numbers[1], &w->numbers[2], &w->numbers[3], &w->fault_slot);
+        w->answer = lib->compare(DISK, DISK, 0, w->name, sizeof w->name, &w->numbers[0], &w->numbers[1], &w->numbers[2], &w->numbers[3],
+            &w->fault_slot);
         break;
     case PLAY:
         if (lib != &libraries[0]) break;
         if (!genie_play) stop("this library plays nothing back");
-        w->answer = genie_play(DISK, session, sizeof session, results, sizeof results, &w->numbers[0], &w->numbers[1], &w->numbers[2], &w->fault_slot);
+        w->answer = genie_play(DISK, session, sizeof session, results, sizeof results, &w->numbers[0], &w->numbers[1], &w->numbers[2],
+            &w->fault_slot);
         break;
     case SINGLY: w->answer = singly(w, lib); break;
     case WHATS: break;
@@ -498,14 +515,15 @@ static int played(void)
     size_t refused = 0;
     for (size_t i = 0; i < CALLS; i++) refused += results[i] != 0;
     const bool alike = a.disk.image_len == b.disk.image_len && !memcmp(a.disk.image, b.disk.image, a.disk.image_len);
-    printf("played back: %d, %zu calls, %zu refused; one by one: %d; images %s\n", a.answer, a.numbers[0], refused, b.answer, alike ? "alike" : "UNLIKE");
+    printf("played back: %d, %zu calls, %zu refused; one by one: %d; images %s\n", a.answer, a.numbers[0], refused, b.answer, 
+        alike ? "alike" : "UNLIKE");
     free(a.disk.image);
     free(b.disk.image);
     return a.answer || b.answer || refused || a.numbers[0] != CALLS || !alike;
 }
 
-/* Whether the two bring the same killed files back: random bytes of the killed file's entries and of the GAT's free bits are changed, so that the
- * disk stays consistent as far as the two agree on it. */
+/* Whether the two bring the same killed files back: random bytes of the killed file's entries and of the GAT's free bits are changed, so
+ * that the disk stays consistent as far as the two agree on it. */
 static int same_back(void)
 {
     static struct work a, b;
@@ -522,7 +540,8 @@ static int same_back(void)
             for (size_t i = 0; i < change % 8; i++) slot = directory[(slot % 32 + 2) * SECTOR_BYTES + slot / 32 * 32 + 31] % 224;
             for (size_t i = 0; i <= change % 3; i++) {
                 seed = seed * 6364136223846793005u + 1442695040888963407u;
-                const size_t place = seed >> 33 & 7 ? (slot % 32 + 2) * SECTOR_BYTES + slot / 32 * 32 + (seed >> 36 & 31) : seed >> 36 & 127;
+                const size_t place = seed >> 33 & 7
+                    ? (slot % 32 + 2) * SECTOR_BYTES + slot / 32 * 32 + (seed >> 36 & 31) : seed >> 36 & 127;
                 directory[place] = seed >> 20 & 1 ? (uint8_t)(seed >> 24) : directory[place] ^ (uint8_t)(1u << (seed >> 24 & 7));
             }
             memcpy(b.disk.image, a.disk.image, a.disk.image_len);
@@ -565,7 +584,9 @@ static int same_faults(void)
             size_t slot = 1, slot2 = 2;
             const uint8_t number = genie_check(DISK, &slot), number2 = fast_check(DISK, &slot2);
             if (number != number2 || slot != slot2)
-                printf("%s damaged, change %zu: %d slot %zu, %d slot %zu UNLIKE\n", bench_disk_names[disk], change, number, slot, number2, slot2), unlike++;
+                printf("%s damaged, change %zu: %d slot %zu, %d slot %zu UNLIKE\n",
+                       bench_disk_names[disk], change, number, slot, number2, slot2),
+                    unlike++;
             told[number]++;
             memcpy(directory, w.directory, w.directory_len);
         }

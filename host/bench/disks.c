@@ -15,7 +15,9 @@ const char *const bench_disk_titles[BENCH_DISKS] = {
 
 enum { SECTOR = 256, SYSTEM = 0x40, IN_USE = 0x10 };
 
-static uint8_t *entry_at(struct bench_disk *d, size_t slot) { return d->image + d->start * SECTOR + (slot % 32 + 2) * SECTOR + slot / 32 * 32; }
+static uint8_t *entry_at(struct bench_disk *d, size_t slot) {
+    return d->image + d->start * SECTOR + (slot % 32 + 2) * SECTOR + slot / 32 * 32;
+}
 
 static uint8_t hash(const uint8_t *name)
 {
@@ -27,7 +29,9 @@ static uint8_t hash(const uint8_t *name)
     return (uint8_t)(h ? h : 1);
 }
 
-static void take(struct bench_disk *d, size_t granule) { d->image[d->start * SECTOR + granule / d->units] |= (uint8_t)(1u << granule % d->units); }
+static void take(struct bench_disk *d, size_t granule) {
+    d->image[d->start * SECTOR + granule / d->units] |= (uint8_t)(1u << granule % d->units);
+}
 
 /* A blank disk, each data sector beginning with its number; the directory's granules are taken. */
 static int blank(struct bench_disk *d, size_t blocks, size_t units, size_t start, size_t sectors, size_t granule_sectors)
@@ -56,7 +60,8 @@ struct run {
 };
 
 /* A file of those runs in those slots, one slot for each four runs. Its size leaves `spare` bytes of its granules unused. */
-static void put_file(struct bench_disk *d, const size_t *slots, const char *name, unsigned flags, const struct run *runs, size_t count, size_t spare)
+static void put_file(struct bench_disk *d, const size_t *slots, const char *name, unsigned flags, const struct run *runs, size_t count,
+    size_t spare)
 {
     uint8_t *const hit = d->image + d->start * SECTOR + SECTOR;
     const uint8_t h = hash((const uint8_t *)name);

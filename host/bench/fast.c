@@ -44,7 +44,8 @@ enum {
     MARK_END = 0xFF
 };
 
-/* A map has one bit a granule, by granule number. It reaches as far as any pair can name (block FEH, unit 7, 32 granules): bits past the disk are 0. */
+/* A map has one bit a granule, by granule number. It reaches as far as any pair can name (block FEH, unit 7, 32 granules): bits past the
+ * disk are 0. */
 enum { MAP_WORDS = 33 };
 
 struct disk {
@@ -73,7 +74,9 @@ static inline const uint8_t *gat_of(const uint8_t *image, const struct disk *d) 
 static inline const uint8_t *hit_of(const uint8_t *image, const struct disk *d) { return image + d->directory + SECTOR; }
 
 /* Slot 32 x row + s: directory sector s + 2, byte 32 x row. */
-static inline size_t entry_place(const struct disk *d, size_t slot) { return d->directory + 2 * SECTOR + (slot & 31) * SECTOR + (slot & 0xE0); }
+static inline size_t entry_place(const struct disk *d, size_t slot) {
+    return d->directory + 2 * SECTOR + (slot & 31) * SECTOR + (slot & 0xE0);
+}
 static inline const uint8_t *entry_of(const uint8_t *image, const struct disk *d, size_t slot) { return image + entry_place(d, slot); }
 static inline uint8_t *entry_out(uint8_t *image, const struct disk *d, size_t slot) { return image + entry_place(d, slot); }
 
@@ -87,8 +90,8 @@ struct name {
 
 static inline struct name name_at(const uint8_t *p) { return (struct name){ load8(p), load4(p + 7) >> 8 }; }
 
-/* Byte i is turned left 11 - i times in all, and 8 times is not at all: so bytes 8 to 10 turn as 0 to 2 do, and byte i turns 3 to the left, i to the
- * right. The right turns go by halves: 4 for bytes 4 to 7, then 2, then 1. */
+/* Byte i is turned left 11 - i times in all, and 8 times is not at all: so bytes 8 to 10 turn as 0 to 2 do, and byte i turns 3 to the
+ * left, i to the right. The right turns go by halves: 4 for bytes 4 to 7, then 2, then 1. */
 static inline uint8_t hash(struct name n)
 {
     const uint64_t v = n.first ^ n.type;
@@ -101,7 +104,8 @@ static inline uint8_t hash(struct name n)
 
 static inline bool same_name(const uint8_t *a, const uint8_t *b) { return load8(a) == load8(b) && load4(a + 7) == load4(b + 7); }
 
-/* Eight bytes at once: each is allowed or 20H, and the allowed ones are the first. The answer is FFH for each allowed byte, or `BAD_NAME`. */
+/* Eight bytes at once: each is allowed or 20H, and the allowed ones are the first. The answer is FFH for each allowed byte, or
+ * `BAD_NAME`. */
 #define EACH(byte) (0x0101010101010101u * (uint64_t)(byte))
 #define BAD_NAME 2u /* never an answer: FFH stands in whole bytes, from the lowest */
 static inline uint64_t padded(uint64_t v)
@@ -231,8 +235,8 @@ static bool consistent(const uint8_t *image, size_t start, struct disk *d)
             before[files] = last[h];
             last[h] = (uint8_t)files;
 
-            /* The chain. A granule that is not left fails, and so does one past the disk: the map has 0 there. No chain comes round: an extension
-             * met twice would have to be met from the same entry twice. */
+            /* The chain. A granule that is not left fails, and so does one past the disk: the map has 0 there. No chain comes round: an
+             * extension met twice would have to be met from the same entry twice. */
             const uint8_t *e = entry;
             size_t at = slot, owned = 0;
             for (;;) {
@@ -544,7 +548,8 @@ struct cursor {
     size_t base;
 };
 
-/* Moves on to the run that holds the file's byte `position` (it must be owned), and answers its place in the image; *room: bytes to the run's end. */
+/* Moves on to the run that holds the file's byte `position` (it must be owned), and answers its place in the image; *room: bytes to the
+ * run's end. */
 static size_t seek(const uint8_t *image, const struct disk *d, struct cursor *c, size_t position, size_t *room)
 {
     for (;;) {
@@ -705,7 +710,8 @@ uint8_t FAST(look_up)(IMAGE, GEO, const uint8_t *name, size_t name_len, size_t *
     return GENIE_DONE;
 }
 
-uint8_t FAST(open)(IMAGE, GEO, const uint8_t *name, size_t name_len, size_t length, bool checking, uint16_t code, uint8_t *handle, size_t handle_len,
+uint8_t FAST(open)(IMAGE, GEO, const uint8_t *name, size_t name_len, size_t length, bool checking, uint16_t code, uint8_t *handle,
+    size_t handle_len,
                    size_t *place, size_t *fault_slot)
 {
     struct disk d;
@@ -725,7 +731,8 @@ uint8_t FAST(open)(IMAGE, GEO, const uint8_t *name, size_t name_len, size_t leng
     return GENIE_DONE;
 }
 
-uint8_t FAST(create)(IMAGE_OUT, GEO, const uint8_t *name, size_t name_len, size_t day, size_t month, size_t year, size_t length, uint16_t main_code,
+uint8_t FAST(create)(IMAGE_OUT, GEO, const uint8_t *name, size_t name_len, size_t day, size_t month, size_t year, size_t length,
+    uint16_t main_code,
                      uint16_t worker_code, bool checking, size_t *old, uint8_t *handle, size_t handle_len, size_t *place,
                      size_t *fault_slot)
 {
@@ -808,14 +815,17 @@ uint8_t FAST(read_sector)(IMAGE, GEO, const uint8_t *handle, size_t handle_len, 
     return GENIE_DONE;
 }
 
-uint8_t FAST(write_record)(IMAGE_OUT, GEO, uint8_t *handle, size_t handle_len, bool sequential, const uint8_t *buffer, size_t buffer_len, size_t *fault_slot)
+uint8_t FAST(write_record)(IMAGE_OUT, GEO, uint8_t *handle, size_t handle_len, bool sequential, const uint8_t *buffer, size_t buffer_len,
+    size_t *fault_slot)
 {
     struct disk d;
     struct held h;
     (void)open_code;
     const uint8_t refusal = EXAMINE(&d);
     if (refusal) return refusal;
-    if (!in_range(handle, handle_len, &d, &h) || buffer_len < h.length || h.position + h.length > GENIE_HIGHEST_POSITION(granule_sectors)) return GENIE_RANGE;
+    if (!in_range(handle, handle_len, &d, &h) || buffer_len < h.length
+        || h.position + h.length > GENIE_HIGHEST_POSITION(granule_sectors))
+        return GENIE_RANGE;
     if (stale(image, &d, handle)) return GENIE_STALE;
     uint8_t *const e = entry_out(image, &d, h.slot);
     if (h.level > 4 || (e[E_FLAGS] & SYSTEM)) return GENIE_LEVEL;
@@ -886,7 +896,8 @@ uint8_t FAST(trim)(IMAGE_OUT, GEO, const uint8_t *handle, size_t handle_len, siz
         size_t runs;
         for (runs = 0; runs < 4 && e[E_PAIRS + 2 * runs] != 0xFF; runs++) {
             uint8_t *const pair = e + E_PAIRS + 2 * runs;
-            const size_t granule = run_granule(pair, &d), count = run_count(pair), stay = owned >= keep ? 0 : keep - owned < count ? keep - owned : count;
+            const size_t granule = run_granule(pair, &d), count = run_count(pair);
+            const size_t stay = owned >= keep ? 0 : keep - owned < count ? keep - owned : count;
             owned += count;
             if (stay == count) continue;
             mark(image, &d, granule + stay, count - stay, false);
@@ -931,7 +942,8 @@ uint8_t FAST(kill)(IMAGE_OUT, GEO, const uint8_t *handle, size_t handle_len, siz
     }
 }
 
-uint8_t FAST(list)(IMAGE, GEO, size_t number, uint8_t *name, size_t name_len, size_t *size, size_t *granules, size_t *more, size_t *fault_slot)
+uint8_t FAST(list)(IMAGE, GEO, size_t number, uint8_t *name, size_t name_len, size_t *size, size_t *granules, size_t *more,
+    size_t *fault_slot)
 {
     struct disk d;
     (void)open_code;
@@ -1075,7 +1087,9 @@ uint8_t FAST(free)(IMAGE, GEO, size_t *free, size_t *longest)
 
 /* ---- Two disks ---- */
 
-static int by_name(const void *a, const void *b) { return memcmp(*(const uint8_t *const *)a + E_NAME, *(const uint8_t *const *)b + E_NAME, NAME); }
+static int by_name(const void *a, const void *b) {
+    return memcmp(*(const uint8_t *const *)a + E_NAME, *(const uint8_t *const *)b + E_NAME, NAME);
+}
 
 /* The first entries of all files, by rising name. */
 static size_t files_by_name(const uint8_t *image, const struct disk *d, const uint8_t **files)
@@ -1089,7 +1103,8 @@ static size_t files_by_name(const uint8_t *image, const struct disk *d, const ui
 }
 
 /* The first byte below `size` in which two files differ, or `size`; both are at least so long. */
-static size_t parting(const uint8_t *image, const struct disk *d, const uint8_t *e, const uint8_t *image2, const struct disk *d2, const uint8_t *e2, size_t size)
+static size_t parting(const uint8_t *image, const struct disk *d, const uint8_t *e, const uint8_t *image2, const struct disk *d2,
+    const uint8_t *e2, size_t size)
 {
     struct cursor c = { e, 0, 0 }, c2 = { e2, 0, 0 };
     for (size_t at = 0; at < size;) {
@@ -1105,7 +1120,8 @@ static size_t parting(const uint8_t *image, const struct disk *d, const uint8_t 
     return size;
 }
 
-uint8_t FAST(compare)(const uint8_t *first, size_t first_len, GEO, const uint8_t *second, size_t second_len, size_t blocks2, size_t units2, size_t start2,
+uint8_t FAST(compare)(const uint8_t *first, size_t first_len, GEO, const uint8_t *second, size_t second_len, size_t blocks2,
+    size_t units2, size_t start2,
                       uint16_t open_code2, bool system_disk2, size_t granule_sectors2, size_t number, uint8_t *name, size_t name_len,
                       size_t *image, size_t *kind, size_t *position, size_t *flags, size_t *fault_slot)
 {
@@ -1132,7 +1148,8 @@ uint8_t FAST(compare)(const uint8_t *first, size_t first_len, GEO, const uint8_t
             at = parting(first, &d, e, second, &d2, e2, smaller);
             differs = (size != size2 ? GENIE_SIZE_DIFFERS : 0) | (at < smaller || size != size2 ? GENIE_CONTENTS_DIFFER : 0) |
                       (e[E_MONTH] != e2[E_MONTH] || (e[E_DAY] ^ e2[E_DAY]) & 0x1F ? GENIE_DATE_DIFFERS : 0) |
-                      (e[E_FLAGS] != e2[E_FLAGS] || (e[E_DAY] ^ e2[E_DAY]) & 0xE0 || e[E_LENGTH] != e2[E_LENGTH] || load4(e + E_MAIN) != load4(e2 + E_MAIN)
+                      (e[E_FLAGS] != e2[E_FLAGS] || (e[E_DAY] ^ e2[E_DAY]) & 0xE0 || e[E_LENGTH] != e2[E_LENGTH]
+                          || load4(e + E_MAIN) != load4(e2 + E_MAIN)
                            ? GENIE_ATTRIBUTES_DIFFER : 0);
             if (!differs) continue;
             what = GENIE_UNLIKE;

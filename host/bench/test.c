@@ -1,7 +1,7 @@
 /* Tests of fast.c: a yardstick that answers wrongly measures nothing. Two parts, both from a fixed seed:
  *   - the check, on disks with damaged directories, against a second check below that is written slowly and plainly from the rules;
- *   - lists of random calls, against a plain list of named files that holds each file's bytes; after each call the disk must be consistent by the
- *     plain check, its files as the list says, and what a refusal may not change unchanged.
+ *   - lists of random calls, against a plain list of named files that holds each file's bytes; after each call the disk must be consistent
+ *     by the plain check, its files as the list says, and what a refusal may not change unchanged.
  * Built with the address and undefined-behaviour sanitizers by `make test`. */
 #include "fast.h"
 
@@ -39,7 +39,9 @@ static bool of_directory(struct geometry g, size_t sectors, size_t granule)
 }
 static uint8_t *sector_at(uint8_t *image, struct geometry g, size_t k) { return image + (g.start + k) * 256; }
 static uint8_t *entry_at(uint8_t *image, struct geometry g, size_t slot) { return sector_at(image, g, slot % 32 + 2) + slot / 32 * 32; }
-static bool gat_bit(uint8_t *image, struct geometry g, size_t granule) { return sector_at(image, g, 0)[granule / g.units] >> granule % g.units & 1; }
+static bool gat_bit(uint8_t *image, struct geometry g, size_t granule) {
+    return sector_at(image, g, 0)[granule / g.units] >> granule % g.units & 1;
+}
 static size_t sectors_of(uint8_t *image, struct geometry g) { return 10u + sector_at(image, g, 1)[0x1F]; }
 
 static bool allowed(uint8_t c) { return (c >= 0x30 && c <= 0x39) || (c >= 0x41 && c <= 0x5D); }
@@ -346,7 +348,9 @@ static void look_over(size_t step)
         kept += reserved[granule];
         if (reserved[granule] && !gat_bit(image, g, granule)) fail("reserved granule", step);
     }
-    if (fast_count(DISK, &count, &left, &fault_slot) || count != told || left != clear_bits() || left + kept + all != granules_of(g)) fail("count", step);
+    if (fast_count(DISK, &count, &left, &fault_slot) || count != told || left != clear_bits()
+        || left + kept + all != granules_of(g))
+        fail("count", step);
 }
 
 static void refused_changes_nothing(size_t step)
@@ -481,7 +485,9 @@ static void one_call(size_t step)
         if (r) fail("kill", step);
         f->there = false;
         memcpy(before, image, image_len);
-        if (fast_kill(DISK, handle, 19, &fault_slot) != 7 || fast_trim(DISK, handle, 19, &fault_slot) != 7) fail("a killed file's handle is stale", step);
+        if (fast_kill(DISK, handle, 19, &fault_slot) != 7
+            || fast_trim(DISK, handle, 19, &fault_slot) != 7)
+            fail("a killed file's handle is stale", step);
         refused_changes_nothing(step);
     }
     answers[r]++;
@@ -536,7 +542,8 @@ static void spoil(void)
         hash_again(file);
         return;
     case 5: { /* a run in or beside the directory, or anywhere */
-        const size_t slot = extension < 256 && below(2) ? extension : file, granule = below(2) ? below(granules_of(g)) : first + below(own + 1);
+        const size_t slot = extension < 256 && below(2) ? extension : file;
+        const size_t granule = below(2) ? below(granules_of(g)) : first + below(own + 1);
         if (slot == 256) return;
         uint8_t *pair = entry_at(image, g, slot) + 22 + 2 * below(4);
         pair[0] = (uint8_t)(granule / g.units);
@@ -600,7 +607,8 @@ static void damage(size_t step)
     for (size_t i = 0; i < changes && sectors_of(image, g) == 10u + before[(g.start + 1) * 256 + 0x1F]; i++) spoil();
     const bool expected = plainly_consistent(image, g);
     const uint8_t r = fast_check(DISK, &fault_slot);
-    /* Number and slot of a fault are held against the library's, by `bench same`; here, that there is one and that a slot is the directory's. */
+    /* Number and slot of a fault are held against the library's, by `bench same`; here, that there is one and that a slot is the
+     * directory's. */
     if (expected ? r != 0 || fault_slot != GENIE_NO_SLOT : r < GENIE_FAULT_DIRECTORY_LENGTH || r > GENIE_FAULT_DIRECTORY_GRANULE)
         fail("the two checks differ", step);
     if (fault_slot != GENIE_NO_SLOT ? r == GENIE_FAULT_DIRECTORY_LENGTH || fault_slot % 32 >= sectors_of(image, g) - 2
@@ -629,7 +637,8 @@ static void damage(size_t step)
 /* Arguments of any size, on a sound disk: refused by their number, nothing changed. */
 static void any_arguments(size_t step)
 {
-    static const size_t odd[] = { 0, 1, 2, 5, 8, 9, 10, 18, 20, 192, 193, 256, 257, 7679, 7680, 15360, 30719, 30720, 1966080, 7864320, 7864321,
+    static const size_t odd[] = { 0, 1, 2, 5, 8, 9, 10, 18, 20, 192, 193, 256, 257, 7679, 7680, 15360, 30719, 30720, 1966080, 7864320,
+        7864321,
                                   SIZE_MAX, SIZE_MAX / 2, SIZE_MAX / 2 + 1, SIZE_MAX - 4 };
 #define ODD odd[below(sizeof odd / sizeof *odd)]
     size_t a = 1, b = 1, c = 1;
@@ -640,9 +649,11 @@ static void any_arguments(size_t step)
     const uint8_t any = fast_check(image, image_len, ODD, ODD, ODD, 0, true, ODD, &fault_slot);
     if (any > 1 && (any < GENIE_FAULT_DIRECTORY_LENGTH || any > GENIE_FAULT_DIRECTORY_GRANULE)) fail("any geometry", step);
     const size_t other = ODD;
-    if (other != g.start && other % g.granule && fast_check(image, image_len, g.blocks, g.units, other, 0, true, g.granule, &fault_slot) != 1)
+    if (other != g.start && other % g.granule
+        && fast_check(image, image_len, g.blocks, g.units, other, 0, true, g.granule, &fault_slot) != 1)
         fail("start", step);
-    if (other != g.granule && fast_check(image, image_len, g.blocks, g.units, g.start, 0, true, other, &fault_slot) != 1) fail("size", step);
+    if (other != g.granule && fast_check(image, image_len, g.blocks, g.units, g.start, 0, true, other, &fault_slot) != 1)
+        fail("size", step);
     if (fast_check(image, image_len - 1, g.blocks, g.units, g.start, 0, true, g.granule, &fault_slot) != 1) fail("length", step);
     if (fast_check(image, SIZE_MAX - 100, SIZE_MAX / 1280, 1, 0, 0, true, 5, &fault_slot) != 1) fail("length", step);
     if (fast_check(image, 0, 0, 8, 0, 0, true, 5, &fault_slot) != 1) fail("length", step);

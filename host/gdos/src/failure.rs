@@ -343,7 +343,10 @@ mod tests {
         );
         assert_eq!(
             none.json().to_string(),
-            r#"{"refused":{"number":null,"meaning":"disk not consistent","image":"disk.img","file":null,"detail":"under none","fault":null}}"#
+            concat!(
+                r#"{"refused":{"number":null,"meaning":"disk not consistent","image":"disk.img","file":null,"#,
+                r#""detail":"under none","fault":null}}"#
+            )
         );
         let refused = Failure::image("disk.img")(Refusal::Geometry).by("file", Some("disk.img.gdos".into()));
         assert_eq!(

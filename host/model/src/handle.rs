@@ -1,6 +1,6 @@
 //! Handles: "A handle holds slot, name, position (0 to 1,966,080), record length (1 to 256) and level
-//! (0 to 7)"; the highest position goes by the granule's size (02 §10). At the boundary they are 19 bytes: slot, level, record length (2, low byte first),
-//! position (4, low byte first), name (11).
+//! (0 to 7)"; the highest position goes by the granule's size (02 §10). At the boundary they are 19 bytes:
+//! slot, level, record length (2, low byte first), position (4, low byte first), name (11).
 
 use crate::directory::{entry, has_slot};
 use crate::geometry::Geometry;

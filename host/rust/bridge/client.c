@@ -1,5 +1,5 @@
-/* The exported calls, handed to a server that runs the proved library in an emulator. The server's program is in this file; the emulator's path is
- * EMULATOR, or what the environment's GENIE_EMULATOR says. The first call starts the server, which ends with this process. */
+/* The exported calls, handed to a server that runs the proved library in an emulator. The server's program is in this file; the emulator's
+ * path is EMULATOR, or what the environment's GENIE_EMULATOR says. The first call starts the server, which ends with this process. */
 #define _GNU_SOURCE
 #include "wire.h"
 #include "genie.h"

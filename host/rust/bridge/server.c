@@ -1,5 +1,5 @@
-/* Serves the calls of the libgenie.a that it is linked with: one byte on the socket says that a call stands in the shared memory, one goes back
- * when it is done. For x86-64 Linux, without a C library. It ends when the client does. */
+/* Serves the calls of the libgenie.a that it is linked with: one byte on the socket says that a call stands in the shared memory, one goes
+ * back when it is done. For x86-64 Linux, without a C library. It ends when the client does. */
 #include "wire.h"
 #include <stdbool.h>
 /* The calls alone: the structs over them want a C library's header. */

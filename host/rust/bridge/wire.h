@@ -5,8 +5,9 @@
 #include <stddef.h>
 #include <stdint.h>
 
-/* The client keeps this to itself: of a longer part no call looks at more than its beginning and its length. An image of so many bytes is too long for
- * any geometry, a buffer for any position; of a trace of so many bytes only the beginning is read, which has no more calls than a part has bytes. */
+/* The client keeps this to itself: of a longer part no call looks at more than its beginning and its length. An image of so many bytes is
+ * too long for any geometry, a buffer for any position; of a trace of so many bytes only the beginning is read, which has no more calls
+ * than a part has bytes. */
 enum { PART_MOST = 8388608 };
 
 /* No call has more of either: `calls` looks. */
