@@ -41,49 +41,50 @@ returns c =
     lining-bad _ _ (p .0) (l .inv .1) (loop-test .taken) (c .before .before .visit .ensures) (c .if1 .taken)
 
 add-granules : tie.Need-add-granules Inv-loop μ-loop
-add-granules c =
-    let c₃ = c .before .before .before in let visit = c₃ .visit in
-    let c₇ = c₃ .before .before .before .before in let l = c₇ .loop in
-    let a = l .inv .1 .small in let b = visit .ensures .few in omega arith
+add-granules c = let a = c .before .before .before .before .before .before .before .loop .inv .1 .small in
+    let b = c .before .before .before .visit .ensures .few in omega arith
 
 add-n : tie.Need-add-n Inv-loop μ-loop
 add-n c = omega arith
 
 field-requires : tie.Need-field-requires Inv-loop μ-loop
-field-requires c κs =
-    let c₇ = c .before .before .before .before .before .before .before in let l = c₇ .loop in
-    let c₉ = c₇ .before .before in let p = c₉ .pre in
-    (p .0, l .inv .1 .slot, omega arith)
+field-requires c κs = (
+  c .before .before .before .before .before .before .before .before .before .pre .0,
+  c .before .before .before .before .before .before
+      .before .loop .inv .1 .slot,
+  omega arith,
+)
 
 returns-2 : tie.Need-returns-2 Inv-loop μ-loop
-returns-2 c =
-    let c₃ = c .before .before .before in let if1 = c₃ .if1 in
-    let c₅ = c₃ .before .before in let visit = c₅ .visit in
-    let c₈ = c₅ .before .before .before in let loop-test = c₈ .loop-test in
-    let c₉ = c₈ .before in let l = c₉ .loop in
-    let c₁₁ = c₉ .before .before in let p = c₁₁ .pre in
-    lining-stop _ _ (l .inv .1) (let q = l .inv .0 in omega arith) (loop-test .taken) (p .2) (visit .ensures) (if1 .left) (c .before .field .ensures .is)
-    (c .if2 .taken)
+returns-2 c = lining-stop _ _ (c .before .before .before .before .before .before .before .before .before .loop .inv .1)
+    (let q = c .before .before .before .before .before .before .before .before .before .loop .inv .0 in omega arith)
+    (c .before .before .before .before .before .before .before .before .loop-test .taken)
+    (c .before .before .before .before .before .before .before .before .before .before .before .pre .2)
+    (c .before .before .before .before .before .visit .ensures) (c .before .before .before .if1 .left) (c .before .field .ensures .is) (c .if2 .taken)
 
 field-requires-2 : tie.Need-field-requires-2 Inv-loop μ-loop
-field-requires-2 c κs =
-    let c₉ = c .before .before .before .before .before .before .before .before .before in let l = c₉ .loop in
-    let c₁₁ = c₉ .before .before in let p = c₁₁ .pre in
-    (p .0, l .inv .1 .slot, omega arith)
+field-requires-2 c κs = (
+  c .before .before .before .before .before .before .before .before .before .before .before .pre .0,
+  c .before .before .before .before
+      .before .before .before .before .before .loop .inv .1 .slot,
+  omega arith,
+)
 
 loop-less : tie.Need-loop-less Inv-loop μ-loop
 loop-less c = omega arith
 
 loop-again : tie.Need-loop-again Inv-loop μ-loop
-loop-again c =
-    let c₄ = c .before .before .before .before in let if1 = c₄ .if1 in
-    let c₆ = c₄ .before .before in let visit = c₆ .visit in
-    let c₉ = c₆ .before .before .before in let loop-test = c₉ .loop-test in
-    let c₁₀ = c₉ .before in let l = c₁₀ .loop in (
-      length-set (l .entries) (l .n) (l .at) ∙ l .inv .0,
-      lining-more _ _ (l .inv .1) (let q = l .inv .0 in omega arith) (loop-test .taken) (visit .ensures)
-          (if1 .left) (c .before .before .field .ensures .is) (c .before .if2 .left) (c .field2 .ensures .is),
-    )
+loop-again c = (
+  length-set (c .before .before .before .before .before .before .before .before .before .before .loop .entries)
+      (c .before .before .before .before .before .before .before .before .before .before .loop .n)
+      (c .before .before .before .before .before .before .before .before .before .before .loop .at) ∙ c .before .before .before .before .before .before .before
+      .before .before .before .loop .inv .0,
+  lining-more _ _ (c .before .before .before .before .before .before .before .before .before .before .loop .inv .1)
+      (let q = c .before .before .before .before .before .before .before .before .before .before .loop .inv .0 in omega arith)
+      (c .before .before .before .before .before .before .before .before .before .loop-test .taken)
+      (c .before .before .before .before .before .before .visit .ensures) (c .before .before .before .before .if1 .left) (c .before .before .field .ensures .is)
+      (c .before .if2 .left) (c .field2 .ensures .is),
+)
 
 returns-3 : tie.Need-returns-3 Inv-loop μ-loop
 returns-3 c = lining-end _ _ (c .before .loop .inv .1) (c .loop-test .left) (c .before .before .before .pre .2)

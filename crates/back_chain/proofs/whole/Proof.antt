@@ -42,9 +42,13 @@ mul-most : tie.Need-mul-most
 mul-most c = search needs
 
 line-requires : tie.Need-line-requires
-line-requires c κs =
-    let c₇ = c .before .before .before .before .before .before .before in let p = c₇ .pre in
-    (p .0, p .1, (let q = c .before .directory-sectors .ensures in let t = p .0 .thirty in omega arith), p .2)
+line-requires c κs = (
+  c .before .before .before .before .before .before .before .pre .0,
+  c .before .before .before .before .before .before .before .pre .1,
+  (let q = c .before .directory-sectors .ensures in let t = c .before .before .before .before .before .before .before .pre .0 .thirty in omega arith),
+  c
+      .before .before .before .before .before .before .before .pre .2,
+)
 
 nothing-requires-3 : tie.Need-nothing-requires-3
 nothing-requires-3 c κs = search needs
@@ -57,15 +61,15 @@ returns-3 c =
     nothing-whole _ _ _ (c .nothing3 .ensures) (by-line _ _ _ (lined _ _ _ (p .0) (directory-sectors .ensures) (line .ensures)) (c .before .if3 .taken))
 
 size-holds-requires : tie.Need-size-holds-requires
-size-holds-requires c κs =
-    let c₄ = c .before .before .before .before in let directory-sectors = c₄ .directory-sectors in
-    let c₁₀ = c₄ .before .before .before .before .before .before in let p = c₁₀ .pre in (
-      p .0,
-      p .1,
-      (let m = c .before .before .line .ensures .few in omega arith),
-      lined-own _ _ _
-          (lined _ _ _ (p .0) (directory-sectors .ensures) (c .before .before .line .ensures)) (c .if3 .left),
-    )
+size-holds-requires c κs = (
+  c .before .before .before .before .before .before .before .before .before .before .pre .0,
+  c .before .before .before .before
+      .before .before .before .before .before .before .pre .1,
+  (let m = c .before .before .line .ensures .few in omega arith),
+  lined-own _ _ _
+      (lined _ _ _ (c .before .before .before .before .before .before .before .before .before .before .pre .0)
+      (c .before .before .before .before .directory-sectors .ensures) (c .before .before .line .ensures)) (c .if3 .left),
+)
 
 nothing-requires-4 : tie.Need-nothing-requires-4
 nothing-requires-4 c κs = search needs

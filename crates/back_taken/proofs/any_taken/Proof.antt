@@ -39,9 +39,7 @@ returns c =
     quiet-hit (all-steps _ _) (l .inv) (loop-test .taken) (sym (c .before .entry-taken .ensures) ∙ c .if1 .taken)
 
 add-j : tie.Need-add-j Inv-loop μ-loop
-add-j c =
-    let c₆ = c .before .before .before .before .before .before in let p = c₆ .pre in
-    let q = p .1 .few in omega arith
+add-j c = let q = c .before .before .before .before .before .before .pre .1 .few in omega arith
 
 loop-less : tie.Need-loop-less Inv-loop μ-loop
 loop-less c = omega arith

@@ -29,15 +29,20 @@ loop-holds : tie.Need-loop-holds Inv-loop μ-loop
 loop-holds c = quiet-start (entry-steps _) _ _
 
 run-start-requires : tie.Need-run-start-requires Inv-loop μ-loop
-run-start-requires c κs =
-    let c₄ = c .before .before .before .before in let p = c₄ .pre in
-    (p .0, p .1 .slot, let q = c .before .before .runs .ensures .small in omega arith)
+run-start-requires c κs = (
+  c .before .before .before .before .pre .0,
+  c .before .before .before .before .pre .1 .slot,
+  let q = c .before .before .runs
+      .ensures .small in omega arith,
+)
 
 run-length-requires : tie.Need-run-length-requires Inv-loop μ-loop
-run-length-requires c κs =
-    let c₃ = c .before .before .before in let runs = c₃ .runs in
-    let c₅ = c₃ .before .before in let p = c₅ .pre in
-    (p .0, p .1 .slot, let q = runs .ensures .small in omega arith)
+run-length-requires c κs = (
+  c .before .before .before .before .before .pre .0,
+  c .before .before .before .before .before .pre .1 .slot,
+  let q = c .before
+      .before .before .runs .ensures .small in omega arith,
+)
 
 run-taken-requires : tie.Need-run-taken-requires Inv-loop μ-loop
 run-taken-requires c κs =
@@ -58,9 +63,7 @@ returns c =
     ∙ sym (c .before .run-taken .ensures) ∙ c .if1 .taken) ∙ ap (some _) (runs-are _ _ _ (runs .ensures .is))
 
 add-j : tie.Need-add-j Inv-loop μ-loop
-add-j c =
-    let c₆ = c .before .before .before .before .before .before in let runs = c₆ .runs in
-    let q = runs .ensures .small in omega arith
+add-j c = let q = c .before .before .before .before .before .before .runs .ensures .small in omega arith
 
 loop-less : tie.Need-loop-less Inv-loop μ-loop
 loop-less c = omega arith

@@ -19,14 +19,10 @@ loop-holds : tie.Need-loop-holds Inv-loop μ-loop
 loop-holds c = backing-start _ _ _ _ _
 
 mul-back-entry : tie.Need-mul-back-entry Inv-loop μ-loop
-mul-back-entry c =
-    let c₄ = c .before .before .before .before in let p = c₄ .pre in
-    let q = p .1 .few in omega arith
+mul-back-entry c = let q = c .before .before .before .before .pre .1 .few in omega arith
 
 element-copy-out-back-entry : tie.Need-element-copy-out-back-entry Inv-loop μ-loop
-element-copy-out-back-entry c =
-    let c₄ = c .before .before .before .before in let p = c₄ .pre in
-    let q = p .1 .few in omega arith
+element-copy-out-back-entry c = let q = c .before .before .before .before .pre .1 .few in omega arith
 
 back-entry-requires : tie.Need-back-entry-requires Inv-loop μ-loop
 back-entry-requires c κs =
@@ -35,9 +31,7 @@ back-entry-requires c κs =
     (kept-room _ (p .0) (l .inv .kept), kept-slot _ (l .inv .kept) (p .1 .entry _ (c .before .before .loop-test .taken) .slot), p .2)
 
 add-back : tie.Need-add-back Inv-loop μ-loop
-add-back c =
-    let c₈ = c .before .before .before .before .before .before .before .before in let p = c₈ .pre in
-    let q = p .1 .few in omega arith
+add-back c = let q = c .before .before .before .before .before .before .before .before .pre .1 .few in omega arith
 
 loop-less : tie.Need-loop-less Inv-loop μ-loop
 loop-less c = omega arith

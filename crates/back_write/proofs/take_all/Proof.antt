@@ -24,14 +24,10 @@ loop-holds : tie.Need-loop-holds Inv-loop μ-loop
 loop-holds c = taking-start _ _ _ (all-steps _ _)
 
 mul-take-entry : tie.Need-mul-take-entry Inv-loop μ-loop
-mul-take-entry c =
-    let c₄ = c .before .before .before .before in let p = c₄ .pre in
-    let q = p .1 .few in omega arith
+mul-take-entry c = let q = c .before .before .before .before .pre .1 .few in omega arith
 
 element-copy-out-take-entry : tie.Need-element-copy-out-take-entry Inv-loop μ-loop
-element-copy-out-take-entry c =
-    let c₄ = c .before .before .before .before in let p = c₄ .pre in
-    let q = p .1 .few in omega arith
+element-copy-out-take-entry c = let q = c .before .before .before .before .pre .1 .few in omega arith
 
 take-entry-requires : tie.Need-take-entry-requires Inv-loop μ-loop
 take-entry-requires c κs =
@@ -40,9 +36,7 @@ take-entry-requires c κs =
     (same-room _ _ _ (p .0) (l .inv .same), same-on-disk _ (p .0) (l .inv .same) (p .1 .entry _ (c .before .before .loop-test .taken)))
 
 add-j : tie.Need-add-j Inv-loop μ-loop
-add-j c =
-    let c₈ = c .before .before .before .before .before .before .before .before in let p = c₈ .pre in
-    let q = p .1 .few in omega arith
+add-j c = let q = c .before .before .before .before .before .before .before .before .pre .1 .few in omega arith
 
 loop-less : tie.Need-loop-less Inv-loop μ-loop
 loop-less c = omega arith

@@ -30,21 +30,23 @@ loop-holds : tie.Need-loop-holds Inv-loop μ-loop
 loop-holds c = taking-start _ _ _ (entry-steps _)
 
 run-start-requires : tie.Need-run-start-requires Inv-loop μ-loop
-run-start-requires c κs =
-    let c₃ = c .before .before .before in let runs = c₃ .runs in
-    let c₆ = c₃ .before .before .before in let p = c₆ .pre in (
-      same-room _ _ _ (p .0) (c .before .before .loop .inv .same),
-      same-slot _ _ _ (p .0) (c .before .before .loop .inv .same) (p .1 .slot),
-      let q = runs
-          .ensures .small in omega arith,
-    )
+run-start-requires c κs = (
+  same-room _ _ _ (c .before .before .before .before .before .before .pre .0) (c .before .before .loop .inv .same),
+  same-slot _ _ _
+      (c .before .before .before .before .before .before .pre .0) (c .before .before .loop .inv .same)
+      (c .before .before .before .before .before .before .pre .1 .slot),
+  let q = c .before .before .before .runs .ensures .small in omega arith,
+)
 
 run-length-requires : tie.Need-run-length-requires Inv-loop μ-loop
-run-length-requires c κs =
-    let c₄ = c .before .before .before .before in let l = c₄ .loop in
-    let c₅ = c₄ .before in let runs = c₅ .runs in
-    let c₈ = c₅ .before .before .before in let p = c₈ .pre in
-    (same-room _ _ _ (p .0) (l .inv .same), same-slot _ _ _ (p .0) (l .inv .same) (p .1 .slot), let q = runs .ensures .small in omega arith)
+run-length-requires c κs = (
+  same-room _ _ _ (c .before .before .before .before .before .before .before .before .pre .0)
+      (c .before .before .before .before .loop .inv .same),
+  same-slot _ _ _ (c .before .before .before .before .before .before .before .before .pre .0)
+      (c .before .before .before .before .loop .inv .same) (c .before .before .before .before .before .before .before .before .pre .1 .slot),
+  let q = c .before
+      .before .before .before .before .runs .ensures .small in omega arith,
+)
 
 take-run-requires : tie.Need-take-run-requires Inv-loop μ-loop
 take-run-requires c κs =
@@ -59,9 +61,7 @@ take-run-requires c κs =
     )
 
 add-j : tie.Need-add-j Inv-loop μ-loop
-add-j c =
-    let c₁₀ = c .before .before .before .before .before .before .before .before .before .before in let runs = c₁₀ .runs in
-    let q = runs .ensures .small in omega arith
+add-j c = let q = c .before .before .before .before .before .before .before .before .before .before .runs .ensures .small in omega arith
 
 loop-less : tie.Need-loop-less Inv-loop μ-loop
 loop-less c = omega arith

@@ -21,14 +21,10 @@ loop-holds : tie.Need-loop-holds Inv-loop μ-loop
 loop-holds c = taking-start _ _ _ (run-steps _)
 
 add-take-granule : tie.Need-add-take-granule Inv-loop μ-loop
-add-take-granule c =
-    let c₄ = c .before .before .before .before in let p = c₄ .pre in
-    let m = p .0 .most in omega arith
+add-take-granule c = let m = c .before .before .before .before .pre .0 .most in omega arith
 
 take-granule-requires : tie.Need-take-granule-requires Inv-loop μ-loop
-take-granule-requires c κs =
-    let c₄ = c .before .before .before .before in let p = c₄ .pre in
-    same-bit _ _ _ (p .0) (c .before .before .loop .inv .same) (omega arith)
+take-granule-requires c κs = same-bit _ _ _ (c .before .before .before .before .pre .0) (c .before .before .loop .inv .same) (omega arith)
 
 add-k : tie.Need-add-k Inv-loop μ-loop
 add-k c = omega arith
@@ -37,11 +33,9 @@ loop-less : tie.Need-loop-less Inv-loop μ-loop
 loop-less c = omega arith
 
 loop-again : tie.Need-loop-again Inv-loop μ-loop
-loop-again c =
-    let c₄ = c .before .before .before .before in let loop-test = c₄ .loop-test in
-    let c₅ = c₄ .before in let l = c₅ .loop in
-    let c₇ = c₅ .before .before in let p = c₇ .pre in
-    taking-more _ (run-steps _) (p .0) (l .inv) (loop-test .taken) (under-one _ (omega arith)) (c .before .before .take-granule .ensures)
+loop-again c = taking-more _ (run-steps _) (c .before .before .before .before .before .before .before .pre .0)
+    (c .before .before .before .before .before .loop .inv) (c .before .before .before .before .loop-test .taken) (under-one _ (omega arith))
+    (c .before .before .take-granule .ensures)
 
 same-length : tie.Need-same-length Inv-loop μ-loop
 same-length c = c .before .loop .inv .same .long

@@ -38,48 +38,44 @@ refused-requires-2 : tie.Need-refused-requires-2
 refused-requires-2 c κs = search needs
 
 returns-2 : tie.Need-returns-2
-returns-2 c =
-    let c₃ = c .before .before .before in let if1 = c₃ .if1 in
-    let c₆ = c₃ .before .before .before in let p = c₆ .pre in
-    refused-plan _ _ _ (c .refused2 .ensures) (at-slot _ _ _ (p .0) (if1 .left) (is-no (c .before .before .is-slot .ensures) (c .before .if2 .taken)))
-    (λ z. omega arith)
+returns-2 c = refused-plan _ _ _ (c .refused2 .ensures)
+    (at-slot _ _ _ (c .before .before .before .before .before .before .pre .0) (c .before .before .before .if1 .left)
+    (is-no (c .before .before .is-slot .ensures) (c .before .if2 .taken))) (λ z. omega arith)
 
 flag-requires : tie.Need-flag-requires
-flag-requires c κs =
-    let c₅ = c .before .before .before .before .before in let p = c₅ .pre in
-    (checked-room _ _ (checked _ _ (p .0) (c .before .before .if1 .left)), slot-of _ _ _ (is-yes (c .before .is-slot .ensures) (c .if2 .left)), omega arith)
+flag-requires c κs = (
+  checked-room _ _ (checked _ _ (c .before .before .before .before .before .pre .0) (c .before .before .if1 .left)),
+  slot-of _ _ _
+      (is-yes (c .before .is-slot .ensures) (c .if2 .left)),
+  omega arith,
+)
 
 refused-requires-3 : tie.Need-refused-requires-3
 refused-requires-3 c κs = search needs
 
 returns-3 : tie.Need-returns-3
-returns-3 c =
-    let c₃ = c .before .before .before in let if2 = c₃ .if2 in
-    let c₄ = c₃ .before in let is-slot = c₄ .is-slot in
-    let c₅ = c₄ .before in let if1 = c₅ .if1 in
-    let c₈ = c₅ .before .before .before in let p = c₈ .pre in
-    refused-plan _ _ _ (c .refused3 .ensures) (at-use _ _ _ (p .0) (if1 .left) (is-yes (is-slot .ensures) (if2 .left))
+returns-3 c = refused-plan _ _ _ (c .refused3 .ensures)
+    (at-use _ _ _ (c .before .before .before .before .before .before .before .before .pre .0) (c .before .before .before .before .before .if1 .left)
+    (is-yes (c .before .before .before .before .is-slot .ensures) (c .before .before .before .if2 .left))
     (sym (c .before .before .flag .ensures) ∙ c .before .if3 .taken)) (λ z. omega arith)
 
 flag-requires-2 : tie.Need-flag-requires-2
-flag-requires-2 c κs =
-    let c₃ = c .before .before .before in let is-slot = c₃ .is-slot in
-    let c₄ = c₃ .before in let if1 = c₄ .if1 in
-    let c₇ = c₄ .before .before .before in let p = c₇ .pre in
-    (checked-room _ _ (checked _ _ (p .0) (if1 .left)), slot-of _ _ _ (is-yes (is-slot .ensures) (c .before .before .if2 .left)), omega arith)
+flag-requires-2 c κs = (
+  checked-room _ _ (checked _ _ (c .before .before .before .before .before .before .before .pre .0)
+      (c .before .before .before .before .if1 .left)),
+  slot-of _ _ _ (is-yes (c .before .before .before .is-slot .ensures) (c .before .before .if2 .left)),
+  omega arith,
+)
 
 refused-requires-4 : tie.Need-refused-requires-4
 refused-requires-4 c κs = search needs
 
 returns-4 : tie.Need-returns-4
-returns-4 c =
-    let c₃ = c .before .before .before in let if3 = c₃ .if3 in
-    let c₄ = c₃ .before in let flag = c₄ .flag in
-    let c₅ = c₄ .before in let if2 = c₅ .if2 in
-    let c₆ = c₅ .before in let is-slot = c₆ .is-slot in
-    let c₇ = c₆ .before in let if1 = c₇ .if1 in
-    let c₁₀ = c₇ .before .before .before in let p = c₁₀ .pre in
-    refused-plan _ _ _ (c .refused4 .ensures) (at-system _ _ _ (p .0) (if1 .left) (is-yes (is-slot .ensures) (if2 .left)) (sym (flag .ensures) ∙ if3 .left)
+returns-4 c = refused-plan _ _ _ (c .refused4 .ensures)
+    (at-system _ _ _ (c .before .before .before .before .before .before .before .before .before .before .pre .0)
+    (c .before .before .before .before .before .before .before .if1 .left)
+    (is-yes (c .before .before .before .before .before .before .is-slot .ensures) (c .before .before .before .before .before .if2 .left))
+    (sym (c .before .before .before .before .flag .ensures) ∙ c .before .before .before .if3 .left)
     (sym (c .before .before .flag2 .ensures) ∙ c .before .if4 .taken)) (λ z. omega arith)
 
 whole-requires : tie.Need-whole-requires
@@ -94,66 +90,62 @@ refused-requires-5 : tie.Need-refused-requires-5
 refused-requires-5 c κs = search needs
 
 returns-5 : tie.Need-returns-5
-returns-5 c =
-    let c₃ = c .before .before .before in let whole = c₃ .whole in
-    let c₅ = c₃ .before .before in let if4 = c₅ .if4 in
-    let c₆ = c₅ .before in let flag2 = c₆ .flag2 in
-    let c₇ = c₆ .before in let if3 = c₇ .if3 in
-    let c₈ = c₇ .before in let flag = c₈ .flag in
-    let c₉ = c₈ .before in let if2 = c₉ .if2 in
-    let c₁₀ = c₉ .before in let is-slot = c₁₀ .is-slot in
-    let c₁₁ = c₁₀ .before in let if1 = c₁₁ .if1 in
-    let c₁₄ = c₁₁ .before .before .before in let p = c₁₄ .pre in
-    refused-plan _ _ _ (c .refused5 .ensures) (at-whole _ _ _ (p .0) (if1 .left) (is-yes (is-slot .ensures) (if2 .left)) (sym (flag .ensures) ∙ if3 .left)
-    (sym (flag2 .ensures) ∙ if4 .left) (is-no (whole .ensures .answer) (c .before .if5 .taken))) (λ z. omega arith)
+returns-5 c = refused-plan _ _ _ (c .refused5 .ensures)
+    (at-whole _ _ _ (c .before .before .before .before .before .before .before .before .before .before .before .before .before .before .pre .0)
+    (c .before .before .before .before .before .before .before .before .before .before .before .if1 .left)
+    (is-yes (c .before .before .before .before .before .before .before .before .before .before .is-slot .ensures)
+    (c .before .before .before .before .before .before .before .before .before .if2 .left))
+    (sym (c .before .before .before .before .before .before .before .before .flag .ensures) ∙ c .before .before .before .before .before .before .before .if3
+    .left) (sym (c .before .before .before .before .before .before .flag2 .ensures) ∙ c .before .before .before .before .before .if4 .left)
+    (is-no (c .before .before .before .whole .ensures .answer) (c .before .if5 .taken))) (λ z. omega arith)
 
 add-a : tie.Need-add-a
-add-a c =
-    let c₁₁ = c .before .before .before .before .before .before .before .before .before .before .before in let if1 = c₁₁ .if1 in
-    let c₁₄ = c₁₁ .before .before .before in let p = c₁₄ .pre in
-    let r = checked-room _ _ (checked _ _ (p .0) (if1 .left)) in let t = r .directory in let m = r .most in omega arith
+add-a c = let r = checked-room _ _
+    (checked _ _ (c .before .before .before .before .before .before .before .before .before .before .before .before .before .before .pre .0)
+    (c .before .before .before .before .before .before .before .before .before .before .before .if1 .left)) in
+    let t = r .directory in let m = r .most in omega arith
 
 add-a-2 : tie.Need-add-a-2
-add-a-2 c =
-    let c₁₁ = c .before .before .before .before .before .before .before .before .before .before .before in let if1 = c₁₁ .if1 in
-    let c₁₄ = c₁₁ .before .before .before in let p = c₁₄ .pre in
-    let r = checked-room _ _ (checked _ _ (p .0) (if1 .left)) in let t = r .directory in let m = r .most in omega arith
+add-a-2 c = let r = checked-room _ _
+    (checked _ _ (c .before .before .before .before .before .before .before .before .before .before .before .before .before .before .pre .0)
+    (c .before .before .before .before .before .before .before .before .before .before .before .if1 .left)) in
+    let t = r .directory in let m = r .most in omega arith
 
 mul-a : tie.Need-mul-a
-mul-a c =
-    let c₁₁ = c .before .before .before .before .before .before .before .before .before .before .before in let if1 = c₁₁ .if1 in
-    let c₁₄ = c₁₁ .before .before .before in let p = c₁₄ .pre in
-    let r = checked-room _ _ (checked _ _ (p .0) (if1 .left)) in let t = r .directory in let m = r .most in omega arith
+mul-a c = let r = checked-room _ _
+    (checked _ _ (c .before .before .before .before .before .before .before .before .before .before .before .before .before .before .pre .0)
+    (c .before .before .before .before .before .before .before .before .before .before .before .if1 .left)) in
+    let t = r .directory in let m = r .most in omega arith
 
 mul-a-2 : tie.Need-mul-a-2
 mul-a-2 c = search needs
 
 add-a-3 : tie.Need-add-a-3
-add-a-3 c =
-    let c₉ = c .before .before .before .before .before .before .before .before .before in let if2 = c₉ .if2 in
-    let c₁₀ = c₉ .before in let is-slot = c₁₀ .is-slot in
-    let c₁₁ = c₁₀ .before in let if1 = c₁₁ .if1 in
-    let c₁₄ = c₁₁ .before .before .before in let p = c₁₄ .pre in
-    let r = checked-room _ _ (checked _ _ (p .0) (if1 .left)) in let t = r .directory in let m = r .most in
-    let l = slot-of _ _ _ (is-yes (is-slot .ensures) (if2 .left)) .low in omega arith
+add-a-3 c = let r = checked-room _ _
+    (checked _ _ (c .before .before .before .before .before .before .before .before .before .before .before .before .before .before .pre .0)
+    (c .before .before .before .before .before .before .before .before .before .before .before .if1 .left)) in
+    let t = r .directory in let m = r .most in
+    let l = slot-of _ _ _ (is-yes (c .before .before .before .before .before .before .before .before .before .before .is-slot .ensures)
+    (c .before .before .before .before .before .before .before .before .before .if2 .left)) .low in
+    omega arith
 
 add-a-4 : tie.Need-add-a-4
-add-a-4 c =
-    let c₉ = c .before .before .before .before .before .before .before .before .before in let if2 = c₉ .if2 in
-    let c₁₀ = c₉ .before in let is-slot = c₁₀ .is-slot in
-    let c₁₁ = c₁₀ .before in let if1 = c₁₁ .if1 in
-    let c₁₄ = c₁₁ .before .before .before in let p = c₁₄ .pre in
-    let r = checked-room _ _ (checked _ _ (p .0) (if1 .left)) in let t = r .directory in let m = r .most in
-    let l = slot-of _ _ _ (is-yes (is-slot .ensures) (if2 .left)) .low in omega arith
+add-a-4 c = let r = checked-room _ _
+    (checked _ _ (c .before .before .before .before .before .before .before .before .before .before .before .before .before .before .pre .0)
+    (c .before .before .before .before .before .before .before .before .before .before .before .if1 .left)) in
+    let t = r .directory in let m = r .most in
+    let l = slot-of _ _ _ (is-yes (c .before .before .before .before .before .before .before .before .before .before .is-slot .ensures)
+    (c .before .before .before .before .before .before .before .before .before .if2 .left)) .low in
+    omega arith
 
 add-e : tie.Need-add-e
-add-e c =
-    let c₉ = c .before .before .before .before .before .before .before .before .before in let if2 = c₉ .if2 in
-    let c₁₀ = c₉ .before in let is-slot = c₁₀ .is-slot in
-    let c₁₁ = c₁₀ .before in let if1 = c₁₁ .if1 in
-    let c₁₄ = c₁₁ .before .before .before in let p = c₁₄ .pre in
-    let r = checked-room _ _ (checked _ _ (p .0) (if1 .left)) in let t = r .directory in let m = r .most in
-    let l = slot-of _ _ _ (is-yes (is-slot .ensures) (if2 .left)) .low in omega arith
+add-e c = let r = checked-room _ _
+    (checked _ _ (c .before .before .before .before .before .before .before .before .before .before .before .before .before .before .pre .0)
+    (c .before .before .before .before .before .before .before .before .before .before .before .if1 .left)) in
+    let t = r .directory in let m = r .most in
+    let l = slot-of _ _ _ (is-yes (c .before .before .before .before .before .before .before .before .before .before .is-slot .ensures)
+    (c .before .before .before .before .before .before .before .before .before .if2 .left)) .low in
+    omega arith
 
 sub-name : tie.Need-sub-name
 sub-name c = search needs
@@ -162,12 +154,12 @@ part-name-start : tie.Need-part-name-start
 part-name-start c = search needs
 
 part-name-end : tie.Need-part-name-end
-part-name-end c =
-    let c₉ = c .before .before .before .before .before .before .before .before .before in let if2 = c₉ .if2 in
-    let c₁₀ = c₉ .before in let is-slot = c₁₀ .is-slot in
-    let c₁₁ = c₁₀ .before in let if1 = c₁₁ .if1 in
-    let c₁₄ = c₁₁ .before .before .before in let p = c₁₄ .pre in
-    let w = name-ends _ _ _ (checked-room _ _ (checked _ _ (p .0) (if1 .left))) (slot-of _ _ _ (is-yes (is-slot .ensures) (if2 .left))) in omega arith
+part-name-end c = let w = name-ends _ _ _
+    (checked-room _ _ (checked _ _ (c .before .before .before .before .before .before .before .before .before .before .before .before .before .before .pre .0)
+    (c .before .before .before .before .before .before .before .before .before .before .before .if1 .left)))
+    (slot-of _ _ _ (is-yes (c .before .before .before .before .before .before .before .before .before .before .is-slot .ensures)
+    (c .before .before .before .before .before .before .before .before .before .if2 .left))) in
+    omega arith
 
 find-requires : tie.Need-find-requires
 find-requires c κs =
@@ -182,21 +174,24 @@ refused-requires-6 : tie.Need-refused-requires-6
 refused-requires-6 c κs = search needs
 
 returns-6 : tie.Need-returns-6
-returns-6 c =
-    let c₅ = c .before .before .before .before .before in let if5 = c₅ .if5 in
-    let c₇ = c₅ .before .before in let whole = c₇ .whole in
-    let c₉ = c₇ .before .before in let if4 = c₉ .if4 in
-    let c₁₀ = c₉ .before in let flag2 = c₁₀ .flag2 in
-    let c₁₁ = c₁₀ .before in let if3 = c₁₁ .if3 in
-    let c₁₂ = c₁₁ .before in let flag = c₁₂ .flag in
-    let c₁₃ = c₁₂ .before in let if2 = c₁₃ .if2 in
-    let c₁₄ = c₁₃ .before in let is-slot = c₁₄ .is-slot in
-    let c₁₅ = c₁₄ .before in let if1 = c₁₅ .if1 in
-    let c₁₈ = c₁₅ .before .before .before in let a = c₁₈ .args in let p = c₁₈ .pre in
-    refused-plan _ _ _ (c .refused6 .ensures) (at-name _ _ _ (p .0) (if1 .left) (is-yes (is-slot .ensures) (if2 .left)) (sym (flag .ensures) ∙ if3 .left)
-    (sym (flag2 .ensures) ∙ if4 .left) (is-yes (whole .ensures .answer) (if5 .left))
-    (name-used _ _ _ (checked-room _ _ (checked _ _ (p .0) (if1 .left))) (slot-of _ _ _ (is-yes (is-slot .ensures) (if2 .left)))
-    (cut (entryAt (a .g) (a .s) + 5)) (c .before .before .find .ensures) (c .before .if6 .taken))) (λ z. omega arith)
+returns-6 c = refused-plan _ _ _ (c .refused6 .ensures)
+    (at-name _ _ _ (c .before .before .before .before .before .before .before .before .before .before .before .before .before .before .before .before .before
+    .before .pre .0) (c .before .before .before .before .before .before .before .before .before .before .before .before .before .before .before .if1 .left)
+    (is-yes (c .before .before .before .before .before .before .before .before .before .before .before .before .before .before .is-slot .ensures)
+    (c .before .before .before .before .before .before .before .before .before .before .before .before .before .if2 .left))
+    (sym (c .before .before .before .before .before .before .before .before .before .before .before .before .flag .ensures) ∙ c .before .before .before
+    .before .before .before .before .before .before .before .before .if3 .left)
+    (sym (c .before .before .before .before .before .before .before .before .before .before .flag2 .ensures) ∙ c .before .before .before .before .before
+    .before .before .before .before .if4 .left) (is-yes (c .before .before .before .before .before .before .before .whole .ensures .answer)
+    (c .before .before .before .before .before .if5 .left))
+    (name-used _ _ _ (checked-room _ _ (checked _ _
+    (c .before .before .before .before .before .before .before .before .before .before .before .before .before .before .before .before .before .before .pre
+    .0) (c .before .before .before .before .before .before .before .before .before .before .before .before .before .before .before .if1 .left)))
+    (slot-of _ _ _ (is-yes (c .before .before .before .before .before .before .before .before .before .before .before .before .before .before .is-slot
+    .ensures) (c .before .before .before .before .before .before .before .before .before .before .before .before .before .if2 .left)))
+    (cut (entryAt (c .before .before .before .before .before .before .before .before .before .before .before .before .before .before .before .before .before
+    .before .args .g) (c .before .before .before .before .before .before .before .before .before .before .before .before .before .before .before .before
+    .before .before .args .s) + 5)) (c .before .before .find .ensures) (c .before .if6 .taken))) (λ z. omega arith)
 
 any-taken-requires : tie.Need-any-taken-requires
 any-taken-requires c κs =
@@ -210,25 +205,31 @@ refused-requires-7 : tie.Need-refused-requires-7
 refused-requires-7 c κs = search needs
 
 returns-7 : tie.Need-returns-7
-returns-7 c =
-    let c₄ = c .before .before .before .before in let if6 = c₄ .if6 in
-    let c₅ = c₄ .before in let find = c₅ .find in
-    let c₈ = c₅ .before .before .before in let if5 = c₈ .if5 in
-    let c₁₀ = c₈ .before .before in let whole = c₁₀ .whole in
-    let c₁₂ = c₁₀ .before .before in let if4 = c₁₂ .if4 in
-    let c₁₃ = c₁₂ .before in let flag2 = c₁₃ .flag2 in
-    let c₁₄ = c₁₃ .before in let if3 = c₁₄ .if3 in
-    let c₁₅ = c₁₄ .before in let flag = c₁₅ .flag in
-    let c₁₆ = c₁₅ .before in let if2 = c₁₆ .if2 in
-    let c₁₇ = c₁₆ .before in let is-slot = c₁₇ .is-slot in
-    let c₁₈ = c₁₇ .before in let if1 = c₁₈ .if1 in
-    let c₂₁ = c₁₈ .before .before .before in let a = c₂₁ .args in let p = c₂₁ .pre in
-    refused-plan _ _ _ (c .refused7 .ensures) (at-taken _ _ _ (p .0) (if1 .left) (is-yes (is-slot .ensures) (if2 .left)) (sym (flag .ensures) ∙ if3 .left)
-    (sym (flag2 .ensures) ∙ if4 .left) (is-yes (whole .ensures .answer) (if5 .left))
-    (name-free _ _ _ (checked-room _ _ (checked _ _ (p .0) (if1 .left))) (slot-of _ _ _ (is-yes (is-slot .ensures) (if2 .left)))
-    (cut (entryAt (a .g) (a .s) + 5)) (find .ensures) (if6 .left))
-    (sym (taken-is _ _ _ (whole .ensures .written (not-false _ (if5 .left)))) ∙ sym (c .before .before .any-taken .ensures) ∙ c .before .if7 .taken))
-    (λ z. omega arith)
+returns-7 c = refused-plan _ _ _ (c .refused7 .ensures)
+    (at-taken _ _ _ (c .before .before .before .before .before .before .before .before .before .before .before .before .before .before .before .before .before
+    .before .before .before .before .pre .0)
+    (c .before .before .before .before .before .before .before .before .before .before .before .before .before .before .before .before .before .before .if1
+    .left) (is-yes (c .before .before .before .before .before .before .before .before .before .before .before .before .before .before .before .before .before
+    .is-slot .ensures) (c .before .before .before .before .before .before .before .before .before .before .before .before .before .before .before .before .if2
+    .left)) (sym (c .before .before .before .before .before .before .before .before .before .before .before .before .before .before .before .flag .ensures) ∙
+    c .before .before .before .before .before .before .before .before .before .before .before .before .before .before .if3 .left)
+    (sym (c .before .before .before .before .before .before .before .before .before .before .before .before .before .flag2 .ensures) ∙ c .before .before
+    .before .before .before .before .before .before .before .before .before .before .if4 .left)
+    (is-yes (c .before .before .before .before .before .before .before .before .before .before .whole .ensures .answer)
+    (c .before .before .before .before .before .before .before .before .if5 .left))
+    (name-free _ _ _ (checked-room _ _ (checked _ _
+    (c .before .before .before .before .before .before .before .before .before .before .before .before .before .before .before .before .before .before .before
+    .before .before .pre .0) (c .before .before .before .before .before .before .before .before .before .before .before .before .before .before .before
+    .before .before .before .if1 .left))) (slot-of _ _ _
+    (is-yes (c .before .before .before .before .before .before .before .before .before .before .before .before .before .before .before .before .before
+    .is-slot .ensures) (c .before .before .before .before .before .before .before .before .before .before .before .before .before .before .before .before .if2
+    .left))) (cut (entryAt (c .before .before .before .before .before .before .before .before .before .before .before .before .before .before .before .before
+    .before .before .before .before .before .args .g)
+    (c .before .before .before .before .before .before .before .before .before .before .before .before .before .before .before .before .before .before .before
+    .before .before .args .s) + 5)) (c .before .before .before .before .before .find .ensures) (c .before .before .before .before .if6 .left))
+    (sym (taken-is _ _ _ (c .before .before .before .before .before .before .before .before .before .before .whole .ensures .written
+    (not-false _ (c .before .before .before .before .before .before .before .before .if5 .left)))) ∙ sym (c .before .before .any-taken .ensures) ∙ c .before
+    .if7 .taken)) (λ z. omega arith)
 
 hash-requires : tie.Need-hash-requires
 hash-requires c κs = search needs

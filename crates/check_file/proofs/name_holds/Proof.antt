@@ -30,9 +30,9 @@ hashes-to-requires : tie.Need-hashes-to-requires
 hashes-to-requires c κs = search needs
 
 returns : tie.Need-returns
-returns c =
-    let c₄ = c .before .before .before .before in let a = c₄ .args in let p = c₄ .pre in
-    let q : (a .at + 5 + 11) - (a .at + 5) ≡ 11 = omega arith in name-no _ _ _ (p .0) (p .1) q (c .before .hashes-to .ensures) (not-true _ (c .if1 .taken))
+returns c = let q : (c .before .before .before .before .args .at + 5 + 11) - (c .before .before .before .before .args .at + 5) ≡ 11 = omega arith in
+    name-no _ _ _ (c .before .before .before .before .pre .0) (c .before .before .before .before .pre .1) q (c .before .hashes-to .ensures)
+    (not-true _ (c .if1 .taken))
 
 sub-well-formed : tie.Need-sub-well-formed
 sub-well-formed c = search needs
@@ -47,11 +47,10 @@ well-formed-requires : tie.Need-well-formed-requires
 well-formed-requires c κs = search needs
 
 returns-2 : tie.Need-returns-2
-returns-2 c =
-    let c₃ = c .before .before .before in let hashes-to = c₃ .hashes-to in
-    let c₆ = c₃ .before .before .before in let a = c₆ .args in let p = c₆ .pre in
-    let q : (a .at + 5 + 11) - (a .at + 5) ≡ 11 = omega arith in
-    name-yes _ _ _ (p .0) (p .1) q (hashes-to .ensures) (not-false _ (c .before .before .if1 .left)) (c .well-formed .ensures)
+returns-2 c = let q : (c .before .before .before .before .before .before .args .at + 5 + 11) -
+    (c .before .before .before .before .before .before .args .at + 5) ≡ 11 = omega arith in
+    name-yes _ _ _ (c .before .before .before .before .before .before .pre .0) (c .before .before .before .before .before .before .pre .1) q
+    (c .before .before .before .hashes-to .ensures) (not-false _ (c .before .before .if1 .left)) (c .well-formed .ensures)
 
 pub name-holds-spec : {M : Type 1} → statement M
 name-holds-spec =

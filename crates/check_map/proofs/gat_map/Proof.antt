@@ -27,9 +27,7 @@ shared-slice-read-map : tie.Need-shared-slice-read-map Inv-loop μ-loop
 shared-slice-read-map c = search needs
 
 sub-map : tie.Need-sub-map Inv-loop μ-loop
-sub-map c =
-    let c₄ = c .before .before .before .before in let a = c₄ .args in
-    omega (arith, c .shared-slice-known .given (256 * a .g .start + c .before .before .loop .b))
+sub-map c = omega (arith, c .shared-slice-known .given (256 * c .before .before .before .before .args .g .start + c .before .before .loop .b))
 
 element-write-map : tie.Need-element-write-map Inv-loop μ-loop
 element-write-map c = search needs

@@ -28,33 +28,20 @@ take-units-requires c κs = let i = c .before .before .loop .inv in let l = i .u
     (taking-block i (p .2), omega arith, p .1, omega arith)
 
 returns : tie.Need-returns Inv-loop μ-loop
-returns c =
-    let c₃ = c .before .before .before in let loop-test = c₃ .loop-test in
-    let c₄ = c₃ .before in let l′ = c₄ .loop in
-    taking-stop (l′ .inv) (let l = loop-test .taken in omega arith) (c .before .take-units .ensures) (not-true _ (c .if1 .taken))
+returns c = taking-stop (c .before .before .before .before .loop .inv) (let l = c .before .before .before .loop-test .taken in omega arith)
+    (c .before .take-units .ensures) (not-true _ (c .if1 .taken))
 
 sub-left : tie.Need-sub-left Inv-loop μ-loop
-sub-left c =
-    let c₄ = c .before .before .before .before in let l′ = c₄ .loop in
-    let l = l′ .inv .unit in omega arith
+sub-left c = let l = c .before .before .before .before .loop .inv .unit in omega arith
 
 sub-left-2 : tie.Need-sub-left-2 Inv-loop μ-loop
-sub-left-2 c =
-    let c₃ = c .before .before .before in let loop-test = c₃ .loop-test in
-    let c₄ = c₃ .before in let l′ = c₄ .loop in
-    let l = l′ .inv .unit in let k = loop-test .taken in omega arith
+sub-left-2 c = let l = c .before .before .before .before .loop .inv .unit in let k = c .before .before .before .loop-test .taken in omega arith
 
 add-b : tie.Need-add-b Inv-loop μ-loop
-add-b c =
-    let c₄ = c .before .before .before .before in let l = c₄ .loop in
-    let c₅ = c₄ .before in let p = c₅ .pre in
-    let b = taking-block (l .inv) ((p) .2) in omega arith
+add-b c = let b = taking-block (c .before .before .before .before .loop .inv) ((c .before .before .before .before .before .pre) .2) in omega arith
 
 loop-less : tie.Need-loop-less Inv-loop μ-loop
-loop-less c =
-    let c₃ = c .before .before .before in let loop-test = c₃ .loop-test in
-    let c₄ = c₃ .before in let l′ = c₄ .loop in
-    let l = l′ .inv .unit in let k = loop-test .taken in omega arith
+loop-less c = let l = c .before .before .before .before .loop .inv .unit in let k = c .before .before .before .loop-test .taken in omega arith
 
 loop-again : tie.Need-loop-again Inv-loop μ-loop
 loop-again c =

@@ -35,35 +35,37 @@ shl-mask-2 c = let b : Base (c .before .before .args .block) (c .before .if1 .at
     let q = c .before .before .pre .2 in omega arith
 
 read-eight-requires : tie.Need-read-eight-requires
-read-eight-requires c κs =
-    let c₃ = c .before .before .before in let if1 = c₃ .if1 in
-    let c₄ = c₃ .before in let a = c₄ .args in
-    let b : Base (a .block) (if1 .at) = ⊎-elim (λ w. base-own (w .0 .taken) (w .1)) (λ w. base-last (w .0 .left) (w .1)) (if1 .came) in
+read-eight-requires c κs = let b : Base (c .before .before .before .before .args .block) (c .before .before .before .if1 .at) = ⊎-elim
+    (λ w. base-own (w .0 .taken) (w .1)) (λ w. base-last (w .0 .left) (w .1)) (c .before .before .before .if1 .came) in
     let h = b .high in omega arith
 
 returns : tie.Need-returns
-returns c =
-    let c₅ = c .before .before .before .before .before in let if1 = c₅ .if1 in
-    let c₆ = c₅ .before in let a = c₆ .args in let p = c₆ .pre in
-    let b : Base (a .block) (if1 .at) = ⊎-elim (λ w. base-own (w .0 .taken) (w .1)) (λ w. base-last (w .0 .left) (w .1)) (if1 .came) in
-    stretch-no (a .map .now) _ (if1 .at) _ (a .n) _ (c .before .read-eight .ensures .is) (c .before .read-eight .ensures .bytes)
-    (lies (a .unit) (a .n) b (p .0) (p .1) (p .3)) (omega arith) (c .if2 .taken)
+returns c = let b : Base (c .before .before .before .before .before .before .args .block) (c .before .before .before .before .before .if1 .at) = ⊎-elim
+    (λ w. base-own (w .0 .taken) (w .1)) (λ w. base-last (w .0 .left) (w .1)) (c .before .before .before .before .before .if1 .came) in
+    stretch-no (c .before .before .before .before .before .before .args .map .now) _ (c .before .before .before .before .before .if1 .at) _
+    (c .before .before .before .before .before .before .args .n) _ (c .before .read-eight .ensures .is) (c .before .read-eight .ensures .bytes)
+    (lies (c .before .before .before .before .before .before .args .unit) (c .before .before .before .before .before .before .args .n) b
+    (c .before .before .before .before .before .before .pre .0) (c .before .before .before .before .before .before .pre .1)
+    (c .before .before .before .before .before .before .pre .3)) (omega arith) (c .if2 .taken)
 
 put-eight-requires : tie.Need-put-eight-requires
-put-eight-requires c κs =
-    let c₆ = c .before .before .before .before .before .before in let if1 = c₆ .if1 in
-    let c₇ = c₆ .before in let a = c₇ .args in
-    let b : Base (a .block) (if1 .at) = ⊎-elim (λ w. base-own (w .0 .taken) (w .1)) (λ w. base-last (w .0 .left) (w .1)) (if1 .came) in
+put-eight-requires c κs = let b : Base (c .before .before .before .before .before .before .before .args .block)
+    (c .before .before .before .before .before .before .if1 .at) = ⊎-elim (λ w. base-own (w .0 .taken) (w .1)) (λ w. base-last (w .0 .left) (w .1))
+    (c .before .before .before .before .before .before .if1 .came) in
     let h = b .high in (omega arith, omega arith)
 
 returns-2 : tie.Need-returns-2
-returns-2 c =
-    let c₃ = c .before .before .before in let read-eight = c₃ .read-eight in
-    let c₇ = c₃ .before .before .before .before in let if1 = c₇ .if1 in
-    let c₈ = c₇ .before in let a = c₈ .args in let p = c₈ .pre in
-    let b : Base (a .block) (if1 .at) = ⊎-elim (λ w. base-own (w .0 .taken) (w .1)) (λ w. base-last (w .0 .left) (w .1)) (if1 .came) in
-    stretch-yes (a .map .now) _ (if1 .at) _ (a .n) _ (read-eight .ensures .is) (read-eight .ensures .bytes) (lies (a .unit) (a .n) b (p .0) (p .1) (p .3))
-    (omega arith) (c .before .before .if2 .left)
+returns-2 c = let b : Base (c .before .before .before .before .before .before .before .before .args .block)
+    (c .before .before .before .before .before .before .before .if1 .at) = ⊎-elim (λ w. base-own (w .0 .taken) (w .1)) (λ w. base-last (w .0 .left) (w .1))
+    (c .before .before .before .before .before .before .before .if1 .came) in
+    stretch-yes (c .before .before .before .before .before .before .before .before .args .map .now) _
+    (c .before .before .before .before .before .before .before .if1 .at) _ (c .before .before .before .before .before .before .before .before .args .n) _
+    (c .before .before .before .read-eight .ensures .is) (c .before .before .before .read-eight .ensures .bytes)
+    (lies (c .before .before .before .before .before .before .before .before .args .unit)
+    (c .before .before .before .before .before .before .before .before .args .n) b
+    (c .before .before .before .before .before .before .before .before .pre .0)
+    (c .before .before .before .before .before .before .before .before .pre .1)
+    (c .before .before .before .before .before .before .before .before .pre .3)) (omega arith) (c .before .before .if2 .left)
     (c .put-eight .ensures)
 
 pub take-stretch-spec : {M : Type 1} → statement M

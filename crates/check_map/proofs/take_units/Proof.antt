@@ -26,17 +26,19 @@ returns c =
     takes-no (a .units) (a .block) (a .unit) (a .n) _ ((p) .1) ((p) .2) (c .before .byte-of .ensures .is) (c .if1 .taken)
 
 cast-map : tie.Need-cast-map
-cast-map c =
-    let c₄ = c .before .before .before .before in let a = c₄ .args in let p′ = c₄ .pre in
-    omega (arith, fits-byte (c .before .byte-of .result) (a .n) (a .unit) (c .before .byte-of .ensures .small) (let p = p′ in omega arith))
+cast-map c = omega (
+  arith,
+  fits-byte (c .before .byte-of .result) (c .before .before .before .before .args .n) (c .before .before .before .before .args .unit)
+      (c .before .byte-of .ensures .small) (let p = (c .before .before .before .before .pre) in omega arith),
+)
 
 element-write-map : tie.Need-element-write-map
 element-write-map c = search needs
 
 returns-2 : tie.Need-returns-2
-returns-2 c =
-    let c₄ = c .before .before .before .before in let a = c₄ .args in let p = c₄ .pre in
-    takes-yes (a .units) (a .block) (a .unit) (a .n) _ ((p) .1) ((p) .2) (omega arith) (c .before .byte-of .ensures .is) (c .if1 .left)
+returns-2 c = takes-yes (c .before .before .before .before .args .units) (c .before .before .before .before .args .block)
+    (c .before .before .before .before .args .unit) (c .before .before .before .before .args .n) _ ((c .before .before .before .before .pre) .1)
+    ((c .before .before .before .before .pre) .2) (omega arith) (c .before .byte-of .ensures .is) (c .if1 .left)
 
 pub take-units-spec : {M : Type 1} → statement M
 take-units-spec =

@@ -27,9 +27,7 @@ eight-requires : tie.Need-eight-requires Inv-loop μ-loop
 eight-requires c κs = search needs
 
 returns : tie.Need-returns Inv-loop μ-loop
-returns c =
-    let c₄ = c .before .before .before .before in let l = c₄ .loop in
-    rowing-stop (l .inv) (omega arith) (omega arith) (c .before .eight .ensures) (c .if1 .taken)
+returns c = rowing-stop (c .before .before .before .before .loop .inv) (omega arith) (omega arith) (c .before .eight .ensures) (c .if1 .taken)
 
 add-at : tie.Need-add-at Inv-loop μ-loop
 add-at c = omega arith
@@ -38,9 +36,7 @@ loop-less : tie.Need-loop-less Inv-loop μ-loop
 loop-less c = omega arith
 
 loop-again : tie.Need-loop-again Inv-loop μ-loop
-loop-again c =
-    let c₄ = c .before .before .before .before in let l = c₄ .loop in
-    rowing-step (l .inv) (omega arith) (omega arith) (c .before .eight .ensures) (c .if1 .left)
+loop-again c = rowing-step (c .before .before .before .before .loop .inv) (omega arith) (omega arith) (c .before .eight .ensures) (c .if1 .left)
 
 sub-eight : tie.Need-sub-eight Inv-loop μ-loop
 sub-eight c = omega arith

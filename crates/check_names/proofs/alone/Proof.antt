@@ -73,9 +73,8 @@ part-same-name-start : tie.Need-part-same-name-start Inv-loop μ-loop
 part-same-name-start c = search needs
 
 part-same-name-end : tie.Need-part-same-name-end Inv-loop μ-loop
-part-same-name-end c =
-    let c₅ = c .before .before .before .before .before in let p = c₅ .pre in
-    let e = p .2 in let h = p .1 .held in let r = p .0 .directory in let q = p .0 .long in omega arith
+part-same-name-end c = let e = c .before .before .before .before .before .pre .2 in let h = c .before .before .before .before .before .pre .1 .held in
+    let r = c .before .before .before .before .before .pre .0 .directory in let q = c .before .before .before .before .before .pre .0 .long in omega arith
 
 same-name-requires : tie.Need-same-name-requires Inv-loop μ-loop
 same-name-requires c κs = let a = c .before .before .before .before .before .before .args in

@@ -51,9 +51,9 @@ add-head : tie.Need-add-head
 add-head c = search needs
 
 cast-head : tie.Need-cast-head
-cast-head c =
-    let c₉ = c .before .before .before .before .before .before .before .before .before in let p = c₉ .pre in
-    let h = next-low _ _ _ (p .0) (p .1) in search needs
+cast-head c = let h = next-low _ _ _ (c .before .before .before .before .before .before .before .before .before .pre .0)
+    (c .before .before .before .before .before .before .before .before .before .pre .1) in
+    search needs
 
 slice-write-head : tie.Need-slice-write-head
 slice-write-head c = search needs

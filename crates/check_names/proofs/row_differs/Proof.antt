@@ -44,30 +44,29 @@ add-at-2 : tie.Need-add-at-2 Inv-loop μ-loop
 add-at-2 c = search needs
 
 loop-holds : tie.Need-loop-holds Inv-loop μ-loop
-loop-holds c =
-    let c₅ = c .before .before .before .before .before in let p = c₅ .pre in
-    let e = c .before .directory-sectors .ensures in let t = p .0 .thirty in (p .3, omega arith, omega arith, omega arith, omega arith)
+loop-holds c = let e = c .before .directory-sectors .ensures in let t = c .before .before .before .before .before .pre .0 .thirty in
+    (c .before .before .before .before .before .pre .3, omega arith, omega arith, omega arith, omega arith)
 
 visit-requires : tie.Need-visit-requires Inv-loop μ-loop
-visit-requires c κs =
-    let c₃ = c .before .before .before in let l = c₃ .loop in
-    let c₅ = c₃ .before .before in let directory-sectors = c₅ .directory-sectors in
-    let c₉ = c₅ .before .before .before .before in let p = c₉ .pre in
-    let z = l .inv in let q1 = z .1 in let q2 = z .2 in let q3 = z .3 in let q4 = z .4 in let e = directory-sectors .ensures in
-    (p .0, p .1, record { low = omega arith; held = omega arith }, omega arith, z .0)
+visit-requires c κs = let z = c .before .before .before .loop .inv in let q1 = z .1 in let q2 = z .2 in let q3 = z .3 in let q4 = z .4 in
+    let e = c .before .before .before .before .before .directory-sectors .ensures in (
+      c .before .before .before .before .before .before .before .before .before .pre .0,
+      c .before .before .before .before .before .before .before .before
+          .before .pre .1,
+      record { low = omega arith; held = omega arith },
+      omega arith,
+      z .0,
+    )
 
 same-length : tie.Need-same-length Inv-loop μ-loop
-same-length c =
-    let c₄ = c .before .before .before .before in let head = c₄ .head in
-    let c₉ = c₄ .before .before .before .before .before in let l = c₉ .loop in
-    let c₁₅ = c₉ .before .before .before .before .before .before in let p = c₁₅ .pre in
-    let a = l .inv .0 .lists .heads in let b = p .3 .lists .heads in let h = head .given in omega arith
+same-length c = let a = c .before .before .before .before .before .before .before .before .before .loop .inv .0 .lists .heads in
+    let b = c .before .before .before .before .before .before .before .before .before .before .before .before .before .before .before .pre .3 .lists .heads in
+    let h = c .before .before .before .before .head .given in omega arith
 
 same-length-2 : tie.Need-same-length-2 Inv-loop μ-loop
-same-length-2 c =
-    let c₉ = c .before .before .before .before .before .before .before .before .before in let l = c₉ .loop in
-    let c₁₅ = c₉ .before .before .before .before .before .before in let p = c₁₅ .pre in
-    let a = l .inv .0 .lists .nexts in let b = p .3 .lists .nexts in let h = c .before .before .next .given in omega arith
+same-length-2 c = let a = c .before .before .before .before .before .before .before .before .before .loop .inv .0 .lists .nexts in
+    let b = c .before .before .before .before .before .before .before .before .before .before .before .before .before .before .before .pre .3 .lists .nexts in
+    let h = c .before .before .next .given in omega arith
 
 returns : tie.Need-returns Inv-loop μ-loop
 returns c =
@@ -76,49 +75,49 @@ returns c =
     row-found (a .g) (a .image .now) (a .row) (visit .ensures) (c .if1 .taken)
 
 add-at-3 : tie.Need-add-at-3 Inv-loop μ-loop
-add-at-3 c =
-    let c₉ = c .before .before .before .before .before .before .before .before .before in let l = c₉ .loop in
-    let c₁₁ = c₉ .before .before in let directory-sectors = c₁₁ .directory-sectors in
-    let c₁₅ = c₁₁ .before .before .before .before in let p = c₁₅ .pre in
-    let z = l .inv in let q1 = z .1 in let q2 = z .2 in let q3 = z .3 in let q4 = z .4 in let e = directory-sectors .ensures in let r = p .0 .directory in
-    let q = p .0 .most in let d = p .2 in omega arith
+add-at-3 c = let z = c .before .before .before .before .before .before .before .before .before .loop .inv in let q1 = z .1 in let q2 = z .2 in
+    let q3 = z .3 in let q4 = z .4 in
+    let e = c .before .before .before .before .before .before .before .before .before .before .before .directory-sectors .ensures in
+    let r = c .before .before .before .before .before .before .before .before .before .before .before .before .before .before .before .pre .0 .directory in
+    let q = c .before .before .before .before .before .before .before .before .before .before .before .before .before .before .before .pre .0 .most in
+    let d = c .before .before .before .before .before .before .before .before .before .before .before .before .before .before .before .pre .2 in omega arith
 
 add-s : tie.Need-add-s Inv-loop μ-loop
-add-s c =
-    let c₉ = c .before .before .before .before .before .before .before .before .before in let l = c₉ .loop in
-    let c₁₁ = c₉ .before .before in let directory-sectors = c₁₁ .directory-sectors in
-    let z = l .inv in let q1 = z .1 in let q2 = z .2 in let q3 = z .3 in let q4 = z .4 in let e = directory-sectors .ensures in omega arith
+add-s c = let z = c .before .before .before .before .before .before .before .before .before .loop .inv in let q1 = z .1 in let q2 = z .2 in let q3 = z .3 in
+    let q4 = z .4 in let e = c .before .before .before .before .before .before .before .before .before .before .before .directory-sectors .ensures in
+    omega arith
 
 loop-less : tie.Need-loop-less Inv-loop μ-loop
-loop-less c =
-    let c₉ = c .before .before .before .before .before .before .before .before .before in let l = c₉ .loop in
-    let c₁₁ = c₉ .before .before in let directory-sectors = c₁₁ .directory-sectors in
-    let z = l .inv in let q1 = z .1 in let q2 = z .2 in let q3 = z .3 in let q4 = z .4 in let e = directory-sectors .ensures in omega arith
+loop-less c = let z = c .before .before .before .before .before .before .before .before .before .loop .inv in let q1 = z .1 in let q2 = z .2 in
+    let q3 = z .3 in let q4 = z .4 in
+    let e = c .before .before .before .before .before .before .before .before .before .before .before .directory-sectors .ensures in omega arith
 
 loop-again : tie.Need-loop-again Inv-loop μ-loop
-loop-again c =
-    let c₅ = c .before .before .before .before .before in let visit = c₅ .visit in
-    let c₉ = c₅ .before .before .before .before in let l = c₉ .loop in
-    let c₁₁ = c₉ .before .before in let directory-sectors = c₁₁ .directory-sectors in
-    let z = l .inv in let q1 = z .1 in let q2 = z .2 in let q3 = z .3 in let q4 = z .4 in let e = directory-sectors .ensures in
-    (visit .ensures .good (not-false (visit .result) (c .if1 .left)), omega arith, omega arith, omega arith, omega arith)
+loop-again c = let z = c .before .before .before .before .before .before .before .before .before .loop .inv in let q1 = z .1 in let q2 = z .2 in
+    let q3 = z .3 in let q4 = z .4 in
+    let e = c .before .before .before .before .before .before .before .before .before .before .before .directory-sectors .ensures in (
+      c .before .before .before .before .before .visit .ensures .good (not-false (c .before .before .before .before .before .visit .result) (c .if1 .left)),
+      omega arith,
+      omega arith,
+      omega arith,
+      omega arith,
+    )
 
 same-length-3 : tie.Need-same-length-3 Inv-loop μ-loop
-same-length-3 c =
-    let c₇ = c .before .before .before .before .before .before .before in let p = c₇ .pre in
-    let a = c .before .loop .inv .0 .lists .heads in let b = p .3 .lists .heads in omega arith
+same-length-3 c = let a = c .before .loop .inv .0 .lists .heads in let b = c .before .before .before .before .before .before .before .pre .3 .lists .heads in
+    omega arith
 
 same-length-4 : tie.Need-same-length-4 Inv-loop μ-loop
-same-length-4 c =
-    let c₇ = c .before .before .before .before .before .before .before in let p = c₇ .pre in
-    let a = c .before .loop .inv .0 .lists .nexts in let b = p .3 .lists .nexts in omega arith
+same-length-4 c = let a = c .before .loop .inv .0 .lists .nexts in let b = c .before .before .before .before .before .before .before .pre .3 .lists .nexts in
+    omega arith
 
 returns-2 : tie.Need-returns-2 Inv-loop μ-loop
-returns-2 c =
-    let c₃ = c .before .before .before in let directory-sectors = c₃ .directory-sectors in
-    let c₇ = c₃ .before .before .before .before in let a = c₇ .args in let p = c₇ .pre in
-    let z = c .before .loop .inv in let q1 = z .1 in let q2 = z .2 in let q3 = z .3 in let q4 = z .4 in let e = directory-sectors .ensures in
-    row-end (a .g) (a .image .now) (a .row) (c .before .loop .s) (c .before .loop .head) (c .before .loop .next) (p .0) (z .0) (p .2) e (omega arith)
+returns-2 c = let z = c .before .loop .inv in let q1 = z .1 in let q2 = z .2 in let q3 = z .3 in let q4 = z .4 in
+    let e = c .before .before .before .directory-sectors .ensures in
+    row-end (c .before .before .before .before .before .before .before .args .g) (c .before .before .before .before .before .before .before .args .image .now)
+    (c .before .before .before .before .before .before .before .args .row) (c .before .loop .s) (c .before .loop .head) (c .before .loop .next)
+    (c .before .before .before .before .before .before .before .pre .0) (z .0) (c .before .before .before .before .before .before .before .pre .2) e
+    (omega arith)
 
 pub row-differs-spec : {M : Type 1} → statement M
 row-differs-spec =

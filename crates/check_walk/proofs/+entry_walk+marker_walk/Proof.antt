@@ -233,13 +233,19 @@ entry-walk-marker-walk-requires : (t : ℕ) → entry-walk-lts.Need-marker-walk-
   marker-walk-below t,
   marker-walk.Post,
 ) (entry-walk-at t) entry-walk.Post
-entry-walk-marker-walk-requires t c κs =
-    let c₃ = c .before .before .before in let if4 = c₃ .if4 in
-    let c₄ = c₃ .before in let field-at = c₄ .field-at in
-    let c₅ = c₄ .before in let if3 = c₅ .if3 in
-    let c₇ = c₅ .before .before in let take-runs = c₇ .take-runs in
-    let c₁₃ = c₇ .before .before .before .before .before .before in let p = c₁₃ .pre in
-    (omega arith, (p .1 .0, p .1 .1, take-runs .ensures .runs-is (not-false _ (if3 .left)), omega arith, λ z. if4 .left (field-at .ensures .is ∙ z)))
+entry-walk-marker-walk-requires t c κs = (
+  omega arith,
+  (
+    c .before .before .before .before .before .before .before .before .before .before .before .before .before .pre .1 .0,
+    c .before .before .before .before
+        .before .before .before .before .before .before .before .before .before .pre .1 .1,
+    c .before .before .before .before .before .before .before .take-runs
+        .ensures .runs-is (not-false _ (c .before .before .before .before .before .if3 .left)),
+    omega arith,
+    λ z. c .before .before .before .if4 .left
+        (c .before .before .before .before .field-at .ensures .is ∙ z),
+  ),
+)
 
 entry-walk-returns-5 : (t : ℕ) → entry-walk-lts.Need-returns-5 (
   take-runs-reads.Asked,
@@ -321,9 +327,10 @@ marker-walk-entry-walk-requires : (t : ℕ) → marker-walk-lts.Need-entry-walk-
   entry-walk-below t,
   entry-walk.Post,
 ) (marker-walk-at t) marker-walk.Post
-marker-walk-entry-walk-requires t c κs =
-    let c₇ = c .before .before .before .before .before .before .before in let p = c₇ .pre in
-    (omega arith, (p .1 .0, c .before .before .entry-at .ensures, omega arith))
+marker-walk-entry-walk-requires t c κs = (
+  omega arith,
+  (c .before .before .before .before .before .before .before .pre .1 .0, c .before .before .entry-at .ensures, omega arith),
+)
 
 marker-walk-returns-2 : (t : ℕ) → marker-walk-lts.Need-returns-2 (
   goes-on-reads.Asked,

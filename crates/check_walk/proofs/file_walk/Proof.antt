@@ -37,9 +37,11 @@ granule-sectors-requires : tie.Need-granule-sectors-requires
 granule-sectors-requires c κs = search needs
 
 mul-result : tie.Need-mul-result
-mul-result c =
-    let c₆ = c .before .before .before .before .before .before in let take-runs = c₆ .take-runs in
-    omega (arith, mul-le-mul (c .before .granule-sectors .ensures .few) (take-runs .ensures .few))
+mul-result c = omega (
+  arith,
+  mul-le-mul (c .before .granule-sectors .ensures .few)
+      (c .before .before .before .before .before .before .take-runs .ensures .few),
+)
 
 returns-3 : tie.Need-returns-3
 returns-3 c =
@@ -55,12 +57,16 @@ sub-marker-walk : tie.Need-sub-marker-walk
 sub-marker-walk c = search needs
 
 marker-walk-requires : tie.Need-marker-walk-requires
-marker-walk-requires c κs =
-    let c₃ = c .before .before .before in let field-at = c₃ .field-at in
-    let c₄ = c₃ .before in let if2 = c₄ .if2 in
-    let c₆ = c₄ .before .before in let take-runs = c₆ .take-runs in
-    let c₁₁ = c₆ .before .before .before .before .before in let p = c₁₁ .pre in
-    (p .0, p .1, take-runs .ensures .runs-is (not-false _ (if2 .left)), omega arith, λ z. c .before .before .if3 .left (field-at .ensures .is ∙ z))
+marker-walk-requires c κs = (
+  c .before .before .before .before .before .before .before .before .before .before .before .pre .0,
+  c .before .before .before
+      .before .before .before .before .before .before .before .before .pre .1,
+  c .before .before .before .before .before .before .take-runs .ensures .runs-is
+      (not-false _ (c .before .before .before .before .if2 .left)),
+  omega arith,
+  λ z. c .before .before .if3 .left
+      (c .before .before .before .field-at .ensures .is ∙ z),
+)
 
 returns-4 : tie.Need-returns-4
 returns-4 c =

@@ -39,39 +39,42 @@ add-if1 : tie.Need-add-if1
 add-if1 c = search needs
 
 returns : tie.Need-returns
-returns c =
-    let c₄ = c .before .before .before .before in let field-at2 = c₄ .field-at2 in
-    let c₅ = c₄ .before in let field-at = c₅ .field-at in
-    let c₇ = c₅ .before .before in let a = c₇ .args in
-    takes-disk _ _ _ _ _ (field-at .ensures .is) (field-at2 .ensures .is) refl
-    (let q = block-out (a .g) (field-at2 .result) (field-at .result / 32 + (1 + field-at .result % 32)) (c .if2 .taken) (omega arith) in omega arith)
+returns c = takes-disk _ _ _ _ _ (c .before .before .before .before .before .field-at .ensures .is)
+    (c .before .before .before .before .field-at2 .ensures .is) refl
+    (let q = block-out (c .before .before .before .before .before .before .before .args .g) (c .before .before .before .before .field-at2 .result)
+    (c .before .before .before .before .before .field-at .result / 32 + (1 + c .before .before .before .before .before .field-at .result % 32))
+    (c .if2 .taken) (omega arith) in omega arith)
 
 take-units-requires : tie.Need-take-units-requires
-take-units-requires c κs =
-    let c₃ = c .before .before .before in let if1 = c₃ .if1 in
-    let c₈ = c₃ .before .before .before .before .before in let p = c₈ .pre in
-    ((let b = p .0 .blocks-high in omega arith), (let q = if1 .taken in omega arith), p .0 .units-high, omega arith)
+take-units-requires c κs = (
+  (let b = (c .before .before .before .before .before .before .before .before .pre) .0 .blocks-high in omega arith),
+  (let q = c .before .before .before .if1 .taken in omega arith),
+  (c .before .before .before .before .before .before .before .before .pre) .0 .units-high,
+  omega arith,
+)
 
 returns-2 : tie.Need-returns-2
-returns-2 c =
-    let c₅ = c .before .before .before .before .before in let if1 = c₅ .if1 in
-    let c₇ = c₅ .before .before in let field-at2 = c₇ .field-at2 in
-    let c₈ = c₇ .before in let field-at = c₈ .field-at in
-    let c₁₀ = c₈ .before .before in let a = c₁₀ .args in
-    takes-map _ _ _ _ _ (field-at .ensures .is) (field-at2 .ensures .is)
-    (takes-marks _ _ (let q = block-in (a .g) (field-at2 .result) (field-at .result / 32 + (1 + field-at .result % 32)) (omega arith) (if1 .taken) in
-    omega arith) (c .before .take-units .ensures)) (c .if3 .taken)
+returns-2 c = takes-map _ _ _ _ _ (c .before .before .before .before .before .before .before .before .field-at .ensures .is)
+    (c .before .before .before .before .before .before .before .field-at2 .ensures .is)
+    (takes-marks _ _ (let q = block-in (c .before .before .before .before .before .before .before .before .before .before .args .g)
+    (c .before .before .before .before .before .before .before .field-at2 .result)
+    (c .before .before .before .before .before .before .before .before .field-at .result / 32 +
+    (1 + c .before .before .before .before .before .before .before .before .field-at .result % 32)) (omega arith)
+    (c .before .before .before .before .before .if1 .taken) in omega arith) (c .before .take-units .ensures)) (c .if3 .taken)
 
 returns-3 : tie.Need-returns-3
-returns-3 c =
-    let c₅ = c .before .before .before .before .before in let if1 = c₅ .if1 in
-    let c₇ = c₅ .before .before in let field-at2 = c₇ .field-at2 in
-    let c₈ = c₇ .before in let field-at = c₈ .field-at in
-    let c₁₀ = c₈ .before .before in let a = c₁₀ .args in
-    takes-run _ _ _ _ _ (field-at .ensures .is) (field-at2 .ensures .is) refl (omega arith)
-    (let q = block-in (a .g) (field-at2 .result) (field-at .result / 32 + (1 + field-at .result % 32)) (omega arith) (if1 .taken) in omega arith)
-    (takes-marks _ _ (let q = block-in (a .g) (field-at2 .result) (field-at .result / 32 + (1 + field-at .result % 32)) (omega arith) (if1 .taken) in
-    omega arith) (c .before .take-units .ensures)) (c .if3 .left)
+returns-3 c = takes-run _ _ _ _ _ (c .before .before .before .before .before .before .before .before .field-at .ensures .is)
+    (c .before .before .before .before .before .before .before .field-at2 .ensures .is) refl (omega arith)
+    (let q = block-in (c .before .before .before .before .before .before .before .before .before .before .args .g)
+    (c .before .before .before .before .before .before .before .field-at2 .result)
+    (c .before .before .before .before .before .before .before .before .field-at .result / 32 +
+    (1 + c .before .before .before .before .before .before .before .before .field-at .result % 32)) (omega arith)
+    (c .before .before .before .before .before .if1 .taken) in omega arith)
+    (takes-marks _ _ (let q = block-in (c .before .before .before .before .before .before .before .before .before .before .args .g)
+    (c .before .before .before .before .before .before .before .field-at2 .result)
+    (c .before .before .before .before .before .before .before .before .field-at .result / 32 +
+    (1 + c .before .before .before .before .before .before .before .before .field-at .result % 32)) (omega arith)
+    (c .before .before .before .before .before .if1 .taken) in omega arith) (c .before .take-units .ensures)) (c .if3 .left)
 
 returns-4 : tie.Need-returns-4
 returns-4 c =
@@ -82,22 +85,25 @@ granules-requires : tie.Need-granules-requires
 granules-requires c κs = search needs
 
 mul-if5 : tie.Need-mul-if5
-mul-if5 c =
-    let c₆ = c .before .before .before .before .before .before in let field-at2 = c₆ .field-at2 in
-    let c₉ = c₆ .before .before .before in let a = c₉ .args in
-    omega (arith, below (field-at2 .result) (a .g .units) 255 8 (omega arith) (omega arith))
+mul-if5 c = omega (
+  arith,
+  below (c .before .before .before .before .before .before .field-at2 .result)
+      (c .before .before .before .before .before .before .before .before .before .args .g .units) 255 8 (omega arith) (omega arith),
+)
 
 add-if5 : tie.Need-add-if5
-add-if5 c =
-    let c₆ = c .before .before .before .before .before .before in let field-at2 = c₆ .field-at2 in
-    let c₉ = c₆ .before .before .before in let a = c₉ .args in
-    omega (arith, below (field-at2 .result) (a .g .units) 255 8 (omega arith) (omega arith))
+add-if5 c = omega (
+  arith,
+  below (c .before .before .before .before .before .before .field-at2 .result)
+      (c .before .before .before .before .before .before .before .before .before .args .g .units) 255 8 (omega arith) (omega arith),
+)
 
 add-if5-2 : tie.Need-add-if5-2
-add-if5-2 c =
-    let c₆ = c .before .before .before .before .before .before in let field-at2 = c₆ .field-at2 in
-    let c₉ = c₆ .before .before .before in let a = c₉ .args in
-    omega (arith, below (field-at2 .result) (a .g .units) 255 8 (omega arith) (omega arith))
+add-if5-2 c = omega (
+  arith,
+  below (c .before .before .before .before .before .before .field-at2 .result)
+      (c .before .before .before .before .before .before .before .before .before .args .g .units) 255 8 (omega arith) (omega arith),
+)
 
 returns-5 : tie.Need-returns-5
 returns-5 c =
@@ -106,36 +112,29 @@ returns-5 c =
     takes-disk _ _ _ _ _ (field-at .ensures .is) (field-at2 .ensures .is) (c .before .before .granules .ensures .0) (c .if5 .taken)
 
 take-long-requires : tie.Need-take-long-requires
-take-long-requires c κs =
-    let c₃ = c .before .before .before in let granules = c₃ .granules in
-    let c₄ = c₃ .before in let if4 = c₄ .if4 in
-    let c₁₁ = c₄ .before .before .before .before .before .before .before in let p = c₁₁ .pre in (
-      if4 .left,
-      p .0 .units-high,
-      on-map _ _ _ ((p) .0) (let q = granules .ensures .0 in let w = c .before .if5 .left in omega arith),
-      omega arith,
-      omega
-          arith,
-    )
+take-long-requires c κs = (
+  c .before .before .before .before .if4 .left,
+  (c .before .before .before .before .before .before .before .before .before .before .before .pre) .0 .units-high,
+  on-map _ _ _
+      ((c .before .before .before .before .before .before .before .before .before .before .before .pre) .0)
+      (let q = c .before .before .before .granules .ensures .0 in let w = c .before .if5 .left in omega arith),
+  omega arith,
+  omega arith,
+)
 
 returns-6 : tie.Need-returns-6
-returns-6 c =
-    let c₃ = c .before .before .before in let if5 = c₃ .if5 in
-    let c₅ = c₃ .before .before in let granules = c₅ .granules in
-    let c₁₀ = c₅ .before .before .before .before .before in let field-at2 = c₁₀ .field-at2 in
-    let c₁₁ = c₁₀ .before in let field-at = c₁₁ .field-at in
-    takes-map _ _ _ _ _ (field-at .ensures .is) (field-at2 .ensures .is)
-    (takes-marks _ _ (let q = granules .ensures .0 in let w = if5 .left in omega arith) (c .before .take-long .ensures)) (c .if6 .taken)
+returns-6 c = takes-map _ _ _ _ _ (c .before .before .before .before .before .before .before .before .before .before .before .field-at .ensures .is)
+    (c .before .before .before .before .before .before .before .before .before .before .field-at2 .ensures .is)
+    (takes-marks _ _ (let q = c .before .before .before .before .before .granules .ensures .0 in let w = c .before .before .before .if5 .left in omega arith)
+    (c .before .take-long .ensures)) (c .if6 .taken)
 
 returns-7 : tie.Need-returns-7
-returns-7 c =
-    let c₃ = c .before .before .before in let if5 = c₃ .if5 in
-    let c₅ = c₃ .before .before in let granules = c₅ .granules in
-    let c₆ = c₅ .before in let if4 = c₆ .if4 in
-    let c₁₀ = c₆ .before .before .before .before in let field-at2 = c₁₀ .field-at2 in
-    let c₁₁ = c₁₀ .before in let field-at = c₁₁ .field-at in
-    takes-run _ _ _ _ _ (field-at .ensures .is) (field-at2 .ensures .is) (granules .ensures .0) (if4 .left) (if5 .left)
-    (takes-marks _ _ (let q = granules .ensures .0 in let w = if5 .left in omega arith) (c .before .take-long .ensures)) (c .if6 .left)
+returns-7 c = takes-run _ _ _ _ _ (c .before .before .before .before .before .before .before .before .before .before .before .field-at .ensures .is)
+    (c .before .before .before .before .before .before .before .before .before .before .field-at2 .ensures .is)
+    (c .before .before .before .before .before .granules .ensures .0) (c .before .before .before .before .before .before .if4 .left)
+    (c .before .before .before .if5 .left) (takes-marks _ _
+    (let q = c .before .before .before .before .before .granules .ensures .0 in let w = c .before .before .before .if5 .left in omega arith)
+    (c .before .take-long .ensures)) (c .if6 .left)
 
 pub take-run-spec : {M : Type 1} → statement M
 take-run-spec =

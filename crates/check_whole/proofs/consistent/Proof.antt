@@ -32,11 +32,11 @@ directory-bits-requires c κs =
     (room-of _ _ p (is-yes (c .before .before .length-holds .ensures) (c .before .if1 .left)), c .directory-from .ensures)
 
 gat-map-requires : tie.Need-gat-map-requires
-gat-map-requires c κs =
-    let c₃ = c .before .before .before in let if1 = c₃ .if1 in
-    let c₄ = c₃ .before in let length-holds = c₄ .length-holds in
-    let c₆ = c₄ .before .before in let p = c₆ .pre in
-    (room-of _ _ p (is-yes (length-holds .ensures) (if1 .left)), search needs)
+gat-map-requires c κs = (
+  room-of _ _ (c .before .before .before .before .before .before .pre)
+      (is-yes (c .before .before .before .before .length-holds .ensures) (c .before .before .before .if1 .left)),
+  search needs,
+)
 
 among-requires : tie.Need-among-requires
 among-requires c κs =
@@ -54,11 +54,12 @@ returns-2 c =
     (c .if2 .taken)
 
 copy-hit-requires : tie.Need-copy-hit-requires
-copy-hit-requires c κs =
-    let c₈ = c .before .before .before .before .before .before .before .before in let if1 = c₈ .if1 in
-    let c₉ = c₈ .before in let length-holds = c₉ .length-holds in
-    let c₁₁ = c₉ .before .before in let p = c₁₁ .pre in
-    (room-of _ _ p (is-yes (length-holds .ensures) (if1 .left)), search needs)
+copy-hit-requires c κs = (
+  room-of _ _ (c .before .before .before .before .before .before .before .before .before .before .before .pre)
+      (is-yes (c .before .before .before .before .before .before .before .before .before .length-holds .ensures)
+      (c .before .before .before .before .before .before .before .before .if1 .left)),
+  search needs,
+)
 
 slots-hold-requires : tie.Need-slots-hold-requires
 slots-hold-requires c κs =

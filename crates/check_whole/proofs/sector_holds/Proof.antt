@@ -34,9 +34,12 @@ loop-holds : tie.Need-loop-holds Inv-loop μ-loop
 loop-holds c = (seeing-start _ _ _ _ (column-are (omega arith)), omega arith, omega arith)
 
 slot-holds-requires : tie.Need-slot-holds-requires Inv-loop μ-loop
-slot-holds-requires c κs =
-    let c₆ = c .before .before .before .before .before .before in let p = c₆ .pre in
-    (p .0, record { slot = record { low = omega arith; held = omega arith }; is = omega arith }, p .2)
+slot-holds-requires c κs = (
+  c .before .before .before .before .before .before .pre .0,
+  record
+      { slot = record { low = omega arith; held = omega arith }; is = omega arith },
+  c .before .before .before .before .before .before .pre .2,
+)
 
 returns : tie.Need-returns Inv-loop μ-loop
 returns c =
@@ -54,13 +57,13 @@ loop-less : tie.Need-loop-less Inv-loop μ-loop
 loop-less c = omega arith
 
 loop-again : tie.Need-loop-again Inv-loop μ-loop
-loop-again c =
-    let c₄ = c .before .before .before .before in let loop-test = c₄ .loop-test in
-    let c₅ = c₄ .before in let l = c₅ .loop in (
-      seeing-step _ _ (l .s ∷ []) _ (seeing-as _ _ (l .inv .0) (column-more (loop-test .taken))) (c .before .slot-holds .ensures) (not-false _ (c .if1 .left)),
-      omega arith,
-      omega arith,
-    )
+loop-again c = (
+  seeing-step _ _ (c .before .before .before .before .before .loop .s ∷ []) _
+      (seeing-as _ _ (c .before .before .before .before .before .loop .inv .0) (column-more (c .before .before .before .before .loop-test .taken)))
+      (c .before .slot-holds .ensures) (not-false _ (c .if1 .left)),
+  omega arith,
+  omega arith,
+)
 
 returns-2 : tie.Need-returns-2 Inv-loop μ-loop
 returns-2 c = seeing-end _ _ (seeing-as _ _ (c .before .loop .inv .0) (column-none (c .loop-test .left)))

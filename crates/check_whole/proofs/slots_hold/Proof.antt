@@ -30,9 +30,12 @@ loop-holds : tie.Need-loop-holds Inv-loop μ-loop
 loop-holds c = seeing-start _ _ _ _ (sectors-are _ _ (c .directory-sectors .ensures))
 
 sector-holds-requires : tie.Need-sector-holds-requires Inv-loop μ-loop
-sector-holds-requires c κs =
-    let c₆ = c .before .before .before .before .before .before in let p = c₆ .pre in
-    (p .0, omega arith, p .1)
+sector-holds-requires c κs = (
+  c .before .before .before .before .before .before .pre .0,
+  omega arith,
+  c .before .before .before .before .before .before .pre
+      .1,
+)
 
 returns : tie.Need-returns Inv-loop μ-loop
 returns c =

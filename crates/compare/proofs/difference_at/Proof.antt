@@ -10,17 +10,18 @@ use Rattle.compare.proofs.name_only.Reads as name-only-reads
 use Rattle.compare.proofs.unlike.Reads as unlike-reads
 
 name-only-requires : tie.Need-name-only-requires
-name-only-requires c κs =
-    let c₄ = c .before .before .before .before in let p = c₄ .pre in
-    let k = c .if1 .taken in (p .0 .sound .room, p .2 .first′ (λ q. omega arith) .slot)
+name-only-requires c κs = let k = c .if1 .taken in
+    (c .before .before .before .before .pre .0 .sound .room, c .before .before .before .before .pre .2 .first′ (λ q. omega arith) .slot)
 
 returns : tie.Need-returns
 returns c = diff-first _ _ _ _ _ (c .before .if1 .taken) (c .name-only .ensures)
 
 name-only-requires-2 : tie.Need-name-only-requires-2
-name-only-requires-2 c κs =
-    let c₆ = c .before .before .before .before .before .before in let p = c₆ .pre in
-    let k = c .if2 .taken in (p .1 .sound .room, p .2 .second′ (λ q. omega arith) .slot)
+name-only-requires-2 c κs = let k = c .if2 .taken in (
+  c .before .before .before .before .before .before .pre .1 .sound .room,
+  c .before .before .before .before .before .before .pre .2 .second′
+      (λ q. omega arith) .slot,
+)
 
 returns-2 : tie.Need-returns-2
 returns-2 c = diff-second _ _ _ _ _ (c .before .if2 .taken) (c .name-only2 .ensures)

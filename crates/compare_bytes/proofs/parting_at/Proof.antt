@@ -41,17 +41,15 @@ place-requires-2 c κs = let p = c .before .before .before .before .before .befo
     (p .1 .sound, used _ _ _ (p .1) (p .3), omega (arith, c .before .before .before .before .least .ensures .1, p .7, c .before .before .loop-test .taken))
 
 add-pe : tie.Need-add-pe Inv-loop μ-loop
-add-pe c =
-    let c₅ = c .before .before .before .before .before in let least = c₅ .least in
-    let c₈ = c₅ .before .before .before in let p = c₈ .pre in
-    let u = turn _ _ _ _ _ _ _ _ p (least .ensures .0) (least .ensures .1) (c .before .before .in-both .ensures) in
+add-pe c = let u = turn _ _ _ _ _ _ _ _ (c .before .before .before .before .before .before .before .before .pre)
+    (c .before .before .before .before .before .least .ensures .0) (c .before .before .before .before .before .least .ensures .1)
+    (c .before .before .in-both .ensures) in
     omega (arith, c .before .place .ensures, u .fits)
 
 add-qe : tie.Need-add-qe Inv-loop μ-loop
-add-qe c =
-    let c₅ = c .before .before .before .before .before in let least = c₅ .least in
-    let c₈ = c₅ .before .before .before in let p = c₈ .pre in
-    let u = turn _ _ _ _ _ _ _ _ p (least .ensures .0) (least .ensures .1) (c .before .before .in-both .ensures) in
+add-qe c = let u = turn _ _ _ _ _ _ _ _ (c .before .before .before .before .before .before .before .before .pre)
+    (c .before .before .before .before .before .least .ensures .0) (c .before .before .before .before .before .least .ensures .1)
+    (c .before .before .in-both .ensures) in
     omega (arith, c .place2 .ensures, u .fits′)
 
 sub-alike : tie.Need-sub-alike Inv-loop μ-loop
@@ -61,10 +59,9 @@ part-alike-start : tie.Need-part-alike-start Inv-loop μ-loop
 part-alike-start c = search needs
 
 part-alike-end : tie.Need-part-alike-end Inv-loop μ-loop
-part-alike-end c =
-    let c₅ = c .before .before .before .before .before in let least = c₅ .least in
-    let c₈ = c₅ .before .before .before in let p = c₈ .pre in
-    let u = turn _ _ _ _ _ _ _ _ p (least .ensures .0) (least .ensures .1) (c .before .before .in-both .ensures) in
+part-alike-end c = let u = turn _ _ _ _ _ _ _ _ (c .before .before .before .before .before .before .before .before .pre)
+    (c .before .before .before .before .before .least .ensures .0) (c .before .before .before .before .before .least .ensures .1)
+    (c .before .before .in-both .ensures) in
     omega (arith, c .before .place .ensures, u .fits)
 
 sub-alike-2 : tie.Need-sub-alike-2 Inv-loop μ-loop
@@ -74,11 +71,10 @@ part-alike-start-2 : tie.Need-part-alike-start-2 Inv-loop μ-loop
 part-alike-start-2 c = search needs
 
 part-alike-end-2 : tie.Need-part-alike-end-2 Inv-loop μ-loop
-part-alike-end-2 c =
-    let c₃ = c .before .before .before in let in-both = c₃ .in-both in
-    let c₆ = c₃ .before .before .before in let least = c₆ .least in
-    let c₉ = c₆ .before .before .before in let p = c₉ .pre in
-    let u = turn _ _ _ _ _ _ _ _ p (least .ensures .0) (least .ensures .1) (in-both .ensures) in omega (arith, c .before .place2 .ensures, u .fits′)
+part-alike-end-2 c = let u = turn _ _ _ _ _ _ _ _ (c .before .before .before .before .before .before .before .before .before .pre)
+    (c .before .before .before .before .before .before .least .ensures .0) (c .before .before .before .before .before .before .least .ensures .1)
+    (c .before .before .before .in-both .ensures) in
+    omega (arith, c .before .place2 .ensures, u .fits′)
 
 alike-requires : tie.Need-alike-requires Inv-loop μ-loop
 alike-requires c κs = let a = c .before .before .before .before .before .before .before .before .before .before .args in
@@ -93,16 +89,17 @@ add-result : tie.Need-add-result Inv-loop μ-loop
 add-result c = search needs
 
 returns : tie.Need-returns Inv-loop μ-loop
-returns c =
-    let c₄ = c .before .before .before .before in let place2 = c₄ .place2 in
-    let c₅ = c₄ .before in let place = c₅ .place in
-    let c₆ = c₅ .before in let in-both = c₆ .in-both in
-    let c₈ = c₆ .before .before in let l = c₈ .loop in
-    let c₉ = c₈ .before in let least = c₉ .least in
-    let c₁₂ = c₉ .before .before .before in let p = c₁₂ .pre in
-    let u = turn _ _ _ _ _ _ _ _ p (least .ensures .0) (least .ensures .1) (in-both .ensures) in
-    matches-stop _ _ _ _ _ _ _ _ _ (l .i) (in-both .result) (least .ensures .0) (least .ensures .1) (omega (arith, in-both .ensures .3))
-    (u .part (place .ensures)) (u .part′ (place2 .ensures)) (c .before .alike .ensures .0) (c .if1 .taken) (l .inv)
+returns c = let u = turn _ _ _ _ _ _ _ _ (c .before .before .before .before .before .before .before .before .before .before .before .before .pre)
+    (c .before .before .before .before .before .before .before .before .before .least .ensures .0)
+    (c .before .before .before .before .before .before .before .before .before .least .ensures .1)
+    (c .before .before .before .before .before .before .in-both .ensures) in
+    matches-stop _ _ _ _ _ _ _ _ _ (c .before .before .before .before .before .before .before .before .loop .i)
+    (c .before .before .before .before .before .before .in-both .result)
+    (c .before .before .before .before .before .before .before .before .before .least .ensures .0)
+    (c .before .before .before .before .before .before .before .before .before .least .ensures .1)
+    (omega (arith, c .before .before .before .before .before .before .in-both .ensures .3))
+    (u .part (c .before .before .before .before .before .place .ensures)) (u .part′ (c .before .before .before .before .place2 .ensures))
+    (c .before .alike .ensures .0) (c .if1 .taken) (c .before .before .before .before .before .before .before .before .loop .inv)
 
 add-i : tie.Need-add-i Inv-loop μ-loop
 add-i c = search needs
@@ -111,16 +108,17 @@ loop-less : tie.Need-loop-less Inv-loop μ-loop
 loop-less c = search needs
 
 loop-again : tie.Need-loop-again Inv-loop μ-loop
-loop-again c =
-    let c₄ = c .before .before .before .before in let place2 = c₄ .place2 in
-    let c₅ = c₄ .before in let place = c₅ .place in
-    let c₆ = c₅ .before in let in-both = c₆ .in-both in
-    let c₈ = c₆ .before .before in let l = c₈ .loop in
-    let c₉ = c₈ .before in let least = c₉ .least in
-    let c₁₂ = c₉ .before .before .before in let p = c₁₂ .pre in
-    let u = turn _ _ _ _ _ _ _ _ p (least .ensures .0) (least .ensures .1) (in-both .ensures) in
-    matches-on _ _ _ _ _ _ _ _ _ (l .i) (in-both .result) (least .ensures .0) (least .ensures .1) (omega (arith, in-both .ensures .3))
-    (u .part (place .ensures)) (u .part′ (place2 .ensures)) (c .before .alike .ensures .0) (c .if1 .left) (l .inv)
+loop-again c = let u = turn _ _ _ _ _ _ _ _ (c .before .before .before .before .before .before .before .before .before .before .before .before .pre)
+    (c .before .before .before .before .before .before .before .before .before .least .ensures .0)
+    (c .before .before .before .before .before .before .before .before .before .least .ensures .1)
+    (c .before .before .before .before .before .before .in-both .ensures) in
+    matches-on _ _ _ _ _ _ _ _ _ (c .before .before .before .before .before .before .before .before .loop .i)
+    (c .before .before .before .before .before .before .in-both .result)
+    (c .before .before .before .before .before .before .before .before .before .least .ensures .0)
+    (c .before .before .before .before .before .before .before .before .before .least .ensures .1)
+    (omega (arith, c .before .before .before .before .before .before .in-both .ensures .3))
+    (u .part (c .before .before .before .before .before .place .ensures)) (u .part′ (c .before .before .before .before .place2 .ensures))
+    (c .before .alike .ensures .0) (c .if1 .left) (c .before .before .before .before .before .before .before .before .loop .inv)
 
 returns-2 : tie.Need-returns-2 Inv-loop μ-loop
 returns-2 c = matches-end _ _ _ _ _ _ _ _ _ (c .before .before .least .ensures .0) (c .before .before .least .ensures .1)

@@ -30,9 +30,13 @@ returns-3 c =
     betters-none _ _ _ _ _ (is-yes (primary .ensures) (if1 .left)) (is-yes (c .before .before .is-after .ensures) (c .before .if2 .left)) (c .if3 .taken)
 
 slot-before-requires : tie.Need-slot-before-requires
-slot-before-requires c κs =
-    let c₇ = c .before .before .before .before .before .before .before in let p = c₇ .pre in
-    let n = c .if3 .left in let l = p .3 in (p .0, p .1, p .0, p .4 (omega arith) .slot)
+slot-before-requires c κs = let n = c .if3 .left in let l = c .before .before .before .before .before .before .before .pre .3 in (
+  c .before .before .before .before .before .before .before .pre .0,
+  c .before .before .before .before .before .before .before .pre .1,
+  c .before .before
+      .before .before .before .before .before .pre .0,
+  c .before .before .before .before .before .before .before .pre .4 (omega arith) .slot,
+)
 
 returns-4 : tie.Need-returns-4
 returns-4 c =

@@ -41,16 +41,15 @@ loop-again c = (
 )
 
 better-requires : tie.Need-better-requires Inv-loop μ-loop
-better-requires c κs =
-    let c₃ = c .before .before .before in let columns = c₃ .columns in
-    let c₆ = c₃ .before .before .before in let p = c₆ .pre in (
-      p .0,
-      record { low = c .before .loop-test .taken; held = let e = columns .ensures .is in let t = c .if1 .left in omega arith },
-      p .1,
-      c .before .before
-          .loop .inv .1 .low,
-      c .before .before .loop .inv .1 .is,
-    )
+better-requires c κs = (
+  c .before .before .before .before .before .before .pre .0,
+  record
+      { low = c .before .loop-test .taken; held = let e = c .before .before .before .columns .ensures .is in let t = c .if1 .left in omega arith },
+  c .before
+      .before .before .before .before .before .pre .1,
+  c .before .before .loop .inv .1 .low,
+  c .before .before .loop .inv .1 .is,
+)
 
 add-s-2 : tie.Need-add-s-2 Inv-loop μ-loop
 add-s-2 c = search needs
@@ -59,19 +58,18 @@ loop-less-2 : tie.Need-loop-less-2 Inv-loop μ-loop
 loop-less-2 c = search needs
 
 loop-again-2 : tie.Need-loop-again-2 Inv-loop μ-loop
-loop-again-2 c =
-    let c₃ = c .before .before .before in let loop-test = c₃ .loop-test in
-    let c₄ = c₃ .before in let l′ = c₄ .loop in
-    let c₅ = c₄ .before in let columns = c₅ .columns in
-    let l = loop-test .taken in (
-      omega arith,
-      ⊎-elim
-          (λ w. least-same _ _ _ (w .1) (least-yes _ _ _ (l′ .inv .1)
-          (record { low = l; held = let e = columns .ensures .is in let t = c .before .before .if1 .left in omega arith })
-          (sym (c .before .better .ensures) ∙ w .0 .taken)))
-          (λ w. least-same _ _ _ (w .1) (least-no _ _ _ (l′ .inv .1) (sym (c .before .better .ensures) ∙ w .0 .left)))
-          (c .if2 .came),
-    )
+loop-again-2 c = let l = c .before .before .before .loop-test .taken in (
+  omega arith,
+  ⊎-elim
+      (λ w. least-same _ _ _ (w .1) (least-yes _ _ _ (c .before .before .before .before .loop .inv .1)
+      (record {
+        low = l;
+        held = let e = c .before .before .before .before .before .columns .ensures .is in let t = c .before .before .if1 .left in omega
+            arith;
+      }) (sym (c .before .better .ensures) ∙ w .0 .taken)))
+      (λ w. least-same _ _ _ (w .1) (least-no _ _ _ (c .before .before .before .before .loop .inv .1) (sym (c .before .better .ensures) ∙ w .0 .left)))
+      (c .if2 .came),
+)
 
 returns : tie.Need-returns Inv-loop μ-loop
 returns c = least-end _ _ _ (c .loop-test .left) (c .before .loop .inv .1)

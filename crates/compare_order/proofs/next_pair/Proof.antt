@@ -22,64 +22,59 @@ returns c =
     none-left _ _ _ _ (p .0) (p .1) _ (next-file .ensures) (c .before .before .next-file2 .ensures) (c .before .if1 .taken) (c .if2 .taken)
 
 returns-2 : tie.Need-returns-2
-returns-2 c =
-    let c₃ = c .before .before .before in let next-file = c₃ .next-file in
-    let c₇ = c₃ .before .before .before .before in let p = c₇ .pre in
-    only-second _ _ _ _ (p .0) (p .1) _ (next-file .ensures) (c .before .before .next-file2 .ensures)
-    (let u = c .before .before .next-file2 .ensures .low in let n = c .if2 .left in omega arith)
+returns-2 c = only-second _ _ _ _ (c .before .before .before .before .before .before .before .pre .0)
+    (c .before .before .before .before .before .before .before .pre .1) _ (c .before .before .before .next-file .ensures)
+    (c .before .before .next-file2 .ensures) (let u = c .before .before .next-file2 .ensures .low in let n = c .if2 .left in omega arith)
     (λ l. absurd (let z = c .before .if1 .taken in let q : ⊥ = omega arith in q))
 
 returns-3 : tie.Need-returns-3
-returns-3 c =
-    let c₃ = c .before .before .before in let next-file = c₃ .next-file in
-    let c₇ = c₃ .before .before .before .before in let p = c₇ .pre in
-    only-first _ _ _ _ (p .0) (p .1) _ (next-file .ensures) (c .before .before .next-file2 .ensures)
-    (let u = next-file .ensures .low in let n = c .before .if1 .left in omega arith) (λ l. absurd (let z = c .if3 .taken in let q : ⊥ = omega arith in q))
+returns-3 c = only-first _ _ _ _ (c .before .before .before .before .before .before .before .pre .0)
+    (c .before .before .before .before .before .before .before .pre .1) _ (c .before .before .before .next-file .ensures)
+    (c .before .before .next-file2 .ensures) (let u = c .before .before .before .next-file .ensures .low in let n = c .before .if1 .left in omega arith)
+    (λ l. absurd (let z = c .if3 .taken in let q : ⊥ = omega arith in q))
 
 slot-before-requires : tie.Need-slot-before-requires
-slot-before-requires c κs =
-    let c₃ = c .before .before .before in let next-file = c₃ .next-file in
-    let c₇ = c₃ .before .before .before .before in let p = c₇ .pre in
-    let u = next-file .ensures .low in let v = c .before .before .next-file2 .ensures .low in let n = c .before .if1 .left in let m = c .if3 .left in
-    (p .0 .sound .room, next-file .ensures .is (omega arith) .slot, p .1 .sound .room, c .before .before .next-file2 .ensures .is (omega arith) .slot)
+slot-before-requires c κs = let u = c .before .before .before .next-file .ensures .low in let v = c .before .before .next-file2 .ensures .low in
+    let n = c .before .if1 .left in let m = c .if3 .left in (
+      c .before .before .before .before .before .before .before .pre .0 .sound .room,
+      c .before .before .before .next-file .ensures .is (omega arith) .slot,
+      c
+          .before .before .before .before .before .before .before .pre .1 .sound .room,
+      c .before .before .next-file2 .ensures .is (omega arith) .slot,
+    )
 
 returns-4 : tie.Need-returns-4
-returns-4 c =
-    let c₃ = c .before .before .before in let if1 = c₃ .if1 in
-    let c₄ = c₃ .before in let next-file2 = c₄ .next-file2 in
-    let c₅ = c₄ .before in let next-file = c₅ .next-file in
-    let c₉ = c₅ .before .before .before .before in let p = c₉ .pre in
-    only-first _ _ _ _ (p .0) (p .1) _ (next-file .ensures) (next-file2 .ensures) (let u = next-file .ensures .low in let n = if1 .left in omega arith)
-    (λ l. sym (c .before .slot-before .ensures) ∙ c .if4 .taken)
+returns-4 c = only-first _ _ _ _ (c .before .before .before .before .before .before .before .before .before .pre .0)
+    (c .before .before .before .before .before .before .before .before .before .pre .1) _ (c .before .before .before .before .before .next-file .ensures)
+    (c .before .before .before .before .next-file2 .ensures) (let u = c .before .before .before .before .before .next-file .ensures .low in let n = c .before
+    .before .before .if1 .left in omega arith) (λ l. sym (c .before .slot-before .ensures) ∙ c .if4 .taken)
 
 slot-before-requires-2 : tie.Need-slot-before-requires-2
-slot-before-requires-2 c κs =
-    let c₃ = c .before .before .before in let if1 = c₃ .if1 in
-    let c₄ = c₃ .before in let next-file2 = c₄ .next-file2 in
-    let c₅ = c₄ .before in let next-file = c₅ .next-file in
-    let c₉ = c₅ .before .before .before .before in let p = c₉ .pre in
-    let u = next-file .ensures .low in let v = next-file2 .ensures .low in let n = if1 .left in let m = c .before .before .if3 .left in
-    (p .1 .sound .room, next-file2 .ensures .is (omega arith) .slot, p .0 .sound .room, next-file .ensures .is (omega arith) .slot)
+slot-before-requires-2 c κs = let u = c .before .before .before .before .before .next-file .ensures .low in
+    let v = c .before .before .before .before .next-file2 .ensures .low in let n = c .before .before .before .if1 .left in
+    let m = c .before .before .if3 .left in (
+      c .before .before .before .before .before .before .before .before .before .pre .1 .sound .room,
+      c .before .before .before .before .next-file2 .ensures
+          .is (omega arith) .slot,
+      c .before .before .before .before .before .before .before .before .before .pre .0 .sound .room,
+      c .before .before .before
+          .before .before .next-file .ensures .is (omega arith) .slot,
+    )
 
 returns-5 : tie.Need-returns-5
-returns-5 c =
-    let c₄ = c .before .before .before .before in let if3 = c₄ .if3 in
-    let c₆ = c₄ .before .before in let next-file2 = c₆ .next-file2 in
-    let c₇ = c₆ .before in let next-file = c₇ .next-file in
-    let c₁₁ = c₇ .before .before .before .before in let p = c₁₁ .pre in
-    only-second _ _ _ _ (p .0) (p .1) _ (next-file .ensures) (next-file2 .ensures) (let u = next-file2 .ensures .low in let n = if3 .left in omega arith)
-    (λ l. sym (c .before .slot-before2 .ensures) ∙ c .if5 .taken)
+returns-5 c = only-second _ _ _ _ (c .before .before .before .before .before .before .before .before .before .before .before .pre .0)
+    (c .before .before .before .before .before .before .before .before .before .before .before .pre .1) _
+    (c .before .before .before .before .before .before .before .next-file .ensures) (c .before .before .before .before .before .before .next-file2 .ensures)
+    (let u = c .before .before .before .before .before .before .next-file2 .ensures .low in let n = c .before .before .before .before .if3 .left in omega
+    arith) (λ l. sym (c .before .slot-before2 .ensures) ∙ c .if5 .taken)
 
 returns-6 : tie.Need-returns-6
-returns-6 c =
-    let c₃ = c .before .before .before in let slot-before = c₃ .slot-before in
-    let c₄ = c₃ .before in let if3 = c₄ .if3 in
-    let c₅ = c₄ .before in let if1 = c₅ .if1 in
-    let c₆ = c₅ .before in let next-file2 = c₆ .next-file2 in
-    let c₇ = c₆ .before in let next-file = c₇ .next-file in
-    let c₁₁ = c₇ .before .before .before .before in let p = c₁₁ .pre in
-    on-both _ _ _ _ (p .0) (p .1) _ (next-file .ensures) (next-file2 .ensures) (let u = next-file .ensures .low in let n = if1 .left in omega arith)
-    (let u = next-file2 .ensures .low in let n = if3 .left in omega arith) (sym (slot-before .ensures) ∙ c .before .before .if4 .left)
+returns-6 c = on-both _ _ _ _ (c .before .before .before .before .before .before .before .before .before .before .before .pre .0)
+    (c .before .before .before .before .before .before .before .before .before .before .before .pre .1) _
+    (c .before .before .before .before .before .before .before .next-file .ensures) (c .before .before .before .before .before .before .next-file2 .ensures)
+    (let u = c .before .before .before .before .before .before .before .next-file .ensures .low in let n = c .before .before .before .before .before .if1
+    .left in omega arith) (let u = c .before .before .before .before .before .before .next-file2 .ensures .low in let n = c .before .before .before .before
+    .if3 .left in omega arith) (sym (c .before .before .before .slot-before .ensures) ∙ c .before .before .if4 .left)
     (sym (c .before .slot-before2 .ensures) ∙ c .if5 .left)
 
 pub next-pair-spec : {M : Type 1} → statement M

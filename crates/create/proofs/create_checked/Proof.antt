@@ -46,11 +46,9 @@ refused-requires-2 : tie.Need-refused-requires-2
 refused-requires-2 c κs = search needs
 
 returns-2 : tie.Need-returns-2
-returns-2 c =
-    let c₃ = c .before .before .before in let if1 = c₃ .if1 in
-    let c₇ = c₃ .before .before .before .before in let p = c₇ .pre in
-    told _ _ _ _ _ (by-number _ _ _ p 12 (λ z. omega arith) refl) (c .refused2 .ensures)
-    (by-range _ _ _ _ _ p (if1 .left) (is-no (c .before .before .in-range .ensures) (c .before .if2 .taken))) (λ z. omega arith)
+returns-2 c = told _ _ _ _ _ (by-number _ _ _ (c .before .before .before .before .before .before .before .pre) 12 (λ z. omega arith) refl)
+    (c .refused2 .ensures) (by-range _ _ _ _ _ (c .before .before .before .before .before .before .before .pre) (c .before .before .before .if1 .left)
+    (is-no (c .before .before .in-range .ensures) (c .before .if2 .taken))) (λ z. omega arith)
 
 incoming-requires : tie.Need-incoming-requires
 incoming-requires c κs = search needs
@@ -62,16 +60,14 @@ no-handle-requires : tie.Need-no-handle-requires
 no-handle-requires c κs = search needs
 
 returns-3 : tie.Need-returns-3
-returns-3 c =
-    let c₃ = c .before .before .before in let incoming = c₃ .incoming in
-    let c₄ = c₃ .before in let if2 = c₄ .if2 in
-    let c₅ = c₄ .before in let in-range = c₅ .in-range in
-    let c₆ = c₅ .before in let if1 = c₆ .if1 in
-    let c₁₀ = c₆ .before .before .before .before in let p = c₁₀ .pre in
-    told _ _ _ _ _ (by-place _ _ _ p (if1 .left) (c .before .placed .ensures) (incoming .ensures .place))
+returns-3 c = told _ _ _ _ _
+    (by-place _ _ _ (c .before .before .before .before .before .before .before .before .before .before .pre)
+    (c .before .before .before .before .before .before .if1 .left) (c .before .placed .ensures) (c .before .before .before .incoming .ensures .place))
     (λ i. record { refusal = c .before .placed .result; old = false; handle = c .no-handle .ensures i })
-    (by-name _ _ _ _ _ p (if1 .left) (is-yes (in-range .ensures) (if2 .left)) (hands-bad (incoming .ensures) (c .before .before .if3 .taken)))
-    (λ z. omega arith)
+    (by-name _ _ _ _ _ (c .before .before .before .before .before .before .before .before .before .before .pre)
+    (c .before .before .before .before .before .before .if1 .left)
+    (is-yes (c .before .before .before .before .before .in-range .ensures) (c .before .before .before .before .if2 .left))
+    (hands-bad (c .before .before .before .incoming .ensures) (c .before .before .if3 .taken))) (λ z. omega arith)
 
 find-requires : tie.Need-find-requires
 find-requires c κs =
@@ -96,18 +92,19 @@ same-length : tie.Need-same-length
 same-length c = search needs
 
 returns-4 : tie.Need-returns-4
-returns-4 c =
-    let c₄ = c .before .before .before .before in let if4 = c₄ .if4 in
-    let c₅ = c₄ .before in let find = c₅ .find in
-    let c₁₀ = c₅ .before .before .before .before .before in let if3 = c₁₀ .if3 in
-    let c₁₁ = c₁₀ .before in let incoming = c₁₁ .incoming in
-    let c₁₂ = c₁₁ .before in let if2 = c₁₂ .if2 in
-    let c₁₃ = c₁₂ .before in let in-range = c₁₃ .in-range in
-    let c₁₄ = c₁₃ .before in let if1 = c₁₄ .if1 in
-    let c₁₈ = c₁₄ .before .before .before .before in let p = c₁₈ .pre in
-    told _ _ _ _ _ (by-number _ _ _ p 5 (λ z. omega arith) refl) (c .refused3 .ensures)
-    (by-code _ _ _ _ _ p (if1 .left) (is-yes (in-range .ensures) (if2 .left)) (hands-good (incoming .ensures) (if3 .left))
-    (finds-one _ _ _ (finds-as _ _ _ (hands-name (incoming .ensures) (if3 .left)) (find .ensures)) (not-yes (if4 .taken)))
+returns-4 c = told _ _ _ _ _
+    (by-number _ _ _ (c .before .before .before .before .before .before .before .before .before .before .before .before .before .before .before .before
+    .before .before .pre) 5 (λ z. omega arith) refl) (c .refused3 .ensures)
+    (by-code _ _ _ _ _ (c .before .before .before .before .before .before .before .before .before .before .before .before .before .before .before .before
+    .before .before .pre) (c .before .before .before .before .before .before .before .before .before .before .before .before .before .before .if1 .left)
+    (is-yes (c .before .before .before .before .before .before .before .before .before .before .before .before .before .in-range .ensures)
+    (c .before .before .before .before .before .before .before .before .before .before .before .before .if2 .left))
+    (hands-good (c .before .before .before .before .before .before .before .before .before .before .before .incoming .ensures)
+    (c .before .before .before .before .before .before .before .before .before .before .if3 .left))
+    (finds-one _ _ _ (finds-as _ _ _
+    (hands-name (c .before .before .before .before .before .before .before .before .before .before .before .incoming .ensures)
+    (c .before .before .before .before .before .before .before .before .before .before .if3 .left))
+    (c .before .before .before .before .before .find .ensures)) (not-yes (c .before .before .before .before .if4 .taken)))
     (is-no (c .before .before .admits .ensures) (c .before .if5 .taken))) (λ z. omega arith)
 
 carried-requires : tie.Need-carried-requires
@@ -130,24 +127,39 @@ same-length-2 : tie.Need-same-length-2
 same-length-2 c = search needs
 
 returns-5 : tie.Need-returns-5
-returns-5 c =
-    let c₅ = c .before .before .before .before .before in let carried = c₅ .carried in
-    let c₆ = c₅ .before in let if5 = c₆ .if5 in
-    let c₇ = c₆ .before in let admits = c₇ .admits in
-    let c₉ = c₇ .before .before in let if4 = c₉ .if4 in
-    let c₁₀ = c₉ .before in let find = c₁₀ .find in
-    let c₁₅ = c₁₀ .before .before .before .before .before in let if3 = c₁₅ .if3 in
-    let c₁₆ = c₁₅ .before in let incoming = c₁₆ .incoming in
-    let c₁₇ = c₁₆ .before in let if2 = c₁₇ .if2 in
-    let c₁₈ = c₁₇ .before in let in-range = c₁₈ .in-range in
-    let c₁₉ = c₁₈ .before in let if1 = c₁₉ .if1 in
-    let c₂₃ = c₁₉ .before .before .before .before in let a = c₂₃ .args in let p = c₂₃ .pre in
-    let e = finds-one _ _ _ (finds-as _ _ _ (hands-name (incoming .ensures) (if3 .left)) (find .ensures)) (not-yes (if4 .taken)) in
-    opened _ _ _ _ _ (by-number _ _ _ p 0 (λ z. omega arith) (carried .ensures))
-    (is-old _ _ _ _ _ p (if1 .left) (is-yes (in-range .ensures) (if2 .left)) (hands-good (incoming .ensures) (if3 .left)) e
-    (is-yes (admits .ensures) (if5 .left))) e (c .opened-at .ensures ∙ ap
-    (λ (m : List ℕ). openedAt (a .g) (a .image .now) (find .result .slot) m (a .f .len) (a .checking) (a .f .main))
-    (hands-name (incoming .ensures) (if3 .left)))
+returns-5 c = let e = finds-one _ _ _
+    (finds-as _ _ _ (hands-name (c .before .before .before .before .before .before .before .before .before .before .before .before .before .before .before
+    .before .incoming .ensures) (c .before .before .before .before .before .before .before .before .before .before .before .before .before .before .before
+    .if3 .left)) (c .before .before .before .before .before .before .before .before .before .before .find .ensures))
+    (not-yes (c .before .before .before .before .before .before .before .before .before .if4 .taken)) in
+    opened _ _ _ _ _ (by-number _ _ _
+    (c .before .before .before .before .before .before .before .before .before .before .before .before .before .before .before .before .before .before
+    .before .before .before .before .before .pre) 0 (λ z. omega arith) (c .before .before .before .before .before .carried .ensures))
+    (is-old _ _ _ _ _ (c .before .before .before .before .before .before .before .before .before .before .before .before .before .before .before .before
+    .before .before .before .before .before .before .before .pre)
+    (c .before .before .before .before .before .before .before .before .before .before .before .before .before .before .before .before .before .before
+    .before .if1 .left) (is-yes (c .before .before .before .before .before .before .before .before .before .before .before .before .before .before .before
+    .before .before .before .in-range .ensures) (c .before .before .before .before .before .before .before .before .before .before .before .before .before
+    .before .before .before .before .if2 .left))
+    (hands-good (c .before .before .before .before .before .before .before .before .before .before .before .before .before .before .before .before
+    .incoming .ensures) (c .before .before .before .before .before .before .before .before .before .before .before .before .before .before .before .if3
+    .left)) e (is-yes (c .before .before .before .before .before .before .before .admits .ensures)
+    (c .before .before .before .before .before .before .if5 .left))) e
+    (c .opened-at .ensures ∙ ap (λ (m : List ℕ). openedAt
+    (c .before .before .before .before .before .before .before .before .before .before .before .before .before .before .before .before .before .before
+    .before .before .before .before .before .args .g)
+    (c .before .before .before .before .before .before .before .before .before .before .before .before .before .before .before .before .before .before
+    .before .before .before .before .before .args .image .now)
+    (c .before .before .before .before .before .before .before .before .before .before .find .result .slot) m
+    (c .before .before .before .before .before .before .before .before .before .before .before .before .before .before .before .before .before .before
+    .before .before .before .before .before .args .f .len)
+    (c .before .before .before .before .before .before .before .before .before .before .before .before .before .before .before .before .before .before
+    .before .before .before .before .before .args .checking)
+    (c .before .before .before .before .before .before .before .before .before .before .before .before .before .before .before .before .before .before
+    .before .before .before .before .before .args .f .main))
+    (hands-name (c .before .before .before .before .before .before .before .before .before .before .before .before .before .before .before .before
+    .incoming .ensures) (c .before .before .before .before .before .before .before .before .before .before .before .before .before .before .before .if3
+    .left)))
 
 first-free-slot-requires : tie.Need-first-free-slot-requires
 first-free-slot-requires c κs =
@@ -162,18 +174,19 @@ same-length-3 : tie.Need-same-length-3
 same-length-3 c = search needs
 
 returns-6 : tie.Need-returns-6
-returns-6 c =
-    let c₄ = c .before .before .before .before in let if4 = c₄ .if4 in
-    let c₅ = c₄ .before in let find = c₅ .find in
-    let c₁₀ = c₅ .before .before .before .before .before in let if3 = c₁₀ .if3 in
-    let c₁₁ = c₁₀ .before in let incoming = c₁₁ .incoming in
-    let c₁₂ = c₁₁ .before in let if2 = c₁₂ .if2 in
-    let c₁₃ = c₁₂ .before in let in-range = c₁₃ .in-range in
-    let c₁₄ = c₁₃ .before in let if1 = c₁₄ .if1 in
-    let c₁₈ = c₁₄ .before .before .before .before in let p = c₁₈ .pre in
-    told _ _ _ _ _ (by-number _ _ _ p 8 (λ z. omega arith) refl) (c .refused4 .ensures)
-    (by-slot _ _ _ _ _ p (if1 .left) (is-yes (in-range .ensures) (if2 .left)) (hands-good (incoming .ensures) (if3 .left))
-    (finds-none _ _ _ (finds-as _ _ _ (hands-name (incoming .ensures) (if3 .left)) (find .ensures)) (not-no (if4 .left)))
+returns-6 c = told _ _ _ _ _
+    (by-number _ _ _ (c .before .before .before .before .before .before .before .before .before .before .before .before .before .before .before .before
+    .before .before .pre) 8 (λ z. omega arith) refl) (c .refused4 .ensures)
+    (by-slot _ _ _ _ _ (c .before .before .before .before .before .before .before .before .before .before .before .before .before .before .before .before
+    .before .before .pre) (c .before .before .before .before .before .before .before .before .before .before .before .before .before .before .if1 .left)
+    (is-yes (c .before .before .before .before .before .before .before .before .before .before .before .before .before .in-range .ensures)
+    (c .before .before .before .before .before .before .before .before .before .before .before .before .if2 .left))
+    (hands-good (c .before .before .before .before .before .before .before .before .before .before .before .incoming .ensures)
+    (c .before .before .before .before .before .before .before .before .before .before .if3 .left))
+    (finds-none _ _ _ (finds-as _ _ _
+    (hands-name (c .before .before .before .before .before .before .before .before .before .before .before .incoming .ensures)
+    (c .before .before .before .before .before .before .before .before .before .before .if3 .left))
+    (c .before .before .before .before .before .find .ensures)) (not-no (c .before .before .before .before .if4 .left)))
     (slot-none _ _ (c .before .before .first-free-slot .ensures) (c .before .if6 .taken))) (λ z. omega arith)
 
 put-entry-requires : tie.Need-put-entry-requires

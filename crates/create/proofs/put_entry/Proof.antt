@@ -27,24 +27,18 @@ add-at-3 : tie.Need-add-at-3
 add-at-3 c = search needs
 
 mul-date : tie.Need-mul-date
-mul-date c =
-    let c₄ = c .before .before .before .before in let a = c₄ .args in let p = c₄ .pre in
-    let r = ranges (a .f) (p .3) in omega arith
+mul-date c = let r = ranges (c .before .before .before .before .args .f) (c .before .before .before .before .pre .3) in omega arith
 
 add-date : tie.Need-add-date
-add-date c =
-    let c₅ = c .before .before .before .before .before in let a = c₅ .args in let p = c₅ .pre in
-    let r = ranges (a .f) (p .3) in omega arith
+add-date c = let r = ranges (c .before .before .before .before .before .args .f) (c .before .before .before .before .before .pre .3) in omega arith
 
 cast-t16 : tie.Need-cast-t16
-cast-t16 c =
-    let c₆ = c .before .before .before .before .before .before in let a = c₆ .args in let p = c₆ .pre in
-    let r = ranges (a .f) (p .3) in omega arith
+cast-t16 c = let r = ranges (c .before .before .before .before .before .before .args .f) (c .before .before .before .before .before .before .pre .3) in
+    omega arith
 
 cast-t17 : tie.Need-cast-t17
-cast-t17 c =
-    let c₆ = c .before .before .before .before .before .before in let a = c₆ .args in let p = c₆ .pre in
-    let r = ranges (a .f) (p .3) in omega arith
+cast-t17 c = let r = ranges (c .before .before .before .before .before .before .args .f) (c .before .before .before .before .before .before .pre .3) in
+    omega arith
 
 cast-t18 : tie.Need-cast-t18
 cast-t18 c = search needs
@@ -86,13 +80,13 @@ slice-aggregate-put-part-2 : tie.Need-slice-aggregate-put-part-2
 slice-aggregate-put-part-2 c = search needs
 
 put-part-requires-3 : tie.Need-put-part-requires-3
-put-part-requires-3 c κs =
-    let c₈ = c .before .before .before .before .before .before .before .before in let put-part2 = c₈ .put-part2 in
-    let c₁₂ = c₈ .before .before .before .before in let put-part = c₁₂ .put-part in
-    let c₂₂ = c₁₂ .before .before .before .before .before .before .before .before .before .before in let a = c₂₂ .args in let p′ = c₂₂ .pre in
-    let p = p′ .0 in
-    let z : length (put-part2 .last .0) ≡ length (a .image .now) = ap length (put-part2 .ensures) ∙ (simp length-sets) ∙ ap length (put-part .ensures) ∙
-    (simp length-sets) in
+put-part-requires-3 c κs = let p = c .before .before .before .before .before .before .before .before .before .before .before .before .before .before .before
+    .before .before .before .before .before .before .before .pre .0 in
+    let z : length (c .before .before .before .before .before .before .before .before .put-part2 .last .0) ≡ length
+    (c .before .before .before .before .before .before .before .before .before .before .before .before .before .before .before .before .before .before
+    .before .before .before .before .args .image .now) = ap length (c .before .before .before .before .before .before .before .before .put-part2 .ensures)
+    ∙ (simp length-sets) ∙ ap length
+    (c .before .before .before .before .before .before .before .before .before .before .before .before .put-part .ensures) ∙ (simp length-sets) in
     (omega arith, omega arith)
 
 hash-requires : tie.Need-hash-requires
@@ -129,14 +123,15 @@ add-image-2 c = let p = c .before .before .before .before .before .before .befor
     omega arith
 
 slice-write-image : tie.Need-slice-write-image
-slice-write-image c =
-    let c₄ = c .before .before .before .before in let put-part3 = c₄ .put-part3 in
-    let c₁₃ = c₄ .before .before .before .before .before .before .before .before .before in let put-part2 = c₁₃ .put-part2 in
-    let c₁₇ = c₁₃ .before .before .before .before in let put-part = c₁₇ .put-part in
-    let c₂₇ = c₁₇ .before .before .before .before .before .before .before .before .before .before in let a = c₂₇ .args in let p′ = c₂₇ .pre in
-    let p = p′ .0 in
-    let z : length (put-part3 .last .0) ≡ length (a .image .now) = ap length (put-part3 .ensures) ∙ (simp length-sets) ∙ ap length (put-part2 .ensures) ∙
-    (simp length-sets) ∙ ap length (put-part .ensures) ∙ (simp length-sets) in
+slice-write-image c = let p = c .before .before .before .before .before .before .before .before .before .before .before .before .before .before .before
+    .before .before .before .before .before .before .before .before .before .before .before .before .pre .0 in
+    let z : length (c .before .before .before .before .put-part3 .last .0) ≡ length
+    (c .before .before .before .before .before .before .before .before .before .before .before .before .before .before .before .before .before .before
+    .before .before .before .before .before .before .before .before .before .args .image .now) = ap length
+    (c .before .before .before .before .put-part3 .ensures) ∙ (simp length-sets) ∙ ap length
+    (c .before .before .before .before .before .before .before .before .before .before .before .before .before .put-part2 .ensures) ∙ (simp length-sets) ∙
+    ap length (c .before .before .before .before .before .before .before .before .before .before .before .before .before .before .before .before .before
+    .put-part .ensures) ∙ (simp length-sets) in
     omega arith
 
 same-length : tie.Need-same-length

@@ -23,9 +23,7 @@ granule-bytes-requires : tie.Need-granule-bytes-requires
 granule-bytes-requires c κs = search needs
 
 mul-result : tie.Need-mul-result
-mul-result c =
-    let c₅ = c .before .before .before .before .before in let p = c₅ .pre in
-    omega (arith, mul-le-mul (c .granule-bytes .ensures .few) (let h = p .2 in h))
+mul-result c = omega (arith, mul-le-mul (c .granule-bytes .ensures .few) (let h = c .before .before .before .before .before .pre .2 in h))
 
 returns-2 : tie.Need-returns-2
 returns-2 c =

@@ -34,9 +34,7 @@ add-owned c = let a = c .before .before .loop .inv .0 .small in let b = c .befor
     omega arith
 
 field-requires : tie.Need-field-requires Inv-loop μ-loop
-field-requires c κs =
-    let c₅ = c .before .before .before .before .before in let p = c₅ .pre in
-    (p .0 .room, c .before .before .loop .inv .0 .used .slot, omega arith)
+field-requires c κs = (c .before .before .before .before .before .pre .0 .room, c .before .before .loop .inv .0 .used .slot, omega arith)
 
 returns : tie.Need-returns Inv-loop μ-loop
 returns c =
@@ -48,10 +46,11 @@ returns c =
     (c .if1 .taken)
 
 field-requires-2 : tie.Need-field-requires-2 Inv-loop μ-loop
-field-requires-2 c κs =
-    let c₄ = c .before .before .before .before in let l = c₄ .loop in
-    let c₇ = c₄ .before .before .before in let p = c₇ .pre in
-    (p .0 .room, l .inv .0 .used .slot, omega arith)
+field-requires-2 c κs = (
+  c .before .before .before .before .before .before .before .pre .0 .room,
+  c .before .before .before .before .loop .inv .0 .used .slot,
+  omega arith,
+)
 
 sub-left : tie.Need-sub-left Inv-loop μ-loop
 sub-left c = search needs

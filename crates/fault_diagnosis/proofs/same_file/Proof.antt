@@ -47,52 +47,46 @@ add-e : tie.Need-add-e
 add-e c = search needs
 
 add-same-name : tie.Need-add-same-name
-add-same-name c =
-    let c₄ = c .before .before .before .before in let if1 = c₄ .if1 in
-    let c₅ = c₄ .before in let is-slot = c₅ .is-slot in
-    let c₇ = c₅ .before .before in let p = c₇ .pre in
-    let k = slot-of _ _ _ (is-yes (is-slot .ensures) (if1 .left)) in let h = k .held in let l = k .low in let r = p .0 .directory in let w = p .0 .most in
-    let z = p .0 .long in omega arith
+add-same-name c = let k = slot-of _ _ _ (is-yes (c .before .before .before .before .before .is-slot .ensures) (c .before .before .before .before .if1 .left))
+    in
+    let h = k .held in let l = k .low in let r = c .before .before .before .before .before .before .before .pre .0 .directory in
+    let w = c .before .before .before .before .before .before .before .pre .0 .most in
+    let z = c .before .before .before .before .before .before .before .pre .0 .long in omega arith
 
 add-same-name-2 : tie.Need-add-same-name-2
-add-same-name-2 c =
-    let c₄ = c .before .before .before .before in let if1 = c₄ .if1 in
-    let c₅ = c₄ .before in let is-slot = c₅ .is-slot in
-    let c₇ = c₅ .before .before in let p = c₇ .pre in
-    let k = slot-of _ _ _ (is-yes (is-slot .ensures) (if1 .left)) in let h = k .held in let l = k .low in let r = p .0 .directory in let w = p .0 .most in
-    let z = p .0 .long in omega arith
+add-same-name-2 c = let k = slot-of _ _ _
+    (is-yes (c .before .before .before .before .before .is-slot .ensures) (c .before .before .before .before .if1 .left)) in
+    let h = k .held in let l = k .low in let r = c .before .before .before .before .before .before .before .pre .0 .directory in
+    let w = c .before .before .before .before .before .before .before .pre .0 .most in
+    let z = c .before .before .before .before .before .before .before .pre .0 .long in omega arith
 
 mul-same-name : tie.Need-mul-same-name
-mul-same-name c =
-    let c₄ = c .before .before .before .before in let if1 = c₄ .if1 in
-    let c₅ = c₄ .before in let is-slot = c₅ .is-slot in
-    let c₇ = c₅ .before .before in let p = c₇ .pre in
-    let k = slot-of _ _ _ (is-yes (is-slot .ensures) (if1 .left)) in let h = k .held in let l = k .low in let r = p .0 .directory in let w = p .0 .most in
-    let z = p .0 .long in omega arith
+mul-same-name c = let k = slot-of _ _ _ (is-yes (c .before .before .before .before .before .is-slot .ensures) (c .before .before .before .before .if1 .left))
+    in
+    let h = k .held in let l = k .low in let r = c .before .before .before .before .before .before .before .pre .0 .directory in
+    let w = c .before .before .before .before .before .before .before .pre .0 .most in
+    let z = c .before .before .before .before .before .before .before .pre .0 .long in omega arith
 
 mul-same-name-2 : tie.Need-mul-same-name-2
-mul-same-name-2 c =
-    let c₄ = c .before .before .before .before in let if1 = c₄ .if1 in
-    let c₅ = c₄ .before in let is-slot = c₅ .is-slot in
-    let c₇ = c₅ .before .before in let p = c₇ .pre in
-    let k = slot-of _ _ _ (is-yes (is-slot .ensures) (if1 .left)) in let h = k .held in let l = k .low in let r = p .0 .directory in let w = p .0 .most in
-    let z = p .0 .long in omega arith
+mul-same-name-2 c = let k = slot-of _ _ _
+    (is-yes (c .before .before .before .before .before .is-slot .ensures) (c .before .before .before .before .if1 .left)) in
+    let h = k .held in let l = k .low in let r = c .before .before .before .before .before .before .before .pre .0 .directory in
+    let w = c .before .before .before .before .before .before .before .pre .0 .most in
+    let z = c .before .before .before .before .before .before .before .pre .0 .long in omega arith
 
 add-same-name-3 : tie.Need-add-same-name-3
-add-same-name-3 c =
-    let c₄ = c .before .before .before .before in let if1 = c₄ .if1 in
-    let c₅ = c₄ .before in let is-slot = c₅ .is-slot in
-    let c₇ = c₅ .before .before in let p = c₇ .pre in
-    let k = slot-of _ _ _ (is-yes (is-slot .ensures) (if1 .left)) in let h = k .held in let l = k .low in let r = p .0 .directory in let w = p .0 .most in
-    let z = p .0 .long in omega arith
+add-same-name-3 c = let k = slot-of _ _ _
+    (is-yes (c .before .before .before .before .before .is-slot .ensures) (c .before .before .before .before .if1 .left)) in
+    let h = k .held in let l = k .low in let r = c .before .before .before .before .before .before .before .pre .0 .directory in
+    let w = c .before .before .before .before .before .before .before .pre .0 .most in
+    let z = c .before .before .before .before .before .before .before .pre .0 .long in omega arith
 
 add-same-name-4 : tie.Need-add-same-name-4
-add-same-name-4 c =
-    let c₄ = c .before .before .before .before in let if1 = c₄ .if1 in
-    let c₅ = c₄ .before in let is-slot = c₅ .is-slot in
-    let c₇ = c₅ .before .before in let p = c₇ .pre in
-    let k = slot-of _ _ _ (is-yes (is-slot .ensures) (if1 .left)) in let h = k .held in let l = k .low in let r = p .0 .directory in let w = p .0 .most in
-    let z = p .0 .long in omega arith
+add-same-name-4 c = let k = slot-of _ _ _
+    (is-yes (c .before .before .before .before .before .is-slot .ensures) (c .before .before .before .before .if1 .left)) in
+    let h = k .held in let l = k .low in let r = c .before .before .before .before .before .before .before .pre .0 .directory in
+    let w = c .before .before .before .before .before .before .before .pre .0 .most in
+    let z = c .before .before .before .before .before .before .before .pre .0 .long in omega arith
 
 sub-same-name : tie.Need-sub-same-name
 sub-same-name c = search needs
@@ -104,12 +98,10 @@ part-same-name-end : tie.Need-part-same-name-end
 part-same-name-end c = search needs
 
 same-name-requires : tie.Need-same-name-requires
-same-name-requires c κs =
-    let c₅ = c .before .before .before .before .before in let if1 = c₅ .if1 in
-    let c₆ = c₅ .before in let is-slot = c₆ .is-slot in
-    let c₈ = c₆ .before .before in let p = c₈ .pre in
-    let h = slot-of _ _ _ (is-yes (is-slot .ensures) (if1 .left)) in let l = h .held in let k = h .low in let r = p .0 .directory in let w = p .0 .long in
-    (omega arith, omega arith)
+same-name-requires c κs = let h = slot-of _ _ _
+    (is-yes (c .before .before .before .before .before .before .is-slot .ensures) (c .before .before .before .before .before .if1 .left)) in
+    let l = h .held in let k = h .low in let r = c .before .before .before .before .before .before .before .before .pre .0 .directory in
+    let w = c .before .before .before .before .before .before .before .before .pre .0 .long in (omega arith, omega arith)
 
 returns-3 : tie.Need-returns-3
 unfolding sameFile

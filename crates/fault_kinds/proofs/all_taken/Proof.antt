@@ -34,21 +34,18 @@ returns c =
     all-failed (taken (a .g) (a .image .now)) (l .inv .0) (c .before .before .loop-test .taken) (is-no (c .before .taken .ensures) (c .if1 .taken))
 
 add-i : tie.Need-add-i Inv-loop μ-loop
-add-i c =
-    let c₅ = c .before .before .before .before .before in let p = c₅ .pre in
-    let h = p .1 in let k = p .0 .most in omega arith
+add-i c = let h = c .before .before .before .before .before .pre .1 in let k = c .before .before .before .before .before .pre .0 .most in omega arith
 
 loop-less : tie.Need-loop-less Inv-loop μ-loop
 loop-less c = omega arith
 
 loop-again : tie.Need-loop-again Inv-loop μ-loop
-loop-again c =
-    let c₃ = c .before .before .before in let l = c₃ .loop in
-    let c₅ = c₃ .before .before in let a = c₅ .args in (
-      all-passed (taken (a .g) (a .image .now)) (l .inv .0) (c .before .before .loop-test .taken) (is-yes (c .before .taken .ensures) (c .if1 .left)),
-      let k =
-          l .inv .1 in omega arith,
-    )
+loop-again c = (
+  all-passed (taken (c .before .before .before .before .before .args .g) (c .before .before .before .before .before .args .image .now))
+      (c .before .before .before .loop .inv .0) (c .before .before .loop-test .taken) (is-yes (c .before .taken .ensures) (c .if1 .left)),
+  let k = c .before
+      .before .before .loop .inv .1 in omega arith,
+)
 
 returns-2 : tie.Need-returns-2 Inv-loop μ-loop
 returns-2 c = all-held (taken (c .before .before .before .args .g) (c .before .before .before .args .image .now)) (c .before .loop .inv .0)

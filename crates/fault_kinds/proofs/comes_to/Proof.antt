@@ -33,10 +33,7 @@ returns-2 c =
     come-stop _ _ _ _ _ _ _ (l .inv .0) (loop-test .taken) (c .before .before .if1 .left) (is-no (c .before .hands-on .ensures) (c .if2 .taken))
 
 field-requires : tie.Need-field-requires Inv-loop μ-loop
-field-requires c κs =
-    let c₄ = c .before .before .before .before in let l = c₄ .loop in
-    let c₆ = c₄ .before .before in let p = c₆ .pre in
-    (p .0, l .inv .1, omega arith)
+field-requires c κs = (c .before .before .before .before .before .before .pre .0, c .before .before .before .before .loop .inv .1, omega arith)
 
 sub-left : tie.Need-sub-left Inv-loop μ-loop
 sub-left c = search needs

@@ -32,21 +32,15 @@ hands-on-requires c κs =
     (p .0, c .before .before .loop .inv .1)
 
 returns : tie.Need-returns Inv-loop μ-loop
-returns c =
-    let c₃ = c .before .before .before in let loop-test = c₃ .loop-test in
-    let c₄ = c₃ .before in let l = c₄ .loop in
-    record {
-      is = count-end _ _ _ _ _ _ _ (l .inv .0) (loop-test .taken) (c .before .before .entry-length .ensures .is)
-          (is-no (c .before .hands-on .ensures) (c .if1 .taken));
-      small = let q = c .before .before .entry-length .ensures .small in let z = l .inv .2 in omega
-          arith;
-    }
+returns c = record {
+  is = count-end _ _ _ _ _ _ _ (c .before .before .before .before .loop .inv .0) (c .before .before .before .loop-test .taken)
+      (c .before .before .entry-length .ensures .is) (is-no (c .before .hands-on .ensures) (c .if1 .taken));
+  small = let q = c .before .before .entry-length
+      .ensures .small in let z = c .before .before .before .before .loop .inv .2 in omega arith;
+}
 
 field-requires : tie.Need-field-requires Inv-loop μ-loop
-field-requires c κs =
-    let c₄ = c .before .before .before .before in let l = c₄ .loop in
-    let c₆ = c₄ .before .before in let p = c₆ .pre in
-    (p .0, l .inv .1, omega arith)
+field-requires c κs = (c .before .before .before .before .before .before .pre .0, c .before .before .before .before .loop .inv .1, omega arith)
 
 sub-left : tie.Need-sub-left Inv-loop μ-loop
 sub-left c = search needs
@@ -55,16 +49,14 @@ loop-less : tie.Need-loop-less Inv-loop μ-loop
 loop-less c = omega arith
 
 loop-again : tie.Need-loop-again Inv-loop μ-loop
-loop-again c =
-    let c₃ = c .before .before .before in let entry-length = c₃ .entry-length in
-    let c₄ = c₃ .before in let loop-test = c₄ .loop-test in
-    let c₅ = c₄ .before in let l = c₅ .loop in (
-      count-on _ _ _ _ _ _ _ (l .inv .0) (loop-test .taken) (entry-length .ensures .is) (is-yes (c .before .before .hands-on .ensures) (c .before .if1 .left))
-          (c .field .ensures .is),
-      hands-slot _ _ _ (is-yes (c .before .before .hands-on .ensures) (c .before .if1 .left)) (c .field .ensures .is),
-      let q =
-          entry-length .ensures .small in let z = l .inv .2 in let w = loop-test .taken in omega arith,
-    )
+loop-again c = (
+  count-on _ _ _ _ _ _ _ (c .before .before .before .before .before .loop .inv .0) (c .before .before .before .before .loop-test .taken)
+      (c .before .before .before .entry-length .ensures .is) (is-yes (c .before .before .hands-on .ensures) (c .before .if1 .left)) (c .field .ensures .is),
+  hands-slot _ _ _ (is-yes (c .before .before .hands-on .ensures) (c .before .if1 .left)) (c .field .ensures .is),
+  let q = c .before .before .before
+      .entry-length .ensures .small in let z = c .before .before .before .before .before .loop .inv .2 in let w = c .before .before .before .before .loop-test
+      .taken in omega arith,
+)
 
 returns-2 : tie.Need-returns-2 Inv-loop μ-loop
 returns-2 c = record { is = count-none′ _ _ _ _ _ _ _ (c .before .loop .inv .0) (c .loop-test .left); small = let z = c .before .loop .inv .2 in omega arith }

@@ -28,9 +28,7 @@ file-of-requires : tie.Need-file-of-requires
 file-of-requires c κs = search needs
 
 flag-requires-2 : tie.Need-flag-requires-2
-flag-requires-2 c κs =
-    let c₄ = c .before .before .before .before in let p = c₄ .pre in
-    (p .0, c .file-of .ensures .1, omega arith)
+flag-requires-2 c κs = (c .before .before .before .before .pre .0, c .file-of .ensures .1, omega arith)
 
 returns-2 : tie.Need-returns-2
 unfolding directoryFault
@@ -48,10 +46,15 @@ directory-granules-requires : tie.Need-directory-granules-requires
 directory-granules-requires c κs = search needs
 
 entry-in-requires : tie.Need-entry-in-requires
-entry-in-requires c κs =
-    let c₉ = c .before .before .before .before .before .before .before .before .before in let a = c₉ .args in let p = c₉ .pre in
-    let r = p .0 in let w = c .before .before .granule-sectors .ensures .some in
-    (r, p .1, width-lt (omega arith) (a .g .start) 65536 (omega (arith, r .directory, r .far)), omega (arith, c .directory-granules .ensures .small))
+entry-in-requires c κs = let r = c .before .before .before .before .before .before .before .before .before .pre .0 in
+    let w = c .before .before .granule-sectors .ensures .some in (
+      r,
+      c .before .before .before .before .before .before .before .before .before .pre .1,
+      width-lt (omega arith)
+          (c .before .before .before .before .before .before .before .before .before .args .g .start) 65536 (omega (arith, r .directory, r .far)),
+      omega
+          (arith, c .directory-granules .ensures .small),
+    )
 
 returns-3 : tie.Need-returns-3
 unfolding directoryFault

@@ -21,9 +21,8 @@ loop-holds : tie.Need-loop-holds Inv-loop μ-loop
 loop-holds c = let a = c .before .before .args in ap (some (runMeets (a .g) (a .image .now) (a .s) (a .t))) (from-zero (c .runs .result))
 
 run-meets-requires : tie.Need-run-meets-requires Inv-loop μ-loop
-run-meets-requires c κs =
-    let c₄ = c .before .before .before .before in let p = c₄ .pre in
-    let h = c .before .before .runs .ensures .small in (p .0, p .1, p .2, omega arith)
+run-meets-requires c κs = let h = c .before .before .runs .ensures .small in
+    (c .before .before .before .before .pre .0, c .before .before .before .before .pre .1, c .before .before .before .before .pre .2, omega arith)
 
 returns : tie.Need-returns Inv-loop μ-loop
 unfolding entriesMeet

@@ -25,9 +25,14 @@ loop-holds : tie.Need-loop-holds Inv-loop μ-loop
 loop-holds c = let a = c .before .before .args in ap (some (runIn (a .g) (a .image .now) (a .b) (a .m) (a .s))) (from-zero (c .runs .result))
 
 run-in-requires : tie.Need-run-in-requires Inv-loop μ-loop
-run-in-requires c κs =
-    let c₄ = c .before .before .before .before in let p = c₄ .pre in
-    let h = c .before .before .runs .ensures .small in (p .0, p .1, omega arith, p .2, p .3)
+run-in-requires c κs = let h = c .before .before .runs .ensures .small in (
+  c .before .before .before .before .pre .0,
+  c .before .before .before .before .pre .1,
+  omega arith,
+  c .before .before .before .before .pre .2,
+  c .before
+      .before .before .before .pre .3,
+)
 
 returns : tie.Need-returns Inv-loop μ-loop
 returns c = let a = c .before .before .before .before .before .before .args in

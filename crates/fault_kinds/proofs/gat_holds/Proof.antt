@@ -24,23 +24,20 @@ loop-holds : tie.Need-loop-holds Inv-loop μ-loop
 loop-holds c = let a = c .before .before .args in ap (every (taken (a .g) (a .image .now))) (named-all (a .g) (a .image .now) (a .s) (c .runs .ensures .is))
 
 run-start-requires : tie.Need-run-start-requires Inv-loop μ-loop
-run-start-requires c κs =
-    let c₄ = c .before .before .before .before in let p = c₄ .pre in
-    let h = c .before .before .runs .ensures .small in (p .0, p .1, omega arith)
+run-start-requires c κs = let h = c .before .before .runs .ensures .small in
+    (c .before .before .before .before .pre .0, c .before .before .before .before .pre .1, omega arith)
 
 run-length-requires : tie.Need-run-length-requires Inv-loop μ-loop
-run-length-requires c κs =
-    let c₃ = c .before .before .before in let runs = c₃ .runs in
-    let c₅ = c₃ .before .before in let p = c₅ .pre in
-    let h = runs .ensures .small in (p .0, p .1, omega arith)
+run-length-requires c κs = let h = c .before .before .before .runs .ensures .small in
+    (c .before .before .before .before .before .pre .0, c .before .before .before .before .before .pre .1, omega arith)
 
 all-taken-requires : tie.Need-all-taken-requires Inv-loop μ-loop
-all-taken-requires c κs =
-    let c₃ = c .before .before .before in let l = c₃ .loop in
-    let c₄ = c₃ .before in let runs = c₄ .runs in
-    let c₆ = c₄ .before .before in let a = c₆ .args in let p = c₆ .pre in
-    let e = c .before .run-start .ensures .is in let f = c .run-length .ensures .is in let q = runs .ensures .is in
-    let z = run-fits (a .g) (a .image .now) (a .s) (l .k) (p .2) (omega arith) in (p .0, omega arith)
+all-taken-requires c κs = let e = c .before .run-start .ensures .is in let f = c .run-length .ensures .is in
+    let q = c .before .before .before .before .runs .ensures .is in
+    let z = run-fits (c .before .before .before .before .before .before .args .g) (c .before .before .before .before .before .before .args .image .now)
+    (c .before .before .before .before .before .before .args .s) (c .before .before .before .loop .k)
+    (c .before .before .before .before .before .before .pre .2) (omega arith) in
+    (c .before .before .before .before .before .before .pre .0, omega arith)
 
 returns : tie.Need-returns Inv-loop μ-loop
 returns c =

@@ -25,9 +25,14 @@ loop-holds : tie.Need-loop-holds Inv-loop μ-loop
 loop-holds c = let a = c .before .before .args in ap (some (runsMeet (a .g) (a .image .now) (a .s) (a .k) (a .t))) (from-zero (c .runs .result))
 
 runs-meet-requires : tie.Need-runs-meet-requires Inv-loop μ-loop
-runs-meet-requires c κs =
-    let c₄ = c .before .before .before .before in let p = c₄ .pre in
-    let h = c .before .before .runs .ensures .small in (p .0, p .1, p .3, p .2, omega arith)
+runs-meet-requires c κs = let h = c .before .before .runs .ensures .small in (
+  c .before .before .before .before .pre .0,
+  c .before .before .before .before .pre .1,
+  c .before .before .before .before .pre .3,
+  c .before .before
+      .before .before .pre .2,
+  omega arith,
+)
 
 returns : tie.Need-returns Inv-loop μ-loop
 unfolding runMeets

@@ -28,9 +28,8 @@ loop-holds c = ap (every (runHolds (c .before .before .args .g) (c .before .befo
     (from-zero (c .runs .result))
 
 run-holds-requires : tie.Need-run-holds-requires Inv-loop μ-loop
-run-holds-requires c κs =
-    let c₄ = c .before .before .before .before in let p = c₄ .pre in
-    let h = c .before .before .runs .ensures .small in (p .0, p .1, omega arith)
+run-holds-requires c κs = let h = c .before .before .runs .ensures .small in
+    (c .before .before .before .before .pre .0, c .before .before .before .before .pre .1, omega arith)
 
 returns : tie.Need-returns Inv-loop μ-loop
 unfolding runsHold

@@ -21,9 +21,8 @@ loop-holds : tie.Need-loop-holds Inv-loop μ-loop
 loop-holds c = let a = c .before .before .args in ap (some (meetsEarlier (a .g) (a .image .now) (a .s))) (from-zero (c .runs .result))
 
 meets-earlier-requires : tie.Need-meets-earlier-requires Inv-loop μ-loop
-meets-earlier-requires c κs =
-    let c₄ = c .before .before .before .before in let p = c₄ .pre in
-    let h = c .before .before .runs .ensures .small in (p .0, p .1, omega arith)
+meets-earlier-requires c κs = let h = c .before .before .runs .ensures .small in
+    (c .before .before .before .before .pre .0, c .before .before .before .before .pre .1, omega arith)
 
 returns : tie.Need-returns Inv-loop μ-loop
 returns c = let a = c .before .before .before .before .before .before .args in

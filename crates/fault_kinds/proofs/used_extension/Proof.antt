@@ -27,10 +27,12 @@ returns-2 c = sym (all-yes (is-yes (c .before .before .before .is-slot .ensures)
     (is-no (c .before .flag .ensures) (c .if2 .taken)) _)
 
 flag-requires-2 : tie.Need-flag-requires-2
-flag-requires-2 c κs =
-    let c₃ = c .before .before .before in let is-slot = c₃ .is-slot in
-    let c₅ = c₃ .before .before in let p = c₅ .pre in
-    (p, slot-of _ _ _ (is-yes (is-slot .ensures) (c .before .before .if1 .left)), omega arith)
+flag-requires-2 c κs = (
+  c .before .before .before .before .before .pre,
+  slot-of _ _ _
+      (is-yes (c .before .before .before .is-slot .ensures) (c .before .before .if1 .left)),
+  omega arith,
+)
 
 returns-3 : tie.Need-returns-3
 unfolding usedExtension

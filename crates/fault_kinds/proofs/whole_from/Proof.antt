@@ -40,10 +40,12 @@ returns-2 c =
     (is-no (c .before .hands-on .ensures) (c .if2 .taken))
 
 field-requires : tie.Need-field-requires Inv-loop μ-loop
-field-requires c κs =
-    let c₅ = c .before .before .before .before .before in let l = c₅ .loop in
-    let c₇ = c₅ .before .before in let p = c₇ .pre in
-    (p .0, l .inv .1, omega arith)
+field-requires c κs = (
+  c .before .before .before .before .before .before .before .pre .0,
+  c .before .before .before .before .before .loop .inv .1,
+  omega
+      arith,
+)
 
 sub-left : tie.Need-sub-left Inv-loop μ-loop
 sub-left c = search needs

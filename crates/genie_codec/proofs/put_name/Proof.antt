@@ -21,10 +21,10 @@ same-length : tie.Need-same-length
 same-length c = search needs
 
 returns : tie.Need-returns
-returns c =
-    let c₆ = c .before .before .before .before .before .before in let a = c₆ .args in
-    let q : length (a .t3) ≡ 11 = search needs in
-    c .before .before .put-part .ensures ∙ ap (λ (m : List ℕ). sets (a .b .now) (a .at) m) (take-all 11 (a .t3) (omega (arith, q)))
+returns c = let q : length (c .before .before .before .before .before .before .args .t3) ≡ 11 = search needs in
+    c .before .before .put-part .ensures ∙ ap (λ (m : List ℕ). sets (c .before .before .before .before .before .before .args .b .now)
+    (c .before .before .before .before .before .before .args .at) m)
+    (take-all 11 (c .before .before .before .before .before .before .args .t3) (omega (arith, q)))
 
 pub put-name-spec : {M : Type 1} → statement M
 put-name-spec = tie.close (tie.spec slice-aggregate-put-part put-part-requires same-length returns)

@@ -25,9 +25,7 @@ returns-2 c =
     picked-next _ _ (p .1) (a .lowest) (if1 .left) (p .2) (c .before .before .longest-from .ensures) (c .if2 .taken)
 
 longest-from-requires-2 : tie.Need-longest-from-requires-2
-longest-from-requires-2 c κs =
-    let c₅ = c .before .before .before .before .before in let p = c₅ .pre in
-    (p .0, omega arith)
+longest-from-requires-2 c κs = (c .before .before .before .before .before .pre .0, omega arith)
 
 returns-3 : tie.Need-returns-3
 returns-3 c =

@@ -53,9 +53,7 @@ add-image-2 : tie.Need-add-image-2
 add-image-2 c = search needs
 
 slice-write-image-2 : tie.Need-slice-write-image-2
-slice-write-image-2 c =
-    let c₅ = c .before .before .before .before .before in let p = c₅ .pre in
-    let b = p .0 in simp length-set (omega arith)
+slice-write-image-2 c = let b = c .before .before .before .before .before .pre .0 in simp length-set (omega arith)
 
 cast-t15 : tie.Need-cast-t15
 cast-t15 c = search needs
@@ -79,9 +77,7 @@ slice-aggregate-put-part : tie.Need-slice-aggregate-put-part
 slice-aggregate-put-part c = search needs
 
 put-part-requires : tie.Need-put-part-requires
-put-part-requires c κs =
-    let c₈ = c .before .before .before .before .before .before .before .before in let p = c₈ .pre in
-    let b = p .1 in (simp length-set (omega arith), omega arith)
+put-part-requires c κs = let b = c .before .before .before .before .before .before .before .before .pre .1 in (simp length-set (omega arith), omega arith)
 
 add-image-3 : tie.Need-add-image-3
 add-image-3 c = search needs
@@ -93,10 +89,8 @@ add-image-4 : tie.Need-add-image-4
 add-image-4 c = search needs
 
 slice-write-image-3 : tie.Need-slice-write-image-3
-slice-write-image-3 c =
-    let c₃ = c .before .before .before in let put-part = c₃ .put-part in
-    let c₁₂ = c₃ .before .before .before .before .before .before .before .before .before in let p = c₁₂ .pre in
-    let b = p .0 in let e = put-part .ensures in rw e (simp (length-sets, length-set) (omega arith))
+slice-write-image-3 c = let b = c .before .before .before .before .before .before .before .before .before .before .before .before .pre .0 in
+    let e = c .before .before .before .put-part .ensures in rw e (simp (length-sets, length-set) (omega arith))
 
 same-length : tie.Need-same-length
 same-length c =

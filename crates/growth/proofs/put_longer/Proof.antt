@@ -45,18 +45,15 @@ add-set-field-2 : tie.Need-add-set-field-2
 add-set-field-2 c = search needs
 
 set-field-requires : tie.Need-set-field-requires
-set-field-requires c κs =
-    let c₃ = c .before .before .before in let if1 = c₃ .if1 in
-    let c₅ = c₃ .before .before in let p′ = c₅ .pre in
-    let q = p′ .0 .entry in let p = p′ .2 (writes-yes _ (if1 .left)) in
+set-field-requires c κs = let q = c .before .before .before .before .before .pre .0 .entry in
+    let p = c .before .before .before .before .before .pre .2 (writes-yes _ (c .before .before .before .if1 .left)) in
     let s = c .before .entry-byte .ensures .is in let t = c .before .entry-byte .ensures .small in (omega arith, omega arith, omega arith)
 
 take-granule-requires-2 : tie.Need-take-granule-requires-2
-take-granule-requires-2 c κs =
-    let c₃ = c .before .before .before in let set-field = c₃ .set-field in
-    let c₉ = c₃ .before .before .before .before .before .before in let a = c₉ .args in let p = c₉ .pre in
-    let i = p .0 in let q = i .entry in let w = i .block in
-    let z : length (set-field .last .0) ≡ length (a .image .now) = search needs in
+take-granule-requires-2 c κs = let i = c .before .before .before .before .before .before .before .before .before .pre .0 in let q = i .entry in
+    let w = i .block in
+    let z : length (c .before .before .before .set-field .last .0) ≡ length
+    (c .before .before .before .before .before .before .before .before .before .args .image .now) = search needs in
     record { units-low = i .units-low; units-high = i .units-high; inside = omega arith }
 
 same-length-2 : tie.Need-same-length-2

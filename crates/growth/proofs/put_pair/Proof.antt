@@ -42,11 +42,10 @@ set-pair-requires c κs = let a = c .before .before .before .before .before .arg
     (omega arith, omega arith, omega arith, omega (arith, mod-lt (a .n) {m = a .g .units} (omega arith)))
 
 take-granule-requires-2 : tie.Need-take-granule-requires-2
-take-granule-requires-2 c κs =
-    let c₃ = c .before .before .before in let set-pair = c₃ .set-pair in
-    let c₉ = c₃ .before .before .before .before .before .before in let a = c₉ .args in let p = c₉ .pre in
-    let i = p .0 in let q = i .entry in let w = i .block in
-    let z : length (set-pair .last .0) ≡ length (a .image .now) = search needs in
+take-granule-requires-2 c κs = let i = c .before .before .before .before .before .before .before .before .before .pre .0 in let q = i .entry in
+    let w = i .block in
+    let z : length (c .before .before .before .set-pair .last .0) ≡ length
+    (c .before .before .before .before .before .before .before .before .before .args .image .now) = search needs in
     record { units-low = i .units-low; units-high = i .units-high; inside = omega arith }
 
 same-length-2 : tie.Need-same-length-2

@@ -58,11 +58,8 @@ put-longer-requires c κs =
     )
 
 add-after : tie.Need-add-after Inv-loop μ-loop
-add-after c =
-    let c₄ = c .before .before .before .before in let if2 = c₄ .if2 in
-    let c₅ = c₄ .before in let is-clear = c₅ .is-clear in
-    let c₉ = c₅ .before .before .before .before in let l = c₉ .loop in
-    let b = l .inv .room .most in let q = is-clear .ensures .yes (if2 .taken) .0 in omega arith
+add-after c = let b = c .before .before .before .before .before .before .before .before .before .loop .inv .room .most in
+    let q = c .before .before .before .before .before .is-clear .ensures .yes (c .before .before .before .before .if2 .taken) .0 in omega arith
 
 add-long : tie.Need-add-long Inv-loop μ-loop
 add-long c = search needs
@@ -84,10 +81,9 @@ choose-requires : tie.Need-choose-requires Inv-loop μ-loop
 choose-requires c κs = turn-asks _ _ _ (c .before .before .before .loop .inv) (c .before .before .loop-test .taken)
 
 add-after-2 : tie.Need-add-after-2 Inv-loop μ-loop
-add-after-2 c =
-    let c₃ = c .before .before .before in let loop-test = c₃ .loop-test in
-    let c₄ = c₃ .before in let l = c₄ .loop in
-    let b = l .inv .room .most in let q = turn-picked _ _ _ (l .inv) (loop-test .taken) (c .choose .ensures) .inside in omega arith
+add-after-2 c = let b = c .before .before .before .before .loop .inv .room .most in
+    let q = turn-picked _ _ _ (c .before .before .before .before .loop .inv) (c .before .before .before .loop-test .taken) (c .choose .ensures) .inside in
+    omega arith
 
 put-pair-requires : tie.Need-put-pair-requires Inv-loop μ-loop
 put-pair-requires c κs =
@@ -139,22 +135,18 @@ put-extension-requires c κs =
     new-places _ _ _ (l .inv) (c .before .before .next-slot .ensures) (c .before .if4 .left)
 
 put-pair-requires-2 : tie.Need-put-pair-requires-2 Inv-loop μ-loop
-put-pair-requires-2 c κs =
-    let c₃ = c .before .before .before in let put-extension = c₃ .put-extension in
-    let c₅ = c₃ .before .before in let if4 = c₅ .if4 in
-    let c₆ = c₅ .before in let next-slot = c₆ .next-slot in
-    let c₉ = c₆ .before .before .before in let choose = c₉ .choose in
-    let c₁₂ = c₉ .before .before .before in let loop-test = c₁₂ .loop-test in
-    let c₁₃ = c₁₂ .before in let l = c₁₃ .loop in (
-      at-new _ _ _ (l .inv) (next-slot .ensures) (if4 .left) (turn-picked _ _ _ (l .inv) (loop-test .taken) (choose .ensures) .inside)
-          (put-extension .ensures),
-      omega arith,
-    )
+put-pair-requires-2 c κs = (
+  at-new _ _ _
+      (c .before .before .before .before .before .before .before .before .before .before .before .before .before .loop .inv)
+      (c .before .before .before .before .before .before .next-slot .ensures) (c .before .before .before .before .before .if4 .left)
+      (turn-picked _ _ _ (c .before .before .before .before .before .before .before .before .before .before .before .before .before .loop .inv)
+      (c .before .before .before .before .before .before .before .before .before .before .before .before .loop-test .taken)
+      (c .before .before .before .before .before .before .before .before .before .choose .ensures) .inside) (c .before .before .before .put-extension .ensures),
+  omega arith,
+)
 
 add-slot : tie.Need-add-slot Inv-loop μ-loop
-add-slot c =
-    let c₉ = c .before .before .before .before .before .before .before .before .before in let next-slot = c₉ .next-slot in
-    let q = next-slot .ensures .high in omega arith
+add-slot c = let q = c .before .before .before .before .before .before .before .before .before .next-slot .ensures .high in omega arith
 
 loop-less-3 : tie.Need-loop-less-3 Inv-loop μ-loop
 loop-less-3 c = search needs

@@ -30,9 +30,12 @@ same-length : tie.Need-same-length
 same-length c = search needs
 
 returns : tie.Need-returns
-returns c =
-    let c₄ = c .before .before .before .before in let a = c₄ .args in let p = c₄ .pre in
-    (pairs-left _ _ (a .lowest) (p .0) (p .1) (p .2) (c .before .runs .ensures .is) (omega (arith, c .before .runs .ensures .small, c .if1 .taken)), refl)
+returns c = (
+  pairs-left _ _ (c .before .before .before .before .args .lowest) (c .before .before .before .before .pre .0)
+      (c .before .before .before .before .pre .1) (c .before .before .before .before .pre .2) (c .before .runs .ensures .is)
+      (omega (arith, c .before .runs .ensures .small, c .if1 .taken)),
+  refl,
+)
 
 last-run-requires : tie.Need-last-run-requires
 last-run-requires c κs =
@@ -57,29 +60,32 @@ same-length-2 : tie.Need-same-length-2
 same-length-2 c = search needs
 
 returns-2 : tie.Need-returns-2
-returns-2 c =
-    let c₃ = c .before .before .before in let if2 = c₃ .if2 in
-    let c₅ = c₃ .before .before in let last-run = c₅ .last-run in
-    let c₇ = c₅ .before .before in let if1 = c₇ .if1 in
-    let c₈ = c₇ .before in let runs = c₈ .runs in
-    let c₁₁ = c₈ .before .before .before in let a = c₁₁ .args in let p = c₁₁ .pre in (
-      lengthening _ _ (a .lowest) (p .0) (p .1) (p .2) (last-run .ensures) (if2 .taken) (c .before .all-clear .ensures .yes (c .if3 .taken))
-          (let m = last-run .ensures .many in let r = runs .ensures .is in let s = runs .ensures .small in let t = if1 .left in omega arith),
-      refl,
-    )
+returns-2 c = (
+  lengthening _ _ (c .before .before .before .before .before .before .before .before .before .before .before .args .lowest)
+      (c .before .before .before .before .before .before .before .before .before .before .before .pre .0)
+      (c .before .before .before .before .before .before .before .before .before .before .before .pre .1)
+      (c .before .before .before .before .before .before .before .before .before .before .before .pre .2)
+      (c .before .before .before .before .before .last-run .ensures) (c .before .before .before .if2 .taken)
+      (c .before .all-clear .ensures .yes (c .if3 .taken))
+      (let m = c .before .before .before .before .before .last-run .ensures .many in let r = c .before .before .before .before .before .before .before .before
+      .runs .ensures .is in let s = c .before .before .before .before .before .before .before .before .runs .ensures .small in let t = c .before .before .before
+      .before .before .before .before .if1 .left in omega arith),
+  refl,
+)
 
 slice-aggregate-put-part : tie.Need-slice-aggregate-put-part
 slice-aggregate-put-part c = search needs
 
 mul-put-part : tie.Need-mul-put-part
-mul-put-part c =
-    let c₁₁ = c .before .before .before .before .before .before .before .before .before .before .before in let p = c₁₁ .pre in
-    let r = walks _ _ _ (p .0) .0 .room in omega (arith, r .directory, r .far)
+mul-put-part c = let r = walks _ _ _ (c .before .before .before .before .before .before .before .before .before .before .before .pre .0) .0 .room in
+    omega (arith, r .directory, r .far)
 
 put-part-requires : tie.Need-put-part-requires
-put-part-requires c κs =
-    let c₁₁ = c .before .before .before .before .before .before .before .before .before .before .before in let p = c₁₁ .pre in
-    (omega arith, gat-inside _ _ (walks _ _ _ (p .0) .0 .room))
+put-part-requires c κs = (
+  omega arith,
+  gat-inside _ _
+      (walks _ _ _ (c .before .before .before .before .before .before .before .before .before .before .before .pre .0) .0 .room),
+)
 
 take-granules-requires : tie.Need-take-granules-requires
 take-granules-requires c κs =
@@ -88,21 +94,19 @@ take-granules-requires c κs =
     on-paper _ _ _ (a .lowest) (p .0) (p .1) (p .2)
 
 mul-put-part-2 : tie.Need-mul-put-part-2
-mul-put-part-2 c =
-    let c₁₉ = c .before .before .before .before .before .before .before .before .before .before .before .before .before .before .before .before .before
-    .before .before in
-    let p = c₁₉ .pre in
-    let r = walks _ _ _ (p .0) .0 .room in omega (arith, r .directory, r .far)
+mul-put-part-2 c = let r = walks _ _ _
+    (c .before .before .before .before .before .before .before .before .before .before .before .before .before .before .before .before .before .before .before
+    .pre .0) .0 .room in
+    omega (arith, r .directory, r .far)
 
 slice-aggregate-put-part-2 : tie.Need-slice-aggregate-put-part-2
 slice-aggregate-put-part-2 c = search needs
 
 put-part-requires-2 : tie.Need-put-part-requires-2
-put-part-requires-2 c κs =
-    let c₅ = c .before .before .before .before .before in let take-granules = c₅ .take-granules in
-    let c₂₀ = c₅ .before .before .before .before .before .before .before .before .before .before .before .before .before .before .before in
-    let p = c₂₀ .pre in
-    let b = gat-inside _ _ (walks _ _ _ (p .0) .0 .room) in let e = take-granules .ensures .marked refl .long in (omega arith, search needs)
+put-part-requires-2 c κs = let b = gat-inside _ _
+    (walks _ _ _ (c .before .before .before .before .before .before .before .before .before .before .before .before .before .before .before .before .before
+    .before .before .before .pre .0) .0 .room) in
+    let e = c .before .before .before .before .before .take-granules .ensures .marked refl .long in (omega arith, search needs)
 
 same-length-3 : tie.Need-same-length-3
 same-length-3 c = search needs

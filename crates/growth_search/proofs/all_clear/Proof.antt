@@ -23,9 +23,8 @@ returns : tie.Need-returns Inv-loop μ-loop
 returns c = clearing-stop _ _ (c .before .before .before .loop .inv) (c .before .before .loop-test .taken) (c .before .is-clear .ensures) (c .if1 .taken)
 
 add-i : tie.Need-add-i Inv-loop μ-loop
-add-i c =
-    let c₅ = c .before .before .before .before .before in let p = c₅ .pre in
-    let q = clear-inside _ _ (c .before .is-clear .ensures) (c .if1 .left) in let m = p .most in omega arith
+add-i c = let q = clear-inside _ _ (c .before .is-clear .ensures) (c .if1 .left) in let m = c .before .before .before .before .before .pre .most in
+    omega arith
 
 sub-left : tie.Need-sub-left Inv-loop μ-loop
 sub-left c = search needs

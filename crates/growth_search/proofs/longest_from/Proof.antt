@@ -23,77 +23,51 @@ loop-holds : tie.Need-loop-holds Inv-loop μ-loop
 loop-holds c = low-start _ _ (c .before .before .pre .1)
 
 taken-requires : tie.Need-taken-requires Inv-loop μ-loop
-taken-requires c κs =
-    let c₄ = c .before .before .before .before in let p = c₄ .pre in
-    (p .0, let e = c .before .before .granules .ensures .0 in omega arith)
+taken-requires c κs = (c .before .before .before .before .pre .0, let e = c .before .before .granules .ensures .0 in omega arith)
 
 add-n : tie.Need-add-n Inv-loop μ-loop
-add-n c =
-    let c₄ = c .before .before .before .before in let granules = c₄ .granules in
-    let c₆ = c₄ .before .before in let p = c₆ .pre in
-    let m = p .0 .most in let e = granules .ensures .0 in let t = c .before .before .loop-test .taken in omega arith
+add-n c = let m = c .before .before .before .before .before .before .pre .0 .most in let e = c .before .before .before .before .granules .ensures .0 in
+    let t = c .before .before .loop-test .taken in omega arith
 
 loop-less : tie.Need-loop-less Inv-loop μ-loop
 loop-less c = let t = c .before .before .loop-test .taken in omega arith
 
 loop-again : tie.Need-loop-again Inv-loop μ-loop
-loop-again c =
-    let c₃ = c .before .before .before in let l = c₃ .loop in
-    let c₄ = c₃ .before in let granules = c₄ .granules in
-    low-taken _ _ (l .inv) (let e = granules .ensures .0 in let t = c .before .before .loop-test .taken in omega arith)
+loop-again c = low-taken _ _ (c .before .before .before .loop .inv)
+    (let e = c .before .before .before .before .granules .ensures .0 in let t = c .before .before .loop-test .taken in omega arith)
     (sym (c .before .taken .ensures) ∙ c .if1 .taken)
 
 add-n-2 : tie.Need-add-n-2 Inv-loop μ-loop
-add-n-2 c =
-    let c₄ = c .before .before .before .before in let granules = c₄ .granules in
-    let c₆ = c₄ .before .before in let p = c₆ .pre in
-    let m = p .0 .most in let e = granules .ensures .0 in let t = c .before .before .loop-test .taken in omega arith
+add-n-2 c = let m = c .before .before .before .before .before .before .pre .0 .most in let e = c .before .before .before .before .granules .ensures .0 in
+    let t = c .before .before .loop-test .taken in omega arith
 
 add-here : tie.Need-add-here Inv-loop μ-loop
-add-here c =
-    let c₃ = c .before .before .before in let l = c₃ .loop in
-    let c₄ = c₃ .before in let granules = c₄ .granules in
-    let c₆ = c₄ .before .before in let p = c₆ .pre in
-    let s = l .inv .start in let m = p .0 .most in let e = granules .ensures .0 in let t = c .before .before .loop-test .taken in omega arith
+add-here c = let s = c .before .before .before .loop .inv .start in let m = c .before .before .before .before .before .before .pre .0 .most in
+    let e = c .before .before .before .before .granules .ensures .0 in let t = c .before .before .loop-test .taken in omega arith
 
 loop-less-2 : tie.Need-loop-less-2 Inv-loop μ-loop
 loop-less-2 c = let t = c .before .before .before .loop-test .taken in omega arith
 
 loop-again-2 : tie.Need-loop-again-2 Inv-loop μ-loop
-loop-again-2 c =
-    let c₃ = c .before .before .before in let loop-test = c₃ .loop-test in
-    let c₄ = c₃ .before in let l = c₄ .loop in
-    let c₅ = c₄ .before in let granules = c₅ .granules in
-    low-shorter _ _ (l .inv) (let e = granules .ensures .0 in let t = loop-test .taken in omega arith)
+loop-again-2 c = low-shorter _ _ (c .before .before .before .before .loop .inv)
+    (let e = c .before .before .before .before .before .granules .ensures .0 in let t = c .before .before .before .loop-test .taken in omega arith)
     (sym (c .before .before .taken .ensures) ∙ c .before .if1 .left) (c .if2 .taken)
 
 sub-low : tie.Need-sub-low Inv-loop μ-loop
-sub-low c =
-    let c₄ = c .before .before .before .before in let l = c₄ .loop in
-    let s = l .inv .start in omega arith
+sub-low c = let s = c .before .before .before .before .loop .inv .start in omega arith
 
 returns : tie.Need-returns Inv-loop μ-loop
-returns c =
-    let c₃ = c .before .before .before in let taken = c₃ .taken in
-    let c₄ = c₃ .before in let loop-test = c₄ .loop-test in
-    let c₅ = c₄ .before in let l = c₅ .loop in
-    let c₆ = c₅ .before in let granules = c₆ .granules in
-    low-found _ _ (low-longer _ _ (l .inv) (let e = granules .ensures .0 in let t = loop-test .taken in omega arith)
-    (sym (taken .ensures) ∙ c .before .before .if1 .left) (c .before .if2 .left)) (c .if3 .taken)
+returns c = low-found _ _ (low-longer _ _ (c .before .before .before .before .before .loop .inv)
+    (let e = c .before .before .before .before .before .before .granules .ensures .0 in let t = c .before .before .before .before .loop-test .taken in omega
+    arith) (sym (c .before .before .before .taken .ensures) ∙ c .before .before .if1 .left) (c .before .if2 .left)) (c .if3 .taken)
 
 loop-less-3 : tie.Need-loop-less-3 Inv-loop μ-loop
-loop-less-3 c =
-    let c₄ = c .before .before .before .before in let loop-test = c₄ .loop-test in
-    let t = loop-test .taken in omega arith
+loop-less-3 c = let t = c .before .before .before .before .loop-test .taken in omega arith
 
 loop-again-3 : tie.Need-loop-again-3 Inv-loop μ-loop
-loop-again-3 c =
-    let c₃ = c .before .before .before in let taken = c₃ .taken in
-    let c₄ = c₃ .before in let loop-test = c₄ .loop-test in
-    let c₅ = c₄ .before in let l = c₅ .loop in
-    let c₆ = c₅ .before in let granules = c₆ .granules in
-    low-longer _ _ (l .inv) (let e = granules .ensures .0 in let t = loop-test .taken in omega arith) (sym (taken .ensures) ∙ c .before .before .if1 .left)
-    (c .before .if2 .left)
+loop-again-3 c = low-longer _ _ (c .before .before .before .before .before .loop .inv)
+    (let e = c .before .before .before .before .before .before .granules .ensures .0 in let t = c .before .before .before .before .loop-test .taken in omega
+    arith) (sym (c .before .before .before .taken .ensures) ∙ c .before .before .if1 .left) (c .before .if2 .left)
 
 returns-2 : tie.Need-returns-2 Inv-loop μ-loop
 returns-2 c = low-done _ _ (c .before .loop .inv) (let e = c .before .before .granules .ensures .0 in let t = c .loop-test .left in omega arith)

@@ -25,20 +25,15 @@ loop-holds : tie.Need-loop-holds Inv-loop μ-loop
 loop-holds c = let e = c .granules .ensures .0 in passing-start _ _ (let w = c .before .before .pre .1 in omega arith)
 
 block-taken-requires : tie.Need-block-taken-requires Inv-loop μ-loop
-block-taken-requires c κs =
-    let c₄ = c .before .before .before .before in let p = c₄ .pre in
-    (p .0, let e = c .before .before .granules .ensures .0 in omega arith)
+block-taken-requires c κs = (c .before .before .before .before .pre .0, let e = c .before .before .granules .ensures .0 in omega arith)
 
 add-n : tie.Need-add-n Inv-loop μ-loop
-add-n c =
-    let c₅ = c .before .before .before .before .before in let granules = c₅ .granules in
-    let c₇ = c₅ .before .before in let p = c₇ .pre in
-    let r = p .0 .units-high in let m = p .0 .most in let e = granules .ensures .0 in omega arith
+add-n c = let r = c .before .before .before .before .before .before .before .pre .0 .units-high in
+    let m = c .before .before .before .before .before .before .before .pre .0 .most in
+    let e = c .before .before .before .before .before .granules .ensures .0 in omega arith
 
 loop-less : tie.Need-loop-less Inv-loop μ-loop
-loop-less c =
-    let c₇ = c .before .before .before .before .before .before .before in let p = c₇ .pre in
-    let r = p .0 .units-low in omega arith
+loop-less c = let r = c .before .before .before .before .before .before .before .pre .0 .units-low in omega arith
 
 loop-again : tie.Need-loop-again Inv-loop μ-loop
 loop-again c =
@@ -50,10 +45,11 @@ loop-again c =
     (sym (c .before .before .block-taken .ensures) ∙ c .before .if1 .taken)
 
 taken-requires : tie.Need-taken-requires Inv-loop μ-loop
-taken-requires c κs =
-    let c₄ = c .before .before .before .before in let granules = c₄ .granules in
-    let c₆ = c₄ .before .before in let p = c₆ .pre in
-    (p .0, let e = granules .ensures .0 in omega arith)
+taken-requires c κs = (
+  c .before .before .before .before .before .before .pre .0,
+  let e = c .before .before .before .before .granules .ensures .0 in omega
+      arith,
+)
 
 returns : tie.Need-returns Inv-loop μ-loop
 returns c =

@@ -31,15 +31,11 @@ kept-columns-requires : tie.Need-kept-columns-requires Inv-loop μ-loop
 kept-columns-requires c κs = search needs
 
 returns : tie.Need-returns Inv-loop μ-loop
-returns c =
-    let c₃ = c .before .before .before in let if1 = c₃ .if1 in
-    let c₄ = c₃ .before in let hit = c₄ .hit in
-    let c₅ = c₄ .before in let loop-test = c₅ .loop-test in
-    let c₆ = c₅ .before in let l = c₆ .loop in
-    let c₇ = c₆ .before in let columns = c₇ .columns in
-    let e = columns .ensures .is in
-    looking-found _ _ (l .inv) (slot-open _ _ _ (loop-test .taken) (let w = c .before .before .if2 .taken in omega arith)
-    (keeps-no (c .before .kept-columns .ensures) _ refl (c .if3 .taken)) (sym (hit .ensures .is) ∙ if1 .taken))
+returns c = let e = c .before .before .before .before .before .before .before .columns .ensures .is in
+    looking-found _ _ (c .before .before .before .before .before .before .loop .inv)
+    (slot-open _ _ _ (c .before .before .before .before .before .loop-test .taken) (let w = c .before .before .if2 .taken in omega arith)
+    (keeps-no (c .before .kept-columns .ensures) _ refl (c .if3 .taken))
+    (sym (c .before .before .before .before .hit .ensures .is) ∙ c .before .before .before .if1 .taken))
 
 add-s : tie.Need-add-s Inv-loop μ-loop
 add-s c = search needs
@@ -48,11 +44,8 @@ loop-less : tie.Need-loop-less Inv-loop μ-loop
 loop-less c = search needs
 
 loop-again : tie.Need-loop-again Inv-loop μ-loop
-loop-again c =
-    let c₃ = c .before .before .before in let l = c₃ .loop in
-    let c₄ = c₃ .before in let columns = c₄ .columns in
-    let e = columns .ensures .is in
-    looking-step _ _ (l .inv) (c .before .before .loop-test .taken) (⊎-elim
+loop-again c = let e = c .before .before .before .before .columns .ensures .is in
+    looking-step _ _ (c .before .before .before .loop .inv) (c .before .before .loop-test .taken) (⊎-elim
     (λ w. slot-kept _ _ _ (keeps-yes (w .2 .ensures) _ refl (w .3 .left)))
     (λ v. ⊎-elim (λ w. let a = w .1 .left in slot-past _ _ _ (c .before .before .loop-test .taken) (omega arith))
     (λ w. slot-used _ _ _ (λ q. w .left (c .before .hit .ensures .is ∙ q))) v)

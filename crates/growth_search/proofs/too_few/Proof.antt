@@ -25,9 +25,8 @@ loop-holds : tie.Need-loop-holds Inv-loop μ-loop
 loop-holds c = (omega arith, omega arith, freed-start _ _)
 
 returns : tie.Need-returns Inv-loop μ-loop
-returns c =
-    let c₄ = c .before .before .before .before in let a = c₄ .args in
-    sym (le-ltb (length (freeGranules (a .g) (a .image .now))) (a .k) (let f = c .before .before .loop .inv .2 .rest in let t = c .if1 .taken in omega arith))
+returns c = sym (le-ltb (length (freeGranules (c .before .before .before .before .args .g) (c .before .before .before .before .args .image .now)))
+    (c .before .before .before .before .args .k) (let f = c .before .before .loop .inv .2 .rest in let t = c .if1 .taken in omega arith))
 
 sub-b : tie.Need-sub-b Inv-loop μ-loop
 sub-b c = omega arith
@@ -56,15 +55,13 @@ loop-less : tie.Need-loop-less Inv-loop μ-loop
 loop-less c = omega arith
 
 loop-again : tie.Need-loop-again Inv-loop μ-loop
-loop-again c =
-    let c₅ = c .before .before .before .before .before in let loop-test = c₅ .loop-test in
-    let c₆ = c₅ .before in let l = c₆ .loop in
-    let c₈ = c₆ .before .before in let p = c₈ .pre in (
-      omega arith,
-      (let k = c .clear-bits .ensures .1 in omega arith),
-      freed-step _ _ (p .units-low) (l .inv .2) (loop-test .taken)
-          (c .before .wide .ensures .is) (c .clear-bits .ensures .0),
-    )
+loop-again c = (
+  omega arith,
+  (let k = c .clear-bits .ensures .1 in omega arith),
+  freed-step _ _
+      (c .before .before .before .before .before .before .before .before .pre .units-low) (c .before .before .before .before .before .before .loop .inv .2)
+      (c .before .before .before .before .before .loop-test .taken) (c .before .wide .ensures .is) (c .clear-bits .ensures .0),
+)
 
 returns-2 : tie.Need-returns-2 Inv-loop μ-loop
 returns-2 c = let z : c .before .loop .b ≡ 0 = omega arith in

@@ -41,25 +41,22 @@ mul-same-name-2 : tie.Need-mul-same-name-2
 mul-same-name-2 c = search needs
 
 add-same-name-3 : tie.Need-add-same-name-3
-add-same-name-3 c =
-    let c₄ = c .before .before .before .before in let if1 = c₄ .if1 in
-    let c₅ = c₄ .before in let is-slot = c₅ .is-slot in
-    let q = slot-of _ _ _ (is-yes (is-slot .ensures) (if1 .left)) in omega arith
+add-same-name-3 c = let q = slot-of _ _ _
+    (is-yes (c .before .before .before .before .before .is-slot .ensures) (c .before .before .before .before .if1 .left)) in
+    omega arith
 
 add-same-name-4 : tie.Need-add-same-name-4
-add-same-name-4 c =
-    let c₄ = c .before .before .before .before in let if1 = c₄ .if1 in
-    let c₅ = c₄ .before in let is-slot = c₅ .is-slot in
-    let q = slot-of _ _ _ (is-yes (is-slot .ensures) (if1 .left)) in omega arith
+add-same-name-4 c = let q = slot-of _ _ _
+    (is-yes (c .before .before .before .before .before .is-slot .ensures) (c .before .before .before .before .if1 .left)) in
+    omega arith
 
 slice-aggregate-same-name : tie.Need-slice-aggregate-same-name
 slice-aggregate-same-name c = search needs
 
 same-name-requires : tie.Need-same-name-requires
-same-name-requires c κs =
-    let c₅ = c .before .before .before .before .before in let if1 = c₅ .if1 in
-    let c₆ = c₅ .before in let is-slot = c₆ .is-slot in
-    let q = slot-of _ _ _ (is-yes (is-slot .ensures) (if1 .left)) in (omega arith, search needs)
+same-name-requires c κs = let q = slot-of _ _ _
+    (is-yes (c .before .before .before .before .before .before .is-slot .ensures) (c .before .before .before .before .before .if1 .left)) in
+    (omega arith, search needs)
 
 returns-3 : tie.Need-returns-3
 unfolding fresh

@@ -30,14 +30,14 @@ rem-without-bit : tie.Need-rem-without-bit
 rem-without-bit c = search needs
 
 without-bit-requires : tie.Need-without-bit-requires
-without-bit-requires c κs =
-    let c₇ = c .before .before .before .before .before .before .before in let a = c₇ .args in (
-      c .before .wide .ensures .small,
-      omega (
-        arith,
-        mod-lt (a .n) {m = a .g .units} (omega arith),
-      ),
-    )
+without-bit-requires c κs = (
+  c .before .wide .ensures .small,
+  omega (
+    arith,
+    mod-lt (c .before .before .before .before .before .before .before .args .n)
+        {m = c .before .before .before .before .before .before .before .args .g .units} (omega arith),
+  ),
+)
 
 cast-image : tie.Need-cast-image
 cast-image c = search needs

@@ -27,9 +27,8 @@ add-result : tie.Need-add-result
 add-result c = search needs
 
 returns : tie.Need-returns
-returns c =
-    let c₄ = c .before .before .before .before in let a = c₄ .args in
-    let e = number-three (a .bytes .now) (a .at) (omega arith) in let p = c .before .before .two .ensures .is in let q = c .wide .ensures .is in omega arith
+returns c = let e = number-three (c .before .before .before .before .args .bytes .now) (c .before .before .before .before .args .at) (omega arith) in
+    let p = c .before .before .two .ensures .is in let q = c .wide .ensures .is in omega arith
 
 pub three-spec : {M : Type 1} → statement M
 three-spec =

@@ -29,10 +29,10 @@ add-result : tie.Need-add-result
 add-result c = search needs
 
 returns : tie.Need-returns
-returns c =
-    let c₅ = c .before .before .before .before .before in let a′ = c₅ .args in
-    let e = number-two (a′ .bytes .now) (a′ .at) (omega arith) in let a = c .before .before .wide .ensures in let b = c .wide2 .ensures in let p = a .is in
-    let q = b .is in let x = a .small in let y = b .small in record { is = omega arith; small = omega arith }
+returns c = let e = number-two (c .before .before .before .before .before .args .bytes .now) (c .before .before .before .before .before .args .at)
+    (omega arith) in
+    let a = c .before .before .wide .ensures in let b = c .wide2 .ensures in let p = a .is in let q = b .is in let x = a .small in let y = b .small in
+    record { is = omega arith; small = omega arith }
 
 pub two-spec : {M : Type 1} → statement M
 two-spec =

@@ -53,30 +53,23 @@ add-at-2 : tie.Need-add-at-2 Inv-loop2 μ-loop2 Inv-loop μ-loop
 add-at-2 c = search needs
 
 loop2-holds : tie.Need-loop2-holds Inv-loop2 μ-loop2 Inv-loop μ-loop
-loop2-holds c =
-    let c₃ = c .before .before .before in let directory-sectors = c₃ .directory-sectors in
-    let c₅ = c₃ .before .before in let p = c₅ .pre in
-    let e = directory-sectors .ensures in let t = p .thirty in
+loop2-holds c = let e = c .before .before .before .directory-sectors .ensures in let t = c .before .before .before .before .before .pre .thirty in
     (row-start _ _ (c .before .loop-test .taken) (omega arith), c .before .before .loop .inv .1, omega arith, c .before .before .loop .inv .2)
 
 tells-requires : tie.Need-tells-requires Inv-loop2 μ-loop2 Inv-loop μ-loop
-tells-requires c κs =
-    let c₅ = c .before .before .before .before .before in let directory-sectors = c₅ .directory-sectors in
-    let c₇ = c₅ .before .before in let p = c₇ .pre in
-    let e = directory-sectors .ensures in let i = c .before .loop2 .inv .0 in let b = i .begun in let f = i .few in let q = c .before .loop2 .inv .2 in
-    let z = c .loop2-test .taken in let h = row-here i z in (p, record { low = row-slot i (omega arith); held = omega arith }, omega arith)
+tells-requires c κs = let e = c .before .before .before .before .before .directory-sectors .ensures in let i = c .before .loop2 .inv .0 in let b = i .begun in
+    let f = i .few in let q = c .before .loop2 .inv .2 in let z = c .loop2-test .taken in let h = row-here i z in
+    (c .before .before .before .before .before .before .before .pre, record { low = row-slot i (omega arith); held = omega arith }, omega arith)
 
 add-n : tie.Need-add-n Inv-loop2 μ-loop2 Inv-loop μ-loop
 add-n c = let r = row-slot (c .before .before .before .loop2 .inv .0) (let z = c .before .before .loop2-test .taken in omega arith) in
     let q = c .before .before .before .loop2 .inv .1 in omega arith
 
 add-at-3 : tie.Need-add-at-3 Inv-loop2 μ-loop2 Inv-loop μ-loop
-add-at-3 c =
-    let c₃ = c .before .before .before in let loop2 = c₃ .loop2 in
-    let c₅ = c₃ .before .before in let loop-test = c₅ .loop-test in
-    let c₉ = c₅ .before .before .before .before in let p = c₉ .pre in
-    let i = loop2 .inv .0 in let a = i .begun in let b = i .few in let q = loop2 .inv .2 in let z = c .before .before .loop2-test .taken in
-    let r = p .directory in let m = p .most in let l = loop-test .taken in omega arith
+add-at-3 c = let i = c .before .before .before .loop2 .inv .0 in let a = i .begun in let b = i .few in let q = c .before .before .before .loop2 .inv .2 in
+    let z = c .before .before .loop2-test .taken in let r = c .before .before .before .before .before .before .before .before .before .pre .directory in
+    let m = c .before .before .before .before .before .before .before .before .before .pre .most in
+    let l = c .before .before .before .before .before .loop-test .taken in omega arith
 
 add-s : tie.Need-add-s Inv-loop2 μ-loop2 Inv-loop μ-loop
 add-s c = let r = row-slot (c .before .before .before .loop2 .inv .0) (let z = c .before .before .loop2-test .taken in omega arith) in omega arith
@@ -85,11 +78,10 @@ loop2-less : tie.Need-loop2-less Inv-loop2 μ-loop2 Inv-loop μ-loop
 loop2-less c = let z = c .before .before .loop2-test .taken in omega arith
 
 loop2-again : tie.Need-loop2-again Inv-loop2 μ-loop2 Inv-loop μ-loop
-loop2-again c =
-    let c₃ = c .before .before .before in let loop2 = c₃ .loop2 in
-    let c₇ = c₃ .before .before .before .before in let directory-sectors = c₇ .directory-sectors in
-    let e = ap (λ (k : ℕ). k - 2) (directory-sectors .ensures) in let i = loop2 .inv .0 in let z = c .before .before .loop2-test .taken in
-    let l = row-slot i (omega arith) in let h = row-here i z in let b = i .begun in let q = loop2 .inv .1 in let r = loop2 .inv .2 in let f = loop2 .inv .3 in
+loop2-again c = let e = ap (λ (k : ℕ). k - 2) (c .before .before .before .before .before .before .before .directory-sectors .ensures) in
+    let i = c .before .before .before .loop2 .inv .0 in let z = c .before .before .loop2-test .taken in let l = row-slot i (omega arith) in
+    let h = row-here i z in let b = i .begun in let q = c .before .before .before .loop2 .inv .1 in let r = c .before .before .before .loop2 .inv .2 in
+    let f = c .before .before .before .loop2 .inv .3 in
     ⊎-elim
     (λ w. (row-next i z, omega (arith, w .1), omega arith, counting-yes _ _ l e h (sym (c .before .tells .ensures) ∙ w .0 .taken) (w .1) f))
     (λ w. (row-next i z, omega (arith, w .1), omega arith, counting-no _ _ l e h (sym (c .before .tells .ensures) ∙ w .0 .left) (w .1) f))
@@ -102,15 +94,14 @@ loop-less : tie.Need-loop-less Inv-loop2 μ-loop2 Inv-loop μ-loop
 loop-less c = let z = c .before .before .before .loop-test .taken in omega arith
 
 loop-again : tie.Need-loop-again Inv-loop2 μ-loop2 Inv-loop μ-loop
-loop-again c =
-    let c₃ = c .before .before .before in let loop-test = c₃ .loop-test in
-    let c₅ = c₃ .before .before in let directory-sectors = c₅ .directory-sectors in
-    let c₇ = c₅ .before .before in let a′ = c₇ .args in
-    let i = c .before .loop2 .inv .0 in let a = i .ends in let b = i .few in let q = c .before .loop2 .inv .1 in let r = loop-test .taken in (
+loop-again c = let i = c .before .loop2 .inv .0 in let a = i .ends in let b = i .few in let q = c .before .loop2 .inv .1 in
+    let r = c .before .before .before .loop-test .taken in (
       omega arith,
       omega arith,
-      subst (Counting (a′ .g) (a′ .image .now) (c .before .loop2 .n)) (row-after i (c .loop2-test .left))
-          (counting-past _ _ (row-slot i a) (ap (λ (k : ℕ). k - 2) (directory-sectors .ensures)) (row-past i (c .loop2-test .left)) (c .before .loop2 .inv .3)),
+      subst (Counting (c .before .before .before .before .before .before .before .args .g)
+          (c .before .before .before .before .before .before .before .args .image .now) (c .before .loop2 .n)) (row-after i (c .loop2-test .left))
+          (counting-past _ _ (row-slot i a) (ap (λ (k : ℕ). k - 2) (c .before .before .before .before .before .directory-sectors .ensures))
+          (row-past i (c .loop2-test .left)) (c .before .loop2 .inv .3)),
     )
 
 returns : tie.Need-returns Inv-loop2 μ-loop2 Inv-loop μ-loop

@@ -42,11 +42,11 @@ measure-requires : tie.Need-measure-requires
 measure-requires c κs = search needs
 
 returns : tie.Need-returns
-returns c =
-    let c₄ = c .before .before .before .before in let unplaced = c₄ .unplaced in
-    let c₆ = c₄ .before .before in let a = c₆ .args in let p = c₆ .pre in
-    told-is _ _ (a .s) (unplaced .ensures) (c .before .before .name-at .ensures ∙ name-is (a .g) (a .image .now) (a .s)
-    (let r = (p .0 .room) in let u = (p .1 .slot) in omega arith)) (c .before .size-of .ensures .is) (c .measure .ensures .many)
+returns c = told-is _ _ (c .before .before .before .before .before .before .args .s) (c .before .before .before .before .unplaced .ensures)
+    (c .before .before .name-at .ensures ∙ name-is (c .before .before .before .before .before .before .args .g)
+    (c .before .before .before .before .before .before .args .image .now) (c .before .before .before .before .before .before .args .s)
+    (let r = (c .before .before .before .before .before .before .pre .0 .room) in let u = (c .before .before .before .before .before .before .pre .1 .slot) in
+    omega arith)) (c .before .size-of .ensures .is) (c .measure .ensures .many)
 
 pub tell-spec : {M : Type 1} → statement M
 tell-spec =

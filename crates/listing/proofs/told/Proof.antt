@@ -57,51 +57,37 @@ add-at-2 : tie.Need-add-at-2 Inv-loop2 μ-loop2 Inv-loop μ-loop
 add-at-2 c = search needs
 
 loop2-holds : tie.Need-loop2-holds Inv-loop2 μ-loop2 Inv-loop μ-loop
-loop2-holds c =
-    let c₃ = c .before .before .before in let directory-sectors = c₃ .directory-sectors in
-    let c₅ = c₃ .before .before in let p = c₅ .pre in
-    let e = directory-sectors .ensures in let t = p .room .thirty in
+loop2-holds c = let e = c .before .before .before .directory-sectors .ensures in let t = c .before .before .before .before .before .pre .room .thirty in
     (row-start _ _ (c .before .loop-test .taken) (omega arith), omega arith, c .before .before .loop .inv .1)
 
 tells-requires : tie.Need-tells-requires Inv-loop2 μ-loop2 Inv-loop μ-loop
-tells-requires c κs =
-    let c₅ = c .before .before .before .before .before in let directory-sectors = c₅ .directory-sectors in
-    let c₇ = c₅ .before .before in let p = c₇ .pre in
-    let e = directory-sectors .ensures in let i = c .before .loop2 .inv .0 in let b = i .begun in let f = i .few in let q = c .before .loop2 .inv .1 in
-    let z = c .loop2-test .taken in let h = row-here i z in (p .room, record { low = row-slot i (omega arith); held = omega arith }, omega arith)
+tells-requires c κs = let e = c .before .before .before .before .before .directory-sectors .ensures in let i = c .before .loop2 .inv .0 in let b = i .begun in
+    let f = i .few in let q = c .before .loop2 .inv .1 in let z = c .loop2-test .taken in let h = row-here i z in
+    (c .before .before .before .before .before .before .before .pre .room, record { low = row-slot i (omega arith); held = omega arith }, omega arith)
 
 tell-requires : tie.Need-tell-requires Inv-loop2 μ-loop2 Inv-loop μ-loop
-tell-requires c κs =
-    let c₃ = c .before .before .before in let loop2-test = c₃ .loop2-test in
-    let c₄ = c₃ .before in let loop2 = c₄ .loop2 in
-    let c₈ = c₄ .before .before .before .before in let directory-sectors = c₈ .directory-sectors in
-    let c₁₀ = c₈ .before .before in let p = c₁₀ .pre in
-    let i = loop2 .inv .0 in let z = loop2-test .taken in (
-      p,
-      tells-used _ _ (row-slot i (omega arith)) (ap (λ (k : ℕ). k - 2) (directory-sectors .ensures)) (row-here i z)
-          (sym (c .before .before .tells .ensures) ∙ (c .before .if1 .taken)),
-    )
+tell-requires c κs = let i = c .before .before .before .before .loop2 .inv .0 in let z = c .before .before .before .loop2-test .taken in (
+  c .before .before .before .before .before .before .before .before .before .before .pre,
+  tells-used _ _ (row-slot i (omega arith))
+      (ap (λ (k : ℕ). k - 2) (c .before .before .before .before .before .before .before .before .directory-sectors .ensures)) (row-here i z)
+      (sym (c .before .before .tells .ensures) ∙ (c .before .if1 .taken)),
+)
 
 returns : tie.Need-returns Inv-loop2 μ-loop2 Inv-loop μ-loop
-returns c =
-    let c₃ = c .before .before .before in let tells = c₃ .tells in
-    let c₄ = c₃ .before in let loop2-test = c₄ .loop2-test in
-    let c₅ = c₄ .before in let loop2 = c₅ .loop2 in
-    let c₉ = c₅ .before .before .before .before in let directory-sectors = c₉ .directory-sectors in
-    let i = loop2 .inv .0 in let z = loop2-test .taken in
-    (c .tell .ensures) ∙ telling-here _ _ (row-slot i (omega arith)) (ap (λ (k : ℕ). k - 2) (directory-sectors .ensures)) (row-here i z)
-    (sym (tells .ensures) ∙ (c .before .before .if1 .taken)) (c .before .if2 .taken) (loop2 .inv .2)
+returns c = let i = c .before .before .before .before .before .loop2 .inv .0 in let z = c .before .before .before .before .loop2-test .taken in
+    (c .tell .ensures) ∙ telling-here _ _ (row-slot i (omega arith))
+    (ap (λ (k : ℕ). k - 2) (c .before .before .before .before .before .before .before .before .before .directory-sectors .ensures)) (row-here i z)
+    (sym (c .before .before .before .tells .ensures) ∙ (c .before .before .if1 .taken)) (c .before .if2 .taken)
+    (c .before .before .before .before .before .loop2 .inv .2)
 
 sub-left : tie.Need-sub-left Inv-loop2 μ-loop2 Inv-loop μ-loop
 sub-left c = search needs
 
 add-at-3 : tie.Need-add-at-3 Inv-loop2 μ-loop2 Inv-loop μ-loop
-add-at-3 c =
-    let c₃ = c .before .before .before in let loop2 = c₃ .loop2 in
-    let c₅ = c₃ .before .before in let loop-test = c₅ .loop-test in
-    let c₉ = c₅ .before .before .before .before in let p = c₉ .pre in
-    let i = loop2 .inv .0 in let a = i .begun in let b = i .few in let q = loop2 .inv .1 in let z = c .before .before .loop2-test .taken in
-    let r = p .room .directory in let m = p .room .most in let l = loop-test .taken in omega arith
+add-at-3 c = let i = c .before .before .before .loop2 .inv .0 in let a = i .begun in let b = i .few in let q = c .before .before .before .loop2 .inv .1 in
+    let z = c .before .before .loop2-test .taken in let r = c .before .before .before .before .before .before .before .before .before .pre .room .directory in
+    let m = c .before .before .before .before .before .before .before .before .before .pre .room .most in
+    let l = c .before .before .before .before .before .loop-test .taken in omega arith
 
 add-s : tie.Need-add-s Inv-loop2 μ-loop2 Inv-loop μ-loop
 add-s c = let r = row-slot (c .before .before .before .loop2 .inv .0) (let z = c .before .before .loop2-test .taken in omega arith) in omega arith
@@ -110,11 +96,9 @@ loop2-less : tie.Need-loop2-less Inv-loop2 μ-loop2 Inv-loop μ-loop
 loop2-less c = let z = c .before .before .loop2-test .taken in omega arith
 
 loop2-again : tie.Need-loop2-again Inv-loop2 μ-loop2 Inv-loop μ-loop
-loop2-again c =
-    let c₃ = c .before .before .before in let loop2 = c₃ .loop2 in
-    let c₇ = c₃ .before .before .before .before in let directory-sectors = c₇ .directory-sectors in
-    let e = ap (λ (k : ℕ). k - 2) (directory-sectors .ensures) in let i = loop2 .inv .0 in let z = c .before .before .loop2-test .taken in
-    let l = row-slot i (omega arith) in let h = row-here i z in let b = i .begun in let r = loop2 .inv .1 in let f = loop2 .inv .2 in
+loop2-again c = let e = ap (λ (k : ℕ). k - 2) (c .before .before .before .before .before .before .before .directory-sectors .ensures) in
+    let i = c .before .before .before .loop2 .inv .0 in let z = c .before .before .loop2-test .taken in let l = row-slot i (omega arith) in
+    let h = row-here i z in let b = i .begun in let r = c .before .before .before .loop2 .inv .1 in let f = c .before .before .before .loop2 .inv .2 in
     ⊎-elim
     (λ w. (row-next i z, omega arith, telling-same _ _ (w .2) (telling-more _ _ l e _ _ h (sym (c .before .tells .ensures) ∙ w .0 .taken) (w .1 .left) f)))
     (λ w. (row-next i z, omega arith, telling-same _ _ (w .1) (telling-no _ _ l e h (sym (c .before .tells .ensures) ∙ w .0 .left) f)))
@@ -127,15 +111,14 @@ loop-less : tie.Need-loop-less Inv-loop2 μ-loop2 Inv-loop μ-loop
 loop-less c = let z = c .before .before .before .loop-test .taken in omega arith
 
 loop-again : tie.Need-loop-again Inv-loop2 μ-loop2 Inv-loop μ-loop
-loop-again c =
-    let c₃ = c .before .before .before in let loop-test = c₃ .loop-test in
-    let c₅ = c₃ .before .before in let directory-sectors = c₅ .directory-sectors in
-    let c₇ = c₅ .before .before in let a′ = c₇ .args in
-    let i = c .before .loop2 .inv .0 in let a = i .ends in let b = i .few in let r = loop-test .taken in (
-      omega arith,
-      subst (Telling (a′ .g) (a′ .image .now) (a′ .number) (c .before .loop2 .left)) (row-after i (c .loop2-test .left))
-          (telling-past _ _ (row-slot i a) (ap (λ (k : ℕ). k - 2) (directory-sectors .ensures)) (row-past i (c .loop2-test .left)) (c .before .loop2 .inv .2)),
-    )
+loop-again c = let i = c .before .loop2 .inv .0 in let a = i .ends in let b = i .few in let r = c .before .before .before .loop-test .taken in (
+  omega arith,
+  subst (Telling (c .before .before .before .before .before .before .before .args .g)
+      (c .before .before .before .before .before .before .before .args .image .now)
+      (c .before .before .before .before .before .before .before .args .number) (c .before .loop2 .left)) (row-after i (c .loop2-test .left))
+      (telling-past _ _ (row-slot i a) (ap (λ (k : ℕ). k - 2) (c .before .before .before .before .before .directory-sectors .ensures))
+      (row-past i (c .loop2-test .left)) (c .before .loop2 .inv .2)),
+)
 
 unplaced-requires : tie.Need-unplaced-requires Inv-loop2 μ-loop2 Inv-loop μ-loop
 unplaced-requires c κs = search needs

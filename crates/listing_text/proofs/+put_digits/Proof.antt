@@ -115,10 +115,13 @@ put-digits-put-byte-requires-2 : (t : ℕ) → put-digits-lts.Need-put-byte-requ
   put-digits-below t,
   put-digits.Post,
 ) (put-digits-at t) put-digits.Post
-put-digits-put-byte-requires-2 t c κs =
-    let c₄ = c .before .before .before .before in let put-digits = c₄ .put-digits in
-    let c₇ = c₄ .before .before .before in let if1 = c₇ .if1 in
-    omega (arith, if1 .left, put-digits .ensures .past, put-digits .ensures .fits)
+put-digits-put-byte-requires-2 t c κs = omega (
+  arith,
+  c .before .before .before .before .before .before .before .if1 .left,
+  c .before .before .before .before
+      .put-digits .ensures .past,
+  c .before .before .before .before .put-digits .ensures .fits,
+)
 
 put-digits-same-length-2 : (t : ℕ) → put-digits-lts.Need-same-length-2 (
   digit-reads.Asked,

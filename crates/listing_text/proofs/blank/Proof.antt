@@ -37,10 +37,12 @@ loop-less : tie.Need-loop-less Inv-loop μ-loop
 loop-less c = search needs
 
 loop-again : tie.Need-loop-again Inv-loop μ-loop
-loop-again c =
-    let c₃ = c .before .before .before in let l = c₃ .loop in
-    let c₄ = c₃ .before in let a = c₄ .args in
-    (l .inv .0 ∙ ap (λ (r : List ℕ). none r) (blank-more (a .part .now) (l .i) (c .before .before .loop-test .taken) (c .if1 .left)), omega arith)
+loop-again c = (
+  c .before .before .before .loop .inv .0 ∙ ap (λ (r : List ℕ). none r)
+      (blank-more (c .before .before .before .before .args .part .now) (c .before .before .before .loop .i) (c .before .before .loop-test .taken)
+      (c .if1 .left)),
+  omega arith,
+)
 
 returns-2 : tie.Need-returns-2 Inv-loop μ-loop
 returns-2 c = sym (c .before .loop .inv .0 ∙ blank-all (c .before .before .args .part .now) (c .before .loop .i) (c .loop-test .left))

@@ -18,9 +18,7 @@ same-length : tie.Need-same-length
 same-length c = search needs
 
 returns : tie.Need-returns
-returns c =
-    let c₆ = c .before .before .before .before .before .before in let put-byte = c₆ .put-byte in
-    put-then (put-byte .ensures) (c .before .before .put-decimal .ensures) (omega arith)
+returns c = put-then (c .before .before .before .before .before .before .put-byte .ensures) (c .before .before .put-decimal .ensures) (omega arith)
 
 pub put-column-spec : {M : Type 1} → statement M
 put-column-spec = tie.close (tie.spec put-byte-requires put-decimal-requires same-length returns)

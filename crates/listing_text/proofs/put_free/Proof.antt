@@ -27,10 +27,8 @@ same-length c = search needs
 
 returns : tie.Need-returns
 unfolding freeLine
-returns c =
-    let c₆ = c .before .before .before .before .before .before in let put-column = c₆ .put-column in
-    let c₁₀ = c₆ .before .before .before .before in let put-word = c₁₀ .put-word in
-    put-then {most = 55} (put-then {most = 25} (put-word .ensures) (put-column .ensures) (omega arith)) (c .before .before .put-byte .ensures) (omega arith)
+returns c = put-then {most = 55} (put-then {most = 25} (c .before .before .before .before .before .before .before .before .before .before .put-word .ensures)
+    (c .before .before .before .before .before .before .put-column .ensures) (omega arith)) (c .before .before .put-byte .ensures) (omega arith)
 
 pub put-free-spec : {M : Type 1} → statement M
 put-free-spec =

@@ -27,12 +27,10 @@ same-length c = search needs
 
 returns : tie.Need-returns
 unfolding line
-returns c =
-    let c₆ = c .before .before .before .before .before .before in let put-column2 = c₆ .put-column2 in
-    let c₁₀ = c₆ .before .before .before .before in let put-column = c₁₀ .put-column in
-    let c₁₄ = c₁₀ .before .before .before .before in let put-name = c₁₄ .put-name in
-    put-then {most = 55} (put-then {most = 54} (put-then {most = 33} (put-name .ensures) (put-column .ensures) (omega arith)) (put-column2 .ensures)
-    (omega arith)) (c .before .before .put-byte .ensures) (omega arith)
+returns c = put-then {most = 55} (put-then {most = 54}
+    (put-then {most = 33} (c .before .before .before .before .before .before .before .before .before .before .before .before .before .before .put-name
+    .ensures) (c .before .before .before .before .before .before .before .before .before .before .put-column .ensures) (omega arith))
+    (c .before .before .before .before .before .before .put-column2 .ensures) (omega arith)) (c .before .before .put-byte .ensures) (omega arith)
 
 pub put-line-spec : {M : Type 1} → statement M
 put-line-spec =

@@ -16,14 +16,16 @@ use Rattle.listing_text.proofs.put_stripped.Reads as put-stripped-reads
 use Rattle.listing_text.proofs.put_type.Reads as put-type-reads
 
 slice-aggregate-put-stripped : tie.Need-slice-aggregate-put-stripped
-slice-aggregate-put-stripped c =
-    let c₄ = c .before .before .before .before in let a = c₄ .args in let p = c₄ .pre in
-    sym (length-take-le 8 (a .name .now) (omega (arith, p .1)))
+slice-aggregate-put-stripped c = sym (length-take-le 8 (c .before .before .before .before .args .name .now)
+    (omega (arith, c .before .before .before .before .pre .1)))
 
 put-stripped-requires : tie.Need-put-stripped-requires
-put-stripped-requires c κs =
-    let c₄ = c .before .before .before .before in let a = c₄ .args in let p = c₄ .pre in
-    omega (arith, length-take-le 8 (a .name .now) (omega (arith, p .1)), p .0)
+put-stripped-requires c κs = omega (
+  arith,
+  length-take-le 8 (c .before .before .before .before .args .name .now)
+      (omega (arith, c .before .before .before .before .pre .1)),
+  c .before .before .before .before .pre .0,
+)
 
 sub-put-type : tie.Need-sub-put-type
 sub-put-type c = search needs
@@ -35,13 +37,20 @@ part-put-type-end : tie.Need-part-put-type-end
 part-put-type-end c = search needs
 
 put-type-requires : tie.Need-put-type-requires
-put-type-requires c κs =
-    let c₄ = c .before .before .before .before in let put-stripped = c₄ .put-stripped in
-    let c₉ = c₄ .before .before .before .before .before in let a = c₉ .args in let p = c₉ .pre in (
-      omega (arith, length-take-le 8 (a .name .now) (omega (arith, p .1)), put-stripped .ensures .past, put-stripped .ensures .fits, p .0),
-      type-length
-          (a .name .now) (p .1),
-    )
+put-type-requires c κs = (
+  omega (
+    arith,
+    length-take-le 8 (c .before .before .before .before .before .before .before .before .before .args .name .now)
+        (omega (arith, c .before .before .before .before .before .before .before .before .before .pre .1)),
+    c .before .before .before .before .put-stripped
+        .ensures .past,
+    c .before .before .before .before .put-stripped .ensures .fits,
+    c .before .before .before .before .before .before .before .before .before
+        .pre .0,
+  ),
+  type-length (c .before .before .before .before .before .before .before .before .before .args .name .now)
+      (c .before .before .before .before .before .before .before .before .before .pre .1),
+)
 
 same-length : tie.Need-same-length
 same-length c = search needs

@@ -26,10 +26,13 @@ shared-slice-read-put-kept : tie.Need-shared-slice-read-put-kept Inv-loop μ-loo
 shared-slice-read-put-kept c = search needs
 
 put-kept-requires : tie.Need-put-kept-requires Inv-loop μ-loop
-put-kept-requires c κs =
-    let c₃ = c .before .before .before in let l = c₃ .loop in
-    let c₆ = c₃ .before .before .before in let p = c₆ .pre in
-    omega (arith, l .inv .0 .past, l .inv .0 .fits, p)
+put-kept-requires c κs = omega (
+  arith,
+  c .before .before .before .loop .inv .0 .past,
+  c .before .before .before .loop .inv .0 .fits,
+  c .before .before .before
+      .before .before .before .pre,
+)
 
 add-i : tie.Need-add-i Inv-loop μ-loop
 add-i c = search needs
@@ -38,23 +41,20 @@ loop-less : tie.Need-loop-less Inv-loop μ-loop
 loop-less c = search needs
 
 loop-again : tie.Need-loop-again Inv-loop μ-loop
-loop-again c =
-    let c₅ = c .before .before .before .before .before in let loop-test = c₅ .loop-test in
-    let c₆ = c₅ .before in let l = c₆ .loop in
-    let c₉ = c₆ .before .before .before in let a = c₉ .args in (
-      put-both (l .inv .0) (c .before .before .put-kept .ensures) (stripped-more (a .part .now) (l .i) (loop-test .taken)) (omega arith),
-      omega arith,
-      search
-          needs,
-    )
+loop-again c = (
+  put-both (c .before .before .before .before .before .before .loop .inv .0) (c .before .before .put-kept .ensures)
+      (stripped-more (c .before .before .before .before .before .before .before .before .before .args .part .now)
+      (c .before .before .before .before .before .before .loop .i) (c .before .before .before .before .before .loop-test .taken)) (omega arith),
+  omega arith,
+  search needs,
+)
 
 same-length : tie.Need-same-length Inv-loop μ-loop
 same-length c = search needs
 
 returns : tie.Need-returns Inv-loop μ-loop
-returns c =
-    let c₄ = c .before .before .before .before in let a = c₄ .args in
-    put-as (c .before .loop .inv .0) (stripped-all (a .part .now) (c .before .loop .i) (c .loop-test .left)) (omega arith)
+returns c = put-as (c .before .loop .inv .0) (stripped-all (c .before .before .before .before .args .part .now) (c .before .loop .i) (c .loop-test .left))
+    (omega arith)
 
 pub put-stripped-spec : {M : Type 1} → statement M
 put-stripped-spec =

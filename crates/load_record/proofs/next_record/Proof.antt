@@ -36,25 +36,26 @@ add-p-2 c = omega (arith, c .before .before .before .loop .inv .0, c .before .be
 
 -- src/lib.rt:175:9
 item-requires-2 : tie.Need-item-requires-2 Inv-loop μ-loop
-item-requires-2 c κs =
-    let c₃ = c .before .before .before in let l = c₃ .loop in
-    let c₆ = c₃ .before .before .before in let p = c₆ .pre in
-    let w = comment-whole _ (l .inv .1) (c .before .if1 .taken) in let e = long _ _ _ (p .0) in let h = p .0 .high in (p .0, omega (arith, w, e, h))
+item-requires-2 c κs = let w = comment-whole _ (c .before .before .before .loop .inv .1) (c .before .if1 .taken) in
+    let e = long _ _ _ (c .before .before .before .before .before .before .pre .0) in
+    let h = c .before .before .before .before .before .before .pre .0 .high in
+    (c .before .before .before .before .before .before .pre .0, omega (arith, w, e, h))
 
 -- src/lib.rt:173:5
 loop-less : tie.Need-loop-less Inv-loop μ-loop
-loop-less c =
-    let c₄ = c .before .before .before .before in let l = c₄ .loop in
-    let c₇ = c₄ .before .before .before in let p = c₇ .pre in
-    let w = comment-whole _ (l .inv .1) (c .before .before .if1 .taken) in let e = long _ _ _ (p .0) in omega (arith, w, e)
+loop-less c = let w = comment-whole _ (c .before .before .before .before .loop .inv .1) (c .before .before .if1 .taken) in
+    let e = long _ _ _ (c .before .before .before .before .before .before .before .pre .0) in omega (arith, w, e)
 
 -- src/lib.rt:173:5
 loop-again : tie.Need-loop-again Inv-loop μ-loop
-loop-again c =
-    let c₄ = c .before .before .before .before in let l = c₄ .loop in
-    let c₇ = c₄ .before .before .before in let p = c₇ .pre in
-    let w = comment-whole _ (l .inv .1) (c .before .before .if1 .taken) in let e = long _ _ _ (p .0) in let h = p .0 .high in
-    (omega (arith, w, e, h), c .item2 .ensures, passing-step _ _ (l .inv .2) (l .inv .1) (c .before .before .if1 .taken))
+loop-again c = let w = comment-whole _ (c .before .before .before .before .loop .inv .1) (c .before .before .if1 .taken) in
+    let e = long _ _ _ (c .before .before .before .before .before .before .before .pre .0) in
+    let h = c .before .before .before .before .before .before .before .pre .0 .high in (
+      omega (arith, w, e, h),
+      c .item2 .ensures,
+      passing-step _ _ (c .before .before .before .before .loop .inv .2)
+          (c .before .before .before .before .loop .inv .1) (c .before .before .if1 .taken),
+    )
 
 -- src/lib.rt:177:5
 told-requires : tie.Need-told-requires Inv-loop μ-loop

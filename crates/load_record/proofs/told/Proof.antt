@@ -28,9 +28,7 @@ byte-at-requires c κs = (
 )
 
 add-byte-at-2 : tie.Need-add-byte-at-2
-add-byte-at-2 c =
-    let c₄ = c .before .before .before .before in let p = c₄ .pre in
-    omega (arith, p .1)
+add-byte-at-2 c = omega (arith, c .before .before .before .before .pre .1)
 
 byte-at-requires-2 : tie.Need-byte-at-requires-2
 byte-at-requires-2 c κs =
@@ -38,14 +36,10 @@ byte-at-requires-2 c κs =
     (p .0, address-there _ (long _ _ _ (p .0)) (p .2) (c .before .if1 .left) (p .3) .high)
 
 add-place-after : tie.Need-add-place-after
-add-place-after c =
-    let c₅ = c .before .before .before .before .before in let p = c₅ .pre in
-    omega (arith, p .1)
+add-place-after c = omega (arith, c .before .before .before .before .before .pre .1)
 
 add-place-after-2 : tie.Need-add-place-after-2
-add-place-after-2 c =
-    let c₆ = c .before .before .before .before .before .before in let p = c₆ .pre in
-    omega (arith, p .1, p .2 .few)
+add-place-after-2 c = omega (arith, c .before .before .before .before .before .before .pre .1, c .before .before .before .before .before .before .pre .2 .few)
 
 place-after-requires : tie.Need-place-after-requires
 place-after-requires c κs = search needs
@@ -57,9 +51,7 @@ add-t14 : tie.Need-add-t14
 add-t14 c = omega (arith, c .before .before .byte-at2 .ensures .small, c .before .before .before .byte-at .ensures .small)
 
 add-t15 : tie.Need-add-t15
-add-t15 c =
-    let c₇ = c .before .before .before .before .before .before .before in let p = c₇ .pre in
-    omega (arith, p .1)
+add-t15 c = omega (arith, c .before .before .before .before .before .before .before .pre .1)
 
 sub-t16 : tie.Need-sub-t16
 sub-t16 c =

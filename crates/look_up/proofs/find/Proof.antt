@@ -43,38 +43,35 @@ add-end : tie.Need-add-end Inv-loop2 μ-loop2 Inv-loop μ-loop
 add-end c = search needs
 
 loop2-holds : tie.Need-loop2-holds Inv-loop2 μ-loop2 Inv-loop μ-loop
-loop2-holds c =
-    let c₆ = c .before .before .before .before .before .before in let p = c₆ .pre in
-    let e = c .before .before .columns .ensures .is in let t = p .0 .thirty in
+loop2-holds c = let e = c .before .before .columns .ensures .is in let t = c .before .before .before .before .before .before .pre .0 .thirty in
     (row-start _ _ (c .loop-test .taken) (omega arith), c .before .loop .inv .1, c .before .loop .inv .2)
 
 hit-requires : tie.Need-hit-requires Inv-loop2 μ-loop2 Inv-loop μ-loop
-hit-requires c κs =
-    let c₈ = c .before .before .before .before .before .before .before .before in let p = c₈ .pre in
-    let r = row-slot (c .before .loop2 .inv .0) (let z = c .loop2-test .taken in omega arith) in (p .0, r)
+hit-requires c κs = let r = row-slot (c .before .loop2 .inv .0) (let z = c .loop2-test .taken in omega arith) in
+    (c .before .before .before .before .before .before .before .before .pre .0, r)
 
 add-compared : tie.Need-add-compared Inv-loop2 μ-loop2 Inv-loop μ-loop
 add-compared c = let r = row-slot (c .before .before .before .loop2 .inv .0) (let z = c .before .before .loop2-test .taken in omega arith) in
     let q = c .before .before .before .loop2 .inv .1 in omega arith
 
 carries-requires : tie.Need-carries-requires Inv-loop2 μ-loop2 Inv-loop μ-loop
-carries-requires c κs =
-    let c₃ = c .before .before .before in let loop2 = c₃ .loop2 in
-    let c₆ = c₃ .before .before .before in let columns = c₆ .columns in
-    let c₁₀ = c₆ .before .before .before .before in let p = c₁₀ .pre in
-    let e = columns .ensures .is in let h = row-here (loop2 .inv .0) (c .before .before .loop2-test .taken) in
-    (p .0, record { low = row-slot (loop2 .inv .0) (let z = c .before .before .loop2-test .taken in omega arith); held = omega arith }, p .1)
+carries-requires c κs = let e = c .before .before .before .before .before .before .columns .ensures .is in
+    let h = row-here (c .before .before .before .loop2 .inv .0) (c .before .before .loop2-test .taken) in (
+      c .before .before .before .before .before .before .before .before .before .before .pre .0,
+      record
+          { low = row-slot (c .before .before .before .loop2 .inv .0) (let z = c .before .before .loop2-test .taken in omega arith); held = omega arith },
+      c
+          .before .before .before .before .before .before .before .before .before .before .pre .1,
+    )
 
 returns : tie.Need-returns Inv-loop2 μ-loop2 Inv-loop μ-loop
-returns c =
-    let c₃ = c .before .before .before in let hit = c₃ .hit in
-    let c₄ = c₃ .before in let loop2-test = c₄ .loop2-test in
-    let c₅ = c₄ .before in let loop2 = c₅ .loop2 in
-    let c₈ = c₅ .before .before .before in let columns = c₈ .columns in
-    let c₉ = c₈ .before in let hash = c₉ .hash in
-    finding-hit _ _ _ (row-slot (loop2 .inv .0) (let z = loop2-test .taken in omega arith)) (columns .ensures .is)
-    (row-here (loop2 .inv .0) (loop2-test .taken)) (eq-eqb _ _ (sym (hit .ensures .is) ∙ (c .before .before .if1 .taken) ∙ (hash .ensures .is)))
-    (sym (c .before .carries .ensures) ∙ (c .if2 .taken)) (loop2 .inv .2)
+returns c = finding-hit _ _ _ (row-slot (c .before .before .before .before .before .loop2 .inv .0)
+    (let z = c .before .before .before .before .loop2-test .taken in omega arith))
+    (c .before .before .before .before .before .before .before .before .columns .ensures .is)
+    (row-here (c .before .before .before .before .before .loop2 .inv .0) (c .before .before .before .before .loop2-test .taken))
+    (eq-eqb _ _ (sym (c .before .before .before .hit .ensures .is) ∙ (c .before .before .if1 .taken) ∙
+    (c .before .before .before .before .before .before .before .before .before .hash .ensures .is))) (sym (c .before .carries .ensures) ∙ (c .if2 .taken))
+    (c .before .before .before .before .before .loop2 .inv .2)
 
 add-s : tie.Need-add-s Inv-loop2 μ-loop2 Inv-loop μ-loop
 add-s c = let r = row-slot (c .before .before .before .loop2 .inv .0) (let z = c .before .before .loop2-test .taken in omega arith) in omega arith
@@ -83,25 +80,25 @@ loop2-less : tie.Need-loop2-less Inv-loop2 μ-loop2 Inv-loop μ-loop
 loop2-less c = let z = c .before .before .loop2-test .taken in omega arith
 
 loop2-again : tie.Need-loop2-again Inv-loop2 μ-loop2 Inv-loop μ-loop
-loop2-again c =
-    let c₂ = c .before .before in let loop2-test = c₂ .loop2-test in
-    let c₃ = c₂ .before in let loop2 = c₃ .loop2 in
-    let c₆ = c₃ .before .before .before in let columns = c₆ .columns in
-    let c₇ = c₆ .before in let hash = c₇ .hash in
-    let e = columns .ensures .is in let l = row-slot (loop2 .inv .0) (let z = loop2-test .taken in omega arith) in
-    let h = row-here (loop2 .inv .0) (loop2-test .taken) in let q = loop2 .inv .1 in let f = loop2 .inv .2 in
+loop2-again c = let e = c .before .before .before .before .before .before .columns .ensures .is in
+    let l = row-slot (c .before .before .before .loop2 .inv .0) (let z = c .before .before .loop2-test .taken in omega arith) in
+    let h = row-here (c .before .before .before .loop2 .inv .0) (c .before .before .loop2-test .taken) in let q = c .before .before .before .loop2 .inv .1 in
+    let f = c .before .before .before .loop2 .inv .2 in
     ⊎-elim
     (λ w. (
-      row-next (loop2 .inv .0) (loop2-test .taken),
+      row-next (c .before .before .before .loop2 .inv .0) (c .before .before .loop2-test .taken),
       omega (arith, w .3),
       finding-count _ _ _ (w .3)
-          (finding-miss _ _ _ l e h (eq-eqb _ _ (sym (c .before .hit .ensures .is) ∙ w .0 .taken ∙ (hash .ensures .is))) (sym (w .1 .ensures) ∙ w .2 .left) f),
+          (finding-miss _ _ _ l e h (eq-eqb _ _
+          (sym (c .before .hit .ensures .is) ∙ w .0 .taken ∙ (c .before .before .before .before .before .before .before .hash .ensures .is)))
+          (sym (w .1 .ensures) ∙ w .2 .left) f),
     ))
     (λ w. (
-      row-next (loop2 .inv .0) (loop2-test .taken),
+      row-next (c .before .before .before .loop2 .inv .0) (c .before .before .loop2-test .taken),
       omega (arith, w .1),
       finding-count _ _ _ (w .1)
-          (finding-other _ _ _ l e h (ne-eqb _ _ (λ q. w .0 .left (c .before .hit .ensures .is ∙ q ∙ sym (hash .ensures .is)))) f),
+          (finding-other _ _ _ l e h (ne-eqb _ _
+          (λ q. w .0 .left (c .before .hit .ensures .is ∙ q ∙ sym (c .before .before .before .before .before .before .before .hash .ensures .is)))) f),
     ))
     (c .if1 .came)
 
@@ -112,16 +109,15 @@ loop-less : tie.Need-loop-less Inv-loop2 μ-loop2 Inv-loop μ-loop
 loop-less c = let z = c .before .before .loop-test .taken in omega arith
 
 loop-again : tie.Need-loop-again Inv-loop2 μ-loop2 Inv-loop μ-loop
-loop-again c =
-    let c₄ = c .before .before .before .before in let columns = c₄ .columns in
-    let c₈ = c₄ .before .before .before .before in let a′ = c₈ .args in
-    let i = c .before .loop2 .inv .0 in let a = i .ends in let b = i .few in let q = c .before .loop2 .inv .1 in
+loop-again c = let i = c .before .loop2 .inv .0 in let a = i .ends in let b = i .few in let q = c .before .loop2 .inv .1 in
     let r = c .before .before .loop-test .taken in (
       omega arith,
       omega arith,
-      subst (λ (k : ℕ). Finding (a′ .g) (a′ .image .now) (a′ .name .now) k (c .before .loop2 .compared))
-          (row-after i (c .loop2-test .left)) (finding-past _ _ _ (row-slot i a) (columns .ensures .is) (row-past i (c .loop2-test .left))
-          (c .before .loop2 .inv .2)),
+      subst (λ (k : ℕ). Finding (c .before .before .before .before .before .before .before .before .args .g)
+          (c .before .before .before .before .before .before .before .before .args .image .now)
+          (c .before .before .before .before .before .before .before .before .args .name .now) k (c .before .loop2 .compared))
+          (row-after i (c .loop2-test .left)) (finding-past _ _ _ (row-slot i a) (c .before .before .before .before .columns .ensures .is)
+          (row-past i (c .loop2-test .left)) (c .before .loop2 .inv .2)),
     )
 
 returns-2 : tie.Need-returns-2 Inv-loop2 μ-loop2 Inv-loop μ-loop

@@ -61,15 +61,16 @@ carried-requires c κs = search needs
 -- src/lib.rt:95:9
 returns-3 : tie.Need-returns-3
 returns-3 c =
-    let c₃ = c .before .before .before in let find = c₃ .find in
-    let c₇ = c₃ .before .before .before .before in let if2 = c₇ .if2 in
-    let c₈ = c₇ .before in let incoming = c₈ .incoming in
-    let c₉ = c₈ .before in let if1 = c₉ .if1 in
-    let c₁₃ = c₉ .before .before .before .before in let p = c₁₃ .pre in
-    let f = finds-as _ _ _ (hands-name (incoming .ensures) (if2 .left)) (find .ensures) in let e = finds-none _ _ _ f (c .before .if3 .taken) in
-    told _ _ _ (by-number _ _ _ p 4 (λ z. omega arith) (c .carried .ensures))
-    (sym (check-then _ _ _ p (if1 .left) ∙ first-skip (not-yes (hands-good (incoming .ensures) (if2 .left))) _ _ ∙ first-hit
-    (ap (λ (l : List ℕ). eqb (length l) 0) e) _ _))
+    let f = finds-as _ _ _
+    (hands-name (c .before .before .before .before .before .before .before .before .incoming .ensures)
+    (c .before .before .before .before .before .before .before .if2 .left)) (c .before .before .before .find .ensures) in
+    let e = finds-none _ _ _ f (c .before .if3 .taken) in
+    told _ _ _ (by-number _ _ _ (c .before .before .before .before .before .before .before .before .before .before .before .before .before .pre) 4
+    (λ z. omega arith) (c .carried .ensures))
+    (sym (check-then _ _ _ (c .before .before .before .before .before .before .before .before .before .before .before .before .before .pre)
+    (c .before .before .before .before .before .before .before .before .before .if1 .left) ∙ first-skip
+    (not-yes (hands-good (c .before .before .before .before .before .before .before .before .incoming .ensures)
+    (c .before .before .before .before .before .before .before .if2 .left))) _ _ ∙ first-hit (ap (λ (l : List ℕ). eqb (length l) 0) e) _ _))
     refl (sym (f .compared))
 
 -- src/lib.rt:102:18
@@ -80,15 +81,16 @@ carried-requires-2 c κs = search needs
 returns-4 : tie.Need-returns-4
 unfolding firstOr
 returns-4 c =
-    let c₃ = c .before .before .before in let find = c₃ .find in
-    let c₇ = c₃ .before .before .before .before in let if2 = c₇ .if2 in
-    let c₈ = c₇ .before in let incoming = c₈ .incoming in
-    let c₉ = c₈ .before in let if1 = c₉ .if1 in
-    let c₁₃ = c₉ .before .before .before .before in let p = c₁₃ .pre in
-    let f = finds-as _ _ _ (hands-name (incoming .ensures) (if2 .left)) (find .ensures) in let e = finds-one _ _ _ f (c .before .if3 .left) in
-    told _ _ _ (by-number _ _ _ p 0 (λ z. omega arith) (c .carried2 .ensures))
-    (sym (check-then _ _ _ p (if1 .left) ∙ first-skip (not-yes (hands-good (incoming .ensures) (if2 .left))) _ _ ∙ first-skip
-    (ap (λ (l : List ℕ). eqb (length l) 0) e) _ _ ∙ first-none))
+    let f = finds-as _ _ _
+    (hands-name (c .before .before .before .before .before .before .before .before .incoming .ensures)
+    (c .before .before .before .before .before .before .before .if2 .left)) (c .before .before .before .find .ensures) in
+    let e = finds-one _ _ _ f (c .before .if3 .left) in
+    told _ _ _ (by-number _ _ _ (c .before .before .before .before .before .before .before .before .before .before .before .before .before .pre) 0
+    (λ z. omega arith) (c .carried2 .ensures))
+    (sym (check-then _ _ _ (c .before .before .before .before .before .before .before .before .before .before .before .before .before .pre)
+    (c .before .before .before .before .before .before .before .before .before .if1 .left) ∙ first-skip
+    (not-yes (hands-good (c .before .before .before .before .before .before .before .before .incoming .ensures)
+    (c .before .before .before .before .before .before .before .if2 .left))) _ _ ∙ first-skip (ap (λ (l : List ℕ). eqb (length l) 0) e) _ _ ∙ first-none))
     (ap (firstOr 0) e) (sym (f .compared))
 
 pub look-up-checked-spec : {M : Type 1} → statement M

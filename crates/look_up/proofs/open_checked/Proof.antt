@@ -49,11 +49,10 @@ refused-requires-2 c κs = search needs
 -- src/lib.rt:219:9
 returns-2 : tie.Need-returns-2
 returns-2 c =
-    let c₃ = c .before .before .before in let if1 = c₃ .if1 in
-    let c₇ = c₃ .before .before .before .before in let p = c₇ .pre in
-    open-refused _ _ _ _ _ _ (by-number _ _ _ p 12 (λ z. omega arith) refl) (c .refused2 .ensures)
-    (sym (check-then _ _ _ p (if1 .left) ∙ first-hit (not-no (is-no (c .before .before .good-length .ensures) (c .before .if2 .taken))) _ _))
-    (λ z. omega arith)
+    open-refused _ _ _ _ _ _ (by-number _ _ _ (c .before .before .before .before .before .before .before .pre) 12 (λ z. omega arith) refl)
+    (c .refused2 .ensures)
+    (sym (check-then _ _ _ (c .before .before .before .before .before .before .before .pre) (c .before .before .before .if1 .left) ∙ first-hit
+    (not-no (is-no (c .before .before .good-length .ensures) (c .before .if2 .taken))) _ _)) (λ z. omega arith)
 
 -- src/lib.rt:221:13
 incoming-requires : tie.Need-incoming-requires
@@ -70,15 +69,13 @@ no-handle-requires c κs = search needs
 -- src/lib.rt:223:9
 returns-3 : tie.Need-returns-3
 returns-3 c =
-    let c₃ = c .before .before .before in let incoming = c₃ .incoming in
-    let c₄ = c₃ .before in let if2 = c₄ .if2 in
-    let c₅ = c₄ .before in let good-length = c₅ .good-length in
-    let c₆ = c₅ .before in let if1 = c₆ .if1 in
-    let c₁₀ = c₆ .before .before .before .before in let p = c₁₀ .pre in
-    open-refused _ _ _ _ _ _ (by-place _ _ _ p (if1 .left) (c .before .placed .ensures) (incoming .ensures .place))
+    open-refused _ _ _ _ _ _ (by-place _ _ _ (c .before .before .before .before .before .before .before .before .before .before .pre)
+    (c .before .before .before .before .before .before .if1 .left) (c .before .placed .ensures) (c .before .before .before .incoming .ensures .place))
     (λ i. record { refusal = c .before .placed .result; handle = c .no-handle .ensures i })
-    (sym (check-then _ _ _ p (if1 .left) ∙ first-skip (not-yes (is-yes (good-length .ensures) (if2 .left))) _ _ ∙ first-hit
-    (not-no (hands-bad (incoming .ensures) (c .before .before .if3 .taken))) _ _))
+    (sym (check-then _ _ _ (c .before .before .before .before .before .before .before .before .before .before .pre)
+    (c .before .before .before .before .before .before .if1 .left) ∙ first-skip
+    (not-yes (is-yes (c .before .before .before .before .before .good-length .ensures) (c .before .before .before .before .if2 .left))) _ _ ∙ first-hit
+    (not-no (hands-bad (c .before .before .before .incoming .ensures) (c .before .before .if3 .taken))) _ _))
     (λ z. omega arith)
 
 -- src/lib.rt:228:9
@@ -99,17 +96,18 @@ refused-requires-3 c κs = search needs
 -- src/lib.rt:230:9
 returns-4 : tie.Need-returns-4
 returns-4 c =
-    let c₃ = c .before .before .before in let find = c₃ .find in
-    let c₇ = c₃ .before .before .before .before in let if3 = c₇ .if3 in
-    let c₈ = c₇ .before in let incoming = c₈ .incoming in
-    let c₉ = c₈ .before in let if2 = c₉ .if2 in
-    let c₁₀ = c₉ .before in let good-length = c₁₀ .good-length in
-    let c₁₁ = c₁₀ .before in let if1 = c₁₁ .if1 in
-    let c₁₅ = c₁₁ .before .before .before .before in let p = c₁₅ .pre in
-    let e = finds-none _ _ _ (finds-as _ _ _ (hands-name (incoming .ensures) (if3 .left)) (find .ensures)) (c .before .if4 .taken) in
-    open-refused _ _ _ _ _ _ (by-number _ _ _ p 4 (λ z. omega arith) refl) (c .refused3 .ensures)
-    (sym (check-then _ _ _ p (if1 .left) ∙ first-skip (not-yes (is-yes (good-length .ensures) (if2 .left))) _ _ ∙ first-skip
-    (not-yes (hands-good (incoming .ensures) (if3 .left))) _ _
+    let e = finds-none _ _ _ (finds-as _ _ _
+    (hands-name (c .before .before .before .before .before .before .before .before .incoming .ensures)
+    (c .before .before .before .before .before .before .before .if3 .left)) (c .before .before .before .find .ensures)) (c .before .if4 .taken) in
+    open-refused _ _ _ _ _ _ (by-number _ _ _
+    (c .before .before .before .before .before .before .before .before .before .before .before .before .before .before .before .pre) 4 (λ z. omega arith)
+    refl) (c .refused3 .ensures)
+    (sym (check-then _ _ _ (c .before .before .before .before .before .before .before .before .before .before .before .before .before .before .before .pre)
+    (c .before .before .before .before .before .before .before .before .before .before .before .if1 .left) ∙ first-skip
+    (not-yes (is-yes (c .before .before .before .before .before .before .before .before .before .before .good-length .ensures)
+    (c .before .before .before .before .before .before .before .before .before .if2 .left))) _ _ ∙ first-skip
+    (not-yes (hands-good (c .before .before .before .before .before .before .before .before .incoming .ensures)
+    (c .before .before .before .before .before .before .before .if3 .left))) _ _
     ∙ first-hit (ap (λ (l : List ℕ). eqb (length l) 0) e) _ _)) (λ z. omega arith)
 
 -- src/lib.rt:232:9
@@ -126,20 +124,22 @@ refused-requires-4 c κs = search needs
 -- src/lib.rt:233:9
 returns-5 : tie.Need-returns-5
 returns-5 c =
-    let c₃ = c .before .before .before in let if4 = c₃ .if4 in
-    let c₅ = c₃ .before .before in let find = c₅ .find in
-    let c₉ = c₅ .before .before .before .before in let if3 = c₉ .if3 in
-    let c₁₀ = c₉ .before in let incoming = c₁₀ .incoming in
-    let c₁₁ = c₁₀ .before in let if2 = c₁₁ .if2 in
-    let c₁₂ = c₁₁ .before in let good-length = c₁₂ .good-length in
-    let c₁₃ = c₁₂ .before in let if1 = c₁₃ .if1 in
-    let c₁₇ = c₁₃ .before .before .before .before in let a = c₁₇ .args in let p = c₁₇ .pre in
-    let e = finds-one _ _ _ (finds-as _ _ _ (hands-name (incoming .ensures) (if3 .left)) (find .ensures)) (if4 .left) in
-    open-refused _ _ _ _ _ _ (by-number _ _ _ p 5 (λ z. omega arith) refl) (c .refused4 .ensures)
-    (sym (check-then _ _ _ p (if1 .left) ∙ first-skip (not-yes (is-yes (good-length .ensures) (if2 .left))) _ _ ∙ first-skip
-    (not-yes (hands-good (incoming .ensures) (if3 .left))) _ _
+    let e = finds-one _ _ _ (finds-as _ _ _
+    (hands-name (c .before .before .before .before .before .before .before .before .before .before .incoming .ensures)
+    (c .before .before .before .before .before .before .before .before .before .if3 .left)) (c .before .before .before .before .before .find .ensures))
+    (c .before .before .before .if4 .left) in
+    open-refused _ _ _ _ _ _ (by-number _ _ _
+    (c .before .before .before .before .before .before .before .before .before .before .before .before .before .before .before .before .before .pre) 5
+    (λ z. omega arith) refl) (c .refused4 .ensures)
+    (sym (check-then _ _ _ (c .before .before .before .before .before .before .before .before .before .before .before .before .before .before .before .before
+    .before .pre) (c .before .before .before .before .before .before .before .before .before .before .before .before .before .if1 .left) ∙ first-skip
+    (not-yes (is-yes (c .before .before .before .before .before .before .before .before .before .before .before .before .good-length .ensures)
+    (c .before .before .before .before .before .before .before .before .before .before .before .if2 .left))) _ _ ∙ first-skip
+    (not-yes (hands-good (c .before .before .before .before .before .before .before .before .before .before .incoming .ensures)
+    (c .before .before .before .before .before .before .before .before .before .if3 .left))) _ _
     ∙ first-skip (ap (λ (l : List ℕ). eqb (length l) 0) e) _ _ ∙ first-hit
-    (admitted _ _ _ (a .len) _ _ e (is-no (c .before .before .admits .ensures) (c .before .if5 .taken))) _ _)) (λ z. omega arith)
+    (admitted _ _ _ (c .before .before .before .before .before .before .before .before .before .before .before .before .before .before .before .before
+    .before .args .len) _ _ e (is-no (c .before .before .admits .ensures) (c .before .if5 .taken))) _ _)) (λ z. omega arith)
 
 -- src/lib.rt:236:18
 carried-requires : tie.Need-carried-requires

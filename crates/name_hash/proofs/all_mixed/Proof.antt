@@ -34,13 +34,13 @@ loop-less : tie.Need-loop-less Inv-loop μ-loop
 loop-less c = search needs
 
 loop-again : tie.Need-loop-again Inv-loop μ-loop
-loop-again c =
-    let c₃ = c .before .before .before in let l = c₃ .loop in
-    let c₅ = c₃ .before .before in let a = c₅ .args in (
-      l .inv .0 ∙ through-more (a .bytes .now) (l .h) (l .i) (omega arith) ∙ ap (λ (k : ℕ). through mix k (drop (l .i + 1) (a .bytes .now)))
-          (sym (c .turned .ensures)),
-      omega arith,
-    )
+loop-again c = (
+  c .before .before .before .loop .inv .0 ∙ through-more (c .before .before .before .before .before .args .bytes .now)
+      (c .before .before .before .loop .h) (c .before .before .before .loop .i) (omega arith) ∙ ap
+      (λ (k : ℕ). through mix k (drop (c .before .before .before .loop .i + 1) (c .before .before .before .before .before .args .bytes .now)))
+      (sym (c .turned .ensures)),
+  omega arith,
+)
 
 returns : tie.Need-returns Inv-loop μ-loop
 returns c = sym (c .before .loop .inv .0 ∙ ap (through mix (c .before .loop .h))

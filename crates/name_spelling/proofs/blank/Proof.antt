@@ -25,10 +25,8 @@ shared-slice-read-if1 : tie.Need-shared-slice-read-if1 Inv-loop μ-loop
 shared-slice-read-if1 c = search needs
 
 returns : tie.Need-returns Inv-loop μ-loop
-returns c =
-    let c₃ = c .before .before .before in let l = c₃ .loop in
-    let c₄ = c₃ .before in let a = c₄ .args in
-    sym (l .inv ∙ every-stop (a .name .now) (a .to) (l .i) (eqb 0x20) (c .before .before .loop-test .taken) (omega arith)
+returns c = sym (c .before .before .before .loop .inv ∙ every-stop (c .before .before .before .before .args .name .now)
+    (c .before .before .before .before .args .to) (c .before .before .before .loop .i) (eqb 0x20) (c .before .before .loop-test .taken) (omega arith)
     (ne-eqb _ _ (λ q. (c .if1 .taken) (sym q))))
 
 add-i : tie.Need-add-i Inv-loop μ-loop
@@ -38,10 +36,9 @@ loop-less : tie.Need-loop-less Inv-loop μ-loop
 loop-less c = search needs
 
 loop-again : tie.Need-loop-again Inv-loop μ-loop
-loop-again c =
-    let c₃ = c .before .before .before in let l = c₃ .loop in
-    let c₄ = c₃ .before in let a = c₄ .args in
-    (l .inv) ∙ every-more (a .name .now) (a .to) (l .i) (eqb 0x20) (c .before .before .loop-test .taken) (omega arith) (eq-eqb _ _ (sym (c .if1 .left)))
+loop-again c = (c .before .before .before .loop .inv) ∙ every-more (c .before .before .before .before .args .name .now)
+    (c .before .before .before .before .args .to) (c .before .before .before .loop .i) (eqb 0x20) (c .before .before .loop-test .taken) (omega arith)
+    (eq-eqb _ _ (sym (c .if1 .left)))
 
 returns-2 : tie.Need-returns-2 Inv-loop μ-loop
 returns-2 c = sym (c .before .loop .inv ∙ ap (every (eqb 0x20))

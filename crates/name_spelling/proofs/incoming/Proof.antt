@@ -27,10 +27,8 @@ copy-into-requires c κs = let z = well-length _ (sym (c .before .before .well-f
 
 -- src/lib.rt:192:9
 returns : tie.Need-returns
-returns c =
-    let c₃ = c .before .before .before in let if1 = c₃ .if1 in
-    let c₄ = c₃ .before in let well-formed = c₄ .well-formed in
-    let w = sym (well-formed .ensures) ∙ if1 .taken in hands-well _ w (c .before .copy-into .ensures ∙ take-all 11 _ (omega (arith, well-length _ w)))
+returns c = let w = sym (c .before .before .before .before .well-formed .ensures) ∙ c .before .before .before .if1 .taken in
+    hands-well _ w (c .before .copy-into .ensures ∙ take-all 11 _ (omega (arith, well-length _ w)))
 
 -- src/lib.rt:198:9
 returns-2 : tie.Need-returns-2

@@ -32,12 +32,10 @@ past-blanks-requires : tie.Need-past-blanks-requires Inv-loop μ-loop
 past-blanks-requires c κs = search needs
 
 returns : tie.Need-returns Inv-loop μ-loop
-returns c =
-    let c₄ = c .before .before .before .before in let loop-test = c₄ .loop-test in
-    let c₅ = c₄ .before in let l = c₅ .loop in
-    let c₇ = c₅ .before .before in let a = c₇ .args in
-    c .past-blanks .ensures ∙ sym (l .inv .0 ∙ good-stop (a .name .now) (a .to) (l .i) (loop-test .taken) (omega arith)
-    (is-no (c .before .before .letter .ensures) (c .before .if1 .taken)))
+returns c = c .past-blanks .ensures ∙ sym
+    (c .before .before .before .before .before .loop .inv .0 ∙ good-stop (c .before .before .before .before .before .before .before .args .name .now)
+    (c .before .before .before .before .before .before .before .args .to) (c .before .before .before .before .before .loop .i)
+    (c .before .before .before .before .loop-test .taken) (omega arith) (is-no (c .before .before .letter .ensures) (c .before .if1 .taken)))
 
 add-i : tie.Need-add-i Inv-loop μ-loop
 add-i c = search needs
@@ -46,14 +44,12 @@ loop-less : tie.Need-loop-less Inv-loop μ-loop
 loop-less c = search needs
 
 loop-again : tie.Need-loop-again Inv-loop μ-loop
-loop-again c =
-    let c₃ = c .before .before .before in let loop-test = c₃ .loop-test in
-    let c₄ = c₃ .before in let l = c₄ .loop in
-    let c₆ = c₄ .before .before in let a = c₆ .args in (
-      l .inv .0 ∙ good-more (a .name .now) (a .to) (l .i) (loop-test .taken) (omega arith) (is-yes (c .before .letter .ensures) (c .if1 .left)),
-      let t =
-          loop-test .taken in omega arith,
-    )
+loop-again c = (
+  c .before .before .before .before .loop .inv .0 ∙ good-more (c .before .before .before .before .before .before .args .name .now)
+      (c .before .before .before .before .before .before .args .to) (c .before .before .before .before .loop .i) (c .before .before .before .loop-test .taken)
+      (omega arith) (is-yes (c .before .letter .ensures) (c .if1 .left)),
+  let t = c .before .before .before .loop-test .taken in omega arith,
+)
 
 returns-2 : tie.Need-returns-2 Inv-loop μ-loop
 returns-2 c = sym (c .before .loop .inv .0 ∙ good-end (c .before .before .before .args .name .now) (c .before .before .before .args .to) (c .before .loop .i)

@@ -22,10 +22,9 @@ blank-requires : tie.Need-blank-requires
 blank-requires c κs = search needs
 
 returns : tie.Need-returns
-returns c =
-    let c₅ = c .before .before .before .before .before in let a = c₅ .args in let p = c₅ .pre in
-    c .blank .ensures ∙ sym (padded-stop (a .name .now) 11 8 (omega arith) (omega (arith, p))
-    (is-no (c .before .before .letter .ensures) (c .before .if1 .taken)))
+returns c = c .blank .ensures ∙ sym
+    (padded-stop (c .before .before .before .before .before .args .name .now) 11 8 (omega arith)
+    (omega (arith, c .before .before .before .before .before .pre)) (is-no (c .before .before .letter .ensures) (c .before .if1 .taken)))
 
 shared-slice-read-letter-2 : tie.Need-shared-slice-read-letter-2
 shared-slice-read-letter-2 c = search needs
@@ -37,12 +36,13 @@ blank-requires-2 : tie.Need-blank-requires-2
 blank-requires-2 c κs = search needs
 
 returns-2 : tie.Need-returns-2
-returns-2 c =
-    let c₄ = c .before .before .before .before in let if1 = c₄ .if1 in
-    let c₅ = c₄ .before in let letter = c₅ .letter in
-    let c₈ = c₅ .before .before .before in let a = c₈ .args in let p = c₈ .pre in
-    c .blank2 .ensures ∙ sym (padded-more (a .name .now) 11 8 (omega arith) (omega (arith, p)) (is-yes (letter .ensures) (if1 .left)) ∙ padded-stop
-    (a .name .now) 11 9 (omega arith) (omega (arith, p)) (is-no (c .before .before .letter2 .ensures) (c .before .if2 .taken)))
+returns-2 c = c .blank2 .ensures ∙ sym
+    (padded-more (c .before .before .before .before .before .before .before .before .args .name .now) 11 8 (omega arith)
+    (omega (arith, c .before .before .before .before .before .before .before .before .pre))
+    (is-yes (c .before .before .before .before .before .letter .ensures) (c .before .before .before .before .if1 .left)) ∙ padded-stop
+    (c .before .before .before .before .before .before .before .before .args .name .now) 11 9 (omega arith)
+    (omega (arith, c .before .before .before .before .before .before .before .before .pre))
+    (is-no (c .before .before .letter2 .ensures) (c .before .if2 .taken)))
 
 shared-slice-read-plain : tie.Need-shared-slice-read-plain
 shared-slice-read-plain c = search needs
@@ -51,13 +51,15 @@ plain-requires : tie.Need-plain-requires
 plain-requires c κs = search needs
 
 returns-3 : tie.Need-returns-3
-returns-3 c =
-    let c₃ = c .before .before .before in let letter2 = c₃ .letter2 in
-    let c₅ = c₃ .before .before in let if1 = c₅ .if1 in
-    let c₆ = c₅ .before in let letter = c₆ .letter in
-    let c₉ = c₆ .before .before .before in let a = c₉ .args in let p = c₉ .pre in
-    c .plain .ensures ∙ sym (padded-more (a .name .now) 11 8 (omega arith) (omega (arith, p)) (is-yes (letter .ensures) (if1 .left)) ∙ padded-more
-    (a .name .now) 11 9 (omega arith) (omega (arith, p)) (is-yes (letter2 .ensures) (c .before .before .if2 .left)) ∙ last-plain (a .name .now) p)
+returns-3 c = c .plain .ensures ∙ sym
+    (padded-more (c .before .before .before .before .before .before .before .before .before .args .name .now) 11 8 (omega arith)
+    (omega (arith, c .before .before .before .before .before .before .before .before .before .pre))
+    (is-yes (c .before .before .before .before .before .before .letter .ensures) (c .before .before .before .before .before .if1 .left)) ∙ padded-more
+    (c .before .before .before .before .before .before .before .before .before .args .name .now) 11 9 (omega arith)
+    (omega (arith, c .before .before .before .before .before .before .before .before .before .pre))
+    (is-yes (c .before .before .before .letter2 .ensures) (c .before .before .if2 .left)) ∙ last-plain
+    (c .before .before .before .before .before .before .before .before .before .args .name .now)
+    (c .before .before .before .before .before .before .before .before .before .pre))
 
 pub type-padded-spec : {M : Type 1} → statement M
 type-padded-spec =

@@ -28,9 +28,7 @@ loop-holds c = playing-first _ _ _ _ _
 
 -- src/lib.rt:153:13
 step-at-requires : tie.Need-step-at-requires Inv-loop μ-loop
-step-at-requires c κs =
-    let c₅ = c .before .before .before .before .before in let p = c₅ .pre in
-    omega (arith, p .2, c .loop-test .taken)
+step-at-requires c κs = omega (arith, c .before .before .before .before .before .pre .2, c .loop-test .taken)
 
 -- src/lib.rt:156:13
 name-at-requires : tie.Need-name-at-requires Inv-loop μ-loop
@@ -48,11 +46,13 @@ make-requires c κs =
 
 -- src/lib.rt:158:9
 slice-write-results : tie.Need-slice-write-results Inv-loop μ-loop
-slice-write-results c =
-    let c₆ = c .before .before .before .before .before .before in let loop-test = c₆ .loop-test in
-    let c₇ = c₆ .before in let l = c₇ .loop in
-    let c₁₁ = c₇ .before .before .before .before in let p = c₁₁ .pre in
-    omega (arith, p .3, loop-test .taken, l .inv .room)
+slice-write-results c = omega (
+  arith,
+  c .before .before .before .before .before .before .before .before .before .before .before .pre .3,
+  c .before .before
+      .before .before .before .before .loop-test .taken,
+  c .before .before .before .before .before .before .before .loop .inv .room,
+)
 
 -- src/lib.rt:159:9
 add-i : tie.Need-add-i Inv-loop μ-loop

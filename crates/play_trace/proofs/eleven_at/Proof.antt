@@ -93,10 +93,10 @@ shared-slice-read-t34 c = search needs
 
 -- src/lib.rt:321:1
 returns : tie.Need-returns
-returns c =
-    let c₁₀ = c .before .before .before .before .before .before .before .before .before .before in let shared-slice-known = c₁₀ .shared-slice-known in
-    let c₁₁ = c₁₀ .before in let a = c₁₁ .args in let p = c₁₁ .pre in
-    name-bytes (a .trace .now) (a .at) p (λ i. omega (arith, shared-slice-known .given i)) _ refl
+returns c = name-bytes (c .before .before .before .before .before .before .before .before .before .before .before .args .trace .now)
+    (c .before .before .before .before .before .before .before .before .before .before .before .args .at)
+    (c .before .before .before .before .before .before .before .before .before .before .before .pre)
+    (λ i. omega (arith, c .before .before .before .before .before .before .before .before .before .before .shared-slice-known .given i)) _ refl
 
 pub eleven-at-spec : {M : Type 1} → statement M
 eleven-at-spec =

@@ -125,16 +125,18 @@ cast-t11 c = search needs
 
 -- src/lib.rt:79:1
 returns : tie.Need-returns
-returns c =
-    let c₄ = c .before .before .before .before in let wide5 = c₄ .wide5 in
-    let c₆ = c₄ .before .before in let wide4 = c₆ .wide4 in
-    let c₈ = c₆ .before .before in let wide3 = c₈ .wide3 in
-    let c₁₀ = c₈ .before .before in let wide2 = c₁₀ .wide2 in
-    let c₁₂ = c₁₀ .before .before in let wide = c₁₂ .wide in
-    let c₁₄ = c₁₂ .before .before in let shared-slice-known = c₁₄ .shared-slice-known in
-    let c₁₅ = c₁₄ .before in let a = c₁₅ .args in let p = c₁₅ .pre in
-    numbers-from (a .trace .now) (a .at) p (λ i. omega (arith, shared-slice-known .given i)) (wide .ensures .is) (wide2 .ensures .is) (wide3 .ensures .is)
-    (wide4 .ensures .is) (wide5 .ensures .is) (c .before .before .wide6 .ensures .is) (c .wide7 .ensures .is)
+returns c = numbers-from (c .before .before .before .before .before .before .before .before .before .before .before .before .before .before .before .args
+    .trace .now) (c .before .before .before .before .before .before .before .before .before .before .before .before .before .before .before .args .at)
+    (c .before .before .before .before .before .before .before .before .before .before .before .before .before .before .before .pre)
+    (λ i. omega (
+      arith,
+      c .before .before .before .before .before .before .before .before .before .before .before .before .before .before .shared-slice-known
+          .given i,
+    )) (c .before .before .before .before .before .before .before .before .before .before .before .before .wide .ensures .is)
+    (c .before .before .before .before .before .before .before .before .before .before .wide2 .ensures .is)
+    (c .before .before .before .before .before .before .before .before .wide3 .ensures .is)
+    (c .before .before .before .before .before .before .wide4 .ensures .is) (c .before .before .before .before .wide5 .ensures .is)
+    (c .before .before .wide6 .ensures .is) (c .wide7 .ensures .is)
 
 pub numbers-at-spec : {M : Type 1} → statement M
 numbers-at-spec =

@@ -54,13 +54,13 @@ step-of-requires c κs = search needs
 
 -- src/lib.rt:312:1
 returns : tie.Need-returns
-returns c =
-    let c₂ = c .before .before in let wide = c₂ .wide in
-    let c₅ = c₂ .before .before .before in let a = c₅ .args in let p = c₅ .pre in
-    let s = step-bytes (a .trace .now) (a .i) p in
-    let w : wide .result ≡ s .n = wide .ensures .is ∙ s .count (omega (arith, wide .ensures .is, wide .ensures .small)) in
-    c .step-of .ensures ∙ ap stepOf (c .before .numbers-at .ensures ∙ ap (λ (x : ℕ). numbersAt (bits (a .trace .now)) (8 * (1 + 11 * x + 7 * a .i))) w) ∙ sym
-    (s .step)
+returns c = let s = step-bytes (c .before .before .before .before .before .args .trace .now) (c .before .before .before .before .before .args .i)
+    (c .before .before .before .before .before .pre) in
+    let w : c .before .before .wide .result ≡ s .n = c .before .before .wide .ensures .is ∙ s .count
+    (omega (arith, c .before .before .wide .ensures .is, c .before .before .wide .ensures .small)) in
+    c .step-of .ensures ∙ ap stepOf (c .before .numbers-at .ensures ∙ ap
+    (λ (x : ℕ). numbersAt (bits (c .before .before .before .before .before .args .trace .now))
+    (8 * (1 + 11 * x + 7 * c .before .before .before .before .before .args .i))) w) ∙ sym (s .step)
 
 pub step-at-spec : {M : Type 1} → statement M
 step-at-spec =

@@ -19,12 +19,11 @@ carried-requires : tie.Need-carried-requires
 carried-requires c κs = search needs
 
 returns : tie.Need-returns
-returns c =
-    let c₄ = c .before .before .before .before in let p = c₄ .pre in (
-      sector-refused _ _ _ _ (handed _ _ _ p (c .carried .ensures)) (c .before .before .sector-number .ensures) (c .before .if1 .taken),
-      record
-          { forward = omega arith; inside = omega arith },
-    )
+returns c = (
+  sector-refused _ _ _ _ (handed _ _ _ (c .before .before .before .before .pre) (c .carried .ensures)) (c .before .before .sector-number .ensures)
+      (c .before .if1 .taken),
+  record { forward = omega arith; inside = omega arith },
+)
 
 mul-place : tie.Need-mul-place
 mul-place c = let a = c .before .before .before .args in

@@ -27,26 +27,22 @@ returns c = (
 )
 
 field-requires : tie.Need-field-requires Inv-loop μ-loop
-field-requires c κs =
-    let c₃ = c .before .before .before in let l = c₃ .loop in
-    let c₅ = c₃ .before .before in let p = c₅ .pre in
-    (p .0 .room, l .inv .used .slot, omega arith)
+field-requires c κs = (c .before .before .before .before .before .pre .0 .room, c .before .before .before .loop .inv .used .slot, omega arith)
 
 returns-2 : tie.Need-returns-2 Inv-loop μ-loop
-returns-2 c =
-    let c₃ = c .before .before .before in let seek-entry = c₃ .seek-entry in
-    let c₄ = c₃ .before in let loop-test = c₄ .loop-test in
-    let c₅ = c₄ .before in let l = c₅ .loop in (
-      walking-stop _ _ (l .inv) (loop-test .taken) (seek-entry .ensures) (c .before .before .if1 .left) (c .before .field .ensures .is) (c .if2 .taken),
-      omega
-          arith,
-    )
+returns-2 c = (
+  walking-stop _ _ (c .before .before .before .before .before .loop .inv) (c .before .before .before .before .loop-test .taken)
+      (c .before .before .before .seek-entry .ensures) (c .before .before .if1 .left) (c .before .field .ensures .is) (c .if2 .taken),
+  omega arith,
+)
 
 field-requires-2 : tie.Need-field-requires-2 Inv-loop μ-loop
-field-requires-2 c κs =
-    let c₅ = c .before .before .before .before .before in let l = c₅ .loop in
-    let c₇ = c₅ .before .before in let p = c₇ .pre in
-    (p .0 .room, l .inv .used .slot, omega arith)
+field-requires-2 c κs = (
+  c .before .before .before .before .before .before .before .pre .0 .room,
+  c .before .before .before .before .before .loop .inv .used
+      .slot,
+  omega arith,
+)
 
 sub-more : tie.Need-sub-more Inv-loop μ-loop
 sub-more c = search needs

@@ -26,14 +26,18 @@ div-wide : tie.Need-div-wide
 div-wide c = search needs
 
 add-wide : tie.Need-add-wide
-add-wide c =
-    let c₅ = c .before .before .before .before .before in let a = c₅ .args in
-    omega (arith, gat-low (a .g) (a .n) (omega arith) (omega arith))
+add-wide c = omega (
+  arith,
+  gat-low (c .before .before .before .before .before .args .g) (c .before .before .before .before .before .args .n) (omega arith)
+      (omega arith),
+)
 
 shared-slice-read-wide : tie.Need-shared-slice-read-wide
-shared-slice-read-wide c =
-    let c₆ = c .before .before .before .before .before .before in let a = c₆ .args in
-    omega (arith, gat-low (a .g) (a .n) (omega arith) (omega arith))
+shared-slice-read-wide c = omega (
+  arith,
+  gat-low (c .before .before .before .before .before .before .args .g)
+      (c .before .before .before .before .before .before .args .n) (omega arith) (omega arith),
+)
 
 wide-requires : tie.Need-wide-requires
 wide-requires c κs = search needs

@@ -34,15 +34,15 @@ kept-columns-requires : tie.Need-kept-columns-requires Inv-loop μ-loop Inv-rows
 kept-columns-requires c κs = search needs
 
 loop-holds : tie.Need-loop-holds Inv-loop μ-loop Inv-rows μ-rows
-loop-holds c =
-    let c₅ = c .before .before .before .before .before in let a = c₅ .args in (
-      c .before .rows-test .taken,
-      c .kept-columns .ensures,
-      omega arith,
-      c .before .before .rows .inv .1,
-      none-kept (a .g) (a .image .now)
-          (c .before .before .rows .inv .2) (c .kept-columns .ensures),
-    )
+loop-holds c = (
+  c .before .rows-test .taken,
+  c .kept-columns .ensures,
+  omega arith,
+  c .before .before .rows .inv .1,
+  none-kept
+      (c .before .before .before .before .before .args .g) (c .before .before .before .before .before .args .image .now) (c .before .before .rows .inv .2)
+      (c .kept-columns .ensures),
+)
 
 mul-slot : tie.Need-mul-slot Inv-loop μ-loop Inv-rows μ-rows
 mul-slot c = search needs
@@ -60,17 +60,18 @@ loop-less : tie.Need-loop-less Inv-loop μ-loop Inv-rows μ-rows
 loop-less c = search needs
 
 loop-again : tie.Need-loop-again Inv-loop μ-loop Inv-rows μ-rows
-loop-again c =
-    let c₃ = c .before .before .before in let l = c₃ .loop in
-    let c₅ = c₃ .before .before in let rows-test = c₅ .rows-test in
-    let c₉ = c₅ .before .before .before .before in let a = c₉ .args in (
-      rows-test .taken,
-      l .inv .1,
-      (let w = l .inv .2 in omega arith),
-      l .inv .3,
-      none-step (freeSlot (a .g) (a .image .now)) _ (l .inv .4)
-          (slot-used (a .g) (a .image .now) _ (λ z. c .if1 .left (c .before .hit .ensures .is ∙ z))) (omega arith),
-    )
+loop-again c = (
+  c .before .before .before .before .before .rows-test .taken,
+  c .before .before .before .loop .inv .1,
+  (let w = c .before .before .before .loop .inv .2 in omega arith),
+  c .before .before .before .loop .inv .3,
+  none-step
+      (freeSlot (c .before .before .before .before .before .before .before .before .before .args .g)
+      (c .before .before .before .before .before .before .before .before .before .args .image .now)) _ (c .before .before .before .loop .inv .4)
+      (slot-used (c .before .before .before .before .before .before .before .before .before .args .g)
+      (c .before .before .before .before .before .before .before .before .before .args .image .now) _ (λ z. c .if1 .left (c .before .hit .ensures .is ∙ z)))
+      (omega arith),
+)
 
 add-row : tie.Need-add-row Inv-loop μ-loop Inv-rows μ-rows
 add-row c = search needs
@@ -79,31 +80,29 @@ rows-less : tie.Need-rows-less Inv-loop μ-loop Inv-rows μ-rows
 rows-less c = search needs
 
 rows-again : tie.Need-rows-again Inv-loop μ-loop Inv-rows μ-rows
-rows-again c =
-    let c₃ = c .before .before .before in let rows-test = c₃ .rows-test in
-    let c₅ = c₃ .before .before in let columns = c₅ .columns in
-    let c₇ = c₅ .before .before in let a = c₇ .args in (
-      omega arith,
-      c .before .loop .inv .3,
-      none-row (a .g) (a .image .now) (rows-test .taken) (columns .ensures .is) (c .loop-test .left) refl
-          (c .before .loop .inv .4),
-    )
+rows-again c = (
+  omega arith,
+  c .before .loop .inv .3,
+  none-row (c .before .before .before .before .before .before .before .args .g)
+      (c .before .before .before .before .before .before .before .args .image .now) (c .before .before .before .rows-test .taken)
+      (c .before .before .before .before .before .columns .ensures .is) (c .loop-test .left) refl (c .before .loop .inv .4),
+)
 
 returns : tie.Need-returns Inv-loop μ-loop Inv-rows μ-rows
-returns c =
-    let c₄ = c .before .before .before .before in let a = c₄ .args in
-    let e : c .before .rows .row ≡ 8 = omega arith in
-    c .before .rows .inv .1 ∙ slots-none (a .g) (a .image .now) (λ k h. c .before .rows .inv .2 k (omega arith))
+returns c = let e : c .before .rows .row ≡ 8 = omega arith in
+    c .before .rows .inv .1 ∙ slots-none (c .before .before .before .before .args .g) (c .before .before .before .before .args .image .now)
+    (λ k h. c .before .rows .inv .2 k (omega arith))
 
 returns-2 : tie.Need-returns-2 Inv-loop μ-loop Inv-rows μ-rows
-returns-2 c =
-    let c₃ = c .before .before .before in let l = c₃ .loop in
-    let c₅ = c₃ .before .before in let rows-test = c₅ .rows-test in
-    let c₇ = c₅ .before .before in let columns = c₇ .columns in
-    let c₉ = c₇ .before .before in let a = c₉ .args in let p = c₉ .pre in
-    let e = columns .ensures .is in let t = p .thirty in
-    slots-first (a .g) (a .image .now) _ (omega arith) (l .inv .4)
-    (slot-free (a .g) (a .image .now) _ _ (l .inv .1) (rows-test .taken) (omega arith) t (l .inv .2) (sym (c .before .hit .ensures .is) ∙ c .if1 .taken))
+returns-2 c = let e = c .before .before .before .before .before .before .before .columns .ensures .is in
+    let t = c .before .before .before .before .before .before .before .before .before .pre .thirty in
+    slots-first (c .before .before .before .before .before .before .before .before .before .args .g)
+    (c .before .before .before .before .before .before .before .before .before .args .image .now) _ (omega arith)
+    (c .before .before .before .loop .inv .4)
+    (slot-free (c .before .before .before .before .before .before .before .before .before .args .g)
+    (c .before .before .before .before .before .before .before .before .before .args .image .now) _ _ (c .before .before .before .loop .inv .1)
+    (c .before .before .before .before .before .rows-test .taken) (omega arith) t (c .before .before .before .loop .inv .2)
+    (sym (c .before .hit .ensures .is) ∙ c .if1 .taken))
 
 pub first-free-slot-spec : {M : Type 1} → statement M
 first-free-slot-spec =

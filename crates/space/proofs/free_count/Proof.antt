@@ -46,15 +46,13 @@ loop-less : tie.Need-loop-less Inv-loop μ-loop
 loop-less c = omega arith
 
 loop-again : tie.Need-loop-again Inv-loop μ-loop
-loop-again c =
-    let c₄ = c .before .before .before .before in let loop-test = c₄ .loop-test in
-    let c₅ = c₄ .before in let l = c₅ .loop in
-    let c₇ = c₅ .before .before in let p = c₇ .pre in (
-      omega arith,
-      (let k = c .clear-bits .ensures .1 in omega arith),
-      freed-step _ _ (p .units-low) (l .inv .2) (loop-test .taken)
-          (c .before .wide .ensures .is) (c .clear-bits .ensures .0),
-    )
+loop-again c = (
+  omega arith,
+  (let k = c .clear-bits .ensures .1 in omega arith),
+  freed-step _ _
+      (c .before .before .before .before .before .before .before .pre .units-low) (c .before .before .before .before .before .loop .inv .2)
+      (c .before .before .before .before .loop-test .taken) (c .before .wide .ensures .is) (c .clear-bits .ensures .0),
+)
 
 returns : tie.Need-returns Inv-loop μ-loop
 returns c = let z : c .before .loop .b ≡ 0 = omega arith in

@@ -26,9 +26,7 @@ add-set-field : tie.Need-add-set-field
 add-set-field c = search needs
 
 sub-set-field : tie.Need-sub-set-field
-sub-set-field c =
-    let c₄ = c .before .before .before .before in let p′ = c₄ .pre in
-    let e = c .before .entry-byte .ensures .is in let p = p′ .2 in omega arith
+sub-set-field c = let e = c .before .entry-byte .ensures .is in let p = c .before .before .before .before .pre .2 in omega arith
 
 set-field-requires : tie.Need-set-field-requires
 set-field-requires c κs = search needs

@@ -19,10 +19,9 @@ granules-for-requires-2 : tie.Need-granules-for-requires-2
 granules-for-requires-2 c κs = search needs
 
 returns : tie.Need-returns
-returns c =
-    let c₄ = c .before .before .before .before in let a = c₄ .args in let p = c₄ .pre in
-    whole-none (a .g) (a .image .now) (a .p) _ (let e = c .before .before .granules-for .ensures in let f = c .before .granules-for2 .ensures in let t = c
-    .if1 .taken in let o = p .1 in omega (arith, round-least (bytes-pos _) _ _ o))
+returns c = whole-none (c .before .before .before .before .args .g) (c .before .before .before .before .args .image .now)
+    (c .before .before .before .before .args .p) _ (let e = c .before .before .granules-for .ensures in let f = c .before .granules-for2 .ensures in let t = c
+    .if1 .taken in let o = c .before .before .before .before .pre .1 in omega (arith, round-least (bytes-pos _) _ _ o))
 
 grow-requires : tie.Need-grow-requires
 grow-requires c κs = search needs
