@@ -28,7 +28,7 @@ use Rattle.check_map.proofs.Standing.{blank-open}
 use Rattle.lists.specs.Ranges.{every-append, left-more, left-none}
 use Rattle.lists.specs.Members
 use Rattle.lists.specs.Members.{In, Distinct}
-use Rattle.back_taken.specs.Listed.{OnDisk, firstOf}
+use Rattle.back_taken.specs.Listed.{RunsOnDisk, firstOf}
 use Rattle.back_chain.specs.Line.{Visits, Lined}
 use Rattle.back_chain.specs.declared.Visited.{Visited}
 use Rattle.back_taken.proofs.Steps.{first-steps}
@@ -64,7 +64,7 @@ joined b xs ys {m} q a c =
     allows-append b 1 0 xs ys ∙ rw (a, c′)
 
 -- runs that hold lie on the disk
-on-disk : (g : Geometry) (d : List ℕ) (s : ℕ) → Slot g d s → runsHold g d s ≡ true → OnDisk g d s
+on-disk : (g : Geometry) (d : List ℕ) (s : ℕ) → Slot g d s → runsHold g d s ≡ true → RunsOnDisk g d s
 unfolding runsHold
 on-disk g d s sl h =
     record { slot = sl; run = λ k l. leb-true _ _ (all-at _ (every-count _ 0 (runs g d s) k h (omega arith) (omega arith)) 1) }
@@ -92,7 +92,7 @@ module _ (g : Geometry) (d : List ℕ) where
     pub open-met : allows fresh 1 0 ps ≡ true
     pub meets : met ≡ marked fresh 0 ps
     pub size-is : size ≡ length (own ps)
-    pub lie : (x : ℕ) → In x ps → OnDisk g d x
+    pub lie : (x : ℕ) → In x ps → RunsOnDisk g d x
 
   pub walked-start : Walked′ [] blank fresh 0
   unfolding allows marked
@@ -101,13 +101,13 @@ module _ (g : Geometry) (d : List ℕ) where
   own-snoc : (ps : List ℕ) (x : ℕ) → own (ps ++ (x ∷ [])) ≡ own ps ++ entryGranules g d x
   own-snoc ps x = Members.each-append (entryGranules g d) ps (x ∷ []) ∙ ap (λ (l : List ℕ). own ps ++ l) (Members.each-one (entryGranules g d) x)
 
-  lies : (x : ℕ) → Slot g d x → holds x ≡ true → OnDisk g d x
+  lies : (x : ℕ) → Slot g d x → holds x ≡ true → RunsOnDisk g d x
   lies x sl h = on-disk g d x sl (all-at _ h 2)
 
-  lie-snoc : {ps : List ℕ} {at : ℕ} → ((x : ℕ) → In x ps → OnDisk g d x) → OnDisk g d at → (x : ℕ) → In x (ps ++ (at ∷ [])) → OnDisk g d x
+  lie-snoc : {ps : List ℕ} {at : ℕ} → ((x : ℕ) → In x ps → RunsOnDisk g d x) → RunsOnDisk g d at → (x : ℕ) → In x (ps ++ (at ∷ [])) → RunsOnDisk g d x
   lie-snoc {ps} {at} f o x i = by (Members.snoc-in ps i)
     where
-      by : In x ps ⊎ (x ≡ at) → OnDisk g d x
+      by : In x ps ⊎ (x ≡ at) → RunsOnDisk g d x
       by (inl j) = f x j
       by (inr q) = rw q o
 

@@ -45,15 +45,15 @@ pub some-one : (p : ℕ → Bool) (x : ℕ) → some p (x ∷ []) ≡ p x
 some-one p x = or-false (p x)
 
 -- a search: k parts are looked through, and nothing was found
-pub record Quiet (p : ℕ → Bool) (whole : ℕ → List ℕ) (k n : ℕ) : Type 0 where
+pub record FoundNone (p : ℕ → Bool) (whole : ℕ → List ℕ) (k n : ℕ) : Type 0 where
   pub few : k ≤ n
   pub is : some p (whole k) ≡ false
 
 module _ {whole part : ℕ → List ℕ} (s : Steps whole part) where
-  pub quiet-start : (p : ℕ → Bool) (n : ℕ) → Quiet p whole 0 n
+  pub quiet-start : (p : ℕ → Bool) (n : ℕ) → FoundNone p whole 0 n
   quiet-start p n = record { few = omega arith; is = ap (some p) (s .none) }
 
-  pub quiet-more : {p : ℕ → Bool} {k n : ℕ} → Quiet p whole k n → k < n → some p (part k) ≡ false → Quiet p whole (k + 1) n
+  pub quiet-more : {p : ℕ → Bool} {k n : ℕ} → FoundNone p whole k n → k < n → some p (part k) ≡ false → FoundNone p whole (k + 1) n
   quiet-more {p} {k} {n} q h b =
       let a = q .is in record { few = omega arith; is = ap (some p) (s .more k) ∙ some-append p (whole k) (part k) ∙ rw (a, b) }
 
@@ -67,9 +67,9 @@ module _ {whole part : ℕ → List ℕ} (s : Steps whole part) where
           ap (λ (b : Bool). some p (whole n) || b) (ap (λ (m : ℕ). some p (part m)) (sym q) ∙ e) ∙ or-true (some p (whole n))
       by (inr l) ih = ap (λ (b : Bool). b || some p (part n)) (ih l e)
 
-  pub quiet-hit : {p : ℕ → Bool} {k n : ℕ} → Quiet p whole k n → k < n → some p (part k) ≡ true → true ≡ some p (whole n)
+  pub quiet-hit : {p : ℕ → Bool} {k n : ℕ} → FoundNone p whole k n → k < n → some p (part k) ≡ true → true ≡ some p (whole n)
   quiet-hit {p} {k} {n} q h e = sym (some-in p k n h e)
 
-pub quiet-end : {p : ℕ → Bool} {whole : ℕ → List ℕ} {k n : ℕ} → Quiet p whole k n → n ≤ k → false ≡ some p (whole n)
+pub quiet-end : {p : ℕ → Bool} {whole : ℕ → List ℕ} {k n : ℕ} → FoundNone p whole k n → n ≤ k → false ≡ some p (whole n)
 quiet-end {p} {whole} {k} {n} t h =
     let a = t .few in let q : k ≡ n = omega arith in sym (ap (λ (m : ℕ). some p (whole m)) (sym q) ∙ t .is)

@@ -8,7 +8,7 @@ use Rattle.meaning.specs.declared.Geometry.{Geometry}
 use Rattle.layout.specs.Room.{Slot}
 
 -- a slot of the directory whose entry's runs lie on the disk
-pub record OnDisk (g : Geometry) (d : List ℕ) (s : ℕ) : Type 0 where
+pub record RunsOnDisk (g : Geometry) (d : List ℕ) (s : ℕ) : Type 0 where
   pub slot : Slot g d s
   pub run : (k : ℕ) → k < runs g d s → runStart g d s k + runLength g d s k ≤ granules g
 
@@ -20,4 +20,4 @@ firstOf es (suc n) = firstOf es n ++ (getD es n 0 ∷ [])
 -- the first n of es are slots whose runs lie on the disk
 pub record Listed (g : Geometry) (d es : List ℕ) (n : ℕ) : Type 0 where
   pub few : n ≤ 256
-  pub entry : (j : ℕ) → j < n → OnDisk g d (getD es j 0)
+  pub entry : (j : ℕ) → j < n → RunsOnDisk g d (getD es j 0)

@@ -6,7 +6,7 @@ ghost use Rattle.meaning.specs.Lists.{count, each, some};
 ghost use Rattle.meaning.specs.Layout.{granules, taken};
 ghost use Rattle.meaning.specs.Entries.{entryGranules};
 ghost use Rattle.layout.specs.Room.{Room};
-ghost use Rattle.back_taken.specs.Listed.{OnDisk, firstOf, Listed};
+ghost use Rattle.back_taken.specs.Listed.{RunsOnDisk, firstOf, Listed};
 
 // Whether one of n granules from a on is taken.
 fn run_taken(image: &[u8], g: Geometry, a: usize, n: usize) -> bool
@@ -25,7 +25,7 @@ fn run_taken(image: &[u8], g: Geometry, a: usize, n: usize) -> bool
 
 // Whether one of an entry's granules is taken.
 fn entry_taken(image: &[u8], g: Geometry, s: usize) -> bool
-    requires { ⌜ Room g (now image) × OnDisk g (now image) s ⌝ }
+    requires { ⌜ Room g (now image) × RunsOnDisk g (now image) s ⌝ }
     ensures { λ r. ⌜ r ≡ some (taken g (now (image .entry))) (entryGranules g (now (image .entry)) s) ⌝ }
 {
     let n = layout::runs(image, g, s);

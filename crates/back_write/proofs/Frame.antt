@@ -15,11 +15,11 @@ use Rattle.meaning.specs.declared.Geometry.{Geometry}
 use Rattle.layout.specs.Room.{Room, Slot}
 use Rattle.layout.proofs.OneStep.{gat-low}
 use Rattle.seek.proofs.Frame.{Same, opened, same-refl, same-trans, same-before, same-room, same-start, same-len, same-entry}
-use Rattle.space.proofs.Folds.{Kept, kept-room, kept-slot}
+use Rattle.space.proofs.Folds.{KeptFields, kept-room, kept-slot}
 use Rattle.laws.specs.Entry.{runs-le}
 use Rattle.lists.specs.Members
 use Rattle.lists.specs.Members.{In}
-use Rattle.back_taken.specs.Listed.{OnDisk, Listed, firstOf}
+use Rattle.back_taken.specs.Listed.{RunsOnDisk, Listed, firstOf}
 use Rattle.back_taken.proofs.Steps.{Steps, entry-steps, first-steps, all-steps}
 use Rattle.back_write.proofs.Done.{Done, done-start, done-more}
 use Rattle.back_taken.proofs.OnDisk.{Under, under-run, under-entry}
@@ -46,15 +46,15 @@ module _ (g : Geometry) where
       (same-taken (takeGranule g d x) xs (same-room g d (takeGranule g d x) r e) (λ n i. l n (In.there i)))
 
   -- Granules taken, part by part: k parts are done, and HIT and entries are as they were
-  pub record Taking (d : List ℕ) (whole : ℕ → List ℕ) (d′ : List ℕ) (k n : ℕ) : Type 0 where
+  pub record TakingBack (d : List ℕ) (whole : ℕ → List ℕ) (d′ : List ℕ) (k n : ℕ) : Type 0 where
     pub done : Done (takeGranule g) d whole d′ k n
     pub same : Same g d d′
 
-  pub taking-start : {whole part : ℕ → List ℕ} (d : List ℕ) (n : ℕ) → Steps whole part → Taking d whole d 0 n
+  pub taking-start : {whole part : ℕ → List ℕ} (d : List ℕ) (n : ℕ) → Steps whole part → TakingBack d whole d 0 n
   taking-start d n s = record { done = done-start s (takeGranule g) d n; same = same-refl g d }
 
-  pub taking-more : {whole part : ℕ → List ℕ} {d d′ d″ : List ℕ} {k n : ℕ} → Steps whole part → Room g d → Taking d whole d′ k n → k < n
-      → Under (granules g) (part k) → d″ ≡ through (takeGranule g) d′ (part k) → Taking d whole d″ (k + 1) n
+  pub taking-more : {whole part : ℕ → List ℕ} {d d′ d″ : List ℕ} {k n : ℕ} → Steps whole part → Room g d → TakingBack d whole d′ k n → k < n
+      → Under (granules g) (part k) → d″ ≡ through (takeGranule g) d′ (part k) → TakingBack d whole d″ (k + 1) n
   taking-more {whole} {part} {d} {d′} {d″} {k} {n} s r t h u e =
       record {
         done = done-more s (t .done) h e;
@@ -62,9 +62,10 @@ module _ (g : Geometry) where
       }
 
   -- the runs of an entry, read in the image as it is by now
-  pub taking-run : {d d′ d″ : List ℕ} {s k n a len : ℕ} → Room g d → OnDisk g d s → n ≡ runs g d s → Taking d (λ j. each (runGranules g d s) (count 0 j)) d′ k
+  pub taking-run : {d d′ d″ : List ℕ} {s k n a len : ℕ} → Room g d → RunsOnDisk g d s → n ≡ runs g d s → TakingBack d
+      (λ j. each (runGranules g d s) (count 0 j)) d′ k
       n → k < n
-      → a ≡ runStart g d′ s k → len ≡ runLength g d′ s k → d″ ≡ through (takeGranule g) d′ (count a len) → Taking d
+      → a ≡ runStart g d′ s k → len ≡ runLength g d′ s k → d″ ≡ through (takeGranule g) d′ (count a len) → TakingBack d
       (λ j. each (runGranules g d s) (count 0 j)) d″ (k + 1) n
   taking-run {d} {d′} {d″} {s} {k} {n} {a} {len} r o q t h x y e =
       let four = runs-le g d s in
@@ -74,8 +75,8 @@ module _ (g : Geometry) where
       (e ∙ ap (λ (z : ℕ). through (takeGranule g) d′ (count z len)) x′ ∙ ap (λ (z : ℕ). through (takeGranule g) d′ (count (runStart g d s k) z)) y′)
 
   -- the entries of a list
-  pub taking-entry : {d d′ d″ es : List ℕ} {k n : ℕ} → Room g d → Listed g d es n → Taking d (λ j. each (entryGranules g d) (firstOf es j)) d′ k n → k < n
-      → d″ ≡ through (takeGranule g) d′ (entryGranules g d′ (getD es k 0)) → Taking d (λ j. each (entryGranules g d) (firstOf es j)) d″ (k + 1) n
+  pub taking-entry : {d d′ d″ es : List ℕ} {k n : ℕ} → Room g d → Listed g d es n → TakingBack d (λ j. each (entryGranules g d) (firstOf es j)) d′ k n → k < n
+      → d″ ≡ through (takeGranule g) d′ (entryGranules g d′ (getD es k 0)) → TakingBack d (λ j. each (entryGranules g d) (firstOf es j)) d″ (k + 1) n
   taking-entry {d} {d′} {d″} {es} {k} {n} r l t h e =
       let o = l .entry k h in
       taking-more (all-steps (entryGranules g d) es) r t h (under-entry g d (getD es k 0) o)
@@ -106,7 +107,7 @@ module _ (g : Geometry) where
 
   pub record Backing (h : ℕ) (d es d′ : List ℕ) (k n : ℕ) : Type 0 where
     pub done : Done (backEntry g h) d (firstOf es) d′ k n
-    pub kept : Kept g d d′
+    pub kept : KeptFields g d d′
 
   pub backing-start : (h : ℕ) (d es : List ℕ) (n : ℕ) → Backing h d es d 0 n
   backing-start h d es n =

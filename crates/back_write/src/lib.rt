@@ -7,7 +7,7 @@ ghost use Rattle.meaning.specs.Layout.{granules, takeGranule};
 ghost use Rattle.meaning.specs.Entries.{entryGranules};
 ghost use Rattle.meaning.specs.BringBack.{backEntry};
 ghost use Rattle.layout.specs.Room.{Room, Slot};
-ghost use Rattle.back_taken.specs.Listed.{OnDisk, firstOf, Listed};
+ghost use Rattle.back_taken.specs.Listed.{RunsOnDisk, firstOf, Listed};
 
 // Takes n granules from a on.
 fn take_run(image: &mut [u8], g: Geometry, a: usize, n: usize)
@@ -23,7 +23,7 @@ fn take_run(image: &mut [u8], g: Geometry, a: usize, n: usize)
 
 // Takes the granules of the entry at slot s.
 fn take_entry(image: &mut [u8], g: Geometry, s: usize)
-    requires { ⌜ Room g (now image) × OnDisk g (now image) s ⌝ }
+    requires { ⌜ Room g (now image) × RunsOnDisk g (now image) s ⌝ }
     ensures { λ _. ⌜ now (image .exit) ≡ through (takeGranule g) (now (image .entry)) (entryGranules g (now (image .entry)) s) ⌝ }
 {
     let n = layout::runs(image, g, s);

@@ -20,7 +20,7 @@ use Rattle.meaning.specs.declared.Geometry.{Geometry}
 use Rattle.layout.specs.Room.{Room}
 use Rattle.lists.specs.Tests.{le-or-lt}
 use Rattle.lists.specs.Below.{allBelow, all-below}
-use Rattle.check_map.specs.Owners.{shut, Takes, GatMap}
+use Rattle.check_map.specs.Owners.{shut, TakesStretch, GatMap}
 use Rattle.check_map.proofs.Digits.{mask, clear-says, says-clear, or-in, or-out}
 
 -- the mask as the code has it
@@ -45,12 +45,13 @@ pub other-bit : {A : Type 0} → false ≡ true → A
 other-bit e = absurd (true≢false (sym e))
 
 -- one stretch after another
-pub takes-none : {units : ℕ} {m m₁ m′ : List ℕ} {a n k : ℕ} → k ≤ n → Takes units m a k m₁ false → Takes units m a n m′ false
+pub takes-none : {units : ℕ} {m m₁ m′ : List ℕ} {a n k : ℕ} → k ≤ n → TakesStretch units m a k m₁ false → TakesStretch units m a n m′ false
 takes-none {units} {m} {m₁} {m′} {a} {n} {k} h t =
     record { yes′ = λ e. other-bit e; back = λ b. t .back (λ i l. b i (omega arith)); inside = λ e. other-bit e; outside = λ e. other-bit e }
 
-pub takes-then : {units : ℕ} {m m₁ m₂ : List ℕ} {a n k b l : ℕ} {r : Bool} → b ≡ a + k → k + l ≡ n → Takes units m a k m₁ true → Takes units m₁ b l m₂ r →
-    Takes units m a n m₂ r
+pub takes-then : {units : ℕ} {m m₁ m₂ : List ℕ} {a n k b l : ℕ} {r : Bool} → b ≡ a + k → k + l ≡ n → TakesStretch units m a k m₁ true → TakesStretch units m₁
+    b l m₂ r →
+    TakesStretch units m a n m₂ r
 takes-then {units} {m} {m₁} {m₂} {a} {n} {k} {b} {l} {r} e f s t =
     record {
       yes′ = λ y i h. first y i h (le-or-lt k i);
@@ -103,7 +104,7 @@ module _ (units b o n : ℕ) (m : List ℕ) (k : o + n ≤ units) (eight : units
   within : (i : ℕ) → i < n → shut units m (b * units + o + i) ≡ digit (getD m b 0) (o + i)
   within i l = ap (shut units m) (let z : b * units + o + i ≡ b * units + (o + i) = omega arith in z) ∙ shut-at units b (o + i) m (omega arith)
 
-  pub takes-no : {m′ : List ℕ} {x : ℕ} → x ≡ getD m b 0 → (bitAnd x (coded n o) ≡ 0 → ⊥) → Takes units m (b * units + o) n m′ false
+  pub takes-no : {m′ : List ℕ} {x : ℕ} → x ≡ getD m b 0 → (bitAnd x (coded n o) ≡ 0 → ⊥) → TakesStretch units m (b * units + o) n m′ false
   takes-no {m′} {x} e f =
       record {
         yes′ = λ t. other-bit t;
@@ -144,7 +145,7 @@ module _ (units b o n : ℕ) (m : List ℕ) (k : o + n ≤ units) (eight : units
   off q w (inl h) (inr j) = other-block q (λ z. omega arith)
   off q w (inl h) (inl j) = same-block q (omega arith) w
 
-  pub takes-yes : Takes units m (b * units + o) n new true
+  pub takes-yes : TakesStretch units m (b * units + o) n new true
   takes-yes =
       record {
         yes′ = λ t i l.
@@ -162,7 +163,7 @@ pub record Taking (units : ℕ) (m₀ : List ℕ) (a n : ℕ) (m : List ℕ) (b 
   pub most : left ≤ n
   pub unit : u < units
   pub place : b * units + u ≡ a + (n - left)
-  pub done : Takes units m₀ a (n - left) m true
+  pub done : TakesStretch units m₀ a (n - left) m true
 
 pub taking-start : (units : ℕ) (m : List ℕ) (n b u : ℕ) → 1 ≤ n → u < units → Taking units m (b * units + u) n m b u n
 taking-start units m n b u k l =
@@ -191,7 +192,8 @@ taking-block {units} {m₀} {a} {n} {m} {b} {u} {left} t h = go (le-or-lt mostBl
         let q : mostBlocks * units ≤ b * units = mul-le-mul {n₁ = mostBlocks} {m₁ = units} {n₂ = b} {m₂ = units} l (omega arith) in
         absurd (let p = t .place in let s = t .some in let w = t .most in let z : ⊥ = omega arith in z)
 
-pub taking-step : {units : ℕ} {m₀ : List ℕ} {a n : ℕ} {m m′ : List ℕ} {b u left : ℕ} {r : Bool} → Taking units m₀ a n m b u left → units < u + left → Takes
+pub taking-step : {units : ℕ} {m₀ : List ℕ} {a n : ℕ} {m m′ : List ℕ} {b u left : ℕ} {r : Bool} → Taking units m₀ a n m b u left → units < u + left →
+    TakesStretch
     units m (b * units + u) (units - u) m′ r
     → r ≡ true → Taking units m₀ a n m′ (b + 1) 0 (left - (units - u))
 taking-step {units} {m₀} {a} {n} {m} {m′} {b} {u} {left} {r} t h w y =
@@ -205,19 +207,20 @@ taking-step {units} {m₀} {a} {n} {m} {m′} {b} {u} {left} {r} t h w y =
       most = omega arith;
       unit = omega arith;
       place = omega arith;
-      done = takes-then p (omega arith) (t .done) (subst (λ (c : Bool). Takes units m (b * units + u) (units - u) m′ c) y w);
+      done = takes-then p (omega arith) (t .done) (subst (λ (c : Bool). TakesStretch units m (b * units + u) (units - u) m′ c) y w);
     }
 
-pub taking-stop : {units : ℕ} {m₀ : List ℕ} {a n : ℕ} {m m₁ m′ : List ℕ} {b u left k : ℕ} {r : Bool} → Taking units m₀ a n m b u left → k ≤ left → Takes units
+pub taking-stop : {units : ℕ} {m₀ : List ℕ} {a n : ℕ} {m m₁ m′ : List ℕ} {b u left k : ℕ} {r : Bool} → Taking units m₀ a n m b u left → k ≤ left →
+    TakesStretch units
     m (b * units + u) k m₁ r
-    → r ≡ false → Takes units m₀ a n m′ false
+    → r ≡ false → TakesStretch units m₀ a n m′ false
 taking-stop {units = units} {n = n} {m = m} {m₁ = m₁} {m′ = m′} {b = b} {u = u} {left = left} {k = k} t h w y = takes-none
     (let q = t .most in let z : n - left + k ≤ n = omega arith in z)
     (takes-then {m₂ = m′} (t .place) refl (t .done) (takes-none (let z : k ≤ k = omega arith in z)
-    (subst (λ (c : Bool). Takes units m (b * units + u) k m₁ c) y w)))
+    (subst (λ (c : Bool). TakesStretch units m (b * units + u) k m₁ c) y w)))
 
-pub taking-end : {units : ℕ} {m₀ : List ℕ} {a n : ℕ} {m m′ : List ℕ} {b u left : ℕ} {r : Bool} → Taking units m₀ a n m b u left → Takes units m
-    (b * units + u) left m′ r → Takes units m₀ a n m′ r
+pub taking-end : {units : ℕ} {m₀ : List ℕ} {a n : ℕ} {m m′ : List ℕ} {b u left : ℕ} {r : Bool} → Taking units m₀ a n m b u left → TakesStretch units m
+    (b * units + u) left m′ r → TakesStretch units m₀ a n m′ r
 taking-end t w = takes-then (t .place) (let q = t .most in omega arith) (t .done) w
 
 -- The GAT ----------------------------------------------------------------------------------------------------------------------

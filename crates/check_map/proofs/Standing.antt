@@ -16,8 +16,8 @@ use Rattle.meaning.specs.declared.Geometry.{Geometry}
 use Rattle.lists.specs.Tests.{le-or-lt}
 use Rattle.lists.specs.Members
 use Rattle.lists.specs.Members.{In, length-count}
-use Rattle.check_map.specs.Marks.{marked, Marks}
-use Rattle.check_map.specs.Owners.{shut, Takes, weight, standing}
+use Rattle.check_map.specs.Marks.{marked, MarksPlaces}
+use Rattle.check_map.specs.Owners.{shut, TakesStretch, weight, standing}
 use Rattle.check_map.proofs.Maps
 use Rattle.check_map.proofs.Digits.{digit-zero}
 
@@ -96,7 +96,8 @@ module _ (g : Geometry) (d : List ℕ) where
       let e = standing-open (replicate mostBlocks 0) n h s in let v = weight-low n in omega arith
 
   -- what is taken by bits is marked in the numbers
-  pub takes-marks : {m m′ : List ℕ} {a n : ℕ} {r : Bool} → a + n ≤ granules g → Takes (g .units) m a n m′ r → Marks (standing g d m) 1 0 (count a n)
+  pub takes-marks : {m m′ : List ℕ} {a n : ℕ} {r : Bool} → a + n ≤ granules g → TakesStretch (g .units) m a n m′ r → MarksPlaces (standing g d m) 1 0
+      (count a n)
       (standing g d m′) r
   takes-marks {m} {m′} {a} {n} {r} h t =
       record {

@@ -16,7 +16,7 @@ use Rattle.meaning.specs.Bits.{digit}
 use Rattle.laws.specs.Bits.{digit-lt}
 use Rattle.lists.specs.Tests.{le-or-lt}
 use Rattle.layout.specs.Number.{number}
-use Rattle.check_map.specs.Owners.{shut, Takes, Window}
+use Rattle.check_map.specs.Owners.{shut, TakesStretch, Window}
 use Rattle.check_map.specs.Eight.{PutsEight, Spans}
 use Rattle.check_map.proofs.Digits.{mask, min-one, digit-zero, digit-and, digit-or, all-zero, says-clear, clear-says, or-in, or-out}
 use Rattle.check_map.proofs.Owners.{coded, coded-is, other-bit}
@@ -176,7 +176,7 @@ stored-other m m′ at x q s h = ap (λ (y : ℕ). digit y (q % 8)) (s .outside 
     far (inr k) = inr (omega arith)
 
 -- where a stretch of n granules from a on lies in the eight bytes from `at` on
-pub record Lies (at a n o : ℕ) : Type 0 where
+pub record InWindow (at a n o : ℕ) : Type 0 where
   pub from : a ≡ 8 * at + o
   pub room : o + n ≤ 64
 
@@ -192,7 +192,7 @@ base-own h e = record { low = omega arith; high = omega arith; near = inl e }
 pub base-last : {block at : ℕ} → 184 ≤ block → at ≡ 184 → Base block at
 base-last h e = record { low = omega arith; high = omega arith; near = inr e }
 
-pub lies : {block at : ℕ} (unit n : ℕ) → Base block at → unit < 8 → block * 8 + unit + n ≤ 1536 → n ≤ 32 → Lies at (block * 8 + unit) n
+pub lies : {block at : ℕ} (unit n : ℕ) → Base block at → unit < 8 → block * 8 + unit + n ≤ 1536 → n ≤ 32 → InWindow at (block * 8 + unit) n
     (8 * (block - at) + unit)
 lies {block} {at} unit n b h k l = record { from = let z = b .low in omega arith; room = go (b .near) }
   where
@@ -201,8 +201,9 @@ lies {block} {at} unit n b h k l = record { from = let z = b .low in omega arith
     go (inr e) = omega arith
 
 -- some granule of the stretch is shut
-pub stretch-no : (m m′ : List ℕ) (at a n o : ℕ) {x : ℕ} → x ≡ eightOf m at → ((j : ℕ) → getD m j 0 < 256) → Lies at a n o → n < 64 → bitAnd x (coded n o) ≢ 0
-    → Takes 8 m a n m′ false
+pub stretch-no : (m m′ : List ℕ) (at a n o : ℕ) {x : ℕ} → x ≡ eightOf m at → ((j : ℕ) → getD m j 0 < 256) → InWindow at a n o → n < 64 → bitAnd x (coded n o)
+    ≢ 0
+    → TakesStretch 8 m a n m′ false
 stretch-no m m′ at a n o {x} x-is b l h e =
     record {
       yes′ = λ y. other-bit y;
@@ -217,8 +218,9 @@ stretch-no m m′ at a n o {x} x-is b l h e =
         ap (digit (eightOf m at)) (let z : o + i ≡ a + i - 8 * at = omega arith in z) ∙ sym (stretch-shut m at (a + i) b (omega arith) (omega arith))
 
 -- all are open, and the mask is stored
-pub stretch-yes : (m m′ : List ℕ) (at a n o : ℕ) {x : ℕ} → x ≡ eightOf m at → ((j : ℕ) → getD m j 0 < 256) → Lies at a n o → n < 64 → bitAnd x (coded n o) ≡ 0
-    → PutsEight m at (bitOr x (coded n o)) m′ → Takes 8 m a n m′ true
+pub stretch-yes : (m m′ : List ℕ) (at a n o : ℕ) {x : ℕ} → x ≡ eightOf m at → ((j : ℕ) → getD m j 0 < 256) → InWindow at a n o → n < 64 → bitAnd x (coded n o)
+    ≡ 0
+    → PutsEight m at (bitOr x (coded n o)) m′ → TakesStretch 8 m a n m′ true
 stretch-yes m m′ at a n o {x} x-is b l h e s =
     record {
       yes′ = λ y i k. stretch-shut m at (a + i) b (low i) (high i k) ∙ ap (digit (eightOf m at)) (place i)

@@ -17,6 +17,6 @@ allows m least v [] = true
 allows m least v (n ∷ ns) = leb least (getD m n 0) && allows (set m n v) least v ns
 
 -- what a function that marks places ensures: it says whether they allow it, and if so has marked them
-pub record Marks (m : List ℕ) (least v : ℕ) (ns m′ : List ℕ) (r : Bool) : Type 0 where
+pub record MarksPlaces (m : List ℕ) (least v : ℕ) (ns m′ : List ℕ) (r : Bool) : Type 0 where
   pub answer : r ≡ allows m least v ns
   pub map : r ≡ true → m′ ≡ marked m v ns

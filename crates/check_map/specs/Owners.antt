@@ -15,7 +15,7 @@ unfoldable pub shut : ℕ → List ℕ → ℕ → ℕ
 shut units m n = digit (getD m (n / units) 0) (n % units)
 
 -- n granules from a on are taken: whether all were open, and if so they are shut and no other granule is changed
-pub record Takes (units : ℕ) (m : List ℕ) (a n : ℕ) (m′ : List ℕ) (r : Bool) : Type 0 where
+pub record TakesStretch (units : ℕ) (m : List ℕ) (a n : ℕ) (m′ : List ℕ) (r : Bool) : Type 0 where
   pub yes′ : r ≡ true → (i : ℕ) → i < n → shut units m (a + i) ≡ 0
   pub back : ((i : ℕ) → i < n → shut units m (a + i) ≡ 0) → r ≡ true
   pub inside : r ≡ true → (i : ℕ) → i < n → shut units m′ (a + i) ≡ 1

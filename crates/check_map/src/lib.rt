@@ -6,7 +6,7 @@ ghost use Prim.Native.Nat.{_+_, _*_, _<_, _≤_};
 ghost use lib.ListN.{length, getD};
 ghost use Rattle.meaning.specs.Layout.{mostBlocks, mostUnits};
 ghost use Rattle.layout.specs.Room.{Room, Read};
-ghost use Rattle.check_map.specs.Owners.{Takes, GatMap, Window};
+ghost use Rattle.check_map.specs.Owners.{TakesStretch, GatMap, Window};
 ghost use Rattle.check_map.specs.Eight.{ReadsEight, PutsEight, Spans, Among};
 
 // The first of the map's last eight bytes: eight from there on are the last that are read at once.
@@ -33,10 +33,10 @@ fn byte_of(map: &[u8], block: usize) -> usize
     layout::wide(map[block])
 }
 
-// Takes n granules of one block, from `unit` on. Whether all were open.
+// TakesStretch n granules of one block, from `unit` on. Whether all were open.
 pub fn take_units(map: &mut [u8; 192], units: usize, block: usize, unit: usize, n: usize) -> bool
     requires { ⌜ (block < mostBlocks) × (unit + n ≤ units) × (units ≤ mostUnits) × (1 ≤ n) ⌝ }
-    ensures { λ r. ⌜ Takes units (now (map .entry)) (block * units + unit) n (now (map .exit)) r ⌝ }
+    ensures { λ r. ⌜ TakesStretch units (now (map .entry)) (block * units + unit) n (now (map .exit)) r ⌝ }
 {
     let mask = ((1 << n) - 1) << unit;
     let x = byte_of(map, block);
@@ -50,7 +50,7 @@ pub fn take_units(map: &mut [u8; 192], units: usize, block: usize, unit: usize, 
 // The same over several blocks, one after the other.
 fn take_blocks(map: &mut [u8; 192], units: usize, block: usize, unit: usize, n: usize) -> bool
     requires { ⌜ (unit < units) × (units ≤ mostUnits) × (block * units + unit + n ≤ mostBlocks * units) × (1 ≤ n) × (n ≤ 32) ⌝ }
-    ensures { λ r. ⌜ Takes units (now (map .entry)) (block * units + unit) n (now (map .exit)) r ⌝ }
+    ensures { λ r. ⌜ TakesStretch units (now (map .entry)) (block * units + unit) n (now (map .exit)) r ⌝ }
 {
     let mut b = block;
     let mut u = unit;
@@ -89,10 +89,10 @@ fn put_eight(map: &mut [u8; 192], at: usize, x: u64)
     map[at + 7] = (x / 0x100000000000000 % 256) as u8;
 }
 
-// Takes a run of a disk with 8 units a block: there the granules stand one after the other in the map, and the run in eight bytes of it.
+// TakesStretch a run of a disk with 8 units a block: there the granules stand one after the other in the map, and the run in eight bytes of it.
 fn take_stretch(map: &mut [u8; 192], block: usize, unit: usize, n: usize) -> bool
     requires { ⌜ (unit < mostUnits) × (block * 8 + unit + n ≤ mostBlocks * 8) × (1 ≤ n) × (n ≤ 32) ⌝ }
-    ensures { λ r. ⌜ Takes 8 (now (map .entry)) (block * 8 + unit) n (now (map .exit)) r ⌝ }
+    ensures { λ r. ⌜ TakesStretch 8 (now (map .entry)) (block * 8 + unit) n (now (map .exit)) r ⌝ }
 {
     let at = if block < LAST_EIGHT {
         block
@@ -109,10 +109,10 @@ fn take_stretch(map: &mut [u8; 192], block: usize, unit: usize, n: usize) -> boo
     true
 }
 
-// Takes a run that goes over one block's end.
+// TakesStretch a run that goes over one block's end.
 pub fn take_long(map: &mut [u8; 192], units: usize, block: usize, unit: usize, n: usize) -> bool
     requires { ⌜ (unit < units) × (units ≤ mostUnits) × (block * units + unit + n ≤ mostBlocks * units) × (1 ≤ n) × (n ≤ 32) ⌝ }
-    ensures { λ r. ⌜ Takes units (now (map .entry)) (block * units + unit) n (now (map .exit)) r ⌝ }
+    ensures { λ r. ⌜ TakesStretch units (now (map .entry)) (block * units + unit) n (now (map .exit)) r ⌝ }
 {
     if units == 8 {
         return take_stretch(map, block, unit, n);

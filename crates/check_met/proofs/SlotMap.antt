@@ -22,7 +22,7 @@ use Rattle.lists.specs.Members
 use Rattle.seek.proofs.SeekSteps.{slotsFor, slots-are}
 use Rattle.check_met.specs.Met.{HitCopied, metAt}
 
--- Rows ------------------------------------------------------------------------------------------------------------------------
+-- RowsLeft ------------------------------------------------------------------------------------------------------------------------
 
 -- the slots of a row, and of all rows from one on
 abbrev pub rowSlots : ℕ → ℕ → List ℕ
@@ -32,10 +32,10 @@ abbrev pub rowsFrom : ℕ → ℕ → List ℕ
 rowsFrom columns row = each (rowSlots columns) (count row (8 - row))
 
 -- the rows from `row` on decide for all
-pub record Rows (p : ℕ → Bool) (columns row : ℕ) : Type 0 where
+pub record RowsLeft (p : ℕ → Bool) (columns row : ℕ) : Type 0 where
   pub rest : every p (rowsFrom columns row) ≡ every p (rowsFrom columns 0)
 
-module _ {p : ℕ → Bool} {columns row : ℕ} (w : Rows p columns row) where
+module _ {p : ℕ → Bool} {columns row : ℕ} (w : RowsLeft p columns row) where
   rows-more : row < 8 → (every p (rowSlots columns row) && every p (rowsFrom columns (row + 1))) ≡ every p (rowsFrom columns row)
   rows-more h = sym (ap (λ (l : List ℕ). every p (each (rowSlots columns) l)) (count-more h) ∙ every-append p (rowSlots columns row)
       (rowsFrom columns (row + 1)))
@@ -43,7 +43,7 @@ module _ {p : ℕ → Bool} {columns row : ℕ} (w : Rows p columns row) where
   pub rows-stop : row < 8 → every p (rowSlots columns row) ≡ false → false ≡ every p (rowsFrom columns 0)
   rows-stop h e = ap (λ (b : Bool). b && every p (rowsFrom columns (row + 1))) (sym e) ∙ rows-more h ∙ w .rest
 
-  pub rows-step : row < 8 → every p (rowSlots columns row) ≡ true → Rows p columns (row + 1)
+  pub rows-step : row < 8 → every p (rowSlots columns row) ≡ true → RowsLeft p columns (row + 1)
   rows-step h e = record { rest = ap (λ (b : Bool). b && every p (rowsFrom columns (row + 1))) (sym e) ∙ rows-more h ∙ w .rest }
 
   pub rows-end : 8 ≤ row → true ≡ every p (rowsFrom columns 0)
@@ -85,17 +85,17 @@ zeros (suc n) m at h =
     zero-sum (suc x) y = ne-eqb (suc x + 256 * y) 0 (λ z. omega arith) ∙ sym (ap (λ (b : Bool). b && eqb y 0) (ne-eqb (suc x) 0 (λ z. omega arith)))
 
 -- the slots of a row before `at` stand at 0
-pub record Rowing (met : List ℕ) (first columns at : ℕ) : Type 0 where
+pub record RowMet (met : List ℕ) (first columns at : ℕ) : Type 0 where
   pub past : (s : ℕ) → first ≤ s → s < at → metAt met s ≡ true
   pub low : first ≤ at
   pub before : at < first + columns
 
-pub rowing-start : (met : List ℕ) (first columns : ℕ) → 0 < columns → Rowing met first columns first
+pub rowing-start : (met : List ℕ) (first columns : ℕ) → 0 < columns → RowMet met first columns first
 rowing-start met first columns h = record { past = λ s a b. absurd (let z : ⊥ = omega arith in z); low = omega arith; before = omega arith }
 
-pub rowing-step : {met : List ℕ} {first columns at r : ℕ} → Rowing met first columns at → at + 8 < first + columns → first + columns ≤ length met → r ≡ number
+pub rowing-step : {met : List ℕ} {first columns at r : ℕ} → RowMet met first columns at → at + 8 < first + columns → first + columns ≤ length met → r ≡ number
     (take 8 (drop at met)) → r ≡ 0
-    → Rowing met first columns (at + 8)
+    → RowMet met first columns (at + 8)
 rowing-step {met} {first} {columns} {at} {r} w h l e z =
     let q : every (metAt met) (count at 8) ≡ true = sym (zeros 8 met at (omega arith)) ∙ eq-eqb _ _ (sym e ∙ z) in
     record {
@@ -105,7 +105,7 @@ rowing-step {met} {first} {columns} {at} {r} w h l e z =
     }
 
 -- eight of the row do not all stand at 0
-pub rowing-stop : {met : List ℕ} {first columns at r : ℕ} → Rowing met first columns at → at + 8 < first + columns → first + columns ≤ length met → r ≡ number
+pub rowing-stop : {met : List ℕ} {first columns at r : ℕ} → RowMet met first columns at → at + 8 < first + columns → first + columns ≤ length met → r ≡ number
     (take 8 (drop at met))
     → (r ≡ 0 → ⊥) → false ≡ every (metAt met) (count first columns)
 rowing-stop {met} {first} {columns} {at} {r} w h l e n = sym (by (every (metAt met) (count first columns)) refl)
@@ -117,7 +117,7 @@ rowing-stop {met} {first} {columns} {at} {r} w h l e n = sym (by (every (metAt m
     by false q = q
 
 -- the last eight
-pub rowing-end : {met : List ℕ} {first columns at r : ℕ} → Rowing met first columns at → first + columns ≤ at + 8 → 8 ≤ columns → first + columns ≤ length met
+pub rowing-end : {met : List ℕ} {first columns at r : ℕ} → RowMet met first columns at → first + columns ≤ at + 8 → 8 ≤ columns → first + columns ≤ length met
     → r ≡ number (take 8 (drop (first + columns - 8) met)) → eqb r 0 ≡ every (metAt met) (count first columns)
 rowing-end {met} {first} {columns} {at} {r} w h c l e =
     ap (λ (k : ℕ). eqb k 0) e ∙ zeros 8 met (first + columns - 8) (omega arith) ∙ by (every (metAt met) (count (first + columns - 8) 8)) refl

@@ -25,7 +25,7 @@ use Rattle.layout.specs.Room.{Room, Slot}
 use Rattle.lists.specs.Tests.{all-yes, all-no, all-one, all-at}
 use Rattle.layout.proofs.HasRoom.{slot-of, slot-yes, slot-no, entry-fits}
 use Rattle.layout.proofs.OneStep.{name-part}
-use Rattle.check_names.specs.Buckets.{Hashed, unlike, inBucket, bucket, Linked, Buckets, Joined, Differing, Visited}
+use Rattle.check_names.specs.Buckets.{Hashed, unlike, inBucket, bucket, Linked, Buckets, Joined, Differing, BucketsVisited}
 
 module _ (g : Geometry) (d : List ℕ) where
   -- who stands in a bucket
@@ -360,7 +360,7 @@ module _ (g : Geometry) (d : List ℕ) where
 
   -- the end of a row
   pub row-end : (row s : ℕ) (head next : List ℕ) {k : ℕ} → Room g d → Differing g d s head next → row < 8 → k ≡ directorySectors g d → s ≡ 32 * row + (k - 2)
-      → Visited g d (32 * (row + 1)) head next true
+      → BucketsVisited g d (32 * (row + 1)) head next true
   row-end row s head next {k} room w l e q =
       let a = room .ten in let b = room .thirty in
       record {
@@ -371,17 +371,18 @@ module _ (g : Geometry) (d : List ℕ) where
       }
 
   -- a file with the name of one before it
-  pub row-found : (row : ℕ) {s : ℕ} {head next : List ℕ} {r : Bool} → Visited g d s head next r → not r ≡ true → Visited g d (32 * (row + 1)) head next false
+  pub row-found : (row : ℕ) {s : ℕ} {head next : List ℕ} {r : Bool} → BucketsVisited g d s head next r → not r ≡ true → BucketsVisited g d (32 * (row + 1))
+      head next false
   row-found row {r = r} w t = record { bad = λ z. w .bad (not-true r t); good = λ z. absurd (Members.false-no (sym z) tt) }
 
   -- the two ways through a slot
-  pub visit-other : (s : ℕ) (head next : List ℕ) {f : Bool} → Differing g d s head next → s < 256 → f ≡ inUsePrimary g d s → not f ≡ true → Visited g d
+  pub visit-other : (s : ℕ) (head next : List ℕ) {f : Bool} → Differing g d s head next → s < 256 → f ≡ inUsePrimary g d s → not f ≡ true → BucketsVisited g d
       (s + 1) head next true
   visit-other s head next {f} w l e t =
       record { bad = λ z. absurd (Members.false-no z tt); good = λ z. differing-other s head next w l (sym e ∙ not-true f t) }
 
   pub visit-file : Hashed g d → (s : ℕ) (head next head′ next′ : List ℕ) {r f : Bool} → Differing g d s head next → Slot g d s → f ≡ inUsePrimary g d s → not
       f ≡ false
-      → Joined g d s head′ next′ r → Visited g d (s + 1) head′ next′ r
+      → Joined g d s head′ next′ r → BucketsVisited g d (s + 1) head′ next′ r
   visit-file h s head next head′ next′ {r} {f} w k e t j =
       record { bad = λ z. differing-found s head′ next′ k (sym e ∙ not-false f t) j z; good = λ z. differing-on h s head next head′ next′ w (k .low) j z }

@@ -58,6 +58,6 @@ module _ (g : Geometry) (d : List ℕ) where
     pub apart : (p q : ℕ) → p < s → q < s → IsFile g d p → IsFile g d q → nameOf g d p ≡ nameOf g d q → p ≡ q
 
   -- what a visit to slots up to n gives: two files with one name, or all names below n different
-  pub record Visited (n : ℕ) (head next : List ℕ) (r : Bool) : Type 0 where
+  pub record BucketsVisited (n : ℕ) (head next : List ℕ) (r : Bool) : Type 0 where
     pub bad : r ≡ false → false ≡ namesDiffer g d (files g d)
     pub good : r ≡ true → Differing n head next

@@ -10,7 +10,7 @@ ghost use Rattle.meaning.specs.Entries.{inUsePrimary};
 ghost use Rattle.meaning.specs.Chain.{files};
 ghost use Rattle.meaning.specs.Consistent.{namesDiffer};
 ghost use Rattle.layout.specs.Room.{Room, Slot};
-ghost use Rattle.check_names.specs.Buckets.{Hashed, Buckets, Linked, bucket, unlike, Joined, Differing, Visited};
+ghost use Rattle.check_names.specs.Buckets.{Hashed, Buckets, Linked, bucket, unlike, Joined, Differing, BucketsVisited};
 
 // Whether no entry of a list has the name of slot s, whose entry is at `at`. The list starts at `first`: a slot's number plus 1, or 0 where
 // it ends; `next` tells what follows a slot.
@@ -57,7 +57,7 @@ fn joins(image: &[u8], g: Geometry, s: usize, at: usize, head: &mut [u8], next: 
 fn visit(image: &[u8], g: Geometry, s: usize, at: usize, head: &mut [u8], next: &mut [u16]) -> bool
     requires { ⌜ Room g (now image) × Hashed g (now image) × Slot g (now image) s × (at ≡ entryAt g s)
         × Differing g (now image) s (now head) (now next) ⌝ }
-    ensures { λ r. ⌜ Visited g (now (image .entry)) (s + 1) (now (head .exit)) (now (next .exit)) r ⌝ }
+    ensures { λ r. ⌜ BucketsVisited g (now (image .entry)) (s + 1) (now (head .exit)) (now (next .exit)) r ⌝ }
 {
     if !layout::primary_at(image, g, s, at) {
         return true;
@@ -68,7 +68,7 @@ fn visit(image: &[u8], g: Geometry, s: usize, at: usize, head: &mut [u8], next: 
 // The slots of one row, after those of all rows before it.
 fn row_differs(image: &[u8], g: Geometry, row: usize, head: &mut [u8], next: &mut [u16]) -> bool
     requires { ⌜ Room g (now image) × Hashed g (now image) × (row < 8) × Differing g (now image) (32 * row) (now head) (now next) ⌝ }
-    ensures { λ r. ⌜ Visited g (now (image .entry)) (32 * (row + 1)) (now (head .exit)) (now (next .exit)) r ⌝ }
+    ensures { λ r. ⌜ BucketsVisited g (now (image .entry)) (32 * (row + 1)) (now (head .exit)) (now (next .exit)) r ⌝ }
 {
     let first = 32 * row;
     let end = first + (layout::directory_sectors(image, g) - 2);

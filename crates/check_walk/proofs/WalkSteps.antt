@@ -19,7 +19,7 @@ use Rattle.layout.specs.Room.{Room}
 use Rattle.layout.proofs.OneStep.{runs-more, runs-none}
 use Rattle.lists.specs.Tests.{and-l, and-r, all-at, all-yes, all-no, all-one, all-none, any-skip, every-count, is-no, is-yes, any-one, not-both, on, off}
 use Rattle.lists.specs.Tests.{all-out}
-use Rattle.check_map.specs.Marks.{marked, allows, Marks}
+use Rattle.check_map.specs.Marks.{marked, allows, MarksPlaces}
 use Rattle.check_map.proofs.MarkLists.{marked-append, allows-append}
 use Rattle.lists.specs.Members
 use Rattle.check_walk.specs.Walk.{TakesRun, runHolds, unused, entryFits, Entered, Walked, goesOn, markerHolds, chainHolds, onward, granulesOf}
@@ -62,16 +62,16 @@ module _ (g : Geometry) (d : List ℕ) (s k least : ℕ) where
   takes-disk e f q h = taken-not (all-no (all-out _ 1 (lt-leb _ _ (rw (e, f, q) at h))) _)
 
   pub takes-map : {m m′ : List ℕ} {x y : ℕ} {r : Bool} → x ≡ pairByte g d s k → y ≡ block g d s k
-      → Marks m least 0 (count (y * g .units + x / 32) (1 + x % 32)) m′ r → not r ≡ true → TakesRun g d s k least m m′ 0
+      → MarksPlaces m least 0 (count (y * g .units + x / 32) (1 + x % 32)) m′ r → not r ≡ true → TakesRun g d s k least m m′ 0
   takes-map {m} {m′} {x} {y} {r} e f w h =
-      let w′ : Marks m least 0 (runGranules g d s k) m′ r = rw (e, f) at w in
+      let w′ : MarksPlaces m least 0 (runGranules g d s k) m′ r = rw (e, f) at w in
       taken-not (all-out _ 1 (is-no (w′ .answer) h))
 
   pub takes-run : {m m′ : List ℕ} {x y w : ℕ} {r : Bool} → x ≡ pairByte g d s k → y ≡ block g d s k → w ≡ granules g → x / 32 < g .units
-      → y * g .units + x / 32 + (1 + x % 32) ≤ w → Marks m least 0 (count (y * g .units + x / 32) (1 + x % 32)) m′ r → not r ≡ false
+      → y * g .units + x / 32 + (1 + x % 32) ≤ w → MarksPlaces m least 0 (count (y * g .units + x / 32) (1 + x % 32)) m′ r → not r ≡ false
       → TakesRun g d s k least m m′ (1 + x % 32)
   takes-run {m} {m′} {x} {y} {w} {r} e f q u l k′ h =
-      let w′ : Marks m least 0 (runGranules g d s k) m′ r = rw (e, f) at k′ in
+      let w′ : MarksPlaces m least 0 (runGranules g d s k) m′ r = rw (e, f) at k′ in
       record {
         small = omega arith;
         no′ = λ z. absurd (let b : ⊥ = omega arith in b);

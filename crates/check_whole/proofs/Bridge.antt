@@ -29,7 +29,7 @@ use Rattle.check_file.proofs.Directory.{directory-lt}
 -- The map ---------------------------------------------------------------------------------------------------------------------
 
 -- what the map says before the first run is taken off it
-pub record Base (g : Geometry) (d m : List ℕ) : Type 0 where
+pub record MapBefore (g : Geometry) (d m : List ℕ) : Type 0 where
   pub taken-in : (n : ℕ) → n < granules g → 1 ≤ getD m n 0 → T (taken g d n)
   pub off-in : (n : ℕ) → 2 ≤ getD m n 0 → In n (directoryGranules g d) → ⊥
   pub open-one : (n : ℕ) → n < granules g → T (taken g d n) → 1 ≤ getD m n 0
@@ -52,7 +52,7 @@ module _ (g : Geometry) (d m : List ℕ) (room : Room g d) (w : GatMap g d m) wh
   stands : (n : ℕ) → n < granules g → T (taken g d n) → getD (standing g d m) n 0 ≡ weight g d n
   stands n l t = standing-open g d m n l (w .opens n l (Members.T-true {b = taken g d n} t))
 
-  pub base : Base g d (standing g d m)
+  pub base : MapBefore g d (standing g d m)
   base =
       record {
         taken-in = λ n l h. open-taken n l (open-if g d m n l h);

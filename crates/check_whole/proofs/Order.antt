@@ -22,19 +22,20 @@ use Rattle.check_whole.specs.Slots.{by32, sectorSlots, diskSlots}
 use Rattle.check_whole.proofs.Maps
 
 -- the same slots, each of them once
-pub record Alike (xs ys : List ℕ) : Type 0 where
+pub record SameSlots (xs ys : List ℕ) : Type 0 where
   pub there : (s : ℕ) → In s xs → In s ys
   pub back : (s : ℕ) → In s ys → In s xs
   pub once : Distinct xs
   pub once′ : Distinct ys
 
-pub turned : {xs ys : List ℕ} → Alike xs ys → Alike ys xs
+pub turned : {xs ys : List ℕ} → SameSlots xs ys → SameSlots ys xs
 turned a = record { there = a .back; back = a .there; once = a .once′; once′ = a .once }
 
-every-alike : (p : ℕ → Bool) {xs ys : List ℕ} → Alike xs ys → every p xs ≡ true → every p ys ≡ true
+every-alike : (p : ℕ → Bool) {xs ys : List ℕ} → SameSlots xs ys → every p xs ≡ true → every p ys ≡ true
 every-alike p {xs} {ys} a e = Members.T-true (Members.all-every p ys (λ s i. Members.every-all p (Members.true-T e) (a .back s i)))
 
-opens-alike : (m : List ℕ) (low : ℕ → ℕ) (f : ℕ → List ℕ) {xs ys : List ℕ} → ((s : ℕ) → 1 ≤ low s) → Alike xs ys → opens m low f xs ≡ true → opens m low f ys
+opens-alike : (m : List ℕ) (low : ℕ → ℕ) (f : ℕ → List ℕ) {xs ys : List ℕ} → ((s : ℕ) → 1 ≤ low s) → SameSlots xs ys → opens m low f xs ≡ true → opens m low f
+    ys
     ≡ true
 opens-alike m low f {xs} {ys} pos a e =
     let o = Maps.opens-says low f pos xs m e in
@@ -45,18 +46,18 @@ opens-alike m low f {xs} {ys} pos a e =
     })
 
 module _ (g : Geometry) (d : List ℕ) (least-low : (s : ℕ) → 1 ≤ leastOf g d s) where
-  fit-there : (m met : List ℕ) {xs ys : List ℕ} → Alike xs ys → slotsFit g d m met xs ≡ true → slotsFit g d m met ys ≡ true
+  fit-there : (m met : List ℕ) {xs ys : List ℕ} → SameSlots xs ys → slotsFit g d m met xs ≡ true → slotsFit g d m met ys ≡ true
   unfolding slotsFit
   fit-there m met a e =
       all-yes (every-alike (slotFits g d) a (all-at _ e 0)) _ ∙ all-yes (opens-alike m (leastOf g d) (ownedOf g d) least-low a (all-at _ e 1)) _
       ∙ all-yes (opens-alike met one (chainOf g d) (λ s. omega arith) a (all-at _ e 2)) _ ∙ all-none
 
-  pub fit-alike : (m met : List ℕ) {xs ys : List ℕ} → Alike xs ys → slotsFit g d m met xs ≡ slotsFit g d m met ys
+  pub fit-alike : (m met : List ℕ) {xs ys : List ℕ} → SameSlots xs ys → slotsFit g d m met xs ≡ slotsFit g d m met ys
   fit-alike m met a =
       Members.both-T (λ t. Members.true-T (fit-there m met a (Members.T-true t))) (λ t. Members.true-T (fit-there m met (turned a) (Members.T-true t)))
 
 -- what is marked does not hang on the order
-pub marked-alike : (met : List ℕ) (f : ℕ → List ℕ) {xs ys : List ℕ} → Alike xs ys → (n : ℕ) → n < length met → getD (marked met 0 (each f xs)) n 0 ≡ getD
+pub marked-alike : (met : List ℕ) (f : ℕ → List ℕ) {xs ys : List ℕ} → SameSlots xs ys → (n : ℕ) → n < length met → getD (marked met 0 (each f xs)) n 0 ≡ getD
     (marked met 0 (each f ys)) n 0
 marked-alike met f {xs} {ys} a n l = go (Members.in? n (each f xs))
   where
@@ -94,7 +95,7 @@ unfolding by32
 by32-once zero s = Distinct.done
 by32-once (suc n) s = Distinct.fresh (λ i. let k = by32-in s n (s + 32) i in let l = k .0 in omega arith) (by32-once n (s + 32))
 
-pub disk-order : (g : Geometry) (d : List ℕ) → Room g d → Alike (diskSlots g d) (slots g d)
+pub disk-order : (g : Geometry) (d : List ℕ) → Room g d → SameSlots (diskSlots g d) (slots g d)
 unfolding diskSlots sectorSlots
 disk-order g d room =
     record {

@@ -37,7 +37,7 @@ use Rattle.check_whole.proofs.Maps
 use Rattle.check_whole.proofs.Order.{fit-alike, marked-alike, disk-order}
 use Rattle.check_file.proofs.Directory.{all-open, open-all}
 use Rattle.check_whole.proofs.Bridge
-use Rattle.check_whole.proofs.Bridge.{Base, Held, GoodEntry}
+use Rattle.check_whole.proofs.Bridge.{MapBefore, Held, GoodEntry}
 
 -- the image's bytes are bytes
 abbrev pub Bytes : List ℕ → Type 0
@@ -139,7 +139,7 @@ module _ (g : Geometry) (d : List ℕ) where
 
   -- From the maps to the disk -------------------------------------------------------------------------------------------------
 
-  module _ (lh : lengthHolds g d ≡ true) (m seen : List ℕ) (b : Base g d m) (copy : HitCopied g d seen) (bytes : Bytes d)
+  module _ (lh : lengthHolds g d ≡ true) (m seen : List ℕ) (b : MapBefore g d m) (copy : HitCopied g d seen) (bytes : Bytes d)
       (dt : every (taken g d) (directoryGranules g d) ≡ true)
       (fit : slotsFit g d m seen (slots g d) ≡ true) (all-met : every (metAt (marked seen 0 (each (chainOf g d) (slots g d)))) (slots g d) ≡ true) where
     fits : every (slotFits g d) (slots g d) ≡ true
@@ -269,7 +269,7 @@ module _ (g : Geometry) (d : List ℕ) where
 
   -- From the disk to the maps -------------------------------------------------------------------------------------------------
 
-  module _ (e : consistent g d ≡ true) (m seen : List ℕ) (b : Base g d m) (copy : HitCopied g d seen) where
+  module _ (e : consistent g d ≡ true) (m seen : List ℕ) (b : MapBefore g d m) (copy : HitCopied g d seen) where
     c : Sound g d
     c = Facts.sound g d e
 

@@ -27,13 +27,13 @@ use Rattle.seek.proofs.IsWalkable.{sound}
 use Rattle.differences.specs.Compare.{before, difference, isOne, tellsNone, tellFirst, names, merged, at′, differences, compare}
 use Rattle.differences.specs.Order.{before-less, rising-length, keep-yes, keep-no, keep-whole}
 use Rattle.differences.specs.declared.Difference.{Difference}
-use Rattle.compare_order.specs.Whole.{Whole, Starts}
-use Rattle.compare_order.specs.Walk.{later, nameAt, onFirst, onSecond, Next}
+use Rattle.compare_order.specs.Whole.{WholeDisk, StartsFile}
+use Rattle.compare_order.specs.Walk.{later, nameAt, onFirst, onSecond, NextPair}
 use Rattle.compare_order.specs.declared.Pair.{Pair}
 use Rattle.compare_order.proofs.Pairs.{starts-file, merged-in}
 
 -- a disk whose check answered 0 is whole
-pub whole : (g : Geometry) (d : List ℕ) {c : Refusal} → c ≡ check g d → c .number ≡ 0 → Whole g d
+pub whole : (g : Geometry) (d : List ℕ) {c : Refusal} → c ≡ check g d → c .number ≡ 0 → WholeDisk g d
 whole g d e z = let k = checked g d e z in record { sound = sound g d (k .fits) (k .sound); holds = facts.sound g d (k .sound) }
 
 -- so many names at the most
@@ -76,7 +76,7 @@ first-letter : (g : Geometry) (d : List ℕ) (p : ℕ) → T (wellFormed (nameOf
 unfolding wellFormed nameOf all
 first-letter g d p t = letter-some (field g d p 5) (Members.and-l (letter (field g d p 5)) _ t)
 
-after-zeros : (g : Geometry) (d : List ℕ) → Whole g d → (p : ℕ) → Starts g d p → before (replicate 11 0) (nameOf g d p) ≡ true
+after-zeros : (g : Geometry) (d : List ℕ) → WholeDisk g d → (p : ℕ) → StartsFile g d p → before (replicate 11 0) (nameOf g d p) ≡ true
 unfolding nameOf
 after-zeros g d w p s = before-less (replicate 10 0) _ (first-letter g d p (change.filed-at g d (w .holds) p (starts-file g d p s) .name))
 
@@ -86,7 +86,7 @@ module _ (g : Geometry) (d : List ℕ) (h : Geometry) (e : List ℕ) where
   told-later last = keep isOne (map (at′ g d h e) (later g d h e last))
 
   -- of the differences from number i on, `left` are to be passed over after `last`; k names were met
-  pub record Going (i left : ℕ) (last : List ℕ) (k : ℕ) : Type 0 where
+  pub record TellingOn (i left : ℕ) (last : List ℕ) (k : ℕ) : Type 0 where
     pub ahead : drop i (differences g d h e) ≡ drop left (told-later last)
     pub bound : length (later g d h e last) + k ≤ 512
     pub sized : length last ≡ 11
@@ -100,7 +100,7 @@ module _ (g : Geometry) (d : List ℕ) (h : Geometry) (e : List ℕ) where
       by true = name-length h e (p .second)
       by false = name-length g d (p .first)
 
-  pub going-start : Whole g d → Whole h e → (i : ℕ) → Going i i (replicate 11 0) 0
+  pub going-start : WholeDisk g d → WholeDisk h e → (i : ℕ) → TellingOn i i (replicate 11 0) 0
   unfolding told-later later differences merged
   going-start w v i =
       let x : keep (before (replicate 11 0)) (merged g d h e) ≡ merged g d h e
@@ -115,11 +115,11 @@ module _ (g : Geometry) (d : List ℕ) (h : Geometry) (e : List ℕ) where
         sized = refl;
       }
 
-  module _ (i left : ℕ) (last n : List ℕ) (k : ℕ) (a : later g d h e last ≡ n ∷ later g d h e n) (eleven : length n ≡ 11) (t : Going i left last k) where
+  module _ (i left : ℕ) (last n : List ℕ) (k : ℕ) (a : later g d h e last ≡ n ∷ later g d h e n) (eleven : length n ≡ 11) (t : TellingOn i left last k) where
     bounded : length (later g d h e n) + (k + 1) ≤ 512
     bounded = let b = t .bound in let c = ap length a in omega arith
 
-    pub going-no : isOne (at′ g d h e n) ≡ false → Going i left n (k + 1)
+    pub going-no : isOne (at′ g d h e n) ≡ false → TellingOn i left n (k + 1)
     unfolding told-later
     going-no f =
         record {
@@ -137,31 +137,31 @@ module _ (g : Geometry) (d : List ℕ) (h : Geometry) (e : List ℕ) where
     unfolding tellFirst
     going-here f z = sym (ap tellFirst (t .ahead ∙ ap (λ (m : ℕ). drop m (told-later last)) z ∙ one f))
 
-    pub going-more : isOne (at′ g d h e n) ≡ true → (left ≡ 0 → ⊥) → Going i (left - 1) n (k + 1)
+    pub going-more : isOne (at′ g d h e n) ≡ true → (left ≡ 0 → ⊥) → TellingOn i (left - 1) n (k + 1)
     going-more f z = record { ahead = t .ahead ∙ dropped left z; bound = bounded; sized = eleven }
       where
         dropped : (m : ℕ) → (m ≡ 0 → ⊥) → drop m (told-later last) ≡ drop (m - 1) (told-later n)
         dropped zero z = absurd (z refl)
         dropped (suc m) z = let q : m ≡ suc m - 1 = omega arith in ap (drop (suc m)) (one f) ∙ ap (λ (j : ℕ). drop j (told-later n)) q
 
-  pub going-end : (i left : ℕ) (last : List ℕ) (k : ℕ) → later g d h e last ≡ [] → Going i left last k → tellsNone (unplaced 0) ≡ tellFirst
+  pub going-end : (i left : ℕ) (last : List ℕ) (k : ℕ) → later g d h e last ≡ [] → TellingOn i left last k → tellsNone (unplaced 0) ≡ tellFirst
       (drop i (differences g d h e))
   unfolding tellFirst told-later
   going-end i left last k a t =
       sym (ap tellFirst (t .ahead ∙ ap (λ (l : List (List ℕ)). drop left (keep isOne (map (at′ g d h e) l))) a ∙ drop-nil left))
 
-  pub going-out : (i left : ℕ) (last : List ℕ) (k : ℕ) → 512 ≤ k → Going i left last k → later g d h e last ≡ []
+  pub going-out : (i left : ℕ) (last : List ℕ) (k : ℕ) → 512 ≤ k → TellingOn i left last k → later g d h e last ≡ []
   going-out i left last k f t = none (later g d h e last) (let b = t .bound in omega arith)
     where
       none : (l : List (List ℕ)) → length l ≡ 0 → l ≡ []
       none [] z = refl
       none (x ∷ l) z = absurd (let q : ⊥ = omega arith in q)
 
-  pub going-same : {i left left′ k : ℕ} {last last′ : List ℕ} → left′ ≡ left → last′ ≡ last → Going i left last k → Going i left′ last′ k
+  pub going-same : {i left left′ k : ℕ} {last last′ : List ℕ} → left′ ≡ left → last′ ≡ last → TellingOn i left last k → TellingOn i left′ last′ k
   going-same a b t = rw (a, b) t
 
   -- what stands under the pair's name
-  pub stands-there : {last : List ℕ} (p : Pair) {x : Difference} → Next g d h e last p → (p .kind ≡ 0 → ⊥) → x ≡ difference (nameAt g d h e p)
+  pub stands-there : {last : List ℕ} (p : Pair) {x : Difference} → NextPair g d h e last p → (p .kind ≡ 0 → ⊥) → x ≡ difference (nameAt g d h e p)
       (onFirst g d h e p) (onSecond g d h e p) → x ≡ at′ g d h e (nameAt g d h e p)
   stands-there p n z q = q ∙ (λ i. difference (nameAt g d h e p) (sym (n .first′ z) i) (sym (n .second′ z) i))
 

@@ -10,7 +10,7 @@ ghost use Rattle.meaning.specs.Refusals.{check};
 ghost use Rattle.meaning.specs.Plain.{fileAt};
 ghost use Rattle.layout.specs.Room.{Room, Slot};
 ghost use Rattle.differences.specs.Compare.{nameOnly, unlike, difference, tellsNone, tellFirst, differences, compare};
-ghost use Rattle.compare_order.specs.Whole.{Whole, Starts};
+ghost use Rattle.compare_order.specs.Whole.{WholeDisk, StartsFile};
 ghost use Rattle.compare_order.specs.Walk.{Files, nameAt, onFirst, onSecond};
 ghost use Rattle.compare.specs.Kind.{contentsDiffer, kindOf};
 
@@ -65,7 +65,7 @@ fn name_only(image: &[u8], g: Geometry, s: usize, kind: u8) -> Difference
 
 // Two files of one name, neither of them a system file.
 fn unlike(first: &[u8], g: Geometry, second: &[u8], h: Geometry, s: usize, t: usize) -> Difference
-    requires { ⌜ Whole g (now first) × Whole h (now second) × Starts g (now first) s × Starts h (now second) t ⌝ }
+    requires { ⌜ WholeDisk g (now first) × WholeDisk h (now second) × StartsFile g (now first) s × StartsFile h (now second) t ⌝ }
     ensures { λ r. ⌜ r ≡ unlike (nameOf g (now (first .entry)) s) (fileAt g (now (first .entry)) s) (fileAt h (now (second .entry)) t) ⌝ }
 {
     let n = layout::size_of(first, g, s);
@@ -91,7 +91,7 @@ fn unlike(first: &[u8], g: Geometry, second: &[u8], h: Geometry, s: usize, t: us
 
 // What stands under one name, on the first disk and on the second.
 fn difference_at(first: &[u8], g: Geometry, second: &[u8], h: Geometry, p: Pair) -> Difference
-    requires { ⌜ Whole g (now first) × Whole h (now second) × Files g (now first) h (now second) p ⌝ }
+    requires { ⌜ WholeDisk g (now first) × WholeDisk h (now second) × Files g (now first) h (now second) p ⌝ }
     ensures { λ r. ⌜ r ≡ difference (nameAt g (now (first .entry)) h (now (second .entry)) p) (onFirst g (now (first .entry)) h (now (second .entry)) p)
         (onSecond g (now (first .entry)) h (now (second .entry)) p) ⌝ }
 {
@@ -128,7 +128,7 @@ pub fn tells_none(c: Refusal) -> Difference
 
 // The difference of that number, by rising names; or "no more".
 fn told(first: &[u8], g: Geometry, second: &[u8], h: Geometry, number: usize) -> Difference
-    requires { ⌜ Whole g (now first) × Whole h (now second) ⌝ }
+    requires { ⌜ WholeDisk g (now first) × WholeDisk h (now second) ⌝ }
     ensures { λ r. ⌜ r ≡ tellFirst (drop number (differences g (now (first .entry)) h (now (second .entry)))) ⌝ }
 {
     let mut last = [0u8; 11];

@@ -18,22 +18,22 @@ use Rattle.read.specs.Part.{Readable, Owned, InGranule}
 use Rattle.read.proofs.ReadParts.{place-fits, fetch-part, fetch-append, length-fetch}
 use Rattle.differences.specs.Compare.{parting}
 use Rattle.differences.specs.Parting.{parting-none, parting-nothing, parting-on, parting-here, parting-past, parting-in}
-use Rattle.compare_order.specs.Whole.{Whole, Starts}
+use Rattle.compare_order.specs.Whole.{WholeDisk, StartsFile}
 
 -- two parts are alike in the first i bytes
-pub record Agree (a b : List ℕ) (i : ℕ) : Type 0 where
+pub record AlikeSoFar (a b : List ℕ) (i : ℕ) : Type 0 where
   pub low : i ≤ length a
   pub rest : parting a b ≡ i + parting (drop i a) (drop i b)
 
 module _ (a b : List ℕ) where
-  pub agree-start : Agree a b 0
+  pub agree-start : AlikeSoFar a b 0
   agree-start = record { low = omega arith; rest = sym (zero-add (parting a b)) }
 
-  module _ {i : ℕ} (l : length a ≡ length b) (h : i < length a) (k : Agree a b i) where
+  module _ {i : ℕ} (l : length a ≡ length b) (h : i < length a) (k : AlikeSoFar a b i) where
     cut : parting (drop i a) (drop i b) ≡ parting (getD a i 0 ∷ drop (suc i) a) (getD b i 0 ∷ drop (suc i) b)
     cut = let p = drop-cons a i 0 h in let q = drop-cons b i 0 (omega arith) in λ j. parting (p j) (q j)
 
-    pub agree-on : getD a i 0 ≡ getD b i 0 → Agree a b (i + 1)
+    pub agree-on : getD a i 0 ≡ getD b i 0 → AlikeSoFar a b (i + 1)
     agree-on e =
         let z : i + suc (parting (drop (suc i) a) (drop (suc i) b)) ≡ i + 1 + parting (drop (suc i) a) (drop (suc i) b) = omega arith in
         record {
@@ -46,7 +46,7 @@ module _ (a b : List ℕ) where
     agree-stop e =
         (sym (k .rest ∙ ap (λ (x : ℕ). i + x) (cut ∙ parting-here (getD a i 0) (getD b i 0) (drop (suc i) a) (drop (suc i) b) e) ∙ add-zero i), omega arith)
 
-  pub agree-end : {i : ℕ} → length a ≤ i → Agree a b i → (i ≡ parting a b) × (i ≤ length a)
+  pub agree-end : {i : ℕ} → length a ≤ i → AlikeSoFar a b i → (i ≡ parting a b) × (i ≤ length a)
   agree-end {i} h k = (
     sym (k .rest ∙ ap (λ (x : List ℕ). i + parting x (drop i b)) (drop-of-length-le a {i = i} h) ∙ ap (λ (x : ℕ). i + x) (parting-nothing (drop i b)) ∙
         add-zero i),
@@ -54,7 +54,7 @@ module _ (a b : List ℕ) where
   )
 
 -- bytes of a file in one granule, as a part of the image that is lent on
-module _ (g : Geometry) (d : List ℕ) (s : ℕ) (w : Whole g d) (st : Starts g d s) where
+module _ (g : Geometry) (d : List ℕ) (s : ℕ) (w : WholeDisk g d) (st : StartsFile g d s) where
   pub used : Used g d s
   used = record { slot = st .slot; used = and-l (inUse g d s) _ (st .first′) }
 
@@ -81,7 +81,8 @@ module _ (g : Geometry) (d : List ℕ) (h : Geometry) (e : List ℕ) (s t i len 
     pub part : {r : ℕ} → r ≡ place g d s i → take (r + len - r) (drop r d) ≡ fetch g d s i len
     pub part′ : {r : ℕ} → r ≡ place h e t i → take (r + len - r) (drop r e) ≡ fetch h e t i len
 
-  pub turn : {n m end : ℕ} → Whole g d × Whole h e × Starts g d s × Starts h e t × (n ≡ sizeOf g d s) × (m ≡ sizeOf h e t) × (n < 16777216) × (m < 16777216)
+  pub turn : {n m end : ℕ} → WholeDisk g d × WholeDisk h e × StartsFile g d s × StartsFile h e t × (n ≡ sizeOf g d s) × (m ≡ sizeOf h e t) × (n < 16777216) ×
+      (m < 16777216)
       → end ≤ n → end ≤ m → InGranule g i len × InGranule h i len × (1 ≤ len) × (len ≤ end - i) → Turn
   turn {n} {m} {end} p a b x =
       let k = x .3 in let o = x .2 in

@@ -7,7 +7,7 @@ ghost use Rattle.meaning.specs.Entries.{sizeOf};
 ghost use Rattle.meaning.specs.Read.{fetch};
 ghost use Rattle.differences.specs.Compare.{parting};
 ghost use Rattle.read.specs.Part.{InGranule};
-ghost use Rattle.compare_order.specs.Whole.{Whole, Starts};
+ghost use Rattle.compare_order.specs.Whole.{WholeDisk, StartsFile};
 
 // How many bytes at the start of two parts are alike.
 fn alike(a: &[u8], b: &[u8]) -> usize
@@ -52,7 +52,7 @@ pub fn parting_at(
     n: usize,
     m: usize,
 ) -> usize
-    requires { ⌜ Whole g (now first) × Whole h (now second) × Starts g (now first) s × Starts h (now second) t × (n ≡ sizeOf g (now first) s)
+    requires { ⌜ WholeDisk g (now first) × WholeDisk h (now second) × StartsFile g (now first) s × StartsFile h (now second) t × (n ≡ sizeOf g (now first) s)
         × (m ≡ sizeOf h (now second) t) × (n < 16777216) × (m < 16777216) ⌝ }
     ensures { λ r. ⌜ r ≡ parting (fetch g (now (first .entry)) s 0 n) (fetch h (now (second .entry)) t 0 m) ⌝ }
 {

@@ -14,7 +14,7 @@ use Rattle.layout.specs.Room.{Slot}
 use Rattle.lists.specs.Tests.{all-at, all-yes, all-no, all-one, any-skip, any-hit, any-one, le-or-lt}
 use Rattle.differences.specs.Compare.{before}
 use Rattle.differences.specs.Order.{never, before-self, before-back, before-on, before-neither}
-use Rattle.compare_order.specs.Whole.{Starts}
+use Rattle.compare_order.specs.Whole.{StartsFile}
 use Rattle.compare_order.specs.Walk.{betters, Least}
 
 -- what is not before b, which is not before c, is not before c
@@ -80,7 +80,7 @@ module _ (g : Geometry) (d : List ℕ) (last : List ℕ) where
       }
 
   -- no file starts at the slots from s up to s′
-  on : {s s′ best : ℕ} → ((p : ℕ) → s ≤ p → p < s′ → Starts g d p → ⊥) → Least g d last s best → Least g d last s′ best
+  on : {s s′ best : ℕ} → ((p : ℕ) → s ≤ p → p < s′ → StartsFile g d p → ⊥) → Least g d last s best → Least g d last s′ best
   on {s} {s′} {best} f k =
       record {
         low = k .low;
@@ -124,7 +124,7 @@ module _ (g : Geometry) (d : List ℕ) (last : List ℕ) where
               (λ q. below p q st a (ℕ-discrete best 256)) (le-or-lt s p);
         }
       where
-        below : (p : ℕ) → p < s → Starts g d p → before last (nameOf g d p) ≡ true → Dec (best ≡ 256) → before (nameOf g d p) (nameOf g d s) ≡ false
+        below : (p : ℕ) → p < s → StartsFile g d p → before last (nameOf g d p) ≡ true → Dec (best ≡ 256) → before (nameOf g d p) (nameOf g d s) ≡ false
         below p q st a (yes e) = never (sym a ∙ k .none e p q st)
         below p q st a (no e) =
             let w = k .low in

@@ -14,10 +14,10 @@ use Rattle.meaning.specs.declared.Geometry.{Geometry}
 use Rattle.layout.proofs.OneStep.{name-part}
 use Rattle.lists.specs.Ranges.{left-more, left-none}
 use Rattle.differences.specs.Compare.{before}
-use Rattle.compare_order.specs.Walk.{Placed}
+use Rattle.compare_order.specs.Walk.{NamePlaced}
 
 -- the names at p and q are alike in the first i bytes
-pub record Alike (a : List ℕ) (p : ℕ) (b : List ℕ) (q i : ℕ) : Type 0 where
+pub record NamesAlike (a : List ℕ) (p : ℕ) (b : List ℕ) (q i : ℕ) : Type 0 where
   pub low : i ≤ 11
   pub rest : before (take 11 (drop p a)) (take 11 (drop q b)) ≡ before (take (11 - i) (drop (p + i) a)) (take (11 - i) (drop (q + i) b))
 
@@ -32,10 +32,10 @@ module _ (a : List ℕ) (p : ℕ) (b : List ℕ) (q : ℕ) where
       let f : suc (q + i) ≡ q + (i + 1) = omega arith in
       simp (drop-cons a (p + i) 0 h, drop-cons b (q + i) 0 k, e, f)
 
-  pub alike-start : Alike a p b q 0
+  pub alike-start : NamesAlike a p b q 0
   alike-start = record { low = omega arith; rest = simp add-zero }
 
-  module _ {i : ℕ} (l : i < 11) (h : p + 11 ≤ length a) (k : q + 11 ≤ length b) (s : Alike a p b q i) where
+  module _ {i : ℕ} (l : i < 11) (h : p + 11 ≤ length a) (k : q + 11 ≤ length b) (s : NamesAlike a p b q i) where
     here : before (take 11 (drop p a)) (take 11 (drop q b))
         ≡ cond (eqb (getD a (p + i) 0) (getD b (q + i) 0)) (before (take (11 - (i + 1)) (drop (p + (i + 1)) a)) (take (11 - (i + 1)) (drop (q + (i + 1)) b)))
         (ltb (getD a (p + i) 0) (getD b (q + i) 0))
@@ -43,7 +43,7 @@ module _ (a : List ℕ) (p : ℕ) (b : List ℕ) (q : ℕ) where
         s .rest ∙ ap (λ (m : ℕ). before (take m (drop (p + i) a)) (take m (drop (q + i) b))) (left-more l)
         ∙ step (11 - (i + 1)) i (omega arith) (omega arith)
 
-    pub alike-on : getD a (p + i) 0 ≡ getD b (q + i) 0 → Alike a p b q (i + 1)
+    pub alike-on : getD a (p + i) 0 ≡ getD b (q + i) 0 → NamesAlike a p b q (i + 1)
     alike-on e =
         record {
           low = omega arith;
@@ -56,12 +56,12 @@ module _ (a : List ℕ) (p : ℕ) (b : List ℕ) (q : ℕ) where
         sym (here ∙ ap (λ (t : Bool). cond t (before (take (11 - (i + 1)) (drop (p + (i + 1)) a)) (take (11 - (i + 1)) (drop (q + (i + 1)) b)))
         (ltb (getD a (p + i) 0) (getD b (q + i) 0))) (ne-eqb _ _ e))
 
-  pub alike-end : {i : ℕ} → 11 ≤ i → Alike a p b q i → false ≡ before (take 11 (drop p a)) (take 11 (drop q b))
+  pub alike-end : {i : ℕ} → 11 ≤ i → NamesAlike a p b q i → false ≡ before (take 11 (drop p a)) (take 11 (drop q b))
   unfolding before
   alike-end {i} h s = sym (s .rest ∙ ap (λ (m : ℕ). before (take m (drop (p + i) a)) (take m (drop (q + i) b))) (left-none h))
 
 -- the name of a slot as the part of the image where it lies
-pub placed-name : (g : Geometry) (d : List ℕ) (s r : ℕ) → Placed g d s r → take 11 (drop r d) ≡ nameOf g d s
+pub placed-name : (g : Geometry) (d : List ℕ) (s r : ℕ) → NamePlaced g d s r → take 11 (drop r d) ≡ nameOf g d s
 placed-name g d s r p =
     let e = p .is in let i = p .inside in
     ap (λ (k : ℕ). take 11 (drop k d)) e ∙ sym (name-part g d s (omega arith))

@@ -17,34 +17,35 @@ use Rattle.layout.proofs.HasRoom.{slot-of, slot-yes}
 use Rattle.differences.specs.Compare.{before, names, merged}
 use Rattle.differences.specs.Order.{In, never, before-self, before-back, before-neither, in-left, in-right, in-either, in-map, map-in, Rises, rising-rises}
 use Rattle.differences.specs.Order.{rising-in, in-rising, keep-none, next-name}
-use Rattle.compare_order.specs.Whole.{Whole, Starts}
-use Rattle.compare_order.specs.Walk.{Least, later, nameAt, onFirst, onSecond, Next}
+use Rattle.compare_order.specs.Whole.{WholeDisk, StartsFile}
+use Rattle.compare_order.specs.Walk.{Least, later, nameAt, onFirst, onSecond, NextPair}
 use Rattle.compare_order.proofs.Lowest.{before-not}
 
 module _ (g : Geometry) (d : List ℕ) where
-  pub starts-file : (p : ℕ) → Starts g d p → facts.IsFile g d p
+  pub starts-file : (p : ℕ) → StartsFile g d p → facts.IsFile g d p
   starts-file p s = record { slot = true-T (slot-yes g d p (s .slot .low) (s .slot .held)); primary′ = true-T (s .first′) }
 
-  pub file-starts : (p : ℕ) → facts.IsFile g d p → Starts g d p
+  pub file-starts : (p : ℕ) → facts.IsFile g d p → StartsFile g d p
   file-starts p f = record { slot = slot-of g d p (T-true (f .slot)); first′ = T-true (f .primary′) }
 
-  name-in : (p : ℕ) → Starts g d p → In (nameOf g d p) (names g d)
+  name-in : (p : ℕ) → StartsFile g d p → In (nameOf g d p) (names g d)
   unfolding names
   name-in p s = in-map (nameOf g d) (facts.in-files g d p (starts-file p s))
 
-  pub in-name : {x : List ℕ} → In x (names g d) → (p : ℕ) × Starts g d p × (nameOf g d p ≡ x)
+  pub in-name : {x : List ℕ} → In x (names g d) → (p : ℕ) × StartsFile g d p × (nameOf g d p ≡ x)
   unfolding names
   in-name i = let k = map-in (nameOf g d) (files g d) i in (k .0, file-starts (k .0) (facts.files-in g d (k .0) (k .1)), k .2)
 
-  stands : Whole g d → (p : ℕ) (n : List ℕ) → Starts g d p → nameOf g d p ≡ n → plain g d n ≡ found (fileAt g d p)
+  stands : WholeDisk g d → (p : ℕ) (n : List ℕ) → StartsFile g d p → nameOf g d p ≡ n → plain g d n ≡ found (fileAt g d p)
   stands w p n s e = named.plain-is g d (w .holds) p n (starts-file p s) e
 
-  missing : (n : List ℕ) → ((p : ℕ) → Starts g d p → nameOf g d p ≡ n → ⊥) → plain g d n ≡ nothing
+  missing : (n : List ℕ) → ((p : ℕ) → StartsFile g d p → nameOf g d p ≡ n → ⊥) → plain g d n ≡ nothing
   missing n f = named.plain-none g d n (λ p x. f p (file-starts p x))
 
   module _ (last : List ℕ) {s : ℕ} (k : Least g d last 256 s) where
     -- no name after `last` comes before n
-    beyond : (n : List ℕ) → (s < 256 → before (nameOf g d s) n ≡ false) → (p : ℕ) → Starts g d p → before last (nameOf g d p) ≡ true → before (nameOf g d p) n
+    beyond : (n : List ℕ) → (s < 256 → before (nameOf g d s) n ≡ false) → (p : ℕ) → StartsFile g d p → before last (nameOf g d p) ≡ true → before
+        (nameOf g d p) n
         ≡ false
     beyond n f p st a = by (ℕ-discrete s 256)
       where
@@ -53,7 +54,7 @@ module _ (g : Geometry) (d : List ℕ) where
         by (no e) = let w = k .low in let l : s < 256 = omega arith in before-not (nameOf g d p) (nameOf g d s) n (k .least l p (st .slot .low) st a) (f l)
 
     -- no file has the name n
-    absent : (n : List ℕ) → before last n ≡ true → (s < 256 → before n (nameOf g d s) ≡ true) → (p : ℕ) → Starts g d p → nameOf g d p ≡ n → ⊥
+    absent : (n : List ℕ) → before last n ≡ true → (s < 256 → before n (nameOf g d s) ≡ true) → (p : ℕ) → StartsFile g d p → nameOf g d p ≡ n → ⊥
     absent n a f p st q = by (ℕ-discrete s 256)
       where
         a′ : before last (nameOf g d p) ≡ true
@@ -65,15 +66,15 @@ module _ (g : Geometry) (d : List ℕ) where
             never (sym (f l) ∙ subst (λ (z : List ℕ). before z (nameOf g d s) ≡ false) q (k .least l p (st .slot .low) st a′))
 
 module _ (g : Geometry) (d : List ℕ) (h : Geometry) (e : List ℕ) where
-  in-first : (p : ℕ) → Starts g d p → In (nameOf g d p) (merged g d h e)
+  in-first : (p : ℕ) → StartsFile g d p → In (nameOf g d p) (merged g d h e)
   unfolding merged
   in-first p s = in-rising (in-left (names h e) (name-in g d p s))
 
-  in-second : (p : ℕ) → Starts h e p → In (nameOf h e p) (merged g d h e)
+  in-second : (p : ℕ) → StartsFile h e p → In (nameOf h e p) (merged g d h e)
   unfolding merged
   in-second p s = in-rising (in-right (names g d) (name-in h e p s))
 
-  pub merged-in : {x : List ℕ} → In x (merged g d h e) → ((p : ℕ) × Starts g d p × (nameOf g d p ≡ x)) ⊎ ((p : ℕ) × Starts h e p × (nameOf h e p ≡ x))
+  pub merged-in : {x : List ℕ} → In x (merged g d h e) → ((p : ℕ) × StartsFile g d p × (nameOf g d p ≡ x)) ⊎ ((p : ℕ) × StartsFile h e p × (nameOf h e p ≡ x))
   unfolding merged
   merged-in i = ⊎-elim (λ j. inl (in-name g d j)) (λ j. inr (in-name h e j)) (in-either (names g d) (rising-in (names g d ++ names h e) i))
 
@@ -81,7 +82,7 @@ module _ (g : Geometry) (d : List ℕ) (h : Geometry) (e : List ℕ) where
   unfolding merged
   rises = rising-rises (names g d ++ names h e)
 
-  module _ (w : Whole g d) (v : Whole h e) (last : List ℕ) {s t : ℕ} (a : Least g d last 256 s) (b : Least h e last 256 t) where
+  module _ (w : WholeDisk g d) (v : WholeDisk h e) (last : List ℕ) {s t : ℕ} (a : Least g d last 256 s) (b : Least h e last 256 t) where
     goes-on : (n : List ℕ) → In n (merged g d h e) → before last n ≡ true → (s < 256 → before (nameOf g d s) n ≡ false) →
         (t < 256 → before (nameOf h e t) n ≡ false)
         → later g d h e last ≡ n ∷ later g d h e n
@@ -95,7 +96,7 @@ module _ (g : Geometry) (d : List ℕ) (h : Geometry) (e : List ℕ) where
         (beyond h e last b n k (q .0) (q .1) (subst (λ (z : List ℕ). before last z ≡ true) (sym (q .2)) m)))
         (merged-in j))
 
-    pub none-left : s ≡ 256 → t ≡ 256 → Next g d h e last (record { kind = 0; first = s; second = t })
+    pub none-left : s ≡ 256 → t ≡ 256 → NextPair g d h e last (record { kind = 0; first = s; second = t })
     unfolding later
     none-left p q =
         record {
@@ -108,7 +109,7 @@ module _ (g : Geometry) (d : List ℕ) (h : Geometry) (e : List ℕ) where
           second′ = λ z. absurd (z refl);
         }
 
-    pub only-first : s < 256 → (t < 256 → before (nameOf g d s) (nameOf h e t) ≡ true) → Next g d h e last (record { kind = 1; first = s; second = t })
+    pub only-first : s < 256 → (t < 256 → before (nameOf g d s) (nameOf h e t) ≡ true) → NextPair g d h e last (record { kind = 1; first = s; second = t })
     unfolding nameAt onFirst onSecond
     only-first l f =
         let n = nameOf g d s in
@@ -120,7 +121,7 @@ module _ (g : Geometry) (d : List ℕ) (h : Geometry) (e : List ℕ) where
           second′ = λ z. missing h e n (absent h e last b n (a .after l) f);
         }
 
-    pub only-second : t < 256 → (s < 256 → before (nameOf h e t) (nameOf g d s) ≡ true) → Next g d h e last (record { kind = 2; first = s; second = t })
+    pub only-second : t < 256 → (s < 256 → before (nameOf h e t) (nameOf g d s) ≡ true) → NextPair g d h e last (record { kind = 2; first = s; second = t })
     unfolding nameAt onFirst onSecond
     only-second l f =
         let n = nameOf h e t in
@@ -133,7 +134,7 @@ module _ (g : Geometry) (d : List ℕ) (h : Geometry) (e : List ℕ) where
         }
 
     pub on-both : s < 256 → t < 256 → before (nameOf g d s) (nameOf h e t) ≡ false → before (nameOf h e t) (nameOf g d s) ≡ false
-        → Next g d h e last (record { kind = 3; first = s; second = t })
+        → NextPair g d h e last (record { kind = 3; first = s; second = t })
     unfolding nameAt onFirst onSecond
     on-both l m f k =
         let n = nameOf g d s in

@@ -12,11 +12,11 @@ use Rattle.meaning.specs.Plain.{Found, found, nothing, fileAt, plain}
 use Rattle.meaning.specs.declared.Geometry.{Geometry}
 use Rattle.differences.specs.Compare.{before, merged}
 use Rattle.compare_order.specs.declared.Pair.{Pair}
-use Rattle.compare_order.specs.Whole.{Starts}
+use Rattle.compare_order.specs.Whole.{StartsFile}
 
 module _ (g : Geometry) (d : List ℕ) where
   -- the name of slot s lies there
-  pub record Placed (s r : ℕ) : Type 0 where
+  pub record NamePlaced (s r : ℕ) : Type 0 where
     pub is : r ≡ entryAt g s + 5
     pub inside : r + 11 ≤ length d
 
@@ -28,10 +28,10 @@ module _ (g : Geometry) (d : List ℕ) where
   -- of the files below slot s the one with the least name after `last` is at `best`; 256: none of them has a name after it
   pub record Least (last : List ℕ) (s best : ℕ) : Type 0 where
     pub low : best ≤ 256
-    pub none : best ≡ 256 → (p : ℕ) → p < s → Starts g d p → before last (nameOf g d p) ≡ false
-    pub is : best < 256 → Starts g d best
+    pub none : best ≡ 256 → (p : ℕ) → p < s → StartsFile g d p → before last (nameOf g d p) ≡ false
+    pub is : best < 256 → StartsFile g d best
     pub after : best < 256 → before last (nameOf g d best) ≡ true
-    pub least : best < 256 → (p : ℕ) → p < s → Starts g d p → before last (nameOf g d p) ≡ true → before (nameOf g d p) (nameOf g d best) ≡ false
+    pub least : best < 256 → (p : ℕ) → p < s → StartsFile g d p → before last (nameOf g d p) ≡ true → before (nameOf g d p) (nameOf g d best) ≡ false
 
 module _ (g : Geometry) (d : List ℕ) (h : Geometry) (e : List ℕ) where
   -- the names of either disk after `last`
@@ -51,11 +51,11 @@ module _ (g : Geometry) (d : List ℕ) (h : Geometry) (e : List ℕ) where
   -- the slots that a pair names are those of files
   pub record Files (p : Pair) : Type 0 where
     pub some : p .kind ≡ 0 → ⊥
-    pub first′ : (p .kind ≡ 2 → ⊥) → Starts g d (p .first)
-    pub second′ : (p .kind ≡ 1 → ⊥) → Starts h e (p .second)
+    pub first′ : (p .kind ≡ 2 → ⊥) → StartsFile g d (p .first)
+    pub second′ : (p .kind ≡ 1 → ⊥) → StartsFile h e (p .second)
 
   -- the pair stands for the next name after `last`, or kind 0: there is none
-  pub record Next (last : List ℕ) (p : Pair) : Type 0 where
+  pub record NextPair (last : List ℕ) (p : Pair) : Type 0 where
     pub ended : p .kind ≡ 0 → later last ≡ []
     pub files : (p .kind ≡ 0 → ⊥) → Files p
     pub ahead : (p .kind ≡ 0 → ⊥) → later last ≡ nameAt p ∷ later (nameAt p)

@@ -11,11 +11,11 @@ use Rattle.seek.specs.Seek.{Walkable}
 
 module _ (g : Geometry) (d : List ℕ) where
   -- a disk whose check answered 0
-  pub record Whole : Type 0 where
+  pub record WholeDisk : Type 0 where
     pub sound : Walkable g d
     pub holds : facts.Sound g d
 
   -- a file starts at slot s
-  pub record Starts (s : ℕ) : Type 0 where
+  pub record StartsFile (s : ℕ) : Type 0 where
     pub slot : Slot g d s
     pub first′ : inUsePrimary g d s ≡ true

@@ -6,8 +6,8 @@ ghost use lib.ListN.{length, take, drop};
 ghost use Rattle.meaning.specs.Entries.{nameOf};
 ghost use Rattle.layout.specs.Room.{Room, Slot};
 ghost use Rattle.differences.specs.Compare.{before};
-ghost use Rattle.compare_order.specs.Whole.{Whole, Starts};
-ghost use Rattle.compare_order.specs.Walk.{Placed, betters, Least, Next};
+ghost use Rattle.compare_order.specs.Whole.{WholeDisk, StartsFile};
+ghost use Rattle.compare_order.specs.Walk.{NamePlaced, betters, Least, NextPair};
 
 // The files of one name: kind 1 where only the first disk has one, 2 where only the second has, 3 where both have, at those slots; kind
 // 0 where there is no name.
@@ -40,7 +40,7 @@ fn name_before(a: &[u8], p: usize, b: &[u8], q: usize) -> bool
 // Where the name of slot s lies.
 pub fn name_place(image: &[u8], g: Geometry, s: usize) -> usize
     requires { ⌜ Room g (now image) × Slot g (now image) s ⌝ }
-    ensures { λ r. ⌜ Placed g (now (image .entry)) s r ⌝ }
+    ensures { λ r. ⌜ NamePlaced g (now (image .entry)) s r ⌝ }
 {
     layout::name_at(image, g, s)
 }
@@ -66,7 +66,7 @@ fn slot_before(first: &[u8], g: Geometry, s: usize, second: &[u8], h: Geometry, 
 
 // Whether slot s starts a file with a name after `last` and before that of slot `best`, where there is such a slot.
 fn better(image: &[u8], g: Geometry, s: usize, best: usize, last: &[u8]) -> bool
-    requires { ⌜ Room g (now image) × Slot g (now image) s × (length (now last) ≡ 11) × (best ≤ 256) × ((best < 256) → Starts g (now image) best) ⌝ }
+    requires { ⌜ Room g (now image) × Slot g (now image) s × (length (now last) ≡ 11) × (best ≤ 256) × ((best < 256) → StartsFile g (now image) best) ⌝ }
     ensures { λ r. ⌜ r ≡ betters g (now (image .entry)) (now (last .entry)) best s ⌝ }
 {
     if !layout::primary(image, g, s) {
@@ -104,8 +104,8 @@ fn next_file(image: &[u8], g: Geometry, last: &[u8]) -> usize
 
 // The next name of either disk after `last`.
 pub fn next_pair(first: &[u8], g: Geometry, second: &[u8], h: Geometry, last: &[u8]) -> Pair
-    requires { ⌜ Whole g (now first) × Whole h (now second) × (length (now last) ≡ 11) ⌝ }
-    ensures { λ r. ⌜ Next g (now (first .entry)) h (now (second .entry)) (now (last .entry)) r ⌝ }
+    requires { ⌜ WholeDisk g (now first) × WholeDisk h (now second) × (length (now last) ≡ 11) ⌝ }
+    ensures { λ r. ⌜ NextPair g (now (first .entry)) h (now (second .entry)) (now (last .entry)) r ⌝ }
 {
     let s = next_file(first, g, last);
     let t = next_file(second, h, last);

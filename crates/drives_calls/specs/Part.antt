@@ -17,6 +17,6 @@ abbrev pub oneOf : {A : Type 0} → ℕ → A → A → A
 oneOf n x y = cond (eqb n 0) x y
 
 -- the part lies inside the image of its drive
-pub record Lies (p : Pair) (a : DrivePart) : Type 0 where
+pub record DriveLies (p : Pair) (a : DrivePart) : Type 0 where
   pub forward : a .from ≤ a .to
   pub inside : a .to ≤ length (image p (a .drive))

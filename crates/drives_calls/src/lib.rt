@@ -16,7 +16,7 @@ ghost use Rattle.meaning.specs.Refusals.{check};
 ghost use Rattle.drives.specs.Pair.{pair};
 ghost use Rattle.drives.specs.ByName.{takes, lookUp, openFile, create};
 ghost use Rattle.drives.specs.ByHandle.{readRecord, readSector, writeRecord, allot, trim, kill};
-ghost use Rattle.drives_calls.specs.Part.{partOf, oneOf, Lies};
+ghost use Rattle.drives_calls.specs.Part.{partOf, oneOf, DriveLies};
 
 // Look up: the drive and the slot of the file of that name, and how many entries were compared on the drives searched.
 pub fn look_up(
@@ -203,7 +203,7 @@ pub fn sector_part(
     k: usize,
 ) -> DrivePart
     ensures is { λ r. ⌜ r ≡ readSector (pair g0 (now (image0 .entry)) g1 (now (image1 .entry))) h k ⌝ }
-    ensures lies { λ r. ⌜ Lies (pair g0 (now (image0 .entry)) g1 (now (image1 .entry))) r ⌝ }
+    ensures lies { λ r. ⌜ DriveLies (pair g0 (now (image0 .entry)) g1 (now (image1 .entry))) r ⌝ }
 {
     let held = h.handle;
     if h.drive == 0 {

@@ -24,13 +24,13 @@ use Rattle.extent.specs.Reach.{Reaches}
 module _ (g : Geometry) (d : List ℕ) where
   -- The granules of an entry, k of its pairs counted ----------------------------------------------------------------------
 
-  pub record Counting (s k n : ℕ) : Type 0 where
+  pub record CountingRuns (s k n : ℕ) : Type 0 where
     pub rest : runs g d s ≡ runsFrom g d s (4 - k) k
     pub sum : n ≡ length (each (runGranules g d s) (count 0 k))
     pub low : k ≤ 4
     pub small : n ≤ 32 * k
 
-  pub counting-start : (s : ℕ) → Counting s 0 0
+  pub counting-start : (s : ℕ) → CountingRuns s 0 0
   unfolding runs
   counting-start s = record { rest = refl; sum = refl; low = omega arith; small = omega arith }
 
@@ -43,7 +43,8 @@ module _ (g : Geometry) (d : List ℕ) where
       ∙ ap (λ (j : ℕ). length (each (runGranules g d s) (count 0 k)) + j)
       (ap {B = ℕ} length (Members.each-one (runGranules g d s) (0 + k)) ∙ length-count _ _ ∙ ap (runLength g d s) (omega arith))
 
-  pub counting-step : {s k n m : ℕ} → Counting s k n → k < 4 → (block g d s k ≡ 0xff → ⊥) → m ≡ pairByte g d s k → Counting s (k + 1) (n + (1 + m % 32))
+  pub counting-step : {s k n m : ℕ} → CountingRuns s k n → k < 4 → (block g d s k ≡ 0xff → ⊥) → m ≡ pairByte g d s k → CountingRuns s (k + 1)
+      (n + (1 + m % 32))
   counting-step {s} {k} {n} {m} c h f e = record {
     rest =
         c .rest ∙ ap (λ (j : ℕ). runsFrom g d s j k) (left-more h) ∙ runs-more g d s (4 - (k + 1)) k
@@ -53,7 +54,7 @@ module _ (g : Geometry) (d : List ℕ) where
     small = omega (arith, c .small);
   }
 
-  pub counting-stop : {s k n : ℕ} → Counting s k n → k < 4 → block g d s k ≡ 0xff → Below 129 (length (entryGranules g d s)) n
+  pub counting-stop : {s k n : ℕ} → CountingRuns s k n → k < 4 → block g d s k ≡ 0xff → Below 129 (length (entryGranules g d s)) n
   unfolding entryGranules
   counting-stop {s} {k} {n} c h f = record {
     is =
@@ -63,7 +64,7 @@ module _ (g : Geometry) (d : List ℕ) where
     small = omega (arith, c .small);
   }
 
-  pub counting-end : {s k n : ℕ} → Counting s k n → 4 ≤ k → Below 129 (length (entryGranules g d s)) n
+  pub counting-end : {s k n : ℕ} → CountingRuns s k n → 4 ≤ k → Below 129 (length (entryGranules g d s)) n
   unfolding entryGranules
   counting-end {s} {k} {n} c h = record {
     is =

@@ -19,7 +19,7 @@ pub record Gat (g : Geometry) (d : List ℕ) : Type 0 where
   pub inside : 256 * g .start + g .blocks ≤ length d
 
 -- n granules more are still no more than the largest disk has
-pub record Small (n : ℕ) (p : Seen) : Type 0 where
+pub record RoomLeft (n : ℕ) (p : Seen) : Type 0 where
   pub few : p .free + p .here + n ≤ mostBlocks * mostUnits
 
 -- the stretch ends
@@ -35,7 +35,7 @@ unfoldable pub bits : ℕ → ℕ → Seen → Seen
 bits zero x p = p
 bits (suc n) x p = bits n (x / 2) (met (eqb (x % 2) 1) p)
 
-pub record Passed (units byte : ℕ) (p r : Seen) : Type 0 where
+pub record BlockPassed (units byte : ℕ) (p r : Seen) : Type 0 where
   pub is : r ≡ bits units byte p
   pub few : r .free + r .here ≤ p .free + p .here + units
 

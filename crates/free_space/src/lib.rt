@@ -6,7 +6,7 @@ use meaning::Space;
 ghost use mathlib.Core.Path.{_≡_};
 ghost use Prim.Native.Nat.{_≤_};
 ghost use Rattle.meaning.specs.FreeSpace.{freeSpace};
-ghost use Rattle.free_space.specs.Pass.{Gat, Small, Passed, Tells, ended, met};
+ghost use Rattle.free_space.specs.Pass.{Gat, RoomLeft, BlockPassed, Tells, ended, met};
 
 // What the pass has seen so far: the free granules of the stretches that have ended, those of the stretch that has not, and how long the
 // longest of those that have ended is.
@@ -18,7 +18,7 @@ pub struct Seen {
 
 // The stretch ends.
 fn ended(p: Seen) -> Seen
-    requires { ⌜ Small 0 p ⌝ }
+    requires { ⌜ RoomLeft 0 p ⌝ }
     ensures { λ r. ⌜ r ≡ ended p ⌝ }
 {
     let free = p.free + p.here;
@@ -38,7 +38,7 @@ fn ended(p: Seen) -> Seen
 
 // One granule more, taken or free.
 fn met(taken: bool, p: Seen) -> Seen
-    requires { ⌜ Small 0 p ⌝ }
+    requires { ⌜ RoomLeft 0 p ⌝ }
     ensures { λ r. ⌜ r ≡ met taken p ⌝ }
 {
     if taken {
@@ -53,8 +53,8 @@ fn met(taken: bool, p: Seen) -> Seen
 
 // The granules of one block, bit by bit: so many of the lowest bits of its GAT byte.
 fn each_bit(byte: usize, units: usize, p: Seen) -> Seen
-    requires { ⌜ Small units p ⌝ }
-    ensures { λ r. ⌜ Passed units byte p r ⌝ }
+    requires { ⌜ RoomLeft units p ⌝ }
+    ensures { λ r. ⌜ BlockPassed units byte p r ⌝ }
 {
     let mut q = p;
     let mut x = byte;
@@ -69,8 +69,8 @@ fn each_bit(byte: usize, units: usize, p: Seen) -> Seen
 
 // The granules of one block. Where all are free the stretch goes on over them, where all are taken it ends, once for all of them.
 fn block(byte: usize, units: usize, p: Seen) -> Seen
-    requires { ⌜ Small units p × (1 ≤ units) × (units ≤ 8) ⌝ }
-    ensures { λ r. ⌜ Passed units byte p r ⌝ }
+    requires { ⌜ RoomLeft units p × (1 ≤ units) × (units ≤ 8) ⌝ }
+    ensures { λ r. ⌜ BlockPassed units byte p r ⌝ }
 {
     let all = 1 << units;
     let low = byte % all;

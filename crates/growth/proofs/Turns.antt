@@ -126,7 +126,7 @@ module _ (g : Geometry) (d d′ : List ℕ) where
 
 module _ (g : Geometry) (p : ℕ) (lowest : Bool) where
   -- the disk d by then: the growth's where the loop writes, else only the GAT is
-  pub record Turning (writes : Bool) (k : ℕ) (d₀ d : List ℕ) (last r a l next most slot left : ℕ) : Type 0 where
+  pub record TurningOn (writes : Bool) (k : ℕ) (d₀ d : List ℕ) (last r a l next most slot left : ℕ) : Type 0 where
     pub now : List ℕ
     pub growing : Growing g p lowest k d₀ now last r a l next most slot left
     pub alike : (n : ℕ) → n < granules g → taken g d n ≡ taken g now n
@@ -137,7 +137,7 @@ module _ (g : Geometry) (p : ℕ) (lowest : Bool) where
     pub marked : writes ≡ false → OnlyGat g d₀ d
 
   pub turning-start : {writes : Bool} {k : ℕ} {d : List ℕ} {e : ℕ} {r : Ending} → Ready g d p → e ≡ tail g p d → k ≤ length (freeGranules g d) → Ends g d e r
-      → Turning writes k d d e (r .runs) (r .after) (r .long) 0 mostGranules 0 k
+      → TurningOn writes k d d e (r .runs) (r .after) (r .long) 0 mostGranules 0 k
   turning-start {d = d} y q h w = record {
     now = d;
     growing = growing-start g p lowest y q h w;
@@ -151,10 +151,10 @@ module _ (g : Geometry) (p : ℕ) (lowest : Bool) where
 
   -- a turn that takes granule m, and stores f in the entries
   turned : (b : Bool) {k : ℕ} {d₀ d d′ now′ : List ℕ} {last r a l next most slot left last′ r′ a′ l′ next′ most′ slot′ left′ m : ℕ}
-      (c : Turning b k d₀ d last r a l next most slot left) → Growing g p lowest k d₀ now′ last′ r′ a′ l′ next′ most′ slot′ left′
+      (c : TurningOn b k d₀ d last r a l next most slot left) → Growing g p lowest k d₀ now′ last′ r′ a′ l′ next′ most′ slot′ left′
       → Step.Taken g p (choiceBy g lowest) (c .now) now′ m → m < granules g
       → ((x : ℕ) → slot′ ≤ x → freeSlot g now′ x ≡ freeSlot g (c .now) x) → slot ≤ slot′ → (f : List ℕ → List ℕ) → now′ ≡ takeGranule g (f (c .now)) m
-      → d′ ≡ takeGranule g (cond b (f d) d) m → Turning b k d₀ d′ last′ r′ a′ l′ next′ most′ slot′ left′
+      → d′ ≡ takeGranule g (cond b (f d) d) m → TurningOn b k d₀ d′ last′ r′ a′ l′ next′ most′ slot′ left′
   turned true {d′ = d′} {now′ = now′} {m = m} c y t i s o f e q =
       let z : d′ ≡ now′ = q ∙ ap (λ (x : List ℕ). takeGranule g (f x) m) (c .wrote refl) ∙ sym e in
       record {
@@ -200,7 +200,7 @@ module _ (g : Geometry) (p : ℕ) (lowest : Bool) where
   free-slot-is {d} x q =
       slot-of g d x (Members.T-true (Members.and-l (isSlot g d x) _ (Members.and-l (permitted g d x) _ (Members.true-T {b = freeSlot g d x} q))))
 
-  module _ {writes : Bool} {k : ℕ} {d₀ d : List ℕ} {last r a l next most slot left : ℕ} (c : Turning writes k d₀ d last r a l next most slot left) where
+  module _ {writes : Bool} {k : ℕ} {d₀ d : List ℕ} {last r a l next most slot left : ℕ} (c : TurningOn writes k d₀ d last r a l next most slot left) where
     as-long : length (c .now) ≡ length d
     as-long = c .growing .same-long ∙ sym (c .same-long)
 
@@ -261,7 +261,7 @@ module _ (g : Geometry) (p : ℕ) (lowest : Bool) where
 
       pub turn-longer : l < 32 → a < granules g → taken g d a ≡ false → {d′ : List ℕ}
           → d′ ≡ takeGranule g (cond writes (setField g d last (0x17 + 2 * (r - 1)) (field g d last (0x17 + 2 * (r - 1)) + 1)) d) a
-          → Turning writes k d₀ d′ last r (a + 1) (l + 1) next most slot (left - 1)
+          → TurningOn writes k d₀ d′ last r (a + 1) (l + 1) next most slot (left - 1)
       turn-longer u i f q =
           let w = growing-longer g p lowest (c .growing) h u i (sym (c .alike a i) ∙ f) refl in
           turned writes c (w .2) (w .0) i (λ x y. w .1 x) (omega arith)
@@ -269,7 +269,7 @@ module _ (g : Geometry) (p : ℕ) (lowest : Bool) where
 
       pub turn-pair : lengthens g p (c .now) ≡ false → r < 4 → {n most′ : ℕ} → Pick g p lowest (c .growing) h n most′ → {d′ : List ℕ}
           → d′ ≡ takeGranule g (cond writes (setField g (setField g d last (0x16 + 2 * r) (n / g .units)) last (0x17 + 2 * r) (n % g .units * 32)) d) n
-          → Turning writes k d₀ d′ last (r + 1) (n + 1) 1 n most′ slot (left - 1)
+          → TurningOn writes k d₀ d′ last (r + 1) (n + 1) 1 n most′ slot (left - 1)
       turn-pair u v {n} o q =
           let w = growing-pair g p lowest (c .growing) h u v o refl in
           turned writes c (w .2) (w .0) (o .inside) (λ x y. w .1 x) (omega arith)
@@ -281,7 +281,7 @@ module _ (g : Geometry) (p : ℕ) (lowest : Bool) where
       pub turn-new : lengthens g p (c .now) ≡ false → 4 ≤ r → {n most′ x : ℕ} → Pick g p lowest (c .growing) h n most′ → NextSlot g d slot x → (x ≡ 256 → ⊥)
           → {d₁ d₂ : List ℕ} → d₁ ≡ cond writes (withExtension g p d last x) d
           → d₂ ≡ takeGranule g (cond writes (setField g (setField g d₁ x (0x16 + 2 * 0) (n / g .units)) x (0x17 + 2 * 0) (n % g .units * 32)) d₁) n
-          → Turning writes k d₀ d₂ x 1 (n + 1) 1 n most′ (x + 1) (left - 1)
+          → TurningOn writes k d₀ d₂ x 1 (n + 1) 1 n most′ (x + 1) (left - 1)
       turn-new u v {n} {most′} {x} o s ne q₁ q₂ =
           let hx = s .high in let lx = s .low in
           let i : x < 256 = omega arith in

@@ -9,7 +9,7 @@ use native.Mathlib.Decide.{ℕ-discrete}
 use Rattle.meaning.specs.Layout.{granules, taken}
 use Rattle.meaning.specs.declared.Geometry.{Geometry}
 use Rattle.lists.specs.Tests.{le-or-lt}
-use Rattle.growth_search.specs.Search.{Clear, Stretch, AllClear, LongestFrom}
+use Rattle.growth_search.specs.Search.{IsClear, Stretch, AllClear, LongestFrom}
 use Rattle.growth_search.specs.declared.Found.{Found}
 
 differ : {b : Bool} → b ≡ true → b ≡ false → ⊥
@@ -142,19 +142,20 @@ module _ (g : Geometry) (d : List ℕ) where
 
   -- So many granules free: those from n up to i are ---------------------------------------------------------------------------------
 
-  pub record Clearing (n many i left : ℕ) : Type 0 where
+  pub record ClearSoFar (n many i left : ℕ) : Type 0 where
     pub sum : i + left ≡ n + many
     pub low : n ≤ i
     pub passed : Stretch g d n (i - n)
 
-  pub clear-inside : {i : ℕ} {r : Bool} → Clear g d i r → not r ≡ false → i < granules g
+  pub clear-inside : {i : ℕ} {r : Bool} → IsClear g d i r → not r ≡ false → i < granules g
   clear-inside {r = true} w e = w .yes refl .0
   clear-inside {r = false} w e = absurd (differ refl e)
 
-  pub clearing-start : {n many : ℕ} → Clearing n many n many
+  pub clearing-start : {n many : ℕ} → ClearSoFar n many n many
   clearing-start = record { sum = omega arith; low = omega arith; passed = λ k a b. absurd (let z : ⊥ = omega arith in z) }
 
-  pub clearing-step : {n many i left : ℕ} {r : Bool} → Clearing n many i left → 0 < left → Clear g d i r → not r ≡ false → Clearing n many (i + 1) (left - 1)
+  pub clearing-step : {n many i left : ℕ} {r : Bool} → ClearSoFar n many i left → 0 < left → IsClear g d i r → not r ≡ false → ClearSoFar n many (i + 1)
+      (left - 1)
   clearing-step {n = n} {many = many} {i = i} {left = left} {r = true} c h w e = record {
     sum = omega (arith, c .sum);
     low = omega (arith, c .low);
@@ -166,7 +167,7 @@ module _ (g : Geometry) (d : List ℕ) where
       go k a b (no q) = let z = c .low in c .passed k a (omega arith)
   clearing-step {r = false} c h w e = absurd (differ refl e)
 
-  pub clearing-stop : {n many i left : ℕ} {r : Bool} → Clearing n many i left → 0 < left → Clear g d i r → not r ≡ true → AllClear g d n many false
+  pub clearing-stop : {n many i left : ℕ} {r : Bool} → ClearSoFar n many i left → 0 < left → IsClear g d i r → not r ≡ true → AllClear g d n many false
   clearing-stop {r = true} c h w e = absurd (differ e refl)
   clearing-stop {n = n} {many = many} {i = i} {left = left} {r = false} c h w e = record {
     yes = λ q. absurd (differ q refl);
@@ -174,7 +175,7 @@ module _ (g : Geometry) (d : List ℕ) where
         ⊎-elim (λ (y : granules g ≤ i). let x = z .0 in omega arith) (λ y. differ y (z .1)) (w .no refl);
   }
 
-  pub clearing-end : {n many i left : ℕ} → Clearing n many i left → left ≤ 0 → AllClear g d n many true
+  pub clearing-end : {n many i left : ℕ} → ClearSoFar n many i left → left ≤ 0 → AllClear g d n many true
   clearing-end {n} {many} {i} {left} c h = record {
     yes = λ q k a b. c .passed k a (omega (arith, c .sum, c .low));
     no = λ q. absurd (differ refl q);

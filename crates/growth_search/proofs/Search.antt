@@ -14,7 +14,7 @@ use Rattle.meaning.specs.Layout.{granules, taken}
 use Rattle.meaning.specs.Free.{freeSlot}
 use Rattle.meaning.specs.declared.Geometry.{Geometry}
 use Rattle.lists.specs.Tests.{le-or-lt, all-at, every-count}
-use Rattle.growth_search.specs.Search.{Clear, NextFree, NextSlot}
+use Rattle.growth_search.specs.Search.{IsClear, NextFree, NextSlot}
 
 module _ (g : Geometry) (d : List ℕ) where
   -- The next free granule: all from `from` up to n passed -------------------------------------------------------------------------
@@ -93,9 +93,9 @@ module _ (g : Geometry) (d : List ℕ) where
   differ : true ≡ false → ⊥
   differ q = let z : _≡_ {A = ℕ} 0 1 = cc in omega arith
 
-  pub clear-off : {n total : ℕ} → total ≡ granules g → total ≤ n → Clear g d n false
+  pub clear-off : {n total : ℕ} → total ≡ granules g → total ≤ n → IsClear g d n false
   clear-off e h = record { yes = λ q. absurd (differ (sym q)); no = λ q. inl (omega arith) }
 
-  pub clear-at : {n total : ℕ} {t : Bool} → total ≡ granules g → n < total → t ≡ taken g d n → Clear g d n (not t)
+  pub clear-at : {n total : ℕ} {t : Bool} → total ≡ granules g → n < total → t ≡ taken g d n → IsClear g d n (not t)
   clear-at {t = true} e h q = record { yes = λ z. absurd (differ (sym z)); no = λ z. inr (sym q) }
   clear-at {t = false} e h q = record { yes = λ z. (omega arith, sym q); no = λ z. absurd (differ z) }

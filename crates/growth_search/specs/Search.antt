@@ -20,7 +20,7 @@ pub record Ends (g : Geometry) (d : List ℕ) (e : ℕ) (r : Ending) : Type 0 wh
   pub small : r .long ≤ 32
 
 -- granule n is on the disk and clear in the GAT
-pub record Clear (g : Geometry) (d : List ℕ) (n : ℕ) (r : Bool) : Type 0 where
+pub record IsClear (g : Geometry) (d : List ℕ) (n : ℕ) (r : Bool) : Type 0 where
   pub yes : r ≡ true → (n < granules g) × (taken g d n ≡ false)
   pub no : r ≡ false → (granules g ≤ n) ⊎ (taken g d n ≡ true)
 

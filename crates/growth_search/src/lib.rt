@@ -7,7 +7,7 @@ ghost use lib.Dec.{ltb};
 ghost use Rattle.meaning.specs.Layout.{granules};
 ghost use Rattle.meaning.specs.Free.{freeGranules};
 ghost use Rattle.layout.specs.Room.{Room, Slot};
-ghost use Rattle.growth_search.specs.Search.{Ends, Clear, AllClear, NextFree, LongestFrom, NextSlot};
+ghost use Rattle.growth_search.specs.Search.{Ends, IsClear, AllClear, NextFree, LongestFrom, NextSlot};
 
 // The runs of an entry; the granule after the last of them, and how long that one is. `long` is 32 where there is none.
 pub struct Ending {
@@ -133,7 +133,7 @@ pub fn last_run(image: &[u8], g: Geometry, e: usize) -> Ending
 // Whether granule n is on the disk and clear in the GAT.
 pub fn is_clear(image: &[u8], g: Geometry, n: usize) -> bool
     requires { ⌜ Room g (now image) ⌝ }
-    ensures { λ r. ⌜ Clear g (now (image .entry)) n r ⌝ }
+    ensures { λ r. ⌜ IsClear g (now (image .entry)) n r ⌝ }
 {
     if layout::granules(g) <= n {
         return false;

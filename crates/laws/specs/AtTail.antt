@@ -111,7 +111,7 @@ module _ (g : Geometry) (d d′ : List ℕ) (c : Sound g d) (p : ℕ) (f : Facts
   mine′ = Change.entriesOf-is g d′ p file-stays ∙ chain-stays
 
   -- What is left to say of the granules that the file owns now
-  pub record Granules : Type 0 where
+  pub record TailGranules : Type 0 where
     -- those of its last entry are taken, and those of the entries before it are taken as they were
     pub last : (n : ℕ) → In n (entryGranules g d′ (tail g p d)) → T (taken g d′ n)
     pub before : (x n : ℕ) → In x (chain g d p) → x ≢ tail g p d → In n (entryGranules g d x) → taken g d′ n ≡ taken g d n
@@ -122,7 +122,7 @@ module _ (g : Geometry) (d d′ : List ℕ) (c : Sound g d) (p : ℕ) (f : Facts
     pub freed : (n : ℕ) → In n (owned g d p) → (In n (owned g d′ p) → ⊥) → T (taken g d′ n) → ⊥
     pub fresh : (n : ℕ) → In n (owned g d′ p) → (In n (owned g d p) → ⊥) → T (taken g d n) → ⊥
 
-  module _ (k : Granules) where
+  module _ (k : TailGranules) where
     entry′ : (x : ℕ) → In x (chain g d p) → Entry.Entry g d′ x
     entry′ x i = go (ℕ-discrete x (tail g p d))
       where

@@ -67,7 +67,8 @@ module _ (g : Geometry) (d d′ : List ℕ) (e x : ℕ) (m₀ : marker g d e ≡
         rest = chainFrom g d n (link g d s)
 
         IH : Type 0
-        IH = ((y : ℕ) → In y rest → y ≢ e → (marker g d′ y ≡ marker g d y) × (link g d′ y ≡ link g d y)) → In e rest → suc (length rest) ≤ n → chainFrom g d′ n
+        IH = ((y : ℕ) → In y rest → y ≢ e → (marker g d′ y ≡ marker g d y) × (link g d′ y ≡ link g d y)) → In e rest → suc (length rest) ≤ n → chainFrom g d′
+            n
             (link g d s) ≡ rest ++ (x ∷ [])
 
         last : (n : ℕ) → 1 ≤ n → chainFrom g d′ n x ≡ x ∷ []

@@ -128,16 +128,16 @@ pick-front granules p g = record {
 }
 
 -- the run that a granule is of
-pub record Holds (n : ℕ) (rs : List Run) : Type 0 where
+pub record RunHolding (n : ℕ) (rs : List Run) : Type 0 where
   pub run : Run
   pub rest : List Run
   pub pick : Pick run rs rest
   pub held : In n (count (run .first) (run .many))
 
-pub holds : (n : ℕ) (rs : List Run) → In n (granulesOf rs) → Holds n rs
+pub holds : (n : ℕ) (rs : List Run) → In n (granulesOf rs) → RunHolding n rs
 holds n [] i = Members.none-in i
 holds n (r ∷ rs) i = go (Members.append-in n (count (r .first) (r .many)) (granulesOf rs) i) (holds n rs)
   where
-    go : In n (count (r .first) (r .many)) ⊎ In n (granulesOf rs) → (In n (granulesOf rs) → Holds n rs) → Holds n (r ∷ rs)
+    go : In n (count (r .first) (r .many)) ⊎ In n (granulesOf rs) → (In n (granulesOf rs) → RunHolding n rs) → RunHolding n (r ∷ rs)
     go (inl j) ih = record { run = r; rest = rs; pick = here; held = j }
     go (inr j) ih = let h = ih j in record { run = h .run; rest = r ∷ h .rest; pick = there (h .pick); held = h .held }

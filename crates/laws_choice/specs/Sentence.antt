@@ -69,13 +69,13 @@ stretch-first taken (suc n) a h = (omega arith, go (taken a) refl)
     go false e = e
 
 -- n is the lower of k + 1 and q
-record Sums (k q n : ℕ) : Type 0 where
+record LowerOf (k q n : ℕ) : Type 0 where
   reached : n - 1 ≤ q - 1
   all : k ≡ n - 1 + (suc k - n)
   left : suc k - n ≤ k
   none : 1 ≤ suc k - n → q - 1 - (n - 1) ≡ 0
 
-sums : (k q : ℕ) → 1 ≤ q → Sums k q (min (suc k) q)
+sums : (k q : ℕ) → 1 ≤ q → LowerOf k q (min (suc k) q)
 sums k q h = record { reached = omega arith; all = omega arith; left = omega arith; none = λ u. omega arith }
 
 lower : (a b : ℕ) → 1 ≤ a → 1 ≤ b → (min (a - 1) (b - 1) ≡ min a b - 1) × (1 ≤ min a b)

@@ -54,13 +54,13 @@ last-is g p d e r first many t a b c =
 
 module _ (g : Geometry) (p : ℕ) (d : List ℕ) where
   -- what `lengthens` tests
-  record Longer : Type 0 where
+  record MayLengthen : Type 0 where
     some′ : 1 ≤ runs g d (tail g p d)
     inside : after g p d < granules g
     free : T (taken g d (after g p d)) → ⊥
     short : runLength g d (tail g p d) (runs g d (tail g p d) - 1) < 32
 
-  longer-says : T (lengthens g p d) → Longer
+  longer-says : T (lengthens g p d) → MayLengthen
   unfolding words
   longer-says l =
       let a : T (leb 1 (runs g d (tail g p d))) = search (Members.and-l, Members.and-r) depth 6 in
@@ -69,7 +69,7 @@ module _ (g : Geometry) (p : ℕ) (d : List ℕ) where
       let e : T (ltb (runLength g d (tail g p d) (runs g d (tail g p d) - 1)) 32) = search (Members.and-l, Members.and-r) depth 6 in
       record { some′ = leb→le _ _ a; inside = ltb→lt _ _ b; free = T-not (taken g d (after g p d)) c; short = ltb→lt _ _ e }
 
-  says-longer : Longer → T (lengthens g p d)
+  says-longer : MayLengthen → T (lengthens g p d)
   unfolding words
   says-longer h =
       let a : T (leb 1 (runs g d (tail g p d))) = le→leb _ _ (h .some′) in

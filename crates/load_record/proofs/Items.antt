@@ -114,20 +114,20 @@ module _ (bs : List ℕ) (i : ℕ) where
                 same = unfold itemAt positionOf in rw (whole-one, p, rest-is)
 
   -- what stands there is whole
-  pub record Whole (x : Item) : Type 0 where
+  pub record WholeItem (x : Item) : Type 0 where
     pub inside : i + 2 + x .rest ≤ length bs
     pub code-is : x .code ≡ codeAt bs i
     pub known : isCode (x .code) ≡ true
     pub two : (x .code ≡ commentCode → ⊥) → 2 ≤ x .rest
 
-  whole-item : first (itemRefusals bs i) ≡ 0 → Whole (itemAt bs i)
+  whole-item : first (itemRefusals bs i) ≡ 0 → WholeItem (itemAt bs i)
   unfolding itemAt
   whole-item e =
       let t : (k : ℕ) → getD (itemRefusals bs i) k (0, false) .1 ≡ false = λ k. first-at (itemRefusals bs i) e refl k in
       let m = ltb-false _ _ (t 4) in let k = not-false _ (t 1) in
       rw e (record { inside = m; code-is = refl; known = k; two = λ f. two-more _ _ k f })
 
-  pub whole : {x : Item} → Looked bs i x → x .number ≡ 0 → Whole x
+  pub whole : {x : Item} → Looked bs i x → x .number ≡ 0 → WholeItem x
   whole {x} l z = rw (l .is) (whole-item (numbered ∙ z))
     where
       numbered : first (itemRefusals bs i) ≡ x .number

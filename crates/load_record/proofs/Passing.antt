@@ -11,7 +11,7 @@ use Rattle.load.specs.Records.{dataCode, commentCode, isComment, itemAt, past, 
 use Rattle.load.specs.declared.Item.{Item}
 use Rattle.load.specs.declared.NextRecord.{NextRecord}
 use Rattle.load_record.specs.Program.{Looked, Found}
-use Rattle.load_record.proofs.Items.{Whole, whole, none-there, coded}
+use Rattle.load_record.proofs.Items.{WholeItem, whole, none-there, coded}
 
 -- a comment is whole; a record has its address
 pub comment-whole : (bs : List ℕ) {p : ℕ} {x : Item} → Looked bs p x → x .code ≡ commentCode → p + 2 + x .rest ≤ length bs
@@ -28,25 +28,25 @@ address-there bs {p} e l z c =
 
 module _ (bs : List ℕ) (i : ℕ) where
   -- the comments up to place p are passed; what is left of their greatest number is enough for the rest of the file
-  pub record Passing (p : ℕ) : Type 0 where
+  pub record PassingRecords (p : ℕ) : Type 0 where
     pub left : ℕ
     pub enough : length bs ≤ left + p
     pub rest : past bs (length bs) i ≡ past bs left p
 
-  pub passing-start : Passing i
+  pub passing-start : PassingRecords i
   passing-start = record { left = length bs; enough = omega arith; rest = refl }
 
-  pub passing-step : {p : ℕ} {x : Item} → Passing p → Looked bs p x → x .code ≡ commentCode → Passing (p + 2 + x .rest)
+  pub passing-step : {p : ℕ} {x : Item} → PassingRecords p → Looked bs p x → x .code ≡ commentCode → PassingRecords (p + 2 + x .rest)
   passing-step {p} {x} q l c = by (q .left) (q .enough) (q .rest)
     where
-      by : (n : ℕ) → length bs ≤ n + p → past bs (length bs) i ≡ past bs n p → Passing (p + 2 + x .rest)
+      by : (n : ℕ) → length bs ≤ n + p → past bs (length bs) i ≡ past bs n p → PassingRecords (p + 2 + x .rest)
       by zero h e = let w = comment-whole bs l c in absurd (let z : ⊥ = omega arith in z)
       by (suc n) h e = record { left = n; enough = omega arith; rest = e ∙ step }
         where
           step : past bs (suc n) p ≡ past bs n (p + 2 + x .rest)
           step = unfold past in rw (← l .is, eq-eqb (x .code) commentCode c)
 
-  pub passing-end : {p : ℕ} {x : Item} → Passing p → Looked bs p x → (x .code ≡ commentCode → ⊥) → past bs (length bs) i ≡ p
+  pub passing-end : {p : ℕ} {x : Item} → PassingRecords p → Looked bs p x → (x .code ≡ commentCode → ⊥) → past bs (length bs) i ≡ p
   passing-end {p} {x} q l c = q .rest ∙ by (q .left)
     where
       by : (n : ℕ) → past bs n p ≡ p

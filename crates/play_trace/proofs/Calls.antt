@@ -42,7 +42,7 @@ unfolding tellFrom
 tell-more c s (reads ss) = let e : c + suc (length ss) ≡ c + 1 + length ss = omega arith in rw e
 tell-more c s (badAt p) = refl
 
-pub record Going (d : List ℕ) (n whole i : ℕ) : Type 0 where
+pub record ReadingCalls (d : List ℕ) (n whole i : ℕ) : Type 0 where
   pub within : i ≤ whole
   pub same : tellFrom 0 (readCalls (bits d) n whole 0) ≡ tellFrom i (readCalls (bits d) n (whole - i) i)
 
@@ -52,7 +52,7 @@ pub record AtCall (d : List ℕ) (n i at : ℕ) (m : Numbers) (o : ℕ) : Type 0
   pub numbers : m ≡ numbersAt (bits d) (8 * at)
   pub bad : o ≡ firstBad n m fields
 
-pub going-first : (d : List ℕ) (n whole : ℕ) → Going d n whole 0
+pub going-first : (d : List ℕ) (n whole : ℕ) → ReadingCalls d n whole 0
 going-first d n whole = let e : whole - 0 ≡ whole = omega arith in record { within = omega arith; same = rw e }
 
 module _ {d : List ℕ} {n i at : ℕ} {m : Numbers} {o : ℕ} (c : AtCall d n i at m o) where
@@ -65,7 +65,7 @@ module _ {d : List ℕ} {n i at : ℕ} {m : Numbers} {o : ℕ} (c : AtCall d n i
   bad-is : firstBad n (numbersAt (bits d) (callStart n i)) fields ≡ o
   bad-is = ap (λ (x : Numbers). firstBad n x fields) numbers-are ∙ sym (c .bad)
 
-  pub going-on : {whole : ℕ} → Going d n whole i → i < whole → 56 ≤ o → (m .operation ≡ 0 → ⊥) → Going d n whole (i + 1)
+  pub going-on : {whole : ℕ} → ReadingCalls d n whole i → i < whole → 56 ≤ o → (m .operation ≡ 0 → ⊥) → ReadingCalls d n whole (i + 1)
   going-on {whole} g h p q =
       let t : readCalls (bits d) n (suc (whole - (i + 1))) i ≡ onRead (λ ss. stepOf (numbersAt (bits d) (callStart n i)) ∷ ss)
       (readCalls (bits d) n (whole - (i + 1)) (i + 1))
@@ -75,7 +75,7 @@ module _ {d : List ℕ} {n i at : ℕ} {m : Numbers} {o : ℕ} (c : AtCall d n i
         same = g .same ∙ ap (λ (k : ℕ). tellFrom i (readCalls (bits d) n k i)) (left-more h) ∙ ap (tellFrom i) t ∙ tell-more i _ _;
       }
 
-  pub going-bad : {whole : ℕ} → Going d n whole i → i < whole → o < 56
+  pub going-bad : {whole : ℕ} → ReadingCalls d n whole i → i < whole → o < 56
       → record { well = false; calls = 0; byte = at + o / 8; bit = o % 8 } ≡ tellFrom 0 (readCalls (bits d) n whole 0)
   unfolding tellFrom
   going-bad {whole} g h p =
@@ -85,7 +85,7 @@ module _ {d : List ℕ} {n i at : ℕ} {m : Numbers} {o : ℕ} (c : AtCall d n i
       sym (g .same ∙ ap (λ (k : ℕ). tellFrom i (readCalls (bits d) n k i)) (left-more h) ∙ ap (tellFrom i) t ∙
       (λ j. record { well = false; calls = 0; byte = byte j; bit = bit j }))
 
-  pub going-end : {whole : ℕ} → Going d n whole i → i < whole → 56 ≤ o → m .operation ≡ 0
+  pub going-end : {whole : ℕ} → ReadingCalls d n whole i → i < whole → 56 ≤ o → m .operation ≡ 0
       → wellWith i ≡ tellFrom 0 (readCalls (bits d) n whole 0)
   unfolding tellFrom
   going-end {whole} g h p q =
@@ -93,7 +93,7 @@ module _ {d : List ℕ} {n i at : ℕ} {m : Numbers} {o : ℕ} (c : AtCall d n i
       let z : i + 0 ≡ i = omega arith in
       sym (g .same ∙ ap (λ (k : ℕ). tellFrom i (readCalls (bits d) n k i)) (left-more h) ∙ ap (tellFrom i) t ∙ ap wellWith z)
 
-pub going-out : {d : List ℕ} {n whole i : ℕ} → Going d n whole i → whole ≤ i
+pub going-out : {d : List ℕ} {n whole i : ℕ} → ReadingCalls d n whole i → whole ≤ i
     → record { well = false; calls = 0; byte = length d; bit = 0 } ≡ tellFrom 0 (readCalls (bits d) n whole 0)
 unfolding tellFrom
 going-out {d} {n} {whole} {i} g h =

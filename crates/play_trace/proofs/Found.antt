@@ -12,7 +12,7 @@ use Rattle.play_trace.specs.Bytes.{byte-field}
 use Rattle.play_trace.specs.declared.Step.{Step}
 use Rattle.play_trace.specs.declared.Numbers.{Numbers}
 use Rattle.play_trace.proofs.Calls.{calls-none}
-use Rattle.play_trace.proofs.Front.{Opens, withNames, Front, none, few, many, cut, calls, front, Turn, bad, end, on, turn}
+use Rattle.play_trace.proofs.Front.{NamesThere, withNames, Front, none, few, many, cut, calls, front, Turn, bad, end, on, turn}
 
 pub bad-reads : {A : Type 0} {p : ℕ} {a : A} → badAt p ≡ reads a → ⊥
 bad-reads {A} e = subst-out (ap isBad e)
@@ -61,14 +61,14 @@ whole-inside bs n j h = omega arith
 
 pub record StepThere (bs : List ℕ) (i : ℕ) (r : Reading Trace) : Type 0 where
   pub n : ℕ
-  pub opens : Opens bs n
+  pub opens : NamesThere bs n
   pub inside : callStart n (i + 1) ≤ length bs
   pub step : getD (stepsOf r) i noStep ≡ stepOf (numbersAt bs (callStart n i))
 
 pub step-there : (bs : List ℕ) (i : ℕ) → i < length (stepsOf (readBits bs)) → StepThere bs i (readBits bs)
 step-there bs i = go (readBits bs) (front bs)
   where
-    inner : (n : ℕ) → Opens bs n → (c : Reading (List Step)) → readCalls bs n (wholeCalls bs n) 0 ≡ c
+    inner : (n : ℕ) → NamesThere bs n → (c : Reading (List Step)) → readCalls bs n (wholeCalls bs n) 0 ≡ c
         → i < length (stepsOf (onRead (withNames (namesFrom bs 8 n)) c)) → StepThere bs i (onRead (withNames (namesFrom bs 8 n)) c)
     inner n o (badAt p) e h = absurd (let q : ⊥ = omega arith in q)
     inner n o (reads ss) e h =
@@ -109,7 +109,7 @@ pub record NameThere (bs : List ℕ) (k : ℕ) (r : Reading Trace) : Type 0 wher
 pub name-there : (bs : List ℕ) (k : ℕ) → k < length (namesOf (readBits bs)) → NameThere bs k (readBits bs)
 name-there bs k = go (readBits bs) (front bs)
   where
-    inner : (n : ℕ) → Opens bs n → (c : Reading (List Step))
+    inner : (n : ℕ) → NamesThere bs n → (c : Reading (List Step))
         → k < length (namesOf (onRead (withNames (namesFrom bs 8 n)) c)) → NameThere bs k (onRead (withNames (namesFrom bs 8 n)) c)
     inner n o (badAt p) h = absurd (let q : ⊥ = omega arith in q)
     inner n o (reads ss) h =

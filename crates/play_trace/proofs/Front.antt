@@ -44,7 +44,7 @@ abbrev pub withNames : List (List ℕ) → List Step → Trace
 withNames ns ss = record { names = ns; steps = ss }
 
 -- the names are there, and so many as may be
-pub record Opens (bs : List ℕ) (n : ℕ) : Type 0 where
+pub record NamesThere (bs : List ℕ) (n : ℕ) : Type 0 where
   pub counted : 8 ≤ length bs
   pub count : field bs 0 8 ≡ n
   pub some : 1 ≤ n
@@ -73,7 +73,7 @@ module _ (bs : List ℕ) where
   unfolding readBits
   opened h p q r = rw (le-ltb _ _ h, le-ltb _ _ p, le-ltb _ _ q, le-ltb _ _ r)
 
-  pub bits-calls : {n : ℕ} → Opens bs n → readBits bs ≡ onRead (withNames (namesFrom bs 8 n)) (readCalls bs n (wholeCalls bs n) 0)
+  pub bits-calls : {n : ℕ} → NamesThere bs n → readBits bs ≡ onRead (withNames (namesFrom bs 8 n)) (readCalls bs n (wholeCalls bs n) 0)
   bits-calls {n} o =
       let e = o .count in
       opened (o .counted) (rw e (o .some)) (rw e (o .few)) (rw e (o .there))
@@ -84,7 +84,7 @@ module _ (bs : List ℕ) where
     few : 8 ≤ length bs → field bs 0 8 < 1 → Front (badAt 0)
     many : 8 ≤ length bs → 32 < field bs 0 8 → Front (badAt 0)
     cut : 8 ≤ length bs → 1 ≤ field bs 0 8 → field bs 0 8 ≤ 32 → length bs < callStart (field bs 0 8) 0 → Front (badAt (length bs))
-    calls : (n : ℕ) → Opens bs n → Front (onRead (withNames (namesFrom bs 8 n)) (readCalls bs n (wholeCalls bs n) 0))
+    calls : (n : ℕ) → NamesThere bs n → Front (onRead (withNames (namesFrom bs 8 n)) (readCalls bs n (wholeCalls bs n) 0))
 
   pub front : Front (readBits bs)
   front = go (order (length bs) 8) (order (field bs 0 8) 1) (order 32 (field bs 0 8)) (order (length bs) (callStart (field bs 0 8) 0))
@@ -95,7 +95,7 @@ module _ (bs : List ℕ) where
       go (reaches h) (reaches p) (below q) d = subst (λ (r : Reading Trace). Front r) (sym (bits-many h p q)) (many h q)
       go (reaches h) (reaches p) (reaches q) (below r) = subst (λ (r : Reading Trace). Front r) (sym (bits-cut h p q r)) (cut h p q r)
       go (reaches h) (reaches p) (reaches q) (reaches r) =
-          let o : Opens bs (field bs 0 8) = record { counted = h; count = refl; some = p; few = q; there = r } in
+          let o : NamesThere bs (field bs 0 8) = record { counted = h; count = refl; some = p; few = q; there = r } in
           subst (λ (r : Reading Trace). Front r) (sym (bits-calls o)) (calls (field bs 0 8) o)
 
   -- one call
@@ -152,7 +152,7 @@ module _ (d : List ℕ) {n : ℕ} (h : 1 ≤ length d) (e : n ≡ getD d 0 0) (s
       (omega (arith, count-is, length-bits d)))
       ∙ fault-at-end d)
 
-  pub opens : 1 ≤ n → n ≤ 32 → 1 + 11 * n ≤ length d → Opens (bits d) n
+  pub opens : 1 ≤ n → n ≤ 32 → 1 + 11 * n ≤ length d → NamesThere (bits d) n
   opens p q r = record { counted = omega (arith, length-bits d); count = count-is; some = p; few = q; there = omega (arith, length-bits d) }
 
   pub told-calls : {c : Checked} → 1 ≤ n → n ≤ 32 → 1 + 11 * n ≤ length d → c ≡ callsTold (bits d) n → c ≡ tell (readTrace d)

@@ -50,7 +50,7 @@ StepsFit n [] = Unit
 StepsFit n (s ∷ ss) = StepFits n s × StepsFit n ss
 
 -- names and steps that a trace can hold
-pub record InRange (t : Trace) : Type 0 where
+pub record TraceFits (t : Trace) : Type 0 where
   pub some : 1 ≤ length (t .names)
   pub few : length (t .names) ≤ 32
   pub names : AreNames (t .names)
@@ -58,6 +58,6 @@ pub record InRange (t : Trace) : Type 0 where
 
 -- A reading of bits: names and steps in range, of which the bits are the beginning. What comes behind is not read.
 pub record IsReading (bs : List ℕ) (t : Trace) : Type 0 where
-  pub inRange : InRange t
+  pub inRange : TraceFits t
   pub later : List ℕ
   pub begins : bs ≡ packBits t ++ later

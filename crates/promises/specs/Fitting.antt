@@ -46,7 +46,7 @@ conv-none Growth.noSlot e = refl
 
 module _ (g : Geometry) (p : ℕ) where
   -- what is known of a disk while k granules more are wanted for the file at slot p: refusals 1, 2, 6, 7 and 9 are passed
-  pub record Known (k : ℕ) (d : List ℕ) : Type 0 where
+  pub record KnownFile (k : ℕ) (d : List ℕ) : Type 0 where
     pub sound : Sound g d
     pub fits : Places.Fits g d
     pub file : IsFile g d p
@@ -79,7 +79,7 @@ module _ (g : Geometry) (p : ℕ) where
         go (Growth.grown d₁) ih = ih d₁
         go Growth.noSlot ih = refl
 
-    known-next : (k : ℕ) (d d′ : List ℕ) → Known (suc k) d → takeAt g p (choice d) d ≡ Growth.grown d′ → Known k d′
+    known-next : (k : ℕ) (d d′ : List ℕ) → KnownFile (suc k) d → takeAt g p (choice d) d ≡ Growth.grown d′ → KnownFile k d′
     known-next k d d′ o e =
         let w = TakeOne.take-at g d (o .sound) (o .fits) p (o .file) (o .user) (choice d) (chooses d (omega (arith, o .enough))) d′ e in
         record {
@@ -99,7 +99,7 @@ module _ (g : Geometry) (p : ℕ) where
     step d d′ c w f t e (View.Took.none a r) = absurd (let z : _≡_ {A = ℕ} 0 1 = cc in omega arith)
 
     -- whatever the choice, it is a rule
-    is-rule : AnyRule 32 (granules g) (view g p) Known one
+    is-rule : AnyRule 32 (granules g) (view g p) KnownFile one
     is-rule = record {
       goes = λ k d d′ o e.
           let q = conv-grown (takeAt g p (choice d) d) d′ e in
@@ -127,7 +127,7 @@ module _ (g : Geometry) (p : ℕ) where
   second-stops d c w f t e (View.Took.starts a h) = absurd (let z : _≡_ {A = ℕ} 0 1 = cc in omega arith)
   second-stops d c w f t e (View.Took.none a r) = ((λ x. a (View.can-says g p d x)), inl r)
 
-  is-second : SecondRule 32 (granules g) (view g p) Known (one longest longest-chooses)
+  is-second : SecondRule 32 (granules g) (view g p) KnownFile (one longest longest-chooses)
   is-second = record {
     stands = λ k d o. View.stands g p d (o .sound) (o .file);
     goes = λ k d d′ o e.
@@ -145,7 +145,7 @@ module _ (g : Geometry) (p : ℕ) where
 
 -- The theorems -----------------------------------------------------------------------------------------------------------
 
-module _ (g : Geometry) (p k : ℕ) (d : List ℕ) (o : Known g p k d) where
+module _ (g : Geometry) (p k : ℕ) (d : List ℕ) (o : KnownFile g p k d) where
   abbrev Fitting : Type 0
   Fitting = Choice 32 (granules g) (view g p d) k
 
@@ -153,7 +153,7 @@ module _ (g : Geometry) (p k : ℕ) (d : List ℕ) (o : Known g p k d) where
   pub first-choice : (d′ : List ℕ) → grow g p k d ≡ Growth.grown d′ → Fitting
   unfolding conv
   first-choice d′ e =
-      Theorem.any-choice 32 (granules g) (view g p) (Known g p) (one g p (lowest g p) (lowest-chooses g p)) (omega arith)
+      Theorem.any-choice 32 (granules g) (view g p) (KnownFile g p) (one g p (lowest g p) (lowest-chooses g p)) (omega arith)
       (is-rule g p (lowest g p) (lowest-chooses g p)) k d d′ o
       (sym (conv-grow g p (lowest g p) (lowest-chooses g p) k d) ∙ ap conv e)
 
@@ -166,7 +166,7 @@ module _ (g : Geometry) (p k : ℕ) (d : List ℕ) (o : Known g p k d) where
   )
     where
       both : (Theorem.grow (one g p (longest g p) (longest-chooses g p)) k d ≡ Theorem.noSlot) ↔ (Fitting → ⊥)
-      both = Theorem.stuck-iff 32 (granules g) (view g p) (Known g p) (one g p (longest g p) (longest-chooses g p)) (omega arith) (is-second g p) k d o
+      both = Theorem.stuck-iff 32 (granules g) (view g p) (KnownFile g p) (one g p (longest g p) (longest-chooses g p)) (omega arith) (is-second g p) k d o
 
   apart : (x : List ℕ) → Growth.grown x ≡ Growth.noSlot → ⊥
   apart x e = let z : _≡_ {A = ℕ} 0 1 = cc in omega arith

@@ -85,7 +85,7 @@ sector-places g d p k j h =
     rw (Sizes.sector-width g k j h, Sizes.sector-rest g k j h, Sizes.sector-start g k, Sizes.sector-begin g k) (omega arith)
 
 -- how many bytes of sector k are the file's
-record Holds (size k n : ℕ) : Type 0 where
+record SectorHolds (size k n : ℕ) : Type 0 where
   some : 1 ≤ n
   most : n ≤ 256
   end : 256 * k + n ≤ size
@@ -96,7 +96,7 @@ module _ (g : Geometry) (d : List ℕ) (b : AreBytes d) (c : Sound g d) (fit : P
     abbrev n : ℕ
     n = sectorBytes g d p k
 
-    sector-holds : Holds (sizeOf g d p) k (sectorBytes g d p k)
+    sector-holds : SectorHolds (sizeOf g d p) k (sectorBytes g d p k)
     unfolding words
     sector-holds =
         let e = Bytes.bytes-small d b .below (entryAt g p + 3) in
@@ -105,7 +105,7 @@ module _ (g : Geometry) (d : List ℕ) (b : AreBytes d) (c : Sound g d) (fit : P
         low : endByte g d p < 256
         low = Bytes.bytes-small d b .below (entryAt g p + 3)
 
-        go : Members.Test (eqb (endByte g d p) 0) → Members.Test (eqb (suc k) (sectorCount g d p)) → Holds (sizeOf g d p) k (sectorBytes g d p k)
+        go : Members.Test (eqb (endByte g d p) 0) → Members.Test (eqb (suc k) (sectorCount g d p)) → SectorHolds (sizeOf g d p) k (sectorBytes g d p k)
         go (Members.Test.holds t) (Members.Test.holds u) =
             let x = eqb→eq (suc k) (sectorCount g d p) u in
             rw (Members.T-true {b = eqb (suc k) (sectorCount g d p)} u, Members.T-true {b = eqb (endByte g d p) 0} t)

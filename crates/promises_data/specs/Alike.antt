@@ -32,7 +32,7 @@ abbrev pub stated : Bool → Geometry → Geometry
 stated b g = record { blocks = g .blocks; units = g .units; start = g .start; noPassword = g .noPassword; system = b; granule = g .granule }
 
 -- alike but for the flag
-pub record Alike (g h : Geometry) : Type 0 where
+pub record ButForFlag (g h : Geometry) : Type 0 where
   pub blocks : g .blocks ≡ h .blocks
   pub units : g .units ≡ h .units
   pub start : g .start ≡ h .start
@@ -63,17 +63,17 @@ Agrees g h d counts = Listing.counts g d ≡ Listing.counts h d
 Agrees g h d measures = freeSpace g d ≡ freeSpace h d
 
 abbrev pub EveryCall : Type 0
-EveryCall = (g h : Geometry) → Alike g h → (d : List ℕ) (c : Call) → Agrees g h d c
+EveryCall = (g h : Geometry) → ButForFlag g h → (d : List ℕ) (c : Call) → Agrees g h d c
 
 -- A disk that was filled as a data disk stays consistent when it is stated as a system disk, and the other way round.
 abbrev pub EveryDisk : Type 0
-EveryDisk = (g h : Geometry) → Alike g h → (d : List ℕ) → consistent g d ≡ consistent h d
+EveryDisk = (g h : Geometry) → ButForFlag g h → (d : List ℕ) → consistent g d ≡ consistent h d
 
 -- A kept slot may be brought back: bring back answers alike.
 abbrev pub EveryBack : Type 0
-EveryBack = (g h : Geometry) → Alike g h → (d : List ℕ) (s : ℕ) → bringBack g d s ≡ bringBack h d s
+EveryBack = (g h : Geometry) → ButForFlag g h → (d : List ℕ) (s : ℕ) → bringBack g d s ≡ bringBack h d s
 
 -- Compare, each disk with a flag of its own
 abbrev pub EveryPair : Type 0
 EveryPair =
-    (g h g′ h′ : Geometry) → Alike g h → Alike g′ h′ → (d d′ : List ℕ) (i : ℕ) → compare g d g′ d′ i ≡ compare h d h′ d′ i
+    (g h g′ h′ : Geometry) → ButForFlag g h → ButForFlag g′ h′ → (d d′ : List ℕ) (i : ℕ) → compare g d g′ d′ i ≡ compare h d h′ d′ i

@@ -1,4 +1,4 @@
--- The promises of `Alike`, proved.
+-- The promises of `ButForFlag`, proved.
 use mathlib.Core.Path.{_≡_, refl, sym, ap, subst, _∙_}
 use mathlib.Core.Logic.{_⊎_, ⊎-elim}
 use mathlib.Core.Bool.{Bool, true, false, not, cond, _&&_}
@@ -40,7 +40,7 @@ use Rattle.meaning.specs.declared.Handle.{Handle}
 use Rattle.meaning.specs.declared.NewFile.{NewFile}
 use Rattle.meaning.specs.declared.Mode.{Mode}
 use Rattle.meaning.specs.declared.Created.{Created}
-use Rattle.promises_data.specs.Alike.{stated, Alike, Agrees, GrowsAlike, EveryCall, EveryDisk, EveryBack}
+use Rattle.promises_data.specs.Alike.{stated, ButForFlag, Agrees, GrowsAlike, EveryCall, EveryDisk, EveryBack}
 use Rattle.promises_data.specs.Flag.{slots-same, chain-same, owned-same, files-same, place-same, sizeHolds-same, fault-same, check-same}
 use Rattle.promises_data.specs.Flag.{consistent-same}
 
@@ -362,7 +362,7 @@ module _ (g : Geometry) (b : Bool) (d : List ℕ) where
   agrees measures = free-space g b d
 
 -- a geometry alike but for the flag is this one, stated by that one's flag
-pub alike-is : (g h : Geometry) → Alike g h → stated (h .system) g ≡ h
+pub alike-is : (g h : Geometry) → ButForFlag g h → stated (h .system) g ≡ h
 alike-is g h e =
     λ i. record { blocks = e .blocks i; units = e .units i; start = e .start i; noPassword = e .noPassword i; system = h .system; granule = e .granule i }
 

@@ -23,14 +23,14 @@ use Rattle.together.specs.Demand3 as one-disk
 use Rattle.drives.specs.Pair.{Pair, pair, geometry, image, handleOn}
 use Rattle.drives.specs.declared.DriveHandle.{DriveHandle}
 use Rattle.promises_drives.specs.Statement.{IsDrive, zeroth, first}
-use Rattle.promises_drives.specs.Interleaved.{DriveSide, Answered, answer, World, start, next, after, Taken, Accepted, AllQuiet, bare}
-use Rattle.promises_drives.specs.Interleaved.{DriveGrip, driveGrip, Agree, Demand3, Apart}
+use Rattle.promises_drives.specs.Interleaved.{DriveSide, DriveAnswered, answer, DriveWorld, start, next, after, Taken, Accepted, AllQuiet, bare}
+use Rattle.promises_drives.specs.Interleaved.{DriveGrip, driveGrip, DrivesAgree, Demand3, Apart}
 use Rattle.promises_drives.specs.Turns.{lift, bare-lift, number-is, drives-is, side-is}
 
 -- One step, with the drives as a function of the list's own disk ------------------------------------------------------------------------
 
 -- the drives as they are with the disk d in drive k, whose geometry is g
-pub record Holds (k : ℕ) (g : Geometry) (put : List ℕ → Pair) : Type 0 where
+pub record InDrive (k : ℕ) (g : Geometry) (put : List ℕ → Pair) : Type 0 where
   pub image′ : (d : List ℕ) → image (put d) k ≡ d
   pub geometry′ : (d : List ℕ) → geometry (put d) k ≡ g
   pub number : (d : List ℕ) (n : Name) (s : Side) (c : Step) → answer (put d) k n (lift k s) c .number ≡ disk.answer g n d s c .number
@@ -38,7 +38,7 @@ pub record Holds (k : ℕ) (g : Geometry) (put : List ℕ → Pair) : Type 0 whe
   pub side : (d : List ℕ) (n : Name) (s : Side) (c : Step) → disk.answer g n d s c .number ≡ 0
       → answer (put d) k n (lift k s) c .side ≡ lift k (disk.answer g n d s c .side)
 
-on-0 : (g g′ : Geometry) (e : List ℕ) → Holds 0 g (λ d. pair g d g′ e)
+on-0 : (g g′ : Geometry) (e : List ℕ) → InDrive 0 g (λ d. pair g d g′ e)
 on-0 g g′ e =
     record {
       image′ = λ d. refl;
@@ -48,7 +48,7 @@ on-0 g g′ e =
       side = λ d n s c. side-is (pair g d g′ e) 0 zeroth n s c;
     }
 
-on-1 : (g g′ : Geometry) (e : List ℕ) → Holds 1 g′ (λ d. pair g e g′ d)
+on-1 : (g g′ : Geometry) (e : List ℕ) → InDrive 1 g′ (λ d. pair g e g′ d)
 on-1 g g′ e =
     record {
       image′ = λ d. refl;
@@ -59,7 +59,7 @@ on-1 g g′ e =
     }
 
 -- a step that is accepted on the drive is accepted on its disk, and leaves what it leaves there
-module _ (k : ℕ) (g : Geometry) (put : List ℕ → Pair) (holds : Holds k g put) (d : List ℕ) (n : Name) (s : Side) (c : Step)
+module _ (k : ℕ) (g : Geometry) (put : List ℕ → Pair) (holds : InDrive k g put) (d : List ℕ) (n : Name) (s : Side) (c : Step)
     (t : T (known (bare (lift k s .handles)) c) × (answer (put d) k n (lift k s) c .number ≡ 0)) where
   step-taken : T (known (s .handles) c) × (disk.answer g n d s c .number ≡ 0)
   step-taken = (subst (λ (hs : List Handle). T (known hs c)) (bare-lift k (s .handles)) (t .0), sym (holds .number d n s c) ∙ t .1)
@@ -72,9 +72,9 @@ module _ (k : ℕ) (g : Geometry) (put : List ℕ → Pair) (holds : Holds k g p
 
 -- Both lists on one drive ------------------------------------------------------------------------------------------------------------------
 
-module _ (k : ℕ) (g : Geometry) (put : List ℕ → Pair) (holds : Holds k g put) (a b : Name) where
+module _ (k : ℕ) (g : Geometry) (put : List ℕ → Pair) (holds : InDrive k g put) (a b : Name) where
   -- the world of one disk, as the world of the drives
-  abbrev both : disk.World → World
+  abbrev both : disk.World → DriveWorld
   both w = record { drives = put (w .disk); first = lift k (w .first); second = lift k (w .second) }
 
   turn-taken : (w : disk.World) (t : Turn) → Taken k k a b (both w) t → disk.Taken g a b w t
@@ -98,13 +98,13 @@ module _ (k : ℕ) (g : Geometry) (put : List ℕ → Pair) (holds : Holds k g p
   all-taken : (zs : List Turn) (w : disk.World) → Accepted k k a b (both w) zs → disk.Accepted g a b w zs
   all-taken [] w t = tt
   all-taken (z ∷ zs) w t =
-      (turn-taken w z (t .0), all-taken zs (disk.next g a b w z) (subst (λ (v : World). Accepted k k a b v zs) (turn-next w z (t .0)) (t .1)))
+      (turn-taken w z (t .0), all-taken zs (disk.next g a b w z) (subst (λ (v : DriveWorld). Accepted k k a b v zs) (turn-next w z (t .0)) (t .1)))
 
   all-after : (zs : List Turn) (w : disk.World) → Accepted k k a b (both w) zs → after k k a b (both w) zs ≡ both (disk.after g a b w zs)
   all-after [] w t = refl
   all-after (z ∷ zs) w t =
-      ap (λ (v : World). after k k a b v zs) (turn-next w z (t .0))
-      ∙ all-after zs (disk.next g a b w z) (subst (λ (v : World). Accepted k k a b v zs) (turn-next w z (t .0)) (t .1))
+      ap (λ (v : DriveWorld). after k k a b v zs) (turn-next w z (t .0))
+      ∙ all-after zs (disk.next g a b w z) (subst (λ (v : DriveWorld). Accepted k k a b v zs) (turn-next w z (t .0)) (t .1))
 
   -- a quiet turn on the drive is quiet on its disk
   quiet-is : (n : Name) (d : List ℕ) (p : Pair) (d′ : List ℕ) → p ≡ put d′ → Quiet (geometry (put d) k) n (image (put d) k) (image p k) → Quiet g n d d′
@@ -117,13 +117,13 @@ module _ (k : ℕ) (g : Geometry) (put : List ℕ → Pair) (holds : Holds k g p
   all-quiet [] w t q = tt
   all-quiet (one c ∷ zs) w t q = (
     quiet-is (fold a) (w .disk) _ _ (step-drives k g put holds (w .disk) a (w .first) c (t .0)) (q .0),
-    all-quiet zs (disk.next g a b w (one c)) (subst (λ (v : World). Accepted k k a b v zs) (turn-next w (one c) (t .0)) (t .1))
-        (subst (λ (v : World). AllQuiet k k a b v zs) (turn-next w (one c) (t .0)) (q .1)),
+    all-quiet zs (disk.next g a b w (one c)) (subst (λ (v : DriveWorld). Accepted k k a b v zs) (turn-next w (one c) (t .0)) (t .1))
+        (subst (λ (v : DriveWorld). AllQuiet k k a b v zs) (turn-next w (one c) (t .0)) (q .1)),
   )
   all-quiet (two c ∷ zs) w t q = (
     quiet-is (fold b) (w .disk) _ _ (step-drives k g put holds (w .disk) b (w .second) c (t .0)) (q .0),
-    all-quiet zs (disk.next g a b w (two c)) (subst (λ (v : World). Accepted k k a b v zs) (turn-next w (two c) (t .0)) (t .1))
-        (subst (λ (v : World). AllQuiet k k a b v zs) (turn-next w (two c) (t .0)) (q .1)),
+    all-quiet zs (disk.next g a b w (two c)) (subst (λ (v : DriveWorld). Accepted k k a b v zs) (turn-next w (two c) (t .0)) (t .1))
+        (subst (λ (v : DriveWorld). AllQuiet k k a b v zs) (turn-next w (two c) (t .0)) (q .1)),
   )
 
 -- handles that are alike on a disk are alike on a drive
@@ -144,10 +144,10 @@ abbrev alone : List Step → List Turn
 alone [] = []
 alone (c ∷ cs) = one c ∷ alone cs
 
-module _ (k l : ℕ) (g h : Geometry) (put : List ℕ → List ℕ → Pair) (on-k : (e : List ℕ) → Holds k g (λ d. put d e))
-    (on-l : (d : List ℕ) → Holds l h (put d)) (a b : Name) where
+module _ (k l : ℕ) (g h : Geometry) (put : List ℕ → List ℕ → Pair) (on-k : (e : List ℕ) → InDrive k g (λ d. put d e))
+    (on-l : (d : List ℕ) → InDrive l h (put d)) (a b : Name) where
   -- the world of each list's disk, as the world of the drives
-  abbrev beside : disk.World → disk.World → World
+  abbrev beside : disk.World → disk.World → DriveWorld
   beside u v = record { drives = put (u .disk) (v .disk); first = lift k (u .first); second = lift l (v .first) }
 
   abbrev first-next : disk.World → Step → disk.World
@@ -173,28 +173,28 @@ module _ (k l : ℕ) (g h : Geometry) (put : List ℕ → List ℕ → Pair) (on
       }
 
   -- each list runs as it does alone
-  pub record Runs (u v : disk.World) (xs ys : List Step) (zs : List Turn) : Type 0 where
+  pub record RunsBeside (u v : disk.World) (xs ys : List Step) (zs : List Turn) : Type 0 where
     pub taken : disk.Accepted g a a u (alone xs)
     pub taken′ : disk.Accepted h b b v (alone ys)
     pub ends : after k l a b (beside u v) zs ≡ beside (disk.after g a a u (alone xs)) (disk.after h b b v (alone ys))
 
-  pub runs : {xs ys : List Step} {zs : List Turn} → Interleaving xs ys zs → (u v : disk.World) → Accepted k l a b (beside u v) zs → Runs u v xs ys zs
+  pub runs : {xs ys : List Step} {zs : List Turn} → Interleaving xs ys zs → (u v : disk.World) → Accepted k l a b (beside u v) zs → RunsBeside u v xs ys zs
   runs none u v t = record { taken = tt; taken′ = tt; ends = refl }
   runs (left {x = c} {zs = zs} i) u v t =
       let e = first-turn u v c (t .0) in
-      let r = runs i (first-next u c) v (subst (λ (w : World). Accepted k l a b w zs) e (t .1)) in
+      let r = runs i (first-next u c) v (subst (λ (w : DriveWorld). Accepted k l a b w zs) e (t .1)) in
       record {
         taken = (step-taken k g (λ d. put d (v .disk)) (on-k (v .disk)) (u .disk) a (u .first) c (t .0), r .taken);
         taken′ = r .taken′;
-        ends = ap (λ (w : World). after k l a b w zs) e ∙ r .ends;
+        ends = ap (λ (w : DriveWorld). after k l a b w zs) e ∙ r .ends;
       }
   runs (right {y = c} {zs = zs} i) u v t =
       let e = second-turn u v c (t .0) in
-      let r = runs i u (second-next v c) (subst (λ (w : World). Accepted k l a b w zs) e (t .1)) in
+      let r = runs i u (second-next v c) (subst (λ (w : DriveWorld). Accepted k l a b w zs) e (t .1)) in
       record {
         taken = r .taken;
         taken′ = (step-taken l h (put (u .disk)) (on-l (u .disk)) (v .disk) b (v .first) c (t .0), r .taken′);
-        ends = ap (λ (w : World). after k l a b w zs) e ∙ r .ends;
+        ends = ap (λ (w : DriveWorld). after k l a b w zs) e ∙ r .ends;
       }
 
 -- what holds of both drives
@@ -229,7 +229,7 @@ untouched g d n = (λ f e u. e, same-as-itself g d n)
 -- Demand 3 -------------------------------------------------------------------------------------------------------------------------------------
 
 -- both lists on drive k: what demand 3 of one disk gives
-module _ (k : ℕ) (g : Geometry) (put : List ℕ → Pair) (holds : Holds k g put) (a b : Name) (ab : fold a ≢ fold b) (d : List ℕ)
+module _ (k : ℕ) (g : Geometry) (put : List ℕ → Pair) (holds : InDrive k g put) (a b : Name) (ab : fold a ≢ fold b) (d : List ℕ)
     (fit : fitsGeometry g d ≡ true) (con : consistent g d ≡ true) {xs ys : List Step} {zs zs′ : List Turn}
     (i : Interleaving xs ys zs) (i′ : Interleaving xs ys zs′)
     (t : Accepted k k a b (start (put d)) zs) (t′ : Accepted k k a b (start (put d)) zs′) where
@@ -245,30 +245,32 @@ module _ (k : ℕ) (g : Geometry) (put : List ℕ → Pair) (holds : Holds k g p
       (all-taken k g put holds a b zs′ (disk.start d) t′)
 
   -- it is enough that the worlds of that disk agree
-  from-disk : (p : Pair) → Agree p k k a b xs ys zs (both k g put holds a b w) (both k g put holds a b w′)
-      → Agree p k k a b xs ys zs (after k k a b (start (put d)) zs) (after k k a b (start (put d)) zs′)
+  from-disk : (p : Pair) → DrivesAgree p k k a b xs ys zs (both k g put holds a b w) (both k g put holds a b w′)
+      → DrivesAgree p k k a b xs ys zs (after k k a b (start (put d)) zs) (after k k a b (start (put d)) zs′)
   from-disk p x =
-      subst (λ (v : World). Agree p k k a b xs ys zs v (after k k a b (start (put d)) zs′)) (sym (all-after k g put holds a b zs (disk.start d) t))
-      (subst (λ (v : World). Agree p k k a b xs ys zs (both k g put holds a b w) v) (sym (all-after k g put holds a b zs′ (disk.start d) t′)) x)
+      subst (λ (v : DriveWorld). DrivesAgree p k k a b xs ys zs v (after k k a b (start (put d)) zs′)) (sym (all-after k g put holds a b zs (disk.start d) t))
+      (subst (λ (v : DriveWorld). DrivesAgree p k k a b xs ys zs (both k g put holds a b w) v) (sym (all-after k g put holds a b zs′ (disk.start d) t′)) x)
 
 -- lists on two drives: each by itself
-module _ (k l : ℕ) (g h : Geometry) (put : List ℕ → List ℕ → Pair) (on-k : (e : List ℕ) → Holds k g (λ d. put d e)) (on-l : (d : List ℕ) → Holds l h (put d))
+module _ (k l : ℕ) (g h : Geometry) (put : List ℕ → List ℕ → Pair) (on-k : (e : List ℕ) → InDrive k g (λ d. put d e))
+    (on-l : (d : List ℕ) → InDrive l h (put d))
     (a b : Name) (d e : List ℕ) {xs ys : List Step} {zs zs′ : List Turn} (i : Interleaving xs ys zs) (i′ : Interleaving xs ys zs′)
     (t : Accepted k l a b (start (put d e)) zs) (t′ : Accepted k l a b (start (put d e)) zs′) where
-  both-run : Runs k l g h put on-k on-l a b (disk.start d) (disk.start e) xs ys zs
+  both-run : RunsBeside k l g h put on-k on-l a b (disk.start d) (disk.start e) xs ys zs
   both-run = runs k l g h put on-k on-l a b i (disk.start d) (disk.start e) t
 
   ends-alike : after k l a b (start (put d e)) zs ≡ after k l a b (start (put d e)) zs′
   ends-alike = both-run .ends ∙ sym (runs k l g h put on-k on-l a b i′ (disk.start d) (disk.start e) t′ .ends)
 
-  abbrev u : World
+  abbrev u : DriveWorld
   u = beside k l g h put on-k on-l a b (disk.after g a a (disk.start d) (alone xs)) (disk.after h b b (disk.start e) (alone ys))
 
   -- it is enough that the world where each list ran alone agrees with itself
-  from-each : (p : Pair) → Agree p k l a b xs ys zs u u → Agree p k l a b xs ys zs (after k l a b (start (put d e)) zs) (after k l a b (start (put d e)) zs′)
+  from-each : (p : Pair) → DrivesAgree p k l a b xs ys zs u u → DrivesAgree p k l a b xs ys zs (after k l a b (start (put d e)) zs)
+      (after k l a b (start (put d e)) zs′)
   from-each p x =
-      subst (λ (v : World). Agree p k l a b xs ys zs (after k l a b (start (put d e)) zs) v) ends-alike
-      (subst (λ (v : World). Agree p k l a b xs ys zs v v) (sym (both-run .ends)) x)
+      subst (λ (v : DriveWorld). DrivesAgree p k l a b xs ys zs (after k l a b (start (put d e)) zs) v) ends-alike
+      (subst (λ (v : DriveWorld). DrivesAgree p k l a b xs ys zs v v) (sym (both-run .ends)) x)
 
 pub apart : Apart
 apart p k l zeroth zeroth kl a b xs ys zs zs′ i i′ t t′ = absurd (kl refl)
@@ -285,7 +287,7 @@ Sound p = (j : ℕ) → IsDrive j → (fitsGeometry (geometry p j) (image p j) �
 
 on-zeroth : (p : Pair) (a b : Name) → fold a ≢ fold b → Sound p → {xs ys : List Step} {zs zs′ : List Turn} → Interleaving xs ys zs → Interleaving xs ys zs′
     → Accepted 0 0 a b (start p) zs → Accepted 0 0 a b (start p) zs′
-    → Agree p 0 0 a b xs ys zs (after 0 0 a b (start p) zs) (after 0 0 a b (start p) zs′)
+    → DrivesAgree p 0 0 a b xs ys zs (after 0 0 a b (start p) zs) (after 0 0 a b (start p) zs′)
 on-zeroth p a b ab sound {zs = zs} {zs′ = zs′} i i′ t t′ =
     let put : (List ℕ → Pair) = λ d. pair (p .geometry0) d (p .geometry1) (p .image1) in let holds = on-0 (p .geometry0) (p .geometry1) (p .image1) in
     let g = p .geometry0 in let d = p .image0 in let s = sound 0 zeroth in
@@ -308,7 +310,7 @@ on-zeroth p a b ab sound {zs = zs} {zs′ = zs′} i i′ t t′ =
 
 on-first : (p : Pair) (a b : Name) → fold a ≢ fold b → Sound p → {xs ys : List Step} {zs zs′ : List Turn} → Interleaving xs ys zs → Interleaving xs ys zs′
     → Accepted 1 1 a b (start p) zs → Accepted 1 1 a b (start p) zs′
-    → Agree p 1 1 a b xs ys zs (after 1 1 a b (start p) zs) (after 1 1 a b (start p) zs′)
+    → DrivesAgree p 1 1 a b xs ys zs (after 1 1 a b (start p) zs) (after 1 1 a b (start p) zs′)
 on-first p a b ab sound {zs = zs} {zs′ = zs′} i i′ t t′ =
     let put : (List ℕ → Pair) = λ d. pair (p .geometry0) (p .image0) (p .geometry1) d in let holds = on-1 (p .geometry0) (p .geometry1) (p .image0) in
     let g = p .geometry1 in let d = p .image1 in let s = sound 1 first in
@@ -331,12 +333,12 @@ on-first p a b ab sound {zs = zs} {zs′ = zs′} i i′ t t′ =
 
 apart-01 : (p : Pair) (a b : Name) → Sound p → {xs ys : List Step} {zs zs′ : List Turn} → Interleaving xs ys zs → Interleaving xs ys zs′
     → Accepted 0 1 a b (start p) zs → Accepted 0 1 a b (start p) zs′
-    → Agree p 0 1 a b xs ys zs (after 0 1 a b (start p) zs) (after 0 1 a b (start p) zs′)
+    → DrivesAgree p 0 1 a b xs ys zs (after 0 1 a b (start p) zs) (after 0 1 a b (start p) zs′)
 unfolding Good
 apart-01 p a b sound {xs = xs} {ys = ys} i i′ t t′ =
     let put : (List ℕ → List ℕ → Pair) = λ d e. pair (p .geometry0) d (p .geometry1) e in
-    let on-k : ((e : List ℕ) → Holds 0 (p .geometry0) (λ d. pair (p .geometry0) d (p .geometry1) e)) = λ e. on-0 (p .geometry0) (p .geometry1) e in
-    let on-l : ((d : List ℕ) → Holds 1 (p .geometry1) (λ e. pair (p .geometry0) d (p .geometry1) e)) = λ d. on-1 (p .geometry0) (p .geometry1) d in
+    let on-k : ((e : List ℕ) → InDrive 0 (p .geometry0) (λ d. pair (p .geometry0) d (p .geometry1) e)) = λ e. on-0 (p .geometry0) (p .geometry1) e in
+    let on-l : ((d : List ℕ) → InDrive 1 (p .geometry1) (λ e. pair (p .geometry0) d (p .geometry1) e)) = λ d. on-1 (p .geometry0) (p .geometry1) d in
     let g = p .geometry0 in let h = p .geometry1 in let d = p .image0 in let e = p .image1 in
     let r = both-run 0 1 g h put on-k on-l a b d e i i′ t t′ in
     let u = disk.after g a a (disk.start d) (alone xs) .disk in let v = disk.after h b b (disk.start e) (alone ys) .disk in
@@ -355,12 +357,12 @@ apart-01 p a b sound {xs = xs} {ys = ys} i i′ t t′ =
 
 apart-10 : (p : Pair) (a b : Name) → Sound p → {xs ys : List Step} {zs zs′ : List Turn} → Interleaving xs ys zs → Interleaving xs ys zs′
     → Accepted 1 0 a b (start p) zs → Accepted 1 0 a b (start p) zs′
-    → Agree p 1 0 a b xs ys zs (after 1 0 a b (start p) zs) (after 1 0 a b (start p) zs′)
+    → DrivesAgree p 1 0 a b xs ys zs (after 1 0 a b (start p) zs) (after 1 0 a b (start p) zs′)
 unfolding Good
 apart-10 p a b sound {xs = xs} {ys = ys} i i′ t t′ =
     let put : (List ℕ → List ℕ → Pair) = λ d e. pair (p .geometry0) e (p .geometry1) d in
-    let on-k : ((e : List ℕ) → Holds 1 (p .geometry1) (λ d. pair (p .geometry0) e (p .geometry1) d)) = λ e. on-1 (p .geometry0) (p .geometry1) e in
-    let on-l : ((d : List ℕ) → Holds 0 (p .geometry0) (λ e. pair (p .geometry0) e (p .geometry1) d)) = λ d. on-0 (p .geometry0) (p .geometry1) d in
+    let on-k : ((e : List ℕ) → InDrive 1 (p .geometry1) (λ d. pair (p .geometry0) e (p .geometry1) d)) = λ e. on-1 (p .geometry0) (p .geometry1) e in
+    let on-l : ((d : List ℕ) → InDrive 0 (p .geometry0) (λ e. pair (p .geometry0) e (p .geometry1) d)) = λ d. on-0 (p .geometry0) (p .geometry1) d in
     let g = p .geometry1 in let h = p .geometry0 in let d = p .image1 in let e = p .image0 in
     let r = both-run 1 0 g h put on-k on-l a b d e i i′ t t′ in
     let u = disk.after g a a (disk.start d) (alone xs) .disk in let v = disk.after h b b (disk.start e) (alone ys) .disk in

@@ -64,14 +64,14 @@ abbrev pub withImages : Pair → List ℕ → List ℕ → Pair
 withImages p d d′ = pair (p .geometry0) d (p .geometry1) d′
 
 -- the number that a step answers, and both images and the list's side that it leaves
-pub record Answered : Type 0 where
+pub record DriveAnswered : Type 0 where
   pub number : ℕ
   pub drives : Pair
   pub side : DriveSide
 
 -- a step of a list on the file of name n of drive k: every call by name has the number k, and every handle is one that the list opened or created
 -- there; to set a position is no call
-unfoldable pub answer : Pair → ℕ → Name → DriveSide → Step → Answered
+unfoldable pub answer : Pair → ℕ → Name → DriveSide → Step → DriveAnswered
 answer p k n s looksUp = record { number = lookUp p true k n .refusal .number; drives = p; side = s }
 answer p k n s (opens len checking code) =
     let r = openFile p true k n len checking code in record { number = r .refusal .number; drives = p; side = withNew s (r .handle) }
@@ -109,7 +109,7 @@ answer p k n s (kills i) =
     record { number = r .0 .refusal .number; drives = withImages p (r .1) (r .2); side = s }
 
 -- both drives, and what each list has
-pub record World : Type 0 where
+pub record DriveWorld : Type 0 where
   pub drives : Pair
   pub first : DriveSide
   pub second : DriveSide
@@ -117,7 +117,7 @@ pub record World : Type 0 where
 abbrev pub empty : DriveSide
 empty = record { handles = []; heard = [] }
 
-abbrev pub start : Pair → World
+abbrev pub start : Pair → DriveWorld
 start p = record { drives = p; first = empty; second = empty }
 
 -- the handles without their drives
@@ -126,29 +126,29 @@ bare hs = map (λ h. h .handle) hs
 
 -- the first list is on the file of name a of drive k, the second on that of name b of drive l
 module _ (k l : ℕ) (a b : Name) where
-  abbrev pub answered : World → Turn → Answered
+  abbrev pub answered : DriveWorld → Turn → DriveAnswered
   answered w (one c) = answer (w .drives) k a (w .first) c
   answered w (two c) = answer (w .drives) l b (w .second) c
 
-  abbrev pub next : World → Turn → World
+  abbrev pub next : DriveWorld → Turn → DriveWorld
   next w (one c) = let r = answered w (one c) in record { drives = r .drives; first = r .side; second = w .second }
   next w (two c) = let r = answered w (two c) in record { drives = r .drives; first = w .first; second = r .side }
 
-  abbrev pub after : World → List Turn → World
+  abbrev pub after : DriveWorld → List Turn → DriveWorld
   after w [] = w
   after w (t ∷ ts) = after (next w t) ts
 
   -- the call names a handle that its list has, and is accepted
-  abbrev pub Taken : World → Turn → Type 0
+  abbrev pub Taken : DriveWorld → Turn → Type 0
   Taken w (one c) = T (known (bare (w .first .handles)) c) × (answered w (one c) .number ≡ 0)
   Taken w (two c) = T (known (bare (w .second .handles)) c) × (answered w (two c) .number ≡ 0)
 
-  abbrev pub Accepted : World → List Turn → Type 0
+  abbrev pub Accepted : DriveWorld → List Turn → Type 0
   Accepted w [] = Unit {0}
   Accepted w (t ∷ ts) = Taken w t × Accepted (next w t) ts
 
   -- no call takes or gives back a granule or an entry
-  abbrev pub AllQuiet : World → List Turn → Type 0
+  abbrev pub AllQuiet : DriveWorld → List Turn → Type 0
   AllQuiet w [] = Unit {0}
   AllQuiet w (one c ∷ ts) =
       Quiet (geometry (w .drives) k) (fold a) (image (w .drives) k) (image (next w (one c) .drives) k) × AllQuiet (next w (one c)) ts
@@ -164,7 +164,7 @@ abbrev pub driveGrip : DriveHandle → DriveGrip
 driveGrip h = record { drive = h .drive; grip = grip (h .handle) }
 
 -- of the worlds w and w′ at the end of two interleavings of xs and ys, the first of them zs, from the drives p
-pub record Agree (p : Pair) (k l : ℕ) (a b : Name) (xs ys : List Step) (zs : List Turn) (w w′ : World) : Type 0 where
+pub record DrivesAgree (p : Pair) (k l : ℕ) (a b : Name) (xs ys : List Step) (zs : List Turn) (w w′ : DriveWorld) : Type 0 where
   -- both drives hold the same named files
   pub files : (j : ℕ) → IsDrive j → SameFiles (geometry p j) (image (w .drives) j) (image (w′ .drives) j)
   -- every third file, of either drive, is as it was
@@ -188,7 +188,7 @@ Demand3 =
     → ((j : ℕ) → IsDrive j → (fitsGeometry (geometry p j) (image p j) ≡ true) × (consistent (geometry p j) (image p j) ≡ true))
     → (xs ys : List Step) (zs zs′ : List Turn) → Interleaving xs ys zs → Interleaving xs ys zs′
     → Accepted k l a b (start p) zs → Accepted k l a b (start p) zs′
-    → Agree p k l a b xs ys zs (after k l a b (start p) zs) (after k l a b (start p) zs′)
+    → DrivesAgree p k l a b xs ys zs (after k l a b (start p) zs) (after k l a b (start p) zs′)
 
 -- Lists on two drives do not meet: any two interleavings end with the same images, handles and bytes handed back, slots too.
 abbrev pub Apart : Type 0

@@ -17,7 +17,7 @@ use Rattle.drives.specs.Pair.{geometry, image}
 use Rattle.drives.specs.ByName.{openFile, create}
 use Rattle.drives.specs.Cases.{opened, aa, bench}
 use Rattle.promises_drives.specs.Statement.{IsDrive, zeroth, first}
-use Rattle.promises_drives.specs.Interleaved.{writeOf, answer, start, after, Accepted, Agree}
+use Rattle.promises_drives.specs.Interleaved.{writeOf, answer, start, after, Accepted, DrivesAgree}
 use Rattle.promises_drives.specs.Demand3.{demand3, apart}
 
 -- a name that neither disk has
@@ -83,6 +83,6 @@ taken′ : Accepted 0 0 aa dk (start bench) openedLast
 unfolding opened known answer openFile create
 taken′ = ((tt, refl), ((tt, refl), tt))
 
-pub agree : Agree bench 0 0 aa dk ours mine openedFirst (after 0 0 aa dk (start bench) openedFirst) (after 0 0 aa dk (start bench) openedLast)
+pub agree : DrivesAgree bench 0 0 aa dk ours mine openedFirst (after 0 0 aa dk (start bench) openedFirst) (after 0 0 aa dk (start bench) openedLast)
 agree =
     demand3 bench 0 0 zeroth zeroth aa dk (λ e. differ) sound ours mine openedFirst openedLast (left (right none)) (right (left none)) taken taken′

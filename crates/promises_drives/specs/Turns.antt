@@ -38,7 +38,8 @@ use Rattle.drives.specs.declared.DrivePart.{DrivePart}
 use Rattle.promises_drives.specs.Statement.{IsDrive, zeroth, first, OnOne}
 use Rattle.promises_drives.specs.Drive.{on-drive, naming-number}
 use Rattle.promises_drives.specs.Proved.{every-number}
-use Rattle.promises_drives.specs.Interleaved.{DriveSide, readOf, writeOf, handleAt, withNew, withMoved, hearing, withImages, Answered, answer, bare}
+use Rattle.promises_drives.specs.Interleaved.{DriveSide, readOf, writeOf, handleAt, withNew, withMoved, hearing, withImages, DriveAnswered, answer}
+use Rattle.promises_drives.specs.Interleaved.{bare}
 
 -- a list's side on one disk, as its side on drive k
 abbrev pub lift : ℕ → Side → DriveSide

@@ -20,7 +20,7 @@ use Rattle.laws.specs.Named
 use Rattle.promises.specs.Passing
 use Rattle.together.specs.Statement.{Name, Step, Side, handleAt, withMoved, Grip, grip, Turn, Interleaving, World, start, next, after, Taken, Accepted, known}
 use Rattle.together.specs.Statement.{answer, Agree}
-use Rattle.together.specs.State.{State, stateOf, gripAt, stands, effect, Held, Good}
+use Rattle.together.specs.State.{FileState, stateOf, gripAt, stands, effect, Held, Good}
 use Rattle.together.specs.Effects
 use Rattle.together.specs.Interleavings
 use Rattle.together.specs.Interleavings.{Fine, stateIn, swap}
@@ -41,11 +41,11 @@ taleIn x k b =
     record { kind = r .kind; address = r .address; buffer = take (r .count) (drop (r .from) (bytesIn x)) ++ drop (r .count) b }
 
 -- what the load reads of a list tell, one after another
-abbrev tellsOne : State → Mixed.Asks → List Mixed.Tale
+abbrev tellsOne : FileState → Mixed.Asks → List Mixed.Tale
 tellsOne o (Mixed.calls c) = []
 tellsOne o (Mixed.loads i b) = taleIn (o .file) (gripAt o i) b ∷ []
 
-abbrev tellsAll : Geometry → Name → List Mixed.Asks → State → List Mixed.Tale
+abbrev tellsAll : Geometry → Name → List Mixed.Asks → FileState → List Mixed.Tale
 tellsAll g n [] o = []
 tellsAll g n (x ∷ xs) o = tellsOne o x ++ tellsAll g n xs (effect g (fold n) (Mixed.without o x) o)
 
@@ -150,16 +150,17 @@ runs g a b ab (Mixed.Mixed.left {x} {xs} {ys} {zs} m) w p q k t =
     (subst (λ (y : Mixed.Reading). Mixed.AllAdmitted g a b y zs) (u .1) (t .1)) in
     record {
       laid =
-          Interleaving.left (subst (λ (y : State). Interleaving (Mixed.stripped g a xs y) (Mixed.stripped g b ys (stateIn g b (swap w)))
+          Interleaving.left (subst (λ (y : FileState). Interleaving (Mixed.stripped g a xs y) (Mixed.stripped g b ys (stateIn g b (swap w)))
           (Mixed.strippedAll g a b v zs)) e
-          (subst (λ (y : State). Interleaving (Mixed.stripped g a xs (stateIn g a v)) (Mixed.stripped g b ys y) (Mixed.strippedAll g a b v zs)) o (r .laid)));
+          (subst (λ (y : FileState). Interleaving (Mixed.stripped g a xs (stateIn g a v)) (Mixed.stripped g b ys y) (Mixed.strippedAll g a b v zs)) o
+          (r .laid)));
       accepted = (u .0, r .accepted);
       world = ap (λ (y : Mixed.Reading). Mixed.atEnd g a b y zs .world) (u .1) ∙ r .world;
       first′ =
           ap (λ (y : Mixed.Reading). Mixed.atEnd g a b y zs .first) (u .1) ∙ r .first′
           ∙ append-assoc p (tellsOne (stateIn g a w) x) (tellsAll g a xs (stateIn g a v))
-          ∙ ap (λ (y : State). p ++ (tellsOne (stateIn g a w) x ++ tellsAll g a xs y)) e;
-      second′ = ap (λ (y : Mixed.Reading). Mixed.atEnd g a b y zs .second) (u .1) ∙ r .second′ ∙ ap (λ (y : State). q ++ tellsAll g b ys y) o;
+          ∙ ap (λ (y : FileState). p ++ (tellsOne (stateIn g a w) x ++ tellsAll g a xs y)) e;
+      second′ = ap (λ (y : Mixed.Reading). Mixed.atEnd g a b y zs .second) (u .1) ∙ r .second′ ∙ ap (λ (y : FileState). q ++ tellsAll g b ys y) o;
     }
 runs g a b ab (Mixed.Mixed.right {x} {xs} {ys} {zs} m) w p q k t =
     let u = second-turn g a b w p q k x (t .0) in
@@ -171,17 +172,17 @@ runs g a b ab (Mixed.Mixed.right {x} {xs} {ys} {zs} m) w p q k t =
     (subst (λ (y : Mixed.Reading). Mixed.AllAdmitted g a b y zs) (u .1) (t .1)) in
     record {
       laid =
-          Interleaving.right (subst (λ (y : State). Interleaving (Mixed.stripped g a xs (stateIn g a w)) (Mixed.stripped g b ys y)
+          Interleaving.right (subst (λ (y : FileState). Interleaving (Mixed.stripped g a xs (stateIn g a w)) (Mixed.stripped g b ys y)
           (Mixed.strippedAll g a b v zs)) e
-          (subst (λ (y : State). Interleaving (Mixed.stripped g a xs y) (Mixed.stripped g b ys (stateIn g b (swap v))) (Mixed.strippedAll g a b v zs)) o
+          (subst (λ (y : FileState). Interleaving (Mixed.stripped g a xs y) (Mixed.stripped g b ys (stateIn g b (swap v))) (Mixed.strippedAll g a b v zs)) o
           (r .laid)));
       accepted = (u .0, r .accepted);
       world = ap (λ (y : Mixed.Reading). Mixed.atEnd g a b y zs .world) (u .1) ∙ r .world;
-      first′ = ap (λ (y : Mixed.Reading). Mixed.atEnd g a b y zs .first) (u .1) ∙ r .first′ ∙ ap (λ (y : State). p ++ tellsAll g a xs y) o;
+      first′ = ap (λ (y : Mixed.Reading). Mixed.atEnd g a b y zs .first) (u .1) ∙ r .first′ ∙ ap (λ (y : FileState). p ++ tellsAll g a xs y) o;
       second′ =
           ap (λ (y : Mixed.Reading). Mixed.atEnd g a b y zs .second) (u .1) ∙ r .second′
           ∙ append-assoc q (tellsOne (stateIn g b (swap w)) x) (tellsAll g b ys (stateIn g b (swap v)))
-          ∙ ap (λ (y : State). q ++ (tellsOne (stateIn g b (swap w)) x ++ tellsAll g b ys y)) e;
+          ∙ ap (λ (y : FileState). q ++ (tellsOne (stateIn g b (swap w)) x ++ tellsAll g b ys y)) e;
     }
 
 pub demand3-loading : Mixed.Demand3Loading

@@ -16,7 +16,7 @@ use Rattle.meaning.specs.Consistent.{consistent}
 use Rattle.meaning.specs.Plain.{File, Found, found, nothing, plain, isSystem}
 use Rattle.meaning.specs.declared.Geometry.{Geometry}
 use Rattle.together.specs.Statement.{Name, Step, moves, Side, handleAt, withMoved, Grip, Turn, World, start, next, after, Taken, Accepted, Agree}
-use Rattle.together.specs.State.{State, gripAt, effect}
+use Rattle.together.specs.State.{FileState, gripAt, effect}
 use Rattle.together.specs.Interleavings.{stateIn, swap}
 use Rattle.load.specs.Records.{recordFrom}
 use Rattle.load.specs.Load.{loadRecord}
@@ -48,12 +48,12 @@ abbrev pub taleOf : Loaded × List ℕ → Tale
 taleOf r = record { kind = r .0 .kind; address = r .0 .address; buffer = r .1 }
 
 -- the world of demand 3, and what each list was told by its load reads
-pub record Reading : Type 0 where
+pub record ReadingWorld : Type 0 where
   pub world : World
   pub first : List Tale
   pub second : List Tale
 
-abbrev pub begin : List ℕ → Reading
+abbrev pub begin : List ℕ → ReadingWorld
 begin d = record { world = start d; first = []; second = [] }
 
 abbrev pub loading : Geometry → List ℕ → Side → ℕ → List ℕ → Loaded × List ℕ
@@ -68,7 +68,7 @@ abbrev pub Loads : Geometry → Name → List ℕ → Side → ℕ → List ℕ 
 Loads g n d s i b = T (ltb i (length (s .handles))) × (loading g d s i b .0 .refusal .number ≡ 0) × User g n d
 
 module _ (g : Geometry) (a b : Name) where
-  abbrev pub onward : Reading → Move → Reading
+  abbrev pub onward : ReadingWorld → Move → ReadingWorld
   onward r (one (calls c)) = record { world = next g a b (r .world) (Turn.one c); first = r .first; second = r .second }
   onward r (two (calls c)) = record { world = next g a b (r .world) (Turn.two c); first = r .first; second = r .second }
   onward r (one (loads i x)) =
@@ -86,17 +86,17 @@ module _ (g : Geometry) (a b : Name) where
         second = r .second ++ (taleOf l ∷ []);
       }
 
-  abbrev pub atEnd : Reading → List Move → Reading
+  abbrev pub atEnd : ReadingWorld → List Move → ReadingWorld
   atEnd r [] = r
   atEnd r (z ∷ zs) = atEnd (onward r z) zs
 
-  abbrev pub Admits : Reading → Move → Type 0
+  abbrev pub Admits : ReadingWorld → Move → Type 0
   Admits r (one (calls c)) = Taken g a b (r .world) (Turn.one c)
   Admits r (two (calls c)) = Taken g a b (r .world) (Turn.two c)
   Admits r (one (loads i x)) = Loads g a (r .world .disk) (r .world .first) i x
   Admits r (two (loads i x)) = Loads g b (r .world .disk) (r .world .second) i x
 
-  abbrev pub AllAdmitted : Reading → List Move → Type 0
+  abbrev pub AllAdmitted : ReadingWorld → List Move → Type 0
   AllAdmitted r [] = Unit {0}
   AllAdmitted r (z ∷ zs) = Admits r z × AllAdmitted (onward r z) zs
 
@@ -106,12 +106,12 @@ nextIn nothing k = recordFrom [] (k .at)
 nextIn (found f) k = recordFrom (f .bytes) (k .at)
 
 -- the step that a load read runs as: its handle's position is set to the place behind the record
-abbrev pub without : State → Asks → Step
+abbrev pub without : FileState → Asks → Step
 without o (calls c) = c
 without o (loads i x) = moves i (nextIn (o .file) (gripAt o i) .next)
 
 -- a list without its load reads
-abbrev pub stripped : Geometry → Name → List Asks → State → List Step
+abbrev pub stripped : Geometry → Name → List Asks → FileState → List Step
 stripped g n [] o = []
 stripped g n (x ∷ xs) o = without o x ∷ stripped g n xs (effect g (fold n) (without o x) o)
 
@@ -127,7 +127,7 @@ module _ (g : Geometry) (a b : Name) where
 
 -- Any two interleavings in which every call is accepted, and every load read is of no system file, agree as demand 3 says of the lists without
 -- their load reads; and each list was told the same by its load reads.
-pub record AgreeLoading (g : Geometry) (a b : Name) (d : List ℕ) (xs ys : List Asks) (zs : List Move) (r r′ : Reading) : Type 0 where
+pub record AgreeLoading (g : Geometry) (a b : Name) (d : List ℕ) (xs ys : List Asks) (zs : List Move) (r r′ : ReadingWorld) : Type 0 where
   pub agree : Agree g a b d (stripped g a xs (stateIn g a (start d))) (stripped g b ys (stateIn g b (swap (start d))))
       (strippedAll g a b (start d) zs) (r .world) (r′ .world)
   pub told : (r .first ≡ r′ .first) × (r .second ≡ r′ .second)

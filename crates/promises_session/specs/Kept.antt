@@ -22,9 +22,9 @@ use Rattle.play_trace.specs.Bits.{bits}
 use Rattle.play_trace.specs.Reading.{Trace, Reading, reads, badAt, readTrace, tell, stepsOf, namesOf}
 use Rattle.play_trace.specs.declared.Checked.{Checked}
 use Rattle.promises_trace.specs.First.{FirstFault}
-use Rattle.promises_trace.specs.Promises.{Reads, reads-if, reads-only-if, refused-if, refused-only-if, place-only-if, calls-told, in-range}
+use Rattle.promises_trace.specs.Promises.{TraceReads, reads-if, reads-only-if, refused-if, refused-only-if, place-only-if, calls-told, in-range}
 use Rattle.play_session.specs.Playing.{played, playRefusals, play}
-use Rattle.promises_session.specs.Statement.{playTable, Plays, Placed, EveryPlay, EveryState}
+use Rattle.promises_session.specs.Statement.{playTable, Plays, FaultPlaced, EveryPlay, EveryState}
 use Rattle.promises_session.specs.Staying.{played-stays, fit-take}
 
 -- what the check of a trace tells, and what it has been read as
@@ -43,23 +43,23 @@ well-reads (badAt p) e = no-true e
 
 module _ (t : List ℕ) (b : AreBytes t) where
   -- 14
-  malformed-iff : T (not (tell (readTrace t) .well)) ↔ ((r : Trace) → Reads t r → ⊥)
+  malformed-iff : T (not (tell (readTrace t) .well)) ↔ ((r : Trace) → TraceReads t r → ⊥)
   unfolding tell
   malformed-iff = by (readTrace t) refl
     where
-      by : (r : Reading Trace) → readTrace t ≡ r → T (not (tell r .well)) ↔ ((r : Trace) → Reads t r → ⊥)
+      by : (r : Reading Trace) → readTrace t ≡ r → T (not (tell r .well)) ↔ ((r : Trace) → TraceReads t r → ⊥)
       by (reads x) e = (λ z. absurd z, λ none. none x (reads-only-if t x b e))
       by (badAt p) e = (λ z. refused-only-if t p e, λ none. tt)
 
   -- 15
-  full-iff : (room : ℕ) → T (ltb room (tell (readTrace t) .calls)) ↔ ((r : Trace) × Reads t r × (room < length (r .steps)))
+  full-iff : (room : ℕ) → T (ltb room (tell (readTrace t) .calls)) ↔ ((r : Trace) × TraceReads t r × (room < length (r .steps)))
   unfolding tell
   full-iff room = by (readTrace t) refl
     where
       same : (x y : Trace) → reads x ≡ reads y → length (x .steps) ≡ length (y .steps)
       same x y e = ap (λ (r : Reading Trace). length (stepsOf r)) e
 
-      by : (r : Reading Trace) → readTrace t ≡ r → T (ltb room (tell r .calls)) ↔ ((r : Trace) × Reads t r × (room < length (r .steps)))
+      by : (r : Reading Trace) → readTrace t ≡ r → T (ltb room (tell r .calls)) ↔ ((r : Trace) × TraceReads t r × (room < length (r .steps)))
       by (reads x) e = (
         λ z. (x, reads-only-if t x b e, ltb→lt room (length (x .steps)) z),
         λ y. lt→ltb room (length (x .steps)) (omega (arith, same x (y .0) (sym e ∙ reads-if t (y .0) (y .1)), y .2)),
@@ -114,7 +114,7 @@ module _ (g : Geometry) (d t rs : List ℕ) (b : AreBytes t) where
   here : play g d t rs .0 .refusal .number ≡ 14 → (p : ℕ) × (readTrace t ≡ badAt p)
   here e = refused-if t b (numbers .1 .1 .1 .1 .1 .1 .1 .1 .1 .1 .1 .0 .0 e .1)
 
-  placed : Placed g d t rs
+  placed : FaultPlaced g d t rs
   unfolding play tell
   placed = record { place = λ e. at e (here e); small = below (readTrace t); none = λ k. (rw (ne-eqb _ 14 k), rw (ne-eqb _ 14 k)) }
     where

@@ -11,11 +11,11 @@ use Rattle.play_trace.specs.Bits.{bitsOf, bits, field, AreBits, field-small, fi
 use Rattle.play_trace.specs.Steps.{Field, theOperation, theFile, thePosition, theLength, theFill, theZero, fields, widthOf, startOf, valueOf, good, firstBad}
 use Rattle.play_trace.specs.Steps.{numbersOf, endMark, stepOf}
 use Rattle.play_trace.specs.Reading.{Trace, Reading, reads, badAt, onRead, fieldsFrom, namesFrom, callStart, numbersAt, readCalls, readBits, wholeCalls}
-use Rattle.play_trace.specs.Packing.{callBits, stepsBits, namesBits, packBits, AreNames, StepFits, StepsFit, InRange, IsReading}
+use Rattle.play_trace.specs.Packing.{callBits, stepsBits, namesBits, packBits, AreNames, StepFits, StepsFit, TraceFits, IsReading}
 use Rattle.play_trace.specs.declared.Step.{Step}
 use Rattle.play_trace.specs.declared.Numbers.{Numbers}
 use Rattle.play_trace.proofs.Calls.{calls-none}
-use Rattle.play_trace.proofs.Front.{Opens, withNames, Front, none, few, many, cut, calls, front, Turn, bad, end, on, turn}
+use Rattle.play_trace.proofs.Front.{NamesThere, withNames, Front, none, few, many, cut, calls, front, Turn, bad, end, on, turn}
 use Rattle.play_trace.proofs.Found.{bad-reads, length-names}
 use Rattle.promises_trace.specs.Call.{NumbersFit, are-those, all-good, file-below, end-only, numbers-back}
 
@@ -132,7 +132,7 @@ module _ (bs : List ℕ) (h : AreBits bs) (n : ℕ) where
 
 -- the whole
 module _ (bs : List ℕ) (h : AreBits bs) where
-  whole : (n : ℕ) (ss : List Step) → Opens bs n → Packed bs n (callStart n 0) ss → IsReading bs (withNames (namesFrom bs 8 n) ss)
+  whole : (n : ℕ) (ss : List Step) → NamesThere bs n → Packed bs n (callStart n 0) ss → IsReading bs (withNames (namesFrom bs 8 n) ss)
   unfolding packBits
   whole n ss o r =
       let l : length (namesFrom bs 8 n) ≡ n = length-names bs 8 n in
@@ -167,7 +167,8 @@ module _ (bs : List ℕ) (h : AreBits bs) where
       inside : (n k : ℕ) → k ≡ wholeCalls bs n → callStart n 0 ≤ length bs → callStart n 0 + 56 * k ≤ length bs
       inside n k e l = omega arith
 
-      inner : (n : ℕ) → Opens bs n → (c : Reading (List Step)) → readCalls bs n (wholeCalls bs n) 0 ≡ c → onRead (withNames (namesFrom bs 8 n)) c ≡ reads t →
+      inner : (n : ℕ) → NamesThere bs n → (c : Reading (List Step)) → readCalls bs n (wholeCalls bs n) 0 ≡ c → onRead (withNames (namesFrom bs 8 n)) c ≡ reads
+          t →
           IsReading bs t
       inner n o (badAt p) q e = absurd (bad-reads e)
       inner n o (reads ss) q e =

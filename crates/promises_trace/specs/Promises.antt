@@ -1,6 +1,6 @@
 -- What is promised of a trace, for every list of bytes.
 --
--- A reading of a trace is names and steps in range whose packed bytes are the trace's beginning (Reads). Then:
+-- A reading of a trace is names and steps in range whose packed bytes are the trace's beginning (TraceReads). Then:
 --   read-packed, later-not-read   what was packed is read, whatever follows it
 --   reads-if, reads-only-if       reading gives names and steps exactly if they are a reading
 --   at-most-one                   there is at most one
@@ -19,7 +19,7 @@ use Rattle.play_trace.specs.Bits.{bitsOf, number, bits, bytesOf, AreBits, lengt
 use Rattle.play_trace.specs.Bits.{bits-bytesOf, there-and-back}
 use Rattle.play_trace.specs.Steps.{Field, fields, widthOf, valueOf, numbersOf, endMark, noStep}
 use Rattle.play_trace.specs.Reading.{Trace, Reading, reads, badAt, readBits, readTrace, wellWith, faultAt, tell, stepsOf, namesOf}
-use Rattle.play_trace.specs.Packing.{fieldBits, callBits, stepsBits, namesBits, packBits, pack, AreNames, StepFits, StepsFit, InRange, IsReading}
+use Rattle.play_trace.specs.Packing.{fieldBits, callBits, stepsBits, namesBits, packBits, pack, AreNames, StepFits, StepsFit, TraceFits, IsReading}
 use Rattle.play_trace.specs.declared.Step.{Step}
 use Rattle.play_trace.specs.declared.Numbers.{Numbers}
 use Rattle.play_trace.proofs.Found.{bad-reads}
@@ -29,8 +29,8 @@ use Rattle.promises_trace.specs.Back.{sound}
 use Rattle.promises_trace.specs.First.{FirstFault, told-first, first-told}
 
 -- names and steps in range, of which the trace's bytes are the packed ones and any others behind them
-pub record Reads (d : List ℕ) (t : Trace) : Type 0 where
-  pub inRange : InRange t
+pub record TraceReads (d : List ℕ) (t : Trace) : Type 0 where
+  pub inRange : TraceFits t
   pub later : List ℕ
   pub begins : d ≡ pack t ++ later
 
@@ -58,7 +58,7 @@ bits-pack t =
     (bits-join (namesBits (t .names)) (stepsBits (t .steps)) (bits-names (t .names)) (bits-steps (t .steps)))
 
 -- so many bytes: one, eleven a name, seven a call and seven for the end mark
-pub length-packBits : (t : Trace) → InRange t → length (packBits t) ≡ 8 * (1 + 11 * length (t .names) + 7 * (length (t .steps) + 1))
+pub length-packBits : (t : Trace) → TraceFits t → length (packBits t) ≡ 8 * (1 + 11 * length (t .names) + 7 * (length (t .steps) + 1))
 unfolding packBits
 length-packBits t h =
     length-append (bitsOf 8 (length (t .names))) (namesBits (t .names) ++ stepsBits (t .steps))
@@ -70,21 +70,21 @@ length-packBits t h =
       length-steps (t .steps),
     )
 
-whole-bytes : (t : Trace) → InRange t → length (packBits t) ≡ 8 * (length (packBits t) / 8)
+whole-bytes : (t : Trace) → TraceFits t → length (packBits t) ≡ 8 * (length (packBits t) / 8)
 whole-bytes t h = let e = length-packBits t h in omega arith
 
-pub bits-of-pack : (t : Trace) → InRange t → bits (pack t) ≡ packBits t
+pub bits-of-pack : (t : Trace) → TraceFits t → bits (pack t) ≡ packBits t
 unfolding pack
 bits-of-pack t h = bits-bytesOf (length (packBits t) / 8) (packBits t) (whole-bytes t h) (bits-pack t)
 
 -- What was packed is read, whatever follows it.
 
-pub later-not-read : (t : Trace) (later : List ℕ) → InRange t → readTrace (pack t ++ later) ≡ reads t
+pub later-not-read : (t : Trace) (later : List ℕ) → TraceFits t → readTrace (pack t ++ later) ≡ reads t
 unfolding readTrace
 later-not-read t later h =
     ap readBits (bits-append (pack t) later ∙ ap (λ (x : List ℕ). x ++ bits later) (bits-of-pack t h)) ∙ complete t (bits later) h
 
-pub read-packed : (t : Trace) → InRange t → readTrace (pack t) ≡ reads t
+pub read-packed : (t : Trace) → TraceFits t → readTrace (pack t) ≡ reads t
 unfolding readTrace
 read-packed t h = ap readBits (bits-of-pack t h ∙ sym (append-nil (packBits t))) ∙ complete t [] h
 
@@ -108,7 +108,7 @@ bytes-take (suc n) (b ∷ d) l h =
     let r : drop 8 (bitsOf 8 b ++ bits d) ≡ bits d = drop-at (bitsOf 8 b) (bits d) 8 (length-bitsOf 8 b) in
     (λ i. number (t i) ∷ bytesOf n (r i)) ∙ (λ i. there-and-back 8 b (h .below 0) i ∷ bytes-take n d (omega arith) (small-rest h) i)
 
-pub reads-only-if : (d : List ℕ) (t : Trace) → AreBytes d → readTrace d ≡ reads t → Reads d t
+pub reads-only-if : (d : List ℕ) (t : Trace) → AreBytes d → readTrace d ≡ reads t → TraceReads d t
 unfolding readTrace pack
 reads-only-if d t h e =
     let r = sound (bits d) (bits-bits d) t e in
@@ -119,7 +119,7 @@ reads-only-if d t h e =
     = sym (bytes-take n d l (bytes-small d h)) ∙ ap (bytesOf n) (r .begins) ∙ bytes-front n (packBits t) (r .later) w in
     record { inRange = r .inRange; later = drop n d; begins = sym (take-append-drop n d) ∙ ap (λ (x : List ℕ). x ++ drop n d) p }
 
-pub reads-if : (d : List ℕ) (t : Trace) → Reads d t → readTrace d ≡ reads t
+pub reads-if : (d : List ℕ) (t : Trace) → TraceReads d t → readTrace d ≡ reads t
 reads-if d t r = ap readTrace (r .begins) ∙ later-not-read t (r .later) (r .inRange)
 
 -- There is at most one.
@@ -127,15 +127,15 @@ reads-if d t r = ap readTrace (r .begins) ∙ later-not-read t (r .later) (r .in
 same-reads : {t u : Trace} → reads t ≡ reads u → t ≡ u
 same-reads e = cc
 
-pub at-most-one : (d : List ℕ) (t u : Trace) → Reads d t → Reads d u → t ≡ u
+pub at-most-one : (d : List ℕ) (t u : Trace) → TraceReads d t → TraceReads d u → t ≡ u
 at-most-one d t u a b = same-reads (sym (reads-if d t a) ∙ reads-if d u b)
 
 -- A trace is bad exactly if it has none.
 
-pub refused-only-if : (d : List ℕ) (p : ℕ) → readTrace d ≡ badAt p → (t : Trace) → Reads d t → ⊥
+pub refused-only-if : (d : List ℕ) (p : ℕ) → readTrace d ≡ badAt p → (t : Trace) → TraceReads d t → ⊥
 refused-only-if d p e t r = bad-reads (sym e ∙ reads-if d t r)
 
-pub refused-if : (d : List ℕ) → AreBytes d → ((t : Trace) → Reads d t → ⊥) → (p : ℕ) × (readTrace d ≡ badAt p)
+pub refused-if : (d : List ℕ) → AreBytes d → ((t : Trace) → TraceReads d t → ⊥) → (p : ℕ) × (readTrace d ≡ badAt p)
 refused-if d h none = by (readTrace d) refl
   where
     by : (r : Reading Trace) → readTrace d ≡ r → (p : ℕ) × (readTrace d ≡ badAt p)
@@ -199,7 +199,7 @@ step-in n i [] h l = absurd (let q : ⊥ = omega arith in q)
 step-in n zero (s ∷ ss) h l = h .0
 step-in n (suc i) (s ∷ ss) h l = step-in n i ss (h .1) (omega arith)
 
-pub in-range : (d : List ℕ) (t : Trace) → readTrace d ≡ reads t → InRange t
+pub in-range : (d : List ℕ) (t : Trace) → readTrace d ≡ reads t → TraceFits t
 unfolding readTrace
 in-range d t e = sound (bits d) (bits-bits d) t e .inRange
 

@@ -9,11 +9,11 @@ use Rattle.play_trace.specs.Bits.{bitsOf, bits, field, length-bitsOf, length-bi
 use Rattle.play_trace.specs.Steps.{Field, theOperation, theFile, thePosition, theLength, theFill, theZero, fields, widthOf, valueOf, firstBad, numbersFor}
 use Rattle.play_trace.specs.Steps.{numbersOf, endMark, stepOf}
 use Rattle.play_trace.specs.Reading.{Trace, Reading, reads, badAt, onRead, fieldsFrom, namesFrom, callStart, numbersAt, readCalls, readBits, wholeCalls}
-use Rattle.play_trace.specs.Packing.{callBits, stepsBits, namesBits, packBits, AreNames, StepFits, StepsFit, InRange, IsReading}
+use Rattle.play_trace.specs.Packing.{callBits, stepsBits, namesBits, packBits, AreNames, StepFits, StepsFit, TraceFits, IsReading}
 use Rattle.play_trace.specs.declared.Step.{Step}
 use Rattle.play_trace.specs.declared.Numbers.{Numbers}
 use Rattle.play_trace.proofs.Calls.{calls-end, calls-on}
-use Rattle.play_trace.proofs.Front.{Opens, withNames, bits-calls}
+use Rattle.play_trace.proofs.Front.{NamesThere, withNames, bits-calls}
 use Rattle.promises_trace.specs.Call.{length-callBits, found-again, step-back, step-good, step-no-end, end-good, end-fits}
 
 -- the calls
@@ -87,7 +87,7 @@ names-there (x ∷ ns) pre later p l h =
     λ i. f i ∷ r i
 
 -- the whole
-pub complete : (t : Trace) (later : List ℕ) → InRange t → readBits (packBits t ++ later) ≡ reads t
+pub complete : (t : Trace) (later : List ℕ) → TraceFits t → readBits (packBits t ++ later) ≡ reads t
 unfolding packBits
 complete t later h =
     let ns = t .names in
@@ -105,7 +105,7 @@ complete t later h =
     in
     let f : field bs 0 8 ≡ n
     = ap (λ (x : List ℕ). field x 0 8) c ∙ field-front (bitsOf 8 n) _ 8 (length-bitsOf 8 n) ∙ there-and-back 8 n (omega (arith, h .few)) in
-    let o : Opens bs n = record { counted = omega (arith, w); count = f; some = h .some; few = h .few; there = omega (arith, w) } in
+    let o : NamesThere bs n = record { counted = omega (arith, w); count = f; some = h .some; few = h .few; there = omega (arith, w) } in
     let k : wholeCalls bs n ≡ suc (length ss) + (wholeCalls bs n - suc (length ss)) = enough n (length ss) (length later) (length bs) w in
     let a : namesFrom bs 8 n ≡ ns = ap (λ (x : List ℕ). namesFrom x 8 n) c ∙ names-there ns (bitsOf 8 n) (stepsBits ss ++ later) 8 (length-bitsOf 8 n)
     (h .names) in

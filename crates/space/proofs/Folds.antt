@@ -153,18 +153,18 @@ module _ (g : Geometry) where
       sym (f .rest ∙ ap (λ (l : List ℕ). through (freeGranule g) d′ (each (entryGranules g d) l)) (chain-none g d left at (omega arith)))
 
   -- two images whose directories are of one length and whose entries differ in byte 00 only
-  pub record Kept (d d′ : List ℕ) : Type 0 where
+  pub record KeptFields (d d′ : List ℕ) : Type 0 where
     pub long : length d′ ≡ length d
     pub sectors : directorySectors g d′ ≡ directorySectors g d
     pub fields : (x k : ℕ) → Slot g d x → 1 ≤ k → k < 32 → field g d′ x k ≡ field g d x k
 
-  pub kept-room : {d d′ : List ℕ} → Room g d → Kept d d′ → Room g d′
+  pub kept-room : {d d′ : List ℕ} → Room g d → KeptFields d d′ → Room g d′
   kept-room {d} {d′} r e = room-kept g d d′ (e .long) (e .sectors) r
 
-  pub kept-slot : {d d′ : List ℕ} {s : ℕ} → Kept d d′ → Slot g d s → Slot g d′ s
+  pub kept-slot : {d d′ : List ℕ} {s : ℕ} → KeptFields d d′ → Slot g d s → Slot g d′ s
   kept-slot {d} {d′} e sl = slot-kept g d d′ (e .sectors) sl
 
-  kept-trans : {d d′ d″ : List ℕ} → Kept d d′ → Kept d′ d″ → Kept d d″
+  kept-trans : {d d′ d″ : List ℕ} → KeptFields d d′ → KeptFields d′ d″ → KeptFields d d″
   kept-trans e f =
       record {
         long = f .long ∙ e .long;
@@ -193,7 +193,7 @@ module _ (g : Geometry) where
       let l = sl .low in let m = xl .low in
       kill-other d s (entryAt g x + k) (λ z. omega arith) (λ z. omega arith)
 
-  kept-kill : (d : List ℕ) (s : ℕ) → Room g d → Slot g d s → Kept d (killEntry g d s)
+  kept-kill : (d : List ℕ) (s : ℕ) → Room g d → Slot g d s → KeptFields d (killEntry g d s)
   kept-kill d s r sl = record { long = kill-long d s; sectors = kill-sectors d s r sl; fields = λ x k xl a b. kill-field d s x k sl xl a b }
 
   chain-cons : (d : List ℕ) (left s : ℕ) → (left ≡ 0 → ⊥) → chainFrom g d left s ≡ s ∷ onward g d (left - 1) s
@@ -203,7 +203,7 @@ module _ (g : Geometry) where
 
   pub record Clearing (d : List ℕ) (most s : ℕ) (d′ : List ℕ) (at left : ℕ) : Type 0 where
     pub rest : through (killEntry g) d (chainFrom g d most s) ≡ through (killEntry g) d′ (chainFrom g d left at)
-    pub kept : Kept d d′
+    pub kept : KeptFields d d′
     pub used : Used g d at
 
   pub clearing-start : (d : List ℕ) (most s : ℕ) → Used g d s → Clearing d most s d s most

@@ -12,7 +12,7 @@ use Rattle.meaning.specs.declared.Geometry.{Geometry}
 use Rattle.laws.specs.Facts
 use Rattle.together.specs.Statement.{Name, Step, Turn, one, two, Interleaving, none, left, right, AllBring, World, start, next, after, Taken, Accepted}
 use Rattle.together.specs.Statement.{Quiet, AllQuiet, Same, Demand3}
-use Rattle.together.specs.State.{State, stands, effect, Good}
+use Rattle.together.specs.State.{FileState, stands, effect, Good}
 use Rattle.together.specs.Interleavings
 use Rattle.together.specs.Interleavings.{Fine, swap, stateIn}
 use Rattle.together.specs.Heard
@@ -25,7 +25,7 @@ use Rattle.together.specs.Bytes.{Evenly}
 -- Whether a call takes or gives back something hangs on its own list alone ---------------------------------------------------
 
 -- no call of the list, from that state on, changes whether there is a file and how many granules it owns
-unfoldable Evens : Geometry → Name → List Step → State → Type 0
+unfoldable Evens : Geometry → Name → List Step → FileState → Type 0
 Evens g n [] o = Unit {0}
 Evens g n (c ∷ cs) o = (tally (effect g n c o .file) ≡ tally (o .file)) × Evens g n cs (effect g n c o)
 
@@ -63,7 +63,7 @@ module _ (g : Geometry) (a b : Name) where
   evenly-list ab none w k t = tt
   evenly-list ab (left {x = c} {xs = xs} i) w k t =
       let v = next g a b w (one c) in let e = Interleavings.own-turn g a b w c k (t .0 .0) in (
-        even-stands g (fold a) (w .disk) (v .disk) (effect g (fold a) c (stateIn g a w) .file) (ap (λ (o : State). o .file) e) (t .0 .1),
+        even-stands g (fold a) (w .disk) (v .disk) (effect g (fold a) c (stateIn g a w) .file) (ap (λ (o : FileState). o .file) e) (t .0 .1),
         subst (Evens g (fold a) xs) e (evenly-list ab i v (Interleavings.fine-next g a b w (one c) k (t .0 .0)) (t .1)),
       )
   evenly-list ab (right {y = c} {xs = xs} i) w k t =
@@ -77,7 +77,7 @@ list-turn : (g : Geometry) (a b : Name) (w : World) (c : Step) (xs : List Step) 
 unfolding Evens
 list-turn g a b w c xs k t x =
     let e = Interleavings.own-turn g a b w c k t in (
-      stands-even g (fold a) (w .disk) (next g a b w (one c) .disk) (effect g (fold a) c (stateIn g a w) .file) (ap (λ (o : State). o .file) e) (x .0),
+      stands-even g (fold a) (w .disk) (next g a b w (one c) .disk) (effect g (fold a) c (stateIn g a w) .file) (ap (λ (o : FileState). o .file) e) (x .0),
       subst
           (Evens g (fold a) xs) (sym e) (x .1),
     )
@@ -174,12 +174,12 @@ demand3 g a b ab d fit con xs ys zs zs′ i i′ t t′ =
             (fine g a b ab d k i i′ t t′) t′ .good .1,
       );
       heard = λ u p q. (first-heard g a b ab d k i i′ t t′ u p q, second-heard g a b ab d k i i′ t t′ u p q);
-      handles = (ap (λ (o : State). o .grips) first′, ap (λ (o : State). o .grips) second′);
+      handles = (ap (λ (o : FileState). o .grips) first′, ap (λ (o : FileState). o .grips) second′);
     }
   where
     everywhere : stateIn g a (after g a b (start d) zs) ≡ stateIn g a (after g a b (start d) zs′) → stateIn g b (swap (after g a b (start d) zs)) ≡ stateIn g
         b (swap (after g a b (start d) zs′))
         → (n : Name) → Dec (n ≡ fold a) → Dec (n ≡ fold b) → stands g (after g a b (start d) zs .disk) n ≡ stands g (after g a b (start d) zs′ .disk) n
-    everywhere p q n (yes e) r = rw e (ap (λ (o : State). o .file) p)
-    everywhere p q n (no e) (yes r) = rw r (ap (λ (o : State). o .file) q)
+    everywhere p q n (yes e) r = rw e (ap (λ (o : FileState). o .file) p)
+    everywhere p q n (no e) (yes r) = rw r (ap (λ (o : FileState). o .file) q)
     everywhere p q n (no e) (no r) = third-same g a b ab d (fit, con) i i′ t t′ n e r zs t ∙ sym (third-same g a b ab d (fit, con) i i′ t t′ n e r zs′ t′)

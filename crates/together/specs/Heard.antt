@@ -23,7 +23,7 @@ use Rattle.promises.specs.Staying
 use Rattle.together.specs.Statement.{Name, Step, looksUp, opens, creates, moves, reads, readsSector, writes, allots, trims, kills, Side, Brings}
 use Rattle.together.specs.Statement.{AllBring, known, answer, kept, handleAt, manyBy, Grip, grip, Turn, one, two, Interleaving, none, left, right}
 use Rattle.together.specs.Statement.{World, next, after, Accepted}
-use Rattle.together.specs.State.{State, stateOf, gripAt, stands, effect, Held, Good}
+use Rattle.together.specs.State.{FileState, stateOf, gripAt, stands, effect, Held, Good}
 use Rattle.together.specs.Effects
 use Rattle.together.specs.Interleavings
 use Rattle.together.specs.Interleavings.{Fine, stateIn}
@@ -50,7 +50,7 @@ abbrev sectorOf : ℕ → List ℕ → List ℕ
 sectorOf k bytes = take 256 (drop (256 * k) bytes)
 
 -- what a call hands back
-pub hears : Step → State → List (List ℕ)
+pub hears : Step → FileState → List (List ℕ)
 hears looksUp o = []
 hears (opens len checking code) o = []
 hears (creates f checking) o = []
@@ -63,7 +63,7 @@ hears (trims i) o = []
 hears (kills i) o = []
 
 -- what the calls of a list hand back, one after another
-abbrev pub hearsAll : Geometry → Name → List Step → State → List (List ℕ)
+abbrev pub hearsAll : Geometry → Name → List Step → FileState → List (List ℕ)
 hearsAll g n [] o = []
 hearsAll g n (c ∷ cs) o = hears c o ++ hearsAll g n cs (effect g n c o)
 
@@ -132,10 +132,10 @@ end-heard g a b ab none w k t u p q = sym (append-nil (w .first .heard))
 end-heard g a b ab (left {x = c} {xs = xs} i) w k t u p q =
     let v = next g a b w (one c) in
     end-heard g a b ab i v (Interleavings.fine-next g a b w (one c) k (t .0)) (t .1) (call-bytes g a (w .disk) (w .first) c (k .good) u (p .0)) (p .1) q
-    ∙ ap₂ (λ (x : List (List ℕ)) (o : State). x ++ hearsAll g (fold a) xs o) (call-heard g a (w .disk) (w .first) c (k .first′) u (t .0 .0) (t .0 .1))
+    ∙ ap₂ (λ (x : List (List ℕ)) (o : FileState). x ++ hearsAll g (fold a) xs o) (call-heard g a (w .disk) (w .first) c (k .first′) u (t .0 .0) (t .0 .1))
     (Interleavings.own-turn g a b w c k (t .0))
     ∙ append-assoc (w .first .heard) (hears c (stateIn g a w)) (hearsAll g (fold a) xs (effect g (fold a) c (stateIn g a w)))
 end-heard g a b ab (right {y = c} {xs = xs} i) w k t u p q =
     let v = next g a b w (two c) in
     end-heard g a b ab i v (Interleavings.fine-next g a b w (two c) k (t .0)) (t .1) (call-bytes g b (w .disk) (w .second) c (k .good) u (q .0)) p (q .1)
-    ∙ ap (λ (o : State). w .first .heard ++ hearsAll g (fold a) xs o) (Interleavings.other-turn g a b ab w c k (t .0))
+    ∙ ap (λ (o : FileState). w .first .heard ++ hearsAll g (fold a) xs o) (Interleavings.other-turn g a b ab w c k (t .0))

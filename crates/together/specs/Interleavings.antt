@@ -6,7 +6,7 @@ use Prim.Native.Nat.{ℕ}
 use Rattle.meaning.specs.Names.{fold}
 use Rattle.meaning.specs.declared.Geometry.{Geometry}
 use Rattle.together.specs.Statement.{Name, Step, Turn, one, two, Interleaving, none, left, right, World, start, next, after, Taken, Accepted}
-use Rattle.together.specs.State.{State, stateOf, stands, effect, effects, Held, Good}
+use Rattle.together.specs.State.{FileState, stateOf, stands, effect, effects, Held, Good}
 use Rattle.together.specs.Effects
 use Rattle.together.specs.Effects.{Effect}
 
@@ -52,7 +52,7 @@ pub swap-fine : (g : Geometry) (a b : Name) (w : World) → Fine g a b w → Fin
 swap-fine g a b w k = record { good = k .good; first′ = k .second′; second′ = k .first′ }
 
 -- the first list's file and handles
-abbrev pub stateIn : Geometry → Name → World → State
+abbrev pub stateIn : Geometry → Name → World → FileState
 stateIn g a w = stateOf g (fold a) (w .disk) (w .first .handles)
 
 -- a turn, by the list whose it is

@@ -19,7 +19,7 @@ use Rattle.meaning.specs.declared.NewFile.{NewFile}
 use Rattle.together.specs.Statement.{Name, Step, looksUp, opens, creates, moves, reads, readsSector, writes, allots, trims, kills, Grip, grip}
 
 -- a list's file, a system file's bytes apart, and its handles, slots apart
-pub record State : Type 0 where
+pub record FileState : Type 0 where
   pub file : Found
   pub grips : List Grip
 
@@ -27,16 +27,16 @@ pub record State : Type 0 where
 unfoldable pub stands : Geometry → List ℕ → Name → Found
 stands g d n = hush (plain g d n)
 
-abbrev pub stateOf : Geometry → Name → List ℕ → List Handle → State
+abbrev pub stateOf : Geometry → Name → List ℕ → List Handle → FileState
 stateOf g n d hs = record { file = stands g d n; grips = map grip hs }
 
-abbrev pub gripAt : State → ℕ → Grip
+abbrev pub gripAt : FileState → ℕ → Grip
 gripAt o i = getD (o .grips) i (grip noHandle)
 
 abbrev pub atPlace : Grip → ℕ → Grip
 atPlace k at = record { name = k .name; at = at; len = k .len; level = k .level }
 
-abbrev pub placed : State → ℕ → ℕ → List Grip
+abbrev pub placed : FileState → ℕ → ℕ → List Grip
 placed o i at = set (o .grips) i (atPlace (gripAt o i) at)
 
 unfoldable pub changed : (File → File) → Found → Found
@@ -54,10 +54,10 @@ levelOf g checking code (found f) =
     let main = getD (f .attributes) 4 0 + 256 * getD (f .attributes) 5 0 in
     cond (any (not checking ∷ eqb main (g .noPassword) ∷ eqb code main ∷ [])) 0 (getD (f .attributes) 0 0 % 8)
 
-abbrev pub opened : State → Name → ℕ → ℕ → List Grip
+abbrev pub opened : FileState → Name → ℕ → ℕ → List Grip
 opened o n len level = o .grips ++ (record { name = n; at = 0; len = len; level = level } ∷ [])
 
-unfoldable pub effect : Geometry → Name → Step → State → State
+unfoldable pub effect : Geometry → Name → Step → FileState → FileState
 effect g n looksUp o = o
 effect g n (opens len checking code) o =
     record { file = o .file; grips = opened o n len (levelOf g checking code (o .file)) }
@@ -75,7 +75,7 @@ effect g n (trims i) o = record { file = changed (trimmed g) (o .file); grips = 
 effect g n (kills i) o = record { file = nothing; grips = o .grips }
 
 -- the calls of a list, one after another
-abbrev pub effects : Geometry → Name → List Step → State → State
+abbrev pub effects : Geometry → Name → List Step → FileState → FileState
 effects g n [] o = o
 effects g n (c ∷ cs) o = effects g n cs (effect g n c o)
 

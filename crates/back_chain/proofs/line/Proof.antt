@@ -77,12 +77,14 @@ loop-again : tie.Need-loop-again Inv-loop μ-loop
 loop-again c = (
   length-set (c .before .before .before .before .before .before .before .before .before .before .loop .entries)
       (c .before .before .before .before .before .before .before .before .before .before .loop .n)
-      (c .before .before .before .before .before .before .before .before .before .before .loop .at) ∙ c .before .before .before .before .before .before .before
+      (c .before .before .before .before .before .before .before .before .before .before .loop .at) ∙ c .before .before .before .before .before .before
+      .before
       .before .before .before .loop .inv .0,
   lining-more _ _ (c .before .before .before .before .before .before .before .before .before .before .loop .inv .1)
       (let q = c .before .before .before .before .before .before .before .before .before .before .loop .inv .0 in omega arith)
       (c .before .before .before .before .before .before .before .before .before .loop-test .taken)
-      (c .before .before .before .before .before .before .visit .ensures) (c .before .before .before .before .if1 .left) (c .before .before .field .ensures .is)
+      (c .before .before .before .before .before .before .visit .ensures) (c .before .before .before .before .if1 .left)
+      (c .before .before .field .ensures .is)
       (c .before .if2 .left) (c .field2 .ensures .is),
 )
 

@@ -1,4 +1,4 @@
-use Rattle.back_taken.proofs.Steps.{Quiet, all-steps, quiet-start, quiet-more, quiet-hit, quiet-end}
+use Rattle.back_taken.proofs.Steps.{FoundNone, all-steps, quiet-start, quiet-more, quiet-hit, quiet-end}
 use Rattle.back_taken.specs.Listed.{firstOf}
 use Rattle.meaning.specs.Entries.{entryGranules}
 use Rattle.meaning.specs.Layout.{taken}
@@ -13,7 +13,7 @@ use Rattle.back_taken.proofs.any_taken.Lts as lts
 use Rattle.back_taken.proofs.entry_taken.Reads as entry-taken-reads
 
 abbrev Inv-loop : tie.InvT-loop
-Inv-loop image g entries n j₀ j = Quiet (taken g image) (λ k. each (entryGranules g image) (firstOf entries k)) j n
+Inv-loop image g entries n j₀ j = FoundNone (taken g image) (λ k. each (entryGranules g image) (firstOf entries k)) j n
 
 abbrev μ-loop : tie.MeasureT-loop
 μ-loop image g entries n j₀ j = n - j

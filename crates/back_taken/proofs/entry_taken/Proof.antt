@@ -1,4 +1,4 @@
-use Rattle.back_taken.proofs.Steps.{Quiet, entry-steps, quiet-start, quiet-more, quiet-hit, quiet-end}
+use Rattle.back_taken.proofs.Steps.{FoundNone, entry-steps, quiet-start, quiet-more, quiet-hit, quiet-end}
 use Rattle.back_taken.proofs.OnDisk.{run-fits, run-is, runs-are}
 use Rattle.seek.proofs.Frame.{same-refl}
 use Rattle.meaning.specs.Entries.{runGranules}
@@ -17,7 +17,7 @@ use Rattle.layout.proofs.run_start.Reads as run-start-reads
 use Rattle.layout.proofs.runs.Reads as runs-reads
 
 abbrev Inv-loop : tie.InvT-loop
-Inv-loop image g s n j₀ j = Quiet (taken g image) (λ k. each (runGranules g image s) (count 0 k)) j n
+Inv-loop image g s n j₀ j = FoundNone (taken g image) (λ k. each (runGranules g image s) (count 0 k)) j n
 
 abbrev μ-loop : tie.MeasureT-loop
 μ-loop image g s n j₀ j = n - j

@@ -1,5 +1,5 @@
 use Prim.Native.Nat.{_+_, _-_}
-use Rattle.back_taken.proofs.Steps.{Quiet, run-steps, some-one, quiet-start, quiet-more, quiet-hit, quiet-end}
+use Rattle.back_taken.proofs.Steps.{FoundNone, run-steps, some-one, quiet-start, quiet-more, quiet-hit, quiet-end}
 use Rattle.meaning.specs.Layout.{taken}
 use Rattle.meaning.specs.Lists.{count}
 use Prim.Native.Nat.{_-_}
@@ -12,7 +12,7 @@ use Rattle.back_taken.proofs.run_taken.Lts as lts
 use Rattle.layout.proofs.taken.Reads as taken-reads
 
 abbrev Inv-loop : tie.InvT-loop
-Inv-loop image g a n k₀ k = Quiet (taken g image) (count a) k n
+Inv-loop image g a n k₀ k = FoundNone (taken g image) (count a) k n
 
 abbrev μ-loop : tie.MeasureT-loop
 μ-loop image g a n k₀ k = n - k

@@ -1,6 +1,6 @@
 use Rattle.back_taken.proofs.Steps.{all-steps}
 use Rattle.back_write.proofs.Done.{done-end}
-use Rattle.back_write.proofs.Frame.{Taking, taking-start, taking-entry}
+use Rattle.back_write.proofs.Frame.{TakingBack, taking-start, taking-entry}
 use Rattle.back_taken.proofs.OnDisk.{same-on-disk}
 use Rattle.back_taken.specs.Listed.{firstOf}
 use Rattle.seek.proofs.Frame.{same-room}
@@ -15,7 +15,7 @@ use Rattle.back_write.proofs.take_all.Lts as lts
 use Rattle.back_write.proofs.take_entry.Reads as take-entry-reads
 
 abbrev Inv-loop : tie.InvT-loop
-Inv-loop image₀ g entries n j₀ image j = Taking g image₀ (λ k. each (entryGranules g image₀) (firstOf entries k)) image j n
+Inv-loop image₀ g entries n j₀ image j = TakingBack g image₀ (λ k. each (entryGranules g image₀) (firstOf entries k)) image j n
 
 abbrev μ-loop : tie.MeasureT-loop
 μ-loop image₀ g entries n j₀ image j = n - j

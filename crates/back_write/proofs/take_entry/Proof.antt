@@ -1,6 +1,6 @@
 use Rattle.back_taken.proofs.Steps.{entry-steps}
 use Rattle.back_write.proofs.Done.{done-end}
-use Rattle.back_write.proofs.Frame.{Taking, taking-start, taking-run}
+use Rattle.back_write.proofs.Frame.{TakingBack, taking-start, taking-run}
 use Rattle.back_taken.proofs.OnDisk.{run-fits, runs-are}
 use Rattle.seek.proofs.Frame.{same-room, same-slot}
 use Rattle.meaning.specs.Entries.{runGranules}
@@ -18,7 +18,7 @@ use Rattle.layout.proofs.run_start.Reads as run-start-reads
 use Rattle.layout.proofs.runs.Reads as runs-reads
 
 abbrev Inv-loop : tie.InvT-loop
-Inv-loop image₀ g s n j₀ image j = Taking g image₀ (λ k. each (runGranules g image₀ s) (count 0 k)) image j n
+Inv-loop image₀ g s n j₀ image j = TakingBack g image₀ (λ k. each (runGranules g image₀ s) (count 0 k)) image j n
 
 abbrev μ-loop : tie.MeasureT-loop
 μ-loop image₀ g s n j₀ image j = n - j

@@ -1,6 +1,6 @@
 use Rattle.back_taken.proofs.Steps.{run-steps}
 use Rattle.back_write.proofs.Done.{done-end}
-use Rattle.back_write.proofs.Frame.{Taking, taking-start, taking-more, under-one}
+use Rattle.back_write.proofs.Frame.{TakingBack, taking-start, taking-more, under-one}
 use Rattle.seek.proofs.Frame.{same-bit}
 use Rattle.meaning.specs.Lists.{count}
 use Prim.Native.Nat.{_-_}
@@ -12,7 +12,7 @@ use Rattle.back_write.proofs.take_run.Lts as lts
 use Rattle.layout.proofs.take_granule.Reads as take-granule-reads
 
 abbrev Inv-loop : tie.InvT-loop
-Inv-loop image₀ g a n k₀ image k = Taking g image₀ (count a) image k n
+Inv-loop image₀ g a n k₀ image k = TakingBack g image₀ (count a) image k n
 
 abbrev μ-loop : tie.MeasureT-loop
 μ-loop image₀ g a n k₀ image k = n - k

@@ -1,7 +1,7 @@
 use Rattle.lists.specs.Tests.{is-no, is-yes}
 use Rattle.meaning.specs.Lists.{every}
 use Rattle.check_met.specs.Met.{metAt}
-use Rattle.check_met.proofs.SlotMap.{Rows, rows-are, rows-step, rows-stop, rows-end}
+use Rattle.check_met.proofs.SlotMap.{RowsLeft, rows-are, rows-step, rows-stop, rows-end}
 use mathlib.Core.Path.{refl, ap, _∙_}
 use Prim.Native.Nat.{_-_}
 use native.Mathlib.Omega.{arith}
@@ -14,7 +14,7 @@ use Rattle.check_met.proofs.row_met.Reads as row-met-reads
 use Rattle.layout.proofs.directory_sectors.Reads as directory-sectors-reads
 
 abbrev Inv-loop : tie.InvT-loop
-Inv-loop image met columns row₀ row = Rows (metAt met) columns row
+Inv-loop image met columns row₀ row = RowsLeft (metAt met) columns row
 
 abbrev μ-loop : tie.MeasureT-loop
 μ-loop image met columns row₀ row = 8 - row

@@ -1,4 +1,4 @@
-use Rattle.check_met.proofs.SlotMap.{Rowing, rowing-start, rowing-step, rowing-stop, rowing-end}
+use Rattle.check_met.proofs.SlotMap.{RowMet, rowing-start, rowing-step, rowing-stop, rowing-end}
 use Prim.Native.Nat.{_-_}
 use native.Mathlib.Omega.{arith}
 use borrow.Author.Needs.{needs}
@@ -9,7 +9,7 @@ use Rattle.check_met.proofs.row_met.Lts as lts
 use Rattle.layout.proofs.eight.Reads as eight-reads
 
 abbrev Inv-loop : tie.InvT-loop
-Inv-loop met first columns end at₀ at = Rowing met first columns at
+Inv-loop met first columns end at₀ at = RowMet met first columns at
 
 abbrev μ-loop : tie.MeasureT-loop
 μ-loop met first columns end at₀ at = end - at

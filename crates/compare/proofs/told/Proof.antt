@@ -4,7 +4,8 @@ use Prim.Native.Nat.{_-_}
 use mathlib.Core.Logic.{⊎-elim}
 use mathlib.Core.Path.{ap, _∙_}
 use Rattle.differences.specs.declared.Difference.{Difference}
-use Rattle.compare.proofs.Telling.{name-sized, Going, going-start, going-no, going-here, going-more, going-end, going-out, going-same, stands-there}
+use Rattle.compare.proofs.Telling.{name-sized, TellingOn, going-start, going-no, going-here, going-more, going-end, going-out, going-same}
+use Rattle.compare.proofs.Telling.{stands-there}
 use Rattle.compare.proofs.Telling.{is-one, is-none}
 use borrow.Author.Needs.{needs}
 use Rattle.compare.proofs.told.Statement.{statement}
@@ -17,7 +18,7 @@ use Rattle.compare.proofs.tells_none.Reads as tells-none-reads
 use Rattle.refusal.proofs.unplaced.Reads as unplaced-reads
 
 abbrev Inv-loop : tie.InvT-loop
-Inv-loop first g second h number last₀ left₀ k₀ last left k = Going g first h second number left last k
+Inv-loop first g second h number last₀ left₀ k₀ last left k = TellingOn g first h second number left last k
 
 abbrev μ-loop : tie.MeasureT-loop
 μ-loop first g second h number last₀ left₀ k₀ last left k = 512 - k

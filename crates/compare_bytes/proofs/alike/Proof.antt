@@ -1,6 +1,6 @@
 use Prim.Native.Nat.{_-_}
 use lib.ListN.{length}
-use Rattle.compare_bytes.proofs.Contents.{Agree, agree-start, agree-on, agree-stop, agree-end}
+use Rattle.compare_bytes.proofs.Contents.{AlikeSoFar, agree-start, agree-on, agree-stop, agree-end}
 use borrow.Author.Needs.{needs}
 use Rattle.compare_bytes.proofs.alike.Statement.{statement}
 use Rattle.compare_bytes.proofs.alike.Tie as tie
@@ -8,7 +8,7 @@ use Rattle.compare_bytes.proofs.alike.Reads as reads
 use Rattle.compare_bytes.proofs.alike.Lts as lts
 
 abbrev Inv-loop : tie.InvT-loop
-Inv-loop a b i₀ i = Agree a b i
+Inv-loop a b i₀ i = AlikeSoFar a b i
 
 abbrev μ-loop : tie.MeasureT-loop
 μ-loop a b i₀ i = length a - i

@@ -1,5 +1,5 @@
 use Prim.Native.Nat.{_-_}
-use Rattle.compare_order.proofs.Names.{Alike, alike-start, alike-on, alike-stop, alike-end}
+use Rattle.compare_order.proofs.Names.{NamesAlike, alike-start, alike-on, alike-stop, alike-end}
 use borrow.Author.Needs.{needs}
 use Rattle.compare_order.proofs.name_before.Statement.{statement}
 use Rattle.compare_order.proofs.name_before.Tie as tie
@@ -7,7 +7,7 @@ use Rattle.compare_order.proofs.name_before.Reads as reads
 use Rattle.compare_order.proofs.name_before.Lts as lts
 
 abbrev Inv-loop : tie.InvT-loop
-Inv-loop a p b q i₀ i = Alike a p b q i
+Inv-loop a p b q i₀ i = NamesAlike a p b q i
 
 abbrev μ-loop : tie.MeasureT-loop
 μ-loop a p b q i₀ i = 11 - i

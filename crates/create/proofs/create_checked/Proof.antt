@@ -190,23 +190,30 @@ returns-6 c = told _ _ _ _ _
     (slot-none _ _ (c .before .before .first-free-slot .ensures) (c .before .if6 .taken))) (λ z. omega arith)
 
 put-entry-requires : tie.Need-put-entry-requires
-put-entry-requires c κs = let a = c .before .before .before .before .before .before .before .before .before .before .before .before .before .before .before
+put-entry-requires c κs =
+    let c₄ = c .before .before .before .before in let if6 = c₄ .if6 in
+    let c₅ = c₄ .before in let first-free-slot = c₅ .first-free-slot in
+    let c₁₃ = c₅ .before .before .before .before .before .before .before .before in let if3 = c₁₃ .if3 in
+    let c₁₄ = c₁₃ .before in let incoming = c₁₄ .incoming in
+    let c₁₅ = c₁₄ .before in let if2 = c₁₅ .if2 in
+    let c₁₆ = c₁₅ .before in let in-range = c₁₆ .in-range in
+    let a = c .before .before .before .before .before .before .before .before .before .before .before .before .before .before .before
     .before .before .before .before .before .before .args in
-    let w = slot-some (a .g) (a .image .now) (c .before .before .before .before .before .first-free-slot .ensures)
-    (c .before .before .before .before .if6 .left) in (
-      entry-fits (a .g) (a .image .now) (c .before .before .before .before .before .first-free-slot .result)
+    let w = slot-some (a .g) (a .image .now) (first-free-slot .ensures)
+    (if6 .left) in (
+      entry-fits (a .g) (a .image .now) (first-free-slot .result)
           (checked-room (a .g) (a .image .now) (checked (a .g) (a .image .now)
           (c .before .before .before .before .before .before .before .before .before .before .before .before .before .before .before .before .before .before
           .before .before .before .pre) (c .before .before .before .before .before .before .before .before .before .before .before .before .before .before
           .before .before .before .if1 .left))) (w .2),
       w .2 .low,
-      (ap length (hands-name (c .before .before .before .before .before .before .before .before .before .before .before .before .before .before .incoming
-          .ensures) (c .before .before .before .before .before .before .before .before .before .before .before .before .before .if3 .left)) ∙ well-length _
-          (hands-good (c .before .before .before .before .before .before .before .before .before .before .before .before .before .before .incoming .ensures)
-          (c .before .before .before .before .before .before .before .before .before .before .before .before .before .if3 .left))),
+      (ap length (hands-name (incoming
+          .ensures) (if3 .left)) ∙ well-length _
+          (hands-good (incoming .ensures)
+          (if3 .left))),
       is-yes
-          (c .before .before .before .before .before .before .before .before .before .before .before .before .before .before .before .before .in-range .ensures)
-          (c .before .before .before .before .before .before .before .before .before .before .before .before .before .before .before .if2 .left),
+          (in-range .ensures)
+          (if2 .left),
     )
 
 carried-requires-2 : tie.Need-carried-requires-2

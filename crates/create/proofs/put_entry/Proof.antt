@@ -143,14 +143,18 @@ same-length c =
     (put-part .ensures) ∙ (simp length-sets)
 
 returns : tie.Need-returns
-returns c = let a = c .before .before .before .before .before .before .before .before .before .before .before .before .before .before .before .before .before
+returns c =
+    let c₄ = c .before .before .before .before in let put-part3 = c₄ .put-part3 in
+    let c₁₃ = c₄ .before .before .before .before .before .before .before .before .before in let put-part2 = c₁₃ .put-part2 in
+    let c₁₇ = c₁₃ .before .before .before .before in let put-part = c₁₇ .put-part in
+    let a = c .before .before .before .before .before .before .before .before .before .before .before .before .before .before .before .before .before
     .before .before .before .before .before .before .before .before .before .before .args in
     entry-put (a .g) (a .image .now) (a .x) (a .name .now) (a .f)
     (c .before .before .before .before .before .before .before .before .before .before .before .before .before .before .before .before .before .before
     .before .before .before .before .before .before .before .before .before .pre .2)
-    (c .before .before .before .before .before .before .before .before .before .before .before .before .before .before .before .before .before .put-part
-    .ensures) (c .before .before .before .before .before .before .before .before .before .before .before .before .before .put-part2 .ensures)
-    (c .before .before .before .before .put-part3 .ensures) (c .before .hash .ensures .is)
+    (put-part
+    .ensures) (put-part2 .ensures)
+    (put-part3 .ensures) (c .before .hash .ensures .is)
 
 pub put-entry-spec : {M : Type 1} → statement M
 put-entry-spec =

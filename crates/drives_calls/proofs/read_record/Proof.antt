@@ -1,6 +1,6 @@
 use Rattle.drives.specs.ByHandle.{readOn, readRecord}
 use Rattle.drives.specs.Pair.{pair}
-use Rattle.drives_calls.proofs.Laws.{read-0, read-1, read-none}
+use Rattle.drives_calls.proofs.OnDrive.{read-0, read-1, read-none}
 use borrow.Author.Needs.{needs}
 use Rattle.drives_calls.proofs.read_record.Statement.{statement}
 use Rattle.drives_calls.proofs.read_record.Tie as tie

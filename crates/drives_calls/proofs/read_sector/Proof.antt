@@ -1,6 +1,6 @@
-use Rattle.drives_calls.proofs.Laws.{inside-0, inside-1}
+use Rattle.drives_calls.proofs.OnDrive.{inside-0, inside-1}
 use Rattle.drives.specs.Pair.{pair}
-use Rattle.drives_calls.proofs.Laws.{handed-0, handed-1, place-0, place-1}
+use Rattle.drives_calls.proofs.OnDrive.{handed-0, handed-1, place-0, place-1}
 use borrow.Author.Needs.{needs}
 use Rattle.drives_calls.proofs.read_sector.Statement.{statement}
 use Rattle.drives_calls.proofs.read_sector.Tie as tie

@@ -1,5 +1,5 @@
 use Rattle.drives.specs.Pair.{pair}
-use Rattle.drives_calls.proofs.Laws.{part-0, part-1, part-none, lies-0, lies-1, lies-none}
+use Rattle.drives_calls.proofs.OnDrive.{part-0, part-1, part-none, lies-0, lies-1, lies-none}
 use borrow.Author.Needs.{needs}
 use Rattle.drives_calls.proofs.sector_part.Statement.{statement}
 use Rattle.drives_calls.proofs.sector_part.Tie as tie

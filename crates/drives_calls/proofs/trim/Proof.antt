@@ -1,6 +1,6 @@
 use Rattle.drives.specs.ByHandle.{trimOn, trim}
 use Rattle.drives.specs.Pair.{pair}
-use Rattle.drives_calls.proofs.Laws.{changed-0, changed-1, unchanged}
+use Rattle.drives_calls.proofs.OnDrive.{changed-0, changed-1, unchanged}
 use borrow.Author.Needs.{needs}
 use Rattle.drives_calls.proofs.trim.Statement.{statement}
 use Rattle.drives_calls.proofs.trim.Tie as tie

@@ -1,4 +1,4 @@
-use Rattle.drives_codec.proofs.Laws.{handle-none, handle-is}
+use Rattle.drives_codec.proofs.HandleBytes.{handle-none, handle-is}
 use borrow.Author.Needs.{needs}
 use Rattle.drives_codec.proofs.handle_of.Statement.{statement}
 use Rattle.drives_codec.proofs.handle_of.Tie as tie

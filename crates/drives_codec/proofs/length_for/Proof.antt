@@ -1,4 +1,4 @@
-use Rattle.drives_codec.proofs.Laws.{length-none, length-is}
+use Rattle.drives_codec.proofs.HandleBytes.{length-none, length-is}
 use Rattle.drives_codec.proofs.length_for.Statement.{statement}
 use Rattle.drives_codec.proofs.length_for.Tie as tie
 use Rattle.drives_codec.proofs.length_for.Reads as reads

@@ -1,4 +1,4 @@
-use Rattle.drives_codec.proofs.Laws.{put-none, put-is}
+use Rattle.drives_codec.proofs.HandleBytes.{put-none, put-is}
 use borrow.Author.Needs.{needs}
 use Rattle.drives_codec.proofs.put_handle.Statement.{statement}
 use Rattle.drives_codec.proofs.put_handle.Tie as tie

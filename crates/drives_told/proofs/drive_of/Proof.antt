@@ -1,4 +1,4 @@
-use Rattle.drives_told.proofs.Laws.{told-none, told-it}
+use Rattle.drives_told.proofs.DriveTold.{told-none, told-it}
 use Rattle.drives_told.proofs.drive_of.Statement.{statement}
 use Rattle.drives_told.proofs.drive_of.Tie as tie
 use Rattle.drives_told.proofs.drive_of.Reads as reads

@@ -1,4 +1,4 @@
-use Rattle.drives_told.proofs.Laws.{fault-none, fault-first, fault-second}
+use Rattle.drives_told.proofs.DriveTold.{fault-none, fault-first, fault-second}
 use Rattle.drives_told.proofs.fault_drive.Statement.{statement}
 use Rattle.drives_told.proofs.fault_drive.Tie as tie
 use Rattle.drives_told.proofs.fault_drive.Reads as reads

@@ -1,4 +1,4 @@
-use Rattle.drives_told.proofs.Laws.{names-none, names-first, names-second}
+use Rattle.drives_told.proofs.DriveTold.{names-none, names-first, names-second}
 use borrow.Author.Needs.{needs}
 use Rattle.drives_told.proofs.naming.Statement.{statement}
 use Rattle.drives_told.proofs.naming.Tie as tie

@@ -1,4 +1,4 @@
-use Rattle.drives_told.proofs.Laws.{of-first, of-second, of-neither}
+use Rattle.drives_told.proofs.DriveTold.{of-first, of-second, of-neither}
 use borrow.Author.Needs.{needs}
 use Rattle.drives_told.proofs.of_both.Statement.{statement}
 use Rattle.drives_told.proofs.of_both.Tie as tie

@@ -1,4 +1,4 @@
-use Rattle.drives_told.proofs.Laws.{geometry-number, under-faults, from-faults}
+use Rattle.drives_told.proofs.DriveTold.{geometry-number, under-faults, from-faults}
 use Rattle.drives_told.proofs.of_disk.Statement.{statement}
 use Rattle.drives_told.proofs.of_disk.Tie as tie
 use Rattle.drives_told.proofs.of_disk.Reads as reads

@@ -1,4 +1,4 @@
-use Rattle.extent.proofs.Measuring.{Counting, counting-start, counting-step, counting-stop, counting-end}
+use Rattle.extent.proofs.Measuring.{CountingRuns, counting-start, counting-step, counting-stop, counting-end}
 use Prim.Native.Nat.{_-_}
 use mathlib.Core.Path.{sym, _∙_}
 use borrow.Author.Needs.{needs}
@@ -9,7 +9,7 @@ use Rattle.extent.proofs.entry_length.Lts as lts
 use Rattle.layout.proofs.field.Reads as field-reads
 
 abbrev Inv-loop : tie.InvT-loop
-Inv-loop image g s k₀ n₀ k n = Counting g image s k n
+Inv-loop image g s k₀ n₀ k n = CountingRuns g image s k n
 
 abbrev μ-loop : tie.MeasureT-loop
 μ-loop image g s k₀ n₀ k n = 4 - k

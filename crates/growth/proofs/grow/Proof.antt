@@ -84,22 +84,28 @@ same-length-4 : tie.Need-same-length-4
 same-length-4 c = search needs
 
 returns-4 : tie.Need-returns-4
-returns-4 c = let a = c .before .before .before .before .before .before .before .before .before .before .before .before .before .before .before .before
+returns-4 c =
+    let c₄ = c .before .before .before .before in let if4 = c₄ .if4 in
+    let c₇ = c₄ .before .before .before in let too-few-slots = c₇ .too-few-slots in
+    let c₁₀ = c₇ .before .before .before in let too-few = c₁₀ .too-few in
+    let c₁₂ = c₁₀ .before .before in let if2 = c₁₂ .if2 in
+    let c₁₃ = c₁₂ .before in let no-growth = c₁₃ .no-growth in
+    let a = c .before .before .before .before .before .before .before .before .before .before .before .before .before .before .before .before
     .before .before .before .before .before .args in
     let e = lacks (a .g) (a .image .now) (a .p) (a .wanted)
     (c .before .before .before .before .before .before .before .before .before .before .before .before .before .before .before .before .before .before
     .measure .ensures .many) in
-    whole-first _ _ _ _ (sym (c .before .before .before .before .before .before .before .before .before .before .before .before .before .no-growth .ensures) ∙
-    c .before .before .before .before .before .before .before .before .before .before .before .before .if2 .left)
+    whole-first _ _ _ _ (sym (no-growth .ensures) ∙
+    if2 .left)
     (ap (λ (k : ℕ). ltb (length (freeGranules (a .g) (a .image .now))) k) (sym e) ∙ sym
-    (c .before .before .before .before .before .before .before .before .before .before .too-few .ensures) ∙ c .before .before .before .before .before
+    (too-few .ensures) ∙ c .before .before .before .before .before
     .before .before .before .before .if3 .left)
     (ap (λ (k : ℕ). fails (growBy (a .g) (a .p) (choiceBy (a .g) true) k (a .image .now))) (sym e) ∙ is-no
-    (c .before .before .before .before .before .before .before .too-few-slots .ensures .0) (c .before .before .before .before .if4 .taken))
-    (c .before .before .before .before .before .before .before .too-few-slots .ensures .1)
+    (too-few-slots .ensures .0) (if4 .taken))
+    (too-few-slots .ensures .1)
     (c .before .before .take-granules .ensures .wrote refl ∙ ap
-    (λ (k : ℕ). diskOr (c .before .before .before .before .before .before .before .too-few-slots .last .0)
-    (growBy (a .g) (a .p) (choiceBy (a .g) true) k (c .before .before .before .before .before .before .before .too-few-slots .last .0))) e)
+    (λ (k : ℕ). diskOr (too-few-slots .last .0)
+    (growBy (a .g) (a .p) (choiceBy (a .g) true) k (too-few-slots .last .0))) e)
 
 too-few-slots-requires-2 : tie.Need-too-few-slots-requires-2
 too-few-slots-requires-2 c κs =
@@ -114,23 +120,30 @@ same-length-5 : tie.Need-same-length-5
 same-length-5 c = search needs
 
 returns-5 : tie.Need-returns-5
-returns-5 c = let a = c .before .before .before .before .before .before .before .before .before .before .before .before .before .before .before .before
+returns-5 c =
+    let c₃ = c .before .before .before in let too-few-slots2 = c₃ .too-few-slots2 in
+    let c₅ = c₃ .before .before in let if4 = c₅ .if4 in
+    let c₈ = c₅ .before .before .before in let too-few-slots = c₈ .too-few-slots in
+    let c₁₁ = c₈ .before .before .before in let too-few = c₁₁ .too-few in
+    let c₁₃ = c₁₁ .before .before in let if2 = c₁₃ .if2 in
+    let c₁₄ = c₁₃ .before in let no-growth = c₁₄ .no-growth in
+    let a = c .before .before .before .before .before .before .before .before .before .before .before .before .before .before .before .before
     .before .before .before .before .before .before .args in
     let e = lacks (a .g) (a .image .now) (a .p) (a .wanted)
     (c .before .before .before .before .before .before .before .before .before .before .before .before .before .before .before .before .before .before
     .before .measure .ensures .many) in (
-      whole-eight _ _ _ _ (sym (c .before .before .before .before .before .before .before .before .before .before .before .before .before .before .no-growth
-          .ensures) ∙ c .before .before .before .before .before .before .before .before .before .before .before .before .before .if2 .left)
+      whole-eight _ _ _ _ (sym (no-growth
+          .ensures) ∙ if2 .left)
           (ap (λ (k : ℕ). ltb (length (freeGranules (a .g) (a .image .now))) k) (sym e) ∙ sym
-          (c .before .before .before .before .before .before .before .before .before .before .before .too-few .ensures) ∙ c .before .before .before .before
+          (too-few .ensures) ∙ c .before .before .before .before
           .before .before .before .before .before .before .if3 .left)
           (ap (λ (k : ℕ). fails (growBy (a .g) (a .p) (choiceBy (a .g) true) k (a .image .now))) (sym e) ∙ is-yes
-          (c .before .before .before .before .before .before .before .before .too-few-slots .ensures .0)
-          (c .before .before .before .before .before .if4 .left))
+          (too-few-slots .ensures .0)
+          (if4 .left))
           (ap (λ (k : ℕ). fails (growBy (a .g) (a .p) (choiceBy (a .g) false) k (a .image .now))) (sym e) ∙ second-number _ _ _ _
-          (c .before .before .before .before .before .before .before .before .too-few-slots .ensures .1)
-          (c .before .before .before .too-few-slots2 .ensures .0) (c .if5 .taken)) .0,
-      c .before .before .before .too-few-slots2 .ensures .1 ∙ c .before .before .before .before .before .before .before .before .too-few-slots .ensures .1,
+          (too-few-slots .ensures .1)
+          (too-few-slots2 .ensures .0) (c .if5 .taken)) .0,
+      too-few-slots2 .ensures .1 ∙ too-few-slots .ensures .1,
     )
 
 take-granules-requires-2 : tie.Need-take-granules-requires-2
@@ -149,7 +162,13 @@ same-length-6 : tie.Need-same-length-6
 same-length-6 c = search needs
 
 returns-6 : tie.Need-returns-6
-returns-6 c = let a = c .before .before .before .before .before .before .before .before .before .before .before .before .before .before .before .before
+returns-6 c =
+    let c₄ = c .before .before .before .before in let if5 = c₄ .if5 in
+    let c₇ = c₄ .before .before .before in let too-few-slots2 = c₇ .too-few-slots2 in
+    let c₉ = c₇ .before .before in let if4 = c₉ .if4 in
+    let c₁₂ = c₉ .before .before .before in let too-few-slots = c₁₂ .too-few-slots in
+    let c₁₅ = c₁₂ .before .before .before in let too-few = c₁₅ .too-few in
+    let a = c .before .before .before .before .before .before .before .before .before .before .before .before .before .before .before .before
     .before .before .before .before .before .before .before .before .before .before .args in
     let e = lacks (a .g) (a .image .now) (a .p) (a .wanted)
     (c .before .before .before .before .before .before .before .before .before .before .before .before .before .before .before .before .before .before
@@ -157,19 +176,19 @@ returns-6 c = let a = c .before .before .before .before .before .before .before 
     whole-second _ _ _ _ (sym (c .before .before .before .before .before .before .before .before .before .before .before .before .before .before .before
     .before .before .before .no-growth .ensures) ∙ c .before .before .before .before .before .before .before .before .before .before .before .before
     .before .before .before .before .before .if2 .left) (ap (λ (k : ℕ). ltb (length (freeGranules (a .g) (a .image .now))) k) (sym e) ∙ sym
-    (c .before .before .before .before .before .before .before .before .before .before .before .before .before .before .before .too-few .ensures) ∙ c
+    (too-few .ensures) ∙ c
     .before .before .before .before .before .before .before .before .before .before .before .before .before .before .if3 .left)
     (ap (λ (k : ℕ). fails (growBy (a .g) (a .p) (choiceBy (a .g) true) k (a .image .now))) (sym e) ∙ is-yes
-    (c .before .before .before .before .before .before .before .before .before .before .before .before .too-few-slots .ensures .0)
-    (c .before .before .before .before .before .before .before .before .before .if4 .left))
+    (too-few-slots .ensures .0)
+    (if4 .left))
     (ap (λ (k : ℕ). fails (growBy (a .g) (a .p) (choiceBy (a .g) false) k (a .image .now))) (sym e) ∙ second-number _ _ _ _
-    (c .before .before .before .before .before .before .before .before .before .before .before .before .too-few-slots .ensures .1)
-    (c .before .before .before .before .before .before .before .too-few-slots2 .ensures .0) (c .before .before .before .before .if5 .left))
-    (c .before .before .before .before .before .before .before .too-few-slots2 .ensures .1 ∙ c .before .before .before .before .before .before .before
+    (too-few-slots .ensures .1)
+    (too-few-slots2 .ensures .0) (if5 .left))
+    (too-few-slots2 .ensures .1 ∙ c .before .before .before .before .before .before .before
     .before .before .before .before .before .too-few-slots .ensures .1)
     (c .before .before .take-granules2 .ensures .wrote refl ∙ ap
-    (λ (k : ℕ). diskOr (c .before .before .before .before .before .before .before .too-few-slots2 .last .0)
-    (growBy (a .g) (a .p) (choiceBy (a .g) false) k (c .before .before .before .before .before .before .before .too-few-slots2 .last .0))) e)
+    (λ (k : ℕ). diskOr (too-few-slots2 .last .0)
+    (growBy (a .g) (a .p) (choiceBy (a .g) false) k (too-few-slots2 .last .0))) e)
 
 pub grow-spec : {M : Type 1} → statement M
 grow-spec =

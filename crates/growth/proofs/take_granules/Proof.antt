@@ -1,7 +1,7 @@
 use borrow.Author.Needs.{needs}
 use native.Mathlib.Omega.{arith}
 use Rattle.passed.proofs.Ready.{walks}
-use Rattle.growth.proofs.Turns.{Turning, turning-start, turn-shut, turn-picked, turn-asks, turn-longer, turn-pair, turn-new, turn-stuck, turn-end}
+use Rattle.growth.proofs.Turns.{TurningOn, turning-start, turn-shut, turn-picked, turn-asks, turn-longer, turn-pair, turn-new, turn-stuck, turn-end}
 use Rattle.growth.proofs.Turns.{at-last, longer-fits, some-runs, new-places, at-new}
 use Rattle.growth.proofs.Growing.{tail-slot}
 use mathlib.Core.Logic.{⊎-elim, inl, inr}
@@ -18,7 +18,7 @@ use Rattle.growth_search.proofs.last_run.Reads as last-run-reads
 use Rattle.growth_search.proofs.next_slot.Reads as next-slot-reads
 
 abbrev Inv-loop : tie.InvT-loop
-Inv-loop image₀ g p e k lowest writes last₀ runs₀ after₀ long₀ next₀ most₀ slot₀ left₀ image last runs after long next most slot left = Turning g p lowest
+Inv-loop image₀ g p e k lowest writes last₀ runs₀ after₀ long₀ next₀ most₀ slot₀ left₀ image last runs after long next most slot left = TurningOn g p lowest
     writes k image₀ image last runs after long next most slot left
 
 abbrev μ-loop : tie.MeasureT-loop
@@ -141,7 +141,8 @@ put-pair-requires-2 c κs = (
       (c .before .before .before .before .before .before .next-slot .ensures) (c .before .before .before .before .before .if4 .left)
       (turn-picked _ _ _ (c .before .before .before .before .before .before .before .before .before .before .before .before .before .loop .inv)
       (c .before .before .before .before .before .before .before .before .before .before .before .before .loop-test .taken)
-      (c .before .before .before .before .before .before .before .before .before .choose .ensures) .inside) (c .before .before .before .put-extension .ensures),
+      (c .before .before .before .before .before .before .before .before .before .choose .ensures) .inside)
+      (c .before .before .before .put-extension .ensures),
   omega arith,
 )
 

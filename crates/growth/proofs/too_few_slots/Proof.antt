@@ -68,7 +68,8 @@ returns-2 c = (
       (c .before .before .before .before .before .last-run .ensures) (c .before .before .before .if2 .taken)
       (c .before .all-clear .ensures .yes (c .if3 .taken))
       (let m = c .before .before .before .before .before .last-run .ensures .many in let r = c .before .before .before .before .before .before .before .before
-      .runs .ensures .is in let s = c .before .before .before .before .before .before .before .before .runs .ensures .small in let t = c .before .before .before
+      .runs .ensures .is in let s = c .before .before .before .before .before .before .before .before .runs .ensures .small in
+      let t = c .before .before .before
       .before .before .before .before .if1 .left in omega arith),
   refl,
 )

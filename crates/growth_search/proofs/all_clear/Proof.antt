@@ -1,4 +1,4 @@
-use Rattle.growth_search.proofs.Low.{Clearing, clear-inside, clearing-start, clearing-step, clearing-stop, clearing-end}
+use Rattle.growth_search.proofs.Low.{ClearSoFar, clear-inside, clearing-start, clearing-step, clearing-stop, clearing-end}
 use native.Mathlib.Omega.{arith}
 use borrow.Author.Needs.{needs}
 use Rattle.growth_search.proofs.all_clear.Statement.{statement}
@@ -8,7 +8,7 @@ use Rattle.growth_search.proofs.all_clear.Lts as lts
 use Rattle.growth_search.proofs.is_clear.Reads as is-clear-reads
 
 abbrev Inv-loop : tie.InvT-loop
-Inv-loop image g n many i₀ left₀ i left = Clearing g image n many i left
+Inv-loop image g n many i₀ left₀ i left = ClearSoFar g image n many i left
 
 abbrev μ-loop : tie.MeasureT-loop
 μ-loop image g n many i₀ left₀ i left = left

@@ -1,4 +1,4 @@
-use Rattle.load_record.proofs.Passing.{comment-whole, Passing, passing-start, passing-step, passing-end, told-whole}
+use Rattle.load_record.proofs.Passing.{comment-whole, PassingRecords, passing-start, passing-step, passing-end, told-whole}
 use Rattle.load_record.proofs.Bytes.{long}
 use Rattle.load_record.specs.Program.{Looked}
 use Rattle.load.specs.Load.{bytesOf}
@@ -13,7 +13,7 @@ use Rattle.load_record.proofs.item.Reads as item-reads
 use Rattle.load_record.proofs.told.Reads as told-reads
 
 abbrev Inv-loop : tie.InvT-loop
-Inv-loop image g s size i p₀ x₀ p x = (p < 16777216) × Looked (bytesOf g image s) p x × Passing (bytesOf g image s) i p
+Inv-loop image g s size i p₀ x₀ p x = (p < 16777216) × Looked (bytesOf g image s) p x × PassingRecords (bytesOf g image s) i p
 
 abbrev μ-loop : tie.MeasureT-loop
 μ-loop image g s size i p₀ x₀ p x = size - p

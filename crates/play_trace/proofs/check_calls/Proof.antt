@@ -1,4 +1,4 @@
-use Rattle.play_trace.proofs.Calls.{Going, AtCall, going-first, going-on, going-bad, going-end, going-out, told}
+use Rattle.play_trace.proofs.Calls.{ReadingCalls, AtCall, going-first, going-on, going-bad, going-end, going-out, told}
 use borrow.Author.Needs.{needs}
 use native.Mathlib.Omega.{arith}
 use Prim.Native.Nat.{_-_}
@@ -11,7 +11,7 @@ use Rattle.play_trace.proofs.bad_field.Reads as bad-field-reads
 use Rattle.play_trace.proofs.numbers_at.Reads as numbers-at-reads
 
 abbrev Inv-loop : tie.InvT-loop
-Inv-loop trace names first whole i₀ i = Going trace names whole i
+Inv-loop trace names first whole i₀ i = ReadingCalls trace names whole i
 
 abbrev μ-loop : tie.MeasureT-loop
 μ-loop trace names first whole i₀ i = whole - i

@@ -134,7 +134,14 @@ same-length-2 : tie.Need-same-length-2
 same-length-2 c = search needs
 
 returns-2 : tie.Need-returns-2
-returns-2 c = let a = c .before .before .before .before .before .before .before .before .before .before .before .before .before .before .before .before
+returns-2 c =
+    let c₆ = c .before .before .before .before .before .before in let unhook = c₆ .unhook in
+    let c₈ = c₆ .before .before in let if3 = c₈ .if3 in
+    let c₉ = c₈ .before in let if2 = c₉ .if2 in
+    let c₁₂ = c₉ .before .before .before in let empty-pair = c₁₂ .empty-pair in
+    let c₁₄ = c₁₂ .before .before in let field2 = c₁₄ .field2 in
+    let c₁₆ = c₁₄ .before .before in let field = c₁₆ .field in
+    let a = c .before .before .before .before .before .before .before .before .before .before .before .before .before .before .before .before
     .before .before .before .before .before .before .before .before .before .before .args in
     by-unhooked (a .g) (a .image .now) (a .p) (a .e)
     (c .before .before .before .before .before .before .before .before .before .before .before .before .before .before .before .before .before .before
@@ -147,12 +154,12 @@ returns-2 c = let a = c .before .before .before .before .before .before .before 
     .before .run-start .ensures .is) (c .before .before .before .before .before .before .before .before .before .before .before .before .before .before
     .before .before .before .before .if1 .left)
     (extension-yes (a .g) (a .image .now) (a .e)
-    (c .before .before .before .before .before .before .before .before .before .before .before .before .before .before .before .before .field .ensures
-    .is) (c .before .before .before .before .before .before .before .before .before .if2 .taken))
-    (c .before .before .before .before .before .before .before .before .if3 .taken)
-    (c .before .before .before .before .before .before .before .before .before .before .before .before .before .before .field2 .ensures .is)
-    (c .before .before .before .before .before .before .before .before .before .before .before .before .empty-pair .ensures)
-    (c .before .before .before .before .before .before .unhook .ensures) (c .before .before .free-granule2 .ensures)
+    (field .ensures
+    .is) (if2 .taken))
+    (if3 .taken)
+    (field2 .ensures .is)
+    (empty-pair .ensures)
+    (unhook .ensures) (c .before .before .free-granule2 .ensures)
 
 free-granule-requires-3 : tie.Need-free-granule-requires-3
 free-granule-requires-3 c κs = let a = c .before .before .before .before .before .before .before .before .before .before .before .before .before .before
@@ -171,23 +178,30 @@ same-length-3 : tie.Need-same-length-3
 same-length-3 c = search needs
 
 returns-3 : tie.Need-returns-3
-returns-3 c = let a = c .before .before .before .before .before .before .before .before .before .before .before .before .before .before .before .before
+returns-3 c =
+    let c₄ = c .before .before .before .before in let if2 = c₄ .if2 in
+    let c₇ = c₄ .before .before .before in let empty-pair = c₇ .empty-pair in
+    let c₁₁ = c₇ .before .before .before .before in let field = c₁₁ .field in
+    let c₁₃ = c₁₁ .before .before in let if1 = c₁₃ .if1 in
+    let c₁₄ = c₁₃ .before in let run-start = c₁₄ .run-start in
+    let c₁₆ = c₁₄ .before .before in let run-length = c₁₆ .run-length in
+    let a = c .before .before .before .before .before .before .before .before .before .before .before .before .before .before .before .before
     .before .before .before .before .before .args in
     by-emptied (a .g) (a .image .now) (a .p) (a .e)
     (c .before .before .before .before .before .before .before .before .before .before .before .before .before .before .before .before .before .before
     .before .before .before .pre) (c .before .before .before .before .before .before .before .before .before .before .before .before .before .before
     .before .before .before .before .runs .ensures .is)
-    (c .before .before .before .before .before .before .before .before .before .before .before .before .before .before .before .before .run-length
-    .ensures .is) (c .before .before .before .before .before .before .before .before .before .before .before .before .before .before .run-start .ensures
-    .is) (c .before .before .before .before .before .before .before .before .before .before .before .before .before .if1 .left)
+    (run-length
+    .ensures .is) (run-start .ensures
+    .is) (if1 .left)
     (⊎-elim (λ q. not-first (extension (a .g) (a .image .now) (a .e))
     (c .before .before .before .before .before .before .before .before .before .before .before .before .before .before .before .before .before .before
     .runs .result - 1) (q .1 .left)) (λ q. is-first
     (extension-no (a .g) (a .image .now) (a .e)
-    (c .before .before .before .before .before .before .before .before .before .before .before .field .ensures .is) (q .left))
+    (field .ensures .is) (q .left))
     (c .before .before .before .before .before .before .before .before .before .before .before .before .before .before .before .before .before .before
-    .runs .result - 1)) (c .before .before .before .before .if2 .came))
-    (c .before .before .before .before .before .before .before .empty-pair .ensures) (c .before .before .free-granule3 .ensures)
+    .runs .result - 1)) (if2 .came))
+    (empty-pair .ensures) (c .before .before .free-granule3 .ensures)
 
 pub drop-one-spec : {M : Type 1} → statement M
 drop-one-spec =

@@ -83,15 +83,21 @@ sub-drop-last c = let a = c .before .before .before .before .before .before .bef
     (c .before .before .before .before .before .size-of .ensures .is) (c .before .before .before .before .granules-for .ensures)
 
 drop-last-requires : tie.Need-drop-last-requires
-drop-last-requires c κs = let a = c .before .before .before .before .before .before .before .before .before .before .before .before .before .before .before
+drop-last-requires c κs =
+    let c₄ = c .before .before .before .before in let granules-for = c₄ .granules-for in
+    let c₅ = c₄ .before in let size-of = c₅ .size-of in
+    let c₁₀ = c₅ .before .before .before .before .before in let if1 = c₁₀ .if1 in
+    let c₁₁ = c₁₀ .before in let changing-number = c₁₁ .changing-number in
+    let c₁₃ = c₁₁ .before .before in let in-range = c₁₃ .in-range in
+    let a = c .before .before .before .before .before .before .before .before .before .before .before .before .before .before .before
     .args in
     trim-last (a .g) (a .image .now) (a .h)
     (trim-ready (a .g) (a .image .now) (a .h)
-    (c .before .before .before .before .before .before .before .before .before .before .before .before .before .in-range .result)
-    (c .before .before .before .before .before .before .before .before .before .before .before .changing-number .ensures)
-    (c .before .before .before .before .before .before .before .before .before .before .if1 .left)) (c .before .before .measure .ensures .last)
-    (c .before .before .measure .ensures .many) (c .before .before .before .before .before .size-of .ensures .is)
-    (c .before .before .before .before .granules-for .ensures)
+    (in-range .result)
+    (changing-number .ensures)
+    (if1 .left)) (c .before .before .measure .ensures .last)
+    (c .before .before .measure .ensures .many) (size-of .ensures .is)
+    (granules-for .ensures)
 
 carried-requires-3 : tie.Need-carried-requires-3
 carried-requires-3 c κs = search needs

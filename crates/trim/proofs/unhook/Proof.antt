@@ -31,14 +31,18 @@ same-length c = search needs
 
 returns : tie.Need-returns
 unfolding unhooked
-returns c = let a = c .before .before .before .before .before .before .before .before .before .before .before .before .before .before .before .before .before
+returns c =
+    let c₆ = c .before .before .before .before .before .before in let set-link = c₆ .set-link in
+    let c₁₀ = c₆ .before .before .before .before in let set-hit = c₁₀ .set-hit in
+    let c₁₄ = c₁₀ .before .before .before .before in let set-field = c₁₄ .set-field in
+    let a = c .before .before .before .before .before .before .before .before .before .before .before .before .before .before .before .before .before
     .args in
     c .before .before .set-link2 .ensures
     ∙ ap (λ (d : List ℕ). setLink (a .g) d (a .before) 0xff 0xff)
-    (c .before .before .before .before .before .before .set-link .ensures
+    (set-link .ensures
     ∙ ap (λ (d : List ℕ). setLink (a .g) d (a .e) 0xff 0xff)
-    (c .before .before .before .before .before .before .before .before .before .before .set-hit .ensures ∙ ap (λ (d : List ℕ). set d (hitAt (a .g) (a .e)) 0)
-    (c .before .before .before .before .before .before .before .before .before .before .before .before .before .before .set-field .ensures)))
+    (set-hit .ensures ∙ ap (λ (d : List ℕ). set d (hitAt (a .g) (a .e)) 0)
+    (set-field .ensures)))
 
 pub unhook-spec : {M : Type 1} → statement M
 unhook-spec =

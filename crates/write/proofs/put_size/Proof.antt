@@ -40,20 +40,25 @@ same-length : tie.Need-same-length
 same-length c = search needs
 
 returns : tie.Need-returns
-returns c = let a = c .before .before .before .before .before .before .before .before .before .before .before .before .before .before .before .before .before
+returns c =
+    let c₆ = c .before .before .before .before .before .before in let set-field3 = c₆ .set-field3 in
+    let c₁₀ = c₆ .before .before .before .before in let set-field2 = c₁₀ .set-field2 in
+    let c₁₄ = c₁₀ .before .before .before .before in let set-field = c₁₄ .set-field in
+    let c₁₆ = c₁₄ .before .before in let with-bit = c₁₆ .with-bit in
+    let a = c .before .before .before .before .before .before .before .before .before .before .before .before .before .before .before .before .before
     .before .before .before .args in
     let n = (a .size + 255) / 256 in
     c .before .before .set-field4 .ensures
     ∙ ap (λ (d : List ℕ). setField (a .g) d (a .s) 1
-    (c .before .before .before .before .before .before .before .before .before .before .before .before .before .before .before .before .with-bit .result))
-    (c .before .before .before .before .before .before .set-field3 .ensures
+    (with-bit .result))
+    (set-field3 .ensures
     ∙ ap (λ (d : List ℕ). setField (a .g) d (a .s) 0x15 (n / 256))
-    (c .before .before .before .before .before .before .before .before .before .before .set-field2 .ensures
+    (set-field2 .ensures
     ∙ ap (λ (d : List ℕ). setField (a .g) d (a .s) 0x14 (n % 256))
-    (c .before .before .before .before .before .before .before .before .before .before .before .before .before .before .set-field .ensures)))
+    (set-field .ensures)))
     ∙ ap (λ (v : ℕ). setField (a .g) (setField (a .g) (setField (a .g) (setField (a .g) (a .image .now) (a .s) 3 (a .size % 256)) (a .s) 0x14 (n % 256))
     (a .s) 0x15 (n / 256)) (a .s) 1 v)
-    (c .before .before .before .before .before .before .before .before .before .before .before .before .before .before .before .before .with-bit .ensures .is
+    (with-bit .ensures .is
     ∙ ap (withBit 5) (c .before .before .before .before .before .before .before .before .before .before .before .before .before .before .before .before
     .before .entry-byte .ensures .is))
 

@@ -23,7 +23,7 @@ use Rattle.drives.specs.ByHandle.{unheld, partOn, noPart, changing, sectorOn, r
 use Rattle.drives.specs.declared.DriveHandle.{DriveHandle}
 use Rattle.drives.specs.declared.DriveAnswer.{DriveAnswer}
 use Rattle.drives.specs.declared.DrivePart.{DrivePart}
-use Rattle.drives_calls.specs.Part.{partOf, oneOf, Lies}
+use Rattle.drives_calls.specs.Part.{partOf, oneOf, DriveLies}
 
 module _ {A : Type 0} (n : ℕ) (call : ℕ → A) (none : A) where
   pub on-0 : n ≡ 0 → call 0 ≡ onDrive n call none
@@ -110,11 +110,11 @@ module _ (p : Pair) (h : DriveHandle) (k : ℕ) where
       by true = refl
       by false = refl
 
-  pub lies-0 : {r : DrivePart} {a : Part} → r ≡ partOn 0 a → one.Lies a (length (p .image0)) → Lies p r
+  pub lies-0 : {r : DrivePart} {a : Part} → r ≡ partOn 0 a → one.Lies a (length (p .image0)) → DriveLies p r
   lies-0 {a = a} e l =
       rw e (record { forward = l .forward; inside = rw (on-its-own (a .refusal)) (l .inside) })
 
-  pub lies-1 : {r : DrivePart} {a : Part} → r ≡ partOn 1 a → a ≡ sectorOn p h k 1 → one.Lies a (length (p .image1)) → Lies p r
+  pub lies-1 : {r : DrivePart} {a : Part} → r ≡ partOn 1 a → a ≡ sectorOn p h k 1 → one.Lies a (length (p .image1)) → DriveLies p r
   unfolding driveOf
   lies-1 {a = a} e q l = rw e (record { forward = l .forward; inside = by (ℕ-discrete (a .refusal .number) 0) })
     where
@@ -125,11 +125,11 @@ module _ (p : Pair) (h : DriveHandle) (k : ℕ) where
           (let w : (sectorOn p h k 1 .refusal .number ≡ 0 → ⊥) = λ v. z (ap (λ (x : Part). x .refusal .number) q ∙ v) in
           let t = ap (λ (x : Part). x .to) q ∙ empty (p .geometry1) (p .image1) (h .handle) k w in omega arith)
 
-  pub lies-none : {r : DrivePart} {c : Refusal} → r ≡ noPart c → Lies p r
+  pub lies-none : {r : DrivePart} {c : Refusal} → r ≡ noPart c → DriveLies p r
   lies-none e = rw e (record { forward = omega arith; inside = omega arith })
 
 -- a part lies inside the image that it is taken of
-module _ (p : Pair) {a : DrivePart} (l : Lies p a) where
+module _ (p : Pair) {a : DrivePart} (l : DriveLies p a) where
   pub inside-0 : a .drive ≡ 0 → a .to ≤ length (p .image0)
   inside-0 z = subst (λ (t : Bool). a .to ≤ length (cond t (p .image0) (p .image1))) (eq-eqb (a .drive) 0 z) (l .inside)
 
