@@ -98,7 +98,7 @@ module _ (g : Geometry) (n : Name) (d : List ℕ) (s : Side) (held : Held (fold 
 
 -- One turn -------------------------------------------------------------------------------------------------------------------
 
-abbrev reading : World → List Mixed.Tale → List Mixed.Tale → Mixed.Reading
+abbrev reading : World → List Mixed.Tale → List Mixed.Tale → Mixed.ReadingWorld
 reading w p q = record { world = w; first = p; second = q }
 
 module _ (g : Geometry) (a b : Name) (w : World) (p q : List Mixed.Tale) (k : Fine g a b w) where
@@ -147,7 +147,7 @@ runs g a b ab (Mixed.Mixed.left {x} {xs} {ys} {zs} m) w p q k t =
     let e = Interleavings.own-turn g a b w c k (u .0) in
     let o = Interleavings.other-turn g b a (λ z. ab (sym z)) (swap w) c (Interleavings.swap-fine g a b w k) (u .0) in
     let r = runs g a b ab m v (p ++ tellsOne (stateIn g a w) x) q (Interleavings.fine-next g a b w (Turn.one c) k (u .0))
-    (subst (λ (y : Mixed.Reading). Mixed.AllAdmitted g a b y zs) (u .1) (t .1)) in
+    (subst (λ (y : Mixed.ReadingWorld). Mixed.AllAdmitted g a b y zs) (u .1) (t .1)) in
     record {
       laid =
           Interleaving.left (subst (λ (y : FileState). Interleaving (Mixed.stripped g a xs y) (Mixed.stripped g b ys (stateIn g b (swap w)))
@@ -155,12 +155,12 @@ runs g a b ab (Mixed.Mixed.left {x} {xs} {ys} {zs} m) w p q k t =
           (subst (λ (y : FileState). Interleaving (Mixed.stripped g a xs (stateIn g a v)) (Mixed.stripped g b ys y) (Mixed.strippedAll g a b v zs)) o
           (r .laid)));
       accepted = (u .0, r .accepted);
-      world = ap (λ (y : Mixed.Reading). Mixed.atEnd g a b y zs .world) (u .1) ∙ r .world;
+      world = ap (λ (y : Mixed.ReadingWorld). Mixed.atEnd g a b y zs .world) (u .1) ∙ r .world;
       first′ =
-          ap (λ (y : Mixed.Reading). Mixed.atEnd g a b y zs .first) (u .1) ∙ r .first′
+          ap (λ (y : Mixed.ReadingWorld). Mixed.atEnd g a b y zs .first) (u .1) ∙ r .first′
           ∙ append-assoc p (tellsOne (stateIn g a w) x) (tellsAll g a xs (stateIn g a v))
           ∙ ap (λ (y : FileState). p ++ (tellsOne (stateIn g a w) x ++ tellsAll g a xs y)) e;
-      second′ = ap (λ (y : Mixed.Reading). Mixed.atEnd g a b y zs .second) (u .1) ∙ r .second′ ∙ ap (λ (y : FileState). q ++ tellsAll g b ys y) o;
+      second′ = ap (λ (y : Mixed.ReadingWorld). Mixed.atEnd g a b y zs .second) (u .1) ∙ r .second′ ∙ ap (λ (y : FileState). q ++ tellsAll g b ys y) o;
     }
 runs g a b ab (Mixed.Mixed.right {x} {xs} {ys} {zs} m) w p q k t =
     let u = second-turn g a b w p q k x (t .0) in
@@ -169,7 +169,7 @@ runs g a b ab (Mixed.Mixed.right {x} {xs} {ys} {zs} m) w p q k t =
     let e = Interleavings.own-turn g b a (swap w) c (Interleavings.swap-fine g a b w k) (u .0) in
     let o = Interleavings.other-turn g a b ab w c k (u .0) in
     let r = runs g a b ab m v p (q ++ tellsOne (stateIn g b (swap w)) x) (Interleavings.fine-next g a b w (Turn.two c) k (u .0))
-    (subst (λ (y : Mixed.Reading). Mixed.AllAdmitted g a b y zs) (u .1) (t .1)) in
+    (subst (λ (y : Mixed.ReadingWorld). Mixed.AllAdmitted g a b y zs) (u .1) (t .1)) in
     record {
       laid =
           Interleaving.right (subst (λ (y : FileState). Interleaving (Mixed.stripped g a xs (stateIn g a w)) (Mixed.stripped g b ys y)
@@ -177,10 +177,10 @@ runs g a b ab (Mixed.Mixed.right {x} {xs} {ys} {zs} m) w p q k t =
           (subst (λ (y : FileState). Interleaving (Mixed.stripped g a xs y) (Mixed.stripped g b ys (stateIn g b (swap v))) (Mixed.strippedAll g a b v zs)) o
           (r .laid)));
       accepted = (u .0, r .accepted);
-      world = ap (λ (y : Mixed.Reading). Mixed.atEnd g a b y zs .world) (u .1) ∙ r .world;
-      first′ = ap (λ (y : Mixed.Reading). Mixed.atEnd g a b y zs .first) (u .1) ∙ r .first′ ∙ ap (λ (y : FileState). p ++ tellsAll g a xs y) o;
+      world = ap (λ (y : Mixed.ReadingWorld). Mixed.atEnd g a b y zs .world) (u .1) ∙ r .world;
+      first′ = ap (λ (y : Mixed.ReadingWorld). Mixed.atEnd g a b y zs .first) (u .1) ∙ r .first′ ∙ ap (λ (y : FileState). p ++ tellsAll g a xs y) o;
       second′ =
-          ap (λ (y : Mixed.Reading). Mixed.atEnd g a b y zs .second) (u .1) ∙ r .second′
+          ap (λ (y : Mixed.ReadingWorld). Mixed.atEnd g a b y zs .second) (u .1) ∙ r .second′
           ∙ append-assoc q (tellsOne (stateIn g b (swap w)) x) (tellsAll g b ys (stateIn g b (swap v)))
           ∙ ap (λ (y : FileState). q ++ (tellsOne (stateIn g b (swap w)) x ++ tellsAll g b ys y)) e;
     }
