@@ -1,4 +1,4 @@
--- Files in lists by their HIT byte: one more file, the search along a list, and what the search says of all files.
+-- Files in lists by a number of their name: one more file, the search along a list, and what the search says of all files.
 use mathlib.Core.Path.{_≡_, refl, sym, ap, _∙_, subst}
 use mathlib.Core.Logic.{_≢_, ⊎-elim}
 use mathlib.Core.List.{List, [], _∷_}
@@ -12,8 +12,7 @@ use lib.ListN.{getD, set, take, drop, replicate, length-set}
 use lib.Seq.{getD-set-same, getD-set-other}
 use borrow.Author.Tests.{eq-eqb, ne-eqb, not-true, not-false}
 use Rattle.meaning.specs.Lists.{every, same, all}
-use Rattle.meaning.specs.Layout.{isSlot, hit, entryAt, directorySectors}
-use Rattle.meaning.specs.Names.{hash}
+use Rattle.meaning.specs.Layout.{isSlot, entryAt, directorySectors}
 use Rattle.meaning.specs.Entries.{inUsePrimary, nameOf}
 use Rattle.meaning.specs.Chain.{files}
 use Rattle.meaning.specs.Consistent.{namesDiffer}
@@ -25,7 +24,7 @@ use Rattle.layout.specs.Room.{Room, Slot}
 use Rattle.lists.specs.Tests.{all-yes, all-no, all-one, all-at}
 use Rattle.layout.proofs.HasRoom.{slot-of, slot-yes, slot-no, entry-fits}
 use Rattle.layout.proofs.OneStep.{name-part}
-use Rattle.check_names.specs.Buckets.{Hashed, unlike, inBucket, bucket, Linked, Buckets, Joined, Differing, BucketsVisited}
+use Rattle.check_names.specs.Buckets.{key, keyOf, unlike, inBucket, bucket, Linked, Buckets, Joined, Differing, BucketsVisited}
 
 module _ (g : Geometry) (d : List ℕ) where
   -- who stands in a bucket
@@ -61,13 +60,13 @@ module _ (g : Geometry) (d : List ℕ) where
   slot-true : (s : ℕ) → Slot g d s → isSlot g d s ≡ true
   slot-true s h = slot-yes g d s (h .low) (h .held)
 
-  member : (b s : ℕ) → Slot g d s → inUsePrimary g d s ≡ true → hit g d s ≡ b → inBucket g d b s ≡ true
+  member : (b s : ℕ) → Slot g d s → inUsePrimary g d s ≡ true → keyOf g d s ≡ b → inBucket g d b s ≡ true
   unfolding inBucket
   member b s h p e = all-yes (slot-true s h) _ ∙ all-yes p _ ∙ all-one _ ∙ eq-eqb _ _ e
 
-  stranger : (b s : ℕ) → (hit g d s ≡ b → ⊥) → inBucket g d b s ≡ false
+  stranger : (b s : ℕ) → (keyOf g d s ≡ b → ⊥) → inBucket g d b s ≡ false
   unfolding inBucket all
-  stranger b s e = rw (ne-eqb (hit g d s) b e) (none (isSlot g d s) (inUsePrimary g d s))
+  stranger b s e = rw (ne-eqb (keyOf g d s) b e) (none (isSlot g d s) (inUsePrimary g d s))
     where
       none : (x y : Bool) → (x && (y && (false && true))) ≡ false
       none true true = refl
@@ -179,19 +178,19 @@ module _ (g : Geometry) (d : List ℕ) where
   pub skip-entry : (s : ℕ) (head next : List ℕ) → Buckets g d s head next → inUsePrimary g d s ≡ false → Buckets g d (s + 1) head next
   skip-entry s head next w e = buckets-skip s head next w (λ b. outsider b s e)
 
-  -- slot s joins the list of its HIT byte
-  pub buckets-join : (s : ℕ) (head next : List ℕ) → Buckets g d s head next → Slot g d s → inUsePrimary g d s ≡ true → hit g d s < 256
-      → Buckets g d (s + 1) (set head (hit g d s) (s + 1)) (set next s (getD head (hit g d s) 0))
+  -- slot s joins the list of its number
+  pub buckets-join : (s : ℕ) (head next : List ℕ) → Buckets g d s head next → Slot g d s → inUsePrimary g d s ≡ true → keyOf g d s < 256
+      → Buckets g d (s + 1) (set head (keyOf g d s) (s + 1)) (set next s (getD head (keyOf g d s) 0))
   buckets-join s head next w h p l = record {
     heads = length-set head _ _ ∙ w .heads;
     nexts = length-set next _ _ ∙ w .nexts;
-    linked = λ b k. linked′ b k (ℕ-discrete b (hit g d s));
+    linked = λ b k. linked′ b k (ℕ-discrete b (keyOf g d s));
     falls = λ k. falls′ k (ℕ-discrete k s);
-    low = λ b. low′ b (ℕ-discrete b (hit g d s));
+    low = λ b. low′ b (ℕ-discrete b (keyOf g d s));
   }
     where
       b₀ : ℕ
-      b₀ = hit g d s
+      b₀ = keyOf g d s
 
       n′ : List ℕ
       n′ = set next s (getD head b₀ 0)
@@ -216,18 +215,20 @@ module _ (g : Geometry) (d : List ℕ) where
       low′ b (no e) = rw (getD-set-other head b₀ b (s + 1) 0 e) (let z = w .low b in omega arith)
 
   -- the list that slot s looks through, and what looking gives
-  pub first-list : (s : ℕ) (head next : List ℕ) {b x : ℕ} → Buckets g d s head next → b ≡ hit g d s → b < 256 → x ≡ getD head b 0
-      → Linked g d next x (bucket g d (hit g d s) s)
+  pub first-list : (s : ℕ) (head next : List ℕ) {b x : ℕ} → Buckets g d s head next → b ≡ keyOf g d s → b < 256 → x ≡ getD head b 0
+      → Linked g d next x (bucket g d (keyOf g d s) s)
   first-list s head next w e l r =
-      subst (λ (y : ℕ). Linked g d next y (bucket g d (hit g d s) s)) (sym r)
-      (subst (λ (k : ℕ). Linked g d next (getD head k 0) (bucket g d (hit g d s) s)) (sym e) (w .linked (hit g d s) (omega arith)))
+      subst (λ (y : ℕ). Linked g d next y (bucket g d (keyOf g d s) s)) (sym r)
+      (subst (λ (k : ℕ). Linked g d next (getD head k 0) (bucket g d (keyOf g d s) s)) (sym e) (w .linked (keyOf g d s) (omega arith)))
 
-  pub joined-no : (s : ℕ) (head next : List ℕ) {f : Bool} → f ≡ every (unlike g d s) (bucket g d (hit g d s) s) → not f ≡ true → Joined g d s head next false
+  pub joined-no : (s : ℕ) (head next : List ℕ) {f : Bool} → f ≡ every (unlike g d s) (bucket g d (keyOf g d s) s) → not f ≡ true → Joined g d s head next
+      false
   joined-no s head next {f} e t = record { answer = sym (not-true f t) ∙ e; joined = λ z. absurd (Members.false-no (sym z) tt) }
 
-  pub joined-yes : (s : ℕ) (head next : List ℕ) {b x : ℕ} {f : Bool} → Buckets g d s head next → Slot g d s → inUsePrimary g d s ≡ true → b ≡ hit g d s → b <
+  pub joined-yes : (s : ℕ) (head next : List ℕ) {b x : ℕ} {f : Bool} → Buckets g d s head next → Slot g d s → inUsePrimary g d s ≡ true → b ≡ keyOf g d s → b
+      <
       256
-      → x ≡ getD head b 0 → f ≡ every (unlike g d s) (bucket g d (hit g d s) s) → not f ≡ false → Joined g d s (set head b (s + 1)) (set next s x) true
+      → x ≡ getD head b 0 → f ≡ every (unlike g d s) (bucket g d (keyOf g d s) s) → not f ≡ false → Joined g d s (set head b (s + 1)) (set next s x) true
   joined-yes s head next {b} {x} {f} w h p e l r q t =
       record {
         answer = sym (not-false f t) ∙ q;
@@ -249,6 +250,14 @@ module _ (g : Geometry) (d : List ℕ) where
       rw (name-part g d s (omega arith), name-part g d q (omega arith))
       (ap not (sym (e ∙ ap (λ (m : ℕ). same (take 11 (drop (entryAt g q + 5) d)) (take m (drop (at + 5) d))) z
       ∙ ap (λ (m : ℕ). same (take 11 (drop (entryAt g q + 5) d)) (take 11 (drop (m + 5) d))) y)))
+
+  -- the number that the code makes of the bytes of a name
+  pub keyed : (s n at : ℕ) {b : ℕ} → Room g d → Slot g d s → n ≡ 11 → at ≡ entryAt g s → b ≡ key (take n (drop (at + 5) d))
+      → b ≡ keyOf g d s
+  keyed s n at k h z y e =
+      let a = entry-fits g d s k h in
+      e ∙ ap (λ (m : ℕ). key (take m (drop (at + 5) d))) z ∙ ap (λ (m : ℕ). key (take 11 (drop (m + 5) d))) y
+      ∙ ap key (sym (name-part g d s (omega arith)))
 
   pub differing-start : Differing g d 0 (replicate 256 0) (replicate 256 0)
   differing-start = record { low = omega arith; lists = buckets-none; apart = λ p q a. absurd (let z : ⊥ = omega arith in z) }
@@ -287,22 +296,21 @@ module _ (g : Geometry) (d : List ℕ) where
         apart = apart-more s (w .apart) (λ q b i j z. Members.false-no e (i .primary′));
       }
 
-  -- where HIT bytes are hashes, a file with the same name stands in the same list
-  listed : Hashed g d → (s q : ℕ) → Facts.IsFile g d s → Facts.IsFile g d q → nameOf g d q ≡ nameOf g d s → inBucket g d (hit g d s) q ≡ true
-  listed h s q i j e =
-      let a = slot-of g d s (filed s i) in let b = slot-of g d q (filed q j) in
-      member (hit g d s) q b (firsted q j) (h .hashed q b (firsted q j) ∙ ap hash e ∙ sym (h .hashed s a (firsted s i)))
+  -- a file with the same name stands in the same list
+  listed : (s q : ℕ) → Facts.IsFile g d s → Facts.IsFile g d q → nameOf g d q ≡ nameOf g d s → inBucket g d (keyOf g d s) q ≡ true
+  listed s q i j e =
+      member (keyOf g d s) q (slot-of g d q (filed q j)) (firsted q j) (ap key e)
 
-  pub differing-on : Hashed g d → (s : ℕ) (head next head′ next′ : List ℕ) {r : Bool} → Differing g d s head next → s < 256 → Joined g d s head′ next′ r → r ≡
+  pub differing-on : (s : ℕ) (head next head′ next′ : List ℕ) {r : Bool} → Differing g d s head next → s < 256 → Joined g d s head′ next′ r → r ≡
       true
       → Differing g d (s + 1) head′ next′
-  differing-on h s head next head′ next′ w l k e =
+  differing-on s head next head′ next′ w l k e =
       record {
         low = omega arith;
         lists = k .joined e;
         apart = apart-more s (w .apart) (λ q b i j z.
             Members.false-no (unlike-same s q z) (Members.every-all (unlike g d s) (Members.true-T (sym (k .answer) ∙ e))
-            (bucket-in (hit g d s) s q b (listed h s q i j z))));
+            (bucket-in (keyOf g d s) s q b (listed s q i j z))));
       }
     where
       unlike-same : (s q : ℕ) → nameOf g d q ≡ nameOf g d s → unlike g d s q ≡ false
@@ -332,13 +340,13 @@ module _ (g : Geometry) (d : List ℕ) where
   pub differing-found : (s : ℕ) (head′ next′ : List ℕ) {r : Bool} → Slot g d s → inUsePrimary g d s ≡ true → Joined g d s head′ next′ r → r ≡ false
       → false ≡ namesDiffer g d (files g d)
   differing-found s head′ next′ h p k e =
-      let w = some-false (unlike g d s) (bucket g d (hit g d s) s) (sym (k .answer) ∙ e) in
-      let q = w .0 in let m = in-bucket (hit g d s) s q (w .1) in
+      let w = some-false (unlike g d s) (bucket g d (keyOf g d s) s) (sym (k .answer) ∙ e) in
+      let q = w .0 in let m = in-bucket (keyOf g d s) s q (w .1) in
       let n = same-of s q (w .2) in
       let fs : Facts.IsFile g d s = record { slot = Members.true-T (slot-true s h); primary′ = Members.true-T p } in
       let fq : Facts.IsFile g d q = record {
-        slot = Members.true-T (slot-in (hit g d s) q (m .1));
-        primary′ = Members.true-T (first-in (hit g d s) q (m .1));
+        slot = Members.true-T (slot-in (keyOf g d s) q (m .1));
+        primary′ = Members.true-T (first-in (keyOf g d s) q (m .1));
       } in
       sym (Members.no-false (λ t. let z = Facts.differ-says g d {p = q} {q = s} t (Facts.in-files g d q fq) (Facts.in-files g d s fs) n in let lt = m .0 in
       omega arith))
@@ -381,8 +389,8 @@ module _ (g : Geometry) (d : List ℕ) where
   visit-other s head next {f} w l e t =
       record { bad = λ z. absurd (Members.false-no z tt); good = λ z. differing-other s head next w l (sym e ∙ not-true f t) }
 
-  pub visit-file : Hashed g d → (s : ℕ) (head next head′ next′ : List ℕ) {r f : Bool} → Differing g d s head next → Slot g d s → f ≡ inUsePrimary g d s → not
+  pub visit-file : (s : ℕ) (head next head′ next′ : List ℕ) {r f : Bool} → Differing g d s head next → Slot g d s → f ≡ inUsePrimary g d s → not
       f ≡ false
       → Joined g d s head′ next′ r → BucketsVisited g d (s + 1) head′ next′ r
-  visit-file h s head next head′ next′ {r} {f} w k e t j =
-      record { bad = λ z. differing-found s head′ next′ k (sym e ∙ not-false f t) j z; good = λ z. differing-on h s head next head′ next′ w (k .low) j z }
+  visit-file s head next head′ next′ {r} {f} w k e t j =
+      record { bad = λ z. differing-found s head′ next′ k (sym e ∙ not-false f t) j z; good = λ z. differing-on s head next head′ next′ w (k .low) j z }

@@ -1,34 +1,40 @@
--- The files in lists by their HIT byte, so that a name is compared only with those of the same HIT byte.
+-- The files in lists by a number of their name, so that a name is compared only with those of the same number.
 use mathlib.Core.Path.{_≡_}
 use mathlib.Core.Bool.{Bool, true, false, not, cond}
 use mathlib.Core.List.{List, [], _∷_}
-use Prim.Native.Nat.{ℕ, zero, suc, _+_, _<_, _≤_}
+use Prim.Native.Nat.{ℕ, zero, suc, _+_, _%_, _<_, _≤_}
+use lib.Bits.{bitXor}
 use lib.Dec.{eqb}
-use lib.ListN.{length, getD}
+use lib.ListN.{length, getD, take, drop}
 use Rattle.meaning.specs.Lists.{all, every, same}
-use Rattle.meaning.specs.Layout.{isSlot, hit}
-use Rattle.meaning.specs.Names.{hash}
+use Rattle.meaning.specs.Layout.{isSlot}
 use Rattle.meaning.specs.Entries.{inUsePrimary, nameOf}
 use Rattle.meaning.specs.declared.Geometry.{Geometry}
 use Rattle.meaning.specs.Chain.{files}
 use Rattle.meaning.specs.Consistent.{namesDiffer}
 use Rattle.laws.specs.Facts.{IsFile}
 use Rattle.layout.specs.Room.{Slot}
+use Rattle.layout.specs.Number.{number}
+
+-- The number of a name: its first eight bytes and its last eight, by a prime. Not its hash: 01's takes few values on names that differ in a
+-- digit or two, as those of a series do, and a disk may well have one hash for all its names.
+unfoldable pub key : List ℕ → ℕ
+key n = bitXor (number (take 8 n)) (number (take 8 (drop 3 n))) % 229
 
 module _ (g : Geometry) (d : List ℕ) where
-  -- HIT bytes of files equal the hashes
-  pub record Hashed : Type 0 where
-    pub hashed : (p : ℕ) → Slot g d p → inUsePrimary g d p ≡ true → hit g d p ≡ hash (nameOf g d p)
+  -- the number of the name at a slot
+  abbrev pub keyOf : ℕ → ℕ
+  keyOf s = key (nameOf g d s)
 
   -- the entry at q has another name than the one at s
   unfoldable pub unlike : ℕ → ℕ → Bool
   unlike s q = not (same (nameOf g d q) (nameOf g d s))
 
-  -- slot s starts a file, with HIT byte b
+  -- slot s starts a file, with the number b
   unfoldable pub inBucket : ℕ → ℕ → Bool
-  inBucket b s = all (isSlot g d s ∷ inUsePrimary g d s ∷ eqb (hit g d s) b ∷ [])
+  inBucket b s = all (isSlot g d s ∷ inUsePrimary g d s ∷ eqb (keyOf s) b ∷ [])
 
-  -- the files below slot n with HIT byte b, falling
+  -- the files below slot n with the number b, falling
   unfoldable pub bucket : ℕ → ℕ → List ℕ
   bucket b zero = []
   bucket b (suc n) = cond (inBucket b n) (n ∷ bucket b n) (bucket b n)
@@ -38,7 +44,7 @@ module _ (g : Geometry) (d : List ℕ) where
   Linked next x [] = x ≡ 0
   Linked next x (s ∷ ss) = Slot g d s × (x ≡ s + 1) × Linked next (getD next s 0) ss
 
-  -- every file below slot n stands in the list of its HIT byte
+  -- every file below slot n stands in the list of its number
   pub record Buckets (n : ℕ) (head next : List ℕ) : Type 0 where
     pub heads : length head ≡ 256
     pub nexts : length next ≡ 256
@@ -48,7 +54,7 @@ module _ (g : Geometry) (d : List ℕ) where
 
   -- what joining gives: whether the name of slot s was new in its list, and if so all lists up to s
   pub record Joined (s : ℕ) (head next : List ℕ) (r : Bool) : Type 0 where
-    pub answer : r ≡ every (unlike s) (bucket (hit g d s) s)
+    pub answer : r ≡ every (unlike s) (bucket (keyOf s) s)
     pub joined : r ≡ true → Buckets (s + 1) head next
 
   -- all files below slot s have names of their own

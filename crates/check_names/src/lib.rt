@@ -5,20 +5,20 @@ ghost use mathlib.Core.Bool.{true};
 ghost use Prim.Native.Nat.{_+_, _*_, _<_, _≤_};
 ghost use lib.ListN.{length, getD};
 ghost use Rattle.meaning.specs.Lists.{every};
-ghost use Rattle.meaning.specs.Layout.{hit, entryAt};
+ghost use Rattle.meaning.specs.Layout.{entryAt};
 ghost use Rattle.meaning.specs.Entries.{inUsePrimary};
 ghost use Rattle.meaning.specs.Chain.{files};
 ghost use Rattle.meaning.specs.Consistent.{namesDiffer};
-ghost use Rattle.layout.specs.Room.{Room, Slot};
-ghost use Rattle.check_names.specs.Buckets.{Hashed, Buckets, Linked, bucket, unlike, Joined, Differing, BucketsVisited};
+ghost use Rattle.layout.specs.Room.{Room, Slot, Below};
+ghost use Rattle.check_names.specs.Buckets.{key, keyOf, Buckets, Linked, bucket, unlike, Joined, Differing, BucketsVisited};
 
 // Whether no entry of a list has the name of slot s, whose entry is at `at`. The list starts at `first`: a slot's number plus 1, or 0 where
 // it ends; `next` tells what follows a slot.
 fn alone(image: &[u8], g: Geometry, s: usize, at: usize, first: usize, next: &[u16]) -> bool
     requires { ⌜ Room g (now image) × Slot g (now image) s × (at ≡ entryAt g s)
-        × Linked g (now image) (now next) first (bucket g (now image) (hit g (now image) s) s)
+        × Linked g (now image) (now next) first (bucket g (now image) (keyOf g (now image) s) s)
         × (length (now next) ≡ 256) × ((k : _) → getD (now next) k 0 ≤ k) ⌝ }
-    ensures { λ r. ⌜ r ≡ every (unlike g (now (image .entry)) s) (bucket g (now (image .entry)) (hit g (now (image .entry)) s) s) ⌝ }
+    ensures { λ r. ⌜ r ≡ every (unlike g (now (image .entry)) s) (bucket g (now (image .entry)) (keyOf g (now (image .entry)) s) s) ⌝ }
 {
     let a = at + layout::NAME;
     let e = a + 11;
@@ -37,13 +37,23 @@ fn alone(image: &[u8], g: Geometry, s: usize, at: usize, first: usize, next: &[u
     true
 }
 
-// Puts slot s into the list of its HIT byte, unless an entry with its name is there. A slot's number plus 1 is a byte: no row has all 32 slots.
+// The number of a name. A prime that a machine divides by with one product.
+fn key(name: &[u8]) -> usize
+    requires { ⌜ length (now name) ≡ 11 ⌝ }
+    ensures { λ r. ⌜ Below 229 (key (now (name .entry))) r ⌝ }
+{
+    ((layout::eight(name, 0) ^ layout::eight(name, 3)) % 229) as usize
+}
+
+// Puts slot s into the list of its number, unless an entry with its name is there. A slot's number plus 1 is a byte: no row has all 32 slots.
 fn joins(image: &[u8], g: Geometry, s: usize, at: usize, head: &mut [u8], next: &mut [u16]) -> bool
     requires { ⌜ Room g (now image) × Slot g (now image) s × (at ≡ entryAt g s) × (inUsePrimary g (now image) s ≡ true)
         × Buckets g (now image) s (now head) (now next) ⌝ }
     ensures { λ r. ⌜ Joined g (now (image .entry)) s (now (head .exit)) (now (next .exit)) r ⌝ }
 {
-    let b = layout::hit(image, g, s);
+    let a = at + layout::NAME;
+    let e = a + 11;
+    let b = key(&image[a..e]);
     let first = layout::wide(head[b]);
     if !alone(image, g, s, at, first, next) {
         return false;
@@ -55,7 +65,7 @@ fn joins(image: &[u8], g: Geometry, s: usize, at: usize, head: &mut [u8], next: 
 
 // Slot s, after all slots below it: false if it is a file whose name one of those has.
 fn visit(image: &[u8], g: Geometry, s: usize, at: usize, head: &mut [u8], next: &mut [u16]) -> bool
-    requires { ⌜ Room g (now image) × Hashed g (now image) × Slot g (now image) s × (at ≡ entryAt g s)
+    requires { ⌜ Room g (now image) × Slot g (now image) s × (at ≡ entryAt g s)
         × Differing g (now image) s (now head) (now next) ⌝ }
     ensures { λ r. ⌜ BucketsVisited g (now (image .entry)) (s + 1) (now (head .exit)) (now (next .exit)) r ⌝ }
 {
@@ -67,7 +77,7 @@ fn visit(image: &[u8], g: Geometry, s: usize, at: usize, head: &mut [u8], next: 
 
 // The slots of one row, after those of all rows before it.
 fn row_differs(image: &[u8], g: Geometry, row: usize, head: &mut [u8], next: &mut [u16]) -> bool
-    requires { ⌜ Room g (now image) × Hashed g (now image) × (row < 8) × Differing g (now image) (32 * row) (now head) (now next) ⌝ }
+    requires { ⌜ Room g (now image) × (row < 8) × Differing g (now image) (32 * row) (now head) (now next) ⌝ }
     ensures { λ r. ⌜ BucketsVisited g (now (image .entry)) (32 * (row + 1)) (now (head .exit)) (now (next .exit)) r ⌝ }
 {
     let first = 32 * row;
@@ -84,9 +94,9 @@ fn row_differs(image: &[u8], g: Geometry, row: usize, head: &mut [u8], next: &mu
     true
 }
 
-// Whether no two files have the same name. Names are compared only where HIT bytes agree.
+// Whether no two files have the same name. Names are compared only where their numbers agree.
 pub fn names_differ(image: &[u8], g: Geometry) -> bool
-    requires { ⌜ Room g (now image) × Hashed g (now image) ⌝ }
+    requires { ⌜ Room g (now image) ⌝ }
     ensures { λ r. ⌜ r ≡ namesDiffer g (now (image .entry)) (files g (now (image .entry))) ⌝ }
 {
     let mut head = [0u8; 256];

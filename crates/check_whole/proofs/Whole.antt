@@ -388,10 +388,6 @@ module _ (g : Geometry) (d m : List ℕ) (room : Room g d) (w : GatMap g d m) wh
     pub no-met : every (metAt (marked seen 0 (each (chainOf g d) (slots g d)))) (slots g d) ≡ false → false ≡ consistent g d
     no-met e = by-way g d (λ q. not-both (maps-met g d q (standing g d m) _ (Bridge.base g d m room w) copy) e)
 
-    pub hashes : lengthHolds g d ≡ true → Bytes d → slotsFit g d (standing g d m) seen (slots g d) ≡ true
-        → every (metAt (marked seen 0 (each (chainOf g d) (slots g d)))) (slots g d) ≡ true → (p : ℕ) → IsFile g d p → hit g d p ≡ hash (nameOf g d p)
-    hashes l y f a = hashed g d l _ _ (Bridge.base g d m room w) copy y dt f a
-
     pub by-names : lengthHolds g d ≡ true → Bytes d → slotsFit g d (standing g d m) seen (slots g d) ≡ true
         → every (metAt (marked seen 0 (each (chainOf g d) (slots g d)))) (slots g d) ≡ true → namesDiffer g d (files g d) ≡ consistent g d
     by-names l y f a =
@@ -423,13 +419,6 @@ module _ (g : Geometry) (d : List ℕ) (room : Room g d) {m m₂ seen met₂ : L
 
   pub way-met : {q : Bool} → r ≡ true → q ≡ every (metAt met₂) (slots g d) → q ≡ false → false ≡ consistent g d
   way-met e f n = no-met g d m room w open′ seen copy (sym (met-is e f) ∙ n)
-
-  pub way-hashed : {q : Bool} → r ≡ true → q ≡ every (metAt met₂) (slots g d) → q ≡ true → lengthHolds g d ≡ true → Bytes d → (p : ℕ) → Slot g d p →
-      inUsePrimary g d p ≡ true
-      → hit g d p ≡ hash (nameOf g d p)
-  way-hashed e f n l y p sl u =
-      hashes g d m room w open′ seen copy l y (sym fit-is ∙ e) (sym (met-is e f) ∙ n) p
-      (record { slot = Members.true-T (slot-yes g d p (sl .low) (sl .held)); primary′ = Members.true-T u })
 
   pub way-names : {q n : Bool} → r ≡ true → q ≡ every (metAt met₂) (slots g d) → q ≡ true → lengthHolds g d ≡ true → Bytes d → n ≡ namesDiffer g d (files g d)
       → n ≡ consistent g d

@@ -1,7 +1,6 @@
 use mathlib.Core.Path.{ap, _∙_}
 use Prim.Native.Nat.{_+_, _-_}
-use Rattle.meaning.specs.Layout.{hit}
-use Rattle.check_names.specs.Buckets.{bucket}
+use Rattle.check_names.specs.Buckets.{keyOf, bucket}
 use Rattle.check_names.proofs.Buckets.{Searching, searching-start, here, searching-found, searching-on, searching-end, compared}
 use borrow.Author.Needs.{needs}
 use native.Mathlib.Omega.{arith}
@@ -13,7 +12,7 @@ use Rattle.check_names.proofs.alone.Lts as lts
 use Rattle.layout.proofs.same_name.Reads as same-name-reads
 
 abbrev Inv-loop : tie.InvT-loop
-Inv-loop image g s at first next a e x₀ x = Searching g image next (bucket g image (hit g image s) s) s x
+Inv-loop image g s at first next a e x₀ x = Searching g image next (bucket g image (keyOf g image s) s) s x
 
 abbrev μ-loop : tie.MeasureT-loop
 μ-loop image g s at first next a e x₀ x = x
@@ -32,37 +31,37 @@ sub-q c = search needs
 
 add-same-name : tie.Need-add-same-name Inv-loop μ-loop
 add-same-name c = let a = c .before .before .before .before .before .args in
-    let w = here (a .g) (a .image .now) (a .next .now) (bucket (a .g) (a .image .now) (hit (a .g) (a .image .now) (a .s)) (a .s)) (a .s)
+    let w = here (a .g) (a .image .now) (a .next .now) (bucket (a .g) (a .image .now) (keyOf (a .g) (a .image .now) (a .s)) (a .s)) (a .s)
     (c .before .before .loop .x) (c .before .before .loop .inv) (c .before .loop-test .taken) in
     let lo = w .slot .low in let he = w .slot .held in omega arith
 
 add-same-name-2 : tie.Need-add-same-name-2 Inv-loop μ-loop
 add-same-name-2 c = let a = c .before .before .before .before .before .args in
-    let w = here (a .g) (a .image .now) (a .next .now) (bucket (a .g) (a .image .now) (hit (a .g) (a .image .now) (a .s)) (a .s)) (a .s)
+    let w = here (a .g) (a .image .now) (a .next .now) (bucket (a .g) (a .image .now) (keyOf (a .g) (a .image .now) (a .s)) (a .s)) (a .s)
     (c .before .before .loop .x) (c .before .before .loop .inv) (c .before .loop-test .taken) in
     let lo = w .slot .low in let he = w .slot .held in omega arith
 
 mul-same-name : tie.Need-mul-same-name Inv-loop μ-loop
 mul-same-name c = let a = c .before .before .before .before .before .args in
-    let w = here (a .g) (a .image .now) (a .next .now) (bucket (a .g) (a .image .now) (hit (a .g) (a .image .now) (a .s)) (a .s)) (a .s)
+    let w = here (a .g) (a .image .now) (a .next .now) (bucket (a .g) (a .image .now) (keyOf (a .g) (a .image .now) (a .s)) (a .s)) (a .s)
     (c .before .before .loop .x) (c .before .before .loop .inv) (c .before .loop-test .taken) in
     let lo = w .slot .low in let he = w .slot .held in omega arith
 
 mul-same-name-2 : tie.Need-mul-same-name-2 Inv-loop μ-loop
 mul-same-name-2 c = let a = c .before .before .before .before .before .args in
-    let w = here (a .g) (a .image .now) (a .next .now) (bucket (a .g) (a .image .now) (hit (a .g) (a .image .now) (a .s)) (a .s)) (a .s)
+    let w = here (a .g) (a .image .now) (a .next .now) (bucket (a .g) (a .image .now) (keyOf (a .g) (a .image .now) (a .s)) (a .s)) (a .s)
     (c .before .before .loop .x) (c .before .before .loop .inv) (c .before .loop-test .taken) in
     let lo = w .slot .low in let he = w .slot .held in omega arith
 
 add-same-name-3 : tie.Need-add-same-name-3 Inv-loop μ-loop
 add-same-name-3 c = let a = c .before .before .before .before .before .args in
-    let w = here (a .g) (a .image .now) (a .next .now) (bucket (a .g) (a .image .now) (hit (a .g) (a .image .now) (a .s)) (a .s)) (a .s)
+    let w = here (a .g) (a .image .now) (a .next .now) (bucket (a .g) (a .image .now) (keyOf (a .g) (a .image .now) (a .s)) (a .s)) (a .s)
     (c .before .before .loop .x) (c .before .before .loop .inv) (c .before .loop-test .taken) in
     let lo = w .slot .low in let he = w .slot .held in omega arith
 
 add-same-name-4 : tie.Need-add-same-name-4 Inv-loop μ-loop
 add-same-name-4 c = let a = c .before .before .before .before .before .args in
-    let w = here (a .g) (a .image .now) (a .next .now) (bucket (a .g) (a .image .now) (hit (a .g) (a .image .now) (a .s)) (a .s)) (a .s)
+    let w = here (a .g) (a .image .now) (a .next .now) (bucket (a .g) (a .image .now) (keyOf (a .g) (a .image .now) (a .s)) (a .s)) (a .s)
     (c .before .before .loop .x) (c .before .before .loop .inv) (c .before .loop-test .taken) in
     let lo = w .slot .low in let he = w .slot .held in omega arith
 
@@ -78,16 +77,16 @@ part-same-name-end c = let e = c .before .before .before .before .before .pre .2
 
 same-name-requires : tie.Need-same-name-requires Inv-loop μ-loop
 same-name-requires c κs = let a = c .before .before .before .before .before .before .args in
-    let w = here (a .g) (a .image .now) (a .next .now) (bucket (a .g) (a .image .now) (hit (a .g) (a .image .now) (a .s)) (a .s)) (a .s)
+    let w = here (a .g) (a .image .now) (a .next .now) (bucket (a .g) (a .image .now) (keyOf (a .g) (a .image .now) (a .s)) (a .s)) (a .s)
     (c .before .before .before .loop .x) (c .before .before .before .loop .inv) (c .before .before .loop-test .taken) in
     let lo = w .slot .low in let he = w .slot .held in (omega arith, omega arith)
 
 returns : tie.Need-returns Inv-loop μ-loop
 returns c = let a = c .before .before .before .before .before .before .before .before .args in
-    let w = here (a .g) (a .image .now) (a .next .now) (bucket (a .g) (a .image .now) (hit (a .g) (a .image .now) (a .s)) (a .s)) (a .s)
+    let w = here (a .g) (a .image .now) (a .next .now) (bucket (a .g) (a .image .now) (keyOf (a .g) (a .image .now) (a .s)) (a .s)) (a .s)
     (c .before .before .before .before .before .loop .x) (c .before .before .before .before .before .loop .inv)
     (c .before .before .before .before .loop-test .taken) in
-    searching-found (a .g) (a .image .now) (a .next .now) (bucket (a .g) (a .image .now) (hit (a .g) (a .image .now) (a .s)) (a .s)) (a .s)
+    searching-found (a .g) (a .image .now) (a .next .now) (bucket (a .g) (a .image .now) (keyOf (a .g) (a .image .now) (a .s)) (a .s)) (a .s)
     (c .before .before .before .before .before .loop .x) w
     (compared (a .g) (a .image .now) (a .s) (c .before .before .before .before .before .loop .x - 1) (a .at + 5 + 11 - (a .at + 5)) (a .at)
     (c .before .before .before .before .before .before .before .before .pre .0)
@@ -96,21 +95,21 @@ returns c = let a = c .before .before .before .before .before .before .before .b
 
 mul-x : tie.Need-mul-x Inv-loop μ-loop
 mul-x c = let a = c .before .before .before .before .before .before .before .before .args in
-    let w = here (a .g) (a .image .now) (a .next .now) (bucket (a .g) (a .image .now) (hit (a .g) (a .image .now) (a .s)) (a .s)) (a .s)
+    let w = here (a .g) (a .image .now) (a .next .now) (bucket (a .g) (a .image .now) (keyOf (a .g) (a .image .now) (a .s)) (a .s)) (a .s)
     (c .before .before .before .before .before .loop .x) (c .before .before .before .before .before .loop .inv)
     (c .before .before .before .before .loop-test .taken) in
     let lo = w .slot .low in let he = w .slot .held in omega arith
 
 shared-slice-read-x : tie.Need-shared-slice-read-x Inv-loop μ-loop
 shared-slice-read-x c = let a = c .before .before .before .before .before .before .before .before .before .args in
-    let w = here (a .g) (a .image .now) (a .next .now) (bucket (a .g) (a .image .now) (hit (a .g) (a .image .now) (a .s)) (a .s)) (a .s)
+    let w = here (a .g) (a .image .now) (a .next .now) (bucket (a .g) (a .image .now) (keyOf (a .g) (a .image .now) (a .s)) (a .s)) (a .s)
     (c .before .before .before .before .before .before .loop .x) (c .before .before .before .before .before .before .loop .inv)
     (c .before .before .before .before .before .loop-test .taken) in
     let lo = w .slot .low in let he = w .slot .held in omega arith
 
 cast-x : tie.Need-cast-x Inv-loop μ-loop
 cast-x c = let a = c .before .before .before .before .before .before .before .before .before .args in
-    let w = here (a .g) (a .image .now) (a .next .now) (bucket (a .g) (a .image .now) (hit (a .g) (a .image .now) (a .s)) (a .s)) (a .s)
+    let w = here (a .g) (a .image .now) (a .next .now) (bucket (a .g) (a .image .now) (keyOf (a .g) (a .image .now) (a .s)) (a .s)) (a .s)
     (c .before .before .before .before .before .before .loop .x) (c .before .before .before .before .before .before .loop .inv)
     (c .before .before .before .before .before .loop-test .taken) in
     let lo = w .slot .low in let he = w .slot .held in
@@ -126,10 +125,10 @@ loop-less c = let a = c .before .before .before .before .before .before .before 
 
 loop-again : tie.Need-loop-again Inv-loop μ-loop
 loop-again c = let a = c .before .before .before .before .before .before .before .before .before .args in
-    let w = here (a .g) (a .image .now) (a .next .now) (bucket (a .g) (a .image .now) (hit (a .g) (a .image .now) (a .s)) (a .s)) (a .s)
+    let w = here (a .g) (a .image .now) (a .next .now) (bucket (a .g) (a .image .now) (keyOf (a .g) (a .image .now) (a .s)) (a .s)) (a .s)
     (c .before .before .before .before .before .before .loop .x) (c .before .before .before .before .before .before .loop .inv)
     (c .before .before .before .before .before .loop-test .taken) in
-    searching-on (a .g) (a .image .now) (a .next .now) (bucket (a .g) (a .image .now) (hit (a .g) (a .image .now) (a .s)) (a .s)) (a .s)
+    searching-on (a .g) (a .image .now) (a .next .now) (bucket (a .g) (a .image .now) (keyOf (a .g) (a .image .now) (a .s)) (a .s)) (a .s)
     (c .before .before .before .before .before .before .loop .x) w
     (compared (a .g) (a .image .now) (a .s) (c .before .before .before .before .before .before .loop .x - 1) (a .at + 5 + 11 - (a .at + 5)) (a .at)
     (c .before .before .before .before .before .before .before .before .before .pre .0)
@@ -139,7 +138,8 @@ loop-again c = let a = c .before .before .before .before .before .before .before
 
 returns-2 : tie.Need-returns-2 Inv-loop μ-loop
 returns-2 c = let a = c .before .before .before .before .args in
-    searching-end (a .g) (a .image .now) (a .next .now) (bucket (a .g) (a .image .now) (hit (a .g) (a .image .now) (a .s)) (a .s)) (a .s) (c .before .loop .x)
+    searching-end (a .g) (a .image .now) (a .next .now) (bucket (a .g) (a .image .now) (keyOf (a .g) (a .image .now) (a .s)) (a .s)) (a .s)
+    (c .before .loop .x)
     (c .before .loop .inv) (c .loop-test .left)
 
 pub alone-spec : {M : Type 1} → statement M

@@ -29,7 +29,7 @@ row-differs-requires : tie.Need-row-differs-requires Inv-loop μ-loop
 row-differs-requires c κs =
     let c₃ = c .before .before .before in let l = c₃ .loop in
     let c₅ = c₃ .before .before in let p = c₅ .pre in
-    (p .0, p .1, c .before .before .loop-test .taken, l .inv .0)
+    (p, c .before .before .loop-test .taken, l .inv .0)
 
 returns : tie.Need-returns Inv-loop μ-loop
 returns c = c .before .before .before .row-differs .ensures .bad (not-true (c .before .before .before .row-differs .result) (c .if1 .taken))

@@ -45,14 +45,12 @@ add-at-2 c = search needs
 
 loop-holds : tie.Need-loop-holds Inv-loop μ-loop
 loop-holds c = let e = c .before .directory-sectors .ensures in let t = c .before .before .before .before .before .pre .0 .thirty in
-    (c .before .before .before .before .before .pre .3, omega arith, omega arith, omega arith, omega arith)
+    (c .before .before .before .before .before .pre .2, omega arith, omega arith, omega arith, omega arith)
 
 visit-requires : tie.Need-visit-requires Inv-loop μ-loop
 visit-requires c κs = let z = c .before .before .before .loop .inv in let q1 = z .1 in let q2 = z .2 in let q3 = z .3 in let q4 = z .4 in
     let e = c .before .before .before .before .before .directory-sectors .ensures in (
       c .before .before .before .before .before .before .before .before .before .pre .0,
-      c .before .before .before .before .before .before .before .before
-          .before .pre .1,
       record { low = omega arith; held = omega arith },
       omega arith,
       z .0,
@@ -60,12 +58,12 @@ visit-requires c κs = let z = c .before .before .before .loop .inv in let q1 = 
 
 same-length : tie.Need-same-length Inv-loop μ-loop
 same-length c = let a = c .before .before .before .before .before .before .before .before .before .loop .inv .0 .lists .heads in
-    let b = c .before .before .before .before .before .before .before .before .before .before .before .before .before .before .before .pre .3 .lists .heads in
+    let b = c .before .before .before .before .before .before .before .before .before .before .before .before .before .before .before .pre .2 .lists .heads in
     let h = c .before .before .before .before .head .given in omega arith
 
 same-length-2 : tie.Need-same-length-2 Inv-loop μ-loop
 same-length-2 c = let a = c .before .before .before .before .before .before .before .before .before .loop .inv .0 .lists .nexts in
-    let b = c .before .before .before .before .before .before .before .before .before .before .before .before .before .before .before .pre .3 .lists .nexts in
+    let b = c .before .before .before .before .before .before .before .before .before .before .before .before .before .before .before .pre .2 .lists .nexts in
     let h = c .before .before .next .given in omega arith
 
 returns : tie.Need-returns Inv-loop μ-loop
@@ -80,7 +78,7 @@ add-at-3 c = let z = c .before .before .before .before .before .before .before .
     let e = c .before .before .before .before .before .before .before .before .before .before .before .directory-sectors .ensures in
     let r = c .before .before .before .before .before .before .before .before .before .before .before .before .before .before .before .pre .0 .directory in
     let q = c .before .before .before .before .before .before .before .before .before .before .before .before .before .before .before .pre .0 .most in
-    let d = c .before .before .before .before .before .before .before .before .before .before .before .before .before .before .before .pre .2 in omega arith
+    let d = c .before .before .before .before .before .before .before .before .before .before .before .before .before .before .before .pre .1 in omega arith
 
 add-s : tie.Need-add-s Inv-loop μ-loop
 add-s c = let z = c .before .before .before .before .before .before .before .before .before .loop .inv in let q1 = z .1 in let q2 = z .2 in let q3 = z .3 in
@@ -104,11 +102,11 @@ loop-again c = let z = c .before .before .before .before .before .before .before
     )
 
 same-length-3 : tie.Need-same-length-3 Inv-loop μ-loop
-same-length-3 c = let a = c .before .loop .inv .0 .lists .heads in let b = c .before .before .before .before .before .before .before .pre .3 .lists .heads in
+same-length-3 c = let a = c .before .loop .inv .0 .lists .heads in let b = c .before .before .before .before .before .before .before .pre .2 .lists .heads in
     omega arith
 
 same-length-4 : tie.Need-same-length-4 Inv-loop μ-loop
-same-length-4 c = let a = c .before .loop .inv .0 .lists .nexts in let b = c .before .before .before .before .before .before .before .pre .3 .lists .nexts in
+same-length-4 c = let a = c .before .loop .inv .0 .lists .nexts in let b = c .before .before .before .before .before .before .before .pre .2 .lists .nexts in
     omega arith
 
 returns-2 : tie.Need-returns-2 Inv-loop μ-loop
@@ -116,7 +114,7 @@ returns-2 c = let z = c .before .loop .inv in let q1 = z .1 in let q2 = z .2 in 
     let e = c .before .before .before .directory-sectors .ensures in
     row-end (c .before .before .before .before .before .before .before .args .g) (c .before .before .before .before .before .before .before .args .image .now)
     (c .before .before .before .before .before .before .before .args .row) (c .before .loop .s) (c .before .loop .head) (c .before .loop .next)
-    (c .before .before .before .before .before .before .before .pre .0) (z .0) (c .before .before .before .before .before .before .before .pre .2) e
+    (c .before .before .before .before .before .before .before .pre .0) (z .0) (c .before .before .before .before .before .before .before .pre .1) e
     (omega arith)
 
 pub row-differs-spec : {M : Type 1} → statement M

@@ -14,14 +14,14 @@ primary-at-requires c κs = search needs
 
 returns : tie.Need-returns
 returns c = let a = c .before .before .before .before .before .args in
-    visit-other (a .g) (a .image .now) (a .s) (a .head .now) (a .next .now) (c .before .before .before .before .before .pre .4)
-    (c .before .before .before .before .before .pre .2 .low) (c .before .primary-at .ensures) (c .if1 .taken)
+    visit-other (a .g) (a .image .now) (a .s) (a .head .now) (a .next .now) (c .before .before .before .before .before .pre .3)
+    (c .before .before .before .before .before .pre .1 .low) (c .before .primary-at .ensures) (c .if1 .taken)
 
 joins-requires : tie.Need-joins-requires
 joins-requires c κs =
     let c₃ = c .before .before .before in let primary-at = c₃ .primary-at in
     let c₇ = c₃ .before .before .before .before in let p = c₇ .pre in
-    let z = not-false (primary-at .result) (c .before .before .if1 .left) in (p .0, p .2, p .3, sym (primary-at .ensures) ∙ z, p .4 .lists)
+    let z = not-false (primary-at .result) (c .before .before .if1 .left) in (p .0, p .1, p .2, sym (primary-at .ensures) ∙ z, p .3 .lists)
 
 same-length : tie.Need-same-length
 same-length c = search needs
@@ -31,9 +31,9 @@ same-length-2 c = search needs
 
 returns-2 : tie.Need-returns-2
 returns-2 c = let a = c .before .before .before .before .before .before .before .before .before .before .before .before .args in
-    visit-file (a .g) (a .image .now) (c .before .before .before .before .before .before .before .before .before .before .before .before .pre .1) (a .s)
-    (a .head .now) (a .next .now) _ _ (c .before .before .before .before .before .before .before .before .before .before .before .before .pre .4)
-    (c .before .before .before .before .before .before .before .before .before .before .before .before .pre .2)
+    visit-file (a .g) (a .image .now) (a .s)
+    (a .head .now) (a .next .now) _ _ (c .before .before .before .before .before .before .before .before .before .before .before .before .pre .3)
+    (c .before .before .before .before .before .before .before .before .before .before .before .before .pre .1)
     (c .before .before .before .before .before .before .before .before .primary-at .ensures)
     (c .before .before .before .before .before .before .before .if1 .left) (c .before .before .before .before .joins .ensures)
 

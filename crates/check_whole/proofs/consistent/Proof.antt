@@ -1,7 +1,7 @@
 use borrow.Author.Tests.{not-true, not-false}
 use Rattle.lists.specs.Tests.{is-no, is-yes}
 use Rattle.check_whole.proofs.SlotBySlot.{room-of}
-use Rattle.check_whole.proofs.Whole.{no-length, no-directory, way-slots, way-met, way-hashed, way-names}
+use Rattle.check_whole.proofs.Whole.{no-length, no-directory, way-slots, way-met, way-names}
 use borrow.Author.Needs.{needs}
 use Rattle.check_whole.proofs.consistent.Statement.{statement}
 use Rattle.check_whole.proofs.consistent.Tie as tie
@@ -106,25 +106,8 @@ returns-4 c =
 
 names-differ-requires : tie.Need-names-differ-requires
 names-differ-requires c κs =
-    let c₃ = c .before .before .before in let if3 = c₃ .if3 in
-    let c₄ = c₃ .before in let slots-hold = c₄ .slots-hold in
-    let c₇ = c₄ .before .before .before in let copy-hit = c₇ .copy-hit in
-    let c₉ = c₇ .before .before in let if2 = c₉ .if2 in
-    let c₁₀ = c₉ .before in let among = c₁₀ .among in
-    let c₁₂ = c₁₀ .before .before in let gat-map = c₁₂ .gat-map in
-    let c₁₄ = c₁₂ .before .before in let directory-bits = c₁₄ .directory-bits in
-    let c₁₆ = c₁₄ .before .before in let if1 = c₁₆ .if1 in
-    let c₁₇ = c₁₆ .before in let length-holds = c₁₇ .length-holds in
-    let c₁₈ = c₁₇ .before in let shared-slice-known = c₁₈ .shared-slice-known in
-    let c₁₉ = c₁₈ .before in let p = c₁₉ .pre in (
-      room-of _ _ p (is-yes (length-holds .ensures) (if1 .left)),
-      record {
-        hashed = way-hashed _ _ (room-of _ _ p (is-yes (length-holds .ensures) (if1 .left))) (gat-map .ensures) (directory-bits .ensures) (among .ensures)
-            (if2 .left)
-            (copy-hit .ensures) (slots-hold .ensures) (not-false _ (if3 .left)) (c .before .all-met .ensures) (not-false _ (c .if4 .left))
-            (is-yes (length-holds .ensures) (if1 .left)) (λ i. shared-slice-known .given i .fits);
-      },
-    )
+    let c₁₆ = c .before .before .before .before .before .before .before .before .before .before .before .before .before .before .before .before in
+    let c₁₉ = c₁₆ .before .before .before in room-of _ _ (c₁₉ .pre) (is-yes (c₁₆ .before .length-holds .ensures) (c₁₆ .if1 .left))
 
 returns-5 : tie.Need-returns-5
 returns-5 c =
