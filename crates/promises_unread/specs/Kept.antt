@@ -1,0 +1,296 @@
+-- The theorems of `Statement`: every call, bring back, compare and load record.
+use mathlib.Core.Path.{_≡_, refl, ap, sym, _∙_, subst}
+use mathlib.Core.Logic.{_≢_, _⊎_, inl, inr}
+use mathlib.Core.Bool.{Bool, true, false, not, cond, _&&_, _||_}
+use mathlib.Core.List.{List, [], _∷_, _++_, map}
+use Prim.Native.Nat.{ℕ, suc, _+_, _-_, _*_, _/_, _%_, _≤_, _<_}
+use native.Mathlib.Omega.{arith}
+use native.Mathlib.Decide.{ℕ-discrete, decLt}
+use native.Mathlib.Nat.{mod-lt}
+use lib.Dec.{T, eqb, leb, ltb, not-T, eqb→eq, ltb→lt}
+use lib.ListN.{length, getD, take, drop, set, length-set}
+use lib.Seq.{getD-set-same, getD-set-other, set-out}
+use borrow.Author.Tests.{ne-eqb}
+use Rattle.meaning.specs.Lists.{count, keep, all, any, first, every}
+use Rattle.meaning.specs.Bits.{bit, digit}
+use Rattle.meaning.specs.Layout.{byte, field, taken, hit, granules, gatAt, hitAt, aboveTen, fitsGeometry, isSlot}
+use Rattle.meaning.specs.Entries.{nameOf, sizeOf, system}
+use Rattle.meaning.specs.Chain.{owned, files}
+use Rattle.meaning.specs.Amount.{howMany}
+use Rattle.meaning.specs.Refusal.{naming}
+use Rattle.meaning.specs.Refusals.{accepted, refusal, byNumber, handleRefusals, notForReading, check}
+use Rattle.meaning.specs.Handles.{inRange, fresh, movedTo}
+use Rattle.meaning.specs.LookUp.{candidates, carries, named}
+use Rattle.meaning.specs.Read.{fetch}
+use Rattle.meaning.specs.Plain.{File, Found, found, nothing, fileAt, foundIn, plain, isSystem}
+use Rattle.meaning.specs.Calls.{Call, checks, looksUp, opens, creates, reads, readsSector, writes, allots, trims, kills, lists, counts, measures}
+use Rattle.meaning.specs.declared.Geometry.{Geometry}
+use Rattle.meaning.specs.declared.Handle.{Handle}
+use Rattle.differences.specs.Compare.{difference, nameOnly, unlike, isOne, tellFirst, tellsNone, names, merged, rising, differences, compare}
+use Rattle.differences.specs.declared.Difference.{Difference}
+use Rattle.load.specs.Records.{recordFrom, toldAt, itemAt, past, itemRefusals}
+use Rattle.load.specs.Load.{loadRecord, loadRefusals, loadNumbers, asked, bytesOf, mostBytes}
+use Rattle.load.specs.declared.NextRecord.{NextRecord}
+use Rattle.load.specs.declared.Loaded.{Loaded}
+use Rattle.lists.specs.Members
+use Rattle.lists.specs.Members.{In}
+use Rattle.lists.specs.First
+use Rattle.lists.specs.Tests
+use Rattle.laws.specs.Facts
+use Rattle.laws.specs.Facts.{Sound, IsFile}
+use Rattle.laws.specs.Frame
+use Rattle.laws.specs.Places
+use Rattle.laws.specs.Named
+use Rattle.laws.specs.Passed
+use Rattle.promises_unread.specs.Statement.{Alike, Unread, EveryPlace, EverySeries, Apart, Same, EveryCall, EveryDisk, EveryBack, EveryPair, EveryLoad}
+use Rattle.promises_unread.specs.Reads
+use Rattle.promises_unread.specs.Reads.{unless, only}
+use Rattle.promises_unread.specs.Answers
+
+-- The relation --------------------------------------------------------------------------------------------------------------------
+
+pub every-series : EverySeries
+every-series g d d′ d″ a b = record {
+  long = a .long ∙ b .long;
+  rest = λ i o. a .rest i o ∙ b .rest i o;
+  gat = λ n h. a .gat n h ∙ b .gat n h;
+  above = a .above ∙ b .above;
+  hits = λ s t. a .hits s t ∙ b .hits s (subst (λ (f : ℕ → Bool). T (f s)) (Reads.isSlot-same g d d′ a) t);
+}
+
+module _ (g : Geometry) (d : List ℕ) (k : Places.Fits g d) where
+  -- a store to a place of the two sectors that is not 1FH, after which the granules' bits and the slots' HIT bytes are as they were
+  stored : (i v : ℕ) → 256 * g .start ≤ i → i < 256 * (g .start + 2) → i ≢ hitAt g 0x1f → ((n : ℕ) → n < granules g → taken g d n ≡ taken g (set d i v) n)
+      → ((s : ℕ) → T (isSlot g d s) → i ≢ hitAt g s) → Alike g d (set d i v)
+  unfolding hit
+  stored i v low high away bits slots = record {
+    long = sym (length-set d i v);
+    rest = λ j o. sym (getD-set-other d i j v 0 (out j o));
+    gat = bits;
+    above = sym (getD-set-other d i (hitAt g 0x1f) v 0 (λ q. away (sym q)));
+    hits = λ s t. let n = slots s t in sym (getD-set-other d i (hitAt g s) v 0 (λ q. n (sym q)));
+  }
+    where
+      out : (j : ℕ) → (j < 256 * g .start) ⊎ (256 * (g .start + 2) ≤ j) → j ≢ i
+      out j (inl h) = omega arith
+      out j (inr h) = omega arith
+
+  -- at no granule's byte
+  other : (i v : ℕ) → ((n : ℕ) → n < granules g → gatAt g n ≢ i) → (n : ℕ) → n < granules g → taken g d n ≡ taken g (set d i v) n
+  unfolding taken
+  other i v f n h = ap (bit (n % g .units)) (sym (getD-set-other d i (gatAt g n) v 0 (f n h)))
+
+  block : (n : ℕ) → n < granules g → n / g .units < g .blocks
+  block n h = Places.block-lt g d n k h
+
+  placed : (i v : ℕ) → Unread g d i v → Alike g d (set d i v)
+  unfolding taken
+  placed _ _ (Unread.pastBlocks b v l h) =
+      stored (256 * g .start + b) v (omega arith) (omega arith) (omega arith) (other (256 * g .start + b) v (λ n m. let q = block n m in omega arith))
+      (λ s t. omega arith)
+  placed _ _ (Unread.pastUnits b v l e) =
+      stored (256 * g .start + b) v (omega arith) (let q = k .blocks-hi in omega arith) (let q = k .blocks-hi in omega arith)
+      (λ n m. bits n m (ℕ-discrete (gatAt g n) (256 * g .start + b)))
+      (λ s t. let q = k .blocks-hi in omega arith)
+    where
+      i : ℕ
+      i = 256 * g .start + b
+
+      at : (n : ℕ) → Dec (i < length d) → digit (byte d i) (n % g .units) ≡ digit (byte (set d i v) i) (n % g .units)
+      at n (yes h) = sym (ap (λ (x : ℕ). digit x (n % g .units)) (getD-set-same d i v 0 h) ∙ e (n % g .units) (mod-lt n (k .units-lo)))
+      at n (no h) = ap (λ (l : List ℕ). digit (byte l i) (n % g .units)) (sym (set-out d i v (omega arith)))
+
+      bits : (n : ℕ) → n < granules g → Dec (gatAt g n ≡ i) → taken g d n ≡ taken g (set d i v) n
+      bits n m (yes q) = rw q (ap (λ (x : ℕ). eqb x 1) (at n (decLt i (length d))))
+      bits n m (no q) = ap (bit (n % g .units)) (sym (getD-set-other d i (gatAt g n) v 0 q))
+  placed _ _ (Unread.noSlot s v l n e) =
+      stored (hitAt g s) v (omega arith) (omega arith) (λ q. n (omega arith))
+      (other (hitAt g s) v (λ m h. let q = block m h in let w = k .blocks-hi in omega arith))
+      (λ t u q. Members.false-no {b = isSlot g d s} e (let z : t ≡ s = omega arith in subst (λ (x : ℕ). T (isSlot g d x)) z u))
+
+pub every-place : EveryPlace
+every-place g d f i v u = placed g d (Places.fits g d (Members.true-T f)) i v u
+
+-- Every call ----------------------------------------------------------------------------------------------------------------------
+
+pub every-call : EveryCall
+every-call g d d′ a checks = Reads.check-same g d d′ a
+every-call g d d′ a (looksUp n) = Answers.look-up g d d′ a n
+every-call g d d′ a (opens n len checking code) = Answers.open-same g d d′ a n len checking code
+every-call g d d′ a (creates n f checking) = Answers.create-same g d d′ a n f checking
+every-call g d d′ a (reads m x b) =
+    (Answers.read-answer g d d′ a x (howMany m (x .len) b) b, Answers.read-buffer g d d′ a x (howMany m (x .len) b) b)
+every-call g d d′ a (readsSector x k) = Answers.read-sector g d d′ a x k
+every-call g d d′ a (writes m w x b) = Answers.write-same g d d′ a w x (howMany m (x .len) b) b
+every-call g d d′ a (allots x k) = Answers.allot-same g d d′ a x k
+every-call g d d′ a (trims x) = Answers.trim-same g d d′ a x
+every-call g d d′ a (kills x) = Answers.kill-same g d d′ a x
+every-call g d d′ a (lists i) = Answers.list-same g d d′ a i
+every-call g d d′ a counts = Answers.counts-same g d d′ a
+every-call g d d′ a measures = Answers.free-space g d d′ a
+
+pub every-disk : EveryDisk
+every-disk g d d′ a = Reads.consistent-same g d d′ a
+
+pub every-back : EveryBack
+every-back g d d′ a s = Answers.back-same g d d′ a s
+
+-- Compare -------------------------------------------------------------------------------------------------------------------------
+
+-- what stands under a name on the one and on the other: the same file, but that a system file's bytes may differ
+data FoundAlike : Found → Found → Type 0 where
+  none : FoundAlike nothing nothing
+  some′ : {f f′ : File} → f .attributes ≡ f′ .attributes → (isSystem f ≡ false → f ≡ f′) → FoundAlike (found f) (found f′)
+
+module _ (g : Geometry) (d d′ : List ℕ) (a : Alike g d d′) (s : Passed.Served g d) where
+  file-same : (p : ℕ) → IsFile g d p → FoundAlike (found (fileAt g d p)) (found (fileAt g d′ p))
+  unfolding fileAt
+  file-same p f = FoundAlike.some′ (λ i. attributes i) (λ (e : isSystem (fileAt g d p) ≡ false).
+      let whole : 0 + sizeOf g d p ≤ sizeOf g d p = omega arith in
+      let b = Answers.fetch-same g d d′ a (s .sound) (Places.fits g d (s .fits)) p f (inl e) 0 (sizeOf g d p) whole in
+      (λ i. record {
+        attributes = attributes i;
+        granules = length (Reads.owned-same g d d′ a i p);
+        bytes =
+            (b ∙ (λ z. fetch g d′ p 0 (Reads.sizeOf-same g d d′ a z p))) i;
+      }))
+    where
+      attributes : map (field g d p) (0 ∷ 1 ∷ 2 ∷ 4 ∷ count 0x10 4) ≡ map (field g d′ p) (0 ∷ 1 ∷ 2 ∷ 4 ∷ count 0x10 4)
+      attributes = λ i. map (Reads.fields g d d′ a i p) (0 ∷ 1 ∷ 2 ∷ 4 ∷ count 0x10 4)
+
+  plain-same : (n : List ℕ) → FoundAlike (plain g d n) (plain g d′ n)
+  unfolding plain named foundIn
+  plain-same n =
+      subst (λ (ps : List ℕ). FoundAlike (foundIn g d (named g d n)) (foundIn g d′ ps)) (Answers.named-same g d d′ a n)
+      (go (keep (carries g d n) (candidates g d n)) (λ x i. Named.named-in g d n x i .0))
+    where
+      go : (xs : List ℕ) → ((x : ℕ) → In x xs → IsFile g d x) → FoundAlike (foundIn g d (take 1 xs)) (foundIn g d′ (take 1 xs))
+      go [] f = FoundAlike.none
+      go (x ∷ xs) f = file-same x (f x Members.In.here)
+
+names-same : (g : Geometry) (d d′ : List ℕ) → Alike g d d′ → names g d ≡ names g d′
+unfolding names
+names-same g d d′ a = λ i. map (Reads.nameOf-same g d d′ a i) (Reads.files-same g d d′ a i)
+
+difference-same : (n : List ℕ) {x x′ y y′ : Found} → FoundAlike x x′ → FoundAlike y y′ → difference n x y ≡ difference n x′ y′
+unfolding difference any
+difference-same n FoundAlike.none FoundAlike.none = refl
+difference-same n FoundAlike.none (FoundAlike.some′ e h) = refl
+difference-same n (FoundAlike.some′ e h) FoundAlike.none = refl
+difference-same n (FoundAlike.some′ {f = f} {f′ = f′} e h) (FoundAlike.some′ {f = k} {f′ = k′} q r) =
+    unless (any (isSystem f ∷ isSystem k ∷ [])) (nameOnly n 0) (unlike n f k) (unlike n f′ k′) (λ z.
+    let u = no-one (isSystem f) (isSystem k) z in λ i. unlike n (h (u .0) i) (r (u .1) i))
+    ∙ (λ i. cond (any (bit 6 (getD (e i) 0 0) ∷ bit 6 (getD (q i) 0 0) ∷ [])) (nameOnly n 0) (unlike n f′ k′))
+  where
+    no-one : (b c : Bool) → (b || (c || false)) ≡ false → (b ≡ false) × (c ≡ false)
+    no-one false false z = (refl, refl)
+    no-one false true z = Tests.not-both refl z
+    no-one true c z = Tests.not-both refl z
+
+module _ (g h : Geometry) (d d′ e e′ : List ℕ) (a : Alike g d d′) (b : Alike h e e′) where
+  differences-same : Passed.Served g d → Passed.Served h e → differences g d h e ≡ differences g d′ h e′
+  unfolding differences merged
+  differences-same s t =
+      λ i. keep isOne (map (λ n. difference-same n (plain-same g d d′ a s n) (plain-same h e e′ b t n) i)
+      (rising (names-same g d d′ a i ++ names-same h e e′ b i)))
+
+  pair-same : (i : ℕ) → compare g d h e i ≡ compare g d′ h e′ i
+  unfolding compare
+  pair-same i =
+      only (accepted (check g d .number)) (tellsNone (naming 1 (check g d))) _ _ (λ p.
+      only (accepted (check h e .number)) (tellsNone (naming 2 (check h e))) _ _ (λ q.
+      ap (λ (l : List Difference). tellFirst (drop i l))
+      (differences-same (Passed.check-passed g d (eqb→eq _ _ (Members.true-T p))) (Passed.check-passed h e (eqb→eq _ _ (Members.true-T q))))))
+      ∙ (λ z. let c = Reads.check-same g d d′ a z in let c′ = Reads.check-same h e e′ b z in
+      cond (accepted (c .number)) (cond (accepted (c′ .number)) (tellFirst (drop i (differences g d′ h e′))) (tellsNone (naming 2 c′)))
+      (tellsNone (naming 1 c)))
+
+pub every-pair : EveryPair
+every-pair g h d d′ e e′ a b i = pair-same g h d d′ e e′ a b i
+
+-- Load record ---------------------------------------------------------------------------------------------------------------------
+
+first-before : (cs ds : List (ℕ × Bool)) → (first cs ≡ 0 → ⊥) → first (cs ++ ds) ≡ first cs
+unfolding first
+first-before [] ds f = absurd (f refl)
+first-before ((n, true) ∷ cs) ds f = refl
+first-before ((n, false) ∷ cs) ds f = first-before cs ds f
+
+-- the number of what stands in a file is 0 or above those of the disk, the handle and the level
+load-high : (bs : List ℕ) (i n : ℕ) → n ≢ 0 → n < 31 → eqb n (recordFrom bs i .number) ≡ false
+unfolding recordFrom toldAt itemAt
+load-high bs i n z l = ne-eqb n (recordFrom bs i .number) (λ q. go (First.first-in (itemRefusals bs (past bs (length bs) i))) q)
+  where
+    k : ℕ
+    k = first (itemRefusals bs (past bs (length bs) i))
+
+    go : In k (0 ∷ First.numbersOf (itemRefusals bs (past bs (length bs) i))) → n ≡ k → ⊥
+    go j q = by (eqb k 0) refl (Members.every-all (λ m. eqb m 0 || leb 31 m) tt j)
+      where
+        by : (b : Bool) → eqb k 0 ≡ b → T (b || leb 31 k) → ⊥
+        by true e t = z (q ∙ eqb→eq k 0 (Members.true-T e))
+        by false e t = let w = lib.Dec.leb→le 31 k t in omega arith
+
+module _ (g : Geometry) (d d′ : List ℕ) (a : Alike g d d′) (x : Handle) (b : List ℕ) (o : Apart g d (x .slot)) where
+  abbrev range : Bool
+  range = all (inRange g x ∷ leb mostBytes (length b) ∷ [])
+
+  -- what is tested before the file
+  abbrev before : List ℕ → List (ℕ × Bool)
+  before e = handleRefusals g e x range (notForReading x ∷ [])
+
+  before-same : first (before d) ≡ first (before d′)
+  before-same = λ i. first (Answers.handleRefusals-same g d d′ a i x range (notForReading x ∷ []))
+
+  -- what is answered under the number n, of a file with these bytes
+  abbrev answered : (ℕ → Rattle.meaning.specs.declared.Refusal.Refusal) → ℕ → List ℕ → Loaded × List ℕ
+  answered c n bs =
+      let r = recordFrom bs (x .at) in let yes′ = accepted n in (
+        record {
+          refusal = c n;
+          kind = cond yes′ (r .kind) 0;
+          address = cond yes′ (r .address) 0;
+          count = cond yes′ (r .count) 0;
+          position = cond (eqb n (r .number)) (r .position) 0;
+          handle = cond yes′ (movedTo x (r .next)) x;
+        },
+        cond yes′ (take (r .count) (drop (r .from) bs) ++ drop (r .count) b) b,
+      )
+
+  -- a number below 31 is not the file's
+  none-answered : (c : ℕ → Rattle.meaning.specs.declared.Refusal.Refusal) (n : ℕ) (bs bs′ : List ℕ) → n ≢ 0 → n < 31 → answered c n bs ≡ answered c n bs′
+  none-answered c n bs bs′ z l = rw (load-high bs (x .at) n z l, load-high bs′ (x .at) n z l, ne-eqb n 0 z) refl
+
+  bytes-same : first (before d) ≡ 0 → bytesOf g d (x .slot) ≡ bytesOf g d′ (x .slot)
+  unfolding fileAt
+  bytes-same e =
+      let p = Passed.disk-passed g d _ e in
+      let p₁ = Passed.passed 12 _ _ (omega arith) (p .1) in
+      let p₂ = Passed.passed 7 _ _ (omega arith) (p₁ .1) in
+      Answers.fetch-same g d d′ a (p .0 .sound) (Places.fits g d (p .0 .fits)) (x .slot) (Answers.fresh-file g d d′ a x (Passed.yes-T (fresh g d x) (p₂ .0))) o
+      0 (sizeOf g d (x .slot)) (omega arith)
+      ∙ (λ z. fetch g d′ (x .slot) 0 (Reads.sizeOf-same g d d′ a z (x .slot)))
+
+  load-same : loadRecord g d x b ≡ loadRecord g d′ x b
+  unfolding loadRecord
+  load-same = go (ℕ-discrete (first (before d)) 0)
+    where
+      low : first (before d) < 31
+      low = ltb→lt _ _ (Members.every-all (λ n. ltb n 31) tt (First.first-in (before d)))
+
+      go : Dec (first (before d) ≡ 0) → loadRecord g d x b ≡ loadRecord g d′ x b
+      go (yes e) =
+          λ i. let bs = bytes-same e i in
+          answered (Answers.refusal-same g d d′ a i)
+          (first (Answers.handleRefusals-same g d d′ a i x range (notForReading x ∷ byNumber (recordFrom bs (x .at) .number) loadNumbers))) bs
+      go (no e) =
+          let n = first (before d) in
+          let q : first (loadRefusals g d x (length b)) ≡ n = first-before (before d) _ e in
+          let q′ : first (loadRefusals g d′ x (length b)) ≡ n = first-before (before d′) _ (λ z. e (before-same ∙ z)) ∙ sym before-same in
+          ap (λ (m : ℕ). answered (refusal g d) m (bytesOf g d (x .slot))) q
+          ∙ none-answered (refusal g d) n _ _ e low
+          ∙ (λ i. answered (Answers.refusal-same g d d′ a i) n (bytesOf g d′ (x .slot)))
+          ∙ sym (ap (λ (m : ℕ). answered (refusal g d′) m (bytesOf g d′ (x .slot))) q′)
+
+pub every-load : EveryLoad
+every-load g d d′ a x b o = load-same g d d′ a x b o

@@ -1,0 +1,6 @@
+pub mod Statement
+pub mod Reads
+pub mod Stores
+pub mod Growing
+pub mod Answers
+pub mod Kept

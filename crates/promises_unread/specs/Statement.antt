@@ -1,0 +1,111 @@
+-- What is not read (01, Directory layout): "Bytes past the last block, and bits past the last unit, are neither read nor changed", and of the HIT's
+-- places of no slot "other places are neither read (1FH excepted) nor changed". "Nor changed" is in `promises` (`Becomes.untouched`, `Becomes.spare`);
+-- here is "neither read": two images that differ only in such places get the same answers from every call, and the images left differ only in such places
+-- again.
+-- This is said of any two images, consistent or not. Nothing is proved here: `Kept` has the theorems.
+use mathlib.Core.Path.{_≡_}
+use mathlib.Core.Logic.{_≢_, _⊎_}
+use mathlib.Core.Bool.{Bool, true, false}
+use mathlib.Core.List.{List}
+use Prim.Native.Nat.{ℕ, _+_, _*_, _≤_, _<_}
+use lib.Dec.{T}
+use lib.ListN.{length, set}
+use Rattle.meaning.specs.Lists.{In}
+use Rattle.meaning.specs.Bits.{digit}
+use Rattle.meaning.specs.Layout.{fitsGeometry, hitAt, byte, granules, taken, aboveTen, isSlot, hit, directoryGranules}
+use Rattle.meaning.specs.Entries.{system}
+use Rattle.meaning.specs.Chain.{owned}
+use Rattle.meaning.specs.Consistent.{consistent}
+use Rattle.meaning.specs.Refusals.{check}
+use Rattle.meaning.specs.LookUp.{lookUp}
+use Rattle.meaning.specs.Open.{open′}
+use Rattle.meaning.specs.Create.{create}
+use Rattle.meaning.specs.Amount.{howMany}
+use Rattle.meaning.specs.Read.{readOf, readSector}
+use Rattle.meaning.specs.Write.{writeOf}
+use Rattle.meaning.specs.Allot.{allot}
+use Rattle.meaning.specs.Trim.{trim}
+use Rattle.meaning.specs.Kill.{kill}
+use Rattle.meaning.specs.BringBack.{bringBack}
+use Rattle.meaning.specs.Listing
+use Rattle.meaning.specs.FreeSpace.{freeSpace}
+use Rattle.meaning.specs.Calls.{Call, checks, looksUp, opens, creates, reads, readsSector, writes, allots, trims, kills, lists, counts, measures}
+use Rattle.meaning.specs.declared.Geometry.{Geometry}
+use Rattle.meaning.specs.declared.Handle.{Handle}
+use Rattle.differences.specs.Compare.{compare}
+use Rattle.load.specs.Load.{loadRecord}
+
+-- Images of one length, alike but for GAT bytes past the last block, GAT bits past the last unit and HIT places of no slot.
+pub record Alike (g : Geometry) (d d′ : List ℕ) : Type 0 where
+  pub long : length d ≡ length d′
+  -- outside the two sectors GAT and HIT every byte
+  pub rest : (i : ℕ) → (i < 256 * g .start) ⊎ (256 * (g .start + 2) ≤ i) → byte d i ≡ byte d′ i
+  -- the bits below units per block of the bytes of the blocks: one for each granule
+  pub gat : (n : ℕ) → n < granules g → taken g d n ≡ taken g d′ n
+  -- the HIT places of slots, and 1FH, which says what slots there are
+  pub above : aboveTen g d ≡ aboveTen g d′
+  pub hits : (s : ℕ) → T (isSlot g d s) → hit g d s ≡ hit g d′ s
+
+-- Such places, one by one: a store that is not read, of a byte v at place i.
+pub data Unread (g : Geometry) (d : List ℕ) : ℕ → ℕ → Type 0 where
+  -- a GAT byte past the last block
+  pastBlocks : (b v : ℕ) → g .blocks ≤ b → b < 256 → Unread g d (256 * g .start + b) v
+  -- a GAT byte of a block, its bits below units per block as they were
+  pastUnits : (b v : ℕ) → b < g .blocks → ((u : ℕ) → u < g .units → digit v u ≡ digit (byte d (256 * g .start + b)) u) → Unread g d (256 * g .start + b) v
+  -- a HIT place of no slot
+  noSlot : (s v : ℕ) → s < 256 → s ≢ 0x1f → isSlot g d s ≡ false → Unread g d (hitAt g s) v
+
+-- It leaves an image that is alike; so do several of them.
+abbrev pub EveryPlace : Type 0
+EveryPlace = (g : Geometry) (d : List ℕ) → fitsGeometry g d ≡ true → (i v : ℕ) → Unread g d i v → Alike g d (set d i v)
+
+abbrev pub EverySeries : Type 0
+EverySeries = (g : Geometry) (d d′ d″ : List ℕ) → Alike g d d′ → Alike g d′ d″ → Alike g d d″
+
+-- The answer and the image of a call that writes: the one is the same, the other alike.
+abbrev pub AlikeLeft : {A : Type 0} → Geometry → A × List ℕ → A × List ℕ → Type 0
+AlikeLeft g x y = (x .0 ≡ y .0) × Alike g (x .1) (y .1)
+
+-- A file of the system may own granules of the directory (01: "Directory granules are in no run of a file without the system flag"), and who reads
+-- it reads whatever stands there. Of all other files this is no premise where the call is accepted.
+abbrev pub Apart : Geometry → List ℕ → ℕ → Type 0
+Apart g d s = (system g d s ≡ false) ⊎ ((n : ℕ) → In n (owned g d s) → In n (directoryGranules g d) → ⊥)
+
+-- The whole answer is the same: number, slot, handle, buffer; and the images left are alike.
+abbrev pub Same : Geometry → List ℕ → List ℕ → Call → Type 0
+Same g d d′ checks = check g d ≡ check g d′
+Same g d d′ (looksUp n) = lookUp g d n ≡ lookUp g d′ n
+Same g d d′ (opens n len checking code) = open′ g d n len checking code ≡ open′ g d′ n len checking code
+Same g d d′ (creates n f checking) = AlikeLeft g (create g d n f checking) (create g d′ n f checking)
+Same g d d′ (reads a x b) =
+    let n = howMany a (x .len) b in
+    (readOf g d x n b .0 ≡ readOf g d′ x n b .0) × (Apart g d (x .slot) → readOf g d x n b .1 ≡ readOf g d′ x n b .1)
+Same g d d′ (readsSector x k) = readSector g d x k ≡ readSector g d′ x k
+Same g d d′ (writes a m x b) = let n = howMany a (x .len) b in AlikeLeft g (writeOf g d m x n b) (writeOf g d′ m x n b)
+Same g d d′ (allots x k) = AlikeLeft g (allot g d x k) (allot g d′ x k)
+Same g d d′ (trims x) = AlikeLeft g (trim g d x) (trim g d′ x)
+Same g d d′ (kills x) = AlikeLeft g (kill g d x) (kill g d′ x)
+Same g d d′ (lists i) = Listing.list g d i ≡ Listing.list g d′ i
+Same g d d′ counts = Listing.counts g d ≡ Listing.counts g d′
+Same g d d′ measures = freeSpace g d ≡ freeSpace g d′
+
+abbrev pub EveryCall : Type 0
+EveryCall = (g : Geometry) (d d′ : List ℕ) → Alike g d d′ → (c : Call) → Same g d d′ c
+
+-- 01's own word
+abbrev pub EveryDisk : Type 0
+EveryDisk = (g : Geometry) (d d′ : List ℕ) → Alike g d d′ → consistent g d ≡ consistent g d′
+
+-- bring back (02 §11)
+abbrev pub EveryBack : Type 0
+EveryBack = (g : Geometry) (d d′ : List ℕ) → Alike g d d′ → (s : ℕ) → AlikeLeft g (bringBack g d s) (bringBack g d′ s)
+
+-- compare (02 §1), either image
+abbrev pub EveryPair : Type 0
+EveryPair =
+    (g h : Geometry) (d d′ e e′ : List ℕ) → Alike g d d′ → Alike h e e′ → (i : ℕ) → compare g d h e i ≡ compare g d′ h e′ i
+
+-- read program files (02 §12): the numbers 31 to 33 hang on the file's bytes
+abbrev pub EveryLoad : Type 0
+EveryLoad =
+    (g : Geometry) (d d′ : List ℕ) → Alike g d d′ → (x : Handle) (b : List ℕ) → Apart g d (x .slot) → loadRecord g d x b ≡ loadRecord g d′ x b
