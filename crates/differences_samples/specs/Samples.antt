@@ -5,7 +5,7 @@ use mathlib.Core.Bool.{true, false}
 use mathlib.Core.List.{List, [], _∷_, _++_}
 use lib.ListN.{replicate}
 use Rattle.meaning.specs.Refusal.{unplaced, placed, naming}
-use Rattle.meaning_table.specs.Samples.{laid, puls, leer, three, hits, e80, e81, gaps, filled, opened}
+use Rattle.meaning_table.specs.Samples.{laid, changed, puls, leer, three, hits, e80, e81, gaps, filled, opened}
 use Rattle.meaning.specs.declared.Geometry.{Geometry}
 use Rattle.differences.specs.Compare.{before, put, rising, parting, unlike, difference, isOne, tellFirst, names, merged, differences, compare, nameOnly}
 use Rattle.differences.specs.Compare.{tellsNone}
@@ -105,6 +105,28 @@ other-flag : compare three abc three hidden 0
     ≡ record { refusal = unplaced 0; kind = 3; name = leer; at = 3; contents = false; size = false; date = false; other = true }
 unfolding seen
 other-flag = refl
+
+-- byte 01 is two things: its low five bits are the day, a part of the date; its high three are B (worked on), E and F, other attributes
+abbrev workedOn : List ℕ
+workedOn = changed abc ((e80 + 1, 0x29) ∷ [])
+
+abbrev nextDay : List ℕ
+nextDay = changed abc ((e80 + 1, 0x0a) ∷ [])
+
+worked-on-is-no-date : compare three abc three workedOn 0
+    ≡ record { refusal = unplaced 0; kind = 3; name = leer; at = 3; contents = false; size = false; date = false; other = true }
+unfolding seen
+worked-on-is-no-date = refl
+
+day-is-a-date : compare three abc three nextDay 0
+    ≡ record { refusal = unplaced 0; kind = 3; name = leer; at = 3; contents = false; size = false; date = true; other = false }
+unfolding seen
+day-is-a-date = refl
+
+both-in-one-byte : compare three workedOn three nextDay 0
+    ≡ record { refusal = unplaced 0; kind = 3; name = leer; at = 3; contents = false; size = false; date = true; other = true }
+unfolding seen
+both-in-one-byte = refl
 
 -- A file that is a system file on either is compared by name only.
 system-file : compare three abc three kept 0 ≡ tellsNone (unplaced 0)
