@@ -42,7 +42,7 @@ use Rattle.laws.specs.Passed.{Holds}
 use Rattle.promises.specs.KillMeans
 use Rattle.promises.specs.CreateMeans
 use Rattle.promises.specs.Promises
-use Rattle.promises.specs.Promises.{Becomes, Live, InRange, Serves, Writes}
+use Rattle.promises.specs.Promises.{Becomes, Live, InRange, Changes, Writes}
 use Rattle.promises.specs.Refusing
 use Rattle.promises.specs.Passing
 use Rattle.promises.specs.Grow
@@ -129,7 +129,8 @@ owns : (g : Geometry) (d : List ℕ) (p : ℕ) → length (owned g d p) ≡ file
 unfolding fileAt
 owns g d p = refl
 
-pub kill-serves : (g : Geometry) (d : List ℕ) (h : Handle) → kill g d h .0 .refusal .number ≡ 0 → Serves g d (Call.kills h)
+pub kill-serves : (g : Geometry) (d : List ℕ) (h : Handle) → kill g d h .0 .refusal .number ≡ 0
+    → Changes g d (kill g d h .1) h (kill g d h .0 .handle) (λ f. nothing) h
 unfolding kill
 kill-serves g d h e =
     let w = Passed.holds g d h _ 1 [] e .0 in let x = KillMeans.kill-means g d h e in
@@ -144,7 +145,8 @@ kill-serves g d h e =
       ranged = Refusing.range-iff g h .0 (Passing.handle-passed g d h (inRange g h) (protected g d 1 h ∷ []) e .1);
     }
 
-pub allot-serves : (g : Geometry) (d : List ℕ) (h : Handle) (k : ℕ) → allot g d h k .0 .refusal .number ≡ 0 → Serves g d (Call.allots h k)
+pub allot-serves : (g : Geometry) (d : List ℕ) (h : Handle) (k : ℕ) → allot g d h k .0 .refusal .number ≡ 0
+    → Changes g d (allot g d h k .1) h (allot g d h k .0 .handle) (λ f. found (allottedTo g k f)) h
 unfolding allot allottedTo fileAt
 allot-serves g d h k e =
     let w = Passed.holds g d h _ 4 _ e .0 in let x = Grow.allot-means g d h k e in
@@ -162,7 +164,8 @@ allot-serves g d h k e =
           .1));
     }
 
-pub trim-serves : (g : Geometry) (d : List ℕ) (h : Handle) → trim g d h .0 .refusal .number ≡ 0 → Serves g d (Call.trims h)
+pub trim-serves : (g : Geometry) (d : List ℕ) (h : Handle) → trim g d h .0 .refusal .number ≡ 0
+    → Changes g d (trim g d h .1) h (trim g d h .0 .handle) (λ f. found (trimmed g f)) h
 unfolding trim
 trim-serves g d h e =
     let w = Passed.holds g d h _ 4 [] e .0 in let x = Trim.trim-means g d h e in
@@ -195,7 +198,8 @@ write-range g d m h n b e =
     Passing.further g h (h .at + n) (Refusing.range-iff g h .0 (Members.and-l (inRange g h) (far && (room && true)) t))
     (leb→le (h .at + n) (highest g) (Members.and-l far (room && true) u))
 
-pub write-serves : (g : Geometry) (d : List ℕ) (m : Mode) (h : Handle) (n : ℕ) (b : List ℕ) → writeOf g d m h n b .0 .refusal .number ≡ 0 → Writes g d m h n b
+pub write-serves : (g : Geometry) (d : List ℕ) (m : Mode) (h : Handle) (n : ℕ) (b : List ℕ) → writeOf g d m h n b .0 .refusal .number ≡ 0
+    → Writes g d m h n b (writeOf g d m h n b .0 .handle) (writeOf g d m h n b .1)
 write-serves g d m h n b e =
     let w = WriteMeans.write-wrote g d m h n b e .0 in let x = WriteMeans.write-wrote g d m h n b e .1 in
     let d′ = writeOf g d m h n b .1 in let p = h .slot in

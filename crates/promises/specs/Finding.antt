@@ -117,13 +117,14 @@ none-carries g d n t = go (keep (carries g d n) (candidates g d n)) t
 
 -- Look up -----------------------------------------------------------------------------------------------------------------------------
 
-pub look-serves : (g : Geometry) (d n : List ℕ) → lookUp g d n .refusal .number ≡ 0 → LooksUp g d n
+pub look-serves : (g : Geometry) (d n : List ℕ) → lookUp g d n .refusal .number ≡ 0 → LooksUp g d n (lookUp g d n)
 look-serves g d n e =
     let w = disk e in let c = w .0 in let v = whose g d c (fold n) (w .1) in let p = v .0 in let z = v .1 in
     let s : lookUp g d n .slot ≡ p = slot e ∙ slot-is g d c (fold n) p z in
     record {
       file = Named.plain-is g d c p (fold n) (z .file) (z .name′) ∙ ap (λ (q : ℕ). found (fileAt g d q)) (sym s);
       name′ = ap (nameOf g d) s ∙ z .name′;
+      here = z .alone ∙ ap (λ (q : ℕ). q ∷ []) (sym s);
       compared = compared e ∙ compared-is g d c (fold n) p z ∙ ap (matching g d (fold n)) (sym s);
     }
   where
@@ -138,7 +139,7 @@ look-serves g d n e =
     compared : lookUp g d n .refusal .number ≡ 0 → lookUp g d n .compared ≡ comparedIn g d (fold n) (candidates g d (fold n))
     compared e = unfold lookUp in rw e
 
-pub look-refuses : (g : Geometry) (d n : List ℕ) → lookUp g d n .refusal .number ≢ 0 → NotFound g d n
+pub look-refuses : (g : Geometry) (d n : List ℕ) → lookUp g d n .refusal .number ≢ 0 → NotFound g d n (lookUp g d n)
 look-refuses g d n k = record {
   slot = slot;
   all′ = λ e. all e;
@@ -248,7 +249,8 @@ made : (g : Geometry) (d n : List ℕ) (f : NewFile) (checking : Bool) → creat
 unfolding create
 made g d n f checking e o = rw (e, Members.T-true {b = missing g d (fold n)} (fresh-of (missing g d (fold n)) (rw e at o)))
 
-pub create-serves : (g : Geometry) (d n : List ℕ) (f : NewFile) (checking : Bool) → create g d n f checking .0 .refusal .number ≡ 0 → Creates g d n f checking
+pub create-serves : (g : Geometry) (d n : List ℕ) (f : NewFile) (checking : Bool) → create g d n f checking .0 .refusal .number ≡ 0
+    → Creates g d n f checking (create g d n f checking .0) (create g d n f checking .1)
 create-serves g d n f checking e = record {
   old = λ o. (old o, Passing.old-stands g d n f checking o);
   new = λ o. (

@@ -1,5 +1,5 @@
 -- The promises are kept: a theorem for each type of `Promises`
-use mathlib.Core.Path.{_≡_, sym, _∙_}
+use mathlib.Core.Path.{_≡_, refl, sym, _∙_}
 use mathlib.Core.Logic.{_≢_}
 use mathlib.Core.List.{List, [], _∷_}
 use Prim.Native.Nat.{ℕ}
@@ -12,6 +12,7 @@ use Rattle.meaning.specs.declared.Geometry.{Geometry}
 use Rattle.lists.specs.Members
 use Rattle.laws.specs.Facts
 use Rattle.laws.specs.Fault
+use Rattle.promises.specs.Said.{answerOf, refusalIn, OnlyLooks, says}
 use Rattle.promises.specs.Promises.{AllBring, Stays, Serves, Refuses, EveryCall, Along, EveryState, GatAlone, EveryWrite, OldTwo, EveryName}
 use Rattle.promises.specs.Refusing
 use Rattle.promises.specs.Passing
@@ -29,20 +30,20 @@ module _ (g : Geometry) (d : List ℕ) where
   unfolding check
   checked e = Passing.disk-passed g d [] e .0
 
-  check-serves : check g d .number ≡ 0 → Serves g d Call.checks
+  check-serves : check g d .number ≡ 0 → Serves g d Call.checks (says g d Call.checks)
   check-serves e = let w = checked e in (Members.T-true (w .fits), Facts.back g d (w .sound))
 
-  list-serves : (i : ℕ) → Listing.list g d i .refusal .number ≡ 0 → Serves g d (Call.lists i)
+  list-serves : (i : ℕ) → Listing.list g d i .refusal .number ≡ 0 → Serves g d (Call.lists i) (says g d (Call.lists i))
   list-serves i e = Telling.list-serves g d i e (checked (sym (Refusing.list-number g d i) ∙ e) .sound)
 
-  counts-serves : Listing.counts g d .refusal .number ≡ 0 → Serves g d Call.counts
+  counts-serves : Listing.counts g d .refusal .number ≡ 0 → Serves g d Call.counts (says g d Call.counts)
   counts-serves e = Telling.counts-serves g d e (checked (counted e) .sound)
     where
       counted : Listing.counts g d .refusal .number ≡ 0 → check g d .number ≡ 0
       counted e = unfold Listing.counts in e
 
-  pub serves : (c : Call) → AreBytes d → number g d c ≡ 0 → Serves g d c
-  unfolding number
+  pub serves : (c : Call) → AreBytes d → number g d c ≡ 0 → Serves g d c (says g d c)
+  unfolding number leaves
   serves Call.checks b e = check-serves e
   serves (Call.looksUp n) b e = Finding.look-serves g d n e
   serves (Call.opens n len checking code) b e = Finding.open-serves g d n len checking code e
@@ -57,7 +58,39 @@ module _ (g : Geometry) (d : List ℕ) where
   serves Call.counts b e = counts-serves e
   serves Call.measures b e = Measuring.measure-serves g d e
 
-  pub refuses : (c : Call) → number g d c ≢ 0 → Refuses g d c
+  pub told : (c : Call) → refusalIn c (answerOf g d c) .number ≡ number g d c
+  unfolding number
+  told Call.checks = refl
+  told (Call.looksUp n) = refl
+  told (Call.opens n len checking code) = refl
+  told (Call.creates n f checking) = refl
+  told (Call.reads a h x) = refl
+  told (Call.readsSector h k) = refl
+  told (Call.writes a m h x) = refl
+  told (Call.allots h k) = refl
+  told (Call.trims h) = refl
+  told (Call.kills h) = refl
+  told (Call.lists i) = refl
+  told Call.counts = refl
+  told Call.measures = refl
+
+  pub looks : (c : Call) → OnlyLooks c → leaves g d c ≡ d
+  unfolding leaves
+  looks Call.checks o = refl
+  looks (Call.looksUp n) o = refl
+  looks (Call.opens n len checking code) o = refl
+  looks (Call.creates n f checking) o = absurd o
+  looks (Call.reads a h x) o = refl
+  looks (Call.readsSector h k) o = refl
+  looks (Call.writes a m h x) o = absurd o
+  looks (Call.allots h k) o = absurd o
+  looks (Call.trims h) o = absurd o
+  looks (Call.kills h) o = absurd o
+  looks (Call.lists i) o = refl
+  looks Call.counts o = refl
+  looks Call.measures o = refl
+
+  pub refuses : (c : Call) → number g d c ≢ 0 → Refuses g d c (says g d c)
   unfolding number
   refuses Call.checks k = tt
   refuses (Call.looksUp n) k = Finding.look-refuses g d n k
@@ -76,6 +109,8 @@ module _ (g : Geometry) (d : List ℕ) where
 -- whatever the disk, whatever the call
 pub every-call : EveryCall
 every-call g d c = record {
+  told = told g d c;
+  looks = looks g d c;
   stays = λ k b. Staying.stays g d k c b;
   serves = serves g d c;
   refuses = λ k. (Passing.as-stood g d c k, refuses g d c k);

@@ -41,7 +41,7 @@ module _ (g : Geometry) (d : List ℕ) where
     unfolding Listing.counts
     counts-free c = rw (check-none g d fits c) refl
 
-    pub measure-serves : Measured g d
+    pub measure-serves : Measured g d (freeSpace g d)
     measure-serves =
         let there = Stretches.longest-there g d (granules g) 0 in
         record {

@@ -1,8 +1,9 @@
--- What the library promises of a disk (demand 2), each promise as a type with a name. Nothing is proved here: `Kept` has a theorem for
--- each of them. They speak of the definitions of `meaning` alone; a function is proved to answer what those say.
+-- What is promised of a disk (demand 2), each promise as a type with a name. Nothing is proved here: `Kept` has a theorem for each of them.
 --
--- `EveryCall` is the whole of it for one call: what an accepted call answers and does, what a refused one leaves, which number is given
--- exactly when, and what no call changes. `EveryState` says it of each state that a list of calls reaches.
+-- `Promised` is the whole of it for one call, of whatever is said of it and left (`Said`): what an accepted call answers and does, what a
+-- refused one leaves, which number is given exactly when, and what no call changes. What the definitions of `meaning` say meets it
+-- (`EveryCall`), and a function is proved to answer what those say; what another program would have to say is in `strength`. `EveryState` says
+-- it of each state that a list of calls reaches.
 use mathlib.Core.Path.{_≡_}
 use mathlib.Core.Logic.{_≢_, _↔_, _⊎_}
 use mathlib.Core.Bool.{Bool, true, false, not, _&&_}
@@ -29,11 +30,9 @@ use Rattle.meaning.specs.LookUp.{lookUp, named}
 use Rattle.meaning.specs.Open.{open′}
 use Rattle.meaning.specs.Create.{create}
 use Rattle.meaning.specs.Amount.{howMany}
-use Rattle.meaning.specs.Read.{readOf, readSector}
+use Rattle.meaning.specs.Read.{readOf}
 use Rattle.meaning.specs.Write.{writeOf, sizeAfter}
-use Rattle.meaning.specs.Allot.{allot, granulesTo}
-use Rattle.meaning.specs.Trim.{trim}
-use Rattle.meaning.specs.Kill.{kill}
+use Rattle.meaning.specs.Allot.{granulesTo}
 use Rattle.meaning.specs.Listing
 use Rattle.meaning.specs.Listing.{listed, noFile}
 use Rattle.meaning.specs.FreeSpace.{freeSpace}
@@ -47,6 +46,13 @@ use Rattle.meaning.specs.declared.Handle.{Handle}
 use Rattle.meaning.specs.declared.NewFile.{NewFile}
 use Rattle.meaning.specs.declared.Mode.{Mode}
 use Rattle.meaning.specs.declared.Refusal.{Refusal}
+use Rattle.meaning.specs.declared.LookedUp.{LookedUp}
+use Rattle.meaning.specs.declared.Created.{Created}
+use Rattle.meaning.specs.declared.Part.{Part}
+use Rattle.meaning.specs.declared.Listed.{Listed}
+use Rattle.meaning.specs.declared.Counts.{Counts}
+use Rattle.meaning.specs.declared.Space.{Space}
+use Rattle.promises.specs.Said.{Said, refusalIn, OnlyLooks, says}
 
 -- Calls -----------------------------------------------------------------------------------------------------------------------------
 
@@ -159,10 +165,11 @@ matching g d n s = length (keep (λ x. eqb (hit g d x) (hash n) && leb x s) (slo
 -- A call by name is on the file called `fold n`, where n is the name as the caller gives it (02 §7).
 
 -- Look up: the slot of the file of that name, and how many HIT bytes up to it are the hash
-pub record LooksUp (g : Geometry) (d n : List ℕ) : Type 0 where
-  pub file : plain g d (fold n) ≡ found (fileAt g d (lookUp g d n .slot))
-  pub name′ : nameOf g d (lookUp g d n .slot) ≡ fold n
-  pub compared : lookUp g d n .compared ≡ matching g d (fold n) (lookUp g d n .slot)
+pub record LooksUp (g : Geometry) (d n : List ℕ) (r : LookedUp) : Type 0 where
+  pub file : plain g d (fold n) ≡ found (fileAt g d (r .slot))
+  pub name′ : nameOf g d (r .slot) ≡ fold n
+  pub here : named g d (fold n) ≡ r .slot ∷ []
+  pub compared : r .compared ≡ matching g d (fold n) (r .slot)
 
 -- level 0 if checking is off, the main code is the "no password" code, or the given code equals the main code
 abbrev pub Full : Geometry → File → Bool → ℕ → Type 0
@@ -181,59 +188,54 @@ pub record Opened (g : Geometry) (d n : List ℕ) (len : ℕ) (checking : Bool) 
   pub worker : (Full g file checking code → ⊥) → (code ≡ workerCode file) × (h .level ≡ storedLevel file)
 
 -- Create: an existing file is opened and reported as old; otherwise the file is born, in the first permitted slot, and its handle has level 0
-pub record Creates (g : Geometry) (d n : List ℕ) (f : NewFile) (checking : Bool) : Type 0 where
-  pub old : create g d n f checking .0 .old ≡ true
-      → Opened g d (fold n) (f .len) checking (f .main) (create g d n f checking .0 .handle) × (create g d n f checking .1 ≡ d)
-  pub new : create g d n f checking .0 .old ≡ false
-      → Becomes g d (create g d n f checking .1) (fold n) nothing (found (bornAs f))
-      × Live g (create g d n f checking .1) (create g d n f checking .0 .handle) × InRange g (create g d n f checking .0 .handle)
-  pub handle′ : create g d n f checking .0 .old ≡ false
-      → create g d n f checking .0 .handle ≡ record { slot = firstOr 0 (freeSlots g d); name = fold n; at = 0; len = f .len; level = 0 }
+pub record Creates (g : Geometry) (d n : List ℕ) (f : NewFile) (checking : Bool) (r : Created) (d′ : List ℕ) : Type 0 where
+  pub old : r .old ≡ true → Opened g d (fold n) (f .len) checking (f .main) (r .handle) × (d′ ≡ d)
+  pub new : r .old ≡ false → Becomes g d d′ (fold n) nothing (found (bornAs f)) × Live g d′ (r .handle) × InRange g (r .handle)
+  pub handle′ : r .old ≡ false → r .handle ≡ record { slot = firstOr 0 (freeSlots g d); name = fold n; at = 0; len = f .len; level = 0 }
 
 -- A read of n bytes, a record's or the buffer's: the plain file's bytes at the position, to the start of the buffer; the rest of it is
 -- untouched, the position advances
-pub record Reads (g : Geometry) (d : List ℕ) (h : Handle) (n : ℕ) (b : List ℕ) : Type 0 where
+pub record Reads (g : Geometry) (d : List ℕ) (h : Handle) (n : ℕ) (b : List ℕ) (h′ : Handle) (b′ : List ℕ) : Type 0 where
   pub file : File
   pub called : plain g d (h .name) ≡ found file
   pub inside : h .at + n ≤ length (file .bytes)
-  pub buffer : readOf g d h n b .1 ≡ take n (drop (h .at) (file .bytes)) ++ drop n b
-  pub handle′ : readOf g d h n b .0 .handle ≡ movedTo h (h .at + n)
-  pub ranged : InRange g (readOf g d h n b .0 .handle)
+  pub buffer : b′ ≡ take n (drop (h .at) (file .bytes)) ++ drop n b
+  pub handle′ : h′ ≡ movedTo h (h .at + n)
+  pub ranged : InRange g h′
 
 -- Read sector k: the image's bytes from one place up to another, 1 to 256 of them, are the plain file's bytes 256k and on
-pub record ReadsSector (g : Geometry) (d : List ℕ) (h : Handle) (k : ℕ) : Type 0 where
+pub record ReadsSector (g : Geometry) (d : List ℕ) (h : Handle) (k : ℕ) (r : Part) : Type 0 where
   pub file : File
   pub called : plain g d (h .name) ≡ found file
-  pub some : readSector g d h k .from < readSector g d h k .to
-  pub most : readSector g d h k .to ≤ readSector g d h k .from + 256
-  pub inside : readSector g d h k .to ≤ length d
-  pub part : slice (readSector g d h k .from) (readSector g d h k .to) d ≡ take 256 (drop (256 * k) (file .bytes))
+  pub some : r .from < r .to
+  pub most : r .to ≤ r .from + 256
+  pub inside : r .to ≤ length d
+  pub part : slice (r .from) (r .to) d ≡ take 256 (drop (256 * k) (file .bytes))
 
 -- the i-th of the files that are listed, by rising slot
 abbrev pub ith : Geometry → List ℕ → ℕ → ℕ
 ith g d i = getD (listed g d) i 0
 
 -- Listing: number i tells the i-th file by rising slot, name, size and granules owned, and "no more" from FILES on
-pub record Lists (g : Geometry) (d : List ℕ) (i : ℕ) : Type 0 where
-  pub tells : i < length (listed g d) → Listing.list g d i
+pub record Lists (g : Geometry) (d : List ℕ) (i : ℕ) (r : Listed) : Type 0 where
+  pub tells : i < length (listed g d) → r
       ≡ record {
         refusal = unplaced 0;
         more = true;
         name = nameOf g d (ith g d i);
         size = length (fileAt g d (ith g d i) .bytes);
-        granules = fileAt g d
-            (ith g d i) .granules;
+        granules = fileAt g d (ith g d i) .granules;
       }
   pub file : i < length (listed g d) → plain g d (nameOf g d (ith g d i)) ≡ found (fileAt g d (ith g d i))
   pub shown : i < length (listed g d) → T (not (isSystem (fileAt g d (ith g d i))))
   pub rising : (j : ℕ) → j < i → i < length (listed g d) → ith g d j < ith g d i
-  pub ends : length (listed g d) ≤ i → Listing.list g d i ≡ noFile (unplaced 0)
+  pub ends : length (listed g d) ≤ i → r ≡ noFile (unplaced 0)
 
 -- Counts: FILES is how many numbers the listing tells, FREE the number of clear GAT bits in range. Each file that is no system file is
 -- told, under one number only.
-pub record Counted (g : Geometry) (d : List ℕ) : Type 0 where
-  pub files′ : Listing.counts g d .files ≡ length (listed g d)
-  pub free : Listing.counts g d .free ≡ length (freeGranules g d)
+pub record Counted (g : Geometry) (d : List ℕ) (r : Counts) : Type 0 where
+  pub files′ : r .files ≡ length (listed g d)
+  pub free : r .free ≡ length (freeGranules g d)
   pub told : (n : List ℕ) (f : File) → plain g d n ≡ found f → T (not (isSystem f))
       → (i : ℕ) × (i < length (listed g d)) × (nameOf g d (ith g d i) ≡ n) × ((j : ℕ) → j < length (listed g d) → nameOf g d (ith g d j) ≡ n → j ≡ i)
 
@@ -244,59 +246,58 @@ pub record Stretch (g : Geometry) (d : List ℕ) (a n : ℕ) : Type 0 where
 
 -- Free space (02 §5): the number of clear GAT bits in range, and the length of the longest free stretch, on any image of the right length. On
 -- a consistent disk the number is that of the disk's granules less those reserved and those owned (`tally`), and the listing's FREE (`listing`).
-pub record Measured (g : Geometry) (d : List ℕ) : Type 0 where
-  pub clear : freeSpace g d .free ≡ length (freeGranules g d)
-  pub tally : consistent g d ≡ true → freeSpace g d .free + length (reserved g d) + length (each (owned g d) (files g d)) ≡ granules g
-  pub listing : consistent g d ≡ true → Listing.counts g d .free ≡ freeSpace g d .free
+pub record Measured (g : Geometry) (d : List ℕ) (r : Space) : Type 0 where
+  pub clear : r .free ≡ length (freeGranules g d)
+  pub tally : consistent g d ≡ true → r .free + length (reserved g d) + length (each (owned g d) (files g d)) ≡ granules g
+  pub listing : consistent g d ≡ true → Listing.counts g d .free ≡ r .free
   pub first : ℕ
-  pub stretch : Stretch g d first (freeSpace g d .longest)
-  pub none-longer : (a n : ℕ) → Stretch g d a n → n ≤ freeSpace g d .longest
+  pub stretch : Stretch g d first (r .longest)
+  pub none-longer : (a n : ℕ) → Stretch g d a n → n ≤ r .longest
 
 -- A write of n bytes, a record's or the buffer's: the first n of the buffer go into the file at the position, which advances
-abbrev pub Writes : Geometry → List ℕ → Mode → Handle → ℕ → List ℕ → Type 0
-Writes g d m h n b =
-    Changes g d (writeOf g d m h n b .1) h (writeOf g d m h n b .0 .handle) (λ f. found (writtenTo g m (h .at) (take n b) f)) (movedTo h (h .at + n))
+abbrev pub Writes : Geometry → List ℕ → Mode → Handle → ℕ → List ℕ → Handle → List ℕ → Type 0
+Writes g d m h n b h′ d′ = Changes g d d′ h h′ (λ f. found (writtenTo g m (h .at) (take n b) f)) (movedTo h (h .at + n))
 
 -- What each accepted call answers and does
-abbrev pub Serves : Geometry → List ℕ → Call → Type 0
-Serves g d checks = (fitsGeometry g d ≡ true) × (consistent g d ≡ true)
-Serves g d (looksUp n) = LooksUp g d n
-Serves g d (opens n len checking code) = Opened g d (fold n) len checking code (open′ g d n len checking code .handle)
-Serves g d (creates n f checking) = Creates g d n f checking
-Serves g d (reads a h b) = Reads g d h (howMany a (h .len) b) b
-Serves g d (readsSector h k) = ReadsSector g d h k
-Serves g d (writes a m h b) = Writes g d m h (howMany a (h .len) b) b
-Serves g d (allots h k) = Changes g d (allot g d h k .1) h (allot g d h k .0 .handle) (λ f. found (allottedTo g k f)) h
-Serves g d (trims h) = Changes g d (trim g d h .1) h (trim g d h .0 .handle) (λ f. found (trimmed g f)) h
-Serves g d (kills h) = Changes g d (kill g d h .1) h (kill g d h .0 .handle) (λ f. nothing) h
-Serves g d (lists i) = Lists g d i
-Serves g d counts = Counted g d
-Serves g d measures = Measured g d
+abbrev pub Serves : Geometry → List ℕ → (c : Call) → Said c → Type 0
+Serves g d checks s = (fitsGeometry g d ≡ true) × (consistent g d ≡ true)
+Serves g d (looksUp n) s = LooksUp g d n (s .answer)
+Serves g d (opens n len checking code) s = Opened g d (fold n) len checking code (s .answer .handle)
+Serves g d (creates n f checking) s = Creates g d n f checking (s .answer) (s .image)
+Serves g d (reads a h b) s = Reads g d h (howMany a (h .len) b) b (s .answer .0 .handle) (s .answer .1)
+Serves g d (readsSector h k) s = ReadsSector g d h k (s .answer)
+Serves g d (writes a m h b) s = Writes g d m h (howMany a (h .len) b) b (s .answer .handle) (s .image)
+Serves g d (allots h k) s = Changes g d (s .image) h (s .answer .handle) (λ f. found (allottedTo g k f)) h
+Serves g d (trims h) s = Changes g d (s .image) h (s .answer .handle) (λ f. found (trimmed g f)) h
+Serves g d (kills h) s = Changes g d (s .image) h (s .answer .handle) (λ f. nothing) h
+Serves g d (lists i) s = Lists g d i (s .answer)
+Serves g d counts s = Counted g d (s .answer)
+Serves g d measures s = Measured g d (s .answer)
 
 -- 4. What a refused call leaves: nothing is written ---------------------------------------------------------------------------------------
 
 -- look up returns its count as well under 4, and 0 under 1, 2 and 3
-pub record NotFound (g : Geometry) (d n : List ℕ) : Type 0 where
-  pub slot : lookUp g d n .slot ≡ 0
-  pub all′ : lookUp g d n .refusal .number ≡ 4 → lookUp g d n .compared ≡ length (keep (λ x. eqb (hit g d x) (hash (fold n))) (slots g d))
-  pub none : lookUp g d n .refusal .number ≢ 4 → lookUp g d n .compared ≡ 0
+pub record NotFound (g : Geometry) (d n : List ℕ) (r : LookedUp) : Type 0 where
+  pub slot : r .slot ≡ 0
+  pub all′ : r .refusal .number ≡ 4 → r .compared ≡ length (keep (λ x. eqb (hit g d x) (hash (fold n))) (slots g d))
+  pub none : r .refusal .number ≢ 4 → r .compared ≡ 0
 
 -- beside the image, which is as it stood: handle and buffer as they stood, a refused open or create a handle of zeros, a refused sector
 -- read an empty part
-abbrev pub Refuses : Geometry → List ℕ → Call → Type 0
-Refuses g d checks = Unit {0}
-Refuses g d (looksUp n) = NotFound g d n
-Refuses g d (opens n len checking code) = open′ g d n len checking code .handle ≡ noHandle
-Refuses g d (creates n f checking) = (create g d n f checking .0 .handle ≡ noHandle) × (create g d n f checking .0 .old ≡ false)
-Refuses g d (reads a h b) = let r = readOf g d h (howMany a (h .len) b) b in (r .0 .handle ≡ h) × (r .1 ≡ b)
-Refuses g d (readsSector h k) = (readSector g d h k .from ≡ 0) × (readSector g d h k .to ≡ 0)
-Refuses g d (writes a m h b) = writeOf g d m h (howMany a (h .len) b) b .0 .handle ≡ h
-Refuses g d (allots h k) = allot g d h k .0 .handle ≡ h
-Refuses g d (trims h) = trim g d h .0 .handle ≡ h
-Refuses g d (kills h) = kill g d h .0 .handle ≡ h
-Refuses g d (lists i) = Listing.list g d i ≡ noFile (Listing.list g d i .refusal)
-Refuses g d counts = (Listing.counts g d .files ≡ 0) × (Listing.counts g d .free ≡ 0)
-Refuses g d measures = (freeSpace g d .free ≡ 0) × (freeSpace g d .longest ≡ 0)
+abbrev pub Refuses : Geometry → List ℕ → (c : Call) → Said c → Type 0
+Refuses g d checks s = Unit {0}
+Refuses g d (looksUp n) s = NotFound g d n (s .answer)
+Refuses g d (opens n len checking code) s = s .answer .handle ≡ noHandle
+Refuses g d (creates n f checking) s = (s .answer .handle ≡ noHandle) × (s .answer .old ≡ false)
+Refuses g d (reads a h b) s = (s .answer .0 .handle ≡ h) × (s .answer .1 ≡ b)
+Refuses g d (readsSector h k) s = (s .answer .from ≡ 0) × (s .answer .to ≡ 0)
+Refuses g d (writes a m h b) s = s .answer .handle ≡ h
+Refuses g d (allots h k) s = s .answer .handle ≡ h
+Refuses g d (trims h) s = s .answer .handle ≡ h
+Refuses g d (kills h) s = s .answer .handle ≡ h
+Refuses g d (lists i) s = s .answer ≡ noFile (s .answer .refusal)
+Refuses g d counts s = (s .answer .files ≡ 0) × (s .answer .free ≡ 0)
+Refuses g d measures s = (s .answer .free ≡ 0) × (s .answer .longest ≡ 0)
 
 -- 5. Refusal numbers, in order of test ------------------------------------------------------------------------------------------------------
 
@@ -410,11 +411,18 @@ OldTwo = (g : Geometry) (d : List ℕ) → (fault g d ≡ unplaced 0) ↔ (consi
 
 -- 6. One call, and every state reached ----------------------------------------------------------------------------------------------------
 
-pub record Promise (g : Geometry) (d : List ℕ) (c : Call) : Type 0 where
-  pub stays : Good g d → Brings c → Stays g d (leaves g d c)
-  pub serves : AreBytes d → number g d c ≡ 0 → Serves g d c
-  pub refuses : number g d c ≢ 0 → (leaves g d c ≡ d) × Refuses g d c
-  pub numbers : Exactly (number g d c) (table g d c)
+-- what must hold of all that is said of a call, and left
+pub record Promised (g : Geometry) (d : List ℕ) (c : Call) (s : Said c) : Type 0 where
+  pub told : refusalIn c (s .answer) .number ≡ s .number′
+  pub looks : OnlyLooks c → s .image ≡ d
+  pub stays : Good g d → Brings c → Stays g d (s .image)
+  pub serves : AreBytes d → s .number′ ≡ 0 → Serves g d c s
+  pub refuses : s .number′ ≢ 0 → (s .image ≡ d) × Refuses g d c s
+  pub numbers : Exactly (s .number′) (table g d c)
+
+-- and does of what the definitions say
+abbrev pub Promise : Geometry → List ℕ → Call → Type 0
+Promise g d c = Promised g d c (says g d c)
 
 -- whatever the disk, whatever the call
 abbrev pub EveryCall : Type 0

@@ -61,7 +61,8 @@ read-has g d h n b e =
       nltb→le 5 (h .level) (not-T (ltb 5 (h .level)) (p₅ .0)),
     )
 
-pub read-serves : (g : Geometry) (d : List ℕ) (h : Handle) (n : ℕ) (b : List ℕ) → readOf g d h n b .0 .refusal .number ≡ 0 → Reads g d h n b
+pub read-serves : (g : Geometry) (d : List ℕ) (h : Handle) (n : ℕ) (b : List ℕ) → readOf g d h n b .0 .refusal .number ≡ 0
+    → Reads g d h n b (readOf g d h n b .0 .handle) (readOf g d h n b .1)
 read-serves g d h n b e =
     let w = read-has g d h n b e in
     record {
@@ -172,7 +173,8 @@ handed g d h k e =
       to′ = rw e;
     }
 
-pub sector-serves : (g : Geometry) (d : List ℕ) → AreBytes d → (h : Handle) (k : ℕ) → readSector g d h k .refusal .number ≡ 0 → ReadsSector g d h k
+pub sector-serves : (g : Geometry) (d : List ℕ) → AreBytes d → (h : Handle) (k : ℕ) → readSector g d h k .refusal .number ≡ 0
+    → ReadsSector g d h k (readSector g d h k)
 sector-serves g d b h k e =
     let w = handed g d h k e in
     let p = h .slot in let c = w .has .sound in let f = Passing.live-file g d h (w .has .live) in let fit = Places.fits g d (w .has .fits) in

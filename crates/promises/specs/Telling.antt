@@ -59,7 +59,7 @@ module _ (g : Geometry) (d : List ℕ) where
   unfolding tellFirst
   no-more = refl
 
-  pub list-serves : (i : ℕ) → Listing.list g d i .refusal .number ≡ 0 → Sound g d → Lists g d i
+  pub list-serves : (i : ℕ) → Listing.list g d i .refusal .number ≡ 0 → Sound g d → Lists g d i (Listing.list g d i)
   unfolding Listing.list
   list-serves i e c =
       let n : check g d .number ≡ 0 = sym (Refusing.list-number g d i) ∙ e in
@@ -98,6 +98,6 @@ module _ (g : Geometry) (d : List ℕ) where
           lost : found f ≡ nothing → ⊥
           lost q = let z : _≡_ {A = ℕ} 0 1 = cc in omega arith
 
-  pub counts-serves : Listing.counts g d .refusal .number ≡ 0 → Sound g d → Counted g d
+  pub counts-serves : Listing.counts g d .refusal .number ≡ 0 → Sound g d → Counted g d (Listing.counts g d)
   unfolding Listing.counts
   counts-serves e c = record { files′ = rw e; free = rw e; told = told c }

@@ -21,6 +21,7 @@ use Rattle.meaning.specs.Calls.{Call, leaves}
 use Rattle.meaning.specs.Plain.{File, found, nothing, plain, backAs}
 use Rattle.meaning.specs.declared.Geometry.{Geometry}
 use Rattle.meaning.specs.declared.Handle.{Handle}
+use Rattle.meaning.specs.declared.BroughtBack.{BroughtBack}
 use Rattle.lists.specs.Members.{In}
 use Rattle.laws.specs.Frame.{Agree}
 use Rattle.laws.specs.BringBack.{Whole}
@@ -59,11 +60,16 @@ backTable g d s =
     ∷ (20, (n : ℕ) × In n (owned g d s) × T (taken g d n))
     ∷ [])
 
-pub record BackPromise (g : Geometry) (d : List ℕ) (s : ℕ) : Type 0 where
-  pub stays : Good g d → Stays g d (bringBack g d s .1)
-  pub serves : bringBack g d s .0 .refusal .number ≡ 0 → BringsBack g d (bringBack g d s .1) s (bringBack g d s .0 .slots) (bringBack g d s .0 .granules)
-  pub refuses : bringBack g d s .0 .refusal .number ≢ 0 → (bringBack g d s .1 ≡ d) × (bringBack g d s .0 .slots ≡ 0) × (bringBack g d s .0 .granules ≡ 0)
-  pub numbers : Exactly (bringBack g d s .0 .refusal .number) (backTable g d s)
+-- what must hold of an answer, and of the image left
+pub record BackPromised (g : Geometry) (d : List ℕ) (s : ℕ) (r : BroughtBack) (d′ : List ℕ) : Type 0 where
+  pub stays : Good g d → Stays g d d′
+  pub serves : r .refusal .number ≡ 0 → BringsBack g d d′ s (r .slots) (r .granules)
+  pub refuses : r .refusal .number ≢ 0 → (d′ ≡ d) × (r .slots ≡ 0) × (r .granules ≡ 0)
+  pub numbers : Exactly (r .refusal .number) (backTable g d s)
+
+-- and does of what the definition answers and leaves
+abbrev pub BackPromise : Geometry → List ℕ → ℕ → Type 0
+BackPromise g d s = BackPromised g d s (bringBack g d s .0) (bringBack g d s .1)
 
 -- whatever the disk, whatever the slot
 abbrev pub EveryBack : Type 0

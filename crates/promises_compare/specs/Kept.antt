@@ -123,7 +123,7 @@ module _ (g : Geometry) (d : List ℕ) (g′ : Geometry) (d′ : List ℕ) where
             let k = at-number n j in let l = k .1 in let z : 0 < many g d g′ d′ = omega arith in
             never (sym (one 0 z) ∙ ap isOne (sym (told 0 z) ∙ e) ∙ nothing-one)
 
-    pub compares : Compares g d g′ d′
+    pub compares : Compares g d g′ d′ (many g d g′ d′) (compare g d g′ d′)
     compares =
         record {
           none = (none-told, λ f. agreed f 0);
@@ -145,7 +145,7 @@ module _ (g : Geometry) (d : List ℕ) (g′ : Geometry) (d′ : List ℕ) where
       by true e = compares b .isOne′ i (ltb-true i (many g d g′ d′) e) .0
       by false e = ap (λ (x : Difference). x .refusal .number) (ends b i (ltb-false i (many g d g′ d′) e))
 
-  pub refuses : Refuses g d g′ d′
+  pub refuses : Refuses g d g′ d′ (compare g d g′ d′)
   unfolding compare
   refuses =
       record {

@@ -61,25 +61,26 @@ module _ (g : Geometry) (d : List ℕ) (g′ : Geometry) (d′ : List ℕ) where
   abbrev pub many : ℕ
   many = length (differences g d g′ d′)
 
-  pub record Compares : Type 0 where
+  -- what must hold of answers: `told` is what is told by running number, `most` how many differences that is
+  pub record Compares (most : ℕ) (told : ℕ → Difference) : Type 0 where
     -- "no more" at number 0 exactly if the two plain lists agree, system files by name only
-    pub none : (compare g d g′ d′ 0 ≡ tellsNone (unplaced 0)) ↔ ((n : List ℕ) → Agree (plain g d n) (plain g′ d′ n))
+    pub none : (told 0 ≡ tellsNone (unplaced 0)) ↔ ((n : List ℕ) → Agree (plain g d n) (plain g′ d′ n))
     -- past the last the answer is "no more"
-    pub ends : (i : ℕ) → many ≤ i → compare g d g′ d′ i ≡ tellsNone (unplaced 0)
+    pub ends : (i : ℕ) → most ≤ i → told i ≡ tellsNone (unplaced 0)
     -- every difference told is one, and says what stands under its name
-    pub tells : (i : ℕ) → i < many → let x = compare g d g′ d′ i in Says x (plain g d (x .name)) (plain g′ d′ (x .name))
-    pub isOne′ : (i : ℕ) → i < many → let x = compare g d g′ d′ i in (x .refusal .number ≡ 0) × (Agree (plain g d (x .name)) (plain g′ d′ (x .name)) → ⊥)
+    pub tells : (i : ℕ) → i < most → let x = told i in Says x (plain g d (x .name)) (plain g′ d′ (x .name))
+    pub isOne′ : (i : ℕ) → i < most → let x = told i in (x .refusal .number ≡ 0) × (Agree (plain g d (x .name)) (plain g′ d′ (x .name)) → ⊥)
     -- by name and type bytes, rising
-    pub rises : (i j : ℕ) → i < j → j < many → before (compare g d g′ d′ i .name) (compare g d g′ d′ j .name) ≡ true
+    pub rises : (i j : ℕ) → i < j → j < most → before (told i .name) (told j .name) ≡ true
     -- every one is told, and once
-    pub every′ : (n : List ℕ) → (Agree (plain g d n) (plain g′ d′ n) → ⊥) → (i : ℕ) × (i < many) × (compare g d g′ d′ i .name ≡ n)
-    pub once : (i j : ℕ) → i < many → j < many → compare g d g′ d′ i .name ≡ compare g d g′ d′ j .name → i ≡ j
+    pub every′ : (n : List ℕ) → (Agree (plain g d n) (plain g′ d′ n) → ⊥) → (i : ℕ) × (i < most) × (told i .name ≡ n)
+    pub once : (i j : ℕ) → i < most → j < most → told i .name ≡ told j .name → i ≡ j
 
   -- Refusals: 1 and 2 (21 to 30), each naming the image, the first's before the second's
-  pub record Refuses : Type 0 where
-    pub first : (i : ℕ) → check g d .number ≢ 0 → compare g d g′ d′ i ≡ tellsNone (naming 1 (check g d))
-    pub second : (i : ℕ) → check g d .number ≡ 0 → check g′ d′ .number ≢ 0 → compare g d g′ d′ i ≡ tellsNone (naming 2 (check g′ d′))
-    pub neither : (i : ℕ) → check g d .number ≡ 0 → check g′ d′ .number ≡ 0 → compare g d g′ d′ i .refusal .number ≡ 0
+  pub record Refuses (told : ℕ → Difference) : Type 0 where
+    pub first : (i : ℕ) → check g d .number ≢ 0 → told i ≡ tellsNone (naming 1 (check g d))
+    pub second : (i : ℕ) → check g d .number ≡ 0 → check g′ d′ .number ≢ 0 → told i ≡ tellsNone (naming 2 (check g′ d′))
+    pub neither : (i : ℕ) → check g d .number ≡ 0 → check g′ d′ .number ≡ 0 → told i .refusal .number ≡ 0
 
 -- 3. Sides, and disks alike ----------------------------------------------------------------------------------------------------
 
@@ -102,10 +103,11 @@ swapped x =
 
 -- every pair of images of which neither is refused
 abbrev pub EveryPair : Type 0
-EveryPair = (g : Geometry) (d : List ℕ) (g′ : Geometry) (d′ : List ℕ) → Both g d g′ d′ → Compares g d g′ d′
+EveryPair = (g : Geometry) (d : List ℕ) (g′ : Geometry) (d′ : List ℕ) → Both g d g′ d′
+    → Compares g d g′ d′ (many g d g′ d′) (compare g d g′ d′)
 
 abbrev pub EveryRefusal : Type 0
-EveryRefusal = (g : Geometry) (d : List ℕ) (g′ : Geometry) (d′ : List ℕ) → Refuses g d g′ d′
+EveryRefusal = (g : Geometry) (d : List ℕ) (g′ : Geometry) (d′ : List ℕ) → Refuses g d g′ d′ (compare g d g′ d′)
 
 -- Swapping the images swaps the sides. Where both images are refused, each order names the one that comes first.
 abbrev pub Swaps : Type 0
