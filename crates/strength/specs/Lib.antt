@@ -1,2 +1,4 @@
 pub mod Programs
+pub mod Fixed
+pub mod Others
 pub mod Refused

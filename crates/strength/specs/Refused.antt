@@ -1,32 +1,40 @@
--- The four programs of 01's last section do not meet the statements: a disk and calls that show it, for each.
-use mathlib.Core.Path.{_≡_, refl, ap, sym, _∙_}
-use mathlib.Core.List.{List, [], _∷_}
-use Prim.Native.Nat.{ℕ, _+_}
+-- The four programs of 01's last section do not meet the statements, each by the promise that 01 names: a disk and calls that show it.
+use mathlib.Core.Path.{_≡_, refl, sym, ap, _∙_}
+use mathlib.Core.List.{List, [], _∷_, _++_}
+use Prim.Native.Nat.{ℕ}
 use native.Mathlib.Omega.{arith}
-use lib.ListN.{getD}
+use lib.ListN.{getD, take, drop}
 use Rattle.meaning.specs.Amount.{oneRecord}
-use Rattle.meaning.specs.Layout.{byte}
-use Rattle.meaning.specs.LookUp.{lookUp}
-use Rattle.meaning.specs.Calls.{Call, number, leaves}
-use Rattle.meaning_table.specs.Samples.{opened, three, sample, puls, held, hits}
+use Rattle.meaning.specs.Names.{fold}
+use Rattle.meaning.specs.Calls.{Call, number}
+use Rattle.meaning.specs.Plain.{File, found, plain, fileAt}
+use Rattle.meaning_table.specs.Samples.{opened, three, sample, puls, held}
 use Rattle.meaning.specs.declared.Geometry.{Geometry}
 use Rattle.meaning.specs.declared.Handle.{Handle}
 use Rattle.meaning.specs.Calls.Call.{checks, looksUp, reads, kills}
-use Rattle.strength.specs.Programs.{Answers, checked, looked, answered, created, part, told, counted, measured, Said, Program, Meets, says, right}
-use Rattle.strength.specs.Programs.{answerOf, bufferOf, RefusesAll, AlwaysAlike, ChangesNothing, Faked, FirstOnly}
+use Rattle.promises_words.specs.Given.{AreBytes}
+use Rattle.promises.specs.Said.{Said}
+use Rattle.promises.specs.Promises
+use Rattle.promises.specs.Promises.{Promised, matching}
+use Rattle.promises.specs.Kept.{every-call}
+use Rattle.strength.specs.Programs.{Program, Meets, RefusesAll, AlwaysAlike, ChangesNothing, FirstOnly}
+use Rattle.strength.specs.Fixed.{one-number, one-file, there-or-not}
 
--- what a program that meets the statements says of one call, and of two
-one : (p : Program) → Meets p → (c : Call) → p three sample (c ∷ []) ≡ says three sample c ∷ []
-unfolding right
-one p m c = m three sample (c ∷ [])
+bytes : AreBytes sample
+bytes = refl
 
--- Refuses every call: `numbers` of the promises says when each number is given, and on this disk the check gives none.
-served : says three sample checks .number′ ≡ 0
-unfolding opened says number
+-- `numbers`: each number exactly in its case. So the number is the one that the definitions give, whoever says it.
+numbered : (g : Geometry) (d : List ℕ) (c : Call) (s : Said c) → Promised g d c s → s .number′ ≡ number g d c
+numbered g d c s x = one-number (Promises.table g d c) (Unit {0}) tt (s .number′) (number g d c) (x .numbers) (every-call g d c .numbers)
+
+-- Refuses every call: on this disk the check gives no number.
+served : number three sample checks ≡ 0
+unfolding opened number
 served = refl
 
 pub refuses-all : (p : Program) → Meets p → RefusesAll p → ⊥
-refuses-all p m r = r three sample checks (says three sample checks) (one p m checks) served
+refuses-all p m r =
+    r three sample checks (numbered three sample checks (p three sample (checks ∷ []) .0) (m three sample (checks ∷ []) .0) ∙ served)
 
 -- Answers always alike: `Reads` says which bytes. Two bytes of one file differ.
 abbrev from : ℕ → Handle
@@ -35,80 +43,70 @@ from i = held 0xa3 puls i 1 0
 abbrev byteAt : ℕ → Call
 byteAt i = reads oneRecord (from i) (0 ∷ [])
 
-first-byte : says three sample (byteAt 255) .buffer ≡ 0x43 ∷ []
-unfolding opened says bufferOf
+first-read : number three sample (byteAt 255) ≡ 0
+unfolding opened number
+first-read = refl
+
+second-read : number three sample (byteAt 256) ≡ 0
+unfolding opened number
+second-read = refl
+
+file-there : plain three sample puls ≡ found (fileAt three sample 0xa3)
+unfolding opened
+file-there = refl
+
+first-byte : take 1 (drop 255 (fileAt three sample 0xa3 .bytes)) ≡ 0x43 ∷ []
+unfolding opened
 first-byte = refl
 
-second-byte : says three sample (byteAt 256) .buffer ≡ 0x44 ∷ []
-unfolding opened says bufferOf
+second-byte : take 1 (drop 256 (fileAt three sample 0xa3 .bytes)) ≡ 0x44 ∷ []
+unfolding opened
 second-byte = refl
 
 pub always-alike : (p : Program) → Meets p → AlwaysAlike p → ⊥
 always-alike p m r =
-    let e = r three sample oneRecord (from 255) (from 256) (0 ∷ [])
-    (says three sample (byteAt 255)) (says three sample (byteAt 256)) refl (one p m (byteAt 255)) (one p m (byteAt 256)) in
-    let z : _≡_ {A = ℕ} 0x43 0x44 = ap (λ (b : List ℕ). getD b 0 0) (sym first-byte ∙ e ∙ second-byte) in
+    let c = byteAt 255 in let s = p three sample (c ∷ []) .0 in let x = m three sample (c ∷ []) .0 in
+    let c′ = byteAt 256 in let s′ = p three sample (c′ ∷ []) .0 in let x′ = m three sample (c′ ∷ []) .0 in
+    let v = x .serves bytes (numbered three sample c s x ∙ first-read) in
+    let w = x′ .serves bytes (numbered three sample c′ s′ x′ ∙ second-read) in
+    let a : s .answer .1 ≡ 0x43 ∷ [] =
+    v .buffer ∙ ap (λ (f : File). take 1 (drop 255 (f .bytes)) ++ []) (one-file (v .called) file-there) ∙ ap (λ (b : List ℕ). b ++ []) first-byte in
+    let b : s′ .answer .1 ≡ 0x44 ∷ [] =
+    w .buffer ∙ ap (λ (f : File). take 1 (drop 256 (f .bytes)) ++ []) (one-file (w .called) file-there) ∙ ap (λ (b : List ℕ). b ++ []) second-byte in
+    let z : _≡_ {A = ℕ} 0x43 0x44 =
+    ap (λ (b : List ℕ). getD b 0 0) (sym a ∙ r three sample oneRecord (from 255) (from 256) (0 ∷ []) refl ∙ b) in
     omega arith
 
--- Changes nothing: it satisfies the interleaving rule, but `Changes` says what a kill leaves: a HIT byte 0.
+-- Changes nothing: it satisfies the interleaving rule, but `Changes` says what a kill leaves: no file of that name.
 abbrev killing : Call
 killing = kills (held 0xa3 puls 0 256 1)
 
-gone : byte (says three sample killing .image) (hits + 0xa3) ≡ 0
-unfolding opened says leaves
-gone = refl
-
-there : byte sample (hits + 0xa3) ≡ 0xc1
-there = refl
+killed : number three sample killing ≡ 0
+unfolding opened number
+killed = refl
 
 pub changes-nothing : (p : Program) → Meets p → ChangesNothing p → ⊥
 changes-nothing p m r =
-    let e = r three sample killing (says three sample killing) (one p m killing) in
-    let z : _≡_ {A = ℕ} 0 0xc1 = sym gone ∙ ap (λ (d : List ℕ). byte d (hits + 0xa3)) e ∙ there in
-    omega arith
+    let s = p three sample (killing ∷ []) .0 in let x = m three sample (killing ∷ []) .0 in
+    let v = x .serves bytes (numbered three sample killing s x ∙ killed) .becomes in
+    there-or-not (v .before) (sym (ap (λ (d : List ℕ). plain three d puls) (r three sample killing)) ∙ v .after)
 
--- Serves the first call and fakes the others: the promises hold from each state reached. After a kill the handle is stale.
-stale : says three (leaves three sample killing) killing .number′ ≡ 7
-unfolding opened says number leaves
-stale = refl
+good : Promises.Good three sample
+unfolding opened
+good = record { fits = refl; sound = refl; bytes = refl }
 
-secondNumber : List Said → ℕ
-secondNumber [] = 0
-secondNumber (x ∷ []) = 0
-secondNumber (x ∷ y ∷ ys) = y .number′
-
-right-second : secondNumber (right three sample (killing ∷ killing ∷ [])) ≡ says three (leaves three sample killing) killing .number′
-unfolding right secondNumber
-right-second = refl
-
-faked-second : (x : Said) (d : List ℕ) (xs : List Said) → Faked d xs → secondNumber (x ∷ xs) ≡ 0
-unfolding secondNumber
-faked-second x d [] k = refl
-faked-second x d (y ∷ ys) k = k .0
-
+-- Serves the first call and fakes the others: the promises hold from each state reached. After a kill the file is gone, so no second one is
+-- accepted, whatever image the program has left, if it is one of bytes.
 pub first-only : (p : Program) → Meets p → FirstOnly p → ⊥
 first-only p m r =
-    let w = r three sample killing (killing ∷ []) in
-    let z : _≡_ {A = ℕ} 7 0 =
-    sym stale ∙ sym right-second ∙ sym (ap secondNumber (m three sample (killing ∷ killing ∷ []))) ∙ ap secondNumber (w .1)
-    ∙ faked-second (says three sample killing) (leaves three sample killing) (w .0) (w .2) in
-    omega arith
+    let cs = killing ∷ killing ∷ [] in
+    let s = p three sample cs .0 in let x = m three sample cs .0 in let y = m three sample cs .1 .0 in
+    let k = x .stays good tt .good .bytes in
+    let v = x .serves bytes (numbered three sample killing s x ∙ killed) .becomes in
+    let w = y .serves k (r three sample killing (killing ∷ []) .0) .becomes in
+    there-or-not (w .before) (v .after)
 
--- An invented comparison count falls to the look-up rule.
-unfoldable pub comparedIn : Answers → ℕ
-comparedIn (checked n) = 0
-comparedIn (looked r) = r .compared
-comparedIn (answered r) = 0
-comparedIn (created r) = 0
-comparedIn (part r) = 0
-comparedIn (told r) = 0
-comparedIn (counted r) = 0
-comparedIn (measured r) = 0
-
-unfoldable pub firstCount : List Said → ℕ
-firstCount [] = 0
-firstCount (x ∷ xs) = comparedIn (x .answer)
-
-pub count-fixed : (p : Program) → Meets p → (g : Geometry) (d n : List ℕ) → firstCount (p g d (looksUp n ∷ [])) ≡ lookUp g d n .compared
-unfolding right says answerOf firstCount comparedIn
-count-fixed p m g d n = ap firstCount (m g d (looksUp n ∷ []))
+-- An invented comparison count falls to the look-up rule: so many slots up to the one told have the hash.
+pub count-fixed : (p : Program) → Meets p → (g : Geometry) (d n : List ℕ) → AreBytes d → p g d (looksUp n ∷ []) .0 .number′ ≡ 0
+    → p g d (looksUp n ∷ []) .0 .answer .compared ≡ matching g d (fold n) (p g d (looksUp n ∷ []) .0 .answer .slot)
+count-fixed p m g d n b e = m g d (looksUp n ∷ []) .0 .serves b e .compared
