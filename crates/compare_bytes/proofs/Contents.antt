@@ -1,23 +1,29 @@
--- Two contents held against each other, byte by byte and granule by granule.
+-- Two contents held against each other, byte by byte and run by run.
 use mathlib.Core.Path.{_≡_, refl, sym, ap, _∙_}
 use mathlib.Core.Logic.{⊎-elim}
+use mathlib.Core.Bool.{Bool, true, _&&_, and-assoc, and-true}
 use mathlib.Core.List.{List, _∷_, _++_}
-use Prim.Native.Nat.{ℕ, suc, _+_, _-_, _≤_, _<_}
+use Prim.Native.Nat.{ℕ, suc, _+_, _-_, _*_, _≤_, _<_}
 use native.Mathlib.Omega.{arith}
 use native.Mathlib.Nat.{zero-add, add-zero}
 use native.Mathlib.Numerals.{add-one}
 use lib.ListN.{length, getD, take, drop, drop-of-length-le}
 use lib.Seq.{drop-cons}
+use lib.Dec.{eqb}
+use borrow.Author.Tests.{eqb-true}
+use Rattle.meaning.specs.Lists.{same}
+use Rattle.meaning.specs.Layout.{granuleBytes}
 use Rattle.meaning.specs.Entries.{sizeOf, inUse}
 use Rattle.meaning.specs.Chain.{owned, place}
 use Rattle.meaning.specs.Read.{fetch}
 use Rattle.meaning.specs.declared.Geometry.{Geometry}
-use Rattle.lists.specs.Tests.{and-l, le-or-lt}
+use Rattle.lists.specs.Tests.{and-l, all-at, le-or-lt}
 use Rattle.seek.specs.Seek.{Used}
-use Rattle.read.specs.Part.{Readable, Owned, InGranule}
-use Rattle.read.proofs.ReadParts.{place-fits, fetch-part, fetch-append, length-fetch}
+use Rattle.read.proofs.ReadParts.{map-run, fetch-append, length-fetch}
+use Rattle.file_runs.specs.Along.{Along}
+use Rattle.file_runs.specs.declared.FileRun.{FileRun}
 use Rattle.differences.specs.Compare.{parting}
-use Rattle.differences.specs.Parting.{parting-none, parting-nothing, parting-on, parting-here, parting-past, parting-in}
+use Rattle.differences.specs.Parting.{same-parting, parting-none, parting-nothing, parting-on, parting-here, parting-past, parting-in}
 use Rattle.compare_order.specs.Whole.{WholeDisk, StartsFile}
 
 -- two parts are alike in the first i bytes
@@ -53,47 +59,61 @@ module _ (a b : List ℕ) where
     k .low,
   )
 
--- bytes of a file in one granule, as a part of the image that is lent on
-module _ (g : Geometry) (d : List ℕ) (s : ℕ) (w : WholeDisk g d) (st : StartsFile g d s) where
-  pub used : Used g d s
-  used = record { slot = st .slot; used = and-l (inUse g d s) _ (st .first′) }
+-- Whether two parts are the same, i bytes of them compared ------------------------------------------------------------------
 
-  module _ (i n : ℕ) (b : 1 ≤ n) (inside : InGranule g i n) (y : i + n ≤ sizeOf g d s) (z : i + n ≤ 16777215) where
-    file : Readable g d s
-    file = record { sound = w .sound; used = used }
+module _ (a b : List ℕ) where
+  pub record SameSoFar (i : ℕ) (r : Bool) : Type 0 where
+    pub low : i ≤ length a
+    pub rest : same a b ≡ (r && same (drop i a) (drop i b))
 
-    held : Owned g d s i n
-    held = let q = w .sound .size s (st .slot) (st .first′) in record { some = b; owned = omega arith; high = z }
+  pub same-start : SameSoFar 0 true
+  same-start = record { low = omega arith; rest = refl }
 
-    pub granule-fits : place g d s i + n ≤ length d
-    granule-fits = place-fits g d s i n file held inside
-
-    pub part-is : {r : ℕ} → r ≡ place g d s i → take (r + n - r) (drop r d) ≡ fetch g d s i n
-    part-is {r} e =
-        let q : r + n - r ≡ n = omega arith in
-        ap (λ (k : ℕ). take k (drop r d)) q ∙ ap (λ (k : ℕ). take n (drop k d)) e ∙ sym (fetch-part g d s i n file held inside)
-
--- What one turn compares: len bytes of either file from byte i on, each in one granule.
-module _ (g : Geometry) (d : List ℕ) (h : Geometry) (e : List ℕ) (s t i len : ℕ) where
-  pub record Turn : Type 0 where
-    pub fits : place g d s i + len ≤ length d
-    pub fits′ : place h e t i + len ≤ length e
-    pub part : {r : ℕ} → r ≡ place g d s i → take (r + len - r) (drop r d) ≡ fetch g d s i len
-    pub part′ : {r : ℕ} → r ≡ place h e t i → take (r + len - r) (drop r e) ≡ fetch h e t i len
-
-  pub turn : {n m end : ℕ} → WholeDisk g d × WholeDisk h e × StartsFile g d s × StartsFile h e t × (n ≡ sizeOf g d s) × (m ≡ sizeOf h e t) × (n < 16777216) ×
-      (m < 16777216)
-      → end ≤ n → end ≤ m → InGranule g i len × InGranule h i len × (1 ≤ len) × (len ≤ end - i) → Turn
-  turn {n} {m} {end} p a b x =
-      let k = x .3 in let o = x .2 in
-      let y : i + len ≤ sizeOf g d s = omega (arith, p .4) in let z : i + len ≤ 16777215 = omega (arith, p .6) in
-      let y′ : i + len ≤ sizeOf h e t = omega (arith, p .5) in let z′ : i + len ≤ 16777215 = omega (arith, p .7) in
+  pub same-on : {i : ℕ} {r : Bool} → length a ≡ length b → i < length a → SameSoFar i r → SameSoFar (i + 1) (r && eqb (getD a i 0) (getD b i 0))
+  same-on {i} {r} l h k =
+      let p = drop-cons a i 0 h in let q = drop-cons b i 0 (omega arith) in
       record {
-        fits = granule-fits g d s (p .0) (p .2) i len o (x .0) y z;
-        fits′ = granule-fits h e t (p .1) (p .3) i len o (x .1) y′ z′;
-        part = part-is g d s (p .0) (p .2) i len o (x .0) y z;
-        part′ = part-is h e t (p .1) (p .3) i len o (x .1) y′ z′;
+        low = omega arith;
+        rest = k .rest ∙ (λ j. r && same (p j) (q j)) ∙ sym (and-assoc r (eqb (getD a i 0) (getD b i 0)) (same (drop (suc i) a) (drop (suc i) b)))
+            ∙ ap (λ (x : ℕ). (r && eqb (getD a i 0) (getD b i 0)) && same (drop x a) (drop x b)) (sym (add-one i));
       }
+
+  pub same-end : {i : ℕ} {r : Bool} → length a ≡ length b → length a ≤ i → SameSoFar i r → r ≡ same a b
+  same-end {i} {r} l h k =
+      let p = drop-of-length-le a {i = i} h in let q = drop-of-length-le b {i = i} (omega arith) in
+      sym (k .rest ∙ (λ j. r && same (p j) (q j)) ∙ and-true r)
+
+  -- parts that are the same are alike to their end
+  pub same-alike : {n : ℕ} {r : Bool} → n ≡ length a → r ≡ same a b → r ≡ true → (n ≡ parting a b) × (n ≤ length a)
+  same-alike {n} e f h =
+      let q = eqb-true (parting a b) (length a) (all-at _ (sym (same-parting a b) ∙ sym f ∙ h) 1) in
+      (omega arith, omega arith)
+
+-- the smaller of two numbers, of which neither is 0
+pub least-some : (n m r : ℕ) → 0 < n → 0 < m → (r < n → r ≡ m) → 0 < r
+least-some n m r a b f = ⊎-elim (λ q. omega arith) (λ q. let e = f q in omega arith) (le-or-lt n r)
+
+-- a file of a disk that passed
+module _ (g : Geometry) (d : List ℕ) (s : ℕ) where
+  pub used : StartsFile g d s → Used g d s
+  used st = record { slot = st .slot; used = and-l (inUse g d s) _ (st .first′) }
+
+  -- a byte below the size lies in a granule of the file
+  pub owned-byte : (i n : ℕ) → WholeDisk g d → StartsFile g d s → n ≡ sizeOf g d s → i < n → i < granuleBytes g * length (owned g d s)
+  owned-byte i n w st e h = omega (arith, w .sound .size s (st .slot) (st .first′))
+
+  -- len bytes from byte i on lie in the run c: they are a part of the image, which is lent on
+  module _ (i len : ℕ) {c : FileRun} (o : Along g d s c) (l : c .from ≤ i) (h : i + len ≤ c .to) where
+    pub run-fits : c .at + (i - c .from) + len ≤ length d
+    run-fits = omega (arith, o .inside)
+
+    pub run-is : take (c .at + (i - c .from) + len - (c .at + (i - c .from))) (drop (c .at + (i - c .from)) d) ≡ fetch g d s i len
+    unfolding fetch
+    run-is =
+        let q : c .at + (i - c .from) + len - (c .at + (i - c .from)) ≡ len = omega arith in
+        ap (λ (k : ℕ). take k (drop (c .at + (i - c .from)) d)) q
+        ∙ sym (map-run d (place g d s) i (c .at + (i - c .from)) len
+        (λ t p. o .here (i + t) (omega arith) (omega arith) ∙ (let z : c .at + (i + t - c .from) ≡ c .at + (i - c .from) + t = omega arith in z)) run-fits)
 
 -- two files are alike in the first i bytes
 module _ (g : Geometry) (d : List ℕ) (h : Geometry) (e : List ℕ) (s t n m end : ℕ) where
