@@ -276,6 +276,11 @@ module _ (g : Geometry) (d : List ℕ) where
       → Walked g d least sectors owned right cs m m′ met met′ false
   walked-no h = record { answer = sym h; map = λ q. not-both q refl; meets = λ q. not-both q refl }
 
+  -- no entry is left to visit
+  pub walked-none : {least sectors owned : ℕ} (h s : ℕ) {left : ℕ} {cs m m′ met met′ : List ℕ} → left ≡ 0 → Walked g d least sectors owned
+      (chainHolds g d h left s) cs m m′ met met′ false
+  walked-none h s e = walked-no (all-no (holds-none h s e) _)
+
   -- the slot was met before
   pub walked-again : {least sectors owned : ℕ} (s : ℕ) {right : Bool} {left : ℕ} {m m′ met met′ : List ℕ} → (left ≡ 0 → ⊥) → getD met s 0 < 1
       → Walked g d least sectors owned right (chainFrom g d left s) m m′ met met′ false
@@ -396,51 +401,3 @@ module _ (g : Geometry) (d : List ℕ) where
 
       rest : onward g d s (chainFrom g d left (link g d s)) ≡ chainFrom g d left (link g d s)
       rest = ap (λ (v : ℕ). cond (eqb v 0xfe) (chainFrom g d left (link g d s)) []) (goes-marker h s n)
-
-  -- the marker is not FFH, and no entry may follow
-  walked-out : {least sectors owned : ℕ} (h s : ℕ) {left : ℕ} {cs m m′ met met′ : List ℕ} → (marker g d s ≡ 0xff → ⊥) → left ≡ 0
-      → Walked g d least sectors owned (markerHolds g d h s (chainHolds g d h left (link g d s))) cs m m′ met met′ false
-  unfolding markerHolds
-  walked-out h s f e = walked-no (all-no (any-skip (off refl f) _ ∙ any-one _ ∙ all-out _ 1 (holds-none h (link g d s) e)) _)
-
-  -- what the marker of slot s leads to, at most `left` entries
-  abbrev pub Ahead : (least sectors h s left owned : ℕ) (m met m′ met′ : List ℕ) → Bool → Type 0
-  Ahead least sectors h s left owned m met m′ met′ r =
-      Walked g d least sectors owned (markerHolds g d h s (chainHolds g d h left (link g d s))) (onward g d s (chainFrom g d left (link g d s))) m m′ met met′
-      r
-
-  -- The walk from slot s₀ on has come to s: what lies ahead from there is what lay ahead at first.
-  pub record Going (least sectors h s₀ left₀ owned₀ : ℕ) (m₀ met₀ : List ℕ) (s left owned : ℕ) (m met : List ℕ) : Type 0 where
-    pub whole : {m′ met′ : List ℕ} {r : Bool} → Ahead least sectors h s left owned m met m′ met′ r → Ahead least sectors h s₀ left₀ owned₀ m₀ met₀ m′ met′ r
-
-  module _ (least sectors h s₀ left₀ owned₀ : ℕ) (m₀ met₀ : List ℕ) where
-    pub going-start : Going least sectors h s₀ left₀ owned₀ m₀ met₀ s₀ left₀ owned₀ m₀ met₀
-    going-start = record { whole = λ w. w }
-
-    module _ {s left owned : ℕ} {m met : List ℕ} (i : Going least sectors h s₀ left₀ owned₀ m₀ met₀ s left owned m met) (f : marker g d s ≡ 0xff → ⊥) where
-      pub going-out : {m′ met′ : List ℕ} → left ≤ 0 → Ahead least sectors h s₀ left₀ owned₀ m₀ met₀ m′ met′ false
-      going-out l = i .whole (walked-out h s f (omega arith))
-
-      pub going-stop : {m′ met′ : List ℕ} → goesOn g d h s ≡ false → Ahead least sectors h s₀ left₀ owned₀ m₀ met₀ m′ met′ false
-      going-stop n = i .whole (walked-stop h s (chainHolds g d h left (link g d s)) refl f n)
-
-      -- it leads on, to slot t
-      module _ {t : ℕ} (l : 0 < left) (n : goesOn g d h s ≡ true) (q : t ≡ link g d s) where
-        some : left ≡ 0 → ⊥
-        some e = let z : ⊥ = omega arith in z
-
-        pub going-again : {m′ met′ : List ℕ} → getD met t 0 < 1 → Ahead least sectors h s₀ left₀ owned₀ m₀ met₀ m′ met′ false
-        going-again k = i .whole (walked-on h s left refl f n q (walked-again t some k))
-
-        pub going-bad : {m₁ m′ met′ : List ℕ} {p : Pairs} → Entered g d t least m m₁ p → not (p .ok) ≡ true
-            → Ahead least sectors h s₀ left₀ owned₀ m₀ met₀ m′ met′ false
-        going-bad w k = i .whole (walked-on h s left refl f n q (walked-entry-no h t some w k))
-
-        module _ {m₁ : List ℕ} {p : Pairs} (u : 1 ≤ getD met t 0) (w : Entered g d t least m m₁ p) (k : not (p .ok) ≡ false) where
-          pub going-end : {v x : ℕ} → v ≡ granuleSectors g → x ≡ marker g d t → x ≡ 0xff
-              → Ahead least sectors h s₀ left₀ owned₀ m₀ met₀ m₁ (set met t 0) (leb sectors (v * (owned + p .granules)))
-          going-end e y z = i .whole (walked-on h s left refl f n q (walked-entry h t some u w k
-              (walked-end h t (chainHolds g d h (left - 1) (link g d t)) (chainFrom g d (left - 1) (link g d t)) e y z)))
-
-          pub going-step : Going least sectors h s₀ left₀ owned₀ m₀ met₀ t (left - 1) (owned + p .granules) m₁ (set met t 0)
-          going-step = record { whole = λ z. i .whole (walked-on h s left refl f n q (walked-entry h t some u w k z)) }

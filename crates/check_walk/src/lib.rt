@@ -157,7 +157,7 @@ fn goes_on(image: &[u8], g: Geometry, s: usize, at: usize, runs: usize, h: usize
     layout::hit(image, g, t) == h
 }
 
-// The whole chain of a file: its primary entry here, its extensions by the walk below. A file without extensions needs no loop.
+// The whole chain of a file: its primary entry here, its extensions by the walk below. A file without extensions needs no call.
 pub fn file_walk(
     image: &[u8],
     g: Geometry,
@@ -200,8 +200,55 @@ pub fn file_walk(
     )
 }
 
-// The marker of slot s, of a file with HIT byte h, and what it leads to: it does not end the file, and at most `left` entries follow. `met`
-// has 0 for each slot that was met, and `owned` granules were met before. The sector count must fit the granules of the whole chain.
+// The entry of slot s, of a file with HIT byte h, and what its marker leads to: at most `left` entries. `met` has 1 for each slot not
+// met so far, and `owned` granules were met before. The sector count must fit the granules of the whole chain.
+fn entry_walk(
+    image: &[u8],
+    g: Geometry,
+    s: usize,
+    at: usize,
+    left: usize,
+    h: usize,
+    sectors: usize,
+    owned: usize,
+    map: &mut [u8; 192],
+    met: &mut [u8; 256],
+) -> bool
+    requires { ⌜ Room g (now image) × Place g (now image) s at × (owned + 128 * left ≤ 65536) ⌝ }
+    ensures { λ r. ⌜ Walked g (now (image .entry)) 1 sectors owned (chainHolds g (now (image .entry)) h left s)
+        (chainFrom g (now (image .entry)) left s) (standing g (now (image .entry)) (now (map .entry))) (standing g (now (image .entry)) (now (map .exit)))
+        (now (met .entry)) (now (met .exit)) r ⌝ }
+{
+    if left == 0 {
+        return false;
+    }
+    if met[s] < 1 {
+        return false;
+    }
+    met[s] = 0;
+    let p = take_runs(image, g, s, at, map);
+    if !p.ok {
+        return false;
+    }
+    if field_at(image, g, s, at, layout::MARKER) == layout::ENDS {
+        return sectors <= layout::granule_sectors(g) * (owned + p.granules);
+    }
+    marker_walk(
+        image,
+        g,
+        s,
+        at,
+        p.runs,
+        left - 1,
+        h,
+        sectors,
+        owned + p.granules,
+        map,
+        met,
+    )
+}
+
+// The marker of slot s, which does not end the file, and what it leads to.
 fn marker_walk(
     image: &[u8],
     g: Geometry,
@@ -222,33 +269,10 @@ fn marker_walk(
         (onward g (now (image .entry)) s (chainFrom g (now (image .entry)) left (link g (now (image .entry)) s)))
         (standing g (now (image .entry)) (now (map .entry))) (standing g (now (image .entry)) (now (map .exit))) (now (met .entry)) (now (met .exit)) r ⌝ }
 {
-    let mut x = s;
-    let mut to = at;
-    let mut n = runs;
-    let mut more = left;
-    let mut own = owned;
-    while 0 < more {
-        if !goes_on(image, g, x, to, n, h) {
-            return false;
-        }
-        let t = field_at(image, g, x, to, layout::LINK);
-        let there = entry_at(image, g, t);
-        if met[t] < 1 {
-            return false;
-        }
-        met[t] = 0;
-        let p = take_runs(image, g, t, there, map);
-        if !p.ok {
-            return false;
-        }
-        own += p.granules;
-        if field_at(image, g, t, there, layout::MARKER) == layout::ENDS {
-            return sectors <= layout::granule_sectors(g) * own;
-        }
-        x = t;
-        to = there;
-        n = p.runs;
-        more -= 1;
+    if !goes_on(image, g, s, at, runs, h) {
+        return false;
     }
-    false
+    let t = field_at(image, g, s, at, layout::LINK);
+    let to = entry_at(image, g, t);
+    entry_walk(image, g, t, to, left, h, sectors, owned, map, met)
 }
