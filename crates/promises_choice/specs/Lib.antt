@@ -1,3 +1,4 @@
 pub mod Statement
 pub mod Steps
+pub mod Accepted
 pub mod Kept
