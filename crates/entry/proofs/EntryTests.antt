@@ -21,6 +21,10 @@ use Rattle.lists.specs.Tests.{all-yes, all-no, all-one, is-no, is-yes}
 pub cut : (a : ℕ) → a + 11 - a ≡ 11
 cut a = omega arith
 
+-- the eleven bytes at a place, by the place's name
+pub name-lent : (d : List ℕ) {a b : ℕ} → a ≡ b → wellFormed (take (a + 11 - a) (drop a d)) ≡ wellFormed (take (b + 11 - b) (drop b d))
+name-lent d e = ap (λ (x : ℕ). wellFormed (take (x + 11 - x) (drop x d))) e
+
 module _ (g : Geometry) (d : List ℕ) (s : ℕ) where
   pub name-ends : Room g d → Slot g d s → entryAt g s + 16 ≤ length d
   name-ends r sl =

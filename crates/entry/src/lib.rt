@@ -30,7 +30,7 @@ pub fn name_holds(image: &[u8], g: Geometry, s: usize) -> bool
     requires { ⌜ Room g (now image) × Slot g (now image) s ⌝ }
     ensures { λ r. ⌜ r ≡ nameHolds g (now (image .entry)) s ⌝ }
 {
-    let a = 256 * (g.start + 2 + s % 32) + 32 * (s / 32) + 5;
+    let a = layout::name_at(image, g, s);
     let e = a + 11;
     if !name_spelling::well_formed(&image[a..e]) {
         return false;

@@ -58,11 +58,7 @@ pub fn fresh(image: &[u8], g: Geometry, h: Handle) -> bool
         return false;
     }
     let name = h.name;
-    layout::same_name(
-        image,
-        256 * (g.start + 2 + s % 32) + 32 * (s / 32) + 5,
-        &name,
-    )
+    layout::same_name(image, layout::name_at(image, g, s), &name)
 }
 
 pub fn handle_number(image: &[u8], g: Geometry, h: Handle, ranged: bool, checked: Refusal) -> u8

@@ -29,11 +29,7 @@ pub fn carries(image: &[u8], g: Geometry, s: usize, name: &[u8]) -> bool
     if !layout::primary(image, g, s) {
         return false;
     }
-    layout::same_name(
-        image,
-        256 * (g.start + 2 + s % 32) + 32 * (s / 32) + 5,
-        name,
-    )
+    layout::same_name(image, layout::name_at(image, g, s), name)
 }
 
 // The first slot of that name, by rising slot number, and how many entries were compared. Only the slots that the directory has are

@@ -1,5 +1,6 @@
+use mathlib.Core.Path.{_∙_}
 use Rattle.meaning.specs.Layout.{entryAt}
-use Rattle.entry.proofs.EntryTests.{name-bad, name-good, cut}
+use Rattle.entry.proofs.EntryTests.{name-bad, name-good, name-lent, cut}
 use Prim.Native.Nat.{_+_}
 use borrow.Author.Needs.{needs}
 use Rattle.entry.proofs.name_holds.Statement.{statement}
@@ -7,25 +8,11 @@ use Rattle.entry.proofs.name_holds.Tie as tie
 use Rattle.entry.proofs.name_holds.Reads as reads
 use Rattle.entry.proofs.name_holds.Lts as lts
 use Rattle.layout.proofs.flag.Reads as flag-reads
+use Rattle.layout.proofs.name_at.Reads as name-at-reads
 use Rattle.name_spelling.proofs.well_formed.Reads as well-formed-reads
 
-add-a : tie.Need-add-a
-add-a c = search needs
-
-add-a-2 : tie.Need-add-a-2
-add-a-2 c = search needs
-
-mul-a : tie.Need-mul-a
-mul-a c = search needs
-
-mul-a-2 : tie.Need-mul-a-2
-mul-a-2 c = search needs
-
-add-a-3 : tie.Need-add-a-3
-add-a-3 c = search needs
-
-add-a-4 : tie.Need-add-a-4
-add-a-4 c = search needs
+name-at-requires : tie.Need-name-at-requires
+name-at-requires c κs = search needs
 
 add-e : tie.Need-add-e
 add-e c = search needs
@@ -45,7 +32,8 @@ well-formed-requires c κs = search needs
 returns : tie.Need-returns
 returns c =
     let c₅ = c .before .before .before .before .before in let a = c₅ .args in let p = c₅ .pre in
-    name-bad _ _ _ (p .0) (p .1) (cut (entryAt (a .g) (a .s) + 5)) (c .before .well-formed .ensures) (c .if1 .taken)
+    name-bad _ _ _ (p .0) (p .1) (cut (entryAt (a .g) (a .s) + 5)) (c .before .well-formed .ensures ∙ name-lent _ (c .before .before .before .name-at .ensures))
+    (c .if1 .taken)
 
 flag-requires : tie.Need-flag-requires
 flag-requires c κs = search needs
@@ -53,18 +41,14 @@ flag-requires c κs = search needs
 returns-2 : tie.Need-returns-2
 returns-2 c =
     let c₆ = c .before .before .before .before .before .before in let a = c₆ .args in let p = c₆ .pre in
-    name-good _ _ _ (p .0) (p .1) (cut (entryAt (a .g) (a .s) + 5)) (c .before .before .well-formed .ensures) (c .before .if1 .left) (c .flag .ensures)
+    name-good _ _ _ (p .0) (p .1) (cut (entryAt (a .g) (a .s) + 5))
+    (c .before .before .well-formed .ensures ∙ name-lent _ (c .before .before .before .before .name-at .ensures)) (c .before .if1 .left) (c .flag .ensures)
 
 pub name-holds-spec : {M : Type 1} → statement M
 name-holds-spec =
     tie.close
     (tie.spec
-    add-a
-    add-a-2
-    mul-a
-    mul-a-2
-    add-a-3
-    add-a-4
+    name-at-requires
     add-e
     sub-well-formed
     part-well-formed-start

@@ -1,5 +1,8 @@
 use native.Mathlib.Omega.{arith}
-use mathlib.Core.Path.{sym, _∙_}
+use mathlib.Core.Path.{sym, ap, _∙_}
+use Prim.Native.Nat.{ℕ}
+use lib.ListN.{take, drop}
+use Rattle.meaning.specs.Lists.{same}
 use Rattle.layout.proofs.HasRoom.{slot-of}
 use Rattle.lists.specs.Tests.{all-yes, all-no, all-one, is-no, is-yes}
 use Rattle.layout.proofs.OneStep.{name-at}
@@ -10,6 +13,7 @@ use Rattle.handle.proofs.fresh.Tie as tie
 use Rattle.handle.proofs.fresh.Reads as reads
 use Rattle.handle.proofs.fresh.Lts as lts
 use Rattle.layout.proofs.is_slot.Reads as is-slot-reads
+use Rattle.layout.proofs.name_at.Reads as name-at-reads
 use Rattle.layout.proofs.primary.Reads as primary-reads
 use Rattle.layout.proofs.same_name.Reads as same-name-reads
 
@@ -28,26 +32,9 @@ unfolding fresh
 returns-2 c = sym (all-yes (is-yes (c .before .before .before .is-slot .ensures) (c .before .before .if1 .left)) _ ∙ all-no
     (is-no (c .before .primary .ensures) (c .if2 .taken)) _)
 
-add-same-name : tie.Need-add-same-name
-add-same-name c = search needs
-
-add-same-name-2 : tie.Need-add-same-name-2
-add-same-name-2 c = search needs
-
-mul-same-name : tie.Need-mul-same-name
-mul-same-name c = search needs
-
-mul-same-name-2 : tie.Need-mul-same-name-2
-mul-same-name-2 c = search needs
-
-add-same-name-3 : tie.Need-add-same-name-3
-add-same-name-3 c = let q = slot-of _ _ _
-    (is-yes (c .before .before .before .before .before .is-slot .ensures) (c .before .before .before .before .if1 .left)) in
-    omega arith
-
-add-same-name-4 : tie.Need-add-same-name-4
-add-same-name-4 c = let q = slot-of _ _ _
-    (is-yes (c .before .before .before .before .before .is-slot .ensures) (c .before .before .before .before .if1 .left)) in
+name-at-requires : tie.Need-name-at-requires
+name-at-requires c κs =
+    let q = slot-of _ _ _ (is-yes (c .before .before .before .before .is-slot .ensures) (c .before .before .before .if1 .left)) in
     omega arith
 
 slice-aggregate-same-name : tie.Need-slice-aggregate-same-name
@@ -60,12 +47,15 @@ same-name-requires c κs = let q = slot-of _ _ _
 
 returns-3 : tie.Need-returns-3
 unfolding fresh
-returns-3 c = sym (all-yes (is-yes (c .before .before .before .before .before .before .before .is-slot .ensures)
-    (c .before .before .before .before .before .before .if1 .left)) _ ∙ all-yes
-    (is-yes (c .before .before .before .before .before .primary .ensures) (c .before .before .before .before .if2 .left)) _ ∙ all-one _ ∙
-    (let q = slot-of _ _ _ (is-yes (c .before .before .before .before .before .before .before .is-slot .ensures)
-    (c .before .before .before .before .before .before .if1 .left)) in let a = c .before .before .before .before .before .before .before .before .before .args
-    in name-at (a .g) (a .image .now) (a .h .name) (a .h .slot) (omega arith)) ∙ sym (c .same-name .ensures))
+returns-3 c =
+    let c₄ = c .before .before .before .before in
+    let c₆ = c₄ .before .before in
+    let there = is-yes (c₆ .before .is-slot .ensures) (c₆ .if1 .left) in
+    let a = c₆ .before .before .before .args in
+    let q = slot-of _ _ _ there in
+    sym (all-yes there _ ∙ all-yes (is-yes (c₄ .before .primary .ensures) (c₄ .if2 .left)) _ ∙ all-one _ ∙
+    name-at (a .g) (a .image .now) (a .h .name) (a .h .slot) (omega arith) ∙
+    ap (λ (x : ℕ). same (take 11 (drop x (a .image .now))) (a .h .name)) (sym (c .before .before .name-at .ensures)) ∙ sym (c .same-name .ensures))
 
 pub fresh-spec : {M : Type 1} → statement M
 fresh-spec =
@@ -75,12 +65,7 @@ fresh-spec =
     returns
     primary-requires
     returns-2
-    add-same-name
-    add-same-name-2
-    mul-same-name
-    mul-same-name-2
-    add-same-name-3
-    add-same-name-4
+    name-at-requires
     slice-aggregate-same-name
     same-name-requires
     returns-3)
