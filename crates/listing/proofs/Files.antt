@@ -27,6 +27,14 @@ use Rattle.lists.specs.Tests.{all-at, and-l}
 use Rattle.seek.specs.Seek.{Used}
 use Rattle.look_up.proofs.Pass.{slotsFrom, slots-start, slots-here, slots-past, slots-end}
 
+-- where a row of the directory begins, as the passes along it reckon
+pub row-entry : (g : Geometry) (row : ℕ) → entryAt g (32 * row) ≡ 256 * (g .start + 2) + 32 * row + 256 * (32 * row - 32 * row)
+row-entry g row = omega arith
+
+-- the eleven bytes at a place, by the place's name
+pub at-place : (d : List ℕ) {a b : ℕ} → a ≡ b → take 11 (drop a d) ≡ take 11 (drop b d)
+at-place d e = ap (λ (x : ℕ). take 11 (drop x d)) e
+
 module _ (g : Geometry) (d : List ℕ) where
   -- the name as a part of the image
   pub name-is : (s : ℕ) → entryAt g s + 16 ≤ length d → take 11 (drop (entryAt g s + 5) d) ≡ nameOf g d s

@@ -56,7 +56,7 @@ fn tell(image: &[u8], g: Geometry, s: usize) -> Listed
     Listed {
         refusal: refusal::unplaced(0),
         more: true,
-        name: look_up::name_at(image, 256 * (g.start + 2 + s % 32) + 32 * (s / 32) + 5),
+        name: look_up::name_at(image, layout::name_at(image, g, s)),
         size: layout::size_of(image, g, s),
         granules: extent::measure(image, g, s).owned,
     }
@@ -73,7 +73,7 @@ fn told(image: &[u8], g: Geometry, number: usize) -> Listed
     while row < 8 {
         let mut s = 32 * row;
         let end = s + columns;
-        let mut at = 256 * (g.start + 2) + 32 * row;
+        let mut at = layout::entry_at(image, g, s);
         while s < end {
             if tells(image, g, s, at) {
                 if left == 0 {
@@ -111,7 +111,7 @@ fn files_count(image: &[u8], g: Geometry) -> usize
     while row < 8 {
         let mut s = 32 * row;
         let end = s + columns;
-        let mut at = 256 * (g.start + 2) + 32 * row;
+        let mut at = layout::entry_at(image, g, s);
         while s < end {
             if tells(image, g, s, at) {
                 n += 1;
@@ -161,7 +161,7 @@ fn put_row(image: &[u8], g: Geometry, s: usize, table: &mut [u8], to: usize)
         0,
         0,
     ];
-    let name = 256 * (g.start + 2 + s % 32) + 32 * (s / 32) + 5;
+    let name = layout::name_at(image, g, s);
     copy::put_part(table, to, image, name, 11);
     copy::put_part(table, to + 11, &numbers, 0, 9);
 }
@@ -178,7 +178,7 @@ fn put_rows(image: &[u8], g: Geometry, number: usize, table: &mut [u8]) -> usize
     while row < 8 {
         let mut s = 32 * row;
         let end = s + columns;
-        let mut at = 256 * (g.start + 2) + 32 * row;
+        let mut at = layout::entry_at(image, g, s);
         while s < end {
             if tells(image, g, s, at) {
                 if left == 0 {

@@ -1,6 +1,8 @@
 use native.Mathlib.Omega.{arith}
 use Rattle.listing.proofs.Rows.{row-put}
-use Rattle.listing.proofs.Files.{name-is}
+use Rattle.listing.proofs.Files.{name-is, at-place}
+use mathlib.Core.Path.{ap, _∙_}
+use lib.Seq.{sets}
 use borrow.Author.Needs.{needs}
 use Rattle.listing.proofs.put_row.Statement.{statement}
 use Rattle.listing.proofs.put_row.Tie as tie
@@ -8,6 +10,7 @@ use Rattle.listing.proofs.put_row.Reads as reads
 use Rattle.listing.proofs.put_row.Lts as lts
 use Rattle.copy.proofs.put_part.Reads as put-part-reads
 use Rattle.extent.proofs.measure.Reads as measure-reads
+use Rattle.layout.proofs.name_at.Reads as name-at-reads
 use Rattle.layout.proofs.size_of.Reads as size-of-reads
 
 size-of-requires : tie.Need-size-of-requires
@@ -37,23 +40,8 @@ cast-t28 c = search needs
 cast-t31 : tie.Need-cast-t31
 cast-t31 c = search needs
 
-add-name : tie.Need-add-name
-add-name c = search needs
-
-add-name-2 : tie.Need-add-name-2
-add-name-2 c = search needs
-
-mul-name : tie.Need-mul-name
-mul-name c = search needs
-
-mul-name-2 : tie.Need-mul-name-2
-mul-name-2 c = search needs
-
-add-name-3 : tie.Need-add-name-3
-add-name-3 c = search needs
-
-add-name-4 : tie.Need-add-name-4
-add-name-4 c = search needs
+name-at-requires : tie.Need-name-at-requires
+name-at-requires c κs = search needs
 
 put-part-requires : tie.Need-put-part-requires
 put-part-requires c κs = search needs
@@ -78,7 +66,9 @@ returns c =
     (name-is (a .g) (a .image .now) (a .s) (let r = p .0 .room in let u = p .1 .slot in omega arith))
     (c .before .before .before .before .before .before .before .before .before .before .before .size-of .ensures .is)
     (c .before .before .before .before .before .before .before .before .before .before .measure .ensures .many)
-    (c .before .before .before .before .before .before .before .put-part .ensures) (c .before .before .put-part2 .ensures)
+    (c .before .before .before .before .before .before .before .put-part .ensures ∙
+    ap (sets (a .table .now) (a .to)) (at-place (a .image .now) (c .before .before .before .before .before .before .before .before .before .name-at .ensures)))
+    (c .before .before .put-part2 .ensures)
 
 pub put-row-spec : {M : Type 1} → statement M
 put-row-spec =
@@ -93,12 +83,7 @@ put-row-spec =
     cast-t26
     cast-t28
     cast-t31
-    add-name
-    add-name-2
-    mul-name
-    mul-name-2
-    add-name-3
-    add-name-4
+    name-at-requires
     put-part-requires
     add-put-part
     slice-aggregate-put-part

@@ -1,7 +1,7 @@
 use mathlib.Core.List.{List}
 use Rattle.listing.proofs.Rows.{Rowing, rowing-start, rowing-room, rowing-same, rowing-past, rowing-no, rowing-over, rowing-put, rowing-full}
 use Rattle.listing.proofs.Rows.{rowing-end}
-use Rattle.listing.proofs.Files.{tells-used}
+use Rattle.listing.proofs.Files.{tells-used, row-entry}
 use Rattle.look_up.proofs.Pass.{InRow, row-start, row-slot, row-here, row-next, row-past, row-after}
 use lib.ListN.{length}
 use mathlib.Core.Path.{_≡_, ap, sym, _∙_, subst}
@@ -14,6 +14,7 @@ use Rattle.listing.proofs.put_rows.Tie as tie
 use Rattle.listing.proofs.put_rows.Reads as reads
 use Rattle.listing.proofs.put_rows.Lts as lts
 use Rattle.layout.proofs.directory_sectors.Reads as directory-sectors-reads
+use Rattle.layout.proofs.entry_at.Reads as entry-at-reads
 use Rattle.listing.proofs.put_row.Reads as put-row-reads
 use Rattle.listing.proofs.tells.Reads as tells-reads
 
@@ -46,22 +47,13 @@ mul-s c = search needs
 add-end : tie.Need-add-end Inv-loop2 μ-loop2 Inv-loop μ-loop
 add-end c = search needs
 
-add-at : tie.Need-add-at Inv-loop2 μ-loop2 Inv-loop μ-loop
-add-at c = search needs
-
-mul-at : tie.Need-mul-at Inv-loop2 μ-loop2 Inv-loop μ-loop
-mul-at c = search needs
-
-mul-at-2 : tie.Need-mul-at-2 Inv-loop2 μ-loop2 Inv-loop μ-loop
-mul-at-2 c = search needs
-
-add-at-2 : tie.Need-add-at-2 Inv-loop2 μ-loop2 Inv-loop μ-loop
-add-at-2 c = search needs
+entry-at-requires : tie.Need-entry-at-requires Inv-loop2 μ-loop2 Inv-loop μ-loop
+entry-at-requires c κs = search needs
 
 loop2-holds : tie.Need-loop2-holds Inv-loop2 μ-loop2 Inv-loop μ-loop
 loop2-holds c =
     let e = c .before .before .before .directory-sectors .ensures in let t = c .before .before .before .before .before .before .pre .room .thirty in
-    (row-start _ _ (c .before .loop-test .taken) (omega arith), c .before .before .loop .inv .1, omega arith, λ t r. r)
+    (row-start _ _ (c .before .loop-test .taken) (omega arith), c .before .before .loop .inv .1, c .entry-at .ensures ∙ row-entry (c .before .before .before .before .before .before .args .g) (c .before .before .loop .row), λ t r. r)
 
 tells-requires : tie.Need-tells-requires Inv-loop2 μ-loop2 Inv-loop μ-loop
 tells-requires c κs =
@@ -120,8 +112,8 @@ add-n c =
 sub-left : tie.Need-sub-left Inv-loop2 μ-loop2 Inv-loop μ-loop
 sub-left c = search needs
 
-add-at-3 : tie.Need-add-at-3 Inv-loop2 μ-loop2 Inv-loop μ-loop
-add-at-3 c =
+add-at : tie.Need-add-at Inv-loop2 μ-loop2 Inv-loop μ-loop
+add-at c =
     let i = c .before .before .before .loop2 .inv .0 in let a = i .begun in let b = i .few in let q = c .before .before .before .loop2 .inv .2 in
     let z = c .before .before .loop2-test .taken in
     let r = c .before .before .before .before .before .before .before .before .before .before .pre .room .directory in
@@ -211,10 +203,7 @@ put-rows-spec =
     loop-holds
     mul-s
     add-end
-    add-at
-    mul-at
-    mul-at-2
-    add-at-2
+    entry-at-requires
     loop2-holds
     tells-requires
     mul-if3
@@ -225,7 +214,7 @@ put-rows-spec =
     put-row-requires
     add-n
     sub-left
-    add-at-3
+    add-at
     add-s
     loop2-less
     loop2-again

@@ -5,12 +5,14 @@ use borrow.Author.Needs.{needs}
 use Prim.Native.Nat.{ℕ, _-_, _≤_, _+_, _*_}
 use mathlib.Core.Path.{_≡_, ap, sym, _∙_, subst}
 use Rattle.look_up.proofs.Pass.{InRow, row-start, row-slot, row-here, row-next, row-past, row-after}
+use Rattle.listing.proofs.Files.{row-entry}
 use Rattle.listing.proofs.Files.{Telling, telling-start, telling-past, telling-no, telling-more, telling-here, telling-end, telling-same, tells-used}
 use Rattle.listing.proofs.told.Statement.{statement}
 use Rattle.listing.proofs.told.Tie as tie
 use Rattle.listing.proofs.told.Reads as reads
 use Rattle.listing.proofs.told.Lts as lts
 use Rattle.layout.proofs.directory_sectors.Reads as directory-sectors-reads
+use Rattle.layout.proofs.entry_at.Reads as entry-at-reads
 use Rattle.listing.proofs.no_file.Reads as no-file-reads
 use Rattle.listing.proofs.tell.Reads as tell-reads
 use Rattle.listing.proofs.tells.Reads as tells-reads
@@ -44,21 +46,12 @@ mul-s c = search needs
 add-end : tie.Need-add-end Inv-loop2 μ-loop2 Inv-loop μ-loop
 add-end c = search needs
 
-add-at : tie.Need-add-at Inv-loop2 μ-loop2 Inv-loop μ-loop
-add-at c = search needs
-
-mul-at : tie.Need-mul-at Inv-loop2 μ-loop2 Inv-loop μ-loop
-mul-at c = search needs
-
-mul-at-2 : tie.Need-mul-at-2 Inv-loop2 μ-loop2 Inv-loop μ-loop
-mul-at-2 c = search needs
-
-add-at-2 : tie.Need-add-at-2 Inv-loop2 μ-loop2 Inv-loop μ-loop
-add-at-2 c = search needs
+entry-at-requires : tie.Need-entry-at-requires Inv-loop2 μ-loop2 Inv-loop μ-loop
+entry-at-requires c κs = search needs
 
 loop2-holds : tie.Need-loop2-holds Inv-loop2 μ-loop2 Inv-loop μ-loop
 loop2-holds c = let e = c .before .before .before .directory-sectors .ensures in let t = c .before .before .before .before .before .pre .room .thirty in
-    (row-start _ _ (c .before .loop-test .taken) (omega arith), omega arith, c .before .before .loop .inv .1)
+    (row-start _ _ (c .before .loop-test .taken) (omega arith), c .entry-at .ensures ∙ row-entry (c .before .before .before .before .before .args .g) (c .before .before .loop .row), c .before .before .loop .inv .1)
 
 tells-requires : tie.Need-tells-requires Inv-loop2 μ-loop2 Inv-loop μ-loop
 tells-requires c κs = let e = c .before .before .before .before .before .directory-sectors .ensures in let i = c .before .loop2 .inv .0 in let b = i .begun in
@@ -83,8 +76,8 @@ returns c = let i = c .before .before .before .before .before .loop2 .inv .0 in 
 sub-left : tie.Need-sub-left Inv-loop2 μ-loop2 Inv-loop μ-loop
 sub-left c = search needs
 
-add-at-3 : tie.Need-add-at-3 Inv-loop2 μ-loop2 Inv-loop μ-loop
-add-at-3 c = let i = c .before .before .before .loop2 .inv .0 in let a = i .begun in let b = i .few in let q = c .before .before .before .loop2 .inv .1 in
+add-at : tie.Need-add-at Inv-loop2 μ-loop2 Inv-loop μ-loop
+add-at c = let i = c .before .before .before .loop2 .inv .0 in let a = i .begun in let b = i .few in let q = c .before .before .before .loop2 .inv .1 in
     let z = c .before .before .loop2-test .taken in let r = c .before .before .before .before .before .before .before .before .before .pre .room .directory in
     let m = c .before .before .before .before .before .before .before .before .before .pre .room .most in
     let l = c .before .before .before .before .before .loop-test .taken in omega arith
@@ -143,16 +136,13 @@ told-spec =
     loop-holds
     mul-s
     add-end
-    add-at
-    mul-at
-    mul-at-2
-    add-at-2
+    entry-at-requires
     loop2-holds
     tells-requires
     tell-requires
     returns
     sub-left
-    add-at-3
+    add-at
     add-s
     loop2-less
     loop2-again
