@@ -3,19 +3,20 @@ use mathlib.Core.Path.{_≡_, refl, ap, sym, _∙_, subst}
 use mathlib.Core.Logic.{_≢_, _⊎_, inl, inr}
 use mathlib.Core.Bool.{Bool, true, false, not, cond, _&&_, _||_}
 use mathlib.Core.List.{List, [], _∷_, _++_, map}
-use Prim.Native.Nat.{ℕ, suc, _+_, _-_, _*_, _/_, _%_, _≤_, _<_}
+use Prim.Native.Nat.{ℕ, zero, suc, _+_, _-_, _*_, _/_, _%_, _≤_, _<_}
 use native.Mathlib.Omega.{arith}
 use lib.Dec.{T, eqb, leb, ltb, not-T, T-not, eqb→eq, leb→le, nltb→le}
 use lib.ListN.{length, take, drop, replicate, set, length-take, length-replicate, length-append}
 use lib.Seq.{sets}
 use Rattle.meaning.specs.Lists.{count, keep, has, same, all, any, first, firstOr, times, through, every, distinct, some, lastOr}
-use Rattle.meaning.specs.Bits.{bit, withBit, withoutBit}
+use Rattle.meaning.specs.Bits.{putDigit, bit, withBit, withoutBit}
 use Rattle.meaning.specs.Layout.{byte, granuleSectors, granuleBytes, granules, fitsGeometry, taken, takeGranule, freeGranule, hit, hitAt, entryAt, isSlot}
 use Rattle.meaning.specs.Layout.{slots, field, setField, highest, sectorNumbers, granulesFor, directoryGranules, directorySectors, aboveTen}
-use Rattle.meaning.specs.Names.{hash, comesIn}
+use Rattle.meaning.specs.Names.{hash, comesIn, wellFormed}
+use Rattle.meaning.specs.Entries.{extension, inUsePrimary, sectorCount, noGrowth}
 use Rattle.meaning.specs.Entries.{marker, link, nameOf, sizeOf, sizeFrom, system, endByteFor, sectorsFor}
 use Rattle.meaning.specs.Chain.{chain, owned, files, place}
-use Rattle.meaning.specs.Consistent.{lengthHolds, consistent}
+use Rattle.meaning.specs.Consistent.{lengthHolds, nameHolds, sizeHolds, consistent}
 use Rattle.meaning.specs.Free.{freeGranules, freeSlots}
 use Rattle.meaning.specs.Growth.{Grown, grown, fails, diskOr, growth, lacking, withGranules}
 use Rattle.meaning.specs.Drop.{dropOne}
@@ -23,20 +24,21 @@ use Rattle.meaning.specs.Refusal.{unplaced, carried, carriedTwo}
 use Rattle.meaning.specs.Refusals.{byNumber, faultNumbers, diskRefusals, refusal, accepted, badName, newInRange, handleRefusals, notForReading, protected}
 use Rattle.meaning.specs.Refusals.{badAt, nameRefusal, cannotGrow, check}
 use Rattle.meaning.specs.Handles.{goodLength, inRange, fresh, noHandle, movedTo}
-use Rattle.meaning.specs.LookUp.{candidates, carries, comparedIn, named, lookUp, missing, lookUpRefusals}
-use Rattle.meaning.specs.Open.{full, admits, open′, openedAt}
+use Rattle.meaning.specs.LookUp.{slotOf, candidates, carries, comparedIn, named, lookUp, missing, lookUpRefusals}
+use Rattle.meaning.specs.Open.{openRefusals, full, admits, open′, openedAt}
 use Rattle.meaning.specs.Create.{create, newSlot, withEntry, newEntry, createRefusals}
-use Rattle.meaning.specs.Read.{fetch, readOf, readSector, readRefusals}
+use Rattle.meaning.specs.Read.{fetch, readOf, readSector, readRefusals, sectorRefusals, sectorBytes}
 use Rattle.meaning.specs.Write.{writeOf, toWrite, store, sizeAfter, withSize, writeRefusals}
 use Rattle.meaning.specs.Allot.{allot, toAllot, granulesTo, allotRefusals}
 use Rattle.meaning.specs.Trim.{trim, surplus, trimRefusals}
 use Rattle.meaning.specs.Kill.{killEntry, killed, kill, killRefusals}
-use Rattle.meaning.specs.BringBack.{whole, backEntry, broughtBack, bringBack, bringBackRefusals}
+use Rattle.meaning.specs.BringBack.{killedEntryHolds, whole, backEntry, broughtBack, bringBack, bringBackRefusals}
 use Rattle.meaning.specs.Listing
 use Rattle.meaning.specs.Listing.{shown, listed, tellFirst, noFile}
 use Rattle.meaning.specs.FreeSpace.{freeSpace}
 use Rattle.meaning.specs.declared.Geometry.{Geometry}
 use Rattle.meaning.specs.declared.Handle.{Handle}
+use Rattle.meaning.specs.declared.Listed.{Listed}
 use Rattle.meaning.specs.declared.NewFile.{NewFile}
 use Rattle.meaning.specs.declared.Mode.{Mode}
 use Rattle.lists.specs.Members
@@ -48,6 +50,8 @@ use Rattle.laws.specs.Entry
 use Rattle.laws.specs.Facts
 use Rattle.laws.specs.Facts.{Sound, IsFile}
 use Rattle.laws.specs.Fault as LawsFault
+use Rattle.laws.specs.Bits as LawsBits
+use Rattle.laws.specs.Named
 use Rattle.laws.specs.Places
 use Rattle.laws.specs.Change
 use Rattle.laws.specs.Others
@@ -56,18 +60,18 @@ use Rattle.laws.specs.Passed
 use Rattle.laws.specs.Rewrite
 use Rattle.laws.specs.Words.{words}
 use Rattle.promises.specs.Grow
-use Rattle.promises_unread.specs.Statement.{Alike, AlikeLeft, Apart}
+use Rattle.promises_unread.specs.Statement.{Kinds, Alike, AlikeLeft, Apart}
 use Rattle.promises_unread.specs.Reads
-use Rattle.promises_unread.specs.Reads.{unless}
+use Rattle.promises_unread.specs.Reads.{unless, only, primaryIs}
 use Rattle.promises_unread.specs.Stores
-use Rattle.promises_unread.specs.Stores.{Both}
+use Rattle.promises_unread.specs.Stores.{Both, Slot}
 use Rattle.promises_unread.specs.Growing
 
 -- Refusals, one after the other: what comes later is asked where what comes before did not hold -----------------------------------
 
-some-eq : (p q : ℕ → Bool) (xs : List ℕ) → ((x : ℕ) → In x xs → p x ≡ q x) → some p xs ≡ some q xs
-some-eq p q [] f = refl
-some-eq p q (x ∷ xs) f = let e = f x Members.In.here in let r = some-eq p q xs (λ y j. f y (Members.In.there j)) in λ i. e i || r i
+two : (a x y : Bool) → (a ≡ true → x ≡ y) → all (a ∷ x ∷ []) ≡ all (a ∷ y ∷ [])
+unfolding all
+two a x y f = Reads.and-only a _ _ (λ e. ap (λ (b : Bool). b && true) (f e))
 
 held : (b : Bool) → not b ≡ false → T b
 held true e = tt
@@ -103,49 +107,46 @@ module _ (g : Geometry) (d : List ℕ) where
 accepts : (n : ℕ) → accepted n ≡ true → n ≡ 0
 accepts n e = eqb→eq n 0 (Members.true-T e)
 
-module _ (g : Geometry) (d d′ : List ℕ) (a : Alike g d d′) where
-  abbrev flds : field g d ≡ field g d′
-  flds = Reads.fields g d d′ a
-
+module _ (u : Kinds) (g : Geometry) (d d′ : List ℕ) (a : Alike u g d d′) where
   -- an image that is changed only where the call is accepted
-  left : (b : Bool) (x y : List ℕ) → (b ≡ true → Alike g x y) → Alike g (cond b x d) (cond b y d′)
+  left : (b : Bool) (x y : List ℕ) → (b ≡ true → Alike u g x y) → Alike u g (cond b x d) (cond b y d′)
   left true x y f = f refl
   left false x y f = a
 
-  served-both : (p : ℕ) → Passed.Served g d → T (isSlot g d p) → Both g p d d′
-  served-both p s t = record {
-    alike = a;
-    fits = Places.fits g d (s .fits);
-    small = Places.dir g d (s .sound .dir) .small;
-    slot = t;
-  }
+  -- how many directory sectors above 10 there are
+  abbrev tall : ℕ
+  tall = aboveTen g d
 
-  both-holds : (x : Handle) → Passed.Holds g d x → Both g (x .slot) d d′
-  both-holds x h = record { alike = a; fits = h .fits; small = Places.dir g d (h .sound .dir) .small; slot = h .file .slot }
+  both-sound : Places.Fits g d → Sound g d → Both u g tall d d′
+  both-sound k c = record { alike = a; fits = k; dir = Places.dir g d (c .dir); tall = refl }
+
+  slot-of : (s : ℕ) → T (isSlot g d s) → Slot tall s
+  slot-of s t = Stores.of-slot u g tall d s refl t
 
   -- What calls test ---------------------------------------------------------------------------------------------------------
 
   diskRefusals-same : diskRefusals g d ≡ diskRefusals g d′
   diskRefusals-same =
-      λ i rest. (1, not (Reads.fits-same g d d′ a i)) ∷ (byNumber (Reads.fault-same g d d′ a i .number) faultNumbers ++ rest)
+      λ i rest. (1, not (Reads.fits-same u g d d′ a i)) ∷ (byNumber (Reads.fault-same u g d d′ a i .number) faultNumbers ++ rest)
 
   pub refusal-same : refusal g d ≡ refusal g d′
-  refusal-same = λ i n. carried (Reads.check-same g d d′ a i) n
+  refusal-same = λ i n. carried (Reads.check-same u g d d′ a i) n
 
   name-refusal-same : nameRefusal g d ≡ nameRefusal g d′
-  name-refusal-same = λ i n k. carriedTwo (Reads.check-same g d d′ a i) (badAt n) k
+  name-refusal-same = λ i n k. carriedTwo (Reads.check-same u g d d′ a i) (badAt n) k
 
-  fresh-same : fresh g d ≡ fresh g d′
+  fresh-same : (x : Handle) → fresh g d x ≡ fresh g d′ x
   unfolding fresh
-  fresh-same =
-      λ i x. all (Reads.isSlot-same g d d′ a i (x .slot) ∷ (bit 4 (flds i (x .slot) 0) && not (bit 7 (flds i (x .slot) 0)))
-      ∷ same (Reads.nameOf-same g d d′ a i (x .slot)) (x .name) ∷ [])
+  fresh-same x =
+      Reads.third (isSlot g d (x .slot)) (inUsePrimary g d (x .slot)) _ _ (λ t v.
+      ap (λ (n : List ℕ). same n (x .name)) (Reads.name-at u g d d′ a (x .slot) (Reads.not-extension u g d d′ a (x .slot) v)))
+      ∙ (λ i. all (Reads.isSlot-same u g d d′ a i (x .slot) ∷ primaryIs (Reads.flags u g d d′ a i (x .slot)) ∷ same (nameOf g d′ (x .slot)) (x .name) ∷ []))
 
   pub handleRefusals-same : handleRefusals g d ≡ handleRefusals g d′
-  handleRefusals-same = λ i x ranged rest. diskRefusals-same i ((12, not ranged) ∷ (7, not (fresh-same i x)) ∷ rest)
+  handleRefusals-same = λ i x ranged rest. diskRefusals-same i ((12, not ranged) ∷ (7, not (fresh-same x i)) ∷ rest)
 
   protected-same : protected g d ≡ protected g d′
-  protected-same = λ i most x. (6, any (ltb most (x .level) ∷ bit 6 (flds i (x .slot) 0) ∷ []))
+  protected-same = λ i most x. (6, any (ltb most (x .level) ∷ bit 6 (Reads.flags u g d d′ a i (x .slot)) ∷ []))
 
   -- Calls by name -----------------------------------------------------------------------------------------------------------
 
@@ -153,11 +154,16 @@ module _ (g : Geometry) (d d′ : List ℕ) (a : Alike g d d′) where
   unfolding candidates
   candidates-same n =
       Members.keep-eq _ _ (slots g d) (λ s j. ap (λ (h : ℕ). eqb h (hash n)) (a .hits s (Facts.slots-in g d s j)))
-      ∙ (λ i. keep (λ s. eqb (hit g d′ s) (hash n)) (Reads.slots-same g d d′ a i))
+      ∙ (λ i. keep (λ s. eqb (hit g d′ s) (hash n)) (Reads.slots-same u g d d′ a i))
+
+  carries-at : (n : List ℕ) (s : ℕ) → carries g d n s ≡ carries g d′ n s
+  unfolding carries
+  carries-at n s =
+      Reads.primary-only u g d d′ a s _ _ (λ e. ap (λ (m : List ℕ). same m n) (Reads.name-at u g d d′ a s e))
+      ∙ (λ i. all (primaryIs (Reads.flags u g d d′ a i s) ∷ same (nameOf g d′ s) n ∷ []))
 
   carries-same : carries g d ≡ carries g d′
-  unfolding carries
-  carries-same = λ i n s. all ((bit 4 (flds i s 0) && not (bit 7 (flds i s 0))) ∷ same (Reads.nameOf-same g d d′ a i s) n ∷ [])
+  carries-same = λ i n s. carries-at n s i
 
   comparedIn-same : (n ss : List ℕ) → comparedIn g d n ss ≡ comparedIn g d′ n ss
   unfolding comparedIn
@@ -179,59 +185,116 @@ module _ (g : Geometry) (d d′ : List ℕ) (a : Alike g d d′) where
         compared = cond (has (0 ∷ 4 ∷ []) no) (comparedIn-same m (candidates-same m i) i) 0;
       }
 
-  full-same : full g d ≡ full g d′
+  -- the slot of a name that is not missing is a file's
+  named-file : (n : List ℕ) → missing g d n ≡ false → IsFile g d (slotOf g d n)
+  unfolding named firstOr
+  named-file n e = go (keep (carries g d n) (candidates g d n)) (λ x i. Named.named-in g d n x i .0) e
+    where
+      go : (xs : List ℕ) → ((x : ℕ) → In x xs → IsFile g d x) → eqb (length (take 1 xs)) 0 ≡ false → IsFile g d (firstOr 0 (take 1 xs))
+      go [] f z = Tests.not-both refl z
+      go (x ∷ xs) f z = f x Members.In.here
+
+  -- codes and level of a primary entry
+  full-at : (s : ℕ) → extension g d s ≡ false → (checking : Bool) (code : ℕ) → full g d s checking code ≡ full g d′ s checking code
   unfolding full
-  full-same =
-      λ i s checking code. let main = flds i s 0x10 + 256 * flds i s 0x11 in
-      any (not checking ∷ eqb main (g .noPassword) ∷ eqb code main ∷ [])
+  full-at s e checking code =
+      let low = Reads.low-at u g d d′ a s 0x10 e (omega arith) (omega arith) in let high = Reads.low-at u g d d′ a s 0x11 e (omega arith) (omega arith) in
+      λ i. any (not checking ∷ eqb (low i + 256 * high i) (g .noPassword) ∷ eqb code (low i + 256 * high i) ∷ [])
 
-  admits-same : admits g d ≡ admits g d′
+  admits-at : (s : ℕ) → extension g d s ≡ false → (checking : Bool) (code : ℕ) → admits g d s checking code ≡ admits g d′ s checking code
   unfolding admits
-  admits-same = λ i s checking code. any (full-same i s checking code ∷ eqb code (flds i s 0x12 + 256 * flds i s 0x13) ∷ [])
+  admits-at s e checking code =
+      let low = Reads.low-at u g d d′ a s 0x12 e (omega arith) (omega arith) in let high = Reads.low-at u g d d′ a s 0x13 e (omega arith) (omega arith) in
+      λ i. any (full-at s e checking code i ∷ eqb code (low i + 256 * high i) ∷ [])
 
-  openedAt-same : openedAt g d ≡ openedAt g d′
-  openedAt-same =
-      λ i s n len checking code.
-      record { slot = s; name = n; at = 0; len = len; level = cond (full-same i s checking code) 0 (flds i s 0 % 8) }
+  opened-at : (s : ℕ) → extension g d s ≡ false → (n : List ℕ) (len : ℕ) (checking : Bool) (code : ℕ)
+      → openedAt g d s n len checking code ≡ openedAt g d′ s n len checking code
+  opened-at s e n len checking code =
+      λ i. record { slot = s; name = n; at = 0; len = len; level = cond (full-at s e checking code i) 0 (Reads.flags u g d d′ a i s % 8) }
+
+  first-of : (n : List ℕ) → missing g d n ≡ false → extension g d (slotOf g d n) ≡ false
+  first-of n e = Reads.is-first u g d d′ a (slotOf g d n) (named-file n e)
+
+  -- 4 before 5: the codes are asked where the name is found
+  open-number : (n : List ℕ) (len : ℕ) (checking : Bool) (code : ℕ)
+      → first (openRefusals g d n len checking code) ≡ first (openRefusals g d′ n len checking code)
+  unfolding first
+  open-number n len checking code =
+      let m = comesIn n .name in
+      after-disk g d
+      ((12, not (goodLength len)) ∷ badName n ∷ (4, missing g d m) ∷ (5, not (admits g d (slotOf g d m) checking code)) ∷ [])
+      ((12, not (goodLength len)) ∷ badName n ∷ (4, missing g d m) ∷ (5, not (admits g d′ (slotOf g d m) checking code)) ∷ []) (λ v.
+      ap (λ (z : ℕ). cond (not (goodLength len)) 12 (cond (not (wellFormed m)) 3 z))
+      (unless (missing g d m) 4 _ _ (λ e. ap (λ (b : Bool). cond (not b) 5 0) (admits-at (slotOf g d m) (first-of m e) checking code))))
+      ∙ (λ i. first (diskRefusals-same i ((12, not (goodLength len)) ∷ badName n ∷ (4, eqb (length (named-same m i)) 0)
+      ∷ (5, not (admits g d′ (firstOr 0 (named-same m i)) checking code)) ∷ [])))
+
+  -- who was accepted was found
+  found-name : (n : List ℕ) (len : ℕ) (checking : Bool) (code : ℕ) → accepted (first (openRefusals g d n len checking code)) ≡ true
+      → missing g d (comesIn n .name) ≡ false
+  found-name n len checking code e =
+      let p = Passed.disk-passed g d _ (accepts _ e) in
+      let p₁ = Passed.passed 12 _ _ (omega arith) (p .1) in
+      let p₂ = Passed.passed 3 _ _ (omega arith) (p₁ .1) in
+      Members.no-false (Passed.passed 4 _ _ (omega arith) (p₂ .1) .0)
 
   pub open-same : (n : List ℕ) (len : ℕ) (checking : Bool) (code : ℕ) → open′ g d n len checking code ≡ open′ g d′ n len checking code
   unfolding open′
   open-same n len checking code =
-      λ i. let m = comesIn n .name in
-      let no = first (diskRefusals-same i ((12, not (goodLength len)) ∷ badName n ∷ (4, eqb (length (named-same m i)) 0)
-      ∷ (5, not (admits-same i (firstOr 0 (named-same m i)) checking code)) ∷ [])) in
+      let m = comesIn n .name in let no = first (openRefusals g d n len checking code) in
+      ap (λ (h : Handle). record { refusal = nameRefusal g d n no; handle = h })
+      (only (accepted no) noHandle _ _ (λ e. opened-at (slotOf g d m) (first-of m (found-name n len checking code e)) m len checking code))
+      ∙ (λ i. let k = open-number n len checking code i in
       record {
-        refusal = name-refusal-same i n no;
-        handle = cond (accepted no) (openedAt-same i (firstOr 0 (named-same m i)) m len checking code) noHandle;
-      }
+        refusal = name-refusal-same i n k;
+        handle = cond (accepted k) (openedAt g d′ (firstOr 0 (named-same m i)) m len checking code) noHandle;
+      })
 
   -- Create ------------------------------------------------------------------------------------------------------------------
 
-  createRefusals-same : (n : List ℕ) (f : NewFile) (checking : Bool) → createRefusals g d n f checking ≡ createRefusals g d′ n f checking
-  createRefusals-same n f checking =
-      λ i. let m = comesIn n .name in let none = eqb (length (named-same m i)) 0 in
-      diskRefusals-same i ((12, not (newInRange f)) ∷ badName n
-      ∷ (5, all (not none ∷ not (admits-same i (firstOr 0 (named-same m i)) checking (f .main)) ∷ []))
-      ∷ (8, all (none ∷ eqb (length (Reads.freeSlots-same g d d′ a i)) 0 ∷ [])) ∷ [])
+  -- 5 where the name is found
+  create-number : (n : List ℕ) (f : NewFile) (checking : Bool) → first (createRefusals g d n f checking) ≡ first (createRefusals g d′ n f checking)
+  unfolding first
+  create-number n f checking =
+      let m = comesIn n .name in let none = missing g d m in
+      after-disk g d
+      ((12, not (newInRange f)) ∷ badName n ∷ (5, all (not none ∷ not (admits g d (slotOf g d m) checking (f .main)) ∷ []))
+      ∷ (8, all (none ∷ eqb (length (freeSlots g d)) 0 ∷ [])) ∷ [])
+      ((12, not (newInRange f)) ∷ badName n ∷ (5, all (not none ∷ not (admits g d′ (slotOf g d m) checking (f .main)) ∷ []))
+      ∷ (8, all (none ∷ eqb (length (freeSlots g d)) 0 ∷ [])) ∷ []) (λ v.
+      ap (λ (b : Bool). cond (not (newInRange f)) 12 (cond (not (wellFormed m)) 3 (cond b 5 (cond (all (none ∷ eqb (length (freeSlots g d)) 0 ∷ [])) 8 0))))
+      (asked none _ _ (λ e. ap not (admits-at (slotOf g d m) (first-of m e) checking (f .main)))))
+      ∙ (λ i. let none′ = eqb (length (named-same m i)) 0 in
+      first (diskRefusals-same i ((12, not (newInRange f)) ∷ badName n
+      ∷ (5, all (not none′ ∷ not (admits g d′ (firstOr 0 (named-same m i)) checking (f .main)) ∷ []))
+      ∷ (8, all (none′ ∷ eqb (length (Reads.freeSlots-same u g d d′ a i)) 0 ∷ [])) ∷ [])))
+    where
+      asked : (b x y : Bool) → (b ≡ false → x ≡ y) → all (not b ∷ x ∷ []) ≡ all (not b ∷ y ∷ [])
+      asked b x y h = two (not b) x y (λ e. h (flip b e))
+        where
+          flip : (c : Bool) → not c ≡ true → c ≡ false
+          flip true e = sym e
+          flip false e = refl
 
   created : (n : List ℕ) (f : NewFile) (checking : Bool) → create g d n f checking .0 ≡ create g d′ n f checking .0
   unfolding create
   created n f checking =
-      λ i. let m = comesIn n .name in
-      let s = firstOr 0 (named-same m i) in
-      let new = eqb (length (named-same m i)) 0 in
-      let no = first (createRefusals-same n f checking i) in
+      let m = comesIn n .name in let no = first (createRefusals g d n f checking) in let none = missing g d m in
+      ap (λ (h : Handle). record { refusal = nameRefusal g d n no; old = accepted no && not none; handle = cond (accepted no) h noHandle })
+      (unless none (record { slot = newSlot g d; name = m; at = 0; len = f .len; level = 0 }) _ _ (λ e.
+      opened-at (slotOf g d m) (first-of m e) m (f .len) checking (f .main)))
+      ∙ (λ i. let k = create-number n f checking i in let new = eqb (length (named-same m i)) 0 in
       record {
-        refusal = name-refusal-same i n no;
-        old = accepted no && not new;
-        handle = cond (accepted no)
-            (cond new (record { slot = firstOr 0 (Reads.freeSlots-same g d d′ a i); name = m; at = 0; len = f .len; level = 0 })
-            (openedAt-same i s m (f .len) checking (f .main))) noHandle;
-      }
+        refusal = name-refusal-same i n k;
+        old = accepted k && not new;
+        handle = cond (accepted k)
+            (cond new (record { slot = firstOr 0 (Reads.freeSlots-same u g d d′ a i); name = m; at = 0; len = f .len; level = 0 })
+            (openedAt g d′ (firstOr 0 (named-same m i)) m (f .len) checking (f .main))) noHandle;
+      })
 
   -- what passed 8 and is new has a free slot
   new-slot : (n : List ℕ) (f : NewFile) (checking : Bool) → (accepted (first (createRefusals g d n f checking)) && missing g d (comesIn n .name)) ≡ true
-      → Passed.Served g d × T (isSlot g d (newSlot g d))
+      → Passed.Served g d × T (wellFormed (comesIn n .name)) × T (isSlot g d (newSlot g d))
   unfolding all firstOr
   new-slot n f checking e =
       let m = comesIn n .name in
@@ -242,6 +305,7 @@ module _ (g : Geometry) (d d′ : List ℕ) (a : Alike g d d′) where
       let p₃ = Passed.passed 5 _ _ (omega arith) (p₂ .1) in
       let p₄ = Passed.passed 8 _ _ (omega arith) (p₃ .1) in (
         p .0,
+        Passed.yes-T (wellFormed m) (p₂ .0),
         go (freeSlots g d) refl
             (λ q. p₄ .0 (Members.and-i (missing g d m) _ (Members.true-T (Tests.and-r (accepted no) (missing g d m) e))
             (Members.and-i (eqb (length (freeSlots g d)) 0) true q tt))),
@@ -251,29 +315,56 @@ module _ (g : Geometry) (d d′ : List ℕ) (a : Alike g d d′) where
       go [] q z = absurd (z (rw q tt))
       go (x ∷ xs) q z = rw q (Growing.free-slot g d x (rw q Members.In.here))
 
-  pub create-same : (n : List ℕ) (f : NewFile) (checking : Bool) → AlikeLeft g (create g d n f checking) (create g d′ n f checking)
+  -- a well-formed name has 11 bytes, and a new entry 32
+  new-length : (n : List ℕ) (f : NewFile) → T (wellFormed n) → length (newEntry n f) ≡ 32
+  unfolding wellFormed all
+  new-length n f t =
+      let l : length n ≡ 11 = eqb→eq (length n) 11 (Members.and-l (eqb (length n) 11) _ t) in
+      let e = length-append n (f .main % 256 ∷ f .main / 256 ∷ f .worker % 256 ∷ f .worker / 256 ∷ 0 ∷ 0 ∷ replicate 10 0xff) in
+      omega (arith, e, l)
+
+  pub create-same : (n : List ℕ) (f : NewFile) (checking : Bool) → AlikeLeft u g (create g d n f checking) (create g d′ n f checking)
   unfolding create
   create-same n f checking = (
     created n f checking,
-    subst (λ (l : List ℕ). Alike g (create g d n f checking .1) l)
+    subst (λ (l : List ℕ). Alike u g (create g d n f checking .1) l)
         (λ i. let m = comesIn n .name in
-        cond (accepted (first (createRefusals-same n f checking i)) && eqb (length (named-same m i)) 0)
-        (withEntry g d′ (firstOr 0 (Reads.freeSlots-same g d d′ a i)) m f) d′)
+        cond (accepted (create-number n f checking i) && eqb (length (named-same m i)) 0)
+        (withEntry g d′ (firstOr 0 (Reads.freeSlots-same u g d d′ a i)) m f) d′)
         (left (accepted (first (createRefusals g d n f checking)) && missing g d (comesIn n .name)) _ _ (λ e.
         let w = new-slot n f checking e in
         let x = newSlot g d in
-        let b = served-both x (w .0) (w .1) in
-        let h = Stores.not-count g x d d′ x b (w .1) in
-        Stores.both-store g x _ _ (hitAt g x) _ (λ q. h (omega arith))
-        (Stores.both-sets g x (newEntry (comesIn n .name) f) d d′ (entryAt g x) (inl (omega arith)) b) .alike)),
+        let b = both-sound (Places.fits g d (w .0 .fits)) (w .0 .sound) in
+        let t = slot-of x (w .2) in
+        Stores.both-hit u g tall _ _ x _ (Stores.not-count u g tall d d′ x b t)
+        (Stores.both-sets u g tall (newEntry (comesIn n .name) f) d d′ x (new-length (comesIn n .name) f (w .1)) t b) .alike)),
   )
 
   -- Reads -------------------------------------------------------------------------------------------------------------------
 
+  -- what a call by a handle that reads has passed
+  pub fresh-file : (x : Handle) → T (fresh g d x) → IsFile g d (x .slot)
+  unfolding fresh all
+  fresh-file x t = record {
+    slot = Members.and-l (isSlot g d (x .slot)) _ t;
+    primary′ = Members.and-l (Rattle.meaning.specs.Entries.inUsePrimary g d (x .slot)) _ (Members.and-r (isSlot g d (x .slot)) _ t);
+  }
+
+  pub fresh-first : (x : Handle) → T (fresh g d x) → extension g d (x .slot) ≡ false
+  fresh-first x t = Reads.is-first u g d d′ a (x .slot) (fresh-file x t)
+
+  size-of : (x : Handle) → T (fresh g d x) → sizeOf g d (x .slot) ≡ sizeOf g d′ (x .slot)
+  size-of x t = Reads.size-at u g d d′ a (x .slot) (fresh-first x t)
+
+  -- 7 before 10: the size is asked of a file
   pub read-number : (x : Handle) (n : ℕ) (b : List ℕ) → first (readRefusals g d x n (length b)) ≡ first (readRefusals g d′ x n (length b))
+  unfolding first
   read-number x n b =
-      λ i. first (handleRefusals-same i x (all (inRange g x ∷ leb n (highest g) ∷ leb n (length b) ∷ []))
-      (notForReading x ∷ (10, ltb (Reads.sizeOf-same g d d′ a i (x .slot)) (x .at + n)) ∷ []))
+      let range : Bool = all (inRange g x ∷ leb n (highest g) ∷ leb n (length b) ∷ []) in
+      after-handle g d x range (notForReading x ∷ (10, ltb (sizeOf g d (x .slot)) (x .at + n)) ∷ [])
+      (notForReading x ∷ (10, ltb (sizeOf g d′ (x .slot)) (x .at + n)) ∷ []) (λ v t.
+      ap (λ (z : ℕ). first (notForReading x ∷ (10, ltb z (x .at + n)) ∷ [])) (size-of x t))
+      ∙ (λ i. first (handleRefusals-same i x range (notForReading x ∷ (10, ltb (sizeOf g d′ (x .slot)) (x .at + n)) ∷ [])))
 
   pub read-answer : (x : Handle) (n : ℕ) (b : List ℕ) → readOf g d x n b .0 ≡ readOf g d′ x n b .0
   unfolding readOf
@@ -288,7 +379,7 @@ module _ (g : Geometry) (d d′ : List ℕ) (a : Alike g d d′) where
     where
       go : (i < 256 * g .start) ⊎ (256 * (g .start + directorySectors g d) ≤ i) → byte d i ≡ byte d′ i
       go (inl h) = a .rest i (inl h)
-      go (inr h) = a .rest i (inr (omega arith))
+      go (inr h) = a .rest i (inr (omega arith, λ s t. let q = Places.slot g d s t in inr (omega (arith, q .low, q .sector))))
 
   -- a file that has no granule of the directory: so has none that is no system file
   pub apart : Sound g d → (p : ℕ) → IsFile g d p → Apart g d p → (n : ℕ) → In n (owned g d p) → In n (directoryGranules g d) → ⊥
@@ -303,20 +394,12 @@ module _ (g : Geometry) (d d′ : List ℕ) (a : Alike g d d′) where
       let r = Members.count-in j i n m in
       let l : j < granuleBytes g * length (owned g d p) = omega (arith, r, Change.filed-at g d c p f .fits) in
       off-byte c k (place g d p j) (apart c p f o _ (Others.place-in g d p j l)))
-      ∙ (λ z. map (λ j. byte d′ (Reads.place-same g d d′ a z p j)) (count i n))
-
-  -- what a call by a handle that reads has passed
-  pub fresh-file : (x : Handle) → T (fresh g d x) → IsFile g d (x .slot)
-  unfolding fresh all
-  fresh-file x t = record {
-    slot = Members.and-l (isSlot g d (x .slot)) _ t;
-    primary′ = Members.and-l (Rattle.meaning.specs.Entries.inUsePrimary g d (x .slot)) _ (Members.and-r (isSlot g d (x .slot)) _ t);
-  }
+      ∙ (λ z. map (λ j. byte d′ (Reads.place-same u g d d′ a z p j)) (count i n))
 
   pub read-buffer : (x : Handle) (n : ℕ) (b : List ℕ) → Apart g d (x .slot) → readOf g d x n b .1 ≡ readOf g d′ x n b .1
   unfolding readOf
   read-buffer x n b o =
-      Reads.only (accepted (first (readRefusals g d x n (length b)))) b _ _ (λ e.
+      only (accepted (first (readRefusals g d x n (length b)))) b _ _ (λ e.
       let p = Passed.disk-passed g d _ (accepts _ e) in
       let p₁ = Passed.passed 12 _ _ (omega arith) (p .1) in
       let p₂ = Passed.passed 7 _ _ (omega arith) (p₁ .1) in
@@ -327,201 +410,257 @@ module _ (g : Geometry) (d d′ : List ℕ) (a : Alike g d d′) where
       (fetch-same (p .0 .sound) (Places.fits g d (p .0 .fits)) (x .slot) (fresh-file x (Passed.yes-T (fresh g d x) (p₂ .0))) o (x .at) n size))
       ∙ (λ i. cond (accepted (read-number x n b i)) (fetch g d′ (x .slot) (x .at) n ++ drop n b) b)
 
+  many-of : (x : Handle) → T (fresh g d x) → sectorCount g d (x .slot) ≡ sectorCount g d′ (x .slot)
+  many-of x t = Reads.count-at u g d d′ a (x .slot) (fresh-first x t)
+
+  sector-number : (x : Handle) (k : ℕ) → first (sectorRefusals g d x k) ≡ first (sectorRefusals g d′ x k)
+  unfolding first
+  sector-number x k =
+      let range : Bool = all (inRange g x ∷ ltb k (sectorNumbers g) ∷ []) in
+      after-handle g d x range (notForReading x ∷ (10, leb (sectorCount g d (x .slot)) k) ∷ [])
+      (notForReading x ∷ (10, leb (sectorCount g d′ (x .slot)) k) ∷ []) (λ v t.
+      ap (λ (z : ℕ). first (notForReading x ∷ (10, leb z k) ∷ [])) (many-of x t))
+      ∙ (λ i. first (handleRefusals-same i x range (notForReading x ∷ (10, leb (sectorCount g d′ (x .slot)) k) ∷ [])))
+
+  -- who was accepted has a handle that is not stale
+  sector-fresh : (x : Handle) (k : ℕ) → accepted (first (sectorRefusals g d x k)) ≡ true → T (fresh g d x)
+  sector-fresh x k e =
+      let p = Passed.disk-passed g d _ (accepts _ e) in
+      let p₁ = Passed.passed 12 _ _ (omega arith) (p .1) in
+      Passed.yes-T (fresh g d x) (Passed.passed 7 _ _ (omega arith) (p₁ .1) .0)
+
   pub read-sector : (x : Handle) (k : ℕ) → readSector g d x k ≡ readSector g d′ x k
   unfolding readSector
   read-sector x k =
-      λ i. let s = x .slot in let many = flds i s 0x14 + 256 * flds i s 0x15 in
-      let no = first (handleRefusals-same i x (all (inRange g x ∷ ltb k (sectorNumbers g) ∷ [])) (notForReading x ∷ (10, leb many k) ∷ [])) in
-      let from = Reads.place-same g d d′ a i s (256 * k) in
+      let s = x .slot in let no = first (sectorRefusals g d x k) in let from = place g d s (256 * k) in
+      ap (λ (z : ℕ). record { refusal = refusal g d no; from = cond (accepted no) from 0; to = z })
+      (only (accepted no) 0 _ _ (λ e. let t = sector-fresh x k e in let many = many-of x t in let size = size-of x t in
+      λ i. from + cond (eqb (suc k) (many i)) (size i - 256 * k) 256))
+      ∙ (λ i. let z = sector-number x k i in let from′ = Reads.place-same u g d d′ a i s (256 * k) in
       record {
-        refusal = refusal-same i no;
-        from = cond (accepted no) from 0;
-        to = cond (accepted no) (from + cond (eqb (suc k) many) (Reads.sizeOf-same g d d′ a i s - 256 * k) 256) 0;
-      }
+        refusal = refusal-same i z;
+        from = cond (accepted z) from′ 0;
+        to = cond (accepted z) (from′ + sectorBytes g d′ s k) 0;
+      })
 
   -- Allot and write ---------------------------------------------------------------------------------------------------------
 
   lacking-same : lacking g d ≡ lacking g d′
-  lacking-same = λ i s wanted. wanted - length (Reads.owned-same g d d′ a i s)
+  lacking-same = λ i s wanted. wanted - length (Reads.owned-same u g d d′ a i s)
 
-  -- what a growth tests, with what it comes to in its hands
-  abbrev cannot : ℕ → ℕ → ℕ → Grown → List (ℕ × Bool)
-  cannot byte1 free k w = (11, all (bit 6 byte1 ∷ ltb 0 k ∷ [])) ∷ (9, ltb free k) ∷ (8, fails w) ∷ []
-
-  grow-number : (x : Handle) (b : Bool) (k k′ : ℕ) → k ≡ k′
+  -- 6 and 9 before 8: the growth is asked of a file that is no system file, where there are granules enough
+  grow-number : (x : Handle) (b : Bool) (k k′ : ℕ) → (T (fresh g d x) → k ≡ k′)
       → first (handleRefusals g d x b (protected g d 4 x ∷ cannotGrow g d (x .slot) k))
       ≡ first (handleRefusals g d′ x b (protected g d′ 4 x ∷ cannotGrow g d′ (x .slot) k′))
   unfolding first
-  grow-number x b k k′ e =
+  grow-number x b k k′ q =
       let s = x .slot in
-      after-handle g d x b (protected g d 4 x ∷ cannotGrow g d s k)
-      (protected g d 4 x ∷ cannot (field g d s 1) (length (freeGranules g d)) k (growth g s k d′)) (λ v t.
-      let w = Growing.both-growth g s k d d′ (served-both s v (fresh-file x t .slot)) in
-      ap (λ (z : Bool). first (protected g d 4 x ∷ (11, all (bit 6 (field g d s 1) ∷ ltb 0 k ∷ [])) ∷ (9, ltb (length (freeGranules g d)) k) ∷ (8, z) ∷ []))
-      (Growing.both-fail w))
-      ∙ (λ i. first (handleRefusals-same i x b
-      (protected-same i 4 x ∷ cannot (flds i s 1) (length (Reads.freeGranules-same g d d′ a i)) (e i) (growth g s (e i) d′))))
+      after-handle g d x b (protected g d 4 x ∷ cannotGrow g d s k) (protected g d 4 x ∷ cannotGrow g d′ s k′) (λ v t.
+      unless (any (ltb 4 (x .level) ∷ system g d s ∷ [])) 6 _ _ (λ z.
+      let user = not-T (system g d s) (λ y. Members.false-no z (Members.any-r (ltb 4 (x .level)) (system g d s) y)) in
+      ap (λ (n : ℕ). cond (all (noGrowth g d s ∷ ltb 0 k ∷ [])) 11 n)
+      (unless (ltb (length (freeGranules g d)) k) 9 _ _ (λ y.
+      let room = nltb→le (length (freeGranules g d)) k (not-T (ltb (length (freeGranules g d)) k) (λ w. Members.false-no y w)) in
+      let k₁ = Places.fits g d (v .fits) in
+      ap (λ (c : Bool). cond c 8 0)
+      (Growing.both-fail (Growing.both-growth u g s tall k d d′ (v .sound) k₁ (fresh-file x t) user room (both-sound k₁ (v .sound))))))
+      ∙ (λ i. first ((11, all (bit 6 (Reads.ones u g d d′ a i s) ∷ ltb 0 (q t i) ∷ [])) ∷ (9, ltb (length (Reads.freeGranules-same u g d d′ a i)) (q t i))
+      ∷ (8, fails (growth g s (q t i) d′)) ∷ []))))
+      ∙ (λ i. first (handleRefusals-same i x b (protected-same i 4 x ∷ cannotGrow g d′ s k′)))
 
-  both-granules : (p k : ℕ) → Both g p d d′ → Both g p (withGranules g d p k) (withGranules g d′ p k)
-  both-granules p k w = Growing.both-disk (Growing.both-growth g p k d d′ w) w
+  both-granules : (x : Handle) (k : ℕ) → Passed.Holds g d x → first (cannotGrow g d (x .slot) k) ≡ 0
+      → Both u g tall (withGranules g d (x .slot) k) (withGranules g d′ (x .slot) k)
+  both-granules x k h e =
+      let p₁ = Passed.passed 11 _ _ (omega arith) e in
+      let p₂ = Passed.passed 9 _ _ (omega arith) (p₁ .1) in
+      let room = nltb→le (length (freeGranules g d)) k (not-T (ltb (length (freeGranules g d)) k) (p₂ .0)) in
+      let w = both-sound (h .fits) (h .sound) in
+      Growing.both-disk (Growing.both-growth u g (x .slot) tall k d d′ (h .sound) (h .fits) (h .file) (h .user) room w) w
 
   toAllot-same : (x : Handle) (k : ℕ) → toAllot g d x k ≡ toAllot g d′ x k
   toAllot-same x k = λ i. lacking-same i (x .slot) (granulesTo g k)
 
   allot-number : (x : Handle) (k : ℕ) → first (allotRefusals g d x k) ≡ first (allotRefusals g d′ x k)
-  allot-number x k = grow-number x (all (inRange g x ∷ ltb k (sectorNumbers g) ∷ [])) (toAllot g d x k) (toAllot g d′ x k) (toAllot-same x k)
+  allot-number x k = grow-number x (all (inRange g x ∷ ltb k (sectorNumbers g) ∷ [])) (toAllot g d x k) (toAllot g d′ x k) (λ t. toAllot-same x k)
 
-  pub allot-same : (x : Handle) (k : ℕ) → AlikeLeft g (allot g d x k) (allot g d′ x k)
+  pub allot-same : (x : Handle) (k : ℕ) → AlikeLeft u g (allot g d x k) (allot g d′ x k)
   unfolding allot
   allot-same x k = (
     λ i. record { refusal = refusal-same i (allot-number x k i); handle = x },
-    subst (λ (l : List ℕ). Alike g (allot g d x k .1) l)
+    subst (λ (l : List ℕ). Alike u g (allot g d x k .1) l)
         (λ i. cond (accepted (allot-number x k i)) (withGranules g d′ (x .slot) (toAllot-same x k i)) d′)
         (left (accepted (first (allotRefusals g d x k))) _ _ (λ e.
         let h = Passed.holds g d x _ 4 (cannotGrow g d (x .slot) (toAllot g d x k)) (accepts _ e) in
-        both-granules (x .slot) (toAllot g d x k) (both-holds x (h .0)) .alike)),
+        both-granules x (toAllot g d x k) (h .0) (h .1) .alike)),
   )
 
-  toWrite-same : (m : Mode) (x : Handle) (n : ℕ) → toWrite g d m x n ≡ toWrite g d′ m x n
-  toWrite-same m x n = λ i. lacking-same i (x .slot) (granulesFor g (sizeAfter m (Reads.sizeOf-same g d d′ a i (x .slot)) (x .at + n)))
+  toWrite-of : (m : Mode) (x : Handle) (n : ℕ) → T (fresh g d x) → toWrite g d m x n ≡ toWrite g d′ m x n
+  toWrite-of m x n t = λ i. lacking-same i (x .slot) (granulesFor g (sizeAfter m (size-of x t i) (x .at + n)))
 
   write-number : (m : Mode) (x : Handle) (n : ℕ) (b : List ℕ) → first (writeRefusals g d m x n (length b)) ≡ first (writeRefusals g d′ m x n (length b))
   write-number m x n b =
-      grow-number x (all (inRange g x ∷ leb (x .at + n) (highest g) ∷ leb n (length b) ∷ [])) (toWrite g d m x n) (toWrite g d′ m x n) (toWrite-same m x n)
+      grow-number x (all (inRange g x ∷ leb (x .at + n) (highest g) ∷ leb n (length b) ∷ [])) (toWrite g d m x n) (toWrite g d′ m x n) (toWrite-of m x n)
 
-  -- the bytes of a write, in an image that has the granules for them: no byte of the file is 1FH
-  module _ (p : ℕ) (c : Sound g d) (k : Places.Fits g d) (f : IsFile g d p) (u : T (not (system g d p))) (w : Both g p d d′) where
-    not-there : (j : ℕ) → j < granuleBytes g * length (owned g d p) → place g d p j ≢ hitAt g 0x1f
-    unfolding directorySectors
-    not-there j l q =
-        go (Places.outside g d (place g d p j) (k .start-at) (Places.dir g d (c .dir)) (λ i. Change.filed-at g d c p f .off u _ (Others.place-in g d p j l) i))
-      where
-        go : (place g d p j < 256 * g .start) ⊎ (256 * (g .start + directorySectors g d) ≤ place g d p j) → ⊥
-        go (inl h) = omega (arith, q)
-        go (inr h) = omega (arith, q)
+  -- the bytes of a write, in an image that has the granules for them: no byte of the file lies in the directory
+  module _ (p m : ℕ) (c : Sound g d) (k : Places.Fits g d) (f : IsFile g d p) (us : T (not (system g d p))) (w : Both u g m d d′) where
+    not-there : (j : ℕ) → j < granuleBytes g * length (owned g d p)
+        → (place g d p j < 256 * g .start) ⊎ (256 * (g .start + directorySectors g d) ≤ place g d p j)
+    not-there j l =
+        Places.outside g d (place g d p j) (k .start-at) (Places.dir g d (c .dir)) (λ i. Change.filed-at g d c p f .off us _ (Others.place-in g d p j l) i)
 
     both-write : (old at size : ℕ) (r : List ℕ) → at + length r ≤ granuleBytes g * length (owned g d p)
-        → Both g p (withSize g (store (place g d p) (store (place g d p) d old (replicate (at - old) 0)) at r) p size)
+        → Both u g m (withSize g (store (place g d p) (store (place g d p) d old (replicate (at - old) 0)) at r) p size)
         (withSize g (store (place g d′ p) (store (place g d′ p) d′ old (replicate (at - old) 0)) at r) p size)
+    unfolding directorySectors
     both-write old at size r end =
         let F = place g d p in
+        let t = Stores.of-slot u g m d p (w .tall) (f .slot) in
         let d₂ = store F d old (replicate (at - old) 0) in
         let d₂′ = store F d′ old (replicate (at - old) 0) in
-        let w₂ = Stores.both-bytes g p F (replicate (at - old) 0) d d′ old
+        let w₂ = Stores.both-bytes u g m F (replicate (at - old) 0) d d′ old
         (λ j h l. not-there j (omega (arith, rw (length-replicate {A = ℕ} (at - old) 0) at l))) w in
-        let w₃ = Stores.both-bytes g p F r d₂ d₂′ at (λ j h l. not-there j (omega arith)) w₂ in
+        let w₃ = Stores.both-bytes u g m F r d₂ d₂′ at
+        (λ j h l. subst (λ (n : ℕ). (F j < 256 * g .start) ⊎ (256 * (g .start + (10 + n)) ≤ F j)) (w .tall ∙ sym (w₂ .tall)) (not-there j (omega arith))) w₂ in
         let d₃ = store F d₂ at r in let d₃′ = store F d₂′ at r in
-        subst (λ (G : ℕ → ℕ). Both g p (withSize g d₃ p size) (withSize g (store G (store G d′ old (replicate (at - old) 0)) at r) p size))
-        (λ i. Reads.place-same g d d′ a i p)
-        (subst (λ (y : ℕ). Both g p (withSize g d₃ p size)
-        (setField g (setField g (setField g (setField g d₃′ p 3 (endByteFor size)) p 0x14 (sectorsFor size % 256)) p 0x15 (sectorsFor size / 256)) p 1
-        (withBit 5 y)))
-        (λ i. Reads.fields g d₃ d₃′ (w₃ .alike) i p 1)
-        (Stores.both-field g p _ _ p 1 _ (Stores.both-field g p _ _ p 0x15 _ (Stores.both-field g p _ _ p 0x14 _ (Stores.both-field g p d₃ d₃′ p 3 _ w₃)))))
+        let low : (e e′ : List ℕ) (j v : ℕ) → 1 ≤ j → j < 0x16 → Both u g m e e′ → Both u g m (setField g e p j v) (setField g e′ p j v) =
+        λ e e′ j v l h z. Stores.both-field u g m e e′ p j v t (omega arith) (omega arith) (omega arith) (λ i q. omega arith) z in
+        subst (λ (G : ℕ → ℕ). Both u g m (withSize g d₃ p size) (withSize g (store G (store G d′ old (replicate (at - old) 0)) at r) p size))
+        (λ i. Reads.place-same u g d d′ a i p)
+        (subst (λ (y : ℕ). Both u g m (withSize g d₃ p size)
+        (setField g (setField g (setField g (setField g d₃′ p 3 (endByteFor size)) p 0x14 (sectorsFor size % 256)) p 0x15 (sectorsFor size / 256))
+        p 1 (withBit 5 y)))
+        (λ i. Reads.ones u g d₃ d₃′ (w₃ .alike) i p)
+        (low _ _ 1 _ (omega arith) (omega arith) (low _ _ 0x15 _ (omega arith) (omega arith) (low _ _ 0x14 _ (omega arith) (omega arith)
+        (low d₃ d₃′ 3 _ (omega arith) (omega arith) w₃)))))
 
   -- Trim and kill -----------------------------------------------------------------------------------------------------------
 
-  surplus-same : surplus g d ≡ surplus g d′
-  surplus-same = λ i s. length (Reads.owned-same g d d′ a i s) - granulesFor g (Reads.sizeOf-same g d d′ a i s)
+  surplus-at : (p : ℕ) → IsFile g d p → surplus g d p ≡ surplus g d′ p
+  surplus-at p f =
+      let size = Reads.size-at u g d d′ a p (Reads.is-first u g d d′ a p f) in λ i. length (Reads.owned-same u g d d′ a i p) - granulesFor g (size i)
 
   trim-number : (x : Handle) → first (trimRefusals g d x) ≡ first (trimRefusals g d′ x)
   trim-number x = λ i. first (handleRefusals-same i x (inRange g x) (protected-same i 4 x ∷ []))
 
-  pub trim-same : (x : Handle) → AlikeLeft g (trim g d x) (trim g d′ x)
+  pub trim-same : (x : Handle) → AlikeLeft u g (trim g d x) (trim g d′ x)
   unfolding trim
   trim-same x = (
     λ i. record { refusal = refusal-same i (trim-number x i); handle = x },
-    subst (λ (l : List ℕ). Alike g (trim g d x .1) l)
-        (λ i. cond (accepted (trim-number x i) && not (bit 7 (flds i (x .slot) 1))) (times (surplus-same i (x .slot)) (dropOne g (x .slot)) d′) d′)
+    subst (λ (l : List ℕ). Alike u g (trim g d x .1) l)
+        (λ i. cond (accepted (trim-number x i) && not (bit 7 (Reads.ones u g d d′ a i (x .slot)))) (times (surplus g d′ (x .slot)) (dropOne g (x .slot)) d′) d′)
         (left (accepted (first (trimRefusals g d x)) && not (bit 7 (field g d (x .slot) 1))) _ _ (λ e.
         let h = Passed.holds g d x _ 4 [] (accepts _ (Tests.and-l (accepted (first (trimRefusals g d x))) _ e)) .0 in
         let fit = Change.filed-at g d (h .sound) (x .slot) (h .file) .fits in
-        Growing.both-times g (x .slot) (surplus g d (x .slot)) d d′ (h .sound) (h .fits) (h .file) (h .user)
-        (Sizes.surplus-fits (Sizes.bytes-pos g) _ _ fit) (both-holds x h) .alike)),
+        subst (λ (k : ℕ). Alike u g (times (surplus g d (x .slot)) (dropOne g (x .slot)) d) (times k (dropOne g (x .slot)) d′)) (surplus-at (x .slot) (h .file))
+        (Growing.both-times u g (x .slot) tall (surplus g d (x .slot)) d d′ (h .sound) (h .fits) (h .file) (h .user)
+        (Sizes.surplus-fits (Sizes.bytes-pos g) _ _ fit) (both-sound (h .fits) (h .sound)) .alike))),
   )
 
   kill-number : (x : Handle) → first (killRefusals g d x) ≡ first (killRefusals g d′ x)
   kill-number x = λ i. first (handleRefusals-same i x (inRange g x) (protected-same i 1 x ∷ []))
 
-  -- one entry's bit 4 and HIT byte, for kill and for bring back: the flags become F of what they were
-  both-flags : (p : ℕ) (F : ℕ → ℕ) (v : ℕ) (xs e e′ : List ℕ) → ((s : ℕ) → In s xs → s ≢ 0x1f) → Both g p e e′
-      → Both g p (through (λ l s. set (setField g l s 0 (F (field g l s 0))) (hitAt g s) v) e xs)
+  -- one entry's bit 4 and HIT byte, for kill and for bring back: the flags become F of what they were, bit 7 the same
+  both-flags : (F : ℕ → ℕ) → ((x : ℕ) → bit 7 (F x) ≡ bit 7 x) → (m v : ℕ) (xs e e′ : List ℕ) → ((s : ℕ) → In s xs → Slot m s × ((s < 256) × (s ≢ 0x1f)))
+      → Both u g m e e′
+      → Both u g m (through (λ l s. set (setField g l s 0 (F (field g l s 0))) (hitAt g s) v) e xs)
       (through (λ l s. set (setField g l s 0 (F (field g l s 0))) (hitAt g s) v) e′ xs)
-  both-flags p F v xs e e′ h w =
-      Stores.both-through g p _ xs e e′ (λ l l′ s j u.
-      let n = h s j in
-      Stores.both-store g p _ _ (hitAt g s) v (λ q. n (omega arith))
-      (subst (λ (y : ℕ). Both g p (setField g l s 0 (F (field g l s 0))) (setField g l′ s 0 (F y)))
-      (λ i. Reads.fields g l l′ (u .alike) i s 0) (Stores.both-field g p l l′ s 0 (F (field g l s 0)) u))) w
+  both-flags F q m v xs e e′ h w =
+      Stores.both-through u g m _ xs e e′ (λ l l′ s j z.
+      Stores.both-hit u g m _ _ s v (h s j .1)
+      (subst (λ (y : ℕ). Both u g m (setField g l s 0 (F (field g l s 0))) (setField g l′ s 0 (F y)))
+      (λ i. Reads.flags u g l l′ (z .alike) i s) (Stores.both-flag u g m l l′ s (F (field g l s 0)) (h s j .0) (inl (q (field g l s 0))) z))) w
 
-  pub kill-same : (x : Handle) → AlikeLeft g (kill g d x) (kill g d′ x)
+  bit-seven : (v : ℕ) → v < 2 → (x : ℕ) → bit 7 (putDigit x 4 v) ≡ bit 7 x
+  bit-seven v h x = ap (λ (y : ℕ). eqb y 1) (LawsBits.digit-other x 4 7 v h (omega arith))
+
+  pub kill-same : (x : Handle) → AlikeLeft u g (kill g d x) (kill g d′ x)
   unfolding kill killEntry
   kill-same x = (
     λ i. record { refusal = refusal-same i (kill-number x i); handle = x },
-    subst (λ (l : List ℕ). Alike g (kill g d x .1) l)
+    subst (λ (l : List ℕ). Alike u g (kill g d x .1) l)
         (λ i. cond (accepted (kill-number x i))
-        (through (killEntry g) (through (freeGranule g) d′ (Reads.owned-same g d d′ a i (x .slot))) (Reads.chain-same g d d′ a i (x .slot))) d′)
+        (through (killEntry g) (through (freeGranule g) d′ (Reads.owned-same u g d d′ a i (x .slot))) (Reads.chain-same u g d d′ a i (x .slot))) d′)
         (left (accepted (first (killRefusals g d x))) _ _ (λ e.
         let p = x .slot in
         let h = Passed.holds g d x _ 1 [] (accepts _ e) .0 in
-        let w = both-holds x h in
-        both-flags p (withoutBit 4) 0 (chain g d p) _ _ (λ s i. Stores.not-count g p d d′ s w (Change.members g d (h .sound) p s (h .file) i .slot))
-        (Stores.both-through g p (freeGranule g) (owned g d p) d d′
-        (λ l l′ n i u. Stores.both-free g p l l′ n (Change.owned-lt g d (h .sound) p n (h .file) i) u) w) .alike)),
+        let w = both-sound (h .fits) (h .sound) in
+        both-flags (withoutBit 4) (bit-seven 0 (omega arith)) tall 0 (chain g d p) _ _
+        (λ s i. let t = slot-of s (Change.members g d (h .sound) p s (h .file) i .slot) in (t, Stores.not-count u g tall d d′ s w t))
+        (Stores.both-through u g tall (freeGranule g) (owned g d p) d d′
+        (λ l l′ n i z. Stores.both-free u g tall l l′ n (Change.owned-lt g d (h .sound) p n (h .file) i) z) w) .alike)),
   )
 
   -- Listing, counts, free space -----------------------------------------------------------------------------------------------
 
   listed-same : listed g d ≡ listed g d′
   unfolding listed shown
-  listed-same = λ i. keep (λ p. not (bit 6 (flds i p 0))) (Reads.files-same g d d′ a i)
+  listed-same = λ i. keep (λ p. not (bit 6 (Reads.flags u g d d′ a i p))) (Reads.files-same u g d d′ a i)
 
-  tellFirst-same : (ps : List ℕ) → tellFirst g d ps ≡ tellFirst g d′ ps
+  listed-files : (k p : ℕ) → In p (drop k (listed g d)) → IsFile g d p
+  unfolding listed
+  listed-files k p i = Facts.files-in g d p (Members.keep-in (shown g d) p (files g d) (dropped k (listed g d) i) .0)
+    where
+      dropped : {q : ℕ} (n : ℕ) (xs : List ℕ) → In q (drop n xs) → In q xs
+      dropped zero xs j = j
+      dropped (suc n) [] j = j
+      dropped (suc n) (y ∷ xs) j = Members.In.there (dropped n xs j)
+
+  tellFirst-same : (ps : List ℕ) → ((p : ℕ) → In p ps → IsFile g d p) → tellFirst g d ps ≡ tellFirst g d′ ps
   unfolding tellFirst
-  tellFirst-same [] = refl
-  tellFirst-same (p ∷ ps) =
-      λ i. record {
-        refusal = unplaced 0;
-        more = true;
-        name = Reads.nameOf-same g d d′ a i p;
-        size = Reads.sizeOf-same g d d′ a i p;
-        granules = length (Reads.owned-same g d d′ a i p);
-      }
+  tellFirst-same [] f = refl
+  tellFirst-same (p ∷ ps) f =
+      let e = Reads.is-first u g d d′ a p (f p Members.In.here) in
+      let name = Reads.name-at u g d d′ a p e in let size = Reads.size-at u g d d′ a p e in
+      λ i. record { refusal = unplaced 0; more = true; name = name i; size = size i; granules = length (Reads.owned-same u g d d′ a i p) }
 
   pub list-same : (n : ℕ) → Listing.list g d n ≡ Listing.list g d′ n
   unfolding Listing.list
   list-same n =
-      λ i. let c = Reads.check-same g d d′ a i in cond (accepted (c .number)) (tellFirst-same (drop n (listed-same i)) i) (noFile c)
+      ap (λ (x : Listed). cond (accepted (check g d .number)) x (noFile (check g d))) (tellFirst-same (drop n (listed g d)) (listed-files n))
+      ∙ (λ i. let c = Reads.check-same u g d d′ a i in cond (accepted (c .number)) (tellFirst g d′ (drop n (listed-same i))) (noFile c))
 
   pub counts-same : Listing.counts g d ≡ Listing.counts g d′
   unfolding Listing.counts
   counts-same =
-      λ i. let c = Reads.check-same g d d′ a i in
+      λ i. let c = Reads.check-same u g d d′ a i in
       record {
         refusal = c;
         files = cond (accepted (c .number)) (length (listed-same i)) 0;
-        free = cond (accepted (c .number)) (length (Reads.freeGranules-same g d d′ a i)) 0;
+        free = cond (accepted (c .number)) (length (Reads.freeGranules-same u g d d′ a i)) 0;
       }
 
   pub free-space : freeSpace g d ≡ freeSpace g d′
   unfolding freeSpace
   free-space =
-      λ i. let no = first ((1, not (Reads.fits-same g d d′ a i)) ∷ []) in
+      λ i. let no = first ((1, not (Reads.fits-same u g d d′ a i)) ∷ []) in
       record {
         refusal = unplaced no;
-        free = cond (accepted no) (length (Reads.freeGranules-same g d d′ a i)) 0;
-        longest = cond (accepted no) (Reads.longest-same g d d′ a i) 0;
+        free = cond (accepted no) (length (Reads.freeGranules-same u g d d′ a i)) 0;
+        longest = cond (accepted no) (Reads.longest-same u g d d′ a i) 0;
       }
 
   -- Bring back --------------------------------------------------------------------------------------------------------------
 
-  whole-same : whole g d ≡ whole g d′
-  unfolding whole
-  whole-same =
-      λ i s. all (not (bit 7 (flds i s 0)) ∷ Reads.nameHolds-same g d d′ a i s
-      ∷ every (λ x. all (Reads.pairsHold-same g d d′ a i x ∷ Reads.linkHoldsBy-same g d d′ a i 0x80 x ∷ Reads.runsHold-same g d d′ a i x ∷ []))
-      (Reads.chain-same g d d′ a i s)
-      ∷ distinct (Reads.chain-same g d d′ a i s) ∷ distinct (Reads.owned-same g d d′ a i s) ∷ Reads.sizeHolds-same g d d′ a i s ∷ [])
+  -- what is asked of a name and of a size is asked of a primary entry
+  whole-at : (s : ℕ) → whole g d s ≡ whole g d′ s
+  unfolding whole all
+  whole-at s =
+      Reads.and-only (not (extension g d s)) _ _ (λ e.
+      let x = flip (extension g d s) e in
+      let name = Reads.nameHolds-at u g d d′ a s x in let size = Reads.sizeHolds-at u g d d′ a s x in
+      λ i. all (name i
+      ∷ every (λ y. all (Reads.pairsHold-same u g d d′ a i y ∷ Reads.linkHoldsBy-same u g d d′ a i 0x80 y ∷ Reads.runsHold-same u g d d′ a i y ∷ []))
+      (Reads.chain-same u g d d′ a i s)
+      ∷ distinct (Reads.chain-same u g d d′ a i s) ∷ distinct (Reads.owned-same u g d d′ a i s) ∷ size i ∷ []))
+      ∙ (λ i. not (bit 7 (Reads.flags u g d d′ a i s)) && all (nameHolds g d′ s ∷ every (killedEntryHolds g d′) (chain g d′ s)
+      ∷ distinct (chain g d′ s) ∷ distinct (owned g d′ s) ∷ sizeHolds g d′ s ∷ []))
+    where
+      flip : (c : Bool) → not c ≡ true → c ≡ false
+      flip true e = sym e
+      flip false e = refl
+
+  whole-first : (s : ℕ) → T (whole g d s) → extension g d s ≡ false
+  whole-first s t = Members.no-false (T-not (extension g d s) (LawsBack.whole-says g d s t .first))
 
   -- a whole file's granules are on the disk, its entries in slots
   whole-granule : (s n : ℕ) → T (whole g d s) → In n (owned g d s) → n < granules g
@@ -542,7 +681,7 @@ module _ (g : Geometry) (d d′ : List ℕ) (a : Alike g d d′) where
       go (Entry.Pred.first e) = rw e t
       go (Entry.Pred.after z j m l) = at z m l (LawsBack.whole-says g d s u .entries z (Members.front-in s i j) .linked)
 
-  -- 18 before 20: the GAT is asked where the file is whole
+  -- 18 before 19 and 20: the name and the GAT are asked where the file is whole
   back-number : (s : ℕ) → first (bringBackRefusals g d s) ≡ first (bringBackRefusals g d′ s)
   unfolding first
   back-number s =
@@ -550,31 +689,29 @@ module _ (g : Geometry) (d d′ : List ℕ) (a : Alike g d d′) where
       ((12, not (isSlot g d s)) ∷ (17, bit 4 (field g d s 0)) ∷ (6, bit 6 (field g d s 0)) ∷ (18, not (whole g d s))
       ∷ (19, not (missing g d (nameOf g d s))) ∷ (20, some (taken g d) (owned g d s)) ∷ [])
       ((12, not (isSlot g d s)) ∷ (17, bit 4 (field g d s 0)) ∷ (6, bit 6 (field g d s 0)) ∷ (18, not (whole g d s))
-      ∷ (19, not (missing g d (nameOf g d s))) ∷ (20, some (taken g d′) (owned g d s)) ∷ []) (λ v.
+      ∷ (19, not (missing g d (nameOf g d′ s))) ∷ (20, some (taken g d′) (owned g d s)) ∷ []) (λ v.
       ap (λ (z : ℕ). cond (not (isSlot g d s)) 12 (cond (bit 4 (field g d s 0)) 17 (cond (bit 6 (field g d s 0)) 6 z)))
       (unless (not (whole g d s)) 18 _ _ (λ e.
-      ap (λ (z : Bool). cond (not (missing g d (nameOf g d s))) 19 (cond z 20 0))
-      (some-eq (taken g d) (taken g d′) (owned g d s) (λ n i. a .gat n (whole-granule s n (held (whole g d s) e) i))))))
-      ∙ (λ i. first (diskRefusals-same i ((12, not (Reads.isSlot-same g d d′ a i s)) ∷ (17, bit 4 (flds i s 0)) ∷ (6, bit 6 (flds i s 0))
-      ∷ (18, not (whole-same i s)) ∷ (19, not (eqb (length (named-same′ (Reads.nameOf-same g d d′ a i s) i)) 0))
-      ∷ (20, some (taken g d′) (Reads.owned-same g d d′ a i s)) ∷ [])))
-    where
-      named-same′ : (n : List ℕ) → named g d n ≡ named g d′ n
-      named-same′ = named-same
+      let t = held (whole g d s) e in
+      let bits = Reads.some-eq (taken g d) (taken g d′) (owned g d s) (λ n i. a .gat n (whole-granule s n t i)) in
+      let name = Reads.name-at u g d d′ a s (whole-first s t) in
+      λ i. cond (not (missing g d (name i))) 19 (cond (bits i) 20 0))))
+      ∙ (λ i. first (diskRefusals-same i ((12, not (Reads.isSlot-same u g d d′ a i s)) ∷ (17, bit 4 (Reads.flags u g d d′ a i s))
+      ∷ (6, bit 6 (Reads.flags u g d d′ a i s)) ∷ (18, not (whole-at s i)) ∷ (19, not (eqb (length (named-same (nameOf g d′ s) i)) 0))
+      ∷ (20, some (taken g d′) (Reads.owned-same u g d d′ a i s)) ∷ [])))
 
-  pub back-same : (s : ℕ) → AlikeLeft g (bringBack g d s) (bringBack g d′ s)
+  pub back-same : (s : ℕ) → AlikeLeft u g (bringBack g d s) (bringBack g d′ s)
   unfolding bringBack backEntry
   back-same s = (
     λ i. let no = back-number s i in
         record {
           refusal = refusal-same i no;
-          slots = cond (accepted no) (length (Reads.chain-same g d d′ a i s)) 0;
-          granules = cond (accepted no) (length (Reads.owned-same g d d′ a i s)) 0;
+          slots = cond (accepted no) (length (Reads.chain-same u g d d′ a i s)) 0;
+          granules = cond (accepted no) (length (Reads.owned-same u g d d′ a i s)) 0;
         },
-    subst (λ (l : List ℕ). Alike g (bringBack g d s .1) l)
+    subst (λ (l : List ℕ). Alike u g (bringBack g d s .1) l)
         (λ i. cond (accepted (back-number s i))
-        (through (backEntry g (hash (Reads.nameOf-same g d d′ a i s))) (through (takeGranule g) d′ (Reads.owned-same g d d′ a i s))
-        (Reads.chain-same g d d′ a i s)) d′)
+        (through (backEntry g (hash (nameOf g d′ s))) (through (takeGranule g) d′ (Reads.owned-same u g d d′ a i s)) (Reads.chain-same u g d d′ a i s)) d′)
         (left (accepted (first (bringBackRefusals g d s))) _ _ (λ e.
         let p = Passed.disk-passed g d _ (accepts _ e) in
         let p₁ = Passed.passed 12 _ _ (omega arith) (p .1) in
@@ -582,47 +719,56 @@ module _ (g : Geometry) (d d′ : List ℕ) (a : Alike g d d′) where
         let p₃ = Passed.passed 6 _ _ (omega arith) (p₂ .1) in
         let p₄ = Passed.passed 18 _ _ (omega arith) (p₃ .1) in
         let t = Passed.yes-T (isSlot g d s) (p₁ .0) in
-        let u = Passed.yes-T (whole g d s) (p₄ .0) in
-        let w = served-both s (p .0) t in
-        both-flags s (withBit 4) (hash (nameOf g d s)) (chain g d s) _ _ (λ x i. Stores.not-count g s d d′ x w (whole-slot s x t u i))
-        (Stores.both-through g s (takeGranule g) (owned g d s) d d′ (λ l l′ n i v. Stores.both-take g s l l′ n (whole-granule s n u i) v) w) .alike)),
+        let v = Passed.yes-T (whole g d s) (p₄ .0) in
+        let w = both-sound (Places.fits g d (p .0 .fits)) (p .0 .sound) in
+        subst (λ (n : List ℕ). Alike u g (broughtBack g d s) (through (backEntry g (hash n)) (through (takeGranule g) d′ (owned g d s)) (chain g d s)))
+        (Reads.name-at u g d d′ a s (whole-first s v))
+        (both-flags (withBit 4) (bit-seven 1 (omega arith)) tall (hash (nameOf g d s)) (chain g d s) _ _
+        (λ x i. let y = slot-of x (whole-slot s x t v i) in (y, Stores.not-count u g tall d d′ x w y))
+        (Stores.both-through u g tall (takeGranule g) (owned g d s) d d′
+        (λ l l′ n i z. Stores.both-take u g tall l l′ n (whole-granule s n v i) z) w) .alike))),
   )
 
 -- Write ---------------------------------------------------------------------------------------------------------------------------
 
-module _ (g : Geometry) (d d′ : List ℕ) (a : Alike g d d′) where
+module _ (u : Kinds) (g : Geometry) (d d′ : List ℕ) (a : Alike u g d d′) where
+  -- the image that a write of so many bytes leaves, of the old size and the grown image
+  abbrev written : Mode → Handle → ℕ → List ℕ → ℕ → List ℕ → List ℕ
+  written m x n b old e =
+      withSize g (store (place g e (x .slot)) (store (place g e (x .slot)) e old (replicate (x .at - old) 0)) (x .at) (take n b)) (x .slot)
+      (sizeAfter m old (x .at + n))
+
   -- where it is accepted: the grown images are alike, the one is consistent, and the file has granules enough
   both-written : (m : Mode) (x : Handle) (n : ℕ) (b : List ℕ) → first (writeRefusals g d m x n (length b)) ≡ 0
-      → let s = x .slot in let old = sizeOf g d s in let k = toWrite g d m x n in
-      let written : List ℕ → List ℕ =
-      λ e. withSize g (store (place g e s) (store (place g e s) e old (replicate (x .at - old) 0)) (x .at) (take n b)) s (sizeAfter m old (x .at + n)) in
-      Alike g (written (withGranules g d s k)) (written (withGranules g d′ s k))
+      → Alike u g (written m x n b (sizeOf g d (x .slot)) (withGranules g d (x .slot) (toWrite g d m x n)))
+      (written m x n b (sizeOf g d′ (x .slot)) (withGranules g d′ (x .slot) (toWrite g d′ m x n)))
   both-written m x n b e =
       let s = x .slot in let k = toWrite g d m x n in
       let h = Passed.holds g d x _ 4 (cannotGrow g d s k) e in
       let y = Grow.larger-grew g d x k (h .0) (h .1) in
-      let w = both-granules g d d′ a s k (both-holds g d d′ a x (h .0)) in
+      let w = both-granules u g d d′ a x k (h .0) (h .1) in
       let own : length (owned g (withGranules g d s k) s) ≡ length (owned g d s) + k =
       ap length (y .owned′) ∙ length-append (owned g d s) (y .new) ∙ ap (λ (z : ℕ). length (owned g d s) + z) (y .many) in
       let size = sizeAfter m (sizeOf g d s) (x .at + n) in
       let fit : size ≤ granuleBytes g * length (owned g (withGranules g d s k) s) = Sizes.round-fits (Sizes.bytes-pos g) size _ (omega (arith, own)) in
       let end = Rewrite.after-end m (sizeOf g d s) (x .at + n) in
       let short : length (take n b) ≤ n = le-take n b in
-      both-write g _ _ (w .alike) s (y .kept .sound) (y .kept .fits) (y .kept .file) (y .kept .user) w (sizeOf g d s) (x .at) size (take n b)
-      (omega (arith, fit, end, short)) .alike
+      let old = Reads.size-at u g d d′ a s (Reads.is-first u g d d′ a s (h .0 .file)) in
+      subst (Alike u g (written m x n b (sizeOf g d s) (withGranules g d s k)))
+      (λ i. written m x n b (old i) (withGranules g d′ s (lacking-same u g d d′ a i s (granulesFor g (sizeAfter m (old i) (x .at + n))))))
+      (both-write u g _ _ (w .alike) s (aboveTen g d) (y .kept .sound) (y .kept .fits) (y .kept .file) (y .kept .user) w (sizeOf g d s) (x .at) size (take n b)
+      (omega (arith, fit, end, short)) .alike)
     where
       le-take : (n : ℕ) (b : List ℕ) → length (take n b) ≤ n
       le-take n b = let l = length-take n b in omega arith
 
-  pub write-same : (m : Mode) (x : Handle) (n : ℕ) (b : List ℕ) → AlikeLeft g (writeOf g d m x n b) (writeOf g d′ m x n b)
+  pub write-same : (m : Mode) (x : Handle) (n : ℕ) (b : List ℕ) → AlikeLeft u g (writeOf g d m x n b) (writeOf g d′ m x n b)
   unfolding writeOf
   write-same m x n b = (
-    λ i. let no = write-number g d d′ a m x n b i in
-        record { refusal = refusal-same g d d′ a i no; handle = cond (accepted no) (movedTo x (x .at + n)) x },
-    subst (λ (l : List ℕ). Alike g (writeOf g d m x n b .1) l)
-        (λ i. let s = x .slot in let old = Reads.sizeOf-same g d d′ a i s in
-        let e = withGranules g d′ s (toWrite-same g d d′ a m x n i) in
-        cond (accepted (write-number g d d′ a m x n b i))
-        (withSize g (store (place g e s) (store (place g e s) e old (replicate (x .at - old) 0)) (x .at) (take n b)) s (sizeAfter m old (x .at + n))) d′)
-        (left g d d′ a (accepted (first (writeRefusals g d m x n (length b)))) _ _ (λ e. both-written m x n b (accepts _ e))),
+    λ i. let no = write-number u g d d′ a m x n b i in
+        record { refusal = refusal-same u g d d′ a i no; handle = cond (accepted no) (movedTo x (x .at + n)) x },
+    subst (λ (l : List ℕ). Alike u g (writeOf g d m x n b .1) l)
+        (λ i. cond (accepted (write-number u g d d′ a m x n b i))
+        (written m x n b (sizeOf g d′ (x .slot)) (withGranules g d′ (x .slot) (toWrite g d′ m x n))) d′)
+        (left u g d d′ a (accepted (first (writeRefusals g d m x n (length b)))) _ _ (λ e. both-written m x n b (accepts _ e))),
   )

@@ -10,11 +10,11 @@ use native.Mathlib.Nat.{mod-lt}
 use lib.Dec.{T, eqb, leb, ltb, not-T, eqb→eq, ltb→lt}
 use lib.ListN.{length, getD, take, drop, set, length-set}
 use lib.Seq.{getD-set-same, getD-set-other, set-out}
-use borrow.Author.Tests.{ne-eqb}
+use borrow.Author.Tests.{eq-eqb, ne-eqb}
 use Rattle.meaning.specs.Lists.{count, keep, all, any, first, every}
 use Rattle.meaning.specs.Bits.{bit, digit}
-use Rattle.meaning.specs.Layout.{byte, field, taken, hit, granules, gatAt, hitAt, aboveTen, fitsGeometry, isSlot}
-use Rattle.meaning.specs.Entries.{nameOf, sizeOf, system}
+use Rattle.meaning.specs.Layout.{byte, field, taken, hit, granules, gatAt, hitAt, entryAt, aboveTen, fitsGeometry, isSlot}
+use Rattle.meaning.specs.Entries.{extension, nameOf, sizeOf, system}
 use Rattle.meaning.specs.Chain.{owned, files}
 use Rattle.meaning.specs.Amount.{howMany}
 use Rattle.meaning.specs.Refusal.{naming}
@@ -41,53 +41,125 @@ use Rattle.laws.specs.Facts.{Sound, IsFile}
 use Rattle.laws.specs.Frame
 use Rattle.laws.specs.Places
 use Rattle.laws.specs.Named
+use Rattle.laws.specs.Others
 use Rattle.laws.specs.Passed
-use Rattle.promises_unread.specs.Statement.{Alike, Unread, EveryPlace, EverySeries, Apart, Same, EveryCall, EveryDisk, EveryBack, EveryPair, EveryLoad}
+use Rattle.promises_unread.specs.Statement.{Kinds, EntryAlike, Outside, Alike, Unread, EveryPlace, EverySeries, Apart, Same, EveryCall, EveryDisk}
+use Rattle.promises_unread.specs.Statement.{EveryBack}
+use Rattle.promises_unread.specs.Statement.{EveryPair, EveryLoad}
 use Rattle.promises_unread.specs.Reads
 use Rattle.promises_unread.specs.Reads.{unless, only}
+use Rattle.promises_unread.specs.Stores
 use Rattle.promises_unread.specs.Answers
 
 -- The relation --------------------------------------------------------------------------------------------------------------------
 
-pub every-series : EverySeries
-every-series g d d′ d″ a b = record {
-  long = a .long ∙ b .long;
-  rest = λ i o. a .rest i o ∙ b .rest i o;
-  gat = λ n h. a .gat n h ∙ b .gat n h;
-  above = a .above ∙ b .above;
-  hits = λ s t. a .hits s t ∙ b .hits s (subst (λ (f : ℕ → Bool). T (f s)) (Reads.isSlot-same g d d′ a) t);
+entry-series : (u : Kinds) (f f′ f″ : ℕ → ℕ) → EntryAlike u f f′ → EntryAlike u f′ f″ → EntryAlike u f f″
+entry-series u f f′ f″ a b = record {
+  flags = a .flags ∙ b .flags;
+  one = a .one ∙ b .one;
+  low = λ k l h q. a .low k l h q ∙ b .low k l h (ap (λ (x : ℕ). u .extensions && bit 7 x) (sym (a .flags)) ∙ q);
+  block = λ k h. a .block k h ∙ b .block k h;
+  second = λ k h q. a .second k h q ∙ b .second k h (ap (λ (x : ℕ). u .behind && eqb x 0xff) (sym (a .block k h)) ∙ q);
+  marker = a .marker ∙ b .marker;
+  link = λ q. a .link q ∙ b .link (ap (λ (x : ℕ). u .behind && not (eqb x 0xfe)) (sym (a .marker)) ∙ q);
 }
 
-module _ (g : Geometry) (d : List ℕ) (k : Places.Fits g d) where
-  -- a store to a place of the two sectors that is not 1FH, after which the granules' bits and the slots' HIT bytes are as they were
-  stored : (i v : ℕ) → 256 * g .start ≤ i → i < 256 * (g .start + 2) → i ≢ hitAt g 0x1f → ((n : ℕ) → n < granules g → taken g d n ≡ taken g (set d i v) n)
-      → ((s : ℕ) → T (isSlot g d s) → i ≢ hitAt g s) → Alike g d (set d i v)
-  unfolding hit
+pub every-series : EverySeries
+every-series u g d d′ d″ a b =
+    let slots : (s : ℕ) → T (isSlot g d s) → T (isSlot g d′ s) = λ s t. subst (λ (f : ℕ → Bool). T (f s)) (Reads.isSlot-same u g d d′ a) t in
+    record {
+      long = a .long ∙ b .long;
+      rest = λ i o. a .rest i o ∙ b .rest i (was i o);
+      gat = λ n h. a .gat n h ∙ b .gat n h;
+      above = a .above ∙ b .above;
+      hits = λ s t. a .hits s t ∙ b .hits s (slots s t);
+      entries = λ s t. entry-series u _ _ _ (a .entries s t) (b .entries s (slots s t));
+    }
+  where
+    was : (i : ℕ) → Outside g d i → Outside g d′ i
+    was i (inl h) = inl h
+    was i (inr h) = inr (h .0, λ s t. h .1 s (subst (λ (f : ℕ → Bool). T (f s)) (sym (Reads.isSlot-same u g d d′ a)) t))
+
+module _ (u : Kinds) (g : Geometry) (d : List ℕ) (k : Places.Fits g d) where
+  -- a store to a place of GAT or HIT that is not 1FH, after which the granules' bits and the slots' HIT bytes are as they were
+  stored : (i v : ℕ) → 256 * g .start ≤ i → i < 256 * (g .start + 2) → i ≢ hitAt g 0x1f
+      → ((n : ℕ) → n < granules g → taken g d n ≡ taken g (set d i v) n)
+      → ((s : ℕ) → T (isSlot g d s) → i ≢ hitAt g s) → Alike u g d (set d i v)
+  unfolding hit field
   stored i v low high away bits slots = record {
     long = sym (length-set d i v);
     rest = λ j o. sym (getD-set-other d i j v 0 (out j o));
     gat = bits;
     above = sym (getD-set-other d i (hitAt g 0x1f) v 0 (λ q. away (sym q)));
     hits = λ s t. let n = slots s t in sym (getD-set-other d i (hitAt g s) v 0 (λ q. n (sym q)));
+    entries = λ s t. Reads.whole-alike u _ _ (λ j h. sym (getD-set-other d i (entryAt g s + j) v 0 (omega arith)));
   }
     where
-      out : (j : ℕ) → (j < 256 * g .start) ⊎ (256 * (g .start + 2) ≤ j) → j ≢ i
+      out : (j : ℕ) → Outside g d j → j ≢ i
       out j (inl h) = omega arith
-      out j (inr h) = omega arith
+      out j (inr h) = let q = h .0 in omega arith
 
   -- at no granule's byte
   other : (i v : ℕ) → ((n : ℕ) → n < granules g → gatAt g n ≢ i) → (n : ℕ) → n < granules g → taken g d n ≡ taken g (set d i v) n
   unfolding taken
   other i v f n h = ap (bit (n % g .units)) (sym (getD-set-other d i (gatAt g n) v 0 (f n h)))
 
-  block : (n : ℕ) → n < granules g → n / g .units < g .blocks
-  block n h = Places.block-lt g d n k h
+  in-gat : (n : ℕ) → n < granules g → n / g .units < g .blocks
+  in-gat n h = Places.block-lt g d n k h
 
-  placed : (i v : ℕ) → Unread g d i v → Alike g d (set d i v)
+  -- a store to byte j of a slot's entry, on which no byte hangs that is read
+  entered : (s j v : ℕ) → T (isSlot g d s) → j < 32 → j ≢ 0 → j ≢ 1 → j ≢ 0x1e → ((i : ℕ) → i < 4 → j ≢ 0x16 + 2 * i)
+      → (2 ≤ j → j < 0x16 → (u .extensions && bit 7 (field g d s 0)) ≡ false → ⊥)
+      → ((i : ℕ) → i < 4 → j ≡ 0x17 + 2 * i → (u .behind && eqb (field g d s (0x16 + 2 * i)) 0xff) ≡ false → ⊥)
+      → (j ≡ 0x1f → (u .behind && not (eqb (field g d s 0x1e) 0xfe)) ≡ false → ⊥) → Alike u g d (set d (entryAt g s + j) v)
+  unfolding hit taken field
+  entered s j v t l n₀ n₁ n₂ n₃ low second link = record {
+    long = sym (length-set d at v);
+    rest = λ i o. sym (getD-set-other d at i v 0 (out i o));
+    gat = λ n h. let q = in-gat n h in ap (bit (n % g .units)) (sym (getD-set-other d at (gatAt g n) v 0 (let z = k .blocks-hi in omega arith)));
+    above = sym (getD-set-other d at (hitAt g 0x1f) v 0 (omega arith));
+    hits = λ r w. let q = Places.slot g d r w in sym (getD-set-other d at (hitAt g r) v 0 (omega (arith, q .low)));
+    entries = λ r w. entry r w (ℕ-discrete r s);
+  }
+    where
+      at : ℕ
+      at = entryAt g s + j
+
+      out : (i : ℕ) → Outside g d i → i ≢ entryAt g s + j
+      out i (inl h) = omega arith
+      out i (inr h) = by (h .1 s t)
+        where
+          by : (i < entryAt g s) ⊎ (entryAt g s + 32 ≤ i) → i ≢ entryAt g s + j
+          by (inl q) = omega arith
+          by (inr q) = omega arith
+
+      same-at : (r i : ℕ) → (entryAt g r + i ≢ entryAt g s + j) → field g d r i ≡ field g (set d (entryAt g s + j) v) r i
+      same-at r i q = sym (getD-set-other d (entryAt g s + j) (entryAt g r + i) v 0 q)
+
+      entry : (r : ℕ) → T (isSlot g d r) → Dec (r ≡ s) → EntryAlike u (field g d r) (field g (set d (entryAt g s + j) v) r)
+      entry r w (yes z) = subst (λ (y : ℕ). EntryAlike u (field g d y) (field g (set d (entryAt g s + j) v) y)) (sym z) (record {
+        flags = same-at s 0 (λ q. n₀ (omega arith));
+        one = same-at s 1 (λ q. n₁ (omega arith));
+        low = λ i a b q. same-at s i (λ e. let y : j ≡ i = omega arith in low (omega arith) (omega arith) q);
+        block = λ i h. let y = n₃ i h in same-at s (0x16 + 2 * i) (λ q. y (omega arith));
+        second = λ i h q. same-at s (0x17 + 2 * i) (λ e. second i h (omega arith) q);
+        marker = same-at s 0x1e (λ q. n₂ (omega arith));
+        link = λ q. same-at s 0x1f (λ e. link (omega arith) q);
+      })
+      entry r w (no z) = Reads.whole-alike u _ _ (λ i h. same-at r i (apart i h (Stores.beside g d r s w t z i h)))
+        where
+          apart : (i : ℕ) → i < 32 → (entryAt g r + i < entryAt g s) ⊎ (entryAt g s + 32 ≤ entryAt g r + i) → entryAt g r + i ≢ entryAt g s + j
+          apart i h (inl q) = omega arith
+          apart i h (inr q) = omega arith
+
+  both-true : (b c : Bool) → b ≡ true → c ≡ true → (b && c) ≡ false → ⊥
+  both-true b c e q z = Tests.not-both (ap (λ (x : Bool). x && c) e ∙ q) z
+
+  placed : (i v : ℕ) → Unread u g d i v → Alike u g d (set d i v)
   unfolding taken
   placed _ _ (Unread.pastBlocks b v l h) =
-      stored (256 * g .start + b) v (omega arith) (omega arith) (omega arith) (other (256 * g .start + b) v (λ n m. let q = block n m in omega arith))
-      (λ s t. omega arith)
+      stored (256 * g .start + b) v (omega arith) (omega arith) (omega arith)
+      (other (256 * g .start + b) v (λ n m. let q = in-gat n m in omega arith)) (λ s t. omega arith)
   placed _ _ (Unread.pastUnits b v l e) =
       stored (256 * g .start + b) v (omega arith) (let q = k .blocks-hi in omega arith) (let q = k .blocks-hi in omega arith)
       (λ n m. bits n m (ℕ-discrete (gatAt g n) (256 * g .start + b)))
@@ -105,35 +177,46 @@ module _ (g : Geometry) (d : List ℕ) (k : Places.Fits g d) where
       bits n m (no q) = ap (bit (n % g .units)) (sym (getD-set-other d i (gatAt g n) v 0 q))
   placed _ _ (Unread.noSlot s v l n e) =
       stored (hitAt g s) v (omega arith) (omega arith) (λ q. n (omega arith))
-      (other (hitAt g s) v (λ m h. let q = block m h in let w = k .blocks-hi in omega arith))
-      (λ t u q. Members.false-no {b = isSlot g d s} e (let z : t ≡ s = omega arith in subst (λ (x : ℕ). T (isSlot g d x)) z u))
+      (other (hitAt g s) v (λ m h. let q = in-gat m h in let w = k .blocks-hi in omega arith))
+      (λ t w q. Members.false-no {b = isSlot g d s} e (let z : t ≡ s = omega arith in subst (λ (x : ℕ). T (isSlot g d x)) z w))
+  placed _ _ (Unread.ofExtension s j v t x e l h) =
+      entered s j v t (omega arith) (omega arith) (omega arith) (omega arith) (λ i q. omega arith)
+      (λ a b q. both-true (u .extensions) (bit 7 (field g d s 0)) x e q) (λ i q z w. omega arith) (λ z w. omega arith)
+  placed _ _ (Unread.behindBlock s j v t x h e) =
+      entered s (0x17 + 2 * j) v t (omega arith) (omega arith) (omega arith) (omega arith) (λ i q. omega arith) (λ a b q. omega arith)
+      (λ i q z w. both-true (u .behind) (eqb (field g d s (0x16 + 2 * i)) 0xff) x
+      (let y : i ≡ j = omega arith in subst (λ (n : ℕ). eqb (field g d s (0x16 + 2 * n)) 0xff ≡ true) (sym y) (eq-eqb _ _ e)) w)
+      (λ z w. omega arith)
+  placed _ _ (Unread.behindMarker s v t x n) =
+      entered s 0x1f v t (omega arith) (omega arith) (omega arith) (omega arith) (λ i q. omega arith) (λ a b q. omega arith) (λ i q z w. omega arith)
+      (λ z w. both-true (u .behind) (not (eqb (field g d s 0x1e) 0xfe)) x (ap not (ne-eqb _ _ n)) w)
 
 pub every-place : EveryPlace
-every-place g d f i v u = placed g d (Places.fits g d (Members.true-T f)) i v u
+every-place u g d f i v r = placed u g d (Places.fits g d (Members.true-T f)) i v r
 
 -- Every call ----------------------------------------------------------------------------------------------------------------------
 
 pub every-call : EveryCall
-every-call g d d′ a checks = Reads.check-same g d d′ a
-every-call g d d′ a (looksUp n) = Answers.look-up g d d′ a n
-every-call g d d′ a (opens n len checking code) = Answers.open-same g d d′ a n len checking code
-every-call g d d′ a (creates n f checking) = Answers.create-same g d d′ a n f checking
-every-call g d d′ a (reads m x b) =
-    (Answers.read-answer g d d′ a x (howMany m (x .len) b) b, Answers.read-buffer g d d′ a x (howMany m (x .len) b) b)
-every-call g d d′ a (readsSector x k) = Answers.read-sector g d d′ a x k
-every-call g d d′ a (writes m w x b) = Answers.write-same g d d′ a w x (howMany m (x .len) b) b
-every-call g d d′ a (allots x k) = Answers.allot-same g d d′ a x k
-every-call g d d′ a (trims x) = Answers.trim-same g d d′ a x
-every-call g d d′ a (kills x) = Answers.kill-same g d d′ a x
-every-call g d d′ a (lists i) = Answers.list-same g d d′ a i
-every-call g d d′ a counts = Answers.counts-same g d d′ a
-every-call g d d′ a measures = Answers.free-space g d d′ a
+every-call u g d d′ a checks = Reads.check-same u g d d′ a
+every-call u g d d′ a (looksUp n) = Answers.look-up u g d d′ a n
+every-call u g d d′ a (opens n len checking code) = Answers.open-same u g d d′ a n len checking code
+every-call u g d d′ a (creates n f checking) = Answers.create-same u g d d′ a n f checking
+every-call u g d d′ a (reads m x b) =
+    (Answers.read-answer u g d d′ a x (howMany m (x .len) b) b, Answers.read-buffer u g d d′ a x (howMany m (x .len) b) b)
+every-call u g d d′ a (readsSector x k) = Answers.read-sector u g d d′ a x k
+every-call u g d d′ a (writes m w x b) = Answers.write-same u g d d′ a w x (howMany m (x .len) b) b
+every-call u g d d′ a (allots x k) = Answers.allot-same u g d d′ a x k
+every-call u g d d′ a (trims x) = Answers.trim-same u g d d′ a x
+every-call u g d d′ a (kills x) = Answers.kill-same u g d d′ a x
+every-call u g d d′ a (lists i) = Answers.list-same u g d d′ a i
+every-call u g d d′ a counts = Answers.counts-same u g d d′ a
+every-call u g d d′ a measures = Answers.free-space u g d d′ a
 
 pub every-disk : EveryDisk
-every-disk g d d′ a = Reads.consistent-same g d d′ a
+every-disk u g d d′ a = Reads.consistent-same u g d d′ a
 
 pub every-back : EveryBack
-every-back g d d′ a s = Answers.back-same g d d′ a s
+every-back u g d d′ a s = Answers.back-same u g d d′ a s
 
 -- Compare -------------------------------------------------------------------------------------------------------------------------
 
@@ -142,35 +225,46 @@ data FoundAlike : Found → Found → Type 0 where
   none : FoundAlike nothing nothing
   some′ : {f f′ : File} → f .attributes ≡ f′ .attributes → (isSystem f ≡ false → f ≡ f′) → FoundAlike (found f) (found f′)
 
-module _ (g : Geometry) (d d′ : List ℕ) (a : Alike g d d′) (s : Passed.Served g d) where
+module _ (u : Kinds) (g : Geometry) (d d′ : List ℕ) (a : Alike u g d d′) (s : Passed.Served g d) where
   file-same : (p : ℕ) → IsFile g d p → FoundAlike (found (fileAt g d p)) (found (fileAt g d′ p))
   unfolding fileAt
-  file-same p f = FoundAlike.some′ (λ i. attributes i) (λ (e : isSystem (fileAt g d p) ≡ false).
-      let whole : 0 + sizeOf g d p ≤ sizeOf g d p = omega arith in
-      let b = Answers.fetch-same g d d′ a (s .sound) (Places.fits g d (s .fits)) p f (inl e) 0 (sizeOf g d p) whole in
+  file-same p f = FoundAlike.some′ attributes (λ (e : isSystem (fileAt g d p) ≡ false).
+      let b = Answers.fetch-same u g d d′ a (s .sound) (Places.fits g d (s .fits)) p f (inl e) 0 (sizeOf g d p) whole in
       (λ i. record {
         attributes = attributes i;
-        granules = length (Reads.owned-same g d d′ a i p);
-        bytes =
-            (b ∙ (λ z. fetch g d′ p 0 (Reads.sizeOf-same g d d′ a z p))) i;
+        granules = length (Reads.owned-same u g d d′ a i p);
+        bytes = (b ∙ ap (fetch g d′ p 0) (Reads.size-at u g d d′ a p primary)) i;
       }))
     where
+      whole : 0 + sizeOf g d p ≤ sizeOf g d p
+      whole = omega arith
+
+      primary : extension g d p ≡ false
+      primary = Reads.is-first u g d d′ a p f
+
       attributes : map (field g d p) (0 ∷ 1 ∷ 2 ∷ 4 ∷ count 0x10 4) ≡ map (field g d′ p) (0 ∷ 1 ∷ 2 ∷ 4 ∷ count 0x10 4)
-      attributes = λ i. map (Reads.fields g d d′ a i p) (0 ∷ 1 ∷ 2 ∷ 4 ∷ count 0x10 4)
+      attributes =
+          Members.map-eq (field g d p) (field g d′ p) (0 ∷ 1 ∷ 2 ∷ 4 ∷ count 0x10 4) (λ k i. Reads.first-at u g d d′ a p k primary (Others.attribute-low k i))
 
   plain-same : (n : List ℕ) → FoundAlike (plain g d n) (plain g d′ n)
   unfolding plain named foundIn
   plain-same n =
-      subst (λ (ps : List ℕ). FoundAlike (foundIn g d (named g d n)) (foundIn g d′ ps)) (Answers.named-same g d d′ a n)
+      subst (λ (ps : List ℕ). FoundAlike (foundIn g d (named g d n)) (foundIn g d′ ps)) (Answers.named-same u g d d′ a n)
       (go (keep (carries g d n) (candidates g d n)) (λ x i. Named.named-in g d n x i .0))
     where
       go : (xs : List ℕ) → ((x : ℕ) → In x xs → IsFile g d x) → FoundAlike (foundIn g d (take 1 xs)) (foundIn g d′ (take 1 xs))
       go [] f = FoundAlike.none
       go (x ∷ xs) f = file-same x (f x Members.In.here)
 
-names-same : (g : Geometry) (d d′ : List ℕ) → Alike g d d′ → names g d ≡ names g d′
+names-eq : (f h : ℕ → List ℕ) (xs : List ℕ) → ((x : ℕ) → In x xs → f x ≡ h x) → map f xs ≡ map h xs
+names-eq f h [] e = refl
+names-eq f h (x ∷ xs) e = let p = e x Members.In.here in let q = names-eq f h xs (λ y j. e y (Members.In.there j)) in λ i. p i ∷ q i
+
+names-same : (u : Kinds) (g : Geometry) (d d′ : List ℕ) → Alike u g d d′ → names g d ≡ names g d′
 unfolding names
-names-same g d d′ a = λ i. map (Reads.nameOf-same g d d′ a i) (Reads.files-same g d d′ a i)
+names-same u g d d′ a =
+    names-eq (nameOf g d) (nameOf g d′) (files g d) (λ p j. Reads.name-at u g d d′ a p (Reads.is-first u g d d′ a p (Facts.files-in g d p j)))
+    ∙ (λ i. map (nameOf g d′) (Reads.files-same u g d d′ a i))
 
 difference-same : (n : List ℕ) {x x′ y y′ : Found} → FoundAlike x x′ → FoundAlike y y′ → difference n x y ≡ difference n x′ y′
 unfolding difference any
@@ -179,7 +273,7 @@ difference-same n FoundAlike.none (FoundAlike.some′ e h) = refl
 difference-same n (FoundAlike.some′ e h) FoundAlike.none = refl
 difference-same n (FoundAlike.some′ {f = f} {f′ = f′} e h) (FoundAlike.some′ {f = k} {f′ = k′} q r) =
     unless (any (isSystem f ∷ isSystem k ∷ [])) (nameOnly n 0) (unlike n f k) (unlike n f′ k′) (λ z.
-    let u = no-one (isSystem f) (isSystem k) z in λ i. unlike n (h (u .0) i) (r (u .1) i))
+    let o = no-one (isSystem f) (isSystem k) z in λ i. unlike n (h (o .0) i) (r (o .1) i))
     ∙ (λ i. cond (any (bit 6 (getD (e i) 0 0) ∷ bit 6 (getD (q i) 0 0) ∷ [])) (nameOnly n 0) (unlike n f′ k′))
   where
     no-one : (b c : Bool) → (b || (c || false)) ≡ false → (b ≡ false) × (c ≡ false)
@@ -187,12 +281,12 @@ difference-same n (FoundAlike.some′ {f = f} {f′ = f′} e h) (FoundAlike.som
     no-one false true z = Tests.not-both refl z
     no-one true c z = Tests.not-both refl z
 
-module _ (g h : Geometry) (d d′ e e′ : List ℕ) (a : Alike g d d′) (b : Alike h e e′) where
+module _ (u : Kinds) (g h : Geometry) (d d′ e e′ : List ℕ) (a : Alike u g d d′) (b : Alike u h e e′) where
   differences-same : Passed.Served g d → Passed.Served h e → differences g d h e ≡ differences g d′ h e′
   unfolding differences merged
   differences-same s t =
-      λ i. keep isOne (map (λ n. difference-same n (plain-same g d d′ a s n) (plain-same h e e′ b t n) i)
-      (rising (names-same g d d′ a i ++ names-same h e e′ b i)))
+      λ i. keep isOne (map (λ n. difference-same n (plain-same u g d d′ a s n) (plain-same u h e e′ b t n) i)
+      (rising (names-same u g d d′ a i ++ names-same u h e e′ b i)))
 
   pair-same : (i : ℕ) → compare g d h e i ≡ compare g d′ h e′ i
   unfolding compare
@@ -201,12 +295,12 @@ module _ (g h : Geometry) (d d′ e e′ : List ℕ) (a : Alike g d d′) (b : A
       only (accepted (check h e .number)) (tellsNone (naming 2 (check h e))) _ _ (λ q.
       ap (λ (l : List Difference). tellFirst (drop i l))
       (differences-same (Passed.check-passed g d (eqb→eq _ _ (Members.true-T p))) (Passed.check-passed h e (eqb→eq _ _ (Members.true-T q))))))
-      ∙ (λ z. let c = Reads.check-same g d d′ a z in let c′ = Reads.check-same h e e′ b z in
+      ∙ (λ z. let c = Reads.check-same u g d d′ a z in let c′ = Reads.check-same u h e e′ b z in
       cond (accepted (c .number)) (cond (accepted (c′ .number)) (tellFirst (drop i (differences g d′ h e′))) (tellsNone (naming 2 c′)))
       (tellsNone (naming 1 c)))
 
 pub every-pair : EveryPair
-every-pair g h d d′ e e′ a b i = pair-same g h d d′ e e′ a b i
+every-pair u g h d d′ e e′ a b i = pair-same u g h d d′ e e′ a b i
 
 -- Load record ---------------------------------------------------------------------------------------------------------------------
 
@@ -231,7 +325,7 @@ load-high bs i n z l = ne-eqb n (recordFrom bs i .number) (λ q. go (First.first
         by true e t = z (q ∙ eqb→eq k 0 (Members.true-T e))
         by false e t = let w = lib.Dec.leb→le 31 k t in omega arith
 
-module _ (g : Geometry) (d d′ : List ℕ) (a : Alike g d d′) (x : Handle) (b : List ℕ) (o : Apart g d (x .slot)) where
+module _ (u : Kinds) (g : Geometry) (d d′ : List ℕ) (a : Alike u g d d′) (x : Handle) (b : List ℕ) (o : Apart g d (x .slot)) where
   abbrev range : Bool
   range = all (inRange g x ∷ leb mostBytes (length b) ∷ [])
 
@@ -240,7 +334,7 @@ module _ (g : Geometry) (d d′ : List ℕ) (a : Alike g d d′) (x : Handle) (b
   before e = handleRefusals g e x range (notForReading x ∷ [])
 
   before-same : first (before d) ≡ first (before d′)
-  before-same = λ i. first (Answers.handleRefusals-same g d d′ a i x range (notForReading x ∷ []))
+  before-same = λ i. first (Answers.handleRefusals-same u g d d′ a i x range (notForReading x ∷ []))
 
   -- what is answered under the number n, of a file with these bytes
   abbrev answered : (ℕ → Rattle.meaning.specs.declared.Refusal.Refusal) → ℕ → List ℕ → Loaded × List ℕ
@@ -266,10 +360,9 @@ module _ (g : Geometry) (d d′ : List ℕ) (a : Alike g d d′) (x : Handle) (b
   bytes-same e =
       let p = Passed.disk-passed g d _ e in
       let p₁ = Passed.passed 12 _ _ (omega arith) (p .1) in
-      let p₂ = Passed.passed 7 _ _ (omega arith) (p₁ .1) in
-      Answers.fetch-same g d d′ a (p .0 .sound) (Places.fits g d (p .0 .fits)) (x .slot) (Answers.fresh-file g d d′ a x (Passed.yes-T (fresh g d x) (p₂ .0))) o
-      0 (sizeOf g d (x .slot)) (omega arith)
-      ∙ (λ z. fetch g d′ (x .slot) 0 (Reads.sizeOf-same g d d′ a z (x .slot)))
+      let f = Answers.fresh-file u g d d′ a x (Passed.yes-T (fresh g d x) (Passed.passed 7 _ _ (omega arith) (p₁ .1) .0)) in
+      Answers.fetch-same u g d d′ a (p .0 .sound) (Places.fits g d (p .0 .fits)) (x .slot) f o 0 (sizeOf g d (x .slot)) (omega arith)
+      ∙ ap (fetch g d′ (x .slot) 0) (Reads.size-at u g d d′ a (x .slot) (Reads.is-first u g d d′ a (x .slot) f))
 
   load-same : loadRecord g d x b ≡ loadRecord g d′ x b
   unfolding loadRecord
@@ -281,16 +374,16 @@ module _ (g : Geometry) (d d′ : List ℕ) (a : Alike g d d′) (x : Handle) (b
       go : Dec (first (before d) ≡ 0) → loadRecord g d x b ≡ loadRecord g d′ x b
       go (yes e) =
           λ i. let bs = bytes-same e i in
-          answered (Answers.refusal-same g d d′ a i)
-          (first (Answers.handleRefusals-same g d d′ a i x range (notForReading x ∷ byNumber (recordFrom bs (x .at) .number) loadNumbers))) bs
+          answered (Answers.refusal-same u g d d′ a i)
+          (first (Answers.handleRefusals-same u g d d′ a i x range (notForReading x ∷ byNumber (recordFrom bs (x .at) .number) loadNumbers))) bs
       go (no e) =
           let n = first (before d) in
           let q : first (loadRefusals g d x (length b)) ≡ n = first-before (before d) _ e in
           let q′ : first (loadRefusals g d′ x (length b)) ≡ n = first-before (before d′) _ (λ z. e (before-same ∙ z)) ∙ sym before-same in
           ap (λ (m : ℕ). answered (refusal g d) m (bytesOf g d (x .slot))) q
           ∙ none-answered (refusal g d) n _ _ e low
-          ∙ (λ i. answered (Answers.refusal-same g d d′ a i) n (bytesOf g d′ (x .slot)))
+          ∙ (λ i. answered (Answers.refusal-same u g d d′ a i) n (bytesOf g d′ (x .slot)))
           ∙ sym (ap (λ (m : ℕ). answered (refusal g d′) m (bytesOf g d′ (x .slot))) q′)
 
 pub every-load : EveryLoad
-every-load g d d′ a x b o = load-same g d d′ a x b o
+every-load u g d d′ a x b o = load-same u g d d′ a x b o
