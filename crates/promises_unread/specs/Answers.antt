@@ -60,11 +60,11 @@ use Rattle.laws.specs.Passed
 use Rattle.laws.specs.Rewrite
 use Rattle.laws.specs.Words.{words}
 use Rattle.promises.specs.Grow
-use Rattle.promises_unread.specs.Statement.{Kinds, Alike, AlikeLeft, Apart}
+use Rattle.promises_unread.specs.Statement.{Kinds, ReadAlike, AlikeLeft, Apart}
 use Rattle.promises_unread.specs.Reads
 use Rattle.promises_unread.specs.Reads.{unless, only, primaryIs}
 use Rattle.promises_unread.specs.Stores
-use Rattle.promises_unread.specs.Stores.{Both, Slot}
+use Rattle.promises_unread.specs.Stores.{AlikePair, Slot}
 use Rattle.promises_unread.specs.Growing
 
 -- Refusals, one after the other: what comes later is asked where what comes before did not hold -----------------------------------
@@ -107,9 +107,9 @@ module _ (g : Geometry) (d : List ℕ) where
 accepts : (n : ℕ) → accepted n ≡ true → n ≡ 0
 accepts n e = eqb→eq n 0 (Members.true-T e)
 
-module _ (u : Kinds) (g : Geometry) (d d′ : List ℕ) (a : Alike u g d d′) where
+module _ (u : Kinds) (g : Geometry) (d d′ : List ℕ) (a : ReadAlike u g d d′) where
   -- an image that is changed only where the call is accepted
-  left : (b : Bool) (x y : List ℕ) → (b ≡ true → Alike u g x y) → Alike u g (cond b x d) (cond b y d′)
+  left : (b : Bool) (x y : List ℕ) → (b ≡ true → ReadAlike u g x y) → ReadAlike u g (cond b x d) (cond b y d′)
   left true x y f = f refl
   left false x y f = a
 
@@ -117,7 +117,7 @@ module _ (u : Kinds) (g : Geometry) (d d′ : List ℕ) (a : Alike u g d d′) w
   abbrev tall : ℕ
   tall = aboveTen g d
 
-  both-sound : Places.Fits g d → Sound g d → Both u g tall d d′
+  both-sound : Places.Fits g d → Sound g d → AlikePair u g tall d d′
   both-sound k c = record { alike = a; fits = k; dir = Places.dir g d (c .dir); tall = refl }
 
   slot-of : (s : ℕ) → T (isSlot g d s) → Slot tall s
@@ -327,7 +327,7 @@ module _ (u : Kinds) (g : Geometry) (d d′ : List ℕ) (a : Alike u g d d′) w
   unfolding create
   create-same n f checking = (
     created n f checking,
-    subst (λ (l : List ℕ). Alike u g (create g d n f checking .1) l)
+    subst (λ (l : List ℕ). ReadAlike u g (create g d n f checking .1) l)
         (λ i. let m = comesIn n .name in
         cond (accepted (create-number n f checking i) && eqb (length (named-same m i)) 0)
         (withEntry g d′ (firstOr 0 (Reads.freeSlots-same u g d d′ a i)) m f) d′)
@@ -469,7 +469,7 @@ module _ (u : Kinds) (g : Geometry) (d d′ : List ℕ) (a : Alike u g d d′) w
       ∙ (λ i. first (handleRefusals-same i x b (protected-same i 4 x ∷ cannotGrow g d′ s k′)))
 
   both-granules : (x : Handle) (k : ℕ) → Passed.Holds g d x → first (cannotGrow g d (x .slot) k) ≡ 0
-      → Both u g tall (withGranules g d (x .slot) k) (withGranules g d′ (x .slot) k)
+      → AlikePair u g tall (withGranules g d (x .slot) k) (withGranules g d′ (x .slot) k)
   both-granules x k h e =
       let p₁ = Passed.passed 11 _ _ (omega arith) e in
       let p₂ = Passed.passed 9 _ _ (omega arith) (p₁ .1) in
@@ -487,7 +487,7 @@ module _ (u : Kinds) (g : Geometry) (d d′ : List ℕ) (a : Alike u g d d′) w
   unfolding allot
   allot-same x k = (
     λ i. record { refusal = refusal-same i (allot-number x k i); handle = x },
-    subst (λ (l : List ℕ). Alike u g (allot g d x k .1) l)
+    subst (λ (l : List ℕ). ReadAlike u g (allot g d x k .1) l)
         (λ i. cond (accepted (allot-number x k i)) (withGranules g d′ (x .slot) (toAllot-same x k i)) d′)
         (left (accepted (first (allotRefusals g d x k))) _ _ (λ e.
         let h = Passed.holds g d x _ 4 (cannotGrow g d (x .slot) (toAllot g d x k)) (accepts _ e) in
@@ -502,14 +502,14 @@ module _ (u : Kinds) (g : Geometry) (d d′ : List ℕ) (a : Alike u g d d′) w
       grow-number x (all (inRange g x ∷ leb (x .at + n) (highest g) ∷ leb n (length b) ∷ [])) (toWrite g d m x n) (toWrite g d′ m x n) (toWrite-of m x n)
 
   -- the bytes of a write, in an image that has the granules for them: no byte of the file lies in the directory
-  module _ (p m : ℕ) (c : Sound g d) (k : Places.Fits g d) (f : IsFile g d p) (us : T (not (system g d p))) (w : Both u g m d d′) where
+  module _ (p m : ℕ) (c : Sound g d) (k : Places.Fits g d) (f : IsFile g d p) (us : T (not (system g d p))) (w : AlikePair u g m d d′) where
     not-there : (j : ℕ) → j < granuleBytes g * length (owned g d p)
         → (place g d p j < 256 * g .start) ⊎ (256 * (g .start + directorySectors g d) ≤ place g d p j)
     not-there j l =
         Places.outside g d (place g d p j) (k .start-at) (Places.dir g d (c .dir)) (λ i. Change.filed-at g d c p f .off us _ (Others.place-in g d p j l) i)
 
     both-write : (old at size : ℕ) (r : List ℕ) → at + length r ≤ granuleBytes g * length (owned g d p)
-        → Both u g m (withSize g (store (place g d p) (store (place g d p) d old (replicate (at - old) 0)) at r) p size)
+        → AlikePair u g m (withSize g (store (place g d p) (store (place g d p) d old (replicate (at - old) 0)) at r) p size)
         (withSize g (store (place g d′ p) (store (place g d′ p) d′ old (replicate (at - old) 0)) at r) p size)
     unfolding directorySectors
     both-write old at size r end =
@@ -522,11 +522,11 @@ module _ (u : Kinds) (g : Geometry) (d d′ : List ℕ) (a : Alike u g d d′) w
         let w₃ = Stores.both-bytes u g m F r d₂ d₂′ at
         (λ j h l. subst (λ (n : ℕ). (F j < 256 * g .start) ⊎ (256 * (g .start + (10 + n)) ≤ F j)) (w .tall ∙ sym (w₂ .tall)) (not-there j (omega arith))) w₂ in
         let d₃ = store F d₂ at r in let d₃′ = store F d₂′ at r in
-        let low : (e e′ : List ℕ) (j v : ℕ) → 1 ≤ j → j < 0x16 → Both u g m e e′ → Both u g m (setField g e p j v) (setField g e′ p j v) =
+        let low : (e e′ : List ℕ) (j v : ℕ) → 1 ≤ j → j < 0x16 → AlikePair u g m e e′ → AlikePair u g m (setField g e p j v) (setField g e′ p j v) =
         λ e e′ j v l h z. Stores.both-field u g m e e′ p j v t (omega arith) (omega arith) (omega arith) (λ i q. omega arith) z in
-        subst (λ (G : ℕ → ℕ). Both u g m (withSize g d₃ p size) (withSize g (store G (store G d′ old (replicate (at - old) 0)) at r) p size))
+        subst (λ (G : ℕ → ℕ). AlikePair u g m (withSize g d₃ p size) (withSize g (store G (store G d′ old (replicate (at - old) 0)) at r) p size))
         (λ i. Reads.place-same u g d d′ a i p)
-        (subst (λ (y : ℕ). Both u g m (withSize g d₃ p size)
+        (subst (λ (y : ℕ). AlikePair u g m (withSize g d₃ p size)
         (setField g (setField g (setField g (setField g d₃′ p 3 (endByteFor size)) p 0x14 (sectorsFor size % 256)) p 0x15 (sectorsFor size / 256))
         p 1 (withBit 5 y)))
         (λ i. Reads.ones u g d₃ d₃′ (w₃ .alike) i p)
@@ -546,12 +546,13 @@ module _ (u : Kinds) (g : Geometry) (d d′ : List ℕ) (a : Alike u g d d′) w
   unfolding trim
   trim-same x = (
     λ i. record { refusal = refusal-same i (trim-number x i); handle = x },
-    subst (λ (l : List ℕ). Alike u g (trim g d x .1) l)
+    subst (λ (l : List ℕ). ReadAlike u g (trim g d x .1) l)
         (λ i. cond (accepted (trim-number x i) && not (bit 7 (Reads.ones u g d d′ a i (x .slot)))) (times (surplus g d′ (x .slot)) (dropOne g (x .slot)) d′) d′)
         (left (accepted (first (trimRefusals g d x)) && not (bit 7 (field g d (x .slot) 1))) _ _ (λ e.
         let h = Passed.holds g d x _ 4 [] (accepts _ (Tests.and-l (accepted (first (trimRefusals g d x))) _ e)) .0 in
         let fit = Change.filed-at g d (h .sound) (x .slot) (h .file) .fits in
-        subst (λ (k : ℕ). Alike u g (times (surplus g d (x .slot)) (dropOne g (x .slot)) d) (times k (dropOne g (x .slot)) d′)) (surplus-at (x .slot) (h .file))
+        subst (λ (k : ℕ). ReadAlike u g (times (surplus g d (x .slot)) (dropOne g (x .slot)) d) (times k (dropOne g (x .slot)) d′))
+        (surplus-at (x .slot) (h .file))
         (Growing.both-times u g (x .slot) tall (surplus g d (x .slot)) d d′ (h .sound) (h .fits) (h .file) (h .user)
         (Sizes.surplus-fits (Sizes.bytes-pos g) _ _ fit) (both-sound (h .fits) (h .sound)) .alike))),
   )
@@ -561,13 +562,13 @@ module _ (u : Kinds) (g : Geometry) (d d′ : List ℕ) (a : Alike u g d d′) w
 
   -- one entry's bit 4 and HIT byte, for kill and for bring back: the flags become F of what they were, bit 7 the same
   both-flags : (F : ℕ → ℕ) → ((x : ℕ) → bit 7 (F x) ≡ bit 7 x) → (m v : ℕ) (xs e e′ : List ℕ) → ((s : ℕ) → In s xs → Slot m s × ((s < 256) × (s ≢ 0x1f)))
-      → Both u g m e e′
-      → Both u g m (through (λ l s. set (setField g l s 0 (F (field g l s 0))) (hitAt g s) v) e xs)
+      → AlikePair u g m e e′
+      → AlikePair u g m (through (λ l s. set (setField g l s 0 (F (field g l s 0))) (hitAt g s) v) e xs)
       (through (λ l s. set (setField g l s 0 (F (field g l s 0))) (hitAt g s) v) e′ xs)
   both-flags F q m v xs e e′ h w =
       Stores.both-through u g m _ xs e e′ (λ l l′ s j z.
       Stores.both-hit u g m _ _ s v (h s j .1)
-      (subst (λ (y : ℕ). Both u g m (setField g l s 0 (F (field g l s 0))) (setField g l′ s 0 (F y)))
+      (subst (λ (y : ℕ). AlikePair u g m (setField g l s 0 (F (field g l s 0))) (setField g l′ s 0 (F y)))
       (λ i. Reads.flags u g l l′ (z .alike) i s) (Stores.both-flag u g m l l′ s (F (field g l s 0)) (h s j .0) (inl (q (field g l s 0))) z))) w
 
   bit-seven : (v : ℕ) → v < 2 → (x : ℕ) → bit 7 (putDigit x 4 v) ≡ bit 7 x
@@ -577,7 +578,7 @@ module _ (u : Kinds) (g : Geometry) (d d′ : List ℕ) (a : Alike u g d d′) w
   unfolding kill killEntry
   kill-same x = (
     λ i. record { refusal = refusal-same i (kill-number x i); handle = x },
-    subst (λ (l : List ℕ). Alike u g (kill g d x .1) l)
+    subst (λ (l : List ℕ). ReadAlike u g (kill g d x .1) l)
         (λ i. cond (accepted (kill-number x i))
         (through (killEntry g) (through (freeGranule g) d′ (Reads.owned-same u g d d′ a i (x .slot))) (Reads.chain-same u g d d′ a i (x .slot))) d′)
         (left (accepted (first (killRefusals g d x))) _ _ (λ e.
@@ -709,7 +710,7 @@ module _ (u : Kinds) (g : Geometry) (d d′ : List ℕ) (a : Alike u g d d′) w
           slots = cond (accepted no) (length (Reads.chain-same u g d d′ a i s)) 0;
           granules = cond (accepted no) (length (Reads.owned-same u g d d′ a i s)) 0;
         },
-    subst (λ (l : List ℕ). Alike u g (bringBack g d s .1) l)
+    subst (λ (l : List ℕ). ReadAlike u g (bringBack g d s .1) l)
         (λ i. cond (accepted (back-number s i))
         (through (backEntry g (hash (nameOf g d′ s))) (through (takeGranule g) d′ (Reads.owned-same u g d d′ a i s)) (Reads.chain-same u g d d′ a i s)) d′)
         (left (accepted (first (bringBackRefusals g d s))) _ _ (λ e.
@@ -721,7 +722,7 @@ module _ (u : Kinds) (g : Geometry) (d d′ : List ℕ) (a : Alike u g d d′) w
         let t = Passed.yes-T (isSlot g d s) (p₁ .0) in
         let v = Passed.yes-T (whole g d s) (p₄ .0) in
         let w = both-sound (Places.fits g d (p .0 .fits)) (p .0 .sound) in
-        subst (λ (n : List ℕ). Alike u g (broughtBack g d s) (through (backEntry g (hash n)) (through (takeGranule g) d′ (owned g d s)) (chain g d s)))
+        subst (λ (n : List ℕ). ReadAlike u g (broughtBack g d s) (through (backEntry g (hash n)) (through (takeGranule g) d′ (owned g d s)) (chain g d s)))
         (Reads.name-at u g d d′ a s (whole-first s v))
         (both-flags (withBit 4) (bit-seven 1 (omega arith)) tall (hash (nameOf g d s)) (chain g d s) _ _
         (λ x i. let y = slot-of x (whole-slot s x t v i) in (y, Stores.not-count u g tall d d′ x w y))
@@ -731,7 +732,7 @@ module _ (u : Kinds) (g : Geometry) (d d′ : List ℕ) (a : Alike u g d d′) w
 
 -- Write ---------------------------------------------------------------------------------------------------------------------------
 
-module _ (u : Kinds) (g : Geometry) (d d′ : List ℕ) (a : Alike u g d d′) where
+module _ (u : Kinds) (g : Geometry) (d d′ : List ℕ) (a : ReadAlike u g d d′) where
   -- the image that a write of so many bytes leaves, of the old size and the grown image
   abbrev written : Mode → Handle → ℕ → List ℕ → ℕ → List ℕ → List ℕ
   written m x n b old e =
@@ -740,7 +741,7 @@ module _ (u : Kinds) (g : Geometry) (d d′ : List ℕ) (a : Alike u g d d′) w
 
   -- where it is accepted: the grown images are alike, the one is consistent, and the file has granules enough
   both-written : (m : Mode) (x : Handle) (n : ℕ) (b : List ℕ) → first (writeRefusals g d m x n (length b)) ≡ 0
-      → Alike u g (written m x n b (sizeOf g d (x .slot)) (withGranules g d (x .slot) (toWrite g d m x n)))
+      → ReadAlike u g (written m x n b (sizeOf g d (x .slot)) (withGranules g d (x .slot) (toWrite g d m x n)))
       (written m x n b (sizeOf g d′ (x .slot)) (withGranules g d′ (x .slot) (toWrite g d′ m x n)))
   both-written m x n b e =
       let s = x .slot in let k = toWrite g d m x n in
@@ -754,7 +755,7 @@ module _ (u : Kinds) (g : Geometry) (d d′ : List ℕ) (a : Alike u g d d′) w
       let end = Rewrite.after-end m (sizeOf g d s) (x .at + n) in
       let short : length (take n b) ≤ n = le-take n b in
       let old = Reads.size-at u g d d′ a s (Reads.is-first u g d d′ a s (h .0 .file)) in
-      subst (Alike u g (written m x n b (sizeOf g d s) (withGranules g d s k)))
+      subst (ReadAlike u g (written m x n b (sizeOf g d s) (withGranules g d s k)))
       (λ i. written m x n b (old i) (withGranules g d′ s (lacking-same u g d d′ a i s (granulesFor g (sizeAfter m (old i) (x .at + n))))))
       (both-write u g _ _ (w .alike) s (aboveTen g d) (y .kept .sound) (y .kept .fits) (y .kept .file) (y .kept .user) w (sizeOf g d s) (x .at) size (take n b)
       (omega (arith, fit, end, short)) .alike)
@@ -767,7 +768,7 @@ module _ (u : Kinds) (g : Geometry) (d d′ : List ℕ) (a : Alike u g d d′) w
   write-same m x n b = (
     λ i. let no = write-number u g d d′ a m x n b i in
         record { refusal = refusal-same u g d d′ a i no; handle = cond (accepted no) (movedTo x (x .at + n)) x },
-    subst (λ (l : List ℕ). Alike u g (writeOf g d m x n b .1) l)
+    subst (λ (l : List ℕ). ReadAlike u g (writeOf g d m x n b .1) l)
         (λ i. cond (accepted (write-number u g d d′ a m x n b i))
         (written m x n b (sizeOf g d′ (x .slot)) (withGranules g d′ (x .slot) (toWrite g d′ m x n))) d′)
         (left u g d d′ a (accepted (first (writeRefusals g d m x n (length b)))) _ _ (λ e. both-written m x n b (accepts _ e))),

@@ -35,14 +35,14 @@ use Rattle.laws.specs.Words.{words}
 use Rattle.laws.specs.Entry
 use Rattle.laws.specs.TakeOne
 use Rattle.promises.specs.Grow
-use Rattle.promises_unread.specs.Statement.{Kinds, Alike}
+use Rattle.promises_unread.specs.Statement.{Kinds, ReadAlike}
 use Rattle.promises_unread.specs.Reads
 use Rattle.promises_unread.specs.Stores
-use Rattle.promises_unread.specs.Stores.{Both, Slot}
+use Rattle.promises_unread.specs.Stores.{AlikePair, Slot}
 
 -- both growths found a slot and left images alike, or neither found one
 pub data BothGrown (u : Kinds) (g : Geometry) (m : ℕ) : Grown → Grown → Type 0 where
-  both : {d d′ : List ℕ} → Both u g m d d′ → BothGrown u g m (grown d) (grown d′)
+  both : {d d′ : List ℕ} → AlikePair u g m d d′ → BothGrown u g m (grown d) (grown d′)
   neither : BothGrown u g m noSlot noSlot
 
 -- A free slot is a slot -----------------------------------------------------------------------------------------------------
@@ -54,20 +54,20 @@ free-slot g d x i = Members.and-l (isSlot g d x) _ (Members.and-l (isSlot g d x 
 -- One granule more ------------------------------------------------------------------------------------------------------------
 
 module _ (u : Kinds) (g : Geometry) (p m : ℕ) where
-  both-run : (d d′ : List ℕ) (e k n : ℕ) → Slot m e → k < 4 → n < granules g → Both u g m d d′ → Both u g m (withPair g d e k n) (withPair g d′ e k n)
+  both-run : (d d′ : List ℕ) (e k n : ℕ) → Slot m e → k < 4 → n < granules g → AlikePair u g m d d′ → AlikePair u g m (withPair g d e k n) (withPair g d′ e k n)
   both-run d d′ e k n t l h w = Stores.both-take u g m _ _ n h (Stores.both-pair u g m d d′ e k _ _ t l w)
 
-  both-extension : (d d′ : List ℕ) (e x : ℕ) → Slot m p → Slot m e → Slot m x → Both u g m d d′
-      → Both u g m (withExtension g p d e x) (withExtension g p d′ e x)
+  both-extension : (d d′ : List ℕ) (e x : ℕ) → Slot m p → Slot m e → Slot m x → AlikePair u g m d d′
+      → AlikePair u g m (withExtension g p d e x) (withExtension g p d′ e x)
   both-extension d d′ e x r t v w =
       let l = Stores.both-link u g m d d′ e 0xfe x t w in
       let s = Stores.both-sets u g m (newExtension e) _ _ x refl v l in
-      subst (λ (b : ℕ). Both u g m (withExtension g p d e x)
+      subst (λ (b : ℕ). AlikePair u g m (withExtension g p d e x)
       (sets (sets (setLink g d′ e 0xfe x) (entryAt g x) (newExtension e)) (hitAt g x) (b ∷ [])))
       (w .alike .hits p (Stores.is-slot u g m d p (w .tall) r))
       (Stores.both-hit u g m _ _ x (hit g d p) (Stores.not-count u g m d d′ x w v) s)
 
-  both-extended : (xs d d′ : List ℕ) (e n : ℕ) → Slot m p → Slot m e → ((x : ℕ) → In x xs → Slot m x) → n < granules g → Both u g m d d′
+  both-extended : (xs d d′ : List ℕ) (e n : ℕ) → Slot m p → Slot m e → ((x : ℕ) → In x xs → Slot m x) → n < granules g → AlikePair u g m d d′
       → BothGrown u g m (extended g p xs d e n) (extended g p xs d′ e n)
   unfolding extended
   both-extended [] d d′ e n r t f h w = BothGrown.neither
@@ -82,7 +82,7 @@ module _ (u : Kinds) (g : Geometry) (p m : ℕ) where
       (cond (ltb r 4) (grown (withPair g d e r n)) (extended g p slots d e n))
 
   both-with : (d d′ : List ℕ) (e r : ℕ) (longer : Bool) (next pair : ℕ) (slots : List ℕ) (n : ℕ) → Slot m p → Slot m e → r ≤ 4
-      → (T longer → next < granules g) → ((x : ℕ) → In x slots → Slot m x) → n < granules g → Both u g m d d′
+      → (T longer → next < granules g) → ((x : ℕ) → In x slots → Slot m x) → n < granules g → AlikePair u g m d d′
       → BothGrown u g m (takeWith e r longer next pair slots n d) (takeWith e r longer next pair slots n d′)
   both-with d d′ e r true next pair slots n v t q l f h w =
       BothGrown.both (Stores.both-take u g m _ _ next (l tt)
@@ -94,14 +94,14 @@ module _ (u : Kinds) (g : Geometry) (p m : ℕ) where
       by true z = BothGrown.both (both-run d d′ e r n t (ltb→lt r 4 (Members.true-T z)) h w)
       by false z = both-extended slots d d′ e n v t f h w
 
-  tail-same : (d d′ : List ℕ) → Alike u g d d′ → tail g p d ≡ tail g p d′
+  tail-same : (d d′ : List ℕ) → ReadAlike u g d d′ → tail g p d ≡ tail g p d′
   tail-same d d′ a = λ i. lastOr p (Reads.chain-same u g d d′ a i p)
 
-  tail-runs : (d d′ : List ℕ) → Alike u g d d′ → runs g d (tail g p d) ≡ runs g d′ (tail g p d′)
+  tail-runs : (d d′ : List ℕ) → ReadAlike u g d d′ → runs g d (tail g p d) ≡ runs g d′ (tail g p d′)
   tail-runs d d′ a = λ i. Reads.runs-same u g d d′ a i (tail-same d d′ a i)
 
   -- where there is a run
-  module _ (d d′ : List ℕ) (a : Alike u g d d′) (some : 1 ≤ runs g d (tail g p d)) where
+  module _ (d d′ : List ℕ) (a : ReadAlike u g d d′) (some : 1 ≤ runs g d (tail g p d)) where
     last-same : runs g d (tail g p d) - 1 ≡ runs g d′ (tail g p d′) - 1
     last-same = λ i. tail-runs d d′ a i - 1
 
@@ -136,11 +136,11 @@ module _ (u : Kinds) (g : Geometry) (p m : ℕ) where
   unfolding lengthens all
   no-longer d e = rw e
 
-  both-at : (n : ℕ) (d d′ : List ℕ) → Slot m p → Slot m (tail g p d) → n < granules g → Both u g m d d′
+  both-at : (n : ℕ) (d d′ : List ℕ) → Slot m p → Slot m (tail g p d) → n < granules g → AlikePair u g m d d′
       → BothGrown u g m (takeAt g p n d) (takeAt g p n d′)
   both-at n d d′ v t h w = go (decLt 0 (runs g d (tail g p d)))
     where
-      a : Alike u g d d′
+      a : ReadAlike u g d d′
       a = w .alike
 
       slots : (x : ℕ) → In x (freeSlots g d) → Slot m x
@@ -168,12 +168,12 @@ module _ (u : Kinds) (g : Geometry) (p m : ℕ) where
           (both-with d d′ e r false 0 0 xs n v t (Entry.runs-le g d e) (λ y. absurd y) slots h w))
 
   -- k more, by a choice that is the same of both
-  pub record Chooses (choice : List ℕ → ℕ) : Type 0 where
+  pub record ChoosesAlike (choice : List ℕ → ℕ) : Type 0 where
     pub free : Grow.Chooses g choice
-    pub same : (d d′ : List ℕ) → Alike u g d d′ → choice d ≡ choice d′
+    pub same : (d d′ : List ℕ) → ReadAlike u g d d′ → choice d ≡ choice d′
 
-  both-by : (choice : List ℕ → ℕ) → Chooses choice → (k : ℕ) (d d′ : List ℕ) → Sound g d → Places.Fits g d → IsFile g d p → T (not (system g d p))
-      → k ≤ length (freeGranules g d) → Both u g m d d′ → BothGrown u g m (growBy g p choice k d) (growBy g p choice k d′)
+  both-by : (choice : List ℕ → ℕ) → ChoosesAlike choice → (k : ℕ) (d d′ : List ℕ) → Sound g d → Places.Fits g d → IsFile g d p → T (not (system g d p))
+      → k ≤ length (freeGranules g d) → AlikePair u g m d d′ → BothGrown u g m (growBy g p choice k d) (growBy g p choice k d′)
   unfolding growBy andThen
   both-by choice ch zero d d′ c l f us room w = BothGrown.both w
   both-by choice ch (suc k) d d′ c l f us room w =
@@ -188,15 +188,15 @@ module _ (u : Kinds) (g : Geometry) (p m : ℕ) where
       next e z = ap (λ (x : Grown). andThen x (growBy g p choice 0)) z
 
       go : {x y : Grown} → takeAt g p (choice d) d ≡ x → BothGrown u g m x y
-          → ((e e′ : List ℕ) → Grow.Grew g d e p 1 → Both u g m e e′ → BothGrown u g m (growBy g p choice k e) (growBy g p choice k e′))
+          → ((e e′ : List ℕ) → Grow.Grew g d e p 1 → AlikePair u g m e e′ → BothGrown u g m (growBy g p choice k e) (growBy g p choice k e′))
           → BothGrown u g m (andThen x (growBy g p choice k)) (andThen y (growBy g p choice k))
       go z (BothGrown.both {d = e} {d′ = e′} v) ih = ih e e′ (Grow.growBy-grew g choice (ch .free) 1 d e p c l f us (omega arith) (next e z)) v
       go z BothGrown.neither ih = BothGrown.neither
 
-  lowest-chooses : Chooses (lowestFree g)
+  lowest-chooses : ChoosesAlike (lowestFree g)
   lowest-chooses = record { free = TakeOne.first-free g; same = Reads.lowestFree-same u g }
 
-  longest-chooses : Chooses (longestFree g)
+  longest-chooses : ChoosesAlike (longestFree g)
   longest-chooses = record { free = Grow.longest-chooses g; same = Reads.longestFree-same u g }
 
   or-else : {x y x′ y′ : Grown} → BothGrown u g m x y → BothGrown u g m x′ y′ → BothGrown u g m (orElse x x′) (orElse y y′)
@@ -205,7 +205,7 @@ module _ (u : Kinds) (g : Geometry) (p m : ℕ) where
   or-else BothGrown.neither w = w
 
   pub both-growth : (k : ℕ) (d d′ : List ℕ) → Sound g d → Places.Fits g d → IsFile g d p → T (not (system g d p)) → k ≤ length (freeGranules g d)
-      → Both u g m d d′ → BothGrown u g m (growth g p k d) (growth g p k d′)
+      → AlikePair u g m d d′ → BothGrown u g m (growth g p k d) (growth g p k d′)
   unfolding growth
   both-growth k d d′ c l f us room w =
       or-else (both-by (lowestFree g) lowest-chooses k d d′ c l f us room w) (both-by (longestFree g) longest-chooses k d d′ c l f us room w)
@@ -215,7 +215,8 @@ unfolding fails
 both-fail (BothGrown.both v) = refl
 both-fail BothGrown.neither = refl
 
-pub both-disk : {u : Kinds} {g : Geometry} {m : ℕ} {x y : Grown} {d d′ : List ℕ} → BothGrown u g m x y → Both u g m d d′ → Both u g m (diskOr d x) (diskOr d′ y)
+pub both-disk : {u : Kinds} {g : Geometry} {m : ℕ} {x y : Grown} {d d′ : List ℕ} → BothGrown u g m x y → AlikePair u g m d d′
+    → AlikePair u g m (diskOr d x) (diskOr d′ y)
 unfolding diskOr
 both-disk (BothGrown.both v) w = v
 both-disk BothGrown.neither w = w
@@ -232,21 +233,21 @@ module _ (u : Kinds) (g : Geometry) (p m : ℕ) where
       (n - 1)
 
   -- 80H has bit 7
-  both-unhooked : (d d′ : List ℕ) (e back : ℕ) → Slot m e → Slot m back → Both u g m d d′ → Both u g m (unhooked g d e back) (unhooked g d′ e back)
+  both-unhooked : (d d′ : List ℕ) (e back : ℕ) → Slot m e → Slot m back → AlikePair u g m d d′ → AlikePair u g m (unhooked g d e back) (unhooked g d′ e back)
   unfolding unhooked digit
   both-unhooked d d′ e back t v w =
       Stores.both-link u g m _ _ back 0xff 0xff v (Stores.both-link u g m _ _ e 0xff 0xff t
       (Stores.both-hit u g m _ _ e 0 (Stores.not-count u g m d d′ e w t) (Stores.both-flag u g m d d′ e 0x80 t (inr refl) w)))
 
   both-drop-with : (d d′ : List ℕ) (e k pair : ℕ) (ext : Bool) (back n : ℕ) → Slot m e → (T ext → Slot m back) → k < 4 → n - 1 < granules g
-      → Both u g m d d′ → Both u g m (dropWith e k pair ext back n d) (dropWith e k pair ext back n d′)
+      → AlikePair u g m d d′ → AlikePair u g m (dropWith e k pair ext back n d) (dropWith e k pair ext back n d′)
   both-drop-with d d′ e k pair ext back n t v l h w = Stores.both-free u g m _ _ (n - 1) h (by (ltb 1 (pairLength pair)) ext (eqb k 0) v)
     where
-      emptied : Both u g m (setPair g d e k 0xff 0xff) (setPair g d′ e k 0xff 0xff)
+      emptied : AlikePair u g m (setPair g d e k 0xff 0xff) (setPair g d′ e k 0xff 0xff)
       emptied = Stores.both-pair u g m d d′ e k 0xff 0xff t l w
 
       by : (b c z : Bool) → (T c → Slot m back)
-          → Both u g m (cond b (setField g d e (0x17 + 2 * k) (pair - 1))
+          → AlikePair u g m (cond b (setField g d e (0x17 + 2 * k) (pair - 1))
           (cond (c && z) (unhooked g (setPair g d e k 0xff 0xff) e back) (setPair g d e k 0xff 0xff)))
           (cond b (setField g d′ e (0x17 + 2 * k) (pair - 1)) (cond (c && z) (unhooked g (setPair g d′ e k 0xff 0xff) e back) (setPair g d′ e k 0xff 0xff)))
       by true c z y = Stores.both-field u g m d d′ e (0x17 + 2 * k) (pair - 1) t (omega arith) (omega arith) (omega arith) (λ j q. omega arith) w
@@ -254,7 +255,7 @@ module _ (u : Kinds) (g : Geometry) (p m : ℕ) where
       by false true false y = emptied
       by false false z y = emptied
 
-  module _ (d d′ : List ℕ) (c : Sound g d) (k : Places.Fits g d) (f : IsFile g d p) (some : 1 ≤ length (owned g d p)) (w : Both u g m d d′) where
+  module _ (d d′ : List ℕ) (c : Sound g d) (k : Places.Fits g d) (f : IsFile g d p) (some : 1 ≤ length (owned g d p)) (w : AlikePair u g m d d′) where
     abbrev e : ℕ
     e = tail g p d
 
@@ -274,11 +275,11 @@ module _ (u : Kinds) (g : Geometry) (p m : ℕ) where
         let b = DropLast.before-tail g d c p f later .0 in
         Stores.of-slot u g m d (field g d e 1) (w .tall) (Change.members g d c p (field g d e 1) f b .slot)
 
-    pub both-drop : Both u g m (dropOne g p d) (dropOne g p d′)
+    pub both-drop : AlikePair u g m (dropOne g p d) (dropOne g p d′)
     unfolding dropOne
     both-drop =
         let a = w .alike in
-        subst (Both u g m (dropOne g p d))
+        subst (AlikePair u g m (dropOne g p d))
         (λ i. dropWith (tail-same u g p m d d′ a i) (tail-runs u g p m d d′ a i - 1) (pair-same u g p m d d′ a run i)
         (bit 7 (Reads.flags u g d d′ a i (tail-same u g p m d d′ a i))) (Reads.ones u g d d′ a i (tail-same u g p m d d′ a i))
         (after-same u g p m d d′ a run i) d′)
@@ -287,8 +288,8 @@ module _ (u : Kinds) (g : Geometry) (p m : ℕ) where
 
   -- k granules less, of a file that is larger than its size by so many
   pub both-times : (k : ℕ) (d d′ : List ℕ) → Sound g d → Places.Fits g d → IsFile g d p → T (not (system g d p))
-      → sizeOf g d p + granuleBytes g * k ≤ granuleBytes g * length (owned g d p) → Both u g m d d′
-      → Both u g m (times k (dropOne g p) d) (times k (dropOne g p) d′)
+      → sizeOf g d p + granuleBytes g * k ≤ granuleBytes g * length (owned g d p) → AlikePair u g m d d′
+      → AlikePair u g m (times k (dropOne g p) d) (times k (dropOne g p) d′)
   both-times zero d d′ c l f us room w = w
   both-times (suc k) d d′ c l f us room w =
       let x = DropLast.drop-one g d c l p f us (omega arith) in

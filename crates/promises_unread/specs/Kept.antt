@@ -43,7 +43,7 @@ use Rattle.laws.specs.Places
 use Rattle.laws.specs.Named
 use Rattle.laws.specs.Others
 use Rattle.laws.specs.Passed
-use Rattle.promises_unread.specs.Statement.{Kinds, EntryAlike, Outside, Alike, Unread, EveryPlace, EverySeries, Apart, Same, EveryCall, EveryDisk}
+use Rattle.promises_unread.specs.Statement.{Kinds, EntryAlike, Outside, ReadAlike, Unread, EveryPlace, EverySeries, Apart, Same, EveryCall, EveryDisk}
 use Rattle.promises_unread.specs.Statement.{EveryBack}
 use Rattle.promises_unread.specs.Statement.{EveryPair, EveryLoad}
 use Rattle.promises_unread.specs.Reads
@@ -84,7 +84,7 @@ module _ (u : Kinds) (g : Geometry) (d : List ℕ) (k : Places.Fits g d) where
   -- a store to a place of GAT or HIT that is not 1FH, after which the granules' bits and the slots' HIT bytes are as they were
   stored : (i v : ℕ) → 256 * g .start ≤ i → i < 256 * (g .start + 2) → i ≢ hitAt g 0x1f
       → ((n : ℕ) → n < granules g → taken g d n ≡ taken g (set d i v) n)
-      → ((s : ℕ) → T (isSlot g d s) → i ≢ hitAt g s) → Alike u g d (set d i v)
+      → ((s : ℕ) → T (isSlot g d s) → i ≢ hitAt g s) → ReadAlike u g d (set d i v)
   unfolding hit field
   stored i v low high away bits slots = record {
     long = sym (length-set d i v);
@@ -111,7 +111,7 @@ module _ (u : Kinds) (g : Geometry) (d : List ℕ) (k : Places.Fits g d) where
   entered : (s j v : ℕ) → T (isSlot g d s) → j < 32 → j ≢ 0 → j ≢ 1 → j ≢ 0x1e → ((i : ℕ) → i < 4 → j ≢ 0x16 + 2 * i)
       → (2 ≤ j → j < 0x16 → (u .extensions && bit 7 (field g d s 0)) ≡ false → ⊥)
       → ((i : ℕ) → i < 4 → j ≡ 0x17 + 2 * i → (u .behind && eqb (field g d s (0x16 + 2 * i)) 0xff) ≡ false → ⊥)
-      → (j ≡ 0x1f → (u .behind && not (eqb (field g d s 0x1e) 0xfe)) ≡ false → ⊥) → Alike u g d (set d (entryAt g s + j) v)
+      → (j ≡ 0x1f → (u .behind && not (eqb (field g d s 0x1e) 0xfe)) ≡ false → ⊥) → ReadAlike u g d (set d (entryAt g s + j) v)
   unfolding hit taken field
   entered s j v t l n₀ n₁ n₂ n₃ low second link = record {
     long = sym (length-set d at v);
@@ -155,7 +155,7 @@ module _ (u : Kinds) (g : Geometry) (d : List ℕ) (k : Places.Fits g d) where
   both-true : (b c : Bool) → b ≡ true → c ≡ true → (b && c) ≡ false → ⊥
   both-true b c e q z = Tests.not-both (ap (λ (x : Bool). x && c) e ∙ q) z
 
-  placed : (i v : ℕ) → Unread u g d i v → Alike u g d (set d i v)
+  placed : (i v : ℕ) → Unread u g d i v → ReadAlike u g d (set d i v)
   unfolding taken
   placed _ _ (Unread.pastBlocks b v l h) =
       stored (256 * g .start + b) v (omega arith) (omega arith) (omega arith)
@@ -225,7 +225,7 @@ data FoundAlike : Found → Found → Type 0 where
   none : FoundAlike nothing nothing
   some′ : {f f′ : File} → f .attributes ≡ f′ .attributes → (isSystem f ≡ false → f ≡ f′) → FoundAlike (found f) (found f′)
 
-module _ (u : Kinds) (g : Geometry) (d d′ : List ℕ) (a : Alike u g d d′) (s : Passed.Served g d) where
+module _ (u : Kinds) (g : Geometry) (d d′ : List ℕ) (a : ReadAlike u g d d′) (s : Passed.Served g d) where
   file-same : (p : ℕ) → IsFile g d p → FoundAlike (found (fileAt g d p)) (found (fileAt g d′ p))
   unfolding fileAt
   file-same p f = FoundAlike.some′ attributes (λ (e : isSystem (fileAt g d p) ≡ false).
@@ -260,7 +260,7 @@ names-eq : (f h : ℕ → List ℕ) (xs : List ℕ) → ((x : ℕ) → In x xs �
 names-eq f h [] e = refl
 names-eq f h (x ∷ xs) e = let p = e x Members.In.here in let q = names-eq f h xs (λ y j. e y (Members.In.there j)) in λ i. p i ∷ q i
 
-names-same : (u : Kinds) (g : Geometry) (d d′ : List ℕ) → Alike u g d d′ → names g d ≡ names g d′
+names-same : (u : Kinds) (g : Geometry) (d d′ : List ℕ) → ReadAlike u g d d′ → names g d ≡ names g d′
 unfolding names
 names-same u g d d′ a =
     names-eq (nameOf g d) (nameOf g d′) (files g d) (λ p j. Reads.name-at u g d d′ a p (Reads.is-first u g d d′ a p (Facts.files-in g d p j)))
@@ -281,7 +281,7 @@ difference-same n (FoundAlike.some′ {f = f} {f′ = f′} e h) (FoundAlike.som
     no-one false true z = Tests.not-both refl z
     no-one true c z = Tests.not-both refl z
 
-module _ (u : Kinds) (g h : Geometry) (d d′ e e′ : List ℕ) (a : Alike u g d d′) (b : Alike u h e e′) where
+module _ (u : Kinds) (g h : Geometry) (d d′ e e′ : List ℕ) (a : ReadAlike u g d d′) (b : ReadAlike u h e e′) where
   differences-same : Passed.Served g d → Passed.Served h e → differences g d h e ≡ differences g d′ h e′
   unfolding differences merged
   differences-same s t =
@@ -325,7 +325,7 @@ load-high bs i n z l = ne-eqb n (recordFrom bs i .number) (λ q. go (First.first
         by true e t = z (q ∙ eqb→eq k 0 (Members.true-T e))
         by false e t = let w = lib.Dec.leb→le 31 k t in omega arith
 
-module _ (u : Kinds) (g : Geometry) (d d′ : List ℕ) (a : Alike u g d d′) (x : Handle) (b : List ℕ) (o : Apart g d (x .slot)) where
+module _ (u : Kinds) (g : Geometry) (d d′ : List ℕ) (a : ReadAlike u g d d′) (x : Handle) (b : List ℕ) (o : Apart g d (x .slot)) where
   abbrev range : Bool
   range = all (inRange g x ∷ leb mostBytes (length b) ∷ [])
 

@@ -43,7 +43,7 @@ use Rattle.laws.specs.Fault as LawsFault
 use Rattle.laws.specs.Frame
 use Rattle.laws.specs.Kinds as LawsKinds
 use Rattle.laws.specs.Walk
-use Rattle.promises_unread.specs.Statement.{Kinds, EntryAlike, Alike}
+use Rattle.promises_unread.specs.Statement.{Kinds, EntryAlike, ReadAlike}
 
 -- a test made only where an earlier one failed
 pub unless : {A : Type 0} (b : Bool) (z x y : A) → (b ≡ false → x ≡ y) → cond b z x ≡ cond b z y
@@ -98,7 +98,7 @@ pub one-slot : (start x y : ℕ) → x < 256 → y < 256 → 256 * (start + 2 + 
 one-slot start x y h l e =
     let q = Sizes.same-width {w = 8} (x % 32) (y % 32) (x / 32) (y / 32) (omega arith) (omega arith) (omega arith) in omega (arith, q)
 
-module _ (u : Kinds) (g : Geometry) (d d′ : List ℕ) (a : Alike u g d d′) where
+module _ (u : Kinds) (g : Geometry) (d d′ : List ℕ) (a : ReadAlike u g d d′) where
   -- an entry's place is that of some slot's, or it has no byte of a slot's entry
   pub any-entry : (s : ℕ) → EntryAlike u (field g d s) (field g d′ s)
   unfolding field
@@ -567,7 +567,7 @@ module _ (t t′ : ℕ → Bool) where
       let r = lowEnd-eq ns (λ m j. f m (Members.In.there j)) in
       λ i. cond (leb (l i) (e i)) n (r i)
 
-module _ (u : Kinds) (g : Geometry) (d d′ : List ℕ) (a : Alike u g d d′) where
+module _ (u : Kinds) (g : Geometry) (d d′ : List ℕ) (a : ReadAlike u g d d′) where
   on-disk : (n : ℕ) → In n (count 0 (granules g)) → taken g d n ≡ taken g d′ n
   on-disk n j = a .gat n (omega (arith, Members.count-in n 0 (granules g) j))
 

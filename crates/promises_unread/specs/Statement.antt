@@ -62,7 +62,7 @@ Outside g d i =
     (i < 256 * g .start) ⊎ ((256 * (g .start + 2) ≤ i) × ((s : ℕ) → T (isSlot g d s) → (i < entryAt g s) ⊎ (entryAt g s + 32 ≤ i)))
 
 -- Images of one length, alike but for GAT bytes past the last block, GAT bits past the last unit, HIT places of no slot and those further kinds.
-pub record Alike (u : Kinds) (g : Geometry) (d d′ : List ℕ) : Type 0 where
+pub record ReadAlike (u : Kinds) (g : Geometry) (d d′ : List ℕ) : Type 0 where
   pub long : length d ≡ length d′
   -- outside the GAT, the HIT and the entries every byte
   pub rest : (i : ℕ) → Outside g d i → byte d i ≡ byte d′ i
@@ -91,14 +91,14 @@ pub data Unread (u : Kinds) (g : Geometry) (d : List ℕ) : ℕ → ℕ → Type
 
 -- It leaves an image that is alike; so do several of them.
 abbrev pub EveryPlace : Type 0
-EveryPlace = (u : Kinds) (g : Geometry) (d : List ℕ) → fitsGeometry g d ≡ true → (i v : ℕ) → Unread u g d i v → Alike u g d (set d i v)
+EveryPlace = (u : Kinds) (g : Geometry) (d : List ℕ) → fitsGeometry g d ≡ true → (i v : ℕ) → Unread u g d i v → ReadAlike u g d (set d i v)
 
 abbrev pub EverySeries : Type 0
-EverySeries = (u : Kinds) (g : Geometry) (d d′ d″ : List ℕ) → Alike u g d d′ → Alike u g d′ d″ → Alike u g d d″
+EverySeries = (u : Kinds) (g : Geometry) (d d′ d″ : List ℕ) → ReadAlike u g d d′ → ReadAlike u g d′ d″ → ReadAlike u g d d″
 
 -- The answer and the image of a call that writes: the one is the same, the other alike.
 abbrev pub AlikeLeft : {A : Type 0} → Kinds → Geometry → A × List ℕ → A × List ℕ → Type 0
-AlikeLeft u g x y = (x .0 ≡ y .0) × Alike u g (x .1) (y .1)
+AlikeLeft u g x y = (x .0 ≡ y .0) × ReadAlike u g (x .1) (y .1)
 
 -- A file of the system may own granules of the directory (01: "Directory granules are in no run of a file without the system flag"), and who reads
 -- it reads whatever stands there. Of all other files this is no premise where the call is accepted.
@@ -124,22 +124,22 @@ Same u g d d′ counts = Listing.counts g d ≡ Listing.counts g d′
 Same u g d d′ measures = freeSpace g d ≡ freeSpace g d′
 
 abbrev pub EveryCall : Type 0
-EveryCall = (u : Kinds) (g : Geometry) (d d′ : List ℕ) → Alike u g d d′ → (c : Call) → Same u g d d′ c
+EveryCall = (u : Kinds) (g : Geometry) (d d′ : List ℕ) → ReadAlike u g d d′ → (c : Call) → Same u g d d′ c
 
 -- 01's own word
 abbrev pub EveryDisk : Type 0
-EveryDisk = (u : Kinds) (g : Geometry) (d d′ : List ℕ) → Alike u g d d′ → consistent g d ≡ consistent g d′
+EveryDisk = (u : Kinds) (g : Geometry) (d d′ : List ℕ) → ReadAlike u g d d′ → consistent g d ≡ consistent g d′
 
 -- bring back (02 §11)
 abbrev pub EveryBack : Type 0
-EveryBack = (u : Kinds) (g : Geometry) (d d′ : List ℕ) → Alike u g d d′ → (s : ℕ) → AlikeLeft u g (bringBack g d s) (bringBack g d′ s)
+EveryBack = (u : Kinds) (g : Geometry) (d d′ : List ℕ) → ReadAlike u g d d′ → (s : ℕ) → AlikeLeft u g (bringBack g d s) (bringBack g d′ s)
 
 -- compare (02 §1), either image
 abbrev pub EveryPair : Type 0
 EveryPair =
-    (u : Kinds) (g h : Geometry) (d d′ e e′ : List ℕ) → Alike u g d d′ → Alike u h e e′ → (i : ℕ) → compare g d h e i ≡ compare g d′ h e′ i
+    (u : Kinds) (g h : Geometry) (d d′ e e′ : List ℕ) → ReadAlike u g d d′ → ReadAlike u h e e′ → (i : ℕ) → compare g d h e i ≡ compare g d′ h e′ i
 
 -- read program files (02 §12): the numbers 31 to 33 hang on the file's bytes
 abbrev pub EveryLoad : Type 0
 EveryLoad =
-    (u : Kinds) (g : Geometry) (d d′ : List ℕ) → Alike u g d d′ → (x : Handle) (b : List ℕ) → Apart g d (x .slot) → loadRecord g d x b ≡ loadRecord g d′ x b
+    (u : Kinds) (g : Geometry) (d d′ : List ℕ) → ReadAlike u g d d′ → (x : Handle) (b : List ℕ) → Apart g d (x .slot) → loadRecord g d x b ≡ loadRecord g d′ x b

@@ -25,12 +25,12 @@ use Rattle.lists.specs.Tests
 use Rattle.laws.specs.Frame
 use Rattle.laws.specs.Places
 use Rattle.laws.specs.Words.{words}
-use Rattle.promises_unread.specs.Statement.{Kinds, EntryAlike, Outside, Alike}
+use Rattle.promises_unread.specs.Statement.{Kinds, EntryAlike, Outside, ReadAlike}
 use Rattle.promises_unread.specs.Reads.{whole-alike, one-slot}
 
 -- Two images that are alike, of a geometry that fits them, with a directory that fits, of 10 sectors and m
-pub record Both (u : Kinds) (g : Geometry) (m : ℕ) (d d′ : List ℕ) : Type 0 where
-  pub alike : Alike u g d d′
+pub record AlikePair (u : Kinds) (g : Geometry) (m : ℕ) (d d′ : List ℕ) : Type 0 where
+  pub alike : ReadAlike u g d d′
   pub fits : Places.Fits g d
   pub dir : Places.Dir g d
   pub tall : aboveTen g d ≡ m
@@ -190,7 +190,7 @@ module _ (u : Kinds) (g : Geometry) (m : ℕ) where
   abbrev pub NoEntry : List ℕ → ℕ → Type 0
   NoEntry d i = (s : ℕ) → T (isSlot g d s) → (i < entryAt g s) ⊎ (entryAt g s + 32 ≤ i)
 
-  both-in : (d d′ : List ℕ) (i v : ℕ) → i ≢ hitAt g 0x1f → NoEntry d i → i < length d → Both u g m d d′ → Both u g m (set d i v) (set d′ i v)
+  both-in : (d d′ : List ℕ) (i v : ℕ) → i ≢ hitAt g 0x1f → NoEntry d i → i < length d → AlikePair u g m d d′ → AlikePair u g m (set d i v) (set d′ i v)
   unfolding taken hit field
   both-in d d′ i v n o b w =
       let a = w .alike in
@@ -236,26 +236,26 @@ module _ (u : Kinds) (g : Geometry) (m : ℕ) where
           ∙ sym (ap (bit (k % g .units)) (getD-set-other d′ i (gatAt g k) v 0 q))
 
   -- past the end nothing is stored
-  pub both-store : (d d′ : List ℕ) (i v : ℕ) → i ≢ hitAt g 0x1f → NoEntry d i → Both u g m d d′ → Both u g m (set d i v) (set d′ i v)
+  pub both-store : (d d′ : List ℕ) (i v : ℕ) → i ≢ hitAt g 0x1f → NoEntry d i → AlikePair u g m d d′ → AlikePair u g m (set d i v) (set d′ i v)
   both-store d d′ i v n o w = go (decLt i (length d))
     where
-      go : Dec (i < length d) → Both u g m (set d i v) (set d′ i v)
+      go : Dec (i < length d) → AlikePair u g m (set d i v) (set d′ i v)
       go (yes b) = both-in d d′ i v n o b w
       go (no b) = rw (set-out d i v (omega arith), set-out d′ i v (omega (arith, w .alike .long))) w
 
   -- a slot is below 256, and not 1FH
-  pub not-count : (d d′ : List ℕ) (x : ℕ) → Both u g m d d′ → Slot m x → (x < 256) × (x ≢ 0x1f)
+  pub not-count : (d d′ : List ℕ) (x : ℕ) → AlikePair u g m d d′ → Slot m x → (x < 256) × (x ≢ 0x1f)
   unfolding words
   not-count d d′ x w t = let s = Places.slot g d x (is-slot d x (w .tall) t) in (s .low, λ q. omega (arith, s .sector, w .dir .small, q))
 
   -- the HIT byte of a slot
-  pub both-hit : (d d′ : List ℕ) (x v : ℕ) → (x < 256) × (x ≢ 0x1f) → Both u g m d d′ → Both u g m (set d (hitAt g x) v) (set d′ (hitAt g x) v)
+  pub both-hit : (d d′ : List ℕ) (x v : ℕ) → (x < 256) × (x ≢ 0x1f) → AlikePair u g m d d′ → AlikePair u g m (set d (hitAt g x) v) (set d′ (hitAt g x) v)
   both-hit d d′ x v t w = let n = t .1 in both-store d d′ (hitAt g x) v (λ q. n (omega arith)) (λ s r. inl (omega (arith, t .0))) w
 
   -- bytes of a file outside the directory, whose places f tells
   pub both-bytes : (f : ℕ → ℕ) (bs d d′ : List ℕ) (i : ℕ)
       → ((k : ℕ) → i ≤ k → k < i + length bs → (f k < 256 * g .start) ⊎ (256 * (g .start + directorySectors g d) ≤ f k))
-      → Both u g m d d′ → Both u g m (store f d i bs) (store f d′ i bs)
+      → AlikePair u g m d d′ → AlikePair u g m (store f d i bs) (store f d′ i bs)
   unfolding store directorySectors
   both-bytes f [] d d′ i h w = w
   both-bytes f (b ∷ bs) d d′ i h w =
@@ -276,12 +276,12 @@ module _ (u : Kinds) (g : Geometry) (m : ℕ) where
   -- Bytes of one entry -------------------------------------------------------------------------------------------------------------
 
   -- from d by stores to the entry at s, whose bytes become F of what they were
-  record Wrote (s : ℕ) (F : (ℕ → ℕ) → ℕ → ℕ) (d e : List ℕ) : Type 0 where
+  record EntryStored (s : ℕ) (F : (ℕ → ℕ) → ℕ → ℕ) (d e : List ℕ) : Type 0 where
     long : length e ≡ length d
     out : (i : ℕ) → (i < entryAt g s) ⊎ (entryAt g s + 32 ≤ i) → byte e i ≡ byte d i
     in′ : entryAt g s + 31 < length d → (k : ℕ) → k < 32 → field g e s k ≡ F (field g d s) k
 
-  wrote-one : (s k v : ℕ) (d : List ℕ) → k < 32 → Wrote s (λ f. put f k v) d (setField g d s k v)
+  wrote-one : (s k v : ℕ) (d : List ℕ) → k < 32 → EntryStored s (λ f. put f k v) d (setField g d s k v)
   unfolding setField field put
   wrote-one s k v d h = record {
     long = length-set d (entryAt g s + k) v;
@@ -298,7 +298,7 @@ module _ (u : Kinds) (g : Geometry) (m : ℕ) where
       by l j (yes e) = rw (e, eq-eqb k k refl) (getD-set-same d (entryAt g s + k) v 0 (omega arith))
       by l j (no n) = rw (ne-eqb j k n) (getD-set-other d (entryAt g s + k) (entryAt g s + j) v 0 (λ q. n (omega arith)))
 
-  wrote-two : (s k v j w : ℕ) (d : List ℕ) → k < 32 → j < 32 → Wrote s (λ f. put (put f k v) j w) d (setField g (setField g d s k v) s j w)
+  wrote-two : (s k v j w : ℕ) (d : List ℕ) → k < 32 → j < 32 → EntryStored s (λ f. put (put f k v) j w) d (setField g (setField g d s k v) s j w)
   wrote-two s k v j w d h l =
       let x = wrote-one s k v d h in let y = wrote-one s j w (setField g d s k v) l in
       record {
@@ -307,7 +307,7 @@ module _ (u : Kinds) (g : Geometry) (m : ℕ) where
         in′ = λ q i z. y .in′ (omega (arith, x .long)) i z ∙ put-eq (field g (setField g d s k v) s) (put (field g d s) k v) j w i (x .in′ q i z);
       }
 
-  wrote-all : (s : ℕ) (vs d : List ℕ) → length vs ≡ 32 → Wrote s (λ f k. byte vs k) d (sets d (entryAt g s) vs)
+  wrote-all : (s : ℕ) (vs d : List ℕ) → length vs ≡ 32 → EntryStored s (λ f k. byte vs k) d (sets d (entryAt g s) vs)
   unfolding field
   wrote-all s vs d l = record {
     long = length-sets d (entryAt g s) vs;
@@ -320,8 +320,8 @@ module _ (u : Kinds) (g : Geometry) (m : ℕ) where
       over i (inr o) = inr (omega arith)
 
   -- the same bytes of the entry at a slot, on both: the rest of the two images is as it was
-  both-wrote : (s : ℕ) (F : (ℕ → ℕ) → ℕ → ℕ) (d d′ e e′ : List ℕ) → Slot m s → Wrote s F d e → Wrote s F d′ e′
-      → (EntryAlike u (field g d s) (field g d′ s) → EntryAlike u (F (field g d s)) (F (field g d′ s))) → Both u g m d d′ → Both u g m e e′
+  both-wrote : (s : ℕ) (F : (ℕ → ℕ) → ℕ → ℕ) (d d′ e e′ : List ℕ) → Slot m s → EntryStored s F d e → EntryStored s F d′ e′
+      → (EntryAlike u (field g d s) (field g d′ s) → EntryAlike u (F (field g d s)) (F (field g d′ s))) → AlikePair u g m d d′ → AlikePair u g m e e′
   unfolding taken hit field
   both-wrote s F d d′ e e′ slot x x′ q w =
       let a = w .alike in
@@ -374,33 +374,35 @@ module _ (u : Kinds) (g : Geometry) (m : ℕ) where
 
   -- a byte on which nothing hangs that is read
   pub both-field : (d d′ : List ℕ) (s k v : ℕ) → Slot m s → k < 32 → k ≢ 0 → k ≢ 0x1e → ((j : ℕ) → j < 4 → k ≢ 0x16 + 2 * j)
-      → Both u g m d d′ → Both u g m (setField g d s k v) (setField g d′ s k v)
+      → AlikePair u g m d d′ → AlikePair u g m (setField g d s k v) (setField g d′ s k v)
   both-field d d′ s k v t h n l b w = both-wrote s _ d d′ _ _ t (wrote-one s k v d h) (wrote-one s k v d′ h) (λ a. put-simple u _ _ a k v n l b) w
 
   -- the flags, bit 7 as it was, or set
-  pub both-flag : (d d′ : List ℕ) (s v : ℕ) → Slot m s → (bit 7 v ≡ bit 7 (field g d s 0)) ⊎ (bit 7 v ≡ true) → Both u g m d d′
-      → Both u g m (setField g d s 0 v) (setField g d′ s 0 v)
+  pub both-flag : (d d′ : List ℕ) (s v : ℕ) → Slot m s → (bit 7 v ≡ bit 7 (field g d s 0)) ⊎ (bit 7 v ≡ true) → AlikePair u g m d d′
+      → AlikePair u g m (setField g d s 0 v) (setField g d′ s 0 v)
   both-flag d d′ s v t e w = both-wrote s _ d d′ _ _ t (wrote-one s 0 v d (omega arith)) (wrote-one s 0 v d′ (omega arith)) (λ a. put-flags u _ _ a v e) w
 
   -- a pair
-  pub both-pair : (d d′ : List ℕ) (s k x y : ℕ) → Slot m s → k < 4 → Both u g m d d′ → Both u g m (setPair g d s k x y) (setPair g d′ s k x y)
+  pub both-pair : (d d′ : List ℕ) (s k x y : ℕ) → Slot m s → k < 4 → AlikePair u g m d d′ → AlikePair u g m (setPair g d s k x y) (setPair g d′ s k x y)
   both-pair d d′ s k x y t h w =
       both-wrote s _ d d′ _ _ t (wrote-two s (0x16 + 2 * k) x (0x17 + 2 * k) y d (omega arith) (omega arith))
       (wrote-two s (0x16 + 2 * k) x (0x17 + 2 * k) y d′ (omega arith) (omega arith)) (λ a. put-pair u _ _ a k x y h) w
 
   -- marker and link
-  pub both-link : (d d′ : List ℕ) (s x y : ℕ) → Slot m s → Both u g m d d′ → Both u g m (setLink g d s x y) (setLink g d′ s x y)
+  pub both-link : (d d′ : List ℕ) (s x y : ℕ) → Slot m s → AlikePair u g m d d′ → AlikePair u g m (setLink g d s x y) (setLink g d′ s x y)
   both-link d d′ s x y t w =
       both-wrote s _ d d′ _ _ t (wrote-two s 0x1e x 0x1f y d (omega arith) (omega arith)) (wrote-two s 0x1e x 0x1f y d′ (omega arith) (omega arith))
       (λ a. put-link u _ _ a x y) w
 
   -- a whole entry
-  pub both-sets : (vs d d′ : List ℕ) (s : ℕ) → length vs ≡ 32 → Slot m s → Both u g m d d′ → Both u g m (sets d (entryAt g s) vs) (sets d′ (entryAt g s) vs)
+  pub both-sets : (vs d d′ : List ℕ) (s : ℕ) → length vs ≡ 32 → Slot m s → AlikePair u g m d d′
+      → AlikePair u g m (sets d (entryAt g s) vs) (sets d′ (entryAt g s) vs)
   both-sets vs d d′ s l t w = both-wrote s _ d d′ _ _ t (wrote-all s vs d l) (wrote-all s vs d′ l) (λ a. whole-alike u _ _ (λ k h. refl)) w
 
   -- One bit of the GAT ---------------------------------------------------------------------------------------------------------------
 
-  pub both-mark : (v : ℕ) → v < 2 → (d d′ : List ℕ) (n : ℕ) → n < granules g → Both u g m d d′ → Both u g m (Places.marked g v d n) (Places.marked g v d′ n)
+  pub both-mark : (v : ℕ) → v < 2 → (d d′ : List ℕ) (n : ℕ) → n < granules g → AlikePair u g m d d′
+      → AlikePair u g m (Places.marked g v d n) (Places.marked g v d′ n)
   unfolding taken hit field
   both-mark v l d d′ n h w =
       let a = w .alike in
@@ -451,18 +453,18 @@ module _ (u : Kinds) (g : Geometry) (m : ℕ) where
           )
           (w .alike .gat k b)
 
-  pub both-take : (d d′ : List ℕ) (n : ℕ) → n < granules g → Both u g m d d′ → Both u g m (takeGranule g d n) (takeGranule g d′ n)
+  pub both-take : (d d′ : List ℕ) (n : ℕ) → n < granules g → AlikePair u g m d d′ → AlikePair u g m (takeGranule g d n) (takeGranule g d′ n)
   unfolding takeGranule
   both-take d d′ n h w = both-mark 1 (omega arith) d d′ n h w
 
-  pub both-free : (d d′ : List ℕ) (n : ℕ) → n < granules g → Both u g m d d′ → Both u g m (freeGranule g d n) (freeGranule g d′ n)
+  pub both-free : (d d′ : List ℕ) (n : ℕ) → n < granules g → AlikePair u g m d d′ → AlikePair u g m (freeGranule g d n) (freeGranule g d′ n)
   unfolding freeGranule
   both-free d d′ n h w = both-mark 0 (omega arith) d d′ n h w
 
   -- Folds ----------------------------------------------------------------------------------------------------------------------------
 
   pub both-through : (f : List ℕ → ℕ → List ℕ) (ns d d′ : List ℕ)
-      → ((e e′ : List ℕ) (n : ℕ) → In n ns → Both u g m e e′ → Both u g m (f e n) (f e′ n)) → Both u g m d d′
-      → Both u g m (through f d ns) (through f d′ ns)
+      → ((e e′ : List ℕ) (n : ℕ) → In n ns → AlikePair u g m e e′ → AlikePair u g m (f e n) (f e′ n)) → AlikePair u g m d d′
+      → AlikePair u g m (through f d ns) (through f d′ ns)
   both-through f [] d d′ h w = w
   both-through f (n ∷ ns) d d′ h w = both-through f ns (f d n) (f d′ n) (λ e e′ k j. h e e′ k (Members.In.there j)) (h d d′ n Members.In.here w)
