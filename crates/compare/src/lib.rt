@@ -4,6 +4,7 @@ use differences::Difference;
 use meaning::Geometry;
 use meaning::Refusal;
 ghost use mathlib.Core.Path.{_≡_};
+ghost use Prim.Native.Nat.{_≤_};
 ghost use lib.ListN.{drop};
 ghost use Rattle.meaning.specs.Entries.{nameOf};
 ghost use Rattle.meaning.specs.Refusals.{check};
@@ -11,7 +12,7 @@ ghost use Rattle.meaning.specs.Plain.{fileAt};
 ghost use Rattle.layout.specs.Room.{Room, Slot};
 ghost use Rattle.differences.specs.Compare.{nameOnly, unlike, difference, tellsNone, tellFirst, differences, compare};
 ghost use Rattle.compare_order.specs.Whole.{WholeDisk, StartsFile};
-ghost use Rattle.compare_order.specs.Walk.{Files, nameAt, onFirst, onSecond};
+ghost use Rattle.compare_order.specs.Walk.{Files, nameAt, onFirst, onSecond, behind};
 ghost use Rattle.compare.specs.Kind.{contentsDiffer, kindOf};
 
 // So many names at the most: each directory has fewer than 256 slots.
@@ -126,16 +127,32 @@ pub fn tells_none(c: Refusal) -> Difference
     }
 }
 
+// How many files of a table were met after a pair of that kind, i of them before it: one more, unless the pair is of the other disk alone.
+fn behind(kind: u8, other: u8, i: usize) -> usize
+    requires { ⌜ i ≤ 256 ⌝ }
+    ensures { λ r. ⌜ r ≡ behind kind other i ⌝ }
+{
+    if kind == other {
+        return i;
+    }
+    i + 1
+}
+
 // The difference of that number, by rising names; or "no more".
 fn told(first: &[u8], g: Geometry, second: &[u8], h: Geometry, number: usize) -> Difference
     requires { ⌜ WholeDisk g (now first) × WholeDisk h (now second) ⌝ }
     ensures { λ r. ⌜ r ≡ tellFirst (drop number (differences g (now (first .entry)) h (now (second .entry)))) ⌝ }
 {
-    let mut last = [0u8; 11];
+    let mut ours = [0u8; 256];
+    let mut theirs = [0u8; 256];
+    let n = compare_order::sort(first, g, &mut ours);
+    let m = compare_order::sort(second, h, &mut theirs);
     let mut left = number;
+    let mut i = 0;
+    let mut j = 0;
     let mut k = 0;
     while k < MOST_NAMES {
-        let p = compare_order::next_pair(first, g, second, h, &last);
+        let p = compare_order::next_pair(first, g, second, h, &ours, n, i, &theirs, m, j);
         if p.kind == 0 {
             return tells_none(refusal::unplaced(0));
         }
@@ -146,7 +163,8 @@ fn told(first: &[u8], g: Geometry, second: &[u8], h: Geometry, number: usize) ->
             }
             left -= 1;
         }
-        last = x.name;
+        i = behind(p.kind, 2, i);
+        j = behind(p.kind, 1, j);
         k += 1;
     }
     tells_none(refusal::unplaced(0))

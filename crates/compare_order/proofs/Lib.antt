@@ -1,3 +1,5 @@
 pub mod Names
-pub mod Lowest
 pub mod Pairs
+pub mod Moving
+pub mod Sorting
+pub mod Merging

@@ -2,7 +2,7 @@
 use mathlib.Core.Path.{_≡_, refl, sym, subst, _∙_}
 use mathlib.Core.Logic.{_⊎_, inl, inr, ⊎-elim}
 use mathlib.Core.List.{List, _∷_, _++_}
-use mathlib.Core.Bool.{true, false}
+use mathlib.Core.Bool.{Bool, true, false}
 use Prim.Native.Nat.{ℕ, _<_}
 use native.Mathlib.Omega.{arith}
 use native.Mathlib.Decide.{ℕ-discrete}
@@ -15,11 +15,19 @@ use Rattle.laws.specs.Facts as facts
 use Rattle.laws.specs.Named as named
 use Rattle.layout.proofs.HasRoom.{slot-of, slot-yes}
 use Rattle.differences.specs.Compare.{before, names, merged}
-use Rattle.differences.specs.Order.{In, never, before-self, before-back, before-neither, in-left, in-right, in-either, in-map, map-in, Rises, rising-rises}
-use Rattle.differences.specs.Order.{rising-in, in-rising, keep-none, next-name}
+use Rattle.differences.specs.Order.{In, never, before-self, before-back, before-on, before-neither, in-left, in-right, in-either, in-map, map-in}
+use Rattle.differences.specs.Order.{Rises, rising-rises, rising-in, in-rising, keep-none, next-name}
 use Rattle.compare_order.specs.Whole.{WholeDisk, StartsFile}
 use Rattle.compare_order.specs.Walk.{Least, later, nameAt, onFirst, onSecond, NextPair}
-use Rattle.compare_order.proofs.Lowest.{before-not}
+
+-- what is not before b, which is not before c, is not before c
+before-not : (a b c : List ℕ) → before a b ≡ false → before b c ≡ false → before a c ≡ false
+before-not a b c h k = by (before a c) refl (before b a) refl
+  where
+    by : (t : Bool) → before a c ≡ t → (u : Bool) → before b a ≡ u → before a c ≡ false
+    by false e u f = e
+    by true e true f = never (sym (before-on b a c f e) ∙ k)
+    by true e false f = never (sym (subst (λ (z : List ℕ). before z c ≡ true) (before-neither a b h f) e) ∙ k)
 
 module _ (g : Geometry) (d : List ℕ) where
   pub starts-file : (p : ℕ) → StartsFile g d p → facts.IsFile g d p

@@ -5,25 +5,25 @@ use mathlib.Core.List.{List, [], _∷_}
 use Prim.Native.Nat.{ℕ, _+_, _<_, _≤_}
 use lib.Dec.{eqb}
 use lib.ListN.{length}
-use Rattle.meaning.specs.Lists.{all, any, keep}
+use Rattle.meaning.specs.Lists.{keep}
 use Rattle.meaning.specs.Layout.{entryAt}
-use Rattle.meaning.specs.Entries.{inUsePrimary, nameOf}
+use Rattle.meaning.specs.Entries.{nameOf}
 use Rattle.meaning.specs.Plain.{Found, found, nothing, fileAt, plain}
 use Rattle.meaning.specs.declared.Geometry.{Geometry}
 use Rattle.differences.specs.Compare.{before, merged}
 use Rattle.compare_order.specs.declared.Pair.{Pair}
 use Rattle.compare_order.specs.Whole.{StartsFile}
+use Rattle.compare_order.specs.Table.{Reached}
+
+-- how many files of a table were met after a pair, i of them before it: one more, unless the pair is of the other disk alone
+abbrev pub behind : ℕ → ℕ → ℕ → ℕ
+behind kind other i = cond (eqb kind other) i (i + 1)
 
 module _ (g : Geometry) (d : List ℕ) where
   -- the name of slot s lies there
   pub record NamePlaced (s r : ℕ) : Type 0 where
     pub is : r ≡ entryAt g s + 5
     pub inside : r + 11 ≤ length d
-
-  -- slot s starts a file with a name after `last` and before that of slot `best`, where that is a slot
-  unfoldable pub betters : List ℕ → ℕ → ℕ → Bool
-  betters last best s =
-      all (inUsePrimary g d s ∷ before last (nameOf g d s) ∷ any (eqb best 256 ∷ before (nameOf g d s) (nameOf g d best) ∷ []) ∷ [])
 
   -- of the files below slot s the one with the least name after `last` is at `best`; 256: none of them has a name after it
   pub record Least (last : List ℕ) (s best : ℕ) : Type 0 where
@@ -61,3 +61,9 @@ module _ (g : Geometry) (d : List ℕ) (h : Geometry) (e : List ℕ) where
     pub ahead : (p .kind ≡ 0 → ⊥) → later last ≡ nameAt p ∷ later (nameAt p)
     pub first′ : (p .kind ≡ 0 → ⊥) → plain g d (nameAt p) ≡ onFirst p
     pub second′ : (p .kind ≡ 0 → ⊥) → plain h e (nameAt p) ≡ onSecond p
+
+  -- the pair is the next one where i files were met in the first disk's table, and j in the second's
+  pub record Merges (o : List ℕ) (n i : ℕ) (o′ : List ℕ) (m j : ℕ) (p : Pair) : Type 0 where
+    pub next : (last : List ℕ) → Reached g d o n i last → Reached h e o′ m j last → NextPair last p
+    pub first′ : (last : List ℕ) → Reached g d o n i last → Reached h e o′ m j last → (p .kind ≡ 0 → ⊥) → Reached g d o n (behind (p .kind) 2 i) (nameAt p)
+    pub second′ : (last : List ℕ) → Reached g d o n i last → Reached h e o′ m j last → (p .kind ≡ 0 → ⊥) → Reached h e o′ m (behind (p .kind) 1 j) (nameAt p)
