@@ -2,7 +2,7 @@
 //! them by themselves.
 
 use crate::attributes::{of_disk, of_file, PREFIX};
-use crate::bytes::{self, Unsized};
+use crate::bytes;
 use crate::calendar;
 use crate::errno::Errno;
 use crate::log::Log;
@@ -278,17 +278,7 @@ impl Mount {
         let handle = self.handle(file)?;
         let entry = self.entry("truncate", which)?;
         let resized = bytes::resize(self.held.disk_mut(), &handle, &entry, size);
-        let now = resized.map_err(|why| match why {
-            Unsized::Refused(refusal) => self.refused("truncate", &Typed::from(handle.name()), refusal),
-            Unsized::NoCall => self.no_call_on("empty a file with flags or a level", which),
-        })?;
-        // Where the file was made anew, whoever has it open has it open.
-        for open in self.open.iter_mut().flatten() {
-            if (open.slot(), open.name()) == (handle.slot(), handle.name()) {
-                *open = now;
-            }
-        }
-        Ok(())
+        resized.map_err(|refusal| self.refused("truncate", &Typed::from(handle.name()), refusal))
     }
 
     /// Takes space for an open file up to an offset; its size stays.

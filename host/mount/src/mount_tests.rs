@@ -338,23 +338,25 @@ fn levels_passwords_and_system_files() {
     assert!(place.mount(false, false, Password::Unchecked).open(b"/P", false).is_ok());
 }
 
-/// A file that is emptied keeps all that its entry says, or is refused.
+/// A file that is emptied, cut or lengthened keeps all that its entry says; with its flag F its space too.
 #[test]
-fn emptied_files_keep_their_attributes() {
+fn files_of_another_size_keep_their_attributes() {
     for (flags, more) in [(0, 0), (0x08, 0), (0, 0x80), (0, 0x40), (0x03, 0)] {
         let place = Place::new(&with_file("A", &[1; 300], flags, more));
         let mut mount = place.mount(true, false, Password::Code(OPEN));
-        let before = mount.entry("test", Which::Path(b"/A")).unwrap();
-        let emptied = mount.truncate(Which::Path(b"/A"), 0);
-        assert_eq!(emptied, if (flags, more) == (0, 0) { Ok(()) } else { Err(Errno::EOPNOTSUPP) });
-        assert_eq!(lines(&mut mount).len(), usize::from(emptied.is_err()));
-        let after = mount.entry("test", Which::Path(b"/A")).unwrap();
-        assert_eq!(after.size(), if emptied.is_ok() { 0 } else { 300 });
+        let entry = |mount: &mut Mount| mount.entry("test", Which::Path(b"/A")).unwrap();
         let kept = |entry: &Entry| {
             let told = of_file(entry, GEOMETRY).into_iter();
-            told.filter(|(name, _)| !["granules", "worked_on", "slot"].contains(name)).collect::<Vec<_>>()
+            told.filter(|(name, _)| *name != "granules").collect::<Vec<_>>()
         };
-        assert_eq!(kept(&before), kept(&after));
+        let before = kept(&entry(&mut mount));
+        for size in [299, 1, 1280, 0] {
+            mount.truncate(Which::Path(b"/A"), size).unwrap();
+            let after = entry(&mut mount);
+            assert_eq!(after.size() as u64, size);
+            assert_eq!(after.granules(), if size > 0 || more == 0x80 { 1 } else { 0 });
+            assert_eq!(kept(&after), before);
+        }
     }
 }
 
