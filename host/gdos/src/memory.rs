@@ -115,23 +115,17 @@ pub fn word_of(bytes: &[u8]) -> OsString {
 /// An image that is to be changed. Nobody else is there.
 pub struct Locked {
     path: PathBuf,
-    bytes: Vec<u8>,
 }
 
 impl Locked {
-    /// Opens an image for a change.
-    pub fn open(path: &Path) -> Result<Locked, Failure> {
-        Ok(Locked { path: path.to_path_buf(), bytes: read(path)? })
+    /// Opens an image for a change, and reads its bytes.
+    pub fn open(path: &Path) -> Result<(Locked, Vec<u8>), Failure> {
+        Ok((Locked { path: path.to_path_buf() }, read(path)?))
     }
 
-    /// The image's bytes.
-    pub fn bytes(&self) -> &[u8] {
-        &self.bytes
-    }
-
-    /// Puts these bytes in the image's place, if they differ.
-    pub fn replace(self, bytes: &[u8]) -> Result<Option<String>, Failure> {
-        if bytes != self.bytes {
+    /// Puts these bytes in the image's place, if the file has others.
+    pub fn keep(&mut self, bytes: &[u8]) -> Result<Option<String>, Failure> {
+        if FILES.with(|all| all.borrow().get(&self.path).map_or(true, |file| file.bytes != bytes)) {
             put(&self.path, bytes);
         }
         Ok(None)
@@ -199,8 +193,8 @@ mod tests {
     fn what_is_written_is_told_apart() {
         lent();
         let written = || FILES.with(|all| all.borrow().values().filter(|file| file.written).count());
-        let same = Locked::open(Path::new("disk.img")).unwrap();
-        assert!(same.replace(b"old").is_ok() && written() == 0);
+        let (mut same, bytes) = Locked::open(Path::new("disk.img")).unwrap();
+        assert!(bytes == b"old" && same.keep(b"old").is_ok() && written() == 0);
         assert!(write(Path::new("disk.img"), b"new", false).is_err() && written() == 0);
         let prepared = Prepared::new(Path::new("copy.img"), b"new", false).unwrap();
         assert_eq!(written(), 0);

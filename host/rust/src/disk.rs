@@ -589,10 +589,16 @@ impl<B: AsRef<[u8]>> Disk<B> {
 
     /// All files of the listing, by one call of the library.
     pub fn files(&self) -> Result<Vec<Listed>, Refusal> {
-        // A row of the table: name 11, slot 1, size 4, granules 2, two of zero. A directory has no more than 256 slots.
+        Ok(self.rows()?.map(|(_, listed)| listed).collect())
+    }
+
+    /// The rows of the listing, by rising slot: of each the slot of the file's primary entry, and what is told of the file.
+    fn rows(&self) -> Result<impl Iterator<Item = (u8, Listed)>, Refusal> {
+        // A row of the table: name 11, slot 1, size 4, granules 2, two of zero. The longest directory has 28 sectors of 8 slots.
         const ROW: usize = 20;
+        const SLOTS: usize = 28 * 8;
         let (image, g) = (self.image.as_ref(), self.geometry);
-        let mut table = vec![0; ROW * 256];
+        let mut table = vec![0; ROW * SLOTS];
         let mut told = 0;
         // SAFETY: the image is a live reference; table and outgoing number are locals.
         accepted(|fault_slot| unsafe {
@@ -613,18 +619,13 @@ impl<B: AsRef<[u8]>> Disk<B> {
             )
         })?;
         let low_first = |bytes: &[u8]| bytes.iter().rev().fold(0, |number, &byte| number << 8 | usize::from(byte));
-        let rows = table.chunks_exact(ROW).take(told);
-        Ok(rows
-            .map(|row| {
-                let mut name = [b' '; Name::LEN];
-                name.copy_from_slice(&row[..Name::LEN]);
-                Listed {
-                    name: Name::from_bytes(name),
-                    size: low_first(&row[12..16]),
-                    granules: low_first(&row[16..18]),
-                }
-            })
-            .collect())
+        Ok((0..told).map(move |number| {
+            let row = &table[ROW * number..ROW * (number + 1)];
+            let mut name = [b' '; Name::LEN];
+            name.copy_from_slice(&row[..Name::LEN]);
+            let (size, granules) = (low_first(&row[12..16]), low_first(&row[16..18]));
+            (row[11], Listed { name: Name::from_bytes(name), size, granules })
+        }))
     }
 
     /// The listing as text: `FILES`, a line for each file (name, size, granules), `FREE`.
@@ -638,8 +639,9 @@ impl<B: AsRef<[u8]>> Disk<B> {
         Ok(text)
     }
 
-    /// The entries of all files, system files included, by rising slot: dates, flags, codes and places, which the
-    /// library does not tell. The disk is checked first; the entries are then read by this crate.
+    /// The entries of all files, system files included, by rising slot: dates, flags, codes and places too, which the
+    /// library does not tell. Size and granules are those of the library's listing; the rest this crate reads from the
+    /// slots that the listing names, and of system files, which are not listed, all.
     ///
     /// ```
     /// # use genie_dos::*;
@@ -654,8 +656,8 @@ impl<B: AsRef<[u8]>> Disk<B> {
     /// # Ok::<(), Refusal>(())
     /// ```
     pub fn entries(&self) -> Result<Vec<Entry>, Refusal> {
-        self.check()?;
-        Ok(Directory::new(self.image.as_ref(), self.geometry).entries())
+        let rows = self.rows()?;
+        Ok(Directory::new(self.image.as_ref(), self.geometry).entries(rows))
     }
 
     /// The primary entries that are not in use and not blank, by rising slot: what killed files left, and whatever

@@ -1,4 +1,4 @@
-use crate::{Geometry, Name};
+use crate::{Geometry, Listed, Name};
 use alloc::vec::Vec;
 use core::fmt;
 
@@ -54,6 +54,8 @@ pub struct Entry {
     slot: u8,
     bytes: [u8; Entry::LEN],
     runs: Vec<Run>,
+    size: usize,
+    granules: usize,
 }
 
 impl Entry {
@@ -72,7 +74,18 @@ impl Entry {
     /// assert_eq!(entry.runs(), [Run { first: 53, granules: 3 }]);
     /// ```
     pub fn from_bytes(slot: u8, bytes: [u8; Entry::LEN], geometry: Geometry) -> Entry {
-        Entry { slot, bytes, runs: own_runs(&bytes, geometry).collect() }
+        Entry::with_runs(slot, bytes, own_runs(&bytes, geometry).collect())
+    }
+
+    /// An entry whose file lies in these runs.
+    fn with_runs(slot: u8, bytes: [u8; Entry::LEN], runs: Vec<Run>) -> Entry {
+        let word = |at: usize| usize::from(u16::from_le_bytes([bytes[at], bytes[at + 1]]));
+        let size = match usize::from(bytes[0x03]) {
+            0 => Geometry::SECTOR_BYTES * word(0x14),
+            end => Geometry::SECTOR_BYTES * word(0x14).saturating_sub(1) + end,
+        };
+        let granules = runs.iter().map(|run| run.granules).sum();
+        Entry { slot, bytes, runs, size, granules }
     }
 
     /// The slot of the primary entry.
@@ -148,11 +161,7 @@ impl Entry {
 
     /// The file's size in bytes.
     pub fn size(&self) -> usize {
-        let sectors = usize::from(self.word(0x14));
-        match usize::from(self.bytes[0x03]) {
-            0 => Geometry::SECTOR_BYTES * sectors,
-            end => Geometry::SECTOR_BYTES * sectors.saturating_sub(1) + end,
-        }
+        self.size
     }
 
     /// Where the file lies, in its own order.
@@ -162,7 +171,7 @@ impl Entry {
 
     /// Granules that the file owns.
     pub fn granules(&self) -> usize {
-        self.runs.iter().map(|run| run.granules).sum()
+        self.granules
     }
 
     fn word(&self, at: usize) -> u16 {
@@ -234,11 +243,19 @@ impl<'a> Directory<'a> {
         Some(Entry::from_bytes(slot, bytes, self.geometry))
     }
 
-    /// Primary entries in use, by rising slot.
-    pub(crate) fn entries(&self) -> Vec<Entry> {
+    /// Primary entries in use, by rising slot; size and granules as the rows of the listing tell them, which rise too.
+    pub(crate) fn entries(&self, rows: impl Iterator<Item = (u8, Listed)>) -> Vec<Entry> {
         let primary = |bytes: &[u8; Entry::LEN]| bytes[0x00] & 0x90 == 0x10;
         let found = self.slots().filter_map(|slot| Some((slot, self.bytes(slot).filter(primary)?)));
-        found.map(|(slot, bytes)| Entry { slot, bytes, runs: self.runs(bytes) }).collect()
+        let mut rows = rows.peekable();
+        let told = |(slot, bytes)| {
+            let mut entry = Entry::with_runs(slot, bytes, self.runs(bytes));
+            if let Some((_, listed)) = rows.next_if(|&(listed, _)| listed == slot) {
+                (entry.size, entry.granules) = (listed.size, listed.granules);
+            }
+            entry
+        };
+        found.map(told).collect()
     }
 
     /// Primary entries that are neither in use nor blank, by rising slot.
@@ -248,7 +265,7 @@ impl<'a> Directory<'a> {
             bytes[0x00] & 0x90 == 0 && !blank
         };
         let found = self.slots().filter_map(|slot| Some((slot, self.bytes(slot).filter(dead)?)));
-        found.map(|(slot, bytes)| Entry { slot, bytes, runs: self.runs(bytes) }).collect()
+        found.map(|(slot, bytes)| Entry::with_runs(slot, bytes, self.runs(bytes))).collect()
     }
 
     /// The last entry of the file at a slot, by itself.
@@ -283,7 +300,7 @@ mod tests {
     use alloc::string::ToString;
 
     fn entry(bytes: [u8; 32]) -> Entry {
-        Entry { slot: 0x25, bytes, runs: vec![Run { first: 53, granules: 3 }, Run { first: 2, granules: 1 }] }
+        Entry::with_runs(0x25, bytes, vec![Run { first: 53, granules: 3 }, Run { first: 2, granules: 1 }])
     }
 
     #[test]

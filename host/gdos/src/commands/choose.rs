@@ -41,11 +41,14 @@ pub fn password(args: &Args, geometry: Geometry) -> Result<Password, Failure> {
 /// that fits none is refused like a name that is not there.
 pub fn chosen(opened: &Opened, words: &[OsString], system: bool) -> Result<Vec<Result<Typed, Failure>>, Failure> {
     let image = &opened.path;
-    let entries = opened.disk.entries().map_err(Failure::image(image))?;
+    let words: Vec<_> = words.iter().map(|word| word.to_string_lossy()).collect();
+    let entries = match words.iter().any(|word| names::is_pattern(word)) {
+        true => opened.disk.entries().map_err(Failure::image(image))?,
+        false => Vec::new(),
+    };
     let candidates: Vec<_> = entries.iter().filter(|e| system || !e.is_system()).map(|e| e.name()).collect();
     let mut chosen: Vec<Result<Typed, Failure>> = Vec::new();
     for word in words {
-        let word = word.to_string_lossy();
         if !names::is_pattern(&word) {
             chosen.push(Ok(Typed::new(&word)));
             continue;

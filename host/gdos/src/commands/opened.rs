@@ -52,16 +52,16 @@ impl Opened {
         Ok(Opened::new(image, bytes, found))
     }
 
-    /// An image that is to be changed: its disk as a copy in memory, and the lock on its file.
+    /// An image that is to be changed: its disk in memory, and the lock on its file.
     pub fn change(args: &Args, image: &OsStr) -> Result<(Opened, Locked), Failure> {
         Opened::change_as(&Wanted::from_args(args)?, args.has("search"), image)
     }
 
     /// The same where what is wanted of its geometry is known, and whether one that a search finds will do.
     pub fn change_as(wanted: &Wanted, search: bool, image: &OsStr) -> Result<(Opened, Locked), Failure> {
-        let locked = Locked::open(Path::new(image))?;
-        let found = stated::find_for_change(wanted, search, image, locked.bytes())?;
-        let opened = Opened::new(image, locked.bytes().to_vec(), found);
+        let (locked, bytes) = Locked::open(Path::new(image))?;
+        let found = stated::find_for_change(wanted, search, image, &bytes)?;
+        let opened = Opened::new(image, bytes, found);
         opened.check()?;
         Ok((opened, locked))
     }
@@ -70,12 +70,12 @@ impl Opened {
     #[cfg(unix)]
     pub fn hold(args: &Args, image: &OsStr, change: bool) -> Result<(Opened, Locked), Failure> {
         let wanted = Wanted::from_args(args)?;
-        let locked = Locked::hold(Path::new(image), change)?;
+        let (locked, bytes) = Locked::hold(Path::new(image), change)?;
         let found = match change {
-            true => stated::find_for_change(&wanted, args.has("search"), image, locked.bytes())?,
-            false => stated::find(&wanted, image, locked.bytes())?,
+            true => stated::find_for_change(&wanted, args.has("search"), image, &bytes)?,
+            false => stated::find(&wanted, image, &bytes)?,
         };
-        let opened = Opened::new(image, locked.bytes().to_vec(), found);
+        let opened = Opened::new(image, bytes, found);
         opened.check()?;
         Ok((opened, locked))
     }
@@ -86,9 +86,9 @@ impl Opened {
     }
 
     /// Puts the changed disk in the image's place: the one step in which the host's file changes. Answers with remarks.
-    pub fn keep(&self, locked: Locked) -> Result<Option<String>, Failure> {
+    pub fn keep(&self, mut locked: Locked) -> Result<Option<String>, Failure> {
         self.check()?;
-        locked.replace(self.disk.image())
+        locked.keep(self.disk.image())
     }
 
     /// The refusal of the disk as a whole, with where its geometry is from; and if that was not typed, whether more speaks

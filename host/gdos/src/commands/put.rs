@@ -12,7 +12,7 @@ use crate::json::Json;
 use crate::names::Typed;
 use crate::shape;
 use crate::text::counted;
-use genie_dos::{Date, Disk, Geometry, Kind, NewFile, Password, Refusal};
+use genie_dos::{Date, Disk, Geometry, Handle, Kind, NewFile, Password, Refusal};
 use std::ffi::{OsStr, OsString};
 use std::fmt;
 use std::path::Path;
@@ -267,8 +267,9 @@ pub(super) fn put_one(
     if bytes.is_empty() && is_empty(disk, typed) {
         return Ok(old);
     }
-    let wants = Wants::of(disk, typed, bytes.len());
-    write(disk, typed, bytes, password).map_err(|refusal| {
+    let handle = write(disk, typed, bytes, password).map_err(|refusal| {
+        // What was refused left the disk as it was.
+        let wants = Wants::of(disk, typed, bytes.len());
         let failure = refused(path, typed)(refusal);
         match (refusal, Runs::of(disk, &typed.name, wants.granules)) {
             (Refusal::NoSpace, _) => failure.because(wants),
@@ -278,8 +279,10 @@ pub(super) fn put_one(
             _ => failure,
         }
     })?;
-    let handle = disk.open(&typed.name, 256, password).map_err(refused(path, typed))?;
-    disk.trim(&handle).map_err(refused(path, typed))?;
+    // A new file has no more than it needs.
+    if old {
+        disk.trim(&handle).map_err(refused(path, typed))?;
+    }
     Ok(old)
 }
 
@@ -288,7 +291,7 @@ fn is_empty(disk: &Disk, typed: &Typed) -> bool {
     entries.iter().any(|entry| entry.name() == typed.name && entry.size() == 0 && entry.granules() == 0)
 }
 
-/// What a file wants of a disk, before it is written.
+/// What a file wants of a disk on which it is not yet written.
 struct Wants {
     size: usize,
     /// Granules that it has already, those that it wants more, and those that are free.
@@ -320,15 +323,14 @@ impl fmt::Display for Wants {
 /// Writes the whole file in one call. All its granules are taken at once: so where the lowest free ones would be too scattered
 /// for the slots that are left, longer stretches are taken. More bytes than any position has are refused for want of space,
 /// as the largest file would be.
-fn write(disk: &mut Disk, typed: &Typed, bytes: &[u8], password: Password) -> Result<(), Refusal> {
+fn write(disk: &mut Disk, typed: &Typed, bytes: &[u8], password: Password) -> Result<Handle, Refusal> {
     let mut handle = disk.open(&typed.name, 256, password)?;
-    match bytes.len() > disk.geometry().highest_position() {
-        true => {
-            disk.allot(&handle, disk.geometry().highest_position() / Geometry::SECTOR_BYTES - 1)?;
-            Err(Refusal::Range)
-        }
-        false => disk.write_bytes(&mut handle, Kind::Sequential, bytes),
+    if bytes.len() > disk.geometry().highest_position() {
+        disk.allot(&handle, disk.geometry().highest_position() / Geometry::SECTOR_BYTES - 1)?;
+        return Err(Refusal::Range);
     }
+    disk.write_bytes(&mut handle, Kind::Sequential, bytes)?;
+    Ok(handle)
 }
 
 fn report(opened: &Opened, source: &Source, old: bool) -> Result<(String, Json), Failure> {

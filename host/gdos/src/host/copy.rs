@@ -50,7 +50,8 @@ impl Copy {
             temporary.push(name);
             temporary.push(format!(".gdos-{}-{number}.tmp", std::process::id()));
             let path = path.with_file_name(temporary);
-            match OpenOptions::new().write(true).create_new(true).mode(mode).open(&path) {
+            // Read too: whoever holds it on compares it with what is to take its place.
+            match OpenOptions::new().read(true).write(true).create_new(true).mode(mode).open(&path) {
                 Ok(file) => return Ok(Copy { path, file, moved: false }),
                 Err(e) if e.kind() == ErrorKind::AlreadyExists && number < 1000 => number += 1,
                 Err(e) => return Err(no_room(e)),

@@ -5,7 +5,7 @@ use super::read::read_whole;
 use crate::failure::Failure;
 use crate::text::counted;
 use std::fs::{self, File, Metadata, OpenOptions, TryLockError};
-use std::io::{self, ErrorKind};
+use std::io::{self, ErrorKind, Read, Seek};
 use std::os::unix::fs::MetadataExt;
 use std::path::{Path, PathBuf};
 use std::thread::sleep;
@@ -15,10 +15,12 @@ use std::time::Duration;
 pub struct Locked {
     path: PathBuf,
     file: File,
-    /// What the file was when these bytes were read from it or written to it.
+    /// What the file was when it was read or written.
     stamp: Stamp,
-    bytes: Vec<u8>,
 }
+
+/// Bytes of the image that are read at a time to be compared.
+const PART: usize = 1 << 16;
 
 /// By which another program's change is seen: which file it is, its length and when it was written.
 #[derive(Debug, PartialEq, Eq)]
@@ -31,18 +33,18 @@ impl Stamp {
 }
 
 impl Locked {
-    /// Opens an image for a change. An image without any writing permission is protected, whoever asks.
-    pub fn open(path: &Path) -> Result<Locked, Failure> {
+    /// Opens an image for a change, and reads its bytes. An image without any writing permission is protected, whoever asks.
+    pub fn open(path: &Path) -> Result<(Locked, Vec<u8>), Failure> {
         Locked::take(path, true, true)
     }
 
-    /// Opens an image that is held for long, to be changed or only looked at. Where another holds it, that is told, and nobody
-    /// waits.
-    pub fn hold(path: &Path, change: bool) -> Result<Locked, Failure> {
+    /// The same of an image that is held for long, to be changed or only looked at. Where another holds it, that is told, and
+    /// nobody waits.
+    pub fn hold(path: &Path, change: bool) -> Result<(Locked, Vec<u8>), Failure> {
         Locked::take(path, change, false)
     }
 
-    fn take(path: &Path, change: bool, wait: bool) -> Result<Locked, Failure> {
+    fn take(path: &Path, change: bool, wait: bool) -> Result<(Locked, Vec<u8>), Failure> {
         let refused = |why: &str| Failure::Wrong(format!("cannot write to {}: {why}", path.display()));
         // A link stays a link: what it leads to is replaced.
         let real = path.canonicalize().map_err(Failure::io("open", path))?;
@@ -63,13 +65,9 @@ impl Locked {
         if change && !wait {
             drop(Copy::beside(&real, &[], None).map_err(Failure::io("replace", path))?);
         }
-        Locked::read(path, real, file)
-    }
-
-    fn read(path: &Path, real: PathBuf, file: File) -> Result<Locked, Failure> {
         let stamp = file.metadata().map(|data| Stamp::of(&data)).map_err(Failure::io("open", path))?;
         let bytes = read_whole(&file).map_err(Failure::io("read", path))?;
-        Ok(Locked { path: real, file, stamp, bytes })
+        Ok((Locked { path: real, file, stamp }, bytes))
     }
 
     /// Where the image is, links followed.
@@ -77,20 +75,29 @@ impl Locked {
         &self.path
     }
 
-    /// The image's bytes.
-    pub fn bytes(&self) -> &[u8] {
-        &self.bytes
+    /// Whether the file has these bytes: it is read again as far as they agree, so that nobody keeps a second copy of an image.
+    fn has(&self, bytes: &[u8]) -> io::Result<bool> {
+        let mut file = &self.file;
+        if file.metadata()?.len() != bytes.len() as u64 {
+            return Ok(false);
+        }
+        file.rewind()?;
+        let mut part = Vec::with_capacity(PART);
+        for wanted in bytes.chunks(PART) {
+            part.clear();
+            file.take(wanted.len() as u64).read_to_end(&mut part)?;
+            if part != wanted {
+                return Ok(false);
+            }
+        }
+        Ok(true)
     }
 
-    /// Puts these bytes in the image's place, if they differ: its owner and permissions stay. Other names of the same file
-    /// keep what it was: a remark says so.
-    pub fn replace(mut self, bytes: &[u8]) -> Result<Option<String>, Failure> {
-        self.keep(bytes)
-    }
-
-    /// The same, and the image stays locked. What another program put in its place meanwhile, lock or not, is not overwritten.
+    /// Puts these bytes in the image's place, if the file has others: its owner and permissions stay, and it stays locked. Other
+    /// names of the same file keep what it was: a remark says so. What another program put in its place meanwhile, lock or not,
+    /// is not overwritten.
     pub fn keep(&mut self, bytes: &[u8]) -> Result<Option<String>, Failure> {
-        if bytes == self.bytes {
+        if self.has(bytes).map_err(Failure::io("read", &self.path))? {
             return Ok(None);
         }
         let there = fs::metadata(&self.path).map_err(Failure::io("replace", &self.path))?;
@@ -102,7 +109,6 @@ impl Locked {
             let was = locked.file.metadata()?;
             locked.file = Copy::beside(&locked.path, bytes, Some(&was))?.held_at(&locked.path)?;
             locked.stamp = Stamp::of(&locked.file.metadata()?);
-            locked.bytes = bytes.to_vec();
             sync_folder_of(&locked.path)?;
             Ok(was.nlink())
         };

@@ -6,13 +6,22 @@ use std::fs::File;
 use std::io::{self, ErrorKind, Read};
 use std::path::Path;
 
-/// Reads a file up to one byte more than any image has, which is enough for the library to refuse its length.
-pub(super) fn read_whole(from: impl Read) -> io::Result<Vec<u8>> {
-    read_up_to(from, Geometry::MOST_BYTES + 1)
+/// One byte more than any image has, which is enough for the library to refuse its length.
+const MOST: usize = Geometry::MOST_BYTES + 1;
+
+/// Reads a file up to one byte more than any image has.
+pub(super) fn read_whole(file: &File) -> io::Result<Vec<u8>> {
+    read_file(file, MOST)
 }
 
-fn read_up_to(from: impl Read, most: usize) -> io::Result<Vec<u8>> {
-    let mut bytes = Vec::new();
+/// Reads up to so many bytes of a file. Room for the length that it states is made at once.
+fn read_file(file: &File, most: usize) -> io::Result<Vec<u8>> {
+    let stated = file.metadata()?.len();
+    read_up_to(file, usize::try_from(stated).unwrap_or(most), most)
+}
+
+fn read_up_to(from: impl Read, room: usize, most: usize) -> io::Result<Vec<u8>> {
+    let mut bytes = Vec::with_capacity(room.min(most));
     from.take(most as u64).read_to_end(&mut bytes)?;
     Ok(bytes)
 }
@@ -20,21 +29,23 @@ fn read_up_to(from: impl Read, most: usize) -> io::Result<Vec<u8>> {
 /// Reads up to so many bytes of a file of the host, or of standard input where none is named.
 pub fn read_part(path: Option<&Path>, most: usize) -> Result<Vec<u8>, Failure> {
     match path {
-        Some(path) => File::open(path).and_then(|file| read_up_to(file, most)).map_err(Failure::io("read", path)),
-        None => {
-            read_up_to(io::stdin().lock(), most).map_err(|e| Failure::Wrong(format!("cannot read standard input: {e}")))
-        }
+        Some(path) => File::open(path).and_then(|file| read_file(&file, most)).map_err(Failure::io("read", path)),
+        None => standard_input(most),
     }
 }
 
 /// Reads a file of the host: an image to look at, or what is to be put on one.
 pub fn read(path: &Path) -> Result<Vec<u8>, Failure> {
-    File::open(path).and_then(read_whole).map_err(Failure::io("read", path))
+    File::open(path).and_then(|file| read_whole(&file)).map_err(Failure::io("read", path))
 }
 
 /// Reads what is to be put on an image from standard input.
 pub fn read_standard_input() -> Result<Vec<u8>, Failure> {
-    read_whole(io::stdin().lock()).map_err(|e| Failure::Wrong(format!("cannot read standard input: {e}")))
+    standard_input(MOST)
+}
+
+fn standard_input(most: usize) -> Result<Vec<u8>, Failure> {
+    read_up_to(io::stdin().lock(), 0, most).map_err(|e| Failure::Wrong(format!("cannot read standard input: {e}")))
 }
 
 /// Longest text of a few lines.

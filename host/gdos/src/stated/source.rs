@@ -115,9 +115,9 @@ pub fn find_for_change(wanted: &Wanted, searched: bool, image: &OsStr, bytes: &[
     }
 }
 
-/// A stated geometry, if the library allows it for this image.
+/// A stated geometry, if the library allows it for this image: free space is refused for nothing else.
 fn allowed(found: Found, path: &str, bytes: &[u8]) -> Result<Found, Failure> {
-    match Disk::new(bytes, found.geometry).check() {
+    match Disk::new(bytes, found.geometry).free_space() {
         Err(Refusal::Geometry) => {
             let why = shape::fault(found.geometry, bytes.len());
             Err(Failure::image(path)(Refusal::Geometry).because(why).by(found.source.word(), found.source.told()))

@@ -46,6 +46,10 @@ pub fn everywhere(image: &[u8]) -> Vec<Evidence> {
 pub fn speaking(image: &[u8]) -> Vec<Evidence> {
     let mut found = Vec::new();
     for (number, sector) in image.chunks_exact(Geometry::SECTOR_BYTES).enumerate() {
+        let sector = match sector.try_into() {
+            Ok(sector) => sector,
+            Err(_) => break,
+        };
         for row in Slots::may_speak(sector) {
             // A directory has its entries from the third of its sectors to the thirtieth at most.
             for s in 0..28.min((number + 1).saturating_sub(2)) {

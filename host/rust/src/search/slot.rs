@@ -88,24 +88,32 @@ impl<'a> Slots<'a> {
 
     /// The rows of a sector whose entries can speak for a directory, whatever their slots and HIT bytes: `says` answers neither
     /// `Name` nor `Nearly` of any other.
-    pub fn may_speak(sector: &[u8]) -> impl Iterator<Item = usize> + '_ {
-        let named = move |at: usize| {
+    pub fn may_speak(sector: &[u8; Geometry::SECTOR_BYTES]) -> impl Iterator<Item = usize> + '_ {
+        let named = move |row: usize| {
+            let bytes = &sector[Entry::LEN * row + 0x05..Entry::LEN * row + 0x10];
             let mut name = [0; Name::LEN];
-            name.copy_from_slice(&sector[at + 0x05..at + 0x10]);
-            Name::from_bytes(name).is_well_formed()
+            name.copy_from_slice(bytes);
+            // A name's first byte is no blank.
+            Name::allows(bytes[0]) && Name::from_bytes(name).is_well_formed()
         };
-        // All rows at once first: most sectors have none.
-        let mut some = 0;
-        if let Ok(sector) = <&[u8; Geometry::SECTOR_BYTES]>::try_from(sector) {
-            for row in 0..Geometry::SECTOR_BYTES / Entry::LEN {
-                let (flags, marker) = (sector[Entry::LEN * row], sector[Entry::LEN * row + 0x1e]);
-                some |= u32::from(flags & 0xb0 == 0x10 || marker >= 0xfe) << row;
+        // All rows at once first, a byte of a number each, row 0 in the highest: most sectors have none.
+        let column = |at: usize| {
+            let rows = 0..Geometry::SECTOR_BYTES / Entry::LEN;
+            rows.fold(0, |bytes, row| bytes << 8 | u64::from(sector[Entry::LEN * row + at]))
+        };
+        let used = zeros((column(0x00) & 0xb0 * EACH) ^ 0x10 * EACH);
+        let marked = zeros(!column(0x1e) & 0xfe * EACH);
+        let mut left = used | marked;
+        core::iter::from_fn(move || {
+            while left != 0 {
+                let row = left.leading_zeros() / 8;
+                let bit = 0x80 << (56 - 8 * row);
+                left ^= bit;
+                if used & marked & bit != 0 || named(row as usize) {
+                    return Some(row as usize);
+                }
             }
-        }
-        (0..Geometry::SECTOR_BYTES / Entry::LEN).take_while(move |row| some >> row != 0).filter(move |row| {
-            let at = Entry::LEN * row;
-            let (used, marked) = (sector[at] & 0xb0 == 0x10, sector[at + 0x1e] >= 0xfe);
-            used && marked || (used || marked) && named(at)
+            None
         })
     }
 
@@ -115,6 +123,15 @@ impl<'a> Slots<'a> {
         let link = usize::from(self.entry(slot, 0x1f));
         link == 0xff || self.entry(link, 0x00) == 0x90 && usize::from(self.entry(link, 0x01)) == slot
     }
+}
+
+/// 1 in each byte of a number.
+const EACH: u64 = 0x0101_0101_0101_0101;
+
+/// The highest bit of each byte of a number that is 0, and no other bit.
+fn zeros(bytes: u64) -> u64 {
+    let low = 0x7f * EACH;
+    !((bytes & low).wrapping_add(low) | bytes | low)
 }
 
 /// Whether a name of this hash is had by changing one byte.
