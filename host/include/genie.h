@@ -12,6 +12,15 @@
  *   - A slice's pointer is good for as many bytes as the length beside it says.
  *   - Slices and outgoing numbers do not overlap; the two images of genie_compare may, neither is
  *     written to.
+ *   - While a call runs nobody else writes to what it is lent, nor reads what it may write to. So
+ *     threads and processes that change one image take turns, by a lock of the host's; calls that
+ *     only look, and calls on other images, may run beside each other.
+ *   - A call that changes an image comes to its end. One that is cut off, as by a process killed or
+ *     power lost, leaves any mixture of old and new bytes, and no promise holds of it. So a host
+ *     that keeps images in files lends no file's own bytes: not a shared mapping (MAP_SHARED) of the
+ *     only copy, but bytes in memory or a private mapping; and it saves by copy and rename: all
+ *     bytes to a new file beside the old one, that synced, renamed over the old one, and the folder
+ *     synced. Then the file is the old disk or the new one, whatever happens.
  * Nothing else is asked: a size_t may hold any value.
  *
  * ARGUMENTS THAT MANY CALLS SHARE
