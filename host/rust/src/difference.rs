@@ -1,4 +1,5 @@
-use crate::{sys, Disk, Geometry, Name, Refusal};
+use crate::call::call;
+use crate::{Disk, Geometry, Name, Refusal};
 use core::fmt;
 
 /// A difference between two disks, as [`Disk::differences`] tells it.
@@ -163,23 +164,10 @@ fn told(first: &Disk<&[u8]>, second: &Disk<&[u8]>, number: usize) -> Result<Opti
     // SAFETY: the images are live references; name and outgoing numbers are locals.
     let mut fault_slot = 0;
     let answer = unsafe {
-        sys::genie_compare(
-            one.as_ptr(),
-            one.len(),
-            g.blocks,
-            g.units,
-            g.start,
-            g.open_code,
-            g.system_disk,
-            g.granule_sectors,
-            other.as_ptr(),
-            other.len(),
-            h.blocks,
-            h.units,
-            h.start,
-            h.open_code,
-            h.system_disk,
-            h.granule_sectors,
+        call!(
+            genie_compare,
+            as_ptr,
+            [(one, g), (other, h)],
             number,
             name.as_mut_ptr(),
             name.len(),

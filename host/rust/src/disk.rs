@@ -1,5 +1,6 @@
+use crate::call::call;
 use crate::entry::Directory;
-use crate::{sys, Date, Entry, Fault, FaultKind, Geometry, Handle, Name, Refusal, TracePlace};
+use crate::{Date, Entry, Fault, FaultKind, Geometry, Handle, Name, Refusal, TracePlace};
 use alloc::string::String;
 use alloc::vec::Vec;
 
@@ -275,19 +276,7 @@ impl<B: AsRef<[u8]>> Disk<B> {
     pub fn check(&self) -> Result<(), Refusal> {
         let (image, g) = (self.image.as_ref(), self.geometry);
         // SAFETY: the slice is a live reference.
-        accepted(|fault_slot| unsafe {
-            sys::genie_check(
-                image.as_ptr(),
-                image.len(),
-                g.blocks,
-                g.units,
-                g.start,
-                g.open_code,
-                g.system_disk,
-                g.granule_sectors,
-                fault_slot,
-            )
-        })
+        accepted(|fault_slot| unsafe { call!(genie_check, as_ptr, [(image, g)], fault_slot) })
     }
 
     /// Finds a file's slot and tells how many entries were compared.
@@ -304,15 +293,10 @@ impl<B: AsRef<[u8]>> Disk<B> {
         let (mut slot, mut compared) = (0, 0);
         // SAFETY: the slices are live references; the outgoing numbers are locals.
         let answer = accepted_by_name(|place, fault_slot| unsafe {
-            sys::genie_look_up(
-                image.as_ptr(),
-                image.len(),
-                g.blocks,
-                g.units,
-                g.start,
-                g.open_code,
-                g.system_disk,
-                g.granule_sectors,
+            call!(
+                genie_look_up,
+                as_ptr,
+                [(image, g)],
                 name.as_ptr(),
                 name.len(),
                 &mut slot,
@@ -348,15 +332,10 @@ impl<B: AsRef<[u8]>> Disk<B> {
         let lent = handle.as_mut_bytes();
         // SAFETY: the slices are live references, the handle's a local.
         accepted_by_name(|place, fault_slot| unsafe {
-            sys::genie_open(
-                image.as_ptr(),
-                image.len(),
-                g.blocks,
-                g.units,
-                g.start,
-                g.open_code,
-                g.system_disk,
-                g.granule_sectors,
+            call!(
+                genie_open,
+                as_ptr,
+                [(image, g)],
                 name.as_ptr(),
                 name.len(),
                 length,
@@ -394,15 +373,10 @@ impl<B: AsRef<[u8]>> Disk<B> {
         let (image, g, lent) = (self.image.as_ref(), self.geometry, handle.as_mut_bytes());
         // SAFETY: the slices are live references, those written to are exclusive.
         accepted(|fault_slot| unsafe {
-            sys::genie_read_record(
-                image.as_ptr(),
-                image.len(),
-                g.blocks,
-                g.units,
-                g.start,
-                g.open_code,
-                g.system_disk,
-                g.granule_sectors,
+            call!(
+                genie_read_record,
+                as_ptr,
+                [(image, g)],
                 lent.as_mut_ptr(),
                 lent.len(),
                 buffer.as_mut_ptr(),
@@ -433,15 +407,10 @@ impl<B: AsRef<[u8]>> Disk<B> {
         let (image, g, lent) = (self.image.as_ref(), self.geometry, handle.as_mut_bytes());
         // SAFETY: the slices are live references, those written to are exclusive.
         accepted(|fault_slot| unsafe {
-            sys::genie_read_bytes(
-                image.as_ptr(),
-                image.len(),
-                g.blocks,
-                g.units,
-                g.start,
-                g.open_code,
-                g.system_disk,
-                g.granule_sectors,
+            call!(
+                genie_read_bytes,
+                as_ptr,
+                [(image, g)],
                 lent.as_mut_ptr(),
                 lent.len(),
                 buffer.as_mut_ptr(),
@@ -470,22 +439,7 @@ impl<B: AsRef<[u8]>> Disk<B> {
         let (mut from, mut to) = (0, 0);
         // SAFETY: the slices are live references; the outgoing numbers are locals.
         accepted(|fault_slot| unsafe {
-            sys::genie_read_sector(
-                image.as_ptr(),
-                image.len(),
-                g.blocks,
-                g.units,
-                g.start,
-                g.open_code,
-                g.system_disk,
-                g.granule_sectors,
-                lent.as_ptr(),
-                lent.len(),
-                k,
-                &mut from,
-                &mut to,
-                fault_slot,
-            )
+            call!(genie_read_sector, as_ptr, [(image, g)], lent.as_ptr(), lent.len(), k, &mut from, &mut to, fault_slot)
         })?;
         Ok(&image[from..to])
     }
@@ -510,15 +464,10 @@ impl<B: AsRef<[u8]>> Disk<B> {
         let (mut size, mut granules, mut more) = (0, 0, 0);
         // SAFETY: the image is a live reference; name and outgoing numbers are locals.
         accepted(|fault_slot| unsafe {
-            sys::genie_list(
-                image.as_ptr(),
-                image.len(),
-                g.blocks,
-                g.units,
-                g.start,
-                g.open_code,
-                g.system_disk,
-                g.granule_sectors,
+            call!(
+                genie_list,
+                as_ptr,
+                [(image, g)],
                 number,
                 name.as_mut_ptr(),
                 name.len(),
@@ -536,21 +485,7 @@ impl<B: AsRef<[u8]>> Disk<B> {
         let (image, g) = (self.image.as_ref(), self.geometry);
         let (mut files, mut free) = (0, 0);
         // SAFETY: the image is a live reference; the outgoing numbers are locals.
-        accepted(|fault_slot| unsafe {
-            sys::genie_count(
-                image.as_ptr(),
-                image.len(),
-                g.blocks,
-                g.units,
-                g.start,
-                g.open_code,
-                g.system_disk,
-                g.granule_sectors,
-                &mut files,
-                &mut free,
-                fault_slot,
-            )
-        })?;
+        accepted(|fault_slot| unsafe { call!(genie_count, as_ptr, [(image, g)], &mut files, &mut free, fault_slot) })?;
         Ok(Counts { files, free })
     }
 
@@ -570,20 +505,7 @@ impl<B: AsRef<[u8]>> Disk<B> {
         let (image, g) = (self.image.as_ref(), self.geometry);
         let (mut free, mut longest) = (0, 0);
         // SAFETY: the image is a live reference; the outgoing numbers are locals.
-        accepted(|_| unsafe {
-            sys::genie_free(
-                image.as_ptr(),
-                image.len(),
-                g.blocks,
-                g.units,
-                g.start,
-                g.open_code,
-                g.system_disk,
-                g.granule_sectors,
-                &mut free,
-                &mut longest,
-            )
-        })?;
+        accepted(|_| unsafe { call!(genie_free, as_ptr, [(image, g)], &mut free, &mut longest) })?;
         Ok(FreeSpace { free, longest })
     }
 
@@ -602,21 +524,7 @@ impl<B: AsRef<[u8]>> Disk<B> {
         let mut told = 0;
         // SAFETY: the image is a live reference; table and outgoing number are locals.
         accepted(|fault_slot| unsafe {
-            sys::genie_list_from(
-                image.as_ptr(),
-                image.len(),
-                g.blocks,
-                g.units,
-                g.start,
-                g.open_code,
-                g.system_disk,
-                g.granule_sectors,
-                0,
-                table.as_mut_ptr(),
-                table.len(),
-                &mut told,
-                fault_slot,
-            )
+            call!(genie_list_from, as_ptr, [(image, g)], 0, table.as_mut_ptr(), table.len(), &mut told, fault_slot)
         })?;
         let low_first = |bytes: &[u8]| bytes.iter().rev().fold(0, |number, &byte| number << 8 | usize::from(byte));
         Ok((0..told).map(move |number| {
@@ -699,15 +607,10 @@ impl<B: AsMut<[u8]>> Disk<B> {
         let mut old = 0;
         // SAFETY: the slices are live references, the image's is exclusive; the others written to are locals.
         accepted_by_name(|place, fault_slot| unsafe {
-            sys::genie_create(
-                image.as_mut_ptr(),
-                image.len(),
-                g.blocks,
-                g.units,
-                g.start,
-                g.open_code,
-                g.system_disk,
-                g.granule_sectors,
+            call!(
+                genie_create,
+                as_mut_ptr,
+                [(image, g)],
                 name.as_ptr(),
                 name.len(),
                 new.date.day,
@@ -752,15 +655,10 @@ impl<B: AsMut<[u8]>> Disk<B> {
         let (image, g, lent) = (self.image.as_mut(), self.geometry, handle.as_mut_bytes());
         // SAFETY: the slices are live references, those written to are exclusive.
         accepted(|fault_slot| unsafe {
-            sys::genie_write_record(
-                image.as_mut_ptr(),
-                image.len(),
-                g.blocks,
-                g.units,
-                g.start,
-                g.open_code,
-                g.system_disk,
-                g.granule_sectors,
+            call!(
+                genie_write_record,
+                as_mut_ptr,
+                [(image, g)],
                 lent.as_mut_ptr(),
                 lent.len(),
                 kind == Kind::Sequential,
@@ -794,15 +692,10 @@ impl<B: AsMut<[u8]>> Disk<B> {
         let (image, g, lent) = (self.image.as_mut(), self.geometry, handle.as_mut_bytes());
         // SAFETY: the slices are live references, those written to are exclusive.
         accepted(|fault_slot| unsafe {
-            sys::genie_write_bytes(
-                image.as_mut_ptr(),
-                image.len(),
-                g.blocks,
-                g.units,
-                g.start,
-                g.open_code,
-                g.system_disk,
-                g.granule_sectors,
+            call!(
+                genie_write_bytes,
+                as_mut_ptr,
+                [(image, g)],
                 lent.as_mut_ptr(),
                 lent.len(),
                 kind == Kind::Sequential,
@@ -830,20 +723,7 @@ impl<B: AsMut<[u8]>> Disk<B> {
         let (image, g, lent) = (self.image.as_mut(), self.geometry, handle.as_bytes());
         // SAFETY: the slices are live references, the image's is exclusive.
         accepted(|fault_slot| unsafe {
-            sys::genie_allot(
-                image.as_mut_ptr(),
-                image.len(),
-                g.blocks,
-                g.units,
-                g.start,
-                g.open_code,
-                g.system_disk,
-                g.granule_sectors,
-                lent.as_ptr(),
-                lent.len(),
-                k,
-                fault_slot,
-            )
+            call!(genie_allot, as_mut_ptr, [(image, g)], lent.as_ptr(), lent.len(), k, fault_slot)
         })
     }
 
@@ -853,19 +733,7 @@ impl<B: AsMut<[u8]>> Disk<B> {
         let (image, g, lent) = (self.image.as_mut(), self.geometry, handle.as_bytes());
         // SAFETY: the slices are live references, the image's is exclusive.
         accepted(|fault_slot| unsafe {
-            sys::genie_trim(
-                image.as_mut_ptr(),
-                image.len(),
-                g.blocks,
-                g.units,
-                g.start,
-                g.open_code,
-                g.system_disk,
-                g.granule_sectors,
-                lent.as_ptr(),
-                lent.len(),
-                fault_slot,
-            )
+            call!(genie_trim, as_mut_ptr, [(image, g)], lent.as_ptr(), lent.len(), fault_slot)
         })
     }
 
@@ -884,19 +752,7 @@ impl<B: AsMut<[u8]>> Disk<B> {
         let (image, g, lent) = (self.image.as_mut(), self.geometry, handle.as_bytes());
         // SAFETY: the slices are live references, the image's is exclusive.
         accepted(|fault_slot| unsafe {
-            sys::genie_kill(
-                image.as_mut_ptr(),
-                image.len(),
-                g.blocks,
-                g.units,
-                g.start,
-                g.open_code,
-                g.system_disk,
-                g.granule_sectors,
-                lent.as_ptr(),
-                lent.len(),
-                fault_slot,
-            )
+            call!(genie_kill, as_mut_ptr, [(image, g)], lent.as_ptr(), lent.len(), fault_slot)
         })
     }
 
@@ -922,20 +778,7 @@ impl<B: AsMut<[u8]>> Disk<B> {
         let (mut slots, mut granules) = (0, 0);
         // SAFETY: the slice is a live, exclusive reference; the outgoing numbers are locals.
         accepted(|fault_slot| unsafe {
-            sys::genie_bring_back(
-                image.as_mut_ptr(),
-                image.len(),
-                g.blocks,
-                g.units,
-                g.start,
-                g.open_code,
-                g.system_disk,
-                g.granule_sectors,
-                slot,
-                &mut slots,
-                &mut granules,
-                fault_slot,
-            )
+            call!(genie_bring_back, as_mut_ptr, [(image, g)], slot, &mut slots, &mut granules, fault_slot)
         })?;
         Ok(BroughtBack { slots, granules })
     }
@@ -968,15 +811,10 @@ impl<B: AsMut<[u8]>> Disk<B> {
         let (mut calls, mut byte, mut bit) = (0, 0, 0);
         // SAFETY: the slices are live references, those written to exclusive; the outgoing numbers are locals.
         let played = accepted(|fault_slot| unsafe {
-            sys::genie_play(
-                image.as_mut_ptr(),
-                image.len(),
-                g.blocks,
-                g.units,
-                g.start,
-                g.open_code,
-                g.system_disk,
-                g.granule_sectors,
+            call!(
+                genie_play,
+                as_mut_ptr,
+                [(image, g)],
                 trace.as_ptr(),
                 trace.len(),
                 results.as_mut_ptr(),

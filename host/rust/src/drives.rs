@@ -1,4 +1,5 @@
-use crate::{sys, Date, Disk, Geometry, Handle, Kind, Name, NewFile, Password, Refusal};
+use crate::call::call;
+use crate::{Date, Disk, Geometry, Handle, Kind, Name, NewFile, Password, Refusal};
 use alloc::vec::Vec;
 use core::fmt;
 
@@ -210,29 +211,11 @@ fn numbered(drive: Option<usize>) -> (bool, usize) {
     (drive.is_some(), drive.unwrap_or(0))
 }
 
-/// The call of an export: each drive's image, by the pointer that it wants, and its geometry, then the rest.
-macro_rules! call {
-    ($export:ident, $pointer:ident, $drives:expr, $($rest:expr),* $(,)?) => {{
+/// The call of an export with the disks of both drives.
+macro_rules! call_both {
+    ($export:ident, $pointer:ident, $drives:expr, $($rest:tt)*) => {{
         let [(image0, g0), (image1, g1)] = $drives;
-        sys::$export(
-            image0.$pointer(),
-            image0.len(),
-            g0.blocks,
-            g0.units,
-            g0.start,
-            g0.open_code,
-            g0.system_disk,
-            g0.granule_sectors,
-            image1.$pointer(),
-            image1.len(),
-            g1.blocks,
-            g1.units,
-            g1.start,
-            g1.open_code,
-            g1.system_disk,
-            g1.granule_sectors,
-            $($rest),*
-        )
+        call!($export, $pointer, [(image0, g0), (image1, g1)], $($rest)*)
     }};
 }
 
@@ -274,7 +257,7 @@ impl<B: AsRef<[u8]>, C: AsRef<[u8]>> Drives<B, C> {
         let (mut found_drive, mut slot, mut compared) = (0, 0, 0);
         // SAFETY: the slices are live references; the outgoing numbers are locals.
         let answer = accepted_by_name(|place, fault_drive, fault_slot| unsafe {
-            call!(
+            call_both!(
                 genie_drives_look_up,
                 as_ptr,
                 self.lent(),
@@ -322,7 +305,7 @@ impl<B: AsRef<[u8]>, C: AsRef<[u8]>> Drives<B, C> {
         let mut handle = DriveHandle::zeros();
         // SAFETY: the slices are live references, the handle's a local.
         accepted_by_name(|place, fault_drive, fault_slot| unsafe {
-            call!(
+            call_both!(
                 genie_drives_open,
                 as_ptr,
                 self.lent(),
@@ -362,7 +345,7 @@ impl<B: AsRef<[u8]>, C: AsRef<[u8]>> Drives<B, C> {
     pub fn read_record(&self, handle: &mut DriveHandle, buffer: &mut [u8]) -> Result<(), RefusedDrive> {
         // SAFETY: the slices are live references, those written to are exclusive.
         accepted(|fault_drive, fault_slot| unsafe {
-            call!(
+            call_both!(
                 genie_drives_read_record,
                 as_ptr,
                 self.lent(),
@@ -397,7 +380,7 @@ impl<B: AsRef<[u8]>, C: AsRef<[u8]>> Drives<B, C> {
         let (mut drive, mut from, mut to) = (0, 0, 0);
         // SAFETY: the slices are live references; the outgoing numbers are locals.
         accepted(|fault_drive, fault_slot| unsafe {
-            call!(
+            call_both!(
                 genie_drives_read_sector,
                 as_ptr,
                 self.lent(),
@@ -447,7 +430,7 @@ impl<B: AsMut<[u8]>, C: AsMut<[u8]>> Drives<B, C> {
         let mut old = 0;
         // SAFETY: the slices are live references, those of the images exclusive; the others written to are locals.
         accepted_by_name(|place, fault_drive, fault_slot| unsafe {
-            call!(
+            call_both!(
                 genie_drives_create,
                 as_mut_ptr,
                 self.lent_to_change(),
@@ -479,7 +462,7 @@ impl<B: AsMut<[u8]>, C: AsMut<[u8]>> Drives<B, C> {
     pub fn write_record(&mut self, handle: &mut DriveHandle, kind: Kind, buffer: &[u8]) -> Result<(), RefusedDrive> {
         // SAFETY: the slices are live references, those written to are exclusive.
         accepted(|fault_drive, fault_slot| unsafe {
-            call!(
+            call_both!(
                 genie_drives_write_record,
                 as_mut_ptr,
                 self.lent_to_change(),
@@ -512,7 +495,7 @@ impl<B: AsMut<[u8]>, C: AsMut<[u8]>> Drives<B, C> {
     pub fn allot(&mut self, handle: &DriveHandle, k: usize) -> Result<(), RefusedDrive> {
         // SAFETY: the slices are live references, those of the images exclusive.
         accepted(|fault_drive, fault_slot| unsafe {
-            call!(
+            call_both!(
                 genie_drives_allot,
                 as_mut_ptr,
                 self.lent_to_change(),
@@ -530,7 +513,7 @@ impl<B: AsMut<[u8]>, C: AsMut<[u8]>> Drives<B, C> {
     pub fn trim(&mut self, handle: &DriveHandle) -> Result<(), RefusedDrive> {
         // SAFETY: the slices are live references, those of the images exclusive.
         accepted(|fault_drive, fault_slot| unsafe {
-            call!(
+            call_both!(
                 genie_drives_trim,
                 as_mut_ptr,
                 self.lent_to_change(),
@@ -558,7 +541,7 @@ impl<B: AsMut<[u8]>, C: AsMut<[u8]>> Drives<B, C> {
     pub fn kill(&mut self, handle: &DriveHandle) -> Result<(), RefusedDrive> {
         // SAFETY: the slices are live references, those of the images exclusive.
         accepted(|fault_drive, fault_slot| unsafe {
-            call!(
+            call_both!(
                 genie_drives_kill,
                 as_mut_ptr,
                 self.lent_to_change(),

@@ -58,6 +58,7 @@ extern crate std;
 #[cfg(not(genie_archive))]
 extern crate genie_source as _;
 
+mod call;
 mod damaged;
 mod difference;
 mod disk;

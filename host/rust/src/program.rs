@@ -3,7 +3,8 @@
 use alloc::vec::Vec;
 use core::fmt;
 
-use crate::{sys, Disk, Handle, Refusal};
+use crate::call::call;
+use crate::{Disk, Handle, Refusal};
 
 /// One record of a program file, as [`Disk::load_record`] tells it.
 #[derive(Clone, Copy, Debug, PartialEq, Eq)]
@@ -96,15 +97,10 @@ impl<B: AsRef<[u8]>> Disk<B> {
         let (mut kind, mut address, mut count, mut position, mut fault_slot) = (0, 0, 0, 0, 0);
         // SAFETY: the slices are live references, those written to are exclusive; the outgoing numbers are locals.
         let number = unsafe {
-            sys::genie_load_record(
-                image.as_ptr(),
-                image.len(),
-                g.blocks,
-                g.units,
-                g.start,
-                g.open_code,
-                g.system_disk,
-                g.granule_sectors,
+            call!(
+                genie_load_record,
+                as_ptr,
+                [(image, g)],
                 lent.as_mut_ptr(),
                 lent.len(),
                 buffer.as_mut_ptr(),
