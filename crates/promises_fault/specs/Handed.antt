@@ -1,114 +1,127 @@
 -- Whatever call answers a fault's number hands on what the check tells.
-use mathlib.Core.Path.{_≡_, refl, sym, _∙_}
-use mathlib.Core.Logic.{_≢_, _⊎_, inl, inr}
-use mathlib.Core.Bool.{Bool, true, false, cond}
+use mathlib.Core.Path.{_≡_, refl, sym, _∙_, subst}
+use mathlib.Core.Logic.{_⊎_, inl, inr}
+use mathlib.Core.Bool.{Bool, true, false, not, cond}
 use mathlib.Core.List.{List, [], _∷_}
 use Prim.Native.Nat.{ℕ, _+_, _≤_, _<_}
 use native.Mathlib.Omega.{arith}
-use lib.Dec.{T, eqb, eqb→eq}
-use lib.ListN.{drop}
+use lib.Dec.{T, eqb, eqb→eq, T-not}
+use lib.ListN.{length, drop}
+use Rattle.meaning.specs.Lists.{every, has}
 use Rattle.meaning.specs.Layout.{fitsGeometry}
 use Rattle.meaning.specs.Fault.{fault}
-use Rattle.meaning.specs.Refusal.{unplaced}
-use Rattle.meaning.specs.Refusals.{first, faultNumbers, check, badAt}
-use Rattle.meaning.specs.LookUp.{lookUp}
-use Rattle.meaning.specs.Open.{open′}
-use Rattle.meaning.specs.Create.{create}
-use Rattle.meaning.specs.Read.{readOf, readSector}
-use Rattle.meaning.specs.Write.{writeOf}
-use Rattle.meaning.specs.Allot.{allot}
-use Rattle.meaning.specs.Trim.{trim}
-use Rattle.meaning.specs.Kill.{kill}
+use Rattle.meaning.specs.Refusals.{first, faultNumbers, diskRefusals, check, badAt}
+use Rattle.meaning.specs.LookUp.{lookUp, lookUpRefusals}
+use Rattle.meaning.specs.Open.{open′, openRefusals}
+use Rattle.meaning.specs.Create.{create, createRefusals}
+use Rattle.meaning.specs.Amount.{howMany}
+use Rattle.meaning.specs.Read.{readOf, readSector, readRefusals, sectorRefusals}
+use Rattle.meaning.specs.Write.{writeOf, writeRefusals}
+use Rattle.meaning.specs.Allot.{allot, allotRefusals}
+use Rattle.meaning.specs.Trim.{trim, trimRefusals}
+use Rattle.meaning.specs.Kill.{kill, killRefusals}
 use Rattle.meaning.specs.Listing
 use Rattle.meaning.specs.FreeSpace.{freeSpace, spaceRefusals}
+use Rattle.meaning.specs.BringBack.{bringBack, bringBackRefusals}
 use Rattle.meaning.specs.Calls.{Call, number}
 use Rattle.meaning.specs.declared.Geometry.{Geometry}
 use Rattle.meaning.specs.declared.Refusal.{Refusal}
 use Rattle.lists.specs.Members
 use Rattle.lists.specs.Members.{In}
 use Rattle.lists.specs.First
+use Rattle.lists.specs.First.{numbersOf}
+use Rattle.laws.specs.Fault
 use Rattle.laws.specs.Passed
 use Rattle.laws.specs.Carried.{carried-own, carried-first}
-use Rattle.promises.specs.Promises.{Table, Rows, Exactly, faultCases, diskCases, table}
-use Rattle.promises.specs.Refusing
+use Rattle.promises.specs.Refusing.{ownRows, list-number}
 use Rattle.promises_fault.specs.Statement.{refusalOf}
 
 module _ (g : Geometry) (d : List ℕ) where
-  -- two answers whose rows of faults are the same: where the one is a fault's number, it is the other's too
-  same-row : (a b : ℕ) (E : Type 0) (ks : List ℕ) (rs qs : Table) → Rows a E (faultCases g d ks rs) → Rows b E (faultCases g d ks qs) → In a ks → b ≡ a
-  same-row a b E [] rs qs v w i = Members.none-in i
-  same-row a b E (k ∷ ks) rs qs v w i = go (Members.in-cons i) (same-row a b (E × (fault g d .number ≡ k → ⊥)) ks rs qs (v .1) (w .1))
+  low : (m : ℕ) → In m faultNumbers → 21 ≤ m
+  low m j = Members.count-in m 21 10 j .0
+
+  -- Of a list of refusals after the disk's, none of which has a fault's number, such a number is the check's.
+  disk-first : (cs : List (ℕ × Bool)) → T (every (λ n. not (has faultNumbers n)) (numbersOf cs)) → In (first (diskRefusals g d cs)) faultNumbers
+      → check g d .number ≡ first (diskRefusals g d cs)
+  unfolding first
+  disk-first cs o i = go (fitsGeometry g d) refl (Members.in-cons (Fault.numbered g d))
     where
-      go : (a ≡ k) ⊎ In a ks → (In a ks → b ≡ a) → b ≡ a
-      go (inl e) r = w .0 .1 (v .0 .0 e) ∙ sym e
-      go (inr j) r = r j
+      n : ℕ
+      n = fault g d .number
 
-  -- so the check answers it
-  check-too : (a : ℕ) (rs : Table) → Exactly a (diskCases g d rs) → In a faultNumbers → check g d .number ≡ a
-  unfolding number
-  check-too a rs v i =
-      let w : Exactly (check g d .number) (diskCases g d []) = Refusing.numbers g d Call.checks in
-      same-row a (check g d .number) _ faultNumbers rs [] (v .1) (w .1) i
+      rest : In (first cs) faultNumbers → (first cs ≡ 0) ⊎ In (first cs) (numbersOf cs) → ⊥
+      rest j (inl e) = omega (arith, e, low (first cs) j)
+      rest j (inr k) =
+          T-not (has faultNumbers (first cs)) (Members.every-all (λ n. not (has faultNumbers n)) o k) (Members.in-has j)
 
-  check-is : (a : ℕ) → check g d .number ≡ a → In a faultNumbers → check g d ≡ fault g d
-  check-is a e i = go (fitsGeometry g d) refl
+      go : (b : Bool) → fitsGeometry g d ≡ b → (n ≡ 0) ⊎ In n faultNumbers → check g d .number ≡ first (diskRefusals g d cs)
+      go false f k =
+          let e : first (diskRefusals g d cs) ≡ 1 = rw f refl in absurd (omega (arith, e, low (first (diskRefusals g d cs)) i))
+      go true f (inl z) =
+          let e : first (diskRefusals g d cs) ≡ first cs = rw f (First.number-miss n faultNumbers cs (λ j. omega (arith, z, low n j))) in
+          absurd (rest (subst (λ (m : ℕ). In m faultNumbers) e i) (Members.in-cons (First.first-in cs)))
+      go true f (inr k) =
+          let e : first (diskRefusals g d cs) ≡ n = rw f (First.number-hit n faultNumbers cs k) in Passed.check-number g d f ∙ sym e
+
+  -- where the check answers one, it is the fault's
+  check-is : In (check g d .number) faultNumbers → check g d ≡ fault g d
+  check-is i = go (fitsGeometry g d) refl
     where
-      k : (21 ≤ a) × (a < 21 + 10)
-      k = Members.count-in a 21 10 i
-
       go : (b : Bool) → fitsGeometry g d ≡ b → check g d ≡ fault g d
       go true f = Passed.check-fault g d f
       go false f =
-          let z : check g d .number ≡ 1 = rw (Passed.check-one g d f) refl in absurd (omega (arith, k, z, e))
+          let z : check g d .number ≡ 1 = rw (Passed.check-one g d f) refl in absurd (omega (arith, z, low (check g d .number) i))
 
-  -- a call's rows after the disk's
-  abbrev rest : Call → Table
-  rest c = Refusing.ownCases (table g d c)
+  -- a call whose refusals begin with the disk's, and that hands on what goes with its number
+  on : (cs : List (ℕ × Bool)) → T (every (λ n. not (has faultNumbers n)) (numbersOf cs)) → In (first (diskRefusals g d cs)) faultNumbers
+      → (r : Refusal) → (first (diskRefusals g d cs) ≡ check g d .number → r ≡ check g d) → r ≡ fault g d
+  on cs o i r f = let e = disk-first cs o i in f (sym e) ∙ check-is (subst (λ (m : ℕ). In m faultNumbers) (sym e) i)
 
-  -- a call whose table begins with the disk's rows, and that hands on what goes with its number
-  on : (c : Call) → Exactly (number g d c) (diskCases g d (rest c)) → In (number g d c) faultNumbers → (r : Refusal)
-      → (number g d c ≡ check g d .number → r ≡ check g d) → r ≡ fault g d
-  on c v i r f = let n = number g d c in let e = check-too n (rest c) v i in f (sym e) ∙ check-is n e i
-
-  pub handed : (c : Call) → In (number g d c) faultNumbers → refusalOf g d c ≡ fault g d
-  unfolding number lookUp open′ create readOf readSector writeOf allot trim kill Listing.list Listing.counts freeSpace
-  handed Call.checks i = on Call.checks (Refusing.numbers g d Call.checks) i _ (λ e. refl)
-  handed (Call.looksUp n) i = on (Call.looksUp n) (Refusing.numbers g d (Call.looksUp n)) i _ (λ e. carried-first (check g d) (badAt n) e)
-  handed (Call.opens n len checking code) i =
-      on (Call.opens n len checking code) (Refusing.numbers g d (Call.opens n len checking code)) i _ (λ e. carried-first (check g d) (badAt n) e)
-  handed (Call.creates n f checking) i =
-      on (Call.creates n f checking) (Refusing.numbers g d (Call.creates n f checking)) i _ (λ e. carried-first (check g d) (badAt n) e)
-  handed (Call.reads a h b) i = on (Call.reads a h b) (Refusing.numbers g d (Call.reads a h b)) i _ (λ e. carried-own (check g d) e)
-  handed (Call.readsSector h k) i = on (Call.readsSector h k) (Refusing.numbers g d (Call.readsSector h k)) i _ (λ e. carried-own (check g d) e)
-  handed (Call.writes a m h b) i = on (Call.writes a m h b) (Refusing.numbers g d (Call.writes a m h b)) i _ (λ e. carried-own (check g d) e)
-  handed (Call.allots h k) i = on (Call.allots h k) (Refusing.numbers g d (Call.allots h k)) i _ (λ e. carried-own (check g d) e)
-  handed (Call.trims h) i = on (Call.trims h) (Refusing.numbers g d (Call.trims h)) i _ (λ e. carried-own (check g d) e)
-  handed (Call.kills h) i = on (Call.kills h) (Refusing.numbers g d (Call.kills h)) i _ (λ e. carried-own (check g d) e)
-  handed (Call.lists j) i = on (Call.lists j) (Refusing.numbers g d (Call.lists j)) i _ (λ e. go (Members.decide (eqb (check g d .number) 0)) e)
+  by-list : (j : ℕ) → In (check g d .number) faultNumbers → Listing.list g d j .refusal ≡ fault g d
+  unfolding Listing.list
+  by-list j i = go (Members.decide (eqb (check g d .number) 0))
     where
       n : ℕ
       n = check g d .number
 
-      k : (21 ≤ number g d (Call.lists j)) × (number g d (Call.lists j) < 21 + 10)
-      k = Members.count-in (number g d (Call.lists j)) 21 10 i
+      go : Members.Test (eqb n 0) → cond (eqb n 0) (Listing.tellFirst g d (drop j (Listing.listed g d))) (Listing.noFile (check g d)) .refusal ≡ fault g d
+      go (Members.Test.holds t) = absurd (omega (arith, eqb→eq n 0 t, low n i))
+      go (Members.Test.fails t) = rw (Members.no-false {b = eqb n 0} t) (check-is i)
 
-      go : Members.Test (eqb n 0) → number g d (Call.lists j) ≡ n
-          → cond (eqb n 0) (Listing.tellFirst g d (drop j (Listing.listed g d))) (Listing.noFile (check g d)) .refusal ≡ check g d
-      go (Members.Test.holds t) e = absurd (omega (arith, k, e, eqb→eq n 0 t))
-      go (Members.Test.fails t) e = rw (Members.no-false {b = eqb n 0} t) refl
-  handed Call.counts i = on Call.counts (Refusing.numbers g d Call.counts) i _ (λ e. refl)
-  handed Call.measures i = absurd (go (Members.in-cons (First.first-in (spaceRefusals g d))))
+  -- 1 alone is none of them
+  by-space : In (first (spaceRefusals g d)) faultNumbers → ⊥
+  by-space i = go (Members.in-cons (First.first-in (spaceRefusals g d)))
     where
       n : ℕ
       n = first (spaceRefusals g d)
 
-      k : (21 ≤ n) × (n < 21 + 10)
-      k = Members.count-in n 21 10 i
-
       one : (n ≡ 1) ⊎ In n [] → ⊥
-      one (inl e) = omega (arith, k, e)
+      one (inl e) = omega (arith, low n i, e)
       one (inr j) = Members.none-in j
 
       go : (n ≡ 0) ⊎ In n (1 ∷ []) → ⊥
-      go (inl e) = omega (arith, k, e)
+      go (inl e) = omega (arith, low n i, e)
       go (inr j) = one (Members.in-cons j)
+
+  pub handed : (c : Call) → In (number g d c) faultNumbers → refusalOf g d c ≡ fault g d
+  unfolding number lookUp open′ create readOf readSector writeOf allot trim kill Listing.counts freeSpace
+  handed Call.checks i = check-is i
+  handed (Call.looksUp n) i = on (ownRows (lookUpRefusals g d n)) tt i _ (λ e. carried-first (check g d) (badAt n) e)
+  handed (Call.opens n len checking code) i =
+      on (ownRows (openRefusals g d n len checking code)) tt i _ (λ e. carried-first (check g d) (badAt n) e)
+  handed (Call.creates n f checking) i = on (ownRows (createRefusals g d n f checking)) tt i _ (λ e. carried-first (check g d) (badAt n) e)
+  handed (Call.reads a h b) i =
+      on (ownRows (readRefusals g d h (howMany a (h .len) b) (length b))) tt i _ (λ e. carried-own (check g d) e)
+  handed (Call.readsSector h k) i = on (ownRows (sectorRefusals g d h k)) tt i _ (λ e. carried-own (check g d) e)
+  handed (Call.writes a m h b) i =
+      on (ownRows (writeRefusals g d m h (howMany a (h .len) b) (length b))) tt i _ (λ e. carried-own (check g d) e)
+  handed (Call.allots h k) i = on (ownRows (allotRefusals g d h k)) tt i _ (λ e. carried-own (check g d) e)
+  handed (Call.trims h) i = on (ownRows (trimRefusals g d h)) tt i _ (λ e. carried-own (check g d) e)
+  handed (Call.kills h) i = on (ownRows (killRefusals g d h)) tt i _ (λ e. carried-own (check g d) e)
+  handed (Call.lists j) i = by-list j (subst (λ (m : ℕ). In m faultNumbers) (list-number g d j) i)
+  handed Call.counts i = check-is i
+  handed Call.measures i = absurd (by-space i)
+
+  pub back : (s : ℕ) → In (bringBack g d s .0 .refusal .number) faultNumbers → bringBack g d s .0 .refusal ≡ fault g d
+  unfolding bringBack
+  back s i = on (ownRows (bringBackRefusals g d s)) tt i _ (λ e. carried-own (check g d) e)

@@ -11,4 +11,5 @@ every-fault g d = record {
   one = Told.tells-one g d;
   checked = Passed.check-fault g d;
   handed = Handed.handed g d;
+  back = Handed.back g d;
 }

@@ -29,6 +29,7 @@ use Rattle.meaning.specs.Trim.{trim}
 use Rattle.meaning.specs.Kill.{kill}
 use Rattle.meaning.specs.Listing
 use Rattle.meaning.specs.FreeSpace.{freeSpace}
+use Rattle.meaning.specs.BringBack.{bringBack}
 use Rattle.meaning.specs.Calls.{Call, number}
 use Rattle.meaning.specs.Calls.Call.{checks, looksUp, opens, creates, reads, readsSector, writes, allots, trims, kills, lists, counts, measures}
 use Rattle.meaning.specs.declared.Geometry.{Geometry}
@@ -216,6 +217,8 @@ pub record FaultTold (g : Geometry) (d : List ℕ) : Type 0 where
   pub checked : fitsGeometry g d ≡ true → check g d ≡ fault g d
   -- "21 to 30 .. in 2's place": whatever call answers one of these numbers tells that slot
   pub handed : (c : Call) → In (number g d c) faultNumbers → refusalOf g d c ≡ fault g d
+  -- bring back (02 §11), of any slot, too
+  pub back : (s : ℕ) → In (bringBack g d s .0 .refusal .number) faultNumbers → bringBack g d s .0 .refusal ≡ fault g d
 
 abbrev pub EveryFault : Type 0
 EveryFault = (g : Geometry) (d : List ℕ) → FaultTold g d
