@@ -227,12 +227,12 @@ pub extern "C" fn genie_read_record(
         return short(image, g, fault_slot);
     }
     let h = genie_codec::handle_of(handle);
-    let a = calls::read_record(image, g, h, buffer);
-    *fault_slot = a.refusal.at;
-    if a.refusal.number != 0 {
-        return a.refusal.number;
+    let record = calls::read_record(image, g, h, buffer);
+    *fault_slot = record.refusal.at;
+    if record.refusal.number != 0 {
+        return record.refusal.number;
     }
-    genie_codec::put_handle(handle, a.handle);
+    genie_codec::put_handle(handle, record.handle);
     0
 }
 
@@ -328,8 +328,8 @@ pub extern "C" fn genie_write_record(
     fault_slot: &mut usize,
 ) -> u8
     ensures { λ r. ⌜ (r, now («fault_slot» .exit), now (handle .exit), now (image .exit))
-        ≡ exportedWriteRecord (geometry blocks units start open_code «system_disk» «granule_sectors») (now (image .entry)) (now (handle .entry)) sequential
-        (now (buffer .entry)) ⌝ }
+        ≡ exportedWriteRecord (geometry blocks units start open_code «system_disk» «granule_sectors»)
+        (now (image .entry)) (now (handle .entry)) sequential (now (buffer .entry)) ⌝ }
 {
     let g = genie_codec::geometry(
         blocks,
@@ -344,12 +344,12 @@ pub extern "C" fn genie_write_record(
     }
     let h = genie_codec::handle_of(handle);
     let m = genie_codec::mode_of(sequential);
-    let a = calls::write_record(image, g, m, h, buffer);
-    *fault_slot = a.refusal.at;
-    if a.refusal.number != 0 {
-        return a.refusal.number;
+    let put = calls::write_record(image, g, m, h, buffer);
+    *fault_slot = put.refusal.at;
+    if put.refusal.number != 0 {
+        return put.refusal.number;
     }
-    genie_codec::put_handle(handle, a.handle);
+    genie_codec::put_handle(handle, put.handle);
     0
 }
 
@@ -421,9 +421,9 @@ pub extern "C" fn genie_allot(
         return short(image, g, fault_slot);
     }
     let h = genie_codec::handle_of(handle);
-    let a = calls::allot(image, g, h, k);
-    *fault_slot = a.refusal.at;
-    a.refusal.number
+    let allotted = calls::allot(image, g, h, k);
+    *fault_slot = allotted.refusal.at;
+    allotted.refusal.number
 }
 
 #[no_mangle]
@@ -453,9 +453,9 @@ pub extern "C" fn genie_trim(
         return short(image, g, fault_slot);
     }
     let h = genie_codec::handle_of(handle);
-    let a = calls::trim(image, g, h);
-    *fault_slot = a.refusal.at;
-    a.refusal.number
+    let trimmed = calls::trim(image, g, h);
+    *fault_slot = trimmed.refusal.at;
+    trimmed.refusal.number
 }
 
 #[no_mangle]
@@ -485,9 +485,9 @@ pub extern "C" fn genie_kill(
         return short(image, g, fault_slot);
     }
     let h = genie_codec::handle_of(handle);
-    let a = calls::kill(image, g, h);
-    *fault_slot = a.refusal.at;
-    a.refusal.number
+    let killed = calls::kill(image, g, h);
+    *fault_slot = killed.refusal.at;
+    killed.refusal.number
 }
 
 #[no_mangle]

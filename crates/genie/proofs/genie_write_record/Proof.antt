@@ -105,7 +105,8 @@ returns-3 c =
     (rw (le-ltb _ _ (the-if1 .left)) (moved (a .handle .now) (the-write-record .result) _ (the-if2 .left) (the-put-handle .ensures)
     (the-write-record .ensures ∙ ap (λ (m : Mode). writeRecord (the-geometry .result) (a .image .now) m (the-handle-of .result) (a .buffer .now))
     (the-mode-of .ensures)
-    ∙ ap (λ (h : Handle). writeRecord (the-geometry .result) (a .image .now) (modeOf (a .sequential)) h (a .buffer .now)) (the-handle-of .ensures))))
+    ∙ ap (λ (h : Handle). writeRecord (the-geometry .result) (a .image .now) (modeOf (a .sequential)) h (a .buffer .now))
+    (the-handle-of .ensures))))
 
 pub genie-write-record-spec : {M : Type 1} → statement M
 genie-write-record-spec =
