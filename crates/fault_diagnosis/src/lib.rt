@@ -2,15 +2,16 @@
 use meaning::Geometry;
 use meaning::Refusal;
 ghost use mathlib.Core.Path.{_≡_};
-ghost use mathlib.Core.Bool.{true};
+ghost use mathlib.Core.Bool.{true, false};
 ghost use Prim.Native.Nat.{_+_, _*_, _<_};
 ghost use Rattle.meaning.specs.Lists.{count, some};
 ghost use Rattle.meaning.specs.Layout.{slots};
 ghost use Rattle.meaning.specs.Consistent.{hitHolds};
-ghost use Rattle.meaning.specs.Fault.{hitFault, nameFault, duplicateFault, faultAt, lowest, fault};
+ghost use Rattle.meaning.specs.Fault.{hitFault, nameFault, duplicateFault, runFault, gatFault, sharedFault, faultAt, lowest, fault};
 ghost use Rattle.meaning.specs.Refusals.{check};
 ghost use Rattle.layout.specs.Room.{Room, Slot};
 ghost use Rattle.check_whole.specs.Slots.{FitsImage};
+ghost use Rattle.fault_clear.specs.Clear.{NamesClear, RunsClear};
 ghost use Rattle.fault_diagnosis.specs.Told.{hashDiffers, sameFile, faultIn, afterSlots};
 
 // A slot's HIT byte is nonzero exactly if its entry is in use.
@@ -99,19 +100,55 @@ fn name_below(image: &[u8], g: Geometry, p: usize) -> bool
     false
 }
 
-fn duplicate_fault(image: &[u8], g: Geometry, p: usize) -> bool
-    requires { ⌜ Room g (now image) × Slot g (now image) p ⌝ }
+// Below slot `clear` there is none.
+fn duplicate_fault(image: &[u8], g: Geometry, p: usize, clear: usize) -> bool
+    requires { ⌜ Room g (now image) × Slot g (now image) p × NamesClear g (now image) clear ⌝ }
     ensures { λ r. ⌜ r ≡ duplicateFault g (now (image .entry)) p ⌝ }
 {
+    if p < clear {
+        return false;
+    }
     if !layout::primary(image, g, p) {
         return false;
     }
     name_below(image, g, p)
 }
 
-// The first kind at a slot, in 02's order; 0 where there is none.
-fn fault_at(image: &[u8], g: Geometry, s: usize) -> u8
-    requires { ⌜ Room g (now image) × Slot g (now image) s ⌝ }
+// The kinds of runs: below slot `clear` there is none of them.
+fn run_fault(image: &[u8], g: Geometry, s: usize, clear: usize) -> bool
+    requires { ⌜ Room g (now image) × Slot g (now image) s × RunsClear g (now image) clear ⌝ }
+    ensures { λ r. ⌜ r ≡ runFault g (now (image .entry)) s ⌝ }
+{
+    if s < clear {
+        return false;
+    }
+    fault_kinds::run_fault(image, g, s)
+}
+
+fn gat_fault(image: &[u8], g: Geometry, s: usize, clear: usize) -> bool
+    requires { ⌜ Room g (now image) × Slot g (now image) s × RunsClear g (now image) clear × (runFault g (now image) s ≡ false) ⌝ }
+    ensures { λ r. ⌜ r ≡ gatFault g (now (image .entry)) s ⌝ }
+{
+    if s < clear {
+        return false;
+    }
+    fault_kinds::gat_fault(image, g, s)
+}
+
+fn shared_fault(image: &[u8], g: Geometry, s: usize, clear: usize) -> bool
+    requires { ⌜ Room g (now image) × Slot g (now image) s × RunsClear g (now image) clear ⌝ }
+    ensures { λ r. ⌜ r ≡ sharedFault g (now (image .entry)) s ⌝ }
+{
+    if s < clear {
+        return false;
+    }
+    fault_kinds::shared_fault(image, g, s)
+}
+
+// The first kind at a slot, in 02's order; 0 where there is none. Slots below `names` are clear of duplicate names, those below `runs` of the
+// kinds of runs.
+fn fault_at(image: &[u8], g: Geometry, s: usize, names: usize, runs: usize) -> u8
+    requires { ⌜ Room g (now image) × Slot g (now image) s × NamesClear g (now image) names × RunsClear g (now image) runs ⌝ }
     ensures { λ r. ⌜ r ≡ faultAt g (now (image .entry)) s ⌝ }
 {
     if hit_fault(image, g, s) {
@@ -120,19 +157,19 @@ fn fault_at(image: &[u8], g: Geometry, s: usize) -> u8
     if name_fault(image, g, s) {
         return 23;
     }
-    if duplicate_fault(image, g, s) {
+    if duplicate_fault(image, g, s, names) {
         return 24;
     }
     if fault_kinds::chain_fault(image, g, s) {
         return 25;
     }
-    if fault_kinds::run_fault(image, g, s) {
+    if run_fault(image, g, s, runs) {
         return 26;
     }
-    if fault_kinds::gat_fault(image, g, s) {
+    if gat_fault(image, g, s, runs) {
         return 27;
     }
-    if fault_kinds::shared_fault(image, g, s) {
+    if shared_fault(image, g, s, runs) {
         return 28;
     }
     if fault_kinds::size_fault(image, g, s) {
@@ -145,14 +182,14 @@ fn fault_at(image: &[u8], g: Geometry, s: usize) -> u8
 }
 
 // The same, 0 where the directory has no slot s.
-fn fault_in(image: &[u8], g: Geometry, s: usize) -> u8
-    requires { ⌜ Room g (now image) ⌝ }
+fn fault_in(image: &[u8], g: Geometry, s: usize, names: usize, runs: usize) -> u8
+    requires { ⌜ Room g (now image) × NamesClear g (now image) names × RunsClear g (now image) runs ⌝ }
     ensures { λ r. ⌜ r ≡ faultIn g (now (image .entry)) s ⌝ }
 {
     if !layout::is_slot(image, g, s) {
         return 0;
     }
-    fault_at(image, g, s)
+    fault_at(image, g, s, names, runs)
 }
 
 // What is told where no slot is at fault.
@@ -173,9 +210,11 @@ fn slots_fault(image: &[u8], g: Geometry) -> Refusal
     requires { ⌜ Room g (now image) ⌝ }
     ensures { λ r. ⌜ r ≡ lowest g (now (image .entry)) (afterSlots g (now (image .entry))) (slots g (now (image .entry))) ⌝ }
 {
+    let names = fault_clear::names_clear(image, g);
+    let runs = fault_clear::runs_clear(image, g);
     let mut s = 0;
     while s < 256 {
-        let n = fault_in(image, g, s);
+        let n = fault_in(image, g, s, names, runs);
         if n != 0 {
             return Refusal {
                 number: n,

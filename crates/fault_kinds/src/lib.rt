@@ -163,11 +163,14 @@ fn walked(image: &[u8], g: Geometry, x: usize) -> bool
     first_file(image, g, x) < 256
 }
 
-// The file that an entry in use belongs to; s itself where no walk meets it.
+// The file that an entry in use belongs to; s itself where no walk meets it. A primary entry is met by the walk from it and by no other.
 pub fn file_of(image: &[u8], g: Geometry, s: usize) -> usize
     requires { ⌜ Room g (now image) × Slot g (now image) s ⌝ }
     ensures { λ r. ⌜ (r ≡ fileOf g (now (image .entry)) s) × Slot g (now (image .entry)) r ⌝ }
 {
+    if layout::primary(image, g, s) {
+        return s;
+    }
     let p = first_file(image, g, s);
     if p < 256 {
         return p;

@@ -67,7 +67,7 @@ returns-5 c =
 gat-fault-requires : tie.Need-gat-fault-requires
 gat-fault-requires c κs =
     let c₁₁ = c .before .before .before .before .before .before .before .before .before .before .before in let p = c₁₁ .pre in
-    (p .0, p .1, not-so (c .before .run-fault .ensures) (c .if5 .left))
+    (p .0, p .1, p .3, not-so (c .before .run-fault .ensures) (c .if5 .left))
 
 returns-6 : tie.Need-returns-6
 unfolding faultAt

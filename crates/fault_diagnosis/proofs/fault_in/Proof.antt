@@ -13,7 +13,8 @@ returns : tie.Need-returns
 returns c = none-in _ _ _ (is-no (c .before .is-slot .ensures) (c .if1 .taken))
 
 fault-at-requires : tie.Need-fault-at-requires
-fault-at-requires c κs = (c .before .before .before .pre, slot-of _ _ _ (is-yes (c .before .is-slot .ensures) (c .if1 .left)))
+fault-at-requires c κs = let p = c .before .before .before .pre in
+    (p .0, slot-of _ _ _ (is-yes (c .before .is-slot .ensures) (c .if1 .left)), p .1, p .2)
 
 returns-2 : tie.Need-returns-2
 returns-2 c = c .fault-at .ensures ∙ one-in _ _ _ (is-yes (c .before .before .is-slot .ensures) (c .before .if1 .left))
