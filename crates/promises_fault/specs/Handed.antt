@@ -33,8 +33,8 @@ use Rattle.lists.specs.First.{numbersOf}
 use Rattle.laws.specs.Fault
 use Rattle.laws.specs.Passed
 use Rattle.laws.specs.Carried.{carried-own, carried-first}
+use Rattle.promises.specs.Said.{refusalIn, says}
 use Rattle.promises.specs.Refusing.{ownRows, list-number}
-use Rattle.promises_fault.specs.Statement.{refusalOf}
 
 module _ (g : Geometry) (d : List ℕ) where
   low : (m : ℕ) → In m faultNumbers → 21 ≤ m
@@ -103,7 +103,7 @@ module _ (g : Geometry) (d : List ℕ) where
       go (inl e) = omega (arith, low n i, e)
       go (inr j) = one (Members.in-cons j)
 
-  pub handed : (c : Call) → In (number g d c) faultNumbers → refusalOf g d c ≡ fault g d
+  pub handed : (c : Call) → In (number g d c) faultNumbers → refusalIn c (says g d c .answer) ≡ fault g d
   unfolding number lookUp open′ create readOf readSector writeOf allot trim kill Listing.counts freeSpace
   handed Call.checks i = check-is i
   handed (Call.looksUp n) i = on (ownRows (lookUpRefusals g d n)) tt i _ (λ e. carried-first (check g d) (badAt n) e)

@@ -18,25 +18,14 @@ use Rattle.meaning.specs.Chain.{owned}
 use Rattle.meaning.specs.Refusal.{unplaced, placed}
 use Rattle.meaning.specs.Refusals.{faultNumbers, check}
 use Rattle.meaning.specs.Fault.{fault}
-use Rattle.meaning.specs.LookUp.{lookUp}
-use Rattle.meaning.specs.Open.{open′}
-use Rattle.meaning.specs.Create.{create}
-use Rattle.meaning.specs.Amount.{howMany}
-use Rattle.meaning.specs.Read.{readOf, readSector}
-use Rattle.meaning.specs.Write.{writeOf}
-use Rattle.meaning.specs.Allot.{allot}
-use Rattle.meaning.specs.Trim.{trim}
-use Rattle.meaning.specs.Kill.{kill}
-use Rattle.meaning.specs.Listing
-use Rattle.meaning.specs.FreeSpace.{freeSpace}
 use Rattle.meaning.specs.BringBack.{bringBack}
 use Rattle.meaning.specs.Calls.{Call, number}
-use Rattle.meaning.specs.Calls.Call.{checks, looksUp, opens, creates, reads, readsSector, writes, allots, trims, kills, lists, counts, measures}
 use Rattle.meaning.specs.declared.Geometry.{Geometry}
 use Rattle.meaning.specs.declared.Refusal.{Refusal}
 use Rattle.laws.specs.Facts.{IsFile}
 use Rattle.laws.specs.Clauses.{IsUsed}
 use Rattle.laws.specs.Entry.{Follows}
+use Rattle.promises.specs.Said.{refusalIn, says}
 use Rattle.promises.specs.Promises.{Table}
 
 module _ (g : Geometry) (d : List ℕ) where
@@ -191,22 +180,6 @@ module _ (g : Geometry) (d : List ℕ) where
     -- none: "Directory granules are set in the GAT" (01)
     sound : LengthHolds → NoSlot → ((n : ℕ) → In n (directoryGranules g d) → T (taken g d n)) → FaultIs (unplaced 0)
 
-  -- what a call answers beside its result: number, and what goes with it
-  abbrev pub refusalOf : Call → Refusal
-  refusalOf checks = check g d
-  refusalOf (looksUp n) = lookUp g d n .refusal
-  refusalOf (opens n len checking code) = open′ g d n len checking code .refusal
-  refusalOf (creates n f checking) = create g d n f checking .0 .refusal
-  refusalOf (reads a h b) = readOf g d h (howMany a (h .len) b) b .0 .refusal
-  refusalOf (readsSector h k) = readSector g d h k .refusal
-  refusalOf (writes a m h b) = writeOf g d m h (howMany a (h .len) b) b .0 .refusal
-  refusalOf (allots h k) = allot g d h k .0 .refusal
-  refusalOf (trims h) = trim g d h .0 .refusal
-  refusalOf (kills h) = kill g d h .0 .refusal
-  refusalOf (lists i) = Listing.list g d i .refusal
-  refusalOf counts = Listing.counts g d .refusal
-  refusalOf measures = freeSpace g d .refusal
-
 -- The promise -----------------------------------------------------------------------------------------------------------------------
 
 -- Whatever the image: the fault is what is told, and nothing else can be told.
@@ -216,7 +189,7 @@ pub record FaultTold (g : Geometry) (d : List ℕ) : Type 0 where
   -- the check, of an image that fits its geometry, answers it
   pub checked : fitsGeometry g d ≡ true → check g d ≡ fault g d
   -- "21 to 30 .. in 2's place": whatever call answers one of these numbers tells that slot
-  pub handed : (c : Call) → In (number g d c) faultNumbers → refusalOf g d c ≡ fault g d
+  pub handed : (c : Call) → In (number g d c) faultNumbers → refusalIn c (says g d c .answer) ≡ fault g d
   -- bring back (02 §11), of any slot, too
   pub back : (s : ℕ) → In (bringBack g d s .0 .refusal .number) faultNumbers → bringBack g d s .0 .refusal ≡ fault g d
 
