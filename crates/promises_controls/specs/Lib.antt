@@ -5,3 +5,4 @@ pub mod Serves
 pub mod Numbers
 pub mod Agree
 pub mod Compares
+pub mod Promised

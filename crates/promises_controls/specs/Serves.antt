@@ -18,10 +18,10 @@ use Rattle.meaning.specs.declared.Part.{Part}
 use Rattle.meaning.specs.declared.Listed.{Listed}
 use Rattle.meaning.specs.declared.Counts.{Counts}
 use Rattle.meaning.specs.declared.Space.{Space}
-use Rattle.meaning_table.specs.Samples.{written, held, puls, leer, e82, opened}
+use Rattle.meaning_table.specs.Samples.{written, held, puls, leer, hits, e81, e82, opened}
 use Rattle.promises.specs.Promises.{LooksUp, Opened, Creates, Reads, ReadsSector, Lists, Counted, Measured, Changes, mainCode, storedLevel}
 use Rattle.differences.specs.Order.{never}
-use Rattle.promises_controls.specs.Disks.{six, entry, base, but, ofLeer, hold, neu, differ, thereIn, firstIn}
+use Rattle.promises_controls.specs.Disks.{six, entry, base, but, attributesOf, hold, neu, differ, thereIn, firstIn}
 
 -- Look up ---------------------------------------------------------------------------------------------------------------------------
 
@@ -202,6 +202,20 @@ one-more : Told 2 (record { refusal = unplaced 0; more = true; name = leer; size
 unfolding opened
 one-more r = differ 2 0 refl (ap (λ (x : Listed). x .size) (r .ends (omega arith)))
 
+-- two files of one name, LEER's called PULS01/DAT too: the second stands in no list, and is told twice
+abbrev twins : List ℕ
+twins = written (but ((hits + 0x81, 0xc1) ∷ [])) (e81 + 5) puls
+
+second-of-two : Lists six twins 1 (record { refusal = unplaced 0; more = true; name = puls; size = 2; granules = 1 }) → ⊥
+unfolding opened
+second-of-two r = differ 0x61 0x63 refl (ap firstIn (r .file (omega arith)))
+
+told-twice : Counted six twins (record { refusal = unplaced 0; files = 2; free = 1 }) → ⊥
+unfolding opened
+told-twice r =
+    let w = r .told puls (record { attributes = attributesOf; granules = 1; bytes = 0x61 ∷ 0x62 ∷ [] }) refl tt in
+    differ 0 1 refl (w .3 0 (omega arith) refl ∙ sym (w .3 1 (omega arith) refl))
+
 files : Counted six base (record { refusal = unplaced 0; files = 3; free = 1 }) → ⊥
 unfolding opened
 files r = differ 3 2 refl (r .files′)
@@ -213,6 +227,14 @@ free r = differ 2 1 refl (r .free)
 clear : Measured six base (record { refusal = unplaced 0; free = 2; longest = 1 }) → ⊥
 unfolding opened
 clear r = differ 2 1 refl (r .clear)
+
+tally : Measured six base (record { refusal = unplaced 0; free = 2; longest = 1 }) → ⊥
+unfolding opened
+tally r = differ 7 6 refl (r .tally refl)
+
+as-listed : Measured six base (record { refusal = unplaced 0; free = 2; longest = 1 }) → ⊥
+unfolding opened
+as-listed r = differ 1 2 refl (r .listing refl)
 
 too-long : Measured six base (record { refusal = unplaced 0; free = 1; longest = 7 }) → ⊥
 unfolding opened
