@@ -94,7 +94,8 @@ gat-byte b = differ 0x99 0x55 refl (b .untouched 3 (aside 3 (omega arith) (diffe
 hit-byte : Leer base (but ((hits + 0x28, 0x99) ∷ [])) ofLeer ofLeer → ⊥
 unfolding opened
 hit-byte b =
-    differ 0x99 0 refl (b .untouched (hits + 0x28) (aside (hits + 0x28) (omega arith) (differ (hits + 0x28) 385 refl) (inl (omega arith)) (inl (omega arith))))
+    differ 0x99 0 refl (b .untouched (hits + 0x28)
+    (aside (hits + 0x28) (omega arith) (differ (hits + 0x28) 385 refl) (inl (omega arith)) (inl (omega arith))))
 
 -- spare: a bit of the GAT past the last unit
 spare : Leer base (but ((0, 0x83) ∷ [])) ofLeer ofLeer → ⊥

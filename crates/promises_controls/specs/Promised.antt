@@ -29,11 +29,13 @@ unfolding byteThere
 looks p = differ 0x99 0 refl (ap byteThere (p .looks tt))
 
 -- refuses: a kill that is refused, and writes; that moves the handle
-refused-writes : Promised six base (kills (hold 0 256 2)) (record { number′ = 6; answer = record { refusal = unplaced 6; handle = hold 0 256 2 }; image = other }) → ⊥
+refused-writes : Promised six base (kills (hold 0 256 2))
+    (record { number′ = 6; answer = record { refusal = unplaced 6; handle = hold 0 256 2 }; image = other }) → ⊥
 unfolding byteThere
 refused-writes p = differ 0x99 0 refl (ap byteThere (p .refuses (differ 6 0 refl) .0))
 
-refused-moves : Promised six base (kills (hold 0 256 2)) (record { number′ = 6; answer = record { refusal = unplaced 6; handle = hold 1 256 2 }; image = base }) → ⊥
+refused-moves : Promised six base (kills (hold 0 256 2)) (record
+    { number′ = 6; answer = record { refusal = unplaced 6; handle = hold 1 256 2 }; image = base }) → ⊥
 refused-moves p = differ 1 0 refl (ap (λ (h : Handle). h .at) (p .refuses (differ 6 0 refl) .1))
 
 -- a read that is refused, and leaves another buffer; an open, and a handle that is not of zeros; a sector, and a part; look up, and a slot
@@ -41,10 +43,12 @@ refused-read : Promised six base (reads oneRecord (hold 2 1 0) (7 ∷ []))
     (record { number′ = 10; answer = (record { refusal = unplaced 10; handle = hold 2 1 0 }, 8 ∷ []); image = base }) → ⊥
 refused-read p = differ 8 7 refl (ap (λ (b : List ℕ). getD b 0 0) (p .refuses (differ 10 0 refl) .1 .1))
 
-refused-open : Promised six base (opens neu 256 true 0) (record { number′ = 4; answer = record { refusal = unplaced 4; handle = hold 0 256 0 }; image = base }) → ⊥
+refused-open : Promised six base (opens neu 256 true 0) (record
+    { number′ = 4; answer = record { refusal = unplaced 4; handle = hold 0 256 0 }; image = base }) → ⊥
 refused-open p = differ 0x81 0 refl (ap (λ (h : Handle). h .slot) (p .refuses (differ 4 0 refl) .1))
 
-refused-sector : Promised six base (readsSector (hold 0 256 0) 1) (record { number′ = 10; answer = record { refusal = unplaced 10; from = 0; to = 1 }; image = base }) → ⊥
+refused-sector : Promised six base (readsSector (hold 0 256 0) 1)
+    (record { number′ = 10; answer = record { refusal = unplaced 10; from = 0; to = 1 }; image = base }) → ⊥
 refused-sector p = differ 1 0 refl (p .refuses (differ 10 0 refl) .1 .1)
 
 refused-look : Promised six base (looksUp neu) (record { number′ = 4; answer = record { refusal = unplaced 4; slot = 1; compared = 0 }; image = base }) → ⊥

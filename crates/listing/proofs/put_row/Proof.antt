@@ -67,7 +67,8 @@ returns c =
     (c .before .before .before .before .before .before .before .before .before .before .before .size-of .ensures .is)
     (c .before .before .before .before .before .before .before .before .before .before .measure .ensures .many)
     (c .before .before .before .before .before .before .before .put-part .ensures ∙
-    ap (sets (a .table .now) (a .to)) (at-place (a .image .now) (c .before .before .before .before .before .before .before .before .before .name-at .ensures)))
+    ap (sets (a .table .now) (a .to))
+    (at-place (a .image .now) (c .before .before .before .before .before .before .before .before .before .name-at .ensures)))
     (c .before .before .put-part2 .ensures)
 
 pub put-row-spec : {M : Type 1} → statement M

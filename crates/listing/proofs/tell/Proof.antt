@@ -29,7 +29,8 @@ measure-requires c κs = search needs
 
 returns : tie.Need-returns
 returns c = told-is _ _ (c .before .before .before .before .before .before .args .s) (c .before .before .before .before .unplaced .ensures)
-    (c .before .before .name-at2 .ensures ∙ at-place _ (c .before .before .before .name-at .ensures) ∙ name-is (c .before .before .before .before .before .before .args .g)
+    (c .before .before .name-at2 .ensures ∙ at-place _ (c .before .before .before .name-at .ensures) ∙ name-is
+    (c .before .before .before .before .before .before .args .g)
     (c .before .before .before .before .before .before .args .image .now) (c .before .before .before .before .before .before .args .s)
     (let r = (c .before .before .before .before .before .before .pre .0 .room) in let u = (c .before .before .before .before .before .before .pre .1 .slot) in
     omega arith)) (c .before .size-of .ensures .is) (c .measure .ensures .many)

@@ -50,8 +50,12 @@ entry-at-requires : tie.Need-entry-at-requires Inv-loop2 μ-loop2 Inv-loop μ-lo
 entry-at-requires c κs = search needs
 
 loop2-holds : tie.Need-loop2-holds Inv-loop2 μ-loop2 Inv-loop μ-loop
-loop2-holds c = let e = c .before .before .before .directory-sectors .ensures in let t = c .before .before .before .before .before .pre .room .thirty in
-    (row-start _ _ (c .before .loop-test .taken) (omega arith), c .entry-at .ensures ∙ row-entry (c .before .before .before .before .before .args .g) (c .before .before .loop .row), c .before .before .loop .inv .1)
+loop2-holds c = let e = c .before .before .before .directory-sectors .ensures in let t = c .before .before .before .before .before .pre .room .thirty in (
+  row-start _ _ (c .before .loop-test .taken) (omega arith),
+  c .entry-at .ensures ∙ row-entry (c .before .before .before .before .before .args .g)
+      (c .before .before .loop .row),
+  c .before .before .loop .inv .1,
+)
 
 tells-requires : tie.Need-tells-requires Inv-loop2 μ-loop2 Inv-loop μ-loop
 tells-requires c κs = let e = c .before .before .before .before .before .directory-sectors .ensures in let i = c .before .loop2 .inv .0 in let b = i .begun in
