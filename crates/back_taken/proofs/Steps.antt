@@ -1,7 +1,7 @@
 -- Lists that grow part by part, and what a loop over the parts finds.
 use mathlib.Core.Path.{_≡_, refl, sym, ap, _∙_}
 use mathlib.Core.List.{List, [], _∷_, _++_}
-use mathlib.Core.Bool.{Bool, true, false, _||_, or-assoc, or-true, or-false}
+use mathlib.Core.Bool.{Bool, true, false, _||_, or-true}
 use mathlib.Core.Logic.{_⊎_, inl, inr}
 use Prim.Native.Nat.{ℕ, zero, suc, _+_, _≤_, _<_}
 use native.Mathlib.Omega.{arith}
@@ -11,15 +11,13 @@ use Rattle.meaning.specs.Lists.{count, each, some}
 use Rattle.lists.specs.Tests.{le-or-lt}
 use Rattle.lists.specs.Ranges.{each-snoc}
 use Rattle.lists.specs.Members
+use Rattle.space.proofs.Looks.{some-append}
 use Rattle.back_taken.specs.Listed.{firstOf}
 
 -- the list after k parts
 pub record Steps (whole part : ℕ → List ℕ) : Type 0 where
   pub none : whole 0 ≡ []
   pub more : (k : ℕ) → whole (k + 1) ≡ whole k ++ part k
-
-pub run-steps : (a : ℕ) → Steps (count a) (λ k. (a + k) ∷ [])
-run-steps a = record { none = refl; more = λ k. ap (count a) (add-one k) ∙ Members.count-snoc a k }
 
 pub entry-steps : (f : ℕ → List ℕ) → Steps (λ k. each f (count 0 k)) f
 entry-steps f = record { none = refl; more = each-snoc f }
@@ -36,13 +34,6 @@ all-steps f es =
           λ k. ap (each f) (first-steps es .more k) ∙ Members.each-append f (firstOf es k) (getD es k 0 ∷ [])
           ∙ ap (λ (l : List ℕ). each f (firstOf es k) ++ l) (Members.each-one f (getD es k 0));
     }
-
-some-append : (p : ℕ → Bool) (xs ys : List ℕ) → some p (xs ++ ys) ≡ (some p xs || some p ys)
-some-append p [] ys = refl
-some-append p (x ∷ xs) ys = ap (λ (b : Bool). p x || b) (some-append p xs ys) ∙ sym (or-assoc (p x) (some p xs) (some p ys))
-
-pub some-one : (p : ℕ → Bool) (x : ℕ) → some p (x ∷ []) ≡ p x
-some-one p x = or-false (p x)
 
 -- a search: k parts are looked through, and nothing was found
 pub record FoundNone (p : ℕ → Bool) (whole : ℕ → List ℕ) (k n : ℕ) : Type 0 where

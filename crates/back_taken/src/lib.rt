@@ -1,27 +1,11 @@
-// Whether granules are taken: those of a run, of an entry, of entries written down in a list.
+// Whether granules are taken: those of an entry, of entries written down in a list.
 use meaning::Geometry;
 ghost use mathlib.Core.Path.{_≡_};
-ghost use Prim.Native.Nat.{_+_, _≤_};
-ghost use Rattle.meaning.specs.Lists.{count, each, some};
-ghost use Rattle.meaning.specs.Layout.{granules, taken};
+ghost use Rattle.meaning.specs.Lists.{each, some};
+ghost use Rattle.meaning.specs.Layout.{taken};
 ghost use Rattle.meaning.specs.Entries.{entryGranules};
 ghost use Rattle.layout.specs.Room.{Room};
 ghost use Rattle.back_taken.specs.Listed.{RunsOnDisk, firstOf, Listed};
-
-// Whether one of n granules from a on is taken.
-fn run_taken(image: &[u8], g: Geometry, a: usize, n: usize) -> bool
-    requires { ⌜ Room g (now image) × (a + n ≤ granules g) ⌝ }
-    ensures { λ r. ⌜ r ≡ some (taken g (now (image .entry))) (count a n) ⌝ }
-{
-    let mut looked = 0;
-    while looked < n {
-        if layout::taken(image, g, a + looked) {
-            return true;
-        }
-        looked += 1;
-    }
-    false
-}
 
 // Whether one of an entry's granules is taken.
 fn entry_taken(image: &[u8], g: Geometry, s: usize) -> bool
@@ -33,7 +17,7 @@ fn entry_taken(image: &[u8], g: Geometry, s: usize) -> bool
     while j < n {
         let a = layout::run_start(image, g, s, j);
         let len = layout::run_length(image, g, s, j);
-        if run_taken(image, g, a, len) {
+        if space::run_taken(image, g, a, len) {
             return true;
         }
         j += 1;

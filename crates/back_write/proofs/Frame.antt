@@ -1,7 +1,6 @@
 -- Images in which granules were taken, or entries brought back.
 use mathlib.Core.Path.{_≡_, refl, ap, _∙_}
 use mathlib.Core.List.{List, [], _∷_}
-use mathlib.Core.Logic.{_⊎_, inl, inr}
 use Prim.Native.Nat.{ℕ, _+_, _*_, _%_, _≤_, _<_}
 use native.Mathlib.Omega.{arith}
 use lib.ListN.{length, getD, set, length-set}
@@ -25,13 +24,6 @@ use Rattle.back_write.proofs.Done.{Done, done-start, done-more}
 use Rattle.back_taken.proofs.OnDisk.{Under, under-run, under-entry}
 
 module _ (g : Geometry) where
-  pub under-one : {x : ℕ} → x < granules g → Under (granules g) (x ∷ [])
-  under-one {x} h n i = by (Members.in-cons i)
-    where
-      by : (n ≡ x) ⊎ In n [] → n < granules g
-      by (inl q) = rw q h
-      by (inr j) = Members.none-in j
-
   same-take : (d : List ℕ) (n : ℕ) → Room g d → n < granules g → Same g d (takeGranule g d n)
   unfolding takeGranule
   same-take d n r h =

@@ -1,25 +1,13 @@
 // What bring back writes: the granules of the entries written down are taken, and the entries set in use again.
 use meaning::Geometry;
 ghost use mathlib.Core.Path.{_≡_};
-ghost use Prim.Native.Nat.{_+_, _<_, _≤_};
-ghost use Rattle.meaning.specs.Lists.{count, each, through};
-ghost use Rattle.meaning.specs.Layout.{granules, takeGranule};
+ghost use Prim.Native.Nat.{_<_};
+ghost use Rattle.meaning.specs.Lists.{each, through};
+ghost use Rattle.meaning.specs.Layout.{takeGranule};
 ghost use Rattle.meaning.specs.Entries.{entryGranules};
 ghost use Rattle.meaning.specs.BringBack.{backEntry};
 ghost use Rattle.layout.specs.Room.{Room, Slot};
 ghost use Rattle.back_taken.specs.Listed.{RunsOnDisk, firstOf, Listed};
-
-// Takes n granules from a on.
-fn take_run(image: &mut [u8], g: Geometry, a: usize, n: usize)
-    requires { ⌜ Room g (now image) × (a + n ≤ granules g) ⌝ }
-    ensures { λ _. ⌜ now (image .exit) ≡ through (takeGranule g) (now (image .entry)) (count a n) ⌝ }
-{
-    let mut k = 0;
-    while k < n {
-        layout::take_granule(image, g, a + k);
-        k += 1;
-    }
-}
 
 // Takes the granules of the entry at slot s.
 fn take_entry(image: &mut [u8], g: Geometry, s: usize)
@@ -31,7 +19,7 @@ fn take_entry(image: &mut [u8], g: Geometry, s: usize)
     while j < n {
         let a = layout::run_start(image, g, s, j);
         let len = layout::run_length(image, g, s, j);
-        take_run(image, g, a, len);
+        space::take_run(image, g, a, len);
         j += 1;
     }
 }

@@ -28,34 +28,6 @@ through-append f x [] ys = refl
 through-append f x (n ∷ xs) ys = through-append f (f x n) xs ys
 
 module _ (g : Geometry) where
-  -- k granules of the run are free, d is the image at the start
-  pub record Freeing (d : List ℕ) (a n : ℕ) (d′ : List ℕ) (k : ℕ) : Type 0 where
-    pub rest : through (freeGranule g) d (count a n) ≡ through (freeGranule g) d′ (count (a + k) (n - k))
-    pub same : Same g d d′
-
-  pub freeing-start : (d : List ℕ) (a n : ℕ) → Freeing d a n d 0
-  freeing-start d a n =
-      record {
-        rest = ap (λ (m : ℕ). through (freeGranule g) d (count m n)) (sym (add-zero a)) ∙ ap (λ (m : ℕ). through (freeGranule g) d (count (a + 0) m))
-            (sym (sub-zero n));
-        same = same-refl g d;
-      }
-
-  pub freeing-step : {d d′ d″ : List ℕ} {a n k : ℕ} → Room g d → Freeing d a n d′ k → k < n → a + n ≤ granules g → d″ ≡ freeGranule g d′ (a + k) → Freeing d a
-      n d″ (k + 1)
-  freeing-step {d} {d′} {d″} {a} {n} {k} r f h l e =
-      let q : a + k + 1 ≡ a + (k + 1) = omega arith in
-      record {
-        rest =
-            f .rest ∙ ap (λ (m : ℕ). through (freeGranule g) d′ (count (a + k) m)) (left-more h)
-            ∙ ap (λ (m : ℕ). through (freeGranule g) (freeGranule g d′ (a + k)) (count m (n - (k + 1)))) q
-            ∙ ap (λ (z : List ℕ). through (freeGranule g) z (count (a + (k + 1)) (n - (k + 1)))) (sym e);
-        same = rw e (same-trans g d d′ (freeGranule g d′ (a + k)) r (f .same) (same-free g d′ (a + k) (same-room g d d′ r (f .same)) (omega arith)));
-      }
-
-  pub freeing-end : {d d′ : List ℕ} {a n k : ℕ} → Freeing d a n d′ k → n ≤ k → d′ ≡ through (freeGranule g) d (count a n)
-  freeing-end {d} {d′} {a} {n} {k} f h = sym (f .rest ∙ ap (λ (m : ℕ). through (freeGranule g) d′ (count (a + k) m)) (left-none h))
-
   pub same-run : (d : List ℕ) (a n : ℕ) → Room g d → a + n ≤ granules g → Same g d (through (freeGranule g) d (count a n))
   same-run d a zero r h = same-refl g d
   same-run d a (suc n) r h =

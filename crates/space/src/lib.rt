@@ -1,20 +1,21 @@
-// Granules given back, entries cleared; the free slots and granules.
+// Granules taken and given back, entries cleared; the free slots and granules.
 use meaning::Geometry;
 ghost use mathlib.Core.Path.{_≡_};
 ghost use Prim.Native.Nat.{_+_, _*_, _%_, _<_, _≤_};
 ghost use lib.ListN.{length};
 ghost use lib.Dec.{eqb};
 ghost use mathlib.Core.List.{[], _∷_};
-ghost use Rattle.meaning.specs.Lists.{count, each, through, firstOr, all, every};
+ghost use Rattle.meaning.specs.Lists.{count, each, through, firstOr, all, every, some};
 ghost use Rattle.meaning.specs.Free.{freeGranules, freeSlots};
-ghost use Rattle.meaning.specs.Layout.{granules, taken, freeGranule};
+ghost use Rattle.meaning.specs.Layout.{granules, taken, takeGranule, freeGranule, mostUnits};
 ghost use Rattle.meaning.specs.Kill.{killEntry};
 ghost use Rattle.meaning.specs.Entries.{entryGranules};
 ghost use Rattle.meaning.specs.Chain.{chainFrom, chain, owned};
-ghost use Rattle.layout.specs.Room.{Room, Slot};
+ghost use Rattle.layout.specs.Room.{Room, Slot, Read};
 ghost use Rattle.seek.specs.Seek.{Walkable, Used};
 ghost use Rattle.space.specs.Clear.{clearBits};
 ghost use Rattle.space.specs.Keeps.{Keeps};
+ghost use Rattle.space.specs.Marks.{putBit, mark};
 
 // Clears bit 4 of an entry, and its HIT byte.
 pub fn kill_entry(image: &mut [u8], g: Geometry, s: usize)
@@ -26,16 +27,86 @@ pub fn kill_entry(image: &mut [u8], g: Geometry, s: usize)
     layout::set_hit(image, g, s, 0);
 }
 
+// A GAT byte with n bits from bit u on put: set, or clear.
+fn put_bits(byte: usize, u: usize, n: usize, set: bool) -> usize
+    requires { ⌜ (byte < 256) × (u + n ≤ 8) ⌝ }
+    ensures { λ r. ⌜ Read (through (putBit set) byte (count u n)) r ⌝ }
+{
+    let bits = ((1 << n) - 1) << u;
+    if set {
+        return byte | bits;
+    }
+    byte - (byte & bits)
+}
+
+// Takes or gives back n granules of block b from unit u on, by one store.
+fn mark_units(image: &mut [u8], g: Geometry, b: usize, u: usize, n: usize, set: bool)
+    requires { ⌜ (256 * g .start + b < length (now image)) × (u + n ≤ g .units) × (g .units ≤ mostUnits) ⌝ }
+    ensures { λ _. ⌜ now (image .exit) ≡ through (mark g set) (now (image .entry)) (count (b * g .units + u) n) ⌝ }
+{
+    let at = layout::gat_at(image, g, b);
+    image[at] = put_bits(layout::wide(image[at]), u, n, set) as u8;
+}
+
+// Takes or gives back n granules from a on, block by block.
+pub fn mark_run(image: &mut [u8], g: Geometry, a: usize, n: usize, set: bool)
+    requires { ⌜ Room g (now image) × (a + n ≤ granules g) ⌝ }
+    ensures { λ _. ⌜ now (image .exit) ≡ through (mark g set) (now (image .entry)) (count a n) ⌝ }
+{
+    let mut b = a / g.units;
+    let mut u = a % g.units;
+    let mut left = n;
+    while g.units < u + left {
+        mark_units(image, g, b, u, g.units - u, set);
+        left -= g.units - u;
+        b += 1;
+        u = 0;
+    }
+    mark_units(image, g, b, u, left, set);
+}
+
 // Gives back n granules from a on.
 pub fn free_run(image: &mut [u8], g: Geometry, a: usize, n: usize)
     requires { ⌜ Room g (now image) × (a + n ≤ granules g) ⌝ }
     ensures { λ _. ⌜ now (image .exit) ≡ through (freeGranule g) (now (image .entry)) (count a n) ⌝ }
 {
-    let mut k = 0;
-    while k < n {
-        layout::free_granule(image, g, a + k);
-        k += 1;
+    mark_run(image, g, a, n, false);
+}
+
+// Takes n granules from a on.
+pub fn take_run(image: &mut [u8], g: Geometry, a: usize, n: usize)
+    requires { ⌜ Room g (now image) × (a + n ≤ granules g) ⌝ }
+    ensures { λ _. ⌜ now (image .exit) ≡ through (takeGranule g) (now (image .entry)) (count a n) ⌝ }
+{
+    mark_run(image, g, a, n, true);
+}
+
+// Whether one of n granules of block b from unit u on is taken, by one mask.
+fn units_taken(image: &[u8], g: Geometry, b: usize, u: usize, n: usize) -> bool
+    requires { ⌜ (256 * g .start + b < length (now image)) × (u + n ≤ g .units) × (g .units ≤ mostUnits) ⌝ }
+    ensures { λ r. ⌜ r ≡ some (taken g (now (image .entry))) (count (b * g .units + u) n) ⌝ }
+{
+    let mask = ((1 << n) - 1) << u;
+    layout::gat_byte(image, g, b) & mask != 0
+}
+
+// Whether one of n granules from a on is taken, block by block.
+pub fn run_taken(image: &[u8], g: Geometry, a: usize, n: usize) -> bool
+    requires { ⌜ Room g (now image) × (a + n ≤ granules g) ⌝ }
+    ensures { λ r. ⌜ r ≡ some (taken g (now (image .entry))) (count a n) ⌝ }
+{
+    let mut b = a / g.units;
+    let mut u = a % g.units;
+    let mut left = n;
+    while g.units < u + left {
+        if units_taken(image, g, b, u, g.units - u) {
+            return true;
+        }
+        left -= g.units - u;
+        b += 1;
+        u = 0;
     }
+    units_taken(image, g, b, u, left)
 }
 
 // Gives back the granules of the entry at slot s.

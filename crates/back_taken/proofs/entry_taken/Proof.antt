@@ -11,7 +11,7 @@ use Rattle.back_taken.proofs.entry_taken.Statement.{statement}
 use Rattle.back_taken.proofs.entry_taken.Tie as tie
 use Rattle.back_taken.proofs.entry_taken.Reads as reads
 use Rattle.back_taken.proofs.entry_taken.Lts as lts
-use Rattle.back_taken.proofs.run_taken.Reads as run-taken-reads
+use Rattle.space.proofs.run_taken.Reads as run-taken-reads
 use Rattle.layout.proofs.run_length.Reads as run-length-reads
 use Rattle.layout.proofs.run_start.Reads as run-start-reads
 use Rattle.layout.proofs.runs.Reads as runs-reads

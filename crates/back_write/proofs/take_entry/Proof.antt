@@ -12,7 +12,7 @@ use Rattle.back_write.proofs.take_entry.Statement.{statement}
 use Rattle.back_write.proofs.take_entry.Tie as tie
 use Rattle.back_write.proofs.take_entry.Reads as reads
 use Rattle.back_write.proofs.take_entry.Lts as lts
-use Rattle.back_write.proofs.take_run.Reads as take-run-reads
+use Rattle.space.proofs.take_run.Reads as take-run-reads
 use Rattle.layout.proofs.run_length.Reads as run-length-reads
 use Rattle.layout.proofs.run_start.Reads as run-start-reads
 use Rattle.layout.proofs.runs.Reads as runs-reads
