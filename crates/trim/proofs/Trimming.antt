@@ -34,7 +34,7 @@ use Rattle.layout.proofs.HasRoom.{slot-yes}
 use Rattle.passed.proofs.Checked.{passed, passed-user}
 use Rattle.seek.specs.Seek.{Walkable, Used}
 use Rattle.passed.proofs.Ready.{walks}
-use Rattle.trim.specs.Last.{Last}
+use Rattle.trim.specs.Last.{Last, Dropping}
 use Rattle.trim.proofs.Step
 
 module _ (g : Geometry) (d : List ℕ) (p e : ℕ) (l : Last g d p e 1) where
@@ -117,19 +117,14 @@ is-first h k = ap (λ (t : Bool). t && eqb k 0) h
 
 -- the loop: `left` of n granules are still to be dropped, and `at` is the last entry
 module _ (g : Geometry) (p : ℕ) where
-  pub record Dropping (d : List ℕ) (n : ℕ) (d′ : List ℕ) (at left : ℕ) : Type 0 where
-    pub rest : times n (dropOne g p) d ≡ times left (dropOne g p) d′
-    pub last : Last g d′ p at left
-    pub long : length d′ ≡ length d
-
-  pub dropping-start : {d : List ℕ} {e n : ℕ} → Last g d p e n → Dropping d n d e n
+  pub dropping-start : {d : List ℕ} {e n : ℕ} → Last g d p e n → Dropping g p d n d e n
   dropping-start l = record { rest = refl; last = l; long = refl }
 
-  pub dropping-one : {d d′ : List ℕ} {n at left : ℕ} → Dropping d n d′ at left → 0 < left → Last g d′ p at 1
+  pub dropping-one : {d d′ : List ℕ} {n at left : ℕ} → Dropping g p d n d′ at left → 0 < left → Last g d′ p at 1
   dropping-one i h = record { ready = i .last .ready; last = i .last .last; room = omega (arith, i .last .room, mul-le-mul-left (granuleBytes g) h) }
 
-  pub dropping-step : {d d′ d″ : List ℕ} {n at left b : ℕ} → Dropping d n d′ at left → 0 < left → (d″ ≡ dropOne g p d′) × (b ≡ tail g p (dropOne g p d′))
-      → Dropping d n d″ b (left - 1)
+  pub dropping-step : {d d′ d″ : List ℕ} {n at left b : ℕ} → Dropping g p d n d′ at left → 0 < left → (d″ ≡ dropOne g p d′) × (b ≡ tail g p (dropOne g p d′))
+      → Dropping g p d n d″ b (left - 1)
   dropping-step {d} {d′} {d″} {n} {at} {left} {b} i h q =
       let r = i .last .ready in
       let s : sizeOf g d′ p + granuleBytes g ≤ granuleBytes g * length (owned g d′ p) = omega (arith, i .last .room, mul-le-mul-left (granuleBytes g) h) in
@@ -151,7 +146,11 @@ module _ (g : Geometry) (p : ℕ) where
         long = ap length (q .0) ∙ w .long ∙ i .long;
       }
 
-  pub dropping-end : {d d′ : List ℕ} {n at left : ℕ} → Dropping d n d′ at left → left ≤ 0 → d′ ≡ times n (dropOne g p) d
+  -- one run after the other
+  pub dropping-then : {d d′ d″ : List ℕ} {n at left b m : ℕ} → Dropping g p d n d′ at left → Dropping g p d′ left d″ b m → Dropping g p d n d″ b m
+  dropping-then i j = record { rest = i .rest ∙ j .rest; last = j .last; long = j .long ∙ i .long }
+
+  pub dropping-end : {d d′ : List ℕ} {n at left : ℕ} → Dropping g p d n d′ at left → left ≤ 0 → d′ ≡ times n (dropOne g p) d
   dropping-end {d} {d′} {n} {at} {left} i h = let e : left ≡ 0 = omega arith in sym (i .rest ∙ ap (λ (k : ℕ). times k (dropOne g p) d′) e)
 
 module _ (g : Geometry) (d : List ℕ) (h : Handle) where

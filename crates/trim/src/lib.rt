@@ -1,4 +1,4 @@
-// Trim: the granules that a file has no need of are dropped, the last ones first.
+// Trim: the granules that a file has no need of are dropped, the last ones first, run by run.
 use meaning::Answer;
 use meaning::Geometry;
 use meaning::Handle;
@@ -13,15 +13,15 @@ ghost use Rattle.meaning.specs.Growth.{tail};
 ghost use Rattle.meaning.specs.Drop.{unhooked, dropOne};
 ghost use Rattle.meaning.specs.Refusals.{check};
 ghost use Rattle.meaning.specs.Trim.{trim};
-ghost use Rattle.trim.specs.Last.{Last};
+ghost use Rattle.trim.specs.Last.{Last, Dropping};
 
-// Pair k of the entry at slot e, shorter by one.
-fn shorten(image: &mut [u8], g: Geometry, e: usize, k: usize)
-    requires { ⌜ (entryAt g e + 32 ≤ length (now image)) × (k < 4) × (1 ≤ field g (now image) e (0x17 + 2 * k)) ⌝ }
-    ensures { λ _. ⌜ now (image .exit) ≡ setField g (now (image .entry)) e (0x17 + 2 * k) (field g (now (image .entry)) e (0x17 + 2 * k) - 1) ⌝ }
+// Pair k of the entry at slot e, shorter by m.
+fn shorten(image: &mut [u8], g: Geometry, e: usize, k: usize, m: usize)
+    requires { ⌜ (entryAt g e + 32 ≤ length (now image)) × (k < 4) × (m ≤ field g (now image) e (0x17 + 2 * k)) ⌝ }
+    ensures { λ _. ⌜ now (image .exit) ≡ setField g (now (image .entry)) e (0x17 + 2 * k) (field g (now (image .entry)) e (0x17 + 2 * k) - m) ⌝ }
 {
     let second = layout::entry_byte(image, g, e, layout::SECONDS + 2 * k);
-    layout::set_field(image, g, e, layout::SECONDS + 2 * k, second - 1);
+    layout::set_field(image, g, e, layout::SECONDS + 2 * k, second - m);
 }
 
 // Pair k of the entry at slot e, emptied.
@@ -43,31 +43,42 @@ fn unhook(image: &mut [u8], g: Geometry, p: usize, e: usize, before: usize)
     layout::set_link(image, g, before, layout::ENDS, layout::ENDS);
 }
 
-// The file at slot p, whose last entry is at slot e, loses its last granule. Answers where its last entry is then.
-fn drop_one(image: &mut [u8], g: Geometry, p: usize, e: usize) -> usize
-    requires { ⌜ Last g (now image) p e 1 ⌝ }
-    ensures { λ r. ⌜ (now (image .exit) ≡ dropOne g p (now (image .entry))) × (r ≡ tail g p (dropOne g p (now (image .entry)))) ⌝ }
+// The last entry of a file that loses granules, and how many it has still to lose.
+pub struct Dropped {
+    pub last: usize,
+    pub left: usize,
+}
+
+// The file at slot p, whose last entry is at slot e, loses n granules of its last run, or all of that where it has no more.
+fn drop_run(image: &mut [u8], g: Geometry, p: usize, e: usize, n: usize) -> Dropped
+    requires { ⌜ Last g (now image) p e n × (0 < n) ⌝ }
+    ensures { λ r. ⌜ Dropping g p (now (image .entry)) n (now (image .exit)) (r .last) (r .left) × (r .left < n) ⌝ }
 {
     let k = layout::runs(image, g, e) - 1;
     let len = layout::run_length(image, g, e, k);
-    let n = layout::run_start(image, g, e, k) + len - 1;
-    if 1 < len {
-        shorten(image, g, e, k);
-        layout::free_granule(image, g, n);
-        return e;
+    let a = layout::run_start(image, g, e, k);
+    if n < len {
+        space::free_run(image, g, a + len - n, n);
+        shorten(image, g, e, k, n);
+        return Dropped { last: e, left: 0 };
     }
     let flags = layout::field(image, g, e, layout::FLAGS);
     let before = layout::field(image, g, e, layout::BACK);
+    space::free_run(image, g, a, len);
     empty_pair(image, g, e, k);
     if (flags >> layout::EXTENSION) % 2 == 1 {
         if k == 0 {
             unhook(image, g, p, e, before);
-            layout::free_granule(image, g, n);
-            return before;
+            return Dropped {
+                last: before,
+                left: n - len,
+            };
         }
     }
-    layout::free_granule(image, g, n);
-    e
+    Dropped {
+        last: e,
+        left: n - len,
+    }
 }
 
 // The file at slot p, whose last entry is at slot e, loses its last n granules.
@@ -78,8 +89,9 @@ fn drop_last(image: &mut [u8], g: Geometry, p: usize, e: usize, n: usize)
     let mut at = e;
     let mut left = n;
     while 0 < left {
-        at = drop_one(image, g, p, at);
-        left -= 1;
+        let r = drop_run(image, g, p, at, left);
+        at = r.last;
+        left = r.left;
     }
 }
 

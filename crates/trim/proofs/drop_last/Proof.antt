@@ -1,10 +1,10 @@
-use Rattle.trim.proofs.Trimming.{Dropping, dropping-start, dropping-one, dropping-step, dropping-end}
-use borrow.Author.Needs.{needs}
+use Rattle.trim.proofs.Trimming.{dropping-start, dropping-then, dropping-end}
+use Rattle.trim.specs.Last.{Dropping}
 use Rattle.trim.proofs.drop_last.Statement.{statement}
 use Rattle.trim.proofs.drop_last.Tie as tie
 use Rattle.trim.proofs.drop_last.Reads as reads
 use Rattle.trim.proofs.drop_last.Lts as lts
-use Rattle.trim.proofs.drop_one.Reads as drop-one-reads
+use Rattle.trim.proofs.drop_run.Reads as drop-run-reads
 
 abbrev Inv-loop : tie.InvT-loop
 Inv-loop image₀ g p e n at₀ left₀ image at left = Dropping g p image₀ n image at left
@@ -15,20 +15,16 @@ abbrev μ-loop : tie.MeasureT-loop
 loop-holds : tie.Need-loop-holds Inv-loop μ-loop
 loop-holds c = dropping-start _ _ (c .before .pre)
 
-drop-one-requires : tie.Need-drop-one-requires Inv-loop μ-loop
-drop-one-requires c κs = dropping-one _ _ (c .before .before .loop .inv) (c .before .loop-test .taken)
-
-sub-left : tie.Need-sub-left Inv-loop μ-loop
-sub-left c = search needs
+drop-run-requires : tie.Need-drop-run-requires Inv-loop μ-loop
+drop-run-requires c κs = (c .before .before .loop .inv .last, c .before .loop-test .taken)
 
 loop-less : tie.Need-loop-less Inv-loop μ-loop
-loop-less c = search needs
+loop-less c = c .before .before .drop-run .ensures .1
 
 loop-again : tie.Need-loop-again Inv-loop μ-loop
 loop-again c =
-    let c₄ = c .before .before .before .before in let loop-test = c₄ .loop-test in
-    let c₅ = c₄ .before in let l = c₅ .loop in
-    dropping-step _ _ (l .inv) (loop-test .taken) (c .before .before .drop-one .ensures)
+    let c₅ = c .before .before .before .before .before in let l = c₅ .loop in
+    dropping-then _ _ (l .inv) (c .before .before .drop-run .ensures .0)
 
 same-length : tie.Need-same-length Inv-loop μ-loop
 same-length c = c .before .loop .inv .long
@@ -43,8 +39,7 @@ drop-last-spec =
     Inv-loop
     μ-loop
     loop-holds
-    drop-one-requires
-    sub-left
+    drop-run-requires
     loop-less
     loop-again
     same-length

@@ -37,7 +37,8 @@ same-length c = search needs
 returns : tie.Need-returns
 returns c = let a = c .before .before .before .before .before .before .before .args in
     c .before .before .set-field .ensures
-    ∙ ap (λ (v : ℕ). setField (a .g) (a .image .now) (a .e) (0x17 + 2 * a .k) (v - 1)) (c .before .before .before .before .entry-byte .ensures .is)
+    ∙ ap (λ (v : ℕ). setField (a .g) (a .image .now) (a .e) (0x17 + 2 * a .k) (v - c .before .before .before .before .before .before .before .args .m))
+    (c .before .before .before .before .entry-byte .ensures .is)
 
 pub shorten-spec : {M : Type 1} → statement M
 shorten-spec =
